@@ -1,0 +1,93 @@
+-- When an action is allowed, and what it does.
+use Rattle.std.specs.Prelude.{◌≡◌, ℕ, zero, suc, ◌+◌, ◌-◌, ◌<◌, ◌≤◌, ◌⊎◌, Bool, true, false, Option, Some, None, option_map}
+use Rattle.finite_sums.specs.Sums.{changed}
+use Rattle.access_model.specs.declared.actions.Action.{Action}
+use Rattle.access_model.specs.declared.actions.Action.TheVariants.{Grant, Return, MountRo, MountRw, SbRo, SbRw, Stage, Pass, Reopen, Create, Remove, Grow, MoveTo, Dirty, Clean}
+use Rattle.access_model.specs.declared.actions.Gate.TheVariants.{Mount, Level}
+use Rattle.access_model.specs.declared.actions.Kind.TheVariants.{File, Dir}
+use Rattle.access_model.specs.declared.actions.NodeInfo.{NodeInfo}
+use Rattle.access_model.specs.States.{Limits, State, IsLevel, NobodyHolds, IsFile, IsDirectory, used_blocks, IsClean}
+
+-- the task holds an access at some mount
+abbrev pub HoldsSomeMount : Limits → State → ℕ → Type 0
+HoldsSomeMount l s t = (m : ℕ) × (m < l.mounts) × (0 < s.mounts t m)
+
+-- the task may change the tree: it is inside level 1 and some mount
+abbrev pub IsWriter : Limits → State → ℕ → Type 0
+IsWriter l s t = (s.levels t 1 ≡ true) × HoldsSomeMount l s t
+
+-- the moves between stages
+abbrev pub MayStage : Limits → State → ℕ → Type 0
+MayStage l s zero = ((s.stage ≡ 2) × (s.passed ≡ 2)) ⊎ (((s.stage ≡ 3) × (s.passed ≡ 3)) ⊎ (s.stage ≡ 4))
+MayStage l s (suc zero) = (s.stage ≡ 0) × (s.passed ≡ 0) × (s.sb_ro ≡ false)
+MayStage l s (suc (suc zero)) = (s.stage ≡ 1) × (s.passed ≡ 1)
+MayStage l s (suc (suc (suc zero))) = (s.stage ≡ 2) × (s.passed ≡ 2) × IsClean l s
+MayStage l s (suc (suc (suc (suc zero)))) = IsClean l s × (((s.stage ≡ 3) × (s.passed ≡ 3)) ⊎ ((s.stage ≡ 0) × (s.passed ≡ 0) × (s.sb_ro ≡ true)))
+MayStage l s (suc (suc (suc (suc (suc n))))) = ⊥
+
+-- the action is one that this task may do now
+abbrev pub MayDo : Limits → State → ℕ → Action → Type 0
+MayDo l s t (Grant (Mount m)) = (m < l.mounts) × (s.mount_ro m ≡ false) × (s.sb_ro ≡ false) × (s.mounts t m < 1024)
+MayDo l s t (Grant (Level i)) = IsLevel i × (s.passed < i) × ((j : ℕ) → i ≤ j → j ≤ 3 → s.levels t j ≡ false)
+MayDo l s t (Return (Mount m)) = (m < l.mounts) × (0 < s.mounts t m)
+MayDo l s t (Return (Level i)) = IsLevel i × (s.levels t i ≡ true)
+MayDo l s t (MountRo m) = (m < l.mounts) × NobodyHolds l s (Mount m)
+MayDo l s t (MountRw m) = m < l.mounts
+MayDo l s t SbRo = (s.stage ≡ 0) × ((m : ℕ) → m < l.mounts → NobodyHolds l s (Mount m))
+MayDo l s t SbRw = s.stage ≡ 0
+MayDo l s t (Stage n) = MayStage l s n
+MayDo l s t (Pass i) = IsLevel i × (s.stage ≡ i) × (s.passed + 1 ≡ i) × NobodyHolds l s (Level i)
+MayDo l s t (Reopen i) = IsLevel i × (s.stage ≡ 0) × (s.passed ≡ i)
+MayDo l s t (Create n d kind) = IsWriter l s t × (n < l.nodes) × (d < l.nodes) × (s.tree n ≡ None) × IsDirectory (s.tree d)
+MayDo l s t (Remove n) = IsWriter l s t × (n < l.nodes) × IsFile (s.tree n)
+MayDo l s t (Grow n blocks) = IsWriter l s t × (n < l.nodes) × IsFile (s.tree n) × (0 < blocks) × (used_blocks l s + blocks ≤ l.capacity)
+MayDo l s t (MoveTo n d) = IsWriter l s t × (n < l.nodes) × (d < l.nodes) × IsFile (s.tree n) × IsDirectory (s.tree d)
+MayDo l s t (Dirty n) = (s.levels t 2 ≡ true) × HoldsSomeMount l s t × (n < l.nodes) × IsFile (s.tree n)
+MayDo l s t (Clean n) = (n < l.nodes) × IsFile (s.tree n) × ((s.levels t 3 ≡ true) ⊎ ((s.passed ≡ 2) ⊎ (s.sb_ro ≡ true)))
+
+-- there is that task, and it may do the action now
+abbrev pub IsAllowed : Limits → State → ℕ → Action → Type 0
+IsAllowed l s t a = (t < l.tasks) × MayDo l s t a
+
+-- what an action leaves of its own task's accesses at the mounts
+abbrev pub mounts_after : Action → (ℕ → ℕ) → ℕ → ℕ
+mounts_after (Grant (Mount m)) held = changed held m (held m + 1)
+mounts_after (Return (Mount m)) held = changed held m (held m - 1)
+mounts_after a held = held
+
+-- what an action leaves of its own task's levels
+abbrev pub levels_after : Action → (ℕ → Bool) → ℕ → Bool
+levels_after (Grant (Level i)) held = changed held i true
+levels_after (Return (Level i)) held = changed held i false
+levels_after a held = held
+
+abbrev pub grown : ℕ → NodeInfo → NodeInfo
+grown blocks node = record node { size = node.size + blocks; dirty = true }
+
+abbrev pub moved : ℕ → NodeInfo → NodeInfo
+moved d node = record node { parent = d }
+
+abbrev pub marked : Bool → NodeInfo → NodeInfo
+marked dirty node = record node { dirty = dirty }
+
+abbrev pub tree_after : Action → (ℕ → Option NodeInfo) → ℕ → Option NodeInfo
+tree_after (Create n d kind) tree = changed tree n (Some record { kind = kind; parent = d; size = 0; dirty = false })
+tree_after (Remove n) tree = changed tree n None
+tree_after (Grow n blocks) tree = changed tree n (option_map (grown blocks) (tree n))
+tree_after (MoveTo n d) tree = changed tree n (option_map (moved d) (tree n))
+tree_after (Dirty n) tree = changed tree n (option_map (marked true) (tree n))
+tree_after (Clean n) tree = changed tree n (option_map (marked false) (tree n))
+tree_after a tree = tree
+
+-- the state after an action of this task
+abbrev pub after_action : State → ℕ → Action → State
+after_action s t (Grant gate) = record s { mounts = changed s.mounts t (mounts_after (Grant gate) (s.mounts t)); levels = changed s.levels t (levels_after (Grant gate) (s.levels t)) }
+after_action s t (Return gate) = record s { mounts = changed s.mounts t (mounts_after (Return gate) (s.mounts t)); levels = changed s.levels t (levels_after (Return gate) (s.levels t)) }
+after_action s t (MountRo m) = record s { mount_ro = changed s.mount_ro m true }
+after_action s t (MountRw m) = record s { mount_ro = changed s.mount_ro m false }
+after_action s t SbRo = record s { sb_ro = true }
+after_action s t SbRw = record s { sb_ro = false }
+after_action s t (Stage n) = record s { stage = n }
+after_action s t (Pass i) = record s { passed = i }
+after_action s t (Reopen i) = record s { passed = i - 1 }
+after_action s t a = record s { tree = tree_after a s.tree }

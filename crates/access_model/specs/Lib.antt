@@ -1,0 +1,4 @@
+pub mod Errors
+pub mod States
+pub mod Actions
+pub mod Histories

@@ -1,0 +1,83 @@
+-- The state of the access model.
+use Rattle.std.specs.Prelude.{◌≡◌, ℕ, ◌<◌, ◌≤◌, Bool, true, false, Option, Some, None}
+use Rattle.finite_sums.specs.Sums.{changed, total}
+use Rattle.access_model.specs.declared.actions.Gate.{Gate}
+use Rattle.access_model.specs.declared.actions.Gate.TheVariants.{Mount, Level}
+use Rattle.access_model.specs.declared.actions.Kind.{Kind}
+use Rattle.access_model.specs.declared.actions.Kind.TheVariants.{File, Dir}
+use Rattle.access_model.specs.declared.actions.NodeInfo.{NodeInfo}
+
+-- how many tasks, mounts and nodes there are, and how many blocks all files may have together
+pub record Limits : Type 0 where
+  pub tasks : ℕ
+  pub mounts : ℕ
+  pub nodes : ℕ
+  pub capacity : ℕ
+
+-- what the model knows at one moment
+pub record State : Type 0 where
+  -- the accesses that a task holds at a mount
+  pub mounts : ℕ → ℕ → ℕ
+  -- whether a task holds a level
+  pub levels : ℕ → ℕ → Bool
+  -- a mount's own read-only flag, and the superblock's
+  pub mount_ro : ℕ → Bool
+  pub sb_ro : Bool
+  -- SB_UNFROZEN 0 to SB_FREEZE_COMPLETE 4
+  pub stage : ℕ
+  -- the levels 1 to `passed` have been closed by a freeze and not yet opened again
+  pub passed : ℕ
+  -- the nodes that are not free
+  pub tree : ℕ → Option NodeInfo
+
+abbrev pub root : NodeInfo
+root = record { kind = Dir; parent = 0; size = 0; dirty = false }
+
+-- nothing is held, no flag is set, nothing is frozen, and there is the root alone
+abbrev pub opening_state : State
+opening_state = record {
+  mounts = λ t m. 0;
+  levels = λ t i. false;
+  mount_ro = λ m. false;
+  sb_ro = false;
+  stage = 0;
+  passed = 0;
+  tree = changed (λ n. None) 0 (Some root);
+}
+
+abbrev pub IsLevel : ℕ → Type 0
+IsLevel i = (1 ≤ i) × (i ≤ 3)
+
+-- no task holds an access at the gate
+abbrev pub NobodyHolds : Limits → State → Gate → Type 0
+NobodyHolds l s (Mount m) = (t : ℕ) → t < l.tasks → s.mounts t m ≡ 0
+NobodyHolds l s (Level i) = (t : ℕ) → t < l.tasks → s.levels t i ≡ false
+
+abbrev pub size_of : Option NodeInfo → ℕ
+size_of None = 0
+size_of (Some node) = node.size
+
+abbrev pub is_dirty : Option NodeInfo → Bool
+is_dirty None = false
+is_dirty (Some node) = node.dirty
+
+abbrev pub IsFile : Option NodeInfo → Type 0
+IsFile None = ⊥
+IsFile (Some node) = node.kind ≡ File
+
+abbrev pub IsDirectory : Option NodeInfo → Type 0
+IsDirectory None = ⊥
+IsDirectory (Some node) = node.kind ≡ Dir
+
+-- the blocks of all files
+abbrev pub used_blocks : Limits → State → ℕ
+used_blocks l s = total l.nodes (λ n. size_of (s.tree n))
+
+-- no node is dirty
+abbrev pub IsClean : Limits → State → Type 0
+IsClean l s = (n : ℕ) → n < l.nodes → is_dirty (s.tree n) ≡ false
+
+-- the model with its limits, as its callers see it
+pub record Standing : Type 0 where
+  pub limits : Limits
+  pub state : State

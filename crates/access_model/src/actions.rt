@@ -1,0 +1,61 @@
+//! Gates, nodes and the actions of the model.
+
+/// Where writers are counted: the mount of a number from 0 (the writer count of `struct mount`), or the freeze level 1, 2
+/// or 3 (one semaphore of `sb_writers`: writes, page faults, internal work).
+#[derive(Clone, Copy, PartialEq, Eq, Debug)]
+pub enum Gate {
+    Mount(u8),
+    Level(u8),
+}
+
+/// What a node of the tree is. Only files have a size or a dirty mark.
+#[derive(Clone, Copy, PartialEq, Eq, Debug)]
+pub enum Kind {
+    File,
+    Dir,
+}
+
+/// A node of the tree: its parent's number (0 to 63; the root's is its own, 0), its size in blocks, and whether it was
+/// changed since it was last written back.
+#[derive(Clone, Copy, PartialEq, Eq, Debug)]
+pub struct NodeInfo {
+    pub kind: Kind,
+    pub parent: u8,
+    pub size: u32,
+    pub dirty: bool,
+}
+
+/// A step of the model, done by one task.
+#[derive(Clone, Copy, PartialEq, Eq, Debug)]
+pub enum Action {
+    /// The task gets an access at the gate.
+    Grant(Gate),
+    /// The task gives an access at the gate back.
+    Return(Gate),
+    /// The mount of that number is made read-only by its own flag.
+    MountRo(u8),
+    /// The mount's own flag is cleared.
+    MountRw(u8),
+    /// The superblock is made read-only.
+    SbRo,
+    /// The superblock is made writable.
+    SbRw,
+    /// The stage of the freeze becomes 0 to 4 (SB_UNFROZEN to SB_FREEZE_COMPLETE).
+    Stage(u8),
+    /// A freeze has closed level 1, 2 or 3, and nobody is inside.
+    Pass(u8),
+    /// A level that was passed is open again.
+    Reopen(u8),
+    /// A free node becomes an empty file or a directory.
+    Create { node: u8, dir: u8, kind: Kind },
+    /// A file's node becomes free.
+    Remove(u8),
+    /// A file gets larger by this many blocks, and dirty.
+    Grow { node: u8, blocks: u32 },
+    /// A file gets another parent.
+    MoveTo { node: u8, dir: u8 },
+    /// A file becomes dirty, by a page fault.
+    Dirty(u8),
+    /// A file becomes clean, as it is written back.
+    Clean(u8),
+}

@@ -1,0 +1,7 @@
+//! The model itself.
+
+/// The model.
+#[derive(Drop)]
+pub struct Model {
+    stage: u8,
+}

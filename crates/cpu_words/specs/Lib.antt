@@ -1,0 +1,4 @@
+pub mod Names
+pub mod Touches
+pub mod Words
+pub mod Sums

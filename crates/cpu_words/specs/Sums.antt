@@ -1,0 +1,28 @@
+-- Sums over the words of a gate, read one after the other.
+use Rattle.std.specs.Prelude.{ℕ, ◌+◌, ◌%◌, nat_lt, nat_le, if◌then◌else◌, List, length, sum}
+use Rattle.finite_sums.specs.Sums.{total}
+use Rattle.cpu_words.specs.declared.sums.Sum.{Sum}
+use Rattle.cpu_words.specs.declared.sums.Taken.{Taken}
+use Rattle.cpu_words.specs.declared.sums.Taken.TheVariants.{More, Total}
+use Rattle.cpu_words.specs.Touches.{wrap_add}
+
+-- what a sum is after one word more, of so many processors
+abbrev pub taken_after : Sum → ℕ → ℕ → Taken
+taken_after sum word processors =
+    if nat_lt (sum.words + 1) processors then More record { words = sum.words + 1; total = wrap_add sum.total word } else Total (wrap_add sum.total word)
+
+-- the sum in progress of just these words
+abbrev pub sum_of : List ℕ → Sum
+sum_of words = record { words = length words; total = sum words % 18446744073709551616 }
+
+-- the sum of these words: in progress, or, where they are the words of all processors, their wrapping sum
+abbrev pub taken_of : List ℕ → ℕ → Taken
+taken_of words processors = if nat_lt (length words) processors then More (sum_of words) else Total (sum words % 18446744073709551616)
+
+-- the present values of word k and the later ones
+abbrev pub ahead : ℕ → (ℕ → ℕ) → ℕ → ℕ
+ahead processors count k = total processors (λ p. if nat_le k p then count p else 0)
+
+-- the lead of a sum of which k words are read: what was read, and the present values of the words to come
+abbrev pub lead : ℕ → (ℕ → ℕ) → ℕ → ℕ → ℕ
+lead processors count k sum = (sum + ahead processors count k) % 18446744073709551616

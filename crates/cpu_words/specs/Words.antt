@@ -1,0 +1,73 @@
+-- All words at one moment.
+use Rattle.std.specs.Prelude.{ℕ}
+use Rattle.finite_sums.specs.Sums.{changed}
+use Rattle.cpu_words.specs.declared.names.WordName.{WordName}
+use Rattle.cpu_words.specs.declared.names.WordName.TheVariants.{Umount, Stage, SbFlags, Remount, MountFlags, MountCount, Block, Sync, LevelCount, Section, Used, Node, Kids}
+
+pub record Words : Type 0 where
+  pub umount : ℕ
+  pub stage : ℕ
+  pub sb : ℕ
+  pub remount : ℕ
+  -- of a mount; of a mount and a processor
+  pub flags : ℕ → ℕ
+  pub count : ℕ → ℕ → ℕ
+  -- of a level; of a level and a processor
+  pub block : ℕ → ℕ
+  pub sync : ℕ → ℕ
+  pub level : ℕ → ℕ → ℕ
+  -- of a task
+  pub section : ℕ → ℕ
+  pub used : ℕ
+  -- of a node
+  pub node : ℕ → ℕ
+  pub kids : ℕ → ℕ
+
+abbrev pub read : Words → WordName → ℕ
+read w Umount = w.umount
+read w Stage = w.stage
+read w SbFlags = w.sb
+read w Remount = w.remount
+read w (MountFlags m) = w.flags m
+read w (MountCount m p) = w.count m p
+read w (Block i) = w.block i
+read w (Sync i) = w.sync i
+read w (LevelCount i p) = w.level i p
+read w (Section t) = w.section t
+read w Used = w.used
+read w (Node n) = w.node n
+read w (Kids n) = w.kids n
+
+-- the words after a write of one of them
+abbrev pub put : Words → WordName → ℕ → Words
+put w Umount v = record w { umount = v }
+put w Stage v = record w { stage = v }
+put w SbFlags v = record w { sb = v }
+put w Remount v = record w { remount = v }
+put w (MountFlags m) v = record w { flags = changed w.flags m v }
+put w (MountCount m p) v = record w { count = changed w.count m (changed (w.count m) p v) }
+put w (Block i) v = record w { block = changed w.block i v }
+put w (Sync i) v = record w { sync = changed w.sync i v }
+put w (LevelCount i p) v = record w { level = changed w.level i (changed (w.level i) p v) }
+put w (Section t) v = record w { section = changed w.section t v }
+put w Used v = record w { used = v }
+put w (Node n) v = record w { node = changed w.node n v }
+put w (Kids n) v = record w { kids = changed w.kids n v }
+
+-- all words are 0, but for the root, a directory
+abbrev pub opening_words : Words
+opening_words = record {
+  umount = 0;
+  stage = 0;
+  sb = 0;
+  remount = 0;
+  flags = λ m. 0;
+  count = λ m p. 0;
+  block = λ i. 0;
+  sync = λ i. 0;
+  level = λ i p. 0;
+  section = λ t. 0;
+  used = 0;
+  node = changed (λ n. 0) 0 2;
+  kids = λ n. 0;
+}

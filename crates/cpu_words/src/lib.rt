@@ -1,0 +1,11 @@
+//! The words of the gates, what one event does to a word, and sums over processors. Every word is a `u64` in memory, and
+//! one event is one load, store, addition, subtraction, or, and, swap or compare-exchange of one word.
+#![tactic(auto)]
+
+pub mod events;
+pub mod names;
+pub mod sums;
+
+pub use events::{Event, Touch};
+pub use names::{WORDS, WordName};
+pub use sums::{Sum, Taken};
