@@ -1,0 +1,11 @@
+//! The core: all tasks on plain words, moved one event at a time by whoever drives it. A schedule is a list of calls of `begin`
+//! and `step`.
+#![tactic(auto)]
+
+pub mod machine;
+pub mod seats;
+pub mod steps;
+
+pub use gate_world::{Config, Op};
+pub use machine::Core;
+pub use steps::{Progress, Step};

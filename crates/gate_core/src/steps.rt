@@ -1,0 +1,48 @@
+//! What one step of a task was.
+
+use access_model::{Action, GateError, Next, Reply};
+use cpu_words::Event;
+use gate_world::Phase;
+
+/// How an operation stands after a step.
+#[derive(Clone, Copy, PartialEq, Eq, Debug)]
+pub enum Progress {
+    /// The task has no operation under way, and did nothing.
+    Idle,
+    /// The operation goes on.
+    Going,
+    /// The event was done, and found that the task has to look or try again.
+    Waiting,
+    /// The operation has ended with this.
+    Done(Result<Reply, GateError>),
+}
+
+/// One step: the event, which is None only for an idle task, the action that the event added, and how the operation stands.
+#[derive(Clone, Copy, PartialEq, Eq, Debug)]
+pub struct Step {
+    pub event: Option<Event>,
+    pub action: Option<Action>,
+    pub progress: Progress,
+}
+
+impl Step {
+    /// The step of an idle task.
+    pub(crate) fn idle() -> Step {
+        Step {
+            event: None,
+            action: None,
+            progress: Progress::Idle,
+        }
+    }
+}
+
+impl Progress {
+    /// How the operation stands, and its next phase.
+    pub(crate) fn of(next: Next<Phase>) -> (Progress, Option<Phase>) {
+        match next {
+            Next::Go(phase) => (Progress::Going, Some(phase)),
+            Next::Wait(phase) => (Progress::Waiting, Some(phase)),
+            Next::Done(answer) => (Progress::Done(answer), None),
+        }
+    }
+}

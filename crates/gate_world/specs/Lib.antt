@@ -1,0 +1,5 @@
+pub mod Configs
+pub mod Work
+pub mod Views
+pub mod Worlds
+pub mod Fits

@@ -1,0 +1,96 @@
+-- What is known of one task number, and what its next event makes of it.
+use Rattle.std.specs.Prelude.{ℕ, ◌+◌, Bool, Option, Some, None, List, [], ◌∷◌}
+use Rattle.finite_sums.specs.Sums.{changed}
+use Rattle.access_model.specs.declared.actions.Action.{Action}
+use Rattle.access_model.specs.declared.replies.Next.{Next}
+use Rattle.access_model.specs.declared.replies.Next.TheVariants.{Go, Wait, Done}
+use Rattle.access_model.specs.Histories.{mounts_of, levels_of}
+use Rattle.cpu_words.specs.declared.names.WordName.{WordName}
+use Rattle.cpu_words.specs.declared.names.WordName.TheVariants.{MountCount, LevelCount}
+use Rattle.cpu_words.specs.declared.events.Touch.{Touch}
+use Rattle.cpu_words.specs.declared.events.Touch.TheVariants.{Add, Sub}
+use Rattle.cpu_words.specs.declared.events.Event.{Event}
+use Rattle.cpu_words.specs.Touches.{event_of, found_by}
+use Rattle.cpu_words.specs.Hooks.{HookAnswer}
+use Rattle.gate_world.specs.declared.operations.Op.{Op}
+use Rattle.gate_world.specs.declared.work.Phase.{Phase}
+use Rattle.gate_world.specs.declared.views.View.{View}
+use Rattle.gate_world.specs.declared.views.Traced.{Traced}
+use Rattle.gate_world.specs.Work.{next_of, after_of}
+
+-- nothing is held and nothing was done
+abbrev pub opening_view : View
+opening_view = record { op = None; phase = None; actions = []; events = []; trace = []; snapshot = None }
+
+-- accesses: what the actions leave
+abbrev pub held_at : View → ℕ → ℕ
+held_at v = mounts_of v.actions
+
+abbrev pub holds_level : View → ℕ → Bool
+holds_level v = levels_of v.actions
+
+-- net additions are what was added to a count word less what was taken away: each is a sum over the events
+abbrev pub added_after : WordName → Touch → (ℕ → ℕ → ℕ) → ℕ → ℕ → ℕ
+added_after (MountCount m p) (Add n) added = changed added m (changed (added m) p (added m p + n))
+added_after word touch added = added
+
+abbrev pub taken_after : WordName → Touch → (ℕ → ℕ → ℕ) → ℕ → ℕ → ℕ
+taken_after (MountCount m p) (Sub n) taken = changed taken m (changed (taken m) p (taken m p + n))
+taken_after word touch taken = taken
+
+abbrev pub added_by : List Event → ℕ → ℕ → ℕ
+added_by [] = λ m p. 0
+added_by (e ∷ earlier) = added_after e.word e.touch (added_by earlier)
+
+abbrev pub taken_by : List Event → ℕ → ℕ → ℕ
+taken_by [] = λ m p. 0
+taken_by (e ∷ earlier) = taken_after e.word e.touch (taken_by earlier)
+
+-- the same, of the levels' count words
+abbrev pub level_added_after : WordName → Touch → (ℕ → ℕ → ℕ) → ℕ → ℕ → ℕ
+level_added_after (LevelCount i p) (Add n) added = changed added i (changed (added i) p (added i p + n))
+level_added_after word touch added = added
+
+abbrev pub level_taken_after : WordName → Touch → (ℕ → ℕ → ℕ) → ℕ → ℕ → ℕ
+level_taken_after (LevelCount i p) (Sub n) taken = changed taken i (changed (taken i) p (taken i p + n))
+level_taken_after word touch taken = taken
+
+abbrev pub level_added_by : List Event → ℕ → ℕ → ℕ
+level_added_by [] = λ i p. 0
+level_added_by (e ∷ earlier) = level_added_after e.word e.touch (level_added_by earlier)
+
+abbrev pub level_taken_by : List Event → ℕ → ℕ → ℕ
+level_taken_by [] = λ i p. 0
+level_taken_by (e ∷ earlier) = level_taken_after e.word e.touch (level_taken_by earlier)
+
+-- where the operation stands after an event
+abbrev pub phase_after : Next Phase → Option Phase
+phase_after (Go phase) = Some phase
+phase_after (Wait phase) = Some phase
+phase_after (Done answer) = None
+
+abbrev pub actions_after : Option Action → List Action → List Action
+actions_after None actions = actions
+actions_after (Some a) actions = a ∷ actions
+
+abbrev pub traced : Event → HookAnswer → Traced
+traced e hook = record { event = e; hook = hook }
+
+-- the view after an event of this word and touch, which found this value in the word and after which this comes
+abbrev pub view_with : View → WordName × Touch → ℕ → HookAnswer → Next Phase × Option Action → View
+view_with v next value hook after = record {
+  op = v.op;
+  phase = phase_after after.0;
+  actions = actions_after after.1 v.actions;
+  events = event_of next.0 next.1 value ∷ v.events;
+  trace = traced (event_of next.0 next.1 value) hook ∷ v.trace;
+  snapshot = v.snapshot;
+}
+
+-- the view after the next event of a phase, on a word that held this value
+abbrev pub view_after : View → Phase → ℕ → HookAnswer → View
+view_after v phase value hook = view_with v (next_of phase hook) value hook (after_of phase (found_by (next_of phase hook).1 value) hook)
+
+-- the view of a task that has begun an operation
+abbrev pub begun_view : View → Op → Phase → View
+begun_view v op phase = record v { op = Some op; phase = Some phase; trace = [] }

@@ -1,0 +1,41 @@
+//! What is known of one task number. Definitions and proofs speak of these; no value of them is ever made.
+
+use access_model::Action;
+use cpu_words::Event;
+use std::collections::LinkedList;
+
+use crate::operations::Op;
+use crate::work::Phase;
+
+/// An event with the hook's answer that it read.
+#[derive(Clone, Copy)]
+pub struct Traced {
+    pub event: Event,
+    pub hook: Result<(), u16>,
+}
+
+/// What a snapshot loaded: the blocks charged, the nodes, the children charged; and how many actions each number of its
+/// task had done at its last load.
+pub struct Snapshot {
+    pub used: u64,
+    pub nodes: LinkedList<u64>,
+    pub kids: LinkedList<u64>,
+    pub known: LinkedList<(u8, u64)>,
+}
+
+/// What is known of one task number. Its accesses are what its actions leave, and its net additions to each count word are
+/// what its events add up to.
+pub struct View {
+    /// The operation under way, or the last one.
+    pub op: Option<Op>,
+    /// Where the operation under way stands.
+    pub phase: Option<Phase>,
+    /// Its actions, the newest first.
+    pub actions: LinkedList<Action>,
+    /// Its events, the newest first.
+    pub events: LinkedList<Event>,
+    /// The events of the operation under way, or of the last one, the newest first.
+    pub trace: LinkedList<Traced>,
+    /// Its last snapshot.
+    pub snapshot: Option<Snapshot>,
+}

@@ -1,0 +1,4 @@
+//! The program.
+#![tactic(auto)]
+
+fn main() {}

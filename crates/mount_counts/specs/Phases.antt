@@ -1,0 +1,116 @@
+-- The order of events of want, drop and change: which word an event touches and how, and what comes after it.
+use Rattle.std.specs.Prelude.{ℕ, ◌+◌, Bool, true, false, not, ◌==◌, if◌then◌else◌, Option, Some, None, Result, Ok, Err, bit_and}
+use Rattle.access_model.specs.declared.actions.Action.{Action}
+use Rattle.access_model.specs.declared.actions.Action.TheVariants.{Grant, Return, MountRo, MountRw}
+use Rattle.access_model.specs.declared.actions.Gate.TheVariants.{Mount}
+use Rattle.access_model.specs.declared.errors.GateError.TheVariants.{Again, Busy, ReadOnly}
+use Rattle.access_model.specs.declared.replies.Next.{Next}
+use Rattle.access_model.specs.declared.replies.Next.TheVariants.{Go, Wait, Done}
+use Rattle.access_model.specs.declared.replies.Reply.TheVariants.{Unit as UnitReply}
+use Rattle.cpu_words.specs.declared.names.WordName.{WordName}
+use Rattle.cpu_words.specs.declared.names.WordName.TheVariants.{Umount, SbFlags, Remount, MountFlags, MountCount}
+use Rattle.cpu_words.specs.declared.events.Touch.{Touch}
+use Rattle.cpu_words.specs.declared.events.Touch.TheVariants.{Load, Store, Add, Sub, Or, And, Cas}
+use Rattle.cpu_words.specs.declared.sums.Sum.{Sum}
+use Rattle.cpu_words.specs.declared.sums.Taken.{Taken}
+use Rattle.cpu_words.specs.declared.sums.Taken.TheVariants.{More, Total}
+use Rattle.cpu_words.specs.Hooks.{HookAnswer}
+use Rattle.cpu_words.specs.Sums.{taken_after}
+use Rattle.mount_counts.specs.declared.phases.MountPhase.{MountPhase}
+use Rattle.mount_counts.specs.declared.phases.MountPhase.TheVariants.{Want as Wants, Drop as Drops, Change as Changes}
+use Rattle.mount_counts.specs.declared.phases.Want.{Want}
+use Rattle.mount_counts.specs.declared.phases.WantStep.{WantStep}
+use Rattle.mount_counts.specs.declared.phases.WantStep.TheVariants.{CountsUp, LoadsHold, LoadsRemount, LoadsReadOnly, LoadsSuperblock, CountsDown}
+use Rattle.mount_counts.specs.declared.phases.Change.{Change}
+use Rattle.mount_counts.specs.declared.phases.ChangeStep.{ChangeStep}
+use Rattle.mount_counts.specs.declared.phases.ChangeStep.TheVariants.{Locks, LoadsFlags, LoadsSuperblock as LoadsSb, ClearsReadOnly, SetsHold, Sums, SetsReadOnly, ClearsHold, Releases}
+
+-- a flag of a flags word is set: READONLY is 1, HOLD is 2
+abbrev pub has_flag : ℕ → ℕ → Bool
+has_flag flags flag = bit_and flags flag == flag
+
+-- want: count up, wait while HOLD is set, ask whether the mount is read-only, and take the count back where it is
+abbrev pub want_next : Want → WantStep → WordName × Touch
+want_next w CountsUp = (MountCount w.mount w.cpu, Add 1)
+want_next w LoadsHold = (MountFlags w.mount, Load)
+want_next w LoadsRemount = (Remount, Load)
+want_next w LoadsReadOnly = (MountFlags w.mount, Load)
+want_next w LoadsSuperblock = (SbFlags, Load)
+want_next w (CountsDown refusal) = (MountCount w.mount w.cpu, Sub 1)
+
+abbrev pub at_want : Want → WantStep → MountPhase
+at_want w step = Wants (record w { step = step })
+
+-- HOLD was found set
+abbrev pub hold_found : Want → Bool → Next MountPhase
+hold_found w true = Wait (at_want w LoadsHold)
+hold_found w false = Go (at_want w (CountsDown Again))
+
+abbrev pub want_after : Want → WantStep → ℕ → Next MountPhase × Option Action
+want_after w CountsUp found = (Go (at_want w LoadsHold), None)
+want_after w LoadsHold found = (if has_flag found 2 then hold_found w w.wait else Go (at_want w LoadsRemount), None)
+want_after w LoadsRemount found = (if found == 0 then Go (at_want w LoadsReadOnly) else Go (at_want w (CountsDown ReadOnly)), None)
+want_after w LoadsReadOnly found = (if has_flag found 1 then Go (at_want w (CountsDown ReadOnly)) else Go (at_want w LoadsSuperblock), None)
+want_after w LoadsSuperblock found = (if found == 0 then Done (Ok UnitReply) else Go (at_want w (CountsDown ReadOnly)), if found == 0 then Some (Grant (Mount w.mount)) else None)
+want_after w (CountsDown refusal) found = (Done (Err refusal), None)
+
+-- change: under `umount`, hold writers and sum them before the flag is set
+abbrev pub change_next : Change → ChangeStep → WordName × Touch
+change_next x Locks = (Umount, Cas 0 (x.task + 1))
+change_next x LoadsFlags = (MountFlags x.mount, Load)
+change_next x LoadsSb = (SbFlags, Load)
+change_next x ClearsReadOnly = (MountFlags x.mount, And 18446744073709551614)
+change_next x SetsHold = (MountFlags x.mount, Or 2)
+change_next x (Sums sum) = (MountCount x.mount sum.words, Load)
+change_next x SetsReadOnly = (MountFlags x.mount, Or 1)
+change_next x (ClearsHold answer) = (MountFlags x.mount, And 18446744073709551613)
+change_next x (Releases answer) = (Umount, Store 0)
+
+abbrev pub at_change : Change → ChangeStep → MountPhase
+at_change x step = Changes (record x { step = step })
+
+-- `umount` was found taken
+abbrev pub lock_failed : Change → Bool → Next MountPhase
+lock_failed x true = Wait (at_change x Locks)
+lock_failed x false = Done (Err Again)
+
+-- the present state was found: asked for read-only or writable, found read-only or writable
+abbrev pub step_between : Bool → Bool → ChangeStep
+step_between true true = Releases (Ok UnitReply)
+step_between true false = SetsHold
+step_between false true = ClearsReadOnly
+step_between false false = Releases (Ok UnitReply)
+
+abbrev pub change_from : Change → Bool → ChangeStep
+change_from x read_only = step_between x.read_only read_only
+
+-- the sum is 0, or somebody was counted
+abbrev pub step_summed : Taken → ChangeStep
+step_summed (More sum) = Sums sum
+step_summed (Total total) = if total == 0 then SetsReadOnly else ClearsHold (Err Busy)
+
+abbrev pub change_summed : Change → Sum → ℕ → ChangeStep
+change_summed x sum word = step_summed (taken_after sum word x.processors)
+
+abbrev pub change_after : Change → ChangeStep → ℕ → Next MountPhase × Option Action
+change_after x Locks found = (if found == 0 then Go (at_change x LoadsFlags) else lock_failed x x.wait, None)
+change_after x LoadsFlags found = (if has_flag found 1 then Go (at_change x (change_from x true)) else Go (at_change x LoadsSb), None)
+change_after x LoadsSb found = (Go (at_change x (change_from x (not (found == 0)))), None)
+change_after x ClearsReadOnly found = (Go (at_change x (Releases (Ok UnitReply))), Some (MountRw x.mount))
+change_after x SetsHold found = (Go (at_change x (Sums record { words = 0; total = 0 })), None)
+change_after x (Sums sum) found = (Go (at_change x (change_summed x sum found)), None)
+change_after x SetsReadOnly found = (Go (at_change x (ClearsHold (Ok UnitReply))), Some (MountRo x.mount))
+change_after x (ClearsHold answer) found = (Go (at_change x (Releases answer)), None)
+change_after x (Releases answer) found = (Done answer, None)
+
+-- the word and the touch of the next event
+abbrev pub next : MountPhase → HookAnswer → WordName × Touch
+next (Wants w) hook = want_next w w.step
+next (Drops m p) hook = (MountCount m p, Sub 1)
+next (Changes x) hook = change_next x x.step
+
+-- what comes after the event that found this value, and the action that the event adds
+abbrev pub after : MountPhase → ℕ → HookAnswer → Next MountPhase × Option Action
+after (Wants w) found hook = want_after w w.step found
+after (Drops m p) found hook = (Done (Ok UnitReply), Some (Return (Mount m)))
+after (Changes x) found hook = change_after x x.step found
