@@ -3,3 +3,4 @@ pub mod Work
 pub mod Views
 pub mod Worlds
 pub mod Fits
+pub mod Rules
