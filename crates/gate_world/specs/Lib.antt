@@ -4,3 +4,4 @@ pub mod Views
 pub mod Worlds
 pub mod Fits
 pub mod Rules
+pub mod Traces
