@@ -2,3 +2,4 @@ pub mod Errors
 pub mod States
 pub mod Actions
 pub mod Histories
+pub mod Shown

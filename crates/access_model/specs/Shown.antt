@@ -1,0 +1,50 @@
+-- The model's fields as the limits and the state that they stand for.
+use Rattle.std.specs.Prelude.{◌≡◌, ℕ, ◌≤◌, Bool, false, Option, None, List, [], slice_index, slice_index_or, vec_len}
+use Rattle.access_model.specs.declared.actions.NodeInfo.{NodeInfo}
+use Rattle.access_model.specs.declared.model.Accesses.{Accesses}
+use Rattle.access_model.specs.declared.model.Model.{Model}
+use Rattle.access_model.specs.States.{Limits, State, Standing, opening_state}
+
+-- the numbers of tasks, mounts and nodes that a model may have
+abbrev pub AreLimits : ℕ → ℕ → ℕ → Type 0
+AreLimits tasks mounts nodes = (1 ≤ tasks) × (tasks ≤ 64) × (1 ≤ mounts) × (mounts ≤ 8) × (2 ≤ nodes) × (nodes ≤ 64)
+
+abbrev pub nothing : Accesses
+nothing = record { mounts = []; levels = [] }
+
+abbrev pub held_of : List Accesses → ℕ → ℕ → ℕ
+held_of accesses t = slice_index (slice_index_or accesses t nothing).mounts
+
+abbrev pub inside_of : List Accesses → ℕ → ℕ → Bool
+inside_of accesses t i = slice_index_or (slice_index_or accesses t nothing).levels i false
+
+abbrev pub flags_of : List Bool → ℕ → Bool
+flags_of flags m = slice_index_or flags m false
+
+abbrev pub tree_of : List (Option NodeInfo) → ℕ → Option NodeInfo
+tree_of nodes n = slice_index_or nodes n None
+
+abbrev pub limits_of : Model → Limits
+limits_of model = record { tasks = model.tasks; mounts = model.mounts; nodes = vec_len model.nodes; capacity = model.capacity }
+
+abbrev pub state_of : Model → State
+state_of model = record {
+  mounts = held_of model.accesses.items;
+  levels = inside_of model.accesses.items;
+  mount_ro = flags_of model.mount_ro;
+  sb_ro = model.sb_ro;
+  stage = model.stage;
+  passed = model.passed;
+  tree = tree_of model.nodes.items;
+}
+
+-- a model as its callers see it
+abbrev pub standing_of : Model → Standing
+standing_of model = record { limits = limits_of model; state = state_of model }
+
+-- a new model of these limits
+abbrev pub opened : ℕ → ℕ → ℕ → ℕ → Standing
+opened tasks mounts nodes capacity = record {
+  limits = record { tasks = tasks; mounts = mounts; nodes = nodes; capacity = capacity };
+  state = opening_state;
+}
