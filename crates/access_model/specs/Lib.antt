@@ -3,3 +3,4 @@ pub mod States
 pub mod Actions
 pub mod Histories
 pub mod Shown
+pub mod Limits

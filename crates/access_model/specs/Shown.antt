@@ -1,16 +1,26 @@
 -- The model's fields as the limits and the state that they stand for.
-use Rattle.std.specs.Prelude.{◌≡◌, ℕ, ◌≤◌, Bool, false, Option, None, List, [], slice_index, slice_index_or, vec_len}
+use Rattle.std.specs.Prelude.{ℕ, ◌<◌, ◌≤◌, Bool, false, Option, None, List, [], slice_index, slice_index_or, vec_len}
+use Rattle.access_model.specs.declared.actions.Action.{Action}
+use Rattle.access_model.specs.declared.actions.Gate.{Gate}
+use Rattle.access_model.specs.declared.actions.Gate.TheVariants.{Mount, Level}
 use Rattle.access_model.specs.declared.actions.NodeInfo.{NodeInfo}
 use Rattle.access_model.specs.declared.model.Accesses.{Accesses}
 use Rattle.access_model.specs.declared.model.Model.{Model}
 use Rattle.access_model.specs.States.{Limits, State, Standing, opening_state}
-
--- the numbers of tasks, mounts and nodes that a model may have
-abbrev pub AreLimits : ℕ → ℕ → ℕ → Type 0
-AreLimits tasks mounts nodes = (1 ≤ tasks) × (tasks ≤ 64) × (1 ≤ mounts) × (mounts ≤ 8) × (2 ≤ nodes) × (nodes ≤ 64)
+use Rattle.access_model.specs.Actions.{after_action}
 
 abbrev pub nothing : Accesses
 nothing = record { mounts = []; levels = [] }
+
+-- one more access fits
+abbrev pub HasRoom : Accesses → Gate → Type 0
+HasRoom held (Mount m) = (m < 8) × (slice_index held.mounts m < 1024)
+HasRoom held (Level i) = i ≤ 3
+
+-- there is an access to give back
+abbrev pub HasAccess : Accesses → Gate → Type 0
+HasAccess held (Mount m) = (m < 8) × (0 < slice_index held.mounts m)
+HasAccess held (Level i) = i ≤ 3
 
 abbrev pub held_of : List Accesses → ℕ → ℕ → ℕ
 held_of accesses t = slice_index (slice_index_or accesses t nothing).mounts
@@ -41,6 +51,10 @@ state_of model = record {
 -- a model as its callers see it
 abbrev pub standing_of : Model → Standing
 standing_of model = record { limits = limits_of model; state = state_of model }
+
+-- the same model after an action
+abbrev pub done : Standing → ℕ → Action → Standing
+done standing task action = record { limits = standing.limits; state = after_action standing.state task action }
 
 -- a new model of these limits
 abbrev pub opened : ℕ → ℕ → ℕ → ℕ → Standing
