@@ -96,6 +96,7 @@ pub struct Model {
     ghost few_mounts: { mounts ≤ 8 },
     ghost each_task: { vec_len accesses ≡ tasks },
     ghost few_nodes: { vec_len nodes ≤ 64 },
+    ghost small_capacity: { capacity < 2 ^ 32 },
 }
 
 impl Model {
