@@ -4,3 +4,4 @@ pub mod Actions
 pub mod Histories
 pub mod Shown
 pub mod Limits
+pub mod Laws
