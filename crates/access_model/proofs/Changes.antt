@@ -1,10 +1,9 @@
 -- a list with one place changed, as a function
-use Rattle.std.proofs.Common.{◌≡◌, ℕ, ◌<◌, sym, ap, ◌∙◌, subst, inl, inr, arith, List, length, get_or, set, get_or-set_same, get_or-set_other}
+use Rattle.std.proofs.Common.{◌≡◌, ℕ, ◌<◌, sym, ap, ◌∙◌, subst, inl, inr, List, length, get_or, set, get_or-set_same, get_or-set_other}
 use Rattle.std.proofs.Math.Path.{fun_ext}
 use Rattle.std.proofs.lemmas.Bool.Decides.{eqb_tells}
 use Rattle.std.proofs.lemmas.List.{get_or_default}
 use Rattle.finite_sums.specs.Sums.{changed}
-use Rattle.access_model.specs.declared.actions.Action.{Action}
 use Rattle.access_model.specs.declared.model.Accesses.{Accesses}
 use Rattle.access_model.specs.Shown.{nothing, held_of, inside_of}
 use Rattle.std.specs.Prelude.{Bool, false, slice_index, slice_index_or}

@@ -10,7 +10,7 @@ use Rattle.access_model.specs.declared.actions.Action.TheVariants.{Grant, Return
 use Rattle.access_model.specs.declared.actions.Gate.TheVariants.{Mount, Level}
 use Rattle.access_model.specs.declared.actions.NodeInfo.{NodeInfo}
 use Rattle.std.specs.Prelude.{Option}
-use Rattle.access_model.specs.States.{Limits, State, opening_state}
+use Rattle.access_model.specs.States.{Limits, State}
 use Rattle.access_model.specs.Actions.{MayStage, MayDo, after_action}
 use Rattle.access_model.specs.Histories.{Done, end_of, IsLegal}
 use Rattle.access_model.specs.Laws.{IsReadOnly, NobodyHoldsClosed}

@@ -1,10 +1,8 @@
 -- what a task holds is what its own list leaves
-use Rattle.std.proofs.Common.{◌≡◌, ℕ, Bool, refl, sym, ap, ◌∙◌, subst, inl, inr, arith}
-use Rattle.std.specs.Prelude.{◌==◌, cond, List, [], ◌∷◌}
+use Rattle.std.proofs.Common.{◌≡◌, ℕ, refl, sym, ap, ◌∙◌, subst, inl, inr}
+use Rattle.std.specs.Prelude.{cond, List, [], ◌∷◌}
 use Rattle.std.proofs.lemmas.Bool.Decides.{eqb_tells}
-use Rattle.std.proofs.lemmas.Bool.{eq-eqb, ne_eqb}
-use Rattle.finite_sums.specs.Sums.{changed}
-use Rattle.finite_sums.proofs.Totals.{changed_at, changed_off, each_changed}
+use Rattle.finite_sums.proofs.Totals.{changed_at, changed_off}
 use Rattle.access_model.specs.declared.actions.Action.{Action}
 use Rattle.access_model.specs.declared.actions.Action.TheVariants.{Grant, Return, MountRo, MountRw, SbRo, SbRw, Stage, Pass, Reopen, Create, Remove, Grow, MoveTo, Dirty, Clean}
 use Rattle.access_model.specs.States.{State}

@@ -1,12 +1,9 @@
 -- lists of one value, as functions
-use Rattle.std.proofs.Common.{◌≡◌, ℕ, zero, suc, ◌<◌, refl, sym, ap, ◌∙◌, inl, inr, arith, get_or, replicate, set, get_or-set_same, get_or-set_other}
+use Rattle.std.proofs.Common.{◌≡◌, ℕ, zero, suc, ◌<◌, refl, sym, ◌∙◌, arith, get_or, replicate, set}
 use Rattle.std.proofs.Math.Path.{fun_ext}
-use Rattle.std.proofs.lemmas.Bool.Decides.{eqb_tells}
-use Rattle.std.proofs.lemmas.List.{get_or-replicate, get_or_past}
-use Rattle.std.specs.Prelude.{List, Bool, false, Option, None, Some, [], ◌∷◌, length}
+use Rattle.std.specs.Prelude.{false, None, Some}
 use Rattle.finite_sums.specs.Sums.{changed}
 use Rattle.finite_sums.proofs.Totals.{changed_off}
-use Rattle.access_model.specs.declared.actions.NodeInfo.{NodeInfo}
 use Rattle.access_model.specs.declared.model.Accesses.{Accesses}
 use Rattle.access_model.specs.States.{root}
 use Rattle.access_model.specs.Shown.{nothing, held_of, inside_of, flags_of, tree_of}

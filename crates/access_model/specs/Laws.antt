@@ -1,5 +1,5 @@
 -- Laws of whole histories.
-use Rattle.std.specs.Prelude.{◌≡◌, ℕ, ◌<◌, ◌≤◌, ◌⊎◌, Bool, true, false, List}
+use Rattle.std.specs.Prelude.{◌≡◌, ℕ, ◌<◌, ◌≤◌, ◌⊎◌, true, false, List}
 use Rattle.access_model.specs.States.{Limits, State}
 use Rattle.access_model.specs.Histories.{Done, end_of, own_part, mounts_of, levels_of}
 

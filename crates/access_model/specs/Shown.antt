@@ -34,23 +34,26 @@ flags_of flags m = slice_index_or flags m false
 abbrev pub tree_of : List (Option NodeInfo) → ℕ → Option NodeInfo
 tree_of nodes n = slice_index_or nodes n None
 
-abbrev pub limits_of : Model → Limits
-limits_of model = record { tasks = model.tasks; mounts = model.mounts; nodes = vec_len model.nodes; capacity = model.capacity }
-
-abbrev pub state_of : Model → State
-state_of model = record {
-  mounts = held_of model.accesses.items;
-  levels = inside_of model.accesses.items;
-  mount_ro = flags_of model.mount_ro;
-  sb_ro = model.sb_ro;
-  stage = model.stage;
-  passed = model.passed;
-  tree = tree_of model.nodes.items;
+-- a model as its callers see it
+unfoldable pub standing_of : Model → Standing
+standing_of model = record {
+  limits = record { tasks = model.tasks; mounts = model.mounts; nodes = vec_len model.nodes; capacity = model.capacity };
+  state = record {
+    mounts = held_of model.accesses.items;
+    levels = inside_of model.accesses.items;
+    mount_ro = flags_of model.mount_ro;
+    sb_ro = model.sb_ro;
+    stage = model.stage;
+    passed = model.passed;
+    tree = tree_of model.nodes.items;
+  };
 }
 
--- a model as its callers see it
-abbrev pub standing_of : Model → Standing
-standing_of model = record { limits = limits_of model; state = state_of model }
+abbrev pub limits_of : Model → Limits
+limits_of model = (standing_of model).limits
+
+abbrev pub state_of : Model → State
+state_of model = (standing_of model).state
 
 -- the same model after an action
 abbrev pub done : Standing → ℕ → Action → Standing

@@ -1,4 +1,5 @@
 //! The model itself.
+#![tactic(auto, unfolding(crate::specs::Shown::standing_of))]
 
 ghost use Rattle.std.specs.Prelude.{◌≡◌, ℕ, ◌≤◌, ◌<◌, ◌+◌, ◌^◌, ◌↔◌, IsTrue, option_map, vec_len};
 ghost use Rattle.access_model.specs.States.{IsLevel, size_of};

@@ -1,16 +1,17 @@
 -- an action leaves what it says
-use Rattle.std.proofs.Common.{◌≡◌, ℕ, ◌<◌, ◌≤◌, ◌+◌, ap, ◌∙◌, sym, subst, arith, length}
+use Rattle.std.proofs.Common.{◌≡◌, ◌<◌, ◌≤◌, ap, ◌∙◌, sym, subst, arith, length}
 use Rattle.std.proofs.lemmas.List.{get_or_default}
 use Rattle.std.specs.Prelude.{None}
 use Rattle.access_model.specs.declared.actions.Action.TheVariants.{Grant, Return, Grow}
 use Rattle.access_model.specs.States.{size_of, used_blocks}
 use Rattle.access_model.specs.Actions.{MayDo, mounts_after, levels_after}
-use Rattle.access_model.specs.Shown.{state_of, limits_of, standing_of, done, tree_of}
+use Rattle.access_model.specs.Shown.{state_of, limits_of, standing_of, tree_of}
 use Rattle.finite_sums.proofs.Totals.{total_at}
 use Rattle.access_model.proofs.Changes.{held_after, inside_after}
 use Rattle.access_model.proofs.model.Model.carry_out.Goals as goal
 
 pub grow-requires : goal.grow-requires
+unfolding standing_of
 grow-requires c =
     let m = c.args.self.now in
     let n = c.in-Grow.node in
@@ -21,6 +22,7 @@ grow-requires c =
     omega (arith, part, may.4, ap size_of same, m.small_capacity)
 
 pub returns-in-Grant : goal.returns-in-Grant
+unfolding standing_of
 returns-in-Grant c =
     let m = c.args.self.now in
     let gate = c.in-Grant.gate in
@@ -30,6 +32,7 @@ returns-in-Grant c =
     rw c.in-Grant.is (λ i. record { limits = limits_of m; state = record (state_of m) { mounts = held i; levels = inside i } })
 
 pub returns-in-Return : goal.returns-in-Return
+unfolding standing_of
 returns-in-Return c =
     let m = c.args.self.now in
     let gate = c.in-Return.gate in

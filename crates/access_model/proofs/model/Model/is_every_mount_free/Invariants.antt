@@ -1,5 +1,5 @@
 -- no mount below this one is held
-use Rattle.std.proofs.Common.{◌≡◌, ℕ, ◌<◌}
+use Rattle.std.proofs.Common.{ℕ, ◌<◌}
 use Rattle.access_model.specs.declared.actions.Gate.TheVariants.{Mount}
 use Rattle.access_model.specs.States.{NobodyHolds}
 use Rattle.access_model.specs.Shown.{limits_of, state_of}

@@ -1,16 +1,15 @@
 -- a new model is the opening state
-use Rattle.std.proofs.Common.{rules, ◌≡◌, ℕ, ◌<◌, refl, ap, ◌∙◌, arith, replicate}
+use Rattle.std.proofs.Common.{◌≡◌, ◌<◌, ap, ◌∙◌, arith, replicate}
 use Rattle.std.proofs.lemmas.Grind.{common_steps}
 use Rattle.std.proofs.Math.ListN.{set}
-use Rattle.std.specs.Prelude.{List, false, Option, None, Some, vec_len}
-use Rattle.access_model.specs.declared.actions.NodeInfo.{NodeInfo}
-use Rattle.access_model.specs.declared.model.Accesses.{Accesses}
+use Rattle.std.specs.Prelude.{false, None, Some}
 use Rattle.access_model.specs.States.{root}
-use Rattle.access_model.specs.Shown.{held_of, inside_of, tree_of}
+use Rattle.access_model.specs.Shown.{held_of, inside_of, tree_of, standing_of}
 use Rattle.access_model.proofs.Opening.{no_access, nothing_held, nobody_inside, no_flag, root_alone}
 use Rattle.access_model.proofs.model.Model.new.Goals as goal
 
 pub returns-clause-opens : goal.returns-clause-opens
+unfolding standing_of
 returns-clause-opens c =
     let tree : c.in_ok-tree.tree.items ≡ replicate c.args.nodes None = c.in_ok-tree.ensures.items_if_clones_equal (λ y h. grind (arith, common_steps)) in
     let accesses : c.in_ok-vec.field-0.items ≡ replicate c.args.tasks no_access = c.in_ok-vec.ensures.items_if_clones_equal (λ y e. e) in

@@ -1,5 +1,5 @@
 -- the blocks of the nodes below this one, each less than 2 ^ 32
-use Rattle.std.proofs.Common.{◌≡◌, ℕ, ◌≤◌, ◌*◌}
+use Rattle.std.proofs.Common.{◌≡◌, ◌≤◌, ◌*◌}
 use Rattle.finite_sums.specs.Sums.{total}
 use Rattle.access_model.specs.States.{size_of}
 use Rattle.access_model.specs.Shown.{tree_of}
