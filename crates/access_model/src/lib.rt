@@ -9,6 +9,9 @@ pub mod laws;
 pub mod model;
 pub mod replies;
 
+#[cfg(test)]
+mod tests;
+
 pub use actions::{Action, Gate, Kind, NodeInfo};
 pub use errors::GateError;
 pub use model::Model;
