@@ -8,7 +8,6 @@ pub mod errors;
 pub mod laws;
 pub mod model;
 pub mod replies;
-
 #[cfg(test)]
 mod tests;
 

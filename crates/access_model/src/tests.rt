@@ -1,10 +1,9 @@
 //! What no clause says: that calls succeed, and the printed names and numbers.
 
-use std::test::Fail;
-
 use crate::actions::{Action, Gate, Kind};
 use crate::errors::GateError;
 use crate::model::Model;
+use std::test::Fail;
 
 #[test]
 fn a_read_only_mount_grants_nothing(rt: HostRuntime) -> Result<(), Fail> {
@@ -12,7 +11,10 @@ fn a_read_only_mount_grants_nothing(rt: HostRuntime) -> Result<(), Fail> {
     let grant = Action::Grant(Gate::Mount(0));
     assert_eq!(rt; model.apply(0, &grant), Ok(()));
     assert_eq!(rt; model.held_mount(0, 0), 1);
-    assert_eq!(rt; model.apply(0, &Action::MountRo(0)), Err(GateError::Invalid));
+    assert_eq!(rt;
+        model.apply(0, &Action::MountRo(0)),
+        Err(GateError::Invalid)
+    );
     assert_eq!(rt; model.apply(0, &Action::Return(Gate::Mount(0))), Ok(()));
     assert_eq!(rt; model.apply(0, &Action::MountRo(0)), Ok(()));
     assert!(rt; model.mount_ro(0));
@@ -39,16 +41,28 @@ fn a_freeze_waits_for_writers_and_for_clean_files(rt: HostRuntime) -> Result<(),
         assert_eq!(rt; model.apply(0, &action), Ok(()));
     }
     let full = Action::Grow { node: 1, blocks: 1 };
-    assert_eq!(rt; model.apply(0, &full), Err(GateError::Invalid), "all blocks are used");
+    assert_eq!(rt;
+        model.apply(0, &full),
+        Err(GateError::Invalid),
+        "all blocks are used"
+    );
     assert_eq!(rt; model.tree(1).ok_or("no file")?.size, 8);
     assert_eq!(rt; model.apply(1, &Action::Stage(1)), Ok(()));
-    assert_eq!(rt; model.apply(1, &Action::Pass(1)), Err(GateError::Invalid), "a task is inside");
+    assert_eq!(rt;
+        model.apply(1, &Action::Pass(1)),
+        Err(GateError::Invalid),
+        "a task is inside"
+    );
     assert_eq!(rt; model.apply(0, &Action::Return(Gate::Level(1))), Ok(()));
     let close = [Action::Pass(1), Action::Stage(2), Action::Pass(2)];
     for action in close {
         assert_eq!(rt; model.apply(1, &action), Ok(()));
     }
-    assert_eq!(rt; model.apply(1, &Action::Stage(3)), Err(GateError::Invalid), "a file is dirty");
+    assert_eq!(rt;
+        model.apply(1, &Action::Stage(3)),
+        Err(GateError::Invalid),
+        "a file is dirty"
+    );
     let finish = [
         Action::Clean(1),
         Action::Stage(3),
@@ -69,7 +83,10 @@ fn a_freeze_waits_for_writers_and_for_clean_files(rt: HostRuntime) -> Result<(),
 
 #[test]
 fn a_model_of_no_tasks_is_invalid(rt: HostRuntime) {
-    assert_eq!(rt; Model::new(rt.alloc(), 0, 1, 2, 8).err(), Some(GateError::Invalid));
+    assert_eq!(rt;
+        Model::new(rt.alloc(), 0, 1, 2, 8).err(),
+        Some(GateError::Invalid)
+    );
 }
 
 #[test]
