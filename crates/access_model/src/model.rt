@@ -10,6 +10,9 @@ use crate::actions::{Action, Gate, Kind, NodeInfo};
 use crate::errors::GateError;
 use std::alloc::Global;
 
+/// How many accesses a task may hold at one mount.
+const MAX_ACCESSES: u16 = 1024;
+
 /// What one task holds: its accesses at each mount, and whether it is inside each freeze level. Levels count from 1, so
 /// entry 0 stays false.
 #[derive(Clone, Copy)]
@@ -381,7 +384,7 @@ impl Model {
                 mount < self.mounts
                     && !self.mount_ro[mount as usize]
                     && !self.sb_ro
-                    && self.accesses[task as usize].mounts[mount as usize] < 1024
+                    && self.accesses[task as usize].mounts[mount as usize] < MAX_ACCESSES
             }
             // Levels are taken in rising order, so the task may be in none from this one on.
             Gate::Level(level) => {
@@ -424,7 +427,7 @@ impl Model {
     fn is_at(&self, stage: u8) -> bool
         ensures { IsTrue result ↔ (((state_of self.now).stage ≡ stage) × ((state_of self.now).passed ≡ stage)) }
     {
-        self.stage == stage && self.passed == stage
+        stage == self.stage && stage == self.passed
     }
 
     /// Whether a freeze may have closed a level now.
