@@ -151,6 +151,7 @@ module _ (c : Config) (w : World) (t : ℕ) (lt : t < c.tasks) where
         Good c (record { words = ws; views = changed w.views t v })
     good_after m ws v er es owner fits off own = record {
       owner = owner;
+      superblock = omega (arith, es, good.superblock);
       fits = λ x lx. each_changed (λ y u. ViewFits c y u) w.views t v x fits (λ ne. good.fits x lx);
       mount = λ n ln. elim (eqb_tells n m) [
         | inl h ↦

@@ -5,3 +5,5 @@ pub mod Worlds
 pub mod Fits
 pub mod Rules
 pub mod Traces
+pub mod Headline
+pub mod Causes

@@ -108,6 +108,7 @@ ViewFits c t v = Fits c t (held_at v) (holds_level v) v.phase
 -- the rule
 pub record Good (c : Config) (w : World) : Type 0 where
   pub owner : OwnerHolds c.tasks w.words.umount w.words.remount (λ t. (w.views t).phase)
+  pub superblock : w.words.sb ≤ 1
   pub fits : (t : ℕ) → t < c.tasks → ViewFits c t (w.views t)
   pub mount : (m : ℕ) → m < c.mounts →
       MountHolds c.tasks c.processors (w.words.flags m) w.words.remount w.words.sb (w.words.count m) (λ t. at_mount m (w.views t))
