@@ -1,6 +1,6 @@
 -- Traces of a change of a mount's read-only flag.
 use Rattle.std.proofs.Common.{◌≡◌, ℕ, suc, ◌+◌, ◌<◌, ◌≤◌, Bool, true, false, refl, sym, ap, ◌∙◌, subst, inl, inr, add-one, arith}
-use Rattle.std.specs.Prelude.{◌==◌, not, ◌||◌, ◌≢◌, nat_lt, Result, Ok, Err, List, [], ◌∷◌, length}
+use Rattle.std.specs.Prelude.{◌==◌, not, ◌||◌, nat_lt, Result, Ok, Err, List, [], ◌∷◌, length}
 use Rattle.std.proofs.lemmas.Bool.{eq-eqb, ltb-true, ltb-false, cases_Bool}
 use Rattle.std.proofs.lemmas.Bool.Decides.{eqb_tells}
 use Rattle.std.proofs.lemmas.List.Sums.{sum_by-cons}
@@ -54,7 +54,7 @@ Answers c m ro wait answer trace added = (added ≡ actions_of (ChangeMount m ro
 abbrev IsSumOf : Config → ℕ → Sum → List Traced → Type 0
 IsSumOf c m sum trace = (sum.words < c.processors) × IsEachCount sum.words (counts_loaded m trace) × (sum.total ≡ sum_loaded (counts_loaded m trace))
 
--- what a trace says at a step
+-- what a trace says at a step: what was found, loaded and added
 abbrev StepSays : Config → ℕ → Bool → Bool → ChangeStep → List Traced → List Action → Type 0
 StepSays c m ro wait Locks trace added = FoundNothing m trace added
 StepSays c m ro wait LoadsFlags trace added = FoundNothing m trace added
@@ -66,6 +66,7 @@ StepSays c m ro wait SetsReadOnly trace added = (added ≡ []) × (ro ≡ true) 
 StepSays c m ro wait (ClearsHold answer) trace added = Answers c m ro wait answer trace added
 StepSays c m ro wait (Releases answer) trace added = Answers c m ro wait answer trace added
 
+-- the same, and how long the trace is where the change waits for nobody
 abbrev ChangeSays : Config → ℕ → Bool → Bool → ChangeStep → List Traced → List Action → Type 0
 ChangeSays c m ro wait step trace added = (wait ≡ false → length trace ≤ events_before c step) × StepSays c m ro wait step trace added
 
@@ -91,6 +92,7 @@ within_most c m ro wait SetsReadOnly trace added h k = omega arith
 within_most c m ro wait (ClearsHold answer) trace added h k = omega arith
 within_most c m ro wait (Releases answer) trace added h k = omega arith
 
+-- nothing more was found than was found last
 or_false : (b : Bool) → (b || false) ≡ b
 or_false true = refl
 or_false false = refl
@@ -112,16 +114,18 @@ module _ (c : Config) (lim : IsWithin c) (t m : ℕ) (ro : Bool) (value : ℕ) (
   abbrev longer : Bool → ChangeStep → List Traced
   longer wait step = traced (event_at (change c t m ro wait step) value hook) hook ∷ earlier
 
+  -- what the trace says after the event of a step
   abbrev After : Bool → ChangeStep → Type 0
   After wait step = SaysAfter (ChangeAt c t m ro wait) c (ChangeMount m ro wait) (change c t m ro wait step) value hook earlier added
 
-  -- an event that clears HOLD or gives `umount` back leaves what is told
+  -- an event that clears HOLD leaves what is told
   hold_leaves : (wait : Bool) (answer : Result Reply GateError) → Answers c m ro wait answer earlier added → Answers c m ro wait answer (longer wait (ClearsHold answer)) added
   hold_leaves wait (Ok reply) h = h
   hold_leaves wait (Err Again) h = h
   hold_leaves wait (Err Busy) h = h
   hold_leaves wait (Err refusal) h = h
 
+  -- so does one that gives `umount` back
   lock_leaves : (wait : Bool) (answer : Result Reply GateError) → Answers c m ro wait answer earlier added → Answers c m ro wait answer (longer wait (Releases answer)) added
   lock_leaves wait (Ok reply) h = h
   lock_leaves wait (Err Again) h = h
@@ -133,6 +137,7 @@ module _ (c : Config) (lim : IsWithin c) (t m : ℕ) (ro : Bool) (value : ℕ) (
   lock_taken true h f = rw f ((Locks, refl, (λ q. absurd (cc), h.1)), (refl, rw f refl))
   lock_taken false h f = rw f ((h.1.0, (refl, rw f refl)), omega (arith, h.0 refl))
 
+  -- `umount` is tried, and nothing is loaded
   locks : (wait : Bool) → ChangeSays c m ro wait Locks earlier added → After wait Locks
   locks wait h =
       elim (cases_Bool (value == 0)) [
@@ -148,18 +153,23 @@ module _ (c : Config) (lim : IsWithin c) (t m : ℕ) (ro : Bool) (value : ℕ) (
         | inr f ↦ rw f (LoadsSb, refl, (λ q. omega (arith, h.0 q), (h.1.0, rw (eq-eqb m m refl, f) h.1.1, h.1.2)))
       ]
 
+  -- the superblock's flag is set or clear, and the mount's own is clear
   loads_superblock : (wait : Bool) → ChangeSays c m ro wait LoadsSb earlier added → After wait LoadsSb
   loads_superblock wait h = (
-    step_between ro (not (value == 0)), refl,
+    step_between ro (not (value == 0)),
+    refl,
     state_found c m ro wait (not (value == 0)) (longer wait LoadsSb) added (λ q. omega (arith, h.0 q)) h.1.0 (rw h.1.1 (or_false (not (value == 0)))) h.1.2,
   )
 
+  -- a change to writable, of a mount that was found read-only, is done
   clears_read_only : (wait : Bool) → ChangeSays c m ro wait ClearsReadOnly earlier added → After wait ClearsReadOnly
   clears_read_only wait h = (Releases (Ok UnitReply), refl, (λ q. omega (arith, h.0 q), (rw (h.1.1, h.1.2) (ap (λ (l : List Action). MountRw m ∷ l) h.1.0), tt)))
 
+  -- the sum begins with no count loaded
   sets_hold : (wait : Bool) → ChangeSays c m ro wait SetsHold earlier added → After wait SetsHold
   sets_hold wait h = (
-    Sums record { words = 0; total = 0 }, refl,
+    Sums record { words = 0; total = 0 },
+    refl,
     (λ q. omega (arith, h.0 q), (h.1.1.0, h.1.0, h.1.1.1, (lim.some_processor, rw h.1.1.2 tt, rw h.1.1.2 refl))),
   )
 
@@ -168,13 +178,17 @@ module _ (c : Config) (lim : IsWithin c) (t m : ℕ) (ro : Bool) (value : ℕ) (
       IsEachCount (suc sum.words) (counts_loaded m (longer wait (Sums sum))) × (wrap_add sum.total value ≡ sum_loaded (counts_loaded m (longer wait (Sums sum))))
   count_loaded wait sum h = rw (eq-eqb m m refl) ((refl, h.1), sum_more sum.words value sum.total (counts_loaded m earlier) h.2)
 
+  -- the sum goes on, or it is a sum of all counts: 0, or not
   sums : (wait : Bool) (sum : Sum) → ChangeSays c m ro wait (Sums sum) earlier added → After wait (Sums sum)
   sums wait sum h =
       let now : IsEachCount (suc sum.words) (counts_loaded m (longer wait (Sums sum))) × (wrap_add sum.total value ≡ sum_loaded (counts_loaded m (longer wait (Sums sum)))) = count_loaded wait sum h.1.3 in
       elim (cases_Bool (nat_lt (sum.words + 1) c.processors)) [
         | inl f ↦
-            rw f (Sums record { words = sum.words + 1; total = wrap_add sum.total value }, refl,
-            (λ q. omega (arith, h.0 q), (h.1.0, h.1.1, h.1.2, (ltb-true (sum.words + 1) c.processors f, rw (add-one sum.words) now.0, now.1))))
+            rw f (
+              Sums record { words = sum.words + 1; total = wrap_add sum.total value },
+              refl,
+              (λ q. omega (arith, h.0 q), (h.1.0, h.1.1, h.1.2, (ltb-true (sum.words + 1) c.processors f, rw (add-one sum.words) now.0, now.1))),
+            )
         | inr f ↦
             let last : suc sum.words ≡ c.processors = omega (arith, ltb-false (sum.words + 1) c.processors f, h.1.3.0) in
             elim (eqb_tells (wrap_add sum.total value) 0) [
@@ -183,6 +197,7 @@ module _ (c : Config) (lim : IsWithin c) (t m : ℕ) (ro : Bool) (value : ℕ) (
             ]
       ]
 
+  -- a change to read-only, of a mount that was found writable, is done
   sets_read_only : (wait : Bool) → ChangeSays c m ro wait SetsReadOnly earlier added → After wait SetsReadOnly
   sets_read_only wait h = (ClearsHold (Ok UnitReply), refl, (λ q. omega (arith, h.0 q), (rw (h.1.1, h.1.2) (ap (λ (l : List Action). MountRo m ∷ l) h.1.0), tt)))
 
@@ -198,6 +213,7 @@ module _ (c : Config) (lim : IsWithin c) (t m : ℕ) (ro : Bool) (value : ℕ) (
   change_event wait (ClearsHold answer) h = (Releases answer, refl, (λ q. omega (arith, h.0 q), hold_leaves wait answer h.1))
   change_event wait (Releases answer) h = (lock_leaves wait answer h.1, change_short c m ro wait (longer wait (Releases answer)) (λ q. omega (arith, h.0 q)))
 
+-- so it is kept along every trace of a change
 pub change_kept : (c : Config) → IsWithin c → (t m : ℕ) (ro wait : Bool) → Kept (ChangeAt c t m ro wait) c t (ChangeMount m ro wait)
 change_kept c lim t m ro wait = record {
   first = (Locks, refl, (λ q. omega arith, (refl, refl, refl)));

@@ -1,5 +1,5 @@
 -- What a trace says, kept from each event to the next.
-use Rattle.std.proofs.Common.{◌≡◌, ℕ, sym, subst}
+use Rattle.std.proofs.Common.{ℕ, sym, subst}
 use Rattle.std.specs.Prelude.{List, [], ◌∷◌}
 use Rattle.access_model.specs.declared.actions.Action.{Action}
 use Rattle.access_model.specs.declared.replies.Next.{Next}
@@ -54,6 +54,7 @@ module _ (At : List Traced → Phase → List Action → Type 0) (c : Config) (t
   next_keeps (Wait phase) added e earlier next here = event_keeps phase added e earlier next here.0
   next_keeps (Done answer) added e earlier next here = absurd next
 
+  -- every trace says it
   pub says : (trace : List Traced) → IsTrace c t op trace → Says At c op trace (course_of c t op trace).stands (course_of c t op trace).added
   says [] h = kept.first
   says (e ∷ earlier) h = next_keeps (course_of c t op earlier).stands (course_of c t op earlier).added e earlier h.0 (says earlier h.1)
@@ -64,11 +65,13 @@ module _ (At : List Traced → Phase → List Action → Type 0) (c : Config) (t
   says_tells trace (Wait phase) added h = h.1
   says_tells trace (Done answer) added h = h.0
 
+  -- what is said bounds the trace
   says_short : (trace : List Traced) (stands : Next Phase) (added : List Action) → Says At c op trace stands added → IsShort (most_events c op) trace
   says_short trace (Go phase) added h = kept.short trace phase added h
   says_short trace (Wait phase) added h = kept.short trace phase added h.0
   says_short trace (Done answer) added h = h.1
 
+  -- so every trace tells what is to be told, and is short
   pub tells : (trace : List Traced) → IsTrace c t op trace → Tells c op trace (course_of c t op trace).stands (course_of c t op trace).added
   tells trace h = says_tells trace (course_of c t op trace).stands (course_of c t op trace).added (says trace h)
 

@@ -1,5 +1,5 @@
 -- Each view follows its operation, after every schedule.
-use Rattle.std.proofs.Common.{◌≡◌, ℕ, Bool, true, false, refl, sym, ap, ◌∙◌, subst, inl, inr}
+use Rattle.std.proofs.Common.{◌≡◌, ℕ, refl, sym, ap, ◌∙◌, subst, inl, inr}
 use Rattle.std.specs.Prelude.{Option, Some, None, nat_lt, List, [], ◌∷◌, ◌++◌}
 use Rattle.std.proofs.lemmas.Bool.{cases_Bool}
 use Rattle.finite_sums.proofs.Totals.{each_changed}
@@ -17,7 +17,7 @@ use Rattle.gate_world.specs.declared.views.Traced.{Traced}
 use Rattle.gate_world.specs.Work.{next_of, after_of}
 use Rattle.gate_world.specs.Views.{phase_after, actions_after, traced, view_after, begun_view}
 use Rattle.gate_world.specs.Worlds.{World, Entry, Begins, Steps, first_phase, begin_refusal, begin_of, value_at, step_of, happens, run}
-use Rattle.gate_world.specs.Traces.{course_with, course_after, course_of, IsEventOf, IsNext, FollowsOrder, IsTraced}
+use Rattle.gate_world.specs.Traces.{course_with, course_after, course_of, IsEventOf, IsNext, IsTraced}
 use Rattle.trace_laws.proofs.Says.{event_at}
 
 -- where an operation stands at this phase, its event is the next, and what comes after it is the course after it
@@ -53,18 +53,21 @@ step_follows c t v (Some op) phase value hook e h =
 abbrev pub AllTraced : Config → World → Type 0
 AllTraced c w = (t : ℕ) → IsTraced c t (w.views t) (w.views t).op
 
+-- a beginning empties the trace
 begin_keeps : (c : Config) (w : World) (t : ℕ) (op : Op) (refused : Option GateError) → AllTraced c w → AllTraced c (begin_of c w t op refused)
 begin_keeps c w t op (Some refused) h x = h x
 begin_keeps c w t op None h x =
     each_changed (λ y (v : View). IsTraced c y v v.op) w.views t (begun_view (w.views t) op (first_phase c t op)) x
     (record { trace = tt; phase = refl; actions = ((w.views t).actions, refl) }) (λ ne. h x)
 
+-- a step adds the event that the phase wants
 step_keeps : (c : Config) (w : World) (t : ℕ) (hook : HookAnswer) (phase : Option Phase) → (w.views t).phase ≡ phase → AllTraced c w → AllTraced c (step_of w t hook phase)
 step_keeps c w t hook None e h x = h x
 step_keeps c w t hook (Some phase) e h x =
     each_changed (λ y (v : View). IsTraced c y v v.op) w.views t (view_after (w.views t) phase (value_at w.words phase hook) hook) x
     (step_follows c t (w.views t) (w.views t).op phase (value_at w.words phase hook) hook e (h t)) (λ ne. h x)
 
+-- so each entry keeps it
 entry_keeps : (c : Config) (w : World) (e : Entry) → AllTraced c w → AllTraced c (happens c w e)
 entry_keeps c w (Begins t op) h = begin_keeps c w t op (begin_refusal c w t op) h
 entry_keeps c w (Steps t hook) h =
@@ -73,6 +76,7 @@ entry_keeps c w (Steps t hook) h =
       | inr f ↦ rw f h
     ]
 
+-- and every schedule does
 pub all_traced : (c : Config) (w : World) (entries : List Entry) → AllTraced c w → AllTraced c (run c w entries)
 all_traced c w [] h = h
 all_traced c w (e ∷ entries) h = all_traced c (happens c w e) entries (entry_keeps c w e h)

@@ -2,12 +2,11 @@
 use Rattle.std.proofs.Common.{◌≡◌, ℕ, ◌≤◌, Bool, true, false, refl, sym, ap, subst, inl, inr, arith}
 use Rattle.std.specs.Prelude.{◌==◌, List, [], ◌∷◌, length}
 use Rattle.std.proofs.lemmas.Bool.{eq-eqb, cases_Bool}
-use Rattle.std.proofs.lemmas.Bool.Decides.{eqb_tells}
 use Rattle.access_model.specs.declared.actions.Action.{Action}
 use Rattle.access_model.specs.declared.actions.Action.TheVariants.{Return}
 use Rattle.access_model.specs.declared.actions.Gate.TheVariants.{Mount}
 use Rattle.access_model.specs.declared.errors.GateError.{GateError}
-use Rattle.access_model.specs.declared.errors.GateError.TheVariants.{NoEntry, Again, NoMemory, Busy, NotDir, IsDir, Invalid, TooMany, NoSpace, ReadOnly, Order, Hook}
+use Rattle.access_model.specs.declared.errors.GateError.TheVariants.{Again, ReadOnly}
 use Rattle.cpu_words.specs.Hooks.{HookAnswer}
 use Rattle.mount_counts.specs.declared.phases.MountPhase.TheVariants.{Want as Wants, Drop as Drops}
 use Rattle.mount_counts.specs.declared.phases.WantStep.{WantStep}
@@ -39,6 +38,7 @@ abbrev HasCause : Config → ℕ → ℕ → Bool → WantStep → List Traced �
 HasCause c m p wait (CountsDown refusal) trace = IsHonest c (Want m p wait) refusal trace
 HasCause c m p wait step trace = Unit {0}
 
+-- what a trace says at a step: nothing is added yet
 abbrev WantSays : Config → ℕ → ℕ → Bool → WantStep → List Traced → List Action → Type 0
 WantSays c m p wait step trace added = (added ≡ []) × (wait ≡ false → length trace ≤ events_before step) × HasCause c m p wait step trace
 
@@ -68,6 +68,7 @@ cause_stays c m p wait Again value hook earlier h = h
 cause_stays c m p wait refusal value hook earlier h = h
 
 module _ (c : Config) (m p : ℕ) (value : ℕ) (hook : HookAnswer) (earlier : List Traced) (added : List Action) where
+  -- what the trace says after the event of a step
   abbrev After : Bool → WantStep → Type 0
   After wait step = SaysAfter (WantAt c m p wait) c (Want m p wait) (want m p wait step) value hook earlier added
 
@@ -104,6 +105,7 @@ module _ (c : Config) (m p : ℕ) (value : ℕ) (hook : HookAnswer) (earlier : L
     want_short c m p wait (traced (event_at (want m p wait (CountsDown refusal)) value hook) hook ∷ earlier) (λ q. omega (arith, h.1 q)),
   )
 
+-- so it is kept along every trace of a want
 pub want_kept : (c : Config) (t m p : ℕ) (wait : Bool) → Kept (WantAt c m p wait) c t (Want m p wait)
 want_kept c t m p wait = record {
   first = (CountsUp, refl, (refl, λ q. omega arith, tt));
@@ -116,6 +118,7 @@ want_kept c t m p wait = record {
 abbrev pub DropAt : ℕ → ℕ → List Traced → Phase → List Action → Type 0
 DropAt m p trace phase added = (phase ≡ Mounts (Drops m p)) × (trace ≡ []) × (added ≡ [])
 
+-- its one event is its last
 pub drop_kept : (c : Config) (t m p : ℕ) → Kept (DropAt m p) c t (DropMount m p)
 drop_kept c t m p = record {
   first = (refl, refl, refl);
