@@ -1,6 +1,8 @@
 -- Every schedule keeps the rule, and its actions are one run of the access model.
 use Rattle.std.proofs.Common.{◌≡◌, ℕ, ◌+◌, ◌*◌, ◌%◌, ◌<◌, ◌≤◌, Bool, true, false, refl, sym, ap, ◌∙◌, subst, inl, inr, arith, true≢false}
 use Rattle.std.specs.Prelude.{◌==◌, nat_lt, ◌&&◌, ◌⊎◌, is_some, if◌then◌else◌, Option, Some, None, List, [], ◌∷◌}
+use Rattle.std.proofs.Math.Path.{fun_ext}
+use Rattle.std.proofs.lemmas.Bool.Decides.{eqb_tells}
 use Rattle.std.proofs.lemmas.Bool.{cases_Bool, ltb-true, eq-eqb, ne_eqb}
 use Rattle.finite_sums.specs.Sums.{changed, total}
 use Rattle.finite_sums.proofs.Totals.{total_same, total_none, total_bound, each_changed}
@@ -8,7 +10,7 @@ use Rattle.access_model.specs.declared.actions.Action.{Action}
 use Rattle.access_model.specs.declared.errors.GateError.{GateError}
 use Rattle.access_model.specs.declared.errors.GateError.TheVariants.{Invalid, Order, TooMany}
 use Rattle.access_model.specs.Histories.{Done, end_of, IsLegal, own_part}
-use Rattle.access_model.specs.States.{State}
+use Rattle.access_model.specs.States.{State, opening_state}
 use Rattle.access_model.specs.Actions.{IsAllowed, after_action}
 use Rattle.cpu_words.specs.Hooks.{HookAnswer}
 use Rattle.mount_counts.specs.declared.phases.MountPhase.{MountPhase}
@@ -158,6 +160,14 @@ module _ (c : Config) (lim : IsWithin c) where
       sealed = λ h. zeros c.tasks;
     };
   }
+
+  opening_tree : (n : ℕ) → opening_state.tree n ≡ (shown c opening).tree n
+  opening_tree n = elim (eqb_tells n 0) [ inl h ↦ rw (h.0, changed) refl | inr h ↦ rw (h.0, changed) refl ]
+
+  -- which shows the opening state
+  pub opening_shown : opening_state ≡ shown c opening
+  opening_shown =
+      λ i. record opening_state { tree = fun_ext opening_tree i }
 
   -- a mount's words sum to what is counted, as a whole number
   pub gate_sums : (w : World) → Good c w → SumsHold c w
