@@ -1,0 +1,4 @@
+pub mod Places
+pub mod Phases
+pub mod Held
+pub mod Stepping
