@@ -2,3 +2,4 @@ pub mod Places
 pub mod Phases
 pub mod Held
 pub mod Stepping
+pub mod Beginning
