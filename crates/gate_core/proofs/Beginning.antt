@@ -1,7 +1,7 @@
 -- A beginning of the core shows what the entry makes of the world.
-use Rattle.std.proofs.Common.{◌≡◌, ℕ, ◌+◌, ◌<◌, ◌≤◌, Bool, true, false, List, [], ◌∷◌, ◌++◌, length, get_or, refl, sym, ap, ◌∙◌, subst, inl, inr, arith}
+use Rattle.std.proofs.Common.{◌≡◌, ℕ, ◌<◌, ◌≤◌, Bool, true, false, [], ◌∷◌, ◌++◌, length, get_or, refl, sym, ap, ◌∙◌, subst, inl, inr, arith}
 use Rattle.std.proofs.Math.ListN.{length-set}
-use Rattle.std.specs.Prelude.{◌&&◌, not, nat_lt, if◌then◌else◌, is_some, Option, Some, None, slice_index, slice_index_or, slice_set}
+use Rattle.std.specs.Prelude.{◌&&◌, nat_lt, if◌then◌else◌, is_some, Option, Some, None, slice_set}
 use Rattle.std.proofs.lemmas.Bool.{cases_Bool, lt-ltb, ltb-true}
 use Rattle.std.proofs.lemmas.List.{get_or_default}
 use Rattle.finite_sums.specs.Sums.{changed}
@@ -14,11 +14,10 @@ use Rattle.gate_world.specs.declared.operations.Op.TheVariants.{Want, DropMount,
 use Rattle.gate_world.specs.declared.work.Phase.{Phase}
 use Rattle.gate_world.specs.declared.views.View.{View}
 use Rattle.gate_world.specs.Views.{held_at, holds_level, begun_view}
-use Rattle.gate_world.specs.Worlds.{World, Entry, Begins, first_phase, holds_none, is_in_range, is_in_order, is_within_room, refusal, view_refusal, begin_refusal, begin_of, begun, happens, run, opening}
+use Rattle.gate_world.specs.Worlds.{World, Begins, first_phase, is_in_range, is_in_order, is_within_room, refusal, begin_refusal, happens, run, opening}
 use Rattle.gate_world.specs.Fits.{Fits}
 use Rattle.gate_core.specs.declared.seats.Seat.{Seat}
 use Rattle.gate_core.specs.Memory.{Memory, Shows, IsSound, no_seat, seat_of, mounts_in, levels_in}
-use Rattle.gate_core.specs.Seats.{mount_of}
 use Rattle.gate_core.proofs.Phases.{none_agree}
 use Rattle.gate_core.proofs.Held.{seat_cases}
 use Rattle.gate_core.proofs.Stepping.{run_more}
@@ -138,7 +137,9 @@ module _ (memory : Memory) (sound : IsSound memory) (t : ℕ) (lt : t < memory.c
           (λ l. ap (λ (s : Seat). length s.accesses.levels) (sym same_seat) ∙ sound.levels t lt) (λ ne l. sound.levels x l) lx;
       fits = λ x lx. seat_cases memory.seats t seat_after some_seat (λ y s. y < memory.config.tasks → Fits memory.config y (mounts_in s) (levels_in s) s.phase) x
           (λ l. seat_fits) (λ ne l. sound.fits x l) lx;
-      reached = (sound.reached.0 ++ Begins t op ∷ [],
-          subst (Shows memory_after) (sym (run_more memory.config opening sound.reached.0 (Begins t op)))
-          (begin_shows (run memory.config opening sound.reached.0) sound.reached.1));
+      reached = (
+        sound.reached.0 ++ Begins t op ∷ [],
+        subst (Shows memory_after) (sym (run_more memory.config opening sound.reached.0 (Begins t op)))
+            (begin_shows (run memory.config opening sound.reached.0) sound.reached.1),
+      );
     }

@@ -3,3 +3,4 @@ pub mod Phases
 pub mod Held
 pub mod Stepping
 pub mod Beginning
+pub mod Opening

@@ -1,5 +1,5 @@
 -- A phase that fits: the word of its next event is there, the action of the event can be done, and the phase that comes fits.
-use Rattle.std.proofs.Common.{◌≡◌, ℕ, ◌+◌, ◌<◌, ◌≤◌, Bool, true, false, ap, inl, inr, arith}
+use Rattle.std.proofs.Common.{◌≡◌, ℕ, ◌+◌, ◌<◌, ◌≤◌, Bool, true, false, inl, inr, arith}
 use Rattle.std.specs.Prelude.{◌==◌, not, nat_lt, if◌then◌else◌, Option, Some, None, Ok, Err}
 use Rattle.std.proofs.lemmas.Bool.{cases_Bool, ltb-true}
 use Rattle.access_model.specs.declared.actions.Action.{Action}
@@ -20,7 +20,7 @@ use Rattle.mount_counts.specs.declared.phases.WantStep.TheVariants.{CountsUp, Lo
 use Rattle.mount_counts.specs.declared.phases.Change.{Change}
 use Rattle.mount_counts.specs.declared.phases.ChangeStep.{ChangeStep}
 use Rattle.mount_counts.specs.declared.phases.ChangeStep.TheVariants.{Locks, LoadsFlags, LoadsSuperblock as LoadsSb, ClearsReadOnly, SetsHold, Sums, SetsReadOnly, ClearsHold, Releases}
-use Rattle.mount_counts.specs.Phases.{has_flag, at_want, hold_found, want_next, want_after, at_change, lock_failed, step_between, change_from, step_summed, change_summed, change_next, change_after}
+use Rattle.mount_counts.specs.Phases.{has_flag, at_want, hold_found, want_next, want_after, at_change, lock_failed, step_between, change_from, change_summed, change_next, change_after}
 use Rattle.gate_world.specs.declared.config.Config.{Config}
 use Rattle.gate_world.specs.declared.work.Phase.{Phase}
 use Rattle.gate_world.specs.declared.work.Phase.TheVariants.{Mounts}
@@ -104,7 +104,7 @@ module _ (c : Config) (within : IsWithin c) (t : ℕ) (held : ℕ → ℕ) (leve
   want_goes w LoadsReadOnly found f = by_bool (has_flag found 1) (λ b. Fits c t held levels (phase_after (of_mounts (if b then Go (at_want w (CountsDown ReadOnly)) else Go (at_want w LoadsSuperblock))))) f f
   want_goes w LoadsSuperblock found f =
       by_bool (found == 0) (λ b. Fits c t (mounts_by (if b then Some (Grant (Mount w.mount)) else None) held) (levels_by (if b then Some (Grant (Mount w.mount)) else None) levels)
-          (phase_after (of_mounts (if b then Done (Ok UnitReply) else Go (at_want w (CountsDown ReadOnly))))))
+      (phase_after (of_mounts (if b then Done (Ok UnitReply) else Go (at_want w (CountsDown ReadOnly))))))
       tt
       f
   want_goes w (CountsDown refusal) found f = tt

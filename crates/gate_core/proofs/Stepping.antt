@@ -1,7 +1,7 @@
 -- One step of the core shows what the entry makes of the world.
 use Rattle.std.proofs.Common.{◌≡◌, ℕ, ◌<◌, ◌≤◌, List, [], ◌∷◌, ◌++◌, length, get_or, refl, sym, ap, ◌∙◌, subst, arith}
 use Rattle.std.proofs.Math.ListN.{length-set}
-use Rattle.std.specs.Prelude.{Option, Some, slice_index, slice_index_or, slice_set}
+use Rattle.std.specs.Prelude.{Option, Some, slice_index, slice_set}
 use Rattle.std.proofs.lemmas.Bool.{lt-ltb}
 use Rattle.std.proofs.lemmas.List.{get_or_default}
 use Rattle.finite_sums.specs.Sums.{changed}
@@ -138,9 +138,11 @@ module _ (memory : Memory) (sound : IsSound memory) (t : ℕ) (lt : t < memory.c
         (λ l. wide_after held done.1 ∙ sound.levels t lt) (λ ne l. sound.levels x l) lx;
     fits = λ x lx. seat_cases memory.seats t seat_after some_seat (λ y s. y < memory.config.tasks → Fits memory.config y (mounts_in s) (levels_in s) s.phase) x
         (λ l. seat_fits) (λ ne l. sound.fits x l) lx;
-    reached = (sound.reached.0 ++ Steps t hook ∷ [],
-        subst (Shows memory_after) (sym (run_more memory.config opening sound.reached.0 (Steps t hook)))
-        (step_shows (run memory.config opening sound.reached.0) sound.reached.1));
+    reached = (
+      sound.reached.0 ++ Steps t hook ∷ [],
+      subst (Shows memory_after) (sym (run_more memory.config opening sound.reached.0 (Steps t hook)))
+          (step_shows (run memory.config opening sound.reached.0) sound.reached.1),
+    );
   }
 
 -- the same of the values that the code has
