@@ -4,3 +4,4 @@ pub mod Held
 pub mod Stepping
 pub mod Beginning
 pub mod Opening
+pub mod Rows
