@@ -1,14 +1,19 @@
 -- The headline: what holds of every schedule.
-use Rattle.std.specs.Prelude.{◌≡◌, ℕ, ◌%◌, ◌<◌, None, List, []}
+use Rattle.std.specs.Prelude.{◌≡◌, ℕ, ◌%◌, ◌<◌, Option, Some, None, Err, List, []}
 use Rattle.finite_sums.specs.Sums.{total}
 use Rattle.access_model.specs.Histories.{Done, end_of, IsLegal, IsMerge}
 use Rattle.access_model.specs.Laws.{NobodyHoldsClosed}
+use Rattle.access_model.specs.declared.errors.GateError.{GateError}
+use Rattle.access_model.specs.declared.replies.Next.TheVariants.{Done as Ended}
 use Rattle.mount_counts.specs.Roles.{counted}
 use Rattle.gate_world.specs.declared.config.Config.{Config}
+use Rattle.gate_world.specs.declared.operations.Op.{Op}
+use Rattle.gate_world.specs.declared.views.View.{View}
 use Rattle.gate_world.specs.Configs.{limits_of}
 use Rattle.gate_world.specs.Views.{held_at}
 use Rattle.gate_world.specs.Worlds.{World, Entry, happens, action_of, task_of, run, opening, history, shown}
 use Rattle.gate_world.specs.Rules.{at_mount, Moves}
+use Rattle.gate_world.specs.Traces.{course_of, Tells, IsShort, most_events, IsTraced}
 
 -- the world after a schedule, and the actions that its events added, the newest first
 abbrev pub world_after : Config → List Entry → World
@@ -41,3 +46,20 @@ IdleSumsHold c w =
 -- nobody holds an access at a read-only mount, or a level that a freeze has passed
 abbrev pub NobodyIsInside : Config → World → Type 0
 NobodyIsInside c w = NobodyHoldsClosed (limits_of c) (shown c w)
+
+-- What a task's last operation, or the one under way, has done, by its own trace alone: an operation that replied has added exactly
+-- its stated actions, a refusal has its cause in the trace, and waiting is reported only where it may be; a refused operation has
+-- added nothing, so its task holds what it held before; and where the operation waits for nobody, its events are few.
+pub record OperationTells (c : Config) (t : ℕ) (v : View) (op : Op) : Type 0 where
+  pub tells : Tells c op v.trace (course_of c t op v.trace).stands (course_of c t op v.trace).added
+  pub refused : (refusal : GateError) → (course_of c t op v.trace).stands ≡ Ended (Err refusal) → (course_of c t op v.trace).added ≡ []
+  pub short : IsShort (most_events c op) v.trace
+
+abbrev pub ViewTells : Config → ℕ → View → Option Op → Type 0
+ViewTells c t v None = Unit {0}
+ViewTells c t v (Some op) = OperationTells c t v op
+
+-- each task's trace follows the order of events of its operation, and tells the rest
+pub record OperationsAreKept (c : Config) (entries : List Entry) (t : ℕ) : Type 0 where
+  pub traced : IsTraced c t ((world_after c entries).views t) ((world_after c entries).views t).op
+  pub tells : ViewTells c t ((world_after c entries).views t) ((world_after c entries).views t).op
