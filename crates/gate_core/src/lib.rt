@@ -10,6 +10,7 @@ pub mod steps;
 pub use gate_world::{Config, Op};
 pub use machine::Core;
 pub use schedules::every_schedule;
+pub use seats::{Accesses, Seat, first_phase};
 pub use steps::{Progress, Step};
 
 #[cfg(test)]
