@@ -70,19 +70,22 @@ module _ (c : Config) (t : ℕ) (w next : World) (earlier : List World) (good : 
 
   sum_kept : (m : ℕ) (ro wait : Bool) (task processors : ℕ) (sum : Sum) → m < c.mounts → (next.views t).phase ≡ Some (Mounts (change m ro wait task processors (Sums sum))) → (w.views t).phase ≡ Some (Mounts (change m ro wait task processors (Sums sum))) →
       (all_counted c m w ≡ 0 → all_counted c m next ≡ 0 → next.words.count m ≡ w.words.count m) → ChangeCause c t w earlier m (Sums sum) → ChangeCause c t next (w ∷ earlier) m (Sums sum)
-  sum_kept m ro wait task processors sum lm e was quiet h = (h.0, λ none.
-      elim (eqb_tells sum.words 0) [
-        | inl z ↦
-            let one : moments_of_sum t (next ∷ (w ∷ earlier)) ≡ next ∷ [] = sum_begins t next (w ∷ earlier) (ap words_read e ∙ ap Some z.1) in
-            let n : all_counted c m next ≡ 0 = (none_counted c m next [] (sym (ap (was_counted c m) one) ∙ none)).0 in
-            (λ i. lead c.processors (next.words.count m) (z.1 i) (h.0 z.1 i)) ∙ fresh_lead c next good m lm n
-        | inr z ↦
-            let more : moments_of_sum t (next ∷ (w ∷ earlier)) ≡ next ∷ moments_of_sum t (w ∷ earlier) = sum_goes t next (w ∷ earlier) sum.words (ap words_read e) z.1 in
-            let n : (all_counted c m next ≡ 0) × (was_counted c m (moments_of_sum t (w ∷ earlier)) ≡ false) = none_counted c m next (moments_of_sum t (w ∷ earlier)) (sym (ap (was_counted c m) more) ∙ none) in
-            let before : moments_of_sum t (w ∷ earlier) ≡ w ∷ moments_of_sum t earlier = sum_goes t w earlier sum.words (ap words_read was) z.1 in
-            let n2 : all_counted c m w ≡ 0 = (none_counted c m w (moments_of_sum t earlier) (sym (ap (was_counted c m) before) ∙ n.1)).0 in
-            ap (λ f. lead c.processors f sum.words sum.total) (quiet n2 n.0) ∙ h.1 n.1
-      ])
+  sum_kept m ro wait task processors sum lm e was quiet h = (
+    h.0,
+    λ none.
+        elim (eqb_tells sum.words 0) [
+          | inl z ↦
+              let one : moments_of_sum t (next ∷ (w ∷ earlier)) ≡ next ∷ [] = sum_begins t next (w ∷ earlier) (ap words_read e ∙ ap Some z.1) in
+              let n : all_counted c m next ≡ 0 = (none_counted c m next [] (sym (ap (was_counted c m) one) ∙ none)).0 in
+              (λ i. lead c.processors (next.words.count m) (z.1 i) (h.0 z.1 i)) ∙ fresh_lead c next good m lm n
+          | inr z ↦
+              let more : moments_of_sum t (next ∷ (w ∷ earlier)) ≡ next ∷ moments_of_sum t (w ∷ earlier) = sum_goes t next (w ∷ earlier) sum.words (ap words_read e) z.1 in
+              let n : (all_counted c m next ≡ 0) × (was_counted c m (moments_of_sum t (w ∷ earlier)) ≡ false) = none_counted c m next (moments_of_sum t (w ∷ earlier)) (sym (ap (was_counted c m) more) ∙ none) in
+              let before : moments_of_sum t (w ∷ earlier) ≡ w ∷ moments_of_sum t earlier = sum_goes t w earlier sum.words (ap words_read was) z.1 in
+              let n2 : all_counted c m w ≡ 0 = (none_counted c m w (moments_of_sum t earlier) (sym (ap (was_counted c m) before) ∙ n.1)).0 in
+              ap (λ f. lead c.processors f sum.words sum.total) (quiet n2 n.0) ∙ h.1 n.1
+        ],
+  )
 
   pub change_kept : (m : ℕ) (ro wait : Bool) (task processors : ℕ) (s : ChangeStep) → m < c.mounts → (next.views t).phase ≡ Some (Mounts (change m ro wait task processors s)) → (w.views t).phase ≡ Some (Mounts (change m ro wait task processors s)) →
       (all_counted c m w ≡ 0 → all_counted c m next ≡ 0 → next.words.count m ≡ w.words.count m) → ChangeCause c t w earlier m s → ChangeCause c t next (w ∷ earlier) m s
@@ -153,12 +156,15 @@ module _ (c : Config) (t : ℕ) (lt : t < c.tasks) (w next : World) (earlier : L
       elim (cases_Bool (nat_lt (k + 1) processors)) [
         | inl more ↦
             let e2 : (next.views t).phase ≡ Some (Mounts (change m ro wait task processors (Sums record { words = k + 1; total = wrap_add sum.total found }))) = rw more at e' in
-            rw more (λ z. absurd (omega (arith, z)), λ none.
-            let goes : moments_of_sum t (next ∷ (w ∷ earlier)) ≡ next ∷ moments_of_sum t (w ∷ earlier) = sum_goes t next (w ∷ earlier) (k + 1) (ap words_read e2) (λ z. omega (arith, z)) in
-            let n : (all_counted c m next ≡ 0) × (was_counted c m (moments_of_sum t (w ∷ earlier)) ≡ false) = none_counted c m next (moments_of_sum t (w ∷ earlier)) (sym (ap (was_counted c m) goes) ∙ none) in
-            let zero_lead : lead c.processors (w.words.count m) k sum.total ≡ 0 = h.1 n.1 in
-            let on : lead c.processors (w.words.count m) (suc k) (wrap_add sum.total found) ≡ 0 = omega (arith, zero_lead, step) in
-            (λ i. lead c.processors (same i) (add-one k i) (wrap_add sum.total found)) ∙ on)
+            rw more (
+              λ z. absurd (omega (arith, z)),
+              λ none.
+                  let goes : moments_of_sum t (next ∷ (w ∷ earlier)) ≡ next ∷ moments_of_sum t (w ∷ earlier) = sum_goes t next (w ∷ earlier) (k + 1) (ap words_read e2) (λ z. omega (arith, z)) in
+                  let n : (all_counted c m next ≡ 0) × (was_counted c m (moments_of_sum t (w ∷ earlier)) ≡ false) = none_counted c m next (moments_of_sum t (w ∷ earlier)) (sym (ap (was_counted c m) goes) ∙ none) in
+                  let zero_lead : lead c.processors (w.words.count m) k sum.total ≡ 0 = h.1 n.1 in
+                  let on : lead c.processors (w.words.count m) (suc k) (wrap_add sum.total found) ≡ 0 = omega (arith, zero_lead, step) in
+                  (λ i. lead c.processors (same i) (add-one k i) (wrap_add sum.total found)) ∙ on,
+            )
         | inr less ↦
             let last : suc k ≡ c.processors = omega (arith, f.4, ltb-false (k + 1) processors less, f.2) in
             let past : ahead c.processors (w.words.count m) (suc k) ≡ 0 = ahead_past c.processors (suc k) (w.words.count m) (omega (arith, last)) in
@@ -185,9 +191,12 @@ module _ (c : Config) (t : ℕ) (lt : t < c.tasks) (w next : World) (earlier : L
       elim (cases_Bool (has_flag (w.words.flags m) 1)) [ inl z ↦ rw z (between_own m ro true) | inr z ↦ rw z tt ]
   change_own m ro wait task processors LoadsSb lm e same h e' = between_own m ro (not (w.words.sb == 0))
   change_own m ro wait task processors ClearsReadOnly lm e same h e' = λ r. not_busy r
-  change_own m ro wait task processors SetsHold lm e same h e' = (λ z. refl, λ none.
-      let one : moments_of_sum t (next ∷ (w ∷ earlier)) ≡ next ∷ [] = sum_begins t next (w ∷ earlier) (ap words_read e') in
-      fresh_lead c next after m lm (none_counted c m next [] (sym (ap (was_counted c m) one) ∙ none)).0)
+  change_own m ro wait task processors SetsHold lm e same h e' = (
+    λ z. refl,
+    λ none.
+        let one : moments_of_sum t (next ∷ (w ∷ earlier)) ≡ next ∷ [] = sum_begins t next (w ∷ earlier) (ap words_read e') in
+        fresh_lead c next after m lm (none_counted c m next [] (sym (ap (was_counted c m) one) ∙ none)).0,
+  )
   change_own m ro wait task processors (Sums sum) lm e same h e' = sum_own m ro wait task processors sum lm e same h e'
   change_own m ro wait task processors SetsReadOnly lm e same h e' = λ r. not_busy r
   change_own m ro wait task processors (ClearsHold answer) lm e same h e' = λ r. ap (was_counted c m) (sum_skips t next (w ∷ earlier) (ap words_read e')) ∙ h r

@@ -11,8 +11,6 @@ ghost use Rattle.cause_laws.specs.Rules.{Causes};
 /// Each entry of a schedule that keeps the rule keeps what is known of the causes of refusals. Does nothing: its contract is the
 /// law.
 pub fn each_entry_keeps_causes()
-    ensures {
-        (c : Config) (w : World) (earlier : List World) → Good c w → Causes c w earlier → (e : Entry) → Good c (happens c w e) →
-        Causes c (happens c w e) (w ∷ earlier)
-    }
+    ensures { (c : Config) (w : World) (earlier : List World) → Good c w → Causes c w earlier → (e : Entry) → Good c (happens c w e) →
+        Causes c (happens c w e) (w ∷ earlier) }
 {}

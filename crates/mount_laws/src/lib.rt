@@ -9,8 +9,6 @@ ghost use Rattle.mount_counts.specs.Roles.{MountView, CountsHold, counted};
 /// Where each count word of a mount is the wrapping sum of the net additions to it, the words of all processors sum to what is
 /// held and sought there. Does nothing: its contract is the law.
 pub fn words_sum_to_what_is_counted()
-    ensures {
-        (tasks processors : ℕ) (count : ℕ → ℕ) (at : ℕ → MountView) → CountsHold tasks processors count at →
-        total processors count % 18446744073709551616 ≡ total tasks (λ t. counted (at t)) % 18446744073709551616
-    }
+    ensures { (tasks processors : ℕ) (count : ℕ → ℕ) (at : ℕ → MountView) → CountsHold tasks processors count at →
+        total processors count % 18446744073709551616 ≡ total tasks (λ t. counted (at t)) % 18446744073709551616 }
 {}
