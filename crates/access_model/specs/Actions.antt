@@ -4,7 +4,6 @@ use Rattle.finite_sums.specs.Sums.{changed}
 use Rattle.access_model.specs.declared.actions.Action.{Action}
 use Rattle.access_model.specs.declared.actions.Action.TheVariants.{Grant, Return, MountRo, MountRw, SbRo, SbRw, Stage, Pass, Reopen, Create, Remove, Grow, MoveTo, Dirty, Clean}
 use Rattle.access_model.specs.declared.actions.Gate.TheVariants.{Mount, Level}
-use Rattle.access_model.specs.declared.actions.Kind.TheVariants.{File, Dir}
 use Rattle.access_model.specs.declared.actions.NodeInfo.{NodeInfo}
 use Rattle.access_model.specs.States.{Limits, State, IsLevel, NobodyHolds, IsFile, IsDirectory, used_blocks, IsClean}
 

@@ -2,3 +2,6 @@ pub mod Errors
 pub mod States
 pub mod Actions
 pub mod Histories
+pub mod Shown
+pub mod Limits
+pub mod Laws

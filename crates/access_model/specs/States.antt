@@ -1,9 +1,8 @@
 -- The state of the access model.
-use Rattle.std.specs.Prelude.{◌≡◌, ℕ, ◌<◌, ◌≤◌, Bool, true, false, Option, Some, None}
+use Rattle.std.specs.Prelude.{◌≡◌, ℕ, ◌<◌, ◌≤◌, Bool, false, Option, Some, None}
 use Rattle.finite_sums.specs.Sums.{changed, total}
 use Rattle.access_model.specs.declared.actions.Gate.{Gate}
 use Rattle.access_model.specs.declared.actions.Gate.TheVariants.{Mount, Level}
-use Rattle.access_model.specs.declared.actions.Kind.{Kind}
 use Rattle.access_model.specs.declared.actions.Kind.TheVariants.{File, Dir}
 use Rattle.access_model.specs.declared.actions.NodeInfo.{NodeInfo}
 

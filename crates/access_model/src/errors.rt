@@ -1,7 +1,10 @@
 //! Why a call was refused.
 
 ghost use Rattle.std.specs.Prelude.{◌≡◌};
+ghost use Rattle.access_model.specs.declared.errors.GateError.TheVariants.{NoMemory};
 ghost use Rattle.access_model.specs.Errors.{number_of, name_of};
+
+use std::alloc::AllocError;
 
 use thiserror::Error;
 
@@ -44,6 +47,14 @@ pub enum GateError {
     /// A hook of the file system failed with this code, which is never taken for one of the numbers above.
     #[error("hook failed with {0}")]
     Hook(u16),
+}
+
+impl From<AllocError> for GateError {
+    ghost from_gives = { λ _ e. e ≡ NoMemory };
+
+    fn from(_error: AllocError) -> GateError {
+        GateError::NoMemory
+    }
 }
 
 impl GateError {

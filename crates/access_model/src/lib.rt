@@ -5,6 +5,7 @@
 
 pub mod actions;
 pub mod errors;
+pub mod laws;
 pub mod model;
 pub mod replies;
 

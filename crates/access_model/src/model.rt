@@ -1,7 +1,516 @@
 //! The model itself.
+#![tactic(auto, unfolding(crate::specs::Shown::standing_of))]
 
-/// The model.
+ghost use Rattle.std.specs.Prelude.{◌≡◌, ℕ, ◌≤◌, ◌<◌, ◌+◌, ◌^◌, ◌↔◌, IsTrue, option_map, vec_len};
+ghost use Rattle.access_model.specs.States.{IsLevel, size_of};
+ghost use Rattle.access_model.specs.Actions.{grown, moved, marked};
+
+ghost use Rattle.access_model.specs.Limits.{AreLimits};
+
+use std::alloc::{AllocError, Global};
+
+use crate::actions::{Action, Gate, Kind, NodeInfo};
+use crate::errors::GateError;
+
+/// What one task holds: its accesses at each mount, and whether it is inside each freeze level. Levels count from 1, so
+/// entry 0 stays false.
+#[derive(Clone, Copy)]
+struct Accesses {
+    mounts: [u16; 8],
+    levels: [bool; 4],
+}
+
+impl Accesses {
+    ghost use Rattle.std.specs.Prelude.{false, slice_index, slice_index_or};
+    ghost use Rattle.access_model.specs.declared.actions.Action.TheVariants.{Grant, Return};
+    ghost use Rattle.access_model.specs.Actions.{mounts_after, levels_after};
+    ghost use Rattle.access_model.specs.Shown.{HasRoom, HasAccess};
+
+    /// Counts one access more.
+    fn grant(&mut self, gate: Gate)
+        requires { HasRoom self.old gate }
+        ensures mounts { slice_index self.new.mounts ≡ mounts_after (Grant gate) (slice_index self.old.mounts) }
+        ensures levels { (λ i. slice_index_or self.new.levels i false) ≡ levels_after (Grant gate) (λ i. slice_index_or self.old.levels i false) }
+    {
+        match gate {
+            Gate::Mount(mount) => self.mounts[mount as usize] += 1,
+            Gate::Level(level) => self.levels[level as usize] = true,
+        }
+    }
+
+    /// Counts one access less.
+    fn give_back(&mut self, gate: Gate)
+        requires { HasAccess self.old gate }
+        ensures mounts { slice_index self.new.mounts ≡ mounts_after (Return gate) (slice_index self.old.mounts) }
+        ensures levels { (λ i. slice_index_or self.new.levels i false) ≡ levels_after (Return gate) (λ i. slice_index_or self.old.levels i false) }
+    {
+        match gate {
+            Gate::Mount(mount) => self.mounts[mount as usize] -= 1,
+            Gate::Level(level) => self.levels[level as usize] = false,
+        }
+    }
+}
+
+/// A file gets larger, and dirty.
+fn grow(node: &mut Option<NodeInfo>, blocks: u32)
+    requires { size_of node.old + blocks < 2 ^ 32 }
+    ensures { node.new ≡ option_map (grown blocks) node.old }
+{
+    if let Some(info) = node {
+        info.size += blocks;
+        info.dirty = true;
+    }
+}
+
+/// A file gets another parent.
+fn move_to(node: &mut Option<NodeInfo>, dir: u8)
+    ensures { node.new ≡ option_map (moved dir) node.old }
+{
+    if let Some(info) = node {
+        info.parent = dir;
+    }
+}
+
+/// A file becomes dirty or clean.
+fn mark(node: &mut Option<NodeInfo>, dirty: bool)
+    ensures { node.new ≡ option_map (marked dirty) node.old }
+{
+    if let Some(info) = node {
+        info.dirty = dirty;
+    }
+}
+
+/// Who holds which access, which read-only flags stand, how far a freeze has come, and the tree.
 #[derive(Drop)]
 pub struct Model {
+    tasks: u8,
+    mounts: u8,
+    capacity: u32,
+    accesses: Vec<Accesses>,
+    mount_ro: [bool; 8],
+    sb_ro: bool,
     stage: u8,
+    passed: u8,
+    nodes: Vec<Option<NodeInfo>>,
+    ghost some_tasks: { 1 ≤ tasks },
+    ghost few_tasks: { tasks ≤ 64 },
+    ghost few_mounts: { mounts ≤ 8 },
+    ghost each_task: { vec_len accesses ≡ tasks },
+    ghost few_nodes: { vec_len nodes ≤ 64 },
+    ghost small_capacity: { capacity < 2 ^ 32 },
+}
+
+impl Model {
+    ghost use Rattle.std.specs.Prelude.{◌⊎◌, true, false, IsOk, IfOk, IfErr, OnOk, OnErr};
+    ghost use Rattle.access_model.specs.declared.actions.Gate.TheVariants.{Mount, Level};
+    ghost use Rattle.access_model.specs.States.{NobodyHolds, IsClean, IsFile, IsDirectory, used_blocks};
+    ghost use Rattle.access_model.specs.declared.errors.GateError.TheVariants.{Invalid, NoMemory};
+    ghost use Rattle.access_model.specs.declared.actions.Action.TheVariants.{Grant, Return};
+    ghost use Rattle.access_model.specs.Actions.{IsWriter, HoldsSomeMount, MayStage, MayDo, IsAllowed};
+    ghost use Rattle.access_model.specs.Shown.{limits_of, state_of, standing_of, opened, done};
+
+    /// A model with nothing held, no flag set, nothing frozen, and the root directory alone. There are `tasks` tasks, 1 to 64,
+    /// `mounts` mounts, 1 to 8, and `nodes` nodes, 2 to 64, numbered from 0, and all files together may have `capacity`
+    /// blocks. Any other number of tasks, mounts or nodes is Invalid, and a growth of memory that was refused is NoMemory.
+    pub fn new(alloc: Global, tasks: u8, mounts: u8, nodes: u8, capacity: u32) -> Result<Model, GateError>
+        ensures opens { IfOk result (λ model. standing_of model ≡ opened tasks mounts nodes capacity) }
+        ensures within { OnOk result (AreLimits tasks mounts nodes) }
+        ensures invalid { ¬ AreLimits tasks mounts nodes → result ≡ Err Invalid }
+        ensures memory { AreLimits tasks mounts nodes → IfErr result (λ e. e ≡ NoMemory) }
+    {
+        if !are_limits(tasks, mounts, nodes) {
+            return Err(GateError::Invalid);
+        }
+        let nothing = Accesses {
+            mounts: [0; 8],
+            levels: [false; 4],
+        };
+        let mut tree = vec![in alloc; None; nodes as usize]?;
+        tree[0] = Some(NodeInfo {
+            kind: Kind::Dir,
+            parent: 0,
+            size: 0,
+            dirty: false,
+        });
+        Ok(Model {
+            tasks,
+            mounts,
+            capacity,
+            accesses: vec![in alloc; nothing; tasks as usize]?,
+            mount_ro: [false; 8],
+            sb_ro: false,
+            stage: 0,
+            passed: 0,
+            nodes: tree,
+        })
+    }
+
+    /// Whether the task may do the action now. A task that there is not may do none.
+    pub fn allows(&self, task: u8, action: &Action) -> bool
+        ensures { IsTrue result ↔ IsAllowed (limits_of self.now) (state_of self.now) task action.now }
+    {
+        if task >= self.tasks {
+            return false;
+        }
+        match *action {
+            Action::Grant(gate) => self.may_grant(task, gate),
+            Action::Return(gate) => self.holds(task, gate),
+            Action::MountRo(mount) => mount < self.mounts && self.is_mount_free(mount),
+            Action::MountRw(mount) => mount < self.mounts,
+            Action::SbRo => self.stage == 0 && self.is_every_mount_free(),
+            Action::SbRw => self.stage == 0,
+            Action::Stage(stage) => self.may_stage(stage),
+            Action::Pass(level) => self.may_pass(level),
+            Action::Reopen(level) => {
+                is_level(level) && self.stage == 0 && self.passed == level
+            }
+            Action::Create { node, dir, .. } => {
+                self.is_writer(task) && self.is_free(node) && self.is_directory(dir)
+            }
+            Action::Remove(node) => self.is_writer(task) && self.is_file(node),
+            Action::Grow { node, blocks } => {
+                self.is_writer(task) && self.is_file(node) && self.has_room(blocks)
+            }
+            Action::MoveTo { node, dir } => {
+                self.is_writer(task) && self.is_file(node) && self.is_directory(dir)
+            }
+            Action::Dirty(node) => self.may_dirty(task) && self.is_file(node),
+            Action::Clean(node) => self.may_clean(task) && self.is_file(node),
+        }
+    }
+
+    /// Does the action, where the task may do it now. Any other action, also one of a task that there is not, is Invalid and
+    /// changes nothing. Takes no memory.
+    pub fn apply(&mut self, task: u8, action: &Action) -> Result<(), GateError>
+        ensures answer { IsOk result ↔ IsAllowed (limits_of self.old) (state_of self.old) task action.now }
+        ensures done { OnOk result (standing_of self.new ≡ done (standing_of self.old) task action.now) }
+        ensures invalid { IfErr result (λ e. e ≡ Invalid) }
+        ensures unchanged { OnErr result (self.new ≡ self.old) }
+    {
+        if !self.allows(task, action) {
+            return Err(GateError::Invalid);
+        }
+        self.carry_out(task, action);
+        Ok(())
+    }
+
+    /// The accesses that a task holds at a mount, at most 1,024; 0 where there is no such task or mount.
+    pub fn held_mount(&self, task: u8, mount: u8) -> u16
+        ensures held { task < (limits_of self.now).tasks → mount < (limits_of self.now).mounts → result ≡ (state_of self.now).mounts task mount }
+        ensures out_of_range { ((limits_of self.now).tasks ≤ task) ⊎ ((limits_of self.now).mounts ≤ mount) → result ≡ 0 }
+    {
+        if task < self.tasks && mount < self.mounts {
+            self.accesses[task as usize].mounts[mount as usize]
+        } else {
+            0
+        }
+    }
+
+    /// Whether a task is inside a freeze level, 1 to 3; false where there is no such task or level.
+    pub fn held_level(&self, task: u8, level: u8) -> bool
+        ensures held { task < (limits_of self.now).tasks → IsLevel level → result ≡ (state_of self.now).levels task level }
+        ensures out_of_range { ((limits_of self.now).tasks ≤ task) ⊎ ((level ≡ 0) ⊎ (3 < level)) → result ≡ false }
+    {
+        task < self.tasks && is_level(level) && self.accesses[task as usize].levels[level as usize]
+    }
+
+    /// A mount's own read-only flag; false where there is no such mount.
+    pub fn mount_ro(&self, mount: u8) -> bool
+        ensures flag { mount < (limits_of self.now).mounts → result ≡ (state_of self.now).mount_ro mount }
+        ensures out_of_range { (limits_of self.now).mounts ≤ mount → result ≡ false }
+    {
+        mount < self.mounts && self.mount_ro[mount as usize]
+    }
+
+    /// Whether the superblock is read-only.
+    pub fn sb_ro(&self) -> bool
+        ensures { result ≡ (state_of self.now).sb_ro }
+    {
+        self.sb_ro
+    }
+
+    /// The stage of the freeze, 0 to 4 (`s_writers.frozen`).
+    pub fn stage(&self) -> u8
+        ensures { result ≡ (state_of self.now).stage }
+    {
+        self.stage
+    }
+
+    /// How many levels a freeze has closed and nobody has opened again, 0 to 3.
+    pub fn passed(&self) -> u8
+        ensures { result ≡ (state_of self.now).passed }
+    {
+        self.passed
+    }
+
+    /// A node of the tree; None where it is free or there is none of that number.
+    pub fn tree(&self, node: u8) -> Option<NodeInfo>
+        ensures node { node < (limits_of self.now).nodes → result ≡ (state_of self.now).tree node }
+        ensures out_of_range { (limits_of self.now).nodes ≤ node → result ≡ None }
+    {
+        if (node as usize) < self.nodes.len() { self.nodes[node as usize] } else { None }
+    }
+
+    /// Does an action that the task may do.
+    fn carry_out(&mut self, task: u8, action: &Action)
+        requires { IsAllowed (limits_of self.old) (state_of self.old) task action.now }
+        ensures { standing_of self.new ≡ done (standing_of self.old) task action.now }
+    {
+        match *action {
+            Action::Grant(gate) => self.accesses[task as usize].grant(gate),
+            Action::Return(gate) => self.accesses[task as usize].give_back(gate),
+            Action::MountRo(mount) => self.mount_ro[mount as usize] = true,
+            Action::MountRw(mount) => self.mount_ro[mount as usize] = false,
+            Action::SbRo => self.sb_ro = true,
+            Action::SbRw => self.sb_ro = false,
+            Action::Stage(stage) => self.stage = stage,
+            Action::Pass(level) => self.passed = level,
+            Action::Reopen(level) => self.passed = level - 1,
+            Action::Create { node, dir, kind } => {
+                self.nodes[node as usize] = Some(NodeInfo {
+                    kind,
+                    parent: dir,
+                    size: 0,
+                    dirty: false,
+                });
+            }
+            Action::Remove(node) => self.nodes[node as usize] = None,
+            Action::Grow { node, blocks } => grow(&mut self.nodes[node as usize], blocks),
+            Action::MoveTo { node, dir } => move_to(&mut self.nodes[node as usize], dir),
+            Action::Dirty(node) => mark(&mut self.nodes[node as usize], true),
+            Action::Clean(node) => mark(&mut self.nodes[node as usize], false),
+        }
+    }
+
+    /// Whether a task is inside some mount.
+    fn holds_some_mount(&self, task: u8) -> bool
+        requires { task < (limits_of self.now).tasks }
+        ensures { IsTrue result ↔ HoldsSomeMount (limits_of self.now) (state_of self.now) task }
+    {
+        let held = self.accesses[task as usize].mounts;
+        for mount in 0..self.mounts {
+            if held[mount as usize] > 0 {
+                return true;
+            }
+        }
+        false
+    }
+
+    /// Whether nobody holds an access at a mount.
+    fn is_mount_free(&self, mount: u8) -> bool
+        requires { mount < (limits_of self.now).mounts }
+        ensures { IsTrue result ↔ NobodyHolds (limits_of self.now) (state_of self.now) (Mount mount) }
+    {
+        for task in 0..self.tasks {
+            if self.accesses[task as usize].mounts[mount as usize] > 0 {
+                return false;
+            }
+        }
+        true
+    }
+
+    /// Whether nobody is inside a level.
+    fn is_level_free(&self, level: u8) -> bool
+        requires { IsLevel level }
+        ensures { IsTrue result ↔ NobodyHolds (limits_of self.now) (state_of self.now) (Level level) }
+    {
+        for task in 0..self.tasks {
+            if self.accesses[task as usize].levels[level as usize] {
+                return false;
+            }
+        }
+        true
+    }
+
+    /// Whether nobody holds an access at any mount.
+    fn is_every_mount_free(&self) -> bool
+        ensures { IsTrue result ↔ ((m : ℕ) → m < (limits_of self.now).mounts → NobodyHolds (limits_of self.now) (state_of self.now) (Mount m)) }
+    {
+        for mount in 0..self.mounts {
+            if !self.is_mount_free(mount) {
+                return false;
+            }
+        }
+        true
+    }
+
+    /// Whether no node is dirty.
+    fn is_clean(&self) -> bool
+        ensures { IsTrue result ↔ IsClean (limits_of self.now) (state_of self.now) }
+    {
+        for node in &self.nodes {
+            if let Some(info) = node && info.dirty {
+                return false;
+            }
+        }
+        true
+    }
+
+    /// The blocks of all files.
+    fn used_blocks(&self) -> u64
+        ensures sum { result ≡ used_blocks (limits_of self.now) (state_of self.now) }
+        ensures small { result < 2 ^ 40 }
+    {
+        let mut used: u64 = 0;
+        for node in &self.nodes {
+            used += match node {
+                Some(info) => u64::from(info.size),
+                None => 0,
+            };
+        }
+        used
+    }
+
+    /// Whether a task is in no level from this one on.
+    fn is_below(&self, task: u8, level: u8) -> bool
+        requires task { task < (limits_of self.now).tasks }
+        requires level { IsLevel level }
+        ensures { IsTrue result ↔ ((j : ℕ) → level ≤ j → j ≤ 3 → (state_of self.now).levels task j ≡ false) }
+    {
+        let inside = self.accesses[task as usize].levels;
+        for later in level..4 {
+            if inside[later as usize] {
+                return false;
+            }
+        }
+        true
+    }
+
+    /// Whether a task may get an access at a gate now.
+    fn may_grant(&self, task: u8, gate: Gate) -> bool
+        requires { task < (limits_of self.now).tasks }
+        ensures { IsTrue result ↔ MayDo (limits_of self.now) (state_of self.now) task (Grant gate) }
+    {
+        match gate {
+            Gate::Mount(mount) => {
+                mount < self.mounts
+                    && !self.mount_ro[mount as usize]
+                    && !self.sb_ro
+                    && self.accesses[task as usize].mounts[mount as usize] < 1024
+            }
+            // Levels are taken in rising order, so the task may be in none from this one on.
+            Gate::Level(level) => {
+                is_level(level) && self.passed < level && self.is_below(task, level)
+            }
+        }
+    }
+
+    /// Whether a task holds an access at a gate.
+    fn holds(&self, task: u8, gate: Gate) -> bool
+        requires { task < (limits_of self.now).tasks }
+        ensures { IsTrue result ↔ MayDo (limits_of self.now) (state_of self.now) task (Return gate) }
+    {
+        match gate {
+            Gate::Mount(mount) => {
+                mount < self.mounts && self.accesses[task as usize].mounts[mount as usize] > 0
+            }
+            Gate::Level(level) => {
+                is_level(level) && self.accesses[task as usize].levels[level as usize]
+            }
+        }
+    }
+
+    /// Whether the freeze may go to a stage.
+    fn may_stage(&self, stage: u8) -> bool
+        ensures { IsTrue result ↔ MayStage (limits_of self.now) (state_of self.now) stage }
+    {
+        match stage {
+            0 => self.is_at(2) || self.is_at(3) || self.stage == 4,
+            1 => self.is_at(0) && !self.sb_ro,
+            2 => self.is_at(1),
+            3 => self.is_at(2) && self.is_clean(),
+            // A read-only superblock is frozen at once.
+            4 => self.is_clean() && (self.is_at(3) || (self.is_at(0) && self.sb_ro)),
+            _ => false,
+        }
+    }
+
+    /// Whether the freeze is at a stage whose level it has closed.
+    fn is_at(&self, stage: u8) -> bool
+        ensures { IsTrue result ↔ (((state_of self.now).stage ≡ stage) × ((state_of self.now).passed ≡ stage)) }
+    {
+        self.stage == stage && self.passed == stage
+    }
+
+    /// Whether a freeze may have closed a level now.
+    fn may_pass(&self, level: u8) -> bool
+        ensures { IsTrue result ↔ (IsLevel level × ((state_of self.now).stage ≡ level) × ((state_of self.now).passed + 1 ≡ level) × NobodyHolds (limits_of self.now) (state_of self.now) (Level level)) }
+    {
+        is_level(level)
+            && self.stage == level
+            && self.passed == level - 1
+            && self.is_level_free(level)
+    }
+
+    /// Whether a task may change the tree.
+    fn is_writer(&self, task: u8) -> bool
+        requires { task < (limits_of self.now).tasks }
+        ensures { IsTrue result ↔ IsWriter (limits_of self.now) (state_of self.now) task }
+    {
+        self.accesses[task as usize].levels[1] && self.holds_some_mount(task)
+    }
+
+    /// Whether a task may make a file dirty by a page fault.
+    fn may_dirty(&self, task: u8) -> bool
+        requires { task < (limits_of self.now).tasks }
+        ensures { IsTrue result ↔ (((state_of self.now).levels task 2 ≡ true) × HoldsSomeMount (limits_of self.now) (state_of self.now) task) }
+    {
+        self.accesses[task as usize].levels[2] && self.holds_some_mount(task)
+    }
+
+    /// Whether a task may write a file back: inside level 3, or where nobody else can make it dirty.
+    fn may_clean(&self, task: u8) -> bool
+        requires { task < (limits_of self.now).tasks }
+        ensures { IsTrue result ↔ (((state_of self.now).levels task 3 ≡ true) ⊎ (((state_of self.now).passed ≡ 2) ⊎ ((state_of self.now).sb_ro ≡ true))) }
+    {
+        self.accesses[task as usize].levels[3] || self.passed == 2 || self.sb_ro
+    }
+
+    /// Whether there is a node of this number, and it is free.
+    fn is_free(&self, node: u8) -> bool
+        ensures { IsTrue result ↔ ((node < (limits_of self.now).nodes) × ((state_of self.now).tree node ≡ None)) }
+    {
+        (node as usize) < self.nodes.len() && self.nodes[node as usize].is_none()
+    }
+
+    /// Whether a node is a file.
+    fn is_file(&self, node: u8) -> bool
+        ensures { IsTrue result ↔ ((node < (limits_of self.now).nodes) × IsFile ((state_of self.now).tree node)) }
+    {
+        match self.tree(node) {
+            Some(info) => info.kind == Kind::File,
+            None => false,
+        }
+    }
+
+    /// Whether a node is a directory.
+    fn is_directory(&self, node: u8) -> bool
+        ensures { IsTrue result ↔ ((node < (limits_of self.now).nodes) × IsDirectory ((state_of self.now).tree node)) }
+    {
+        match self.tree(node) {
+            Some(info) => info.kind == Kind::Dir,
+            None => false,
+        }
+    }
+
+    /// Whether a file may grow by this many blocks.
+    fn has_room(&self, blocks: u32) -> bool
+        ensures { IsTrue result ↔ ((0 < blocks) × (used_blocks (limits_of self.now) (state_of self.now) + blocks ≤ (limits_of self.now).capacity)) }
+    {
+        0 < blocks && self.used_blocks() + u64::from(blocks) <= u64::from(self.capacity)
+    }
+}
+
+/// Whether a model may have these numbers of tasks, mounts and nodes.
+fn are_limits(tasks: u8, mounts: u8, nodes: u8) -> bool
+    ensures { IsTrue result ↔ AreLimits tasks mounts nodes }
+{
+    1 <= tasks && tasks <= 64 && 1 <= mounts && mounts <= 8 && 2 <= nodes && nodes <= 64
+}
+
+/// Whether a freeze level has this number.
+fn is_level(level: u8) -> bool
+    ensures { IsTrue result ↔ IsLevel level }
+{
+    1 <= level && level <= 3
 }

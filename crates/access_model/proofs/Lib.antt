@@ -1,0 +1,4 @@
+pub mod Opening
+pub mod Changes
+pub mod Closed
+pub mod Lists

@@ -1,0 +1,21 @@
+-- Laws of whole histories.
+use Rattle.std.specs.Prelude.{◌≡◌, ℕ, ◌<◌, ◌≤◌, ◌⊎◌, true, false, List}
+use Rattle.access_model.specs.States.{Limits, State}
+use Rattle.access_model.specs.Histories.{Done, end_of, own_part, mounts_of, levels_of}
+
+-- writes through the mount are refused, by its own flag or the superblock's
+abbrev pub IsReadOnly : State → ℕ → Type 0
+IsReadOnly s m = (s.mount_ro m ≡ true) ⊎ (s.sb_ro ≡ true)
+
+-- nobody holds an access at a mount that is read-only or a level that a freeze has passed; and the numbers keep their ranges
+pub record NobodyHoldsClosed (l : Limits) (s : State) : Type 0 where
+  pub mounts : (t m : ℕ) → t < l.tasks → m < l.mounts → IsReadOnly s m → s.mounts t m ≡ 0
+  pub levels : (t i : ℕ) → t < l.tasks → 1 ≤ i → i ≤ s.passed → s.levels t i ≡ false
+  pub counts : (t m : ℕ) → s.mounts t m ≤ 1024
+  pub passed : s.passed ≤ 3
+  pub stage : s.stage ≤ 4
+
+-- what a task holds at the end is what its own list leaves
+pub record FollowsOwnList (history : List Done) (t : ℕ) : Type 0 where
+  pub mounts : (m : ℕ) → (end_of history).mounts t m ≡ mounts_of (own_part t history) m
+  pub levels : (i : ℕ) → (end_of history).levels t i ≡ levels_of (own_part t history) i
