@@ -9,3 +9,6 @@ pub mod steps;
 pub use gate_world::{Config, Op};
 pub use machine::Core;
 pub use steps::{Progress, Step};
+
+#[cfg(test)]
+mod tests;

@@ -1,5 +1,8 @@
 //! What the core keeps of one task.
 
+ghost use Rattle.std.specs.Prelude.{◌≡◌, ◌<◌, ◌≤◌, is_some, slice_index, slice_index_or, false};
+ghost use Rattle.gate_world.specs.Worlds.{first_phase as the_first_phase, holds_none, is_in_range as in_range, is_in_order as in_order, is_within_room as within_room, refusal as the_refusal};
+
 use access_model::{Action, Gate, GateError};
 use gate_world::{Config, Op, Phase};
 use mount_counts::{Change, ChangeStep, MountPhase, Want, WantStep};
@@ -13,8 +16,13 @@ pub(crate) struct Accesses {
 }
 
 impl Accesses {
+    ghost use Rattle.gate_core.specs.Seats.{accesses_after, ActionFits, mount_of};
+
     /// What the task holds after an action of its own.
-    pub(crate) fn after(self, action: Option<Action>) -> Accesses {
+    pub(crate) fn after(self, action: Option<Action>) -> Accesses
+        requires { ActionFits (slice_index self.mounts) action }
+        ensures { result ≡ accesses_after self action }
+    {
         let mut after = self;
         match action {
             Some(Action::Grant(Gate::Mount(mount))) => after.mounts[mount as usize] += 1,
@@ -26,8 +34,33 @@ impl Accesses {
         after
     }
 
-    fn is_in_no_level(self) -> bool {
+    fn is_in_no_level(self) -> bool
+        ensures { result ≡ holds_none (λ i. slice_index_or self.levels i false) }
+    {
         !self.levels[1] && !self.levels[2] && !self.levels[3]
+    }
+
+    /// Whether a task that holds these may begin the operation.
+    fn is_in_order(self, op: Op) -> bool
+        requires { mount_of op < 8 }
+        ensures { result ≡ in_order (slice_index self.mounts) (λ i. slice_index_or self.levels i false) op }
+    {
+        match op {
+            Op::Want { .. } => true,
+            Op::DropMount { mount, .. } => 0 < self.mounts[mount as usize],
+            Op::ChangeMount { .. } => self.is_in_no_level(),
+        }
+    }
+
+    /// Whether the operation would not give the task its 1,025th access at a mount.
+    fn is_within_room(self, op: Op) -> bool
+        requires { mount_of op < 8 }
+        ensures { result ≡ within_room (slice_index self.mounts) op }
+    {
+        match op {
+            Op::Want { mount, .. } => self.mounts[mount as usize] < 1024,
+            Op::DropMount { .. } | Op::ChangeMount { .. } => true,
+        }
     }
 }
 
@@ -39,8 +72,13 @@ pub(crate) struct Seat {
 }
 
 impl Seat {
+    ghost use Rattle.gate_core.specs.Memory.{mounts_in, levels_in};
+
     /// Why an operation can't begin, the first reason in the stated order.
-    pub(crate) fn refusal(self, config: Config, op: Op) -> Option<GateError> {
+    pub(crate) fn refusal(self, config: Config, op: Op) -> Option<GateError>
+        requires { config.mounts ≤ 8 }
+        ensures { result ≡ the_refusal config (is_some self.phase) (mounts_in self) (levels_in self) op }
+    {
         if self.phase.is_some() {
             Some(GateError::Order)
         } else if !is_in_range(config, op) {
@@ -55,7 +93,9 @@ impl Seat {
     }
 }
 
-fn is_in_range(config: Config, op: Op) -> bool {
+fn is_in_range(config: Config, op: Op) -> bool
+    ensures { result ≡ in_range config op }
+{
     match op {
         Op::Want { mount, cpu, .. } | Op::DropMount { mount, cpu } => {
             mount < config.mounts && cpu < config.processors
@@ -64,25 +104,10 @@ fn is_in_range(config: Config, op: Op) -> bool {
     }
 }
 
-impl Accesses {
-    fn is_in_order(self, op: Op) -> bool {
-        match op {
-            Op::Want { .. } => true,
-            Op::DropMount { mount, .. } => 0 < self.mounts[mount as usize],
-            Op::ChangeMount { .. } => self.is_in_no_level(),
-        }
-    }
-
-    fn is_within_room(self, op: Op) -> bool {
-        match op {
-            Op::Want { mount, .. } => self.mounts[mount as usize] < 1024,
-            Op::DropMount { .. } | Op::ChangeMount { .. } => true,
-        }
-    }
-}
-
 /// The first phase of an operation of a task.
-pub(crate) fn first_phase(config: Config, task: u8, op: Op) -> Phase {
+pub(crate) fn first_phase(config: Config, task: u8, op: Op) -> Phase
+    ensures { result ≡ the_first_phase config task op }
+{
     Phase::Mounts(match op {
         Op::Want { mount, cpu, wait } => MountPhase::Want(Want {
             mount,

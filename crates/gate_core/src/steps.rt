@@ -1,5 +1,8 @@
 //! What one step of a task was.
 
+ghost use Rattle.std.specs.Prelude.{◌≡◌};
+ghost use Rattle.gate_world.specs.Views.{phase_after};
+
 use access_model::{Action, GateError, Next, Reply};
 use cpu_words::Event;
 use gate_world::Phase;
@@ -26,8 +29,12 @@ pub struct Step {
 }
 
 impl Step {
+    ghost use Rattle.gate_core.specs.Answers.{idle_step};
+
     /// The step of an idle task.
-    pub(crate) fn idle() -> Step {
+    pub(crate) fn idle() -> Step
+        ensures { result ≡ idle_step }
+    {
         Step {
             event: None,
             action: None,
@@ -37,8 +44,12 @@ impl Step {
 }
 
 impl Progress {
+    ghost use Rattle.gate_core.specs.Answers.{progress_of};
+
     /// How the operation stands, and its next phase.
-    pub(crate) fn of(next: Next<Phase>) -> (Progress, Option<Phase>) {
+    pub(crate) fn of(next: Next<Phase>) -> (Progress, Option<Phase>)
+        ensures { result ≡ (progress_of next, phase_after next) }
+    {
         match next {
             Next::Go(phase) => (Progress::Going, Some(phase)),
             Next::Wait(phase) => (Progress::Waiting, Some(phase)),

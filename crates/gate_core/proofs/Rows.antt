@@ -1,0 +1,54 @@
+-- Worked schedules, by computing, on two processors and one mount.
+use Rattle.std.proofs.Common.{◌≡◌, ℕ, true, List, [], ◌∷◌, ◌++◌, refl}
+use Rattle.std.specs.Prelude.{Ok, Err, replicate}
+use Rattle.access_model.specs.declared.actions.Action.TheVariants.{Grant, Return, MountRo}
+use Rattle.access_model.specs.declared.actions.Gate.TheVariants.{Mount}
+use Rattle.access_model.specs.declared.errors.GateError.TheVariants.{Busy}
+use Rattle.gate_world.specs.declared.config.Config.{Config}
+use Rattle.gate_world.specs.declared.operations.Op.TheVariants.{Want, DropMount, ChangeMount}
+use Rattle.gate_world.specs.Worlds.{Entry, Begins, Steps, run, history, opening}
+use Rattle.gate_core.specs.declared.steps.Progress.TheVariants.{Done}
+use Rattle.gate_core.specs.Answers.{step_answer}
+
+abbrev small : Config
+small = record { tasks = 3; processors = 2; mounts = 1; nodes = 2; capacity = 8 }
+
+-- so many steps of a task
+abbrev steps : ℕ → ℕ → List Entry
+steps n t = replicate n (Steps t (Ok tt))
+
+-- a change of an idle mount to read-only
+abbrev closes : List Entry
+closes = Begins 0 (ChangeMount 0 true true) ∷ steps 9 0
+
+closes_history : history small opening [] closes ≡ (0, MountRo 0) ∷ []
+closes_history = refl
+
+closes_flags : (run small opening closes).words.flags 0 ≡ 1
+closes_flags = refl
+
+-- an access that is granted on one processor and given back on the other: that one's word wraps
+abbrev moves : List Entry
+moves = Begins 0 (Want 0 0 true) ∷ steps 5 0 ++ (Begins 0 (DropMount 0 1) ∷ steps 1 0)
+
+moves_history : history small opening [] moves ≡ (0, Return (Mount 0)) ∷ ((0, Grant (Mount 0)) ∷ [])
+moves_history = refl
+
+moves_taken : (run small opening moves).words.count 0 0 ≡ 1
+moves_taken = refl
+
+moves_given_back : (run small opening moves).words.count 0 1 ≡ 18446744073709551615
+moves_given_back = refl
+
+-- a change while another task holds an access, up to its last step: that ends it, refused, and it has added nothing
+abbrev contends : List Entry
+contends = Begins 0 (Want 0 1 true) ∷ steps 5 0 ++ (Begins 1 (ChangeMount 0 true true) ∷ steps 7 1)
+
+contends_ends : (step_answer small (run small opening contends) 1 (Ok tt)).progress ≡ Done (Err Busy)
+contends_ends = refl
+
+contends_history : history small opening [] (contends ++ steps 1 1) ≡ (0, Grant (Mount 0)) ∷ []
+contends_history = refl
+
+contends_flags : (run small opening (contends ++ steps 1 1)).words.flags 0 ≡ 0
+contends_flags = refl
