@@ -1,5 +1,9 @@
 //! The bytes of a schedule, read in blocks.
 
+ghost use Rattle.schedule_text.specs.Lines.{front_of};
+ghost use Rattle.schedule_text.specs.declared.lines.Front.TheVariants.{Line};
+ghost use Rattle.std.specs.Prelude.{◌≡◌, ◌≤◌, ◌↔◌, ◌+◌, ◌-◌, ℕ, ◌<◌, IsTrue, vec_len, slice_range, take};
+
 use schedule_text::{Fault, Front, front_of};
 use std::alloc::{AllocError, Global};
 use std::io::Read;
@@ -15,6 +19,8 @@ pub(crate) struct Input<R: Read + Drop> {
     bytes: Vec<u8>,
     start: usize,
     end: usize,
+    ghost ordered: { start ≤ end },
+    ghost within: { end ≤ vec_len bytes },
 }
 
 impl<R: Read + Drop> Input<R> {
@@ -30,27 +36,42 @@ impl<R: Read + Drop> Input<R> {
     }
 
     /// What was read and not yet taken.
-    pub(crate) fn pending(&self) -> &[u8] {
+    pub(crate) fn pending(&self) -> &[u8]
+        ensures { result.now ≡ slice_range self.now.bytes.items self.now.start self.now.end }
+    {
         &self.bytes[self.start..self.end]
     }
 
     /// What the pending bytes begin with.
-    pub(crate) fn front(&self) -> Front {
+    pub(crate) fn front(&self) -> Front
+        ensures front { result ≡ front_of (slice_range self.now.bytes.items self.now.start self.now.end) }
+        ensures inside { (n : ℕ) → result ≡ Line n → n < self.now.end - self.now.start }
+    {
         front_of(self.pending())
     }
 
     /// Whether all that was read is taken.
-    pub(crate) fn is_empty(&self) -> bool {
+    pub(crate) fn is_empty(&self) -> bool
+        ensures { IsTrue result ↔ (self.now.start ≡ self.now.end) }
+    {
         self.start == self.end
     }
 
     /// The first of the pending bytes.
-    pub(crate) fn first(&self, count: usize) -> &[u8] {
+    pub(crate) fn first(&self, count: usize) -> &[u8]
+        requires { count ≤ self.now.end - self.now.start }
+        ensures { result.now ≡ take count (slice_range self.now.bytes.items self.now.start self.now.end) }
+    {
         &self.pending()[..count]
     }
 
     /// Takes the first of the pending bytes.
-    pub(crate) fn take(&mut self, count: usize) {
+    pub(crate) fn take(&mut self, count: usize)
+        requires { count ≤ self.old.end - self.old.start }
+        ensures start { self.new.start ≡ self.old.start + count }
+        ensures end { self.new.end ≡ self.old.end }
+        ensures bytes { self.new.bytes.items ≡ self.old.bytes.items }
+    {
         self.start += count;
     }
 

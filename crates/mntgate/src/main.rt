@@ -28,7 +28,7 @@ fn main(rt: HostRuntime) -> Result<ExitCode> {
 }
 
 /// The command line: `replay` is the only subcommand.
-fn command(alloc: Global) -> Result<Command<'static>, AllocError> {
+fn command<'a>(alloc: Global) -> Result<Command<'a>, AllocError> {
     let replay = Command::new(alloc, "replay")
         .about("Reads a schedule from standard input and prints each event asked for");
     Command::new(alloc, "mntgate")

@@ -1,5 +1,7 @@
 //! A schedule, from the bytes in to the bytes out.
 
+ghost use Rattle.std.specs.Prelude.{◌≡◌, ◌≤◌, ◌<◌, ◌-◌, IfOk, IfSome};
+
 use access_model::GateError;
 use schedule_text::{Fault, Front, LINE_BYTES, LINES, Line, Output, parse};
 use std::alloc::{AllocError, Global};
@@ -116,7 +118,9 @@ impl<R: Read + Drop, W: Write + Drop> Player<R, W> {
     }
 
     /// Reads until the next line is whole, and says how many bytes it has; None at the end of the input.
-    fn read_line(&mut self) -> Result<Option<usize>, Fault> {
+    fn read_line(&mut self) -> Result<Option<usize>, Fault>
+        ensures { IfOk result (λ found. IfSome found (λ length. length < self.new.input.end - self.new.input.start)) }
+    {
         // Each turn that goes on reads a byte or more, so the last one finds a newline, or more bytes than a line has.
         for _ in 0..=LINE_BYTES + 1 {
             match self.input.front() {

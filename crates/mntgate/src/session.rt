@@ -1,5 +1,7 @@
 //! What a schedule drives: the gates, and the model beside them.
 
+ghost use Rattle.std.specs.Prelude.{◌≡◌, ◌≤◌, IfOk};
+
 use access_model::{GateError, Model};
 use cpu_words::WordName;
 use gate_core::{Core, Progress, Step};
@@ -98,7 +100,9 @@ impl Session {
 
     /// Goes on to the reply, or to the first event that finds that the task has to wait, or to the last event that one line
     /// may do.
-    fn run(&mut self, task: u8) -> Result<Ran, Fault> {
+    fn run(&mut self, task: u8) -> Result<Ran, Fault>
+        ensures { IfOk result (λ ran. ran.events ≤ 1000) }
+    {
         for events in 0..EVENTS {
             let progress = self.step(task, Ok(()))?.progress;
             match progress {

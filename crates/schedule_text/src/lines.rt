@@ -1,8 +1,9 @@
 //! Where lines end.
 
-ghost use Rattle.std.specs.Prelude.{◌≡◌, take};
+ghost use Rattle.std.specs.Prelude.{◌≡◌, ℕ, ◌<◌, length, take};
 ghost use Rattle.std.specs.List.{position};
 ghost use Rattle.schedule_text.specs.Lines.{is_newline, front_of};
+ghost use Rattle.schedule_text.specs.declared.lines.Front.TheVariants.{Line};
 
 /// How many lines a schedule may have.
 pub const LINES: u32 = 1_048_576;
@@ -44,7 +45,8 @@ fn near(bytes: &[u8]) -> &[u8]
 /// What the bytes that have been read begin with.
 #[tactic(auto, unfolding(crate::specs::Lines::front_of))]
 pub fn front_of(bytes: &[u8]) -> Front
-    ensures { result ≡ front_of bytes.now }
+    ensures front { result ≡ front_of bytes.now }
+    ensures inside { (n : ℕ) → result ≡ Line n → n < length bytes.now }
 {
     match first_newline(near(bytes)) {
         Some(length) => Front::Line(length),
