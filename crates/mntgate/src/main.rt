@@ -6,6 +6,9 @@ mod replay;
 mod session;
 mod writing;
 
+#[cfg(test)]
+mod tests;
+
 
 use anyhow::Result;
 use clap::{Command, Error};

@@ -1,6 +1,8 @@
 //! A schedule, from the bytes in to the bytes out.
 
-ghost use Rattle.std.specs.Prelude.{◌≡◌, ◌≤◌, ◌<◌, ◌-◌, IfOk, IfSome};
+ghost use Rattle.std.specs.Prelude.{◌≡◌, ◌≤◌, ◌<◌, ◌+◌, ◌-◌, IfOk, IfErr, IfSome};
+ghost use Rattle.schedule_text.specs.Faults.{text_of, cause_of};
+ghost use Rattle.mntgate.specs.Limits.{IsLineNumber};
 
 use access_model::GateError;
 use schedule_text::{Fault, Front, LINE_BYTES, LINES, Line, Output, parse};
@@ -48,7 +50,9 @@ pub fn replay<R: Read + Drop, W: Write + Drop>(
     alloc: Global,
     reader: R,
     writer: W,
-) -> Result<(), ReplayFault> {
+) -> Result<(), ReplayFault>
+    ensures { IfErr result (λ fault. IsLineNumber fault.line) }
+{
     match Player::new(alloc, reader, writer) {
         Ok(mut player) => player.do_lines(),
         Err(error) => Err(fault_after(0, no_memory(error))),
@@ -58,6 +62,9 @@ pub fn replay<R: Read + Drop, W: Write + Drop>(
 /// A fault at the line after so many lines.
 fn fault_after(done: u32, fault: Fault) -> ReplayFault
     requires { done ≤ 1048576 }
+    ensures line { result.line ≡ done + 1 }
+    ensures text { result.text.now ≡ text_of fault }
+    ensures cause { result.cause ≡ cause_of fault }
 {
     ReplayFault {
         line: done + 1,
@@ -88,7 +95,9 @@ impl<R: Read + Drop, W: Write + Drop> Player<R, W> {
     }
 
     /// Does all lines.
-    fn do_lines(&mut self) -> Result<(), ReplayFault> {
+    fn do_lines(&mut self) -> Result<(), ReplayFault>
+        ensures { IfErr result (λ fault. IsLineNumber fault.line) }
+    {
         for done in 0..LINES {
             match self.do_line() {
                 Ok(true) => {}
@@ -188,6 +197,7 @@ impl<R: Read + Drop, W: Write + Drop> Player<R, W> {
     /// Writes out what was printed before a fault. Where that fails, this is the fault.
     fn ended(&mut self, done: u32, fault: Fault) -> ReplayFault
         requires { done ≤ 1048576 }
+        ensures { result.line ≡ done + 1 }
     {
         match self.write_out() {
             Ok(()) => fault_after(done, fault),
