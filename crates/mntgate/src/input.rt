@@ -1,0 +1,96 @@
+//! The bytes of a schedule, read in blocks.
+
+ghost use Rattle.schedule_text.specs.Lines.{front_of};
+ghost use Rattle.schedule_text.specs.declared.lines.Front.TheVariants.{Line};
+ghost use Rattle.std.specs.Prelude.{◌≡◌, ◌≤◌, ◌↔◌, ◌+◌, ◌-◌, ℕ, ◌<◌, IsTrue, vec_len, slice_range, take};
+
+use schedule_text::{Fault, Front, front_of};
+use std::alloc::{AllocError, Global};
+use std::io::Read;
+
+/// How many bytes are asked for at once.
+const BLOCK: usize = 65_536;
+
+/// A reader, and what was read from it and not yet taken.
+#[derive(Drop)]
+pub(crate) struct Input<R: Read + Drop> {
+    reader: R,
+    /// `BLOCK` bytes, of which those from `start` up to `end` were read and not yet taken.
+    bytes: Vec<u8>,
+    start: usize,
+    end: usize,
+    ghost ordered: { start ≤ end },
+    ghost within: { end ≤ vec_len bytes },
+}
+
+impl<R: Read + Drop> Input<R> {
+    /// Nothing read yet.
+    pub(crate) fn new(alloc: Global, reader: R) -> Result<Input<R>, AllocError> {
+        let bytes = vec![in alloc; 0; BLOCK]?;
+        Ok(Input {
+            reader,
+            bytes,
+            start: 0,
+            end: 0,
+        })
+    }
+
+    /// What was read and not yet taken.
+    pub(crate) fn pending(&self) -> &[u8]
+        ensures { result.now ≡ slice_range self.now.bytes.items self.now.start self.now.end }
+    {
+        &self.bytes[self.start..self.end]
+    }
+
+    /// What the pending bytes begin with.
+    pub(crate) fn front(&self) -> Front
+        ensures front { result ≡ front_of (slice_range self.now.bytes.items self.now.start self.now.end) }
+        ensures inside { (n : ℕ) → result ≡ Line n → n < self.now.end - self.now.start }
+    {
+        front_of(self.pending())
+    }
+
+    /// Whether all that was read is taken.
+    pub(crate) fn is_empty(&self) -> bool
+        ensures { IsTrue result ↔ (self.now.start ≡ self.now.end) }
+    {
+        self.start == self.end
+    }
+
+    /// The first of the pending bytes.
+    pub(crate) fn first(&self, count: usize) -> &[u8]
+        requires { count ≤ self.now.end - self.now.start }
+        ensures { result.now ≡ take count (slice_range self.now.bytes.items self.now.start self.now.end) }
+    {
+        &self.pending()[..count]
+    }
+
+    /// Takes the first of the pending bytes.
+    pub(crate) fn take(&mut self, count: usize)
+        requires { count ≤ self.old.end - self.old.start }
+        ensures start { self.new.start ≡ self.old.start + count }
+        ensures end { self.new.end ≡ self.old.end }
+        ensures bytes { self.new.bytes.items ≡ self.old.bytes.items }
+    {
+        self.start += count;
+    }
+
+    /// Reads more, and says how many bytes came: none at the end of the input, or where the block is full.
+    pub(crate) fn read(&mut self) -> Result<usize, Fault> {
+        self.make_room();
+        match self.reader.read(&mut self.bytes[self.end..]) {
+            Ok(count) => {
+                self.end += count;
+                Ok(count)
+            }
+            Err(_) => Err(Fault::ReadFailed),
+        }
+    }
+
+    /// Moves the pending bytes to the start of the block.
+    fn make_room(&mut self) {
+        self.bytes.copy_within(self.start..self.end, 0);
+        self.end -= self.start;
+        self.start = 0;
+    }
+}

@@ -1,0 +1,398 @@
+//! Schedules whose printed text and faults are known, and readers and writers that fail.
+
+mod fakes;
+
+use std::alloc::Global;
+use std::cell::Cell;
+use std::process::Abort;
+use std::test::Fail;
+
+use crate::replay::{ReplayFault, replay};
+use fakes::{Counter, Frail, Newlines, Refusal, Slow, Watcher};
+
+/// What a schedule prints, as far as it comes, and its fault, if there is one.
+fn played(alloc: Global, schedule: &[u8]) -> Result<(Vec<u8>, Result<(), ReplayFault>), Fail> {
+    let mut printed = Vec::new(alloc);
+    let ended = replay(alloc, schedule, &mut printed);
+    Ok((printed, ended))
+}
+
+/// That a replay ended with the fault of this text; with none, where the text is empty.
+fn expect_end<R: Abort + Alloc<A = Global>>(
+    rt: &R,
+    ended: Result<(), ReplayFault>,
+    fault: &str,
+) -> Result<(), Fail> {
+    let text = match ended {
+        Ok(()) => String::new(rt.alloc()),
+        Err(fault) => format!(in rt.alloc(); "{fault}")?,
+    };
+    assert_eq!(rt; text.as_str(), fault);
+    Ok(())
+}
+
+/// That a schedule prints this and ends without a fault.
+fn prints<R: Abort + Alloc<A = Global>>(rt: &R, schedule: &str, text: &str) -> Result<(), Fail> {
+    let (printed, ended) = played(rt.alloc(), schedule.as_bytes())?;
+    assert_eq!(rt; printed.as_slice(), text.as_bytes());
+    expect_end(rt, ended, "")
+}
+
+/// Each schedule with what it prints.
+static PRINTED: [(&str, &str); 10] = [
+    // An access, event by event.
+    (
+        "config 1 1 1 2 8\n\
+         0 want 0 0\n\
+         0 step\n\
+         0 step\n\
+         0 step\n\
+         0 step\n\
+         0 step\n\
+         0 drop 0 0\n\
+         0 step\n",
+        "0 add mount0.cpu0 0 1\n\
+         0 load mount0.flags 0 0\n\
+         0 load remount 0 0\n\
+         0 load mount0.flags 0 0\n\
+         0 load sb 0 0 grant mount 0\n\
+         0 ok\n\
+         0 sub mount0.cpu0 1 0 return mount 0\n\
+         0 ok\n",
+    ),
+    // A change to read-only, event by event.
+    (
+        "config 1 1 1 2 8\n\
+         0 change 0 ro\n\
+         0 step\n\
+         0 step\n\
+         0 step\n\
+         0 step\n\
+         0 step\n\
+         0 step\n\
+         0 step\n\
+         0 step\n",
+        "0 cas umount 0 1\n\
+         0 load mount0.flags 0 0\n\
+         0 load sb 0 0\n\
+         0 or mount0.flags 0 2\n\
+         0 load mount0.cpu0 0 0\n\
+         0 or mount0.flags 2 3 mount 0 ro\n\
+         0 and mount0.flags 3 1\n\
+         0 store umount 0\n\
+         0 ok\n",
+    ),
+    // A change against a holder.
+    (
+        "config 2 1 1 2 8\n\
+         0 want 0 0\n\
+         0 run\n\
+         1 change 0 ro\n\
+         1 run\n\
+         words\n\
+         1 want 0 0\n\
+         1 run\n",
+        "0 ok\n\
+         1 refused 16 Busy\n\
+         mount0.cpu0 1\n\
+         1 ok\n",
+    ),
+    // An access given back on another processor.
+    (
+        "config 1 2 1 2 8\n\
+         0 want 0 0\n\
+         0 run\n\
+         0 drop 0 1\n\
+         0 run\n\
+         words\n\
+         0 change 0 ro\n\
+         0 run\n",
+        "0 ok\n\
+         0 ok\n\
+         mount0.cpu0 1\n\
+         mount0.cpu1 18446744073709551615\n\
+         0 ok\n",
+    ),
+    // A try form backs off on its own processor.
+    (
+        "config 3 2 1 2 8\n\
+         0 want 0 1\n\
+         0 run\n\
+         1 change 0 ro\n\
+         1 step\n\
+         1 step\n\
+         1 step\n\
+         1 step\n\
+         1 step\n\
+         2 trywant 0 0\n\
+         2 run\n\
+         1 step\n\
+         1 run\n",
+        "0 ok\n\
+         1 cas umount 0 2\n\
+         1 load mount0.flags 0 0\n\
+         1 load sb 0 0\n\
+         1 or mount0.flags 0 2\n\
+         1 load mount0.cpu0 0 0\n\
+         2 refused 11 Again\n\
+         1 load mount0.cpu1 1 1\n\
+         1 refused 16 Busy\n",
+    ),
+    // A waiting form is counted while it waits.
+    (
+        "config 2 1 1 2 8\n\
+         0 change 0 ro\n\
+         0 step\n\
+         0 step\n\
+         0 step\n\
+         0 step\n\
+         1 want 0 0\n\
+         1 step\n\
+         1 step\n\
+         0 run\n\
+         1 run\n",
+        "0 cas umount 0 1\n\
+         0 load mount0.flags 0 0\n\
+         0 load sb 0 0\n\
+         0 or mount0.flags 0 2\n\
+         1 add mount0.cpu0 0 1\n\
+         1 load mount0.flags 2 2 waiting\n\
+         0 refused 16 Busy\n\
+         1 ok\n",
+    ),
+    // A change that finds its state, a refused access, the model, and the way back.
+    (
+        "config 1 1 1 2 8\n\
+         0 change 0 ro\n\
+         0 run\n\
+         0 change 0 ro\n\
+         0 step\n\
+         0 step\n\
+         0 step\n\
+         0 want 0 0\n\
+         0 run\n\
+         model\n\
+         0 change 0 rw\n\
+         0 step\n\
+         0 step\n\
+         0 step\n\
+         0 step\n",
+        "0 ok\n\
+         0 cas umount 0 1\n\
+         0 load mount0.flags 1 1\n\
+         0 store umount 0\n\
+         0 ok\n\
+         0 refused 30 ReadOnly\n\
+         model stage 0 passed 0 sb rw\n\
+         mount 0 ro\n\
+         node 0 dir 0 0 clean\n\
+         0 cas umount 0 1\n\
+         0 load mount0.flags 1 1\n\
+         0 and mount0.flags 1 0 mount 0 rw\n\
+         0 store umount 0\n\
+         0 ok\n",
+    ),
+    // Refused beginnings, and an idle task.
+    (
+        "config 1 1 8 2 8\n\
+         0 want 8 0\n\
+         0 want 0 1\n\
+         0 drop 0 0\n\
+         0 want 300 0\n\
+         0 step\n\
+         0 run\n",
+        "0 refused 22 Invalid\n\
+         0 refused 22 Invalid\n\
+         0 refused 35 Order\n\
+         0 refused 22 Invalid\n\
+         0 idle\n\
+         0 idle\n",
+    ),
+    // A second task finds the lock taken.
+    (
+        "config 2 1 1 2 8\n\
+         0 change 0 ro\n\
+         0 step\n\
+         1 change 0 rw\n\
+         1 run\n\
+         1 change 0 rw\n\
+         words\n",
+        "0 cas umount 0 1\n\
+         1 waiting\n\
+         1 refused 35 Order\n\
+         umount 1\n",
+    ),
+    // Accesses in the model; a hook that isn't asked makes no difference.
+    (
+        "config 2 1 2 2 8\n\
+         1 want 1 0\n\
+         1 run freeze 65535\n\
+         model\n\
+         # a comment\n\
+         \n\
+         1 drop 1 0\n\
+         1 step 7\n",
+        "1 ok\n\
+         model stage 0 passed 0 sb rw\n\
+         task 1 mount 1 1\n\
+         node 0 dir 0 0 clean\n\
+         1 sub mount1.cpu0 1 0 return mount 1\n\
+         1 ok\n",
+    ),
+];
+
+/// Each schedule with the fault at which it ends.
+static FAULTS: [(&str, &str); 30] = [
+    ("", "line 1: config expected"),
+    ("config 1 1 1 2 8\n0 wa", "line 2: cut off"),
+    ("config 0 1 1 2 8\n", "line 1: refused 22 Invalid"),
+    ("config 1 1 1 2 8\n1 step\n", "line 2: no such task"),
+    ("# x\n", "line 2: config expected"),
+    ("words\n", "line 1: config expected"),
+    ("config 1 1 1 2\n", "line 1: wrong number of words"),
+    ("config 1 1 1 2 8 \n", "line 1: wrong number of words"),
+    ("config 1 x 1 2 y\n", "line 1: bad number"),
+    ("# x", "line 1: cut off"),
+    ("config 1 1 1 2 8\nconfig 1 1 1 2 8\n", "line 2: config twice"),
+    ("config 1 1 1 2 8\nfly\n", "line 2: unknown command"),
+    ("config 1 1 1 2 8\n0 fly\n", "line 2: unknown command"),
+    ("config 1 1 1 2 8\ntree\n", "line 2: unknown command"),
+    ("config 1 1 1 2 8\n0 start 1 0\n", "line 2: unknown command"),
+    ("config 1 1 1 2 8\n 0 step\n", "line 2: unknown command"),
+    ("config 1 1 1 2 8\n0  step\n", "line 2: unknown command"),
+    ("config 1 1 1 2 8\n0\n", "line 2: wrong number of words"),
+    ("config 1 1 1 2 8\n0 want 0\n", "line 2: wrong number of words"),
+    ("config 1 1 1 2 8\nwords x\n", "line 2: wrong number of words"),
+    ("config 1 1 1 2 8\n9 want x 0\n", "line 2: no such task"),
+    ("config 1 1 1 2 8\n256 want 0 0\n", "line 2: no such task"),
+    ("config 1 1 1 2 8\n0 want x 0\n", "line 2: bad number"),
+    ("config 1 1 1 2 8\n0 want 99999999999 0\n", "line 2: bad number"),
+    ("config 1 1 1 2 8\n0 want 4294967296 0\n", "line 2: bad number"),
+    ("config 1 1 1 2 8\n0 change x up\n", "line 2: bad number"),
+    ("config 1 1 1 2 8\n0 step 0\n", "line 2: bad number"),
+    ("config 1 1 1 2 8\n0 step 65536\n", "line 2: bad number"),
+    ("config 1 1 1 2 8\n0 change 0 up\n", "line 2: bad word"),
+    ("config 1 1 1 2 8\n0 run write 5\n", "line 2: bad word"),
+];
+
+#[test]
+fn schedules_print_what_they_ask_for(rt: HostRuntime) -> Result<(), Fail> {
+    for (schedule, text) in PRINTED.iter() {
+        prints(&rt, schedule, text)?;
+    }
+    Ok(())
+}
+
+#[test]
+fn malformed_schedules_end_at_their_first_fault(rt: HostRuntime) -> Result<(), Fail> {
+    for (schedule, fault) in FAULTS.iter() {
+        let (printed, ended) = played(rt.alloc(), schedule.as_bytes())?;
+        assert!(rt; printed.is_empty());
+        expect_end(&rt, ended, fault)?;
+    }
+    Ok(())
+}
+
+#[test]
+fn what_was_printed_before_a_fault_stays(rt: HostRuntime) -> Result<(), Fail> {
+    let schedule = b"config 1 1 1 2 8\n0 step\n\xff\xfe\n0 step\n";
+    let (printed, ended) = played(rt.alloc(), schedule.as_slice())?;
+    assert_eq!(rt; printed.as_slice(), b"0 idle\n".as_slice());
+    expect_end(&rt, ended, "line 3: unknown command")
+}
+
+#[test]
+fn a_line_has_at_most_256_bytes(rt: HostRuntime) -> Result<(), Fail> {
+    for (bytes, fault) in [(255, "line 2: config expected"), (256, "line 1: line too long")] {
+        let mut schedule = vec![in rt.alloc(); b'x'; bytes]?;
+        schedule.insert(0, b'#')?;
+        schedule.push(b'\n')?;
+        let (_, ended) = played(rt.alloc(), schedule.as_slice())?;
+        expect_end(&rt, ended, fault)?;
+    }
+    Ok(())
+}
+
+#[test]
+fn a_schedule_has_at_most_1048576_lines(rt: HostRuntime) -> Result<(), Fail> {
+    for (empty, fault) in [
+        (1_048_575, ""),
+        (1_048_576, "line 1048577: too many lines"),
+    ] {
+        let head = b"config 1 1 1 2 8\n".as_slice();
+        let ended = replay(rt.alloc(), Newlines { head, empty }, std::io::empty());
+        expect_end(&rt, ended, fault)?;
+    }
+    Ok(())
+}
+
+/// A schedule of eight lines, what it prints, and how many bytes its first lines print: of no line, of one, and so on.
+static SCHEDULE: &str = "config 2 1 1 2 8\n\
+         0 want 0 0\n\
+         0 run\n\
+         1 change 0 ro\n\
+         1 run\n\
+         words\n\
+         1 want 0 0\n\
+         1 run\n";
+static TEXT: &str = "0 ok\n1 refused 16 Busy\nmount0.cpu0 1\n1 ok\n";
+static AFTER: [usize; 9] = [0, 0, 0, 5, 5, 23, 37, 37, 42];
+
+/// That these are the first bytes of the text.
+fn begins_text<R: Abort>(rt: &R, printed: &[u8], count: usize) -> Result<(), Fail> {
+    let wanted = TEXT.as_bytes().get(..count).ok_or("short text")?;
+    assert_eq!(rt; printed, wanted);
+    Ok(())
+}
+
+#[test]
+fn each_read_fails_in_turn(rt: HostRuntime) -> Result<(), Fail> {
+    for good in 0..12 {
+        let mut printed = Vec::new(rt.alloc());
+        let bytes = SCHEDULE.as_bytes();
+        let ended = replay(rt.alloc(), Slow::new(bytes, 7, good), &mut printed);
+        let read = bytes.iter().take(7 * good as usize);
+        let lines = read.filter(|byte| **byte == b'\n').count();
+        let count = AFTER.get(lines).ok_or("too many lines")?;
+        begins_text(&rt, printed.as_slice(), *count)?;
+        let line = lines as u64 + 1;
+        let fault = format!(in rt.alloc(); "line {line}: read failed")?;
+        expect_end(&rt, ended, fault.as_str())?;
+    }
+    Ok(())
+}
+
+#[test]
+fn a_byte_at_a_time_reads_and_writes_the_same(rt: HostRuntime) -> Result<(), Fail> {
+    let mut writer = Frail::new(rt.alloc(), 1, u32::MAX, Refusal::Nothing);
+    let reader = Slow::new(SCHEDULE.as_bytes(), 1, u32::MAX);
+    let ended = replay(rt.alloc(), reader, &mut writer);
+    begins_text(&rt, writer.taken.as_slice(), TEXT.len())?;
+    expect_end(&rt, ended, "")
+}
+
+#[test]
+fn each_write_fails_in_turn(rt: HostRuntime) -> Result<(), Fail> {
+    for refusal in [Refusal::Error, Refusal::Nothing] {
+        for good in 0..14 {
+            let mut writer = Frail::new(rt.alloc(), 3, good, refusal);
+            let ended = replay(rt.alloc(), SCHEDULE.as_bytes(), &mut writer);
+            begins_text(&rt, writer.taken.as_slice(), 3 * good as usize)?;
+            assert!(rt; !writer.was_called_again);
+            expect_end(&rt, ended, "line 9: write failed")?;
+        }
+    }
+    Ok(())
+}
+
+#[test]
+fn what_was_printed_is_written_before_more_is_read(rt: HostRuntime) -> Result<(), Fail> {
+    let written = Cell::new(0);
+    let late = Cell::new(0);
+    let reader = Watcher::new(SCHEDULE.as_bytes(), &AFTER, &written, &late);
+    let ended = replay(rt.alloc(), reader, Counter { written: &written });
+    expect_end(&rt, ended, "")?;
+    assert_eq!(rt; late.get(), 0);
+    assert_eq!(rt; written.get(), TEXT.len());
+    Ok(())
+}

@@ -1,0 +1,174 @@
+//! Readers and writers that are slow, fail or watch.
+
+ghost use Rattle.std.specs.Prelude.{◌≤◌, length};
+
+use std::alloc::Global;
+use std::cell::Cell;
+use std::io;
+use std::io::{ErrorKind, Read, Write};
+
+/// Moves bytes from the front of a slice into a buffer, and says how many.
+fn give(bytes: &mut &[u8], most: usize, buf: &mut [u8]) -> usize
+    ensures { result ≤ length buf.new }
+{
+    let count = most.min(buf.len()).min(bytes.len());
+    let (front, rest) = bytes.split_at(count);
+    buf[..count].copy_from_slice(front);
+    *bytes = rest;
+    count
+}
+
+/// A reader of a few bytes at a time, whose reads are interrupted after so many good ones.
+#[derive(Drop)]
+pub struct Slow<'a> {
+    bytes: &'a [u8],
+    most: usize,
+    good: u32,
+}
+
+impl<'a> Slow<'a> {
+    pub fn new(bytes: &'a [u8], most: usize, good: u32) -> Slow<'a> {
+        Slow { bytes, most, good }
+    }
+}
+
+impl Read for Slow<'_> {
+    fn read(&mut self, buf: &mut [u8]) -> io::Result<usize> {
+        if self.good == 0 {
+            return Err(io::Error::from(ErrorKind::Interrupted));
+        }
+        self.good -= 1;
+        Ok(give(&mut self.bytes, self.most, buf))
+    }
+}
+
+/// A reader of some bytes and then of so many newlines.
+#[derive(Drop)]
+pub struct Newlines<'a> {
+    pub head: &'a [u8],
+    pub empty: usize,
+}
+
+impl Read for Newlines<'_> {
+    fn read(&mut self, buf: &mut [u8]) -> io::Result<usize> {
+        if !self.head.is_empty() {
+            return Ok(give(&mut self.head, usize::MAX, buf));
+        }
+        let count = self.empty.min(buf.len());
+        for byte in &mut buf[..count] {
+            *byte = b'\n';
+        }
+        self.empty -= count;
+        Ok(count)
+    }
+}
+
+/// How a writer refuses: by an error, or by taking no byte.
+#[derive(Clone, Copy)]
+pub enum Refusal {
+    Error,
+    Nothing,
+}
+
+/// A writer that takes a few bytes at a time, and refuses after so many good writes.
+#[derive(Drop)]
+pub struct Frail {
+    pub taken: Vec<u8>,
+    most: usize,
+    good: u32,
+    refusal: Refusal,
+    has_refused: bool,
+    /// Whether it was called after it had refused.
+    pub was_called_again: bool,
+}
+
+impl Frail {
+    pub fn new(alloc: Global, most: usize, good: u32, refusal: Refusal) -> Frail {
+        Frail {
+            taken: Vec::new(alloc),
+            most,
+            good,
+            refusal,
+            has_refused: false,
+            was_called_again: false,
+        }
+    }
+}
+
+impl Write for Frail {
+    fn write(&mut self, buf: &[u8]) -> io::Result<usize> {
+        if self.good == 0 {
+            self.was_called_again = self.has_refused;
+            self.has_refused = true;
+            return match self.refusal {
+                Refusal::Error => Err(io::Error::from(ErrorKind::Interrupted)),
+                Refusal::Nothing => Ok(0),
+            };
+        }
+        self.good -= 1;
+        let count = self.most.min(buf.len());
+        self.taken.extend_from_slice(&buf[..count])?;
+        Ok(count)
+    }
+
+    fn flush(&mut self) -> io::Result<()> {
+        Ok(())
+    }
+}
+
+/// A writer that counts its bytes where a reader sees the count.
+#[derive(Drop)]
+pub struct Counter<'a> {
+    pub written: &'a Cell<usize>,
+}
+
+impl Write for Counter<'_> {
+    fn write(&mut self, buf: &[u8]) -> io::Result<usize> {
+        self.written.set(self.written.get().saturating_add(buf.len()));
+        Ok(buf.len())
+    }
+
+    fn flush(&mut self) -> io::Result<()> {
+        Ok(())
+    }
+}
+
+/// A reader of a line at a time. At each read it looks whether as many bytes were written as the lines so far print.
+#[derive(Drop)]
+pub struct Watcher<'a> {
+    bytes: &'a [u8],
+    prints: &'a [usize],
+    written: &'a Cell<usize>,
+    /// How many reads came before all that had to be written was.
+    late: &'a Cell<usize>,
+}
+
+impl<'a> Watcher<'a> {
+    pub fn new(
+        bytes: &'a [u8],
+        prints: &'a [usize],
+        written: &'a Cell<usize>,
+        late: &'a Cell<usize>,
+    ) -> Watcher<'a> {
+        Watcher {
+            bytes,
+            prints,
+            written,
+            late,
+        }
+    }
+}
+
+impl Read for Watcher<'_> {
+    fn read(&mut self, buf: &mut [u8]) -> io::Result<usize> {
+        if let Some((printed, later)) = self.prints.split_first() {
+            if self.written.get() != *printed {
+                self.late.set(self.late.get().saturating_add(1));
+            }
+            self.prints = later;
+        }
+        let line = self.bytes.iter().position(|byte| *byte == b'\n');
+        let most = line.map_or(0, |end| end.saturating_add(1));
+        Ok(give(&mut self.bytes, most, buf))
+    }
+}

@@ -1,0 +1,35 @@
+-- What digits write, one digit after the other.
+use Rattle.std.proofs.Common.{◌≡◌, ℕ, ◌+◌, ◌-◌, ◌*◌, ◌^◌, ◌<◌, ◌≤◌, true, false, Bool, ◌&&◌, List, length, get_or, take, arith, rules}
+use Rattle.std.proofs.lemmas.Str.Parse.{IsNumeralModel, numerals_by_value, digit_at, digits_value_short, digits_value-take-le}
+use Rattle.std.proofs.lemmas.Str.{digit_value_digit}
+use Rattle.std.proofs.lemmas.Int.Digits.{digits_value_more}
+use Rattle.std.specs.Char.{is_ascii_digit}
+use Rattle.std.specs.Int.{IsInRange}
+use Rattle.std.specs.List.{list_all}
+use Rattle.std.specs.Str.Parse.{digits_value}
+
+numerals : IsNumeralModel (λ ds. list_all is_ascii_digit ds ≡ true) (digits_value 10)
+numerals = numerals_by_value _ (search rules)
+
+-- each byte is a digit
+pub digit_in : (ds : List ℕ) (i : ℕ) → list_all is_ascii_digit ds ≡ true → i < length ds → IsInRange 48 57 (get_or ds i 0)
+digit_in ds i all inside = digit_at ds i (numerals.to ds all) inside
+
+-- one digit more
+pub value_with_next : (ds : List ℕ) (i : ℕ) → list_all is_ascii_digit ds ≡ true → i < length ds →
+  digits_value 10 (take (i + 1) ds) ≡ digits_value 10 (take i ds) * 10 + (get_or ds i 0 - 48)
+value_with_next ds i all inside =
+    let more = digits_value_more 10 ds i inside in
+    let digit = digit_value_digit (get_or ds i 0) (digit_in ds i all inside) in
+    omega (arith, more, digit)
+
+-- ten digits write less than 10^10, and so do the first ones of them
+pub value_small : (ds : List ℕ) (i : ℕ) → list_all is_ascii_digit ds ≡ true → length ds ≤ 10 → digits_value 10 (take i ds) < 10 ^ 10
+value_small ds i all few =
+    let whole = digits_value_short numerals ds 10 all few in
+    let part = digits_value-take-le 10 ds i (omega arith) in
+    omega (arith, whole, part)
+
+pub second_holds : (a b : Bool) → (a && b) ≡ true → b ≡ true
+second_holds true b e = e
+second_holds false b e = cc

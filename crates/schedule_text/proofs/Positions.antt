@@ -1,0 +1,9 @@
+-- Where a byte is first found.
+use Rattle.std.proofs.Common.{◌≡◌, ℕ, ◌≤◌, Bool, true, false, List, length, Option, Some, None, arith, rules, sym, inl, inr}
+use Rattle.std.proofs.lemmas.Bool.Decides.{nat_tests, leb_tells}
+use Rattle.std.proofs.lemmas.List.Sums.{prefix_len-le-length}
+use Rattle.std.specs.List.{position, position_or_len}
+
+-- what is nowhere is first found at the end
+pub nowhere_is_end : (p : ℕ → Bool) (xs : List ℕ) → position p xs ≡ None → length xs ≡ position_or_len p xs
+nowhere_is_end p xs e = grind (arith, nat_tests, prefix_len-le-length)

@@ -1,0 +1,7 @@
+pub mod Numbers
+pub mod Words
+pub mod Lines
+pub mod Faults
+pub mod Commands
+pub mod Parsing
+pub mod Printing

@@ -1,0 +1,155 @@
+-- What a line asks for, and the first fault of a line.
+use Rattle.std.specs.Prelude.{ℕ, Bool, true, false, not, ◌==◌, nat_lt, if◌then◌else◌, List, [], ◌∷◌, codes, bytes_eq, Option, Some, None, Result, Ok, Err, ok_or}
+use Rattle.gate_world.specs.declared.config.Config.{Config}
+use Rattle.gate_world.specs.declared.operations.Op.{Op}
+use Rattle.gate_world.specs.declared.operations.Op.TheVariants.{Want as WantOp, DropMount, ChangeMount}
+use Rattle.schedule_text.specs.declared.commands.Hook.{Hook}
+use Rattle.schedule_text.specs.declared.commands.HookFailure.{HookFailure}
+use Rattle.schedule_text.specs.declared.commands.Line.{Line}
+use Rattle.schedule_text.specs.declared.commands.Line.TheVariants.{Skipped, Config as ConfigLine, Words, Model, Task}
+use Rattle.schedule_text.specs.declared.commands.TaskCommand.{TaskCommand}
+use Rattle.schedule_text.specs.declared.commands.TaskCommand.TheVariants.{Begin, Step as StepCommand, Run as RunCommand}
+use Rattle.schedule_text.specs.declared.commands.Verb.{Verb}
+use Rattle.schedule_text.specs.declared.commands.Verb.TheVariants.{Want, TryWant, Drop, Change, TryChange, Step, Run}
+use Rattle.schedule_text.specs.declared.faults.Fault.{Fault}
+use Rattle.schedule_text.specs.declared.faults.Fault.TheVariants.{ConfigExpected, ConfigTwice, UnknownCommand, WrongNumberOfWords, NoSuchTask, BadNumber, BadWord}
+use Rattle.schedule_text.specs.Numbers.{is_digits, number_of, byte_of, code_of}
+use Rattle.schedule_text.specs.Words.{first_word, after_word, word_count}
+use Rattle.schedule_text.specs.Commands.{verb_of, takes, hook_of}
+
+infixl 10 ◌>>=◌
+abbrev pub ◌>>=◌ : {A B : Type 0} → Result A Fault → (A → Result B Fault) → Result B Fault
+(Ok x) >>= f = f x
+(Err fault) >>= f = Err fault
+
+-- goes on only where the test holds
+abbrev pub expect : Bool → Fault → Result (Unit {0}) Fault
+expect true fault = Ok tt
+expect false fault = Err fault
+
+-- an empty line, or a comment
+abbrev pub is_skipped : List ℕ → Bool
+is_skipped [] = true
+is_skipped (first ∷ others) = first == 35
+
+-- the number that comes first
+unfoldable pub number_at : List ℕ → Result ℕ Fault
+number_at text = ok_or (number_of (first_word text)) BadNumber
+
+-- the same, as it is handed to a call that takes a byte
+unfoldable pub byte_at : List ℕ → Result ℕ Fault
+byte_at text = do
+  number ← number_at text
+  Ok (byte_of number)
+
+-- the code of a hook that comes first
+unfoldable pub code_at : List ℕ → Result ℕ Fault
+code_at text = ok_or (code_of (first_word text)) BadNumber
+
+-- the hook that comes first
+unfoldable pub hook_at : List ℕ → Result Hook Fault
+hook_at text = ok_or (hook_of (first_word text)) BadWord
+
+unfoldable pub read_only_of : List ℕ → Option Bool
+read_only_of word =
+    if bytes_eq word (codes "ro") then Some true else
+    if bytes_eq word (codes "rw") then Some false else None
+
+-- `ro` or `rw`, which comes first
+unfoldable pub read_only_at : List ℕ → Result Bool Fault
+read_only_at text = ok_or (read_only_of (first_word text)) BadWord
+
+abbrev pub task_from : Option ℕ → ℕ → Option ℕ
+task_from None tasks = None
+task_from (Some number) tasks = if nat_lt (byte_of number) tasks then Some (byte_of number) else None
+
+-- the task that a word of digits names
+unfoldable pub task_of : List ℕ → ℕ → Option ℕ
+task_of word tasks = task_from (number_of word) tasks
+
+unfoldable pub want_of : List ℕ → Bool → Result TaskCommand Fault
+want_of rest wait = do
+  mount ← byte_at rest
+  cpu ← byte_at (after_word rest)
+  Ok (Begin (WantOp mount cpu wait))
+
+unfoldable pub drop_of : List ℕ → Result TaskCommand Fault
+drop_of rest = do
+  mount ← byte_at rest
+  cpu ← byte_at (after_word rest)
+  Ok (Begin (DropMount mount cpu))
+
+unfoldable pub change_of : List ℕ → Bool → Result TaskCommand Fault
+change_of rest wait = do
+  mount ← byte_at rest
+  read_only ← read_only_at (after_word rest)
+  Ok (Begin (ChangeMount mount read_only wait))
+
+unfoldable pub step_of : List ℕ → Result TaskCommand Fault
+step_of rest = do
+  code ← code_at rest
+  Ok (StepCommand (Err code))
+
+unfoldable pub run_of : List ℕ → Result TaskCommand Fault
+run_of rest = do
+  hook ← hook_at rest
+  code ← code_at (after_word rest)
+  Ok (RunCommand (Some record { hook = hook; code = code }))
+
+-- the command of a verb on a line of so many words, from its arguments
+unfoldable pub arguments_of : Verb → List ℕ → ℕ → Result TaskCommand Fault
+arguments_of Want rest words = want_of rest true
+arguments_of TryWant rest words = want_of rest false
+arguments_of Drop rest words = drop_of rest
+arguments_of Change rest words = change_of rest true
+arguments_of TryChange rest words = change_of rest false
+arguments_of Step rest words = if words == 2 then Ok (StepCommand (Ok tt)) else step_of rest
+arguments_of Run rest words = if words == 2 then Ok (RunCommand None) else run_of rest
+
+-- a line on a task
+unfoldable pub task_line : List ℕ → ℕ → Result Line Fault
+task_line line tasks = do
+  verb ← ok_or (verb_of (first_word (after_word line))) UnknownCommand
+  allowed ← expect (takes verb (word_count line)) WrongNumberOfWords
+  task ← ok_or (task_of (first_word line) tasks) NoSuchTask
+  command ← arguments_of verb (after_word (after_word line)) (word_count line)
+  Ok (Task task command)
+
+-- a command that stands alone on its line
+abbrev pub alone : ℕ → Line → Result Line Fault
+alone words command = if words == 1 then Ok command else Err WrongNumberOfWords
+
+-- a line after the configuration, where there are so many tasks
+unfoldable pub command_line : List ℕ → ℕ → Result Line Fault
+command_line line tasks =
+    if bytes_eq (first_word line) (codes "config") then Err ConfigTwice else
+    if bytes_eq (first_word line) (codes "words") then alone (word_count line) Words else
+    if bytes_eq (first_word line) (codes "model") then alone (word_count line) Model else
+    if not (is_digits (first_word line)) then Err UnknownCommand else
+    if word_count line == 1 then Err WrongNumberOfWords else task_line line tasks
+
+-- the five numbers of a configuration
+unfoldable pub config_of : List ℕ → Result Config Fault
+config_of rest = do
+  tasks ← byte_at rest
+  processors ← byte_at (after_word rest)
+  mounts ← byte_at (after_word (after_word rest))
+  nodes ← byte_at (after_word (after_word (after_word rest)))
+  capacity ← number_at (after_word (after_word (after_word (after_word rest))))
+  Ok record { tasks = tasks; processors = processors; mounts = mounts; nodes = nodes; capacity = capacity }
+
+-- the first line that isn't skipped
+unfoldable pub config_line : List ℕ → Result Line Fault
+config_line line = do
+  named ← expect (bytes_eq (first_word line) (codes "config")) ConfigExpected
+  whole ← expect (word_count line == 6) WrongNumberOfWords
+  config ← config_of (after_word line)
+  Ok (ConfigLine config)
+
+abbrev pub line_for : Option ℕ → List ℕ → Result Line Fault
+line_for None line = config_line line
+line_for (Some tasks) line = command_line line tasks
+
+-- what a line asks for, where there are so many tasks, or where no configuration was given yet; or the line's first fault
+unfoldable pub parsed : List ℕ → Option ℕ → Result Line Fault
+parsed line tasks = if is_skipped line then Ok Skipped else line_for tasks line

@@ -1,0 +1,120 @@
+//! What a line asks for.
+
+ghost use Rattle.std.specs.Prelude.{◌≡◌};
+
+use gate_world::{Config, Op};
+
+/// A hook of the file system that a schedule may let fail.
+#[derive(Clone, Copy, PartialEq, Eq, Debug)]
+pub enum Hook {
+    Sync,
+    Freeze,
+    Unfreeze,
+    Reconfigure,
+}
+
+/// That a hook answers a code in place of Ok.
+#[derive(Clone, Copy, PartialEq, Eq, Debug)]
+pub struct HookFailure {
+    pub hook: Hook,
+    pub code: u16,
+}
+
+/// What is asked of a task.
+#[derive(Clone, Copy, PartialEq, Eq, Debug)]
+pub enum TaskCommand {
+    /// To begin an operation.
+    Begin(Op),
+    /// To do one event, where a hook answers this.
+    Step { hook: Result<(), u16> },
+    /// To go on to the reply, where one hook may fail and all others answer Ok.
+    Run { failure: Option<HookFailure> },
+}
+
+/// What a line asks for.
+#[derive(Clone, Copy, PartialEq, Eq, Debug)]
+pub enum Line {
+    /// Nothing: an empty line or a comment.
+    Skipped,
+    /// To set all tasks up.
+    Config(Config),
+    /// To print the words of memory that aren't 0.
+    Words,
+    /// To print the model.
+    Model,
+    /// Something of a task.
+    Task { task: u8, command: TaskCommand },
+}
+
+/// The second word of a line on a task.
+#[derive(Clone, Copy, PartialEq, Eq, Debug)]
+pub enum Verb {
+    Want,
+    TryWant,
+    Drop,
+    Change,
+    TryChange,
+    Step,
+    Run,
+}
+
+impl Verb {
+    ghost use Rattle.schedule_text.specs.Commands.{verb_of, takes};
+
+    /// The verb that a word names.
+    #[tactic(auto, unfolding(crate::specs::Commands::verb_of))]
+    pub fn of(word: &[u8]) -> Option<Verb>
+        ensures { result ≡ verb_of word.now }
+    {
+        if word == b"want".as_slice() {
+            Some(Verb::Want)
+        } else if word == b"trywant".as_slice() {
+            Some(Verb::TryWant)
+        } else if word == b"drop".as_slice() {
+            Some(Verb::Drop)
+        } else if word == b"change".as_slice() {
+            Some(Verb::Change)
+        } else if word == b"trychange".as_slice() {
+            Some(Verb::TryChange)
+        } else if word == b"step".as_slice() {
+            Some(Verb::Step)
+        } else if word == b"run".as_slice() {
+            Some(Verb::Run)
+        } else {
+            None
+        }
+    }
+
+    /// Whether a line with this verb may have so many words, the task and the verb among them.
+    pub fn takes(self, words: usize) -> bool
+        ensures { result ≡ takes self words }
+    {
+        match self {
+            Verb::Want | Verb::TryWant | Verb::Drop | Verb::Change | Verb::TryChange => words == 4,
+            Verb::Step => words == 2 || words == 3,
+            Verb::Run => words == 2 || words == 4,
+        }
+    }
+}
+
+impl Hook {
+    ghost use Rattle.schedule_text.specs.Commands.{hook_of};
+
+    /// The hook that a word names.
+    #[tactic(auto, unfolding(crate::specs::Commands::hook_of))]
+    pub fn of(word: &[u8]) -> Option<Hook>
+        ensures { result ≡ hook_of word.now }
+    {
+        if word == b"sync".as_slice() {
+            Some(Hook::Sync)
+        } else if word == b"freeze".as_slice() {
+            Some(Hook::Freeze)
+        } else if word == b"unfreeze".as_slice() {
+            Some(Hook::Unfreeze)
+        } else if word == b"reconfigure".as_slice() {
+            Some(Hook::Reconfigure)
+        } else {
+            None
+        }
+    }
+}

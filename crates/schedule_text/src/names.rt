@@ -1,0 +1,297 @@
+//! How words, events, actions and replies are printed.
+
+ghost use Rattle.std.specs.Prelude.{◌≡◌, ◌++◌, codes, OnOk};
+ghost use Rattle.schedule_text.specs.Printing.{count_name, word_text, word_line, kind_text, event_text, event_line, gate_text, pair_text, action_text, kind_name, reply_text, refusal_text, answer_line, refused_line, idle_line, waiting_line, model_line, read_only_mount_line, held_mount_line, held_level_line, node_line, numbered};
+ghost use Rattle.access_model.specs.declared.actions.Action.TheVariants.{Create};
+
+use access_model::{Action, Gate, GateError, Kind, NodeInfo, Reply};
+use cpu_words::{Event, Touch, WordName};
+use std::alloc::AllocError;
+
+use crate::output::Output;
+
+impl Output {
+    /// The name of a word, as `mount0.cpu1`.
+    #[tactic(auto, unfolding(crate::specs::Printing::word_text))]
+    pub fn word_name(&mut self, name: WordName) -> Result<(), AllocError>
+        ensures { OnOk result (self.new.bytes.items ≡ self.old.bytes.items ++ word_text name) }
+    {
+        match name {
+            WordName::Umount => self.text(b"umount"),
+            WordName::Stage => self.text(b"stage"),
+            WordName::SbFlags => self.text(b"sb"),
+            WordName::Remount => self.text(b"remount"),
+            WordName::MountFlags(mount) => {
+                self.numbered(b"mount", u64::from(mount))?;
+                self.text(b".flags")
+            }
+            WordName::MountCount(mount, cpu) => self.count_name(b"mount", mount, cpu),
+            WordName::Block(level) => self.numbered(b"block", u64::from(level)),
+            WordName::Sync(level) => self.numbered(b"sync", u64::from(level)),
+            WordName::LevelCount(level, cpu) => self.count_name(b"level", level, cpu),
+            WordName::Section(task) => self.numbered(b"section", u64::from(task)),
+            WordName::Used => self.text(b"used"),
+            WordName::Node(node) => self.numbered(b"node", u64::from(node)),
+            WordName::Kids(node) => self.numbered(b"kids", u64::from(node)),
+        }
+    }
+
+    /// The name of a gate's count on a processor.
+    fn count_name(&mut self, gate: &[u8], number: u8, cpu: u8) -> Result<(), AllocError>
+        ensures { OnOk result (self.new.bytes.items ≡ self.old.bytes.items ++ count_name gate.now number cpu) }
+    {
+        self.numbered(gate, u64::from(number))?;
+        self.numbered(b".cpu", u64::from(cpu))
+    }
+
+    /// A word with its value, on a line of its own.
+    #[tactic(auto, unfolding(crate::specs::Printing::word_line))]
+    pub fn word_line(&mut self, name: WordName, value: u64) -> Result<(), AllocError>
+        ensures { OnOk result (self.new.bytes.items ≡ self.old.bytes.items ++ word_line name value) }
+    {
+        self.word_name(name)?;
+        self.numbered(b" ", value)?;
+        self.text(b"\n")
+    }
+
+    /// An event of a task, with the action that it added, on a line of its own.
+    #[tactic(auto, unfolding(crate::specs::Printing::event_line))]
+    pub fn event_line(
+        &mut self,
+        task: u8,
+        event: Event,
+        action: Option<Action>,
+        waiting: bool,
+    ) -> Result<(), AllocError>
+        ensures { OnOk result (self.new.bytes.items ≡ self.old.bytes.items ++ event_line task event action waiting) }
+    {
+        self.event(task, event)?;
+        if let Some(action) = action {
+            self.text(b" ")?;
+            self.action(action)?;
+        }
+        self.text(if waiting { b" waiting\n" } else { b"\n" })
+    }
+
+    /// An event of a task: `T KIND WORD FOUND LEFT`, but `T store WORD VALUE`.
+    #[tactic(auto, unfolding(crate::specs::Printing::event_text))]
+    fn event(&mut self, task: u8, event: Event) -> Result<(), AllocError>
+        ensures { OnOk result (self.new.bytes.items ≡ self.old.bytes.items ++ event_text task event) }
+    {
+        self.number(u64::from(task))?;
+        self.text(kind_of(event.touch))?;
+        self.word_name(event.word)?;
+        if let Touch::Store(value) = event.touch {
+            self.numbered(b" ", value)
+        } else {
+            self.numbered(b" ", event.found)?;
+            self.numbered(b" ", event.left)
+        }
+    }
+
+    /// An action of the model, as `grant mount 0`.
+    #[tactic(auto, unfolding(crate::specs::Printing::action_text))]
+    pub fn action(&mut self, action: Action) -> Result<(), AllocError>
+        ensures { OnOk result (self.new.bytes.items ≡ self.old.bytes.items ++ action_text action) }
+    {
+        match action {
+            Action::Grant(gate) => self.gate(b"grant ", gate),
+            Action::Return(gate) => self.gate(b"return ", gate),
+            Action::MountRo(mount) => self.mount_state(mount, b" ro"),
+            Action::MountRw(mount) => self.mount_state(mount, b" rw"),
+            Action::SbRo => self.text(b"sb ro"),
+            Action::SbRw => self.text(b"sb rw"),
+            Action::Stage(stage) => self.numbered(b"stage ", u64::from(stage)),
+            Action::Pass(level) => self.numbered(b"pass ", u64::from(level)),
+            Action::Reopen(level) => self.numbered(b"reopen ", u64::from(level)),
+            Action::Create { node, dir, kind } => self.created(node, dir, kind),
+            Action::Remove(node) => self.numbered(b"remove ", u64::from(node)),
+            Action::Grow { node, blocks } => self.pair(b"grow ", node, u64::from(blocks)),
+            Action::MoveTo { node, dir } => self.pair(b"move ", node, u64::from(dir)),
+            Action::Dirty(node) => self.numbered(b"dirty ", u64::from(node)),
+            Action::Clean(node) => self.numbered(b"clean ", u64::from(node)),
+        }
+    }
+
+    fn gate(&mut self, name: &[u8], gate: Gate) -> Result<(), AllocError>
+        ensures { OnOk result (self.new.bytes.items ≡ self.old.bytes.items ++ (name.now ++ gate_text gate)) }
+    {
+        self.text(name)?;
+        match gate {
+            Gate::Mount(mount) => self.numbered(b"mount ", u64::from(mount)),
+            Gate::Level(level) => self.numbered(b"level ", u64::from(level)),
+        }
+    }
+
+    fn mount_state(&mut self, mount: u8, state: &[u8]) -> Result<(), AllocError>
+        ensures { OnOk result (self.new.bytes.items ≡ self.old.bytes.items ++ (numbered (codes "mount ") mount ++ state.now)) }
+    {
+        self.numbered(b"mount ", u64::from(mount))?;
+        self.text(state)
+    }
+
+    #[tactic(auto, unfolding(crate::specs::Printing::action_text))]
+    fn created(&mut self, node: u8, dir: u8, kind: Kind) -> Result<(), AllocError>
+        ensures { OnOk result (self.new.bytes.items ≡ self.old.bytes.items ++ action_text (Create node dir kind)) }
+    {
+        self.pair(b"create ", node, u64::from(dir))?;
+        self.text(kind_name(kind))
+    }
+
+    fn pair(&mut self, name: &[u8], node: u8, second: u64) -> Result<(), AllocError>
+        ensures { OnOk result (self.new.bytes.items ≡ self.old.bytes.items ++ pair_text name.now node second) }
+    {
+        self.numbered(name, u64::from(node))?;
+        self.numbered(b" ", second)
+    }
+
+    /// How an operation of a task ended, on a line of its own; `used` is the blocks charged then.
+    #[tactic(auto, unfolding(crate::specs::Printing::answer_line))]
+    pub fn answer_line(
+        &mut self,
+        task: u8,
+        answer: Result<Reply, GateError>,
+        used: u64,
+    ) -> Result<(), AllocError>
+        ensures { OnOk result (self.new.bytes.items ≡ self.old.bytes.items ++ answer_line task answer used) }
+    {
+        self.number(u64::from(task))?;
+        match answer {
+            Ok(reply) => self.reply(reply, used)?,
+            Err(refusal) => self.refusal(refusal)?,
+        }
+        self.text(b"\n")
+    }
+
+    fn reply(&mut self, reply: Reply, used: u64) -> Result<(), AllocError>
+        ensures { OnOk result (self.new.bytes.items ≡ self.old.bytes.items ++ reply_text reply used) }
+    {
+        match reply {
+            Reply::Unit => self.text(b" ok"),
+            Reply::Node(node) => self.numbered(b" ok node ", u64::from(node)),
+            Reply::Ran(true) => self.text(b" ok ran"),
+            Reply::Ran(false) => self.text(b" ok none"),
+            Reply::Tree => self.numbered(b" ok used ", used),
+        }
+    }
+
+    #[tactic(auto, unfolding(crate::specs::Printing::refusal_text))]
+    fn refusal(&mut self, refusal: GateError) -> Result<(), AllocError>
+        ensures { OnOk result (self.new.bytes.items ≡ self.old.bytes.items ++ refusal_text refusal) }
+    {
+        match refusal {
+            GateError::Hook(code) => self.numbered(b" refused hook ", u64::from(code)),
+            _ => {
+                self.numbered(b" refused ", u64::from(refusal.number()))?;
+                self.text(b" ")?;
+                self.text(refusal.name().as_bytes())
+            }
+        }
+    }
+
+    /// That a beginning was refused.
+    #[tactic(auto, unfolding(crate::specs::Printing::refused_line))]
+    pub fn refused_line(&mut self, task: u8, refusal: GateError) -> Result<(), AllocError>
+        ensures { OnOk result (self.new.bytes.items ≡ self.old.bytes.items ++ refused_line task refusal) }
+    {
+        self.number(u64::from(task))?;
+        self.refusal(refusal)?;
+        self.text(b"\n")
+    }
+
+    /// That a task has no operation under way.
+    #[tactic(auto, unfolding(crate::specs::Printing::idle_line))]
+    pub fn idle_line(&mut self, task: u8) -> Result<(), AllocError>
+        ensures { OnOk result (self.new.bytes.items ≡ self.old.bytes.items ++ idle_line task) }
+    {
+        self.number(u64::from(task))?;
+        self.text(b" idle\n")
+    }
+
+    /// That a task has to look or try again.
+    #[tactic(auto, unfolding(crate::specs::Printing::waiting_line))]
+    pub fn waiting_line(&mut self, task: u8) -> Result<(), AllocError>
+        ensures { OnOk result (self.new.bytes.items ≡ self.old.bytes.items ++ waiting_line task) }
+    {
+        self.number(u64::from(task))?;
+        self.text(b" waiting\n")
+    }
+
+    /// The first line of a model.
+    #[tactic(auto, unfolding(crate::specs::Printing::model_line))]
+    pub fn model_line(&mut self, stage: u8, passed: u8, sb_ro: bool) -> Result<(), AllocError>
+        ensures { OnOk result (self.new.bytes.items ≡ self.old.bytes.items ++ model_line stage passed sb_ro) }
+    {
+        self.numbered(b"model stage ", u64::from(stage))?;
+        self.numbered(b" passed ", u64::from(passed))?;
+        self.text(if sb_ro { b" sb ro\n" } else { b" sb rw\n" })
+    }
+
+    /// That a mount is read-only by its own flag.
+    #[tactic(auto, unfolding(crate::specs::Printing::read_only_mount_line))]
+    pub fn read_only_mount_line(&mut self, mount: u8) -> Result<(), AllocError>
+        ensures { OnOk result (self.new.bytes.items ≡ self.old.bytes.items ++ read_only_mount_line mount) }
+    {
+        self.numbered(b"mount ", u64::from(mount))?;
+        self.text(b" ro\n")
+    }
+
+    /// How many accesses a task holds at a mount.
+    #[tactic(auto, unfolding(crate::specs::Printing::held_mount_line))]
+    pub fn held_mount_line(&mut self, task: u8, mount: u8, count: u16) -> Result<(), AllocError>
+        ensures { OnOk result (self.new.bytes.items ≡ self.old.bytes.items ++ held_mount_line task mount count) }
+    {
+        self.numbered(b"task ", u64::from(task))?;
+        self.numbered(b" mount ", u64::from(mount))?;
+        self.numbered(b" ", u64::from(count))?;
+        self.text(b"\n")
+    }
+
+    /// That a task is inside a level.
+    #[tactic(auto, unfolding(crate::specs::Printing::held_level_line))]
+    pub fn held_level_line(&mut self, task: u8, level: u8) -> Result<(), AllocError>
+        ensures { OnOk result (self.new.bytes.items ≡ self.old.bytes.items ++ held_level_line task level) }
+    {
+        self.numbered(b"task ", u64::from(task))?;
+        self.numbered(b" level ", u64::from(level))?;
+        self.text(b"\n")
+    }
+
+    /// A node: `node N file|dir PARENT SIZE clean|dirty`.
+    #[tactic(auto, unfolding(crate::specs::Printing::node_line))]
+    pub fn node_line(&mut self, node: u8, info: NodeInfo) -> Result<(), AllocError>
+        ensures { OnOk result (self.new.bytes.items ≡ self.old.bytes.items ++ node_line node info) }
+    {
+        self.numbered(b"node ", u64::from(node))?;
+        self.text(kind_name(info.kind))?;
+        self.numbered(b" ", u64::from(info.parent))?;
+        self.numbered(b" ", u64::from(info.size))?;
+        self.text(if info.dirty { b" dirty\n" } else { b" clean\n" })
+    }
+}
+
+/// The kind of an event, between its task and its word.
+fn kind_of(touch: Touch) -> &'static [u8]
+    ensures { result.now ≡ kind_text touch }
+{
+    match touch {
+        Touch::Load => b" load ",
+        Touch::Store(_) => b" store ",
+        Touch::Add(_) => b" add ",
+        Touch::Sub(_) => b" sub ",
+        Touch::Or(_) => b" or ",
+        Touch::And(_) => b" and ",
+        Touch::Swap(_) => b" swap ",
+        Touch::Cas { .. } => b" cas ",
+    }
+}
+
+/// What a node is, with a space before it.
+fn kind_name(kind: Kind) -> &'static [u8]
+    ensures { result.now ≡ kind_name kind }
+{
+    match kind {
+        Kind::File => b" file",
+        Kind::Dir => b" dir",
+    }
+}

@@ -1,0 +1,264 @@
+//! From a line to what it asks for.
+
+ghost use Rattle.std.specs.Prelude.{◌≡◌};
+ghost use Rattle.schedule_text.specs.Parsing.{parsed, is_skipped, config_line, config_of, command_line, alone, task_line, task_of, arguments_of, want_of, drop_of, change_of, step_of, run_of, number_at, byte_at, code_at, hook_at, read_only_at, read_only_of};
+
+use gate_world::{Config, Op};
+
+use crate::commands::{Hook, HookFailure, Line, TaskCommand, Verb};
+use crate::faults::Fault;
+use crate::numbers::{byte_of, code_of, is_digits, number_of};
+use crate::words::{after_word, first_word, word_count};
+
+/// What a line asks for, where there are so many tasks, or where no configuration was given yet; or the first fault of the
+/// line.
+#[tactic(auto, unfolding(crate::specs::Parsing::parsed))]
+pub fn parse(line: &[u8], tasks: Option<u8>) -> Result<Line, Fault>
+    ensures { result ≡ parsed line.now tasks }
+{
+    if is_skipped(line) {
+        return Ok(Line::Skipped);
+    }
+    match tasks {
+        None => config_line(line),
+        Some(tasks) => command_line(line, tasks),
+    }
+}
+
+/// Whether a line is empty or a comment.
+fn is_skipped(line: &[u8]) -> bool
+    ensures { result ≡ is_skipped line.now }
+{
+    match line {
+        [] => true,
+        [first, ..] => *first == b'#',
+    }
+}
+
+/// The first line that isn't skipped.
+#[tactic(auto, unfolding(crate::specs::Parsing::config_line))]
+fn config_line(line: &[u8]) -> Result<Line, Fault>
+    ensures { result ≡ config_line line.now }
+{
+    if first_word(line) != b"config".as_slice() {
+        return Err(Fault::ConfigExpected);
+    }
+    if word_count(line) != 6 {
+        return Err(Fault::WrongNumberOfWords);
+    }
+    let config = config_of(after_word(line))?;
+    Ok(Line::Config(config))
+}
+
+/// The five numbers of a configuration.
+#[tactic(auto, unfolding(crate::specs::Parsing::config_of))]
+fn config_of(rest: &[u8]) -> Result<Config, Fault>
+    ensures { result ≡ config_of rest.now }
+{
+    let tasks = byte_at(rest)?;
+    let rest = after_word(rest);
+    let processors = byte_at(rest)?;
+    let rest = after_word(rest);
+    let mounts = byte_at(rest)?;
+    let rest = after_word(rest);
+    let nodes = byte_at(rest)?;
+    let rest = after_word(rest);
+    let capacity = number_at(rest)?;
+    Ok(Config {
+        tasks,
+        processors,
+        mounts,
+        nodes,
+        capacity,
+    })
+}
+
+/// A line after the configuration.
+#[tactic(auto, unfolding(crate::specs::Parsing::command_line))]
+fn command_line(line: &[u8], tasks: u8) -> Result<Line, Fault>
+    ensures { result ≡ command_line line.now tasks }
+{
+    let words = word_count(line);
+    let first = first_word(line);
+    if first == b"config".as_slice() {
+        Err(Fault::ConfigTwice)
+    } else if first == b"words".as_slice() {
+        alone(words, Line::Words)
+    } else if first == b"model".as_slice() {
+        alone(words, Line::Model)
+    } else if !is_digits(first) {
+        Err(Fault::UnknownCommand)
+    } else if words == 1 {
+        Err(Fault::WrongNumberOfWords)
+    } else {
+        task_line(line, tasks)
+    }
+}
+
+/// A command that stands alone on its line.
+fn alone(words: usize, command: Line) -> Result<Line, Fault>
+    ensures { result ≡ alone words command }
+{
+    if words == 1 {
+        Ok(command)
+    } else {
+        Err(Fault::WrongNumberOfWords)
+    }
+}
+
+/// A line on a task: its first word is digits.
+#[tactic(auto, unfolding(crate::specs::Parsing::task_line))]
+fn task_line(line: &[u8], tasks: u8) -> Result<Line, Fault>
+    ensures { result ≡ task_line line.now tasks }
+{
+    let rest = after_word(line);
+    let verb = Verb::of(first_word(rest)).ok_or(Fault::UnknownCommand)?;
+    let words = word_count(line);
+    if !verb.takes(words) {
+        return Err(Fault::WrongNumberOfWords);
+    }
+    let task = task_of(first_word(line), tasks).ok_or(Fault::NoSuchTask)?;
+    let command = arguments_of(verb, after_word(rest), words)?;
+    Ok(Line::Task { task, command })
+}
+
+/// The task that a word of digits names. Digits that are no number name no task.
+#[tactic(auto, unfolding(crate::specs::Parsing::task_of))]
+fn task_of(word: &[u8], tasks: u8) -> Option<u8>
+    ensures { result ≡ task_of word.now tasks }
+{
+    let task = byte_of(number_of(word)?);
+    if task < tasks { Some(task) } else { None }
+}
+
+/// What a verb asks for, on a line of so many words, from its arguments.
+#[tactic(auto, unfolding(crate::specs::Parsing::arguments_of))]
+fn arguments_of(verb: Verb, rest: &[u8], words: usize) -> Result<TaskCommand, Fault>
+    ensures { result ≡ arguments_of verb rest.now words }
+{
+    match verb {
+        Verb::Want => want_of(rest, true),
+        Verb::TryWant => want_of(rest, false),
+        Verb::Drop => drop_of(rest),
+        Verb::Change => change_of(rest, true),
+        Verb::TryChange => change_of(rest, false),
+        Verb::Step => {
+            if words == 2 {
+                Ok(TaskCommand::Step { hook: Ok(()) })
+            } else {
+                step_of(rest)
+            }
+        }
+        Verb::Run => {
+            if words == 2 {
+                Ok(TaskCommand::Run { failure: None })
+            } else {
+                run_of(rest)
+            }
+        }
+    }
+}
+
+#[tactic(auto, unfolding(crate::specs::Parsing::want_of))]
+fn want_of(rest: &[u8], wait: bool) -> Result<TaskCommand, Fault>
+    ensures { result ≡ want_of rest.now wait }
+{
+    let mount = byte_at(rest)?;
+    let cpu = byte_at(after_word(rest))?;
+    Ok(TaskCommand::Begin(Op::Want { mount, cpu, wait }))
+}
+
+#[tactic(auto, unfolding(crate::specs::Parsing::drop_of))]
+fn drop_of(rest: &[u8]) -> Result<TaskCommand, Fault>
+    ensures { result ≡ drop_of rest.now }
+{
+    let mount = byte_at(rest)?;
+    let cpu = byte_at(after_word(rest))?;
+    Ok(TaskCommand::Begin(Op::DropMount { mount, cpu }))
+}
+
+#[tactic(auto, unfolding(crate::specs::Parsing::change_of))]
+fn change_of(rest: &[u8], wait: bool) -> Result<TaskCommand, Fault>
+    ensures { result ≡ change_of rest.now wait }
+{
+    let mount = byte_at(rest)?;
+    let read_only = read_only_at(after_word(rest))?;
+    Ok(TaskCommand::Begin(Op::ChangeMount {
+        mount,
+        read_only,
+        wait,
+    }))
+}
+
+#[tactic(auto, unfolding(crate::specs::Parsing::step_of))]
+fn step_of(rest: &[u8]) -> Result<TaskCommand, Fault>
+    ensures { result ≡ step_of rest.now }
+{
+    let code = code_at(rest)?;
+    Ok(TaskCommand::Step { hook: Err(code) })
+}
+
+#[tactic(auto, unfolding(crate::specs::Parsing::run_of))]
+fn run_of(rest: &[u8]) -> Result<TaskCommand, Fault>
+    ensures { result ≡ run_of rest.now }
+{
+    let hook = hook_at(rest)?;
+    let code = code_at(after_word(rest))?;
+    let failure = Some(HookFailure { hook, code });
+    Ok(TaskCommand::Run { failure })
+}
+
+/// The number that comes first.
+#[tactic(auto, unfolding(crate::specs::Parsing::number_at))]
+fn number_at(text: &[u8]) -> Result<u32, Fault>
+    ensures { result ≡ number_at text.now }
+{
+    number_of(first_word(text)).ok_or(Fault::BadNumber)
+}
+
+/// The same, as it is handed to a call that takes a `u8`.
+#[tactic(auto, unfolding(crate::specs::Parsing::byte_at))]
+fn byte_at(text: &[u8]) -> Result<u8, Fault>
+    ensures { result ≡ byte_at text.now }
+{
+    let number = number_at(text)?;
+    Ok(byte_of(number))
+}
+
+/// The code of a hook that comes first.
+#[tactic(auto, unfolding(crate::specs::Parsing::code_at))]
+fn code_at(text: &[u8]) -> Result<u16, Fault>
+    ensures { result ≡ code_at text.now }
+{
+    code_of(first_word(text)).ok_or(Fault::BadNumber)
+}
+
+/// The hook that comes first.
+#[tactic(auto, unfolding(crate::specs::Parsing::hook_at))]
+fn hook_at(text: &[u8]) -> Result<Hook, Fault>
+    ensures { result ≡ hook_at text.now }
+{
+    Hook::of(first_word(text)).ok_or(Fault::BadWord)
+}
+
+/// `ro` or `rw`, which comes first.
+#[tactic(auto, unfolding(crate::specs::Parsing::read_only_at))]
+fn read_only_at(text: &[u8]) -> Result<bool, Fault>
+    ensures { result ≡ read_only_at text.now }
+{
+    read_only_of(first_word(text)).ok_or(Fault::BadWord)
+}
+
+/// Whether a word asks for read-only, `ro`, or for writable, `rw`.
+#[tactic(auto, unfolding(crate::specs::Parsing::read_only_of))]
+fn read_only_of(word: &[u8]) -> Option<bool>
+    ensures { result ≡ read_only_of word.now }
+{
+    if word == b"ro".as_slice() {
+        Some(true)
+    } else if word == b"rw".as_slice() {
+        Some(false)
+    } else {
+        None
+    }
+}

@@ -1,0 +1,54 @@
+//! Words of a line. They are separated by one space, so two spaces have an empty word between them.
+
+ghost use Rattle.std.specs.Prelude.{◌≡◌, ◌≤◌, length};
+ghost use Rattle.std.specs.List.{position, position_or_len};
+ghost use Rattle.schedule_text.specs.Words.{is_space, first_word, after_word, word_count};
+
+const SPACE: u8 = b' ';
+
+/// How many words a line has.
+#[tactic(auto, unfolding(crate::specs::Words::word_count))]
+pub fn word_count(line: &[u8]) -> usize
+    ensures { result ≡ word_count line.now }
+{
+    1 + line.iter().filter(|byte| **byte == SPACE).count()
+}
+
+/// Where the first space is.
+fn first_space(text: &[u8]) -> Option<usize>
+    ensures { result ≡ position is_space text.now }
+{
+    text.iter().position(|byte| *byte == SPACE)
+}
+
+/// Where the first word ends.
+fn word_end(text: &[u8]) -> usize
+    ensures end { result ≡ position_or_len is_space text.now }
+    ensures within { result ≤ length text.now }
+{
+    match first_space(text) {
+        Some(end) => end,
+        None => text.len(),
+    }
+}
+
+/// The first word: all bytes before the first space.
+#[tactic(auto, unfolding(crate::specs::Words::first_word))]
+pub fn first_word(text: &[u8]) -> &[u8]
+    ensures { result.now ≡ first_word text.now }
+{
+    &text[..word_end(text)]
+}
+
+/// What follows the space after the first word; nothing, where it is the only one.
+#[tactic(auto, unfolding(crate::specs::Words::after_word))]
+pub fn after_word(text: &[u8]) -> &[u8]
+    ensures { result.now ≡ after_word text.now }
+{
+    let end = word_end(text);
+    if end < text.len() {
+        &text[end + 1..]
+    } else {
+        &text[end..]
+    }
+}
