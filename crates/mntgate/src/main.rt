@@ -2,6 +2,7 @@
 #![tactic(auto)]
 
 mod input;
+mod printing;
 mod replay;
 mod session;
 mod writing;
