@@ -80,15 +80,11 @@ impl<R: Read + Drop> Input<R> {
 
     /// Reads more, and says how many bytes came: none at the end of the input, or where the block is full.
     pub(crate) fn read(&mut self) -> Result<usize, Fault>
-        ensures grows {
-            IfOk result (ReadsOn (R.remaining self.old.reader) (R.remaining self.new.reader)
-                (slice_range self.old.bytes.items self.old.start self.old.end)
-                (slice_range self.new.bytes.items self.new.start self.new.end))
-        }
-        ensures end {
-            IfOk result (λ count. count ≡ 0 → self.old.end - self.old.start < vec_len self.old.bytes →
-                IsAtEnd (R.remaining self.new.reader))
-        }
+        ensures grows { IfOk result (ReadsOn (R.remaining self.old.reader) (R.remaining self.new.reader)
+            (slice_range self.old.bytes.items self.old.start self.old.end)
+            (slice_range self.new.bytes.items self.new.start self.new.end)) }
+        ensures end { IfOk result (λ count. count ≡ 0 → self.old.end - self.old.start < vec_len self.old.bytes →
+            IsAtEnd (R.remaining self.new.reader)) }
         ensures failed { IfErr result (λ fault. fault ≡ ReadFailed) }
     {
         self.make_room();
@@ -99,10 +95,8 @@ impl<R: Read + Drop> Input<R> {
 
     /// Moves the pending bytes to the start of the block.
     fn make_room(&mut self)
-        ensures pending {
-            slice_range self.new.bytes.items self.new.start self.new.end
-                ≡ slice_range self.old.bytes.items self.old.start self.old.end
-        }
+        ensures pending { slice_range self.new.bytes.items self.new.start self.new.end
+            ≡ slice_range self.old.bytes.items self.old.start self.old.end }
         ensures start { self.new.start ≡ 0 }
         ensures room { vec_len self.new.bytes ≡ vec_len self.old.bytes }
         ensures reader { self.new.reader ≡ self.old.reader }
@@ -117,13 +111,9 @@ impl<R: Read + Drop> Input<R> {
 fn read_behind<R: Read>(reader: &mut R, block: &mut [u8], end: usize) -> Result<usize, Fault>
     requires { end ≤ length block.old }
     ensures bound { IfOk result (λ count. end + count ≤ length block.new) }
-    ensures grows {
-        IfOk result (λ count. ReadsOn (R.remaining reader.old) (R.remaining reader.new) (take end block.old)
-            (take (end + count) block.new) count)
-    }
-    ensures end {
-        IfOk result (λ count. count ≡ 0 → end < length block.new → IsAtEnd (R.remaining reader.new))
-    }
+    ensures grows { IfOk result (λ count. ReadsOn (R.remaining reader.old) (R.remaining reader.new) (take end block.old)
+        (take (end + count) block.new) count) }
+    ensures end { IfOk result (λ count. count ≡ 0 → end < length block.new → IsAtEnd (R.remaining reader.new)) }
     ensures failed { IfErr result (λ fault. fault ≡ ReadFailed) }
 {
     match reader.read(&mut block[end..]) {

@@ -2,14 +2,13 @@
 
 ghost use Rattle.std.specs.Prelude.{◌≡◌, ◌≤◌, IfOk};
 
+use crate::printing::{print_ended, print_step};
 use access_model::{GateError, Model};
 use cpu_words::WordName;
 use gate_core::{Core, Progress, Step};
 use gate_world::{Config, Op};
 use schedule_text::{Fault, Line, Output, TaskCommand};
 use std::alloc::{AllocError, Global};
-
-use crate::printing::{print_ended, print_step};
 
 /// How many events a line `run` does at most.
 pub(crate) const EVENTS: u16 = 1_000;
@@ -39,8 +38,9 @@ impl Session {
     pub(crate) fn new(alloc: Global, config: Config) -> Result<Session, Fault> {
         let core = Core::new(alloc, config).map_err(Fault::Refused)?;
         let (tasks, mounts, nodes) = (config.tasks, config.mounts, config.nodes);
-        let model =
-            Model::new(alloc, tasks, mounts, nodes, config.capacity).map_err(Fault::Refused)?;
+        let model = Model::new(alloc, tasks, mounts, nodes, config.capacity).map_err(
+            Fault::Refused,
+        )?;
         Ok(Session {
             config,
             core,
