@@ -1,7 +1,8 @@
 //! Each event of a phase as one atomic step, and numbers that go from seat to seat.
 
-ghost use Rattle.std.specs.Prelude.{◌≡◌, ◌*◌, [], ◌++◌};
+ghost use Rattle.std.specs.Prelude.{◌≡◌, ◌*◌, ◌<◌, [], ◌++◌};
 ghost use Rattle.cpu_words.specs.Names.{place};
+ghost use Rattle.gate_world.specs.Work.{next_of};
 ghost use Rattle.gate_steps.specs.Rules.{table_length};
 ghost use Rattle.gate_steps.specs.Seating.{Acts, IsMove, items_after, Spares, kept_of, given_of};
 
@@ -31,6 +32,7 @@ fn event_of<J: Moment>(
     requires hook { hook ≡ J.hook }
     requires table { seat.old.table_id ≡ shared.now.table_id }
     requires words { shared.now.table_id.words ≡ table_length }
+    requires inside { place (next_of phase hook).0 < 915 }
     requires acts { Acts shared.now.key begins phase seat.old.me.0 }
     ensures table { seat.new.table_id ≡ seat.old.table_id }
     ensures id { seat.new.id ≡ seat.old.id }
@@ -68,6 +70,7 @@ pub fn event(
 ) -> u64
     requires table { seat.old.table_id ≡ shared.now.table_id }
     requires words { shared.now.table_id.words ≡ table_length }
+    requires inside { place (next_of phase hook).0 < 915 }
     requires acts { Acts shared.now.key begins phase seat.old.me.0 }
     ensures table { seat.new.table_id ≡ seat.old.table_id }
     ensures id { seat.new.id ≡ seat.old.id }
