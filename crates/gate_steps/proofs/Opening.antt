@@ -1,5 +1,5 @@
 -- The table as it begins: the words of an opening, and one seat with all numbers.
-use Rattle.std.proofs.Common.{◌≡◌, ℕ, zero, suc, ◌+◌, ◌*◌, ◌<◌, ◌≤◌, eqb, List, [], ◌∷◌, get_or, set, replicate, length-set, get_or-set_same, get_or-set_other, sym, refl, ap, ◌∙◌, subst, inl, inr, arith}
+use Rattle.std.proofs.Common.{◌≡◌, ℕ, zero, suc, ◌+◌, ◌*◌, ◌<◌, ◌≤◌, eqb, List, [], ◌∷◌, get_or, set, length, replicate, length-set, get_or-set_same, get_or-set_other, sym, refl, ap, ◌∙◌, subst, inl, inr, arith}
 use Rattle.std.specs.Prelude.{slice_index}
 use Rattle.std.proofs.lemmas.Bool.Decides.{eqb_tells}
 use Rattle.std.proofs.lemmas.List.{length-replicate}
@@ -24,19 +24,22 @@ use Rattle.gate_steps.specs.Rules.{table_length, TableShows, Held, first_items}
 use Rattle.gate_steps.specs.Tables.{AreOpening}
 use Rattle.gate_steps.proofs.Dealing.{one_if-same, one_if-other}
 
-zeros-at : (n i : ℕ) → get_or (replicate n 0) i 0 ≡ 0
+abbrev zeros : ℕ → List ℕ
+zeros n = replicate n 0
+
+zeros-at : (n i : ℕ) → get_or (zeros n) i 0 ≡ 0
 zeros-at zero i = refl
 zeros-at (suc n) zero = refl
 zeros-at (suc n) (suc i) = zeros-at n i
 
 -- zeros, with the root's word written
-pub opening_from : (n i : ℕ) (ws : List ℕ) → n ≡ table_length → i ≡ 1328 → ws ≡ replicate n 0 → AreOpening (set ws i 2)
+pub opening_from : (n i : ℕ) (ws : List ℕ) → n ≡ table_length → i ≡ 1328 → ws ≡ zeros n → AreOpening (set ws i 2)
 opening_from n i ws en ei ew =
-    let long : Rattle.std.proofs.Common.length (replicate n 0) ≡ n = length-replicate n 0 in
-    let same : AreOpening (set (replicate n 0) 1328 2) = record {
-      long = length-set (replicate n 0) 1328 2 ∙ (long ∙ en);
-      root = get_or-set_same (replicate n 0) 1328 2 0 (omega arith);
-      zeros = λ k ne. get_or-set_other (replicate n 0) 1328 k 2 0 ne ∙ zeros-at n k;
+    let long : length (zeros n) ≡ n = length-replicate n 0 in
+    let same : AreOpening (set (zeros n) 1328 2) = record {
+      long = length-set (zeros n) 1328 2 ∙ (long ∙ en);
+      root = get_or-set_same (zeros n) 1328 2 0 (omega arith);
+      zeros = λ k ne. get_or-set_other (zeros n) 1328 k 2 0 ne ∙ zeros-at n k;
     } in
     subst (λ (z : List ℕ × ℕ). AreOpening (set z.0 z.1 2)) (λ j. (sym ew j, sym ei j)) same
 

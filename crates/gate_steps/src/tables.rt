@@ -1,6 +1,7 @@
 //! The table as it begins, and as it is closed.
 
-ghost use Rattle.std.specs.Prelude.{◌≡◌, [], IfOk};
+ghost use Rattle.std.specs.Prelude.{◌≡◌, ◌*◌, ◌<◌, [], IfOk, slice_index};
+ghost use Rattle.cpu_words.specs.Names.{place};
 ghost use Rattle.std.specs.Slots.{slots_items, slots_len, IsFull};
 ghost use Rattle.gate_world.specs.Configs.{IsWithin};
 ghost use Rattle.gate_steps.specs.Rules.{table_length, first_items};
@@ -47,4 +48,13 @@ pub fn close(table: GateTable, seat: Seat<(), Items>) -> Closed
     ensures closing { IsClosing table.shared.key (slots_items result.words) seat.me.0 }
 {
     table.close_with(seat)
+}
+
+/// A word of a closed table.
+pub fn word_of(closed: &Closed, name: WordName) -> u64
+    requires inside { 16 * place name < slots_len closed.now.words }
+    requires full { IsFull closed.now.words }
+    ensures { result ≡ slice_index (slots_items closed.now.words) (16 * place name) }
+{
+    closed.word(index_of(name))
 }
