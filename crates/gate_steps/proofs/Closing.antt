@@ -1,5 +1,5 @@
 -- The table as it is closed.
-use Rattle.std.proofs.Common.{◌≡◌, ℕ, List, subst}
+use Rattle.std.proofs.Common.{ℕ, List, subst}
 use Rattle.atomic_table.specs.Table.{Final, Seen}
 use Rattle.gate_world.specs.declared.config.Config.{Config}
 use Rattle.gate_steps.specs.Seating.{SeatItems}

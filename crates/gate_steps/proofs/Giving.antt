@@ -11,13 +11,13 @@ use Rattle.atomic_table.specs.Table.{Splits, Joins}
 use Rattle.atomic_table.proofs.Lists.{at_set, at_snoc, set_else}
 use Rattle.gate_world.specs.declared.config.Config.{Config}
 use Rattle.gate_world.specs.declared.views.View.{View}
-use Rattle.gate_world.specs.Worlds.{World, shown}
+use Rattle.gate_world.specs.Worlds.{World}
 use Rattle.gate_world.specs.Rules.{Good}
 use Rattle.gate_frames.proofs.Frames.{view_as, owner_same, shown_still}
 use Rattle.change_laws.proofs.Owner.{still}
 use Rattle.gate_steps.specs.declared.seating.Numbered.{Numbered}
 use Rattle.gate_steps.specs.Seating.{SeatItems, numbered, one_if, times, times_all, HaveViews, Dealt, without, view_in, renewed, kept_of, given_of, Spares}
-use Rattle.gate_steps.specs.Rules.{Ruled, HasHistory, Held}
+use Rattle.gate_steps.specs.Rules.{HasHistory}
 use Rattle.gate_steps.proofs.Dealing.{one_if-same, one_if-other, times-append, times_all-set, times_all-one, times_all-snoc, known, apart}
 use Rattle.gate_steps.proofs.Lifting.{holds}
 

@@ -1,14 +1,12 @@
 -- The laws of one event and of a beginning as what a step on the table asks.
 use Rattle.std.proofs.Common.{◌≡◌, ℕ, ◌*◌, ◌<◌, List, [], ◌∷◌, set, sym, refl, ap, ◌∙◌, subst, length-set, arith}
 use Rattle.std.specs.Prelude.{Option, Some, None, slice_index}
-use mathlib.Core.Option.{some}
-use lib.ListN.{get_elem?}
 use Rattle.finite_sums.specs.Sums.{changed}
 use Rattle.finite_sums.proofs.Totals.{changed_at, changed_off}
 use Rattle.atomic_table.specs.Table.{State, Me, keeps, Allows}
 use Rattle.access_model.specs.declared.actions.Action.{Action}
 use Rattle.access_model.specs.declared.replies.Next.{Next}
-use Rattle.access_model.specs.Histories.{Done, IsLegal, IsMerge}
+use Rattle.access_model.specs.Histories.{Done, IsMerge}
 use Rattle.access_model.specs.States.{State as Shown}
 use Rattle.cpu_words.specs.declared.names.WordName.{WordName}
 use Rattle.cpu_words.specs.declared.events.Touch.{Touch}
@@ -21,7 +19,7 @@ use Rattle.gate_world.specs.declared.config.Config.{Config}
 use Rattle.gate_world.specs.declared.operations.Op.{Op}
 use Rattle.gate_world.specs.declared.work.Phase.{Phase}
 use Rattle.gate_world.specs.declared.views.View.{View}
-use Rattle.gate_world.specs.Configs.{IsWithin, limits_of, extents_of}
+use Rattle.gate_world.specs.Configs.{IsWithin, extents_of}
 use Rattle.gate_world.specs.Work.{next_of, after_of}
 use Rattle.gate_world.specs.Views.{held_at, holds_level, begun_view, view_with, view_after}
 use Rattle.gate_world.specs.Worlds.{World, first_phase, view_refusal, words_after, value_at, found_at, stepped, phase_action, noted, shown}
@@ -31,9 +29,9 @@ use Rattle.schedule_laws.proofs.Schedule.{may_begin, phase_keeps, begun_keeps, l
 use Rattle.schedule_laws.proofs.Lists.{step_lists, begin_lists}
 use Rattle.gate_core.proofs.Phases.{word_there}
 use Rattle.gate_steps.specs.declared.seating.Numbered.{Numbered}
-use Rattle.gate_steps.specs.Seating.{SeatItems, numbered, HaveViews, MayDo, Acts, entered, world_entered, items_after, happened}
-use Rattle.gate_steps.specs.Rules.{table_length, TableShows, HasHistory, Held}
-use Rattle.gate_steps.proofs.Stride.{lies_inside, written}
+use Rattle.gate_steps.specs.Seating.{SeatItems, HaveViews, MayDo, Acts, entered, world_entered, items_after, happened}
+use Rattle.gate_steps.specs.Rules.{table_length, TableShows, Held}
+use Rattle.gate_steps.proofs.Stride.{written}
 use Rattle.gate_steps.proofs.Dealing.{times-at, known_here, redealt}
 
 abbrev pub Carried : Type 0
