@@ -1,37 +1,29 @@
 -- Each entry of a schedule keeps what is said of the causes of refusals.
-use Rattle.std.proofs.Common.{◌≡◌, ℕ, suc, ◌+◌, ◌<◌, Bool, true, false, refl, sym, ap, ◌∙◌, subst, inl, inr, arith, add-one, true≢false}
-use Rattle.std.specs.Prelude.{◌==◌, ◌||◌, not, nat_lt, is_some, if◌then◌else◌, Option, Some, None, Result, Ok, Err, List, [], ◌∷◌}
-use Rattle.std.proofs.lemmas.Bool.{eq-eqb, ne_eqb, ltb-true, ltb-false, cases_Bool}
+use Rattle.std.proofs.Common.{◌≡◌, ℕ, suc, ◌+◌, ◌<◌, Bool, true, false, refl, sym, ap, ◌∙◌, inl, inr, arith, add-one}
+use Rattle.std.specs.Prelude.{◌==◌, ◌||◌, not, nat_lt, Some, None, Ok, Err, List, [], ◌∷◌}
+use Rattle.std.proofs.lemmas.Bool.{eq-eqb, ne_eqb, ltb-false, cases_Bool}
 use Rattle.std.proofs.lemmas.Bool.Decides.{eqb_tells}
-use Rattle.finite_sums.specs.Sums.{changed, total}
-use Rattle.finite_sums.proofs.Totals.{changed_at, changed_off, total_none}
-use Rattle.access_model.specs.declared.errors.GateError.{GateError}
+use Rattle.finite_sums.proofs.Totals.{total_none}
 use Rattle.access_model.specs.declared.errors.GateError.TheVariants.{Again, Busy, ReadOnly}
-use Rattle.access_model.specs.declared.replies.Reply.{Reply}
 use Rattle.access_model.specs.declared.replies.Reply.TheVariants.{Unit as UnitReply}
 use Rattle.cpu_words.specs.declared.sums.Sum.{Sum}
-use Rattle.cpu_words.specs.declared.names.WordName.TheVariants.{MountCount}
 use Rattle.cpu_words.specs.Hooks.{HookAnswer}
 use Rattle.cpu_words.specs.Sums.{lead, ahead}
 use Rattle.cpu_words.specs.Touches.{wrap_add}
-use Rattle.cpu_words.specs.Words.{Words}
-use Rattle.mount_counts.specs.declared.phases.MountPhase.{MountPhase}
-use Rattle.mount_counts.specs.declared.phases.MountPhase.TheVariants.{Want as Wants, Drop as Drops, Change as Changes}
 use Rattle.mount_counts.specs.declared.phases.WantStep.{WantStep}
 use Rattle.mount_counts.specs.declared.phases.WantStep.TheVariants.{CountsUp, LoadsHold, LoadsRemount, LoadsReadOnly, LoadsSuperblock, CountsDown}
 use Rattle.mount_counts.specs.declared.phases.ChangeStep.{ChangeStep}
 use Rattle.mount_counts.specs.declared.phases.ChangeStep.TheVariants.{Locks, LoadsFlags, LoadsSuperblock as LoadsSb, ClearsReadOnly, SetsHold, Sums, SetsReadOnly, ClearsHold, Releases}
 use Rattle.mount_counts.specs.Phases.{has_flag, step_between}
-use Rattle.mount_counts.specs.Roles.{ro_bit, MountHolds}
+use Rattle.mount_counts.specs.Roles.{ro_bit}
 use Rattle.mount_laws.proofs.MountLaws.{ahead_step, ahead_past, read_only_set}
 use Rattle.gate_world.specs.declared.config.Config.{Config}
-use Rattle.gate_world.specs.declared.work.Phase.{Phase}
 use Rattle.gate_world.specs.declared.work.Phase.TheVariants.{Mounts}
-use Rattle.gate_world.specs.Views.{held_at, holds_level, phase_after}
+use Rattle.gate_world.specs.Views.{holds_level, phase_after}
 use Rattle.gate_world.specs.Fits.{SumFits}
 use Rattle.gate_world.specs.Work.{after_of}
-use Rattle.gate_world.specs.Worlds.{World, holds_none, shown, found_at}
-use Rattle.gate_world.specs.Rules.{at_mount, remounts, Good}
+use Rattle.gate_world.specs.Worlds.{World, holds_none, found_at}
+use Rattle.gate_world.specs.Rules.{remounts, Good}
 use Rattle.gate_world.specs.Causes.{asks, last_question, was_read_only, words_read, moments_of_sum, all_counted, was_counted}
 use Rattle.gate_frames.proofs.Loads.{fits_now, remounts_none}
 use Rattle.cause_laws.specs.Rules.{WantCause, ChangeCause, CauseOf}

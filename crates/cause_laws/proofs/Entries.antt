@@ -1,9 +1,8 @@
 -- Each entry, and so each schedule, keeps what is said of the causes of refusals.
-use Rattle.std.proofs.Common.{◌≡◌, ℕ, ◌<◌, Bool, true, false, refl, sym, ap, ◌∙◌, subst, inl, inr}
-use Rattle.std.specs.Prelude.{◌==◌, nat_lt, Option, Some, None, Result, Ok, Err, List, [], ◌∷◌}
+use Rattle.std.proofs.Common.{◌≡◌, ℕ, ◌<◌, Bool, refl, sym, ap, subst, inl, inr}
+use Rattle.std.specs.Prelude.{nat_lt, Option, Some, None, Err, List, [], ◌∷◌}
 use Rattle.std.proofs.lemmas.Bool.{ltb-true, cases_Bool}
 use Rattle.std.proofs.lemmas.Bool.Decides.{eqb_tells}
-use Rattle.finite_sums.specs.Sums.{changed}
 use Rattle.finite_sums.proofs.Totals.{changed_at, changed_off}
 use Rattle.access_model.specs.declared.errors.GateError.{GateError}
 use Rattle.access_model.specs.declared.errors.GateError.TheVariants.{Busy, ReadOnly}
@@ -12,8 +11,7 @@ use Rattle.cpu_words.specs.Hooks.{HookAnswer}
 use Rattle.cpu_words.specs.Words.{Words}
 use Rattle.mount_counts.specs.declared.phases.MountPhase.{MountPhase}
 use Rattle.mount_counts.specs.declared.phases.MountPhase.TheVariants.{Want as Wants, Drop as Drops, Change as Changes}
-use Rattle.mount_counts.specs.declared.phases.WantStep.{WantStep}
-use Rattle.mount_counts.specs.declared.phases.WantStep.TheVariants.{CountsUp, LoadsHold, LoadsRemount, LoadsReadOnly, LoadsSuperblock, CountsDown}
+use Rattle.mount_counts.specs.declared.phases.WantStep.TheVariants.{CountsDown}
 use Rattle.mount_counts.specs.declared.phases.ChangeStep.{ChangeStep}
 use Rattle.mount_counts.specs.declared.phases.ChangeStep.TheVariants.{Locks, LoadsFlags, LoadsSuperblock as LoadsSb, ClearsReadOnly, SetsHold, Sums, SetsReadOnly, ClearsHold, Releases}
 use Rattle.gate_world.specs.declared.config.Config.{Config}
@@ -25,12 +23,12 @@ use Rattle.gate_world.specs.declared.views.View.{View}
 use Rattle.gate_world.specs.Views.{held_at, holds_level, phase_after, begun_view, view_after}
 use Rattle.gate_world.specs.Fits.{Fits}
 use Rattle.gate_world.specs.Work.{after_of}
-use Rattle.gate_world.specs.Worlds.{World, Entry, Begins, Steps, first_phase, view_refusal, begun, begin_of, stepped, step_of, value_at, found_at, happens, run, opening}
+use Rattle.gate_world.specs.Worlds.{World, Entry, Begins, Steps, first_phase, view_refusal, begun, begin_of, stepped, step_of, value_at, found_at, happens, run}
 use Rattle.gate_world.specs.Rules.{Good}
 use Rattle.gate_world.specs.Causes.{trail, all_counted, HasCause}
 use Rattle.gate_frames.proofs.Frames.{load_same}
 use Rattle.cause_laws.specs.Rules.{WantCause, ChangeCause, CauseOf, Causes}
-use Rattle.cause_laws.proofs.Quiet.{want, change, quiet_event}
+use Rattle.cause_laws.proofs.Quiet.{change, quiet_event}
 use Rattle.cause_laws.proofs.Causes.{want_kept, change_kept, want_own, change_own}
 
 module _ (c : Config) (w : World) (earlier : List World) (good : Good c w) (holds : Causes c w earlier) where

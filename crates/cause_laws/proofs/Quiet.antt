@@ -1,15 +1,15 @@
 -- Where nothing is counted at a mount before and after another task's event, its count words are as they were.
-use Rattle.std.proofs.Common.{◌≡◌, ℕ, ◌+◌, ◌%◌, ◌<◌, ◌≤◌, Bool, true, false, refl, sym, ap, ◌∙◌, subst, inl, inr, arith, true≢false}
-use Rattle.std.specs.Prelude.{◌==◌, ◌||◌, nat_lt, Option, Some, None, List, [], ◌∷◌}
+use Rattle.std.proofs.Common.{◌≡◌, ℕ, ◌%◌, ◌<◌, ◌≤◌, Bool, false, refl, ap, ◌∙◌, inl, inr, arith, true≢false}
+use Rattle.std.specs.Prelude.{nat_lt, Some, List, ◌∷◌}
 use Rattle.std.proofs.lemmas.Bool.{ltb-false, cases_Bool}
 use Rattle.std.proofs.lemmas.Bool.Decides.{eqb_tells}
-use Rattle.finite_sums.specs.Sums.{changed, total}
-use Rattle.finite_sums.proofs.Totals.{changed_at, changed_off, total_at, total_same}
+use Rattle.finite_sums.specs.Sums.{total}
+use Rattle.finite_sums.proofs.Totals.{changed_at, changed_off, total_at}
 use Rattle.access_model.specs.declared.errors.GateError.{GateError}
 use Rattle.cpu_words.specs.declared.names.WordName.TheVariants.{MountCount}
 use Rattle.cpu_words.specs.Hooks.{HookAnswer}
 use Rattle.cpu_words.specs.Sums.{lead, ahead}
-use Rattle.cpu_words.specs.Words.{Words, read, put}
+use Rattle.cpu_words.specs.Words.{Words}
 use Rattle.mount_counts.specs.declared.phases.MountPhase.{MountPhase}
 use Rattle.mount_counts.specs.declared.phases.MountPhase.TheVariants.{Want as Wants, Drop as Drops, Change as Changes}
 use Rattle.mount_counts.specs.declared.phases.WantStep.{WantStep}
@@ -22,7 +22,7 @@ use Rattle.gate_world.specs.declared.config.Config.{Config}
 use Rattle.gate_world.specs.declared.work.Phase.TheVariants.{Mounts}
 use Rattle.gate_world.specs.declared.views.View.{View}
 use Rattle.gate_world.specs.Views.{held_at, view_after}
-use Rattle.gate_world.specs.Worlds.{World, stepped, value_at}
+use Rattle.gate_world.specs.Worlds.{World, stepped}
 use Rattle.gate_world.specs.Rules.{role_of, at_mount, Good}
 use Rattle.gate_world.specs.Causes.{all_counted, was_counted}
 use Rattle.gate_frames.proofs.Frames.{load_same, role_on}

@@ -1,5 +1,5 @@
 -- What is kept along a schedule about the causes of refusals.
-use Rattle.std.specs.Prelude.{◌≡◌, ℕ, ◌<◌, true, false, Option, Some, None, Result, Ok, Err, List, ◌∷◌}
+use Rattle.std.specs.Prelude.{◌≡◌, ℕ, ◌<◌, true, false, Option, Some, None, Result, Err, List, ◌∷◌}
 use Rattle.access_model.specs.declared.errors.GateError.{GateError}
 use Rattle.access_model.specs.declared.errors.GateError.TheVariants.{Busy, ReadOnly}
 use Rattle.access_model.specs.declared.replies.Reply.{Reply}

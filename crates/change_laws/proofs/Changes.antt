@@ -7,14 +7,13 @@ use Rattle.finite_sums.specs.Sums.{changed, total}
 use Rattle.finite_sums.proofs.Totals.{each_changed, total_at, total_none}
 use Rattle.access_model.specs.declared.actions.Action.TheVariants.{MountRo, MountRw}
 use Rattle.access_model.specs.declared.errors.GateError.{GateError}
-use Rattle.access_model.specs.declared.errors.GateError.TheVariants.{Again, Busy}
+use Rattle.access_model.specs.declared.errors.GateError.TheVariants.{Busy}
 use Rattle.access_model.specs.declared.replies.Next.{Next}
-use Rattle.access_model.specs.declared.replies.Next.TheVariants.{Go, Wait, Done}
+use Rattle.access_model.specs.declared.replies.Next.TheVariants.{Go, Done}
 use Rattle.access_model.specs.declared.replies.Reply.{Reply}
 use Rattle.access_model.specs.declared.replies.Reply.TheVariants.{Unit as UnitReply}
 use Rattle.cpu_words.specs.declared.names.WordName.TheVariants.{Umount, MountFlags, MountCount}
-use Rattle.cpu_words.specs.declared.events.Touch.{Touch}
-use Rattle.cpu_words.specs.declared.events.Touch.TheVariants.{Load, Or, And, Store, Cas}
+use Rattle.cpu_words.specs.declared.events.Touch.TheVariants.{Or, And, Store, Cas}
 use Rattle.cpu_words.specs.declared.events.Event.{Event}
 use Rattle.cpu_words.specs.declared.sums.Sum.{Sum}
 use Rattle.cpu_words.specs.Hooks.{HookAnswer}
@@ -22,7 +21,7 @@ use Rattle.cpu_words.specs.Touches.{wrap_add}
 use Rattle.mount_counts.specs.declared.phases.MountPhase.{MountPhase}
 use Rattle.mount_counts.specs.declared.phases.ChangeStep.{ChangeStep}
 use Rattle.mount_counts.specs.declared.phases.ChangeStep.TheVariants.{Locks, LoadsFlags, ClearsReadOnly, SetsHold, Sums, SetsReadOnly, ClearsHold, Releases}
-use Rattle.mount_counts.specs.Roles.{Out, Summing, Empty, Leaving, passed_hold, stands, skips, admitted, ro_bit, hold_bit, RoleHolds, MountHolds}
+use Rattle.mount_counts.specs.Roles.{Out, Summing, Empty, Leaving, passed_hold, stands, admitted, ro_bit, hold_bit, RoleHolds, MountHolds}
 use Rattle.mount_laws.proofs.MountLaws.{owner_moves, lead_begins, lead_goes, lead_ends, Quiet, quiet_out, quiet_sums, quiet_empty, quiet_leaves, or_hold, or_read_only, and_not_hold, and_not_read_only, flags_passed}
 use Rattle.gate_world.specs.declared.config.Config.{Config}
 use Rattle.gate_world.specs.declared.work.Phase.{Phase}

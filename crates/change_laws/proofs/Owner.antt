@@ -1,10 +1,10 @@
 -- Events of the owner of `umount`: what it may rely on, and its loads.
-use Rattle.std.proofs.Common.{◌≡◌, ℕ, suc, ◌+◌, ◌<◌, ◌≤◌, Bool, true, false, refl, sym, ap, ◌∙◌, subst, inl, inr, arith}
+use Rattle.std.proofs.Common.{◌≡◌, ℕ, suc, ◌+◌, ◌<◌, ◌≤◌, Bool, true, false, refl, sym, ap, ◌∙◌, inl, inr, arith}
 use Rattle.std.specs.Prelude.{◌==◌, not, Option, Some, None}
 use Rattle.std.proofs.lemmas.Bool.{cases_Bool}
 use Rattle.std.proofs.lemmas.Bool.Decides.{eqb_tells}
-use Rattle.finite_sums.specs.Sums.{changed, total}
-use Rattle.finite_sums.proofs.Totals.{changed_at, changed_off, total_none, total_at}
+use Rattle.finite_sums.specs.Sums.{changed}
+use Rattle.finite_sums.proofs.Totals.{changed_at, changed_off, total_none}
 use Rattle.access_model.specs.declared.replies.Next.{Next}
 use Rattle.access_model.specs.declared.replies.Next.TheVariants.{Go}
 use Rattle.cpu_words.specs.declared.names.WordName.{WordName}
@@ -18,7 +18,7 @@ use Rattle.mount_counts.specs.declared.phases.WantStep.{WantStep}
 use Rattle.mount_counts.specs.declared.phases.ChangeStep.{ChangeStep}
 use Rattle.mount_counts.specs.declared.phases.ChangeStep.TheVariants.{Locks, LoadsFlags, LoadsSuperblock as LoadsSb, ClearsReadOnly, SetsHold, Sums, SetsReadOnly, ClearsHold, Releases}
 use Rattle.mount_counts.specs.Phases.{has_flag, step_between}
-use Rattle.mount_counts.specs.Roles.{Role, Out, Asking, Cleared, PastRemount, PastFlags, BackingOff, Summing, Empty, Leaving, Skipped, stands, skips, hold_bit, MountHolds}
+use Rattle.mount_counts.specs.Roles.{Role, Out, stands, skips, hold_bit, MountHolds}
 use Rattle.gate_world.specs.declared.config.Config.{Config}
 use Rattle.gate_world.specs.declared.work.Phase.{Phase}
 use Rattle.gate_world.specs.declared.work.Phase.TheVariants.{Mounts}
@@ -26,9 +26,9 @@ use Rattle.gate_world.specs.declared.views.View.{View}
 use Rattle.gate_world.specs.Views.{held_at, holds_level, added_by, taken_by}
 use Rattle.gate_world.specs.Fits.{SumFits}
 use Rattle.gate_world.specs.Worlds.{World, holds_none, shown}
-use Rattle.gate_world.specs.Rules.{want_role, change_role, role_if, role_of, at_mount, change_owns, mount_owns, owns, remounts, OwnerHolds, ViewFits, Good, StepKeeps}
+use Rattle.gate_world.specs.Rules.{want_role, change_role, role_if, role_of, at_mount, change_owns, owns, remounts, OwnerHolds, ViewFits, Good, StepKeeps}
 use Rattle.gate_frames.proofs.Frames.{changed_same, view_as, holds_as, owner_same, good_after}
-use Rattle.gate_frames.proofs.Loads.{loaded, load_law, role_none, off_now, fits_now, remounts_none}
+use Rattle.gate_frames.proofs.Loads.{loaded, load_law, role_none, fits_now, remounts_none}
 
 abbrev pub change : ℕ → Bool → Bool → ℕ → ℕ → ChangeStep → MountPhase
 change m ro wait task processors step = Changes (record { mount = m; read_only = ro; wait = wait; task = task; processors = processors; step = step })

@@ -5,10 +5,10 @@ use Rattle.finite_sums.specs.Sums.{changed}
 use Rattle.access_model.specs.declared.replies.Next.{Next}
 use Rattle.cpu_words.specs.declared.names.WordName.{WordName}
 use Rattle.cpu_words.specs.declared.events.Touch.TheVariants.{Load}
-use Rattle.cpu_words.specs.Words.{Words, read, put}
+use Rattle.cpu_words.specs.Words.{read, put}
 use Rattle.cpu_words.specs.Hooks.{HookAnswer}
 use Rattle.mount_counts.specs.declared.phases.MountPhase.{MountPhase}
-use Rattle.mount_counts.specs.Roles.{Role, Out, MountView, sought, passed_hold, past_remount, past_flags, unread, stands, skips, MountHolds}
+use Rattle.mount_counts.specs.Roles.{Role, Out, sought, passed_hold, past_remount, past_flags, unread, stands, skips, MountHolds}
 use Rattle.gate_world.specs.declared.config.Config.{Config}
 use Rattle.gate_world.specs.declared.work.Phase.{Phase}
 use Rattle.gate_world.specs.declared.work.Phase.TheVariants.{Mounts}
@@ -16,7 +16,7 @@ use Rattle.gate_world.specs.declared.views.View.{View}
 use Rattle.gate_world.specs.Views.{held_at, holds_level, added_by, taken_by, phase_after, view_with}
 use Rattle.gate_world.specs.Fits.{Fits, MountFits}
 use Rattle.gate_world.specs.Worlds.{World, shown, closing}
-use Rattle.gate_world.specs.Rules.{role_if, mount_of, own_role, role_of, at_mount, owns, mount_owns, remounts, ViewFits, Good}
+use Rattle.gate_world.specs.Rules.{role_if, mount_of, own_role, role_of, at_mount, owns, mount_owns, remounts, Good}
 use Rattle.gate_frames.proofs.Frames.{load_same, added_load, taken_load, role_on, role_off, view_as, shown_still, owner_same, good_after}
 
 -- the numbers of a role that is known

@@ -6,7 +6,7 @@ use Rattle.std.proofs.lemmas.Bool.Decides.{eqb_tells, leb_tells, nat_tests}
 use Rattle.mount_counts.specs.Phases.{has_flag}
 use Rattle.finite_sums.specs.Sums.{changed, total}
 use Rattle.cpu_words.specs.Touches.{wrap_add, wrap_sub}
-use Rattle.cpu_words.specs.Sums.{ahead, lead}
+use Rattle.cpu_words.specs.Sums.{ahead}
 use Rattle.mount_counts.specs.Roles.{Role, Out, Asking, Cleared, PastRemount, PastFlags, BackingOff, Summing, Empty, Leaving, Skipped, MountView, sought, passed_hold, past_remount, past_flags, unread, stands, skips, counted, admitted, ro_bit, hold_bit, RoleHolds, CountsHold, MountHolds}
 use Rattle.finite_sums.proofs.Totals.{changed_at, changed_off, each_changed, total_same, total_changed, total_changed_by, total_le, total_bound, total_add, total_swap, total_at, total_none, residues}
 

@@ -1,19 +1,18 @@
 -- Every schedule keeps the rule, and its actions are one run of the access model.
-use Rattle.std.proofs.Common.{◌≡◌, ℕ, ◌+◌, ◌*◌, ◌%◌, ◌<◌, ◌≤◌, Bool, true, false, refl, sym, ap, ◌∙◌, subst, inl, inr, arith, true≢false}
-use Rattle.std.specs.Prelude.{◌==◌, nat_lt, ◌&&◌, ◌⊎◌, is_some, if◌then◌else◌, Option, Some, None, List, [], ◌∷◌}
+use Rattle.std.proofs.Common.{◌≡◌, ℕ, ◌*◌, ◌%◌, ◌<◌, ◌≤◌, Bool, true, false, refl, sym, ap, ◌∙◌, subst, inl, inr, arith, true≢false}
+use Rattle.std.specs.Prelude.{nat_lt, ◌&&◌, is_some, Option, Some, None, List, [], ◌∷◌}
 use Rattle.std.proofs.Math.Path.{fun_ext}
 use Rattle.std.proofs.lemmas.Bool.Decides.{eqb_tells}
-use Rattle.std.proofs.lemmas.Bool.{cases_Bool, ltb-true, eq-eqb, ne_eqb}
+use Rattle.std.proofs.lemmas.Bool.{cases_Bool, ltb-true}
 use Rattle.finite_sums.specs.Sums.{changed, total}
-use Rattle.finite_sums.proofs.Totals.{total_same, total_none, total_bound, each_changed}
+use Rattle.finite_sums.proofs.Totals.{total_same, total_none, total_bound}
 use Rattle.access_model.specs.declared.actions.Action.{Action}
 use Rattle.access_model.specs.declared.errors.GateError.{GateError}
 use Rattle.access_model.specs.declared.errors.GateError.TheVariants.{Invalid, Order, TooMany}
-use Rattle.access_model.specs.Histories.{Done, end_of, IsLegal, own_part}
+use Rattle.access_model.specs.Histories.{Done, end_of, IsLegal}
 use Rattle.access_model.specs.States.{State, opening_state}
 use Rattle.access_model.specs.Actions.{IsAllowed, after_action}
 use Rattle.cpu_words.specs.Hooks.{HookAnswer}
-use Rattle.mount_counts.specs.declared.phases.MountPhase.{MountPhase}
 use Rattle.mount_counts.specs.declared.phases.MountPhase.TheVariants.{Want as Wants, Drop as Drops, Change as Changes}
 use Rattle.mount_counts.specs.Roles.{Out, sought, counted, MountHolds}
 use Rattle.mount_laws.proofs.MountLaws.{gate_sum, counted_parts, unread_le}
@@ -24,11 +23,11 @@ use Rattle.gate_world.specs.declared.work.Phase.{Phase}
 use Rattle.gate_world.specs.declared.work.Phase.TheVariants.{Mounts}
 use Rattle.gate_world.specs.declared.views.View.{View}
 use Rattle.gate_world.specs.Configs.{IsWithin, limits_of}
-use Rattle.gate_world.specs.Views.{held_at, holds_level, actions_after, begun_view, view_after}
+use Rattle.gate_world.specs.Views.{held_at, holds_level, begun_view}
 use Rattle.gate_world.specs.Fits.{Fits}
-use Rattle.gate_world.specs.Worlds.{World, Entry, Begins, Steps, first_phase, is_in_range, is_in_order, is_within_room, holds_none, refusal, view_refusal, begin_refusal, begun, begin_of, step_of, happens, phase_action, action_of, task_of, noted, value_at, run, opening, history, shown}
-use Rattle.gate_world.specs.Rules.{role_if, mount_of, own_role, role_of, at_mount, owns, mount_owns, Good, Moves, StepKeeps}
-use Rattle.gate_world.specs.Headline.{world_after, actions_so_far, IsOneRun, SumsHold, IdleSumsHold}
+use Rattle.gate_world.specs.Worlds.{World, Entry, Begins, Steps, first_phase, is_in_range, is_in_order, is_within_room, view_refusal, begun, begin_of, step_of, happens, phase_action, action_of, task_of, noted, run, opening, history, shown}
+use Rattle.gate_world.specs.Rules.{role_of, at_mount, owns, Good, Moves, StepKeeps}
+use Rattle.gate_world.specs.Headline.{SumsHold, IdleSumsHold}
 use Rattle.gate_frames.proofs.Frames.{view_as, owner_same, shown_still}
 use Rattle.gate_frames.proofs.Loads.{role_none, closes_none, remounts_none}
 use Rattle.want_laws.proofs.Wants.{want_keeps}

@@ -1,13 +1,12 @@
 -- What holds of every schedule from the opening on.
-use Rattle.std.proofs.Common.{◌≡◌, ℕ, ◌<◌, refl, sym, subst}
+use Rattle.std.proofs.Common.{◌≡◌, ℕ, refl, sym, subst}
 use Rattle.std.specs.Prelude.{Option, Some, None, Err, List, []}
-use Rattle.access_model.specs.Histories.{end_of, IsLegal, IsMerge}
 use Rattle.access_model.specs.States.{State}
 use Rattle.access_model.specs.Laws.{NobodyHoldsClosed}
 use Rattle.access_model.proofs.Closed.{closed}
 use Rattle.gate_world.specs.declared.config.Config.{Config}
 use Rattle.gate_world.specs.Configs.{IsWithin, limits_of}
-use Rattle.gate_world.specs.Worlds.{World, Entry, happens, run, opening, history, shown}
+use Rattle.gate_world.specs.Worlds.{World, Entry, opening}
 use Rattle.gate_world.specs.Rules.{Good}
 use Rattle.gate_world.specs.Headline.{world_after, actions_so_far, MovesTheModel, IsOneRun, NobodyIsInside, SumsHold, IdleSumsHold, ViewTells, OperationsAreKept}
 use Rattle.gate_world.specs.Traces.{course_of, Tells, IsTraced}
@@ -21,10 +20,10 @@ use Rattle.access_model.specs.declared.replies.Next.{Next}
 use Rattle.access_model.specs.declared.replies.Next.TheVariants.{Done as Ended}
 use Rattle.trace_laws.proofs.Laws.{all_tell, all_short}
 use Rattle.trace_laws.proofs.Traced.{all_traced}
-use Rattle.gate_world.specs.Causes.{trail, HasCause, RefusalsHaveCauses}
+use Rattle.gate_world.specs.Causes.{HasCause, RefusalsHaveCauses}
 use Rattle.cause_laws.proofs.Entries.{TrailHolds, trail_holds, cause_tells}
 use Rattle.schedule_laws.proofs.Schedule.{opening_good, opening_shown, happens_keeps, run_keeps, gate_sums, idle_sums}
-use Rattle.schedule_laws.proofs.Lists.{lists, run_lists}
+use Rattle.schedule_laws.proofs.Lists.{run_lists}
 
 module _ (c : Config) (lim : IsWithin c) where
   pub whole_rule : (es : List Entry) → Good c (world_after c es)

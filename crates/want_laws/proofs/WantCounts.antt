@@ -1,9 +1,8 @@
 -- Events of a want or a drop on a count word.
 use Rattle.std.proofs.Common.{◌≡◌, ℕ, ◌+◌, ◌-◌, ◌<◌, ◌≤◌, Bool, refl, sym, ap, ◌∙◌, subst, arith}
-use Rattle.std.specs.Prelude.{Option, Some, None, Ok, Err}
+use Rattle.std.specs.Prelude.{Some, None, Ok, Err}
 use Rattle.finite_sums.specs.Sums.{changed}
 use Rattle.finite_sums.proofs.Totals.{changed_at, changed_off}
-use Rattle.access_model.specs.declared.actions.Action.{Action}
 use Rattle.access_model.specs.declared.actions.Action.TheVariants.{Return}
 use Rattle.access_model.specs.declared.actions.Gate.TheVariants.{Mount}
 use Rattle.access_model.specs.declared.errors.GateError.{GateError}
@@ -16,7 +15,7 @@ use Rattle.cpu_words.specs.Touches.{wrap_add, wrap_sub}
 use Rattle.cpu_words.specs.Words.{Words}
 use Rattle.mount_counts.specs.declared.phases.MountPhase.TheVariants.{Drop as Drops}
 use Rattle.mount_counts.specs.declared.phases.WantStep.TheVariants.{CountsUp, LoadsHold, CountsDown}
-use Rattle.mount_counts.specs.Roles.{Role, Out, Asking, BackingOff, sought, passed_hold, unread, stands, MountHolds}
+use Rattle.mount_counts.specs.Roles.{Role, Out, Asking, BackingOff, sought, passed_hold, unread, stands}
 use Rattle.mount_laws.proofs.MountLaws.{adds, takes, unread_le}
 use Rattle.gate_world.specs.declared.config.Config.{Config}
 use Rattle.gate_world.specs.declared.work.Phase.TheVariants.{Mounts}
@@ -24,7 +23,7 @@ use Rattle.gate_world.specs.declared.views.View.{View}
 use Rattle.gate_world.specs.Configs.{IsWithin}
 use Rattle.gate_world.specs.Views.{held_at, holds_level, added_by, taken_by, view_with}
 use Rattle.gate_world.specs.Fits.{Fits}
-use Rattle.gate_world.specs.Worlds.{World, shown}
+use Rattle.gate_world.specs.Worlds.{World}
 use Rattle.gate_world.specs.Rules.{role_of, at_mount, owns, Good, StepKeeps}
 use Rattle.gate_frames.proofs.Frames.{role_on, role_off, view_as, holds_as, owner_same, good_after, shown_as, shown_still}
 use Rattle.gate_frames.proofs.Loads.{Counts, counts, role_now, off_now, fits_now, closes_none, remounts_none}

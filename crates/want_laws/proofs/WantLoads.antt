@@ -1,6 +1,6 @@
 -- Loads of a want: for HOLD, and the three of the read-only question.
 use Rattle.std.proofs.Common.{◌≡◌, ℕ, ◌+◌, ◌<◌, ◌≤◌, Bool, true, false, refl, sym, ap, ◌∙◌, subst, inl, inr, arith}
-use Rattle.std.specs.Prelude.{◌==◌, ◌||◌, ◌⊎◌, Option, Some, None, Ok}
+use Rattle.std.specs.Prelude.{◌⊎◌, Some, Ok}
 use Rattle.std.proofs.lemmas.Bool.{ne_eqb, cases_Bool}
 use Rattle.std.proofs.lemmas.Bool.Decides.{eqb_tells}
 use Rattle.finite_sums.specs.Sums.{changed}
@@ -21,7 +21,7 @@ use Rattle.mount_counts.specs.declared.phases.MountPhase.TheVariants.{Want as Wa
 use Rattle.mount_counts.specs.declared.phases.WantStep.{WantStep}
 use Rattle.mount_counts.specs.declared.phases.WantStep.TheVariants.{LoadsHold, LoadsRemount, LoadsReadOnly, LoadsSuperblock, CountsDown}
 use Rattle.mount_counts.specs.Phases.{has_flag}
-use Rattle.mount_counts.specs.Roles.{Role, Out, PastFlags, BackingOff, sought, passed_hold, past_remount, past_flags, unread, stands, skips, ro_bit, hold_bit, MountHolds}
+use Rattle.mount_counts.specs.Roles.{Out, PastFlags, BackingOff, sought, passed_hold, past_remount, past_flags, unread, stands, skips, ro_bit, hold_bit, MountHolds}
 use Rattle.mount_laws.proofs.MountLaws.{moves, unread_le, hold_clear, read_only_clear}
 use Rattle.gate_world.specs.declared.config.Config.{Config}
 use Rattle.gate_world.specs.declared.work.Phase.{Phase}
