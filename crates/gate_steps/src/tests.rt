@@ -1,0 +1,40 @@
+//! One event on a table that is opened, dealt, joined and closed.
+
+use crate::steps::{event, give, take_back};
+use crate::tables::{close, open, word_of};
+use cpu_words::WordName;
+use gate_world::{Config, Op, Phase};
+use mount_counts::{MountPhase, Want, WantStep};
+use std::test::Fail;
+
+#[test]
+fn a_want_counts_up(rt: HostRuntime) -> Result<(), Fail> {
+    let config = Config {
+        tasks: 2,
+        processors: 1,
+        mounts: 1,
+        nodes: 2,
+        capacity: 8,
+    };
+    let (table, mut seat) = open(rt.alloc(), &config)?;
+    let other = give(&table.shared, &mut seat, 1);
+    let op = Op::Want {
+        mount: 0,
+        cpu: 0,
+        wait: false,
+    };
+    let phase = Phase::Mounts(MountPhase::Want(Want {
+        mount: 0,
+        cpu: 0,
+        wait: false,
+        step: WantStep::CountsUp,
+    }));
+    let found = event(&table.shared, &mut seat, Some(op), phase, Ok(()));
+    assert!(rt; found == 0);
+    take_back(&table.shared, &mut seat, other);
+    let closed = close(table, seat);
+    assert!(rt; word_of(&closed, WordName::MountCount(0, 0)) == 1);
+    assert!(rt; word_of(&closed, WordName::Node(0)) == 2);
+    closed.free();
+    Ok(())
+}
