@@ -27,7 +27,7 @@ part_there : (x t : ℕ) (a : Option Action) (earlier : List Done) → (x ≡ t 
 part_there x t None earlier ne = refl
 part_there x t (Some a) earlier ne = rw (ne_eqb t x (λ q. ne (sym q)))
 
-step_lists : (w : World) (earlier : List Done) (t : ℕ) (hook : HookAnswer) (p : Option Phase) → IsMerge (lists w) earlier →
+pub step_lists : (w : World) (earlier : List Done) (t : ℕ) (hook : HookAnswer) (p : Option Phase) → IsMerge (lists w) earlier →
     IsMerge (lists (step_of w t hook p)) (noted t (phase_action w hook p) earlier)
 step_lists w earlier t hook None m x = m x
 step_lists w earlier t hook (Some phase) m x =
@@ -35,7 +35,7 @@ step_lists w earlier t hook (Some phase) m x =
     (part_here t (phase_action w hook (Some phase)) earlier ∙ ap (actions_after (phase_action w hook (Some phase))) (m t))
     (λ ne. part_there x t (phase_action w hook (Some phase)) earlier ne ∙ m x)
 
-begin_lists : (c : Config) (w : World) (earlier : List Done) (t : ℕ) (op : Op) (r : Option GateError) → IsMerge (lists w) earlier → IsMerge (lists (begin_of c w t op r)) earlier
+pub begin_lists : (c : Config) (w : World) (earlier : List Done) (t : ℕ) (op : Op) (r : Option GateError) → IsMerge (lists w) earlier → IsMerge (lists (begin_of c w t op r)) earlier
 begin_lists c w earlier t op (Some refused) m x = m x
 begin_lists c w earlier t op None m x =
     each_changed (λ y (v : View). own_part y earlier ≡ v.actions) w.views t (begun_view (w.views t) op (first_phase c t op)) x (m t) (λ ne. m x)

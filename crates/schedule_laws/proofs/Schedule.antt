@@ -124,7 +124,7 @@ module _ (c : Config) (lim : IsWithin c) where
       ]
 
   -- a legal history that ends in a world's shown model, with one more entry
-  legal_more : (old new : State) (t : ℕ) (a : Option Action) (earlier : List Done) → Moves c old t a new → IsLegal (limits_of c) earlier → end_of earlier ≡ old →
+  pub legal_more : (old new : State) (t : ℕ) (a : Option Action) (earlier : List Done) → Moves c old t a new → IsLegal (limits_of c) earlier → end_of earlier ≡ old →
       IsLegal (limits_of c) (noted t a earlier) × (end_of (noted t a earlier) ≡ new)
   legal_more old new t None earlier m legal ends = (legal, ends ∙ sym m)
   legal_more old new t (Some a) earlier m legal ends = (
