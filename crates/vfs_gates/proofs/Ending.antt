@@ -1,0 +1,61 @@
+-- The words of gates that are closed.
+use Rattle.std.proofs.Common.{◌≡◌, ℕ, zero, suc, ◌*◌, ◌%◌, ◌<◌, ◌≤◌, List, refl, sym, ap, ◌∙◌, subst, arith}
+use Rattle.std.specs.Prelude.{None, slice_index}
+use Rattle.finite_sums.specs.Sums.{total}
+use Rattle.finite_sums.proofs.Totals.{total_same, total_none}
+use Rattle.cpu_words.specs.declared.names.WordName.TheVariants.{Umount, Remount, MountFlags, MountCount}
+use Rattle.cpu_words.specs.Names.{place}
+use Rattle.mount_counts.specs.Roles.{stands, hold_bit}
+use Rattle.gate_world.specs.declared.config.Config.{Config}
+use Rattle.gate_world.specs.Rules.{owns, remounts, role_of}
+use Rattle.schedule_laws.proofs.Schedule.{idle_sums}
+use Rattle.gate_steps.specs.Seating.{SeatItems, numbered, times, view_in}
+use Rattle.gate_steps.specs.Tables.{IsClosing}
+use Rattle.gate_steps.proofs.Giving.{view_in-at, view_in-is}
+use Rattle.vfs_gates.specs.Ties.{IsStill, AllRest}
+use Rattle.vfs_gates.specs.Ended.{Ended}
+use Rattle.vfs_gates.proofs.Parting.{rest-at}
+
+-- all numbers are back in a seat whose views rest: so each number rests
+pub ended : (c : Config) (items : SeatItems) (ws : List ℕ) → IsClosing c ws items → AllRest c items → ((n : ℕ) → n < c.tasks → 1 ≤ times n items) → Ended c ws
+ended c items ws closing rest all = record {
+  world = closing.world;
+  ruled = closing.ruled;
+  history = closing.history;
+  still = λ t lt. let there = view_in-at t items (all t lt) in
+      subst (IsStill c) (sym (view_in-is closing.world.views items t closing.mine (all t lt))) (rest-at c items there.0 (numbered t (view_in t items)) rest there.1);
+}
+
+module _ (c : Config) (ws : List ℕ) (e : Ended c ws) where
+  idle : (t : ℕ) → t < c.tasks → (e.world.views t).phase ≡ None
+  idle t lt = (e.still t lt).0
+
+  free : (u : ℕ) → u ≤ c.tasks → ((t : ℕ) → t < c.tasks → u ≡ suc t → owns (e.world.views t).phase ≡ 1) → u ≡ 0
+  free zero le owned = refl
+  free (suc t) le owned =
+      let lt : t < c.tasks = omega arith in
+      let o : owns (e.world.views t).phase ≡ 1 = owned t lt refl in
+      let z : owns (e.world.views t).phase ≡ 0 = ap owns (idle t lt) in
+      absurd (omega arith)
+
+  -- nobody has umount
+  pub umount_free : slice_index ws (16 * place Umount) ≡ 0
+  umount_free = e.ruled.words Umount tt ∙ free e.world.words.umount e.ruled.good.owner.known e.ruled.good.owner.owned
+
+  -- no remount is under way
+  pub no_remount : slice_index ws (16 * place Remount) ≡ 0
+  no_remount = e.ruled.words Remount tt ∙ (e.ruled.good.owner.remounting ∙ total_none c.tasks _ (λ t lt. ap remounts (idle t lt)))
+
+  -- no mount has HOLD set
+  pub no_hold : (m : ℕ) → m < c.mounts → slice_index ws (16 * place (MountFlags m)) < 2
+  no_hold m lm =
+      let h = (e.ruled.good.mount m lm).hold in
+      let z : hold_bit (e.world.words.flags m) ≡ 0 = sym h ∙ total_none c.tasks _ (λ t lt. ap (λ p. stands (role_of m p)) (idle t lt)) in
+      let w = e.ruled.words (MountFlags m) lm in
+      omega arith
+
+  -- the words of a mount sum to 0
+  pub sums_to_none : (m : ℕ) → m < c.mounts → total c.processors (λ p. slice_index ws (16 * place (MountCount m p))) % 18446744073709551616 ≡ 0
+  sums_to_none m lm =
+      ap (λ s. s % 18446744073709551616) (total_same c.processors _ (e.world.words.count m) (λ p lp. e.ruled.words (MountCount m p) (lm, lp))) ∙
+      (idle_sums c e.ruled.within e.world e.ruled.good idle m lm ∙ total_none c.tasks _ (λ t lt. (e.still t lt).1.0 m lm))

@@ -1,0 +1,123 @@
+-- What an event leaves of a task's fields and view.
+use Rattle.std.proofs.Common.{◌≡◌, ℕ, Bool, List, [], ◌∷◌, refl, sym, ap, ◌∙◌, subst}
+use Rattle.std.specs.Prelude.{Option, Some, None}
+use Rattle.access_model.specs.declared.actions.Action.{Action}
+use Rattle.access_model.specs.declared.replies.Next.{Next}
+use Rattle.cpu_words.specs.declared.names.WordName.{WordName}
+use Rattle.cpu_words.specs.declared.events.Touch.{Touch}
+use Rattle.cpu_words.specs.declared.events.Event.{Event}
+use Rattle.cpu_words.specs.Hooks.{HookAnswer}
+use Rattle.cpu_words.specs.Touches.{found_by, event_of}
+use Rattle.gate_world.specs.declared.config.Config.{Config}
+use Rattle.gate_world.specs.declared.operations.Op.{Op}
+use Rattle.gate_world.specs.declared.work.Phase.{Phase}
+use Rattle.gate_world.specs.declared.views.View.{View}
+use Rattle.gate_world.specs.Views.{held_at, holds_level, phase_after, view_after}
+use Rattle.gate_world.specs.Work.{next_of, after_of}
+use Rattle.gate_world.specs.Fits.{PhaseFits, Fits}
+use Rattle.gate_core.specs.declared.seats.Seat.{Seat}
+use Rattle.gate_core.specs.declared.seats.Accesses.{Accesses}
+use Rattle.gate_core.specs.declared.steps.Progress.{Progress}
+use Rattle.gate_core.specs.Memory.{mounts_in, levels_in}
+use Rattle.gate_core.specs.Answers.{progress_of}
+use Rattle.gate_core.specs.Seats.{accesses_after, ActionFits}
+use Rattle.gate_core.proofs.Phases.{mounts_by, levels_by, action_fits, fits_after, fits_agree}
+use Rattle.gate_core.proofs.Held.{mounts_of_after, levels_of_after, long_after, wide_after, mounts_same, levels_same}
+use Rattle.gate_steps.specs.declared.seating.Numbered.{Numbered}
+use Rattle.gate_steps.specs.Seating.{SeatItems, numbered, entered, items_after}
+use Rattle.vfs_gates.specs.Ties.{PhaseOk, OwnTies, Ties}
+
+phase_ok : (c : Config) (n : ℕ) (v : View) (o : Option Phase) → v.phase ≡ o → PhaseOk c None o (numbered n v)
+phase_ok c n v None e = (refl, e)
+phase_ok c n v (Some p) e = e
+
+-- a beginning leaves the accesses
+entered_actions : (v : View) (begins : Option Op) (phase : Phase) → (entered v begins phase).actions ≡ v.actions
+entered_actions v None phase = refl
+entered_actions v (Some op) phase = refl
+
+module _ (number : ℕ) (c : Config) (begins : Option Op) (kept : Seat) (flags : List Bool) (phase : Phase) (is : kept.phase ≡ Some phase) (hook : HookAnswer) (found : ℕ) where
+  abbrev done : Next Phase × Option Action
+  done = after_of phase (found_by (next_of phase hook).1 found) hook
+
+  abbrev kept_after : Seat
+  kept_after = record { phase = phase_after done.0; accesses = accesses_after kept.accesses done.1 }
+
+  module _ (x : Numbered) (xs : SeatItems) (ties : OwnTies number c begins kept flags x xs) where
+    abbrev v : View
+    v = entered x.view begins phase
+
+    abbrev seen : View
+    seen = view_after v phase found hook
+
+    fits_seen : PhaseFits c x.number (held_at x.view) (holds_level x.view) phase
+    fits_seen = subst (Fits c x.number (held_at x.view) (holds_level x.view)) is ties.fits
+
+    fits_kept : PhaseFits c x.number (mounts_in kept) (levels_in kept) phase
+    fits_kept =
+        fits_agree c x.number (held_at x.view) (mounts_in kept) (holds_level x.view) (levels_in kept) (λ m lt. sym (ties.keeps.mounts m lt)) (λ i one three. sym (ties.keeps.levels i one three))
+        (Some phase) fits_seen
+
+    acts_kept : ActionFits (mounts_in kept) done.1
+    acts_kept = action_fits c ties.within x.number (mounts_in kept) (levels_in kept) phase (found_by (next_of phase hook).1 found) hook fits_kept
+
+    held_seen : held_at seen ≡ mounts_by done.1 (held_at x.view)
+    held_seen = mounts_of_after done.1 v.actions ∙ ap (λ (l : List Action). mounts_by done.1 (held_at (record x.view { actions = l }))) (entered_actions x.view begins phase)
+
+    levels_seen : holds_level seen ≡ levels_by done.1 (holds_level x.view)
+    levels_seen = levels_of_after done.1 v.actions ∙ ap (λ (l : List Action). levels_by done.1 (holds_level (record x.view { actions = l }))) (entered_actions x.view begins phase)
+
+    ties_after : OwnTies number c None kept_after flags (numbered x.number seen) xs
+    ties_after = record {
+      within = ties.within;
+      same_number = ties.same_number;
+      below = ties.below;
+      may = phase_ok c x.number seen (phase_after done.0) refl;
+      fits =
+          subst (λ f. Fits c x.number f (holds_level seen) (phase_after done.0)) (sym held_seen)
+          (subst (λ f. Fits c x.number (mounts_by done.1 (held_at x.view)) f (phase_after done.0)) (sym levels_seen)
+          (fits_after c ties.within x.number (held_at x.view) (holds_level x.view) phase (found_by (next_of phase hook).1 found) hook fits_seen));
+      keeps = record {
+        long = long_after kept.accesses done.1 ∙ ties.keeps.long;
+        wide = wide_after kept.accesses done.1 ∙ ties.keeps.wide;
+        mounts = λ m lt. mounts_same kept.accesses ties.keeps.long ties.keeps.wide c.mounts (held_at x.view) done.1 acts_kept ties.keeps.mounts m lt ∙ ap (λ f. f m) (sym held_seen);
+        levels = λ i one three. levels_same kept.accesses ties.keeps.long ties.keeps.wide (holds_level x.view) done.1 acts_kept ties.keeps.levels i one three ∙ ap (λ f. f i) (sym levels_seen);
+      };
+      rest = ties.rest;
+      marks = ties.marks;
+    }
+
+  -- the fields that follow an event are what the seat knows after it
+  pub matches_after : (items : SeatItems) → Ties number c begins kept flags items → Ties number c None kept_after flags (items_after begins phase hook found items)
+  matches_after [] t = absurd t
+  matches_after (x ∷ xs) t = ties_after x xs t
+
+  pub acts_after : (items : SeatItems) → Ties number c begins kept flags items → ActionFits (mounts_in kept) done.1
+  acts_after [] t = absurd t
+  acts_after (x ∷ xs) t = acts_kept x xs t
+
+-- the same of the values that the code has
+module _ (number : ℕ) (c : Config) (begins : Option Op) (kept : Seat) (flags : List Bool) (phase : Phase) (is : kept.phase ≡ Some phase) (hook : HookAnswer) (items : SeatItems) (ties : Ties number c begins kept flags items)
+    (next : WordName × Touch) (next_is : next ≡ next_of phase hook) (found : ℕ) (event : Event) (event_is : event ≡ event_of next.0 next.1 found)
+    (done : Next Phase × Option Action) (done_is : done ≡ after_of phase event.found hook) where
+  pub same_event : event ≡ event_of (next_of phase hook).0 (next_of phase hook).1 found
+  same_event = event_is ∙ ap (λ (n : WordName × Touch). event_of n.0 n.1 found) next_is
+
+  pub same_done : done ≡ after_of phase (found_by (next_of phase hook).1 found) hook
+  same_done = done_is ∙ ap (λ (e : Event). after_of phase e.found hook) same_event
+
+  pub may_add : ActionFits (mounts_in kept) done.1
+  may_add = subst (λ (d : Next Phase × Option Action). ActionFits (mounts_in kept) d.1) (sym same_done) (acts_after number c begins kept flags phase is hook found items ties)
+
+  module _ (progress : Progress × Option Phase) (progress_is : progress ≡ (progress_of done.0, phase_after done.0)) (accesses : Accesses) (accesses_is : accesses ≡ accesses_after kept.accesses done.1)
+      (after : SeatItems) (after_is : after ≡ items_after begins phase hook found items) where
+    same_phase : progress.1 ≡ phase_after (after_of phase (found_by (next_of phase hook).1 found) hook).0
+    same_phase = ap (λ (p : Progress × Option Phase). p.1) progress_is ∙ ap (λ (d : Next Phase × Option Action). phase_after d.0) same_done
+
+    same_accesses : accesses ≡ accesses_after kept.accesses (after_of phase (found_by (next_of phase hook).1 found) hook).1
+    same_accesses = accesses_is ∙ ap (λ (d : Next Phase × Option Action). accesses_after kept.accesses d.1) same_done
+
+    pub ties_left : Ties number c None (record { phase = progress.1; accesses = accesses }) flags after
+    ties_left =
+        let P : Option Phase × Accesses × SeatItems → Type 0 = λ z. Ties number c None (record { phase = z.0; accesses = z.1 }) flags z.2 in
+        subst P (λ j. (sym same_phase j, sym same_accesses j, sym after_is j)) (matches_after number c begins kept flags phase is hook found items ties)

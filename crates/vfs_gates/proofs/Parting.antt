@@ -1,0 +1,181 @@
+-- A task's fields are what its seat knows, after a split and a join, and of the first task.
+use Rattle.std.proofs.Common.{◌≡◌, ℕ, zero, suc, ◌+◌, ◌<◌, ◌≤◌, ◌≢◌, ◌⊎◌, ◌↔◌, Bool, true, false, cond, eqb, List, [], ◌∷◌, ◌++◌, length, get_or, set, replicate, sym, refl, ap, ◌∙◌, subst, inl, inr, ⊎_elim, arith, eq-eqb, ne_eqb, get_or-set_same, get_or-set_other}
+use Rattle.std.specs.Prelude.{Option, None}
+use Rattle.std.proofs.lemmas.List.{get_or-replicate}
+use mathlib.Core.Logic.{dite}
+use mathlib.Core.Option.{some, some-injective, some-ne-none}
+use native.Mathlib.Decide.{ℕ_discrete, dec_lt}
+use lib.ListN.{get_elem?}
+use Rattle.gate_world.specs.declared.config.Config.{Config}
+use Rattle.gate_world.specs.declared.operations.Op.{Op}
+use Rattle.gate_world.specs.declared.views.View.{View}
+use Rattle.gate_world.specs.Configs.{IsWithin}
+use Rattle.gate_world.specs.Views.{opening_view}
+use Rattle.gate_core.specs.declared.seats.Seat.{Seat}
+use Rattle.gate_core.specs.Seats.{idle_seat}
+use Rattle.gate_steps.specs.declared.seating.Numbered.{Numbered}
+use Rattle.gate_steps.specs.Seating.{SeatItems, numbered, one_if, times, without, view_in, renewed, kept_of, given_of, deal}
+use Rattle.gate_steps.proofs.Dealing.{one_if-same, one_if-other, times-append}
+use Rattle.gate_steps.proofs.Giving.{view_in-at}
+use Rattle.gate_steps.proofs.Opening.{times-deal_below, times-deal_above, times-deal}
+use Rattle.vfs_gates.specs.Standing.{Empty, IsNothing, own_view}
+use Rattle.vfs_gates.specs.Ties.{PhaseOk, IsStill, AllRest, Keeps, OwnTies, Ties}
+use Rattle.vfs_gates.proofs.FlagSteps.{IsSet, false_true}
+
+times-without : (n : ℕ) (l : SeatItems) → times n (without n l) ≡ 0
+times-without n [] = refl
+times-without n (x ∷ xs) = dite (ℕ_discrete x.number n)
+    (λ yes. ap (λ b. times n (cond b (without n xs) (x ∷ without n xs))) (eq-eqb x.number n yes) ∙ times-without n xs)
+    (λ no. ap (λ b. times n (cond b (without n xs) (x ∷ without n xs))) (ne_eqb x.number n no) ∙ (let r = times-without n xs in omega (arith, one_if-other x.number n no)))
+
+times-without_other : (m n : ℕ) (l : SeatItems) → m ≢ n → times m (without n l) ≡ times m l
+times-without_other m n [] ne = refl
+times-without_other m n (x ∷ xs) ne =
+    let r = times-without_other m n xs ne in
+    dite (ℕ_discrete x.number n)
+    (λ yes. ap (λ b. times m (cond b (without n xs) (x ∷ without n xs))) (eq-eqb x.number n yes) ∙ (let z = one_if-other x.number m (λ q. ne (sym q ∙ yes)) in omega arith))
+    (λ no. ap (λ b. times m (cond b (without n xs) (x ∷ without n xs))) (ne_eqb x.number n no) ∙ ap (λ (k : ℕ). one_if (eqb x.number m) + k) r)
+
+idle_mount : (m : ℕ) → m < 8 → ◌≡◌ {A = ℕ} (get_or (replicate 8 0) m 0) 0
+idle_mount m lt = get_or-replicate 8 m 0 0 lt
+
+idle_level : (i : ℕ) → i ≤ 3 → get_or (replicate 4 false) i false ≡ false
+idle_level i le = get_or-replicate 4 i false false (omega arith)
+
+module _ (c : Config) where
+  pub rest-at : (l : SeatItems) (k : ℕ) (y : Numbered) → AllRest c l → get_elem? l k ≡ some y → IsStill c y.view
+  rest-at [] k y r e = absurd (some-ne-none y (sym e))
+  rest-at (x ∷ xs) zero y r e = subst (λ (z : Numbered). IsStill c z.view) (some-injective x y e) r.0
+  rest-at (x ∷ xs) (suc k) y r e = rest-at xs k y r.1 e
+
+  rest-without : (n : ℕ) (l : SeatItems) → AllRest c l → AllRest c (without n l)
+  rest-without n [] r = tt
+  rest-without n (x ∷ xs) r = let t = rest-without n xs r.1 in elim (eqb x.number n) as (λ b. AllRest c (cond b (without n xs) (x ∷ without n xs))) [ true ↦ t | false ↦ (r.0, t) ]
+
+  rest-append : (l m : SeatItems) → AllRest c l → AllRest c m → AllRest c (l ++ m)
+  rest-append [] m r s = s
+  rest-append (x ∷ xs) m r s = (r.0, rest-append xs m r.1 s)
+
+  rest-deal : (from k : ℕ) → AllRest c (deal from k)
+  rest-deal from zero = tt
+  rest-deal from (suc k) = ((refl, ((λ m lt. refl), (λ i one three. refl))), rest-deal (suc from) k)
+
+  -- a view that holds nothing has what an idle seat keeps
+  idle_keeps : (v : View) → Empty c v → c.mounts ≤ 8 → Keeps c idle_seat v
+  idle_keeps v e few = record {
+    long = refl;
+    wide = refl;
+    mounts = λ m lt. idle_mount m (omega arith) ∙ sym (e.0 m lt);
+    levels = λ i one three. idle_level i three ∙ sym (e.1 i one three);
+  }
+
+  still-own : (number : ℕ) (begins : Option Op) (kept : Seat) (flags : List Bool) (x : Numbered) (xs : SeatItems) → OwnTies number c begins kept flags x xs → kept.phase ≡ None → Empty c x.view → IsStill c x.view
+  still-own number begins kept flags x xs t idle e = let may : PhaseOk c begins None x = subst (λ o. PhaseOk c begins o x) idle t.may in (may.1, e)
+
+module _ (number : ℕ) (c : Config) (begins : Option Op) (kept : Seat) (flags : List Bool) where
+  pub split_self : (l : SeatItems) (n : ℕ) → Ties number c begins kept flags l → n < length flags → Ties number c begins kept (set flags n false) (kept_of n l)
+  split_self [] n t lt = absurd t
+  split_self (x ∷ xs) n t lt = record {
+    within = t.within;
+    same_number = t.same_number;
+    below = t.below;
+    may = t.may;
+    fits = t.fits;
+    keeps = t.keeps;
+    rest = rest-without c n xs t.rest;
+    marks = λ k. dite (ℕ_discrete k n)
+        (λ e. (
+          (λ s. false_true (sym (ap (λ j. get_or (set flags n false) j false) e ∙ get_or-set_same flags n false false lt) ∙ s)),
+          (λ h. let z : times k (without n xs) ≡ 0 = ap (λ j. times j (without n xs)) e ∙ times-without n xs in absurd (omega arith)),
+        ))
+        (λ ne. let same = get_or-set_other flags n k false false ne in let o = times-without_other k n xs ne in (
+          (λ s. let h = (t.marks k).0 (sym same ∙ s) in omega arith),
+          (λ h. same ∙ (t.marks k).1 (omega arith)),
+        ));
+  }
+
+  pub split_new : (l : SeatItems) (n : ℕ) (none : List Bool) (idle : Seat) → Ties number c begins kept flags l → IsSet flags n → n < 64 → ((k : ℕ) → get_or none k false ≡ false) → idle ≡ idle_seat →
+      Ties n c None idle none (given_of n l)
+  split_new [] n none idle t on lt off still = absurd t
+  split_new (x ∷ xs) n none idle t on lt off still =
+      let there = view_in-at n xs ((t.marks n).0 on) in
+      let r : IsStill c (view_in n xs) = rest-at c xs there.0 (numbered n (view_in n xs)) t.rest there.1 in
+      subst (λ (s : Seat). Ties n c None s none (given_of n (x ∷ xs))) (sym still) (record {
+        within = t.within;
+        same_number = refl;
+        below = lt;
+        may = (refl, r.0);
+        fits = tt;
+        keeps = idle_keeps c (renewed (view_in n xs)) r.1 t.within.mounts;
+        rest = tt;
+        marks = λ k. ((λ s. false_true (sym (off k) ∙ s)), (λ h. absurd (omega arith)));
+      })
+
+  pub below : (l : SeatItems) → Ties number c begins kept flags l → number < 64
+  below [] t = absurd t
+  below (x ∷ xs) t = t.below
+
+  -- nothing is kept just where nothing is held
+  pub holds_same : (l : SeatItems) → Ties number c begins kept flags l → IsNothing kept.accesses c.mounts ↔ Empty c (own_view l)
+  holds_same [] t = absurd t
+  holds_same (x ∷ xs) t = (
+    (λ h. ((λ m lt. sym (t.keeps.mounts m lt) ∙ h.0 m lt), (λ i one three. sym (t.keeps.levels i one three) ∙ h.1 i one three))),
+    (λ h. ((λ m lt. t.keeps.mounts m lt ∙ h.0 m lt), (λ i one three. t.keeps.levels i one three ∙ h.1 i one three))),
+  )
+
+  -- what a task that rests knows rests
+  pub all_rest : (l : SeatItems) → Ties number c begins kept flags l → kept.phase ≡ None → Empty c (own_view l) → AllRest c l
+  all_rest [] t idle e = absurd t
+  all_rest (x ∷ xs) t idle e = (still-own c number begins kept flags x xs t idle e, t.rest)
+
+  -- all numbers are there just where each other number is marked
+  pub all_marked : (l : SeatItems) → Ties number c begins kept flags l → ((k : ℕ) → k < c.tasks → (k ≡ number) ⊎ IsSet flags k) ↔ ((n : ℕ) → n < c.tasks → 1 ≤ times n l)
+  all_marked [] t = absurd t
+  all_marked (x ∷ xs) t = (
+    (λ h n lt. ⊎_elim (λ e. let here : one_if (eqb x.number n) ≡ 1 = ap (λ z. one_if (eqb z n)) (t.same_number ∙ sym e) ∙ one_if-same n in omega arith) (λ s. let m = (t.marks n).0 s in omega arith) (h n lt)),
+    (λ h k lt. dite (ℕ_discrete k number) (λ e. inl e) (λ ne. let other : one_if (eqb x.number k) ≡ 0 = one_if-other x.number k (λ e. ne (sym e ∙ t.same_number)) in let m = h k lt in inr ((t.marks k).1 (omega arith)))),
+  )
+
+  module _ (number' : ℕ) (begins' : Option Op) (kept' : Seat) (flags' all : List Bool) where
+    pub join_self : (l m : SeatItems) → Ties number c begins kept flags l → Ties number' c begins' kept' flags' m → kept'.phase ≡ None → Empty c (own_view m) →
+        ((k : ℕ) → IsSet all k ↔ (IsSet flags k ⊎ IsSet flags' k)) → number' < length all → Ties number c begins kept (set all number' true) (l ++ m)
+    join_self [] m p q idle none both lt = absurd p
+    join_self (x ∷ xs) [] p q idle none both lt = absurd q
+    join_self (x ∷ xs) (y ∷ ys) p q idle none both lt = record {
+      within = p.within;
+      same_number = p.same_number;
+      below = p.below;
+      may = p.may;
+      fits = p.fits;
+      keeps = p.keeps;
+      rest = rest-append c xs (y ∷ ys) p.rest (still-own c number' begins' kept' flags' y ys q idle none, q.rest);
+      marks = λ k. let t = times-append k xs (y ∷ ys) in dite (ℕ_discrete k number')
+          (λ e. let here : one_if (eqb y.number k) ≡ 1 = ap (λ j. one_if (eqb j k)) (q.same_number ∙ sym e) ∙ one_if-same k in (
+            (λ s. omega arith),
+            (λ h. ap (λ j. get_or (set all number' true) j false) e ∙ get_or-set_same all number' true false lt),
+          ))
+          (λ ne. let same = get_or-set_other all number' k true false ne in
+          let other : one_if (eqb y.number k) ≡ 0 = one_if-other y.number k (λ e. ne (sym e ∙ q.same_number)) in (
+            (λ s. ⊎_elim (λ f. let h = (p.marks k).0 f in omega arith) (λ f. let h = (q.marks k).0 f in omega arith) ((both k).0 (sym same ∙ s))),
+            (λ h. same ∙ (both k).1 (dite (ℕ_discrete (times k xs) 0) (λ z. inr ((q.marks k).1 (omega arith))) (λ nz. inl ((p.marks k).1 (omega arith))))),
+          ));
+    }
+
+-- the first task has all other numbers to give
+pub first_ties : (c : Config) (idle : Seat) (n : ℕ) (flags : List Bool) → IsWithin c → idle ≡ idle_seat → 1 ≤ n → n ≤ 64 → ((k : ℕ) → IsSet flags k ↔ ((0 < k) × (k < n))) → Ties 0 c None idle flags (deal 0 n)
+first_ties c idle zero flags within still some_there few set_are = absurd (omega arith)
+first_ties c idle (suc n) flags within still some_there few set_are = subst (λ (s : Seat). Ties 0 c None s flags (deal 0 (suc n))) (sym still) (record {
+  within = within;
+  same_number = refl;
+  below = omega arith;
+  may = (refl, refl);
+  fits = tt;
+  keeps = idle_keeps c opening_view ((λ m lt. refl), (λ i one three. refl)) within.mounts;
+  rest = rest-deal c 1 n;
+  marks = λ k. (
+    (λ s. let p = (set_are k).0 s in let a = p.0 in let b = p.1 in let t = times-deal k 1 n (omega arith) (omega arith) in omega arith),
+    (λ h. dite (dec_lt 0 k)
+        (λ lt. dite (dec_lt k (suc n)) (λ lt'. (set_are k).1 (lt, lt')) (λ ge. let t = times-deal_above k 1 n (omega arith) in absurd (omega arith)))
+        (λ ge. let t = times-deal_below k 1 n (omega arith) in absurd (omega arith))),
+  );
+})

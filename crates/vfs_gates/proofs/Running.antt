@@ -1,0 +1,254 @@
+-- An operation, event after event, from its beginning to its reply.
+use Rattle.std.proofs.Common.{◌≡◌, ℕ, ◌+◌, ◌-◌, ◌<◌, ◌≤◌, true, false, List, [], ◌∷◌, ◌++◌, length, refl, sym, ap, ◌∙◌, subst, arith}
+use Rattle.std.specs.Prelude.{Option, Some, None, Result, Ok, Err}
+use Rattle.access_model.specs.declared.actions.Action.{Action}
+use Rattle.access_model.specs.declared.errors.GateError.{GateError}
+use Rattle.access_model.specs.declared.replies.Next.{Next}
+use Rattle.access_model.specs.declared.replies.Next.TheVariants.{Go, Wait, Done}
+use Rattle.access_model.specs.declared.replies.Reply.{Reply}
+use Rattle.cpu_words.specs.Hooks.{HookAnswer}
+use Rattle.cpu_words.specs.Touches.{found_by, event_of}
+use Rattle.gate_world.specs.declared.config.Config.{Config}
+use Rattle.gate_world.specs.declared.operations.Op.{Op}
+use Rattle.gate_world.specs.declared.operations.Op.TheVariants.{Want, DropMount, ChangeMount}
+use Rattle.gate_world.specs.declared.work.Phase.{Phase}
+use Rattle.gate_world.specs.declared.views.Traced.{Traced}
+use Rattle.gate_world.specs.declared.views.View.{View}
+use Rattle.gate_world.specs.Configs.{IsWithin}
+use Rattle.gate_world.specs.Views.{phase_after, actions_after, view_after, traced}
+use Rattle.gate_world.specs.Work.{next_of, after_of}
+use Rattle.gate_world.specs.Worlds.{first_phase}
+use Rattle.gate_world.specs.Traces.{Course, course_with, course_after, course_of, IsEventOf, IsNext, IsTrace, Tells, most_events, IsShort}
+use Rattle.trace_laws.proofs.Laws.{all_tell, all_short}
+use Rattle.gate_core.specs.declared.steps.Progress.TheVariants.{Done as Ended}
+use Rattle.gate_core.specs.declared.steps.Step.{Step}
+use Rattle.gate_core.specs.Answers.{progress_of, unless_refused}
+use Rattle.gate_steps.specs.Seating.{SeatItems, numbered, entered, items_after, IsMove}
+use Rattle.vfs_gates.specs.Standing.{Standing, own_number, own_view, refusal_at}
+use Rattle.vfs_gates.specs.Stepped.{Stepped}
+use Rattle.vfs_gates.specs.Runs.{events_onto, ran_view, ran_items, waits, outcome_of, Called, Performs}
+
+-- the numbers of a task whose own number has begun the operation
+abbrev pub entered_items : Option Op → Option Phase → SeatItems → SeatItems
+entered_items begins None l = l
+entered_items begins (Some p) [] = []
+entered_items begins (Some p) (x ∷ xs) = numbered x.number (entered x.view begins p) ∷ xs
+
+not_entered : (o : Option Phase) (l : SeatItems) → entered_items None o l ≡ l
+not_entered None l = refl
+not_entered (Some p) [] = refl
+not_entered (Some p) (x ∷ xs) = refl
+
+after_entered : (begins : Option Op) (p : Phase) (h : HookAnswer) (found : ℕ) (l : SeatItems) → items_after None p h found (entered_items begins (Some p) l) ≡ items_after begins p h found l
+after_entered begins p h found [] = refl
+after_entered begins p h found (x ∷ xs) = refl
+
+next_is : (s : Next Phase) (p : Phase) (e : Traced) → phase_after s ≡ Some p → IsEventOf p e → IsNext s e
+next_is (Go q) p e is h = subst (λ r. IsEventOf r e) (let f : p ≡ q = cc in f) h
+next_is (Wait q) p e is h = subst (λ r. IsEventOf r e) (let f : p ≡ q = cc in f) h
+next_is (Done a) p e is h = absurd (let f : ⊥ = cc in f)
+
+course_is : (s : Next Phase) (p : Phase) (added : List Action) (e : Traced) → phase_after s ≡ Some p → course_after s added e ≡ course_with added (after_of p e.event.found e.hook)
+course_is (Go q) p added e is = ap (λ r. course_with added (after_of r e.event.found e.hook)) (let f : q ≡ p = cc in f)
+course_is (Wait q) p added e is = ap (λ r. course_with added (after_of r e.event.found e.hook)) (let f : q ≡ p = cc in f)
+course_is (Done a) p added e is = absurd (let f : ⊥ = cc in f)
+
+actions_append : (a : Option Action) (l m : List Action) → actions_after a (l ++ m) ≡ actions_after a l ++ m
+actions_append None l m = refl
+actions_append (Some a) l m = refl
+
+done_is : (x : Next Phase) (a : Result Reply GateError) → progress_of x ≡ Ended a → x ≡ Done a
+done_is (Go q) a e = absurd (let f : ⊥ = cc in f)
+done_is (Wait q) a e = absurd (let f : ⊥ = cc in f)
+done_is (Done b) a e = ap (λ r. Done r) (let f : b ≡ a = cc in f)
+
+goes_on : (x : Next Phase) → ((a : Result Reply GateError) → progress_of x ≡ Ended a → ⊥) → (q : Phase) × (phase_after x ≡ Some q)
+goes_on (Go q) not = (q, refl)
+goes_on (Wait q) not = (q, refl)
+goes_on (Done a) not = absurd (not a refl)
+
+-- an operation under way, after these events
+pub record Goes (op : Op) (start now : Standing) : Type 0 where
+  pub trace : List Traced
+  pub table : now.table ≡ start.table
+  pub config : now.config ≡ start.config
+  pub follows : IsTrace start.config (own_number start.items) op trace
+  pub phase : now.phase ≡ phase_after (course_of start.config (own_number start.items) op trace).stands
+  pub going : (q : Phase) × (now.phase ≡ Some q)
+  pub items : entered_items now.begins now.phase now.items ≡ ran_items start.config op trace start.items
+
+abbrev pub steps_of : Standing → ℕ
+steps_of now = length (own_view (entered_items now.begins now.phase now.items)).trace
+
+begun_items : (c : Config) (op : Op) (l : SeatItems) → entered_items (Some op) (Some (first_phase c (own_number l) op)) l ≡ ran_items c op [] l
+begun_items c op [] = refl
+begun_items c op (x ∷ xs) = refl
+
+-- as it begins
+pub starts : (op : Op) (start now : Standing) → now ≡ record start { begins = Some op; phase = Some (first_phase start.config (own_number start.items) op) } → Goes op start now
+starts op start now is = subst (Goes op start) (sym is) (record {
+  trace = [];
+  table = refl;
+  config = refl;
+  follows = tt;
+  phase = refl;
+  going = (first_phase start.config (own_number start.items) op, refl);
+  items = begun_items start.config op start.items;
+})
+
+module _ (op : Op) (start now left : Standing) (step : Step) (goes : Goes op start now) (stepped : (p : Phase) → now.phase ≡ Some p → Stepped p (Ok tt) now step left) where
+  abbrev h : HookAnswer
+  h = Ok tt
+
+  abbrev c : Config
+  c = start.config
+
+  abbrev n : ℕ
+  n = own_number start.items
+
+  abbrev p : Phase
+  p = goes.going.0
+
+  did : Stepped p h now step left
+  did = stepped p goes.going.1
+
+  abbrev found : ℕ
+  found = did.found
+
+  abbrev after : Next Phase × Option Action
+  after = after_of p (found_by (next_of p h).1 found) h
+
+  abbrev e : Traced
+  e = traced (event_of (next_of p h).0 (next_of p h).1 found) h
+
+  abbrev trace : List Traced
+  trace = e ∷ goes.trace
+
+  stands_there : phase_after (course_of c n op goes.trace).stands ≡ Some p
+  stands_there = sym goes.phase ∙ goes.going.1
+
+  follows_after : IsTrace c n op trace
+  follows_after = (next_is (course_of c n op goes.trace).stands p e stands_there (found, refl), goes.follows)
+
+  course_here : course_of c n op trace ≡ course_with (course_of c n op goes.trace).added after
+  course_here = course_is (course_of c n op goes.trace).stands p (course_of c n op goes.trace).added e stands_there
+
+  ran_more : (x : View) → view_after (ran_view c n op goes.trace x) p found h ≡ ran_view c n op trace x
+  ran_more x = λ i. record {
+    op = Some op;
+    phase = phase_after (sym course_here i).stands;
+    actions = (actions_append after.1 (course_of c n op goes.trace).added x.actions ∙ ap (λ (o : Course). o.added ++ x.actions) (sym course_here)) i;
+    events = events_onto trace x.events;
+    trace = trace;
+    snapshot = x.snapshot;
+  }
+
+  ran_all : (l : SeatItems) → own_number l ≡ n → items_after None p h found (ran_items c op goes.trace l) ≡ ran_items c op trace l
+  ran_all [] same = refl
+  ran_all (x ∷ xs) same =
+      subst (λ (k : ℕ). items_after None p h found (numbered x.number (ran_view c k op goes.trace x.view) ∷ xs) ≡ numbered x.number (ran_view c k op trace x.view) ∷ xs) (sym same)
+      (ap (λ (v : View). numbered x.number v ∷ xs) (ran_more x.view))
+
+  phase_then : left.phase ≡ phase_after (course_of c n op trace).stands
+  phase_then = ap (λ (s : Standing). s.phase) did.new ∙ ap (λ (o : Course). phase_after o.stands) (sym course_here)
+
+  items_then : left.items ≡ ran_items c op trace start.items
+  items_then =
+      ap (λ (s : Standing). s.items) did.new ∙
+      (sym (after_entered now.begins p h found now.items) ∙
+      (ap (λ (o : Option Phase). items_after None p h found (entered_items now.begins o now.items)) (sym goes.going.1) ∙
+      (ap (items_after None p h found) goes.items ∙ ran_all start.items refl)))
+
+  progress_then : step.progress ≡ progress_of after.0
+  progress_then = ap (λ (s : Step). s.progress) did.step
+
+  table_then : left.table ≡ start.table
+  table_then = ap (λ (s : Standing). s.table) did.new ∙ goes.table
+
+  config_then : left.config ≡ c
+  config_then = ap (λ (s : Standing). s.config) did.new ∙ goes.config
+
+  begins_then : left.begins ≡ None
+  begins_then = ap (λ (s : Standing). s.begins) did.new
+
+  pub goes_further : ((a : Result Reply GateError) → step.progress ≡ Ended a → ⊥) → Goes op start left
+  goes_further not = record {
+    trace = trace;
+    table = table_then;
+    config = config_then;
+    follows = follows_after;
+    phase = phase_then;
+    going =
+        let g = goes_on after.0 (λ a is. not a (progress_then ∙ is)) in
+        (g.0, ap (λ (s : Standing). s.phase) did.new ∙ g.1);
+    items = ap (λ b. entered_items b left.phase left.items) begins_then ∙ (not_entered left.phase left.items ∙ items_then);
+  }
+
+  pub ends_there : IsWithin c → (a : Result Reply GateError) → step.progress ≡ Ended a → (outcome : Result (Unit {0}) GateError) → outcome ≡ outcome_of a → Called op start left outcome
+  ends_there within a is outcome outcome_is =
+      let last : after.0 ≡ Done a = done_is after.0 a (sym progress_then ∙ is) in
+      let ends : (course_of c n op trace).stands ≡ Done a = ap (λ (o : Course). o.stands) course_here ∙ last in
+      let tells : Tells c op trace (Done a) (course_of c n op trace).added =
+      subst (λ s. Tells c op trace s (course_of c n op trace).added) ends (all_tell c within n op trace follows_after) in
+      let idle : left.phase ≡ None = phase_then ∙ ap (λ s. phase_after s) ends in
+      record {
+        trace = trace;
+        answer = a;
+        follows = follows_after;
+        ends = ends;
+        answers = outcome_is;
+        after = λ i. record { table = table_then i; config = config_then i; begins = begins_then i; phase = idle i; items = items_then i };
+        added = tells.0;
+        honest = tells.1;
+        short = all_short c within n op trace follows_after;
+      }
+
+  grown : (begins : Option Op) (o : Option Phase) (l : SeatItems) → o ≡ Some p → IsMove now.config begins p h l found → length (own_view (items_after begins p h found l)).trace ≡ length (own_view (entered_items begins o l)).trace + 1
+  grown begins o [] is moves = absurd moves
+  grown begins o (x ∷ xs) is moves = subst (λ q. length (own_view (items_after begins p h found (x ∷ xs))).trace ≡ length (own_view (entered_items begins q (x ∷ xs))).trace + 1) (sym is) (omega arith)
+
+  one_more : steps_of left ≡ steps_of now + 1
+  one_more =
+      ap (λ b. length (own_view (entered_items b left.phase left.items)).trace) begins_then ∙
+      (ap (λ l. length (own_view l).trace) (not_entered left.phase left.items ∙ ap (λ (s : Standing). s.items) did.new) ∙
+      grown now.begins now.phase now.items goes.going.1 did.moves)
+
+most : (c : Config) → IsWithin c → (op : Op) (trace : List Traced) → waits op ≡ false → IsShort (most_events c op) trace → length trace ≤ 71
+most c within (Want m q true) trace w s = absurd (let f : ⊥ = cc in f)
+most c within (Want m q false) trace w s = omega arith
+most c within (DropMount m q) trace w s = omega arith
+most c within (ChangeMount m r true) trace w s = absurd (let f : ⊥ = cc in f)
+most c within (ChangeMount m r false) trace w s = omega (arith, within.processors)
+
+own_trace : (c : Config) (op : Op) (trace : List Traced) (l : SeatItems) → length (own_view (ran_items c op trace l)).trace ≤ length trace
+own_trace c op trace [] = omega arith
+own_trace c op trace (x ∷ xs) = omega arith
+
+-- an operation that waits for nobody has few events
+pub few_steps : (op : Op) (start now : Standing) → IsWithin start.config → waits op ≡ false → Goes op start now → steps_of now ≤ 71
+few_steps op start now within tries goes =
+    let short = most start.config within op goes.trace tries (all_short start.config within (own_number start.items) op goes.trace goes.follows) in
+    let own = own_trace start.config op goes.trace start.items in
+    let same = ap (λ l. length (own_view l).trace) goes.items in
+    omega arith
+
+pub falls : (op : Op) (start now left : Standing) (step : Step) (goes : Goes op start now) (stepped : (p : Phase) → now.phase ≡ Some p → Stepped p (Ok tt) now step left) →
+    IsWithin start.config → waits op ≡ false → ((a : Result Reply GateError) → step.progress ≡ Ended a → ⊥) → 72 - steps_of left < 72 - steps_of now
+falls op start now left step goes stepped within tries not =
+    let few = few_steps op start left within tries (goes_further op start now left step goes stepped not) in
+    let more = one_more op start now left step goes stepped in
+    omega arith
+
+-- a beginning that is refused
+pub was_refused : (op : Op) (old left : Standing) (e : GateError) → Err e ≡ unless_refused (refusal_at op old) → left ≡ old → Performs op old left (Err e)
+was_refused op old left e is same = record {
+  refused = λ r at. (is ∙ ap unless_refused at, same);
+  done = λ at. absurd (let f : Err e ≡ unless_refused None = is ∙ ap unless_refused at in let g : ⊥ = cc in g);
+}
+
+-- and one that isn't
+pub was_done : (op : Op) (old left : Standing) (outcome : Result (Unit {0}) GateError) → Ok tt ≡ unless_refused (refusal_at op old) → Called op old left outcome → Performs op old left outcome
+was_done op old left outcome is called = record {
+  refused = λ r at. absurd (let f : ◌≡◌ {A = Result (Unit {0}) GateError} (Ok tt) (Err r) = is ∙ ap unless_refused at in let g : ⊥ = cc in g);
+  done = λ at. called;
+}

@@ -1,0 +1,5 @@
+use Rattle.std.proofs.Common.{◌≡◌, ◌<◌, ◌⊎◌, ℕ, true, false, get_or}
+use Rattle.vfs_gates.proofs.numbers.are_all.Given as goal
+
+abbrev pub invariant-loop-i : goal.invariant-loop-i
+invariant-loop-i l = (k : ℕ) → k < l.i → (k ≡ l.number) ⊎ (get_or l.numbers k false ≡ true)

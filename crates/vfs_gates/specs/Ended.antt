@@ -1,0 +1,25 @@
+-- What is known of the words once no thread shares them.
+use Rattle.std.specs.Prelude.{ℕ, ◌<◌, ◌≤◌, List}
+use Rattle.gate_world.specs.declared.config.Config.{Config}
+use Rattle.gate_world.specs.Worlds.{World}
+use Rattle.gate_steps.specs.Seating.{times}
+use Rattle.gate_steps.specs.Rules.{Ruled, HasHistory}
+use Rattle.vfs_gates.specs.Standing.{Standing, IsIdle, HoldsNothing}
+use Rattle.vfs_gates.specs.Ties.{IsStill}
+
+-- the task rests, and each number is its own or its to give
+abbrev pub HasAll : Standing → Type 0
+HasAll s = IsIdle s × HoldsNothing s × ((n : ℕ) → n < s.config.tasks → 1 ≤ times n s.items)
+
+-- what callers know of closed gates
+pub record Ending : Type 0 where
+  pub config : Config
+  pub words : List ℕ
+
+-- The words are those of a world that the rule holds of, with a legal history that ends in the model that it shows and of which each
+-- number's own list is its part. In that world every number is idle and holds nothing.
+pub record Ended (c : Config) (ws : List ℕ) : Type 0 where
+  pub world : World
+  pub ruled : Ruled c ws world
+  pub history : HasHistory c world
+  pub still : (t : ℕ) → t < c.tasks → IsStill c (world.views t)

@@ -1,0 +1,73 @@
+//! Numbers that go from task to task.
+
+ghost use Rattle.std.specs.Prelude.{◌≡◌, ◌++◌, IfOk, IfErr, Some, None};
+ghost use Rattle.access_model.specs.declared.errors.GateError.TheVariants.{Order};
+
+use crate::gates::Gates;
+use crate::numbers::{add_all, lowest, none};
+use crate::rooms::Rooms;
+use crate::task::{Task, idle};
+use access_model::GateError;
+use gate_steps::{give, take_back};
+use std::alloc::Global;
+
+impl Task {
+    ghost use Rattle.vfs_gates.specs.Standing.{IsFrom, IsIdle, HoldsNothing};
+    ghost use Rattle.vfs_gates.specs.Parts.{SplitOf, SplitRefused};
+
+    /// A task with the lowest number that this one has to give. The new one is idle, holds nothing, and has no number to give. Order
+    /// where an operation is under way, TooMany where no number is left, NoMemory where a growth was refused; then nothing is
+    /// changed.
+    pub fn split(&mut self, alloc: Global, gates: &Gates) -> Result<Task, GateError>
+        requires { IsFrom self.old gates.now }
+        ensures made { IfOk result (λ t. SplitOf self.old self.new t) }
+        ensures refused { IfErr result (λ e. (self.new ≡ self.old) × SplitRefused self.old e) }
+    {
+        if !self.is_idle() {
+            return Err(GateError::Order);
+        }
+        let Some(number) = lowest(&self.spare) else {
+            return Err(GateError::TooMany);
+        };
+        let Ok(rooms) = Rooms::new(alloc, self.config.nodes) else {
+            return Err(GateError::NoMemory);
+        };
+        let seat = give(&gates.table.shared, &mut self.seat, number);
+        self.spare[number as usize] = false;
+        Ok(Task {
+            number,
+            config: self.config,
+            begins: None,
+            kept: idle(),
+            spare: none(),
+            rooms,
+            seat,
+        })
+    }
+
+    /// Takes another task's numbers back, to give them again. Order, with the other given back as it was, unless both are idle and
+    /// hold nothing.
+    pub fn join(&mut self, gates: &Gates, other: Task) -> Result<(), (GateError, Task)>
+        requires this { IsFrom self.old gates.now }
+        requires that { IsFrom other gates.now }
+        ensures joined { IfOk result (λ _. IsIdle self.old × HoldsNothing self.old × IsIdle other × HoldsNothing other × (self.new ≡ record self.old { items = self.old.items ++ other.items })) }
+        ensures refused { IfErr result (λ e. (e.0 ≡ Order) × (e.1 ≡ other) × (self.new ≡ self.old) × ¬ (IsIdle self.old × HoldsNothing self.old × IsIdle other × HoldsNothing other)) }
+    {
+        if !self.rests() || !other.rests() {
+            return Err((GateError::Order, other));
+        }
+        let Task {
+            number,
+            config: _,
+            begins: _,
+            kept: _,
+            spare,
+            rooms: _,
+            seat,
+        } = other;
+        take_back(&gates.table.shared, &mut self.seat, seat);
+        add_all(&mut self.spare, &spare);
+        self.spare[number as usize] = true;
+        Ok(())
+    }
+}

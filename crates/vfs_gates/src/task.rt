@@ -1,0 +1,213 @@
+//! A task: the right to do the events of one number.
+
+ghost use Rattle.std.specs.Prelude.{◌≡◌, ◌≤◌, ◌<◌, ◌↔◌, IsTrue, Some, None, OnOk, OnErr, [], false};
+ghost use Rattle.gate_world.specs.Configs.{IsWithin};
+ghost use Rattle.gate_world.specs.declared.work.Phase.{Phase as PhaseType};
+ghost use Rattle.gate_core.specs.Seats.{idle_seat};
+ghost use Rattle.vfs_gates.specs.Standing.{IsNothing};
+ghost use Rattle.gate_steps.specs.Rules.{first_items};
+
+use crate::gates::Gates;
+use crate::numbers::{Numbers, are_all, others_of};
+use crate::rooms::Rooms;
+use access_model::GateError;
+use gate_core::seats::Seat as Kept;
+use gate_core::{Accesses, Progress, Step, first_phase};
+use gate_steps::{Items, event};
+use gate_world::{Config, Op};
+use std::marker::Model;
+
+/// The seat of a task at the table.
+pub(crate) type Seat = atomic_table::Seat<(), Items>;
+
+/// A task: a token that one thread owns at a time. It has a number of its own, with which it acts, and the numbers that it may
+/// still give to others. Contracts see its table, its configuration, the operation that it has begun until its first event, the
+/// phase at which it stands, and its numbers with their views, its own first.
+#[derive(Drop)]
+pub struct Task {
+    pub(crate) number: u8,
+    pub(crate) config: Config,
+    /// The operation that has begun, until its first event.
+    pub(crate) begins: Option<Op>,
+    pub(crate) kept: Kept,
+    /// The numbers that it has to give.
+    pub(crate) spare: Numbers,
+    pub(crate) rooms: Rooms,
+    pub(crate) seat: Seat,
+}
+
+impl Model for Task {
+    ghost use Rattle.std.specs.Prelude.{◌≡◌, []};
+    ghost use Rattle.vfs_gates.specs.Standing.{Standing, standing};
+    ghost use Rattle.vfs_gates.specs.Ties.{Ties};
+
+    ghost Value = { Standing };
+
+    ghost view = { λ t. standing t.seat.table_id t.config t.begins t.kept.phase t.seat.me.0 };
+
+    ghost invariant = { λ t. Ties t.number t.config t.begins t.kept t.spare t.seat.me.0 × (t.seat.me.1 ≡ []) };
+}
+
+impl Task {
+    ghost use Rattle.gate_core.specs.Answers.{idle_step, unless_refused};
+    ghost use Rattle.gate_world.specs.Worlds.{first_phase as the_first_phase};
+    ghost use Rattle.gate_world.specs.Views.{held_at, holds_level as has_level};
+    ghost use Rattle.vfs_gates.specs.Standing.{standing, IsFrom, own_number, own_view, refusal_at, IsIdle, HoldsNothing};
+    ghost use Rattle.vfs_gates.specs.Stepped.{Stepped};
+    ghost use Rattle.vfs_gates.specs.Ended.{HasAll};
+    ghost use Rattle.vfs_gates.specs.Ties.{AllRest};
+
+    pub(crate) fn first(config: Config, seat: Seat, rooms: Rooms) -> Task
+        requires within { IsWithin config }
+        requires seat { seat.me ≡ (first_items config, []) }
+        ensures { result ≡ standing seat.table_id config None None (first_items config) }
+    {
+        Task {
+            number: 0,
+            config,
+            begins: None,
+            kept: idle(),
+            spare: others_of(config.tasks),
+            rooms,
+            seat,
+        }
+    }
+
+    /// The task's own number.
+    pub fn number(&self) -> u8
+        ensures { result ≡ own_number self.now.items }
+    {
+        self.number
+    }
+
+    /// Whether no operation is under way.
+    pub fn is_idle(&self) -> bool
+        ensures { IsTrue result ↔ IsIdle self.now }
+    {
+        self.kept.phase.is_none()
+    }
+
+    /// How many accesses the task holds at a mount: 0 to 1,024, and 0 where there is no such mount.
+    pub fn holds_mount(&self, mount: u8) -> u16
+        ensures there { mount < self.now.config.mounts → result ≡ held_at (own_view self.now.items) mount }
+        ensures not_there { self.now.config.mounts ≤ mount → result ≡ 0 }
+    {
+        if mount < self.config.mounts {
+            self.kept.accesses.mounts[mount as usize]
+        } else {
+            0
+        }
+    }
+
+    /// Whether the task is inside a freeze level, 1 to 3.
+    pub fn holds_level(&self, level: u8) -> bool
+        ensures there { (1 ≤ level) × (level ≤ 3) → result ≡ has_level (own_view self.now.items) level }
+        ensures not_there { ¬ ((1 ≤ level) × (level ≤ 3)) → result ≡ false }
+    {
+        (1..=3).contains(&level) && self.kept.accesses.levels[level as usize]
+    }
+
+    /// Begins an operation; it has no event, and changes no word. Refused, and then nothing is changed: Order where an operation is
+    /// under way; Invalid where a number of the operation is out of range; Order where the task holds what the operation must not
+    /// find held, or doesn't hold what it gives back; TooMany where the task would get its 1,025th access at a mount.
+    pub fn begin(&mut self, op: Op) -> Result<(), GateError>
+        ensures answer { result ≡ unless_refused (refusal_at op self.old) }
+        ensures begun { OnOk result (self.new ≡ record self.old { begins = Some op; phase = Some (the_first_phase self.old.config (own_number self.old.items) op) }) }
+        ensures refused { OnErr result (self.new ≡ self.old) }
+    {
+        if let Some(refusal) = self.kept.refusal(self.config, op) {
+            return Err(refusal);
+        }
+        self.begins = Some(op);
+        self.kept.phase = Some(first_phase(self.config, self.number, op));
+        Ok(())
+    }
+
+    /// Does the next event of the operation that has begun, in one atomic step, where a hook of the file system answers this. An idle
+    /// task does nothing. What the event found decides how the operation stands, and the action that the event added.
+    pub fn step(&mut self, gates: &Gates, hook: Result<(), u16>) -> Step
+        requires { IsFrom self.old gates.now }
+        ensures idle { IsIdle self.old → (self.new ≡ self.old) × (result ≡ idle_step) }
+        ensures event { (phase : PhaseType) → self.old.phase ≡ Some phase → Stepped phase hook self.old result self.new }
+    {
+        let Some(phase) = self.kept.phase else {
+            return Step::idle();
+        };
+        let (word, touch) = phase.next(hook);
+        let found = event(
+            &gates.table.shared,
+            &mut self.seat,
+            self.begins,
+            phase,
+            hook,
+        );
+        let event = touch.event(word, found);
+        let (next, action) = phase.after(event.found, hook);
+        let (progress, phase) = Progress::of(next);
+        let accesses = self.kept.accesses.after(action);
+        self.begins = None;
+        self.kept = Kept { phase, accesses };
+        Step {
+            event: Some(event),
+            action,
+            progress,
+        }
+    }
+
+    /// Whether no operation is under way, and nothing is held.
+    pub(crate) fn rests(&self) -> bool
+        ensures { IsTrue result ↔ (IsIdle self.now × HoldsNothing self.now) }
+    {
+        self.is_idle() && holds_nothing(&self.kept.accesses, self.config.mounts)
+    }
+
+    /// Whether the task rests, and all other numbers are its to give.
+    pub(crate) fn has_all(&self) -> bool
+        ensures { IsTrue result ↔ HasAll self.now }
+    {
+        self.rests() && are_all(&self.spare, self.number, self.config.tasks)
+    }
+
+    pub(crate) fn into_seat(self) -> Seat
+        ensures table { result.table_id ≡ self.table }
+        ensures items { result.me.0 ≡ self.items }
+        ensures rested { IsIdle self × HoldsNothing self → AllRest self.config result.me.0 }
+    {
+        let Task {
+            number: _,
+            config: _,
+            begins: _,
+            kept: _,
+            spare: _,
+            rooms: _,
+            seat,
+        } = self;
+        seat
+    }
+}
+
+/// Whether there is no access at any of so many mounts, nor at a level.
+fn holds_nothing(accesses: &Accesses, mounts: u8) -> bool
+    requires { mounts ≤ 8 }
+    ensures { IsTrue result ↔ IsNothing accesses.now mounts }
+{
+    for mount in 0..mounts {
+        if accesses.mounts[mount as usize] != 0 {
+            return false;
+        }
+    }
+    !accesses.levels[1] && !accesses.levels[2] && !accesses.levels[3]
+}
+
+/// What is kept of a task that is idle and holds nothing.
+pub(crate) fn idle() -> Kept
+    ensures { result ≡ idle_seat }
+{
+    Kept {
+        phase: None,
+        accesses: Accesses {
+            mounts: [0; 8],
+            levels: [false; 4],
+        },
+    }
+}
