@@ -10,11 +10,12 @@ mod tests;
 mod writing;
 
 use anyhow::Result;
+use clap::error::ErrorKind;
 use clap::{Command, Error};
 use std::alloc::{AllocError, Global};
 use std::process::ExitCode;
 
-/// A schedule was refused, or could not be read or written.
+/// A schedule was refused, or could not be read or written, or there was no memory.
 const REFUSED: u8 = 1;
 
 /// The command line has a fault; asking for help is one.
@@ -51,8 +52,13 @@ fn run_replay(rt: &HostRuntime) -> Result<ExitCode> {
     }
 }
 
-/// Says what is wrong with the command line. Help is an answer to a fault too, so that it goes to standard error.
+/// Says what is wrong with the command line. Help is an answer to a fault too, so that it goes to standard error; that there
+/// was no memory to read the command line is none.
 fn misused(rt: &HostRuntime, error: &Error) -> Result<ExitCode> {
     eprint!(rt; "{error}")?;
-    Ok(ExitCode::from(MISUSED))
+    let status = match error.kind() {
+        ErrorKind::OutOfMemory => REFUSED,
+        _ => MISUSED,
+    };
+    Ok(ExitCode::from(status))
 }
