@@ -5,6 +5,7 @@ use Rattle.access_model.specs.declared.actions.Action.{Action}
 use Rattle.access_model.specs.declared.replies.Next.{Next}
 use Rattle.cpu_words.specs.declared.names.WordName.{WordName}
 use Rattle.cpu_words.specs.declared.events.Touch.{Touch}
+use Rattle.cpu_words.specs.declared.events.Touch.TheVariants.{Load, Store, Add, Sub, Or, And, Swap, Cas}
 use Rattle.cpu_words.specs.declared.events.Event.{Event}
 use Rattle.cpu_words.specs.Hooks.{HookAnswer}
 use Rattle.cpu_words.specs.Touches.{found_by, event_of}
@@ -14,17 +15,22 @@ use Rattle.gate_world.specs.declared.work.Phase.{Phase}
 use Rattle.gate_world.specs.declared.views.View.{View}
 use Rattle.gate_world.specs.Views.{held_at, holds_level, phase_after, view_after}
 use Rattle.gate_world.specs.Work.{next_of, after_of}
+use Rattle.gate_world.specs.Worlds.{World, value_at, found_at}
 use Rattle.gate_world.specs.Fits.{PhaseFits, Fits}
 use Rattle.gate_core.specs.declared.seats.Seat.{Seat}
 use Rattle.gate_core.specs.declared.seats.Accesses.{Accesses}
 use Rattle.gate_core.specs.declared.steps.Progress.{Progress}
 use Rattle.gate_core.specs.Memory.{mounts_in, levels_in}
-use Rattle.gate_core.specs.Answers.{progress_of}
+use Rattle.gate_core.specs.declared.steps.Step.{Step}
+use Rattle.gate_core.specs.Answers.{progress_of, phase_step}
 use Rattle.gate_core.specs.Seats.{accesses_after, ActionFits}
 use Rattle.gate_core.proofs.Phases.{mounts_by, levels_by, action_fits, fits_after, fits_agree}
 use Rattle.gate_core.proofs.Held.{mounts_of_after, levels_of_after, long_after, wide_after, mounts_same, levels_same}
 use Rattle.gate_steps.specs.declared.seating.Numbered.{Numbered}
-use Rattle.gate_steps.specs.Seating.{SeatItems, numbered, entered, items_after}
+use Rattle.gate_steps.specs.Seating.{SeatItems, numbered, entered, items_after, IsMove}
+use Rattle.atomic_table.specs.Seated.{TableId}
+use Rattle.vfs_gates.specs.Standing.{Standing, standing}
+use Rattle.vfs_gates.specs.Stepped.{found_step, standing_after, ToldIn, Stepped}
 use Rattle.vfs_gates.specs.Ties.{PhaseOk, OwnTies, Ties}
 
 phase_ok : (c : Config) (n : ℕ) (v : View) (o : Option Phase) → v.phase ≡ o → PhaseOk c None o (numbered n v)
@@ -96,6 +102,37 @@ module _ (number : ℕ) (c : Config) (begins : Option Op) (kept : Seat) (flags :
   acts_after [] t = absurd t
   acts_after (x ∷ xs) t = acts_kept x xs t
 
+-- what a touch found serves as the value that it finds
+serves : (name : WordName) (touch : Touch) (value : ℕ) → (event_of name touch (found_by touch value) ≡ event_of name touch value) × (found_by touch (found_by touch value) ≡ found_by touch value)
+serves name Load value = (refl, refl)
+serves name (Store new) value = (refl, refl)
+serves name (Add by) value = (refl, refl)
+serves name (Sub by) value = (refl, refl)
+serves name (Or bits) value = (refl, refl)
+serves name (And bits) value = (refl, refl)
+serves name (Swap new) value = (refl, refl)
+serves name (Cas expect put) value = (refl, refl)
+
+step_in : (w : World) (phase : Phase) (hook : HookAnswer) → found_step phase hook (found_at w.words phase hook) ≡ phase_step w hook (Some phase)
+step_in w phase hook =
+    let s = serves (next_of phase hook).0 (next_of phase hook).1 (value_at w.words phase hook) in
+    λ i. record {
+      event = Some (s.0 i);
+      action = (after_of phase (s.1 i) hook).1;
+      progress = progress_of (after_of phase (s.1 i) hook).0;
+    }
+
+told_in : (c : Config) (begins : Option Op) (phase : Phase) (hook : HookAnswer) (found : ℕ) (items : SeatItems) (move : IsMove c begins phase hook items found) (step : Step) → step ≡ found_step phase hook found →
+    ToldIn c begins phase hook found items move step
+told_in c begins phase hook found [] move step is = absurd move
+told_in c begins phase hook found (x ∷ xs) move step is = is ∙ (ap (found_step phase hook) move.found ∙ step_in move.world phase hook)
+
+-- the event of a step
+pub was_stepped : (phase : Phase) (hook : HookAnswer) (old : Standing) (done : Step) (left : Standing) (found : ℕ) → done ≡ found_step phase hook found → left ≡ standing_after old phase hook found →
+    IsMove old.config old.begins phase hook old.items found → Stepped phase hook old done left
+was_stepped phase hook old done left found step new moves =
+    record { found = found; step = step; new = new; moves = moves; told = told_in old.config old.begins phase hook found old.items moves done step }
+
 -- the same of the values that the code has
 module _ (number : ℕ) (c : Config) (begins : Option Op) (kept : Seat) (flags : List Bool) (phase : Phase) (is : kept.phase ≡ Some phase) (hook : HookAnswer) (items : SeatItems) (ties : Ties number c begins kept flags items)
     (next : WordName × Touch) (next_is : next ≡ next_of phase hook) (found : ℕ) (event : Event) (event_is : event ≡ event_of next.0 next.1 found)
@@ -121,3 +158,23 @@ module _ (number : ℕ) (c : Config) (begins : Option Op) (kept : Seat) (flags :
     ties_left =
         let P : Option Phase × Accesses × SeatItems → Type 0 = λ z. Ties number c None (record { phase = z.0; accesses = z.1 }) flags z.2 in
         subst P (λ j. (sym same_phase j, sym same_accesses j, sym after_is j)) (matches_after number c begins kept flags phase is hook found items ties)
+
+    pub step_is : ◌≡◌ {A = Step} (record { event = Some event; action = done.1; progress = progress.0 }) (found_step phase hook found)
+    step_is =
+        let told : progress.0 ≡ progress_of done.0 = ap (λ (p : Progress × Option Phase). p.0) progress_is in
+        λ i. record { event = Some (same_event i); action = (same_done i).1; progress = (told ∙ ap (λ (d : Next Phase × Option Action). progress_of d.0) same_done) i }
+
+    pub left_is : (table before : TableId) → table ≡ before → standing table c None progress.1 after ≡ standing_after (standing before c begins kept.phase items) phase hook found
+    left_is table before same = λ i. record { table = same i; config = c; begins = None; phase = same_phase i; items = after_is i }
+
+    -- the step that the code has done, where the seat's event was such a move
+    pub stepped_here : (table before : TableId) (now : Standing) → table ≡ before → standing before c begins kept.phase items ≡ now → IsMove c begins phase hook items found →
+        (p : Phase) → now.phase ≡ Some p → Stepped p hook now (record { event = Some event; action = done.1; progress = progress.0 }) (standing table c None progress.1 after)
+    stepped_here table before now same view moves p at =
+        let other : Some phase ≡ Some p = sym is ∙ (ap (λ (s : Standing). s.phase) view ∙ at) in
+        let same_p : phase ≡ p = cc in
+        let step : Step = record { event = Some event; action = done.1; progress = progress.0 } in
+        let left : Standing = standing table c None progress.1 after in
+        subst (λ (q : Phase). Stepped q hook now step left) same_p
+        (subst (λ (s : Standing). Stepped phase hook s step left) view
+        (was_stepped phase hook (standing before c begins kept.phase items) step left found step_is (left_is table before same) moves))

@@ -242,6 +242,8 @@ falls op start now left step goes stepped within tries not =
 -- a beginning that is refused
 pub was_refused : (op : Op) (old left : Standing) (e : GateError) → Err e ≡ unless_refused (refusal_at op old) → left ≡ old → Performs op old left (Err e)
 was_refused op old left e is same = record {
+  table = ap (λ (s : Standing). s.table) same;
+  config = ap (λ (s : Standing). s.config) same;
   refused = λ r at. (is ∙ ap unless_refused at, same);
   done = λ at. absurd (let f : Err e ≡ unless_refused None = is ∙ ap unless_refused at in let g : ⊥ = cc in g);
 }
@@ -249,6 +251,8 @@ was_refused op old left e is same = record {
 -- and one that isn't
 pub was_done : (op : Op) (old left : Standing) (outcome : Result (Unit {0}) GateError) → Ok tt ≡ unless_refused (refusal_at op old) → Called op old left outcome → Performs op old left outcome
 was_done op old left outcome is called = record {
+  table = ap (λ (s : Standing). s.table) called.after;
+  config = ap (λ (s : Standing). s.config) called.after;
   refused = λ r at. absurd (let f : ◌≡◌ {A = Result (Unit {0}) GateError} (Ok tt) (Err r) = is ∙ ap unless_refused at in let g : ⊥ = cc in g);
   done = λ at. called;
 }

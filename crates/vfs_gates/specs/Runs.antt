@@ -60,5 +60,7 @@ pub record Called (op : Op) (old left : Standing) (outcome : Result (Unit {0}) G
 
 -- an operation whose beginning is refused changes nothing, and any other is done whole
 pub record Performs (op : Op) (old left : Standing) (outcome : Result (Unit {0}) GateError) : Type 0 where
+  pub table : left.table ≡ old.table
+  pub config : left.config ≡ old.config
   pub refused : (refusal : GateError) → refusal_at op old ≡ Some refusal → (outcome ≡ Err refusal) × (left ≡ old)
   pub done : refusal_at op old ≡ None → Called op old left outcome

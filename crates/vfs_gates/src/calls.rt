@@ -46,14 +46,12 @@ impl Task {
         requires { IsFrom self.old gates.now }
         ensures { Performs (Want mount cpu false) self.old self.new result }
     {
-        self.perform(
-            gates,
-            Op::Want {
-                mount,
-                cpu,
-                wait: false,
-            },
-        )
+        let want = Op::Want {
+            mount,
+            cpu,
+            wait: false,
+        };
+        self.perform(gates, want)
     }
 
     /// `mnt_drop_write`: gives an access at a mount back, on any processor. It is never refused once it has begun: Order, where the
@@ -76,13 +74,11 @@ impl Task {
         requires { IsFrom self.old gates.now }
         ensures { Performs (ChangeMount mount read_only false) self.old self.new result }
     {
-        self.perform(
-            gates,
-            Op::ChangeMount {
-                mount,
-                read_only,
-                wait: false,
-            },
-        )
+        let change = Op::ChangeMount {
+            mount,
+            read_only,
+            wait: false,
+        };
+        self.perform(gates, change)
     }
 }

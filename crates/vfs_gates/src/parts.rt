@@ -20,6 +20,9 @@ impl Task {
     /// changed.
     pub fn split(&mut self, alloc: Global, gates: &Gates) -> Result<Task, GateError>
         requires { IsFrom self.old gates.now }
+        ensures table { self.new.table ≡ self.old.table }
+        ensures config { self.new.config ≡ self.old.config }
+        ensures from { IfOk result (λ t. IsFrom t gates.now) }
         ensures made { IfOk result (λ t. SplitOf self.old self.new t) }
         ensures refused { IfErr result (λ e. (self.new ≡ self.old) × SplitRefused self.old e) }
     {
@@ -50,6 +53,8 @@ impl Task {
     pub fn join(&mut self, gates: &Gates, other: Task) -> Result<(), (GateError, Task)>
         requires this { IsFrom self.old gates.now }
         requires that { IsFrom other gates.now }
+        ensures table { self.new.table ≡ self.old.table }
+        ensures config { self.new.config ≡ self.old.config }
         ensures joined { IfOk result (λ _. IsIdle self.old × HoldsNothing self.old × IsIdle other × HoldsNothing other × (self.new ≡ record self.old { items = self.old.items ++ other.items })) }
         ensures refused { IfErr result (λ e. (e.0 ≡ Order) × (e.1 ≡ other) × (self.new ≡ self.old) × ¬ (IsIdle self.old × HoldsNothing self.old × IsIdle other × HoldsNothing other)) }
     {

@@ -111,6 +111,8 @@ impl Task {
     /// under way; Invalid where a number of the operation is out of range; Order where the task holds what the operation must not
     /// find held, or doesn't hold what it gives back; TooMany where the task would get its 1,025th access at a mount.
     pub fn begin(&mut self, op: Op) -> Result<(), GateError>
+        ensures table { self.new.table ≡ self.old.table }
+        ensures config { self.new.config ≡ self.old.config }
         ensures answer { result ≡ unless_refused (refusal_at op self.old) }
         ensures begun { OnOk result (self.new ≡ record self.old { begins = Some op; phase = Some (the_first_phase self.old.config (own_number self.old.items) op) }) }
         ensures refused { OnErr result (self.new ≡ self.old) }
@@ -127,6 +129,8 @@ impl Task {
     /// task does nothing. What the event found decides how the operation stands, and the action that the event added.
     pub fn step(&mut self, gates: &Gates, hook: Result<(), u16>) -> Step
         requires { IsFrom self.old gates.now }
+        ensures table { self.new.table ≡ self.old.table }
+        ensures config { self.new.config ≡ self.old.config }
         ensures idle { IsIdle self.old → (self.new ≡ self.old) × (result ≡ idle_step) }
         ensures event { (phase : PhaseType) → self.old.phase ≡ Some phase → Stepped phase hook self.old result self.new }
     {

@@ -10,6 +10,7 @@ use gate_world::{Config, Op};
 use std::sync::Wait;
 use std::test::Fail;
 use std::thread;
+use std::thread::Threads;
 
 fn small(tasks: u8) -> Config {
     Config {
@@ -84,6 +85,23 @@ fn wants<R: Wait>(mut task: Task, rt: &R, gates: &Gates, cpu: u8, count: u16) ->
     (task, wrong)
 }
 
+/// Two tasks want, each in a thread and on a processor of its own.
+fn both_want<R: Threads + Wait + Sync>(
+    one: Task,
+    two: Task,
+    rt: &R,
+    gates: &Gates,
+) -> ((Task, u16), (Task, u16))
+    requires { IsFrom one gates.now × IsFrom two gates.now }
+    ensures { IsFrom result.0.0 gates.now × IsFrom result.1.0 gates.now }
+{
+    thread::join(
+        rt,
+        || wants(one, rt, gates, 0, 300),
+        || wants(two, rt, gates, 1, 300),
+    )
+}
+
 #[test]
 fn two_threads_want_and_drop(rt: HostRuntime) -> Result<(), Fail> {
     let (gates, mut task) = Gates::new(rt.alloc(), small(2))?;
@@ -115,13 +133,7 @@ fn a_change_keeps_its_own_thread_out(rt: HostRuntime) -> Result<(), Fail> {
     let ((mut task, wrong), ((one, bad), (two, worse))) = thread::join(
         &rt,
         || to_and_fro(task, &rt, &gates, 200),
-        || {
-            thread::join(
-                &rt,
-                || wants(one, &rt, &gates, 0, 300),
-                || wants(two, &rt, &gates, 1, 300),
-            )
-        },
+        || both_want(one, two, &rt, &gates),
     );
     assert_eq!(rt; (wrong, bad, worse), (0, 0, 0));
     assert!(rt; task.join(&gates, one).is_ok());

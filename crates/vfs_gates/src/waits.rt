@@ -53,12 +53,12 @@ impl Task {
         requires { IsFrom self.old gates.now }
         ensures { Performs (Want mount cpu true) self.old self.new result }
     {
-        let op = Op::Want {
+        let want = Op::Want {
             mount,
             cpu,
             wait: true,
         };
-        self.perform_waiting(rt, gates, op)
+        self.perform_waiting(rt, gates, want)
     }
 
     /// `mnt_make_readonly`, or its undoing. While another task has `umount` it waits. Busy where writers are counted at the mount.
@@ -73,11 +73,11 @@ impl Task {
         requires { IsFrom self.old gates.now }
         ensures { Performs (ChangeMount mount read_only true) self.old self.new result }
     {
-        let op = Op::ChangeMount {
+        let change = Op::ChangeMount {
             mount,
             read_only,
             wait: true,
         };
-        self.perform_waiting(rt, gates, op)
+        self.perform_waiting(rt, gates, change)
     }
 }

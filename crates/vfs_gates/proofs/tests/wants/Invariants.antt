@@ -1,0 +1,6 @@
+use Rattle.std.proofs.Common.{◌≤◌}
+use Rattle.vfs_gates.specs.Standing.{IsFrom}
+use Rattle.vfs_gates.proofs.tests.wants.Given as goal
+
+abbrev pub invariant-loop-round : goal.invariant-loop-round
+invariant-loop-round g l = IsFrom l.task l.gates × (l.wrong ≤ l._round)
