@@ -26,7 +26,7 @@ use Rattle.gate_core.specs.Answers.{progress_of, unless_refused}
 use Rattle.gate_steps.specs.Seating.{SeatItems, numbered, entered, items_after, IsMove}
 use Rattle.vfs_gates.specs.Standing.{Standing, own_number, own_view, refusal_at}
 use Rattle.vfs_gates.specs.Stepped.{Stepped}
-use Rattle.vfs_gates.specs.Runs.{events_onto, ran_view, ran_items, waits, outcome_of, Called, Performs}
+use Rattle.vfs_gates.specs.Runs.{events_onto, ran_view, ran_items, begins_at, items_at, IsMoveOf, IsNextMove, AreMoves, waits, outcome_of, Called, Performs}
 
 -- the numbers of a task whose own number has begun the operation
 abbrev pub entered_items : Option Op → Option Phase → SeatItems → SeatItems
@@ -47,6 +47,11 @@ next_is : (s : Next Phase) (p : Phase) (e : Traced) → phase_after s ≡ Some p
 next_is (Go q) p e is h = subst (λ r. IsEventOf r e) (let f : p ≡ q = cc in f) h
 next_is (Wait q) p e is h = subst (λ r. IsEventOf r e) (let f : p ≡ q = cc in f) h
 next_is (Done a) p e is h = absurd (let f : ⊥ = cc in f)
+
+move_is : (c : Config) (op : Op) (items : SeatItems) (earlier : List Traced) (e : Traced) (s : Next Phase) (p : Phase) → phase_after s ≡ Some p → IsMoveOf c op items earlier e p → IsNextMove c op items earlier e s
+move_is c op items earlier e (Go q) p is h = subst (IsMoveOf c op items earlier e) (let f : p ≡ q = cc in f) h
+move_is c op items earlier e (Wait q) p is h = subst (IsMoveOf c op items earlier e) (let f : p ≡ q = cc in f) h
+move_is c op items earlier e (Done a) p is h = absurd (let f : ⊥ = cc in f)
 
 course_is : (s : Next Phase) (p : Phase) (added : List Action) (e : Traced) → phase_after s ≡ Some p → course_after s added e ≡ course_with added (after_of p e.event.found e.hook)
 course_is (Go q) p added e is = ap (λ r. course_with added (after_of r e.event.found e.hook)) (let f : q ≡ p = cc in f)
@@ -75,7 +80,9 @@ pub record Goes (op : Op) (start now : Standing) : Type 0 where
   pub follows : IsTrace start.config (own_number start.items) op trace
   pub phase : now.phase ≡ phase_after (course_of start.config (own_number start.items) op trace).stands
   pub going : (q : Phase) × (now.phase ≡ Some q)
-  pub items : entered_items now.begins now.phase now.items ≡ ran_items start.config op trace start.items
+  pub begins : now.begins ≡ begins_at op trace
+  pub items : now.items ≡ items_at start.config op trace start.items
+  pub moves : AreMoves start.config op start.items trace
 
 abbrev pub steps_of : Standing → ℕ
 steps_of now = length (own_view (entered_items now.begins now.phase now.items)).trace
@@ -83,6 +90,18 @@ steps_of now = length (own_view (entered_items now.begins now.phase now.items)).
 begun_items : (c : Config) (op : Op) (l : SeatItems) → entered_items (Some op) (Some (first_phase c (own_number l) op)) l ≡ ran_items c op [] l
 begun_items c op [] = refl
 begun_items c op (x ∷ xs) = refl
+
+entered_at : (c : Config) (op : Op) (trace : List Traced) (l : SeatItems) →
+    entered_items (begins_at op trace) (phase_after (course_of c (own_number l) op trace).stands) (items_at c op trace l) ≡ ran_items c op trace l
+entered_at c op [] l = begun_items c op l
+entered_at c op (e ∷ earlier) l = not_entered (phase_after (course_of c (own_number l) op (e ∷ earlier)).stands) (ran_items c op (e ∷ earlier) l)
+
+ran_so_far : (op : Op) (start now : Standing) (goes : Goes op start now) → entered_items now.begins now.phase now.items ≡ ran_items start.config op goes.trace start.items
+ran_so_far op start now goes =
+    let same : entered_items now.begins now.phase now.items ≡
+    entered_items (begins_at op goes.trace) (phase_after (course_of start.config (own_number start.items) op goes.trace).stands) (items_at start.config op goes.trace start.items) =
+    λ i. entered_items (goes.begins i) (goes.phase i) (goes.items i) in
+    same ∙ entered_at start.config op goes.trace start.items
 
 -- as it begins
 pub starts : (op : Op) (start now : Standing) → now ≡ record start { begins = Some op; phase = Some (first_phase start.config (own_number start.items) op) } → Goes op start now
@@ -93,7 +112,9 @@ starts op start now is = subst (Goes op start) (sym is) (record {
   follows = tt;
   phase = refl;
   going = (first_phase start.config (own_number start.items) op, refl);
-  items = begun_items start.config op start.items;
+  begins = refl;
+  items = refl;
+  moves = tt;
 })
 
 module _ (op : Op) (start now left : Standing) (step : Step) (goes : Goes op start now) (stepped : (p : Phase) → now.phase ≡ Some p → Stepped p (Ok tt) now step left) where
@@ -157,7 +178,7 @@ module _ (op : Op) (start now left : Standing) (step : Step) (goes : Goes op sta
       ap (λ (s : Standing). s.items) did.new ∙
       (sym (after_entered now.begins p h found now.items) ∙
       (ap (λ (o : Option Phase). items_after None p h found (entered_items now.begins o now.items)) (sym goes.going.1) ∙
-      (ap (items_after None p h found) goes.items ∙ ran_all start.items refl)))
+      (ap (items_after None p h found) (ran_so_far op start now goes) ∙ ran_all start.items refl)))
 
   progress_then : step.progress ≡ progress_of after.0
   progress_then = ap (λ (s : Step). s.progress) did.step
@@ -171,6 +192,12 @@ module _ (op : Op) (start now left : Standing) (step : Step) (goes : Goes op sta
   begins_then : left.begins ≡ None
   begins_then = ap (λ (s : Standing). s.begins) did.new
 
+  moves_then : AreMoves c op start.items trace
+  moves_then =
+      let P : Config × Option Op × SeatItems → Type 0 = λ z. IsMove z.0 z.1 p h z.2 found in
+      let moved : IsMove c (begins_at op goes.trace) p h (items_at c op goes.trace start.items) found = subst P (λ j. (goes.config j, goes.begins j, goes.items j)) did.moves in
+      (move_is c op start.items goes.trace e (course_of c n op goes.trace).stands p stands_there (found, refl, moved), goes.moves)
+
   pub goes_further : ((a : Result Reply GateError) → step.progress ≡ Ended a → ⊥) → Goes op start left
   goes_further not = record {
     trace = trace;
@@ -181,7 +208,9 @@ module _ (op : Op) (start now left : Standing) (step : Step) (goes : Goes op sta
     going =
         let g = goes_on after.0 (λ a is. not a (progress_then ∙ is)) in
         (g.0, ap (λ (s : Standing). s.phase) did.new ∙ g.1);
-    items = ap (λ b. entered_items b left.phase left.items) begins_then ∙ (not_entered left.phase left.items ∙ items_then);
+    begins = begins_then;
+    items = items_then;
+    moves = moves_then;
   }
 
   pub ends_there : IsWithin c → (a : Result Reply GateError) → step.progress ≡ Ended a → (outcome : Result (Unit {0}) GateError) → outcome ≡ outcome_of a → Called op start left outcome
@@ -198,6 +227,7 @@ module _ (op : Op) (start now left : Standing) (step : Step) (goes : Goes op sta
         ends = ends;
         answers = outcome_is;
         after = λ i. record { table = table_then i; config = config_then i; begins = begins_then i; phase = idle i; items = items_then i };
+        moves = moves_then;
         added = tells.0;
         honest = tells.1;
         short = all_short c within n op trace follows_after;
@@ -229,7 +259,7 @@ pub few_steps : (op : Op) (start now : Standing) → IsWithin start.config → w
 few_steps op start now within tries goes =
     let short = most start.config within op goes.trace tries (all_short start.config within (own_number start.items) op goes.trace goes.follows) in
     let own = own_trace start.config op goes.trace start.items in
-    let same = ap (λ l. length (own_view l).trace) goes.items in
+    let same = ap (λ l. length (own_view l).trace) (ran_so_far op start now goes) in
     omega arith
 
 pub falls : (op : Op) (start now left : Standing) (step : Step) (goes : Goes op start now) (stepped : (p : Phase) → now.phase ≡ Some p → Stepped p (Ok tt) now step left) →

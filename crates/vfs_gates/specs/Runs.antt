@@ -1,17 +1,21 @@
 -- Whole operations of a task, from the beginning to the reply.
-use Rattle.std.specs.Prelude.{◌≡◌, ℕ, Bool, false, Some, None, Result, Ok, Err, List, [], ◌∷◌, ◌++◌}
+use Rattle.std.specs.Prelude.{◌≡◌, ℕ, Bool, false, Option, Some, None, Result, Ok, Err, List, [], ◌∷◌, ◌++◌}
 use Rattle.access_model.specs.declared.errors.GateError.{GateError}
-use Rattle.access_model.specs.declared.replies.Next.TheVariants.{Done}
+use Rattle.access_model.specs.declared.replies.Next.{Next}
+use Rattle.access_model.specs.declared.replies.Next.TheVariants.{Go, Wait, Done}
 use Rattle.access_model.specs.declared.replies.Reply.{Reply}
 use Rattle.cpu_words.specs.declared.events.Event.{Event}
+use Rattle.cpu_words.specs.Touches.{event_of}
 use Rattle.gate_world.specs.declared.config.Config.{Config}
 use Rattle.gate_world.specs.declared.operations.Op.{Op}
 use Rattle.gate_world.specs.declared.operations.Op.TheVariants.{Want, DropMount, ChangeMount}
+use Rattle.gate_world.specs.declared.work.Phase.{Phase}
 use Rattle.gate_world.specs.declared.views.Traced.{Traced}
 use Rattle.gate_world.specs.declared.views.View.{View}
-use Rattle.gate_world.specs.Views.{phase_after}
+use Rattle.gate_world.specs.Views.{phase_after, traced}
+use Rattle.gate_world.specs.Work.{next_of}
 use Rattle.gate_world.specs.Traces.{course_of, IsTrace, actions_of, IsHonestAnswer, most_events, IsShort}
-use Rattle.gate_steps.specs.Seating.{SeatItems, numbered}
+use Rattle.gate_steps.specs.Seating.{SeatItems, numbered, IsMove}
 use Rattle.vfs_gates.specs.Standing.{Standing, own_number, refusal_at}
 
 abbrev pub events_onto : List Traced → List Event → List Event
@@ -34,6 +38,31 @@ abbrev pub ran_items : Config → Op → List Traced → SeatItems → SeatItems
 ran_items c op trace [] = []
 ran_items c op trace (x ∷ xs) = numbered x.number (ran_view c x.number op trace x.view) ∷ xs
 
+-- the operation that begins with the next event, and the numbers as they stand before it
+abbrev pub begins_at : Op → List Traced → Option Op
+begins_at op [] = Some op
+begins_at op (e ∷ earlier) = None
+
+abbrev pub items_at : Config → Op → List Traced → SeatItems → SeatItems
+items_at c op [] items = items
+items_at c op (e ∷ earlier) items = ran_items c op (e ∷ earlier) items
+
+-- the event was one of this phase in a world that the rule holds of, in which the numbers have their views, and it moved the shown model
+-- by its action
+abbrev pub IsMoveOf : Config → Op → SeatItems → List Traced → Traced → Phase → Type 0
+IsMoveOf c op items earlier e phase =
+    (found : ℕ) × (e ≡ traced (event_of (next_of phase e.hook).0 (next_of phase e.hook).1 found) e.hook) × IsMove c (begins_at op earlier) phase e.hook (items_at c op earlier items) found
+
+abbrev pub IsNextMove : Config → Op → SeatItems → List Traced → Traced → Next Phase → Type 0
+IsNextMove c op items earlier e (Go phase) = IsMoveOf c op items earlier e phase
+IsNextMove c op items earlier e (Wait phase) = IsMoveOf c op items earlier e phase
+IsNextMove c op items earlier e (Done answer) = ⊥
+
+-- each event was
+abbrev pub AreMoves : Config → Op → SeatItems → List Traced → Type 0
+AreMoves c op items [] = Unit {0}
+AreMoves c op items (e ∷ earlier) = IsNextMove c op items earlier e (course_of c (own_number items) op earlier).stands × AreMoves c op items earlier
+
 -- an operation looks again and again
 abbrev pub waits : Op → Bool
 waits (Want m p wait) = wait
@@ -45,8 +74,9 @@ outcome_of (Ok reply) = Ok tt
 outcome_of (Err refusal) = Err refusal
 
 -- One whole operation. Its events are a trace of it that ends in an answer, which is what the call answers. The own view has done
--- just these events and their actions, and nothing else of the task changed. So it has added exactly the operation's actions, a refusal
--- has its cause in the trace, and where the operation waits for nobody, its events are few.
+-- just these events and their actions, and nothing else of the task changed. Each event was a move in a world that the rule holds of. So
+-- it has added exactly the operation's actions, a refusal has its cause in the trace, and where the operation waits for nobody, its
+-- events are few.
 pub record Called (op : Op) (old left : Standing) (outcome : Result (Unit {0}) GateError) : Type 0 where
   pub trace : List Traced
   pub answer : Result Reply GateError
@@ -54,6 +84,7 @@ pub record Called (op : Op) (old left : Standing) (outcome : Result (Unit {0}) G
   pub ends : (course_of old.config (own_number old.items) op trace).stands ≡ Done answer
   pub answers : outcome ≡ outcome_of answer
   pub after : left ≡ record old { begins = None; phase = None; items = ran_items old.config op trace old.items }
+  pub moves : AreMoves old.config op old.items trace
   pub added : (course_of old.config (own_number old.items) op trace).added ≡ actions_of op answer trace
   pub honest : IsHonestAnswer old.config op answer trace
   pub short : IsShort (most_events old.config op) trace

@@ -1,5 +1,7 @@
 //! Room for snapshots.
 
+ghost use Rattle.std.specs.Prelude.{◌≡◌, ◌*◌, ◌+◌, IfOk, vec_capacity};
+
 use std::alloc::{AllocError, Global};
 
 /// Room for the words of a task's two snapshots, the last one and the one that is being taken: of the blocks charged, and of each
@@ -12,7 +14,9 @@ pub struct Rooms {
 
 impl Rooms {
     /// Room for two snapshots of so many nodes, at 2 words a node and 1 more.
-    pub fn new(alloc: Global, nodes: u8) -> Result<Rooms, AllocError> {
+    pub fn new(alloc: Global, nodes: u8) -> Result<Rooms, AllocError>
+        ensures { IfOk result (λ r. (vec_capacity r.last ≡ 2 * nodes + 1) × (vec_capacity r.next ≡ 2 * nodes + 1)) }
+    {
         let words = 2 * nodes as usize + 1;
         Ok(Rooms {
             last: Vec::with_capacity(alloc, words)?,
