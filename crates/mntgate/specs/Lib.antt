@@ -1,2 +1,4 @@
 pub mod Limits
 pub mod Writing
+pub mod Printing
+pub mod Transcript
