@@ -60,37 +60,47 @@ module _ (l : Limits) (s : State) (t : ℕ) (k : NobodyHoldsClosed l s) where
         (λ lm c. absurd (is_open s m may.1 may.2 c)) (λ ne. k.mounts t n lt) ln closed);
     levels = levels_row (s.levels t) (k.levels t);
     counts = counts_row _ (λ n. each_changed (λ y v. v ≤ 1024) (s.mounts t) m (s.mounts t m + 1) n (omega (arith, may.3)) (λ ne. k.counts t n));
-    passed = k.passed; stage = k.stage;
+    passed = k.passed;
+    stage = k.stage;
   }
   step (Grant (Level i)) may = record {
     mounts = mounts_row (s.mounts t) (k.mounts t);
     levels = levels_row _ (λ j lt low high. each_changed (λ y v. y ≤ s.passed → v ≡ false) (s.levels t) i true j (λ h. absurd (omega (arith, may.1))) (λ ne h. k.levels t j lt low h) high);
     counts = counts_row (s.mounts t) (k.counts t);
-    passed = k.passed; stage = k.stage;
+    passed = k.passed;
+    stage = k.stage;
   }
   step (Return (Mount m)) may = record {
     mounts = mounts_row _ (λ n lt ln closed. each_changed (λ y v. y < l.mounts → IsReadOnly s y → v ≡ 0) (s.mounts t) m (s.mounts t m - 1) n
         (λ lm c. omega (arith, k.mounts t m lt lm c)) (λ ne. k.mounts t n lt) ln closed);
     levels = levels_row (s.levels t) (k.levels t);
     counts = counts_row _ (λ n. each_changed (λ y v. v ≤ 1024) (s.mounts t) m (s.mounts t m - 1) n (omega (arith, k.counts t m)) (λ ne. k.counts t n));
-    passed = k.passed; stage = k.stage;
+    passed = k.passed;
+    stage = k.stage;
   }
   step (Return (Level i)) may = record {
     mounts = mounts_row (s.mounts t) (k.mounts t);
     levels = levels_row _ (λ j lt low high. each_changed (λ y v. v ≡ false) (s.levels t) i false j refl (λ ne. k.levels t j lt low high));
     counts = counts_row (s.mounts t) (k.counts t);
-    passed = k.passed; stage = k.stage;
+    passed = k.passed;
+    stage = k.stage;
   }
   step (MountRo m) may = record {
     mounts = λ x n lx ln closed. elim (eqb_tells n m) [
       | inl h ↦ subst (λ y. s.mounts x y ≡ 0) (sym h.1) (may.1 x lx)
       | inr h ↦ k.mounts x n lx ln (as_before m n h.1 closed)
     ];
-    levels = k.levels; counts = k.counts; passed = k.passed; stage = k.stage;
+    levels = k.levels;
+    counts = k.counts;
+    passed = k.passed;
+    stage = k.stage;
   }
   step (MountRw m) may = record {
     mounts = λ x n lx ln closed. k.mounts x n lx ln (still m n closed);
-    levels = k.levels; counts = k.counts; passed = k.passed; stage = k.stage;
+    levels = k.levels;
+    counts = k.counts;
+    passed = k.passed;
+    stage = k.stage;
   }
   step SbRo may = record { mounts = λ x n lx ln closed. may.1 n ln x lx; levels = k.levels; counts = k.counts; passed = k.passed; stage = k.stage }
   step SbRw may = record { mounts = λ x n lx ln closed. k.mounts x n lx ln (own_flag n closed); levels = k.levels; counts = k.counts; passed = k.passed; stage = k.stage }
@@ -101,10 +111,16 @@ module _ (l : Limits) (s : State) (t : ℕ) (k : NobodyHoldsClosed l s) where
       | inl h ↦ subst (λ y. s.levels x y ≡ false) (sym h.1) (may.3 x lx)
       | inr h ↦ k.levels x j lx low (omega (arith, may.2))
     ];
-    counts = k.counts; passed = may.0.1; stage = k.stage;
+    counts = k.counts;
+    passed = may.0.1;
+    stage = k.stage;
   }
   step (Reopen i) may = record {
-    mounts = k.mounts; levels = λ x j lx low high. k.levels x j lx low (omega (arith, may.2)); counts = k.counts; passed = omega (arith, may.0.1); stage = k.stage;
+    mounts = k.mounts;
+    levels = λ x j lx low high. k.levels x j lx low (omega (arith, may.2));
+    counts = k.counts;
+    passed = omega (arith, may.0.1);
+    stage = k.stage;
   }
   step (Create n d kind) may = same_tree _
   step (Remove n) may = same_tree _
@@ -115,6 +131,10 @@ module _ (l : Limits) (s : State) (t : ℕ) (k : NobodyHoldsClosed l s) where
 
 pub closed : (l : Limits) (h : List Done) → IsLegal l h → NobodyHoldsClosed l (end_of h)
 closed l [] legal = record {
-  mounts = λ t m lt lm c. refl; levels = λ t i lt low high. refl; counts = λ t m. omega arith; passed = omega arith; stage = omega arith;
+  mounts = λ t m lt lm c. refl;
+  levels = λ t i lt low high. refl;
+  counts = λ t m. omega arith;
+  passed = omega arith;
+  stage = omega arith;
 }
 closed l (a ∷ earlier) legal = step l (end_of earlier) a.0 (closed l earlier legal.1) a.1 legal.0.1

@@ -56,8 +56,8 @@ abbrev pub state_of : Model → State
 state_of model = (standing_of model).state
 
 -- the same model after an action
-abbrev pub done : Standing → ℕ → Action → Standing
-done standing task action = record { limits = standing.limits; state = after_action standing.state task action }
+abbrev pub standing_after : Standing → ℕ → Action → Standing
+standing_after standing task action = record { limits = standing.limits; state = after_action standing.state task action }
 
 -- a new model of these limits
 abbrev pub opened : ℕ → ℕ → ℕ → ℕ → Standing

@@ -28,21 +28,21 @@ pub struct NodeInfo {
 /// A step of the model, done by one task.
 #[derive(Clone, Copy, PartialEq, Eq, Debug)]
 pub enum Action {
-    /// The task gets an access at the gate.
+    /// The task gets an access at the gate, as by `mnt_get_write_access` or `sb_start_write`.
     Grant(Gate),
-    /// The task gives an access at the gate back.
+    /// The task gives an access at the gate back, as by `mnt_put_write_access` or `sb_end_write`.
     Return(Gate),
-    /// The mount of that number is made read-only by its own flag.
+    /// The mount of that number is made read-only by its own flag, as by `mnt_make_readonly`.
     MountRo(u8),
     /// The mount's own flag is cleared.
     MountRw(u8),
-    /// The superblock is made read-only.
+    /// The superblock is made read-only (`SB_RDONLY`), after a look as that of `sb_prepare_remount_readonly`.
     SbRo,
     /// The superblock is made writable.
     SbRw,
-    /// The stage of the freeze becomes 0 to 4 (SB_UNFROZEN to SB_FREEZE_COMPLETE).
+    /// The stage of the freeze, `s_writers.frozen`, becomes 0 to 4 (`SB_UNFROZEN` to `SB_FREEZE_COMPLETE`).
     Stage(u8),
-    /// A freeze has closed level 1, 2 or 3, and nobody is inside.
+    /// A freeze has closed level 1, 2 or 3, and nobody is inside, as when `sb_wait_write` returns.
     Pass(u8),
     /// A level that was passed is open again.
     Reopen(u8),

@@ -5,7 +5,6 @@ ghost use Rattle.access_model.specs.declared.errors.GateError.TheVariants.{NoMem
 ghost use Rattle.access_model.specs.Errors.{number_of, name_of};
 
 use std::alloc::AllocError;
-
 use thiserror::Error;
 
 /// Why a call was refused. The numbers are those of Linux's errno, but a hook's is its own code.

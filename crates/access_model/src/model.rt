@@ -1,16 +1,17 @@
-//! The model itself.
+//! The model itself: a state that changes by whole actions alone, each where it is allowed.
 #![tactic(auto, unfolding(crate::specs::Shown::standing_of))]
 
 ghost use Rattle.std.specs.Prelude.{◌≡◌, ℕ, ◌≤◌, ◌<◌, ◌+◌, ◌^◌, ◌↔◌, IsTrue, option_map, vec_len};
 ghost use Rattle.access_model.specs.States.{IsLevel, size_of};
 ghost use Rattle.access_model.specs.Actions.{grown, moved, marked};
-
 ghost use Rattle.access_model.specs.Limits.{AreLimits};
-
-use std::alloc::{AllocError, Global};
 
 use crate::actions::{Action, Gate, Kind, NodeInfo};
 use crate::errors::GateError;
+use std::alloc::Global;
+
+/// How many accesses a task may hold at one mount.
+const MAX_ACCESSES: u16 = 1024;
 
 /// What one task holds: its accesses at each mount, and whether it is inside each freeze level. Levels count from 1, so
 /// entry 0 stays false.
@@ -81,6 +82,9 @@ fn mark(node: &mut Option<NodeInfo>, dirty: bool)
 }
 
 /// Who holds which access, which read-only flags stand, how far a freeze has come, and the tree.
+///
+/// It stands for what the writer counts of `struct mount` and the semaphores of `sb_writers` are kept for, without either:
+/// contracts see it as a `Standing`, by `standing_of`.
 #[derive(Drop)]
 pub struct Model {
     tasks: u8,
@@ -107,12 +111,20 @@ impl Model {
     ghost use Rattle.access_model.specs.declared.errors.GateError.TheVariants.{Invalid, NoMemory};
     ghost use Rattle.access_model.specs.declared.actions.Action.TheVariants.{Grant, Return};
     ghost use Rattle.access_model.specs.Actions.{IsWriter, HoldsSomeMount, MayStage, MayDo, IsAllowed};
-    ghost use Rattle.access_model.specs.Shown.{limits_of, state_of, standing_of, opened, done};
+    ghost use Rattle.access_model.specs.Shown.{limits_of, state_of, standing_of, opened, standing_after};
 
-    /// A model with nothing held, no flag set, nothing frozen, and the root directory alone. There are `tasks` tasks, 1 to 64,
-    /// `mounts` mounts, 1 to 8, and `nodes` nodes, 2 to 64, numbered from 0, and all files together may have `capacity`
-    /// blocks. Any other number of tasks, mounts or nodes is Invalid, and a growth of memory that was refused is NoMemory.
-    pub fn new(alloc: Global, tasks: u8, mounts: u8, nodes: u8, capacity: u32) -> Result<Model, GateError>
+    /// A model with nothing held, no flag set, nothing frozen, and the root directory alone.
+    ///
+    /// It has `tasks` tasks, 1 to 64, `mounts` mounts, 1 to 8, and `nodes` nodes, 2 to 64, each numbered from 0, and all
+    /// files together may have `capacity` blocks. Other numbers are Invalid, whatever memory there is; where they are
+    /// right and a growth of memory is refused, the answer is NoMemory.
+    pub fn new(
+        alloc: Global,
+        tasks: u8,
+        mounts: u8,
+        nodes: u8,
+        capacity: u32,
+    ) -> Result<Model, GateError>
         ensures opens { IfOk result (λ model. standing_of model ≡ opened tasks mounts nodes capacity) }
         ensures within { OnOk result (AreLimits tasks mounts nodes) }
         ensures invalid { ¬ AreLimits tasks mounts nodes → result ≡ Err Invalid }
@@ -145,7 +157,8 @@ impl Model {
         })
     }
 
-    /// Whether the task may do the action now. A task that there is not may do none.
+    /// Whether the task may do the action now: false for a task that there is not, and where a number in the action is out
+    /// of range.
     pub fn allows(&self, task: u8, action: &Action) -> bool
         ensures { IsTrue result ↔ IsAllowed (limits_of self.now) (state_of self.now) task action.now }
     {
@@ -161,9 +174,7 @@ impl Model {
             Action::SbRw => self.stage == 0,
             Action::Stage(stage) => self.may_stage(stage),
             Action::Pass(level) => self.may_pass(level),
-            Action::Reopen(level) => {
-                is_level(level) && self.stage == 0 && self.passed == level
-            }
+            Action::Reopen(level) => { is_level(level) && self.stage == 0 && self.passed == level }
             Action::Create { node, dir, .. } => {
                 self.is_writer(task) && self.is_free(node) && self.is_directory(dir)
             }
@@ -179,11 +190,11 @@ impl Model {
         }
     }
 
-    /// Does the action, where the task may do it now. Any other action, also one of a task that there is not, is Invalid and
-    /// changes nothing. Takes no memory.
+    /// Does the action, where `allows` says that the task may do it now. Any other is Invalid, and changes nothing. Takes no
+    /// memory.
     pub fn apply(&mut self, task: u8, action: &Action) -> Result<(), GateError>
         ensures answer { IsOk result ↔ IsAllowed (limits_of self.old) (state_of self.old) task action.now }
-        ensures done { OnOk result (standing_of self.new ≡ done (standing_of self.old) task action.now) }
+        ensures done { OnOk result (standing_of self.new ≡ standing_after (standing_of self.old) task action.now) }
         ensures invalid { IfErr result (λ e. e ≡ Invalid) }
         ensures unchanged { OnErr result (self.new ≡ self.old) }
     {
@@ -194,7 +205,8 @@ impl Model {
         Ok(())
     }
 
-    /// The accesses that a task holds at a mount, at most 1,024; 0 where there is no such task or mount.
+    /// The accesses that a task holds at a mount, at most 1,024: its part of the mount's writer count, which
+    /// `mnt_get_write_access` raises. 0 where there is no such task or mount.
     pub fn held_mount(&self, task: u8, mount: u8) -> u16
         ensures held { task < (limits_of self.now).tasks → mount < (limits_of self.now).mounts → result ≡ (state_of self.now).mounts task mount }
         ensures out_of_range { ((limits_of self.now).tasks ≤ task) ⊎ ((limits_of self.now).mounts ≤ mount) → result ≡ 0 }
@@ -206,7 +218,8 @@ impl Model {
         }
     }
 
-    /// Whether a task is inside a freeze level, 1 to 3; false where there is no such task or level.
+    /// Whether a task is inside a freeze level: 1 (`sb_start_write`), 2 (`sb_start_pagefault`) or 3 (`sb_start_intwrite`).
+    /// False where there is no such task or level.
     pub fn held_level(&self, task: u8, level: u8) -> bool
         ensures held { task < (limits_of self.now).tasks → IsLevel level → result ≡ (state_of self.now).levels task level }
         ensures out_of_range { ((limits_of self.now).tasks ≤ task) ⊎ ((level ≡ 0) ⊎ (3 < level)) → result ≡ false }
@@ -214,7 +227,7 @@ impl Model {
         task < self.tasks && is_level(level) && self.accesses[task as usize].levels[level as usize]
     }
 
-    /// A mount's own read-only flag; false where there is no such mount.
+    /// A mount's own read-only flag (`MNT_READONLY`), whatever the superblock's is; false where there is no such mount.
     pub fn mount_ro(&self, mount: u8) -> bool
         ensures flag { mount < (limits_of self.now).mounts → result ≡ (state_of self.now).mount_ro mount }
         ensures out_of_range { (limits_of self.now).mounts ≤ mount → result ≡ false }
@@ -222,39 +235,43 @@ impl Model {
         mount < self.mounts && self.mount_ro[mount as usize]
     }
 
-    /// Whether the superblock is read-only.
+    /// Whether the superblock is read-only (`SB_RDONLY`).
     pub fn sb_ro(&self) -> bool
         ensures { result ≡ (state_of self.now).sb_ro }
     {
         self.sb_ro
     }
 
-    /// The stage of the freeze, 0 to 4 (`s_writers.frozen`).
+    /// The stage of the freeze, from 0, where nothing is frozen, to 4, where all is (`s_writers.frozen`).
     pub fn stage(&self) -> u8
         ensures { result ≡ (state_of self.now).stage }
     {
         self.stage
     }
 
-    /// How many levels a freeze has closed and nobody has opened again, 0 to 3.
+    /// How many levels, from level 1 on, a freeze has closed and not yet opened again: 0 to 3.
     pub fn passed(&self) -> u8
         ensures { result ≡ (state_of self.now).passed }
     {
         self.passed
     }
 
-    /// A node of the tree; None where it is free or there is none of that number.
+    /// A node of the tree, with its kind, parent, size and dirty mark; None where it is free or there is none of that number.
     pub fn tree(&self, node: u8) -> Option<NodeInfo>
         ensures node { node < (limits_of self.now).nodes → result ≡ (state_of self.now).tree node }
         ensures out_of_range { (limits_of self.now).nodes ≤ node → result ≡ None }
     {
-        if (node as usize) < self.nodes.len() { self.nodes[node as usize] } else { None }
+        if (node as usize) < self.nodes.len() {
+            self.nodes[node as usize]
+        } else {
+            None
+        }
     }
 
     /// Does an action that the task may do.
     fn carry_out(&mut self, task: u8, action: &Action)
         requires { IsAllowed (limits_of self.old) (state_of self.old) task action.now }
-        ensures { standing_of self.new ≡ done (standing_of self.old) task action.now }
+        ensures { standing_of self.new ≡ standing_after (standing_of self.old) task action.now }
     {
         match *action {
             Action::Grant(gate) => self.accesses[task as usize].grant(gate),
@@ -301,12 +318,9 @@ impl Model {
         requires { mount < (limits_of self.now).mounts }
         ensures { IsTrue result ↔ NobodyHolds (limits_of self.now) (state_of self.now) (Mount mount) }
     {
-        for task in 0..self.tasks {
-            if self.accesses[task as usize].mounts[mount as usize] > 0 {
-                return false;
-            }
-        }
-        true
+        self.accesses
+            .iter()
+            .all(|held| held.mounts[mount as usize] == 0)
     }
 
     /// Whether nobody is inside a level.
@@ -314,36 +328,25 @@ impl Model {
         requires { IsLevel level }
         ensures { IsTrue result ↔ NobodyHolds (limits_of self.now) (state_of self.now) (Level level) }
     {
-        for task in 0..self.tasks {
-            if self.accesses[task as usize].levels[level as usize] {
-                return false;
-            }
-        }
-        true
+        self.accesses
+            .iter()
+            .all(|held| !held.levels[level as usize])
     }
 
     /// Whether nobody holds an access at any mount.
     fn is_every_mount_free(&self) -> bool
         ensures { IsTrue result ↔ ((m : ℕ) → m < (limits_of self.now).mounts → NobodyHolds (limits_of self.now) (state_of self.now) (Mount m)) }
     {
-        for mount in 0..self.mounts {
-            if !self.is_mount_free(mount) {
-                return false;
-            }
-        }
-        true
+        (0..self.mounts).all(|mount| self.is_mount_free(mount))
     }
 
     /// Whether no node is dirty.
     fn is_clean(&self) -> bool
         ensures { IsTrue result ↔ IsClean (limits_of self.now) (state_of self.now) }
     {
-        for node in &self.nodes {
-            if let Some(info) = node && info.dirty {
-                return false;
-            }
-        }
-        true
+        self.nodes
+            .iter()
+            .all(|node| !matches!(node, Some(info) if info.dirty))
     }
 
     /// The blocks of all files.
@@ -368,12 +371,7 @@ impl Model {
         ensures { IsTrue result ↔ ((j : ℕ) → level ≤ j → j ≤ 3 → (state_of self.now).levels task j ≡ false) }
     {
         let inside = self.accesses[task as usize].levels;
-        for later in level..4 {
-            if inside[later as usize] {
-                return false;
-            }
-        }
-        true
+        (level..4).all(|later| !inside[later as usize])
     }
 
     /// Whether a task may get an access at a gate now.
@@ -386,7 +384,7 @@ impl Model {
                 mount < self.mounts
                     && !self.mount_ro[mount as usize]
                     && !self.sb_ro
-                    && self.accesses[task as usize].mounts[mount as usize] < 1024
+                    && self.accesses[task as usize].mounts[mount as usize] < MAX_ACCESSES
             }
             // Levels are taken in rising order, so the task may be in none from this one on.
             Gate::Level(level) => {
@@ -429,7 +427,7 @@ impl Model {
     fn is_at(&self, stage: u8) -> bool
         ensures { IsTrue result ↔ (((state_of self.now).stage ≡ stage) × ((state_of self.now).passed ≡ stage)) }
     {
-        self.stage == stage && self.passed == stage
+        stage == self.stage && stage == self.passed
     }
 
     /// Whether a freeze may have closed a level now.

@@ -41,13 +41,8 @@ impl Touch {
             Touch::Sub(by) => found.wrapping_sub(by),
             Touch::Or(bits) => found | bits,
             Touch::And(bits) => found & bits,
-            Touch::Cas { expect, put } => {
-                if found == expect {
-                    put
-                } else {
-                    found
-                }
-            }
+            Touch::Cas { expect, put } if found == expect => put,
+            Touch::Cas { .. } => found,
         }
     }
 

@@ -9,3 +9,6 @@ pub mod sums;
 pub use events::{Event, Touch};
 pub use names::{WORDS, WordName};
 pub use sums::{Sum, Taken};
+
+#[cfg(test)]
+mod tests;

@@ -30,10 +30,8 @@ impl Sum {
     /// processor than it was taken on: only the total means something.
     pub fn take(self, word: u64, processors: u8) -> Taken
         ensures step { result ≡ taken_after self word processors }
-        ensures words {
-            (taken : List ℕ) → length taken < processors → self ≡ sum_of taken →
-            result ≡ taken_of (taken ++ word ∷ []) processors
-        }
+        ensures words { (taken : List ℕ) → length taken < processors → self ≡ sum_of taken →
+            result ≡ taken_of (taken ++ word ∷ []) processors }
     {
         let total = self.total.wrapping_add(word);
         // Wider than the count of words, so that the test says the same of a sum that is past its end.

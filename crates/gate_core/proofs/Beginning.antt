@@ -1,7 +1,7 @@
 -- A beginning of the core shows what the entry makes of the world.
 use Rattle.std.proofs.Common.{◌≡◌, ℕ, ◌<◌, ◌≤◌, Bool, true, false, [], ◌∷◌, ◌++◌, length, get_or, refl, sym, ap, ◌∙◌, subst, inl, inr, arith}
 use Rattle.std.proofs.Math.ListN.{length-set}
-use Rattle.std.specs.Prelude.{◌&&◌, nat_lt, if◌then◌else◌, is_some, Option, Some, None, slice_set}
+use Rattle.std.specs.Prelude.{◌&&◌, nat_lt, if◌then◌else◌, is_some, Option, Some, None, Result, Err, slice_set}
 use Rattle.std.proofs.lemmas.Bool.{cases_Bool, lt-ltb, ltb-true}
 use Rattle.std.proofs.lemmas.List.{get_or_default}
 use Rattle.finite_sums.specs.Sums.{changed}
@@ -18,6 +18,7 @@ use Rattle.gate_world.specs.Worlds.{World, Begins, first_phase, is_in_range, is_
 use Rattle.gate_world.specs.Fits.{Fits}
 use Rattle.gate_core.specs.declared.seats.Seat.{Seat}
 use Rattle.gate_core.specs.Memory.{Memory, Shows, IsSound, no_seat, seat_of, mounts_in, levels_in}
+use Rattle.gate_core.specs.Answers.{unless_refused, begin_answer}
 use Rattle.gate_core.proofs.Phases.{none_agree}
 use Rattle.gate_core.proofs.Held.{seat_cases}
 use Rattle.gate_core.proofs.Stepping.{run_more}
@@ -94,6 +95,10 @@ module _ (memory : Memory) (sound : IsSound memory) (t : ℕ) (lt : t < memory.c
   pub refused_shows : (refused : GateError) → refusal memory.config (is_some seat.phase) (mounts_in seat) (levels_in seat) op ≡ Some refused →
       (w : World) → Shows memory w → Shows memory (happens memory.config w (Begins t op))
   refused_shows refused e w shows = rw (refusal_same w shows ∙ e) shows
+
+  pub refused_answer : (refused : GateError) → refusal memory.config (is_some seat.phase) (mounts_in seat) (levels_in seat) op ≡ Some refused →
+      (w : World) → Shows memory w → ◌≡◌ {A = Result (Unit {0}) GateError} (Err refused) (begin_answer memory.config w t op)
+  refused_answer refused e w shows = sym (ap unless_refused (refusal_same w shows ∙ e))
 
   module _ (may : refusal memory.config (is_some seat.phase) (mounts_in seat) (levels_in seat) op ≡ None) (phase : Phase) (phase_is : phase ≡ first_phase memory.config t op) where
     abbrev seat_after : Seat

@@ -3,11 +3,14 @@
 #![tactic(auto)]
 
 pub mod machine;
+pub mod schedules;
 pub mod seats;
 pub mod steps;
 
 pub use gate_world::{Config, Op};
 pub use machine::Core;
+pub use schedules::every_schedule;
+pub use seats::{Accesses, Seat, first_phase};
 pub use steps::{Progress, Step};
 
 #[cfg(test)]

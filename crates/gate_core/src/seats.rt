@@ -1,4 +1,4 @@
-//! What the core keeps of one task.
+//! What is kept of one task at run time: its phase and its accesses.
 
 ghost use Rattle.std.specs.Prelude.{◌≡◌, ◌<◌, ◌≤◌, is_some, slice_index, slice_index_or, false};
 ghost use Rattle.gate_world.specs.Worlds.{first_phase as the_first_phase, holds_none, is_in_range as in_range, is_in_order as in_order, is_within_room as within_room, refusal as the_refusal};
@@ -9,8 +9,8 @@ use mount_counts::{Change, ChangeStep, MountPhase, Want, WantStep};
 
 /// What a task holds: accesses at each mount, and whether it is inside each level. Levels are numbered from 1, so the first
 /// entry of these stays false.
-#[derive(Clone, Copy)]
-pub(crate) struct Accesses {
+#[derive(Clone, Copy, PartialEq, Eq, Debug)]
+pub struct Accesses {
     pub mounts: [u16; 8],
     pub levels: [bool; 4],
 }
@@ -19,7 +19,7 @@ impl Accesses {
     ghost use Rattle.gate_core.specs.Seats.{accesses_after, ActionFits, mount_of};
 
     /// What the task holds after an action of its own.
-    pub(crate) fn after(self, action: Option<Action>) -> Accesses
+    pub fn after(self, action: Option<Action>) -> Accesses
         requires { ActionFits (slice_index self.mounts) action }
         ensures { result ≡ accesses_after self action }
     {
@@ -64,9 +64,9 @@ impl Accesses {
     }
 }
 
-/// A task of the core.
-#[derive(Clone, Copy)]
-pub(crate) struct Seat {
+/// A task at run time: the phase of its operation under way, and what it holds.
+#[derive(Clone, Copy, PartialEq, Eq, Debug)]
+pub struct Seat {
     pub phase: Option<Phase>,
     pub accesses: Accesses,
 }
@@ -75,7 +75,7 @@ impl Seat {
     ghost use Rattle.gate_core.specs.Memory.{mounts_in, levels_in};
 
     /// Why an operation can't begin, the first reason in the stated order.
-    pub(crate) fn refusal(self, config: Config, op: Op) -> Option<GateError>
+    pub fn refusal(self, config: Config, op: Op) -> Option<GateError>
         requires { config.mounts ≤ 8 }
         ensures { result ≡ the_refusal config (is_some self.phase) (mounts_in self) (levels_in self) op }
     {
@@ -105,7 +105,7 @@ fn is_in_range(config: Config, op: Op) -> bool
 }
 
 /// The first phase of an operation of a task.
-pub(crate) fn first_phase(config: Config, task: u8, op: Op) -> Phase
+pub fn first_phase(config: Config, task: u8, op: Op) -> Phase
     ensures { result ≡ the_first_phase config task op }
 {
     Phase::Mounts(match op {

@@ -32,7 +32,7 @@ impl Step {
     ghost use Rattle.gate_core.specs.Answers.{idle_step};
 
     /// The step of an idle task.
-    pub(crate) fn idle() -> Step
+    pub fn idle() -> Step
         ensures { result ≡ idle_step }
     {
         Step {
@@ -47,7 +47,7 @@ impl Progress {
     ghost use Rattle.gate_core.specs.Answers.{progress_of};
 
     /// How the operation stands, and its next phase.
-    pub(crate) fn of(next: Next<Phase>) -> (Progress, Option<Phase>)
+    pub fn of(next: Next<Phase>) -> (Progress, Option<Phase>)
         ensures { result ≡ (progress_of next, phase_after next) }
     {
         match next {

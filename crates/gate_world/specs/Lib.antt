@@ -3,3 +3,7 @@ pub mod Work
 pub mod Views
 pub mod Worlds
 pub mod Fits
+pub mod Rules
+pub mod Traces
+pub mod Headline
+pub mod Causes

@@ -1,11 +1,10 @@
 //! What is known of one task number. Definitions and proofs speak of these; no value of them is ever made.
 
+use crate::operations::Op;
+use crate::work::Phase;
 use access_model::Action;
 use cpu_words::Event;
 use std::collections::LinkedList;
-
-use crate::operations::Op;
-use crate::work::Phase;
 
 /// An event with the hook's answer that it read.
 #[derive(Clone, Copy)]

@@ -1,4 +1,5 @@
 pub mod Limits
 pub mod Writing
 pub mod Printing
+pub mod Reading
 pub mod Transcript

@@ -2,7 +2,10 @@
 
 ghost use Rattle.schedule_text.specs.Lines.{front_of};
 ghost use Rattle.schedule_text.specs.declared.lines.Front.TheVariants.{Line};
-ghost use Rattle.std.specs.Prelude.{◌≡◌, ◌≤◌, ◌↔◌, ◌+◌, ◌-◌, ℕ, ◌<◌, IsTrue, vec_len, slice_range, take};
+ghost use Rattle.std.specs.Prelude.{◌≡◌, ◌≤◌, ◌↔◌, ◌+◌, ◌-◌, ℕ, ◌<◌, IsTrue, IfOk, IfErr, vec_len, length, slice_range, take};
+ghost use Rattle.schedule_text.specs.declared.faults.Fault.TheVariants.{ReadFailed};
+ghost use Rattle.std.specs.Io.KnownBytes.{IsAtEnd};
+ghost use Rattle.mntgate.specs.Reading.{ReadsOn};
 
 use schedule_text::{Fault, Front, front_of};
 use std::alloc::{AllocError, Global};
@@ -76,21 +79,45 @@ impl<R: Read + Drop> Input<R> {
     }
 
     /// Reads more, and says how many bytes came: none at the end of the input, or where the block is full.
-    pub(crate) fn read(&mut self) -> Result<usize, Fault> {
+    pub(crate) fn read(&mut self) -> Result<usize, Fault>
+        ensures grows { IfOk result (ReadsOn (R.remaining self.old.reader) (R.remaining self.new.reader)
+            (slice_range self.old.bytes.items self.old.start self.old.end)
+            (slice_range self.new.bytes.items self.new.start self.new.end)) }
+        ensures end { IfOk result (λ count. count ≡ 0 → self.old.end - self.old.start < vec_len self.old.bytes →
+            IsAtEnd (R.remaining self.new.reader)) }
+        ensures failed { IfErr result (λ fault. fault ≡ ReadFailed) }
+    {
         self.make_room();
-        match self.reader.read(&mut self.bytes[self.end..]) {
-            Ok(count) => {
-                self.end += count;
-                Ok(count)
-            }
-            Err(_) => Err(Fault::ReadFailed),
-        }
+        let count = read_behind(&mut self.reader, self.bytes.as_mut_slice(), self.end)?;
+        self.end += count;
+        Ok(count)
     }
 
     /// Moves the pending bytes to the start of the block.
-    fn make_room(&mut self) {
+    fn make_room(&mut self)
+        ensures pending { slice_range self.new.bytes.items self.new.start self.new.end
+            ≡ slice_range self.old.bytes.items self.old.start self.old.end }
+        ensures start { self.new.start ≡ 0 }
+        ensures room { vec_len self.new.bytes ≡ vec_len self.old.bytes }
+        ensures reader { self.new.reader ≡ self.old.reader }
+    {
         self.bytes.copy_within(self.start..self.end, 0);
         self.end -= self.start;
         self.start = 0;
+    }
+}
+
+/// Reads behind the first bytes of a block, and says how many bytes came.
+fn read_behind<R: Read>(reader: &mut R, block: &mut [u8], end: usize) -> Result<usize, Fault>
+    requires { end ≤ length block.old }
+    ensures bound { IfOk result (λ count. end + count ≤ length block.new) }
+    ensures grows { IfOk result (λ count. ReadsOn (R.remaining reader.old) (R.remaining reader.new) (take end block.old)
+        (take (end + count) block.new) count) }
+    ensures end { IfOk result (λ count. count ≡ 0 → end < length block.new → IsAtEnd (R.remaining reader.new)) }
+    ensures failed { IfErr result (λ fault. fault ≡ ReadFailed) }
+{
+    match reader.read(&mut block[end..]) {
+        Ok(count) => Ok(count),
+        Err(_) => Err(Fault::ReadFailed),
     }
 }

@@ -2,13 +2,12 @@
 #![tactic(auto)]
 
 mod input;
+mod printing;
 mod replay;
 mod session;
-mod writing;
-
 #[cfg(test)]
 mod tests;
-
+mod writing;
 
 use anyhow::Result;
 use clap::{Command, Error};
@@ -32,8 +31,9 @@ fn main(rt: HostRuntime) -> Result<ExitCode> {
 
 /// The command line: `replay` is the only subcommand.
 fn command<'a>(alloc: Global) -> Result<Command<'a>, AllocError> {
-    let replay = Command::new(alloc, "replay")
-        .about("Reads a schedule from standard input and prints each event asked for");
+    let replay = Command::new(alloc, "replay").about(
+        "Reads a schedule from standard input and prints each event asked for",
+    );
     Command::new(alloc, "mntgate")
         .about("Write gates of a mounted file system")
         .subcommand_required(true)

@@ -4,15 +4,14 @@ ghost use Rattle.std.specs.Prelude.{◌≡◌, ◌≤◌, ◌<◌, ◌+◌, ◌-
 ghost use Rattle.schedule_text.specs.Faults.{text_of, cause_of};
 ghost use Rattle.mntgate.specs.Limits.{IsLineNumber};
 
+use crate::input::Input;
+use crate::session::{Session, no_memory};
+use crate::writing::write_out;
 use access_model::GateError;
 use schedule_text::{Fault, Front, LINE_BYTES, LINES, Line, Output, parse};
 use std::alloc::{AllocError, Global};
 use std::fmt;
 use std::io::{Read, Write};
-
-use crate::input::Input;
-use crate::session::{Session, no_memory};
-use crate::writing::write_out;
 
 /// From so many printed bytes on they are written out.
 const FULL: usize = 65_536;

@@ -2,6 +2,7 @@
 
 ghost use Rattle.std.specs.Prelude.{◌≡◌, ◌≤◌, IfOk};
 
+use crate::printing::{print_ended, print_step};
 use access_model::{GateError, Model};
 use cpu_words::WordName;
 use gate_core::{Core, Progress, Step};
@@ -37,8 +38,9 @@ impl Session {
     pub(crate) fn new(alloc: Global, config: Config) -> Result<Session, Fault> {
         let core = Core::new(alloc, config).map_err(Fault::Refused)?;
         let (tasks, mounts, nodes) = (config.tasks, config.mounts, config.nodes);
-        let model =
-            Model::new(alloc, tasks, mounts, nodes, config.capacity).map_err(Fault::Refused)?;
+        let model = Model::new(alloc, tasks, mounts, nodes, config.capacity).map_err(
+            Fault::Refused,
+        )?;
         Ok(Session {
             config,
             core,
@@ -72,12 +74,12 @@ impl Session {
             TaskCommand::Begin(op) => self.begin(task, op, out),
             TaskCommand::Step { hook } => {
                 let step = self.step(task, hook)?;
-                self.print_step(task, step, out).map_err(no_memory)
+                print_step(out, task, step, self.used()).map_err(no_memory)
             }
             // No operation asks for a hook yet, so which one would fail makes no difference.
             TaskCommand::Run { .. } => {
                 let ran = self.run(task)?;
-                self.print_reply(task, ran.progress, out).map_err(no_memory)
+                print_ended(out, task, ran.progress, self.used()).map_err(no_memory)
             }
         }
     }
@@ -120,33 +122,6 @@ impl Session {
             events: EVENTS,
             progress: Progress::Going,
         })
-    }
-
-    /// The event, and then the reply where there is one; or that the task is idle.
-    fn print_step(&self, task: u8, step: Step, out: &mut Output) -> Result<(), AllocError> {
-        let Some(event) = step.event else {
-            return out.idle_line(task);
-        };
-        let waiting = step.progress == Progress::Waiting;
-        out.event_line(task, event, step.action, waiting)?;
-        match step.progress {
-            Progress::Done(answer) => out.answer_line(task, answer, self.used()),
-            Progress::Idle | Progress::Going | Progress::Waiting => Ok(()),
-        }
-    }
-
-    /// How a `run` ended.
-    fn print_reply(
-        &self,
-        task: u8,
-        progress: Progress,
-        out: &mut Output,
-    ) -> Result<(), AllocError> {
-        match progress {
-            Progress::Idle => out.idle_line(task),
-            Progress::Going | Progress::Waiting => out.waiting_line(task),
-            Progress::Done(answer) => out.answer_line(task, answer, self.used()),
-        }
     }
 
     /// The blocks charged.

@@ -2,13 +2,12 @@
 
 mod fakes;
 
+use crate::replay::{ReplayFault, replay};
+use fakes::{Counter, Frail, Newlines, Refusal, Slow, Watcher};
 use std::alloc::Global;
 use std::cell::Cell;
 use std::process::Abort;
 use std::test::Fail;
-
-use crate::replay::{ReplayFault, replay};
-use fakes::{Counter, Frail, Newlines, Refusal, Slow, Watcher};
 
 /// What a schedule prints, as far as it comes, and its fault, if there is one.
 fn played(alloc: Global, schedule: &[u8]) -> Result<(Vec<u8>, Result<(), ReplayFault>), Fail> {
@@ -253,7 +252,10 @@ static FAULTS: [(&str, &str); 30] = [
     ("config 1 1 1 2 8 \n", "line 1: wrong number of words"),
     ("config 1 x 1 2 y\n", "line 1: bad number"),
     ("# x", "line 1: cut off"),
-    ("config 1 1 1 2 8\nconfig 1 1 1 2 8\n", "line 2: config twice"),
+    (
+        "config 1 1 1 2 8\nconfig 1 1 1 2 8\n",
+        "line 2: config twice",
+    ),
     ("config 1 1 1 2 8\nfly\n", "line 2: unknown command"),
     ("config 1 1 1 2 8\n0 fly\n", "line 2: unknown command"),
     ("config 1 1 1 2 8\ntree\n", "line 2: unknown command"),
@@ -261,13 +263,25 @@ static FAULTS: [(&str, &str); 30] = [
     ("config 1 1 1 2 8\n 0 step\n", "line 2: unknown command"),
     ("config 1 1 1 2 8\n0  step\n", "line 2: unknown command"),
     ("config 1 1 1 2 8\n0\n", "line 2: wrong number of words"),
-    ("config 1 1 1 2 8\n0 want 0\n", "line 2: wrong number of words"),
-    ("config 1 1 1 2 8\nwords x\n", "line 2: wrong number of words"),
+    (
+        "config 1 1 1 2 8\n0 want 0\n",
+        "line 2: wrong number of words",
+    ),
+    (
+        "config 1 1 1 2 8\nwords x\n",
+        "line 2: wrong number of words",
+    ),
     ("config 1 1 1 2 8\n9 want x 0\n", "line 2: no such task"),
     ("config 1 1 1 2 8\n256 want 0 0\n", "line 2: no such task"),
     ("config 1 1 1 2 8\n0 want x 0\n", "line 2: bad number"),
-    ("config 1 1 1 2 8\n0 want 99999999999 0\n", "line 2: bad number"),
-    ("config 1 1 1 2 8\n0 want 4294967296 0\n", "line 2: bad number"),
+    (
+        "config 1 1 1 2 8\n0 want 99999999999 0\n",
+        "line 2: bad number",
+    ),
+    (
+        "config 1 1 1 2 8\n0 want 4294967296 0\n",
+        "line 2: bad number",
+    ),
     ("config 1 1 1 2 8\n0 change x up\n", "line 2: bad number"),
     ("config 1 1 1 2 8\n0 step 0\n", "line 2: bad number"),
     ("config 1 1 1 2 8\n0 step 65536\n", "line 2: bad number"),
@@ -303,7 +317,10 @@ fn what_was_printed_before_a_fault_stays(rt: HostRuntime) -> Result<(), Fail> {
 
 #[test]
 fn a_line_has_at_most_256_bytes(rt: HostRuntime) -> Result<(), Fail> {
-    for (bytes, fault) in [(255, "line 2: config expected"), (256, "line 1: line too long")] {
+    for (bytes, fault) in [
+        (255, "line 2: config expected"),
+        (256, "line 1: line too long"),
+    ] {
         let mut schedule = vec![in rt.alloc(); b'x'; bytes]?;
         schedule.insert(0, b'#')?;
         schedule.push(b'\n')?;
@@ -315,10 +332,7 @@ fn a_line_has_at_most_256_bytes(rt: HostRuntime) -> Result<(), Fail> {
 
 #[test]
 fn a_schedule_has_at_most_1048576_lines(rt: HostRuntime) -> Result<(), Fail> {
-    for (empty, fault) in [
-        (1_048_575, ""),
-        (1_048_576, "line 1048577: too many lines"),
-    ] {
+    for (empty, fault) in [(1_048_575, ""), (1_048_576, "line 1048577: too many lines")] {
         let head = b"config 1 1 1 2 8\n".as_slice();
         let ended = replay(rt.alloc(), Newlines { head, empty }, std::io::empty());
         expect_end(&rt, ended, fault)?;
@@ -335,7 +349,9 @@ static SCHEDULE: &str = "config 2 1 1 2 8\n\
          words\n\
          1 want 0 0\n\
          1 run\n";
+
 static TEXT: &str = "0 ok\n1 refused 16 Busy\nmount0.cpu0 1\n1 ok\n";
+
 static AFTER: [usize; 9] = [0, 0, 0, 5, 5, 23, 37, 37, 42];
 
 /// That these are the first bytes of the text.

@@ -111,6 +111,19 @@ stands Empty = 1
 stands Leaving = 1
 stands Skipped = 0
 
+-- 1 where a remount counts on the mount staying read-only
+abbrev pub skips : Role → ℕ
+skips Out = 0
+skips (Asking p) = 0
+skips (Cleared p) = 0
+skips (PastRemount p) = 0
+skips (PastFlags p) = 0
+skips (BackingOff p) = 0
+skips (Summing k sum) = 0
+skips Empty = 0
+skips Leaving = 0
+skips Skipped = 1
+
 -- what a task is counted for: accesses held, and sought
 abbrev pub counted : MountView → ℕ
 counted v = v.held + sought v.role

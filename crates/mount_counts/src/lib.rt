@@ -7,3 +7,6 @@ pub mod phases;
 
 pub use flags::MountFlags;
 pub use phases::{Change, ChangeStep, MountPhase, Want, WantStep};
+
+#[cfg(test)]
+mod tests;

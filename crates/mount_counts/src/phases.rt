@@ -4,11 +4,10 @@ ghost use Rattle.std.specs.Prelude.{◌≡◌};
 ghost use Rattle.mount_counts.specs.Phases.{next, after, at_want, want_next, want_after, at_change, change_next, change_from, change_summed, change_after};
 ghost use Rattle.access_model.specs.declared.replies.Next.TheVariants.{Go};
 
+use crate::flags::MountFlags;
 use access_model::{Action, Gate, GateError, Next, Reply};
 use bitflags::Flags;
 use cpu_words::{Sum, Taken, Touch, WordName};
-
-use crate::flags::MountFlags;
 
 /// What the next event of a want is (`__mnt_want_write`).
 #[derive(Clone, Copy, PartialEq, Eq, Debug)]

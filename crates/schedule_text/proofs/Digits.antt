@@ -17,7 +17,7 @@ digit_in ds i all inside = digit_at ds i (numerals.to ds all) inside
 
 -- one digit more
 pub value_with_next : (ds : List ℕ) (i : ℕ) → list_all is_ascii_digit ds ≡ true → i < length ds →
-  digits_value 10 (take (i + 1) ds) ≡ digits_value 10 (take i ds) * 10 + (get_or ds i 0 - 48)
+    digits_value 10 (take (i + 1) ds) ≡ digits_value 10 (take i ds) * 10 + (get_or ds i 0 - 48)
 value_with_next ds i all inside =
     let more = digits_value_more 10 ds i inside in
     let digit = digit_value_digit (get_or ds i 0) (digit_in ds i all inside) in

@@ -1,10 +1,8 @@
 -- What a line asks for, and the first fault of a line.
 use Rattle.std.specs.Prelude.{ℕ, Bool, true, false, not, ◌==◌, nat_lt, if◌then◌else◌, List, [], ◌∷◌, codes, bytes_eq, Option, Some, None, Result, Ok, Err, ok_or}
 use Rattle.gate_world.specs.declared.config.Config.{Config}
-use Rattle.gate_world.specs.declared.operations.Op.{Op}
 use Rattle.gate_world.specs.declared.operations.Op.TheVariants.{Want as WantOp, DropMount, ChangeMount}
 use Rattle.schedule_text.specs.declared.commands.Hook.{Hook}
-use Rattle.schedule_text.specs.declared.commands.HookFailure.{HookFailure}
 use Rattle.schedule_text.specs.declared.commands.Line.{Line}
 use Rattle.schedule_text.specs.declared.commands.Line.TheVariants.{Skipped, Config as ConfigLine, Words, Model, Task}
 use Rattle.schedule_text.specs.declared.commands.TaskCommand.{TaskCommand}

@@ -4,11 +4,10 @@ ghost use Rattle.std.specs.Prelude.{◌≡◌, ◌++◌, codes, OnOk};
 ghost use Rattle.schedule_text.specs.Printing.{count_name, word_text, word_line, kind_text, event_text, event_line, gate_text, pair_text, action_text, kind_name, reply_text, refusal_text, answer_line, refused_line, idle_line, waiting_line, model_line, read_only_mount_line, held_mount_line, held_level_line, node_line, numbered};
 ghost use Rattle.access_model.specs.declared.actions.Action.TheVariants.{Create};
 
+use crate::output::Output;
 use access_model::{Action, Gate, GateError, Kind, NodeInfo, Reply};
 use cpu_words::{Event, Touch, WordName};
 use std::alloc::AllocError;
-
-use crate::output::Output;
 
 impl Output {
     /// The name of a word, as `mount0.cpu1`.

@@ -3,12 +3,11 @@
 ghost use Rattle.std.specs.Prelude.{◌≡◌};
 ghost use Rattle.schedule_text.specs.Parsing.{parsed, is_skipped, config_line, config_of, command_line, alone, task_line, task_of, arguments_of, want_of, drop_of, change_of, step_of, run_of, number_at, byte_at, code_at, hook_at, read_only_at, read_only_of};
 
-use gate_world::{Config, Op};
-
 use crate::commands::{Hook, HookFailure, Line, TaskCommand, Verb};
 use crate::faults::Fault;
 use crate::numbers::{byte_of, code_of, is_digits, number_of};
 use crate::words::{after_word, first_word, word_count};
+use gate_world::{Config, Op};
 
 /// What a line asks for, where there are so many tasks, or where no configuration was given yet; or the first fault of the
 /// line.

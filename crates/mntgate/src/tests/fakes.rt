@@ -124,7 +124,8 @@ pub struct Counter<'a> {
 
 impl Write for Counter<'_> {
     fn write(&mut self, buf: &[u8]) -> io::Result<usize> {
-        self.written.set(self.written.get().saturating_add(buf.len()));
+        self.written
+            .set(self.written.get().saturating_add(buf.len()));
         Ok(buf.len())
     }
 

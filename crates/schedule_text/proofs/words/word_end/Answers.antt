@@ -1,4 +1,4 @@
-use Rattle.std.proofs.Common.{◌∙◌, sym, rules}
+use Rattle.std.proofs.Common.{◌∙◌, sym}
 use Rattle.schedule_text.proofs.Positions.{nowhere_is_end}
 use Rattle.schedule_text.specs.Words.{is_space}
 use Rattle.schedule_text.proofs.words.word_end.Goals as goal

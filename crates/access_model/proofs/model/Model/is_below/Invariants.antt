@@ -1,7 +1,0 @@
--- the task is in no level from the first to this one
-use Rattle.std.proofs.Common.{◌≡◌, ℕ, ◌≤◌, ◌<◌, false}
-use Rattle.std.specs.Prelude.{slice_index_or}
-use Rattle.access_model.proofs.model.Model.is_below.Given as goal
-
-abbrev pub invariant-loop-later : goal.invariant-loop-later
-invariant-loop-later l = (j : ℕ) → l.level ≤ j → j < l.later → slice_index_or l.inside j false ≡ false

@@ -1,9 +1,0 @@
--- no mount below this one is held
-use Rattle.std.proofs.Common.{ℕ, ◌<◌}
-use Rattle.access_model.specs.declared.actions.Gate.TheVariants.{Mount}
-use Rattle.access_model.specs.States.{NobodyHolds}
-use Rattle.access_model.specs.Shown.{limits_of, state_of}
-use Rattle.access_model.proofs.model.Model.is_every_mount_free.Given as goal
-
-abbrev pub invariant-loop-mount : goal.invariant-loop-mount
-invariant-loop-mount l = (m : ℕ) → m < l.mount → NobodyHolds (limits_of l.self) (state_of l.self) (Mount m)

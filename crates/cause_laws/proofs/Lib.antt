@@ -1,0 +1,3 @@
+pub mod Quiet
+pub mod Causes
+pub mod Entries

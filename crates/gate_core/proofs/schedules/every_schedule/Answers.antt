@@ -1,0 +1,27 @@
+-- Each clause is a lemma on whole schedules.
+use Rattle.schedule_laws.proofs.Whole.{whole_rule, whole_run, whole_moves, whole_nobody, whole_causes, whole_sums, whole_idle, whole_operations}
+use Rattle.gate_core.proofs.schedules.every_schedule.Goals as goal
+
+pub returns-clause-moves : goal.returns-clause-moves
+returns-clause-moves c = whole_moves
+
+pub returns-clause-run : goal.returns-clause-run
+returns-clause-run c = whole_run
+
+pub returns-clause-inside : goal.returns-clause-inside
+returns-clause-inside c = whole_nobody
+
+pub returns-clause-sums : goal.returns-clause-sums
+returns-clause-sums c = whole_sums
+
+pub returns-clause-idle : goal.returns-clause-idle
+returns-clause-idle c = whole_idle
+
+pub returns-clause-operations : goal.returns-clause-operations
+returns-clause-operations c = whole_operations
+
+pub returns-clause-causes : goal.returns-clause-causes
+returns-clause-causes c = whole_causes
+
+pub returns-clause-rule : goal.returns-clause-rule
+returns-clause-rule c = whole_rule

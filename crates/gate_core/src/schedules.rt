@@ -1,0 +1,37 @@
+//! What holds of every schedule.
+
+ghost use Rattle.std.specs.Prelude.{ℕ, List};
+ghost use Rattle.gate_world.specs.declared.config.Config.{Config};
+ghost use Rattle.gate_world.specs.Configs.{IsWithin};
+ghost use Rattle.gate_world.specs.Worlds.{Entry};
+ghost use Rattle.gate_world.specs.Rules.{Good};
+ghost use Rattle.gate_world.specs.Headline.{world_after, MovesTheModel, IsOneRun, NobodyIsInside, SumsHold, IdleSumsHold, OperationsAreKept};
+ghost use Rattle.gate_world.specs.Causes.{RefusalsHaveCauses};
+
+/// The headline. For every configuration within the limits, and every schedule: any list of beginnings, refused ones included, and of
+/// steps with any hook answers, of any tasks, with any numbers in their types' ranges.
+///
+/// - `moves`: whatever entry comes next, an event that adds an action adds one that is allowed in the shown model, whose effect gives
+///   the new shown model; every other entry leaves the shown model as it was.
+/// - `run`: so the actions so far are a legal history whose end is the shown model, and each task's own list is its part of it.
+/// - `inside`: nobody holds an access at a read-only mount, nor at a level that a freeze has passed.
+/// - `sums`, `idle`: each mount's words sum to what is held and sought there, and, with no operation under way, to the accesses held.
+/// - `operations`: each task's events follow the order of its operation; one that replied has added exactly its stated actions, a
+///   refusal has its cause among its events and leaves what the task held, waiting is reported only where it may be, and an operation
+///   that waits for nobody has few events.
+/// - `causes`: a change is refused as busy only where something was counted at that mount in some world from the load of its sum's
+///   first word to the load of its last; a want is refused as read-only only where the shown model had that mount read-only at one of
+///   its loads.
+/// - `rule`: the rule of words and views, from which the rest follows: counts, holdings, the owner's words, mounts.
+///
+/// It takes nothing, does nothing and answers nothing: its contract is the theorem. `Core` is bound to the same worlds by `Shows`.
+pub fn every_schedule()
+    ensures moves { (c : Config) → IsWithin c → (entries : List Entry) (next : Entry) → MovesTheModel c entries next }
+    ensures run { (c : Config) → IsWithin c → (entries : List Entry) → IsOneRun c entries }
+    ensures inside { (c : Config) → IsWithin c → (entries : List Entry) → NobodyIsInside c (world_after c entries) }
+    ensures sums { (c : Config) → IsWithin c → (entries : List Entry) → SumsHold c (world_after c entries) }
+    ensures idle { (c : Config) → IsWithin c → (entries : List Entry) → IdleSumsHold c (world_after c entries) }
+    ensures operations { (c : Config) → IsWithin c → (entries : List Entry) (t : ℕ) → OperationsAreKept c entries t }
+    ensures causes { (c : Config) → IsWithin c → (entries : List Entry) → RefusalsHaveCauses c entries }
+    ensures rule { (c : Config) → IsWithin c → (entries : List Entry) → Good c (world_after c entries) }
+{}

@@ -1,0 +1,165 @@
+-- What an event leaves alone.
+use Rattle.std.proofs.Common.{◌≡◌, ℕ, suc, ◌+◌, ◌<◌, refl, sym, ap, ◌∙◌, subst, inl, inr, arith}
+use Rattle.std.specs.Prelude.{◌==◌, ◌&&◌, ◌||◌, if◌then◌else◌}
+use Rattle.std.proofs.Math.Path.{fun_ext}
+use Rattle.std.proofs.lemmas.Bool.{eq-eqb, ne_eqb}
+use Rattle.std.proofs.lemmas.Bool.Decides.{eqb_tells}
+use Rattle.finite_sums.specs.Sums.{changed, total}
+use Rattle.finite_sums.proofs.Totals.{each_changed, total_changed}
+use Rattle.cpu_words.specs.declared.names.WordName.{WordName}
+use Rattle.cpu_words.specs.declared.names.WordName.TheVariants.{Umount, Stage, SbFlags, Remount, MountFlags, MountCount, Block, Sync, LevelCount, Section, Used, Node, Kids}
+use Rattle.cpu_words.specs.declared.events.Touch.TheVariants.{Load}
+use Rattle.cpu_words.specs.Words.{Words, read, put}
+use Rattle.mount_counts.specs.Roles.{Role, Out, MountView, ro_bit, MountHolds}
+use Rattle.gate_world.specs.declared.config.Config.{Config}
+use Rattle.gate_world.specs.declared.views.View.{View}
+use Rattle.gate_world.specs.Views.{held_at, holds_level, added_after, taken_after}
+use Rattle.gate_world.specs.Worlds.{World, shown, closing, is_passed, node_shown}
+use Rattle.gate_world.specs.Rules.{role_if, at_mount, owns, remounts, OwnerHolds, ViewFits, Good}
+
+pub changed_map : {A B : Type 0} (g : A → B) (f : ℕ → A) (t : ℕ) (v : A) → (λ x. g (changed f t v x)) ≡ changed (λ x. g (f x)) t (g v)
+changed_map g f t v = fun_ext (λ x. elim (eqb_tells x t) [ inl h ↦ rw (h.0, changed) | inr h ↦ rw (h.0, changed) ])
+
+pub changed_same : {A : Type 0} (f : ℕ → A) (t : ℕ) → changed f t (f t) ≡ f
+changed_same f t = fun_ext (λ x. elim (eqb_tells x t) [ inl h ↦ rw (h.0, changed) (ap f (sym h.1)) | inr h ↦ rw (h.0, changed) ])
+
+-- a load leaves the words
+pub load_same : (w : Words) (name : WordName) → put w name (read w name) ≡ w
+load_same w Umount = refl
+load_same w Stage = refl
+load_same w SbFlags = refl
+load_same w Remount = refl
+load_same w (MountFlags m) = λ j. record w { flags = changed_same w.flags m j }
+load_same w (MountCount m p) = λ j. record w { count = (ap (λ g. changed w.count m g) (changed_same (w.count m) p) ∙ changed_same w.count m) j }
+load_same w (Block i) = λ j. record w { block = changed_same w.block i j }
+load_same w (Sync i) = λ j. record w { sync = changed_same w.sync i j }
+load_same w (LevelCount i p) = λ j. record w { level = (ap (λ g. changed w.level i g) (changed_same (w.level i) p) ∙ changed_same w.level i) j }
+load_same w (Section u) = λ j. record w { section = changed_same w.section u j }
+load_same w Used = refl
+load_same w (Node n) = λ j. record w { node = changed_same w.node n j }
+load_same w (Kids n) = λ j. record w { kids = changed_same w.kids n j }
+
+-- and counts nowhere
+pub added_load : (name : WordName) (added : ℕ → ℕ → ℕ) → added_after name Load added ≡ added
+added_load Umount added = refl
+added_load Stage added = refl
+added_load SbFlags added = refl
+added_load Remount added = refl
+added_load (MountFlags m) added = refl
+added_load (MountCount m p) added = refl
+added_load (Block i) added = refl
+added_load (Sync i) added = refl
+added_load (LevelCount i p) added = refl
+added_load (Section u) added = refl
+added_load Used added = refl
+added_load (Node n) added = refl
+added_load (Kids n) added = refl
+
+pub taken_load : (name : WordName) (taken : ℕ → ℕ → ℕ) → taken_after name Load taken ≡ taken
+taken_load Umount taken = refl
+taken_load Stage taken = refl
+taken_load SbFlags taken = refl
+taken_load Remount taken = refl
+taken_load (MountFlags m) taken = refl
+taken_load (MountCount m p) taken = refl
+taken_load (Block i) taken = refl
+taken_load (Sync i) taken = refl
+taken_load (LevelCount i p) taken = refl
+taken_load (Section u) taken = refl
+taken_load Used taken = refl
+taken_load (Node n) taken = refl
+taken_load (Kids n) taken = refl
+
+pub role_on : (m : ℕ) (r : Role) → role_if (m == m) r ≡ r
+role_on m r = rw (eq-eqb m m refl)
+
+pub role_off : (n m : ℕ) (r : Role) → (n ≡ m → ⊥) → role_if (n == m) r ≡ Out
+role_off n m r ne = rw (ne_eqb n m ne)
+
+pub view_as : {h h' : ℕ} {a a' k k' : ℕ → ℕ} {r r' : Role} → h ≡ h' → a ≡ a' → k ≡ k' → r ≡ r' →
+    ◌≡◌ {A = MountView} (record { held = h; added = a; taken = k; role = r }) (record { held = h'; added = a'; taken = k'; role = r' })
+view_as eh ea ek er = λ i. record { held = eh i; added = ea i; taken = ek i; role = er i }
+
+pub holds_as : {tasks processors f f' r r' s s' : ℕ} {c c' : ℕ → ℕ} {at at' : ℕ → MountView} → f ≡ f' → r ≡ r' → s ≡ s' → c ≡ c' → at ≡ at' →
+    MountHolds tasks processors f' r' s' c' at' → MountHolds tasks processors f r s c at
+holds_as {tasks} {processors} ef er es ec ea h = subst (λ X. X) (sym (λ i. MountHolds tasks processors (ef i) (er i) (es i) (ec i) (ea i))) h
+
+module _ (c : Config) (w : World) (t : ℕ) (lt : t < c.tasks) where
+  -- a level is passed as before, where neither its word nor the task's part in its closing changes
+  pub passed_same : (ws : Words) (v : View) (i : ℕ) → ws.block i ≡ w.words.block i → closing i v.phase ≡ closing i (w.views t).phase →
+      is_passed c (record { words = ws; views = changed w.views t v }) i ≡ is_passed c w i
+  passed_same ws v i eb ec =
+      let sums : total c.tasks (λ x. closing i (changed w.views t v x).phase) ≡ total c.tasks (λ x. closing i (w.views x).phase) =
+      omega (arith, ec, total_changed (λ (u : View). closing i u.phase) c.tasks t w.views v lt) in
+      λ j. if (eb j == 1) && (sums j == 0) then 1 else 0
+
+  -- the shown model after an event that is no event of a freeze
+  pub shown_as : (ws : Words) (v : View) → ws.block ≡ w.words.block → ((i : ℕ) → closing i v.phase ≡ closing i (w.views t).phase) →
+      shown c (record { words = ws; views = changed w.views t v }) ≡
+      record (shown c w) {
+        mounts = changed (λ x. held_at (w.views x)) t (held_at v);
+        levels = changed (λ x. holds_level (w.views x)) t (holds_level v);
+        mount_ro = λ m. ro_bit (ws.flags m) == 1;
+        sb_ro = ws.remount == 1 || ws.sb == 1;
+        stage = ws.stage;
+        tree = λ n. node_shown (ws.node n);
+      }
+  shown_as ws v eb ec = λ j. record {
+    mounts = changed_map held_at w.views t v j;
+    levels = changed_map holds_level w.views t v j;
+    mount_ro = λ m. ro_bit (ws.flags m) == 1;
+    sb_ro = ws.remount == 1 || ws.sb == 1;
+    stage = ws.stage;
+    passed = passed_same ws v 1 (ap (λ f. f 1) eb) (ec 1) j + (passed_same ws v 2 (ap (λ f. f 2) eb) (ec 2) j + passed_same ws v 3 (ap (λ f. f 3) eb) (ec 3) j);
+    tree = λ n. node_shown (ws.node n);
+  }
+
+  -- a view with the same actions shows the same accesses
+  pub shown_still : (ws : Words) (v : View) → ws.block ≡ w.words.block → ws.flags ≡ w.words.flags → ws.remount ≡ w.words.remount → ws.sb ≡ w.words.sb → ws.stage ≡ w.words.stage → ws.node ≡ w.words.node →
+      ((i : ℕ) → closing i v.phase ≡ closing i (w.views t).phase) → held_at v ≡ held_at (w.views t) → holds_level v ≡ holds_level (w.views t) →
+      shown c (record { words = ws; views = changed w.views t v }) ≡ shown c w
+  shown_still ws v eb ef er es eg en ec eh el =
+      shown_as ws v eb ec ∙
+      (λ j. record (shown c w) {
+        mounts = (ap (changed (λ x. held_at (w.views x)) t) eh ∙ changed_same (λ x. held_at (w.views x)) t) j;
+        levels = (ap (changed (λ x. holds_level (w.views x)) t) el ∙ changed_same (λ x. holds_level (w.views x)) t) j;
+        mount_ro = λ m. ro_bit (ef j m) == 1;
+        sb_ro = er j == 1 || es j == 1;
+        stage = eg j;
+        tree = λ n. node_shown (en j n);
+      })
+
+  module _ (good : Good c w) where
+    -- an owner's words and phase as they were
+    pub owner_same : (v : View) → owns v.phase ≡ owns (w.views t).phase → remounts v.phase ≡ remounts (w.views t).phase →
+        OwnerHolds c.tasks w.words.umount w.words.remount (λ x. (changed w.views t v x).phase)
+    owner_same v so sr = record {
+      locked = λ x lx. each_changed (λ y (u : View). y < c.tasks → owns u.phase ≡ 1 → w.words.umount ≡ suc y) w.views t v x (λ l e. good.owner.locked t l (sym so ∙ e)) (λ ne. good.owner.locked x) lx;
+      owned = λ x lx. each_changed (λ y (u : View). y < c.tasks → w.words.umount ≡ suc y → owns u.phase ≡ 1) w.views t v x (λ l e. so ∙ good.owner.owned t l e) (λ ne. good.owner.owned x) lx;
+      known = good.owner.known;
+      remounting = omega (arith, good.owner.remounting, sr, total_changed (λ (u : View). remounts u.phase) c.tasks t w.views v lt);
+    }
+
+    -- an event that touches one mount
+    pub good_after : (m : ℕ) (ws : Words) (v : View) →
+        ws.remount ≡ w.words.remount → ws.sb ≡ w.words.sb →
+        OwnerHolds c.tasks ws.umount ws.remount (λ x. (changed w.views t v x).phase) →
+        ViewFits c t v →
+        ((n : ℕ) → (n ≡ m → ⊥) → (ws.flags n ≡ w.words.flags n) × (ws.count n ≡ w.words.count n) × (at_mount n v ≡ at_mount n (w.views t))) →
+        (m < c.mounts → MountHolds c.tasks c.processors (ws.flags m) w.words.remount w.words.sb (ws.count m) (changed (λ x. at_mount m (w.views x)) t (at_mount m v))) →
+        Good c (record { words = ws; views = changed w.views t v })
+    good_after m ws v er es owner fits off own = record {
+      owner = owner;
+      superblock = omega (arith, es, good.superblock);
+      fits = λ x lx. each_changed (λ y u. ViewFits c y u) w.views t v x fits (λ ne. good.fits x lx);
+      mount = λ n ln. elim (eqb_tells n m) [
+        | inl h ↦
+            let lm : m < c.mounts = omega (arith, h.1) in
+            let here : MountHolds c.tasks c.processors (ws.flags m) ws.remount ws.sb (ws.count m) (λ x. at_mount m (changed w.views t v x)) =
+            holds_as refl er es refl (changed_map (at_mount m) w.views t v) (own lm) in
+            subst (λ y. MountHolds c.tasks c.processors (ws.flags y) ws.remount ws.sb (ws.count y) (λ x. at_mount y (changed w.views t v x))) (sym h.1) here
+        | inr h ↦
+            let o : (ws.flags n ≡ w.words.flags n) × (ws.count n ≡ w.words.count n) × (at_mount n v ≡ at_mount n (w.views t)) = off n h.1 in
+            holds_as o.0 er es o.1 (changed_map (at_mount n) w.views t v ∙ (ap (changed (λ x. at_mount n (w.views x)) t) o.2 ∙ changed_same (λ x. at_mount n (w.views x)) t)) (good.mount n ln)
+      ];
+    }

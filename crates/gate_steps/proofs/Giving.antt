@@ -1,0 +1,170 @@
+-- A seat gives one of its numbers to a new seat, or takes back those of another.
+use Rattle.std.proofs.Common.{◌≡◌, ℕ, zero, suc, ◌+◌, ◌<◌, ◌≤◌, ◌≢◌, ◌⊎◌, cond, eqb, List, [], ◌∷◌, ◌++◌, set, sym, refl, ap, ◌∙◌, subst, inl, inr, ⊎_elim, arith, eq-eqb, ne_eqb}
+use mathlib.Core.Logic.{dite}
+use mathlib.Core.Option.{some, some-injective, some-ne-none}
+use native.Mathlib.Decide.{ℕ_discrete}
+use lib.ListN.{get_elem?}
+use Rattle.finite_sums.specs.Sums.{changed}
+use Rattle.finite_sums.proofs.Totals.{changed_at, changed_off, each_changed}
+use Rattle.access_model.specs.Histories.{own_part}
+use Rattle.atomic_table.specs.Table.{Splits, Joins}
+use Rattle.atomic_table.proofs.Lists.{at_set, at_snoc, set_else}
+use Rattle.gate_world.specs.declared.config.Config.{Config}
+use Rattle.gate_world.specs.declared.views.View.{View}
+use Rattle.gate_world.specs.Worlds.{World}
+use Rattle.gate_world.specs.Rules.{Good}
+use Rattle.gate_frames.proofs.Frames.{view_as, owner_same, shown_still}
+use Rattle.change_laws.proofs.Owner.{still}
+use Rattle.gate_steps.specs.declared.seating.Numbered.{Numbered}
+use Rattle.gate_steps.specs.Seating.{SeatItems, numbered, one_if, times, times_all, HaveViews, Dealt, without, view_in, renewed, kept_of, given_of, Spares}
+use Rattle.gate_steps.specs.Rules.{HasHistory}
+use Rattle.gate_steps.proofs.Dealing.{one_if-same, one_if-other, times-append, times_all-set, times_all-one, times_all-snoc, known, apart}
+use Rattle.gate_steps.proofs.Lifting.{holds}
+
+times-without : (n : ℕ) (l : SeatItems) → times n (without n l) ≡ 0
+times-without n [] = refl
+times-without n (x ∷ xs) = dite (ℕ_discrete x.number n)
+    (λ yes. ap (λ b. times n (cond b (without n xs) (x ∷ without n xs))) (eq-eqb x.number n yes) ∙ times-without n xs)
+    (λ no. ap (λ b. times n (cond b (without n xs) (x ∷ without n xs))) (ne_eqb x.number n no) ∙ (let r = times-without n xs in omega (arith, one_if-other x.number n no)))
+
+times-without_other : (m n : ℕ) (l : SeatItems) → m ≢ n → times m (without n l) ≡ times m l
+times-without_other m n [] ne = refl
+times-without_other m n (x ∷ xs) ne =
+    let r = times-without_other m n xs ne in
+    dite (ℕ_discrete x.number n)
+    (λ yes. ap (λ b. times m (cond b (without n xs) (x ∷ without n xs))) (eq-eqb x.number n yes) ∙ (let z = one_if-other x.number m (λ q. ne (sym q ∙ yes)) in omega arith))
+    (λ no. ap (λ b. times m (cond b (without n xs) (x ∷ without n xs))) (ne_eqb x.number n no) ∙ ap (λ (k : ℕ). one_if (eqb x.number m) + k) r)
+
+abbrev Stands : SeatItems → ℕ → Numbered → Type 0
+Stands l n y = (j : ℕ) × (get_elem? l j ≡ some y) × (y.number ≢ n)
+
+without-at_kept : (n : ℕ) (x : Numbered) (xs : SeatItems) (k : ℕ) (y : Numbered) → x.number ≢ n → get_elem? (x ∷ without n xs) k ≡ some y →
+    ((j : ℕ) (z : Numbered) → get_elem? (without n xs) j ≡ some z → Stands xs n z) → Stands (x ∷ xs) n y
+without-at_kept n x xs zero y ne e r = (0, e, subst (λ (z : Numbered). z.number ≢ n) (some-injective x y e) ne)
+without-at_kept n x xs (suc k) y ne e r = let t = r k y e in (suc t.0, t.1, t.2)
+
+without-at : (n : ℕ) (l : SeatItems) (k : ℕ) (y : Numbered) → get_elem? (without n l) k ≡ some y → Stands l n y
+without-at n [] k y e = absurd (some-ne-none y (sym e))
+without-at n (x ∷ xs) k y e = dite (ℕ_discrete x.number n)
+    (λ yes. let r = without-at n xs k y (subst (λ b. get_elem? (cond b (without n xs) (x ∷ without n xs)) k ≡ some y) (eq-eqb x.number n yes) e) in (suc r.0, r.1, r.2))
+    (λ no. without-at_kept n x xs k y no (subst (λ b. get_elem? (cond b (without n xs) (x ∷ without n xs)) k ≡ some y) (ne_eqb x.number n no) e) (without-at n xs))
+
+-- a number that is counted stands there with its view
+pub view_in-at : (n : ℕ) (l : SeatItems) → 1 ≤ times n l → (j : ℕ) × (get_elem? l j ≡ some (numbered n (view_in n l)))
+view_in-at n [] some_there = absurd (omega arith)
+view_in-at n (x ∷ xs) some_there = dite (ℕ_discrete x.number n)
+    (λ yes. (0, ap some (λ i. numbered (yes i) x.view) ∙ ap (λ b. some (numbered n (cond b x.view (view_in n xs)))) (sym (eq-eqb x.number n yes))))
+    (λ no. let r = view_in-at n xs (omega (arith, one_if-other x.number n no)) in (suc r.0, r.1 ∙ ap (λ b. some (numbered n (cond b x.view (view_in n xs)))) (sym (ne_eqb x.number n no))))
+
+-- so, where the numbers have their views, it is the view of that number
+pub view_in-is : (views : ℕ → View) (l : SeatItems) (n : ℕ) → HaveViews views l → 1 ≤ times n l → views n ≡ view_in n l
+view_in-is views l n mine some_there = let r = view_in-at n l some_there in mine r.0 (numbered n (view_in n l)) r.1
+
+at_append : {A : Type 0} (l m : List A) (k : ℕ) (y : A) → get_elem? (l ++ m) k ≡ some y → (get_elem? l k ≡ some y) ⊎ ((j : ℕ) × (get_elem? m j ≡ some y))
+at_append [] m k y e = inr (k, e)
+at_append (x ∷ xs) m zero y e = inl e
+at_append (x ∷ xs) m (suc k) y e = at_append xs m k y e
+
+module _ (tasks : ℕ) (views : ℕ → View) (seats : List SeatItems) (dealt : Dealt tasks views seats) (id n : ℕ) (x : Numbered) (xs : SeatItems) (at : get_elem? seats id ≡ some (x ∷ xs)) (spare : 1 ≤ times n xs) where
+  only : (times n (x ∷ xs) ≡ 1) × (times n xs ≡ 1) × (x.number ≢ n)
+  only =
+      let all = times_all-one n seats id (x ∷ xs) at in
+      let o = (known tasks views seats dealt n (omega arith)).1 in
+      (omega arith, omega arith, (λ q. let e : one_if (eqb x.number n) ≡ 1 = ap one_if (eq-eqb x.number n q) in omega arith))
+
+  counts : (m : ℕ) (v : View) → times m (x ∷ without n xs) + times m (numbered n v ∷ []) ≡ times m (x ∷ xs)
+  counts m v = dite (ℕ_discrete m n)
+      (λ yes. subst (λ z. times z (x ∷ without n xs) + times z (numbered n v ∷ []) ≡ times z (x ∷ xs)) (sym yes)
+      (let o = only in let a = o.0 in let b = o.1 in omega (arith, times-without n xs, one_if-same n)))
+      (λ no. omega (arith, times-without_other m n xs no, one_if-other n m (λ q. no (sym q))))
+
+  -- the number goes with the view w, and no other view changes
+  module _ (w : View) (new : ℕ → View) (mine : new n ≡ w) (others : (y : ℕ) → (y ≡ n → ⊥) → new y ≡ views y) where
+    left_behind : HaveViews new (x ∷ without n xs)
+    left_behind zero y f =
+        let is : x ≡ y = some-injective x y f in
+        others y.number (subst (λ (z : Numbered). z.number ≢ n) is (only.2)) ∙ dealt.same id (x ∷ xs) at 0 y f
+    left_behind (suc k) y f = let r = without-at n xs k y f in others y.number r.2 ∙ dealt.same id (x ∷ xs) at (suc r.0) y r.1
+
+    given : HaveViews new (numbered n w ∷ [])
+    given zero y f = subst (λ (z : Numbered). new z.number ≡ z.view) (some-injective (numbered n w) y f) mine
+    given (suc k) y f = absurd (some-ne-none y (sym f))
+
+    divided : Dealt tasks new (set seats id (x ∷ without n xs) ++ (numbered n w ∷ []) ∷ [])
+    divided =
+        let same : (m : ℕ) → times_all m (set seats id (x ∷ without n xs) ++ (numbered n w ∷ []) ∷ []) ≡ times_all m seats =
+        λ m. omega (arith, times_all-snoc m (set seats id (x ∷ without n xs)) (numbered n w ∷ []), times_all-set m seats id (x ∷ xs) (x ∷ without n xs) at, counts m w) in
+        let here : 1 ≤ times n (x ∷ xs) = let a = only.0 in omega arith in
+        record {
+          once = λ m lt. same m ∙ dealt.once m lt;
+          no_other = λ m ge. same m ∙ dealt.no_other m ge;
+          same = λ j m e k y f. ⊎_elim
+              (λ s. ⊎_elim
+              (λ q. left_behind k y (subst (λ l. get_elem? l k ≡ some y) (sym q.1) f))
+              (λ q. others y.number (apart tasks views seats dealt id (x ∷ xs) at n j k m y here q.0 q.1 f) ∙ dealt.same j m q.1 k y f)
+              (at_set seats id j (x ∷ without n xs) m s))
+              (λ s. given k y (subst (λ l. get_elem? l k ≡ some y) (sym s) f))
+              (at_snoc (set seats id (x ∷ without n xs)) (numbered n w ∷ []) m j e);
+        }
+
+-- the world in which a number's view is renewed
+abbrev renewed_at : World → ℕ → World
+renewed_at w n = record { words = w.words; views = changed w.views n (renewed (w.views n)) }
+
+renewed_good : (c : Config) (w : World) → Good c w → (n : ℕ) → n < c.tasks → Good c (renewed_at w n)
+renewed_good c w good n lt =
+    let v : View = renewed (w.views n) in
+    still c w good n lt w.words v refl refl refl refl (owner_same c w n lt good v refl refl) (good.fits n lt) (λ y. view_as refl refl refl refl)
+
+renewed_history : (c : Config) (w : World) (n : ℕ) → n < c.tasks → HasHistory c w → HasHistory c (renewed_at w n)
+renewed_history c w n lt h =
+    let v : View = renewed (w.views n) in record {
+      log = h.log;
+      legal = h.legal;
+      end = h.end ∙ sym (shown_still c w n lt w.words v refl refl refl refl refl refl (λ i. refl) refl refl);
+      lists = λ x. each_changed (λ y (u : View). own_part y h.log ≡ u.actions) w.views n v x (h.lists n) (λ ne. h.lists x);
+    }
+
+-- a seat gives a number that it has to give
+pub splits : (c : Config) (id n : ℕ) (v : SeatItems) → Spares n v → Splits (holds c) id v (kept_of n v) (given_of n v)
+splits c id n [] spare s held at = absurd spare
+splits c id n (x ∷ xs) spare s held at =
+    let w : World = held.world in
+    let there = view_in-at n xs spare in
+    let u : View = view_in n xs in
+    let is : w.views n ≡ u = held.dealt.same id (x ∷ xs) at (suc there.0) (numbered n u) there.1 in
+    let all = times_all-one n s.views id (x ∷ xs) at in
+    let lt : n < c.tasks = (known c.tasks w.views s.views held.dealt n (omega arith)).0 in
+    let v : View = renewed (w.views n) in record {
+      world = renewed_at w n;
+      ruled = record { within = held.ruled.within; long = held.ruled.long; words = held.ruled.words; good = renewed_good c w held.ruled.good n lt };
+      history = renewed_history c w n lt held.history;
+      dealt = divided c.tasks w.views s.views held.dealt id n x xs at spare (renewed u) (changed w.views n v) (changed_at w.views n v ∙ ap renewed is) (λ y ne. changed_off w.views n v y ne);
+    }
+
+module _ (tasks : ℕ) (views : ℕ → View) (seats : List SeatItems) (dealt : Dealt tasks views seats) (id other : ℕ) (v w : SeatItems) (at : get_elem? seats id ≡ some v) (ne : ¬ (other ≡ id)) (at' : get_elem? seats other ≡ some w) where
+  merged : Dealt tasks views (set (set seats id (v ++ w)) other [])
+  merged =
+      let then_at : get_elem? (set seats id (v ++ w)) other ≡ some w = set_else seats id other (v ++ w) ne ∙ at' in
+      let same : (m : ℕ) → times_all m (set (set seats id (v ++ w)) other []) ≡ times_all m seats =
+      λ m. omega (arith, times_all-set m (set seats id (v ++ w)) other w [] then_at, times_all-set m seats id v (v ++ w) at, times-append m v w) in
+      record {
+        once = λ m lt. same m ∙ dealt.once m lt;
+        no_other = λ m ge. same m ∙ dealt.no_other m ge;
+        same = λ j m e k y f. ⊎_elim
+            (λ q. absurd (some-ne-none y (sym (subst (λ l. get_elem? l k ≡ some y) (sym q.1) f))))
+            (λ q. ⊎_elim
+            (λ r. ⊎_elim (λ t. dealt.same id v at k y t) (λ t. dealt.same other w at' t.0 y t.1) (at_append v w k y (subst (λ l. get_elem? l k ≡ some y) (sym r.1) f)))
+            (λ r. dealt.same j m r.1 k y f)
+            (at_set seats id j (v ++ w) m q.1))
+            (at_set (set seats id (v ++ w)) other j [] m e);
+      }
+
+-- a seat takes back all numbers of another
+pub joins : (c : Config) (id other : ℕ) (v w : SeatItems) → Joins (holds c) id v other w (v ++ w) []
+joins c id other v w s held at ne at' = record {
+  world = held.world;
+  ruled = held.ruled;
+  history = held.history;
+  dealt = merged c.tasks held.world.views s.views held.dealt id other v w at ne (sym (set_else s.views id other (v ++ w) ne) ∙ at');
+}

@@ -1,0 +1,6 @@
+pub mod Dealing
+pub mod Stride
+pub mod Lifting
+pub mod Giving
+pub mod Opening
+pub mod Closing

@@ -1,0 +1,160 @@
+-- The laws of one event and of a beginning as what a step on the table asks.
+use Rattle.std.proofs.Common.{◌≡◌, ℕ, ◌*◌, ◌<◌, List, [], ◌∷◌, set, sym, refl, ap, ◌∙◌, subst, length-set, arith}
+use Rattle.std.specs.Prelude.{Option, Some, None, slice_index}
+use Rattle.finite_sums.specs.Sums.{changed}
+use Rattle.finite_sums.proofs.Totals.{changed_at, changed_off}
+use Rattle.atomic_table.specs.Table.{State, Me, keeps, Allows}
+use Rattle.access_model.specs.declared.actions.Action.{Action}
+use Rattle.access_model.specs.declared.replies.Next.{Next}
+use Rattle.access_model.specs.Histories.{Done, IsMerge}
+use Rattle.access_model.specs.States.{State as Shown}
+use Rattle.cpu_words.specs.declared.names.WordName.{WordName}
+use Rattle.cpu_words.specs.declared.events.Touch.{Touch}
+use Rattle.cpu_words.specs.declared.events.Touch.TheVariants.{Load, Store, Add, Sub, Or, And, Swap, Cas}
+use Rattle.cpu_words.specs.Hooks.{HookAnswer}
+use Rattle.cpu_words.specs.Names.{IsWord, place}
+use Rattle.cpu_words.specs.Touches.{left, found_by}
+use Rattle.cpu_words.specs.Words.{Words, read, put}
+use Rattle.gate_world.specs.declared.config.Config.{Config}
+use Rattle.gate_world.specs.declared.operations.Op.{Op}
+use Rattle.gate_world.specs.declared.work.Phase.{Phase}
+use Rattle.gate_world.specs.declared.views.View.{View}
+use Rattle.gate_world.specs.Configs.{IsWithin, extents_of}
+use Rattle.gate_world.specs.Work.{next_of, after_of}
+use Rattle.gate_world.specs.Views.{held_at, holds_level, begun_view, view_with, view_after}
+use Rattle.gate_world.specs.Worlds.{World, first_phase, view_refusal, words_after, value_at, found_at, stepped, phase_action, noted, shown}
+use Rattle.gate_world.specs.Fits.{Fits}
+use Rattle.gate_world.specs.Rules.{Good, Moves, StepKeeps}
+use Rattle.schedule_laws.proofs.Schedule.{may_begin, phase_keeps, begun_keeps, legal_more}
+use Rattle.schedule_laws.proofs.Lists.{step_lists, begin_lists}
+use Rattle.gate_core.proofs.Phases.{word_there}
+use Rattle.gate_steps.specs.declared.seating.Numbered.{Numbered}
+use Rattle.gate_steps.specs.Seating.{SeatItems, HaveViews, MayDo, Acts, entered, world_entered, items_after, happened}
+use Rattle.gate_steps.specs.Rules.{table_length, TableShows, Held}
+use Rattle.gate_steps.proofs.Stride.{written}
+use Rattle.gate_steps.proofs.Dealing.{times-at, known_here, redealt}
+
+abbrev pub Carried : Type 0
+Carried = List (ℕ × Unit {0})
+
+abbrev pub holds : Config → State (Unit {0}) SeatItems → Type 0
+holds c s = Held c s.words s.views
+
+-- a view depends on a word's value only through what the event says that it found
+view_same : (v : View) (word : WordName) (touch : Touch) (n : ℕ) (hook : HookAnswer) (after : ℕ → Next Phase × Option Action) →
+    view_with v (word, touch) (found_by touch n) hook (after (found_by touch (found_by touch n))) ≡ view_with v (word, touch) n hook (after (found_by touch n))
+view_same v word Load n hook after = refl
+view_same v word (Store new) n hook after = refl
+view_same v word (Add by) n hook after = refl
+view_same v word (Sub by) n hook after = refl
+view_same v word (Or bits) n hook after = refl
+view_same v word (And bits) n hook after = refl
+view_same v word (Swap new) n hook after = refl
+view_same v word (Cas expect put) n hook after = refl
+
+pub found_serves : (v : View) (phase : Phase) (n : ℕ) (hook : HookAnswer) → view_after v phase (found_by (next_of phase hook).1 n) hook ≡ view_after v phase n hook
+found_serves v phase n hook = view_same v (next_of phase hook).0 (next_of phase hook).1 n hook (λ k. after_of phase k hook)
+
+-- the world with which an event of a task begins: the task may just have begun its operation
+record Entered (c : Config) (w : World) (t : ℕ) (begins : Option Op) (phase : Phase) (v : View) (log : List Done) : Type 0 where
+  good : Good c (world_entered c w t begins)
+  shows : shown c (world_entered c w t begins) ≡ shown c w
+  lists : IsMerge (λ x. ((world_entered c w t begins).views x).actions) log
+  mine : (world_entered c w t begins).views t ≡ entered v begins phase
+  at_phase : ((world_entered c w t begins).views t).phase ≡ Some phase
+  words : (world_entered c w t begins).words ≡ w.words
+  others : (y : ℕ) → (y ≡ t → ⊥) → (world_entered c w t begins).views y ≡ w.views y
+
+enter : (c : Config) (lim : IsWithin c) (w : World) → Good c w → (x : Numbered) → x.number < c.tasks → (log : List Done) → IsMerge (λ t. (w.views t).actions) log →
+    w.views x.number ≡ x.view → (begins : Option Op) (phase : Phase) → MayDo c begins phase x → Entered c w x.number begins phase x.view log
+enter c lim w good x lt log lists mine None phase may = record {
+  good = good;
+  shows = refl;
+  lists = lists;
+  mine = mine;
+  at_phase = ap (λ (v : View). v.phase) mine ∙ may;
+  words = refl;
+  others = λ y ne. refl;
+}
+enter c lim w good x lt log lists mine (Some op) phase may =
+    let t : ℕ = x.number in
+    let v : View = begun_view (w.views t) op (first_phase c t op) in
+    let ok : view_refusal c (w.views t) op ≡ None = ap (λ u. view_refusal c u op) mine ∙ may.0 in
+    let kept = begun_keeps c lim w good t lt op (may_begin c (w.views t) op ok) in
+    let here : changed w.views t v t ≡ v = changed_at w.views t v in
+    record {
+      good = kept.0;
+      shows = kept.1;
+      lists = begin_lists c w log t op None lists;
+      mine = here ∙ (λ i. begun_view (mine i) op (sym may.1 i));
+      at_phase = ap (λ (u : View). u.phase) here ∙ ap Some (sym may.1);
+      words = refl;
+      others = λ y ne. changed_off w.views t v y ne;
+    }
+
+-- Whatever the event, the laws of the machine are what the step asks
+pub lifted : (c : Config) (slots id : ℕ) (items : SeatItems) (carried : Carried) (begins : Option Op) (phase : Phase) (hook : HookAnswer) → Acts c begins phase items →
+    Allows (holds c) slots id (items, carried) (16 * place (next_of phase hook).0) (left (next_of phase hook).1) (λ n. happened c begins phase hook (items, carried) (found_by (next_of phase hook).1 n))
+lifted c slots id [] carried begins phase hook acts s held len at small = absurd acts
+lifted c slots id (x ∷ xs) carried begins phase hook acts s held len at small =
+    let t : ℕ = x.number in
+    let w : World = held.world in
+    let lim : IsWithin c = held.ruled.within in
+    let good : Good c w = held.ruled.good in
+    let mine : HaveViews w.views (x ∷ xs) = held.dealt.same id (x ∷ xs) at in
+    let lt : t < c.tasks = known_here c.tasks w.views s.views held.dealt id (x ∷ xs) at t (times-at (x ∷ xs) 0 x refl) in
+    let log : List Done = held.history.log in
+    let en : Entered c w t begins phase x.view log = enter c lim w good x lt log held.history.lists (mine 0 x refl) begins phase acts in
+    let w' : World = world_entered c w t begins in
+    let name : WordName = (next_of phase hook).0 in
+    let touch : Touch = (next_of phase hook).1 in
+    let after : World = stepped w' t phase hook in
+    let kept : StepKeeps c w' t hook phase = phase_keeps c lim w' en.good t lt hook phase en.at_phase in
+    let there : IsWord (extents_of c) name =
+    word_there c lim t (held_at (w'.views t)) (holds_level (w'.views t)) phase hook (subst (λ o. Fits c t (held_at (w'.views t)) (holds_level (w'.views t)) o) en.at_phase (en.good.fits t lt)) in
+    let i : ℕ = 16 * place name in
+    let n : ℕ = slice_index s.words i in
+    let value : n ≡ value_at w'.words phase hook = held.ruled.words name there ∙ ap (λ (l : Words). read l name) (sym en.words) in
+    let table : TableShows c (set s.words i (left touch n)) (words_after w'.words phase hook) =
+    subst (λ m. TableShows c (set s.words i (left touch n)) (put w'.words name (left touch m))) value
+    (written c lim s.words w'.words name (left touch n) held.ruled.long there (subst (TableShows c s.words) (sym en.words) held.ruled.words)) in
+    let v : View = view_after (entered x.view begins phase) phase (found_by touch n) hook in
+    let own : after.views t ≡ v =
+    changed_at w'.views t (view_after (w'.views t) phase (value_at w'.words phase hook) hook) ∙
+    ((λ j. view_after (en.mine j) phase (sym value j) hook) ∙ sym (found_serves (entered x.view begins phase) phase n hook)) in
+    let others : (y : ℕ) → (y ≡ t → ⊥) → after.views y ≡ w.views y =
+    λ y ne. changed_off w'.views t (view_after (w'.views t) phase (value_at w'.words phase hook) hook) y ne ∙ en.others y ne in
+    let more = legal_more c lim (shown c w') (shown c after) t (phase_action w' hook (Some phase)) log kept.1 held.history.legal (held.history.end ∙ sym en.shows) in (
+      items_after begins phase hook (found_by touch n) (x ∷ xs),
+      keeps,
+      tt,
+      record {
+        world = after;
+        ruled = record { within = lim; long = length-set s.words i (left touch n) ∙ held.ruled.long; words = table; good = kept.0 };
+        history = record { log = noted t (phase_action w' hook (Some phase)) log; legal = more.0; end = more.1; lists = step_lists w' log t hook (Some phase) en.lists };
+        dealt = redealt c.tasks w.views s.views held.dealt id (x ∷ xs) at t x.view v xs refl after.views own others;
+      },
+      (
+        refl,
+        refl,
+        record {
+          world = w;
+          task = lt;
+          before = good;
+          mine = mine;
+          found = ap (found_by touch) (held.ruled.words name there);
+          after = kept.0;
+          moves = subst (λ (z : Shown × Words). Moves c z.0 t (after_of phase (found_at z.1 phase hook) hook).1 (shown c after)) (λ j. (en.shows j, en.words j)) kept.1;
+        },
+      ),
+    )
+
+-- The same at a place, a touch and a moment that equal those of the phase, with the place's bound
+pub lifted_at : (c : Config) (slots words id : ℕ) (me : Me (Unit {0}) SeatItems) (d : Config) (begins starts : Option Op) (p q : Phase) (h k : HookAnswer) (r : WordName × Touch) (i : ℕ) (touch : Touch) →
+    c ≡ d → begins ≡ starts → p ≡ q → h ≡ k → r ≡ next_of p h → i ≡ 16 * place r.0 → r.1 ≡ touch → words ≡ table_length → place (next_of p h).0 < 915 → Acts c begins p me.0 →
+    (i < words) × Allows (holds c) slots id me i (left touch) (λ n. happened d starts q k me (found_by touch n))
+lifted_at c slots words id me d begins starts p q h k r i touch ec eb ep eh er ei et ew small acts =
+    let at : i ≡ 16 * place (next_of p h).0 = ei ∙ ap (λ (z : WordName × Touch). 16 * place z.0) er in
+    let same : (next_of p h).1 ≡ touch = ap (λ (z : WordName × Touch). z.1) (sym er) ∙ et in
+    let P : Config × Option Op × Phase × HookAnswer × ℕ × Touch → Type 0 = λ z. Allows (holds c) slots id me z.4 (left z.5) (λ n. happened z.0 z.1 z.2 z.3 me (found_by z.5 n)) in
+    (omega arith, subst P (λ j. (ec j, eb j, ep j, eh j, sym at j, same j)) (lifted c slots id me.0 me.1 begins p h acts))

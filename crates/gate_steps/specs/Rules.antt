@@ -1,0 +1,44 @@
+-- The rule of the table.
+use Rattle.std.specs.Prelude.{◌≡◌, ℕ, ◌*◌, List, length, slice_index}
+use Rattle.access_model.specs.Histories.{Done, end_of, IsLegal, IsMerge}
+use Rattle.cpu_words.specs.declared.names.WordName.{WordName}
+use Rattle.cpu_words.specs.Names.{IsWord, place}
+use Rattle.cpu_words.specs.Words.{Words, read}
+use Rattle.gate_world.specs.declared.config.Config.{Config}
+use Rattle.gate_world.specs.Configs.{IsWithin, limits_of, extents_of}
+use Rattle.gate_world.specs.Worlds.{World, shown}
+use Rattle.gate_world.specs.Rules.{Good}
+use Rattle.gate_steps.specs.Seating.{SeatItems, Dealt, deal}
+
+-- 915 words, 16 apart
+abbrev pub table_length : ℕ
+table_length = 14640
+
+-- the table has these words at their places, which are 16 apart
+abbrev pub TableShows : Config → List ℕ → Words → Type 0
+TableShows c ws words = (name : WordName) → IsWord (extents_of c) name → slice_index ws (16 * place name) ≡ read words name
+
+-- the rule of words and views holds of the world, which the table shows
+pub record Ruled (c : Config) (ws : List ℕ) (w : World) : Type 0 where
+  pub within : IsWithin c
+  pub long : length ws ≡ table_length
+  pub words : TableShows c ws w.words
+  pub good : Good c w
+
+-- one history: a legal log of actions, whose end is the shown model, and of which each number's own list is its part
+pub record HasHistory (c : Config) (w : World) : Type 0 where
+  pub log : List Done
+  pub legal : IsLegal (limits_of c) log
+  pub end : end_of log ≡ shown c w
+  pub lists : IsMerge (λ t. (w.views t).actions) log
+
+-- the rule of the table
+pub record Held (c : Config) (ws : List ℕ) (seats : List SeatItems) : Type 0 where
+  pub world : World
+  pub ruled : Ruled c ws world
+  pub history : HasHistory c world
+  pub dealt : Dealt c.tasks world.views seats
+
+-- what the first seat knows: all numbers
+abbrev pub first_items : Config → SeatItems
+first_items c = deal 0 c.tasks

@@ -1,0 +1,121 @@
+-- What a seat knows: task numbers, each with its view. The first is its own, the others it has still to give.
+use Rattle.std.specs.Prelude.{◌≡◌, ℕ, zero, suc, ◌+◌, ◌==◌, ◌<◌, ◌≤◌, Bool, true, false, cond, Option, Some, None, List, [], ◌∷◌}
+use mathlib.Core.Option.{some}
+use lib.ListN.{get_elem?}
+use Rattle.cpu_words.specs.Hooks.{HookAnswer}
+use Rattle.gate_world.specs.declared.config.Config.{Config}
+use Rattle.gate_world.specs.declared.operations.Op.{Op}
+use Rattle.gate_world.specs.declared.work.Phase.{Phase}
+use Rattle.gate_world.specs.declared.views.View.{View}
+use Rattle.gate_world.specs.Views.{opening_view, begun_view, view_after}
+use Rattle.gate_world.specs.Worlds.{World, first_phase, view_refusal, begun, found_at, stepped, phase_action, shown}
+use Rattle.gate_world.specs.Rules.{Good, Moves}
+use Rattle.gate_steps.specs.declared.seating.Numbered.{Numbered}
+
+-- what a seat knows
+abbrev pub SeatItems : Type 0
+SeatItems = List Numbered
+
+abbrev pub numbered : ℕ → View → Numbered
+numbered n v = record { number = n; view = v }
+
+abbrev pub one_if : Bool → ℕ
+one_if true = 1
+one_if false = 0
+
+-- how often a number stands among these
+abbrev pub times : ℕ → SeatItems → ℕ
+times n [] = 0
+times n (x ∷ xs) = one_if (x.number == n) + times n xs
+
+abbrev pub times_all : ℕ → List SeatItems → ℕ
+times_all n [] = 0
+times_all n (l ∷ ls) = times n l + times_all n ls
+
+-- the numbers of a seat have these views
+abbrev pub HaveViews : (ℕ → View) → SeatItems → Type 0
+HaveViews views items = (k : ℕ) (x : Numbered) → get_elem? items k ≡ some x → views x.number ≡ x.view
+
+-- numbers are dealt: each number of a task stands in just one seat, once, there is no other, and what stands beside it is its view
+pub record Dealt (tasks : ℕ) (views : ℕ → View) (seats : List SeatItems) : Type 0 where
+  pub once : (n : ℕ) → n < tasks → times_all n seats ≡ 1
+  pub no_other : (n : ℕ) → tasks ≤ n → times_all n seats ≡ 0
+  pub same : (id : ℕ) (items : SeatItems) → get_elem? seats id ≡ some items → HaveViews views items
+
+-- a number with this view may do the event of this phase: it is at the phase, or the phase is the first of an operation that it
+-- may begin
+abbrev pub MayDo : Config → Option Op → Phase → Numbered → Type 0
+MayDo c None phase x = x.view.phase ≡ Some phase
+MayDo c (Some op) phase x = (view_refusal c x.view op ≡ None) × (phase ≡ first_phase c x.number op)
+
+-- the seat's own number may
+abbrev pub Acts : Config → Option Op → Phase → SeatItems → Type 0
+Acts c begins phase [] = ⊥
+Acts c begins phase (x ∷ xs) = MayDo c begins phase x
+
+-- the view with which the event begins
+abbrev pub entered : View → Option Op → Phase → View
+entered v None phase = v
+entered v (Some op) phase = begun_view v op phase
+
+-- and the world
+abbrev pub world_entered : Config → World → ℕ → Option Op → World
+world_entered c w t None = w
+world_entered c w t (Some op) = begun c w t op
+
+-- what the seat knows after the event, which found this
+abbrev pub items_after : Option Op → Phase → HookAnswer → ℕ → SeatItems → SeatItems
+items_after begins phase hook found [] = []
+items_after begins phase hook found (x ∷ xs) = numbered x.number (view_after (entered x.view begins phase) phase found hook) ∷ xs
+
+-- The event happened in some world that the rule holds of, in which the seat's numbers have their views, and what it left is such a
+-- world too. It moves the shown model by its action.
+pub record Moved (c : Config) (begins : Option Op) (phase : Phase) (hook : HookAnswer) (x : Numbered) (xs : SeatItems) (n : ℕ) : Type 0 where
+  pub world : World
+  pub task : x.number < c.tasks
+  pub before : Good c world
+  pub mine : HaveViews world.views (x ∷ xs)
+  pub found : n ≡ found_at world.words phase hook
+  pub after : Good c (stepped (world_entered c world x.number begins) x.number phase hook)
+  pub moves : Moves c (shown c world) x.number (phase_action world hook (Some phase)) (shown c (stepped (world_entered c world x.number begins) x.number phase hook))
+
+abbrev pub IsMove : Config → Option Op → Phase → HookAnswer → SeatItems → ℕ → Type 0
+IsMove c begins phase hook [] found = ⊥
+IsMove c begins phase hook (x ∷ xs) found = Moved c begins phase hook x xs found
+
+-- what the one play says: the seat's own view is what the event makes of it, nothing else of the seat changed, and it was an event
+-- in a world that the rule holds of
+abbrev pub happened : Config → Option Op → Phase → HookAnswer → SeatItems × List (ℕ × Unit {0}) → ℕ → SeatItems × List (ℕ × Unit {0}) → Type 0
+happened c begins phase hook me found after = (after.0 ≡ items_after begins phase hook found me.0) × (after.1 ≡ me.1) × IsMove c begins phase hook me.0 found
+
+abbrev pub without : ℕ → SeatItems → SeatItems
+without n [] = []
+without n (x ∷ xs) = cond (x.number == n) (without n xs) (x ∷ without n xs)
+
+abbrev pub view_in : ℕ → SeatItems → View
+view_in n [] = opening_view
+view_in n (x ∷ xs) = cond (x.number == n) x.view (view_in n xs)
+
+-- the view with which another task takes over: no operation of its own yet
+abbrev pub renewed : View → View
+renewed v = record v { op = None; trace = []; snapshot = None }
+
+-- what a seat keeps that gives a number
+abbrev pub kept_of : ℕ → SeatItems → SeatItems
+kept_of n [] = []
+kept_of n (x ∷ xs) = x ∷ without n xs
+
+-- and what it gives
+abbrev pub given_of : ℕ → SeatItems → SeatItems
+given_of n [] = []
+given_of n (x ∷ xs) = numbered n (renewed (view_in n xs)) ∷ []
+
+-- the number is one that the seat has still to give
+abbrev pub Spares : ℕ → SeatItems → Type 0
+Spares n [] = ⊥
+Spares n (x ∷ xs) = 1 ≤ times n xs
+
+-- so many numbers from n on, which have done nothing
+abbrev pub deal : ℕ → ℕ → SeatItems
+deal n zero = []
+deal n (suc k) = numbered n opening_view ∷ deal (suc n) k

@@ -1,0 +1,13 @@
+//! The words in one table of atomic words, under the rule of words and views: each event is one atomic step, whichever thread
+//! takes it.
+#![tactic(auto)]
+
+mod rule;
+mod seating;
+mod steps;
+mod tables;
+
+pub use rule::{Given, Gives, Happens, Items, Moment, Rule, TakesBack};
+pub use seating::Numbered;
+pub use steps::{event, give, index_of, take_back};
+pub use tables::{Closed, GateTable, close, open, opening_words, word_of};

@@ -1,0 +1,99 @@
+//! The one rule of the table, and the one play of its steps.
+
+use crate::seating::Numbered;
+use atomic_table::{Join, Play, Split, TableRule};
+use gate_world::Config;
+use std::collections::LinkedList;
+use std::marker::{Brand, PhantomData};
+
+/// What a seat knows. The first of its numbers is its own, the others it has still to give; a spent seat has none.
+pub type Items = LinkedList<Numbered>;
+
+/// The rule of the table: the rule of words and views, one history, and numbers that are dealt.
+pub struct Rule;
+
+impl TableRule<(), Items, Config> for Rule {
+    ghost use Rattle.gate_steps.specs.Rules.{Held, first_items};
+
+    ghost holds = { λ c s. Held c s.words s.views };
+
+    ghost first = { first_items };
+}
+
+/// The config of the table, the operation that begins with an event, the phase that the event is of, and the hook's answer that
+/// it reads. Each call picks them.
+pub trait Moment {
+    ghost use Rattle.std.specs.Prelude.{Option};
+    ghost use Rattle.cpu_words.specs.Hooks.{HookAnswer};
+    ghost use Rattle.gate_world.specs.declared.config.Config.{Config as ConfigType};
+    ghost use Rattle.gate_world.specs.declared.operations.Op.{Op as OpType};
+    ghost use Rattle.gate_world.specs.declared.work.Phase.{Phase as PhaseType};
+
+    ghost config: { ConfigType };
+
+    ghost begins: { Option OpType };
+
+    ghost phase: { PhaseType };
+
+    ghost hook: { HookAnswer };
+}
+
+impl Moment for Brand {
+    ghost use Rattle.std.specs.Prelude.{None, Ok};
+    ghost use Rattle.gate_world.specs.declared.work.Phase.TheVariants.{Mounts};
+    ghost use Rattle.mount_counts.specs.declared.phases.MountPhase.TheVariants.{Drop as Drops};
+
+    ghost config = { record { tasks = 0; processors = 0; mounts = 0; nodes = 0; capacity = 0 } };
+
+    ghost begins = { None };
+
+    ghost phase = { Mounts (Drops 0 0) };
+
+    ghost hook = { Ok tt };
+}
+
+/// The step is the event of that moment.
+pub struct Happens<J> {
+    of: PhantomData<J>,
+}
+
+impl<J: Moment> Play<(), Items> for Happens<J> {
+    ghost use Rattle.gate_steps.specs.Seating.{happened};
+
+    ghost then = { λ s me found after. happened J.config J.begins J.phase J.hook me found after };
+}
+
+/// The number that a seat gives. Each call picks it.
+pub trait Given {
+    ghost use Rattle.std.specs.Prelude.{ℕ};
+
+    ghost number: { ℕ };
+}
+
+impl Given for Brand {
+    ghost number = { 0 };
+}
+
+/// A seat is cut in two: what it keeps, and the number that it gives.
+pub struct Gives<J> {
+    of: PhantomData<J>,
+}
+
+impl<J: Given> Split<Items> for Gives<J> {
+    ghost use Rattle.gate_steps.specs.Seating.{kept_of, given_of};
+
+    ghost left = { kept_of J.number };
+
+    ghost right = { given_of J.number };
+}
+
+/// All numbers of the joined seat come back.
+pub struct TakesBack;
+
+impl Join<Items> for TakesBack {
+    ghost use Rattle.std.specs.Prelude.{[], ◌++◌};
+
+    ghost both = { λ mine others. mine ++ others };
+
+    ghost spent = { [] };
+}

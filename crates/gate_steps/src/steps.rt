@@ -1,0 +1,132 @@
+//! Each event of a phase as one atomic step, and numbers that go from seat to seat.
+
+ghost use Rattle.std.specs.Prelude.{◌≡◌, ◌*◌, ◌<◌, [], ◌++◌};
+ghost use Rattle.cpu_words.specs.Names.{place};
+ghost use Rattle.gate_world.specs.Work.{next_of};
+ghost use Rattle.gate_steps.specs.Rules.{table_length};
+ghost use Rattle.gate_steps.specs.Seating.{Acts, IsMove, items_after, Spares, kept_of, given_of};
+
+use crate::rule::{Given, Gives, Happens, Items, Moment, Rule, TakesBack};
+use atomic_table::{Seat, Shared};
+use cpu_words::{Touch, WordName};
+use gate_world::{Config, Op, Phase};
+use std::marker::Brand;
+
+/// Where a word lies in the table: words lie 16 apart, each in cache lines of its own.
+pub fn index_of(word: WordName) -> usize
+    ensures { result ≡ 16 * place word }
+{
+    16 * word.place()
+}
+
+fn event_of<J: Moment>(
+    shared: &Shared<(), Items, Config, Rule>,
+    seat: &mut Seat<(), Items>,
+    begins: Option<Op>,
+    phase: Phase,
+    hook: Result<(), u16>,
+) -> u64
+    requires config { shared.now.key ≡ J.config }
+    requires begins { begins ≡ J.begins }
+    requires phase { phase ≡ J.phase }
+    requires hook { hook ≡ J.hook }
+    requires table { seat.old.table_id ≡ shared.now.table_id }
+    requires words { shared.now.table_id.words ≡ table_length }
+    requires inside { place (next_of phase hook).0 < 915 }
+    requires acts { Acts shared.now.key begins phase seat.old.me.0 }
+    ensures table { seat.new.table_id ≡ seat.old.table_id }
+    ensures id { seat.new.id ≡ seat.old.id }
+    ensures event { seat.new.me.0 ≡ items_after begins phase hook result seat.old.me.0 }
+    ensures moves { IsMove shared.now.key begins phase hook seat.old.me.0 result }
+    ensures slots { seat.new.me.1 ≡ seat.old.me.1 }
+{
+    let (word, touch) = phase.next(hook);
+    let i = index_of(word);
+    match touch {
+        Touch::Load => shared.load::<Happens<J>>(seat, i),
+        Touch::Store(new) => {
+            shared.store::<Happens<J>>(seat, i, new);
+            new
+        }
+        Touch::Add(by) => shared.fetch_add::<Happens<J>>(seat, i, by),
+        Touch::Sub(by) => shared.fetch_sub::<Happens<J>>(seat, i, by),
+        Touch::Or(bits) => shared.fetch_or::<Happens<J>>(seat, i, bits),
+        Touch::And(bits) => shared.fetch_and::<Happens<J>>(seat, i, bits),
+        Touch::Swap(new) => shared.swap::<Happens<J>>(seat, i, new),
+        Touch::Cas { expect, put } => {
+            shared.compare_exchange::<Happens<J>>(seat, i, expect, put)
+        }
+    }
+}
+
+/// The next event of the seat's own number, in one atomic step: what it found, or, where it stores, what it wrote. An operation
+/// that has begun stands in `begins` until its first event, and None stands there from then on.
+pub fn event(
+    shared: &Shared<(), Items, Config, Rule>,
+    seat: &mut Seat<(), Items>,
+    begins: Option<Op>,
+    phase: Phase,
+    hook: Result<(), u16>,
+) -> u64
+    requires table { seat.old.table_id ≡ shared.now.table_id }
+    requires words { shared.now.table_id.words ≡ table_length }
+    requires inside { place (next_of phase hook).0 < 915 }
+    requires acts { Acts shared.now.key begins phase seat.old.me.0 }
+    ensures table { seat.new.table_id ≡ seat.old.table_id }
+    ensures id { seat.new.id ≡ seat.old.id }
+    ensures event { seat.new.me.0 ≡ items_after begins phase hook result seat.old.me.0 }
+    ensures moves { IsMove shared.now.key begins phase hook seat.old.me.0 result }
+    ensures slots { seat.new.me.1 ≡ seat.old.me.1 }
+{
+    event_of::<Brand>(shared, seat, begins, phase, hook)
+}
+
+fn give_as<J: Given>(
+    shared: &Shared<(), Items, Config, Rule>,
+    seat: &mut Seat<(), Items>,
+    number: u8,
+) -> Seat<(), Items>
+    requires number { number ≡ J.number }
+    requires table { seat.old.table_id ≡ shared.now.table_id }
+    requires words { shared.now.table_id.words ≡ table_length }
+    requires spare { Spares number seat.old.me.0 }
+    ensures table { (seat.new.table_id ≡ seat.old.table_id) × (result.table_id ≡ seat.old.table_id) }
+    ensures id { seat.new.id ≡ seat.old.id }
+    ensures kept { seat.new.me ≡ (kept_of number seat.old.me.0, seat.old.me.1) }
+    ensures given { result.me ≡ (given_of number seat.old.me.0, []) }
+{
+    shared.split_seat::<Gives<J>>(seat)
+}
+
+/// A new seat with one of the numbers that the seat has to give. One load.
+pub fn give(
+    shared: &Shared<(), Items, Config, Rule>,
+    seat: &mut Seat<(), Items>,
+    number: u8,
+) -> Seat<(), Items>
+    requires table { seat.old.table_id ≡ shared.now.table_id }
+    requires words { shared.now.table_id.words ≡ table_length }
+    requires spare { Spares number seat.old.me.0 }
+    ensures table { (seat.new.table_id ≡ seat.old.table_id) × (result.table_id ≡ seat.old.table_id) }
+    ensures id { seat.new.id ≡ seat.old.id }
+    ensures kept { seat.new.me ≡ (kept_of number seat.old.me.0, seat.old.me.1) }
+    ensures given { result.me ≡ (given_of number seat.old.me.0, []) }
+{
+    give_as::<Brand>(shared, seat, number)
+}
+
+/// All numbers of the other seat come back. One load.
+pub fn take_back(
+    shared: &Shared<(), Items, Config, Rule>,
+    seat: &mut Seat<(), Items>,
+    other: Seat<(), Items>,
+)
+    requires table { (seat.old.table_id ≡ shared.now.table_id) × (other.table_id ≡ shared.now.table_id) }
+    requires words { shared.now.table_id.words ≡ table_length }
+    requires slots { other.me.1 ≡ [] }
+    ensures table { seat.new.table_id ≡ seat.old.table_id }
+    ensures id { seat.new.id ≡ seat.old.id }
+    ensures joined { seat.new.me ≡ (seat.old.me.0 ++ other.me.0, seat.old.me.1) }
+{
+    shared.join_seat::<TakesBack>(seat, other)
+}

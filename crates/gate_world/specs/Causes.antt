@@ -1,0 +1,96 @@
+-- Moments of a schedule: what stood in the world when a refusal's cause was read.
+use Rattle.std.specs.Prelude.{◌≡◌, ℕ, ◌<◌, ◌==◌, ◌||◌, nat_lt, Bool, true, false, if◌then◌else◌, Option, Some, None, Err, List, [], ◌∷◌}
+use Rattle.finite_sums.specs.Sums.{total}
+use Rattle.access_model.specs.declared.errors.GateError.TheVariants.{Busy, ReadOnly}
+use Rattle.mount_counts.specs.declared.phases.MountPhase.TheVariants.{Want as Wants, Drop as Drops, Change as Changes}
+use Rattle.mount_counts.specs.declared.phases.WantStep.{WantStep}
+use Rattle.mount_counts.specs.declared.phases.WantStep.TheVariants.{CountsUp, LoadsHold, LoadsRemount, LoadsReadOnly, LoadsSuperblock, CountsDown}
+use Rattle.mount_counts.specs.declared.phases.ChangeStep.{ChangeStep}
+use Rattle.mount_counts.specs.declared.phases.ChangeStep.TheVariants.{Locks, LoadsFlags, LoadsSuperblock as LoadsSb, ClearsReadOnly, SetsHold, Sums, SetsReadOnly, ClearsHold, Releases}
+use Rattle.mount_counts.specs.Roles.{counted}
+use Rattle.gate_world.specs.declared.config.Config.{Config}
+use Rattle.gate_world.specs.declared.work.Phase.{Phase}
+use Rattle.gate_world.specs.declared.work.Phase.TheVariants.{Mounts}
+use Rattle.gate_world.specs.Worlds.{World, Entry, happens, run, opening, shown}
+use Rattle.gate_world.specs.Rules.{at_mount}
+
+-- the worlds of a schedule, the newest first: the one that it leaves, and each that an entry found
+abbrev pub trail : Config → List World → World → List Entry → List World
+trail c earlier w [] = w ∷ earlier
+trail c earlier w (e ∷ es) = trail c (w ∷ earlier) (happens c w e) es
+
+abbrev pub trail_of : Config → List Entry → List World
+trail_of c entries = trail c [] opening entries
+
+-- the next event of a want is a load of the read-only question
+abbrev pub want_asks : WantStep → Bool
+want_asks CountsUp = false
+want_asks LoadsHold = false
+want_asks LoadsRemount = true
+want_asks LoadsReadOnly = true
+want_asks LoadsSuperblock = true
+want_asks (CountsDown refusal) = false
+
+abbrev pub asks : Option Phase → Bool
+asks None = false
+asks (Some (Mounts (Wants x))) = want_asks x.step
+asks (Some (Mounts (Drops m p))) = false
+asks (Some (Mounts (Changes x))) = false
+
+-- the world in which a task last asked whether a mount is read-only
+abbrev pub last_question : ℕ → List World → Option World
+last_question t [] = None
+last_question t (w ∷ earlier) = if asks (w.views t).phase then Some w else last_question t earlier
+
+-- the shown model had the mount read-only there
+abbrev pub was_read_only : Config → ℕ → Option World → Bool
+was_read_only c m None = false
+was_read_only c m (Some w) = (shown c w).mount_ro m || (shown c w).sb_ro
+
+-- how many words of its sum a change has read, where its next event is a load of a word
+abbrev pub step_read : ChangeStep → Option ℕ
+step_read Locks = None
+step_read LoadsFlags = None
+step_read LoadsSb = None
+step_read ClearsReadOnly = None
+step_read SetsHold = None
+step_read (Sums sum) = Some sum.words
+step_read SetsReadOnly = None
+step_read (ClearsHold answer) = None
+step_read (Releases answer) = None
+
+abbrev pub words_read : Option Phase → Option ℕ
+words_read None = None
+words_read (Some (Mounts (Wants x))) = None
+words_read (Some (Mounts (Drops m p))) = None
+words_read (Some (Mounts (Changes x))) = step_read x.step
+
+-- the worlds of a task's last sum: from the one in which its first word was loaded to the newest in which a word was still to be
+-- loaded
+abbrev pub sum_worlds : World → Option ℕ → List World → List World
+sum_worlds w None earlier = earlier
+sum_worlds w (Some read) earlier = if read == 0 then w ∷ [] else w ∷ earlier
+
+abbrev pub moments_of_sum : ℕ → List World → List World
+moments_of_sum t [] = []
+moments_of_sum t (w ∷ earlier) = sum_worlds w (words_read (w.views t).phase) (moments_of_sum t earlier)
+
+-- what is held and sought at a mount
+abbrev pub all_counted : Config → ℕ → World → ℕ
+all_counted c m w = total c.tasks (λ t. counted (at_mount m (w.views t)))
+
+-- something was counted at the mount in one of these worlds
+abbrev pub was_counted : Config → ℕ → List World → Bool
+was_counted c m [] = false
+was_counted c m (w ∷ earlier) = nat_lt 0 (all_counted c m w) || was_counted c m earlier
+
+-- A task whose next event is the one with which it is refused: as read-only, and the mount was so when the task last asked; as busy, and
+-- something was counted at the mount in some world from the load of its sum's first word to the load of its last.
+abbrev pub HasCause : Config → ℕ → List World → Option Phase → Type 0
+HasCause c t worlds None = Unit {0}
+HasCause c t worlds (Some (Mounts (Wants x))) = x.step ≡ CountsDown ReadOnly → was_read_only c x.mount (last_question t worlds) ≡ true
+HasCause c t worlds (Some (Mounts (Drops m p))) = Unit {0}
+HasCause c t worlds (Some (Mounts (Changes x))) = x.step ≡ Releases (Err Busy) → was_counted c x.mount (moments_of_sum t worlds) ≡ true
+
+abbrev pub RefusalsHaveCauses : Config → List Entry → Type 0
+RefusalsHaveCauses c entries = (t : ℕ) → t < c.tasks → HasCause c t (trail_of c entries) ((run c opening entries).views t).phase

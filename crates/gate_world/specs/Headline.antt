@@ -1,0 +1,65 @@
+-- The headline: what holds of every schedule.
+use Rattle.std.specs.Prelude.{◌≡◌, ℕ, ◌%◌, ◌<◌, Option, Some, None, Err, List, []}
+use Rattle.finite_sums.specs.Sums.{total}
+use Rattle.access_model.specs.Histories.{Done, end_of, IsLegal, IsMerge}
+use Rattle.access_model.specs.Laws.{NobodyHoldsClosed}
+use Rattle.access_model.specs.declared.errors.GateError.{GateError}
+use Rattle.access_model.specs.declared.replies.Next.TheVariants.{Done as Ended}
+use Rattle.mount_counts.specs.Roles.{counted}
+use Rattle.gate_world.specs.declared.config.Config.{Config}
+use Rattle.gate_world.specs.declared.operations.Op.{Op}
+use Rattle.gate_world.specs.declared.views.View.{View}
+use Rattle.gate_world.specs.Configs.{limits_of}
+use Rattle.gate_world.specs.Views.{held_at}
+use Rattle.gate_world.specs.Worlds.{World, Entry, happens, action_of, task_of, run, opening, history, shown}
+use Rattle.gate_world.specs.Rules.{at_mount, Moves}
+use Rattle.gate_world.specs.Traces.{course_of, Tells, IsShort, most_events, IsTraced}
+
+-- the world after a schedule, and the actions that its events added, the newest first
+abbrev pub world_after : Config → List Entry → World
+world_after c entries = run c opening entries
+
+abbrev pub actions_so_far : Config → List Entry → List Done
+actions_so_far c entries = history c opening [] entries
+
+-- after any schedule, whatever entry comes next: an event that adds an action adds one that is allowed in the shown model, whose
+-- effect gives the new shown model; every other entry leaves it as it was
+abbrev pub MovesTheModel : Config → List Entry → Entry → Type 0
+MovesTheModel c entries e = Moves c (shown c (world_after c entries)) (task_of e) (action_of c (world_after c entries) e) (shown c (happens c (world_after c entries) e))
+
+-- the actions so far are a legal history, whose end is the shown model, and of which each task's own list is its part
+pub record IsOneRun (c : Config) (entries : List Entry) : Type 0 where
+  pub legal : IsLegal (limits_of c) (actions_so_far c entries)
+  pub end : end_of (actions_so_far c entries) ≡ shown c (world_after c entries)
+  pub lists : IsMerge (λ t. ((world_after c entries).views t).actions) (actions_so_far c entries)
+
+-- each mount's words sum to what is held and sought
+abbrev pub SumsHold : Config → World → Type 0
+SumsHold c w = (m : ℕ) → m < c.mounts → total c.processors (w.words.count m) % 18446744073709551616 ≡ total c.tasks (λ t. counted (at_mount m (w.views t)))
+
+-- and, with no operation under way, to the accesses held
+abbrev pub IdleSumsHold : Config → World → Type 0
+IdleSumsHold c w =
+    ((t : ℕ) → t < c.tasks → (w.views t).phase ≡ None) → (m : ℕ) → m < c.mounts →
+    total c.processors (w.words.count m) % 18446744073709551616 ≡ total c.tasks (λ t. held_at (w.views t) m)
+
+-- nobody holds an access at a read-only mount, or a level that a freeze has passed
+abbrev pub NobodyIsInside : Config → World → Type 0
+NobodyIsInside c w = NobodyHoldsClosed (limits_of c) (shown c w)
+
+-- What a task's last operation, or the one under way, has done, by its own trace alone: an operation that replied has added exactly
+-- its stated actions, a refusal has its cause in the trace, and waiting is reported only where it may be; a refused operation has
+-- added nothing, so its task holds what it held before; and where the operation waits for nobody, its events are few.
+pub record OperationTells (c : Config) (t : ℕ) (v : View) (op : Op) : Type 0 where
+  pub tells : Tells c op v.trace (course_of c t op v.trace).stands (course_of c t op v.trace).added
+  pub refused : (refusal : GateError) → (course_of c t op v.trace).stands ≡ Ended (Err refusal) → (course_of c t op v.trace).added ≡ []
+  pub short : IsShort (most_events c op) v.trace
+
+abbrev pub ViewTells : Config → ℕ → View → Option Op → Type 0
+ViewTells c t v None = Unit {0}
+ViewTells c t v (Some op) = OperationTells c t v op
+
+-- each task's trace follows the order of events of its operation, and tells the rest
+pub record OperationsAreKept (c : Config) (entries : List Entry) (t : ℕ) : Type 0 where
+  pub traced : IsTraced c t ((world_after c entries).views t) ((world_after c entries).views t).op
+  pub tells : ViewTells c t ((world_after c entries).views t) ((world_after c entries).views t).op

@@ -1,0 +1,125 @@
+-- The rule: what holds of words and views between any two events. One predicate for each mount, one for the owner's words.
+use Rattle.std.specs.Prelude.{◌≡◌, ℕ, suc, ◌<◌, ◌≤◌, ◌==◌, Bool, true, false, Option, Some, None}
+use Rattle.finite_sums.specs.Sums.{total}
+use Rattle.access_model.specs.declared.actions.Action.{Action}
+use Rattle.access_model.specs.States.{State}
+use Rattle.access_model.specs.Actions.{IsAllowed, after_action}
+use Rattle.cpu_words.specs.Hooks.{HookAnswer}
+use Rattle.mount_counts.specs.declared.phases.MountPhase.{MountPhase}
+use Rattle.mount_counts.specs.declared.phases.MountPhase.TheVariants.{Want as Wants, Drop as Drops, Change as Changes}
+use Rattle.mount_counts.specs.declared.phases.WantStep.{WantStep}
+use Rattle.mount_counts.specs.declared.phases.WantStep.TheVariants.{CountsUp, LoadsHold, LoadsRemount, LoadsReadOnly, LoadsSuperblock, CountsDown}
+use Rattle.mount_counts.specs.declared.phases.ChangeStep.{ChangeStep}
+use Rattle.mount_counts.specs.declared.phases.ChangeStep.TheVariants.{Locks, LoadsFlags, LoadsSuperblock as LoadsSb, ClearsReadOnly, SetsHold, Sums, SetsReadOnly, ClearsHold, Releases}
+use Rattle.mount_counts.specs.Roles.{Role, Out, Asking, Cleared, PastRemount, PastFlags, BackingOff, Summing, Empty, Leaving, MountView, MountHolds}
+use Rattle.gate_world.specs.declared.config.Config.{Config}
+use Rattle.gate_world.specs.declared.work.Phase.{Phase}
+use Rattle.gate_world.specs.declared.work.Phase.TheVariants.{Mounts}
+use Rattle.gate_world.specs.declared.views.View.{View}
+use Rattle.gate_world.specs.Configs.{limits_of}
+use Rattle.gate_world.specs.Views.{held_at, holds_level, added_by, taken_by}
+use Rattle.gate_world.specs.Fits.{Fits}
+use Rattle.gate_world.specs.Worlds.{World, stepped, phase_action, shown}
+
+-- what a step of a want is doing at its mount, on this processor
+abbrev pub want_role : ℕ → WantStep → Role
+want_role p CountsUp = Out
+want_role p LoadsHold = Asking p
+want_role p LoadsRemount = Cleared p
+want_role p LoadsReadOnly = PastRemount p
+want_role p LoadsSuperblock = PastFlags p
+want_role p (CountsDown refusal) = BackingOff p
+
+-- what a step of a change is doing at its mount
+abbrev pub change_role : ChangeStep → Role
+change_role Locks = Out
+change_role LoadsFlags = Out
+change_role LoadsSb = Out
+change_role ClearsReadOnly = Out
+change_role SetsHold = Out
+change_role (Sums sum) = Summing sum.words sum.total
+change_role SetsReadOnly = Empty
+change_role (ClearsHold answer) = Leaving
+change_role (Releases answer) = Out
+
+-- a role at one mount alone
+abbrev pub role_if : Bool → Role → Role
+role_if true r = r
+role_if false r = Out
+
+-- the mount that a phase works at
+abbrev pub mount_of : MountPhase → ℕ
+mount_of (Wants w) = w.mount
+mount_of (Drops m p) = m
+mount_of (Changes x) = x.mount
+
+abbrev pub own_role : MountPhase → Role
+own_role (Wants w) = want_role w.cpu w.step
+own_role (Drops m p) = Out
+own_role (Changes x) = change_role x.step
+
+-- the role at a mount of a task that is at this phase
+abbrev pub role_of : ℕ → Option Phase → Role
+role_of m None = Out
+role_of m (Some (Mounts phase)) = role_if (m == mount_of phase) (own_role phase)
+
+-- what a mount's predicate reads of a view
+abbrev pub at_mount : ℕ → View → MountView
+at_mount m v = record { held = held_at v m; added = added_by v.events m; taken = taken_by v.events m; role = role_of m v.phase }
+
+-- 1 between the lock of `umount` and its release
+abbrev pub change_owns : ChangeStep → ℕ
+change_owns Locks = 0
+change_owns LoadsFlags = 1
+change_owns LoadsSb = 1
+change_owns ClearsReadOnly = 1
+change_owns SetsHold = 1
+change_owns (Sums sum) = 1
+change_owns SetsReadOnly = 1
+change_owns (ClearsHold answer) = 1
+change_owns (Releases answer) = 1
+
+abbrev pub mount_owns : MountPhase → ℕ
+mount_owns (Wants w) = 0
+mount_owns (Drops m p) = 0
+mount_owns (Changes x) = change_owns x.step
+
+abbrev pub owns : Option Phase → ℕ
+owns None = 0
+owns (Some (Mounts phase)) = mount_owns phase
+
+-- 1 while an operation has `remount` set: none of these does
+abbrev pub remounts : Option Phase → ℕ
+remounts None = 0
+remounts (Some (Mounts phase)) = 0
+
+-- The owner's words. `umount` is 1 and the number of the task that is between its lock and its release, and `remount` is set
+-- exactly while one task has it set.
+pub record OwnerHolds (tasks umount remount : ℕ) (phases : ℕ → Option Phase) : Type 0 where
+  pub locked : (t : ℕ) → t < tasks → owns (phases t) ≡ 1 → umount ≡ suc t
+  pub owned : (t : ℕ) → t < tasks → umount ≡ suc t → owns (phases t) ≡ 1
+  pub known : umount ≤ tasks
+  pub remounting : remount ≡ total tasks (λ t. remounts (phases t))
+
+-- each phase fits its task's accesses
+abbrev pub ViewFits : Config → ℕ → View → Type 0
+ViewFits c t v = Fits c t (held_at v) (holds_level v) v.phase
+
+-- the rule
+pub record Good (c : Config) (w : World) : Type 0 where
+  pub owner : OwnerHolds c.tasks w.words.umount w.words.remount (λ t. (w.views t).phase)
+  pub superblock : w.words.sb ≤ 1
+  pub fits : (t : ℕ) → t < c.tasks → ViewFits c t (w.views t)
+  pub mount : (m : ℕ) → m < c.mounts →
+      MountHolds c.tasks c.processors (w.words.flags m) w.words.remount w.words.sb (w.words.count m) (λ t. at_mount m (w.views t))
+
+-- an event that adds an action adds one that is allowed in the shown model, whose effect gives the new one; any other event leaves
+-- the shown model as it was
+abbrev pub Moves : Config → State → ℕ → Option Action → State → Type 0
+Moves c old t None new = new ≡ old
+Moves c old t (Some a) new = IsAllowed (limits_of c) old t a × (new ≡ after_action old t a)
+
+-- the law of one event: the rule holds after it, and it moves the shown model by its action
+abbrev pub StepKeeps : Config → World → ℕ → HookAnswer → Phase → Type 0
+StepKeeps c w t hook phase =
+    Good c (stepped w t phase hook) × Moves c (shown c w) t (phase_action w hook (Some phase)) (shown c (stepped w t phase hook))

@@ -1,0 +1,181 @@
+-- Every schedule keeps the rule, and its actions are one run of the access model.
+use Rattle.std.proofs.Common.{◌≡◌, ℕ, ◌*◌, ◌%◌, ◌<◌, ◌≤◌, Bool, true, false, refl, sym, ap, ◌∙◌, subst, inl, inr, arith, true≢false}
+use Rattle.std.specs.Prelude.{nat_lt, ◌&&◌, is_some, Option, Some, None, List, [], ◌∷◌}
+use Rattle.std.proofs.Math.Path.{fun_ext}
+use Rattle.std.proofs.lemmas.Bool.Decides.{eqb_tells}
+use Rattle.std.proofs.lemmas.Bool.{cases_Bool, ltb-true}
+use Rattle.finite_sums.specs.Sums.{changed, total}
+use Rattle.finite_sums.proofs.Totals.{total_same, total_none, total_bound}
+use Rattle.access_model.specs.declared.actions.Action.{Action}
+use Rattle.access_model.specs.declared.errors.GateError.{GateError}
+use Rattle.access_model.specs.declared.errors.GateError.TheVariants.{Invalid, Order, TooMany}
+use Rattle.access_model.specs.Histories.{Done, end_of, IsLegal}
+use Rattle.access_model.specs.States.{State, opening_state}
+use Rattle.access_model.specs.Actions.{IsAllowed, after_action}
+use Rattle.cpu_words.specs.Hooks.{HookAnswer}
+use Rattle.mount_counts.specs.declared.phases.MountPhase.TheVariants.{Want as Wants, Drop as Drops, Change as Changes}
+use Rattle.mount_counts.specs.Roles.{Out, sought, counted, MountHolds}
+use Rattle.mount_laws.proofs.MountLaws.{gate_sum, counted_parts, unread_le}
+use Rattle.gate_world.specs.declared.config.Config.{Config}
+use Rattle.gate_world.specs.declared.operations.Op.{Op}
+use Rattle.gate_world.specs.declared.operations.Op.TheVariants.{Want, DropMount, ChangeMount}
+use Rattle.gate_world.specs.declared.work.Phase.{Phase}
+use Rattle.gate_world.specs.declared.work.Phase.TheVariants.{Mounts}
+use Rattle.gate_world.specs.declared.views.View.{View}
+use Rattle.gate_world.specs.Configs.{IsWithin, limits_of}
+use Rattle.gate_world.specs.Views.{held_at, holds_level, begun_view}
+use Rattle.gate_world.specs.Fits.{Fits}
+use Rattle.gate_world.specs.Worlds.{World, Entry, Begins, Steps, first_phase, is_in_range, is_in_order, is_within_room, view_refusal, begun, begin_of, step_of, happens, phase_action, action_of, task_of, noted, run, opening, history, shown}
+use Rattle.gate_world.specs.Rules.{role_of, at_mount, owns, Good, Moves, StepKeeps}
+use Rattle.gate_world.specs.Headline.{SumsHold, IdleSumsHold}
+use Rattle.gate_frames.proofs.Frames.{view_as, owner_same, shown_still}
+use Rattle.gate_frames.proofs.Loads.{role_none, closes_none, remounts_none}
+use Rattle.want_laws.proofs.Wants.{want_keeps}
+use Rattle.want_laws.proofs.WantCounts.{drops}
+use Rattle.change_laws.proofs.Owner.{still}
+use Rattle.change_laws.proofs.Each.{change_keeps}
+
+pub both : (a b : Bool) → (a && b) ≡ true → (a ≡ true) × (b ≡ true)
+both true b h = (refl, h)
+both false b h = absurd (true≢false (sym h))
+
+pub idle_is : (p : Option Phase) → is_some p ≡ false → p ≡ None
+idle_is None h = refl
+idle_is (Some phase) h = absurd (true≢false h)
+
+-- what it means that an operation isn't refused
+pub record MayBegin (c : Config) (v : View) (op : Op) : Type 0 where
+  pub idle : v.phase ≡ None
+  pub range : is_in_range c op ≡ true
+  pub order : is_in_order (held_at v) (holds_level v) op ≡ true
+  pub room : is_within_room (held_at v) op ≡ true
+
+not_some : {A : Type 0} (x : A) {B : Type 0} → Some x ≡ None → B
+not_some x h = absurd (true≢false (ap is_some h))
+
+pub may_begin : (c : Config) (v : View) (op : Op) → view_refusal c v op ≡ None → MayBegin c v op
+may_begin c v op h =
+    elim (cases_Bool (is_some v.phase)) [
+      | inl a ↦ not_some Order (rw a at h)
+      | inr a ↦ elim (cases_Bool (is_in_range c op)) [
+        | inl b ↦ elim (cases_Bool (is_in_order (held_at v) (holds_level v) op)) [
+          | inl d ↦ elim (cases_Bool (is_within_room (held_at v) op)) [
+            | inl e ↦ record { idle = idle_is v.phase a; range = b; order = d; room = e }
+            | inr e ↦ not_some TooMany (rw (a, b, d, e) at h)
+          ]
+          | inr d ↦ not_some Order (rw (a, b, d) at h)
+        ]
+        | inr b ↦ not_some Invalid (rw (a, b) at h)
+      ]
+    ]
+
+module _ (c : Config) (lim : IsWithin c) (w : World) (good : Good c w) (t : ℕ) (lt : t < c.tasks) where
+  pub phase_keeps : (hook : HookAnswer) (phase : Phase) → (w.views t).phase ≡ Some phase → StepKeeps c w t hook phase
+  phase_keeps hook (Mounts (Wants x)) e = want_keeps c lim w good t lt hook x.mount x.cpu x.wait x.step e
+  phase_keeps hook (Mounts (Drops m p)) e = drops c lim w good t lt m p hook e
+  phase_keeps hook (Mounts (Changes x)) e = change_keeps c lim w good t lt hook x.mount x.read_only x.wait x.task x.processors x.step e
+
+  pub step_keeps : (hook : HookAnswer) (p : Option Phase) → (w.views t).phase ≡ p →
+      Good c (step_of w t hook p) × Moves c (shown c w) t (phase_action w hook p) (shown c (step_of w t hook p))
+  step_keeps hook None e = (good, refl)
+  step_keeps hook (Some phase) e = phase_keeps hook phase e
+
+  op_fits : (op : Op) → MayBegin c (w.views t) op → Fits c t (held_at (w.views t)) (holds_level (w.views t)) (Some (first_phase c t op))
+  op_fits (Want m p wait) h =
+      let r : (nat_lt m c.mounts ≡ true) × (nat_lt p c.processors ≡ true) = both (nat_lt m c.mounts) (nat_lt p c.processors) h.range in
+      (ltb-true m c.mounts r.0, ltb-true p c.processors r.1, ltb-true (held_at (w.views t) m) 1024 h.room)
+  op_fits (DropMount m p) h =
+      let r : (nat_lt m c.mounts ≡ true) × (nat_lt p c.processors ≡ true) = both (nat_lt m c.mounts) (nat_lt p c.processors) h.range in
+      (ltb-true m c.mounts r.0, ltb-true p c.processors r.1, ltb-true 0 (held_at (w.views t) m) h.order)
+  op_fits (ChangeMount m read_only wait) h = (ltb-true m c.mounts h.range, refl, refl, h.order, tt)
+
+  first_none : (op : Op) → ((y : ℕ) → role_of y (Some (first_phase c t op)) ≡ Out) × (owns (Some (first_phase c t op)) ≡ 0)
+  first_none (Want m p wait) = (λ y. role_none y m, refl)
+  first_none (DropMount m p) = (λ y. role_none y m, refl)
+  first_none (ChangeMount m read_only wait) = (λ y. role_none y m, refl)
+
+  pub begun_keeps : (op : Op) → MayBegin c (w.views t) op → Good c (begun c w t op) × (shown c (begun c w t op) ≡ shown c w)
+  begun_keeps op h =
+      let v : View = begun_view (w.views t) op (first_phase c t op) in
+      let n : ((y : ℕ) → role_of y (Some (first_phase c t op)) ≡ Out) × (owns (Some (first_phase c t op)) ≡ 0) = first_none op in (
+        still c w good t lt w.words v refl refl refl refl (owner_same c w t lt good v (n.1 ∙ sym (ap owns h.idle)) (remounts_none v.phase ∙ sym (remounts_none (w.views t).phase))) (op_fits op h)
+            (λ y. view_as refl refl refl (n.0 y ∙ sym (ap (role_of y) h.idle))),
+        shown_still c w t lt w.words v refl refl refl refl refl refl (λ i. closes_none i v.phase ∙ sym (closes_none i (w.views t).phase)) refl refl,
+      )
+
+module _ (c : Config) (lim : IsWithin c) where
+  begin_keeps : (w : World) → Good c w → (t : ℕ) (op : Op) → t < c.tasks → (r : Option GateError) → view_refusal c (w.views t) op ≡ r →
+      Good c (begin_of c w t op r) × (shown c (begin_of c w t op r) ≡ shown c w)
+  begin_keeps w good t op lt None e = begun_keeps c lim w good t lt op (may_begin c (w.views t) op e)
+  begin_keeps w good t op lt (Some refused) e = (good, refl)
+
+  -- each entry keeps the rule, and moves the shown model by its action
+  pub happens_keeps : (w : World) → Good c w → (e : Entry) → Good c (happens c w e) × Moves c (shown c w) (task_of e) (action_of c w e) (shown c (happens c w e))
+  happens_keeps w good (Begins t op) =
+      elim (cases_Bool (nat_lt t c.tasks)) [
+        | inl h ↦ rw h (begin_keeps w good t op (ltb-true t c.tasks h) (view_refusal c (w.views t) op) refl)
+        | inr h ↦ rw h (good, refl)
+      ]
+  happens_keeps w good (Steps t hook) =
+      elim (cases_Bool (nat_lt t c.tasks)) [
+        | inl h ↦ rw h (step_keeps c lim w good t (ltb-true t c.tasks h) hook (w.views t).phase refl)
+        | inr h ↦ rw h (good, refl)
+      ]
+
+  -- a legal history that ends in a world's shown model, with one more entry
+  pub legal_more : (old new : State) (t : ℕ) (a : Option Action) (earlier : List Done) → Moves c old t a new → IsLegal (limits_of c) earlier → end_of earlier ≡ old →
+      IsLegal (limits_of c) (noted t a earlier) × (end_of (noted t a earlier) ≡ new)
+  legal_more old new t None earlier m legal ends = (legal, ends ∙ sym m)
+  legal_more old new t (Some a) earlier m legal ends = (
+    (subst (λ s. IsAllowed (limits_of c) s t a) (sym ends) m.0, legal),
+    ap (λ s. after_action s t a) ends ∙ sym m.1,
+  )
+
+  pub run_keeps : (es : List Entry) (w : World) (earlier : List Done) → Good c w → IsLegal (limits_of c) earlier → end_of earlier ≡ shown c w →
+      Good c (run c w es) × IsLegal (limits_of c) (history c w earlier es) × (end_of (history c w earlier es) ≡ shown c (run c w es))
+  run_keeps [] w earlier good legal ends = (good, legal, ends)
+  run_keeps (e ∷ es) w earlier good legal ends =
+      let k : Good c (happens c w e) × Moves c (shown c w) (task_of e) (action_of c w e) (shown c (happens c w e)) = happens_keeps w good e in
+      let n : IsLegal (limits_of c) (noted (task_of e) (action_of c w e) earlier) × (end_of (noted (task_of e) (action_of c w e) earlier) ≡ shown c (happens c w e)) =
+      legal_more (shown c w) (shown c (happens c w e)) (task_of e) (action_of c w e) earlier k.1 legal ends in
+      run_keeps es (happens c w e) (noted (task_of e) (action_of c w e) earlier) k.0 n.0 n.1
+
+  zeros : (n : ℕ) → total n (λ x. 0) ≡ 0
+  zeros n = total_none n (λ x. 0) (λ x lx. refl)
+
+  pub opening_good : Good c opening
+  opening_good = record {
+    owner = record { locked = λ t lt h. absurd (omega arith); owned = λ t lt h. absurd (omega arith); known = omega arith; remounting = sym (zeros c.tasks) };
+    superblock = omega arith;
+    fits = λ t lt. tt;
+    mount = λ m lm. record {
+      bits = omega arith;
+      counts = record { fits = λ p lp. omega arith; words = λ p lp. omega (arith, zeros c.tasks); own = λ t lt. omega (arith, zeros c.processors) };
+      room = λ t lt. omega arith;
+      hold = zeros c.tasks;
+      roles = λ t lt. tt;
+      closed = λ h. zeros c.tasks;
+      remounting = λ h h2 h3. zeros c.tasks;
+      sealed = λ h. zeros c.tasks;
+    };
+  }
+
+  opening_tree : (n : ℕ) → opening_state.tree n ≡ (shown c opening).tree n
+  opening_tree n = elim (eqb_tells n 0) [ inl h ↦ rw (h.0, changed) refl | inr h ↦ rw (h.0, changed) refl ]
+
+  -- which shows the opening state
+  pub opening_shown : opening_state ≡ shown c opening
+  opening_shown =
+      λ i. record opening_state { tree = fun_ext opening_tree i }
+
+  -- a mount's words sum to what is counted, as a whole number
+  pub gate_sums : (w : World) → Good c w → SumsHold c w
+  gate_sums w good m lm =
+      let g : MountHolds c.tasks c.processors (w.words.flags m) w.words.remount w.words.sb (w.words.count m) (λ x. at_mount m (w.views x)) = good.mount m lm in
+      let s : total c.processors (w.words.count m) % 18446744073709551616 ≡ total c.tasks (λ t. counted (at_mount m (w.views t))) % 18446744073709551616 = gate_sum c.tasks c.processors (w.words.count m) (λ x. at_mount m (w.views x)) g.counts in
+      let b : total c.tasks (λ t. counted (at_mount m (w.views t))) ≤ c.tasks * 1025 = total_bound c.tasks 1025 _ (λ x lx. omega (arith, g.room x lx, counted_parts (role_of m (w.views x).phase), unread_le 0 (role_of m (w.views x).phase))) in
+      omega (arith, lim.tasks)
+
+  pub idle_sums : (w : World) → Good c w → IdleSumsHold c w
+  idle_sums w good idle m lm =
+      gate_sums w good m lm ∙ total_same c.tasks _ _ (λ x lx. omega (arith, ap (λ u. sought (role_of m u)) (idle x lx)))

@@ -1,0 +1,5 @@
+pub mod Says
+pub mod Wants
+pub mod Changes
+pub mod Laws
+pub mod Traced

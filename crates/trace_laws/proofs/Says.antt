@@ -1,0 +1,79 @@
+-- What a trace says, kept from each event to the next.
+use Rattle.std.proofs.Common.{ℕ, sym, subst}
+use Rattle.std.specs.Prelude.{List, [], ◌∷◌}
+use Rattle.access_model.specs.declared.actions.Action.{Action}
+use Rattle.access_model.specs.declared.replies.Next.{Next}
+use Rattle.access_model.specs.declared.replies.Next.TheVariants.{Go, Wait, Done}
+use Rattle.cpu_words.specs.declared.events.Event.{Event}
+use Rattle.cpu_words.specs.Touches.{event_of, found_by}
+use Rattle.cpu_words.specs.Hooks.{HookAnswer}
+use Rattle.gate_world.specs.declared.config.Config.{Config}
+use Rattle.gate_world.specs.declared.operations.Op.{Op}
+use Rattle.gate_world.specs.declared.work.Phase.{Phase}
+use Rattle.gate_world.specs.declared.views.Traced.{Traced}
+use Rattle.gate_world.specs.Work.{next_of, after_of}
+use Rattle.gate_world.specs.Views.{actions_after, traced}
+use Rattle.gate_world.specs.Worlds.{first_phase}
+use Rattle.gate_world.specs.Traces.{course_after, course_of, IsEventOf, IsNext, IsTrace, most_events, IsShort, Tells}
+
+-- what a trace says by where its operation stands, where `At` is what it says at a phase
+abbrev pub Says : (List Traced → Phase → List Action → Type 0) → Config → Op → List Traced → Next Phase → List Action → Type 0
+Says At c op trace (Go phase) added = At trace phase added
+Says At c op trace (Wait phase) added = At trace phase added × Tells c op trace (Wait phase) added
+Says At c op trace (Done answer) added = Tells c op trace (Done answer) added × IsShort (most_events c op) trace
+
+-- the event of a phase, on a word that held this value
+abbrev pub event_at : Phase → ℕ → HookAnswer → Event
+event_at phase value hook = event_of (next_of phase hook).0 (next_of phase hook).1 value
+
+-- what the trace says after the event of a phase
+abbrev pub SaysAfter : (List Traced → Phase → List Action → Type 0) → Config → Op → Phase → ℕ → HookAnswer → List Traced → List Action → Type 0
+SaysAfter At c op phase value hook earlier added =
+    Says At c op (traced (event_at phase value hook) hook ∷ earlier) (after_of phase (found_by (next_of phase hook).1 value) hook).0
+    (actions_after (after_of phase (found_by (next_of phase hook).1 value) hook).1 added)
+
+-- what is kept of an operation: it holds at the beginning, each event keeps it, and it bounds the trace
+pub record Kept (At : List Traced → Phase → List Action → Type 0) (c : Config) (t : ℕ) (op : Op) : Type 0 where
+  pub first : At [] (first_phase c t op) []
+  pub more : (phase : Phase) (value : ℕ) (hook : HookAnswer) (earlier : List Traced) (added : List Action) → At earlier phase added →
+      SaysAfter At c op phase value hook earlier added
+  pub short : (trace : List Traced) (phase : Phase) (added : List Action) → At trace phase added → IsShort (most_events c op) trace
+
+module _ (At : List Traced → Phase → List Action → Type 0) (c : Config) (t : ℕ) (op : Op) (kept : Kept At c t op) where
+  -- the event of a phase keeps what the trace says
+  event_keeps : (phase : Phase) (added : List Action) (e : Traced) (earlier : List Traced) → IsEventOf phase e → At earlier phase added →
+      Says At c op (e ∷ earlier) (after_of phase e.event.found e.hook).0 (actions_after (after_of phase e.event.found e.hook).1 added)
+  event_keeps phase added e earlier next here =
+      subst (λ (event : Event). Says At c op (traced event e.hook ∷ earlier) (after_of phase event.found e.hook).0 (actions_after (after_of phase event.found e.hook).1 added))
+      (sym next.1) (kept.more phase next.0 e.hook earlier added here)
+
+  -- one more event of a trace does
+  next_keeps : (stands : Next Phase) (added : List Action) (e : Traced) (earlier : List Traced) → IsNext stands e → Says At c op earlier stands added →
+      Says At c op (e ∷ earlier) (course_after stands added e).stands (course_after stands added e).added
+  next_keeps (Go phase) added e earlier next here = event_keeps phase added e earlier next here
+  next_keeps (Wait phase) added e earlier next here = event_keeps phase added e earlier next here.0
+  next_keeps (Done answer) added e earlier next here = absurd next
+
+  -- every trace says it
+  pub says : (trace : List Traced) → IsTrace c t op trace → Says At c op trace (course_of c t op trace).stands (course_of c t op trace).added
+  says [] h = kept.first
+  says (e ∷ earlier) h = next_keeps (course_of c t op earlier).stands (course_of c t op earlier).added e earlier h.0 (says earlier h.1)
+
+  -- what is said tells what is to be told
+  says_tells : (trace : List Traced) (stands : Next Phase) (added : List Action) → Says At c op trace stands added → Tells c op trace stands added
+  says_tells trace (Go phase) added h = tt
+  says_tells trace (Wait phase) added h = h.1
+  says_tells trace (Done answer) added h = h.0
+
+  -- what is said bounds the trace
+  says_short : (trace : List Traced) (stands : Next Phase) (added : List Action) → Says At c op trace stands added → IsShort (most_events c op) trace
+  says_short trace (Go phase) added h = kept.short trace phase added h
+  says_short trace (Wait phase) added h = kept.short trace phase added h.0
+  says_short trace (Done answer) added h = h.1
+
+  -- so every trace tells what is to be told, and is short
+  pub tells : (trace : List Traced) → IsTrace c t op trace → Tells c op trace (course_of c t op trace).stands (course_of c t op trace).added
+  tells trace h = says_tells trace (course_of c t op trace).stands (course_of c t op trace).added (says trace h)
+
+  pub is_short : (trace : List Traced) → IsTrace c t op trace → IsShort (most_events c op) trace
+  is_short trace h = says_short trace (course_of c t op trace).stands (course_of c t op trace).added (says trace h)
