@@ -3,3 +3,4 @@ pub mod Writing
 pub mod Printing
 pub mod Reading
 pub mod Transcript
+pub mod Session

@@ -9,10 +9,8 @@ use Rattle.access_model.specs.States.{State}
 use Rattle.access_model.specs.Histories.{Done, end_of}
 use Rattle.cpu_words.specs.declared.names.WordName.{WordName}
 use Rattle.cpu_words.specs.declared.names.WordName.TheVariants.{Umount, Stage, SbFlags, Remount, MountFlags, MountCount, Block, Sync, LevelCount, Section}
-use Rattle.cpu_words.specs.Hooks.{HookAnswer}
-use Rattle.cpu_words.specs.Words.{Words as AllWords, read}
+use Rattle.cpu_words.specs.Words.{read}
 use Rattle.gate_world.specs.declared.config.Config.{Config}
-use Rattle.gate_world.specs.declared.operations.Op.{Op}
 use Rattle.gate_world.specs.Worlds.{World, Entry, Begins, Steps, happens, action_of, task_of, noted, opening}
 use Rattle.gate_core.specs.declared.steps.Progress.{Progress}
 use Rattle.gate_core.specs.declared.steps.Progress.TheVariants.{Idle, Going, Waiting, Done as Ended}
@@ -23,7 +21,6 @@ use Rattle.schedule_text.specs.declared.commands.TaskCommand.{TaskCommand}
 use Rattle.schedule_text.specs.declared.commands.TaskCommand.TheVariants.{Begin, Step, Run}
 use Rattle.schedule_text.specs.declared.faults.Fault.{Fault}
 use Rattle.schedule_text.specs.declared.faults.Fault.TheVariants.{TooManyLines, LineTooLong, CutOff, ConfigExpected, Refused}
-use Rattle.schedule_text.specs.declared.lines.Front.{Front}
 use Rattle.schedule_text.specs.declared.lines.Front.TheVariants.{Line as WholeLine, TooLong, Part}
 use Rattle.schedule_text.specs.Lines.{front_of}
 use Rattle.schedule_text.specs.Parsing.{parsed}
@@ -63,13 +60,23 @@ mount_words c m = MountFlags m ∷ map (MountCount m) (count_up c.processors)
 abbrev pub level_words : Config → ℕ → List WordName
 level_words c i = Block i ∷ Sync i ∷ map (LevelCount i) (count_up c.processors)
 
-abbrev pub words_listed : Config → List WordName
-words_listed c =
-    (Umount ∷ Stage ∷ SbFlags ∷ Remount ∷ []) ++ flat_map (mount_words c) (count_up c.mounts) ++ flat_map (level_words c) (1 ∷ 2 ∷ 3 ∷ []) ++
-    map Section (count_up c.tasks)
+-- those of these words that aren't 0
+abbrev pub words_of : Play → List WordName → List ℕ
+words_of p names = flat_map (nonzero_line p.world) names
+
+abbrev pub mount_part : Play → ℕ → List ℕ
+mount_part p m = words_of p (mount_words p.config m)
+
+abbrev pub level_part : Play → ℕ → List ℕ
+level_part p i = words_of p (level_words p.config i)
+
+abbrev pub section_line : Play → ℕ → List ℕ
+section_line p t = nonzero_line p.world (Section t)
 
 unfoldable pub words_text : Play → List ℕ
-words_text p = flat_map (nonzero_line p.world) (words_listed p.config)
+words_text p =
+    words_of p (Umount ∷ Stage ∷ SbFlags ∷ Remount ∷ []) ++ flat_map (mount_part p) (count_up p.config.mounts) ++
+    flat_map (level_part p) (1 ∷ 2 ∷ 3 ∷ []) ++ flat_map (section_line p) (count_up p.config.tasks)
 
 -- `model`: the state after all actions so far
 abbrev pub when_read_only : Bool → ℕ → List ℕ
@@ -83,17 +90,26 @@ abbrev pub inside_line : Bool → ℕ → ℕ → List ℕ
 inside_line true t i = held_level_line t i
 inside_line false t i = []
 
+abbrev pub level_line : State → ℕ → ℕ → List ℕ
+level_line s t i = inside_line (s.levels t i) t i
+
 abbrev pub node_text : Option NodeInfo → ℕ → List ℕ
 node_text None n = []
 node_text (Some info) n = node_line n info
 
 abbrev pub task_text : Config → State → ℕ → List ℕ
-task_text c s t = flat_map (held_line s t) (count_up c.mounts) ++ flat_map (λ i. inside_line (s.levels t i) t i) (1 ∷ 2 ∷ 3 ∷ [])
+task_text c s t = flat_map (held_line s t) (count_up c.mounts) ++ flat_map (level_line s t) (1 ∷ 2 ∷ 3 ∷ [])
+
+abbrev pub closed_line : State → ℕ → List ℕ
+closed_line s m = when_read_only (s.mount_ro m) m
+
+abbrev pub tree_line : State → ℕ → List ℕ
+tree_line s n = node_text (s.tree n) n
 
 abbrev pub state_text : Config → State → List ℕ
 state_text c s =
-    model_line s.stage s.passed s.sb_ro ++ flat_map (λ m. when_read_only (s.mount_ro m) m) (count_up c.mounts) ++ flat_map (task_text c s) (count_up c.tasks) ++
-    flat_map (λ n. node_text (s.tree n) n) (count_up c.nodes)
+    model_line s.stage s.passed s.sb_ro ++ flat_map (closed_line s) (count_up c.mounts) ++ flat_map (task_text c s) (count_up c.tasks) ++
+    flat_map (tree_line s) (count_up c.nodes)
 
 unfoldable pub model_text : Play → List ℕ
 model_text p = state_text p.config (end_of p.done)
@@ -117,7 +133,7 @@ abbrev pub run_from : ℕ → Play → ℕ → Progress × Play
 run_from zero p t = (Going, p)
 run_from (suc left) p t =
     elim ((step_answer p.config p.world t (Ok tt)).progress) [
-      | Idle ↦ (Idle, p)
+      | Idle ↦ (Idle, played p (Steps t (Ok tt)))
       | Going ↦ run_from left (played p (Steps t (Ok tt))) t
       | Waiting ↦ (Waiting, played p (Steps t (Ok tt)))
       | Ended answer ↦ (Ended answer, played p (Steps t (Ok tt)))

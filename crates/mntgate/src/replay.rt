@@ -3,6 +3,7 @@
 ghost use Rattle.std.specs.Prelude.{◌≡◌, ◌≤◌, ◌<◌, ◌+◌, ◌-◌, IfOk, IfErr, IfSome};
 ghost use Rattle.schedule_text.specs.Faults.{text_of, cause_of};
 ghost use Rattle.mntgate.specs.Limits.{IsLineNumber};
+ghost use Rattle.mntgate.specs.Session.{IsOfSession};
 
 use crate::input::Input;
 use crate::session::{Session, no_memory};
@@ -173,17 +174,23 @@ impl<R: Read + Drop, W: Write + Drop> Player<R, W> {
     /// Does what a line asks for.
     fn do_parsed(&mut self, line: Line) -> Result<(), Fault> {
         match line {
-            Line::Skipped => return Ok(()),
+            Line::Skipped => Ok(()),
             Line::Config(config) => {
                 self.session = Some(Session::new(self.alloc, config)?);
-                return Ok(());
+                Ok(())
             }
-            Line::Words | Line::Model | Line::Task { .. } => {}
+            Line::Words | Line::Model | Line::Task { .. } => self.do_in_session(line),
         }
-        let Some(session) = &mut self.session else {
-            return Err(Fault::ConfigExpected);
-        };
-        session.do_line(line, &mut self.output)
+    }
+
+    /// Does what a line asks of the session.
+    fn do_in_session(&mut self, line: Line) -> Result<(), Fault>
+        requires { IsOfSession line }
+    {
+        match &mut self.session {
+            None => Err(Fault::ConfigExpected),
+            Some(session) => session.do_line(line, &mut self.output),
+        }
     }
 
     /// Writes out what was printed. After a failure nothing is left to be written, so that no write follows it.
