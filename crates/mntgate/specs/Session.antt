@@ -37,3 +37,10 @@ IsOfSession (Task t command) = Unit {0}
 abbrev pub StandsAt : Session → Option Play → Type 0
 StandsAt session None = ⊥
 StandsAt session (Some p) = Stands session p
+
+-- a session, where there is one, is at the play, where there is one
+abbrev pub StandAs : Option Session → Option Play → Type 0
+StandAs None None = Unit {0}
+StandAs None (Some p) = ⊥
+StandAs (Some session) None = ⊥
+StandAs (Some session) (Some p) = Stands session p
