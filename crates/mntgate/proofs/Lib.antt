@@ -1,1 +1,5 @@
 pub mod Blocks
+pub mod Playing
+pub mod Standing
+pub mod Texts
+pub mod Running

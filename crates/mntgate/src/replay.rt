@@ -1,8 +1,12 @@
 //! A schedule, from the bytes in to the bytes out.
 
-ghost use Rattle.std.specs.Prelude.{◌≡◌, ◌≤◌, ◌<◌, ◌+◌, ◌-◌, IfOk, IfErr, IfSome};
+ghost use Rattle.std.specs.Prelude.{◌≡◌, ◌≤◌, ◌<◌, ◌+◌, ◌-◌, ◌++◌, ◌⊎◌, Option, IfOk, IfErr, OnOk, IfSome};
 ghost use Rattle.schedule_text.specs.Faults.{text_of, cause_of};
 ghost use Rattle.mntgate.specs.Limits.{IsLineNumber};
+ghost use Rattle.mntgate.specs.Session.{IsOfSession, StandAs};
+ghost use Rattle.mntgate.specs.Transcript.{Play, line_effect};
+ghost use Rattle.schedule_text.specs.declared.faults.Fault.TheVariants.{Refused};
+ghost use Rattle.access_model.specs.declared.errors.GateError.TheVariants.{NoMemory};
 
 use crate::input::Input;
 use crate::session::{Session, no_memory};
@@ -171,19 +175,38 @@ impl<R: Read + Drop, W: Write + Drop> Player<R, W> {
     }
 
     /// Does what a line asks for.
-    fn do_parsed(&mut self, line: Line) -> Result<(), Fault> {
+    fn do_parsed(&mut self, line: Line) -> Result<(), Fault>
+        ensures prints { (p : Option Play) → StandAs self.old.session p → OnOk result (self.new.output.bytes.items ≡ self.old.output.bytes.items ++ (line_effect p line).printed) }
+        ensures stands { (p : Option Play) → StandAs self.old.session p → OnOk result (StandAs self.new.session (line_effect p line).play) }
+        ensures done { (p : Option Play) → StandAs self.old.session p → OnOk result ((line_effect p line).fault ≡ None) }
+        ensures fault { (p : Option Play) → StandAs self.old.session p → IfErr result (λ fault. (fault ≡ Refused NoMemory) ⊎ (((line_effect p line).fault ≡ Some fault) × (self.new.output.bytes.items ≡ self.old.output.bytes.items))) }
+        ensures input { self.new.input ≡ self.old.input }
+        ensures writer { self.new.writer ≡ self.old.writer }
+    {
         match line {
-            Line::Skipped => return Ok(()),
+            Line::Skipped => Ok(()),
             Line::Config(config) => {
                 self.session = Some(Session::new(self.alloc, config)?);
-                return Ok(());
+                Ok(())
             }
-            Line::Words | Line::Model | Line::Task { .. } => {}
+            Line::Words | Line::Model | Line::Task { .. } => self.do_in_session(line),
         }
-        let Some(session) = &mut self.session else {
-            return Err(Fault::ConfigExpected);
-        };
-        session.do_line(line, &mut self.output)
+    }
+
+    /// Does what a line asks of the session.
+    fn do_in_session(&mut self, line: Line) -> Result<(), Fault>
+        requires { IsOfSession line }
+        ensures prints { (p : Option Play) → StandAs self.old.session p → OnOk result (self.new.output.bytes.items ≡ self.old.output.bytes.items ++ (line_effect p line).printed) }
+        ensures stands { (p : Option Play) → StandAs self.old.session p → OnOk result (StandAs self.new.session (line_effect p line).play) }
+        ensures done { (p : Option Play) → StandAs self.old.session p → OnOk result ((line_effect p line).fault ≡ None) }
+        ensures fault { (p : Option Play) → StandAs self.old.session p → IfErr result (λ fault. (fault ≡ Refused NoMemory) ⊎ (((line_effect p line).fault ≡ Some fault) × (self.new.output.bytes.items ≡ self.old.output.bytes.items))) }
+        ensures input { self.new.input ≡ self.old.input }
+        ensures writer { self.new.writer ≡ self.old.writer }
+    {
+        match &mut self.session {
+            None => Err(Fault::ConfigExpected),
+            Some(session) => session.do_line(line, &mut self.output),
+        }
     }
 
     /// Writes out what was printed. After a failure nothing is left to be written, so that no write follows it.

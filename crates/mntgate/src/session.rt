@@ -1,6 +1,8 @@
 //! What a schedule drives: the gates, and the model beside them.
 
-ghost use Rattle.std.specs.Prelude.{◌≡◌, ◌≤◌, IfOk};
+ghost use Rattle.std.specs.Prelude.{◌≡◌, ◌≤◌, ◌<◌, ◌++◌, true, false, IsOk, IfOk, IfErr, OnOk};
+ghost use Rattle.schedule_text.specs.declared.faults.Fault.TheVariants.{Refused};
+ghost use Rattle.access_model.specs.declared.errors.GateError.TheVariants.{Invalid, NoMemory};
 
 use crate::printing::{print_ended, print_step};
 use access_model::{GateError, Model};
@@ -29,13 +31,30 @@ pub(crate) struct Ran {
 }
 
 /// A growth that was refused.
-pub(crate) fn no_memory(_error: AllocError) -> Fault {
+pub(crate) fn no_memory(_error: AllocError) -> Fault
+    ensures { result ≡ Refused NoMemory }
+{
     Fault::Refused(GateError::NoMemory)
 }
 
 impl Session {
+    ghost use Rattle.gate_core.specs.Answers.{begin_answer, step_answer};
+    ghost use Rattle.gate_world.specs.Worlds.{Begins, Steps};
+    ghost use Rattle.mntgate.specs.Limits.{is_config};
+    ghost use Rattle.mntgate.specs.Session.{Stands, StandsAt, IsOfSession};
+    ghost use Rattle.mntgate.specs.Transcript.{Play, opening_play, played, used_now, begin_text, run_of, command_effect, line_effect, nonzero_line, words_text, mount_part, level_part, section_line, count_up, model_text, closed_line, task_text, tree_line, held_line, level_line};
+    ghost use Rattle.access_model.specs.Histories.{end_of};
+    ghost use Rattle.cpu_words.specs.Names.{IsWord};
+    ghost use Rattle.gate_world.specs.Configs.{extents_of};
+    ghost use Rattle.std.specs.List.{flat_map};
+
     /// All tasks idle, and the model as it opens.
-    pub(crate) fn new(alloc: Global, config: Config) -> Result<Session, Fault> {
+    pub(crate) fn new(alloc: Global, config: Config) -> Result<Session, Fault>
+        ensures opens { IfOk result (λ session. Stands session (opening_play config)) }
+        ensures within { OnOk result (is_config config ≡ true) }
+        ensures invalid { is_config config ≡ false → result ≡ Err (Refused Invalid) }
+        ensures memory { is_config config ≡ true → IfErr result (λ fault. fault ≡ Refused NoMemory) }
+    {
         let core = Core::new(alloc, config).map_err(Fault::Refused)?;
         let (tasks, mounts, nodes) = (config.tasks, config.mounts, config.nodes);
         let model = Model::new(alloc, tasks, mounts, nodes, config.capacity).map_err(
@@ -49,12 +68,19 @@ impl Session {
     }
 
     /// How many tasks there are.
-    pub(crate) fn tasks(&self) -> u8 {
+    pub(crate) fn tasks(&self) -> u8
+        ensures { (p : Play) → Stands self.now p → result ≡ p.config.tasks }
+    {
         self.config.tasks
     }
 
     /// Does what a line asks for, and prints what it is to print.
-    pub(crate) fn do_line(&mut self, line: Line, out: &mut Output) -> Result<(), Fault> {
+    pub(crate) fn do_line(&mut self, line: Line, out: &mut Output) -> Result<(), Fault>
+        requires { IsOfSession line }
+        ensures prints { (p : Play) → Stands self.old p → OnOk result (out.new.bytes.items ≡ out.old.bytes.items ++ (line_effect (Some p) line).printed) }
+        ensures stands { (p : Play) → Stands self.old p → OnOk result (StandsAt self.new (line_effect (Some p) line).play) }
+        ensures memory { (p : Play) → Stands self.old p → IfErr result (λ fault. fault ≡ Refused NoMemory) }
+    {
         match line {
             Line::Words => self.print_words(out).map_err(no_memory),
             Line::Model => self.print_model(out).map_err(no_memory),
@@ -69,7 +95,11 @@ impl Session {
         task: u8,
         command: TaskCommand,
         out: &mut Output,
-    ) -> Result<(), Fault> {
+    ) -> Result<(), Fault>
+        ensures prints { (p : Play) → Stands self.old p → OnOk result (out.new.bytes.items ≡ out.old.bytes.items ++ (command_effect p task command).printed) }
+        ensures stands { (p : Play) → Stands self.old p → OnOk result (StandsAt self.new (command_effect p task command).play) }
+        ensures memory { (p : Play) → Stands self.old p → IfErr result (λ fault. fault ≡ Refused NoMemory) }
+    {
         match command {
             TaskCommand::Begin(op) => self.begin(task, op, out),
             TaskCommand::Step { hook } => {
@@ -84,7 +114,11 @@ impl Session {
         }
     }
 
-    fn begin(&mut self, task: u8, op: Op, out: &mut Output) -> Result<(), Fault> {
+    fn begin(&mut self, task: u8, op: Op, out: &mut Output) -> Result<(), Fault>
+        ensures prints { (p : Play) → Stands self.old p → OnOk result (out.new.bytes.items ≡ out.old.bytes.items ++ begin_text task (begin_answer p.config p.world task op)) }
+        ensures stands { (p : Play) → Stands self.old p → Stands self.new (played p (Begins task op)) }
+        ensures memory { IfErr result (λ fault. fault ≡ Refused NoMemory) }
+    {
         match self.core.begin(task, op) {
             Ok(()) => Ok(()),
             Err(refusal) => out.refused_line(task, refusal).map_err(no_memory),
@@ -92,7 +126,10 @@ impl Session {
     }
 
     /// Does one event, and the action that it adds.
-    fn step(&mut self, task: u8, hook: Result<(), u16>) -> Result<Step, Fault> {
+    fn step(&mut self, task: u8, hook: Result<(), u16>) -> Result<Step, Fault>
+        ensures answer { (p : Play) → Stands self.old p → result ≡ Ok (step_answer p.config p.world task hook) }
+        ensures stands { (p : Play) → Stands self.old p → Stands self.new (played p (Steps task hook)) }
+    {
         let step = self.core.step(task, hook);
         if let Some(action) = step.action {
             self.model.apply(task, &action).map_err(Fault::Refused)?;
@@ -103,7 +140,10 @@ impl Session {
     /// Goes on to the reply, or to the first event that finds that the task has to wait, or to the last event that one line
     /// may do.
     fn run(&mut self, task: u8) -> Result<Ran, Fault>
-        ensures { IfOk result (λ ran. ran.events ≤ 1000) }
+        ensures few { IfOk result (λ ran. ran.events ≤ 1000) }
+        ensures done { (p : Play) → Stands self.old p → IsOk result }
+        ensures progress { (p : Play) → Stands self.old p → IfOk result (λ ran. ran.progress ≡ (run_of p task).0) }
+        ensures stands { (p : Play) → Stands self.old p → Stands self.new (run_of p task).1 }
     {
         for events in 0..EVENTS {
             let progress = self.step(task, Ok(()))?.progress;
@@ -125,29 +165,40 @@ impl Session {
     }
 
     /// The blocks charged.
-    fn used(&self) -> u64 {
+    fn used(&self) -> u64
+        ensures { (p : Play) → Stands self.now p → result ≡ used_now p }
+    {
         self.core.word(WordName::Used).unwrap_or(0)
     }
 
     /// Prints the words that aren't 0, up to the last section.
-    pub(crate) fn print_words(&self, out: &mut Output) -> Result<(), AllocError> {
+    #[tactic(auto, unfolding(crate::specs::Transcript::words_text))]
+    pub(crate) fn print_words(&self, out: &mut Output) -> Result<(), AllocError>
+        ensures { (p : Play) → Stands self.now p → OnOk result (out.new.bytes.items ≡ out.old.bytes.items ++ words_text p) }
+    {
         self.print_word(WordName::Umount, out)?;
         self.print_word(WordName::Stage, out)?;
         self.print_word(WordName::SbFlags, out)?;
         self.print_word(WordName::Remount, out)?;
+        self.print_words_of_mounts(out)?;
+        self.print_level_words(1, out)?;
+        self.print_level_words(2, out)?;
+        self.print_level_words(3, out)?;
+        self.print_sections(out)
+    }
+
+    fn print_words_of_mounts(&self, out: &mut Output) -> Result<(), AllocError>
+        ensures { (p : Play) → Stands self.now p → OnOk result (out.new.bytes.items ≡ out.old.bytes.items ++ flat_map (mount_part p) (count_up p.config.mounts)) }
+    {
         for mount in 0..self.config.mounts {
             self.print_mount_words(mount, out)?;
-        }
-        for level in 1..=3 {
-            self.print_level_words(level, out)?;
-        }
-        for task in 0..self.config.tasks {
-            self.print_word(WordName::Section(task), out)?;
         }
         Ok(())
     }
 
-    fn print_mount_words(&self, mount: u8, out: &mut Output) -> Result<(), AllocError> {
+    fn print_mount_words(&self, mount: u8, out: &mut Output) -> Result<(), AllocError>
+        ensures { (p : Play) → Stands self.now p → mount < p.config.mounts → OnOk result (out.new.bytes.items ≡ out.old.bytes.items ++ mount_part p mount) }
+    {
         self.print_word(WordName::MountFlags(mount), out)?;
         for cpu in 0..self.config.processors {
             self.print_word(WordName::MountCount(mount, cpu), out)?;
@@ -155,7 +206,9 @@ impl Session {
         Ok(())
     }
 
-    fn print_level_words(&self, level: u8, out: &mut Output) -> Result<(), AllocError> {
+    fn print_level_words(&self, level: u8, out: &mut Output) -> Result<(), AllocError>
+        ensures { (p : Play) → Stands self.now p → 1 ≤ level → level ≤ 3 → OnOk result (out.new.bytes.items ≡ out.old.bytes.items ++ level_part p level) }
+    {
         self.print_word(WordName::Block(level), out)?;
         self.print_word(WordName::Sync(level), out)?;
         for cpu in 0..self.config.processors {
@@ -164,8 +217,19 @@ impl Session {
         Ok(())
     }
 
+    fn print_sections(&self, out: &mut Output) -> Result<(), AllocError>
+        ensures { (p : Play) → Stands self.now p → OnOk result (out.new.bytes.items ≡ out.old.bytes.items ++ flat_map (section_line p) (count_up p.config.tasks)) }
+    {
+        for task in 0..self.config.tasks {
+            self.print_word(WordName::Section(task), out)?;
+        }
+        Ok(())
+    }
+
     /// Prints a word where it isn't 0.
-    fn print_word(&self, name: WordName, out: &mut Output) -> Result<(), AllocError> {
+    fn print_word(&self, name: WordName, out: &mut Output) -> Result<(), AllocError>
+        ensures { (p : Play) → Stands self.now p → IsWord (extents_of p.config) name → OnOk result (out.new.bytes.items ≡ out.old.bytes.items ++ nonzero_line p.world name) }
+    {
         match self.core.word(name) {
             None | Some(0) => Ok(()),
             Some(value) => out.word_line(name, value),
@@ -173,17 +237,43 @@ impl Session {
     }
 
     /// Prints the model.
-    pub(crate) fn print_model(&self, out: &mut Output) -> Result<(), AllocError> {
+    #[tactic(auto, unfolding(crate::specs::Transcript::model_text))]
+    pub(crate) fn print_model(&self, out: &mut Output) -> Result<(), AllocError>
+        ensures { (p : Play) → Stands self.now p → OnOk result (out.new.bytes.items ≡ out.old.bytes.items ++ model_text p) }
+    {
         let (stage, passed) = (self.model.stage(), self.model.passed());
         out.model_line(stage, passed, self.model.sb_ro())?;
+        self.print_closed_mounts(out)?;
+        self.print_holders(out)?;
+        self.print_tree(out)
+    }
+
+    /// Prints the mounts that are read-only.
+    fn print_closed_mounts(&self, out: &mut Output) -> Result<(), AllocError>
+        ensures { (p : Play) → Stands self.now p → OnOk result (out.new.bytes.items ≡ out.old.bytes.items ++ flat_map (closed_line (end_of p.done)) (count_up p.config.mounts)) }
+    {
         for mount in 0..self.config.mounts {
             if self.model.mount_ro(mount) {
                 out.read_only_mount_line(mount)?;
             }
         }
+        Ok(())
+    }
+
+    /// Prints what the tasks hold.
+    fn print_holders(&self, out: &mut Output) -> Result<(), AllocError>
+        ensures { (p : Play) → Stands self.now p → OnOk result (out.new.bytes.items ≡ out.old.bytes.items ++ flat_map (task_text p.config (end_of p.done)) (count_up p.config.tasks)) }
+    {
         for task in 0..self.config.tasks {
             self.print_held(task, out)?;
         }
+        Ok(())
+    }
+
+    /// Prints the nodes that are not free.
+    fn print_tree(&self, out: &mut Output) -> Result<(), AllocError>
+        ensures { (p : Play) → Stands self.now p → OnOk result (out.new.bytes.items ≡ out.old.bytes.items ++ flat_map (tree_line (end_of p.done)) (count_up p.config.nodes)) }
+    {
         for node in 0..self.config.nodes {
             if let Some(info) = self.model.tree(node) {
                 out.node_line(node, info)?;
@@ -193,18 +283,34 @@ impl Session {
     }
 
     /// Prints what a task holds.
-    fn print_held(&self, task: u8, out: &mut Output) -> Result<(), AllocError> {
+    fn print_held(&self, task: u8, out: &mut Output) -> Result<(), AllocError>
+        ensures { (p : Play) → Stands self.now p → task < p.config.tasks → OnOk result (out.new.bytes.items ≡ out.old.bytes.items ++ task_text p.config (end_of p.done) task) }
+    {
+        self.print_held_mounts(task, out)?;
+        self.print_held_level(task, 1, out)?;
+        self.print_held_level(task, 2, out)?;
+        self.print_held_level(task, 3, out)
+    }
+
+    fn print_held_mounts(&self, task: u8, out: &mut Output) -> Result<(), AllocError>
+        ensures { (p : Play) → Stands self.now p → task < p.config.tasks → OnOk result (out.new.bytes.items ≡ out.old.bytes.items ++ flat_map (held_line (end_of p.done) task) (count_up p.config.mounts)) }
+    {
         for mount in 0..self.config.mounts {
             let count = self.model.held_mount(task, mount);
             if count > 0 {
                 out.held_mount_line(task, mount, count)?;
             }
         }
-        for level in 1..=3 {
-            if self.model.held_level(task, level) {
-                out.held_level_line(task, level)?;
-            }
-        }
         Ok(())
+    }
+
+    fn print_held_level(&self, task: u8, level: u8, out: &mut Output) -> Result<(), AllocError>
+        ensures { (p : Play) → Stands self.now p → task < p.config.tasks → 1 ≤ level → level ≤ 3 → OnOk result (out.new.bytes.items ≡ out.old.bytes.items ++ level_line (end_of p.done) task level) }
+    {
+        if self.model.held_level(task, level) {
+            out.held_level_line(task, level)
+        } else {
+            Ok(())
+        }
     }
 }
