@@ -1,0 +1,5 @@
+use Rattle.vfs_gates.specs.Standing.{IsFrom}
+use Rattle.gate_bench.proofs.at_gates.take_and_give.Given as goal
+
+abbrev pub invariant-loop-round : goal.invariant-loop-round
+invariant-loop-round l = IsFrom l.task l.gates

@@ -1,0 +1,6 @@
+use Rattle.std.proofs.Common.{All}
+use Rattle.vfs_gates.specs.Standing.{IsFrom}
+use Rattle.gate_bench.proofs.at_gates.tasks_of.Given as goal
+
+abbrev pub invariant-loop-number : goal.invariant-loop-number
+invariant-loop-number l = IsFrom l.first l.gates × All (λ task. IsFrom task l.gates) l.tasks.items

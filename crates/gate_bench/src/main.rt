@@ -1,0 +1,59 @@
+//! Measures how many pairs of a taken and a returned access threads do in a second: at the gates, each thread at a processor of
+//! its own; at one count word that all threads share; and at a read lock. With no argument it measures nothing and prints nothing.
+#![tactic(auto)]
+
+mod at_gates;
+mod at_others;
+mod rates;
+
+use anyhow::Result;
+use rates::{Subject, print_rate};
+use std::alloc::Global;
+use std::rt::Clock;
+use std::sync::Wait;
+use std::thread::Threads;
+
+/// The argument that asks for measurements.
+const MEASURE: &str = "measure";
+
+/// The pairs of each thread in one measurement, where no argument says how many.
+const PAIRS: u32 = 1_000_000;
+
+/// How many threads there are in each measurement.
+const THREADS: [u8; 3] = [1, 2, 4];
+
+fn main(rt: HostRuntime) -> Result<()> {
+    let words: Vec<String> = std::env::args(&rt)?.collect(rt.alloc())?;
+    let Some(asked) = words.get(1) else {
+        return Ok(());
+    };
+    if asked.as_str() != MEASURE {
+        return Ok(());
+    }
+    let pairs = match words.get(2) {
+        Some(text) => text.as_str().parse::<u32>()?,
+        None => PAIRS,
+    };
+    for threads in THREADS {
+        measure(&rt, rt.alloc(), threads, pairs)?;
+    }
+    Ok(())
+}
+
+/// Measures and prints the three subjects with so many threads.
+fn measure<R: Threads + Wait + Clock + Print + Sync>(
+    rt: &R,
+    alloc: Global,
+    threads: u8,
+    pairs: u32,
+) -> Result<()> {
+    for subject in [Subject::Gates, Subject::SharedWord, Subject::ReadLock] {
+        let took = match subject {
+            Subject::Gates => at_gates::measure(rt, alloc, threads, pairs)?,
+            Subject::SharedWord => at_others::measure_word(rt, alloc, threads, pairs)?,
+            Subject::ReadLock => at_others::measure_lock(rt, alloc, threads, pairs)?,
+        };
+        print_rate(rt, subject, threads, pairs, took)?;
+    }
+    Ok(())
+}

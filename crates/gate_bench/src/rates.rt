@@ -1,0 +1,46 @@
+//! Rates, and the lines that say them.
+
+ghost use Rattle.std.specs.Prelude.{◌≡◌, ◌*◌, ◌/◌, max};
+
+use std::time::Duration;
+use std::{fmt, io};
+
+/// What is measured.
+#[derive(Clone, Copy, PartialEq, Eq, Debug)]
+pub(crate) enum Subject {
+    Gates,
+    SharedWord,
+    ReadLock,
+}
+
+impl fmt::Display for Subject {
+    fn fmt<W: fmt::Write>(&self, f: &mut fmt::Formatter<W>) -> fmt::Result {
+        f.write_str(match self {
+            Subject::Gates => "gates",
+            Subject::SharedWord => "shared word",
+            Subject::ReadLock => "read lock",
+        })
+    }
+}
+
+/// Tenths of a million pairs a second, rounded down, where each of so many threads did so many pairs in so many microseconds; a
+/// time of 0 counts as 1.
+fn tenths_of_a_million(threads: u8, pairs: u32, micros: u64) -> u64
+    ensures { result ≡ threads * pairs * 10 / max 1 micros }
+{
+    u64::from(threads) * u64::from(pairs) * 10 / micros.max(1)
+}
+
+/// Prints the line of one measurement.
+pub(crate) fn print_rate(
+    rt: &impl Print,
+    subject: Subject,
+    threads: u8,
+    pairs: u32,
+    took: Duration,
+) -> io::Result<()> {
+    let micros = u64::try_from(took.as_micros()).unwrap_or(u64::MAX);
+    let tenths = tenths_of_a_million(threads, pairs, micros);
+    let (whole, tenth) = (tenths / 10, tenths % 10);
+    println!(rt; "{subject} {threads} threads {whole}.{tenth} million pairs a second")
+}
