@@ -18,19 +18,28 @@ pub struct Accesses {
 impl Accesses {
     ghost use Rattle.gate_core.specs.Seats.{accesses_after, ActionFits, mount_of};
 
+    /// Does to these what an action of the task itself does.
+    #[inline(always)]
+    pub fn apply(&mut self, action: Option<Action>)
+        requires { ActionFits (slice_index self.old.mounts) action }
+        ensures { self.new ≡ accesses_after self.old action }
+    {
+        match action {
+            Some(Action::Grant(Gate::Mount(mount))) => self.mounts[mount as usize] += 1,
+            Some(Action::Return(Gate::Mount(mount))) => self.mounts[mount as usize] -= 1,
+            Some(Action::Grant(Gate::Level(level))) => self.levels[level as usize] = true,
+            Some(Action::Return(Gate::Level(level))) => self.levels[level as usize] = false,
+            _ => {}
+        }
+    }
+
     /// What the task holds after an action of its own.
     pub fn after(self, action: Option<Action>) -> Accesses
         requires { ActionFits (slice_index self.mounts) action }
         ensures { result ≡ accesses_after self action }
     {
         let mut after = self;
-        match action {
-            Some(Action::Grant(Gate::Mount(mount))) => after.mounts[mount as usize] += 1,
-            Some(Action::Return(Gate::Mount(mount))) => after.mounts[mount as usize] -= 1,
-            Some(Action::Grant(Gate::Level(level))) => after.levels[level as usize] = true,
-            Some(Action::Return(Gate::Level(level))) => after.levels[level as usize] = false,
-            _ => {}
-        }
+        after.apply(action);
         after
     }
 

@@ -23,3 +23,9 @@ next_of (Mounts phase) hook = next phase hook
 -- what comes after the event that found this value, and the action that the event adds
 abbrev pub after_of : Phase → ℕ → HookAnswer → Next Phase × Option Action
 after_of (Mounts phase) found hook = (of_mounts (after phase found hook).0, (after phase found hook).1)
+
+-- the same, of the phases that these stand for
+abbrev pub at_phases : {A : Type 0} → (A → Phase) → Next A → Next Phase
+at_phases stands (Go x) = Go (stands x)
+at_phases stands (Wait x) = Wait (stands x)
+at_phases stands (Done answer) = Done answer

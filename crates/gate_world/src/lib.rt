@@ -10,4 +10,4 @@ pub mod work;
 pub use config::Config;
 pub use operations::Op;
 pub use views::{Snapshot, Traced, View};
-pub use work::Phase;
+pub use work::{Phase, UnderWay};

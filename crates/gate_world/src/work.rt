@@ -5,7 +5,7 @@ ghost use Rattle.gate_world.specs.Work.{of_mounts, next_of, after_of};
 
 use access_model::{Action, Next};
 use cpu_words::{Touch, WordName};
-use mount_counts::MountPhase;
+use mount_counts::{MountPhase, Want};
 
 /// Where an operation under way stands, between two of its events.
 #[derive(Clone, Copy, PartialEq, Eq, Debug)]
@@ -14,6 +14,7 @@ pub enum Phase {
 }
 
 /// The same, of a phase of all layers.
+#[inline(always)]
 fn at_mounts(next: Next<MountPhase>) -> Next<Phase>
     ensures { result ≡ of_mounts next }
 {
@@ -26,6 +27,7 @@ fn at_mounts(next: Next<MountPhase>) -> Next<Phase>
 
 impl Phase {
     /// The word and the touch of the next event, where a hook answers this.
+    #[inline(always)]
     pub fn next(&self, hook: Result<(), u16>) -> (WordName, Touch)
         ensures { result ≡ next_of self.now hook }
     {
@@ -35,6 +37,7 @@ impl Phase {
     }
 
     /// What comes after the event, which found this, and the action that it adds.
+    #[inline(always)]
     pub fn after(self, found: u64, hook: Result<(), u16>) -> (Next<Phase>, Option<Action>)
         ensures { result ≡ after_of self found hook }
     {
@@ -44,5 +47,56 @@ impl Phase {
                 (at_mounts(next), action)
             }
         }
+    }
+}
+
+/// An operation under way, in a form that has no more room than its own phases need: what does one kind of operation only,
+/// and that fast, uses it in the place of a whole `Phase`.
+pub trait UnderWay: Copy {
+    ghost use Rattle.std.specs.Prelude.{◌≡◌};
+    ghost use Rattle.gate_world.specs.declared.work.Phase.{Phase as PhaseType};
+    ghost use Rattle.gate_world.specs.Work.{at_phases, after_of};
+
+    /// The phase that it stands for.
+    ghost stands: { Self → PhaseType };
+
+    /// The same as a phase.
+    fn phase(self) -> Phase
+        ensures { result ≡ stands self };
+
+    /// What comes after the event, which found this, and the action that it adds.
+    fn after(self, found: u64, hook: Result<(), u16>) -> (Next<Self>, Option<Action>)
+        ensures { (at_phases stands result.0, result.1) ≡ after_of (stands self) found hook };
+}
+
+impl UnderWay for Phase {
+    ghost stands = { λ phase. phase };
+
+    #[inline(always)]
+    fn phase(self) -> Phase {
+        self
+    }
+
+    #[inline(always)]
+    fn after(self, found: u64, hook: Result<(), u16>) -> (Next<Phase>, Option<Action>) {
+        self.after(found, hook)
+    }
+}
+
+impl UnderWay for Want {
+    ghost use Rattle.gate_world.specs.declared.work.Phase.TheVariants.{Mounts};
+    ghost use Rattle.mount_counts.specs.declared.phases.MountPhase.TheVariants.{Want as Wants};
+
+    ghost stands = { λ want. Mounts (Wants want) };
+
+    #[inline(always)]
+    fn phase(self) -> Phase {
+        Phase::Mounts(MountPhase::Want(self))
+    }
+
+    #[inline(always)]
+    fn after(self, found: u64, hook: Result<(), u16>) -> (Next<Want>, Option<Action>) {
+        let _ = hook;
+        self.after(found)
     }
 }

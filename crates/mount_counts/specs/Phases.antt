@@ -41,6 +41,12 @@ want_next w (CountsDown refusal) = (MountCount w.mount w.cpu, Sub 1)
 abbrev pub at_want : Want → WantStep → MountPhase
 at_want w step = Wants (record w { step = step })
 
+-- the same, of a phase of any operation at a mount
+abbrev pub of_want : Next Want → Next MountPhase
+of_want (Go w) = Go (Wants w)
+of_want (Wait w) = Wait (Wants w)
+of_want (Done answer) = Done answer
+
 -- HOLD was found set
 abbrev pub hold_found : Want → Bool → Next MountPhase
 hold_found w true = Wait (at_want w LoadsHold)

@@ -1,7 +1,7 @@
 //! The orders of events of want, drop and change.
 
 ghost use Rattle.std.specs.Prelude.{◌≡◌};
-ghost use Rattle.mount_counts.specs.Phases.{next, after, at_want, want_next, want_after, at_change, change_next, change_from, change_summed, change_after};
+ghost use Rattle.mount_counts.specs.Phases.{next, after, of_want, want_next, want_after, at_change, change_next, change_from, change_summed, change_after};
 ghost use Rattle.access_model.specs.declared.replies.Next.TheVariants.{Go};
 
 use crate::flags::MountFlags;
@@ -81,8 +81,22 @@ pub enum MountPhase {
     Change(Change),
 }
 
+/// The same, of a phase of any operation at a mount.
+#[inline(always)]
+fn of_a_want(next: Next<Want>) -> Next<MountPhase>
+    ensures { result ≡ of_want next }
+{
+    match next {
+        Next::Go(want) => Next::Go(MountPhase::Want(want)),
+        Next::Wait(want) => Next::Wait(MountPhase::Want(want)),
+        Next::Done(answer) => Next::Done(answer),
+    }
+}
+
 impl Want {
-    fn next(self) -> (WordName, Touch)
+    /// The word and the touch of the next event.
+    #[inline(always)]
+    pub fn next(self) -> (WordName, Touch)
         ensures { result ≡ want_next self self.step }
     {
         let count = WordName::MountCount(self.mount, self.cpu);
@@ -99,14 +113,17 @@ impl Want {
     }
 
     /// The same want, with this step to come.
-    fn at(self, step: WantStep) -> MountPhase
-        ensures { result ≡ at_want self step }
+    #[inline(always)]
+    fn at(self, step: WantStep) -> Want
+        ensures { result ≡ record self { step = step } }
     {
-        MountPhase::Want(Want { step, ..self })
+        Want { step, ..self }
     }
 
-    fn after(self, found: u64) -> (Next<MountPhase>, Option<Action>)
-        ensures { result ≡ want_after self self.step found }
+    /// What comes after the event, which found this, and the action that the event adds.
+    #[inline(always)]
+    pub fn after(self, found: u64) -> (Next<Want>, Option<Action>)
+        ensures { (of_want result.0, result.1) ≡ want_after self self.step found }
     {
         let read_only = Next::Go(self.at(WantStep::CountsDown(GateError::ReadOnly)));
         let flags = MountFlags::from_bits_retain(found);
@@ -116,7 +133,7 @@ impl Want {
                 if !flags.contains(MountFlags::HOLD) {
                     Next::Go(self.at(WantStep::LoadsRemount))
                 } else if self.wait {
-                    Next::Wait(MountPhase::Want(self))
+                    Next::Wait(self)
                 } else {
                     Next::Go(self.at(WantStep::CountsDown(GateError::Again)))
                 }
@@ -220,6 +237,7 @@ impl Change {
 
 impl MountPhase {
     /// The word and the touch of the next event. No event of a mount reads a hook's answer.
+    #[inline(always)]
     pub fn next(&self, hook: Result<(), u16>) -> (WordName, Touch)
         ensures { result ≡ next self.now hook }
     {
@@ -232,12 +250,16 @@ impl MountPhase {
     }
 
     /// What comes after the event, which found this, and the action that the event adds.
+    #[inline(always)]
     pub fn after(self, found: u64, hook: Result<(), u16>) -> (Next<MountPhase>, Option<Action>)
         ensures { result ≡ after self found hook }
     {
         let _ = hook;
         match self {
-            MountPhase::Want(want) => want.after(found),
+            MountPhase::Want(want) => {
+                let (next, action) = want.after(found);
+                (of_a_want(next), action)
+            }
             MountPhase::Drop { mount, .. } => (
                 Next::Done(Ok(Reply::Unit)),
                 Some(Action::Return(Gate::Mount(mount))),
