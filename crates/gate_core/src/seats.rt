@@ -43,16 +43,17 @@ impl Accesses {
         after
     }
 
-    fn is_in_no_level(self) -> bool
-        ensures { result ≡ holds_none (λ i. slice_index_or self.levels i false) }
+    fn is_in_no_level(&self) -> bool
+        ensures { result ≡ holds_none (λ i. slice_index_or self.now.levels i false) }
     {
         !self.levels[1] && !self.levels[2] && !self.levels[3]
     }
 
     /// Whether a task that holds these may begin the operation.
-    fn is_in_order(self, op: Op) -> bool
+    #[inline(always)]
+    fn is_in_order(&self, op: Op) -> bool
         requires { mount_of op < 8 }
-        ensures { result ≡ in_order (slice_index self.mounts) (λ i. slice_index_or self.levels i false) op }
+        ensures { result ≡ in_order (slice_index self.now.mounts) (λ i. slice_index_or self.now.levels i false) op }
     {
         match op {
             Op::Want { .. } => true,
@@ -62,9 +63,10 @@ impl Accesses {
     }
 
     /// Whether the operation would not give the task its 1,025th access at a mount.
-    fn is_within_room(self, op: Op) -> bool
+    #[inline(always)]
+    fn is_within_room(&self, op: Op) -> bool
         requires { mount_of op < 8 }
-        ensures { result ≡ within_room (slice_index self.mounts) op }
+        ensures { result ≡ within_room (slice_index self.now.mounts) op }
     {
         match op {
             Op::Want { mount, .. } => self.mounts[mount as usize] < 1024,
@@ -84,9 +86,10 @@ impl Seat {
     ghost use Rattle.gate_core.specs.Memory.{mounts_in, levels_in};
 
     /// Why an operation can't begin, the first reason in the stated order.
-    pub fn refusal(self, config: Config, op: Op) -> Option<GateError>
+    #[inline(always)]
+    pub fn refusal(&self, config: Config, op: Op) -> Option<GateError>
         requires { config.mounts ≤ 8 }
-        ensures { result ≡ the_refusal config (is_some self.phase) (mounts_in self) (levels_in self) op }
+        ensures { result ≡ the_refusal config (is_some self.now.phase) (mounts_in self.now) (levels_in self.now) op }
     {
         if self.phase.is_some() {
             Some(GateError::Order)
@@ -102,6 +105,7 @@ impl Seat {
     }
 }
 
+#[inline(always)]
 fn is_in_range(config: Config, op: Op) -> bool
     ensures { result ≡ in_range config op }
 {
@@ -114,6 +118,7 @@ fn is_in_range(config: Config, op: Op) -> bool
 }
 
 /// The first phase of an operation of a task.
+#[inline(always)]
 pub fn first_phase(config: Config, task: u8, op: Op) -> Phase
     ensures { result ≡ the_first_phase config task op }
 {
