@@ -31,6 +31,7 @@ pub struct Event {
 
 impl Touch {
     /// What the touch leaves of a word in which it found this. Sums and differences wrap at 2^64.
+    #[inline]
     pub fn left(self, found: u64) -> u64
         ensures { result ≡ left self found }
     {
@@ -47,6 +48,7 @@ impl Touch {
     }
 
     /// The event of this touch on a word that held this value.
+    #[inline(always)]
     pub fn event(self, word: WordName, value: u64) -> Event
         ensures { result ≡ event_of word self value }
     {

@@ -40,6 +40,7 @@ pub enum WordName {
 impl WordName {
     /// The place of the word among all words. It is the same for every configuration, and below `WORDS` for every word
     /// that a configuration has, so that finding a word costs a constant, a shift and an addition.
+    #[inline(always)]
     pub fn place(self) -> usize
         ensures { result ≡ place self }
     {

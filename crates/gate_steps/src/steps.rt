@@ -13,12 +13,14 @@ use gate_world::{Config, Op, Phase};
 use std::marker::Brand;
 
 /// Where a word lies in the table: words lie 16 apart, each in cache lines of its own.
+#[inline(always)]
 pub fn index_of(word: WordName) -> usize
     ensures { result ≡ 16 * place word }
 {
     16 * word.place()
 }
 
+#[inline(always)]
 fn event_of<J: Moment>(
     shared: &Shared<(), Items, Config, Rule>,
     seat: &mut Seat<(), Items>,
@@ -61,6 +63,7 @@ fn event_of<J: Moment>(
 
 /// The next event of the seat's own number, in one atomic step: what it found, or, where it stores, what it wrote. An operation
 /// that has begun stands in `begins` until its first event, and None stands there from then on.
+#[inline(always)]
 pub fn event(
     shared: &Shared<(), Items, Config, Rule>,
     seat: &mut Seat<(), Items>,

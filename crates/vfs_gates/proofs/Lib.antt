@@ -1,5 +1,7 @@
 pub mod FlagSteps
 pub mod Going
+pub mod Turning
 pub mod Parting
 pub mod Ending
 pub mod Running
+pub mod Calling

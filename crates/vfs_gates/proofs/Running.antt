@@ -26,7 +26,7 @@ use Rattle.gate_core.specs.Answers.{progress_of, unless_refused}
 use Rattle.gate_steps.specs.Seating.{SeatItems, numbered, entered, items_after, IsMove}
 use Rattle.vfs_gates.specs.Standing.{Standing, own_number, own_view, refusal_at}
 use Rattle.vfs_gates.specs.Stepped.{Stepped}
-use Rattle.vfs_gates.specs.Runs.{events_onto, ran_view, ran_items, begins_at, items_at, IsMoveOf, IsNextMove, AreMoves, waits, outcome_of, Called, Performs}
+use Rattle.vfs_gates.specs.Runs.{events_onto, ran_view, ran_items, begins_at, items_at, IsMoveOf, IsNextMove, AreMoves, Goes, Went, waits, outcome_of, Called, Performs}
 
 -- the numbers of a task whose own number has begun the operation
 abbrev pub entered_items : Option Op → Option Phase → SeatItems → SeatItems
@@ -71,18 +71,6 @@ goes_on : (x : Next Phase) → ((a : Result Reply GateError) → progress_of x �
 goes_on (Go q) not = (q, refl)
 goes_on (Wait q) not = (q, refl)
 goes_on (Done a) not = absurd (not a refl)
-
--- an operation under way, after these events
-pub record Goes (op : Op) (start now : Standing) : Type 0 where
-  pub trace : List Traced
-  pub table : now.table ≡ start.table
-  pub config : now.config ≡ start.config
-  pub follows : IsTrace start.config (own_number start.items) op trace
-  pub phase : now.phase ≡ phase_after (course_of start.config (own_number start.items) op trace).stands
-  pub going : (q : Phase) × (now.phase ≡ Some q)
-  pub begins : now.begins ≡ begins_at op trace
-  pub items : now.items ≡ items_at start.config op trace start.items
-  pub moves : AreMoves start.config op start.items trace
 
 abbrev pub steps_of : Standing → ℕ
 steps_of now = length (own_view (entered_items now.begins now.phase now.items)).trace
@@ -261,6 +249,13 @@ few_steps op start now within tries goes =
     let own = own_trace start.config op goes.trace start.items in
     let same = ap (λ l. length (own_view l).trace) (ran_so_far op start now goes) in
     omega arith
+
+-- what comes after the event tells whether it goes on
+pub went_on : (op : Op) (start now left : Standing) (step : Step) (goes : Goes op start now) (stepped : (p : Phase) → now.phase ≡ Some p → Stepped p (Ok tt) now step left) → IsWithin start.config →
+    (next : Next Phase) → step.progress ≡ progress_of next → Went op start next left
+went_on op start now left step goes stepped within (Go q) is = goes_further op start now left step goes stepped (λ a ended. absurd (let f : ⊥ = cc in f))
+went_on op start now left step goes stepped within (Wait q) is = goes_further op start now left step goes stepped (λ a ended. absurd (let f : ⊥ = cc in f))
+went_on op start now left step goes stepped within (Done a) is = ends_there op start now left step goes stepped within a is (outcome_of a) refl
 
 pub falls : (op : Op) (start now left : Standing) (step : Step) (goes : Goes op start now) (stepped : (p : Phase) → now.phase ≡ Some p → Stepped p (Ok tt) now step left) →
     IsWithin start.config → waits op ≡ false → ((a : Result Reply GateError) → step.progress ≡ Ended a → ⊥) → 72 - steps_of left < 72 - steps_of now

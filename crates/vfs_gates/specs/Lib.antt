@@ -1,6 +1,7 @@
 pub mod Standing
 pub mod Ties
 pub mod Stepped
+pub mod Turns
 pub mod Parts
 pub mod Sums
 pub mod Ended

@@ -95,3 +95,28 @@ pub record Performs (op : Op) (old left : Standing) (outcome : Result (Unit {0})
   pub config : left.config ≡ old.config
   pub refused : (refusal : GateError) → refusal_at op old ≡ Some refusal → (outcome ≡ Err refusal) × (left ≡ old)
   pub done : refusal_at op old ≡ None → Called op old left outcome
+
+-- an operation under way, after these events
+pub record Goes (op : Op) (start now : Standing) : Type 0 where
+  pub trace : List Traced
+  pub table : now.table ≡ start.table
+  pub config : now.config ≡ start.config
+  pub follows : IsTrace start.config (own_number start.items) op trace
+  pub phase : now.phase ≡ phase_after (course_of start.config (own_number start.items) op trace).stands
+  pub going : (q : Phase) × (now.phase ≡ Some q)
+  pub begins : now.begins ≡ begins_at op trace
+  pub items : now.items ≡ items_at start.config op trace start.items
+  pub moves : AreMoves start.config op start.items trace
+
+-- what comes after the last event: it goes on, or it was done whole
+abbrev pub Went : Op → Standing → Next Phase → Standing → Type 0
+Went op start (Go phase) now = Goes op start now
+Went op start (Wait phase) now = Goes op start now
+Went op start (Done answer) now = Called op start now (outcome_of answer)
+
+-- some operation that waits for nobody is under way here
+pub record IsTrying (now : Standing) : Type 0 where
+  pub op : Op
+  pub start : Standing
+  pub goes : Goes op start now
+  pub tries : waits op ≡ false

@@ -1,13 +1,21 @@
 //! Calls that wait for nobody.
 
-ghost use Rattle.std.specs.Prelude.{◌≡◌, false};
-ghost use Rattle.vfs_gates.specs.Runs.{outcome_of};
+ghost use Rattle.std.specs.Prelude.{◌≡◌, Some, None, false};
+ghost use Rattle.gate_world.specs.Views.{phase_after};
+ghost use Rattle.gate_world.specs.declared.operations.Op.{Op as OpType};
+ghost use Rattle.gate_world.specs.declared.work.Phase.TheVariants.{Mounts};
+ghost use Rattle.mount_counts.specs.declared.phases.MountPhase.TheVariants.{Want as Wants};
+ghost use Rattle.vfs_gates.specs.Standing.{Standing, standing};
+ghost use Rattle.vfs_gates.specs.Turns.{IsTied, StayTied, of_the_want};
+ghost use Rattle.vfs_gates.specs.Runs.{outcome_of, Goes, Went};
 
 use crate::gates::Gates;
-use crate::task::Task;
-use access_model::{GateError, Reply};
-use gate_core::Progress;
-use gate_world::Op;
+use crate::task::{Seat, Task};
+use crate::turns::go_on;
+use access_model::{GateError, Next, Reply};
+use gate_core::{Accesses, Progress, first_phase};
+use gate_world::{Op, UnderWay};
+use mount_counts::{Want, WantStep};
 
 /// Why the operation was refused, or that it wasn't.
 pub(crate) fn outcome(answer: Result<Reply, GateError>) -> Result<(), GateError>
@@ -19,18 +27,80 @@ pub(crate) fn outcome(answer: Result<Reply, GateError>) -> Result<(), GateError>
     }
 }
 
-impl Task {
-    ghost use Rattle.gate_world.specs.declared.operations.Op.TheVariants.{Want, DropMount, ChangeMount};
-    ghost use Rattle.vfs_gates.specs.Standing.{IsFrom};
-    ghost use Rattle.vfs_gates.specs.Runs.{waits, Performs};
+/// The next event of a want, where what comes next is this step of it; else nothing.
+#[inline(always)]
+fn go_on_at(
+    gates: &Gates,
+    seat: &mut Seat,
+    accesses: &mut Accesses,
+    next: Next<Want>,
+    step: WantStep,
+) -> Next<Want>
+    requires table { seat.old.table_id ≡ gates.now.table.shared.table_id }
+    requires tied { IsTied gates.now.config None (phase_after (of_the_want next)) accesses.old seat.old.me.0 }
+    ensures table { seat.new.table_id ≡ seat.old.table_id }
+    ensures slots { seat.new.me.1 ≡ seat.old.me.1 }
+    ensures tied { StayTied gates.now.config None (phase_after (of_the_want next)) accesses.old seat.old.me.0 (phase_after (of_the_want result)) accesses.new seat.new.me.0 }
+    ensures went { (op : OpType) (start : Standing) → Went op start (of_the_want next) (standing seat.old.table_id gates.now.config None (phase_after (of_the_want next)) seat.old.me.0) →
+        Went op start (of_the_want result) (standing seat.new.table_id gates.now.config None (phase_after (of_the_want result)) seat.new.me.0) }
+{
+    let Next::Go(want) = next else {
+        return next;
+    };
+    if want.step != step {
+        return next;
+    }
+    go_on(gates, seat, accesses, None, want)
+}
 
-    /// Begins an operation that waits for nobody, and does its events until it replies.
-    fn perform(&mut self, gates: &Gates, op: Op) -> Result<(), GateError>
-        requires from { IsFrom self.old gates.now }
-        requires tries { waits op ≡ false }
-        ensures { Performs op self.old self.new result }
+/// The events of a want up to its grant, in a straight line; where one of them finds something else, the events up to it. What
+/// comes after the last of them.
+#[inline(always)]
+fn want_in_line(
+    gates: &Gates,
+    seat: &mut Seat,
+    accesses: &mut Accesses,
+    begins: Option<Op>,
+    want: Want,
+) -> Next<Want>
+    requires table { seat.old.table_id ≡ gates.now.table.shared.table_id }
+    requires tied { IsTied gates.now.config begins (Some (Mounts (Wants want))) accesses.old seat.old.me.0 }
+    ensures table { seat.new.table_id ≡ seat.old.table_id }
+    ensures slots { seat.new.me.1 ≡ seat.old.me.1 }
+    ensures tied { StayTied gates.now.config begins (Some (Mounts (Wants want))) accesses.old seat.old.me.0 (phase_after (of_the_want result)) accesses.new seat.new.me.0 }
+    ensures went { (op : OpType) (start : Standing) → Goes op start (standing seat.old.table_id gates.now.config begins (Some (Mounts (Wants want))) seat.old.me.0) →
+        Went op start (of_the_want result) (standing seat.new.table_id gates.now.config None (phase_after (of_the_want result)) seat.new.me.0) }
+{
+    let next = go_on(gates, seat, accesses, begins, want);
+    let next = go_on_at(gates, seat, accesses, next, WantStep::LoadsHold);
+    let next = go_on_at(gates, seat, accesses, next, WantStep::LoadsRemount);
+    let next = go_on_at(gates, seat, accesses, next, WantStep::LoadsReadOnly);
+    go_on_at(gates, seat, accesses, next, WantStep::LoadsSuperblock)
+}
+
+impl Task {
+    ghost use Rattle.gate_world.specs.declared.operations.Op.TheVariants.{Want as WantOp, DropMount, ChangeMount};
+    ghost use Rattle.gate_core.specs.Answers.{unless_refused};
+    ghost use Rattle.vfs_gates.specs.Standing.{IsFrom, refusal_at};
+    ghost use Rattle.vfs_gates.specs.Runs.{Called, IsTrying, Performs};
+
+    /// Why the operation can't begin.
+    #[inline(always)]
+    fn admit(&self, op: Op) -> Result<(), GateError>
+        ensures { result ≡ unless_refused (refusal_at op self.now) }
     {
-        self.begin(op)?;
+        match self.kept.refusal(self.config, op) {
+            Some(refusal) => Err(refusal),
+            None => Ok(()),
+        }
+    }
+
+    /// Does the events of the operation that has begun, which waits for nobody, until it replies.
+    fn finish(&mut self, gates: &Gates) -> Result<(), GateError>
+        requires from { IsFrom self.old gates.now }
+        requires trying { IsTrying self.old }
+        ensures { (op : OpType) (start : Standing) → Goes op start self.old → Called op start self.new result }
+    {
         loop {
             let step = self.step(gates, Ok(()));
             if let Progress::Done(answer) = step.progress {
@@ -44,14 +114,26 @@ impl Task {
     /// TooMany as `begin`.
     pub fn try_want(&mut self, gates: &Gates, mount: u8, cpu: u8) -> Result<(), GateError>
         requires { IsFrom self.old gates.now }
-        ensures { Performs (Want mount cpu false) self.old self.new result }
+        ensures { Performs (WantOp mount cpu false) self.old self.new result }
     {
-        let want = Op::Want {
+        let wait = false;
+        let op = Op::Want { mount, cpu, wait };
+        self.admit(op)?;
+        let step = WantStep::CountsUp;
+        let want = Want {
             mount,
             cpu,
-            wait: false,
+            wait,
+            step,
         };
-        self.perform(gates, want)
+        let accesses = &mut self.kept.accesses;
+        match want_in_line(gates, &mut self.seat, accesses, Some(op), want) {
+            Next::Done(answer) => outcome(answer),
+            Next::Go(want) | Next::Wait(want) => {
+                self.kept.phase = Some(want.phase());
+                self.finish(gates)
+            }
+        }
     }
 
     /// `mnt_drop_write`: gives an access at a mount back, on any processor. It is never refused once it has begun: Order, where the
@@ -60,7 +142,17 @@ impl Task {
         requires { IsFrom self.old gates.now }
         ensures { Performs (DropMount mount cpu) self.old self.new result }
     {
-        self.perform(gates, Op::DropMount { mount, cpu })
+        let op = Op::DropMount { mount, cpu };
+        self.admit(op)?;
+        let phase = first_phase(self.config, self.number, op);
+        let accesses = &mut self.kept.accesses;
+        match go_on(gates, &mut self.seat, accesses, Some(op), phase) {
+            Next::Done(answer) => outcome(answer),
+            Next::Go(phase) | Next::Wait(phase) => {
+                self.kept.phase = Some(phase);
+                self.finish(gates)
+            }
+        }
     }
 
     /// `mnt_make_readonly`, or its undoing, that doesn't wait. Again where another task has `umount`, Busy where writers are
@@ -79,6 +171,7 @@ impl Task {
             read_only,
             wait: false,
         };
-        self.perform(gates, change)
+        self.begin(change)?;
+        self.finish(gates)
     }
 }

@@ -11,6 +11,7 @@ mod rooms;
 mod task;
 #[cfg(test)]
 mod tests;
+mod turns;
 mod waits;
 
 pub use closed::Closed;

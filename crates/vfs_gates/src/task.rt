@@ -10,10 +10,11 @@ ghost use Rattle.gate_steps.specs.Rules.{first_items};
 use crate::gates::Gates;
 use crate::numbers::{Numbers, are_all, others_of};
 use crate::rooms::Rooms;
+use crate::turns::{Turn, do_event};
 use access_model::GateError;
 use gate_core::seats::Seat as Kept;
 use gate_core::{Accesses, Progress, Step, first_phase};
-use gate_steps::{Items, event};
+use gate_steps::Items;
 use gate_world::{Config, Op};
 use std::marker::Model;
 
@@ -137,20 +138,16 @@ impl Task {
         let Some(phase) = self.kept.phase else {
             return Step::idle();
         };
-        let (word, touch) = phase.next(hook);
-        let found = event(
-            &gates.table.shared,
-            &mut self.seat,
-            self.begins,
-            phase,
-            hook,
-        );
-        let event = touch.event(word, found);
-        let (next, action) = phase.after(event.found, hook);
+        let begins = self.begins;
+        let accesses = &mut self.kept.accesses;
+        let Turn {
+            event,
+            action,
+            next,
+        } = do_event(gates, &mut self.seat, accesses, begins, phase, hook);
         let (progress, phase) = Progress::of(next);
-        let accesses = self.kept.accesses.after(action);
         self.begins = None;
-        self.kept = Kept { phase, accesses };
+        self.kept.phase = phase;
         Step {
             event: Some(event),
             action,

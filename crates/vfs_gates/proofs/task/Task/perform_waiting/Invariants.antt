@@ -1,4 +1,4 @@
-use Rattle.vfs_gates.proofs.Running.{Goes}
+use Rattle.vfs_gates.specs.Runs.{Goes}
 use Rattle.vfs_gates.proofs.task.Task.perform_waiting.Given as goal
 
 abbrev pub invariant-loop : goal.invariant-loop

@@ -1,32 +1,39 @@
 -- the fields after an event are what the seat knows after it
-use Rattle.std.proofs.Common.{◌≡◌, ◌∙◌, sym, ap, subst}
+use Rattle.std.proofs.Common.{◌≡◌, ◌∙◌, sym, ap, refl}
+use Rattle.std.specs.Prelude.{Some, None}
+use Rattle.access_model.specs.declared.replies.Next.{Next}
+use Rattle.gate_world.specs.declared.work.Phase.{Phase}
 use Rattle.gate_world.specs.declared.config.Config.{Config}
-use Rattle.gate_steps.specs.Seating.{IsMove}
-use Rattle.vfs_gates.specs.Standing.{Standing}
-use Rattle.vfs_gates.proofs.Going.{may_add, ties_left, stepped_here}
+use Rattle.gate_world.specs.Views.{phase_after}
+use Rattle.gate_core.specs.Answers.{progress_of}
+use Rattle.vfs_gates.specs.Standing.{Standing, standing}
+use Rattle.vfs_gates.specs.Turns.{kept_at, step_was}
+use Rattle.vfs_gates.proofs.Turning.{tied_at, at_itself, stepped_there}
 use Rattle.vfs_gates.proofs.task.Task.step.Goals as goal
 
-pub after-accesses-requires : goal.after-accesses-requires
-after-accesses-requires c =
+pub do_event-action-requires-clause-tied : goal.do_event-action-requires-clause-tied
+do_event-action-requires-clause-tied c =
     let t = c.self.inside in
-    may_add t.number t.config t.begins t.kept t.spare c.in-Some.phase c.in-Some.is c.args.hook t.seat.me.0 c.self.invariant.0
-    c.next-word.result c.next-word.ensures c.event-found.result c.event-event.result c.event-event.ensures c.after-next.result c.after-next.ensures
+    let same : t.config ≡ c.args.gates.now.config = ap (λ (s : Standing). s.config) c.self.view_is ∙ c.requires.1 in
+    record { number = t.number; flags = t.spare; ties = tied_at t.number t.begins t.spare t.seat.me.0 t.kept (Some c.in-Some.phase) c.self.invariant.0 same c.in-Some.is }
 
 pub invariant_of-self : goal.invariant_of-self
 invariant_of-self c =
-    let t = c.self.inside in (
-      ties_left t.number t.config t.begins t.kept t.spare c.in-Some.phase c.in-Some.is c.args.hook t.seat.me.0 c.self.invariant.0
-          c.next-word.result c.next-word.ensures c.event-found.result c.event-event.result c.event-event.ensures c.after-next.result c.after-next.ensures
-          c.of-progress.result c.of-progress.ensures c.after-accesses.result c.after-accesses.ensures c.event-found.new.seat.me.0 c.event-found.ensures.event,
-      c.event-found.ensures.slots ∙ c.self.invariant.1,
-    )
+    let t = c.self.inside in
+    let same : t.config ≡ c.args.gates.now.config = ap (λ (s : Standing). s.config) c.self.view_is ∙ c.requires.1 in
+    let next : Next Phase = c.do_event-action.result.next in
+    let stands = ap (λ (n : Next Phase). phase_after n) (at_itself next) ∙ sym (ap (λ p. p.1) c.of-progress.ensures) in
+    let tied = c.do_event-action.ensures.tied t.number t.spare (tied_at t.number t.begins t.spare t.seat.me.0 t.kept (Some c.in-Some.phase) c.self.invariant.0 same c.in-Some.is) in
+    (tied_at t.number None t.spare c.do_event-action.new.seat.me.0 (kept_at _ c.do_event-action.new.accesses) c.of-progress.result.1 tied (sym same) stands, c.do_event-action.ensures.slots ∙ c.self.invariant.1)
 
 pub returns-clause-event : goal.returns-clause-event
 returns-clause-event c =
     let t = c.self.inside in
-    let same : t.config ≡ c.args.gates.now.table.shared.key = ap (λ (s : Standing). s.config) c.self.view_is ∙ (c.requires.1 ∙ sym c.args.gates.now.key) in
-    stepped_here t.number t.config t.begins t.kept t.spare c.in-Some.phase c.in-Some.is c.args.hook t.seat.me.0 c.self.invariant.0
-    c.next-word.result c.next-word.ensures c.event-found.result c.event-event.result c.event-event.ensures c.after-next.result c.after-next.ensures
-    c.of-progress.result c.of-progress.ensures c.after-accesses.result c.after-accesses.ensures c.event-found.new.seat.me.0 c.event-found.ensures.event
-    c.event-found.new.seat.table_id t.seat.table_id c.args.self.now c.event-found.ensures.table c.self.view_is
-    (subst (λ (k : Config). IsMove k t.begins c.in-Some.phase c.args.hook t.seat.me.0 c.event-found.result) (sym same) c.event-found.ensures.moves)
+    let same : t.config ≡ c.args.gates.now.config = ap (λ (s : Standing). s.config) c.self.view_is ∙ c.requires.1 in
+    let next : Next Phase = c.do_event-action.result.next in
+    let stands = ap (λ (n : Next Phase). phase_after n) (at_itself next) ∙ sym (ap (λ p. p.1) c.of-progress.ensures) in
+    let told = ap (λ (n : Next Phase). progress_of n) (at_itself next) ∙ sym (ap (λ p. p.0) c.of-progress.ensures) in
+    let before = (λ i. standing t.seat.table_id (sym same i) t.begins (sym c.in-Some.is i) t.seat.me.0) ∙ c.self.view_is in
+    stepped_there c.do_event-action.ensures.stepped before
+    (λ i. record { event = Some c.do_event-action.result.event; action = c.do_event-action.result.action; progress = told i })
+    (λ i. standing c.do_event-action.new.seat.table_id (sym same i) None (stands i) c.do_event-action.new.seat.me.0) refl

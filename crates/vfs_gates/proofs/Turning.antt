@@ -1,0 +1,89 @@
+-- One event apart from the task: what it leaves of the fields, and which step it was.
+use Rattle.std.proofs.Common.{◌≡◌, ℕ, Bool, List, refl, sym, ap, ◌∙◌, subst}
+use Rattle.std.specs.Prelude.{Option, Some, None, Ok}
+use Rattle.access_model.specs.declared.actions.Action.{Action}
+use Rattle.access_model.specs.declared.replies.Next.{Next}
+use Rattle.cpu_words.specs.declared.names.WordName.{WordName}
+use Rattle.cpu_words.specs.declared.events.Touch.{Touch}
+use Rattle.cpu_words.specs.declared.events.Event.{Event}
+use Rattle.cpu_words.specs.Hooks.{HookAnswer}
+use Rattle.cpu_words.specs.Touches.{event_of}
+use Rattle.gate_world.specs.declared.config.Config.{Config}
+use Rattle.gate_world.specs.declared.operations.Op.{Op}
+use Rattle.gate_world.specs.declared.work.Phase.{Phase}
+use Rattle.gate_world.specs.Views.{phase_after}
+use Rattle.access_model.specs.declared.replies.Next.TheVariants.{Go, Wait, Done}
+use Rattle.gate_core.specs.declared.seats.Seat.{Seat}
+use Rattle.gate_world.specs.Work.{next_of, after_of, at_phases}
+use Rattle.gate_core.specs.declared.seats.Accesses.{Accesses}
+use Rattle.gate_core.specs.Answers.{progress_of}
+use Rattle.gate_core.specs.Seats.{accesses_after}
+use Rattle.gate_steps.specs.Seating.{SeatItems, items_after, IsMove}
+use Rattle.atomic_table.specs.Seated.{TableId}
+use Rattle.gate_world.specs.Configs.{IsWithin}
+use Rattle.gate_core.specs.declared.steps.Step.{Step}
+use Rattle.vfs_gates.specs.Runs.{Goes, Went}
+use Rattle.vfs_gates.specs.Standing.{Standing, standing}
+use Rattle.vfs_gates.specs.Stepped.{Stepped}
+use Rattle.vfs_gates.specs.Ties.{Ties}
+use Rattle.vfs_gates.specs.Turns.{kept_at, step_was}
+use Rattle.vfs_gates.proofs.Going.{ties_left, stepped_here}
+use Rattle.vfs_gates.proofs.Running.{went_on}
+
+-- of the values that the code has, where the phase that it was told is this one
+module _ (c key : Config) (same_key : key ≡ c) (begins : Option Op) (phase told : Phase) (told_is : told ≡ phase) (accesses accesses_left : Accesses) (hook : HookAnswer) (items left : SeatItems)
+    (next : WordName × Touch) (next_is : next ≡ next_of told hook) (found : ℕ) (event : Event) (event_is : event ≡ event_of next.0 next.1 found)
+    (done : Next Phase × Option Action) (done_is : done ≡ after_of phase event.found hook) (accesses_is : accesses_left ≡ accesses_after accesses done.1) (left_is : left ≡ items_after begins told hook found items) where
+  next_here : next ≡ next_of phase hook
+  next_here = next_is ∙ ap (λ (p : Phase). next_of p hook) told_is
+
+  left_here : left ≡ items_after begins phase hook found items
+  left_here = left_is ∙ ap (λ (p : Phase). items_after begins p hook found items) told_is
+
+  pub stay_tied : (number : ℕ) (flags : List Bool) → Ties number c begins (kept_at (Some phase) accesses) flags items → Ties number c None (kept_at (phase_after done.0) accesses_left) flags left
+  stay_tied number flags ties =
+      ties_left number c begins (kept_at (Some phase) accesses) flags phase refl hook items ties next next_here found event event_is done done_is
+      (progress_of done.0, phase_after done.0) refl accesses_left accesses_is left left_here
+
+  pub stepped_so : (number : ℕ) (flags : List Bool) → Ties number c begins (kept_at (Some phase) accesses) flags items → IsMove key begins told hook items found → (table before : TableId) → table ≡ before →
+      Stepped phase hook (standing before c begins (Some phase) items) (step_was event done.1 done.0) (standing table c None (phase_after done.0) left)
+  stepped_so number flags ties moves table before same =
+      let here : IsMove c begins phase hook items found = subst (λ (k : Config). IsMove k begins phase hook items found) same_key (subst (λ (p : Phase). IsMove key begins p hook items found) told_is moves) in
+      stepped_here number c begins (kept_at (Some phase) accesses) flags phase refl hook items ties next next_here found event event_is done done_is
+      (progress_of done.0, phase_after done.0) refl accesses_left accesses_is left left_here
+      table before (standing before c begins (Some phase) items) same refl here phase refl
+
+-- and what comes after it tells whether the operation goes on
+pub went_so : (c : Config) → IsWithin c → (op : Op) (start : Standing) (event : Event) (action : Option Action) (next : Next Phase) {table left_table : TableId} {begins : Option Op} {phase : Phase} {items left : SeatItems} →
+    Goes op start (standing table c begins (Some phase) items) →
+    Stepped phase (Ok tt) (standing table c begins (Some phase) items) (step_was event action next) (standing left_table c None (phase_after next) left) →
+    Went op start next (standing left_table c None (phase_after next) left)
+went_so c within op start event action next {table} {left_table} {begins} {phase} {items} {left} goes stepped =
+    let now : Standing = standing table c begins (Some phase) items in
+    let after : Standing = standing left_table c None (phase_after next) left in
+    let step : Step = step_was event action next in
+    went_on op start now after step goes
+    (λ p is. subst (λ (q : Phase). Stepped q (Ok tt) now step after) (let same : phase ≡ p = cc in same) stepped)
+    (subst IsWithin goes.config within) next refl
+
+-- a task's fields, said with another name of the config and of the phase
+pub tied_at : (number : ℕ) {c d : Config} (begins : Option Op) (flags : List Bool) (items : SeatItems) (kept : Seat) (phase : Option Phase) → Ties number c begins kept flags items → c ≡ d → kept.phase ≡ phase →
+    Ties number d begins (kept_at phase kept.accesses) flags items
+tied_at number {c} {d} begins flags items kept phase ties same is =
+    let P : Config × Option Phase → Type 0 = λ z. Ties number z.0 begins (kept_at z.1 kept.accesses) flags items in
+    subst P (λ i. (same i, is i)) ties
+
+-- what comes next, where each phase stands for itself
+pub at_itself : (next : Next Phase) → at_phases (λ phase. phase) next ≡ next
+at_itself (Go phase) = refl
+at_itself (Wait phase) = refl
+at_itself (Done answer) = refl
+
+-- a step, said with other names of what it was
+pub stepped_there : {phase : Phase} {hook : HookAnswer} {old old_now left left_now : Standing} {done done_now : Step} → Stepped phase hook old done left → old ≡ old_now → done ≡ done_now → left ≡ left_now → old.phase ≡ Some phase →
+    (p : Phase) → old_now.phase ≡ Some p → Stepped p hook old_now done_now left_now
+stepped_there {phase} {hook} {old} {old_now} {left} {left_now} {done} {done_now} stepped same_old same_done same_left is p at =
+    let other : Some phase ≡ Some p = sym is ∙ (ap (λ (s : Standing). s.phase) same_old ∙ at) in
+    let same : phase ≡ p = cc in
+    let P : Phase × Standing × Step × Standing → Type 0 = λ z. Stepped z.0 hook z.1 z.2 z.3 in
+    subst P (λ i. (same i, same_old i, same_done i, same_left i)) stepped

@@ -1,0 +1,33 @@
+use Rattle.vfs_gates.proofs.calls.want_in_line.Goals as goal
+
+pub go_on_at-next-requires-clause-tied : goal.go_on_at-next-requires-clause-tied
+go_on_at-next-requires-clause-tied c = let t = c.requires.tied in
+    record { number = t.number; flags = t.flags; ties = c.go_on-next.ensures.tied t.number t.flags t.ties }
+
+pub go_on_at-next-requires-2-clause-tied : goal.go_on_at-next-requires-2-clause-tied
+go_on_at-next-requires-2-clause-tied c = let t = c.requires.tied in
+    record { number = t.number; flags = t.flags; ties = c.go_on_at-next.ensures.tied t.number t.flags (c.go_on-next.ensures.tied t.number t.flags t.ties) }
+
+pub go_on_at-next-requires-3-clause-tied : goal.go_on_at-next-requires-3-clause-tied
+go_on_at-next-requires-3-clause-tied c = let t = c.requires.tied in record {
+  number = t.number;
+  flags = t.flags;
+  ties = c.go_on_at-next-2.ensures.tied t.number t.flags (c.go_on_at-next.ensures.tied t.number t.flags (c.go_on-next.ensures.tied t.number t.flags t.ties));
+}
+
+pub go_on_at-requires-clause-tied : goal.go_on_at-requires-clause-tied
+go_on_at-requires-clause-tied c = let t = c.requires.tied in record {
+  number = t.number;
+  flags = t.flags;
+  ties =
+      c.go_on_at-next-3.ensures.tied t.number t.flags
+      (c.go_on_at-next-2.ensures.tied t.number t.flags (c.go_on_at-next.ensures.tied t.number t.flags (c.go_on-next.ensures.tied t.number t.flags t.ties)));
+}
+
+pub returns-clause-tied : goal.returns-clause-tied
+returns-clause-tied c number flags ties =
+    c.go_on_at.ensures.tied number flags
+    (c.go_on_at-next-3.ensures.tied number flags
+    (c.go_on_at-next-2.ensures.tied number flags
+    (c.go_on_at-next.ensures.tied number flags
+    (c.go_on-next.ensures.tied number flags ties))))

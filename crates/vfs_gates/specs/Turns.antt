@@ -1,0 +1,43 @@
+-- What one event leaves of a task's fields, apart from the task.
+use Rattle.std.specs.Prelude.{◌≡◌, ℕ, Bool, Option, Some, None, List}
+use Rattle.access_model.specs.declared.actions.Action.{Action}
+use Rattle.access_model.specs.declared.errors.GateError.{GateError}
+use Rattle.access_model.specs.declared.replies.Next.{Next}
+use Rattle.access_model.specs.declared.replies.Next.TheVariants.{Go, Wait, Done}
+use Rattle.cpu_words.specs.declared.events.Event.{Event}
+use Rattle.gate_world.specs.declared.config.Config.{Config}
+use Rattle.gate_world.specs.declared.operations.Op.{Op}
+use Rattle.gate_world.specs.declared.work.Phase.{Phase}
+use Rattle.gate_world.specs.declared.work.Phase.TheVariants.{Mounts}
+use Rattle.gate_world.specs.Work.{at_phases}
+use Rattle.mount_counts.specs.declared.phases.Want.{Want}
+use Rattle.mount_counts.specs.declared.phases.MountPhase.TheVariants.{Want as Wants}
+use Rattle.gate_core.specs.declared.seats.Seat.{Seat}
+use Rattle.gate_core.specs.declared.seats.Accesses.{Accesses}
+use Rattle.gate_core.specs.declared.steps.Step.{Step}
+use Rattle.gate_core.specs.Answers.{progress_of}
+use Rattle.gate_steps.specs.Seating.{SeatItems}
+use Rattle.vfs_gates.specs.Ties.{Ties}
+
+-- what is kept of a task whose operation stands there
+abbrev pub kept_at : Option Phase → Accesses → Seat
+kept_at phase accesses = record { phase = phase; accesses = accesses }
+
+-- some task's fields are what its seat at the table knows, and its operation stands there
+pub record IsTied (c : Config) (begins : Option Op) (phase : Option Phase) (accesses : Accesses) (items : SeatItems) : Type 0 where
+  pub number : ℕ
+  pub flags : List Bool
+  pub ties : Ties number c begins (kept_at phase accesses) flags items
+
+-- the fields of a task that were what its seat knew are so again
+abbrev pub StayTied : Config → Option Op → Option Phase → Accesses → SeatItems → Option Phase → Accesses → SeatItems → Type 0
+StayTied c begins phase accesses items left accesses_left items_left =
+    (number : ℕ) (flags : List Bool) → Ties number c begins (kept_at phase accesses) flags items → Ties number c None (kept_at left accesses_left) flags items_left
+
+-- the step that an event was
+abbrev pub step_was : Event → Option Action → Next Phase → Step
+step_was event action next = record { event = Some event; action = action; progress = progress_of next }
+
+-- what comes next of a want, as phases
+abbrev pub of_the_want : Next Want → Next Phase
+of_the_want next = at_phases (λ want. Mounts (Wants want)) next

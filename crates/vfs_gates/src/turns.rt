@@ -1,0 +1,84 @@
+//! One event of an operation under way, apart from the task that does it: so nothing is written down between two events of a
+//! call, and what is known of the operation lets its events become a straight line of code.
+
+ghost use Rattle.std.specs.Prelude.{◌≡◌, Some, None};
+ghost use Rattle.gate_world.specs.Views.{phase_after};
+ghost use Rattle.gate_world.specs.Work.{at_phases};
+ghost use Rattle.vfs_gates.specs.Standing.{standing};
+ghost use Rattle.vfs_gates.specs.Stepped.{Stepped};
+ghost use Rattle.vfs_gates.specs.Turns.{IsTied, StayTied, step_was};
+ghost use Rattle.vfs_gates.specs.Runs.{Goes, Went};
+ghost use Rattle.vfs_gates.specs.Standing.{Standing};
+ghost use Rattle.gate_world.specs.declared.operations.Op.{Op as OpType};
+
+use crate::gates::Gates;
+use crate::task::Seat;
+use access_model::{Action, Next};
+use cpu_words::Event;
+use gate_core::Accesses;
+use gate_steps::event;
+use gate_world::{Op, UnderWay};
+
+/// An event, the action that it added, and what comes after it.
+pub(crate) struct Turn<P> {
+    pub(crate) event: Event,
+    pub(crate) action: Option<Action>,
+    pub(crate) next: Next<P>,
+}
+
+/// Does the next event of an operation under way, in one atomic step by the seat, and to the accesses what its action does.
+#[inline(always)]
+pub(crate) fn do_event<P: UnderWay>(
+    gates: &Gates,
+    seat: &mut Seat,
+    accesses: &mut Accesses,
+    begins: Option<Op>,
+    under_way: P,
+    hook: Result<(), u16>,
+) -> Turn<P>
+    requires table { seat.old.table_id ≡ gates.now.table.shared.table_id }
+    requires tied { IsTied gates.now.config begins (Some (P.stands under_way)) accesses.old seat.old.me.0 }
+    ensures table { seat.new.table_id ≡ seat.old.table_id }
+    ensures slots { seat.new.me.1 ≡ seat.old.me.1 }
+    ensures tied { StayTied gates.now.config begins (Some (P.stands under_way)) accesses.old seat.old.me.0 (phase_after (at_phases P.stands result.next)) accesses.new seat.new.me.0 }
+    ensures stepped { Stepped (P.stands under_way) hook (standing seat.old.table_id gates.now.config begins (Some (P.stands under_way)) seat.old.me.0)
+        (step_was result.event result.action (at_phases P.stands result.next))
+        (standing seat.new.table_id gates.now.config None (phase_after (at_phases P.stands result.next)) seat.new.me.0) }
+{
+    let phase = under_way.phase();
+    let (word, touch) = phase.next(hook);
+    let found = event(&gates.table.shared, seat, begins, phase, hook);
+    let event = touch.event(word, found);
+    let (next, action) = under_way.after(event.found, hook);
+    accesses.apply(action);
+    Turn {
+        event,
+        action,
+        next,
+    }
+}
+
+/// The same where no hook of a file system fails, for a call that does one event after the other: what comes after it.
+#[inline(always)]
+pub(crate) fn go_on<P: UnderWay>(
+    gates: &Gates,
+    seat: &mut Seat,
+    accesses: &mut Accesses,
+    begins: Option<Op>,
+    under_way: P,
+) -> Next<P>
+    requires table { seat.old.table_id ≡ gates.now.table.shared.table_id }
+    requires tied { IsTied gates.now.config begins (Some (P.stands under_way)) accesses.old seat.old.me.0 }
+    ensures table { seat.new.table_id ≡ seat.old.table_id }
+    ensures slots { seat.new.me.1 ≡ seat.old.me.1 }
+    ensures tied { StayTied gates.now.config begins (Some (P.stands under_way)) accesses.old seat.old.me.0 (phase_after (at_phases P.stands result)) accesses.new seat.new.me.0 }
+    ensures went { (op : OpType) (start : Standing) → Goes op start (standing seat.old.table_id gates.now.config begins (Some (P.stands under_way)) seat.old.me.0) →
+        Went op start (at_phases P.stands result) (standing seat.new.table_id gates.now.config None (phase_after (at_phases P.stands result)) seat.new.me.0) }
+{
+    let Turn {
+        event: _,
+        action: _,
+        next,
+    } = do_event(gates, seat, accesses, begins, under_way, Ok(()));
+    next
+}
