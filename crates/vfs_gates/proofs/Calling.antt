@@ -67,7 +67,7 @@ module _ (number : ℕ) (c d : Config) (same : c ≡ d) (begins : Option Op) (ke
     below = t.below;
     may = (
       let at : refusal c (is_some kept.phase) (held_at x.view) (holds_level x.view) op ≡ None = subst (λ (l : SeatItems). refusal c (is_some kept.phase) (held_at (own_view l)) (holds_level (own_view l)) op ≡ None) here none_refused in
-      ap (λ (o : Option Phase). refusal c (is_some o) (held_at x.view) (holds_level x.view) op) ((at_rest x xs t).1 ∙ sym idle) ∙ at,
+          ap (λ (o : Option Phase). refusal c (is_some o) (held_at x.view) (holds_level x.view) op) ((at_rest x xs t).1 ∙ sym idle) ∙ at,
       ap (λ (n : ℕ). first_phase c n op) (sym t.same_number),
     );
     fits =
