@@ -11,8 +11,8 @@ use std::test::Fail;
 
 /// What a schedule prints, as far as it comes, and its fault, if there is one.
 fn played(alloc: Global, schedule: &[u8]) -> Result<(Vec<u8>, Result<(), ReplayFault>), Fail> {
-    let mut printed = Vec::new(alloc);
-    let ended = replay(alloc, schedule, &mut printed);
+    let (mut reader, mut printed) = (schedule, Vec::new(alloc));
+    let ended = replay(alloc, &mut reader, &mut printed);
     Ok((printed, ended))
 }
 
@@ -334,7 +334,8 @@ fn a_line_has_at_most_256_bytes(rt: HostRuntime) -> Result<(), Fail> {
 fn a_schedule_has_at_most_1048576_lines(rt: HostRuntime) -> Result<(), Fail> {
     for (empty, fault) in [(1_048_575, ""), (1_048_576, "line 1048577: too many lines")] {
         let head = b"config 1 1 1 2 8\n".as_slice();
-        let ended = replay(rt.alloc(), Newlines { head, empty }, std::io::empty());
+        let mut reader = Newlines { head, empty };
+        let ended = replay(rt.alloc(), &mut reader, &mut std::io::empty());
         expect_end(&rt, ended, fault)?;
     }
     Ok(())
@@ -366,7 +367,7 @@ fn each_read_fails_in_turn(rt: HostRuntime) -> Result<(), Fail> {
     for good in 0..12 {
         let mut printed = Vec::new(rt.alloc());
         let bytes = SCHEDULE.as_bytes();
-        let ended = replay(rt.alloc(), Slow::new(bytes, 7, good), &mut printed);
+        let ended = replay(rt.alloc(), &mut Slow::new(bytes, 7, good), &mut printed);
         let read = bytes.iter().take(7 * good as usize);
         let lines = read.filter(|byte| **byte == b'\n').count();
         let count = AFTER.get(lines).ok_or("too many lines")?;
@@ -381,8 +382,8 @@ fn each_read_fails_in_turn(rt: HostRuntime) -> Result<(), Fail> {
 #[test]
 fn a_byte_at_a_time_reads_and_writes_the_same(rt: HostRuntime) -> Result<(), Fail> {
     let mut writer = Frail::new(rt.alloc(), 1, u32::MAX, Refusal::Nothing);
-    let reader = Slow::new(SCHEDULE.as_bytes(), 1, u32::MAX);
-    let ended = replay(rt.alloc(), reader, &mut writer);
+    let mut reader = Slow::new(SCHEDULE.as_bytes(), 1, u32::MAX);
+    let ended = replay(rt.alloc(), &mut reader, &mut writer);
     begins_text(&rt, writer.taken.as_slice(), TEXT.len())?;
     expect_end(&rt, ended, "")
 }
@@ -392,7 +393,7 @@ fn each_write_fails_in_turn(rt: HostRuntime) -> Result<(), Fail> {
     for refusal in [Refusal::Error, Refusal::Nothing] {
         for good in 0..14 {
             let mut writer = Frail::new(rt.alloc(), 3, good, refusal);
-            let ended = replay(rt.alloc(), SCHEDULE.as_bytes(), &mut writer);
+            let ended = replay(rt.alloc(), &mut SCHEDULE.as_bytes(), &mut writer);
             begins_text(&rt, writer.taken.as_slice(), 3 * good as usize)?;
             assert!(rt; !writer.was_called_again);
             expect_end(&rt, ended, "line 9: write failed")?;
@@ -405,8 +406,8 @@ fn each_write_fails_in_turn(rt: HostRuntime) -> Result<(), Fail> {
 fn what_was_printed_is_written_before_more_is_read(rt: HostRuntime) -> Result<(), Fail> {
     let written = Cell::new(0);
     let late = Cell::new(0);
-    let reader = Watcher::new(SCHEDULE.as_bytes(), &AFTER, &written, &late);
-    let ended = replay(rt.alloc(), reader, Counter { written: &written });
+    let mut reader = Watcher::new(SCHEDULE.as_bytes(), &AFTER, &written, &late);
+    let ended = replay(rt.alloc(), &mut reader, &mut Counter { written: &written });
     expect_end(&rt, ended, "")?;
     assert_eq!(rt; late.get(), 0);
     assert_eq!(rt; written.get(), TEXT.len());
