@@ -289,6 +289,28 @@ static FAULTS: [(&str, &str); 30] = [
     ("config 1 1 1 2 8\n0 run write 5\n", "line 2: bad word"),
 ];
 
+/// Schedules whose last line has several faults, each with the first of them in the order of docs/SCHEDULES.md.
+static SEVERAL_FAULTS: [(&str, &str); 15] = [
+    ("words", "line 1: cut off"),
+    ("config 1 1 1 2 8\n9 fly", "line 2: cut off"),
+    ("fly x\n", "line 1: config expected"),
+    ("0 want\n", "line 1: config expected"),
+    ("config x 1 1 2\n", "line 1: wrong number of words"),
+    ("config 0 x 1 2 8\n", "line 1: bad number"),
+    ("config 1 1 1 2 8\nconfig x\n", "line 2: config twice"),
+    ("config 1 1 1 2 8\nfly 0 x\n", "line 2: unknown command"),
+    ("config 1 1 1 2 8\n9 fly x\n", "line 2: unknown command"),
+    ("config 1 1 1 2 8\n9\n", "line 2: wrong number of words"),
+    (
+        "config 1 1 1 2 8\n9 want x\n",
+        "line 2: wrong number of words",
+    ),
+    ("config 1 1 1 2 8\n9 change x up\n", "line 2: no such task"),
+    ("config 1 1 1 2 8\n9 run write x\n", "line 2: no such task"),
+    ("config 1 1 1 2 8\n0 run write x\n", "line 2: bad word"),
+    ("config 1 1 1 2 8\n0 run sync x\n", "line 2: bad number"),
+];
+
 #[test]
 fn schedules_print_what_they_ask_for(rt: HostRuntime) -> Result<(), Fail> {
     for (schedule, text) in PRINTED.iter() {
@@ -299,7 +321,7 @@ fn schedules_print_what_they_ask_for(rt: HostRuntime) -> Result<(), Fail> {
 
 #[test]
 fn malformed_schedules_end_at_their_first_fault(rt: HostRuntime) -> Result<(), Fail> {
-    for (schedule, fault) in FAULTS.iter() {
+    for (schedule, fault) in FAULTS.iter().chain(SEVERAL_FAULTS.iter()) {
         let (printed, ended) = played(rt.alloc(), schedule.as_bytes())?;
         assert!(rt; printed.is_empty());
         expect_end(&rt, ended, fault)?;
@@ -331,10 +353,31 @@ fn a_line_has_at_most_256_bytes(rt: HostRuntime) -> Result<(), Fail> {
 }
 
 #[test]
+fn a_line_that_is_too_long_is_not_cut_off(rt: HostRuntime) -> Result<(), Fail> {
+    for (bytes, fault) in [(256, "line 1: cut off"), (257, "line 1: line too long")] {
+        let schedule = vec![in rt.alloc(); b'x'; bytes]?;
+        let (_, ended) = played(rt.alloc(), schedule.as_slice())?;
+        expect_end(&rt, ended, fault)?;
+    }
+    Ok(())
+}
+
+#[test]
 fn a_schedule_has_at_most_1048576_lines(rt: HostRuntime) -> Result<(), Fail> {
-    for (empty, fault) in [(1_048_575, ""), (1_048_576, "line 1048577: too many lines")] {
+    let long = [b'x'; 257];
+    let too_many = "line 1048577: too many lines";
+    for (tail, fault) in [
+        (b"".as_slice(), ""),
+        (b"\n".as_slice(), too_many),
+        (b"config".as_slice(), too_many),
+        (long.as_slice(), too_many),
+    ] {
         let head = b"config 1 1 1 2 8\n".as_slice();
-        let mut reader = Newlines { head, empty };
+        let mut reader = Newlines {
+            head,
+            empty: 1_048_575,
+            tail,
+        };
         let ended = replay(rt.alloc(), &mut reader, &mut std::io::empty());
         expect_end(&rt, ended, fault)?;
     }

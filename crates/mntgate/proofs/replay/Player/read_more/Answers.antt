@@ -1,8 +1,7 @@
-use Rattle.std.proofs.Common.{ℕ, refl, sym, ap, subst, List}
+use Rattle.std.proofs.Common.{ℕ, refl, ap}
 use Rattle.std.proofs.lemmas.Result.{err_from_is_err_and, IfOk-weaker}
-use Rattle.schedule_text.specs.declared.faults.Fault.TheVariants.{WriteFailed, ReadFailed}
+use Rattle.schedule_text.specs.declared.faults.Fault.TheVariants.{ReadFailed}
 use Rattle.mntgate.specs.Pending.{pending}
-use Rattle.mntgate.specs.UnderWay.{Stops}
 use Rattle.mntgate.proofs.UnderWay.{same, reads_on, writes_out, read_failed, write_failed, nothing_read, fails_by}
 use Rattle.mntgate.proofs.replay.Player.read_more.Goals as goal
 
@@ -10,9 +9,7 @@ pub returns-in_err-write_out-clause-stops : goal.returns-in_err-write_out-clause
 returns-in_err-write_out-clause-stops g c input held done way =
     let p = err_from_is_err_and c.from_residual.result c.from_residual.ensures.1 in
     let failed = c.in_err-write_out.ensures in
-    let stop = write_failed way _ done failed.part in
-    let as_is = subst (λ (l : List ℕ). Stops input held (g.R.Read.remaining c.args.reader.now) l (g.W.Write.contents c.write_out.new.writer) done WriteFailed) (sym failed.printed) stop in
-    rw (p.1, p.2, failed.fault) as_is
+    rw (p.1, p.2, failed.fault, failed.printed) (write_failed way _ done failed.part)
 
 pub returns-clause-goes_on : goal.returns-clause-goes_on
 returns-clause-goes_on g c input held done way =
