@@ -1,6 +1,7 @@
 -- Bytes that are read behind the first ones of a block.
-use Rattle.std.proofs.Common.{◌≡◌, ℕ, ◌+◌, ◌≤◌, List, ◌++◌, length, take, Option, arith, sym, ap, subst, ◌∙◌, length-take}
-use Rattle.std.proofs.Math.Seq.{take-append-add, take-append_seam}
+use Rattle.std.proofs.Common.{◌≡◌, ℕ, ◌+◌, ◌-◌, ◌≤◌, List, ◌++◌, length, take, drop, Option, arith, sym, ap, subst, ◌∙◌, length-take, length-drop}
+use Rattle.std.proofs.Math.Seq.{take-append-add, take-append_seam, drop-drop}
+use Rattle.std.proofs.lemmas.List.{drop-take}
 use Rattle.std.specs.Io.KnownBytes.{Consumes}
 use Rattle.std.specs.List.{slice_range}
 use Rattle.mntgate.specs.Reading.{ReadsOn}
@@ -35,3 +36,16 @@ pending_grow left left_now left_after pending block block_after bytes_after star
   counted = reads.counted;
   lost = subst (λ l. Consumes l left_after reads.more) same reads.lost;
 }
+
+-- what is taken are the first of the pending bytes
+pub first_taken : (bytes : List ℕ) (start end count : ℕ) → count ≤ end - start →
+    slice_range bytes (start + count) end ≡ drop count (slice_range bytes start end)
+first_taken bytes start end count within =
+    let all : end - start ≡ count + (end - (start + count)) = omega arith in
+    sym (ap (λ n. drop count (take n (drop start bytes))) all
+    ∙ drop-take count (end - (start + count)) (drop start bytes)
+    ∙ ap (take (end - (start + count))) (drop-drop count start bytes))
+
+-- how many bytes are pending
+pub length_pending : (bytes : List ℕ) (start end : ℕ) → start ≤ end → end ≤ length bytes → length (slice_range bytes start end) ≡ end - start
+length_pending bytes start end ordered within = omega (arith, length-take (end - start) (drop start bytes), length-drop start bytes)

@@ -3,3 +3,7 @@ pub mod Playing
 pub mod Standing
 pub mod Texts
 pub mod Running
+pub mod Fronts
+pub mod Faults
+pub mod Unrolled
+pub mod UnderWay

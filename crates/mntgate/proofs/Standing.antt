@@ -17,7 +17,7 @@ use Rattle.gate_core.specs.Answers.{begin_answer, step_answer}
 use Rattle.gate_core.specs.declared.steps.Step.{Step}
 use Rattle.schedule_text.specs.declared.faults.Fault.{Fault}
 use Rattle.mntgate.specs.Transcript.{Play, played}
-use Rattle.mntgate.specs.Session.{Stands}
+use Rattle.mntgate.specs.Session.{Stands, StandAs}
 use Rattle.mntgate.specs.declared.session.Session.{Session}
 use Rattle.mntgate.proofs.Playing.{reached_more, allowed, step_adds}
 
@@ -89,3 +89,9 @@ same_step s answered e = cc
 
 pub step_progress : (s answered : Step) → yes s ≡ yes answered → s.progress ≡ answered.progress
 step_progress s answered e = ap (λ (x : Step). x.progress) (same_step s answered e)
+
+-- what is known of a session's call at its play
+pub at_its_play : (session : Session) (o : Option Session) (p : Option Play) (P : Type 0) → o ≡ Some session → StandAs o p → ((q : Play) → Stands session q → P) → P
+at_its_play session None p P e h k = cc
+at_its_play session (Some s) None P e h k = absurd h
+at_its_play session (Some s) (Some q) P e h k = let same : s ≡ session = cc in k q (subst (λ (x : Session). Stands x q) same h)

@@ -2,5 +2,8 @@ pub mod Limits
 pub mod Writing
 pub mod Printing
 pub mod Reading
+pub mod Pending
 pub mod Transcript
 pub mod Session
+pub mod Replayed
+pub mod UnderWay

@@ -2,9 +2,9 @@
 
 ghost use Rattle.schedule_text.specs.Lines.{front_of};
 ghost use Rattle.schedule_text.specs.declared.lines.Front.TheVariants.{Line};
-ghost use Rattle.std.specs.Prelude.{◌≡◌, ◌≤◌, ◌↔◌, ◌+◌, ◌-◌, ℕ, ◌<◌, IsTrue, IfOk, IfErr, vec_len, length, slice_range, take};
+ghost use Rattle.std.specs.Prelude.{◌≡◌, ◌≤◌, ◌+◌, ◌-◌, ℕ, ◌<◌, [], true, false, IfOk, IfErr, OnErr, vec_len, length, take, drop};
 ghost use Rattle.schedule_text.specs.declared.faults.Fault.TheVariants.{ReadFailed};
-ghost use Rattle.std.specs.Io.KnownBytes.{IsAtEnd};
+ghost use Rattle.std.specs.Io.KnownBytes.{IsAtEnd, Keeps};
 ghost use Rattle.mntgate.specs.Reading.{ReadsOn};
 
 use schedule_text::{Fault, Front, front_of};
@@ -14,24 +14,27 @@ use std::io::Read;
 /// How many bytes are asked for at once.
 const BLOCK: usize = 65_536;
 
-/// A reader, and what was read from it and not yet taken.
+/// What was read and not yet taken.
 #[derive(Drop)]
-pub(crate) struct Input<R: Read + Drop> {
-    reader: R,
+pub(crate) struct Input {
     /// `BLOCK` bytes, of which those from `start` up to `end` were read and not yet taken.
     bytes: Vec<u8>,
     start: usize,
     end: usize,
     ghost ordered: { start ≤ end },
     ghost within: { end ≤ vec_len bytes },
+    ghost whole: { vec_len bytes ≡ 65536 },
 }
 
-impl<R: Read + Drop> Input<R> {
+impl Input {
+    ghost use Rattle.mntgate.specs.Pending.{pending};
+
     /// Nothing read yet.
-    pub(crate) fn new(alloc: Global, reader: R) -> Result<Input<R>, AllocError> {
+    pub(crate) fn new(alloc: Global) -> Result<Input, AllocError>
+        ensures { IfOk result (λ input. pending input ≡ []) }
+    {
         let bytes = vec![in alloc; 0; BLOCK]?;
         Ok(Input {
-            reader,
             bytes,
             start: 0,
             end: 0,
@@ -40,14 +43,14 @@ impl<R: Read + Drop> Input<R> {
 
     /// What was read and not yet taken.
     pub(crate) fn pending(&self) -> &[u8]
-        ensures { result.now ≡ slice_range self.now.bytes.items self.now.start self.now.end }
+        ensures { result.now ≡ pending self.now }
     {
         &self.bytes[self.start..self.end]
     }
 
     /// What the pending bytes begin with.
     pub(crate) fn front(&self) -> Front
-        ensures front { result ≡ front_of (slice_range self.now.bytes.items self.now.start self.now.end) }
+        ensures front { result ≡ front_of (pending self.now) }
         ensures inside { (n : ℕ) → result ≡ Line n → n < self.now.end - self.now.start }
     {
         front_of(self.pending())
@@ -55,7 +58,8 @@ impl<R: Read + Drop> Input<R> {
 
     /// Whether all that was read is taken.
     pub(crate) fn is_empty(&self) -> bool
-        ensures { IsTrue result ↔ (self.now.start ≡ self.now.end) }
+        ensures none { result ≡ true → pending self.now ≡ [] }
+        ensures some { result ≡ false → 0 < length (pending self.now) }
     {
         self.start == self.end
     }
@@ -63,7 +67,7 @@ impl<R: Read + Drop> Input<R> {
     /// The first of the pending bytes.
     pub(crate) fn first(&self, count: usize) -> &[u8]
         requires { count ≤ self.now.end - self.now.start }
-        ensures { result.now ≡ take count (slice_range self.now.bytes.items self.now.start self.now.end) }
+        ensures { result.now ≡ take count (pending self.now) }
     {
         &self.pending()[..count]
     }
@@ -71,35 +75,29 @@ impl<R: Read + Drop> Input<R> {
     /// Takes the first of the pending bytes.
     pub(crate) fn take(&mut self, count: usize)
         requires { count ≤ self.old.end - self.old.start }
-        ensures start { self.new.start ≡ self.old.start + count }
-        ensures end { self.new.end ≡ self.old.end }
-        ensures bytes { self.new.bytes.items ≡ self.old.bytes.items }
+        ensures { pending self.new ≡ drop count (pending self.old) }
     {
         self.start += count;
     }
 
     /// Reads more, and says how many bytes came: none at the end of the input, or where the block is full.
-    pub(crate) fn read(&mut self) -> Result<usize, Fault>
-        ensures grows { IfOk result (ReadsOn (R.remaining self.old.reader) (R.remaining self.new.reader)
-            (slice_range self.old.bytes.items self.old.start self.old.end)
-            (slice_range self.new.bytes.items self.new.start self.new.end)) }
-        ensures end { IfOk result (λ count. count ≡ 0 → self.old.end - self.old.start < vec_len self.old.bytes →
-            IsAtEnd (R.remaining self.new.reader)) }
+    pub(crate) fn read<R: Read>(&mut self, reader: &mut R) -> Result<usize, Fault>
+        ensures grows { IfOk result (ReadsOn (R.remaining reader.old) (R.remaining reader.new) (pending self.old) (pending self.new)) }
+        ensures end { IfOk result (λ count. count ≡ 0 → length (pending self.old) < 65536 → IsAtEnd (R.remaining reader.new)) }
+        ensures kept { OnErr result (Keeps (R.remaining reader.old) (R.remaining reader.new)) }
         ensures failed { IfErr result (λ fault. fault ≡ ReadFailed) }
     {
         self.make_room();
-        let count = read_behind(&mut self.reader, self.bytes.as_mut_slice(), self.end)?;
+        let count = read_behind(reader, self.bytes.as_mut_slice(), self.end)?;
         self.end += count;
         Ok(count)
     }
 
     /// Moves the pending bytes to the start of the block.
     fn make_room(&mut self)
-        ensures pending { slice_range self.new.bytes.items self.new.start self.new.end
-            ≡ slice_range self.old.bytes.items self.old.start self.old.end }
+        ensures pending { pending self.new ≡ pending self.old }
         ensures start { self.new.start ≡ 0 }
-        ensures room { vec_len self.new.bytes ≡ vec_len self.old.bytes }
-        ensures reader { self.new.reader ≡ self.old.reader }
+        ensures end { self.new.end ≡ self.old.end - self.old.start }
     {
         self.bytes.copy_within(self.start..self.end, 0);
         self.end -= self.start;
@@ -114,6 +112,7 @@ fn read_behind<R: Read>(reader: &mut R, block: &mut [u8], end: usize) -> Result<
     ensures grows { IfOk result (λ count. ReadsOn (R.remaining reader.old) (R.remaining reader.new) (take end block.old)
         (take (end + count) block.new) count) }
     ensures end { IfOk result (λ count. count ≡ 0 → end < length block.new → IsAtEnd (R.remaining reader.new)) }
+    ensures kept { OnErr result (Keeps (R.remaining reader.old) (R.remaining reader.new)) }
     ensures failed { IfErr result (λ fault. fault ≡ ReadFailed) }
 {
     match reader.read(&mut block[end..]) {

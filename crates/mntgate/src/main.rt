@@ -43,7 +43,8 @@ fn command<'a>(alloc: Global) -> Result<Command<'a>, AllocError> {
 
 /// Replays standard input on standard output.
 fn run_replay(rt: &HostRuntime) -> Result<ExitCode> {
-    match replay::replay(rt.alloc(), rt.stdin(), rt.stdout()) {
+    let (mut reader, mut writer) = (rt.stdin(), rt.stdout());
+    match replay::replay(rt.alloc(), &mut reader, &mut writer) {
         Ok(()) => Ok(ExitCode::SUCCESS),
         Err(fault) => {
             eprintln!(rt; "{fault}")?;

@@ -1,12 +1,19 @@
 //! A schedule, from the bytes in to the bytes out.
 
-ghost use Rattle.std.specs.Prelude.{◌≡◌, ◌≤◌, ◌<◌, ◌+◌, ◌-◌, ◌++◌, ◌⊎◌, Option, IfOk, IfErr, OnOk, IfSome};
-ghost use Rattle.schedule_text.specs.Faults.{text_of, cause_of};
-ghost use Rattle.mntgate.specs.Limits.{IsLineNumber};
-ghost use Rattle.mntgate.specs.Session.{IsOfSession, StandAs};
-ghost use Rattle.mntgate.specs.Transcript.{Play, line_effect};
-ghost use Rattle.schedule_text.specs.declared.faults.Fault.TheVariants.{Refused};
+ghost use Rattle.std.specs.Prelude.{◌≡◌, ◌≤◌, ◌<◌, ◌+◌, ◌-◌, ◌++◌, ◌⊎◌, ℕ, List, [], true, false, Option, IfOk, IfErr, OnOk, OnErr, IfSome, IsSome, length};
+ghost use Rattle.std.specs.Io.KnownBytes.{Appends, IsAtEnd};
 ghost use Rattle.access_model.specs.declared.errors.GateError.TheVariants.{NoMemory};
+ghost use Rattle.schedule_text.specs.Faults.{text_of, cause_of};
+ghost use Rattle.schedule_text.specs.Lines.{front_of};
+ghost use Rattle.schedule_text.specs.declared.faults.Fault.TheVariants.{ConfigExpected, WriteFailed, Refused};
+ghost use Rattle.schedule_text.specs.declared.lines.Front.TheVariants.{Line as WholeLine, Part};
+ghost use Rattle.mntgate.specs.Limits.{IsLineNumber};
+ghost use Rattle.mntgate.specs.Pending.{pending};
+ghost use Rattle.mntgate.specs.Replayed.{IsFront, Replayed};
+ghost use Rattle.mntgate.specs.Session.{IsOfSession, StandAs};
+ghost use Rattle.mntgate.specs.Transcript.{Play, line_effect, tasks_of};
+ghost use Rattle.mntgate.specs.UnderWay.{IsNew, IsUnderWay, IsAllDone, Stops};
+ghost use Rattle.mntgate.specs.Writing.{AppendsPart};
 
 use crate::input::Input;
 use crate::session::{Session, no_memory};
@@ -49,15 +56,16 @@ impl fmt::Display for ReplayFault {
 
 /// Reads a schedule and writes what its lines ask for, to the first fault. Whatever the lines so far print is written out
 /// before more is read.
-pub fn replay<R: Read + Drop, W: Write + Drop>(
+pub fn replay<R: Read, W: Write>(
     alloc: Global,
-    reader: R,
-    writer: W,
+    reader: &mut R,
+    writer: &mut W,
 ) -> Result<(), ReplayFault>
-    ensures { IfErr result (λ fault. IsLineNumber fault.line) }
+    ensures replayed { Replayed (R.remaining reader.old) (R.remaining reader.new) (W.contents writer.old) (W.contents writer.new) result }
+    ensures line { IfErr result (λ fault. IsLineNumber fault.line) }
 {
-    match Player::new(alloc, reader, writer) {
-        Ok(mut player) => player.do_lines(),
+    match Player::new(alloc) {
+        Ok(mut player) => player.do_lines(reader, writer),
         Err(error) => Err(fault_after(0, no_memory(error))),
     }
 }
@@ -78,69 +86,89 @@ fn fault_after(done: u32, fault: Fault) -> ReplayFault
 
 /// A schedule on its way.
 #[derive(Drop)]
-struct Player<R: Read + Drop, W: Write + Drop> {
+struct Player {
     alloc: Global,
-    input: Input<R>,
-    writer: W,
+    input: Input,
     output: Output,
     session: Option<Session>,
 }
 
-impl<R: Read + Drop, W: Write + Drop> Player<R, W> {
-    fn new(alloc: Global, reader: R, writer: W) -> Result<Player<R, W>, AllocError> {
+impl Player {
+    fn new(alloc: Global) -> Result<Player, AllocError>
+        ensures { IfOk result (λ player. IsNew player) }
+    {
         Ok(Player {
             alloc,
-            input: Input::new(alloc, reader)?,
-            writer,
+            input: Input::new(alloc)?,
             output: Output::with_room(alloc, ROOM)?,
             session: None,
         })
     }
 
     /// Does all lines.
-    fn do_lines(&mut self) -> Result<(), ReplayFault>
-        ensures { IfErr result (λ fault. IsLineNumber fault.line) }
+    fn do_lines<R: Read, W: Write>(
+        &mut self,
+        reader: &mut R,
+        writer: &mut W,
+    ) -> Result<(), ReplayFault>
+        requires { IsNew self.old }
+        ensures replayed { Replayed (R.remaining reader.old) (R.remaining reader.new) (W.contents writer.old) (W.contents writer.new) result }
+        ensures line { IfErr result (λ fault. IsLineNumber fault.line) }
     {
         for done in 0..LINES {
-            match self.do_line() {
+            match self.do_line(reader, writer) {
                 Ok(true) => {}
                 Ok(false) => return Ok(()),
-                Err(fault) => return Err(self.ended(done, fault)),
+                Err(fault) => return Err(self.ended(done, fault, writer)),
             }
         }
-        match self.expect_end() {
+        match self.expect_end(reader, writer) {
             Ok(()) => Ok(()),
-            Err(fault) => Err(self.ended(LINES, fault)),
+            Err(fault) => Err(self.ended(LINES, fault, writer)),
         }
     }
 
     /// Reads a line and does it; says whether there was one.
-    fn do_line(&mut self) -> Result<bool, Fault> {
-        let Some(length) = self.read_line()? else {
+    fn do_line<R: Read, W: Write>(&mut self, reader: &mut R, writer: &mut W) -> Result<bool, Fault>
+        ensures goes_on { (input held : Option (List ℕ)) (done : ℕ) → done < 1048576 → IsUnderWay input held done self.old (R.remaining reader.old) (W.contents writer.old) →
+            result ≡ Ok true → IsUnderWay input held (done + 1) self.new (R.remaining reader.new) (W.contents writer.new) }
+        ensures ends { (input held : Option (List ℕ)) (done : ℕ) → done < 1048576 → IsUnderWay input held done self.old (R.remaining reader.old) (W.contents writer.old) →
+            result ≡ Ok false → Replayed input (R.remaining reader.new) held (W.contents writer.new) (Ok tt) }
+        ensures stops { (input held : Option (List ℕ)) (done : ℕ) → done < 1048576 → IsUnderWay input held done self.old (R.remaining reader.old) (W.contents writer.old) →
+            IfErr result (λ fault. Stops input held (R.remaining reader.new) self.new.output.bytes.items (W.contents writer.new) done fault) }
+    {
+        let Some(length) = self.read_line(reader, writer)? else {
             return self.at_end();
         };
-        let tasks = self.session.as_ref().map(|session| session.tasks());
-        let line = parse(self.input.first(length), tasks)?;
-        self.input.take(length + 1);
-        self.do_parsed(line)?;
+        self.do_front(length)?;
         if self.output.bytes.len() >= FULL {
-            self.write_out()?;
+            self.write_out(writer)?;
         }
         Ok(true)
     }
 
     /// Reads until the next line is whole, and says how many bytes it has; None at the end of the input.
-    fn read_line(&mut self) -> Result<Option<usize>, Fault>
-        ensures { IfOk result (λ found. IfSome found (λ length. length < self.new.input.end - self.new.input.start)) }
+    fn read_line<R: Read, W: Write>(
+        &mut self,
+        reader: &mut R,
+        writer: &mut W,
+    ) -> Result<Option<usize>, Fault>
+        ensures goes_on { (input held : Option (List ℕ)) (done : ℕ) → IsUnderWay input held done self.old (R.remaining reader.old) (W.contents writer.old) →
+            OnOk result (IsUnderWay input held done self.new (R.remaining reader.new) (W.contents writer.new)) }
+        ensures front { IfOk result (λ found. IfSome found (λ length. front_of (pending self.new.input) ≡ WholeLine length)) }
+        ensures inside { IfOk result (λ found. IfSome found (λ length. length < self.new.input.end - self.new.input.start)) }
+        ensures end { result ≡ Ok None → IsAllDone self.new (R.remaining reader.new) }
+        ensures stops { (input held : Option (List ℕ)) (done : ℕ) → done < 1048576 → IsUnderWay input held done self.old (R.remaining reader.old) (W.contents writer.old) →
+            IfErr result (λ fault. Stops input held (R.remaining reader.new) self.new.output.bytes.items (W.contents writer.new) done fault) }
     {
-        // Each turn that goes on reads a byte or more, so the last one finds a newline, or more bytes than a line has.
-        for _ in 0..=LINE_BYTES + 1 {
+        // Each turn that goes on reads a byte or more, so that a newline comes, or more bytes than a line has.
+        'reads: loop {
             match self.input.front() {
                 Front::Line(length) => return Ok(Some(length)),
                 Front::TooLong => return Err(Fault::LineTooLong),
                 Front::Part => {}
             }
-            if self.read_more()? == 0 {
+            if self.read_more(reader, writer)? == 0 {
                 return if self.input.is_empty() {
                     Ok(None)
                 } else {
@@ -148,11 +176,13 @@ impl<R: Read + Drop, W: Write + Drop> Player<R, W> {
                 };
             }
         }
-        Err(Fault::LineTooLong)
     }
 
     /// The end of the input, where no line follows.
-    fn at_end(&self) -> Result<bool, Fault> {
+    fn at_end(&self) -> Result<bool, Fault>
+        ensures ok { IfOk result (λ more. (more ≡ false) × IsSome self.now.session) }
+        ensures fault { IfErr result (λ fault. (fault ≡ ConfigExpected) × (self.now.session ≡ None)) }
+    {
         if self.session.is_none() {
             return Err(Fault::ConfigExpected);
         }
@@ -160,18 +190,60 @@ impl<R: Read + Drop, W: Write + Drop> Player<R, W> {
     }
 
     /// That nothing follows, where there were as many lines as there may be.
-    fn expect_end(&mut self) -> Result<(), Fault> {
-        if self.input.is_empty() && self.read_more()? == 0 {
-            self.at_end()?;
-            return Ok(());
+    fn expect_end<R: Read, W: Write>(&mut self, reader: &mut R, writer: &mut W) -> Result<(), Fault>
+        ensures ends { (input held : Option (List ℕ)) → IsUnderWay input held 1048576 self.old (R.remaining reader.old) (W.contents writer.old) →
+            OnOk result (Replayed input (R.remaining reader.new) held (W.contents writer.new) (Ok tt)) }
+        ensures stops { (input held : Option (List ℕ)) → IsUnderWay input held 1048576 self.old (R.remaining reader.old) (W.contents writer.old) →
+            IfErr result (λ fault. Stops input held (R.remaining reader.new) self.new.output.bytes.items (W.contents writer.new) 1048576 fault) }
+    {
+        if !self.input.is_empty() {
+            return Err(Fault::TooManyLines);
         }
-        Err(Fault::TooManyLines)
+        if self.read_more(reader, writer)? > 0 {
+            return Err(Fault::TooManyLines);
+        }
+        self.at_end()?;
+        Ok(())
     }
 
     /// Writes out what was printed, and only then reads more.
-    fn read_more(&mut self) -> Result<usize, Fault> {
-        self.write_out()?;
-        self.input.read()
+    fn read_more<R: Read, W: Write>(
+        &mut self,
+        reader: &mut R,
+        writer: &mut W,
+    ) -> Result<usize, Fault>
+        requires { front_of (pending self.old.input) ≡ Part }
+        ensures goes_on { (input held : Option (List ℕ)) (done : ℕ) → IsUnderWay input held done self.old (R.remaining reader.old) (W.contents writer.old) →
+            OnOk result (IsUnderWay input held done self.new (R.remaining reader.new) (W.contents writer.new)) }
+        ensures count { IfOk result (λ count. length (pending self.new.input) ≡ length (pending self.old.input) + count) }
+        ensures printed { OnOk result (self.new.output.bytes.items ≡ []) }
+        ensures end { IfOk result (λ count. count ≡ 0 → (pending self.new.input ≡ pending self.old.input) × IsAtEnd (R.remaining reader.new)) }
+        ensures stops { (input held : Option (List ℕ)) (done : ℕ) → IsUnderWay input held done self.old (R.remaining reader.old) (W.contents writer.old) →
+            IfErr result (λ fault. Stops input held (R.remaining reader.new) self.new.output.bytes.items (W.contents writer.new) done fault) }
+    {
+        self.write_out(writer)?;
+        self.input.read(reader)
+    }
+
+    /// How many tasks there are, once there is a configuration.
+    fn tasks(&self) -> Option<u8>
+        ensures { (p : Option Play) → StandAs self.now.session p → result ≡ tasks_of p }
+    {
+        self.session.as_ref().map(|session| session.tasks())
+    }
+
+    /// Does the line that the pending bytes begin with.
+    fn do_front(&mut self, length: usize) -> Result<(), Fault>
+        requires front { front_of (pending self.old.input) ≡ WholeLine length }
+        requires inside { length < self.old.input.end - self.old.input.start }
+        ensures goes_on { (input held left holds : Option (List ℕ)) (done : ℕ) → done < 1048576 → IsUnderWay input held done self.old left holds →
+            OnOk result (IsUnderWay input held (done + 1) self.new left holds) }
+        ensures stops { (input held left holds : Option (List ℕ)) (done : ℕ) → done < 1048576 → IsUnderWay input held done self.old left holds →
+            IfErr result (λ fault. Stops input held left self.new.output.bytes.items holds done fault) }
+    {
+        let line = parse(self.input.first(length), self.tasks())?;
+        self.input.take(length + 1);
+        self.do_parsed(line)
     }
 
     /// Does what a line asks for.
@@ -179,9 +251,8 @@ impl<R: Read + Drop, W: Write + Drop> Player<R, W> {
         ensures prints { (p : Option Play) → StandAs self.old.session p → OnOk result (self.new.output.bytes.items ≡ self.old.output.bytes.items ++ (line_effect p line).printed) }
         ensures stands { (p : Option Play) → StandAs self.old.session p → OnOk result (StandAs self.new.session (line_effect p line).play) }
         ensures done { (p : Option Play) → StandAs self.old.session p → OnOk result ((line_effect p line).fault ≡ None) }
-        ensures fault { (p : Option Play) → StandAs self.old.session p → IfErr result (λ fault. (fault ≡ Refused NoMemory) ⊎ (((line_effect p line).fault ≡ Some fault) × (self.new.output.bytes.items ≡ self.old.output.bytes.items))) }
+        ensures fault { (p : Option Play) → StandAs self.old.session p → IfErr result (λ fault. ((fault ≡ Refused NoMemory) × IsFront self.new.output.bytes.items (self.old.output.bytes.items ++ (line_effect p line).printed)) ⊎ (((line_effect p line).fault ≡ Some fault) × (self.new.output.bytes.items ≡ self.old.output.bytes.items))) }
         ensures input { self.new.input ≡ self.old.input }
-        ensures writer { self.new.writer ≡ self.old.writer }
     {
         match line {
             Line::Skipped => Ok(()),
@@ -199,29 +270,44 @@ impl<R: Read + Drop, W: Write + Drop> Player<R, W> {
         ensures prints { (p : Option Play) → StandAs self.old.session p → OnOk result (self.new.output.bytes.items ≡ self.old.output.bytes.items ++ (line_effect p line).printed) }
         ensures stands { (p : Option Play) → StandAs self.old.session p → OnOk result (StandAs self.new.session (line_effect p line).play) }
         ensures done { (p : Option Play) → StandAs self.old.session p → OnOk result ((line_effect p line).fault ≡ None) }
-        ensures fault { (p : Option Play) → StandAs self.old.session p → IfErr result (λ fault. (fault ≡ Refused NoMemory) ⊎ (((line_effect p line).fault ≡ Some fault) × (self.new.output.bytes.items ≡ self.old.output.bytes.items))) }
+        ensures fault { (p : Option Play) → StandAs self.old.session p → IfErr result (λ fault. ((fault ≡ Refused NoMemory) × IsFront self.new.output.bytes.items (self.old.output.bytes.items ++ (line_effect p line).printed)) ⊎ (((line_effect p line).fault ≡ Some fault) × (self.new.output.bytes.items ≡ self.old.output.bytes.items))) }
         ensures input { self.new.input ≡ self.old.input }
-        ensures writer { self.new.writer ≡ self.old.writer }
     {
         match &mut self.session {
             None => Err(Fault::ConfigExpected),
-            Some(session) => session.do_line(line, &mut self.output),
+            Some(session) => {
+                let done = session.do_line(line, &mut self.output);
+                if done.is_err() {
+                    // There was no memory for all that the line prints. What isn't written yet is left out.
+                    self.output.clear();
+                }
+                done
+            }
         }
     }
 
     /// Writes out what was printed. After a failure nothing is left to be written, so that no write follows it.
-    fn write_out(&mut self) -> Result<(), Fault> {
-        let written = write_out(&mut self.writer, self.output.bytes.as_slice());
+    fn write_out<W: Write>(&mut self, writer: &mut W) -> Result<(), Fault>
+        ensures all { OnOk result (Appends (W.contents writer.old) (W.contents writer.new) self.old.output.bytes.items) }
+        ensures part { OnErr result (AppendsPart (W.contents writer.old) (W.contents writer.new) self.old.output.bytes.items) }
+        ensures fault { IfErr result (λ fault. fault ≡ WriteFailed) }
+        ensures printed { self.new.output.bytes.items ≡ [] }
+        ensures input { self.new.input ≡ self.old.input }
+        ensures session { self.new.session ≡ self.old.session }
+    {
+        let written = write_out(writer, self.output.bytes.as_slice());
         self.output.clear();
         written
     }
 
     /// Writes out what was printed before a fault. Where that fails, this is the fault.
-    fn ended(&mut self, done: u32, fault: Fault) -> ReplayFault
+    fn ended<W: Write>(&mut self, done: u32, fault: Fault, writer: &mut W) -> ReplayFault
         requires { done ≤ 1048576 }
-        ensures { result.line ≡ done + 1 }
+        ensures line { result.line ≡ done + 1 }
+        ensures replayed { (input held left : Option (List ℕ)) → Stops input held left self.old.output.bytes.items (W.contents writer.old) done fault →
+            Replayed input left held (W.contents writer.new) (Err result) }
     {
-        match self.write_out() {
+        match self.write_out(writer) {
             Ok(()) => fault_after(done, fault),
             Err(failed) => fault_after(done, failed),
         }

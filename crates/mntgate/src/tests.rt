@@ -11,8 +11,8 @@ use std::test::Fail;
 
 /// What a schedule prints, as far as it comes, and its fault, if there is one.
 fn played(alloc: Global, schedule: &[u8]) -> Result<(Vec<u8>, Result<(), ReplayFault>), Fail> {
-    let mut printed = Vec::new(alloc);
-    let ended = replay(alloc, schedule, &mut printed);
+    let (mut reader, mut printed) = (schedule, Vec::new(alloc));
+    let ended = replay(alloc, &mut reader, &mut printed);
     Ok((printed, ended))
 }
 
@@ -289,6 +289,28 @@ static FAULTS: [(&str, &str); 30] = [
     ("config 1 1 1 2 8\n0 run write 5\n", "line 2: bad word"),
 ];
 
+/// Schedules whose last line has several faults, each with the first of them in the order of docs/SCHEDULES.md.
+static SEVERAL_FAULTS: [(&str, &str); 15] = [
+    ("words", "line 1: cut off"),
+    ("config 1 1 1 2 8\n9 fly", "line 2: cut off"),
+    ("fly x\n", "line 1: config expected"),
+    ("0 want\n", "line 1: config expected"),
+    ("config x 1 1 2\n", "line 1: wrong number of words"),
+    ("config 0 x 1 2 8\n", "line 1: bad number"),
+    ("config 1 1 1 2 8\nconfig x\n", "line 2: config twice"),
+    ("config 1 1 1 2 8\nfly 0 x\n", "line 2: unknown command"),
+    ("config 1 1 1 2 8\n9 fly x\n", "line 2: unknown command"),
+    ("config 1 1 1 2 8\n9\n", "line 2: wrong number of words"),
+    (
+        "config 1 1 1 2 8\n9 want x\n",
+        "line 2: wrong number of words",
+    ),
+    ("config 1 1 1 2 8\n9 change x up\n", "line 2: no such task"),
+    ("config 1 1 1 2 8\n9 run write x\n", "line 2: no such task"),
+    ("config 1 1 1 2 8\n0 run write x\n", "line 2: bad word"),
+    ("config 1 1 1 2 8\n0 run sync x\n", "line 2: bad number"),
+];
+
 #[test]
 fn schedules_print_what_they_ask_for(rt: HostRuntime) -> Result<(), Fail> {
     for (schedule, text) in PRINTED.iter() {
@@ -299,7 +321,7 @@ fn schedules_print_what_they_ask_for(rt: HostRuntime) -> Result<(), Fail> {
 
 #[test]
 fn malformed_schedules_end_at_their_first_fault(rt: HostRuntime) -> Result<(), Fail> {
-    for (schedule, fault) in FAULTS.iter() {
+    for (schedule, fault) in FAULTS.iter().chain(SEVERAL_FAULTS.iter()) {
         let (printed, ended) = played(rt.alloc(), schedule.as_bytes())?;
         assert!(rt; printed.is_empty());
         expect_end(&rt, ended, fault)?;
@@ -331,10 +353,32 @@ fn a_line_has_at_most_256_bytes(rt: HostRuntime) -> Result<(), Fail> {
 }
 
 #[test]
+fn a_line_that_is_too_long_is_not_cut_off(rt: HostRuntime) -> Result<(), Fail> {
+    for (bytes, fault) in [(256, "line 1: cut off"), (257, "line 1: line too long")] {
+        let schedule = vec![in rt.alloc(); b'x'; bytes]?;
+        let (_, ended) = played(rt.alloc(), schedule.as_slice())?;
+        expect_end(&rt, ended, fault)?;
+    }
+    Ok(())
+}
+
+#[test]
 fn a_schedule_has_at_most_1048576_lines(rt: HostRuntime) -> Result<(), Fail> {
-    for (empty, fault) in [(1_048_575, ""), (1_048_576, "line 1048577: too many lines")] {
+    let long = [b'x'; 257];
+    let too_many = "line 1048577: too many lines";
+    for (tail, fault) in [
+        (b"".as_slice(), ""),
+        (b"\n".as_slice(), too_many),
+        (b"config".as_slice(), too_many),
+        (long.as_slice(), too_many),
+    ] {
         let head = b"config 1 1 1 2 8\n".as_slice();
-        let ended = replay(rt.alloc(), Newlines { head, empty }, std::io::empty());
+        let mut reader = Newlines {
+            head,
+            empty: 1_048_575,
+            tail,
+        };
+        let ended = replay(rt.alloc(), &mut reader, &mut std::io::empty());
         expect_end(&rt, ended, fault)?;
     }
     Ok(())
@@ -366,7 +410,7 @@ fn each_read_fails_in_turn(rt: HostRuntime) -> Result<(), Fail> {
     for good in 0..12 {
         let mut printed = Vec::new(rt.alloc());
         let bytes = SCHEDULE.as_bytes();
-        let ended = replay(rt.alloc(), Slow::new(bytes, 7, good), &mut printed);
+        let ended = replay(rt.alloc(), &mut Slow::new(bytes, 7, good), &mut printed);
         let read = bytes.iter().take(7 * good as usize);
         let lines = read.filter(|byte| **byte == b'\n').count();
         let count = AFTER.get(lines).ok_or("too many lines")?;
@@ -381,8 +425,8 @@ fn each_read_fails_in_turn(rt: HostRuntime) -> Result<(), Fail> {
 #[test]
 fn a_byte_at_a_time_reads_and_writes_the_same(rt: HostRuntime) -> Result<(), Fail> {
     let mut writer = Frail::new(rt.alloc(), 1, u32::MAX, Refusal::Nothing);
-    let reader = Slow::new(SCHEDULE.as_bytes(), 1, u32::MAX);
-    let ended = replay(rt.alloc(), reader, &mut writer);
+    let mut reader = Slow::new(SCHEDULE.as_bytes(), 1, u32::MAX);
+    let ended = replay(rt.alloc(), &mut reader, &mut writer);
     begins_text(&rt, writer.taken.as_slice(), TEXT.len())?;
     expect_end(&rt, ended, "")
 }
@@ -392,7 +436,7 @@ fn each_write_fails_in_turn(rt: HostRuntime) -> Result<(), Fail> {
     for refusal in [Refusal::Error, Refusal::Nothing] {
         for good in 0..14 {
             let mut writer = Frail::new(rt.alloc(), 3, good, refusal);
-            let ended = replay(rt.alloc(), SCHEDULE.as_bytes(), &mut writer);
+            let ended = replay(rt.alloc(), &mut SCHEDULE.as_bytes(), &mut writer);
             begins_text(&rt, writer.taken.as_slice(), 3 * good as usize)?;
             assert!(rt; !writer.was_called_again);
             expect_end(&rt, ended, "line 9: write failed")?;
@@ -405,8 +449,8 @@ fn each_write_fails_in_turn(rt: HostRuntime) -> Result<(), Fail> {
 fn what_was_printed_is_written_before_more_is_read(rt: HostRuntime) -> Result<(), Fail> {
     let written = Cell::new(0);
     let late = Cell::new(0);
-    let reader = Watcher::new(SCHEDULE.as_bytes(), &AFTER, &written, &late);
-    let ended = replay(rt.alloc(), reader, Counter { written: &written });
+    let mut reader = Watcher::new(SCHEDULE.as_bytes(), &AFTER, &written, &late);
+    let ended = replay(rt.alloc(), &mut reader, &mut Counter { written: &written });
     expect_end(&rt, ended, "")?;
     assert_eq!(rt; late.get(), 0);
     assert_eq!(rt; written.get(), TEXT.len());

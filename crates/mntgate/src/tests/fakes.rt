@@ -42,17 +42,21 @@ impl Read for Slow<'_> {
     }
 }
 
-/// A reader of some bytes and then of so many newlines.
+/// A reader of some bytes, then of so many newlines, and then of some more bytes.
 #[derive(Drop)]
 pub struct Newlines<'a> {
     pub head: &'a [u8],
     pub empty: usize,
+    pub tail: &'a [u8],
 }
 
 impl Read for Newlines<'_> {
     fn read(&mut self, buf: &mut [u8]) -> io::Result<usize> {
         if !self.head.is_empty() {
             return Ok(give(&mut self.head, usize::MAX, buf));
+        }
+        if self.empty == 0 {
+            return Ok(give(&mut self.tail, usize::MAX, buf));
         }
         let count = self.empty.min(buf.len());
         for byte in &mut buf[..count] {

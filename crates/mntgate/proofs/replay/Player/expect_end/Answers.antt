@@ -1,0 +1,33 @@
+use Rattle.std.proofs.Common.{◌≡◌, ap, ◌∙◌, refl, arith}
+use Rattle.std.proofs.lemmas.Result.{err_from_is_err_and}
+use Rattle.schedule_text.specs.Lines.{front_of}
+use Rattle.mntgate.proofs.Fronts.{none_part}
+use Rattle.mntgate.proofs.UnderWay.{too_many, no_config, all_done}
+use Rattle.mntgate.proofs.replay.Player.expect_end.Goals as goal
+
+pub returns-then-not-is_empty-clause-stops : goal.returns-then-not-is_empty-clause-stops
+returns-then-not-is_empty-clause-stops g c input held way = too_many way refl (c.is_empty.ensures.some c.if-not-is_empty.true)
+
+pub read_more-requires : goal.read_more-requires
+read_more-requires g c = ap front_of (c.is_empty.ensures.none c.if-not-is_empty.false) ∙ none_part
+
+pub returns-then-branch-gt0-clause-stops : goal.returns-then-branch-gt0-clause-stops
+returns-then-branch-gt0-clause-stops g c input held way =
+    let read = c.in_ok-read_more.ensures in
+    too_many (read.goes_on input held 1048576 way) refl (omega (arith, read.count))
+
+pub returns-in_err-at_end-clause-stops : goal.returns-in_err-at_end-clause-stops
+returns-in_err-at_end-clause-stops g c input held way =
+    let p = err_from_is_err_and c.from_residual-in_err-at_end.result c.from_residual-in_err-at_end.ensures.1 in
+    let read = c.in_ok-read_more.ensures in
+    let none : c.in_ok-read_more.field-0 ≡ 0 = omega arith in
+    let end = read.end none in
+    let fault = c.in_err-at_end.ensures.fault in
+    rw (p.1, p.2, fault.0) (no_config (read.goes_on input held 1048576 way) (end.0 ∙ c.is_empty.ensures.none c.if-not-is_empty.false) end.1 fault.1)
+
+pub returns-clause-ends : goal.returns-clause-ends
+returns-clause-ends g c input held way =
+    let read = c.in_ok-read_more.ensures in
+    let none : c.in_ok-read_more.field-0 ≡ 0 = omega arith in
+    let end = read.end none in
+    all_done (read.goes_on input held 1048576 way) (end.0 ∙ c.is_empty.ensures.none c.if-not-is_empty.false) read.printed end.1 c.in_ok-at_end.ensures.ok.1
