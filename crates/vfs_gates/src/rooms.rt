@@ -1,6 +1,6 @@
 //! Room for snapshots.
 
-ghost use Rattle.std.specs.Prelude.{◌≡◌, ◌*◌, ◌+◌, IfOk, vec_capacity};
+ghost use Rattle.std.specs.Prelude.{◌≡◌, ◌≤◌, ◌*◌, ◌+◌, IfOk, vec_capacity};
 
 use std::alloc::{AllocError, Global};
 

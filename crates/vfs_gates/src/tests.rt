@@ -2,6 +2,8 @@
 
 ghost use Rattle.vfs_gates.specs.Standing.{IsFrom};
 
+mod same_events;
+
 use crate::{Gates, Task};
 use access_model::{Gate, GateError};
 use cpu_words::{Event, Touch, WordName};
