@@ -1,3 +1,4 @@
+pub mod Room
 pub mod Standing
 pub mod Ties
 pub mod Stepped

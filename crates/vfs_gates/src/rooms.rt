@@ -1,6 +1,7 @@
 //! Room for snapshots.
 
-ghost use Rattle.std.specs.Prelude.{◌≡◌, ◌≤◌, ◌*◌, ◌+◌, IfOk, vec_capacity};
+ghost use Rattle.std.specs.Prelude.{IfOk};
+ghost use Rattle.vfs_gates.specs.Room.{HasRoom};
 
 use std::alloc::{AllocError, Global};
 
@@ -15,7 +16,7 @@ pub struct Rooms {
 impl Rooms {
     /// Room for two snapshots of so many nodes, at 2 words a node and 1 more.
     pub fn new(alloc: Global, nodes: u8) -> Result<Rooms, AllocError>
-        ensures { IfOk result (λ r. (vec_capacity r.last ≡ 2 * nodes + 1) × (vec_capacity r.next ≡ 2 * nodes + 1)) }
+        ensures { IfOk result (HasRoom nodes) }
     {
         let words = 2 * nodes as usize + 1;
         Ok(Rooms {

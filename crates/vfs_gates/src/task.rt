@@ -40,16 +40,18 @@ pub struct Task {
 impl Model for Task {
     ghost use Rattle.std.specs.Prelude.{◌≡◌, []};
     ghost use Rattle.vfs_gates.specs.Standing.{Standing, standing};
+    ghost use Rattle.vfs_gates.specs.Room.{HasRoom};
     ghost use Rattle.vfs_gates.specs.Ties.{Ties};
 
     ghost Value = { Standing };
 
     ghost view = { λ t. standing t.seat.table_id t.config t.begins t.kept.phase t.seat.me.0 };
 
-    ghost invariant = { λ t. Ties t.number t.config t.begins t.kept t.spare t.seat.me.0 × (t.seat.me.1 ≡ []) };
+    ghost invariant = { λ t. Ties t.number t.config t.begins t.kept t.spare t.seat.me.0 × (t.seat.me.1 ≡ []) × HasRoom t.config.nodes t.rooms };
 }
 
 impl Task {
+    ghost use Rattle.vfs_gates.specs.Room.{HasRoom};
     ghost use Rattle.gate_core.specs.Answers.{idle_step, unless_refused};
     ghost use Rattle.gate_world.specs.Worlds.{first_phase as the_first_phase};
     ghost use Rattle.gate_world.specs.Views.{held_at, holds_level as has_level};
@@ -61,6 +63,7 @@ impl Task {
     pub(crate) fn first(config: Config, seat: Seat, rooms: Rooms) -> Task
         requires within { IsWithin config }
         requires seat { seat.me ≡ (first_items config, []) }
+        requires room { HasRoom config.nodes rooms }
         ensures { result ≡ standing seat.table_id config None None (first_items config) }
     {
         Task {

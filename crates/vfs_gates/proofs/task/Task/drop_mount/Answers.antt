@@ -22,14 +22,14 @@ invariant_of-self c =
     let same : t.config ≡ c.args.gates.now.config = ap (λ (s : Standing). s.config) c.self.view_is ∙ c.requires.1 in
     let went = c.go_on.ensures.went (DropMount c.args.mount c.args.cpu) c.args.self.now (has_begun t.number t.config c.args.gates.now.config same t.begins t.kept t.spare t.seat.me.0 c.self.invariant.0 (DropMount c.args.mount c.args.cpu) t.seat.table_id c.args.self.now c.self.view_is c.in_ok-admit.ensures c.first_phase-phase.result c.first_phase-phase.ensures) in
     let ended = ap (λ n. phase_after (at_phases (λ (p : Phase). p) n)) c.in-Done.is ∙ sym (idle t.number t.config c.args.gates.now.config same t.begins t.kept t.spare t.seat.me.0 c.self.invariant.0 (DropMount c.args.mount c.args.cpu) t.seat.table_id c.args.self.now c.self.view_is c.in_ok-admit.ensures c.first_phase-phase.result c.first_phase-phase.ensures) in
-    (ties_at t.number t.config c.args.gates.now.config same t.begins t.kept t.spare t.seat.me.0 c.self.invariant.0 (DropMount c.args.mount c.args.cpu) t.seat.table_id c.args.self.now c.self.view_is c.in_ok-admit.ensures c.first_phase-phase.result c.first_phase-phase.ensures (at_phases (λ (p : Phase). p) c.go_on.result) c.go_on.new.accesses c.go_on.new.seat.me.0 c.go_on.ensures.tied c.go_on.new.seat.table_id went t.kept.phase ended, c.go_on.ensures.slots ∙ c.self.invariant.1)
+    (ties_at t.number t.config c.args.gates.now.config same t.begins t.kept t.spare t.seat.me.0 c.self.invariant.0 (DropMount c.args.mount c.args.cpu) t.seat.table_id c.args.self.now c.self.view_is c.in_ok-admit.ensures c.first_phase-phase.result c.first_phase-phase.ensures (at_phases (λ (p : Phase). p) c.go_on.result) c.go_on.new.accesses c.go_on.new.seat.me.0 c.go_on.ensures.tied c.go_on.new.seat.table_id went t.kept.phase ended, c.go_on.ensures.slots ∙ c.self.invariant.1, c.self.invariant.2)
 
 pub invariant_of-self-in-Go : goal.invariant_of-self-in-Go
 invariant_of-self-in-Go c =
     let t = c.self.inside in
     let same : t.config ≡ c.args.gates.now.config = ap (λ (s : Standing). s.config) c.self.view_is ∙ c.requires.1 in
     let went = c.go_on.ensures.went (DropMount c.args.mount c.args.cpu) c.args.self.now (has_begun t.number t.config c.args.gates.now.config same t.begins t.kept t.spare t.seat.me.0 c.self.invariant.0 (DropMount c.args.mount c.args.cpu) t.seat.table_id c.args.self.now c.self.view_is c.in_ok-admit.ensures c.first_phase-phase.result c.first_phase-phase.ensures) in
-    (ties_at t.number t.config c.args.gates.now.config same t.begins t.kept t.spare t.seat.me.0 c.self.invariant.0 (DropMount c.args.mount c.args.cpu) t.seat.table_id c.args.self.now c.self.view_is c.in_ok-admit.ensures c.first_phase-phase.result c.first_phase-phase.ensures (at_phases (λ (p : Phase). p) c.go_on.result) c.go_on.new.accesses c.go_on.new.seat.me.0 c.go_on.ensures.tied c.go_on.new.seat.table_id went (Some c.in-Go.phase) (stands_at (λ (p : Phase). p) c.go_on.result c.in-Go.phase c.in-Go.is), c.go_on.ensures.slots ∙ c.self.invariant.1)
+    (ties_at t.number t.config c.args.gates.now.config same t.begins t.kept t.spare t.seat.me.0 c.self.invariant.0 (DropMount c.args.mount c.args.cpu) t.seat.table_id c.args.self.now c.self.view_is c.in_ok-admit.ensures c.first_phase-phase.result c.first_phase-phase.ensures (at_phases (λ (p : Phase). p) c.go_on.result) c.go_on.new.accesses c.go_on.new.seat.me.0 c.go_on.ensures.tied c.go_on.new.seat.table_id went (Some c.in-Go.phase) (stands_at (λ (p : Phase). p) c.go_on.result c.in-Go.phase c.in-Go.is), c.go_on.ensures.slots ∙ c.self.invariant.1, c.self.invariant.2)
 
 pub finish-requires-clause-trying : goal.finish-requires-clause-trying
 finish-requires-clause-trying c =

@@ -16,4 +16,4 @@ invariant_of-self c = let mine = c.self.inside in let others = c.other.inside in
     c.self.invariant.0 (subst (λ (k : Config). Ties others.number k others.begins others.kept others.spare others.seat.me.0) same c.other.invariant.0) idle
     (subst (λ (k : Config). Empty k (own_view others.seat.me.0)) same none) c.add_all.ensures (let long : length c.add_all.new.numbers ≡ 64 = c.add_all.array_long in omega arith) in
     let joined = c.take_back.ensures.joined in
-    (subst (λ (l : SeatItems). Ties mine.number mine.config mine.begins mine.kept (set c.add_all.new.numbers others.number true) l) (sym (ap (λ z. z.0) joined)) m, ap (λ z. z.1) joined ∙ c.self.invariant.1)
+    (subst (λ (l : SeatItems). Ties mine.number mine.config mine.begins mine.kept (set c.add_all.new.numbers others.number true) l) (sym (ap (λ z. z.0) joined)) m, ap (λ z. z.1) joined ∙ c.self.invariant.1, c.self.invariant.2)

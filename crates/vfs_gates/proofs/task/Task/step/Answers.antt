@@ -24,7 +24,7 @@ invariant_of-self c =
     let next : Next Phase = c.do_event-action.result.next in
     let stands = ap (λ (n : Next Phase). phase_after n) (at_itself next) ∙ sym (ap (λ p. p.1) c.of-progress.ensures) in
     let tied = c.do_event-action.ensures.tied t.number t.spare (tied_at t.number t.begins t.spare t.seat.me.0 t.kept (Some c.in-Some.phase) c.self.invariant.0 same c.in-Some.is) in
-    (tied_at t.number None t.spare c.do_event-action.new.seat.me.0 (kept_at _ c.do_event-action.new.accesses) c.of-progress.result.1 tied (sym same) stands, c.do_event-action.ensures.slots ∙ c.self.invariant.1)
+    (tied_at t.number None t.spare c.do_event-action.new.seat.me.0 (kept_at _ c.do_event-action.new.accesses) c.of-progress.result.1 tied (sym same) stands, c.do_event-action.ensures.slots ∙ c.self.invariant.1, c.self.invariant.2)
 
 pub returns-clause-event : goal.returns-clause-event
 returns-clause-event c =

@@ -26,14 +26,14 @@ invariant_of-self c =
     let same : t.config ≡ c.args.gates.now.config = ap (λ (s : Standing). s.config) c.self.view_is ∙ c.requires.1 in
     let went = c.want_in_line.ensures.went (Want c.args.mount c.args.cpu false) c.args.self.now (has_begun t.number t.config c.args.gates.now.config same t.begins t.kept t.spare t.seat.me.0 c.self.invariant.0 (Want c.args.mount c.args.cpu false) t.seat.table_id c.args.self.now c.self.view_is c.in_ok-admit.ensures (Mounts (Wants (record { mount = c.args.mount; cpu = c.args.cpu; wait = false; step = CountsUp }))) refl) in
     let ended = ap (λ n. phase_after (at_phases (λ (w : WantType). Mounts (Wants w)) n)) c.in-Done.is ∙ sym (idle t.number t.config c.args.gates.now.config same t.begins t.kept t.spare t.seat.me.0 c.self.invariant.0 (Want c.args.mount c.args.cpu false) t.seat.table_id c.args.self.now c.self.view_is c.in_ok-admit.ensures (Mounts (Wants (record { mount = c.args.mount; cpu = c.args.cpu; wait = false; step = CountsUp }))) refl) in
-    (ties_at t.number t.config c.args.gates.now.config same t.begins t.kept t.spare t.seat.me.0 c.self.invariant.0 (Want c.args.mount c.args.cpu false) t.seat.table_id c.args.self.now c.self.view_is c.in_ok-admit.ensures (Mounts (Wants (record { mount = c.args.mount; cpu = c.args.cpu; wait = false; step = CountsUp }))) refl (at_phases (λ (w : WantType). Mounts (Wants w)) c.want_in_line.result) c.want_in_line.new.accesses c.want_in_line.new.seat.me.0 c.want_in_line.ensures.tied c.want_in_line.new.seat.table_id went t.kept.phase ended, c.want_in_line.ensures.slots ∙ c.self.invariant.1)
+    (ties_at t.number t.config c.args.gates.now.config same t.begins t.kept t.spare t.seat.me.0 c.self.invariant.0 (Want c.args.mount c.args.cpu false) t.seat.table_id c.args.self.now c.self.view_is c.in_ok-admit.ensures (Mounts (Wants (record { mount = c.args.mount; cpu = c.args.cpu; wait = false; step = CountsUp }))) refl (at_phases (λ (w : WantType). Mounts (Wants w)) c.want_in_line.result) c.want_in_line.new.accesses c.want_in_line.new.seat.me.0 c.want_in_line.ensures.tied c.want_in_line.new.seat.table_id went t.kept.phase ended, c.want_in_line.ensures.slots ∙ c.self.invariant.1, c.self.invariant.2)
 
 pub invariant_of-self-in-Go : goal.invariant_of-self-in-Go
 invariant_of-self-in-Go c =
     let t = c.self.inside in
     let same : t.config ≡ c.args.gates.now.config = ap (λ (s : Standing). s.config) c.self.view_is ∙ c.requires.1 in
     let went = c.want_in_line.ensures.went (Want c.args.mount c.args.cpu false) c.args.self.now (has_begun t.number t.config c.args.gates.now.config same t.begins t.kept t.spare t.seat.me.0 c.self.invariant.0 (Want c.args.mount c.args.cpu false) t.seat.table_id c.args.self.now c.self.view_is c.in_ok-admit.ensures (Mounts (Wants (record { mount = c.args.mount; cpu = c.args.cpu; wait = false; step = CountsUp }))) refl) in
-    (ties_at t.number t.config c.args.gates.now.config same t.begins t.kept t.spare t.seat.me.0 c.self.invariant.0 (Want c.args.mount c.args.cpu false) t.seat.table_id c.args.self.now c.self.view_is c.in_ok-admit.ensures (Mounts (Wants (record { mount = c.args.mount; cpu = c.args.cpu; wait = false; step = CountsUp }))) refl (at_phases (λ (w : WantType). Mounts (Wants w)) c.want_in_line.result) c.want_in_line.new.accesses c.want_in_line.new.seat.me.0 c.want_in_line.ensures.tied c.want_in_line.new.seat.table_id went (Some c.phase.result) (stands_at (λ (w : WantType). Mounts (Wants w)) c.want_in_line.result c.in-Go.want c.in-Go.is ∙ ap (λ (p : Phase). Some p) (sym c.phase.ensures)), c.want_in_line.ensures.slots ∙ c.self.invariant.1)
+    (ties_at t.number t.config c.args.gates.now.config same t.begins t.kept t.spare t.seat.me.0 c.self.invariant.0 (Want c.args.mount c.args.cpu false) t.seat.table_id c.args.self.now c.self.view_is c.in_ok-admit.ensures (Mounts (Wants (record { mount = c.args.mount; cpu = c.args.cpu; wait = false; step = CountsUp }))) refl (at_phases (λ (w : WantType). Mounts (Wants w)) c.want_in_line.result) c.want_in_line.new.accesses c.want_in_line.new.seat.me.0 c.want_in_line.ensures.tied c.want_in_line.new.seat.table_id went (Some c.phase.result) (stands_at (λ (w : WantType). Mounts (Wants w)) c.want_in_line.result c.in-Go.want c.in-Go.is ∙ ap (λ (p : Phase). Some p) (sym c.phase.ensures)), c.want_in_line.ensures.slots ∙ c.self.invariant.1, c.self.invariant.2)
 
 pub finish-requires-clause-trying : goal.finish-requires-clause-trying
 finish-requires-clause-trying c =
