@@ -21,13 +21,13 @@ use Rattle.gate_steps.specs.Rules.{HasHistory}
 use Rattle.gate_steps.proofs.Dealing.{one_if-same, one_if-other, times-append, times_all-set, times_all-one, times_all-snoc, known, apart}
 use Rattle.gate_steps.proofs.Lifting.{holds}
 
-times-without : (n : ℕ) (l : SeatItems) → times n (without n l) ≡ 0
+pub times-without : (n : ℕ) (l : SeatItems) → times n (without n l) ≡ 0
 times-without n [] = refl
 times-without n (x ∷ xs) = dite (ℕ_discrete x.number n)
     (λ yes. ap (λ b. times n (cond b (without n xs) (x ∷ without n xs))) (eq-eqb x.number n yes) ∙ times-without n xs)
     (λ no. ap (λ b. times n (cond b (without n xs) (x ∷ without n xs))) (ne_eqb x.number n no) ∙ (let r = times-without n xs in omega (arith, one_if-other x.number n no)))
 
-times-without_other : (m n : ℕ) (l : SeatItems) → m ≢ n → times m (without n l) ≡ times m l
+pub times-without_other : (m n : ℕ) (l : SeatItems) → m ≢ n → times m (without n l) ≡ times m l
 times-without_other m n [] ne = refl
 times-without_other m n (x ∷ xs) ne =
     let r = times-without_other m n xs ne in

@@ -1,5 +1,5 @@
 -- A task's fields are what its seat knows, after a split and a join, and of the first task.
-use Rattle.std.proofs.Common.{◌≡◌, ℕ, zero, suc, ◌+◌, ◌<◌, ◌≤◌, ◌≢◌, ◌⊎◌, ◌↔◌, Bool, true, false, cond, eqb, List, [], ◌∷◌, ◌++◌, length, get_or, set, replicate, sym, refl, ap, ◌∙◌, subst, inl, inr, ⊎_elim, arith, eq-eqb, ne_eqb, get_or-set_same, get_or-set_other}
+use Rattle.std.proofs.Common.{◌≡◌, ℕ, zero, suc, ◌<◌, ◌≤◌, ◌⊎◌, ◌↔◌, Bool, true, false, cond, eqb, List, [], ◌∷◌, ◌++◌, length, get_or, set, replicate, sym, refl, ap, ◌∙◌, subst, inl, inr, ⊎_elim, arith, get_or-set_same, get_or-set_other}
 use Rattle.std.specs.Prelude.{Option, None}
 use Rattle.std.proofs.lemmas.List.{get_or-replicate}
 use mathlib.Core.Logic.{dite}
@@ -16,25 +16,11 @@ use Rattle.gate_core.specs.Seats.{idle_seat}
 use Rattle.gate_steps.specs.declared.seating.Numbered.{Numbered}
 use Rattle.gate_steps.specs.Seating.{SeatItems, numbered, one_if, times, without, view_in, renewed, kept_of, given_of, deal}
 use Rattle.gate_steps.proofs.Dealing.{one_if-same, one_if-other, times-append}
-use Rattle.gate_steps.proofs.Giving.{view_in-at}
+use Rattle.gate_steps.proofs.Giving.{view_in-at, times-without, times-without_other}
 use Rattle.gate_steps.proofs.Opening.{times-deal_below, times-deal_above, times-deal}
 use Rattle.vfs_gates.specs.Standing.{Empty, IsNothing, own_view}
 use Rattle.vfs_gates.specs.Ties.{PhaseOk, IsStill, AllRest, Keeps, OwnTies, Ties}
 use Rattle.vfs_gates.proofs.FlagSteps.{IsSet, false_true}
-
-times-without : (n : ℕ) (l : SeatItems) → times n (without n l) ≡ 0
-times-without n [] = refl
-times-without n (x ∷ xs) = dite (ℕ_discrete x.number n)
-    (λ yes. ap (λ b. times n (cond b (without n xs) (x ∷ without n xs))) (eq-eqb x.number n yes) ∙ times-without n xs)
-    (λ no. ap (λ b. times n (cond b (without n xs) (x ∷ without n xs))) (ne_eqb x.number n no) ∙ (let r = times-without n xs in omega (arith, one_if-other x.number n no)))
-
-times-without_other : (m n : ℕ) (l : SeatItems) → m ≢ n → times m (without n l) ≡ times m l
-times-without_other m n [] ne = refl
-times-without_other m n (x ∷ xs) ne =
-    let r = times-without_other m n xs ne in
-    dite (ℕ_discrete x.number n)
-    (λ yes. ap (λ b. times m (cond b (without n xs) (x ∷ without n xs))) (eq-eqb x.number n yes) ∙ (let z = one_if-other x.number m (λ q. ne (sym q ∙ yes)) in omega arith))
-    (λ no. ap (λ b. times m (cond b (without n xs) (x ∷ without n xs))) (ne_eqb x.number n no) ∙ ap (λ (k : ℕ). one_if (eqb x.number m) + k) r)
 
 idle_mount : (m : ℕ) → m < 8 → ◌≡◌ {A = ℕ} (get_or (replicate 8 0) m 0) 0
 idle_mount m lt = get_or-replicate 8 m 0 0 lt

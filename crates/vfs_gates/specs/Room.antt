@@ -1,6 +1,5 @@
 -- Room for the snapshots of a task.
 use Rattle.std.specs.Prelude.{◌≡◌, ℕ, ◌*◌, ◌+◌, vec_capacity}
-use Rattle.gate_world.specs.declared.config.Config.{Config}
 use Rattle.vfs_gates.specs.declared.rooms.Rooms.{Rooms}
 
 -- room for two snapshots of so many nodes, each of the blocks charged, and of each node and its children

@@ -52,10 +52,12 @@ fn to_read_only() -> Op {
 fn a_change_alone(alloc: Global) -> Result<bool, GateError> {
     let mut core = Core::new(alloc, small(1))?;
     let (gates, mut zero) = Gates::new(alloc, small(1))?;
-    Ok(begins(&mut core, &mut zero, to_read_only())
-        && steps(&mut core, &mut zero, &gates, 10)
-        && begins(&mut core, &mut zero, want(1, false))
-        && steps(&mut core, &mut zero, &gates, 6))
+    Ok(
+        begins(&mut core, &mut zero, to_read_only())
+            && steps(&mut core, &mut zero, &gates, 10)
+            && begins(&mut core, &mut zero, want(1, false))
+            && steps(&mut core, &mut zero, &gates, 6),
+    )
 }
 
 /// A change that is refused while another task holds an access, and that task's own want after it.
@@ -63,12 +65,14 @@ fn a_change_against_a_holder(alloc: Global) -> Result<bool, GateError> {
     let mut core = Core::new(alloc, small(2))?;
     let (gates, mut zero) = Gates::new(alloc, small(2))?;
     let mut one = zero.split(alloc, &gates)?;
-    Ok(begins(&mut core, &mut zero, want(0, true))
-        && steps(&mut core, &mut zero, &gates, 6)
-        && begins(&mut core, &mut one, to_read_only())
-        && steps(&mut core, &mut one, &gates, 9)
-        && begins(&mut core, &mut one, want(0, true))
-        && steps(&mut core, &mut one, &gates, 6))
+    Ok(
+        begins(&mut core, &mut zero, want(0, true))
+            && steps(&mut core, &mut zero, &gates, 6)
+            && begins(&mut core, &mut one, to_read_only())
+            && steps(&mut core, &mut one, &gates, 9)
+            && begins(&mut core, &mut one, want(0, true))
+            && steps(&mut core, &mut one, &gates, 6),
+    )
 }
 
 /// A want that backs off between two loads of a sum.
@@ -77,13 +81,15 @@ fn a_want_during_a_sum(alloc: Global) -> Result<bool, GateError> {
     let (gates, mut zero) = Gates::new(alloc, small(3))?;
     let mut one = zero.split(alloc, &gates)?;
     let mut two = zero.split(alloc, &gates)?;
-    Ok(begins(&mut core, &mut zero, want(1, true))
-        && steps(&mut core, &mut zero, &gates, 5)
-        && begins(&mut core, &mut one, to_read_only())
-        && steps(&mut core, &mut one, &gates, 5)
-        && begins(&mut core, &mut two, want(0, false))
-        && steps(&mut core, &mut two, &gates, 3)
-        && steps(&mut core, &mut one, &gates, 4))
+    Ok(
+        begins(&mut core, &mut zero, want(1, true))
+            && steps(&mut core, &mut zero, &gates, 5)
+            && begins(&mut core, &mut one, to_read_only())
+            && steps(&mut core, &mut one, &gates, 5)
+            && begins(&mut core, &mut two, want(0, false))
+            && steps(&mut core, &mut two, &gates, 3)
+            && steps(&mut core, &mut one, &gates, 4),
+    )
 }
 
 /// A want that waits for a change which counts it.
@@ -91,12 +97,14 @@ fn a_waiter_is_counted(alloc: Global) -> Result<bool, GateError> {
     let mut core = Core::new(alloc, small(2))?;
     let (gates, mut zero) = Gates::new(alloc, small(2))?;
     let mut one = zero.split(alloc, &gates)?;
-    Ok(begins(&mut core, &mut zero, to_read_only())
-        && steps(&mut core, &mut zero, &gates, 4)
-        && begins(&mut core, &mut one, want(0, true))
-        && steps(&mut core, &mut one, &gates, 2)
-        && steps(&mut core, &mut zero, &gates, 5)
-        && steps(&mut core, &mut one, &gates, 5))
+    Ok(
+        begins(&mut core, &mut zero, to_read_only())
+            && steps(&mut core, &mut zero, &gates, 4)
+            && begins(&mut core, &mut one, want(0, true))
+            && steps(&mut core, &mut one, &gates, 2)
+            && steps(&mut core, &mut zero, &gates, 5)
+            && steps(&mut core, &mut one, &gates, 5),
+    )
 }
 
 #[test]

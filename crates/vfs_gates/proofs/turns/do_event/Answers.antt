@@ -1,4 +1,3 @@
-use Rattle.std.proofs.Common.{refl}
 use Rattle.gate_world.specs.Work.{at_phases}
 use Rattle.vfs_gates.proofs.Turning.{stay_tied, stepped_so}
 use Rattle.vfs_gates.proofs.turns.do_event.Goals as goal

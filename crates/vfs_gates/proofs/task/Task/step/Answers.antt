@@ -3,11 +3,10 @@ use Rattle.std.proofs.Common.{◌≡◌, ◌∙◌, sym, ap, refl}
 use Rattle.std.specs.Prelude.{Some, None}
 use Rattle.access_model.specs.declared.replies.Next.{Next}
 use Rattle.gate_world.specs.declared.work.Phase.{Phase}
-use Rattle.gate_world.specs.declared.config.Config.{Config}
 use Rattle.gate_world.specs.Views.{phase_after}
 use Rattle.gate_core.specs.Answers.{progress_of}
 use Rattle.vfs_gates.specs.Standing.{Standing, standing}
-use Rattle.vfs_gates.specs.Turns.{kept_at, step_was}
+use Rattle.vfs_gates.specs.Turns.{kept_at}
 use Rattle.vfs_gates.proofs.Turning.{tied_at, at_itself, stepped_there}
 use Rattle.vfs_gates.proofs.task.Task.step.Goals as goal
 
