@@ -90,6 +90,8 @@ struct Player {
     alloc: Global,
     input: Input,
     output: Output,
+    /// What the last line printed: apart, so that a line for which there is no memory takes nothing from those before it.
+    line: Output,
     session: Option<Session>,
 }
 
@@ -101,6 +103,7 @@ impl Player {
             alloc,
             input: Input::new(alloc)?,
             output: Output::with_room(alloc, ROOM)?,
+            line: Output::with_room(alloc, FULL)?,
             session: None,
         })
     }
@@ -276,12 +279,10 @@ impl Player {
         match &mut self.session {
             None => Err(Fault::ConfigExpected),
             Some(session) => {
-                let done = session.do_line(line, &mut self.output);
-                if done.is_err() {
-                    // There was no memory for all that the line prints. What isn't written yet is left out.
-                    self.output.clear();
-                }
-                done
+                self.line.clear();
+                session.do_line(line, &mut self.line)?;
+                let printed = self.line.bytes.as_slice();
+                self.output.text(printed).map_err(no_memory)
             }
         }
     }

@@ -1,6 +1,6 @@
 //! The bytes that are printed.
 
-ghost use Rattle.std.specs.Prelude.{◌≡◌, ◌++◌, [], decimal, IfOk, OnOk, vec_len, vec_capacity};
+ghost use Rattle.std.specs.Prelude.{◌≡◌, ◌++◌, [], decimal, IfOk, OnOk, vec_len, vec_capacity, OnErr};
 
 use itoa::Buffer;
 use std::alloc::{AllocError, Global};
@@ -21,9 +21,10 @@ impl Output {
         Ok(Output { bytes })
     }
 
-    /// Prints a text.
+    /// Prints a text, or nothing where there is no memory for all of it.
     pub fn text(&mut self, text: &[u8]) -> Result<(), AllocError>
-        ensures { OnOk result (self.new.bytes.items ≡ self.old.bytes.items ++ text.now) }
+        ensures printed { OnOk result (self.new.bytes.items ≡ self.old.bytes.items ++ text.now) }
+        ensures refused { OnErr result (self.new.bytes.items ≡ self.old.bytes.items) }
     {
         self.bytes.extend_from_slice(text)
     }
