@@ -3,6 +3,7 @@
 use crate::actions::{Action, Gate, Kind};
 use crate::errors::GateError;
 use crate::model::Model;
+use std::alloc::Global;
 use std::test::Fail;
 
 #[test]
@@ -23,9 +24,18 @@ fn a_read_only_mount_grants_nothing(rt: HostRuntime) -> Result<(), Fail> {
     Ok(())
 }
 
-#[test]
-fn a_freeze_waits_for_writers_and_for_clean_files(rt: HostRuntime) -> Result<(), Fail> {
-    let mut model = Model::new(rt.alloc(), 2, 1, 2, 8)?;
+/// Whether a model does all these actions of a task.
+fn does_all(model: &mut Model, task: u8, actions: &[Action]) -> bool {
+    let mut done = true;
+    for action in actions {
+        done = done && model.apply(task, action).is_ok();
+    }
+    done
+}
+
+/// A model of 8 blocks in which task 0 is inside level 1 and has written all of them to a file.
+fn full_of_one_file(alloc: Global) -> Result<Model, Fail> {
+    let mut model = Model::new(alloc, 2, 1, 2, 8)?;
     let create = Action::Create {
         node: 1,
         dir: 0,
@@ -37,47 +47,43 @@ fn a_freeze_waits_for_writers_and_for_clean_files(rt: HostRuntime) -> Result<(),
         create,
         Action::Grow { node: 1, blocks: 8 },
     ];
-    for action in write {
-        assert_eq!(rt; model.apply(0, &action), Ok(()));
+    if !does_all(&mut model, 0, &write) {
+        return Err("a write is refused".into());
     }
-    let full = Action::Grow { node: 1, blocks: 1 };
-    assert_eq!(rt;
-        model.apply(0, &full),
-        Err(GateError::Invalid),
-        "all blocks are used"
-    );
+    Ok(model)
+}
+
+#[test]
+fn a_file_grows_up_to_the_capacity(rt: HostRuntime) -> Result<(), Fail> {
+    let mut model = full_of_one_file(rt.alloc())?;
+    let more = Action::Grow { node: 1, blocks: 1 };
+    assert_eq!(rt; model.apply(0, &more), Err(GateError::Invalid));
     assert_eq!(rt; model.tree(1).ok_or("no file")?.size, 8);
+    Ok(())
+}
+
+#[test]
+fn a_freeze_waits_for_writers_and_for_clean_files(rt: HostRuntime) -> Result<(), Fail> {
+    let mut model = full_of_one_file(rt.alloc())?;
     assert_eq!(rt; model.apply(1, &Action::Stage(1)), Ok(()));
-    assert_eq!(rt;
-        model.apply(1, &Action::Pass(1)),
-        Err(GateError::Invalid),
-        "a task is inside"
-    );
+    let pass = Action::Pass(1);
+    assert_eq!(rt; model.apply(1, &pass), Err(GateError::Invalid));
     assert_eq!(rt; model.apply(0, &Action::Return(Gate::Level(1))), Ok(()));
-    let close = [Action::Pass(1), Action::Stage(2), Action::Pass(2)];
-    for action in close {
-        assert_eq!(rt; model.apply(1, &action), Ok(()));
-    }
-    assert_eq!(rt;
-        model.apply(1, &Action::Stage(3)),
-        Err(GateError::Invalid),
-        "a file is dirty"
-    );
+    let close = [pass, Action::Stage(2), Action::Pass(2)];
+    assert!(rt; does_all(&mut model, 1, &close));
+    let complete = Action::Stage(3);
+    assert_eq!(rt; model.apply(1, &complete), Err(GateError::Invalid));
     let finish = [
         Action::Clean(1),
-        Action::Stage(3),
+        complete,
         Action::Pass(3),
         Action::Stage(4),
         Action::Stage(0),
         Action::Reopen(3),
     ];
-    for action in finish {
-        assert_eq!(rt; model.apply(1, &action), Ok(()));
-    }
-    assert_eq!(rt; model.stage(), 0);
-    assert_eq!(rt; model.passed(), 2);
-    assert!(rt; !model.held_level(0, 1));
-    assert!(rt; !model.sb_ro());
+    assert!(rt; does_all(&mut model, 1, &finish));
+    assert_eq!(rt; (model.stage(), model.passed()), (0, 2));
+    assert!(rt; !model.held_level(0, 1) && !model.sb_ro());
     Ok(())
 }
 

@@ -3,6 +3,7 @@
 mod fakes;
 
 use crate::replay::{ReplayFault, replay};
+use access_model::GateError;
 use fakes::{Counter, Frail, Newlines, Refusal, Slow, Watcher};
 use std::alloc::Global;
 use std::cell::Cell;
@@ -454,5 +455,27 @@ fn what_was_printed_is_written_before_more_is_read(rt: HostRuntime) -> Result<()
     expect_end(&rt, ended, "")?;
     assert_eq!(rt; late.get(), 0);
     assert_eq!(rt; written.get(), TEXT.len());
+    Ok(())
+}
+
+/// Where one growth is refused, which one so ever, the schedule ends at its first line or at the line of the configuration, which are
+/// all that take memory here: `rt try --test --fail-alloc N` refuses the growth number N.
+#[test]
+fn a_refused_growth_ends_at_its_line(rt: HostRuntime) -> Result<(), Fail> {
+    let written = Cell::new(0);
+    let mut schedule = b"# a comment\n\nconfig 2 1 1 2 8\n0 want 0 0\n0 run\n".as_slice();
+    let ended = replay(
+        rt.alloc(),
+        &mut schedule,
+        &mut Counter { written: &written },
+    );
+    let Err(fault) = ended else {
+        assert_eq!(rt; written.get(), 5);
+        return Ok(());
+    };
+    assert_eq!(rt; fault.text, "refused");
+    assert_eq!(rt; fault.cause, Some(GateError::NoMemory));
+    assert!(rt; fault.line == 1 || fault.line == 3);
+    assert_eq!(rt; written.get(), 0);
     Ok(())
 }
