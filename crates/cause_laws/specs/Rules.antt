@@ -18,12 +18,8 @@ use Rattle.gate_world.specs.Causes.{last_question, was_read_only, moments_of_sum
 module _ (c : Config) (t : ℕ) (w : World) (earlier : List World) where
   -- a want that is to be refused as read-only: the mount was so when it last asked
   abbrev pub WantCause : ℕ → WantStep → Type 0
-  WantCause m CountsUp = Unit {0}
-  WantCause m LoadsHold = Unit {0}
-  WantCause m LoadsRemount = Unit {0}
-  WantCause m LoadsReadOnly = Unit {0}
-  WantCause m LoadsSuperblock = Unit {0}
   WantCause m (CountsDown refusal) = refusal ≡ ReadOnly → was_read_only c m (last_question t (w ∷ earlier)) ≡ true
+  WantCause m step = Unit {0}
 
   -- an answer of Busy: something was counted while the sum was read
   abbrev pub AnswerCause : ℕ → Result Reply GateError → Type 0
@@ -31,23 +27,17 @@ module _ (c : Config) (t : ℕ) (w : World) (earlier : List World) where
 
   -- a sum under way: where nothing was counted so far, its lead is 0
   abbrev pub ChangeCause : ℕ → ChangeStep → Type 0
-  ChangeCause m Locks = Unit {0}
-  ChangeCause m LoadsFlags = Unit {0}
-  ChangeCause m LoadsSb = Unit {0}
-  ChangeCause m ClearsReadOnly = Unit {0}
-  ChangeCause m SetsHold = Unit {0}
   ChangeCause m (Sums sum) =
       (sum.words ≡ 0 → sum.total ≡ 0) ×
       (was_counted c m (moments_of_sum t (w ∷ earlier)) ≡ false → lead c.processors (w.words.count m) sum.words sum.total ≡ 0)
-  ChangeCause m SetsReadOnly = Unit {0}
   ChangeCause m (ClearsHold answer) = AnswerCause m answer
   ChangeCause m (Releases answer) = AnswerCause m answer
+  ChangeCause m step = Unit {0}
 
   abbrev pub CauseOf : Option Phase → Type 0
-  CauseOf None = Unit {0}
   CauseOf (Some (Mounts (Wants x))) = WantCause x.mount x.step
-  CauseOf (Some (Mounts (Drops m p))) = Unit {0}
   CauseOf (Some (Mounts (Changes x))) = ChangeCause x.mount x.step
+  CauseOf phase = Unit {0}
 
 abbrev pub Causes : Config → World → List World → Type 0
 Causes c w earlier = (t : ℕ) → t < c.tasks → CauseOf c t w earlier (w.views t).phase

@@ -36,14 +36,7 @@ change m ro wait task processors step = Changes (record { mount = m; read_only =
 -- a task owns at most once
 change_owns_le : (s : ChangeStep) → change_owns s ≤ 1
 change_owns_le Locks = omega arith
-change_owns_le LoadsFlags = omega arith
-change_owns_le LoadsSb = omega arith
-change_owns_le ClearsReadOnly = omega arith
-change_owns_le SetsHold = omega arith
-change_owns_le (Sums sum) = omega arith
-change_owns_le SetsReadOnly = omega arith
-change_owns_le (ClearsHold answer) = omega arith
-change_owns_le (Releases answer) = omega arith
+change_owns_le step = omega arith
 
 pub owns_le : (p : Option Phase) → owns p ≤ 1
 owns_le None = omega arith
@@ -53,22 +46,11 @@ owns_le (Some (Mounts (Changes x))) = change_owns_le x.step
 
 want_stands : (p : ℕ) (s : WantStep) → stands (want_role p s) + skips (want_role p s) ≡ 0
 want_stands p CountsUp = refl
-want_stands p LoadsHold = refl
-want_stands p LoadsRemount = refl
-want_stands p LoadsReadOnly = refl
-want_stands p LoadsSuperblock = refl
-want_stands p (CountsDown refusal) = refl
+want_stands p step = refl
 
 change_stands : (s : ChangeStep) → stands (change_role s) + skips (change_role s) ≤ change_owns s
 change_stands Locks = omega arith
-change_stands LoadsFlags = omega arith
-change_stands LoadsSb = omega arith
-change_stands ClearsReadOnly = omega arith
-change_stands SetsHold = omega arith
-change_stands (Sums sum) = omega arith
-change_stands SetsReadOnly = omega arith
-change_stands (ClearsHold answer) = omega arith
-change_stands (Releases answer) = omega arith
+change_stands step = omega arith
 
 stands_if : (b : Bool) (r : Role) → stands (role_if b r) + skips (role_if b r) ≤ stands r + skips r
 stands_if true r = omega arith

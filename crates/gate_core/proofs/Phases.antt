@@ -55,14 +55,10 @@ module _ (c : Config) (within : IsWithin c) (t : ℕ) (held : ℕ → ℕ) (leve
 
   change_there : (x : Change) (step : ChangeStep) → x.mount < c.mounts → SumFits c step → IsWord (extents_of c) (change_next x step).0
   change_there x Locks m f = tt
-  change_there x LoadsFlags m f = m
   change_there x LoadsSb m f = tt
-  change_there x ClearsReadOnly m f = m
-  change_there x SetsHold m f = m
   change_there x (Sums sum) m f = (m, f)
-  change_there x SetsReadOnly m f = m
-  change_there x (ClearsHold answer) m f = m
   change_there x (Releases answer) m f = tt
+  change_there x step m f = m
 
   pub word_there : (phase : Phase) (hook : HookAnswer) → PhaseFits c t held levels phase → IsWord (extents_of c) (next_of phase hook).0
   word_there (Mounts (Wants w)) hook f = want_there w w.step f.0 f.1
@@ -70,23 +66,12 @@ module _ (c : Config) (within : IsWithin c) (t : ℕ) (held : ℕ → ℕ) (leve
   word_there (Mounts (Changes x)) hook f = change_there x x.step f.0 f.4
 
   want_acts : (w : Want) (step : WantStep) (found : ℕ) → w.mount < 8 → held w.mount < 1024 → ActionFits held (want_after w step found).1
-  want_acts w CountsUp found m room = tt
-  want_acts w LoadsHold found m room = tt
-  want_acts w LoadsRemount found m room = tt
-  want_acts w LoadsReadOnly found m room = tt
   want_acts w LoadsSuperblock found m room = by_bool (found == 0) (λ b. ActionFits held (if b then Some (Grant (Mount w.mount)) else None)) (m, room) tt
-  want_acts w (CountsDown refusal) found m room = tt
+  want_acts w step found m room = tt
 
   change_acts : (x : Change) (step : ChangeStep) (found : ℕ) → ActionFits held (change_after x step found).1
   change_acts x Locks found = tt
-  change_acts x LoadsFlags found = tt
-  change_acts x LoadsSb found = tt
-  change_acts x ClearsReadOnly found = tt
-  change_acts x SetsHold found = tt
-  change_acts x (Sums sum) found = tt
-  change_acts x SetsReadOnly found = tt
-  change_acts x (ClearsHold answer) found = tt
-  change_acts x (Releases answer) found = tt
+  change_acts x step found = tt
 
   pub action_fits : (phase : Phase) (found : ℕ) (hook : HookAnswer) → PhaseFits c t held levels phase → ActionFits held (after_of phase found hook).1
   action_fits (Mounts (Wants w)) found hook f = want_acts w w.step found (omega (arith, f.0, within.mounts)) f.2

@@ -24,18 +24,14 @@ trail_of c entries = trail c [] opening entries
 
 -- the next event of a want is a load of the read-only question
 abbrev pub want_asks : WantStep → Bool
-want_asks CountsUp = false
-want_asks LoadsHold = false
 want_asks LoadsRemount = true
 want_asks LoadsReadOnly = true
 want_asks LoadsSuperblock = true
-want_asks (CountsDown refusal) = false
+want_asks step = false
 
 abbrev pub asks : Option Phase → Bool
-asks None = false
 asks (Some (Mounts (Wants x))) = want_asks x.step
-asks (Some (Mounts (Drops m p))) = false
-asks (Some (Mounts (Changes x))) = false
+asks phase = false
 
 -- the world in which a task last asked whether a mount is read-only
 abbrev pub last_question : ℕ → List World → Option World
@@ -49,21 +45,12 @@ was_read_only c m (Some w) = (shown c w).mount_ro m || (shown c w).sb_ro
 
 -- how many words of its sum a change has read, where its next event is a load of a word
 abbrev pub step_read : ChangeStep → Option ℕ
-step_read Locks = None
-step_read LoadsFlags = None
-step_read LoadsSb = None
-step_read ClearsReadOnly = None
-step_read SetsHold = None
 step_read (Sums sum) = Some sum.words
-step_read SetsReadOnly = None
-step_read (ClearsHold answer) = None
-step_read (Releases answer) = None
+step_read step = None
 
 abbrev pub words_read : Option Phase → Option ℕ
-words_read None = None
-words_read (Some (Mounts (Wants x))) = None
-words_read (Some (Mounts (Drops m p))) = None
 words_read (Some (Mounts (Changes x))) = step_read x.step
+words_read phase = None
 
 -- the worlds of a task's last sum: from the one in which its first word was loaded to the newest in which a word was still to be
 -- loaded
@@ -87,10 +74,9 @@ was_counted c m (w ∷ earlier) = nat_lt 0 (all_counted c m w) || was_counted c 
 -- A task whose next event is the one with which it is refused: as read-only, and the mount was so when the task last asked; as busy, and
 -- something was counted at the mount in some world from the load of its sum's first word to the load of its last.
 abbrev pub HasCause : Config → ℕ → List World → Option Phase → Type 0
-HasCause c t worlds None = Unit {0}
 HasCause c t worlds (Some (Mounts (Wants x))) = x.step ≡ CountsDown ReadOnly → was_read_only c x.mount (last_question t worlds) ≡ true
-HasCause c t worlds (Some (Mounts (Drops m p))) = Unit {0}
 HasCause c t worlds (Some (Mounts (Changes x))) = x.step ≡ Releases (Err Busy) → was_counted c x.mount (moments_of_sum t worlds) ≡ true
+HasCause c t worlds phase = Unit {0}
 
 abbrev pub RefusalsHaveCauses : Config → List Entry → Type 0
 RefusalsHaveCauses c entries = (t : ℕ) → t < c.tasks → HasCause c t (trail_of c entries) ((run c opening entries).views t).phase

@@ -12,15 +12,8 @@ use Rattle.gate_world.specs.Worlds.{holds_none}
 
 -- a sum in progress has a word more to read
 abbrev pub SumFits : Config → ChangeStep → Type 0
-SumFits c Locks = Unit {0}
-SumFits c LoadsFlags = Unit {0}
-SumFits c LoadsSuperblock = Unit {0}
-SumFits c ClearsReadOnly = Unit {0}
-SumFits c SetsHold = Unit {0}
 SumFits c (Sums sum) = sum.words < c.processors
-SumFits c SetsReadOnly = Unit {0}
-SumFits c (ClearsHold answer) = Unit {0}
-SumFits c (Releases answer) = Unit {0}
+SumFits c step = Unit {0}
 
 abbrev pub MountFits : Config → ℕ → (ℕ → ℕ) → (ℕ → Bool) → MountPhase → Type 0
 MountFits c t held levels (Want w) = (w.mount < c.mounts) × (w.cpu < c.processors) × (held w.mount < 1024)

@@ -32,15 +32,10 @@ want_role p (CountsDown refusal) = BackingOff p
 
 -- what a step of a change is doing at its mount
 abbrev pub change_role : ChangeStep → Role
-change_role Locks = Out
-change_role LoadsFlags = Out
-change_role LoadsSb = Out
-change_role ClearsReadOnly = Out
-change_role SetsHold = Out
 change_role (Sums sum) = Summing sum.words sum.total
 change_role SetsReadOnly = Empty
 change_role (ClearsHold answer) = Leaving
-change_role (Releases answer) = Out
+change_role step = Out
 
 -- a role at one mount alone
 abbrev pub role_if : Bool → Role → Role
@@ -70,14 +65,7 @@ at_mount m v = record { held = held_at v m; added = added_by v.events m; taken =
 -- 1 between the lock of `umount` and its release
 abbrev pub change_owns : ChangeStep → ℕ
 change_owns Locks = 0
-change_owns LoadsFlags = 1
-change_owns LoadsSb = 1
-change_owns ClearsReadOnly = 1
-change_owns SetsHold = 1
-change_owns (Sums sum) = 1
-change_owns SetsReadOnly = 1
-change_owns (ClearsHold answer) = 1
-change_owns (Releases answer) = 1
+change_owns step = 1
 
 abbrev pub mount_owns : MountPhase → ℕ
 mount_owns (Wants w) = 0

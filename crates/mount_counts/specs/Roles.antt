@@ -35,94 +35,48 @@ pub record MountView : Type 0 where
 
 -- 1 between an addition and its grant or subtraction
 abbrev pub sought : Role → ℕ
-sought Out = 0
 sought (Asking p) = 1
 sought (Cleared p) = 1
 sought (PastRemount p) = 1
 sought (PastFlags p) = 1
 sought (BackingOff p) = 1
-sought (Summing k sum) = 0
-sought Empty = 0
-sought Leaving = 0
-sought Skipped = 0
+sought r = 0
 
 -- 1 for what is sought and admitted: HOLD was found clear, and none of the three read-only words set
 abbrev pub passed_hold : Role → ℕ
-passed_hold Out = 0
-passed_hold (Asking p) = 0
 passed_hold (Cleared p) = 1
 passed_hold (PastRemount p) = 1
 passed_hold (PastFlags p) = 1
-passed_hold (BackingOff p) = 0
-passed_hold (Summing k sum) = 0
-passed_hold Empty = 0
-passed_hold Leaving = 0
-passed_hold Skipped = 0
+passed_hold r = 0
 
 -- 1 for what is sought, admitted, and past its load of `remount`
 abbrev pub past_remount : Role → ℕ
-past_remount Out = 0
-past_remount (Asking p) = 0
-past_remount (Cleared p) = 0
 past_remount (PastRemount p) = 1
 past_remount (PastFlags p) = 1
-past_remount (BackingOff p) = 0
-past_remount (Summing k sum) = 0
-past_remount Empty = 0
-past_remount Leaving = 0
-past_remount Skipped = 0
+past_remount r = 0
 
 -- 1 for what is sought, admitted, and past its load of READONLY
 abbrev pub past_flags : Role → ℕ
-past_flags Out = 0
-past_flags (Asking p) = 0
-past_flags (Cleared p) = 0
-past_flags (PastRemount p) = 0
 past_flags (PastFlags p) = 1
-past_flags (BackingOff p) = 0
-past_flags (Summing k sum) = 0
-past_flags Empty = 0
-past_flags Leaving = 0
-past_flags Skipped = 0
+past_flags r = 0
 
 -- 1 for what is sought, not admitted, and stands on word i or a later one
 abbrev pub unread : ℕ → Role → ℕ
-unread i Out = 0
 unread i (Asking p) = if nat_le i p then 1 else 0
-unread i (Cleared p) = 0
-unread i (PastRemount p) = 0
-unread i (PastFlags p) = 0
 unread i (BackingOff p) = if nat_le i p then 1 else 0
-unread i (Summing k sum) = 0
-unread i Empty = 0
-unread i Leaving = 0
-unread i Skipped = 0
+unread i r = 0
 
 -- 1 while the task has HOLD set
 abbrev pub stands : Role → ℕ
-stands Out = 0
-stands (Asking p) = 0
-stands (Cleared p) = 0
-stands (PastRemount p) = 0
-stands (PastFlags p) = 0
-stands (BackingOff p) = 0
 stands (Summing k sum) = 1
 stands Empty = 1
 stands Leaving = 1
-stands Skipped = 0
+stands r = 0
 
 -- 1 where a remount counts on the mount staying read-only
 abbrev pub skips : Role → ℕ
-skips Out = 0
-skips (Asking p) = 0
-skips (Cleared p) = 0
-skips (PastRemount p) = 0
-skips (PastFlags p) = 0
-skips (BackingOff p) = 0
-skips (Summing k sum) = 0
-skips Empty = 0
-skips Leaving = 0
 skips Skipped = 1
+skips r = 0
 
 -- what a task is counted for: accesses held, and sought
 abbrev pub counted : MountView → ℕ
@@ -144,19 +98,13 @@ module _ (tasks processors flags : ℕ) (count : ℕ → ℕ) (at : ℕ → Moun
   -- come, and at most a bound that is far below 2^64, since every word read can leave behind at most one for each task. A sum
   -- that was 0: nothing is admitted. A mount that was skipped: it is read-only.
   abbrev pub RoleHolds : Role → Type 0
-  RoleHolds Out = Unit {0}
-  RoleHolds (Asking p) = Unit {0}
-  RoleHolds (Cleared p) = Unit {0}
-  RoleHolds (PastRemount p) = Unit {0}
-  RoleHolds (PastFlags p) = Unit {0}
-  RoleHolds (BackingOff p) = Unit {0}
   RoleHolds (Summing k sum) =
       (k < processors) ×
       (total tasks (λ t. admitted (at t)) + total tasks (λ t. unread k (at t).role) ≤ lead processors count k sum) ×
       (lead processors count k sum ≤ 65600 + 64 * k + total tasks (λ t. unread k (at t).role))
   RoleHolds Empty = total tasks (λ t. admitted (at t)) ≡ 0
-  RoleHolds Leaving = Unit {0}
   RoleHolds Skipped = ro_bit flags ≡ 1
+  RoleHolds r = Unit {0}
 
 module _ (tasks processors : ℕ) (count : ℕ → ℕ) (at : ℕ → MountView) where
   -- counts: each count word is the wrapping sum of the net additions to it, and a task's net additions are what it is counted for

@@ -27,41 +27,23 @@ pub roles_kept : (tasks processors flags flags' : ℕ) (count count' : ℕ → �
     ((k sum : ℕ) → RoleHolds tasks processors flags count at (Summing k sum) → RoleHolds tasks processors flags' count' at' (Summing k sum)) →
     (RoleHolds tasks processors flags count at Empty → RoleHolds tasks processors flags' count' at' Empty) →
     (r : Role) → (skips r ≡ 1 → ro_bit flags ≡ 1 → ro_bit flags' ≡ 1) → RoleHolds tasks processors flags count at r → RoleHolds tasks processors flags' count' at' r
-roles_kept tasks processors flags flags' count count' at at' f g Out s h = tt
-roles_kept tasks processors flags flags' count count' at at' f g (Asking p) s h = tt
-roles_kept tasks processors flags flags' count count' at at' f g (Cleared p) s h = tt
-roles_kept tasks processors flags flags' count count' at at' f g (PastRemount p) s h = tt
-roles_kept tasks processors flags flags' count count' at at' f g (PastFlags p) s h = tt
-roles_kept tasks processors flags flags' count count' at at' f g (BackingOff p) s h = tt
 roles_kept tasks processors flags flags' count count' at at' f g (Summing k sum) s h = f k sum h
 roles_kept tasks processors flags flags' count count' at at' f g Empty s h = g h
-roles_kept tasks processors flags flags' count count' at at' f g Leaving s h = tt
 roles_kept tasks processors flags flags' count count' at at' f g Skipped s h = s refl h
+roles_kept tasks processors flags flags' count count' at at' f g r s h = tt
 
 -- a role without HOLD says nothing of sums
 pub role_free : (tasks processors flags : ℕ) (count : ℕ → ℕ) (at : ℕ → MountView) (r : Role) → stands r ≡ 0 → skips r ≡ 0 → RoleHolds tasks processors flags count at r
-role_free tasks processors flags count at Out h s = tt
-role_free tasks processors flags count at (Asking p) h s = tt
-role_free tasks processors flags count at (Cleared p) h s = tt
-role_free tasks processors flags count at (PastRemount p) h s = tt
-role_free tasks processors flags count at (PastFlags p) h s = tt
-role_free tasks processors flags count at (BackingOff p) h s = tt
 role_free tasks processors flags count at (Summing k sum) h s = absurd (omega arith)
 role_free tasks processors flags count at Empty h s = absurd (omega arith)
-role_free tasks processors flags count at Leaving h s = tt
 role_free tasks processors flags count at Skipped h s = absurd (omega arith)
+role_free tasks processors flags count at r h s = tt
 
 pub role_still : (tasks processors flags : ℕ) (count count' : ℕ → ℕ) (at at' : ℕ → MountView) (r : Role) → stands r ≡ 0 → RoleHolds tasks processors flags count at r → RoleHolds tasks processors flags count' at' r
-role_still tasks processors flags count count' at at' Out s h = tt
-role_still tasks processors flags count count' at at' (Asking p) s h = tt
-role_still tasks processors flags count count' at at' (Cleared p) s h = tt
-role_still tasks processors flags count count' at at' (PastRemount p) s h = tt
-role_still tasks processors flags count count' at at' (PastFlags p) s h = tt
-role_still tasks processors flags count count' at at' (BackingOff p) s h = tt
 role_still tasks processors flags count count' at at' (Summing k sum) s h = absurd (omega arith)
 role_still tasks processors flags count count' at at' Empty s h = absurd (omega arith)
-role_still tasks processors flags count count' at at' Leaving s h = tt
 role_still tasks processors flags count count' at at' Skipped s h = h
+role_still tasks processors flags count count' at at' r s h = tt
 
 module _ (tasks processors flags remount sb : ℕ) (count : ℕ → ℕ) (at : ℕ → MountView) (good : MountHolds tasks processors flags remount sb count at) (t : ℕ) (lt : t < tasks) where
   -- a view that changes its role and accesses alone, to a role without HOLD
@@ -101,16 +83,9 @@ module _ (tasks processors flags remount sb : ℕ) (count : ℕ → ℕ) (at : �
       }
 
 pub unread_le : (k : ℕ) (r : Role) → unread k r ≤ 1
-unread_le k Out = omega arith
 unread_le k (Asking p) = grind (arith, nat_tests)
-unread_le k (Cleared p) = omega arith
-unread_le k (PastRemount p) = omega arith
-unread_le k (PastFlags p) = omega arith
 unread_le k (BackingOff p) = grind (arith, nat_tests)
-unread_le k (Summing i s) = omega arith
-unread_le k Empty = omega arith
-unread_le k Leaving = omega arith
-unread_le k Skipped = omega arith
+unread_le k r = omega arith
 
 -- what a change of one word does to the words ahead of a sum
 pub ahead_changed : (processors k : ℕ) (count : ℕ → ℕ) (p c : ℕ) → p < processors →
@@ -250,29 +225,15 @@ pub quiet_skipped : Quiet Skipped
 quiet_skipped = record { sought_none = refl; passed_none = refl; remount_none = refl; flags_none = refl; unread_none = λ k. refl }
 
 pub counted_parts : (r : Role) → sought r ≡ passed_hold r + unread 0 r
-counted_parts Out = refl
 counted_parts (Asking p) = rw (le-leb 0 p (omega arith))
-counted_parts (Cleared p) = refl
-counted_parts (PastRemount p) = refl
-counted_parts (PastFlags p) = refl
 counted_parts (BackingOff p) = rw (le-leb 0 p (omega arith))
-counted_parts (Summing k s) = refl
-counted_parts Empty = refl
-counted_parts Leaving = refl
-counted_parts Skipped = refl
+counted_parts r = refl
 
 -- one more word read leaves behind at most one for each task
 pub unread_step : (k : ℕ) (r : Role) → (unread (suc k) r ≤ unread k r) × (unread k r ≤ unread (suc k) r + 1)
-unread_step k Out = omega arith
 unread_step k (Asking p) = grind (arith, nat_tests)
-unread_step k (Cleared p) = omega arith
-unread_step k (PastRemount p) = omega arith
-unread_step k (PastFlags p) = omega arith
 unread_step k (BackingOff p) = grind (arith, nat_tests)
-unread_step k (Summing i s) = omega arith
-unread_step k Empty = omega arith
-unread_step k Leaving = omega arith
-unread_step k Skipped = omega arith
+unread_step k r = omega arith
 
 pub ahead_none : (processors : ℕ) (count : ℕ → ℕ) → ahead processors count 0 ≡ total processors count
 ahead_none processors count = total_same processors _ _ (λ q lq. rw (le-leb 0 q (omega arith)))
@@ -363,15 +324,7 @@ module _ (tasks processors flags remount sb : ℕ) (count : ℕ → ℕ) (at : �
 
 pub flags_passed : (r : Role) → past_flags r ≤ passed_hold r
 flags_passed Out = omega arith
-flags_passed (Asking p) = omega arith
-flags_passed (Cleared p) = omega arith
-flags_passed (PastRemount p) = omega arith
-flags_passed (PastFlags p) = omega arith
-flags_passed (BackingOff p) = omega arith
-flags_passed (Summing k s) = omega arith
-flags_passed Empty = omega arith
-flags_passed Leaving = omega arith
-flags_passed Skipped = omega arith
+flags_passed r = omega arith
 
 -- a flag that was found clear
 pub hold_clear : (f : ℕ) → f < 4 → has_flag f 2 ≡ false → hold_bit f ≡ 0

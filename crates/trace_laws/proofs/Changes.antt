@@ -82,15 +82,8 @@ change_short c m ro false trace h = h refl
 -- a step comes after that many events at most
 within_most : (c : Config) (m : ℕ) (ro wait : Bool) (step : ChangeStep) (trace : List Traced) (added : List Action) → StepSays c m ro wait step trace added →
     length trace ≤ events_before c step → length trace ≤ c.processors + 7
-within_most c m ro wait Locks trace added h k = omega arith
-within_most c m ro wait LoadsFlags trace added h k = omega arith
-within_most c m ro wait LoadsSb trace added h k = omega arith
-within_most c m ro wait ClearsReadOnly trace added h k = omega arith
-within_most c m ro wait SetsHold trace added h k = omega arith
 within_most c m ro wait (Sums sum) trace added h k = omega (arith, h.3.0)
-within_most c m ro wait SetsReadOnly trace added h k = omega arith
-within_most c m ro wait (ClearsHold answer) trace added h k = omega arith
-within_most c m ro wait (Releases answer) trace added h k = omega arith
+within_most c m ro wait step trace added h k = omega arith
 
 -- nothing more was found than was found last
 or_false : (b : Bool) → (b || false) ≡ b

@@ -49,11 +49,7 @@ WantAt c m p wait trace phase added = (step : WantStep) × (phase ≡ want m p w
 -- a step comes after at most six events
 within_six : (step : WantStep) (n : ℕ) → n ≤ events_before step → n ≤ 6
 within_six CountsUp n h = omega arith
-within_six LoadsHold n h = omega arith
-within_six LoadsRemount n h = omega arith
-within_six LoadsReadOnly n h = omega arith
-within_six LoadsSuperblock n h = omega arith
-within_six (CountsDown refusal) n h = omega arith
+within_six step n h = omega arith
 
 -- a short trace of a want
 want_short : (c : Config) (m p : ℕ) (wait : Bool) (trace : List Traced) → (wait ≡ false → length trace ≤ 6) → IsShort (most_events c (Want m p wait)) trace
