@@ -23,9 +23,9 @@ use Rattle.gate_world.specs.Views.{holds_level, phase_after}
 use Rattle.gate_world.specs.Fits.{SumFits}
 use Rattle.gate_world.specs.Work.{after_of}
 use Rattle.gate_world.specs.Worlds.{World, holds_none, found_at}
-use Rattle.gate_world.specs.Rules.{remounts, Good}
+use Rattle.gate_world.specs.Rules.{Good}
 use Rattle.gate_world.specs.Causes.{asks, last_question, was_read_only, words_read, moments_of_sum, all_counted, was_counted}
-use Rattle.gate_frames.proofs.Loads.{fits_now, remounts_none}
+use Rattle.gate_frames.proofs.Loads.{fits_now}
 use Rattle.cause_laws.specs.Rules.{WantCause, ChangeCause, CauseOf}
 use Rattle.cause_laws.proofs.Quiet.{want, change, fresh_lead, none_counted}
 
@@ -111,7 +111,9 @@ module _ (c : Config) (t : ℕ) (lt : t < c.tasks) (w next : World) (earlier : L
   want_own m p wait LoadsRemount lm e e' =
       elim (eqb_tells w.words.remount 0) [
         | inl h ↦ rw h.0 tt
-        | inr h ↦ absurd (h.1 (good.owner.remounting ∙ total_none c.tasks (λ x. remounts (w.views x).phase) (λ x lx. remounts_none (w.views x).phase)))
+        | inr h ↦
+            let one : w.words.remount ≡ 1 = omega (arith, h.1, good.owner.bit) in
+            rw h.0 (asked m p wait LoadsRemount e refl (rw h.0 at e') (rw (eq-eqb w.words.remount 1 one, or_true (ro_bit (w.words.flags m) == 1)) refl))
       ]
   want_own m p wait LoadsReadOnly lm e e' =
       elim (cases_Bool (has_flag (w.words.flags m) 1)) [

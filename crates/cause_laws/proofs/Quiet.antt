@@ -26,7 +26,7 @@ use Rattle.gate_world.specs.Worlds.{World, stepped}
 use Rattle.gate_world.specs.Rules.{role_of, at_mount, Good}
 use Rattle.gate_world.specs.Causes.{all_counted, was_counted}
 use Rattle.gate_frames.proofs.Frames.{load_same, role_on}
-use Rattle.gate_frames.proofs.Loads.{role_now, fits_now}
+use Rattle.gate_frames.proofs.Loads.{fits_now}
 
 -- a task is counted at most as often as all are
 pub one_counted : (c : Config) (m t : ℕ) (w : World) → t < c.tasks → counted (at_mount m (w.views t)) ≤ all_counted c m w
@@ -60,7 +60,7 @@ module _ (c : Config) (w : World) (good : Good c w) (t : ℕ) (lt : t < c.tasks)
   quiet_back n p wait refusal e before after =
       elim (eqb_tells m n) [
         | inl h ↦
-            let r : role_of m (w.views t).phase ≡ BackingOff p = ap (λ y. role_of y (w.views t).phase) h.1 ∙ role_now c w good t lt (want n p wait (CountsDown refusal)) e in
+            let r : role_of m (w.views t).phase ≡ BackingOff p = ap (λ y. role_of y (w.views t).phase) h.1 ∙ (ap (role_of n) e ∙ role_on n (BackingOff p)) in
             absurd (omega (arith, before, ap sought r, one_counted c m t w lt))
         | inr h ↦ changed_off w.words.count n _ m h.1
       ]

@@ -3,7 +3,7 @@ use Rattle.std.proofs.Common.{◌≡◌, ℕ, suc, ◌+◌, ◌<◌, ◌≤◌, 
 use Rattle.std.specs.Prelude.{◌==◌, not, Option, Some, None}
 use Rattle.std.proofs.lemmas.Bool.{cases_Bool}
 use Rattle.std.proofs.lemmas.Bool.Decides.{eqb_tells}
-use Rattle.finite_sums.specs.Sums.{changed}
+use Rattle.finite_sums.specs.Sums.{changed, total}
 use Rattle.finite_sums.proofs.Totals.{changed_at, changed_off, total_none}
 use Rattle.access_model.specs.declared.replies.Next.{Next}
 use Rattle.access_model.specs.declared.replies.Next.TheVariants.{Go}
@@ -26,9 +26,9 @@ use Rattle.gate_world.specs.declared.views.View.{View}
 use Rattle.gate_world.specs.Views.{held_at, holds_level, added_by, taken_by}
 use Rattle.gate_world.specs.Fits.{SumFits}
 use Rattle.gate_world.specs.Worlds.{World, holds_none, shown}
-use Rattle.gate_world.specs.Rules.{want_role, change_role, role_if, role_of, at_mount, change_owns, owns, remounts, OwnerHolds, ViewFits, Good, StepKeeps}
+use Rattle.gate_world.specs.Rules.{want_role, change_role, role_if, role_of, at_mount, change_owns, owns, remounts, Steady, OwnerHolds, ViewFits, Good, StepKeeps}
 use Rattle.gate_frames.proofs.Frames.{changed_same, view_as, holds_as, owner_same, good_after}
-use Rattle.gate_frames.proofs.Loads.{loaded, load_law, role_none, fits_now, remounts_none}
+use Rattle.gate_frames.proofs.Loads.{as_owner, loaded, load_law, role_none, fits_now}
 
 abbrev pub change : ℕ → Bool → Bool → ℕ → ℕ → ChangeStep → MountPhase
 change m ro wait task processors step = Changes (record { mount = m; read_only = ro; wait = wait; task = task; processors = processors; step = step })
@@ -60,8 +60,13 @@ stands_if false r = omega arith
 pub stands_owns : (m : ℕ) (p : Option Phase) → stands (role_of m p) + skips (role_of m p) ≤ owns p
 stands_owns m None = omega arith
 stands_owns m (Some (Mounts (Wants x))) = omega (arith, stands_if (m == x.mount) (want_role x.cpu x.step), want_stands x.cpu x.step)
-stands_owns m (Some (Mounts (Drops n p))) = omega (arith, stands_if (m == n) Out)
+stands_owns m (Some (Mounts (Drops n p))) = omega arith
 stands_owns m (Some (Mounts (Changes x))) = omega (arith, stands_if (m == x.mount) (change_role x.step), change_stands x.step)
+
+-- nor has anybody else `remount` set
+pub remounts_owns : (p : Option Phase) → remounts p ≤ owns p
+remounts_owns None = omega arith
+remounts_owns (Some (Mounts phase)) = omega arith
 
 -- what comes between the state found and the state asked for owns on, and holds nothing
 between : (ro b : Bool) → (change_role (step_between ro b) ≡ Out) × (change_owns (step_between ro b) ≡ 1) × ((c : Config) → SumFits c (step_between ro b))
@@ -77,8 +82,15 @@ module _ (c : Config) (w : World) (good : Good c w) (t : ℕ) (lt : t < c.tasks)
       let both : owns (w.views x).phase ≡ 1 → ⊥ = λ q. let a : w.words.umount ≡ suc x = good.owner.locked x lx q in let b : w.words.umount ≡ suc t = good.owner.locked t lt o in ne (omega arith) in
       omega (arith, both, owns_le (w.views x).phase)
 
-  pub no_remount : w.words.remount ≡ 1 → ⊥
-  no_remount q = omega (arith, good.owner.remounting, q, total_none c.tasks (λ x. remounts (w.views x).phase) (λ x lx. remounts_none (w.views x).phase))
+  -- an owner that hasn't `remount` set finds it clear
+  pub no_remount : owns (w.views t).phase ≡ 1 → remounts (w.views t).phase ≡ 0 → w.words.remount ≡ 1 → ⊥
+  no_remount o z q =
+      let none : total c.tasks (λ x. remounts (w.views x).phase) ≡ 0 = total_none c.tasks (λ x. remounts (w.views x).phase) (λ x lx.
+      elim (eqb_tells x t) [
+        | inl h ↦ ap (λ y. remounts (w.views y).phase) h.1 ∙ z
+        | inr h ↦ omega (arith, alone x lx h.1 o, remounts_owns (w.views x).phase)
+      ]) in
+      omega (arith, good.owner.remounting, q, none)
 
   -- an owner that doesn't hold finds no hold flag
   pub no_hold : (m : ℕ) → m < c.mounts → owns (w.views t).phase ≡ 1 → stands (role_of m (w.views t).phase) ≡ 0 → hold_bit (w.words.flags m) ≡ 0
@@ -111,7 +123,7 @@ module _ (c : Config) (w : World) (good : Good c w) (t : ℕ) (lt : t < c.tasks)
         let f : (m < c.mounts) × (task ≡ t) × (processors ≡ c.processors) × (holds_none (holds_level (w.views t)) ≡ true) × SumFits c s = fits_now c w good t lt (change m ro wait task processors s) e in
         let before : (y : ℕ) → role_of y (w.views t).phase ≡ Out = λ y. ap (role_of y) e ∙ (ap (role_if (y == m)) none ∙ role_none y m) in
         let later : (y : ℕ) → role_if (y == m) (change_role s') ≡ Out = λ y. ap (role_if (y == m)) none' ∙ role_none y m in
-        load_law c w good t lt name hook (change m ro wait task processors s) (Go (Mounts (change m ro wait task processors s'))) e (λ y ne. later y) (o' ∙ sym o) (f.0, f.1, f.2, f.3, fit)
+        load_law c w good t lt m name hook (Go (Mounts (change m ro wait task processors s'))) (λ y ne. later y ∙ sym (before y)) (as_owner (change m ro wait task processors s) e (o' ∙ sym o) refl (λ i. refl)) (f.0, f.1, f.2, f.3, fit)
         (λ lm. holds_as refl refl refl refl (ap (changed (λ x. at_mount m (w.views x)) t) (view_as refl refl refl (later m ∙ sym (before m))) ∙ changed_same (λ x. at_mount m (w.views x)) t) (good.mount m lm))
 
     pub loads_flags : (w.views t).phase ≡ Some (Mounts (change m ro wait task processors LoadsFlags)) → StepKeeps c w t hook (Mounts (change m ro wait task processors LoadsFlags))
@@ -127,12 +139,12 @@ module _ (c : Config) (w : World) (good : Good c w) (t : ℕ) (lt : t < c.tasks)
         still_load SbFlags LoadsSb (step_between ro b) e refl (between ro b).0 refl (between ro b).1 ((between ro b).2 c)
 
   -- an owner's event on the flags of a mount
-  pub flag_law : (m f : ℕ) (v : View) (r : Role) → m < c.mounts → owns v.phase ≡ owns (w.views t).phase → ViewFits c t v →
+  pub flag_law : (m f : ℕ) (v : View) (r : Role) → m < c.mounts → Steady (w.views t).phase v.phase → ViewFits c t v →
       held_at v ≡ held_at (w.views t) → added_by v.events ≡ added_by (w.views t).events → taken_by v.events ≡ taken_by (w.views t).events →
       ((y : ℕ) → (y ≡ m → ⊥) → role_of y v.phase ≡ role_of y (w.views t).phase) → role_of m v.phase ≡ r →
       MountHolds c.tasks c.processors f w.words.remount w.words.sb (w.words.count m) (changed (λ x. at_mount m (w.views x)) t (record (at_mount m (w.views t)) { role = r })) →
       Good c (record { words = record w.words { flags = changed w.words.flags m f }; views = changed w.views t v })
-  flag_law m f v r lm so fits held added taken off role own =
-      good_after c w t lt good m (record w.words { flags = changed w.words.flags m f }) v refl refl (owner_same c w t lt good v so (remounts_none v.phase ∙ sym (remounts_none (w.views t).phase))) fits
+  flag_law m f v r lm same fits held added taken off role own =
+      good_after c w t lt good m (record w.words { flags = changed w.words.flags m f }) v refl refl (owner_same c w t lt good v same) fits
       (λ y ne. (changed_off w.words.flags m f y ne, refl, view_as (ap (λ g. g y) held) (ap (λ g. g y) added) (ap (λ g. g y) taken) (off y ne)))
       (λ l. holds_as (changed_at w.words.flags m f) refl refl refl (ap (changed (λ x. at_mount m (w.views x)) t) (view_as (ap (λ g. g m) held) (ap (λ g. g m) added) (ap (λ g. g m) taken) role)) own)

@@ -15,7 +15,7 @@ use Rattle.gate_world.specs.declared.config.Config.{Config}
 use Rattle.gate_world.specs.declared.views.View.{View}
 use Rattle.gate_world.specs.Views.{held_at, holds_level, added_after, taken_after}
 use Rattle.gate_world.specs.Worlds.{World, shown, closing, is_passed, node_shown}
-use Rattle.gate_world.specs.Rules.{role_if, at_mount, owns, remounts, OwnerHolds, ViewFits, Good}
+use Rattle.gate_world.specs.Rules.{role_if, at_mount, owns, remounts, Steady, OwnerHolds, ViewFits, Good}
 
 pub changed_map : {A B : Type 0} (g : A → B) (f : ℕ → A) (t : ℕ) (v : A) → (λ x. g (changed f t v x)) ≡ changed (λ x. g (f x)) t (g v)
 changed_map g f t v = fun_ext (λ x. elim (eqb_tells x t) [ inl h ↦ rw (h.0, changed) | inr h ↦ rw (h.0, changed) ])
@@ -131,13 +131,14 @@ module _ (c : Config) (w : World) (t : ℕ) (lt : t < c.tasks) where
 
   module _ (good : Good c w) where
     -- an owner's words and phase as they were
-    pub owner_same : (v : View) → owns v.phase ≡ owns (w.views t).phase → remounts v.phase ≡ remounts (w.views t).phase →
+    pub owner_same : (v : View) → Steady (w.views t).phase v.phase →
         OwnerHolds c.tasks w.words.umount w.words.remount (λ x. (changed w.views t v x).phase)
-    owner_same v so sr = record {
-      locked = λ x lx. each_changed (λ y (u : View). y < c.tasks → owns u.phase ≡ 1 → w.words.umount ≡ suc y) w.views t v x (λ l e. good.owner.locked t l (sym so ∙ e)) (λ ne. good.owner.locked x) lx;
-      owned = λ x lx. each_changed (λ y (u : View). y < c.tasks → w.words.umount ≡ suc y → owns u.phase ≡ 1) w.views t v x (λ l e. so ∙ good.owner.owned t l e) (λ ne. good.owner.owned x) lx;
+    owner_same v same = record {
+      locked = λ x lx. each_changed (λ y (u : View). y < c.tasks → owns u.phase ≡ 1 → w.words.umount ≡ suc y) w.views t v x (λ l e. good.owner.locked t l (sym same.owns_same ∙ e)) (λ ne. good.owner.locked x) lx;
+      owned = λ x lx. each_changed (λ y (u : View). y < c.tasks → w.words.umount ≡ suc y → owns u.phase ≡ 1) w.views t v x (λ l e. same.owns_same ∙ good.owner.owned t l e) (λ ne. good.owner.owned x) lx;
       known = good.owner.known;
-      remounting = omega (arith, good.owner.remounting, sr, total_changed (λ (u : View). remounts u.phase) c.tasks t w.views v lt);
+      bit = good.owner.bit;
+      remounting = omega (arith, good.owner.remounting, same.remounts_same, total_changed (λ (u : View). remounts u.phase) c.tasks t w.views v lt);
     }
 
     -- an event that touches one mount

@@ -16,8 +16,8 @@ use Rattle.gate_world.specs.declared.views.View.{View}
 use Rattle.gate_world.specs.Views.{held_at, holds_level, added_by, taken_by, phase_after, view_with}
 use Rattle.gate_world.specs.Fits.{Fits, MountFits}
 use Rattle.gate_world.specs.Worlds.{World, shown, closing}
-use Rattle.gate_world.specs.Rules.{role_if, mount_of, own_role, role_of, at_mount, owns, mount_owns, remounts, Good}
-use Rattle.gate_frames.proofs.Frames.{load_same, added_load, taken_load, role_on, role_off, view_as, shown_still, owner_same, good_after}
+use Rattle.gate_world.specs.Rules.{role_if, role_of, at_mount, owns, mount_owns, remounts, Steady, Good}
+use Rattle.gate_frames.proofs.Frames.{load_same, added_load, taken_load, view_as, shown_still, owner_same, good_after}
 
 -- the numbers of a role that is known
 pub record Counts (r q : Role) : Type 0 where
@@ -35,14 +35,13 @@ counts e = record { sought_is = ap sought e; passed_is = ap passed_hold e; remou
 pub role_none : (y m : ℕ) → role_if (y == m) Out ≡ Out
 role_none y m = elim (y == m) as (λ b. role_if b Out ≡ Out) [ true ↦ refl | false ↦ refl ]
 
--- no phase of a mount closes a level, nor sets `remount`
-pub closes_none : (i : ℕ) (p : Option Phase) → closing i p ≡ 0
-closes_none i None = refl
-closes_none i (Some (Mounts phase)) = refl
+-- phases that are as steady as these
+pub steady : {p q r : Option Phase} → p ≡ r → Steady r q → Steady p q
+steady e s = record { owns_same = s.owns_same ∙ sym (ap owns e); remounts_same = s.remounts_same ∙ sym (ap remounts e); closing_same = λ i. s.closing_same i ∙ sym (ap (closing i) e) }
 
-pub remounts_none : (p : Option Phase) → remounts p ≡ 0
-remounts_none None = refl
-remounts_none (Some (Mounts phase)) = refl
+-- events of a layer that closes no level and sets no `remount`
+pub as_owner : {p q : Option Phase} (phase : MountPhase) → p ≡ Some (Mounts phase) → owns q ≡ mount_owns phase → remounts q ≡ 0 → ((i : ℕ) → closing i q ≡ 0) → Steady p q
+as_owner phase e o r c = steady e (record { owns_same = o; remounts_same = r; closing_same = c })
 
 -- the world after a load, after which this comes
 abbrev pub loaded : World → ℕ → WordName → HookAnswer → Next Phase → World
@@ -52,34 +51,25 @@ loaded w t name hook coming = record {
 }
 
 module _ (c : Config) (w : World) (good : Good c w) (t : ℕ) (lt : t < c.tasks) where
-  pub role_now : (phase : MountPhase) → (w.views t).phase ≡ Some (Mounts phase) → role_of (mount_of phase) (w.views t).phase ≡ own_role phase
-  role_now phase e = ap (role_of (mount_of phase)) e ∙ role_on (mount_of phase) (own_role phase)
-
-  pub off_now : (phase : MountPhase) → (w.views t).phase ≡ Some (Mounts phase) → (y : ℕ) → (y ≡ mount_of phase → ⊥) → role_of y (w.views t).phase ≡ Out
-  off_now phase e y ne = ap (role_of y) e ∙ role_off y (mount_of phase) (own_role phase) ne
-
   pub fits_now : (phase : MountPhase) → (w.views t).phase ≡ Some (Mounts phase) → MountFits c t (held_at (w.views t)) (holds_level (w.views t)) phase
   fits_now phase e = subst (Fits c t (held_at (w.views t)) (holds_level (w.views t))) e (good.fits t lt)
 
-  -- a load by a task at this phase
-  pub load_law : (name : WordName) (hook : HookAnswer) (phase : MountPhase) (coming : Next Phase) →
-      (w.views t).phase ≡ Some (Mounts phase) →
-      ((n : ℕ) → (n ≡ mount_of phase → ⊥) → role_of n (phase_after coming) ≡ Out) →
-      owns (phase_after coming) ≡ mount_owns phase →
+  -- a load, after which the task's role is another at one mount at most
+  pub load_law : (m : ℕ) (name : WordName) (hook : HookAnswer) (coming : Next Phase) →
+      ((n : ℕ) → (n ≡ m → ⊥) → role_of n (phase_after coming) ≡ role_of n (w.views t).phase) →
+      Steady (w.views t).phase (phase_after coming) →
       Fits c t (held_at (w.views t)) (holds_level (w.views t)) (phase_after coming) →
-      (mount_of phase < c.mounts → MountHolds c.tasks c.processors (w.words.flags (mount_of phase)) w.words.remount w.words.sb (w.words.count (mount_of phase))
-      (changed (λ x. at_mount (mount_of phase) (w.views x)) t (record (at_mount (mount_of phase) (w.views t)) { role = role_of (mount_of phase) (phase_after coming) }))) →
+      (m < c.mounts → MountHolds c.tasks c.processors (w.words.flags m) w.words.remount w.words.sb (w.words.count m)
+      (changed (λ x. at_mount m (w.views x)) t (record (at_mount m (w.views t)) { role = role_of m (phase_after coming) }))) →
       Good c (loaded w t name hook coming) × (shown c (loaded w t name hook coming) ≡ shown c w)
-  load_law name hook phase coming e off so fits own =
+  load_law m name hook coming off same fits own =
       let v : View = view_with (w.views t) (name, Load) (read w.words name) hook (coming, None) in
       let ea : added_by v.events ≡ added_by (w.views t).events = added_load name (added_by (w.views t).events) in
       let et : taken_by v.events ≡ taken_by (w.views t).events = taken_load name (taken_by (w.views t).events) in
       let there : Good c (record { words = w.words; views = changed w.views t v }) =
-      good_after c w t lt good (mount_of phase) w.words v refl refl
-      (owner_same c w t lt good v (so ∙ sym (ap owns e)) (remounts_none v.phase ∙ sym (remounts_none (w.views t).phase)))
-      fits
-      (λ n ne. (refl, refl, view_as refl (ap (λ f. f n) ea) (ap (λ f. f n) et) (off n ne ∙ sym (off_now phase e n ne))))
-      (λ lm. subst (λ u. MountHolds c.tasks c.processors (w.words.flags (mount_of phase)) w.words.remount w.words.sb (w.words.count (mount_of phase)) (changed (λ x. at_mount (mount_of phase) (w.views x)) t u))
-      (view_as refl (ap (λ f. f (mount_of phase)) (sym ea)) (ap (λ f. f (mount_of phase)) (sym et)) refl) (own lm)) in
+      good_after c w t lt good m w.words v refl refl (owner_same c w t lt good v same) fits
+      (λ n ne. (refl, refl, view_as refl (ap (λ f. f n) ea) (ap (λ f. f n) et) (off n ne)))
+      (λ lm. subst (λ u. MountHolds c.tasks c.processors (w.words.flags m) w.words.remount w.words.sb (w.words.count m) (changed (λ x. at_mount m (w.views x)) t u))
+      (view_as refl (ap (λ f. f m) (sym ea)) (ap (λ f. f m) (sym et)) refl) (own lm)) in
       subst (λ ws. let next_world : World = record { words = ws; views = changed w.views t v } in Good c next_world × (shown c next_world ≡ shown c w)) (sym (load_same w.words name))
-      (there, shown_still c w t lt w.words v refl refl refl refl refl refl (λ i. closes_none i v.phase ∙ sym (closes_none i (w.views t).phase)) refl refl)
+      (there, shown_still c w t lt w.words v refl refl refl refl refl refl same.closing_same refl refl)

@@ -19,7 +19,7 @@ use Rattle.gate_world.specs.declared.views.View.{View}
 use Rattle.gate_world.specs.Configs.{limits_of}
 use Rattle.gate_world.specs.Views.{held_at, holds_level, added_by, taken_by}
 use Rattle.gate_world.specs.Fits.{Fits}
-use Rattle.gate_world.specs.Worlds.{World, stepped, phase_action, shown}
+use Rattle.gate_world.specs.Worlds.{World, stepped, phase_action, shown, closing}
 
 -- what a step of a want is doing at its mount, on this processor
 abbrev pub want_role : ℕ → WantStep → Role
@@ -42,21 +42,18 @@ abbrev pub role_if : Bool → Role → Role
 role_if true r = r
 role_if false r = Out
 
--- the mount that a phase works at
-abbrev pub mount_of : MountPhase → ℕ
-mount_of (Wants w) = w.mount
-mount_of (Drops m p) = m
-mount_of (Changes x) = x.mount
+-- the role at each mount of a task that is at this phase: these layers have one at one mount alone
+abbrev pub mount_role : ℕ → MountPhase → Role
+mount_role m (Wants w) = role_if (m == w.mount) (want_role w.cpu w.step)
+mount_role m (Changes x) = role_if (m == x.mount) (change_role x.step)
+mount_role m phase = Out
 
-abbrev pub own_role : MountPhase → Role
-own_role (Wants w) = want_role w.cpu w.step
-own_role (Drops m p) = Out
-own_role (Changes x) = change_role x.step
+abbrev pub role_at : ℕ → Phase → Role
+role_at m (Mounts phase) = mount_role m phase
 
--- the role at a mount of a task that is at this phase
 abbrev pub role_of : ℕ → Option Phase → Role
 role_of m None = Out
-role_of m (Some (Mounts phase)) = role_if (m == mount_of phase) (own_role phase)
+role_of m (Some phase) = role_at m phase
 
 -- what a mount's predicate reads of a view
 abbrev pub at_mount : ℕ → View → MountView
@@ -81,12 +78,19 @@ abbrev pub remounts : Option Phase → ℕ
 remounts None = 0
 remounts (Some (Mounts phase)) = 0
 
+-- what the owner's words and the levels say of a task is the same at both phases
+pub record Steady (p q : Option Phase) : Type 0 where
+  pub owns_same : owns q ≡ owns p
+  pub remounts_same : remounts q ≡ remounts p
+  pub closing_same : (i : ℕ) → closing i q ≡ closing i p
+
 -- The owner's words. `umount` is 1 and the number of the task that is between its lock and its release, and `remount` is set
 -- exactly while one task has it set.
 pub record OwnerHolds (tasks umount remount : ℕ) (phases : ℕ → Option Phase) : Type 0 where
   pub locked : (t : ℕ) → t < tasks → owns (phases t) ≡ 1 → umount ≡ suc t
   pub owned : (t : ℕ) → t < tasks → umount ≡ suc t → owns (phases t) ≡ 1
   pub known : umount ≤ tasks
+  pub bit : remount ≤ 1
   pub remounting : remount ≡ total tasks (λ t. remounts (phases t))
 
 -- each phase fits its task's accesses

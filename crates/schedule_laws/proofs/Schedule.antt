@@ -26,10 +26,10 @@ use Rattle.gate_world.specs.Configs.{IsWithin, limits_of}
 use Rattle.gate_world.specs.Views.{held_at, holds_level, begun_view}
 use Rattle.gate_world.specs.Fits.{Fits}
 use Rattle.gate_world.specs.Worlds.{World, Entry, Begins, Steps, first_phase, is_in_range, is_in_order, is_within_room, view_refusal, begun, begin_of, step_of, happens, phase_action, action_of, task_of, noted, run, opening, history, shown}
-use Rattle.gate_world.specs.Rules.{role_of, at_mount, owns, Good, Moves, StepKeeps}
+use Rattle.gate_world.specs.Rules.{role_of, at_mount, Steady, Good, Moves, StepKeeps}
 use Rattle.gate_world.specs.Headline.{SumsHold, IdleSumsHold}
 use Rattle.gate_frames.proofs.Frames.{view_as, owner_same, shown_still}
-use Rattle.gate_frames.proofs.Loads.{role_none, closes_none, remounts_none}
+use Rattle.gate_frames.proofs.Loads.{role_none, steady}
 use Rattle.want_laws.proofs.Wants.{want_keeps}
 use Rattle.want_laws.proofs.WantCounts.{drops}
 use Rattle.change_laws.proofs.Owner.{still}
@@ -89,18 +89,19 @@ module _ (c : Config) (lim : IsWithin c) (w : World) (good : Good c w) (t : ℕ)
       (ltb-true m c.mounts r.0, ltb-true p c.processors r.1, ltb-true 0 (held_at (w.views t) m) h.order)
   op_fits (ChangeMount m read_only wait) h = (ltb-true m c.mounts h.range, refl, refl, h.order, tt)
 
-  first_none : (op : Op) → ((y : ℕ) → role_of y (Some (first_phase c t op)) ≡ Out) × (owns (Some (first_phase c t op)) ≡ 0)
-  first_none (Want m p wait) = (λ y. role_none y m, refl)
-  first_none (DropMount m p) = (λ y. role_none y m, refl)
-  first_none (ChangeMount m read_only wait) = (λ y. role_none y m, refl)
+  first_none : (op : Op) → ((y : ℕ) → role_of y (Some (first_phase c t op)) ≡ Out) × Steady None (Some (first_phase c t op))
+  first_none (Want m p wait) = (λ y. role_none y m, record { owns_same = refl; remounts_same = refl; closing_same = λ i. refl })
+  first_none (DropMount m p) = (λ y. refl, record { owns_same = refl; remounts_same = refl; closing_same = λ i. refl })
+  first_none (ChangeMount m read_only wait) = (λ y. role_none y m, record { owns_same = refl; remounts_same = refl; closing_same = λ i. refl })
 
   pub begun_keeps : (op : Op) → MayBegin c (w.views t) op → Good c (begun c w t op) × (shown c (begun c w t op) ≡ shown c w)
   begun_keeps op h =
       let v : View = begun_view (w.views t) op (first_phase c t op) in
-      let n : ((y : ℕ) → role_of y (Some (first_phase c t op)) ≡ Out) × (owns (Some (first_phase c t op)) ≡ 0) = first_none op in (
-        still c w good t lt w.words v refl refl refl refl (owner_same c w t lt good v (n.1 ∙ sym (ap owns h.idle)) (remounts_none v.phase ∙ sym (remounts_none (w.views t).phase))) (op_fits op h)
+      let n : ((y : ℕ) → role_of y (Some (first_phase c t op)) ≡ Out) × Steady None (Some (first_phase c t op)) = first_none op in
+      let same : Steady (w.views t).phase v.phase = steady h.idle n.1 in (
+        still c w good t lt w.words v refl refl refl refl (owner_same c w t lt good v same) (op_fits op h)
             (λ y. view_as refl refl refl (n.0 y ∙ sym (ap (role_of y) h.idle))),
-        shown_still c w t lt w.words v refl refl refl refl refl refl (λ i. closes_none i v.phase ∙ sym (closes_none i (w.views t).phase)) refl refl,
+        shown_still c w t lt w.words v refl refl refl refl refl refl same.closing_same refl refl,
       )
 
 module _ (c : Config) (lim : IsWithin c) where
@@ -145,7 +146,7 @@ module _ (c : Config) (lim : IsWithin c) where
 
   pub opening_good : Good c opening
   opening_good = record {
-    owner = record { locked = λ t lt h. absurd (omega arith); owned = λ t lt h. absurd (omega arith); known = omega arith; remounting = sym (zeros c.tasks) };
+    owner = record { locked = λ t lt h. absurd (omega arith); owned = λ t lt h. absurd (omega arith); known = omega arith; bit = omega arith; remounting = sym (zeros c.tasks) };
     superblock = omega arith;
     fits = λ t lt. tt;
     mount = λ m lm. record {

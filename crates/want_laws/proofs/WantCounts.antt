@@ -24,10 +24,10 @@ use Rattle.gate_world.specs.Configs.{IsWithin}
 use Rattle.gate_world.specs.Views.{held_at, holds_level, added_by, taken_by, view_with}
 use Rattle.gate_world.specs.Fits.{Fits}
 use Rattle.gate_world.specs.Worlds.{World}
-use Rattle.gate_world.specs.Rules.{role_of, at_mount, owns, Good, StepKeeps}
+use Rattle.gate_world.specs.Rules.{role_of, at_mount, Steady, Good, StepKeeps}
 use Rattle.gate_frames.proofs.Frames.{role_on, role_off, view_as, holds_as, owner_same, good_after, shown_as, shown_still}
-use Rattle.gate_frames.proofs.Loads.{Counts, counts, role_now, off_now, fits_now, closes_none, remounts_none}
-use Rattle.want_laws.proofs.WantLoads.{want}
+use Rattle.gate_frames.proofs.Loads.{Counts, counts, as_owner, fits_now}
+use Rattle.want_laws.proofs.WantLoads.{want, want_here, want_off}
 
 module _ (c : Config) (lim : IsWithin c) (w : World) (good : Good c w) (t : ℕ) (lt : t < c.tasks) where
   pub counts_up : (m p : ℕ) (wait : Bool) (hook : HookAnswer) → (w.views t).phase ≡ Some (Mounts (want m p wait CountsUp)) → StepKeeps c w t hook (Mounts (want m p wait CountsUp))
@@ -36,34 +36,35 @@ module _ (c : Config) (lim : IsWithin c) (w : World) (good : Good c w) (t : ℕ)
       let word : ℕ → ℕ = changed (w.words.count m) p (wrap_add (w.words.count m p) 1) in
       let net : ℕ → ℕ = changed (added_by (w.views t).events m) p (added_by (w.views t).events m p + 1) in
       let ws : Words = record w.words { count = changed w.words.count m word } in
-      let v : View = view_with (w.views t) (MountCount m p, Add 1) (w.words.count m p) hook (Go (Mounts (want m p wait LoadsHold)), None) in (
+      let v : View = view_with (w.views t) (MountCount m p, Add 1) (w.words.count m p) hook (Go (Mounts (want m p wait LoadsHold)), None) in
+      let same : Steady (w.views t).phase v.phase = as_owner (want m p wait CountsUp) e refl refl (λ i. refl) in (
         good_after c w t lt good m ws v refl refl
-            (owner_same c w t lt good v (sym (ap owns e)) (sym (remounts_none (w.views t).phase))) f
-            (λ y ne. (refl, changed_off w.words.count m word y ne, view_as refl (changed_off (added_by (w.views t).events) m net y ne) refl (role_off y m (Asking p) ne ∙ sym (off_now c w good t lt (want m p wait CountsUp) e y ne))))
+            (owner_same c w t lt good v same) f
+            (λ y ne. (refl, changed_off w.words.count m word y ne, view_as refl (changed_off (added_by (w.views t).events) m net y ne) refl (role_off y m (Asking p) ne ∙ sym (want_off m p wait CountsUp e y ne))))
             (λ lm. holds_as refl refl refl (changed_at w.words.count m word) (ap (changed (λ x. at_mount m (w.views x)) t) (view_as refl (changed_at (added_by (w.views t).events) m net) refl (role_on m (Asking p))))
             (adds c.tasks c.processors (w.words.flags m) w.words.remount w.words.sb (w.words.count m) (λ x. at_mount m (w.views x)) (good.mount m lm) t lt lim.tasks lim.processors p f.1
-            (role_now c w good t lt (want m p wait CountsUp) e) f.2)),
-        shown_still c w t lt ws v refl refl refl refl refl refl (λ i. sym (closes_none i (w.views t).phase)) refl refl,
+            (want_here m p wait CountsUp e) f.2)),
+        shown_still c w t lt ws v refl refl refl refl refl refl same.closing_same refl refl,
       )
 
-  -- a subtraction after which the task is idle, with h accesses at this mount
+  -- a subtraction after which the task has no role at this mount, and h accesses there
   pub take_law : (m p : ℕ) (r : Role) (h : ℕ) (v : View) → m < c.mounts → p < c.processors →
-      role_of m (w.views t).phase ≡ r → ((y : ℕ) → (y ≡ m → ⊥) → role_of y (w.views t).phase ≡ Out) → owns (w.views t).phase ≡ 0 →
-      v.phase ≡ None → added_by v.events ≡ added_by (w.views t).events → taken_by v.events ≡ changed (taken_by (w.views t).events) m (changed (taken_by (w.views t).events m) p (taken_by (w.views t).events m p + 1)) →
+      role_of m (w.views t).phase ≡ r → role_of m v.phase ≡ Out → ((y : ℕ) → (y ≡ m → ⊥) → role_of y v.phase ≡ role_of y (w.views t).phase) →
+      Steady (w.views t).phase v.phase → Fits c t (held_at v) (holds_level v) v.phase → added_by v.events ≡ added_by (w.views t).events → taken_by v.events ≡ changed (taken_by (w.views t).events) m (changed (taken_by (w.views t).events m) p (taken_by (w.views t).events m p + 1)) →
       held_at v m ≡ h → ((y : ℕ) → (y ≡ m → ⊥) → held_at v y ≡ held_at (w.views t) y) →
       h + 1 ≡ held_at (w.views t) m + sought r → stands r ≡ 0 → h ≤ held_at (w.views t) m + passed_hold r →
       ((k : ℕ) → (h + unread k (Asking p) ≤ held_at (w.views t) m + passed_hold r + unread k r) × (unread k r ≤ unread k (Asking p))) →
       h ≤ held_at (w.views t) m →
       Good c (record { words = record w.words { count = changed w.words.count m (changed (w.words.count m) p (wrap_sub (w.words.count m p) 1)) }; views = changed w.views t v })
-  take_law m p r h v lm lp role off so idle added taken held others same stand fewer sums le =
+  take_law m p r h v lm lp role out off still fits added taken held others same stand fewer sums le =
       let word : ℕ → ℕ = changed (w.words.count m) p (wrap_sub (w.words.count m p) 1) in
       let net : ℕ → ℕ = changed (taken_by (w.views t).events m) p (taken_by (w.views t).events m p + 1) in
       let ws : Words = record w.words { count = changed w.words.count m word } in
       let n : Counts (role_of m (w.views t).phase) r = counts role in
       good_after c w t lt good m ws v refl refl
-      (owner_same c w t lt good v (ap owns idle ∙ sym so) (remounts_none v.phase ∙ sym (remounts_none (w.views t).phase))) (subst (λ u. Fits c t (held_at v) (holds_level v) u) (sym idle) tt)
-      (λ y ne. (refl, changed_off w.words.count m word y ne, view_as (others y ne) (ap (λ f. f y) added) (ap (λ f. f y) taken ∙ changed_off (taken_by (w.views t).events) m net y ne) (ap (role_of y) idle ∙ sym (off y ne))))
-      (λ l. holds_as refl refl refl (changed_at w.words.count m word) (ap (changed (λ x. at_mount m (w.views x)) t) (view_as held (ap (λ f. f m) added) (ap (λ f. f m) taken ∙ changed_at (taken_by (w.views t).events) m net) (ap (role_of m) idle)))
+      (owner_same c w t lt good v still) fits
+      (λ y ne. (refl, changed_off w.words.count m word y ne, view_as (others y ne) (ap (λ f. f y) added) (ap (λ f. f y) taken ∙ changed_off (taken_by (w.views t).events) m net y ne) (off y ne)))
+      (λ l. holds_as refl refl refl (changed_at w.words.count m word) (ap (changed (λ x. at_mount m (w.views x)) t) (view_as held (ap (λ f. f m) added) (ap (λ f. f m) taken ∙ changed_at (taken_by (w.views t).events) m net) out))
       (takes c.tasks c.processors (w.words.flags m) w.words.remount w.words.sb (w.words.count m) (λ x. at_mount m (w.views x)) (good.mount m lm) t lt lim.tasks lim.processors p lp
       Out h (omega (arith, n.sought_is)) (omega (arith, (good.mount m lm).room t lt)) refl refl (omega (arith, n.stands_is)) (omega (arith, n.passed_is))
       (λ k. (omega (arith, sums k, n.unread_is k, n.passed_is), omega (arith, sums k, n.unread_is k))) (omega arith) (omega arith) le))
@@ -71,18 +72,20 @@ module _ (c : Config) (lim : IsWithin c) (w : World) (good : Good c w) (t : ℕ)
   pub counts_down : (m p : ℕ) (wait : Bool) (refusal : GateError) (hook : HookAnswer) → (w.views t).phase ≡ Some (Mounts (want m p wait (CountsDown refusal))) → StepKeeps c w t hook (Mounts (want m p wait (CountsDown refusal)))
   counts_down m p wait refusal hook e =
       let f : (m < c.mounts) × (p < c.processors) × (held_at (w.views t) m < 1024) = fits_now c w good t lt (want m p wait (CountsDown refusal)) e in
-      let v : View = view_with (w.views t) (MountCount m p, Sub 1) (w.words.count m p) hook (Done (Err refusal), None) in (
-        take_law m p (BackingOff p) (held_at (w.views t) m) v f.0 f.1 (role_now c w good t lt (want m p wait (CountsDown refusal)) e) (off_now c w good t lt (want m p wait (CountsDown refusal)) e)
-            (ap owns e) refl refl refl refl (λ y ne. refl) refl refl (omega arith) (λ k. (omega arith, omega arith)) (omega arith),
-        shown_still c w t lt (record w.words { count = changed w.words.count m (changed (w.words.count m) p (wrap_sub (w.words.count m p) 1)) }) v refl refl refl refl refl refl (λ i. sym (closes_none i (w.views t).phase)) refl refl,
+      let v : View = view_with (w.views t) (MountCount m p, Sub 1) (w.words.count m p) hook (Done (Err refusal), None) in
+      let same : Steady (w.views t).phase v.phase = as_owner (want m p wait (CountsDown refusal)) e refl refl (λ i. refl) in (
+        take_law m p (BackingOff p) (held_at (w.views t) m) v f.0 f.1 (want_here m p wait (CountsDown refusal) e) refl (λ y ne. sym (want_off m p wait (CountsDown refusal) e y ne))
+            same tt refl refl refl (λ y ne. refl) refl refl (omega arith) (λ k. (omega arith, omega arith)) (omega arith),
+        shown_still c w t lt (record w.words { count = changed w.words.count m (changed (w.words.count m) p (wrap_sub (w.words.count m p) 1)) }) v refl refl refl refl refl refl same.closing_same refl refl,
       )
 
   pub drops : (m p : ℕ) (hook : HookAnswer) → (w.views t).phase ≡ Some (Mounts (Drops m p)) → StepKeeps c w t hook (Mounts (Drops m p))
   drops m p hook e =
       let f : (m < c.mounts) × (p < c.processors) × (0 < held_at (w.views t) m) = fits_now c w good t lt (Drops m p) e in
-      let v : View = view_with (w.views t) (MountCount m p, Sub 1) (w.words.count m p) hook (Done (Ok UnitReply), Some (Return (Mount m))) in (
-        take_law m p Out (held_at (w.views t) m - 1) v f.0 f.1 (role_now c w good t lt (Drops m p) e) (off_now c w good t lt (Drops m p) e)
-            (ap owns e) refl refl refl (changed_at (held_at (w.views t)) m (held_at (w.views t) m - 1)) (changed_off (held_at (w.views t)) m (held_at (w.views t) m - 1))
+      let v : View = view_with (w.views t) (MountCount m p, Sub 1) (w.words.count m p) hook (Done (Ok UnitReply), Some (Return (Mount m))) in
+      let same : Steady (w.views t).phase v.phase = as_owner (Drops m p) e refl refl (λ i. refl) in (
+        take_law m p Out (held_at (w.views t) m - 1) v f.0 f.1 (ap (role_of m) e) refl (λ y ne. sym (ap (role_of y) e))
+            same tt refl refl (changed_at (held_at (w.views t)) m (held_at (w.views t) m - 1)) (changed_off (held_at (w.views t)) m (held_at (w.views t) m - 1))
             (omega (arith, f.2)) refl (omega arith) (λ k. (omega (arith, f.2, unread_le k (Asking p)), omega arith)) (omega arith),
-        ((lt, (f.0, f.2)), shown_as c w t lt (record w.words { count = changed w.words.count m (changed (w.words.count m) p (wrap_sub (w.words.count m p) 1)) }) v refl (λ i. sym (closes_none i (w.views t).phase))),
+        ((lt, (f.0, f.2)), shown_as c w t lt (record w.words { count = changed w.words.count m (changed (w.words.count m) p (wrap_sub (w.words.count m p) 1)) }) v refl same.closing_same),
       )

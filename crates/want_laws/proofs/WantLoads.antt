@@ -1,6 +1,6 @@
 -- Loads of a want: for HOLD, and the three of the read-only question.
 use Rattle.std.proofs.Common.{◌≡◌, ℕ, ◌+◌, ◌<◌, ◌≤◌, Bool, true, false, refl, sym, ap, ◌∙◌, subst, inl, inr, arith}
-use Rattle.std.specs.Prelude.{◌⊎◌, Some, Ok}
+use Rattle.std.specs.Prelude.{◌⊎◌, Option, Some, None, Ok}
 use Rattle.std.proofs.lemmas.Bool.{ne_eqb, cases_Bool}
 use Rattle.std.proofs.lemmas.Bool.Decides.{eqb_tells}
 use Rattle.finite_sums.specs.Sums.{changed}
@@ -29,13 +29,20 @@ use Rattle.gate_world.specs.declared.work.Phase.TheVariants.{Mounts}
 use Rattle.gate_world.specs.declared.views.View.{View}
 use Rattle.gate_world.specs.Views.{held_at, holds_level, phase_after, view_with}
 use Rattle.gate_world.specs.Fits.{Fits}
-use Rattle.gate_world.specs.Worlds.{World, shown}
-use Rattle.gate_world.specs.Rules.{want_role, role_of, at_mount, owns, Good, StepKeeps}
+use Rattle.gate_world.specs.Worlds.{World, shown, closing}
+use Rattle.gate_world.specs.Rules.{want_role, role_of, at_mount, owns, remounts, Steady, Good, StepKeeps}
 use Rattle.gate_frames.proofs.Frames.{role_on, role_off, view_as, holds_as, owner_same, good_after, shown_as}
-use Rattle.gate_frames.proofs.Loads.{Counts, counts, loaded, load_law, role_now, off_now, fits_now, closes_none, remounts_none}
+use Rattle.gate_frames.proofs.Loads.{Counts, counts, as_owner, loaded, load_law, fits_now}
 
 abbrev pub want : ℕ → ℕ → Bool → WantStep → MountPhase
 want m p wait step = Wants (record { mount = m; cpu = p; wait = wait; step = step })
+
+-- a want has its role at its own mount, and none at others
+pub want_here : {q : Option Phase} (m p : ℕ) (wait : Bool) (s : WantStep) → q ≡ Some (Mounts (want m p wait s)) → role_of m q ≡ want_role p s
+want_here m p wait s e = ap (role_of m) e ∙ role_on m (want_role p s)
+
+pub want_off : {q : Option Phase} (m p : ℕ) (wait : Bool) (s : WantStep) → q ≡ Some (Mounts (want m p wait s)) → (y : ℕ) → (y ≡ m → ⊥) → role_of y q ≡ Out
+want_off m p wait s e y ne = ap (role_of y) e ∙ role_off y m (want_role p s) ne
 
 module _ (c : Config) (w : World) (good : Good c w) (t : ℕ) (lt : t < c.tasks) (m p : ℕ) (wait : Bool) (hook : HookAnswer) where
   -- the mount's predicate, of this task
@@ -53,11 +60,11 @@ module _ (c : Config) (w : World) (good : Good c w) (t : ℕ) (lt : t < c.tasks)
       Good c (loaded w t name hook coming) × (shown c (loaded w t name hook coming) ≡ shown c w)
   want_load name s s' coming e ec s1 s2 st st' sk sums one flag re =
       let f : (m < c.mounts) × (p < c.processors) × (held_at (w.views t) m < 1024) = fits_now c w good t lt (want m p wait s) e in
-      let n : Counts (role_of m (w.views t).phase) (want_role p s) = counts (role_now c w good t lt (want m p wait s) e) in
-      let er : role_of m (phase_after coming) ≡ want_role p s' = ap (role_of m) ec ∙ role_on m (want_role p s') in
-      load_law c w good t lt name hook (want m p wait s) coming e (λ y ne. ap (role_of y) ec ∙ role_off y m (want_role p s') ne) (ap owns ec)
+      let n : Counts (role_of m (w.views t).phase) (want_role p s) = counts (want_here m p wait s e) in
+      load_law c w good t lt m name hook coming (λ y ne. want_off m p wait s' ec y ne ∙ sym (want_off m p wait s e y ne))
+      (as_owner (want m p wait s) e (ap owns ec) (ap remounts ec) (λ i. ap (closing i) ec))
       (subst (Fits c t (held_at (w.views t)) (holds_level (w.views t))) (sym ec) f)
-      (λ lm. holds_as refl refl refl refl (ap (changed (λ x. at_mount m (w.views x)) t) (view_as refl refl refl er))
+      (λ lm. holds_as refl refl refl refl (ap (changed (λ x. at_mount m (w.views x)) t) (view_as refl refl refl (want_here m p wait s' ec)))
       (moves c.tasks c.processors (w.words.flags m) w.words.remount w.words.sb (w.words.count m) (λ x. at_mount m (w.views x)) (here lm) t lt (want_role p s') (held_at (w.views t) m)
       (omega (arith, n.sought_is)) (omega (arith, f.2, one)) st' sk (omega (arith, n.stands_is))
       (elim sums [ inl z ↦ inl z | inr q ↦ inr (omega (arith, q, n.passed_is), λ k. (omega (arith, q.1 k, n.passed_is, n.unread_is k), omega (arith, q.1 k, n.unread_is k))) ])
@@ -110,7 +117,7 @@ module _ (c : Config) (w : World) (good : Good c w) (t : ℕ) (lt : t < c.tasks)
   not_read_only : (w.views t).phase ≡ Some (Mounts (want m p wait LoadsSuperblock)) → w.words.sb ≡ 0 → m < c.mounts →
       ((shown c w).mount_ro m ≡ false) × ((shown c w).sb_ro ≡ false)
   not_read_only e z lm =
-      let n : Counts (role_of m (w.views t).phase) (PastFlags p) = counts (role_now c w good t lt (want m p wait LoadsSuperblock) e) in
+      let n : Counts (role_of m (w.views t).phase) (PastFlags p) = counts (want_here m p wait LoadsSuperblock e) in
       let g : MountHolds c.tasks c.processors (w.words.flags m) w.words.remount w.words.sb (w.words.count m) (λ x. at_mount m (w.views x)) = good.mount m lm in
       let open_now : ro_bit (w.words.flags m) ≡ 1 → ⊥ = λ q. omega (arith, g.closed q, n.flags_is, total_at c.tasks t (λ x. held_at (w.views x) m + past_flags (role_of m (w.views x).phase)) lt) in
       let writable : w.words.remount ≡ 1 → ⊥ = λ q.
@@ -124,17 +131,18 @@ module _ (c : Config) (w : World) (good : Good c w) (t : ℕ) (lt : t < c.tasks)
       elim (eqb_tells w.words.sb 0) [
         | inl h ↦
             let v : View = view_with (w.views t) (SbFlags, Load) w.words.sb hook (Done (Ok UnitReply), Some (Grant (Mount m))) in
-            let n : Counts (role_of m (w.views t).phase) (PastFlags p) = counts (role_now c w good t lt (want m p wait LoadsSuperblock) e) in
+            let n : Counts (role_of m (w.views t).phase) (PastFlags p) = counts (want_here m p wait LoadsSuperblock e) in
+            let same : Steady (w.views t).phase None = as_owner (want m p wait LoadsSuperblock) e refl refl (λ i. refl) in
             let r : ((shown c w).mount_ro m ≡ false) × ((shown c w).sb_ro ≡ false) = not_read_only e h.1 f.0 in
             let there : Good c (record { words = w.words; views = changed w.views t v }) =
             good_after c w t lt good m w.words v refl refl
-            (owner_same c w t lt good v (sym (ap owns e)) (sym (remounts_none (w.views t).phase))) tt
-            (λ y ne. (refl, refl, view_as (changed_off (held_at (w.views t)) m (held_at (w.views t) m + 1) y ne) refl refl (sym (off_now c w good t lt (want m p wait LoadsSuperblock) e y ne))))
+            (owner_same c w t lt good v same) tt
+            (λ y ne. (refl, refl, view_as (changed_off (held_at (w.views t)) m (held_at (w.views t) m + 1) y ne) refl refl (sym (want_off m p wait LoadsSuperblock e y ne))))
             (λ lm. holds_as refl refl refl refl (ap (changed (λ x. at_mount m (w.views x)) t) (view_as (changed_at (held_at (w.views t)) m (held_at (w.views t) m + 1)) refl refl refl))
             (moves c.tasks c.processors (w.words.flags m) w.words.remount w.words.sb (w.words.count m) (λ x. at_mount m (w.views x)) (good.mount m lm) t lt Out (held_at (w.views t) m + 1)
             (omega (arith, n.sought_is)) (omega (arith, f.2)) refl refl (omega (arith, n.stands_is))
             (inr (omega (arith, n.passed_is), λ k. (omega (arith, n.passed_is, n.unread_is k), omega (arith, n.unread_is k))))
             (λ e1. omega (arith, n.flags_is)) (λ e1 e2 e3. omega (arith, n.remount_is)) (λ e1. absurd (omega (arith, h.1, e1))))) in
-            rw h.0 (there, ((lt, (f.0, r.0, r.1, f.2)), shown_as c w t lt w.words v refl (λ i. sym (closes_none i (w.views t).phase))))
+            rw h.0 (there, ((lt, (f.0, r.0, r.1, f.2)), shown_as c w t lt w.words v refl same.closing_same))
         | inr h ↦ rw h.0 (want_refused c w good t lt m p wait hook SbFlags LoadsSuperblock ReadOnly e refl refl (λ k. (unread_le k (BackingOff p), omega arith)))
       ]
