@@ -23,7 +23,7 @@ use Rattle.gate_world.specs.Views.{holds_level, phase_after}
 use Rattle.gate_world.specs.Fits.{SumFits}
 use Rattle.gate_world.specs.Work.{after_of}
 use Rattle.gate_world.specs.Worlds.{World, holds_none, found_at}
-use Rattle.gate_world.specs.Rules.{Good}
+use Rattle.gate_world.specs.Rules.{Good, Owner, Superblock, AtMount}
 use Rattle.gate_world.specs.Causes.{asks, last_question, was_read_only, words_read, moments_of_sum, all_counted, was_counted}
 use Rattle.gate_frames.proofs.Loads.{fits_now}
 use Rattle.cause_laws.specs.Rules.{WantCause, ChangeCause, CauseOf}
@@ -112,19 +112,19 @@ module _ (c : Config) (t : ℕ) (lt : t < c.tasks) (w next : World) (earlier : L
       elim (eqb_tells w.words.remount 0) [
         | inl h ↦ rw h.0 tt
         | inr h ↦
-            let one : w.words.remount ≡ 1 = omega (arith, h.1, good.owner.bit) in
+            let one : w.words.remount ≡ 1 = omega (arith, h.1, (good Owner).bit) in
             rw h.0 (asked m p wait LoadsRemount e refl (rw h.0 at e') (rw (eq-eqb w.words.remount 1 one, or_true (ro_bit (w.words.flags m) == 1)) refl))
       ]
   want_own m p wait LoadsReadOnly lm e e' =
       elim (cases_Bool (has_flag (w.words.flags m) 1)) [
-        | inl h ↦ rw h (asked m p wait LoadsReadOnly e refl (rw h at e') (rw (eq-eqb (ro_bit (w.words.flags m)) 1 (read_only_set (w.words.flags m) (good.mount m lm).bits h)) refl))
+        | inl h ↦ rw h (asked m p wait LoadsReadOnly e refl (rw h at e') (rw (eq-eqb (ro_bit (w.words.flags m)) 1 (read_only_set (w.words.flags m) (good (AtMount m) lm).bits h)) refl))
         | inr h ↦ rw h tt
       ]
   want_own m p wait LoadsSuperblock lm e e' =
       elim (eqb_tells w.words.sb 0) [
         | inl h ↦ rw h.0 tt
         | inr h ↦
-            let one : w.words.sb ≡ 1 = omega (arith, h.1, good.superblock) in
+            let one : w.words.sb ≡ 1 = omega (arith, h.1, good Superblock) in
             rw h.0 (asked m p wait LoadsSuperblock e refl (rw h.0 at e') (rw (eq-eqb w.words.sb 1 one, or_true (w.words.remount == 1), or_true (ro_bit (w.words.flags m) == 1)) refl))
       ]
   want_own m p wait (CountsDown refusal) lm e e' = tt

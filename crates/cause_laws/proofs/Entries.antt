@@ -24,7 +24,7 @@ use Rattle.gate_world.specs.Views.{held_at, holds_level, phase_after, begun_view
 use Rattle.gate_world.specs.Fits.{Fits}
 use Rattle.gate_world.specs.Work.{after_of}
 use Rattle.gate_world.specs.Worlds.{World, Entry, Begins, Steps, first_phase, view_refusal, begun, begin_of, stepped, step_of, value_at, found_at, happens, run}
-use Rattle.gate_world.specs.Rules.{Good}
+use Rattle.gate_world.specs.Rules.{Good, Fitting}
 use Rattle.gate_world.specs.Causes.{trail, all_counted, HasCause}
 use Rattle.gate_frames.proofs.Frames.{load_same}
 use Rattle.cause_laws.specs.Rules.{WantCause, ChangeCause, CauseOf, Causes}
@@ -42,7 +42,7 @@ module _ (c : Config) (w : World) (earlier : List World) (good : Good c w) (hold
 
     pub alone : next.views t ≡ w.views t → CauseOf c t next (w ∷ earlier) (next.views t).phase
     alone same = kept (next.views t).phase
-        (subst (λ (v : View). Fits c t (held_at (w.views t)) (holds_level (w.views t)) v.phase) (sym same) (good.fits t lt)) refl (ap (λ (v : View). v.phase) (sym same))
+        (subst (λ (v : View). Fits c t (held_at (w.views t)) (holds_level (w.views t)) v.phase) (sym same) (good Fitting t lt)) refl (ap (λ (v : View). v.phase) (sym same))
         (subst (λ (v : View). CauseOf c t w earlier v.phase) (sym same) (holds t lt))
 
   -- an event of a change leaves the counts
@@ -62,11 +62,11 @@ module _ (c : Config) (w : World) (earlier : List World) (good : Good c w) (hold
       ((stepped w t (Mounts phase) hook).views t).phase ≡ phase_after (after_of (Mounts phase) (found_at w.words (Mounts phase) hook) hook).0 →
       CauseOf c t (stepped w t (Mounts phase) hook) (w ∷ earlier) (phase_after (after_of (Mounts phase) (found_at w.words (Mounts phase) hook) hook).0)
   own t lt hook (Wants x) e after is =
-      let f : Fits c t (held_at (w.views t)) (holds_level (w.views t)) (Some (Mounts (Wants x))) = subst (Fits c t (held_at (w.views t)) (holds_level (w.views t))) e (good.fits t lt) in
+      let f : Fits c t (held_at (w.views t)) (holds_level (w.views t)) (Some (Mounts (Wants x))) = subst (Fits c t (held_at (w.views t)) (holds_level (w.views t))) e (good Fitting t lt) in
       want_own c t lt w (stepped w t (Mounts (Wants x)) hook) earlier good after hook x.mount x.cpu x.wait x.step f.0 e is
   own t lt hook (Drops m p) e after is = tt
   own t lt hook (Changes x) e after is =
-      let f : Fits c t (held_at (w.views t)) (holds_level (w.views t)) (Some (Mounts (Changes x))) = subst (Fits c t (held_at (w.views t)) (holds_level (w.views t))) e (good.fits t lt) in
+      let f : Fits c t (held_at (w.views t)) (holds_level (w.views t)) (Some (Mounts (Changes x))) = subst (Fits c t (held_at (w.views t)) (holds_level (w.views t))) e (good Fitting t lt) in
       change_own c t lt w (stepped w t (Mounts (Changes x)) hook) earlier good after hook x.mount x.read_only x.wait x.task x.processors x.step f.0 e
       (ap (λ g. g x.mount) (change_counts t hook x.mount x.read_only x.wait x.task x.processors x.step))
       (subst (CauseOf c t w earlier) e (holds t lt)) is

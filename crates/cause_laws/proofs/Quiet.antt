@@ -23,7 +23,7 @@ use Rattle.gate_world.specs.declared.work.Phase.TheVariants.{Mounts}
 use Rattle.gate_world.specs.declared.views.View.{View}
 use Rattle.gate_world.specs.Views.{held_at, view_after}
 use Rattle.gate_world.specs.Worlds.{World, stepped}
-use Rattle.gate_world.specs.Rules.{role_of, at_mount, Good}
+use Rattle.gate_world.specs.Rules.{role_of, at_mount, Good, AtMount}
 use Rattle.gate_world.specs.Causes.{all_counted, was_counted}
 use Rattle.gate_frames.proofs.Frames.{load_same, role_on}
 use Rattle.gate_frames.proofs.Loads.{fits_now}
@@ -101,7 +101,7 @@ module _ (c : Config) (w : World) (good : Good c w) (t : ℕ) (lt : t < c.tasks)
 -- where nothing is counted, a sum that begins leads by 0
 pub fresh_lead : (c : Config) (w : World) → Good c w → (m : ℕ) → m < c.mounts → all_counted c m w ≡ 0 → lead c.processors (w.words.count m) 0 0 ≡ 0
 fresh_lead c w good m lm none =
-    let g : MountHolds c.tasks c.processors (w.words.flags m) w.words.remount w.words.sb (w.words.count m) (λ x. at_mount m (w.views x)) = good.mount m lm in
+    let g : MountHolds c.tasks c.processors (w.words.flags m) w.words.remount w.words.sb (w.words.count m) (λ x. at_mount m (w.views x)) = good (AtMount m) lm in
     let s : total c.processors (w.words.count m) % 18446744073709551616 ≡ all_counted c m w % 18446744073709551616 = gate_sum c.tasks c.processors (w.words.count m) (λ x. at_mount m (w.views x)) g.counts in
     let a : ahead c.processors (w.words.count m) 0 ≡ total c.processors (w.words.count m) = ahead_none c.processors (w.words.count m) in
     omega (arith, s, a, none)

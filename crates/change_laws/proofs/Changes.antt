@@ -31,7 +31,7 @@ use Rattle.gate_world.specs.Configs.{IsWithin}
 use Rattle.gate_world.specs.Views.{held_at, holds_level, added_by, taken_by, view_with}
 use Rattle.gate_world.specs.Fits.{SumFits}
 use Rattle.gate_world.specs.Worlds.{World, holds_none, shown, closing}
-use Rattle.gate_world.specs.Rules.{change_role, role_of, at_mount, change_owns, owns, remounts, Steady, OwnerHolds, ViewFits, Good, StepKeeps}
+use Rattle.gate_world.specs.Rules.{change_role, role_of, at_mount, change_owns, owns, remounts, Steady, OwnerHolds, ViewFits, Good, GateStepKeeps, Owner, AtMount, GatesHold}
 use Rattle.gate_frames.proofs.Frames.{changed_map, changed_same, role_on, role_off, view_as, holds_as, owner_same, shown_as, shown_still}
 use Rattle.gate_frames.proofs.Loads.{as_owner, loaded, load_law, role_none, fits_now}
 use Rattle.change_laws.proofs.Owner.{change, no_remount, no_hold, no_skip, still, flag_law}
@@ -73,10 +73,10 @@ module _ (c : Config) (lim : IsWithin c) (w : World) (good : Good c w) (t : ℕ)
       flags_shown f (ro_bit (w.words.flags m) == 1) v same (ap (λ x. x == 1) h) eh el ∙
       (λ j. record (shown c w) { mount_ro = changed_same (λ n. ro_bit (w.words.flags n) == 1) m j })
 
-  pub clears_read_only : (w.views t).phase ≡ Some (Mounts (here ClearsReadOnly)) → StepKeeps c w t hook (Mounts (here ClearsReadOnly))
+  pub clears_read_only : (w.views t).phase ≡ Some (Mounts (here ClearsReadOnly)) → GateStepKeeps c w t hook (Mounts (here ClearsReadOnly))
   clears_read_only e =
       let f : HereFits ClearsReadOnly = fits_now c w good t lt (here ClearsReadOnly) e in
-      let g : MountHolds c.tasks c.processors (w.words.flags m) w.words.remount w.words.sb (w.words.count m) (λ x. at_mount m (w.views x)) = good.mount m f.0 in
+      let g : MountHolds c.tasks c.processors (w.words.flags m) w.words.remount w.words.sb (w.words.count m) (λ x. at_mount m (w.views x)) = good (AtMount m) f.0 in
       let word : ℕ = bit_and (w.words.flags m) 18446744073709551614 in
       let b : (word < 4) × (ro_bit word ≡ 0) × (hold_bit word ≡ hold_bit (w.words.flags m)) = and_not_read_only (w.words.flags m) g.bits in
       let v : View = view_with (w.views t) (MountFlags m, And 18446744073709551614) (w.words.flags m) hook (Go (Mounts (here (Releases (Ok UnitReply)))), Some (MountRw m)) in
@@ -89,10 +89,10 @@ module _ (c : Config) (lim : IsWithin c) (w : World) (good : Good c w) (t : ℕ)
         ((lt, f.0), flags_shown word false v same (ne_eqb (ro_bit word) 1 (λ q. omega (arith, b, q))) refl refl),
       )
 
-  pub sets_hold : (w.views t).phase ≡ Some (Mounts (here SetsHold)) → StepKeeps c w t hook (Mounts (here SetsHold))
+  pub sets_hold : (w.views t).phase ≡ Some (Mounts (here SetsHold)) → GateStepKeeps c w t hook (Mounts (here SetsHold))
   sets_hold e =
       let f : HereFits SetsHold = fits_now c w good t lt (here SetsHold) e in
-      let g : MountHolds c.tasks c.processors (w.words.flags m) w.words.remount w.words.sb (w.words.count m) (λ x. at_mount m (w.views x)) = good.mount m f.0 in
+      let g : MountHolds c.tasks c.processors (w.words.flags m) w.words.remount w.words.sb (w.words.count m) (λ x. at_mount m (w.views x)) = good (AtMount m) f.0 in
       let word : ℕ = bit_or (w.words.flags m) 2 in
       let b : (word < 4) × (ro_bit word ≡ ro_bit (w.words.flags m)) × (hold_bit word ≡ 1) = or_hold (w.words.flags m) g.bits in
       let v : View = view_with (w.views t) (MountFlags m, Or 2) (w.words.flags m) hook (Go (Mounts (here (Sums record { words = 0; total = 0 }))), None) in
@@ -107,10 +107,10 @@ module _ (c : Config) (lim : IsWithin c) (w : World) (good : Good c w) (t : ℕ)
         stays_shown word v same b.1 refl refl,
       )
 
-  pub sets_read_only : (w.views t).phase ≡ Some (Mounts (here SetsReadOnly)) → StepKeeps c w t hook (Mounts (here SetsReadOnly))
+  pub sets_read_only : (w.views t).phase ≡ Some (Mounts (here SetsReadOnly)) → GateStepKeeps c w t hook (Mounts (here SetsReadOnly))
   sets_read_only e =
       let f : HereFits SetsReadOnly = fits_now c w good t lt (here SetsReadOnly) e in
-      let g : MountHolds c.tasks c.processors (w.words.flags m) w.words.remount w.words.sb (w.words.count m) (λ x. at_mount m (w.views x)) = good.mount m f.0 in
+      let g : MountHolds c.tasks c.processors (w.words.flags m) w.words.remount w.words.sb (w.words.count m) (λ x. at_mount m (w.views x)) = good (AtMount m) f.0 in
       let word : ℕ = bit_or (w.words.flags m) 1 in
       let b : (word < 4) × (ro_bit word ≡ 1) × (hold_bit word ≡ hold_bit (w.words.flags m)) = or_read_only (w.words.flags m) g.bits in
       let v : View = view_with (w.views t) (MountFlags m, Or 1) (w.words.flags m) hook (Go (Mounts (here (ClearsHold (Ok UnitReply)))), Some (MountRo m)) in
@@ -126,10 +126,10 @@ module _ (c : Config) (lim : IsWithin c) (w : World) (good : Good c w) (t : ℕ)
         ((lt, (f.0, λ x lx. omega (arith, nobody x lx))), flags_shown word true v same (eq-eqb (ro_bit word) 1 b.1) refl refl),
       )
 
-  pub clears_hold : (answer : Result Reply GateError) → (w.views t).phase ≡ Some (Mounts (here (ClearsHold answer))) → StepKeeps c w t hook (Mounts (here (ClearsHold answer)))
+  pub clears_hold : (answer : Result Reply GateError) → (w.views t).phase ≡ Some (Mounts (here (ClearsHold answer))) → GateStepKeeps c w t hook (Mounts (here (ClearsHold answer)))
   clears_hold answer e =
       let f : HereFits (ClearsHold answer) = fits_now c w good t lt (here (ClearsHold answer)) e in
-      let g : MountHolds c.tasks c.processors (w.words.flags m) w.words.remount w.words.sb (w.words.count m) (λ x. at_mount m (w.views x)) = good.mount m f.0 in
+      let g : MountHolds c.tasks c.processors (w.words.flags m) w.words.remount w.words.sb (w.words.count m) (λ x. at_mount m (w.views x)) = good (AtMount m) f.0 in
       let word : ℕ = bit_and (w.words.flags m) 18446744073709551613 in
       let b : (word < 4) × (ro_bit word ≡ ro_bit (w.words.flags m)) × (hold_bit word ≡ 0) = and_not_hold (w.words.flags m) g.bits in
       let v : View = view_with (w.views t) (MountFlags m, And 18446744073709551613) (w.words.flags m) hook (Go (Mounts (here (Releases answer))), None) in
@@ -146,20 +146,20 @@ module _ (c : Config) (lim : IsWithin c) (w : World) (good : Good c w) (t : ℕ)
   sum_load : (sum : Sum) (s : ChangeStep) → (w.views t).phase ≡ Some (Mounts (here (Sums sum))) → change_owns s ≡ 1 → stands (change_role s) ≡ 1 → Quiet (change_role s) → SumFits c s →
       (m < c.mounts → RoleHolds c.tasks c.processors (w.words.flags m) (w.words.count m) (λ x. at_mount m (w.views x)) (change_role s)) →
       let coming : Next Phase = Go (Mounts (here s)) in
-      Good c (loaded w t (MountCount m sum.words) hook coming) × (shown c (loaded w t (MountCount m sum.words) hook coming) ≡ shown c w)
+      GatesHold c (loaded w t (MountCount m sum.words) hook coming) × (shown c (loaded w t (MountCount m sum.words) hook coming) ≡ shown c w)
   sum_load sum s e o st quiet fit lead_now =
       let f : HereFits (Sums sum) = fits_now c w good t lt (here (Sums sum)) e in
       let r : role_of m (w.views t).phase ≡ Summing sum.words sum.total = role_here (Sums sum) e in
       load_law c w good t lt m (MountCount m sum.words) hook (Go (Mounts (here s))) (λ y ne. role_off y m (change_role s) ne ∙ sym (role_there (Sums sum) e y ne)) (as_owner (here (Sums sum)) e o refl (λ i. refl)) (f.0, f.1, f.2, f.3, fit)
-      (λ lm. let g : MountHolds c.tasks c.processors (w.words.flags m) w.words.remount w.words.sb (w.words.count m) (λ x. at_mount m (w.views x)) = good.mount m lm in
+      (λ lm. let g : MountHolds c.tasks c.processors (w.words.flags m) w.words.remount w.words.sb (w.words.count m) (λ x. at_mount m (w.views x)) = good (AtMount m) lm in
       holds_as refl refl refl refl (ap (changed (λ x. at_mount m (w.views x)) t) (view_as refl refl refl (role_on m (change_role s))))
       (owner_moves c.tasks c.processors (w.words.flags m) w.words.remount w.words.sb (w.words.count m) (λ x. at_mount m (w.views x)) g t lt (change_role s) (w.words.flags m)
       (subst Quiet (sym r) (quiet_sums sum.words sum.total)) quiet g.bits (omega (arith, st, ap stands r)) g.closed g.remounting (λ x lx ne q z. z) (lead_now lm)))
 
-  pub sums : (sum : Sum) → (w.views t).phase ≡ Some (Mounts (here (Sums sum))) → StepKeeps c w t hook (Mounts (here (Sums sum)))
+  pub sums : (sum : Sum) → (w.views t).phase ≡ Some (Mounts (here (Sums sum))) → GateStepKeeps c w t hook (Mounts (here (Sums sum)))
   sums sum e =
       let f : HereFits (Sums sum) = fits_now c w good t lt (here (Sums sum)) e in
-      let g : MountHolds c.tasks c.processors (w.words.flags m) w.words.remount w.words.sb (w.words.count m) (λ x. at_mount m (w.views x)) = good.mount m f.0 in
+      let g : MountHolds c.tasks c.processors (w.words.flags m) w.words.remount w.words.sb (w.words.count m) (λ x. at_mount m (w.views x)) = good (AtMount m) f.0 in
       let k : ℕ = sum.words in
       let s : ℕ = sum.total in
       let found : ℕ = w.words.count m k in
@@ -183,25 +183,25 @@ module _ (c : Config) (lim : IsWithin c) (w : World) (good : Good c w) (t : ℕ)
   owner_word : (n : ℕ) (v : View) → OwnerHolds c.tasks n w.words.remount (λ x. (changed w.views t v x).phase) → ViewFits c t v →
       held_at v ≡ held_at (w.views t) → holds_level v ≡ holds_level (w.views t) → added_by v.events ≡ added_by (w.views t).events → taken_by v.events ≡ taken_by (w.views t).events → ((y : ℕ) → role_of y v.phase ≡ role_of y (w.views t).phase) → ((i : ℕ) → closing i v.phase ≡ closing i (w.views t).phase) →
       let next_world : World = record { words = record w.words { umount = n }; views = changed w.views t v } in
-      Good c next_world × (shown c next_world ≡ shown c w)
+      GatesHold c next_world × (shown c next_world ≡ shown c w)
   owner_word n v owner fits held levels added taken role close = (
     still c w good t lt (record w.words { umount = n }) v refl refl refl refl owner fits (λ y. view_as (ap (λ g. g y) held) (ap (λ g. g y) added) (ap (λ g. g y) taken) (role y)),
     shown_still c w t lt (record w.words { umount = n }) v refl refl refl refl refl refl close held levels,
   )
 
   remounts_same : (v : View) → remounts v.phase ≡ remounts (w.views t).phase → w.words.remount ≡ total c.tasks (λ x. remounts (changed w.views t v x).phase)
-  remounts_same v same = omega (arith, good.owner.remounting, same, total_changed (λ (u : View). remounts u.phase) c.tasks t w.views v lt)
+  remounts_same v same = omega (arith, (good Owner).remounting, same, total_changed (λ (u : View). remounts u.phase) c.tasks t w.views v lt)
 
-  pub releases : (answer : Result Reply GateError) → (w.views t).phase ≡ Some (Mounts (here (Releases answer))) → StepKeeps c w t hook (Mounts (here (Releases answer)))
+  pub releases : (answer : Result Reply GateError) → (w.views t).phase ≡ Some (Mounts (here (Releases answer))) → GateStepKeeps c w t hook (Mounts (here (Releases answer)))
   releases answer e =
       let v : View = view_with (w.views t) (Umount, Store 0) w.words.umount hook (Done answer, None) in
-      let mine : w.words.umount ≡ suc t = good.owner.locked t lt (ap owns e) in
+      let mine : w.words.umount ≡ suc t = (good Owner).locked t lt (ap owns e) in
       owner_word 0 v
       (record {
-        locked = λ x lx. each_changed (λ y (u : View). y < c.tasks → owns u.phase ≡ 1 → 0 ≡ suc y) w.views t v x (λ l q. absurd (omega arith)) (λ ne l q. absurd (ne (omega (arith, mine, good.owner.locked x l q)))) lx;
+        locked = λ x lx. each_changed (λ y (u : View). y < c.tasks → owns u.phase ≡ 1 → 0 ≡ suc y) w.views t v x (λ l q. absurd (omega arith)) (λ ne l q. absurd (ne (omega (arith, mine, (good Owner).locked x l q)))) lx;
         owned = λ x lx. each_changed (λ y (u : View). y < c.tasks → 0 ≡ suc y → owns u.phase ≡ 1) w.views t v x (λ l q. absurd (omega arith)) (λ ne l q. absurd (omega arith)) lx;
         known = omega arith;
-        bit = good.owner.bit;
+        bit = (good Owner).bit;
         remounting = remounts_same v (sym (ap remounts e));
       }) tt refl refl refl refl (λ y. sym (ap (role_of y) e ∙ role_none y m)) (λ i. sym (ap (closing i) e))
 
@@ -213,7 +213,7 @@ module _ (c : Config) (lim : IsWithin c) (w : World) (good : Good c w) (t : ℕ)
       let e : Event = record { word = Umount; touch = Cas 0 (task + 1); found = w.words.umount; left = n } in
       record (w.views t) { phase = phase; events = e ∷ (w.views t).events; trace = record { event = e; hook = hook } ∷ (w.views t).trace }
 
-  lock_taken : (wait : Bool) → (w.views t).phase ≡ Some (Mounts (change m ro wait task processors Locks)) → (w.words.umount == 0) ≡ false → StepKeeps c w t hook (Mounts (change m ro wait task processors Locks))
+  lock_taken : (wait : Bool) → (w.views t).phase ≡ Some (Mounts (change m ro wait task processors Locks)) → (w.words.umount == 0) ≡ false → GateStepKeeps c w t hook (Mounts (change m ro wait task processors Locks))
   lock_taken true e h =
       let f : (m < c.mounts) × (task ≡ t) × (processors ≡ c.processors) × (holds_none (holds_level (w.views t)) ≡ true) × SumFits c Locks = fits_now c w good t lt (change m ro true task processors Locks) e in
       let v : View = tried w.words.umount (Some (Mounts (change m ro true task processors Locks))) in
@@ -222,7 +222,7 @@ module _ (c : Config) (lim : IsWithin c) (w : World) (good : Good c w) (t : ℕ)
       let v : View = tried w.words.umount None in
       rw h (owner_word c lim w good t lt m ro false task processors hook w.words.umount v (owner_same c w t lt good v (as_owner (change m ro false task processors Locks) e refl refl (λ i. refl))) tt refl refl refl refl (λ y. sym (ap (role_of y) e ∙ role_none y m)) (λ i. sym (ap (closing i) e)))
 
-  pub locks : (wait : Bool) → (w.views t).phase ≡ Some (Mounts (change m ro wait task processors Locks)) → StepKeeps c w t hook (Mounts (change m ro wait task processors Locks))
+  pub locks : (wait : Bool) → (w.views t).phase ≡ Some (Mounts (change m ro wait task processors Locks)) → GateStepKeeps c w t hook (Mounts (change m ro wait task processors Locks))
   locks wait e =
       let f : (m < c.mounts) × (task ≡ t) × (processors ≡ c.processors) × (holds_none (holds_level (w.views t)) ≡ true) × SumFits c Locks = fits_now c w good t lt (change m ro wait task processors Locks) e in
       elim (eqb_tells w.words.umount 0) [
@@ -230,10 +230,10 @@ module _ (c : Config) (lim : IsWithin c) (w : World) (good : Good c w) (t : ℕ)
             let v : View = tried (task + 1) (Some (Mounts (change m ro wait task processors LoadsFlags))) in
             owner_word c lim w good t lt m ro wait task processors hook (task + 1) v
             (record {
-              locked = λ x lx. each_changed (λ y (u : View). y < c.tasks → owns u.phase ≡ 1 → task + 1 ≡ suc y) w.views t v x (λ l q. omega (arith, f.1)) (λ ne l q. absurd (omega (arith, h.1, good.owner.locked x l q))) lx;
+              locked = λ x lx. each_changed (λ y (u : View). y < c.tasks → owns u.phase ≡ 1 → task + 1 ≡ suc y) w.views t v x (λ l q. omega (arith, f.1)) (λ ne l q. absurd (omega (arith, h.1, (good Owner).locked x l q))) lx;
               owned = λ x lx. each_changed (λ y (u : View). y < c.tasks → task + 1 ≡ suc y → owns u.phase ≡ 1) w.views t v x (λ l q. refl) (λ ne l q. absurd (ne (omega (arith, f.1)))) lx;
               known = omega (arith, lt, f.1);
-              bit = good.owner.bit;
+              bit = (good Owner).bit;
               remounting = remounts_same c lim w good t lt m ro wait task processors hook v (sym (ap remounts e));
             }) (f.0, f.1, f.2, f.3, tt) refl refl refl refl (λ y. role_none y m ∙ sym (ap (role_of y) e ∙ role_none y m)) (λ i. sym (ap (closing i) e)))
         | inr h ↦ lock_taken wait e h.0

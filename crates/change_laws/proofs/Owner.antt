@@ -26,8 +26,8 @@ use Rattle.gate_world.specs.declared.views.View.{View}
 use Rattle.gate_world.specs.Views.{held_at, holds_level, added_by, taken_by}
 use Rattle.gate_world.specs.Fits.{SumFits}
 use Rattle.gate_world.specs.Worlds.{World, holds_none, shown}
-use Rattle.gate_world.specs.Rules.{want_role, change_role, role_if, role_of, at_mount, change_owns, owns, remounts, Steady, OwnerHolds, ViewFits, Good, StepKeeps}
-use Rattle.gate_frames.proofs.Frames.{changed_same, view_as, holds_as, owner_same, good_after}
+use Rattle.gate_world.specs.Rules.{want_role, change_role, role_if, role_of, at_mount, change_owns, owns, remounts, Steady, OwnerHolds, ViewFits, Good, GateStepKeeps, Owner, AtMount, GatesHold}
+use Rattle.gate_frames.proofs.Frames.{changed_same, view_as, holds_as, owner_same, gates_after}
 use Rattle.gate_frames.proofs.Loads.{as_owner, loaded, load_law, role_none, fits_now}
 
 abbrev pub change : ℕ → Bool → Bool → ℕ → ℕ → ChangeStep → MountPhase
@@ -79,7 +79,7 @@ module _ (c : Config) (w : World) (good : Good c w) (t : ℕ) (lt : t < c.tasks)
   -- nobody else owns
   pub alone : (x : ℕ) → x < c.tasks → (x ≡ t → ⊥) → owns (w.views t).phase ≡ 1 → owns (w.views x).phase ≡ 0
   alone x lx ne o =
-      let both : owns (w.views x).phase ≡ 1 → ⊥ = λ q. let a : w.words.umount ≡ suc x = good.owner.locked x lx q in let b : w.words.umount ≡ suc t = good.owner.locked t lt o in ne (omega arith) in
+      let both : owns (w.views x).phase ≡ 1 → ⊥ = λ q. let a : w.words.umount ≡ suc x = (good Owner).locked x lx q in let b : w.words.umount ≡ suc t = (good Owner).locked t lt o in ne (omega arith) in
       omega (arith, both, owns_le (w.views x).phase)
 
   -- an owner that hasn't `remount` set finds it clear
@@ -90,12 +90,12 @@ module _ (c : Config) (w : World) (good : Good c w) (t : ℕ) (lt : t < c.tasks)
         | inl h ↦ ap (λ y. remounts (w.views y).phase) h.1 ∙ z
         | inr h ↦ omega (arith, alone x lx h.1 o, remounts_owns (w.views x).phase)
       ]) in
-      omega (arith, good.owner.remounting, q, none)
+      omega (arith, (good Owner).remounting, q, none)
 
   -- an owner that doesn't hold finds no hold flag
   pub no_hold : (m : ℕ) → m < c.mounts → owns (w.views t).phase ≡ 1 → stands (role_of m (w.views t).phase) ≡ 0 → hold_bit (w.words.flags m) ≡ 0
   no_hold m lm o z =
-      sym (good.mount m lm).hold ∙ total_none c.tasks (λ x. stands (role_of m (w.views x).phase)) (λ x lx.
+      sym (good (AtMount m) lm).hold ∙ total_none c.tasks (λ x. stands (role_of m (w.views x).phase)) (λ x lx.
       elim (eqb_tells x t) [
         | inl h ↦ ap (λ y. stands (role_of m (w.views y).phase)) h.1 ∙ z
         | inr h ↦ omega (arith, alone x lx h.1 o, stands_owns m (w.views x).phase)
@@ -108,32 +108,32 @@ module _ (c : Config) (w : World) (good : Good c w) (t : ℕ) (lt : t < c.tasks)
   -- an event of a task that counts nowhere before it and after it
   pub still : (ws : Words) (v : View) → ws.remount ≡ w.words.remount → ws.sb ≡ w.words.sb → ws.flags ≡ w.words.flags → ws.count ≡ w.words.count →
       OwnerHolds c.tasks ws.umount ws.remount (λ x. (changed w.views t v x).phase) → ViewFits c t v →
-      ((y : ℕ) → at_mount y v ≡ at_mount y (w.views t)) → Good c (record { words = ws; views = changed w.views t v })
+      ((y : ℕ) → at_mount y v ≡ at_mount y (w.views t)) → GatesHold c (record { words = ws; views = changed w.views t v })
   still ws v er es ef ec owner fits same =
-      good_after c w t lt good 0 ws v er es owner fits (λ y ne. (ap (λ f. f y) ef, ap (λ f. f y) ec, same y))
-      (λ lm. holds_as (ap (λ f. f 0) ef) refl refl (ap (λ f. f 0) ec) (ap (changed (λ x. at_mount 0 (w.views x)) t) (same 0) ∙ changed_same (λ x. at_mount 0 (w.views x)) t) (good.mount 0 lm))
+      gates_after c w t lt good 0 ws v er es owner fits (λ y ne. (ap (λ f. f y) ef, ap (λ f. f y) ec, same y))
+      (λ lm. holds_as (ap (λ f. f 0) ef) refl refl (ap (λ f. f 0) ec) (ap (changed (λ x. at_mount 0 (w.views x)) t) (same 0) ∙ changed_same (λ x. at_mount 0 (w.views x)) t) (good (AtMount 0) lm))
 
   module _ (m : ℕ) (ro wait : Bool) (task processors : ℕ) (hook : HookAnswer) where
     -- a load by an owner that holds nothing, before and after it
     pub still_load : (name : WordName) (s s' : ChangeStep) → (w.views t).phase ≡ Some (Mounts (change m ro wait task processors s)) →
         change_role s ≡ Out → change_role s' ≡ Out → change_owns s ≡ 1 → change_owns s' ≡ 1 → SumFits c s' →
         let coming : Next Phase = Go (Mounts (change m ro wait task processors s')) in
-        Good c (loaded w t name hook coming) × (shown c (loaded w t name hook coming) ≡ shown c w)
+        GatesHold c (loaded w t name hook coming) × (shown c (loaded w t name hook coming) ≡ shown c w)
     still_load name s s' e none none' o o' fit =
         let f : (m < c.mounts) × (task ≡ t) × (processors ≡ c.processors) × (holds_none (holds_level (w.views t)) ≡ true) × SumFits c s = fits_now c w good t lt (change m ro wait task processors s) e in
         let before : (y : ℕ) → role_of y (w.views t).phase ≡ Out = λ y. ap (role_of y) e ∙ (ap (role_if (y == m)) none ∙ role_none y m) in
         let later : (y : ℕ) → role_if (y == m) (change_role s') ≡ Out = λ y. ap (role_if (y == m)) none' ∙ role_none y m in
         load_law c w good t lt m name hook (Go (Mounts (change m ro wait task processors s'))) (λ y ne. later y ∙ sym (before y)) (as_owner (change m ro wait task processors s) e (o' ∙ sym o) refl (λ i. refl)) (f.0, f.1, f.2, f.3, fit)
-        (λ lm. holds_as refl refl refl refl (ap (changed (λ x. at_mount m (w.views x)) t) (view_as refl refl refl (later m ∙ sym (before m))) ∙ changed_same (λ x. at_mount m (w.views x)) t) (good.mount m lm))
+        (λ lm. holds_as refl refl refl refl (ap (changed (λ x. at_mount m (w.views x)) t) (view_as refl refl refl (later m ∙ sym (before m))) ∙ changed_same (λ x. at_mount m (w.views x)) t) (good (AtMount m) lm))
 
-    pub loads_flags : (w.views t).phase ≡ Some (Mounts (change m ro wait task processors LoadsFlags)) → StepKeeps c w t hook (Mounts (change m ro wait task processors LoadsFlags))
+    pub loads_flags : (w.views t).phase ≡ Some (Mounts (change m ro wait task processors LoadsFlags)) → GateStepKeeps c w t hook (Mounts (change m ro wait task processors LoadsFlags))
     loads_flags e =
         elim (cases_Bool (has_flag (w.words.flags m) 1)) [
           | inl h ↦ rw h (still_load (MountFlags m) LoadsFlags (step_between ro true) e refl (between ro true).0 refl (between ro true).1 ((between ro true).2 c))
           | inr h ↦ rw h (still_load (MountFlags m) LoadsFlags LoadsSb e refl refl refl refl tt)
         ]
 
-    pub loads_superblock : (w.views t).phase ≡ Some (Mounts (change m ro wait task processors LoadsSb)) → StepKeeps c w t hook (Mounts (change m ro wait task processors LoadsSb))
+    pub loads_superblock : (w.views t).phase ≡ Some (Mounts (change m ro wait task processors LoadsSb)) → GateStepKeeps c w t hook (Mounts (change m ro wait task processors LoadsSb))
     loads_superblock e =
         let b : Bool = not (w.words.sb == 0) in
         still_load SbFlags LoadsSb (step_between ro b) e refl (between ro b).0 refl (between ro b).1 ((between ro b).2 c)
@@ -143,8 +143,8 @@ module _ (c : Config) (w : World) (good : Good c w) (t : ℕ) (lt : t < c.tasks)
       held_at v ≡ held_at (w.views t) → added_by v.events ≡ added_by (w.views t).events → taken_by v.events ≡ taken_by (w.views t).events →
       ((y : ℕ) → (y ≡ m → ⊥) → role_of y v.phase ≡ role_of y (w.views t).phase) → role_of m v.phase ≡ r →
       MountHolds c.tasks c.processors f w.words.remount w.words.sb (w.words.count m) (changed (λ x. at_mount m (w.views x)) t (record (at_mount m (w.views t)) { role = r })) →
-      Good c (record { words = record w.words { flags = changed w.words.flags m f }; views = changed w.views t v })
+      GatesHold c (record { words = record w.words { flags = changed w.words.flags m f }; views = changed w.views t v })
   flag_law m f v r lm same fits held added taken off role own =
-      good_after c w t lt good m (record w.words { flags = changed w.words.flags m f }) v refl refl (owner_same c w t lt good v same) fits
+      gates_after c w t lt good m (record w.words { flags = changed w.words.flags m f }) v refl refl (owner_same c w t lt good v same) fits
       (λ y ne. (changed_off w.words.flags m f y ne, refl, view_as (ap (λ g. g y) held) (ap (λ g. g y) added) (ap (λ g. g y) taken) (off y ne)))
       (λ l. holds_as (changed_at w.words.flags m f) refl refl refl (ap (changed (λ x. at_mount m (w.views x)) t) (view_as (ap (λ g. g m) held) (ap (λ g. g m) added) (ap (λ g. g m) taken) role)) own)

@@ -1,8 +1,8 @@
 -- What an event leaves alone.
-use Rattle.std.proofs.Common.{◌≡◌, ℕ, suc, ◌+◌, ◌<◌, refl, sym, ap, ◌∙◌, subst, inl, inr, arith}
-use Rattle.std.specs.Prelude.{◌==◌, ◌&&◌, ◌||◌, if◌then◌else◌}
+use Rattle.std.proofs.Common.{◌≡◌, ℕ, suc, ◌+◌, ◌<◌, ◌≤◌, refl, sym, ap, ◌∙◌, subst, inl, inr, arith, true≢false}
+use Rattle.std.specs.Prelude.{◌==◌, ◌&&◌, ◌||◌, if◌then◌else◌, Option, Some, None, true, false, Bool}
 use Rattle.std.proofs.Math.Path.{fun_ext}
-use Rattle.std.proofs.lemmas.Bool.{eq-eqb, ne_eqb}
+use Rattle.std.proofs.lemmas.Bool.{eq-eqb, ne_eqb, cases_Bool}
 use Rattle.std.proofs.lemmas.Bool.Decides.{eqb_tells}
 use Rattle.finite_sums.specs.Sums.{changed, total}
 use Rattle.finite_sums.proofs.Totals.{each_changed, total_changed}
@@ -10,12 +10,26 @@ use Rattle.cpu_words.specs.declared.names.WordName.{WordName}
 use Rattle.cpu_words.specs.declared.names.WordName.TheVariants.{Umount, Stage, SbFlags, Remount, MountFlags, MountCount, Block, Sync, LevelCount, Section, Used, Node, Kids}
 use Rattle.cpu_words.specs.declared.events.Touch.TheVariants.{Load}
 use Rattle.cpu_words.specs.Words.{Words, read, put}
+use Rattle.cpu_words.specs.Hooks.{HookAnswer}
+use Rattle.cpu_words.specs.Touches.{left}
+use Rattle.mount_counts.specs.declared.phases.MountPhase.{MountPhase}
+use Rattle.mount_counts.specs.declared.phases.MountPhase.TheVariants.{Want as Wants, Drop as Drops, Change as Changes}
+use Rattle.mount_counts.specs.declared.phases.Want.{Want}
+use Rattle.mount_counts.specs.declared.phases.WantStep.{WantStep}
+use Rattle.mount_counts.specs.declared.phases.WantStep.TheVariants.{CountsUp}
+use Rattle.mount_counts.specs.declared.phases.Change.{Change}
+use Rattle.mount_counts.specs.declared.phases.ChangeStep.{ChangeStep}
+use Rattle.mount_counts.specs.declared.phases.ChangeStep.TheVariants.{Locks}
+use Rattle.mount_counts.specs.Phases.{want_next, change_next, next}
 use Rattle.mount_counts.specs.Roles.{Role, Out, MountView, ro_bit, MountHolds}
 use Rattle.gate_world.specs.declared.config.Config.{Config}
 use Rattle.gate_world.specs.declared.views.View.{View}
-use Rattle.gate_world.specs.Views.{held_at, holds_level, added_after, taken_after}
-use Rattle.gate_world.specs.Worlds.{World, shown, closing, is_passed, node_shown}
-use Rattle.gate_world.specs.Rules.{role_if, at_mount, owns, remounts, Steady, OwnerHolds, ViewFits, Good}
+use Rattle.gate_world.specs.declared.work.Phase.{Phase}
+use Rattle.gate_world.specs.declared.work.Phase.TheVariants.{Mounts}
+use Rattle.gate_world.specs.Views.{held_at, holds_level, added_after, taken_after, view_after}
+use Rattle.gate_world.specs.Worlds.{World, shown, closing, is_passed, node_shown, words_after, value_at}
+use Rattle.gate_world.specs.Fits.{Fits}
+use Rattle.gate_world.specs.Rules.{role_if, at_mount, owns, remounts, Steady, OwnerHolds, ViewFits, Part, Owner, Superblock, Stages, Fitting, AtMount, Holds, SameWords, SameView, at_gates, GatesHold, Good, StepKeeps, GateStepKeeps}
 
 pub changed_map : {A B : Type 0} (g : A → B) (f : ℕ → A) (t : ℕ) (v : A) → (λ x. g (changed f t v x)) ≡ changed (λ x. g (f x)) t (g v)
 changed_map g f t v = fun_ext (λ x. elim (eqb_tells x t) [ inl h ↦ rw (h.0, changed) | inr h ↦ rw (h.0, changed) ])
@@ -129,38 +143,98 @@ module _ (c : Config) (w : World) (t : ℕ) (lt : t < c.tasks) where
         tree = λ n. node_shown (en j n);
       })
 
+  -- each part of the rule where an event leaves what it reads
+  pub left_alone : (part : Part) (ws : Words) (v : View) → SameWords w.words ws part → SameView (w.views t) v part → Holds c w part →
+      Holds c (record { words = ws; views = changed w.views t v }) part
+  left_alone Owner ws v same seen h = record {
+    locked = λ x lx o. same.0 ∙ each_changed (λ y (u : View). y < c.tasks → owns u.phase ≡ 1 → w.words.umount ≡ suc y) w.views t v x (λ l e. h.locked t l (sym seen.0 ∙ e)) (λ ne. h.locked x) lx o;
+    owned = λ x lx o. each_changed (λ y (u : View). y < c.tasks → w.words.umount ≡ suc y → owns u.phase ≡ 1) w.views t v x (λ l e. seen.0 ∙ h.owned t l e) (λ ne. h.owned x) lx (sym same.0 ∙ o);
+    known = omega (arith, same.0, h.known);
+    bit = omega (arith, same.1, h.bit);
+    remounting = omega (arith, same.1, h.remounting, seen.1, total_changed (λ (u : View). remounts u.phase) c.tasks t w.views v lt);
+  }
+  left_alone Superblock ws v same seen h = omega (arith, same, h)
+  left_alone Stages ws v same seen h = omega (arith, same, h)
+  left_alone Fitting ws v same seen h = λ x lx.
+      each_changed (λ y (u : View). ViewFits c y u) w.views t v x
+      (subst (λ (p : Option Phase). Fits c t (held_at v) (holds_level v) p) (sym seen.2)
+      (subst (λ k. Fits c t (held_at v) k (w.views t).phase) (sym seen.1) (subst (λ k. Fits c t k (holds_level (w.views t)) (w.views t).phase) (sym seen.0) (h t lt)))) (λ ne. h x lx)
+  left_alone (AtMount m) ws v same seen h = λ lm.
+      holds_as same.0 same.1 same.2 same.3 (changed_map (at_mount m) w.views t v ∙ (ap (changed (λ x. at_mount m (w.views x)) t) seen ∙ changed_same (λ x. at_mount m (w.views x)) t)) (h lm)
+
   module _ (good : Good c w) where
     -- an owner's words and phase as they were
     pub owner_same : (v : View) → Steady (w.views t).phase v.phase →
         OwnerHolds c.tasks w.words.umount w.words.remount (λ x. (changed w.views t v x).phase)
-    owner_same v same = record {
-      locked = λ x lx. each_changed (λ y (u : View). y < c.tasks → owns u.phase ≡ 1 → w.words.umount ≡ suc y) w.views t v x (λ l e. good.owner.locked t l (sym same.owns_same ∙ e)) (λ ne. good.owner.locked x) lx;
-      owned = λ x lx. each_changed (λ y (u : View). y < c.tasks → w.words.umount ≡ suc y → owns u.phase ≡ 1) w.views t v x (λ l e. same.owns_same ∙ good.owner.owned t l e) (λ ne. good.owner.owned x) lx;
-      known = good.owner.known;
-      bit = good.owner.bit;
-      remounting = omega (arith, good.owner.remounting, same.remounts_same, total_changed (λ (u : View). remounts u.phase) c.tasks t w.views v lt);
-    }
+    owner_same v same = left_alone Owner w.words v (refl, refl) (same.owns_same, same.remounts_same) (good Owner)
 
     -- an event that touches one mount
-    pub good_after : (m : ℕ) (ws : Words) (v : View) →
+    pub gates_after : (m : ℕ) (ws : Words) (v : View) →
         ws.remount ≡ w.words.remount → ws.sb ≡ w.words.sb →
         OwnerHolds c.tasks ws.umount ws.remount (λ x. (changed w.views t v x).phase) →
         ViewFits c t v →
         ((n : ℕ) → (n ≡ m → ⊥) → (ws.flags n ≡ w.words.flags n) × (ws.count n ≡ w.words.count n) × (at_mount n v ≡ at_mount n (w.views t))) →
         (m < c.mounts → MountHolds c.tasks c.processors (ws.flags m) w.words.remount w.words.sb (ws.count m) (changed (λ x. at_mount m (w.views x)) t (at_mount m v))) →
-        Good c (record { words = ws; views = changed w.views t v })
-    good_after m ws v er es owner fits off own = record {
-      owner = owner;
-      superblock = omega (arith, es, good.superblock);
-      fits = λ x lx. each_changed (λ y u. ViewFits c y u) w.views t v x fits (λ ne. good.fits x lx);
-      mount = λ n ln. elim (eqb_tells n m) [
-        | inl h ↦
-            let lm : m < c.mounts = omega (arith, h.1) in
-            let here : MountHolds c.tasks c.processors (ws.flags m) ws.remount ws.sb (ws.count m) (λ x. at_mount m (changed w.views t v x)) =
-            holds_as refl er es refl (changed_map (at_mount m) w.views t v) (own lm) in
-            subst (λ y. MountHolds c.tasks c.processors (ws.flags y) ws.remount ws.sb (ws.count y) (λ x. at_mount y (changed w.views t v x))) (sym h.1) here
-        | inr h ↦
-            let o : (ws.flags n ≡ w.words.flags n) × (ws.count n ≡ w.words.count n) × (at_mount n v ≡ at_mount n (w.views t)) = off n h.1 in
-            holds_as o.0 er es o.1 (changed_map (at_mount n) w.views t v ∙ (ap (changed (λ x. at_mount n (w.views x)) t) o.2 ∙ changed_same (λ x. at_mount n (w.views x)) t)) (good.mount n ln)
-      ];
-    }
+        GatesHold c (record { words = ws; views = changed w.views t v })
+    gates_after m ws v er es owner fits off own Owner h = owner
+    gates_after m ws v er es owner fits off own Superblock h = left_alone Superblock ws v es tt (good Superblock)
+    gates_after m ws v er es owner fits off own Fitting h = λ x lx. each_changed (λ y u. ViewFits c y u) w.views t v x fits (λ ne. good Fitting x lx)
+    gates_after m ws v er es owner fits off own (AtMount n) h = λ ln.
+        elim (eqb_tells n m) [
+          | inl q ↦
+              let lm : m < c.mounts = omega (arith, q.1) in
+              let here : MountHolds c.tasks c.processors (ws.flags m) ws.remount ws.sb (ws.count m) (λ x. at_mount m (changed w.views t v x)) =
+              holds_as refl er es refl (changed_map (at_mount m) w.views t v) (own lm) in
+              subst (λ y. MountHolds c.tasks c.processors (ws.flags y) ws.remount ws.sb (ws.count y) (λ x. at_mount y (changed w.views t v x))) (sym q.1) here
+          | inr q ↦
+              let o : (ws.flags n ≡ w.words.flags n) × (ws.count n ≡ w.words.count n) × (at_mount n v ≡ at_mount n (w.views t)) = off n q.1 in
+              left_alone (AtMount n) ws v (o.0, er, es, o.1) o.2 (good (AtMount n)) ln
+        ]
+    gates_after m ws v er es owner fits off own part h = absurd (true≢false (sym h))
+
+-- the words of want, drop and change
+abbrev pub is_gate_word : WordName → Bool
+is_gate_word Umount = true
+is_gate_word SbFlags = true
+is_gate_word Remount = true
+is_gate_word (MountFlags m) = true
+is_gate_word (MountCount m p) = true
+is_gate_word name = false
+
+want_touches : (x : Want) (s : WantStep) → is_gate_word (want_next x s).0 ≡ true
+want_touches x CountsUp = refl
+want_touches x s = refl
+
+change_touches : (x : Change) (s : ChangeStep) → is_gate_word (change_next x s).0 ≡ true
+change_touches x Locks = refl
+change_touches x s = refl
+
+mounts_touch : (x : MountPhase) (hook : HookAnswer) → is_gate_word (next x hook).0 ≡ true
+mounts_touch (Wants x) hook = want_touches x x.step
+mounts_touch (Drops m p) hook = refl
+mounts_touch (Changes x) hook = change_touches x x.step
+
+-- which other parts of the rule don't read
+unread : (part : Part) → at_gates part ≡ false → (name : WordName) → is_gate_word name ≡ true → (w : Words) (n : ℕ) → SameWords w (put w name n) part
+unread Stages h Stage q w n = absurd (true≢false (sym q))
+unread Stages h name q w n = refl
+unread part h name q w n = absurd (true≢false h)
+
+-- nor do these read what such an event changes of its task's view
+unseen : (part : Part) → at_gates part ≡ false → (v : View) (x : MountPhase) (value : ℕ) (hook : HookAnswer) → v.phase ≡ Some (Mounts x) → SameView v (view_after v (Mounts x) value hook) part
+unseen Stages h v x value hook e = tt
+unseen part h v x value hook e = absurd (true≢false h)
+
+-- so an event of want, drop or change keeps the rule where it keeps the parts that it may touch
+pub whole_step : (c : Config) (w : World) (t : ℕ) → t < c.tasks → Good c w → (hook : HookAnswer) (x : MountPhase) → (w.views t).phase ≡ Some (Mounts x) →
+    GateStepKeeps c w t hook (Mounts x) → StepKeeps c w t hook (Mounts x)
+whole_step c w t lt good hook x e keeps = (
+  λ part.
+      elim (cases_Bool (at_gates part)) [
+        | inl h ↦ keeps.0 part h
+        | inr h ↦ left_alone c w t lt part (words_after w.words (Mounts x) hook) (view_after (w.views t) (Mounts x) (value_at w.words (Mounts x) hook) hook)
+            (unread part h (next x hook).0 (mounts_touch x hook) w.words (left (next x hook).1 (read w.words (next x hook).0)))
+            (unseen part h (w.views t) x (value_at w.words (Mounts x) hook) hook e) (good part)
+      ],
+  keeps.1,
+)

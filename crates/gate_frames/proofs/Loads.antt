@@ -16,8 +16,8 @@ use Rattle.gate_world.specs.declared.views.View.{View}
 use Rattle.gate_world.specs.Views.{held_at, holds_level, added_by, taken_by, phase_after, view_with}
 use Rattle.gate_world.specs.Fits.{Fits, MountFits}
 use Rattle.gate_world.specs.Worlds.{World, shown, closing}
-use Rattle.gate_world.specs.Rules.{role_if, role_of, at_mount, owns, mount_owns, remounts, Steady, Good}
-use Rattle.gate_frames.proofs.Frames.{load_same, added_load, taken_load, view_as, shown_still, owner_same, good_after}
+use Rattle.gate_world.specs.Rules.{role_if, role_of, at_mount, owns, mount_owns, remounts, Steady, Good, Fitting, GatesHold}
+use Rattle.gate_frames.proofs.Frames.{load_same, added_load, taken_load, view_as, shown_still, owner_same, gates_after}
 
 -- the numbers of a role that is known
 pub record Counts (r q : Role) : Type 0 where
@@ -52,7 +52,7 @@ loaded w t name hook coming = record {
 
 module _ (c : Config) (w : World) (good : Good c w) (t : ℕ) (lt : t < c.tasks) where
   pub fits_now : (phase : MountPhase) → (w.views t).phase ≡ Some (Mounts phase) → MountFits c t (held_at (w.views t)) (holds_level (w.views t)) phase
-  fits_now phase e = subst (Fits c t (held_at (w.views t)) (holds_level (w.views t))) e (good.fits t lt)
+  fits_now phase e = subst (Fits c t (held_at (w.views t)) (holds_level (w.views t))) e (good Fitting t lt)
 
   -- a load, after which the task's role is another at one mount at most
   pub load_law : (m : ℕ) (name : WordName) (hook : HookAnswer) (coming : Next Phase) →
@@ -61,15 +61,15 @@ module _ (c : Config) (w : World) (good : Good c w) (t : ℕ) (lt : t < c.tasks)
       Fits c t (held_at (w.views t)) (holds_level (w.views t)) (phase_after coming) →
       (m < c.mounts → MountHolds c.tasks c.processors (w.words.flags m) w.words.remount w.words.sb (w.words.count m)
       (changed (λ x. at_mount m (w.views x)) t (record (at_mount m (w.views t)) { role = role_of m (phase_after coming) }))) →
-      Good c (loaded w t name hook coming) × (shown c (loaded w t name hook coming) ≡ shown c w)
+      GatesHold c (loaded w t name hook coming) × (shown c (loaded w t name hook coming) ≡ shown c w)
   load_law m name hook coming off same fits own =
       let v : View = view_with (w.views t) (name, Load) (read w.words name) hook (coming, None) in
       let ea : added_by v.events ≡ added_by (w.views t).events = added_load name (added_by (w.views t).events) in
       let et : taken_by v.events ≡ taken_by (w.views t).events = taken_load name (taken_by (w.views t).events) in
-      let there : Good c (record { words = w.words; views = changed w.views t v }) =
-      good_after c w t lt good m w.words v refl refl (owner_same c w t lt good v same) fits
+      let there : GatesHold c (record { words = w.words; views = changed w.views t v }) =
+      gates_after c w t lt good m w.words v refl refl (owner_same c w t lt good v same) fits
       (λ n ne. (refl, refl, view_as refl (ap (λ f. f n) ea) (ap (λ f. f n) et) (off n ne)))
       (λ lm. subst (λ u. MountHolds c.tasks c.processors (w.words.flags m) w.words.remount w.words.sb (w.words.count m) (changed (λ x. at_mount m (w.views x)) t u))
       (view_as refl (ap (λ f. f m) (sym ea)) (ap (λ f. f m) (sym et)) refl) (own lm)) in
-      subst (λ ws. let next_world : World = record { words = ws; views = changed w.views t v } in Good c next_world × (shown c next_world ≡ shown c w)) (sym (load_same w.words name))
+      subst (λ ws. let next_world : World = record { words = ws; views = changed w.views t v } in GatesHold c next_world × (shown c next_world ≡ shown c w)) (sym (load_same w.words name))
       (there, shown_still c w t lt w.words v refl refl refl refl refl refl same.closing_same refl refl)

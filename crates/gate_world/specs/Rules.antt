@@ -4,6 +4,7 @@ use Rattle.finite_sums.specs.Sums.{total}
 use Rattle.access_model.specs.declared.actions.Action.{Action}
 use Rattle.access_model.specs.States.{State}
 use Rattle.access_model.specs.Actions.{IsAllowed, after_action}
+use Rattle.cpu_words.specs.Words.{Words}
 use Rattle.cpu_words.specs.Hooks.{HookAnswer}
 use Rattle.mount_counts.specs.declared.phases.MountPhase.{MountPhase}
 use Rattle.mount_counts.specs.declared.phases.MountPhase.TheVariants.{Want as Wants, Drop as Drops, Change as Changes}
@@ -97,13 +98,58 @@ pub record OwnerHolds (tasks umount remount : ℕ) (phases : ℕ → Option Phas
 abbrev pub ViewFits : Config → ℕ → View → Type 0
 ViewFits c t v = Fits c t (held_at v) (holds_level v) v.phase
 
--- the rule
-pub record Good (c : Config) (w : World) : Type 0 where
-  pub owner : OwnerHolds c.tasks w.words.umount w.words.remount (λ t. (w.views t).phase)
-  pub superblock : w.words.sb ≤ 1
-  pub fits : (t : ℕ) → t < c.tasks → ViewFits c t (w.views t)
-  pub mount : (m : ℕ) → m < c.mounts →
-      MountHolds c.tasks c.processors (w.words.flags m) w.words.remount w.words.sb (w.words.count m) (λ t. at_mount m (w.views t))
+-- The parts of the rule, each one predicate.
+pub data Part : Type 0 where
+  -- `umount`, `remount` and who has them
+  Owner : Part
+  -- the superblock's flags
+  Superblock : Part
+  -- how far a freeze has come
+  Stages : Part
+  -- each phase and its task's accesses
+  Fitting : Part
+  -- one mount
+  AtMount : (m : ℕ) → Part
+
+-- what a part says of a world
+abbrev pub Holds : Config → World → Part → Type 0
+Holds c w Owner = OwnerHolds c.tasks w.words.umount w.words.remount (λ t. (w.views t).phase)
+Holds c w Superblock = w.words.sb ≤ 1
+Holds c w Stages = w.words.stage ≤ 4
+Holds c w Fitting = (t : ℕ) → t < c.tasks → ViewFits c t (w.views t)
+Holds c w (AtMount m) = m < c.mounts →
+    MountHolds c.tasks c.processors (w.words.flags m) w.words.remount w.words.sb (w.words.count m) (λ t. at_mount m (w.views t))
+
+-- what a part reads of the words: these are as they were
+abbrev pub SameWords : Words → Words → Part → Type 0
+SameWords old new Owner = (new.umount ≡ old.umount) × (new.remount ≡ old.remount)
+SameWords old new Superblock = new.sb ≡ old.sb
+SameWords old new Stages = new.stage ≡ old.stage
+SameWords old new Fitting = Unit {0}
+SameWords old new (AtMount m) = (new.flags m ≡ old.flags m) × (new.remount ≡ old.remount) × (new.sb ≡ old.sb) × (new.count m ≡ old.count m)
+
+-- what a part reads of a task's view: this is as it was
+abbrev pub SameView : View → View → Part → Type 0
+SameView old new Owner = (owns new.phase ≡ owns old.phase) × (remounts new.phase ≡ remounts old.phase)
+SameView old new Superblock = Unit {0}
+SameView old new Stages = Unit {0}
+SameView old new Fitting = (held_at new ≡ held_at old) × (holds_level new ≡ holds_level old) × (new.phase ≡ old.phase)
+SameView old new (AtMount m) = at_mount m new ≡ at_mount m old
+
+-- the rule: each part
+abbrev pub Good : Config → World → Type 0
+Good c w = (part : Part) → Holds c w part
+
+-- the parts that an event of want, drop or change may touch
+abbrev pub at_gates : Part → Bool
+at_gates Owner = true
+at_gates Superblock = true
+at_gates Fitting = true
+at_gates (AtMount m) = true
+at_gates part = false
+
+abbrev pub GatesHold : Config → World → Type 0
+GatesHold c w = (part : Part) → at_gates part ≡ true → Holds c w part
 
 -- an event that adds an action adds one that is allowed in the shown model, whose effect gives the new one; any other event leaves
 -- the shown model as it was
@@ -115,3 +161,8 @@ Moves c old t (Some a) new = IsAllowed (limits_of c) old t a × (new ≡ after_a
 abbrev pub StepKeeps : Config → World → ℕ → HookAnswer → Phase → Type 0
 StepKeeps c w t hook phase =
     Good c (stepped w t phase hook) × Moves c (shown c w) t (phase_action w hook (Some phase)) (shown c (stepped w t phase hook))
+
+-- the law of one event of want, drop or change: the parts that it may touch, and the shown model
+abbrev pub GateStepKeeps : Config → World → ℕ → HookAnswer → Phase → Type 0
+GateStepKeeps c w t hook phase =
+    GatesHold c (stepped w t phase hook) × Moves c (shown c w) t (phase_action w hook (Some phase)) (shown c (stepped w t phase hook))

@@ -5,7 +5,7 @@ use Rattle.std.proofs.Math.Path.{fun_ext}
 use Rattle.std.proofs.lemmas.Bool.Decides.{eqb_tells}
 use Rattle.std.proofs.lemmas.Bool.{cases_Bool, ltb-true}
 use Rattle.finite_sums.specs.Sums.{changed, total}
-use Rattle.finite_sums.proofs.Totals.{total_same, total_none, total_bound}
+use Rattle.finite_sums.proofs.Totals.{each_changed, total_same, total_none, total_bound}
 use Rattle.access_model.specs.declared.actions.Action.{Action}
 use Rattle.access_model.specs.declared.errors.GateError.{GateError}
 use Rattle.access_model.specs.declared.errors.GateError.TheVariants.{Invalid, Order, TooMany}
@@ -26,13 +26,11 @@ use Rattle.gate_world.specs.Configs.{IsWithin, limits_of}
 use Rattle.gate_world.specs.Views.{held_at, holds_level, begun_view}
 use Rattle.gate_world.specs.Fits.{Fits}
 use Rattle.gate_world.specs.Worlds.{World, Entry, Begins, Steps, first_phase, is_in_range, is_in_order, is_within_room, view_refusal, begun, begin_of, step_of, happens, phase_action, action_of, task_of, noted, run, opening, history, shown}
-use Rattle.gate_world.specs.Rules.{role_of, at_mount, Steady, Good, Moves, StepKeeps}
+use Rattle.gate_world.specs.Rules.{role_of, at_mount, Steady, ViewFits, Part, Owner, Superblock, Stages, Fitting, AtMount, Holds, Good, Moves, StepKeeps}
 use Rattle.gate_world.specs.Headline.{SumsHold, IdleSumsHold}
-use Rattle.gate_frames.proofs.Frames.{view_as, owner_same, shown_still}
+use Rattle.gate_frames.proofs.Frames.{view_as, left_alone, shown_still}
 use Rattle.gate_frames.proofs.Loads.{role_none, steady}
-use Rattle.want_laws.proofs.Wants.{want_keeps}
-use Rattle.want_laws.proofs.WantCounts.{drops}
-use Rattle.change_laws.proofs.Owner.{still}
+use Rattle.want_laws.proofs.Wants.{want_keeps, drop_keeps}
 use Rattle.change_laws.proofs.Each.{change_keeps}
 
 pub both : (a b : Bool) → (a && b) ≡ true → (a ≡ true) × (b ≡ true)
@@ -72,7 +70,7 @@ may_begin c v op h =
 module _ (c : Config) (lim : IsWithin c) (w : World) (good : Good c w) (t : ℕ) (lt : t < c.tasks) where
   pub phase_keeps : (hook : HookAnswer) (phase : Phase) → (w.views t).phase ≡ Some phase → StepKeeps c w t hook phase
   phase_keeps hook (Mounts (Wants x)) e = want_keeps c lim w good t lt hook x.mount x.cpu x.wait x.step e
-  phase_keeps hook (Mounts (Drops m p)) e = drops c lim w good t lt m p hook e
+  phase_keeps hook (Mounts (Drops m p)) e = drop_keeps c lim w good t lt hook m p e
   phase_keeps hook (Mounts (Changes x)) e = change_keeps c lim w good t lt hook x.mount x.read_only x.wait x.task x.processors x.step e
 
   pub step_keeps : (hook : HookAnswer) (p : Option Phase) → (w.views t).phase ≡ p →
@@ -94,15 +92,22 @@ module _ (c : Config) (lim : IsWithin c) (w : World) (good : Good c w) (t : ℕ)
   first_none (DropMount m p) = (λ y. refl, record { owns_same = refl; remounts_same = refl; closing_same = λ i. refl })
   first_none (ChangeMount m read_only wait) = (λ y. role_none y m, record { owns_same = refl; remounts_same = refl; closing_same = λ i. refl })
 
+  -- a beginning leaves each part of the rule but that of its own phase
+  begun_good : (op : Op) → MayBegin c (w.views t) op → (part : Part) → Holds c (begun c w t op) part
+  begun_good op h Fitting = λ x lx. each_changed (λ y (u : View). ViewFits c y u) w.views t (begun_view (w.views t) op (first_phase c t op)) x (op_fits op h) (λ ne. good Fitting x lx)
+  begun_good op h Owner =
+      let same : Steady (w.views t).phase (Some (first_phase c t op)) = steady h.idle (first_none op).1 in
+      left_alone c w t lt Owner w.words (begun_view (w.views t) op (first_phase c t op)) (refl, refl) (same.owns_same, same.remounts_same) (good Owner)
+  begun_good op h Superblock = good Superblock
+  begun_good op h Stages = good Stages
+  begun_good op h (AtMount m) =
+      left_alone c w t lt (AtMount m) w.words (begun_view (w.views t) op (first_phase c t op)) (refl, refl, refl, refl) (view_as refl refl refl ((first_none op).0 m ∙ sym (ap (role_of m) h.idle))) (good (AtMount m))
+
   pub begun_keeps : (op : Op) → MayBegin c (w.views t) op → Good c (begun c w t op) × (shown c (begun c w t op) ≡ shown c w)
-  begun_keeps op h =
-      let v : View = begun_view (w.views t) op (first_phase c t op) in
-      let n : ((y : ℕ) → role_of y (Some (first_phase c t op)) ≡ Out) × Steady None (Some (first_phase c t op)) = first_none op in
-      let same : Steady (w.views t).phase v.phase = steady h.idle n.1 in (
-        still c w good t lt w.words v refl refl refl refl (owner_same c w t lt good v same) (op_fits op h)
-            (λ y. view_as refl refl refl (n.0 y ∙ sym (ap (role_of y) h.idle))),
-        shown_still c w t lt w.words v refl refl refl refl refl refl same.closing_same refl refl,
-      )
+  begun_keeps op h = (
+    begun_good op h,
+    shown_still c w t lt w.words (begun_view (w.views t) op (first_phase c t op)) refl refl refl refl refl refl (steady h.idle (first_none op).1).closing_same refl refl,
+  )
 
 module _ (c : Config) (lim : IsWithin c) where
   begin_keeps : (w : World) → Good c w → (t : ℕ) (op : Op) → t < c.tasks → (r : Option GateError) → view_refusal c (w.views t) op ≡ r →
@@ -144,21 +149,20 @@ module _ (c : Config) (lim : IsWithin c) where
   zeros : (n : ℕ) → total n (λ x. 0) ≡ 0
   zeros n = total_none n (λ x. 0) (λ x lx. refl)
 
-  pub opening_good : Good c opening
-  opening_good = record {
-    owner = record { locked = λ t lt h. absurd (omega arith); owned = λ t lt h. absurd (omega arith); known = omega arith; bit = omega arith; remounting = sym (zeros c.tasks) };
-    superblock = omega arith;
-    fits = λ t lt. tt;
-    mount = λ m lm. record {
-      bits = omega arith;
-      counts = record { fits = λ p lp. omega arith; words = λ p lp. omega (arith, zeros c.tasks); own = λ t lt. omega (arith, zeros c.processors) };
-      room = λ t lt. omega arith;
-      hold = zeros c.tasks;
-      roles = λ t lt. tt;
-      closed = λ h. zeros c.tasks;
-      remounting = λ h h2 h3. zeros c.tasks;
-      sealed = λ h. zeros c.tasks;
-    };
+  pub opening_good : (part : Part) → Holds c opening part
+  opening_good Owner = record { locked = λ t lt h. absurd (omega arith); owned = λ t lt h. absurd (omega arith); known = omega arith; bit = omega arith; remounting = sym (zeros c.tasks) }
+  opening_good Superblock = omega arith
+  opening_good Stages = omega arith
+  opening_good Fitting = λ t lt. tt
+  opening_good (AtMount m) = λ lm. record {
+    bits = omega arith;
+    counts = record { fits = λ p lp. omega arith; words = λ p lp. omega (arith, zeros c.tasks); own = λ t lt. omega (arith, zeros c.processors) };
+    room = λ t lt. omega arith;
+    hold = zeros c.tasks;
+    roles = λ t lt. tt;
+    closed = λ h. zeros c.tasks;
+    remounting = λ h h2 h3. zeros c.tasks;
+    sealed = λ h. zeros c.tasks;
   }
 
   opening_tree : (n : ℕ) → opening_state.tree n ≡ (shown c opening).tree n
@@ -172,7 +176,7 @@ module _ (c : Config) (lim : IsWithin c) where
   -- a mount's words sum to what is counted, as a whole number
   pub gate_sums : (w : World) → Good c w → SumsHold c w
   gate_sums w good m lm =
-      let g : MountHolds c.tasks c.processors (w.words.flags m) w.words.remount w.words.sb (w.words.count m) (λ x. at_mount m (w.views x)) = good.mount m lm in
+      let g : MountHolds c.tasks c.processors (w.words.flags m) w.words.remount w.words.sb (w.words.count m) (λ x. at_mount m (w.views x)) = good (AtMount m) lm in
       let s : total c.processors (w.words.count m) % 18446744073709551616 ≡ total c.tasks (λ t. counted (at_mount m (w.views t))) % 18446744073709551616 = gate_sum c.tasks c.processors (w.words.count m) (λ x. at_mount m (w.views x)) g.counts in
       let b : total c.tasks (λ t. counted (at_mount m (w.views t))) ≤ c.tasks * 1025 = total_bound c.tasks 1025 _ (λ x lx. omega (arith, g.room x lx, counted_parts (role_of m (w.views x).phase), unread_le 0 (role_of m (w.views x).phase))) in
       omega (arith, lim.tasks)

@@ -24,13 +24,13 @@ use Rattle.gate_world.specs.Configs.{IsWithin}
 use Rattle.gate_world.specs.Views.{held_at, holds_level, added_by, taken_by, view_with}
 use Rattle.gate_world.specs.Fits.{Fits}
 use Rattle.gate_world.specs.Worlds.{World}
-use Rattle.gate_world.specs.Rules.{role_of, at_mount, Steady, Good, StepKeeps}
-use Rattle.gate_frames.proofs.Frames.{role_on, role_off, view_as, holds_as, owner_same, good_after, shown_as, shown_still}
+use Rattle.gate_world.specs.Rules.{role_of, at_mount, Steady, Good, GateStepKeeps, AtMount, GatesHold}
+use Rattle.gate_frames.proofs.Frames.{role_on, role_off, view_as, holds_as, owner_same, gates_after, shown_as, shown_still}
 use Rattle.gate_frames.proofs.Loads.{Counts, counts, as_owner, fits_now}
 use Rattle.want_laws.proofs.WantLoads.{want, want_here, want_off}
 
 module _ (c : Config) (lim : IsWithin c) (w : World) (good : Good c w) (t : ℕ) (lt : t < c.tasks) where
-  pub counts_up : (m p : ℕ) (wait : Bool) (hook : HookAnswer) → (w.views t).phase ≡ Some (Mounts (want m p wait CountsUp)) → StepKeeps c w t hook (Mounts (want m p wait CountsUp))
+  pub counts_up : (m p : ℕ) (wait : Bool) (hook : HookAnswer) → (w.views t).phase ≡ Some (Mounts (want m p wait CountsUp)) → GateStepKeeps c w t hook (Mounts (want m p wait CountsUp))
   counts_up m p wait hook e =
       let f : (m < c.mounts) × (p < c.processors) × (held_at (w.views t) m < 1024) = fits_now c w good t lt (want m p wait CountsUp) e in
       let word : ℕ → ℕ = changed (w.words.count m) p (wrap_add (w.words.count m p) 1) in
@@ -38,11 +38,11 @@ module _ (c : Config) (lim : IsWithin c) (w : World) (good : Good c w) (t : ℕ)
       let ws : Words = record w.words { count = changed w.words.count m word } in
       let v : View = view_with (w.views t) (MountCount m p, Add 1) (w.words.count m p) hook (Go (Mounts (want m p wait LoadsHold)), None) in
       let same : Steady (w.views t).phase v.phase = as_owner (want m p wait CountsUp) e refl refl (λ i. refl) in (
-        good_after c w t lt good m ws v refl refl
+        gates_after c w t lt good m ws v refl refl
             (owner_same c w t lt good v same) f
             (λ y ne. (refl, changed_off w.words.count m word y ne, view_as refl (changed_off (added_by (w.views t).events) m net y ne) refl (role_off y m (Asking p) ne ∙ sym (want_off m p wait CountsUp e y ne))))
             (λ lm. holds_as refl refl refl (changed_at w.words.count m word) (ap (changed (λ x. at_mount m (w.views x)) t) (view_as refl (changed_at (added_by (w.views t).events) m net) refl (role_on m (Asking p))))
-            (adds c.tasks c.processors (w.words.flags m) w.words.remount w.words.sb (w.words.count m) (λ x. at_mount m (w.views x)) (good.mount m lm) t lt lim.tasks lim.processors p f.1
+            (adds c.tasks c.processors (w.words.flags m) w.words.remount w.words.sb (w.words.count m) (λ x. at_mount m (w.views x)) (good (AtMount m) lm) t lt lim.tasks lim.processors p f.1
             (want_here m p wait CountsUp e) f.2)),
         shown_still c w t lt ws v refl refl refl refl refl refl same.closing_same refl refl,
       )
@@ -55,21 +55,21 @@ module _ (c : Config) (lim : IsWithin c) (w : World) (good : Good c w) (t : ℕ)
       h + 1 ≡ held_at (w.views t) m + sought r → stands r ≡ 0 → h ≤ held_at (w.views t) m + passed_hold r →
       ((k : ℕ) → (h + unread k (Asking p) ≤ held_at (w.views t) m + passed_hold r + unread k r) × (unread k r ≤ unread k (Asking p))) →
       h ≤ held_at (w.views t) m →
-      Good c (record { words = record w.words { count = changed w.words.count m (changed (w.words.count m) p (wrap_sub (w.words.count m p) 1)) }; views = changed w.views t v })
+      GatesHold c (record { words = record w.words { count = changed w.words.count m (changed (w.words.count m) p (wrap_sub (w.words.count m p) 1)) }; views = changed w.views t v })
   take_law m p r h v lm lp role out off still fits added taken held others same stand fewer sums le =
       let word : ℕ → ℕ = changed (w.words.count m) p (wrap_sub (w.words.count m p) 1) in
       let net : ℕ → ℕ = changed (taken_by (w.views t).events m) p (taken_by (w.views t).events m p + 1) in
       let ws : Words = record w.words { count = changed w.words.count m word } in
       let n : Counts (role_of m (w.views t).phase) r = counts role in
-      good_after c w t lt good m ws v refl refl
+      gates_after c w t lt good m ws v refl refl
       (owner_same c w t lt good v still) fits
       (λ y ne. (refl, changed_off w.words.count m word y ne, view_as (others y ne) (ap (λ f. f y) added) (ap (λ f. f y) taken ∙ changed_off (taken_by (w.views t).events) m net y ne) (off y ne)))
       (λ l. holds_as refl refl refl (changed_at w.words.count m word) (ap (changed (λ x. at_mount m (w.views x)) t) (view_as held (ap (λ f. f m) added) (ap (λ f. f m) taken ∙ changed_at (taken_by (w.views t).events) m net) out))
-      (takes c.tasks c.processors (w.words.flags m) w.words.remount w.words.sb (w.words.count m) (λ x. at_mount m (w.views x)) (good.mount m lm) t lt lim.tasks lim.processors p lp
-      Out h (omega (arith, n.sought_is)) (omega (arith, (good.mount m lm).room t lt)) refl refl (omega (arith, n.stands_is)) (omega (arith, n.passed_is))
+      (takes c.tasks c.processors (w.words.flags m) w.words.remount w.words.sb (w.words.count m) (λ x. at_mount m (w.views x)) (good (AtMount m) lm) t lt lim.tasks lim.processors p lp
+      Out h (omega (arith, n.sought_is)) (omega (arith, (good (AtMount m) lm).room t lt)) refl refl (omega (arith, n.stands_is)) (omega (arith, n.passed_is))
       (λ k. (omega (arith, sums k, n.unread_is k, n.passed_is), omega (arith, sums k, n.unread_is k))) (omega arith) (omega arith) le))
 
-  pub counts_down : (m p : ℕ) (wait : Bool) (refusal : GateError) (hook : HookAnswer) → (w.views t).phase ≡ Some (Mounts (want m p wait (CountsDown refusal))) → StepKeeps c w t hook (Mounts (want m p wait (CountsDown refusal)))
+  pub counts_down : (m p : ℕ) (wait : Bool) (refusal : GateError) (hook : HookAnswer) → (w.views t).phase ≡ Some (Mounts (want m p wait (CountsDown refusal))) → GateStepKeeps c w t hook (Mounts (want m p wait (CountsDown refusal)))
   counts_down m p wait refusal hook e =
       let f : (m < c.mounts) × (p < c.processors) × (held_at (w.views t) m < 1024) = fits_now c w good t lt (want m p wait (CountsDown refusal)) e in
       let v : View = view_with (w.views t) (MountCount m p, Sub 1) (w.words.count m p) hook (Done (Err refusal), None) in
@@ -79,7 +79,7 @@ module _ (c : Config) (lim : IsWithin c) (w : World) (good : Good c w) (t : ℕ)
         shown_still c w t lt (record w.words { count = changed w.words.count m (changed (w.words.count m) p (wrap_sub (w.words.count m p) 1)) }) v refl refl refl refl refl refl same.closing_same refl refl,
       )
 
-  pub drops : (m p : ℕ) (hook : HookAnswer) → (w.views t).phase ≡ Some (Mounts (Drops m p)) → StepKeeps c w t hook (Mounts (Drops m p))
+  pub drops : (m p : ℕ) (hook : HookAnswer) → (w.views t).phase ≡ Some (Mounts (Drops m p)) → GateStepKeeps c w t hook (Mounts (Drops m p))
   drops m p hook e =
       let f : (m < c.mounts) × (p < c.processors) × (0 < held_at (w.views t) m) = fits_now c w good t lt (Drops m p) e in
       let v : View = view_with (w.views t) (MountCount m p, Sub 1) (w.words.count m p) hook (Done (Ok UnitReply), Some (Return (Mount m))) in

@@ -30,8 +30,8 @@ use Rattle.gate_world.specs.declared.views.View.{View}
 use Rattle.gate_world.specs.Views.{held_at, holds_level, phase_after, view_with}
 use Rattle.gate_world.specs.Fits.{Fits}
 use Rattle.gate_world.specs.Worlds.{World, shown, closing}
-use Rattle.gate_world.specs.Rules.{want_role, role_of, at_mount, owns, remounts, Steady, Good, StepKeeps}
-use Rattle.gate_frames.proofs.Frames.{role_on, role_off, view_as, holds_as, owner_same, good_after, shown_as}
+use Rattle.gate_world.specs.Rules.{want_role, role_of, at_mount, owns, remounts, Steady, Good, GateStepKeeps, AtMount, GatesHold}
+use Rattle.gate_frames.proofs.Frames.{role_on, role_off, view_as, holds_as, owner_same, gates_after, shown_as}
 use Rattle.gate_frames.proofs.Loads.{Counts, counts, as_owner, loaded, load_law, fits_now}
 
 abbrev pub want : ℕ → ℕ → Bool → WantStep → MountPhase
@@ -47,7 +47,7 @@ want_off m p wait s e y ne = ap (role_of y) e ∙ role_off y m (want_role p s) n
 module _ (c : Config) (w : World) (good : Good c w) (t : ℕ) (lt : t < c.tasks) (m p : ℕ) (wait : Bool) (hook : HookAnswer) where
   -- the mount's predicate, of this task
   abbrev here : m < c.mounts → MountHolds c.tasks c.processors (w.words.flags m) w.words.remount w.words.sb (w.words.count m) (λ x. at_mount m (w.views x))
-  here lm = good.mount m lm
+  here lm = good (AtMount m) lm
 
   -- a load by a want, after which it is at another step
   pub want_load : (name : WordName) (s s' : WantStep) (coming : Next Phase) →
@@ -57,7 +57,7 @@ module _ (c : Config) (w : World) (good : Good c w) (t : ℕ) (lt : t < c.tasks)
       passed_hold (want_role p s') ≤ 1 →
       (ro_bit (w.words.flags m) ≡ 1 → past_flags (want_role p s') ≤ past_flags (want_role p s)) →
       (w.words.remount ≡ 1 → past_remount (want_role p s') ≤ past_remount (want_role p s)) →
-      Good c (loaded w t name hook coming) × (shown c (loaded w t name hook coming) ≡ shown c w)
+      GatesHold c (loaded w t name hook coming) × (shown c (loaded w t name hook coming) ≡ shown c w)
   want_load name s s' coming e ec s1 s2 st st' sk sums one flag re =
       let f : (m < c.mounts) × (p < c.processors) × (held_at (w.views t) m < 1024) = fits_now c w good t lt (want m p wait s) e in
       let n : Counts (role_of m (w.views t).phase) (want_role p s) = counts (want_here m p wait s e) in
@@ -76,19 +76,19 @@ module _ (c : Config) (w : World) (good : Good c w) (t : ℕ) (lt : t < c.tasks)
       sought (want_role p s) ≡ 1 → stands (want_role p s) ≡ 0 →
       ((k : ℕ) → (unread k (BackingOff p) ≤ passed_hold (want_role p s) + unread k (want_role p s)) × (unread k (want_role p s) ≤ unread k (BackingOff p))) →
       let coming : Next Phase = Go (Mounts (want m p wait (CountsDown refusal))) in
-      Good c (loaded w t name hook coming) × (shown c (loaded w t name hook coming) ≡ shown c w)
+      GatesHold c (loaded w t name hook coming) × (shown c (loaded w t name hook coming) ≡ shown c w)
   want_refused name s refusal e so st sums =
       want_load name s (CountsDown refusal) (Go (Mounts (want m p wait (CountsDown refusal)))) e refl so refl st refl refl
       (inr (omega arith, λ k. (omega (arith, sums k), omega (arith, sums k)))) (omega arith) (λ e1. omega arith) (λ e1. omega arith)
 
-  pub loads_remount : (w.views t).phase ≡ Some (Mounts (want m p wait LoadsRemount)) → StepKeeps c w t hook (Mounts (want m p wait LoadsRemount))
+  pub loads_remount : (w.views t).phase ≡ Some (Mounts (want m p wait LoadsRemount)) → GateStepKeeps c w t hook (Mounts (want m p wait LoadsRemount))
   loads_remount e =
       elim (eqb_tells w.words.remount 0) [
         | inl h ↦ rw h.0 (want_load Remount LoadsRemount LoadsReadOnly (Go (Mounts (want m p wait LoadsReadOnly))) e refl refl refl refl refl refl (inr (omega arith, λ k. (omega arith, omega arith))) (omega arith) (λ e1. omega arith) (λ e1. omega (arith, h.1)))
         | inr h ↦ rw h.0 (want_refused Remount LoadsRemount ReadOnly e refl refl (λ k. (unread_le k (BackingOff p), omega arith)))
       ]
 
-  pub loads_read_only : (w.views t).phase ≡ Some (Mounts (want m p wait LoadsReadOnly)) → StepKeeps c w t hook (Mounts (want m p wait LoadsReadOnly))
+  pub loads_read_only : (w.views t).phase ≡ Some (Mounts (want m p wait LoadsReadOnly)) → GateStepKeeps c w t hook (Mounts (want m p wait LoadsReadOnly))
   loads_read_only e =
       let f : (m < c.mounts) × (p < c.processors) × (held_at (w.views t) m < 1024) = fits_now c w good t lt (want m p wait LoadsReadOnly) e in
       elim (cases_Bool (has_flag (w.words.flags m) 1)) [
@@ -98,18 +98,18 @@ module _ (c : Config) (w : World) (good : Good c w) (t : ℕ) (lt : t < c.tasks)
 
 -- a want finds HOLD set: it waits, or backs off
 module _ (c : Config) (w : World) (good : Good c w) (t : ℕ) (lt : t < c.tasks) (m p : ℕ) (hook : HookAnswer) where
-  pub loads_hold : (wait : Bool) → (w.views t).phase ≡ Some (Mounts (want m p wait LoadsHold)) → StepKeeps c w t hook (Mounts (want m p wait LoadsHold))
+  pub loads_hold : (wait : Bool) → (w.views t).phase ≡ Some (Mounts (want m p wait LoadsHold)) → GateStepKeeps c w t hook (Mounts (want m p wait LoadsHold))
   loads_hold true e =
       let f : (m < c.mounts) × (p < c.processors) × (held_at (w.views t) m < 1024) = fits_now c w good t lt (want m p true LoadsHold) e in
       elim (cases_Bool (has_flag (w.words.flags m) 2)) [
         | inl h ↦ rw h (want_load c w good t lt m p true hook (MountFlags m) LoadsHold LoadsHold (Wait (Mounts (want m p true LoadsHold))) e refl refl refl refl refl refl (inr (omega arith, λ k. (omega arith, omega arith))) (omega arith) (λ e1. omega arith) (λ e1. omega arith))
-        | inr h ↦ rw h (want_load c w good t lt m p true hook (MountFlags m) LoadsHold LoadsRemount (Go (Mounts (want m p true LoadsRemount))) e refl refl refl refl refl refl (inl (hold_clear (w.words.flags m) (good.mount m f.0).bits h)) (omega arith) (λ e1. omega arith) (λ e1. omega arith))
+        | inr h ↦ rw h (want_load c w good t lt m p true hook (MountFlags m) LoadsHold LoadsRemount (Go (Mounts (want m p true LoadsRemount))) e refl refl refl refl refl refl (inl (hold_clear (w.words.flags m) (good (AtMount m) f.0).bits h)) (omega arith) (λ e1. omega arith) (λ e1. omega arith))
       ]
   loads_hold false e =
       let f : (m < c.mounts) × (p < c.processors) × (held_at (w.views t) m < 1024) = fits_now c w good t lt (want m p false LoadsHold) e in
       elim (cases_Bool (has_flag (w.words.flags m) 2)) [
         | inl h ↦ rw h (want_refused c w good t lt m p false hook (MountFlags m) LoadsHold Again e refl refl (λ k. (omega arith, omega arith)))
-        | inr h ↦ rw h (want_load c w good t lt m p false hook (MountFlags m) LoadsHold LoadsRemount (Go (Mounts (want m p false LoadsRemount))) e refl refl refl refl refl refl (inl (hold_clear (w.words.flags m) (good.mount m f.0).bits h)) (omega arith) (λ e1. omega arith) (λ e1. omega arith))
+        | inr h ↦ rw h (want_load c w good t lt m p false hook (MountFlags m) LoadsHold LoadsRemount (Go (Mounts (want m p false LoadsRemount))) e refl refl refl refl refl refl (inl (hold_clear (w.words.flags m) (good (AtMount m) f.0).bits h)) (omega arith) (λ e1. omega arith) (λ e1. omega arith))
       ]
 
 module _ (c : Config) (w : World) (good : Good c w) (t : ℕ) (lt : t < c.tasks) (m p : ℕ) (wait : Bool) (hook : HookAnswer) where
@@ -118,14 +118,14 @@ module _ (c : Config) (w : World) (good : Good c w) (t : ℕ) (lt : t < c.tasks)
       ((shown c w).mount_ro m ≡ false) × ((shown c w).sb_ro ≡ false)
   not_read_only e z lm =
       let n : Counts (role_of m (w.views t).phase) (PastFlags p) = counts (want_here m p wait LoadsSuperblock e) in
-      let g : MountHolds c.tasks c.processors (w.words.flags m) w.words.remount w.words.sb (w.words.count m) (λ x. at_mount m (w.views x)) = good.mount m lm in
+      let g : MountHolds c.tasks c.processors (w.words.flags m) w.words.remount w.words.sb (w.words.count m) (λ x. at_mount m (w.views x)) = good (AtMount m) lm in
       let open_now : ro_bit (w.words.flags m) ≡ 1 → ⊥ = λ q. omega (arith, g.closed q, n.flags_is, total_at c.tasks t (λ x. held_at (w.views x) m + past_flags (role_of m (w.views x).phase)) lt) in
       let writable : w.words.remount ≡ 1 → ⊥ = λ q.
       let zero_bit : ro_bit (w.words.flags m) ≡ 0 = omega (arith, open_now) in
       omega (arith, g.remounting q z zero_bit, n.remount_is, total_at c.tasks t (λ x. held_at (w.views x) m + past_remount (role_of m (w.views x).phase)) lt) in
       (ne_eqb (ro_bit (w.words.flags m)) 1 open_now, rw (ne_eqb w.words.remount 1 writable, z) refl)
 
-  pub loads_superblock : (w.views t).phase ≡ Some (Mounts (want m p wait LoadsSuperblock)) → StepKeeps c w t hook (Mounts (want m p wait LoadsSuperblock))
+  pub loads_superblock : (w.views t).phase ≡ Some (Mounts (want m p wait LoadsSuperblock)) → GateStepKeeps c w t hook (Mounts (want m p wait LoadsSuperblock))
   loads_superblock e =
       let f : (m < c.mounts) × (p < c.processors) × (held_at (w.views t) m < 1024) = fits_now c w good t lt (want m p wait LoadsSuperblock) e in
       elim (eqb_tells w.words.sb 0) [
@@ -134,12 +134,12 @@ module _ (c : Config) (w : World) (good : Good c w) (t : ℕ) (lt : t < c.tasks)
             let n : Counts (role_of m (w.views t).phase) (PastFlags p) = counts (want_here m p wait LoadsSuperblock e) in
             let same : Steady (w.views t).phase None = as_owner (want m p wait LoadsSuperblock) e refl refl (λ i. refl) in
             let r : ((shown c w).mount_ro m ≡ false) × ((shown c w).sb_ro ≡ false) = not_read_only e h.1 f.0 in
-            let there : Good c (record { words = w.words; views = changed w.views t v }) =
-            good_after c w t lt good m w.words v refl refl
+            let there : GatesHold c (record { words = w.words; views = changed w.views t v }) =
+            gates_after c w t lt good m w.words v refl refl
             (owner_same c w t lt good v same) tt
             (λ y ne. (refl, refl, view_as (changed_off (held_at (w.views t)) m (held_at (w.views t) m + 1) y ne) refl refl (sym (want_off m p wait LoadsSuperblock e y ne))))
             (λ lm. holds_as refl refl refl refl (ap (changed (λ x. at_mount m (w.views x)) t) (view_as (changed_at (held_at (w.views t)) m (held_at (w.views t) m + 1)) refl refl refl))
-            (moves c.tasks c.processors (w.words.flags m) w.words.remount w.words.sb (w.words.count m) (λ x. at_mount m (w.views x)) (good.mount m lm) t lt Out (held_at (w.views t) m + 1)
+            (moves c.tasks c.processors (w.words.flags m) w.words.remount w.words.sb (w.words.count m) (λ x. at_mount m (w.views x)) (good (AtMount m) lm) t lt Out (held_at (w.views t) m + 1)
             (omega (arith, n.sought_is)) (omega (arith, f.2)) refl refl (omega (arith, n.stands_is))
             (inr (omega (arith, n.passed_is), λ k. (omega (arith, n.passed_is, n.unread_is k), omega (arith, n.unread_is k))))
             (λ e1. omega (arith, n.flags_is)) (λ e1 e2 e3. omega (arith, n.remount_is)) (λ e1. absurd (omega (arith, h.1, e1))))) in
