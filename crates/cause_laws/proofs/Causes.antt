@@ -22,7 +22,8 @@ use Rattle.gate_world.specs.declared.work.Phase.TheVariants.{Mounts}
 use Rattle.gate_world.specs.Views.{holds_level, phase_after}
 use Rattle.gate_world.specs.Fits.{SumFits}
 use Rattle.gate_world.specs.Work.{after_of}
-use Rattle.gate_world.specs.Worlds.{World, holds_none, found_at}
+use Rattle.gate_world.specs.Operations.{holds_none}
+use Rattle.gate_world.specs.Worlds.{World, found_at}
 use Rattle.gate_world.specs.Rules.{Good, Owner, Superblock, AtMount}
 use Rattle.gate_world.specs.Causes.{asks, last_question, was_read_only, words_read, moments_of_sum, all_counted, was_counted}
 use Rattle.gate_frames.proofs.Loads.{fits_now}

@@ -30,7 +30,8 @@ use Rattle.gate_world.specs.declared.views.View.{View}
 use Rattle.gate_world.specs.Configs.{IsWithin}
 use Rattle.gate_world.specs.Views.{held_at, holds_level, added_by, taken_by, view_with}
 use Rattle.gate_world.specs.Fits.{SumFits}
-use Rattle.gate_world.specs.Worlds.{World, holds_none, shown, closing}
+use Rattle.gate_world.specs.Operations.{holds_none}
+use Rattle.gate_world.specs.Worlds.{World, shown, closing}
 use Rattle.gate_world.specs.Rules.{change_role, role_of, at_mount, change_owns, owns, remounts, Steady, OwnerHolds, ViewFits, Good, GateStepKeeps, Owner, AtMount, GatesHold}
 use Rattle.gate_frames.proofs.Frames.{changed_map, changed_same, role_on, role_off, view_as, holds_as, owner_same, shown_as, shown_still}
 use Rattle.gate_frames.proofs.Loads.{as_owner, loaded, load_law, role_none, fits_now}

@@ -25,7 +25,8 @@ use Rattle.gate_world.specs.declared.work.Phase.TheVariants.{Mounts}
 use Rattle.gate_world.specs.declared.views.View.{View}
 use Rattle.gate_world.specs.Views.{held_at, holds_level, added_by, taken_by}
 use Rattle.gate_world.specs.Fits.{SumFits}
-use Rattle.gate_world.specs.Worlds.{World, holds_none, shown}
+use Rattle.gate_world.specs.Operations.{holds_none}
+use Rattle.gate_world.specs.Worlds.{World, shown}
 use Rattle.gate_world.specs.Rules.{want_role, change_role, role_if, role_of, at_mount, change_owns, owns, remounts, Steady, OwnerHolds, ViewFits, Good, GateStepKeeps, Owner, AtMount, GatesHold}
 use Rattle.gate_frames.proofs.Frames.{changed_same, view_as, holds_as, owner_same, gates_after}
 use Rattle.gate_frames.proofs.Loads.{as_owner, loaded, load_law, role_none, fits_now}

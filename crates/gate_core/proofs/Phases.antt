@@ -27,7 +27,7 @@ use Rattle.gate_world.specs.declared.work.Phase.TheVariants.{Mounts}
 use Rattle.gate_world.specs.Configs.{IsWithin, extents_of}
 use Rattle.gate_world.specs.Views.{phase_after}
 use Rattle.gate_world.specs.Work.{of_mounts, next_of, after_of}
-use Rattle.gate_world.specs.Worlds.{holds_none}
+use Rattle.gate_world.specs.Operations.{holds_none}
 use Rattle.gate_world.specs.Fits.{SumFits, MountFits, PhaseFits, Fits}
 use Rattle.gate_core.specs.Seats.{ActionFits}
 

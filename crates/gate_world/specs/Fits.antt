@@ -8,7 +8,7 @@ use Rattle.mount_counts.specs.declared.phases.ChangeStep.TheVariants.{Locks, Loa
 use Rattle.gate_world.specs.declared.config.Config.{Config}
 use Rattle.gate_world.specs.declared.work.Phase.{Phase}
 use Rattle.gate_world.specs.declared.work.Phase.TheVariants.{Mounts}
-use Rattle.gate_world.specs.Worlds.{holds_none}
+use Rattle.gate_world.specs.Operations.{holds_none}
 
 -- a sum in progress has a word more to read
 abbrev pub SumFits : Config → ChangeStep → Type 0

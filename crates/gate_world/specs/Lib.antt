@@ -1,6 +1,8 @@
 pub mod Configs
 pub mod Work
 pub mod Views
+pub mod Found
+pub mod Operations
 pub mod Worlds
 pub mod Fits
 pub mod Rules

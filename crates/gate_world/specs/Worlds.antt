@@ -21,6 +21,7 @@ use Rattle.gate_world.specs.declared.operations.Op.TheVariants.{Want, DropMount,
 use Rattle.gate_world.specs.declared.work.Phase.{Phase}
 use Rattle.gate_world.specs.declared.work.Phase.TheVariants.{Mounts}
 use Rattle.gate_world.specs.declared.views.View.{View}
+use Rattle.gate_world.specs.Operations.{row}
 use Rattle.gate_world.specs.Work.{next_of, after_of}
 use Rattle.gate_world.specs.Views.{opening_view, held_at, holds_level, view_after, begun_view}
 
@@ -35,31 +36,19 @@ pub data Entry : Type 0 where
 
 -- the first phase of an operation
 abbrev pub first_phase : Config → ℕ → Op → Phase
-first_phase c t (Want m p wait) = Mounts (Wants (record { mount = m; cpu = p; wait = wait; step = CountsUp }))
-first_phase c t (DropMount m p) = Mounts (Drops m p)
-first_phase c t (ChangeMount m read_only wait) = Mounts (Changes (record { mount = m; read_only = read_only; wait = wait; task = t; processors = c.processors; step = Locks }))
+first_phase c t op = (row op).first c t
 
--- its mount and its processor are in range
+-- its numbers are in range
 abbrev pub is_in_range : Config → Op → Bool
-is_in_range c (Want m p wait) = nat_lt m c.mounts && nat_lt p c.processors
-is_in_range c (DropMount m p) = nat_lt m c.mounts && nat_lt p c.processors
-is_in_range c (ChangeMount m read_only wait) = nat_lt m c.mounts
-
--- with these levels held, no level is
-abbrev pub holds_none : (ℕ → Bool) → Bool
-holds_none levels = not (levels 1) && (not (levels 2) && not (levels 3))
+is_in_range c op = (row op).in_range c
 
 -- it may be begun by a task that holds these accesses
 abbrev pub is_in_order : (ℕ → ℕ) → (ℕ → Bool) → Op → Bool
-is_in_order held levels (Want m p wait) = true
-is_in_order held levels (DropMount m p) = nat_lt 0 (held m)
-is_in_order held levels (ChangeMount m read_only wait) = holds_none levels
+is_in_order held levels op = (row op).in_order held levels
 
 -- it would not give the task more accesses at a mount than there may be
 abbrev pub is_within_room : (ℕ → ℕ) → Op → Bool
-is_within_room held (Want m p wait) = nat_lt (held m) 1024
-is_within_room held (DropMount m p) = true
-is_within_room held (ChangeMount m read_only wait) = true
+is_within_room held op = (row op).within_room held
 
 -- why an operation can't begin, the first in this order
 abbrev pub refusal : Config → Bool → (ℕ → ℕ) → (ℕ → Bool) → Op → Option GateError

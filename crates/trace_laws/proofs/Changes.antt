@@ -24,7 +24,8 @@ use Rattle.gate_world.specs.declared.work.Phase.TheVariants.{Mounts}
 use Rattle.gate_world.specs.declared.views.Traced.{Traced}
 use Rattle.gate_world.specs.Views.{traced}
 use Rattle.gate_world.specs.Configs.{IsWithin}
-use Rattle.gate_world.specs.Traces.{found_read_only, counts_loaded, sum_loaded, IsEachCount, actions_of, IsHonestAnswer, most_events, IsShort}
+use Rattle.gate_world.specs.Found.{found_read_only, counts_loaded, sum_loaded, IsEachCount}
+use Rattle.gate_world.specs.Traces.{actions_of, IsHonestAnswer, most_events, IsShort}
 use Rattle.trace_laws.proofs.Says.{SaysAfter, Kept, event_at}
 
 abbrev pub change : Config → ℕ → ℕ → Bool → Bool → ChangeStep → Phase

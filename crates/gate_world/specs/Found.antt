@@ -1,0 +1,69 @@
+-- What the events of a trace have found.
+use Rattle.std.specs.Prelude.{◌≡◌, ℕ, zero, suc, ◌%◌, ◌==◌, not, ◌&&◌, ◌||◌, Bool, true, false, if◌then◌else◌, List, [], ◌∷◌, sum_by}
+use Rattle.cpu_words.specs.declared.names.WordName.{WordName}
+use Rattle.cpu_words.specs.declared.names.WordName.TheVariants.{Umount, SbFlags, Remount, MountFlags, MountCount}
+use Rattle.cpu_words.specs.declared.events.Touch.{Touch}
+use Rattle.cpu_words.specs.declared.events.Touch.TheVariants.{Load, Cas}
+use Rattle.cpu_words.specs.declared.events.Event.{Event}
+use Rattle.mount_counts.specs.Phases.{has_flag}
+use Rattle.gate_world.specs.declared.views.Traced.{Traced}
+
+-- the touch is a load; a compare-exchange
+abbrev pub is_load : Touch → Bool
+is_load Load = true
+is_load touch = false
+
+abbrev pub is_cas : Touch → Bool
+is_cas (Cas expect put) = true
+is_cas touch = false
+
+-- the load answers the read-only question for this mount with yes
+abbrev pub says_read_only : ℕ → WordName → ℕ → Bool
+says_read_only m (MountFlags n) found = (n == m) && has_flag found 1
+says_read_only m Remount found = not (found == 0)
+says_read_only m SbFlags found = not (found == 0)
+says_read_only m word found = false
+
+-- the load found HOLD at this mount
+abbrev pub says_hold : ℕ → WordName → ℕ → Bool
+says_hold m (MountFlags n) found = (n == m) && has_flag found 2
+says_hold m word found = false
+
+-- `umount` was found taken
+abbrev pub says_taken : WordName → ℕ → Bool
+says_taken Umount found = not (found == 0)
+says_taken word found = false
+
+-- some event of the trace passes this test
+abbrev pub some_event : (Event → Bool) → List Traced → Bool
+some_event test [] = false
+some_event test (e ∷ earlier) = test e.event || some_event test earlier
+
+abbrev pub found_read_only : ℕ → List Traced → Bool
+found_read_only m trace = some_event (λ e. is_load e.touch && says_read_only m e.word e.found) trace
+
+abbrev pub found_hold : ℕ → List Traced → Bool
+found_hold m trace = some_event (λ e. is_load e.touch && says_hold m e.word e.found) trace
+
+abbrev pub found_taken : List Traced → Bool
+found_taken trace = some_event (λ e. is_cas e.touch && says_taken e.word e.found) trace
+
+-- a load of a count of this mount, as its processor and what it found
+abbrev pub count_found : ℕ → WordName → ℕ → List (ℕ × ℕ) → List (ℕ × ℕ)
+count_found m (MountCount n p) found earlier = if n == m then (p, found) ∷ earlier else earlier
+count_found m word found earlier = earlier
+
+-- the loads of this mount's counts, the newest first
+abbrev pub counts_loaded : ℕ → List Traced → List (ℕ × ℕ)
+counts_loaded m [] = []
+counts_loaded m (e ∷ earlier) = if is_load e.event.touch then count_found m e.event.word e.event.found (counts_loaded m earlier) else counts_loaded m earlier
+
+-- these are one load of each processor's count, from 0 up, and the newest first
+abbrev pub IsEachCount : ℕ → List (ℕ × ℕ) → Type 0
+IsEachCount zero [] = Unit {0}
+IsEachCount zero (x ∷ earlier) = ⊥
+IsEachCount (suc n) [] = ⊥
+IsEachCount (suc n) (x ∷ earlier) = (x.0 ≡ n) × IsEachCount n earlier
+
+abbrev pub sum_loaded : List (ℕ × ℕ) → ℕ
+sum_loaded loads = sum_by (λ (x : ℕ × ℕ). x.1) loads % 18446744073709551616

@@ -1,0 +1,107 @@
+-- One row for each operation: all that is said of it apart from its events.
+use Rattle.std.specs.Prelude.{◌≡◌, ◌≢◌, ℕ, ◌+◌, ◌==◌, Bool, true, false, not, ◌&&◌, nat_lt, if◌then◌else◌, Option, Some, None, List, [], ◌∷◌}
+use Rattle.access_model.specs.declared.actions.Action.{Action}
+use Rattle.access_model.specs.declared.actions.Action.TheVariants.{Grant, Return, MountRo, MountRw}
+use Rattle.access_model.specs.declared.actions.Gate.TheVariants.{Mount}
+use Rattle.access_model.specs.declared.errors.GateError.{GateError}
+use Rattle.access_model.specs.declared.errors.GateError.TheVariants.{Again, Busy, ReadOnly}
+use Rattle.cpu_words.specs.declared.events.Event.{Event}
+use Rattle.mount_counts.specs.declared.phases.MountPhase.TheVariants.{Want as Wants, Drop as Drops, Change as Changes}
+use Rattle.mount_counts.specs.declared.phases.WantStep.TheVariants.{CountsUp}
+use Rattle.mount_counts.specs.declared.phases.ChangeStep.TheVariants.{Locks}
+use Rattle.gate_world.specs.declared.config.Config.{Config}
+use Rattle.gate_world.specs.declared.operations.Op.{Op}
+use Rattle.gate_world.specs.declared.operations.Op.TheVariants.{Want, DropMount, ChangeMount}
+use Rattle.gate_world.specs.declared.work.Phase.{Phase}
+use Rattle.gate_world.specs.declared.work.Phase.TheVariants.{Mounts}
+use Rattle.gate_world.specs.declared.views.Traced.{Traced}
+use Rattle.gate_world.specs.Found.{is_load, is_cas, says_hold, says_taken, found_read_only, found_hold, found_taken, counts_loaded, IsEachCount, sum_loaded}
+
+-- what is said of an operation
+pub record OpRow : Type 1 where
+  -- its first phase, by its task
+  pub first : Config → ℕ → Phase
+  -- its numbers are in range
+  pub in_range : Config → Bool
+  -- it may be begun by a task that holds these accesses
+  pub in_order : (ℕ → ℕ) → (ℕ → Bool) → Bool
+  -- it would not give the task more accesses at a mount than there may be
+  pub within_room : (ℕ → ℕ) → Bool
+  -- it may wait
+  pub waits : Bool
+  -- the most events, where it waits for nobody
+  pub most_events : Config → Option ℕ
+  -- what it has added where it replied
+  pub actions : List Traced → List Action
+  -- a refusal has its cause in the trace, and there is no other refusal
+  pub IsHonest : Config → GateError → List Traced → Type 0
+  -- it may report that it waits after this event
+  pub MayWait : Event → Type 0
+
+-- with these levels held, no level is
+abbrev pub holds_none : (ℕ → Bool) → Bool
+holds_none levels = not (levels 1) && (not (levels 2) && not (levels 3))
+
+abbrev want_honest : ℕ → Bool → GateError → List Traced → Type 0
+want_honest m wait ReadOnly trace = found_read_only m trace ≡ true
+want_honest m wait Again trace = (wait ≡ false) × (found_hold m trace ≡ true)
+want_honest m wait refusal trace = ⊥
+
+-- a want that is granted has added its grant; one that waits has found HOLD
+abbrev want_row : ℕ → ℕ → Bool → OpRow
+want_row m p wait = record {
+  first = λ c t. Mounts (Wants (record { mount = m; cpu = p; wait = wait; step = CountsUp }));
+  in_range = λ c. nat_lt m c.mounts && nat_lt p c.processors;
+  in_order = λ held levels. true;
+  within_room = λ held. nat_lt (held m) 1024;
+  waits = wait;
+  most_events = λ c. if wait then None else Some 6;
+  actions = λ trace. Grant (Mount m) ∷ [];
+  IsHonest = λ c refusal trace. want_honest m wait refusal trace;
+  MayWait = λ e. (wait ≡ true) × ((is_load e.touch && says_hold m e.word e.found) ≡ true);
+}
+
+-- a drop has added its return, and is never refused
+abbrev drop_row : ℕ → ℕ → OpRow
+drop_row m p = record {
+  first = λ c t. Mounts (Drops m p);
+  in_range = λ c. nat_lt m c.mounts && nat_lt p c.processors;
+  in_order = λ held levels. nat_lt 0 (held m);
+  within_room = λ held. true;
+  waits = false;
+  most_events = λ c. Some 1;
+  actions = λ trace. Return (Mount m) ∷ [];
+  IsHonest = λ c refusal trace. ⊥;
+  MayWait = λ e. ⊥;
+}
+
+-- a change has added the mount's new state, but nothing where its trace found the state as it was asked for
+abbrev unless_so : Bool → Bool → ℕ → List Action
+unless_so true true m = []
+unless_so true false m = MountRo m ∷ []
+unless_so false true m = MountRw m ∷ []
+unless_so false false m = []
+
+abbrev change_honest : Config → ℕ → Bool → GateError → List Traced → Type 0
+change_honest c m wait Again trace = (wait ≡ false) × (found_taken trace ≡ true)
+change_honest c m wait Busy trace = IsEachCount c.processors (counts_loaded m trace) × (sum_loaded (counts_loaded m trace) ≢ 0)
+change_honest c m wait refusal trace = ⊥
+
+-- one that waits has found `umount` taken
+abbrev change_row : ℕ → Bool → Bool → OpRow
+change_row m read_only wait = record {
+  first = λ c t. Mounts (Changes (record { mount = m; read_only = read_only; wait = wait; task = t; processors = c.processors; step = Locks }));
+  in_range = λ c. nat_lt m c.mounts;
+  in_order = λ held levels. holds_none levels;
+  within_room = λ held. true;
+  waits = wait;
+  most_events = λ c. if wait then None else Some (c.processors + 7);
+  actions = λ trace. unless_so read_only (found_read_only m trace) m;
+  IsHonest = λ c refusal trace. change_honest c m wait refusal trace;
+  MayWait = λ e. (wait ≡ true) × ((is_cas e.touch && says_taken e.word e.found) ≡ true);
+}
+
+abbrev pub row : Op → OpRow
+row (Want m p wait) = want_row m p wait
+row (DropMount m p) = drop_row m p
+row (ChangeMount m read_only wait) = change_row m read_only wait
