@@ -1,3 +1,1 @@
-pub mod Quiet
-pub mod Causes
-pub mod Entries
+pub mod Moments

@@ -1,8 +1,8 @@
 -- A beginning of the core shows what the entry makes of the world.
 use Rattle.std.proofs.Common.{◌≡◌, ℕ, ◌<◌, ◌≤◌, Bool, true, false, [], ◌∷◌, ◌++◌, length, get_or, refl, sym, ap, ◌∙◌, subst, inl, inr, arith}
 use Rattle.std.proofs.Math.ListN.{length-set}
-use Rattle.std.specs.Prelude.{◌&&◌, nat_lt, if◌then◌else◌, is_some, Option, Some, None, Result, Err, slice_set}
-use Rattle.std.proofs.lemmas.Bool.{cases_Bool, lt-ltb, ltb-true}
+use Rattle.std.specs.Prelude.{if◌then◌else◌, is_some, Option, Some, None, Result, Err, slice_set}
+use Rattle.std.proofs.lemmas.Bool.{cases_Bool, lt-ltb}
 use Rattle.std.proofs.lemmas.List.{get_or_default}
 use Rattle.finite_sums.specs.Sums.{changed}
 use Rattle.finite_sums.proofs.Totals.{changed_at, changed_off}
@@ -10,7 +10,6 @@ use Rattle.access_model.specs.declared.errors.GateError.{GateError}
 use Rattle.access_model.specs.declared.errors.GateError.TheVariants.{Invalid, Order, TooMany}
 use Rattle.gate_world.specs.declared.config.Config.{Config}
 use Rattle.gate_world.specs.declared.operations.Op.{Op}
-use Rattle.gate_world.specs.declared.operations.Op.TheVariants.{Want, DropMount, ChangeMount}
 use Rattle.gate_world.specs.declared.work.Phase.{Phase}
 use Rattle.gate_world.specs.declared.views.View.{View}
 use Rattle.gate_world.specs.Views.{held_at, holds_level, begun_view}
@@ -19,26 +18,17 @@ use Rattle.gate_world.specs.Fits.{Fits}
 use Rattle.gate_core.specs.declared.seats.Seat.{Seat}
 use Rattle.gate_core.specs.Memory.{Memory, Shows, IsSound, no_seat, seat_of, mounts_in, levels_in}
 use Rattle.gate_core.specs.Answers.{unless_refused, begin_answer}
-use Rattle.gate_core.proofs.Phases.{none_agree}
+use Rattle.schedule_laws.proofs.Layers.{op_keeps}
 use Rattle.gate_core.proofs.Held.{seat_cases}
 use Rattle.gate_core.proofs.Stepping.{run_more}
-
-both : (a b : Bool) → (a && b) ≡ true → (a ≡ true) × (b ≡ true)
-both true true e = (refl, refl)
-both true false e = (refl, e)
-both false b e = absurd (cc)
 
 -- why an operation can't begin is asked of accesses that agree at each mount and level
 module _ (c : Config) (f g : ℕ → ℕ) (h k : ℕ → Bool) (mounts : (m : ℕ) → m < c.mounts → f m ≡ g m) (levels : (i : ℕ) → 1 ≤ i → i ≤ 3 → h i ≡ k i) where
   order_agree : (op : Op) → is_in_range c op ≡ true → is_in_order f h op ≡ is_in_order g k op
-  order_agree (Want m p wait) there = refl
-  order_agree (DropMount m p) there = ap (nat_lt 0) (mounts m (ltb-true m c.mounts (both (nat_lt m c.mounts) (nat_lt p c.processors) there).0))
-  order_agree (ChangeMount m read_only wait) there = none_agree c 0 f g h k mounts levels
+  order_agree op there = (op_keeps c op).order_agrees f g h k mounts levels there
 
   room_agree : (op : Op) → is_in_range c op ≡ true → is_within_room f op ≡ is_within_room g op
-  room_agree (Want m p wait) there = ap (λ y. nat_lt y 1024) (mounts m (ltb-true m c.mounts (both (nat_lt m c.mounts) (nat_lt p c.processors) there).0))
-  room_agree (DropMount m p) there = refl
-  room_agree (ChangeMount m read_only wait) there = refl
+  room_agree op there = (op_keeps c op).room_agrees f g mounts there
 
   pub refusal_agree : (under_way : Bool) (op : Op) → refusal c under_way f h op ≡ refusal c under_way g k op
   refusal_agree true op = refl
@@ -50,13 +40,7 @@ module _ (c : Config) (f g : ℕ → ℕ) (h k : ℕ → Bool) (mounts : (m : �
 
 module _ (c : Config) (t : ℕ) (f : ℕ → ℕ) (h : ℕ → Bool) where
   begins : (op : Op) → is_in_range c op ≡ true → is_in_order f h op ≡ true → is_within_room f op ≡ true → Fits c t f h (Some (first_phase c t op))
-  begins (Want m p wait) there order room =
-      let at : (nat_lt m c.mounts ≡ true) × (nat_lt p c.processors ≡ true) = both (nat_lt m c.mounts) (nat_lt p c.processors) there in
-      (ltb-true m c.mounts at.0, ltb-true p c.processors at.1, ltb-true (f m) 1024 room)
-  begins (DropMount m p) there order room =
-      let at : (nat_lt m c.mounts ≡ true) × (nat_lt p c.processors ≡ true) = both (nat_lt m c.mounts) (nat_lt p c.processors) there in
-      (ltb-true m c.mounts at.0, ltb-true p c.processors at.1, ltb-true 0 (f m) order)
-  begins (ChangeMount m read_only wait) there order room = (ltb-true m c.mounts there, refl, refl, order, tt)
+  begins op there order room = (op_keeps c op).fits t f h there order room
 
   if_allowed : (there order room : Bool) → ◌≡◌ {A = Option GateError} (if there then (if order then (if room then None else Some TooMany) else Some Order) else Some Invalid) None →
       (there ≡ true) × (order ≡ true) × (room ≡ true)

@@ -13,8 +13,9 @@ use Rattle.gate_world.specs.Views.{actions_after}
 use Rattle.gate_core.specs.declared.seats.Accesses.{Accesses}
 use Rattle.gate_core.specs.declared.seats.Seat.{Seat}
 use Rattle.gate_core.specs.Memory.{no_seat}
-use Rattle.gate_core.specs.Seats.{accesses_after, ActionFits}
-use Rattle.gate_core.proofs.Phases.{mounts_by, levels_by}
+use Rattle.gate_world.specs.Fits.{ActionFits}
+use Rattle.gate_core.specs.Seats.{accesses_after}
+use Rattle.gate_world.specs.Fits.{mounts_by, levels_by}
 
 pub mounts_of_after : (a : Option Action) (actions : List Action) → mounts_of (actions_after a actions) ≡ mounts_by a (mounts_of actions)
 mounts_of_after None actions = refl

@@ -29,9 +29,11 @@ use Rattle.gate_core.specs.declared.steps.Progress.{Progress}
 use Rattle.gate_core.specs.declared.steps.Step.{Step}
 use Rattle.gate_core.specs.Memory.{Memory, Shows, IsSound, no_seat, seat_of, mounts_in, levels_in}
 use Rattle.gate_core.specs.Answers.{progress_of, step_answer}
-use Rattle.gate_core.specs.Seats.{accesses_after, ActionFits}
+use Rattle.gate_world.specs.Fits.{ActionFits}
+use Rattle.gate_core.specs.Seats.{accesses_after}
 use Rattle.gate_core.proofs.Places.{place_small, written}
-use Rattle.gate_core.proofs.Phases.{mounts_by, levels_by, word_there, action_fits, fits_after, fits_agree}
+use Rattle.gate_world.specs.Fits.{mounts_by, levels_by}
+use Rattle.gate_core.proofs.Phases.{word_there, action_fits, fits_after, fits_agree}
 use Rattle.gate_core.proofs.Held.{mounts_of_after, levels_of_after, long_after, wide_after, mounts_same, levels_same, seat_cases}
 
 -- a schedule with one entry more

@@ -17,7 +17,8 @@ pub struct Accesses {
 }
 
 impl Accesses {
-    ghost use Rattle.gate_core.specs.Seats.{accesses_after, ActionFits, mount_of};
+    ghost use Rattle.gate_world.specs.Fits.{ActionFits};
+    ghost use Rattle.gate_core.specs.Seats.{accesses_after, mount_of};
 
     /// Does to these what an action of the task itself does.
     #[inline(always)]

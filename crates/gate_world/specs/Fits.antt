@@ -1,10 +1,14 @@
 -- What a phase says of its numbers and of its task's own accesses: they are accesses with which its operation may begin, as its own
 -- actions have changed them since.
-use Rattle.std.specs.Prelude.{◌≡◌, ℕ, ◌<◌, Bool, true, Option, Some, None}
+use Rattle.std.specs.Prelude.{◌≡◌, ℕ, ◌<◌, ◌≤◌, Bool, true, Option, Some, None}
 use Rattle.mount_counts.specs.declared.phases.MountPhase.{MountPhase}
 use Rattle.mount_counts.specs.declared.phases.MountPhase.TheVariants.{Want, Drop, Change}
 use Rattle.mount_counts.specs.declared.phases.ChangeStep.{ChangeStep}
-use Rattle.mount_counts.specs.declared.phases.ChangeStep.TheVariants.{Locks, LoadsFlags, LoadsSuperblock, ClearsReadOnly, SetsHold, Sums, SetsReadOnly, ClearsHold, Releases}
+use Rattle.mount_counts.specs.declared.phases.ChangeStep.TheVariants.{Sums}
+use Rattle.access_model.specs.declared.actions.Action.{Action}
+use Rattle.access_model.specs.declared.actions.Action.TheVariants.{Grant, Return}
+use Rattle.access_model.specs.declared.actions.Gate.TheVariants.{Mount, Level}
+use Rattle.access_model.specs.Actions.{mounts_after, levels_after}
 use Rattle.gate_world.specs.declared.config.Config.{Config}
 use Rattle.gate_world.specs.declared.work.Phase.{Phase}
 use Rattle.gate_world.specs.declared.work.Phase.TheVariants.{Mounts}
@@ -26,3 +30,21 @@ PhaseFits c t held levels (Mounts phase) = MountFits c t held levels phase
 abbrev pub Fits : Config → ℕ → (ℕ → ℕ) → (ℕ → Bool) → Option Phase → Type 0
 Fits c t held levels None = Unit {0}
 Fits c t held levels (Some phase) = PhaseFits c t held levels phase
+
+-- a task that holds these accesses at the mounts has room for an access that it gets, and holds one that it gives back
+abbrev pub ActionFits : (ℕ → ℕ) → Option Action → Type 0
+ActionFits held None = Unit {0}
+ActionFits held (Some (Grant (Mount m))) = (m < 8) × (held m < 1024)
+ActionFits held (Some (Grant (Level i))) = (1 ≤ i) × (i ≤ 3)
+ActionFits held (Some (Return (Mount m))) = (m < 8) × (0 < held m)
+ActionFits held (Some (Return (Level i))) = (1 ≤ i) × (i ≤ 3)
+ActionFits held (Some a) = Unit {0}
+
+-- what an action, if there is one, leaves of a task's accesses
+abbrev pub mounts_by : Option Action → (ℕ → ℕ) → ℕ → ℕ
+mounts_by None held = held
+mounts_by (Some a) held = mounts_after a held
+
+abbrev pub levels_by : Option Action → (ℕ → Bool) → ℕ → Bool
+levels_by None levels = levels
+levels_by (Some a) levels = levels_after a levels

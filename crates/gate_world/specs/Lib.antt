@@ -9,3 +9,4 @@ pub mod Rules
 pub mod Traces
 pub mod Headline
 pub mod Causes
+pub mod KeptCauses

@@ -1,5 +1,5 @@
 -- The world: the words and one view per task number; and what an entry of a schedule does to it.
-use Rattle.std.specs.Prelude.{ℕ, ◌+◌, ◌/◌, ◌%◌, Bool, true, not, ◌&&◌, ◌||◌, ◌==◌, nat_lt, if◌then◌else◌, Option, Some, None, is_some, List, [], ◌∷◌}
+use Rattle.std.specs.Prelude.{ℕ, ◌+◌, ◌/◌, ◌%◌, Bool, ◌&&◌, ◌||◌, ◌==◌, nat_lt, if◌then◌else◌, Option, Some, None, is_some, List, [], ◌∷◌}
 use Rattle.finite_sums.specs.Sums.{changed, total}
 use Rattle.access_model.specs.declared.actions.Action.{Action}
 use Rattle.access_model.specs.declared.actions.Kind.TheVariants.{File, Dir}
@@ -11,13 +11,9 @@ use Rattle.access_model.specs.Histories.{Done}
 use Rattle.cpu_words.specs.Touches.{left, found_by}
 use Rattle.cpu_words.specs.Words.{Words, read, put, opening_words}
 use Rattle.cpu_words.specs.Hooks.{HookAnswer}
-use Rattle.mount_counts.specs.declared.phases.MountPhase.TheVariants.{Want as Wants, Drop as Drops, Change as Changes}
-use Rattle.mount_counts.specs.declared.phases.WantStep.TheVariants.{CountsUp}
-use Rattle.mount_counts.specs.declared.phases.ChangeStep.TheVariants.{Locks}
 use Rattle.mount_counts.specs.Roles.{ro_bit}
 use Rattle.gate_world.specs.declared.config.Config.{Config}
 use Rattle.gate_world.specs.declared.operations.Op.{Op}
-use Rattle.gate_world.specs.declared.operations.Op.TheVariants.{Want, DropMount, ChangeMount}
 use Rattle.gate_world.specs.declared.work.Phase.{Phase}
 use Rattle.gate_world.specs.declared.work.Phase.TheVariants.{Mounts}
 use Rattle.gate_world.specs.declared.views.View.{View}

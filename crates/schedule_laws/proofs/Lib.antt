@@ -1,3 +1,5 @@
+pub mod Layers
+pub mod Entries
 pub mod Schedule
 pub mod Lists
 pub mod Whole

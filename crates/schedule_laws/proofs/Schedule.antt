@@ -13,25 +13,20 @@ use Rattle.access_model.specs.Histories.{Done, end_of, IsLegal}
 use Rattle.access_model.specs.States.{State, opening_state}
 use Rattle.access_model.specs.Actions.{IsAllowed, after_action}
 use Rattle.cpu_words.specs.Hooks.{HookAnswer}
-use Rattle.mount_counts.specs.declared.phases.MountPhase.TheVariants.{Want as Wants, Drop as Drops, Change as Changes}
-use Rattle.mount_counts.specs.Roles.{Out, sought, counted, MountHolds}
+use Rattle.mount_counts.specs.Roles.{sought, counted, MountHolds}
 use Rattle.mount_laws.proofs.MountLaws.{gate_sum, counted_parts, unread_le}
 use Rattle.gate_world.specs.declared.config.Config.{Config}
 use Rattle.gate_world.specs.declared.operations.Op.{Op}
-use Rattle.gate_world.specs.declared.operations.Op.TheVariants.{Want, DropMount, ChangeMount}
 use Rattle.gate_world.specs.declared.work.Phase.{Phase}
-use Rattle.gate_world.specs.declared.work.Phase.TheVariants.{Mounts}
 use Rattle.gate_world.specs.declared.views.View.{View}
 use Rattle.gate_world.specs.Configs.{IsWithin, limits_of}
 use Rattle.gate_world.specs.Views.{held_at, holds_level, begun_view}
-use Rattle.gate_world.specs.Fits.{Fits}
 use Rattle.gate_world.specs.Worlds.{World, Entry, Begins, Steps, first_phase, is_in_range, is_in_order, is_within_room, view_refusal, begun, begin_of, step_of, happens, phase_action, action_of, task_of, noted, run, opening, history, shown}
-use Rattle.gate_world.specs.Rules.{role_of, at_mount, Steady, ViewFits, Part, Owner, Superblock, Stages, Fitting, AtMount, Holds, Good, Moves, StepKeeps}
+use Rattle.gate_world.specs.Rules.{role_of, at_mount, Steady, ViewFits, Part, Owner, Superblock, Stages, Fitting, AtMount, Holds, Good, Moves}
 use Rattle.gate_world.specs.Headline.{SumsHold, IdleSumsHold}
+use Rattle.schedule_laws.proofs.Layers.{phase_keeps, op_keeps}
 use Rattle.gate_frames.proofs.Frames.{view_as, left_alone, shown_still}
-use Rattle.gate_frames.proofs.Loads.{role_none, steady}
-use Rattle.want_laws.proofs.Wants.{want_keeps, drop_keeps}
-use Rattle.change_laws.proofs.Each.{change_keeps}
+use Rattle.gate_frames.proofs.Loads.{steady}
 
 pub both : (a b : Bool) → (a && b) ≡ true → (a ≡ true) × (b ≡ true)
 both true b h = (refl, h)
@@ -68,45 +63,26 @@ may_begin c v op h =
     ]
 
 module _ (c : Config) (lim : IsWithin c) (w : World) (good : Good c w) (t : ℕ) (lt : t < c.tasks) where
-  pub phase_keeps : (hook : HookAnswer) (phase : Phase) → (w.views t).phase ≡ Some phase → StepKeeps c w t hook phase
-  phase_keeps hook (Mounts (Wants x)) e = want_keeps c lim w good t lt hook x.mount x.cpu x.wait x.step e
-  phase_keeps hook (Mounts (Drops m p)) e = drop_keeps c lim w good t lt hook m p e
-  phase_keeps hook (Mounts (Changes x)) e = change_keeps c lim w good t lt hook x.mount x.read_only x.wait x.task x.processors x.step e
-
   pub step_keeps : (hook : HookAnswer) (p : Option Phase) → (w.views t).phase ≡ p →
       Good c (step_of w t hook p) × Moves c (shown c w) t (phase_action w hook p) (shown c (step_of w t hook p))
   step_keeps hook None e = (good, refl)
-  step_keeps hook (Some phase) e = phase_keeps hook phase e
-
-  op_fits : (op : Op) → MayBegin c (w.views t) op → Fits c t (held_at (w.views t)) (holds_level (w.views t)) (Some (first_phase c t op))
-  op_fits (Want m p wait) h =
-      let r : (nat_lt m c.mounts ≡ true) × (nat_lt p c.processors ≡ true) = both (nat_lt m c.mounts) (nat_lt p c.processors) h.range in
-      (ltb-true m c.mounts r.0, ltb-true p c.processors r.1, ltb-true (held_at (w.views t) m) 1024 h.room)
-  op_fits (DropMount m p) h =
-      let r : (nat_lt m c.mounts ≡ true) × (nat_lt p c.processors ≡ true) = both (nat_lt m c.mounts) (nat_lt p c.processors) h.range in
-      (ltb-true m c.mounts r.0, ltb-true p c.processors r.1, ltb-true 0 (held_at (w.views t) m) h.order)
-  op_fits (ChangeMount m read_only wait) h = (ltb-true m c.mounts h.range, refl, refl, h.order, tt)
-
-  first_none : (op : Op) → ((y : ℕ) → role_of y (Some (first_phase c t op)) ≡ Out) × Steady None (Some (first_phase c t op))
-  first_none (Want m p wait) = (λ y. role_none y m, record { owns_same = refl; remounts_same = refl; closing_same = λ i. refl })
-  first_none (DropMount m p) = (λ y. refl, record { owns_same = refl; remounts_same = refl; closing_same = λ i. refl })
-  first_none (ChangeMount m read_only wait) = (λ y. role_none y m, record { owns_same = refl; remounts_same = refl; closing_same = λ i. refl })
+  step_keeps hook (Some phase) e = (phase_keeps c phase).step lim w good t lt hook e
 
   -- a beginning leaves each part of the rule but that of its own phase
   begun_good : (op : Op) → MayBegin c (w.views t) op → (part : Part) → Holds c (begun c w t op) part
-  begun_good op h Fitting = λ x lx. each_changed (λ y (u : View). ViewFits c y u) w.views t (begun_view (w.views t) op (first_phase c t op)) x (op_fits op h) (λ ne. good Fitting x lx)
+  begun_good op h Fitting = λ x lx. each_changed (λ y (u : View). ViewFits c y u) w.views t (begun_view (w.views t) op (first_phase c t op)) x ((op_keeps c op).fits t (held_at (w.views t)) (holds_level (w.views t)) h.range h.order h.room) (λ ne. good Fitting x lx)
   begun_good op h Owner =
-      let same : Steady (w.views t).phase (Some (first_phase c t op)) = steady h.idle (first_none op).1 in
+      let same : Steady (w.views t).phase (Some (first_phase c t op)) = steady h.idle ((op_keeps c op).steady t) in
       left_alone c w t lt Owner w.words (begun_view (w.views t) op (first_phase c t op)) (refl, refl) (same.owns_same, same.remounts_same) (good Owner)
   begun_good op h Superblock = good Superblock
   begun_good op h Stages = good Stages
   begun_good op h (AtMount m) =
-      left_alone c w t lt (AtMount m) w.words (begun_view (w.views t) op (first_phase c t op)) (refl, refl, refl, refl) (view_as refl refl refl ((first_none op).0 m ∙ sym (ap (role_of m) h.idle))) (good (AtMount m))
+      left_alone c w t lt (AtMount m) w.words (begun_view (w.views t) op (first_phase c t op)) (refl, refl, refl, refl) (view_as refl refl refl ((op_keeps c op).no_role t m ∙ sym (ap (role_of m) h.idle))) (good (AtMount m))
 
   pub begun_keeps : (op : Op) → MayBegin c (w.views t) op → Good c (begun c w t op) × (shown c (begun c w t op) ≡ shown c w)
   begun_keeps op h = (
     begun_good op h,
-    shown_still c w t lt w.words (begun_view (w.views t) op (first_phase c t op)) refl refl refl refl refl refl (steady h.idle (first_none op).1).closing_same refl refl,
+    shown_still c w t lt w.words (begun_view (w.views t) op (first_phase c t op)) refl refl refl refl refl refl (steady h.idle ((op_keeps c op).steady t)).closing_same refl refl,
   )
 
 module _ (c : Config) (lim : IsWithin c) where

@@ -18,10 +18,10 @@ use Rattle.access_model.specs.declared.actions.Action.{Action}
 use Rattle.access_model.specs.declared.errors.GateError.{GateError}
 use Rattle.access_model.specs.declared.replies.Next.{Next}
 use Rattle.access_model.specs.declared.replies.Next.TheVariants.{Done as Ended}
-use Rattle.trace_laws.proofs.Laws.{all_tell, all_short}
+use Rattle.schedule_laws.proofs.Layers.{op_keeps}
 use Rattle.trace_laws.proofs.Traced.{all_traced}
 use Rattle.gate_world.specs.Causes.{HasCause, RefusalsHaveCauses}
-use Rattle.cause_laws.proofs.Entries.{TrailHolds, trail_holds, cause_tells}
+use Rattle.schedule_laws.proofs.Entries.{TrailHolds, trail_holds, cause_tells}
 use Rattle.schedule_laws.proofs.Schedule.{opening_good, opening_shown, happens_keeps, run_keeps, gate_sums, idle_sums}
 use Rattle.schedule_laws.proofs.Lists.{run_lists}
 
@@ -61,11 +61,11 @@ module _ (c : Config) (lim : IsWithin c) where
   op_tells : (t : ℕ) (v : View) (op : Option Op) → IsTraced c t v op → ViewTells c t v op
   op_tells t v None h = tt
   op_tells t v (Some op) h =
-      let k : Tells c op v.trace (course_of c t op v.trace).stands (course_of c t op v.trace).added = all_tell c lim t op v.trace h.trace in
+      let k : Tells c op v.trace (course_of c t op v.trace).stands (course_of c t op v.trace).added = (op_keeps c op).tells lim t v.trace h.trace in
       record {
         tells = k;
         refused = λ refusal e. refused_adds_none op v.trace (course_of c t op v.trace).stands (course_of c t op v.trace).added refusal k e;
-        short = all_short c lim t op v.trace h.trace;
+        short = (op_keeps c op).short lim t v.trace h.trace;
       }
 
   pub whole_operations : (es : List Entry) (t : ℕ) → OperationsAreKept c es t

@@ -1,5 +1,5 @@
 -- Events of a want or a drop on a count word.
-use Rattle.std.proofs.Common.{◌≡◌, ℕ, ◌+◌, ◌-◌, ◌<◌, ◌≤◌, Bool, refl, sym, ap, ◌∙◌, subst, arith}
+use Rattle.std.proofs.Common.{◌≡◌, ℕ, ◌+◌, ◌-◌, ◌<◌, ◌≤◌, Bool, refl, sym, ap, ◌∙◌, arith}
 use Rattle.std.specs.Prelude.{Some, None, Ok, Err}
 use Rattle.finite_sums.specs.Sums.{changed}
 use Rattle.finite_sums.proofs.Totals.{changed_at, changed_off}

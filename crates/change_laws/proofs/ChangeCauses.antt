@@ -1,66 +1,67 @@
--- Each entry of a schedule keeps what is said of the causes of refusals.
-use Rattle.std.proofs.Common.{◌≡◌, ℕ, suc, ◌+◌, ◌<◌, Bool, true, false, refl, sym, ap, ◌∙◌, inl, inr, arith, add-one}
-use Rattle.std.specs.Prelude.{◌==◌, ◌||◌, not, nat_lt, Some, None, Ok, Err, List, [], ◌∷◌}
-use Rattle.std.proofs.lemmas.Bool.{eq-eqb, ne_eqb, ltb-false, cases_Bool}
-use Rattle.std.proofs.lemmas.Bool.Decides.{eqb_tells}
-use Rattle.finite_sums.proofs.Totals.{total_none}
-use Rattle.access_model.specs.declared.errors.GateError.TheVariants.{Again, Busy, ReadOnly}
+-- The causes of a change's refusals, along a schedule.
+use Rattle.access_model.specs.declared.errors.GateError.TheVariants.{Busy}
 use Rattle.access_model.specs.declared.replies.Reply.TheVariants.{Unit as UnitReply}
-use Rattle.cpu_words.specs.declared.sums.Sum.{Sum}
 use Rattle.cpu_words.specs.Hooks.{HookAnswer}
 use Rattle.cpu_words.specs.Sums.{lead, ahead}
 use Rattle.cpu_words.specs.Touches.{wrap_add}
-use Rattle.mount_counts.specs.declared.phases.WantStep.{WantStep}
-use Rattle.mount_counts.specs.declared.phases.WantStep.TheVariants.{CountsUp, LoadsHold, LoadsRemount, LoadsReadOnly, LoadsSuperblock, CountsDown}
-use Rattle.mount_counts.specs.declared.phases.ChangeStep.{ChangeStep}
-use Rattle.mount_counts.specs.declared.phases.ChangeStep.TheVariants.{Locks, LoadsFlags, LoadsSuperblock as LoadsSb, ClearsReadOnly, SetsHold, Sums, SetsReadOnly, ClearsHold, Releases}
-use Rattle.mount_counts.specs.Phases.{has_flag, step_between}
-use Rattle.mount_counts.specs.Roles.{ro_bit}
-use Rattle.mount_laws.proofs.MountLaws.{ahead_step, ahead_past, read_only_set}
+use Rattle.cpu_words.specs.Words.{Words}
+use Rattle.cpu_words.specs.declared.names.WordName.TheVariants.{MountCount}
+use Rattle.cpu_words.specs.declared.sums.Sum.{Sum}
+use Rattle.gate_frames.proofs.Frames.{load_same}
+use Rattle.gate_frames.proofs.Loads.{fits_now}
+use Rattle.gate_world.specs.Causes.{all_counted, was_counted, words_read, moments_of_sum}
+use Rattle.gate_world.specs.Fits.{SumFits}
+use Rattle.gate_world.specs.Operations.{holds_none}
+use Rattle.gate_world.specs.Rules.{Good}
+use Rattle.gate_world.specs.Views.{holds_level, phase_after}
+use Rattle.gate_world.specs.Work.{after_of}
+use Rattle.gate_world.specs.Worlds.{World, found_at, stepped}
 use Rattle.gate_world.specs.declared.config.Config.{Config}
 use Rattle.gate_world.specs.declared.work.Phase.TheVariants.{Mounts}
-use Rattle.gate_world.specs.Views.{holds_level, phase_after}
-use Rattle.gate_world.specs.Fits.{SumFits}
-use Rattle.gate_world.specs.Work.{after_of}
-use Rattle.gate_world.specs.Operations.{holds_none}
-use Rattle.gate_world.specs.Worlds.{World, found_at}
-use Rattle.gate_world.specs.Rules.{Good, Owner, Superblock, AtMount}
-use Rattle.gate_world.specs.Causes.{asks, last_question, was_read_only, words_read, moments_of_sum, all_counted, was_counted}
-use Rattle.gate_frames.proofs.Loads.{fits_now}
-use Rattle.cause_laws.specs.Rules.{WantCause, ChangeCause, CauseOf}
-use Rattle.cause_laws.proofs.Quiet.{want, change, fresh_lead, none_counted}
+use Rattle.mount_counts.specs.Phases.{has_flag, step_between}
+use Rattle.mount_counts.specs.declared.phases.ChangeStep.TheVariants.{Locks, LoadsFlags, LoadsSuperblock as LoadsSb, ClearsReadOnly, SetsHold, Sums, SetsReadOnly, ClearsHold, Releases}
+use Rattle.mount_counts.specs.declared.phases.ChangeStep.{ChangeStep}
+use Rattle.mount_counts.specs.declared.phases.MountPhase.{MountPhase}
+use Rattle.mount_laws.proofs.MountLaws.{ahead_step, ahead_past}
+use Rattle.std.proofs.Common.{◌≡◌, ℕ, suc, ◌+◌, ◌<◌, Bool, true, false, refl, sym, ap, ◌∙◌, inl, inr, arith, add-one}
+use Rattle.std.proofs.lemmas.Bool.Decides.{eqb_tells}
+use Rattle.std.proofs.lemmas.Bool.{ltb-false, cases_Bool}
+use Rattle.std.specs.Prelude.{nat_lt, Some, List, ◌∷◌, ◌==◌, not, Ok, Err, []}
+use Rattle.cause_laws.proofs.Moments.{fresh_lead, none_counted, sum_skips, sum_begins, sum_goes}
+use Rattle.gate_world.specs.KeptCauses.{ChangeCause, CauseOf}
+use Rattle.change_laws.proofs.Owner.{change}
 
-or_true : (b : Bool) → (b || true) ≡ true
-or_true true = refl
-or_true false = refl
+module _ (c : Config) (w : World) (good : Good c w) (t : ℕ) (lt : t < c.tasks) (hook : HookAnswer) (m : ℕ) where
+  abbrev Quiet : MountPhase → Type 0
+  Quiet phase = (w.views t).phase ≡ Some (Mounts phase) → all_counted c m w ≡ 0 → all_counted c m (stepped w t (Mounts phase) hook) ≡ 0 →
+      (stepped w t (Mounts phase) hook).words.count m ≡ w.words.count m
 
--- the last question and the moments of a sum, one world on
-module _ (t : ℕ) (w : World) (earlier : List World) where
-  pub question_skips : asks (w.views t).phase ≡ false → last_question t (w ∷ earlier) ≡ last_question t earlier
-  question_skips h = rw h refl
+  pub quiet_change : (n : ℕ) (ro wait : Bool) (task processors : ℕ) (s : ChangeStep) → Quiet (change n ro wait task processors s)
+  quiet_change n ro wait task processors Locks e before after = refl
+  quiet_change n ro wait task processors LoadsFlags e before after = refl
+  quiet_change n ro wait task processors LoadsSb e before after = refl
+  quiet_change n ro wait task processors ClearsReadOnly e before after = refl
+  quiet_change n ro wait task processors SetsHold e before after = refl
+  quiet_change n ro wait task processors (Sums sum) e before after = ap (λ (ws : Words). ws.count m) (load_same w.words (MountCount n sum.words))
+  quiet_change n ro wait task processors SetsReadOnly e before after = refl
+  quiet_change n ro wait task processors (ClearsHold answer) e before after = refl
+  quiet_change n ro wait task processors (Releases answer) e before after = refl
 
-  pub question_stands : asks (w.views t).phase ≡ true → last_question t (w ∷ earlier) ≡ Some w
-  question_stands h = rw h refl
-
-  pub sum_skips : words_read (w.views t).phase ≡ None → moments_of_sum t (w ∷ earlier) ≡ moments_of_sum t earlier
-  sum_skips h = rw h refl
-
-  pub sum_begins : words_read (w.views t).phase ≡ Some 0 → moments_of_sum t (w ∷ earlier) ≡ w ∷ []
-  sum_begins h = rw h refl
-
-  pub sum_goes : (k : ℕ) → words_read (w.views t).phase ≡ Some k → (k ≡ 0 → ⊥) → moments_of_sum t (w ∷ earlier) ≡ w ∷ moments_of_sum t earlier
-  sum_goes k h ne = rw (h, ne_eqb k 0 ne) refl
+module _ (w : World) where
+  -- an event of a change leaves the counts
+  pub change_counts : (t : ℕ) (hook : HookAnswer) (m : ℕ) (ro wait : Bool) (task processors : ℕ) (s : ChangeStep) → (stepped w t (Mounts (change m ro wait task processors s)) hook).words.count ≡ w.words.count
+  change_counts t hook m ro wait task processors Locks = refl
+  change_counts t hook m ro wait task processors LoadsFlags = refl
+  change_counts t hook m ro wait task processors LoadsSb = refl
+  change_counts t hook m ro wait task processors ClearsReadOnly = refl
+  change_counts t hook m ro wait task processors SetsHold = refl
+  change_counts t hook m ro wait task processors (Sums sum) = ap (λ (ws : Words). ws.count) (load_same w.words (MountCount m sum.words))
+  change_counts t hook m ro wait task processors SetsReadOnly = refl
+  change_counts t hook m ro wait task processors (ClearsHold answer) = refl
+  change_counts t hook m ro wait task processors (Releases answer) = refl
 
 -- a task whose view another entry leaves alone
 module _ (c : Config) (t : ℕ) (w next : World) (earlier : List World) (good : Good c next) where
-  pub want_kept : (m p : ℕ) (wait : Bool) (s : WantStep) → (next.views t).phase ≡ Some (Mounts (want m p wait s)) → WantCause c t w earlier m s → WantCause c t next (w ∷ earlier) m s
-  want_kept m p wait CountsUp e h = tt
-  want_kept m p wait LoadsHold e h = tt
-  want_kept m p wait LoadsRemount e h = tt
-  want_kept m p wait LoadsReadOnly e h = tt
-  want_kept m p wait LoadsSuperblock e h = tt
-  want_kept m p wait (CountsDown refusal) e h = λ r. ap (was_read_only c m) (question_skips t next (w ∷ earlier) (ap asks e)) ∙ h r
-
   sum_kept : (m : ℕ) (ro wait : Bool) (task processors : ℕ) (sum : Sum) → m < c.mounts → (next.views t).phase ≡ Some (Mounts (change m ro wait task processors (Sums sum))) → (w.views t).phase ≡ Some (Mounts (change m ro wait task processors (Sums sum))) →
       (all_counted c m w ≡ 0 → all_counted c m next ≡ 0 → next.words.count m ≡ w.words.count m) → ChangeCause c t w earlier m (Sums sum) → ChangeCause c t next (w ∷ earlier) m (Sums sum)
   sum_kept m ro wait task processors sum lm e was quiet h = (
@@ -94,42 +95,6 @@ module _ (c : Config) (t : ℕ) (w next : World) (earlier : List World) (good : 
 
 -- the task that steps: what its next phase says, in the world after the event
 module _ (c : Config) (t : ℕ) (lt : t < c.tasks) (w next : World) (earlier : List World) (good : Good c w) (after : Good c next) (hook : HookAnswer) where
-  asked : (m p : ℕ) (wait : Bool) (s : WantStep) → (w.views t).phase ≡ Some (Mounts (want m p wait s)) → asks (Some (Mounts (want m p wait s))) ≡ true →
-      (next.views t).phase ≡ Some (Mounts (want m p wait (CountsDown ReadOnly))) → was_read_only c m (Some w) ≡ true → WantCause c t next (w ∷ earlier) m (CountsDown ReadOnly)
-  asked m p wait s e a e' h = λ r. ap (was_read_only c m) (question_skips t next (w ∷ earlier) (ap asks e') ∙ question_stands t w earlier (ap asks e ∙ a)) ∙ h
-
-  other_refusal : {A : Type 0} → Again ≡ ReadOnly → A
-  other_refusal h = cc
-
-  pub want_own : (m p : ℕ) (wait : Bool) (s : WantStep) → m < c.mounts → (w.views t).phase ≡ Some (Mounts (want m p wait s)) →
-      (next.views t).phase ≡ phase_after (after_of (Mounts (want m p wait s)) (found_at w.words (Mounts (want m p wait s)) hook) hook).0 →
-      CauseOf c t next (w ∷ earlier) (phase_after (after_of (Mounts (want m p wait s)) (found_at w.words (Mounts (want m p wait s)) hook) hook).0)
-  want_own m p wait CountsUp lm e e' = tt
-  want_own m p true LoadsHold lm e e' =
-      elim (cases_Bool (has_flag (w.words.flags m) 2)) [ inl h ↦ rw h tt | inr h ↦ rw h tt ]
-  want_own m p false LoadsHold lm e e' =
-      elim (cases_Bool (has_flag (w.words.flags m) 2)) [ inl h ↦ rw h (λ r. other_refusal r) | inr h ↦ rw h tt ]
-  want_own m p wait LoadsRemount lm e e' =
-      elim (eqb_tells w.words.remount 0) [
-        | inl h ↦ rw h.0 tt
-        | inr h ↦
-            let one : w.words.remount ≡ 1 = omega (arith, h.1, (good Owner).bit) in
-            rw h.0 (asked m p wait LoadsRemount e refl (rw h.0 at e') (rw (eq-eqb w.words.remount 1 one, or_true (ro_bit (w.words.flags m) == 1)) refl))
-      ]
-  want_own m p wait LoadsReadOnly lm e e' =
-      elim (cases_Bool (has_flag (w.words.flags m) 1)) [
-        | inl h ↦ rw h (asked m p wait LoadsReadOnly e refl (rw h at e') (rw (eq-eqb (ro_bit (w.words.flags m)) 1 (read_only_set (w.words.flags m) (good (AtMount m) lm).bits h)) refl))
-        | inr h ↦ rw h tt
-      ]
-  want_own m p wait LoadsSuperblock lm e e' =
-      elim (eqb_tells w.words.sb 0) [
-        | inl h ↦ rw h.0 tt
-        | inr h ↦
-            let one : w.words.sb ≡ 1 = omega (arith, h.1, good Superblock) in
-            rw h.0 (asked m p wait LoadsSuperblock e refl (rw h.0 at e') (rw (eq-eqb w.words.sb 1 one, or_true (w.words.remount == 1), or_true (ro_bit (w.words.flags m) == 1)) refl))
-      ]
-  want_own m p wait (CountsDown refusal) lm e e' = tt
-
   not_busy : {A : Type 0} → Ok UnitReply ≡ Err Busy → A
   not_busy h = cc
 

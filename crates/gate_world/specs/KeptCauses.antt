@@ -1,14 +1,14 @@
 -- What is kept along a schedule about the causes of refusals.
-use Rattle.std.specs.Prelude.{◌≡◌, ℕ, ◌<◌, true, false, Option, Some, None, Result, Err, List, ◌∷◌}
+use Rattle.std.specs.Prelude.{◌≡◌, ℕ, ◌<◌, true, false, Option, Some, Result, Err, List, ◌∷◌}
 use Rattle.access_model.specs.declared.errors.GateError.{GateError}
 use Rattle.access_model.specs.declared.errors.GateError.TheVariants.{Busy, ReadOnly}
 use Rattle.access_model.specs.declared.replies.Reply.{Reply}
 use Rattle.cpu_words.specs.Sums.{lead}
-use Rattle.mount_counts.specs.declared.phases.MountPhase.TheVariants.{Want as Wants, Drop as Drops, Change as Changes}
+use Rattle.mount_counts.specs.declared.phases.MountPhase.TheVariants.{Want as Wants, Change as Changes}
 use Rattle.mount_counts.specs.declared.phases.WantStep.{WantStep}
-use Rattle.mount_counts.specs.declared.phases.WantStep.TheVariants.{CountsUp, LoadsHold, LoadsRemount, LoadsReadOnly, LoadsSuperblock, CountsDown}
+use Rattle.mount_counts.specs.declared.phases.WantStep.TheVariants.{CountsDown}
 use Rattle.mount_counts.specs.declared.phases.ChangeStep.{ChangeStep}
-use Rattle.mount_counts.specs.declared.phases.ChangeStep.TheVariants.{Locks, LoadsFlags, LoadsSuperblock as LoadsSb, ClearsReadOnly, SetsHold, Sums, SetsReadOnly, ClearsHold, Releases}
+use Rattle.mount_counts.specs.declared.phases.ChangeStep.TheVariants.{Sums, ClearsHold, Releases}
 use Rattle.gate_world.specs.declared.config.Config.{Config}
 use Rattle.gate_world.specs.declared.work.Phase.{Phase}
 use Rattle.gate_world.specs.declared.work.Phase.TheVariants.{Mounts}

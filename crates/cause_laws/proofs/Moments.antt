@@ -1,0 +1,54 @@
+-- Moments of a schedule: the last question, the moments of a sum, and what was counted.
+use Rattle.cpu_words.specs.Sums.{lead, ahead}
+use Rattle.finite_sums.proofs.Totals.{total_at}
+use Rattle.finite_sums.specs.Sums.{total}
+use Rattle.gate_world.specs.Causes.{all_counted, was_counted, asks, last_question, words_read, moments_of_sum}
+use Rattle.gate_world.specs.Rules.{Good, AtMount, at_mount}
+use Rattle.gate_world.specs.Worlds.{World}
+use Rattle.gate_world.specs.declared.config.Config.{Config}
+use Rattle.mount_counts.specs.Roles.{counted, MountHolds}
+use Rattle.mount_laws.proofs.MountLaws.{gate_sum, ahead_none}
+use Rattle.std.proofs.Common.{◌≡◌, ℕ, ◌<◌, Bool, true, false, refl, inl, inr, arith, ◌%◌, ◌≤◌, true≢false}
+use Rattle.std.proofs.lemmas.Bool.{ne_eqb, ltb-false, cases_Bool}
+use Rattle.std.specs.Prelude.{nat_lt, Some, List, ◌∷◌, ◌||◌, None, []}
+
+-- a task is counted at most as often as all are
+pub one_counted : (c : Config) (m t : ℕ) (w : World) → t < c.tasks → counted (at_mount m (w.views t)) ≤ all_counted c m w
+one_counted c m t w lt = total_at c.tasks t (λ x. counted (at_mount m (w.views x))) lt
+
+pub or_true : (b : Bool) → (b || true) ≡ true
+or_true true = refl
+or_true false = refl
+
+-- the last question and the moments of a sum, one world on
+module _ (t : ℕ) (w : World) (earlier : List World) where
+  pub question_skips : asks (w.views t).phase ≡ false → last_question t (w ∷ earlier) ≡ last_question t earlier
+  question_skips h = rw h refl
+
+  pub question_stands : asks (w.views t).phase ≡ true → last_question t (w ∷ earlier) ≡ Some w
+  question_stands h = rw h refl
+
+  pub sum_skips : words_read (w.views t).phase ≡ None → moments_of_sum t (w ∷ earlier) ≡ moments_of_sum t earlier
+  sum_skips h = rw h refl
+
+  pub sum_begins : words_read (w.views t).phase ≡ Some 0 → moments_of_sum t (w ∷ earlier) ≡ w ∷ []
+  sum_begins h = rw h refl
+
+  pub sum_goes : (k : ℕ) → words_read (w.views t).phase ≡ Some k → (k ≡ 0 → ⊥) → moments_of_sum t (w ∷ earlier) ≡ w ∷ moments_of_sum t earlier
+  sum_goes k h ne = rw (h, ne_eqb k 0 ne) refl
+
+-- where nothing is counted, a sum that begins leads by 0
+pub fresh_lead : (c : Config) (w : World) → Good c w → (m : ℕ) → m < c.mounts → all_counted c m w ≡ 0 → lead c.processors (w.words.count m) 0 0 ≡ 0
+fresh_lead c w good m lm none =
+    let g : MountHolds c.tasks c.processors (w.words.flags m) w.words.remount w.words.sb (w.words.count m) (λ x. at_mount m (w.views x)) = good (AtMount m) lm in
+    let s : total c.processors (w.words.count m) % 18446744073709551616 ≡ all_counted c m w % 18446744073709551616 = gate_sum c.tasks c.processors (w.words.count m) (λ x. at_mount m (w.views x)) g.counts in
+    let a : ahead c.processors (w.words.count m) 0 ≡ total c.processors (w.words.count m) = ahead_none c.processors (w.words.count m) in
+    omega (arith, s, a, none)
+
+-- nothing was counted in any of these worlds
+pub none_counted : (c : Config) (m : ℕ) (w : World) (earlier : List World) → was_counted c m (w ∷ earlier) ≡ false → (all_counted c m w ≡ 0) × (was_counted c m earlier ≡ false)
+none_counted c m w earlier h =
+    elim (cases_Bool (nat_lt 0 (all_counted c m w))) [
+      | inl a ↦ absurd (true≢false (rw a at h))
+      | inr a ↦ (omega (arith, ltb-false 0 (all_counted c m w) a), rw a at h)
+    ]

@@ -1,0 +1,49 @@
+-- What fits after an event of a want.
+use Rattle.std.proofs.Common.{ℕ, ◌<◌, Bool}
+use Rattle.std.specs.Prelude.{◌==◌, if◌then◌else◌, Some, None, Ok}
+use Rattle.access_model.specs.declared.actions.Action.TheVariants.{Grant}
+use Rattle.access_model.specs.declared.actions.Gate.TheVariants.{Mount}
+use Rattle.access_model.specs.declared.errors.GateError.TheVariants.{ReadOnly}
+use Rattle.access_model.specs.declared.replies.Next.TheVariants.{Go, Done}
+use Rattle.access_model.specs.declared.replies.Reply.TheVariants.{Unit as UnitReply}
+use Rattle.cpu_words.specs.Names.{IsWord}
+use Rattle.mount_counts.specs.declared.phases.MountPhase.TheVariants.{Want as Wants}
+use Rattle.mount_counts.specs.declared.phases.Want.{Want}
+use Rattle.mount_counts.specs.declared.phases.WantStep.{WantStep}
+use Rattle.mount_counts.specs.declared.phases.WantStep.TheVariants.{CountsUp, LoadsHold, LoadsRemount, LoadsReadOnly, LoadsSuperblock, CountsDown}
+use Rattle.mount_counts.specs.Phases.{has_flag, at_want, hold_found, want_next, want_after}
+use Rattle.gate_world.specs.declared.config.Config.{Config}
+use Rattle.gate_world.specs.Configs.{IsWithin, extents_of}
+use Rattle.gate_world.specs.Views.{phase_after}
+use Rattle.gate_world.specs.Work.{of_mounts}
+use Rattle.gate_world.specs.Fits.{MountFits, Fits, ActionFits, mounts_by, levels_by}
+use Rattle.gate_frames.proofs.Keeps.{by_bool}
+
+module _ (c : Config) (within : IsWithin c) (t : ℕ) (held : ℕ → ℕ) (levels : ℕ → Bool) where
+  pub want_there : (w : Want) (step : WantStep) → w.mount < c.mounts → w.cpu < c.processors → IsWord (extents_of c) (want_next w step).0
+  want_there w CountsUp m p = (m, p)
+  want_there w LoadsHold m p = m
+  want_there w LoadsRemount m p = tt
+  want_there w LoadsReadOnly m p = m
+  want_there w LoadsSuperblock m p = tt
+  want_there w (CountsDown refusal) m p = (m, p)
+
+  pub want_acts : (w : Want) (step : WantStep) (found : ℕ) → w.mount < 8 → held w.mount < 1024 → ActionFits held (want_after w step found).1
+  want_acts w LoadsSuperblock found m room = by_bool (found == 0) (λ b. ActionFits held (if b then Some (Grant (Mount w.mount)) else None)) (m, room) tt
+  want_acts w step found m room = tt
+
+  pub want_goes : (w : Want) (step : WantStep) (found : ℕ) → MountFits c t held levels (Wants w) →
+      Fits c t (mounts_by (want_after w step found).1 held) (levels_by (want_after w step found).1 levels) (phase_after (of_mounts (want_after w step found).0))
+  want_goes w CountsUp found f = f
+  want_goes w LoadsHold found f =
+      by_bool (has_flag found 2) (λ b. Fits c t held levels (phase_after (of_mounts (if b then hold_found w w.wait else Go (at_want w LoadsRemount)))))
+      (by_bool w.wait (λ b. Fits c t held levels (phase_after (of_mounts (hold_found w b)))) f f)
+      f
+  want_goes w LoadsRemount found f = by_bool (found == 0) (λ b. Fits c t held levels (phase_after (of_mounts (if b then Go (at_want w LoadsReadOnly) else Go (at_want w (CountsDown ReadOnly)))))) f f
+  want_goes w LoadsReadOnly found f = by_bool (has_flag found 1) (λ b. Fits c t held levels (phase_after (of_mounts (if b then Go (at_want w (CountsDown ReadOnly)) else Go (at_want w LoadsSuperblock))))) f f
+  want_goes w LoadsSuperblock found f =
+      by_bool (found == 0) (λ b. Fits c t (mounts_by (if b then Some (Grant (Mount w.mount)) else None) held) (levels_by (if b then Some (Grant (Mount w.mount)) else None) levels)
+      (phase_after (of_mounts (if b then Done (Ok UnitReply) else Go (at_want w (CountsDown ReadOnly))))))
+      tt
+      f
+  want_goes w (CountsDown refusal) found f = tt

@@ -1,0 +1,84 @@
+-- All that is proved of a want and of a drop.
+use Rattle.std.proofs.Common.{◌≡◌, ℕ, Bool, true, false, arith, ap, refl, subst}
+use Rattle.std.specs.Prelude.{nat_lt, Some, ◌&&◌}
+use Rattle.std.proofs.lemmas.Bool.{ltb-true}
+use Rattle.access_model.specs.declared.errors.GateError.TheVariants.{ReadOnly}
+use Rattle.mount_counts.specs.declared.phases.MountPhase.TheVariants.{Want as Wants, Drop as Drops}
+use Rattle.mount_counts.specs.declared.phases.Want.{Want}
+use Rattle.mount_counts.specs.declared.phases.WantStep.TheVariants.{CountsDown}
+use Rattle.gate_world.specs.declared.config.Config.{Config}
+use Rattle.gate_world.specs.declared.work.Phase.TheVariants.{Mounts}
+use Rattle.gate_world.specs.Fits.{Fits}
+use Rattle.gate_frames.proofs.Keeps.{PhaseKeeps, OpKeeps}
+use Rattle.gate_frames.proofs.Loads.{role_none}
+use Rattle.gate_world.specs.declared.operations.Op.TheVariants.{Want as WantOp, DropMount}
+use Rattle.trace_laws.proofs.Says.{tells, is_short}
+use Rattle.gate_world.specs.KeptCauses.{WantCause}
+use Rattle.gate_world.specs.Worlds.{stepped}
+use Rattle.want_laws.proofs.Wants.{want_keeps, drop_keeps}
+use Rattle.want_laws.proofs.WantFits.{want_there, want_acts, want_goes}
+use Rattle.want_laws.proofs.WantCauses.{quiet_want, quiet_drop, want_kept, want_own}
+use Rattle.want_laws.proofs.WantTraces.{WantAt, DropAt, want_kept as want_traced, drop_kept}
+use Rattle.gate_world.specs.Views.{held_at, holds_level}
+use Rattle.gate_world.specs.Rules.{Fitting}
+
+both : (a b : Bool) → (a && b) ≡ true → (a ≡ true) × (b ≡ true)
+both true true e = (refl, refl)
+both true false e = (refl, e)
+both false b e = absurd (cc)
+
+pub want_phase : (c : Config) (x : Want) → PhaseKeeps c (Mounts (Wants x))
+want_phase c x = record {
+  step = λ lim w good t lt hook e. want_keeps c lim w good t lt hook x.mount x.cpu x.wait x.step e;
+  word = λ lim t held levels hook f. want_there c lim t held levels x x.step f.0 f.1;
+  acts = λ lim t held levels found hook f. want_acts c lim t held levels x x.step found (omega (arith, f.0, lim.mounts)) f.2;
+  goes = λ lim t held levels found hook f. want_goes c lim t held levels x x.step found f;
+  agrees = λ t f g h k mounts levels fits. (fits.0, fits.1, omega (arith, fits.2, mounts x.mount fits.0));
+  quiet = λ w good t lt hook m e. quiet_want c w good t lt hook m x.mount x.cpu x.wait x.step e;
+  stays = λ w next earlier after t f e was quiet h. want_kept c t w next earlier after x.mount x.cpu x.wait x.step e h;
+  causes = λ w earlier good t lt hook e after is h.
+      let f : Fits c t (held_at (w.views t)) (holds_level (w.views t)) (Some (Mounts (Wants x))) = subst (Fits c t (held_at (w.views t)) (holds_level (w.views t))) e (good Fitting t lt) in
+      want_own c t lt w (stepped w t (Mounts (Wants x)) hook) earlier good after hook x.mount x.cpu x.wait x.step f.0 e is;
+  tells = λ t w earlier h e. let k : WantCause c t w earlier x.mount (CountsDown ReadOnly) = subst (WantCause c t w earlier x.mount) e h in k refl;
+}
+
+pub drop_phase : (c : Config) (m p : ℕ) → PhaseKeeps c (Mounts (Drops m p))
+drop_phase c m p = record {
+  step = λ lim w good t lt hook e. drop_keeps c lim w good t lt hook m p e;
+  word = λ lim t held levels hook f. (f.0, f.1);
+  acts = λ lim t held levels found hook f. (omega (arith, f.0, lim.mounts), f.2);
+  goes = λ lim t held levels found hook f. tt;
+  agrees = λ t f g h k mounts levels fits. (fits.0, fits.1, omega (arith, fits.2, mounts m fits.0));
+  quiet = λ w good t lt hook n e. quiet_drop c w good t lt hook n m p e;
+  stays = λ w next earlier after t f e was quiet h. tt;
+  causes = λ w earlier good t lt hook e after is h. tt;
+  tells = λ t w earlier h. tt;
+}
+
+pub want_op : (c : Config) (m p : ℕ) (wait : Bool) → OpKeeps c (WantOp m p wait)
+want_op c m p wait = record {
+  fits = λ t held levels there order room.
+      let at : (nat_lt m c.mounts ≡ true) × (nat_lt p c.processors ≡ true) = both (nat_lt m c.mounts) (nat_lt p c.processors) there in
+      (ltb-true m c.mounts at.0, ltb-true p c.processors at.1, ltb-true (held m) 1024 room);
+  no_role = λ t y. role_none y m;
+  steady = λ t. record { owns_same = refl; remounts_same = refl; closing_same = λ i. refl };
+  cause = λ t w earlier. tt;
+  order_agrees = λ f g h k mounts levels there. refl;
+  room_agrees = λ f g mounts there. ap (λ y. nat_lt y 1024) (mounts m (ltb-true m c.mounts (both (nat_lt m c.mounts) (nat_lt p c.processors) there).0));
+  tells = λ lim t trace h. tells (WantAt c m p wait) c t (WantOp m p wait) (want_traced c t m p wait) trace h;
+  short = λ lim t trace h. is_short (WantAt c m p wait) c t (WantOp m p wait) (want_traced c t m p wait) trace h;
+}
+
+pub drop_op : (c : Config) (m p : ℕ) → OpKeeps c (DropMount m p)
+drop_op c m p = record {
+  fits = λ t held levels there order room.
+      let at : (nat_lt m c.mounts ≡ true) × (nat_lt p c.processors ≡ true) = both (nat_lt m c.mounts) (nat_lt p c.processors) there in
+      (ltb-true m c.mounts at.0, ltb-true p c.processors at.1, ltb-true 0 (held m) order);
+  no_role = λ t y. refl;
+  steady = λ t. record { owns_same = refl; remounts_same = refl; closing_same = λ i. refl };
+  cause = λ t w earlier. tt;
+  order_agrees = λ f g h k mounts levels there. ap (nat_lt 0) (mounts m (ltb-true m c.mounts (both (nat_lt m c.mounts) (nat_lt p c.processors) there).0));
+  room_agrees = λ f g mounts there. refl;
+  tells = λ lim t trace h. tells (DropAt m p) c t (DropMount m p) (drop_kept c t m p) trace h;
+  short = λ lim t trace h. is_short (DropAt m p) c t (DropMount m p) (drop_kept c t m p) trace h;
+}
