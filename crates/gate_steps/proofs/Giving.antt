@@ -12,9 +12,9 @@ use Rattle.atomic_table.proofs.Lists.{at_set, at_snoc, set_else}
 use Rattle.gate_world.specs.declared.config.Config.{Config}
 use Rattle.gate_world.specs.declared.views.View.{View}
 use Rattle.gate_world.specs.Worlds.{World}
-use Rattle.gate_world.specs.Rules.{Good}
-use Rattle.gate_frames.proofs.Frames.{view_as, owner_same, shown_still}
-use Rattle.change_laws.proofs.Owner.{still}
+use Rattle.cpu_words.specs.Words.{Words}
+use Rattle.gate_world.specs.Rules.{Good, Part, Owner, Fitting, AtMount, SameWords, SameView}
+use Rattle.gate_frames.proofs.Frames.{left_alone, shown_still}
 use Rattle.gate_steps.specs.declared.seating.Numbered.{Numbered}
 use Rattle.gate_steps.specs.Seating.{SeatItems, numbered, one_if, times, times_all, HaveViews, Dealt, without, view_in, renewed, kept_of, given_of, Spares}
 use Rattle.gate_steps.specs.Rules.{HasHistory}
@@ -111,10 +111,23 @@ module _ (tasks : ℕ) (views : ℕ → View) (seats : List SeatItems) (dealt : 
 abbrev renewed_at : World → ℕ → World
 renewed_at w n = record { words = w.words; views = changed w.views n (renewed (w.views n)) }
 
+-- words are as they are
+same_words : (w : Words) (part : Part) → SameWords w w part
+same_words w Owner = (refl, refl)
+same_words w Fitting = tt
+same_words w (AtMount m) = (refl, refl, refl, refl)
+same_words w part = refl
+
+-- a renewed view is the same for each part of the rule
+renewed_same : (v : View) (part : Part) → SameView v (renewed v) part
+renewed_same v Owner = (refl, refl)
+renewed_same v Fitting = (refl, refl, refl)
+renewed_same v (AtMount m) = refl
+renewed_same v part = tt
+
 renewed_good : (c : Config) (w : World) → Good c w → (n : ℕ) → n < c.tasks → Good c (renewed_at w n)
 renewed_good c w good n lt =
-    let v : View = renewed (w.views n) in
-    still c w good n lt w.words v refl refl refl refl (owner_same c w n lt good v refl refl) (good.fits n lt) (λ y. view_as refl refl refl refl)
+    λ part. left_alone c w n lt part w.words (renewed (w.views n)) (same_words w.words part) (renewed_same (w.views n) part) (good part)
 
 renewed_history : (c : Config) (w : World) (n : ℕ) → n < c.tasks → HasHistory c w → HasHistory c (renewed_at w n)
 renewed_history c w n lt h =

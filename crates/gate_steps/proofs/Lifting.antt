@@ -25,7 +25,9 @@ use Rattle.gate_world.specs.Views.{held_at, holds_level, begun_view, view_with, 
 use Rattle.gate_world.specs.Worlds.{World, first_phase, view_refusal, words_after, value_at, found_at, stepped, phase_action, noted, shown}
 use Rattle.gate_world.specs.Fits.{Fits}
 use Rattle.gate_world.specs.Rules.{Good, Moves, StepKeeps}
-use Rattle.schedule_laws.proofs.Schedule.{may_begin, phase_keeps, begun_keeps, legal_more}
+use Rattle.schedule_laws.proofs.Layers.{phase_keeps}
+use Rattle.schedule_laws.proofs.Schedule.{may_begin, begun_keeps, legal_more}
+use Rattle.gate_world.specs.Rules.{Fitting}
 use Rattle.schedule_laws.proofs.Lists.{step_lists, begin_lists}
 use Rattle.gate_core.proofs.Phases.{word_there}
 use Rattle.gate_steps.specs.declared.seating.Numbered.{Numbered}
@@ -109,9 +111,9 @@ lifted c slots id (x ∷ xs) carried begins phase hook acts s held len at small 
     let name : WordName = (next_of phase hook).0 in
     let touch : Touch = (next_of phase hook).1 in
     let after : World = stepped w' t phase hook in
-    let kept : StepKeeps c w' t hook phase = phase_keeps c lim w' en.good t lt hook phase en.at_phase in
+    let kept : StepKeeps c w' t hook phase = (phase_keeps c phase).step lim w' en.good t lt hook en.at_phase in
     let there : IsWord (extents_of c) name =
-    word_there c lim t (held_at (w'.views t)) (holds_level (w'.views t)) phase hook (subst (λ o. Fits c t (held_at (w'.views t)) (holds_level (w'.views t)) o) en.at_phase (en.good.fits t lt)) in
+    word_there c lim t (held_at (w'.views t)) (holds_level (w'.views t)) phase hook (subst (λ o. Fits c t (held_at (w'.views t)) (holds_level (w'.views t)) o) en.at_phase (en.good Fitting t lt)) in
     let i : ℕ = 16 * place name in
     let n : ℕ = slice_index s.words i in
     let value : n ≡ value_at w'.words phase hook = held.ruled.words name there ∙ ap (λ (l : Words). read l name) (sym en.words) in

@@ -7,7 +7,7 @@ use Rattle.cpu_words.specs.declared.names.WordName.TheVariants.{Umount, Remount,
 use Rattle.cpu_words.specs.Names.{place}
 use Rattle.mount_counts.specs.Roles.{stands, hold_bit}
 use Rattle.gate_world.specs.declared.config.Config.{Config}
-use Rattle.gate_world.specs.Rules.{owns, remounts, role_of}
+use Rattle.gate_world.specs.Rules.{owns, remounts, role_of, Owner, AtMount}
 use Rattle.schedule_laws.proofs.Schedule.{idle_sums}
 use Rattle.gate_steps.specs.Seating.{SeatItems, numbered, times, view_in}
 use Rattle.gate_steps.specs.Tables.{IsClosing}
@@ -40,16 +40,16 @@ module _ (c : Config) (ws : List ℕ) (e : Ended c ws) where
 
   -- nobody has umount
   pub umount_free : slice_index ws (16 * place Umount) ≡ 0
-  umount_free = e.ruled.words Umount tt ∙ free e.world.words.umount e.ruled.good.owner.known e.ruled.good.owner.owned
+  umount_free = e.ruled.words Umount tt ∙ free e.world.words.umount (e.ruled.good Owner).known (e.ruled.good Owner).owned
 
   -- no remount is under way
   pub no_remount : slice_index ws (16 * place Remount) ≡ 0
-  no_remount = e.ruled.words Remount tt ∙ (e.ruled.good.owner.remounting ∙ total_none c.tasks _ (λ t lt. ap remounts (idle t lt)))
+  no_remount = e.ruled.words Remount tt ∙ ((e.ruled.good Owner).remounting ∙ total_none c.tasks _ (λ t lt. ap remounts (idle t lt)))
 
   -- no mount has HOLD set
   pub no_hold : (m : ℕ) → m < c.mounts → slice_index ws (16 * place (MountFlags m)) < 2
   no_hold m lm =
-      let h = (e.ruled.good.mount m lm).hold in
+      let h = (e.ruled.good (AtMount m) lm).hold in
       let z : hold_bit (e.world.words.flags m) ≡ 0 = sym h ∙ total_none c.tasks _ (λ t lt. ap (λ p. stands (role_of m p)) (idle t lt)) in
       let w = e.ruled.words (MountFlags m) lm in
       omega arith

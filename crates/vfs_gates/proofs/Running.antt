@@ -19,7 +19,7 @@ use Rattle.gate_world.specs.Views.{phase_after, actions_after, view_after, trace
 use Rattle.gate_world.specs.Work.{next_of, after_of}
 use Rattle.gate_world.specs.Worlds.{first_phase}
 use Rattle.gate_world.specs.Traces.{Course, course_with, course_after, course_of, IsEventOf, IsNext, IsTrace, Tells, most_events, IsShort}
-use Rattle.trace_laws.proofs.Laws.{all_tell, all_short}
+use Rattle.schedule_laws.proofs.Layers.{op_keeps}
 use Rattle.gate_core.specs.declared.steps.Progress.TheVariants.{Done as Ended}
 use Rattle.gate_core.specs.declared.steps.Step.{Step}
 use Rattle.gate_core.specs.Answers.{progress_of, unless_refused}
@@ -206,7 +206,7 @@ module _ (op : Op) (start now left : Standing) (step : Step) (goes : Goes op sta
       let last : after.0 ≡ Done a = done_is after.0 a (sym progress_then ∙ is) in
       let ends : (course_of c n op trace).stands ≡ Done a = ap (λ (o : Course). o.stands) course_here ∙ last in
       let tells : Tells c op trace (Done a) (course_of c n op trace).added =
-      subst (λ s. Tells c op trace s (course_of c n op trace).added) ends (all_tell c within n op trace follows_after) in
+      subst (λ s. Tells c op trace s (course_of c n op trace).added) ends ((op_keeps c op).tells within n trace follows_after) in
       let idle : left.phase ≡ None = phase_then ∙ ap (λ s. phase_after s) ends in
       record {
         trace = trace;
@@ -218,7 +218,7 @@ module _ (op : Op) (start now left : Standing) (step : Step) (goes : Goes op sta
         moves = moves_then;
         added = tells.0;
         honest = tells.1;
-        short = all_short c within n op trace follows_after;
+        short = (op_keeps c op).short within n trace follows_after;
       }
 
   grown : (begins : Option Op) (o : Option Phase) (l : SeatItems) → o ≡ Some p → IsMove now.config begins p h l found → length (own_view (items_after begins p h found l)).trace ≡ length (own_view (entered_items begins o l)).trace + 1
@@ -245,7 +245,7 @@ own_trace c op trace (x ∷ xs) = omega arith
 -- an operation that waits for nobody has few events
 pub few_steps : (op : Op) (start now : Standing) → IsWithin start.config → waits op ≡ false → Goes op start now → steps_of now ≤ 71
 few_steps op start now within tries goes =
-    let short = most start.config within op goes.trace tries (all_short start.config within (own_number start.items) op goes.trace goes.follows) in
+    let short = most start.config within op goes.trace tries ((op_keeps start.config op).short within (own_number start.items) goes.trace goes.follows) in
     let own = own_trace start.config op goes.trace start.items in
     let same = ap (λ l. length (own_view l).trace) (ran_so_far op start now goes) in
     omega arith

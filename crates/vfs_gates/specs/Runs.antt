@@ -8,12 +8,12 @@ use Rattle.cpu_words.specs.declared.events.Event.{Event}
 use Rattle.cpu_words.specs.Touches.{event_of}
 use Rattle.gate_world.specs.declared.config.Config.{Config}
 use Rattle.gate_world.specs.declared.operations.Op.{Op}
-use Rattle.gate_world.specs.declared.operations.Op.TheVariants.{Want, DropMount, ChangeMount}
 use Rattle.gate_world.specs.declared.work.Phase.{Phase}
 use Rattle.gate_world.specs.declared.views.Traced.{Traced}
 use Rattle.gate_world.specs.declared.views.View.{View}
 use Rattle.gate_world.specs.Views.{phase_after, traced}
 use Rattle.gate_world.specs.Work.{next_of}
+use Rattle.gate_world.specs.Operations.{row}
 use Rattle.gate_world.specs.Traces.{course_of, IsTrace, actions_of, IsHonestAnswer, most_events, IsShort}
 use Rattle.gate_steps.specs.Seating.{SeatItems, numbered, IsMove}
 use Rattle.vfs_gates.specs.Standing.{Standing, own_number, refusal_at}
@@ -65,9 +65,7 @@ AreMoves c op items (e ∷ earlier) = IsNextMove c op items earlier e (course_of
 
 -- an operation looks again and again
 abbrev pub waits : Op → Bool
-waits (Want m p wait) = wait
-waits (DropMount m p) = false
-waits (ChangeMount m read_only wait) = wait
+waits op = (row op).waits
 
 abbrev pub outcome_of : Result Reply GateError → Result (Unit {0}) GateError
 outcome_of (Ok reply) = Ok tt
