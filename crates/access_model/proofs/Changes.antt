@@ -3,16 +3,16 @@ use Rattle.std.proofs.Common.{◌≡◌, ℕ, ◌<◌, sym, ap, ◌∙◌, subst
 use Rattle.std.proofs.Math.Path.{fun_ext}
 use Rattle.std.proofs.lemmas.Bool.Decides.{eqb_tells}
 use Rattle.std.proofs.lemmas.List.{get_or_default}
-use Rattle.finite_sums.specs.Sums.{changed}
+use Rattle.finite_sums.specs.Sums.{update}
 use Rattle.access_model.specs.declared.model.Accesses.{Accesses}
 use Rattle.access_model.specs.Shown.{nothing, held_of, inside_of}
 use Rattle.std.specs.Prelude.{Bool, false, slice_index, slice_index_or}
 
-pub map_set : {A B : Type 0} (g : A → B) (xs : List A) (t : ℕ) (v d : A) → t < length xs → (λ x. g (get_or (set xs t v) x d)) ≡ changed (λ x. g (get_or xs x d)) t (g v)
+pub map_set : {A B : Type 0} (g : A → B) (xs : List A) (t : ℕ) (v d : A) → t < length xs → (λ x. g (get_or (set xs t v) x d)) ≡ update (λ x. g (get_or xs x d)) t (g v)
 map_set g xs t v d lt = fun_ext (λ x.
     elim (eqb_tells x t) [
-      | inl h ↦ rw (h.0, changed) (ap g (subst (λ y. get_or (set xs t v) y d ≡ v) (sym h.1) (get_or-set_same xs t v d lt)))
-      | inr h ↦ rw (h.0, changed) (ap g (get_or-set_other xs t x v d h.1))
+      | inl h ↦ rw (h.0, update) (ap g (subst (λ y. get_or (set xs t v) y d ≡ v) (sym h.1) (get_or-set_same xs t v d lt)))
+      | inr h ↦ rw (h.0, update) (ap g (get_or-set_other xs t x v d h.1))
     ])
 
 -- one task's accesses change from old to new
@@ -20,8 +20,8 @@ module _ (all : List Accesses) (t : ℕ) (lt : t < length all) (old new : Access
   old_is : get_or all t nothing ≡ old
   old_is = get_or_default all t nothing old lt ∙ sym is
 
-  pub held_after : (f : (ℕ → ℕ) → ℕ → ℕ) → slice_index new.mounts ≡ f (slice_index old.mounts) → held_of (set all t new) ≡ changed (held_of all) t (f (held_of all t))
-  held_after f e = map_set (λ a. slice_index a.mounts) all t new nothing lt ∙ ap (changed (held_of all) t) (e ∙ ap (λ (a : Accesses). f (slice_index a.mounts)) (sym old_is))
+  pub held_after : (f : (ℕ → ℕ) → ℕ → ℕ) → slice_index new.mounts ≡ f (slice_index old.mounts) → held_of (set all t new) ≡ update (held_of all) t (f (held_of all t))
+  held_after f e = map_set (λ a. slice_index a.mounts) all t new nothing lt ∙ ap (update (held_of all) t) (e ∙ ap (λ (a : Accesses). f (slice_index a.mounts)) (sym old_is))
 
-  pub inside_after : (f : (ℕ → Bool) → ℕ → Bool) → (λ i. slice_index_or new.levels i false) ≡ f (λ i. slice_index_or old.levels i false) → inside_of (set all t new) ≡ changed (inside_of all) t (f (inside_of all t))
-  inside_after f e = map_set (λ a i. slice_index_or a.levels i false) all t new nothing lt ∙ ap (changed (inside_of all) t) (e ∙ ap (λ (a : Accesses). f (λ i. slice_index_or a.levels i false)) (sym old_is))
+  pub inside_after : (f : (ℕ → Bool) → ℕ → Bool) → (λ i. slice_index_or new.levels i false) ≡ f (λ i. slice_index_or old.levels i false) → inside_of (set all t new) ≡ update (inside_of all) t (f (inside_of all t))
+  inside_after f e = map_set (λ a i. slice_index_or a.levels i false) all t new nothing lt ∙ ap (update (inside_of all) t) (e ∙ ap (λ (a : Accesses). f (λ i. slice_index_or a.levels i false)) (sym old_is))

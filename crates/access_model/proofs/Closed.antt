@@ -3,8 +3,8 @@ use Rattle.std.proofs.Common.{◌≡◌, ℕ, zero, suc, ◌+◌, ◌-◌, ◌<�
 use Rattle.std.specs.Prelude.{List, [], ◌∷◌}
 use Rattle.std.proofs.lemmas.Bool.{both_ways, false≢true}
 use Rattle.std.proofs.lemmas.Bool.Decides.{eqb_tells}
-use Rattle.finite_sums.specs.Sums.{changed}
-use Rattle.finite_sums.proofs.Totals.{changed_off, each_changed}
+use Rattle.finite_sums.specs.Sums.{update}
+use Rattle.finite_sums.proofs.Totals.{update_off, each_updated}
 use Rattle.access_model.specs.declared.actions.Action.{Action}
 use Rattle.access_model.specs.declared.actions.Action.TheVariants.{Grant, Return, MountRo, MountRw, SbRo, SbRw, Stage, Pass, Reopen, Create, Remove, Grow, MoveTo, Dirty, Clean}
 use Rattle.access_model.specs.declared.actions.Gate.TheVariants.{Mount, Level}
@@ -29,22 +29,22 @@ to_stage l s (suc (suc (suc (suc (suc n))))) may = absurd may
 
 module _ (l : Limits) (s : State) (t : ℕ) (k : NobodyHoldsClosed l s) where
   -- one task's accesses change
-  mounts_row : (row : ℕ → ℕ) → ((n : ℕ) → t < l.tasks → n < l.mounts → IsReadOnly s n → row n ≡ 0) → (x n : ℕ) → x < l.tasks → n < l.mounts → IsReadOnly s n → changed s.mounts t row x n ≡ 0
-  mounts_row row h x n lx ln closed = each_changed (λ y f. y < l.tasks → f n ≡ 0) s.mounts t row x (λ lt. h n lt ln closed) (λ ne lt. k.mounts x n lt ln closed) lx
+  mounts_row : (row : ℕ → ℕ) → ((n : ℕ) → t < l.tasks → n < l.mounts → IsReadOnly s n → row n ≡ 0) → (x n : ℕ) → x < l.tasks → n < l.mounts → IsReadOnly s n → update s.mounts t row x n ≡ 0
+  mounts_row row h x n lx ln closed = each_updated (λ y f. y < l.tasks → f n ≡ 0) s.mounts t row x (λ lt. h n lt ln closed) (λ ne lt. k.mounts x n lt ln closed) lx
 
-  counts_row : (row : ℕ → ℕ) → ((n : ℕ) → row n ≤ 1024) → (x n : ℕ) → changed s.mounts t row x n ≤ 1024
-  counts_row row h x n = each_changed (λ y f. f n ≤ 1024) s.mounts t row x (h n) (λ ne. k.counts x n)
+  counts_row : (row : ℕ → ℕ) → ((n : ℕ) → row n ≤ 1024) → (x n : ℕ) → update s.mounts t row x n ≤ 1024
+  counts_row row h x n = each_updated (λ y f. f n ≤ 1024) s.mounts t row x (h n) (λ ne. k.counts x n)
 
-  levels_row : (row : ℕ → Bool) → ((i : ℕ) → t < l.tasks → 1 ≤ i → i ≤ s.passed → row i ≡ false) → (x i : ℕ) → x < l.tasks → 1 ≤ i → i ≤ s.passed → changed s.levels t row x i ≡ false
-  levels_row row h x i lx low high = each_changed (λ y f. y < l.tasks → f i ≡ false) s.levels t row x (λ lt. h i lt low high) (λ ne lt. k.levels x i lt low high) lx
+  levels_row : (row : ℕ → Bool) → ((i : ℕ) → t < l.tasks → 1 ≤ i → i ≤ s.passed → row i ≡ false) → (x i : ℕ) → x < l.tasks → 1 ≤ i → i ≤ s.passed → update s.levels t row x i ≡ false
+  levels_row row h x i lx low high = each_updated (λ y f. y < l.tasks → f i ≡ false) s.levels t row x (λ lt. h i lt low high) (λ ne lt. k.levels x i lt low high) lx
 
   -- which mounts were read-only before
-  as_before : (m n : ℕ) → (n ≡ m → ⊥) → IsReadOnly (record s { mount_ro = changed s.mount_ro m true }) n → IsReadOnly s n
-  as_before m n ne (inl e) = inl (sym (changed_off s.mount_ro m true n ne) ∙ e)
+  as_before : (m n : ℕ) → (n ≡ m → ⊥) → IsReadOnly (record s { mount_ro = update s.mount_ro m true }) n → IsReadOnly s n
+  as_before m n ne (inl e) = inl (sym (update_off s.mount_ro m true n ne) ∙ e)
   as_before m n ne (inr e) = inr e
 
-  still : (m n : ℕ) → IsReadOnly (record s { mount_ro = changed s.mount_ro m false }) n → IsReadOnly s n
-  still m n (inl e) = inl (each_changed (λ y v. v ≡ true → s.mount_ro y ≡ true) s.mount_ro m false n (λ q. absurd (false≢true q)) (λ ne q. q) e)
+  still : (m n : ℕ) → IsReadOnly (record s { mount_ro = update s.mount_ro m false }) n → IsReadOnly s n
+  still m n (inl e) = inl (each_updated (λ y v. v ≡ true → s.mount_ro y ≡ true) s.mount_ro m false n (λ q. absurd (false≢true q)) (λ ne q. q) e)
   still m n (inr e) = inr e
 
   own_flag : (n : ℕ) → IsReadOnly (record s { sb_ro = false }) n → IsReadOnly s n
@@ -56,31 +56,31 @@ module _ (l : Limits) (s : State) (t : ℕ) (k : NobodyHoldsClosed l s) where
 
   pub step : (a : Action) → MayDo l s t a → NobodyHoldsClosed l (after_action s t a)
   step (Grant (Mount m)) may = record {
-    mounts = mounts_row _ (λ n lt ln closed. each_changed (λ y v. y < l.mounts → IsReadOnly s y → v ≡ 0) (s.mounts t) m (s.mounts t m + 1) n
+    mounts = mounts_row _ (λ n lt ln closed. each_updated (λ y v. y < l.mounts → IsReadOnly s y → v ≡ 0) (s.mounts t) m (s.mounts t m + 1) n
         (λ lm c. absurd (is_open s m may.1 may.2 c)) (λ ne. k.mounts t n lt) ln closed);
     levels = levels_row (s.levels t) (k.levels t);
-    counts = counts_row _ (λ n. each_changed (λ y v. v ≤ 1024) (s.mounts t) m (s.mounts t m + 1) n (omega (arith, may.3)) (λ ne. k.counts t n));
+    counts = counts_row _ (λ n. each_updated (λ y v. v ≤ 1024) (s.mounts t) m (s.mounts t m + 1) n (omega (arith, may.3)) (λ ne. k.counts t n));
     passed = k.passed;
     stage = k.stage;
   }
   step (Grant (Level i)) may = record {
     mounts = mounts_row (s.mounts t) (k.mounts t);
-    levels = levels_row _ (λ j lt low high. each_changed (λ y v. y ≤ s.passed → v ≡ false) (s.levels t) i true j (λ h. absurd (omega (arith, may.1))) (λ ne h. k.levels t j lt low h) high);
+    levels = levels_row _ (λ j lt low high. each_updated (λ y v. y ≤ s.passed → v ≡ false) (s.levels t) i true j (λ h. absurd (omega (arith, may.1))) (λ ne h. k.levels t j lt low h) high);
     counts = counts_row (s.mounts t) (k.counts t);
     passed = k.passed;
     stage = k.stage;
   }
   step (Return (Mount m)) may = record {
-    mounts = mounts_row _ (λ n lt ln closed. each_changed (λ y v. y < l.mounts → IsReadOnly s y → v ≡ 0) (s.mounts t) m (s.mounts t m - 1) n
+    mounts = mounts_row _ (λ n lt ln closed. each_updated (λ y v. y < l.mounts → IsReadOnly s y → v ≡ 0) (s.mounts t) m (s.mounts t m - 1) n
         (λ lm c. omega (arith, k.mounts t m lt lm c)) (λ ne. k.mounts t n lt) ln closed);
     levels = levels_row (s.levels t) (k.levels t);
-    counts = counts_row _ (λ n. each_changed (λ y v. v ≤ 1024) (s.mounts t) m (s.mounts t m - 1) n (omega (arith, k.counts t m)) (λ ne. k.counts t n));
+    counts = counts_row _ (λ n. each_updated (λ y v. v ≤ 1024) (s.mounts t) m (s.mounts t m - 1) n (omega (arith, k.counts t m)) (λ ne. k.counts t n));
     passed = k.passed;
     stage = k.stage;
   }
   step (Return (Level i)) may = record {
     mounts = mounts_row (s.mounts t) (k.mounts t);
-    levels = levels_row _ (λ j lt low high. each_changed (λ y v. v ≡ false) (s.levels t) i false j refl (λ ne. k.levels t j lt low high));
+    levels = levels_row _ (λ j lt low high. each_updated (λ y v. v ≡ false) (s.levels t) i false j refl (λ ne. k.levels t j lt low high));
     counts = counts_row (s.mounts t) (k.counts t);
     passed = k.passed;
     stage = k.stage;

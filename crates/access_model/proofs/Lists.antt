@@ -2,7 +2,7 @@
 use Rattle.std.proofs.Common.{◌≡◌, ℕ, refl, sym, ap, ◌∙◌, subst, inl, inr}
 use Rattle.std.specs.Prelude.{cond, List, [], ◌∷◌}
 use Rattle.std.proofs.lemmas.Bool.Decides.{eqb_tells}
-use Rattle.finite_sums.proofs.Totals.{changed_at, changed_off}
+use Rattle.finite_sums.proofs.Totals.{update_at, update_off}
 use Rattle.access_model.specs.declared.actions.Action.{Action}
 use Rattle.access_model.specs.declared.actions.Action.TheVariants.{Grant, Return, MountRo, MountRw, SbRo, SbRw, Stage, Pass, Reopen, Create, Remove, Grow, MoveTo, Dirty, Clean}
 use Rattle.access_model.specs.States.{State}
@@ -11,8 +11,8 @@ use Rattle.access_model.specs.Histories.{Done, end_of, own_part, mounts_of, leve
 use Rattle.access_model.specs.Laws.{FollowsOwnList}
 
 mounts_own : (s : State) (t : ℕ) (a : Action) → (after_action s t a).mounts t ≡ mounts_after a (s.mounts t)
-mounts_own s t (Grant gate) = changed_at s.mounts t _
-mounts_own s t (Return gate) = changed_at s.mounts t _
+mounts_own s t (Grant gate) = update_at s.mounts t _
+mounts_own s t (Return gate) = update_at s.mounts t _
 mounts_own s t (MountRo m) = refl
 mounts_own s t (MountRw m) = refl
 mounts_own s t SbRo = refl
@@ -28,8 +28,8 @@ mounts_own s t (Dirty n) = refl
 mounts_own s t (Clean n) = refl
 
 levels_own : (s : State) (t : ℕ) (a : Action) → (after_action s t a).levels t ≡ levels_after a (s.levels t)
-levels_own s t (Grant gate) = changed_at s.levels t _
-levels_own s t (Return gate) = changed_at s.levels t _
+levels_own s t (Grant gate) = update_at s.levels t _
+levels_own s t (Return gate) = update_at s.levels t _
 levels_own s t (MountRo m) = refl
 levels_own s t (MountRw m) = refl
 levels_own s t SbRo = refl
@@ -45,8 +45,8 @@ levels_own s t (Dirty n) = refl
 levels_own s t (Clean n) = refl
 
 mounts_others : (s : State) (t x : ℕ) (a : Action) → (x ≡ t → ⊥) → (after_action s t a).mounts x ≡ s.mounts x
-mounts_others s t x (Grant gate) ne = changed_off s.mounts t _ x ne
-mounts_others s t x (Return gate) ne = changed_off s.mounts t _ x ne
+mounts_others s t x (Grant gate) ne = update_off s.mounts t _ x ne
+mounts_others s t x (Return gate) ne = update_off s.mounts t _ x ne
 mounts_others s t x (MountRo m) ne = refl
 mounts_others s t x (MountRw m) ne = refl
 mounts_others s t x SbRo ne = refl
@@ -62,8 +62,8 @@ mounts_others s t x (Dirty n) ne = refl
 mounts_others s t x (Clean n) ne = refl
 
 levels_others : (s : State) (t x : ℕ) (a : Action) → (x ≡ t → ⊥) → (after_action s t a).levels x ≡ s.levels x
-levels_others s t x (Grant gate) ne = changed_off s.levels t _ x ne
-levels_others s t x (Return gate) ne = changed_off s.levels t _ x ne
+levels_others s t x (Grant gate) ne = update_off s.levels t _ x ne
+levels_others s t x (Return gate) ne = update_off s.levels t _ x ne
 levels_others s t x (MountRo m) ne = refl
 levels_others s t x (MountRw m) ne = refl
 levels_others s t x SbRo ne = refl

@@ -2,8 +2,8 @@
 use Rattle.std.proofs.Common.{◌≡◌, ℕ, zero, suc, ◌<◌, refl, sym, ◌∙◌, arith, get_or, replicate, set}
 use Rattle.std.proofs.Math.Path.{fun_ext}
 use Rattle.std.specs.Prelude.{false, None, Some}
-use Rattle.finite_sums.specs.Sums.{changed}
-use Rattle.finite_sums.proofs.Totals.{changed_off}
+use Rattle.finite_sums.specs.Sums.{update}
+use Rattle.finite_sums.proofs.Totals.{update_off}
 use Rattle.access_model.specs.declared.model.Accesses.{Accesses}
 use Rattle.access_model.specs.States.{root}
 use Rattle.access_model.specs.Shown.{nothing, held_of, inside_of, flags_of, tree_of}
@@ -32,10 +32,10 @@ nobody_inside n = fun_ext (λ t. fun_ext (λ i. each_of_one (λ a. get_or a.leve
 pub no_flag : flags_of (replicate 8 false) ≡ (λ m. false)
 no_flag = fun_ext (λ m. all_one 8 m false)
 
-root_at : (n i : ℕ) → get_or (set (replicate (suc n) None) 0 (Some root)) i None ≡ changed (λ n. None) 0 (Some root) i
+root_at : (n i : ℕ) → get_or (set (replicate (suc n) None) 0 (Some root)) i None ≡ update (λ n. None) 0 (Some root) i
 root_at n zero = refl
-root_at n (suc i) = all_one n i None ∙ sym (changed_off (λ n. None) 0 (Some root) (suc i) (λ e. absurd (omega arith)))
+root_at n (suc i) = all_one n i None ∙ sym (update_off (λ n. None) 0 (Some root) (suc i) (λ e. absurd (omega arith)))
 
-pub root_alone : (n : ℕ) → 0 < n → tree_of (set (replicate n None) 0 (Some root)) ≡ changed (λ n. None) 0 (Some root)
+pub root_alone : (n : ℕ) → 0 < n → tree_of (set (replicate n None) 0 (Some root)) ≡ update (λ n. None) 0 (Some root)
 root_alone zero lt = absurd (omega arith)
 root_alone (suc n) lt = fun_ext (root_at n)

@@ -1,6 +1,6 @@
 -- When an action is allowed, and what it does.
 use Rattle.std.specs.Prelude.{◌≡◌, ℕ, zero, suc, ◌+◌, ◌-◌, ◌<◌, ◌≤◌, ◌⊎◌, Bool, true, false, Option, Some, None, option_map}
-use Rattle.finite_sums.specs.Sums.{changed}
+use Rattle.finite_sums.specs.Sums.{update}
 use Rattle.access_model.specs.declared.actions.Action.{Action}
 use Rattle.access_model.specs.declared.actions.Action.TheVariants.{Grant, Return, MountRo, MountRw, SbRo, SbRw, Stage, Pass, Reopen, Create, Remove, Grow, MoveTo, Dirty, Clean}
 use Rattle.access_model.specs.declared.actions.Gate.TheVariants.{Mount, Level}
@@ -50,14 +50,14 @@ IsAllowed l s t a = (t < l.tasks) × MayDo l s t a
 
 -- what an action leaves of its own task's accesses at the mounts
 abbrev pub mounts_after : Action → (ℕ → ℕ) → ℕ → ℕ
-mounts_after (Grant (Mount m)) held = changed held m (held m + 1)
-mounts_after (Return (Mount m)) held = changed held m (held m - 1)
+mounts_after (Grant (Mount m)) held = update held m (held m + 1)
+mounts_after (Return (Mount m)) held = update held m (held m - 1)
 mounts_after a held = held
 
 -- what an action leaves of its own task's levels
 abbrev pub levels_after : Action → (ℕ → Bool) → ℕ → Bool
-levels_after (Grant (Level i)) held = changed held i true
-levels_after (Return (Level i)) held = changed held i false
+levels_after (Grant (Level i)) held = update held i true
+levels_after (Return (Level i)) held = update held i false
 levels_after a held = held
 
 abbrev pub grown : ℕ → NodeInfo → NodeInfo
@@ -70,20 +70,20 @@ abbrev pub marked : Bool → NodeInfo → NodeInfo
 marked dirty node = record node { dirty = dirty }
 
 abbrev pub tree_after : Action → (ℕ → Option NodeInfo) → ℕ → Option NodeInfo
-tree_after (Create n d kind) tree = changed tree n (Some record { kind = kind; parent = d; size = 0; dirty = false })
-tree_after (Remove n) tree = changed tree n None
-tree_after (Grow n blocks) tree = changed tree n (option_map (grown blocks) (tree n))
-tree_after (MoveTo n d) tree = changed tree n (option_map (moved d) (tree n))
-tree_after (Dirty n) tree = changed tree n (option_map (marked true) (tree n))
-tree_after (Clean n) tree = changed tree n (option_map (marked false) (tree n))
+tree_after (Create n d kind) tree = update tree n (Some record { kind = kind; parent = d; size = 0; dirty = false })
+tree_after (Remove n) tree = update tree n None
+tree_after (Grow n blocks) tree = update tree n (option_map (grown blocks) (tree n))
+tree_after (MoveTo n d) tree = update tree n (option_map (moved d) (tree n))
+tree_after (Dirty n) tree = update tree n (option_map (marked true) (tree n))
+tree_after (Clean n) tree = update tree n (option_map (marked false) (tree n))
 tree_after a tree = tree
 
 -- the state after an action of this task
 abbrev pub after_action : State → ℕ → Action → State
-after_action s t (Grant gate) = record s { mounts = changed s.mounts t (mounts_after (Grant gate) (s.mounts t)); levels = changed s.levels t (levels_after (Grant gate) (s.levels t)) }
-after_action s t (Return gate) = record s { mounts = changed s.mounts t (mounts_after (Return gate) (s.mounts t)); levels = changed s.levels t (levels_after (Return gate) (s.levels t)) }
-after_action s t (MountRo m) = record s { mount_ro = changed s.mount_ro m true }
-after_action s t (MountRw m) = record s { mount_ro = changed s.mount_ro m false }
+after_action s t (Grant gate) = record s { mounts = update s.mounts t (mounts_after (Grant gate) (s.mounts t)); levels = update s.levels t (levels_after (Grant gate) (s.levels t)) }
+after_action s t (Return gate) = record s { mounts = update s.mounts t (mounts_after (Return gate) (s.mounts t)); levels = update s.levels t (levels_after (Return gate) (s.levels t)) }
+after_action s t (MountRo m) = record s { mount_ro = update s.mount_ro m true }
+after_action s t (MountRw m) = record s { mount_ro = update s.mount_ro m false }
 after_action s t SbRo = record s { sb_ro = true }
 after_action s t SbRw = record s { sb_ro = false }
 after_action s t (Stage n) = record s { stage = n }

@@ -1,6 +1,6 @@
 -- The state of the access model.
 use Rattle.std.specs.Prelude.{◌≡◌, ℕ, ◌<◌, ◌≤◌, Bool, false, Option, Some, None}
-use Rattle.finite_sums.specs.Sums.{changed, total}
+use Rattle.finite_sums.specs.Sums.{update, total}
 use Rattle.access_model.specs.declared.actions.Gate.{Gate}
 use Rattle.access_model.specs.declared.actions.Gate.TheVariants.{Mount, Level}
 use Rattle.access_model.specs.declared.actions.Kind.TheVariants.{File, Dir}
@@ -41,7 +41,7 @@ opening_state = record {
   sb_ro = false;
   stage = 0;
   passed = 0;
-  tree = changed (λ n. None) 0 (Some root);
+  tree = update (λ n. None) 0 (Some root);
 }
 
 abbrev pub IsLevel : ℕ → Type 0

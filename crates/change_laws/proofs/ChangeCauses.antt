@@ -12,10 +12,10 @@ use Rattle.gate_frames.proofs.Loads.{fits_now}
 use Rattle.gate_world.specs.Causes.{all_counted, was_counted, words_read, moments_of_sum}
 use Rattle.gate_world.specs.Fits.{SumFits}
 use Rattle.gate_world.specs.Operations.{holds_none}
-use Rattle.gate_world.specs.Rules.{Good}
+use Rattle.gate_world.specs.Rules.{IsGood}
 use Rattle.gate_world.specs.Views.{holds_level, phase_after}
 use Rattle.gate_world.specs.Work.{after_of}
-use Rattle.gate_world.specs.Worlds.{World, found_at, stepped}
+use Rattle.gate_world.specs.Worlds.{World, found_at, after_step}
 use Rattle.gate_world.specs.declared.config.Config.{Config}
 use Rattle.gate_world.specs.declared.work.Phase.TheVariants.{Mounts}
 use Rattle.mount_counts.specs.Phases.{has_flag, step_between}
@@ -31,12 +31,12 @@ use Rattle.cause_laws.proofs.Moments.{fresh_lead, none_counted, sum_skips, sum_b
 use Rattle.gate_world.specs.KeptCauses.{ChangeCause, CauseOf}
 use Rattle.change_laws.proofs.Owner.{change}
 
-module _ (c : Config) (w : World) (good : Good c w) (t : ℕ) (lt : t < c.tasks) (hook : HookAnswer) (m : ℕ) where
-  abbrev Quiet : MountPhase → Type 0
-  Quiet phase = (w.views t).phase ≡ Some (Mounts phase) → all_counted c m w ≡ 0 → all_counted c m (stepped w t (Mounts phase) hook) ≡ 0 →
-      (stepped w t (Mounts phase) hook).words.count m ≡ w.words.count m
+module _ (c : Config) (w : World) (good : IsGood c w) (t : ℕ) (lt : t < c.tasks) (hook : HookAnswer) (m : ℕ) where
+  abbrev IsQuiet : MountPhase → Type 0
+  IsQuiet phase = (w.views t).phase ≡ Some (Mounts phase) → all_counted c m w ≡ 0 → all_counted c m (after_step w t (Mounts phase) hook) ≡ 0 →
+      (after_step w t (Mounts phase) hook).words.count m ≡ w.words.count m
 
-  pub quiet_change : (n : ℕ) (ro wait : Bool) (task processors : ℕ) (s : ChangeStep) → Quiet (change n ro wait task processors s)
+  pub quiet_change : (n : ℕ) (ro wait : Bool) (task processors : ℕ) (s : ChangeStep) → IsQuiet (change n ro wait task processors s)
   quiet_change n ro wait task processors Locks e before after = refl
   quiet_change n ro wait task processors LoadsFlags e before after = refl
   quiet_change n ro wait task processors LoadsSb e before after = refl
@@ -49,7 +49,7 @@ module _ (c : Config) (w : World) (good : Good c w) (t : ℕ) (lt : t < c.tasks)
 
 module _ (w : World) where
   -- an event of a change leaves the counts
-  pub change_counts : (t : ℕ) (hook : HookAnswer) (m : ℕ) (ro wait : Bool) (task processors : ℕ) (s : ChangeStep) → (stepped w t (Mounts (change m ro wait task processors s)) hook).words.count ≡ w.words.count
+  pub change_counts : (t : ℕ) (hook : HookAnswer) (m : ℕ) (ro wait : Bool) (task processors : ℕ) (s : ChangeStep) → (after_step w t (Mounts (change m ro wait task processors s)) hook).words.count ≡ w.words.count
   change_counts t hook m ro wait task processors Locks = refl
   change_counts t hook m ro wait task processors LoadsFlags = refl
   change_counts t hook m ro wait task processors LoadsSb = refl
@@ -61,7 +61,7 @@ module _ (w : World) where
   change_counts t hook m ro wait task processors (Releases answer) = refl
 
 -- a task whose view another entry leaves alone
-module _ (c : Config) (t : ℕ) (w next : World) (earlier : List World) (good : Good c next) where
+module _ (c : Config) (t : ℕ) (w next : World) (earlier : List World) (good : IsGood c next) where
   sum_kept : (m : ℕ) (ro wait : Bool) (task processors : ℕ) (sum : Sum) → m < c.mounts → (next.views t).phase ≡ Some (Mounts (change m ro wait task processors (Sums sum))) → (w.views t).phase ≡ Some (Mounts (change m ro wait task processors (Sums sum))) →
       (all_counted c m w ≡ 0 → all_counted c m next ≡ 0 → next.words.count m ≡ w.words.count m) → ChangeCause c t w earlier m (Sums sum) → ChangeCause c t next (w ∷ earlier) m (Sums sum)
   sum_kept m ro wait task processors sum lm e was quiet h = (
@@ -94,7 +94,7 @@ module _ (c : Config) (t : ℕ) (w next : World) (earlier : List World) (good : 
   change_kept m ro wait task processors (Releases answer) lm e was quiet h = λ r. ap (was_counted c m) (sum_skips t next (w ∷ earlier) (ap words_read e)) ∙ h r
 
 -- the task that steps: what its next phase says, in the world after the event
-module _ (c : Config) (t : ℕ) (lt : t < c.tasks) (w next : World) (earlier : List World) (good : Good c w) (after : Good c next) (hook : HookAnswer) where
+module _ (c : Config) (t : ℕ) (lt : t < c.tasks) (w next : World) (earlier : List World) (good : IsGood c w) (after : IsGood c next) (hook : HookAnswer) where
   not_busy : {A : Type 0} → Ok UnitReply ≡ Err Busy → A
   not_busy h = cc
 

@@ -14,7 +14,7 @@ use Rattle.gate_frames.proofs.Loads.{role_none}
 use Rattle.gate_world.specs.declared.operations.Op.TheVariants.{ChangeMount}
 use Rattle.trace_laws.proofs.Says.{tells, is_short}
 use Rattle.gate_world.specs.KeptCauses.{ChangeCause}
-use Rattle.gate_world.specs.Worlds.{stepped}
+use Rattle.gate_world.specs.Worlds.{after_step}
 use Rattle.change_laws.proofs.Each.{change_keeps}
 use Rattle.change_laws.proofs.ChangeFits.{change_there, change_acts, change_goes}
 use Rattle.change_laws.proofs.ChangeCauses.{quiet_change, change_counts, change_kept, change_own}
@@ -33,7 +33,7 @@ change_phase c x = record {
   stays = λ w next earlier after t f e was quiet h. change_kept c t w next earlier after x.mount x.read_only x.wait x.task x.processors x.step f.0 e was (quiet x.mount) h;
   causes = λ w earlier good t lt hook e after is h.
       let f : Fits c t (held_at (w.views t)) (holds_level (w.views t)) (Some (Mounts (Changes x))) = subst (Fits c t (held_at (w.views t)) (holds_level (w.views t))) e (good Fitting t lt) in
-      change_own c t lt w (stepped w t (Mounts (Changes x)) hook) earlier good after hook x.mount x.read_only x.wait x.task x.processors x.step f.0 e
+      change_own c t lt w (after_step w t (Mounts (Changes x)) hook) earlier good after hook x.mount x.read_only x.wait x.task x.processors x.step f.0 e
       (ap (λ g. g x.mount) (change_counts w t hook x.mount x.read_only x.wait x.task x.processors x.step)) h is;
   tells = λ t w earlier h e. let k : ChangeCause c t w earlier x.mount (Releases (Err Busy)) = subst (ChangeCause c t w earlier x.mount) e h in k refl;
 }

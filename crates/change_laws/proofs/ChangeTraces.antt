@@ -22,7 +22,7 @@ use Rattle.gate_world.specs.declared.operations.Op.TheVariants.{ChangeMount}
 use Rattle.gate_world.specs.declared.work.Phase.{Phase}
 use Rattle.gate_world.specs.declared.work.Phase.TheVariants.{Mounts}
 use Rattle.gate_world.specs.declared.views.Traced.{Traced}
-use Rattle.gate_world.specs.Views.{traced}
+use Rattle.gate_world.specs.Views.{with_hook}
 use Rattle.gate_world.specs.Configs.{IsWithin}
 use Rattle.gate_world.specs.Found.{found_read_only, counts_loaded, sum_loaded, IsEachCount}
 use Rattle.gate_world.specs.Traces.{actions_of, IsHonestAnswer, most_events, IsShort}
@@ -106,7 +106,7 @@ sum_more k value s loads h = omega (arith, h, sum_by-cons (λ (x : ℕ × ℕ). 
 module _ (c : Config) (lim : IsWithin c) (t m : ℕ) (ro : Bool) (value : ℕ) (hook : HookAnswer) (earlier : List Traced) (added : List Action) where
   -- the trace after the event of a step
   abbrev longer : Bool → ChangeStep → List Traced
-  longer wait step = traced (event_at (change c t m ro wait step) value hook) hook ∷ earlier
+  longer wait step = with_hook (event_at (change c t m ro wait step) value hook) hook ∷ earlier
 
   -- what the trace says after the event of a step
   abbrev After : Bool → ChangeStep → Type 0

@@ -3,8 +3,8 @@ use Rattle.std.proofs.Common.{◌≡◌, ℕ, suc, ◌+◌, ◌<◌, ◌≤◌, 
 use Rattle.std.specs.Prelude.{◌==◌, not, Option, Some, None}
 use Rattle.std.proofs.lemmas.Bool.{cases_Bool}
 use Rattle.std.proofs.lemmas.Bool.Decides.{eqb_tells}
-use Rattle.finite_sums.specs.Sums.{changed, total}
-use Rattle.finite_sums.proofs.Totals.{changed_at, changed_off, total_none}
+use Rattle.finite_sums.specs.Sums.{update, total}
+use Rattle.finite_sums.proofs.Totals.{update_at, update_off, total_none}
 use Rattle.access_model.specs.declared.replies.Next.{Next}
 use Rattle.access_model.specs.declared.replies.Next.TheVariants.{Go}
 use Rattle.cpu_words.specs.declared.names.WordName.{WordName}
@@ -26,10 +26,11 @@ use Rattle.gate_world.specs.declared.views.View.{View}
 use Rattle.gate_world.specs.Views.{held_at, holds_level, added_by, taken_by}
 use Rattle.gate_world.specs.Fits.{SumFits}
 use Rattle.gate_world.specs.Operations.{holds_none}
-use Rattle.gate_world.specs.Worlds.{World, shown}
-use Rattle.gate_world.specs.Rules.{want_role, change_role, role_if, role_of, at_mount, change_owns, owns, remounts, Steady, OwnerHolds, ViewFits, Good, GateStepKeeps, Owner, AtMount, GatesHold}
-use Rattle.gate_frames.proofs.Frames.{changed_same, view_as, holds_as, owner_same, gates_after}
-use Rattle.gate_frames.proofs.Loads.{as_owner, loaded, load_law, role_none, fits_now}
+use Rattle.gate_world.specs.Worlds.{World}
+use Rattle.gate_world.specs.Shown.{shown}
+use Rattle.gate_world.specs.Rules.{want_role, change_role, role_if, role_of, at_mount, change_owns, owns, remounts, IsSteady, OwnerHolds, ViewFits, IsGood, GateStepKeeps, Owner, AtMount, GatesHold}
+use Rattle.gate_frames.proofs.Frames.{update_same, view_as, holds_as, owner_same, gates_after}
+use Rattle.gate_frames.proofs.Loads.{as_owner, after_load, load_law, role_none, fits_now}
 
 abbrev pub change : ℕ → Bool → Bool → ℕ → ℕ → ChangeStep → MountPhase
 change m ro wait task processors step = Changes (record { mount = m; read_only = ro; wait = wait; task = task; processors = processors; step = step })
@@ -76,7 +77,7 @@ between true false = (refl, refl, λ c. tt)
 between false true = (refl, refl, λ c. tt)
 between false false = (refl, refl, λ c. tt)
 
-module _ (c : Config) (w : World) (good : Good c w) (t : ℕ) (lt : t < c.tasks) where
+module _ (c : Config) (w : World) (good : IsGood c w) (t : ℕ) (lt : t < c.tasks) where
   -- nobody else owns
   pub alone : (x : ℕ) → x < c.tasks → (x ≡ t → ⊥) → owns (w.views t).phase ≡ 1 → owns (w.views x).phase ≡ 0
   alone x lx ne o =
@@ -108,24 +109,24 @@ module _ (c : Config) (w : World) (good : Good c w) (t : ℕ) (lt : t < c.tasks)
 
   -- an event of a task that counts nowhere before it and after it
   pub still : (ws : Words) (v : View) → ws.remount ≡ w.words.remount → ws.sb ≡ w.words.sb → ws.flags ≡ w.words.flags → ws.count ≡ w.words.count →
-      OwnerHolds c.tasks ws.umount ws.remount (λ x. (changed w.views t v x).phase) → ViewFits c t v →
-      ((y : ℕ) → at_mount y v ≡ at_mount y (w.views t)) → GatesHold c (record { words = ws; views = changed w.views t v })
+      OwnerHolds c.tasks ws.umount ws.remount (λ x. (update w.views t v x).phase) → ViewFits c t v →
+      ((y : ℕ) → at_mount y v ≡ at_mount y (w.views t)) → GatesHold c (record { words = ws; views = update w.views t v })
   still ws v er es ef ec owner fits same =
       gates_after c w t lt good 0 ws v er es owner fits (λ y ne. (ap (λ f. f y) ef, ap (λ f. f y) ec, same y))
-      (λ lm. holds_as (ap (λ f. f 0) ef) refl refl (ap (λ f. f 0) ec) (ap (changed (λ x. at_mount 0 (w.views x)) t) (same 0) ∙ changed_same (λ x. at_mount 0 (w.views x)) t) (good (AtMount 0) lm))
+      (λ lm. holds_as (ap (λ f. f 0) ef) refl refl (ap (λ f. f 0) ec) (ap (update (λ x. at_mount 0 (w.views x)) t) (same 0) ∙ update_same (λ x. at_mount 0 (w.views x)) t) (good (AtMount 0) lm))
 
   module _ (m : ℕ) (ro wait : Bool) (task processors : ℕ) (hook : HookAnswer) where
     -- a load by an owner that holds nothing, before and after it
     pub still_load : (name : WordName) (s s' : ChangeStep) → (w.views t).phase ≡ Some (Mounts (change m ro wait task processors s)) →
         change_role s ≡ Out → change_role s' ≡ Out → change_owns s ≡ 1 → change_owns s' ≡ 1 → SumFits c s' →
         let coming : Next Phase = Go (Mounts (change m ro wait task processors s')) in
-        GatesHold c (loaded w t name hook coming) × (shown c (loaded w t name hook coming) ≡ shown c w)
+        GatesHold c (after_load w t name hook coming) × (shown c (after_load w t name hook coming) ≡ shown c w)
     still_load name s s' e none none' o o' fit =
         let f : (m < c.mounts) × (task ≡ t) × (processors ≡ c.processors) × (holds_none (holds_level (w.views t)) ≡ true) × SumFits c s = fits_now c w good t lt (change m ro wait task processors s) e in
         let before : (y : ℕ) → role_of y (w.views t).phase ≡ Out = λ y. ap (role_of y) e ∙ (ap (role_if (y == m)) none ∙ role_none y m) in
         let later : (y : ℕ) → role_if (y == m) (change_role s') ≡ Out = λ y. ap (role_if (y == m)) none' ∙ role_none y m in
         load_law c w good t lt m name hook (Go (Mounts (change m ro wait task processors s'))) (λ y ne. later y ∙ sym (before y)) (as_owner (change m ro wait task processors s) e (o' ∙ sym o) refl (λ i. refl)) (f.0, f.1, f.2, f.3, fit)
-        (λ lm. holds_as refl refl refl refl (ap (changed (λ x. at_mount m (w.views x)) t) (view_as refl refl refl (later m ∙ sym (before m))) ∙ changed_same (λ x. at_mount m (w.views x)) t) (good (AtMount m) lm))
+        (λ lm. holds_as refl refl refl refl (ap (update (λ x. at_mount m (w.views x)) t) (view_as refl refl refl (later m ∙ sym (before m))) ∙ update_same (λ x. at_mount m (w.views x)) t) (good (AtMount m) lm))
 
     pub loads_flags : (w.views t).phase ≡ Some (Mounts (change m ro wait task processors LoadsFlags)) → GateStepKeeps c w t hook (Mounts (change m ro wait task processors LoadsFlags))
     loads_flags e =
@@ -140,12 +141,12 @@ module _ (c : Config) (w : World) (good : Good c w) (t : ℕ) (lt : t < c.tasks)
         still_load SbFlags LoadsSb (step_between ro b) e refl (between ro b).0 refl (between ro b).1 ((between ro b).2 c)
 
   -- an owner's event on the flags of a mount
-  pub flag_law : (m f : ℕ) (v : View) (r : Role) → m < c.mounts → Steady (w.views t).phase v.phase → ViewFits c t v →
+  pub flag_law : (m f : ℕ) (v : View) (r : Role) → m < c.mounts → IsSteady (w.views t).phase v.phase → ViewFits c t v →
       held_at v ≡ held_at (w.views t) → added_by v.events ≡ added_by (w.views t).events → taken_by v.events ≡ taken_by (w.views t).events →
       ((y : ℕ) → (y ≡ m → ⊥) → role_of y v.phase ≡ role_of y (w.views t).phase) → role_of m v.phase ≡ r →
-      MountHolds c.tasks c.processors f w.words.remount w.words.sb (w.words.count m) (changed (λ x. at_mount m (w.views x)) t (record (at_mount m (w.views t)) { role = r })) →
-      GatesHold c (record { words = record w.words { flags = changed w.words.flags m f }; views = changed w.views t v })
+      MountHolds c.tasks c.processors f w.words.remount w.words.sb (w.words.count m) (update (λ x. at_mount m (w.views x)) t (record (at_mount m (w.views t)) { role = r })) →
+      GatesHold c (record { words = record w.words { flags = update w.words.flags m f }; views = update w.views t v })
   flag_law m f v r lm same fits held added taken off role own =
-      gates_after c w t lt good m (record w.words { flags = changed w.words.flags m f }) v refl refl (owner_same c w t lt good v same) fits
-      (λ y ne. (changed_off w.words.flags m f y ne, refl, view_as (ap (λ g. g y) held) (ap (λ g. g y) added) (ap (λ g. g y) taken) (off y ne)))
-      (λ l. holds_as (changed_at w.words.flags m f) refl refl refl (ap (changed (λ x. at_mount m (w.views x)) t) (view_as (ap (λ g. g m) held) (ap (λ g. g m) added) (ap (λ g. g m) taken) role)) own)
+      gates_after c w t lt good m (record w.words { flags = update w.words.flags m f }) v refl refl (owner_same c w t lt good v same) fits
+      (λ y ne. (update_off w.words.flags m f y ne, refl, view_as (ap (λ g. g y) held) (ap (λ g. g y) added) (ap (λ g. g y) taken) (off y ne)))
+      (λ l. holds_as (update_at w.words.flags m f) refl refl refl (ap (update (λ x. at_mount m (w.views x)) t) (view_as (ap (λ g. g m) held) (ap (λ g. g m) added) (ap (λ g. g m) taken) role)) own)

@@ -1,6 +1,6 @@
 -- All words at one moment.
 use Rattle.std.specs.Prelude.{ℕ}
-use Rattle.finite_sums.specs.Sums.{changed}
+use Rattle.finite_sums.specs.Sums.{update}
 use Rattle.cpu_words.specs.declared.names.WordName.{WordName}
 use Rattle.cpu_words.specs.declared.names.WordName.TheVariants.{Umount, Stage, SbFlags, Remount, MountFlags, MountCount, Block, Sync, LevelCount, Section, Used, Node, Kids}
 
@@ -44,15 +44,15 @@ put w Umount v = record w { umount = v }
 put w Stage v = record w { stage = v }
 put w SbFlags v = record w { sb = v }
 put w Remount v = record w { remount = v }
-put w (MountFlags m) v = record w { flags = changed w.flags m v }
-put w (MountCount m p) v = record w { count = changed w.count m (changed (w.count m) p v) }
-put w (Block i) v = record w { block = changed w.block i v }
-put w (Sync i) v = record w { sync = changed w.sync i v }
-put w (LevelCount i p) v = record w { level = changed w.level i (changed (w.level i) p v) }
-put w (Section t) v = record w { section = changed w.section t v }
+put w (MountFlags m) v = record w { flags = update w.flags m v }
+put w (MountCount m p) v = record w { count = update w.count m (update (w.count m) p v) }
+put w (Block i) v = record w { block = update w.block i v }
+put w (Sync i) v = record w { sync = update w.sync i v }
+put w (LevelCount i p) v = record w { level = update w.level i (update (w.level i) p v) }
+put w (Section t) v = record w { section = update w.section t v }
 put w Used v = record w { used = v }
-put w (Node n) v = record w { node = changed w.node n v }
-put w (Kids n) v = record w { kids = changed w.kids n v }
+put w (Node n) v = record w { node = update w.node n v }
+put w (Kids n) v = record w { kids = update w.kids n v }
 
 -- all words are 0, but for the root, a directory
 abbrev pub opening_words : Words
@@ -68,6 +68,6 @@ opening_words = record {
   level = λ i p. 0;
   section = λ t. 0;
   used = 0;
-  node = changed (λ n. 0) 0 2;
+  node = update (λ n. 0) 0 2;
   kids = λ n. 0;
 }

@@ -1,7 +1,7 @@
 //! The sum of one gate's count words, read one after the other.
 
 ghost use Rattle.std.specs.Prelude.{◌≡◌, ℕ, ◌<◌, List, [], ◌∷◌, ◌++◌, length};
-ghost use Rattle.cpu_words.specs.Sums.{taken_after, sum_of, taken_of};
+ghost use Rattle.cpu_words.specs.Sums.{sum_taking, sum_of, taken_of};
 
 /// A sum in progress: how many words were taken (0 to 63), and their wrapping sum.
 #[derive(Clone, Copy, PartialEq, Eq, Debug)]
@@ -29,7 +29,7 @@ impl Sum {
     /// where it was the last one. A single word may have wrapped below 0, where an access was given back on another
     /// processor than it was taken on: only the total means something.
     pub fn take(self, word: u64, processors: u8) -> Taken
-        ensures step { result ≡ taken_after self word processors }
+        ensures step { result ≡ sum_taking self word processors }
         ensures words { (taken : List ℕ) → length taken < processors → self ≡ sum_of taken →
             result ≡ taken_of (taken ++ word ∷ []) processors }
     {

@@ -2,20 +2,20 @@
 use Rattle.std.proofs.Common.{◌≡◌, ℕ, zero, suc, ◌+◌, ◌*◌, ◌%◌, ◌<◌, ◌≤◌, refl, sym, ap, ◌∙◌, subst, inl, inr, arith}
 use Rattle.std.proofs.lemmas.Bool.{eq-eqb, ne_eqb}
 use Rattle.std.proofs.lemmas.Bool.Decides.{eqb_tells}
-use Rattle.finite_sums.specs.Sums.{changed, total}
+use Rattle.finite_sums.specs.Sums.{update, total}
 
-pub changed_at : {A : Type 0} (f : ℕ → A) (t : ℕ) (v : A) → changed f t v t ≡ v
-changed_at f t v = rw (eq-eqb t t refl, changed)
+pub update_at : {A : Type 0} (f : ℕ → A) (t : ℕ) (v : A) → update f t v t ≡ v
+update_at f t v = rw (eq-eqb t t refl, update)
 
-pub changed_off : {A : Type 0} (f : ℕ → A) (t : ℕ) (v : A) (x : ℕ) → (x ≡ t → ⊥) → changed f t v x ≡ f x
-changed_off f t v x h = rw (ne_eqb x t h, changed)
+pub update_off : {A : Type 0} (f : ℕ → A) (t : ℕ) (v : A) (x : ℕ) → (x ≡ t → ⊥) → update f t v x ≡ f x
+update_off f t v x h = rw (ne_eqb x t h, update)
 
 -- what holds of the new value and of each other old one holds of each
-pub each_changed : {A : Type 0} (P : ℕ → A → Type 0) (f : ℕ → A) (t : ℕ) (v : A) (x : ℕ) → P t v → ((x ≡ t → ⊥) → P x (f x)) → P x (changed f t v x)
-each_changed P f t v x here there =
+pub each_updated : {A : Type 0} (P : ℕ → A → Type 0) (f : ℕ → A) (t : ℕ) (v : A) (x : ℕ) → P t v → ((x ≡ t → ⊥) → P x (f x)) → P x (update f t v x)
+each_updated P f t v x here there =
     elim (eqb_tells x t) [
-      | inl h ↦ rw (h.0, changed) (subst (λ y. P y v) (sym h.1) here)
-      | inr h ↦ rw (h.0, changed) (there h.1)
+      | inl h ↦ rw (h.0, update) (subst (λ y. P y v) (sym h.1) here)
+      | inr h ↦ rw (h.0, update) (there h.1)
     ]
 
 pub total_same : (n : ℕ) (f g : ℕ → ℕ) → ((x : ℕ) → x < n → f x ≡ g x) → total n f ≡ total n g
@@ -23,24 +23,24 @@ total_same zero f g h = refl
 total_same (suc n) f g h = omega (arith, total_same n f g (λ x lt. h x (omega arith)), h n (omega arith))
 
 -- a sum with one place changed, where what is summed may read the place too
-pub total_changed_by : {A : Type 0} (f : ℕ → A → ℕ) (n t : ℕ) (at : ℕ → A) (v : A) → t < n → total n (λ x. f x (changed at t v x)) + f t (at t) ≡ total n (λ x. f x (at x)) + f t v
+pub total_changed_by : {A : Type 0} (f : ℕ → A → ℕ) (n t : ℕ) (at : ℕ → A) (v : A) → t < n → total n (λ x. f x (update at t v x)) + f t (at t) ≡ total n (λ x. f x (at x)) + f t v
 total_changed_by f zero t at v lt = absurd (omega arith)
 total_changed_by f (suc n) t at v lt =
     elim (eqb_tells n t) [
       | inl h ↦
-          let e : total n (λ x. f x (changed at t v x)) ≡ total n (λ x. f x (at x)) = total_same n _ _ (λ x l. ap (f x) (changed_off at t v x (λ q. absurd (omega arith)))) in
-          let e2 : f n (changed at t v n) ≡ f n v = rw (h.0, changed) in
+          let e : total n (λ x. f x (update at t v x)) ≡ total n (λ x. f x (at x)) = total_same n _ _ (λ x l. ap (f x) (update_off at t v x (λ q. absurd (omega arith)))) in
+          let e2 : f n (update at t v n) ≡ f n v = rw (h.0, update) in
           let e3 : f n (at n) ≡ f t (at t) = ap (λ y. f y (at y)) h.1 in
           let e4 : f n v ≡ f t v = ap (λ y. f y v) h.1 in
           omega arith
       | inr h ↦
-          let e : total n (λ x. f x (changed at t v x)) + f t (at t) ≡ total n (λ x. f x (at x)) + f t v = total_changed_by f n t at v (omega arith) in
-          let e2 : f n (changed at t v n) ≡ f n (at n) = rw (h.0, changed) in
+          let e : total n (λ x. f x (update at t v x)) + f t (at t) ≡ total n (λ x. f x (at x)) + f t v = total_changed_by f n t at v (omega arith) in
+          let e2 : f n (update at t v n) ≡ f n (at n) = rw (h.0, update) in
           omega arith
     ]
 
-pub total_changed : {A : Type 0} (f : A → ℕ) (n t : ℕ) (at : ℕ → A) (v : A) → t < n → total n (λ x. f (changed at t v x)) + f (at t) ≡ total n (λ x. f (at x)) + f v
-total_changed f n t at v lt = total_changed_by (λ x. f) n t at v lt
+pub total_updated : {A : Type 0} (f : A → ℕ) (n t : ℕ) (at : ℕ → A) (v : A) → t < n → total n (λ x. f (update at t v x)) + f (at t) ≡ total n (λ x. f (at x)) + f v
+total_updated f n t at v lt = total_changed_by (λ x. f) n t at v lt
 
 pub total_le : (n : ℕ) (f g : ℕ → ℕ) → ((x : ℕ) → x < n → f x ≤ g x) → total n f ≤ total n g
 total_le zero f g h = omega arith

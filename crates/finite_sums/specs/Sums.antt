@@ -2,8 +2,8 @@
 use Rattle.std.specs.Prelude.{ℕ, zero, suc, ◌+◌, true, false, ◌==◌}
 
 -- f with v at t
-abbrev pub changed : {A : Type 0} → (ℕ → A) → ℕ → A → ℕ → A
-changed f t v x = elim (x == t) [ true ↦ v | false ↦ f x ]
+abbrev pub update : {A : Type 0} → (ℕ → A) → ℕ → A → ℕ → A
+update f t v x = elim (x == t) [ true ↦ v | false ↦ f x ]
 
 -- f 0 + .. + f (n - 1)
 abbrev pub total : ℕ → (ℕ → ℕ) → ℕ

@@ -3,10 +3,10 @@
 #![tactic(auto)]
 
 ghost use Rattle.std.specs.Prelude.{◌≡◌, ℕ, ◌+◌, ◌<◌};
-ghost use Rattle.finite_sums.specs.Sums.{changed, total};
+ghost use Rattle.finite_sums.specs.Sums.{update, total};
 
 /// Where one of the numbers that a sum runs over is changed, the sum changes by just that much.
 /// Does nothing: its contract is the law.
 pub fn one_place_changes_a_sum()
-    ensures { (f : ℕ → ℕ) (n t v : ℕ) → t < n → total n (changed f t v) + f t ≡ total n f + v }
+    ensures { (f : ℕ → ℕ) (n t v : ℕ) → t < n → total n (update f t v) + f t ≡ total n f + v }
 {}

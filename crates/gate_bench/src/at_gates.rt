@@ -1,7 +1,7 @@
 //! Pairs at the gates.
 
 ghost use Rattle.std.specs.Prelude.{◌≡◌, ◌≤◌, All, IfOk};
-ghost use Rattle.vfs_gates.specs.Standing.{IsFrom};
+ghost use Rattle.vfs_gates.specs.TaskStates.{IsFrom};
 
 use anyhow::{Result, bail};
 use gate_world::Config;

@@ -4,8 +4,8 @@ use Rattle.std.proofs.Math.ListN.{length-set}
 use Rattle.std.specs.Prelude.{if◌then◌else◌, is_some, Option, Some, None, Result, Err, slice_set}
 use Rattle.std.proofs.lemmas.Bool.{cases_Bool, lt-ltb}
 use Rattle.std.proofs.lemmas.List.{get_or_default}
-use Rattle.finite_sums.specs.Sums.{changed}
-use Rattle.finite_sums.proofs.Totals.{changed_at, changed_off}
+use Rattle.finite_sums.specs.Sums.{update}
+use Rattle.finite_sums.proofs.Totals.{update_at, update_off}
 use Rattle.access_model.specs.declared.errors.GateError.{GateError}
 use Rattle.access_model.specs.declared.errors.GateError.TheVariants.{Invalid, Order, TooMany}
 use Rattle.gate_world.specs.declared.config.Config.{Config}
@@ -13,7 +13,8 @@ use Rattle.gate_world.specs.declared.operations.Op.{Op}
 use Rattle.gate_world.specs.declared.work.Phase.{Phase}
 use Rattle.gate_world.specs.declared.views.View.{View}
 use Rattle.gate_world.specs.Views.{held_at, holds_level, begun_view}
-use Rattle.gate_world.specs.Worlds.{World, Begins, first_phase, is_in_range, is_in_order, is_within_room, refusal, begin_refusal, happens, run, opening}
+use Rattle.gate_world.specs.Beginnings.{first_phase, is_in_range, is_in_order, is_within_room, refusal}
+use Rattle.gate_world.specs.Worlds.{World, Begins, begin_refusal, happens, run, opening}
 use Rattle.gate_world.specs.Fits.{Fits}
 use Rattle.gate_core.specs.declared.seats.Seat.{Seat}
 use Rattle.gate_core.specs.Memory.{Memory, Shows, IsSound, no_seat, seat_of, mounts_in, levels_in}
@@ -99,15 +100,15 @@ module _ (memory : Memory) (sound : IsSound memory) (t : ℕ) (lt : t < memory.c
         let view : View = begun_view (w.views t) op (first_phase memory.config t op) in
         rw (refusal_same w shows ∙ may) (record {
           words = shows.words;
-          phases = λ x lx. seat_cases memory.seats t seat_after some_seat (λ y s. y < memory.config.tasks → s.phase ≡ (changed w.views t view y).phase) x
-              (λ l. ap (λ p. Some p) phase_is ∙ ap (λ (v : View). v.phase) (sym (changed_at w.views t view)))
-              (λ ne l. shows.phases x l ∙ ap (λ (v : View). v.phase) (sym (changed_off w.views t view x ne))) lx;
-          mounts = λ x m lx lm. seat_cases memory.seats t seat_after some_seat (λ y s. y < memory.config.tasks → mounts_in s m ≡ held_at (changed w.views t view y) m) x
-              (λ l. mounts_same w shows m lm ∙ ap (λ (v : View). held_at v m) (sym (changed_at w.views t view)))
-              (λ ne l. shows.mounts x m l lm ∙ ap (λ (v : View). held_at v m) (sym (changed_off w.views t view x ne))) lx;
-          levels = λ x i lx one three. seat_cases memory.seats t seat_after some_seat (λ y s. y < memory.config.tasks → levels_in s i ≡ holds_level (changed w.views t view y) i) x
-              (λ l. levels_same w shows i one three ∙ ap (λ (v : View). holds_level v i) (sym (changed_at w.views t view)))
-              (λ ne l. shows.levels x i l one three ∙ ap (λ (v : View). holds_level v i) (sym (changed_off w.views t view x ne))) lx;
+          phases = λ x lx. seat_cases memory.seats t seat_after some_seat (λ y s. y < memory.config.tasks → s.phase ≡ (update w.views t view y).phase) x
+              (λ l. ap (λ p. Some p) phase_is ∙ ap (λ (v : View). v.phase) (sym (update_at w.views t view)))
+              (λ ne l. shows.phases x l ∙ ap (λ (v : View). v.phase) (sym (update_off w.views t view x ne))) lx;
+          mounts = λ x m lx lm. seat_cases memory.seats t seat_after some_seat (λ y s. y < memory.config.tasks → mounts_in s m ≡ held_at (update w.views t view y) m) x
+              (λ l. mounts_same w shows m lm ∙ ap (λ (v : View). held_at v m) (sym (update_at w.views t view)))
+              (λ ne l. shows.mounts x m l lm ∙ ap (λ (v : View). held_at v m) (sym (update_off w.views t view x ne))) lx;
+          levels = λ x i lx one three. seat_cases memory.seats t seat_after some_seat (λ y s. y < memory.config.tasks → levels_in s i ≡ holds_level (update w.views t view y) i) x
+              (λ l. levels_same w shows i one three ∙ ap (λ (v : View). holds_level v i) (sym (update_at w.views t view)))
+              (λ ne l. shows.levels x i l one three ∙ ap (λ (v : View). holds_level v i) (sym (update_off w.views t view x ne))) lx;
         })
 
     seat_fits : Fits memory.config t (mounts_in seat) (levels_in seat) (Some phase)

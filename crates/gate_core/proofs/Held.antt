@@ -3,8 +3,8 @@ use Rattle.std.proofs.Common.{◌≡◌, ℕ, ◌+◌, ◌-◌, ◌<◌, ◌≤�
 use Rattle.std.proofs.Math.ListN.{length-set}
 use Rattle.std.specs.Prelude.{Option, Some, None, slice_index, slice_index_or, slice_set}
 use Rattle.std.proofs.lemmas.Bool.Decides.{eqb_tells}
-use Rattle.finite_sums.specs.Sums.{changed}
-use Rattle.finite_sums.proofs.Totals.{changed_at, changed_off}
+use Rattle.finite_sums.specs.Sums.{update}
+use Rattle.finite_sums.proofs.Totals.{update_at, update_off}
 use Rattle.access_model.specs.declared.actions.Action.{Action}
 use Rattle.access_model.specs.declared.actions.Action.TheVariants.{Grant, Return}
 use Rattle.access_model.specs.declared.actions.Gate.TheVariants.{Mount, Level}
@@ -43,21 +43,21 @@ module _ (held : Accesses) (long : length held.mounts ≡ 8) (wide : length held
   mounts_same mounts seen None f h m lt = h m lt
   mounts_same mounts seen (Some (Grant (Mount n))) f h m lt =
       elim (eqb_tells m n) [
-        | inl e ↦ rw (e.1, changed_at seen n (seen n + 1)) (get_or-set_same held.mounts n (slice_index held.mounts n + 1) 0 (omega (arith, f.0)) ∙ ap (λ y. y + 1) (h n (omega (arith, e.1))))
-        | inr e ↦ get_or-set_other held.mounts n m (slice_index held.mounts n + 1) 0 e.1 ∙ (h m lt ∙ sym (changed_off seen n (seen n + 1) m e.1))
+        | inl e ↦ rw (e.1, update_at seen n (seen n + 1)) (get_or-set_same held.mounts n (slice_index held.mounts n + 1) 0 (omega (arith, f.0)) ∙ ap (λ y. y + 1) (h n (omega (arith, e.1))))
+        | inr e ↦ get_or-set_other held.mounts n m (slice_index held.mounts n + 1) 0 e.1 ∙ (h m lt ∙ sym (update_off seen n (seen n + 1) m e.1))
       ]
   mounts_same mounts seen (Some (Return (Mount n))) f h m lt =
       elim (eqb_tells m n) [
-        | inl e ↦ rw (e.1, changed_at seen n (seen n - 1)) (get_or-set_same held.mounts n (slice_index held.mounts n - 1) 0 (omega (arith, f.0)) ∙ ap (λ y. y - 1) (h n (omega (arith, e.1))))
-        | inr e ↦ get_or-set_other held.mounts n m (slice_index held.mounts n - 1) 0 e.1 ∙ (h m lt ∙ sym (changed_off seen n (seen n - 1) m e.1))
+        | inl e ↦ rw (e.1, update_at seen n (seen n - 1)) (get_or-set_same held.mounts n (slice_index held.mounts n - 1) 0 (omega (arith, f.0)) ∙ ap (λ y. y - 1) (h n (omega (arith, e.1))))
+        | inr e ↦ get_or-set_other held.mounts n m (slice_index held.mounts n - 1) 0 e.1 ∙ (h m lt ∙ sym (update_off seen n (seen n - 1) m e.1))
       ]
   mounts_same mounts seen (Some a) f h m lt = h m lt
 
-  level_set : (seen : ℕ → Bool) (n : ℕ) (v : Bool) → n ≤ 3 → (i : ℕ) → slice_index_or held.levels i false ≡ seen i → slice_index_or (slice_set held.levels n v) i false ≡ changed seen n v i
+  level_set : (seen : ℕ → Bool) (n : ℕ) (v : Bool) → n ≤ 3 → (i : ℕ) → slice_index_or held.levels i false ≡ seen i → slice_index_or (slice_set held.levels n v) i false ≡ update seen n v i
   level_set seen n v le i h =
       elim (eqb_tells i n) [
-        | inl e ↦ rw (e.1, changed_at seen n v) (get_or-set_same held.levels n v false (omega arith))
-        | inr e ↦ get_or-set_other held.levels n i v false e.1 ∙ (h ∙ sym (changed_off seen n v i e.1))
+        | inl e ↦ rw (e.1, update_at seen n v) (get_or-set_same held.levels n v false (omega arith))
+        | inr e ↦ get_or-set_other held.levels n i v false e.1 ∙ (h ∙ sym (update_off seen n v i e.1))
       ]
 
   pub levels_same : (seen : ℕ → Bool) (a : Option Action) → ActionFits (slice_index held.mounts) a →

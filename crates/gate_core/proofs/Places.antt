@@ -2,8 +2,8 @@
 use Rattle.std.proofs.Common.{◌≡◌, ℕ, ◌<◌, List, length, refl, sym, ap, ◌∙◌, inl, inr, arith, get_or-set_same, get_or-set_other}
 use Rattle.std.specs.Prelude.{slice_index, slice_set}
 use Rattle.std.proofs.lemmas.Bool.Decides.{eqb_tells}
-use Rattle.finite_sums.specs.Sums.{changed}
-use Rattle.finite_sums.proofs.Totals.{changed_at, changed_off}
+use Rattle.finite_sums.specs.Sums.{update}
+use Rattle.finite_sums.proofs.Totals.{update_at, update_off}
 use Rattle.cpu_words.specs.declared.names.WordName.{WordName}
 use Rattle.cpu_words.specs.declared.names.WordName.TheVariants.{Umount, Stage, SbFlags, Remount, MountFlags, MountCount, Block, Sync, LevelCount, Section, Used, Node, Kids}
 use Rattle.cpu_words.specs.Names.{IsWord, place}
@@ -17,23 +17,23 @@ read_put_same w Umount v = refl
 read_put_same w Stage v = refl
 read_put_same w SbFlags v = refl
 read_put_same w Remount v = refl
-read_put_same w (MountFlags m) v = changed_at w.flags m v
-read_put_same w (MountCount m p) v = ap (λ f. f p) (changed_at w.count m (changed (w.count m) p v)) ∙ changed_at (w.count m) p v
-read_put_same w (Block i) v = changed_at w.block i v
-read_put_same w (Sync i) v = changed_at w.sync i v
-read_put_same w (LevelCount i p) v = ap (λ f. f p) (changed_at w.level i (changed (w.level i) p v)) ∙ changed_at (w.level i) p v
-read_put_same w (Section t) v = changed_at w.section t v
+read_put_same w (MountFlags m) v = update_at w.flags m v
+read_put_same w (MountCount m p) v = ap (λ f. f p) (update_at w.count m (update (w.count m) p v)) ∙ update_at (w.count m) p v
+read_put_same w (Block i) v = update_at w.block i v
+read_put_same w (Sync i) v = update_at w.sync i v
+read_put_same w (LevelCount i p) v = ap (λ f. f p) (update_at w.level i (update (w.level i) p v)) ∙ update_at (w.level i) p v
+read_put_same w (Section t) v = update_at w.section t v
 read_put_same w Used v = refl
-read_put_same w (Node n) v = changed_at w.node n v
-read_put_same w (Kids n) v = changed_at w.kids n v
+read_put_same w (Node n) v = update_at w.node n v
+read_put_same w (Kids n) v = update_at w.kids n v
 
 module _ (w : Words) (v : ℕ) where
-  row_other : (f : ℕ → ℕ → ℕ) (m p k q : ℕ) → (k ≡ m → q ≡ p → ⊥) → changed f m (changed (f m) p v) k q ≡ f k q
+  row_other : (f : ℕ → ℕ → ℕ) (m p k q : ℕ) → (k ≡ m → q ≡ p → ⊥) → update f m (update (f m) p v) k q ≡ f k q
   row_other f m p k q ne =
       elim (eqb_tells k m) [
-        | inl e ↦ ap (λ r. changed f m (changed (f m) p v) r q) e.1 ∙
-            (ap (λ g. g q) (changed_at f m (changed (f m) p v)) ∙ (changed_off (f m) p v q (ne e.1) ∙ ap (λ r. f r q) (sym e.1)))
-        | inr e ↦ ap (λ g. g q) (changed_off f m (changed (f m) p v) k e.1)
+        | inl e ↦ ap (λ r. update f m (update (f m) p v) r q) e.1 ∙
+            (ap (λ g. g q) (update_at f m (update (f m) p v)) ∙ (update_off (f m) p v q (ne e.1) ∙ ap (λ r. f r q) (sym e.1)))
+        | inr e ↦ ap (λ g. g q) (update_off f m (update (f m) p v) k e.1)
       ]
 
   -- and no other
@@ -46,23 +46,23 @@ module _ (w : Words) (v : ℕ) where
   read_put_other SbFlags other ne = refl
   read_put_other Remount Remount ne = absurd (ne refl)
   read_put_other Remount other ne = refl
-  read_put_other (MountFlags m) (MountFlags k) ne = changed_off w.flags m v k (λ e. ne (ap MountFlags e))
+  read_put_other (MountFlags m) (MountFlags k) ne = update_off w.flags m v k (λ e. ne (ap MountFlags e))
   read_put_other (MountFlags m) other ne = refl
   read_put_other (MountCount m p) (MountCount k q) ne = row_other w.count m p k q (λ e d. ne (λ z. MountCount (e z) (d z)))
   read_put_other (MountCount m p) other ne = refl
-  read_put_other (Block i) (Block j) ne = changed_off w.block i v j (λ e. ne (ap Block e))
+  read_put_other (Block i) (Block j) ne = update_off w.block i v j (λ e. ne (ap Block e))
   read_put_other (Block i) other ne = refl
-  read_put_other (Sync i) (Sync j) ne = changed_off w.sync i v j (λ e. ne (ap Sync e))
+  read_put_other (Sync i) (Sync j) ne = update_off w.sync i v j (λ e. ne (ap Sync e))
   read_put_other (Sync i) other ne = refl
   read_put_other (LevelCount i p) (LevelCount j q) ne = row_other w.level i p j q (λ e d. ne (λ z. LevelCount (e z) (d z)))
   read_put_other (LevelCount i p) other ne = refl
-  read_put_other (Section t) (Section u) ne = changed_off w.section t v u (λ e. ne (ap Section e))
+  read_put_other (Section t) (Section u) ne = update_off w.section t v u (λ e. ne (ap Section e))
   read_put_other (Section t) other ne = refl
   read_put_other Used Used ne = absurd (ne refl)
   read_put_other Used other ne = refl
-  read_put_other (Node n) (Node o) ne = changed_off w.node n v o (λ e. ne (ap Node e))
+  read_put_other (Node n) (Node o) ne = update_off w.node n v o (λ e. ne (ap Node e))
   read_put_other (Node n) other ne = refl
-  read_put_other (Kids n) (Kids o) ne = changed_off w.kids n v o (λ e. ne (ap Kids e))
+  read_put_other (Kids n) (Kids o) ne = update_off w.kids n v o (λ e. ne (ap Kids e))
   read_put_other (Kids n) other ne = refl
 
 -- the list has these words at their places

@@ -4,8 +4,8 @@ use Rattle.std.proofs.Math.ListN.{length-set}
 use Rattle.std.specs.Prelude.{Option, Some, slice_index, slice_set}
 use Rattle.std.proofs.lemmas.Bool.{lt-ltb}
 use Rattle.std.proofs.lemmas.List.{get_or_default}
-use Rattle.finite_sums.specs.Sums.{changed}
-use Rattle.finite_sums.proofs.Totals.{changed_at, changed_off}
+use Rattle.finite_sums.specs.Sums.{update}
+use Rattle.finite_sums.proofs.Totals.{update_at, update_off}
 use Rattle.access_model.specs.declared.actions.Action.{Action}
 use Rattle.access_model.specs.declared.replies.Next.{Next}
 use Rattle.cpu_words.specs.declared.names.WordName.{WordName}
@@ -21,7 +21,7 @@ use Rattle.gate_world.specs.declared.views.View.{View}
 use Rattle.gate_world.specs.Configs.{extents_of}
 use Rattle.gate_world.specs.Views.{held_at, holds_level, phase_after, view_after}
 use Rattle.gate_world.specs.Work.{next_of, after_of}
-use Rattle.gate_world.specs.Worlds.{World, Entry, Steps, stepped, happens, run, opening}
+use Rattle.gate_world.specs.Worlds.{World, Entry, Steps, after_step, happens, run, opening}
 use Rattle.gate_world.specs.Fits.{PhaseFits, Fits}
 use Rattle.gate_core.specs.declared.seats.Seat.{Seat}
 use Rattle.gate_core.specs.declared.seats.Accesses.{Accesses}
@@ -104,18 +104,18 @@ module _ (memory : Memory) (sound : IsSound memory) (t : ℕ) (lt : t < memory.c
         (ap (λ y. levels_by (after_of phase y hook).1 (holds_level (w.views t)) i) found_same ∙
         ap (λ f. f i) (sym (levels_of_after (after_of phase (found_by touch (read w.words name)) hook).1 (w.views t).actions)))
 
-    stepped_shown : Shows memory_after (stepped w t phase hook)
+    stepped_shown : Shows memory_after (after_step w t phase hook)
     stepped_shown = record {
       words = λ n rn. written memory.config sound.within memory.words w.words name (left touch value) sound.words there shows.words n rn ∙ ap (λ y. read (put w.words name (left touch y)) n) (words_shown w shows);
-      phases = λ x lx. seat_cases memory.seats t seat_after some_seat (λ y s. y < memory.config.tasks → s.phase ≡ (changed w.views t view y).phase) x
-          (λ l. ap (λ y. phase_after (after_of phase y hook).0) found_same ∙ ap (λ (v : View). v.phase) (sym (changed_at w.views t view)))
-          (λ ne l. shows.phases x l ∙ ap (λ (v : View). v.phase) (sym (changed_off w.views t view x ne))) lx;
-      mounts = λ x m lx lm. seat_cases memory.seats t seat_after some_seat (λ y s. y < memory.config.tasks → mounts_in s m ≡ held_at (changed w.views t view y) m) x
-          (λ l. mounts_shown m lm ∙ ap (λ (v : View). held_at v m) (sym (changed_at w.views t view)))
-          (λ ne l. shows.mounts x m l lm ∙ ap (λ (v : View). held_at v m) (sym (changed_off w.views t view x ne))) lx;
-      levels = λ x i lx one three. seat_cases memory.seats t seat_after some_seat (λ y s. y < memory.config.tasks → levels_in s i ≡ holds_level (changed w.views t view y) i) x
-          (λ l. levels_shown i one three ∙ ap (λ (v : View). holds_level v i) (sym (changed_at w.views t view)))
-          (λ ne l. shows.levels x i l one three ∙ ap (λ (v : View). holds_level v i) (sym (changed_off w.views t view x ne))) lx;
+      phases = λ x lx. seat_cases memory.seats t seat_after some_seat (λ y s. y < memory.config.tasks → s.phase ≡ (update w.views t view y).phase) x
+          (λ l. ap (λ y. phase_after (after_of phase y hook).0) found_same ∙ ap (λ (v : View). v.phase) (sym (update_at w.views t view)))
+          (λ ne l. shows.phases x l ∙ ap (λ (v : View). v.phase) (sym (update_off w.views t view x ne))) lx;
+      mounts = λ x m lx lm. seat_cases memory.seats t seat_after some_seat (λ y s. y < memory.config.tasks → mounts_in s m ≡ held_at (update w.views t view y) m) x
+          (λ l. mounts_shown m lm ∙ ap (λ (v : View). held_at v m) (sym (update_at w.views t view)))
+          (λ ne l. shows.mounts x m l lm ∙ ap (λ (v : View). held_at v m) (sym (update_off w.views t view x ne))) lx;
+      levels = λ x i lx one three. seat_cases memory.seats t seat_after some_seat (λ y s. y < memory.config.tasks → levels_in s i ≡ holds_level (update w.views t view y) i) x
+          (λ l. levels_shown i one three ∙ ap (λ (v : View). holds_level v i) (sym (update_at w.views t view)))
+          (λ ne l. shows.levels x i l one three ∙ ap (λ (v : View). holds_level v i) (sym (update_off w.views t view x ne))) lx;
     }
 
     pub step_shows : Shows memory_after (happens memory.config w (Steps t hook))

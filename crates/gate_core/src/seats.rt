@@ -2,7 +2,7 @@
 
 ghost use Rattle.std.specs.Prelude.{◌≡◌, ◌<◌, ◌≤◌, is_some, slice_index, slice_index_or, false};
 ghost use Rattle.gate_world.specs.Operations.{holds_none};
-ghost use Rattle.gate_world.specs.Worlds.{first_phase as the_first_phase, is_in_range as in_range, is_in_order as in_order, is_within_room as within_room, refusal as the_refusal};
+ghost use Rattle.gate_world.specs.Beginnings.{first_phase as the_first_phase, is_in_range as in_range, is_in_order as in_order, is_within_room as within_room, refusal as the_refusal};
 
 use access_model::{Action, Gate, GateError};
 use gate_world::{Config, Op, Phase};

@@ -4,8 +4,8 @@ use Rattle.std.specs.Prelude.{◌==◌, ◌&&◌, ◌||◌, if◌then◌else◌,
 use Rattle.std.proofs.Math.Path.{fun_ext}
 use Rattle.std.proofs.lemmas.Bool.{eq-eqb, ne_eqb, cases_Bool}
 use Rattle.std.proofs.lemmas.Bool.Decides.{eqb_tells}
-use Rattle.finite_sums.specs.Sums.{changed, total}
-use Rattle.finite_sums.proofs.Totals.{each_changed, total_changed}
+use Rattle.finite_sums.specs.Sums.{update, total}
+use Rattle.finite_sums.proofs.Totals.{each_updated, total_updated}
 use Rattle.cpu_words.specs.declared.names.WordName.{WordName}
 use Rattle.cpu_words.specs.declared.names.WordName.TheVariants.{Umount, Stage, SbFlags, Remount, MountFlags, MountCount, Block, Sync, LevelCount, Section, Used, Node, Kids}
 use Rattle.cpu_words.specs.declared.events.Touch.TheVariants.{Load}
@@ -27,15 +27,16 @@ use Rattle.gate_world.specs.declared.views.View.{View}
 use Rattle.gate_world.specs.declared.work.Phase.{Phase}
 use Rattle.gate_world.specs.declared.work.Phase.TheVariants.{Mounts}
 use Rattle.gate_world.specs.Views.{held_at, holds_level, added_after, taken_after, view_after}
-use Rattle.gate_world.specs.Worlds.{World, shown, closing, is_passed, node_shown, words_after, value_at}
+use Rattle.gate_world.specs.Worlds.{World, words_after, value_at}
+use Rattle.gate_world.specs.Shown.{shown, closing, is_passed, node_shown}
 use Rattle.gate_world.specs.Fits.{Fits}
-use Rattle.gate_world.specs.Rules.{role_if, at_mount, owns, remounts, Steady, OwnerHolds, ViewFits, Part, Owner, Superblock, Stages, Fitting, AtMount, Holds, SameWords, SameView, at_gates, GatesHold, Good, StepKeeps, GateStepKeeps}
+use Rattle.gate_world.specs.Rules.{role_if, at_mount, owns, remounts, IsSteady, OwnerHolds, ViewFits, Part, Owner, Superblock, Stages, Fitting, AtMount, Holds, SameWords, SameView, at_gates, GatesHold, IsGood, StepKeeps, GateStepKeeps}
 
-pub changed_map : {A B : Type 0} (g : A → B) (f : ℕ → A) (t : ℕ) (v : A) → (λ x. g (changed f t v x)) ≡ changed (λ x. g (f x)) t (g v)
-changed_map g f t v = fun_ext (λ x. elim (eqb_tells x t) [ inl h ↦ rw (h.0, changed) | inr h ↦ rw (h.0, changed) ])
+pub update_map : {A B : Type 0} (g : A → B) (f : ℕ → A) (t : ℕ) (v : A) → (λ x. g (update f t v x)) ≡ update (λ x. g (f x)) t (g v)
+update_map g f t v = fun_ext (λ x. elim (eqb_tells x t) [ inl h ↦ rw (h.0, update) | inr h ↦ rw (h.0, update) ])
 
-pub changed_same : {A : Type 0} (f : ℕ → A) (t : ℕ) → changed f t (f t) ≡ f
-changed_same f t = fun_ext (λ x. elim (eqb_tells x t) [ inl h ↦ rw (h.0, changed) (ap f (sym h.1)) | inr h ↦ rw (h.0, changed) ])
+pub update_same : {A : Type 0} (f : ℕ → A) (t : ℕ) → update f t (f t) ≡ f
+update_same f t = fun_ext (λ x. elim (eqb_tells x t) [ inl h ↦ rw (h.0, update) (ap f (sym h.1)) | inr h ↦ rw (h.0, update) ])
 
 -- a load leaves the words
 pub load_same : (w : Words) (name : WordName) → put w name (read w name) ≡ w
@@ -43,15 +44,15 @@ load_same w Umount = refl
 load_same w Stage = refl
 load_same w SbFlags = refl
 load_same w Remount = refl
-load_same w (MountFlags m) = λ j. record w { flags = changed_same w.flags m j }
-load_same w (MountCount m p) = λ j. record w { count = (ap (λ g. changed w.count m g) (changed_same (w.count m) p) ∙ changed_same w.count m) j }
-load_same w (Block i) = λ j. record w { block = changed_same w.block i j }
-load_same w (Sync i) = λ j. record w { sync = changed_same w.sync i j }
-load_same w (LevelCount i p) = λ j. record w { level = (ap (λ g. changed w.level i g) (changed_same (w.level i) p) ∙ changed_same w.level i) j }
-load_same w (Section u) = λ j. record w { section = changed_same w.section u j }
+load_same w (MountFlags m) = λ j. record w { flags = update_same w.flags m j }
+load_same w (MountCount m p) = λ j. record w { count = (ap (λ g. update w.count m g) (update_same (w.count m) p) ∙ update_same w.count m) j }
+load_same w (Block i) = λ j. record w { block = update_same w.block i j }
+load_same w (Sync i) = λ j. record w { sync = update_same w.sync i j }
+load_same w (LevelCount i p) = λ j. record w { level = (ap (λ g. update w.level i g) (update_same (w.level i) p) ∙ update_same w.level i) j }
+load_same w (Section u) = λ j. record w { section = update_same w.section u j }
 load_same w Used = refl
-load_same w (Node n) = λ j. record w { node = changed_same w.node n j }
-load_same w (Kids n) = λ j. record w { kids = changed_same w.kids n j }
+load_same w (Node n) = λ j. record w { node = update_same w.node n j }
+load_same w (Kids n) = λ j. record w { kids = update_same w.kids n j }
 
 -- and counts nowhere
 pub added_load : (name : WordName) (added : ℕ → ℕ → ℕ) → added_after name Load added ≡ added
@@ -101,26 +102,26 @@ holds_as {tasks} {processors} ef er es ec ea h = subst (λ X. X) (sym (λ i. Mou
 module _ (c : Config) (w : World) (t : ℕ) (lt : t < c.tasks) where
   -- a level is passed as before, where neither its word nor the task's part in its closing changes
   pub passed_same : (ws : Words) (v : View) (i : ℕ) → ws.block i ≡ w.words.block i → closing i v.phase ≡ closing i (w.views t).phase →
-      is_passed c (record { words = ws; views = changed w.views t v }) i ≡ is_passed c w i
+      is_passed c (record { words = ws; views = update w.views t v }) i ≡ is_passed c w i
   passed_same ws v i eb ec =
-      let sums : total c.tasks (λ x. closing i (changed w.views t v x).phase) ≡ total c.tasks (λ x. closing i (w.views x).phase) =
-      omega (arith, ec, total_changed (λ (u : View). closing i u.phase) c.tasks t w.views v lt) in
+      let sums : total c.tasks (λ x. closing i (update w.views t v x).phase) ≡ total c.tasks (λ x. closing i (w.views x).phase) =
+      omega (arith, ec, total_updated (λ (u : View). closing i u.phase) c.tasks t w.views v lt) in
       λ j. if (eb j == 1) && (sums j == 0) then 1 else 0
 
   -- the shown model after an event that is no event of a freeze
   pub shown_as : (ws : Words) (v : View) → ws.block ≡ w.words.block → ((i : ℕ) → closing i v.phase ≡ closing i (w.views t).phase) →
-      shown c (record { words = ws; views = changed w.views t v }) ≡
+      shown c (record { words = ws; views = update w.views t v }) ≡
       record (shown c w) {
-        mounts = changed (λ x. held_at (w.views x)) t (held_at v);
-        levels = changed (λ x. holds_level (w.views x)) t (holds_level v);
+        mounts = update (λ x. held_at (w.views x)) t (held_at v);
+        levels = update (λ x. holds_level (w.views x)) t (holds_level v);
         mount_ro = λ m. ro_bit (ws.flags m) == 1;
         sb_ro = ws.remount == 1 || ws.sb == 1;
         stage = ws.stage;
         tree = λ n. node_shown (ws.node n);
       }
   shown_as ws v eb ec = λ j. record {
-    mounts = changed_map held_at w.views t v j;
-    levels = changed_map holds_level w.views t v j;
+    mounts = update_map held_at w.views t v j;
+    levels = update_map holds_level w.views t v j;
     mount_ro = λ m. ro_bit (ws.flags m) == 1;
     sb_ro = ws.remount == 1 || ws.sb == 1;
     stage = ws.stage;
@@ -131,12 +132,12 @@ module _ (c : Config) (w : World) (t : ℕ) (lt : t < c.tasks) where
   -- a view with the same actions shows the same accesses
   pub shown_still : (ws : Words) (v : View) → ws.block ≡ w.words.block → ws.flags ≡ w.words.flags → ws.remount ≡ w.words.remount → ws.sb ≡ w.words.sb → ws.stage ≡ w.words.stage → ws.node ≡ w.words.node →
       ((i : ℕ) → closing i v.phase ≡ closing i (w.views t).phase) → held_at v ≡ held_at (w.views t) → holds_level v ≡ holds_level (w.views t) →
-      shown c (record { words = ws; views = changed w.views t v }) ≡ shown c w
+      shown c (record { words = ws; views = update w.views t v }) ≡ shown c w
   shown_still ws v eb ef er es eg en ec eh el =
       shown_as ws v eb ec ∙
       (λ j. record (shown c w) {
-        mounts = (ap (changed (λ x. held_at (w.views x)) t) eh ∙ changed_same (λ x. held_at (w.views x)) t) j;
-        levels = (ap (changed (λ x. holds_level (w.views x)) t) el ∙ changed_same (λ x. holds_level (w.views x)) t) j;
+        mounts = (ap (update (λ x. held_at (w.views x)) t) eh ∙ update_same (λ x. held_at (w.views x)) t) j;
+        levels = (ap (update (λ x. holds_level (w.views x)) t) el ∙ update_same (λ x. holds_level (w.views x)) t) j;
         mount_ro = λ m. ro_bit (ef j m) == 1;
         sb_ro = er j == 1 || es j == 1;
         stage = eg j;
@@ -145,47 +146,47 @@ module _ (c : Config) (w : World) (t : ℕ) (lt : t < c.tasks) where
 
   -- each part of the rule where an event leaves what it reads
   pub left_alone : (part : Part) (ws : Words) (v : View) → SameWords w.words ws part → SameView (w.views t) v part → Holds c w part →
-      Holds c (record { words = ws; views = changed w.views t v }) part
+      Holds c (record { words = ws; views = update w.views t v }) part
   left_alone Owner ws v same seen h = record {
-    locked = λ x lx o. same.0 ∙ each_changed (λ y (u : View). y < c.tasks → owns u.phase ≡ 1 → w.words.umount ≡ suc y) w.views t v x (λ l e. h.locked t l (sym seen.0 ∙ e)) (λ ne. h.locked x) lx o;
-    owned = λ x lx o. each_changed (λ y (u : View). y < c.tasks → w.words.umount ≡ suc y → owns u.phase ≡ 1) w.views t v x (λ l e. seen.0 ∙ h.owned t l e) (λ ne. h.owned x) lx (sym same.0 ∙ o);
+    locked = λ x lx o. same.0 ∙ each_updated (λ y (u : View). y < c.tasks → owns u.phase ≡ 1 → w.words.umount ≡ suc y) w.views t v x (λ l e. h.locked t l (sym seen.0 ∙ e)) (λ ne. h.locked x) lx o;
+    owned = λ x lx o. each_updated (λ y (u : View). y < c.tasks → w.words.umount ≡ suc y → owns u.phase ≡ 1) w.views t v x (λ l e. seen.0 ∙ h.owned t l e) (λ ne. h.owned x) lx (sym same.0 ∙ o);
     known = omega (arith, same.0, h.known);
     bit = omega (arith, same.1, h.bit);
-    remounting = omega (arith, same.1, h.remounting, seen.1, total_changed (λ (u : View). remounts u.phase) c.tasks t w.views v lt);
+    remounting = omega (arith, same.1, h.remounting, seen.1, total_updated (λ (u : View). remounts u.phase) c.tasks t w.views v lt);
   }
   left_alone Superblock ws v same seen h = omega (arith, same, h)
   left_alone Stages ws v same seen h = omega (arith, same, h)
   left_alone Fitting ws v same seen h = λ x lx.
-      each_changed (λ y (u : View). ViewFits c y u) w.views t v x
+      each_updated (λ y (u : View). ViewFits c y u) w.views t v x
       (subst (λ (p : Option Phase). Fits c t (held_at v) (holds_level v) p) (sym seen.2)
       (subst (λ k. Fits c t (held_at v) k (w.views t).phase) (sym seen.1) (subst (λ k. Fits c t k (holds_level (w.views t)) (w.views t).phase) (sym seen.0) (h t lt)))) (λ ne. h x lx)
   left_alone (AtMount m) ws v same seen h = λ lm.
-      holds_as same.0 same.1 same.2 same.3 (changed_map (at_mount m) w.views t v ∙ (ap (changed (λ x. at_mount m (w.views x)) t) seen ∙ changed_same (λ x. at_mount m (w.views x)) t)) (h lm)
+      holds_as same.0 same.1 same.2 same.3 (update_map (at_mount m) w.views t v ∙ (ap (update (λ x. at_mount m (w.views x)) t) seen ∙ update_same (λ x. at_mount m (w.views x)) t)) (h lm)
 
-  module _ (good : Good c w) where
+  module _ (good : IsGood c w) where
     -- an owner's words and phase as they were
-    pub owner_same : (v : View) → Steady (w.views t).phase v.phase →
-        OwnerHolds c.tasks w.words.umount w.words.remount (λ x. (changed w.views t v x).phase)
+    pub owner_same : (v : View) → IsSteady (w.views t).phase v.phase →
+        OwnerHolds c.tasks w.words.umount w.words.remount (λ x. (update w.views t v x).phase)
     owner_same v same = left_alone Owner w.words v (refl, refl) (same.owns_same, same.remounts_same) (good Owner)
 
     -- an event that touches one mount
     pub gates_after : (m : ℕ) (ws : Words) (v : View) →
         ws.remount ≡ w.words.remount → ws.sb ≡ w.words.sb →
-        OwnerHolds c.tasks ws.umount ws.remount (λ x. (changed w.views t v x).phase) →
+        OwnerHolds c.tasks ws.umount ws.remount (λ x. (update w.views t v x).phase) →
         ViewFits c t v →
         ((n : ℕ) → (n ≡ m → ⊥) → (ws.flags n ≡ w.words.flags n) × (ws.count n ≡ w.words.count n) × (at_mount n v ≡ at_mount n (w.views t))) →
-        (m < c.mounts → MountHolds c.tasks c.processors (ws.flags m) w.words.remount w.words.sb (ws.count m) (changed (λ x. at_mount m (w.views x)) t (at_mount m v))) →
-        GatesHold c (record { words = ws; views = changed w.views t v })
+        (m < c.mounts → MountHolds c.tasks c.processors (ws.flags m) w.words.remount w.words.sb (ws.count m) (update (λ x. at_mount m (w.views x)) t (at_mount m v))) →
+        GatesHold c (record { words = ws; views = update w.views t v })
     gates_after m ws v er es owner fits off own Owner h = owner
     gates_after m ws v er es owner fits off own Superblock h = left_alone Superblock ws v es tt (good Superblock)
-    gates_after m ws v er es owner fits off own Fitting h = λ x lx. each_changed (λ y u. ViewFits c y u) w.views t v x fits (λ ne. good Fitting x lx)
+    gates_after m ws v er es owner fits off own Fitting h = λ x lx. each_updated (λ y u. ViewFits c y u) w.views t v x fits (λ ne. good Fitting x lx)
     gates_after m ws v er es owner fits off own (AtMount n) h = λ ln.
         elim (eqb_tells n m) [
           | inl q ↦
               let lm : m < c.mounts = omega (arith, q.1) in
-              let here : MountHolds c.tasks c.processors (ws.flags m) ws.remount ws.sb (ws.count m) (λ x. at_mount m (changed w.views t v x)) =
-              holds_as refl er es refl (changed_map (at_mount m) w.views t v) (own lm) in
-              subst (λ y. MountHolds c.tasks c.processors (ws.flags y) ws.remount ws.sb (ws.count y) (λ x. at_mount y (changed w.views t v x))) (sym q.1) here
+              let here : MountHolds c.tasks c.processors (ws.flags m) ws.remount ws.sb (ws.count m) (λ x. at_mount m (update w.views t v x)) =
+              holds_as refl er es refl (update_map (at_mount m) w.views t v) (own lm) in
+              subst (λ y. MountHolds c.tasks c.processors (ws.flags y) ws.remount ws.sb (ws.count y) (λ x. at_mount y (update w.views t v x))) (sym q.1) here
           | inr q ↦
               let o : (ws.flags n ≡ w.words.flags n) × (ws.count n ≡ w.words.count n) × (at_mount n v ≡ at_mount n (w.views t)) = off n q.1 in
               left_alone (AtMount n) ws v (o.0, er, es, o.1) o.2 (good (AtMount n)) ln
@@ -226,7 +227,7 @@ unseen Stages h v x value hook e = tt
 unseen part h v x value hook e = absurd (true≢false h)
 
 -- so an event of want, drop or change keeps the rule where it keeps the parts that it may touch
-pub whole_step : (c : Config) (w : World) (t : ℕ) → t < c.tasks → Good c w → (hook : HookAnswer) (x : MountPhase) → (w.views t).phase ≡ Some (Mounts x) →
+pub whole_step : (c : Config) (w : World) (t : ℕ) → t < c.tasks → IsGood c w → (hook : HookAnswer) (x : MountPhase) → (w.views t).phase ≡ Some (Mounts x) →
     GateStepKeeps c w t hook (Mounts x) → StepKeeps c w t hook (Mounts x)
 whole_step c w t lt good hook x e keeps = (
   λ part.

@@ -10,14 +10,16 @@ use Rattle.gate_world.specs.Views.{phase_after, held_at, holds_level}
 use Rattle.gate_world.specs.Work.{next_of, after_of}
 use Rattle.gate_world.specs.Operations.{holds_none}
 use Rattle.gate_world.specs.Fits.{PhaseFits, Fits, ActionFits, mounts_by, levels_by}
-use Rattle.gate_world.specs.Rules.{Good, StepKeeps, role_of, Steady}
+use Rattle.gate_world.specs.Rules.{IsGood, StepKeeps, role_of, IsSteady}
 use Rattle.mount_counts.specs.Roles.{Out}
 use Rattle.gate_world.specs.Causes.{all_counted, HasCause}
 use Rattle.gate_world.specs.KeptCauses.{CauseOf}
-use Rattle.gate_world.specs.Worlds.{World, stepped, found_at, first_phase, is_in_range, is_in_order, is_within_room}
+use Rattle.gate_world.specs.Beginnings.{first_phase, is_in_range, is_in_order, is_within_room}
+use Rattle.gate_world.specs.Worlds.{World, after_step, found_at}
 use Rattle.gate_world.specs.declared.operations.Op.{Op}
 use Rattle.gate_world.specs.declared.views.Traced.{Traced}
-use Rattle.gate_world.specs.Traces.{course_of, IsTrace, Tells, IsShort, most_events}
+use Rattle.gate_world.specs.Courses.{course_of, IsTrace}
+use Rattle.gate_world.specs.Traces.{Tells, IsShort, most_events}
 
 pub by_bool : (b : Bool) (P : Bool → Type 0) → P true → P false → P b
 by_bool true P x y = x
@@ -31,7 +33,7 @@ module _ (c : Config) (t : ℕ) (f g : ℕ → ℕ) (h k : ℕ → Bool) (mounts
 -- of one phase
 pub record PhaseKeeps (c : Config) (phase : Phase) : Type 0 where
   -- its event keeps the rule, and moves the shown model by its action
-  pub step : IsWithin c → (w : World) → Good c w → (t : ℕ) → t < c.tasks → (hook : HookAnswer) → (w.views t).phase ≡ Some phase → StepKeeps c w t hook phase
+  pub step : IsWithin c → (w : World) → IsGood c w → (t : ℕ) → t < c.tasks → (hook : HookAnswer) → (w.views t).phase ≡ Some phase → StepKeeps c w t hook phase
   -- the word of its event is there
   pub word : IsWithin c → (t : ℕ) (held : ℕ → ℕ) (levels : ℕ → Bool) (hook : HookAnswer) → PhaseFits c t held levels phase → IsWord (extents_of c) (next_of phase hook).0
   -- its action can be done
@@ -42,15 +44,15 @@ pub record PhaseKeeps (c : Config) (phase : Phase) : Type 0 where
   -- it fits accesses that agree
   pub agrees : (t : ℕ) (f g : ℕ → ℕ) (h k : ℕ → Bool) → ((m : ℕ) → m < c.mounts → f m ≡ g m) → ((i : ℕ) → 1 ≤ i → i ≤ 3 → h i ≡ k i) → PhaseFits c t f h phase → PhaseFits c t g k phase
   -- where nothing is counted before and after its event, it leaves the counts
-  pub quiet : (w : World) → Good c w → (t : ℕ) → t < c.tasks → (hook : HookAnswer) (m : ℕ) → (w.views t).phase ≡ Some phase → all_counted c m w ≡ 0 → all_counted c m (stepped w t phase hook) ≡ 0 →
-      (stepped w t phase hook).words.count m ≡ w.words.count m
+  pub quiet : (w : World) → IsGood c w → (t : ℕ) → t < c.tasks → (hook : HookAnswer) (m : ℕ) → (w.views t).phase ≡ Some phase → all_counted c m w ≡ 0 → all_counted c m (after_step w t phase hook) ≡ 0 →
+      (after_step w t phase hook).words.count m ≡ w.words.count m
   -- its cause stays while others step
-  pub stays : (w next : World) (earlier : List World) → Good c next → (t : ℕ) → Fits c t (held_at (w.views t)) (holds_level (w.views t)) (Some phase) → (next.views t).phase ≡ Some phase → (w.views t).phase ≡ Some phase →
+  pub stays : (w next : World) (earlier : List World) → IsGood c next → (t : ℕ) → Fits c t (held_at (w.views t)) (holds_level (w.views t)) (Some phase) → (next.views t).phase ≡ Some phase → (w.views t).phase ≡ Some phase →
       ((m : ℕ) → all_counted c m w ≡ 0 → all_counted c m next ≡ 0 → next.words.count m ≡ w.words.count m) → CauseOf c t w earlier (Some phase) → CauseOf c t next (w ∷ earlier) (Some phase)
   -- what comes after it has its cause
-  pub causes : (w : World) (earlier : List World) → Good c w → (t : ℕ) → t < c.tasks → (hook : HookAnswer) → (w.views t).phase ≡ Some phase → Good c (stepped w t phase hook) →
-      ((stepped w t phase hook).views t).phase ≡ phase_after (after_of phase (found_at w.words phase hook) hook).0 → CauseOf c t w earlier (Some phase) →
-      CauseOf c t (stepped w t phase hook) (w ∷ earlier) (phase_after (after_of phase (found_at w.words phase hook) hook).0)
+  pub causes : (w : World) (earlier : List World) → IsGood c w → (t : ℕ) → t < c.tasks → (hook : HookAnswer) → (w.views t).phase ≡ Some phase → IsGood c (after_step w t phase hook) →
+      ((after_step w t phase hook).views t).phase ≡ phase_after (after_of phase (found_at w.words phase hook) hook).0 → CauseOf c t w earlier (Some phase) →
+      CauseOf c t (after_step w t phase hook) (w ∷ earlier) (phase_after (after_of phase (found_at w.words phase hook) hook).0)
   -- its cause says what is to be told
   pub tells : (t : ℕ) (w : World) (earlier : List World) → CauseOf c t w earlier (Some phase) → HasCause c t (w ∷ earlier) (Some phase)
 
@@ -60,11 +62,11 @@ pub record OpKeeps (c : Config) (op : Op) : Type 0 where
   pub fits : (t : ℕ) (held : ℕ → ℕ) (levels : ℕ → Bool) → is_in_range c op ≡ true → is_in_order held levels op ≡ true → is_within_room held op ≡ true → Fits c t held levels (Some (first_phase c t op))
   -- which has no role yet, and no cause
   pub no_role : (t y : ℕ) → role_of y (Some (first_phase c t op)) ≡ Out
-  pub steady : (t : ℕ) → Steady None (Some (first_phase c t op))
+  pub steady : (t : ℕ) → IsSteady None (Some (first_phase c t op))
   pub cause : (t : ℕ) (w : World) (earlier : List World) → CauseOf c t w earlier (Some (first_phase c t op))
   -- whether it may begin is the same with accesses that agree
   pub order_agrees : (f g : ℕ → ℕ) (h k : ℕ → Bool) → ((m : ℕ) → m < c.mounts → f m ≡ g m) → ((i : ℕ) → 1 ≤ i → i ≤ 3 → h i ≡ k i) → is_in_range c op ≡ true → is_in_order f h op ≡ is_in_order g k op
   pub room_agrees : (f g : ℕ → ℕ) → ((m : ℕ) → m < c.mounts → f m ≡ g m) → is_in_range c op ≡ true → is_within_room f op ≡ is_within_room g op
   -- its trace tells what is to be told, and is short
-  pub tells : IsWithin c → (t : ℕ) (trace : List Traced) → IsTrace c t op trace → Tells c op trace (course_of c t op trace).stands (course_of c t op trace).added
+  pub tells : IsWithin c → (t : ℕ) (trace : List Traced) → IsTrace c t op trace → Tells c op trace (course_of c t op trace).comes (course_of c t op trace).added
   pub short : IsWithin c → (t : ℕ) (trace : List Traced) → IsTrace c t op trace → IsShort (most_events c op) trace

@@ -1,7 +1,7 @@
 -- Loads of a task at a mount: they leave the words and the shown model.
 use Rattle.std.proofs.Common.{◌≡◌, ℕ, ◌<◌, refl, sym, ap, ◌∙◌, subst}
 use Rattle.std.specs.Prelude.{◌==◌, Option, Some, None, true, false}
-use Rattle.finite_sums.specs.Sums.{changed}
+use Rattle.finite_sums.specs.Sums.{update}
 use Rattle.access_model.specs.declared.replies.Next.{Next}
 use Rattle.cpu_words.specs.declared.names.WordName.{WordName}
 use Rattle.cpu_words.specs.declared.events.Touch.TheVariants.{Load}
@@ -15,8 +15,9 @@ use Rattle.gate_world.specs.declared.work.Phase.TheVariants.{Mounts}
 use Rattle.gate_world.specs.declared.views.View.{View}
 use Rattle.gate_world.specs.Views.{held_at, holds_level, added_by, taken_by, phase_after, view_with}
 use Rattle.gate_world.specs.Fits.{Fits, MountFits}
-use Rattle.gate_world.specs.Worlds.{World, shown, closing}
-use Rattle.gate_world.specs.Rules.{role_if, role_of, at_mount, owns, mount_owns, remounts, Steady, Good, Fitting, GatesHold}
+use Rattle.gate_world.specs.Worlds.{World}
+use Rattle.gate_world.specs.Shown.{shown, closing}
+use Rattle.gate_world.specs.Rules.{role_if, role_of, at_mount, owns, mount_owns, remounts, IsSteady, IsGood, Fitting, GatesHold}
 use Rattle.gate_frames.proofs.Frames.{load_same, added_load, taken_load, view_as, shown_still, owner_same, gates_after}
 
 -- the numbers of a role that is known
@@ -36,40 +37,40 @@ pub role_none : (y m : ℕ) → role_if (y == m) Out ≡ Out
 role_none y m = elim (y == m) as (λ b. role_if b Out ≡ Out) [ true ↦ refl | false ↦ refl ]
 
 -- phases that are as steady as these
-pub steady : {p q r : Option Phase} → p ≡ r → Steady r q → Steady p q
+pub steady : {p q r : Option Phase} → p ≡ r → IsSteady r q → IsSteady p q
 steady e s = record { owns_same = s.owns_same ∙ sym (ap owns e); remounts_same = s.remounts_same ∙ sym (ap remounts e); closing_same = λ i. s.closing_same i ∙ sym (ap (closing i) e) }
 
 -- events of a layer that closes no level and sets no `remount`
-pub as_owner : {p q : Option Phase} (phase : MountPhase) → p ≡ Some (Mounts phase) → owns q ≡ mount_owns phase → remounts q ≡ 0 → ((i : ℕ) → closing i q ≡ 0) → Steady p q
+pub as_owner : {p q : Option Phase} (phase : MountPhase) → p ≡ Some (Mounts phase) → owns q ≡ mount_owns phase → remounts q ≡ 0 → ((i : ℕ) → closing i q ≡ 0) → IsSteady p q
 as_owner phase e o r c = steady e (record { owns_same = o; remounts_same = r; closing_same = c })
 
 -- the world after a load, after which this comes
-abbrev pub loaded : World → ℕ → WordName → HookAnswer → Next Phase → World
-loaded w t name hook coming = record {
+abbrev pub after_load : World → ℕ → WordName → HookAnswer → Next Phase → World
+after_load w t name hook coming = record {
   words = put w.words name (read w.words name);
-  views = changed w.views t (view_with (w.views t) (name, Load) (read w.words name) hook (coming, None));
+  views = update w.views t (view_with (w.views t) (name, Load) (read w.words name) hook (coming, None));
 }
 
-module _ (c : Config) (w : World) (good : Good c w) (t : ℕ) (lt : t < c.tasks) where
+module _ (c : Config) (w : World) (good : IsGood c w) (t : ℕ) (lt : t < c.tasks) where
   pub fits_now : (phase : MountPhase) → (w.views t).phase ≡ Some (Mounts phase) → MountFits c t (held_at (w.views t)) (holds_level (w.views t)) phase
   fits_now phase e = subst (Fits c t (held_at (w.views t)) (holds_level (w.views t))) e (good Fitting t lt)
 
   -- a load, after which the task's role is another at one mount at most
   pub load_law : (m : ℕ) (name : WordName) (hook : HookAnswer) (coming : Next Phase) →
       ((n : ℕ) → (n ≡ m → ⊥) → role_of n (phase_after coming) ≡ role_of n (w.views t).phase) →
-      Steady (w.views t).phase (phase_after coming) →
+      IsSteady (w.views t).phase (phase_after coming) →
       Fits c t (held_at (w.views t)) (holds_level (w.views t)) (phase_after coming) →
       (m < c.mounts → MountHolds c.tasks c.processors (w.words.flags m) w.words.remount w.words.sb (w.words.count m)
-      (changed (λ x. at_mount m (w.views x)) t (record (at_mount m (w.views t)) { role = role_of m (phase_after coming) }))) →
-      GatesHold c (loaded w t name hook coming) × (shown c (loaded w t name hook coming) ≡ shown c w)
+      (update (λ x. at_mount m (w.views x)) t (record (at_mount m (w.views t)) { role = role_of m (phase_after coming) }))) →
+      GatesHold c (after_load w t name hook coming) × (shown c (after_load w t name hook coming) ≡ shown c w)
   load_law m name hook coming off same fits own =
       let v : View = view_with (w.views t) (name, Load) (read w.words name) hook (coming, None) in
       let ea : added_by v.events ≡ added_by (w.views t).events = added_load name (added_by (w.views t).events) in
       let et : taken_by v.events ≡ taken_by (w.views t).events = taken_load name (taken_by (w.views t).events) in
-      let there : GatesHold c (record { words = w.words; views = changed w.views t v }) =
+      let there : GatesHold c (record { words = w.words; views = update w.views t v }) =
       gates_after c w t lt good m w.words v refl refl (owner_same c w t lt good v same) fits
       (λ n ne. (refl, refl, view_as refl (ap (λ f. f n) ea) (ap (λ f. f n) et) (off n ne)))
-      (λ lm. subst (λ u. MountHolds c.tasks c.processors (w.words.flags m) w.words.remount w.words.sb (w.words.count m) (changed (λ x. at_mount m (w.views x)) t u))
+      (λ lm. subst (λ u. MountHolds c.tasks c.processors (w.words.flags m) w.words.remount w.words.sb (w.words.count m) (update (λ x. at_mount m (w.views x)) t u))
       (view_as refl (ap (λ f. f m) (sym ea)) (ap (λ f. f m) (sym et)) refl) (own lm)) in
-      subst (λ ws. let next_world : World = record { words = ws; views = changed w.views t v } in GatesHold c next_world × (shown c next_world ≡ shown c w)) (sym (load_same w.words name))
+      subst (λ ws. let next_world : World = record { words = ws; views = update w.views t v } in GatesHold c next_world × (shown c next_world ≡ shown c w)) (sym (load_same w.words name))
       (there, shown_still c w t lt w.words v refl refl refl refl refl refl same.closing_same refl refl)

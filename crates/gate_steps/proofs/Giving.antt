@@ -4,8 +4,8 @@ use mathlib.Core.Logic.{dite}
 use mathlib.Core.Option.{some, some-injective, some-ne-none}
 use native.Mathlib.Decide.{ℕ_discrete}
 use lib.ListN.{get_elem?}
-use Rattle.finite_sums.specs.Sums.{changed}
-use Rattle.finite_sums.proofs.Totals.{changed_at, changed_off, each_changed}
+use Rattle.finite_sums.specs.Sums.{update}
+use Rattle.finite_sums.proofs.Totals.{update_at, update_off, each_updated}
 use Rattle.access_model.specs.Histories.{own_part}
 use Rattle.atomic_table.specs.Table.{Splits, Joins}
 use Rattle.atomic_table.proofs.Lists.{at_set, at_snoc, set_else}
@@ -13,7 +13,7 @@ use Rattle.gate_world.specs.declared.config.Config.{Config}
 use Rattle.gate_world.specs.declared.views.View.{View}
 use Rattle.gate_world.specs.Worlds.{World}
 use Rattle.cpu_words.specs.Words.{Words}
-use Rattle.gate_world.specs.Rules.{Good, Part, Owner, Fitting, AtMount, SameWords, SameView}
+use Rattle.gate_world.specs.Rules.{IsGood, Part, Owner, Fitting, AtMount, SameWords, SameView}
 use Rattle.gate_frames.proofs.Frames.{left_alone, shown_still}
 use Rattle.gate_steps.specs.declared.seating.Numbered.{Numbered}
 use Rattle.gate_steps.specs.Seating.{SeatItems, numbered, one_if, times, times_all, HaveViews, Dealt, without, view_in, renewed, kept_of, given_of, Spares}
@@ -109,7 +109,7 @@ module _ (tasks : ℕ) (views : ℕ → View) (seats : List SeatItems) (dealt : 
 
 -- the world in which a number's view is renewed
 abbrev renewed_at : World → ℕ → World
-renewed_at w n = record { words = w.words; views = changed w.views n (renewed (w.views n)) }
+renewed_at w n = record { words = w.words; views = update w.views n (renewed (w.views n)) }
 
 -- words are as they are
 same_words : (w : Words) (part : Part) → SameWords w w part
@@ -125,7 +125,7 @@ renewed_same v Fitting = (refl, refl, refl)
 renewed_same v (AtMount m) = refl
 renewed_same v part = tt
 
-renewed_good : (c : Config) (w : World) → Good c w → (n : ℕ) → n < c.tasks → Good c (renewed_at w n)
+renewed_good : (c : Config) (w : World) → IsGood c w → (n : ℕ) → n < c.tasks → IsGood c (renewed_at w n)
 renewed_good c w good n lt =
     λ part. left_alone c w n lt part w.words (renewed (w.views n)) (same_words w.words part) (renewed_same (w.views n) part) (good part)
 
@@ -135,7 +135,7 @@ renewed_history c w n lt h =
       log = h.log;
       legal = h.legal;
       end = h.end ∙ sym (shown_still c w n lt w.words v refl refl refl refl refl refl (λ i. refl) refl refl);
-      lists = λ x. each_changed (λ y (u : View). own_part y h.log ≡ u.actions) w.views n v x (h.lists n) (λ ne. h.lists x);
+      lists = λ x. each_updated (λ y (u : View). own_part y h.log ≡ u.actions) w.views n v x (h.lists n) (λ ne. h.lists x);
     }
 
 -- a seat gives a number that it has to give
@@ -152,7 +152,7 @@ splits c id n (x ∷ xs) spare s held at =
       world = renewed_at w n;
       ruled = record { within = held.ruled.within; long = held.ruled.long; words = held.ruled.words; good = renewed_good c w held.ruled.good n lt };
       history = renewed_history c w n lt held.history;
-      dealt = divided c.tasks w.views s.views held.dealt id n x xs at spare (renewed u) (changed w.views n v) (changed_at w.views n v ∙ ap renewed is) (λ y ne. changed_off w.views n v y ne);
+      dealt = divided c.tasks w.views s.views held.dealt id n x xs at spare (renewed u) (update w.views n v) (update_at w.views n v ∙ ap renewed is) (λ y ne. update_off w.views n v y ne);
     }
 
 module _ (tasks : ℕ) (views : ℕ → View) (seats : List SeatItems) (dealt : Dealt tasks views seats) (id other : ℕ) (v w : SeatItems) (at : get_elem? seats id ≡ some v) (ne : ¬ (other ≡ id)) (at' : get_elem? seats other ≡ some w) where

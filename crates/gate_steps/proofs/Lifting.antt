@@ -1,8 +1,8 @@
 -- The laws of one event and of a beginning as what a step on the table asks.
 use Rattle.std.proofs.Common.{◌≡◌, ℕ, ◌*◌, ◌<◌, List, [], ◌∷◌, set, sym, refl, ap, ◌∙◌, subst, length-set, arith}
 use Rattle.std.specs.Prelude.{Option, Some, None, slice_index}
-use Rattle.finite_sums.specs.Sums.{changed}
-use Rattle.finite_sums.proofs.Totals.{changed_at, changed_off}
+use Rattle.finite_sums.specs.Sums.{update}
+use Rattle.finite_sums.proofs.Totals.{update_at, update_off}
 use Rattle.atomic_table.specs.Table.{State, Me, keeps, Allows}
 use Rattle.access_model.specs.declared.actions.Action.{Action}
 use Rattle.access_model.specs.declared.replies.Next.{Next}
@@ -22,16 +22,18 @@ use Rattle.gate_world.specs.declared.views.View.{View}
 use Rattle.gate_world.specs.Configs.{IsWithin, extents_of}
 use Rattle.gate_world.specs.Work.{next_of, after_of}
 use Rattle.gate_world.specs.Views.{held_at, holds_level, begun_view, view_with, view_after}
-use Rattle.gate_world.specs.Worlds.{World, first_phase, view_refusal, words_after, value_at, found_at, stepped, phase_action, noted, shown}
+use Rattle.gate_world.specs.Beginnings.{first_phase, view_refusal}
+use Rattle.gate_world.specs.Worlds.{World, words_after, value_at, found_at, after_step, phase_action, with_action}
+use Rattle.gate_world.specs.Shown.{shown}
 use Rattle.gate_world.specs.Fits.{Fits}
-use Rattle.gate_world.specs.Rules.{Good, Moves, StepKeeps}
+use Rattle.gate_world.specs.Rules.{IsGood, Moves, StepKeeps}
 use Rattle.schedule_laws.proofs.Layers.{phase_keeps}
 use Rattle.schedule_laws.proofs.Schedule.{may_begin, begun_keeps, legal_more}
 use Rattle.gate_world.specs.Rules.{Fitting}
 use Rattle.schedule_laws.proofs.Lists.{step_lists, begin_lists}
 use Rattle.gate_core.proofs.Phases.{word_there}
 use Rattle.gate_steps.specs.declared.seating.Numbered.{Numbered}
-use Rattle.gate_steps.specs.Seating.{SeatItems, HaveViews, MayDo, Acts, entered, world_entered, items_after, happened}
+use Rattle.gate_steps.specs.Seating.{SeatItems, HaveViews, MayStep, Acts, entered, world_entered, items_after, happened}
 use Rattle.gate_steps.specs.Rules.{table_length, TableShows, Held}
 use Rattle.gate_steps.proofs.Stride.{written}
 use Rattle.gate_steps.proofs.Dealing.{times-at, known_here, redealt}
@@ -59,7 +61,7 @@ found_serves v phase n hook = view_same v (next_of phase hook).0 (next_of phase 
 
 -- the world with which an event of a task begins: the task may just have begun its operation
 record Entered (c : Config) (w : World) (t : ℕ) (begins : Option Op) (phase : Phase) (v : View) (log : List Done) : Type 0 where
-  good : Good c (world_entered c w t begins)
+  good : IsGood c (world_entered c w t begins)
   shows : shown c (world_entered c w t begins) ≡ shown c w
   lists : IsMerge (λ x. ((world_entered c w t begins).views x).actions) log
   mine : (world_entered c w t begins).views t ≡ entered v begins phase
@@ -67,8 +69,8 @@ record Entered (c : Config) (w : World) (t : ℕ) (begins : Option Op) (phase : 
   words : (world_entered c w t begins).words ≡ w.words
   others : (y : ℕ) → (y ≡ t → ⊥) → (world_entered c w t begins).views y ≡ w.views y
 
-enter : (c : Config) (lim : IsWithin c) (w : World) → Good c w → (x : Numbered) → x.number < c.tasks → (log : List Done) → IsMerge (λ t. (w.views t).actions) log →
-    w.views x.number ≡ x.view → (begins : Option Op) (phase : Phase) → MayDo c begins phase x → Entered c w x.number begins phase x.view log
+enter : (c : Config) (lim : IsWithin c) (w : World) → IsGood c w → (x : Numbered) → x.number < c.tasks → (log : List Done) → IsMerge (λ t. (w.views t).actions) log →
+    w.views x.number ≡ x.view → (begins : Option Op) (phase : Phase) → MayStep c begins phase x → Entered c w x.number begins phase x.view log
 enter c lim w good x lt log lists mine None phase may = record {
   good = good;
   shows = refl;
@@ -83,7 +85,7 @@ enter c lim w good x lt log lists mine (Some op) phase may =
     let v : View = begun_view (w.views t) op (first_phase c t op) in
     let ok : view_refusal c (w.views t) op ≡ None = ap (λ u. view_refusal c u op) mine ∙ may.0 in
     let kept = begun_keeps c lim w good t lt op (may_begin c (w.views t) op ok) in
-    let here : changed w.views t v t ≡ v = changed_at w.views t v in
+    let here : update w.views t v t ≡ v = update_at w.views t v in
     record {
       good = kept.0;
       shows = kept.1;
@@ -91,7 +93,7 @@ enter c lim w good x lt log lists mine (Some op) phase may =
       mine = here ∙ (λ i. begun_view (mine i) op (sym may.1 i));
       at_phase = ap (λ (u : View). u.phase) here ∙ ap Some (sym may.1);
       words = refl;
-      others = λ y ne. changed_off w.views t v y ne;
+      others = λ y ne. update_off w.views t v y ne;
     }
 
 -- Whatever the event, the laws of the machine are what the step asks
@@ -102,7 +104,7 @@ lifted c slots id (x ∷ xs) carried begins phase hook acts s held len at small 
     let t : ℕ = x.number in
     let w : World = held.world in
     let lim : IsWithin c = held.ruled.within in
-    let good : Good c w = held.ruled.good in
+    let good : IsGood c w = held.ruled.good in
     let mine : HaveViews w.views (x ∷ xs) = held.dealt.same id (x ∷ xs) at in
     let lt : t < c.tasks = known_here c.tasks w.views s.views held.dealt id (x ∷ xs) at t (times-at (x ∷ xs) 0 x refl) in
     let log : List Done = held.history.log in
@@ -110,7 +112,7 @@ lifted c slots id (x ∷ xs) carried begins phase hook acts s held len at small 
     let w' : World = world_entered c w t begins in
     let name : WordName = (next_of phase hook).0 in
     let touch : Touch = (next_of phase hook).1 in
-    let after : World = stepped w' t phase hook in
+    let after : World = after_step w' t phase hook in
     let kept : StepKeeps c w' t hook phase = (phase_keeps c phase).step lim w' en.good t lt hook en.at_phase in
     let there : IsWord (extents_of c) name =
     word_there c lim t (held_at (w'.views t)) (holds_level (w'.views t)) phase hook (subst (λ o. Fits c t (held_at (w'.views t)) (holds_level (w'.views t)) o) en.at_phase (en.good Fitting t lt)) in
@@ -122,10 +124,10 @@ lifted c slots id (x ∷ xs) carried begins phase hook acts s held len at small 
     (written c lim s.words w'.words name (left touch n) held.ruled.long there (subst (TableShows c s.words) (sym en.words) held.ruled.words)) in
     let v : View = view_after (entered x.view begins phase) phase (found_by touch n) hook in
     let own : after.views t ≡ v =
-    changed_at w'.views t (view_after (w'.views t) phase (value_at w'.words phase hook) hook) ∙
+    update_at w'.views t (view_after (w'.views t) phase (value_at w'.words phase hook) hook) ∙
     ((λ j. view_after (en.mine j) phase (sym value j) hook) ∙ sym (found_serves (entered x.view begins phase) phase n hook)) in
     let others : (y : ℕ) → (y ≡ t → ⊥) → after.views y ≡ w.views y =
-    λ y ne. changed_off w'.views t (view_after (w'.views t) phase (value_at w'.words phase hook) hook) y ne ∙ en.others y ne in
+    λ y ne. update_off w'.views t (view_after (w'.views t) phase (value_at w'.words phase hook) hook) y ne ∙ en.others y ne in
     let more = legal_more c lim (shown c w') (shown c after) t (phase_action w' hook (Some phase)) log kept.1 held.history.legal (held.history.end ∙ sym en.shows) in (
       items_after begins phase hook (found_by touch n) (x ∷ xs),
       keeps,
@@ -133,7 +135,7 @@ lifted c slots id (x ∷ xs) carried begins phase hook acts s held len at small 
       record {
         world = after;
         ruled = record { within = lim; long = length-set s.words i (left touch n) ∙ held.ruled.long; words = table; good = kept.0 };
-        history = record { log = noted t (phase_action w' hook (Some phase)) log; legal = more.0; end = more.1; lists = step_lists w' log t hook (Some phase) en.lists };
+        history = record { log = with_action t (phase_action w' hook (Some phase)) log; legal = more.0; end = more.1; lists = step_lists w' log t hook (Some phase) en.lists };
         dealt = redealt c.tasks w.views s.views held.dealt id (x ∷ xs) at t x.view v xs refl after.views own others;
       },
       (

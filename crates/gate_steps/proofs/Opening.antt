@@ -7,8 +7,8 @@ use mathlib.Core.Logic.{dite}
 use mathlib.Core.Option.{some, some-injective, some-ne-none}
 use native.Mathlib.Decide.{ℕ_discrete}
 use lib.ListN.{get_elem?}
-use Rattle.finite_sums.specs.Sums.{changed}
-use Rattle.finite_sums.proofs.Totals.{changed_off}
+use Rattle.finite_sums.specs.Sums.{update}
+use Rattle.finite_sums.proofs.Totals.{update_off}
 use Rattle.cpu_words.specs.declared.names.WordName.TheVariants.{Umount, Stage, SbFlags, Remount, MountFlags, MountCount, Block, Sync, LevelCount, Section, Used, Node, Kids}
 use Rattle.cpu_words.specs.Words.{opening_words}
 use Rattle.gate_world.specs.declared.config.Config.{Config}
@@ -65,11 +65,11 @@ first_views n zero l e = subst (HaveViews (λ t. opening_view)) (some-injective 
 first_views n (suc id) l e = absurd (some-ne-none l (sym e))
 
 module _ (c : Config) (lim : IsWithin c) (ws : List ℕ) (opens : AreOpening ws) where
-  node_opens : (n : ℕ) → slice_index ws (16 * (83 + n)) ≡ changed (λ m. 0) 0 2 n
+  node_opens : (n : ℕ) → slice_index ws (16 * (83 + n)) ≡ update (λ m. 0) 0 2 n
   node_opens n =
       elim (eqb_tells n 0) [
-        | inl e ↦ ap (λ k. slice_index ws (16 * (83 + k))) e.1 ∙ (opens.root ∙ ap (changed (λ m. 0) 0 2) (sym e.1))
-        | inr e ↦ opens.zeros (16 * (83 + n)) (λ q. e.1 (omega arith)) ∙ sym (changed_off (λ m. 0) 0 2 n e.1)
+        | inl e ↦ ap (λ k. slice_index ws (16 * (83 + k))) e.1 ∙ (opens.root ∙ ap (update (λ m. 0) 0 2) (sym e.1))
+        | inr e ↦ opens.zeros (16 * (83 + n)) (λ q. e.1 (omega arith)) ∙ sym (update_off (λ m. 0) 0 2 n e.1)
       ]
 
   shows_opening : TableShows c ws opening_words

@@ -5,9 +5,10 @@ use Rattle.cpu_words.specs.declared.names.WordName.{WordName}
 use Rattle.cpu_words.specs.Names.{IsWord, place}
 use Rattle.cpu_words.specs.Words.{Words, read}
 use Rattle.gate_world.specs.declared.config.Config.{Config}
-use Rattle.gate_world.specs.Configs.{IsWithin, limits_of, extents_of}
-use Rattle.gate_world.specs.Worlds.{World, shown}
-use Rattle.gate_world.specs.Rules.{Good}
+use Rattle.gate_world.specs.Configs.{IsWithin, model_limits, extents_of}
+use Rattle.gate_world.specs.Worlds.{World}
+use Rattle.gate_world.specs.Shown.{shown}
+use Rattle.gate_world.specs.Rules.{IsGood}
 use Rattle.gate_steps.specs.Seating.{SeatItems, Dealt, deal}
 
 -- 915 words, 16 apart
@@ -23,12 +24,12 @@ pub record Ruled (c : Config) (ws : List ℕ) (w : World) : Type 0 where
   pub within : IsWithin c
   pub long : length ws ≡ table_length
   pub words : TableShows c ws w.words
-  pub good : Good c w
+  pub good : IsGood c w
 
 -- one history: a legal log of actions, whose end is the shown model, and of which each number's own list is its part
 pub record HasHistory (c : Config) (w : World) : Type 0 where
   pub log : List Done
-  pub legal : IsLegal (limits_of c) log
+  pub legal : IsLegal (model_limits c) log
   pub end : end_of log ≡ shown c w
   pub lists : IsMerge (λ t. (w.views t).actions) log
 

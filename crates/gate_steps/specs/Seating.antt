@@ -8,8 +8,10 @@ use Rattle.gate_world.specs.declared.operations.Op.{Op}
 use Rattle.gate_world.specs.declared.work.Phase.{Phase}
 use Rattle.gate_world.specs.declared.views.View.{View}
 use Rattle.gate_world.specs.Views.{opening_view, begun_view, view_after}
-use Rattle.gate_world.specs.Worlds.{World, first_phase, view_refusal, begun, found_at, stepped, phase_action, shown}
-use Rattle.gate_world.specs.Rules.{Good, Moves}
+use Rattle.gate_world.specs.Beginnings.{first_phase, view_refusal}
+use Rattle.gate_world.specs.Worlds.{World, after_begin, found_at, after_step, phase_action}
+use Rattle.gate_world.specs.Shown.{shown}
+use Rattle.gate_world.specs.Rules.{IsGood, Moves}
 use Rattle.gate_steps.specs.declared.seating.Numbered.{Numbered}
 
 -- what a seat knows
@@ -44,14 +46,14 @@ pub record Dealt (tasks : ℕ) (views : ℕ → View) (seats : List SeatItems) :
 
 -- a number with this view may do the event of this phase: it is at the phase, or the phase is the first of an operation that it
 -- may begin
-abbrev pub MayDo : Config → Option Op → Phase → Numbered → Type 0
-MayDo c None phase x = x.view.phase ≡ Some phase
-MayDo c (Some op) phase x = (view_refusal c x.view op ≡ None) × (phase ≡ first_phase c x.number op)
+abbrev pub MayStep : Config → Option Op → Phase → Numbered → Type 0
+MayStep c None phase x = x.view.phase ≡ Some phase
+MayStep c (Some op) phase x = (view_refusal c x.view op ≡ None) × (phase ≡ first_phase c x.number op)
 
 -- the seat's own number may
 abbrev pub Acts : Config → Option Op → Phase → SeatItems → Type 0
 Acts c begins phase [] = ⊥
-Acts c begins phase (x ∷ xs) = MayDo c begins phase x
+Acts c begins phase (x ∷ xs) = MayStep c begins phase x
 
 -- the view with which the event begins
 abbrev pub entered : View → Option Op → Phase → View
@@ -61,7 +63,7 @@ entered v (Some op) phase = begun_view v op phase
 -- and the world
 abbrev pub world_entered : Config → World → ℕ → Option Op → World
 world_entered c w t None = w
-world_entered c w t (Some op) = begun c w t op
+world_entered c w t (Some op) = after_begin c w t op
 
 -- what the seat knows after the event, which found this
 abbrev pub items_after : Option Op → Phase → HookAnswer → ℕ → SeatItems → SeatItems
@@ -73,11 +75,11 @@ items_after begins phase hook found (x ∷ xs) = numbered x.number (view_after (
 pub record Moved (c : Config) (begins : Option Op) (phase : Phase) (hook : HookAnswer) (x : Numbered) (xs : SeatItems) (n : ℕ) : Type 0 where
   pub world : World
   pub task : x.number < c.tasks
-  pub before : Good c world
+  pub before : IsGood c world
   pub mine : HaveViews world.views (x ∷ xs)
   pub found : n ≡ found_at world.words phase hook
-  pub after : Good c (stepped (world_entered c world x.number begins) x.number phase hook)
-  pub moves : Moves c (shown c world) x.number (phase_action world hook (Some phase)) (shown c (stepped (world_entered c world x.number begins) x.number phase hook))
+  pub after : IsGood c (after_step (world_entered c world x.number begins) x.number phase hook)
+  pub moves : Moves c (shown c world) x.number (phase_action world hook (Some phase)) (shown c (after_step (world_entered c world x.number begins) x.number phase hook))
 
 abbrev pub IsMove : Config → Option Op → Phase → HookAnswer → SeatItems → ℕ → Type 0
 IsMove c begins phase hook [] found = ⊥

@@ -11,7 +11,8 @@ use Rattle.mount_counts.specs.Roles.{counted}
 use Rattle.gate_world.specs.declared.config.Config.{Config}
 use Rattle.gate_world.specs.declared.work.Phase.{Phase}
 use Rattle.gate_world.specs.declared.work.Phase.TheVariants.{Mounts}
-use Rattle.gate_world.specs.Worlds.{World, Entry, happens, run, opening, shown}
+use Rattle.gate_world.specs.Worlds.{World, Entry, happens, run, opening}
+use Rattle.gate_world.specs.Shown.{shown}
 use Rattle.gate_world.specs.Rules.{at_mount}
 
 -- the worlds of a schedule, the newest first: the one that it leaves, and each that an entry found

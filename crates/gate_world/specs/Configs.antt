@@ -17,8 +17,8 @@ pub record IsWithin (c : Config) : Type 0 where
   pub capacity : c.capacity < 4294967296
 
 -- what the model reads of it
-abbrev pub limits_of : Config → Limits
-limits_of c = record { tasks = c.tasks; mounts = c.mounts; nodes = c.nodes; capacity = c.capacity }
+abbrev pub model_limits : Config → Limits
+model_limits c = record { tasks = c.tasks; mounts = c.mounts; nodes = c.nodes; capacity = c.capacity }
 
 -- what the words read of it
 abbrev pub extents_of : Config → Extents

@@ -9,11 +9,13 @@ use Rattle.mount_counts.specs.Roles.{counted}
 use Rattle.gate_world.specs.declared.config.Config.{Config}
 use Rattle.gate_world.specs.declared.operations.Op.{Op}
 use Rattle.gate_world.specs.declared.views.View.{View}
-use Rattle.gate_world.specs.Configs.{limits_of}
+use Rattle.gate_world.specs.Configs.{model_limits}
 use Rattle.gate_world.specs.Views.{held_at}
-use Rattle.gate_world.specs.Worlds.{World, Entry, happens, action_of, task_of, run, opening, history, shown}
+use Rattle.gate_world.specs.Worlds.{World, Entry, happens, action_of, task_of, run, opening, history}
+use Rattle.gate_world.specs.Shown.{shown}
 use Rattle.gate_world.specs.Rules.{at_mount, Moves}
-use Rattle.gate_world.specs.Traces.{course_of, Tells, IsShort, most_events, IsTraced}
+use Rattle.gate_world.specs.Courses.{course_of, IsTraced}
+use Rattle.gate_world.specs.Traces.{Tells, IsShort, most_events}
 
 -- the world after a schedule, and the actions that its events added, the newest first
 abbrev pub world_after : Config → List Entry → World
@@ -29,7 +31,7 @@ MovesTheModel c entries e = Moves c (shown c (world_after c entries)) (task_of e
 
 -- the actions so far are a legal history, whose end is the shown model, and of which each task's own list is its part
 pub record IsOneRun (c : Config) (entries : List Entry) : Type 0 where
-  pub legal : IsLegal (limits_of c) (actions_so_far c entries)
+  pub legal : IsLegal (model_limits c) (actions_so_far c entries)
   pub end : end_of (actions_so_far c entries) ≡ shown c (world_after c entries)
   pub lists : IsMerge (λ t. ((world_after c entries).views t).actions) (actions_so_far c entries)
 
@@ -45,14 +47,14 @@ IdleSumsHold c w =
 
 -- nobody holds an access at a read-only mount, or a level that a freeze has passed
 abbrev pub NobodyIsInside : Config → World → Type 0
-NobodyIsInside c w = NobodyHoldsClosed (limits_of c) (shown c w)
+NobodyIsInside c w = NobodyHoldsClosed (model_limits c) (shown c w)
 
 -- What a task's last operation, or the one under way, has done, by its own trace alone: an operation that replied has added exactly
 -- its stated actions, a refusal has its cause in the trace, and waiting is reported only where it may be; a refused operation has
 -- added nothing, so its task holds what it held before; and where the operation waits for nobody, its events are few.
 pub record OperationTells (c : Config) (t : ℕ) (v : View) (op : Op) : Type 0 where
-  pub tells : Tells c op v.trace (course_of c t op v.trace).stands (course_of c t op v.trace).added
-  pub refused : (refusal : GateError) → (course_of c t op v.trace).stands ≡ Ended (Err refusal) → (course_of c t op v.trace).added ≡ []
+  pub tells : Tells c op v.trace (course_of c t op v.trace).comes (course_of c t op v.trace).added
+  pub refused : (refusal : GateError) → (course_of c t op v.trace).comes ≡ Ended (Err refusal) → (course_of c t op v.trace).added ≡ []
   pub short : IsShort (most_events c op) v.trace
 
 abbrev pub ViewTells : Config → ℕ → View → Option Op → Type 0
@@ -61,5 +63,5 @@ ViewTells c t v (Some op) = OperationTells c t v op
 
 -- each task's trace follows the order of events of its operation, and tells the rest
 pub record OperationsAreKept (c : Config) (entries : List Entry) (t : ℕ) : Type 0 where
-  pub traced : IsTraced c t ((world_after c entries).views t) ((world_after c entries).views t).op
+  pub with_hook : IsTraced c t ((world_after c entries).views t) ((world_after c entries).views t).op
   pub tells : ViewTells c t ((world_after c entries).views t) ((world_after c entries).views t).op

@@ -3,9 +3,12 @@ pub mod Work
 pub mod Views
 pub mod Found
 pub mod Operations
+pub mod Beginnings
 pub mod Worlds
+pub mod Shown
 pub mod Fits
 pub mod Rules
+pub mod Courses
 pub mod Traces
 pub mod Headline
 pub mod Causes

@@ -17,10 +17,11 @@ use Rattle.gate_world.specs.declared.config.Config.{Config}
 use Rattle.gate_world.specs.declared.work.Phase.{Phase}
 use Rattle.gate_world.specs.declared.work.Phase.TheVariants.{Mounts}
 use Rattle.gate_world.specs.declared.views.View.{View}
-use Rattle.gate_world.specs.Configs.{limits_of}
+use Rattle.gate_world.specs.Configs.{model_limits}
 use Rattle.gate_world.specs.Views.{held_at, holds_level, added_by, taken_by}
 use Rattle.gate_world.specs.Fits.{Fits}
-use Rattle.gate_world.specs.Worlds.{World, stepped, phase_action, shown, closing}
+use Rattle.gate_world.specs.Worlds.{World, after_step, phase_action}
+use Rattle.gate_world.specs.Shown.{shown, closing}
 
 -- what a step of a want is doing at its mount, on this processor
 abbrev pub want_role : ℕ → WantStep → Role
@@ -80,7 +81,7 @@ remounts None = 0
 remounts (Some (Mounts phase)) = 0
 
 -- what the owner's words and the levels say of a task is the same at both phases
-pub record Steady (p q : Option Phase) : Type 0 where
+pub record IsSteady (p q : Option Phase) : Type 0 where
   pub owns_same : owns q ≡ owns p
   pub remounts_same : remounts q ≡ remounts p
   pub closing_same : (i : ℕ) → closing i q ≡ closing i p
@@ -137,8 +138,8 @@ SameView old new Fitting = (held_at new ≡ held_at old) × (holds_level new ≡
 SameView old new (AtMount m) = at_mount m new ≡ at_mount m old
 
 -- the rule: each part
-abbrev pub Good : Config → World → Type 0
-Good c w = (part : Part) → Holds c w part
+abbrev pub IsGood : Config → World → Type 0
+IsGood c w = (part : Part) → Holds c w part
 
 -- the parts that an event of want, drop or change may touch
 abbrev pub at_gates : Part → Bool
@@ -155,14 +156,14 @@ GatesHold c w = (part : Part) → at_gates part ≡ true → Holds c w part
 -- the shown model as it was
 abbrev pub Moves : Config → State → ℕ → Option Action → State → Type 0
 Moves c old t None new = new ≡ old
-Moves c old t (Some a) new = IsAllowed (limits_of c) old t a × (new ≡ after_action old t a)
+Moves c old t (Some a) new = IsAllowed (model_limits c) old t a × (new ≡ after_action old t a)
 
 -- the law of one event: the rule holds after it, and it moves the shown model by its action
 abbrev pub StepKeeps : Config → World → ℕ → HookAnswer → Phase → Type 0
 StepKeeps c w t hook phase =
-    Good c (stepped w t phase hook) × Moves c (shown c w) t (phase_action w hook (Some phase)) (shown c (stepped w t phase hook))
+    IsGood c (after_step w t phase hook) × Moves c (shown c w) t (phase_action w hook (Some phase)) (shown c (after_step w t phase hook))
 
 -- the law of one event of want, drop or change: the parts that it may touch, and the shown model
 abbrev pub GateStepKeeps : Config → World → ℕ → HookAnswer → Phase → Type 0
 GateStepKeeps c w t hook phase =
-    GatesHold c (stepped w t phase hook) × Moves c (shown c w) t (phase_action w hook (Some phase)) (shown c (stepped w t phase hook))
+    GatesHold c (after_step w t phase hook) × Moves c (shown c w) t (phase_action w hook (Some phase)) (shown c (after_step w t phase hook))

@@ -1,54 +1,16 @@
--- Traces: the events of one operation, in the order of its phases. They speak of no other task.
-use Rattle.std.specs.Prelude.{◌≡◌, ℕ, ◌≤◌, Option, Some, None, Result, Ok, Err, List, [], ◌∷◌, ◌++◌, length}
+-- What the trace of an operation tells.
+use Rattle.std.specs.Prelude.{◌≡◌, ℕ, ◌≤◌, Option, Some, None, Result, Ok, Err, List, [], ◌∷◌, length}
 use Rattle.access_model.specs.declared.actions.Action.{Action}
 use Rattle.access_model.specs.declared.errors.GateError.{GateError}
 use Rattle.access_model.specs.declared.replies.Next.{Next}
 use Rattle.access_model.specs.declared.replies.Next.TheVariants.{Go, Wait, Done}
 use Rattle.access_model.specs.declared.replies.Reply.{Reply}
 use Rattle.cpu_words.specs.declared.events.Event.{Event}
-use Rattle.cpu_words.specs.Touches.{event_of}
 use Rattle.gate_world.specs.declared.config.Config.{Config}
 use Rattle.gate_world.specs.declared.operations.Op.{Op}
 use Rattle.gate_world.specs.declared.work.Phase.{Phase}
-use Rattle.gate_world.specs.declared.views.View.{View}
 use Rattle.gate_world.specs.declared.views.Traced.{Traced}
-use Rattle.gate_world.specs.Work.{next_of, after_of}
-use Rattle.gate_world.specs.Views.{phase_after, actions_after}
 use Rattle.gate_world.specs.Operations.{row}
-use Rattle.gate_world.specs.Worlds.{first_phase}
-
--- where an operation stands, and the actions that it has added, the newest first
-pub record Course : Type 0 where
-  pub stands : Next Phase
-  pub added : List Action
-
-abbrev pub course_with : List Action → Next Phase × Option Action → Course
-course_with added after = record { stands = after.0; added = actions_after after.1 added }
-
--- the course after one event more; an operation that has ended has none
-abbrev pub course_after : Next Phase → List Action → Traced → Course
-course_after (Go phase) added e = course_with added (after_of phase e.event.found e.hook)
-course_after (Wait phase) added e = course_with added (after_of phase e.event.found e.hook)
-course_after (Done answer) added e = record { stands = Done answer; added = added }
-
--- the course of an operation of a task after these events, the newest first
-abbrev pub course_of : Config → ℕ → Op → List Traced → Course
-course_of c t op [] = record { stands = Go (first_phase c t op); added = [] }
-course_of c t op (e ∷ earlier) = course_after (course_of c t op earlier).stands (course_of c t op earlier).added e
-
--- the event is the one of this phase, on a word that held some value
-abbrev pub IsEventOf : Phase → Traced → Type 0
-IsEventOf phase e = (value : ℕ) × (e.event ≡ event_of (next_of phase e.hook).0 (next_of phase e.hook).1 value)
-
-abbrev pub IsNext : Next Phase → Traced → Type 0
-IsNext (Go phase) e = IsEventOf phase e
-IsNext (Wait phase) e = IsEventOf phase e
-IsNext (Done answer) e = ⊥
-
--- each event is the one that comes where the operation stands
-abbrev pub IsTrace : Config → ℕ → Op → List Traced → Type 0
-IsTrace c t op [] = Unit {0}
-IsTrace c t op (e ∷ earlier) = IsNext (course_of c t op earlier).stands e × IsTrace c t op earlier
 
 -- what an operation that replied has added; what is refused has added nothing
 abbrev pub actions_of : Op → Result Reply GateError → List Traced → List Action
@@ -81,14 +43,3 @@ Tells c op trace (Go phase) added = Unit {0}
 Tells c op [] (Wait phase) added = ⊥
 Tells c op (e ∷ earlier) (Wait phase) added = MayWait op e.event
 Tells c op trace (Done answer) added = (added ≡ actions_of op answer trace) × IsHonestAnswer c op answer trace
-
--- A view's trace: it is a trace of the view's operation, which stands where the view says, and whose actions are the newest of the
--- view's own list. A view with no operation has done nothing.
-pub record FollowsOrder (c : Config) (t : ℕ) (v : View) (op : Op) : Type 0 where
-  pub trace : IsTrace c t op v.trace
-  pub phase : v.phase ≡ phase_after (course_of c t op v.trace).stands
-  pub actions : (before : List Action) × (v.actions ≡ (course_of c t op v.trace).added ++ before)
-
-abbrev pub IsTraced : Config → ℕ → View → Option Op → Type 0
-IsTraced c t v None = (v.phase ≡ None) × (v.actions ≡ []) × (v.trace ≡ [])
-IsTraced c t v (Some op) = FollowsOrder c t v op

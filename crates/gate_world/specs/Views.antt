@@ -1,6 +1,6 @@
 -- What is known of one task number, and what its next event makes of it.
 use Rattle.std.specs.Prelude.{ℕ, ◌+◌, Bool, Option, Some, None, List, [], ◌∷◌}
-use Rattle.finite_sums.specs.Sums.{changed}
+use Rattle.finite_sums.specs.Sums.{update}
 use Rattle.access_model.specs.declared.actions.Action.{Action}
 use Rattle.access_model.specs.declared.replies.Next.{Next}
 use Rattle.access_model.specs.declared.replies.Next.TheVariants.{Go, Wait, Done}
@@ -31,11 +31,11 @@ holds_level v = levels_of v.actions
 
 -- net additions are what was added to a count word less what was taken away: each is a sum over the events
 abbrev pub added_after : WordName → Touch → (ℕ → ℕ → ℕ) → ℕ → ℕ → ℕ
-added_after (MountCount m p) (Add n) added = changed added m (changed (added m) p (added m p + n))
+added_after (MountCount m p) (Add n) added = update added m (update (added m) p (added m p + n))
 added_after word touch added = added
 
 abbrev pub taken_after : WordName → Touch → (ℕ → ℕ → ℕ) → ℕ → ℕ → ℕ
-taken_after (MountCount m p) (Sub n) taken = changed taken m (changed (taken m) p (taken m p + n))
+taken_after (MountCount m p) (Sub n) taken = update taken m (update (taken m) p (taken m p + n))
 taken_after word touch taken = taken
 
 abbrev pub added_by : List Event → ℕ → ℕ → ℕ
@@ -48,11 +48,11 @@ taken_by (e ∷ earlier) = taken_after e.word e.touch (taken_by earlier)
 
 -- the same, of the levels' count words
 abbrev pub level_added_after : WordName → Touch → (ℕ → ℕ → ℕ) → ℕ → ℕ → ℕ
-level_added_after (LevelCount i p) (Add n) added = changed added i (changed (added i) p (added i p + n))
+level_added_after (LevelCount i p) (Add n) added = update added i (update (added i) p (added i p + n))
 level_added_after word touch added = added
 
 abbrev pub level_taken_after : WordName → Touch → (ℕ → ℕ → ℕ) → ℕ → ℕ → ℕ
-level_taken_after (LevelCount i p) (Sub n) taken = changed taken i (changed (taken i) p (taken i p + n))
+level_taken_after (LevelCount i p) (Sub n) taken = update taken i (update (taken i) p (taken i p + n))
 level_taken_after word touch taken = taken
 
 abbrev pub level_added_by : List Event → ℕ → ℕ → ℕ
@@ -73,8 +73,8 @@ abbrev pub actions_after : Option Action → List Action → List Action
 actions_after None actions = actions
 actions_after (Some a) actions = a ∷ actions
 
-abbrev pub traced : Event → HookAnswer → Traced
-traced e hook = record { event = e; hook = hook }
+abbrev pub with_hook : Event → HookAnswer → Traced
+with_hook e hook = record { event = e; hook = hook }
 
 -- the view after an event of this word and touch, which found this value in the word and after which this comes
 abbrev pub view_with : View → WordName × Touch → ℕ → HookAnswer → Next Phase × Option Action → View
@@ -83,7 +83,7 @@ view_with v next value hook after = record {
   phase = phase_after after.0;
   actions = actions_after after.1 v.actions;
   events = event_of next.0 next.1 value ∷ v.events;
-  trace = traced (event_of next.0 next.1 value) hook ∷ v.trace;
+  trace = with_hook (event_of next.0 next.1 value) hook ∷ v.trace;
   snapshot = v.snapshot;
 }
 

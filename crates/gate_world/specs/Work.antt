@@ -26,6 +26,6 @@ after_of (Mounts phase) found hook = (of_mounts (after phase found hook).0, (aft
 
 -- the same, of the phases that these stand for
 abbrev pub at_phases : {A : Type 0} → (A → Phase) → Next A → Next Phase
-at_phases stands (Go x) = Go (stands x)
-at_phases stands (Wait x) = Wait (stands x)
-at_phases stands (Done answer) = Done answer
+at_phases as_phase (Go x) = Go (as_phase x)
+at_phases as_phase (Wait x) = Wait (as_phase x)
+at_phases as_phase (Done answer) = Done answer

@@ -58,19 +58,19 @@ pub trait UnderWay: Copy {
     ghost use Rattle.gate_world.specs.Work.{at_phases, after_of};
 
     /// The phase that it stands for.
-    ghost stands: { Self → PhaseType };
+    ghost as_phase: { Self → PhaseType };
 
     /// The same as a phase.
     fn phase(self) -> Phase
-        ensures { result ≡ stands self };
+        ensures { result ≡ as_phase self };
 
     /// What comes after the event, which found this, and the action that it adds.
     fn after(self, found: u64, hook: Result<(), u16>) -> (Next<Self>, Option<Action>)
-        ensures { (at_phases stands result.0, result.1) ≡ after_of (stands self) found hook };
+        ensures { (at_phases as_phase result.0, result.1) ≡ after_of (as_phase self) found hook };
 }
 
 impl UnderWay for Phase {
-    ghost stands = { λ phase. phase };
+    ghost as_phase = { λ phase. phase };
 
     #[inline(always)]
     fn phase(self) -> Phase {
@@ -87,7 +87,7 @@ impl UnderWay for Want {
     ghost use Rattle.gate_world.specs.declared.work.Phase.TheVariants.{Mounts};
     ghost use Rattle.mount_counts.specs.declared.phases.MountPhase.TheVariants.{Want as Wants};
 
-    ghost stands = { λ want. Mounts (Wants want) };
+    ghost as_phase = { λ want. Mounts (Wants want) };
 
     #[inline(always)]
     fn phase(self) -> Phase {

@@ -8,9 +8,10 @@ use Rattle.access_model.specs.declared.actions.Action.{Action}
 use Rattle.cpu_words.specs.Hooks.{HookAnswer}
 use Rattle.gate_world.specs.declared.config.Config.{Config}
 use Rattle.gate_world.specs.declared.work.Phase.{Phase}
-use Rattle.gate_world.specs.Configs.{limits_of}
+use Rattle.gate_world.specs.Configs.{model_limits}
 use Rattle.gate_world.specs.Rules.{Moves}
-use Rattle.gate_world.specs.Worlds.{World, Entry, Steps, happens, run, history, opening, action_of, phase_action, task_of, noted, shown}
+use Rattle.gate_world.specs.Worlds.{World, Entry, Steps, happens, run, history, opening, action_of, phase_action, task_of, with_action}
+use Rattle.gate_world.specs.Shown.{shown}
 use Rattle.gate_core.specs.Answers.{step_answer, phase_step, idle_step}
 use Rattle.gate_core.specs.declared.steps.Step.{Step}
 use Rattle.schedule_laws.proofs.Whole.{whole_run, whole_moves}
@@ -22,29 +23,29 @@ run_more c w [] e = refl
 run_more c w (x ∷ es) e = run_more c (happens c w x) es e
 
 history_more : (c : Config) (w : World) (earlier : List Done) (es : List Entry) (e : Entry) →
-    history c w earlier (es ++ e ∷ []) ≡ noted (task_of e) (action_of c (run c w es) e) (history c w earlier es)
+    history c w earlier (es ++ e ∷ []) ≡ with_action (task_of e) (action_of c (run c w es) e) (history c w earlier es)
 history_more c w earlier [] e = refl
-history_more c w earlier (x ∷ es) e = history_more c (happens c w x) (noted (task_of x) (action_of c w x) earlier) es e
+history_more c w earlier (x ∷ es) e = history_more c (happens c w x) (with_action (task_of x) (action_of c w x) earlier) es e
 
 pub reached_more : (p : Play) (e : Entry) → IsReached p → IsReached (played p e)
 reached_more p e h = record {
   within = h.within;
   entries = h.entries ++ e ∷ [];
   world = ap (λ (w : World). happens p.config w e) h.world ∙ sym (run_more p.config opening h.entries e);
-  done = ap (λ (w : World). noted (task_of e) (action_of p.config w e) p.done) h.world
-      ∙ ap (λ (d : List Done). noted (task_of e) (action_of p.config (run p.config opening h.entries) e) d) h.done
+  done = ap (λ (w : World). with_action (task_of e) (action_of p.config w e) p.done) h.world
+      ∙ ap (λ (d : List Done). with_action (task_of e) (action_of p.config (run p.config opening h.entries) e) d) h.done
       ∙ sym (history_more p.config opening [] h.entries e);
 }
 
-allowed_by : (c : Config) (s new s_new : State) (t : ℕ) (o : Option Action) (a : Action) → Moves c s t o new → o ≡ Some a → IsAllowed (limits_of c) s t a
+allowed_by : (c : Config) (s new s_new : State) (t : ℕ) (o : Option Action) (a : Action) → Moves c s t o new → o ≡ Some a → IsAllowed (model_limits c) s t a
 allowed_by c s new s_new t o a h e = (subst (λ (x : Option Action). Moves c s t x new) e h).0
 
 -- an action that an event adds is allowed in the state after the actions so far
-pub allowed : (p : Play) (e : Entry) (a : Action) → IsReached p → action_of p.config p.world e ≡ Some a → IsAllowed (limits_of p.config) (end_of p.done) (task_of e) a
+pub allowed : (p : Play) (e : Entry) (a : Action) → IsReached p → action_of p.config p.world e ≡ Some a → IsAllowed (model_limits p.config) (end_of p.done) (task_of e) a
 allowed p e a h added =
     let there : action_of p.config (run p.config opening h.entries) e ≡ Some a = ap (λ (w : World). action_of p.config w e) (sym h.world) ∙ added in
     let state : shown p.config (run p.config opening h.entries) ≡ end_of p.done = sym (whole_run p.config h.within h.entries).end ∙ ap end_of (sym h.done) in
-    subst (λ (s : State). IsAllowed (limits_of p.config) s (task_of e) a) state
+    subst (λ (s : State). IsAllowed (model_limits p.config) s (task_of e) a) state
     (allowed_by p.config (shown p.config (run p.config opening h.entries)) (shown p.config (happens p.config (run p.config opening h.entries) e)) (end_of p.done) (task_of e)
     (action_of p.config (run p.config opening h.entries) e) a (whole_moves p.config h.within h.entries e) there)
 

@@ -4,14 +4,14 @@ use Rattle.std.specs.Prelude.{Option, Some, None, Result, Ok, Err, OnOk, IsOk}
 use Rattle.access_model.specs.States.{Standing}
 use Rattle.access_model.specs.Actions.{IsAllowed}
 use Rattle.access_model.specs.Histories.{Done, end_of}
-use Rattle.access_model.specs.Shown.{standing_of, standing_after, limits_of as limits_in, state_of}
+use Rattle.access_model.specs.Shown.{standing_of, standing_after, model_limits as limits_in, state_of}
 use Rattle.access_model.specs.declared.actions.Action.{Action}
 use Rattle.access_model.specs.declared.errors.GateError.{GateError}
 use Rattle.cpu_words.specs.Hooks.{HookAnswer}
-use Rattle.gate_world.specs.Configs.{limits_of}
+use Rattle.gate_world.specs.Configs.{model_limits}
 use Rattle.gate_world.specs.declared.config.Config.{Config}
 use Rattle.gate_world.specs.declared.operations.Op.{Op}
-use Rattle.gate_world.specs.Worlds.{World, Entry, Begins, Steps, happens, action_of, noted, task_of}
+use Rattle.gate_world.specs.Worlds.{World, Entry, Begins, Steps, happens, action_of, with_action, task_of}
 use Rattle.gate_core.specs.Memory.{Shows}
 use Rattle.gate_core.specs.Answers.{begin_answer, step_answer}
 use Rattle.gate_core.specs.declared.steps.Step.{Step}
@@ -22,13 +22,13 @@ use Rattle.mntgate.specs.declared.session.Session.{Session}
 use Rattle.mntgate.proofs.Playing.{reached_more, allowed, step_adds}
 
 -- the model after an entry that adds this
-model_of : (s : Standing) (c : Config) (done : List Done) (t : ℕ) (o : Option Action) → s ≡ record { limits = limits_of c; state = end_of (noted t o done) } →
-    (o_is : Option Action) → o ≡ o_is → s ≡ record { limits = limits_of c; state = end_of (noted t o_is done) }
-model_of s c done t o h o_is e = subst (λ (x : Option Action). s ≡ record { limits = limits_of c; state = end_of (noted t x done) }) e h
+model_of : (s : Standing) (c : Config) (done : List Done) (t : ℕ) (o : Option Action) → s ≡ record { limits = model_limits c; state = end_of (with_action t o done) } →
+    (o_is : Option Action) → o ≡ o_is → s ≡ record { limits = model_limits c; state = end_of (with_action t o_is done) }
+model_of s c done t o h o_is e = subst (λ (x : Option Action). s ≡ record { limits = model_limits c; state = end_of (with_action t x done) }) e h
 
 moved : (old new : Session) (p : Play) (e : Entry) → Stands old p → new.config ≡ old.config → new.core.config ≡ old.core.config →
     ((w : World) → Shows old.core w → Shows new.core (happens old.core.config w e)) →
-    standing_of new.model ≡ record { limits = limits_of p.config; state = end_of (noted (task_of e) (action_of p.config p.world e) p.done) } →
+    standing_of new.model ≡ record { limits = model_limits p.config; state = end_of (with_action (task_of e) (action_of p.config p.world e) p.done) } →
     Stands new (played p e)
 moved old new p e h same same_core shows model = record {
   config = same ∙ h.config;
@@ -38,9 +38,9 @@ moved old new p e h same same_core shows model = record {
   reached = reached_more p e h.reached;
 }
 
-pub begun : (old new : Session) (p : Play) (t : ℕ) (op : Op) → Stands old p → new.config ≡ old.config → new.core.config ≡ old.core.config → new.model ≡ old.model →
+pub after_begin : (old new : Session) (p : Play) (t : ℕ) (op : Op) → Stands old p → new.config ≡ old.config → new.core.config ≡ old.core.config → new.model ≡ old.model →
     ((w : World) → Shows old.core w → Shows new.core (happens old.core.config w (Begins t op))) → Stands new (played p (Begins t op))
-begun old new p t op h same same_core same_model shows = moved old new p (Begins t op) h same same_core shows (ap standing_of same_model ∙ h.model)
+after_begin old new p t op h same same_core same_model shows = moved old new p (Begins t op) h same same_core shows (ap standing_of same_model ∙ h.model)
 
 pub begin_is : (old : Session) (p : Play) (t : ℕ) (op : Op) (r : Result (Unit {0}) GateError) → Stands old p →
     ((w : World) → Shows old.core w → r ≡ begin_answer old.core.config w t op) → r ≡ begin_answer p.config p.world t op

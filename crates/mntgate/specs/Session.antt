@@ -2,7 +2,7 @@
 use Rattle.std.specs.Prelude.{◌≡◌, List, [], Option, Some, None}
 use Rattle.access_model.specs.Shown.{standing_of}
 use Rattle.access_model.specs.Histories.{end_of}
-use Rattle.gate_world.specs.Configs.{IsWithin, limits_of}
+use Rattle.gate_world.specs.Configs.{IsWithin, model_limits}
 use Rattle.gate_world.specs.Worlds.{Entry, run, history, opening}
 use Rattle.gate_core.specs.Memory.{Shows}
 use Rattle.schedule_text.specs.declared.commands.Line.{Line}
@@ -22,7 +22,7 @@ pub record Stands (session : Session) (p : Play) : Type 0 where
   pub config : session.config ≡ p.config
   pub core : session.core.config ≡ p.config
   pub shows : Shows session.core p.world
-  pub model : standing_of session.model ≡ record { limits = limits_of p.config; state = end_of p.done }
+  pub model : standing_of session.model ≡ record { limits = model_limits p.config; state = end_of p.done }
   pub reached : IsReached p
 
 -- a line that asks something of a session

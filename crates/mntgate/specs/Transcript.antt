@@ -11,7 +11,7 @@ use Rattle.cpu_words.specs.declared.names.WordName.{WordName}
 use Rattle.cpu_words.specs.declared.names.WordName.TheVariants.{Umount, Stage, SbFlags, Remount, MountFlags, MountCount, Block, Sync, LevelCount, Section}
 use Rattle.cpu_words.specs.Words.{read}
 use Rattle.gate_world.specs.declared.config.Config.{Config}
-use Rattle.gate_world.specs.Worlds.{World, Entry, Begins, Steps, happens, action_of, task_of, noted, opening}
+use Rattle.gate_world.specs.Worlds.{World, Entry, Begins, Steps, happens, action_of, task_of, with_action, opening}
 use Rattle.gate_core.specs.declared.steps.Progress.{Progress}
 use Rattle.gate_core.specs.declared.steps.Progress.TheVariants.{Idle, Going, Waiting, Done as Ended}
 use Rattle.gate_core.specs.Answers.{begin_answer, step_answer}
@@ -39,7 +39,7 @@ opening_play c = record { config = c; world = opening; done = [] }
 
 -- the play after an entry of its schedule: the same that the headline says of
 abbrev pub played : Play → Entry → Play
-played p e = record p { world = happens p.config p.world e; done = noted (task_of e) (action_of p.config p.world e) p.done }
+played p e = record p { world = happens p.config p.world e; done = with_action (task_of e) (action_of p.config p.world e) p.done }
 
 -- the blocks charged, which the reply of a snapshot prints
 abbrev pub used_now : Play → ℕ

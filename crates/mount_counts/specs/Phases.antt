@@ -15,7 +15,7 @@ use Rattle.cpu_words.specs.declared.sums.Sum.{Sum}
 use Rattle.cpu_words.specs.declared.sums.Taken.{Taken}
 use Rattle.cpu_words.specs.declared.sums.Taken.TheVariants.{More, Total}
 use Rattle.cpu_words.specs.Hooks.{HookAnswer}
-use Rattle.cpu_words.specs.Sums.{taken_after}
+use Rattle.cpu_words.specs.Sums.{sum_taking}
 use Rattle.mount_counts.specs.declared.phases.MountPhase.{MountPhase}
 use Rattle.mount_counts.specs.declared.phases.MountPhase.TheVariants.{Want as Wants, Drop as Drops, Change as Changes}
 use Rattle.mount_counts.specs.declared.phases.Want.{Want}
@@ -96,7 +96,7 @@ step_summed (More sum) = Sums sum
 step_summed (Total total) = if total == 0 then SetsReadOnly else ClearsHold (Err Busy)
 
 abbrev pub change_summed : Change → Sum → ℕ → ChangeStep
-change_summed x sum word = step_summed (taken_after sum word x.processors)
+change_summed x sum word = step_summed (sum_taking sum word x.processors)
 
 abbrev pub change_after : Change → ChangeStep → ℕ → Next MountPhase × Option Action
 change_after x Locks found = (if found == 0 then Go (at_change x LoadsFlags) else lock_failed x x.wait, None)

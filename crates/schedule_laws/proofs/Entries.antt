@@ -3,7 +3,7 @@ use Rattle.std.proofs.Common.{◌≡◌, ℕ, ◌<◌, refl, sym, ap, subst, inl
 use Rattle.std.specs.Prelude.{nat_lt, Option, Some, None, List, [], ◌∷◌}
 use Rattle.std.proofs.lemmas.Bool.{ltb-true, cases_Bool}
 use Rattle.std.proofs.lemmas.Bool.Decides.{eqb_tells}
-use Rattle.finite_sums.proofs.Totals.{changed_at, changed_off}
+use Rattle.finite_sums.proofs.Totals.{update_at, update_off}
 use Rattle.access_model.specs.declared.errors.GateError.{GateError}
 use Rattle.cpu_words.specs.Hooks.{HookAnswer}
 use Rattle.gate_world.specs.declared.config.Config.{Config}
@@ -12,15 +12,16 @@ use Rattle.gate_world.specs.declared.work.Phase.{Phase}
 use Rattle.gate_world.specs.declared.views.View.{View}
 use Rattle.gate_world.specs.Views.{held_at, holds_level, begun_view, view_after}
 use Rattle.gate_world.specs.Fits.{Fits}
-use Rattle.gate_world.specs.Worlds.{World, Entry, Begins, Steps, first_phase, view_refusal, begun, begin_of, stepped, step_of, value_at, happens, run}
-use Rattle.gate_world.specs.Rules.{Good, Fitting}
+use Rattle.gate_world.specs.Beginnings.{first_phase, view_refusal}
+use Rattle.gate_world.specs.Worlds.{World, Entry, Begins, Steps, after_begin, begin_of, after_step, step_of, value_at, happens, run}
+use Rattle.gate_world.specs.Rules.{IsGood, Fitting}
 use Rattle.gate_world.specs.Causes.{trail, all_counted, HasCause}
 use Rattle.gate_world.specs.KeptCauses.{CauseOf, Causes}
 use Rattle.schedule_laws.proofs.Layers.{phase_keeps, op_keeps}
 
-module _ (c : Config) (w : World) (earlier : List World) (good : Good c w) (holds : Causes c w earlier) where
+module _ (c : Config) (w : World) (earlier : List World) (good : IsGood c w) (holds : Causes c w earlier) where
   -- a task that another entry leaves alone
-  module _ (next : World) (after : Good c next) (t : ℕ) (lt : t < c.tasks) (quiet : (m : ℕ) → all_counted c m w ≡ 0 → all_counted c m next ≡ 0 → next.words.count m ≡ w.words.count m) where
+  module _ (next : World) (after : IsGood c next) (t : ℕ) (lt : t < c.tasks) (quiet : (m : ℕ) → all_counted c m w ≡ 0 → all_counted c m next ≡ 0 → next.words.count m ≡ w.words.count m) where
     kept : (p : Option Phase) → Fits c t (held_at (w.views t)) (holds_level (w.views t)) p → (next.views t).phase ≡ p → (w.views t).phase ≡ p → CauseOf c t w earlier p → CauseOf c t next (w ∷ earlier) p
     kept None f e was h = tt
     kept (Some phase) f e was h = (phase_keeps c phase).stays w next earlier after t f e was quiet h
@@ -33,38 +34,38 @@ module _ (c : Config) (w : World) (earlier : List World) (good : Good c w) (hold
   same_causes : Causes c w (w ∷ earlier)
   same_causes t lt = alone w good t lt (λ m a b. refl) refl
 
-  step_causes : (u : ℕ) → u < c.tasks → (hook : HookAnswer) (p : Option Phase) → (w.views u).phase ≡ p → Good c (step_of w u hook p) → Causes c (step_of w u hook p) (w ∷ earlier)
+  step_causes : (u : ℕ) → u < c.tasks → (hook : HookAnswer) (p : Option Phase) → (w.views u).phase ≡ p → IsGood c (step_of w u hook p) → Causes c (step_of w u hook p) (w ∷ earlier)
   step_causes u lu hook None e after t lt = same_causes t lt
   step_causes u lu hook (Some phase) e after t lt =
-      let next : World = stepped w u phase hook in
+      let next : World = after_step w u phase hook in
       let v : View = view_after (w.views u) phase (value_at w.words phase hook) hook in
       elim (eqb_tells t u) [
         | inl h ↦
-            let is : next.views u ≡ v = changed_at w.views u v in
+            let is : next.views u ≡ v = update_at w.views u v in
             let there : CauseOf c u next (w ∷ earlier) (next.views u).phase =
             subst (CauseOf c u next (w ∷ earlier)) (sym (ap (λ (x : View). x.phase) is)) ((phase_keeps c phase).causes w earlier good u lu hook e after (ap (λ (x : View). x.phase) is) (subst (CauseOf c u w earlier) e (holds u lu))) in
             subst (λ y. CauseOf c y next (w ∷ earlier) (next.views y).phase) (sym h.1) there
-        | inr h ↦ alone next after t lt (λ m a b. (phase_keeps c phase).quiet w good u lu hook m e a b) (changed_off w.views u v t h.1)
+        | inr h ↦ alone next after t lt (λ m a b. (phase_keeps c phase).quiet w good u lu hook m e a b) (update_off w.views u v t h.1)
       ]
 
   first_causes : (u : ℕ) (op : Op) (next : World) → CauseOf c u next (w ∷ earlier) (Some (first_phase c u op))
   first_causes u op next = (op_keeps c op).cause u next (w ∷ earlier)
 
-  begin_causes : (u : ℕ) (op : Op) (r : Option GateError) → Good c (begin_of c w u op r) → Causes c (begin_of c w u op r) (w ∷ earlier)
+  begin_causes : (u : ℕ) (op : Op) (r : Option GateError) → IsGood c (begin_of c w u op r) → Causes c (begin_of c w u op r) (w ∷ earlier)
   begin_causes u op (Some refused) after t lt = same_causes t lt
   begin_causes u op None after t lt =
-      let next : World = begun c w u op in
+      let next : World = after_begin c w u op in
       let v : View = begun_view (w.views u) op (first_phase c u op) in
       elim (eqb_tells t u) [
         | inl h ↦
-            let is : next.views u ≡ v = changed_at w.views u v in
+            let is : next.views u ≡ v = update_at w.views u v in
             let there : CauseOf c u next (w ∷ earlier) (next.views u).phase =
             subst (CauseOf c u next (w ∷ earlier)) (sym (ap (λ (x : View). x.phase) is)) (first_causes u op next) in
             subst (λ y. CauseOf c y next (w ∷ earlier) (next.views y).phase) (sym h.1) there
-        | inr h ↦ alone next after t lt (λ m a b. refl) (changed_off w.views u v t h.1)
+        | inr h ↦ alone next after t lt (λ m a b. refl) (update_off w.views u v t h.1)
       ]
 
-  pub happens_causes : (e : Entry) → Good c (happens c w e) → Causes c (happens c w e) (w ∷ earlier)
+  pub happens_causes : (e : Entry) → IsGood c (happens c w e) → Causes c (happens c w e) (w ∷ earlier)
   happens_causes (Begins t op) after =
       elim (cases_Bool (nat_lt t c.tasks)) [
         | inl h ↦ rw h (begin_causes t op (view_refusal c (w.views t) op) (rw h at after))
@@ -77,13 +78,13 @@ module _ (c : Config) (w : World) (earlier : List World) (good : Good c w) (hold
       ]
 
 -- along a schedule whose entries keep the rule
-module _ (c : Config) (keeps : (w : World) → Good c w → (e : Entry) → Good c (happens c w e)) where
+module _ (c : Config) (keeps : (w : World) → IsGood c w → (e : Entry) → IsGood c (happens c w e)) where
   pub record TrailHolds (w : World) (earlier : List World) (es : List Entry) : Type 0 where
     pub rest : List World
     pub is : trail c earlier w es ≡ run c w es ∷ rest
     pub causes : Causes c (run c w es) rest
 
-  pub trail_holds : (es : List Entry) (w : World) (earlier : List World) → Good c w → Causes c w earlier → TrailHolds w earlier es
+  pub trail_holds : (es : List Entry) (w : World) (earlier : List World) → IsGood c w → Causes c w earlier → TrailHolds w earlier es
   trail_holds [] w earlier good h = record { rest = earlier; is = refl; causes = h }
   trail_holds (e ∷ es) w earlier good h =
       let t : TrailHolds (happens c w e) (w ∷ earlier) es = trail_holds es (happens c w e) (w ∷ earlier) (keeps w good e) (happens_causes c w earlier good h e (keeps w good e)) in

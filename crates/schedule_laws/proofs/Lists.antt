@@ -2,7 +2,7 @@
 use Rattle.std.proofs.Common.{◌≡◌, ℕ, refl, sym, ap, ◌∙◌, inl, inr}
 use Rattle.std.specs.Prelude.{nat_lt, Option, Some, None, List, [], ◌∷◌}
 use Rattle.std.proofs.lemmas.Bool.{eq-eqb, ne_eqb, cases_Bool}
-use Rattle.finite_sums.proofs.Totals.{each_changed}
+use Rattle.finite_sums.proofs.Totals.{each_updated}
 use Rattle.access_model.specs.declared.actions.Action.{Action}
 use Rattle.access_model.specs.declared.errors.GateError.{GateError}
 use Rattle.access_model.specs.Histories.{Done, own_part, IsMerge}
@@ -12,34 +12,35 @@ use Rattle.gate_world.specs.declared.operations.Op.{Op}
 use Rattle.gate_world.specs.declared.work.Phase.{Phase}
 use Rattle.gate_world.specs.declared.views.View.{View}
 use Rattle.gate_world.specs.Views.{actions_after, begun_view, view_after}
-use Rattle.gate_world.specs.Worlds.{World, Entry, Begins, Steps, first_phase, view_refusal, begin_of, step_of, happens, phase_action, action_of, task_of, noted, value_at, run, history}
+use Rattle.gate_world.specs.Beginnings.{first_phase, view_refusal}
+use Rattle.gate_world.specs.Worlds.{World, Entry, Begins, Steps, begin_of, step_of, happens, phase_action, action_of, task_of, with_action, value_at, run, history}
 
 -- the lists of a world
 abbrev pub lists : World → ℕ → List Action
 lists w t = (w.views t).actions
 
-part_here : (t : ℕ) (a : Option Action) (earlier : List Done) → own_part t (noted t a earlier) ≡ actions_after a (own_part t earlier)
+part_here : (t : ℕ) (a : Option Action) (earlier : List Done) → own_part t (with_action t a earlier) ≡ actions_after a (own_part t earlier)
 part_here t None earlier = refl
 part_here t (Some a) earlier = rw (eq-eqb t t refl)
 
-part_there : (x t : ℕ) (a : Option Action) (earlier : List Done) → (x ≡ t → ⊥) → own_part x (noted t a earlier) ≡ own_part x earlier
+part_there : (x t : ℕ) (a : Option Action) (earlier : List Done) → (x ≡ t → ⊥) → own_part x (with_action t a earlier) ≡ own_part x earlier
 part_there x t None earlier ne = refl
 part_there x t (Some a) earlier ne = rw (ne_eqb t x (λ q. ne (sym q)))
 
 pub step_lists : (w : World) (earlier : List Done) (t : ℕ) (hook : HookAnswer) (p : Option Phase) → IsMerge (lists w) earlier →
-    IsMerge (lists (step_of w t hook p)) (noted t (phase_action w hook p) earlier)
+    IsMerge (lists (step_of w t hook p)) (with_action t (phase_action w hook p) earlier)
 step_lists w earlier t hook None m x = m x
 step_lists w earlier t hook (Some phase) m x =
-    each_changed (λ y (v : View). own_part y (noted t (phase_action w hook (Some phase)) earlier) ≡ v.actions) w.views t (view_after (w.views t) phase (value_at w.words phase hook) hook) x
+    each_updated (λ y (v : View). own_part y (with_action t (phase_action w hook (Some phase)) earlier) ≡ v.actions) w.views t (view_after (w.views t) phase (value_at w.words phase hook) hook) x
     (part_here t (phase_action w hook (Some phase)) earlier ∙ ap (actions_after (phase_action w hook (Some phase))) (m t))
     (λ ne. part_there x t (phase_action w hook (Some phase)) earlier ne ∙ m x)
 
 pub begin_lists : (c : Config) (w : World) (earlier : List Done) (t : ℕ) (op : Op) (r : Option GateError) → IsMerge (lists w) earlier → IsMerge (lists (begin_of c w t op r)) earlier
 begin_lists c w earlier t op (Some refused) m x = m x
 begin_lists c w earlier t op None m x =
-    each_changed (λ y (v : View). own_part y earlier ≡ v.actions) w.views t (begun_view (w.views t) op (first_phase c t op)) x (m t) (λ ne. m x)
+    each_updated (λ y (v : View). own_part y earlier ≡ v.actions) w.views t (begun_view (w.views t) op (first_phase c t op)) x (m t) (λ ne. m x)
 
-happens_lists : (c : Config) (w : World) (earlier : List Done) (e : Entry) → IsMerge (lists w) earlier → IsMerge (lists (happens c w e)) (noted (task_of e) (action_of c w e) earlier)
+happens_lists : (c : Config) (w : World) (earlier : List Done) (e : Entry) → IsMerge (lists w) earlier → IsMerge (lists (happens c w e)) (with_action (task_of e) (action_of c w e) earlier)
 happens_lists c w earlier (Begins t op) m =
     elim (cases_Bool (nat_lt t c.tasks)) [
       | inl h ↦ rw h (begin_lists c w earlier t op (view_refusal c (w.views t) op) m)
@@ -53,4 +54,4 @@ happens_lists c w earlier (Steps t hook) m =
 
 pub run_lists : (c : Config) (es : List Entry) (w : World) (earlier : List Done) → IsMerge (lists w) earlier → IsMerge (lists (run c w es)) (history c w earlier es)
 run_lists c [] w earlier m = m
-run_lists c (e ∷ es) w earlier m = run_lists c es (happens c w e) (noted (task_of e) (action_of c w e) earlier) (happens_lists c w earlier e m)
+run_lists c (e ∷ es) w earlier m = run_lists c es (happens c w e) (with_action (task_of e) (action_of c w e) earlier) (happens_lists c w earlier e m)

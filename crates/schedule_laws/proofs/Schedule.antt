@@ -4,8 +4,8 @@ use Rattle.std.specs.Prelude.{nat_lt, ◌&&◌, is_some, Option, Some, None, Lis
 use Rattle.std.proofs.Math.Path.{fun_ext}
 use Rattle.std.proofs.lemmas.Bool.Decides.{eqb_tells}
 use Rattle.std.proofs.lemmas.Bool.{cases_Bool, ltb-true}
-use Rattle.finite_sums.specs.Sums.{changed, total}
-use Rattle.finite_sums.proofs.Totals.{each_changed, total_same, total_none, total_bound}
+use Rattle.finite_sums.specs.Sums.{update, total}
+use Rattle.finite_sums.proofs.Totals.{each_updated, total_same, total_none, total_bound}
 use Rattle.access_model.specs.declared.actions.Action.{Action}
 use Rattle.access_model.specs.declared.errors.GateError.{GateError}
 use Rattle.access_model.specs.declared.errors.GateError.TheVariants.{Invalid, Order, TooMany}
@@ -19,10 +19,12 @@ use Rattle.gate_world.specs.declared.config.Config.{Config}
 use Rattle.gate_world.specs.declared.operations.Op.{Op}
 use Rattle.gate_world.specs.declared.work.Phase.{Phase}
 use Rattle.gate_world.specs.declared.views.View.{View}
-use Rattle.gate_world.specs.Configs.{IsWithin, limits_of}
+use Rattle.gate_world.specs.Configs.{IsWithin, model_limits}
 use Rattle.gate_world.specs.Views.{held_at, holds_level, begun_view}
-use Rattle.gate_world.specs.Worlds.{World, Entry, Begins, Steps, first_phase, is_in_range, is_in_order, is_within_room, view_refusal, begun, begin_of, step_of, happens, phase_action, action_of, task_of, noted, run, opening, history, shown}
-use Rattle.gate_world.specs.Rules.{role_of, at_mount, Steady, ViewFits, Part, Owner, Superblock, Stages, Fitting, AtMount, Holds, Good, Moves}
+use Rattle.gate_world.specs.Beginnings.{first_phase, is_in_range, is_in_order, is_within_room, view_refusal}
+use Rattle.gate_world.specs.Worlds.{World, Entry, Begins, Steps, after_begin, begin_of, step_of, happens, phase_action, action_of, task_of, with_action, run, opening, history}
+use Rattle.gate_world.specs.Shown.{shown}
+use Rattle.gate_world.specs.Rules.{role_of, at_mount, IsSteady, ViewFits, Part, Owner, Superblock, Stages, Fitting, AtMount, Holds, IsGood, Moves}
 use Rattle.gate_world.specs.Headline.{SumsHold, IdleSumsHold}
 use Rattle.schedule_laws.proofs.Layers.{phase_keeps, op_keeps}
 use Rattle.gate_frames.proofs.Frames.{view_as, left_alone, shown_still}
@@ -62,37 +64,37 @@ may_begin c v op h =
       ]
     ]
 
-module _ (c : Config) (lim : IsWithin c) (w : World) (good : Good c w) (t : ℕ) (lt : t < c.tasks) where
+module _ (c : Config) (lim : IsWithin c) (w : World) (good : IsGood c w) (t : ℕ) (lt : t < c.tasks) where
   pub step_keeps : (hook : HookAnswer) (p : Option Phase) → (w.views t).phase ≡ p →
-      Good c (step_of w t hook p) × Moves c (shown c w) t (phase_action w hook p) (shown c (step_of w t hook p))
+      IsGood c (step_of w t hook p) × Moves c (shown c w) t (phase_action w hook p) (shown c (step_of w t hook p))
   step_keeps hook None e = (good, refl)
   step_keeps hook (Some phase) e = (phase_keeps c phase).step lim w good t lt hook e
 
   -- a beginning leaves each part of the rule but that of its own phase
-  begun_good : (op : Op) → MayBegin c (w.views t) op → (part : Part) → Holds c (begun c w t op) part
-  begun_good op h Fitting = λ x lx. each_changed (λ y (u : View). ViewFits c y u) w.views t (begun_view (w.views t) op (first_phase c t op)) x ((op_keeps c op).fits t (held_at (w.views t)) (holds_level (w.views t)) h.range h.order h.room) (λ ne. good Fitting x lx)
+  begun_good : (op : Op) → MayBegin c (w.views t) op → (part : Part) → Holds c (after_begin c w t op) part
+  begun_good op h Fitting = λ x lx. each_updated (λ y (u : View). ViewFits c y u) w.views t (begun_view (w.views t) op (first_phase c t op)) x ((op_keeps c op).fits t (held_at (w.views t)) (holds_level (w.views t)) h.range h.order h.room) (λ ne. good Fitting x lx)
   begun_good op h Owner =
-      let same : Steady (w.views t).phase (Some (first_phase c t op)) = steady h.idle ((op_keeps c op).steady t) in
+      let same : IsSteady (w.views t).phase (Some (first_phase c t op)) = steady h.idle ((op_keeps c op).steady t) in
       left_alone c w t lt Owner w.words (begun_view (w.views t) op (first_phase c t op)) (refl, refl) (same.owns_same, same.remounts_same) (good Owner)
   begun_good op h Superblock = good Superblock
   begun_good op h Stages = good Stages
   begun_good op h (AtMount m) =
       left_alone c w t lt (AtMount m) w.words (begun_view (w.views t) op (first_phase c t op)) (refl, refl, refl, refl) (view_as refl refl refl ((op_keeps c op).no_role t m ∙ sym (ap (role_of m) h.idle))) (good (AtMount m))
 
-  pub begun_keeps : (op : Op) → MayBegin c (w.views t) op → Good c (begun c w t op) × (shown c (begun c w t op) ≡ shown c w)
+  pub begun_keeps : (op : Op) → MayBegin c (w.views t) op → IsGood c (after_begin c w t op) × (shown c (after_begin c w t op) ≡ shown c w)
   begun_keeps op h = (
     begun_good op h,
     shown_still c w t lt w.words (begun_view (w.views t) op (first_phase c t op)) refl refl refl refl refl refl (steady h.idle ((op_keeps c op).steady t)).closing_same refl refl,
   )
 
 module _ (c : Config) (lim : IsWithin c) where
-  begin_keeps : (w : World) → Good c w → (t : ℕ) (op : Op) → t < c.tasks → (r : Option GateError) → view_refusal c (w.views t) op ≡ r →
-      Good c (begin_of c w t op r) × (shown c (begin_of c w t op r) ≡ shown c w)
+  begin_keeps : (w : World) → IsGood c w → (t : ℕ) (op : Op) → t < c.tasks → (r : Option GateError) → view_refusal c (w.views t) op ≡ r →
+      IsGood c (begin_of c w t op r) × (shown c (begin_of c w t op r) ≡ shown c w)
   begin_keeps w good t op lt None e = begun_keeps c lim w good t lt op (may_begin c (w.views t) op e)
   begin_keeps w good t op lt (Some refused) e = (good, refl)
 
   -- each entry keeps the rule, and moves the shown model by its action
-  pub happens_keeps : (w : World) → Good c w → (e : Entry) → Good c (happens c w e) × Moves c (shown c w) (task_of e) (action_of c w e) (shown c (happens c w e))
+  pub happens_keeps : (w : World) → IsGood c w → (e : Entry) → IsGood c (happens c w e) × Moves c (shown c w) (task_of e) (action_of c w e) (shown c (happens c w e))
   happens_keeps w good (Begins t op) =
       elim (cases_Bool (nat_lt t c.tasks)) [
         | inl h ↦ rw h (begin_keeps w good t op (ltb-true t c.tasks h) (view_refusal c (w.views t) op) refl)
@@ -105,22 +107,22 @@ module _ (c : Config) (lim : IsWithin c) where
       ]
 
   -- a legal history that ends in a world's shown model, with one more entry
-  pub legal_more : (old new : State) (t : ℕ) (a : Option Action) (earlier : List Done) → Moves c old t a new → IsLegal (limits_of c) earlier → end_of earlier ≡ old →
-      IsLegal (limits_of c) (noted t a earlier) × (end_of (noted t a earlier) ≡ new)
+  pub legal_more : (old new : State) (t : ℕ) (a : Option Action) (earlier : List Done) → Moves c old t a new → IsLegal (model_limits c) earlier → end_of earlier ≡ old →
+      IsLegal (model_limits c) (with_action t a earlier) × (end_of (with_action t a earlier) ≡ new)
   legal_more old new t None earlier m legal ends = (legal, ends ∙ sym m)
   legal_more old new t (Some a) earlier m legal ends = (
-    (subst (λ s. IsAllowed (limits_of c) s t a) (sym ends) m.0, legal),
+    (subst (λ s. IsAllowed (model_limits c) s t a) (sym ends) m.0, legal),
     ap (λ s. after_action s t a) ends ∙ sym m.1,
   )
 
-  pub run_keeps : (es : List Entry) (w : World) (earlier : List Done) → Good c w → IsLegal (limits_of c) earlier → end_of earlier ≡ shown c w →
-      Good c (run c w es) × IsLegal (limits_of c) (history c w earlier es) × (end_of (history c w earlier es) ≡ shown c (run c w es))
+  pub run_keeps : (es : List Entry) (w : World) (earlier : List Done) → IsGood c w → IsLegal (model_limits c) earlier → end_of earlier ≡ shown c w →
+      IsGood c (run c w es) × IsLegal (model_limits c) (history c w earlier es) × (end_of (history c w earlier es) ≡ shown c (run c w es))
   run_keeps [] w earlier good legal ends = (good, legal, ends)
   run_keeps (e ∷ es) w earlier good legal ends =
-      let k : Good c (happens c w e) × Moves c (shown c w) (task_of e) (action_of c w e) (shown c (happens c w e)) = happens_keeps w good e in
-      let n : IsLegal (limits_of c) (noted (task_of e) (action_of c w e) earlier) × (end_of (noted (task_of e) (action_of c w e) earlier) ≡ shown c (happens c w e)) =
+      let k : IsGood c (happens c w e) × Moves c (shown c w) (task_of e) (action_of c w e) (shown c (happens c w e)) = happens_keeps w good e in
+      let n : IsLegal (model_limits c) (with_action (task_of e) (action_of c w e) earlier) × (end_of (with_action (task_of e) (action_of c w e) earlier) ≡ shown c (happens c w e)) =
       legal_more (shown c w) (shown c (happens c w e)) (task_of e) (action_of c w e) earlier k.1 legal ends in
-      run_keeps es (happens c w e) (noted (task_of e) (action_of c w e) earlier) k.0 n.0 n.1
+      run_keeps es (happens c w e) (with_action (task_of e) (action_of c w e) earlier) k.0 n.0 n.1
 
   zeros : (n : ℕ) → total n (λ x. 0) ≡ 0
   zeros n = total_none n (λ x. 0) (λ x lx. refl)
@@ -142,7 +144,7 @@ module _ (c : Config) (lim : IsWithin c) where
   }
 
   opening_tree : (n : ℕ) → opening_state.tree n ≡ (shown c opening).tree n
-  opening_tree n = elim (eqb_tells n 0) [ inl h ↦ rw (h.0, changed) refl | inr h ↦ rw (h.0, changed) refl ]
+  opening_tree n = elim (eqb_tells n 0) [ inl h ↦ rw (h.0, update) refl | inr h ↦ rw (h.0, update) refl ]
 
   -- which shows the opening state
   pub opening_shown : opening_state ≡ shown c opening
@@ -150,13 +152,13 @@ module _ (c : Config) (lim : IsWithin c) where
       λ i. record opening_state { tree = fun_ext opening_tree i }
 
   -- a mount's words sum to what is counted, as a whole number
-  pub gate_sums : (w : World) → Good c w → SumsHold c w
+  pub gate_sums : (w : World) → IsGood c w → SumsHold c w
   gate_sums w good m lm =
       let g : MountHolds c.tasks c.processors (w.words.flags m) w.words.remount w.words.sb (w.words.count m) (λ x. at_mount m (w.views x)) = good (AtMount m) lm in
       let s : total c.processors (w.words.count m) % 18446744073709551616 ≡ total c.tasks (λ t. counted (at_mount m (w.views t))) % 18446744073709551616 = gate_sum c.tasks c.processors (w.words.count m) (λ x. at_mount m (w.views x)) g.counts in
       let b : total c.tasks (λ t. counted (at_mount m (w.views t))) ≤ c.tasks * 1025 = total_bound c.tasks 1025 _ (λ x lx. omega (arith, g.room x lx, counted_parts (role_of m (w.views x).phase), unread_le 0 (role_of m (w.views x).phase))) in
       omega (arith, lim.tasks)
 
-  pub idle_sums : (w : World) → Good c w → IdleSumsHold c w
+  pub idle_sums : (w : World) → IsGood c w → IdleSumsHold c w
   idle_sums w good idle m lm =
       gate_sums w good m lm ∙ total_same c.tasks _ _ (λ x lx. omega (arith, ap (λ u. sought (role_of m u)) (idle x lx)))

@@ -12,9 +12,10 @@ use Rattle.gate_world.specs.declared.operations.Op.{Op}
 use Rattle.gate_world.specs.declared.work.Phase.{Phase}
 use Rattle.gate_world.specs.declared.views.Traced.{Traced}
 use Rattle.gate_world.specs.Work.{next_of, after_of}
-use Rattle.gate_world.specs.Views.{actions_after, traced}
-use Rattle.gate_world.specs.Worlds.{first_phase}
-use Rattle.gate_world.specs.Traces.{course_after, course_of, IsEventOf, IsNext, IsTrace, most_events, IsShort, Tells}
+use Rattle.gate_world.specs.Views.{actions_after, with_hook}
+use Rattle.gate_world.specs.Beginnings.{first_phase}
+use Rattle.gate_world.specs.Courses.{course_after, course_of, IsEventOf, IsNext, IsTrace}
+use Rattle.gate_world.specs.Traces.{most_events, IsShort, Tells}
 
 -- what a trace says by where its operation stands, where `At` is what it says at a phase
 abbrev pub Says : (List Traced → Phase → List Action → Type 0) → Config → Op → List Traced → Next Phase → List Action → Type 0
@@ -29,7 +30,7 @@ event_at phase value hook = event_of (next_of phase hook).0 (next_of phase hook)
 -- what the trace says after the event of a phase
 abbrev pub SaysAfter : (List Traced → Phase → List Action → Type 0) → Config → Op → Phase → ℕ → HookAnswer → List Traced → List Action → Type 0
 SaysAfter At c op phase value hook earlier added =
-    Says At c op (traced (event_at phase value hook) hook ∷ earlier) (after_of phase (found_by (next_of phase hook).1 value) hook).0
+    Says At c op (with_hook (event_at phase value hook) hook ∷ earlier) (after_of phase (found_by (next_of phase hook).1 value) hook).0
     (actions_after (after_of phase (found_by (next_of phase hook).1 value) hook).1 added)
 
 -- what is kept of an operation: it holds at the beginning, each event keeps it, and it bounds the trace
@@ -44,36 +45,36 @@ module _ (At : List Traced → Phase → List Action → Type 0) (c : Config) (t
   event_keeps : (phase : Phase) (added : List Action) (e : Traced) (earlier : List Traced) → IsEventOf phase e → At earlier phase added →
       Says At c op (e ∷ earlier) (after_of phase e.event.found e.hook).0 (actions_after (after_of phase e.event.found e.hook).1 added)
   event_keeps phase added e earlier next here =
-      subst (λ (event : Event). Says At c op (traced event e.hook ∷ earlier) (after_of phase event.found e.hook).0 (actions_after (after_of phase event.found e.hook).1 added))
+      subst (λ (event : Event). Says At c op (with_hook event e.hook ∷ earlier) (after_of phase event.found e.hook).0 (actions_after (after_of phase event.found e.hook).1 added))
       (sym next.1) (kept.more phase next.0 e.hook earlier added here)
 
   -- one more event of a trace does
-  next_keeps : (stands : Next Phase) (added : List Action) (e : Traced) (earlier : List Traced) → IsNext stands e → Says At c op earlier stands added →
-      Says At c op (e ∷ earlier) (course_after stands added e).stands (course_after stands added e).added
+  next_keeps : (comes : Next Phase) (added : List Action) (e : Traced) (earlier : List Traced) → IsNext comes e → Says At c op earlier comes added →
+      Says At c op (e ∷ earlier) (course_after comes added e).comes (course_after comes added e).added
   next_keeps (Go phase) added e earlier next here = event_keeps phase added e earlier next here
   next_keeps (Wait phase) added e earlier next here = event_keeps phase added e earlier next here.0
   next_keeps (Done answer) added e earlier next here = absurd next
 
   -- every trace says it
-  pub says : (trace : List Traced) → IsTrace c t op trace → Says At c op trace (course_of c t op trace).stands (course_of c t op trace).added
+  pub says : (trace : List Traced) → IsTrace c t op trace → Says At c op trace (course_of c t op trace).comes (course_of c t op trace).added
   says [] h = kept.first
-  says (e ∷ earlier) h = next_keeps (course_of c t op earlier).stands (course_of c t op earlier).added e earlier h.0 (says earlier h.1)
+  says (e ∷ earlier) h = next_keeps (course_of c t op earlier).comes (course_of c t op earlier).added e earlier h.0 (says earlier h.1)
 
   -- what is said tells what is to be told
-  says_tells : (trace : List Traced) (stands : Next Phase) (added : List Action) → Says At c op trace stands added → Tells c op trace stands added
+  says_tells : (trace : List Traced) (comes : Next Phase) (added : List Action) → Says At c op trace comes added → Tells c op trace comes added
   says_tells trace (Go phase) added h = tt
   says_tells trace (Wait phase) added h = h.1
   says_tells trace (Done answer) added h = h.0
 
   -- what is said bounds the trace
-  says_short : (trace : List Traced) (stands : Next Phase) (added : List Action) → Says At c op trace stands added → IsShort (most_events c op) trace
+  says_short : (trace : List Traced) (comes : Next Phase) (added : List Action) → Says At c op trace comes added → IsShort (most_events c op) trace
   says_short trace (Go phase) added h = kept.short trace phase added h
   says_short trace (Wait phase) added h = kept.short trace phase added h.0
   says_short trace (Done answer) added h = h.1
 
   -- so every trace tells what is to be told, and is short
-  pub tells : (trace : List Traced) → IsTrace c t op trace → Tells c op trace (course_of c t op trace).stands (course_of c t op trace).added
-  tells trace h = says_tells trace (course_of c t op trace).stands (course_of c t op trace).added (says trace h)
+  pub tells : (trace : List Traced) → IsTrace c t op trace → Tells c op trace (course_of c t op trace).comes (course_of c t op trace).added
+  tells trace h = says_tells trace (course_of c t op trace).comes (course_of c t op trace).added (says trace h)
 
   pub is_short : (trace : List Traced) → IsTrace c t op trace → IsShort (most_events c op) trace
-  is_short trace h = says_short trace (course_of c t op trace).stands (course_of c t op trace).added (says trace h)
+  is_short trace h = says_short trace (course_of c t op trace).comes (course_of c t op trace).added (says trace h)

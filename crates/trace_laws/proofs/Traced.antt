@@ -2,7 +2,7 @@
 use Rattle.std.proofs.Common.{◌≡◌, ℕ, refl, sym, ap, ◌∙◌, subst, inl, inr}
 use Rattle.std.specs.Prelude.{Option, Some, None, nat_lt, List, [], ◌∷◌, ◌++◌}
 use Rattle.std.proofs.lemmas.Bool.{cases_Bool}
-use Rattle.finite_sums.proofs.Totals.{each_changed}
+use Rattle.finite_sums.proofs.Totals.{each_updated}
 use Rattle.access_model.specs.declared.actions.Action.{Action}
 use Rattle.access_model.specs.declared.errors.GateError.{GateError}
 use Rattle.access_model.specs.declared.replies.Next.{Next}
@@ -15,14 +15,15 @@ use Rattle.gate_world.specs.declared.work.Phase.{Phase}
 use Rattle.gate_world.specs.declared.views.View.{View}
 use Rattle.gate_world.specs.declared.views.Traced.{Traced}
 use Rattle.gate_world.specs.Work.{next_of, after_of}
-use Rattle.gate_world.specs.Views.{phase_after, actions_after, traced, view_after, begun_view}
-use Rattle.gate_world.specs.Worlds.{World, Entry, Begins, Steps, first_phase, begin_refusal, begin_of, value_at, step_of, happens, run}
-use Rattle.gate_world.specs.Traces.{course_with, course_after, course_of, IsEventOf, IsNext, IsTraced}
+use Rattle.gate_world.specs.Views.{phase_after, actions_after, with_hook, view_after, begun_view}
+use Rattle.gate_world.specs.Beginnings.{first_phase}
+use Rattle.gate_world.specs.Worlds.{World, Entry, Begins, Steps, begin_refusal, begin_of, value_at, step_of, happens, run}
+use Rattle.gate_world.specs.Courses.{course_with, course_after, course_of, IsEventOf, IsNext, IsTraced}
 use Rattle.trace_laws.proofs.Says.{event_at}
 
 -- where an operation stands at this phase, its event is the next, and what comes after it is the course after it
-stands_at : (stands : Next Phase) (added : List Action) (phase : Phase) (e : Traced) → phase_after stands ≡ Some phase → IsEventOf phase e →
-    IsNext stands e × (course_after stands added e ≡ course_with added (after_of phase e.event.found e.hook))
+stands_at : (comes : Next Phase) (added : List Action) (phase : Phase) (e : Traced) → phase_after comes ≡ Some phase → IsEventOf phase e →
+    IsNext comes e × (course_after comes added e ≡ course_with added (after_of phase e.event.found e.hook))
 stands_at (Go there) added phase e h next =
     let same : there ≡ phase = cc in
     (subst (λ x. IsEventOf x e) (sym same) next, ap (λ x. course_with added (after_of x e.event.found e.hook)) same)
@@ -40,12 +41,12 @@ newest (Some a) actions added before h = ap (λ l. a ∷ l) h
 step_follows : (c : Config) (t : ℕ) (v : View) (op : Option Op) (phase : Phase) (value : ℕ) (hook : HookAnswer) → v.phase ≡ Some phase → IsTraced c t v op → IsTraced c t (view_after v phase value hook) op
 step_follows c t v None phase value hook e h = absurd (cc)
 step_follows c t v (Some op) phase value hook e h =
-    let event : Traced = traced (event_at phase value hook) hook in
-    let s : IsNext (course_of c t op v.trace).stands event × (course_after (course_of c t op v.trace).stands (course_of c t op v.trace).added event ≡ course_with (course_of c t op v.trace).added (after_of phase (found_by (next_of phase hook).1 value) hook)) =
-    stands_at (course_of c t op v.trace).stands (course_of c t op v.trace).added phase event (sym h.phase ∙ e) (value, refl) in
+    let event : Traced = with_hook (event_at phase value hook) hook in
+    let s : IsNext (course_of c t op v.trace).comes event × (course_after (course_of c t op v.trace).comes (course_of c t op v.trace).added event ≡ course_with (course_of c t op v.trace).added (after_of phase (found_by (next_of phase hook).1 value) hook)) =
+    stands_at (course_of c t op v.trace).comes (course_of c t op v.trace).added phase event (sym h.phase ∙ e) (value, refl) in
     record {
       trace = (s.0, h.trace);
-      phase = ap (λ x. phase_after x.stands) (sym s.1);
+      phase = ap (λ x. phase_after x.comes) (sym s.1);
       actions = (h.actions.0, newest (after_of phase (found_by (next_of phase hook).1 value) hook).1 v.actions (course_of c t op v.trace).added h.actions.0 h.actions.1 ∙ ap (λ x. x.added ++ h.actions.0) (sym s.1));
     }
 
@@ -57,14 +58,14 @@ AllTraced c w = (t : ℕ) → IsTraced c t (w.views t) (w.views t).op
 begin_keeps : (c : Config) (w : World) (t : ℕ) (op : Op) (refused : Option GateError) → AllTraced c w → AllTraced c (begin_of c w t op refused)
 begin_keeps c w t op (Some refused) h x = h x
 begin_keeps c w t op None h x =
-    each_changed (λ y (v : View). IsTraced c y v v.op) w.views t (begun_view (w.views t) op (first_phase c t op)) x
+    each_updated (λ y (v : View). IsTraced c y v v.op) w.views t (begun_view (w.views t) op (first_phase c t op)) x
     (record { trace = tt; phase = refl; actions = ((w.views t).actions, refl) }) (λ ne. h x)
 
 -- a step adds the event that the phase wants
 step_keeps : (c : Config) (w : World) (t : ℕ) (hook : HookAnswer) (phase : Option Phase) → (w.views t).phase ≡ phase → AllTraced c w → AllTraced c (step_of w t hook phase)
 step_keeps c w t hook None e h x = h x
 step_keeps c w t hook (Some phase) e h x =
-    each_changed (λ y (v : View). IsTraced c y v v.op) w.views t (view_after (w.views t) phase (value_at w.words phase hook) hook) x
+    each_updated (λ y (v : View). IsTraced c y v v.op) w.views t (view_after (w.views t) phase (value_at w.words phase hook) hook) x
     (step_follows c t (w.views t) (w.views t).op phase (value_at w.words phase hook) hook e (h t)) (λ ne. h x)
 
 -- so each entry keeps it

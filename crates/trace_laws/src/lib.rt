@@ -7,7 +7,8 @@ ghost use Rattle.gate_world.specs.declared.config.Config.{Config};
 ghost use Rattle.gate_world.specs.declared.operations.Op.{Op};
 ghost use Rattle.gate_world.specs.declared.views.Traced.{Traced};
 ghost use Rattle.gate_world.specs.Configs.{IsWithin};
-ghost use Rattle.gate_world.specs.Traces.{course_of, IsTrace, Tells, most_events, IsShort, IsTraced};
+ghost use Rattle.gate_world.specs.Courses.{course_of, IsTrace, IsTraced};
+ghost use Rattle.gate_world.specs.Traces.{Tells, most_events, IsShort};
 ghost use Rattle.gate_world.specs.Worlds.{Entry, opening, run};
 
 /// After every schedule, the trace of each task is a trace of its operation: its events come in the operation's order, its phase is

@@ -31,8 +31,8 @@ use Rattle.gate_core.proofs.Held.{mounts_of_after, levels_of_after, long_after, 
 use Rattle.gate_steps.specs.declared.seating.Numbered.{Numbered}
 use Rattle.gate_steps.specs.Seating.{SeatItems, numbered, entered, items_after, IsMove}
 use Rattle.atomic_table.specs.Seated.{TableId}
-use Rattle.vfs_gates.specs.Standing.{Standing, standing}
-use Rattle.vfs_gates.specs.Stepped.{found_step, standing_after, ToldIn, Stepped}
+use Rattle.vfs_gates.specs.TaskStates.{TaskState, task_state}
+use Rattle.vfs_gates.specs.Stepped.{found_step, state_after, ToldIn, Stepped}
 use Rattle.vfs_gates.specs.Ties.{PhaseOk, OwnTies, Ties}
 
 phase_ok : (c : Config) (n : ℕ) (v : View) (o : Option Phase) → v.phase ≡ o → PhaseOk c None o (numbered n v)
@@ -130,7 +130,7 @@ told_in c begins phase hook found [] move step is = absurd move
 told_in c begins phase hook found (x ∷ xs) move step is = is ∙ (ap (found_step phase hook) move.found ∙ step_in move.world phase hook)
 
 -- the event of a step
-pub was_stepped : (phase : Phase) (hook : HookAnswer) (old : Standing) (done : Step) (left : Standing) (found : ℕ) → done ≡ found_step phase hook found → left ≡ standing_after old phase hook found →
+pub was_stepped : (phase : Phase) (hook : HookAnswer) (old : TaskState) (done : Step) (left : TaskState) (found : ℕ) → done ≡ found_step phase hook found → left ≡ state_after old phase hook found →
     IsMove old.config old.begins phase hook old.items found → Stepped phase hook old done left
 was_stepped phase hook old done left found step new moves =
     record { found = found; step = step; new = new; moves = moves; told = told_in old.config old.begins phase hook found old.items moves done step }
@@ -166,17 +166,17 @@ module _ (number : ℕ) (c : Config) (begins : Option Op) (kept : Seat) (flags :
         let told : progress.0 ≡ progress_of done.0 = ap (λ (p : Progress × Option Phase). p.0) progress_is in
         λ i. record { event = Some (same_event i); action = (same_done i).1; progress = (told ∙ ap (λ (d : Next Phase × Option Action). progress_of d.0) same_done) i }
 
-    pub left_is : (table before : TableId) → table ≡ before → standing table c None progress.1 after ≡ standing_after (standing before c begins kept.phase items) phase hook found
+    pub left_is : (table before : TableId) → table ≡ before → task_state table c None progress.1 after ≡ state_after (task_state before c begins kept.phase items) phase hook found
     left_is table before same = λ i. record { table = same i; config = c; begins = None; phase = same_phase i; items = after_is i }
 
     -- the step that the code has done, where the seat's event was such a move
-    pub stepped_here : (table before : TableId) (now : Standing) → table ≡ before → standing before c begins kept.phase items ≡ now → IsMove c begins phase hook items found →
-        (p : Phase) → now.phase ≡ Some p → Stepped p hook now (record { event = Some event; action = done.1; progress = progress.0 }) (standing table c None progress.1 after)
+    pub stepped_here : (table before : TableId) (now : TaskState) → table ≡ before → task_state before c begins kept.phase items ≡ now → IsMove c begins phase hook items found →
+        (p : Phase) → now.phase ≡ Some p → Stepped p hook now (record { event = Some event; action = done.1; progress = progress.0 }) (task_state table c None progress.1 after)
     stepped_here table before now same view moves p at =
-        let other : Some phase ≡ Some p = sym is ∙ (ap (λ (s : Standing). s.phase) view ∙ at) in
+        let other : Some phase ≡ Some p = sym is ∙ (ap (λ (s : TaskState). s.phase) view ∙ at) in
         let same_p : phase ≡ p = cc in
         let step : Step = record { event = Some event; action = done.1; progress = progress.0 } in
-        let left : Standing = standing table c None progress.1 after in
+        let left : TaskState = task_state table c None progress.1 after in
         subst (λ (q : Phase). Stepped q hook now step left) same_p
-        (subst (λ (s : Standing). Stepped phase hook s step left) view
-        (was_stepped phase hook (standing before c begins kept.phase items) step left found step_is (left_is table before same) moves))
+        (subst (λ (s : TaskState). Stepped phase hook s step left) view
+        (was_stepped phase hook (task_state before c begins kept.phase items) step left found step_is (left_is table before same) moves))

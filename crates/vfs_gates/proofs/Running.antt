@@ -15,16 +15,17 @@ use Rattle.gate_world.specs.declared.work.Phase.{Phase}
 use Rattle.gate_world.specs.declared.views.Traced.{Traced}
 use Rattle.gate_world.specs.declared.views.View.{View}
 use Rattle.gate_world.specs.Configs.{IsWithin}
-use Rattle.gate_world.specs.Views.{phase_after, actions_after, view_after, traced}
+use Rattle.gate_world.specs.Views.{phase_after, actions_after, view_after, with_hook}
 use Rattle.gate_world.specs.Work.{next_of, after_of}
-use Rattle.gate_world.specs.Worlds.{first_phase}
-use Rattle.gate_world.specs.Traces.{Course, course_with, course_after, course_of, IsEventOf, IsNext, IsTrace, Tells, most_events, IsShort}
+use Rattle.gate_world.specs.Beginnings.{first_phase}
+use Rattle.gate_world.specs.Courses.{Course, course_with, course_after, course_of, IsEventOf, IsNext, IsTrace}
+use Rattle.gate_world.specs.Traces.{Tells, most_events, IsShort}
 use Rattle.schedule_laws.proofs.Layers.{op_keeps}
 use Rattle.gate_core.specs.declared.steps.Progress.TheVariants.{Done as Ended}
 use Rattle.gate_core.specs.declared.steps.Step.{Step}
 use Rattle.gate_core.specs.Answers.{progress_of, unless_refused}
 use Rattle.gate_steps.specs.Seating.{SeatItems, numbered, entered, items_after, IsMove}
-use Rattle.vfs_gates.specs.Standing.{Standing, own_number, own_view, refusal_at}
+use Rattle.vfs_gates.specs.TaskStates.{TaskState, own_number, own_view, refusal_at}
 use Rattle.vfs_gates.specs.Stepped.{Stepped}
 use Rattle.vfs_gates.specs.Runs.{events_onto, ran_view, ran_items, begins_at, items_at, IsMoveOf, IsNextMove, AreMoves, Goes, Went, waits, outcome_of, Called, Performs}
 
@@ -72,7 +73,7 @@ goes_on (Go q) not = (q, refl)
 goes_on (Wait q) not = (q, refl)
 goes_on (Done a) not = absurd (not a refl)
 
-abbrev pub steps_of : Standing → ℕ
+abbrev pub steps_of : TaskState → ℕ
 steps_of now = length (own_view (entered_items now.begins now.phase now.items)).trace
 
 begun_items : (c : Config) (op : Op) (l : SeatItems) → entered_items (Some op) (Some (first_phase c (own_number l) op)) l ≡ ran_items c op [] l
@@ -80,19 +81,19 @@ begun_items c op [] = refl
 begun_items c op (x ∷ xs) = refl
 
 entered_at : (c : Config) (op : Op) (trace : List Traced) (l : SeatItems) →
-    entered_items (begins_at op trace) (phase_after (course_of c (own_number l) op trace).stands) (items_at c op trace l) ≡ ran_items c op trace l
+    entered_items (begins_at op trace) (phase_after (course_of c (own_number l) op trace).comes) (items_at c op trace l) ≡ ran_items c op trace l
 entered_at c op [] l = begun_items c op l
-entered_at c op (e ∷ earlier) l = not_entered (phase_after (course_of c (own_number l) op (e ∷ earlier)).stands) (ran_items c op (e ∷ earlier) l)
+entered_at c op (e ∷ earlier) l = not_entered (phase_after (course_of c (own_number l) op (e ∷ earlier)).comes) (ran_items c op (e ∷ earlier) l)
 
-ran_so_far : (op : Op) (start now : Standing) (goes : Goes op start now) → entered_items now.begins now.phase now.items ≡ ran_items start.config op goes.trace start.items
+ran_so_far : (op : Op) (start now : TaskState) (goes : Goes op start now) → entered_items now.begins now.phase now.items ≡ ran_items start.config op goes.trace start.items
 ran_so_far op start now goes =
     let same : entered_items now.begins now.phase now.items ≡
-    entered_items (begins_at op goes.trace) (phase_after (course_of start.config (own_number start.items) op goes.trace).stands) (items_at start.config op goes.trace start.items) =
+    entered_items (begins_at op goes.trace) (phase_after (course_of start.config (own_number start.items) op goes.trace).comes) (items_at start.config op goes.trace start.items) =
     λ i. entered_items (goes.begins i) (goes.phase i) (goes.items i) in
     same ∙ entered_at start.config op goes.trace start.items
 
 -- as it begins
-pub starts : (op : Op) (start now : Standing) → now ≡ record start { begins = Some op; phase = Some (first_phase start.config (own_number start.items) op) } → Goes op start now
+pub starts : (op : Op) (start now : TaskState) → now ≡ record start { begins = Some op; phase = Some (first_phase start.config (own_number start.items) op) } → Goes op start now
 starts op start now is = subst (Goes op start) (sym is) (record {
   trace = [];
   table = refl;
@@ -105,7 +106,7 @@ starts op start now is = subst (Goes op start) (sym is) (record {
   moves = tt;
 })
 
-module _ (op : Op) (start now left : Standing) (step : Step) (goes : Goes op start now) (stepped : (p : Phase) → now.phase ≡ Some p → Stepped p (Ok tt) now step left) where
+module _ (op : Op) (start now left : TaskState) (step : Step) (goes : Goes op start now) (after_step : (p : Phase) → now.phase ≡ Some p → Stepped p (Ok tt) now step left) where
   abbrev h : HookAnswer
   h = Ok tt
 
@@ -119,7 +120,7 @@ module _ (op : Op) (start now left : Standing) (step : Step) (goes : Goes op sta
   p = goes.going.0
 
   did : Stepped p h now step left
-  did = stepped p goes.going.1
+  did = after_step p goes.going.1
 
   abbrev found : ℕ
   found = did.found
@@ -128,24 +129,24 @@ module _ (op : Op) (start now left : Standing) (step : Step) (goes : Goes op sta
   after = after_of p (found_by (next_of p h).1 found) h
 
   abbrev e : Traced
-  e = traced (event_of (next_of p h).0 (next_of p h).1 found) h
+  e = with_hook (event_of (next_of p h).0 (next_of p h).1 found) h
 
   abbrev trace : List Traced
   trace = e ∷ goes.trace
 
-  stands_there : phase_after (course_of c n op goes.trace).stands ≡ Some p
+  stands_there : phase_after (course_of c n op goes.trace).comes ≡ Some p
   stands_there = sym goes.phase ∙ goes.going.1
 
   follows_after : IsTrace c n op trace
-  follows_after = (next_is (course_of c n op goes.trace).stands p e stands_there (found, refl), goes.follows)
+  follows_after = (next_is (course_of c n op goes.trace).comes p e stands_there (found, refl), goes.follows)
 
   course_here : course_of c n op trace ≡ course_with (course_of c n op goes.trace).added after
-  course_here = course_is (course_of c n op goes.trace).stands p (course_of c n op goes.trace).added e stands_there
+  course_here = course_is (course_of c n op goes.trace).comes p (course_of c n op goes.trace).added e stands_there
 
   ran_more : (x : View) → view_after (ran_view c n op goes.trace x) p found h ≡ ran_view c n op trace x
   ran_more x = λ i. record {
     op = Some op;
-    phase = phase_after (sym course_here i).stands;
+    phase = phase_after (sym course_here i).comes;
     actions = (actions_append after.1 (course_of c n op goes.trace).added x.actions ∙ ap (λ (o : Course). o.added ++ x.actions) (sym course_here)) i;
     events = events_onto trace x.events;
     trace = trace;
@@ -158,12 +159,12 @@ module _ (op : Op) (start now left : Standing) (step : Step) (goes : Goes op sta
       subst (λ (k : ℕ). items_after None p h found (numbered x.number (ran_view c k op goes.trace x.view) ∷ xs) ≡ numbered x.number (ran_view c k op trace x.view) ∷ xs) (sym same)
       (ap (λ (v : View). numbered x.number v ∷ xs) (ran_more x.view))
 
-  phase_then : left.phase ≡ phase_after (course_of c n op trace).stands
-  phase_then = ap (λ (s : Standing). s.phase) did.new ∙ ap (λ (o : Course). phase_after o.stands) (sym course_here)
+  phase_then : left.phase ≡ phase_after (course_of c n op trace).comes
+  phase_then = ap (λ (s : TaskState). s.phase) did.new ∙ ap (λ (o : Course). phase_after o.comes) (sym course_here)
 
   items_then : left.items ≡ ran_items c op trace start.items
   items_then =
-      ap (λ (s : Standing). s.items) did.new ∙
+      ap (λ (s : TaskState). s.items) did.new ∙
       (sym (after_entered now.begins p h found now.items) ∙
       (ap (λ (o : Option Phase). items_after None p h found (entered_items now.begins o now.items)) (sym goes.going.1) ∙
       (ap (items_after None p h found) (ran_so_far op start now goes) ∙ ran_all start.items refl)))
@@ -172,19 +173,19 @@ module _ (op : Op) (start now left : Standing) (step : Step) (goes : Goes op sta
   progress_then = ap (λ (s : Step). s.progress) did.step
 
   table_then : left.table ≡ start.table
-  table_then = ap (λ (s : Standing). s.table) did.new ∙ goes.table
+  table_then = ap (λ (s : TaskState). s.table) did.new ∙ goes.table
 
   config_then : left.config ≡ c
-  config_then = ap (λ (s : Standing). s.config) did.new ∙ goes.config
+  config_then = ap (λ (s : TaskState). s.config) did.new ∙ goes.config
 
   begins_then : left.begins ≡ None
-  begins_then = ap (λ (s : Standing). s.begins) did.new
+  begins_then = ap (λ (s : TaskState). s.begins) did.new
 
   moves_then : AreMoves c op start.items trace
   moves_then =
       let P : Config × Option Op × SeatItems → Type 0 = λ z. IsMove z.0 z.1 p h z.2 found in
       let moved : IsMove c (begins_at op goes.trace) p h (items_at c op goes.trace start.items) found = subst P (λ j. (goes.config j, goes.begins j, goes.items j)) did.moves in
-      (move_is c op start.items goes.trace e (course_of c n op goes.trace).stands p stands_there (found, refl, moved), goes.moves)
+      (move_is c op start.items goes.trace e (course_of c n op goes.trace).comes p stands_there (found, refl, moved), goes.moves)
 
   pub goes_further : ((a : Result Reply GateError) → step.progress ≡ Ended a → ⊥) → Goes op start left
   goes_further not = record {
@@ -195,7 +196,7 @@ module _ (op : Op) (start now left : Standing) (step : Step) (goes : Goes op sta
     phase = phase_then;
     going =
         let g = goes_on after.0 (λ a is. not a (progress_then ∙ is)) in
-        (g.0, ap (λ (s : Standing). s.phase) did.new ∙ g.1);
+        (g.0, ap (λ (s : TaskState). s.phase) did.new ∙ g.1);
     begins = begins_then;
     items = items_then;
     moves = moves_then;
@@ -204,7 +205,7 @@ module _ (op : Op) (start now left : Standing) (step : Step) (goes : Goes op sta
   pub ends_there : IsWithin c → (a : Result Reply GateError) → step.progress ≡ Ended a → (outcome : Result (Unit {0}) GateError) → outcome ≡ outcome_of a → Called op start left outcome
   ends_there within a is outcome outcome_is =
       let last : after.0 ≡ Done a = done_is after.0 a (sym progress_then ∙ is) in
-      let ends : (course_of c n op trace).stands ≡ Done a = ap (λ (o : Course). o.stands) course_here ∙ last in
+      let ends : (course_of c n op trace).comes ≡ Done a = ap (λ (o : Course). o.comes) course_here ∙ last in
       let tells : Tells c op trace (Done a) (course_of c n op trace).added =
       subst (λ s. Tells c op trace s (course_of c n op trace).added) ends ((op_keeps c op).tells within n trace follows_after) in
       let idle : left.phase ≡ None = phase_then ∙ ap (λ s. phase_after s) ends in
@@ -228,7 +229,7 @@ module _ (op : Op) (start now left : Standing) (step : Step) (goes : Goes op sta
   one_more : steps_of left ≡ steps_of now + 1
   one_more =
       ap (λ b. length (own_view (entered_items b left.phase left.items)).trace) begins_then ∙
-      (ap (λ l. length (own_view l).trace) (not_entered left.phase left.items ∙ ap (λ (s : Standing). s.items) did.new) ∙
+      (ap (λ l. length (own_view l).trace) (not_entered left.phase left.items ∙ ap (λ (s : TaskState). s.items) did.new) ∙
       grown now.begins now.phase now.items goes.going.1 did.moves)
 
 most : (c : Config) → IsWithin c → (op : Op) (trace : List Traced) → waits op ≡ false → IsShort (most_events c op) trace → length trace ≤ 71
@@ -243,7 +244,7 @@ own_trace c op trace [] = omega arith
 own_trace c op trace (x ∷ xs) = omega arith
 
 -- an operation that waits for nobody has few events
-pub few_steps : (op : Op) (start now : Standing) → IsWithin start.config → waits op ≡ false → Goes op start now → steps_of now ≤ 71
+pub few_steps : (op : Op) (start now : TaskState) → IsWithin start.config → waits op ≡ false → Goes op start now → steps_of now ≤ 71
 few_steps op start now within tries goes =
     let short = most start.config within op goes.trace tries ((op_keeps start.config op).short within (own_number start.items) goes.trace goes.follows) in
     let own = own_trace start.config op goes.trace start.items in
@@ -251,33 +252,33 @@ few_steps op start now within tries goes =
     omega arith
 
 -- what comes after the event tells whether it goes on
-pub went_on : (op : Op) (start now left : Standing) (step : Step) (goes : Goes op start now) (stepped : (p : Phase) → now.phase ≡ Some p → Stepped p (Ok tt) now step left) → IsWithin start.config →
+pub went_on : (op : Op) (start now left : TaskState) (step : Step) (goes : Goes op start now) (after_step : (p : Phase) → now.phase ≡ Some p → Stepped p (Ok tt) now step left) → IsWithin start.config →
     (next : Next Phase) → step.progress ≡ progress_of next → Went op start next left
-went_on op start now left step goes stepped within (Go q) is = goes_further op start now left step goes stepped (λ a ended. absurd (let f : ⊥ = cc in f))
-went_on op start now left step goes stepped within (Wait q) is = goes_further op start now left step goes stepped (λ a ended. absurd (let f : ⊥ = cc in f))
-went_on op start now left step goes stepped within (Done a) is = ends_there op start now left step goes stepped within a is (outcome_of a) refl
+went_on op start now left step goes after_step within (Go q) is = goes_further op start now left step goes after_step (λ a ended. absurd (let f : ⊥ = cc in f))
+went_on op start now left step goes after_step within (Wait q) is = goes_further op start now left step goes after_step (λ a ended. absurd (let f : ⊥ = cc in f))
+went_on op start now left step goes after_step within (Done a) is = ends_there op start now left step goes after_step within a is (outcome_of a) refl
 
-pub falls : (op : Op) (start now left : Standing) (step : Step) (goes : Goes op start now) (stepped : (p : Phase) → now.phase ≡ Some p → Stepped p (Ok tt) now step left) →
+pub falls : (op : Op) (start now left : TaskState) (step : Step) (goes : Goes op start now) (after_step : (p : Phase) → now.phase ≡ Some p → Stepped p (Ok tt) now step left) →
     IsWithin start.config → waits op ≡ false → ((a : Result Reply GateError) → step.progress ≡ Ended a → ⊥) → 72 - steps_of left < 72 - steps_of now
-falls op start now left step goes stepped within tries not =
-    let few = few_steps op start left within tries (goes_further op start now left step goes stepped not) in
-    let more = one_more op start now left step goes stepped in
+falls op start now left step goes after_step within tries not =
+    let few = few_steps op start left within tries (goes_further op start now left step goes after_step not) in
+    let more = one_more op start now left step goes after_step in
     omega arith
 
 -- a beginning that is refused
-pub was_refused : (op : Op) (old left : Standing) (e : GateError) → Err e ≡ unless_refused (refusal_at op old) → left ≡ old → Performs op old left (Err e)
+pub was_refused : (op : Op) (old left : TaskState) (e : GateError) → Err e ≡ unless_refused (refusal_at op old) → left ≡ old → Performs op old left (Err e)
 was_refused op old left e is same = record {
-  table = ap (λ (s : Standing). s.table) same;
-  config = ap (λ (s : Standing). s.config) same;
+  table = ap (λ (s : TaskState). s.table) same;
+  config = ap (λ (s : TaskState). s.config) same;
   refused = λ r at. (is ∙ ap unless_refused at, same);
   done = λ at. absurd (let f : Err e ≡ unless_refused None = is ∙ ap unless_refused at in let g : ⊥ = cc in g);
 }
 
 -- and one that isn't
-pub was_done : (op : Op) (old left : Standing) (outcome : Result (Unit {0}) GateError) → Ok tt ≡ unless_refused (refusal_at op old) → Called op old left outcome → Performs op old left outcome
+pub was_done : (op : Op) (old left : TaskState) (outcome : Result (Unit {0}) GateError) → Ok tt ≡ unless_refused (refusal_at op old) → Called op old left outcome → Performs op old left outcome
 was_done op old left outcome is called = record {
-  table = ap (λ (s : Standing). s.table) called.after;
-  config = ap (λ (s : Standing). s.config) called.after;
+  table = ap (λ (s : TaskState). s.table) called.after;
+  config = ap (λ (s : TaskState). s.config) called.after;
   refused = λ r at. absurd (let f : ◌≡◌ {A = Result (Unit {0}) GateError} (Ok tt) (Err r) = is ∙ ap unless_refused at in let g : ⊥ = cc in g);
   done = λ at. called;
 }

@@ -23,7 +23,7 @@ use Rattle.atomic_table.specs.Seated.{TableId}
 use Rattle.gate_world.specs.Configs.{IsWithin}
 use Rattle.gate_core.specs.declared.steps.Step.{Step}
 use Rattle.vfs_gates.specs.Runs.{Goes, Went}
-use Rattle.vfs_gates.specs.Standing.{Standing, standing}
+use Rattle.vfs_gates.specs.TaskStates.{TaskState, task_state}
 use Rattle.vfs_gates.specs.Stepped.{Stepped}
 use Rattle.vfs_gates.specs.Ties.{Ties}
 use Rattle.vfs_gates.specs.Turns.{kept_at, step_was}
@@ -46,24 +46,24 @@ module _ (c key : Config) (same_key : key ≡ c) (begins : Option Op) (phase tol
       (progress_of done.0, phase_after done.0) refl accesses_left accesses_is left left_here
 
   pub stepped_so : (number : ℕ) (flags : List Bool) → Ties number c begins (kept_at (Some phase) accesses) flags items → IsMove key begins told hook items found → (table before : TableId) → table ≡ before →
-      Stepped phase hook (standing before c begins (Some phase) items) (step_was event done.1 done.0) (standing table c None (phase_after done.0) left)
+      Stepped phase hook (task_state before c begins (Some phase) items) (step_was event done.1 done.0) (task_state table c None (phase_after done.0) left)
   stepped_so number flags ties moves table before same =
       let here : IsMove c begins phase hook items found = subst (λ (k : Config). IsMove k begins phase hook items found) same_key (subst (λ (p : Phase). IsMove key begins p hook items found) told_is moves) in
       stepped_here number c begins (kept_at (Some phase) accesses) flags phase refl hook items ties next next_here found event event_is done done_is
       (progress_of done.0, phase_after done.0) refl accesses_left accesses_is left left_here
-      table before (standing before c begins (Some phase) items) same refl here phase refl
+      table before (task_state before c begins (Some phase) items) same refl here phase refl
 
 -- and what comes after it tells whether the operation goes on
-pub went_so : (c : Config) → IsWithin c → (op : Op) (start : Standing) (event : Event) (action : Option Action) (next : Next Phase) {table left_table : TableId} {begins : Option Op} {phase : Phase} {items left : SeatItems} →
-    Goes op start (standing table c begins (Some phase) items) →
-    Stepped phase (Ok tt) (standing table c begins (Some phase) items) (step_was event action next) (standing left_table c None (phase_after next) left) →
-    Went op start next (standing left_table c None (phase_after next) left)
-went_so c within op start event action next {table} {left_table} {begins} {phase} {items} {left} goes stepped =
-    let now : Standing = standing table c begins (Some phase) items in
-    let after : Standing = standing left_table c None (phase_after next) left in
+pub went_so : (c : Config) → IsWithin c → (op : Op) (start : TaskState) (event : Event) (action : Option Action) (next : Next Phase) {table left_table : TableId} {begins : Option Op} {phase : Phase} {items left : SeatItems} →
+    Goes op start (task_state table c begins (Some phase) items) →
+    Stepped phase (Ok tt) (task_state table c begins (Some phase) items) (step_was event action next) (task_state left_table c None (phase_after next) left) →
+    Went op start next (task_state left_table c None (phase_after next) left)
+went_so c within op start event action next {table} {left_table} {begins} {phase} {items} {left} goes after_step =
+    let now : TaskState = task_state table c begins (Some phase) items in
+    let after : TaskState = task_state left_table c None (phase_after next) left in
     let step : Step = step_was event action next in
     went_on op start now after step goes
-    (λ p is. subst (λ (q : Phase). Stepped q (Ok tt) now step after) (let same : phase ≡ p = cc in same) stepped)
+    (λ p is. subst (λ (q : Phase). Stepped q (Ok tt) now step after) (let same : phase ≡ p = cc in same) after_step)
     (subst IsWithin goes.config within) next refl
 
 -- a task's fields, said with another name of the config and of the phase
@@ -80,10 +80,10 @@ at_itself (Wait phase) = refl
 at_itself (Done answer) = refl
 
 -- a step, said with other names of what it was
-pub stepped_there : {phase : Phase} {hook : HookAnswer} {old old_now left left_now : Standing} {done done_now : Step} → Stepped phase hook old done left → old ≡ old_now → done ≡ done_now → left ≡ left_now → old.phase ≡ Some phase →
+pub stepped_there : {phase : Phase} {hook : HookAnswer} {old old_now left left_now : TaskState} {done done_now : Step} → Stepped phase hook old done left → old ≡ old_now → done ≡ done_now → left ≡ left_now → old.phase ≡ Some phase →
     (p : Phase) → old_now.phase ≡ Some p → Stepped p hook old_now done_now left_now
-stepped_there {phase} {hook} {old} {old_now} {left} {left_now} {done} {done_now} stepped same_old same_done same_left is p at =
-    let other : Some phase ≡ Some p = sym is ∙ (ap (λ (s : Standing). s.phase) same_old ∙ at) in
+stepped_there {phase} {hook} {old} {old_now} {left} {left_now} {done} {done_now} after_step same_old same_done same_left is p at =
+    let other : Some phase ≡ Some p = sym is ∙ (ap (λ (s : TaskState). s.phase) same_old ∙ at) in
     let same : phase ≡ p = cc in
-    let P : Phase × Standing × Step × Standing → Type 0 = λ z. Stepped z.0 hook z.1 z.2 z.3 in
-    subst P (λ i. (same i, same_old i, same_done i, same_left i)) stepped
+    let P : Phase × TaskState × Step × TaskState → Type 0 = λ z. Stepped z.0 hook z.1 z.2 z.3 in
+    subst P (λ i. (same i, same_old i, same_done i, same_left i)) after_step

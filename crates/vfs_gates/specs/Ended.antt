@@ -4,11 +4,11 @@ use Rattle.gate_world.specs.declared.config.Config.{Config}
 use Rattle.gate_world.specs.Worlds.{World}
 use Rattle.gate_steps.specs.Seating.{times}
 use Rattle.gate_steps.specs.Rules.{Ruled, HasHistory}
-use Rattle.vfs_gates.specs.Standing.{Standing, IsIdle, HoldsNothing}
+use Rattle.vfs_gates.specs.TaskStates.{TaskState, IsIdle, HoldsNothing}
 use Rattle.vfs_gates.specs.Ties.{IsStill}
 
 -- the task rests, and each number is its own or its to give
-abbrev pub HasAll : Standing → Type 0
+abbrev pub HasAll : TaskState → Type 0
 HasAll s = IsIdle s × HoldsNothing s × ((n : ℕ) → n < s.config.tasks → 1 ≤ times n s.items)
 
 -- what callers know of closed gates

@@ -1,5 +1,5 @@
 pub mod Room
-pub mod Standing
+pub mod TaskStates
 pub mod Ties
 pub mod Stepped
 pub mod Turns

@@ -11,12 +11,13 @@ use Rattle.gate_world.specs.declared.operations.Op.{Op}
 use Rattle.gate_world.specs.declared.work.Phase.{Phase}
 use Rattle.gate_world.specs.declared.views.Traced.{Traced}
 use Rattle.gate_world.specs.declared.views.View.{View}
-use Rattle.gate_world.specs.Views.{phase_after, traced}
+use Rattle.gate_world.specs.Views.{phase_after, with_hook}
 use Rattle.gate_world.specs.Work.{next_of}
 use Rattle.gate_world.specs.Operations.{row}
-use Rattle.gate_world.specs.Traces.{course_of, IsTrace, actions_of, IsHonestAnswer, most_events, IsShort}
+use Rattle.gate_world.specs.Courses.{course_of, IsTrace}
+use Rattle.gate_world.specs.Traces.{actions_of, IsHonestAnswer, most_events, IsShort}
 use Rattle.gate_steps.specs.Seating.{SeatItems, numbered, IsMove}
-use Rattle.vfs_gates.specs.Standing.{Standing, own_number, refusal_at}
+use Rattle.vfs_gates.specs.TaskStates.{TaskState, own_number, refusal_at}
 
 abbrev pub events_onto : List Traced → List Event → List Event
 events_onto [] earlier = earlier
@@ -26,7 +27,7 @@ events_onto (e ∷ es) earlier = e.event ∷ events_onto es earlier
 abbrev pub ran_view : Config → ℕ → Op → List Traced → View → View
 ran_view c t op trace v = record {
   op = Some op;
-  phase = phase_after (course_of c t op trace).stands;
+  phase = phase_after (course_of c t op trace).comes;
   actions = (course_of c t op trace).added ++ v.actions;
   events = events_onto trace v.events;
   trace = trace;
@@ -51,7 +52,7 @@ items_at c op (e ∷ earlier) items = ran_items c op (e ∷ earlier) items
 -- by its action
 abbrev pub IsMoveOf : Config → Op → SeatItems → List Traced → Traced → Phase → Type 0
 IsMoveOf c op items earlier e phase =
-    (found : ℕ) × (e ≡ traced (event_of (next_of phase e.hook).0 (next_of phase e.hook).1 found) e.hook) × IsMove c (begins_at op earlier) phase e.hook (items_at c op earlier items) found
+    (found : ℕ) × (e ≡ with_hook (event_of (next_of phase e.hook).0 (next_of phase e.hook).1 found) e.hook) × IsMove c (begins_at op earlier) phase e.hook (items_at c op earlier items) found
 
 abbrev pub IsNextMove : Config → Op → SeatItems → List Traced → Traced → Next Phase → Type 0
 IsNextMove c op items earlier e (Go phase) = IsMoveOf c op items earlier e phase
@@ -61,7 +62,7 @@ IsNextMove c op items earlier e (Done answer) = ⊥
 -- each event was
 abbrev pub AreMoves : Config → Op → SeatItems → List Traced → Type 0
 AreMoves c op items [] = Unit {0}
-AreMoves c op items (e ∷ earlier) = IsNextMove c op items earlier e (course_of c (own_number items) op earlier).stands × AreMoves c op items earlier
+AreMoves c op items (e ∷ earlier) = IsNextMove c op items earlier e (course_of c (own_number items) op earlier).comes × AreMoves c op items earlier
 
 -- an operation looks again and again
 abbrev pub waits : Op → Bool
@@ -75,11 +76,11 @@ outcome_of (Err refusal) = Err refusal
 -- just these events and their actions, and nothing else of the task changed. Each event was a move in a world that the rule holds of. So
 -- it has added exactly the operation's actions, a refusal has its cause in the trace, and where the operation waits for nobody, its
 -- events are few.
-pub record Called (op : Op) (old left : Standing) (outcome : Result (Unit {0}) GateError) : Type 0 where
+pub record Called (op : Op) (old left : TaskState) (outcome : Result (Unit {0}) GateError) : Type 0 where
   pub trace : List Traced
   pub answer : Result Reply GateError
   pub follows : IsTrace old.config (own_number old.items) op trace
-  pub ends : (course_of old.config (own_number old.items) op trace).stands ≡ Done answer
+  pub ends : (course_of old.config (own_number old.items) op trace).comes ≡ Done answer
   pub answers : outcome ≡ outcome_of answer
   pub after : left ≡ record old { begins = None; phase = None; items = ran_items old.config op trace old.items }
   pub moves : AreMoves old.config op old.items trace
@@ -88,33 +89,33 @@ pub record Called (op : Op) (old left : Standing) (outcome : Result (Unit {0}) G
   pub short : IsShort (most_events old.config op) trace
 
 -- an operation whose beginning is refused changes nothing, and any other is done whole
-pub record Performs (op : Op) (old left : Standing) (outcome : Result (Unit {0}) GateError) : Type 0 where
+pub record Performs (op : Op) (old left : TaskState) (outcome : Result (Unit {0}) GateError) : Type 0 where
   pub table : left.table ≡ old.table
   pub config : left.config ≡ old.config
   pub refused : (refusal : GateError) → refusal_at op old ≡ Some refusal → (outcome ≡ Err refusal) × (left ≡ old)
   pub done : refusal_at op old ≡ None → Called op old left outcome
 
 -- an operation under way, after these events
-pub record Goes (op : Op) (start now : Standing) : Type 0 where
+pub record Goes (op : Op) (start now : TaskState) : Type 0 where
   pub trace : List Traced
   pub table : now.table ≡ start.table
   pub config : now.config ≡ start.config
   pub follows : IsTrace start.config (own_number start.items) op trace
-  pub phase : now.phase ≡ phase_after (course_of start.config (own_number start.items) op trace).stands
+  pub phase : now.phase ≡ phase_after (course_of start.config (own_number start.items) op trace).comes
   pub going : (q : Phase) × (now.phase ≡ Some q)
   pub begins : now.begins ≡ begins_at op trace
   pub items : now.items ≡ items_at start.config op trace start.items
   pub moves : AreMoves start.config op start.items trace
 
 -- what comes after the last event: it goes on, or it was done whole
-abbrev pub Went : Op → Standing → Next Phase → Standing → Type 0
+abbrev pub Went : Op → TaskState → Next Phase → TaskState → Type 0
 Went op start (Go phase) now = Goes op start now
 Went op start (Wait phase) now = Goes op start now
 Went op start (Done answer) now = Called op start now (outcome_of answer)
 
 -- some operation that waits for nobody is under way here
-pub record IsTrying (now : Standing) : Type 0 where
+pub record IsTrying (now : TaskState) : Type 0 where
   pub op : Op
-  pub start : Standing
+  pub start : TaskState
   pub goes : Goes op start now
   pub tries : waits op ≡ false

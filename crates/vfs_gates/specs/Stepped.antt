@@ -10,7 +10,7 @@ use Rattle.gate_world.specs.Work.{next_of, after_of}
 use Rattle.gate_core.specs.declared.steps.Step.{Step}
 use Rattle.gate_core.specs.Answers.{progress_of, phase_step}
 use Rattle.gate_steps.specs.Seating.{SeatItems, items_after, IsMove}
-use Rattle.vfs_gates.specs.Standing.{Standing}
+use Rattle.vfs_gates.specs.TaskStates.{TaskState}
 
 -- the step of the event of a phase that found this
 abbrev pub found_step : Phase → HookAnswer → ℕ → Step
@@ -21,8 +21,8 @@ found_step phase hook found = record {
 }
 
 -- and the task after it
-abbrev pub standing_after : Standing → Phase → HookAnswer → ℕ → Standing
-standing_after old phase hook found = record old {
+abbrev pub state_after : TaskState → Phase → HookAnswer → ℕ → TaskState
+state_after old phase hook found = record old {
   begins = None;
   phase = phase_after (after_of phase (found_by (next_of phase hook).1 found) hook).0;
   items = items_after old.begins phase hook found old.items;
@@ -35,9 +35,9 @@ ToldIn c begins phase hook found (x ∷ xs) move step = step ≡ phase_step move
 
 -- One event of the task's own number, which found something in a world that the rule holds of, before it and after it. The step is the
 -- one that the phase has in that world.
-pub record Stepped (phase : Phase) (hook : HookAnswer) (old : Standing) (done : Step) (left : Standing) : Type 0 where
+pub record Stepped (phase : Phase) (hook : HookAnswer) (old : TaskState) (done : Step) (left : TaskState) : Type 0 where
   pub found : ℕ
   pub step : done ≡ found_step phase hook found
-  pub new : left ≡ standing_after old phase hook found
+  pub new : left ≡ state_after old phase hook found
   pub moves : IsMove old.config old.begins phase hook old.items found
   pub told : ToldIn old.config old.begins phase hook found old.items moves done

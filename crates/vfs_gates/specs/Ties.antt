@@ -10,13 +10,13 @@ use Rattle.gate_world.specs.Fits.{Fits}
 use Rattle.gate_core.specs.declared.seats.Seat.{Seat}
 use Rattle.gate_core.specs.Memory.{mounts_in, levels_in}
 use Rattle.gate_steps.specs.declared.seating.Numbered.{Numbered}
-use Rattle.gate_steps.specs.Seating.{SeatItems, MayDo, times}
-use Rattle.vfs_gates.specs.Standing.{Empty}
+use Rattle.gate_steps.specs.Seating.{SeatItems, MayStep, times}
+use Rattle.vfs_gates.specs.TaskStates.{Empty}
 
 -- the view stands where the task does: no operation is under way in either, or the task may do the event of its phase
 abbrev pub PhaseOk : Config → Option Op → Option Phase → Numbered → Type 0
 PhaseOk c begins None x = (begins ≡ None) × (x.view.phase ≡ None)
-PhaseOk c begins (Some phase) x = MayDo c begins phase x
+PhaseOk c begins (Some phase) x = MayStep c begins phase x
 
 -- a view that is idle and holds nothing
 abbrev pub IsStill : Config → View → Type 0

@@ -5,7 +5,7 @@ ghost use Rattle.gate_world.specs.Views.{phase_after};
 ghost use Rattle.gate_world.specs.declared.operations.Op.{Op as OpType};
 ghost use Rattle.gate_world.specs.declared.work.Phase.TheVariants.{Mounts};
 ghost use Rattle.mount_counts.specs.declared.phases.MountPhase.TheVariants.{Want as Wants};
-ghost use Rattle.vfs_gates.specs.Standing.{Standing, standing};
+ghost use Rattle.vfs_gates.specs.TaskStates.{TaskState, task_state};
 ghost use Rattle.vfs_gates.specs.Turns.{IsTied, StayTied, of_the_want};
 ghost use Rattle.vfs_gates.specs.Runs.{outcome_of, Goes, Went};
 
@@ -41,8 +41,8 @@ fn go_on_at(
     ensures table { seat.new.table_id ≡ seat.old.table_id }
     ensures slots { seat.new.me.1 ≡ seat.old.me.1 }
     ensures tied { StayTied gates.now.config None (phase_after (of_the_want next)) accesses.old seat.old.me.0 (phase_after (of_the_want result)) accesses.new seat.new.me.0 }
-    ensures went { (op : OpType) (start : Standing) → Went op start (of_the_want next) (standing seat.old.table_id gates.now.config None (phase_after (of_the_want next)) seat.old.me.0) →
-        Went op start (of_the_want result) (standing seat.new.table_id gates.now.config None (phase_after (of_the_want result)) seat.new.me.0) }
+    ensures went { (op : OpType) (start : TaskState) → Went op start (of_the_want next) (task_state seat.old.table_id gates.now.config None (phase_after (of_the_want next)) seat.old.me.0) →
+        Went op start (of_the_want result) (task_state seat.new.table_id gates.now.config None (phase_after (of_the_want result)) seat.new.me.0) }
 {
     let Next::Go(want) = next else {
         return next;
@@ -68,8 +68,8 @@ fn want_in_line(
     ensures table { seat.new.table_id ≡ seat.old.table_id }
     ensures slots { seat.new.me.1 ≡ seat.old.me.1 }
     ensures tied { StayTied gates.now.config begins (Some (Mounts (Wants want))) accesses.old seat.old.me.0 (phase_after (of_the_want result)) accesses.new seat.new.me.0 }
-    ensures went { (op : OpType) (start : Standing) → Goes op start (standing seat.old.table_id gates.now.config begins (Some (Mounts (Wants want))) seat.old.me.0) →
-        Went op start (of_the_want result) (standing seat.new.table_id gates.now.config None (phase_after (of_the_want result)) seat.new.me.0) }
+    ensures went { (op : OpType) (start : TaskState) → Goes op start (task_state seat.old.table_id gates.now.config begins (Some (Mounts (Wants want))) seat.old.me.0) →
+        Went op start (of_the_want result) (task_state seat.new.table_id gates.now.config None (phase_after (of_the_want result)) seat.new.me.0) }
 {
     let next = go_on(gates, seat, accesses, begins, want);
     let next = go_on_at(gates, seat, accesses, next, WantStep::LoadsHold);
@@ -81,7 +81,7 @@ fn want_in_line(
 impl Task {
     ghost use Rattle.gate_world.specs.declared.operations.Op.TheVariants.{Want as WantOp, DropMount, ChangeMount};
     ghost use Rattle.gate_core.specs.Answers.{unless_refused};
-    ghost use Rattle.vfs_gates.specs.Standing.{IsFrom, refusal_at};
+    ghost use Rattle.vfs_gates.specs.TaskStates.{IsFrom, refusal_at};
     ghost use Rattle.vfs_gates.specs.Runs.{Called, IsTrying, Performs};
 
     /// Why the operation can't begin.
@@ -99,7 +99,7 @@ impl Task {
     fn finish(&mut self, gates: &Gates) -> Result<(), GateError>
         requires from { IsFrom self.old gates.now }
         requires trying { IsTrying self.old }
-        ensures { (op : OpType) (start : Standing) → Goes op start self.old → Called op start self.new result }
+        ensures { (op : OpType) (start : TaskState) → Goes op start self.old → Called op start self.new result }
     {
         loop {
             let step = self.step(gates, Ok(()));

@@ -12,7 +12,7 @@ use gate_steps::{give, take_back};
 use std::alloc::Global;
 
 impl Task {
-    ghost use Rattle.vfs_gates.specs.Standing.{IsFrom, IsIdle, HoldsNothing};
+    ghost use Rattle.vfs_gates.specs.TaskStates.{IsFrom, IsIdle, HoldsNothing};
     ghost use Rattle.vfs_gates.specs.Parts.{SplitOf, SplitRefused};
 
     /// A task with the lowest number that this one has to give. The new one is idle, holds nothing, and has no number to give. Order

@@ -1,7 +1,7 @@
 //! Room for snapshots.
 
 ghost use Rattle.std.specs.Prelude.{IfOk};
-ghost use Rattle.vfs_gates.specs.Room.{HasRoom};
+ghost use Rattle.vfs_gates.specs.Room.{HasSnapshotRoom};
 
 use std::alloc::{AllocError, Global};
 
@@ -16,7 +16,7 @@ pub struct Rooms {
 impl Rooms {
     /// Room for two snapshots of so many nodes, at 2 words a node and 1 more.
     pub fn new(alloc: Global, nodes: u8) -> Result<Rooms, AllocError>
-        ensures { IfOk result (HasRoom nodes) }
+        ensures { IfOk result (HasSnapshotRoom nodes) }
     {
         let words = 2 * nodes as usize + 1;
         Ok(Rooms {

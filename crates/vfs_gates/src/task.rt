@@ -4,7 +4,7 @@ ghost use Rattle.std.specs.Prelude.{◌≡◌, ◌≤◌, ◌<◌, ◌↔◌, Is
 ghost use Rattle.gate_world.specs.Configs.{IsWithin};
 ghost use Rattle.gate_world.specs.declared.work.Phase.{Phase as PhaseType};
 ghost use Rattle.gate_core.specs.Seats.{idle_seat};
-ghost use Rattle.vfs_gates.specs.Standing.{IsNothing};
+ghost use Rattle.vfs_gates.specs.TaskStates.{IsNothing};
 ghost use Rattle.gate_steps.specs.Rules.{first_items};
 
 use crate::gates::Gates;
@@ -39,23 +39,23 @@ pub struct Task {
 
 impl Model for Task {
     ghost use Rattle.std.specs.Prelude.{◌≡◌, []};
-    ghost use Rattle.vfs_gates.specs.Standing.{Standing, standing};
-    ghost use Rattle.vfs_gates.specs.Room.{HasRoom};
+    ghost use Rattle.vfs_gates.specs.TaskStates.{TaskState, task_state};
+    ghost use Rattle.vfs_gates.specs.Room.{HasSnapshotRoom};
     ghost use Rattle.vfs_gates.specs.Ties.{Ties};
 
-    ghost Value = { Standing };
+    ghost Value = { TaskState };
 
-    ghost view = { λ t. standing t.seat.table_id t.config t.begins t.kept.phase t.seat.me.0 };
+    ghost view = { λ t. task_state t.seat.table_id t.config t.begins t.kept.phase t.seat.me.0 };
 
-    ghost invariant = { λ t. Ties t.number t.config t.begins t.kept t.spare t.seat.me.0 × (t.seat.me.1 ≡ []) × HasRoom t.config.nodes t.rooms };
+    ghost invariant = { λ t. Ties t.number t.config t.begins t.kept t.spare t.seat.me.0 × (t.seat.me.1 ≡ []) × HasSnapshotRoom t.config.nodes t.rooms };
 }
 
 impl Task {
-    ghost use Rattle.vfs_gates.specs.Room.{HasRoom};
+    ghost use Rattle.vfs_gates.specs.Room.{HasSnapshotRoom};
     ghost use Rattle.gate_core.specs.Answers.{idle_step, unless_refused};
-    ghost use Rattle.gate_world.specs.Worlds.{first_phase as the_first_phase};
+    ghost use Rattle.gate_world.specs.Beginnings.{first_phase as the_first_phase};
     ghost use Rattle.gate_world.specs.Views.{held_at, holds_level as has_level};
-    ghost use Rattle.vfs_gates.specs.Standing.{standing, IsFrom, own_number, own_view, refusal_at, IsIdle, HoldsNothing};
+    ghost use Rattle.vfs_gates.specs.TaskStates.{task_state, IsFrom, own_number, own_view, refusal_at, IsIdle, HoldsNothing};
     ghost use Rattle.vfs_gates.specs.Stepped.{Stepped};
     ghost use Rattle.vfs_gates.specs.Ended.{HasAll};
     ghost use Rattle.vfs_gates.specs.Ties.{AllRest};
@@ -63,8 +63,8 @@ impl Task {
     pub(crate) fn first(config: Config, seat: Seat, rooms: Rooms) -> Task
         requires within { IsWithin config }
         requires seat { seat.me ≡ (first_items config, []) }
-        requires room { HasRoom config.nodes rooms }
-        ensures { result ≡ standing seat.table_id config None None (first_items config) }
+        requires room { HasSnapshotRoom config.nodes rooms }
+        ensures { result ≡ task_state seat.table_id config None None (first_items config) }
     {
         Task {
             number: 0,

@@ -1,6 +1,6 @@
 //! Tasks in threads, the worked sequence, and refusals.
 
-ghost use Rattle.vfs_gates.specs.Standing.{IsFrom};
+ghost use Rattle.vfs_gates.specs.TaskStates.{IsFrom};
 
 mod same_events;
 

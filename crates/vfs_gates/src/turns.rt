@@ -4,11 +4,11 @@
 ghost use Rattle.std.specs.Prelude.{◌≡◌, Some, None};
 ghost use Rattle.gate_world.specs.Views.{phase_after};
 ghost use Rattle.gate_world.specs.Work.{at_phases};
-ghost use Rattle.vfs_gates.specs.Standing.{standing};
+ghost use Rattle.vfs_gates.specs.TaskStates.{task_state};
 ghost use Rattle.vfs_gates.specs.Stepped.{Stepped};
 ghost use Rattle.vfs_gates.specs.Turns.{IsTied, StayTied, step_was};
 ghost use Rattle.vfs_gates.specs.Runs.{Goes, Went};
-ghost use Rattle.vfs_gates.specs.Standing.{Standing};
+ghost use Rattle.vfs_gates.specs.TaskStates.{TaskState};
 ghost use Rattle.gate_world.specs.declared.operations.Op.{Op as OpType};
 
 use crate::gates::Gates;
@@ -37,13 +37,13 @@ pub(crate) fn do_event<P: UnderWay>(
     hook: Result<(), u16>,
 ) -> Turn<P>
     requires table { seat.old.table_id ≡ gates.now.table.shared.table_id }
-    requires tied { IsTied gates.now.config begins (Some (P.stands under_way)) accesses.old seat.old.me.0 }
+    requires tied { IsTied gates.now.config begins (Some (P.as_phase under_way)) accesses.old seat.old.me.0 }
     ensures table { seat.new.table_id ≡ seat.old.table_id }
     ensures slots { seat.new.me.1 ≡ seat.old.me.1 }
-    ensures tied { StayTied gates.now.config begins (Some (P.stands under_way)) accesses.old seat.old.me.0 (phase_after (at_phases P.stands result.next)) accesses.new seat.new.me.0 }
-    ensures stepped { Stepped (P.stands under_way) hook (standing seat.old.table_id gates.now.config begins (Some (P.stands under_way)) seat.old.me.0)
-        (step_was result.event result.action (at_phases P.stands result.next))
-        (standing seat.new.table_id gates.now.config None (phase_after (at_phases P.stands result.next)) seat.new.me.0) }
+    ensures tied { StayTied gates.now.config begins (Some (P.as_phase under_way)) accesses.old seat.old.me.0 (phase_after (at_phases P.as_phase result.next)) accesses.new seat.new.me.0 }
+    ensures stepped { Stepped (P.as_phase under_way) hook (task_state seat.old.table_id gates.now.config begins (Some (P.as_phase under_way)) seat.old.me.0)
+        (step_was result.event result.action (at_phases P.as_phase result.next))
+        (task_state seat.new.table_id gates.now.config None (phase_after (at_phases P.as_phase result.next)) seat.new.me.0) }
 {
     let phase = under_way.phase();
     let (word, touch) = phase.next(hook);
@@ -68,12 +68,12 @@ pub(crate) fn go_on<P: UnderWay>(
     under_way: P,
 ) -> Next<P>
     requires table { seat.old.table_id ≡ gates.now.table.shared.table_id }
-    requires tied { IsTied gates.now.config begins (Some (P.stands under_way)) accesses.old seat.old.me.0 }
+    requires tied { IsTied gates.now.config begins (Some (P.as_phase under_way)) accesses.old seat.old.me.0 }
     ensures table { seat.new.table_id ≡ seat.old.table_id }
     ensures slots { seat.new.me.1 ≡ seat.old.me.1 }
-    ensures tied { StayTied gates.now.config begins (Some (P.stands under_way)) accesses.old seat.old.me.0 (phase_after (at_phases P.stands result)) accesses.new seat.new.me.0 }
-    ensures went { (op : OpType) (start : Standing) → Goes op start (standing seat.old.table_id gates.now.config begins (Some (P.stands under_way)) seat.old.me.0) →
-        Went op start (at_phases P.stands result) (standing seat.new.table_id gates.now.config None (phase_after (at_phases P.stands result)) seat.new.me.0) }
+    ensures tied { StayTied gates.now.config begins (Some (P.as_phase under_way)) accesses.old seat.old.me.0 (phase_after (at_phases P.as_phase result)) accesses.new seat.new.me.0 }
+    ensures went { (op : OpType) (start : TaskState) → Goes op start (task_state seat.old.table_id gates.now.config begins (Some (P.as_phase under_way)) seat.old.me.0) →
+        Went op start (at_phases P.as_phase result) (task_state seat.new.table_id gates.now.config None (phase_after (at_phases P.as_phase result)) seat.new.me.0) }
 {
     let Turn {
         event: _,

@@ -21,7 +21,7 @@ fn pause(backoff: &Backoff, progress: Progress) {
 
 impl Task {
     ghost use Rattle.gate_world.specs.declared.operations.Op.TheVariants.{Want, ChangeMount};
-    ghost use Rattle.vfs_gates.specs.Standing.{IsFrom};
+    ghost use Rattle.vfs_gates.specs.TaskStates.{IsFrom};
     ghost use Rattle.vfs_gates.specs.Runs.{Performs};
 
     /// Begins an operation, and does its events until it replies, however long it has to wait.

@@ -2,14 +2,14 @@
 use Rattle.access_model.specs.declared.errors.GateError.TheVariants.{Again, ReadOnly}
 use Rattle.access_model.specs.declared.errors.GateError.{GateError}
 use Rattle.cpu_words.specs.Hooks.{HookAnswer}
-use Rattle.finite_sums.proofs.Totals.{changed_at, changed_off}
+use Rattle.finite_sums.proofs.Totals.{update_at, update_off}
 use Rattle.gate_frames.proofs.Frames.{role_on}
 use Rattle.gate_frames.proofs.Loads.{fits_now}
 use Rattle.gate_world.specs.Causes.{all_counted, asks, was_read_only}
-use Rattle.gate_world.specs.Rules.{Good, Owner, Superblock, AtMount, role_of}
+use Rattle.gate_world.specs.Rules.{IsGood, Owner, Superblock, AtMount, role_of}
 use Rattle.gate_world.specs.Views.{held_at, view_after, phase_after}
 use Rattle.gate_world.specs.Work.{after_of}
-use Rattle.gate_world.specs.Worlds.{World, found_at, stepped}
+use Rattle.gate_world.specs.Worlds.{World, found_at, after_step}
 use Rattle.gate_world.specs.declared.config.Config.{Config}
 use Rattle.gate_world.specs.declared.views.View.{View}
 use Rattle.gate_world.specs.declared.work.Phase.TheVariants.{Mounts}
@@ -28,43 +28,43 @@ use Rattle.cause_laws.proofs.Moments.{one_counted, or_true, question_skips, ques
 use Rattle.gate_world.specs.KeptCauses.{WantCause, CauseOf}
 use Rattle.want_laws.proofs.WantLoads.{want}
 
-module _ (c : Config) (w : World) (good : Good c w) (t : ℕ) (lt : t < c.tasks) (hook : HookAnswer) (m : ℕ) where
-  abbrev Quiet : MountPhase → Type 0
-  Quiet phase = (w.views t).phase ≡ Some (Mounts phase) → all_counted c m w ≡ 0 → all_counted c m (stepped w t (Mounts phase) hook) ≡ 0 →
-      (stepped w t (Mounts phase) hook).words.count m ≡ w.words.count m
+module _ (c : Config) (w : World) (good : IsGood c w) (t : ℕ) (lt : t < c.tasks) (hook : HookAnswer) (m : ℕ) where
+  abbrev IsQuiet : MountPhase → Type 0
+  IsQuiet phase = (w.views t).phase ≡ Some (Mounts phase) → all_counted c m w ≡ 0 → all_counted c m (after_step w t (Mounts phase) hook) ≡ 0 →
+      (after_step w t (Mounts phase) hook).words.count m ≡ w.words.count m
 
-  quiet_add : (n p : ℕ) (wait : Bool) → Quiet (want n p wait CountsUp)
+  quiet_add : (n p : ℕ) (wait : Bool) → IsQuiet (want n p wait CountsUp)
   quiet_add n p wait e before after =
       elim (eqb_tells m n) [
         | inl h ↦
-            let next : World = stepped w t (Mounts (want n p wait CountsUp)) hook in
+            let next : World = after_step w t (Mounts (want n p wait CountsUp)) hook in
             let v : View = view_after (w.views t) (Mounts (want n p wait CountsUp)) (w.words.count n p) hook in
-            let is : next.views t ≡ v = changed_at w.views t v in
+            let is : next.views t ≡ v = update_at w.views t v in
             let r : role_of m v.phase ≡ Asking p = ap (λ y. role_of y v.phase) h.1 ∙ role_on n (Asking p) in
             let s : sought (role_of m (next.views t).phase) ≡ 1 = ap (λ (u : View). sought (role_of m u.phase)) is ∙ ap sought r in
             absurd (omega (arith, after, s, one_counted c m t next lt))
-        | inr h ↦ changed_off w.words.count n _ m h.1
+        | inr h ↦ update_off w.words.count n _ m h.1
       ]
 
-  quiet_back : (n p : ℕ) (wait : Bool) (refusal : GateError) → Quiet (want n p wait (CountsDown refusal))
+  quiet_back : (n p : ℕ) (wait : Bool) (refusal : GateError) → IsQuiet (want n p wait (CountsDown refusal))
   quiet_back n p wait refusal e before after =
       elim (eqb_tells m n) [
         | inl h ↦
             let r : role_of m (w.views t).phase ≡ BackingOff p = ap (λ y. role_of y (w.views t).phase) h.1 ∙ (ap (role_of n) e ∙ role_on n (BackingOff p)) in
             absurd (omega (arith, before, ap sought r, one_counted c m t w lt))
-        | inr h ↦ changed_off w.words.count n _ m h.1
+        | inr h ↦ update_off w.words.count n _ m h.1
       ]
 
-  pub quiet_drop : (n p : ℕ) → Quiet (Drops n p)
+  pub quiet_drop : (n p : ℕ) → IsQuiet (Drops n p)
   quiet_drop n p e before after =
       elim (eqb_tells m n) [
         | inl h ↦
             let f : (n < c.mounts) × (p < c.processors) × (0 < held_at (w.views t) n) = fits_now c w good t lt (Drops n p) e in
             absurd (omega (arith, before, f.2, ap (held_at (w.views t)) h.1, one_counted c m t w lt))
-        | inr h ↦ changed_off w.words.count n _ m h.1
+        | inr h ↦ update_off w.words.count n _ m h.1
       ]
 
-  pub quiet_want : (n p : ℕ) (wait : Bool) (s : WantStep) → Quiet (want n p wait s)
+  pub quiet_want : (n p : ℕ) (wait : Bool) (s : WantStep) → IsQuiet (want n p wait s)
   quiet_want n p wait CountsUp e before after = quiet_add n p wait e before after
   quiet_want n p wait LoadsHold e before after = refl
   quiet_want n p wait LoadsRemount e before after = refl
@@ -73,7 +73,7 @@ module _ (c : Config) (w : World) (good : Good c w) (t : ℕ) (lt : t < c.tasks)
   quiet_want n p wait (CountsDown refusal) e before after = quiet_back n p wait refusal e before after
 
 -- a task whose view another entry leaves alone
-module _ (c : Config) (t : ℕ) (w next : World) (earlier : List World) (good : Good c next) where
+module _ (c : Config) (t : ℕ) (w next : World) (earlier : List World) (good : IsGood c next) where
   pub want_kept : (m p : ℕ) (wait : Bool) (s : WantStep) → (next.views t).phase ≡ Some (Mounts (want m p wait s)) → WantCause c t w earlier m s → WantCause c t next (w ∷ earlier) m s
   want_kept m p wait CountsUp e h = tt
   want_kept m p wait LoadsHold e h = tt
@@ -83,7 +83,7 @@ module _ (c : Config) (t : ℕ) (w next : World) (earlier : List World) (good : 
   want_kept m p wait (CountsDown refusal) e h = λ r. ap (was_read_only c m) (question_skips t next (w ∷ earlier) (ap asks e)) ∙ h r
 
 -- the task that steps: what its next phase says, in the world after the event
-module _ (c : Config) (t : ℕ) (lt : t < c.tasks) (w next : World) (earlier : List World) (good : Good c w) (after : Good c next) (hook : HookAnswer) where
+module _ (c : Config) (t : ℕ) (lt : t < c.tasks) (w next : World) (earlier : List World) (good : IsGood c w) (after : IsGood c next) (hook : HookAnswer) where
   asked : (m p : ℕ) (wait : Bool) (s : WantStep) → (w.views t).phase ≡ Some (Mounts (want m p wait s)) → asks (Some (Mounts (want m p wait s))) ≡ true →
       (next.views t).phase ≡ Some (Mounts (want m p wait (CountsDown ReadOnly))) → was_read_only c m (Some w) ≡ true → WantCause c t next (w ∷ earlier) m (CountsDown ReadOnly)
   asked m p wait s e a e' h = λ r. ap (was_read_only c m) (question_skips t next (w ∷ earlier) (ap asks e') ∙ question_stands t w earlier (ap asks e ∙ a)) ∙ h

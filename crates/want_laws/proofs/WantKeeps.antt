@@ -14,7 +14,7 @@ use Rattle.gate_frames.proofs.Loads.{role_none}
 use Rattle.gate_world.specs.declared.operations.Op.TheVariants.{Want as WantOp, DropMount}
 use Rattle.trace_laws.proofs.Says.{tells, is_short}
 use Rattle.gate_world.specs.KeptCauses.{WantCause}
-use Rattle.gate_world.specs.Worlds.{stepped}
+use Rattle.gate_world.specs.Worlds.{after_step}
 use Rattle.want_laws.proofs.Wants.{want_keeps, drop_keeps}
 use Rattle.want_laws.proofs.WantFits.{want_there, want_acts, want_goes}
 use Rattle.want_laws.proofs.WantCauses.{quiet_want, quiet_drop, want_kept, want_own}
@@ -38,7 +38,7 @@ want_phase c x = record {
   stays = λ w next earlier after t f e was quiet h. want_kept c t w next earlier after x.mount x.cpu x.wait x.step e h;
   causes = λ w earlier good t lt hook e after is h.
       let f : Fits c t (held_at (w.views t)) (holds_level (w.views t)) (Some (Mounts (Wants x))) = subst (Fits c t (held_at (w.views t)) (holds_level (w.views t))) e (good Fitting t lt) in
-      want_own c t lt w (stepped w t (Mounts (Wants x)) hook) earlier good after hook x.mount x.cpu x.wait x.step f.0 e is;
+      want_own c t lt w (after_step w t (Mounts (Wants x)) hook) earlier good after hook x.mount x.cpu x.wait x.step f.0 e is;
   tells = λ t w earlier h e. let k : WantCause c t w earlier x.mount (CountsDown ReadOnly) = subst (WantCause c t w earlier x.mount) e h in k refl;
 }
 

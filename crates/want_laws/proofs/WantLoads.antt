@@ -3,8 +3,8 @@ use Rattle.std.proofs.Common.{◌≡◌, ℕ, ◌+◌, ◌<◌, ◌≤◌, Bool,
 use Rattle.std.specs.Prelude.{◌⊎◌, Option, Some, None, Ok}
 use Rattle.std.proofs.lemmas.Bool.{ne_eqb, cases_Bool}
 use Rattle.std.proofs.lemmas.Bool.Decides.{eqb_tells}
-use Rattle.finite_sums.specs.Sums.{changed}
-use Rattle.finite_sums.proofs.Totals.{changed_at, changed_off, total_at}
+use Rattle.finite_sums.specs.Sums.{update}
+use Rattle.finite_sums.proofs.Totals.{update_at, update_off, total_at}
 use Rattle.access_model.specs.declared.actions.Action.TheVariants.{Grant}
 use Rattle.access_model.specs.declared.actions.Gate.TheVariants.{Mount}
 use Rattle.access_model.specs.declared.errors.GateError.{GateError}
@@ -29,10 +29,11 @@ use Rattle.gate_world.specs.declared.work.Phase.TheVariants.{Mounts}
 use Rattle.gate_world.specs.declared.views.View.{View}
 use Rattle.gate_world.specs.Views.{held_at, holds_level, phase_after, view_with}
 use Rattle.gate_world.specs.Fits.{Fits}
-use Rattle.gate_world.specs.Worlds.{World, shown, closing}
-use Rattle.gate_world.specs.Rules.{want_role, role_of, at_mount, owns, remounts, Steady, Good, GateStepKeeps, AtMount, GatesHold}
+use Rattle.gate_world.specs.Worlds.{World}
+use Rattle.gate_world.specs.Shown.{shown, closing}
+use Rattle.gate_world.specs.Rules.{want_role, role_of, at_mount, owns, remounts, IsSteady, IsGood, GateStepKeeps, AtMount, GatesHold}
 use Rattle.gate_frames.proofs.Frames.{role_on, role_off, view_as, holds_as, owner_same, gates_after, shown_as}
-use Rattle.gate_frames.proofs.Loads.{Counts, counts, as_owner, loaded, load_law, fits_now}
+use Rattle.gate_frames.proofs.Loads.{Counts, counts, as_owner, after_load, load_law, fits_now}
 
 abbrev pub want : ℕ → ℕ → Bool → WantStep → MountPhase
 want m p wait step = Wants (record { mount = m; cpu = p; wait = wait; step = step })
@@ -44,7 +45,7 @@ want_here m p wait s e = ap (role_of m) e ∙ role_on m (want_role p s)
 pub want_off : {q : Option Phase} (m p : ℕ) (wait : Bool) (s : WantStep) → q ≡ Some (Mounts (want m p wait s)) → (y : ℕ) → (y ≡ m → ⊥) → role_of y q ≡ Out
 want_off m p wait s e y ne = ap (role_of y) e ∙ role_off y m (want_role p s) ne
 
-module _ (c : Config) (w : World) (good : Good c w) (t : ℕ) (lt : t < c.tasks) (m p : ℕ) (wait : Bool) (hook : HookAnswer) where
+module _ (c : Config) (w : World) (good : IsGood c w) (t : ℕ) (lt : t < c.tasks) (m p : ℕ) (wait : Bool) (hook : HookAnswer) where
   -- the mount's predicate, of this task
   abbrev here : m < c.mounts → MountHolds c.tasks c.processors (w.words.flags m) w.words.remount w.words.sb (w.words.count m) (λ x. at_mount m (w.views x))
   here lm = good (AtMount m) lm
@@ -57,14 +58,14 @@ module _ (c : Config) (w : World) (good : Good c w) (t : ℕ) (lt : t < c.tasks)
       passed_hold (want_role p s') ≤ 1 →
       (ro_bit (w.words.flags m) ≡ 1 → past_flags (want_role p s') ≤ past_flags (want_role p s)) →
       (w.words.remount ≡ 1 → past_remount (want_role p s') ≤ past_remount (want_role p s)) →
-      GatesHold c (loaded w t name hook coming) × (shown c (loaded w t name hook coming) ≡ shown c w)
+      GatesHold c (after_load w t name hook coming) × (shown c (after_load w t name hook coming) ≡ shown c w)
   want_load name s s' coming e ec s1 s2 st st' sk sums one flag re =
       let f : (m < c.mounts) × (p < c.processors) × (held_at (w.views t) m < 1024) = fits_now c w good t lt (want m p wait s) e in
       let n : Counts (role_of m (w.views t).phase) (want_role p s) = counts (want_here m p wait s e) in
       load_law c w good t lt m name hook coming (λ y ne. want_off m p wait s' ec y ne ∙ sym (want_off m p wait s e y ne))
       (as_owner (want m p wait s) e (ap owns ec) (ap remounts ec) (λ i. ap (closing i) ec))
       (subst (Fits c t (held_at (w.views t)) (holds_level (w.views t))) (sym ec) f)
-      (λ lm. holds_as refl refl refl refl (ap (changed (λ x. at_mount m (w.views x)) t) (view_as refl refl refl (want_here m p wait s' ec)))
+      (λ lm. holds_as refl refl refl refl (ap (update (λ x. at_mount m (w.views x)) t) (view_as refl refl refl (want_here m p wait s' ec)))
       (moves c.tasks c.processors (w.words.flags m) w.words.remount w.words.sb (w.words.count m) (λ x. at_mount m (w.views x)) (here lm) t lt (want_role p s') (held_at (w.views t) m)
       (omega (arith, n.sought_is)) (omega (arith, f.2, one)) st' sk (omega (arith, n.stands_is))
       (elim sums [ inl z ↦ inl z | inr q ↦ inr (omega (arith, q, n.passed_is), λ k. (omega (arith, q.1 k, n.passed_is, n.unread_is k), omega (arith, q.1 k, n.unread_is k))) ])
@@ -76,7 +77,7 @@ module _ (c : Config) (w : World) (good : Good c w) (t : ℕ) (lt : t < c.tasks)
       sought (want_role p s) ≡ 1 → stands (want_role p s) ≡ 0 →
       ((k : ℕ) → (unread k (BackingOff p) ≤ passed_hold (want_role p s) + unread k (want_role p s)) × (unread k (want_role p s) ≤ unread k (BackingOff p))) →
       let coming : Next Phase = Go (Mounts (want m p wait (CountsDown refusal))) in
-      GatesHold c (loaded w t name hook coming) × (shown c (loaded w t name hook coming) ≡ shown c w)
+      GatesHold c (after_load w t name hook coming) × (shown c (after_load w t name hook coming) ≡ shown c w)
   want_refused name s refusal e so st sums =
       want_load name s (CountsDown refusal) (Go (Mounts (want m p wait (CountsDown refusal)))) e refl so refl st refl refl
       (inr (omega arith, λ k. (omega (arith, sums k), omega (arith, sums k)))) (omega arith) (λ e1. omega arith) (λ e1. omega arith)
@@ -97,7 +98,7 @@ module _ (c : Config) (w : World) (good : Good c w) (t : ℕ) (lt : t < c.tasks)
       ]
 
 -- a want finds HOLD set: it waits, or backs off
-module _ (c : Config) (w : World) (good : Good c w) (t : ℕ) (lt : t < c.tasks) (m p : ℕ) (hook : HookAnswer) where
+module _ (c : Config) (w : World) (good : IsGood c w) (t : ℕ) (lt : t < c.tasks) (m p : ℕ) (hook : HookAnswer) where
   pub loads_hold : (wait : Bool) → (w.views t).phase ≡ Some (Mounts (want m p wait LoadsHold)) → GateStepKeeps c w t hook (Mounts (want m p wait LoadsHold))
   loads_hold true e =
       let f : (m < c.mounts) × (p < c.processors) × (held_at (w.views t) m < 1024) = fits_now c w good t lt (want m p true LoadsHold) e in
@@ -112,7 +113,7 @@ module _ (c : Config) (w : World) (good : Good c w) (t : ℕ) (lt : t < c.tasks)
         | inr h ↦ rw h (want_load c w good t lt m p false hook (MountFlags m) LoadsHold LoadsRemount (Go (Mounts (want m p false LoadsRemount))) e refl refl refl refl refl refl (inl (hold_clear (w.words.flags m) (good (AtMount m) f.0).bits h)) (omega arith) (λ e1. omega arith) (λ e1. omega arith))
       ]
 
-module _ (c : Config) (w : World) (good : Good c w) (t : ℕ) (lt : t < c.tasks) (m p : ℕ) (wait : Bool) (hook : HookAnswer) where
+module _ (c : Config) (w : World) (good : IsGood c w) (t : ℕ) (lt : t < c.tasks) (m p : ℕ) (wait : Bool) (hook : HookAnswer) where
   -- nothing read-only stands where a task has passed its three loads
   not_read_only : (w.views t).phase ≡ Some (Mounts (want m p wait LoadsSuperblock)) → w.words.sb ≡ 0 → m < c.mounts →
       ((shown c w).mount_ro m ≡ false) × ((shown c w).sb_ro ≡ false)
@@ -132,13 +133,13 @@ module _ (c : Config) (w : World) (good : Good c w) (t : ℕ) (lt : t < c.tasks)
         | inl h ↦
             let v : View = view_with (w.views t) (SbFlags, Load) w.words.sb hook (Done (Ok UnitReply), Some (Grant (Mount m))) in
             let n : Counts (role_of m (w.views t).phase) (PastFlags p) = counts (want_here m p wait LoadsSuperblock e) in
-            let same : Steady (w.views t).phase None = as_owner (want m p wait LoadsSuperblock) e refl refl (λ i. refl) in
+            let same : IsSteady (w.views t).phase None = as_owner (want m p wait LoadsSuperblock) e refl refl (λ i. refl) in
             let r : ((shown c w).mount_ro m ≡ false) × ((shown c w).sb_ro ≡ false) = not_read_only e h.1 f.0 in
-            let there : GatesHold c (record { words = w.words; views = changed w.views t v }) =
+            let there : GatesHold c (record { words = w.words; views = update w.views t v }) =
             gates_after c w t lt good m w.words v refl refl
             (owner_same c w t lt good v same) tt
-            (λ y ne. (refl, refl, view_as (changed_off (held_at (w.views t)) m (held_at (w.views t) m + 1) y ne) refl refl (sym (want_off m p wait LoadsSuperblock e y ne))))
-            (λ lm. holds_as refl refl refl refl (ap (changed (λ x. at_mount m (w.views x)) t) (view_as (changed_at (held_at (w.views t)) m (held_at (w.views t) m + 1)) refl refl refl))
+            (λ y ne. (refl, refl, view_as (update_off (held_at (w.views t)) m (held_at (w.views t) m + 1) y ne) refl refl (sym (want_off m p wait LoadsSuperblock e y ne))))
+            (λ lm. holds_as refl refl refl refl (ap (update (λ x. at_mount m (w.views x)) t) (view_as (update_at (held_at (w.views t)) m (held_at (w.views t) m + 1)) refl refl refl))
             (moves c.tasks c.processors (w.words.flags m) w.words.remount w.words.sb (w.words.count m) (λ x. at_mount m (w.views x)) (good (AtMount m) lm) t lt Out (held_at (w.views t) m + 1)
             (omega (arith, n.sought_is)) (omega (arith, f.2)) refl refl (omega (arith, n.stands_is))
             (inr (omega (arith, n.passed_is), λ k. (omega (arith, n.passed_is, n.unread_is k), omega (arith, n.unread_is k))))

@@ -17,7 +17,7 @@ use Rattle.gate_world.specs.declared.operations.Op.TheVariants.{Want, DropMount}
 use Rattle.gate_world.specs.declared.work.Phase.{Phase}
 use Rattle.gate_world.specs.declared.work.Phase.TheVariants.{Mounts}
 use Rattle.gate_world.specs.declared.views.Traced.{Traced}
-use Rattle.gate_world.specs.Views.{traced}
+use Rattle.gate_world.specs.Views.{with_hook}
 use Rattle.gate_world.specs.Traces.{IsHonest, most_events, IsShort}
 use Rattle.trace_laws.proofs.Says.{SaysAfter, Kept, event_at}
 
@@ -34,13 +34,13 @@ events_before LoadsSuperblock = 4
 events_before (CountsDown refusal) = 5
 
 -- a want that takes its count back has the cause of its refusal in its trace
-abbrev HasCause : Config → ℕ → ℕ → Bool → WantStep → List Traced → Type 0
-HasCause c m p wait (CountsDown refusal) trace = IsHonest c (Want m p wait) refusal trace
-HasCause c m p wait step trace = Unit {0}
+abbrev RefusalFound : Config → ℕ → ℕ → Bool → WantStep → List Traced → Type 0
+RefusalFound c m p wait (CountsDown refusal) trace = IsHonest c (Want m p wait) refusal trace
+RefusalFound c m p wait step trace = Unit {0}
 
 -- what a trace says at a step: nothing is added yet
 abbrev WantSays : Config → ℕ → ℕ → Bool → WantStep → List Traced → List Action → Type 0
-WantSays c m p wait step trace added = (added ≡ []) × (wait ≡ false → length trace ≤ events_before step) × HasCause c m p wait step trace
+WantSays c m p wait step trace added = (added ≡ []) × (wait ≡ false → length trace ≤ events_before step) × RefusalFound c m p wait step trace
 
 -- what a want's trace says at a phase
 abbrev pub WantAt : Config → ℕ → ℕ → Bool → List Traced → Phase → List Action → Type 0
@@ -58,7 +58,7 @@ want_short c m p false trace h = h refl
 
 -- the last event of a refused want leaves its cause
 cause_stays : (c : Config) (m p : ℕ) (wait : Bool) (refusal : GateError) (value : ℕ) (hook : HookAnswer) (earlier : List Traced) →
-    IsHonest c (Want m p wait) refusal earlier → IsHonest c (Want m p wait) refusal (traced (event_at (want m p wait (CountsDown refusal)) value hook) hook ∷ earlier)
+    IsHonest c (Want m p wait) refusal earlier → IsHonest c (Want m p wait) refusal (with_hook (event_at (want m p wait (CountsDown refusal)) value hook) hook ∷ earlier)
 cause_stays c m p wait ReadOnly value hook earlier h = h
 cause_stays c m p wait Again value hook earlier h = h
 cause_stays c m p wait refusal value hook earlier h = h
@@ -98,7 +98,7 @@ module _ (c : Config) (m p : ℕ) (value : ℕ) (hook : HookAnswer) (earlier : L
       ]
   want_event wait (CountsDown refusal) h = (
     (h.0, cause_stays c m p wait refusal value hook earlier h.2),
-    want_short c m p wait (traced (event_at (want m p wait (CountsDown refusal)) value hook) hook ∷ earlier) (λ q. omega (arith, h.1 q)),
+    want_short c m p wait (with_hook (event_at (want m p wait (CountsDown refusal)) value hook) hook ∷ earlier) (λ q. omega (arith, h.1 q)),
   )
 
 -- so it is kept along every trace of a want

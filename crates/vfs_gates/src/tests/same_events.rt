@@ -1,7 +1,7 @@
 //! Tasks on the table do the core's events, step by step, with tasks from splits.
 
 ghost use Rattle.std.specs.Prelude.{◌≡◌, IfOk};
-ghost use Rattle.vfs_gates.specs.Standing.{IsFrom};
+ghost use Rattle.vfs_gates.specs.TaskStates.{IsFrom};
 
 use super::small;
 use crate::{Gates, Task};

@@ -1,4 +1,4 @@
-use Rattle.vfs_gates.specs.Standing.{IsFrom}
+use Rattle.vfs_gates.specs.TaskStates.{IsFrom}
 use Rattle.gate_bench.proofs.at_gates.take_and_give.Given as goal
 
 abbrev pub invariant-loop-round : goal.invariant-loop-round

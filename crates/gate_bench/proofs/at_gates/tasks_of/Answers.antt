@@ -1,6 +1,6 @@
 use Rattle.std.proofs.Common.{◌∙◌}
 use Rattle.std.proofs.lemmas.List.Elements.{All-push}
-use Rattle.vfs_gates.specs.Standing.{IsFrom}
+use Rattle.vfs_gates.specs.TaskStates.{IsFrom}
 use Rattle.gate_bench.proofs.at_gates.tasks_of.Goals as goal
 
 -- src/at_gates.rt:35:5

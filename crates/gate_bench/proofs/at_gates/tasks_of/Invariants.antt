@@ -1,5 +1,5 @@
 use Rattle.std.proofs.Common.{All}
-use Rattle.vfs_gates.specs.Standing.{IsFrom}
+use Rattle.vfs_gates.specs.TaskStates.{IsFrom}
 use Rattle.gate_bench.proofs.at_gates.tasks_of.Given as goal
 
 abbrev pub invariant-loop-number : goal.invariant-loop-number

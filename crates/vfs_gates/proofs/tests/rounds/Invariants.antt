@@ -1,5 +1,5 @@
 use Rattle.std.proofs.Common.{◌≤◌}
-use Rattle.vfs_gates.specs.Standing.{IsFrom}
+use Rattle.vfs_gates.specs.TaskStates.{IsFrom}
 use Rattle.vfs_gates.proofs.tests.rounds.Given as goal
 
 abbrev pub invariant-loop-round : goal.invariant-loop-round

@@ -4,11 +4,11 @@ use Rattle.std.proofs.lemmas.Grind.{common_steps}
 use Rattle.access_model.specs.declared.errors.GateError.{GateError}
 use Rattle.schedule_text.specs.Printing.{refused_line}
 use Rattle.mntgate.specs.Transcript.{begin_text}
-use Rattle.mntgate.proofs.Standing.{begun, begin_is}
+use Rattle.mntgate.proofs.Standing.{after_begin, begin_is}
 use Rattle.mntgate.proofs.session.Session.begin.Goals as goal
 
 pub returns-in-Ok-clause-stands : goal.returns-in-Ok-clause-stands
-returns-in-Ok-clause-stands c p h = begun _ _ p _ _ h refl c.begin.ensures.config refl c.begin.ensures.shows
+returns-in-Ok-clause-stands c p h = after_begin _ _ p _ _ h refl c.begin.ensures.config refl c.begin.ensures.shows
 
 pub returns-in-Err-clause-prints : goal.returns-in-Err-clause-prints
 returns-in-Err-clause-prints c p h =
@@ -17,4 +17,4 @@ returns-in-Err-clause-prints c p h =
     subst (λ (r : Result (Unit {0}) GateError). OnOk c.map_err.result (c.refused_line.new.self.bytes.items ≡ c.args.out.now.bytes.items ++ begin_text c.args.task r)) (sym c.in-Err.is ∙ x) k
 
 pub returns-in-Err-clause-stands : goal.returns-in-Err-clause-stands
-returns-in-Err-clause-stands c p h = begun _ _ p _ _ h refl c.begin.ensures.config refl c.begin.ensures.shows
+returns-in-Err-clause-stands c p h = after_begin _ _ p _ _ h refl c.begin.ensures.config refl c.begin.ensures.shows

@@ -1,6 +1,6 @@
 use Rattle.std.proofs.Common.{◌≡◌, ◌-◌}
 use Rattle.gate_world.specs.declared.operations.Op.{Op}
-use Rattle.vfs_gates.specs.Standing.{Standing}
+use Rattle.vfs_gates.specs.TaskStates.{TaskState}
 use Rattle.vfs_gates.specs.Runs.{Goes, IsTrying}
 use Rattle.vfs_gates.proofs.Running.{steps_of}
 use Rattle.vfs_gates.proofs.task.Task.finish.Given as goal
@@ -10,7 +10,7 @@ invariant-loop-answer l = record {
   table : l.self.table ≡ l.fn.self.table;
   config : l.self.config ≡ l.fn.self.config;
   trying : IsTrying l.self;
-  goes : (op : Op) (start : Standing) → Goes op start l.fn.self → Goes op start l.self;
+  goes : (op : Op) (start : TaskState) → Goes op start l.fn.self → Goes op start l.self;
 }
 
 abbrev pub decreases-loop-answer : goal.decreases-loop-answer

@@ -1,16 +1,16 @@
 use Rattle.std.proofs.Common.{◌≡◌, set, true, length, arith, refl, sym, ap, ◌∙◌, subst, None}
 use Rattle.gate_world.specs.declared.config.Config.{Config}
 use Rattle.gate_steps.specs.Seating.{SeatItems}
-use Rattle.vfs_gates.specs.Standing.{Standing, Empty, own_view}
+use Rattle.vfs_gates.specs.TaskStates.{TaskState, Empty, own_view}
 use Rattle.vfs_gates.specs.Ties.{Ties}
 use Rattle.vfs_gates.proofs.Parting.{join_self, below}
 use Rattle.vfs_gates.proofs.task.Task.join.Goals as goal
 
 pub invariant_of-self : goal.invariant_of-self
 invariant_of-self c = let mine = c.self.inside in let others = c.other.inside in let rest = c.if-not-rests-2.ensures.0 refl in let seen = c.other.view_is in
-    let idle : others.kept.phase ≡ None = ap (λ (s : Standing). s.phase) seen ∙ rest.0 in
-    let same : others.config ≡ mine.config = ap (λ (s : Standing). s.config) seen ∙ (c.requires.that.1 ∙ sym (ap (λ (s : Standing). s.config) c.self.view_is ∙ c.requires.this.1)) in
-    let none : Empty others.config (own_view others.seat.me.0) = subst (λ (s : Standing). Empty s.config (own_view s.items)) (sym seen) rest.1 in
+    let idle : others.kept.phase ≡ None = ap (λ (s : TaskState). s.phase) seen ∙ rest.0 in
+    let same : others.config ≡ mine.config = ap (λ (s : TaskState). s.config) seen ∙ (c.requires.that.1 ∙ sym (ap (λ (s : TaskState). s.config) c.self.view_is ∙ c.requires.this.1)) in
+    let none : Empty others.config (own_view others.seat.me.0) = subst (λ (s : TaskState). Empty s.config (own_view s.items)) (sym seen) rest.1 in
     let small = below others.number others.config others.begins others.kept others.spare others.seat.me.0 c.other.invariant.0 in
     let m = join_self mine.number mine.config mine.begins mine.kept mine.spare others.number others.begins others.kept others.spare c.add_all.new.numbers mine.seat.me.0 others.seat.me.0
     c.self.invariant.0 (subst (λ (k : Config). Ties others.number k others.begins others.kept others.spare others.seat.me.0) same c.other.invariant.0) idle

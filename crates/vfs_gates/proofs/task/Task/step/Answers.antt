@@ -5,7 +5,7 @@ use Rattle.access_model.specs.declared.replies.Next.{Next}
 use Rattle.gate_world.specs.declared.work.Phase.{Phase}
 use Rattle.gate_world.specs.Views.{phase_after}
 use Rattle.gate_core.specs.Answers.{progress_of}
-use Rattle.vfs_gates.specs.Standing.{Standing, standing}
+use Rattle.vfs_gates.specs.TaskStates.{TaskState, task_state}
 use Rattle.vfs_gates.specs.Turns.{kept_at}
 use Rattle.vfs_gates.proofs.Turning.{tied_at, at_itself, stepped_there}
 use Rattle.vfs_gates.proofs.task.Task.step.Goals as goal
@@ -13,13 +13,13 @@ use Rattle.vfs_gates.proofs.task.Task.step.Goals as goal
 pub do_event-action-requires-clause-tied : goal.do_event-action-requires-clause-tied
 do_event-action-requires-clause-tied c =
     let t = c.self.inside in
-    let same : t.config ≡ c.args.gates.now.config = ap (λ (s : Standing). s.config) c.self.view_is ∙ c.requires.1 in
+    let same : t.config ≡ c.args.gates.now.config = ap (λ (s : TaskState). s.config) c.self.view_is ∙ c.requires.1 in
     record { number = t.number; flags = t.spare; ties = tied_at t.number t.begins t.spare t.seat.me.0 t.kept (Some c.in-Some.phase) c.self.invariant.0 same c.in-Some.is }
 
 pub invariant_of-self : goal.invariant_of-self
 invariant_of-self c =
     let t = c.self.inside in
-    let same : t.config ≡ c.args.gates.now.config = ap (λ (s : Standing). s.config) c.self.view_is ∙ c.requires.1 in
+    let same : t.config ≡ c.args.gates.now.config = ap (λ (s : TaskState). s.config) c.self.view_is ∙ c.requires.1 in
     let next : Next Phase = c.do_event-action.result.next in
     let stands = ap (λ (n : Next Phase). phase_after n) (at_itself next) ∙ sym (ap (λ p. p.1) c.of-progress.ensures) in
     let tied = c.do_event-action.ensures.tied t.number t.spare (tied_at t.number t.begins t.spare t.seat.me.0 t.kept (Some c.in-Some.phase) c.self.invariant.0 same c.in-Some.is) in
@@ -28,11 +28,11 @@ invariant_of-self c =
 pub returns-clause-event : goal.returns-clause-event
 returns-clause-event c =
     let t = c.self.inside in
-    let same : t.config ≡ c.args.gates.now.config = ap (λ (s : Standing). s.config) c.self.view_is ∙ c.requires.1 in
+    let same : t.config ≡ c.args.gates.now.config = ap (λ (s : TaskState). s.config) c.self.view_is ∙ c.requires.1 in
     let next : Next Phase = c.do_event-action.result.next in
     let stands = ap (λ (n : Next Phase). phase_after n) (at_itself next) ∙ sym (ap (λ p. p.1) c.of-progress.ensures) in
     let told = ap (λ (n : Next Phase). progress_of n) (at_itself next) ∙ sym (ap (λ p. p.0) c.of-progress.ensures) in
-    let before = (λ i. standing t.seat.table_id (sym same i) t.begins (sym c.in-Some.is i) t.seat.me.0) ∙ c.self.view_is in
+    let before = (λ i. task_state t.seat.table_id (sym same i) t.begins (sym c.in-Some.is i) t.seat.me.0) ∙ c.self.view_is in
     stepped_there c.do_event-action.ensures.stepped before
     (λ i. record { event = Some c.do_event-action.result.event; action = c.do_event-action.result.action; progress = told i })
-    (λ i. standing c.do_event-action.new.seat.table_id (sym same i) None (stands i) c.do_event-action.new.seat.me.0) refl
+    (λ i. task_state c.do_event-action.new.seat.table_id (sym same i) None (stands i) c.do_event-action.new.seat.me.0) refl

@@ -1,4 +1,4 @@
-use Rattle.vfs_gates.specs.Standing.{IsFrom}
+use Rattle.vfs_gates.specs.TaskStates.{IsFrom}
 use Rattle.vfs_gates.proofs.tests.same_events.steps.Given as goal
 
 abbrev pub invariant-loop-round : goal.invariant-loop-round

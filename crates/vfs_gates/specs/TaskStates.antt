@@ -7,25 +7,25 @@ use Rattle.gate_world.specs.declared.operations.Op.{Op}
 use Rattle.gate_world.specs.declared.work.Phase.{Phase}
 use Rattle.gate_world.specs.declared.views.View.{View}
 use Rattle.gate_world.specs.Views.{opening_view, held_at, holds_level}
-use Rattle.gate_world.specs.Worlds.{refusal}
+use Rattle.gate_world.specs.Beginnings.{refusal}
 use Rattle.gate_core.specs.declared.seats.Accesses.{Accesses}
 use Rattle.gate_steps.specs.Seating.{SeatItems}
 use Rattle.vfs_gates.specs.declared.gates.Gates.{Gates}
 
 -- the table, the configuration, the operation that has begun and has had no event, the phase of the operation under way, and the
 -- numbers with their views, its own first
-pub record Standing : Type 0 where
+pub record TaskState : Type 0 where
   pub table : TableId
   pub config : Config
   pub begins : Option Op
   pub phase : Option Phase
   pub items : SeatItems
 
-abbrev pub standing : TableId → Config → Option Op → Option Phase → SeatItems → Standing
-standing t c b p l = record { table = t; config = c; begins = b; phase = p; items = l }
+abbrev pub task_state : TableId → Config → Option Op → Option Phase → SeatItems → TaskState
+task_state t c b p l = record { table = t; config = c; begins = b; phase = p; items = l }
 
 -- the task came from these gates
-abbrev pub IsFrom : Standing → Gates → Type 0
+abbrev pub IsFrom : TaskState → Gates → Type 0
 IsFrom s g = (s.table ≡ g.table.shared.table_id) × (s.config ≡ g.config)
 
 -- its own number, and its view
@@ -43,14 +43,14 @@ spare_of [] = []
 spare_of (x ∷ xs) = xs
 
 -- no operation is under way
-abbrev pub IsIdle : Standing → Type 0
+abbrev pub IsIdle : TaskState → Type 0
 IsIdle s = s.phase ≡ None
 
 -- nothing is held at any mount or level that there is
 abbrev pub Empty : Config → View → Type 0
 Empty c v = ((m : ℕ) → m < c.mounts → held_at v m ≡ 0) × ((i : ℕ) → 1 ≤ i → i ≤ 3 → holds_level v i ≡ false)
 
-abbrev pub HoldsNothing : Standing → Type 0
+abbrev pub HoldsNothing : TaskState → Type 0
 HoldsNothing s = Empty s.config (own_view s.items)
 
 -- no access at so many mounts, nor at a level
@@ -58,5 +58,5 @@ abbrev pub IsNothing : Accesses → ℕ → Type 0
 IsNothing a mounts = ((m : ℕ) → m < mounts → slice_index a.mounts m ≡ 0) × ((i : ℕ) → 1 ≤ i → i ≤ 3 → slice_index_or a.levels i false ≡ false)
 
 -- why the operation can't begin, the first reason in the stated order
-abbrev pub refusal_at : Op → Standing → Option GateError
+abbrev pub refusal_at : Op → TaskState → Option GateError
 refusal_at op s = refusal s.config (is_some s.phase) (held_at (own_view s.items)) (holds_level (own_view s.items)) op

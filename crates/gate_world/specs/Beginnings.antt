@@ -1,0 +1,36 @@
+-- Beginnings: where an operation starts, and why it can't. A beginning has no event.
+use Rattle.std.specs.Prelude.{ℕ, Bool, if◌then◌else◌, Option, Some, None, is_some}
+use Rattle.access_model.specs.declared.errors.GateError.{GateError}
+use Rattle.access_model.specs.declared.errors.GateError.TheVariants.{Invalid, Order, TooMany}
+use Rattle.gate_world.specs.declared.config.Config.{Config}
+use Rattle.gate_world.specs.declared.operations.Op.{Op}
+use Rattle.gate_world.specs.declared.work.Phase.{Phase}
+use Rattle.gate_world.specs.declared.views.View.{View}
+use Rattle.gate_world.specs.Operations.{row}
+use Rattle.gate_world.specs.Views.{held_at, holds_level}
+
+-- the first phase of an operation
+abbrev pub first_phase : Config → ℕ → Op → Phase
+first_phase c t op = (row op).first c t
+
+-- its numbers are in range
+abbrev pub is_in_range : Config → Op → Bool
+is_in_range c op = (row op).in_range c
+
+-- it may be begun by a task that holds these accesses
+abbrev pub is_in_order : (ℕ → ℕ) → (ℕ → Bool) → Op → Bool
+is_in_order held levels op = (row op).in_order held levels
+
+-- it would not give the task more accesses at a mount than there may be
+abbrev pub is_within_room : (ℕ → ℕ) → Op → Bool
+is_within_room held op = (row op).within_room held
+
+-- why an operation can't begin, the first in this order
+abbrev pub refusal : Config → Bool → (ℕ → ℕ) → (ℕ → Bool) → Op → Option GateError
+refusal c under_way held levels op =
+    if under_way then Some Order else
+    if is_in_range c op then (if is_in_order held levels op then (if is_within_room held op then None else Some TooMany) else Some Order) else
+    Some Invalid
+
+abbrev pub view_refusal : Config → View → Op → Option GateError
+view_refusal c v op = refusal c (is_some v.phase) (held_at v) (holds_level v) op

@@ -1,0 +1,40 @@
+-- The shown model: what words and views show of the access model.
+use Rattle.std.specs.Prelude.{ℕ, ◌+◌, ◌/◌, ◌%◌, ◌&&◌, ◌||◌, ◌==◌, if◌then◌else◌, Option, Some, None}
+use Rattle.finite_sums.specs.Sums.{total}
+use Rattle.access_model.specs.declared.actions.Kind.TheVariants.{File, Dir}
+use Rattle.access_model.specs.declared.actions.NodeInfo.{NodeInfo}
+use Rattle.access_model.specs.States.{State}
+use Rattle.mount_counts.specs.Roles.{ro_bit}
+use Rattle.gate_world.specs.declared.config.Config.{Config}
+use Rattle.gate_world.specs.declared.work.Phase.{Phase}
+use Rattle.gate_world.specs.declared.work.Phase.TheVariants.{Mounts}
+use Rattle.gate_world.specs.Views.{held_at, holds_level}
+use Rattle.gate_world.specs.Worlds.{World}
+
+-- what a node word shows: the kind in bits 0 and 1 (0 free, 1 a file, 2 a directory), the dirty mark in bit 2, the parent in bits 8
+-- to 13, the size in bits 32 to 63
+abbrev pub node_shown : ℕ → Option NodeInfo
+node_shown word =
+    if word % 4 == 0 then None else
+    Some record { kind = (if word % 4 == 1 then File else Dir); parent = word / 256 % 64; size = word / 4294967296; dirty = word / 4 % 2 == 1 }
+
+-- 1 while a phase has a level's `block` set and its sum has not been 0: no phase of these layers
+abbrev pub closing : ℕ → Option Phase → ℕ
+closing i None = 0
+closing i (Some (Mounts phase)) = 0
+
+-- 1 where a level's `block` is set and no task is still closing it
+abbrev pub is_passed : Config → World → ℕ → ℕ
+is_passed c w i = if w.words.block i == 1 && total c.tasks (λ t. closing i (w.views t).phase) == 0 then 1 else 0
+
+-- the model that words and views show
+abbrev pub shown : Config → World → State
+shown c w = record {
+  mounts = λ t. held_at (w.views t);
+  levels = λ t. holds_level (w.views t);
+  mount_ro = λ m. ro_bit (w.words.flags m) == 1;
+  sb_ro = w.words.remount == 1 || w.words.sb == 1;
+  stage = w.words.stage;
+  passed = is_passed c w 1 + (is_passed c w 2 + is_passed c w 3);
+  tree = λ n. node_shown (w.words.node n);
+}
