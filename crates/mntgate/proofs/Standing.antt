@@ -4,7 +4,7 @@ use Rattle.std.specs.Prelude.{Option, Some, None, Result, Ok, Err, OnOk, IsOk}
 use Rattle.access_model.specs.States.{Standing}
 use Rattle.access_model.specs.Actions.{IsAllowed}
 use Rattle.access_model.specs.Histories.{Done, end_of}
-use Rattle.access_model.specs.Shown.{standing_of, standing_after, model_limits as limits_in, state_of}
+use Rattle.access_model.specs.Shown.{standing_of, standing_after, limits_of as limits_in, state_of}
 use Rattle.access_model.specs.declared.actions.Action.{Action}
 use Rattle.access_model.specs.declared.errors.GateError.{GateError}
 use Rattle.cpu_words.specs.Hooks.{HookAnswer}

@@ -93,7 +93,7 @@ module _ {input held left holds : Option (List ℕ)} {done : ℕ} {pending print
         (let sum : count_by is_newline (way.taken ++ reads.more) ≡ count_by is_newline way.taken + count_by is_newline reads.more = sum_by-append _ way.taken reads.more in
         let now : count_by is_newline pending_after ≡ count_by is_newline pending + count_by is_newline reads.more = ap (count_by is_newline) reads.grown ∙ sum_by-append _ pending reads.more in
         omega (arith, sum, now, way.lines));
-    stands = way.comes;
+    stands = way.stands;
     prints = λ (more : List ℕ).
         ap transcript (append_assoc way.taken reads.more more) ∙ way.prints (reads.more ++ more)
         ∙ ap (λ (l : List ℕ). then_prints (way.written ++ printed) (transcript_from (1048576 - done) done way.play l))
@@ -108,7 +108,7 @@ module _ {input held left holds : Option (List ℕ)} {done : ℕ} {pending print
     reads = way.reads;
     writes = Appends-trans held holds holds_after way.written printed way.writes writes;
     lines = way.lines;
-    stands = way.comes;
+    stands = way.stands;
     prints = λ (more : List ℕ).
         way.prints more ∙ ap (λ (l : List ℕ). then_prints l (transcript_from (1048576 - done) done way.play (pending ++ more))) (sym (append-nil (way.written ++ printed)));
   }
@@ -183,7 +183,7 @@ module _ {input held left holds : Option (List ℕ)} {done : ℕ} {pending print
 
   pub no_config : pending ≡ [] → IsAtEnd left → session ≡ None → Stops input held left printed holds done ConfigExpected
   no_config none end without =
-      stops_by ConfigExpected refl (λ (more : List ℕ) e. all_read more none end e ∙ ap (ends done) (no_play session way.play way.comes without))
+      stops_by ConfigExpected refl (λ (more : List ℕ) e. all_read more none end e ∙ ap (ends done) (no_play session way.play way.stands without))
 
   a_play : (s : Option Session) (p : Option Play) → StandAs s p → IsSome s → ends done p ≡ record { printed = []; fault = None }
   a_play None p h k = cc
@@ -197,7 +197,7 @@ module _ {input held left holds : Option (List ℕ)} {done : ℕ} {pending print
     reads = way.reads;
     writes = way.writes;
     ends = of_all input left way.taken _ way.reads (λ (more : List ℕ) e.
-        way.prints more ∙ ap (then_prints (way.written ++ printed)) (all_read more none end e ∙ a_play session way.play way.comes with)
+        way.prints more ∙ ap (then_prints (way.written ++ printed)) (all_read more none end e ∙ a_play session way.play way.stands with)
         ∙ ap (λ (l : List ℕ). let t : Transcript = record { printed = l; fault = None } in t)
         (append-nil (way.written ++ printed) ∙ ap (λ (l : List ℕ). way.written ++ l) all ∙ append-nil way.written));
   }

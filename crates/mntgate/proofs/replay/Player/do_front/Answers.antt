@@ -11,22 +11,22 @@ pub returns-in_err-line-clause-stops : goal.returns-in_err-line-clause-stops
 returns-in_err-line-clause-stops c input held left holds done less way =
     let p = err_from_is_err_and c.from_residual.result c.from_residual.ensures.1 in
     let is : parsed (take c.args.length (pending c.args.self.now.input)) (tasks_of way.play) ≡ Err c.in_err-line.field-0.0 =
-    ap (λ l. parsed l (tasks_of way.play)) (sym c.first.ensures) ∙ ap (parsed c.first.result.now) (sym (c.tasks.ensures way.play way.comes)) ∙ sym c.in_err-line.ensures in
+    ap (λ l. parsed l (tasks_of way.play)) (sym c.first.ensures) ∙ ap (parsed c.first.result.now) (sym (c.tasks.ensures way.play way.stands)) ∙ sym c.in_err-line.ensures in
     rw (p.1, p.2) (bad_line way c.args.length less c.requires.front c.in_err-line.field-0.0 is)
 
 pub returns-clause-goes_on : goal.returns-clause-goes_on
 returns-clause-goes_on c input held left holds done less way =
     let is : parsed (take c.args.length (pending c.args.self.now.input)) (tasks_of way.play) ≡ Ok c.in_ok-line.line =
-    ap (λ l. parsed l (tasks_of way.play)) (sym c.first.ensures) ∙ ap (parsed c.first.result.now) (sym (c.tasks.ensures way.play way.comes)) ∙ sym c.in_ok-line.ensures in
+    ap (λ l. parsed l (tasks_of way.play)) (sym c.first.ensures) ∙ ap (parsed c.first.result.now) (sym (c.tasks.ensures way.play way.stands)) ∙ sym c.in_ok-line.ensures in
     let done_so = c.do_parsed.ensures in
     by_three c.do_parsed.result _ _ _ _
     (λ prints stands none. line_done way c.args.length less c.requires.front c.in_ok-line.line is _ _ _ (ap pending done_so.input ∙ c.take.ensures) prints stands none)
-    (done_so.prints way.play way.comes) (done_so.comes way.play way.comes) (done_so.done way.play way.comes)
+    (done_so.prints way.play way.stands) (done_so.stands way.play way.stands) (done_so.done way.play way.stands)
 
 pub returns-clause-stops : goal.returns-clause-stops
 returns-clause-stops c input held left holds done less way =
     let is : parsed (take c.args.length (pending c.args.self.now.input)) (tasks_of way.play) ≡ Ok c.in_ok-line.line =
-    ap (λ l. parsed l (tasks_of way.play)) (sym c.first.ensures) ∙ ap (parsed c.first.result.now) (sym (c.tasks.ensures way.play way.comes)) ∙ sym c.in_ok-line.ensures in
+    ap (λ l. parsed l (tasks_of way.play)) (sym c.first.ensures) ∙ ap (parsed c.first.result.now) (sym (c.tasks.ensures way.play way.stands)) ∙ sym c.in_ok-line.ensures in
     IfErr-weaker c.do_parsed.result _ _
     (λ (fault : Fault) how. failed_line way c.args.length less c.requires.front c.in_ok-line.line is fault _ how)
-    (c.do_parsed.ensures.fault way.play way.comes)
+    (c.do_parsed.ensures.fault way.play way.stands)

@@ -15,7 +15,7 @@ returns-in_ok-step-in-Step-clause-prints c p h =
     let step = c.in_ok-step-in-Step.step in
     let k : OnOk c.map_err.result (c.print_step.new.out.bytes.items ≡ c.args.out.now.bytes.items ++ step_text t step c.used.result) = grind (arith, common_steps) in
     let same = same_step step _ (c.in_ok-step-in-Step.ensures.answer p h) in
-    let used = c.used.ensures _ (c.in_ok-step-in-Step.ensures.comes p h) in
+    let used = c.used.ensures _ (c.in_ok-step-in-Step.ensures.stands p h) in
     let e = ap (λ (s : Step). step_text t s c.used.result) same
     ∙ ap (λ (u : ℕ). step_text t (step_answer p.config p.world t c.in-Step.hook) u) used
     ∙ ap (λ (command : TaskCommand). (command_effect p t command).printed) (sym c.in-Step.is) in
