@@ -2,3 +2,4 @@ pub mod Opening
 pub mod Changes
 pub mod Closed
 pub mod Lists
+pub mod Mapped

@@ -1,4 +1,5 @@
 pub mod Errors
+pub mod Replies
 pub mod States
 pub mod Actions
 pub mod Histories

@@ -1,5 +1,8 @@
 //! How an operation ends, and what comes after an event.
 
+ghost use Rattle.std.specs.Prelude.{◌≡◌};
+ghost use Rattle.access_model.specs.Replies.{map_next};
+
 use crate::errors::GateError;
 
 /// What an operation answers where it isn't refused.
@@ -24,4 +27,20 @@ pub enum Next<P> {
     Wait(P),
     /// The operation has ended.
     Done(Result<Reply, GateError>),
+}
+
+impl<P> Next<P> {
+    /// The same, with what this function gives in the place of its phase: what comes after an event of a layer, as what comes
+    /// after it in an operation that the layer is a part of.
+    #[inline(always)]
+    pub fn map<Q, F: FnOnce(P) -> Q>(self, to: F) -> Next<Q>
+        requires { F.IsAlwaysCallable to }
+        ensures { (phase_for : P → Q) → ((x : P) (y : Q) → F.post to x y → y ≡ phase_for x) → result ≡ map_next phase_for self }
+    {
+        match self {
+            Next::Go(phase) => Next::Go(to(phase)),
+            Next::Wait(phase) => Next::Wait(to(phase)),
+            Next::Done(answer) => Next::Done(answer),
+        }
+    }
 }

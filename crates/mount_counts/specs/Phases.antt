@@ -7,6 +7,7 @@ use Rattle.access_model.specs.declared.errors.GateError.TheVariants.{Again, Busy
 use Rattle.access_model.specs.declared.replies.Next.{Next}
 use Rattle.access_model.specs.declared.replies.Next.TheVariants.{Go, Wait, Done}
 use Rattle.access_model.specs.declared.replies.Reply.TheVariants.{Unit as UnitReply}
+use Rattle.access_model.specs.Replies.{map_next}
 use Rattle.cpu_words.specs.declared.names.WordName.{WordName}
 use Rattle.cpu_words.specs.declared.names.WordName.TheVariants.{Umount, SbFlags, Remount, MountFlags, MountCount}
 use Rattle.cpu_words.specs.declared.events.Touch.{Touch}
@@ -38,21 +39,17 @@ want_next w LoadsReadOnly = (MountFlags w.mount, Load)
 want_next w LoadsSuperblock = (SbFlags, Load)
 want_next w (CountsDown refusal) = (MountCount w.mount w.cpu, Sub 1)
 
-abbrev pub at_want : Want → WantStep → MountPhase
-at_want w step = Wants (record w { step = step })
+-- the same want, with this step to come
+abbrev pub at_want : Want → WantStep → Want
+at_want w step = record w { step = step }
 
--- the same, of a phase of any operation at a mount
-abbrev pub of_want : Next Want → Next MountPhase
-of_want (Go w) = Go (Wants w)
-of_want (Wait w) = Wait (Wants w)
-of_want (Done answer) = Done answer
-
--- HOLD was found set
-abbrev pub hold_found : Want → Bool → Next MountPhase
+-- HOLD was found set: a want that waits looks again, another takes its count back
+abbrev pub hold_found : Want → Bool → Next Want
 hold_found w true = Wait (at_want w LoadsHold)
 hold_found w false = Go (at_want w (CountsDown Again))
 
-abbrev pub want_after : Want → WantStep → ℕ → Next MountPhase × Option Action
+-- what comes after each event of a want, in the want's own phases: it is granted by the last of its questions
+abbrev pub want_after : Want → WantStep → ℕ → Next Want × Option Action
 want_after w CountsUp found = (Go (at_want w LoadsHold), None)
 want_after w LoadsHold found = (if has_flag found 2 then hold_found w w.wait else Go (at_want w LoadsRemount), None)
 want_after w LoadsRemount found = (if found == 0 then Go (at_want w LoadsReadOnly) else Go (at_want w (CountsDown ReadOnly)), None)
@@ -72,11 +69,12 @@ change_next x SetsReadOnly = (MountFlags x.mount, Or 1)
 change_next x (ClearsHold answer) = (MountFlags x.mount, And 18446744073709551613)
 change_next x (Releases answer) = (Umount, Store 0)
 
-abbrev pub at_change : Change → ChangeStep → MountPhase
-at_change x step = Changes (record x { step = step })
+-- the same change, with this step to come
+abbrev pub at_change : Change → ChangeStep → Change
+at_change x step = record x { step = step }
 
--- `umount` was found taken
-abbrev pub lock_failed : Change → Bool → Next MountPhase
+-- `umount` was found taken: a change that waits tries again
+abbrev pub lock_failed : Change → Bool → Next Change
 lock_failed x true = Wait (at_change x Locks)
 lock_failed x false = Done (Err Again)
 
@@ -87,6 +85,7 @@ step_between true false = SetsHold
 step_between false true = ClearsReadOnly
 step_between false false = Releases (Ok UnitReply)
 
+-- the step after the present state was found
 abbrev pub change_from : Change → Bool → ChangeStep
 change_from x read_only = step_between x.read_only read_only
 
@@ -95,10 +94,12 @@ abbrev pub step_summed : Taken → ChangeStep
 step_summed (More sum) = Sums sum
 step_summed (Total total) = if total == 0 then SetsReadOnly else ClearsHold (Err Busy)
 
+-- the step after one word more of the sum
 abbrev pub change_summed : Change → Sum → ℕ → ChangeStep
 change_summed x sum word = step_summed (sum_taking sum word x.processors)
 
-abbrev pub change_after : Change → ChangeStep → ℕ → Next MountPhase × Option Action
+-- what comes after each event of a change, in the change's own phases: HOLD stands from before the sum to the end
+abbrev pub change_after : Change → ChangeStep → ℕ → Next Change × Option Action
 change_after x Locks found = (if found == 0 then Go (at_change x LoadsFlags) else lock_failed x x.wait, None)
 change_after x LoadsFlags found = (if has_flag found 1 then Go (at_change x (change_from x true)) else Go (at_change x LoadsSb), None)
 change_after x LoadsSb found = (Go (at_change x (change_from x (not (found == 0)))), None)
@@ -117,6 +118,6 @@ next (Changes x) hook = change_next x x.step
 
 -- what comes after the event that found this value, and the action that the event adds
 abbrev pub after : MountPhase → ℕ → HookAnswer → Next MountPhase × Option Action
-after (Wants w) found hook = want_after w w.step found
+after (Wants w) found hook = (map_next Wants (want_after w w.step found).0, (want_after w w.step found).1)
 after (Drops m p) found hook = (Done (Ok UnitReply), Some (Return (Mount m)))
-after (Changes x) found hook = change_after x x.step found
+after (Changes x) found hook = (map_next Changes (change_after x x.step found).0, (change_after x x.step found).1)

@@ -1,7 +1,7 @@
 //! The orders of events of want, drop and change.
 
 ghost use Rattle.std.specs.Prelude.{◌≡◌};
-ghost use Rattle.mount_counts.specs.Phases.{next, after, of_want, want_next, want_after, at_change, change_next, change_from, change_summed, change_after};
+ghost use Rattle.mount_counts.specs.Phases.{next, after, want_next, want_after, at_change, change_next, change_from, change_summed, change_after};
 ghost use Rattle.access_model.specs.declared.replies.Next.TheVariants.{Go};
 
 use crate::flags::MountFlags;
@@ -81,18 +81,6 @@ pub enum MountPhase {
     Change(Change),
 }
 
-/// The same, of a phase of any operation at a mount.
-#[inline(always)]
-fn of_a_want(next: Next<Want>) -> Next<MountPhase>
-    ensures { result ≡ of_want next }
-{
-    match next {
-        Next::Go(want) => Next::Go(MountPhase::Want(want)),
-        Next::Wait(want) => Next::Wait(MountPhase::Want(want)),
-        Next::Done(answer) => Next::Done(answer),
-    }
-}
-
 impl Want {
     /// The word and the touch of the next event.
     #[inline(always)]
@@ -123,7 +111,7 @@ impl Want {
     /// What comes after the event, which found this, and the action that the event adds.
     #[inline(always)]
     pub fn after(self, found: u64) -> (Next<Want>, Option<Action>)
-        ensures { (of_want result.0, result.1) ≡ want_after self self.step found }
+        ensures { result ≡ want_after self self.step found }
     {
         let read_only = Next::Go(self.at(WantStep::CountsDown(GateError::ReadOnly)));
         let flags = MountFlags::from_bits_retain(found);
@@ -177,10 +165,10 @@ impl Change {
     }
 
     /// The same change, with this step to come.
-    fn at(self, step: ChangeStep) -> Next<MountPhase>
+    fn at(self, step: ChangeStep) -> Next<Change>
         ensures { result ≡ Go (at_change self step) }
     {
-        Next::Go(MountPhase::Change(Change { step, ..self }))
+        Next::Go(Change { step, ..self })
     }
 
     /// What comes after the present state was found.
@@ -205,14 +193,14 @@ impl Change {
         }
     }
 
-    fn after(self, found: u64) -> (Next<MountPhase>, Option<Action>)
+    fn after(self, found: u64) -> (Next<Change>, Option<Action>)
         ensures { result ≡ change_after self self.step found }
     {
         let done = Ok(Reply::Unit);
         let flags = MountFlags::from_bits_retain(found);
         match self.step {
             ChangeStep::Locks if found == 0 => (self.at(ChangeStep::LoadsFlags), None),
-            ChangeStep::Locks if self.wait => (Next::Wait(MountPhase::Change(self)), None),
+            ChangeStep::Locks if self.wait => (Next::Wait(self), None),
             ChangeStep::Locks => (Next::Done(Err(GateError::Again)), None),
             ChangeStep::LoadsFlags if flags.contains(MountFlags::READONLY) => {
                 (self.at(self.from_state(true)), None)
@@ -258,13 +246,16 @@ impl MountPhase {
         match self {
             MountPhase::Want(want) => {
                 let (next, action) = want.after(found);
-                (of_a_want(next), action)
+                (next.map(MountPhase::Want), action)
             }
             MountPhase::Drop { mount, .. } => (
                 Next::Done(Ok(Reply::Unit)),
                 Some(Action::Return(Gate::Mount(mount))),
             ),
-            MountPhase::Change(change) => change.after(found),
+            MountPhase::Change(change) => {
+                let (next, action) = change.after(found);
+                (next.map(MountPhase::Change), action)
+            }
         }
     }
 }
