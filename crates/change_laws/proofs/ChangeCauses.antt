@@ -1,4 +1,5 @@
 -- The causes of a change's refusals, along a schedule.
+use Rattle.gate_frames.proofs.Words.{load_same}
 use Rattle.access_model.specs.declared.errors.GateError.TheVariants.{Busy}
 use Rattle.access_model.specs.declared.replies.Reply.TheVariants.{Unit as UnitReply}
 use Rattle.cpu_words.specs.Hooks.{HookAnswer}
@@ -7,7 +8,6 @@ use Rattle.cpu_words.specs.Touches.{wrap_add}
 use Rattle.cpu_words.specs.Words.{Words}
 use Rattle.cpu_words.specs.declared.names.WordName.TheVariants.{MountCount}
 use Rattle.cpu_words.specs.declared.sums.Sum.{Sum}
-use Rattle.gate_frames.proofs.Frames.{load_same}
 use Rattle.gate_frames.proofs.Loads.{fits_now}
 use Rattle.gate_world.specs.Causes.{all_counted, was_counted, words_read, moments_of_sum}
 use Rattle.gate_world.specs.Fits.{SumFits}

@@ -1,4 +1,6 @@
 -- What fits after an event of a change.
+use Rattle.gate_world.specs.declared.work.Phase.TheVariants.{Mounts}
+use Rattle.access_model.specs.declared.replies.Next.{Next}
 use Rattle.std.proofs.Common.{◌≡◌, ℕ, ◌+◌, ◌<◌, Bool, true, false, inl, inr, arith}
 use Rattle.std.specs.Prelude.{◌==◌, not, nat_lt, if◌then◌else◌, Err}
 use Rattle.std.proofs.lemmas.Bool.{cases_Bool, ltb-true}
@@ -11,11 +13,11 @@ use Rattle.mount_counts.specs.declared.phases.MountPhase.TheVariants.{Change as 
 use Rattle.mount_counts.specs.declared.phases.Change.{Change}
 use Rattle.mount_counts.specs.declared.phases.ChangeStep.{ChangeStep}
 use Rattle.mount_counts.specs.declared.phases.ChangeStep.TheVariants.{Locks, LoadsFlags, LoadsSuperblock as LoadsSb, ClearsReadOnly, SetsHold, Sums, SetsReadOnly, ClearsHold, Releases}
-use Rattle.mount_counts.specs.Phases.{has_flag, at_change, lock_failed, step_between, change_from, change_summed, change_next, change_after}
+use Rattle.mount_counts.specs.Phases.{has_flag, at_change, lock_failed, step_between, change_from, change_summed, change_next, change_after, next}
 use Rattle.gate_world.specs.declared.config.Config.{Config}
 use Rattle.gate_world.specs.Configs.{IsWithin, extents_of}
 use Rattle.gate_world.specs.Views.{phase_after}
-use Rattle.gate_world.specs.Work.{of_mounts}
+use Rattle.access_model.specs.Replies.{map_next}
 use Rattle.gate_world.specs.Fits.{SumFits, MountFits, Fits, ActionFits, mounts_by, levels_by}
 use Rattle.gate_frames.proofs.Keeps.{by_bool}
 
@@ -44,16 +46,20 @@ module _ (c : Config) (within : IsWithin c) (t : ℕ) (held : ℕ → ℕ) (leve
         | inr h ↦ rw h (by_bool (wrap_add sum.total word == 0) (λ b. SumFits c (if b then SetsReadOnly else ClearsHold (Err Busy))) tt tt)
       ]
 
+  -- what comes after an event fits
+  abbrev NextFits : Next Change → Type 0
+  NextFits next = Fits c t held levels (phase_after (map_next Mounts (map_next Changes next)))
+
+  -- what comes after each event of a change fits
   pub change_goes : (x : Change) (step : ChangeStep) (found : ℕ) → MountFits c t held levels (Changes record x { step = step }) →
-      Fits c t (mounts_by (change_after x step found).1 held) (levels_by (change_after x step found).1 levels) (phase_after (of_mounts (change_after x step found).0))
+      Fits c t (mounts_by (change_after x step found).1 held) (levels_by (change_after x step found).1 levels)
+      (phase_after (map_next Mounts (map_next Changes (change_after x step found).0)))
   change_goes x Locks found f =
-      by_bool (found == 0) (λ b. Fits c t held levels (phase_after (of_mounts (if b then Go (at_change x LoadsFlags) else lock_failed x x.wait))))
-      f
-      (by_bool x.wait (λ b. Fits c t held levels (phase_after (of_mounts (lock_failed x b)))) f tt)
+      by_bool (found == 0) (λ b. NextFits (if b then Go (at_change x LoadsFlags) else lock_failed x x.wait)) f
+      (by_bool x.wait (λ b. NextFits (lock_failed x b)) f tt)
   change_goes x LoadsFlags found f =
-      by_bool (has_flag found 1) (λ b. Fits c t held levels (phase_after (of_mounts (if b then Go (at_change x (change_from x true)) else Go (at_change x LoadsSb)))))
-      (f.0, f.1, f.2, f.3, between x.read_only true)
-      f
+      by_bool (has_flag found 1) (λ b. NextFits (if b then Go (at_change x (change_from x true)) else Go (at_change x LoadsSb)))
+      (f.0, f.1, f.2, f.3, between x.read_only true) f
   change_goes x LoadsSb found f = (f.0, f.1, f.2, f.3, between x.read_only (not (found == 0)))
   change_goes x ClearsReadOnly found f = f
   change_goes x SetsHold found f = (f.0, f.1, f.2, f.3, omega (arith, within.some_processor))

@@ -25,7 +25,7 @@ use Rattle.gate_world.specs.Rules.{Fitting}
 pub change_phase : (c : Config) (x : Change) → PhaseKeeps c (Mounts (Changes x))
 change_phase c x = record {
   step = λ lim w good t lt hook e. change_keeps c lim w good t lt hook x.mount x.read_only x.wait x.task x.processors x.step e;
-  word = λ lim t held levels hook f. change_there c lim t held levels x x.step f.0 f.4;
+  word = λ lim t lt held levels hook f. change_there c lim t held levels x x.step f.0 f.4;
   acts = λ lim t held levels found hook f. change_acts c lim t held levels x x.step found;
   goes = λ lim t held levels found hook f. change_goes c lim t held levels x x.step found f;
   agrees = λ t f g h k mounts levels fits. (fits.0, fits.1, fits.2, rw (← none_agree c t f g h k mounts levels) fits.3, fits.4);
@@ -46,6 +46,7 @@ change_op c m ro wait = record {
   cause = λ t w earlier. tt;
   order_agrees = λ f g h k mounts levels there. none_agree c 0 f g h k mounts levels;
   room_agrees = λ f g mounts there. refl;
+  restores = λ refusal trace before order. (refl, refl);
   tells = λ lim t trace h. tells (ChangeAt c t m ro wait) c t (ChangeMount m ro wait) (change_traced c lim t m ro wait) trace h;
   short = λ lim t trace h. is_short (ChangeAt c t m ro wait) c t (ChangeMount m ro wait) (change_traced c lim t m ro wait) trace h;
 }

@@ -24,7 +24,7 @@ use Rattle.gate_world.specs.declared.work.Phase.TheVariants.{Mounts}
 use Rattle.gate_world.specs.declared.views.Traced.{Traced}
 use Rattle.gate_world.specs.Views.{with_hook}
 use Rattle.gate_world.specs.Configs.{IsWithin}
-use Rattle.gate_world.specs.Found.{found_read_only, counts_loaded, sum_loaded, IsEachCount}
+use Rattle.gate_world.specs.Found.{found_read_only, counts_loaded, sum_loaded, IsEachCount, each_event, finds_taken}
 use Rattle.gate_world.specs.Traces.{actions_of, IsHonestAnswer, most_events, IsShort}
 use Rattle.trace_laws.proofs.Says.{SaysAfter, Kept, event_at}
 
@@ -57,7 +57,7 @@ IsSumOf c m sum trace = (sum.words < c.processors) × IsEachCount sum.words (cou
 
 -- what a trace says at a step: what was found, loaded and added
 abbrev StepSays : Config → ℕ → Bool → Bool → ChangeStep → List Traced → List Action → Type 0
-StepSays c m ro wait Locks trace added = FoundNothing m trace added
+StepSays c m ro wait Locks trace added = (each_event finds_taken trace ≡ true) × FoundNothing m trace added
 StepSays c m ro wait LoadsFlags trace added = FoundNothing m trace added
 StepSays c m ro wait LoadsSb trace added = FoundNothing m trace added
 StepSays c m ro wait ClearsReadOnly trace added = (added ≡ []) × (ro ≡ false) × (found_read_only m trace ≡ true)
@@ -128,14 +128,14 @@ module _ (c : Config) (lim : IsWithin c) (t m : ℕ) (ro : Bool) (value : ℕ) (
 
   -- `umount` was found taken
   lock_taken : (wait : Bool) → ChangeSays c m ro wait Locks earlier added → (value == 0) ≡ false → After wait Locks
-  lock_taken true h f = rw f ((Locks, refl, (λ q. absurd (cc), h.1)), (refl, rw f refl))
-  lock_taken false h f = rw f ((h.1.0, (refl, rw f refl)), omega (arith, h.0 refl))
+  lock_taken true h f = rw f ((Locks, refl, (λ q. absurd (cc), (rw f h.1.0, h.1.1))), (refl, rw f h.1.0))
+  lock_taken false h f = rw f ((h.1.1.0, (refl, rw f refl)), omega (arith, h.0 refl))
 
   -- `umount` is tried, and nothing is loaded
   locks : (wait : Bool) → ChangeSays c m ro wait Locks earlier added → After wait Locks
   locks wait h =
       elim (cases_Bool (value == 0)) [
-        | inl f ↦ rw f (LoadsFlags, refl, (λ q. omega (arith, h.0 q), h.1))
+        | inl f ↦ rw f (LoadsFlags, refl, (λ q. omega (arith, h.0 q), h.1.1))
         | inr f ↦ lock_taken wait h f
       ]
 
@@ -210,7 +210,7 @@ module _ (c : Config) (lim : IsWithin c) (t m : ℕ) (ro : Bool) (value : ℕ) (
 -- so it is kept along every trace of a change
 pub change_kept : (c : Config) → IsWithin c → (t m : ℕ) (ro wait : Bool) → Kept (ChangeAt c t m ro wait) c t (ChangeMount m ro wait)
 change_kept c lim t m ro wait = record {
-  first = (Locks, refl, (λ q. omega arith, (refl, refl, refl)));
+  first = (Locks, refl, (λ q. omega arith, (refl, (refl, refl, refl))));
   more = λ phase value hook earlier added here.
       subst (λ (x : Phase). SaysAfter (ChangeAt c t m ro wait) c (ChangeMount m ro wait) x value hook earlier added) (sym here.1) (change_event c lim t m ro value hook earlier added wait here.0 here.2);
   short = λ trace phase added here. change_short c m ro wait trace (λ q. within_most c m ro wait here.0 trace added here.2.1 (here.2.0 q));

@@ -1,4 +1,5 @@
 -- Events of a change that hold, sum, set, clear, lock and release.
+use Rattle.gate_frames.proofs.Words.{update_map, update_same}
 use Rattle.std.proofs.Common.{◌≡◌, ℕ, suc, ◌+◌, ◌<◌, Bool, true, false, refl, sym, ap, ◌∙◌, subst, inl, inr, add-one, arith}
 use Rattle.std.specs.Prelude.{◌==◌, nat_lt, bit_or, bit_and, Option, Some, None, Result, Ok, Err, ◌∷◌}
 use Rattle.std.proofs.lemmas.Bool.{eq-eqb, ne_eqb, ltb-true, ltb-false, cases_Bool}
@@ -34,7 +35,7 @@ use Rattle.gate_world.specs.Operations.{holds_none}
 use Rattle.gate_world.specs.Worlds.{World}
 use Rattle.gate_world.specs.Shown.{shown, closing}
 use Rattle.gate_world.specs.Rules.{change_role, role_of, at_mount, change_owns, owns, remounts, IsSteady, OwnerHolds, ViewFits, IsGood, GateStepKeeps, Owner, AtMount, GatesHold}
-use Rattle.gate_frames.proofs.Frames.{update_map, update_same, role_on, role_off, view_as, holds_as, owner_same, shown_as, shown_still}
+use Rattle.gate_frames.proofs.Frames.{role_on, role_off, view_as, holds_as, owner_same, shown_as, shown_still}
 use Rattle.gate_frames.proofs.Loads.{as_owner, after_load, load_law, role_none, fits_now}
 use Rattle.change_laws.proofs.Owner.{change, no_remount, no_hold, no_skip, still, flag_law}
 

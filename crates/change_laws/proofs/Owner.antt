@@ -1,4 +1,5 @@
 -- Events of the owner of `umount`: what it may rely on, and its loads.
+use Rattle.gate_frames.proofs.Words.{update_same}
 use Rattle.std.proofs.Common.{◌≡◌, ℕ, suc, ◌+◌, ◌<◌, ◌≤◌, Bool, true, false, refl, sym, ap, ◌∙◌, inl, inr, arith}
 use Rattle.std.specs.Prelude.{◌==◌, not, Option, Some, None}
 use Rattle.std.proofs.lemmas.Bool.{cases_Bool}
@@ -29,7 +30,7 @@ use Rattle.gate_world.specs.Operations.{holds_none}
 use Rattle.gate_world.specs.Worlds.{World}
 use Rattle.gate_world.specs.Shown.{shown}
 use Rattle.gate_world.specs.Rules.{want_role, change_role, role_if, role_of, at_mount, change_owns, owns, remounts, IsSteady, OwnerHolds, ViewFits, IsGood, GateStepKeeps, Owner, AtMount, GatesHold}
-use Rattle.gate_frames.proofs.Frames.{update_same, view_as, holds_as, owner_same, gates_after}
+use Rattle.gate_frames.proofs.Frames.{view_as, holds_as, owner_same, gates_after}
 use Rattle.gate_frames.proofs.Loads.{as_owner, after_load, load_law, role_none, fits_now}
 
 abbrev pub change : ℕ → Bool → Bool → ℕ → ℕ → ChangeStep → MountPhase

@@ -1,60 +1,28 @@
 -- What an event leaves alone.
-use Rattle.std.proofs.Common.{◌≡◌, ℕ, suc, ◌+◌, ◌<◌, refl, sym, ap, ◌∙◌, subst, inl, inr, arith, true≢false}
-use Rattle.std.specs.Prelude.{◌==◌, ◌&&◌, ◌||◌, if◌then◌else◌, Option, Some, true, false, Bool}
-use Rattle.std.proofs.Math.Path.{fun_ext}
-use Rattle.std.proofs.lemmas.Bool.{eq-eqb, ne_eqb, cases_Bool}
+use Rattle.std.proofs.Common.{◌≡◌, ℕ, suc, ◌+◌, ◌<◌, refl, sym, ap, ◌∙◌, subst, inl, inr, arith, true≢false, ◌≢◌}
+use Rattle.std.specs.Prelude.{◌==◌, ◌&&◌, ◌||◌, if◌then◌else◌, Option}
+use Rattle.std.proofs.lemmas.Bool.{eq-eqb, ne_eqb}
 use Rattle.std.proofs.lemmas.Bool.Decides.{eqb_tells}
 use Rattle.finite_sums.specs.Sums.{update, total}
 use Rattle.finite_sums.proofs.Totals.{each_updated, total_updated}
 use Rattle.cpu_words.specs.declared.names.WordName.{WordName}
 use Rattle.cpu_words.specs.declared.names.WordName.TheVariants.{Umount, Stage, SbFlags, Remount, MountFlags, MountCount, Block, Sync, LevelCount, Section, Used, Node, Kids}
 use Rattle.cpu_words.specs.declared.events.Touch.TheVariants.{Load}
-use Rattle.cpu_words.specs.Words.{Words, read, put}
-use Rattle.cpu_words.specs.Hooks.{HookAnswer}
-use Rattle.cpu_words.specs.Touches.{left}
-use Rattle.mount_counts.specs.declared.phases.MountPhase.{MountPhase}
-use Rattle.mount_counts.specs.declared.phases.MountPhase.TheVariants.{Want as Wants, Drop as Drops, Change as Changes}
-use Rattle.mount_counts.specs.declared.phases.Want.{Want}
-use Rattle.mount_counts.specs.declared.phases.WantStep.{WantStep}
-use Rattle.mount_counts.specs.declared.phases.WantStep.TheVariants.{CountsUp}
-use Rattle.mount_counts.specs.declared.phases.Change.{Change}
-use Rattle.mount_counts.specs.declared.phases.ChangeStep.{ChangeStep}
-use Rattle.mount_counts.specs.declared.phases.ChangeStep.TheVariants.{Locks}
-use Rattle.mount_counts.specs.Phases.{want_next, change_next, next}
+use Rattle.cpu_words.specs.Words.{Words}
 use Rattle.mount_counts.specs.Roles.{Role, Out, MountView, ro_bit, MountHolds}
 use Rattle.gate_world.specs.declared.config.Config.{Config}
 use Rattle.gate_world.specs.declared.views.View.{View}
 use Rattle.gate_world.specs.declared.work.Phase.{Phase}
-use Rattle.gate_world.specs.declared.work.Phase.TheVariants.{Mounts}
-use Rattle.gate_world.specs.Views.{held_at, holds_level, added_after, taken_after, view_after}
-use Rattle.gate_world.specs.Worlds.{World, words_after, value_at}
+use Rattle.gate_world.specs.Views.{held_at, holds_level, added_after, taken_after}
+use Rattle.gate_world.specs.Worlds.{World}
 use Rattle.gate_world.specs.Shown.{shown, closing, is_passed, node_shown}
 use Rattle.gate_world.specs.Fits.{Fits}
-use Rattle.gate_world.specs.Rules.{role_if, at_mount, owns, remounts, IsSteady, OwnerHolds, ViewFits, Part, Owner, Superblock, Stages, Fitting, AtMount, Holds, SameWords, SameView, at_gates, GatesHold, IsGood, StepKeeps, GateStepKeeps}
+use Rattle.gate_world.specs.Rules.{role_if, at_mount, owns, remounts, IsSteady, OwnerHolds, ViewFits, Part, Owner, Superblock, Stages, Fitting, AtMount, Holds, SameWords, SameView, GatesHold, IsGood, Known}
+use Rattle.gate_world.specs.Owners.{KnowsWords}
+use Rattle.gate_frames.proofs.Known.{known_same}
+use Rattle.gate_frames.proofs.Words.{update_map, update_same}
 
-pub update_map : {A B : Type 0} (g : A → B) (f : ℕ → A) (t : ℕ) (v : A) → (λ x. g (update f t v x)) ≡ update (λ x. g (f x)) t (g v)
-update_map g f t v = fun_ext (λ x. elim (eqb_tells x t) [ inl h ↦ rw (h.0, update) | inr h ↦ rw (h.0, update) ])
-
-pub update_same : {A : Type 0} (f : ℕ → A) (t : ℕ) → update f t (f t) ≡ f
-update_same f t = fun_ext (λ x. elim (eqb_tells x t) [ inl h ↦ rw (h.0, update) (ap f (sym h.1)) | inr h ↦ rw (h.0, update) ])
-
--- a load leaves the words
-pub load_same : (w : Words) (name : WordName) → put w name (read w name) ≡ w
-load_same w Umount = refl
-load_same w Stage = refl
-load_same w SbFlags = refl
-load_same w Remount = refl
-load_same w (MountFlags m) = λ j. record w { flags = update_same w.flags m j }
-load_same w (MountCount m p) = λ j. record w { count = (ap (λ g. update w.count m g) (update_same (w.count m) p) ∙ update_same w.count m) j }
-load_same w (Block i) = λ j. record w { block = update_same w.block i j }
-load_same w (Sync i) = λ j. record w { sync = update_same w.sync i j }
-load_same w (LevelCount i p) = λ j. record w { level = (ap (λ g. update w.level i g) (update_same (w.level i) p) ∙ update_same w.level i) j }
-load_same w (Section u) = λ j. record w { section = update_same w.section u j }
-load_same w Used = refl
-load_same w (Node n) = λ j. record w { node = update_same w.node n j }
-load_same w (Kids n) = λ j. record w { kids = update_same w.kids n j }
-
--- and counts nowhere
+-- a load counts nowhere
 pub added_load : (name : WordName) (added : ℕ → ℕ → ℕ) → added_after name Load added ≡ added
 added_load Umount added = refl
 added_load Stage added = refl
@@ -160,6 +128,10 @@ module _ (c : Config) (w : World) (t : ℕ) (lt : t < c.tasks) where
       each_updated (λ y (u : View). ViewFits c y u) w.views t v x
       (subst (λ (p : Option Phase). Fits c t (held_at v) (holds_level v) p) (sym seen.2)
       (subst (λ k. Fits c t (held_at v) k (w.views t).phase) (sym seen.1) (subst (λ k. Fits c t k (holds_level (w.views t)) (w.views t).phase) (sym seen.0) (h t lt)))) (λ ne. h x lx)
+  left_alone Known ws v same seen h = λ x lx.
+      each_updated (λ y (u : View). owns u.phase ≡ 1 → KnowsWords ws u.trace) w.views t v x
+      (λ o. subst (KnowsWords ws) (sym seen.1) (known_same w.words ws same (w.views t).trace (h t lt (sym seen.0 ∙ o))))
+      (λ ne o. known_same w.words ws same (w.views x).trace (h x lx o))
   left_alone (AtMount m) ws v same seen h = λ lm.
       holds_as same.0 same.1 same.2 same.3 (update_map (at_mount m) w.views t v ∙ (ap (update (λ x. at_mount m (w.views x)) t) seen ∙ update_same (λ x. at_mount m (w.views x)) t)) (h lm)
 
@@ -192,50 +164,3 @@ module _ (c : Config) (w : World) (t : ℕ) (lt : t < c.tasks) where
               left_alone (AtMount n) ws v (o.0, er, es, o.1) o.2 (good (AtMount n)) ln
         ]
     gates_after m ws v er es owner fits off own part h = absurd (true≢false (sym h))
-
--- the words of want, drop and change
-abbrev pub is_gate_word : WordName → Bool
-is_gate_word Umount = true
-is_gate_word SbFlags = true
-is_gate_word Remount = true
-is_gate_word (MountFlags m) = true
-is_gate_word (MountCount m p) = true
-is_gate_word name = false
-
-want_touches : (x : Want) (s : WantStep) → is_gate_word (want_next x s).0 ≡ true
-want_touches x CountsUp = refl
-want_touches x s = refl
-
-change_touches : (x : Change) (s : ChangeStep) → is_gate_word (change_next x s).0 ≡ true
-change_touches x Locks = refl
-change_touches x s = refl
-
-mounts_touch : (x : MountPhase) (hook : HookAnswer) → is_gate_word (next x hook).0 ≡ true
-mounts_touch (Wants x) hook = want_touches x x.step
-mounts_touch (Drops m p) hook = refl
-mounts_touch (Changes x) hook = change_touches x x.step
-
--- which other parts of the rule don't read
-unread : (part : Part) → at_gates part ≡ false → (name : WordName) → is_gate_word name ≡ true → (w : Words) (n : ℕ) → SameWords w (put w name n) part
-unread Stages h Stage q w n = absurd (true≢false (sym q))
-unread Stages h name q w n = refl
-unread part h name q w n = absurd (true≢false h)
-
--- nor do these read what such an event changes of its task's view
-unseen : (part : Part) → at_gates part ≡ false → (v : View) (x : MountPhase) (value : ℕ) (hook : HookAnswer) → v.phase ≡ Some (Mounts x) → SameView v (view_after v (Mounts x) value hook) part
-unseen Stages h v x value hook e = tt
-unseen part h v x value hook e = absurd (true≢false h)
-
--- so an event of want, drop or change keeps the rule where it keeps the parts that it may touch
-pub whole_step : (c : Config) (w : World) (t : ℕ) → t < c.tasks → IsGood c w → (hook : HookAnswer) (x : MountPhase) → (w.views t).phase ≡ Some (Mounts x) →
-    GateStepKeeps c w t hook (Mounts x) → StepKeeps c w t hook (Mounts x)
-whole_step c w t lt good hook x e keeps = (
-  λ part.
-      elim (cases_Bool (at_gates part)) [
-        | inl h ↦ keeps.0 part h
-        | inr h ↦ left_alone c w t lt part (words_after w.words (Mounts x) hook) (view_after (w.views t) (Mounts x) (value_at w.words (Mounts x) hook) hook)
-            (unread part h (next x hook).0 (mounts_touch x hook) w.words (left (next x hook).1 (read w.words (next x hook).0)))
-            (unseen part h (w.views t) x (value_at w.words (Mounts x) hook) hook e) (good part)
-      ],
-  keeps.1,
-)

@@ -1,4 +1,9 @@
 -- What the crate of an operation proves of it: of each of its phases, and of its beginning and its trace.
+use Rattle.access_model.specs.Histories.{mounts_of, levels_of}
+use Rattle.gate_world.specs.Traces.{actions_of}
+use Rattle.std.specs.Prelude.{Err, ◌++◌}
+use Rattle.access_model.specs.declared.errors.GateError.{GateError}
+use Rattle.access_model.specs.declared.actions.Action.{Action}
 use Rattle.std.proofs.Common.{◌≡◌, ℕ, ◌<◌, ◌≤◌, Bool, true, false, arith}
 use Rattle.std.specs.Prelude.{Some, None, List, ◌∷◌}
 use Rattle.cpu_words.specs.Names.{IsWord}
@@ -35,7 +40,7 @@ pub record PhaseKeeps (c : Config) (phase : Phase) : Type 0 where
   -- its event keeps the rule, and moves the shown model by its action
   pub step : IsWithin c → (w : World) → IsGood c w → (t : ℕ) → t < c.tasks → (hook : HookAnswer) → (w.views t).phase ≡ Some phase → StepKeeps c w t hook phase
   -- the word of its event is there
-  pub word : IsWithin c → (t : ℕ) (held : ℕ → ℕ) (levels : ℕ → Bool) (hook : HookAnswer) → PhaseFits c t held levels phase → IsWord (extents_of c) (next_of phase hook).0
+  pub word : IsWithin c → (t : ℕ) → t < c.tasks → (held : ℕ → ℕ) (levels : ℕ → Bool) (hook : HookAnswer) → PhaseFits c t held levels phase → IsWord (extents_of c) (next_of phase hook).0
   -- its action can be done
   pub acts : IsWithin c → (t : ℕ) (held : ℕ → ℕ) (levels : ℕ → Bool) (found : ℕ) (hook : HookAnswer) → PhaseFits c t held levels phase → ActionFits held (after_of phase found hook).1
   -- what comes after it fits
@@ -67,6 +72,9 @@ pub record OpKeeps (c : Config) (op : Op) : Type 0 where
   -- whether it may begin is the same with accesses that agree
   pub order_agrees : (f g : ℕ → ℕ) (h k : ℕ → Bool) → ((m : ℕ) → m < c.mounts → f m ≡ g m) → ((i : ℕ) → 1 ≤ i → i ≤ 3 → h i ≡ k i) → is_in_range c op ≡ true → is_in_order f h op ≡ is_in_order g k op
   pub room_agrees : (f g : ℕ → ℕ) → ((m : ℕ) → m < c.mounts → f m ≡ g m) → is_in_range c op ≡ true → is_within_room f op ≡ is_within_room g op
+  -- where it is refused, the accesses are those with which it began
+  pub restores : (refusal : GateError) (trace : List Traced) (before : List Action) → is_in_order (mounts_of before) (levels_of before) op ≡ true →
+      (mounts_of (actions_of op (Err refusal) trace ++ before) ≡ mounts_of before) × (levels_of (actions_of op (Err refusal) trace ++ before) ≡ levels_of before)
   -- its trace tells what is to be told, and is short
   pub tells : IsWithin c → (t : ℕ) (trace : List Traced) → IsTrace c t op trace → Tells c op trace (course_of c t op trace).comes (course_of c t op trace).added
   pub short : IsWithin c → (t : ℕ) (trace : List Traced) → IsTrace c t op trace → IsShort (most_events c op) trace

@@ -1,3 +1,6 @@
+pub mod Words
+pub mod Known
 pub mod Frames
+pub mod MountEvents
 pub mod Loads
 pub mod Keeps

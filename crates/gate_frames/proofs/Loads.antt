@@ -18,7 +18,8 @@ use Rattle.gate_world.specs.Fits.{Fits, MountFits}
 use Rattle.gate_world.specs.Worlds.{World}
 use Rattle.gate_world.specs.Shown.{shown, closing}
 use Rattle.gate_world.specs.Rules.{role_if, role_of, at_mount, owns, mount_owns, remounts, IsSteady, IsGood, Fitting, GatesHold}
-use Rattle.gate_frames.proofs.Frames.{load_same, added_load, taken_load, view_as, shown_still, owner_same, gates_after}
+use Rattle.gate_frames.proofs.Words.{load_same}
+use Rattle.gate_frames.proofs.Frames.{added_load, taken_load, view_as, shown_still, owner_same, gates_after}
 
 -- the numbers of a role that is known
 pub record Counts (r q : Role) : Type 0 where

@@ -1,7 +1,8 @@
 -- Courses: how far an operation has come by its events, in the order of its phases. They speak of no other task.
-use Rattle.std.specs.Prelude.{◌≡◌, ℕ, Option, Some, None, List, [], ◌∷◌, ◌++◌}
+use Rattle.std.specs.Prelude.{◌≡◌, ℕ, false, Option, Some, None, List, [], ◌∷◌, ◌++◌}
 use Rattle.access_model.specs.declared.actions.Action.{Action}
 use Rattle.access_model.specs.declared.replies.Next.{Next}
+use Rattle.access_model.specs.Histories.{mounts_of, levels_of}
 use Rattle.access_model.specs.declared.replies.Next.TheVariants.{Go, Wait, Done}
 use Rattle.cpu_words.specs.Touches.{event_of}
 use Rattle.gate_world.specs.declared.config.Config.{Config}
@@ -11,7 +12,7 @@ use Rattle.gate_world.specs.declared.views.View.{View}
 use Rattle.gate_world.specs.declared.views.Traced.{Traced}
 use Rattle.gate_world.specs.Work.{next_of, after_of}
 use Rattle.gate_world.specs.Views.{phase_after, actions_after}
-use Rattle.gate_world.specs.Beginnings.{first_phase}
+use Rattle.gate_world.specs.Beginnings.{first_phase, refusal}
 
 -- where an operation stands, and the actions that it has added, the newest first
 pub record Course : Type 0 where
@@ -46,12 +47,13 @@ abbrev pub IsTrace : Config → ℕ → Op → List Traced → Type 0
 IsTrace c t op [] = Unit {0}
 IsTrace c t op (e ∷ earlier) = IsNext (course_of c t op earlier).comes e × IsTrace c t op earlier
 
--- A view's trace: it is a trace of the view's operation, which stands where the view says, and whose actions are the newest of the
--- view's own list. A view with no operation has done nothing.
+-- A view's trace: it is a trace of the view's operation, which stands where the view says. Its actions came on top of those that the
+-- task had when it began, and with the accesses that these leave it may begin. A view with no operation has done nothing.
 pub record FollowsOrder (c : Config) (t : ℕ) (v : View) (op : Op) : Type 0 where
   pub trace : IsTrace c t op v.trace
   pub phase : v.phase ≡ phase_after (course_of c t op v.trace).comes
-  pub actions : (before : List Action) × (v.actions ≡ (course_of c t op v.trace).added ++ before)
+  pub actions : v.actions ≡ (course_of c t op v.trace).added ++ v.before
+  pub begins : refusal c false (mounts_of v.before) (levels_of v.before) op ≡ None
 
 abbrev pub IsTraced : Config → ℕ → View → Option Op → Type 0
 IsTraced c t v None = (v.phase ≡ None) × (v.actions ≡ []) × (v.trace ≡ [])

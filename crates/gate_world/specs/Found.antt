@@ -58,6 +58,30 @@ abbrev pub counts_loaded : ℕ → List Traced → List (ℕ × ℕ)
 counts_loaded m [] = []
 counts_loaded m (e ∷ earlier) = if is_load e.event.touch then count_found m e.event.word e.event.found (counts_loaded m earlier) else counts_loaded m earlier
 
+-- the event is a load that found HOLD at this mount
+abbrev pub finds_hold : ℕ → Event → Bool
+finds_hold m e = is_load e.touch && says_hold m e.word e.found
+
+-- the event is a compare-exchange that found `umount` taken
+abbrev pub finds_taken : Event → Bool
+finds_taken e = is_cas e.touch && says_taken e.word e.found
+
+-- each event of the trace passes this test
+abbrev pub each_event : (Event → Bool) → List Traced → Bool
+each_event test [] = true
+each_event test (e ∷ earlier) = test e.event && each_event test earlier
+
+-- there is an event, and each but the oldest passes this test
+abbrev pub each_but_first : (Event → Bool) → List Traced → Bool
+each_but_first test [] = false
+each_but_first test (e ∷ []) = true
+each_but_first test (e ∷ (d ∷ earlier)) = test e.event && each_but_first test (d ∷ earlier)
+
+-- the newest event passes this test, and so does each before it but the oldest, which is another
+abbrev pub looks_again : (Event → Bool) → List Traced → Bool
+looks_again test [] = false
+looks_again test (e ∷ earlier) = test e.event && each_but_first test earlier
+
 -- these are one load of each processor's count, from 0 up, and the newest first
 abbrev pub IsEachCount : ℕ → List (ℕ × ℕ) → Type 0
 IsEachCount zero [] = Unit {0}

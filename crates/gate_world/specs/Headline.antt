@@ -10,7 +10,7 @@ use Rattle.gate_world.specs.declared.config.Config.{Config}
 use Rattle.gate_world.specs.declared.operations.Op.{Op}
 use Rattle.gate_world.specs.declared.views.View.{View}
 use Rattle.gate_world.specs.Configs.{model_limits}
-use Rattle.gate_world.specs.Views.{held_at}
+use Rattle.gate_world.specs.Views.{held_at, HoldsAsBefore}
 use Rattle.gate_world.specs.Worlds.{World, Entry, happens, action_of, task_of, run, opening, history}
 use Rattle.gate_world.specs.Shown.{shown}
 use Rattle.gate_world.specs.Rules.{at_mount, Moves}
@@ -50,11 +50,11 @@ abbrev pub NobodyIsInside : Config → World → Type 0
 NobodyIsInside c w = NobodyHoldsClosed (model_limits c) (shown c w)
 
 -- What a task's last operation, or the one under way, has done, by its own trace alone: an operation that replied has added exactly
--- its stated actions, a refusal has its cause in the trace, and waiting is reported only where it may be; a refused operation has
--- added nothing, so its task holds what it held before; and where the operation waits for nobody, its events are few.
+-- its stated actions, a refusal has its cause in the trace, and waiting is reported only where it may be; after a refusal the task
+-- holds what it held when the operation began; and where the operation waits for nobody, its events are few.
 pub record OperationTells (c : Config) (t : ℕ) (v : View) (op : Op) : Type 0 where
   pub tells : Tells c op v.trace (course_of c t op v.trace).comes (course_of c t op v.trace).added
-  pub refused : (refusal : GateError) → (course_of c t op v.trace).comes ≡ Ended (Err refusal) → (course_of c t op v.trace).added ≡ []
+  pub refused : (refusal : GateError) → (course_of c t op v.trace).comes ≡ Ended (Err refusal) → HoldsAsBefore v
   pub short : IsShort (most_events c op) v.trace
 
 abbrev pub ViewTells : Config → ℕ → View → Option Op → Type 0
@@ -63,5 +63,5 @@ ViewTells c t v (Some op) = OperationTells c t v op
 
 -- each task's trace follows the order of events of its operation, and tells the rest
 pub record OperationsAreKept (c : Config) (entries : List Entry) (t : ℕ) : Type 0 where
-  pub with_hook : IsTraced c t ((world_after c entries).views t) ((world_after c entries).views t).op
+  pub traced : IsTraced c t ((world_after c entries).views t) ((world_after c entries).views t).op
   pub tells : ViewTells c t ((world_after c entries).views t) ((world_after c entries).views t).op

@@ -2,6 +2,7 @@ pub mod Configs
 pub mod Work
 pub mod Views
 pub mod Found
+pub mod Owners
 pub mod Operations
 pub mod Beginnings
 pub mod Worlds

@@ -1,11 +1,11 @@
 -- One row for each operation: all that is said of it apart from its events.
-use Rattle.std.specs.Prelude.{◌≡◌, ◌≢◌, ℕ, ◌+◌, Bool, true, false, not, ◌&&◌, nat_lt, if◌then◌else◌, Option, Some, None, List, [], ◌∷◌}
+use Rattle.std.specs.Prelude.{◌≡◌, ◌≢◌, ℕ, ◌+◌, Bool, true, false, not, ◌&&◌, nat_lt, if◌then◌else◌, Option, Some, None, Result, Ok, Err, List, [], ◌∷◌}
 use Rattle.access_model.specs.declared.actions.Action.{Action}
 use Rattle.access_model.specs.declared.actions.Action.TheVariants.{Grant, Return, MountRo, MountRw}
 use Rattle.access_model.specs.declared.actions.Gate.TheVariants.{Mount}
 use Rattle.access_model.specs.declared.errors.GateError.{GateError}
 use Rattle.access_model.specs.declared.errors.GateError.TheVariants.{Again, Busy, ReadOnly}
-use Rattle.cpu_words.specs.declared.events.Event.{Event}
+use Rattle.access_model.specs.declared.replies.Reply.{Reply}
 use Rattle.mount_counts.specs.declared.phases.MountPhase.TheVariants.{Want as Wants, Drop as Drops, Change as Changes}
 use Rattle.mount_counts.specs.declared.phases.WantStep.TheVariants.{CountsUp}
 use Rattle.mount_counts.specs.declared.phases.ChangeStep.TheVariants.{Locks}
@@ -15,7 +15,7 @@ use Rattle.gate_world.specs.declared.operations.Op.TheVariants.{Want, DropMount,
 use Rattle.gate_world.specs.declared.work.Phase.{Phase}
 use Rattle.gate_world.specs.declared.work.Phase.TheVariants.{Mounts}
 use Rattle.gate_world.specs.declared.views.Traced.{Traced}
-use Rattle.gate_world.specs.Found.{is_load, is_cas, says_hold, says_taken, found_read_only, found_hold, found_taken, counts_loaded, IsEachCount, sum_loaded}
+use Rattle.gate_world.specs.Found.{found_read_only, found_hold, found_taken, finds_hold, finds_taken, each_event, looks_again, counts_loaded, IsEachCount, sum_loaded}
 
 -- what is said of an operation
 pub record OpRow : Type 1 where
@@ -31,23 +31,29 @@ pub record OpRow : Type 1 where
   pub waits : Bool
   -- the most events, where it waits for nobody
   pub most_events : Config → Option ℕ
-  -- what it has added where it replied
-  pub actions : List Traced → List Action
+  -- what it has added, by its answer and what its trace found
+  pub actions : Result Reply GateError → List Traced → List Action
   -- a refusal has its cause in the trace, and there is no other refusal
   pub IsHonest : Config → GateError → List Traced → Type 0
-  -- it may report that it waits after this event
-  pub MayWait : Event → Type 0
+  -- it may report that it waits after these events
+  pub MayWait : List Traced → Type 0
 
 -- with these levels held, no level is
 abbrev pub holds_none : (ℕ → Bool) → Bool
 holds_none levels = not (levels 1) && (not (levels 2) && not (levels 3))
 
+-- actions of an operation that adds nothing where it is refused
+abbrev pub where_done : List Action → Result Reply GateError → List Action
+where_done actions (Ok reply) = actions
+where_done actions (Err refusal) = []
+
+-- a want is refused as read-only where it found the mount so, and again where it found HOLD and doesn't wait
 abbrev want_honest : ℕ → Bool → GateError → List Traced → Type 0
 want_honest m wait ReadOnly trace = found_read_only m trace ≡ true
 want_honest m wait Again trace = (wait ≡ false) × (found_hold m trace ≡ true)
 want_honest m wait refusal trace = ⊥
 
--- a want that is granted has added its grant; one that waits has found HOLD
+-- a want that is granted has added its grant; one that waits has found HOLD, and nothing else since its addition
 abbrev want_row : ℕ → ℕ → Bool → OpRow
 want_row m p wait = record {
   first = λ c t. Mounts (Wants (record { mount = m; cpu = p; wait = wait; step = CountsUp }));
@@ -56,9 +62,9 @@ want_row m p wait = record {
   within_room = λ held. nat_lt (held m) 1024;
   waits = wait;
   most_events = λ c. if wait then None else Some 6;
-  actions = λ trace. Grant (Mount m) ∷ [];
+  actions = λ answer trace. where_done (Grant (Mount m) ∷ []) answer;
   IsHonest = λ c refusal trace. want_honest m wait refusal trace;
-  MayWait = λ e. (wait ≡ true) × ((is_load e.touch && says_hold m e.word e.found) ≡ true);
+  MayWait = λ trace. (wait ≡ true) × (looks_again (finds_hold m) trace ≡ true);
 }
 
 -- a drop has added its return, and is never refused
@@ -70,9 +76,9 @@ drop_row m p = record {
   within_room = λ held. true;
   waits = false;
   most_events = λ c. Some 1;
-  actions = λ trace. Return (Mount m) ∷ [];
+  actions = λ answer trace. where_done (Return (Mount m) ∷ []) answer;
   IsHonest = λ c refusal trace. ⊥;
-  MayWait = λ e. ⊥;
+  MayWait = λ trace. ⊥;
 }
 
 -- a change has added the mount's new state, but nothing where its trace found the state as it was asked for
@@ -82,12 +88,14 @@ unless_so true false m = MountRo m ∷ []
 unless_so false true m = MountRw m ∷ []
 unless_so false false m = []
 
+-- a change is refused again where it found `umount` taken and doesn't wait, and as busy where the counts that it loaded, one of each
+-- processor, have a sum other than 0
 abbrev change_honest : Config → ℕ → Bool → GateError → List Traced → Type 0
 change_honest c m wait Again trace = (wait ≡ false) × (found_taken trace ≡ true)
 change_honest c m wait Busy trace = IsEachCount c.processors (counts_loaded m trace) × (sum_loaded (counts_loaded m trace) ≢ 0)
 change_honest c m wait refusal trace = ⊥
 
--- one that waits has found `umount` taken
+-- one that waits has found `umount` taken, and nothing else
 abbrev change_row : ℕ → Bool → Bool → OpRow
 change_row m read_only wait = record {
   first = λ c t. Mounts (Changes (record { mount = m; read_only = read_only; wait = wait; task = t; processors = c.processors; step = Locks }));
@@ -96,9 +104,9 @@ change_row m read_only wait = record {
   within_room = λ held. true;
   waits = wait;
   most_events = λ c. if wait then None else Some (c.processors + 7);
-  actions = λ trace. unless_so read_only (found_read_only m trace) m;
+  actions = λ answer trace. where_done (unless_so read_only (found_read_only m trace) m) answer;
   IsHonest = λ c refusal trace. change_honest c m wait refusal trace;
-  MayWait = λ e. (wait ≡ true) × ((is_cas e.touch && says_taken e.word e.found) ≡ true);
+  MayWait = λ trace. (wait ≡ true) × (each_event finds_taken trace ≡ true);
 }
 
 abbrev pub row : Op → OpRow

@@ -20,6 +20,7 @@ use Rattle.gate_world.specs.declared.views.View.{View}
 use Rattle.gate_world.specs.Configs.{model_limits}
 use Rattle.gate_world.specs.Views.{held_at, holds_level, added_by, taken_by}
 use Rattle.gate_world.specs.Fits.{Fits}
+use Rattle.gate_world.specs.Owners.{KnowsWords}
 use Rattle.gate_world.specs.Worlds.{World, after_step, phase_action}
 use Rattle.gate_world.specs.Shown.{shown, closing}
 
@@ -109,6 +110,8 @@ pub data Part : Type 0 where
   Stages : Part
   -- each phase and its task's accesses
   Fitting : Part
+  -- what the owner of `umount` has found or left is still there
+  Known : Part
   -- one mount
   AtMount : (m : ℕ) → Part
 
@@ -118,6 +121,7 @@ Holds c w Owner = OwnerHolds c.tasks w.words.umount w.words.remount (λ t. (w.vi
 Holds c w Superblock = w.words.sb ≤ 1
 Holds c w Stages = w.words.stage ≤ 4
 Holds c w Fitting = (t : ℕ) → t < c.tasks → ViewFits c t (w.views t)
+Holds c w Known = (t : ℕ) → t < c.tasks → owns (w.views t).phase ≡ 1 → KnowsWords w.words (w.views t).trace
 Holds c w (AtMount m) = m < c.mounts →
     MountHolds c.tasks c.processors (w.words.flags m) w.words.remount w.words.sb (w.words.count m) (λ t. at_mount m (w.views t))
 
@@ -127,6 +131,7 @@ SameWords old new Owner = (new.umount ≡ old.umount) × (new.remount ≡ old.re
 SameWords old new Superblock = new.sb ≡ old.sb
 SameWords old new Stages = new.stage ≡ old.stage
 SameWords old new Fitting = Unit {0}
+SameWords old new Known = (new.stage ≡ old.stage) × (new.sb ≡ old.sb) × (new.remount ≡ old.remount) × (new.flags ≡ old.flags)
 SameWords old new (AtMount m) = (new.flags m ≡ old.flags m) × (new.remount ≡ old.remount) × (new.sb ≡ old.sb) × (new.count m ≡ old.count m)
 
 -- what a part reads of a task's view: this is as it was
@@ -135,6 +140,7 @@ SameView old new Owner = (owns new.phase ≡ owns old.phase) × (remounts new.ph
 SameView old new Superblock = Unit {0}
 SameView old new Stages = Unit {0}
 SameView old new Fitting = (held_at new ≡ held_at old) × (holds_level new ≡ holds_level old) × (new.phase ≡ old.phase)
+SameView old new Known = (owns new.phase ≡ owns old.phase) × (new.trace ≡ old.trace)
 SameView old new (AtMount m) = at_mount m new ≡ at_mount m old
 
 -- the rule: each part

@@ -5,17 +5,15 @@ use Rattle.access_model.specs.declared.errors.GateError.{GateError}
 use Rattle.access_model.specs.declared.replies.Next.{Next}
 use Rattle.access_model.specs.declared.replies.Next.TheVariants.{Go, Wait, Done}
 use Rattle.access_model.specs.declared.replies.Reply.{Reply}
-use Rattle.cpu_words.specs.declared.events.Event.{Event}
 use Rattle.gate_world.specs.declared.config.Config.{Config}
 use Rattle.gate_world.specs.declared.operations.Op.{Op}
 use Rattle.gate_world.specs.declared.work.Phase.{Phase}
 use Rattle.gate_world.specs.declared.views.Traced.{Traced}
 use Rattle.gate_world.specs.Operations.{row}
 
--- what an operation that replied has added; what is refused has added nothing
+-- what an operation with this answer and trace has added
 abbrev pub actions_of : Op → Result Reply GateError → List Traced → List Action
-actions_of op (Err refusal) trace = []
-actions_of op (Ok reply) trace = (row op).actions trace
+actions_of op answer trace = (row op).actions answer trace
 
 -- a refusal has its cause in the trace
 abbrev pub IsHonest : Config → Op → GateError → List Traced → Type 0
@@ -33,13 +31,13 @@ abbrev pub IsShort : Option ℕ → List Traced → Type 0
 IsShort None trace = Unit {0}
 IsShort (Some most) trace = length trace ≤ most
 
--- an operation may report that it waits after this event
-abbrev pub MayWait : Op → Event → Type 0
-MayWait op e = (row op).MayWait e
+-- an operation may report that it waits after these events
+abbrev pub MayWait : Op → List Traced → Type 0
+MayWait op trace = (row op).MayWait trace
 
 -- what the trace of an operation says, by where the operation stands
 abbrev pub Tells : Config → Op → List Traced → Next Phase → List Action → Type 0
 Tells c op trace (Go phase) added = Unit {0}
 Tells c op [] (Wait phase) added = ⊥
-Tells c op (e ∷ earlier) (Wait phase) added = MayWait op e.event
+Tells c op (e ∷ earlier) (Wait phase) added = MayWait op (e ∷ earlier)
 Tells c op trace (Done answer) added = (added ≡ actions_of op answer trace) × IsHonestAnswer c op answer trace

@@ -1,5 +1,5 @@
 -- What is known of one task number, and what its next event makes of it.
-use Rattle.std.specs.Prelude.{ℕ, ◌+◌, Bool, Option, Some, None, List, [], ◌∷◌}
+use Rattle.std.specs.Prelude.{◌≡◌, ℕ, ◌+◌, Bool, Option, Some, None, List, [], ◌∷◌}
 use Rattle.finite_sums.specs.Sums.{update}
 use Rattle.access_model.specs.declared.actions.Action.{Action}
 use Rattle.access_model.specs.declared.replies.Next.{Next}
@@ -20,7 +20,7 @@ use Rattle.gate_world.specs.Work.{next_of, after_of}
 
 -- nothing is held and nothing was done
 abbrev pub opening_view : View
-opening_view = record { op = None; phase = None; actions = []; events = []; trace = []; snapshot = None }
+opening_view = record { op = None; phase = None; actions = []; events = []; trace = []; before = []; snapshot = None }
 
 -- accesses: what the actions leave
 abbrev pub held_at : View → ℕ → ℕ
@@ -84,6 +84,7 @@ view_with v next value hook after = record {
   actions = actions_after after.1 v.actions;
   events = event_of next.0 next.1 value ∷ v.events;
   trace = with_hook (event_of next.0 next.1 value) hook ∷ v.trace;
+  before = v.before;
   snapshot = v.snapshot;
 }
 
@@ -91,6 +92,10 @@ view_with v next value hook after = record {
 abbrev pub view_after : View → Phase → ℕ → HookAnswer → View
 view_after v phase value hook = view_with v (next_of phase hook) value hook (after_of phase (found_by (next_of phase hook).1 value) hook)
 
--- the view of a task that has begun an operation
+-- it holds what it held when its operation began
+abbrev pub HoldsAsBefore : View → Type 0
+HoldsAsBefore v = (held_at v ≡ mounts_of v.before) × (holds_level v ≡ levels_of v.before)
+
+-- the view of a task that has begun an operation: it notes what it has done so far
 abbrev pub begun_view : View → Op → Phase → View
-begun_view v op phase = record v { op = Some op; phase = Some phase; trace = [] }
+begun_view v op phase = record v { op = Some op; phase = Some phase; trace = []; before = v.actions }

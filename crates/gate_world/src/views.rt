@@ -35,6 +35,8 @@ pub struct View {
     pub events: LinkedList<Event>,
     /// The events of the operation under way, or of the last one, the newest first.
     pub trace: LinkedList<Traced>,
+    /// The actions that it had when that operation began, the newest first.
+    pub before: LinkedList<Action>,
     /// Its last snapshot.
     pub snapshot: Option<Snapshot>,
 }

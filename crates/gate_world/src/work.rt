@@ -1,7 +1,7 @@
 //! What a task is at: a phase of one of the layers.
 
 ghost use Rattle.std.specs.Prelude.{◌≡◌};
-ghost use Rattle.gate_world.specs.Work.{of_mounts, next_of, after_of};
+ghost use Rattle.gate_world.specs.Work.{next_of, after_of};
 
 use access_model::{Action, Next};
 use cpu_words::{Touch, WordName};
@@ -11,18 +11,6 @@ use mount_counts::{MountPhase, Want};
 #[derive(Clone, Copy, PartialEq, Eq, Debug)]
 pub enum Phase {
     Mounts(MountPhase),
-}
-
-/// The same, of a phase of all layers.
-#[inline(always)]
-fn at_mounts(next: Next<MountPhase>) -> Next<Phase>
-    ensures { result ≡ of_mounts next }
-{
-    match next {
-        Next::Go(phase) => Next::Go(Phase::Mounts(phase)),
-        Next::Wait(phase) => Next::Wait(Phase::Mounts(phase)),
-        Next::Done(answer) => Next::Done(answer),
-    }
 }
 
 impl Phase {
@@ -44,7 +32,7 @@ impl Phase {
         match self {
             Phase::Mounts(phase) => {
                 let (next, action) = phase.after(found, hook);
-                (at_mounts(next), action)
+                (next.map(Phase::Mounts), action)
             }
         }
     }

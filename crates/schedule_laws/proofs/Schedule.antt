@@ -1,4 +1,5 @@
 -- Every schedule keeps the rule, and its actions are one run of the access model.
+use Rattle.gate_world.specs.Owners.{KnowsWords}
 use Rattle.std.proofs.Common.{◌≡◌, ℕ, ◌*◌, ◌%◌, ◌<◌, ◌≤◌, Bool, true, false, refl, sym, ap, ◌∙◌, subst, inl, inr, arith, true≢false}
 use Rattle.std.specs.Prelude.{nat_lt, ◌&&◌, is_some, Option, Some, None, List, [], ◌∷◌}
 use Rattle.std.proofs.Math.Path.{fun_ext}
@@ -21,10 +22,10 @@ use Rattle.gate_world.specs.declared.work.Phase.{Phase}
 use Rattle.gate_world.specs.declared.views.View.{View}
 use Rattle.gate_world.specs.Configs.{IsWithin, model_limits}
 use Rattle.gate_world.specs.Views.{held_at, holds_level, begun_view}
-use Rattle.gate_world.specs.Beginnings.{first_phase, is_in_range, is_in_order, is_within_room, view_refusal}
+use Rattle.gate_world.specs.Beginnings.{first_phase, is_in_range, is_in_order, is_within_room, view_refusal, refusal}
 use Rattle.gate_world.specs.Worlds.{World, Entry, Begins, Steps, after_begin, begin_of, step_of, happens, phase_action, action_of, task_of, with_action, run, opening, history}
 use Rattle.gate_world.specs.Shown.{shown}
-use Rattle.gate_world.specs.Rules.{role_of, at_mount, IsSteady, ViewFits, Part, Owner, Superblock, Stages, Fitting, AtMount, Holds, IsGood, Moves}
+use Rattle.gate_world.specs.Rules.{role_of, at_mount, IsSteady, ViewFits, Part, Owner, Superblock, Stages, Fitting, AtMount, Holds, IsGood, Moves, owns, Known}
 use Rattle.gate_world.specs.Headline.{SumsHold, IdleSumsHold}
 use Rattle.schedule_laws.proofs.Layers.{phase_keeps, op_keeps}
 use Rattle.gate_frames.proofs.Frames.{view_as, left_alone, shown_still}
@@ -47,6 +48,17 @@ pub record MayBegin (c : Config) (v : View) (op : Op) : Type 0 where
 
 not_some : {A : Type 0} (x : A) {B : Type 0} → Some x ≡ None → B
 not_some x h = absurd (true≢false (ap is_some h))
+
+-- an operation that isn't refused, with none under way, is in order
+pub in_order_then : (c : Config) (held : ℕ → ℕ) (levels : ℕ → Bool) (op : Op) → refusal c false held levels op ≡ None → is_in_order held levels op ≡ true
+in_order_then c held levels op h =
+    elim (cases_Bool (is_in_range c op)) [
+      | inl b ↦ elim (cases_Bool (is_in_order held levels op)) [
+        | inl d ↦ d
+        | inr d ↦ not_some Order (rw (b, d) at h)
+      ]
+      | inr b ↦ not_some Invalid (rw b at h)
+    ]
 
 pub may_begin : (c : Config) (v : View) (op : Op) → view_refusal c v op ≡ None → MayBegin c v op
 may_begin c v op h =
@@ -78,6 +90,8 @@ module _ (c : Config) (lim : IsWithin c) (w : World) (good : IsGood c w) (t : �
       left_alone c w t lt Owner w.words (begun_view (w.views t) op (first_phase c t op)) (refl, refl) (same.owns_same, same.remounts_same) (good Owner)
   begun_good op h Superblock = good Superblock
   begun_good op h Stages = good Stages
+  begun_good op h Known = λ x lx. each_updated (λ y (u : View). owns u.phase ≡ 1 → KnowsWords w.words u.trace) w.views t (begun_view (w.views t) op (first_phase c t op)) x
+      (λ o word value k. absurd (true≢false (ap is_some (sym k)))) (λ ne. good Known x lx)
   begun_good op h (AtMount m) =
       left_alone c w t lt (AtMount m) w.words (begun_view (w.views t) op (first_phase c t op)) (refl, refl, refl, refl) (view_as refl refl refl ((op_keeps c op).no_role t m ∙ sym (ap (role_of m) h.idle))) (good (AtMount m))
 
@@ -131,6 +145,7 @@ module _ (c : Config) (lim : IsWithin c) where
   opening_good Owner = record { locked = λ t lt h. absurd (omega arith); owned = λ t lt h. absurd (omega arith); known = omega arith; bit = omega arith; remounting = sym (zeros c.tasks) }
   opening_good Superblock = omega arith
   opening_good Stages = omega arith
+  opening_good Known = λ t lt o. absurd (omega (arith, o))
   opening_good Fitting = λ t lt. tt
   opening_good (AtMount m) = λ lm. record {
     bits = omega arith;

@@ -1,6 +1,8 @@
 -- What holds of every schedule from the opening on.
-use Rattle.std.proofs.Common.{◌≡◌, ℕ, refl, sym, subst}
-use Rattle.std.specs.Prelude.{Option, Some, None, Err, List, []}
+use Rattle.access_model.specs.Histories.{mounts_of, levels_of}
+use Rattle.gate_world.specs.Views.{HoldsAsBefore}
+use Rattle.std.proofs.Common.{◌≡◌, ℕ, refl, sym, subst, ◌∙◌, ap}
+use Rattle.std.specs.Prelude.{Option, Some, None, Err, List, [], ◌++◌}
 use Rattle.access_model.specs.States.{State}
 use Rattle.access_model.specs.Laws.{NobodyHoldsClosed}
 use Rattle.access_model.proofs.Closed.{closed}
@@ -9,8 +11,8 @@ use Rattle.gate_world.specs.Configs.{IsWithin, model_limits}
 use Rattle.gate_world.specs.Worlds.{World, Entry, opening}
 use Rattle.gate_world.specs.Rules.{IsGood}
 use Rattle.gate_world.specs.Headline.{world_after, actions_so_far, MovesTheModel, IsOneRun, NobodyIsInside, SumsHold, IdleSumsHold, ViewTells, OperationsAreKept}
-use Rattle.gate_world.specs.Courses.{course_of, IsTraced}
-use Rattle.gate_world.specs.Traces.{Tells}
+use Rattle.gate_world.specs.Courses.{course_of, IsTraced, FollowsOrder}
+use Rattle.gate_world.specs.Traces.{Tells, actions_of}
 use Rattle.gate_world.specs.declared.operations.Op.{Op}
 use Rattle.gate_world.specs.declared.work.Phase.{Phase}
 use Rattle.gate_world.specs.declared.views.View.{View}
@@ -23,7 +25,7 @@ use Rattle.schedule_laws.proofs.Layers.{op_keeps}
 use Rattle.trace_laws.proofs.Traced.{all_traced}
 use Rattle.gate_world.specs.Causes.{HasCause, RefusalsHaveCauses}
 use Rattle.schedule_laws.proofs.Entries.{TrailHolds, trail_holds, cause_tells}
-use Rattle.schedule_laws.proofs.Schedule.{opening_good, opening_shown, happens_keeps, run_keeps, gate_sums, idle_sums}
+use Rattle.schedule_laws.proofs.Schedule.{opening_good, opening_shown, happens_keeps, run_keeps, gate_sums, idle_sums, in_order_then}
 use Rattle.schedule_laws.proofs.Lists.{run_lists}
 
 module _ (c : Config) (lim : IsWithin c) where
@@ -54,10 +56,19 @@ module _ (c : Config) (lim : IsWithin c) where
   pub whole_idle : (es : List Entry) → IdleSumsHold c (world_after c es)
   whole_idle es = idle_sums c lim (world_after c es) (whole_rule es)
 
-  -- an operation that stands refused tells that it has added nothing
-  refused_adds_none : (op : Op) (trace : List Traced) (comes : Next Phase) (added : List Action) (refusal : GateError) → Tells c op trace comes added → comes ≡ Ended (Err refusal) → added ≡ []
-  refused_adds_none op trace comes added refusal h e =
+  -- an operation that was refused has added what its refusals add
+  refused_adds : (op : Op) (trace : List Traced) (comes : Next Phase) (added : List Action) (refusal : GateError) →
+      Tells c op trace comes added → comes ≡ Ended (Err refusal) → added ≡ actions_of op (Err refusal) trace
+  refused_adds op trace comes added refusal h e =
       let k : Tells c op trace (Ended (Err refusal)) added = subst (λ (s : Next Phase). Tells c op trace s added) e h in k.0
+
+  -- so its task holds what it held when it began
+  holds_as_before : (t : ℕ) (v : View) (op : Op) (refusal : GateError) → FollowsOrder c t v op → v.actions ≡ actions_of op (Err refusal) v.trace ++ v.before →
+      HoldsAsBefore v
+  holds_as_before t v op refusal h is =
+      let k : (mounts_of (actions_of op (Err refusal) v.trace ++ v.before) ≡ mounts_of v.before) × (levels_of (actions_of op (Err refusal) v.trace ++ v.before) ≡ levels_of v.before) =
+      (op_keeps c op).restores refusal v.trace v.before (in_order_then c (mounts_of v.before) (levels_of v.before) op h.begins) in
+      (ap mounts_of is ∙ k.0, ap levels_of is ∙ k.1)
 
   op_tells : (t : ℕ) (v : View) (op : Option Op) → IsTraced c t v op → ViewTells c t v op
   op_tells t v None h = tt
@@ -65,11 +76,12 @@ module _ (c : Config) (lim : IsWithin c) where
       let k : Tells c op v.trace (course_of c t op v.trace).comes (course_of c t op v.trace).added = (op_keeps c op).tells lim t v.trace h.trace in
       record {
         tells = k;
-        refused = λ refusal e. refused_adds_none op v.trace (course_of c t op v.trace).comes (course_of c t op v.trace).added refusal k e;
+        refused = λ refusal e. holds_as_before t v op refusal h
+            (h.actions ∙ ap (λ l. l ++ v.before) (refused_adds op v.trace (course_of c t op v.trace).comes (course_of c t op v.trace).added refusal k e));
         short = (op_keeps c op).short lim t v.trace h.trace;
       }
 
   pub whole_operations : (es : List Entry) (t : ℕ) → OperationsAreKept c es t
   whole_operations es t =
-      let with_hook : IsTraced c t ((world_after c es).views t) ((world_after c es).views t).op = all_traced c opening es (λ x. (refl, refl, refl)) t in
-      record { with_hook = with_hook; tells = op_tells t ((world_after c es).views t) ((world_after c es).views t).op with_hook }
+      let traced : IsTraced c t ((world_after c es).views t) ((world_after c es).views t).op = all_traced c opening es (λ x. (refl, refl, refl)) t in
+      record { traced = traced; tells = op_tells t ((world_after c es).views t) ((world_after c es).views t).op traced }

@@ -1,6 +1,6 @@
 -- Each view follows its operation, after every schedule.
-use Rattle.std.proofs.Common.{◌≡◌, ℕ, refl, sym, ap, ◌∙◌, subst, inl, inr}
-use Rattle.std.specs.Prelude.{Option, Some, None, nat_lt, List, [], ◌∷◌, ◌++◌}
+use Rattle.std.proofs.Common.{◌≡◌, ℕ, refl, sym, ap, ◌∙◌, subst, inl, inr, Bool, false, is_some, true≢false}
+use Rattle.std.specs.Prelude.{true, false, Option, Some, None, nat_lt, List, [], ◌∷◌, ◌++◌}
 use Rattle.std.proofs.lemmas.Bool.{cases_Bool}
 use Rattle.finite_sums.proofs.Totals.{each_updated}
 use Rattle.access_model.specs.declared.actions.Action.{Action}
@@ -15,8 +15,8 @@ use Rattle.gate_world.specs.declared.work.Phase.{Phase}
 use Rattle.gate_world.specs.declared.views.View.{View}
 use Rattle.gate_world.specs.declared.views.Traced.{Traced}
 use Rattle.gate_world.specs.Work.{next_of, after_of}
-use Rattle.gate_world.specs.Views.{phase_after, actions_after, with_hook, view_after, begun_view}
-use Rattle.gate_world.specs.Beginnings.{first_phase}
+use Rattle.gate_world.specs.Views.{phase_after, actions_after, with_hook, view_after, begun_view, held_at, holds_level}
+use Rattle.gate_world.specs.Beginnings.{first_phase, view_refusal, refusal}
 use Rattle.gate_world.specs.Worlds.{World, Entry, Begins, Steps, begin_refusal, begin_of, value_at, step_of, happens, run}
 use Rattle.gate_world.specs.Courses.{course_with, course_after, course_of, IsEventOf, IsNext, IsTraced}
 use Rattle.trace_laws.proofs.Says.{event_at}
@@ -47,19 +47,38 @@ step_follows c t v (Some op) phase value hook e h =
     record {
       trace = (s.0, h.trace);
       phase = ap (λ x. phase_after x.comes) (sym s.1);
-      actions = (h.actions.0, newest (after_of phase (found_by (next_of phase hook).1 value) hook).1 v.actions (course_of c t op v.trace).added h.actions.0 h.actions.1 ∙ ap (λ x. x.added ++ h.actions.0) (sym s.1));
+      actions = newest (after_of phase (found_by (next_of phase hook).1 value) hook).1 v.actions (course_of c t op v.trace).added v.before h.actions ∙ ap (λ x. x.added ++ v.before) (sym s.1);
+      begins = h.begins;
     }
 
 -- each view of a world follows its operation
 abbrev pub AllTraced : Config → World → Type 0
 AllTraced c w = (t : ℕ) → IsTraced c t (w.views t) (w.views t).op
 
--- a beginning empties the trace
-begin_keeps : (c : Config) (w : World) (t : ℕ) (op : Op) (refused : Option GateError) → AllTraced c w → AllTraced c (begin_of c w t op refused)
-begin_keeps c w t op (Some refused) h x = h x
-begin_keeps c w t op None h x =
+-- why an operation can't begin, where another is under way or none is
+abbrev unless_under_way : Config → View → Op → Bool → Option GateError
+unless_under_way c v op under_way = refusal c under_way (held_at v) (holds_level v) op
+
+-- an operation that begins finds none under way
+idle_refusal : (c : Config) (v : View) (op : Op) (under_way : Bool) → unless_under_way c v op under_way ≡ None → unless_under_way c v op false ≡ None
+idle_refusal c v op true h = absurd (true≢false (ap is_some h))
+idle_refusal c v op false h = h
+
+-- a beginning empties the trace, and notes the actions so far
+begin_keeps : (c : Config) (w : World) (t : ℕ) (op : Op) (refused : Option GateError) → view_refusal c (w.views t) op ≡ refused → AllTraced c w →
+    AllTraced c (begin_of c w t op refused)
+begin_keeps c w t op (Some refused) e h x = h x
+begin_keeps c w t op None e h x =
     each_updated (λ y (v : View). IsTraced c y v v.op) w.views t (begun_view (w.views t) op (first_phase c t op)) x
-    (record { trace = tt; phase = refl; actions = ((w.views t).actions, refl) }) (λ ne. h x)
+    (record { trace = tt; phase = refl; actions = refl; begins = idle_refusal c (w.views t) op (is_some (w.views t).phase) e }) (λ ne. h x)
+
+-- one that finds no such task does nothing
+begin_entry : (c : Config) (w : World) (t : ℕ) (op : Op) → AllTraced c w → AllTraced c (begin_of c w t op (begin_refusal c w t op))
+begin_entry c w t op h =
+    elim (cases_Bool (nat_lt t c.tasks)) [
+      | inl f ↦ rw f (begin_keeps c w t op (view_refusal c (w.views t) op) refl h)
+      | inr f ↦ rw f h
+    ]
 
 -- a step adds the event that the phase wants
 step_keeps : (c : Config) (w : World) (t : ℕ) (hook : HookAnswer) (phase : Option Phase) → (w.views t).phase ≡ phase → AllTraced c w → AllTraced c (step_of w t hook phase)
@@ -70,7 +89,7 @@ step_keeps c w t hook (Some phase) e h x =
 
 -- so each entry keeps it
 entry_keeps : (c : Config) (w : World) (e : Entry) → AllTraced c w → AllTraced c (happens c w e)
-entry_keeps c w (Begins t op) h = begin_keeps c w t op (begin_refusal c w t op) h
+entry_keeps c w (Begins t op) h = begin_entry c w t op h
 entry_keeps c w (Steps t hook) h =
     elim (cases_Bool (nat_lt t c.tasks)) [
       | inl f ↦ rw f (step_keeps c w t hook (w.views t).phase refl h)

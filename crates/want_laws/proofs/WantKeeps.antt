@@ -30,7 +30,7 @@ both false b e = absurd (cc)
 pub want_phase : (c : Config) (x : Want) → PhaseKeeps c (Mounts (Wants x))
 want_phase c x = record {
   step = λ lim w good t lt hook e. want_keeps c lim w good t lt hook x.mount x.cpu x.wait x.step e;
-  word = λ lim t held levels hook f. want_there c lim t held levels x x.step f.0 f.1;
+  word = λ lim t lt held levels hook f. want_there c lim t held levels x x.step f.0 f.1;
   acts = λ lim t held levels found hook f. want_acts c lim t held levels x x.step found (omega (arith, f.0, lim.mounts)) f.2;
   goes = λ lim t held levels found hook f. want_goes c lim t held levels x x.step found f;
   agrees = λ t f g h k mounts levels fits. (fits.0, fits.1, omega (arith, fits.2, mounts x.mount fits.0));
@@ -45,7 +45,7 @@ want_phase c x = record {
 pub drop_phase : (c : Config) (m p : ℕ) → PhaseKeeps c (Mounts (Drops m p))
 drop_phase c m p = record {
   step = λ lim w good t lt hook e. drop_keeps c lim w good t lt hook m p e;
-  word = λ lim t held levels hook f. (f.0, f.1);
+  word = λ lim t lt held levels hook f. (f.0, f.1);
   acts = λ lim t held levels found hook f. (omega (arith, f.0, lim.mounts), f.2);
   goes = λ lim t held levels found hook f. tt;
   agrees = λ t f g h k mounts levels fits. (fits.0, fits.1, omega (arith, fits.2, mounts m fits.0));
@@ -65,6 +65,7 @@ want_op c m p wait = record {
   cause = λ t w earlier. tt;
   order_agrees = λ f g h k mounts levels there. refl;
   room_agrees = λ f g mounts there. ap (λ y. nat_lt y 1024) (mounts m (ltb-true m c.mounts (both (nat_lt m c.mounts) (nat_lt p c.processors) there).0));
+  restores = λ refusal trace before order. (refl, refl);
   tells = λ lim t trace h. tells (WantAt c m p wait) c t (WantOp m p wait) (want_traced c t m p wait) trace h;
   short = λ lim t trace h. is_short (WantAt c m p wait) c t (WantOp m p wait) (want_traced c t m p wait) trace h;
 }
@@ -79,6 +80,7 @@ drop_op c m p = record {
   cause = λ t w earlier. tt;
   order_agrees = λ f g h k mounts levels there. ap (nat_lt 0) (mounts m (ltb-true m c.mounts (both (nat_lt m c.mounts) (nat_lt p c.processors) there).0));
   room_agrees = λ f g mounts there. refl;
+  restores = λ refusal trace before order. (refl, refl);
   tells = λ lim t trace h. tells (DropAt m p) c t (DropMount m p) (drop_kept c t m p) trace h;
   short = λ lim t trace h. is_short (DropAt m p) c t (DropMount m p) (drop_kept c t m p) trace h;
 }

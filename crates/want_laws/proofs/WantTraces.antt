@@ -1,6 +1,8 @@
 -- Traces of a want and of a drop.
+use Rattle.cpu_words.specs.declared.events.Event.{Event}
+use Rattle.gate_world.specs.Found.{each_but_first, finds_hold}
 use Rattle.std.proofs.Common.{◌≡◌, ℕ, ◌≤◌, Bool, true, false, refl, sym, ap, subst, inl, inr, arith}
-use Rattle.std.specs.Prelude.{◌==◌, List, [], ◌∷◌, length}
+use Rattle.std.specs.Prelude.{◌&&◌, ◌==◌, List, [], ◌∷◌, length}
 use Rattle.std.proofs.lemmas.Bool.{eq-eqb, cases_Bool}
 use Rattle.access_model.specs.declared.actions.Action.{Action}
 use Rattle.access_model.specs.declared.actions.Action.TheVariants.{Return}
@@ -33,18 +35,27 @@ events_before LoadsReadOnly = 3
 events_before LoadsSuperblock = 4
 events_before (CountsDown refusal) = 5
 
--- a want that takes its count back has the cause of its refusal in its trace
-abbrev RefusalFound : Config → ℕ → ℕ → Bool → WantStep → List Traced → Type 0
-RefusalFound c m p wait (CountsDown refusal) trace = IsHonest c (Want m p wait) refusal trace
-RefusalFound c m p wait step trace = Unit {0}
+-- a want that adds has done nothing, one that looks for HOLD has found nothing but HOLD since its addition, and
+-- one that takes its count back has the cause of its refusal in its trace
+abbrev HasFound : Config → ℕ → ℕ → Bool → WantStep → List Traced → Type 0
+HasFound c m p wait CountsUp trace = trace ≡ []
+HasFound c m p wait LoadsHold trace = each_but_first (finds_hold m) trace ≡ true
+HasFound c m p wait (CountsDown refusal) trace = IsHonest c (Want m p wait) refusal trace
+HasFound c m p wait step trace = Unit {0}
 
 -- what a trace says at a step: nothing is added yet
 abbrev WantSays : Config → ℕ → ℕ → Bool → WantStep → List Traced → List Action → Type 0
-WantSays c m p wait step trace added = (added ≡ []) × (wait ≡ false → length trace ≤ events_before step) × RefusalFound c m p wait step trace
+WantSays c m p wait step trace added = (added ≡ []) × (wait ≡ false → length trace ≤ events_before step) × HasFound c m p wait step trace
 
 -- what a want's trace says at a phase
 abbrev pub WantAt : Config → ℕ → ℕ → Bool → List Traced → Phase → List Action → Type 0
 WantAt c m p wait trace phase added = (step : WantStep) × (phase ≡ want m p wait step) × WantSays c m p wait step trace added
+
+-- where the newest event passes a test, and each before it but the oldest, each but the oldest of all does
+once_more : (test : Event → Bool) (e : Event) (hook : HookAnswer) (earlier : List Traced) → (test e && each_but_first test earlier) ≡ true →
+    each_but_first test (with_hook e hook ∷ earlier) ≡ true
+once_more test e hook [] h = refl
+once_more test e hook (d ∷ earlier) h = h
 
 -- a step comes after at most six events
 within_six : (step : WantStep) (n : ℕ) → n ≤ events_before step → n ≤ 6
@@ -70,12 +81,15 @@ module _ (c : Config) (m p : ℕ) (value : ℕ) (hook : HookAnswer) (earlier : L
 
   -- HOLD was found
   hold_found : (wait : Bool) → WantSays c m p wait LoadsHold earlier added → has_flag value 2 ≡ true → After wait LoadsHold
-  hold_found true h f = rw f ((LoadsHold, refl, (h.0, λ q. absurd (cc), tt)), (refl, rw (eq-eqb m m refl, f) refl))
+  hold_found true h f =
+      let found : (finds_hold m (event_at (want m p true LoadsHold) value hook) && each_but_first (finds_hold m) earlier) ≡ true =
+      rw (eq-eqb m m refl, f) h.2 in
+      rw f ((LoadsHold, refl, (h.0, λ q. absurd (cc), once_more (finds_hold m) (event_at (want m p true LoadsHold) value hook) hook earlier found)), (refl, found))
   hold_found false h f = rw f (CountsDown Again, refl, (h.0, λ q. omega (arith, h.1 q), (refl, rw (eq-eqb m m refl, f) refl)))
 
   -- each event of a want keeps what its trace says
   want_event : (wait : Bool) (step : WantStep) → WantSays c m p wait step earlier added → After wait step
-  want_event wait CountsUp h = (LoadsHold, refl, (h.0, λ q. omega (arith, h.1 q), tt))
+  want_event wait CountsUp h = (LoadsHold, refl, (h.0, λ q. omega (arith, h.1 q), subst (λ l. each_but_first (finds_hold m) (with_hook (event_at (want m p wait CountsUp) value hook) hook ∷ l) ≡ true) (sym h.2) refl))
   want_event wait LoadsHold h =
       elim (cases_Bool (has_flag value 2)) [
         | inl f ↦ hold_found wait h f
@@ -104,7 +118,7 @@ module _ (c : Config) (m p : ℕ) (value : ℕ) (hook : HookAnswer) (earlier : L
 -- so it is kept along every trace of a want
 pub want_kept : (c : Config) (t m p : ℕ) (wait : Bool) → Kept (WantAt c m p wait) c t (Want m p wait)
 want_kept c t m p wait = record {
-  first = (CountsUp, refl, (refl, λ q. omega arith, tt));
+  first = (CountsUp, refl, (refl, λ q. omega arith, refl));
   more = λ phase value hook earlier added here.
       subst (λ (x : Phase). SaysAfter (WantAt c m p wait) c (Want m p wait) x value hook earlier added) (sym here.1) (want_event c m p value hook earlier added wait here.0 here.2);
   short = λ trace phase added here. want_short c m p wait trace (λ q. within_six here.0 (length trace) (here.2.1 q));

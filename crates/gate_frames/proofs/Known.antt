@@ -1,0 +1,146 @@
+-- What the owner of `umount` has found or left is still there: nobody else changes such a word.
+use Rattle.finite_sums.proofs.Totals.{each_updated}
+use Rattle.gate_world.specs.declared.config.Config.{Config}
+use Rattle.cpu_words.specs.declared.events.Event.{Event}
+use Rattle.gate_world.specs.Rules.{Holds, IsGood, Known, Owner, owns}
+use Rattle.cpu_words.specs.Hooks.{HookAnswer}
+use Rattle.std.specs.Prelude.{List, None, Some, false, is_some, ◌∷◌, []}
+use Rattle.cpu_words.specs.declared.events.Touch.TheVariants.{Load}
+use Rattle.cpu_words.specs.declared.names.WordName.TheVariants.{MountFlags, Remount, SbFlags, Stage}
+use Rattle.gate_world.specs.declared.work.Phase.{Phase}
+use Rattle.cpu_words.specs.declared.events.Touch.{Touch}
+use Rattle.gate_world.specs.declared.views.Traced.{Traced}
+use Rattle.gate_world.specs.declared.views.View.{View}
+use Rattle.cpu_words.specs.declared.names.WordName.{WordName}
+use Rattle.cpu_words.specs.Words.{Words, put, read}
+use Rattle.gate_world.specs.Worlds.{World, after_step, found_at, value_at, words_after}
+use Rattle.gate_world.specs.Work.{after_of, next_of}
+use Rattle.std.proofs.Common.{arith, inl, inr, refl, sym, true, true≢false, ◌≡◌, ◌<◌, ◌∙◌, ◌⊎◌, ◌≢◌, ap, ℕ}
+use Rattle.std.proofs.lemmas.Bool.{cases_Bool}
+use Rattle.cpu_words.specs.Touches.{event_of, left}
+use Rattle.gate_world.specs.Found.{is_load}
+use Rattle.gate_world.specs.Owners.{is_owned, is_owned_word, last_left, takes_lock, KnowsWords}
+use Rattle.gate_frames.proofs.Words.{load_same}
+use Rattle.gate_world.specs.Views.{phase_after, view_after}
+use Rattle.finite_sums.specs.Sums.{update}
+
+-- nothing is something
+none_is_none : {A : Type 0} {B : Type 0} (x : A) → None ≡ Some x → B
+none_is_none x h = absurd (true≢false (ap is_some (sym h)))
+
+-- of two words that are the same owned word each is owned
+pub owned_first : (word other : WordName) → is_owned_word word other ≡ true → is_owned word ≡ true
+owned_first Stage other h = refl
+owned_first SbFlags other h = refl
+owned_first Remount other h = refl
+owned_first (MountFlags m) other h = refl
+owned_first word other h = absurd (true≢false (sym h))
+
+pub owned_second : (word other : WordName) → is_owned_word word other ≡ true → is_owned other ≡ true
+owned_second Stage Stage h = refl
+owned_second SbFlags SbFlags h = refl
+owned_second Remount Remount h = refl
+owned_second (MountFlags m) (MountFlags n) h = refl
+owned_second word other h = absurd (true≢false (sym h))
+
+-- a write of an owned word leaves its value there
+put_owned : (w : Words) (word other : WordName) (value : ℕ) → is_owned_word word other ≡ true → read (put w other value) word ≡ value
+put_owned w Stage Stage value h = refl
+put_owned w SbFlags SbFlags value h = refl
+put_owned w Remount Remount value h = refl
+put_owned w (MountFlags m) (MountFlags n) value h = rw (h, update) refl
+put_owned w word other value h = absurd (true≢false (sym h))
+
+-- and each other owned word as it was
+put_other : (w : Words) (word other : WordName) (value : ℕ) → is_owned word ≡ true → is_owned_word word other ≡ false →
+    read (put w other value) word ≡ read w word
+put_other w Stage Stage value h k = absurd (true≢false k)
+put_other w Stage other value h k = refl
+put_other w SbFlags SbFlags value h k = absurd (true≢false k)
+put_other w SbFlags other value h k = refl
+put_other w Remount Remount value h k = absurd (true≢false k)
+put_other w Remount other value h k = refl
+put_other w (MountFlags m) (MountFlags n) value h k = rw (k, update) refl
+put_other w (MountFlags m) other value h k = refl
+put_other w word other value h k = absurd (true≢false (sym h))
+
+-- a load leaves each word
+load_leaves : (w : Words) (word other : WordName) (touch : Touch) → is_load touch ≡ true → read (put w other (left touch (read w other))) word ≡ read w word
+load_leaves w word other Load h = ap (λ ws. read ws word) (load_same w other)
+load_leaves w word other touch h = absurd (true≢false (sym h))
+
+-- only an owned word is known
+known_owned : (word : WordName) (trace : List Traced) (value : ℕ) → last_left word trace ≡ Some value → is_owned word ≡ true
+known_owned word [] value h = none_is_none value h
+known_owned word (e ∷ earlier) value h =
+    elim (cases_Bool (takes_lock e.event)) [
+      | inl f ↦ none_is_none value (rw f at h)
+      | inr f ↦ elim (cases_Bool (is_owned_word word e.event.word)) [
+        | inl g ↦ owned_first word e.event.word g
+        | inr g ↦ known_owned word earlier value (rw (f, g) at h)
+      ]
+    ]
+
+-- owned words that are as they were
+read_same : (old new : Words) → (new.stage ≡ old.stage) × (new.sb ≡ old.sb) × (new.remount ≡ old.remount) × (new.flags ≡ old.flags) →
+    (word : WordName) → is_owned word ≡ true → read new word ≡ read old word
+read_same old new same Stage h = same.0
+read_same old new same SbFlags h = same.1
+read_same old new same Remount h = same.2
+read_same old new same (MountFlags m) h = ap (λ f. f m) same.3
+read_same old new same word h = absurd (true≢false (sym h))
+
+-- are known as they were
+pub known_same : (old new : Words) → (new.stage ≡ old.stage) × (new.sb ≡ old.sb) × (new.remount ≡ old.remount) × (new.flags ≡ old.flags) →
+    (trace : List Traced) → KnowsWords old trace → KnowsWords new trace
+known_same old new same trace h word value k = read_same old new same word (known_owned word trace value k) ∙ h word value k
+
+-- the event of a phase, on a word that held this value
+abbrev pub event_on : Phase → ℕ → HookAnswer → Event
+event_on phase value hook = event_of (next_of phase hook).0 (next_of phase hook).1 value
+
+-- Who changes an owned word owns `umount`, and nobody comes to own it but by taking it.
+pub record IsOwnersWork (w : World) (phase : Phase) (hook : HookAnswer) : Type 0 where
+  pub changes : is_owned (next_of phase hook).0 ≡ true → (is_load (next_of phase hook).1 ≡ true) ⊎ (owns (Some phase) ≡ 1)
+  pub comes_to_own : owns (phase_after (after_of phase (found_at w.words phase hook) hook).0) ≡ 1 →
+      (owns (Some phase) ≡ 1) ⊎ (takes_lock (event_on phase (value_at w.words phase hook) hook) ≡ true)
+
+module _ (c : Config) (w : World) (t : ℕ) (phase : Phase) (hook : HookAnswer) (good : IsGood c w) (lt : t < c.tasks) (e : (w.views t).phase ≡ Some phase) (work : IsOwnersWork w phase hook) where
+  -- what the task itself knew, and what its event found or left
+  own_known : owns (phase_after (after_of phase (found_at w.words phase hook) hook).0) ≡ 1 →
+      KnowsWords (words_after w.words phase hook) (view_after (w.views t) phase (value_at w.words phase hook) hook).trace
+  own_known o word value h =
+      elim (cases_Bool (takes_lock (event_on phase (value_at w.words phase hook) hook))) [
+        | inl f ↦ none_is_none value (rw f at h)
+        | inr f ↦ elim (work.comes_to_own o) [
+          | inr g ↦ absurd (true≢false (sym g ∙ f))
+          | inl g ↦ elim (cases_Bool (is_owned_word word (next_of phase hook).0)) [
+            | inl k ↦
+                let is : Some (left (next_of phase hook).1 (value_at w.words phase hook)) ≡ Some value = rw (f, k) at h in
+                put_owned w.words word (next_of phase hook).0 (left (next_of phase hook).1 (value_at w.words phase hook)) k ∙ cc
+            | inr k ↦
+                let was : last_left word (w.views t).trace ≡ Some value = rw (f, k) at h in
+                put_other w.words word (next_of phase hook).0 (left (next_of phase hook).1 (value_at w.words phase hook)) (known_owned word (w.views t).trace value was) k ∙
+                good Known t lt (ap owns e ∙ g) word value was
+          ]
+        ]
+      ]
+
+  -- what another owner knew: the event changes no owned word
+  other_known : (y : ℕ) → y < c.tasks → (y ≡ t → ⊥) → owns (w.views y).phase ≡ 1 → KnowsWords (words_after w.words phase hook) (w.views y).trace
+  other_known y ly ne o word value h =
+      let there : read (words_after w.words phase hook) word ≡ read w.words word =
+      elim (cases_Bool (is_owned_word word (next_of phase hook).0)) [
+        | inl k ↦ elim (work.changes (owned_second word (next_of phase hook).0 k)) [
+          | inl f ↦ load_leaves w.words word (next_of phase hook).0 (next_of phase hook).1 f
+          | inr f ↦ absurd (ne (omega (arith, (good Owner).locked y ly o, (good Owner).locked t lt (ap owns e ∙ f))))
+        ]
+        | inr k ↦ put_other w.words word (next_of phase hook).0 (left (next_of phase hook).1 (value_at w.words phase hook)) (known_owned word (w.views y).trace value h) k
+      ] in
+      there ∙ good Known y ly o word value h
+
+  -- so each event leaves what an owner knows, and adds what it found or left
+  pub known_after : Holds c (after_step w t phase hook) Known
+  known_after x lx =
+      each_updated (λ y (u : View). owns u.phase ≡ 1 → KnowsWords (words_after w.words phase hook) u.trace) w.views t
+      (view_after (w.views t) phase (value_at w.words phase hook) hook) x own_known (λ ne. other_known x lx ne)

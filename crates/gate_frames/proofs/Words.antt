@@ -1,0 +1,32 @@
+-- Words and functions with one place changed.
+use Rattle.std.proofs.Common.{◌≡◌, ℕ, refl, sym, ap, ◌∙◌, inl, inr}
+use Rattle.std.proofs.Math.Path.{fun_ext}
+use Rattle.std.proofs.lemmas.Bool.Decides.{eqb_tells}
+use Rattle.finite_sums.specs.Sums.{update}
+use Rattle.cpu_words.specs.declared.names.WordName.{WordName}
+use Rattle.cpu_words.specs.declared.names.WordName.TheVariants.{Umount, Stage, SbFlags, Remount, MountFlags, MountCount, Block, Sync, LevelCount, Section, Used, Node, Kids}
+use Rattle.cpu_words.specs.Words.{Words, read, put}
+
+-- what a function gives, with one place changed
+pub update_map : {A B : Type 0} (g : A → B) (f : ℕ → A) (t : ℕ) (v : A) → (λ x. g (update f t v x)) ≡ update (λ x. g (f x)) t (g v)
+update_map g f t v = fun_ext (λ x. elim (eqb_tells x t) [ inl h ↦ rw (h.0, update) | inr h ↦ rw (h.0, update) ])
+
+-- the value that stands there, put there
+pub update_same : {A : Type 0} (f : ℕ → A) (t : ℕ) → update f t (f t) ≡ f
+update_same f t = fun_ext (λ x. elim (eqb_tells x t) [ inl h ↦ rw (h.0, update) (ap f (sym h.1)) | inr h ↦ rw (h.0, update) ])
+
+-- a load leaves the words
+pub load_same : (w : Words) (name : WordName) → put w name (read w name) ≡ w
+load_same w Umount = refl
+load_same w Stage = refl
+load_same w SbFlags = refl
+load_same w Remount = refl
+load_same w (MountFlags m) = λ j. record w { flags = update_same w.flags m j }
+load_same w (MountCount m p) = λ j. record w { count = (ap (λ g. update w.count m g) (update_same (w.count m) p) ∙ update_same w.count m) j }
+load_same w (Block i) = λ j. record w { block = update_same w.block i j }
+load_same w (Sync i) = λ j. record w { sync = update_same w.sync i j }
+load_same w (LevelCount i p) = λ j. record w { level = (ap (λ g. update w.level i g) (update_same (w.level i) p) ∙ update_same w.level i) j }
+load_same w (Section u) = λ j. record w { section = update_same w.section u j }
+load_same w Used = refl
+load_same w (Node n) = λ j. record w { node = update_same w.node n j }
+load_same w (Kids n) = λ j. record w { kids = update_same w.kids n j }
