@@ -12,8 +12,8 @@ use Rattle.gate_world.specs.Fits.{PhaseFits, Fits, ActionFits, mounts_by, levels
 use Rattle.schedule_laws.proofs.Layers.{phase_keeps}
 
 module _ (c : Config) (within : IsWithin c) (t : ℕ) (held : ℕ → ℕ) (levels : ℕ → Bool) where
-  pub word_there : (phase : Phase) (hook : HookAnswer) → PhaseFits c t held levels phase → IsWord (extents_of c) (next_of phase hook).0
-  word_there phase hook f = (phase_keeps c phase).word within t held levels hook f
+  pub word_there : t < c.tasks → (phase : Phase) (hook : HookAnswer) → PhaseFits c t held levels phase → IsWord (extents_of c) (next_of phase hook).0
+  word_there lt phase hook f = (phase_keeps c phase).word within t lt held levels hook f
 
   pub action_fits : (phase : Phase) (found : ℕ) (hook : HookAnswer) → PhaseFits c t held levels phase → ActionFits held (after_of phase found hook).1
   action_fits phase found hook f = (phase_keeps c phase).acts within t held levels found hook f
