@@ -120,7 +120,7 @@ tree_after (Stage n) tree = tree
 tree_after (Pass i) tree = tree
 tree_after (Reopen i) tree = tree
 
--- The state after an action of this task. Each action has its row, here and above, so that a new one is an error until it says what it does.
+-- The state after an action of this task. Each action has its row, here and above, so that a new one is an error until its rows stand.
 abbrev pub after_action : State → ℕ → Action → State
 after_action s t (Grant gate) = record s {
   mounts = update s.mounts t (mounts_after (Grant gate) (s.mounts t));
