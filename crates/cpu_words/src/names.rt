@@ -1,7 +1,8 @@
 //! The names of the words, and where each lies.
 
-ghost use Rattle.std.specs.Prelude.{◌≡◌};
-ghost use Rattle.cpu_words.specs.Names.{place};
+ghost use Rattle.std.specs.Prelude.{◌≡◌, ◌<◌};
+ghost use Rattle.cpu_words.specs.declared.names.WordName.{WordName as WordNameType};
+ghost use Rattle.cpu_words.specs.Names.{IsWord, largest, place, stride, words_in_all};
 
 // The largest numbers of mounts, tasks and nodes, and the count words of one gate, which lie in a row, one for each processor.
 const MOUNTS: usize = 8;
@@ -101,3 +102,11 @@ impl WordName {
         }
     }
 }
+
+/// Each word at the largest limits has a place of its own, below `WORDS`. The function does nothing: its contract is the law.
+pub fn each_word_has_a_place()
+    ensures count { WORDS ≡ words_in_all }
+    ensures apart { STRIDE ≡ stride }
+    ensures below { (name : WordNameType) → IsWord largest name → place name < words_in_all }
+    ensures own { (name other : WordNameType) → IsWord largest name → IsWord largest other → place other ≡ place name → other ≡ name }
+{}
