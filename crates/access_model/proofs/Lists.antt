@@ -1,4 +1,4 @@
--- what a task holds is what its own list leaves
+-- What a task holds is what its own list leaves.
 use Rattle.std.proofs.Common.{◌≡◌, ℕ, refl, sym, ap, ◌∙◌, subst, inl, inr}
 use Rattle.std.specs.Prelude.{cond, List, [], ◌∷◌}
 use Rattle.std.proofs.lemmas.Bool.Decides.{eqb_tells}
@@ -10,6 +10,7 @@ use Rattle.access_model.specs.Actions.{after_action, mounts_after, levels_after}
 use Rattle.access_model.specs.Histories.{Done, end_of, own_part, mounts_of, levels_of}
 use Rattle.access_model.specs.Laws.{FollowsOwnList}
 
+-- an action leaves its own task's accesses as `mounts_after` says
 mounts_own : (s : State) (t : ℕ) (a : Action) → (after_action s t a).mounts t ≡ mounts_after a (s.mounts t)
 mounts_own s t (Grant gate) = update_at s.mounts t _
 mounts_own s t (Return gate) = update_at s.mounts t _
@@ -27,6 +28,7 @@ mounts_own s t (MoveTo n d) = refl
 mounts_own s t (Dirty n) = refl
 mounts_own s t (Clean n) = refl
 
+-- an action leaves its own task's levels as `levels_after` says
 levels_own : (s : State) (t : ℕ) (a : Action) → (after_action s t a).levels t ≡ levels_after a (s.levels t)
 levels_own s t (Grant gate) = update_at s.levels t _
 levels_own s t (Return gate) = update_at s.levels t _
@@ -44,6 +46,7 @@ levels_own s t (MoveTo n d) = refl
 levels_own s t (Dirty n) = refl
 levels_own s t (Clean n) = refl
 
+-- an action leaves the accesses of every other task
 mounts_others : (s : State) (t x : ℕ) (a : Action) → (x ≡ t → ⊥) → (after_action s t a).mounts x ≡ s.mounts x
 mounts_others s t x (Grant gate) ne = update_off s.mounts t _ x ne
 mounts_others s t x (Return gate) ne = update_off s.mounts t _ x ne
@@ -61,6 +64,7 @@ mounts_others s t x (MoveTo n d) ne = refl
 mounts_others s t x (Dirty n) ne = refl
 mounts_others s t x (Clean n) ne = refl
 
+-- an action leaves the levels of every other task
 levels_others : (s : State) (t x : ℕ) (a : Action) → (x ≡ t → ⊥) → (after_action s t a).levels x ≡ s.levels x
 levels_others s t x (Grant gate) ne = update_off s.levels t _ x ne
 levels_others s t x (Return gate) ne = update_off s.levels t _ x ne
@@ -78,23 +82,28 @@ levels_others s t x (MoveTo n d) ne = refl
 levels_others s t x (Dirty n) ne = refl
 levels_others s t x (Clean n) ne = refl
 
+-- a task's accesses after a history are what its own part leaves
 mounts_follow : (h : List Done) (t : ℕ) → (end_of h).mounts t ≡ mounts_of (own_part t h)
 mounts_follow [] t = refl
 mounts_follow (a ∷ earlier) t =
     elim (eqb_tells a.0 t) [
-      | inl h ↦ rw (h.0, cond) (subst (λ y. (after_action (end_of earlier) a.0 a.1).mounts y ≡ mounts_after a.1 (mounts_of (own_part t earlier))) h.1
+      | inl h ↦ rw (h.0, cond) (subst
+          (λ y. (after_action (end_of earlier) a.0 a.1).mounts y ≡ mounts_after a.1 (mounts_of (own_part t earlier))) h.1
           (mounts_own (end_of earlier) a.0 a.1 ∙ ap (mounts_after a.1) (ap (end_of earlier).mounts h.1 ∙ mounts_follow earlier t)))
       | inr h ↦ rw (h.0, cond) (mounts_others (end_of earlier) a.0 t a.1 (λ e. h.1 (sym e)) ∙ mounts_follow earlier t)
     ]
 
+-- a task's levels after a history are what its own part leaves
 levels_follow : (h : List Done) (t : ℕ) → (end_of h).levels t ≡ levels_of (own_part t h)
 levels_follow [] t = refl
 levels_follow (a ∷ earlier) t =
     elim (eqb_tells a.0 t) [
-      | inl h ↦ rw (h.0, cond) (subst (λ y. (after_action (end_of earlier) a.0 a.1).levels y ≡ levels_after a.1 (levels_of (own_part t earlier))) h.1
+      | inl h ↦ rw (h.0, cond) (subst
+          (λ y. (after_action (end_of earlier) a.0 a.1).levels y ≡ levels_after a.1 (levels_of (own_part t earlier))) h.1
           (levels_own (end_of earlier) a.0 a.1 ∙ ap (levels_after a.1) (ap (end_of earlier).levels h.1 ∙ levels_follow earlier t)))
       | inr h ↦ rw (h.0, cond) (levels_others (end_of earlier) a.0 t a.1 (λ e. h.1 (sym e)) ∙ levels_follow earlier t)
     ]
 
+-- both, as the law says it
 pub follows : (h : List Done) (t : ℕ) → FollowsOwnList h t
 follows h t = record { mounts = λ m. ap (λ f. f m) (mounts_follow h t); levels = λ i. ap (λ f. f i) (levels_follow h t) }

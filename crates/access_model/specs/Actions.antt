@@ -11,17 +11,19 @@ use Rattle.access_model.specs.States.{Limits, State, IsLevel, NobodyHolds, IsFil
 abbrev pub HoldsSomeMount : Limits → State → ℕ → Type 0
 HoldsSomeMount l s t = (m : ℕ) × (m < l.mounts) × (0 < s.mounts t m)
 
--- the task may change the tree: it is inside level 1 and some mount
+-- the task may change the tree: it is inside level 1, and holds an access at some mount
 abbrev pub IsWriter : Limits → State → ℕ → Type 0
 IsWriter l s t = (s.levels t 1 ≡ true) × HoldsSomeMount l s t
 
--- the moves between stages
+-- A freeze may go to this stage: up one at a time, each where the level before is closed, and to 3 and 4 only with no file dirty; from 0
+-- to 4 at once where the superblock is read-only; and back to 0 from 2, 3 or 4.
 abbrev pub MayStage : Limits → State → ℕ → Type 0
 MayStage l s zero = ((s.stage ≡ 2) × (s.passed ≡ 2)) ⊎ (((s.stage ≡ 3) × (s.passed ≡ 3)) ⊎ (s.stage ≡ 4))
 MayStage l s (suc zero) = (s.stage ≡ 0) × (s.passed ≡ 0) × (s.sb_ro ≡ false)
 MayStage l s (suc (suc zero)) = (s.stage ≡ 1) × (s.passed ≡ 1)
 MayStage l s (suc (suc (suc zero))) = (s.stage ≡ 2) × (s.passed ≡ 2) × IsClean l s
-MayStage l s (suc (suc (suc (suc zero)))) = IsClean l s × (((s.stage ≡ 3) × (s.passed ≡ 3)) ⊎ ((s.stage ≡ 0) × (s.passed ≡ 0) × (s.sb_ro ≡ true)))
+MayStage l s (suc (suc (suc (suc zero)))) =
+    IsClean l s × (((s.stage ≡ 3) × (s.passed ≡ 3)) ⊎ ((s.stage ≡ 0) × (s.passed ≡ 0) × (s.sb_ro ≡ true)))
 MayStage l s (suc (suc (suc (suc (suc n))))) = ⊥
 
 -- the action is one that this task may do now
@@ -48,27 +50,59 @@ MayDo l s t (Clean n) = (n < l.nodes) × IsFile (s.tree n) × ((s.levels t 3 ≡
 abbrev pub IsAllowed : Limits → State → ℕ → Action → Type 0
 IsAllowed l s t a = (t < l.tasks) × MayDo l s t a
 
--- what an action leaves of its own task's accesses at the mounts
+-- what an action leaves of its own task's accesses at the mounts: a grant at a mount adds one, a return takes one
 abbrev pub mounts_after : Action → (ℕ → ℕ) → ℕ → ℕ
 mounts_after (Grant (Mount m)) held = update held m (held m + 1)
 mounts_after (Return (Mount m)) held = update held m (held m - 1)
-mounts_after a held = held
+mounts_after (Grant (Level i)) held = held
+mounts_after (Return (Level i)) held = held
+mounts_after (MountRo m) held = held
+mounts_after (MountRw m) held = held
+mounts_after SbRo held = held
+mounts_after SbRw held = held
+mounts_after (Stage n) held = held
+mounts_after (Pass i) held = held
+mounts_after (Reopen i) held = held
+mounts_after (Create n d kind) held = held
+mounts_after (Remove n) held = held
+mounts_after (Grow n blocks) held = held
+mounts_after (MoveTo n d) held = held
+mounts_after (Dirty n) held = held
+mounts_after (Clean n) held = held
 
--- what an action leaves of its own task's levels
+-- what an action leaves of its own task's levels: a grant at a level goes inside, a return leaves it
 abbrev pub levels_after : Action → (ℕ → Bool) → ℕ → Bool
 levels_after (Grant (Level i)) held = update held i true
 levels_after (Return (Level i)) held = update held i false
-levels_after a held = held
+levels_after (Grant (Mount m)) held = held
+levels_after (Return (Mount m)) held = held
+levels_after (MountRo m) held = held
+levels_after (MountRw m) held = held
+levels_after SbRo held = held
+levels_after SbRw held = held
+levels_after (Stage n) held = held
+levels_after (Pass i) held = held
+levels_after (Reopen i) held = held
+levels_after (Create n d kind) held = held
+levels_after (Remove n) held = held
+levels_after (Grow n blocks) held = held
+levels_after (MoveTo n d) held = held
+levels_after (Dirty n) held = held
+levels_after (Clean n) held = held
 
+-- a file that got so many blocks more, which makes it dirty
 abbrev pub grown : ℕ → NodeInfo → NodeInfo
 grown blocks node = record node { size = node.size + blocks; dirty = true }
 
+-- a file under another parent
 abbrev pub moved : ℕ → NodeInfo → NodeInfo
 moved d node = record node { parent = d }
 
+-- a file with the dirty mark set or cleared
 abbrev pub marked : Bool → NodeInfo → NodeInfo
 marked dirty node = record node { dirty = dirty }
 
+-- what an action leaves of the tree: only an action that names a node changes it, and at that node alone
 abbrev pub tree_after : Action → (ℕ → Option NodeInfo) → ℕ → Option NodeInfo
 tree_after (Create n d kind) tree = update tree n (Some record { kind = kind; parent = d; size = 0; dirty = false })
 tree_after (Remove n) tree = update tree n None
@@ -76,12 +110,26 @@ tree_after (Grow n blocks) tree = update tree n (option_map (grown blocks) (tree
 tree_after (MoveTo n d) tree = update tree n (option_map (moved d) (tree n))
 tree_after (Dirty n) tree = update tree n (option_map (marked true) (tree n))
 tree_after (Clean n) tree = update tree n (option_map (marked false) (tree n))
-tree_after a tree = tree
+tree_after (Grant gate) tree = tree
+tree_after (Return gate) tree = tree
+tree_after (MountRo m) tree = tree
+tree_after (MountRw m) tree = tree
+tree_after SbRo tree = tree
+tree_after SbRw tree = tree
+tree_after (Stage n) tree = tree
+tree_after (Pass i) tree = tree
+tree_after (Reopen i) tree = tree
 
--- the state after an action of this task
+-- The state after an action of this task. Each action has its row, here and above, so that a new one is an error until its rows stand.
 abbrev pub after_action : State → ℕ → Action → State
-after_action s t (Grant gate) = record s { mounts = update s.mounts t (mounts_after (Grant gate) (s.mounts t)); levels = update s.levels t (levels_after (Grant gate) (s.levels t)) }
-after_action s t (Return gate) = record s { mounts = update s.mounts t (mounts_after (Return gate) (s.mounts t)); levels = update s.levels t (levels_after (Return gate) (s.levels t)) }
+after_action s t (Grant gate) = record s {
+  mounts = update s.mounts t (mounts_after (Grant gate) (s.mounts t));
+  levels = update s.levels t (levels_after (Grant gate) (s.levels t));
+}
+after_action s t (Return gate) = record s {
+  mounts = update s.mounts t (mounts_after (Return gate) (s.mounts t));
+  levels = update s.levels t (levels_after (Return gate) (s.levels t));
+}
 after_action s t (MountRo m) = record s { mount_ro = update s.mount_ro m true }
 after_action s t (MountRw m) = record s { mount_ro = update s.mount_ro m false }
 after_action s t SbRo = record s { sb_ro = true }
@@ -89,4 +137,9 @@ after_action s t SbRw = record s { sb_ro = false }
 after_action s t (Stage n) = record s { stage = n }
 after_action s t (Pass i) = record s { passed = i }
 after_action s t (Reopen i) = record s { passed = i - 1 }
-after_action s t a = record s { tree = tree_after a s.tree }
+after_action s t (Create n d kind) = record s { tree = tree_after (Create n d kind) s.tree }
+after_action s t (Remove n) = record s { tree = tree_after (Remove n) s.tree }
+after_action s t (Grow n blocks) = record s { tree = tree_after (Grow n blocks) s.tree }
+after_action s t (MoveTo n d) = record s { tree = tree_after (MoveTo n d) s.tree }
+after_action s t (Dirty n) = record s { tree = tree_after (Dirty n) s.tree }
+after_action s t (Clean n) = record s { tree = tree_after (Clean n) s.tree }

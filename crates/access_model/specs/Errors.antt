@@ -18,6 +18,7 @@ number_of ReadOnly = 30
 number_of Order = 35
 number_of (Hook code) = code
 
+-- the name that is printed beside the number
 abbrev pub name_of : GateError → List ℕ
 name_of NoEntry = codes "NoEntry"
 name_of Again = codes "Again"

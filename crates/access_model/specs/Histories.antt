@@ -32,6 +32,7 @@ abbrev pub mounts_of : List Action → ℕ → ℕ
 mounts_of [] = λ m. 0
 mounts_of (a ∷ earlier) = mounts_after a (mounts_of earlier)
 
+-- whether a task's own list leaves it inside a level
 abbrev pub levels_of : List Action → ℕ → Bool
 levels_of [] = λ i. false
 levels_of (a ∷ earlier) = levels_after a (levels_of earlier)

@@ -9,6 +9,7 @@ use Rattle.access_model.specs.declared.model.Model.{Model}
 use Rattle.access_model.specs.States.{Limits, State, Standing, opening_state}
 use Rattle.access_model.specs.Actions.{after_action}
 
+-- no access at any mount or level
 abbrev pub nothing : Accesses
 nothing = record { mounts = []; levels = [] }
 
@@ -22,15 +23,19 @@ abbrev pub HasAccess : Accesses → Gate → Type 0
 HasAccess held (Mount m) = (m < 8) × (0 < slice_index held.mounts m)
 HasAccess held (Level i) = i ≤ 3
 
+-- how many accesses a task holds at a mount; none where there is no such task
 abbrev pub held_of : List Accesses → ℕ → ℕ → ℕ
 held_of accesses t = slice_index (slice_index_or accesses t nothing).mounts
 
+-- whether a task is inside a level
 abbrev pub inside_of : List Accesses → ℕ → ℕ → Bool
 inside_of accesses t i = slice_index_or (slice_index_or accesses t nothing).levels i false
 
+-- the mounts' read-only flags, false where there is no such mount
 abbrev pub flags_of : List Bool → ℕ → Bool
 flags_of flags m = slice_index_or flags m false
 
+-- the nodes, None where a node is free or there is none
 abbrev pub tree_of : List (Option NodeInfo) → ℕ → Option NodeInfo
 tree_of nodes n = slice_index_or nodes n None
 
@@ -49,9 +54,11 @@ standing_of model = record {
   };
 }
 
+-- the numbers of the model
 abbrev pub limits_of : Model → Limits
 limits_of model = (standing_of model).limits
 
+-- the state of the model
 abbrev pub state_of : Model → State
 state_of model = (standing_of model).state
 

@@ -29,6 +29,7 @@ pub record State : Type 0 where
   -- the nodes that are not free
   pub tree : ℕ → Option NodeInfo
 
+-- the root: a directory, its own parent
 abbrev pub root : NodeInfo
 root = record { kind = Dir; parent = 0; size = 0; dirty = false }
 
@@ -44,6 +45,7 @@ opening_state = record {
   tree = update (λ n. None) 0 (Some root);
 }
 
+-- a freeze level has this number
 abbrev pub IsLevel : ℕ → Type 0
 IsLevel i = (1 ≤ i) × (i ≤ 3)
 
@@ -52,18 +54,22 @@ abbrev pub NobodyHolds : Limits → State → Gate → Type 0
 NobodyHolds l s (Mount m) = (t : ℕ) → t < l.tasks → s.mounts t m ≡ 0
 NobodyHolds l s (Level i) = (t : ℕ) → t < l.tasks → s.levels t i ≡ false
 
+-- the blocks of a node, none where it is free
 abbrev pub size_of : Option NodeInfo → ℕ
 size_of None = 0
 size_of (Some node) = node.size
 
+-- whether there is a node, changed since it was last written back
 abbrev pub is_dirty : Option NodeInfo → Bool
 is_dirty None = false
 is_dirty (Some node) = node.dirty
 
+-- there is a node, and it is a file
 abbrev pub IsFile : Option NodeInfo → Type 0
 IsFile None = ⊥
 IsFile (Some node) = node.kind ≡ File
 
+-- there is a node, and it is a directory
 abbrev pub IsDirectory : Option NodeInfo → Type 0
 IsDirectory None = ⊥
 IsDirectory (Some node) = node.kind ≡ Dir

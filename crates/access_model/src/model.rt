@@ -31,7 +31,8 @@ impl Accesses {
     fn grant(&mut self, gate: Gate)
         requires { HasRoom self.old gate }
         ensures mounts { slice_index self.new.mounts ≡ mounts_after (Grant gate) (slice_index self.old.mounts) }
-        ensures levels { (λ i. slice_index_or self.new.levels i false) ≡ levels_after (Grant gate) (λ i. slice_index_or self.old.levels i false) }
+        ensures levels { (λ i. slice_index_or self.new.levels i false) ≡
+            levels_after (Grant gate) (λ i. slice_index_or self.old.levels i false) }
     {
         match gate {
             Gate::Mount(mount) => self.mounts[mount as usize] += 1,
@@ -43,7 +44,8 @@ impl Accesses {
     fn give_back(&mut self, gate: Gate)
         requires { HasAccess self.old gate }
         ensures mounts { slice_index self.new.mounts ≡ mounts_after (Return gate) (slice_index self.old.mounts) }
-        ensures levels { (λ i. slice_index_or self.new.levels i false) ≡ levels_after (Return gate) (λ i. slice_index_or self.old.levels i false) }
+        ensures levels { (λ i. slice_index_or self.new.levels i false) ≡
+            levels_after (Return gate) (λ i. slice_index_or self.old.levels i false) }
     {
         match gate {
             Gate::Mount(mount) => self.mounts[mount as usize] -= 1,
@@ -208,7 +210,8 @@ impl Model {
     /// The accesses that a task holds at a mount, at most 1,024: its part of the mount's writer count, which
     /// `mnt_get_write_access` raises. 0 where there is no such task or mount.
     pub fn held_mount(&self, task: u8, mount: u8) -> u16
-        ensures held { task < (limits_of self.now).tasks → mount < (limits_of self.now).mounts → result ≡ (state_of self.now).mounts task mount }
+        ensures held { task < (limits_of self.now).tasks → mount < (limits_of self.now).mounts →
+            result ≡ (state_of self.now).mounts task mount }
         ensures out_of_range { ((limits_of self.now).tasks ≤ task) ⊎ ((limits_of self.now).mounts ≤ mount) → result ≡ 0 }
     {
         if task < self.tasks && mount < self.mounts {
@@ -335,7 +338,8 @@ impl Model {
 
     /// Whether nobody holds an access at any mount.
     fn is_every_mount_free(&self) -> bool
-        ensures { IsTrue result ↔ ((m : ℕ) → m < (limits_of self.now).mounts → NobodyHolds (limits_of self.now) (state_of self.now) (Mount m)) }
+        ensures { IsTrue result ↔
+            ((m : ℕ) → m < (limits_of self.now).mounts → NobodyHolds (limits_of self.now) (state_of self.now) (Mount m)) }
     {
         (0..self.mounts).all(|mount| self.is_mount_free(mount))
     }
@@ -432,7 +436,9 @@ impl Model {
 
     /// Whether a freeze may have closed a level now.
     fn may_pass(&self, level: u8) -> bool
-        ensures { IsTrue result ↔ (IsLevel level × ((state_of self.now).stage ≡ level) × ((state_of self.now).passed + 1 ≡ level) × NobodyHolds (limits_of self.now) (state_of self.now) (Level level)) }
+        ensures { IsTrue result ↔
+            (IsLevel level × ((state_of self.now).stage ≡ level) × ((state_of self.now).passed + 1 ≡ level) ×
+            NobodyHolds (limits_of self.now) (state_of self.now) (Level level)) }
     {
         is_level(level)
             && self.stage == level
@@ -451,7 +457,8 @@ impl Model {
     /// Whether a task may make a file dirty by a page fault.
     fn may_dirty(&self, task: u8) -> bool
         requires { task < (limits_of self.now).tasks }
-        ensures { IsTrue result ↔ (((state_of self.now).levels task 2 ≡ true) × HoldsSomeMount (limits_of self.now) (state_of self.now) task) }
+        ensures { IsTrue result ↔
+            (((state_of self.now).levels task 2 ≡ true) × HoldsSomeMount (limits_of self.now) (state_of self.now) task) }
     {
         self.accesses[task as usize].levels[2] && self.holds_some_mount(task)
     }
@@ -459,7 +466,8 @@ impl Model {
     /// Whether a task may write a file back: inside level 3, or where nobody else can make it dirty.
     fn may_clean(&self, task: u8) -> bool
         requires { task < (limits_of self.now).tasks }
-        ensures { IsTrue result ↔ (((state_of self.now).levels task 3 ≡ true) ⊎ (((state_of self.now).passed ≡ 2) ⊎ ((state_of self.now).sb_ro ≡ true))) }
+        ensures { IsTrue result ↔
+            (((state_of self.now).levels task 3 ≡ true) ⊎ (((state_of self.now).passed ≡ 2) ⊎ ((state_of self.now).sb_ro ≡ true))) }
     {
         self.accesses[task as usize].levels[3] || self.passed == 2 || self.sb_ro
     }
@@ -493,7 +501,8 @@ impl Model {
 
     /// Whether a file may grow by this many blocks.
     fn has_room(&self, blocks: u32) -> bool
-        ensures { IsTrue result ↔ ((0 < blocks) × (used_blocks (limits_of self.now) (state_of self.now) + blocks ≤ (limits_of self.now).capacity)) }
+        ensures { IsTrue result ↔
+            ((0 < blocks) × (used_blocks (limits_of self.now) (state_of self.now) + blocks ≤ (limits_of self.now).capacity)) }
     {
         0 < blocks && self.used_blocks() + u64::from(blocks) <= u64::from(self.capacity)
     }

@@ -9,7 +9,9 @@ use Rattle.cpu_words.specs.Touches.{wrap_add}
 -- what a sum is after one word more, of so many processors
 abbrev pub sum_taking : Sum → ℕ → ℕ → Taken
 sum_taking sum word processors =
-    if nat_lt (sum.words + 1) processors then More record { words = sum.words + 1; total = wrap_add sum.total word } else Total (wrap_add sum.total word)
+    if nat_lt (sum.words + 1) processors
+    then More record { words = sum.words + 1; total = wrap_add sum.total word }
+    else Total (wrap_add sum.total word)
 
 -- the sum in progress of just these words
 abbrev pub sum_of : List ℕ → Sum

@@ -5,10 +5,11 @@ use Rattle.cpu_words.specs.declared.events.Touch.{Touch}
 use Rattle.cpu_words.specs.declared.events.Touch.TheVariants.{Load, Store, Add, Sub, Or, And, Swap, Cas}
 use Rattle.cpu_words.specs.declared.events.Event.{Event}
 
--- sums and differences at 2^64, which is written out so that arithmetic sees the number
+-- a sum at 2^64, which is written out so that arithmetic sees the number
 abbrev pub wrap_add : ℕ → ℕ → ℕ
 wrap_add a b = (a + b) % 18446744073709551616
 
+-- a difference at 2^64
 abbrev pub wrap_sub : ℕ → ℕ → ℕ
 wrap_sub a b = (a + (18446744073709551616 - b)) % 18446744073709551616
 

@@ -4,6 +4,7 @@ use Rattle.finite_sums.specs.Sums.{update}
 use Rattle.cpu_words.specs.declared.names.WordName.{WordName}
 use Rattle.cpu_words.specs.declared.names.WordName.TheVariants.{Umount, Stage, SbFlags, Remount, MountFlags, MountCount, Block, Sync, LevelCount, Section, Used, Node, Kids}
 
+-- the values of all words, by what they belong to; of a number that there is not, any value
 pub record Words : Type 0 where
   pub umount : ℕ
   pub stage : ℕ
@@ -23,6 +24,7 @@ pub record Words : Type 0 where
   pub node : ℕ → ℕ
   pub kids : ℕ → ℕ
 
+-- the value of a word
 abbrev pub read : Words → WordName → ℕ
 read w Umount = w.umount
 read w Stage = w.stage

@@ -11,8 +11,10 @@ use Rattle.access_model.proofs.model.Model.new.Goals as goal
 pub returns-clause-opens : goal.returns-clause-opens
 unfolding standing_of
 returns-clause-opens c =
-    let tree : c.in_ok-tree.tree.items ≡ replicate c.args.nodes None = c.in_ok-tree.ensures.items_if_clones_equal (λ y h. grind (arith, common_steps)) in
-    let accesses : c.in_ok-vec.field-0.items ≡ replicate c.args.tasks no_access = c.in_ok-vec.ensures.items_if_clones_equal (λ y e. e) in
+    let tree : c.in_ok-tree.tree.items ≡ replicate c.args.nodes None =
+    c.in_ok-tree.ensures.items_if_clones_equal (λ y h. grind (arith, common_steps)) in
+    let accesses : c.in_ok-vec.field-0.items ≡ replicate c.args.tasks no_access =
+    c.in_ok-vec.ensures.items_if_clones_equal (λ y e. e) in
     let nodes : c.in_ok-tree.tree.len ≡ c.args.nodes = c.in_ok-tree.ensures.len in
     let some : 0 < c.args.nodes = grind (arith, common_steps) in
     let held = ap held_of accesses ∙ nothing_held c.args.tasks in

@@ -6,4 +6,7 @@ use Rattle.access_model.specs.Shown.{tree_of}
 use Rattle.access_model.proofs.model.Model.used_blocks.Given as goal
 
 abbrev pub invariant-loop-node : goal.invariant-loop-node
-invariant-loop-node l = record { sums : l.used ≡ total l.node-index (λ n. size_of (tree_of l.self.nodes.items n)); small : l.used ≤ l.node-index * 4294967295 }
+invariant-loop-node l = record {
+  sums : l.used ≡ total l.node-index (λ n. size_of (tree_of l.self.nodes.items n));
+  small : l.used ≤ l.node-index * 4294967295;
+}
