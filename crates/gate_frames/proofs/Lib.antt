@@ -4,3 +4,5 @@ pub mod Frames
 pub mod MountEvents
 pub mod Loads
 pub mod Keeps
+pub mod Accesses
+pub mod Places

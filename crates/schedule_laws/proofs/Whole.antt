@@ -25,7 +25,7 @@ use Rattle.schedule_laws.proofs.Layers.{op_keeps}
 use Rattle.trace_laws.proofs.Traced.{all_traced}
 use Rattle.gate_world.specs.Causes.{HasCause, RefusalsHaveCauses}
 use Rattle.schedule_laws.proofs.Entries.{TrailHolds, trail_holds, cause_tells}
-use Rattle.schedule_laws.proofs.Schedule.{opening_good, opening_shown, happens_keeps, run_keeps, gate_sums, idle_sums, in_order_then}
+use Rattle.schedule_laws.proofs.Schedule.{opening_good, opening_shown, happens_keeps, run_keeps, gate_sums, idle_sums}
 use Rattle.schedule_laws.proofs.Lists.{run_lists}
 
 module _ (c : Config) (lim : IsWithin c) where
@@ -67,7 +67,7 @@ module _ (c : Config) (lim : IsWithin c) where
       HoldsAsBefore v
   holds_as_before t v op refusal h is =
       let k : (mounts_of (actions_of op (Err refusal) v.trace ++ v.before) ≡ mounts_of v.before) × (levels_of (actions_of op (Err refusal) v.trace ++ v.before) ≡ levels_of v.before) =
-      (op_keeps c op).restores refusal v.trace v.before (in_order_then c (mounts_of v.before) (levels_of v.before) op h.begins) in
+      (op_keeps c op).restores refusal v.trace v.before (may_begin c false (mounts_of v.before) (levels_of v.before) op h.begins).order in
       (ap mounts_of is ∙ k.0, ap levels_of is ∙ k.1)
 
   op_tells : (t : ℕ) (v : View) (op : Option Op) → IsTraced c t v op → ViewTells c t v op
