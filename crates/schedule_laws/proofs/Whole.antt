@@ -1,8 +1,9 @@
 -- What holds of every schedule from the opening on.
+use Rattle.schedule_laws.proofs.Beginnings.{may_begin}
 use Rattle.access_model.specs.Histories.{mounts_of, levels_of}
 use Rattle.gate_world.specs.Views.{HoldsAsBefore}
 use Rattle.std.proofs.Common.{◌≡◌, ℕ, refl, sym, subst, ◌∙◌, ap}
-use Rattle.std.specs.Prelude.{Option, Some, None, Err, List, [], ◌++◌}
+use Rattle.std.specs.Prelude.{Option, Some, None, Err, List, [], ◌++◌, false}
 use Rattle.access_model.specs.States.{State}
 use Rattle.access_model.specs.Laws.{NobodyHoldsClosed}
 use Rattle.access_model.proofs.Closed.{closed}
