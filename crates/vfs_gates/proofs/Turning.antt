@@ -54,16 +54,16 @@ module _ (c key : Config) (same_key : key ≡ c) (begins : Option Op) (phase tol
       table before (task_state before c begins (Some phase) items) same refl here phase refl
 
 -- and what comes after it tells whether the operation goes on
-pub went_so : (c : Config) → IsWithin c → (op : Op) (start : TaskState) (event : Event) (action : Option Action) (next : Next Phase) {table left_table : TableId} {begins : Option Op} {phase : Phase} {items left : SeatItems} →
-    Goes op start (task_state table c begins (Some phase) items) →
-    Stepped phase (Ok tt) (task_state table c begins (Some phase) items) (step_was event action next) (task_state left_table c None (phase_after next) left) →
+pub went_so : (c : Config) → IsWithin c → (op : Op) (start : TaskState) (event : Event) (action : Option Action) (next : Next Phase) (hook : HookAnswer)
+    {table left_table : TableId} {begins : Option Op} {phase : Phase} {items left : SeatItems} → Goes op start (task_state table c begins (Some phase) items) →
+    Stepped phase hook (task_state table c begins (Some phase) items) (step_was event action next) (task_state left_table c None (phase_after next) left) →
     Went op start next (task_state left_table c None (phase_after next) left)
-went_so c within op start event action next {table} {left_table} {begins} {phase} {items} {left} goes after_step =
+went_so c within op start event action next hook {table} {left_table} {begins} {phase} {items} {left} goes after_step =
     let now : TaskState = task_state table c begins (Some phase) items in
     let after : TaskState = task_state left_table c None (phase_after next) left in
     let step : Step = step_was event action next in
-    went_on op start now after step goes
-    (λ p is. subst (λ (q : Phase). Stepped q (Ok tt) now step after) (let same : phase ≡ p = cc in same) after_step)
+    went_on op start now after step hook goes
+    (λ p is. subst (λ (q : Phase). Stepped q hook now step after) (let same : phase ≡ p = cc in same) after_step)
     (subst IsWithin goes.config within) next refl
 
 -- a task's fields, said with another name of the config and of the phase
