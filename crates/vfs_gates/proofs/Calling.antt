@@ -19,11 +19,10 @@ use Rattle.gate_core.proofs.Beginning.{allowed}
 use Rattle.gate_steps.specs.declared.seating.Numbered.{Numbered}
 use Rattle.gate_steps.specs.Seating.{SeatItems}
 use Rattle.atomic_table.specs.Seated.{TableId}
-use Rattle.vfs_gates.specs.TaskStates.{TaskState, task_state, IsFrom, own_number, own_view, refusal_at}
+use Rattle.vfs_gates.specs.TaskStates.{TaskState, task_state, own_number, own_view, refusal_at}
 use Rattle.vfs_gates.specs.Ties.{PhaseOk, OwnTies, Ties}
 use Rattle.vfs_gates.specs.Turns.{kept_at, IsTied, StayTied}
 use Rattle.vfs_gates.specs.Runs.{Goes, Went, Called}
-use Rattle.vfs_gates.specs.declared.gates.Gates.{Gates}
 use Rattle.vfs_gates.specs.declared.task.Task.TheInside.{Inside}
 use Rattle.vfs_gates.proofs.Running.{starts}
 
@@ -53,23 +52,23 @@ goes_where op start now (Go q) phase is went = went
 goes_where op start now (Wait q) phase is went = went
 goes_where op start now (Done answer) phase is went = absurd (let f : ⊥ = cc in f)
 
--- A call of an operation on a task from these gates that was admitted: the task's fields, its state before the call, and the first phase
--- of the operation.
+-- A call of an operation that was admitted: the task's fields, its state before the call, the configuration as the gates name it, and the
+-- first phase of the operation.
 pub record Call : Type 0 where
   pub op : Op
   pub task : Inside
-  pub gates : Gates
+  pub gates : Config
   pub start : TaskState
   pub start_is : task_state task.seat.table_id task.config task.begins task.kept.phase task.seat.me.0 ≡ start
-  pub from : IsFrom start gates
+  pub from : start.config ≡ gates
   pub ties : Ties task.number task.config task.begins task.kept task.spare task.seat.me.0
   pub admitted : Ok tt ≡ unless_refused (refusal_at op start)
   pub first : Phase
   pub first_is : first ≡ first_phase task.config task.number op
 
 -- of these parts
-abbrev pub call_of : (op : Op) (task : Inside) (gates : Gates) (start : TaskState) →
-    task_state task.seat.table_id task.config task.begins task.kept.phase task.seat.me.0 ≡ start → IsFrom start gates →
+abbrev pub call_of : (op : Op) (task : Inside) (gates : Config) (start : TaskState) →
+    task_state task.seat.table_id task.config task.begins task.kept.phase task.seat.me.0 ≡ start → start.config ≡ gates →
     Ties task.number task.config task.begins task.kept task.spare task.seat.me.0 → Ok tt ≡ unless_refused (refusal_at op start) →
     (first : Phase) → first ≡ first_phase task.config task.number op → Call
 call_of op task gates start start_is from ties admitted first first_is = record {
@@ -95,8 +94,8 @@ pub record Left (call : Call) : Type 0 where
   pub accesses : Accesses
   pub items : SeatItems
   pub table : TableId
-  pub tied : StayTied call.gates.config (Some call.op) (Some call.first) call.task.kept.accesses (items_of call) (phase_after next) accesses items
-  pub went : Went call.op call.start next (task_state table call.gates.config None (phase_after next) items)
+  pub tied : StayTied call.gates (Some call.op) (Some call.first) call.task.kept.accesses (items_of call) (phase_after next) accesses items
+  pub went : Went call.op call.start next (task_state table call.gates None (phase_after next) items)
 
 -- before the first event
 module _ (call : Call) where
@@ -115,8 +114,8 @@ module _ (call : Call) where
   abbrev op : Op
   op = call.op
 
-  same : c ≡ call.gates.config
-  same = ap (λ (s : TaskState). s.config) call.start_is ∙ call.from.1
+  same : c ≡ call.gates
+  same = ap (λ (s : TaskState). s.config) call.start_is ∙ call.from
 
   none_refused : refusal c (is_some kept.phase) (held_at (own_view (items_of call))) (holds_level (own_view (items_of call))) op ≡ None
   none_refused = ap (refusal_at op) call.start_is ∙ not_refused (refusal_at op call.start) call.admitted
@@ -183,22 +182,22 @@ module _ (call : Call) where
       ap (λ (s : TaskState). record s { begins = Some op; phase = Some (first_phase s.config (own_number s.items) op) }) call.start_is
 
   -- as the first event finds them
-  pub after_begin : Ties number call.gates.config (Some op) (kept_at (Some call.first) kept.accesses) flags (items_of call)
+  pub after_begin : Ties number call.gates (Some op) (kept_at (Some call.first) kept.accesses) flags (items_of call)
   after_begin = subst (λ (d : Config). Ties number d (Some op) (kept_at (Some call.first) kept.accesses) flags (items_of call)) same begun
 
-  pub is_tied : IsTied call.gates.config (Some op) (Some call.first) kept.accesses (items_of call)
+  pub is_tied : IsTied call.gates (Some op) (Some call.first) kept.accesses (items_of call)
   is_tied = record { number = number; flags = flags; ties = after_begin }
 
   -- the operation goes on from there
-  pub has_begun : Goes op call.start (task_state call.task.seat.table_id call.gates.config (Some op) (Some call.first) (items_of call))
+  pub has_begun : Goes op call.start (task_state call.task.seat.table_id call.gates (Some op) (Some call.first) (items_of call))
   has_begun =
-      starts op call.start (task_state call.task.seat.table_id call.gates.config (Some op) (Some call.first) (items_of call))
+      starts op call.start (task_state call.task.seat.table_id call.gates (Some op) (Some call.first) (items_of call))
       ((λ i. task_state call.task.seat.table_id (sym same i) (Some op) (Some call.first) (items_of call)) ∙ begun_state)
 
   -- after the last event, as it is written down
   module _ (left : Left call) where
     abbrev found : TaskState
-    found = task_state left.table call.gates.config None (phase_after left.next) left.items
+    found = task_state left.table call.gates None (phase_after left.next) left.items
 
     -- the fields, where what comes next is this phase or none
     pub ties_at : (o : Option Phase) → phase_after left.next ≡ o → Ties number c call.task.begins (kept_at o left.accesses) flags left.items
