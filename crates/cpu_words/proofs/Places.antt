@@ -1,13 +1,21 @@
 -- Each word has a place of its own, at whatever limits: a list that has every word has every word after a write of one.
-use Rattle.std.proofs.Common.{◌≡◌, ℕ, ◌<◌, List, length, refl, sym, ap, ◌∙◌, inl, inr, arith, get_or-set_same, get_or-set_other}
-use Rattle.std.specs.Prelude.{slice_index, slice_set}
+use Rattle.std.proofs.Common.{◌≡◌, ℕ, zero, suc, subst, ◌<◌, List, length, refl, sym, ap, ◌∙◌, inl, inr, arith, get_or-set_same, get_or-set_other}
+use Rattle.std.specs.Prelude.{slice_index, slice_set, replicate}
+use Rattle.std.proofs.Math.ListN.{length-set}
+use Rattle.std.proofs.lemmas.List.{length-replicate}
 use Rattle.std.proofs.lemmas.Bool.Decides.{eqb_tells}
 use Rattle.cpu_words.specs.declared.names.WordName.{WordName}
 use Rattle.cpu_words.specs.declared.names.WordName.TheVariants.{Umount, Stage, SbFlags, Remount, MountFlags, MountCount, Block, Sync, LevelCount, Section, Used, Node, Kids}
 use Rattle.cpu_words.specs.Names.{Extents, IsWord, place, words_in_all}
-use Rattle.cpu_words.specs.Words.{Words, read, put, opening_words}
+use Rattle.cpu_words.specs.Words.{Words, put, opening_words}
 use Rattle.cpu_words.specs.Lists.{AreFew, ListShows, AreOpening}
 use Rattle.cpu_words.proofs.Writes.{read_put_same, read_put_other, no_words, read_no_words}
+
+-- a list of zeros has 0 at each index, also past its end
+zeros_at : (size i : ℕ) → slice_index (replicate size 0) i ≡ 0
+zeros_at zero i = refl
+zeros_at (suc size) zero = refl
+zeros_at (suc size) (suc i) = zeros_at size i
 
 module _ (e : Extents) (few : AreFew e) where
   -- each word has a place among all
@@ -85,3 +93,17 @@ module _ (e : Extents) (few : AreFew e) where
               opens.zeros (index (place name)) (λ q. differ.1 (apart (place name) (place (Node 0)) q)) ∙
               sym (read_put_other no_words 2 (Node 0) name (λ q. differ.1 (ap place q)) ∙ read_no_words name)
         ]
+
+-- zeros in a list of this length, with the root's word written, are all words as they begin
+pub opening_from : (index : ℕ → ℕ) (size at : ℕ) (xs : List ℕ) → index (place (Node 0)) < size → at ≡ index (place (Node 0)) → xs ≡ replicate size 0 →
+    AreOpening index size (slice_set xs at 2)
+opening_from index size at xs inside at_is xs_is =
+    let root : ℕ = index (place (Node 0)) in
+    let zeros : List ℕ = replicate size 0 in
+    let long : length zeros ≡ size = length-replicate {A = ℕ} size 0 in
+    let written : AreOpening index size (slice_set zeros root 2) = record {
+      long = length-set zeros root 2 ∙ long;
+      root = get_or-set_same zeros root 2 0 (omega arith);
+      zeros = λ i ne. get_or-set_other zeros root i 2 0 ne ∙ zeros_at size i;
+    } in
+    subst (λ (z : List ℕ × ℕ). AreOpening index size (slice_set z.0 z.1 2)) (λ j. (sym xs_is j, sym at_is j)) written

@@ -1,11 +1,12 @@
 -- What it means that an operation may begin.
-use Rattle.std.proofs.Common.{◌≡◌, ℕ, ◌<◌, ◌≤◌, Bool, true, false, refl, ap, inl, inr, true≢false}
-use Rattle.std.specs.Prelude.{if◌then◌else◌, is_some, Some, None}
+use Rattle.std.proofs.Common.{◌≡◌, ℕ, ◌<◌, ◌≤◌, Bool, true, false, refl, sym, ap, inl, inr, true≢false}
+use Rattle.std.specs.Prelude.{if◌then◌else◌, is_some, Option, Some, None, Result, Ok, Err}
 use Rattle.std.proofs.lemmas.Bool.{cases_Bool}
+use Rattle.access_model.specs.declared.errors.GateError.{GateError}
 use Rattle.access_model.specs.declared.errors.GateError.TheVariants.{Invalid, Order, TooMany}
 use Rattle.gate_world.specs.declared.config.Config.{Config}
 use Rattle.gate_world.specs.declared.operations.Op.{Op}
-use Rattle.gate_world.specs.Beginnings.{first_phase, is_in_range, is_in_order, is_within_room, refusal}
+use Rattle.gate_world.specs.Beginnings.{first_phase, is_in_range, is_in_order, is_within_room, refusal, or_refusal}
 use Rattle.gate_world.specs.Fits.{Fits}
 use Rattle.schedule_laws.proofs.Layers.{op_keeps}
 
@@ -61,3 +62,13 @@ module _ (c : Config) (f g : ℕ → ℕ) (h k : ℕ → Bool)
             (λ i. if order_agree op there i then (if room_agree op there i then None else Some TooMany) else Some Order)
         | inr there ↦ rw there refl
       ]
+
+-- what a beginning's answer says of the refusal: there was none, and the phase is the first
+pub ok_means : {A : Type 0} (x : A) (r : Option GateError) (y : A) → Ok y ≡ or_refusal x r → (r ≡ None) × (y ≡ x)
+ok_means x None y e = (refl, (let same : Ok y ≡ Ok x = e in cc))
+ok_means {A} x (Some refused) y e = absurd (let same : ◌≡◌ {A = Result A GateError} (Ok y) (Err refused) = e in let no : ⊥ = cc in no)
+
+-- or it was this
+pub err_means : {A : Type 0} (x : A) (r : Option GateError) (refused : GateError) → ◌≡◌ {A = Result A GateError} (Err refused) (or_refusal x r) → r ≡ Some refused
+err_means {A} x None refused e = absurd (let same : ◌≡◌ {A = Result A GateError} (Err refused) (Ok x) = e in let no : ⊥ = cc in no)
+err_means {A} x (Some other) refused e = let same : ◌≡◌ {A = Result A GateError} (Err refused) (Err other) = e in let is : refused ≡ other = cc in ap (λ y. Some y) (sym is)
