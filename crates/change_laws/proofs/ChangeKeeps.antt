@@ -26,7 +26,7 @@ use Rattle.gate_world.specs.Rules.{Fitting}
 pub change_phase : (c : Config) (x : Change) → PhaseKeeps c (Mounts (Changes x))
 change_phase c x = record {
   step = λ lim w good t lt hook e. change_keeps c lim w good t lt hook x.mount x.read_only x.wait x.task x.processors x.step e;
-  word = λ lim t lt held levels hook f. change_there c lim t held levels x x.step f.0 f.4;
+  word = λ lim t held levels hook f. change_there c lim t held levels x x.step f.0 f.4;
   acts = λ lim t held levels found hook f. change_acts c lim t held levels x x.step found;
   goes = λ lim t held levels found hook f. change_goes c lim t held levels x x.step found f;
   agrees = λ t f g h k mounts levels fits. (fits.0, fits.1, fits.2, rw (← none_agree c t f g h k mounts levels) fits.3, fits.4);

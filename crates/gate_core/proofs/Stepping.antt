@@ -69,7 +69,7 @@ module _ (memory : Memory) (sound : IsSound memory) (t : ℕ) (lt : t < memory.c
   phase_fits = subst (Fits memory.config t (mounts_in (seat_of memory t)) (levels_in (seat_of memory t))) is (sound.fits t lt)
 
   there : IsWord (extents_of memory.config) name
-  there = word_there memory.config sound.within t (mounts_in (seat_of memory t)) (levels_in (seat_of memory t)) lt phase hook phase_fits
+  there = word_there memory.config sound.within t (mounts_in (seat_of memory t)) (levels_in (seat_of memory t)) phase hook phase_fits
 
   pub place_fits : place name < length memory.words
   place_fits =

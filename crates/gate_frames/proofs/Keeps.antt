@@ -40,7 +40,7 @@ pub record PhaseKeeps (c : Config) (phase : Phase) : Type 0 where
   -- its event keeps the rule, and moves the shown model by its action
   pub step : IsWithin c → (w : World) → IsGood c w → (t : ℕ) → t < c.tasks → (hook : HookAnswer) → (w.views t).phase ≡ Some phase → StepKeeps c w t hook phase
   -- the word of its event is there
-  pub word : IsWithin c → (t : ℕ) → t < c.tasks → (held : ℕ → ℕ) (levels : ℕ → Bool) (hook : HookAnswer) → PhaseFits c t held levels phase → IsWord (extents_of c) (next_of phase hook).0
+  pub word : IsWithin c → (t : ℕ) (held : ℕ → ℕ) (levels : ℕ → Bool) (hook : HookAnswer) → PhaseFits c t held levels phase → IsWord (extents_of c) (next_of phase hook).0
   -- its action can be done
   pub acts : IsWithin c → (t : ℕ) (held : ℕ → ℕ) (levels : ℕ → Bool) (found : ℕ) (hook : HookAnswer) → PhaseFits c t held levels phase → ActionFits held (after_of phase found hook).1
   -- what comes after it fits
