@@ -1,11 +1,10 @@
 -- What an event leaves alone.
 use Rattle.std.proofs.Common.{◌≡◌, ℕ, suc, ◌+◌, ◌<◌, refl, sym, ap, ◌∙◌, subst, inl, inr, arith, true≢false}
 use Rattle.std.specs.Prelude.{◌==◌, ◌&&◌, ◌||◌, if◌then◌else◌, Option, Some, true, false, Bool}
-use Rattle.std.proofs.Math.Path.{fun_ext}
 use Rattle.std.proofs.lemmas.Bool.{eq-eqb, ne_eqb, cases_Bool}
 use Rattle.std.proofs.lemmas.Bool.Decides.{eqb_tells}
 use Rattle.finite_sums.specs.Sums.{update, total}
-use Rattle.finite_sums.proofs.Totals.{each_updated, total_updated}
+use Rattle.finite_sums.proofs.Totals.{each_updated, total_updated, update_map, update_same}
 use Rattle.cpu_words.specs.declared.names.WordName.{WordName}
 use Rattle.cpu_words.specs.declared.names.WordName.TheVariants.{Umount, Stage, SbFlags, Remount, MountFlags, MountCount, Block, Sync, LevelCount, Section, Used, Node, Kids}
 use Rattle.cpu_words.specs.declared.events.Touch.TheVariants.{Load}
@@ -31,12 +30,6 @@ use Rattle.gate_world.specs.Worlds.{World, words_after, value_at}
 use Rattle.gate_world.specs.Shown.{shown, closing, is_passed, node_shown}
 use Rattle.gate_world.specs.Fits.{Fits}
 use Rattle.gate_world.specs.Rules.{role_if, at_mount, owns, remounts, IsSteady, OwnerHolds, ViewFits, Part, Owner, Superblock, Stages, Fitting, AtMount, Holds, SameWords, SameView, at_gates, GatesHold, IsGood, StepKeeps, GateStepKeeps}
-
-pub update_map : {A B : Type 0} (g : A → B) (f : ℕ → A) (t : ℕ) (v : A) → (λ x. g (update f t v x)) ≡ update (λ x. g (f x)) t (g v)
-update_map g f t v = fun_ext (λ x. elim (eqb_tells x t) [ inl h ↦ rw (h.0, update) | inr h ↦ rw (h.0, update) ])
-
-pub update_same : {A : Type 0} (f : ℕ → A) (t : ℕ) → update f t (f t) ≡ f
-update_same f t = fun_ext (λ x. elim (eqb_tells x t) [ inl h ↦ rw (h.0, update) (ap f (sym h.1)) | inr h ↦ rw (h.0, update) ])
 
 -- a load leaves the words
 pub load_same : (w : Words) (name : WordName) → put w name (read w name) ≡ w
