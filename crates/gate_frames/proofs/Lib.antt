@@ -1,3 +1,4 @@
 pub mod Frames
 pub mod Loads
+pub mod Owners
 pub mod Keeps
