@@ -22,14 +22,14 @@ use Rattle.mount_counts.specs.Phases.{has_flag, step_between}
 use Rattle.mount_counts.specs.declared.phases.ChangeStep.TheVariants.{Locks, LoadsFlags, LoadsSuperblock as LoadsSb, ClearsReadOnly, SetsHold, Sums, SetsReadOnly, ClearsHold, Releases}
 use Rattle.mount_counts.specs.declared.phases.ChangeStep.{ChangeStep}
 use Rattle.mount_counts.specs.declared.phases.MountPhase.{MountPhase}
-use Rattle.mount_laws.proofs.MountLaws.{ahead_step, ahead_past}
+use Rattle.gate_counts.proofs.Numbers.{ahead_step, ahead_past}
 use Rattle.std.proofs.Common.{◌≡◌, ℕ, suc, ◌+◌, ◌<◌, Bool, true, false, refl, sym, ap, ◌∙◌, inl, inr, arith, add-one}
 use Rattle.std.proofs.lemmas.Bool.Decides.{eqb_tells}
 use Rattle.std.proofs.lemmas.Bool.{ltb-false, cases_Bool}
 use Rattle.std.specs.Prelude.{nat_lt, Some, List, ◌∷◌, ◌==◌, not, Ok, Err, []}
 use Rattle.cause_laws.proofs.Moments.{fresh_lead, none_counted, sum_skips, sum_begins, sum_goes}
 use Rattle.gate_world.specs.KeptCauses.{ChangeCause, CauseOf}
-use Rattle.change_laws.proofs.Owner.{change}
+use Rattle.change_laws.proofs.ChangeLoads.{change}
 
 module _ (c : Config) (w : World) (good : IsGood c w) (t : ℕ) (lt : t < c.tasks) (hook : HookAnswer) (m : ℕ) where
   abbrev IsQuiet : MountPhase → Type 0

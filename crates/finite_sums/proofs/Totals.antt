@@ -2,6 +2,7 @@
 use Rattle.std.proofs.Common.{◌≡◌, ℕ, zero, suc, ◌+◌, ◌*◌, ◌%◌, ◌<◌, ◌≤◌, refl, sym, ap, ◌∙◌, subst, inl, inr, arith}
 use Rattle.std.proofs.lemmas.Bool.{eq-eqb, ne_eqb}
 use Rattle.std.proofs.lemmas.Bool.Decides.{eqb_tells}
+use Rattle.std.proofs.Math.Path.{fun_ext}
 use Rattle.finite_sums.specs.Sums.{update, total}
 
 pub update_at : {A : Type 0} (f : ℕ → A) (t : ℕ) (v : A) → update f t v t ≡ v
@@ -9,6 +10,14 @@ update_at f t v = rw (eq-eqb t t refl, update)
 
 pub update_off : {A : Type 0} (f : ℕ → A) (t : ℕ) (v : A) (x : ℕ) → (x ≡ t → ⊥) → update f t v x ≡ f x
 update_off f t v x h = rw (ne_eqb x t h, update)
+
+-- the values of an updated function are an update of the values
+pub update_map : {A B : Type 0} (g : A → B) (f : ℕ → A) (t : ℕ) (v : A) → (λ x. g (update f t v x)) ≡ update (λ x. g (f x)) t (g v)
+update_map g f t v = fun_ext (λ x. elim (eqb_tells x t) [ inl h ↦ rw (h.0, update) | inr h ↦ rw (h.0, update) ])
+
+-- an update to the value that is there changes nothing
+pub update_same : {A : Type 0} (f : ℕ → A) (t : ℕ) → update f t (f t) ≡ f
+update_same f t = fun_ext (λ x. elim (eqb_tells x t) [ inl h ↦ rw (h.0, update) (ap f (sym h.1)) | inr h ↦ rw (h.0, update) ])
 
 -- what holds of the new value and of each other old one holds of each
 pub each_updated : {A : Type 0} (P : ℕ → A → Type 0) (f : ℕ → A) (t : ℕ) (v : A) (x : ℕ) → P t v → ((x ≡ t → ⊥) → P x (f x)) → P x (update f t v x)

@@ -4,7 +4,7 @@ use Rattle.std.specs.Prelude.{◌==◌, ◌&&◌, ◌||◌, if◌then◌else◌,
 use Rattle.std.proofs.lemmas.Bool.{eq-eqb, ne_eqb}
 use Rattle.std.proofs.lemmas.Bool.Decides.{eqb_tells}
 use Rattle.finite_sums.specs.Sums.{update, total}
-use Rattle.finite_sums.proofs.Totals.{each_updated, total_updated}
+use Rattle.finite_sums.proofs.Totals.{each_updated, total_updated, update_map, update_same}
 use Rattle.cpu_words.specs.declared.names.WordName.{WordName}
 use Rattle.cpu_words.specs.declared.names.WordName.TheVariants.{Umount, Stage, SbFlags, Remount, MountFlags, MountCount, Block, Sync, LevelCount, Section, Used, Node, Kids}
 use Rattle.cpu_words.specs.declared.events.Touch.TheVariants.{Load}
@@ -20,7 +20,6 @@ use Rattle.gate_world.specs.Fits.{Fits}
 use Rattle.gate_world.specs.Rules.{role_if, at_mount, owns, remounts, IsSteady, OwnerHolds, ViewFits, Part, Owner, Superblock, Stages, Fitting, AtMount, Holds, SameWords, SameView, GatesHold, IsGood, Known}
 use Rattle.gate_world.specs.Owners.{KnowsWords}
 use Rattle.gate_frames.proofs.Known.{known_same}
-use Rattle.gate_frames.proofs.Words.{update_map, update_same}
 
 -- a load counts nowhere
 pub added_load : (name : WordName) (added : ℕ → ℕ → ℕ) → added_after name Load added ≡ added
@@ -66,6 +65,11 @@ view_as eh ea ek er = λ i. record { held = eh i; added = ea i; taken = ek i; ro
 pub holds_as : {tasks processors f f' r r' s s' : ℕ} {c c' : ℕ → ℕ} {at at' : ℕ → MountView} → f ≡ f' → r ≡ r' → s ≡ s' → c ≡ c' → at ≡ at' →
     MountHolds tasks processors f' r' s' c' at' → MountHolds tasks processors f r s c at
 holds_as {tasks} {processors} ef er es ec ea h = subst (λ X. X) (sym (λ i. MountHolds tasks processors (ef i) (er i) (es i) (ec i) (ea i))) h
+
+-- one mount after an event of this task, which makes this of its flags and counts and of the task's view
+abbrev pub MountAfter : Config → World → ℕ → ℕ → ℕ → (ℕ → ℕ) → MountView → Type 0
+MountAfter c w t m flags count v =
+    MountHolds c.tasks c.processors flags w.words.remount w.words.sb count (update (λ x. at_mount m (w.views x)) t v)
 
 module _ (c : Config) (w : World) (t : ℕ) (lt : t < c.tasks) where
   -- a level is passed as before, where neither its word nor the task's part in its closing changes
@@ -147,7 +151,7 @@ module _ (c : Config) (w : World) (t : ℕ) (lt : t < c.tasks) where
         OwnerHolds c.tasks ws.umount ws.remount (λ x. (update w.views t v x).phase) →
         ViewFits c t v →
         ((n : ℕ) → (n ≡ m → ⊥) → (ws.flags n ≡ w.words.flags n) × (ws.count n ≡ w.words.count n) × (at_mount n v ≡ at_mount n (w.views t))) →
-        (m < c.mounts → MountHolds c.tasks c.processors (ws.flags m) w.words.remount w.words.sb (ws.count m) (update (λ x. at_mount m (w.views x)) t (at_mount m v))) →
+        (m < c.mounts → MountAfter c w t m (ws.flags m) (ws.count m) (at_mount m v)) →
         GatesHold c (record { words = ws; views = update w.views t v })
     gates_after m ws v er es owner fits off own Owner h = owner
     gates_after m ws v er es owner fits off own Superblock h = left_alone Superblock ws v es tt (good Superblock)

@@ -3,6 +3,7 @@ pub mod Known
 pub mod Frames
 pub mod MountEvents
 pub mod Loads
+pub mod Owners
 pub mod Keeps
 pub mod Accesses
 pub mod Places

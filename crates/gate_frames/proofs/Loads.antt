@@ -2,13 +2,14 @@
 use Rattle.std.proofs.Common.{◌≡◌, ℕ, ◌<◌, refl, sym, ap, ◌∙◌, subst}
 use Rattle.std.specs.Prelude.{◌==◌, Option, Some, None, true, false}
 use Rattle.finite_sums.specs.Sums.{update}
+use Rattle.finite_sums.proofs.Totals.{update_same}
 use Rattle.access_model.specs.declared.replies.Next.{Next}
 use Rattle.cpu_words.specs.declared.names.WordName.{WordName}
 use Rattle.cpu_words.specs.declared.events.Touch.TheVariants.{Load}
 use Rattle.cpu_words.specs.Words.{read, put}
 use Rattle.cpu_words.specs.Hooks.{HookAnswer}
 use Rattle.mount_counts.specs.declared.phases.MountPhase.{MountPhase}
-use Rattle.mount_counts.specs.Roles.{Role, Out, sought, passed_hold, past_remount, past_flags, unread, stands, skips, MountHolds}
+use Rattle.mount_counts.specs.Roles.{Out}
 use Rattle.gate_world.specs.declared.config.Config.{Config}
 use Rattle.gate_world.specs.declared.work.Phase.{Phase}
 use Rattle.gate_world.specs.declared.work.Phase.TheVariants.{Mounts}
@@ -17,23 +18,11 @@ use Rattle.gate_world.specs.Views.{held_at, holds_level, added_by, taken_by, pha
 use Rattle.gate_world.specs.Fits.{Fits, MountFits}
 use Rattle.gate_world.specs.Worlds.{World}
 use Rattle.gate_world.specs.Shown.{shown, closing}
-use Rattle.gate_world.specs.Rules.{role_if, role_of, at_mount, owns, mount_owns, remounts, IsSteady, IsGood, Fitting, GatesHold}
+use Rattle.gate_world.specs.Rules.{role_if, role_of, at_mount, owns, mount_owns, remounts, IsSteady, IsGood, Fitting, AtMount, GatesHold}
 use Rattle.gate_frames.proofs.Words.{load_same}
-use Rattle.gate_frames.proofs.Frames.{added_load, taken_load, view_as, shown_still, owner_same, gates_after}
+use Rattle.gate_frames.proofs.Frames.{added_load, taken_load, view_as, holds_as, MountAfter, shown_still, owner_same, gates_after}
 
--- the numbers of a role that is known
-pub record Counts (r q : Role) : Type 0 where
-  pub sought_is : sought r ≡ sought q
-  pub passed_is : passed_hold r ≡ passed_hold q
-  pub remount_is : past_remount r ≡ past_remount q
-  pub flags_is : past_flags r ≡ past_flags q
-  pub stands_is : stands r ≡ stands q
-  pub skips_is : skips r ≡ skips q
-  pub unread_is : (k : ℕ) → unread k r ≡ unread k q
-
-pub counts : {r q : Role} → r ≡ q → Counts r q
-counts e = record { sought_is = ap sought e; passed_is = ap passed_hold e; remount_is = ap past_remount e; flags_is = ap past_flags e; stands_is = ap stands e; skips_is = ap skips e; unread_is = λ k. ap (unread k) e }
-
+-- no role is none at whichever mount
 pub role_none : (y m : ℕ) → role_if (y == m) Out ≡ Out
 role_none y m = elim (y == m) as (λ b. role_if b Out ≡ Out) [ true ↦ refl | false ↦ refl ]
 
@@ -53,6 +42,7 @@ after_load w t name hook coming = record {
 }
 
 module _ (c : Config) (w : World) (good : IsGood c w) (t : ℕ) (lt : t < c.tasks) where
+  -- the phase fits its task's accesses
   pub fits_now : (phase : MountPhase) → (w.views t).phase ≡ Some (Mounts phase) → MountFits c t (held_at (w.views t)) (holds_level (w.views t)) phase
   fits_now phase e = subst (Fits c t (held_at (w.views t)) (holds_level (w.views t))) e (good Fitting t lt)
 
@@ -61,8 +51,7 @@ module _ (c : Config) (w : World) (good : IsGood c w) (t : ℕ) (lt : t < c.task
       ((n : ℕ) → (n ≡ m → ⊥) → role_of n (phase_after coming) ≡ role_of n (w.views t).phase) →
       IsSteady (w.views t).phase (phase_after coming) →
       Fits c t (held_at (w.views t)) (holds_level (w.views t)) (phase_after coming) →
-      (m < c.mounts → MountHolds c.tasks c.processors (w.words.flags m) w.words.remount w.words.sb (w.words.count m)
-      (update (λ x. at_mount m (w.views x)) t (record (at_mount m (w.views t)) { role = role_of m (phase_after coming) }))) →
+      (m < c.mounts → MountAfter c w t m (w.words.flags m) (w.words.count m) (record (at_mount m (w.views t)) { role = role_of m (phase_after coming) })) →
       GatesHold c (after_load w t name hook coming) × (shown c (after_load w t name hook coming) ≡ shown c w)
   load_law m name hook coming off same fits own =
       let v : View = view_with (w.views t) (name, Load) (read w.words name) hook (coming, None) in
@@ -71,7 +60,19 @@ module _ (c : Config) (w : World) (good : IsGood c w) (t : ℕ) (lt : t < c.task
       let there : GatesHold c (record { words = w.words; views = update w.views t v }) =
       gates_after c w t lt good m w.words v refl refl (owner_same c w t lt good v same) fits
       (λ n ne. (refl, refl, view_as refl (ap (λ f. f n) ea) (ap (λ f. f n) et) (off n ne)))
-      (λ lm. subst (λ u. MountHolds c.tasks c.processors (w.words.flags m) w.words.remount w.words.sb (w.words.count m) (update (λ x. at_mount m (w.views x)) t u))
+      (λ lm. subst (MountAfter c w t m (w.words.flags m) (w.words.count m))
       (view_as refl (ap (λ f. f m) (sym ea)) (ap (λ f. f m) (sym et)) refl) (own lm)) in
       subst (λ ws. let next_world : World = record { words = ws; views = update w.views t v } in GatesHold c next_world × (shown c next_world ≡ shown c w)) (sym (load_same w.words name))
       (there, shown_still c w t lt w.words v refl refl refl refl refl refl same.closing_same refl refl)
+
+  -- a load, after which the task's role is the same at each mount
+  pub still_load : (name : WordName) (hook : HookAnswer) (coming : Next Phase) →
+      ((n : ℕ) → role_of n (phase_after coming) ≡ role_of n (w.views t).phase) →
+      IsSteady (w.views t).phase (phase_after coming) →
+      Fits c t (held_at (w.views t)) (holds_level (w.views t)) (phase_after coming) →
+      GatesHold c (after_load w t name hook coming) × (shown c (after_load w t name hook coming) ≡ shown c w)
+  still_load name hook coming role same fits =
+      load_law 0 name hook coming (λ n ne. role n) same fits
+      (λ lm. holds_as refl refl refl refl
+      (ap (update (λ x. at_mount 0 (w.views x)) t) (view_as refl refl refl (role 0)) ∙ update_same (λ x. at_mount 0 (w.views x)) t)
+      (good (AtMount 0) lm))

@@ -1,5 +1,5 @@
 -- The rule: what holds of words and views between any two events. One predicate for each mount, one for the owner's words.
-use Rattle.std.specs.Prelude.{◌≡◌, ℕ, suc, ◌<◌, ◌≤◌, ◌==◌, Bool, true, false, Option, Some, None}
+use Rattle.std.specs.Prelude.{◌≡◌, ℕ, suc, ◌<◌, ◌≤◌, ◌==◌, Bool, true, false, Option, Some, None, Ok, Err}
 use Rattle.finite_sums.specs.Sums.{total}
 use Rattle.access_model.specs.declared.actions.Action.{Action}
 use Rattle.access_model.specs.States.{State}
@@ -33,11 +33,12 @@ want_role p LoadsReadOnly = PastRemount p
 want_role p LoadsSuperblock = PastFlags p
 want_role p (CountsDown refusal) = BackingOff p
 
--- what a step of a change is doing at its mount
+-- what a step of a change is doing at its mount: where its sum was 0, the mount is empty until HOLD is cleared
 abbrev pub change_role : ChangeStep → Role
 change_role (Sums sum) = Summing sum.words sum.total
 change_role SetsReadOnly = Empty
-change_role (ClearsHold answer) = Leaving
+change_role (ClearsHold (Ok answer)) = Empty
+change_role (ClearsHold (Err refusal)) = Leaving
 change_role step = Out
 
 -- a role at one mount alone
@@ -115,6 +116,11 @@ pub data Part : Type 0 where
   -- one mount
   AtMount : (m : ℕ) → Part
 
+-- what the part of one mount says of a world that has the mount
+abbrev pub MountIn : Config → World → ℕ → Type 0
+MountIn c w m =
+    MountHolds c.tasks c.processors (w.words.flags m) w.words.remount w.words.sb (w.words.count m) (λ t. at_mount m (w.views t))
+
 -- what a part says of a world
 abbrev pub Holds : Config → World → Part → Type 0
 Holds c w Owner = OwnerHolds c.tasks w.words.umount w.words.remount (λ t. (w.views t).phase)
@@ -122,8 +128,7 @@ Holds c w Superblock = w.words.sb ≤ 1
 Holds c w Stages = w.words.stage ≤ 4
 Holds c w Fitting = (t : ℕ) → t < c.tasks → ViewFits c t (w.views t)
 Holds c w Known = (t : ℕ) → t < c.tasks → owns (w.views t).phase ≡ 1 → KnowsWords w.words (w.views t).trace
-Holds c w (AtMount m) = m < c.mounts →
-    MountHolds c.tasks c.processors (w.words.flags m) w.words.remount w.words.sb (w.words.count m) (λ t. at_mount m (w.views t))
+Holds c w (AtMount m) = m < c.mounts → MountIn c w m
 
 -- what a part reads of the words: these are as they were
 abbrev pub SameWords : Words → Words → Part → Type 0

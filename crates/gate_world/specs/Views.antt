@@ -6,7 +6,7 @@ use Rattle.access_model.specs.declared.replies.Next.{Next}
 use Rattle.access_model.specs.declared.replies.Next.TheVariants.{Go, Wait, Done}
 use Rattle.access_model.specs.Histories.{mounts_of, levels_of}
 use Rattle.cpu_words.specs.declared.names.WordName.{WordName}
-use Rattle.cpu_words.specs.declared.names.WordName.TheVariants.{MountCount, LevelCount}
+use Rattle.cpu_words.specs.declared.names.WordName.TheVariants.{MountCount}
 use Rattle.cpu_words.specs.declared.events.Touch.{Touch}
 use Rattle.cpu_words.specs.declared.events.Touch.TheVariants.{Add, Sub}
 use Rattle.cpu_words.specs.declared.events.Event.{Event}
@@ -29,7 +29,7 @@ held_at v = mounts_of v.actions
 abbrev pub holds_level : View → ℕ → Bool
 holds_level v = levels_of v.actions
 
--- net additions are what was added to a count word less what was taken away: each is a sum over the events
+-- net additions are what was added to a mount's count word less what was taken away: each is a sum over the events
 abbrev pub added_after : WordName → Touch → (ℕ → ℕ → ℕ) → ℕ → ℕ → ℕ
 added_after (MountCount m p) (Add n) added = update added m (update (added m) p (added m p + n))
 added_after word touch added = added
@@ -45,23 +45,6 @@ added_by (e ∷ earlier) = added_after e.word e.touch (added_by earlier)
 abbrev pub taken_by : List Event → ℕ → ℕ → ℕ
 taken_by [] = λ m p. 0
 taken_by (e ∷ earlier) = taken_after e.word e.touch (taken_by earlier)
-
--- the same, of the levels' count words
-abbrev pub level_added_after : WordName → Touch → (ℕ → ℕ → ℕ) → ℕ → ℕ → ℕ
-level_added_after (LevelCount i p) (Add n) added = update added i (update (added i) p (added i p + n))
-level_added_after word touch added = added
-
-abbrev pub level_taken_after : WordName → Touch → (ℕ → ℕ → ℕ) → ℕ → ℕ → ℕ
-level_taken_after (LevelCount i p) (Sub n) taken = update taken i (update (taken i) p (taken i p + n))
-level_taken_after word touch taken = taken
-
-abbrev pub level_added_by : List Event → ℕ → ℕ → ℕ
-level_added_by [] = λ i p. 0
-level_added_by (e ∷ earlier) = level_added_after e.word e.touch (level_added_by earlier)
-
-abbrev pub level_taken_by : List Event → ℕ → ℕ → ℕ
-level_taken_by [] = λ i p. 0
-level_taken_by (e ∷ earlier) = level_taken_after e.word e.touch (level_taken_by earlier)
 
 -- where the operation stands after an event
 abbrev pub phase_after : Next Phase → Option Phase

@@ -13,8 +13,10 @@ use Rattle.access_model.specs.Histories.{Done, end_of, IsLegal}
 use Rattle.access_model.specs.States.{State, opening_state}
 use Rattle.access_model.specs.Actions.{IsAllowed, after_action}
 use Rattle.cpu_words.specs.Hooks.{HookAnswer}
-use Rattle.mount_counts.specs.Roles.{sought, counted, MountHolds}
-use Rattle.mount_laws.proofs.MountLaws.{gate_sum, counted_parts, unread_le}
+use Rattle.mount_counts.specs.Roles.{processor_of, counted, sought, mount_shut}
+use Rattle.gate_counts.proofs.Numbers.{below_le}
+use Rattle.gate_counts.proofs.Views.{words_sum}
+use Rattle.gate_counts.proofs.Flags.{gate_begins}
 use Rattle.gate_world.specs.declared.config.Config.{Config}
 use Rattle.gate_world.specs.declared.operations.Op.{Op}
 use Rattle.gate_world.specs.declared.work.Phase.{Phase}
@@ -24,7 +26,7 @@ use Rattle.gate_world.specs.Views.{held_at, holds_level, begun_view}
 use Rattle.gate_world.specs.Beginnings.{first_phase, view_refusal}
 use Rattle.gate_world.specs.Worlds.{World, Entry, Begins, Steps, after_begin, begin_of, step_of, happens, phase_action, action_of, task_of, with_action, run, opening, history}
 use Rattle.gate_world.specs.Shown.{shown}
-use Rattle.gate_world.specs.Rules.{role_of, at_mount, IsSteady, ViewFits, Part, Owner, Superblock, Stages, Fitting, AtMount, Holds, IsGood, Moves, owns, Known}
+use Rattle.gate_world.specs.Rules.{role_of, at_mount, MountIn, IsSteady, ViewFits, Part, Owner, Superblock, Stages, Fitting, AtMount, Holds, IsGood, Moves, owns, Known}
 use Rattle.gate_world.specs.Headline.{SumsHold, IdleSumsHold}
 use Rattle.schedule_laws.proofs.Layers.{phase_keeps, op_keeps}
 use Rattle.schedule_laws.proofs.Beginnings.{MayBegin, may_begin, first_fits}
@@ -117,13 +119,8 @@ module _ (c : Config) (lim : IsWithin c) where
   opening_good Fitting = λ t lt. tt
   opening_good (AtMount m) = λ lm. record {
     bits = omega arith;
-    counts = record { fits = λ p lp. omega arith; words = λ p lp. omega (arith, zeros c.tasks); own = λ t lt. omega (arith, zeros c.processors) };
-    room = λ t lt. omega arith;
-    hold = zeros c.tasks;
-    roles = λ t lt. tt;
-    closed = λ h. zeros c.tasks;
-    remounting = λ h h2 h3. zeros c.tasks;
-    sealed = λ h. zeros c.tasks;
+    gate = gate_begins c.tasks c.processors (mount_shut 0 0 0);
+    skipped = λ t lt h. absurd (omega (arith, h));
   }
 
   opening_tree : (n : ℕ) → opening_state.tree n ≡ (shown c opening).tree n
@@ -137,11 +134,14 @@ module _ (c : Config) (lim : IsWithin c) where
   -- a mount's words sum to what is counted, as a whole number
   pub gate_sums : (w : World) → IsGood c w → SumsHold c w
   gate_sums w good m lm =
-      let g : MountHolds c.tasks c.processors (w.words.flags m) w.words.remount w.words.sb (w.words.count m) (λ x. at_mount m (w.views x)) = good (AtMount m) lm in
-      let s : total c.processors (w.words.count m) % 18446744073709551616 ≡ total c.tasks (λ t. counted (at_mount m (w.views t))) % 18446744073709551616 = gate_sum c.tasks c.processors (w.words.count m) (λ x. at_mount m (w.views x)) g.counts in
-      let b : total c.tasks (λ t. counted (at_mount m (w.views t))) ≤ c.tasks * 1025 = total_bound c.tasks 1025 _ (λ x lx. omega (arith, g.room x lx, counted_parts (role_of m (w.views x).phase), unread_le 0 (role_of m (w.views x).phase))) in
+      let g : MountIn c w m = good (AtMount m) lm in
+      let s : total c.processors (w.words.count m) % 18446744073709551616 ≡
+          total c.tasks (λ t. counted (at_mount m (w.views t))) % 18446744073709551616 = words_sum g.gate.counts in
+      let b : total c.tasks (λ t. counted (at_mount m (w.views t))) ≤ c.tasks * 1025 =
+      total_bound c.tasks 1025 _ (λ x lx. omega (arith, g.gate.room x lx, below_le 0 (processor_of (role_of m (w.views x).phase)))) in
       omega (arith, lim.tasks)
 
+  -- with no operation under way, to the accesses held
   pub idle_sums : (w : World) → IsGood c w → IdleSumsHold c w
   idle_sums w good idle m lm =
       gate_sums w good m lm ∙ total_same c.tasks _ _ (λ x lx. omega (arith, ap (λ u. sought (role_of m u)) (idle x lx)))

@@ -5,7 +5,7 @@ use Rattle.finite_sums.specs.Sums.{total}
 use Rattle.finite_sums.proofs.Totals.{total_same, total_none}
 use Rattle.cpu_words.specs.declared.names.WordName.TheVariants.{Umount, Remount, MountFlags, MountCount}
 use Rattle.cpu_words.specs.Names.{place}
-use Rattle.mount_counts.specs.Roles.{stands, hold_bit}
+use Rattle.mount_counts.specs.Roles.{has_hold, hold_bit}
 use Rattle.gate_world.specs.declared.config.Config.{Config}
 use Rattle.gate_world.specs.Rules.{owns, remounts, role_of, Owner, AtMount}
 use Rattle.schedule_laws.proofs.Schedule.{idle_sums}
@@ -49,8 +49,9 @@ module _ (c : Config) (ws : List ℕ) (e : Ended c ws) where
   -- no mount has HOLD set
   pub no_hold : (m : ℕ) → m < c.mounts → slice_index ws (16 * place (MountFlags m)) < 2
   no_hold m lm =
-      let h = (e.ruled.good (AtMount m) lm).hold in
-      let z : hold_bit (e.world.words.flags m) ≡ 0 = sym h ∙ total_none c.tasks _ (λ t lt. ap (λ p. stands (role_of m p)) (idle t lt)) in
+      let none : total c.tasks (λ t. has_hold (role_of m (e.world.views t).phase)) ≡ 0 =
+      total_none c.tasks _ (λ t lt. ap (λ p. has_hold (role_of m p)) (idle t lt)) in
+      let clear : hold_bit (e.world.words.flags m) ≡ 0 = omega (arith, none, (e.ruled.good (AtMount m) lm).gate.flag) in
       let w = e.ruled.words (MountFlags m) lm in
       omega arith
 

@@ -1,5 +1,5 @@
-use Rattle.mount_laws.proofs.MountLaws.{gate_sum}
+use Rattle.gate_counts.proofs.Views.{words_sum}
 use Rattle.mount_laws.proofs.words_sum_to_what_is_counted.Goals as goal
 
 pub returns : goal.returns
-returns c = gate_sum
+returns c = λ tasks processors count at. words_sum

@@ -1,0 +1,5 @@
+pub mod Numbers
+pub mod Views
+pub mod Readers
+pub mod Flags
+pub mod LevelLaws

@@ -1,0 +1,192 @@
+-- What every owner of `umount` may rely on, and its events: under the lock, on the word `umount`, and on a mount's flags.
+use Rattle.std.proofs.Common.{◌≡◌, ℕ, suc, ◌+◌, ◌<◌, ◌≤◌, Bool, true, false, refl, sym, ap, ◌∙◌, inl, inr, arith}
+use Rattle.std.specs.Prelude.{◌==◌, Option, Some, None, Ok, Err}
+use Rattle.std.proofs.lemmas.Bool.Decides.{eqb_tells}
+use Rattle.finite_sums.specs.Sums.{update, total}
+use Rattle.finite_sums.proofs.Totals.{update_at, update_off, update_map, update_same, each_updated, total_updated, total_none}
+use Rattle.cpu_words.specs.Words.{Words}
+use Rattle.mount_counts.specs.declared.phases.MountPhase.TheVariants.{Want as Wants, Drop as Drops, Change as Changes}
+use Rattle.mount_counts.specs.declared.phases.WantStep.TheVariants.{CountsUp}
+use Rattle.mount_counts.specs.declared.phases.WantStep.{WantStep}
+use Rattle.mount_counts.specs.declared.phases.ChangeStep.{ChangeStep}
+use Rattle.mount_counts.specs.declared.phases.ChangeStep.TheVariants.{Locks, ClearsHold}
+use Rattle.mount_counts.specs.Roles.{Role, has_hold, skips, ro_bit, hold_bit}
+use Rattle.gate_world.specs.declared.config.Config.{Config}
+use Rattle.gate_world.specs.declared.work.Phase.{Phase}
+use Rattle.gate_world.specs.declared.work.Phase.TheVariants.{Mounts}
+use Rattle.gate_world.specs.declared.views.View.{View}
+use Rattle.gate_world.specs.Views.{held_at, holds_level, added_by, taken_by}
+use Rattle.gate_world.specs.Worlds.{World}
+use Rattle.gate_world.specs.Shown.{shown, closing}
+use Rattle.gate_world.specs.Rules.{want_role, change_role, role_if, role_of, at_mount, change_owns, owns, remounts, IsSteady, OwnerHolds, ViewFits, IsGood, Owner, AtMount, GatesHold}
+use Rattle.gate_frames.proofs.Frames.{view_as, holds_as, MountAfter, owner_same, gates_after, shown_as, shown_still}
+
+change_owns_le : (s : ChangeStep) → change_owns s ≤ 1
+change_owns_le Locks = omega arith
+change_owns_le step = omega arith
+
+-- a task owns at most once
+pub owns_le : (p : Option Phase) → owns p ≤ 1
+owns_le None = omega arith
+owns_le (Some (Mounts (Wants x))) = omega arith
+owns_le (Some (Mounts (Drops m p))) = omega arith
+owns_le (Some (Mounts (Changes x))) = change_owns_le x.step
+
+-- a want has no hold flag set, and skips no mount
+want_hold : (p : ℕ) (s : WantStep) → has_hold (want_role p s) + skips (want_role p s) ≡ 0
+want_hold p CountsUp = refl
+want_hold p step = refl
+
+-- a change has one set only while it owns
+change_hold : (s : ChangeStep) → has_hold (change_role s) + skips (change_role s) ≤ change_owns s
+change_hold Locks = omega arith
+change_hold (ClearsHold (Ok answer)) = omega arith
+change_hold (ClearsHold (Err refusal)) = omega arith
+change_hold step = omega arith
+
+-- a role at one mount alone has no more
+hold_if : (b : Bool) (r : Role) → has_hold (role_if b r) + skips (role_if b r) ≤ has_hold r + skips r
+hold_if true r = omega arith
+hold_if false r = omega arith
+
+-- only the owner of `umount` has a hold flag set, or counts on a mount's staying read-only
+pub hold_owns : (m : ℕ) (p : Option Phase) → has_hold (role_of m p) + skips (role_of m p) ≤ owns p
+hold_owns m None = omega arith
+hold_owns m (Some (Mounts (Wants x))) = omega (arith, hold_if (m == x.mount) (want_role x.cpu x.step), want_hold x.cpu x.step)
+hold_owns m (Some (Mounts (Drops n p))) = omega arith
+hold_owns m (Some (Mounts (Changes x))) = omega (arith, hold_if (m == x.mount) (change_role x.step), change_hold x.step)
+
+-- nor has anybody else `remount` set
+pub remounts_owns : (p : Option Phase) → remounts p ≤ owns p
+remounts_owns None = omega arith
+remounts_owns (Some (Mounts phase)) = omega arith
+
+module _ (c : Config) (w : World) (good : IsGood c w) (t : ℕ) (lt : t < c.tasks) where
+  -- nobody else owns
+  pub alone : (x : ℕ) → x < c.tasks → (x ≡ t → ⊥) → owns (w.views t).phase ≡ 1 → owns (w.views x).phase ≡ 0
+  alone x lx ne o =
+      let both : owns (w.views x).phase ≡ 1 → ⊥ = λ q.
+          let a : w.words.umount ≡ suc x = (good Owner).locked x lx q in
+          let b : w.words.umount ≡ suc t = (good Owner).locked t lt o in
+          ne (omega arith) in
+      omega (arith, both, owns_le (w.views x).phase)
+
+  -- an owner that hasn't `remount` set finds it clear
+  pub no_remount : owns (w.views t).phase ≡ 1 → remounts (w.views t).phase ≡ 0 → w.words.remount ≡ 1 → ⊥
+  no_remount o z q =
+      let none : total c.tasks (λ x. remounts (w.views x).phase) ≡ 0 = total_none c.tasks (λ x. remounts (w.views x).phase) (λ x lx.
+      elim (eqb_tells x t) [
+        | inl h ↦ ap (λ y. remounts (w.views y).phase) h.1 ∙ z
+        | inr h ↦ omega (arith, alone x lx h.1 o, remounts_owns (w.views x).phase)
+      ]) in
+      omega (arith, (good Owner).remounting, q, none)
+
+  -- an owner that hasn't HOLD set at a mount finds it clear there
+  pub no_hold : (m : ℕ) → m < c.mounts → owns (w.views t).phase ≡ 1 → has_hold (role_of m (w.views t).phase) ≡ 0 →
+      hold_bit (w.words.flags m) ≡ 0
+  no_hold m lm o z =
+      let none : total c.tasks (λ x. has_hold (role_of m (w.views x).phase)) ≡ 0 =
+      total_none c.tasks (λ x. has_hold (role_of m (w.views x).phase)) (λ x lx.
+      elim (eqb_tells x t) [
+        | inl h ↦ ap (λ y. has_hold (role_of m (w.views y).phase)) h.1 ∙ z
+        | inr h ↦ omega (arith, alone x lx h.1 o, hold_owns m (w.views x).phase)
+      ]) in
+      omega (arith, none, (good (AtMount m) lm).gate.flag)
+
+  -- nobody else counts on a mount's staying read-only
+  pub no_skip : (m x : ℕ) → x < c.tasks → (x ≡ t → ⊥) → owns (w.views t).phase ≡ 1 → skips (role_of m (w.views x).phase) ≡ 1 → ⊥
+  no_skip m x lx ne o s = omega (arith, s, alone x lx ne o, hold_owns m (w.views x).phase)
+
+  -- the sum of who has `remount` set, where this task has as before
+  remounts_same : (v : View) → remounts v.phase ≡ remounts (w.views t).phase →
+      w.words.remount ≡ total c.tasks (λ x. remounts (update w.views t v x).phase)
+  remounts_same v same =
+      omega (arith, (good Owner).remounting, same, total_updated (λ (u : View). remounts u.phase) c.tasks t w.views v lt)
+
+  -- the lock: `umount` was free, and has the task's number
+  pub locks_umount : (n : ℕ) (v : View) → w.words.umount ≡ 0 → n ≡ suc t → owns v.phase ≡ 1 → remounts v.phase ≡ remounts (w.views t).phase →
+      OwnerHolds c.tasks n w.words.remount (λ x. (update w.views t v x).phase)
+  locks_umount n v free mine own same = record {
+    locked = λ x lx.
+        each_updated (λ y (u : View). y < c.tasks → owns u.phase ≡ 1 → n ≡ suc y) w.views t v x
+        (λ l q. mine) (λ ne l q. absurd (omega (arith, free, (good Owner).locked x l q))) lx;
+    owned = λ x lx.
+        each_updated (λ y (u : View). y < c.tasks → n ≡ suc y → owns u.phase ≡ 1) w.views t v x
+        (λ l q. own) (λ ne l q. absurd (ne (omega (arith, mine, q)))) lx;
+    known = omega (arith, lt, mine);
+    bit = (good Owner).bit;
+    remounting = remounts_same v same;
+  }
+
+  -- the release: it was the task's own, and is free
+  pub releases_umount : (v : View) → owns (w.views t).phase ≡ 1 → owns v.phase ≡ 0 → remounts v.phase ≡ remounts (w.views t).phase →
+      OwnerHolds c.tasks 0 w.words.remount (λ x. (update w.views t v x).phase)
+  releases_umount v own none same =
+      let mine : w.words.umount ≡ suc t = (good Owner).locked t lt own in
+      record {
+        locked = λ x lx.
+            each_updated (λ y (u : View). y < c.tasks → owns u.phase ≡ 1 → 0 ≡ suc y) w.views t v x
+            (λ l q. absurd (omega (arith, q, none))) (λ ne l q. absurd (ne (omega (arith, mine, (good Owner).locked x l q)))) lx;
+        owned = λ x lx.
+            each_updated (λ y (u : View). y < c.tasks → 0 ≡ suc y → owns u.phase ≡ 1) w.views t v x
+            (λ l q. absurd (omega arith)) (λ ne l q. absurd (omega arith)) lx;
+        known = omega arith;
+        bit = (good Owner).bit;
+        remounting = remounts_same v same;
+      }
+
+  -- an event that leaves all words but `umount`, and the task's role at each mount
+  pub umount_law : (n : ℕ) (v : View) → OwnerHolds c.tasks n w.words.remount (λ x. (update w.views t v x).phase) → ViewFits c t v →
+      held_at v ≡ held_at (w.views t) → holds_level v ≡ holds_level (w.views t) →
+      added_by v.events ≡ added_by (w.views t).events → taken_by v.events ≡ taken_by (w.views t).events →
+      ((y : ℕ) → role_of y v.phase ≡ role_of y (w.views t).phase) → ((i : ℕ) → closing i v.phase ≡ closing i (w.views t).phase) →
+      let next_world : World = record { words = record w.words { umount = n }; views = update w.views t v } in
+      GatesHold c next_world × (shown c next_world ≡ shown c w)
+  umount_law n v owner fits held levels added taken role close =
+      let ws : Words = record w.words { umount = n } in
+      let same : (y : ℕ) → at_mount y v ≡ at_mount y (w.views t) =
+      λ y. view_as (ap (λ g. g y) held) (ap (λ g. g y) added) (ap (λ g. g y) taken) (role y) in (
+        gates_after c w t lt good 0 ws v refl refl owner fits (λ y ne. (refl, refl, same y))
+            (λ lm. holds_as refl refl refl refl
+            (ap (update (λ x. at_mount 0 (w.views x)) t) (same 0) ∙ update_same (λ x. at_mount 0 (w.views x)) t) (good (AtMount 0) lm)),
+        shown_still c w t lt ws v refl refl refl refl refl refl close held levels,
+      )
+
+  -- an owner's event on the flags of a mount
+  pub flag_law : (m f : ℕ) (v : View) (r : Role) → m < c.mounts → IsSteady (w.views t).phase v.phase → ViewFits c t v →
+      held_at v ≡ held_at (w.views t) → added_by v.events ≡ added_by (w.views t).events → taken_by v.events ≡ taken_by (w.views t).events →
+      ((y : ℕ) → (y ≡ m → ⊥) → role_of y v.phase ≡ role_of y (w.views t).phase) → role_of m v.phase ≡ r →
+      MountAfter c w t m f (w.words.count m) (record (at_mount m (w.views t)) { role = r }) →
+      GatesHold c (record { words = record w.words { flags = update w.words.flags m f }; views = update w.views t v })
+  flag_law m f v r lm same fits held added taken off role own =
+      let at : (y : ℕ) (q : Role) → role_of y v.phase ≡ q → at_mount y v ≡ record (at_mount y (w.views t)) { role = q } =
+      λ y q is. view_as (ap (λ g. g y) held) (ap (λ g. g y) added) (ap (λ g. g y) taken) is in
+      gates_after c w t lt good m (record w.words { flags = update w.words.flags m f }) v refl refl (owner_same c w t lt good v same) fits
+      (λ y ne. (update_off w.words.flags m f y ne, refl, at y (role_of y (w.views t).phase) (off y ne)))
+      (λ l. holds_as (update_at w.words.flags m f) refl refl refl (ap (update (λ x. at_mount m (w.views x)) t) (at m r role)) own)
+
+module _ (c : Config) (w : World) (t : ℕ) (lt : t < c.tasks) (m f : ℕ) (v : View) where
+  -- the world after an event on the flags of a mount
+  abbrev pub flags_after : World
+  flags_after = record { words = record w.words { flags = update w.words.flags m f }; views = update w.views t v }
+
+  -- the shown model then, where READONLY is so and the task has the same accesses
+  pub flags_shown : (b : Bool) → IsSteady (w.views t).phase v.phase → (ro_bit f == 1) ≡ b →
+      held_at v ≡ held_at (w.views t) → holds_level v ≡ holds_level (w.views t) →
+      shown c flags_after ≡ record (shown c w) { mount_ro = update (λ n. ro_bit (w.words.flags n) == 1) m b }
+  flags_shown b same h eh el =
+      let ro : (λ n. ro_bit (update w.words.flags m f n) == 1) ≡ update (λ n. ro_bit (w.words.flags n) == 1) m b =
+      update_map (λ x. ro_bit x == 1) w.words.flags m f ∙ ap (update (λ n. ro_bit (w.words.flags n) == 1) m) h in
+      shown_as c w t lt (record w.words { flags = update w.words.flags m f }) v refl same.closing_same ∙
+      (λ j. record (shown c w) {
+        mounts = (ap (update (λ x. held_at (w.views x)) t) eh ∙ update_same (λ x. held_at (w.views x)) t) j;
+        levels = (ap (update (λ x. holds_level (w.views x)) t) el ∙ update_same (λ x. holds_level (w.views x)) t) j;
+        mount_ro = ro j;
+      })
+
+  -- where READONLY stays
+  pub flags_show_same : IsSteady (w.views t).phase v.phase → ro_bit f ≡ ro_bit (w.words.flags m) →
+      held_at v ≡ held_at (w.views t) → holds_level v ≡ holds_level (w.views t) → shown c flags_after ≡ shown c w
+  flags_show_same same h eh el =
+      flags_shown (ro_bit (w.words.flags m) == 1) same (ap (λ x. x == 1) h) eh el ∙
+      (λ j. record (shown c w) { mount_ro = update_same (λ n. ro_bit (w.words.flags n) == 1) m j })
