@@ -1,11 +1,10 @@
 -- Events of a change that hold, sum, set, clear, lock and release.
-use Rattle.gate_frames.proofs.Words.{update_map, update_same}
 use Rattle.std.proofs.Common.{◌≡◌, ℕ, suc, ◌+◌, ◌<◌, Bool, true, false, refl, sym, ap, ◌∙◌, subst, inl, inr, add-one, arith}
 use Rattle.std.specs.Prelude.{◌==◌, nat_lt, bit_or, bit_and, Option, Some, None, Result, Ok, Err, ◌∷◌}
 use Rattle.std.proofs.lemmas.Bool.{eq-eqb, ne_eqb, ltb-true, ltb-false, cases_Bool}
 use Rattle.std.proofs.lemmas.Bool.Decides.{eqb_tells}
 use Rattle.finite_sums.specs.Sums.{update, total}
-use Rattle.finite_sums.proofs.Totals.{total_at}
+use Rattle.finite_sums.proofs.Totals.{total_at, update_map, update_same}
 use Rattle.access_model.specs.declared.actions.Action.TheVariants.{MountRo, MountRw}
 use Rattle.access_model.specs.declared.errors.GateError.{GateError}
 use Rattle.access_model.specs.declared.errors.GateError.TheVariants.{Busy}
