@@ -1,6 +1,6 @@
 -- Events of a change that hold, sum, set, clear, lock and release.
 use Rattle.std.proofs.Common.{◌≡◌, ℕ, suc, ◌+◌, ◌<◌, Bool, true, false, refl, sym, ap, ◌∙◌, subst, inl, inr, add-one, arith}
-use Rattle.std.specs.Prelude.{◌==◌, nat_lt, bit_or, bit_and, Option, Some, None, Result, Ok, Err, ◌∷◌}
+use Rattle.std.specs.Prelude.{◌==◌, nat_lt, bit_or, Option, Some, None, Result, Ok, Err, ◌∷◌}
 use Rattle.std.proofs.lemmas.Bool.{eq-eqb, ne_eqb, ltb-true, ltb-false, cases_Bool}
 use Rattle.std.proofs.lemmas.Bool.Decides.{eqb_tells}
 use Rattle.finite_sums.specs.Sums.{update, total}
@@ -21,7 +21,7 @@ use Rattle.cpu_words.specs.Touches.{wrap_add}
 use Rattle.mount_counts.specs.declared.phases.MountPhase.{MountPhase}
 use Rattle.mount_counts.specs.declared.phases.ChangeStep.{ChangeStep}
 use Rattle.mount_counts.specs.declared.phases.ChangeStep.TheVariants.{Locks, LoadsFlags, ClearsReadOnly, SetsHold, Sums, SetsReadOnly, ClearsHold, Releases}
-use Rattle.mount_counts.specs.Roles.{Out, Summing, has_hold, admitted, hold_bit}
+use Rattle.mount_counts.specs.Roles.{Summing, has_hold, admitted, hold_bit}
 use Rattle.mount_laws.proofs.Bits.{HoldSet, or_hold, ReadOnlySet, or_read_only, without_hold, HoldCleared, and_not_hold, without_read_only, ReadOnlyCleared, and_not_read_only}
 use Rattle.mount_laws.proofs.MountLaws.{SeeksNone, empties, sums_on, sums_to_none, sums_to_some, sets_hold as mount_sets_hold, sets_read_only as mount_sets_read_only, clears_hold as mount_clears_hold, clears_read_only as mount_clears_read_only}
 use Rattle.gate_world.specs.declared.config.Config.{Config}
@@ -40,7 +40,8 @@ use Rattle.gate_frames.proofs.Owners.{no_remount, no_hold, no_skip, locks_umount
 use Rattle.change_laws.proofs.ChangeLoads.{change, change_here, change_off, At, HereFits, fits_here}
 
 -- who is to clear HOLD has it set, and seeks no access
-to_clear : (answer : Result Reply GateError) → SeeksNone (change_role (ClearsHold answer)) × (has_hold (change_role (ClearsHold answer)) ≡ 1)
+to_clear : (answer : Result Reply GateError) →
+    SeeksNone (change_role (ClearsHold answer)) × (has_hold (change_role (ClearsHold answer)) ≡ 1)
 to_clear (Ok reply) = ((refl, refl), refl)
 to_clear (Err refusal) = ((refl, refl), refl)
 
@@ -69,7 +70,8 @@ module _ (c : Config) (lim : IsWithin c) (w : World) (good : IsGood c w) (t : �
       MountAfter c w t m f (w.words.count m) (record (at_mount m (w.views t)) { role = change_role s' }) →
       GatesHold c (flags_after c w t lt m f v)
   flag_step s s' f v e same e' fits held added taken own =
-      flag_law c w good t lt m f v (change_role s') (fits_here c w good t lt m ro wait task processors hook s e).0 same fits held added taken
+      flag_law c w good t lt m f v (change_role s') (fits_here c w good t lt m ro wait task processors hook s e).0
+      same fits held added taken
       (λ y ne. change_off m ro wait task processors s' e' y ne ∙ sym (change_off m ro wait task processors s e y ne))
       (change_here m ro wait task processors s' e') own
 
@@ -82,7 +84,7 @@ module _ (c : Config) (lim : IsWithin c) (w : World) (good : IsGood c w) (t : �
       let b : ReadOnlyCleared (w.words.flags m) = and_not_read_only (w.words.flags m) g.bits in
       let s' : ChangeStep = Releases (Ok UnitReply) in
       let v : View = view_with (w.views t) (MountFlags m, And 18446744073709551614) (w.words.flags m) hook
-          (Go (Mounts (here s')), Some (MountRw m)) in
+      (Go (Mounts (here s')), Some (MountRw m)) in
       let same : IsSteady (w.views t).phase v.phase = as_owner (here ClearsReadOnly) e refl refl (λ i. refl) in (
         flag_step ClearsReadOnly s' word v e same refl (f.0, f.1, f.2, f.3, tt) refl refl refl
             (mount_clears_read_only g t lt (role_here ClearsReadOnly e) (no_remount c w good t lt (ap owns e) (ap remounts e))
@@ -126,7 +128,8 @@ module _ (c : Config) (lim : IsWithin c) (w : World) (good : IsGood c w) (t : �
       )
 
   -- clears HOLD after READONLY was set, or after a sum that was not 0; meets: READONLY is loaded after HOLD was found clear
-  pub clears_hold : (answer : Result Reply GateError) → IsAt (ClearsHold answer) → GateStepKeeps c w t hook (Mounts (here (ClearsHold answer)))
+  pub clears_hold : (answer : Result Reply GateError) → IsAt (ClearsHold answer) →
+      GateStepKeeps c w t hook (Mounts (here (ClearsHold answer)))
   clears_hold answer e =
       let f : Fitting (ClearsHold answer) = fits_here c w good t lt m ro wait task processors hook (ClearsHold answer) e in
       let g : MountIn c w m = mount_here (ClearsHold answer) e in
@@ -175,7 +178,8 @@ module _ (c : Config) (lim : IsWithin c) (w : World) (good : IsGood c w) (t : �
         | inr h ↦
             let last : suc k ≡ c.processors = omega (arith, f.4, ltb-false (k + 1) processors h, f.2) in
             elim (eqb_tells now 0) [
-              | inl z ↦ rw (h, z.0) (sum_load sum SetsReadOnly e refl tt (sums_to_none g t lt lim.tasks lim.processors k sum.total r last z.1))
+              | inl z ↦ rw (h, z.0) (sum_load sum SetsReadOnly e refl tt
+                  (sums_to_none g t lt lim.tasks lim.processors k sum.total r last z.1))
               | inr z ↦ rw (h, z.0) (sum_load sum (ClearsHold (Err Busy)) e refl tt (sums_to_some g t lt k sum.total r))
             ]
       ]
@@ -214,7 +218,8 @@ module _ (c : Config) (w : World) (good : IsGood c w) (t : ℕ) (lt : t < c.task
   pub locks : (wait : Bool) → At c w good t lt m ro wait task processors hook Locks →
       GateStepKeeps c w t hook (Mounts (change m ro wait task processors Locks))
   locks wait e =
-      let f : HereFits c w good t lt m ro wait task processors hook Locks = fits_here c w good t lt m ro wait task processors hook Locks e in
+      let f : HereFits c w good t lt m ro wait task processors hook Locks =
+      fits_here c w good t lt m ro wait task processors hook Locks e in
       elim (eqb_tells w.words.umount 0) [
         | inl h ↦ rw h.0 (
             let v : View = tried (task + 1) (Some (Mounts (change m ro wait task processors LoadsFlags))) in

@@ -3,8 +3,8 @@ use Rattle.std.proofs.Common.{◌≡◌, ℕ, suc, ◌+◌, ◌*◌, ◌%◌, �
 use Rattle.finite_sums.specs.Sums.{update, total}
 use Rattle.cpu_words.specs.Touches.{wrap_add}
 use Rattle.cpu_words.specs.Sums.{ahead}
-use Rattle.finite_sums.proofs.Totals.{total_same, total_le, total_bound, total_add, total_at, total_none, total_zero}
-use Rattle.gate_counts.specs.Gates.{Barring, Apart, Reading, ReadZero, Silent, bars, GateView, past, admitted, unread, counted, BarringHolds, GateHolds}
+use Rattle.finite_sums.proofs.Totals.{total_le, total_bound, total_add, total_at, total_none, total_zero}
+use Rattle.gate_counts.specs.Gates.{Barring, Apart, Reading, ReadZero, bars, GateView, past, admitted, unread, counted, BarringHolds, GateHolds}
 use Rattle.gate_counts.proofs.Numbers.{below_le, below_step, below_first, ahead_none, ahead_past, ahead_step}
 use Rattle.gate_counts.proofs.Views.{words_sum, flag_event}
 
@@ -19,11 +19,6 @@ module _ {tasks processors bit unowned : ℕ} {shut : ℕ → Type 0} {count : �
   pub none_held : (i : ℕ) → total tasks (λ x. past i (at x)) ≡ 0 → total tasks (λ x. (at x).held) ≡ 0
   none_held i none = total_none tasks _ (λ x lx. omega (arith, none, total_at tasks x (λ y. past i (at y)) lx))
 
-  -- where nobody seeks, the words sum to what is held
-  pub words_sum_to_held : ((x : ℕ) → x < tasks → counted (at x) ≡ (at x).held) →
-      total processors count % 18446744073709551616 ≡ total tasks (λ x. (at x).held) % 18446744073709551616
-  words_sum_to_held idle = omega (arith, words_sum good.counts, total_same tasks (λ x. counted (at x)) (λ x. (at x).held) idle)
-
   -- what a task that has the flag set may say here
   abbrev pub says : Barring → Type 0
   says = BarringHolds processors count (total tasks (λ x. admitted (at x))) (λ k. total tasks (λ x. unread k (at x)))
@@ -37,11 +32,6 @@ module _ {tasks processors bit unowned : ℕ} {shut : ℕ → Type 0} {count : �
       GateHolds tasks processors bit unowned shut' count at
   shuts shut' h = record { counts = good.counts; room = good.room; flag = good.flag; sums = good.sums; open_to = h }
 
-  -- after a sum of 0 any condition may begin
-  pub shuts_at_zero : (shut' : ℕ → Type 0) (t : ℕ) → t < tasks → (at t).barring ≡ ReadZero →
-      GateHolds tasks processors bit unowned shut' count at
-  shuts_at_zero shut' t lt e = shuts shut' (λ i s. nobody (none_admitted t lt e) i)
-
   module _ (few : tasks ≤ 64) (narrow : processors ≤ 64) where
     -- a sum begins
     pub sum_begins : 0 < processors → says (Reading 0 0)
@@ -51,7 +41,7 @@ module _ {tasks processors bit unowned : ℕ} {shut : ℕ → Type 0} {count : �
         let parts : total tasks (λ x. counted (at x)) ≡ total tasks (λ x. admitted (at x)) + total tasks (λ x. unread 0 (at x)) =
         total_add tasks (λ x. admitted (at x)) (λ x. unread 0 (at x)) in
         let facts : (total processors count % 18446744073709551616 ≡ total tasks (λ x. counted (at x)) % 18446744073709551616) ×
-            (ahead processors count 0 ≡ total processors count) = (words_sum good.counts, ahead_none processors count) in
+        (ahead processors count 0 ≡ total processors count) = (words_sum good.counts, ahead_none processors count) in
         (some, omega (arith, a, u, parts, facts), omega (arith, a, u, parts, facts))
 
     -- one word more is read
@@ -91,16 +81,14 @@ module _ {tasks processors bit unowned : ℕ} {shut : ℕ → Type 0} {count : �
         flag_event good t lt (Reading (suc k) (wrap_add sum (count k))) bit unowned shut (omega (arith, ap bars e))
         (sum_goes few narrow k sum more (subst says e (good.sums t lt))) good.open_to
 
-    -- the last word is read: the sum is 0, or the flag is to be cleared, or a new sum begins at once
+    -- the last word is read, and the sum is 0
     pub reads_zero : tasks ≤ 64 → processors ≤ 64 → (k sum : ℕ) → (at t).barring ≡ Reading k sum → suc k ≡ processors →
         wrap_add sum (count k) ≡ 0 → After bit unowned ReadZero
     reads_zero few narrow k sum e last z =
         flag_event good t lt ReadZero bit unowned shut (omega (arith, ap bars e))
         (sum_ends few narrow k sum last z (subst says e (good.sums t lt))) good.open_to
 
-    pub gives_up : bars (at t).barring ≡ 1 → After bit unowned Silent
-    gives_up one = flag_event good t lt Silent bit unowned shut (omega (arith, one)) tt good.open_to
-
+    -- or a new sum begins at once
     pub begins_anew : tasks ≤ 64 → processors ≤ 64 → bars (at t).barring ≡ 1 → 0 < processors → After bit unowned (Reading 0 0)
     begins_anew few narrow one some =
         flag_event good t lt (Reading 0 0) bit unowned shut (omega (arith, one)) (sum_begins few narrow some) good.open_to

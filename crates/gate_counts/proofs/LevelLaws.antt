@@ -23,7 +23,8 @@ some_place (suc n) f h = elim (eqb_tells (f n) 0) [
   | inr z ↦ (n, omega arith, omega (arith, z.1))
 ]
 
-module _ {tasks processors block full : ℕ} {count : ℕ → ℕ} {at : ℕ → LevelView} (good : LevelHolds tasks processors block full count at) where
+module _ {tasks processors block full : ℕ} {count : ℕ → ℕ} {at : ℕ → LevelView}
+    (good : LevelHolds tasks processors block full count at) where
   -- nobody holds a frozen level
   pub none_frozen : full ≡ 1 → total tasks (λ x. (at x).held) ≡ 0
   none_frozen e = none_held good.gate 0 (good.gate.open_to 0 e)
@@ -37,7 +38,8 @@ module _ {tasks processors block full : ℕ} {count : ℕ → ℕ} {at : ℕ →
   none_closed set none = elim (eqb_tells full 1) [
     | inl e ↦ none_frozen e.1
     | inr e ↦
-        let p : (t : ℕ) × (t < tasks) × (0 < bars (barring_of (at t).role)) = some_place tasks _ (omega (arith, set, e.1, good.gate.flag)) in
+        let p : (t : ℕ) × (t < tasks) × (0 < bars (barring_of (at t).role)) =
+        some_place tasks _ (omega (arith, set, e.1, good.gate.flag)) in
         none_passed p.0 p.1 (has_passed (at p.0).role p.2 (omega (arith, none, total_at tasks p.0 (λ x. sums_up (at x).role) p.1)))
   ]
 

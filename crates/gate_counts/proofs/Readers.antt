@@ -1,5 +1,5 @@
 -- Each event of a reader keeps what holds at its gate: it counts up, passes the gate's questions, is granted or refused, and counts down.
-use Rattle.std.proofs.Common.{◌≡◌, ℕ, zero, suc, ◌+◌, ◌*◌, ◌%◌, ◌<◌, ◌≤◌, refl, sym, ap, subst, inl, inr, arith}
+use Rattle.std.proofs.Common.{◌≡◌, ℕ, suc, ◌+◌, ◌*◌, ◌%◌, ◌<◌, ◌≤◌, refl, ap, subst, inl, inr, arith}
 use Rattle.std.specs.Prelude.{◌⊎◌}
 use Rattle.finite_sums.specs.Sums.{update, total}
 use Rattle.cpu_words.specs.Touches.{wrap_add, wrap_sub}
@@ -53,9 +53,9 @@ module _ {tasks processors bit unowned : ℕ} {shut : ℕ → Type 0} {count : �
       (elim found [
         | inl z ↦ inl z
         | inr one ↦ inr (
-            omega (arith, one, ap (below 0) now),
-            λ k. (omega (arith, one, ap (below 0) now), omega (arith, one, sought, below_first k (at t).sought_on)),
-          )
+          omega (arith, one, ap (below 0) now),
+          λ k. (omega (arith, one, ap (below 0) now), omega (arith, one, sought, below_first k (at t).sought_on)),
+        )
       ])
       (λ i s. elim (below_tells i q) [ inl h ↦ omega (arith, h.0, ap (below i) now) | inr h ↦ absurd (not_shut i h.1 s) ])
 
@@ -91,7 +91,8 @@ module _ {tasks processors bit unowned : ℕ} {shut : ℕ → Type 0} {count : �
 
     -- the counts after an addition on p, where the task is counted for one more
     counts_added : (h q s : ℕ) (b : Barring) → h + below 0 q + below 0 s ≡ counted (at t) + 1 →
-        CountsHold tasks processors Up (update at t (record (at t) { held = h; added = added_more; questions = q; sought_on = s; barring = b }))
+        CountsHold tasks processors Up
+        (update at t (record (at t) { held = h; added = added_more; questions = q; sought_on = s; barring = b }))
     counts_added h q s b one =
         counts_follow tasks processors count Up at t
         (record (at t) { held = h; added = added_more; questions = q; sought_on = s; barring = b }) good.counts lt
@@ -104,7 +105,8 @@ module _ {tasks processors bit unowned : ℕ} {shut : ℕ → Type 0} {count : �
 
     -- after a subtraction, for one less
     counts_taken : (h q s : ℕ) (b : Barring) → h + below 0 q + below 0 s + 1 ≡ counted (at t) →
-        CountsHold tasks processors Down (update at t (record (at t) { held = h; taken = taken_more; questions = q; sought_on = s; barring = b }))
+        CountsHold tasks processors Down
+        (update at t (record (at t) { held = h; taken = taken_more; questions = q; sought_on = s; barring = b }))
     counts_taken h q s b one =
         counts_follow tasks processors count Down at t
         (record (at t) { held = h; taken = taken_more; questions = q; sought_on = s; barring = b }) good.counts lt
@@ -129,7 +131,8 @@ module _ {tasks processors bit unowned : ℕ} {shut : ℕ → Type 0} {count : �
         After Up (record (at t) { held = (at t).held + 1; added = added_more })
     adds_granted clear none room =
         reader_event good t lt _ _ (λ k. below k (suc p)) (λ k. 0)
-        (counts_added ((at t).held + 1) (at t).questions (at t).sought_on (at t).barring (omega arith)) (omega (arith, room)) refl (inl clear)
+        (counts_added ((at t).held + 1) (at t).questions (at t).sought_on (at t).barring (omega arith))
+        (omega (arith, room)) refl (inl clear)
         (λ k sum lk bound le. lead_up processors k sum count p lp (omega (arith, bound, small k lk))) (λ i s. absurd (none i s))
 
     -- a subtraction on p

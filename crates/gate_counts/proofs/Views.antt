@@ -4,7 +4,7 @@ use Rattle.std.specs.Prelude.{◌⊎◌}
 use Rattle.finite_sums.specs.Sums.{update, total}
 use Rattle.cpu_words.specs.Sums.{lead}
 use Rattle.finite_sums.proofs.Totals.{each_updated, total_same, total_updated, total_add, total_swap, total_at, residues}
-use Rattle.gate_counts.specs.Gates.{Barring, Apart, Reading, ReadZero, Silent, bars, below, GateView, past, admitted, unread, counted, BarringHolds, CountsHold, GateHolds}
+use Rattle.gate_counts.specs.Gates.{Barring, Apart, Reading, ReadZero, Silent, bars, GateView, past, admitted, unread, counted, BarringHolds, CountsHold, GateHolds}
 
 -- the words of a gate sum to what is counted
 pub words_sum : {tasks processors : ℕ} {count : ℕ → ℕ} {at : ℕ → GateView} → CountsHold tasks processors count at →
@@ -17,7 +17,7 @@ words_sum {tasks} {processors} {count} {at} net =
     let own : total tasks (λ t. total processors (at t).added) ≡ total tasks (λ t. total processors (at t).taken + counted (at t)) =
     total_same tasks _ _ net.own in
     let parts : total tasks (λ t. total processors (at t).taken + counted (at t)) ≡
-        total tasks (λ t. total processors (at t).taken) + total tasks (λ t. counted (at t)) =
+    total tasks (λ t. total processors (at t).taken) + total tasks (λ t. counted (at t)) =
     total_add tasks (λ t. total processors (at t).taken) (λ t. counted (at t)) in
     omega (arith, words, own, parts, total_swap tasks processors (λ t. (at t).taken), total_swap tasks processors (λ t. (at t).added))
 
@@ -123,7 +123,7 @@ module _ {tasks processors bit unowned : ℕ} {shut : ℕ → Type 0} {count : �
       let Says : Barring → Type 0 =
       BarringHolds processors count (total tasks (λ x. admitted (update at t v x))) (λ k. total tasks (λ x. unread k (update at t v x))) in
       let each : (x : Barring) →
-          BarringHolds processors count (total tasks (λ x. admitted (at x))) (λ k. total tasks (λ x. unread k (at x))) x → Says x =
+      BarringHolds processors count (total tasks (λ x. admitted (at x))) (λ k. total tasks (λ x. unread k (at x))) x → Says x =
       barring_kept processors count count _ _ _ _
       (λ k sum d. (d.0, omega (arith, d, a, u k), omega (arith, d, a, u k))) (λ d. omega (arith, d, a)) in
       record {

@@ -50,7 +50,8 @@ module _ (c : Config) (w : World) (good : IsGood c w) (t : ℕ) (lt : t < c.task
       ((n : ℕ) → (n ≡ m → ⊥) → role_of n (phase_after coming) ≡ role_of n (w.views t).phase) →
       IsSteady (w.views t).phase (phase_after coming) →
       Fits c t (held_at (w.views t)) (holds_level (w.views t)) (phase_after coming) →
-      (m < c.mounts → MountAfter c w t m (w.words.flags m) (w.words.count m) (record (at_mount m (w.views t)) { role = role_of m (phase_after coming) })) →
+      (m < c.mounts → MountAfter c w t m (w.words.flags m) (w.words.count m)
+      (record (at_mount m (w.views t)) { role = role_of m (phase_after coming) })) →
       GatesHold c (after_load w t name hook coming) × (shown c (after_load w t name hook coming) ≡ shown c w)
   load_law m name hook coming off same fits own =
       let v : View = view_with (w.views t) (name, Load) (read w.words name) hook (coming, None) in

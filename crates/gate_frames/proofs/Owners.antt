@@ -1,5 +1,5 @@
 -- What every owner of `umount` may rely on, and its events: under the lock, on the word `umount`, and on a mount's flags.
-use Rattle.std.proofs.Common.{◌≡◌, ℕ, suc, ◌+◌, ◌<◌, ◌≤◌, Bool, true, false, refl, sym, ap, ◌∙◌, inl, inr, arith}
+use Rattle.std.proofs.Common.{◌≡◌, ℕ, suc, ◌+◌, ◌<◌, ◌≤◌, Bool, true, false, refl, ap, ◌∙◌, inl, inr, arith}
 use Rattle.std.specs.Prelude.{◌==◌, Option, Some, None, Ok, Err}
 use Rattle.std.proofs.lemmas.Bool.Decides.{eqb_tells}
 use Rattle.finite_sums.specs.Sums.{update, total}
@@ -66,9 +66,9 @@ module _ (c : Config) (w : World) (good : IsGood c w) (t : ℕ) (lt : t < c.task
   pub alone : (x : ℕ) → x < c.tasks → (x ≡ t → ⊥) → owns (w.views t).phase ≡ 1 → owns (w.views x).phase ≡ 0
   alone x lx ne o =
       let both : owns (w.views x).phase ≡ 1 → ⊥ = λ q.
-          let a : w.words.umount ≡ suc x = (good Owner).locked x lx q in
-          let b : w.words.umount ≡ suc t = (good Owner).locked t lt o in
-          ne (omega arith) in
+      let a : w.words.umount ≡ suc x = (good Owner).locked x lx q in
+      let b : w.words.umount ≡ suc t = (good Owner).locked t lt o in
+      ne (omega arith) in
       omega (arith, both, owns_le (w.views x).phase)
 
   -- an owner that hasn't `remount` set finds it clear
@@ -104,7 +104,8 @@ module _ (c : Config) (w : World) (good : IsGood c w) (t : ℕ) (lt : t < c.task
       omega (arith, (good Owner).remounting, same, total_updated (λ (u : View). remounts u.phase) c.tasks t w.views v lt)
 
   -- the lock: `umount` was free, and has the task's number
-  pub locks_umount : (n : ℕ) (v : View) → w.words.umount ≡ 0 → n ≡ suc t → owns v.phase ≡ 1 → remounts v.phase ≡ remounts (w.views t).phase →
+  pub locks_umount : (n : ℕ) (v : View) → w.words.umount ≡ 0 → n ≡ suc t → owns v.phase ≡ 1 →
+      remounts v.phase ≡ remounts (w.views t).phase →
       OwnerHolds c.tasks n w.words.remount (λ x. (update w.views t v x).phase)
   locks_umount n v free mine own same = record {
     locked = λ x lx.
@@ -119,7 +120,8 @@ module _ (c : Config) (w : World) (good : IsGood c w) (t : ℕ) (lt : t < c.task
   }
 
   -- the release: it was the task's own, and is free
-  pub releases_umount : (v : View) → owns (w.views t).phase ≡ 1 → owns v.phase ≡ 0 → remounts v.phase ≡ remounts (w.views t).phase →
+  pub releases_umount : (v : View) → owns (w.views t).phase ≡ 1 → owns v.phase ≡ 0 →
+      remounts v.phase ≡ remounts (w.views t).phase →
       OwnerHolds c.tasks 0 w.words.remount (λ x. (update w.views t v x).phase)
   releases_umount v own none same =
       let mine : w.words.umount ≡ suc t = (good Owner).locked t lt own in

@@ -1,5 +1,5 @@
 -- The bits of a flags word: READONLY and HOLD, set, cleared and found.
-use Rattle.std.proofs.Common.{◌≡◌, ℕ, true, false, zero, suc, ◌<◌, refl, arith}
+use Rattle.std.proofs.Common.{◌≡◌, ℕ, true, false, zero, suc, ◌<◌, arith}
 use Rattle.std.specs.Prelude.{bit_or, bit_and}
 use Rattle.mount_counts.specs.Phases.{has_flag}
 use Rattle.mount_counts.specs.Roles.{ro_bit, hold_bit}

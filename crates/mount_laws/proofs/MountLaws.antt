@@ -1,11 +1,11 @@
 -- Each event of the mounts keeps what holds at its mount.
-use Rattle.std.proofs.Common.{◌≡◌, ℕ, zero, suc, ◌+◌, ◌%◌, ◌<◌, ◌≤◌, refl, sym, ap, ◌∙◌, subst, inl, inr, arith}
+use Rattle.std.proofs.Common.{◌≡◌, ℕ, zero, suc, ◌+◌, ◌<◌, ◌≤◌, refl, sym, ap, ◌∙◌, subst, inl, inr, arith}
 use Rattle.std.specs.Prelude.{◌⊎◌, bit_or}
 use Rattle.std.proofs.lemmas.Bool.Decides.{eqb_tells}
 use Rattle.finite_sums.specs.Sums.{update, total}
 use Rattle.cpu_words.specs.Touches.{wrap_add, wrap_sub}
 use Rattle.finite_sums.proofs.Totals.{each_updated, total_at, total_none, update_map}
-use Rattle.gate_counts.specs.Gates.{Barring, Apart, Reading, ReadZero, Silent, bars, below, past, GateHolds}
+use Rattle.gate_counts.specs.Gates.{Barring, Apart, bars, below, past, GateHolds}
 use Rattle.mount_counts.specs.Roles.{Role, Out, Asking, Cleared, PastRemount, PastFlags, BackingOff, Summing, Empty, Leaving, Skipped, MountView, questions_of, processor_of, barring_of, skips, mount_as_gate, passed_hold, past_remount, past_flags, sought, has_hold, admitted, ro_bit, hold_bit, mount_shut, MountHolds}
 use Rattle.gate_counts.proofs.Views.{flag_event}
 use Rattle.gate_counts.proofs.Readers.{adds as gate_adds, is_admitted, goes_on, is_granted as gate_grants, is_refused as gate_refuses, backs_off as gate_backs_off, returns as gate_returns}
@@ -44,7 +44,8 @@ module _ {tasks processors flags remount sb : ℕ} {count : ℕ → ℕ} {at : �
       (update (λ x. mount_as_gate (at x)) t (mount_as_gate v)) → After count' v
   reads v count' skip gate = record {
     bits = good.bits;
-    gate = subst (GateHolds tasks processors (hold_bit flags) 0 (mount_shut flags remount sb) count') (sym (update_map mount_as_gate at t v)) gate;
+    gate = subst (GateHolds tasks processors (hold_bit flags) 0 (mount_shut flags remount sb) count')
+        (sym (update_map mount_as_gate at t v)) gate;
     skipped = λ x lx.
         each_updated (λ y w. skips w.role ≡ 1 → ro_bit flags ≡ 1) at t v x (λ s. absurd (omega (arith, s, skip))) (λ ne. good.skipped x lx);
   }
@@ -75,7 +76,8 @@ module _ {tasks processors flags remount sb : ℕ} {count : ℕ → ℕ} {at : �
       reads (record (at t) { held = (at t).held + 1; role = Out }) count refl
       (gate_grants good.gate t lt 3 Apart (sym (ap barring_of e)) (ap questions_of e) (omega (arith, ap (λ r. below 0 (processor_of r)) e))
       (inr refl)
-      (λ i le s. each_shut flags remount sb (λ i. 3 ≤ i → ⊥) (λ a b c l. omega arith) (λ a l. omega arith) (λ a l. omega (arith, a, clear)) i s le)
+      (λ i le s. each_shut flags remount sb (λ i. 3 ≤ i → ⊥) (λ a b c l. omega arith) (λ a l. omega arith)
+      (λ a l. omega (arith, a, clear)) i s le)
       room)
 
   -- HOLD is found set, and the task looks again
@@ -123,7 +125,8 @@ module _ {tasks processors flags remount sb : ℕ} {count : ℕ → ℕ} {at : �
         (gate_backs_off good.gate t lt few narrow p lp Apart (sym (ap barring_of e)) (ap processor_of e) (ap questions_of e))
 
     -- a return, on any processor. Meets: a sum reads each word once
-    pub returns : (h : ℕ) → (at t).role ≡ Out → (at t).held ≡ suc h → After Down (record (at t) { held = h; taken = taken_more; role = Out })
+    pub returns : (h : ℕ) → (at t).role ≡ Out → (at t).held ≡ suc h →
+        After Down (record (at t) { held = h; taken = taken_more; role = Out })
     returns h e held =
         reads (record (at t) { held = h; taken = taken_more; role = Out }) _ refl
         (gate_returns good.gate t lt few narrow p lp h Apart (sym (ap barring_of e)) held (omega (arith, ap sought e)))

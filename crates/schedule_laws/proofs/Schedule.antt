@@ -153,7 +153,7 @@ module _ (c : Config) (lim : IsWithin c) where
   gate_sums w good m lm =
       let g : MountIn c w m = good (AtMount m) lm in
       let s : total c.processors (w.words.count m) % 18446744073709551616 ≡
-          total c.tasks (λ t. counted (at_mount m (w.views t))) % 18446744073709551616 = words_sum g.gate.counts in
+      total c.tasks (λ t. counted (at_mount m (w.views t))) % 18446744073709551616 = words_sum g.gate.counts in
       let b : total c.tasks (λ t. counted (at_mount m (w.views t))) ≤ c.tasks * 1025 =
       total_bound c.tasks 1025 _ (λ x lx. omega (arith, g.gate.room x lx, below_le 0 (processor_of (role_of m (w.views x).phase)))) in
       omega (arith, lim.tasks)

@@ -49,7 +49,8 @@ module _ (c : Config) (lim : IsWithin c) (w : World) (good : IsGood c w) (t : �
                   (role_off y m (Asking p) ne ∙ sym (want_off m p wait CountsUp e y ne)),
             ))
             (λ lm. holds_as refl refl refl (update_at w.words.count m word)
-            (ap (update (λ x. at_mount m (w.views x)) t) (view_as refl (update_at (added_by (w.views t).events) m net) refl (role_on m (Asking p))))
+            (ap (update (λ x. at_mount m (w.views x)) t)
+            (view_as refl (update_at (added_by (w.views t).events) m net) refl (role_on m (Asking p))))
             (adds (good (AtMount m) lm) t lt lim.tasks lim.processors p f.1 (want_here m p wait CountsUp e))),
         shown_still c w t lt ws v refl refl refl refl refl refl same.closing_same refl refl,
       )

@@ -117,16 +117,17 @@ module _ (c : Config) (w : World) (good : IsGood c w) (t : ℕ) (lt : t < c.task
   pub loads_hold : (wait : Bool) → At c w good t lt m p wait hook LoadsHold → GateStepKeeps c w t hook (Mounts (want m p wait LoadsHold))
   loads_hold true e =
       elim (cases_Bool (has_flag (w.words.flags m) 2)) [
-        | inl h ↦ rw h (want_load c w good t lt m p true hook (MountFlags m) LoadsHold LoadsHold (Wait (Mounts (want m p true LoadsHold))) e refl
+        | inl h ↦ rw h (want_load c w good t lt m p true hook (MountFlags m) LoadsHold LoadsHold
+            (Wait (Mounts (want m p true LoadsHold))) e refl
             (waits_on (here c w good t lt m p true hook LoadsHold e) t lt p (want_here m p true LoadsHold e)))
-        | inr h ↦ rw h (want_load c w good t lt m p true hook (MountFlags m) LoadsHold LoadsRemount (Go (Mounts (want m p true LoadsRemount)))
-            e refl (hold_was_clear c w good t lt m p true hook e h))
+        | inr h ↦ rw h (want_load c w good t lt m p true hook (MountFlags m) LoadsHold LoadsRemount
+            (Go (Mounts (want m p true LoadsRemount))) e refl (hold_was_clear c w good t lt m p true hook e h))
       ]
   loads_hold false e =
       elim (cases_Bool (has_flag (w.words.flags m) 2)) [
         | inl h ↦ rw h (want_refused c w good t lt m p false hook (MountFlags m) LoadsHold Again e refl (inl (refl, refl)))
-        | inr h ↦ rw h (want_load c w good t lt m p false hook (MountFlags m) LoadsHold LoadsRemount (Go (Mounts (want m p false LoadsRemount)))
-            e refl (hold_was_clear c w good t lt m p false hook e h))
+        | inr h ↦ rw h (want_load c w good t lt m p false hook (MountFlags m) LoadsHold LoadsRemount
+            (Go (Mounts (want m p false LoadsRemount))) e refl (hold_was_clear c w good t lt m p false hook e h))
       ]
 
 module _ (c : Config) (w : World) (good : IsGood c w) (t : ℕ) (lt : t < c.tasks) (m p : ℕ) (wait : Bool) (hook : HookAnswer) where
@@ -137,17 +138,26 @@ module _ (c : Config) (w : World) (good : IsGood c w) (t : ℕ) (lt : t < c.task
       let r : role_of m (w.views t).phase ≡ PastFlags p = want_here m p wait LoadsSuperblock e in
       let g : MountIn c w m = here c w good t lt m p wait hook LoadsSuperblock e in
       let open_now : ro_bit (w.words.flags m) ≡ 1 → ⊥ = λ q.
-          omega (arith, closed g q, ap past_flags r,
-          total_at c.tasks t (λ x. held_at (w.views x) m + past_flags (role_of m (w.views x).phase)) lt) in
+      omega (
+        arith,
+        closed g q,
+        ap past_flags r,
+        total_at c.tasks t (λ x. held_at (w.views x) m + past_flags (role_of m (w.views x).phase)) lt,
+      ) in
       let writable : w.words.remount ≡ 1 → ⊥ = λ q.
-          omega (arith, remounting g q z (omega (arith, open_now)), ap past_remount r,
-          total_at c.tasks t (λ x. held_at (w.views x) m + past_remount (role_of m (w.views x).phase)) lt) in
+      omega (
+        arith,
+        remounting g q z (omega (arith, open_now)),
+        ap past_remount r,
+        total_at c.tasks t (λ x. held_at (w.views x) m + past_remount (role_of m (w.views x).phase)) lt,
+      ) in
       (ne_eqb (ro_bit (w.words.flags m)) 1 open_now, rw (ne_eqb w.words.remount 1 writable, z) refl)
 
   -- loads the superblock's flag last, and where it is clear the access is granted; meets: a superblock is sealed while `remount` is set
   pub loads_superblock : At c w good t lt m p wait hook LoadsSuperblock → GateStepKeeps c w t hook (Mounts (want m p wait LoadsSuperblock))
   loads_superblock e =
-      let f : (m < c.mounts) × (p < c.processors) × (held_at (w.views t) m < 1024) = fits_here c w good t lt m p wait hook LoadsSuperblock e in
+      let f : (m < c.mounts) × (p < c.processors) × (held_at (w.views t) m < 1024) =
+      fits_here c w good t lt m p wait hook LoadsSuperblock e in
       elim (eqb_tells w.words.sb 0) [
         | inl h ↦
             let v : View = view_with (w.views t) (SbFlags, Load) w.words.sb hook (Done (Ok UnitReply), Some (Grant (Mount m))) in
