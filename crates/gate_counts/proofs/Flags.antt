@@ -6,7 +6,7 @@ use Rattle.cpu_words.specs.Sums.{ahead}
 use Rattle.finite_sums.proofs.Totals.{total_le, total_bound, total_add, total_at, total_none, total_zero}
 use Rattle.gate_counts.specs.Gates.{Barring, Apart, Reading, ReadZero, bars, GateView, past, admitted, unread, counted, BarringHolds, GateHolds}
 use Rattle.gate_counts.proofs.Numbers.{below_le, below_step, below_first, ahead_none, ahead_past, ahead_step}
-use Rattle.gate_counts.proofs.Views.{words_sum, flag_event}
+use Rattle.gate_counts.proofs.Events.{words_sum, flag_event}
 
 module _ {tasks processors bit unowned : ℕ} {shut : ℕ → Type 0} {count : ℕ → ℕ} {at : ℕ → GateView}
     (good : GateHolds tasks processors bit unowned shut count at) where
@@ -20,12 +20,12 @@ module _ {tasks processors bit unowned : ℕ} {shut : ℕ → Type 0} {count : �
   none_held i none = total_none tasks _ (λ x lx. omega (arith, none, total_at tasks x (λ y. past i (at y)) lx))
 
   -- what a task that has the flag set may say here
-  abbrev pub says : Barring → Type 0
-  says = BarringHolds processors count (total tasks (λ x. admitted (at x))) (λ k. total tasks (λ x. unread k (at x)))
+  abbrev pub MaySay : Barring → Type 0
+  MaySay = BarringHolds processors count (total tasks (λ x. admitted (at x))) (λ k. total tasks (λ x. unread k (at x)))
 
   -- nobody is admitted where a sum was 0, as long as the flag is set
   pub none_admitted : (t : ℕ) → t < tasks → (at t).barring ≡ ReadZero → total tasks (λ x. admitted (at x)) ≡ 0
-  none_admitted t lt e = subst says e (good.sums t lt)
+  none_admitted t lt e = subst MaySay e (good.sums t lt)
 
   -- conditions begin to stand, or end, where no task is past their questions
   pub shuts : (shut' : ℕ → Type 0) → ((i : ℕ) → shut' i → total tasks (λ x. past i (at x)) ≡ 0) →
@@ -34,7 +34,7 @@ module _ {tasks processors bit unowned : ℕ} {shut : ℕ → Type 0} {count : �
 
   module _ (few : tasks ≤ 64) (narrow : processors ≤ 64) where
     -- a sum begins
-    pub sum_begins : 0 < processors → says (Reading 0 0)
+    pub sum_begins : 0 < processors → MaySay (Reading 0 0)
     sum_begins some =
         let a : total tasks (λ x. admitted (at x)) ≤ tasks * 1024 = total_bound tasks 1024 _ good.room in
         let u : total tasks (λ x. unread 0 (at x)) ≤ tasks * 1 = total_bound tasks 1 _ (λ x lx. below_le 0 (at x).sought_on) in
@@ -45,7 +45,7 @@ module _ {tasks processors bit unowned : ℕ} {shut : ℕ → Type 0} {count : �
         (some, omega (arith, a, u, parts, facts), omega (arith, a, u, parts, facts))
 
     -- one word more is read
-    pub sum_goes : (k sum : ℕ) → suc k < processors → says (Reading k sum) → says (Reading (suc k) (wrap_add sum (count k)))
+    pub sum_goes : (k sum : ℕ) → suc k < processors → MaySay (Reading k sum) → MaySay (Reading (suc k) (wrap_add sum (count k)))
     sum_goes k sum more d =
         let s : ahead processors count k ≡ count k + ahead processors count (suc k) = ahead_step processors k count d.0 in
         let down : total tasks (λ x. unread (suc k) (at x)) ≤ total tasks (λ x. unread k (at x)) =
@@ -58,7 +58,7 @@ module _ {tasks processors bit unowned : ℕ} {shut : ℕ → Type 0} {count : �
         (more, omega (arith, d), omega (arith, d))
 
     -- the last word is read, and the sum is 0
-    pub sum_ends : (k sum : ℕ) → suc k ≡ processors → wrap_add sum (count k) ≡ 0 → says (Reading k sum) → says ReadZero
+    pub sum_ends : (k sum : ℕ) → suc k ≡ processors → wrap_add sum (count k) ≡ 0 → MaySay (Reading k sum) → MaySay ReadZero
     sum_ends k sum last zero_sum d =
         let s : ahead processors count k ≡ count k + ahead processors count (suc k) = ahead_step processors k count d.0 in
         let e : ahead processors count (suc k) ≡ 0 = ahead_past processors (suc k) count (omega arith) in
@@ -66,35 +66,35 @@ module _ {tasks processors bit unowned : ℕ} {shut : ℕ → Type 0} {count : �
 
   module _ (t : ℕ) (lt : t < tasks) where
     -- the gate after an event of the task that bars it
-    abbrev After : (bit' unowned' : ℕ) → Barring → Type 0
-    After bit' unowned' b = GateHolds tasks processors bit' unowned' shut count (update at t (record (at t) { barring = b }))
+    abbrev HoldsAfter : (bit' unowned' : ℕ) → Barring → Type 0
+    HoldsAfter bit' unowned' b = GateHolds tasks processors bit' unowned' shut count (update at t (record (at t) { barring = b }))
 
     -- the flag is set, and a sum begins
-    pub bars_gate : tasks ≤ 64 → processors ≤ 64 → 0 < processors → (at t).barring ≡ Apart → bit ≡ 0 → After 1 unowned (Reading 0 0)
+    pub bars_gate : tasks ≤ 64 → processors ≤ 64 → 0 < processors → (at t).barring ≡ Apart → bit ≡ 0 → HoldsAfter 1 unowned (Reading 0 0)
     bars_gate few narrow some apart clear =
         flag_event good t lt (Reading 0 0) 1 unowned shut (omega (arith, ap bars apart, clear)) (sum_begins few narrow some) good.open_to
 
     -- a word is read, and more are to come
     pub reads_on : tasks ≤ 64 → processors ≤ 64 → (k sum : ℕ) → (at t).barring ≡ Reading k sum → suc k < processors →
-        After bit unowned (Reading (suc k) (wrap_add sum (count k)))
+        HoldsAfter bit unowned (Reading (suc k) (wrap_add sum (count k)))
     reads_on few narrow k sum e more =
         flag_event good t lt (Reading (suc k) (wrap_add sum (count k))) bit unowned shut (omega (arith, ap bars e))
-        (sum_goes few narrow k sum more (subst says e (good.sums t lt))) good.open_to
+        (sum_goes few narrow k sum more (subst MaySay e (good.sums t lt))) good.open_to
 
     -- the last word is read, and the sum is 0
     pub reads_zero : tasks ≤ 64 → processors ≤ 64 → (k sum : ℕ) → (at t).barring ≡ Reading k sum → suc k ≡ processors →
-        wrap_add sum (count k) ≡ 0 → After bit unowned ReadZero
+        wrap_add sum (count k) ≡ 0 → HoldsAfter bit unowned ReadZero
     reads_zero few narrow k sum e last z =
         flag_event good t lt ReadZero bit unowned shut (omega (arith, ap bars e))
-        (sum_ends few narrow k sum last z (subst says e (good.sums t lt))) good.open_to
+        (sum_ends few narrow k sum last z (subst MaySay e (good.sums t lt))) good.open_to
 
     -- or a new sum begins at once
-    pub begins_anew : tasks ≤ 64 → processors ≤ 64 → bars (at t).barring ≡ 1 → 0 < processors → After bit unowned (Reading 0 0)
+    pub begins_anew : tasks ≤ 64 → processors ≤ 64 → bars (at t).barring ≡ 1 → 0 < processors → HoldsAfter bit unowned (Reading 0 0)
     begins_anew few narrow one some =
         flag_event good t lt (Reading 0 0) bit unowned shut (omega (arith, one)) (sum_begins few narrow some) good.open_to
 
     -- the flag is cleared
-    pub opens_gate : bars (at t).barring ≡ 1 → bit ≡ 1 → After 0 unowned Apart
+    pub opens_gate : bars (at t).barring ≡ 1 → bit ≡ 1 → HoldsAfter 0 unowned Apart
     opens_gate one set = flag_event good t lt Apart 0 unowned shut (omega (arith, one, set)) tt good.open_to
 
     -- after a sum of 0 the flag may be left set, while conditions begin

@@ -19,7 +19,7 @@ use Rattle.gate_world.specs.Views.{held_at, holds_level, added_by, taken_by}
 use Rattle.gate_world.specs.Worlds.{World}
 use Rattle.gate_world.specs.Shown.{shown, closing}
 use Rattle.gate_world.specs.Rules.{want_role, change_role, role_if, role_of, at_mount, change_owns, owns, remounts, IsSteady, OwnerHolds, ViewFits, IsGood, Owner, AtMount, GatesHold}
-use Rattle.gate_frames.proofs.Frames.{view_as, holds_as, MountAfter, owner_same, gates_after, shown_as, shown_still}
+use Rattle.gate_frames.proofs.Frames.{view_as, holds_as, MountHoldsAfter, owner_same, gates_after, shown_as, shown_still}
 
 change_owns_le : (s : ChangeStep) → change_owns s ≤ 1
 change_owns_le Locks = omega arith
@@ -158,7 +158,7 @@ module _ (c : Config) (w : World) (good : IsGood c w) (t : ℕ) (lt : t < c.task
   pub flag_law : (m f : ℕ) (v : View) (r : Role) → m < c.mounts → IsSteady (w.views t).phase v.phase → ViewFits c t v →
       held_at v ≡ held_at (w.views t) → added_by v.events ≡ added_by (w.views t).events → taken_by v.events ≡ taken_by (w.views t).events →
       ((y : ℕ) → (y ≡ m → ⊥) → role_of y v.phase ≡ role_of y (w.views t).phase) → role_of m v.phase ≡ r →
-      MountAfter c w t m f (w.words.count m) (record (at_mount m (w.views t)) { role = r }) →
+      MountHoldsAfter c w t m f (w.words.count m) (record (at_mount m (w.views t)) { role = r }) →
       GatesHold c (record { words = record w.words { flags = update w.words.flags m f }; views = update w.views t v })
   flag_law m f v r lm same fits held added taken off role own =
       let at : (y : ℕ) (q : Role) → role_of y v.phase ≡ q → at_mount y v ≡ record (at_mount y (w.views t)) { role = q } =

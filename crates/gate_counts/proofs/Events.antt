@@ -86,11 +86,11 @@ module _ {tasks processors bit unowned : ℕ} {shut : ℕ → Type 0} {count : �
       ((i : ℕ) → shut i → past i v ≤ past i (at t)) →
       GateHolds tasks processors bit unowned shut count' (update at t v)
   reader_event v count' up down counts room same sums moved open_to =
-      let Says : Barring → Type 0 =
+      let MaySay : Barring → Type 0 =
       BarringHolds processors count' (total tasks (λ x. admitted (update at t v x))) (λ k. total tasks (λ x. unread k (update at t v x))) in
       let fewer : total tasks (λ x. admitted (update at t v x)) + admitted (at t) ≡ total tasks (λ x. admitted (at x)) + admitted v =
       total_updated admitted tasks t at v lt in
-      let each : (x : ℕ) → x < tasks → Says (at x).barring = λ x lx.
+      let each : (x : ℕ) → x < tasks → MaySay (at x).barring = λ x lx.
       elim sums [
         | inl clear ↦ apart_holds processors count' _ _ (at x).barring
             (omega (arith, clear, good.flag, total_at tasks x (λ y. bars (at y).barring) lx))
@@ -103,7 +103,7 @@ module _ {tasks processors bit unowned : ℕ} {shut : ℕ → Type 0} {count : �
         counts = counts;
         room = λ x lx. each_updated (λ y w. admitted w ≤ 1024) at t v x room (λ ne. good.room x lx);
         flag = omega (arith, ap bars same, good.flag, total_updated (λ w. bars w.barring) tasks t at v lt);
-        sums = λ x lx. each_updated (λ y w. Says w.barring) at t v x (subst Says (sym same) (each t lt)) (λ ne. each x lx);
+        sums = λ x lx. each_updated (λ y w. MaySay w.barring) at t v x (subst MaySay (sym same) (each t lt)) (λ ne. each x lx);
         open_to = λ i s.
             omega (arith, good.open_to i s, open_to i s, total_updated (past i) tasks t at v lt, total_at tasks t (λ x. past i (at x)) lt);
       }
@@ -120,10 +120,10 @@ module _ {tasks processors bit unowned : ℕ} {shut : ℕ → Type 0} {count : �
       omega (arith, total_updated admitted tasks t at v lt) in
       let u : (k : ℕ) → total tasks (λ x. unread k (update at t v x)) ≡ total tasks (λ x. unread k (at x)) =
       λ k. omega (arith, total_updated (unread k) tasks t at v lt) in
-      let Says : Barring → Type 0 =
+      let MaySay : Barring → Type 0 =
       BarringHolds processors count (total tasks (λ x. admitted (update at t v x))) (λ k. total tasks (λ x. unread k (update at t v x))) in
       let each : (x : Barring) →
-      BarringHolds processors count (total tasks (λ x. admitted (at x))) (λ k. total tasks (λ x. unread k (at x))) x → Says x =
+      BarringHolds processors count (total tasks (λ x. admitted (at x))) (λ k. total tasks (λ x. unread k (at x))) x → MaySay x =
       barring_kept processors count count _ _ _ _
       (λ k sum d. (d.0, omega (arith, d, a, u k), omega (arith, d, a, u k))) (λ d. omega (arith, d, a)) in
       record {
@@ -131,6 +131,6 @@ module _ {tasks processors bit unowned : ℕ} {shut : ℕ → Type 0} {count : �
             (good.counts.own t lt);
         room = λ x lx. each_updated (λ y w. admitted w ≤ 1024) at t v x (good.room t lt) (λ ne. good.room x lx);
         flag = omega (arith, flag, good.flag, total_updated (λ w. bars w.barring) tasks t at v lt);
-        sums = λ x lx. each_updated (λ y w. Says w.barring) at t v x (each b own) (λ ne. each (at x).barring (good.sums x lx));
+        sums = λ x lx. each_updated (λ y w. MaySay w.barring) at t v x (each b own) (λ ne. each (at x).barring (good.sums x lx));
         open_to = λ i s. omega (arith, open_to i s, total_updated (past i) tasks t at v lt);
       }
