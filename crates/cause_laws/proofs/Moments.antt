@@ -3,11 +3,11 @@ use Rattle.cpu_words.specs.Sums.{lead, ahead}
 use Rattle.finite_sums.proofs.Totals.{total_at}
 use Rattle.finite_sums.specs.Sums.{total}
 use Rattle.gate_world.specs.Causes.{all_counted, was_counted, asks, last_question, words_read, moments_of_sum}
-use Rattle.gate_world.specs.Rules.{IsGood, AtMount, MountIn, at_mount}
+use Rattle.gate_world.specs.Rules.{IsGood, AtMount, MountHoldsIn, at_mount}
 use Rattle.gate_world.specs.Worlds.{World}
 use Rattle.gate_world.specs.declared.config.Config.{Config}
 use Rattle.gate_counts.proofs.Numbers.{ahead_none}
-use Rattle.gate_counts.proofs.Views.{words_sum}
+use Rattle.gate_counts.proofs.Events.{words_sum}
 use Rattle.mount_counts.specs.Roles.{counted}
 use Rattle.std.proofs.Common.{◌≡◌, ℕ, ◌<◌, Bool, true, false, refl, inl, inr, arith, ◌%◌, ◌≤◌, true≢false}
 use Rattle.std.proofs.lemmas.Bool.{ne_eqb, ltb-false, cases_Bool}
@@ -42,7 +42,7 @@ module _ (t : ℕ) (w : World) (earlier : List World) where
 pub fresh_lead : (c : Config) (w : World) → IsGood c w → (m : ℕ) → m < c.mounts → all_counted c m w ≡ 0 →
     lead c.processors (w.words.count m) 0 0 ≡ 0
 fresh_lead c w good m lm none =
-    let g : MountIn c w m = good (AtMount m) lm in
+    let g : MountHoldsIn c w m = good (AtMount m) lm in
     let s : total c.processors (w.words.count m) % 18446744073709551616 ≡ all_counted c m w % 18446744073709551616 =
     words_sum g.gate.counts in
     let a : ahead c.processors (w.words.count m) 0 ≡ total c.processors (w.words.count m) = ahead_none c.processors (w.words.count m) in

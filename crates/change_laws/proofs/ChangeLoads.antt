@@ -52,22 +52,22 @@ between false false = (refl, refl, λ c. tt)
 module _ (c : Config) (w : World) (good : IsGood c w) (t : ℕ) (lt : t < c.tasks)
     (m : ℕ) (ro wait : Bool) (task processors : ℕ) (hook : HookAnswer) where
   -- the change is at this step
-  abbrev pub At : ChangeStep → Type 0
-  At s = (w.views t).phase ≡ Some (Mounts (change m ro wait task processors s))
+  abbrev pub IsAt : ChangeStep → Type 0
+  IsAt s = (w.views t).phase ≡ Some (Mounts (change m ro wait task processors s))
 
   -- its numbers, and that its task holds no level
-  abbrev pub HereFits : ChangeStep → Type 0
-  HereFits s = (m < c.mounts) × (task ≡ t) × (processors ≡ c.processors) × (holds_none (holds_level (w.views t)) ≡ true) × SumFits c s
+  abbrev pub FitsHere : ChangeStep → Type 0
+  FitsHere s = (m < c.mounts) × (task ≡ t) × (processors ≡ c.processors) × (holds_none (holds_level (w.views t)) ≡ true) × SumFits c s
 
-  pub fits_here : (s : ChangeStep) → At s → HereFits s
+  pub fits_here : (s : ChangeStep) → IsAt s → FitsHere s
   fits_here s e = fits_now c w good t lt (change m ro wait task processors s) e
 
   -- a load by an owner that has no role, before and after it
-  no_role_load : (name : WordName) (s s' : ChangeStep) → At s → IsStill s → IsStill s' →
+  no_role_load : (name : WordName) (s s' : ChangeStep) → IsAt s → IsStill s → IsStill s' →
       let coming : Next Phase = Go (Mounts (change m ro wait task processors s')) in
       GatesHold c (after_load w t name hook coming) × (shown c (after_load w t name hook coming) ≡ shown c w)
   no_role_load name s s' e still still' =
-      let f : HereFits s = fits_here s e in
+      let f : FitsHere s = fits_here s e in
       let none : (x : ChangeStep) → IsStill x → (y : ℕ) → role_if (y == m) (change_role x) ≡ Out =
       λ x h y. ap (role_if (y == m)) h.0 ∙ role_none y m in
       still_load c w good t lt name hook (Go (Mounts (change m ro wait task processors s')))
@@ -76,7 +76,7 @@ module _ (c : Config) (w : World) (good : IsGood c w) (t : ℕ) (lt : t < c.task
       (f.0, f.1, f.2, f.3, still'.2 c)
 
   -- loads the flags under the lock; meets: whoever changes READONLY owns `umount`
-  pub loads_flags : At LoadsFlags → GateStepKeeps c w t hook (Mounts (change m ro wait task processors LoadsFlags))
+  pub loads_flags : IsAt LoadsFlags → GateStepKeeps c w t hook (Mounts (change m ro wait task processors LoadsFlags))
   loads_flags e =
       elim (cases_Bool (has_flag (w.words.flags m) 1)) [
         | inl h ↦ rw h (no_role_load (MountFlags m) LoadsFlags (step_between ro true) e (refl, refl, λ d. tt) (between ro true))
@@ -84,6 +84,6 @@ module _ (c : Config) (w : World) (good : IsGood c w) (t : ℕ) (lt : t < c.task
       ]
 
   -- loads the superblock's flag
-  pub loads_superblock : At LoadsSb → GateStepKeeps c w t hook (Mounts (change m ro wait task processors LoadsSb))
+  pub loads_superblock : IsAt LoadsSb → GateStepKeeps c w t hook (Mounts (change m ro wait task processors LoadsSb))
   loads_superblock e =
       no_role_load SbFlags LoadsSb (step_between ro (not (w.words.sb == 0))) e (refl, refl, λ d. tt) (between ro (not (w.words.sb == 0)))

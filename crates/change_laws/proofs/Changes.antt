@@ -1,6 +1,6 @@
 -- Events of a change that hold, sum, set, clear, lock and release.
 use Rattle.std.proofs.Common.{◌≡◌, ℕ, suc, ◌+◌, ◌<◌, Bool, true, false, refl, sym, ap, ◌∙◌, subst, inl, inr, add-one, arith}
-use Rattle.std.specs.Prelude.{◌==◌, nat_lt, bit_or, bit_and, Option, Some, None, Result, Ok, Err, ◌∷◌}
+use Rattle.std.specs.Prelude.{◌==◌, nat_lt, bit_or, Option, Some, None, Result, Ok, Err, ◌∷◌}
 use Rattle.std.proofs.lemmas.Bool.{eq-eqb, ne_eqb, ltb-true, ltb-false, cases_Bool}
 use Rattle.std.proofs.lemmas.Bool.Decides.{eqb_tells}
 use Rattle.finite_sums.specs.Sums.{update, total}
@@ -21,8 +21,8 @@ use Rattle.cpu_words.specs.Touches.{wrap_add}
 use Rattle.mount_counts.specs.declared.phases.MountPhase.{MountPhase}
 use Rattle.mount_counts.specs.declared.phases.ChangeStep.{ChangeStep}
 use Rattle.mount_counts.specs.declared.phases.ChangeStep.TheVariants.{Locks, LoadsFlags, ClearsReadOnly, SetsHold, Sums, SetsReadOnly, ClearsHold, Releases}
-use Rattle.mount_counts.specs.Roles.{Out, Summing, has_hold, admitted, hold_bit}
-use Rattle.mount_laws.proofs.Bits.{HoldSet, or_hold, ReadOnlySet, or_read_only, without_hold, HoldCleared, and_not_hold, without_read_only, ReadOnlyCleared, and_not_read_only}
+use Rattle.mount_counts.specs.Roles.{Summing, has_hold, admitted, hold_bit}
+use Rattle.mount_laws.proofs.Bits.{IsWithHold, or_hold, IsWithReadOnly, or_read_only, without_hold, IsWithoutHold, and_not_hold, without_read_only, IsWithoutReadOnly, and_not_read_only}
 use Rattle.mount_laws.proofs.MountLaws.{SeeksNone, empties, sums_on, sums_to_none, sums_to_some, sets_hold as mount_sets_hold, sets_read_only as mount_sets_read_only, clears_hold as mount_clears_hold, clears_read_only as mount_clears_read_only}
 use Rattle.gate_world.specs.declared.config.Config.{Config}
 use Rattle.gate_world.specs.declared.work.Phase.{Phase}
@@ -33,14 +33,15 @@ use Rattle.gate_world.specs.Views.{held_at, added_by, taken_by, view_with}
 use Rattle.gate_world.specs.Fits.{SumFits}
 use Rattle.gate_world.specs.Worlds.{World}
 use Rattle.gate_world.specs.Shown.{shown, closing}
-use Rattle.gate_world.specs.Rules.{change_role, role_of, at_mount, change_owns, owns, remounts, IsSteady, ViewFits, IsGood, GateStepKeeps, AtMount, MountIn, GatesHold}
-use Rattle.gate_frames.proofs.Frames.{role_on, role_off, view_as, holds_as, MountAfter, owner_same}
+use Rattle.gate_world.specs.Rules.{change_role, role_of, at_mount, change_owns, owns, remounts, IsSteady, ViewFits, IsGood, GateStepKeeps, AtMount, MountHoldsIn, GatesHold}
+use Rattle.gate_frames.proofs.Frames.{role_on, role_off, view_as, holds_as, MountHoldsAfter, owner_same}
 use Rattle.gate_frames.proofs.Loads.{as_owner, after_load, load_law, role_none}
 use Rattle.gate_frames.proofs.Owners.{no_remount, no_hold, no_skip, locks_umount, releases_umount, umount_law, flag_law, flags_after, flags_shown, flags_show_same}
-use Rattle.change_laws.proofs.ChangeLoads.{change, change_here, change_off, At, HereFits, fits_here}
+use Rattle.change_laws.proofs.ChangeLoads.{change, change_here, change_off, IsAt, FitsHere, fits_here}
 
 -- who is to clear HOLD has it set, and seeks no access
-to_clear : (answer : Result Reply GateError) → SeeksNone (change_role (ClearsHold answer)) × (has_hold (change_role (ClearsHold answer)) ≡ 1)
+to_clear : (answer : Result Reply GateError) →
+    SeeksNone (change_role (ClearsHold answer)) × (has_hold (change_role (ClearsHold answer)) ≡ 1)
 to_clear (Ok reply) = ((refl, refl), refl)
 to_clear (Err refusal) = ((refl, refl), refl)
 
@@ -49,40 +50,41 @@ module _ (c : Config) (lim : IsWithin c) (w : World) (good : IsGood c w) (t : �
   abbrev here : ChangeStep → MountPhase
   here s = change m ro wait task processors s
 
-  abbrev IsAt : ChangeStep → Type 0
-  IsAt s = At c w good t lt m ro wait task processors hook s
+  abbrev IsHere : ChangeStep → Type 0
+  IsHere s = IsAt c w good t lt m ro wait task processors hook s
 
-  abbrev Fitting : ChangeStep → Type 0
-  Fitting s = HereFits c w good t lt m ro wait task processors hook s
+  abbrev FitsNow : ChangeStep → Type 0
+  FitsNow s = FitsHere c w good t lt m ro wait task processors hook s
 
   -- its role at its own mount, and the mount's part of the rule
-  role_here : (s : ChangeStep) → IsAt s → role_of m (w.views t).phase ≡ change_role s
+  role_here : (s : ChangeStep) → IsHere s → role_of m (w.views t).phase ≡ change_role s
   role_here s e = change_here m ro wait task processors s e
 
-  mount_here : (s : ChangeStep) → IsAt s → MountIn c w m
+  mount_here : (s : ChangeStep) → IsHere s → MountHoldsIn c w m
   mount_here s e = good (AtMount m) (fits_here c w good t lt m ro wait task processors hook s e).0
 
   -- an event on the mount's flags, after which the change is at another step
-  flag_step : (s s' : ChangeStep) (f : ℕ) (v : View) → IsAt s → IsSteady (w.views t).phase v.phase →
+  flag_step : (s s' : ChangeStep) (f : ℕ) (v : View) → IsHere s → IsSteady (w.views t).phase v.phase →
       v.phase ≡ Some (Mounts (here s')) → ViewFits c t v → held_at v ≡ held_at (w.views t) →
       added_by v.events ≡ added_by (w.views t).events → taken_by v.events ≡ taken_by (w.views t).events →
-      MountAfter c w t m f (w.words.count m) (record (at_mount m (w.views t)) { role = change_role s' }) →
+      MountHoldsAfter c w t m f (w.words.count m) (record (at_mount m (w.views t)) { role = change_role s' }) →
       GatesHold c (flags_after c w t lt m f v)
   flag_step s s' f v e same e' fits held added taken own =
-      flag_law c w good t lt m f v (change_role s') (fits_here c w good t lt m ro wait task processors hook s e).0 same fits held added taken
+      flag_law c w good t lt m f v (change_role s') (fits_here c w good t lt m ro wait task processors hook s e).0
+      same fits held added taken
       (λ y ne. change_off m ro wait task processors s' e' y ne ∙ sym (change_off m ro wait task processors s e y ne))
       (change_here m ro wait task processors s' e') own
 
   -- clears READONLY as the owner; meets: whoever relies on READONLY owns `umount`
-  pub clears_read_only : IsAt ClearsReadOnly → GateStepKeeps c w t hook (Mounts (here ClearsReadOnly))
+  pub clears_read_only : IsHere ClearsReadOnly → GateStepKeeps c w t hook (Mounts (here ClearsReadOnly))
   clears_read_only e =
-      let f : Fitting ClearsReadOnly = fits_here c w good t lt m ro wait task processors hook ClearsReadOnly e in
-      let g : MountIn c w m = mount_here ClearsReadOnly e in
+      let f : FitsNow ClearsReadOnly = fits_here c w good t lt m ro wait task processors hook ClearsReadOnly e in
+      let g : MountHoldsIn c w m = mount_here ClearsReadOnly e in
       let word : ℕ = without_read_only (w.words.flags m) in
-      let b : ReadOnlyCleared (w.words.flags m) = and_not_read_only (w.words.flags m) g.bits in
+      let b : IsWithoutReadOnly (w.words.flags m) word = and_not_read_only (w.words.flags m) g.bits in
       let s' : ChangeStep = Releases (Ok UnitReply) in
       let v : View = view_with (w.views t) (MountFlags m, And 18446744073709551614) (w.words.flags m) hook
-          (Go (Mounts (here s')), Some (MountRw m)) in
+      (Go (Mounts (here s')), Some (MountRw m)) in
       let same : IsSteady (w.views t).phase v.phase = as_owner (here ClearsReadOnly) e refl refl (λ i. refl) in (
         flag_step ClearsReadOnly s' word v e same refl (f.0, f.1, f.2, f.3, tt) refl refl refl
             (mount_clears_read_only g t lt (role_here ClearsReadOnly e) (no_remount c w good t lt (ap owns e) (ap remounts e))
@@ -91,12 +93,12 @@ module _ (c : Config) (lim : IsWithin c) (w : World) (good : IsGood c w) (t : �
       )
 
   -- sets HOLD before it sums the words; meets: a task adds before it looks for HOLD
-  pub sets_hold : IsAt SetsHold → GateStepKeeps c w t hook (Mounts (here SetsHold))
+  pub sets_hold : IsHere SetsHold → GateStepKeeps c w t hook (Mounts (here SetsHold))
   sets_hold e =
-      let f : Fitting SetsHold = fits_here c w good t lt m ro wait task processors hook SetsHold e in
-      let g : MountIn c w m = mount_here SetsHold e in
+      let f : FitsNow SetsHold = fits_here c w good t lt m ro wait task processors hook SetsHold e in
+      let g : MountHoldsIn c w m = mount_here SetsHold e in
       let word : ℕ = bit_or (w.words.flags m) 2 in
-      let b : HoldSet (w.words.flags m) = or_hold (w.words.flags m) g.bits in
+      let b : IsWithHold (w.words.flags m) word = or_hold (w.words.flags m) g.bits in
       let s' : ChangeStep = Sums record { words = 0; total = 0 } in
       let v : View = view_with (w.views t) (MountFlags m, Or 2) (w.words.flags m) hook (Go (Mounts (here s')), None) in
       let same : IsSteady (w.views t).phase v.phase = as_owner (here SetsHold) e refl refl (λ i. refl) in
@@ -107,12 +109,12 @@ module _ (c : Config) (lim : IsWithin c) (w : World) (good : IsGood c w) (t : �
       )
 
   -- sets READONLY under HOLD, after a sum of 0; meets: READONLY is loaded after HOLD was found clear
-  pub sets_read_only : IsAt SetsReadOnly → GateStepKeeps c w t hook (Mounts (here SetsReadOnly))
+  pub sets_read_only : IsHere SetsReadOnly → GateStepKeeps c w t hook (Mounts (here SetsReadOnly))
   sets_read_only e =
-      let f : Fitting SetsReadOnly = fits_here c w good t lt m ro wait task processors hook SetsReadOnly e in
-      let g : MountIn c w m = mount_here SetsReadOnly e in
+      let f : FitsNow SetsReadOnly = fits_here c w good t lt m ro wait task processors hook SetsReadOnly e in
+      let g : MountHoldsIn c w m = mount_here SetsReadOnly e in
       let word : ℕ = bit_or (w.words.flags m) 1 in
-      let b : ReadOnlySet (w.words.flags m) = or_read_only (w.words.flags m) g.bits in
+      let b : IsWithReadOnly (w.words.flags m) word = or_read_only (w.words.flags m) g.bits in
       let s' : ChangeStep = ClearsHold (Ok UnitReply) in
       let v : View = view_with (w.views t) (MountFlags m, Or 1) (w.words.flags m) hook (Go (Mounts (here s')), Some (MountRo m)) in
       let same : IsSteady (w.views t).phase v.phase = as_owner (here SetsReadOnly) e refl refl (λ i. refl) in
@@ -126,12 +128,13 @@ module _ (c : Config) (lim : IsWithin c) (w : World) (good : IsGood c w) (t : �
       )
 
   -- clears HOLD after READONLY was set, or after a sum that was not 0; meets: READONLY is loaded after HOLD was found clear
-  pub clears_hold : (answer : Result Reply GateError) → IsAt (ClearsHold answer) → GateStepKeeps c w t hook (Mounts (here (ClearsHold answer)))
+  pub clears_hold : (answer : Result Reply GateError) → IsHere (ClearsHold answer) →
+      GateStepKeeps c w t hook (Mounts (here (ClearsHold answer)))
   clears_hold answer e =
-      let f : Fitting (ClearsHold answer) = fits_here c w good t lt m ro wait task processors hook (ClearsHold answer) e in
-      let g : MountIn c w m = mount_here (ClearsHold answer) e in
+      let f : FitsNow (ClearsHold answer) = fits_here c w good t lt m ro wait task processors hook (ClearsHold answer) e in
+      let g : MountHoldsIn c w m = mount_here (ClearsHold answer) e in
       let word : ℕ = without_hold (w.words.flags m) in
-      let b : HoldCleared (w.words.flags m) = and_not_hold (w.words.flags m) g.bits in
+      let b : IsWithoutHold (w.words.flags m) word = and_not_hold (w.words.flags m) g.bits in
       let s' : ChangeStep = Releases answer in
       let v : View = view_with (w.views t) (MountFlags m, And 18446744073709551613) (w.words.flags m) hook (Go (Mounts (here s')), None) in
       let r : role_of m (w.views t).phase ≡ change_role (ClearsHold answer) = role_here (ClearsHold answer) e in
@@ -143,15 +146,15 @@ module _ (c : Config) (lim : IsWithin c) (w : World) (good : IsGood c w) (t : �
 
   -- the mount after the change's role there is that of a step
   abbrev Becomes : ChangeStep → Type 0
-  Becomes s = MountAfter c w t m (w.words.flags m) (w.words.count m) (record (at_mount m (w.views t)) { role = change_role s })
+  Becomes s = MountHoldsAfter c w t m (w.words.flags m) (w.words.count m) (record (at_mount m (w.views t)) { role = change_role s })
 
   -- a load of one word of a sum, after which it is at another step
-  sum_load : (sum : Sum) (s : ChangeStep) → IsAt (Sums sum) → change_owns s ≡ 1 → SumFits c s → Becomes s →
+  sum_load : (sum : Sum) (s : ChangeStep) → IsHere (Sums sum) → change_owns s ≡ 1 → SumFits c s → Becomes s →
       let coming : Next Phase = Go (Mounts (here s)) in
       GatesHold c (after_load w t (MountCount m sum.words) hook coming) ×
       (shown c (after_load w t (MountCount m sum.words) hook coming) ≡ shown c w)
   sum_load sum s e o fit own =
-      let f : Fitting (Sums sum) = fits_here c w good t lt m ro wait task processors hook (Sums sum) e in
+      let f : FitsNow (Sums sum) = fits_here c w good t lt m ro wait task processors hook (Sums sum) e in
       load_law c w good t lt m (MountCount m sum.words) hook (Go (Mounts (here s)))
       (λ y ne. role_off y m (change_role s) ne ∙ sym (change_off m ro wait task processors (Sums sum) e y ne))
       (as_owner (here (Sums sum)) e o refl (λ i. refl)) (f.0, f.1, f.2, f.3, fit)
@@ -159,10 +162,10 @@ module _ (c : Config) (lim : IsWithin c) (w : World) (good : IsGood c w) (t : �
       (ap (update (λ x. at_mount m (w.views x)) t) (view_as refl refl refl (role_on m (change_role s)))) own)
 
   -- reads a word under HOLD; meets: a task adds before it looks for HOLD
-  pub sums : (sum : Sum) → IsAt (Sums sum) → GateStepKeeps c w t hook (Mounts (here (Sums sum)))
+  pub sums : (sum : Sum) → IsHere (Sums sum) → GateStepKeeps c w t hook (Mounts (here (Sums sum)))
   sums sum e =
-      let f : Fitting (Sums sum) = fits_here c w good t lt m ro wait task processors hook (Sums sum) e in
-      let g : MountIn c w m = mount_here (Sums sum) e in
+      let f : FitsNow (Sums sum) = fits_here c w good t lt m ro wait task processors hook (Sums sum) e in
+      let g : MountHoldsIn c w m = mount_here (Sums sum) e in
       let k : ℕ = sum.words in
       let now : ℕ = wrap_add sum.total (w.words.count m k) in
       let r : role_of m (w.views t).phase ≡ Summing k sum.total = role_here (Sums sum) e in
@@ -175,13 +178,14 @@ module _ (c : Config) (lim : IsWithin c) (w : World) (good : IsGood c w) (t : �
         | inr h ↦
             let last : suc k ≡ c.processors = omega (arith, f.4, ltb-false (k + 1) processors h, f.2) in
             elim (eqb_tells now 0) [
-              | inl z ↦ rw (h, z.0) (sum_load sum SetsReadOnly e refl tt (sums_to_none g t lt lim.tasks lim.processors k sum.total r last z.1))
+              | inl z ↦ rw (h, z.0) (sum_load sum SetsReadOnly e refl tt
+                  (sums_to_none g t lt lim.tasks lim.processors k sum.total r last z.1))
               | inr z ↦ rw (h, z.0) (sum_load sum (ClearsHold (Err Busy)) e refl tt (sums_to_some g t lt k sum.total r))
             ]
       ]
 
   -- gives `umount` back; meets: the next owner takes it
-  pub releases : (answer : Result Reply GateError) → IsAt (Releases answer) → GateStepKeeps c w t hook (Mounts (here (Releases answer)))
+  pub releases : (answer : Result Reply GateError) → IsHere (Releases answer) → GateStepKeeps c w t hook (Mounts (here (Releases answer)))
   releases answer e =
       let v : View = view_with (w.views t) (Umount, Store 0) w.words.umount hook (Done answer, None) in
       umount_law c w good t lt 0 v (releases_umount c w good t lt v (ap owns e) refl (sym (ap remounts e))) tt refl refl refl refl
@@ -196,7 +200,7 @@ module _ (c : Config) (w : World) (good : IsGood c w) (t : ℕ) (lt : t < c.task
       record (w.views t) { phase = phase; events = e ∷ (w.views t).events; trace = record { event = e; hook = hook } ∷ (w.views t).trace }
 
   -- `umount` is another's: it is looked at again, or given up
-  lock_taken : (wait : Bool) → At c w good t lt m ro wait task processors hook Locks → (w.words.umount == 0) ≡ false →
+  lock_taken : (wait : Bool) → IsAt c w good t lt m ro wait task processors hook Locks → (w.words.umount == 0) ≡ false →
       GateStepKeeps c w t hook (Mounts (change m ro wait task processors Locks))
   lock_taken true e h =
       let x : MountPhase = change m ro true task processors Locks in
@@ -211,10 +215,11 @@ module _ (c : Config) (w : World) (good : IsGood c w) (t : ℕ) (lt : t < c.task
       tt refl refl refl refl (λ y. sym (ap (role_of y) e ∙ role_none y m)) (λ i. sym (ap (closing i) e)))
 
   -- takes `umount` where it is free; meets: its owner gives it back last
-  pub locks : (wait : Bool) → At c w good t lt m ro wait task processors hook Locks →
+  pub locks : (wait : Bool) → IsAt c w good t lt m ro wait task processors hook Locks →
       GateStepKeeps c w t hook (Mounts (change m ro wait task processors Locks))
   locks wait e =
-      let f : HereFits c w good t lt m ro wait task processors hook Locks = fits_here c w good t lt m ro wait task processors hook Locks e in
+      let f : FitsHere c w good t lt m ro wait task processors hook Locks =
+      fits_here c w good t lt m ro wait task processors hook Locks e in
       elim (eqb_tells w.words.umount 0) [
         | inl h ↦ rw h.0 (
             let v : View = tried (task + 1) (Some (Mounts (change m ro wait task processors LoadsFlags))) in

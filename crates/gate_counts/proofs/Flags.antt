@@ -3,10 +3,10 @@ use Rattle.std.proofs.Common.{◌≡◌, ℕ, suc, ◌+◌, ◌*◌, ◌%◌, �
 use Rattle.finite_sums.specs.Sums.{update, total}
 use Rattle.cpu_words.specs.Touches.{wrap_add}
 use Rattle.cpu_words.specs.Sums.{ahead}
-use Rattle.finite_sums.proofs.Totals.{total_same, total_le, total_bound, total_add, total_at, total_none, total_zero}
-use Rattle.gate_counts.specs.Gates.{Barring, Apart, Reading, ReadZero, Silent, bars, GateView, past, admitted, unread, counted, BarringHolds, GateHolds}
+use Rattle.finite_sums.proofs.Totals.{total_le, total_bound, total_add, total_at, total_none, total_zero}
+use Rattle.gate_counts.specs.Gates.{Barring, Apart, Reading, ReadZero, bars, GateView, past, admitted, unread, counted, BarringHolds, GateHolds}
 use Rattle.gate_counts.proofs.Numbers.{below_le, below_step, below_first, ahead_none, ahead_past, ahead_step}
-use Rattle.gate_counts.proofs.Views.{words_sum, flag_event}
+use Rattle.gate_counts.proofs.Events.{words_sum, flag_event}
 
 module _ {tasks processors bit unowned : ℕ} {shut : ℕ → Type 0} {count : ℕ → ℕ} {at : ℕ → GateView}
     (good : GateHolds tasks processors bit unowned shut count at) where
@@ -19,43 +19,33 @@ module _ {tasks processors bit unowned : ℕ} {shut : ℕ → Type 0} {count : �
   pub none_held : (i : ℕ) → total tasks (λ x. past i (at x)) ≡ 0 → total tasks (λ x. (at x).held) ≡ 0
   none_held i none = total_none tasks _ (λ x lx. omega (arith, none, total_at tasks x (λ y. past i (at y)) lx))
 
-  -- where nobody seeks, the words sum to what is held
-  pub words_sum_to_held : ((x : ℕ) → x < tasks → counted (at x) ≡ (at x).held) →
-      total processors count % 18446744073709551616 ≡ total tasks (λ x. (at x).held) % 18446744073709551616
-  words_sum_to_held idle = omega (arith, words_sum good.counts, total_same tasks (λ x. counted (at x)) (λ x. (at x).held) idle)
-
   -- what a task that has the flag set may say here
-  abbrev pub says : Barring → Type 0
-  says = BarringHolds processors count (total tasks (λ x. admitted (at x))) (λ k. total tasks (λ x. unread k (at x)))
+  abbrev pub MaySay : Barring → Type 0
+  MaySay = BarringHolds processors count (total tasks (λ x. admitted (at x))) (λ k. total tasks (λ x. unread k (at x)))
 
   -- nobody is admitted where a sum was 0, as long as the flag is set
   pub none_admitted : (t : ℕ) → t < tasks → (at t).barring ≡ ReadZero → total tasks (λ x. admitted (at x)) ≡ 0
-  none_admitted t lt e = subst says e (good.sums t lt)
+  none_admitted t lt e = subst MaySay e (good.sums t lt)
 
   -- conditions begin to stand, or end, where no task is past their questions
   pub shuts : (shut' : ℕ → Type 0) → ((i : ℕ) → shut' i → total tasks (λ x. past i (at x)) ≡ 0) →
       GateHolds tasks processors bit unowned shut' count at
   shuts shut' h = record { counts = good.counts; room = good.room; flag = good.flag; sums = good.sums; open_to = h }
 
-  -- after a sum of 0 any condition may begin
-  pub shuts_at_zero : (shut' : ℕ → Type 0) (t : ℕ) → t < tasks → (at t).barring ≡ ReadZero →
-      GateHolds tasks processors bit unowned shut' count at
-  shuts_at_zero shut' t lt e = shuts shut' (λ i s. nobody (none_admitted t lt e) i)
-
   module _ (few : tasks ≤ 64) (narrow : processors ≤ 64) where
     -- a sum begins
-    pub sum_begins : 0 < processors → says (Reading 0 0)
+    pub sum_begins : 0 < processors → MaySay (Reading 0 0)
     sum_begins some =
         let a : total tasks (λ x. admitted (at x)) ≤ tasks * 1024 = total_bound tasks 1024 _ good.room in
         let u : total tasks (λ x. unread 0 (at x)) ≤ tasks * 1 = total_bound tasks 1 _ (λ x lx. below_le 0 (at x).sought_on) in
         let parts : total tasks (λ x. counted (at x)) ≡ total tasks (λ x. admitted (at x)) + total tasks (λ x. unread 0 (at x)) =
         total_add tasks (λ x. admitted (at x)) (λ x. unread 0 (at x)) in
         let facts : (total processors count % 18446744073709551616 ≡ total tasks (λ x. counted (at x)) % 18446744073709551616) ×
-            (ahead processors count 0 ≡ total processors count) = (words_sum good.counts, ahead_none processors count) in
+        (ahead processors count 0 ≡ total processors count) = (words_sum good.counts, ahead_none processors count) in
         (some, omega (arith, a, u, parts, facts), omega (arith, a, u, parts, facts))
 
     -- one word more is read
-    pub sum_goes : (k sum : ℕ) → suc k < processors → says (Reading k sum) → says (Reading (suc k) (wrap_add sum (count k)))
+    pub sum_goes : (k sum : ℕ) → suc k < processors → MaySay (Reading k sum) → MaySay (Reading (suc k) (wrap_add sum (count k)))
     sum_goes k sum more d =
         let s : ahead processors count k ≡ count k + ahead processors count (suc k) = ahead_step processors k count d.0 in
         let down : total tasks (λ x. unread (suc k) (at x)) ≤ total tasks (λ x. unread k (at x)) =
@@ -68,7 +58,7 @@ module _ {tasks processors bit unowned : ℕ} {shut : ℕ → Type 0} {count : �
         (more, omega (arith, d), omega (arith, d))
 
     -- the last word is read, and the sum is 0
-    pub sum_ends : (k sum : ℕ) → suc k ≡ processors → wrap_add sum (count k) ≡ 0 → says (Reading k sum) → says ReadZero
+    pub sum_ends : (k sum : ℕ) → suc k ≡ processors → wrap_add sum (count k) ≡ 0 → MaySay (Reading k sum) → MaySay ReadZero
     sum_ends k sum last zero_sum d =
         let s : ahead processors count k ≡ count k + ahead processors count (suc k) = ahead_step processors k count d.0 in
         let e : ahead processors count (suc k) ≡ 0 = ahead_past processors (suc k) count (omega arith) in
@@ -76,37 +66,35 @@ module _ {tasks processors bit unowned : ℕ} {shut : ℕ → Type 0} {count : �
 
   module _ (t : ℕ) (lt : t < tasks) where
     -- the gate after an event of the task that bars it
-    abbrev After : (bit' unowned' : ℕ) → Barring → Type 0
-    After bit' unowned' b = GateHolds tasks processors bit' unowned' shut count (update at t (record (at t) { barring = b }))
+    abbrev HoldsAfter : (bit' unowned' : ℕ) → Barring → Type 0
+    HoldsAfter bit' unowned' b = GateHolds tasks processors bit' unowned' shut count (update at t (record (at t) { barring = b }))
 
     -- the flag is set, and a sum begins
-    pub bars_gate : tasks ≤ 64 → processors ≤ 64 → 0 < processors → (at t).barring ≡ Apart → bit ≡ 0 → After 1 unowned (Reading 0 0)
+    pub bars_gate : tasks ≤ 64 → processors ≤ 64 → 0 < processors → (at t).barring ≡ Apart → bit ≡ 0 → HoldsAfter 1 unowned (Reading 0 0)
     bars_gate few narrow some apart clear =
         flag_event good t lt (Reading 0 0) 1 unowned shut (omega (arith, ap bars apart, clear)) (sum_begins few narrow some) good.open_to
 
     -- a word is read, and more are to come
     pub reads_on : tasks ≤ 64 → processors ≤ 64 → (k sum : ℕ) → (at t).barring ≡ Reading k sum → suc k < processors →
-        After bit unowned (Reading (suc k) (wrap_add sum (count k)))
+        HoldsAfter bit unowned (Reading (suc k) (wrap_add sum (count k)))
     reads_on few narrow k sum e more =
         flag_event good t lt (Reading (suc k) (wrap_add sum (count k))) bit unowned shut (omega (arith, ap bars e))
-        (sum_goes few narrow k sum more (subst says e (good.sums t lt))) good.open_to
+        (sum_goes few narrow k sum more (subst MaySay e (good.sums t lt))) good.open_to
 
-    -- the last word is read: the sum is 0, or the flag is to be cleared, or a new sum begins at once
+    -- the last word is read, and the sum is 0
     pub reads_zero : tasks ≤ 64 → processors ≤ 64 → (k sum : ℕ) → (at t).barring ≡ Reading k sum → suc k ≡ processors →
-        wrap_add sum (count k) ≡ 0 → After bit unowned ReadZero
+        wrap_add sum (count k) ≡ 0 → HoldsAfter bit unowned ReadZero
     reads_zero few narrow k sum e last z =
         flag_event good t lt ReadZero bit unowned shut (omega (arith, ap bars e))
-        (sum_ends few narrow k sum last z (subst says e (good.sums t lt))) good.open_to
+        (sum_ends few narrow k sum last z (subst MaySay e (good.sums t lt))) good.open_to
 
-    pub gives_up : bars (at t).barring ≡ 1 → After bit unowned Silent
-    gives_up one = flag_event good t lt Silent bit unowned shut (omega (arith, one)) tt good.open_to
-
-    pub begins_anew : tasks ≤ 64 → processors ≤ 64 → bars (at t).barring ≡ 1 → 0 < processors → After bit unowned (Reading 0 0)
+    -- or a new sum begins at once
+    pub begins_anew : tasks ≤ 64 → processors ≤ 64 → bars (at t).barring ≡ 1 → 0 < processors → HoldsAfter bit unowned (Reading 0 0)
     begins_anew few narrow one some =
         flag_event good t lt (Reading 0 0) bit unowned shut (omega (arith, one)) (sum_begins few narrow some) good.open_to
 
     -- the flag is cleared
-    pub opens_gate : bars (at t).barring ≡ 1 → bit ≡ 1 → After 0 unowned Apart
+    pub opens_gate : bars (at t).barring ≡ 1 → bit ≡ 1 → HoldsAfter 0 unowned Apart
     opens_gate one set = flag_event good t lt Apart 0 unowned shut (omega (arith, one, set)) tt good.open_to
 
     -- after a sum of 0 the flag may be left set, while conditions begin

@@ -1,5 +1,5 @@
 pub mod Numbers
-pub mod Views
+pub mod Events
 pub mod Readers
 pub mod Flags
 pub mod LevelLaws

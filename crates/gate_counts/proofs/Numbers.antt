@@ -66,7 +66,7 @@ pub ahead_changed : (processors k : ℕ) (count : ℕ → ℕ) (p c : ℕ) → p
     ((below k (suc p) ≡ 0) × (ahead processors (update count p c) k ≡ ahead processors count k))
 ahead_changed processors k count p c lp =
     let e : ahead processors (update count p c) k + (if nat_le k p then count p else 0) ≡
-        ahead processors count k + (if nat_le k p then c else 0) =
+    ahead processors count k + (if nat_le k p then c else 0) =
     total_changed_by (λ q n. if nat_le k q then n else 0) processors p count c lp in
     elim (below_tells k (suc p)) [
       | inl h ↦ inl (h.0, rw (le-leb k p (omega (arith, h.1))) at e)

@@ -67,8 +67,8 @@ pub holds_as : {tasks processors f f' r r' s s' : ℕ} {c c' : ℕ → ℕ} {at 
 holds_as {tasks} {processors} ef er es ec ea h = subst (λ X. X) (sym (λ i. MountHolds tasks processors (ef i) (er i) (es i) (ec i) (ea i))) h
 
 -- one mount after an event of this task, which makes this of its flags and counts and of the task's view
-abbrev pub MountAfter : Config → World → ℕ → ℕ → ℕ → (ℕ → ℕ) → MountView → Type 0
-MountAfter c w t m flags count v =
+abbrev pub MountHoldsAfter : Config → World → ℕ → ℕ → ℕ → (ℕ → ℕ) → MountView → Type 0
+MountHoldsAfter c w t m flags count v =
     MountHolds c.tasks c.processors flags w.words.remount w.words.sb count (update (λ x. at_mount m (w.views x)) t v)
 
 module _ (c : Config) (w : World) (t : ℕ) (lt : t < c.tasks) where
@@ -151,7 +151,7 @@ module _ (c : Config) (w : World) (t : ℕ) (lt : t < c.tasks) where
         OwnerHolds c.tasks ws.umount ws.remount (λ x. (update w.views t v x).phase) →
         ViewFits c t v →
         ((n : ℕ) → (n ≡ m → ⊥) → (ws.flags n ≡ w.words.flags n) × (ws.count n ≡ w.words.count n) × (at_mount n v ≡ at_mount n (w.views t))) →
-        (m < c.mounts → MountAfter c w t m (ws.flags m) (ws.count m) (at_mount m v)) →
+        (m < c.mounts → MountHoldsAfter c w t m (ws.flags m) (ws.count m) (at_mount m v)) →
         GatesHold c (record { words = ws; views = update w.views t v })
     gates_after m ws v er es owner fits off own Owner h = owner
     gates_after m ws v er es owner fits off own Superblock h = left_alone Superblock ws v es tt (good Superblock)

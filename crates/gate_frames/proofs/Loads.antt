@@ -20,7 +20,7 @@ use Rattle.gate_world.specs.Worlds.{World}
 use Rattle.gate_world.specs.Shown.{shown, closing}
 use Rattle.gate_world.specs.Rules.{role_if, role_of, at_mount, owns, mount_owns, remounts, IsSteady, IsGood, Fitting, AtMount, GatesHold}
 use Rattle.gate_frames.proofs.Words.{load_same}
-use Rattle.gate_frames.proofs.Frames.{added_load, taken_load, view_as, holds_as, MountAfter, shown_still, owner_same, gates_after}
+use Rattle.gate_frames.proofs.Frames.{added_load, taken_load, view_as, holds_as, MountHoldsAfter, shown_still, owner_same, gates_after}
 
 -- no role is none at whichever mount
 pub role_none : (y m : ℕ) → role_if (y == m) Out ≡ Out
@@ -51,7 +51,8 @@ module _ (c : Config) (w : World) (good : IsGood c w) (t : ℕ) (lt : t < c.task
       ((n : ℕ) → (n ≡ m → ⊥) → role_of n (phase_after coming) ≡ role_of n (w.views t).phase) →
       IsSteady (w.views t).phase (phase_after coming) →
       Fits c t (held_at (w.views t)) (holds_level (w.views t)) (phase_after coming) →
-      (m < c.mounts → MountAfter c w t m (w.words.flags m) (w.words.count m) (record (at_mount m (w.views t)) { role = role_of m (phase_after coming) })) →
+      (m < c.mounts → MountHoldsAfter c w t m (w.words.flags m) (w.words.count m)
+      (record (at_mount m (w.views t)) { role = role_of m (phase_after coming) })) →
       GatesHold c (after_load w t name hook coming) × (shown c (after_load w t name hook coming) ≡ shown c w)
   load_law m name hook coming off same fits own =
       let v : View = view_with (w.views t) (name, Load) (read w.words name) hook (coming, None) in
@@ -60,7 +61,7 @@ module _ (c : Config) (w : World) (good : IsGood c w) (t : ℕ) (lt : t < c.task
       let there : GatesHold c (record { words = w.words; views = update w.views t v }) =
       gates_after c w t lt good m w.words v refl refl (owner_same c w t lt good v same) fits
       (λ n ne. (refl, refl, view_as refl (ap (λ f. f n) ea) (ap (λ f. f n) et) (off n ne)))
-      (λ lm. subst (MountAfter c w t m (w.words.flags m) (w.words.count m))
+      (λ lm. subst (MountHoldsAfter c w t m (w.words.flags m) (w.words.count m))
       (view_as refl (ap (λ f. f m) (sym ea)) (ap (λ f. f m) (sym et)) refl) (own lm)) in
       subst (λ ws. let next_world : World = record { words = ws; views = update w.views t v } in GatesHold c next_world × (shown c next_world ≡ shown c w)) (sym (load_same w.words name))
       (there, shown_still c w t lt w.words v refl refl refl refl refl refl same.closing_same refl refl)

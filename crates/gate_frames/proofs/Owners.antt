@@ -1,5 +1,5 @@
 -- What every owner of `umount` may rely on, and its events: under the lock, on the word `umount`, and on a mount's flags.
-use Rattle.std.proofs.Common.{◌≡◌, ℕ, suc, ◌+◌, ◌<◌, ◌≤◌, Bool, true, false, refl, sym, ap, ◌∙◌, inl, inr, arith}
+use Rattle.std.proofs.Common.{◌≡◌, ℕ, suc, ◌+◌, ◌<◌, ◌≤◌, Bool, true, false, refl, ap, ◌∙◌, inl, inr, arith}
 use Rattle.std.specs.Prelude.{◌==◌, Option, Some, None, Ok, Err}
 use Rattle.std.proofs.lemmas.Bool.Decides.{eqb_tells}
 use Rattle.finite_sums.specs.Sums.{update, total}
@@ -19,7 +19,7 @@ use Rattle.gate_world.specs.Views.{held_at, holds_level, added_by, taken_by}
 use Rattle.gate_world.specs.Worlds.{World}
 use Rattle.gate_world.specs.Shown.{shown, closing}
 use Rattle.gate_world.specs.Rules.{want_role, change_role, role_if, role_of, at_mount, change_owns, owns, remounts, IsSteady, OwnerHolds, ViewFits, IsGood, Owner, AtMount, GatesHold}
-use Rattle.gate_frames.proofs.Frames.{view_as, holds_as, MountAfter, owner_same, gates_after, shown_as, shown_still}
+use Rattle.gate_frames.proofs.Frames.{view_as, holds_as, MountHoldsAfter, owner_same, gates_after, shown_as, shown_still}
 
 change_owns_le : (s : ChangeStep) → change_owns s ≤ 1
 change_owns_le Locks = omega arith
@@ -66,9 +66,9 @@ module _ (c : Config) (w : World) (good : IsGood c w) (t : ℕ) (lt : t < c.task
   pub alone : (x : ℕ) → x < c.tasks → (x ≡ t → ⊥) → owns (w.views t).phase ≡ 1 → owns (w.views x).phase ≡ 0
   alone x lx ne o =
       let both : owns (w.views x).phase ≡ 1 → ⊥ = λ q.
-          let a : w.words.umount ≡ suc x = (good Owner).locked x lx q in
-          let b : w.words.umount ≡ suc t = (good Owner).locked t lt o in
-          ne (omega arith) in
+      let a : w.words.umount ≡ suc x = (good Owner).locked x lx q in
+      let b : w.words.umount ≡ suc t = (good Owner).locked t lt o in
+      ne (omega arith) in
       omega (arith, both, owns_le (w.views x).phase)
 
   -- an owner that hasn't `remount` set finds it clear
@@ -104,7 +104,8 @@ module _ (c : Config) (w : World) (good : IsGood c w) (t : ℕ) (lt : t < c.task
       omega (arith, (good Owner).remounting, same, total_updated (λ (u : View). remounts u.phase) c.tasks t w.views v lt)
 
   -- the lock: `umount` was free, and has the task's number
-  pub locks_umount : (n : ℕ) (v : View) → w.words.umount ≡ 0 → n ≡ suc t → owns v.phase ≡ 1 → remounts v.phase ≡ remounts (w.views t).phase →
+  pub locks_umount : (n : ℕ) (v : View) → w.words.umount ≡ 0 → n ≡ suc t → owns v.phase ≡ 1 →
+      remounts v.phase ≡ remounts (w.views t).phase →
       OwnerHolds c.tasks n w.words.remount (λ x. (update w.views t v x).phase)
   locks_umount n v free mine own same = record {
     locked = λ x lx.
@@ -119,7 +120,8 @@ module _ (c : Config) (w : World) (good : IsGood c w) (t : ℕ) (lt : t < c.task
   }
 
   -- the release: it was the task's own, and is free
-  pub releases_umount : (v : View) → owns (w.views t).phase ≡ 1 → owns v.phase ≡ 0 → remounts v.phase ≡ remounts (w.views t).phase →
+  pub releases_umount : (v : View) → owns (w.views t).phase ≡ 1 → owns v.phase ≡ 0 →
+      remounts v.phase ≡ remounts (w.views t).phase →
       OwnerHolds c.tasks 0 w.words.remount (λ x. (update w.views t v x).phase)
   releases_umount v own none same =
       let mine : w.words.umount ≡ suc t = (good Owner).locked t lt own in
@@ -156,7 +158,7 @@ module _ (c : Config) (w : World) (good : IsGood c w) (t : ℕ) (lt : t < c.task
   pub flag_law : (m f : ℕ) (v : View) (r : Role) → m < c.mounts → IsSteady (w.views t).phase v.phase → ViewFits c t v →
       held_at v ≡ held_at (w.views t) → added_by v.events ≡ added_by (w.views t).events → taken_by v.events ≡ taken_by (w.views t).events →
       ((y : ℕ) → (y ≡ m → ⊥) → role_of y v.phase ≡ role_of y (w.views t).phase) → role_of m v.phase ≡ r →
-      MountAfter c w t m f (w.words.count m) (record (at_mount m (w.views t)) { role = r }) →
+      MountHoldsAfter c w t m f (w.words.count m) (record (at_mount m (w.views t)) { role = r }) →
       GatesHold c (record { words = record w.words { flags = update w.words.flags m f }; views = update w.views t v })
   flag_law m f v r lm same fits held added taken off role own =
       let at : (y : ℕ) (q : Role) → role_of y v.phase ≡ q → at_mount y v ≡ record (at_mount y (w.views t)) { role = q } =

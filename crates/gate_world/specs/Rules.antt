@@ -117,8 +117,8 @@ pub data Part : Type 0 where
   AtMount : (m : ℕ) → Part
 
 -- what the part of one mount says of a world that has the mount
-abbrev pub MountIn : Config → World → ℕ → Type 0
-MountIn c w m =
+abbrev pub MountHoldsIn : Config → World → ℕ → Type 0
+MountHoldsIn c w m =
     MountHolds c.tasks c.processors (w.words.flags m) w.words.remount w.words.sb (w.words.count m) (λ t. at_mount m (w.views t))
 
 -- what a part says of a world
@@ -128,7 +128,7 @@ Holds c w Superblock = w.words.sb ≤ 1
 Holds c w Stages = w.words.stage ≤ 4
 Holds c w Fitting = (t : ℕ) → t < c.tasks → ViewFits c t (w.views t)
 Holds c w Known = (t : ℕ) → t < c.tasks → owns (w.views t).phase ≡ 1 → KnowsWords w.words (w.views t).trace
-Holds c w (AtMount m) = m < c.mounts → MountIn c w m
+Holds c w (AtMount m) = m < c.mounts → MountHoldsIn c w m
 
 -- what a part reads of the words: these are as they were
 abbrev pub SameWords : Words → Words → Part → Type 0

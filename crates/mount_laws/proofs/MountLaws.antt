@@ -1,16 +1,16 @@
 -- Each event of the mounts keeps what holds at its mount.
-use Rattle.std.proofs.Common.{◌≡◌, ℕ, zero, suc, ◌+◌, ◌%◌, ◌<◌, ◌≤◌, refl, sym, ap, ◌∙◌, subst, inl, inr, arith}
+use Rattle.std.proofs.Common.{◌≡◌, ℕ, zero, suc, ◌+◌, ◌<◌, ◌≤◌, refl, sym, ap, ◌∙◌, subst, inl, inr, arith}
 use Rattle.std.specs.Prelude.{◌⊎◌, bit_or}
 use Rattle.std.proofs.lemmas.Bool.Decides.{eqb_tells}
 use Rattle.finite_sums.specs.Sums.{update, total}
 use Rattle.cpu_words.specs.Touches.{wrap_add, wrap_sub}
 use Rattle.finite_sums.proofs.Totals.{each_updated, total_at, total_none, update_map}
-use Rattle.gate_counts.specs.Gates.{Barring, Apart, Reading, ReadZero, Silent, bars, below, past, GateHolds}
+use Rattle.gate_counts.specs.Gates.{Barring, Apart, bars, below, past, GateHolds}
 use Rattle.mount_counts.specs.Roles.{Role, Out, Asking, Cleared, PastRemount, PastFlags, BackingOff, Summing, Empty, Leaving, Skipped, MountView, questions_of, processor_of, barring_of, skips, mount_as_gate, passed_hold, past_remount, past_flags, sought, has_hold, admitted, ro_bit, hold_bit, mount_shut, MountHolds}
-use Rattle.gate_counts.proofs.Views.{flag_event}
+use Rattle.gate_counts.proofs.Events.{flag_event}
 use Rattle.gate_counts.proofs.Readers.{adds as gate_adds, is_admitted, goes_on, is_granted as gate_grants, is_refused as gate_refuses, backs_off as gate_backs_off, returns as gate_returns}
-use Rattle.gate_counts.proofs.Flags.{nobody, none_held, none_admitted, says, shuts, sum_begins, sum_goes, sum_ends}
-use Rattle.mount_laws.proofs.Bits.{or_hold, or_read_only, without_hold, and_not_hold, without_read_only, and_not_read_only, HoldSet, ReadOnlySet, HoldCleared, ReadOnlyCleared}
+use Rattle.gate_counts.proofs.Flags.{nobody, none_held, none_admitted, MaySay, shuts, sum_begins, sum_goes, sum_ends}
+use Rattle.mount_laws.proofs.Bits.{or_hold, or_read_only, without_hold, and_not_hold, without_read_only, and_not_read_only, IsWithHold, IsWithReadOnly, IsWithoutHold, IsWithoutReadOnly}
 
 -- one that doesn't have HOLD set
 apart : (b : Barring) → bars b ≡ 0 → b ≡ Apart
@@ -35,51 +35,53 @@ none_past _ = refl
 module _ {tasks processors flags remount sb : ℕ} {count : ℕ → ℕ} {at : ℕ → MountView}
     (good : MountHolds tasks processors flags remount sb count at) (t : ℕ) (lt : t < tasks) where
   -- the mount after an event of a reader that makes this of the words and of the task's view
-  abbrev After : (ℕ → ℕ) → MountView → Type 0
-  After count' v = MountHolds tasks processors flags remount sb count' (update at t v)
+  abbrev HoldsAfter : (ℕ → ℕ) → MountView → Type 0
+  HoldsAfter count' v = MountHolds tasks processors flags remount sb count' (update at t v)
 
   -- an event of a reader keeps the mount where it keeps it as a gate
   reads : (v : MountView) (count' : ℕ → ℕ) → skips v.role ≡ 0 →
       GateHolds tasks processors (hold_bit flags) 0 (mount_shut flags remount sb) count'
-      (update (λ x. mount_as_gate (at x)) t (mount_as_gate v)) → After count' v
+      (update (λ x. mount_as_gate (at x)) t (mount_as_gate v)) → HoldsAfter count' v
   reads v count' skip gate = record {
     bits = good.bits;
-    gate = subst (GateHolds tasks processors (hold_bit flags) 0 (mount_shut flags remount sb) count') (sym (update_map mount_as_gate at t v)) gate;
+    gate = subst (GateHolds tasks processors (hold_bit flags) 0 (mount_shut flags remount sb) count')
+        (sym (update_map mount_as_gate at t v)) gate;
     skipped = λ x lx.
         each_updated (λ y w. skips w.role ≡ 1 → ro_bit flags ≡ 1) at t v x (λ s. absurd (omega (arith, s, skip))) (λ ne. good.skipped x lx);
   }
 
   -- a load finds HOLD clear: the task is admitted. Meets: HOLD is set before the words are summed
   pub finds_hold_clear : (p : ℕ) → (at t).role ≡ Asking p → hold_bit flags ≡ 0 → (at t).held < 1024 →
-      After count (record (at t) { role = Cleared p })
+      HoldsAfter count (record (at t) { role = Cleared p })
   finds_hold_clear p e clear room =
       reads (record (at t) { role = Cleared p }) count refl
       (is_admitted good.gate t lt p Apart (sym (ap barring_of e)) (ap processor_of e) (ap questions_of e) clear (λ s. s) room)
 
   -- a load finds `remount` 0. Meets: `remount` is set before HOLD is cleared
-  pub finds_no_remount : (p : ℕ) → (at t).role ≡ Cleared p → remount ≡ 0 → After count (record (at t) { role = PastRemount p })
+  pub finds_no_remount : (p : ℕ) → (at t).role ≡ Cleared p → remount ≡ 0 → HoldsAfter count (record (at t) { role = PastRemount p })
   finds_no_remount p e clear =
       reads (record (at t) { role = PastRemount p }) count refl
       (goes_on good.gate t lt 0 Apart (sym (ap barring_of e)) (ap questions_of e) (ap processor_of e) (λ s. omega (arith, s.0, clear)))
 
   -- a load finds READONLY clear. Meets: READONLY is set before HOLD is cleared
-  pub finds_writable : (p : ℕ) → (at t).role ≡ PastRemount p → ro_bit flags ≡ 0 → After count (record (at t) { role = PastFlags p })
+  pub finds_writable : (p : ℕ) → (at t).role ≡ PastRemount p → ro_bit flags ≡ 0 → HoldsAfter count (record (at t) { role = PastFlags p })
   finds_writable p e clear =
       reads (record (at t) { role = PastFlags p }) count refl
       (goes_on good.gate t lt 1 Apart (sym (ap barring_of e)) (ap questions_of e) (ap processor_of e) (λ s. omega (arith, s, clear)))
 
   -- a load finds the superblock's flag 0, which is the grant
   pub is_granted : (p : ℕ) → (at t).role ≡ PastFlags p → sb ≡ 0 → (at t).held < 1024 →
-      After count (record (at t) { held = (at t).held + 1; role = Out })
+      HoldsAfter count (record (at t) { held = (at t).held + 1; role = Out })
   is_granted p e clear room =
       reads (record (at t) { held = (at t).held + 1; role = Out }) count refl
       (gate_grants good.gate t lt 3 Apart (sym (ap barring_of e)) (ap questions_of e) (omega (arith, ap (λ r. below 0 (processor_of r)) e))
       (inr refl)
-      (λ i le s. each_shut flags remount sb (λ i. 3 ≤ i → ⊥) (λ a b c l. omega arith) (λ a l. omega arith) (λ a l. omega (arith, a, clear)) i s le)
+      (λ i le s. each_shut flags remount sb (λ i. 3 ≤ i → ⊥) (λ a b c l. omega arith) (λ a l. omega arith)
+      (λ a l. omega (arith, a, clear)) i s le)
       room)
 
   -- HOLD is found set, and the task looks again
-  pub waits_on : (p : ℕ) → (at t).role ≡ Asking p → After count (record (at t) { role = Asking p })
+  pub waits_on : (p : ℕ) → (at t).role ≡ Asking p → HoldsAfter count (record (at t) { role = Asking p })
   waits_on p e =
       reads (record (at t) { role = Asking p }) count refl
       (gate_refuses good.gate t lt p Apart (sym (ap barring_of e)) (inl (ap processor_of e, ap questions_of e)))
@@ -87,7 +89,7 @@ module _ {tasks processors flags remount sb : ℕ} {count : ℕ → ℕ} {at : �
   -- one of the four is found set, and the task is to subtract what it added on this processor
   pub is_refused : (p : ℕ) (r : Role) → (at t).role ≡ r → has_hold r ≡ 0 →
       ((processor_of r ≡ suc p) × (questions_of r ≡ 0)) ⊎ ((processor_of r ≡ 0) × (passed_hold r ≡ 1)) →
-      After count (record (at t) { role = BackingOff p })
+      HoldsAfter count (record (at t) { role = BackingOff p })
   is_refused p r e none seeks =
       reads (record (at t) { role = BackingOff p }) count refl
       (gate_refuses good.gate t lt p Apart (sym (ap barring_of e ∙ apart (barring_of r) none))
@@ -98,11 +100,11 @@ module _ {tasks processors flags remount sb : ℕ} {count : ℕ → ℕ} {at : �
 
   module _ (few : tasks ≤ 64) (narrow : processors ≤ 64) (p : ℕ) (lp : p < processors) where
     -- the words and the net additions after an addition on p, and after a subtraction
-    abbrev Up : ℕ → ℕ
-    Up = update count p (wrap_add (count p) 1)
+    abbrev count_up : ℕ → ℕ
+    count_up = update count p (wrap_add (count p) 1)
 
-    abbrev Down : ℕ → ℕ
-    Down = update count p (wrap_sub (count p) 1)
+    abbrev count_down : ℕ → ℕ
+    count_down = update count p (wrap_sub (count p) 1)
 
     abbrev added_more : ℕ → ℕ
     added_more = update (at t).added p ((at t).added p + 1)
@@ -111,19 +113,20 @@ module _ {tasks processors flags remount sb : ℕ} {count : ℕ → ℕ} {at : �
     taken_more = update (at t).taken p ((at t).taken p + 1)
 
     -- an addition by a task that wants the mount, before it looks for HOLD. Meets: HOLD is set before the words are summed
-    pub adds : (at t).role ≡ Out → After Up (record (at t) { added = added_more; role = Asking p })
+    pub adds : (at t).role ≡ Out → HoldsAfter count_up (record (at t) { added = added_more; role = Asking p })
     adds out =
         reads (record (at t) { added = added_more; role = Asking p }) _ refl
         (gate_adds good.gate t lt few narrow p lp Apart (sym (ap barring_of out)) (omega (arith, ap sought out)))
 
     -- a back-off, on its own processor. Meets: a sum reads each word once
-    pub backs_off : (at t).role ≡ BackingOff p → After Down (record (at t) { taken = taken_more; role = Out })
+    pub backs_off : (at t).role ≡ BackingOff p → HoldsAfter count_down (record (at t) { taken = taken_more; role = Out })
     backs_off e =
         reads (record (at t) { taken = taken_more; role = Out }) _ refl
         (gate_backs_off good.gate t lt few narrow p lp Apart (sym (ap barring_of e)) (ap processor_of e) (ap questions_of e))
 
     -- a return, on any processor. Meets: a sum reads each word once
-    pub returns : (h : ℕ) → (at t).role ≡ Out → (at t).held ≡ suc h → After Down (record (at t) { held = h; taken = taken_more; role = Out })
+    pub returns : (h : ℕ) → (at t).role ≡ Out → (at t).held ≡ suc h →
+        HoldsAfter count_down (record (at t) { held = h; taken = taken_more; role = Out })
     returns h e held =
         reads (record (at t) { held = h; taken = taken_more; role = Out }) _ refl
         (gate_returns good.gate t lt few narrow p lp h Apart (sym (ap barring_of e)) held (omega (arith, ap sought e)))
@@ -197,7 +200,7 @@ module _ {tasks processors flags remount sb : ℕ} {count : ℕ → ℕ} {at : �
         (ro_bit f ≡ 1 → total tasks (λ x. (at x).held + past_flags (at x).role) ≡ 0) →
         (remount ≡ 1 → sb ≡ 0 → ro_bit f ≡ 0 → total tasks (λ x. (at x).held + past_remount (at x).role) ≡ 0) →
         ((x : ℕ) → x < tasks → (x ≡ t → ⊥) → skips (at x).role ≡ 1 → ro_bit flags ≡ 1 → ro_bit f ≡ 1) →
-        says good.gate (barring_of r) → (skips r ≡ 1 → ro_bit f ≡ 1) → Becomes r f
+        MaySay good.gate (barring_of r) → (skips r ≡ 1 → ro_bit f ≡ 1) → Becomes r f
     owner_event r f was now bits flag read mark skip own stays =
         let v : MountView = record (at t) { role = r } in
         let same : mount_as_gate v ≡ record (mount_as_gate (at t)) { barring = barring_of r } =
@@ -218,7 +221,7 @@ module _ {tasks processors flags remount sb : ℕ} {count : ℕ → ℕ} {at : �
 
     -- one that leaves READONLY as it was
     keeps_read_only : (r : Role) (f : ℕ) → SeeksNone (at t).role → SeeksNone r → (f < 4) × (ro_bit f ≡ ro_bit flags) →
-        hold_bit f + has_hold (at t).role ≡ hold_bit flags + has_hold r → says good.gate (barring_of r) → skips r ≡ 0 → Becomes r f
+        hold_bit f + has_hold (at t).role ≡ hold_bit flags + has_hold r → MaySay good.gate (barring_of r) → skips r ≡ 0 → Becomes r f
     keeps_read_only r f was now bits flag own none =
         owner_event r f was now bits.0 flag (λ q. closed (sym bits.1 ∙ q)) (λ q q2 q3. remounting q q2 (sym bits.1 ∙ q3))
         (λ x lx ne s q. bits.1 ∙ q) own (λ s. absurd (omega (arith, s, none)))
@@ -227,7 +230,7 @@ module _ {tasks processors flags remount sb : ℕ} {count : ℕ → ℕ} {at : �
     pub sets_hold : tasks ≤ 64 → processors ≤ 64 → 0 < processors → (at t).role ≡ Out → hold_bit flags ≡ 0 →
         Becomes (Summing 0 0) (bit_or flags 2)
     sets_hold few narrow some e clear =
-        let b : HoldSet flags = or_hold flags good.bits in
+        let b : IsWithHold flags (bit_or flags 2) = or_hold flags good.bits in
         keeps_read_only (Summing 0 0) (bit_or flags 2) (ap questions_of e, ap processor_of e) (refl, refl)
         (b.0, b.1) (omega (arith, b, clear, ap has_hold e)) (sum_begins good.gate few narrow some) refl
 
@@ -237,7 +240,7 @@ module _ {tasks processors flags remount sb : ℕ} {count : ℕ → ℕ} {at : �
     sums_on few narrow k sum e more =
         keeps_read_only (Summing (suc k) (wrap_add sum (count k))) flags (ap questions_of e, ap processor_of e)
         (refl, refl) (good.bits, refl) (omega (arith, ap has_hold e))
-        (sum_goes good.gate few narrow k sum more (subst (says good.gate) (ap barring_of e) (good.gate.sums t lt))) refl
+        (sum_goes good.gate few narrow k sum more (subst (MaySay good.gate) (ap barring_of e) (good.gate.sums t lt))) refl
 
     -- the last is read, and the sum is 0: nobody is admitted. Meets: a task looks for HOLD after it added
     pub sums_to_none : tasks ≤ 64 → processors ≤ 64 → (k sum : ℕ) → (at t).role ≡ Summing k sum → suc k ≡ processors →
@@ -245,7 +248,7 @@ module _ {tasks processors flags remount sb : ℕ} {count : ℕ → ℕ} {at : �
     sums_to_none few narrow k sum e last z =
         keeps_read_only Empty flags (ap questions_of e, ap processor_of e) (refl, refl) (good.bits, refl)
         (omega (arith, ap has_hold e))
-        (sum_ends good.gate few narrow k sum last z (subst (says good.gate) (ap barring_of e) (good.gate.sums t lt))) refl
+        (sum_ends good.gate few narrow k sum last z (subst (MaySay good.gate) (ap barring_of e) (good.gate.sums t lt))) refl
 
     -- or somebody was counted
     pub sums_to_some : (k sum : ℕ) → (at t).role ≡ Summing k sum → Becomes Leaving flags
@@ -256,7 +259,7 @@ module _ {tasks processors flags remount sb : ℕ} {count : ℕ → ℕ} {at : �
     -- READONLY is set under HOLD, and still nobody is admitted. Meets: READONLY is loaded after HOLD was found clear
     pub sets_read_only : (at t).role ≡ Empty → (remount ≡ 1 → ⊥) → Becomes Empty (bit_or flags 1)
     sets_read_only e clear =
-        let b : ReadOnlySet flags = or_read_only flags good.bits in
+        let b : IsWithReadOnly flags (bit_or flags 1) = or_read_only flags good.bits in
         owner_event Empty (bit_or flags 1) (ap questions_of e, ap processor_of e) (refl, refl) b.0
         (omega (arith, b, ap has_hold e)) (λ q. nobody good.gate (empties t lt e) 2) (λ q. absurd (clear q)) (λ x lx ne s q. b.1)
         (empties t lt e) (λ s. absurd (omega (arith, s)))
@@ -264,7 +267,7 @@ module _ {tasks processors flags remount sb : ℕ} {count : ℕ → ℕ} {at : �
     -- HOLD is cleared, whatever the sum was. Meets: READONLY and `remount` are loaded after HOLD was found clear
     pub clears_hold : SeeksNone (at t).role → has_hold (at t).role ≡ 1 → Becomes Out (without_hold flags)
     clears_hold none one =
-        let b : HoldCleared flags = and_not_hold flags good.bits in
+        let b : IsWithoutHold flags (without_hold flags) = and_not_hold flags good.bits in
         keeps_read_only Out (without_hold flags) none (refl, refl) (b.0, b.1)
         (omega (arith, b, one, hold, good.bits, total_at tasks t (λ x. has_hold (at x).role) lt)) tt refl
 
@@ -272,7 +275,7 @@ module _ {tasks processors flags remount sb : ℕ} {count : ℕ → ℕ} {at : �
     pub clears_read_only : (at t).role ≡ Out → (remount ≡ 1 → ⊥) → ((x : ℕ) → x < tasks → (x ≡ t → ⊥) → skips (at x).role ≡ 1 → ⊥) →
         Becomes Out (without_read_only flags)
     clears_read_only e clear none =
-        let b : ReadOnlyCleared flags = and_not_read_only flags good.bits in
+        let b : IsWithoutReadOnly flags (without_read_only flags) = and_not_read_only flags good.bits in
         owner_event Out (without_read_only flags) (ap questions_of e, ap processor_of e) (refl, refl) b.0
         (omega (arith, b, ap has_hold e)) (λ q. absurd (omega (arith, b, q))) (λ q. absurd (clear q)) (λ x lx ne s. absurd (none x lx ne s))
         tt (λ s. absurd (omega (arith, s)))

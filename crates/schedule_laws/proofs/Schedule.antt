@@ -15,7 +15,7 @@ use Rattle.access_model.specs.Actions.{IsAllowed, after_action}
 use Rattle.cpu_words.specs.Hooks.{HookAnswer}
 use Rattle.mount_counts.specs.Roles.{processor_of, counted, sought, mount_shut}
 use Rattle.gate_counts.proofs.Numbers.{below_le}
-use Rattle.gate_counts.proofs.Views.{words_sum}
+use Rattle.gate_counts.proofs.Events.{words_sum}
 use Rattle.gate_counts.proofs.Flags.{gate_begins}
 use Rattle.gate_world.specs.declared.config.Config.{Config}
 use Rattle.gate_world.specs.declared.operations.Op.{Op}
@@ -26,7 +26,7 @@ use Rattle.gate_world.specs.Views.{held_at, holds_level, begun_view}
 use Rattle.gate_world.specs.Beginnings.{first_phase, view_refusal}
 use Rattle.gate_world.specs.Worlds.{World, Entry, Begins, Steps, after_begin, begin_of, step_of, happens, phase_action, action_of, task_of, with_action, run, opening, history}
 use Rattle.gate_world.specs.Shown.{shown}
-use Rattle.gate_world.specs.Rules.{role_of, at_mount, MountIn, IsSteady, ViewFits, Part, Owner, Superblock, Stages, Fitting, AtMount, Holds, IsGood, Moves, owns, Known}
+use Rattle.gate_world.specs.Rules.{role_of, at_mount, MountHoldsIn, IsSteady, ViewFits, Part, Owner, Superblock, Stages, Fitting, AtMount, Holds, IsGood, Moves, owns, Known}
 use Rattle.gate_world.specs.Headline.{SumsHold, IdleSumsHold}
 use Rattle.schedule_laws.proofs.Layers.{phase_keeps, op_keeps}
 use Rattle.schedule_laws.proofs.Beginnings.{MayBegin, may_begin, first_fits}
@@ -134,9 +134,9 @@ module _ (c : Config) (lim : IsWithin c) where
   -- a mount's words sum to what is counted, as a whole number
   pub gate_sums : (w : World) → IsGood c w → SumsHold c w
   gate_sums w good m lm =
-      let g : MountIn c w m = good (AtMount m) lm in
+      let g : MountHoldsIn c w m = good (AtMount m) lm in
       let s : total c.processors (w.words.count m) % 18446744073709551616 ≡
-          total c.tasks (λ t. counted (at_mount m (w.views t))) % 18446744073709551616 = words_sum g.gate.counts in
+      total c.tasks (λ t. counted (at_mount m (w.views t))) % 18446744073709551616 = words_sum g.gate.counts in
       let b : total c.tasks (λ t. counted (at_mount m (w.views t))) ≤ c.tasks * 1025 =
       total_bound c.tasks 1025 _ (λ x lx. omega (arith, g.gate.room x lx, below_le 0 (processor_of (role_of m (w.views x).phase)))) in
       omega (arith, lim.tasks)

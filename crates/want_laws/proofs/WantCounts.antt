@@ -26,7 +26,7 @@ use Rattle.gate_world.specs.Configs.{IsWithin}
 use Rattle.gate_world.specs.Views.{held_at, added_by, taken_by, view_with}
 use Rattle.gate_world.specs.Worlds.{World}
 use Rattle.gate_world.specs.Rules.{role_of, at_mount, IsSteady, IsGood, GateStepKeeps, AtMount, GatesHold}
-use Rattle.gate_frames.proofs.Frames.{role_on, role_off, view_as, holds_as, MountAfter, owner_same, gates_after, shown_as, shown_still}
+use Rattle.gate_frames.proofs.Frames.{role_on, role_off, view_as, holds_as, MountHoldsAfter, owner_same, gates_after, shown_as, shown_still}
 use Rattle.gate_frames.proofs.Loads.{as_owner, fits_now}
 use Rattle.want_laws.proofs.WantLoads.{want, want_here, want_off}
 
@@ -49,7 +49,8 @@ module _ (c : Config) (lim : IsWithin c) (w : World) (good : IsGood c w) (t : �
                   (role_off y m (Asking p) ne ∙ sym (want_off m p wait CountsUp e y ne)),
             ))
             (λ lm. holds_as refl refl refl (update_at w.words.count m word)
-            (ap (update (λ x. at_mount m (w.views x)) t) (view_as refl (update_at (added_by (w.views t).events) m net) refl (role_on m (Asking p))))
+            (ap (update (λ x. at_mount m (w.views x)) t)
+            (view_as refl (update_at (added_by (w.views t).events) m net) refl (role_on m (Asking p))))
             (adds (good (AtMount m) lm) t lt lim.tasks lim.processors p f.1 (want_here m p wait CountsUp e))),
         shown_still c w t lt ws v refl refl refl refl refl refl same.closing_same refl refl,
       )
@@ -73,7 +74,7 @@ module _ (c : Config) (lim : IsWithin c) (w : World) (good : IsGood c w) (t : �
     pub take_law : (h : ℕ) (answer : Result Reply GateError) (action : Option Action) →
         ((y : ℕ) → (y ≡ m → ⊥) → role_of y (w.views t).phase ≡ Out) → IsSteady (w.views t).phase None →
         held_at (done answer action) m ≡ h → ((y : ℕ) → (y ≡ m → ⊥) → held_at (done answer action) y ≡ held_at (w.views t) y) →
-        MountAfter c w t m (w.words.flags m) less (record (at_mount m (w.views t)) { held = h; taken = net; role = Out }) →
+        MountHoldsAfter c w t m (w.words.flags m) less (record (at_mount m (w.views t)) { held = h; taken = net; role = Out }) →
         GatesHold c (record { words = words_less; views = update w.views t (done answer action) })
     take_law h answer action off same held others own =
         gates_after c w t lt good m words_less (done answer action) refl refl (owner_same c w t lt good (done answer action) same) tt

@@ -32,8 +32,8 @@ use Rattle.gate_world.specs.Views.{held_at, holds_level, phase_after, view_with}
 use Rattle.gate_world.specs.Fits.{Fits}
 use Rattle.gate_world.specs.Worlds.{World}
 use Rattle.gate_world.specs.Shown.{shown, closing}
-use Rattle.gate_world.specs.Rules.{want_role, role_of, at_mount, owns, remounts, IsSteady, IsGood, GateStepKeeps, AtMount, MountIn, GatesHold}
-use Rattle.gate_frames.proofs.Frames.{role_on, role_off, view_as, holds_as, MountAfter, owner_same, gates_after, shown_as}
+use Rattle.gate_world.specs.Rules.{want_role, role_of, at_mount, owns, remounts, IsSteady, IsGood, GateStepKeeps, AtMount, MountHoldsIn, GatesHold}
+use Rattle.gate_frames.proofs.Frames.{role_on, role_off, view_as, holds_as, MountHoldsAfter, owner_same, gates_after, shown_as}
 use Rattle.gate_frames.proofs.Loads.{as_owner, after_load, load_law, fits_now}
 
 abbrev pub want : ℕ → ℕ → Bool → WantStep → MountPhase
@@ -51,24 +51,24 @@ want_off m p wait s e y ne = ap (role_of y) e ∙ role_off y m (want_role p s) n
 
 module _ (c : Config) (w : World) (good : IsGood c w) (t : ℕ) (lt : t < c.tasks) (m p : ℕ) (wait : Bool) (hook : HookAnswer) where
   -- the want is at this step
-  abbrev pub At : WantStep → Type 0
-  At s = (w.views t).phase ≡ Some (Mounts (want m p wait s))
+  abbrev pub IsAt : WantStep → Type 0
+  IsAt s = (w.views t).phase ≡ Some (Mounts (want m p wait s))
 
   -- the mount after the task's role there is that of a step
   abbrev pub Becomes : WantStep → Type 0
-  Becomes s = MountAfter c w t m (w.words.flags m) (w.words.count m) (record (at_mount m (w.views t)) { role = want_role p s })
+  Becomes s = MountHoldsAfter c w t m (w.words.flags m) (w.words.count m) (record (at_mount m (w.views t)) { role = want_role p s })
 
   -- its numbers, and room for its access
-  pub fits_here : (s : WantStep) → At s → (m < c.mounts) × (p < c.processors) × (held_at (w.views t) m < 1024)
+  pub fits_here : (s : WantStep) → IsAt s → (m < c.mounts) × (p < c.processors) × (held_at (w.views t) m < 1024)
   fits_here s e = fits_now c w good t lt (want m p wait s) e
 
   -- the mount's part of the rule
-  pub here : (s : WantStep) → At s → MountIn c w m
-  here s e = good (AtMount m) (fits_here s e).0
+  pub mount_here : (s : WantStep) → IsAt s → MountHoldsIn c w m
+  mount_here s e = good (AtMount m) (fits_here s e).0
 
   -- a load by a want, after which it is at another step
   pub want_load : (name : WordName) (s s' : WantStep) (coming : Next Phase) →
-      At s → phase_after coming ≡ Some (Mounts (want m p wait s')) → Becomes s' →
+      IsAt s → phase_after coming ≡ Some (Mounts (want m p wait s')) → Becomes s' →
       GatesHold c (after_load w t name hook coming) × (shown c (after_load w t name hook coming) ≡ shown c w)
   want_load name s s' coming e ec own =
       load_law c w good t lt m name hook coming (λ y ne. want_off m p wait s' ec y ne ∙ sym (want_off m p wait s e y ne))
@@ -78,76 +78,87 @@ module _ (c : Config) (w : World) (good : IsGood c w) (t : ℕ) (lt : t < c.task
       (ap (update (λ x. at_mount m (w.views x)) t) (view_as refl refl refl (want_here m p wait s' ec))) own)
 
   -- a refusal: the access is sought still, on its word
-  pub want_refused : (name : WordName) (s : WantStep) (refusal : GateError) → At s → has_hold (want_role p s) ≡ 0 →
+  pub want_refused : (name : WordName) (s : WantStep) (refusal : GateError) → IsAt s → has_hold (want_role p s) ≡ 0 →
       ((processor_of (want_role p s) ≡ suc p) × (questions_of (want_role p s) ≡ 0)) ⊎
       ((processor_of (want_role p s) ≡ 0) × (passed_hold (want_role p s) ≡ 1)) →
       let coming : Next Phase = Go (Mounts (want m p wait (CountsDown refusal))) in
       GatesHold c (after_load w t name hook coming) × (shown c (after_load w t name hook coming) ≡ shown c w)
   want_refused name s refusal e none seeks =
       want_load name s (CountsDown refusal) (Go (Mounts (want m p wait (CountsDown refusal)))) e refl
-      (is_refused (here s e) t lt p (want_role p s) (want_here m p wait s e) none seeks)
+      (is_refused (mount_here s e) t lt p (want_role p s) (want_here m p wait s e) none seeks)
 
   -- loads `remount` after HOLD was found clear; meets: `remount` is set before HOLD is cleared
-  pub loads_remount : At LoadsRemount → GateStepKeeps c w t hook (Mounts (want m p wait LoadsRemount))
+  pub loads_remount : IsAt LoadsRemount → GateStepKeeps c w t hook (Mounts (want m p wait LoadsRemount))
   loads_remount e =
       elim (eqb_tells w.words.remount 0) [
         | inl h ↦ rw h.0 (want_load Remount LoadsRemount LoadsReadOnly (Go (Mounts (want m p wait LoadsReadOnly))) e refl
-            (finds_no_remount (here LoadsRemount e) t lt p (want_here m p wait LoadsRemount e) h.1))
+            (finds_no_remount (mount_here LoadsRemount e) t lt p (want_here m p wait LoadsRemount e) h.1))
         | inr h ↦ rw h.0 (want_refused Remount LoadsRemount ReadOnly e refl (inr (refl, refl)))
       ]
 
   -- loads READONLY after HOLD was found clear; meets: READONLY is set before HOLD is cleared
-  pub loads_read_only : At LoadsReadOnly → GateStepKeeps c w t hook (Mounts (want m p wait LoadsReadOnly))
+  pub loads_read_only : IsAt LoadsReadOnly → GateStepKeeps c w t hook (Mounts (want m p wait LoadsReadOnly))
   loads_read_only e =
       elim (cases_Bool (has_flag (w.words.flags m) 1)) [
         | inl h ↦ rw h (want_refused (MountFlags m) LoadsReadOnly ReadOnly e refl (inr (refl, refl)))
         | inr h ↦ rw h (want_load (MountFlags m) LoadsReadOnly LoadsSuperblock (Go (Mounts (want m p wait LoadsSuperblock))) e refl
-            (finds_writable (here LoadsReadOnly e) t lt p (want_here m p wait LoadsReadOnly e)
-            (read_only_clear (w.words.flags m) (here LoadsReadOnly e).bits h)))
+            (finds_writable (mount_here LoadsReadOnly e) t lt p (want_here m p wait LoadsReadOnly e)
+            (read_only_clear (w.words.flags m) (mount_here LoadsReadOnly e).bits h)))
       ]
 
   -- HOLD was found clear, and the task is admitted
-  pub hold_was_clear : At LoadsHold → has_flag (w.words.flags m) 2 ≡ false → Becomes LoadsRemount
+  pub hold_was_clear : IsAt LoadsHold → has_flag (w.words.flags m) 2 ≡ false → Becomes LoadsRemount
   hold_was_clear e h =
-      finds_hold_clear (here LoadsHold e) t lt p (want_here m p wait LoadsHold e)
-      (hold_clear (w.words.flags m) (here LoadsHold e).bits h) (fits_here LoadsHold e).2
+      finds_hold_clear (mount_here LoadsHold e) t lt p (want_here m p wait LoadsHold e)
+      (hold_clear (w.words.flags m) (mount_here LoadsHold e).bits h) (fits_here LoadsHold e).2
 
 module _ (c : Config) (w : World) (good : IsGood c w) (t : ℕ) (lt : t < c.tasks) (m p : ℕ) (hook : HookAnswer) where
   -- loads HOLD after it added, and where it is set waits or backs off; meets: HOLD is set before the words are summed
-  pub loads_hold : (wait : Bool) → At c w good t lt m p wait hook LoadsHold → GateStepKeeps c w t hook (Mounts (want m p wait LoadsHold))
+  pub loads_hold : (wait : Bool) → IsAt c w good t lt m p wait hook LoadsHold → GateStepKeeps c w t hook (Mounts (want m p wait LoadsHold))
   loads_hold true e =
       elim (cases_Bool (has_flag (w.words.flags m) 2)) [
-        | inl h ↦ rw h (want_load c w good t lt m p true hook (MountFlags m) LoadsHold LoadsHold (Wait (Mounts (want m p true LoadsHold))) e refl
-            (waits_on (here c w good t lt m p true hook LoadsHold e) t lt p (want_here m p true LoadsHold e)))
-        | inr h ↦ rw h (want_load c w good t lt m p true hook (MountFlags m) LoadsHold LoadsRemount (Go (Mounts (want m p true LoadsRemount)))
-            e refl (hold_was_clear c w good t lt m p true hook e h))
+        | inl h ↦ rw h (want_load c w good t lt m p true hook (MountFlags m) LoadsHold LoadsHold
+            (Wait (Mounts (want m p true LoadsHold))) e refl
+            (waits_on (mount_here c w good t lt m p true hook LoadsHold e) t lt p (want_here m p true LoadsHold e)))
+        | inr h ↦ rw h (want_load c w good t lt m p true hook (MountFlags m) LoadsHold LoadsRemount
+            (Go (Mounts (want m p true LoadsRemount))) e refl (hold_was_clear c w good t lt m p true hook e h))
       ]
   loads_hold false e =
       elim (cases_Bool (has_flag (w.words.flags m) 2)) [
         | inl h ↦ rw h (want_refused c w good t lt m p false hook (MountFlags m) LoadsHold Again e refl (inl (refl, refl)))
-        | inr h ↦ rw h (want_load c w good t lt m p false hook (MountFlags m) LoadsHold LoadsRemount (Go (Mounts (want m p false LoadsRemount)))
-            e refl (hold_was_clear c w good t lt m p false hook e h))
+        | inr h ↦ rw h (want_load c w good t lt m p false hook (MountFlags m) LoadsHold LoadsRemount
+            (Go (Mounts (want m p false LoadsRemount))) e refl (hold_was_clear c w good t lt m p false hook e h))
       ]
 
 module _ (c : Config) (w : World) (good : IsGood c w) (t : ℕ) (lt : t < c.tasks) (m p : ℕ) (wait : Bool) (hook : HookAnswer) where
   -- nothing read-only stands where a task has passed its three loads
-  not_read_only : At c w good t lt m p wait hook LoadsSuperblock → w.words.sb ≡ 0 →
+  not_read_only : IsAt c w good t lt m p wait hook LoadsSuperblock → w.words.sb ≡ 0 →
       ((shown c w).mount_ro m ≡ false) × ((shown c w).sb_ro ≡ false)
   not_read_only e z =
       let r : role_of m (w.views t).phase ≡ PastFlags p = want_here m p wait LoadsSuperblock e in
-      let g : MountIn c w m = here c w good t lt m p wait hook LoadsSuperblock e in
+      let g : MountHoldsIn c w m = mount_here c w good t lt m p wait hook LoadsSuperblock e in
       let open_now : ro_bit (w.words.flags m) ≡ 1 → ⊥ = λ q.
-          omega (arith, closed g q, ap past_flags r,
-          total_at c.tasks t (λ x. held_at (w.views x) m + past_flags (role_of m (w.views x).phase)) lt) in
+      omega (
+        arith,
+        closed g q,
+        ap past_flags r,
+        total_at c.tasks t (λ x. held_at (w.views x) m + past_flags (role_of m (w.views x).phase)) lt,
+      ) in
       let writable : w.words.remount ≡ 1 → ⊥ = λ q.
-          omega (arith, remounting g q z (omega (arith, open_now)), ap past_remount r,
-          total_at c.tasks t (λ x. held_at (w.views x) m + past_remount (role_of m (w.views x).phase)) lt) in
+      omega (
+        arith,
+        remounting g q z (omega (arith, open_now)),
+        ap past_remount r,
+        total_at c.tasks t (λ x. held_at (w.views x) m + past_remount (role_of m (w.views x).phase)) lt,
+      ) in
       (ne_eqb (ro_bit (w.words.flags m)) 1 open_now, rw (ne_eqb w.words.remount 1 writable, z) refl)
 
   -- loads the superblock's flag last, and where it is clear the access is granted; meets: a superblock is sealed while `remount` is set
-  pub loads_superblock : At c w good t lt m p wait hook LoadsSuperblock → GateStepKeeps c w t hook (Mounts (want m p wait LoadsSuperblock))
+  pub loads_superblock : IsAt c w good t lt m p wait hook LoadsSuperblock →
+      GateStepKeeps c w t hook (Mounts (want m p wait LoadsSuperblock))
   loads_superblock e =
-      let f : (m < c.mounts) × (p < c.processors) × (held_at (w.views t) m < 1024) = fits_here c w good t lt m p wait hook LoadsSuperblock e in
+      let f : (m < c.mounts) × (p < c.processors) × (held_at (w.views t) m < 1024) =
+      fits_here c w good t lt m p wait hook LoadsSuperblock e in
       elim (eqb_tells w.words.sb 0) [
         | inl h ↦
             let v : View = view_with (w.views t) (SbFlags, Load) w.words.sb hook (Done (Ok UnitReply), Some (Grant (Mount m))) in
@@ -163,7 +174,8 @@ module _ (c : Config) (w : World) (good : IsGood c w) (t : ℕ) (lt : t < c.task
             ))
             (λ lm. holds_as refl refl refl refl
             (ap (update (λ x. at_mount m (w.views x)) t) (view_as (update_at (held_at (w.views t)) m more) refl refl refl))
-            (is_granted (here c w good t lt m p wait hook LoadsSuperblock e) t lt p (want_here m p wait LoadsSuperblock e) h.1 f.2)) in
+            (is_granted (mount_here c w good t lt m p wait hook LoadsSuperblock e) t lt p
+            (want_here m p wait LoadsSuperblock e) h.1 f.2)) in
             rw h.0 (there, ((lt, (f.0, r.0, r.1, f.2)), shown_as c w t lt w.words v refl same.closing_same))
         | inr h ↦ rw h.0 (want_refused c w good t lt m p wait hook SbFlags LoadsSuperblock ReadOnly e refl (inr (refl, refl)))
       ]

@@ -1,4 +1,4 @@
-use Rattle.gate_counts.proofs.Views.{words_sum}
+use Rattle.gate_counts.proofs.Events.{words_sum}
 use Rattle.mount_laws.proofs.words_sum_to_what_is_counted.Goals as goal
 
 pub returns : goal.returns

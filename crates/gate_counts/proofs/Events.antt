@@ -4,7 +4,7 @@ use Rattle.std.specs.Prelude.{◌⊎◌}
 use Rattle.finite_sums.specs.Sums.{update, total}
 use Rattle.cpu_words.specs.Sums.{lead}
 use Rattle.finite_sums.proofs.Totals.{each_updated, total_same, total_updated, total_add, total_swap, total_at, residues}
-use Rattle.gate_counts.specs.Gates.{Barring, Apart, Reading, ReadZero, Silent, bars, below, GateView, past, admitted, unread, counted, BarringHolds, CountsHold, GateHolds}
+use Rattle.gate_counts.specs.Gates.{Barring, Apart, Reading, ReadZero, Silent, bars, GateView, past, admitted, unread, counted, BarringHolds, CountsHold, GateHolds}
 
 -- the words of a gate sum to what is counted
 pub words_sum : {tasks processors : ℕ} {count : ℕ → ℕ} {at : ℕ → GateView} → CountsHold tasks processors count at →
@@ -17,7 +17,7 @@ words_sum {tasks} {processors} {count} {at} net =
     let own : total tasks (λ t. total processors (at t).added) ≡ total tasks (λ t. total processors (at t).taken + counted (at t)) =
     total_same tasks _ _ net.own in
     let parts : total tasks (λ t. total processors (at t).taken + counted (at t)) ≡
-        total tasks (λ t. total processors (at t).taken) + total tasks (λ t. counted (at t)) =
+    total tasks (λ t. total processors (at t).taken) + total tasks (λ t. counted (at t)) =
     total_add tasks (λ t. total processors (at t).taken) (λ t. counted (at t)) in
     omega (arith, words, own, parts, total_swap tasks processors (λ t. (at t).taken), total_swap tasks processors (λ t. (at t).added))
 
@@ -86,11 +86,11 @@ module _ {tasks processors bit unowned : ℕ} {shut : ℕ → Type 0} {count : �
       ((i : ℕ) → shut i → past i v ≤ past i (at t)) →
       GateHolds tasks processors bit unowned shut count' (update at t v)
   reader_event v count' up down counts room same sums moved open_to =
-      let Says : Barring → Type 0 =
+      let MaySay : Barring → Type 0 =
       BarringHolds processors count' (total tasks (λ x. admitted (update at t v x))) (λ k. total tasks (λ x. unread k (update at t v x))) in
       let fewer : total tasks (λ x. admitted (update at t v x)) + admitted (at t) ≡ total tasks (λ x. admitted (at x)) + admitted v =
       total_updated admitted tasks t at v lt in
-      let each : (x : ℕ) → x < tasks → Says (at x).barring = λ x lx.
+      let each : (x : ℕ) → x < tasks → MaySay (at x).barring = λ x lx.
       elim sums [
         | inl clear ↦ apart_holds processors count' _ _ (at x).barring
             (omega (arith, clear, good.flag, total_at tasks x (λ y. bars (at y).barring) lx))
@@ -103,7 +103,7 @@ module _ {tasks processors bit unowned : ℕ} {shut : ℕ → Type 0} {count : �
         counts = counts;
         room = λ x lx. each_updated (λ y w. admitted w ≤ 1024) at t v x room (λ ne. good.room x lx);
         flag = omega (arith, ap bars same, good.flag, total_updated (λ w. bars w.barring) tasks t at v lt);
-        sums = λ x lx. each_updated (λ y w. Says w.barring) at t v x (subst Says (sym same) (each t lt)) (λ ne. each x lx);
+        sums = λ x lx. each_updated (λ y w. MaySay w.barring) at t v x (subst MaySay (sym same) (each t lt)) (λ ne. each x lx);
         open_to = λ i s.
             omega (arith, good.open_to i s, open_to i s, total_updated (past i) tasks t at v lt, total_at tasks t (λ x. past i (at x)) lt);
       }
@@ -120,10 +120,10 @@ module _ {tasks processors bit unowned : ℕ} {shut : ℕ → Type 0} {count : �
       omega (arith, total_updated admitted tasks t at v lt) in
       let u : (k : ℕ) → total tasks (λ x. unread k (update at t v x)) ≡ total tasks (λ x. unread k (at x)) =
       λ k. omega (arith, total_updated (unread k) tasks t at v lt) in
-      let Says : Barring → Type 0 =
+      let MaySay : Barring → Type 0 =
       BarringHolds processors count (total tasks (λ x. admitted (update at t v x))) (λ k. total tasks (λ x. unread k (update at t v x))) in
       let each : (x : Barring) →
-          BarringHolds processors count (total tasks (λ x. admitted (at x))) (λ k. total tasks (λ x. unread k (at x))) x → Says x =
+      BarringHolds processors count (total tasks (λ x. admitted (at x))) (λ k. total tasks (λ x. unread k (at x))) x → MaySay x =
       barring_kept processors count count _ _ _ _
       (λ k sum d. (d.0, omega (arith, d, a, u k), omega (arith, d, a, u k))) (λ d. omega (arith, d, a)) in
       record {
@@ -131,6 +131,6 @@ module _ {tasks processors bit unowned : ℕ} {shut : ℕ → Type 0} {count : �
             (good.counts.own t lt);
         room = λ x lx. each_updated (λ y w. admitted w ≤ 1024) at t v x (good.room t lt) (λ ne. good.room x lx);
         flag = omega (arith, flag, good.flag, total_updated (λ w. bars w.barring) tasks t at v lt);
-        sums = λ x lx. each_updated (λ y w. Says w.barring) at t v x (each b own) (λ ne. each (at x).barring (good.sums x lx));
+        sums = λ x lx. each_updated (λ y w. MaySay w.barring) at t v x (each b own) (λ ne. each (at x).barring (good.sums x lx));
         open_to = λ i s. omega (arith, open_to i s, total_updated (past i) tasks t at v lt);
       }
