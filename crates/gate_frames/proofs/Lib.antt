@@ -1,3 +1,4 @@
 pub mod Frames
 pub mod Loads
+pub mod Snapshots
 pub mod Keeps

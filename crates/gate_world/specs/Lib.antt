@@ -1,11 +1,13 @@
 pub mod Configs
 pub mod Work
+pub mod Snapshots
 pub mod Views
 pub mod Found
 pub mod Operations
 pub mod Beginnings
 pub mod Worlds
 pub mod Shown
+pub mod Moments
 pub mod Fits
 pub mod Rules
 pub mod Courses

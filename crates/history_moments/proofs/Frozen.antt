@@ -71,7 +71,8 @@ module _ (l : Limits) (s : State) (t : ℕ) (lt : t < l.tasks) (nobody : NobodyH
 -- so it is after any legal history
 sealed_at : (l : Limits) (log : List Done) → IsLegal l log → IsSealed l (end_of log)
 sealed_at l [] legal = record { shut = λ e. absurd (omega arith); clean = λ e. absurd (omega arith) }
-sealed_at l (a ∷ earlier) legal = step l (end_of earlier) a.0 legal.0.0 (closed l earlier legal.1) (sealed_at l earlier legal.1) a.1 legal.0.1
+sealed_at l (a ∷ earlier) legal =
+    step l (end_of earlier) a.0 legal.0.0 (closed l earlier legal.1) (sealed_at l earlier legal.1) a.1 legal.0.1
 
 -- what is frozen is clean
 pub frozen_clean : (l : Limits) (log : List Done) → IsLegal l log → (end_of log).stage ≡ 4 → IsClean l (end_of log)

@@ -27,7 +27,8 @@ part_append t [] earlier = refl
 part_append t (a ∷ later) earlier =
     let more : own_part t (later ++ earlier) ≡ own_part t later ++ own_part t earlier = part_append t later earlier in
     let whole : List Action = own_part t (later ++ earlier) in
-    elim (a.0 == t) as (λ b. (if b then a.1 ∷ whole else whole) ≡ (if b then a.1 ∷ own_part t later else own_part t later) ++ own_part t earlier) [
+    let own : List Action = own_part t later in
+    elim (a.0 == t) as (λ b. (if b then a.1 ∷ whole else whole) ≡ (if b then a.1 ∷ own else own) ++ own_part t earlier) [
       | true ↦ ap (λ l. a.1 ∷ l) more
       | false ↦ more
     ]

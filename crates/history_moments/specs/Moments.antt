@@ -38,7 +38,8 @@ CutsLists (k ∷ ks) earlier lists = CutsList k.0 k.1 earlier (lists k.0) × Cut
 
 -- What a moment of a history tells: what was done until then is a legal history too, it cuts each of these numbers' own lists where the
 -- number had done so many actions, and no node of the tree is dirty.
-pub record MomentTells (l : Limits) (tree : ℕ → Option NodeInfo) (done : List (ℕ × ℕ)) (lists : ℕ → List Action) (earlier : List Done) : Type 0 where
+pub record MomentTells
+    (l : Limits) (tree : ℕ → Option NodeInfo) (done : List (ℕ × ℕ)) (lists : ℕ → List Action) (earlier : List Done) : Type 0 where
   pub legal : IsLegal l earlier
   pub cuts : CutsLists done earlier lists
   pub clean : (n : ℕ) → n < l.nodes → is_dirty (tree n) ≡ false

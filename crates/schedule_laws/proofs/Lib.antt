@@ -2,4 +2,5 @@ pub mod Layers
 pub mod Entries
 pub mod Schedule
 pub mod Lists
+pub mod Snapshots
 pub mod Whole
