@@ -1,5 +1,5 @@
 -- All that is proved of a change.
-use Rattle.std.proofs.Common.{ℕ, Bool, ap, refl, subst}
+use Rattle.std.proofs.Common.{ℕ, Bool, ap, arith, refl, subst}
 use Rattle.std.specs.Prelude.{Some, Err}
 use Rattle.std.proofs.lemmas.Bool.{ltb-true}
 use Rattle.access_model.specs.declared.errors.GateError.TheVariants.{Busy}
@@ -9,10 +9,11 @@ use Rattle.mount_counts.specs.declared.phases.ChangeStep.TheVariants.{Releases}
 use Rattle.gate_world.specs.declared.config.Config.{Config}
 use Rattle.gate_world.specs.declared.work.Phase.TheVariants.{Mounts}
 use Rattle.gate_world.specs.Fits.{Fits}
-use Rattle.gate_frames.proofs.Keeps.{none_agree, PhaseKeeps, OpKeeps}
+use Rattle.gate_frames.proofs.Keeps.{by_bool, none_agree, PhaseKeeps, IsSmall, OpKeeps}
 use Rattle.gate_frames.proofs.Loads.{role_none}
 use Rattle.gate_frames.proofs.Snapshots.{completes_none}
 use Rattle.gate_world.specs.declared.operations.Op.TheVariants.{ChangeMount}
+use Rattle.gate_world.specs.Traces.{most_events}
 use Rattle.trace_laws.proofs.Says.{tells, is_short}
 use Rattle.gate_world.specs.KeptCauses.{ChangeCause}
 use Rattle.gate_world.specs.Worlds.{after_step}
@@ -50,4 +51,5 @@ change_op c m ro wait = record {
   room_agrees = λ f g mounts there. refl;
   tells = λ lim t trace h. tells (ChangeAt c t m ro wait) c t (ChangeMount m ro wait) (change_traced c lim t m ro wait) trace h;
   short = λ lim t trace h. is_short (ChangeAt c t m ro wait) c t (ChangeMount m ro wait) (change_traced c lim t m ro wait) trace h;
+  most_small = λ lim. by_bool wait (λ w. IsSmall (most_events c (ChangeMount m ro w))) tt (omega (arith, lim.processors));
 }

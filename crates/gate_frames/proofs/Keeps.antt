@@ -1,6 +1,6 @@
 -- What the crate of an operation proves of it: of each of its phases, and of its beginning and its trace.
 use Rattle.std.proofs.Common.{◌≡◌, ℕ, ◌<◌, ◌≤◌, Bool, true, false, arith}
-use Rattle.std.specs.Prelude.{Some, None, List, ◌∷◌}
+use Rattle.std.specs.Prelude.{Option, Some, None, List, ◌∷◌}
 use Rattle.cpu_words.specs.Names.{IsWord}
 use Rattle.cpu_words.specs.Hooks.{HookAnswer}
 use Rattle.gate_world.specs.declared.config.Config.{Config}
@@ -60,6 +60,15 @@ pub record PhaseKeeps (c : Config) (phase : Phase) : Type 0 where
   -- its cause says what is to be told
   pub tells : (t : ℕ) (w : World) (earlier : List World) → CauseOf c t w earlier (Some phase) → HasCause c t (w ∷ earlier) (Some phase)
 
+-- the most events of any operation that has a most number of them
+abbrev pub most_events_of_all : ℕ
+most_events_of_all = 132
+
+-- where there is a most number of events, it is no more
+abbrev pub IsSmall : Option ℕ → Type 0
+IsSmall None = Unit {0}
+IsSmall (Some most) = most ≤ most_events_of_all
+
 -- of one operation
 pub record OpKeeps (c : Config) (op : Op) : Type 0 where
   -- where it may begin, its first phase fits
@@ -74,3 +83,5 @@ pub record OpKeeps (c : Config) (op : Op) : Type 0 where
   -- its trace tells what is to be told, and is short
   pub tells : IsWithin c → (t : ℕ) (trace : List Traced) → IsTrace c t op trace → Tells c op trace (course_of c t op trace).comes (course_of c t op trace).added
   pub short : IsWithin c → (t : ℕ) (trace : List Traced) → IsTrace c t op trace → IsShort (most_events c op) trace
+  -- its most number of events is small, where it has one
+  pub most_small : IsWithin c → IsSmall (most_events c op)

@@ -22,51 +22,126 @@ use Rattle.atomic_table.specs.Seated.{TableId}
 use Rattle.vfs_gates.specs.TaskStates.{TaskState, task_state, own_number, own_view, refusal_at}
 use Rattle.vfs_gates.specs.Ties.{PhaseOk, OwnTies, Ties}
 use Rattle.vfs_gates.specs.Turns.{kept_at, IsTied, StayTied}
-use Rattle.vfs_gates.specs.Runs.{Goes, Went, outcome_of, Called}
+use Rattle.vfs_gates.specs.Runs.{Goes, Went, Called}
+use Rattle.vfs_gates.specs.declared.task.Task.TheInside.{Inside}
 use Rattle.vfs_gates.proofs.Running.{starts}
 
+-- what was not refused has no refusal
 not_refused : (o : Option GateError) → Ok tt ≡ unless_refused o → o ≡ None
 not_refused None is = refl
 not_refused (Some refusal) is = absurd (let f : ◌≡◌ {A = Result (Unit {0}) GateError} (Ok tt) (Err refusal) = is in let g : ⊥ = cc in g)
 
+-- an option that has nothing in it
 none_of : (o : Option Phase) → is_some o ≡ false → o ≡ None
 none_of None is = refl
 none_of (Some phase) is = absurd (cc)
 
 -- the phase that the operation stands at, where it goes on
-pub stands_at : {A : Type 0} (as_phase : A → Phase) (next : Next A) (x : A) → (next ≡ Go x) ⊎ (next ≡ Wait x) → phase_after (at_phases as_phase next) ≡ Some (as_phase x)
+pub stands_at : {A : Type 0} (as_phase : A → Phase) (next : Next A) (x : A) → (next ≡ Go x) ⊎ (next ≡ Wait x) →
+    phase_after (at_phases as_phase next) ≡ Some (as_phase x)
 stands_at as_phase next x (inl is) = ap (λ n. phase_after (at_phases as_phase n)) is
 stands_at as_phase next x (inr is) = ap (λ n. phase_after (at_phases as_phase n)) is
 
+-- and what comes next, where it replied
+pub done_at : {A : Type 0} (as_phase : A → Phase) (next : Next A) (answer : Result Reply GateError) → next ≡ Done answer → at_phases as_phase next ≡ Done answer
+done_at as_phase next answer is = ap (λ n. at_phases as_phase n) is
+
+-- where a phase comes next, the operation goes on
 goes_where : (op : Op) (start now : TaskState) (next : Next Phase) (phase : Phase) → phase_after next ≡ Some phase → Went op start next now → Goes op start now
 goes_where op start now (Go q) phase is went = went
 goes_where op start now (Wait q) phase is went = went
 goes_where op start now (Done answer) phase is went = absurd (let f : ⊥ = cc in f)
 
-module _ (number : ℕ) (c d : Config) (same : c ≡ d) (begins : Option Op) (kept : Seat) (flags : List Bool) (items : SeatItems) (ties : Ties number c begins kept flags items) (op : Op) (table : TableId) (start : TaskState)
-    (start_is : task_state table c begins kept.phase items ≡ start) (admitted : Ok tt ≡ unless_refused (refusal_at op start)) (first : Phase) (first_is : first ≡ first_phase c number op) where
-  none_refused : refusal c (is_some kept.phase) (held_at (own_view items)) (holds_level (own_view items)) op ≡ None
-  none_refused = ap (refusal_at op) start_is ∙ not_refused (refusal_at op start) admitted
+-- A call of an operation that was admitted: the task's fields, its state before the call, the configuration as the gates name it, and the
+-- first phase of the operation.
+pub record Call : Type 0 where
+  pub op : Op
+  pub task : Inside
+  pub gates : Config
+  pub start : TaskState
+  pub start_is : task_state task.seat.table_id task.config task.begins task.kept.phase task.seat.me.0 ≡ start
+  pub from : start.config ≡ gates
+  pub ties : Ties task.number task.config task.begins task.kept task.spare task.seat.me.0
+  pub admitted : Ok tt ≡ unless_refused (refusal_at op start)
+  pub first : Phase
+  pub first_is : first ≡ first_phase task.config task.number op
 
-  may_begin : (is_some kept.phase ≡ false) × Fits c number (held_at (own_view items)) (holds_level (own_view items)) (Some (first_phase c number op))
-  may_begin = allowed c number (held_at (own_view items)) (holds_level (own_view items)) (is_some kept.phase) op none_refused
+-- of these parts
+abbrev pub call_of : (op : Op) (task : Inside) (gates : Config) (start : TaskState) →
+    task_state task.seat.table_id task.config task.begins task.kept.phase task.seat.me.0 ≡ start → start.config ≡ gates →
+    Ties task.number task.config task.begins task.kept task.spare task.seat.me.0 → Ok tt ≡ unless_refused (refusal_at op start) →
+    (first : Phase) → first ≡ first_phase task.config task.number op → Call
+call_of op task gates start start_is from ties admitted first first_is = record {
+  op = op;
+  task = task;
+  gates = gates;
+  start = start;
+  start_is = start_is;
+  from = from;
+  ties = ties;
+  admitted = admitted;
+  first = first;
+  first_is = first_is;
+}
 
+-- the numbers of the task, as the call finds them
+abbrev pub items_of : Call → SeatItems
+items_of call = call.task.seat.me.0
+
+-- What comes after the last event of a call that has done some, and what it has left of the accesses and the numbers.
+pub record Left (call : Call) : Type 0 where
+  pub next : Next Phase
+  pub accesses : Accesses
+  pub items : SeatItems
+  pub table : TableId
+  pub tied : StayTied call.gates (Some call.op) (Some call.first) call.task.kept.accesses (items_of call) (phase_after next) accesses items
+  pub went : Went call.op call.start next (task_state table call.gates None (phase_after next) items)
+
+-- before the first event
+module _ (call : Call) where
+  abbrev number : ℕ
+  number = call.task.number
+
+  abbrev c : Config
+  c = call.task.config
+
+  abbrev kept : Seat
+  kept = call.task.kept
+
+  abbrev flags : List Bool
+  flags = call.task.spare
+
+  abbrev op : Op
+  op = call.op
+
+  same : c ≡ call.gates
+  same = ap (λ (s : TaskState). s.config) call.start_is ∙ call.from
+
+  none_refused : refusal c (is_some kept.phase) (held_at (own_view (items_of call))) (holds_level (own_view (items_of call))) op ≡ None
+  none_refused = ap (refusal_at op) call.start_is ∙ not_refused (refusal_at op call.start) call.admitted
+
+  may_begin : (is_some kept.phase ≡ false) × Fits c number (held_at (own_view (items_of call))) (holds_level (own_view (items_of call))) (Some (first_phase c number op))
+  may_begin = allowed c number (held_at (own_view (items_of call))) (holds_level (own_view (items_of call))) (is_some kept.phase) op none_refused
+
+  -- the task was idle
   pub idle : kept.phase ≡ None
   idle = none_of kept.phase may_begin.0
 
   abbrev the_first : Phase
   the_first = first_phase c number op
 
-  at_rest : (x : Numbered) (xs : SeatItems) → OwnTies number c begins kept flags x xs → (begins ≡ None) × (x.view.phase ≡ None)
-  at_rest x xs t = subst (λ o. PhaseOk c begins o x) idle t.may
+  at_rest : (x : Numbered) (xs : SeatItems) → OwnTies number c call.task.begins kept flags x xs → (call.task.begins ≡ None) × (x.view.phase ≡ None)
+  at_rest x xs t = subst (λ o. PhaseOk c call.task.begins o x) idle t.may
 
-  begun_own : (x : Numbered) (xs : SeatItems) → items ≡ x ∷ xs → OwnTies number c begins kept flags x xs → OwnTies number c (Some op) (kept_at (Some the_first) kept.accesses) flags x xs
+  begun_own : (x : Numbered) (xs : SeatItems) → items_of call ≡ x ∷ xs → OwnTies number c call.task.begins kept flags x xs →
+      OwnTies number c (Some op) (kept_at (Some the_first) kept.accesses) flags x xs
   begun_own x xs here t = record {
     within = t.within;
     same_number = t.same_number;
     below = t.below;
     may = (
-      let at : refusal c (is_some kept.phase) (held_at x.view) (holds_level x.view) op ≡ None = subst (λ (l : SeatItems). refusal c (is_some kept.phase) (held_at (own_view l)) (holds_level (own_view l)) op ≡ None) here none_refused in
+      let at : refusal c (is_some kept.phase) (held_at x.view) (holds_level x.view) op ≡ None =
+          subst (λ (l : SeatItems). refusal c (is_some kept.phase) (held_at (own_view l)) (holds_level (own_view l)) op ≡ None) here none_refused in
           ap (λ (o : Option Phase). refusal c (is_some o) (held_at x.view) (holds_level x.view) op) ((at_rest x xs t).1 ∙ sym idle) ∙ at,
       ap (λ (n : ℕ). first_phase c n op) (sym t.same_number),
     );
@@ -78,50 +153,71 @@ module _ (number : ℕ) (c d : Config) (same : c ≡ d) (begins : Option Op) (ke
     marks = t.marks;
   }
 
-  begun_ties : (l : SeatItems) → items ≡ l → Ties number c begins kept flags l → Ties number c (Some op) (kept_at (Some the_first) kept.accesses) flags l
+  begun_ties : (l : SeatItems) → items_of call ≡ l → Ties number c call.task.begins kept flags l →
+      Ties number c (Some op) (kept_at (Some the_first) kept.accesses) flags l
   begun_ties [] here t = absurd t
   begun_ties (x ∷ xs) here t = begun_own x xs here t
 
-  own_same : (l : SeatItems) → Ties number c begins kept flags l → (begins ≡ None) × (own_number l ≡ number)
+  own_same : (l : SeatItems) → Ties number c call.task.begins kept flags l → (call.task.begins ≡ None) × (own_number l ≡ number)
   own_same [] t = absurd t
   own_same (x ∷ xs) t = ((at_rest x xs t).0, t.same_number)
 
-  pub not_begun : begins ≡ None
-  not_begun = (own_same items ties).0
+  -- no operation had begun
+  pub not_begun : call.task.begins ≡ None
+  not_begun = (own_same (items_of call) call.ties).0
 
-  -- as the first event finds it
-  pub after_begin : Ties number d (Some op) (kept_at (Some first) kept.accesses) flags items
-  after_begin =
-      let P : Config × Phase → Type 0 = λ z. Ties number z.0 (Some op) (kept_at (Some z.1) kept.accesses) flags items in
-      subst P (λ i. (same i, sym first_is i)) (begun_ties items refl ties)
+  -- the task's own number is its first
+  pub own_is : own_number (items_of call) ≡ number
+  own_is = (own_same (items_of call) call.ties).1
 
-  pub is_tied : IsTied d (Some op) (Some first) kept.accesses items
+  -- the fields that a beginning leaves
+  pub begun : Ties number c (Some op) (kept_at (Some call.first) kept.accesses) flags (items_of call)
+  begun = subst (λ (p : Phase). Ties number c (Some op) (kept_at (Some p) kept.accesses) flags (items_of call)) (sym call.first_is) (begun_ties (items_of call) refl call.ties)
+
+  -- and the state
+  pub begun_state : task_state call.task.seat.table_id c (Some op) (Some call.first) (items_of call) ≡
+      record call.start { begins = Some op; phase = Some (first_phase call.start.config (own_number call.start.items) op) }
+  begun_state =
+      (λ i. task_state call.task.seat.table_id c (Some op) (Some ((call.first_is ∙ ap (λ (n : ℕ). first_phase c n op) (sym own_is)) i)) (items_of call)) ∙
+      ap (λ (s : TaskState). record s { begins = Some op; phase = Some (first_phase s.config (own_number s.items) op) }) call.start_is
+
+  -- as the first event finds them
+  pub after_begin : Ties number call.gates (Some op) (kept_at (Some call.first) kept.accesses) flags (items_of call)
+  after_begin = subst (λ (d : Config). Ties number d (Some op) (kept_at (Some call.first) kept.accesses) flags (items_of call)) same begun
+
+  pub is_tied : IsTied call.gates (Some op) (Some call.first) kept.accesses (items_of call)
   is_tied = record { number = number; flags = flags; ties = after_begin }
 
-  pub has_begun : Goes op start (task_state table d (Some op) (Some first) items)
+  -- the operation goes on from there
+  pub has_begun : Goes op call.start (task_state call.task.seat.table_id call.gates (Some op) (Some call.first) (items_of call))
   has_begun =
-      let there : task_state table d (Some op) (Some first) items ≡ record start { begins = Some op; phase = Some (first_phase start.config (own_number start.items) op) } =
-      (λ i. task_state table (sym same i) (Some op) (Some ((first_is ∙ ap (λ (n : ℕ). first_phase c n op) (sym (own_same items ties).1)) i)) items) ∙
-      ap (λ (s : TaskState). record s { begins = Some op; phase = Some (first_phase s.config (own_number s.items) op) }) start_is in
-      starts op start (task_state table d (Some op) (Some first) items) there
+      starts op call.start (task_state call.task.seat.table_id call.gates (Some op) (Some call.first) (items_of call))
+      ((λ i. task_state call.task.seat.table_id (sym same i) (Some op) (Some call.first) (items_of call)) ∙ begun_state)
 
-  -- and as it is written down, where what comes next is this
-  module _ (next : Next Phase) (accesses : Accesses) (left : SeatItems) (tied : StayTied d (Some op) (Some first) kept.accesses items (phase_after next) accesses left)
-      (left_table : TableId) (went : Went op start next (task_state left_table d None (phase_after next) left)) where
-    pub ties_at : (o : Option Phase) → phase_after next ≡ o → Ties number c begins (kept_at o accesses) flags left
+  -- after the last event, as it is written down
+  module _ (left : Left call) where
+    abbrev found : TaskState
+    found = task_state left.table call.gates None (phase_after left.next) left.items
+
+    -- the fields, where what comes next is this phase or none
+    pub ties_at : (o : Option Phase) → phase_after left.next ≡ o → Ties number c call.task.begins (kept_at o left.accesses) flags left.items
     ties_at o is =
-        let P : Config × Option Op × Option Phase → Type 0 = λ z. Ties number z.0 z.1 (kept_at z.2 accesses) flags left in
-        subst P (λ i. (sym same i, sym not_begun i, is i)) (tied number flags after_begin)
+        let P : Config × Option Op × Option Phase → Type 0 = λ z. Ties number z.0 z.1 (kept_at z.2 left.accesses) flags left.items in
+        subst P (λ i. (sym same i, sym not_begun i, is i)) (left.tied number flags after_begin)
 
-    there_at : (o : Option Phase) → phase_after next ≡ o → task_state left_table d None (phase_after next) left ≡ task_state left_table c begins o left
-    there_at o is = λ i. task_state left_table (sym same i) (sym not_begun i) (is i) left
+    -- the same where nothing comes next: what is kept of the phase stays as it was
+    pub ties_done : (answer : Result Reply GateError) → left.next ≡ Done answer → Ties number c call.task.begins (kept_at kept.phase left.accesses) flags left.items
+    ties_done answer is = ties_at kept.phase (ap (λ (n : Next Phase). phase_after n) is ∙ sym idle)
 
-    pub goes_at : (phase : Phase) → phase_after next ≡ Some phase → Goes op start (task_state left_table c begins (Some phase) left)
-    goes_at phase is = subst (Goes op start) (there_at (Some phase) is) (goes_where op start (task_state left_table d None (phase_after next) left) next phase is went)
+    there_at : (o : Option Phase) → phase_after left.next ≡ o → found ≡ task_state left.table c call.task.begins o left.items
+    there_at o is = λ i. task_state left.table (sym same i) (sym not_begun i) (is i) left.items
 
-    pub ended_at : (answer : Result Reply GateError) → (next ≡ Done answer) → (outcome : Result (Unit {0}) GateError) → outcome ≡ outcome_of answer → Called op start (task_state left_table c begins kept.phase left) outcome
-    ended_at answer is outcome outcome_is =
-        let stands : phase_after next ≡ kept.phase = ap (λ (n : Next Phase). phase_after n) is ∙ sym idle in
-        let called : Called op start (task_state left_table d None (phase_after next) left) (outcome_of answer) = subst (λ (n : Next Phase). Went op start n (task_state left_table d None (phase_after next) left)) is went in
-        subst (λ (s : TaskState). Called op start s outcome) (there_at kept.phase stands)
-        (subst (λ (o : Result (Unit {0}) GateError). Called op start (task_state left_table d None (phase_after next) left) o) (sym outcome_is) called)
+    -- the operation goes on at this phase
+    pub goes_at : (phase : Phase) → phase_after left.next ≡ Some phase → Goes op call.start (task_state left.table c call.task.begins (Some phase) left.items)
+    goes_at phase is = subst (Goes op call.start) (there_at (Some phase) is) (goes_where op call.start found left.next phase is left.went)
+
+    -- or it was done whole
+    pub ended_at : (answer : Result Reply GateError) → left.next ≡ Done answer → Called op call.start (task_state left.table c call.task.begins kept.phase left.items) answer
+    ended_at answer is =
+        let stands : phase_after left.next ≡ kept.phase = ap (λ (n : Next Phase). phase_after n) is ∙ sym idle in
+        subst (λ (s : TaskState). Called op call.start s answer) (there_at kept.phase stands) (subst (λ (n : Next Phase). Went op call.start n found) is left.went)

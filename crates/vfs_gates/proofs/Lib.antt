@@ -4,4 +4,5 @@ pub mod Turning
 pub mod Parting
 pub mod Ending
 pub mod Running
+pub mod Admitting
 pub mod Calling

@@ -10,7 +10,6 @@ use Rattle.cpu_words.specs.Hooks.{HookAnswer}
 use Rattle.cpu_words.specs.Touches.{found_by, event_of}
 use Rattle.gate_world.specs.declared.config.Config.{Config}
 use Rattle.gate_world.specs.declared.operations.Op.{Op}
-use Rattle.gate_world.specs.declared.operations.Op.TheVariants.{Want, DropMount, ChangeMount}
 use Rattle.gate_world.specs.declared.work.Phase.{Phase}
 use Rattle.gate_world.specs.declared.views.Traced.{Traced}
 use Rattle.gate_world.specs.declared.views.View.{View}
@@ -20,6 +19,7 @@ use Rattle.gate_world.specs.Work.{next_of, after_of}
 use Rattle.gate_world.specs.Beginnings.{first_phase}
 use Rattle.gate_world.specs.Courses.{Course, course_with, course_after, course_of, IsEventOf, IsNext, IsTrace}
 use Rattle.gate_world.specs.Traces.{Tells, most_events, IsShort}
+use Rattle.gate_frames.proofs.Keeps.{most_events_of_all, IsSmall}
 use Rattle.schedule_laws.proofs.Layers.{op_keeps}
 use Rattle.gate_core.specs.declared.steps.Progress.TheVariants.{Done as Ended}
 use Rattle.gate_core.specs.declared.steps.Step.{Step}
@@ -27,7 +27,7 @@ use Rattle.gate_core.specs.Answers.{progress_of, unless_refused}
 use Rattle.gate_steps.specs.Seating.{SeatItems, numbered, entered, items_after, IsMove}
 use Rattle.vfs_gates.specs.TaskStates.{TaskState, own_number, own_view, refusal_at}
 use Rattle.vfs_gates.specs.Stepped.{Stepped}
-use Rattle.vfs_gates.specs.Runs.{events_onto, ran_view, ran_items, begins_at, items_at, IsMoveOf, IsNextMove, AreMoves, Goes, Went, waits, outcome_of, Called, Performs}
+use Rattle.vfs_gates.specs.Runs.{events_onto, ran_view, ran_items, begins_at, items_at, IsMoveOf, IsNextMove, AreMoves, IsBounded, told_as, the_reply, Goes, Went, Called, Replies}
 
 -- the numbers of a task whose own number has begun the operation
 abbrev pub entered_items : Option Op → Option Phase → SeatItems → SeatItems
@@ -73,8 +73,23 @@ goes_on (Go q) not = (q, refl)
 goes_on (Wait q) not = (q, refl)
 goes_on (Done a) not = absurd (not a refl)
 
+-- how many events the operation under way has had
 abbrev pub steps_of : TaskState → ℕ
 steps_of now = length (own_view (entered_items now.begins now.phase now.items)).trace
+
+-- the events that may be left to an operation that has a most number of them
+abbrev pub events_left : TaskState → ℕ
+events_left now = most_events_of_all + 1 - steps_of now
+
+-- why an operation can't begin, said of the answer of a beginning
+refused_as : (e : GateError) (o : Option GateError) {A : Type 0} (r : GateError) → Err e ≡ unless_refused o → o ≡ Some r → ◌≡◌ {A = Result A GateError} (Err e) (Err r)
+refused_as e o r is at = let same : ◌≡◌ {A = Result (Unit {0}) GateError} (Err e) (Err r) = is ∙ ap unless_refused at in let f : e ≡ r = cc in ap (λ x. Err x) f
+
+refused_none : (e : GateError) (o : Option GateError) → Err e ≡ unless_refused o → o ≡ None → ⊥
+refused_none e o is at = let f : ◌≡◌ {A = Result (Unit {0}) GateError} (Err e) (Ok tt) = is ∙ ap unless_refused at in let g : ⊥ = cc in g
+
+admitted_some : (o : Option GateError) (r : GateError) → Ok tt ≡ unless_refused o → o ≡ Some r → ⊥
+admitted_some o r is at = let f : ◌≡◌ {A = Result (Unit {0}) GateError} (Ok tt) (Err r) = is ∙ ap unless_refused at in let g : ⊥ = cc in g
 
 begun_items : (c : Config) (op : Op) (l : SeatItems) → entered_items (Some op) (Some (first_phase c (own_number l) op)) l ≡ ran_items c op [] l
 begun_items c op [] = refl
@@ -106,10 +121,9 @@ starts op start now is = subst (Goes op start) (sym is) (record {
   moves = tt;
 })
 
-module _ (op : Op) (start now left : TaskState) (step : Step) (goes : Goes op start now) (after_step : (p : Phase) → now.phase ≡ Some p → Stepped p (Ok tt) now step left) where
-  abbrev h : HookAnswer
-  h = Ok tt
-
+-- one step of it, where a hook of the file system answers this
+module _ (op : Op) (start now left : TaskState) (step : Step) (h : HookAnswer) (goes : Goes op start now)
+    (after_step : (p : Phase) → now.phase ≡ Some p → Stepped p h now step left) where
   abbrev c : Config
   c = start.config
 
@@ -187,6 +201,7 @@ module _ (op : Op) (start now left : TaskState) (step : Step) (goes : Goes op st
       let moved : IsMove c (begins_at op goes.trace) p h (items_at c op goes.trace start.items) found = subst P (λ j. (goes.config j, goes.begins j, goes.items j)) did.moves in
       (move_is c op start.items goes.trace e (course_of c n op goes.trace).comes p stands_there (found, refl, moved), goes.moves)
 
+  -- where it does not reply, it goes on
   pub goes_further : ((a : Result Reply GateError) → step.progress ≡ Ended a → ⊥) → Goes op start left
   goes_further not = record {
     trace = trace;
@@ -202,8 +217,9 @@ module _ (op : Op) (start now left : TaskState) (step : Step) (goes : Goes op st
     moves = moves_then;
   }
 
-  pub ends_there : IsWithin c → (a : Result Reply GateError) → step.progress ≡ Ended a → (outcome : Result (Unit {0}) GateError) → outcome ≡ outcome_of a → Called op start left outcome
-  ends_there within a is outcome outcome_is =
+  -- where it replies, it was done whole
+  pub ends_there : IsWithin c → (a : Result Reply GateError) → step.progress ≡ Ended a → Called op start left a
+  ends_there within a is =
       let last : after.0 ≡ Done a = done_is after.0 a (sym progress_then ∙ is) in
       let ends : (course_of c n op trace).comes ≡ Done a = ap (λ (o : Course). o.comes) course_here ∙ last in
       let tells : Tells c op trace (Done a) (course_of c n op trace).added =
@@ -211,10 +227,8 @@ module _ (op : Op) (start now left : TaskState) (step : Step) (goes : Goes op st
       let idle : left.phase ≡ None = phase_then ∙ ap (λ s. phase_after s) ends in
       record {
         trace = trace;
-        answer = a;
         follows = follows_after;
         ends = ends;
-        answers = outcome_is;
         after = λ i. record { table = table_then i; config = config_then i; begins = begins_then i; phase = idle i; items = items_then i };
         moves = moves_then;
         added = tells.0;
@@ -222,6 +236,7 @@ module _ (op : Op) (start now left : TaskState) (step : Step) (goes : Goes op st
         short = (op_keeps c op).short within n trace follows_after;
       }
 
+  -- and its trace has one event more
   grown : (begins : Option Op) (o : Option Phase) (l : SeatItems) → o ≡ Some p → IsMove now.config begins p h l found → length (own_view (items_after begins p h found l)).trace ≡ length (own_view (entered_items begins o l)).trace + 1
   grown begins o [] is moves = absurd moves
   grown begins o (x ∷ xs) is moves = subst (λ q. length (own_view (items_after begins p h found (x ∷ xs))).trace ≡ length (own_view (entered_items begins q (x ∷ xs))).trace + 1) (sym is) (omega arith)
@@ -232,53 +247,81 @@ module _ (op : Op) (start now left : TaskState) (step : Step) (goes : Goes op st
       (ap (λ l. length (own_view l).trace) (not_entered left.phase left.items ∙ ap (λ (s : TaskState). s.items) did.new) ∙
       grown now.begins now.phase now.items goes.going.1 did.moves)
 
-most : (c : Config) → IsWithin c → (op : Op) (trace : List Traced) → waits op ≡ false → IsShort (most_events c op) trace → length trace ≤ 71
-most c within (Want m q true) trace w s = absurd (let f : ⊥ = cc in f)
-most c within (Want m q false) trace w s = omega arith
-most c within (DropMount m q) trace w s = omega arith
-most c within (ChangeMount m r true) trace w s = absurd (let f : ⊥ = cc in f)
-most c within (ChangeMount m r false) trace w s = omega (arith, within.processors)
+-- what is no more than the most is no more than the most of all
+few : (most : Option ℕ) (trace : List Traced) → IsBounded most → IsShort most trace → IsSmall most → length trace ≤ most_events_of_all
+few None trace bounded short small = absurd bounded
+few (Some most) trace bounded short small = omega (arith, short, small)
 
 own_trace : (c : Config) (op : Op) (trace : List Traced) (l : SeatItems) → length (own_view (ran_items c op trace l)).trace ≤ length trace
 own_trace c op trace [] = omega arith
 own_trace c op trace (x ∷ xs) = omega arith
 
--- an operation that waits for nobody has few events
-pub few_steps : (op : Op) (start now : TaskState) → IsWithin start.config → waits op ≡ false → Goes op start now → steps_of now ≤ 71
+-- an operation that has a most number of events has no more than the most of all
+pub few_steps : (op : Op) (start now : TaskState) → IsWithin start.config → IsBounded (most_events start.config op) → Goes op start now →
+    steps_of now ≤ most_events_of_all
 few_steps op start now within tries goes =
-    let short = most start.config within op goes.trace tries ((op_keeps start.config op).short within (own_number start.items) goes.trace goes.follows) in
-    let own = own_trace start.config op goes.trace start.items in
+    let c : Config = start.config in
+    let keeps = op_keeps c op in
+    let short = few (most_events c op) goes.trace tries (keeps.short within (own_number start.items) goes.trace goes.follows) (keeps.most_small within) in
+    let own = own_trace c op goes.trace start.items in
     let same = ap (λ l. length (own_view l).trace) (ran_so_far op start now goes) in
-    omega arith
+    omega (arith, short, own, same)
 
 -- what comes after the event tells whether it goes on
-pub went_on : (op : Op) (start now left : TaskState) (step : Step) (goes : Goes op start now) (after_step : (p : Phase) → now.phase ≡ Some p → Stepped p (Ok tt) now step left) → IsWithin start.config →
+pub went_on : (op : Op) (start now left : TaskState) (step : Step) (hook : HookAnswer) (goes : Goes op start now)
+    (after_step : (p : Phase) → now.phase ≡ Some p → Stepped p hook now step left) → IsWithin start.config →
     (next : Next Phase) → step.progress ≡ progress_of next → Went op start next left
-went_on op start now left step goes after_step within (Go q) is = goes_further op start now left step goes after_step (λ a ended. absurd (let f : ⊥ = cc in f))
-went_on op start now left step goes after_step within (Wait q) is = goes_further op start now left step goes after_step (λ a ended. absurd (let f : ⊥ = cc in f))
-went_on op start now left step goes after_step within (Done a) is = ends_there op start now left step goes after_step within a is (outcome_of a) refl
+went_on op start now left step hook goes after_step within (Go q) is =
+    goes_further op start now left step hook goes after_step (λ a ended. absurd (let f : ⊥ = cc in f))
+went_on op start now left step hook goes after_step within (Wait q) is =
+    goes_further op start now left step hook goes after_step (λ a ended. absurd (let f : ⊥ = cc in f))
+went_on op start now left step hook goes after_step within (Done a) is = ends_there op start now left step hook goes after_step within a is
 
-pub falls : (op : Op) (start now left : TaskState) (step : Step) (goes : Goes op start now) (after_step : (p : Phase) → now.phase ≡ Some p → Stepped p (Ok tt) now step left) →
-    IsWithin start.config → waits op ≡ false → ((a : Result Reply GateError) → step.progress ≡ Ended a → ⊥) → 72 - steps_of left < 72 - steps_of now
-falls op start now left step goes after_step within tries not =
-    let few = few_steps op start left within tries (goes_further op start now left step goes after_step not) in
-    let more = one_more op start now left step goes after_step in
+-- fewer events are left after each
+pub falls : (op : Op) (start now left : TaskState) (step : Step) (hook : HookAnswer) (goes : Goes op start now)
+    (after_step : (p : Phase) → now.phase ≡ Some p → Stepped p hook now step left) → IsWithin start.config → IsBounded (most_events start.config op) →
+    ((a : Result Reply GateError) → step.progress ≡ Ended a → ⊥) → events_left left < events_left now
+falls op start now left step hook goes after_step within tries not =
+    let few = few_steps op start left within tries (goes_further op start now left step hook goes after_step not) in
+    let more = one_more op start now left step hook goes after_step in
     omega arith
 
 -- a beginning that is refused
-pub was_refused : (op : Op) (old left : TaskState) (e : GateError) → Err e ≡ unless_refused (refusal_at op old) → left ≡ old → Performs op old left (Err e)
-was_refused op old left e is same = record {
+pub was_refused : {A : Type 0} (read : Reply → A) (op : Op) (old left : TaskState) (e : GateError) → Err e ≡ unless_refused (refusal_at op old) → left ≡ old →
+    Replies read op old left (Err e)
+was_refused {A} read op old left e is same = record {
   table = ap (λ (s : TaskState). s.table) same;
   config = ap (λ (s : TaskState). s.config) same;
-  refused = λ r at. (is ∙ ap unless_refused at, same);
-  done = λ at. absurd (let f : Err e ≡ unless_refused None = is ∙ ap unless_refused at in let g : ⊥ = cc in g);
+  refused = λ r at. (refused_as e (refusal_at op old) r is at, same);
+  done = λ at. absurd (refused_none e (refusal_at op old) is at);
 }
 
 -- and one that isn't
-pub was_done : (op : Op) (old left : TaskState) (outcome : Result (Unit {0}) GateError) → Ok tt ≡ unless_refused (refusal_at op old) → Called op old left outcome → Performs op old left outcome
-was_done op old left outcome is called = record {
+pub was_done : {A : Type 0} (read : Reply → A) (op : Op) (old left : TaskState) (answer : Result Reply GateError) (outcome : Result A GateError) →
+    outcome ≡ told_as read answer → Ok tt ≡ unless_refused (refusal_at op old) → Called op old left answer → Replies read op old left outcome
+was_done read op old left answer outcome told is called = record {
   table = ap (λ (s : TaskState). s.table) called.after;
   config = ap (λ (s : TaskState). s.config) called.after;
-  refused = λ r at. absurd (let f : ◌≡◌ {A = Result (Unit {0}) GateError} (Ok tt) (Err r) = is ∙ ap unless_refused at in let g : ⊥ = cc in g);
-  done = λ at. called;
+  refused = λ r at. absurd (admitted_some (refusal_at op old) r is at);
+  done = λ at. (answer, told, called);
+}
+
+-- an answer that is told whole
+pub told_whole : (answer : Result Reply GateError) → told_as the_reply answer ≡ answer
+told_whole (Ok reply) = refl
+told_whole (Err refusal) = refl
+
+-- what is told of an answer that was told whole
+told_twice : {A : Type 0} (read : Reply → A) (answer : Result Reply GateError) → told_as read (told_as the_reply answer) ≡ told_as read answer
+told_twice read (Ok reply) = refl
+told_twice read (Err refusal) = refl
+
+-- a call that tells of another's answer what it reads of replies
+pub was_told : {A : Type 0} (read : Reply → A) (op : Op) (old left : TaskState) (answer : Result Reply GateError) (outcome : Result A GateError) →
+    Replies the_reply op old left answer → outcome ≡ told_as read answer → Replies read op old left outcome
+was_told read op old left answer outcome replies told = record {
+  table = replies.table;
+  config = replies.config;
+  refused = λ r at. (told ∙ ap (told_as read) (replies.refused r at).0, (replies.refused r at).1);
+  done = λ at. let done = replies.done at in (done.0, told ∙ (ap (told_as read) done.1 ∙ told_twice read done.0), done.2);
 }

@@ -1,24 +1,28 @@
 -- One event apart from the task: what it leaves of the fields, and which step it was.
-use Rattle.std.proofs.Common.{◌≡◌, ℕ, Bool, List, refl, sym, ap, ◌∙◌, subst}
-use Rattle.std.specs.Prelude.{Option, Some, None, Ok}
+use Rattle.std.proofs.Common.{◌≡◌, ℕ, ◌<◌, Bool, List, [], ◌∷◌, refl, sym, ap, ◌∙◌, subst}
+use Rattle.std.specs.Prelude.{Option, Some, None, slice_index}
 use Rattle.access_model.specs.declared.actions.Action.{Action}
 use Rattle.access_model.specs.declared.replies.Next.{Next}
 use Rattle.cpu_words.specs.declared.names.WordName.{WordName}
 use Rattle.cpu_words.specs.declared.events.Touch.{Touch}
 use Rattle.cpu_words.specs.declared.events.Event.{Event}
 use Rattle.cpu_words.specs.Hooks.{HookAnswer}
+use Rattle.cpu_words.specs.Names.{place}
 use Rattle.cpu_words.specs.Touches.{event_of}
 use Rattle.gate_world.specs.declared.config.Config.{Config}
 use Rattle.gate_world.specs.declared.operations.Op.{Op}
 use Rattle.gate_world.specs.declared.work.Phase.{Phase}
-use Rattle.gate_world.specs.Views.{phase_after}
+use Rattle.gate_world.specs.Fits.{ActionFits}
+use Rattle.gate_world.specs.Views.{held_at, holds_level, phase_after}
 use Rattle.access_model.specs.declared.replies.Next.TheVariants.{Go, Wait, Done}
 use Rattle.gate_core.specs.declared.seats.Seat.{Seat}
 use Rattle.gate_world.specs.Work.{next_of, after_of, at_phases}
 use Rattle.gate_core.specs.declared.seats.Accesses.{Accesses}
 use Rattle.gate_core.specs.Answers.{progress_of}
 use Rattle.gate_core.specs.Seats.{accesses_after}
-use Rattle.gate_steps.specs.Seating.{SeatItems, items_after, IsMove}
+use Rattle.gate_core.proofs.Phases.{word_there}
+use Rattle.gate_core.proofs.Places.{place_small}
+use Rattle.gate_steps.specs.Seating.{SeatItems, Acts, items_after, IsMove}
 use Rattle.atomic_table.specs.Seated.{TableId}
 use Rattle.gate_world.specs.Configs.{IsWithin}
 use Rattle.gate_core.specs.declared.steps.Step.{Step}
@@ -26,9 +30,39 @@ use Rattle.vfs_gates.specs.Runs.{Goes, Went}
 use Rattle.vfs_gates.specs.TaskStates.{TaskState, task_state}
 use Rattle.vfs_gates.specs.Stepped.{Stepped}
 use Rattle.vfs_gates.specs.Ties.{Ties}
-use Rattle.vfs_gates.specs.Turns.{kept_at, step_was}
-use Rattle.vfs_gates.proofs.Going.{ties_left, stepped_here}
+use Rattle.vfs_gates.specs.Turns.{kept_at, IsTied, step_was}
+use Rattle.vfs_gates.proofs.Going.{may_add, ties_left, stepped_here}
 use Rattle.vfs_gates.proofs.Running.{went_on}
+
+-- before the event: the word is one of the table's, and the number may do the event
+module _ (number : ℕ) (c : Config) (begins : Option Op) (phase : Phase) (accesses : Accesses) (flags : List Bool) (hook : HookAnswer) where
+  word_inside : (l : SeatItems) → Ties number c begins (kept_at (Some phase) accesses) flags l → place (next_of phase hook).0 < 915
+  word_inside [] t = absurd t
+  word_inside (x ∷ xs) t =
+      place_small c t.within (next_of phase hook).0 (word_there c t.within x.number (held_at x.view) (holds_level x.view) phase hook t.fits)
+
+  may_act : (l : SeatItems) → Ties number c begins (kept_at (Some phase) accesses) flags l → Acts c begins phase l
+  may_act [] t = absurd t
+  may_act (x ∷ xs) t = t.may
+
+-- the same of the phase that the code was told, and of the configuration as the table names it
+module _ (c key : Config) (same_key : key ≡ c) (begins : Option Op) (phase told : Phase) (told_is : told ≡ phase) (accesses : Accesses) (items : SeatItems)
+    (tied : IsTied c begins (Some phase) accesses items) (hook : HookAnswer) where
+  pub inside_so : place (next_of told hook).0 < 915
+  inside_so =
+      subst (λ (p : Phase). place (next_of p hook).0 < 915) (sym told_is) (word_inside tied.number c begins phase accesses tied.flags hook items tied.ties)
+
+  pub acts_so : Acts key begins told items
+  acts_so =
+      let P : Config × Phase → Type 0 = λ z. Acts z.0 begins z.1 items in
+      subst P (λ i. (sym same_key i, sym told_is i)) (may_act tied.number c begins phase accesses tied.flags hook items tied.ties)
+
+  -- what the event adds can be done on the accesses
+  pub adds_so : (next : WordName × Touch) → next ≡ next_of told hook → (found : ℕ) (event : Event) → event ≡ event_of next.0 next.1 found →
+      (done : Next Phase × Option Action) → done ≡ after_of phase event.found hook → ActionFits (slice_index accesses.mounts) done.1
+  adds_so next next_is found event event_is done done_is =
+      may_add tied.number c begins (kept_at (Some phase) accesses) tied.flags phase refl hook items tied.ties
+      next (next_is ∙ ap (λ (p : Phase). next_of p hook) told_is) found event event_is done done_is
 
 -- of the values that the code has, where the phase that it was told is this one
 module _ (c key : Config) (same_key : key ≡ c) (begins : Option Op) (phase told : Phase) (told_is : told ≡ phase) (accesses accesses_left : Accesses) (hook : HookAnswer) (items left : SeatItems)
@@ -54,16 +88,16 @@ module _ (c key : Config) (same_key : key ≡ c) (begins : Option Op) (phase tol
       table before (task_state before c begins (Some phase) items) same refl here phase refl
 
 -- and what comes after it tells whether the operation goes on
-pub went_so : (c : Config) → IsWithin c → (op : Op) (start : TaskState) (event : Event) (action : Option Action) (next : Next Phase) {table left_table : TableId} {begins : Option Op} {phase : Phase} {items left : SeatItems} →
-    Goes op start (task_state table c begins (Some phase) items) →
-    Stepped phase (Ok tt) (task_state table c begins (Some phase) items) (step_was event action next) (task_state left_table c None (phase_after next) left) →
+pub went_so : (c : Config) → IsWithin c → (op : Op) (start : TaskState) (event : Event) (action : Option Action) (next : Next Phase) (hook : HookAnswer)
+    {table left_table : TableId} {begins : Option Op} {phase : Phase} {items left : SeatItems} → Goes op start (task_state table c begins (Some phase) items) →
+    Stepped phase hook (task_state table c begins (Some phase) items) (step_was event action next) (task_state left_table c None (phase_after next) left) →
     Went op start next (task_state left_table c None (phase_after next) left)
-went_so c within op start event action next {table} {left_table} {begins} {phase} {items} {left} goes after_step =
+went_so c within op start event action next hook {table} {left_table} {begins} {phase} {items} {left} goes after_step =
     let now : TaskState = task_state table c begins (Some phase) items in
     let after : TaskState = task_state left_table c None (phase_after next) left in
     let step : Step = step_was event action next in
-    went_on op start now after step goes
-    (λ p is. subst (λ (q : Phase). Stepped q (Ok tt) now step after) (let same : phase ≡ p = cc in same) after_step)
+    went_on op start now after step hook goes
+    (λ p is. subst (λ (q : Phase). Stepped q hook now step after) (let same : phase ≡ p = cc in same) after_step)
     (subst IsWithin goes.config within) next refl
 
 -- a task's fields, said with another name of the config and of the phase

@@ -1,5 +1,5 @@
 -- Whole operations of a task, from the beginning to the reply.
-use Rattle.std.specs.Prelude.{◌≡◌, ℕ, Bool, false, Option, Some, None, Result, Ok, Err, List, [], ◌∷◌, ◌++◌}
+use Rattle.std.specs.Prelude.{◌≡◌, ℕ, Option, Some, None, Result, Ok, Err, List, [], ◌∷◌, ◌++◌}
 use Rattle.access_model.specs.declared.errors.GateError.{GateError}
 use Rattle.access_model.specs.declared.replies.Next.{Next}
 use Rattle.access_model.specs.declared.replies.Next.TheVariants.{Go, Wait, Done}
@@ -13,12 +13,12 @@ use Rattle.gate_world.specs.declared.views.Traced.{Traced}
 use Rattle.gate_world.specs.declared.views.View.{View}
 use Rattle.gate_world.specs.Views.{phase_after, with_hook}
 use Rattle.gate_world.specs.Work.{next_of}
-use Rattle.gate_world.specs.Operations.{row}
 use Rattle.gate_world.specs.Courses.{course_of, IsTrace}
 use Rattle.gate_world.specs.Traces.{actions_of, IsHonestAnswer, most_events, IsShort}
 use Rattle.gate_steps.specs.Seating.{SeatItems, numbered, IsMove}
 use Rattle.vfs_gates.specs.TaskStates.{TaskState, own_number, refusal_at}
 
+-- the events of a trace before earlier ones, the newest first
 abbrev pub events_onto : List Traced → List Event → List Event
 events_onto [] earlier = earlier
 events_onto (e ∷ es) earlier = e.event ∷ events_onto es earlier
@@ -39,11 +39,12 @@ abbrev pub ran_items : Config → Op → List Traced → SeatItems → SeatItems
 ran_items c op trace [] = []
 ran_items c op trace (x ∷ xs) = numbered x.number (ran_view c x.number op trace x.view) ∷ xs
 
--- the operation that begins with the next event, and the numbers as they stand before it
+-- the operation that begins with the next event
 abbrev pub begins_at : Op → List Traced → Option Op
 begins_at op [] = Some op
 begins_at op (e ∷ earlier) = None
 
+-- the numbers as they stand before the next event
 abbrev pub items_at : Config → Op → List Traced → SeatItems → SeatItems
 items_at c op [] items = items
 items_at c op (e ∷ earlier) items = ran_items c op (e ∷ earlier) items
@@ -52,48 +53,62 @@ items_at c op (e ∷ earlier) items = ran_items c op (e ∷ earlier) items
 -- by its action
 abbrev pub IsMoveOf : Config → Op → SeatItems → List Traced → Traced → Phase → Type 0
 IsMoveOf c op items earlier e phase =
-    (found : ℕ) × (e ≡ with_hook (event_of (next_of phase e.hook).0 (next_of phase e.hook).1 found) e.hook) × IsMove c (begins_at op earlier) phase e.hook (items_at c op earlier items) found
+    (found : ℕ) × (e ≡ with_hook (event_of (next_of phase e.hook).0 (next_of phase e.hook).1 found) e.hook)
+    × IsMove c (begins_at op earlier) phase e.hook (items_at c op earlier items) found
 
+-- the event was such a move of the phase that comes next
 abbrev pub IsNextMove : Config → Op → SeatItems → List Traced → Traced → Next Phase → Type 0
 IsNextMove c op items earlier e (Go phase) = IsMoveOf c op items earlier e phase
 IsNextMove c op items earlier e (Wait phase) = IsMoveOf c op items earlier e phase
 IsNextMove c op items earlier e (Done answer) = ⊥
 
--- each event was
+-- each event was such a move of the phase that came next before it
 abbrev pub AreMoves : Config → Op → SeatItems → List Traced → Type 0
 AreMoves c op items [] = Unit {0}
-AreMoves c op items (e ∷ earlier) = IsNextMove c op items earlier e (course_of c (own_number items) op earlier).comes × AreMoves c op items earlier
+AreMoves c op items (e ∷ earlier) =
+    IsNextMove c op items earlier e (course_of c (own_number items) op earlier).comes × AreMoves c op items earlier
 
--- an operation looks again and again
-abbrev pub waits : Op → Bool
-waits op = (row op).waits
+-- an operation that has a most number of events
+abbrev pub IsBounded : Option ℕ → Type 0
+IsBounded None = ⊥
+IsBounded (Some most) = Unit {0}
 
-abbrev pub outcome_of : Result Reply GateError → Result (Unit {0}) GateError
-outcome_of (Ok reply) = Ok tt
-outcome_of (Err refusal) = Err refusal
+-- what a call tells of an answer, where it reads a reply so
+abbrev pub told_as : {A : Type 0} → (Reply → A) → Result Reply GateError → Result A GateError
+told_as read (Ok reply) = Ok (read reply)
+told_as read (Err refusal) = Err refusal
 
--- One whole operation. Its events are a trace of it that ends in an answer, which is what the call answers. The own view has done
--- just these events and their actions, and nothing else of the task changed. Each event was a move in a world that the rule holds of. So
--- it has added exactly the operation's actions, a refusal has its cause in the trace, and where the operation waits for nobody, its
--- events are few.
-pub record Called (op : Op) (old left : TaskState) (outcome : Result (Unit {0}) GateError) : Type 0 where
+-- a call that tells the whole reply
+abbrev pub the_reply : Reply → Reply
+the_reply reply = reply
+
+-- a call that tells only whether the operation was done
+abbrev pub unit_of : Reply → Unit {0}
+unit_of reply = tt
+
+-- One whole operation. Its events are a trace of it that ends in this answer. The own view has done just these events and their
+-- actions, and nothing else of the task changed. Each event was a move in a world that the rule holds of. So it has added exactly the
+-- operation's actions, a refusal has its cause in the trace, and where the operation has a most number of events, they are no more.
+pub record Called (op : Op) (old left : TaskState) (answer : Result Reply GateError) : Type 0 where
   pub trace : List Traced
-  pub answer : Result Reply GateError
   pub follows : IsTrace old.config (own_number old.items) op trace
   pub ends : (course_of old.config (own_number old.items) op trace).comes ≡ Done answer
-  pub answers : outcome ≡ outcome_of answer
   pub after : left ≡ record old { begins = None; phase = None; items = ran_items old.config op trace old.items }
   pub moves : AreMoves old.config op old.items trace
   pub added : (course_of old.config (own_number old.items) op trace).added ≡ actions_of op answer trace
   pub honest : IsHonestAnswer old.config op answer trace
   pub short : IsShort (most_events old.config op) trace
 
--- an operation whose beginning is refused changes nothing, and any other is done whole
-pub record Performs (op : Op) (old left : TaskState) (outcome : Result (Unit {0}) GateError) : Type 0 where
+-- An operation whose beginning is refused changes nothing, and any other is done whole. The call tells its answer as it reads replies.
+pub record Replies {A : Type 0} (read : Reply → A) (op : Op) (old left : TaskState) (outcome : Result A GateError) : Type 0 where
   pub table : left.table ≡ old.table
   pub config : left.config ≡ old.config
   pub refused : (refusal : GateError) → refusal_at op old ≡ Some refusal → (outcome ≡ Err refusal) × (left ≡ old)
-  pub done : refusal_at op old ≡ None → Called op old left outcome
+  pub done : refusal_at op old ≡ None → (answer : Result Reply GateError) × (outcome ≡ told_as read answer) × Called op old left answer
+
+-- the same of a call that tells only whether the operation was done
+abbrev pub Performs : Op → TaskState → TaskState → Result (Unit {0}) GateError → Type 0
+Performs op old left outcome = Replies unit_of op old left outcome
 
 -- an operation under way, after these events
 pub record Goes (op : Op) (start now : TaskState) : Type 0 where
@@ -111,11 +126,11 @@ pub record Goes (op : Op) (start now : TaskState) : Type 0 where
 abbrev pub Went : Op → TaskState → Next Phase → TaskState → Type 0
 Went op start (Go phase) now = Goes op start now
 Went op start (Wait phase) now = Goes op start now
-Went op start (Done answer) now = Called op start now (outcome_of answer)
+Went op start (Done answer) now = Called op start now answer
 
--- some operation that waits for nobody is under way here
+-- some operation that has a most number of events is under way here
 pub record IsTrying (now : TaskState) : Type 0 where
   pub op : Op
   pub start : TaskState
   pub goes : Goes op start now
-  pub tries : waits op ≡ false
+  pub tries : IsBounded (most_events start.config op)

@@ -7,7 +7,7 @@ ghost use Rattle.gate_world.specs.declared.work.Phase.TheVariants.{Mounts};
 ghost use Rattle.mount_counts.specs.declared.phases.MountPhase.TheVariants.{Want as Wants};
 ghost use Rattle.vfs_gates.specs.TaskStates.{TaskState, task_state};
 ghost use Rattle.vfs_gates.specs.Turns.{IsTied, StayTied, of_the_want};
-ghost use Rattle.vfs_gates.specs.Runs.{outcome_of, Goes, Went};
+ghost use Rattle.vfs_gates.specs.Runs.{told_as, unit_of, Goes, Went};
 
 use crate::gates::Gates;
 use crate::task::{Seat, Task};
@@ -17,9 +17,9 @@ use gate_core::{Accesses, Progress, first_phase};
 use gate_world::{Op, UnderWay};
 use mount_counts::{Want, WantStep};
 
-/// Why the operation was refused, or that it wasn't.
+/// Why the operation was refused, or that it was done.
 pub(crate) fn outcome(answer: Result<Reply, GateError>) -> Result<(), GateError>
-    ensures { result ≡ outcome_of answer }
+    ensures { result ≡ told_as unit_of answer }
 {
     match answer {
         Ok(_) => Ok(()),
@@ -50,7 +50,7 @@ fn go_on_at(
     if want.step != step {
         return next;
     }
-    go_on(gates, seat, accesses, None, want)
+    go_on(gates, seat, accesses, None, want, Ok(()))
 }
 
 /// The events of a want up to its grant, in a straight line; where one of them finds something else, the events up to it. What
@@ -71,7 +71,7 @@ fn want_in_line(
     ensures went { (op : OpType) (start : TaskState) → Goes op start (task_state seat.old.table_id gates.now.config begins (Some (Mounts (Wants want))) seat.old.me.0) →
         Went op start (of_the_want result) (task_state seat.new.table_id gates.now.config None (phase_after (of_the_want result)) seat.new.me.0) }
 {
-    let next = go_on(gates, seat, accesses, begins, want);
+    let next = go_on(gates, seat, accesses, begins, want, Ok(()));
     let next = go_on_at(gates, seat, accesses, next, WantStep::LoadsHold);
     let next = go_on_at(gates, seat, accesses, next, WantStep::LoadsRemount);
     let next = go_on_at(gates, seat, accesses, next, WantStep::LoadsReadOnly);
@@ -86,7 +86,7 @@ impl Task {
 
     /// Why the operation can't begin.
     #[inline(always)]
-    fn admit(&self, op: Op) -> Result<(), GateError>
+    pub(crate) fn admit(&self, op: Op) -> Result<(), GateError>
         ensures { result ≡ unless_refused (refusal_at op self.now) }
     {
         match self.kept.refusal(self.config, op) {
@@ -95,16 +95,17 @@ impl Task {
         }
     }
 
-    /// Does the events of the operation that has begun, which waits for nobody, until it replies.
-    fn finish(&mut self, gates: &Gates) -> Result<(), GateError>
+    /// Does the events of the operation that has begun, which has a most number of them, until it replies. Where one reads a hook of the
+    /// file system, the hook answers this.
+    fn finish(&mut self, gates: &Gates, hook: Result<(), u16>) -> Result<Reply, GateError>
         requires from { IsFrom self.old gates.now }
         requires trying { IsTrying self.old }
         ensures { (op : OpType) (start : TaskState) → Goes op start self.old → Called op start self.new result }
     {
         loop {
-            let step = self.step(gates, Ok(()));
+            let step = self.step(gates, hook);
             if let Progress::Done(answer) = step.progress {
-                return outcome(answer);
+                return answer;
             }
         }
     }
@@ -131,7 +132,7 @@ impl Task {
             Next::Done(answer) => outcome(answer),
             Next::Go(want) | Next::Wait(want) => {
                 self.kept.phase = Some(want.phase());
-                self.finish(gates)
+                outcome(self.finish(gates, Ok(())))
             }
         }
     }
@@ -146,11 +147,11 @@ impl Task {
         self.admit(op)?;
         let phase = first_phase(self.config, self.number, op);
         let accesses = &mut self.kept.accesses;
-        match go_on(gates, &mut self.seat, accesses, Some(op), phase) {
+        match go_on(gates, &mut self.seat, accesses, Some(op), phase, Ok(())) {
             Next::Done(answer) => outcome(answer),
             Next::Go(phase) | Next::Wait(phase) => {
                 self.kept.phase = Some(phase);
-                self.finish(gates)
+                outcome(self.finish(gates, Ok(())))
             }
         }
     }
@@ -172,6 +173,6 @@ impl Task {
             wait: false,
         };
         self.begin(change)?;
-        self.finish(gates)
+        outcome(self.finish(gates, Ok(())))
     }
 }

@@ -121,9 +121,7 @@ impl Task {
         ensures begun { OnOk result (self.new ≡ record self.old { begins = Some op; phase = Some (the_first_phase self.old.config (own_number self.old.items) op) }) }
         ensures refused { OnErr result (self.new ≡ self.old) }
     {
-        if let Some(refusal) = self.kept.refusal(self.config, op) {
-            return Err(refusal);
-        }
+        self.admit(op)?;
         self.begins = Some(op);
         self.kept.phase = Some(first_phase(self.config, self.number, op));
         Ok(())

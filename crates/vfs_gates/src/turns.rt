@@ -58,7 +58,7 @@ pub(crate) fn do_event<P: UnderWay>(
     }
 }
 
-/// The same where no hook of a file system fails, for a call that does one event after the other: what comes after it.
+/// The same for a call that does one event after the other: what comes after it.
 #[inline(always)]
 pub(crate) fn go_on<P: UnderWay>(
     gates: &Gates,
@@ -66,6 +66,7 @@ pub(crate) fn go_on<P: UnderWay>(
     accesses: &mut Accesses,
     begins: Option<Op>,
     under_way: P,
+    hook: Result<(), u16>,
 ) -> Next<P>
     requires table { seat.old.table_id ≡ gates.now.table.shared.table_id }
     requires tied { IsTied gates.now.config begins (Some (P.as_phase under_way)) accesses.old seat.old.me.0 }
@@ -79,6 +80,6 @@ pub(crate) fn go_on<P: UnderWay>(
         event: _,
         action: _,
         next,
-    } = do_event(gates, seat, accesses, begins, under_way, Ok(()));
+    } = do_event(gates, seat, accesses, begins, under_way, hook);
     next
 }

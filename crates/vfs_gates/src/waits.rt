@@ -5,7 +5,7 @@ ghost use Rattle.std.specs.Prelude.{true};
 use crate::calls::outcome;
 use crate::gates::Gates;
 use crate::task::Task;
-use access_model::GateError;
+use access_model::{GateError, Reply};
 use crossbeam_utils::Backoff;
 use gate_core::Progress;
 use gate_world::Op;
@@ -22,19 +22,26 @@ fn pause(backoff: &Backoff, progress: Progress) {
 impl Task {
     ghost use Rattle.gate_world.specs.declared.operations.Op.TheVariants.{Want, ChangeMount};
     ghost use Rattle.vfs_gates.specs.TaskStates.{IsFrom};
-    ghost use Rattle.vfs_gates.specs.Runs.{Performs};
+    ghost use Rattle.vfs_gates.specs.Runs.{the_reply, Replies, Performs};
 
-    /// Begins an operation, and does its events until it replies, however long it has to wait.
-    fn perform_waiting<R: Wait>(&mut self, rt: &R, gates: &Gates, op: Op) -> Result<(), GateError>
+    /// Begins an operation, and does its events until it replies, however long it has to wait. Where one reads a hook of the file
+    /// system, the hook answers this.
+    fn perform_waiting<R: Wait>(
+        &mut self,
+        rt: &R,
+        gates: &Gates,
+        op: Op,
+        hook: Result<(), u16>,
+    ) -> Result<Reply, GateError>
         requires { IsFrom self.old gates.now }
-        ensures { Performs op self.old self.new result }
+        ensures { Replies the_reply op self.old self.new result }
     {
         self.begin(op)?;
         let backoff = Backoff::new();
         for _ in rt.forever() {
-            let step = self.step(gates, Ok(()));
+            let step = self.step(gates, hook);
             if let Progress::Done(answer) = step.progress {
-                return outcome(answer);
+                return answer;
             }
             pause(&backoff, step.progress);
         }
@@ -58,7 +65,7 @@ impl Task {
             cpu,
             wait: true,
         };
-        self.perform_waiting(rt, gates, want)
+        outcome(self.perform_waiting(rt, gates, want, Ok(())))
     }
 
     /// `mnt_make_readonly`, or its undoing. While another task has `umount` it waits. Busy where writers are counted at the mount.
@@ -78,6 +85,6 @@ impl Task {
             read_only,
             wait: true,
         };
-        self.perform_waiting(rt, gates, change)
+        outcome(self.perform_waiting(rt, gates, change, Ok(())))
     }
 }

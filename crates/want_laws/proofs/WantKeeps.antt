@@ -9,10 +9,11 @@ use Rattle.mount_counts.specs.declared.phases.WantStep.TheVariants.{CountsDown}
 use Rattle.gate_world.specs.declared.config.Config.{Config}
 use Rattle.gate_world.specs.declared.work.Phase.TheVariants.{Mounts}
 use Rattle.gate_world.specs.Fits.{Fits}
-use Rattle.gate_frames.proofs.Keeps.{PhaseKeeps, OpKeeps}
+use Rattle.gate_frames.proofs.Keeps.{by_bool, PhaseKeeps, IsSmall, OpKeeps}
 use Rattle.gate_frames.proofs.Loads.{role_none}
 use Rattle.gate_frames.proofs.Snapshots.{completes_none}
 use Rattle.gate_world.specs.declared.operations.Op.TheVariants.{Want as WantOp, DropMount}
+use Rattle.gate_world.specs.Traces.{most_events}
 use Rattle.trace_laws.proofs.Says.{tells, is_short}
 use Rattle.gate_world.specs.KeptCauses.{WantCause}
 use Rattle.gate_world.specs.Worlds.{after_step}
@@ -70,6 +71,7 @@ want_op c m p wait = record {
   room_agrees = λ f g mounts there. ap (λ y. nat_lt y 1024) (mounts m (ltb-true m c.mounts (both (nat_lt m c.mounts) (nat_lt p c.processors) there).0));
   tells = λ lim t trace h. tells (WantAt c m p wait) c t (WantOp m p wait) (want_traced c t m p wait) trace h;
   short = λ lim t trace h. is_short (WantAt c m p wait) c t (WantOp m p wait) (want_traced c t m p wait) trace h;
+  most_small = λ lim. by_bool wait (λ w. IsSmall (most_events c (WantOp m p w))) tt (omega arith);
 }
 
 pub drop_op : (c : Config) (m p : ℕ) → OpKeeps c (DropMount m p)
@@ -84,4 +86,5 @@ drop_op c m p = record {
   room_agrees = λ f g mounts there. refl;
   tells = λ lim t trace h. tells (DropAt m p) c t (DropMount m p) (drop_kept c t m p) trace h;
   short = λ lim t trace h. is_short (DropAt m p) c t (DropMount m p) (drop_kept c t m p) trace h;
+  most_small = λ lim. omega arith;
 }

@@ -1,54 +1,70 @@
-use Rattle.std.proofs.Common.{◌≡◌, refl, sym, ap, ◌∙◌}
-use Rattle.std.specs.Prelude.{Some}
+-- a drop: its beginning, its one event, and what it writes down
+use Rattle.std.proofs.Common.{refl, ◌∙◌}
 use Rattle.gate_world.specs.declared.operations.Op.TheVariants.{DropMount}
 use Rattle.gate_world.specs.declared.work.Phase.{Phase}
-use Rattle.gate_world.specs.Views.{phase_after}
 use Rattle.gate_world.specs.Work.{at_phases}
-use Rattle.vfs_gates.specs.TaskStates.{TaskState}
-use Rattle.vfs_gates.proofs.Calling.{is_tied, has_begun, idle, ties_at, goes_at, ended_at, stands_at}
-use Rattle.vfs_gates.proofs.Running.{was_done}
+use Rattle.std.proofs.lemmas.Result.{err_from_is_err_and}
+use Rattle.vfs_gates.specs.Runs.{unit_of}
+use Rattle.vfs_gates.proofs.Calling.{Call, Left, call_of, is_tied, has_begun, ties_at, ties_done, goes_at, ended_at, stands_at, done_at}
+use Rattle.vfs_gates.proofs.Running.{was_refused, was_done}
 use Rattle.vfs_gates.proofs.task.Task.drop_mount.Goals as goal
+use Rattle.vfs_gates.proofs.task.Task.drop_mount.Goals.{After-go_on}
+
+-- the call, and what its event has left
+abbrev call : After-go_on → Call
+call c =
+    call_of (DropMount c.args.mount c.args.cpu) c.self.inside c.args.gates.now.config c.args.self.now c.self.view_is c.requires.1 c.self.invariant.0
+    c.in_ok-admit.ensures c.first_phase-phase.result c.first_phase-phase.ensures
+
+abbrev left : (c : After-go_on) → Left (call c)
+left c = record {
+  next = at_phases (λ (p : Phase). p) c.go_on.result;
+  accesses = c.go_on.new.accesses;
+  items = c.go_on.new.seat.me.0;
+  table = c.go_on.new.seat.table_id;
+  tied = c.go_on.ensures.tied;
+  went = c.go_on.ensures.went (call c).op (call c).start (has_begun (call c));
+}
 
 pub go_on-requires-clause-tied : goal.go_on-requires-clause-tied
 go_on-requires-clause-tied c =
-    let t = c.self.inside in
-    let same : t.config ≡ c.args.gates.now.config = ap (λ (s : TaskState). s.config) c.self.view_is ∙ c.requires.1 in
-    is_tied t.number t.config c.args.gates.now.config same t.begins t.kept t.spare t.seat.me.0 c.self.invariant.0 (DropMount c.args.mount c.args.cpu) t.seat.table_id c.args.self.now c.self.view_is c.in_ok-admit.ensures c.first_phase-phase.result c.first_phase-phase.ensures
+    is_tied (call_of (DropMount c.args.mount c.args.cpu) c.self.inside c.args.gates.now.config c.args.self.now c.self.view_is c.requires.1 c.self.invariant.0
+    c.in_ok-admit.ensures c.first_phase-phase.result c.first_phase-phase.ensures)
 
 pub invariant_of-self : goal.invariant_of-self
 invariant_of-self c =
-    let t = c.self.inside in
-    let same : t.config ≡ c.args.gates.now.config = ap (λ (s : TaskState). s.config) c.self.view_is ∙ c.requires.1 in
-    let went = c.go_on.ensures.went (DropMount c.args.mount c.args.cpu) c.args.self.now (has_begun t.number t.config c.args.gates.now.config same t.begins t.kept t.spare t.seat.me.0 c.self.invariant.0 (DropMount c.args.mount c.args.cpu) t.seat.table_id c.args.self.now c.self.view_is c.in_ok-admit.ensures c.first_phase-phase.result c.first_phase-phase.ensures) in
-    let ended = ap (λ n. phase_after (at_phases (λ (p : Phase). p) n)) c.in-Done.is ∙ sym (idle t.number t.config c.args.gates.now.config same t.begins t.kept t.spare t.seat.me.0 c.self.invariant.0 (DropMount c.args.mount c.args.cpu) t.seat.table_id c.args.self.now c.self.view_is c.in_ok-admit.ensures c.first_phase-phase.result c.first_phase-phase.ensures) in
-    (ties_at t.number t.config c.args.gates.now.config same t.begins t.kept t.spare t.seat.me.0 c.self.invariant.0 (DropMount c.args.mount c.args.cpu) t.seat.table_id c.args.self.now c.self.view_is c.in_ok-admit.ensures c.first_phase-phase.result c.first_phase-phase.ensures (at_phases (λ (p : Phase). p) c.go_on.result) c.go_on.new.accesses c.go_on.new.seat.me.0 c.go_on.ensures.tied c.go_on.new.seat.table_id went t.kept.phase ended, c.go_on.ensures.slots ∙ c.self.invariant.1, c.self.invariant.2)
+    let d = (goal.at.invariant_of-self c).After-go_on in
+    (ties_done (call d) (left d) c.in-Done.answer (done_at (λ (p : Phase). p) c.go_on.result c.in-Done.answer c.in-Done.is),
+      c.go_on.ensures.slots ∙ c.self.invariant.1, c.self.invariant.2)
 
 pub invariant_of-self-in-Go : goal.invariant_of-self-in-Go
 invariant_of-self-in-Go c =
-    let t = c.self.inside in
-    let same : t.config ≡ c.args.gates.now.config = ap (λ (s : TaskState). s.config) c.self.view_is ∙ c.requires.1 in
-    let went = c.go_on.ensures.went (DropMount c.args.mount c.args.cpu) c.args.self.now (has_begun t.number t.config c.args.gates.now.config same t.begins t.kept t.spare t.seat.me.0 c.self.invariant.0 (DropMount c.args.mount c.args.cpu) t.seat.table_id c.args.self.now c.self.view_is c.in_ok-admit.ensures c.first_phase-phase.result c.first_phase-phase.ensures) in
-    (ties_at t.number t.config c.args.gates.now.config same t.begins t.kept t.spare t.seat.me.0 c.self.invariant.0 (DropMount c.args.mount c.args.cpu) t.seat.table_id c.args.self.now c.self.view_is c.in_ok-admit.ensures c.first_phase-phase.result c.first_phase-phase.ensures (at_phases (λ (p : Phase). p) c.go_on.result) c.go_on.new.accesses c.go_on.new.seat.me.0 c.go_on.ensures.tied c.go_on.new.seat.table_id went (Some c.in-Go.phase) (stands_at (λ (p : Phase). p) c.go_on.result c.in-Go.phase c.in-Go.is), c.go_on.ensures.slots ∙ c.self.invariant.1, c.self.invariant.2)
+    let d = (goal.at.invariant_of-self-in-Go c).After-go_on in
+    (ties_at (call d) (left d) _ (stands_at (λ (p : Phase). p) c.go_on.result c.in-Go.phase c.in-Go.is),
+      c.go_on.ensures.slots ∙ c.self.invariant.1, c.self.invariant.2)
 
 pub finish-requires-clause-trying : goal.finish-requires-clause-trying
 finish-requires-clause-trying c =
-    let t = c.self.inside in
-    let same : t.config ≡ c.args.gates.now.config = ap (λ (s : TaskState). s.config) c.self.view_is ∙ c.requires.1 in
-    let went = c.go_on.ensures.went (DropMount c.args.mount c.args.cpu) c.args.self.now (has_begun t.number t.config c.args.gates.now.config same t.begins t.kept t.spare t.seat.me.0 c.self.invariant.0 (DropMount c.args.mount c.args.cpu) t.seat.table_id c.args.self.now c.self.view_is c.in_ok-admit.ensures c.first_phase-phase.result c.first_phase-phase.ensures) in
-    record { op = DropMount c.args.mount c.args.cpu; start = c.args.self.now; goes = goes_at t.number t.config c.args.gates.now.config same t.begins t.kept t.spare t.seat.me.0 c.self.invariant.0 (DropMount c.args.mount c.args.cpu) t.seat.table_id c.args.self.now c.self.view_is c.in_ok-admit.ensures c.first_phase-phase.result c.first_phase-phase.ensures (at_phases (λ (p : Phase). p) c.go_on.result) c.go_on.new.accesses c.go_on.new.seat.me.0 c.go_on.ensures.tied c.go_on.new.seat.table_id went c.in-Go.phase (stands_at (λ (p : Phase). p) c.go_on.result c.in-Go.phase c.in-Go.is); tries = refl }
+    let d = (goal.at.finish-requires-clause-trying c).After-go_on in record {
+      op = (call d).op;
+      start = (call d).start;
+      goes = goes_at (call d) (left d) c.in-Go.phase (stands_at (λ (p : Phase). p) c.go_on.result c.in-Go.phase c.in-Go.is);
+      tries = tt;
+    }
 
 pub returns-in-Done : goal.returns-in-Done
 returns-in-Done c =
-    let t = c.self.inside in
-    let same : t.config ≡ c.args.gates.now.config = ap (λ (s : TaskState). s.config) c.self.view_is ∙ c.requires.1 in
-    let went = c.go_on.ensures.went (DropMount c.args.mount c.args.cpu) c.args.self.now (has_begun t.number t.config c.args.gates.now.config same t.begins t.kept t.spare t.seat.me.0 c.self.invariant.0 (DropMount c.args.mount c.args.cpu) t.seat.table_id c.args.self.now c.self.view_is c.in_ok-admit.ensures c.first_phase-phase.result c.first_phase-phase.ensures) in
-    was_done (DropMount c.args.mount c.args.cpu) c.args.self.now _ c.outcome.result c.in_ok-admit.ensures
-    (ended_at t.number t.config c.args.gates.now.config same t.begins t.kept t.spare t.seat.me.0 c.self.invariant.0 (DropMount c.args.mount c.args.cpu) t.seat.table_id c.args.self.now c.self.view_is c.in_ok-admit.ensures c.first_phase-phase.result c.first_phase-phase.ensures (at_phases (λ (p : Phase). p) c.go_on.result) c.go_on.new.accesses c.go_on.new.seat.me.0 c.go_on.ensures.tied c.go_on.new.seat.table_id went c.in-Done.answer (ap (λ n. at_phases (λ (p : Phase). p) n) c.in-Done.is) c.outcome.result c.outcome.ensures)
+    let d = (goal.at.returns-in-Done c).After-go_on in
+    was_done unit_of (call d).op (call d).start _ c.in-Done.answer c.outcome.result c.outcome.ensures (call d).admitted
+    (ended_at (call d) (left d) c.in-Done.answer (done_at (λ (p : Phase). p) c.go_on.result c.in-Done.answer c.in-Done.is))
 
 pub returns-in-Go : goal.returns-in-Go
 returns-in-Go c =
-    let t = c.self.inside in
-    let same : t.config ≡ c.args.gates.now.config = ap (λ (s : TaskState). s.config) c.self.view_is ∙ c.requires.1 in
-    let went = c.go_on.ensures.went (DropMount c.args.mount c.args.cpu) c.args.self.now (has_begun t.number t.config c.args.gates.now.config same t.begins t.kept t.spare t.seat.me.0 c.self.invariant.0 (DropMount c.args.mount c.args.cpu) t.seat.table_id c.args.self.now c.self.view_is c.in_ok-admit.ensures c.first_phase-phase.result c.first_phase-phase.ensures) in
-    was_done (DropMount c.args.mount c.args.cpu) c.args.self.now c.finish.new.self c.finish.result c.in_ok-admit.ensures
-    (c.finish.ensures (DropMount c.args.mount c.args.cpu) c.args.self.now (goes_at t.number t.config c.args.gates.now.config same t.begins t.kept t.spare t.seat.me.0 c.self.invariant.0 (DropMount c.args.mount c.args.cpu) t.seat.table_id c.args.self.now c.self.view_is c.in_ok-admit.ensures c.first_phase-phase.result c.first_phase-phase.ensures (at_phases (λ (p : Phase). p) c.go_on.result) c.go_on.new.accesses c.go_on.new.seat.me.0 c.go_on.ensures.tied c.go_on.new.seat.table_id went c.in-Go.phase (stands_at (λ (p : Phase). p) c.go_on.result c.in-Go.phase c.in-Go.is)))
+    let d = (goal.at.returns-in-Go c).After-go_on in
+    was_done unit_of (call d).op (call d).start c.finish.new.self c.finish.result c.outcome-in-Go.result c.outcome-in-Go.ensures (call d).admitted
+    (c.finish.ensures (call d).op (call d).start
+    (goes_at (call d) (left d) c.in-Go.phase (stands_at (λ (p : Phase). p) c.go_on.result c.in-Go.phase c.in-Go.is)))
+
+pub returns-in_err-admit : goal.returns-in_err-admit
+returns-in_err-admit c = let p = err_from_is_err_and c.from_residual.result c.from_residual.ensures.1 in
+    rw (p.1, p.2) (was_refused unit_of (DropMount c.args.mount c.args.cpu) c.args.self.now c.args.self.now c.in_err-admit.field-0.0 c.in_err-admit.ensures refl)

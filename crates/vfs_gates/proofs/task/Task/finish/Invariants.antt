@@ -1,8 +1,8 @@
-use Rattle.std.proofs.Common.{◌≡◌, ◌-◌}
+use Rattle.std.proofs.Common.{◌≡◌}
 use Rattle.gate_world.specs.declared.operations.Op.{Op}
 use Rattle.vfs_gates.specs.TaskStates.{TaskState}
 use Rattle.vfs_gates.specs.Runs.{Goes, IsTrying}
-use Rattle.vfs_gates.proofs.Running.{steps_of}
+use Rattle.vfs_gates.proofs.Running.{events_left}
 use Rattle.vfs_gates.proofs.task.Task.finish.Given as goal
 
 abbrev pub invariant-loop-answer : goal.invariant-loop-answer
@@ -14,4 +14,4 @@ invariant-loop-answer l = record {
 }
 
 abbrev pub decreases-loop-answer : goal.decreases-loop-answer
-decreases-loop-answer l = 72 - steps_of l.self
+decreases-loop-answer l = events_left l.self

@@ -36,3 +36,16 @@ returns-clause-event c =
     stepped_there c.do_event-action.ensures.stepped before
     (λ i. record { event = Some c.do_event-action.result.event; action = c.do_event-action.result.action; progress = told i })
     (λ i. task_state c.do_event-action.new.seat.table_id (sym same i) None (stands i) c.do_event-action.new.seat.me.0) refl
+
+pub returns-in_default-clause-idle : goal.returns-in_default-clause-idle
+returns-in_default-clause-idle c idle = (refl, c.idle.ensures)
+
+pub returns-in_default-clause-event : goal.returns-in_default-clause-event
+returns-in_default-clause-event c phase at =
+    let both : None ≡ Some phase = sym c.in_default.is ∙ (ap (λ (s : TaskState). s.phase) c.self.view_is ∙ at) in
+    absurd (let no : ⊥ = cc in no)
+
+pub returns-clause-idle : goal.returns-clause-idle
+returns-clause-idle c idle =
+    let both : None ≡ Some c.in-Some.phase = sym idle ∙ (sym (ap (λ (s : TaskState). s.phase) c.self.view_is) ∙ c.in-Some.is) in
+    absurd (let no : ⊥ = cc in no)

@@ -1,4 +1,5 @@
-use Rattle.std.proofs.Common.{◌≡◌, refl, sym, ap, ◌∙◌, false}
+-- a want: its beginning, its events in a line, and what it writes down
+use Rattle.std.proofs.Common.{ℕ, false, refl, sym, ap, ◌∙◌}
 use Rattle.std.specs.Prelude.{Some}
 use Rattle.gate_world.specs.declared.operations.Op.TheVariants.{Want}
 use Rattle.gate_world.specs.declared.work.Phase.{Phase}
@@ -6,53 +7,77 @@ use Rattle.gate_world.specs.declared.work.Phase.TheVariants.{Mounts}
 use Rattle.mount_counts.specs.declared.phases.MountPhase.TheVariants.{Want as Wants}
 use Rattle.mount_counts.specs.declared.phases.Want.{Want as WantType}
 use Rattle.mount_counts.specs.declared.phases.WantStep.TheVariants.{CountsUp}
-use Rattle.gate_world.specs.Views.{phase_after}
 use Rattle.gate_world.specs.Work.{at_phases}
-use Rattle.vfs_gates.specs.TaskStates.{TaskState}
-use Rattle.vfs_gates.proofs.Calling.{is_tied, has_begun, idle, ties_at, goes_at, ended_at, stands_at}
-use Rattle.vfs_gates.proofs.Running.{was_done}
+use Rattle.std.proofs.lemmas.Result.{err_from_is_err_and}
+use Rattle.vfs_gates.specs.Runs.{unit_of}
+use Rattle.vfs_gates.proofs.Calling.{Call, Left, call_of, is_tied, has_begun, ties_at, ties_done, goes_at, ended_at, stands_at, done_at}
+use Rattle.vfs_gates.proofs.Running.{was_refused, was_done}
 use Rattle.vfs_gates.proofs.task.Task.try_want.Goals as goal
+use Rattle.vfs_gates.proofs.task.Task.try_want.Goals.{After-want_in_line}
+
+-- a want stands for its phase
+abbrev as_phase : WantType → Phase
+as_phase want = Mounts (Wants want)
+
+-- the want that begins
+abbrev starts_at : ℕ → ℕ → WantType
+starts_at mount cpu = record { mount = mount; cpu = cpu; wait = false; step = CountsUp }
+
+-- the call, and what its event has left
+abbrev call : After-want_in_line → Call
+call c =
+    call_of (Want c.args.mount c.args.cpu false) c.self.inside c.args.gates.now.config c.args.self.now c.self.view_is c.requires.1 c.self.invariant.0
+    c.in_ok-admit.ensures (as_phase (starts_at c.args.mount c.args.cpu)) refl
+
+abbrev left : (c : After-want_in_line) → Left (call c)
+left c = record {
+  next = at_phases as_phase c.want_in_line.result;
+  accesses = c.want_in_line.new.accesses;
+  items = c.want_in_line.new.seat.me.0;
+  table = c.want_in_line.new.seat.table_id;
+  tied = c.want_in_line.ensures.tied;
+  went = c.want_in_line.ensures.went (call c).op (call c).start (has_begun (call c));
+}
 
 pub want_in_line-requires-clause-tied : goal.want_in_line-requires-clause-tied
 want_in_line-requires-clause-tied c =
-    let t = c.self.inside in
-    let same : t.config ≡ c.args.gates.now.config = ap (λ (s : TaskState). s.config) c.self.view_is ∙ c.requires.1 in
-    is_tied t.number t.config c.args.gates.now.config same t.begins t.kept t.spare t.seat.me.0 c.self.invariant.0 (Want c.args.mount c.args.cpu false) t.seat.table_id c.args.self.now c.self.view_is c.in_ok-admit.ensures (Mounts (Wants (record { mount = c.args.mount; cpu = c.args.cpu; wait = false; step = CountsUp }))) refl
+    is_tied (call_of (Want c.args.mount c.args.cpu false) c.self.inside c.args.gates.now.config c.args.self.now c.self.view_is c.requires.1 c.self.invariant.0
+    c.in_ok-admit.ensures (as_phase (starts_at c.args.mount c.args.cpu)) refl)
 
 pub invariant_of-self : goal.invariant_of-self
 invariant_of-self c =
-    let t = c.self.inside in
-    let same : t.config ≡ c.args.gates.now.config = ap (λ (s : TaskState). s.config) c.self.view_is ∙ c.requires.1 in
-    let went = c.want_in_line.ensures.went (Want c.args.mount c.args.cpu false) c.args.self.now (has_begun t.number t.config c.args.gates.now.config same t.begins t.kept t.spare t.seat.me.0 c.self.invariant.0 (Want c.args.mount c.args.cpu false) t.seat.table_id c.args.self.now c.self.view_is c.in_ok-admit.ensures (Mounts (Wants (record { mount = c.args.mount; cpu = c.args.cpu; wait = false; step = CountsUp }))) refl) in
-    let ended = ap (λ n. phase_after (at_phases (λ (w : WantType). Mounts (Wants w)) n)) c.in-Done.is ∙ sym (idle t.number t.config c.args.gates.now.config same t.begins t.kept t.spare t.seat.me.0 c.self.invariant.0 (Want c.args.mount c.args.cpu false) t.seat.table_id c.args.self.now c.self.view_is c.in_ok-admit.ensures (Mounts (Wants (record { mount = c.args.mount; cpu = c.args.cpu; wait = false; step = CountsUp }))) refl) in
-    (ties_at t.number t.config c.args.gates.now.config same t.begins t.kept t.spare t.seat.me.0 c.self.invariant.0 (Want c.args.mount c.args.cpu false) t.seat.table_id c.args.self.now c.self.view_is c.in_ok-admit.ensures (Mounts (Wants (record { mount = c.args.mount; cpu = c.args.cpu; wait = false; step = CountsUp }))) refl (at_phases (λ (w : WantType). Mounts (Wants w)) c.want_in_line.result) c.want_in_line.new.accesses c.want_in_line.new.seat.me.0 c.want_in_line.ensures.tied c.want_in_line.new.seat.table_id went t.kept.phase ended, c.want_in_line.ensures.slots ∙ c.self.invariant.1, c.self.invariant.2)
+    let d = (goal.at.invariant_of-self c).After-want_in_line in
+    (ties_done (call d) (left d) c.in-Done.answer (done_at as_phase c.want_in_line.result c.in-Done.answer c.in-Done.is),
+      c.want_in_line.ensures.slots ∙ c.self.invariant.1, c.self.invariant.2)
 
 pub invariant_of-self-in-Go : goal.invariant_of-self-in-Go
 invariant_of-self-in-Go c =
-    let t = c.self.inside in
-    let same : t.config ≡ c.args.gates.now.config = ap (λ (s : TaskState). s.config) c.self.view_is ∙ c.requires.1 in
-    let went = c.want_in_line.ensures.went (Want c.args.mount c.args.cpu false) c.args.self.now (has_begun t.number t.config c.args.gates.now.config same t.begins t.kept t.spare t.seat.me.0 c.self.invariant.0 (Want c.args.mount c.args.cpu false) t.seat.table_id c.args.self.now c.self.view_is c.in_ok-admit.ensures (Mounts (Wants (record { mount = c.args.mount; cpu = c.args.cpu; wait = false; step = CountsUp }))) refl) in
-    (ties_at t.number t.config c.args.gates.now.config same t.begins t.kept t.spare t.seat.me.0 c.self.invariant.0 (Want c.args.mount c.args.cpu false) t.seat.table_id c.args.self.now c.self.view_is c.in_ok-admit.ensures (Mounts (Wants (record { mount = c.args.mount; cpu = c.args.cpu; wait = false; step = CountsUp }))) refl (at_phases (λ (w : WantType). Mounts (Wants w)) c.want_in_line.result) c.want_in_line.new.accesses c.want_in_line.new.seat.me.0 c.want_in_line.ensures.tied c.want_in_line.new.seat.table_id went (Some c.phase.result) (stands_at (λ (w : WantType). Mounts (Wants w)) c.want_in_line.result c.in-Go.want c.in-Go.is ∙ ap (λ (p : Phase). Some p) (sym c.phase.ensures)), c.want_in_line.ensures.slots ∙ c.self.invariant.1, c.self.invariant.2)
+    let d = (goal.at.invariant_of-self-in-Go c).After-want_in_line in
+    (ties_at (call d) (left d) _ (stands_at as_phase c.want_in_line.result c.in-Go.want c.in-Go.is ∙ ap (λ (p : Phase). Some p) (sym c.phase.ensures)),
+      c.want_in_line.ensures.slots ∙ c.self.invariant.1, c.self.invariant.2)
 
 pub finish-requires-clause-trying : goal.finish-requires-clause-trying
 finish-requires-clause-trying c =
-    let t = c.self.inside in
-    let same : t.config ≡ c.args.gates.now.config = ap (λ (s : TaskState). s.config) c.self.view_is ∙ c.requires.1 in
-    let went = c.want_in_line.ensures.went (Want c.args.mount c.args.cpu false) c.args.self.now (has_begun t.number t.config c.args.gates.now.config same t.begins t.kept t.spare t.seat.me.0 c.self.invariant.0 (Want c.args.mount c.args.cpu false) t.seat.table_id c.args.self.now c.self.view_is c.in_ok-admit.ensures (Mounts (Wants (record { mount = c.args.mount; cpu = c.args.cpu; wait = false; step = CountsUp }))) refl) in
-    record { op = Want c.args.mount c.args.cpu false; start = c.args.self.now; goes = goes_at t.number t.config c.args.gates.now.config same t.begins t.kept t.spare t.seat.me.0 c.self.invariant.0 (Want c.args.mount c.args.cpu false) t.seat.table_id c.args.self.now c.self.view_is c.in_ok-admit.ensures (Mounts (Wants (record { mount = c.args.mount; cpu = c.args.cpu; wait = false; step = CountsUp }))) refl (at_phases (λ (w : WantType). Mounts (Wants w)) c.want_in_line.result) c.want_in_line.new.accesses c.want_in_line.new.seat.me.0 c.want_in_line.ensures.tied c.want_in_line.new.seat.table_id went c.phase.result (stands_at (λ (w : WantType). Mounts (Wants w)) c.want_in_line.result c.in-Go.want c.in-Go.is ∙ ap (λ (p : Phase). Some p) (sym c.phase.ensures)); tries = refl }
+    let d = (goal.at.finish-requires-clause-trying c).After-want_in_line in record {
+      op = (call d).op;
+      start = (call d).start;
+      goes = goes_at (call d) (left d) c.phase.result (stands_at as_phase c.want_in_line.result c.in-Go.want c.in-Go.is ∙ ap (λ (p : Phase). Some p) (sym c.phase.ensures));
+      tries = tt;
+    }
 
 pub returns-in-Done : goal.returns-in-Done
 returns-in-Done c =
-    let t = c.self.inside in
-    let same : t.config ≡ c.args.gates.now.config = ap (λ (s : TaskState). s.config) c.self.view_is ∙ c.requires.1 in
-    let went = c.want_in_line.ensures.went (Want c.args.mount c.args.cpu false) c.args.self.now (has_begun t.number t.config c.args.gates.now.config same t.begins t.kept t.spare t.seat.me.0 c.self.invariant.0 (Want c.args.mount c.args.cpu false) t.seat.table_id c.args.self.now c.self.view_is c.in_ok-admit.ensures (Mounts (Wants (record { mount = c.args.mount; cpu = c.args.cpu; wait = false; step = CountsUp }))) refl) in
-    was_done (Want c.args.mount c.args.cpu false) c.args.self.now _ c.outcome.result c.in_ok-admit.ensures
-    (ended_at t.number t.config c.args.gates.now.config same t.begins t.kept t.spare t.seat.me.0 c.self.invariant.0 (Want c.args.mount c.args.cpu false) t.seat.table_id c.args.self.now c.self.view_is c.in_ok-admit.ensures (Mounts (Wants (record { mount = c.args.mount; cpu = c.args.cpu; wait = false; step = CountsUp }))) refl (at_phases (λ (w : WantType). Mounts (Wants w)) c.want_in_line.result) c.want_in_line.new.accesses c.want_in_line.new.seat.me.0 c.want_in_line.ensures.tied c.want_in_line.new.seat.table_id went c.in-Done.answer (ap (λ n. at_phases (λ (w : WantType). Mounts (Wants w)) n) c.in-Done.is) c.outcome.result c.outcome.ensures)
+    let d = (goal.at.returns-in-Done c).After-want_in_line in
+    was_done unit_of (call d).op (call d).start _ c.in-Done.answer c.outcome.result c.outcome.ensures (call d).admitted
+    (ended_at (call d) (left d) c.in-Done.answer (done_at as_phase c.want_in_line.result c.in-Done.answer c.in-Done.is))
 
 pub returns-in-Go : goal.returns-in-Go
 returns-in-Go c =
-    let t = c.self.inside in
-    let same : t.config ≡ c.args.gates.now.config = ap (λ (s : TaskState). s.config) c.self.view_is ∙ c.requires.1 in
-    let went = c.want_in_line.ensures.went (Want c.args.mount c.args.cpu false) c.args.self.now (has_begun t.number t.config c.args.gates.now.config same t.begins t.kept t.spare t.seat.me.0 c.self.invariant.0 (Want c.args.mount c.args.cpu false) t.seat.table_id c.args.self.now c.self.view_is c.in_ok-admit.ensures (Mounts (Wants (record { mount = c.args.mount; cpu = c.args.cpu; wait = false; step = CountsUp }))) refl) in
-    was_done (Want c.args.mount c.args.cpu false) c.args.self.now c.finish.new.self c.finish.result c.in_ok-admit.ensures
-    (c.finish.ensures (Want c.args.mount c.args.cpu false) c.args.self.now (goes_at t.number t.config c.args.gates.now.config same t.begins t.kept t.spare t.seat.me.0 c.self.invariant.0 (Want c.args.mount c.args.cpu false) t.seat.table_id c.args.self.now c.self.view_is c.in_ok-admit.ensures (Mounts (Wants (record { mount = c.args.mount; cpu = c.args.cpu; wait = false; step = CountsUp }))) refl (at_phases (λ (w : WantType). Mounts (Wants w)) c.want_in_line.result) c.want_in_line.new.accesses c.want_in_line.new.seat.me.0 c.want_in_line.ensures.tied c.want_in_line.new.seat.table_id went c.phase.result (stands_at (λ (w : WantType). Mounts (Wants w)) c.want_in_line.result c.in-Go.want c.in-Go.is ∙ ap (λ (p : Phase). Some p) (sym c.phase.ensures))))
+    let d = (goal.at.returns-in-Go c).After-want_in_line in
+    was_done unit_of (call d).op (call d).start c.finish.new.self c.finish.result c.outcome-in-Go.result c.outcome-in-Go.ensures (call d).admitted
+    (c.finish.ensures (call d).op (call d).start
+    (goes_at (call d) (left d) c.phase.result (stands_at as_phase c.want_in_line.result c.in-Go.want c.in-Go.is ∙ ap (λ (p : Phase). Some p) (sym c.phase.ensures))))
+
+pub returns-in_err-admit : goal.returns-in_err-admit
+returns-in_err-admit c = let p = err_from_is_err_and c.from_residual.result c.from_residual.ensures.1 in
+    rw (p.1, p.2) (was_refused unit_of (Want c.args.mount c.args.cpu false) c.args.self.now c.args.self.now c.in_err-admit.field-0.0 c.in_err-admit.ensures refl)

@@ -1,0 +1,13 @@
+-- what a task that rests knows rests
+use Rattle.std.proofs.Common.{sym, ap, ◌∙◌, subst}
+use Rattle.vfs_gates.specs.TaskStates.{TaskState, HoldsNothing}
+use Rattle.vfs_gates.specs.Ties.{AllRest}
+use Rattle.vfs_gates.proofs.Parting.{all_rest}
+use Rattle.vfs_gates.proofs.task.Task.into_seat.Goals as goal
+
+pub returns-clause-rested : goal.returns-clause-rested
+returns-clause-rested c rests =
+    let t = c.self.inside in
+    subst (λ (s : TaskState). AllRest s.config t.seat.me.0) c.self.view_is
+    (all_rest t.number t.config t.begins t.kept t.spare t.seat.me.0 c.self.invariant.0
+    (ap (λ (s : TaskState). s.phase) c.self.view_is ∙ rests.0) (subst HoldsNothing (sym c.self.view_is) rests.1))
