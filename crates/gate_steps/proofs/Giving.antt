@@ -17,7 +17,8 @@ use Rattle.gate_world.specs.Rules.{IsGood, Part, Owner, Fitting, AtMount, SameWo
 use Rattle.gate_frames.proofs.Frames.{left_alone, shown_still}
 use Rattle.gate_steps.specs.declared.seating.Numbered.{Numbered}
 use Rattle.gate_steps.specs.Seating.{SeatItems, numbered, one_if, times, times_all, HaveViews, Dealt, without, view_in, renewed, kept_of, given_of, Spares}
-use Rattle.gate_steps.specs.Rules.{HasHistory}
+use Rattle.gate_world.specs.Moments.{HasMoment}
+use Rattle.gate_steps.specs.Histories.{HasHistory}
 use Rattle.gate_steps.proofs.Dealing.{one_if-same, one_if-other, times-append, times_all-set, times_all-one, times_all-snoc, known, apart}
 use Rattle.gate_steps.proofs.Lifting.{holds}
 
@@ -136,6 +137,7 @@ renewed_history c w n lt h =
       legal = h.legal;
       end = h.end ∙ sym (shown_still c w n lt w.words v refl refl refl refl refl refl (λ i. refl) refl refl);
       lists = λ x. each_updated (λ y (u : View). own_part y h.log ≡ u.actions) w.views n v x (h.lists n) (λ ne. h.lists x);
+      snapshots = λ x. each_updated (λ y (u : View). HasMoment c h.log y u.snapshot) w.views n v x tt (λ ne. h.snapshots x);
     }
 
 -- a seat gives a number that it has to give

@@ -1,14 +1,13 @@
 -- The rule of the table.
 use Rattle.std.specs.Prelude.{◌≡◌, ℕ, ◌*◌, List, length, slice_index}
-use Rattle.access_model.specs.Histories.{Done, end_of, IsLegal, IsMerge}
 use Rattle.cpu_words.specs.declared.names.WordName.{WordName}
 use Rattle.cpu_words.specs.Names.{IsWord, place}
 use Rattle.cpu_words.specs.Words.{Words, read}
 use Rattle.gate_world.specs.declared.config.Config.{Config}
-use Rattle.gate_world.specs.Configs.{IsWithin, model_limits, extents_of}
+use Rattle.gate_world.specs.Configs.{IsWithin, extents_of}
 use Rattle.gate_world.specs.Worlds.{World}
-use Rattle.gate_world.specs.Shown.{shown}
 use Rattle.gate_world.specs.Rules.{IsGood}
+use Rattle.gate_steps.specs.Histories.{HasHistory}
 use Rattle.gate_steps.specs.Seating.{SeatItems, Dealt, deal}
 
 -- 915 words, 16 apart
@@ -25,13 +24,6 @@ pub record Ruled (c : Config) (ws : List ℕ) (w : World) : Type 0 where
   pub long : length ws ≡ table_length
   pub words : TableShows c ws w.words
   pub good : IsGood c w
-
--- one history: a legal log of actions, whose end is the shown model, and of which each number's own list is its part
-pub record HasHistory (c : Config) (w : World) : Type 0 where
-  pub log : List Done
-  pub legal : IsLegal (model_limits c) log
-  pub end : end_of log ≡ shown c w
-  pub lists : IsMerge (λ t. (w.views t).actions) log
 
 -- the rule of the table
 pub record Held (c : Config) (ws : List ℕ) (seats : List SeatItems) : Type 0 where

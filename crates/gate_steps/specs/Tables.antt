@@ -4,8 +4,9 @@ use Rattle.cpu_words.specs.declared.names.WordName.TheVariants.{Node}
 use Rattle.cpu_words.specs.Names.{place}
 use Rattle.gate_world.specs.declared.config.Config.{Config}
 use Rattle.gate_world.specs.Worlds.{World}
+use Rattle.gate_steps.specs.Histories.{HasHistory}
 use Rattle.gate_steps.specs.Seating.{SeatItems, HaveViews, times}
-use Rattle.gate_steps.specs.Rules.{table_length, Ruled, HasHistory}
+use Rattle.gate_steps.specs.Rules.{table_length, Ruled}
 
 -- all words as they begin: 0, but for the root's, a directory
 pub record AreOpening (ws : List ℕ) : Type 0 where
