@@ -6,3 +6,4 @@ pub mod Ending
 pub mod Running
 pub mod Admitting
 pub mod Calling
+pub mod Seeing
