@@ -1,9 +1,10 @@
 -- The rule of the table.
-use Rattle.std.specs.Prelude.{◌≡◌, ℕ, ◌*◌, List, length, slice_index}
+use Rattle.std.specs.Prelude.{◌≡◌, ℕ, ◌*◌, ◌<◌, List, [], length, slice_index}
 use Rattle.cpu_words.specs.declared.names.WordName.{WordName}
 use Rattle.cpu_words.specs.Names.{IsWord, place}
-use Rattle.cpu_words.specs.Words.{Words, read}
+use Rattle.cpu_words.specs.Words.{Words, read, opening_words}
 use Rattle.gate_world.specs.declared.config.Config.{Config}
+use Rattle.gate_world.specs.declared.views.View.{View}
 use Rattle.gate_world.specs.Configs.{IsWithin, extents_of}
 use Rattle.gate_world.specs.Worlds.{World}
 use Rattle.gate_world.specs.Rules.{IsGood}
@@ -18,12 +19,17 @@ table_length = 14640
 abbrev pub TableShows : Config → List ℕ → Words → Type 0
 TableShows c ws words = (name : WordName) → IsWord (extents_of c) name → slice_index ws (16 * place name) ≡ read words name
 
--- the rule of words and views holds of the world, which the table shows
+-- no number of a task has had an event
+abbrev pub IsUntouched : Config → (ℕ → View) → Type 0
+IsUntouched c views = (t : ℕ) → t < c.tasks → (views t).events ≡ []
+
+-- The rule of words and views holds of the world, which the table shows. Until the first event all words are as they begin.
 pub record Ruled (c : Config) (ws : List ℕ) (w : World) : Type 0 where
   pub within : IsWithin c
   pub long : length ws ≡ table_length
   pub words : TableShows c ws w.words
   pub good : IsGood c w
+  pub opens : IsUntouched c w.views → w.words ≡ opening_words
 
 -- the rule of the table
 pub record Held (c : Config) (ws : List ℕ) (seats : List SeatItems) : Type 0 where
