@@ -2,3 +2,5 @@ pub mod Frames
 pub mod Loads
 pub mod Snapshots
 pub mod Keeps
+pub mod Accesses
+pub mod Places

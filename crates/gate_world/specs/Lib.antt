@@ -4,6 +4,7 @@ pub mod Snapshots
 pub mod Views
 pub mod Found
 pub mod Operations
+pub mod Accesses
 pub mod Beginnings
 pub mod Worlds
 pub mod Shown

@@ -18,16 +18,16 @@ use Rattle.gate_world.specs.Work.{next_of, after_of}
 use Rattle.gate_world.specs.Worlds.{World, value_at, found_at}
 use Rattle.gate_world.specs.Fits.{PhaseFits, Fits}
 use Rattle.gate_core.specs.declared.seats.Seat.{Seat}
-use Rattle.gate_core.specs.declared.seats.Accesses.{Accesses}
+use Rattle.gate_world.specs.declared.accesses.Accesses.{Accesses}
 use Rattle.gate_core.specs.declared.steps.Progress.{Progress}
-use Rattle.gate_core.specs.Memory.{mounts_in, levels_in}
+use Rattle.gate_core.specs.Seats.{mounts_in, levels_in}
 use Rattle.gate_core.specs.declared.steps.Step.{Step}
 use Rattle.gate_core.specs.Answers.{progress_of, phase_step}
 use Rattle.gate_world.specs.Fits.{ActionFits}
-use Rattle.gate_core.specs.Seats.{accesses_after}
+use Rattle.gate_world.specs.Accesses.{accesses_after}
 use Rattle.gate_world.specs.Fits.{mounts_by, levels_by}
-use Rattle.gate_core.proofs.Phases.{action_fits, fits_after, fits_agree}
-use Rattle.gate_core.proofs.Held.{mounts_of_after, levels_of_after, long_after, wide_after, mounts_same, levels_same}
+use Rattle.schedule_laws.proofs.Phases.{action_fits, fits_after, fits_agree}
+use Rattle.gate_frames.proofs.Accesses.{mounts_of_after, levels_of_after, long_after, wide_after, mounts_same, levels_same}
 use Rattle.gate_steps.specs.declared.seating.Numbered.{Numbered}
 use Rattle.gate_steps.specs.Seating.{SeatItems, numbered, entered, done_by, items_after, IsMove}
 use Rattle.atomic_table.specs.Seated.{TableId}
