@@ -11,6 +11,7 @@ use Rattle.gate_world.specs.declared.work.Phase.TheVariants.{Mounts}
 use Rattle.gate_world.specs.Fits.{Fits}
 use Rattle.gate_frames.proofs.Keeps.{by_bool, none_agree, PhaseKeeps, IsSmall, OpKeeps}
 use Rattle.gate_frames.proofs.Loads.{role_none}
+use Rattle.gate_frames.proofs.Snapshots.{completes_none}
 use Rattle.gate_world.specs.declared.operations.Op.TheVariants.{ChangeMount}
 use Rattle.gate_world.specs.Traces.{most_events}
 use Rattle.trace_laws.proofs.Says.{tells, is_short}
@@ -26,6 +27,7 @@ use Rattle.gate_world.specs.Rules.{Fitting}
 pub change_phase : (c : Config) (x : Change) → PhaseKeeps c (Mounts (Changes x))
 change_phase c x = record {
   step = λ lim w good t lt hook e. change_keeps c lim w good t lt hook x.mount x.read_only x.wait x.task x.processors x.step e;
+  completes = λ lim w good t lt hook e. completes_none c w t hook (Changes x);
   word = λ lim t held levels hook f. change_there c lim t held levels x x.step f.0 f.4;
   acts = λ lim t held levels found hook f. change_acts c lim t held levels x x.step found;
   goes = λ lim t held levels found hook f. change_goes c lim t held levels x x.step found f;

@@ -13,7 +13,9 @@ ghost use Rattle.gate_world.specs.Causes.{RefusalsHaveCauses};
 ///
 /// - `moves`: whatever entry comes next, an event that adds an action adds one that is allowed in the shown model, whose effect gives
 ///   the new shown model; every other entry leaves the shown model as it was.
-/// - `run`: so the actions so far are a legal history whose end is the shown model, and each task's own list is its part of it.
+/// - `run`: so the actions so far are a legal history whose end is the shown model, each task's own list is its part of it, and each
+///   task's last snapshot has a moment in it at which everything was frozen, with the tree that was loaded, after just what the task had
+///   done at the snapshot's last load.
 /// - `inside`: nobody holds an access at a read-only mount, nor at a level that a freeze has passed.
 /// - `sums`, `idle`: each mount's words sum to what is held and sought there, and, with no operation under way, to the accesses held.
 /// - `operations`: each task's events follow the order of its operation; one that replied has added exactly its stated actions, a

@@ -21,6 +21,7 @@ use Rattle.gate_world.specs.Causes.{all_counted, HasCause}
 use Rattle.gate_world.specs.KeptCauses.{CauseOf}
 use Rattle.gate_world.specs.Beginnings.{first_phase, is_in_range, is_in_order, is_within_room}
 use Rattle.gate_world.specs.Worlds.{World, after_step, found_at}
+use Rattle.gate_world.specs.Moments.{CompletesNow}
 use Rattle.gate_world.specs.declared.operations.Op.{Op}
 use Rattle.gate_world.specs.declared.views.Traced.{Traced}
 use Rattle.gate_world.specs.Courses.{course_of, IsTrace}
@@ -39,6 +40,9 @@ module _ (c : Config) (t : ℕ) (f g : ℕ → ℕ) (h k : ℕ → Bool) (mounts
 pub record PhaseKeeps (c : Config) (phase : Phase) : Type 0 where
   -- its event keeps the rule, and moves the shown model by its action
   pub step : IsWithin c → (w : World) → IsGood c w → (t : ℕ) → t < c.tasks → (hook : HookAnswer) → (w.views t).phase ≡ Some phase → StepKeeps c w t hook phase
+  -- a snapshot that its event completes is of the present tree
+  pub completes : IsWithin c → (w : World) → IsGood c w → (t : ℕ) → t < c.tasks → (hook : HookAnswer) → (w.views t).phase ≡ Some phase →
+      CompletesNow c w t hook phase
   -- the word of its event is there
   pub word : IsWithin c → (t : ℕ) (held : ℕ → ℕ) (levels : ℕ → Bool) (hook : HookAnswer) → PhaseFits c t held levels phase → IsWord (extents_of c) (next_of phase hook).0
   -- its action can be done

@@ -4,6 +4,7 @@ pub mod Frames
 pub mod MountEvents
 pub mod Loads
 pub mod Owners
+pub mod Snapshots
 pub mod Keeps
 pub mod Accesses
 pub mod Places

@@ -78,7 +78,8 @@ module _ (tasks : ℕ) (views : ℕ → View) (seats : List SeatItems) (dealt : 
           let f : times t l ≡ times t (numbered t v ∷ rest) = ap (times t) is in
           omega arith
 
-      inside : HaveViews new (numbered t w ∷ rest)
+      -- so the seat has these views
+      pub inside : HaveViews new (numbered t w ∷ rest)
       inside zero y f = subst (λ (z : Numbered). new z.number ≡ z.view) (some-injective (numbered t w) y f) mine
       inside (suc k) y f =
           let there = times-at rest k y f in

@@ -17,7 +17,8 @@ use Rattle.gate_world.specs.Rules.{IsGood, Part, Owner, Fitting, AtMount, SameWo
 use Rattle.gate_frames.proofs.Frames.{left_alone, shown_still}
 use Rattle.gate_steps.specs.declared.seating.Numbered.{Numbered}
 use Rattle.gate_steps.specs.Seating.{SeatItems, numbered, one_if, times, times_all, HaveViews, Dealt, without, view_in, renewed, kept_of, given_of, Spares}
-use Rattle.gate_steps.specs.Rules.{HasHistory}
+use Rattle.gate_world.specs.Moments.{HasMoment}
+use Rattle.gate_steps.specs.Histories.{HasHistory}
 use Rattle.gate_steps.proofs.Dealing.{one_if-same, one_if-other, times-append, times_all-set, times_all-one, times_all-snoc, known, apart}
 use Rattle.gate_steps.proofs.Lifting.{holds}
 
@@ -136,7 +137,12 @@ renewed_history c w n lt h =
       legal = h.legal;
       end = h.end ∙ sym (shown_still c w n lt w.words v refl refl refl refl refl refl (λ i. refl) refl refl);
       lists = λ x. each_updated (λ y (u : View). own_part y h.log ≡ u.actions) w.views n v x (h.lists n) (λ ne. h.lists x);
+      snapshots = λ x. each_updated (λ y (u : View). HasMoment c h.log y u.snapshot) w.views n v x tt (λ ne. h.snapshots x);
     }
+
+-- and has had the same events
+renewed_events : (w : World) (n t : ℕ) → ((renewed_at w n).views t).events ≡ (w.views t).events
+renewed_events w n t = each_updated (λ y (u : View). u.events ≡ (w.views y).events) w.views n (renewed (w.views n)) t refl (λ ne. refl)
 
 -- a seat gives a number that it has to give
 pub splits : (c : Config) (id n : ℕ) (v : SeatItems) → Spares n v → Splits (holds c) id v (kept_of n v) (given_of n v)
@@ -150,7 +156,13 @@ splits c id n (x ∷ xs) spare s held at =
     let lt : n < c.tasks = (known c.tasks w.views s.views held.dealt n (omega arith)).0 in
     let v : View = renewed (w.views n) in record {
       world = renewed_at w n;
-      ruled = record { within = held.ruled.within; long = held.ruled.long; words = held.ruled.words; good = renewed_good c w held.ruled.good n lt };
+      ruled = record {
+        within = held.ruled.within;
+        long = held.ruled.long;
+        words = held.ruled.words;
+        good = renewed_good c w held.ruled.good n lt;
+        opens = λ untouched. held.ruled.opens (λ t there. sym (renewed_events w n t) ∙ untouched t there);
+      };
       history = renewed_history c w n lt held.history;
       dealt = divided c.tasks w.views s.views held.dealt id n x xs at spare (renewed u) (update w.views n v) (update_at w.views n v ∙ ap renewed is) (λ y ne. update_off w.views n v y ne);
     }

@@ -1,12 +1,12 @@
 -- The laws of one event and of a beginning as what a step on the table asks.
-use Rattle.std.proofs.Common.{◌≡◌, ℕ, ◌<◌, List, [], ◌∷◌, set, sym, refl, ap, ◌∙◌, subst, length-set, arith}
+use Rattle.std.proofs.Common.{◌≡◌, ℕ, suc, length, ◌<◌, List, [], ◌∷◌, set, sym, refl, ap, ◌∙◌, subst, length-set, arith}
 use Rattle.std.specs.Prelude.{is_some, Option, Some, None, slice_index}
 use Rattle.finite_sums.specs.Sums.{update}
 use Rattle.finite_sums.proofs.Totals.{update_at, update_off}
 use Rattle.atomic_table.specs.Table.{State, Me, keeps, Allows}
 use Rattle.access_model.specs.declared.actions.Action.{Action}
 use Rattle.access_model.specs.declared.replies.Next.{Next}
-use Rattle.access_model.specs.Histories.{Done, IsMerge}
+use Rattle.access_model.specs.Histories.{Done, end_of, IsLegal, IsMerge}
 use Rattle.access_model.specs.States.{State as Shown}
 use Rattle.cpu_words.specs.declared.names.WordName.{WordName}
 use Rattle.cpu_words.specs.declared.events.Touch.{Touch}
@@ -19,25 +19,32 @@ use Rattle.gate_world.specs.declared.config.Config.{Config}
 use Rattle.gate_world.specs.declared.operations.Op.{Op}
 use Rattle.gate_world.specs.declared.work.Phase.{Phase}
 use Rattle.gate_world.specs.declared.views.View.{View}
-use Rattle.gate_world.specs.Configs.{IsWithin, extents_of}
+use Rattle.gate_world.specs.declared.views.Snapshot.{Snapshot}
+use Rattle.gate_world.specs.Configs.{IsWithin, model_limits, extents_of}
 use Rattle.gate_world.specs.Work.{next_of, after_of}
-use Rattle.gate_world.specs.Views.{held_at, holds_level, begun_view, view_with, view_after}
+use Rattle.gate_world.specs.Snapshots.{completes, last_snapshot}
+use Rattle.gate_world.specs.Views.{held_at, holds_level, begun_view, view_with, view_after_beside}
 use Rattle.gate_world.specs.Beginnings.{first_phase, view_refusal}
-use Rattle.gate_world.specs.Worlds.{World, words_after, value_at, found_at, after_step, phase_action, with_action}
+use Rattle.gate_world.specs.Worlds.{World, words_after, value_at, found_at, after_step, after_step_beside, phase_action, with_action}
 use Rattle.gate_world.specs.Shown.{shown}
+use Rattle.gate_world.specs.Moments.{AllHaveMoments}
+use Rattle.history_moments.specs.Moments.{HaveDone}
 use Rattle.gate_world.specs.Fits.{Fits}
 use Rattle.gate_world.specs.Rules.{IsGood, Moves, StepKeeps}
+use Rattle.gate_frames.proofs.Snapshots.{others_apart}
 use Rattle.schedule_laws.proofs.Layers.{phase_keeps}
 use Rattle.schedule_laws.proofs.Beginnings.{may_begin}
 use Rattle.schedule_laws.proofs.Schedule.{begun_keeps, legal_more}
 use Rattle.gate_world.specs.Rules.{Fitting}
-use Rattle.schedule_laws.proofs.Lists.{step_lists, begin_lists}
+use Rattle.schedule_laws.proofs.Lists.{beside_lists, begin_lists}
+use Rattle.schedule_laws.proofs.Snapshots.{beside_moments, begin_moments}
 use Rattle.schedule_laws.proofs.Phases.{word_there}
 use Rattle.gate_steps.specs.declared.seating.Numbered.{Numbered}
-use Rattle.gate_steps.specs.Seating.{SeatItems, HaveViews, MayStep, Acts, entered, world_entered, items_after, happened}
+use Rattle.gate_steps.specs.Seating.{SeatItems, HaveViews, MayStep, Acts, entered, world_entered, done_by, items_after, happened}
+use Rattle.gate_steps.specs.Histories.{HasHistory}
 use Rattle.gate_steps.specs.Rules.{table_index, table_length, TableShows, Held}
 use Rattle.gate_steps.proofs.TableWords.{table_written}
-use Rattle.gate_steps.proofs.Dealing.{times-at, known_here, redealt}
+use Rattle.gate_steps.proofs.Dealing.{times-at, known_here, inside, redealt}
 
 abbrev pub Carried : Type 0
 Carried = List (ℕ × Unit {0})
@@ -46,42 +53,61 @@ abbrev pub holds : Config → State (Unit {0}) SeatItems → Type 0
 holds c s = Held c s.words s.views
 
 -- a view depends on a word's value only through what the event says that it found
-view_same : (v : View) (word : WordName) (touch : Touch) (n : ℕ) (hook : HookAnswer) (after : ℕ → Next Phase × Option Action) →
-    view_with v (word, touch) (found_by touch n) hook (after (found_by touch (found_by touch n))) ≡ view_with v (word, touch) n hook (after (found_by touch n))
-view_same v word Load n hook after = refl
-view_same v word (Store new) n hook after = refl
-view_same v word (Add by) n hook after = refl
-view_same v word (Sub by) n hook after = refl
-view_same v word (Or bits) n hook after = refl
-view_same v word (And bits) n hook after = refl
-view_same v word (Swap new) n hook after = refl
-view_same v word (Cas expect put) n hook after = refl
+view_same : (v : View) (word : WordName) (touch : Touch) (n : ℕ) (hook : HookAnswer) (after : ℕ → Next Phase × Option Action)
+    (last : ℕ → Option Snapshot) →
+    record (view_with v (word, touch) (found_by touch n) hook (after (found_by touch (found_by touch n)))) {
+      snapshot = last (found_by touch (found_by touch n));
+    } ≡
+    record (view_with v (word, touch) n hook (after (found_by touch n))) { snapshot = last (found_by touch n) }
+view_same v word Load n hook after last = refl
+view_same v word (Store new) n hook after last = refl
+view_same v word (Add by) n hook after last = refl
+view_same v word (Sub by) n hook after last = refl
+view_same v word (Or bits) n hook after last = refl
+view_same v word (And bits) n hook after last = refl
+view_same v word (Swap new) n hook after last = refl
+view_same v word (Cas expect put) n hook after last = refl
 
-pub found_serves : (v : View) (phase : Phase) (n : ℕ) (hook : HookAnswer) → view_after v phase (found_by (next_of phase hook).1 n) hook ≡ view_after v phase n hook
-found_serves v phase n hook = view_same v (next_of phase hook).0 (next_of phase hook).1 n hook (λ k. after_of phase k hook)
+pub found_serves : (others : List (ℕ × ℕ)) (v : View) (phase : Phase) (n : ℕ) (hook : HookAnswer) →
+    view_after_beside others v phase (found_by (next_of phase hook).1 n) hook ≡ view_after_beside others v phase n hook
+found_serves others v phase n hook =
+    view_same v (next_of phase hook).0 (next_of phase hook).1 n hook (λ k. after_of phase k hook)
+    (λ k. last_snapshot (completes phase v.trace k) v.actions others v.snapshot)
+
+-- the numbers that a seat has to give have done what it knows of them
+have_done : (views : ℕ → View) (log : List Done) → IsMerge (λ t. (views t).actions) log → (l : SeatItems) → HaveViews views l →
+    HaveDone (done_by l) log
+have_done views log lists [] mine = tt
+have_done views log lists (x ∷ xs) mine = (
+  ap length (lists x.number) ∙ ap (λ (v : View). length v.actions) (mine 0 x refl),
+  have_done views log lists xs (λ k. mine (suc k)),
+)
 
 -- the world with which an event of a task begins: the task may just have begun its operation
 record Entered (c : Config) (w : World) (t : ℕ) (begins : Option Op) (phase : Phase) (v : View) (log : List Done) : Type 0 where
   good : IsGood c (world_entered c w t begins)
   shows : shown c (world_entered c w t begins) ≡ shown c w
   lists : IsMerge (λ x. ((world_entered c w t begins).views x).actions) log
+  snapshots : AllHaveMoments c log (world_entered c w t begins)
   mine : (world_entered c w t begins).views t ≡ entered v begins phase
   at_phase : ((world_entered c w t begins).views t).phase ≡ Some phase
   words : (world_entered c w t begins).words ≡ w.words
   others : (y : ℕ) → (y ≡ t → ⊥) → (world_entered c w t begins).views y ≡ w.views y
 
-enter : (c : Config) (lim : IsWithin c) (w : World) → IsGood c w → (x : Numbered) → x.number < c.tasks → (log : List Done) → IsMerge (λ t. (w.views t).actions) log →
-    w.views x.number ≡ x.view → (begins : Option Op) (phase : Phase) → MayStep c begins phase x → Entered c w x.number begins phase x.view log
-enter c lim w good x lt log lists mine None phase may = record {
+enter : (c : Config) (lim : IsWithin c) (w : World) → IsGood c w → (x : Numbered) → x.number < c.tasks → (h : HasHistory c w) →
+    w.views x.number ≡ x.view → (begins : Option Op) (phase : Phase) → MayStep c begins phase x →
+    Entered c w x.number begins phase x.view h.log
+enter c lim w good x lt h mine None phase may = record {
   good = good;
   shows = refl;
-  lists = lists;
+  lists = h.lists;
+  snapshots = h.snapshots;
   mine = mine;
   at_phase = ap (λ (v : View). v.phase) mine ∙ may;
   words = refl;
   others = λ y ne. refl;
 }
-enter c lim w good x lt log lists mine (Some op) phase may =
+enter c lim w good x lt h mine (Some op) phase may =
     let t : ℕ = x.number in
     let v : View = begun_view (w.views t) op (first_phase c t op) in
     let ok : view_refusal c (w.views t) op ≡ None = ap (λ u. view_refusal c u op) mine ∙ may.0 in
@@ -90,12 +116,21 @@ enter c lim w good x lt log lists mine (Some op) phase may =
     record {
       good = kept.0;
       shows = kept.1;
-      lists = begin_lists c w log t op None lists;
+      lists = begin_lists c w h.log t op None h.lists;
+      snapshots = begin_moments c w h.log t op None h.snapshots;
       mine = here ∙ (λ i. begun_view (mine i) op (sym may.1 i));
       at_phase = ap (λ (u : View). u.phase) here ∙ ap Some (sym may.1);
       words = refl;
       others = λ y ne. update_off w.views t v y ne;
     }
+
+-- a view that has just had an event has had one
+touched : (others : List (ℕ × ℕ)) (u v : View) (phase : Phase) (n : ℕ) (hook : HookAnswer) → u ≡ view_after_beside others v phase n hook →
+    u.events ≡ [] → ⊥
+touched others u v phase n hook is none =
+    let both : (view_after_beside others v phase n hook).events ≡ [] = ap (λ (w : View). w.events) (sym is) ∙ none in
+    let no : ⊥ = cc in
+    no
 
 -- Whatever the event, the laws of the machine are what the step asks
 pub lifted : (c : Config) (slots id : ℕ) (items : SeatItems) (carried : Carried) (begins : Option Op) (phase : Phase) (hook : HookAnswer) → Acts c begins phase items →
@@ -109,12 +144,17 @@ lifted c slots id (x ∷ xs) carried begins phase hook acts s held len at small 
     let mine : HaveViews w.views (x ∷ xs) = held.dealt.same id (x ∷ xs) at in
     let lt : t < c.tasks = known_here c.tasks w.views s.views held.dealt id (x ∷ xs) at t (times-at (x ∷ xs) 0 x refl) in
     let log : List Done = held.history.log in
-    let en : Entered c w t begins phase x.view log = enter c lim w good x lt log held.history.lists (mine 0 x refl) begins phase acts in
+    let en : Entered c w t begins phase x.view log = enter c lim w good x lt held.history (mine 0 x refl) begins phase acts in
     let w' : World = world_entered c w t begins in
     let name : WordName = (next_of phase hook).0 in
     let touch : Touch = (next_of phase hook).1 in
-    let after : World = after_step w' t phase hook in
-    let kept : StepKeeps c w' t hook phase = (phase_keeps c phase).step lim w' en.good t lt hook en.at_phase in
+    let others : List (ℕ × ℕ) = done_by xs in
+    let after : World = after_step_beside others w' t phase hook in
+    let a : Option Action = phase_action w' hook (Some phase) in
+    let law : StepKeeps c w' t hook phase = (phase_keeps c phase).step lim w' en.good t lt hook en.at_phase in
+    let beside : IsGood c after × (shown c (after_step w' t phase hook) ≡ shown c after) = others_apart c others w' t phase hook law.0 in
+    let kept : IsGood c after × Moves c (shown c w') t a (shown c after) =
+    (beside.0, subst (Moves c (shown c w') t a) beside.1 law.1) in
     let there : IsWord (extents_of c) name =
     word_there c lim t (held_at (w'.views t)) (holds_level (w'.views t)) phase hook (subst (λ o. Fits c t (held_at (w'.views t)) (holds_level (w'.views t)) o) en.at_phase (en.good Fitting t lt)) in
     let i : ℕ = table_index (place name) in
@@ -123,21 +163,40 @@ lifted c slots id (x ∷ xs) carried begins phase hook acts s held len at small 
     let table : TableShows c (set s.words i (left touch n)) (words_after w'.words phase hook) =
     subst (λ m. TableShows c (set s.words i (left touch n)) (put w'.words name (left touch m))) value
     (table_written c lim s.words w'.words name (left touch n) held.ruled.long there (subst (TableShows c s.words) (sym en.words) held.ruled.words)) in
-    let v : View = view_after (entered x.view begins phase) phase (found_by touch n) hook in
+    let v : View = view_after_beside others (entered x.view begins phase) phase (found_by touch n) hook in
+    let v' : View = view_after_beside others (w'.views t) phase (value_at w'.words phase hook) hook in
     let own : after.views t ≡ v =
-    update_at w'.views t (view_after (w'.views t) phase (value_at w'.words phase hook) hook) ∙
-    ((λ j. view_after (en.mine j) phase (sym value j) hook) ∙ sym (found_serves (entered x.view begins phase) phase n hook)) in
-    let others : (y : ℕ) → (y ≡ t → ⊥) → after.views y ≡ w.views y =
-    λ y ne. update_off w'.views t (view_after (w'.views t) phase (value_at w'.words phase hook) hook) y ne ∙ en.others y ne in
-    let more = legal_more c lim (shown c w') (shown c after) t (phase_action w' hook (Some phase)) log kept.1 held.history.legal (held.history.end ∙ sym en.shows) in (
+    update_at w'.views t v' ∙
+    ((λ j. view_after_beside others (en.mine j) phase (sym value j) hook) ∙
+    sym (found_serves others (entered x.view begins phase) phase n hook)) in
+    let apart : (y : ℕ) → (y ≡ t → ⊥) → after.views y ≡ w.views y = λ y ne. update_off w'.views t v' y ne ∙ en.others y ne in
+    let ends : end_of log ≡ shown c w' = held.history.end ∙ sym en.shows in
+    let more : IsLegal (model_limits c) (with_action t a log) × (end_of (with_action t a log) ≡ shown c after) =
+    legal_more c lim (shown c w') (shown c after) t a log kept.1 held.history.legal ends in
+    let done : HaveDone others log = have_done w.views log held.history.lists xs (λ k. mine (suc k)) in
+    let history : HasHistory c after = record {
+      log = with_action t a log;
+      legal = more.0;
+      end = more.1;
+      lists = beside_lists others w' log t hook phase en.lists;
+      snapshots = beside_moments c w' log ends others t hook phase en.lists done
+          ((phase_keeps c phase).completes lim w' en.good t lt hook en.at_phase) en.snapshots;
+    } in (
       items_after begins phase hook (found_by touch n) (x ∷ xs),
       keeps,
       tt,
       record {
         world = after;
-        ruled = record { within = lim; long = length-set s.words i (left touch n) ∙ held.ruled.long; words = table; good = kept.0 };
-        history = record { log = with_action t (phase_action w' hook (Some phase)) log; legal = more.0; end = more.1; lists = step_lists w' log t hook (Some phase) en.lists };
-        dealt = redealt c.tasks w.views s.views held.dealt id (x ∷ xs) at t x.view v xs refl after.views own others;
+        ruled = record {
+          within = lim;
+          long = length-set s.words i (left touch n) ∙ held.ruled.long;
+          words = table;
+          good = kept.0;
+          opens = λ untouched. absurd
+              (touched others (after.views t) (entered x.view begins phase) phase (found_by touch n) hook own (untouched t lt));
+        };
+        history = history;
+        dealt = redealt c.tasks w.views s.views held.dealt id (x ∷ xs) at t x.view v xs refl after.views own apart;
       },
       (
         refl,
@@ -150,6 +209,10 @@ lifted c slots id (x ∷ xs) carried begins phase hook acts s held len at small 
           found = ap (found_by touch) (held.ruled.words name there);
           after = kept.0;
           moves = subst (λ (z : Shown × Words). Moves c z.0 t (after_of phase (found_at z.1 phase hook) hook).1 (shown c after)) (λ j. (en.shows j, en.words j)) kept.1;
+          past = held.history;
+          history = history;
+          grows = ap (λ (z : Words). with_action t (after_of phase (found_at z phase hook) hook).1 log) en.words;
+          left = inside c.tasks w.views s.views held.dealt id (x ∷ xs) at t x.view v xs refl after.views own apart;
         },
       ),
     )

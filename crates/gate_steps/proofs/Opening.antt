@@ -65,8 +65,8 @@ module _ (c : Config) (lim : IsWithin c) (ws : List ℕ) (opens : AreOpening tab
   pub opening_held : Held c ws (first_items c ∷ [])
   opening_held = let n : ℕ = c.tasks in record {
     world = opening;
-    ruled = record { within = lim; long = opens.long; words = shows_opening; good = opening_good c lim };
-    history = record { log = []; legal = tt; end = opening_shown c lim; lists = λ t. refl };
+    ruled = record { within = lim; long = opens.long; words = shows_opening; good = opening_good c lim; opens = λ untouched. refl };
+    history = record { log = []; legal = tt; end = opening_shown c lim; lists = λ t. refl; snapshots = λ t. tt };
     dealt = record {
       once = λ m lt. let e = times-deal m 0 n (omega arith) (omega arith) in omega arith;
       no_other = λ m ge. let e = times-deal_above m 0 n (omega arith) in omega arith;

@@ -1,3 +1,4 @@
+pub mod Histories
 pub mod Seating
 pub mod Rules
 pub mod Tables

@@ -1,14 +1,14 @@
 -- The rule of the table.
-use Rattle.std.specs.Prelude.{◌≡◌, ℕ, ◌*◌, List, length}
-use Rattle.access_model.specs.Histories.{Done, end_of, IsLegal, IsMerge}
+use Rattle.std.specs.Prelude.{◌≡◌, ℕ, ◌*◌, ◌<◌, List, [], length}
 use Rattle.cpu_words.specs.Names.{words_in_all, stride}
-use Rattle.cpu_words.specs.Words.{Words}
+use Rattle.cpu_words.specs.Words.{Words, opening_words}
 use Rattle.cpu_words.specs.Lists.{ListShows}
 use Rattle.gate_world.specs.declared.config.Config.{Config}
-use Rattle.gate_world.specs.Configs.{IsWithin, model_limits, extents_of}
+use Rattle.gate_world.specs.declared.views.View.{View}
+use Rattle.gate_world.specs.Configs.{IsWithin, extents_of}
 use Rattle.gate_world.specs.Worlds.{World}
-use Rattle.gate_world.specs.Shown.{shown}
 use Rattle.gate_world.specs.Rules.{IsGood}
+use Rattle.gate_steps.specs.Histories.{HasHistory}
 use Rattle.gate_steps.specs.Seating.{SeatItems, Dealt, deal}
 
 -- where the word of a place lies in the table: words lie apart, each in cache lines of its own
@@ -23,19 +23,17 @@ table_length = table_index words_in_all
 abbrev pub TableShows : Config → List ℕ → Words → Type 0
 TableShows c ws words = ListShows table_index (extents_of c) ws words
 
--- the rule of words and views holds of the world, which the table shows
+-- no number of a task has had an event
+abbrev pub IsUntouched : Config → (ℕ → View) → Type 0
+IsUntouched c views = (t : ℕ) → t < c.tasks → (views t).events ≡ []
+
+-- The rule of words and views holds of the world, which the table shows. Until the first event all words are as they begin.
 pub record Ruled (c : Config) (ws : List ℕ) (w : World) : Type 0 where
   pub within : IsWithin c
   pub long : length ws ≡ table_length
   pub words : TableShows c ws w.words
   pub good : IsGood c w
-
--- one history: a legal log of actions, whose end is the shown model, and of which each number's own list is its part
-pub record HasHistory (c : Config) (w : World) : Type 0 where
-  pub log : List Done
-  pub legal : IsLegal (model_limits c) log
-  pub end : end_of log ≡ shown c w
-  pub lists : IsMerge (λ t. (w.views t).actions) log
+  pub opens : IsUntouched c w.views → w.words ≡ opening_words
 
 -- the rule of the table
 pub record Held (c : Config) (ws : List ℕ) (seats : List SeatItems) : Type 0 where

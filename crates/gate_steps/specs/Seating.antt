@@ -1,5 +1,5 @@
 -- What a seat knows: task numbers, each with its view. The first is its own, the others it has still to give.
-use Rattle.std.specs.Prelude.{◌≡◌, ℕ, zero, suc, ◌+◌, ◌==◌, ◌<◌, ◌≤◌, Bool, true, false, cond, Option, Some, None, List, [], ◌∷◌}
+use Rattle.std.specs.Prelude.{◌≡◌, ℕ, zero, suc, ◌+◌, ◌==◌, ◌<◌, ◌≤◌, Bool, true, false, cond, Option, Some, None, List, [], ◌∷◌, length}
 use mathlib.Core.Option.{some}
 use lib.ListN.{get_elem?}
 use Rattle.cpu_words.specs.Hooks.{HookAnswer}
@@ -7,11 +7,12 @@ use Rattle.gate_world.specs.declared.config.Config.{Config}
 use Rattle.gate_world.specs.declared.operations.Op.{Op}
 use Rattle.gate_world.specs.declared.work.Phase.{Phase}
 use Rattle.gate_world.specs.declared.views.View.{View}
-use Rattle.gate_world.specs.Views.{opening_view, begun_view, view_after}
+use Rattle.gate_world.specs.Views.{opening_view, begun_view, view_after_beside}
 use Rattle.gate_world.specs.Beginnings.{first_phase, view_refusal}
-use Rattle.gate_world.specs.Worlds.{World, after_begin, found_at, after_step, phase_action}
+use Rattle.gate_world.specs.Worlds.{World, after_begin, found_at, after_step_beside, phase_action, with_action}
 use Rattle.gate_world.specs.Shown.{shown}
 use Rattle.gate_world.specs.Rules.{IsGood, Moves}
+use Rattle.gate_steps.specs.Histories.{HasHistory}
 use Rattle.gate_steps.specs.declared.seating.Numbered.{Numbered}
 
 -- what a seat knows
@@ -37,6 +38,13 @@ times_all n (l ∷ ls) = times n l + times_all n ls
 -- the numbers of a seat have these views
 abbrev pub HaveViews : (ℕ → View) → SeatItems → Type 0
 HaveViews views items = (k : ℕ) (x : Numbered) → get_elem? items k ≡ some x → views x.number ≡ x.view
+
+-- some world that the rule holds of, with one history, in which the numbers of a seat have these views
+pub record HaveHistory (c : Config) (items : SeatItems) : Type 0 where
+  pub world : World
+  pub good : IsGood c world
+  pub history : HasHistory c world
+  pub mine : HaveViews world.views items
 
 -- numbers are dealt: each number of a task stands in just one seat, once, there is no other, and what stands beside it is its view
 pub record Dealt (tasks : ℕ) (views : ℕ → View) (seats : List SeatItems) : Type 0 where
@@ -65,21 +73,37 @@ abbrev pub world_entered : Config → World → ℕ → Option Op → World
 world_entered c w t None = w
 world_entered c w t (Some op) = after_begin c w t op
 
+-- how many actions each of these numbers has done
+abbrev pub done_by : SeatItems → List (ℕ × ℕ)
+done_by [] = []
+done_by (x ∷ xs) = (x.number, length x.view.actions) ∷ done_by xs
+
 -- what the seat knows after the event, which found this
 abbrev pub items_after : Option Op → Phase → HookAnswer → ℕ → SeatItems → SeatItems
 items_after begins phase hook found [] = []
-items_after begins phase hook found (x ∷ xs) = numbered x.number (view_after (entered x.view begins phase) phase found hook) ∷ xs
+items_after begins phase hook found (x ∷ xs) =
+    numbered x.number (view_after_beside (done_by xs) (entered x.view begins phase) phase found hook) ∷ xs
 
--- The event happened in some world that the rule holds of, in which the seat's numbers have their views, and what it left is such a
--- world too. It moves the shown model by its action.
+-- the world that the event leaves, of a seat that has these other numbers to give
+abbrev pub world_left : Config → World → Option Op → Phase → HookAnswer → ℕ → SeatItems → World
+world_left c w begins phase hook n others = after_step_beside (done_by others) (world_entered c w n begins) n phase hook
+
+-- The event happened in some world that the rule holds of, with one history, in which the seat's numbers have their views. What it left
+-- is such a world too, in which they have the views that the seat knows then. It moves the shown model by its action, and its history is
+-- the one before with this action.
 pub record Moved (c : Config) (begins : Option Op) (phase : Phase) (hook : HookAnswer) (x : Numbered) (xs : SeatItems) (n : ℕ) : Type 0 where
   pub world : World
   pub task : x.number < c.tasks
   pub before : IsGood c world
   pub mine : HaveViews world.views (x ∷ xs)
   pub found : n ≡ found_at world.words phase hook
-  pub after : IsGood c (after_step (world_entered c world x.number begins) x.number phase hook)
-  pub moves : Moves c (shown c world) x.number (phase_action world hook (Some phase)) (shown c (after_step (world_entered c world x.number begins) x.number phase hook))
+  pub after : IsGood c (world_left c world begins phase hook x.number xs)
+  pub moves : Moves c (shown c world) x.number (phase_action world hook (Some phase))
+      (shown c (world_left c world begins phase hook x.number xs))
+  pub past : HasHistory c world
+  pub history : HasHistory c (world_left c world begins phase hook x.number xs)
+  pub grows : history.log ≡ with_action x.number (phase_action world hook (Some phase)) past.log
+  pub left : HaveViews (world_left c world begins phase hook x.number xs).views (items_after begins phase hook n (x ∷ xs))
 
 abbrev pub IsMove : Config → Option Op → Phase → HookAnswer → SeatItems → ℕ → Type 0
 IsMove c begins phase hook [] found = ⊥

@@ -2,8 +2,9 @@
 use Rattle.std.specs.Prelude.{ℕ, ◌<◌, ◌≤◌, List}
 use Rattle.gate_world.specs.declared.config.Config.{Config}
 use Rattle.gate_world.specs.Worlds.{World}
+use Rattle.gate_steps.specs.Histories.{HasHistory}
 use Rattle.gate_steps.specs.Seating.{SeatItems, HaveViews, times}
-use Rattle.gate_steps.specs.Rules.{Ruled, HasHistory}
+use Rattle.gate_steps.specs.Rules.{Ruled}
 
 -- The words are those of some world that the rule holds of, with one history, in which the numbers of the seat are tasks with these
 -- views.

@@ -13,6 +13,7 @@ use Rattle.gate_world.specs.Configs.{model_limits}
 use Rattle.gate_world.specs.Views.{held_at, HoldsAsBefore}
 use Rattle.gate_world.specs.Worlds.{World, Entry, happens, action_of, task_of, run, opening, history}
 use Rattle.gate_world.specs.Shown.{shown}
+use Rattle.gate_world.specs.Moments.{AllHaveMoments}
 use Rattle.gate_world.specs.Rules.{at_mount, Moves}
 use Rattle.gate_world.specs.Courses.{course_of, IsTraced}
 use Rattle.gate_world.specs.Traces.{Tells, IsShort, most_events}
@@ -29,11 +30,13 @@ actions_so_far c entries = history c opening [] entries
 abbrev pub MovesTheModel : Config → List Entry → Entry → Type 0
 MovesTheModel c entries e = Moves c (shown c (world_after c entries)) (task_of e) (action_of c (world_after c entries) e) (shown c (happens c (world_after c entries) e))
 
--- the actions so far are a legal history, whose end is the shown model, and of which each task's own list is its part
+-- the actions so far are a legal history, whose end is the shown model, of which each task's own list is its part, and in which each last
+-- snapshot has its moment
 pub record IsOneRun (c : Config) (entries : List Entry) : Type 0 where
   pub legal : IsLegal (model_limits c) (actions_so_far c entries)
   pub end : end_of (actions_so_far c entries) ≡ shown c (world_after c entries)
   pub lists : IsMerge (λ t. ((world_after c entries).views t).actions) (actions_so_far c entries)
+  pub snapshots : AllHaveMoments c (actions_so_far c entries) (world_after c entries)
 
 -- each mount's words sum to what is held and sought
 abbrev pub SumsHold : Config → World → Type 0

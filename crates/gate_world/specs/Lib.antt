@@ -1,5 +1,6 @@
 pub mod Configs
 pub mod Work
+pub mod Snapshots
 pub mod Views
 pub mod Found
 pub mod Owners
@@ -8,6 +9,7 @@ pub mod Accesses
 pub mod Beginnings
 pub mod Worlds
 pub mod Shown
+pub mod Moments
 pub mod Fits
 pub mod Rules
 pub mod Courses

@@ -13,7 +13,7 @@ use Rattle.gate_world.specs.declared.operations.Op.{Op}
 use Rattle.gate_world.specs.declared.work.Phase.{Phase}
 use Rattle.gate_world.specs.declared.views.View.{View}
 use Rattle.gate_world.specs.Work.{next_of, after_of}
-use Rattle.gate_world.specs.Views.{opening_view, view_after, begun_view}
+use Rattle.gate_world.specs.Views.{opening_view, view_after_beside, begun_view}
 use Rattle.gate_world.specs.Beginnings.{first_phase, view_refusal}
 
 pub record World : Type 0 where
@@ -45,9 +45,16 @@ value_at w phase hook = read w (next_of phase hook).0
 abbrev pub found_at : Words → Phase → HookAnswer → ℕ
 found_at w phase hook = found_by (next_of phase hook).1 (value_at w phase hook)
 
--- the world after the next event of a task that is at this phase
+-- the world after the next event of a number that is at this phase, where each other number of its task has done so many actions
+abbrev pub after_step_beside : List (ℕ × ℕ) → World → ℕ → Phase → HookAnswer → World
+after_step_beside others w t phase hook = record {
+  words = words_after w.words phase hook;
+  views = update w.views t (view_after_beside others (w.views t) phase (value_at w.words phase hook) hook);
+}
+
+-- the same of a task that has no other number, as each task of a schedule
 abbrev pub after_step : World → ℕ → Phase → HookAnswer → World
-after_step w t phase hook = record { words = words_after w.words phase hook; views = update w.views t (view_after (w.views t) phase (value_at w.words phase hook) hook) }
+after_step w t phase hook = after_step_beside [] w t phase hook
 
 abbrev pub step_of : World → ℕ → HookAnswer → Option Phase → World
 step_of w t hook None = w

@@ -13,13 +13,18 @@ pub struct Traced {
     pub hook: Result<(), u16>,
 }
 
-/// What a snapshot loaded: the blocks charged, the nodes, the children charged; and how many actions each number of its
-/// task had done at its last load.
-pub struct Snapshot {
+/// The words of the tree: the blocks charged, the nodes, the children charged.
+pub struct TreeWords {
     pub used: u64,
     pub nodes: LinkedList<u64>,
     pub kids: LinkedList<u64>,
-    pub known: LinkedList<(u8, u64)>,
+}
+
+/// A snapshot: what it loaded, and how many actions had been done at its last load by its number, and by each other number of its task.
+pub struct Snapshot {
+    pub loaded: TreeWords,
+    pub done: u64,
+    pub others: LinkedList<(u8, u64)>,
 }
 
 /// What is known of one task number. Its accesses are what its actions leave, and its net additions to each count word are

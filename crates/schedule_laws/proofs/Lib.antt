@@ -4,4 +4,5 @@ pub mod Phases
 pub mod Entries
 pub mod Schedule
 pub mod Lists
+pub mod Snapshots
 pub mod Whole

@@ -11,9 +11,9 @@ use Rattle.gate_world.specs.declared.config.Config.{Config}
 use Rattle.gate_world.specs.declared.operations.Op.{Op}
 use Rattle.gate_world.specs.declared.work.Phase.{Phase}
 use Rattle.gate_world.specs.declared.views.View.{View}
-use Rattle.gate_world.specs.Views.{actions_after, begun_view, view_after}
+use Rattle.gate_world.specs.Views.{actions_after, begun_view, view_after_beside}
 use Rattle.gate_world.specs.Beginnings.{first_phase, view_refusal}
-use Rattle.gate_world.specs.Worlds.{World, Entry, Begins, Steps, begin_of, step_of, happens, phase_action, action_of, task_of, with_action, value_at, run, history}
+use Rattle.gate_world.specs.Worlds.{World, Entry, Begins, Steps, begin_of, after_step_beside, step_of, happens, phase_action, action_of, task_of, with_action, value_at, run, history}
 
 -- the lists of a world
 abbrev pub lists : World → ℕ → List Action
@@ -27,20 +27,29 @@ part_there : (x t : ℕ) (a : Option Action) (earlier : List Done) → (x ≡ t 
 part_there x t None earlier ne = refl
 part_there x t (Some a) earlier ne = rw (ne_eqb t x (λ q. ne (sym q)))
 
-pub step_lists : (w : World) (earlier : List Done) (t : ℕ) (hook : HookAnswer) (p : Option Phase) → IsMerge (lists w) earlier →
+-- after an event, also one of a task that has other numbers
+pub beside_lists : (others : List (ℕ × ℕ)) (w : World) (earlier : List Done) (t : ℕ) (hook : HookAnswer) (phase : Phase) →
+    IsMerge (lists w) earlier →
+    IsMerge (lists (after_step_beside others w t phase hook)) (with_action t (phase_action w hook (Some phase)) earlier)
+beside_lists others w earlier t hook phase m x =
+    let a : Option Action = phase_action w hook (Some phase) in
+    let v : View = view_after_beside others (w.views t) phase (value_at w.words phase hook) hook in
+    each_updated (λ y (u : View). own_part y (with_action t a earlier) ≡ u.actions) w.views t v x
+    (part_here t a earlier ∙ ap (actions_after a) (m t)) (λ ne. part_there x t a earlier ne ∙ m x)
+
+step_lists : (w : World) (earlier : List Done) (t : ℕ) (hook : HookAnswer) (p : Option Phase) → IsMerge (lists w) earlier →
     IsMerge (lists (step_of w t hook p)) (with_action t (phase_action w hook p) earlier)
 step_lists w earlier t hook None m x = m x
-step_lists w earlier t hook (Some phase) m x =
-    each_updated (λ y (v : View). own_part y (with_action t (phase_action w hook (Some phase)) earlier) ≡ v.actions) w.views t (view_after (w.views t) phase (value_at w.words phase hook) hook) x
-    (part_here t (phase_action w hook (Some phase)) earlier ∙ ap (actions_after (phase_action w hook (Some phase))) (m t))
-    (λ ne. part_there x t (phase_action w hook (Some phase)) earlier ne ∙ m x)
+step_lists w earlier t hook (Some phase) m x = beside_lists [] w earlier t hook phase m x
 
 pub begin_lists : (c : Config) (w : World) (earlier : List Done) (t : ℕ) (op : Op) (r : Option GateError) → IsMerge (lists w) earlier → IsMerge (lists (begin_of c w t op r)) earlier
 begin_lists c w earlier t op (Some refused) m x = m x
 begin_lists c w earlier t op None m x =
     each_updated (λ y (v : View). own_part y earlier ≡ v.actions) w.views t (begun_view (w.views t) op (first_phase c t op)) x (m t) (λ ne. m x)
 
-happens_lists : (c : Config) (w : World) (earlier : List Done) (e : Entry) → IsMerge (lists w) earlier → IsMerge (lists (happens c w e)) (with_action (task_of e) (action_of c w e) earlier)
+-- after any entry
+pub happens_lists : (c : Config) (w : World) (earlier : List Done) (e : Entry) → IsMerge (lists w) earlier →
+    IsMerge (lists (happens c w e)) (with_action (task_of e) (action_of c w e) earlier)
 happens_lists c w earlier (Begins t op) m =
     elim (cases_Bool (nat_lt t c.tasks)) [
       | inl h ↦ rw h (begin_lists c w earlier t op (view_refusal c (w.views t) op) m)

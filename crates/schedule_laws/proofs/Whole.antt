@@ -28,6 +28,7 @@ use Rattle.gate_world.specs.Causes.{HasCause, RefusalsHaveCauses}
 use Rattle.schedule_laws.proofs.Entries.{TrailHolds, trail_holds, cause_tells}
 use Rattle.schedule_laws.proofs.Schedule.{opening_good, opening_shown, happens_keeps, run_keeps, gate_sums, idle_sums}
 use Rattle.schedule_laws.proofs.Lists.{run_lists}
+use Rattle.schedule_laws.proofs.Snapshots.{run_moments}
 
 module _ (c : Config) (lim : IsWithin c) where
   pub whole_rule : (es : List Entry) → IsGood c (world_after c es)
@@ -38,6 +39,7 @@ module _ (c : Config) (lim : IsWithin c) where
     legal = (run_keeps c lim es opening [] (opening_good c lim) tt (opening_shown c lim)).1;
     end = (run_keeps c lim es opening [] (opening_good c lim) tt (opening_shown c lim)).2;
     lists = run_lists c es opening [] (λ t. refl);
+    snapshots = run_moments c lim es opening [] (opening_good c lim) tt (opening_shown c lim) (λ t. refl) (λ t. tt);
   }
 
   pub whole_moves : (es : List Entry) (e : Entry) → MovesTheModel c es e

@@ -13,17 +13,18 @@ use Rattle.gate_world.specs.Work.{at_phases}
 use Rattle.gate_world.specs.Beginnings.{first_phase, refusal}
 use Rattle.gate_world.specs.Fits.{Fits}
 use Rattle.gate_core.specs.declared.seats.Seat.{Seat}
-use Rattle.gate_core.specs.declared.seats.Accesses.{Accesses}
+use Rattle.gate_world.specs.declared.accesses.Accesses.{Accesses}
 use Rattle.gate_core.specs.Answers.{unless_refused}
-use Rattle.gate_core.proofs.Beginning.{allowed}
+use Rattle.schedule_laws.proofs.Beginnings.{MayBegin, may_begin, first_fits}
 use Rattle.gate_steps.specs.declared.seating.Numbered.{Numbered}
 use Rattle.gate_steps.specs.Seating.{SeatItems}
 use Rattle.atomic_table.specs.Seated.{TableId}
-use Rattle.vfs_gates.specs.TaskStates.{TaskState, task_state, own_number, own_view, refusal_at}
+use Rattle.vfs_gates.specs.TaskStates.{TaskState, task_state, own_number, own_view, refusal_at, beginning_at}
 use Rattle.vfs_gates.specs.Ties.{PhaseOk, OwnTies, Ties}
 use Rattle.vfs_gates.specs.Turns.{kept_at, IsTied, StayTied}
 use Rattle.vfs_gates.specs.Runs.{Goes, Went, Called}
 use Rattle.vfs_gates.specs.declared.task.Task.TheInside.{Inside}
+use Rattle.vfs_gates.proofs.Admitting.{admitted_by, first_by}
 use Rattle.vfs_gates.proofs.Running.{starts}
 
 -- what was not refused has no refusal
@@ -84,6 +85,13 @@ call_of op task gates start start_is from ties admitted first first_is = record 
   first_is = first_is;
 }
 
+-- the call of an operation whose first phase was answered
+abbrev pub admitted_call : (op : Op) (task : Inside) (gates : Config) (start : TaskState) →
+    task_state task.seat.table_id task.config task.begins task.kept.phase task.seat.me.0 ≡ start → start.config ≡ gates →
+    Ties task.number task.config task.begins task.kept task.spare task.seat.me.0 → (first : Phase) → Ok first ≡ beginning_at op start → Call
+admitted_call op task gates start start_is from ties first answered =
+    call_of op task gates start start_is from ties (admitted_by op start first answered) first (first_by op task start start_is ties first answered)
+
 -- the numbers of the task, as the call finds them
 abbrev pub items_of : Call → SeatItems
 items_of call = call.task.seat.me.0
@@ -120,12 +128,17 @@ module _ (call : Call) where
   none_refused : refusal c (is_some kept.phase) (held_at (own_view (items_of call))) (holds_level (own_view (items_of call))) op ≡ None
   none_refused = ap (refusal_at op) call.start_is ∙ not_refused (refusal_at op call.start) call.admitted
 
-  may_begin : (is_some kept.phase ≡ false) × Fits c number (held_at (own_view (items_of call))) (holds_level (own_view (items_of call))) (Some (first_phase c number op))
-  may_begin = allowed c number (held_at (own_view (items_of call))) (holds_level (own_view (items_of call))) (is_some kept.phase) op none_refused
+  -- so the operation may begin
+  begins_here : MayBegin c (is_some kept.phase) (held_at (own_view (items_of call))) (holds_level (own_view (items_of call))) op
+  begins_here = may_begin c (is_some kept.phase) (held_at (own_view (items_of call))) (holds_level (own_view (items_of call))) op none_refused
+
+  -- and its first phase fits
+  first_here : Fits c number (held_at (own_view (items_of call))) (holds_level (own_view (items_of call))) (Some (first_phase c number op))
+  first_here = first_fits c number (is_some kept.phase) (held_at (own_view (items_of call))) (holds_level (own_view (items_of call))) op begins_here
 
   -- the task was idle
   pub idle : kept.phase ≡ None
-  idle = none_of kept.phase may_begin.0
+  idle = none_of kept.phase begins_here.idle
 
   abbrev the_first : Phase
   the_first = first_phase c number op
@@ -147,7 +160,7 @@ module _ (call : Call) where
     );
     fits =
         subst (λ (n : ℕ). Fits c n (held_at x.view) (holds_level x.view) (Some the_first)) (sym t.same_number)
-        (subst (λ (l : SeatItems). Fits c number (held_at (own_view l)) (holds_level (own_view l)) (Some the_first)) here may_begin.1);
+        (subst (λ (l : SeatItems). Fits c number (held_at (own_view l)) (holds_level (own_view l)) (Some the_first)) here first_here);
     keeps = record { long = t.keeps.long; wide = t.keeps.wide; mounts = t.keeps.mounts; levels = t.keeps.levels };
     rest = t.rest;
     marks = t.marks;

@@ -13,23 +13,23 @@ use Rattle.gate_world.specs.declared.config.Config.{Config}
 use Rattle.gate_world.specs.declared.operations.Op.{Op}
 use Rattle.gate_world.specs.declared.work.Phase.{Phase}
 use Rattle.gate_world.specs.declared.views.View.{View}
-use Rattle.gate_world.specs.Views.{held_at, holds_level, phase_after, view_after}
+use Rattle.gate_world.specs.Views.{held_at, holds_level, phase_after, view_after_beside}
 use Rattle.gate_world.specs.Work.{next_of, after_of}
 use Rattle.gate_world.specs.Worlds.{World, value_at, found_at}
 use Rattle.gate_world.specs.Fits.{PhaseFits, Fits}
 use Rattle.gate_core.specs.declared.seats.Seat.{Seat}
-use Rattle.gate_core.specs.declared.seats.Accesses.{Accesses}
+use Rattle.gate_world.specs.declared.accesses.Accesses.{Accesses}
 use Rattle.gate_core.specs.declared.steps.Progress.{Progress}
-use Rattle.gate_core.specs.Memory.{mounts_in, levels_in}
+use Rattle.gate_core.specs.Seats.{mounts_in, levels_in}
 use Rattle.gate_core.specs.declared.steps.Step.{Step}
 use Rattle.gate_core.specs.Answers.{progress_of, phase_step}
 use Rattle.gate_world.specs.Fits.{ActionFits}
-use Rattle.gate_core.specs.Seats.{accesses_after}
+use Rattle.gate_world.specs.Accesses.{accesses_after}
 use Rattle.gate_world.specs.Fits.{mounts_by, levels_by}
-use Rattle.gate_core.proofs.Phases.{action_fits, fits_after, fits_agree}
-use Rattle.gate_core.proofs.Held.{mounts_of_after, levels_of_after, long_after, wide_after, mounts_same, levels_same}
+use Rattle.schedule_laws.proofs.Phases.{action_fits, fits_after, fits_agree}
+use Rattle.gate_frames.proofs.Accesses.{mounts_of_after, levels_of_after, long_after, wide_after, mounts_same, levels_same}
 use Rattle.gate_steps.specs.declared.seating.Numbered.{Numbered}
-use Rattle.gate_steps.specs.Seating.{SeatItems, numbered, entered, items_after, IsMove}
+use Rattle.gate_steps.specs.Seating.{SeatItems, numbered, entered, done_by, items_after, IsMove}
 use Rattle.atomic_table.specs.Seated.{TableId}
 use Rattle.vfs_gates.specs.TaskStates.{TaskState, task_state}
 use Rattle.vfs_gates.specs.Stepped.{found_step, state_after, ToldIn, Stepped}
@@ -56,7 +56,7 @@ module _ (number : ℕ) (c : Config) (begins : Option Op) (kept : Seat) (flags :
     v = entered x.view begins phase
 
     abbrev seen : View
-    seen = view_after v phase found hook
+    seen = view_after_beside (done_by xs) v phase found hook
 
     fits_seen : PhaseFits c x.number (held_at x.view) (holds_level x.view) phase
     fits_seen = subst (Fits c x.number (held_at x.view) (holds_level x.view)) is ties.fits

@@ -1,5 +1,5 @@
 -- An operation, event after event, from its beginning to its reply.
-use Rattle.std.proofs.Common.{◌≡◌, ℕ, ◌+◌, ◌-◌, ◌<◌, ◌≤◌, true, false, List, [], ◌∷◌, ◌++◌, length, refl, sym, ap, ◌∙◌, subst, arith}
+use Rattle.std.proofs.Common.{◌≡◌, ℕ, ◌+◌, ◌-◌, ◌<◌, ◌≤◌, List, [], ◌∷◌, ◌++◌, length, refl, sym, ap, ◌∙◌, subst, arith}
 use Rattle.std.specs.Prelude.{Option, Some, None, Result, Ok, Err}
 use Rattle.access_model.specs.declared.actions.Action.{Action}
 use Rattle.access_model.specs.declared.errors.GateError.{GateError}
@@ -14,7 +14,8 @@ use Rattle.gate_world.specs.declared.work.Phase.{Phase}
 use Rattle.gate_world.specs.declared.views.Traced.{Traced}
 use Rattle.gate_world.specs.declared.views.View.{View}
 use Rattle.gate_world.specs.Configs.{IsWithin}
-use Rattle.gate_world.specs.Views.{phase_after, actions_after, view_after, with_hook}
+use Rattle.gate_world.specs.Snapshots.{completes, last_snapshot}
+use Rattle.gate_world.specs.Views.{phase_after, actions_after, view_after_beside, with_hook}
 use Rattle.gate_world.specs.Work.{next_of, after_of}
 use Rattle.gate_world.specs.Beginnings.{first_phase}
 use Rattle.gate_world.specs.Courses.{Course, course_with, course_after, course_of, IsEventOf, IsNext, IsTrace}
@@ -24,10 +25,10 @@ use Rattle.schedule_laws.proofs.Layers.{op_keeps}
 use Rattle.gate_core.specs.declared.steps.Progress.TheVariants.{Done as Ended}
 use Rattle.gate_core.specs.declared.steps.Step.{Step}
 use Rattle.gate_core.specs.Answers.{progress_of, unless_refused}
-use Rattle.gate_steps.specs.Seating.{SeatItems, numbered, entered, items_after, IsMove}
+use Rattle.gate_steps.specs.Seating.{SeatItems, numbered, HaveHistory, entered, done_by, items_after, world_left, IsMove}
 use Rattle.vfs_gates.specs.TaskStates.{TaskState, own_number, own_view, refusal_at}
 use Rattle.vfs_gates.specs.Stepped.{Stepped}
-use Rattle.vfs_gates.specs.Runs.{events_onto, ran_view, ran_items, begins_at, items_at, IsMoveOf, IsNextMove, AreMoves, IsBounded, told_as, the_reply, Goes, Went, Called, Replies}
+use Rattle.vfs_gates.specs.Runs.{events_onto, completed_by, ran_snapshot, ran_view, ran_items, begins_at, items_at, IsMoveOf, IsNextMove, AreMoves, IsBounded, told_as, the_reply, Goes, Went, Called, Replies}
 
 -- the numbers of a task whose own number has begun the operation
 abbrev pub entered_items : Option Op → Option Phase → SeatItems → SeatItems
@@ -53,6 +54,20 @@ move_is : (c : Config) (op : Op) (items : SeatItems) (earlier : List Traced) (e 
 move_is c op items earlier e (Go q) p is h = subst (IsMoveOf c op items earlier e) (let f : p ≡ q = cc in f) h
 move_is c op items earlier e (Wait q) p is h = subst (IsMoveOf c op items earlier e) (let f : p ≡ q = cc in f) h
 move_is c op items earlier e (Done a) p is h = absurd (let f : ⊥ = cc in f)
+
+-- an event leaves one history
+move_has_history : (c : Config) (begins : Option Op) (p : Phase) (hook : HookAnswer) (items : SeatItems) (found : ℕ) →
+    IsMove c begins p hook items found → HaveHistory c (items_after begins p hook found items)
+move_has_history c begins p hook [] found move = absurd move
+move_has_history c begins p hook (x ∷ xs) found move =
+    record { world = world_left c move.world begins p hook x.number xs; good = move.after; history = move.history; mine = move.left }
+
+-- what the event of this phase completes
+completed_is : (s : Next Phase) (p : Phase) (earlier : List Traced) (e : Traced) → phase_after s ≡ Some p →
+    completed_by s earlier e ≡ completes p earlier e.event.found
+completed_is (Go q) p earlier e is = ap (λ r. completes r earlier e.event.found) (let f : q ≡ p = cc in f)
+completed_is (Wait q) p earlier e is = ap (λ r. completes r earlier e.event.found) (let f : q ≡ p = cc in f)
+completed_is (Done a) p earlier e is = absurd (let f : ⊥ = cc in f)
 
 course_is : (s : Next Phase) (p : Phase) (added : List Action) (e : Traced) → phase_after s ≡ Some p → course_after s added e ≡ course_with added (after_of p e.event.found e.hook)
 course_is (Go q) p added e is = ap (λ r. course_with added (after_of r e.event.found e.hook)) (let f : q ≡ p = cc in f)
@@ -157,21 +172,29 @@ module _ (op : Op) (start now left : TaskState) (step : Step) (h : HookAnswer) (
   course_here : course_of c n op trace ≡ course_with (course_of c n op goes.trace).added after
   course_here = course_is (course_of c n op goes.trace).comes p (course_of c n op goes.trace).added e stands_there
 
-  ran_more : (x : View) → view_after (ran_view c n op goes.trace x) p found h ≡ ran_view c n op trace x
-  ran_more x = λ i. record {
+  -- the snapshot that it completes, if any
+  completes_here : completed_by (course_of c n op goes.trace).comes goes.trace e ≡ completes p goes.trace (found_by (next_of p h).1 found)
+  completes_here = completed_is (course_of c n op goes.trace).comes p goes.trace e stands_there
+
+  ran_more : (others : List (ℕ × ℕ)) (x : View) →
+      view_after_beside others (ran_view c n op others goes.trace x) p found h ≡ ran_view c n op others trace x
+  ran_more others x = λ i. record {
     op = Some op;
     phase = phase_after (sym course_here i).comes;
     actions = (actions_append after.1 (course_of c n op goes.trace).added x.actions ∙ ap (λ (o : Course). o.added ++ x.actions) (sym course_here)) i;
     events = events_onto trace x.events;
     trace = trace;
-    snapshot = x.snapshot;
+    snapshot = last_snapshot (sym completes_here i) ((course_of c n op goes.trace).added ++ x.actions) others
+        (ran_snapshot c n op others goes.trace x);
   }
 
   ran_all : (l : SeatItems) → own_number l ≡ n → items_after None p h found (ran_items c op goes.trace l) ≡ ran_items c op trace l
   ran_all [] same = refl
   ran_all (x ∷ xs) same =
-      subst (λ (k : ℕ). items_after None p h found (numbered x.number (ran_view c k op goes.trace x.view) ∷ xs) ≡ numbered x.number (ran_view c k op trace x.view) ∷ xs) (sym same)
-      (ap (λ (v : View). numbered x.number v ∷ xs) (ran_more x.view))
+      let before : ℕ → View = λ k. ran_view c k op (done_by xs) goes.trace x.view in
+      let then : ℕ → View = λ k. ran_view c k op (done_by xs) trace x.view in
+      subst (λ (k : ℕ). items_after None p h found (numbered x.number (before k) ∷ xs) ≡ numbered x.number (then k) ∷ xs) (sym same)
+      (ap (λ (v : View). numbered x.number v ∷ xs) (ran_more (done_by xs) x.view))
 
   phase_then : left.phase ≡ phase_after (course_of c n op trace).comes
   phase_then = ap (λ (s : TaskState). s.phase) did.new ∙ ap (λ (o : Course). phase_after o.comes) (sym course_here)
@@ -200,6 +223,14 @@ module _ (op : Op) (start now left : TaskState) (step : Step) (h : HookAnswer) (
       let P : Config × Option Op × SeatItems → Type 0 = λ z. IsMove z.0 z.1 p h z.2 found in
       let moved : IsMove c (begins_at op goes.trace) p h (items_at c op goes.trace start.items) found = subst P (λ j. (goes.config j, goes.begins j, goes.items j)) did.moves in
       (move_is c op start.items goes.trace e (course_of c n op goes.trace).comes p stands_there (found, refl, moved), goes.moves)
+
+  -- what it leaves has one history
+  history_then : HaveHistory c left.items
+  history_then =
+      let history : HaveHistory now.config (items_after now.begins p h found now.items) =
+      move_has_history now.config now.begins p h now.items found did.moves in
+      subst (λ d. HaveHistory d left.items) goes.config
+      (subst (HaveHistory now.config) (ap (λ (s : TaskState). s.items) (sym did.new)) history)
 
   -- where it does not reply, it goes on
   pub goes_further : ((a : Result Reply GateError) → step.progress ≡ Ended a → ⊥) → Goes op start left
@@ -234,6 +265,7 @@ module _ (op : Op) (start now left : TaskState) (step : Step) (h : HookAnswer) (
         added = tells.0;
         honest = tells.1;
         short = (op_keeps c op).short within n trace follows_after;
+        history = history_then;
       }
 
   -- and its trace has one event more

@@ -7,7 +7,7 @@ use Rattle.cpu_words.specs.declared.names.WordName.{WordName}
 use Rattle.cpu_words.specs.declared.events.Touch.{Touch}
 use Rattle.cpu_words.specs.declared.events.Event.{Event}
 use Rattle.cpu_words.specs.Hooks.{HookAnswer}
-use Rattle.cpu_words.specs.Names.{place}
+use Rattle.cpu_words.specs.Names.{place, words_in_all}
 use Rattle.cpu_words.specs.Touches.{event_of}
 use Rattle.gate_world.specs.declared.config.Config.{Config}
 use Rattle.gate_world.specs.declared.operations.Op.{Op}
@@ -17,11 +17,10 @@ use Rattle.gate_world.specs.Views.{held_at, holds_level, phase_after}
 use Rattle.access_model.specs.declared.replies.Next.TheVariants.{Go, Wait, Done}
 use Rattle.gate_core.specs.declared.seats.Seat.{Seat}
 use Rattle.gate_world.specs.Work.{next_of, after_of, at_phases}
-use Rattle.gate_core.specs.declared.seats.Accesses.{Accesses}
+use Rattle.gate_world.specs.declared.accesses.Accesses.{Accesses}
 use Rattle.gate_core.specs.Answers.{progress_of}
-use Rattle.gate_core.specs.Seats.{accesses_after}
-use Rattle.gate_core.proofs.Phases.{word_there}
-use Rattle.gate_core.proofs.Places.{place_small}
+use Rattle.gate_world.specs.Accesses.{accesses_after}
+use Rattle.schedule_laws.proofs.Phases.{word_placed}
 use Rattle.gate_steps.specs.Seating.{SeatItems, Acts, items_after, IsMove}
 use Rattle.atomic_table.specs.Seated.{TableId}
 use Rattle.gate_world.specs.Configs.{IsWithin}
@@ -36,10 +35,10 @@ use Rattle.vfs_gates.proofs.Running.{went_on}
 
 -- before the event: the word is one of the table's, and the number may do the event
 module _ (number : ℕ) (c : Config) (begins : Option Op) (phase : Phase) (accesses : Accesses) (flags : List Bool) (hook : HookAnswer) where
-  word_inside : (l : SeatItems) → Ties number c begins (kept_at (Some phase) accesses) flags l → place (next_of phase hook).0 < 915
+  word_inside : (l : SeatItems) → Ties number c begins (kept_at (Some phase) accesses) flags l → place (next_of phase hook).0 < words_in_all
   word_inside [] t = absurd t
   word_inside (x ∷ xs) t =
-      place_small c t.within (next_of phase hook).0 (word_there c t.within x.number (held_at x.view) (holds_level x.view) phase hook t.fits)
+      word_placed c t.within x.number (held_at x.view) (holds_level x.view) phase hook t.fits
 
   may_act : (l : SeatItems) → Ties number c begins (kept_at (Some phase) accesses) flags l → Acts c begins phase l
   may_act [] t = absurd t
@@ -48,9 +47,9 @@ module _ (number : ℕ) (c : Config) (begins : Option Op) (phase : Phase) (acces
 -- the same of the phase that the code was told, and of the configuration as the table names it
 module _ (c key : Config) (same_key : key ≡ c) (begins : Option Op) (phase told : Phase) (told_is : told ≡ phase) (accesses : Accesses) (items : SeatItems)
     (tied : IsTied c begins (Some phase) accesses items) (hook : HookAnswer) where
-  pub inside_so : place (next_of told hook).0 < 915
+  pub inside_so : place (next_of told hook).0 < words_in_all
   inside_so =
-      subst (λ (p : Phase). place (next_of p hook).0 < 915) (sym told_is) (word_inside tied.number c begins phase accesses tied.flags hook items tied.ties)
+      subst (λ (p : Phase). place (next_of p hook).0 < words_in_all) (sym told_is) (word_inside tied.number c begins phase accesses tied.flags hook items tied.ties)
 
   pub acts_so : Acts key begins told items
   acts_so =

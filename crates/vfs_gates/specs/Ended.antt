@@ -2,8 +2,9 @@
 use Rattle.std.specs.Prelude.{ℕ, ◌<◌, ◌≤◌, List}
 use Rattle.gate_world.specs.declared.config.Config.{Config}
 use Rattle.gate_world.specs.Worlds.{World}
-use Rattle.gate_steps.specs.Seating.{times}
-use Rattle.gate_steps.specs.Rules.{Ruled, HasHistory}
+use Rattle.gate_steps.specs.Histories.{HasHistory}
+use Rattle.gate_steps.specs.Seating.{SeatItems, HaveViews, times}
+use Rattle.gate_steps.specs.Rules.{Ruled}
 use Rattle.vfs_gates.specs.TaskStates.{TaskState, IsIdle, HoldsNothing}
 use Rattle.vfs_gates.specs.Ties.{IsStill}
 
@@ -16,10 +17,15 @@ pub record Ending : Type 0 where
   pub config : Config
   pub words : List ℕ
 
--- The words are those of a world that the rule holds of, with a legal history that ends in the model that it shows and of which each
--- number's own list is its part. In that world every number is idle and holds nothing.
+-- The words are those of a world that the rule holds of, with a legal history that ends in the model that it shows, of which each number's
+-- own list is its part, and in which each number's last snapshot has its moment. In that world every number is idle and holds nothing.
 pub record Ended (c : Config) (ws : List ℕ) : Type 0 where
   pub world : World
   pub ruled : Ruled c ws world
   pub history : HasHistory c world
   pub still : (t : ℕ) → t < c.tasks → IsStill c (world.views t)
+
+-- In that world the numbers that the task brought have the views that it knew: closing adds no event and no action to any list.
+pub record EndedWith (c : Config) (ws : List ℕ) (items : SeatItems) : Type 0 where
+  pub ended : Ended c ws
+  pub mine : HaveViews ended.world.views items

@@ -6,4 +6,5 @@ pub mod Turns
 pub mod Parts
 pub mod Sums
 pub mod Ended
+pub mod Seen
 pub mod Runs

@@ -11,11 +11,14 @@ use Rattle.gate_world.specs.declared.operations.Op.{Op}
 use Rattle.gate_world.specs.declared.work.Phase.{Phase}
 use Rattle.gate_world.specs.declared.views.Traced.{Traced}
 use Rattle.gate_world.specs.declared.views.View.{View}
+use Rattle.gate_world.specs.declared.views.TreeWords.{TreeWords}
+use Rattle.gate_world.specs.declared.views.Snapshot.{Snapshot}
+use Rattle.gate_world.specs.Snapshots.{completes, last_snapshot}
 use Rattle.gate_world.specs.Views.{phase_after, with_hook}
 use Rattle.gate_world.specs.Work.{next_of}
 use Rattle.gate_world.specs.Courses.{course_of, IsTrace}
 use Rattle.gate_world.specs.Traces.{actions_of, IsHonestAnswer, most_events, IsShort}
-use Rattle.gate_steps.specs.Seating.{SeatItems, numbered, IsMove}
+use Rattle.gate_steps.specs.Seating.{SeatItems, numbered, HaveHistory, done_by, IsMove}
 use Rattle.vfs_gates.specs.TaskStates.{TaskState, own_number, refusal_at}
 
 -- the events of a trace before earlier ones, the newest first
@@ -23,21 +26,35 @@ abbrev pub events_onto : List Traced → List Event → List Event
 events_onto [] earlier = earlier
 events_onto (e ∷ es) earlier = e.event ∷ events_onto es earlier
 
--- the view of a number that began an operation with this view, after these events of it, the newest first
-abbrev pub ran_view : Config → ℕ → Op → List Traced → View → View
-ran_view c t op trace v = record {
+-- what the snapshot has loaded that an event completes, of an operation that stood there after these events
+abbrev pub completed_by : Next Phase → List Traced → Traced → Option TreeWords
+completed_by (Go phase) earlier e = completes phase earlier e.event.found
+completed_by (Wait phase) earlier e = completes phase earlier e.event.found
+completed_by (Done answer) earlier e = None
+
+-- the last snapshot of a number that began an operation with this view, after these events of it, the newest first, where each other
+-- number of its task has done so many actions
+abbrev pub ran_snapshot : Config → ℕ → Op → List (ℕ × ℕ) → List Traced → View → Option Snapshot
+ran_snapshot c t op others [] v = v.snapshot
+ran_snapshot c t op others (e ∷ earlier) v =
+    last_snapshot (completed_by (course_of c t op earlier).comes earlier e) ((course_of c t op earlier).added ++ v.actions) others
+    (ran_snapshot c t op others earlier v)
+
+-- and its view
+abbrev pub ran_view : Config → ℕ → Op → List (ℕ × ℕ) → List Traced → View → View
+ran_view c t op others trace v = record {
   op = Some op;
   phase = phase_after (course_of c t op trace).comes;
   actions = (course_of c t op trace).added ++ v.actions;
   events = events_onto trace v.events;
   trace = trace;
-  snapshot = v.snapshot;
+  snapshot = ran_snapshot c t op others trace v;
 }
 
 -- the numbers of a task whose own number did so
 abbrev pub ran_items : Config → Op → List Traced → SeatItems → SeatItems
 ran_items c op trace [] = []
-ran_items c op trace (x ∷ xs) = numbered x.number (ran_view c x.number op trace x.view) ∷ xs
+ran_items c op trace (x ∷ xs) = numbered x.number (ran_view c x.number op (done_by xs) trace x.view) ∷ xs
 
 -- the operation that begins with the next event
 abbrev pub begins_at : Op → List Traced → Option Op
@@ -88,7 +105,8 @@ unit_of reply = tt
 
 -- One whole operation. Its events are a trace of it that ends in this answer. The own view has done just these events and their
 -- actions, and nothing else of the task changed. Each event was a move in a world that the rule holds of. So it has added exactly the
--- operation's actions, a refusal has its cause in the trace, and where the operation has a most number of events, they are no more.
+-- operation's actions, a refusal has its cause in the trace, and where the operation has a most number of events, they are no more. What
+-- it leaves has one history, in which each last snapshot has its moment.
 pub record Called (op : Op) (old left : TaskState) (answer : Result Reply GateError) : Type 0 where
   pub trace : List Traced
   pub follows : IsTrace old.config (own_number old.items) op trace
@@ -98,6 +116,7 @@ pub record Called (op : Op) (old left : TaskState) (answer : Result Reply GateEr
   pub added : (course_of old.config (own_number old.items) op trace).added ≡ actions_of op answer trace
   pub honest : IsHonestAnswer old.config op answer trace
   pub short : IsShort (most_events old.config op) trace
+  pub history : HaveHistory old.config left.items
 
 -- An operation whose beginning is refused changes nothing, and any other is done whole. The call tells its answer as it reads replies.
 pub record Replies {A : Type 0} (read : Reply → A) (op : Op) (old left : TaskState) (outcome : Result A GateError) : Type 0 where

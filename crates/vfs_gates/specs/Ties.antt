@@ -8,7 +8,7 @@ use Rattle.gate_world.specs.Configs.{IsWithin}
 use Rattle.gate_world.specs.Views.{held_at, holds_level}
 use Rattle.gate_world.specs.Fits.{Fits}
 use Rattle.gate_core.specs.declared.seats.Seat.{Seat}
-use Rattle.gate_core.specs.Memory.{mounts_in, levels_in}
+use Rattle.gate_core.specs.Seats.{mounts_in, levels_in}
 use Rattle.gate_steps.specs.declared.seating.Numbered.{Numbered}
 use Rattle.gate_steps.specs.Seating.{SeatItems, MayStep, times}
 use Rattle.vfs_gates.specs.TaskStates.{Empty}

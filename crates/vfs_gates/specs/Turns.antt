@@ -11,7 +11,7 @@ use Rattle.gate_world.specs.Work.{at_phases}
 use Rattle.mount_counts.specs.declared.phases.Want.{Want}
 use Rattle.mount_counts.specs.declared.phases.MountPhase.TheVariants.{Want as Wants}
 use Rattle.gate_core.specs.declared.seats.Seat.{Seat}
-use Rattle.gate_core.specs.declared.seats.Accesses.{Accesses}
+use Rattle.gate_world.specs.declared.accesses.Accesses.{Accesses}
 use Rattle.gate_core.specs.declared.steps.Step.{Step}
 use Rattle.gate_core.specs.Answers.{progress_of}
 use Rattle.gate_steps.specs.Seating.{SeatItems}

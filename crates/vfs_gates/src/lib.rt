@@ -5,6 +5,7 @@
 mod calls;
 mod closed;
 mod gates;
+pub mod laws;
 mod numbers;
 mod parts;
 mod rooms;

@@ -6,8 +6,9 @@ ghost use Rattle.access_model.specs.declared.errors.GateError.TheVariants.{Order
 use crate::gates::Gates;
 use crate::numbers::{add_all, lowest, none};
 use crate::rooms::Rooms;
-use crate::task::{Task, idle};
+use crate::task::Task;
 use access_model::GateError;
+use gate_core::seats::Seat as Kept;
 use gate_steps::{give, take_back};
 use std::alloc::Global;
 
@@ -41,7 +42,7 @@ impl Task {
             number,
             config: self.config,
             begins: None,
-            kept: idle(),
+            kept: Kept::idle(),
             spare: none(),
             rooms,
             seat,

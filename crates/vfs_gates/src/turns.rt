@@ -15,9 +15,8 @@ use crate::gates::Gates;
 use crate::task::Seat;
 use access_model::{Action, Next};
 use cpu_words::Event;
-use gate_core::Accesses;
 use gate_steps::event;
-use gate_world::{Op, UnderWay};
+use gate_world::{Accesses, Op, UnderWay};
 
 /// An event, the action that it added, and what comes after it.
 pub(crate) struct Turn<P> {
@@ -46,9 +45,7 @@ pub(crate) fn do_event<P: UnderWay>(
         (task_state seat.new.table_id gates.now.config None (phase_after (at_phases P.as_phase result.next)) seat.new.me.0) }
 {
     let phase = under_way.phase();
-    let (word, touch) = phase.next(hook);
-    let found = event(&gates.table.shared, seat, begins, phase, hook);
-    let event = touch.event(word, found);
+    let event = event(&gates.table.shared, seat, begins, phase, hook);
     let (next, action) = under_way.after(event.found, hook);
     accesses.apply(action);
     Turn {

@@ -1,0 +1,101 @@
+-- The rule and the shown model read no snapshot.
+use Rattle.std.proofs.Common.{◌≡◌, ℕ, ap, subst, refl, inl, inr, sym, ◌∙◌}
+use Rattle.std.specs.Prelude.{None, is_some, List}
+use Rattle.std.proofs.Math.Path.{fun_ext}
+use Rattle.std.proofs.lemmas.Bool.{true≢false}
+use Rattle.std.proofs.lemmas.Bool.Decides.{eqb_tells}
+use Rattle.finite_sums.specs.Sums.{update}
+use Rattle.cpu_words.specs.Words.{Words}
+use Rattle.cpu_words.specs.Touches.{found_by}
+use Rattle.cpu_words.specs.Hooks.{HookAnswer}
+use Rattle.mount_counts.specs.declared.phases.MountPhase.{MountPhase}
+use Rattle.gate_world.specs.declared.config.Config.{Config}
+use Rattle.gate_world.specs.declared.work.Phase.{Phase}
+use Rattle.gate_world.specs.declared.work.Phase.TheVariants.{Mounts}
+use Rattle.gate_world.specs.declared.views.View.{View}
+use Rattle.gate_world.specs.Work.{next_of, after_of}
+use Rattle.gate_world.specs.Views.{view_with, view_after, view_after_beside}
+use Rattle.gate_world.specs.Worlds.{World, value_at, words_after, after_step, after_step_beside}
+use Rattle.gate_world.specs.Shown.{shown}
+use Rattle.gate_world.specs.Moments.{CompletesNow}
+use Rattle.gate_world.specs.Rules.{Part, Owner, Superblock, Stages, Fitting, AtMount, Holds, IsGood}
+
+-- a view, and a world, without their snapshots
+abbrev bare_view : View → View
+bare_view v = record v { snapshot = None }
+
+abbrev bare : World → World
+bare w = record { words = w.words; views = λ t. bare_view (w.views t) }
+
+-- each part of the rule says the same there
+bare_part : (c : Config) (w : World) (part : Part) → Holds c (bare w) part ≡ Holds c w part
+bare_part c w Owner = refl
+bare_part c w Superblock = refl
+bare_part c w Stages = refl
+bare_part c w Fitting = refl
+bare_part c w (AtMount m) = refl
+
+bare_views : (f : ℕ → View) (t : ℕ) (u v : View) → bare_view u ≡ bare_view v → (x : ℕ) →
+    bare_view (update f t u x) ≡ bare_view (update f t v x)
+bare_views f t u v e x = elim (eqb_tells x t) [ inl h ↦ rw (h.0, update) e | inr h ↦ rw (h.0, update) refl ]
+
+-- views that differ in their snapshot alone serve alike: in each part of the rule, and in the shown model
+module _ (c : Config) (ws : Words) (f : ℕ → View) (t : ℕ) (u v : View) (same : bare_view u ≡ bare_view v) where
+  abbrev old : World
+  old = record { words = ws; views = update f t u }
+
+  abbrev new : World
+  new = record { words = ws; views = update f t v }
+
+  same_bare : bare old ≡ bare new
+  same_bare = λ i. record { words = ws; views = fun_ext (bare_views f t u v same) i }
+
+  pub part_apart : (part : Part) → Holds c (record { words = ws; views = update f t u }) part →
+      Holds c (record { words = ws; views = update f t v }) part
+  part_apart part h =
+      let parts : Holds c old part ≡ Holds c new part =
+      sym (bare_part c old part) ∙ (ap (λ w. Holds c w part) same_bare ∙ bare_part c new part) in
+      subst (λ X. X) parts h
+
+  pub shown_apart : shown c (record { words = ws; views = update f t u }) ≡ shown c (record { words = ws; views = update f t v })
+  shown_apart = ap (shown c) same_bare
+
+-- what the other numbers of a task have done is noted in its snapshot alone: the rule and the shown model are as without them
+pub others_apart : (c : Config) (others : List (ℕ × ℕ)) (w : World) (t : ℕ) (phase : Phase) (hook : HookAnswer) →
+    IsGood c (after_step w t phase hook) →
+    IsGood c (after_step_beside others w t phase hook) ×
+    (shown c (after_step w t phase hook) ≡ shown c (after_step_beside others w t phase hook))
+others_apart c others w t phase hook good =
+    let ws : Words = words_after w.words phase hook in
+    let value : ℕ = value_at w.words phase hook in
+    let alone : View = view_after (w.views t) phase value hook in
+    let beside : View = view_after_beside others (w.views t) phase value hook in
+    (λ part. part_apart c ws w.views t alone beside refl part (good part), shown_apart c ws w.views t alone beside refl)
+
+-- the view, and the world, after an event where a snapshot that it completes is not noted
+abbrev plain_view : View → Phase → ℕ → HookAnswer → View
+plain_view v phase value hook = view_with v (next_of phase hook) value hook (after_of phase (found_by (next_of phase hook).1 value) hook)
+
+abbrev pub after_plain_step : World → ℕ → Phase → HookAnswer → World
+after_plain_step w t phase hook = record {
+  words = words_after w.words phase hook;
+  views = update w.views t (plain_view (w.views t) phase (value_at w.words phase hook) hook);
+}
+
+-- so the law of an event that completes a snapshot may be proved as if none were noted
+module _ (c : Config) (w : World) (t : ℕ) (phase : Phase) (hook : HookAnswer) where
+  abbrev plain : View
+  plain = plain_view (w.views t) phase (value_at w.words phase hook) hook
+
+  abbrev noted : View
+  noted = view_after (w.views t) phase (value_at w.words phase hook) hook
+
+  pub noted_part : (part : Part) → Holds c (after_plain_step w t phase hook) part → Holds c (after_step w t phase hook) part
+  noted_part part h = part_apart c (words_after w.words phase hook) w.views t plain noted refl part h
+
+  pub noted_shown : shown c (after_plain_step w t phase hook) ≡ shown c (after_step w t phase hook)
+  noted_shown = shown_apart c (words_after w.words phase hook) w.views t plain noted refl
+
+-- a phase of want, drop or change completes no snapshot
+pub completes_none : (c : Config) (w : World) (t : ℕ) (hook : HookAnswer) (x : MountPhase) → CompletesNow c w t hook (Mounts x)
+completes_none c w t hook x loaded e = absurd (true≢false (sym (ap is_some e)))

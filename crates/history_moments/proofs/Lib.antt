@@ -1,0 +1,3 @@
+pub mod Moments
+pub mod Frozen
+pub mod Sample

@@ -1,0 +1,115 @@
+-- Each last snapshot has its moment in the history, and keeps it.
+use Rattle.std.proofs.Common.{◌≡◌, ℕ, ◌<◌, refl, ap, ◌∙◌, inl, inr}
+use Rattle.std.specs.Prelude.{nat_lt, Option, Some, None, List, [], ◌∷◌, length}
+use Rattle.std.proofs.lemmas.Bool.{cases_Bool, ltb-true}
+use Rattle.finite_sums.proofs.Totals.{each_updated}
+use Rattle.access_model.specs.declared.actions.Action.{Action}
+use Rattle.access_model.specs.declared.errors.GateError.{GateError}
+use Rattle.access_model.specs.States.{State}
+use Rattle.access_model.specs.Histories.{Done, end_of, IsLegal, own_part, IsMerge}
+use Rattle.history_moments.specs.Moments.{HaveDone}
+use Rattle.history_moments.proofs.Moments.{is_now, stays}
+use Rattle.cpu_words.specs.Hooks.{HookAnswer}
+use Rattle.gate_world.specs.declared.config.Config.{Config}
+use Rattle.gate_world.specs.declared.operations.Op.{Op}
+use Rattle.gate_world.specs.declared.work.Phase.{Phase}
+use Rattle.gate_world.specs.declared.views.View.{View}
+use Rattle.gate_world.specs.declared.views.TreeWords.{TreeWords}
+use Rattle.gate_world.specs.declared.views.Snapshot.{Snapshot}
+use Rattle.gate_world.specs.Configs.{IsWithin, model_limits}
+use Rattle.gate_world.specs.Snapshots.{completes, last_snapshot}
+use Rattle.gate_world.specs.Views.{view_after_beside, begun_view}
+use Rattle.gate_world.specs.Beginnings.{first_phase, view_refusal}
+use Rattle.gate_world.specs.Worlds.{World, Entry, Begins, Steps, begin_of, after_step_beside, step_of, happens, phase_action, action_of, task_of, with_action, found_at, value_at, run, history}
+use Rattle.gate_world.specs.Shown.{node_shown, shown}
+use Rattle.gate_world.specs.Moments.{tree_loaded, HasMoment, AllHaveMoments, IsPresentTree, CompletesNow}
+use Rattle.gate_world.specs.Rules.{IsGood, Moves}
+use Rattle.schedule_laws.proofs.Layers.{phase_keeps}
+use Rattle.schedule_laws.proofs.Lists.{lists, happens_lists}
+use Rattle.schedule_laws.proofs.Schedule.{happens_keeps, legal_more}
+
+module _ (c : Config) where
+  -- a moment in the history is one in the longer history
+  moment_stays : (log : List Done) (t : ℕ) (last : Option Snapshot) → HasMoment c log t last → (u : ℕ) (a : Option Action) →
+      HasMoment c (with_action u a log) t last
+  moment_stays log t last h u None = h
+  moment_stays log t None h u (Some a) = tt
+  moment_stays log t (Some s) h u (Some a) = stays c.nodes (tree_loaded s.loaded) ((t, s.done) ∷ s.others) log h (u, a)
+
+  -- a history that leads to the present has the moment of a snapshot of the present tree
+  module _ (w : World) (log : List Done) (ends : end_of log ≡ shown c w) where
+    present_moment : (t : ℕ) (actions : List Action) (others : List (ℕ × ℕ)) (loaded : TreeWords) → own_part t log ≡ actions →
+        HaveDone others log → IsPresentTree c w.words loaded →
+        HasMoment c log t (Some (record { loaded = loaded; done = length actions; others = others }))
+    present_moment t actions others loaded own done present =
+        is_now c.nodes (tree_loaded loaded) ((t, length actions) ∷ others) log (record {
+          frozen = ap (λ (s : State). s.stage) ends ∙ present.frozen;
+          same_tree = λ n lt. ap (λ (s : State). s.tree n) ends ∙ ap node_shown (present.nodes n lt);
+          have_done = (ap length own, done);
+        })
+
+    -- so the last snapshot has one, also where it is completed now
+    last_moment : (t : ℕ) (taken : Option TreeWords) (actions : List Action) (others : List (ℕ × ℕ)) (last : Option Snapshot) →
+        own_part t log ≡ actions → HaveDone others log → ((loaded : TreeWords) → taken ≡ Some loaded → IsPresentTree c w.words loaded) →
+        HasMoment c log t last → HasMoment c log t (last_snapshot taken actions others last)
+    last_moment t None actions others last own done present h = h
+    last_moment t (Some loaded) actions others last own done present h =
+        present_moment t actions others loaded own done (present loaded refl)
+
+    -- after an event, also one of a task that has other numbers
+    pub beside_moments : (others : List (ℕ × ℕ)) (t : ℕ) (hook : HookAnswer) (phase : Phase) → IsMerge (lists w) log → HaveDone others log →
+        CompletesNow c w t hook phase → AllHaveMoments c log w →
+        AllHaveMoments c (with_action t (phase_action w hook (Some phase)) log) (after_step_beside others w t phase hook)
+    beside_moments others t hook phase merge done now all x =
+        let a : Option Action = phase_action w hook (Some phase) in
+        let v : View = w.views t in
+        let taken : Option TreeWords = completes phase v.trace (found_at w.words phase hook) in
+        each_updated (λ y (u : View). HasMoment c (with_action t a log) y u.snapshot) w.views t
+        (view_after_beside others v phase (value_at w.words phase hook) hook) x
+        (moment_stays log t (last_snapshot taken v.actions others v.snapshot)
+        (last_moment t taken v.actions others v.snapshot (merge t) done now (all t)) t a)
+        (λ ne. moment_stays log x (w.views x).snapshot (all x) t a)
+
+  -- after a beginning
+  pub begin_moments : (w : World) (log : List Done) (t : ℕ) (op : Op) (r : Option GateError) → AllHaveMoments c log w →
+      AllHaveMoments c log (begin_of c w t op r)
+  begin_moments w log t op (Some refused) all x = all x
+  begin_moments w log t op None all x =
+      each_updated (λ y (u : View). HasMoment c log y u.snapshot) w.views t (begun_view (w.views t) op (first_phase c t op)) x
+      (all t) (λ ne. all x)
+
+module _ (c : Config) (lim : IsWithin c) where
+  module _
+      (w : World) (good : IsGood c w) (log : List Done) (ends : end_of log ≡ shown c w) (merge : IsMerge (lists w) log)
+      (all : AllHaveMoments c log w) where
+    step_moments : (t : ℕ) → t < c.tasks → (hook : HookAnswer) (p : Option Phase) → (w.views t).phase ≡ p →
+        AllHaveMoments c (with_action t (phase_action w hook p) log) (step_of w t hook p)
+    step_moments t lt hook None e = all
+    step_moments t lt hook (Some phase) e =
+        beside_moments c w log ends [] t hook phase merge tt ((phase_keeps c phase).completes lim w good t lt hook e) all
+
+    -- after any entry
+    happens_moments : (e : Entry) → AllHaveMoments c (with_action (task_of e) (action_of c w e) log) (happens c w e)
+    happens_moments (Begins t op) =
+        elim (cases_Bool (nat_lt t c.tasks)) [
+          | inl h ↦ rw h (begin_moments c w log t op (view_refusal c (w.views t) op) all)
+          | inr h ↦ rw h all
+        ]
+    happens_moments (Steps t hook) =
+        elim (cases_Bool (nat_lt t c.tasks)) [
+          | inl h ↦ rw h (step_moments t (ltb-true t c.tasks h) hook (w.views t).phase refl)
+          | inr h ↦ rw h all
+        ]
+
+  -- after any schedule
+  pub run_moments : (es : List Entry) (w : World) (log : List Done) → IsGood c w → IsLegal (model_limits c) log → end_of log ≡ shown c w →
+      IsMerge (lists w) log → AllHaveMoments c log w → AllHaveMoments c (history c w log es) (run c w es)
+  run_moments [] w log good legal ends merge all = all
+  run_moments (e ∷ es) w log good legal ends merge all =
+      let t : ℕ = task_of e in
+      let a : Option Action = action_of c w e in
+      let kept : IsGood c (happens c w e) × Moves c (shown c w) t a (shown c (happens c w e)) = happens_keeps c lim w good e in
+      let more : IsLegal (model_limits c) (with_action t a log) × (end_of (with_action t a log) ≡ shown c (happens c w e)) =
+      legal_more c lim (shown c w) (shown c (happens c w e)) t a log kept.1 legal ends in
+      run_moments es (happens c w e) (with_action t a log) kept.0 more.0 more.1 (happens_lists c w log e merge)
+      (happens_moments w good log ends merge all e)
