@@ -61,8 +61,10 @@ pub split_rests :
     Rests left × Rests other
 split_rests c id old left other is made =
     let split : SplitOf (task_state id c None None (first_items c)) left other = subst (λ s. SplitOf s left other) is made in (
-      subst Rests (sym split.kept) (refl, empty_of c (own_view (kept_of split.number (first_items c))) (kept_none split.number 0 c.tasks)),
-      subst Rests (sym split.given) (refl, empty_of c (own_view (given_of split.number (first_items c))) (given_none split.number 0 c.tasks)),
+      subst Rests (sym split.kept)
+      (refl, empty_of c (own_view (kept_of split.number (first_items c))) (kept_none split.number 0 c.tasks)),
+      subst Rests (sym split.given)
+      (refl, empty_of c (own_view (given_of split.number (first_items c))) (given_none split.number 0 c.tasks)),
     )
 
 -- a task with no number of its own has no event
@@ -110,14 +112,16 @@ module _ (old there : TaskState) (m p : ℕ) (rests : Rests old) (mount : m < ol
   want_begins = rw (rests.0, lt-ltb m old.config.mounts mount, lt-ltb p old.config.processors cpu, rests.1.0 m mount) refl
 
   module _ (wants : Performs (Want m p true) old there (Ok tt)) where
+    -- so it was one whole operation
     call : Called (Want m p true) old there (Ok tt)
     call = wants.done want_begins
 
     -- once it is granted, the task holds one access
     holds_one : mounts_of (own_actions there) m ≡ mounts_of (own_actions old) m + 1
     holds_one =
-        ap (λ l. mounts_of l m) (called _ old there _ call ∙ ap (λ l. l ++ own_actions old) (granted m p call.trace call.answer call.answers)) ∙
-        update_at (mounts_of (own_actions old)) m _
+        let grown : own_actions there ≡ Grant (Mount m) ∷ own_actions old =
+            called _ old there _ call ∙ ap (λ l. l ++ own_actions old) (granted m p call.trace call.answer call.answers) in
+        ap (λ l. mounts_of l m) grown ∙ update_at (mounts_of (own_actions old)) m _
 
     -- and a drop of it begins
     drop_begins : refusal_at (DropMount m p) there ≡ None
