@@ -18,7 +18,7 @@ use Rattle.gate_world.specs.Views.{view_with, view_after, view_after_beside}
 use Rattle.gate_world.specs.Worlds.{World, value_at, words_after, after_step, after_step_beside}
 use Rattle.gate_world.specs.Shown.{shown}
 use Rattle.gate_world.specs.Moments.{CompletesNow}
-use Rattle.gate_world.specs.Rules.{Part, Owner, Superblock, Stages, Fitting, AtMount, Holds, IsGood}
+use Rattle.gate_world.specs.Rules.{Part, Owner, Superblock, Stages, Fitting, Known, AtMount, Holds, IsGood}
 
 -- a view, and a world, without their snapshots
 abbrev bare_view : View → View
@@ -33,6 +33,7 @@ bare_part c w Owner = refl
 bare_part c w Superblock = refl
 bare_part c w Stages = refl
 bare_part c w Fitting = refl
+bare_part c w Known = refl
 bare_part c w (AtMount m) = refl
 
 bare_views : (f : ℕ → View) (t : ℕ) (u v : View) → bare_view u ≡ bare_view v → (x : ℕ) →

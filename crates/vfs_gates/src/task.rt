@@ -23,6 +23,10 @@ pub(crate) type Seat = atomic_table::Seat<(), Items>;
 /// A task: a token that one thread owns at a time. It has a number of its own, with which it acts, and the numbers that it may
 /// still give to others. Contracts see its table, its configuration, the operation that it has begun until its first event, the
 /// phase at which it stands, and its numbers with their views, its own first.
+///
+/// A task that is dropped while it holds an access keeps that access for good: a change of that mount to read-only is `Busy` from then
+/// on, and `Gates::close` can no longer be reached. One that is dropped at rest takes its numbers with it, so that `close` can't be
+/// reached either.
 #[derive(Drop)]
 pub struct Task {
     pub(crate) number: u8,

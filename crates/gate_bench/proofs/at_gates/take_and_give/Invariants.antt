@@ -1,3 +1,4 @@
+-- The task comes from the gates.
 use Rattle.vfs_gates.specs.TaskStates.{IsFrom}
 use Rattle.gate_bench.proofs.at_gates.take_and_give.Given as goal
 

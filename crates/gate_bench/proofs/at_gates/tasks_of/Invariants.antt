@@ -1,3 +1,4 @@
+-- The first task and those that were split off come from the gates.
 use Rattle.std.proofs.Common.{All}
 use Rattle.vfs_gates.specs.TaskStates.{IsFrom}
 use Rattle.gate_bench.proofs.at_gates.tasks_of.Given as goal

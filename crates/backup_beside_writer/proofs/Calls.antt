@@ -1,0 +1,138 @@
+-- What whole calls leave of a task that rested before them.
+use Rattle.std.proofs.Common.{◌≡◌, ℕ, zero, suc, ◌+◌, ◌<◌, true, false, cond, eqb, List, [], ◌∷◌, ◌++◌, refl, sym, ap, ◌∙◌, subst, arith}
+use Rattle.std.specs.Prelude.{None, Result, Ok, Err}
+use Rattle.std.proofs.lemmas.Bool.{lt-ltb}
+use Rattle.finite_sums.proofs.Totals.{update_at}
+use Rattle.atomic_table.specs.Seated.{TableId}
+use Rattle.access_model.specs.declared.actions.Action.{Action}
+use Rattle.access_model.specs.declared.actions.Action.TheVariants.{Grant}
+use Rattle.access_model.specs.declared.actions.Gate.TheVariants.{Mount}
+use Rattle.access_model.specs.declared.errors.GateError.{GateError}
+use Rattle.access_model.specs.declared.replies.Next.{Next}
+use Rattle.access_model.specs.declared.replies.Next.TheVariants.{Go, Wait, Done}
+use Rattle.access_model.specs.declared.replies.Reply.{Reply}
+use Rattle.access_model.specs.Histories.{mounts_of, levels_of}
+use Rattle.gate_world.specs.declared.config.Config.{Config}
+use Rattle.gate_world.specs.declared.operations.Op.{Op}
+use Rattle.gate_world.specs.declared.operations.Op.TheVariants.{Want, DropMount}
+use Rattle.gate_world.specs.declared.views.Traced.{Traced}
+use Rattle.gate_world.specs.declared.views.View.{View}
+use Rattle.gate_world.specs.declared.work.Phase.{Phase}
+use Rattle.gate_world.specs.Views.{opening_view}
+use Rattle.gate_world.specs.Courses.{course_of}
+use Rattle.gate_world.specs.Traces.{actions_of, IsHonestAnswer}
+use Rattle.gate_steps.specs.Rules.{first_items}
+use Rattle.gate_steps.specs.Seating.{SeatItems, view_in, deal, kept_of, given_of}
+use Rattle.vfs_gates.specs.TaskStates.{TaskState, task_state, own_number, own_view, refusal_at, Empty}
+use Rattle.vfs_gates.specs.Parts.{SplitOf}
+use Rattle.vfs_gates.specs.Runs.{ran_items, IsNextMove, AreMoves, outcome_of, Called, Performs}
+use Rattle.backup_beside_writer.specs.Rests.{Rests}
+
+-- the actions of a task's own number, the newest first
+abbrev own_actions : TaskState → List Action
+own_actions s = (own_view s.items).actions
+
+-- a view with no action holds nothing
+empty_of : (c : Config) (v : View) → v.actions ≡ [] → Empty c v
+empty_of c v none = ((λ m lt. ap (λ l. mounts_of l m) none), (λ i one three. ap (λ l. levels_of l i) none))
+
+-- a number that was dealt has done nothing
+in_dealt : (n from k : ℕ) → view_in n (deal from k) ≡ opening_view
+in_dealt n from zero = refl
+in_dealt n from (suc k) =
+    elim (eqb from n) as (λ b. cond b opening_view (view_in n (deal (suc from) k)) ≡ opening_view) [
+      | true ↦ refl
+      | false ↦ in_dealt n (suc from) k
+    ]
+
+-- nor has the own number that keeps the others
+kept_none : (n from k : ℕ) → (own_view (kept_of n (deal from k))).actions ≡ []
+kept_none n from zero = refl
+kept_none n from (suc k) = refl
+
+-- nor has a number that is given away
+given_none : (n from k : ℕ) → (own_view (given_of n (deal from k))).actions ≡ []
+given_none n from zero = refl
+given_none n from (suc k) = ap (λ (v : View). v.actions) (in_dealt n (suc from) k)
+
+-- a task that has all numbers, and has done nothing, rests after it has given one away, and so does the other
+pub split_rests :
+    (c : Config) (id : TableId) (old left other : TaskState) → old ≡ task_state id c None None (first_items c) → SplitOf old left other →
+    Rests left × Rests other
+split_rests c id old left other is made =
+    let split : SplitOf (task_state id c None None (first_items c)) left other = subst (λ s. SplitOf s left other) is made in (
+      subst Rests (sym split.kept)
+      (refl, empty_of c (own_view (kept_of split.number (first_items c))) (kept_none split.number 0 c.tasks)),
+      subst Rests (sym split.given)
+      (refl, empty_of c (own_view (given_of split.number (first_items c))) (given_none split.number 0 c.tasks)),
+    )
+
+-- a task with no number of its own has no event
+no_move : (c : Config) (op : Op) (earlier : List Traced) (e : Traced) (s : Next Phase) → IsNextMove c op [] earlier e s → ⊥
+no_move c op [] e (Go phase) h = h.2
+no_move c op (d ∷ ds) e (Go phase) h = h.2
+no_move c op [] e (Wait phase) h = h.2
+no_move c op (d ∷ ds) e (Wait phase) h = h.2
+no_move c op earlier e (Done answer) h = h
+
+-- the own number's actions after a whole operation: those that it has added, and the earlier ones
+acted :
+    (c : Config) (op : Op) (trace : List Traced) (answer : Result Reply GateError) (l : SeatItems) (added : List Action) →
+    (course_of c (own_number l) op trace).comes ≡ Done answer → AreMoves c op l trace →
+    (course_of c (own_number l) op trace).added ≡ added →
+    (own_view (ran_items c op trace l)).actions ≡ added ++ (own_view l).actions
+acted c op [] answer [] added ends moves is = absurd (let f : ⊥ = cc in f)
+acted c op (e ∷ es) answer [] added ends moves is = absurd (no_move c op es e _ moves.0)
+acted c op trace answer (x ∷ xs) added ends moves is = ap (λ l. l ++ x.view.actions) is
+
+-- the same of a call
+called :
+    (op : Op) (old left : TaskState) (outcome : Result (Unit {0}) GateError) (k : Called op old left outcome) →
+    own_actions left ≡ actions_of op k.answer k.trace ++ own_actions old
+called op old left outcome k =
+    ap (λ (s : TaskState). own_actions s) k.after ∙ acted old.config op k.trace k.answer old.items _ k.ends k.moves k.added
+
+-- a want that was not refused has added its grant
+granted :
+    (m p : ℕ) (trace : List Traced) (answer : Result Reply GateError) → Ok tt ≡ outcome_of answer →
+    actions_of (Want m p true) answer trace ≡ Grant (Mount m) ∷ []
+granted m p trace (Ok reply) is = refl
+granted m p trace (Err refusal) is = absurd (let f : ⊥ = cc in f)
+
+-- a drop that has begun is not refused
+dropped :
+    (c : Config) (m p : ℕ) (trace : List Traced) (answer : Result Reply GateError) → IsHonestAnswer c (DropMount m p) answer trace →
+    outcome_of answer ≡ Ok tt
+dropped c m p trace (Ok reply) honest = refl
+dropped c m p trace (Err refusal) honest = absurd honest
+
+module _ (old there : TaskState) (m p : ℕ) (rests : Rests old) (mount : m < old.config.mounts) (cpu : p < old.config.processors) where
+  -- a want of a task that rests begins
+  want_begins : refusal_at (Want m p true) old ≡ None
+  want_begins = rw (rests.0, lt-ltb m old.config.mounts mount, lt-ltb p old.config.processors cpu, rests.1.0 m mount) refl
+
+  module _ (wants : Performs (Want m p true) old there (Ok tt)) where
+    -- so it was one whole operation
+    call : Called (Want m p true) old there (Ok tt)
+    call = wants.done want_begins
+
+    -- once it is granted, the task holds one access
+    holds_one : mounts_of (own_actions there) m ≡ mounts_of (own_actions old) m + 1
+    holds_one =
+        let grown : own_actions there ≡ Grant (Mount m) ∷ own_actions old =
+            called _ old there _ call ∙ ap (λ l. l ++ own_actions old) (granted m p call.trace call.answer call.answers) in
+        ap (λ l. mounts_of l m) grown ∙ update_at (mounts_of (own_actions old)) m _
+
+    -- and a drop of it begins
+    drop_begins : refusal_at (DropMount m p) there ≡ None
+    drop_begins =
+        let idle : there.phase ≡ None = ap (λ (s : TaskState). s.phase) call.after in
+        let config : there.config ≡ old.config = wants.config in
+        let some : 0 < mounts_of (own_actions there) m = omega (arith, holds_one) in
+        rw (idle, config, lt-ltb m old.config.mounts mount, lt-ltb p old.config.processors cpu, lt-ltb 0 _ some) refl
+
+    -- so it is not refused
+    pub is_dropped :
+        (left : TaskState) (outcome : Result (Unit {0}) GateError) → Performs (DropMount m p) there left outcome → outcome ≡ Ok tt
+    is_dropped left outcome drops =
+        let done = drops.done drop_begins in done.answers ∙ dropped there.config m p done.trace done.answer done.honest

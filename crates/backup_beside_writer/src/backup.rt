@@ -1,0 +1,58 @@
+//! The backup: it reads while the mount is read-only.
+
+ghost use Rattle.std.specs.Prelude.{◌≡◌, IfErr};
+ghost use Rattle.access_model.specs.declared.errors.GateError.TheVariants.{Busy};
+ghost use Rattle.vfs_gates.specs.TaskStates.{IsFrom};
+ghost use Rattle.backup_beside_writer.specs.Rests.{Rests};
+
+use crate::MOUNT;
+use access_model::GateError;
+use std::sync::Wait;
+use std::sync::atomic::{AtomicU64, Ordering};
+use vfs_gates::{Gates, Task};
+
+/// Reads the file twice while the mount is read-only, and says whether the reads differ. Refused only as Busy; whatever it answers, the
+/// task rests again.
+pub(crate) fn copy_once<R: Wait>(
+    rt: &R,
+    gates: &Gates,
+    task: &mut Task,
+    file: &AtomicU64,
+) -> Result<bool, GateError>
+    requires from { IsFrom task.old gates.now }
+    requires rests { Rests task.old }
+    ensures from { IsFrom task.new gates.now }
+    ensures rests { Rests task.new }
+    ensures refused { IfErr result (λ refusal. refusal ≡ Busy) }
+{
+    task.change_mount(rt, gates, MOUNT, true)?;
+    let copy = file.load(Ordering::SeqCst);
+    let torn = copy != file.load(Ordering::SeqCst);
+    task.change_mount(rt, gates, MOUNT, false)?;
+    Ok(torn)
+}
+
+/// Makes so many copies, and says how many were torn. One that is refused, while the writer is inside, is made again.
+pub(crate) fn back_up<R: Wait>(
+    rt: &R,
+    gates: &Gates,
+    mut task: Task,
+    file: &AtomicU64,
+    copies: u32,
+) -> (Task, u32)
+    requires from { IsFrom task gates.now }
+    requires rests { Rests task }
+    ensures from { IsFrom result.0 gates.now }
+    ensures rests { Rests result.0 }
+{
+    let mut torn = 0;
+    for _copy in 0..copies {
+        for _ in rt.forever() {
+            if let Ok(differs) = copy_once(rt, gates, &mut task, file) {
+                torn += u32::from(differs);
+                break;
+            }
+        }
+    }
+    (task, torn)
+}
