@@ -1,5 +1,5 @@
 -- Whether an operation may begin, as a task's fields say.
-use Rattle.std.proofs.Common.{◌≡◌, ℕ, ◌≤◌, [], ◌∷◌, List, Bool, ap, ◌∙◌}
+use Rattle.std.proofs.Common.{◌≡◌, ℕ, [], ◌∷◌, List, Bool, ap, ◌∙◌}
 use Rattle.std.specs.Prelude.{Option, is_some}
 use Rattle.access_model.specs.declared.errors.GateError.{GateError}
 use Rattle.gate_world.specs.declared.config.Config.{Config}
