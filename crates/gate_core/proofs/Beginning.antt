@@ -7,7 +7,6 @@ use Rattle.std.proofs.lemmas.List.{get_or_default}
 use Rattle.finite_sums.specs.Sums.{update}
 use Rattle.finite_sums.proofs.Totals.{update_at, update_off}
 use Rattle.access_model.specs.declared.errors.GateError.{GateError}
-use Rattle.gate_world.specs.declared.config.Config.{Config}
 use Rattle.gate_world.specs.declared.operations.Op.{Op}
 use Rattle.gate_world.specs.declared.work.Phase.{Phase}
 use Rattle.gate_world.specs.declared.views.View.{View}
@@ -24,7 +23,8 @@ use Rattle.gate_core.proofs.Each.{seat_cases}
 use Rattle.gate_core.proofs.Stepping.{run_more}
 
 module _ (memory : Memory) (sound : IsSound memory) (t : ℕ) (lt : t < memory.config.tasks)
-    (seat : Seat) (seat_is : seat ≡ get_or memory.seats t seat) (under_way : Bool) (under_way_is : under_way ≡ is_some seat.phase) (op : Op) where
+    (seat : Seat) (seat_is : seat ≡ get_or memory.seats t seat)
+    (under_way : Bool) (under_way_is : under_way ≡ is_some seat.phase) (op : Op) where
   -- the seat that the code read is the task's
   same_seat : seat_of memory t ≡ seat
   same_seat = get_or_default memory.seats t no_seat seat (omega (arith, sound.seats)) ∙ sym seat_is
@@ -54,7 +54,8 @@ module _ (memory : Memory) (sound : IsSound memory) (t : ℕ) (lt : t < memory.c
     pub refusal_same : begin_refusal memory.config w t op ≡ seat_refusal
     refusal_same =
         rw (lt-ltb t memory.config.tasks lt)
-        (sym (ap (λ b. refusal memory.config b (mounts_in seat) (levels_in seat) op) (under_way_is ∙ ap (λ (p : Option Phase). is_some p) phase_same) ∙
+        (sym (ap (λ b. refusal memory.config b (mounts_in seat) (levels_in seat) op)
+        (under_way_is ∙ ap (λ (p : Option Phase). is_some p) phase_same) ∙
         refusal_agree memory.config (mounts_in seat) (held_at (w.views t)) (levels_in seat) (holds_level (w.views t))
         mounts_same levels_same (is_some (w.views t).phase) op))
 
@@ -68,7 +69,8 @@ module _ (memory : Memory) (sound : IsSound memory) (t : ℕ) (lt : t < memory.c
     refused_shows w shows = rw (refusal_same w shows ∙ refused_is) shows
 
     -- and answers its refusal
-    pub refused_answer : (w : World) → Shows memory w → ◌≡◌ {A = Result (Unit {0}) GateError} (Err refused) (begin_answer memory.config w t op)
+    pub refused_answer : (w : World) → Shows memory w →
+        ◌≡◌ {A = Result (Unit {0}) GateError} (Err refused) (begin_answer memory.config w t op)
     refused_answer w shows = sym (ap unless_refused (refusal_same w shows ∙ refused_is))
 
   module _ (phase : Phase) (answered : ◌≡◌ {A = Result Phase GateError} (Ok phase) seat_beginning) where

@@ -33,7 +33,9 @@ module _ (c : Config) (within : IsWithin c) (words : List ℕ) (opens : AreOpeni
   -- the memory shows the opening
   pub opening_shown : Shows memory opening
   opening_shown = record {
-    words = opening_listed (extents_of c) (are_few c within) (λ place. place) (λ i j q. q) words_in_all words opens (omega (arith, within.some_node));
+    words =
+        opening_listed (extents_of c) (are_few c within) (λ place. place) (λ i j q. q) words_in_all words opens
+        (omega (arith, within.some_node));
     phases = λ t lt. at_seat (λ (s : Seat). s.phase ≡ None) refl t lt;
     mounts = λ t m lt lm. at_seat (λ (s : Seat). mounts_in s m ≡ 0) (zero_held m (omega (arith, within.mounts))) t lt;
     levels = λ t i lt one three. at_seat (λ (s : Seat). levels_in s i ≡ false) (no_level i (omega arith)) t lt;

@@ -10,6 +10,7 @@ use Rattle.gate_world.specs.Worlds.{Entry, Begins, Steps, run, history, opening}
 use Rattle.gate_core.specs.declared.steps.Progress.TheVariants.{Done}
 use Rattle.gate_core.specs.Answers.{step_answer}
 
+-- three tasks, two processors, one mount
 abbrev small : Config
 small = record { tasks = 3; processors = 2; mounts = 1; nodes = 2; capacity = 8 }
 
@@ -21,9 +22,11 @@ steps n t = replicate n (Steps t (Ok tt))
 abbrev closes : List Entry
 closes = Begins 0 (ChangeMount 0 true true) ∷ steps 9 0
 
+-- it adds the mount's new state
 closes_history : history small opening [] closes ≡ (0, MountRo 0) ∷ []
 closes_history = refl
 
+-- and the mount's flags say so
 closes_flags : (run small opening closes).words.flags 0 ≡ 1
 closes_flags = refl
 
@@ -31,12 +34,15 @@ closes_flags = refl
 abbrev moves : List Entry
 moves = Begins 0 (Want 0 0 true) ∷ steps 5 0 ++ (Begins 0 (DropMount 0 1) ∷ steps 1 0)
 
+-- it adds a grant and a return
 moves_history : history small opening [] moves ≡ (0, Return (Mount 0)) ∷ ((0, Grant (Mount 0)) ∷ [])
 moves_history = refl
 
+-- the one word has 1
 moves_taken : (run small opening moves).words.count 0 0 ≡ 1
 moves_taken = refl
 
+-- the other has wrapped below 0
 moves_given_back : (run small opening moves).words.count 0 1 ≡ 18446744073709551615
 moves_given_back = refl
 
@@ -44,11 +50,14 @@ moves_given_back = refl
 abbrev contends : List Entry
 contends = Begins 0 (Want 0 1 true) ∷ steps 5 0 ++ (Begins 1 (ChangeMount 0 true true) ∷ steps 7 1)
 
+-- its last step says Busy
 contends_ends : (step_answer small (run small opening contends) 1 (Ok tt)).progress ≡ Done (Err Busy)
 contends_ends = refl
 
+-- only the grant was added
 contends_history : history small opening [] (contends ++ steps 1 1) ≡ (0, Grant (Mount 0)) ∷ []
 contends_history = refl
 
+-- and the mount's flags are as they were
 contends_flags : (run small opening (contends ++ steps 1 1)).words.flags 0 ≡ 0
 contends_flags = refl

@@ -16,7 +16,7 @@ ends c =
     let seat = c.into_seat.result in
     let has = c.if-not-has_all.ensures.0 refl in
     let all : (n : ℕ) → n < config.tasks → 1 ≤ times n seat.me.0 =
-        λ n lt. subst (λ (l : SeatItems). 1 ≤ times n l) (sym c.into_seat.ensures.items) (has.2 n (subst (λ (k : Config). n < k.tasks) (sym c.requires.1) lt)) in
+    λ n lt. subst (λ (l : SeatItems). 1 ≤ times n l) (sym c.into_seat.ensures.items) (has.2 n (subst (λ (k : Config). n < k.tasks) (sym c.requires.1) lt)) in
     subst (EndedWith config (slots_items c.close.result.words)) c.into_seat.ensures.items
     (ended config seat.me.0 (slots_items c.close.result.words)
     (subst (λ (k : Config). IsClosing k (slots_items c.close.result.words) seat.me.0) c.args.self.key c.close.ensures.closing)
