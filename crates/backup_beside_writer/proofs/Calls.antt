@@ -62,9 +62,9 @@ pub split_rests :
 split_rests c id old left other is made =
     let split : SplitOf (task_state id c None None (first_items c)) left other = subst (λ s. SplitOf s left other) is made in (
       subst Rests (sym split.kept)
-      (refl, empty_of c (own_view (kept_of split.number (first_items c))) (kept_none split.number 0 c.tasks)),
+          (refl, empty_of c (own_view (kept_of split.number (first_items c))) (kept_none split.number 0 c.tasks)),
       subst Rests (sym split.given)
-      (refl, empty_of c (own_view (given_of split.number (first_items c))) (given_none split.number 0 c.tasks)),
+          (refl, empty_of c (own_view (given_of split.number (first_items c))) (given_none split.number 0 c.tasks)),
     )
 
 -- a task with no number of its own has no event
@@ -120,7 +120,7 @@ module _ (old there : TaskState) (m p : ℕ) (rests : Rests old) (mount : m < ol
     holds_one : mounts_of (own_actions there) m ≡ mounts_of (own_actions old) m + 1
     holds_one =
         let grown : own_actions there ≡ Grant (Mount m) ∷ own_actions old =
-            called _ old there _ call ∙ ap (λ l. l ++ own_actions old) (granted m p call.trace call.answer call.answers) in
+        called _ old there _ call ∙ ap (λ l. l ++ own_actions old) (granted m p call.trace call.answer call.answers) in
         ap (λ l. mounts_of l m) grown ∙ update_at (mounts_of (own_actions old)) m _
 
     -- and a drop of it begins
