@@ -112,23 +112,20 @@ module _ (tasks : ℕ) (views : ℕ → View) (seats : List SeatItems) (dealt : 
 abbrev renewed_at : World → ℕ → World
 renewed_at w n = record { words = w.words; views = update w.views n (renewed (w.views n)) }
 
--- words are as they are
-same_words : (w : Words) (part : Part) → SameWords w w part
-same_words w Owner = (refl, refl)
-same_words w Fitting = tt
-same_words w (AtMount m) = (refl, refl, refl, refl)
-same_words w part = refl
+-- each part of the rule holds of it: it reads the same of the view, but for what an owner knows, which a renewed view has to find anew
+renewed_part : (c : Config) (w : World) → IsGood c w → (n : ℕ) → n < c.tasks → (part : Part) → Holds c (renewed_at w n) part
+renewed_part c w good n lt Known = λ x lx.
+    each_updated (λ y (u : View). owns u.phase ≡ 1 → KnowsWords w.words u.trace) w.views n (renewed (w.views n)) x
+    (λ o word value k. absurd (true≢false (ap is_some (sym k)))) (λ ne. good Known x lx)
+renewed_part c w good n lt Owner = left_alone c w n lt Owner w.words (renewed (w.views n)) (refl, refl) (refl, refl) (good Owner)
+renewed_part c w good n lt Fitting = left_alone c w n lt Fitting w.words (renewed (w.views n)) tt (refl, refl, refl) (good Fitting)
+renewed_part c w good n lt (AtMount m) =
+    left_alone c w n lt (AtMount m) w.words (renewed (w.views n)) (refl, refl, refl, refl) refl (good (AtMount m))
+renewed_part c w good n lt part = left_alone c w n lt part w.words (renewed (w.views n)) refl tt (good part)
 
--- a renewed view is the same for each part of the rule
-renewed_same : (v : View) (part : Part) → SameView v (renewed v) part
-renewed_same v Owner = (refl, refl)
-renewed_same v Fitting = (refl, refl, refl)
-renewed_same v (AtMount m) = refl
-renewed_same v part = tt
-
+-- so the rule does
 renewed_good : (c : Config) (w : World) → IsGood c w → (n : ℕ) → n < c.tasks → IsGood c (renewed_at w n)
-renewed_good c w good n lt =
-    λ part. left_alone c w n lt part w.words (renewed (w.views n)) (same_words w.words part) (renewed_same (w.views n) part) (good part)
+renewed_good c w good n lt = renewed_part c w good n lt
 
 renewed_history : (c : Config) (w : World) (n : ℕ) → n < c.tasks → HasHistory c w → HasHistory c (renewed_at w n)
 renewed_history c w n lt h =
