@@ -35,8 +35,9 @@ use Rattle.schedule_laws.proofs.Lists.{step_lists, begin_lists}
 use Rattle.schedule_laws.proofs.Phases.{word_there}
 use Rattle.gate_steps.specs.declared.seating.Numbered.{Numbered}
 use Rattle.gate_steps.specs.Seating.{SeatItems, HaveViews, MayStep, Acts, entered, world_entered, items_after, happened}
-use Rattle.gate_steps.specs.Rules.{table_index, table_length, TableShows, Held}
+use Rattle.gate_steps.specs.Rules.{table_index, table_length, TableShows, IsReached, Held}
 use Rattle.gate_steps.proofs.TableWords.{table_written}
+use Rattle.gate_steps.proofs.Reaching.{begun_reached, stepped_reached}
 use Rattle.gate_steps.proofs.Dealing.{times-at, known_here, redealt}
 
 abbrev pub Carried : Type 0
@@ -68,6 +69,7 @@ record Entered (c : Config) (w : World) (t : ℕ) (begins : Option Op) (phase : 
   mine : (world_entered c w t begins).views t ≡ entered v begins phase
   at_phase : ((world_entered c w t begins).views t).phase ≡ Some phase
   words : (world_entered c w t begins).words ≡ w.words
+  reached : IsReached c w → IsReached c (world_entered c w t begins)
   others : (y : ℕ) → (y ≡ t → ⊥) → (world_entered c w t begins).views y ≡ w.views y
 
 enter : (c : Config) (lim : IsWithin c) (w : World) → IsGood c w → (x : Numbered) → x.number < c.tasks → (log : List Done) → IsMerge (λ t. (w.views t).actions) log →
@@ -79,6 +81,7 @@ enter c lim w good x lt log lists mine None phase may = record {
   mine = mine;
   at_phase = ap (λ (v : View). v.phase) mine ∙ may;
   words = refl;
+  reached = λ r. r;
   others = λ y ne. refl;
 }
 enter c lim w good x lt log lists mine (Some op) phase may =
@@ -94,6 +97,7 @@ enter c lim w good x lt log lists mine (Some op) phase may =
       mine = here ∙ (λ i. begun_view (mine i) op (sym may.1 i));
       at_phase = ap (λ (u : View). u.phase) here ∙ ap Some (sym may.1);
       words = refl;
+      reached = λ r. begun_reached c w r t lt op ok;
       others = λ y ne. update_off w.views t v y ne;
     }
 
@@ -137,6 +141,7 @@ lifted c slots id (x ∷ xs) carried begins phase hook acts s held len at small 
         world = after;
         ruled = record { within = lim; long = length-set s.words i (left touch n) ∙ held.ruled.long; words = table; good = kept.0 };
         history = record { log = with_action t (phase_action w' hook (Some phase)) log; legal = more.0; end = more.1; lists = step_lists w' log t hook (Some phase) en.lists };
+        reached = stepped_reached c w' (en.reached held.reached) t lt phase hook en.at_phase;
         dealt = redealt c.tasks w.views s.views held.dealt id (x ∷ xs) at t x.view v xs refl after.views own others;
       },
       (

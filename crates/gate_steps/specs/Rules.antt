@@ -6,7 +6,8 @@ use Rattle.cpu_words.specs.Words.{Words}
 use Rattle.cpu_words.specs.Lists.{ListShows}
 use Rattle.gate_world.specs.declared.config.Config.{Config}
 use Rattle.gate_world.specs.Configs.{IsWithin, model_limits, extents_of}
-use Rattle.gate_world.specs.Worlds.{World}
+use Rattle.gate_world.specs.declared.views.View.{View}
+use Rattle.gate_world.specs.Worlds.{World, Entry, run, opening}
 use Rattle.gate_world.specs.Shown.{shown}
 use Rattle.gate_world.specs.Rules.{IsGood}
 use Rattle.gate_steps.specs.Seating.{SeatItems, Dealt, deal}
@@ -37,11 +38,25 @@ pub record HasHistory (c : Config) (w : World) : Type 0 where
   pub end : end_of log ≡ shown c w
   pub lists : IsMerge (λ t. (w.views t).actions) log
 
+-- two views of a number agree but for the operation, its trace and the last snapshot
+pub record IsLike (v u : View) : Type 0 where
+  pub phase : v.phase ≡ u.phase
+  pub actions : v.actions ≡ u.actions
+  pub events : v.events ≡ u.events
+
+-- The world is what some schedule makes of the opening: all its words, and of each number the phase, the actions and the events. (A number that
+-- was given to a new task has no operation of its own yet.)
+pub record IsReached (c : Config) (w : World) : Type 0 where
+  pub entries : List Entry
+  pub words : (run c opening entries).words ≡ w.words
+  pub views : (t : ℕ) → IsLike ((run c opening entries).views t) (w.views t)
+
 -- the rule of the table
 pub record Held (c : Config) (ws : List ℕ) (seats : List SeatItems) : Type 0 where
   pub world : World
   pub ruled : Ruled c ws world
   pub history : HasHistory c world
+  pub reached : IsReached c world
   pub dealt : Dealt c.tasks world.views seats
 
 -- what the first seat knows: all numbers

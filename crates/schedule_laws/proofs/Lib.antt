@@ -5,3 +5,4 @@ pub mod Entries
 pub mod Schedule
 pub mod Lists
 pub mod Whole
+pub mod Runs
