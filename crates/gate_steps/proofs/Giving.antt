@@ -140,6 +140,10 @@ renewed_history c w n lt h =
       lists = λ x. each_updated (λ y (u : View). own_part y h.log ≡ u.actions) w.views n v x (h.lists n) (λ ne. h.lists x);
     }
 
+-- and has had the same events
+renewed_events : (w : World) (n t : ℕ) → ((renewed_at w n).views t).events ≡ (w.views t).events
+renewed_events w n t = each_updated (λ y (u : View). u.events ≡ (w.views y).events) w.views n (renewed (w.views n)) t refl (λ ne. refl)
+
 -- a seat gives a number that it has to give
 pub splits : (c : Config) (id n : ℕ) (v : SeatItems) → Spares n v → Splits (holds c) id v (kept_of n v) (given_of n v)
 splits c id n [] spare s held at = absurd spare
@@ -152,7 +156,13 @@ splits c id n (x ∷ xs) spare s held at =
     let lt : n < c.tasks = (known c.tasks w.views s.views held.dealt n (omega arith)).0 in
     let v : View = renewed (w.views n) in record {
       world = renewed_at w n;
-      ruled = record { within = held.ruled.within; long = held.ruled.long; words = held.ruled.words; good = renewed_good c w held.ruled.good n lt };
+      ruled = record {
+        within = held.ruled.within;
+        long = held.ruled.long;
+        words = held.ruled.words;
+        good = renewed_good c w held.ruled.good n lt;
+        opens = λ untouched. held.ruled.opens (λ t there. sym (renewed_events w n t) ∙ untouched t there);
+      };
       history = renewed_history c w n lt held.history;
       reached = renewed_reached c w held.reached n;
       dealt = divided c.tasks w.views s.views held.dealt id n x xs at spare (renewed u) (update w.views n v) (update_at w.views n v ∙ ap renewed is) (λ y ne. update_off w.views n v y ne);

@@ -101,6 +101,13 @@ enter c lim w good x lt log lists mine (Some op) phase may =
       others = λ y ne. update_off w.views t v y ne;
     }
 
+-- a view that has just had an event has had one
+touched : (u v : View) (phase : Phase) (n : ℕ) (hook : HookAnswer) → u ≡ view_after v phase n hook → u.events ≡ [] → ⊥
+touched u v phase n hook is none =
+    let both : (view_after v phase n hook).events ≡ [] = ap (λ (w : View). w.events) (sym is) ∙ none in
+    let no : ⊥ = cc in
+    no
+
 -- Whatever the event, the laws of the machine are what the step asks
 pub lifted : (c : Config) (slots id : ℕ) (items : SeatItems) (carried : Carried) (begins : Option Op) (phase : Phase) (hook : HookAnswer) → Acts c begins phase items →
     Allows (holds c) slots id (items, carried) (table_index (place (next_of phase hook).0)) (left (next_of phase hook).1) (λ n. happened c begins phase hook (items, carried) (found_by (next_of phase hook).1 n))
@@ -139,7 +146,13 @@ lifted c slots id (x ∷ xs) carried begins phase hook acts s held len at small 
       tt,
       record {
         world = after;
-        ruled = record { within = lim; long = length-set s.words i (left touch n) ∙ held.ruled.long; words = table; good = kept.0 };
+        ruled = record {
+          within = lim;
+          long = length-set s.words i (left touch n) ∙ held.ruled.long;
+          words = table;
+          good = kept.0;
+          opens = λ untouched. absurd (touched (after.views t) (entered x.view begins phase) phase (found_by touch n) hook own (untouched t lt));
+        };
         history = record { log = with_action t (phase_action w' hook (Some phase)) log; legal = more.0; end = more.1; lists = step_lists w' log t hook (Some phase) en.lists };
         reached = stepped_reached c w' (en.reached held.reached) t lt phase hook en.at_phase;
         dealt = redealt c.tasks w.views s.views held.dealt id (x ∷ xs) at t x.view v xs refl after.views own others;

@@ -66,7 +66,7 @@ module _ (c : Config) (lim : IsWithin c) (ws : List ℕ) (opens : AreOpening tab
   pub opening_held : Held c ws (first_items c ∷ [])
   opening_held = let n : ℕ = c.tasks in record {
     world = opening;
-    ruled = record { within = lim; long = opens.long; words = shows_opening; good = opening_good c lim };
+    ruled = record { within = lim; long = opens.long; words = shows_opening; good = opening_good c lim; opens = λ untouched. refl };
     history = record { log = []; legal = tt; end = opening_shown c lim; lists = λ t. refl };
     reached = opening_reached c;
     dealt = record {

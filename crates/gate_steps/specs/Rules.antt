@@ -1,12 +1,12 @@
 -- The rule of the table.
-use Rattle.std.specs.Prelude.{◌≡◌, ℕ, ◌*◌, List, length}
+use Rattle.std.specs.Prelude.{◌≡◌, ℕ, ◌*◌, ◌<◌, List, [], length}
 use Rattle.access_model.specs.Histories.{Done, end_of, IsLegal, IsMerge}
 use Rattle.cpu_words.specs.Names.{words_in_all, stride}
-use Rattle.cpu_words.specs.Words.{Words}
+use Rattle.cpu_words.specs.Words.{Words, opening_words}
 use Rattle.cpu_words.specs.Lists.{ListShows}
 use Rattle.gate_world.specs.declared.config.Config.{Config}
-use Rattle.gate_world.specs.Configs.{IsWithin, model_limits, extents_of}
 use Rattle.gate_world.specs.declared.views.View.{View}
+use Rattle.gate_world.specs.Configs.{IsWithin, model_limits, extents_of}
 use Rattle.gate_world.specs.Worlds.{World, Entry, run, opening}
 use Rattle.gate_world.specs.Shown.{shown}
 use Rattle.gate_world.specs.Rules.{IsGood}
@@ -24,12 +24,17 @@ table_length = table_index words_in_all
 abbrev pub TableShows : Config → List ℕ → Words → Type 0
 TableShows c ws words = ListShows table_index (extents_of c) ws words
 
--- the rule of words and views holds of the world, which the table shows
+-- no number of a task has had an event
+abbrev pub IsUntouched : Config → (ℕ → View) → Type 0
+IsUntouched c views = (t : ℕ) → t < c.tasks → (views t).events ≡ []
+
+-- The rule of words and views holds of the world, which the table shows. Until the first event all words are as they begin.
 pub record Ruled (c : Config) (ws : List ℕ) (w : World) : Type 0 where
   pub within : IsWithin c
   pub long : length ws ≡ table_length
   pub words : TableShows c ws w.words
   pub good : IsGood c w
+  pub opens : IsUntouched c w.views → w.words ≡ opening_words
 
 -- one history: a legal log of actions, whose end is the shown model, and of which each number's own list is its part
 pub record HasHistory (c : Config) (w : World) : Type 0 where
@@ -44,8 +49,8 @@ pub record IsLike (v u : View) : Type 0 where
   pub actions : v.actions ≡ u.actions
   pub events : v.events ≡ u.events
 
--- The world is what some schedule makes of the opening: all its words, and of each number the phase, the actions and the events. (A number that
--- was given to a new task has no operation of its own yet.)
+-- The world is what some schedule makes of the opening: all its words, and of each number the phase, the actions and the events. (A
+-- number that was given to a new task has no operation of its own yet.)
 pub record IsReached (c : Config) (w : World) : Type 0 where
   pub entries : List Entry
   pub words : (run c opening entries).words ≡ w.words

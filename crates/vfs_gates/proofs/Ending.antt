@@ -1,5 +1,5 @@
 -- The words of gates that are closed.
-use Rattle.std.proofs.Common.{◌≡◌, ℕ, zero, suc, ◌*◌, ◌%◌, ◌<◌, ◌≤◌, List, refl, sym, ap, ◌∙◌, subst, arith}
+use Rattle.std.proofs.Common.{◌≡◌, ℕ, zero, suc, ◌*◌, ◌%◌, ◌<◌, ◌≤◌, List, refl, sym, ap, ◌∙◌, arith}
 use Rattle.std.specs.Prelude.{None, slice_index}
 use Rattle.finite_sums.specs.Sums.{total}
 use Rattle.finite_sums.proofs.Totals.{total_same, total_none}
@@ -9,22 +9,7 @@ use Rattle.mount_counts.specs.Roles.{stands, hold_bit}
 use Rattle.gate_world.specs.declared.config.Config.{Config}
 use Rattle.gate_world.specs.Rules.{owns, remounts, role_of, Owner, AtMount}
 use Rattle.schedule_laws.proofs.Schedule.{idle_sums}
-use Rattle.gate_steps.specs.Seating.{SeatItems, numbered, times, view_in}
-use Rattle.gate_steps.specs.Tables.{IsClosing}
-use Rattle.gate_steps.proofs.Giving.{view_in-at, view_in-is}
-use Rattle.vfs_gates.specs.Ties.{IsStill, AllRest}
 use Rattle.vfs_gates.specs.Ended.{Ended}
-use Rattle.vfs_gates.proofs.Parting.{rest-at}
-
--- all numbers are back in a seat whose views rest: so each number rests
-pub ended : (c : Config) (items : SeatItems) (ws : List ℕ) → IsClosing c ws items → AllRest c items → ((n : ℕ) → n < c.tasks → 1 ≤ times n items) → Ended c ws
-ended c items ws closing rest all = record {
-  world = closing.world;
-  ruled = closing.ruled;
-  history = closing.history;
-  still = λ t lt. let there = view_in-at t items (all t lt) in
-      subst (IsStill c) (sym (view_in-is closing.world.views items t closing.mine (all t lt))) (rest-at c items there.0 (numbered t (view_in t items)) rest there.1);
-}
 
 module _ (c : Config) (ws : List ℕ) (e : Ended c ws) where
   idle : (t : ℕ) → t < c.tasks → (e.world.views t).phase ≡ None

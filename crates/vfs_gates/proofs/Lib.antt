@@ -2,6 +2,7 @@ pub mod FlagSteps
 pub mod Going
 pub mod Turning
 pub mod Parting
+pub mod Closing
 pub mod Ending
 pub mod Running
 pub mod Admitting

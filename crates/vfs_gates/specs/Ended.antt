@@ -1,9 +1,10 @@
 -- What is known of the words once no thread shares them.
 use Rattle.std.specs.Prelude.{ℕ, ◌<◌, ◌≤◌, List}
+use Rattle.cpu_words.specs.Words.{opening_words}
 use Rattle.gate_world.specs.declared.config.Config.{Config}
 use Rattle.gate_world.specs.Worlds.{World}
-use Rattle.gate_steps.specs.Seating.{times}
-use Rattle.gate_steps.specs.Rules.{Ruled, HasHistory}
+use Rattle.gate_steps.specs.Seating.{SeatItems, HaveViews, times}
+use Rattle.gate_steps.specs.Rules.{TableShows, Ruled, HasHistory}
 use Rattle.vfs_gates.specs.TaskStates.{TaskState, IsIdle, HoldsNothing}
 use Rattle.vfs_gates.specs.Ties.{IsStill}
 
@@ -23,3 +24,12 @@ pub record Ended (c : Config) (ws : List ℕ) : Type 0 where
   pub ruled : Ruled c ws world
   pub history : HasHistory c world
   pub still : (t : ℕ) → t < c.tasks → IsStill c (world.views t)
+
+-- In that world the numbers that the task brought have the views that it knew: closing adds no event and no action to any list.
+pub record EndedWith (c : Config) (ws : List ℕ) (items : SeatItems) : Type 0 where
+  pub ended : Ended c ws
+  pub mine : HaveViews ended.world.views items
+
+-- Gates whose last task knows these numbers would close with all words as they begin.
+abbrev pub HasOpeningWords : Config → SeatItems → Type 0
+HasOpeningWords c items = (ws : List ℕ) → EndedWith c ws items → TableShows c ws opening_words

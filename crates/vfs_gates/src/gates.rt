@@ -25,13 +25,14 @@ pub struct Gates {
 
 impl Gates {
     ghost use Rattle.vfs_gates.specs.TaskStates.{task_state, IsFrom};
-    ghost use Rattle.vfs_gates.specs.Ended.{HasAll, Ended};
+    ghost use Rattle.vfs_gates.specs.Ended.{HasAll, EndedWith, HasOpeningWords};
     ghost use Rattle.access_model.specs.declared.errors.GateError.TheVariants.{Invalid, NoMemory, Order};
 
     /// All words as they begin, and the task with number 0, which has all other numbers to give. Invalid where a number of the
     /// configuration is out of its limits; NoMemory where a growth was refused.
     pub fn new(alloc: Global, config: Config) -> Result<(Gates, Task), GateError>
         ensures made { IfOk result (λ r. (r.0.config ≡ config) × (r.1 ≡ task_state r.0.table.shared.table_id config None None (first_items config))) }
+        ensures words { IfOk result (λ r. HasOpeningWords config r.1.items) }
         ensures within { OnOk result (IsWithin config) }
         ensures invalid { ¬ IsWithin config → result ≡ Err Invalid }
         ensures memory { IsWithin config → IfErr result (λ e. e ≡ NoMemory) }
@@ -52,7 +53,7 @@ impl Gates {
     /// given back as they were, unless the task is idle, holds nothing and has all other numbers.
     pub fn close(self, task: Task) -> Result<Closed, (GateError, Gates, Task)>
         requires { IsFrom task self }
-        ensures closed { IfOk result (λ c. HasAll task × (c.config ≡ self.config) × Ended c.config c.words) }
+        ensures closed { IfOk result (λ c. HasAll task × (c.config ≡ self.config) × EndedWith c.config c.words task.items) }
         ensures refused { IfErr result (λ e. (e.0 ≡ Order) × (e.1 ≡ self) × (e.2 ≡ task) × ¬ HasAll task) }
     {
         if !task.has_all() {

@@ -1,8 +1,8 @@
-//! Tasks in threads, the worked sequence, and refusals.
+//! Tasks in threads, and refusals.
 
 ghost use Rattle.vfs_gates.specs.TaskStates.{IsFrom};
 
-mod same_events;
+mod worked;
 
 use crate::{Gates, Task};
 use access_model::{Gate, GateError};
@@ -50,23 +50,30 @@ fn rounds(mut task: Task, gates: &Gates, cpu: u8, count: u16) -> (Task, u16)
     (task, done)
 }
 
-/// Makes a mount read-only and writable again, so often, and says how often a want found it writable in between.
-fn to_and_fro<R: Wait>(mut task: Task, rt: &R, gates: &Gates, count: u16) -> (Task, u16)
+/// Tries to make a mount read-only, up to a million times, until that was done so often, and each time makes it writable again. Says how
+/// often it was done, and how often a want then found the mount writable, or the change back was refused.
+fn to_and_fro(mut task: Task, gates: &Gates, wanted: u16) -> (Task, u16, u16)
     requires { IsFrom task gates.now }
     ensures { IsFrom result.0 gates.now }
 {
+    let mut done = 0;
     let mut wrong = 0;
-    for _round in 0..count {
-        if task.change_mount(rt, gates, 0, true).is_err() {
+    for _round in 0..1_000_000 {
+        if done == wanted {
+            break;
+        }
+        if task.try_change_mount(gates, 0, true).is_err() {
+            thread::yield_now();
             continue;
         }
+        done += 1;
         if task.try_want(gates, 0, 0) != Err(GateError::ReadOnly)
-            || task.change_mount(rt, gates, 0, false).is_err()
+            || task.try_change_mount(gates, 0, false).is_err()
         {
             wrong += 1;
         }
     }
-    (task, wrong)
+    (task, done, wrong)
 }
 
 /// Takes an access and gives it back, so often, and says how often a want was refused but as read-only.
@@ -132,12 +139,12 @@ fn a_change_keeps_its_own_thread_out(rt: HostRuntime) -> Result<(), Fail> {
     let (gates, mut task) = Gates::new(rt.alloc(), small(3))?;
     let one = task.split(rt.alloc(), &gates)?;
     let two = task.split(rt.alloc(), &gates)?;
-    let ((mut task, wrong), ((one, bad), (two, worse))) = thread::join(
+    let ((mut task, done, wrong), ((one, bad), (two, worse))) = thread::join(
         &rt,
-        || to_and_fro(task, &rt, &gates, 200),
+        || to_and_fro(task, &gates, 50),
         || both_want(one, two, &rt, &gates),
     );
-    assert_eq!(rt; (wrong, bad, worse), (0, 0, 0));
+    assert_eq!(rt; (done, wrong, bad, worse), (50, 0, 0, 0));
     assert!(rt; task.join(&gates, one).is_ok());
     assert!(rt; task.join(&gates, two).is_ok());
     let Ok(closed) = gates.close(task) else {

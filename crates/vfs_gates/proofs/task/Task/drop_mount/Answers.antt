@@ -34,15 +34,19 @@ go_on-requires-clause-tied c =
 
 pub invariant_of-self : goal.invariant_of-self
 invariant_of-self c =
-    let d = (goal.at.invariant_of-self c).After-go_on in
-    (ties_done (call d) (left d) c.in-Done.answer (done_at (λ (p : Phase). p) c.go_on.result c.in-Done.answer c.in-Done.is),
-      c.go_on.ensures.slots ∙ c.self.invariant.1, c.self.invariant.2)
+    let d = (goal.at.invariant_of-self c).After-go_on in (
+      ties_done (call d) (left d) c.in-Done.answer (done_at (λ (p : Phase). p) c.go_on.result c.in-Done.answer c.in-Done.is),
+      c.go_on.ensures.slots ∙ c.self.invariant.1,
+      c.self.invariant.2,
+    )
 
 pub invariant_of-self-in-Go : goal.invariant_of-self-in-Go
 invariant_of-self-in-Go c =
-    let d = (goal.at.invariant_of-self-in-Go c).After-go_on in
-    (ties_at (call d) (left d) _ (stands_at (λ (p : Phase). p) c.go_on.result c.in-Go.phase c.in-Go.is),
-      c.go_on.ensures.slots ∙ c.self.invariant.1, c.self.invariant.2)
+    let d = (goal.at.invariant_of-self-in-Go c).After-go_on in (
+      ties_at (call d) (left d) _ (stands_at (λ (p : Phase). p) c.go_on.result c.in-Go.phase c.in-Go.is),
+      c.go_on.ensures.slots ∙ c.self.invariant.1,
+      c.self.invariant.2,
+    )
 
 pub finish-requires-clause-trying : goal.finish-requires-clause-trying
 finish-requires-clause-trying c =

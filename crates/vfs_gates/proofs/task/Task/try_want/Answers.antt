@@ -47,15 +47,19 @@ want_in_line-requires-clause-tied c =
 
 pub invariant_of-self : goal.invariant_of-self
 invariant_of-self c =
-    let d = (goal.at.invariant_of-self c).After-want_in_line in
-    (ties_done (call d) (left d) c.in-Done.answer (done_at as_phase c.want_in_line.result c.in-Done.answer c.in-Done.is),
-      c.want_in_line.ensures.slots ∙ c.self.invariant.1, c.self.invariant.2)
+    let d = (goal.at.invariant_of-self c).After-want_in_line in (
+      ties_done (call d) (left d) c.in-Done.answer (done_at as_phase c.want_in_line.result c.in-Done.answer c.in-Done.is),
+      c.want_in_line.ensures.slots ∙ c.self.invariant.1,
+      c.self.invariant.2,
+    )
 
 pub invariant_of-self-in-Go : goal.invariant_of-self-in-Go
 invariant_of-self-in-Go c =
-    let d = (goal.at.invariant_of-self-in-Go c).After-want_in_line in
-    (ties_at (call d) (left d) _ (stands_at as_phase c.want_in_line.result c.in-Go.want c.in-Go.is ∙ ap (λ (p : Phase). Some p) (sym c.phase.ensures)),
-      c.want_in_line.ensures.slots ∙ c.self.invariant.1, c.self.invariant.2)
+    let d = (goal.at.invariant_of-self-in-Go c).After-want_in_line in (
+      ties_at (call d) (left d) _ (stands_at as_phase c.want_in_line.result c.in-Go.want c.in-Go.is ∙ ap (λ (p : Phase). Some p) (sym c.phase.ensures)),
+      c.want_in_line.ensures.slots ∙ c.self.invariant.1,
+      c.self.invariant.2,
+    )
 
 pub finish-requires-clause-trying : goal.finish-requires-clause-trying
 finish-requires-clause-trying c =

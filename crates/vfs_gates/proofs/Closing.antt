@@ -1,0 +1,42 @@
+-- The world of gates that are closed.
+use Rattle.std.proofs.Common.{◌≡◌, ℕ, zero, suc, ◌<◌, ◌≤◌, cond, eqb, List, refl, sym, ap, ◌∙◌, subst, arith}
+use Rattle.gate_world.specs.declared.config.Config.{Config}
+use Rattle.gate_world.specs.declared.views.View.{View}
+use Rattle.gate_world.specs.Views.{opening_view}
+use Rattle.gate_world.specs.Worlds.{World}
+use Rattle.gate_frames.proofs.Keeps.{by_bool}
+use Rattle.gate_steps.specs.Rules.{TableShows, first_items}
+use Rattle.gate_steps.specs.Seating.{SeatItems, numbered, times, view_in, deal}
+use Rattle.gate_steps.proofs.Opening.{times-deal}
+use Rattle.gate_steps.specs.Tables.{IsClosing}
+use Rattle.gate_steps.proofs.Giving.{view_in-at, view_in-is}
+use Rattle.vfs_gates.specs.Ties.{IsStill, AllRest}
+use Rattle.vfs_gates.specs.Ended.{EndedWith, HasOpeningWords}
+use Rattle.vfs_gates.proofs.Parting.{rest-at}
+
+-- all numbers are back in a seat whose views rest: so each number rests, and has the view that the seat knows
+pub ended : (c : Config) (items : SeatItems) (ws : List ℕ) → IsClosing c ws items → AllRest c items → ((n : ℕ) → n < c.tasks → 1 ≤ times n items) →
+    EndedWith c ws items
+ended c items ws closing rest all = record {
+  ended = record {
+    world = closing.world;
+    ruled = closing.ruled;
+    history = closing.history;
+    still = λ t lt. let there = view_in-at t items (all t lt) in
+        subst (IsStill c) (sym (view_in-is closing.world.views items t closing.mine (all t lt))) (rest-at c items there.0 (numbered t (view_in t items)) rest there.1);
+  };
+  mine = closing.mine;
+}
+
+-- a number that was dealt and has done nothing has an opening view
+dealt_view : (n from k : ℕ) → view_in n (deal from k) ≡ opening_view
+dealt_view n from zero = refl
+dealt_view n from (suc k) = by_bool (eqb from n) (λ b. cond b opening_view (view_in n (deal (suc from) k)) ≡ opening_view) refl (dealt_view n (suc from) k)
+
+-- so gates that are closed with the first task, which knows that no number has had an event, have all words as they begin
+pub opens_so : (c : Config) → HasOpeningWords c (first_items c)
+opens_so c ws e =
+    let w : World = e.ended.world in
+    let view : (t : ℕ) → t < c.tasks → w.views t ≡ opening_view =
+    λ t lt. view_in-is w.views (first_items c) t e.mine (let once = times-deal t 0 c.tasks (omega arith) (omega arith) in omega arith) ∙ dealt_view t 0 c.tasks in
+    subst (TableShows c ws) (e.ended.ruled.opens (λ t lt. ap (λ (v : View). v.events) (view t lt))) e.ended.ruled.words
