@@ -36,12 +36,8 @@ use Rattle.cpu_words.proofs.Places.{written}
 use Rattle.gate_frames.proofs.Accesses.{mounts_of_after, levels_of_after, long_after, wide_after, mounts_same, levels_same}
 use Rattle.gate_frames.proofs.Places.{are_few}
 use Rattle.schedule_laws.proofs.Phases.{word_there, word_placed, action_fits, fits_after, fits_agree}
+use Rattle.schedule_laws.proofs.Runs.{run_more}
 use Rattle.gate_core.proofs.Each.{seat_cases}
-
--- a schedule with one entry more
-pub run_more : (c : Config) (w : World) (es : List Entry) (e : Entry) → run c w (es ++ e ∷ []) ≡ happens c (run c w es) e
-run_more c w [] e = refl
-run_more c w (x ∷ es) e = run_more c (happens c w x) es e
 
 module _ (memory : Memory) (sound : IsSound memory) (t : ℕ) (lt : t < memory.config.tasks) (phase : Phase)
     (is : (seat_of memory t).phase ≡ Some phase) (hook : HookAnswer) where

@@ -20,6 +20,7 @@ use Rattle.gate_steps.specs.Seating.{SeatItems, numbered, one_if, times, times_a
 use Rattle.gate_world.specs.Moments.{HasMoment}
 use Rattle.gate_steps.specs.Histories.{HasHistory}
 use Rattle.gate_steps.proofs.Dealing.{one_if-same, one_if-other, times-append, times_all-set, times_all-one, times_all-snoc, known, apart}
+use Rattle.gate_steps.proofs.Reaching.{renewed_reached}
 use Rattle.gate_steps.proofs.Lifting.{holds}
 
 pub times-without : (n : ℕ) (l : SeatItems) → times n (without n l) ≡ 0
@@ -36,15 +37,16 @@ times-without_other m n (x ∷ xs) ne =
     (λ yes. ap (λ b. times m (cond b (without n xs) (x ∷ without n xs))) (eq-eqb x.number n yes) ∙ (let z = one_if-other x.number m (λ q. ne (sym q ∙ yes)) in omega arith))
     (λ no. ap (λ b. times m (cond b (without n xs) (x ∷ without n xs))) (ne_eqb x.number n no) ∙ ap (λ (k : ℕ). one_if (eqb x.number m) + k) r)
 
-abbrev Stands : SeatItems → ℕ → Numbered → Type 0
-Stands l n y = (j : ℕ) × (get_elem? l j ≡ some y) × (y.number ≢ n)
+-- the entry stands in the list, and is another number's
+abbrev IsAmongOthers : SeatItems → ℕ → Numbered → Type 0
+IsAmongOthers l n y = (j : ℕ) × (get_elem? l j ≡ some y) × (y.number ≢ n)
 
 without-at_kept : (n : ℕ) (x : Numbered) (xs : SeatItems) (k : ℕ) (y : Numbered) → x.number ≢ n → get_elem? (x ∷ without n xs) k ≡ some y →
-    ((j : ℕ) (z : Numbered) → get_elem? (without n xs) j ≡ some z → Stands xs n z) → Stands (x ∷ xs) n y
+    ((j : ℕ) (z : Numbered) → get_elem? (without n xs) j ≡ some z → IsAmongOthers xs n z) → IsAmongOthers (x ∷ xs) n y
 without-at_kept n x xs zero y ne e r = (0, e, subst (λ (z : Numbered). z.number ≢ n) (some-injective x y e) ne)
 without-at_kept n x xs (suc k) y ne e r = let t = r k y e in (suc t.0, t.1, t.2)
 
-without-at : (n : ℕ) (l : SeatItems) (k : ℕ) (y : Numbered) → get_elem? (without n l) k ≡ some y → Stands l n y
+without-at : (n : ℕ) (l : SeatItems) (k : ℕ) (y : Numbered) → get_elem? (without n l) k ≡ some y → IsAmongOthers l n y
 without-at n [] k y e = absurd (some-ne-none y (sym e))
 without-at n (x ∷ xs) k y e = dite (ℕ_discrete x.number n)
     (λ yes. let r = without-at n xs k y (subst (λ b. get_elem? (cond b (without n xs) (x ∷ without n xs)) k ≡ some y) (eq-eqb x.number n yes) e) in (suc r.0, r.1, r.2))
@@ -161,6 +163,7 @@ splits c id n (x ∷ xs) spare s held at =
         opens = λ untouched. held.ruled.opens (λ t there. sym (renewed_events w n t) ∙ untouched t there);
       };
       history = renewed_history c w n lt held.history;
+      reached = renewed_reached c w held.reached n;
       dealt = divided c.tasks w.views s.views held.dealt id n x xs at spare (renewed u) (update w.views n v) (update_at w.views n v ∙ ap renewed is) (λ y ne. update_off w.views n v y ne);
     }
 
@@ -188,5 +191,6 @@ joins c id other v w s held at ne at' = record {
   world = held.world;
   ruled = held.ruled;
   history = held.history;
+  reached = held.reached;
   dealt = merged c.tasks held.world.views s.views held.dealt id other v w at ne (sym (set_else s.views id other (v ++ w) ne) ∙ at');
 }

@@ -1,5 +1,6 @@
 pub mod Dealing
 pub mod TableWords
+pub mod Reaching
 pub mod Lifting
 pub mod Giving
 pub mod Opening

@@ -42,8 +42,9 @@ use Rattle.schedule_laws.proofs.Phases.{word_there}
 use Rattle.gate_steps.specs.declared.seating.Numbered.{Numbered}
 use Rattle.gate_steps.specs.Seating.{SeatItems, HaveViews, MayStep, Acts, entered, world_entered, done_by, items_after, happened}
 use Rattle.gate_steps.specs.Histories.{HasHistory}
-use Rattle.gate_steps.specs.Rules.{table_index, table_length, TableShows, Held}
+use Rattle.gate_steps.specs.Rules.{table_index, table_length, TableShows, IsReached, Held}
 use Rattle.gate_steps.proofs.TableWords.{table_written}
+use Rattle.gate_steps.proofs.Reaching.{begun_reached, stepped_reached}
 use Rattle.gate_steps.proofs.Dealing.{times-at, known_here, inside, redealt}
 
 abbrev pub Carried : Type 0
@@ -92,6 +93,7 @@ record Entered (c : Config) (w : World) (t : ℕ) (begins : Option Op) (phase : 
   mine : (world_entered c w t begins).views t ≡ entered v begins phase
   at_phase : ((world_entered c w t begins).views t).phase ≡ Some phase
   words : (world_entered c w t begins).words ≡ w.words
+  reached : IsReached c w → IsReached c (world_entered c w t begins)
   others : (y : ℕ) → (y ≡ t → ⊥) → (world_entered c w t begins).views y ≡ w.views y
 
 enter : (c : Config) (lim : IsWithin c) (w : World) → IsGood c w → (x : Numbered) → x.number < c.tasks → (h : HasHistory c w) →
@@ -105,6 +107,7 @@ enter c lim w good x lt h mine None phase may = record {
   mine = mine;
   at_phase = ap (λ (v : View). v.phase) mine ∙ may;
   words = refl;
+  reached = λ r. r;
   others = λ y ne. refl;
 }
 enter c lim w good x lt h mine (Some op) phase may =
@@ -121,6 +124,7 @@ enter c lim w good x lt h mine (Some op) phase may =
       mine = here ∙ (λ i. begun_view (mine i) op (sym may.1 i));
       at_phase = ap (λ (u : View). u.phase) here ∙ ap Some (sym may.1);
       words = refl;
+      reached = λ r. begun_reached c w r t lt op ok;
       others = λ y ne. update_off w.views t v y ne;
     }
 
@@ -196,6 +200,7 @@ lifted c slots id (x ∷ xs) carried begins phase hook acts s held len at small 
               (touched others (after.views t) (entered x.view begins phase) phase (found_by touch n) hook own (untouched t lt));
         };
         history = history;
+        reached = stepped_reached c w' (en.reached held.reached) t lt others phase hook en.at_phase;
         dealt = redealt c.tasks w.views s.views held.dealt id (x ∷ xs) at t x.view v xs refl after.views own apart;
       },
       (

@@ -18,6 +18,7 @@ use Rattle.gate_steps.specs.Seating.{SeatItems, numbered, one_if, times, HaveVie
 use Rattle.gate_steps.specs.Rules.{table_index, table_length, TableShows, Held, first_items}
 use Rattle.gate_steps.proofs.Dealing.{one_if-same, one_if-other}
 use Rattle.gate_steps.proofs.TableWords.{apart}
+use Rattle.gate_steps.proofs.Reaching.{opening_reached}
 
 -- numbers below those that are dealt stand nowhere
 pub times-deal_below : (m from k : ℕ) → m < from → times m (deal from k) ≡ 0
@@ -67,6 +68,7 @@ module _ (c : Config) (lim : IsWithin c) (ws : List ℕ) (opens : AreOpening tab
     world = opening;
     ruled = record { within = lim; long = opens.long; words = shows_opening; good = opening_good c lim; opens = λ untouched. refl };
     history = record { log = []; legal = tt; end = opening_shown c lim; lists = λ t. refl; snapshots = λ t. tt };
+    reached = opening_reached c;
     dealt = record {
       once = λ m lt. let e = times-deal m 0 n (omega arith) (omega arith) in omega arith;
       no_other = λ m ge. let e = times-deal_above m 0 n (omega arith) in omega arith;

@@ -6,3 +6,4 @@ pub mod Schedule
 pub mod Lists
 pub mod Snapshots
 pub mod Whole
+pub mod Runs

@@ -1,0 +1,91 @@
+-- What some schedule makes of the opening, a table's world is again after each beginning, event and gift of a number.
+use Rattle.std.proofs.Common.{◌≡◌, ℕ, ◌<◌, [], ◌∷◌, ◌++◌, refl, sym, ap, ◌∙◌, subst, inl, inr}
+use Rattle.std.specs.Prelude.{is_some, Some, None, List}
+use Rattle.std.proofs.lemmas.Bool.{lt-ltb}
+use Rattle.std.proofs.lemmas.Bool.Decides.{eqb_tells}
+use Rattle.finite_sums.specs.Sums.{update}
+use Rattle.finite_sums.proofs.Totals.{update_at, update_off, each_updated}
+use Rattle.access_model.specs.Histories.{mounts_of, levels_of}
+use Rattle.cpu_words.specs.Hooks.{HookAnswer}
+use Rattle.cpu_words.specs.Touches.{event_of}
+use Rattle.gate_world.specs.declared.config.Config.{Config}
+use Rattle.gate_world.specs.declared.operations.Op.{Op}
+use Rattle.gate_world.specs.declared.work.Phase.{Phase}
+use Rattle.gate_world.specs.declared.views.View.{View}
+use Rattle.gate_world.specs.Work.{next_of, after_of}
+use Rattle.gate_world.specs.Views.{phase_after, actions_after, begun_view, view_after, view_after_beside}
+use Rattle.gate_world.specs.Beginnings.{first_phase, refusal, view_refusal}
+use Rattle.gate_world.specs.Worlds.{World, Begins, Steps, after_begin, value_at, found_at, words_after, after_step, after_step_beside, run, opening}
+use Rattle.schedule_laws.proofs.Runs.{run_more}
+use Rattle.gate_steps.specs.Seating.{renewed}
+use Rattle.gate_steps.specs.Rules.{IsLike, IsReached}
+
+-- views that agree agree after one of each is replaced by views that agree
+like_update : (f g : ℕ → View) (t : ℕ) (v u : View) → IsLike v u → ((x : ℕ) → IsLike (f x) (g x)) → (x : ℕ) → IsLike (update f t v x) (update g t u x)
+like_update f g t v u like each x =
+    elim (eqb_tells x t) [
+      | inl e ↦ subst (λ y. IsLike (update f t v y) (update g t u y)) (sym e.1) (rw (update_at f t v, update_at g t u) like)
+      | inr e ↦ rw (update_off f t v x e.1, update_off g t u x e.1) (each x)
+    ]
+
+-- the opening is reached by no entry
+pub opening_reached : (c : Config) → IsReached c opening
+opening_reached c = record { entries = []; words = refl; views = λ t. record { phase = refl; actions = refl; events = refl } }
+
+module _ (c : Config) (w : World) (reached : IsReached c w) where
+  -- the world of the schedule so far
+  abbrev there : World
+  there = run c opening reached.entries
+
+  -- after a number is given to a new task
+  pub renewed_reached : (n : ℕ) → IsReached c (record { words = w.words; views = update w.views n (renewed (w.views n)) })
+  renewed_reached n = record {
+    entries = reached.entries;
+    words = reached.words;
+    views = λ x. each_updated (λ y (u : View). IsLike (there.views y) u) w.views n (renewed (w.views n)) x
+        (let like = reached.views n in record { phase = like.phase; actions = like.actions; events = like.events })
+        (λ ne. reached.views x);
+  }
+
+  module _ (t : ℕ) (lt : t < c.tasks) where
+    -- an operation is refused there as here
+    refused_there : (op : Op) → view_refusal c (there.views t) op ≡ view_refusal c (w.views t) op
+    refused_there op = let like = reached.views t in
+        λ i. refusal c (is_some (like.phase i)) (mounts_of (like.actions i)) (levels_of (like.actions i)) op
+
+    -- so the schedule may go on with a beginning that isn't refused here
+    pub begun_reached : (op : Op) → view_refusal c (w.views t) op ≡ None → IsReached c (after_begin c w t op)
+    begun_reached op may =
+        let same : run c opening (reached.entries ++ Begins t op ∷ []) ≡ after_begin c there t op =
+        run_more c opening reached.entries (Begins t op) ∙ rw (lt-ltb t c.tasks lt, refused_there op ∙ may) refl in
+        let like = reached.views t in
+        let begun : IsLike (begun_view (there.views t) op (first_phase c t op)) (begun_view (w.views t) op (first_phase c t op)) =
+        record { phase = refl; actions = like.actions; events = like.events } in
+        record {
+          entries = reached.entries ++ Begins t op ∷ [];
+          words = ap (λ (v : World). v.words) same ∙ reached.words;
+          views = λ x. subst (λ (v : World). IsLike (v.views x) ((after_begin c w t op).views x)) (sym same)
+              (like_update there.views w.views t (begun_view (there.views t) op (first_phase c t op)) (begun_view (w.views t) op (first_phase c t op))
+              begun reached.views x);
+        }
+
+    -- and with the next event of a task
+    pub stepped_reached : (others : List (ℕ × ℕ)) (phase : Phase) (hook : HookAnswer) → (w.views t).phase ≡ Some phase →
+        IsReached c (after_step_beside others w t phase hook)
+    stepped_reached others phase hook at =
+        let same : run c opening (reached.entries ++ Steps t hook ∷ []) ≡ after_step there t phase hook =
+        run_more c opening reached.entries (Steps t hook) ∙ rw (lt-ltb t c.tasks lt, (reached.views t).phase ∙ at) refl in
+        let like = reached.views t in
+        let before : View = view_after (there.views t) phase (value_at there.words phase hook) hook in
+        let after : View = view_after_beside others (w.views t) phase (value_at w.words phase hook) hook in
+        let stepped : IsLike before after = record {
+          phase = λ i. phase_after (after_of phase (found_at (reached.words i) phase hook) hook).0;
+          actions = λ i. actions_after (after_of phase (found_at (reached.words i) phase hook) hook).1 (like.actions i);
+          events = λ i. event_of (next_of phase hook).0 (next_of phase hook).1 (value_at (reached.words i) phase hook) ∷ like.events i;
+        } in
+        record {
+          entries = reached.entries ++ Steps t hook ∷ [];
+          words = ap (λ (v : World). v.words) same ∙ (λ i. words_after (reached.words i) phase hook);
+          views = λ x. subst (λ (v : World). IsLike (v.views x) ((after_step_beside others w t phase hook).views x)) (sym same)
+              (like_update there.views w.views t before after stepped reached.views x);
+        }
