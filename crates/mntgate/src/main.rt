@@ -1,10 +1,11 @@
 //! The program: write gates of a mounted file system, driven from the command line.
 #![tactic(auto)]
 
+mod core_replay;
+mod core_session;
 mod input;
 mod printing;
 mod replay;
-mod session;
 #[cfg(test)]
 mod tests;
 mod writing;
