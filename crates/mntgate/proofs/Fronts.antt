@@ -68,7 +68,9 @@ count_none p (x ∷ xs) e = by (p x) refl (count_none p xs) e
     by : (b : Bool) → p x ≡ b → (position_or_len p xs ≡ length xs → count_by p xs ≡ 0) →
         cond (not b) (1 + position_or_len p xs) 0 ≡ length (x ∷ xs) → count_by p (x ∷ xs) ≡ 0
     by true t h f = absurd (omega arith)
-    by false t h f = sum_by-cons (λ y. cond (p y) 1 0) x xs ∙ ap (λ (c : Bool). cond c 1 0 + count_by p xs) t ∙ omega (arith, h (omega arith))
+    by false t h f =
+        sum_by-cons (λ y. cond (p y) 1 0) x xs ∙ ap (λ (c : Bool). cond c 1 0 + count_by p xs) t
+        ∙ omega (arith, h (omega arith))
 
 -- what is found somewhere is found once more than behind its first place
 count_first : (p : ℕ → Bool) (xs : List ℕ) → position_or_len p xs < length xs →

@@ -165,7 +165,8 @@ module _ {input held left holds : Option (List ℕ)} {done : ℕ} {pending print
       let silent = part_silent (1048576 - done) done play pending front in
       let lines : count_by is_newline taken ≡ count_by is_newline way.whole + count_by is_newline pending =
       sum_by-append _ way.whole pending in (
-        sym (ap (λ (t : Transcript). t.printed) (way.prints pending) ∙ ap (λ (l : List ℕ). all_printed ++ l) silent ∙ append-nil all_printed),
+        sym (ap (λ (t : Transcript). t.printed) (way.prints pending)
+            ∙ ap (λ (l : List ℕ). all_printed ++ l) silent ∙ append-nil all_printed),
         omega (arith, way.lines, lines, part_lines pending front),
         subst (λ (t : Transcript). MayGoOn (done + 1) t.fault) (sym (way.prints pending)) (sound_so front how),
       )
@@ -384,7 +385,8 @@ module _ {input held left holds : Option (List ℕ)} {done : ℕ} {pending print
       -- what the line does, and then what follows it
       prints_line : (more : List ℕ) → (line_effect play line).fault ≡ None →
           rest (first ++ more)
-          ≡ then_prints (line_effect play line).printed (transcript_from (1048576 - (done + 1)) (done + 1) (line_effect play line).play more)
+          ≡ then_prints (line_effect play line).printed
+          (transcript_from (1048576 - (done + 1)) (done + 1) (line_effect play line).play more)
       prints_line more none =
           let e = line_effect play line in
           ap (λ (k : ℕ). transcript_from k done play (first ++ more)) (line_left done less)

@@ -176,7 +176,8 @@ read_only_mount_line mount = numbered (codes "mount ") mount ++ codes " ro\n"
 
 -- how many accesses a task holds at a mount
 unfoldable pub held_mount_line : ℕ → ℕ → ℕ → List ℕ
-held_mount_line task mount count = numbered (codes "task ") task ++ numbered (codes " mount ") mount ++ numbered (codes " ") count ++ codes "\n"
+held_mount_line task mount count =
+    numbered (codes "task ") task ++ numbered (codes " mount ") mount ++ numbered (codes " ") count ++ codes "\n"
 
 -- that a task is inside a level
 unfoldable pub held_level_line : ℕ → ℕ → List ℕ
