@@ -47,5 +47,7 @@ first_taken bytes start end count within =
     ∙ ap (take (end - (start + count))) (drop-drop count start bytes))
 
 -- how many bytes are pending
-pub length_pending : (bytes : List ℕ) (start end : ℕ) → start ≤ end → end ≤ length bytes → length (slice_range bytes start end) ≡ end - start
-length_pending bytes start end ordered within = omega (arith, length-take (end - start) (drop start bytes), length-drop start bytes)
+pub length_pending : (bytes : List ℕ) (start end : ℕ) → start ≤ end → end ≤ length bytes →
+    length (slice_range bytes start end) ≡ end - start
+length_pending bytes start end ordered within =
+    omega (arith, length-take (end - start) (drop start bytes), length-drop start bytes)

@@ -1,9 +1,9 @@
 pub mod Blocks
 pub mod Playing
-pub mod Standing
+pub mod Showing
 pub mod Texts
 pub mod Running
 pub mod Fronts
 pub mod Faults
 pub mod Unrolled
-pub mod UnderWay
+pub mod Replaying

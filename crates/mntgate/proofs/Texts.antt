@@ -13,55 +13,80 @@ use Rattle.cpu_words.specs.Words.{read}
 use Rattle.cpu_words.specs.declared.names.WordName.{WordName}
 use Rattle.cpu_words.specs.declared.names.WordName.TheVariants.{Umount, Stage, SbFlags, Remount}
 use Rattle.mntgate.specs.Transcript.{Play, count_up, nonzero_line, mount_part, level_part, section_line, words_text}
-use Rattle.mntgate.specs.Session.{Stands}
-use Rattle.mntgate.specs.declared.session.Session.{Session}
+use Rattle.mntgate.specs.CoreSessions.{ShowsPlay}
+use Rattle.mntgate.specs.declared.core_session.CoreSession.{CoreSession}
 
-pub one_more : (f : ℕ → List ℕ) (old now new : List ℕ) (i : ℕ) → now ≡ old ++ flat_map f (count_up i) → new ≡ now ++ f i → new ≡ old ++ flat_map f (count_up (i + 1))
+-- the texts of one number more
+pub one_more : (f : ℕ → List ℕ) (old now new : List ℕ) (i : ℕ) → now ≡ old ++ flat_map f (count_up i) → new ≡ now ++ f i →
+    new ≡ old ++ flat_map f (count_up (i + 1))
 one_more f old now new i so_far more =
-    more ∙ ap (λ (l : List ℕ). l ++ f i) so_far ∙ flat_map_more f old (count_up i) i ∙ ap (λ (n : ℕ). old ++ flat_map f (count_up n)) (sym (add-one i))
+    more ∙ ap (λ (l : List ℕ). l ++ f i) so_far ∙ flat_map_more f old (count_up i) i
+    ∙ ap (λ (n : ℕ). old ++ flat_map f (count_up n)) (sym (add-one i))
 
 -- the same where nothing is printed of the next
-pub none_more : (f : ℕ → List ℕ) (old now : List ℕ) (i : ℕ) → now ≡ old ++ flat_map f (count_up i) → f i ≡ [] → now ≡ old ++ flat_map f (count_up (i + 1))
+pub none_more : (f : ℕ → List ℕ) (old now : List ℕ) (i : ℕ) → now ≡ old ++ flat_map f (count_up i) → f i ≡ [] →
+    now ≡ old ++ flat_map f (count_up (i + 1))
 none_more f old now i so_far none = one_more f old now now i so_far (sym (ap (λ (l : List ℕ). now ++ l) none ∙ append-nil now))
 
 -- all of them
-pub all_of : (f : ℕ → List ℕ) (old new : List ℕ) (i n : ℕ) → new ≡ old ++ flat_map f (count_up i) → i ≡ n → new ≡ old ++ flat_map f (count_up n)
+pub all_of : (f : ℕ → List ℕ) (old new : List ℕ) (i n : ℕ) → new ≡ old ++ flat_map f (count_up i) → i ≡ n →
+    new ≡ old ++ flat_map f (count_up n)
 all_of f old new i n h e = h ∙ ap (λ (k : ℕ). old ++ flat_map f (count_up k)) e
 
-pub word_is : (s : Session) (p : Play) (name : WordName) (r : Option ℕ) → Stands s p → IsWord (extents_of p.config) name →
-    (IsWord (extents_of s.core.config) name → (w : World) → Shows s.core w → r ≡ Some (read w.words name)) → r ≡ Some (read p.world.words name)
+-- the value of a word, at the play that a session shows
+pub word_is : (s : CoreSession) (p : Play) (name : WordName) (r : Option ℕ) → ShowsPlay s p → IsWord (extents_of p.config) name →
+    (IsWord (extents_of s.core.config) name → (w : World) → Shows s.core w → r ≡ Some (read w.words name)) →
+    r ≡ Some (read p.world.words name)
 word_is s p name r h word is = is (subst (λ (c : Config). IsWord (extents_of c) name) (sym h.core) word) p.world h.shows
 
+-- three texts, one behind the other
 assoc : (a b c : List ℕ) → (a ++ b) ++ c ≡ a ++ (b ++ c)
 assoc a b c = rw append_assoc
 
--- one or two words, and then the counts of all processors
-counts : (f : WordName → List ℕ) (g : ℕ → WordName) (mid new : List ℕ) (i n : ℕ) → new ≡ mid ++ flat_map (λ k. f (g k)) (count_up i) → i ≡ n → new ≡ mid ++ flat_map f (map g (count_up n))
-counts f g mid new i n h e = all_of (λ k. f (g k)) mid new i n h e ∙ ap (λ (l : List ℕ). mid ++ l) (sym (flat_map-map f g (count_up n)))
+-- the counts of all processors
+counts : (f : WordName → List ℕ) (g : ℕ → WordName) (mid new : List ℕ) (i n : ℕ) →
+    new ≡ mid ++ flat_map (λ k. f (g k)) (count_up i) → i ≡ n → new ≡ mid ++ flat_map f (map g (count_up n))
+counts f g mid new i n h e =
+    all_of (λ k. f (g k)) mid new i n h e ∙ ap (λ (l : List ℕ). mid ++ l) (sym (flat_map-map f g (count_up n)))
 
-pub one_and_counts : (f : WordName → List ℕ) (g : ℕ → WordName) (first : WordName) (old mid new : List ℕ) (i n : ℕ) → mid ≡ old ++ f first →
-    new ≡ mid ++ flat_map (λ k. f (g k)) (count_up i) → i ≡ n → new ≡ old ++ (f first ++ flat_map f (map g (count_up n)))
+-- one word, and then the counts of all processors
+pub one_and_counts : (f : WordName → List ℕ) (g : ℕ → WordName) (first : WordName) (old mid new : List ℕ) (i n : ℕ) →
+    mid ≡ old ++ f first → new ≡ mid ++ flat_map (λ k. f (g k)) (count_up i) → i ≡ n →
+    new ≡ old ++ (f first ++ flat_map f (map g (count_up n)))
 one_and_counts f g first old mid new i n a h e =
-    counts f g mid new i n h e ∙ ap (λ (l : List ℕ). l ++ flat_map f (map g (count_up n))) a ∙ assoc old (f first) (flat_map f (map g (count_up n)))
+    let all = flat_map f (map g (count_up n)) in
+    counts f g mid new i n h e ∙ ap (λ (l : List ℕ). l ++ all) a ∙ assoc old (f first) all
 
-pub two_and_counts : (f : WordName → List ℕ) (g : ℕ → WordName) (first second : WordName) (old mid more new : List ℕ) (i n : ℕ) → mid ≡ old ++ f first → more ≡ mid ++ f second →
-    new ≡ more ++ flat_map (λ k. f (g k)) (count_up i) → i ≡ n → new ≡ old ++ (f first ++ (f second ++ flat_map f (map g (count_up n))))
+-- two words, and then the counts of all processors
+pub two_and_counts : (f : WordName → List ℕ) (g : ℕ → WordName) (first second : WordName) (old mid more new : List ℕ) (i n : ℕ) →
+    mid ≡ old ++ f first → more ≡ mid ++ f second → new ≡ more ++ flat_map (λ k. f (g k)) (count_up i) → i ≡ n →
+    new ≡ old ++ (f first ++ (f second ++ flat_map f (map g (count_up n))))
 two_and_counts f g first second old mid more new i n a b h e =
-    one_and_counts f g second mid more new i n b h e ∙ ap (λ (l : List ℕ). l ++ (f second ++ flat_map f (map g (count_up n)))) a ∙ assoc old (f first) (f second ++ flat_map f (map g (count_up n)))
+    let rest = f second ++ flat_map f (map g (count_up n)) in
+    one_and_counts f g second mid more new i n b h e ∙ ap (λ (l : List ℕ). l ++ rest) a ∙ assoc old (f first) rest
 
+-- nine texts, one behind the other, as `words` prints them
 nine : (o a b c d e f g h i : List ℕ) →
-    ((((((((o ++ a) ++ b) ++ c) ++ d) ++ e) ++ f) ++ g) ++ h) ++ i ≡ o ++ ((((a ++ (b ++ (c ++ (d ++ [])))) ++ e) ++ (f ++ (g ++ (h ++ [])))) ++ i)
+    ((((((((o ++ a) ++ b) ++ c) ++ d) ++ e) ++ f) ++ g) ++ h) ++ i
+    ≡ o ++ ((((a ++ (b ++ (c ++ (d ++ [])))) ++ e) ++ (f ++ (g ++ (h ++ [])))) ++ i)
 nine o a b c d e f g h i = simp (append_assoc, append-nil)
 
-joined : (i h g f e d c b a o : List ℕ) (ti th tg tf te td tc tb ta : List ℕ) → i ≡ h ++ ti → h ≡ g ++ th → g ≡ f ++ tg → f ≡ e ++ tf → e ≡ d ++ te → d ≡ c ++ td → c ≡ b ++ tc → b ≡ a ++ tb → a ≡ o ++ ta →
+-- nine texts that are printed in turn
+joined : (i h g f e d c b a o : List ℕ) (ti th tg tf te td tc tb ta : List ℕ) →
+    i ≡ h ++ ti → h ≡ g ++ th → g ≡ f ++ tg → f ≡ e ++ tf → e ≡ d ++ te → d ≡ c ++ td → c ≡ b ++ tc → b ≡ a ++ tb → a ≡ o ++ ta →
     i ≡ ((((((((o ++ ta) ++ tb) ++ tc) ++ td) ++ te) ++ tf) ++ tg) ++ th) ++ ti
 joined i h g f e d c b a o ti th tg tf te td tc tb ta ei eh eg ef ee ed ec eb ea = cc
 
-pub all_words : (p : Play) (o a b c d e f g h i : List ℕ) → a ≡ o ++ nonzero_line p.world Umount → b ≡ a ++ nonzero_line p.world Stage → c ≡ b ++ nonzero_line p.world SbFlags →
-    d ≡ c ++ nonzero_line p.world Remount → e ≡ d ++ flat_map (mount_part p) (count_up p.config.mounts) → f ≡ e ++ level_part p 1 → g ≡ f ++ level_part p 2 →
+-- what `words` prints: four words, the mounts, three levels and the sections
+pub all_words : (p : Play) (o a b c d e f g h i : List ℕ) → a ≡ o ++ nonzero_line p.world Umount → b ≡ a ++ nonzero_line p.world Stage →
+    c ≡ b ++ nonzero_line p.world SbFlags → d ≡ c ++ nonzero_line p.world Remount →
+    e ≡ d ++ flat_map (mount_part p) (count_up p.config.mounts) → f ≡ e ++ level_part p 1 → g ≡ f ++ level_part p 2 →
     h ≡ g ++ level_part p 3 → i ≡ h ++ flat_map (section_line p) (count_up p.config.tasks) → i ≡ o ++ words_text p
 unfolding words_text
 all_words p o a b c d e f g h i ea eb ec ed ee ef eg eh ei =
-    let t = nine o (nonzero_line p.world Umount) (nonzero_line p.world Stage) (nonzero_line p.world SbFlags) (nonzero_line p.world Remount) (flat_map (mount_part p) (count_up p.config.mounts))
-    (level_part p 1) (level_part p 2) (level_part p 3) (flat_map (section_line p) (count_up p.config.tasks)) in
+    let line = nonzero_line p.world in
+    let mounts = flat_map (mount_part p) (count_up p.config.mounts) in
+    let sections = flat_map (section_line p) (count_up p.config.tasks) in
+    let t = nine o (line Umount) (line Stage) (line SbFlags) (line Remount) mounts (level_part p 1) (level_part p 2) (level_part p 3)
+    sections in
     joined i h g f e d c b a o _ _ _ _ _ _ _ _ _ ei eh eg ef ee ed ec eb ea ∙ t

@@ -4,6 +4,8 @@ pub mod Printing
 pub mod Reading
 pub mod Pending
 pub mod Transcript
-pub mod Session
+pub mod Reached
+pub mod CoreSessions
 pub mod Replayed
-pub mod UnderWay
+pub mod Replaying
+pub mod CoreReplays

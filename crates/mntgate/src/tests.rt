@@ -1,5 +1,6 @@
 //! Schedules whose printed text and faults are known, and readers and writers that fail.
 
+mod endings;
 mod fakes;
 
 use crate::replay::{ReplayFault, replay};
@@ -406,8 +407,9 @@ fn begins_text<R: Abort>(rt: &R, printed: &[u8], count: usize) -> Result<(), Fai
     Ok(())
 }
 
+/// Each read in turn is interrupted once: the next one would give bytes, but none is made.
 #[test]
-fn each_read_fails_in_turn(rt: HostRuntime) -> Result<(), Fail> {
+fn an_interrupted_read_ends_the_replay(rt: HostRuntime) -> Result<(), Fail> {
     for good in 0..12 {
         let mut printed = Vec::new(rt.alloc());
         let bytes = SCHEDULE.as_bytes();
@@ -442,6 +444,31 @@ fn each_write_fails_in_turn(rt: HostRuntime) -> Result<(), Fail> {
             assert!(rt; !writer.was_called_again);
             expect_end(&rt, ended, "line 9: write failed")?;
         }
+    }
+    Ok(())
+}
+
+/// What each line `model` prints after `config 1 1 1 2 8`, 50 bytes.
+static MODEL: &str = "model stage 0 passed 0 sb rw\nnode 0 dir 0 0 clean\n";
+
+/// The first 1,311 models are written as a block, at line 1,312, and so are the next, at line 2,623: there the write fails,
+/// with lines behind it that were read and aren't done.
+#[test]
+fn a_write_in_mid_stream_fails_at_its_line(rt: HostRuntime) -> Result<(), Fail> {
+    for refusal in [Refusal::Error, Refusal::Nothing] {
+        let mut schedule = Vec::new(rt.alloc());
+        schedule.extend_from_slice(b"config 1 1 1 2 8\n")?;
+        for _ in 0..3_000 {
+            schedule.extend_from_slice(b"model\n")?;
+        }
+        let mut writer = Frail::new(rt.alloc(), usize::MAX, 1, refusal);
+        let ended = replay(rt.alloc(), &mut schedule.as_slice(), &mut writer);
+        expect_end(&rt, ended, "line 2623: write failed")?;
+        assert_eq!(rt; writer.taken.len(), 65_550);
+        for model in writer.taken.as_slice().chunks(50) {
+            assert_eq!(rt; model, MODEL.as_bytes());
+        }
+        assert!(rt; !writer.was_called_again);
     }
     Ok(())
 }

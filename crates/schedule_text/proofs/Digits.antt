@@ -8,6 +8,7 @@ use Rattle.std.specs.Int.{IsInRange}
 use Rattle.std.specs.List.{list_all}
 use Rattle.std.specs.Str.Parse.{digits_value}
 
+-- digits are the numerals of base ten
 numerals : IsNumeralModel (λ ds. list_all is_ascii_digit ds ≡ true) (digits_value 10)
 numerals = numerals_by_value _ (search rules)
 
@@ -24,12 +25,14 @@ value_with_next ds i all inside =
     omega (arith, more, digit)
 
 -- ten digits write less than 10^10, and so do the first ones of them
-pub value_small : (ds : List ℕ) (i : ℕ) → list_all is_ascii_digit ds ≡ true → length ds ≤ 10 → digits_value 10 (take i ds) < 10 ^ 10
+pub value_small : (ds : List ℕ) (i : ℕ) → list_all is_ascii_digit ds ≡ true → length ds ≤ 10 →
+    digits_value 10 (take i ds) < 10 ^ 10
 value_small ds i all few =
     let whole = digits_value_short numerals ds 10 all few in
     let part = digits_value-take-le 10 ds i (omega arith) in
     omega (arith, whole, part)
 
+-- where both of two tests hold, the second does
 pub second_holds : (a b : Bool) → (a && b) ≡ true → b ≡ true
 second_holds true b e = e
 second_holds false b e = cc

@@ -4,9 +4,11 @@ use Rattle.std.specs.List.{position}
 use Rattle.schedule_text.specs.declared.lines.Front.{Front}
 use Rattle.schedule_text.specs.declared.lines.Front.TheVariants.{Line, TooLong, Part}
 
+-- the byte that ends a line
 abbrev pub is_newline : ℕ → Bool
 is_newline byte = byte == 10
 
+-- what bytes begin with, by where the first newline of a line is, and by whether they are more than a line may have
 abbrev pub front_by : Option ℕ → Bool → Front
 front_by (Some length) long = Line length
 front_by None true = TooLong

@@ -17,6 +17,7 @@ number_of word =
 abbrev pub byte_of : ℕ → ℕ
 byte_of number = min number 255
 
+-- the code of a number: 0 is none, nor is one above 65,535
 abbrev pub code_from : Option ℕ → Option ℕ
 code_from None = None
 code_from (Some number) = if nat_lt 0 number && nat_lt number 65536 then Some number else None

@@ -4,7 +4,9 @@ use Rattle.gate_world.specs.declared.config.Config.{Config}
 use Rattle.gate_world.specs.declared.operations.Op.TheVariants.{Want as WantOp, DropMount, ChangeMount}
 use Rattle.schedule_text.specs.declared.commands.Hook.{Hook}
 use Rattle.schedule_text.specs.declared.commands.Line.{Line}
-use Rattle.schedule_text.specs.declared.commands.Line.TheVariants.{Skipped, Config as ConfigLine, Words, Model, Task}
+use Rattle.schedule_text.specs.declared.commands.Line.TheVariants.{Skipped, Config as ConfigLine, Request as RequestLine}
+use Rattle.schedule_text.specs.declared.commands.Request.{Request}
+use Rattle.schedule_text.specs.declared.commands.Request.TheVariants.{Words, Model, Task}
 use Rattle.schedule_text.specs.declared.commands.TaskCommand.{TaskCommand}
 use Rattle.schedule_text.specs.declared.commands.TaskCommand.TheVariants.{Begin, Step as StepCommand, Run as RunCommand}
 use Rattle.schedule_text.specs.declared.commands.Verb.{Verb}
@@ -15,6 +17,7 @@ use Rattle.schedule_text.specs.Numbers.{is_digits, number_of, byte_of, code_of}
 use Rattle.schedule_text.specs.Words.{first_word, after_word, word_count}
 use Rattle.schedule_text.specs.Commands.{verb_of, takes, hook_of}
 
+-- one after the other, up to the first fault
 infixl 10 ◌>>=◌
 abbrev pub ◌>>=◌ : {A B : Type 0} → Result A Fault → (A → Result B Fault) → Result B Fault
 (Ok x) >>= f = f x
@@ -48,6 +51,7 @@ code_at text = ok_or (code_of (first_word text)) BadNumber
 unfoldable pub hook_at : List ℕ → Result Hook Fault
 hook_at text = ok_or (hook_of (first_word text)) BadWord
 
+-- whether a word asks for read-only or for writable
 unfoldable pub read_only_of : List ℕ → Option Bool
 read_only_of word =
     if bytes_eq word (codes "ro") then Some true else
@@ -57,6 +61,7 @@ read_only_of word =
 unfoldable pub read_only_at : List ℕ → Result Bool Fault
 read_only_at text = ok_or (read_only_of (first_word text)) BadWord
 
+-- the task of a number, where there are so many: a number above 255 names none
 abbrev pub task_from : Option ℕ → ℕ → Option ℕ
 task_from None tasks = None
 task_from (Some number) tasks = if nat_lt (byte_of number) tasks then Some (byte_of number) else None
@@ -65,29 +70,34 @@ task_from (Some number) tasks = if nat_lt (byte_of number) tasks then Some (byte
 unfoldable pub task_of : List ℕ → ℕ → Option ℕ
 task_of word tasks = task_from (number_of word) tasks
 
+-- the arguments of `want` and `trywant`: a mount and a processor
 unfoldable pub want_of : List ℕ → Bool → Result TaskCommand Fault
 want_of rest wait = do
   mount ← byte_at rest
   cpu ← byte_at (after_word rest)
   Ok (Begin (WantOp mount cpu wait))
 
+-- the arguments of `drop`: a mount and a processor
 unfoldable pub drop_of : List ℕ → Result TaskCommand Fault
 drop_of rest = do
   mount ← byte_at rest
   cpu ← byte_at (after_word rest)
   Ok (Begin (DropMount mount cpu))
 
+-- the arguments of `change` and `trychange`: a mount, and `ro` or `rw`
 unfoldable pub change_of : List ℕ → Bool → Result TaskCommand Fault
 change_of rest wait = do
   mount ← byte_at rest
   read_only ← read_only_at (after_word rest)
   Ok (Begin (ChangeMount mount read_only wait))
 
+-- the argument of `step`, where there is one: the code by which a hook fails
 unfoldable pub step_of : List ℕ → Result TaskCommand Fault
 step_of rest = do
   code ← code_at rest
   Ok (StepCommand (Err code))
 
+-- the arguments of `run`, where there are some: the hook that fails, and its code
 unfoldable pub run_of : List ℕ → Result TaskCommand Fault
 run_of rest = do
   hook ← hook_at rest
@@ -111,11 +121,11 @@ task_line line tasks = do
   allowed ← expect (takes verb (word_count line)) WrongNumberOfWords
   task ← ok_or (task_of (first_word line) tasks) NoSuchTask
   command ← arguments_of verb (after_word (after_word line)) (word_count line)
-  Ok (Task task command)
+  Ok (RequestLine (Task task command))
 
--- a command that stands alone on its line
-abbrev pub alone : ℕ → Line → Result Line Fault
-alone words command = if words == 1 then Ok command else Err WrongNumberOfWords
+-- a request that stands alone on its line
+abbrev pub alone : ℕ → Request → Result Line Fault
+alone words request = if words == 1 then Ok (RequestLine request) else Err WrongNumberOfWords
 
 -- a line after the configuration, where there are so many tasks
 unfoldable pub command_line : List ℕ → ℕ → Result Line Fault
@@ -144,6 +154,7 @@ config_line line = do
   config ← config_of (after_word line)
   Ok (ConfigLine config)
 
+-- a line that isn't skipped, before and after the configuration
 abbrev pub line_for : Option ℕ → List ℕ → Result Line Fault
 line_for None line = config_line line
 line_for (Some tasks) line = command_line line tasks

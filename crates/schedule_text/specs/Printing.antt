@@ -62,9 +62,12 @@ abbrev pub values_text : Touch → ℕ → ℕ → List ℕ
 values_text (Store value) found left = numbered (codes " ") value
 values_text _ found left = numbered (codes " ") found ++ numbered (codes " ") left
 
+-- an event of a task: its task, its kind, its word and its values
 unfoldable pub event_text : ℕ → Event → List ℕ
-event_text task event = decimal task ++ kind_text event.touch ++ word_text event.word ++ values_text event.touch event.found event.left
+event_text task event =
+    decimal task ++ kind_text event.touch ++ word_text event.word ++ values_text event.touch event.found event.left
 
+-- a gate of the model
 abbrev pub gate_text : Gate → List ℕ
 gate_text (Mount mount) = numbered (codes "mount ") mount
 gate_text (Level level) = numbered (codes "level ") level
@@ -118,6 +121,7 @@ reply_text (Ran true) used = codes " ok ran"
 reply_text (Ran false) used = codes " ok none"
 reply_text Tree used = numbered (codes " ok used ") used
 
+-- a refusal by a number and a name
 abbrev pub errno_text : GateError → List ℕ
 errno_text refusal = numbered (codes " refused ") (number_of refusal) ++ codes " " ++ name_of refusal
 
@@ -136,6 +140,7 @@ refusal_text NoSpace = errno_text NoSpace
 refusal_text ReadOnly = errno_text ReadOnly
 refusal_text Order = errno_text Order
 
+-- a reply or a refusal
 abbrev pub answer_text : Result Reply GateError → ℕ → List ℕ
 answer_text (Ok reply) used = reply_text reply used
 answer_text (Err refusal) used = refusal_text refusal
@@ -144,15 +149,19 @@ answer_text (Err refusal) used = refusal_text refusal
 unfoldable pub answer_line : ℕ → Result Reply GateError → ℕ → List ℕ
 answer_line task answer used = decimal task ++ answer_text answer used ++ codes "\n"
 
+-- that a beginning was refused
 unfoldable pub refused_line : ℕ → GateError → List ℕ
 refused_line task refusal = decimal task ++ refusal_text refusal ++ codes "\n"
 
+-- that a task has no operation under way
 unfoldable pub idle_line : ℕ → List ℕ
 idle_line task = decimal task ++ codes " idle\n"
 
+-- that a task has to look or try again
 unfoldable pub waiting_line : ℕ → List ℕ
 waiting_line task = decimal task ++ codes " waiting\n"
 
+-- whether the superblock is read-only
 abbrev pub superblock_text : Bool → List ℕ
 superblock_text true = codes " sb ro\n"
 superblock_text false = codes " sb rw\n"
@@ -161,19 +170,26 @@ superblock_text false = codes " sb rw\n"
 unfoldable pub model_line : ℕ → ℕ → Bool → List ℕ
 model_line stage passed sb_ro = numbered (codes "model stage ") stage ++ numbered (codes " passed ") passed ++ superblock_text sb_ro
 
+-- that a mount is read-only by its own flag
 unfoldable pub read_only_mount_line : ℕ → List ℕ
 read_only_mount_line mount = numbered (codes "mount ") mount ++ codes " ro\n"
 
+-- how many accesses a task holds at a mount
 unfoldable pub held_mount_line : ℕ → ℕ → ℕ → List ℕ
-held_mount_line task mount count = numbered (codes "task ") task ++ numbered (codes " mount ") mount ++ numbered (codes " ") count ++ codes "\n"
+held_mount_line task mount count =
+    numbered (codes "task ") task ++ numbered (codes " mount ") mount ++ numbered (codes " ") count ++ codes "\n"
 
+-- that a task is inside a level
 unfoldable pub held_level_line : ℕ → ℕ → List ℕ
 held_level_line task level = numbered (codes "task ") task ++ numbered (codes " level ") level ++ codes "\n"
 
+-- whether a node is dirty
 abbrev pub mark_text : Bool → List ℕ
 mark_text true = codes " dirty\n"
 mark_text false = codes " clean\n"
 
 -- a node of the tree
 unfoldable pub node_line : ℕ → NodeInfo → List ℕ
-node_line node info = numbered (codes "node ") node ++ kind_name info.kind ++ numbered (codes " ") info.parent ++ numbered (codes " ") info.size ++ mark_text info.dirty
+node_line node info =
+    numbered (codes "node ") node ++ kind_name info.kind ++ numbered (codes " ") info.parent ++ numbered (codes " ") info.size ++
+    mark_text info.dirty

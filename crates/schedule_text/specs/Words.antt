@@ -2,6 +2,7 @@
 use Rattle.std.specs.Prelude.{ℕ, Bool, ◌==◌, ◌+◌, take, drop, List, count_by}
 use Rattle.std.specs.List.{position_or_len}
 
+-- the byte between two words
 abbrev pub is_space : ℕ → Bool
 is_space byte = byte == 32
 

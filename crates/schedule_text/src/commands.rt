@@ -31,6 +31,17 @@ pub enum TaskCommand {
     Run { failure: Option<HookFailure> },
 }
 
+/// What is asked of the gates, once they are set up.
+#[derive(Clone, Copy, PartialEq, Eq, Debug)]
+pub enum Request {
+    /// To print the words of memory that aren't 0.
+    Words,
+    /// To print the model.
+    Model,
+    /// Something of a task.
+    Task { task: u8, command: TaskCommand },
+}
+
 /// What a line asks for.
 #[derive(Clone, Copy, PartialEq, Eq, Debug)]
 pub enum Line {
@@ -38,12 +49,8 @@ pub enum Line {
     Skipped,
     /// To set all tasks up.
     Config(Config),
-    /// To print the words of memory that aren't 0.
-    Words,
-    /// To print the model.
-    Model,
-    /// Something of a task.
-    Task { task: u8, command: TaskCommand },
+    /// Something of the gates, which are set up.
+    Request(Request),
 }
 
 /// The second word of a line on a task.

@@ -3,7 +3,7 @@
 ghost use Rattle.std.specs.Prelude.{◌≡◌};
 ghost use Rattle.schedule_text.specs.Parsing.{parsed, is_skipped, config_line, config_of, command_line, alone, task_line, task_of, arguments_of, want_of, drop_of, change_of, step_of, run_of, number_at, byte_at, code_at, hook_at, read_only_at, read_only_of};
 
-use crate::commands::{Hook, HookFailure, Line, TaskCommand, Verb};
+use crate::commands::{Hook, HookFailure, Line, Request, TaskCommand, Verb};
 use crate::faults::Fault;
 use crate::numbers::{byte_of, code_of, is_digits, number_of};
 use crate::words::{after_word, first_word, word_count};
@@ -82,9 +82,9 @@ fn command_line(line: &[u8], tasks: u8) -> Result<Line, Fault>
     if first == b"config".as_slice() {
         Err(Fault::ConfigTwice)
     } else if first == b"words".as_slice() {
-        alone(words, Line::Words)
+        alone(words, Request::Words)
     } else if first == b"model".as_slice() {
-        alone(words, Line::Model)
+        alone(words, Request::Model)
     } else if !is_digits(first) {
         Err(Fault::UnknownCommand)
     } else if words == 1 {
@@ -94,12 +94,12 @@ fn command_line(line: &[u8], tasks: u8) -> Result<Line, Fault>
     }
 }
 
-/// A command that stands alone on its line.
-fn alone(words: usize, command: Line) -> Result<Line, Fault>
-    ensures { result ≡ alone words command }
+/// A request that stands alone on its line.
+fn alone(words: usize, request: Request) -> Result<Line, Fault>
+    ensures { result ≡ alone words request }
 {
     if words == 1 {
-        Ok(command)
+        Ok(Line::Request(request))
     } else {
         Err(Fault::WrongNumberOfWords)
     }
@@ -118,7 +118,7 @@ fn task_line(line: &[u8], tasks: u8) -> Result<Line, Fault>
     }
     let task = task_of(first_word(line), tasks).ok_or(Fault::NoSuchTask)?;
     let command = arguments_of(verb, after_word(rest), words)?;
-    Ok(Line::Task { task, command })
+    Ok(Line::Request(Request::Task { task, command }))
 }
 
 /// The task that a word of digits names. Digits that are no number name no task.

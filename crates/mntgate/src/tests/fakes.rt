@@ -18,7 +18,7 @@ fn give(bytes: &mut &[u8], most: usize, buf: &mut [u8]) -> usize
     count
 }
 
-/// A reader of a few bytes at a time, whose reads are interrupted after so many good ones.
+/// A reader of a few bytes at a time, which is interrupted once, after so many good reads: those after it are good again.
 #[derive(Drop)]
 pub struct Slow<'a> {
     bytes: &'a [u8],
@@ -35,6 +35,7 @@ impl<'a> Slow<'a> {
 impl Read for Slow<'_> {
     fn read(&mut self, buf: &mut [u8]) -> io::Result<usize> {
         if self.good == 0 {
+            self.good = u32::MAX;
             return Err(io::Error::from(ErrorKind::Interrupted));
         }
         self.good -= 1;

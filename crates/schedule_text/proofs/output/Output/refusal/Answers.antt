@@ -4,6 +4,7 @@ use Rattle.access_model.specs.declared.errors.GateError.TheVariants.{Hook}
 use Rattle.schedule_text.specs.Printing.{refusal_text}
 use Rattle.schedule_text.proofs.output.Output.refusal.Goals as goal
 
+-- the text of a hook that failed
 hook_text : (refusal : GateError) (code : ℕ) → refusal ≡ Hook code → refusal_text refusal ≡ codes " refused hook " ++ decimal code
 unfolding refusal_text
 hook_text refusal code is = rw is

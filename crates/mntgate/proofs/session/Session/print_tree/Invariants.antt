@@ -1,9 +1,0 @@
-use Rattle.std.proofs.Common.{◌≡◌, ◌++◌}
-use Rattle.std.specs.List.{flat_map}
-use Rattle.access_model.specs.Histories.{end_of}
-use Rattle.mntgate.specs.Session.{Stands}
-use Rattle.mntgate.specs.Transcript.{Play, count_up, tree_line}
-use Rattle.mntgate.proofs.session.Session.print_tree.Given as goal
-
-abbrev pub invariant-loop-node : goal.invariant-loop-node
-invariant-loop-node l = (p : Play) → Stands l.self p → l.out.bytes.items ≡ l.initial.out.bytes.items ++ flat_map (tree_line (end_of p.done)) (count_up l.node)

@@ -1,8 +1,0 @@
-use Rattle.std.proofs.Common.{◌≡◌, ◌++◌}
-use Rattle.std.specs.List.{flat_map}
-use Rattle.mntgate.specs.Session.{Stands}
-use Rattle.mntgate.specs.Transcript.{Play, count_up, mount_part}
-use Rattle.mntgate.proofs.session.Session.print_words_of_mounts.Given as goal
-
-abbrev pub invariant-loop-mount : goal.invariant-loop-mount
-invariant-loop-mount l = (p : Play) → Stands l.self p → l.out.bytes.items ≡ l.initial.out.bytes.items ++ flat_map (mount_part p) (count_up l.mount)

@@ -1,0 +1,103 @@
+//! Exit statuses, and what is told of a fault.
+
+use crate::program::{run, unreadable};
+use crate::tests::fakes::{Frail, Refusal};
+use std::alloc::{AllocError, Global};
+use std::io;
+use std::io::ErrorKind;
+use std::process::Abort;
+use std::test::Fail;
+
+/// The words of a command line.
+fn words_of(alloc: Global, line: &str) -> Result<Vec<String>, AllocError> {
+    let mut words = Vec::new(alloc);
+    for word in line.split(' ') {
+        words.push(word.to_string(alloc)?)?;
+    }
+    Ok(words)
+}
+
+/// That a command line over a schedule ends with this status, and that what it tells begins with this text; with none,
+/// where the text is empty.
+fn ends<R: Abort + Alloc<A = Global>>(
+    rt: &R,
+    line: &str,
+    schedule: &str,
+    status: u8,
+    text: &str,
+) -> Result<(), Fail> {
+    let words = words_of(rt.alloc(), line)?;
+    let (mut printed, mut errors) = (Vec::new(rt.alloc()), Vec::new(rt.alloc()));
+    let mut reader = schedule.as_bytes();
+    let ending = run(
+        rt.alloc(),
+        words.as_slice(),
+        &mut reader,
+        &mut printed,
+        &mut errors,
+    )?;
+    assert_eq!(rt; ending.status(), status);
+    assert!(rt; errors.as_slice().starts_with(text.as_bytes()));
+    assert_eq!(rt; errors.is_empty(), text.is_empty());
+    Ok(())
+}
+
+#[test]
+fn the_exit_status_says_how_it_ended(rt: HostRuntime) -> Result<(), Fail> {
+    let good = "config 1 1 1 2 8\n0 step\n";
+    ends(&rt, "mntgate replay", good, 0, "")?;
+    ends(
+        &rt,
+        "mntgate replay",
+        "config 1 1 1 2 8\nfly\n",
+        1,
+        "line 2: unknown command\n",
+    )?;
+    ends(
+        &rt,
+        "mntgate replay",
+        "config 0 1 1 2 8\n",
+        1,
+        "line 1: refused 22 Invalid\n",
+    )?;
+    ends(&rt, "mntgate", good, 2, "error: ")?;
+    ends(
+        &rt,
+        "mntgate --help",
+        good,
+        2,
+        "Write gates of a mounted file system\n",
+    )?;
+    ends(&rt, "mntgate play", good, 2, "error: ")?;
+    ends(&rt, "mntgate replay twice", good, 2, "error: ")
+}
+
+#[test]
+fn a_write_that_fails_is_told(rt: HostRuntime) -> Result<(), Fail> {
+    let words = words_of(rt.alloc(), "mntgate replay")?;
+    let mut writer = Frail::new(rt.alloc(), 3, 1, Refusal::Error);
+    let mut errors = Vec::new(rt.alloc());
+    let mut reader = b"config 1 1 1 2 8\n0 step\n".as_slice();
+    let ending = run(
+        rt.alloc(),
+        words.as_slice(),
+        &mut reader,
+        &mut writer,
+        &mut errors,
+    )?;
+    assert_eq!(rt; ending.status(), 1);
+    assert_eq!(rt; errors.as_slice(), b"line 3: write failed\n".as_slice());
+    assert_eq!(rt; writer.taken.as_slice(), b"0 i".as_slice());
+    Ok(())
+}
+
+#[test]
+fn an_argument_that_is_no_text_is_a_fault_of_the_command_line(rt: HostRuntime) -> Result<(), Fail> {
+    for (kind, status) in [(ErrorKind::InvalidData, 2), (ErrorKind::OutOfMemory, 1)] {
+        let mut errors = Vec::new(rt.alloc());
+        let ending = unreadable(&io::Error::from(kind), &mut errors);
+        assert_eq!(rt; ending.status(), status);
+        assert!(rt; errors.as_slice().starts_with(b"error: "));
+    }
+    Ok(())
+}
