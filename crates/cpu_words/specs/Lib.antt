@@ -1,5 +1,6 @@
 pub mod Names
 pub mod Touches
 pub mod Words
+pub mod Lists
 pub mod Sums
 pub mod Hooks

@@ -7,7 +7,7 @@ pub mod names;
 pub mod sums;
 
 pub use events::{Event, Touch};
-pub use names::{WORDS, WordName};
+pub use names::{STRIDE, WORDS, WordName};
 pub use sums::{Sum, Taken};
 
 #[cfg(test)]

@@ -3,8 +3,48 @@
 ghost use Rattle.std.specs.Prelude.{◌≡◌};
 ghost use Rattle.cpu_words.specs.Names.{place};
 
+// The largest numbers of mounts, tasks and nodes, and the count words of one gate, which lie in a row, one for each processor.
+const MOUNTS: usize = 8;
+
+const TASKS: usize = 64;
+
+const NODES: usize = 64;
+
+const ROW: usize = 64;
+
+// Where each word or kind of words begins: each where the one before it ends. Levels count from 1, so the base of a kind of level words
+// is where a level 0 would lie.
+const UMOUNT: usize = 0;
+
+const STAGE: usize = UMOUNT + 1;
+
+const SB_FLAGS: usize = STAGE + 1;
+
+const REMOUNT: usize = SB_FLAGS + 1;
+
+const MOUNT_FLAGS: usize = REMOUNT + 1;
+
+const BLOCK: usize = MOUNT_FLAGS + MOUNTS - 1;
+
+const SYNC: usize = BLOCK + 3;
+
+const USED: usize = SYNC + 4;
+
+const SECTION: usize = USED + 1;
+
+const NODE: usize = SECTION + TASKS;
+
+const KIDS: usize = NODE + NODES;
+
+const MOUNT_COUNT: usize = KIDS + NODES;
+
+const LEVEL_COUNT: usize = MOUNT_COUNT + ROW * MOUNTS - ROW;
+
 /// How many places there are: every word at the largest limits has one of its own.
-pub const WORDS: usize = 915;
+pub const WORDS: usize = LEVEL_COUNT + ROW * 4;
+
+/// How far apart words lie in a table that gives each word cache lines of its own: 16 places of 8 bytes.
+pub const STRIDE: usize = 16;
 
 /// A word of the gates. All begin at 0, except `Node(0)`, the root, which begins at 2.
 #[derive(Clone, Copy, PartialEq, Eq, Debug)]
@@ -45,19 +85,19 @@ impl WordName {
         ensures { result ≡ place self }
     {
         match self {
-            WordName::Umount => 0,
-            WordName::Stage => 1,
-            WordName::SbFlags => 2,
-            WordName::Remount => 3,
-            WordName::MountFlags(mount) => 4 + mount as usize,
-            WordName::Block(level) => 11 + level as usize,
-            WordName::Sync(level) => 14 + level as usize,
-            WordName::Used => 18,
-            WordName::Section(task) => 19 + task as usize,
-            WordName::Node(node) => 83 + node as usize,
-            WordName::Kids(node) => 147 + node as usize,
-            WordName::MountCount(mount, cpu) => 211 + 64 * mount as usize + cpu as usize,
-            WordName::LevelCount(level, cpu) => 659 + 64 * level as usize + cpu as usize,
+            WordName::Umount => UMOUNT,
+            WordName::Stage => STAGE,
+            WordName::SbFlags => SB_FLAGS,
+            WordName::Remount => REMOUNT,
+            WordName::MountFlags(mount) => MOUNT_FLAGS + mount as usize,
+            WordName::Block(level) => BLOCK + level as usize,
+            WordName::Sync(level) => SYNC + level as usize,
+            WordName::Used => USED,
+            WordName::Section(task) => SECTION + task as usize,
+            WordName::Node(node) => NODE + node as usize,
+            WordName::Kids(node) => KIDS + node as usize,
+            WordName::MountCount(mount, cpu) => MOUNT_COUNT + ROW * mount as usize + cpu as usize,
+            WordName::LevelCount(level, cpu) => LEVEL_COUNT + ROW * level as usize + cpu as usize,
         }
     }
 }

@@ -1,6 +1,4 @@
-pub mod Places
-pub mod Phases
-pub mod Held
+pub mod Each
 pub mod Stepping
 pub mod Beginning
 pub mod Opening

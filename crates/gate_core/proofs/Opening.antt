@@ -1,42 +1,49 @@
 -- The memory as it begins shows the opening.
-use Rattle.std.proofs.Common.{◌≡◌, ℕ, ◌<◌, false, [], length, refl, ◌∙◌, arith, subst, sym}
-use Rattle.std.proofs.Math.ListN.{length-set}
+use Rattle.std.proofs.Common.{◌≡◌, ℕ, ◌<◌, false, List, [], length, refl, arith, subst, sym}
 use Rattle.std.proofs.lemmas.List.{length-replicate, get_or-replicate}
-use Rattle.std.specs.Prelude.{None, slice_index_or, slice_set, replicate}
+use Rattle.std.specs.Prelude.{None, slice_index_or, replicate}
+use Rattle.cpu_words.specs.Names.{words_in_all}
+use Rattle.cpu_words.specs.Lists.{AreOpening}
+use Rattle.cpu_words.proofs.Places.{opening_listed}
 use Rattle.gate_world.specs.declared.config.Config.{Config}
-use Rattle.gate_world.specs.Configs.{IsWithin}
+use Rattle.gate_world.specs.Configs.{IsWithin, extents_of}
 use Rattle.gate_world.specs.Worlds.{opening}
 use Rattle.gate_world.specs.Fits.{Fits}
+use Rattle.gate_frames.proofs.Places.{are_few}
 use Rattle.gate_core.specs.declared.seats.Seat.{Seat}
-use Rattle.gate_core.specs.Memory.{Memory, Shows, IsSound, no_seat, mounts_in, levels_in}
-use Rattle.gate_core.specs.Seats.{idle_seat}
-use Rattle.gate_core.proofs.Places.{opening_listed}
+use Rattle.gate_core.specs.Seats.{idle_seat, mounts_in, levels_in}
+use Rattle.gate_core.specs.Memory.{Memory, Shows, IsSound, no_seat}
 
-module _ (c : Config) (within : IsWithin c) where
+module _ (c : Config) (within : IsWithin c) (words : List ℕ) (opens : AreOpening (λ place. place) words_in_all words) where
   abbrev memory : Memory
-  memory = record { config = c; words = slice_set (replicate 915 0) 83 2; seats = replicate c.tasks idle_seat }
+  memory = record { config = c; words = words; seats = replicate c.tasks idle_seat }
 
+  -- what holds of an idle seat holds of each
   at_seat : (P : Seat → Type 0) → P idle_seat → (t : ℕ) → t < c.tasks → P (slice_index_or (replicate c.tasks idle_seat) t no_seat)
   at_seat P p t lt = subst P (sym (get_or-replicate c.tasks t idle_seat no_seat lt)) p
 
+  -- an idle seat holds nothing
   zero_held : (m : ℕ) → m < 8 → mounts_in idle_seat m ≡ 0
   zero_held m lm = get_or-replicate 8 m 0 0 lm
 
+  -- nor is it inside a level
   no_level : (i : ℕ) → i < 4 → levels_in idle_seat i ≡ false
   no_level i l = get_or-replicate 4 i false false l
 
+  -- the memory shows the opening
   pub opening_shown : Shows memory opening
   opening_shown = record {
-    words = opening_listed c within (replicate 915 0) (length-replicate {A = ℕ} 915 0) (λ i l. get_or-replicate 915 i 0 0 l);
+    words = opening_listed (extents_of c) (are_few c within) (λ place. place) (λ i j q. q) words_in_all words opens (omega (arith, within.some_node));
     phases = λ t lt. at_seat (λ (s : Seat). s.phase ≡ None) refl t lt;
     mounts = λ t m lt lm. at_seat (λ (s : Seat). mounts_in s m ≡ 0) (zero_held m (omega (arith, within.mounts))) t lt;
     levels = λ t i lt one three. at_seat (λ (s : Seat). levels_in s i ≡ false) (no_level i (omega arith)) t lt;
   }
 
+  -- and is sound
   pub opening_sound : IsSound memory
   opening_sound = record {
     within = within;
-    words = length-set {A = ℕ} (replicate 915 0) 83 2 ∙ length-replicate {A = ℕ} 915 0;
+    words = opens.long;
     seats = length-replicate c.tasks idle_seat;
     mounts = at_seat (λ (s : Seat). length s.accesses.mounts ≡ 8) (length-replicate {A = ℕ} 8 0);
     levels = at_seat (λ (s : Seat). length s.accesses.levels ≡ 4) (length-replicate 4 false);

@@ -24,17 +24,19 @@ use Rattle.gate_world.specs.Work.{next_of, after_of}
 use Rattle.gate_world.specs.Worlds.{World, Entry, Steps, after_step, happens, run, opening}
 use Rattle.gate_world.specs.Fits.{PhaseFits, Fits}
 use Rattle.gate_core.specs.declared.seats.Seat.{Seat}
-use Rattle.gate_core.specs.declared.seats.Accesses.{Accesses}
+use Rattle.gate_world.specs.declared.accesses.Accesses.{Accesses}
+use Rattle.gate_world.specs.Accesses.{mounts_held, accesses_after}
 use Rattle.gate_core.specs.declared.steps.Progress.{Progress}
 use Rattle.gate_core.specs.declared.steps.Step.{Step}
-use Rattle.gate_core.specs.Memory.{Memory, Shows, IsSound, no_seat, seat_of, mounts_in, levels_in}
+use Rattle.gate_core.specs.Seats.{mounts_in, levels_in}
+use Rattle.gate_core.specs.Memory.{Memory, Shows, IsSound, no_seat, seat_of}
 use Rattle.gate_core.specs.Answers.{progress_of, step_answer}
-use Rattle.gate_world.specs.Fits.{ActionFits}
-use Rattle.gate_core.specs.Seats.{accesses_after}
-use Rattle.gate_core.proofs.Places.{place_small, written}
-use Rattle.gate_world.specs.Fits.{mounts_by, levels_by}
-use Rattle.gate_core.proofs.Phases.{word_there, action_fits, fits_after, fits_agree}
-use Rattle.gate_core.proofs.Held.{mounts_of_after, levels_of_after, long_after, wide_after, mounts_same, levels_same, seat_cases}
+use Rattle.gate_world.specs.Fits.{ActionFits, mounts_by, levels_by}
+use Rattle.cpu_words.proofs.Places.{written}
+use Rattle.gate_frames.proofs.Accesses.{mounts_of_after, levels_of_after, long_after, wide_after, mounts_same, levels_same}
+use Rattle.gate_frames.proofs.Places.{are_few}
+use Rattle.schedule_laws.proofs.Phases.{word_there, word_placed, action_fits, fits_after, fits_agree}
+use Rattle.gate_core.proofs.Each.{seat_cases}
 
 -- a schedule with one entry more
 pub run_more : (c : Config) (w : World) (es : List Entry) (e : Entry) → run c w (es ++ e ∷ []) ≡ happens c (run c w es) e
@@ -70,7 +72,8 @@ module _ (memory : Memory) (sound : IsSound memory) (t : ℕ) (lt : t < memory.c
   there = word_there memory.config sound.within t (mounts_in (seat_of memory t)) (levels_in (seat_of memory t)) phase hook phase_fits
 
   pub place_fits : place name < length memory.words
-  place_fits = omega (arith, sound.words, place_small memory.config sound.within name there)
+  place_fits =
+      omega (arith, sound.words, word_placed memory.config sound.within t (mounts_in (seat_of memory t)) (levels_in (seat_of memory t)) phase hook phase_fits)
 
   pub acts : ActionFits (mounts_in (seat_of memory t)) done.1
   acts = action_fits memory.config sound.within t (mounts_in (seat_of memory t)) (levels_in (seat_of memory t)) phase (found_by touch value) hook phase_fits
@@ -106,7 +109,8 @@ module _ (memory : Memory) (sound : IsSound memory) (t : ℕ) (lt : t < memory.c
 
     stepped_shown : Shows memory_after (after_step w t phase hook)
     stepped_shown = record {
-      words = λ n rn. written memory.config sound.within memory.words w.words name (left touch value) sound.words there shows.words n rn ∙ ap (λ y. read (put w.words name (left touch y)) n) (words_shown w shows);
+      words = λ n rn. written (extents_of memory.config) (are_few memory.config sound.within) (λ place. place) (λ i j q. q)
+          memory.words w.words name (left touch value) place_fits there shows.words n rn ∙ ap (λ y. read (put w.words name (left touch y)) n) (words_shown w shows);
       phases = λ x lx. seat_cases memory.seats t seat_after some_seat (λ y s. y < memory.config.tasks → s.phase ≡ (update w.views t view y).phase) x
           (λ l. ap (λ y. phase_after (after_of phase y hook).0) found_same ∙ ap (λ (v : View). v.phase) (sym (update_at w.views t view)))
           (λ ne l. shows.phases x l ∙ ap (λ (v : View). v.phase) (sym (update_off w.views t view x ne))) lx;

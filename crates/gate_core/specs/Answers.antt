@@ -1,5 +1,5 @@
 -- What the core's calls answer, in the world that its memory shows.
-use Rattle.std.specs.Prelude.{ℕ, nat_lt, if◌then◌else◌, Option, Some, None, Result, Ok, Err}
+use Rattle.std.specs.Prelude.{ℕ, nat_lt, if◌then◌else◌, Option, Some, None, Result}
 use Rattle.access_model.specs.declared.errors.GateError.{GateError}
 use Rattle.access_model.specs.declared.replies.Next.{Next}
 use Rattle.access_model.specs.declared.replies.Next.TheVariants.{Go, Wait, Done}
@@ -8,25 +8,28 @@ use Rattle.cpu_words.specs.Hooks.{HookAnswer}
 use Rattle.gate_world.specs.declared.config.Config.{Config}
 use Rattle.gate_world.specs.declared.operations.Op.{Op}
 use Rattle.gate_world.specs.declared.work.Phase.{Phase}
+use Rattle.gate_world.specs.Beginnings.{or_refusal}
 use Rattle.gate_world.specs.Work.{next_of, after_of}
 use Rattle.gate_world.specs.Worlds.{World, begin_refusal, value_at, found_at}
 use Rattle.gate_core.specs.declared.steps.Progress.{Progress}
 use Rattle.gate_core.specs.declared.steps.Progress.TheVariants.{Idle, Going, Waiting, Done as Ended}
 use Rattle.gate_core.specs.declared.steps.Step.{Step}
 
+-- the refusal, where there is one
 abbrev pub unless_refused : Option GateError → Result (Unit {0}) GateError
-unless_refused None = Ok tt
-unless_refused (Some refusal) = Err refusal
+unless_refused refusal = or_refusal tt refusal
 
 -- a beginning is refused exactly for these reasons, in their order
 abbrev pub begin_answer : Config → World → ℕ → Op → Result (Unit {0}) GateError
 begin_answer c w t op = unless_refused (begin_refusal c w t op)
 
+-- how an operation stands by what comes next
 abbrev pub progress_of : Next Phase → Progress
 progress_of (Go phase) = Going
 progress_of (Wait phase) = Waiting
 progress_of (Done answer) = Ended answer
 
+-- an idle task does nothing
 abbrev pub idle_step : Step
 idle_step = record { event = None; action = None; progress = Idle }
 
@@ -39,5 +42,6 @@ phase_step w hook (Some phase) = record {
   progress = progress_of (after_of phase (found_at w.words phase hook) hook).0;
 }
 
+-- a step of a task, or of none
 abbrev pub step_answer : Config → World → ℕ → HookAnswer → Step
 step_answer c w t hook = if nat_lt t c.tasks then phase_step w hook (w.views t).phase else idle_step

@@ -1,3 +1,3 @@
+pub mod Seats
 pub mod Memory
 pub mod Answers
-pub mod Seats

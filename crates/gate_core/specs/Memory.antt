@@ -1,7 +1,7 @@
 -- The core in memory: a list of words and one seat per task, and the world that they show.
-use Rattle.std.specs.Prelude.{◌≡◌, ℕ, ◌<◌, ◌≤◌, Bool, false, None, List, [], length, slice_index, slice_index_or}
+use Rattle.std.specs.Prelude.{◌≡◌, ℕ, ◌<◌, ◌≤◌, None, List, [], length, slice_index, slice_index_or}
 use Rattle.cpu_words.specs.declared.names.WordName.{WordName}
-use Rattle.cpu_words.specs.Names.{IsWord, place}
+use Rattle.cpu_words.specs.Names.{IsWord, place, words_in_all}
 use Rattle.cpu_words.specs.Words.{read}
 use Rattle.gate_world.specs.declared.config.Config.{Config}
 use Rattle.gate_world.specs.Configs.{IsWithin, extents_of}
@@ -9,6 +9,7 @@ use Rattle.gate_world.specs.Views.{held_at, holds_level}
 use Rattle.gate_world.specs.Worlds.{World, Entry, run, opening}
 use Rattle.gate_world.specs.Fits.{Fits}
 use Rattle.gate_core.specs.declared.seats.Seat.{Seat}
+use Rattle.gate_core.specs.Seats.{mounts_in, levels_in}
 
 -- the fields of the core
 pub record Memory : Type 0 where
@@ -16,17 +17,13 @@ pub record Memory : Type 0 where
   pub words : List ℕ
   pub seats : List Seat
 
+-- past the end of the seats there is no task
 abbrev pub no_seat : Seat
 no_seat = record { phase = None; accesses = record { mounts = []; levels = [] } }
 
+-- the seat of a task
 abbrev pub seat_of : Memory → ℕ → Seat
 seat_of memory t = slice_index_or memory.seats t no_seat
-
-abbrev pub mounts_in : Seat → ℕ → ℕ
-mounts_in seat = slice_index seat.accesses.mounts
-
-abbrev pub levels_in : Seat → ℕ → Bool
-levels_in seat i = slice_index_or seat.accesses.levels i false
 
 -- The memory shows this world: each word that there is, and each task's phase and accesses. Lists of actions and events stand in
 -- no memory.
@@ -39,9 +36,10 @@ pub record Shows (memory : Memory) (w : World) : Type 0 where
 -- The lists have their lengths, each phase fits its task, and the memory is what some schedule makes of the opening.
 pub record IsSound (memory : Memory) : Type 0 where
   pub within : IsWithin memory.config
-  pub words : length memory.words ≡ 915
+  pub words : length memory.words ≡ words_in_all
   pub seats : length memory.seats ≡ memory.config.tasks
   pub mounts : (t : ℕ) → t < memory.config.tasks → length (seat_of memory t).accesses.mounts ≡ 8
   pub levels : (t : ℕ) → t < memory.config.tasks → length (seat_of memory t).accesses.levels ≡ 4
-  pub fits : (t : ℕ) → t < memory.config.tasks → Fits memory.config t (mounts_in (seat_of memory t)) (levels_in (seat_of memory t)) (seat_of memory t).phase
+  pub fits : (t : ℕ) → t < memory.config.tasks →
+      Fits memory.config t (mounts_in (seat_of memory t)) (levels_in (seat_of memory t)) (seat_of memory t).phase
   pub reached : (entries : List Entry) × Shows memory (run memory.config opening entries)

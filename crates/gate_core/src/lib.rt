@@ -7,10 +7,10 @@ pub mod schedules;
 pub mod seats;
 pub mod steps;
 
-pub use gate_world::{Config, Op};
+pub use gate_world::{Accesses, Config, Op};
 pub use machine::Core;
 pub use schedules::every_schedule;
-pub use seats::{Accesses, Seat, first_phase};
+pub use seats::Seat;
 pub use steps::{Progress, Step};
 
 #[cfg(test)]

@@ -68,13 +68,15 @@ IsSmall (Some most) = most ≤ most_events_of_all
 -- of one operation
 pub record OpKeeps (c : Config) (op : Op) : Type 0 where
   -- where it may begin, its first phase fits
-  pub fits : (t : ℕ) (held : ℕ → ℕ) (levels : ℕ → Bool) → is_in_range c op ≡ true → is_in_order held levels op ≡ true → is_within_room held op ≡ true → Fits c t held levels (Some (first_phase c t op))
+  pub fits : (t : ℕ) (held : ℕ → ℕ) (levels : ℕ → Bool) → is_in_range c op ≡ true → is_in_order c held levels op ≡ true → is_within_room held op ≡ true →
+      Fits c t held levels (Some (first_phase c t op))
   -- which has no role yet, and no cause
   pub no_role : (t y : ℕ) → role_of y (Some (first_phase c t op)) ≡ Out
   pub steady : (t : ℕ) → IsSteady None (Some (first_phase c t op))
   pub cause : (t : ℕ) (w : World) (earlier : List World) → CauseOf c t w earlier (Some (first_phase c t op))
   -- whether it may begin is the same with accesses that agree
-  pub order_agrees : (f g : ℕ → ℕ) (h k : ℕ → Bool) → ((m : ℕ) → m < c.mounts → f m ≡ g m) → ((i : ℕ) → 1 ≤ i → i ≤ 3 → h i ≡ k i) → is_in_range c op ≡ true → is_in_order f h op ≡ is_in_order g k op
+  pub order_agrees : (f g : ℕ → ℕ) (h k : ℕ → Bool) → ((m : ℕ) → m < c.mounts → f m ≡ g m) → ((i : ℕ) → 1 ≤ i → i ≤ 3 → h i ≡ k i) →
+      is_in_range c op ≡ true → is_in_order c f h op ≡ is_in_order c g k op
   pub room_agrees : (f g : ℕ → ℕ) → ((m : ℕ) → m < c.mounts → f m ≡ g m) → is_in_range c op ≡ true → is_within_room f op ≡ is_within_room g op
   -- its trace tells what is to be told, and is short
   pub tells : IsWithin c → (t : ℕ) (trace : List Traced) → IsTrace c t op trace → Tells c op trace (course_of c t op trace).comes (course_of c t op trace).added

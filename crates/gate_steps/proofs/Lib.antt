@@ -1,5 +1,5 @@
 pub mod Dealing
-pub mod Stride
+pub mod TableWords
 pub mod Lifting
 pub mod Giving
 pub mod Opening

@@ -1,6 +1,6 @@
 -- The laws of one event and of a beginning as what a step on the table asks.
-use Rattle.std.proofs.Common.{◌≡◌, ℕ, ◌*◌, ◌<◌, List, [], ◌∷◌, set, sym, refl, ap, ◌∙◌, subst, length-set, arith}
-use Rattle.std.specs.Prelude.{Option, Some, None, slice_index}
+use Rattle.std.proofs.Common.{◌≡◌, ℕ, ◌<◌, List, [], ◌∷◌, set, sym, refl, ap, ◌∙◌, subst, length-set, arith}
+use Rattle.std.specs.Prelude.{is_some, Option, Some, None, slice_index}
 use Rattle.finite_sums.specs.Sums.{update}
 use Rattle.finite_sums.proofs.Totals.{update_at, update_off}
 use Rattle.atomic_table.specs.Table.{State, Me, keeps, Allows}
@@ -12,7 +12,7 @@ use Rattle.cpu_words.specs.declared.names.WordName.{WordName}
 use Rattle.cpu_words.specs.declared.events.Touch.{Touch}
 use Rattle.cpu_words.specs.declared.events.Touch.TheVariants.{Load, Store, Add, Sub, Or, And, Swap, Cas}
 use Rattle.cpu_words.specs.Hooks.{HookAnswer}
-use Rattle.cpu_words.specs.Names.{IsWord, place}
+use Rattle.cpu_words.specs.Names.{IsWord, place, words_in_all}
 use Rattle.cpu_words.specs.Touches.{left, found_by}
 use Rattle.cpu_words.specs.Words.{Words, read, put}
 use Rattle.gate_world.specs.declared.config.Config.{Config}
@@ -28,14 +28,15 @@ use Rattle.gate_world.specs.Shown.{shown}
 use Rattle.gate_world.specs.Fits.{Fits}
 use Rattle.gate_world.specs.Rules.{IsGood, Moves, StepKeeps}
 use Rattle.schedule_laws.proofs.Layers.{phase_keeps}
-use Rattle.schedule_laws.proofs.Schedule.{may_begin, begun_keeps, legal_more}
+use Rattle.schedule_laws.proofs.Beginnings.{may_begin}
+use Rattle.schedule_laws.proofs.Schedule.{begun_keeps, legal_more}
 use Rattle.gate_world.specs.Rules.{Fitting}
 use Rattle.schedule_laws.proofs.Lists.{step_lists, begin_lists}
-use Rattle.gate_core.proofs.Phases.{word_there}
+use Rattle.schedule_laws.proofs.Phases.{word_there}
 use Rattle.gate_steps.specs.declared.seating.Numbered.{Numbered}
 use Rattle.gate_steps.specs.Seating.{SeatItems, HaveViews, MayStep, Acts, entered, world_entered, items_after, happened}
-use Rattle.gate_steps.specs.Rules.{table_length, TableShows, Held}
-use Rattle.gate_steps.proofs.Stride.{written}
+use Rattle.gate_steps.specs.Rules.{table_index, table_length, TableShows, Held}
+use Rattle.gate_steps.proofs.TableWords.{table_written}
 use Rattle.gate_steps.proofs.Dealing.{times-at, known_here, redealt}
 
 abbrev pub Carried : Type 0
@@ -84,7 +85,7 @@ enter c lim w good x lt log lists mine (Some op) phase may =
     let t : ℕ = x.number in
     let v : View = begun_view (w.views t) op (first_phase c t op) in
     let ok : view_refusal c (w.views t) op ≡ None = ap (λ u. view_refusal c u op) mine ∙ may.0 in
-    let kept = begun_keeps c lim w good t lt op (may_begin c (w.views t) op ok) in
+    let kept = begun_keeps c lim w good t lt op (may_begin c (is_some (w.views t).phase) (held_at (w.views t)) (holds_level (w.views t)) op ok) in
     let here : update w.views t v t ≡ v = update_at w.views t v in
     record {
       good = kept.0;
@@ -105,7 +106,7 @@ touched u v phase n hook is none =
 
 -- Whatever the event, the laws of the machine are what the step asks
 pub lifted : (c : Config) (slots id : ℕ) (items : SeatItems) (carried : Carried) (begins : Option Op) (phase : Phase) (hook : HookAnswer) → Acts c begins phase items →
-    Allows (holds c) slots id (items, carried) (16 * place (next_of phase hook).0) (left (next_of phase hook).1) (λ n. happened c begins phase hook (items, carried) (found_by (next_of phase hook).1 n))
+    Allows (holds c) slots id (items, carried) (table_index (place (next_of phase hook).0)) (left (next_of phase hook).1) (λ n. happened c begins phase hook (items, carried) (found_by (next_of phase hook).1 n))
 lifted c slots id [] carried begins phase hook acts s held len at small = absurd acts
 lifted c slots id (x ∷ xs) carried begins phase hook acts s held len at small =
     let t : ℕ = x.number in
@@ -123,12 +124,12 @@ lifted c slots id (x ∷ xs) carried begins phase hook acts s held len at small 
     let kept : StepKeeps c w' t hook phase = (phase_keeps c phase).step lim w' en.good t lt hook en.at_phase in
     let there : IsWord (extents_of c) name =
     word_there c lim t (held_at (w'.views t)) (holds_level (w'.views t)) phase hook (subst (λ o. Fits c t (held_at (w'.views t)) (holds_level (w'.views t)) o) en.at_phase (en.good Fitting t lt)) in
-    let i : ℕ = 16 * place name in
+    let i : ℕ = table_index (place name) in
     let n : ℕ = slice_index s.words i in
     let value : n ≡ value_at w'.words phase hook = held.ruled.words name there ∙ ap (λ (l : Words). read l name) (sym en.words) in
     let table : TableShows c (set s.words i (left touch n)) (words_after w'.words phase hook) =
     subst (λ m. TableShows c (set s.words i (left touch n)) (put w'.words name (left touch m))) value
-    (written c lim s.words w'.words name (left touch n) held.ruled.long there (subst (TableShows c s.words) (sym en.words) held.ruled.words)) in
+    (table_written c lim s.words w'.words name (left touch n) held.ruled.long there (subst (TableShows c s.words) (sym en.words) held.ruled.words)) in
     let v : View = view_after (entered x.view begins phase) phase (found_by touch n) hook in
     let own : after.views t ≡ v =
     update_at w'.views t (view_after (w'.views t) phase (value_at w'.words phase hook) hook) ∙
@@ -146,7 +147,8 @@ lifted c slots id (x ∷ xs) carried begins phase hook acts s held len at small 
           long = length-set s.words i (left touch n) ∙ held.ruled.long;
           words = table;
           good = kept.0;
-          opens = λ untouched. absurd (touched (after.views t) (entered x.view begins phase) phase (found_by touch n) hook own (untouched t lt));
+          opens = λ untouched. absurd
+              (touched (after.views t) (entered x.view begins phase) phase (found_by touch n) hook own (untouched t lt));
         };
         history = record { log = with_action t (phase_action w' hook (Some phase)) log; legal = more.0; end = more.1; lists = step_lists w' log t hook (Some phase) en.lists };
         dealt = redealt c.tasks w.views s.views held.dealt id (x ∷ xs) at t x.view v xs refl after.views own others;
@@ -168,10 +170,10 @@ lifted c slots id (x ∷ xs) carried begins phase hook acts s held len at small 
 
 -- The same at a place, a touch and a moment that equal those of the phase, with the place's bound
 pub lifted_at : (c : Config) (slots words id : ℕ) (me : Me (Unit {0}) SeatItems) (d : Config) (begins starts : Option Op) (p q : Phase) (h k : HookAnswer) (r : WordName × Touch) (i : ℕ) (touch : Touch) →
-    c ≡ d → begins ≡ starts → p ≡ q → h ≡ k → r ≡ next_of p h → i ≡ 16 * place r.0 → r.1 ≡ touch → words ≡ table_length → place (next_of p h).0 < 915 → Acts c begins p me.0 →
+    c ≡ d → begins ≡ starts → p ≡ q → h ≡ k → r ≡ next_of p h → i ≡ table_index (place r.0) → r.1 ≡ touch → words ≡ table_length → place (next_of p h).0 < words_in_all → Acts c begins p me.0 →
     (i < words) × Allows (holds c) slots id me i (left touch) (λ n. happened d starts q k me (found_by touch n))
 lifted_at c slots words id me d begins starts p q h k r i touch ec eb ep eh er ei et ew small acts =
-    let at : i ≡ 16 * place (next_of p h).0 = ei ∙ ap (λ (z : WordName × Touch). 16 * place z.0) er in
+    let at : i ≡ table_index (place (next_of p h).0) = ei ∙ ap (λ (z : WordName × Touch). table_index (place z.0)) er in
     let same : (next_of p h).1 ≡ touch = ap (λ (z : WordName × Touch). z.1) (sym er) ∙ et in
     let P : Config × Option Op × Phase × HookAnswer × ℕ × Touch → Type 0 = λ z. Allows (holds c) slots id me z.4 (left z.5) (λ n. happened z.0 z.1 z.2 z.3 me (found_by z.5 n)) in
     (omega arith, subst P (λ j. (ec j, eb j, ep j, eh j, sym at j, same j)) (lifted c slots id me.0 me.1 begins p h acts))

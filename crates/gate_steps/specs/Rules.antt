@@ -1,9 +1,9 @@
 -- The rule of the table.
-use Rattle.std.specs.Prelude.{◌≡◌, ℕ, ◌*◌, ◌<◌, List, [], length, slice_index}
+use Rattle.std.specs.Prelude.{◌≡◌, ℕ, ◌*◌, ◌<◌, List, [], length}
 use Rattle.access_model.specs.Histories.{Done, end_of, IsLegal, IsMerge}
-use Rattle.cpu_words.specs.declared.names.WordName.{WordName}
-use Rattle.cpu_words.specs.Names.{IsWord, place}
-use Rattle.cpu_words.specs.Words.{Words, read, opening_words}
+use Rattle.cpu_words.specs.Names.{words_in_all, stride}
+use Rattle.cpu_words.specs.Words.{Words, opening_words}
+use Rattle.cpu_words.specs.Lists.{ListShows}
 use Rattle.gate_world.specs.declared.config.Config.{Config}
 use Rattle.gate_world.specs.declared.views.View.{View}
 use Rattle.gate_world.specs.Configs.{IsWithin, model_limits, extents_of}
@@ -12,13 +12,17 @@ use Rattle.gate_world.specs.Shown.{shown}
 use Rattle.gate_world.specs.Rules.{IsGood}
 use Rattle.gate_steps.specs.Seating.{SeatItems, Dealt, deal}
 
--- 915 words, 16 apart
-abbrev pub table_length : ℕ
-table_length = 14640
+-- where the word of a place lies in the table: words lie apart, each in cache lines of its own
+abbrev pub table_index : ℕ → ℕ
+table_index place = stride * place
 
--- the table has these words at their places, which are 16 apart
+-- how long the table is
+abbrev pub table_length : ℕ
+table_length = table_index words_in_all
+
+-- the table has these words
 abbrev pub TableShows : Config → List ℕ → Words → Type 0
-TableShows c ws words = (name : WordName) → IsWord (extents_of c) name → slice_index ws (16 * place name) ≡ read words name
+TableShows c ws words = ListShows table_index (extents_of c) ws words
 
 -- no number of a task has had an event
 abbrev pub IsUntouched : Config → (ℕ → View) → Type 0

@@ -1,50 +1,53 @@
 //! Each event of a phase as one atomic step, and numbers that go from seat to seat.
 
-ghost use Rattle.std.specs.Prelude.{◌≡◌, ◌*◌, ◌<◌, [], ◌++◌};
-ghost use Rattle.cpu_words.specs.Names.{place};
+ghost use Rattle.std.specs.Prelude.{◌≡◌, ◌<◌, [], ◌++◌};
+ghost use Rattle.cpu_words.specs.Names.{place, words_in_all};
+ghost use Rattle.cpu_words.specs.Touches.{event_of};
 ghost use Rattle.gate_world.specs.Work.{next_of};
-ghost use Rattle.gate_steps.specs.Rules.{table_length};
+ghost use Rattle.gate_steps.specs.Rules.{table_index, table_length};
 ghost use Rattle.gate_steps.specs.Seating.{Acts, IsMove, items_after, Spares, kept_of, given_of};
 
 use crate::rule::{Given, Gives, Happens, Items, Moment, Rule, TakesBack};
 use atomic_table::{Seat, Shared};
-use cpu_words::{Touch, WordName};
+use cpu_words::{Event, STRIDE, Touch, WordName};
 use gate_world::{Config, Op, Phase};
 use std::marker::Brand;
 
-/// Where a word lies in the table: words lie 16 apart, each in cache lines of its own.
+/// Where a word lies in the table: words lie apart, each in cache lines of its own.
 #[inline(always)]
 pub fn index_of(word: WordName) -> usize
-    ensures { result ≡ 16 * place word }
+    ensures { result ≡ table_index (place word) }
 {
-    16 * word.place()
+    STRIDE * word.place()
 }
 
+/// The event of that moment.
 #[inline(always)]
-fn event_of<J: Moment>(
+fn event_at<J: Moment>(
     shared: &Shared<(), Items, Config, Rule>,
     seat: &mut Seat<(), Items>,
     begins: Option<Op>,
     phase: Phase,
     hook: Result<(), u16>,
-) -> u64
+) -> Event
     requires config { shared.now.key ≡ J.config }
     requires begins { begins ≡ J.begins }
     requires phase { phase ≡ J.phase }
     requires hook { hook ≡ J.hook }
     requires table { seat.old.table_id ≡ shared.now.table_id }
     requires words { shared.now.table_id.words ≡ table_length }
-    requires inside { place (next_of phase hook).0 < 915 }
+    requires inside { place (next_of phase hook).0 < words_in_all }
     requires acts { Acts shared.now.key begins phase seat.old.me.0 }
     ensures table { seat.new.table_id ≡ seat.old.table_id }
     ensures id { seat.new.id ≡ seat.old.id }
-    ensures event { seat.new.me.0 ≡ items_after begins phase hook result seat.old.me.0 }
-    ensures moves { IsMove shared.now.key begins phase hook seat.old.me.0 result }
+    ensures is { result ≡ event_of (next_of phase hook).0 (next_of phase hook).1 result.found }
+    ensures event { seat.new.me.0 ≡ items_after begins phase hook result.found seat.old.me.0 }
+    ensures moves { IsMove shared.now.key begins phase hook seat.old.me.0 result.found }
     ensures slots { seat.new.me.1 ≡ seat.old.me.1 }
 {
     let (word, touch) = phase.next(hook);
     let i = index_of(word);
-    match touch {
+    let found = match touch {
         Touch::Load => shared.load::<Happens<J>>(seat, i),
         Touch::Store(new) => {
             shared.store::<Happens<J>>(seat, i, new);
@@ -58,11 +61,12 @@ fn event_of<J: Moment>(
         Touch::Cas { expect, put } => {
             shared.compare_exchange::<Happens<J>>(seat, i, expect, put)
         }
-    }
+    };
+    touch.event(word, found)
 }
 
-/// The next event of the seat's own number, in one atomic step: what it found, or, where it stores, what it wrote. An operation
-/// that has begun stands in `begins` until its first event, and None stands there from then on.
+/// The next event of the seat's own number, in one atomic step. An operation that has begun stands in `begins` until its first
+/// event, and None stands there from then on.
 #[inline(always)]
 pub fn event(
     shared: &Shared<(), Items, Config, Rule>,
@@ -70,18 +74,19 @@ pub fn event(
     begins: Option<Op>,
     phase: Phase,
     hook: Result<(), u16>,
-) -> u64
+) -> Event
     requires table { seat.old.table_id ≡ shared.now.table_id }
     requires words { shared.now.table_id.words ≡ table_length }
-    requires inside { place (next_of phase hook).0 < 915 }
+    requires inside { place (next_of phase hook).0 < words_in_all }
     requires acts { Acts shared.now.key begins phase seat.old.me.0 }
     ensures table { seat.new.table_id ≡ seat.old.table_id }
     ensures id { seat.new.id ≡ seat.old.id }
-    ensures event { seat.new.me.0 ≡ items_after begins phase hook result seat.old.me.0 }
-    ensures moves { IsMove shared.now.key begins phase hook seat.old.me.0 result }
+    ensures is { result ≡ event_of (next_of phase hook).0 (next_of phase hook).1 result.found }
+    ensures event { seat.new.me.0 ≡ items_after begins phase hook result.found seat.old.me.0 }
+    ensures moves { IsMove shared.now.key begins phase hook seat.old.me.0 result.found }
     ensures slots { seat.new.me.1 ≡ seat.old.me.1 }
 {
-    event_of::<Brand>(shared, seat, begins, phase, hook)
+    event_at::<Brand>(shared, seat, begins, phase, hook)
 }
 
 fn give_as<J: Given>(

@@ -1,16 +1,17 @@
 //! The table as it begins, and as it is closed.
 
-ghost use Rattle.std.specs.Prelude.{◌≡◌, ◌*◌, ◌<◌, [], IfOk, slice_index};
+ghost use Rattle.std.specs.Prelude.{◌≡◌, ◌<◌, [], IfOk, slice_index};
 ghost use Rattle.cpu_words.specs.Names.{place};
+ghost use Rattle.cpu_words.specs.Lists.{AreOpening};
 ghost use Rattle.std.specs.Slots.{slots_items, slots_len, IsFull};
 ghost use Rattle.gate_world.specs.Configs.{IsWithin};
-ghost use Rattle.gate_steps.specs.Rules.{table_length, first_items};
-ghost use Rattle.gate_steps.specs.Tables.{AreOpening, IsClosing};
+ghost use Rattle.gate_steps.specs.Rules.{table_index, table_length, first_items};
+ghost use Rattle.gate_steps.specs.Tables.{IsClosing};
 
 use crate::rule::{Items, Rule};
 use crate::steps::index_of;
 use atomic_table::{Seat, Table};
-use cpu_words::{WORDS, WordName};
+use cpu_words::{STRIDE, WORDS, WordName};
 use gate_world::Config;
 use std::alloc::{AllocError, Global};
 
@@ -22,9 +23,9 @@ pub type Closed = atomic_table::Closed<(), Global>;
 
 /// All words as they begin: 0, but for the root, which is a directory.
 pub fn opening_words(alloc: Global) -> Result<Vec<u64>, AllocError>
-    ensures { IfOk result (λ words. AreOpening words.items) }
+    ensures { IfOk result (λ words. AreOpening table_index table_length words.items) }
 {
-    let mut words = vec![in alloc; 0; 16 * WORDS]?;
+    let mut words = vec![in alloc; 0; STRIDE * WORDS]?;
     words[index_of(WordName::Node(0))] = 2;
     Ok(words)
 }
@@ -32,8 +33,10 @@ pub fn opening_words(alloc: Global) -> Result<Vec<u64>, AllocError>
 /// A table of all words as they begin, and one seat: number 0 is its own, and it has all others to give.
 pub fn open(alloc: Global, config: &Config) -> Result<(GateTable, Seat<(), Items>), AllocError>
     requires { IsWithin config.now }
-    ensures table { IfOk result (λ t. (t.0.shared.key ≡ config.now) × (t.0.shared.table_id.words ≡ table_length) × (t.0.shared.table_id.slots ≡ 0)) }
-    ensures seat { IfOk result (λ t. (t.1.table_id ≡ t.0.shared.table_id) × (t.1.id ≡ 0) × (t.1.me ≡ (first_items config.now, []))) }
+    ensures table { IfOk result (λ t.
+        (t.0.shared.key ≡ config.now) × (t.0.shared.table_id.words ≡ table_length) × (t.0.shared.table_id.slots ≡ 0)) }
+    ensures seat { IfOk result (λ t.
+        (t.1.table_id ≡ t.0.shared.table_id) × (t.1.id ≡ 0) × (t.1.me ≡ (first_items config.now, []))) }
 {
     let words = opening_words(alloc)?;
     Table::of_words(alloc, &words, config)
@@ -52,9 +55,9 @@ pub fn close(table: GateTable, seat: Seat<(), Items>) -> Closed
 
 /// A word of a closed table.
 pub fn word_of(closed: &Closed, name: WordName) -> u64
-    requires inside { 16 * place name < slots_len closed.now.words }
+    requires inside { table_index (place name) < slots_len closed.now.words }
     requires full { IsFull closed.now.words }
-    ensures { result ≡ slice_index (slots_items closed.now.words) (16 * place name) }
+    ensures { result ≡ slice_index (slots_items closed.now.words) (table_index (place name)) }
 {
     closed.word(index_of(name))
 }

@@ -29,8 +29,8 @@ fn a_want_counts_up(rt: HostRuntime) -> Result<(), Fail> {
         wait: false,
         step: WantStep::CountsUp,
     }));
-    let found = event(&table.shared, &mut seat, Some(op), phase, Ok(()));
-    assert!(rt; found == 0);
+    let event = event(&table.shared, &mut seat, Some(op), phase, Ok(()));
+    assert!(rt; event.found == 0 && event.left == 1);
     take_back(&table.shared, &mut seat, other);
     let closed = close(table, seat);
     assert!(rt; word_of(&closed, WordName::MountCount(0, 0)) == 1);

@@ -3,6 +3,7 @@ pub mod Work
 pub mod Views
 pub mod Found
 pub mod Operations
+pub mod Accesses
 pub mod Beginnings
 pub mod Worlds
 pub mod Shown

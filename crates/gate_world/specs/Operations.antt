@@ -24,7 +24,7 @@ pub record OpRow : Type 1 where
   -- its numbers are in range
   pub in_range : Config → Bool
   -- it may be begun by a task that holds these accesses
-  pub in_order : (ℕ → ℕ) → (ℕ → Bool) → Bool
+  pub in_order : Config → (ℕ → ℕ) → (ℕ → Bool) → Bool
   -- it would not give the task more accesses at a mount than there may be
   pub within_room : (ℕ → ℕ) → Bool
   -- it may wait
@@ -52,7 +52,7 @@ abbrev want_row : ℕ → ℕ → Bool → OpRow
 want_row m p wait = record {
   first = λ c t. Mounts (Wants (record { mount = m; cpu = p; wait = wait; step = CountsUp }));
   in_range = λ c. nat_lt m c.mounts && nat_lt p c.processors;
-  in_order = λ held levels. true;
+  in_order = λ c held levels. true;
   within_room = λ held. nat_lt (held m) 1024;
   waits = wait;
   most_events = λ c. if wait then None else Some 6;
@@ -66,7 +66,7 @@ abbrev drop_row : ℕ → ℕ → OpRow
 drop_row m p = record {
   first = λ c t. Mounts (Drops m p);
   in_range = λ c. nat_lt m c.mounts && nat_lt p c.processors;
-  in_order = λ held levels. nat_lt 0 (held m);
+  in_order = λ c held levels. nat_lt 0 (held m);
   within_room = λ held. true;
   waits = false;
   most_events = λ c. Some 1;
@@ -92,7 +92,7 @@ abbrev change_row : ℕ → Bool → Bool → OpRow
 change_row m read_only wait = record {
   first = λ c t. Mounts (Changes (record { mount = m; read_only = read_only; wait = wait; task = t; processors = c.processors; step = Locks }));
   in_range = λ c. nat_lt m c.mounts;
-  in_order = λ held levels. holds_none levels;
+  in_order = λ c held levels. holds_none levels;
   within_room = λ held. true;
   waits = wait;
   most_events = λ c. if wait then None else Some (c.processors + 7);

@@ -1,4 +1,6 @@
 pub mod Layers
+pub mod Beginnings
+pub mod Phases
 pub mod Entries
 pub mod Schedule
 pub mod Lists

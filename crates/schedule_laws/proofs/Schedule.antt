@@ -8,7 +8,6 @@ use Rattle.finite_sums.specs.Sums.{update, total}
 use Rattle.finite_sums.proofs.Totals.{each_updated, total_same, total_none, total_bound}
 use Rattle.access_model.specs.declared.actions.Action.{Action}
 use Rattle.access_model.specs.declared.errors.GateError.{GateError}
-use Rattle.access_model.specs.declared.errors.GateError.TheVariants.{Invalid, Order, TooMany}
 use Rattle.access_model.specs.Histories.{Done, end_of, IsLegal}
 use Rattle.access_model.specs.States.{State, opening_state}
 use Rattle.access_model.specs.Actions.{IsAllowed, after_action}
@@ -21,12 +20,13 @@ use Rattle.gate_world.specs.declared.work.Phase.{Phase}
 use Rattle.gate_world.specs.declared.views.View.{View}
 use Rattle.gate_world.specs.Configs.{IsWithin, model_limits}
 use Rattle.gate_world.specs.Views.{held_at, holds_level, begun_view}
-use Rattle.gate_world.specs.Beginnings.{first_phase, is_in_range, is_in_order, is_within_room, view_refusal}
+use Rattle.gate_world.specs.Beginnings.{first_phase, view_refusal}
 use Rattle.gate_world.specs.Worlds.{World, Entry, Begins, Steps, after_begin, begin_of, step_of, happens, phase_action, action_of, task_of, with_action, run, opening, history}
 use Rattle.gate_world.specs.Shown.{shown}
 use Rattle.gate_world.specs.Rules.{role_of, at_mount, IsSteady, ViewFits, Part, Owner, Superblock, Stages, Fitting, AtMount, Holds, IsGood, Moves}
 use Rattle.gate_world.specs.Headline.{SumsHold, IdleSumsHold}
 use Rattle.schedule_laws.proofs.Layers.{phase_keeps, op_keeps}
+use Rattle.schedule_laws.proofs.Beginnings.{MayBegin, may_begin, first_fits}
 use Rattle.gate_frames.proofs.Frames.{view_as, left_alone, shown_still}
 use Rattle.gate_frames.proofs.Loads.{steady}
 
@@ -38,31 +38,9 @@ pub idle_is : (p : Option Phase) → is_some p ≡ false → p ≡ None
 idle_is None h = refl
 idle_is (Some phase) h = absurd (true≢false h)
 
--- what it means that an operation isn't refused
-pub record MayBegin (c : Config) (v : View) (op : Op) : Type 0 where
-  pub idle : v.phase ≡ None
-  pub range : is_in_range c op ≡ true
-  pub order : is_in_order (held_at v) (holds_level v) op ≡ true
-  pub room : is_within_room (held_at v) op ≡ true
-
-not_some : {A : Type 0} (x : A) {B : Type 0} → Some x ≡ None → B
-not_some x h = absurd (true≢false (ap is_some h))
-
-pub may_begin : (c : Config) (v : View) (op : Op) → view_refusal c v op ≡ None → MayBegin c v op
-may_begin c v op h =
-    elim (cases_Bool (is_some v.phase)) [
-      | inl a ↦ not_some Order (rw a at h)
-      | inr a ↦ elim (cases_Bool (is_in_range c op)) [
-        | inl b ↦ elim (cases_Bool (is_in_order (held_at v) (holds_level v) op)) [
-          | inl d ↦ elim (cases_Bool (is_within_room (held_at v) op)) [
-            | inl e ↦ record { idle = idle_is v.phase a; range = b; order = d; room = e }
-            | inr e ↦ not_some TooMany (rw (a, b, d, e) at h)
-          ]
-          | inr d ↦ not_some Order (rw (a, b, d) at h)
-        ]
-        | inr b ↦ not_some Invalid (rw (a, b) at h)
-      ]
-    ]
+-- a task with this view may begin the operation
+abbrev pub MayBeginAt : Config → View → Op → Type 0
+MayBeginAt c v op = MayBegin c (is_some v.phase) (held_at v) (holds_level v) op
 
 module _ (c : Config) (lim : IsWithin c) (w : World) (good : IsGood c w) (t : ℕ) (lt : t < c.tasks) where
   pub step_keeps : (hook : HookAnswer) (p : Option Phase) → (w.views t).phase ≡ p →
@@ -71,26 +49,26 @@ module _ (c : Config) (lim : IsWithin c) (w : World) (good : IsGood c w) (t : �
   step_keeps hook (Some phase) e = (phase_keeps c phase).step lim w good t lt hook e
 
   -- a beginning leaves each part of the rule but that of its own phase
-  begun_good : (op : Op) → MayBegin c (w.views t) op → (part : Part) → Holds c (after_begin c w t op) part
-  begun_good op h Fitting = λ x lx. each_updated (λ y (u : View). ViewFits c y u) w.views t (begun_view (w.views t) op (first_phase c t op)) x ((op_keeps c op).fits t (held_at (w.views t)) (holds_level (w.views t)) h.range h.order h.room) (λ ne. good Fitting x lx)
+  begun_good : (op : Op) → MayBeginAt c (w.views t) op → (part : Part) → Holds c (after_begin c w t op) part
+  begun_good op h Fitting = λ x lx. each_updated (λ y (u : View). ViewFits c y u) w.views t (begun_view (w.views t) op (first_phase c t op)) x (first_fits c t (is_some (w.views t).phase) (held_at (w.views t)) (holds_level (w.views t)) op h) (λ ne. good Fitting x lx)
   begun_good op h Owner =
-      let same : IsSteady (w.views t).phase (Some (first_phase c t op)) = steady h.idle ((op_keeps c op).steady t) in
+      let same : IsSteady (w.views t).phase (Some (first_phase c t op)) = steady (idle_is (w.views t).phase h.idle) ((op_keeps c op).steady t) in
       left_alone c w t lt Owner w.words (begun_view (w.views t) op (first_phase c t op)) (refl, refl) (same.owns_same, same.remounts_same) (good Owner)
   begun_good op h Superblock = good Superblock
   begun_good op h Stages = good Stages
   begun_good op h (AtMount m) =
-      left_alone c w t lt (AtMount m) w.words (begun_view (w.views t) op (first_phase c t op)) (refl, refl, refl, refl) (view_as refl refl refl ((op_keeps c op).no_role t m ∙ sym (ap (role_of m) h.idle))) (good (AtMount m))
+      left_alone c w t lt (AtMount m) w.words (begun_view (w.views t) op (first_phase c t op)) (refl, refl, refl, refl) (view_as refl refl refl ((op_keeps c op).no_role t m ∙ sym (ap (role_of m) (idle_is (w.views t).phase h.idle)))) (good (AtMount m))
 
-  pub begun_keeps : (op : Op) → MayBegin c (w.views t) op → IsGood c (after_begin c w t op) × (shown c (after_begin c w t op) ≡ shown c w)
+  pub begun_keeps : (op : Op) → MayBeginAt c (w.views t) op → IsGood c (after_begin c w t op) × (shown c (after_begin c w t op) ≡ shown c w)
   begun_keeps op h = (
     begun_good op h,
-    shown_still c w t lt w.words (begun_view (w.views t) op (first_phase c t op)) refl refl refl refl refl refl (steady h.idle ((op_keeps c op).steady t)).closing_same refl refl,
+    shown_still c w t lt w.words (begun_view (w.views t) op (first_phase c t op)) refl refl refl refl refl refl (steady (idle_is (w.views t).phase h.idle) ((op_keeps c op).steady t)).closing_same refl refl,
   )
 
 module _ (c : Config) (lim : IsWithin c) where
   begin_keeps : (w : World) → IsGood c w → (t : ℕ) (op : Op) → t < c.tasks → (r : Option GateError) → view_refusal c (w.views t) op ≡ r →
       IsGood c (begin_of c w t op r) × (shown c (begin_of c w t op r) ≡ shown c w)
-  begin_keeps w good t op lt None e = begun_keeps c lim w good t lt op (may_begin c (w.views t) op e)
+  begin_keeps w good t op lt None e = begun_keeps c lim w good t lt op (may_begin c (is_some (w.views t).phase) (held_at (w.views t)) (holds_level (w.views t)) op e)
   begin_keeps w good t op lt (Some refused) e = (good, refl)
 
   -- each entry keeps the rule, and moves the shown model by its action

@@ -1,18 +1,19 @@
 -- Whether an operation may begin, as a task's fields say.
-use Rattle.std.proofs.Common.{◌≡◌, ℕ, [], ◌∷◌, List, Bool, ap, ◌∙◌}
-use Rattle.std.specs.Prelude.{Option, is_some}
+use Rattle.std.proofs.Common.{◌≡◌, ℕ, [], ◌∷◌, List, Bool, sym, ap, ◌∙◌}
+use Rattle.std.specs.Prelude.{Option, is_some, Result, Ok, Err}
 use Rattle.access_model.specs.declared.errors.GateError.{GateError}
 use Rattle.gate_world.specs.declared.config.Config.{Config}
 use Rattle.gate_world.specs.declared.operations.Op.{Op}
-use Rattle.gate_world.specs.Beginnings.{refusal}
+use Rattle.gate_world.specs.declared.work.Phase.{Phase}
+use Rattle.gate_world.specs.Beginnings.{first_phase, refusal, or_refusal, beginning}
 use Rattle.gate_world.specs.Configs.{IsWithin}
 use Rattle.gate_world.specs.Views.{held_at, holds_level}
 use Rattle.gate_core.specs.declared.seats.Seat.{Seat}
 use Rattle.gate_core.specs.Answers.{unless_refused}
-use Rattle.gate_core.specs.Memory.{mounts_in, levels_in}
-use Rattle.gate_core.proofs.Beginning.{refusal_agree}
+use Rattle.gate_core.specs.Seats.{mounts_in, levels_in}
+use Rattle.schedule_laws.proofs.Beginnings.{refusal_agree, ok_means, err_means}
 use Rattle.gate_steps.specs.Seating.{SeatItems}
-use Rattle.vfs_gates.specs.TaskStates.{TaskState, task_state, own_view, refusal_at}
+use Rattle.vfs_gates.specs.TaskStates.{TaskState, task_state, own_number, own_view, refusal_at, beginning_at}
 use Rattle.vfs_gates.specs.declared.task.Task.TheInside.{Inside}
 use Rattle.vfs_gates.specs.Ties.{Ties}
 
@@ -24,14 +25,55 @@ module _ (number : ℕ) (c : Config) (begins : Option Op) (kept : Seat) (flags :
 
   -- what is kept of accesses has the same refusal as the view
   refusal_same : (l : SeatItems) (op : Op) → Ties number c begins kept flags l →
-      refusal c (is_some kept.phase) (mounts_in kept) (levels_in kept) op ≡ refusal c (is_some kept.phase) (held_at (own_view l)) (holds_level (own_view l)) op
+      refusal c (is_some kept.phase) (mounts_in kept) (levels_in kept) op ≡
+      refusal c (is_some kept.phase) (held_at (own_view l)) (holds_level (own_view l)) op
   refusal_same [] op t = absurd t
   refusal_same (x ∷ xs) op t =
-      refusal_agree c (mounts_in kept) (held_at x.view) (levels_in kept) (holds_level x.view) t.keeps.mounts t.keeps.levels (is_some kept.phase) op
+      refusal_agree c (mounts_in kept) (held_at x.view) (levels_in kept) (holds_level x.view) t.keeps.mounts t.keeps.levels
+      (is_some kept.phase) op
+
+  -- and the same number
+  number_same : (l : SeatItems) → Ties number c begins kept flags l → number ≡ own_number l
+  number_same [] t = absurd t
+  number_same (x ∷ xs) t = sym t.same_number
 
 -- so the answer that the fields give is the task's
-pub admitted_as : (op : Op) (task : Inside) (start : TaskState) → task_state task.seat.table_id task.config task.begins task.kept.phase task.seat.me.0 ≡ start →
-    Ties task.number task.config task.begins task.kept task.spare task.seat.me.0 → (o : Option GateError) →
-    o ≡ refusal task.config (is_some task.kept.phase) (mounts_in task.kept) (levels_in task.kept) op → unless_refused o ≡ unless_refused (refusal_at op start)
-admitted_as op task start start_is ties o is =
-    ap unless_refused (is ∙ (refusal_same task.number task.config task.begins task.kept task.spare task.seat.me.0 op ties ∙ ap (refusal_at op) start_is))
+pub admitted_as : (op : Op) (task : Inside) (start : TaskState) →
+    task_state task.seat.table_id task.config task.begins task.kept.phase task.seat.me.0 ≡ start →
+    Ties task.number task.config task.begins task.kept task.spare task.seat.me.0 → (under_way : Bool) →
+    under_way ≡ is_some task.kept.phase → (answer : Result Phase GateError) →
+    answer ≡ beginning task.config task.number under_way (mounts_in task.kept) (levels_in task.kept) op → answer ≡ beginning_at op start
+admitted_as op task start start_is ties under_way under_way_is answer is =
+    let items : SeatItems = task.seat.me.0 in
+    let refused : refusal task.config under_way (mounts_in task.kept) (levels_in task.kept) op ≡
+    refusal task.config (is_some task.kept.phase) (held_at (own_view items)) (holds_level (own_view items)) op =
+    ap (λ b. refusal task.config b (mounts_in task.kept) (levels_in task.kept) op) under_way_is ∙
+    refusal_same task.number task.config task.begins task.kept task.spare items op ties in
+    is ∙
+    ((λ i. or_refusal (first_phase task.config (number_same task.number task.config task.begins task.kept task.spare items ties i) op)
+    (refused i)) ∙
+    ap (beginning_at op) start_is)
+
+-- what was admitted has no refusal
+pub admitted_by : (op : Op) (start : TaskState) (phase : Phase) → Ok phase ≡ beginning_at op start →
+    Ok tt ≡ unless_refused (refusal_at op start)
+admitted_by op start phase is =
+    sym (ap unless_refused (ok_means (first_phase start.config (own_number start.items) op) (refusal_at op start) phase is).0)
+
+-- and what was not has this one
+pub refused_by : (op : Op) (start : TaskState) (refused : GateError) →
+    ◌≡◌ {A = Result Phase GateError} (Err refused) (beginning_at op start) →
+    ◌≡◌ {A = Result (Unit {0}) GateError} (Err refused) (unless_refused (refusal_at op start))
+refused_by op start refused is =
+    sym (ap unless_refused (err_means (first_phase start.config (own_number start.items) op) (refusal_at op start) refused is))
+
+-- the phase that was answered is the operation's first
+pub first_by : (op : Op) (task : Inside) (start : TaskState) →
+    task_state task.seat.table_id task.config task.begins task.kept.phase task.seat.me.0 ≡ start →
+    Ties task.number task.config task.begins task.kept task.spare task.seat.me.0 → (phase : Phase) → Ok phase ≡ beginning_at op start →
+    phase ≡ first_phase task.config task.number op
+first_by op task start start_is ties phase is =
+    (ok_means (first_phase start.config (own_number start.items) op) (refusal_at op start) phase is).1 ∙
+    sym (ap (λ (n : ℕ). first_phase task.config n op)
+    (number_same task.number task.config task.begins task.kept task.spare task.seat.me.0 ties) ∙
+    ap (λ (s : TaskState). first_phase s.config (own_number s.items) op) start_is)

@@ -13,8 +13,8 @@ use crate::gates::Gates;
 use crate::task::{Seat, Task};
 use crate::turns::go_on;
 use access_model::{GateError, Next, Reply};
-use gate_core::{Accesses, Progress, first_phase};
-use gate_world::{Op, UnderWay};
+use gate_core::Progress;
+use gate_world::{Accesses, Op, Phase, UnderWay};
 use mount_counts::{Want, WantStep};
 
 /// Why the operation was refused, or that it was done.
@@ -40,9 +40,13 @@ fn go_on_at(
     requires tied { IsTied gates.now.config None (phase_after (of_the_want next)) accesses.old seat.old.me.0 }
     ensures table { seat.new.table_id ≡ seat.old.table_id }
     ensures slots { seat.new.me.1 ≡ seat.old.me.1 }
-    ensures tied { StayTied gates.now.config None (phase_after (of_the_want next)) accesses.old seat.old.me.0 (phase_after (of_the_want result)) accesses.new seat.new.me.0 }
-    ensures went { (op : OpType) (start : TaskState) → Went op start (of_the_want next) (task_state seat.old.table_id gates.now.config None (phase_after (of_the_want next)) seat.old.me.0) →
-        Went op start (of_the_want result) (task_state seat.new.table_id gates.now.config None (phase_after (of_the_want result)) seat.new.me.0) }
+    ensures tied { StayTied gates.now.config None (phase_after (of_the_want next)) accesses.old seat.old.me.0
+        (phase_after (of_the_want result)) accesses.new seat.new.me.0 }
+    ensures went { (op : OpType) (start : TaskState) →
+        Went op start (of_the_want next)
+        (task_state seat.old.table_id gates.now.config None (phase_after (of_the_want next)) seat.old.me.0) →
+        Went op start (of_the_want result)
+        (task_state seat.new.table_id gates.now.config None (phase_after (of_the_want result)) seat.new.me.0) }
 {
     let Next::Go(want) = next else {
         return next;
@@ -67,9 +71,12 @@ fn want_in_line(
     requires tied { IsTied gates.now.config begins (Some (Mounts (Wants want))) accesses.old seat.old.me.0 }
     ensures table { seat.new.table_id ≡ seat.old.table_id }
     ensures slots { seat.new.me.1 ≡ seat.old.me.1 }
-    ensures tied { StayTied gates.now.config begins (Some (Mounts (Wants want))) accesses.old seat.old.me.0 (phase_after (of_the_want result)) accesses.new seat.new.me.0 }
-    ensures went { (op : OpType) (start : TaskState) → Goes op start (task_state seat.old.table_id gates.now.config begins (Some (Mounts (Wants want))) seat.old.me.0) →
-        Went op start (of_the_want result) (task_state seat.new.table_id gates.now.config None (phase_after (of_the_want result)) seat.new.me.0) }
+    ensures tied { StayTied gates.now.config begins (Some (Mounts (Wants want))) accesses.old seat.old.me.0
+        (phase_after (of_the_want result)) accesses.new seat.new.me.0 }
+    ensures went { (op : OpType) (start : TaskState) →
+        Goes op start (task_state seat.old.table_id gates.now.config begins (Some (Mounts (Wants want))) seat.old.me.0) →
+        Went op start (of_the_want result)
+        (task_state seat.new.table_id gates.now.config None (phase_after (of_the_want result)) seat.new.me.0) }
 {
     let next = go_on(gates, seat, accesses, begins, want, Ok(()));
     let next = go_on_at(gates, seat, accesses, next, WantStep::LoadsHold);
@@ -80,19 +87,16 @@ fn want_in_line(
 
 impl Task {
     ghost use Rattle.gate_world.specs.declared.operations.Op.TheVariants.{Want as WantOp, DropMount, ChangeMount};
-    ghost use Rattle.gate_core.specs.Answers.{unless_refused};
-    ghost use Rattle.vfs_gates.specs.TaskStates.{IsFrom, refusal_at};
+    ghost use Rattle.vfs_gates.specs.TaskStates.{IsFrom, beginning_at};
     ghost use Rattle.vfs_gates.specs.Runs.{Called, IsTrying, Performs};
 
-    /// Why the operation can't begin.
+    /// The first phase of the operation, or why it can't begin.
     #[inline(always)]
-    pub(crate) fn admit(&self, op: Op) -> Result<(), GateError>
-        ensures { result ≡ unless_refused (refusal_at op self.now) }
+    pub(crate) fn admit(&self, op: Op) -> Result<Phase, GateError>
+        ensures { result ≡ beginning_at op self.now }
     {
-        match self.kept.refusal(self.config, op) {
-            Some(refusal) => Err(refusal),
-            None => Ok(()),
-        }
+        let under_way = self.kept.phase.is_some();
+        op.begin(self.config, self.number, under_way, &self.kept.accesses)
     }
 
     /// Does the events of the operation that has begun, which has a most number of them, until it replies. Where one reads a hook of the
@@ -144,8 +148,7 @@ impl Task {
         ensures { Performs (DropMount mount cpu) self.old self.new result }
     {
         let op = Op::DropMount { mount, cpu };
-        self.admit(op)?;
-        let phase = first_phase(self.config, self.number, op);
+        let phase = self.admit(op)?;
         let accesses = &mut self.kept.accesses;
         match go_on(gates, &mut self.seat, accesses, Some(op), phase, Ok(())) {
             Next::Done(answer) => outcome(answer),

@@ -6,8 +6,9 @@ ghost use Rattle.access_model.specs.declared.errors.GateError.TheVariants.{Order
 use crate::gates::Gates;
 use crate::numbers::{add_all, lowest, none};
 use crate::rooms::Rooms;
-use crate::task::{Task, idle};
+use crate::task::Task;
 use access_model::GateError;
+use gate_core::seats::Seat as Kept;
 use gate_steps::{give, take_back};
 use std::alloc::Global;
 
@@ -41,7 +42,7 @@ impl Task {
             number,
             config: self.config,
             begins: None,
-            kept: idle(),
+            kept: Kept::idle(),
             spare: none(),
             rooms,
             seat,
@@ -55,8 +56,10 @@ impl Task {
         requires that { IsFrom other gates.now }
         ensures table { self.new.table ≡ self.old.table }
         ensures config { self.new.config ≡ self.old.config }
-        ensures joined { IfOk result (λ _. IsIdle self.old × HoldsNothing self.old × IsIdle other × HoldsNothing other × (self.new ≡ record self.old { items = self.old.items ++ other.items })) }
-        ensures refused { IfErr result (λ e. (e.0 ≡ Order) × (e.1 ≡ other) × (self.new ≡ self.old) × ¬ (IsIdle self.old × HoldsNothing self.old × IsIdle other × HoldsNothing other)) }
+        ensures joined { IfOk result (λ _. IsIdle self.old × HoldsNothing self.old × IsIdle other × HoldsNothing other
+            × (self.new ≡ record self.old { items = self.old.items ++ other.items })) }
+        ensures refused { IfErr result (λ e. (e.0 ≡ Order) × (e.1 ≡ other) × (self.new ≡ self.old)
+            × ¬ (IsIdle self.old × HoldsNothing self.old × IsIdle other × HoldsNothing other)) }
     {
         if !self.rests() || !other.rests() {
             return Err((GateError::Order, other));

@@ -3,7 +3,6 @@
 ghost use Rattle.std.specs.Prelude.{◌≡◌, ◌≤◌, ◌<◌, ◌↔◌, IsTrue, Some, None, OnOk, OnErr, [], false};
 ghost use Rattle.gate_world.specs.Configs.{IsWithin};
 ghost use Rattle.gate_world.specs.declared.work.Phase.{Phase as PhaseType};
-ghost use Rattle.gate_core.specs.Seats.{idle_seat};
 ghost use Rattle.vfs_gates.specs.TaskStates.{IsNothing};
 ghost use Rattle.gate_steps.specs.Rules.{first_items};
 
@@ -13,9 +12,9 @@ use crate::rooms::Rooms;
 use crate::turns::{Turn, do_event};
 use access_model::GateError;
 use gate_core::seats::Seat as Kept;
-use gate_core::{Accesses, Progress, Step, first_phase};
+use gate_core::{Progress, Step};
 use gate_steps::Items;
-use gate_world::{Config, Op};
+use gate_world::{Accesses, Config, Op};
 use std::marker::Model;
 
 /// The seat of a task at the table.
@@ -47,7 +46,8 @@ impl Model for Task {
 
     ghost view = { λ t. task_state t.seat.table_id t.config t.begins t.kept.phase t.seat.me.0 };
 
-    ghost invariant = { λ t. Ties t.number t.config t.begins t.kept t.spare t.seat.me.0 × (t.seat.me.1 ≡ []) × HasSnapshotRoom t.config.nodes t.rooms };
+    ghost invariant = { λ t. Ties t.number t.config t.begins t.kept t.spare t.seat.me.0 × (t.seat.me.1 ≡ [])
+        × HasSnapshotRoom t.config.nodes t.rooms };
 }
 
 impl Task {
@@ -70,7 +70,7 @@ impl Task {
             number: 0,
             config,
             begins: None,
-            kept: idle(),
+            kept: Kept::idle(),
             spare: others_of(config.tasks),
             rooms,
             seat,
@@ -118,12 +118,15 @@ impl Task {
         ensures table { self.new.table ≡ self.old.table }
         ensures config { self.new.config ≡ self.old.config }
         ensures answer { result ≡ unless_refused (refusal_at op self.old) }
-        ensures begun { OnOk result (self.new ≡ record self.old { begins = Some op; phase = Some (the_first_phase self.old.config (own_number self.old.items) op) }) }
+        ensures begun { OnOk result (self.new ≡ record self.old {
+          begins = Some op;
+          phase = Some (the_first_phase self.old.config (own_number self.old.items) op);
+        }) }
         ensures refused { OnErr result (self.new ≡ self.old) }
     {
-        self.admit(op)?;
+        let phase = self.admit(op)?;
         self.begins = Some(op);
-        self.kept.phase = Some(first_phase(self.config, self.number, op));
+        self.kept.phase = Some(phase);
         Ok(())
     }
 
@@ -199,17 +202,4 @@ fn holds_nothing(accesses: &Accesses, mounts: u8) -> bool
         }
     }
     !accesses.levels[1] && !accesses.levels[2] && !accesses.levels[3]
-}
-
-/// What is kept of a task that is idle and holds nothing.
-pub(crate) fn idle() -> Kept
-    ensures { result ≡ idle_seat }
-{
-    Kept {
-        phase: None,
-        accesses: Accesses {
-            mounts: [0; 8],
-            levels: [false; 4],
-        },
-    }
 }

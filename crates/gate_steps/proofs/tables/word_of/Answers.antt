@@ -1,12 +1,13 @@
-use Rattle.std.proofs.Common.{◌≡◌, ℕ, ◌*◌, sym, subst}
+use Rattle.std.proofs.Common.{◌≡◌, ℕ, sym, subst}
 use Rattle.std.specs.Slots.{slots_items}
 use mathlib.Core.Option.{some}
 use lib.ListN.{get_elem?}
 use Rattle.cpu_words.specs.Names.{place}
-use Rattle.gate_steps.proofs.Stride.{read_at}
+use Rattle.gate_steps.specs.Rules.{table_index}
+use Rattle.gate_steps.proofs.TableWords.{read_at}
 use Rattle.gate_steps.proofs.tables.word_of.Goals as goal
 
 pub returns : goal.returns
 returns c =
     let ws = slots_items c.args.closed.now.words in
-    sym (read_at ws (16 * place c.args.name) c.word.result (subst (λ (i : ℕ). get_elem? ws i ≡ some c.word.result) c.index_of.ensures c.word.ensures))
+    sym (read_at ws (table_index (place c.args.name)) c.word.result (subst (λ (i : ℕ). get_elem? ws i ≡ some c.word.result) c.index_of.ensures c.word.ensures))

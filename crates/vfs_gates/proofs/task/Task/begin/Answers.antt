@@ -2,31 +2,33 @@
 use Rattle.std.proofs.Common.{refl, sym, ap}
 use Rattle.std.proofs.lemmas.Result.{err_from_is_err_and}
 use Rattle.vfs_gates.specs.TaskStates.{TaskState}
-use Rattle.vfs_gates.proofs.Calling.{Call, call_of, begun, begun_state}
+use Rattle.vfs_gates.proofs.Admitting.{admitted_by, refused_by}
+use Rattle.vfs_gates.proofs.Calling.{Call, admitted_call, begun, begun_state}
 use Rattle.vfs_gates.proofs.task.Task.begin.Goals as goal
-use Rattle.vfs_gates.proofs.task.Task.begin.Goals.{After-first_phase}
+use Rattle.vfs_gates.proofs.task.Task.begin.Goals.{In_ok-phase}
 
-pub returns-in_err-admit-clause-answer : goal.returns-in_err-admit-clause-answer
-returns-in_err-admit-clause-answer c = let p = err_from_is_err_and c.from_residual.result c.from_residual.ensures.1 in
-    rw (p.1, p.2) c.in_err-admit.ensures
+pub returns-in_err-phase-clause-answer : goal.returns-in_err-phase-clause-answer
+returns-in_err-phase-clause-answer c = let p = err_from_is_err_and c.from_residual.result c.from_residual.ensures.1 in
+    rw (p.1, p.2) (refused_by c.args.op c.args.self.now c.in_err-phase.field-0.0 c.in_err-phase.ensures)
 
-pub returns-in_err-admit-clause-begun : goal.returns-in_err-admit-clause-begun
-returns-in_err-admit-clause-begun c = let p = err_from_is_err_and c.from_residual.result c.from_residual.ensures.1 in rw p.1 tt
+pub returns-in_err-phase-clause-begun : goal.returns-in_err-phase-clause-begun
+returns-in_err-phase-clause-begun c = let p = err_from_is_err_and c.from_residual.result c.from_residual.ensures.1 in rw p.1 tt
 
-pub returns-in_err-admit-clause-refused : goal.returns-in_err-admit-clause-refused
-returns-in_err-admit-clause-refused c = let p = err_from_is_err_and c.from_residual.result c.from_residual.ensures.1 in rw p.1 refl
+pub returns-in_err-phase-clause-refused : goal.returns-in_err-phase-clause-refused
+returns-in_err-phase-clause-refused c = let p = err_from_is_err_and c.from_residual.result c.from_residual.ensures.1 in rw p.1 refl
 
 -- the call, whose configuration is the task's own
-abbrev call : After-first_phase → Call
+abbrev call : In_ok-phase → Call
 call c =
-    call_of c.args.op c.self.inside c.self.inside.config c.args.self.now c.self.view_is (sym (ap (λ (s : TaskState). s.config) c.self.view_is)) c.self.invariant.0
-    c.in_ok-admit.ensures c.first_phase.result c.first_phase.ensures
+    admitted_call c.args.op c.self.inside c.self.inside.config c.args.self.now c.self.view_is
+    (sym (ap (λ (s : TaskState). s.config) c.self.view_is)) c.self.invariant.0
+    c.in_ok-phase.phase c.in_ok-phase.ensures
 
 pub invariant_of-self : goal.invariant_of-self
-invariant_of-self c = (begun (call (goal.at.invariant_of-self c).After-first_phase), c.self.invariant.1, c.self.invariant.2)
+invariant_of-self c = (begun (call (goal.at.invariant_of-self c).In_ok-phase), c.self.invariant.1, c.self.invariant.2)
 
 pub returns-clause-answer : goal.returns-clause-answer
-returns-clause-answer c = c.in_ok-admit.ensures
+returns-clause-answer c = admitted_by c.args.op c.args.self.now c.in_ok-phase.phase c.in_ok-phase.ensures
 
 pub returns-clause-begun : goal.returns-clause-begun
-returns-clause-begun c = begun_state (call (goal.at.returns-clause-begun c).After-first_phase)
+returns-clause-begun c = begun_state (call (goal.at.returns-clause-begun c).In_ok-phase)

@@ -5,7 +5,8 @@ use Rattle.gate_world.specs.declared.work.Phase.{Phase}
 use Rattle.gate_world.specs.Work.{at_phases}
 use Rattle.std.proofs.lemmas.Result.{err_from_is_err_and}
 use Rattle.vfs_gates.specs.Runs.{unit_of}
-use Rattle.vfs_gates.proofs.Calling.{Call, Left, call_of, is_tied, has_begun, ties_at, ties_done, goes_at, ended_at, stands_at, done_at}
+use Rattle.vfs_gates.proofs.Admitting.{refused_by}
+use Rattle.vfs_gates.proofs.Calling.{Call, Left, admitted_call, is_tied, has_begun, ties_at, ties_done, goes_at, ended_at, stands_at, done_at}
 use Rattle.vfs_gates.proofs.Running.{was_refused, was_done}
 use Rattle.vfs_gates.proofs.task.Task.drop_mount.Goals as goal
 use Rattle.vfs_gates.proofs.task.Task.drop_mount.Goals.{After-go_on}
@@ -13,8 +14,9 @@ use Rattle.vfs_gates.proofs.task.Task.drop_mount.Goals.{After-go_on}
 -- the call, and what its event has left
 abbrev call : After-go_on → Call
 call c =
-    call_of (DropMount c.args.mount c.args.cpu) c.self.inside c.args.gates.now.config c.args.self.now c.self.view_is c.requires.1 c.self.invariant.0
-    c.in_ok-admit.ensures c.first_phase-phase.result c.first_phase-phase.ensures
+    admitted_call (DropMount c.args.mount c.args.cpu) c.self.inside c.args.gates.now.config c.args.self.now c.self.view_is c.requires.1
+    c.self.invariant.0
+    c.in_ok-phase.phase c.in_ok-phase.ensures
 
 abbrev left : (c : After-go_on) → Left (call c)
 left c = record {
@@ -28,8 +30,9 @@ left c = record {
 
 pub go_on-requires-clause-tied : goal.go_on-requires-clause-tied
 go_on-requires-clause-tied c =
-    is_tied (call_of (DropMount c.args.mount c.args.cpu) c.self.inside c.args.gates.now.config c.args.self.now c.self.view_is c.requires.1 c.self.invariant.0
-    c.in_ok-admit.ensures c.first_phase-phase.result c.first_phase-phase.ensures)
+    is_tied (admitted_call (DropMount c.args.mount c.args.cpu) c.self.inside c.args.gates.now.config c.args.self.now c.self.view_is
+    c.requires.1 c.self.invariant.0
+    c.in_ok-phase.phase c.in_ok-phase.ensures)
 
 pub invariant_of-self : goal.invariant_of-self
 invariant_of-self c =
@@ -65,10 +68,12 @@ returns-in-Done c =
 pub returns-in-Go : goal.returns-in-Go
 returns-in-Go c =
     let d = (goal.at.returns-in-Go c).After-go_on in
-    was_done unit_of (call d).op (call d).start c.finish.new.self c.finish.result c.outcome-in-Go.result c.outcome-in-Go.ensures (call d).admitted
+    was_done unit_of (call d).op (call d).start c.finish.new.self c.finish.result c.outcome-in-Go.result c.outcome-in-Go.ensures
+    (call d).admitted
     (c.finish.ensures (call d).op (call d).start
     (goes_at (call d) (left d) c.in-Go.phase (stands_at (λ (p : Phase). p) c.go_on.result c.in-Go.phase c.in-Go.is)))
 
-pub returns-in_err-admit : goal.returns-in_err-admit
-returns-in_err-admit c = let p = err_from_is_err_and c.from_residual.result c.from_residual.ensures.1 in
-    rw (p.1, p.2) (was_refused unit_of (DropMount c.args.mount c.args.cpu) c.args.self.now c.args.self.now c.in_err-admit.field-0.0 c.in_err-admit.ensures refl)
+pub returns-in_err-phase : goal.returns-in_err-phase
+returns-in_err-phase c = let p = err_from_is_err_and c.from_residual.result c.from_residual.ensures.1 in
+    rw (p.1, p.2) (was_refused unit_of (DropMount c.args.mount c.args.cpu) c.args.self.now c.args.self.now c.in_err-phase.field-0.0
+    (refused_by (DropMount c.args.mount c.args.cpu) c.args.self.now c.in_err-phase.field-0.0 c.in_err-phase.ensures) refl)

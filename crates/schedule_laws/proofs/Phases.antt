@@ -1,29 +1,42 @@
--- A phase that fits: the word of its next event is there, the action of the event can be done, and the phase that comes fits.
+-- A phase that fits: the word of its next event is there and has a place, the action of the event can be done, and the phase that comes fits.
 use Rattle.std.proofs.Common.{◌≡◌, ℕ, ◌<◌, ◌≤◌, Bool}
 use Rattle.std.specs.Prelude.{Option, Some, None}
-use Rattle.cpu_words.specs.Names.{IsWord}
+use Rattle.cpu_words.specs.Names.{IsWord, place, words_in_all}
 use Rattle.cpu_words.specs.Hooks.{HookAnswer}
+use Rattle.cpu_words.proofs.Places.{place_small}
 use Rattle.gate_world.specs.declared.config.Config.{Config}
 use Rattle.gate_world.specs.declared.work.Phase.{Phase}
 use Rattle.gate_world.specs.Configs.{IsWithin, extents_of}
 use Rattle.gate_world.specs.Views.{phase_after}
 use Rattle.gate_world.specs.Work.{next_of, after_of}
 use Rattle.gate_world.specs.Fits.{PhaseFits, Fits, ActionFits, mounts_by, levels_by}
+use Rattle.gate_frames.proofs.Places.{are_few}
 use Rattle.schedule_laws.proofs.Layers.{phase_keeps}
 
 module _ (c : Config) (within : IsWithin c) (t : ℕ) (held : ℕ → ℕ) (levels : ℕ → Bool) where
+  -- the word of its next event is there
   pub word_there : (phase : Phase) (hook : HookAnswer) → PhaseFits c t held levels phase → IsWord (extents_of c) (next_of phase hook).0
   word_there phase hook f = (phase_keeps c phase).word within t held levels hook f
 
-  pub action_fits : (phase : Phase) (found : ℕ) (hook : HookAnswer) → PhaseFits c t held levels phase → ActionFits held (after_of phase found hook).1
+  -- and so it has a place
+  pub word_placed : (phase : Phase) (hook : HookAnswer) → PhaseFits c t held levels phase → place (next_of phase hook).0 < words_in_all
+  word_placed phase hook f = place_small (extents_of c) (are_few c within) (next_of phase hook).0 (word_there phase hook f)
+
+  -- the action of the event can be done
+  pub action_fits : (phase : Phase) (found : ℕ) (hook : HookAnswer) → PhaseFits c t held levels phase →
+      ActionFits held (after_of phase found hook).1
   action_fits phase found hook f = (phase_keeps c phase).acts within t held levels found hook f
 
+  -- and the phase that comes fits what it leaves
   pub fits_after : (phase : Phase) (found : ℕ) (hook : HookAnswer) → PhaseFits c t held levels phase →
-      Fits c t (mounts_by (after_of phase found hook).1 held) (levels_by (after_of phase found hook).1 levels) (phase_after (after_of phase found hook).0)
+      Fits c t (mounts_by (after_of phase found hook).1 held) (levels_by (after_of phase found hook).1 levels)
+      (phase_after (after_of phase found hook).0)
   fits_after phase found hook f = (phase_keeps c phase).goes within t held levels found hook f
 
 -- accesses that agree at each mount and level fit alike
-module _ (c : Config) (t : ℕ) (f g : ℕ → ℕ) (h k : ℕ → Bool) (mounts : (m : ℕ) → m < c.mounts → f m ≡ g m) (levels : (i : ℕ) → 1 ≤ i → i ≤ 3 → h i ≡ k i) where
+module _ (c : Config) (t : ℕ) (f g : ℕ → ℕ) (h k : ℕ → Bool)
+    (mounts : (m : ℕ) → m < c.mounts → f m ≡ g m) (levels : (i : ℕ) → 1 ≤ i → i ≤ 3 → h i ≡ k i) where
+  -- whatever the phase
   pub fits_agree : (phase : Option Phase) → Fits c t f h phase → Fits c t g k phase
   fits_agree None fits = tt
   fits_agree (Some phase) fits = (phase_keeps c phase).agrees t f g h k mounts levels fits

@@ -1,0 +1,61 @@
+//! What a task holds at run time.
+
+ghost use Rattle.std.specs.Prelude.{◌≡◌, slice_index};
+ghost use Rattle.gate_world.specs.Operations.{holds_none};
+ghost use Rattle.gate_world.specs.Fits.{ActionFits};
+ghost use Rattle.gate_world.specs.Accesses.{no_accesses, levels_held, accesses_after};
+
+use access_model::{Action, Gate};
+
+/// What a task holds: accesses at each mount, and whether it is inside each level. Levels are numbered from 1, so the first
+/// entry of these stays false.
+#[derive(Clone, Copy, PartialEq, Eq, Debug)]
+pub struct Accesses {
+    pub mounts: [u16; 8],
+    pub levels: [bool; 4],
+}
+
+impl Accesses {
+    /// No access.
+    pub fn none() -> Accesses
+        ensures { result ≡ no_accesses }
+    {
+        Accesses {
+            mounts: [0; 8],
+            levels: [false; 4],
+        }
+    }
+
+    /// Does to these what an action of the task itself does.
+    #[inline(always)]
+    pub fn apply(&mut self, action: Option<Action>)
+        requires { ActionFits (slice_index self.old.mounts) action }
+        ensures { self.new ≡ accesses_after self.old action }
+    {
+        match action {
+            Some(Action::Grant(Gate::Mount(mount))) => self.mounts[mount as usize] += 1,
+            Some(Action::Return(Gate::Mount(mount))) => self.mounts[mount as usize] -= 1,
+            Some(Action::Grant(Gate::Level(level))) => self.levels[level as usize] = true,
+            Some(Action::Return(Gate::Level(level))) => self.levels[level as usize] = false,
+            _ => {}
+        }
+    }
+
+    /// What the task holds after an action of its own.
+    pub fn after(self, action: Option<Action>) -> Accesses
+        requires { ActionFits (slice_index self.mounts) action }
+        ensures { result ≡ accesses_after self action }
+    {
+        let mut after = self;
+        after.apply(action);
+        after
+    }
+
+    /// Whether the task is inside no level.
+    #[inline(always)]
+    pub fn is_in_no_level(&self) -> bool
+        ensures { result ≡ holds_none (levels_held self.now) }
+    {
+        !self.levels[1] && !self.levels[2] && !self.levels[3]
+    }
+}

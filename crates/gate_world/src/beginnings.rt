@@ -1,0 +1,113 @@
+//! Beginnings: where an operation starts, or why it can't. What is asked of each operation, and its first phase, stand together.
+
+ghost use Rattle.std.specs.Prelude.{◌≡◌, ◌≤◌, false};
+ghost use Rattle.gate_world.specs.Accesses.{mounts_held, levels_held};
+ghost use Rattle.gate_world.specs.Beginnings.{beginning};
+ghost use Rattle.gate_world.specs.declared.operations.Op.TheVariants.{Want as WantOp, DropMount, ChangeMount};
+
+use crate::accesses::Accesses;
+use crate::config::Config;
+use crate::operations::Op;
+use crate::work::Phase;
+use access_model::GateError;
+use mount_counts::{Change, ChangeStep, MountPhase, Want, WantStep};
+
+impl Op {
+    /// The first phase of the operation of a task that holds these accesses, or why it can't begin, the first reason in this
+    /// order. Order where an operation is under way; Invalid where a number of the operation is out of range; Order where the task
+    /// holds what the operation must not find held, or doesn't hold what it gives back; TooMany where the task would get its
+    /// 1,025th access at a mount.
+    #[inline(always)]
+    pub fn begin(
+        self,
+        config: Config,
+        task: u8,
+        under_way: bool,
+        held: &Accesses,
+    ) -> Result<Phase, GateError>
+        requires { config.mounts ≤ 8 }
+        ensures { result ≡ beginning config task under_way (mounts_held held.now) (levels_held held.now) self }
+    {
+        if under_way {
+            return Err(GateError::Order);
+        }
+        match self {
+            Op::Want { mount, cpu, wait } => begin_want(config, held, mount, cpu, wait),
+            Op::DropMount { mount, cpu } => begin_drop(config, held, mount, cpu),
+            Op::ChangeMount {
+                mount,
+                read_only,
+                wait,
+            } => begin_change(config, task, held, mount, read_only, wait),
+        }
+    }
+}
+
+/// A want needs room for one access more at its mount.
+#[inline(always)]
+fn begin_want(
+    config: Config,
+    held: &Accesses,
+    mount: u8,
+    cpu: u8,
+    wait: bool,
+) -> Result<Phase, GateError>
+    requires { config.mounts ≤ 8 }
+    ensures { result ≡ beginning config 0 false (mounts_held held.now) (levels_held held.now) (WantOp mount cpu wait) }
+{
+    if mount >= config.mounts || cpu >= config.processors {
+        Err(GateError::Invalid)
+    } else if held.mounts[mount as usize] >= 1024 {
+        Err(GateError::TooMany)
+    } else {
+        Ok(Phase::Mounts(MountPhase::Want(Want {
+            mount,
+            cpu,
+            wait,
+            step: WantStep::CountsUp,
+        })))
+    }
+}
+
+/// A drop needs an access to give back.
+#[inline(always)]
+fn begin_drop(config: Config, held: &Accesses, mount: u8, cpu: u8) -> Result<Phase, GateError>
+    requires { config.mounts ≤ 8 }
+    ensures { result ≡ beginning config 0 false (mounts_held held.now) (levels_held held.now) (DropMount mount cpu) }
+{
+    if mount >= config.mounts || cpu >= config.processors {
+        Err(GateError::Invalid)
+    } else if held.mounts[mount as usize] == 0 {
+        Err(GateError::Order)
+    } else {
+        Ok(Phase::Mounts(MountPhase::Drop { mount, cpu }))
+    }
+}
+
+/// A change is not begun inside a level.
+#[inline(always)]
+fn begin_change(
+    config: Config,
+    task: u8,
+    held: &Accesses,
+    mount: u8,
+    read_only: bool,
+    wait: bool,
+) -> Result<Phase, GateError>
+    ensures { result ≡ beginning config task false (mounts_held held.now) (levels_held held.now) (ChangeMount mount read_only wait) }
+{
+    if mount >= config.mounts {
+        Err(GateError::Invalid)
+    } else if !held.is_in_no_level() {
+        Err(GateError::Order)
+    } else {
+        Ok(Phase::Mounts(MountPhase::Change(Change {
+            mount,
+            read_only,
+            wait,
+            task,
+            processors: config.processors,
+            step: ChangeStep::Locks,
+        })))
+    }
+}
