@@ -25,10 +25,12 @@ module _ (number : ℕ) (c : Config) (begins : Option Op) (kept : Seat) (flags :
 
   -- what is kept of accesses has the same refusal as the view
   refusal_same : (l : SeatItems) (op : Op) → Ties number c begins kept flags l →
-      refusal c (is_some kept.phase) (mounts_in kept) (levels_in kept) op ≡ refusal c (is_some kept.phase) (held_at (own_view l)) (holds_level (own_view l)) op
+      refusal c (is_some kept.phase) (mounts_in kept) (levels_in kept) op ≡
+      refusal c (is_some kept.phase) (held_at (own_view l)) (holds_level (own_view l)) op
   refusal_same [] op t = absurd t
   refusal_same (x ∷ xs) op t =
-      refusal_agree c (mounts_in kept) (held_at x.view) (levels_in kept) (holds_level x.view) t.keeps.mounts t.keeps.levels (is_some kept.phase) op
+      refusal_agree c (mounts_in kept) (held_at x.view) (levels_in kept) (holds_level x.view) t.keeps.mounts t.keeps.levels
+      (is_some kept.phase) op
 
   -- and the same number
   number_same : (l : SeatItems) → Ties number c begins kept flags l → number ≡ own_number l
@@ -36,32 +38,42 @@ module _ (number : ℕ) (c : Config) (begins : Option Op) (kept : Seat) (flags :
   number_same (x ∷ xs) t = sym t.same_number
 
 -- so the answer that the fields give is the task's
-pub admitted_as : (op : Op) (task : Inside) (start : TaskState) → task_state task.seat.table_id task.config task.begins task.kept.phase task.seat.me.0 ≡ start →
-    Ties task.number task.config task.begins task.kept task.spare task.seat.me.0 → (under_way : Bool) → under_way ≡ is_some task.kept.phase →
-    (answer : Result Phase GateError) → answer ≡ beginning task.config task.number under_way (mounts_in task.kept) (levels_in task.kept) op → answer ≡ beginning_at op start
+pub admitted_as : (op : Op) (task : Inside) (start : TaskState) →
+    task_state task.seat.table_id task.config task.begins task.kept.phase task.seat.me.0 ≡ start →
+    Ties task.number task.config task.begins task.kept task.spare task.seat.me.0 → (under_way : Bool) →
+    under_way ≡ is_some task.kept.phase → (answer : Result Phase GateError) →
+    answer ≡ beginning task.config task.number under_way (mounts_in task.kept) (levels_in task.kept) op → answer ≡ beginning_at op start
 admitted_as op task start start_is ties under_way under_way_is answer is =
     let items : SeatItems = task.seat.me.0 in
     let refused : refusal task.config under_way (mounts_in task.kept) (levels_in task.kept) op ≡
-        refusal task.config (is_some task.kept.phase) (held_at (own_view items)) (holds_level (own_view items)) op =
+    refusal task.config (is_some task.kept.phase) (held_at (own_view items)) (holds_level (own_view items)) op =
     ap (λ b. refusal task.config b (mounts_in task.kept) (levels_in task.kept) op) under_way_is ∙
     refusal_same task.number task.config task.begins task.kept task.spare items op ties in
     is ∙
-    ((λ i. or_refusal (first_phase task.config (number_same task.number task.config task.begins task.kept task.spare items ties i) op) (refused i)) ∙
+    ((λ i. or_refusal (first_phase task.config (number_same task.number task.config task.begins task.kept task.spare items ties i) op)
+    (refused i)) ∙
     ap (beginning_at op) start_is)
 
 -- what was admitted has no refusal
-pub admitted_by : (op : Op) (start : TaskState) (phase : Phase) → Ok phase ≡ beginning_at op start → Ok tt ≡ unless_refused (refusal_at op start)
-admitted_by op start phase is = sym (ap unless_refused (ok_means (first_phase start.config (own_number start.items) op) (refusal_at op start) phase is).0)
+pub admitted_by : (op : Op) (start : TaskState) (phase : Phase) → Ok phase ≡ beginning_at op start →
+    Ok tt ≡ unless_refused (refusal_at op start)
+admitted_by op start phase is =
+    sym (ap unless_refused (ok_means (first_phase start.config (own_number start.items) op) (refusal_at op start) phase is).0)
 
 -- and what was not has this one
-pub refused_by : (op : Op) (start : TaskState) (refused : GateError) → ◌≡◌ {A = Result Phase GateError} (Err refused) (beginning_at op start) →
+pub refused_by : (op : Op) (start : TaskState) (refused : GateError) →
+    ◌≡◌ {A = Result Phase GateError} (Err refused) (beginning_at op start) →
     ◌≡◌ {A = Result (Unit {0}) GateError} (Err refused) (unless_refused (refusal_at op start))
-refused_by op start refused is = sym (ap unless_refused (err_means (first_phase start.config (own_number start.items) op) (refusal_at op start) refused is))
+refused_by op start refused is =
+    sym (ap unless_refused (err_means (first_phase start.config (own_number start.items) op) (refusal_at op start) refused is))
 
 -- the phase that was answered is the operation's first
-pub first_by : (op : Op) (task : Inside) (start : TaskState) → task_state task.seat.table_id task.config task.begins task.kept.phase task.seat.me.0 ≡ start →
-    Ties task.number task.config task.begins task.kept task.spare task.seat.me.0 → (phase : Phase) → Ok phase ≡ beginning_at op start → phase ≡ first_phase task.config task.number op
+pub first_by : (op : Op) (task : Inside) (start : TaskState) →
+    task_state task.seat.table_id task.config task.begins task.kept.phase task.seat.me.0 ≡ start →
+    Ties task.number task.config task.begins task.kept task.spare task.seat.me.0 → (phase : Phase) → Ok phase ≡ beginning_at op start →
+    phase ≡ first_phase task.config task.number op
 first_by op task start start_is ties phase is =
     (ok_means (first_phase start.config (own_number start.items) op) (refusal_at op start) phase is).1 ∙
-    sym (ap (λ (n : ℕ). first_phase task.config n op) (number_same task.number task.config task.begins task.kept task.spare task.seat.me.0 ties) ∙
+    sym (ap (λ (n : ℕ). first_phase task.config n op)
+    (number_same task.number task.config task.begins task.kept task.spare task.seat.me.0 ties) ∙
     ap (λ (s : TaskState). first_phase s.config (own_number s.items) op) start_is)

@@ -44,11 +44,13 @@ stands_at as_phase next x (inl is) = ap (λ n. phase_after (at_phases as_phase n
 stands_at as_phase next x (inr is) = ap (λ n. phase_after (at_phases as_phase n)) is
 
 -- and what comes next, where it replied
-pub done_at : {A : Type 0} (as_phase : A → Phase) (next : Next A) (answer : Result Reply GateError) → next ≡ Done answer → at_phases as_phase next ≡ Done answer
+pub done_at : {A : Type 0} (as_phase : A → Phase) (next : Next A) (answer : Result Reply GateError) → next ≡ Done answer →
+    at_phases as_phase next ≡ Done answer
 done_at as_phase next answer is = ap (λ n. at_phases as_phase n) is
 
 -- where a phase comes next, the operation goes on
-goes_where : (op : Op) (start now : TaskState) (next : Next Phase) (phase : Phase) → phase_after next ≡ Some phase → Went op start next now → Goes op start now
+goes_where : (op : Op) (start now : TaskState) (next : Next Phase) (phase : Phase) → phase_after next ≡ Some phase →
+    Went op start next now → Goes op start now
 goes_where op start now (Go q) phase is went = went
 goes_where op start now (Wait q) phase is went = went
 goes_where op start now (Done answer) phase is went = absurd (let f : ⊥ = cc in f)
@@ -90,7 +92,8 @@ abbrev pub admitted_call : (op : Op) (task : Inside) (gates : Config) (start : T
     task_state task.seat.table_id task.config task.begins task.kept.phase task.seat.me.0 ≡ start → start.config ≡ gates →
     Ties task.number task.config task.begins task.kept task.spare task.seat.me.0 → (first : Phase) → Ok first ≡ beginning_at op start → Call
 admitted_call op task gates start start_is from ties first answered =
-    call_of op task gates start start_is from ties (admitted_by op start first answered) first (first_by op task start start_is ties first answered)
+    call_of op task gates start start_is from ties (admitted_by op start first answered) first
+    (first_by op task start start_is ties first answered)
 
 -- the numbers of the task, as the call finds them
 abbrev pub items_of : Call → SeatItems
@@ -107,45 +110,58 @@ pub record Left (call : Call) : Type 0 where
 
 -- before the first event
 module _ (call : Call) where
+  -- the task's own number
   abbrev number : ℕ
   number = call.task.number
 
+  -- its configuration
   abbrev c : Config
   c = call.task.config
 
+  -- what it keeps of its phase and accesses
   abbrev kept : Seat
   kept = call.task.kept
 
+  -- the numbers that it has to give
   abbrev flags : List Bool
   flags = call.task.spare
 
+  -- the operation
   abbrev op : Op
   op = call.op
 
+  -- the gates name the same configuration
   same : c ≡ call.gates
   same = ap (λ (s : TaskState). s.config) call.start_is ∙ call.from
 
+  -- the beginning has no refusal
   none_refused : refusal c (is_some kept.phase) (held_at (own_view (items_of call))) (holds_level (own_view (items_of call))) op ≡ None
   none_refused = ap (refusal_at op) call.start_is ∙ not_refused (refusal_at op call.start) call.admitted
 
   -- so the operation may begin
   begins_here : MayBegin c (is_some kept.phase) (held_at (own_view (items_of call))) (holds_level (own_view (items_of call))) op
-  begins_here = may_begin c (is_some kept.phase) (held_at (own_view (items_of call))) (holds_level (own_view (items_of call))) op none_refused
+  begins_here = may_begin c (is_some kept.phase) (held_at (own_view (items_of call))) (holds_level (own_view (items_of call))) op
+      none_refused
 
   -- and its first phase fits
   first_here : Fits c number (held_at (own_view (items_of call))) (holds_level (own_view (items_of call))) (Some (first_phase c number op))
-  first_here = first_fits c number (is_some kept.phase) (held_at (own_view (items_of call))) (holds_level (own_view (items_of call))) op begins_here
+  first_here = first_fits c number (is_some kept.phase) (held_at (own_view (items_of call))) (holds_level (own_view (items_of call))) op
+      begins_here
 
   -- the task was idle
   pub idle : kept.phase ≡ None
   idle = none_of kept.phase begins_here.idle
 
+  -- the operation's first phase
   abbrev the_first : Phase
   the_first = first_phase c number op
 
-  at_rest : (x : Numbered) (xs : SeatItems) → OwnTies number c call.task.begins kept flags x xs → (call.task.begins ≡ None) × (x.view.phase ≡ None)
+  -- the own view stands where the task does
+  at_rest : (x : Numbered) (xs : SeatItems) → OwnTies number c call.task.begins kept flags x xs →
+      (call.task.begins ≡ None) × (x.view.phase ≡ None)
   at_rest x xs t = subst (λ o. PhaseOk c call.task.begins o x) idle t.may
 
+  -- a beginning leaves the own number tied
   begun_own : (x : Numbered) (xs : SeatItems) → items_of call ≡ x ∷ xs → OwnTies number c call.task.begins kept flags x xs →
       OwnTies number c (Some op) (kept_at (Some the_first) kept.accesses) flags x xs
   begun_own x xs here t = record {
@@ -154,7 +170,8 @@ module _ (call : Call) where
     below = t.below;
     may = (
       let at : refusal c (is_some kept.phase) (held_at x.view) (holds_level x.view) op ≡ None =
-          subst (λ (l : SeatItems). refusal c (is_some kept.phase) (held_at (own_view l)) (holds_level (own_view l)) op ≡ None) here none_refused in
+          subst (λ (l : SeatItems). refusal c (is_some kept.phase) (held_at (own_view l)) (holds_level (own_view l)) op ≡ None) here
+          none_refused in
           ap (λ (o : Option Phase). refusal c (is_some o) (held_at x.view) (holds_level x.view) op) ((at_rest x xs t).1 ∙ sym idle) ∙ at,
       ap (λ (n : ℕ). first_phase c n op) (sym t.same_number),
     );
@@ -166,11 +183,13 @@ module _ (call : Call) where
     marks = t.marks;
   }
 
+  -- and all numbers
   begun_ties : (l : SeatItems) → items_of call ≡ l → Ties number c call.task.begins kept flags l →
       Ties number c (Some op) (kept_at (Some the_first) kept.accesses) flags l
   begun_ties [] here t = absurd t
   begun_ties (x ∷ xs) here t = begun_own x xs here t
 
+  -- what the ties say of the own number
   own_same : (l : SeatItems) → Ties number c call.task.begins kept flags l → (call.task.begins ≡ None) × (own_number l ≡ number)
   own_same [] t = absurd t
   own_same (x ∷ xs) t = ((at_rest x xs t).0, t.same_number)
@@ -185,19 +204,22 @@ module _ (call : Call) where
 
   -- the fields that a beginning leaves
   pub begun : Ties number c (Some op) (kept_at (Some call.first) kept.accesses) flags (items_of call)
-  begun = subst (λ (p : Phase). Ties number c (Some op) (kept_at (Some p) kept.accesses) flags (items_of call)) (sym call.first_is) (begun_ties (items_of call) refl call.ties)
+  begun = subst (λ (p : Phase). Ties number c (Some op) (kept_at (Some p) kept.accesses) flags (items_of call)) (sym call.first_is)
+      (begun_ties (items_of call) refl call.ties)
 
   -- and the state
   pub begun_state : task_state call.task.seat.table_id c (Some op) (Some call.first) (items_of call) ≡
       record call.start { begins = Some op; phase = Some (first_phase call.start.config (own_number call.start.items) op) }
   begun_state =
-      (λ i. task_state call.task.seat.table_id c (Some op) (Some ((call.first_is ∙ ap (λ (n : ℕ). first_phase c n op) (sym own_is)) i)) (items_of call)) ∙
+      (λ i. task_state call.task.seat.table_id c (Some op) (Some ((call.first_is ∙ ap (λ (n : ℕ). first_phase c n op) (sym own_is)) i))
+      (items_of call)) ∙
       ap (λ (s : TaskState). record s { begins = Some op; phase = Some (first_phase s.config (own_number s.items) op) }) call.start_is
 
   -- as the first event finds them
   pub after_begin : Ties number call.gates (Some op) (kept_at (Some call.first) kept.accesses) flags (items_of call)
   after_begin = subst (λ (d : Config). Ties number d (Some op) (kept_at (Some call.first) kept.accesses) flags (items_of call)) same begun
 
+  -- so the first event may be done
   pub is_tied : IsTied call.gates (Some op) (Some call.first) kept.accesses (items_of call)
   is_tied = record { number = number; flags = flags; ties = after_begin }
 
@@ -209,6 +231,7 @@ module _ (call : Call) where
 
   -- after the last event, as it is written down
   module _ (left : Left call) where
+    -- the state that the last event left
     abbrev found : TaskState
     found = task_state left.table call.gates None (phase_after left.next) left.items
 
@@ -219,18 +242,23 @@ module _ (call : Call) where
         subst P (λ i. (sym same i, sym not_begun i, is i)) (left.tied number flags after_begin)
 
     -- the same where nothing comes next: what is kept of the phase stays as it was
-    pub ties_done : (answer : Result Reply GateError) → left.next ≡ Done answer → Ties number c call.task.begins (kept_at kept.phase left.accesses) flags left.items
+    pub ties_done : (answer : Result Reply GateError) → left.next ≡ Done answer →
+        Ties number c call.task.begins (kept_at kept.phase left.accesses) flags left.items
     ties_done answer is = ties_at kept.phase (ap (λ (n : Next Phase). phase_after n) is ∙ sym idle)
 
+    -- it is the state that the task shows then
     there_at : (o : Option Phase) → phase_after left.next ≡ o → found ≡ task_state left.table c call.task.begins o left.items
     there_at o is = λ i. task_state left.table (sym same i) (sym not_begun i) (is i) left.items
 
     -- the operation goes on at this phase
-    pub goes_at : (phase : Phase) → phase_after left.next ≡ Some phase → Goes op call.start (task_state left.table c call.task.begins (Some phase) left.items)
+    pub goes_at : (phase : Phase) → phase_after left.next ≡ Some phase →
+        Goes op call.start (task_state left.table c call.task.begins (Some phase) left.items)
     goes_at phase is = subst (Goes op call.start) (there_at (Some phase) is) (goes_where op call.start found left.next phase is left.went)
 
     -- or it was done whole
-    pub ended_at : (answer : Result Reply GateError) → left.next ≡ Done answer → Called op call.start (task_state left.table c call.task.begins kept.phase left.items) answer
+    pub ended_at : (answer : Result Reply GateError) → left.next ≡ Done answer →
+        Called op call.start (task_state left.table c call.task.begins kept.phase left.items) answer
     ended_at answer is =
         let stands : phase_after left.next ≡ kept.phase = ap (λ (n : Next Phase). phase_after n) is ∙ sym idle in
-        subst (λ (s : TaskState). Called op call.start s answer) (there_at kept.phase stands) (subst (λ (n : Next Phase). Went op call.start n found) is left.went)
+        subst (λ (s : TaskState). Called op call.start s answer) (there_at kept.phase stands)
+        (subst (λ (n : Next Phase). Went op call.start n found) is left.went)

@@ -15,7 +15,8 @@ use Rattle.vfs_gates.specs.Ended.{EndedWith, HasOpeningWords}
 use Rattle.vfs_gates.proofs.Parting.{rest-at}
 
 -- all numbers are back in a seat whose views rest: so each number rests, and has the view that the seat knows
-pub ended : (c : Config) (items : SeatItems) (ws : List ℕ) → IsClosing c ws items → AllRest c items → ((n : ℕ) → n < c.tasks → 1 ≤ times n items) →
+pub ended : (c : Config) (items : SeatItems) (ws : List ℕ) → IsClosing c ws items → AllRest c items →
+    ((n : ℕ) → n < c.tasks → 1 ≤ times n items) →
     EndedWith c ws items
 ended c items ws closing rest all = record {
   ended = record {
@@ -23,7 +24,8 @@ ended c items ws closing rest all = record {
     ruled = closing.ruled;
     history = closing.history;
     still = λ t lt. let there = view_in-at t items (all t lt) in
-        subst (IsStill c) (sym (view_in-is closing.world.views items t closing.mine (all t lt))) (rest-at c items there.0 (numbered t (view_in t items)) rest there.1);
+        subst (IsStill c) (sym (view_in-is closing.world.views items t closing.mine (all t lt)))
+        (rest-at c items there.0 (numbered t (view_in t items)) rest there.1);
   };
   mine = closing.mine;
 }
@@ -31,12 +33,14 @@ ended c items ws closing rest all = record {
 -- a number that was dealt and has done nothing has an opening view
 dealt_view : (n from k : ℕ) → view_in n (deal from k) ≡ opening_view
 dealt_view n from zero = refl
-dealt_view n from (suc k) = by_bool (eqb from n) (λ b. cond b opening_view (view_in n (deal (suc from) k)) ≡ opening_view) refl (dealt_view n (suc from) k)
+dealt_view n from (suc k) = by_bool (eqb from n) (λ b. cond b opening_view (view_in n (deal (suc from) k)) ≡ opening_view) refl
+    (dealt_view n (suc from) k)
 
 -- so gates that are closed with the first task, which knows that no number has had an event, have all words as they begin
 pub opens_so : (c : Config) → HasOpeningWords c (first_items c)
 opens_so c ws e =
     let w : World = e.ended.world in
     let view : (t : ℕ) → t < c.tasks → w.views t ≡ opening_view =
-    λ t lt. view_in-is w.views (first_items c) t e.mine (let once = times-deal t 0 c.tasks (omega arith) (omega arith) in omega arith) ∙ dealt_view t 0 c.tasks in
+    λ t lt. view_in-is w.views (first_items c) t e.mine (let once = times-deal t 0 c.tasks (omega arith) (omega arith) in omega arith) ∙
+    dealt_view t 0 c.tasks in
     subst (TableShows c ws) (e.ended.ruled.opens (λ t lt. ap (λ (v : View). v.events) (view t lt))) e.ended.ruled.words

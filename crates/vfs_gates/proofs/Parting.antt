@@ -22,26 +22,33 @@ use Rattle.vfs_gates.specs.TaskStates.{Empty, IsNothing, own_view}
 use Rattle.vfs_gates.specs.Ties.{PhaseOk, IsStill, AllRest, Keeps, OwnTies, Ties}
 use Rattle.vfs_gates.proofs.FlagSteps.{IsSet, false_true}
 
+-- an idle seat has no access at a mount
 idle_mount : (m : ℕ) → m < 8 → ◌≡◌ {A = ℕ} (get_or (replicate 8 0) m 0) 0
 idle_mount m lt = get_or-replicate 8 m 0 0 lt
 
+-- nor at a level
 idle_level : (i : ℕ) → i ≤ 3 → get_or (replicate 4 false) i false ≡ false
 idle_level i le = get_or-replicate 4 i false false (omega arith)
 
 module _ (c : Config) where
+  -- where all rest, each does
   pub rest-at : (l : SeatItems) (k : ℕ) (y : Numbered) → AllRest c l → get_elem? l k ≡ some y → IsStill c y.view
   rest-at [] k y r e = absurd (some-ne-none y (sym e))
   rest-at (x ∷ xs) zero y r e = subst (λ (z : Numbered). IsStill c z.view) (some-injective x y e) r.0
   rest-at (x ∷ xs) (suc k) y r e = rest-at xs k y r.1 e
 
+  -- all rest without one of them
   rest-without : (n : ℕ) (l : SeatItems) → AllRest c l → AllRest c (without n l)
   rest-without n [] r = tt
-  rest-without n (x ∷ xs) r = let t = rest-without n xs r.1 in elim (eqb x.number n) as (λ b. AllRest c (cond b (without n xs) (x ∷ without n xs))) [ true ↦ t | false ↦ (r.0, t) ]
+  rest-without n (x ∷ xs) r = let t = rest-without n xs r.1 in elim (eqb x.number n) as
+      (λ b. AllRest c (cond b (without n xs) (x ∷ without n xs))) [ true ↦ t | false ↦ (r.0, t) ]
 
+  -- all of both rest
   rest-append : (l m : SeatItems) → AllRest c l → AllRest c m → AllRest c (l ++ m)
   rest-append [] m r s = s
   rest-append (x ∷ xs) m r s = (r.0, rest-append xs m r.1 s)
 
+  -- numbers that were dealt rest
   rest-deal : (from k : ℕ) → AllRest c (deal from k)
   rest-deal from zero = tt
   rest-deal from (suc k) = ((refl, ((λ m lt. refl), (λ i one three. refl))), rest-deal (suc from) k)
@@ -55,11 +62,16 @@ module _ (c : Config) where
     levels = λ i one three. idle_level i three ∙ sym (e.1 i one three);
   }
 
-  still-own : (number : ℕ) (begins : Option Op) (kept : Seat) (flags : List Bool) (x : Numbered) (xs : SeatItems) → OwnTies number c begins kept flags x xs → kept.phase ≡ None → Empty c x.view → IsStill c x.view
-  still-own number begins kept flags x xs t idle e = let may : PhaseOk c begins None x = subst (λ o. PhaseOk c begins o x) idle t.may in (may.1, e)
+  -- the own view of a task that rests is still
+  still-own : (number : ℕ) (begins : Option Op) (kept : Seat) (flags : List Bool) (x : Numbered) (xs : SeatItems) →
+      OwnTies number c begins kept flags x xs → kept.phase ≡ None → Empty c x.view → IsStill c x.view
+  still-own number begins kept flags x xs t idle e = let may : PhaseOk c begins None x = subst (λ o. PhaseOk c begins o x) idle t.may in
+      (may.1, e)
 
 module _ (number : ℕ) (c : Config) (begins : Option Op) (kept : Seat) (flags : List Bool) where
-  pub split_self : (l : SeatItems) (n : ℕ) → Ties number c begins kept flags l → n < length flags → Ties number c begins kept (set flags n false) (kept_of n l)
+  -- the giver is tied without the number
+  pub split_self : (l : SeatItems) (n : ℕ) → Ties number c begins kept flags l → n < length flags →
+      Ties number c begins kept (set flags n false) (kept_of n l)
   split_self [] n t lt = absurd t
   split_self (x ∷ xs) n t lt = record {
     within = t.within;
@@ -80,7 +92,9 @@ module _ (number : ℕ) (c : Config) (begins : Option Op) (kept : Seat) (flags :
         ));
   }
 
-  pub split_new : (l : SeatItems) (n : ℕ) (none : List Bool) (idle : Seat) → Ties number c begins kept flags l → IsSet flags n → n < 64 → ((k : ℕ) → get_or none k false ≡ false) → idle ≡ idle_seat →
+  -- the new task is tied to the number that it was given
+  pub split_new : (l : SeatItems) (n : ℕ) (none : List Bool) (idle : Seat) → Ties number c begins kept flags l → IsSet flags n → n < 64 →
+      ((k : ℕ) → get_or none k false ≡ false) → idle ≡ idle_seat →
       Ties n c None idle none (given_of n l)
   split_new [] n none idle t on lt off still = absurd t
   split_new (x ∷ xs) n none idle t on lt off still =
@@ -97,6 +111,7 @@ module _ (number : ℕ) (c : Config) (begins : Option Op) (kept : Seat) (flags :
         marks = λ k. ((λ s. false_true (sym (off k) ∙ s)), (λ h. absurd (omega arith)));
       })
 
+  -- a number is below 64
   pub below : (l : SeatItems) → Ties number c begins kept flags l → number < 64
   below [] t = absurd t
   below (x ∷ xs) t = t.below
@@ -115,16 +130,22 @@ module _ (number : ℕ) (c : Config) (begins : Option Op) (kept : Seat) (flags :
   all_rest (x ∷ xs) t idle e = (still-own c number begins kept flags x xs t idle e, t.rest)
 
   -- all numbers are there just where each other number is marked
-  pub all_marked : (l : SeatItems) → Ties number c begins kept flags l → ((k : ℕ) → k < c.tasks → (k ≡ number) ⊎ IsSet flags k) ↔ ((n : ℕ) → n < c.tasks → 1 ≤ times n l)
+  pub all_marked : (l : SeatItems) → Ties number c begins kept flags l →
+      ((k : ℕ) → k < c.tasks → (k ≡ number) ⊎ IsSet flags k) ↔ ((n : ℕ) → n < c.tasks → 1 ≤ times n l)
   all_marked [] t = absurd t
   all_marked (x ∷ xs) t = (
-    (λ h n lt. ⊎_elim (λ e. let here : one_if (eqb x.number n) ≡ 1 = ap (λ z. one_if (eqb z n)) (t.same_number ∙ sym e) ∙ one_if-same n in omega arith) (λ s. let m = (t.marks n).0 s in omega arith) (h n lt)),
-    (λ h k lt. dite (ℕ_discrete k number) (λ e. inl e) (λ ne. let other : one_if (eqb x.number k) ≡ 0 = one_if-other x.number k (λ e. ne (sym e ∙ t.same_number)) in let m = h k lt in inr ((t.marks k).1 (omega arith)))),
+    (λ h n lt. ⊎_elim (λ e. let here : one_if (eqb x.number n) ≡ 1 = ap (λ z. one_if (eqb z n)) (t.same_number ∙ sym e) ∙ one_if-same n in
+        omega arith) (λ s. let m = (t.marks n).0 s in omega arith) (h n lt)),
+    (λ h k lt. dite (ℕ_discrete k number) (λ e. inl e) (λ ne. let other : one_if (eqb x.number k) ≡ 0 =
+        one_if-other x.number k (λ e. ne (sym e ∙ t.same_number)) in let m = h k lt in inr ((t.marks k).1 (omega arith)))),
   )
 
   module _ (number' : ℕ) (begins' : Option Op) (kept' : Seat) (flags' all : List Bool) where
-    pub join_self : (l m : SeatItems) → Ties number c begins kept flags l → Ties number' c begins' kept' flags' m → kept'.phase ≡ None → Empty c (own_view m) →
-        ((k : ℕ) → IsSet all k ↔ (IsSet flags k ⊎ IsSet flags' k)) → number' < length all → Ties number c begins kept (set all number' true) (l ++ m)
+    -- a task is tied to its numbers and those that it took back
+    pub join_self : (l m : SeatItems) → Ties number c begins kept flags l → Ties number' c begins' kept' flags' m → kept'.phase ≡ None →
+        Empty c (own_view m) →
+        ((k : ℕ) → IsSet all k ↔ (IsSet flags k ⊎ IsSet flags' k)) → number' < length all →
+        Ties number c begins kept (set all number' true) (l ++ m)
     join_self [] m p q idle none both lt = absurd p
     join_self (x ∷ xs) [] p q idle none both lt = absurd q
     join_self (x ∷ xs) (y ∷ ys) p q idle none both lt = record {
@@ -142,26 +163,31 @@ module _ (number : ℕ) (c : Config) (begins : Option Op) (kept : Seat) (flags :
           ))
           (λ ne. let same = get_or-set_other all number' k true false ne in
           let other : one_if (eqb y.number k) ≡ 0 = one_if-other y.number k (λ e. ne (sym e ∙ q.same_number)) in (
-            (λ s. ⊎_elim (λ f. let h = (p.marks k).0 f in omega arith) (λ f. let h = (q.marks k).0 f in omega arith) ((both k).0 (sym same ∙ s))),
-            (λ h. same ∙ (both k).1 (dite (ℕ_discrete (times k xs) 0) (λ z. inr ((q.marks k).1 (omega arith))) (λ nz. inl ((p.marks k).1 (omega arith))))),
+            (λ s. ⊎_elim (λ f. let h = (p.marks k).0 f in omega arith) (λ f. let h = (q.marks k).0 f in omega arith)
+                ((both k).0 (sym same ∙ s))),
+            (λ h. same ∙ (both k).1 (dite (ℕ_discrete (times k xs) 0) (λ z. inr ((q.marks k).1 (omega arith)))
+                (λ nz. inl ((p.marks k).1 (omega arith))))),
           ));
     }
 
 -- the first task has all other numbers to give
-pub first_ties : (c : Config) (idle : Seat) (n : ℕ) (flags : List Bool) → IsWithin c → idle ≡ idle_seat → 1 ≤ n → n ≤ 64 → ((k : ℕ) → IsSet flags k ↔ ((0 < k) × (k < n))) → Ties 0 c None idle flags (deal 0 n)
+pub first_ties : (c : Config) (idle : Seat) (n : ℕ) (flags : List Bool) → IsWithin c → idle ≡ idle_seat → 1 ≤ n → n ≤ 64 →
+    ((k : ℕ) → IsSet flags k ↔ ((0 < k) × (k < n))) → Ties 0 c None idle flags (deal 0 n)
 first_ties c idle zero flags within still some_there few set_are = absurd (omega arith)
-first_ties c idle (suc n) flags within still some_there few set_are = subst (λ (s : Seat). Ties 0 c None s flags (deal 0 (suc n))) (sym still) (record {
-  within = within;
-  same_number = refl;
-  below = omega arith;
-  may = (refl, refl);
-  fits = tt;
-  keeps = idle_keeps c opening_view ((λ m lt. refl), (λ i one three. refl)) within.mounts;
-  rest = rest-deal c 1 n;
-  marks = λ k. (
-    (λ s. let p = (set_are k).0 s in let a = p.0 in let b = p.1 in let t = times-deal k 1 n (omega arith) (omega arith) in omega arith),
-    (λ h. dite (dec_lt 0 k)
-        (λ lt. dite (dec_lt k (suc n)) (λ lt'. (set_are k).1 (lt, lt')) (λ ge. let t = times-deal_above k 1 n (omega arith) in absurd (omega arith)))
-        (λ ge. let t = times-deal_below k 1 n (omega arith) in absurd (omega arith))),
-  );
-})
+first_ties c idle (suc n) flags within still some_there few set_are = subst (λ (s : Seat). Ties 0 c None s flags (deal 0 (suc n)))
+    (sym still) (record {
+      within = within;
+      same_number = refl;
+      below = omega arith;
+      may = (refl, refl);
+      fits = tt;
+      keeps = idle_keeps c opening_view ((λ m lt. refl), (λ i one three. refl)) within.mounts;
+      rest = rest-deal c 1 n;
+      marks = λ k. (
+        (λ s. let p = (set_are k).0 s in let a = p.0 in let b = p.1 in let t = times-deal k 1 n (omega arith) (omega arith) in omega arith),
+        (λ h. dite (dec_lt 0 k)
+            (λ lt. dite (dec_lt k (suc n)) (λ lt'. (set_are k).1 (lt, lt'))
+            (λ ge. let t = times-deal_above k 1 n (omega arith) in absurd (omega arith)))
+            (λ ge. let t = times-deal_below k 1 n (omega arith) in absurd (omega arith))),
+      );
+    })

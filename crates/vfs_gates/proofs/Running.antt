@@ -36,21 +36,27 @@ entered_items begins None l = l
 entered_items begins (Some p) [] = []
 entered_items begins (Some p) (x ∷ xs) = numbered x.number (entered x.view begins p) ∷ xs
 
+-- nothing begins where no operation has just begun
 not_entered : (o : Option Phase) (l : SeatItems) → entered_items None o l ≡ l
 not_entered None l = refl
 not_entered (Some p) [] = refl
 not_entered (Some p) (x ∷ xs) = refl
 
-after_entered : (begins : Option Op) (p : Phase) (h : HookAnswer) (found : ℕ) (l : SeatItems) → items_after None p h found (entered_items begins (Some p) l) ≡ items_after begins p h found l
+-- an event that begins an operation is one of the numbers that have begun it
+after_entered : (begins : Option Op) (p : Phase) (h : HookAnswer) (found : ℕ) (l : SeatItems) →
+    items_after None p h found (entered_items begins (Some p) l) ≡ items_after begins p h found l
 after_entered begins p h found [] = refl
 after_entered begins p h found (x ∷ xs) = refl
 
+-- the event of the phase that stands comes next
 next_is : (s : Next Phase) (p : Phase) (e : Traced) → phase_after s ≡ Some p → IsEventOf p e → IsNext s e
 next_is (Go q) p e is h = subst (λ r. IsEventOf r e) (let f : p ≡ q = cc in f) h
 next_is (Wait q) p e is h = subst (λ r. IsEventOf r e) (let f : p ≡ q = cc in f) h
 next_is (Done a) p e is h = absurd (let f : ⊥ = cc in f)
 
-move_is : (c : Config) (op : Op) (items : SeatItems) (earlier : List Traced) (e : Traced) (s : Next Phase) (p : Phase) → phase_after s ≡ Some p → IsMoveOf c op items earlier e p → IsNextMove c op items earlier e s
+-- and so does its move
+move_is : (c : Config) (op : Op) (items : SeatItems) (earlier : List Traced) (e : Traced) (s : Next Phase) (p : Phase) → phase_after s ≡
+    Some p → IsMoveOf c op items earlier e p → IsNextMove c op items earlier e s
 move_is c op items earlier e (Go q) p is h = subst (IsMoveOf c op items earlier e) (let f : p ≡ q = cc in f) h
 move_is c op items earlier e (Wait q) p is h = subst (IsMoveOf c op items earlier e) (let f : p ≡ q = cc in f) h
 move_is c op items earlier e (Done a) p is h = absurd (let f : ⊥ = cc in f)
@@ -69,20 +75,25 @@ completed_is (Go q) p earlier e is = ap (λ r. completes r earlier e.event.found
 completed_is (Wait q) p earlier e is = ap (λ r. completes r earlier e.event.found) (let f : q ≡ p = cc in f)
 completed_is (Done a) p earlier e is = absurd (let f : ⊥ = cc in f)
 
-course_is : (s : Next Phase) (p : Phase) (added : List Action) (e : Traced) → phase_after s ≡ Some p → course_after s added e ≡ course_with added (after_of p e.event.found e.hook)
+-- the course after it
+course_is : (s : Next Phase) (p : Phase) (added : List Action) (e : Traced) → phase_after s ≡ Some p → course_after s added e ≡
+    course_with added (after_of p e.event.found e.hook)
 course_is (Go q) p added e is = ap (λ r. course_with added (after_of r e.event.found e.hook)) (let f : q ≡ p = cc in f)
 course_is (Wait q) p added e is = ap (λ r. course_with added (after_of r e.event.found e.hook)) (let f : q ≡ p = cc in f)
 course_is (Done a) p added e is = absurd (let f : ⊥ = cc in f)
 
+-- its action goes before all earlier ones
 actions_append : (a : Option Action) (l m : List Action) → actions_after a (l ++ m) ≡ actions_after a l ++ m
 actions_append None l m = refl
 actions_append (Some a) l m = refl
 
+-- a step that ended has an answer
 done_is : (x : Next Phase) (a : Result Reply GateError) → progress_of x ≡ Ended a → x ≡ Done a
 done_is (Go q) a e = absurd (let f : ⊥ = cc in f)
 done_is (Wait q) a e = absurd (let f : ⊥ = cc in f)
 done_is (Done b) a e = ap (λ r. Done r) (let f : b ≡ a = cc in f)
 
+-- and one that did not has a phase
 goes_on : (x : Next Phase) → ((a : Result Reply GateError) → progress_of x ≡ Ended a → ⊥) → (q : Phase) × (phase_after x ≡ Some q)
 goes_on (Go q) not = (q, refl)
 goes_on (Wait q) not = (q, refl)
@@ -97,33 +108,57 @@ abbrev pub events_left : TaskState → ℕ
 events_left now = most_events_of_all + 1 - steps_of now
 
 -- why an operation can't begin, said of the answer of a beginning
-refused_as : (e : GateError) (o : Option GateError) {A : Type 0} (r : GateError) → Err e ≡ unless_refused o → o ≡ Some r → ◌≡◌ {A = Result A GateError} (Err e) (Err r)
-refused_as e o r is at = let same : ◌≡◌ {A = Result (Unit {0}) GateError} (Err e) (Err r) = is ∙ ap unless_refused at in let f : e ≡ r = cc in ap (λ x. Err x) f
+refused_as : (e : GateError) (o : Option GateError) {A : Type 0} (r : GateError) → Err e ≡ unless_refused o → o ≡ Some r →
+    ◌≡◌ {A = Result A GateError} (Err e) (Err r)
+refused_as e o r is at =
+    let both : ◌≡◌ {A = Result (Unit {0}) GateError} (Err e) (Err r) = is ∙ ap unless_refused at in
+    let same : e ≡ r = cc in
+    ap (λ x. Err x) same
 
+-- a refused beginning has a refusal
 refused_none : (e : GateError) (o : Option GateError) → Err e ≡ unless_refused o → o ≡ None → ⊥
-refused_none e o is at = let f : ◌≡◌ {A = Result (Unit {0}) GateError} (Err e) (Ok tt) = is ∙ ap unless_refused at in let g : ⊥ = cc in g
+refused_none e o is at =
+    let both : ◌≡◌ {A = Result (Unit {0}) GateError} (Err e) (Ok tt) = is ∙ ap unless_refused at in
+    let no : ⊥ = cc in
+    no
 
+-- an admitted one has none
 admitted_some : (o : Option GateError) (r : GateError) → Ok tt ≡ unless_refused o → o ≡ Some r → ⊥
-admitted_some o r is at = let f : ◌≡◌ {A = Result (Unit {0}) GateError} (Ok tt) (Err r) = is ∙ ap unless_refused at in let g : ⊥ = cc in g
+admitted_some o r is at =
+    let both : ◌≡◌ {A = Result (Unit {0}) GateError} (Ok tt) (Err r) = is ∙ ap unless_refused at in
+    let no : ⊥ = cc in
+    no
 
-begun_items : (c : Config) (op : Op) (l : SeatItems) → entered_items (Some op) (Some (first_phase c (own_number l) op)) l ≡ ran_items c op [] l
+-- the numbers of an operation that has just begun
+begun_items : (c : Config) (op : Op) (l : SeatItems) → entered_items (Some op) (Some (first_phase c (own_number l) op)) l ≡
+    ran_items c op [] l
 begun_items c op [] = refl
 begun_items c op (x ∷ xs) = refl
 
+-- the numbers of an operation after these events
 entered_at : (c : Config) (op : Op) (trace : List Traced) (l : SeatItems) →
-    entered_items (begins_at op trace) (phase_after (course_of c (own_number l) op trace).comes) (items_at c op trace l) ≡ ran_items c op trace l
+    entered_items (begins_at op trace) (phase_after (course_of c (own_number l) op trace).comes) (items_at c op trace l) ≡
+    ran_items c op trace l
 entered_at c op [] l = begun_items c op l
-entered_at c op (e ∷ earlier) l = not_entered (phase_after (course_of c (own_number l) op (e ∷ earlier)).comes) (ran_items c op (e ∷ earlier) l)
+entered_at c op (e ∷ earlier) l = not_entered (phase_after (course_of c (own_number l) op (e ∷ earlier)).comes)
+    (ran_items c op (e ∷ earlier) l)
 
-ran_so_far : (op : Op) (start now : TaskState) (goes : Goes op start now) → entered_items now.begins now.phase now.items ≡ ran_items start.config op goes.trace start.items
+-- and of one under way
+ran_so_far : (op : Op) (start now : TaskState) (goes : Goes op start now) → entered_items now.begins now.phase now.items ≡
+    ran_items start.config op goes.trace start.items
 ran_so_far op start now goes =
     let same : entered_items now.begins now.phase now.items ≡
-    entered_items (begins_at op goes.trace) (phase_after (course_of start.config (own_number start.items) op goes.trace).comes) (items_at start.config op goes.trace start.items) =
+    entered_items (begins_at op goes.trace) (phase_after (course_of start.config (own_number start.items) op goes.trace).comes)
+    (items_at start.config op goes.trace start.items) =
     λ i. entered_items (goes.begins i) (goes.phase i) (goes.items i) in
     same ∙ entered_at start.config op goes.trace start.items
 
 -- as it begins
-pub starts : (op : Op) (start now : TaskState) → now ≡ record start { begins = Some op; phase = Some (first_phase start.config (own_number start.items) op) } → Goes op start now
+pub starts : (op : Op) (start now : TaskState) → now ≡ record start {
+  begins = Some op;
+  phase =
+      Some (first_phase start.config (own_number start.items) op);
+} → Goes op start now
 starts op start now is = subst (Goes op start) (sym is) (record {
   trace = [];
   table = refl;
@@ -139,36 +174,47 @@ starts op start now is = subst (Goes op start) (sym is) (record {
 -- one step of it, where a hook of the file system answers this
 module _ (op : Op) (start now left : TaskState) (step : Step) (h : HookAnswer) (goes : Goes op start now)
     (after_step : (p : Phase) → now.phase ≡ Some p → Stepped p h now step left) where
+  -- the configuration
   abbrev c : Config
   c = start.config
 
+  -- the own number
   abbrev n : ℕ
   n = own_number start.items
 
+  -- the phase that stands
   abbrev p : Phase
   p = goes.going.0
 
+  -- its event
   did : Stepped p h now step left
   did = after_step p goes.going.1
 
+  -- what the event found
   abbrev found : ℕ
   found = did.found
 
+  -- what comes after it, and its action
   abbrev after : Next Phase × Option Action
   after = after_of p (found_by (next_of p h).1 found) h
 
+  -- the event with the hook
   abbrev e : Traced
   e = with_hook (event_of (next_of p h).0 (next_of p h).1 found) h
 
+  -- the trace with it
   abbrev trace : List Traced
   trace = e ∷ goes.trace
 
+  -- the phase is the one that comes next
   stands_there : phase_after (course_of c n op goes.trace).comes ≡ Some p
   stands_there = sym goes.phase ∙ goes.going.1
 
+  -- the trace is one of the operation
   follows_after : IsTrace c n op trace
   follows_after = (next_is (course_of c n op goes.trace).comes p e stands_there (found, refl), goes.follows)
 
+  -- the course after the event
   course_here : course_of c n op trace ≡ course_with (course_of c n op goes.trace).added after
   course_here = course_is (course_of c n op goes.trace).comes p (course_of c n op goes.trace).added e stands_there
 
@@ -176,18 +222,21 @@ module _ (op : Op) (start now left : TaskState) (step : Step) (h : HookAnswer) (
   completes_here : completed_by (course_of c n op goes.trace).comes goes.trace e ≡ completes p goes.trace (found_by (next_of p h).1 found)
   completes_here = completed_is (course_of c n op goes.trace).comes p goes.trace e stands_there
 
+  -- a view after it
   ran_more : (others : List (ℕ × ℕ)) (x : View) →
       view_after_beside others (ran_view c n op others goes.trace x) p found h ≡ ran_view c n op others trace x
   ran_more others x = λ i. record {
     op = Some op;
     phase = phase_after (sym course_here i).comes;
-    actions = (actions_append after.1 (course_of c n op goes.trace).added x.actions ∙ ap (λ (o : Course). o.added ++ x.actions) (sym course_here)) i;
+    actions = (actions_append after.1 (course_of c n op goes.trace).added x.actions ∙
+        ap (λ (o : Course). o.added ++ x.actions) (sym course_here)) i;
     events = events_onto trace x.events;
     trace = trace;
     snapshot = last_snapshot (sym completes_here i) ((course_of c n op goes.trace).added ++ x.actions) others
         (ran_snapshot c n op others goes.trace x);
   }
 
+  -- all numbers after it
   ran_all : (l : SeatItems) → own_number l ≡ n → items_after None p h found (ran_items c op goes.trace l) ≡ ran_items c op trace l
   ran_all [] same = refl
   ran_all (x ∷ xs) same =
@@ -196,9 +245,11 @@ module _ (op : Op) (start now left : TaskState) (step : Step) (h : HookAnswer) (
       subst (λ (k : ℕ). items_after None p h found (numbered x.number (before k) ∷ xs) ≡ numbered x.number (then k) ∷ xs) (sym same)
       (ap (λ (v : View). numbered x.number v ∷ xs) (ran_more (done_by xs) x.view))
 
+  -- the phase that is left
   phase_then : left.phase ≡ phase_after (course_of c n op trace).comes
   phase_then = ap (λ (s : TaskState). s.phase) did.new ∙ ap (λ (o : Course). phase_after o.comes) (sym course_here)
 
+  -- the numbers that are left
   items_then : left.items ≡ ran_items c op trace start.items
   items_then =
       ap (λ (s : TaskState). s.items) did.new ∙
@@ -206,22 +257,28 @@ module _ (op : Op) (start now left : TaskState) (step : Step) (h : HookAnswer) (
       (ap (λ (o : Option Phase). items_after None p h found (entered_items now.begins o now.items)) (sym goes.going.1) ∙
       (ap (items_after None p h found) (ran_so_far op start now goes) ∙ ran_all start.items refl)))
 
+  -- how the operation stands
   progress_then : step.progress ≡ progress_of after.0
   progress_then = ap (λ (s : Step). s.progress) did.step
 
+  -- the table is the same
   table_then : left.table ≡ start.table
   table_then = ap (λ (s : TaskState). s.table) did.new ∙ goes.table
 
+  -- and so is the configuration
   config_then : left.config ≡ c
   config_then = ap (λ (s : TaskState). s.config) did.new ∙ goes.config
 
+  -- nothing has just begun
   begins_then : left.begins ≡ None
   begins_then = ap (λ (s : TaskState). s.begins) did.new
 
+  -- each event was a move
   moves_then : AreMoves c op start.items trace
   moves_then =
       let P : Config × Option Op × SeatItems → Type 0 = λ z. IsMove z.0 z.1 p h z.2 found in
-      let moved : IsMove c (begins_at op goes.trace) p h (items_at c op goes.trace start.items) found = subst P (λ j. (goes.config j, goes.begins j, goes.items j)) did.moves in
+      let moved : IsMove c (begins_at op goes.trace) p h (items_at c op goes.trace start.items) found =
+      subst P (λ j. (goes.config j, goes.begins j, goes.items j)) did.moves in
       (move_is c op start.items goes.trace e (course_of c n op goes.trace).comes p stands_there (found, refl, moved), goes.moves)
 
   -- what it leaves has one history
@@ -269,10 +326,13 @@ module _ (op : Op) (start now left : TaskState) (step : Step) (h : HookAnswer) (
       }
 
   -- and its trace has one event more
-  grown : (begins : Option Op) (o : Option Phase) (l : SeatItems) → o ≡ Some p → IsMove now.config begins p h l found → length (own_view (items_after begins p h found l)).trace ≡ length (own_view (entered_items begins o l)).trace + 1
+  grown : (begins : Option Op) (o : Option Phase) (l : SeatItems) → o ≡ Some p → IsMove now.config begins p h l found →
+      length (own_view (items_after begins p h found l)).trace ≡ length (own_view (entered_items begins o l)).trace + 1
   grown begins o [] is moves = absurd moves
-  grown begins o (x ∷ xs) is moves = subst (λ q. length (own_view (items_after begins p h found (x ∷ xs))).trace ≡ length (own_view (entered_items begins q (x ∷ xs))).trace + 1) (sym is) (omega arith)
+  grown begins o (x ∷ xs) is moves = subst (λ q. length (own_view (items_after begins p h found (x ∷ xs))).trace ≡
+      length (own_view (entered_items begins q (x ∷ xs))).trace + 1) (sym is) (omega arith)
 
+  -- so it has had one event more
   one_more : steps_of left ≡ steps_of now + 1
   one_more =
       ap (λ b. length (own_view (entered_items b left.phase left.items)).trace) begins_then ∙
@@ -284,6 +344,7 @@ few : (most : Option ℕ) (trace : List Traced) → IsBounded most → IsShort m
 few None trace bounded short small = absurd bounded
 few (Some most) trace bounded short small = omega (arith, short, small)
 
+-- the own view's trace is the operation's
 own_trace : (c : Config) (op : Op) (trace : List Traced) (l : SeatItems) → length (own_view (ran_items c op trace l)).trace ≤ length trace
 own_trace c op trace [] = omega arith
 own_trace c op trace (x ∷ xs) = omega arith
@@ -294,7 +355,8 @@ pub few_steps : (op : Op) (start now : TaskState) → IsWithin start.config → 
 few_steps op start now within tries goes =
     let c : Config = start.config in
     let keeps = op_keeps c op in
-    let short = few (most_events c op) goes.trace tries (keeps.short within (own_number start.items) goes.trace goes.follows) (keeps.most_small within) in
+    let short = few (most_events c op) goes.trace tries (keeps.short within (own_number start.items) goes.trace goes.follows)
+    (keeps.most_small within) in
     let own = own_trace c op goes.trace start.items in
     let same = ap (λ l. length (own_view l).trace) (ran_so_far op start now goes) in
     omega (arith, short, own, same)
@@ -311,7 +373,8 @@ went_on op start now left step hook goes after_step within (Done a) is = ends_th
 
 -- fewer events are left after each
 pub falls : (op : Op) (start now left : TaskState) (step : Step) (hook : HookAnswer) (goes : Goes op start now)
-    (after_step : (p : Phase) → now.phase ≡ Some p → Stepped p hook now step left) → IsWithin start.config → IsBounded (most_events start.config op) →
+    (after_step : (p : Phase) → now.phase ≡ Some p → Stepped p hook now step left) → IsWithin start.config →
+    IsBounded (most_events start.config op) →
     ((a : Result Reply GateError) → step.progress ≡ Ended a → ⊥) → events_left left < events_left now
 falls op start now left step hook goes after_step within tries not =
     let few = few_steps op start left within tries (goes_further op start now left step hook goes after_step not) in
@@ -319,7 +382,8 @@ falls op start now left step hook goes after_step within tries not =
     omega arith
 
 -- a beginning that is refused
-pub was_refused : {A : Type 0} (read : Reply → A) (op : Op) (old left : TaskState) (e : GateError) → Err e ≡ unless_refused (refusal_at op old) → left ≡ old →
+pub was_refused : {A : Type 0} (read : Reply → A) (op : Op) (old left : TaskState) (e : GateError) → Err e ≡
+    unless_refused (refusal_at op old) → left ≡ old →
     Replies read op old left (Err e)
 was_refused {A} read op old left e is same = record {
   table = ap (λ (s : TaskState). s.table) same;
@@ -329,8 +393,10 @@ was_refused {A} read op old left e is same = record {
 }
 
 -- and one that isn't
-pub was_done : {A : Type 0} (read : Reply → A) (op : Op) (old left : TaskState) (answer : Result Reply GateError) (outcome : Result A GateError) →
-    outcome ≡ told_as read answer → Ok tt ≡ unless_refused (refusal_at op old) → Called op old left answer → Replies read op old left outcome
+pub was_done : {A : Type 0} (read : Reply → A) (op : Op) (old left : TaskState) (answer : Result Reply GateError)
+    (outcome : Result A GateError) →
+    outcome ≡ told_as read answer → Ok tt ≡ unless_refused (refusal_at op old) → Called op old left answer →
+    Replies read op old left outcome
 was_done read op old left answer outcome told is called = record {
   table = ap (λ (s : TaskState). s.table) called.after;
   config = ap (λ (s : TaskState). s.config) called.after;
@@ -344,12 +410,14 @@ told_whole (Ok reply) = refl
 told_whole (Err refusal) = refl
 
 -- what is told of an answer that was told whole
-told_twice : {A : Type 0} (read : Reply → A) (answer : Result Reply GateError) → told_as read (told_as the_reply answer) ≡ told_as read answer
+told_twice : {A : Type 0} (read : Reply → A) (answer : Result Reply GateError) → told_as read (told_as the_reply answer) ≡
+    told_as read answer
 told_twice read (Ok reply) = refl
 told_twice read (Err refusal) = refl
 
 -- a call that tells of another's answer what it reads of replies
-pub was_told : {A : Type 0} (read : Reply → A) (op : Op) (old left : TaskState) (answer : Result Reply GateError) (outcome : Result A GateError) →
+pub was_told : {A : Type 0} (read : Reply → A) (op : Op) (old left : TaskState) (answer : Result Reply GateError)
+    (outcome : Result A GateError) →
     Replies the_reply op old left answer → outcome ≡ told_as read answer → Replies read op old left outcome
 was_told read op old left answer outcome replies told = record {
   table = replies.table;

@@ -13,4 +13,5 @@ use Rattle.gate_steps.specs.Seating.{SeatItems, HaveHistory}
 pub record IsOfAMoment (c : Config) (number : ℕ) (items : SeatItems) (s : Snapshot) : Type 0 where
   pub all : HaveHistory c items
   pub moment : WasFrozenWith c.nodes (tree_loaded s.loaded) ((number, s.done) ∷ s.others) all.history.log
-  pub tells : MomentTells (model_limits c) (tree_loaded s.loaded) ((number, s.done) ∷ s.others) (λ t. (all.world.views t).actions) moment.earlier
+  pub tells : MomentTells (model_limits c) (tree_loaded s.loaded) ((number, s.done) ∷ s.others) (λ t. (all.world.views t).actions)
+      moment.earlier

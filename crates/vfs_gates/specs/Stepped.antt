@@ -29,7 +29,8 @@ state_after old phase hook found = record old {
 }
 
 -- the step is the one that the phase has in the world of this event
-abbrev pub ToldIn : (c : Config) (begins : Option Op) (phase : Phase) (hook : HookAnswer) (found : ℕ) (items : SeatItems) → IsMove c begins phase hook items found → Step → Type 0
+abbrev pub ToldIn : (c : Config) (begins : Option Op) (phase : Phase) (hook : HookAnswer) (found : ℕ) (items : SeatItems) →
+    IsMove c begins phase hook items found → Step → Type 0
 ToldIn c begins phase hook found [] move step = ⊥
 ToldIn c begins phase hook found (x ∷ xs) move step = step ≡ phase_step move.world hook (Some phase)
 

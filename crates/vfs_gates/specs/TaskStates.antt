@@ -21,6 +21,7 @@ pub record TaskState : Type 0 where
   pub phase : Option Phase
   pub items : SeatItems
 
+-- of these parts
 abbrev pub task_state : TableId → Config → Option Op → Option Phase → SeatItems → TaskState
 task_state t c b p l = record { table = t; config = c; begins = b; phase = p; items = l }
 
@@ -28,11 +29,12 @@ task_state t c b p l = record { table = t; config = c; begins = b; phase = p; it
 abbrev pub IsFrom : TaskState → Gates → Type 0
 IsFrom s g = (s.table ≡ g.table.shared.table_id) × (s.config ≡ g.config)
 
--- its own number, and its view
+-- its own number
 abbrev pub own_number : SeatItems → ℕ
 own_number [] = 0
 own_number (x ∷ xs) = x.number
 
+-- and its view
 abbrev pub own_view : SeatItems → View
 own_view [] = opening_view
 own_view (x ∷ xs) = x.view
@@ -50,12 +52,14 @@ IsIdle s = s.phase ≡ None
 abbrev pub Empty : Config → View → Type 0
 Empty c v = ((m : ℕ) → m < c.mounts → held_at v m ≡ 0) × ((i : ℕ) → 1 ≤ i → i ≤ 3 → holds_level v i ≡ false)
 
+-- its own number holds nothing
 abbrev pub HoldsNothing : TaskState → Type 0
 HoldsNothing s = Empty s.config (own_view s.items)
 
 -- no access at so many mounts, nor at a level
 abbrev pub IsNothing : Accesses → ℕ → Type 0
-IsNothing a mounts = ((m : ℕ) → m < mounts → slice_index a.mounts m ≡ 0) × ((i : ℕ) → 1 ≤ i → i ≤ 3 → slice_index_or a.levels i false ≡ false)
+IsNothing a mounts = ((m : ℕ) → m < mounts → slice_index a.mounts m ≡ 0) ×
+    ((i : ℕ) → 1 ≤ i → i ≤ 3 → slice_index_or a.levels i false ≡ false)
 
 -- why the operation can't begin, the first reason in the stated order
 abbrev pub refusal_at : Op → TaskState → Option GateError

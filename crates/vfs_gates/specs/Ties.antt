@@ -29,7 +29,8 @@ AllRest c (x ∷ xs) = IsStill c x.view × AllRest c xs
 
 -- the flags mark just the numbers that stand here
 abbrev pub Marks : List Bool → SeatItems → Type 0
-Marks flags items = (n : ℕ) → (slice_index_or flags n false ≡ true → 1 ≤ times n items) × (1 ≤ times n items → slice_index_or flags n false ≡ true)
+Marks flags items = (n : ℕ) → (slice_index_or flags n false ≡ true → 1 ≤ times n items) ×
+    (1 ≤ times n items → slice_index_or flags n false ≡ true)
 
 -- what is kept of accesses is what the view's actions leave
 pub record Keeps (c : Config) (kept : Seat) (v : View) : Type 0 where
@@ -38,16 +39,18 @@ pub record Keeps (c : Config) (kept : Seat) (v : View) : Type 0 where
   pub mounts : (m : ℕ) → m < c.mounts → mounts_in kept m ≡ held_at v m
   pub levels : (i : ℕ) → 1 ≤ i → i ≤ 3 → levels_in kept i ≡ holds_level v i
 
-pub record OwnTies (number : ℕ) (c : Config) (begins : Option Op) (kept : Seat) (flags : List Bool) (x : Numbered) (xs : SeatItems) : Type 0 where
-  pub within : IsWithin c
-  pub same_number : x.number ≡ number
-  pub below : number < 64
-  pub may : PhaseOk c begins kept.phase x
-  pub fits : Fits c x.number (held_at x.view) (holds_level x.view) kept.phase
-  pub keeps : Keeps c kept x.view
-  pub rest : AllRest c xs
-  pub marks : Marks flags xs
+pub record OwnTies (number : ℕ) (c : Config) (begins : Option Op) (kept : Seat) (flags : List Bool) (x : Numbered) (xs : SeatItems) : Type 0
+  where
+    pub within : IsWithin c
+    pub same_number : x.number ≡ number
+    pub below : number < 64
+    pub may : PhaseOk c begins kept.phase x
+    pub fits : Fits c x.number (held_at x.view) (holds_level x.view) kept.phase
+    pub keeps : Keeps c kept x.view
+    pub rest : AllRest c xs
+    pub marks : Marks flags xs
 
+-- the fields are tied to the numbers of the seat, its own first
 abbrev pub Ties : ℕ → Config → Option Op → Seat → List Bool → SeatItems → Type 0
 Ties number c begins kept flags [] = ⊥
 Ties number c begins kept flags (x ∷ xs) = OwnTies number c begins kept flags x xs

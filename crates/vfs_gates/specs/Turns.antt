@@ -30,7 +30,8 @@ pub record IsTied (c : Config) (begins : Option Op) (phase : Option Phase) (acce
 -- the fields of a task that were what its seat knew are so again
 abbrev pub StayTied : Config → Option Op → Option Phase → Accesses → SeatItems → Option Phase → Accesses → SeatItems → Type 0
 StayTied c begins phase accesses items left accesses_left items_left =
-    (number : ℕ) (flags : List Bool) → Ties number c begins (kept_at phase accesses) flags items → Ties number c None (kept_at left accesses_left) flags items_left
+    (number : ℕ) (flags : List Bool) → Ties number c begins (kept_at phase accesses) flags items →
+    Ties number c None (kept_at left accesses_left) flags items_left
 
 -- the step that an event was
 abbrev pub step_was : Event → Option Action → Next Phase → Step

@@ -40,9 +40,13 @@ fn go_on_at(
     requires tied { IsTied gates.now.config None (phase_after (of_the_want next)) accesses.old seat.old.me.0 }
     ensures table { seat.new.table_id ≡ seat.old.table_id }
     ensures slots { seat.new.me.1 ≡ seat.old.me.1 }
-    ensures tied { StayTied gates.now.config None (phase_after (of_the_want next)) accesses.old seat.old.me.0 (phase_after (of_the_want result)) accesses.new seat.new.me.0 }
-    ensures went { (op : OpType) (start : TaskState) → Went op start (of_the_want next) (task_state seat.old.table_id gates.now.config None (phase_after (of_the_want next)) seat.old.me.0) →
-        Went op start (of_the_want result) (task_state seat.new.table_id gates.now.config None (phase_after (of_the_want result)) seat.new.me.0) }
+    ensures tied { StayTied gates.now.config None (phase_after (of_the_want next)) accesses.old seat.old.me.0
+        (phase_after (of_the_want result)) accesses.new seat.new.me.0 }
+    ensures went { (op : OpType) (start : TaskState) →
+        Went op start (of_the_want next)
+        (task_state seat.old.table_id gates.now.config None (phase_after (of_the_want next)) seat.old.me.0) →
+        Went op start (of_the_want result)
+        (task_state seat.new.table_id gates.now.config None (phase_after (of_the_want result)) seat.new.me.0) }
 {
     let Next::Go(want) = next else {
         return next;
@@ -67,9 +71,12 @@ fn want_in_line(
     requires tied { IsTied gates.now.config begins (Some (Mounts (Wants want))) accesses.old seat.old.me.0 }
     ensures table { seat.new.table_id ≡ seat.old.table_id }
     ensures slots { seat.new.me.1 ≡ seat.old.me.1 }
-    ensures tied { StayTied gates.now.config begins (Some (Mounts (Wants want))) accesses.old seat.old.me.0 (phase_after (of_the_want result)) accesses.new seat.new.me.0 }
-    ensures went { (op : OpType) (start : TaskState) → Goes op start (task_state seat.old.table_id gates.now.config begins (Some (Mounts (Wants want))) seat.old.me.0) →
-        Went op start (of_the_want result) (task_state seat.new.table_id gates.now.config None (phase_after (of_the_want result)) seat.new.me.0) }
+    ensures tied { StayTied gates.now.config begins (Some (Mounts (Wants want))) accesses.old seat.old.me.0
+        (phase_after (of_the_want result)) accesses.new seat.new.me.0 }
+    ensures went { (op : OpType) (start : TaskState) →
+        Goes op start (task_state seat.old.table_id gates.now.config begins (Some (Mounts (Wants want))) seat.old.me.0) →
+        Went op start (of_the_want result)
+        (task_state seat.new.table_id gates.now.config None (phase_after (of_the_want result)) seat.new.me.0) }
 {
     let next = go_on(gates, seat, accesses, begins, want, Ok(()));
     let next = go_on_at(gates, seat, accesses, next, WantStep::LoadsHold);

@@ -30,7 +30,8 @@ impl Model for Closed {
 
     ghost view = { λ c. record { config = c.config; words = slots_items c.closed.words } };
 
-    ghost invariant = { λ c. IsWithin c.config × IsFull c.closed.words × (slots_len c.closed.words ≡ table_length) × (slots_len c.closed.slots ≡ 0) × Ended c.config (slots_items c.closed.words) };
+    ghost invariant = { λ c. IsWithin c.config × IsFull c.closed.words × (slots_len c.closed.words ≡ table_length)
+        × (slots_len c.closed.slots ≡ 0) × Ended c.config (slots_items c.closed.words) };
 }
 
 impl Drop for Closed {
@@ -73,7 +74,9 @@ impl Closed {
     /// The wrapping sum of a gate's count words over all processors (`mnt_get_writers`, `percpu_rwsem`'s readers); None for a gate
     /// that there isn't.
     pub fn gate_sum(&self, gate: Gate) -> Option<u64>
-        ensures there { IsGate self.now.config gate → result ≡ Some (total self.now.config.processors (λ cpu. slice_index self.now.words (16 * place (count_word gate cpu))) % 18446744073709551616) }
+        ensures there { IsGate self.now.config gate →
+            result ≡ Some (total self.now.config.processors (λ cpu. slice_index self.now.words (16 * place (count_word gate cpu)))
+            % 18446744073709551616) }
         ensures not_there { ¬ IsGate self.now.config gate → result ≡ None }
         // Every access at a mount was given back, on whatever processors.
         ensures mounts { (m : ℕ) → gate ≡ Mount m → m < self.now.config.mounts → result ≡ Some 0 }

@@ -31,7 +31,8 @@ impl Gates {
     /// All words as they begin, and the task with number 0, which has all other numbers to give. Invalid where a number of the
     /// configuration is out of its limits; NoMemory where a growth was refused.
     pub fn new(alloc: Global, config: Config) -> Result<(Gates, Task), GateError>
-        ensures made { IfOk result (λ r. (r.0.config ≡ config) × (r.1 ≡ task_state r.0.table.shared.table_id config None None (first_items config))) }
+        ensures made { IfOk result
+            (λ r. (r.0.config ≡ config) × (r.1 ≡ task_state r.0.table.shared.table_id config None None (first_items config))) }
         ensures words { IfOk result (λ r. HasOpeningWords config r.1.items) }
         ensures within { OnOk result (IsWithin config) }
         ensures invalid { ¬ IsWithin config → result ≡ Err Invalid }

@@ -15,7 +15,8 @@ pub(crate) fn none() -> Numbers
 
 /// The lowest number of the set.
 pub(crate) fn lowest(numbers: &Numbers) -> Option<u8>
-    ensures some { IfSome result (λ n. (n < 64) × (slice_index_or numbers.now n false ≡ true) × ((k : ℕ) → k < n → slice_index_or numbers.now k false ≡ false)) }
+    ensures some { IfSome result (λ n. (n < 64) × (slice_index_or numbers.now n false ≡ true)
+        × ((k : ℕ) → k < n → slice_index_or numbers.now k false ≡ false)) }
     ensures none { IfNone result ((k : ℕ) → slice_index_or numbers.now k false ≡ false) }
 {
     for i in 0..64usize {
@@ -28,7 +29,8 @@ pub(crate) fn lowest(numbers: &Numbers) -> Option<u8>
 
 /// Adds all numbers of the other set.
 pub(crate) fn add_all(numbers: &mut Numbers, others: &Numbers)
-    ensures { (k : ℕ) → (slice_index_or numbers.new k false ≡ true) ↔ ((slice_index_or numbers.old k false ≡ true) ⊎ (slice_index_or others.now k false ≡ true)) }
+    ensures { (k : ℕ) → (slice_index_or numbers.new k false ≡ true) ↔
+        ((slice_index_or numbers.old k false ≡ true) ⊎ (slice_index_or others.now k false ≡ true)) }
 {
     for i in 0..64usize {
         if others[i] {

@@ -56,8 +56,10 @@ impl Task {
         requires that { IsFrom other gates.now }
         ensures table { self.new.table ≡ self.old.table }
         ensures config { self.new.config ≡ self.old.config }
-        ensures joined { IfOk result (λ _. IsIdle self.old × HoldsNothing self.old × IsIdle other × HoldsNothing other × (self.new ≡ record self.old { items = self.old.items ++ other.items })) }
-        ensures refused { IfErr result (λ e. (e.0 ≡ Order) × (e.1 ≡ other) × (self.new ≡ self.old) × ¬ (IsIdle self.old × HoldsNothing self.old × IsIdle other × HoldsNothing other)) }
+        ensures joined { IfOk result (λ _. IsIdle self.old × HoldsNothing self.old × IsIdle other × HoldsNothing other
+            × (self.new ≡ record self.old { items = self.old.items ++ other.items })) }
+        ensures refused { IfErr result (λ e. (e.0 ≡ Order) × (e.1 ≡ other) × (self.new ≡ self.old)
+            × ¬ (IsIdle self.old × HoldsNothing self.old × IsIdle other × HoldsNothing other)) }
     {
         if !self.rests() || !other.rests() {
             return Err((GateError::Order, other));

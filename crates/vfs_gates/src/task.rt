@@ -50,7 +50,8 @@ impl Model for Task {
 
     ghost view = { λ t. task_state t.seat.table_id t.config t.begins t.kept.phase t.seat.me.0 };
 
-    ghost invariant = { λ t. Ties t.number t.config t.begins t.kept t.spare t.seat.me.0 × (t.seat.me.1 ≡ []) × HasSnapshotRoom t.config.nodes t.rooms };
+    ghost invariant = { λ t. Ties t.number t.config t.begins t.kept t.spare t.seat.me.0 × (t.seat.me.1 ≡ [])
+        × HasSnapshotRoom t.config.nodes t.rooms };
 }
 
 impl Task {
@@ -121,7 +122,10 @@ impl Task {
         ensures table { self.new.table ≡ self.old.table }
         ensures config { self.new.config ≡ self.old.config }
         ensures answer { result ≡ unless_refused (refusal_at op self.old) }
-        ensures begun { OnOk result (self.new ≡ record self.old { begins = Some op; phase = Some (the_first_phase self.old.config (own_number self.old.items) op) }) }
+        ensures begun { OnOk result (self.new ≡ record self.old {
+          begins = Some op;
+          phase = Some (the_first_phase self.old.config (own_number self.old.items) op);
+        }) }
         ensures refused { OnErr result (self.new ≡ self.old) }
     {
         let phase = self.admit(op)?;

@@ -50,6 +50,7 @@ impl Task {
 
     /// `mnt_want_write`: an access at a mount, taken on a processor. While a change of the mount holds writers off it waits. ReadOnly
     /// where the mount or the superblock is read-only; then the task holds what it held. Order, Invalid and TooMany as `begin`.
+    #[tactic(auto, using(crate::proofs::Running::was_told))]
     pub fn want<R: Wait>(
         &mut self,
         rt: &R,
@@ -70,6 +71,7 @@ impl Task {
 
     /// `mnt_make_readonly`, or its undoing. While another task has `umount` it waits. Busy where writers are counted at the mount.
     /// Order, where the task is inside a level, and Invalid as `begin`.
+    #[tactic(auto, using(crate::proofs::Running::was_told))]
     pub fn change_mount<R: Wait>(
         &mut self,
         rt: &R,

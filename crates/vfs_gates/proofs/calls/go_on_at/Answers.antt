@@ -15,7 +15,8 @@ returns-in_default c = record { table = refl; slots = refl; tied = λ number fla
 
 pub returns-then-ne-clause-tied : goal.returns-then-ne-clause-tied
 returns-then-ne-clause-tied c number flags ties =
-    subst (λ (n : Next Want). Ties number c.args.gates.now.config None (kept_at (phase_after (of_the_want n)) c.args.accesses.now) flags c.args.seat.now.me.0)
+    subst (λ (n : Next Want). Ties number c.args.gates.now.config None (kept_at (phase_after (of_the_want n)) c.args.accesses.now) flags
+    c.args.seat.now.me.0)
     c.in-Go.is ties
 
 pub returns-then-ne-clause-went : goal.returns-then-ne-clause-went
@@ -31,7 +32,8 @@ go_on-requires-clause-tied c =
 pub returns-clause-tied : goal.returns-clause-tied
 returns-clause-tied c number flags ties =
     c.go_on.ensures.tied number flags
-    (subst (λ (n : Next Want). Ties number c.args.gates.now.config None (kept_at (phase_after (of_the_want n)) c.args.accesses.now) flags c.args.seat.now.me.0)
+    (subst (λ (n : Next Want). Ties number c.args.gates.now.config None (kept_at (phase_after (of_the_want n)) c.args.accesses.now) flags
+    c.args.seat.now.me.0)
     c.in-Go.is ties)
 
 pub returns-clause-went : goal.returns-clause-went

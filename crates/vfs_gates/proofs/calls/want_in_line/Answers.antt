@@ -7,13 +7,19 @@ go_on_at-next-requires-clause-tied c = let t = c.requires.tied in
 
 pub go_on_at-next-requires-2-clause-tied : goal.go_on_at-next-requires-2-clause-tied
 go_on_at-next-requires-2-clause-tied c = let t = c.requires.tied in
-    record { number = t.number; flags = t.flags; ties = c.go_on_at-next.ensures.tied t.number t.flags (c.go_on-next.ensures.tied t.number t.flags t.ties) }
+    record {
+      number = t.number;
+      flags = t.flags;
+      ties = c.go_on_at-next.ensures.tied t.number t.flags
+          (c.go_on-next.ensures.tied t.number t.flags t.ties);
+    }
 
 pub go_on_at-next-requires-3-clause-tied : goal.go_on_at-next-requires-3-clause-tied
 go_on_at-next-requires-3-clause-tied c = let t = c.requires.tied in record {
   number = t.number;
   flags = t.flags;
-  ties = c.go_on_at-next-2.ensures.tied t.number t.flags (c.go_on_at-next.ensures.tied t.number t.flags (c.go_on-next.ensures.tied t.number t.flags t.ties));
+  ties = c.go_on_at-next-2.ensures.tied t.number t.flags (c.go_on_at-next.ensures.tied t.number t.flags
+      (c.go_on-next.ensures.tied t.number t.flags t.ties));
 }
 
 pub go_on_at-requires-clause-tied : goal.go_on_at-requires-clause-tied
@@ -22,7 +28,8 @@ go_on_at-requires-clause-tied c = let t = c.requires.tied in record {
   flags = t.flags;
   ties =
       c.go_on_at-next-3.ensures.tied t.number t.flags
-      (c.go_on_at-next-2.ensures.tied t.number t.flags (c.go_on_at-next.ensures.tied t.number t.flags (c.go_on-next.ensures.tied t.number t.flags t.ties)));
+      (c.go_on_at-next-2.ensures.tied t.number t.flags (c.go_on_at-next.ensures.tied t.number t.flags
+      (c.go_on-next.ensures.tied t.number t.flags t.ties)));
 }
 
 pub returns-clause-tied : goal.returns-clause-tied

@@ -4,7 +4,8 @@ use Rattle.vfs_gates.proofs.turns.go_on.Goals as goal
 
 pub returns-clause-went : goal.returns-clause-went
 returns-clause-went g c op start goes =
-    went_so c.args.gates.now.config c.args.gates.now.within op start c.do_event-next.result.event c.do_event-next.result.action (at_phases g.P.UnderWay.as_phase c.do_event-next.result.next) c.args.hook
+    went_so c.args.gates.now.config c.args.gates.now.within op start c.do_event-next.result.event c.do_event-next.result.action
+    (at_phases g.P.UnderWay.as_phase c.do_event-next.result.next) c.args.hook
     goes c.do_event-next.ensures.stepped
 
 pub do_event-next-requires-clause-tied : goal.do_event-next-requires-clause-tied

@@ -7,4 +7,6 @@ use Rattle.vfs_gates.specs.Sums.{count_word}
 use Rattle.vfs_gates.proofs.closed.Closed.gate_sum.Given as goal
 
 abbrev pub invariant-loop-cpu : goal.invariant-loop-cpu
-invariant-loop-cpu l = l.sum ≡ total l.cpu (λ p. slice_index (slots_items l.self-inside.closed.words) (16 * place (count_word l.gate p))) % 18446744073709551616
+invariant-loop-cpu l =
+    l.sum ≡
+    total l.cpu (λ p. slice_index (slots_items l.self-inside.closed.words) (16 * place (count_word l.gate p))) % 18446744073709551616

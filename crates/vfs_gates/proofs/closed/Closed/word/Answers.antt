@@ -9,13 +9,16 @@ use Rattle.vfs_gates.proofs.closed.Closed.word.Goals as goal
 
 pub returns-then-has_word-clause-umount : goal.returns-then-has_word-clause-umount
 returns-then-has_word-clause-umount c is = let w = c.self.inside in let ws = slots_items w.closed.words in
-    ap (λ (v : ℕ). Some v) (c.word_of.ensures ∙ (ap (λ (n : WordName). slice_index ws (16 * place n)) is ∙ umount_free w.config ws c.self.invariant.4))
+    ap (λ (v : ℕ). Some v)
+    (c.word_of.ensures ∙ (ap (λ (n : WordName). slice_index ws (16 * place n)) is ∙ umount_free w.config ws c.self.invariant.4))
 
 pub returns-then-has_word-clause-remount : goal.returns-then-has_word-clause-remount
 returns-then-has_word-clause-remount c is = let w = c.self.inside in let ws = slots_items w.closed.words in
-    ap (λ (v : ℕ). Some v) (c.word_of.ensures ∙ (ap (λ (n : WordName). slice_index ws (16 * place n)) is ∙ no_remount w.config ws c.self.invariant.4))
+    ap (λ (v : ℕ). Some v)
+    (c.word_of.ensures ∙ (ap (λ (n : WordName). slice_index ws (16 * place n)) is ∙ no_remount w.config ws c.self.invariant.4))
 
 pub returns-then-has_word-clause-hold : goal.returns-then-has_word-clause-hold
 returns-then-has_word-clause-hold c m is = let w = c.self.inside in let ws = slots_items w.closed.words in
     let there = subst (λ (n : WordName). IsWord (extents_of w.config) n) is (c.if-has_word.ensures.0 refl) in
-    subst (λ (v : ℕ). v < 2) (sym (c.word_of.ensures ∙ ap (λ (n : WordName). slice_index ws (16 * place n)) is)) (no_hold w.config ws c.self.invariant.4 m there)
+    subst (λ (v : ℕ). v < 2) (sym (c.word_of.ensures ∙ ap (λ (n : WordName). slice_index ws (16 * place n)) is))
+    (no_hold w.config ws c.self.invariant.4 m there)

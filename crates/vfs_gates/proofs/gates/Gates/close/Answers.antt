@@ -8,15 +8,17 @@ use Rattle.vfs_gates.specs.Ties.{AllRest}
 use Rattle.vfs_gates.specs.Ended.{EndedWith}
 use Rattle.vfs_gates.proofs.Closing.{ended}
 use Rattle.vfs_gates.proofs.gates.Gates.close.Goals as goal
+use Rattle.vfs_gates.proofs.gates.Gates.close.Goals.{After-close}
 
 -- what the words and the task's numbers say of each other
-ends : (c : goal.After-close) → EndedWith c.args.self.config (slots_items c.close.result.words) c.args.task.items
+ends : (c : After-close) → EndedWith c.args.self.config (slots_items c.close.result.words) c.args.task.items
 ends c =
     let config = c.args.self.config in
     let seat = c.into_seat.result in
     let has = c.if-not-has_all.ensures.0 refl in
     let all : (n : ℕ) → n < config.tasks → 1 ≤ times n seat.me.0 =
-    λ n lt. subst (λ (l : SeatItems). 1 ≤ times n l) (sym c.into_seat.ensures.items) (has.2 n (subst (λ (k : Config). n < k.tasks) (sym c.requires.1) lt)) in
+    λ n lt. subst (λ (l : SeatItems). 1 ≤ times n l) (sym c.into_seat.ensures.items)
+    (has.2 n (subst (λ (k : Config). n < k.tasks) (sym c.requires.1) lt)) in
     subst (EndedWith config (slots_items c.close.result.words)) c.into_seat.ensures.items
     (ended config seat.me.0 (slots_items c.close.result.words)
     (subst (λ (k : Config). IsClosing k (slots_items c.close.result.words) seat.me.0) c.args.self.key c.close.ensures.closing)
@@ -28,8 +30,8 @@ invariant_of-result c = (
   c.close.ensures.full.0,
   c.close.ensures.counts.0 ∙ c.args.self.words,
   c.close.ensures.counts.1 ∙ c.args.self.no_slots,
-  (ends c).ended,
+  (ends (goal.at.invariant_of-result c).After-close).ended,
 )
 
 pub returns-clause-closed : goal.returns-clause-closed
-returns-clause-closed c = (c.if-not-has_all.ensures.0 refl, refl, ends c)
+returns-clause-closed c = (c.if-not-has_all.ensures.0 refl, refl, ends (goal.at.returns-clause-closed c).After-close)

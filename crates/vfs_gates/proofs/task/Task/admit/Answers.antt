@@ -7,5 +7,6 @@ begin-requires c = let t = c.self.inside in (within t.number t.config t.begins t
 
 pub returns : goal.returns
 returns c =
-    admitted_as c.args.op c.self.inside c.args.self.now c.self.view_is c.self.invariant.0 c.is_some-under_way.result c.is_some-under_way.ensures
+    admitted_as c.args.op c.self.inside c.args.self.now c.self.view_is c.self.invariant.0 c.is_some-under_way.result
+    c.is_some-under_way.ensures
     c.begin.result c.begin.ensures

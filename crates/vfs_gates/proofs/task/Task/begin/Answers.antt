@@ -20,7 +20,8 @@ returns-in_err-phase-clause-refused c = let p = err_from_is_err_and c.from_resid
 -- the call, whose configuration is the task's own
 abbrev call : In_ok-phase → Call
 call c =
-    admitted_call c.args.op c.self.inside c.self.inside.config c.args.self.now c.self.view_is (sym (ap (λ (s : TaskState). s.config) c.self.view_is)) c.self.invariant.0
+    admitted_call c.args.op c.self.inside c.self.inside.config c.args.self.now c.self.view_is
+    (sym (ap (λ (s : TaskState). s.config) c.self.view_is)) c.self.invariant.0
     c.in_ok-phase.phase c.in_ok-phase.ensures
 
 pub invariant_of-self : goal.invariant_of-self

@@ -14,7 +14,8 @@ use Rattle.vfs_gates.proofs.task.Task.drop_mount.Goals.{After-go_on}
 -- the call, and what its event has left
 abbrev call : After-go_on → Call
 call c =
-    admitted_call (DropMount c.args.mount c.args.cpu) c.self.inside c.args.gates.now.config c.args.self.now c.self.view_is c.requires.1 c.self.invariant.0
+    admitted_call (DropMount c.args.mount c.args.cpu) c.self.inside c.args.gates.now.config c.args.self.now c.self.view_is c.requires.1
+    c.self.invariant.0
     c.in_ok-phase.phase c.in_ok-phase.ensures
 
 abbrev left : (c : After-go_on) → Left (call c)
@@ -29,7 +30,8 @@ left c = record {
 
 pub go_on-requires-clause-tied : goal.go_on-requires-clause-tied
 go_on-requires-clause-tied c =
-    is_tied (admitted_call (DropMount c.args.mount c.args.cpu) c.self.inside c.args.gates.now.config c.args.self.now c.self.view_is c.requires.1 c.self.invariant.0
+    is_tied (admitted_call (DropMount c.args.mount c.args.cpu) c.self.inside c.args.gates.now.config c.args.self.now c.self.view_is
+    c.requires.1 c.self.invariant.0
     c.in_ok-phase.phase c.in_ok-phase.ensures)
 
 pub invariant_of-self : goal.invariant_of-self
@@ -66,7 +68,8 @@ returns-in-Done c =
 pub returns-in-Go : goal.returns-in-Go
 returns-in-Go c =
     let d = (goal.at.returns-in-Go c).After-go_on in
-    was_done unit_of (call d).op (call d).start c.finish.new.self c.finish.result c.outcome-in-Go.result c.outcome-in-Go.ensures (call d).admitted
+    was_done unit_of (call d).op (call d).start c.finish.new.self c.finish.result c.outcome-in-Go.result c.outcome-in-Go.ensures
+    (call d).admitted
     (c.finish.ensures (call d).op (call d).start
     (goes_at (call d) (left d) c.in-Go.phase (stands_at (λ (p : Phase). p) c.go_on.result c.in-Go.phase c.in-Go.is)))
 

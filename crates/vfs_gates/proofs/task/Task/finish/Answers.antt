@@ -17,7 +17,8 @@ returns-in-Done c op start goes = let now = c.loop-answer in let here = now.inva
 pub loop-answer-smaller : goal.loop-answer-smaller
 loop-answer-smaller c = let now = c.loop-answer in let trying = now.invariant.trying in
     falls trying.op trying.start now.self c.step-step.new.self c.step-step.result c.args.hook trying.goes c.step-step.ensures.event
-    (subst IsWithin (sym c.requires.from.1 ∙ (sym now.invariant.config ∙ trying.goes.config)) c.args.gates.now.within) trying.tries c.in_default.not-Done
+    (subst IsWithin (sym c.requires.from.1 ∙ (sym now.invariant.config ∙ trying.goes.config)) c.args.gates.now.within) trying.tries
+    c.in_default.not-Done
 
 pub loop-answer-preserved : goal.loop-answer-preserved
 loop-answer-preserved c = let now = c.loop-answer in let trying = now.invariant.trying in record {
@@ -26,8 +27,10 @@ loop-answer-preserved c = let now = c.loop-answer in let trying = now.invariant.
   trying = record {
     op = trying.op;
     start = trying.start;
-    goes = goes_further trying.op trying.start now.self c.step-step.new.self c.step-step.result c.args.hook trying.goes c.step-step.ensures.event c.in_default.not-Done;
+    goes = goes_further trying.op trying.start now.self c.step-step.new.self c.step-step.result c.args.hook trying.goes
+        c.step-step.ensures.event c.in_default.not-Done;
     tries = trying.tries;
   };
-  goes = λ op start goes. goes_further op start now.self c.step-step.new.self c.step-step.result c.args.hook (now.invariant.goes op start goes) c.step-step.ensures.event c.in_default.not-Done;
+  goes = λ op start goes. goes_further op start now.self c.step-step.new.self c.step-step.result c.args.hook
+      (now.invariant.goes op start goes) c.step-step.ensures.event c.in_default.not-Done;
 }

@@ -6,5 +6,9 @@ use Rattle.vfs_gates.proofs.task.Task.first.Goals as goal
 
 pub invariant_of-result : goal.invariant_of-result
 invariant_of-result c = let within = c.requires.within in
-    let m = first_ties c.args.config c.idle.result c.args.config.tasks c.others_of.result within c.idle.ensures within.some_task within.tasks c.others_of.ensures in
-    (subst (λ (l : SeatItems). Ties 0 c.args.config None c.idle.result c.others_of.result l) (sym (ap (λ z. z.0) c.requires.seat)) m, ap (λ z. z.1) c.requires.seat, c.requires.room)
+    let m = first_ties c.args.config c.idle.result c.args.config.tasks c.others_of.result within c.idle.ensures within.some_task
+    within.tasks c.others_of.ensures in (
+      subst (λ (l : SeatItems). Ties 0 c.args.config None c.idle.result c.others_of.result l) (sym (ap (λ z. z.0) c.requires.seat)) m,
+      ap (λ z. z.1) c.requires.seat,
+      c.requires.room,
+    )

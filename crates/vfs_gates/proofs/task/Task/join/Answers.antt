@@ -7,13 +7,23 @@ use Rattle.vfs_gates.proofs.Parting.{join_self, below}
 use Rattle.vfs_gates.proofs.task.Task.join.Goals as goal
 
 pub invariant_of-self : goal.invariant_of-self
-invariant_of-self c = let mine = c.self.inside in let others = c.other.inside in let rest = c.if-not-rests-2.ensures.0 refl in let seen = c.other.view_is in
+invariant_of-self c = let mine = c.self.inside in let others = c.other.inside in let rest = c.if-not-rests-2.ensures.0 refl in let seen =
+    c.other.view_is in
     let idle : others.kept.phase ≡ None = ap (λ (s : TaskState). s.phase) seen ∙ rest.0 in
-    let same : others.config ≡ mine.config = ap (λ (s : TaskState). s.config) seen ∙ (c.requires.that.1 ∙ sym (ap (λ (s : TaskState). s.config) c.self.view_is ∙ c.requires.this.1)) in
-    let none : Empty others.config (own_view others.seat.me.0) = subst (λ (s : TaskState). Empty s.config (own_view s.items)) (sym seen) rest.1 in
+    let same : others.config ≡ mine.config = ap (λ (s : TaskState). s.config) seen ∙
+    (c.requires.that.1 ∙ sym (ap (λ (s : TaskState). s.config) c.self.view_is ∙ c.requires.this.1)) in
+    let none : Empty others.config (own_view others.seat.me.0) = subst (λ (s : TaskState). Empty s.config (own_view s.items)) (sym seen)
+    rest.1 in
     let small = below others.number others.config others.begins others.kept others.spare others.seat.me.0 c.other.invariant.0 in
-    let m = join_self mine.number mine.config mine.begins mine.kept mine.spare others.number others.begins others.kept others.spare c.add_all.new.numbers mine.seat.me.0 others.seat.me.0
-    c.self.invariant.0 (subst (λ (k : Config). Ties others.number k others.begins others.kept others.spare others.seat.me.0) same c.other.invariant.0) idle
-    (subst (λ (k : Config). Empty k (own_view others.seat.me.0)) same none) c.add_all.ensures (let long : length c.add_all.new.numbers ≡ 64 = c.add_all.array_long in omega arith) in
-    let joined = c.take_back.ensures.joined in
-    (subst (λ (l : SeatItems). Ties mine.number mine.config mine.begins mine.kept (set c.add_all.new.numbers others.number true) l) (sym (ap (λ z. z.0) joined)) m, ap (λ z. z.1) joined ∙ c.self.invariant.1, c.self.invariant.2)
+    let m = join_self mine.number mine.config mine.begins mine.kept mine.spare others.number others.begins others.kept others.spare
+    c.add_all.new.numbers mine.seat.me.0 others.seat.me.0
+    c.self.invariant.0 (subst (λ (k : Config). Ties others.number k others.begins others.kept others.spare others.seat.me.0) same
+    c.other.invariant.0) idle
+    (subst (λ (k : Config). Empty k (own_view others.seat.me.0)) same none) c.add_all.ensures
+    (let long : length c.add_all.new.numbers ≡ 64 = c.add_all.array_long in omega arith) in
+    let joined = c.take_back.ensures.joined in (
+      subst (λ (l : SeatItems). Ties mine.number mine.config mine.begins mine.kept (set c.add_all.new.numbers others.number true) l)
+          (sym (ap (λ z. z.0) joined)) m,
+      ap (λ z. z.1) joined ∙ c.self.invariant.1,
+      c.self.invariant.2,
+    )

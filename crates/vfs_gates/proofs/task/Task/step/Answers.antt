@@ -14,7 +14,12 @@ pub do_event-action-requires-clause-tied : goal.do_event-action-requires-clause-
 do_event-action-requires-clause-tied c =
     let t = c.self.inside in
     let same : t.config ≡ c.args.gates.now.config = ap (λ (s : TaskState). s.config) c.self.view_is ∙ c.requires.1 in
-    record { number = t.number; flags = t.spare; ties = tied_at t.number t.begins t.spare t.seat.me.0 t.kept (Some c.in-Some.phase) c.self.invariant.0 same c.in-Some.is }
+    record {
+      number = t.number;
+      flags = t.spare;
+      ties = tied_at t.number t.begins t.spare t.seat.me.0 t.kept (Some c.in-Some.phase)
+          c.self.invariant.0 same c.in-Some.is;
+    }
 
 pub invariant_of-self : goal.invariant_of-self
 invariant_of-self c =
@@ -22,8 +27,13 @@ invariant_of-self c =
     let same : t.config ≡ c.args.gates.now.config = ap (λ (s : TaskState). s.config) c.self.view_is ∙ c.requires.1 in
     let next : Next Phase = c.do_event-action.result.next in
     let stands = ap (λ (n : Next Phase). phase_after n) (at_itself next) ∙ sym (ap (λ p. p.1) c.of-progress.ensures) in
-    let tied = c.do_event-action.ensures.tied t.number t.spare (tied_at t.number t.begins t.spare t.seat.me.0 t.kept (Some c.in-Some.phase) c.self.invariant.0 same c.in-Some.is) in
-    (tied_at t.number None t.spare c.do_event-action.new.seat.me.0 (kept_at _ c.do_event-action.new.accesses) c.of-progress.result.1 tied (sym same) stands, c.do_event-action.ensures.slots ∙ c.self.invariant.1, c.self.invariant.2)
+    let tied = c.do_event-action.ensures.tied t.number t.spare
+    (tied_at t.number t.begins t.spare t.seat.me.0 t.kept (Some c.in-Some.phase) c.self.invariant.0 same c.in-Some.is) in (
+      tied_at t.number None t.spare c.do_event-action.new.seat.me.0 (kept_at _ c.do_event-action.new.accesses) c.of-progress.result.1 tied
+          (sym same) stands,
+      c.do_event-action.ensures.slots ∙ c.self.invariant.1,
+      c.self.invariant.2,
+    )
 
 pub returns-clause-event : goal.returns-clause-event
 returns-clause-event c =

@@ -17,5 +17,6 @@ returns c = let op = ChangeMount c.args.mount c.args.read_only false in
 
 pub returns-in_err-begin : goal.returns-in_err-begin
 returns-in_err-begin c = let p = err_from_is_err_and c.from_residual.result c.from_residual.ensures.1 in
-    rw (p.1, p.2) (was_refused unit_of (ChangeMount c.args.mount c.args.read_only false) c.args.self.now c.begin.new.self c.in_err-begin.field-0.0
+    rw (p.1, p.2) (was_refused unit_of (ChangeMount c.args.mount c.args.read_only false) c.args.self.now c.begin.new.self
+    c.in_err-begin.field-0.0
     c.in_err-begin.ensures.answer c.in_err-begin.ensures.refused)

@@ -27,8 +27,10 @@ starts_at mount cpu = record { mount = mount; cpu = cpu; wait = false; step = Co
 -- the call, and what its event has left
 abbrev call : After-want_in_line → Call
 call c =
-    call_of (Want c.args.mount c.args.cpu false) c.self.inside c.args.gates.now.config c.args.self.now c.self.view_is c.requires.1 c.self.invariant.0
-    (admitted_by (Want c.args.mount c.args.cpu false) c.args.self.now c.in_ok-admit.field-0 c.in_ok-admit.ensures) (as_phase (starts_at c.args.mount c.args.cpu)) refl
+    call_of (Want c.args.mount c.args.cpu false) c.self.inside c.args.gates.now.config c.args.self.now c.self.view_is c.requires.1
+    c.self.invariant.0
+    (admitted_by (Want c.args.mount c.args.cpu false) c.args.self.now c.in_ok-admit.field-0 c.in_ok-admit.ensures)
+    (as_phase (starts_at c.args.mount c.args.cpu)) refl
 
 abbrev left : (c : After-want_in_line) → Left (call c)
 left c = record {
@@ -42,8 +44,10 @@ left c = record {
 
 pub want_in_line-requires-clause-tied : goal.want_in_line-requires-clause-tied
 want_in_line-requires-clause-tied c =
-    is_tied (call_of (Want c.args.mount c.args.cpu false) c.self.inside c.args.gates.now.config c.args.self.now c.self.view_is c.requires.1 c.self.invariant.0
-    (admitted_by (Want c.args.mount c.args.cpu false) c.args.self.now c.in_ok-admit.field-0 c.in_ok-admit.ensures) (as_phase (starts_at c.args.mount c.args.cpu)) refl)
+    is_tied (call_of (Want c.args.mount c.args.cpu false) c.self.inside c.args.gates.now.config c.args.self.now c.self.view_is c.requires.1
+    c.self.invariant.0
+    (admitted_by (Want c.args.mount c.args.cpu false) c.args.self.now c.in_ok-admit.field-0 c.in_ok-admit.ensures)
+    (as_phase (starts_at c.args.mount c.args.cpu)) refl)
 
 pub invariant_of-self : goal.invariant_of-self
 invariant_of-self c =
@@ -56,7 +60,8 @@ invariant_of-self c =
 pub invariant_of-self-in-Go : goal.invariant_of-self-in-Go
 invariant_of-self-in-Go c =
     let d = (goal.at.invariant_of-self-in-Go c).After-want_in_line in (
-      ties_at (call d) (left d) _ (stands_at as_phase c.want_in_line.result c.in-Go.want c.in-Go.is ∙ ap (λ (p : Phase). Some p) (sym c.phase.ensures)),
+      ties_at (call d) (left d) _ (stands_at as_phase c.want_in_line.result c.in-Go.want c.in-Go.is ∙
+          ap (λ (p : Phase). Some p) (sym c.phase.ensures)),
       c.want_in_line.ensures.slots ∙ c.self.invariant.1,
       c.self.invariant.2,
     )
@@ -66,7 +71,8 @@ finish-requires-clause-trying c =
     let d = (goal.at.finish-requires-clause-trying c).After-want_in_line in record {
       op = (call d).op;
       start = (call d).start;
-      goes = goes_at (call d) (left d) c.phase.result (stands_at as_phase c.want_in_line.result c.in-Go.want c.in-Go.is ∙ ap (λ (p : Phase). Some p) (sym c.phase.ensures));
+      goes = goes_at (call d) (left d) c.phase.result (stands_at as_phase c.want_in_line.result c.in-Go.want c.in-Go.is ∙
+          ap (λ (p : Phase). Some p) (sym c.phase.ensures));
       tries = tt;
     }
 
@@ -79,9 +85,11 @@ returns-in-Done c =
 pub returns-in-Go : goal.returns-in-Go
 returns-in-Go c =
     let d = (goal.at.returns-in-Go c).After-want_in_line in
-    was_done unit_of (call d).op (call d).start c.finish.new.self c.finish.result c.outcome-in-Go.result c.outcome-in-Go.ensures (call d).admitted
+    was_done unit_of (call d).op (call d).start c.finish.new.self c.finish.result c.outcome-in-Go.result c.outcome-in-Go.ensures
+    (call d).admitted
     (c.finish.ensures (call d).op (call d).start
-    (goes_at (call d) (left d) c.phase.result (stands_at as_phase c.want_in_line.result c.in-Go.want c.in-Go.is ∙ ap (λ (p : Phase). Some p) (sym c.phase.ensures))))
+    (goes_at (call d) (left d) c.phase.result (stands_at as_phase c.want_in_line.result c.in-Go.want c.in-Go.is ∙
+    ap (λ (p : Phase). Some p) (sym c.phase.ensures))))
 
 pub returns-in_err-admit : goal.returns-in_err-admit
 returns-in_err-admit c = let p = err_from_is_err_and c.from_residual.result c.from_residual.ensures.1 in
