@@ -42,7 +42,7 @@ pub admitted_as : (op : Op) (task : Inside) (start : TaskState) → task_state t
 admitted_as op task start start_is ties under_way under_way_is answer is =
     let items : SeatItems = task.seat.me.0 in
     let refused : refusal task.config under_way (mounts_in task.kept) (levels_in task.kept) op ≡
-        refusal task.config (is_some task.kept.phase) (held_at (own_view items)) (holds_level (own_view items)) op =
+    refusal task.config (is_some task.kept.phase) (held_at (own_view items)) (holds_level (own_view items)) op =
     ap (λ b. refusal task.config b (mounts_in task.kept) (levels_in task.kept) op) under_way_is ∙
     refusal_same task.number task.config task.begins task.kept task.spare items op ties in
     is ∙
