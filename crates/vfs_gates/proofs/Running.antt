@@ -230,6 +230,7 @@ module _ (op : Op) (start now left : TaskState) (step : Step) (h : HookAnswer) (
     phase = phase_after (sym course_here i).comes;
     actions = (actions_append after.1 (course_of c n op goes.trace).added x.actions ∙
         ap (λ (o : Course). o.added ++ x.actions) (sym course_here)) i;
+    before = x.actions;
     events = events_onto trace x.events;
     trace = trace;
     snapshot = last_snapshot (sym completes_here i) ((course_of c n op goes.trace).added ++ x.actions) others

@@ -48,6 +48,7 @@ ran_view c t op others trace v = record {
   actions = (course_of c t op trace).added ++ v.actions;
   events = events_onto trace v.events;
   trace = trace;
+  before = v.actions;
   snapshot = ran_snapshot c t op others trace v;
 }
 
