@@ -1,5 +1,9 @@
 -- What whole calls leave of a task that rested before them.
-use Rattle.std.proofs.Common.{◌≡◌, ℕ, zero, suc, ◌+◌, ◌<◌, true, false, cond, eqb, List, [], ◌∷◌, ◌++◌, refl, sym, ap, ◌∙◌, subst, arith}
+use Rattle.std.proofs.lemmas.Bool.{cases_Bool}
+use Rattle.gate_world.specs.Found.{found_read_only}
+use Rattle.access_model.specs.declared.errors.GateError.TheVariants.{Busy, Again}
+use Rattle.std.specs.Prelude.{IfErr}
+use Rattle.std.proofs.Common.{true≢false, Bool, inl, inr, ◌≡◌, ℕ, zero, suc, ◌+◌, ◌<◌, true, false, cond, eqb, List, [], ◌∷◌, ◌++◌, refl, sym, ap, ◌∙◌, subst, arith}
 use Rattle.std.specs.Prelude.{None, Result, Ok, Err}
 use Rattle.std.proofs.lemmas.Bool.{lt-ltb}
 use Rattle.finite_sums.proofs.Totals.{update_at}
@@ -14,7 +18,7 @@ use Rattle.access_model.specs.declared.replies.Reply.{Reply}
 use Rattle.access_model.specs.Histories.{mounts_of, levels_of}
 use Rattle.gate_world.specs.declared.config.Config.{Config}
 use Rattle.gate_world.specs.declared.operations.Op.{Op}
-use Rattle.gate_world.specs.declared.operations.Op.TheVariants.{Want, DropMount}
+use Rattle.gate_world.specs.declared.operations.Op.TheVariants.{Want, DropMount, ChangeMount}
 use Rattle.gate_world.specs.declared.views.Traced.{Traced}
 use Rattle.gate_world.specs.declared.views.View.{View}
 use Rattle.gate_world.specs.declared.work.Phase.{Phase}
@@ -25,7 +29,7 @@ use Rattle.gate_steps.specs.Rules.{first_items}
 use Rattle.gate_steps.specs.Seating.{SeatItems, view_in, deal, kept_of, given_of}
 use Rattle.vfs_gates.specs.TaskStates.{TaskState, task_state, own_number, own_view, refusal_at, Empty}
 use Rattle.vfs_gates.specs.Parts.{SplitOf}
-use Rattle.vfs_gates.specs.Runs.{ran_items, IsNextMove, AreMoves, outcome_of, Called, Performs}
+use Rattle.vfs_gates.specs.Runs.{ran_items, IsNextMove, AreMoves, told_as, unit_of, Called, Performs}
 use Rattle.backup_beside_writer.specs.Rests.{Rests}
 
 -- the actions of a task's own number, the newest first
@@ -87,14 +91,14 @@ acted c op trace answer (x ∷ xs) added ends moves is = ap (λ l. l ++ x.view.a
 
 -- the same of a call
 called :
-    (op : Op) (old left : TaskState) (outcome : Result (Unit {0}) GateError) (k : Called op old left outcome) →
-    own_actions left ≡ actions_of op k.answer k.trace ++ own_actions old
-called op old left outcome k =
-    ap (λ (s : TaskState). own_actions s) k.after ∙ acted old.config op k.trace k.answer old.items _ k.ends k.moves k.added
+    (op : Op) (old left : TaskState) (answer : Result Reply GateError) (k : Called op old left answer) →
+    own_actions left ≡ actions_of op answer k.trace ++ own_actions old
+called op old left answer k =
+    ap (λ (s : TaskState). own_actions s) k.after ∙ acted old.config op k.trace answer old.items _ k.ends k.moves k.added
 
 -- a want that was not refused has added its grant
 granted :
-    (m p : ℕ) (trace : List Traced) (answer : Result Reply GateError) → Ok tt ≡ outcome_of answer →
+    (m p : ℕ) (trace : List Traced) (answer : Result Reply GateError) → Ok tt ≡ told_as unit_of answer →
     actions_of (Want m p true) answer trace ≡ Grant (Mount m) ∷ []
 granted m p trace (Ok reply) is = refl
 granted m p trace (Err refusal) is = absurd (let f : ⊥ = cc in f)
@@ -102,7 +106,7 @@ granted m p trace (Err refusal) is = absurd (let f : ⊥ = cc in f)
 -- a drop that has begun is not refused
 dropped :
     (c : Config) (m p : ℕ) (trace : List Traced) (answer : Result Reply GateError) → IsHonestAnswer c (DropMount m p) answer trace →
-    outcome_of answer ≡ Ok tt
+    told_as unit_of answer ≡ Ok tt
 dropped c m p trace (Ok reply) honest = refl
 dropped c m p trace (Err refusal) honest = absurd honest
 
@@ -113,20 +117,20 @@ module _ (old there : TaskState) (m p : ℕ) (rests : Rests old) (mount : m < ol
 
   module _ (wants : Performs (Want m p true) old there (Ok tt)) where
     -- so it was one whole operation
-    call : Called (Want m p true) old there (Ok tt)
+    call : (answer : Result Reply GateError) × (Ok tt ≡ told_as unit_of answer) × Called (Want m p true) old there answer
     call = wants.done want_begins
 
     -- once it is granted, the task holds one access
     holds_one : mounts_of (own_actions there) m ≡ mounts_of (own_actions old) m + 1
     holds_one =
         let grown : own_actions there ≡ Grant (Mount m) ∷ own_actions old =
-        called _ old there _ call ∙ ap (λ l. l ++ own_actions old) (granted m p call.trace call.answer call.answers) in
+        called _ old there _ call.2 ∙ ap (λ l. l ++ own_actions old) (granted m p call.2.trace call.0 call.1) in
         ap (λ l. mounts_of l m) grown ∙ update_at (mounts_of (own_actions old)) m _
 
     -- and a drop of it begins
     drop_begins : refusal_at (DropMount m p) there ≡ None
     drop_begins =
-        let idle : there.phase ≡ None = ap (λ (s : TaskState). s.phase) call.after in
+        let idle : there.phase ≡ None = ap (λ (s : TaskState). s.phase) call.2.after in
         let config : there.config ≡ old.config = wants.config in
         let some : 0 < mounts_of (own_actions there) m = omega (arith, holds_one) in
         rw (idle, config, lt-ltb m old.config.mounts mount, lt-ltb p old.config.processors cpu, lt-ltb 0 _ some) refl
@@ -135,4 +139,55 @@ module _ (old there : TaskState) (m p : ℕ) (rests : Rests old) (mount : m < ol
     pub is_dropped :
         (left : TaskState) (outcome : Result (Unit {0}) GateError) → Performs (DropMount m p) there left outcome → outcome ≡ Ok tt
     is_dropped left outcome drops =
-        let done = drops.done drop_begins in done.answers ∙ dropped there.config m p done.trace done.answer done.honest
+        let done = drops.done drop_begins in done.1 ∙ dropped there.config m p done.2.trace done.0 done.2.honest
+
+-- a change of a mount gives and takes no access
+changes_no_access :
+    (m : ℕ) (ro : Bool) (answer : Result Reply GateError) (trace : List Traced) (l : List Action) →
+    (mounts_of (actions_of (ChangeMount m ro true) answer trace ++ l) ≡ mounts_of l) ×
+    (levels_of (actions_of (ChangeMount m ro true) answer trace ++ l) ≡ levels_of l)
+changes_no_access m ro (Err refusal) trace l = (refl, refl)
+changes_no_access m true (Ok reply) trace l =
+    elim (cases_Bool (found_read_only m trace)) [ inl f ↦ rw f (refl, refl) | inr f ↦ rw f (refl, refl) ]
+changes_no_access m false (Ok reply) trace l =
+    elim (cases_Bool (found_read_only m trace)) [ inl f ↦ rw f (refl, refl) | inr f ↦ rw f (refl, refl) ]
+
+-- one that waits is refused only as busy
+busy_alone :
+    (c : Config) (m : ℕ) (ro : Bool) (trace : List Traced) (answer : Result Reply GateError) → IsHonestAnswer c (ChangeMount m ro true) answer trace →
+    IfErr (told_as unit_of answer) (λ refusal. refusal ≡ Busy)
+busy_alone c m ro trace (Ok reply) honest = tt
+busy_alone c m ro trace (Err Busy) honest = refl
+busy_alone c m ro trace (Err Again) honest = absurd (true≢false honest.0)
+busy_alone c m ro trace (Err refusal) honest = absurd honest
+
+module _ (old left : TaskState) (m : ℕ) (ro : Bool) (outcome : Result (Unit {0}) GateError)
+    (rests : Rests old) (mount : m < old.config.mounts) (does : Performs (ChangeMount m ro true) old left outcome) where
+  -- a change by a task that rests begins
+  change_begins : refusal_at (ChangeMount m ro true) old ≡ None
+  change_begins =
+      rw (rests.0, lt-ltb m old.config.mounts mount, rests.1.1 1 (omega arith) (omega arith), rests.1.1 2 (omega arith) (omega arith),
+          rests.1.1 3 (omega arith) (omega arith)) refl
+
+  -- so it is one whole operation
+  change : (answer : Result Reply GateError) × (outcome ≡ told_as unit_of answer) × Called (ChangeMount m ro true) old left answer
+  change = does.done change_begins
+
+  -- after which the task rests again
+  pub change_rests : Rests left
+  change_rests =
+      let acts : own_actions left ≡ actions_of (ChangeMount m ro true) change.0 change.2.trace ++ own_actions old =
+      called _ old left _ change.2 in
+      let same = changes_no_access m ro change.0 change.2.trace (own_actions old) in (
+        ap (λ (s : TaskState). s.phase) change.2.after,
+        (
+          (λ y ly. ap (λ l. mounts_of l y) acts ∙ (ap (λ f. f y) same.0 ∙ rests.1.0 y (subst (λ d. y < d.mounts) does.config ly))),
+          (λ i one three. ap (λ l. levels_of l i) acts ∙ (ap (λ f. f i) same.1 ∙ rests.1.1 i one three)),
+        ),
+      )
+
+  -- and it is refused only as busy
+  pub change_refused : IfErr outcome (λ refusal. refusal ≡ Busy)
+  change_refused =
+      subst (λ (r : Result (Unit {0}) GateError). IfErr r (λ refusal. refusal ≡ Busy)) (sym change.1)
+      (busy_alone old.config m ro change.2.trace change.0 change.2.honest)
