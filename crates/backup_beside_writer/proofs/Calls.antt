@@ -166,8 +166,13 @@ module _ (old left : TaskState) (m : ℕ) (ro : Bool) (outcome : Result (Unit {0
   -- a change by a task that rests begins
   change_begins : refusal_at (ChangeMount m ro true) old ≡ None
   change_begins =
-      rw (rests.0, lt-ltb m old.config.mounts mount, rests.1.1 1 (omega arith) (omega arith), rests.1.1 2 (omega arith) (omega arith),
-          rests.1.1 3 (omega arith) (omega arith)) refl
+      rw (
+        rests.0,
+        lt-ltb m old.config.mounts mount,
+        rests.1.1 1 (omega arith) (omega arith),
+        rests.1.1 2 (omega arith) (omega arith),
+        rests.1.1 3 (omega arith) (omega arith),
+      ) refl
 
   -- so it is one whole operation
   change : (answer : Result Reply GateError) × (outcome ≡ told_as unit_of answer) × Called (ChangeMount m ro true) old left answer

@@ -28,7 +28,7 @@ use Rattle.gate_world.specs.Beginnings.{first_phase, view_refusal}
 use Rattle.gate_world.specs.Worlds.{World, words_after, value_at, found_at, after_step, after_step_beside, phase_action, with_action}
 use Rattle.gate_world.specs.Shown.{shown}
 use Rattle.gate_world.specs.Moments.{AllHaveMoments}
-use Rattle.history_moments.specs.Moments.{HaveDone}
+use Rattle.moment_laws.specs.Moments.{HaveDone}
 use Rattle.gate_world.specs.Fits.{Fits}
 use Rattle.gate_world.specs.Rules.{IsGood, Moves, StepKeeps}
 use Rattle.gate_frames.proofs.Snapshots.{others_apart}

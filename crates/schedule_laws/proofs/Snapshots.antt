@@ -7,8 +7,8 @@ use Rattle.access_model.specs.declared.actions.Action.{Action}
 use Rattle.access_model.specs.declared.errors.GateError.{GateError}
 use Rattle.access_model.specs.States.{State}
 use Rattle.access_model.specs.Histories.{Done, end_of, IsLegal, own_part, IsMerge}
-use Rattle.history_moments.specs.Moments.{HaveDone}
-use Rattle.history_moments.proofs.Moments.{is_now, stays}
+use Rattle.moment_laws.specs.Moments.{HaveDone}
+use Rattle.moment_laws.proofs.Moments.{is_now, stays}
 use Rattle.cpu_words.specs.Hooks.{HookAnswer}
 use Rattle.gate_world.specs.declared.config.Config.{Config}
 use Rattle.gate_world.specs.declared.operations.Op.{Op}

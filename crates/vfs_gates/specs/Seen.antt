@@ -1,6 +1,6 @@
 -- What a task's last snapshot is of.
 use Rattle.std.specs.Prelude.{ℕ, ◌∷◌}
-use Rattle.history_moments.specs.Moments.{WasFrozenWith, MomentTells}
+use Rattle.moment_laws.specs.Moments.{WasFrozenWith, MomentTells}
 use Rattle.gate_world.specs.declared.config.Config.{Config}
 use Rattle.gate_world.specs.declared.views.Snapshot.{Snapshot}
 use Rattle.gate_world.specs.Configs.{model_limits}

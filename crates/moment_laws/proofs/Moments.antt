@@ -5,7 +5,7 @@ use Rattle.access_model.specs.declared.actions.Action.{Action}
 use Rattle.access_model.specs.declared.actions.NodeInfo.{NodeInfo}
 use Rattle.access_model.specs.States.{Limits}
 use Rattle.access_model.specs.Histories.{Done, IsLegal, own_part, IsMerge}
-use Rattle.history_moments.specs.Moments.{HaveDone, IsFrozenWith, WasFrozenWith, CutsList, CutsLists}
+use Rattle.moment_laws.specs.Moments.{HaveDone, IsFrozenWith, WasFrozenWith, CutsList, CutsLists}
 
 module _ (nodes : ℕ) (tree : ℕ → Option NodeInfo) (done : List (ℕ × ℕ)) where
   -- what is so now was so at some moment

@@ -4,8 +4,8 @@ use Rattle.access_model.specs.declared.actions.Action.TheVariants.{Grant, SbRo, 
 use Rattle.access_model.specs.declared.actions.Gate.TheVariants.{Level}
 use Rattle.access_model.specs.States.{Limits, opening_state, is_dirty}
 use Rattle.access_model.specs.Histories.{Done, end_of, IsLegal}
-use Rattle.history_moments.specs.Moments.{WasFrozenWith}
-use Rattle.history_moments.proofs.Moments.{is_now, stays}
+use Rattle.moment_laws.specs.Moments.{WasFrozenWith}
+use Rattle.moment_laws.proofs.Moments.{is_now, stays}
 
 abbrev two_tasks : Limits
 two_tasks = record { tasks = 2; mounts = 1; nodes = 2; capacity = 8 }

@@ -11,8 +11,8 @@ use Rattle.access_model.specs.Actions.{MayDo, HoldsSomeMount, marked, after_acti
 use Rattle.access_model.specs.Histories.{Done, end_of, IsLegal, IsMerge}
 use Rattle.access_model.specs.Laws.{NobodyHoldsClosed}
 use Rattle.access_model.proofs.Closed.{closed}
-use Rattle.history_moments.specs.Moments.{WasFrozenWith, MomentTells}
-use Rattle.history_moments.proofs.Moments.{first_legal, cuts}
+use Rattle.moment_laws.specs.Moments.{WasFrozenWith, MomentTells}
+use Rattle.moment_laws.proofs.Moments.{first_legal, cuts}
 
 -- at stage 4 either all levels are passed, or none is and the superblock is read-only; and no node is dirty
 record IsSealed (l : Limits) (s : State) : Type 0 where

@@ -7,7 +7,7 @@ ghost use Rattle.access_model.specs.declared.actions.Action.{Action};
 ghost use Rattle.access_model.specs.declared.actions.NodeInfo.{NodeInfo};
 ghost use Rattle.access_model.specs.States.{Limits, opening_state, IsClean};
 ghost use Rattle.access_model.specs.Histories.{Done, end_of, IsLegal, IsMerge};
-ghost use Rattle.history_moments.specs.Moments.{WasFrozenWith, MomentTells};
+ghost use Rattle.moment_laws.specs.Moments.{WasFrozenWith, MomentTells};
 
 /// A moment of a history stays one, whatever is done later. Does nothing: its contract is the law.
 pub fn a_moment_stays()
