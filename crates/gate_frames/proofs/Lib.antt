@@ -6,5 +6,6 @@ pub mod Loads
 pub mod Owners
 pub mod Snapshots
 pub mod Keeps
+pub mod Rephased
 pub mod Accesses
 pub mod Places

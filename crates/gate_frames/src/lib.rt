@@ -1,9 +1,25 @@
 //! What an event leaves alone. It has no code: its function states a law.
 #![tactic(auto)]
 
-ghost use Rattle.std.specs.Prelude.{◌≡◌};
+ghost use Rattle.std.specs.Prelude.{◌≡◌, ◌<◌, ℕ, Option};
+ghost use Rattle.gate_world.specs.declared.config.Config.{Config};
+ghost use Rattle.gate_world.specs.declared.work.Phase.{Phase};
+ghost use Rattle.gate_world.specs.Alike.{IsAlike, rephased};
+ghost use Rattle.gate_world.specs.Fits.{Fits};
+ghost use Rattle.gate_world.specs.Rules.{IsGood};
+ghost use Rattle.gate_world.specs.Shown.{shown};
+ghost use Rattle.gate_world.specs.Views.{held_at, holds_level};
+ghost use Rattle.gate_world.specs.Worlds.{World};
 ghost use Rattle.cpu_words.specs.declared.names.WordName.{WordName as Name};
 ghost use Rattle.cpu_words.specs.Words.{Words, read, put};
+
+/// Where the rule holds of a world in which a task is at one phase, it holds of the world in which the task is at another phase that is
+/// alike and fits its accesses, and both show the same model. Does nothing: its contract is the law.
+pub fn phases_that_are_alike_serve_alike()
+    ensures { (c : Config) (w : World) (t : ℕ) (q : Option Phase) → t < c.tasks → IsGood c w → IsAlike (w.views t).phase q →
+        Fits c t (held_at (w.views t)) (holds_level (w.views t)) q →
+        IsGood c (rephased w t q) × (shown c (rephased w t q) ≡ shown c w) }
+{}
 
 /// A load leaves all words as they were. Does nothing: its contract is the law.
 pub fn a_load_changes_no_word()

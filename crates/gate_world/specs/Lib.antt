@@ -12,6 +12,7 @@ pub mod Shown
 pub mod Moments
 pub mod Fits
 pub mod Rules
+pub mod Alike
 pub mod Courses
 pub mod Traces
 pub mod Headline

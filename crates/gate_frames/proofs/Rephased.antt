@@ -1,0 +1,119 @@
+-- An operation that stands at a phase of another one, as a part of its own: the law of the other's event is the law of its event.
+use Rattle.std.proofs.Common.{◌≡◌, ℕ, ◌<◌, refl, sym, ap, ◌∙◌, subst, inl, inr}
+use Rattle.std.specs.Prelude.{Option, Some, None, List}
+use Rattle.std.proofs.Math.Path.{fun_ext}
+use Rattle.std.proofs.lemmas.Bool.Decides.{eqb_tells}
+use Rattle.finite_sums.specs.Sums.{update}
+use Rattle.finite_sums.proofs.Totals.{update_at, update_off, each_updated}
+use Rattle.access_model.specs.declared.actions.Action.{Action}
+use Rattle.access_model.specs.declared.replies.Next.{Next}
+use Rattle.access_model.specs.Histories.{mounts_of, levels_of}
+use Rattle.cpu_words.specs.declared.names.WordName.{WordName}
+use Rattle.cpu_words.specs.declared.events.Touch.{Touch}
+use Rattle.cpu_words.specs.Touches.{left}
+use Rattle.cpu_words.specs.Words.{read, put}
+use Rattle.cpu_words.specs.Hooks.{HookAnswer}
+use Rattle.gate_world.specs.declared.config.Config.{Config}
+use Rattle.gate_world.specs.declared.work.Phase.{Phase}
+use Rattle.gate_world.specs.declared.views.View.{View}
+use Rattle.gate_world.specs.Views.{held_at, holds_level, phase_after, actions_after, view_with}
+use Rattle.gate_world.specs.Fits.{Fits, mounts_by, levels_by}
+use Rattle.gate_world.specs.Worlds.{World}
+use Rattle.gate_world.specs.Shown.{shown}
+use Rattle.gate_world.specs.Rules.{ViewFits, Part, Owner, Superblock, Stages, Fitting, Known, AtMount, Holds, IsGood, Moves}
+use Rattle.gate_world.specs.Alike.{IsAlike, at_phase, rephased}
+use Rattle.gate_frames.proofs.Frames.{view_as, shown_still, left_alone}
+
+-- what is alike to a phase is alike to the same phase
+alike_of : {p q r : Option Phase} → p ≡ q → IsAlike q r → IsAlike p r
+alike_of {p} {q} {r} e h = subst (λ x. IsAlike x r) (sym e) h
+
+-- of two values put at one place the later one stands
+update_twice : {A : Type 0} (f : ℕ → A) (t : ℕ) (u v : A) → update (update f t u) t v ≡ update f t v
+update_twice f t u v =
+    fun_ext (λ x. elim (eqb_tells x t) [
+      | inl h ↦ rw (h.0, update)
+      | inr h ↦ update_off (update f t u) t v x h.1 ∙ (update_off f t u x h.1 ∙ sym (update_off f t v x h.1))
+    ])
+
+module _ (c : Config) (w : World) (t : ℕ) (lt : t < c.tasks) (q : Option Phase) (same : IsAlike (w.views t).phase q) where
+  -- each part of the rule holds with the other phase
+  rephased_part : Fits c t (held_at (w.views t)) (holds_level (w.views t)) q → IsGood c w → (part : Part) → Holds c (rephased w t q) part
+  rephased_part fits good Owner =
+      left_alone c w t lt Owner w.words (at_phase (w.views t) q) (refl, refl) (same.steady.owns_same, same.steady.remounts_same) (good Owner)
+  rephased_part fits good Superblock = good Superblock
+  rephased_part fits good Stages = good Stages
+  rephased_part fits good Fitting = λ x lx.
+      each_updated (λ y (u : View). ViewFits c y u) w.views t (at_phase (w.views t) q) x fits (λ ne. good Fitting x lx)
+  rephased_part fits good Known =
+      left_alone c w t lt Known w.words (at_phase (w.views t) q) (refl, refl, refl, refl) (same.steady.owns_same, refl) (good Known)
+  rephased_part fits good (AtMount m) =
+      left_alone c w t lt (AtMount m) w.words (at_phase (w.views t) q) (refl, refl, refl, refl) (view_as refl refl refl (same.role_same m)) (good (AtMount m))
+
+  -- so the rule does
+  pub rephased_good : Fits c t (held_at (w.views t)) (holds_level (w.views t)) q → IsGood c w → IsGood c (rephased w t q)
+  rephased_good fits good = rephased_part fits good
+
+  -- and the shown model is the same
+  pub rephased_shown : shown c (rephased w t q) ≡ shown c w
+  rephased_shown = shown_still c w t lt w.words (at_phase (w.views t) q) refl refl refl refl refl refl same.steady.closing_same refl refl
+
+-- the accesses after an action more
+mounts_more : (a : Option Action) (actions : List Action) → mounts_of (actions_after a actions) ≡ mounts_by a (mounts_of actions)
+mounts_more None actions = refl
+mounts_more (Some a) actions = refl
+
+levels_more : (a : Option Action) (actions : List Action) → levels_of (actions_after a actions) ≡ levels_by a (levels_of actions)
+levels_more None actions = refl
+levels_more (Some a) actions = refl
+
+-- the world after an event of this word and touch, after which this comes
+abbrev pub made : World → ℕ → WordName × Touch → HookAnswer → Next Phase → Option Action → World
+made w t n hook coming action = record {
+  words = put w.words n.0 (left n.1 (read w.words n.0));
+  views = update w.views t (view_with (w.views t) n (read w.words n.0) hook (coming, action));
+}
+
+-- an event of a task that stands at one phase, and of the same task at another phase that is alike
+module _ (c : Config) (w : World) (t : ℕ) (lt : t < c.tasks) (p : Option Phase) (n : WordName × Touch) (hook : HookAnswer) (a b : Next Phase) (action : Option Action) where
+  -- the event of the first, done again at the second's phases, is the event of the second
+  made_again : rephased (made (rephased w t p) t n hook a action) t (phase_after b) ≡ made w t n hook b action
+  made_again =
+      let v : View = at_phase (w.views t) p in
+      let u : View = view_with v n (read w.words n.0) hook (a, action) in
+      let there : update w.views t v t ≡ v = update_at w.views t v in
+      let once : update (update w.views t v) t (view_with (update w.views t v t) n (read w.words n.0) hook (a, action)) ≡ update w.views t u =
+      ap (λ x. update (update w.views t v) t (view_with x n (read w.words n.0) hook (a, action))) there ∙ update_twice w.views t v u in
+      let again : update (update w.views t u) t (at_phase (update w.views t u t) (phase_after b)) ≡ update w.views t (at_phase u (phase_after b)) =
+      ap (λ x. update (update w.views t u) t (at_phase x (phase_after b))) (update_at w.views t u) ∙ update_twice w.views t u (at_phase u (phase_after b)) in
+      λ j. record {
+        words = put w.words n.0 (left n.1 (read w.words n.0));
+        views = (ap (λ f. update f t (at_phase (f t) (phase_after b))) once ∙ again) j;
+      }
+
+  -- so what the law of the first says of the rule and of the shown model, it says of the second
+  pub made_keeps : IsGood c w → IsAlike (w.views t).phase p → Fits c t (held_at (w.views t)) (holds_level (w.views t)) p →
+      (IsGood c (rephased w t p) → ((rephased w t p).views t).phase ≡ p →
+      IsGood c (made (rephased w t p) t n hook a action) ×
+      Moves c (shown c (rephased w t p)) t action (shown c (made (rephased w t p) t n hook a action))) →
+      IsAlike (phase_after a) (phase_after b) →
+      Fits c t (mounts_by action (held_at (w.views t))) (levels_by action (holds_level (w.views t))) (phase_after b) →
+      IsGood c (made w t n hook b action) × Moves c (shown c w) t action (shown c (made w t n hook b action))
+  made_keeps good before fits law after fits_after =
+      let v : View = at_phase (w.views t) p in
+      let u : View = view_with v n (read w.words n.0) hook (a, action) in
+      let first : World = rephased w t p in
+      let there : World = made first t n hook a action in
+      let l : IsGood c there × Moves c (shown c first) t action (shown c there) =
+      law (rephased_good c w t lt p before fits good) (ap (λ (x : View). x.phase) (update_at w.views t v)) in
+      let is : there.views t ≡ u = update_at first.views t _ ∙ ap (λ x. view_with x n (read w.words n.0) hook (a, action)) (update_at w.views t v) in
+      let same : IsAlike (there.views t).phase (phase_after b) = alike_of (ap (λ (x : View). x.phase) is) after in
+      let fit : Fits c t (held_at u) (holds_level u) (phase_after b) =
+      subst (λ k. Fits c t (held_at u) k (phase_after b)) (sym (levels_more action (w.views t).actions))
+      (subst (λ h. Fits c t h (levels_by action (holds_level (w.views t))) (phase_after b)) (sym (mounts_more action (w.views t).actions)) fits_after) in
+      let fit_there : Fits c t (held_at (there.views t)) (holds_level (there.views t)) (phase_after b) =
+      subst (λ (x : View). Fits c t (held_at x) (holds_level x) (phase_after b)) (sym is) fit in (
+        subst (λ x. IsGood c x) made_again (rephased_good c there t lt (phase_after b) same fit_there l.0),
+        subst (λ s. Moves c s t action (shown c (made w t n hook b action))) (rephased_shown c w t lt p before)
+            (subst (λ s. Moves c (shown c first) t action s) (sym (rephased_shown c there t lt (phase_after b) same) ∙ ap (shown c) made_again) l.1),
+      )

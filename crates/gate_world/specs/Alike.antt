@@ -1,0 +1,21 @@
+-- Phases that stand for one another: all that the rule reads of the one it reads of the other. So an operation that goes through the phases of another, as
+-- a part of its own, needs no second proof of its events.
+use Rattle.std.specs.Prelude.{◌≡◌, ℕ, Option}
+use Rattle.finite_sums.specs.Sums.{update}
+use Rattle.gate_world.specs.declared.work.Phase.{Phase}
+use Rattle.gate_world.specs.declared.views.View.{View}
+use Rattle.gate_world.specs.Rules.{role_of, IsSteady}
+use Rattle.gate_world.specs.Worlds.{World}
+
+-- all that the rule and the shown model read of a phase is the same of both, but for the accesses that it asks for
+pub record IsAlike (p q : Option Phase) : Type 0 where
+  pub steady : IsSteady p q
+  pub role_same : (m : ℕ) → role_of m q ≡ role_of m p
+
+-- the view of a task that stands at this phase
+abbrev pub at_phase : View → Option Phase → View
+at_phase v q = record v { phase = q }
+
+-- the world in which a task stands at this phase
+abbrev pub rephased : World → ℕ → Option Phase → World
+rephased w t q = record { words = w.words; views = update w.views t (at_phase (w.views t) q) }
