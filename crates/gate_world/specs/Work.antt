@@ -18,7 +18,3 @@ next_of (Mounts phase) hook = next phase hook
 -- what comes after the event that found this value, and the action that the event adds
 abbrev pub after_of : Phase → ℕ → HookAnswer → Next Phase × Option Action
 after_of (Mounts phase) found hook = (map_next Mounts (after phase found hook).0, (after phase found hook).1)
-
--- what comes next, of the phases that these stand for
-abbrev pub at_phases : {A : Type 0} → (A → Phase) → Next A → Next Phase
-at_phases as_phase next = map_next as_phase next

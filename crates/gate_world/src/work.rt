@@ -43,7 +43,8 @@ impl Phase {
 pub trait UnderWay: Copy {
     ghost use Rattle.std.specs.Prelude.{◌≡◌};
     ghost use Rattle.gate_world.specs.declared.work.Phase.{Phase as PhaseType};
-    ghost use Rattle.gate_world.specs.Work.{at_phases, after_of};
+    ghost use Rattle.gate_world.specs.Work.{after_of};
+    ghost use Rattle.access_model.specs.Replies.{map_next};
 
     /// The phase that it stands for.
     ghost as_phase: { Self → PhaseType };
@@ -54,7 +55,7 @@ pub trait UnderWay: Copy {
 
     /// What comes after the event, which found this, and the action that it adds.
     fn after(self, found: u64, hook: Result<(), u16>) -> (Next<Self>, Option<Action>)
-        ensures { (at_phases as_phase result.0, result.1) ≡ after_of (as_phase self) found hook };
+        ensures { (map_next as_phase result.0, result.1) ≡ after_of (as_phase self) found hook };
 }
 
 impl UnderWay for Phase {

@@ -9,7 +9,7 @@ use Rattle.gate_world.specs.declared.config.Config.{Config}
 use Rattle.gate_world.specs.declared.operations.Op.{Op}
 use Rattle.gate_world.specs.declared.work.Phase.{Phase}
 use Rattle.gate_world.specs.Views.{held_at, holds_level, phase_after}
-use Rattle.gate_world.specs.Work.{at_phases}
+use Rattle.access_model.specs.Replies.{map_next}
 use Rattle.gate_world.specs.Beginnings.{first_phase, refusal}
 use Rattle.gate_world.specs.Fits.{Fits}
 use Rattle.gate_core.specs.declared.seats.Seat.{Seat}
@@ -39,14 +39,14 @@ none_of (Some phase) is = absurd (cc)
 
 -- the phase that the operation stands at, where it goes on
 pub stands_at : {A : Type 0} (as_phase : A → Phase) (next : Next A) (x : A) → (next ≡ Go x) ⊎ (next ≡ Wait x) →
-    phase_after (at_phases as_phase next) ≡ Some (as_phase x)
-stands_at as_phase next x (inl is) = ap (λ n. phase_after (at_phases as_phase n)) is
-stands_at as_phase next x (inr is) = ap (λ n. phase_after (at_phases as_phase n)) is
+    phase_after (map_next as_phase next) ≡ Some (as_phase x)
+stands_at as_phase next x (inl is) = ap (λ n. phase_after (map_next as_phase n)) is
+stands_at as_phase next x (inr is) = ap (λ n. phase_after (map_next as_phase n)) is
 
 -- and what comes next, where it replied
 pub done_at : {A : Type 0} (as_phase : A → Phase) (next : Next A) (answer : Result Reply GateError) → next ≡ Done answer →
-    at_phases as_phase next ≡ Done answer
-done_at as_phase next answer is = ap (λ n. at_phases as_phase n) is
+    map_next as_phase next ≡ Done answer
+done_at as_phase next answer is = ap (λ n. map_next as_phase n) is
 
 -- where a phase comes next, the operation goes on
 goes_where : (op : Op) (start now : TaskState) (next : Next Phase) (phase : Phase) → phase_after next ≡ Some phase →

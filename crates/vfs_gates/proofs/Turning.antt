@@ -16,7 +16,8 @@ use Rattle.gate_world.specs.Fits.{ActionFits}
 use Rattle.gate_world.specs.Views.{held_at, holds_level, phase_after}
 use Rattle.access_model.specs.declared.replies.Next.TheVariants.{Go, Wait, Done}
 use Rattle.gate_core.specs.declared.seats.Seat.{Seat}
-use Rattle.gate_world.specs.Work.{next_of, after_of, at_phases}
+use Rattle.gate_world.specs.Work.{next_of, after_of}
+use Rattle.access_model.specs.Replies.{map_next}
 use Rattle.gate_world.specs.declared.accesses.Accesses.{Accesses}
 use Rattle.gate_core.specs.Answers.{progress_of}
 use Rattle.gate_world.specs.Accesses.{accesses_after}
@@ -128,12 +129,6 @@ pub tied_at : (number : ℕ) {c d : Config} (begins : Option Op) (flags : List B
 tied_at number {c} {d} begins flags items kept phase ties same is =
     let P : Config × Option Phase → Type 0 = λ z. Ties number z.0 begins (kept_at z.1 kept.accesses) flags items in
     subst P (λ i. (same i, is i)) ties
-
--- what comes next, where each phase stands for itself
-pub at_itself : (next : Next Phase) → at_phases (λ phase. phase) next ≡ next
-at_itself (Go phase) = refl
-at_itself (Wait phase) = refl
-at_itself (Done answer) = refl
 
 -- a step, said with other names of what it was
 pub stepped_there : {phase : Phase} {hook : HookAnswer} {old old_now left left_now : TaskState} {done done_now : Step} →

@@ -7,7 +7,7 @@ use Rattle.gate_world.specs.declared.config.Config.{Config}
 use Rattle.gate_world.specs.declared.operations.Op.{Op}
 use Rattle.gate_world.specs.declared.work.Phase.{Phase}
 use Rattle.gate_world.specs.declared.work.Phase.TheVariants.{Mounts}
-use Rattle.gate_world.specs.Work.{at_phases}
+use Rattle.access_model.specs.Replies.{map_next}
 use Rattle.mount_counts.specs.declared.phases.Want.{Want}
 use Rattle.mount_counts.specs.declared.phases.MountPhase.TheVariants.{Want as Wants}
 use Rattle.gate_core.specs.declared.seats.Seat.{Seat}
@@ -39,4 +39,4 @@ step_was event action next = record { event = Some event; action = action; progr
 
 -- what comes next of a want, as phases
 abbrev pub of_the_want : Next Want → Next Phase
-of_the_want next = at_phases (λ want. Mounts (Wants want)) next
+of_the_want next = map_next (λ want. Mounts (Wants want)) next

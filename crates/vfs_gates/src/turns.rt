@@ -3,7 +3,7 @@
 
 ghost use Rattle.std.specs.Prelude.{◌≡◌, Some, None};
 ghost use Rattle.gate_world.specs.Views.{phase_after};
-ghost use Rattle.gate_world.specs.Work.{at_phases};
+ghost use Rattle.access_model.specs.Replies.{map_next};
 ghost use Rattle.vfs_gates.specs.TaskStates.{task_state};
 ghost use Rattle.vfs_gates.specs.Stepped.{Stepped};
 ghost use Rattle.vfs_gates.specs.Turns.{IsTied, StayTied, step_was};
@@ -40,11 +40,11 @@ pub(crate) fn do_event<P: UnderWay>(
     ensures table { seat.new.table_id ≡ seat.old.table_id }
     ensures slots { seat.new.me.1 ≡ seat.old.me.1 }
     ensures tied { StayTied gates.now.config begins (Some (P.as_phase under_way)) accesses.old seat.old.me.0
-        (phase_after (at_phases P.as_phase result.next)) accesses.new seat.new.me.0 }
+        (phase_after (map_next P.as_phase result.next)) accesses.new seat.new.me.0 }
     ensures stepped { Stepped (P.as_phase under_way) hook
         (task_state seat.old.table_id gates.now.config begins (Some (P.as_phase under_way)) seat.old.me.0)
-        (step_was result.event result.action (at_phases P.as_phase result.next))
-        (task_state seat.new.table_id gates.now.config None (phase_after (at_phases P.as_phase result.next)) seat.new.me.0) }
+        (step_was result.event result.action (map_next P.as_phase result.next))
+        (task_state seat.new.table_id gates.now.config None (phase_after (map_next P.as_phase result.next)) seat.new.me.0) }
 {
     let phase = under_way.phase();
     let event = event(&gates.table.shared, seat, begins, phase, hook);
@@ -72,11 +72,11 @@ pub(crate) fn go_on<P: UnderWay>(
     ensures table { seat.new.table_id ≡ seat.old.table_id }
     ensures slots { seat.new.me.1 ≡ seat.old.me.1 }
     ensures tied { StayTied gates.now.config begins (Some (P.as_phase under_way)) accesses.old seat.old.me.0
-        (phase_after (at_phases P.as_phase result)) accesses.new seat.new.me.0 }
+        (phase_after (map_next P.as_phase result)) accesses.new seat.new.me.0 }
     ensures went { (op : OpType) (start : TaskState) →
         Goes op start (task_state seat.old.table_id gates.now.config begins (Some (P.as_phase under_way)) seat.old.me.0) →
-        Went op start (at_phases P.as_phase result)
-        (task_state seat.new.table_id gates.now.config None (phase_after (at_phases P.as_phase result)) seat.new.me.0) }
+        Went op start (map_next P.as_phase result)
+        (task_state seat.new.table_id gates.now.config None (phase_after (map_next P.as_phase result)) seat.new.me.0) }
 {
     let Turn {
         event: _,

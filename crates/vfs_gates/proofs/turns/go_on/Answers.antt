@@ -1,11 +1,11 @@
-use Rattle.gate_world.specs.Work.{at_phases}
+use Rattle.access_model.specs.Replies.{map_next}
 use Rattle.vfs_gates.proofs.Turning.{went_so}
 use Rattle.vfs_gates.proofs.turns.go_on.Goals as goal
 
 pub returns-clause-went : goal.returns-clause-went
 returns-clause-went g c op start goes =
     went_so c.args.gates.now.config c.args.gates.now.within op start c.do_event-next.result.event c.do_event-next.result.action
-    (at_phases g.P.UnderWay.as_phase c.do_event-next.result.next) c.args.hook
+    (map_next g.P.UnderWay.as_phase c.do_event-next.result.next) c.args.hook
     goes c.do_event-next.ensures.stepped
 
 pub do_event-next-requires-clause-tied : goal.do_event-next-requires-clause-tied

@@ -2,7 +2,7 @@
 use Rattle.std.proofs.Common.{refl, ◌∙◌}
 use Rattle.gate_world.specs.declared.operations.Op.TheVariants.{DropMount}
 use Rattle.gate_world.specs.declared.work.Phase.{Phase}
-use Rattle.gate_world.specs.Work.{at_phases}
+use Rattle.access_model.specs.Replies.{map_next}
 use Rattle.std.proofs.lemmas.Result.{err_from_is_err_and}
 use Rattle.vfs_gates.specs.Runs.{unit_of}
 use Rattle.vfs_gates.proofs.Admitting.{refused_by}
@@ -20,7 +20,7 @@ call c =
 
 abbrev left : (c : After-go_on) → Left (call c)
 left c = record {
-  next = at_phases (λ (p : Phase). p) c.go_on.result;
+  next = map_next (λ (p : Phase). p) c.go_on.result;
   accesses = c.go_on.new.accesses;
   items = c.go_on.new.seat.me.0;
   table = c.go_on.new.seat.table_id;

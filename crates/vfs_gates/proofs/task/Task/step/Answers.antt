@@ -7,7 +7,8 @@ use Rattle.gate_world.specs.Views.{phase_after}
 use Rattle.gate_core.specs.Answers.{progress_of}
 use Rattle.vfs_gates.specs.TaskStates.{TaskState, task_state}
 use Rattle.vfs_gates.specs.Turns.{kept_at}
-use Rattle.vfs_gates.proofs.Turning.{tied_at, at_itself, stepped_there}
+use Rattle.vfs_gates.proofs.Turning.{tied_at, stepped_there}
+use Rattle.access_model.proofs.Mapped.{map_next_same}
 use Rattle.vfs_gates.proofs.task.Task.step.Goals as goal
 
 pub do_event-action-requires-clause-tied : goal.do_event-action-requires-clause-tied
@@ -26,7 +27,7 @@ invariant_of-self c =
     let t = c.self.inside in
     let same : t.config ≡ c.args.gates.now.config = ap (λ (s : TaskState). s.config) c.self.view_is ∙ c.requires.1 in
     let next : Next Phase = c.do_event-action.result.next in
-    let stands = ap (λ (n : Next Phase). phase_after n) (at_itself next) ∙ sym (ap (λ p. p.1) c.of-progress.ensures) in
+    let stands = ap (λ (n : Next Phase). phase_after n) (map_next_same next) ∙ sym (ap (λ p. p.1) c.of-progress.ensures) in
     let tied = c.do_event-action.ensures.tied t.number t.spare
     (tied_at t.number t.begins t.spare t.seat.me.0 t.kept (Some c.in-Some.phase) c.self.invariant.0 same c.in-Some.is) in (
       tied_at t.number None t.spare c.do_event-action.new.seat.me.0 (kept_at _ c.do_event-action.new.accesses) c.of-progress.result.1 tied
@@ -40,8 +41,8 @@ returns-clause-event c =
     let t = c.self.inside in
     let same : t.config ≡ c.args.gates.now.config = ap (λ (s : TaskState). s.config) c.self.view_is ∙ c.requires.1 in
     let next : Next Phase = c.do_event-action.result.next in
-    let stands = ap (λ (n : Next Phase). phase_after n) (at_itself next) ∙ sym (ap (λ p. p.1) c.of-progress.ensures) in
-    let told = ap (λ (n : Next Phase). progress_of n) (at_itself next) ∙ sym (ap (λ p. p.0) c.of-progress.ensures) in
+    let stands = ap (λ (n : Next Phase). phase_after n) (map_next_same next) ∙ sym (ap (λ p. p.1) c.of-progress.ensures) in
+    let told = ap (λ (n : Next Phase). progress_of n) (map_next_same next) ∙ sym (ap (λ p. p.0) c.of-progress.ensures) in
     let before = (λ i. task_state t.seat.table_id (sym same i) t.begins (sym c.in-Some.is i) t.seat.me.0) ∙ c.self.view_is in
     stepped_there c.do_event-action.ensures.stepped before
     (λ i. record { event = Some c.do_event-action.result.event; action = c.do_event-action.result.action; progress = told i })

@@ -7,7 +7,7 @@ use Rattle.gate_world.specs.declared.work.Phase.TheVariants.{Mounts}
 use Rattle.mount_counts.specs.declared.phases.MountPhase.TheVariants.{Want as Wants}
 use Rattle.mount_counts.specs.declared.phases.Want.{Want as WantType}
 use Rattle.mount_counts.specs.declared.phases.WantStep.TheVariants.{CountsUp}
-use Rattle.gate_world.specs.Work.{at_phases}
+use Rattle.access_model.specs.Replies.{map_next}
 use Rattle.std.proofs.lemmas.Result.{err_from_is_err_and}
 use Rattle.vfs_gates.specs.Runs.{unit_of}
 use Rattle.vfs_gates.proofs.Admitting.{admitted_by, refused_by}
@@ -34,7 +34,7 @@ call c =
 
 abbrev left : (c : After-want_in_line) → Left (call c)
 left c = record {
-  next = at_phases as_phase c.want_in_line.result;
+  next = map_next as_phase c.want_in_line.result;
   accesses = c.want_in_line.new.accesses;
   items = c.want_in_line.new.seat.me.0;
   table = c.want_in_line.new.seat.table_id;
