@@ -5,7 +5,8 @@ use Rattle.access_model.specs.declared.replies.Next.TheVariants.{Go, Wait, Done}
 use Rattle.access_model.specs.Replies.{map_next}
 
 -- one map after another is the map of both
-pub map_next_twice : {A B C : Type 0} (to : B → C) (from : A → B) (next : Next A) → map_next to (map_next from next) ≡ map_next (λ x. to (from x)) next
+pub map_next_twice : {A B C : Type 0} (to : B → C) (from : A → B) (next : Next A) →
+    map_next to (map_next from next) ≡ map_next (λ x. to (from x)) next
 map_next_twice to from (Go phase) = refl
 map_next_twice to from (Wait phase) = refl
 map_next_twice to from (Done answer) = refl

@@ -154,7 +154,8 @@ changes_no_access m false (Ok reply) trace l =
 
 -- one that waits is refused only as busy
 busy_alone :
-    (c : Config) (m : ℕ) (ro : Bool) (trace : List Traced) (answer : Result Reply GateError) → IsHonestAnswer c (ChangeMount m ro true) answer trace →
+    (c : Config) (m : ℕ) (ro : Bool) (trace : List Traced) (answer : Result Reply GateError) →
+    IsHonestAnswer c (ChangeMount m ro true) answer trace →
     IfErr (told_as unit_of answer) (λ refusal. refusal ≡ Busy)
 busy_alone c m ro trace (Ok reply) honest = tt
 busy_alone c m ro trace (Err Busy) honest = refl

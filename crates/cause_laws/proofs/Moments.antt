@@ -35,7 +35,8 @@ module _ (t : ℕ) (w : World) (earlier : List World) where
   pub sum_begins : words_read (w.views t).phase ≡ Some 0 → moments_of_sum t (w ∷ earlier) ≡ w ∷ []
   sum_begins h = rw h refl
 
-  pub sum_goes : (k : ℕ) → words_read (w.views t).phase ≡ Some k → (k ≡ 0 → ⊥) → moments_of_sum t (w ∷ earlier) ≡ w ∷ moments_of_sum t earlier
+  pub sum_goes : (k : ℕ) → words_read (w.views t).phase ≡ Some k → (k ≡ 0 → ⊥) →
+      moments_of_sum t (w ∷ earlier) ≡ w ∷ moments_of_sum t earlier
   sum_goes k h ne = rw (h, ne_eqb k 0 ne) refl
 
 -- where nothing is counted, a sum that begins leads by 0
@@ -49,7 +50,8 @@ fresh_lead c w good m lm none =
     omega (arith, s, a, none)
 
 -- nothing was counted in any of these worlds
-pub none_counted : (c : Config) (m : ℕ) (w : World) (earlier : List World) → was_counted c m (w ∷ earlier) ≡ false → (all_counted c m w ≡ 0) × (was_counted c m earlier ≡ false)
+pub none_counted : (c : Config) (m : ℕ) (w : World) (earlier : List World) → was_counted c m (w ∷ earlier) ≡ false →
+    (all_counted c m w ≡ 0) × (was_counted c m earlier ≡ false)
 none_counted c m w earlier h =
     elim (cases_Bool (nat_lt 0 (all_counted c m w))) [
       | inl a ↦ absurd (true≢false (rw a at h))

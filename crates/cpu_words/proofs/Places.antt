@@ -95,7 +95,8 @@ module _ (e : Extents) (few : AreFew e) where
         ]
 
 -- zeros in a list of this length, with the root's word written, are all words as they begin
-pub opening_from : (index : ℕ → ℕ) (size at : ℕ) (xs : List ℕ) → index (place (Node 0)) < size → at ≡ index (place (Node 0)) → xs ≡ replicate size 0 →
+pub opening_from : (index : ℕ → ℕ) (size at : ℕ) (xs : List ℕ) → index (place (Node 0)) < size → at ≡ index (place (Node 0)) →
+    xs ≡ replicate size 0 →
     AreOpening index size (slice_set xs at 2)
 opening_from index size at xs inside at_is xs_is =
     let root : ℕ = index (place (Node 0)) in

@@ -41,13 +41,15 @@ wide_after held (Some a) = refl
 module _ (held : Accesses) (long : length held.mounts ≡ 8) (wide : length held.levels ≡ 4) where
   -- what an action leaves at each mount agrees, where what it finds does
   pub mounts_same : (mounts : ℕ) (seen : ℕ → ℕ) (a : Option Action) → ActionFits (mounts_held held) a →
-      ((m : ℕ) → m < mounts → mounts_held held m ≡ seen m) → (m : ℕ) → m < mounts → mounts_held (accesses_after held a) m ≡ mounts_by a seen m
+      ((m : ℕ) → m < mounts → mounts_held held m ≡ seen m) → (m : ℕ) → m < mounts →
+      mounts_held (accesses_after held a) m ≡ mounts_by a seen m
   mounts_same mounts seen None f h m lt = h m lt
   mounts_same mounts seen (Some (Grant (Mount n))) f h m lt =
       elim (eqb_tells m n) [
         | inl e ↦
             rw (e.1, update_at seen n (seen n + 1))
-            (get_or-set_same held.mounts n (slice_index held.mounts n + 1) 0 (omega (arith, f.0)) ∙ ap (λ y. y + 1) (h n (omega (arith, e.1))))
+            (get_or-set_same held.mounts n (slice_index held.mounts n + 1) 0 (omega (arith, f.0)) ∙
+            ap (λ y. y + 1) (h n (omega (arith, e.1))))
         | inr e ↦
             get_or-set_other held.mounts n m (slice_index held.mounts n + 1) 0 e.1 ∙ (h m lt ∙ sym (update_off seen n (seen n + 1) m e.1))
       ]
@@ -55,7 +57,8 @@ module _ (held : Accesses) (long : length held.mounts ≡ 8) (wide : length held
       elim (eqb_tells m n) [
         | inl e ↦
             rw (e.1, update_at seen n (seen n - 1))
-            (get_or-set_same held.mounts n (slice_index held.mounts n - 1) 0 (omega (arith, f.0)) ∙ ap (λ y. y - 1) (h n (omega (arith, e.1))))
+            (get_or-set_same held.mounts n (slice_index held.mounts n - 1) 0 (omega (arith, f.0)) ∙
+            ap (λ y. y - 1) (h n (omega (arith, e.1))))
         | inr e ↦
             get_or-set_other held.mounts n m (slice_index held.mounts n - 1) 0 e.1 ∙ (h m lt ∙ sym (update_off seen n (seen n - 1) m e.1))
       ]
@@ -72,7 +75,8 @@ module _ (held : Accesses) (long : length held.mounts ≡ 8) (wide : length held
 
   -- what an action leaves of each level agrees, where what it finds does
   pub levels_same : (seen : ℕ → Bool) (a : Option Action) → ActionFits (mounts_held held) a →
-      ((i : ℕ) → 1 ≤ i → i ≤ 3 → levels_held held i ≡ seen i) → (i : ℕ) → 1 ≤ i → i ≤ 3 → levels_held (accesses_after held a) i ≡ levels_by a seen i
+      ((i : ℕ) → 1 ≤ i → i ≤ 3 → levels_held held i ≡ seen i) → (i : ℕ) → 1 ≤ i → i ≤ 3 →
+      levels_held (accesses_after held a) i ≡ levels_by a seen i
   levels_same seen None f h i one three = h i one three
   levels_same seen (Some (Grant (Level n))) f h i one three = level_set seen n true f.1 i (h i one three)
   levels_same seen (Some (Return (Level n))) f h i one three = level_set seen n false f.1 i (h i one three)

@@ -62,9 +62,11 @@ pub view_as : {h h' : ℕ} {a a' k k' : ℕ → ℕ} {r r' : Role} → h ≡ h' 
     ◌≡◌ {A = MountView} (record { held = h; added = a; taken = k; role = r }) (record { held = h'; added = a'; taken = k'; role = r' })
 view_as eh ea ek er = λ i. record { held = eh i; added = ea i; taken = ek i; role = er i }
 
-pub holds_as : {tasks processors f f' r r' s s' : ℕ} {c c' : ℕ → ℕ} {at at' : ℕ → MountView} → f ≡ f' → r ≡ r' → s ≡ s' → c ≡ c' → at ≡ at' →
+pub holds_as : {tasks processors f f' r r' s s' : ℕ} {c c' : ℕ → ℕ} {at at' : ℕ → MountView} → f ≡ f' → r ≡ r' → s ≡ s' → c ≡ c' →
+    at ≡ at' →
     MountHolds tasks processors f' r' s' c' at' → MountHolds tasks processors f r s c at
-holds_as {tasks} {processors} ef er es ec ea h = subst (λ X. X) (sym (λ i. MountHolds tasks processors (ef i) (er i) (es i) (ec i) (ea i))) h
+holds_as {tasks} {processors} ef er es ec ea h = subst (λ X. X) (sym (λ i. MountHolds tasks processors (ef i) (er i) (es i) (ec i) (ea i)))
+    h
 
 -- one mount after an event of this task, which makes this of its flags and counts and of the task's view
 abbrev pub MountHoldsAfter : Config → World → ℕ → ℕ → ℕ → (ℕ → ℕ) → MountView → Type 0
@@ -97,13 +99,16 @@ module _ (c : Config) (w : World) (t : ℕ) (lt : t < c.tasks) where
     mount_ro = λ m. ro_bit (ws.flags m) == 1;
     sb_ro = ws.remount == 1 || ws.sb == 1;
     stage = ws.stage;
-    passed = passed_same ws v 1 (ap (λ f. f 1) eb) (ec 1) j + (passed_same ws v 2 (ap (λ f. f 2) eb) (ec 2) j + passed_same ws v 3 (ap (λ f. f 3) eb) (ec 3) j);
+    passed = passed_same ws v 1 (ap (λ f. f 1) eb) (ec 1) j + (passed_same ws v 2 (ap (λ f. f 2) eb) (ec 2) j + passed_same ws v 3
+        (ap (λ f. f 3) eb) (ec 3) j);
     tree = λ n. node_shown (ws.node n);
   }
 
   -- a view with the same actions shows the same accesses
-  pub shown_still : (ws : Words) (v : View) → ws.block ≡ w.words.block → ws.flags ≡ w.words.flags → ws.remount ≡ w.words.remount → ws.sb ≡ w.words.sb → ws.stage ≡ w.words.stage → ws.node ≡ w.words.node →
-      ((i : ℕ) → closing i v.phase ≡ closing i (w.views t).phase) → held_at v ≡ held_at (w.views t) → holds_level v ≡ holds_level (w.views t) →
+  pub shown_still : (ws : Words) (v : View) → ws.block ≡ w.words.block → ws.flags ≡ w.words.flags → ws.remount ≡ w.words.remount →
+      ws.sb ≡ w.words.sb → ws.stage ≡ w.words.stage → ws.node ≡ w.words.node →
+      ((i : ℕ) → closing i v.phase ≡ closing i (w.views t).phase) → held_at v ≡ held_at (w.views t) →
+      holds_level v ≡ holds_level (w.views t) →
       shown c (record { words = ws; views = update w.views t v }) ≡ shown c w
   shown_still ws v eb ef er es eg en ec eh el =
       shown_as ws v eb ec ∙
@@ -120,8 +125,10 @@ module _ (c : Config) (w : World) (t : ℕ) (lt : t < c.tasks) where
   pub left_alone : (part : Part) (ws : Words) (v : View) → SameWords w.words ws part → SameView (w.views t) v part → Holds c w part →
       Holds c (record { words = ws; views = update w.views t v }) part
   left_alone Owner ws v same seen h = record {
-    locked = λ x lx o. same.0 ∙ each_updated (λ y (u : View). y < c.tasks → owns u.phase ≡ 1 → w.words.umount ≡ suc y) w.views t v x (λ l e. h.locked t l (sym seen.0 ∙ e)) (λ ne. h.locked x) lx o;
-    owned = λ x lx o. each_updated (λ y (u : View). y < c.tasks → w.words.umount ≡ suc y → owns u.phase ≡ 1) w.views t v x (λ l e. seen.0 ∙ h.owned t l e) (λ ne. h.owned x) lx (sym same.0 ∙ o);
+    locked = λ x lx o. same.0 ∙ each_updated (λ y (u : View). y < c.tasks → owns u.phase ≡ 1 → w.words.umount ≡ suc y) w.views t v x
+        (λ l e. h.locked t l (sym seen.0 ∙ e)) (λ ne. h.locked x) lx o;
+    owned = λ x lx o. each_updated (λ y (u : View). y < c.tasks → w.words.umount ≡ suc y → owns u.phase ≡ 1) w.views t v x
+        (λ l e. seen.0 ∙ h.owned t l e) (λ ne. h.owned x) lx (sym same.0 ∙ o);
     known = omega (arith, same.0, h.known);
     bit = omega (arith, same.1, h.bit);
     remounting = omega (arith, same.1, h.remounting, seen.1, total_updated (λ (u : View). remounts u.phase) c.tasks t w.views v lt);
@@ -131,13 +138,15 @@ module _ (c : Config) (w : World) (t : ℕ) (lt : t < c.tasks) where
   left_alone Fitting ws v same seen h = λ x lx.
       each_updated (λ y (u : View). ViewFits c y u) w.views t v x
       (subst (λ (p : Option Phase). Fits c t (held_at v) (holds_level v) p) (sym seen.2)
-      (subst (λ k. Fits c t (held_at v) k (w.views t).phase) (sym seen.1) (subst (λ k. Fits c t k (holds_level (w.views t)) (w.views t).phase) (sym seen.0) (h t lt)))) (λ ne. h x lx)
+      (subst (λ k. Fits c t (held_at v) k (w.views t).phase) (sym seen.1)
+      (subst (λ k. Fits c t k (holds_level (w.views t)) (w.views t).phase) (sym seen.0) (h t lt)))) (λ ne. h x lx)
   left_alone Known ws v same seen h = λ x lx.
       each_updated (λ y (u : View). owns u.phase ≡ 1 → KnowsWords ws u.trace) w.views t v x
       (λ o. subst (KnowsWords ws) (sym seen.1) (known_same w.words ws same (w.views t).trace (h t lt (sym seen.0 ∙ o))))
       (λ ne o. known_same w.words ws same (w.views x).trace (h x lx o))
   left_alone (AtMount m) ws v same seen h = λ lm.
-      holds_as same.0 same.1 same.2 same.3 (update_map (at_mount m) w.views t v ∙ (ap (update (λ x. at_mount m (w.views x)) t) seen ∙ update_same (λ x. at_mount m (w.views x)) t)) (h lm)
+      holds_as same.0 same.1 same.2 same.3 (update_map (at_mount m) w.views t v ∙
+      (ap (update (λ x. at_mount m (w.views x)) t) seen ∙ update_same (λ x. at_mount m (w.views x)) t)) (h lm)
 
   module _ (good : IsGood c w) where
     -- an owner's words and phase as they were
@@ -150,21 +159,26 @@ module _ (c : Config) (w : World) (t : ℕ) (lt : t < c.tasks) where
         ws.remount ≡ w.words.remount → ws.sb ≡ w.words.sb →
         OwnerHolds c.tasks ws.umount ws.remount (λ x. (update w.views t v x).phase) →
         ViewFits c t v →
-        ((n : ℕ) → (n ≡ m → ⊥) → (ws.flags n ≡ w.words.flags n) × (ws.count n ≡ w.words.count n) × (at_mount n v ≡ at_mount n (w.views t))) →
+        ((n : ℕ) → (n ≡ m → ⊥) → (ws.flags n ≡ w.words.flags n) × (ws.count n ≡ w.words.count n) × (at_mount n v ≡ at_mount n (w.views t)))
+        →
         (m < c.mounts → MountHoldsAfter c w t m (ws.flags m) (ws.count m) (at_mount m v)) →
         GatesHold c (record { words = ws; views = update w.views t v })
     gates_after m ws v er es owner fits off own Owner h = owner
     gates_after m ws v er es owner fits off own Superblock h = left_alone Superblock ws v es tt (good Superblock)
-    gates_after m ws v er es owner fits off own Fitting h = λ x lx. each_updated (λ y u. ViewFits c y u) w.views t v x fits (λ ne. good Fitting x lx)
+    gates_after m ws v er es owner fits off own Fitting h = λ x lx. each_updated (λ y u. ViewFits c y u) w.views t v x fits
+        (λ ne. good Fitting x lx)
     gates_after m ws v er es owner fits off own (AtMount n) h = λ ln.
         elim (eqb_tells n m) [
           | inl q ↦
               let lm : m < c.mounts = omega (arith, q.1) in
-              let here : MountHolds c.tasks c.processors (ws.flags m) ws.remount ws.sb (ws.count m) (λ x. at_mount m (update w.views t v x)) =
+              let here : MountHolds c.tasks c.processors (ws.flags m) ws.remount ws.sb (ws.count m)
+              (λ x. at_mount m (update w.views t v x)) =
               holds_as refl er es refl (update_map (at_mount m) w.views t v) (own lm) in
-              subst (λ y. MountHolds c.tasks c.processors (ws.flags y) ws.remount ws.sb (ws.count y) (λ x. at_mount y (update w.views t v x))) (sym q.1) here
+              subst (λ y. MountHolds c.tasks c.processors (ws.flags y) ws.remount ws.sb (ws.count y)
+              (λ x. at_mount y (update w.views t v x))) (sym q.1) here
           | inr q ↦
-              let o : (ws.flags n ≡ w.words.flags n) × (ws.count n ≡ w.words.count n) × (at_mount n v ≡ at_mount n (w.views t)) = off n q.1 in
+              let o : (ws.flags n ≡ w.words.flags n) × (ws.count n ≡ w.words.count n) × (at_mount n v ≡ at_mount n (w.views t)) =
+              off n q.1 in
               left_alone (AtMount n) ws v (o.0, er, es, o.1) o.2 (good (AtMount n)) ln
         ]
     gates_after m ws v er es owner fits off own part h = absurd (true≢false (sym h))

@@ -65,7 +65,8 @@ put_other w (MountFlags m) other value h k = refl
 put_other w word other value h k = absurd (true≢false (sym h))
 
 -- a load leaves each word
-load_leaves : (w : Words) (word other : WordName) (touch : Touch) → is_load touch ≡ true → read (put w other (left touch (read w other))) word ≡ read w word
+load_leaves : (w : Words) (word other : WordName) (touch : Touch) → is_load touch ≡ true →
+    read (put w other (left touch (read w other))) word ≡ read w word
 load_leaves w word other Load h = ap (λ ws. read ws word) (load_same w other)
 load_leaves w word other touch h = absurd (true≢false (sym h))
 
@@ -105,7 +106,8 @@ pub record IsOwnersWork (w : World) (phase : Phase) (hook : HookAnswer) : Type 0
   pub comes_to_own : owns (phase_after (after_of phase (found_at w.words phase hook) hook).0) ≡ 1 →
       (owns (Some phase) ≡ 1) ⊎ (takes_lock (event_on phase (value_at w.words phase hook) hook) ≡ true)
 
-module _ (c : Config) (w : World) (t : ℕ) (phase : Phase) (hook : HookAnswer) (good : IsGood c w) (lt : t < c.tasks) (e : (w.views t).phase ≡ Some phase) (work : IsOwnersWork w phase hook) where
+module _ (c : Config) (w : World) (t : ℕ) (phase : Phase) (hook : HookAnswer) (good : IsGood c w) (lt : t < c.tasks)
+    (e : (w.views t).phase ≡ Some phase) (work : IsOwnersWork w phase hook) where
   -- what the task itself knew, and what its event found or left
   own_known : owns (phase_after (after_of phase (found_at w.words phase hook) hook).0) ≡ 1 →
       KnowsWords (words_after w.words phase hook) (view_after (w.views t) phase (value_at w.words phase hook) hook).trace
@@ -120,14 +122,16 @@ module _ (c : Config) (w : World) (t : ℕ) (phase : Phase) (hook : HookAnswer) 
                 put_owned w.words word (next_of phase hook).0 (left (next_of phase hook).1 (value_at w.words phase hook)) k ∙ cc
             | inr k ↦
                 let was : last_left word (w.views t).trace ≡ Some value = rw (f, k) at h in
-                put_other w.words word (next_of phase hook).0 (left (next_of phase hook).1 (value_at w.words phase hook)) (known_owned word (w.views t).trace value was) k ∙
+                put_other w.words word (next_of phase hook).0 (left (next_of phase hook).1 (value_at w.words phase hook))
+                (known_owned word (w.views t).trace value was) k ∙
                 good Known t lt (ap owns e ∙ g) word value was
           ]
         ]
       ]
 
   -- what another owner knew: the event changes no owned word
-  other_known : (y : ℕ) → y < c.tasks → (y ≡ t → ⊥) → owns (w.views y).phase ≡ 1 → KnowsWords (words_after w.words phase hook) (w.views y).trace
+  other_known : (y : ℕ) → y < c.tasks → (y ≡ t → ⊥) → owns (w.views y).phase ≡ 1 →
+      KnowsWords (words_after w.words phase hook) (w.views y).trace
   other_known y ly ne o word value h =
       let there : read (words_after w.words phase hook) word ≡ read w.words word =
       elim (cases_Bool (is_owned_word word (next_of phase hook).0)) [
@@ -135,7 +139,8 @@ module _ (c : Config) (w : World) (t : ℕ) (phase : Phase) (hook : HookAnswer) 
           | inl f ↦ load_leaves w.words word (next_of phase hook).0 (next_of phase hook).1 f
           | inr f ↦ absurd (ne (omega (arith, (good Owner).locked y ly o, (good Owner).locked t lt (ap owns e ∙ f))))
         ]
-        | inr k ↦ put_other w.words word (next_of phase hook).0 (left (next_of phase hook).1 (value_at w.words phase hook)) (known_owned word (w.views y).trace value h) k
+        | inr k ↦ put_other w.words word (next_of phase hook).0 (left (next_of phase hook).1 (value_at w.words phase hook))
+            (known_owned word (w.views y).trace value h) k
       ] in
       there ∙ good Known y ly o word value h
 

@@ -28,10 +28,16 @@ role_none y m = elim (y == m) as (λ b. role_if b Out ≡ Out) [ true ↦ refl |
 
 -- phases that are as steady as these
 pub steady : {p q r : Option Phase} → p ≡ r → IsSteady r q → IsSteady p q
-steady e s = record { owns_same = s.owns_same ∙ sym (ap owns e); remounts_same = s.remounts_same ∙ sym (ap remounts e); closing_same = λ i. s.closing_same i ∙ sym (ap (closing i) e) }
+steady e s = record {
+  owns_same = s.owns_same ∙ sym (ap owns e);
+  remounts_same = s.remounts_same ∙ sym (ap remounts e);
+  closing_same =
+      λ i. s.closing_same i ∙ sym (ap (closing i) e);
+}
 
 -- events of a layer that closes no level and sets no `remount`
-pub as_owner : {p q : Option Phase} (phase : MountPhase) → p ≡ Some (Mounts phase) → owns q ≡ mount_owns phase → remounts q ≡ 0 → ((i : ℕ) → closing i q ≡ 0) → IsSteady p q
+pub as_owner : {p q : Option Phase} (phase : MountPhase) → p ≡ Some (Mounts phase) → owns q ≡ mount_owns phase → remounts q ≡ 0 →
+    ((i : ℕ) → closing i q ≡ 0) → IsSteady p q
 as_owner phase e o r c = steady e (record { owns_same = o; remounts_same = r; closing_same = c })
 
 -- the world after a load, after which this comes
@@ -43,7 +49,8 @@ after_load w t name hook coming = record {
 
 module _ (c : Config) (w : World) (good : IsGood c w) (t : ℕ) (lt : t < c.tasks) where
   -- the phase fits its task's accesses
-  pub fits_now : (phase : MountPhase) → (w.views t).phase ≡ Some (Mounts phase) → MountFits c t (held_at (w.views t)) (holds_level (w.views t)) phase
+  pub fits_now : (phase : MountPhase) → (w.views t).phase ≡ Some (Mounts phase) →
+      MountFits c t (held_at (w.views t)) (holds_level (w.views t)) phase
   fits_now phase e = subst (Fits c t (held_at (w.views t)) (holds_level (w.views t))) e (good Fitting t lt)
 
   -- a load, after which the task's role is another at one mount at most
@@ -63,7 +70,8 @@ module _ (c : Config) (w : World) (good : IsGood c w) (t : ℕ) (lt : t < c.task
       (λ n ne. (refl, refl, view_as refl (ap (λ f. f n) ea) (ap (λ f. f n) et) (off n ne)))
       (λ lm. subst (MountHoldsAfter c w t m (w.words.flags m) (w.words.count m))
       (view_as refl (ap (λ f. f m) (sym ea)) (ap (λ f. f m) (sym et)) refl) (own lm)) in
-      subst (λ ws. let next_world : World = record { words = ws; views = update w.views t v } in GatesHold c next_world × (shown c next_world ≡ shown c w)) (sym (load_same w.words name))
+      subst (λ ws. let next_world : World = record { words = ws; views = update w.views t v } in GatesHold c next_world ×
+      (shown c next_world ≡ shown c w)) (sym (load_same w.words name))
       (there, shown_still c w t lt w.words v refl refl refl refl refl refl same.closing_same refl refl)
 
   -- a load, after which the task's role is the same at each mount

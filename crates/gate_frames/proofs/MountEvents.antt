@@ -80,12 +80,14 @@ same_words w Known = (refl, refl, refl, refl)
 same_words w (AtMount m) = (refl, refl, refl, refl)
 
 -- a load leaves what each part reads
-pub load_unread : (w : Words) (word : WordName) (touch : Touch) (part : Part) → is_load touch ≡ true → SameWords w (put w word (left touch (read w word))) part
+pub load_unread : (w : Words) (word : WordName) (touch : Touch) (part : Part) → is_load touch ≡ true →
+    SameWords w (put w word (left touch (read w word))) part
 load_unread w word Load part h = subst (λ (ws : Words). SameWords w ws part) (sym (load_same w word)) (same_words w part)
 load_unread w word touch part h = absurd (true≢false (sym h))
 
 -- and the words of want, drop and change are none that the stage's part reads
-unread : (part : Part) → at_gates part ≡ false → is_known part ≡ false → (word : WordName) → is_gate_word word ≡ true → (w : Words) (n : ℕ) → SameWords w (put w word n) part
+unread : (part : Part) → at_gates part ≡ false → is_known part ≡ false → (word : WordName) → is_gate_word word ≡ true →
+    (w : Words) (n : ℕ) → SameWords w (put w word n) part
 unread Stages h k Stage q w n = absurd (true≢false (sym q))
 unread Stages h k word q w n = refl
 unread Known h k word q w n = absurd (true≢false k)
@@ -120,7 +122,8 @@ change_comes x Locks value h =
 change_comes x s value h = inl refl
 
 -- it changes an owned word only as the owner
-change_changes : (x : Change) (s : ChangeStep) → is_owned (change_next x s).0 ≡ true → (is_load (change_next x s).1 ≡ true) ⊎ (change_owns s ≡ 1)
+change_changes : (x : Change) (s : ChangeStep) → is_owned (change_next x s).0 ≡ true →
+    (is_load (change_next x s).1 ≡ true) ⊎ (change_owns s ≡ 1)
 change_changes x Locks h = absurd (true≢false (sym h))
 change_changes x s h = inr refl
 
@@ -143,12 +146,15 @@ mounts_work w (Changes x) hook = record {
 }
 
 -- what an event of want, drop or change leaves of the other parts
-others_hold : (c : Config) (w : World) (t : ℕ) → t < c.tasks → IsGood c w → (hook : HookAnswer) (x : MountPhase) → (w.views t).phase ≡ Some (Mounts x) →
+others_hold : (c : Config) (w : World) (t : ℕ) → t < c.tasks → IsGood c w → (hook : HookAnswer) (x : MountPhase) →
+    (w.views t).phase ≡ Some (Mounts x) →
     (part : Part) → at_gates part ≡ false → (b : Bool) → is_known part ≡ b → Holds c (after_step w t (Mounts x) hook) part
 others_hold c w t lt good hook x e part h true k =
-    subst (Holds c (after_step w t (Mounts x) hook)) (sym (known_is part k)) (known_after c w t (Mounts x) hook good lt e (mounts_work w x hook))
+    subst (Holds c (after_step w t (Mounts x) hook)) (sym (known_is part k))
+    (known_after c w t (Mounts x) hook good lt e (mounts_work w x hook))
 others_hold c w t lt good hook x e part h false k =
-    left_alone c w t lt part (words_after w.words (Mounts x) hook) (view_after (w.views t) (Mounts x) (value_at w.words (Mounts x) hook) hook)
+    left_alone c w t lt part (words_after w.words (Mounts x) hook)
+    (view_after (w.views t) (Mounts x) (value_at w.words (Mounts x) hook) hook)
     (elim (mounts_touch x hook) [
       | inl f ↦ load_unread w.words (next x hook).0 (next x hook).1 part f
       | inr f ↦ unread part h k (next x hook).0 f w.words (left (next x hook).1 (read w.words (next x hook).0))
@@ -156,7 +162,8 @@ others_hold c w t lt good hook x e part h false k =
     (unseen part h k (w.views t) (view_after (w.views t) (Mounts x) (value_at w.words (Mounts x) hook) hook)) (good part)
 
 -- so an event of want, drop or change keeps the rule where it keeps the parts that it may touch
-pub whole_step : (c : Config) (w : World) (t : ℕ) → t < c.tasks → IsGood c w → (hook : HookAnswer) (x : MountPhase) → (w.views t).phase ≡ Some (Mounts x) →
+pub whole_step : (c : Config) (w : World) (t : ℕ) → t < c.tasks → IsGood c w → (hook : HookAnswer) (x : MountPhase) →
+    (w.views t).phase ≡ Some (Mounts x) →
     GateStepKeeps c w t hook (Mounts x) → StepKeeps c w t hook (Mounts x)
 whole_step c w t lt good hook x e keeps = (
   λ part.

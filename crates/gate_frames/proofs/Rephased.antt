@@ -40,7 +40,8 @@ module _ (c : Config) (w : World) (t : ℕ) (lt : t < c.tasks) (q : Option Phase
   -- each part of the rule holds with the other phase
   rephased_part : Fits c t (held_at (w.views t)) (holds_level (w.views t)) q → IsGood c w → (part : Part) → Holds c (rephased w t q) part
   rephased_part fits good Owner =
-      left_alone c w t lt Owner w.words (at_phase (w.views t) q) (refl, refl) (same.steady.owns_same, same.steady.remounts_same) (good Owner)
+      left_alone c w t lt Owner w.words (at_phase (w.views t) q) (refl, refl) (same.steady.owns_same, same.steady.remounts_same)
+      (good Owner)
   rephased_part fits good Superblock = good Superblock
   rephased_part fits good Stages = good Stages
   rephased_part fits good Fitting = λ x lx.
@@ -48,7 +49,8 @@ module _ (c : Config) (w : World) (t : ℕ) (lt : t < c.tasks) (q : Option Phase
   rephased_part fits good Known =
       left_alone c w t lt Known w.words (at_phase (w.views t) q) (refl, refl, refl, refl) (same.steady.owns_same, refl) (good Known)
   rephased_part fits good (AtMount m) =
-      left_alone c w t lt (AtMount m) w.words (at_phase (w.views t) q) (refl, refl, refl, refl) (view_as refl refl refl (same.role_same m)) (good (AtMount m))
+      left_alone c w t lt (AtMount m) w.words (at_phase (w.views t) q) (refl, refl, refl, refl) (view_as refl refl refl (same.role_same m))
+      (good (AtMount m))
 
   -- so the rule does
   pub rephased_good : Fits c t (held_at (w.views t)) (holds_level (w.views t)) q → IsGood c w → IsGood c (rephased w t q)
@@ -75,17 +77,21 @@ made w t n hook coming action = record {
 }
 
 -- an event of a task that stands at one phase, and of the same task at another phase that is alike
-module _ (c : Config) (w : World) (t : ℕ) (lt : t < c.tasks) (p : Option Phase) (n : WordName × Touch) (hook : HookAnswer) (a b : Next Phase) (action : Option Action) where
+module _ (c : Config) (w : World) (t : ℕ) (lt : t < c.tasks) (p : Option Phase) (n : WordName × Touch) (hook : HookAnswer)
+    (a b : Next Phase) (action : Option Action) where
   -- the event of the first, done again at the second's phases, is the event of the second
   made_again : rephased (made (rephased w t p) t n hook a action) t (phase_after b) ≡ made w t n hook b action
   made_again =
       let v : View = at_phase (w.views t) p in
       let u : View = view_with v n (read w.words n.0) hook (a, action) in
       let there : update w.views t v t ≡ v = update_at w.views t v in
-      let once : update (update w.views t v) t (view_with (update w.views t v t) n (read w.words n.0) hook (a, action)) ≡ update w.views t u =
+      let once : update (update w.views t v) t (view_with (update w.views t v t) n (read w.words n.0) hook (a, action)) ≡ update w.views t u
+      =
       ap (λ x. update (update w.views t v) t (view_with x n (read w.words n.0) hook (a, action))) there ∙ update_twice w.views t v u in
-      let again : update (update w.views t u) t (at_phase (update w.views t u t) (phase_after b)) ≡ update w.views t (at_phase u (phase_after b)) =
-      ap (λ x. update (update w.views t u) t (at_phase x (phase_after b))) (update_at w.views t u) ∙ update_twice w.views t u (at_phase u (phase_after b)) in
+      let again : update (update w.views t u) t (at_phase (update w.views t u t) (phase_after b)) ≡ update w.views t
+      (at_phase u (phase_after b)) =
+      ap (λ x. update (update w.views t u) t (at_phase x (phase_after b))) (update_at w.views t u) ∙
+      update_twice w.views t u (at_phase u (phase_after b)) in
       λ j. record {
         words = put w.words n.0 (left n.1 (read w.words n.0));
         views = (ap (λ f. update f t (at_phase (f t) (phase_after b))) once ∙ again) j;
@@ -106,14 +112,17 @@ module _ (c : Config) (w : World) (t : ℕ) (lt : t < c.tasks) (p : Option Phase
       let there : World = made first t n hook a action in
       let l : IsGood c there × Moves c (shown c first) t action (shown c there) =
       law (rephased_good c w t lt p before fits good) (ap (λ (x : View). x.phase) (update_at w.views t v)) in
-      let is : there.views t ≡ u = update_at first.views t _ ∙ ap (λ x. view_with x n (read w.words n.0) hook (a, action)) (update_at w.views t v) in
+      let is : there.views t ≡ u = update_at first.views t _ ∙ ap (λ x. view_with x n (read w.words n.0) hook (a, action))
+      (update_at w.views t v) in
       let same : IsAlike (there.views t).phase (phase_after b) = alike_of (ap (λ (x : View). x.phase) is) after in
       let fit : Fits c t (held_at u) (holds_level u) (phase_after b) =
       subst (λ k. Fits c t (held_at u) k (phase_after b)) (sym (levels_more action (w.views t).actions))
-      (subst (λ h. Fits c t h (levels_by action (holds_level (w.views t))) (phase_after b)) (sym (mounts_more action (w.views t).actions)) fits_after) in
+      (subst (λ h. Fits c t h (levels_by action (holds_level (w.views t))) (phase_after b))
+      (sym (mounts_more action (w.views t).actions)) fits_after) in
       let fit_there : Fits c t (held_at (there.views t)) (holds_level (there.views t)) (phase_after b) =
       subst (λ (x : View). Fits c t (held_at x) (holds_level x) (phase_after b)) (sym is) fit in (
         subst (λ x. IsGood c x) made_again (rephased_good c there t lt (phase_after b) same fit_there l.0),
         subst (λ s. Moves c s t action (shown c (made w t n hook b action))) (rephased_shown c w t lt p before)
-            (subst (λ s. Moves c (shown c first) t action s) (sym (rephased_shown c there t lt (phase_after b) same) ∙ ap (shown c) made_again) l.1),
+            (subst (λ s. Moves c (shown c first) t action s) (sym (rephased_shown c there t lt (phase_after b) same) ∙
+            ap (shown c) made_again) l.1),
       )

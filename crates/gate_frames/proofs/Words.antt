@@ -15,10 +15,14 @@ load_same w Stage = refl
 load_same w SbFlags = refl
 load_same w Remount = refl
 load_same w (MountFlags m) = λ j. record w { flags = update_same w.flags m j }
-load_same w (MountCount m p) = λ j. record w { count = (ap (λ g. update w.count m g) (update_same (w.count m) p) ∙ update_same w.count m) j }
+load_same w (MountCount m p) = λ j. record w {
+  count = (ap (λ g. update w.count m g) (update_same (w.count m) p) ∙ update_same w.count m) j;
+}
 load_same w (Block i) = λ j. record w { block = update_same w.block i j }
 load_same w (Sync i) = λ j. record w { sync = update_same w.sync i j }
-load_same w (LevelCount i p) = λ j. record w { level = (ap (λ g. update w.level i g) (update_same (w.level i) p) ∙ update_same w.level i) j }
+load_same w (LevelCount i p) = λ j. record w {
+  level = (ap (λ g. update w.level i g) (update_same (w.level i) p) ∙ update_same w.level i) j;
+}
 load_same w (Section u) = λ j. record w { section = update_same w.section u j }
 load_same w Used = refl
 load_same w (Node n) = λ j. record w { node = update_same w.node n j }

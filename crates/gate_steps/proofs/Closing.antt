@@ -9,7 +9,8 @@ use Rattle.gate_steps.proofs.Dealing.{known_here}
 use Rattle.gate_steps.proofs.Lifting.{holds}
 
 -- what the last state of a table says of its words and of a seat
-pub closes : (c : Config) (id : ℕ) (items : SeatItems) (ws : List ℕ) (slots : List (Unit {0})) → Final (Seen (holds c) id items) ws slots → IsClosing c ws items
+pub closes : (c : Config) (id : ℕ) (items : SeatItems) (ws : List ℕ) (slots : List (Unit {0})) → Final (Seen (holds c) id items) ws slots →
+    IsClosing c ws items
 closes c id items ws slots final =
     let s = final.0 in
     let held : Held c s.words s.views = final.1.0 in record {

@@ -29,15 +29,18 @@ pub times-without : (n : ℕ) (l : SeatItems) → times n (without n l) ≡ 0
 times-without n [] = refl
 times-without n (x ∷ xs) = dite (ℕ_discrete x.number n)
     (λ yes. ap (λ b. times n (cond b (without n xs) (x ∷ without n xs))) (eq-eqb x.number n yes) ∙ times-without n xs)
-    (λ no. ap (λ b. times n (cond b (without n xs) (x ∷ without n xs))) (ne_eqb x.number n no) ∙ (let r = times-without n xs in omega (arith, one_if-other x.number n no)))
+    (λ no. ap (λ b. times n (cond b (without n xs) (x ∷ without n xs))) (ne_eqb x.number n no) ∙
+    (let r = times-without n xs in omega (arith, one_if-other x.number n no)))
 
 pub times-without_other : (m n : ℕ) (l : SeatItems) → m ≢ n → times m (without n l) ≡ times m l
 times-without_other m n [] ne = refl
 times-without_other m n (x ∷ xs) ne =
     let r = times-without_other m n xs ne in
     dite (ℕ_discrete x.number n)
-    (λ yes. ap (λ b. times m (cond b (without n xs) (x ∷ without n xs))) (eq-eqb x.number n yes) ∙ (let z = one_if-other x.number m (λ q. ne (sym q ∙ yes)) in omega arith))
-    (λ no. ap (λ b. times m (cond b (without n xs) (x ∷ without n xs))) (ne_eqb x.number n no) ∙ ap (λ (k : ℕ). one_if (eqb x.number m) + k) r)
+    (λ yes. ap (λ b. times m (cond b (without n xs) (x ∷ without n xs))) (eq-eqb x.number n yes) ∙
+    (let z = one_if-other x.number m (λ q. ne (sym q ∙ yes)) in omega arith))
+    (λ no. ap (λ b. times m (cond b (without n xs) (x ∷ without n xs))) (ne_eqb x.number n no) ∙
+    ap (λ (k : ℕ). one_if (eqb x.number m) + k) r)
 
 -- the entry stands in the list, and is another number's
 abbrev IsAmongOthers : SeatItems → ℕ → Numbered → Type 0
@@ -51,26 +54,35 @@ without-at_kept n x xs (suc k) y ne e r = let t = r k y e in (suc t.0, t.1, t.2)
 without-at : (n : ℕ) (l : SeatItems) (k : ℕ) (y : Numbered) → get_elem? (without n l) k ≡ some y → IsAmongOthers l n y
 without-at n [] k y e = absurd (some-ne-none y (sym e))
 without-at n (x ∷ xs) k y e = dite (ℕ_discrete x.number n)
-    (λ yes. let r = without-at n xs k y (subst (λ b. get_elem? (cond b (without n xs) (x ∷ without n xs)) k ≡ some y) (eq-eqb x.number n yes) e) in (suc r.0, r.1, r.2))
-    (λ no. without-at_kept n x xs k y no (subst (λ b. get_elem? (cond b (without n xs) (x ∷ without n xs)) k ≡ some y) (ne_eqb x.number n no) e) (without-at n xs))
+    (λ yes. let r = without-at n xs k y (subst (λ b. get_elem? (cond b (without n xs) (x ∷ without n xs)) k ≡ some y)
+    (eq-eqb x.number n yes) e) in (suc r.0, r.1, r.2))
+    (λ no. without-at_kept n x xs k y no (subst (λ b. get_elem? (cond b (without n xs) (x ∷ without n xs)) k ≡ some y)
+    (ne_eqb x.number n no) e) (without-at n xs))
 
 -- a number that is counted stands there with its view
 pub view_in-at : (n : ℕ) (l : SeatItems) → 1 ≤ times n l → (j : ℕ) × (get_elem? l j ≡ some (numbered n (view_in n l)))
 view_in-at n [] some_there = absurd (omega arith)
 view_in-at n (x ∷ xs) some_there = dite (ℕ_discrete x.number n)
-    (λ yes. (0, ap some (λ i. numbered (yes i) x.view) ∙ ap (λ b. some (numbered n (cond b x.view (view_in n xs)))) (sym (eq-eqb x.number n yes))))
-    (λ no. let r = view_in-at n xs (omega (arith, one_if-other x.number n no)) in (suc r.0, r.1 ∙ ap (λ b. some (numbered n (cond b x.view (view_in n xs)))) (sym (ne_eqb x.number n no))))
+    (λ yes. (
+      0,
+      ap some (λ i. numbered (yes i) x.view) ∙ ap (λ b. some (numbered n (cond b x.view (view_in n xs))))
+          (sym (eq-eqb x.number n yes)),
+    ))
+    (λ no. let r = view_in-at n xs (omega (arith, one_if-other x.number n no)) in
+    (suc r.0, r.1 ∙ ap (λ b. some (numbered n (cond b x.view (view_in n xs)))) (sym (ne_eqb x.number n no))))
 
 -- so, where the numbers have their views, it is the view of that number
 pub view_in-is : (views : ℕ → View) (l : SeatItems) (n : ℕ) → HaveViews views l → 1 ≤ times n l → views n ≡ view_in n l
 view_in-is views l n mine some_there = let r = view_in-at n l some_there in mine r.0 (numbered n (view_in n l)) r.1
 
-at_append : {A : Type 0} (l m : List A) (k : ℕ) (y : A) → get_elem? (l ++ m) k ≡ some y → (get_elem? l k ≡ some y) ⊎ ((j : ℕ) × (get_elem? m j ≡ some y))
+at_append : {A : Type 0} (l m : List A) (k : ℕ) (y : A) → get_elem? (l ++ m) k ≡ some y →
+    (get_elem? l k ≡ some y) ⊎ ((j : ℕ) × (get_elem? m j ≡ some y))
 at_append [] m k y e = inr (k, e)
 at_append (x ∷ xs) m zero y e = inl e
 at_append (x ∷ xs) m (suc k) y e = at_append xs m k y e
 
-module _ (tasks : ℕ) (views : ℕ → View) (seats : List SeatItems) (dealt : Dealt tasks views seats) (id n : ℕ) (x : Numbered) (xs : SeatItems) (at : get_elem? seats id ≡ some (x ∷ xs)) (spare : 1 ≤ times n xs) where
+module _ (tasks : ℕ) (views : ℕ → View) (seats : List SeatItems) (dealt : Dealt tasks views seats) (id n : ℕ) (x : Numbered)
+    (xs : SeatItems) (at : get_elem? seats id ≡ some (x ∷ xs)) (spare : 1 ≤ times n xs) where
   only : (times n (x ∷ xs) ≡ 1) × (times n xs ≡ 1) × (x.number ≢ n)
   only =
       let all = times_all-one n seats id (x ∷ xs) at in
@@ -98,7 +110,12 @@ module _ (tasks : ℕ) (views : ℕ → View) (seats : List SeatItems) (dealt : 
     divided : Dealt tasks new (set seats id (x ∷ without n xs) ++ (numbered n w ∷ []) ∷ [])
     divided =
         let same : (m : ℕ) → times_all m (set seats id (x ∷ without n xs) ++ (numbered n w ∷ []) ∷ []) ≡ times_all m seats =
-        λ m. omega (arith, times_all-snoc m (set seats id (x ∷ without n xs)) (numbered n w ∷ []), times_all-set m seats id (x ∷ xs) (x ∷ without n xs) at, counts m w) in
+        λ m. omega (
+          arith,
+          times_all-snoc m (set seats id (x ∷ without n xs)) (numbered n w ∷ []),
+          times_all-set m seats id (x ∷ xs) (x ∷ without n xs) at,
+          counts m w,
+        ) in
         let here : 1 ≤ times n (x ∷ xs) = let a = only.0 in omega arith in
         record {
           once = λ m lt. same m ∙ dealt.once m lt;
@@ -166,22 +183,30 @@ splits c id n (x ∷ xs) spare s held at =
       };
       history = renewed_history c w n lt held.history;
       reached = renewed_reached c w held.reached n;
-      dealt = divided c.tasks w.views s.views held.dealt id n x xs at spare (renewed u) (update w.views n v) (update_at w.views n v ∙ ap renewed is) (λ y ne. update_off w.views n v y ne);
+      dealt = divided c.tasks w.views s.views held.dealt id n x xs at spare (renewed u) (update w.views n v)
+          (update_at w.views n v ∙ ap renewed is) (λ y ne. update_off w.views n v y ne);
     }
 
-module _ (tasks : ℕ) (views : ℕ → View) (seats : List SeatItems) (dealt : Dealt tasks views seats) (id other : ℕ) (v w : SeatItems) (at : get_elem? seats id ≡ some v) (ne : ¬ (other ≡ id)) (at' : get_elem? seats other ≡ some w) where
+module _ (tasks : ℕ) (views : ℕ → View) (seats : List SeatItems) (dealt : Dealt tasks views seats) (id other : ℕ) (v w : SeatItems)
+    (at : get_elem? seats id ≡ some v) (ne : ¬ (other ≡ id)) (at' : get_elem? seats other ≡ some w) where
   merged : Dealt tasks views (set (set seats id (v ++ w)) other [])
   merged =
       let then_at : get_elem? (set seats id (v ++ w)) other ≡ some w = set_else seats id other (v ++ w) ne ∙ at' in
       let same : (m : ℕ) → times_all m (set (set seats id (v ++ w)) other []) ≡ times_all m seats =
-      λ m. omega (arith, times_all-set m (set seats id (v ++ w)) other w [] then_at, times_all-set m seats id v (v ++ w) at, times-append m v w) in
+      λ m. omega (
+        arith,
+        times_all-set m (set seats id (v ++ w)) other w [] then_at,
+        times_all-set m seats id v (v ++ w) at,
+        times-append m v w,
+      ) in
       record {
         once = λ m lt. same m ∙ dealt.once m lt;
         no_other = λ m ge. same m ∙ dealt.no_other m ge;
         same = λ j m e k y f. ⊎_elim
             (λ q. absurd (some-ne-none y (sym (subst (λ l. get_elem? l k ≡ some y) (sym q.1) f))))
             (λ q. ⊎_elim
-            (λ r. ⊎_elim (λ t. dealt.same id v at k y t) (λ t. dealt.same other w at' t.0 y t.1) (at_append v w k y (subst (λ l. get_elem? l k ≡ some y) (sym r.1) f)))
+            (λ r. ⊎_elim (λ t. dealt.same id v at k y t) (λ t. dealt.same other w at' t.0 y t.1)
+            (at_append v w k y (subst (λ l. get_elem? l k ≡ some y) (sym r.1) f)))
             (λ r. dealt.same j m r.1 k y f)
             (at_set seats id j (v ++ w) m q.1))
             (at_set (set seats id (v ++ w)) other j [] m e);

@@ -114,7 +114,8 @@ enter c lim w good x lt h mine (Some op) phase may =
     let t : ℕ = x.number in
     let v : View = begun_view (w.views t) op (first_phase c t op) in
     let ok : view_refusal c (w.views t) op ≡ None = ap (λ u. view_refusal c u op) mine ∙ may.0 in
-    let kept = begun_keeps c lim w good t lt op (may_begin c (is_some (w.views t).phase) (held_at (w.views t)) (holds_level (w.views t)) op ok) in
+    let kept = begun_keeps c lim w good t lt op (may_begin c (is_some (w.views t).phase) (held_at (w.views t))
+    (holds_level (w.views t)) op ok) in
     let here : update w.views t v t ≡ v = update_at w.views t v in
     record {
       good = kept.0;
@@ -137,8 +138,10 @@ touched others u v phase n hook is none =
     no
 
 -- Whatever the event, the laws of the machine are what the step asks
-pub lifted : (c : Config) (slots id : ℕ) (items : SeatItems) (carried : Carried) (begins : Option Op) (phase : Phase) (hook : HookAnswer) → Acts c begins phase items →
-    Allows (holds c) slots id (items, carried) (table_index (place (next_of phase hook).0)) (left (next_of phase hook).1) (λ n. happened c begins phase hook (items, carried) (found_by (next_of phase hook).1 n))
+pub lifted : (c : Config) (slots id : ℕ) (items : SeatItems) (carried : Carried) (begins : Option Op) (phase : Phase) (hook : HookAnswer) →
+    Acts c begins phase items →
+    Allows (holds c) slots id (items, carried) (table_index (place (next_of phase hook).0)) (left (next_of phase hook).1)
+    (λ n. happened c begins phase hook (items, carried) (found_by (next_of phase hook).1 n))
 lifted c slots id [] carried begins phase hook acts s held len at small = absurd acts
 lifted c slots id (x ∷ xs) carried begins phase hook acts s held len at small =
     let t : ℕ = x.number in
@@ -160,13 +163,15 @@ lifted c slots id (x ∷ xs) carried begins phase hook acts s held len at small 
     let kept : IsGood c after × Moves c (shown c w') t a (shown c after) =
     (beside.0, subst (Moves c (shown c w') t a) beside.1 law.1) in
     let there : IsWord (extents_of c) name =
-    word_there c lim t (held_at (w'.views t)) (holds_level (w'.views t)) phase hook (subst (λ o. Fits c t (held_at (w'.views t)) (holds_level (w'.views t)) o) en.at_phase (en.good Fitting t lt)) in
+    word_there c lim t (held_at (w'.views t)) (holds_level (w'.views t)) phase hook
+    (subst (λ o. Fits c t (held_at (w'.views t)) (holds_level (w'.views t)) o) en.at_phase (en.good Fitting t lt)) in
     let i : ℕ = table_index (place name) in
     let n : ℕ = slice_index s.words i in
     let value : n ≡ value_at w'.words phase hook = held.ruled.words name there ∙ ap (λ (l : Words). read l name) (sym en.words) in
     let table : TableShows c (set s.words i (left touch n)) (words_after w'.words phase hook) =
     subst (λ m. TableShows c (set s.words i (left touch n)) (put w'.words name (left touch m))) value
-    (table_written c lim s.words w'.words name (left touch n) held.ruled.long there (subst (TableShows c s.words) (sym en.words) held.ruled.words)) in
+    (table_written c lim s.words w'.words name (left touch n) held.ruled.long there
+    (subst (TableShows c s.words) (sym en.words) held.ruled.words)) in
     let v : View = view_after_beside others (entered x.view begins phase) phase (found_by touch n) hook in
     let v' : View = view_after_beside others (w'.views t) phase (value_at w'.words phase hook) hook in
     let own : after.views t ≡ v =
@@ -213,7 +218,8 @@ lifted c slots id (x ∷ xs) carried begins phase hook acts s held len at small 
           mine = mine;
           found = ap (found_by touch) (held.ruled.words name there);
           after = kept.0;
-          moves = subst (λ (z : Shown × Words). Moves c z.0 t (after_of phase (found_at z.1 phase hook) hook).1 (shown c after)) (λ j. (en.shows j, en.words j)) kept.1;
+          moves = subst (λ (z : Shown × Words). Moves c z.0 t (after_of phase (found_at z.1 phase hook) hook).1 (shown c after))
+              (λ j. (en.shows j, en.words j)) kept.1;
           past = held.history;
           history = history;
           grows = ap (λ (z : Words). with_action t (after_of phase (found_at z phase hook) hook).1 log) en.words;
@@ -223,11 +229,14 @@ lifted c slots id (x ∷ xs) carried begins phase hook acts s held len at small 
     )
 
 -- The same at a place, a touch and a moment that equal those of the phase, with the place's bound
-pub lifted_at : (c : Config) (slots words id : ℕ) (me : Me (Unit {0}) SeatItems) (d : Config) (begins starts : Option Op) (p q : Phase) (h k : HookAnswer) (r : WordName × Touch) (i : ℕ) (touch : Touch) →
-    c ≡ d → begins ≡ starts → p ≡ q → h ≡ k → r ≡ next_of p h → i ≡ table_index (place r.0) → r.1 ≡ touch → words ≡ table_length → place (next_of p h).0 < words_in_all → Acts c begins p me.0 →
+pub lifted_at : (c : Config) (slots words id : ℕ) (me : Me (Unit {0}) SeatItems) (d : Config) (begins starts : Option Op) (p q : Phase)
+    (h k : HookAnswer) (r : WordName × Touch) (i : ℕ) (touch : Touch) →
+    c ≡ d → begins ≡ starts → p ≡ q → h ≡ k → r ≡ next_of p h → i ≡ table_index (place r.0) → r.1 ≡ touch → words ≡ table_length →
+    place (next_of p h).0 < words_in_all → Acts c begins p me.0 →
     (i < words) × Allows (holds c) slots id me i (left touch) (λ n. happened d starts q k me (found_by touch n))
 lifted_at c slots words id me d begins starts p q h k r i touch ec eb ep eh er ei et ew small acts =
     let at : i ≡ table_index (place (next_of p h).0) = ei ∙ ap (λ (z : WordName × Touch). table_index (place z.0)) er in
     let same : (next_of p h).1 ≡ touch = ap (λ (z : WordName × Touch). z.1) (sym er) ∙ et in
-    let P : Config × Option Op × Phase × HookAnswer × ℕ × Touch → Type 0 = λ z. Allows (holds c) slots id me z.4 (left z.5) (λ n. happened z.0 z.1 z.2 z.3 me (found_by z.5 n)) in
+    let P : Config × Option Op × Phase × HookAnswer × ℕ × Touch →
+    Type 0 = λ z. Allows (holds c) slots id me z.4 (left z.5) (λ n. happened z.0 z.1 z.2 z.3 me (found_by z.5 n)) in
     (omega arith, subst P (λ j. (ec j, eb j, ep j, eh j, sym at j, same j)) (lifted c slots id me.0 me.1 begins p h acts))

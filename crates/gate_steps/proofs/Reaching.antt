@@ -21,7 +21,8 @@ use Rattle.gate_steps.specs.Seating.{renewed}
 use Rattle.gate_steps.specs.Rules.{IsLike, IsReached}
 
 -- views that agree agree after one of each is replaced by views that agree
-like_update : (f g : ℕ → View) (t : ℕ) (v u : View) → IsLike v u → ((x : ℕ) → IsLike (f x) (g x)) → (x : ℕ) → IsLike (update f t v x) (update g t u x)
+like_update : (f g : ℕ → View) (t : ℕ) (v u : View) → IsLike v u → ((x : ℕ) → IsLike (f x) (g x)) → (x : ℕ) →
+    IsLike (update f t v x) (update g t u x)
 like_update f g t v u like each x =
     elim (eqb_tells x t) [
       | inl e ↦ subst (λ y. IsLike (update f t v y) (update g t u y)) (sym e.1) (rw (update_at f t v, update_at g t u) like)
@@ -65,7 +66,8 @@ module _ (c : Config) (w : World) (reached : IsReached c w) where
           entries = reached.entries ++ Begins t op ∷ [];
           words = ap (λ (v : World). v.words) same ∙ reached.words;
           views = λ x. subst (λ (v : World). IsLike (v.views x) ((after_begin c w t op).views x)) (sym same)
-              (like_update there.views w.views t (begun_view (there.views t) op (first_phase c t op)) (begun_view (w.views t) op (first_phase c t op))
+              (like_update there.views w.views t (begun_view (there.views t) op (first_phase c t op))
+              (begun_view (w.views t) op (first_phase c t op))
               begun reached.views x);
         }
 

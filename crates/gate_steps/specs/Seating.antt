@@ -91,7 +91,8 @@ world_left c w begins phase hook n others = after_step_beside (done_by others) (
 -- The event happened in some world that the rule holds of, with one history, in which the seat's numbers have their views. What it left
 -- is such a world too, in which they have the views that the seat knows then. It moves the shown model by its action, and its history is
 -- the one before with this action.
-pub record Moved (c : Config) (begins : Option Op) (phase : Phase) (hook : HookAnswer) (x : Numbered) (xs : SeatItems) (n : ℕ) : Type 0 where
+pub record Moved (c : Config) (begins : Option Op) (phase : Phase) (hook : HookAnswer) (x : Numbered) (xs : SeatItems)
+    (n : ℕ) : Type 0 where
   pub world : World
   pub task : x.number < c.tasks
   pub before : IsGood c world
@@ -111,8 +112,10 @@ IsMove c begins phase hook (x ∷ xs) found = Moved c begins phase hook x xs fou
 
 -- what the one play says: the seat's own view is what the event makes of it, nothing else of the seat changed, and it was an event
 -- in a world that the rule holds of
-abbrev pub happened : Config → Option Op → Phase → HookAnswer → SeatItems × List (ℕ × Unit {0}) → ℕ → SeatItems × List (ℕ × Unit {0}) → Type 0
-happened c begins phase hook me found after = (after.0 ≡ items_after begins phase hook found me.0) × (after.1 ≡ me.1) × IsMove c begins phase hook me.0 found
+abbrev pub happened : Config → Option Op → Phase → HookAnswer → SeatItems × List (ℕ × Unit {0}) → ℕ → SeatItems × List (ℕ × Unit {0}) →
+    Type 0
+happened c begins phase hook me found after = (after.0 ≡ items_after begins phase hook found me.0) × (after.1 ≡ me.1) ×
+    IsMove c begins phase hook me.0 found
 
 abbrev pub without : ℕ → SeatItems → SeatItems
 without n [] = []

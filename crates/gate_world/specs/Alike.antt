@@ -1,4 +1,5 @@
--- Phases that stand for one another: all that the rule reads of the one it reads of the other. So an operation that goes through the phases of another, as
+-- Phases that stand for one another: all that the rule reads of the one it reads of the other. So an operation that goes through the
+-- phases of another, as
 -- a part of its own, needs no second proof of its events.
 use Rattle.std.specs.Prelude.{◌≡◌, ℕ, Option}
 use Rattle.finite_sums.specs.Sums.{update}

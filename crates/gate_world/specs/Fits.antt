@@ -22,7 +22,8 @@ SumFits c step = Unit {0}
 abbrev pub MountFits : Config → ℕ → (ℕ → ℕ) → (ℕ → Bool) → MountPhase → Type 0
 MountFits c t held levels (Want w) = (w.mount < c.mounts) × (w.cpu < c.processors) × (held w.mount < 1024)
 MountFits c t held levels (Drop m p) = (m < c.mounts) × (p < c.processors) × (0 < held m)
-MountFits c t held levels (Change x) = (x.mount < c.mounts) × (x.task ≡ t) × (x.processors ≡ c.processors) × (holds_none levels ≡ true) × SumFits c x.step
+MountFits c t held levels (Change x) = (x.mount < c.mounts) × (x.task ≡ t) × (x.processors ≡ c.processors) × (holds_none levels ≡ true) ×
+    SumFits c x.step
 
 abbrev pub PhaseFits : Config → ℕ → (ℕ → ℕ) → (ℕ → Bool) → Phase → Type 0
 PhaseFits c t held levels (Mounts phase) = MountFits c t held levels phase

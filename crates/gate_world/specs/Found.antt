@@ -56,7 +56,8 @@ count_found m word found earlier = earlier
 -- the loads of this mount's counts, the newest first
 abbrev pub counts_loaded : ℕ → List Traced → List (ℕ × ℕ)
 counts_loaded m [] = []
-counts_loaded m (e ∷ earlier) = if is_load e.event.touch then count_found m e.event.word e.event.found (counts_loaded m earlier) else counts_loaded m earlier
+counts_loaded m (e ∷ earlier) = if is_load e.event.touch then count_found m e.event.word e.event.found
+    (counts_loaded m earlier) else counts_loaded m earlier
 
 -- the event is a load that found HOLD at this mount
 abbrev pub finds_hold : ℕ → Event → Bool

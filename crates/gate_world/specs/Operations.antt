@@ -98,7 +98,15 @@ change_honest c m wait refusal trace = ⊥
 -- one that waits has found `umount` taken, and nothing else
 abbrev change_row : ℕ → Bool → Bool → OpRow
 change_row m read_only wait = record {
-  first = λ c t. Mounts (Changes (record { mount = m; read_only = read_only; wait = wait; task = t; processors = c.processors; step = Locks }));
+  first = λ c t. Mounts (Changes (record {
+    mount = m;
+    read_only = read_only;
+    wait = wait;
+    task = t;
+    processors = c.processors;
+    step =
+        Locks;
+  }));
   in_range = λ c. nat_lt m c.mounts;
   in_order = λ c held levels. holds_none levels;
   within_room = λ held. true;

@@ -16,7 +16,13 @@ use Rattle.gate_world.specs.Worlds.{World}
 abbrev pub node_shown : ℕ → Option NodeInfo
 node_shown word =
     if word % 4 == 0 then None else
-    Some record { kind = (if word % 4 == 1 then File else Dir); parent = word / 256 % 64; size = word / 4294967296; dirty = word / 4 % 2 == 1 }
+    Some record {
+      kind = (if word % 4 == 1 then File else Dir);
+      parent = word / 256 % 64;
+      size = word / 4294967296;
+      dirty =
+          word / 4 % 2 == 1;
+    }
 
 -- 1 while a phase has a level's `block` set and its sum has not been 0: no phase of these layers
 abbrev pub closing : ℕ → Option Phase → ℕ

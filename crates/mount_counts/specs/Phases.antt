@@ -54,7 +54,10 @@ want_after w CountsUp found = (Go (at_want w LoadsHold), None)
 want_after w LoadsHold found = (if has_flag found 2 then hold_found w w.wait else Go (at_want w LoadsRemount), None)
 want_after w LoadsRemount found = (if found == 0 then Go (at_want w LoadsReadOnly) else Go (at_want w (CountsDown ReadOnly)), None)
 want_after w LoadsReadOnly found = (if has_flag found 1 then Go (at_want w (CountsDown ReadOnly)) else Go (at_want w LoadsSuperblock), None)
-want_after w LoadsSuperblock found = (if found == 0 then Done (Ok UnitReply) else Go (at_want w (CountsDown ReadOnly)), if found == 0 then Some (Grant (Mount w.mount)) else None)
+want_after w LoadsSuperblock found = (
+  if found == 0 then Done (Ok UnitReply) else Go (at_want w (CountsDown ReadOnly)),
+  if found == 0 then Some (Grant (Mount w.mount)) else None,
+)
 want_after w (CountsDown refusal) found = (Done (Err refusal), None)
 
 -- change: under `umount`, hold writers and sum them before the flag is set

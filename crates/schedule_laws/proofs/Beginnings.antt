@@ -69,6 +69,8 @@ ok_means x None y e = (refl, (let same : Ok y ≡ Ok x = e in cc))
 ok_means {A} x (Some refused) y e = absurd (let same : ◌≡◌ {A = Result A GateError} (Ok y) (Err refused) = e in let no : ⊥ = cc in no)
 
 -- or it was this
-pub err_means : {A : Type 0} (x : A) (r : Option GateError) (refused : GateError) → ◌≡◌ {A = Result A GateError} (Err refused) (or_refusal x r) → r ≡ Some refused
+pub err_means : {A : Type 0} (x : A) (r : Option GateError) (refused : GateError) →
+    ◌≡◌ {A = Result A GateError} (Err refused) (or_refusal x r) → r ≡ Some refused
 err_means {A} x None refused e = absurd (let same : ◌≡◌ {A = Result A GateError} (Err refused) (Ok x) = e in let no : ⊥ = cc in no)
-err_means {A} x (Some other) refused e = let same : ◌≡◌ {A = Result A GateError} (Err refused) (Err other) = e in let is : refused ≡ other = cc in ap (λ y. Some y) (sym is)
+err_means {A} x (Some other) refused e = let same : ◌≡◌ {A = Result A GateError} (Err refused) (Err other) = e in let is : refused ≡ other =
+    cc in ap (λ y. Some y) (sym is)

@@ -21,20 +21,24 @@ use Rattle.schedule_laws.proofs.Layers.{phase_keeps, op_keeps}
 
 module _ (c : Config) (w : World) (earlier : List World) (good : IsGood c w) (holds : Causes c w earlier) where
   -- a task that another entry leaves alone
-  module _ (next : World) (after : IsGood c next) (t : ℕ) (lt : t < c.tasks) (quiet : (m : ℕ) → all_counted c m w ≡ 0 → all_counted c m next ≡ 0 → next.words.count m ≡ w.words.count m) where
-    kept : (p : Option Phase) → Fits c t (held_at (w.views t)) (holds_level (w.views t)) p → (next.views t).phase ≡ p → (w.views t).phase ≡ p → CauseOf c t w earlier p → CauseOf c t next (w ∷ earlier) p
+  module _ (next : World) (after : IsGood c next) (t : ℕ) (lt : t < c.tasks)
+      (quiet : (m : ℕ) → all_counted c m w ≡ 0 → all_counted c m next ≡ 0 → next.words.count m ≡ w.words.count m) where
+    kept : (p : Option Phase) → Fits c t (held_at (w.views t)) (holds_level (w.views t)) p → (next.views t).phase ≡ p →
+        (w.views t).phase ≡ p → CauseOf c t w earlier p → CauseOf c t next (w ∷ earlier) p
     kept None f e was h = tt
     kept (Some phase) f e was h = (phase_keeps c phase).stays w next earlier after t f e was quiet h
 
     pub alone : next.views t ≡ w.views t → CauseOf c t next (w ∷ earlier) (next.views t).phase
     alone same = kept (next.views t).phase
-        (subst (λ (v : View). Fits c t (held_at (w.views t)) (holds_level (w.views t)) v.phase) (sym same) (good Fitting t lt)) refl (ap (λ (v : View). v.phase) (sym same))
+        (subst (λ (v : View). Fits c t (held_at (w.views t)) (holds_level (w.views t)) v.phase) (sym same) (good Fitting t lt)) refl
+        (ap (λ (v : View). v.phase) (sym same))
         (subst (λ (v : View). CauseOf c t w earlier v.phase) (sym same) (holds t lt))
 
   same_causes : Causes c w (w ∷ earlier)
   same_causes t lt = alone w good t lt (λ m a b. refl) refl
 
-  step_causes : (u : ℕ) → u < c.tasks → (hook : HookAnswer) (p : Option Phase) → (w.views u).phase ≡ p → IsGood c (step_of w u hook p) → Causes c (step_of w u hook p) (w ∷ earlier)
+  step_causes : (u : ℕ) → u < c.tasks → (hook : HookAnswer) (p : Option Phase) → (w.views u).phase ≡ p → IsGood c (step_of w u hook p) →
+      Causes c (step_of w u hook p) (w ∷ earlier)
   step_causes u lu hook None e after t lt = same_causes t lt
   step_causes u lu hook (Some phase) e after t lt =
       let next : World = after_step w u phase hook in
@@ -43,7 +47,9 @@ module _ (c : Config) (w : World) (earlier : List World) (good : IsGood c w) (ho
         | inl h ↦
             let is : next.views u ≡ v = update_at w.views u v in
             let there : CauseOf c u next (w ∷ earlier) (next.views u).phase =
-            subst (CauseOf c u next (w ∷ earlier)) (sym (ap (λ (x : View). x.phase) is)) ((phase_keeps c phase).causes w earlier good u lu hook e after (ap (λ (x : View). x.phase) is) (subst (CauseOf c u w earlier) e (holds u lu))) in
+            subst (CauseOf c u next (w ∷ earlier)) (sym (ap (λ (x : View). x.phase) is))
+            ((phase_keeps c phase).causes w earlier good u lu hook e after (ap (λ (x : View). x.phase) is)
+            (subst (CauseOf c u w earlier) e (holds u lu))) in
             subst (λ y. CauseOf c y next (w ∷ earlier) (next.views y).phase) (sym h.1) there
         | inr h ↦ alone next after t lt (λ m a b. (phase_keeps c phase).quiet w good u lu hook m e a b) (update_off w.views u v t h.1)
       ]
@@ -87,10 +93,12 @@ module _ (c : Config) (keeps : (w : World) → IsGood c w → (e : Entry) → Is
   pub trail_holds : (es : List Entry) (w : World) (earlier : List World) → IsGood c w → Causes c w earlier → TrailHolds w earlier es
   trail_holds [] w earlier good h = record { rest = earlier; is = refl; causes = h }
   trail_holds (e ∷ es) w earlier good h =
-      let t : TrailHolds (happens c w e) (w ∷ earlier) es = trail_holds es (happens c w e) (w ∷ earlier) (keeps w good e) (happens_causes c w earlier good h e (keeps w good e)) in
+      let t : TrailHolds (happens c w e) (w ∷ earlier) es = trail_holds es (happens c w e) (w ∷ earlier) (keeps w good e)
+      (happens_causes c w earlier good h e (keeps w good e)) in
       record { rest = t.rest; is = t.is; causes = t.causes }
 
 -- what a phase's cause says at its refusal
-pub cause_tells : (c : Config) (t : ℕ) (w : World) (earlier : List World) (p : Option Phase) → CauseOf c t w earlier p → HasCause c t (w ∷ earlier) p
+pub cause_tells : (c : Config) (t : ℕ) (w : World) (earlier : List World) (p : Option Phase) → CauseOf c t w earlier p →
+    HasCause c t (w ∷ earlier) p
 cause_tells c t w earlier None h = tt
 cause_tells c t w earlier (Some phase) h = (phase_keeps c phase).tells t w earlier h

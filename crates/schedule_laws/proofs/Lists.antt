@@ -42,10 +42,12 @@ step_lists : (w : World) (earlier : List Done) (t : ℕ) (hook : HookAnswer) (p 
 step_lists w earlier t hook None m x = m x
 step_lists w earlier t hook (Some phase) m x = beside_lists [] w earlier t hook phase m x
 
-pub begin_lists : (c : Config) (w : World) (earlier : List Done) (t : ℕ) (op : Op) (r : Option GateError) → IsMerge (lists w) earlier → IsMerge (lists (begin_of c w t op r)) earlier
+pub begin_lists : (c : Config) (w : World) (earlier : List Done) (t : ℕ) (op : Op) (r : Option GateError) → IsMerge (lists w) earlier →
+    IsMerge (lists (begin_of c w t op r)) earlier
 begin_lists c w earlier t op (Some refused) m x = m x
 begin_lists c w earlier t op None m x =
-    each_updated (λ y (v : View). own_part y earlier ≡ v.actions) w.views t (begun_view (w.views t) op (first_phase c t op)) x (m t) (λ ne. m x)
+    each_updated (λ y (v : View). own_part y earlier ≡ v.actions) w.views t (begun_view (w.views t) op (first_phase c t op)) x (m t)
+    (λ ne. m x)
 
 -- after any entry
 pub happens_lists : (c : Config) (w : World) (earlier : List Done) (e : Entry) → IsMerge (lists w) earlier →
@@ -61,6 +63,8 @@ happens_lists c w earlier (Steps t hook) m =
       | inr h ↦ rw h m
     ]
 
-pub run_lists : (c : Config) (es : List Entry) (w : World) (earlier : List Done) → IsMerge (lists w) earlier → IsMerge (lists (run c w es)) (history c w earlier es)
+pub run_lists : (c : Config) (es : List Entry) (w : World) (earlier : List Done) → IsMerge (lists w) earlier →
+    IsMerge (lists (run c w es)) (history c w earlier es)
 run_lists c [] w earlier m = m
-run_lists c (e ∷ es) w earlier m = run_lists c es (happens c w e) (with_action (task_of e) (action_of c w e) earlier) (happens_lists c w earlier e m)
+run_lists c (e ∷ es) w earlier m = run_lists c es (happens c w e) (with_action (task_of e) (action_of c w e) earlier)
+    (happens_lists c w earlier e m)

@@ -1,4 +1,5 @@
--- A phase that fits: the word of its next event is there and has a place, the action of the event can be done, and the phase that comes fits.
+-- A phase that fits: the word of its next event is there and has a place, the action of the event can be done, and the phase that comes
+-- fits.
 use Rattle.std.proofs.Common.{◌≡◌, ℕ, ◌<◌, ◌≤◌, Bool}
 use Rattle.std.specs.Prelude.{Option, Some, None}
 use Rattle.cpu_words.specs.Names.{IsWord, place, words_in_all}

@@ -53,32 +53,42 @@ module _ (c : Config) (lim : IsWithin c) (w : World) (good : IsGood c w) (t : �
 
   -- a beginning leaves each part of the rule but that of its own phase
   begun_good : (op : Op) → MayBeginAt c (w.views t) op → (part : Part) → Holds c (after_begin c w t op) part
-  begun_good op h Fitting = λ x lx. each_updated (λ y (u : View). ViewFits c y u) w.views t (begun_view (w.views t) op (first_phase c t op)) x (first_fits c t (is_some (w.views t).phase) (held_at (w.views t)) (holds_level (w.views t)) op h) (λ ne. good Fitting x lx)
+  begun_good op h Fitting = λ x lx. each_updated (λ y (u : View). ViewFits c y u) w.views t
+      (begun_view (w.views t) op (first_phase c t op)) x (first_fits c t (is_some (w.views t).phase) (held_at (w.views t))
+      (holds_level (w.views t)) op h) (λ ne. good Fitting x lx)
   begun_good op h Owner =
-      let same : IsSteady (w.views t).phase (Some (first_phase c t op)) = steady (idle_is (w.views t).phase h.idle) ((op_keeps c op).steady t) in
-      left_alone c w t lt Owner w.words (begun_view (w.views t) op (first_phase c t op)) (refl, refl) (same.owns_same, same.remounts_same) (good Owner)
+      let same : IsSteady (w.views t).phase (Some (first_phase c t op)) =
+      steady (idle_is (w.views t).phase h.idle) ((op_keeps c op).steady t) in
+      left_alone c w t lt Owner w.words (begun_view (w.views t) op (first_phase c t op)) (refl, refl) (same.owns_same, same.remounts_same)
+      (good Owner)
   begun_good op h Superblock = good Superblock
   begun_good op h Stages = good Stages
   begun_good op h Known = λ x lx.
-      each_updated (λ y (u : View). owns u.phase ≡ 1 → KnowsWords w.words u.trace) w.views t (begun_view (w.views t) op (first_phase c t op)) x
+      each_updated (λ y (u : View). owns u.phase ≡ 1 → KnowsWords w.words u.trace) w.views t
+      (begun_view (w.views t) op (first_phase c t op)) x
       (λ o word value k. absurd (true≢false (ap is_some (sym k)))) (λ ne. good Known x lx)
   begun_good op h (AtMount m) =
-      left_alone c w t lt (AtMount m) w.words (begun_view (w.views t) op (first_phase c t op)) (refl, refl, refl, refl) (view_as refl refl refl ((op_keeps c op).no_role t m ∙ sym (ap (role_of m) (idle_is (w.views t).phase h.idle)))) (good (AtMount m))
+      left_alone c w t lt (AtMount m) w.words (begun_view (w.views t) op (first_phase c t op)) (refl, refl, refl, refl)
+      (view_as refl refl refl ((op_keeps c op).no_role t m ∙ sym (ap (role_of m) (idle_is (w.views t).phase h.idle))))
+      (good (AtMount m))
 
   pub begun_keeps : (op : Op) → MayBeginAt c (w.views t) op → IsGood c (after_begin c w t op) × (shown c (after_begin c w t op) ≡ shown c w)
   begun_keeps op h = (
     begun_good op h,
-    shown_still c w t lt w.words (begun_view (w.views t) op (first_phase c t op)) refl refl refl refl refl refl (steady (idle_is (w.views t).phase h.idle) ((op_keeps c op).steady t)).closing_same refl refl,
+    shown_still c w t lt w.words (begun_view (w.views t) op (first_phase c t op)) refl refl refl refl refl refl
+        (steady (idle_is (w.views t).phase h.idle) ((op_keeps c op).steady t)).closing_same refl refl,
   )
 
 module _ (c : Config) (lim : IsWithin c) where
   begin_keeps : (w : World) → IsGood c w → (t : ℕ) (op : Op) → t < c.tasks → (r : Option GateError) → view_refusal c (w.views t) op ≡ r →
       IsGood c (begin_of c w t op r) × (shown c (begin_of c w t op r) ≡ shown c w)
-  begin_keeps w good t op lt None e = begun_keeps c lim w good t lt op (may_begin c (is_some (w.views t).phase) (held_at (w.views t)) (holds_level (w.views t)) op e)
+  begin_keeps w good t op lt None e = begun_keeps c lim w good t lt op
+      (may_begin c (is_some (w.views t).phase) (held_at (w.views t)) (holds_level (w.views t)) op e)
   begin_keeps w good t op lt (Some refused) e = (good, refl)
 
   -- each entry keeps the rule, and moves the shown model by its action
-  pub happens_keeps : (w : World) → IsGood c w → (e : Entry) → IsGood c (happens c w e) × Moves c (shown c w) (task_of e) (action_of c w e) (shown c (happens c w e))
+  pub happens_keeps : (w : World) → IsGood c w → (e : Entry) → IsGood c (happens c w e) ×
+      Moves c (shown c w) (task_of e) (action_of c w e) (shown c (happens c w e))
   happens_keeps w good (Begins t op) =
       elim (cases_Bool (nat_lt t c.tasks)) [
         | inl h ↦ rw h (begin_keeps w good t op (ltb-true t c.tasks h) (view_refusal c (w.views t) op) refl)
@@ -91,7 +101,8 @@ module _ (c : Config) (lim : IsWithin c) where
       ]
 
   -- a legal history that ends in a world's shown model, with one more entry
-  pub legal_more : (old new : State) (t : ℕ) (a : Option Action) (earlier : List Done) → Moves c old t a new → IsLegal (model_limits c) earlier → end_of earlier ≡ old →
+  pub legal_more : (old new : State) (t : ℕ) (a : Option Action) (earlier : List Done) → Moves c old t a new →
+      IsLegal (model_limits c) earlier → end_of earlier ≡ old →
       IsLegal (model_limits c) (with_action t a earlier) × (end_of (with_action t a earlier) ≡ new)
   legal_more old new t None earlier m legal ends = (legal, ends ∙ sym m)
   legal_more old new t (Some a) earlier m legal ends = (
@@ -99,12 +110,15 @@ module _ (c : Config) (lim : IsWithin c) where
     ap (λ s. after_action s t a) ends ∙ sym m.1,
   )
 
-  pub run_keeps : (es : List Entry) (w : World) (earlier : List Done) → IsGood c w → IsLegal (model_limits c) earlier → end_of earlier ≡ shown c w →
+  pub run_keeps : (es : List Entry) (w : World) (earlier : List Done) → IsGood c w → IsLegal (model_limits c) earlier →
+      end_of earlier ≡ shown c w →
       IsGood c (run c w es) × IsLegal (model_limits c) (history c w earlier es) × (end_of (history c w earlier es) ≡ shown c (run c w es))
   run_keeps [] w earlier good legal ends = (good, legal, ends)
   run_keeps (e ∷ es) w earlier good legal ends =
-      let k : IsGood c (happens c w e) × Moves c (shown c w) (task_of e) (action_of c w e) (shown c (happens c w e)) = happens_keeps w good e in
-      let n : IsLegal (model_limits c) (with_action (task_of e) (action_of c w e) earlier) × (end_of (with_action (task_of e) (action_of c w e) earlier) ≡ shown c (happens c w e)) =
+      let k : IsGood c (happens c w e) × Moves c (shown c w) (task_of e) (action_of c w e) (shown c (happens c w e)) =
+      happens_keeps w good e in
+      let n : IsLegal (model_limits c) (with_action (task_of e) (action_of c w e) earlier) ×
+      (end_of (with_action (task_of e) (action_of c w e) earlier) ≡ shown c (happens c w e)) =
       legal_more (shown c w) (shown c (happens c w e)) (task_of e) (action_of c w e) earlier k.1 legal ends in
       run_keeps es (happens c w e) (with_action (task_of e) (action_of c w e) earlier) k.0 n.0 n.1
 
@@ -112,7 +126,14 @@ module _ (c : Config) (lim : IsWithin c) where
   zeros n = total_none n (λ x. 0) (λ x lx. refl)
 
   pub opening_good : (part : Part) → Holds c opening part
-  opening_good Owner = record { locked = λ t lt h. absurd (omega arith); owned = λ t lt h. absurd (omega arith); known = omega arith; bit = omega arith; remounting = sym (zeros c.tasks) }
+  opening_good Owner = record {
+    locked = λ t lt h. absurd (omega arith);
+    owned = λ t lt h. absurd (omega arith);
+    known = omega arith;
+    bit =
+        omega arith;
+    remounting = sym (zeros c.tasks);
+  }
   opening_good Superblock = omega arith
   opening_good Stages = omega arith
   opening_good Known = λ t lt o. absurd (omega (arith, o))

@@ -28,7 +28,8 @@ abbrev pub event_at : Phase → ℕ → HookAnswer → Event
 event_at phase value hook = event_of (next_of phase hook).0 (next_of phase hook).1 value
 
 -- what the trace says after the event of a phase
-abbrev pub SaysAfter : (List Traced → Phase → List Action → Type 0) → Config → Op → Phase → ℕ → HookAnswer → List Traced → List Action → Type 0
+abbrev pub SaysAfter : (List Traced → Phase → List Action → Type 0) → Config → Op → Phase → ℕ → HookAnswer → List Traced → List Action →
+    Type 0
 SaysAfter At c op phase value hook earlier added =
     Says At c op (with_hook (event_at phase value hook) hook ∷ earlier) (after_of phase (found_by (next_of phase hook).1 value) hook).0
     (actions_after (after_of phase (found_by (next_of phase hook).1 value) hook).1 added)
@@ -45,11 +46,13 @@ module _ (At : List Traced → Phase → List Action → Type 0) (c : Config) (t
   event_keeps : (phase : Phase) (added : List Action) (e : Traced) (earlier : List Traced) → IsEventOf phase e → At earlier phase added →
       Says At c op (e ∷ earlier) (after_of phase e.event.found e.hook).0 (actions_after (after_of phase e.event.found e.hook).1 added)
   event_keeps phase added e earlier next here =
-      subst (λ (event : Event). Says At c op (with_hook event e.hook ∷ earlier) (after_of phase event.found e.hook).0 (actions_after (after_of phase event.found e.hook).1 added))
+      subst (λ (event : Event). Says At c op (with_hook event e.hook ∷ earlier) (after_of phase event.found e.hook).0
+      (actions_after (after_of phase event.found e.hook).1 added))
       (sym next.1) (kept.more phase next.0 e.hook earlier added here)
 
   -- one more event of a trace does
-  next_keeps : (comes : Next Phase) (added : List Action) (e : Traced) (earlier : List Traced) → IsNext comes e → Says At c op earlier comes added →
+  next_keeps : (comes : Next Phase) (added : List Action) (e : Traced) (earlier : List Traced) → IsNext comes e →
+      Says At c op earlier comes added →
       Says At c op (e ∷ earlier) (course_after comes added e).comes (course_after comes added e).added
   next_keeps (Go phase) added e earlier next here = event_keeps phase added e earlier next here
   next_keeps (Wait phase) added e earlier next here = event_keeps phase added e earlier next here.0
@@ -61,13 +64,15 @@ module _ (At : List Traced → Phase → List Action → Type 0) (c : Config) (t
   says (e ∷ earlier) h = next_keeps (course_of c t op earlier).comes (course_of c t op earlier).added e earlier h.0 (says earlier h.1)
 
   -- what is said tells what is to be told
-  says_tells : (trace : List Traced) (comes : Next Phase) (added : List Action) → Says At c op trace comes added → Tells c op trace comes added
+  says_tells : (trace : List Traced) (comes : Next Phase) (added : List Action) → Says At c op trace comes added →
+      Tells c op trace comes added
   says_tells trace (Go phase) added h = tt
   says_tells trace (Wait phase) added h = h.1
   says_tells trace (Done answer) added h = h.0
 
   -- what is said bounds the trace
-  says_short : (trace : List Traced) (comes : Next Phase) (added : List Action) → Says At c op trace comes added → IsShort (most_events c op) trace
+  says_short : (trace : List Traced) (comes : Next Phase) (added : List Action) → Says At c op trace comes added →
+      IsShort (most_events c op) trace
   says_short trace (Go phase) added h = kept.short trace phase added h
   says_short trace (Wait phase) added h = kept.short trace phase added h.0
   says_short trace (Done answer) added h = h.1

@@ -33,21 +33,26 @@ stands_at (Wait there) added phase e h next =
 stands_at (Done answer) added phase e h next = absurd (cc)
 
 -- an action more goes before the earlier ones
-newest : (action : Option Action) (actions added before : List Action) → actions ≡ added ++ before → actions_after action actions ≡ actions_after action added ++ before
+newest : (action : Option Action) (actions added before : List Action) → actions ≡ added ++ before →
+    actions_after action actions ≡ actions_after action added ++ before
 newest None actions added before h = h
 newest (Some a) actions added before h = ap (λ l. a ∷ l) h
 
 -- the next event of a view that follows its operation
-step_follows : (c : Config) (t : ℕ) (v : View) (op : Option Op) (phase : Phase) (value : ℕ) (hook : HookAnswer) → v.phase ≡ Some phase → IsTraced c t v op → IsTraced c t (view_after v phase value hook) op
+step_follows : (c : Config) (t : ℕ) (v : View) (op : Option Op) (phase : Phase) (value : ℕ) (hook : HookAnswer) → v.phase ≡ Some phase →
+    IsTraced c t v op → IsTraced c t (view_after v phase value hook) op
 step_follows c t v None phase value hook e h = absurd (cc)
 step_follows c t v (Some op) phase value hook e h =
     let event : Traced = with_hook (event_at phase value hook) hook in
-    let s : IsNext (course_of c t op v.trace).comes event × (course_after (course_of c t op v.trace).comes (course_of c t op v.trace).added event ≡ course_with (course_of c t op v.trace).added (after_of phase (found_by (next_of phase hook).1 value) hook)) =
+    let s : IsNext (course_of c t op v.trace).comes event × (course_after (course_of c t op v.trace).comes
+    (course_of c t op v.trace).added event ≡ course_with (course_of c t op v.trace).added
+    (after_of phase (found_by (next_of phase hook).1 value) hook)) =
     stands_at (course_of c t op v.trace).comes (course_of c t op v.trace).added phase event (sym h.phase ∙ e) (value, refl) in
     record {
       trace = (s.0, h.trace);
       phase = ap (λ x. phase_after x.comes) (sym s.1);
-      actions = newest (after_of phase (found_by (next_of phase hook).1 value) hook).1 v.actions (course_of c t op v.trace).added v.before h.actions ∙ ap (λ x. x.added ++ v.before) (sym s.1);
+      actions = newest (after_of phase (found_by (next_of phase hook).1 value) hook).1 v.actions
+          (course_of c t op v.trace).added v.before h.actions ∙ ap (λ x. x.added ++ v.before) (sym s.1);
       begins = h.begins;
     }
 
@@ -60,12 +65,14 @@ abbrev unless_under_way : Config → View → Op → Bool → Option GateError
 unless_under_way c v op under_way = refusal c under_way (held_at v) (holds_level v) op
 
 -- an operation that begins finds none under way
-idle_refusal : (c : Config) (v : View) (op : Op) (under_way : Bool) → unless_under_way c v op under_way ≡ None → unless_under_way c v op false ≡ None
+idle_refusal : (c : Config) (v : View) (op : Op) (under_way : Bool) → unless_under_way c v op under_way ≡ None →
+    unless_under_way c v op false ≡ None
 idle_refusal c v op true h = absurd (true≢false (ap is_some h))
 idle_refusal c v op false h = h
 
 -- a beginning empties the trace, and notes the actions so far
-begin_keeps : (c : Config) (w : World) (t : ℕ) (op : Op) (refused : Option GateError) → view_refusal c (w.views t) op ≡ refused → AllTraced c w →
+begin_keeps : (c : Config) (w : World) (t : ℕ) (op : Op) (refused : Option GateError) → view_refusal c (w.views t) op ≡ refused →
+    AllTraced c w →
     AllTraced c (begin_of c w t op refused)
 begin_keeps c w t op (Some refused) e h x = h x
 begin_keeps c w t op None e h x =
@@ -81,7 +88,8 @@ begin_entry c w t op h =
     ]
 
 -- a step adds the event that the phase wants
-step_keeps : (c : Config) (w : World) (t : ℕ) (hook : HookAnswer) (phase : Option Phase) → (w.views t).phase ≡ phase → AllTraced c w → AllTraced c (step_of w t hook phase)
+step_keeps : (c : Config) (w : World) (t : ℕ) (hook : HookAnswer) (phase : Option Phase) → (w.views t).phase ≡ phase → AllTraced c w →
+    AllTraced c (step_of w t hook phase)
 step_keeps c w t hook None e h x = h x
 step_keeps c w t hook (Some phase) e h x =
     each_updated (λ y (v : View). IsTraced c y v v.op) w.views t (view_after (w.views t) phase (value_at w.words phase hook) hook) x

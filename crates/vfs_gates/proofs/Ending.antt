@@ -41,7 +41,9 @@ module _ (c : Config) (ws : List ℕ) (e : Ended c ws) where
       omega arith
 
   -- the words of a mount sum to 0
-  pub sums_to_none : (m : ℕ) → m < c.mounts → total c.processors (λ p. slice_index ws (16 * place (MountCount m p))) % 18446744073709551616 ≡ 0
+  pub sums_to_none : (m : ℕ) → m < c.mounts → total c.processors
+      (λ p. slice_index ws (16 * place (MountCount m p))) % 18446744073709551616 ≡ 0
   sums_to_none m lm =
-      ap (λ s. s % 18446744073709551616) (total_same c.processors _ (e.world.words.count m) (λ p lp. e.ruled.words (MountCount m p) (lm, lp))) ∙
+      ap (λ s. s % 18446744073709551616) (total_same c.processors _ (e.world.words.count m)
+      (λ p lp. e.ruled.words (MountCount m p) (lm, lp))) ∙
       (idle_sums c e.ruled.within e.world e.ruled.good idle m lm ∙ total_none c.tasks _ (λ t lt. (e.still t lt).1.0 m lm))

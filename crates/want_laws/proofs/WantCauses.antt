@@ -30,7 +30,8 @@ use Rattle.want_laws.proofs.WantLoads.{want}
 
 module _ (c : Config) (w : World) (good : IsGood c w) (t : ℕ) (lt : t < c.tasks) (hook : HookAnswer) (m : ℕ) where
   abbrev IsQuiet : MountPhase → Type 0
-  IsQuiet phase = (w.views t).phase ≡ Some (Mounts phase) → all_counted c m w ≡ 0 → all_counted c m (after_step w t (Mounts phase) hook) ≡ 0 →
+  IsQuiet phase = (w.views t).phase ≡ Some (Mounts phase) → all_counted c m w ≡ 0 →
+      all_counted c m (after_step w t (Mounts phase) hook) ≡ 0 →
       (after_step w t (Mounts phase) hook).words.count m ≡ w.words.count m
 
   quiet_add : (n p : ℕ) (wait : Bool) → IsQuiet (want n p wait CountsUp)
@@ -50,7 +51,8 @@ module _ (c : Config) (w : World) (good : IsGood c w) (t : ℕ) (lt : t < c.task
   quiet_back n p wait refusal e before after =
       elim (eqb_tells m n) [
         | inl h ↦
-            let r : role_of m (w.views t).phase ≡ BackingOff p = ap (λ y. role_of y (w.views t).phase) h.1 ∙ (ap (role_of n) e ∙ role_on n (BackingOff p)) in
+            let r : role_of m (w.views t).phase ≡ BackingOff p = ap (λ y. role_of y (w.views t).phase) h.1 ∙
+            (ap (role_of n) e ∙ role_on n (BackingOff p)) in
             absurd (omega (arith, before, ap sought r, one_counted c m t w lt))
         | inr h ↦ update_off w.words.count n _ m h.1
       ]
@@ -74,7 +76,8 @@ module _ (c : Config) (w : World) (good : IsGood c w) (t : ℕ) (lt : t < c.task
 
 -- a task whose view another entry leaves alone
 module _ (c : Config) (t : ℕ) (w next : World) (earlier : List World) (good : IsGood c next) where
-  pub want_kept : (m p : ℕ) (wait : Bool) (s : WantStep) → (next.views t).phase ≡ Some (Mounts (want m p wait s)) → WantCause c t w earlier m s → WantCause c t next (w ∷ earlier) m s
+  pub want_kept : (m p : ℕ) (wait : Bool) (s : WantStep) → (next.views t).phase ≡ Some (Mounts (want m p wait s)) →
+      WantCause c t w earlier m s → WantCause c t next (w ∷ earlier) m s
   want_kept m p wait CountsUp e h = tt
   want_kept m p wait LoadsHold e h = tt
   want_kept m p wait LoadsRemount e h = tt
@@ -83,17 +86,22 @@ module _ (c : Config) (t : ℕ) (w next : World) (earlier : List World) (good : 
   want_kept m p wait (CountsDown refusal) e h = λ r. ap (was_read_only c m) (question_skips t next (w ∷ earlier) (ap asks e)) ∙ h r
 
 -- the task that steps: what its next phase says, in the world after the event
-module _ (c : Config) (t : ℕ) (lt : t < c.tasks) (w next : World) (earlier : List World) (good : IsGood c w) (after : IsGood c next) (hook : HookAnswer) where
-  asked : (m p : ℕ) (wait : Bool) (s : WantStep) → (w.views t).phase ≡ Some (Mounts (want m p wait s)) → asks (Some (Mounts (want m p wait s))) ≡ true →
-      (next.views t).phase ≡ Some (Mounts (want m p wait (CountsDown ReadOnly))) → was_read_only c m (Some w) ≡ true → WantCause c t next (w ∷ earlier) m (CountsDown ReadOnly)
-  asked m p wait s e a e' h = λ r. ap (was_read_only c m) (question_skips t next (w ∷ earlier) (ap asks e') ∙ question_stands t w earlier (ap asks e ∙ a)) ∙ h
+module _ (c : Config) (t : ℕ) (lt : t < c.tasks) (w next : World) (earlier : List World) (good : IsGood c w) (after : IsGood c next)
+    (hook : HookAnswer) where
+  asked : (m p : ℕ) (wait : Bool) (s : WantStep) → (w.views t).phase ≡ Some (Mounts (want m p wait s)) →
+      asks (Some (Mounts (want m p wait s))) ≡ true →
+      (next.views t).phase ≡ Some (Mounts (want m p wait (CountsDown ReadOnly))) → was_read_only c m (Some w) ≡ true →
+      WantCause c t next (w ∷ earlier) m (CountsDown ReadOnly)
+  asked m p wait s e a e' h = λ r. ap (was_read_only c m) (question_skips t next (w ∷ earlier) (ap asks e') ∙
+      question_stands t w earlier (ap asks e ∙ a)) ∙ h
 
   other_refusal : {A : Type 0} → Again ≡ ReadOnly → A
   other_refusal h = cc
 
   pub want_own : (m p : ℕ) (wait : Bool) (s : WantStep) → m < c.mounts → (w.views t).phase ≡ Some (Mounts (want m p wait s)) →
       (next.views t).phase ≡ phase_after (after_of (Mounts (want m p wait s)) (found_at w.words (Mounts (want m p wait s)) hook) hook).0 →
-      CauseOf c t next (w ∷ earlier) (phase_after (after_of (Mounts (want m p wait s)) (found_at w.words (Mounts (want m p wait s)) hook) hook).0)
+      CauseOf c t next (w ∷ earlier) (phase_after (after_of (Mounts (want m p wait s))
+      (found_at w.words (Mounts (want m p wait s)) hook) hook).0)
   want_own m p wait CountsUp lm e e' = tt
   want_own m p true LoadsHold lm e e' =
       elim (cases_Bool (has_flag (w.words.flags m) 2)) [ inl h ↦ rw h tt | inr h ↦ rw h tt ]
@@ -104,11 +112,13 @@ module _ (c : Config) (t : ℕ) (lt : t < c.tasks) (w next : World) (earlier : L
         | inl h ↦ rw h.0 tt
         | inr h ↦
             let one : w.words.remount ≡ 1 = omega (arith, h.1, (good Owner).bit) in
-            rw h.0 (asked m p wait LoadsRemount e refl (rw h.0 at e') (rw (eq-eqb w.words.remount 1 one, or_true (ro_bit (w.words.flags m) == 1)) refl))
+            rw h.0 (asked m p wait LoadsRemount e refl (rw h.0 at e')
+            (rw (eq-eqb w.words.remount 1 one, or_true (ro_bit (w.words.flags m) == 1)) refl))
       ]
   want_own m p wait LoadsReadOnly lm e e' =
       elim (cases_Bool (has_flag (w.words.flags m) 1)) [
-        | inl h ↦ rw h (asked m p wait LoadsReadOnly e refl (rw h at e') (rw (eq-eqb (ro_bit (w.words.flags m)) 1 (read_only_set (w.words.flags m) (good (AtMount m) lm).bits h)) refl))
+        | inl h ↦ rw h (asked m p wait LoadsReadOnly e refl (rw h at e')
+            (rw (eq-eqb (ro_bit (w.words.flags m)) 1 (read_only_set (w.words.flags m) (good (AtMount m) lm).bits h)) refl))
         | inr h ↦ rw h tt
       ]
   want_own m p wait LoadsSuperblock lm e e' =
@@ -116,6 +126,7 @@ module _ (c : Config) (t : ℕ) (lt : t < c.tasks) (w next : World) (earlier : L
         | inl h ↦ rw h.0 tt
         | inr h ↦
             let one : w.words.sb ≡ 1 = omega (arith, h.1, good Superblock) in
-            rw h.0 (asked m p wait LoadsSuperblock e refl (rw h.0 at e') (rw (eq-eqb w.words.sb 1 one, or_true (w.words.remount == 1), or_true (ro_bit (w.words.flags m) == 1)) refl))
+            rw h.0 (asked m p wait LoadsSuperblock e refl (rw h.0 at e')
+            (rw (eq-eqb w.words.sb 1 one, or_true (w.words.remount == 1), or_true (ro_bit (w.words.flags m) == 1)) refl))
       ]
   want_own m p wait (CountsDown refusal) lm e e' = tt

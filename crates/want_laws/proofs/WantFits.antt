@@ -31,7 +31,8 @@ module _ (c : Config) (within : IsWithin c) (t : ℕ) (held : ℕ → ℕ) (leve
   want_there w (CountsDown refusal) m p = (m, p)
 
   pub want_acts : (w : Want) (step : WantStep) (found : ℕ) → w.mount < 8 → held w.mount < 1024 → ActionFits held (want_after w step found).1
-  want_acts w LoadsSuperblock found m room = by_bool (found == 0) (λ b. ActionFits held (if b then Some (Grant (Mount w.mount)) else None)) (m, room) tt
+  want_acts w LoadsSuperblock found m room = by_bool (found == 0) (λ b. ActionFits held (if b then Some (Grant (Mount w.mount)) else None))
+      (m, room) tt
   want_acts w step found m room = tt
 
   -- what comes after an event that adds nothing fits
@@ -41,7 +42,8 @@ module _ (c : Config) (within : IsWithin c) (t : ℕ) (held : ℕ → ℕ) (leve
   -- what comes after the last question fits what the want holds then
   abbrev AnsweredFits : Want → Bool → Type 0
   AnsweredFits w granted =
-      Fits c t (mounts_by (if granted then Some (Grant (Mount w.mount)) else None) held) (levels_by (if granted then Some (Grant (Mount w.mount)) else None) levels)
+      Fits c t (mounts_by (if granted then Some (Grant (Mount w.mount)) else None) held)
+      (levels_by (if granted then Some (Grant (Mount w.mount)) else None) levels)
       (phase_after (map_next Mounts (map_next Wants (if granted then Done (Ok UnitReply) else Go (at_want w (CountsDown ReadOnly))))))
 
   -- what comes after each event of a want fits

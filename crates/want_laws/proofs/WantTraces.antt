@@ -63,13 +63,15 @@ within_six CountsUp n h = omega arith
 within_six step n h = omega arith
 
 -- a short trace of a want
-want_short : (c : Config) (m p : ℕ) (wait : Bool) (trace : List Traced) → (wait ≡ false → length trace ≤ 6) → IsShort (most_events c (Want m p wait)) trace
+want_short : (c : Config) (m p : ℕ) (wait : Bool) (trace : List Traced) → (wait ≡ false → length trace ≤ 6) →
+    IsShort (most_events c (Want m p wait)) trace
 want_short c m p true trace h = tt
 want_short c m p false trace h = h refl
 
 -- the last event of a refused want leaves its cause
 cause_stays : (c : Config) (m p : ℕ) (wait : Bool) (refusal : GateError) (value : ℕ) (hook : HookAnswer) (earlier : List Traced) →
-    IsHonest c (Want m p wait) refusal earlier → IsHonest c (Want m p wait) refusal (with_hook (event_at (want m p wait (CountsDown refusal)) value hook) hook ∷ earlier)
+    IsHonest c (Want m p wait) refusal earlier → IsHonest c (Want m p wait) refusal
+    (with_hook (event_at (want m p wait (CountsDown refusal)) value hook) hook ∷ earlier)
 cause_stays c m p wait ReadOnly value hook earlier h = h
 cause_stays c m p wait Again value hook earlier h = h
 cause_stays c m p wait refusal value hook earlier h = h
@@ -84,12 +86,32 @@ module _ (c : Config) (m p : ℕ) (value : ℕ) (hook : HookAnswer) (earlier : L
   hold_found true h f =
       let found : (finds_hold m (event_at (want m p true LoadsHold) value hook) && each_but_first (finds_hold m) earlier) ≡ true =
       rw (eq-eqb m m refl, f) h.2 in
-      rw f ((LoadsHold, refl, (h.0, λ q. absurd (cc), once_more (finds_hold m) (event_at (want m p true LoadsHold) value hook) hook earlier found)), (refl, found))
+      rw f (
+        (
+          LoadsHold,
+          refl,
+          (
+            h.0,
+            λ q. absurd (cc),
+            once_more (finds_hold m)
+                (event_at (want m p true LoadsHold) value hook) hook earlier found,
+          ),
+        ),
+        (refl, found),
+      )
   hold_found false h f = rw f (CountsDown Again, refl, (h.0, λ q. omega (arith, h.1 q), (refl, rw (eq-eqb m m refl, f) refl)))
 
   -- each event of a want keeps what its trace says
   want_event : (wait : Bool) (step : WantStep) → WantSays c m p wait step earlier added → After wait step
-  want_event wait CountsUp h = (LoadsHold, refl, (h.0, λ q. omega (arith, h.1 q), subst (λ l. each_but_first (finds_hold m) (with_hook (event_at (want m p wait CountsUp) value hook) hook ∷ l) ≡ true) (sym h.2) refl))
+  want_event wait CountsUp h = (
+    LoadsHold,
+    refl,
+    (
+      h.0,
+      λ q. omega (arith, h.1 q),
+      subst (λ l. each_but_first (finds_hold m) (with_hook (event_at (want m p wait CountsUp) value hook) hook ∷ l) ≡ true) (sym h.2) refl,
+    ),
+  )
   want_event wait LoadsHold h =
       elim (cases_Bool (has_flag value 2)) [
         | inl f ↦ hold_found wait h f
@@ -120,7 +142,8 @@ pub want_kept : (c : Config) (t m p : ℕ) (wait : Bool) → Kept (WantAt c m p 
 want_kept c t m p wait = record {
   first = (CountsUp, refl, (refl, λ q. omega arith, refl));
   more = λ phase value hook earlier added here.
-      subst (λ (x : Phase). SaysAfter (WantAt c m p wait) c (Want m p wait) x value hook earlier added) (sym here.1) (want_event c m p value hook earlier added wait here.0 here.2);
+      subst (λ (x : Phase). SaysAfter (WantAt c m p wait) c (Want m p wait) x value hook earlier added) (sym here.1)
+      (want_event c m p value hook earlier added wait here.0 here.2);
   short = λ trace phase added here. want_short c m p wait trace (λ q. within_six here.0 (length trace) (here.2.1 q));
 }
 

@@ -10,4 +10,5 @@ use Rattle.gate_steps.proofs.tables.word_of.Goals as goal
 pub returns : goal.returns
 returns c =
     let ws = slots_items c.args.closed.now.words in
-    sym (read_at ws (table_index (place c.args.name)) c.word.result (subst (λ (i : ℕ). get_elem? ws i ≡ some c.word.result) c.index_of.ensures c.word.ensures))
+    sym (read_at ws (table_index (place c.args.name)) c.word.result
+    (subst (λ (i : ℕ). get_elem? ws i ≡ some c.word.result) c.index_of.ensures c.word.ensures))
