@@ -7,6 +7,7 @@ ghost use Rattle.gate_world.specs.Worlds.{Entry};
 ghost use Rattle.gate_world.specs.Rules.{IsGood};
 ghost use Rattle.gate_world.specs.Headline.{world_after, MovesTheModel, IsOneRun, NobodyIsInside, SumsHold, IdleSumsHold, NothingIsLeft, OperationsAreKept};
 ghost use Rattle.gate_world.specs.Causes.{RefusalsHaveCauses};
+ghost use Rattle.gate_world.specs.Waits.{EachWaitHasCulprit};
 
 /// The headline. For every configuration within the limits, and every schedule: any list of beginnings, refused ones included, and of
 /// steps with any hook answers, of any tasks, with any numbers in their types' ranges.
@@ -25,6 +26,8 @@ ghost use Rattle.gate_world.specs.Causes.{RefusalsHaveCauses};
 /// - `causes`: a change is refused as busy only where something was counted at that mount in some world from the load of its sum's
 ///   first word to the load of its last; a want is refused as read-only only where the shown model had that mount read-only at one of
 ///   its loads.
+/// - `waits`: every wait has a culprit: a want waits only where another task has HOLD set at its mount, and a change only where another
+///   task has `umount`; a drop never waits.
 /// - `rule`: the rule of words and views, from which the rest follows: counts, holdings, the owner's words, mounts.
 ///
 /// It takes nothing, does nothing and answers nothing: its contract is the theorem. `Core` is bound to the same worlds by `Shows`.
@@ -37,5 +40,6 @@ pub fn every_schedule()
     ensures rests { (c : Config) → IsWithin c → (entries : List Entry) → NothingIsLeft c (world_after c entries) }
     ensures operations { (c : Config) → IsWithin c → (entries : List Entry) (t : ℕ) → OperationsAreKept c entries t }
     ensures causes { (c : Config) → IsWithin c → (entries : List Entry) → RefusalsHaveCauses c entries }
+    ensures waits { (c : Config) → IsWithin c → (entries : List Entry) → EachWaitHasCulprit c entries }
     ensures rule { (c : Config) → IsWithin c → (entries : List Entry) → IsGood c (world_after c entries) }
 {}

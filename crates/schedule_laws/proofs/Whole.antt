@@ -22,8 +22,9 @@ use Rattle.access_model.specs.declared.actions.Action.{Action}
 use Rattle.access_model.specs.declared.errors.GateError.{GateError}
 use Rattle.access_model.specs.declared.replies.Next.{Next}
 use Rattle.access_model.specs.declared.replies.Next.TheVariants.{Done as Ended}
-use Rattle.schedule_laws.proofs.Layers.{op_keeps}
+use Rattle.schedule_laws.proofs.Layers.{phase_keeps, op_keeps}
 use Rattle.trace_laws.proofs.Traced.{all_traced}
+use Rattle.gate_world.specs.Waits.{WaitsForAnother, EachWaitHasCulprit}
 use Rattle.gate_world.specs.Causes.{HasCause, RefusalsHaveCauses}
 use Rattle.schedule_laws.proofs.Entries.{TrailHolds, trail_holds, cause_tells}
 use Rattle.schedule_laws.proofs.Schedule.{opening_good, opening_shown, happens_keeps, run_keeps, gate_sums, idle_sums}
@@ -62,6 +63,11 @@ module _ (c : Config) (lim : IsWithin c) where
 
   pub whole_rests : (es : List Entry) → NothingIsLeft c (world_after c es)
   whole_rests es = at_rest c (world_after c es) (whole_rule es)
+
+  pub whole_waits : (es : List Entry) → EachWaitHasCulprit c es
+  whole_waits es t phase again hook lt at e =
+      subst (λ (s : Next Phase). WaitsForAnother c (world_after c es) t phase s) e
+      ((phase_keeps c phase).waits lim (world_after c es) (whole_rule es) t lt hook at)
 
   -- an operation that was refused has added what its refusals add
   refused_adds : (op : Op) (trace : List Traced) (comes : Next Phase) (added : List Action) (refusal : GateError) →

@@ -1,5 +1,5 @@
 -- Each clause is a lemma on whole schedules.
-use Rattle.schedule_laws.proofs.Whole.{whole_rule, whole_run, whole_moves, whole_nobody, whole_causes, whole_sums, whole_idle, whole_rests, whole_operations}
+use Rattle.schedule_laws.proofs.Whole.{whole_rule, whole_run, whole_moves, whole_nobody, whole_causes, whole_waits, whole_sums, whole_idle, whole_rests, whole_operations}
 use Rattle.gate_core.proofs.schedules.every_schedule.Goals as goal
 
 pub returns-clause-moves : goal.returns-clause-moves
@@ -25,6 +25,9 @@ returns-clause-operations c = whole_operations
 
 pub returns-clause-causes : goal.returns-clause-causes
 returns-clause-causes c = whole_causes
+
+pub returns-clause-waits : goal.returns-clause-waits
+returns-clause-waits c = whole_waits
 
 pub returns-clause-rule : goal.returns-clause-rule
 returns-clause-rule c = whole_rule
