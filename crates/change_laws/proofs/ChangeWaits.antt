@@ -1,6 +1,5 @@
 -- A change waits only where another task has `umount`.
 use Rattle.std.proofs.Common.{◌≡◌, ℕ, ◌<◌, Bool, true, false, ap, inl, inr}
-use Rattle.std.specs.Prelude.{not, ◌==◌}
 use Rattle.std.proofs.lemmas.Bool.{cases_Bool}
 use Rattle.std.proofs.lemmas.Bool.Decides.{eqb_tells}
 use Rattle.cpu_words.specs.Hooks.{HookAnswer}
@@ -16,7 +15,8 @@ use Rattle.gate_world.specs.Waits.{HasCulprit, WaitsForAnother}
 use Rattle.gate_frames.proofs.Owners.{who_owns}
 use Rattle.change_laws.proofs.ChangeLoads.{change, IsAt}
 
-module _ (c : Config) (w : World) (good : IsGood c w) (t : ℕ) (lt : t < c.tasks) (m : ℕ) (ro : Bool) (task processors : ℕ) (hook : HookAnswer) where
+module _ (c : Config) (w : World) (good : IsGood c w) (t : ℕ) (lt : t < c.tasks)
+    (m : ℕ) (ro : Bool) (task processors : ℕ) (hook : HookAnswer) where
   -- a change that found `umount` taken, which is not its own
   umount_taken : (wait : Bool) → IsAt c w good t lt m ro wait task processors hook Locks → (w.words.umount ≡ 0 → ⊥) →
       HasCulprit c w t (Mounts (change m ro wait task processors Locks))

@@ -102,8 +102,8 @@ module _ (c : Config) (w : World) (good : IsGood c w) (t : ℕ) (lt : t < c.task
       (y : ℕ) × (y < c.tasks) × (y ≡ t → ⊥) × (has_hold (role_of m (w.views y).phase) ≡ 1)
   who_holds m lm set mine =
       let place : HasPlace c.tasks (λ x. has_hold (role_of m (w.views x).phase)) =
-      total_place c.tasks (λ x. has_hold (role_of m (w.views x).phase)) (λ none. omega (arith, none, set, (good (AtMount m) lm).gate.flag)) in
-      (
+      total_place c.tasks (λ x. has_hold (role_of m (w.views x).phase))
+      (λ none. omega (arith, none, set, (good (AtMount m) lm).gate.flag)) in (
         place.0,
         place.1,
         λ same. place.2 (ap (λ y. has_hold (role_of m (w.views y).phase)) same ∙ mine),

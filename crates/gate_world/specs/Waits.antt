@@ -23,7 +23,7 @@ MountIsWaitedFor w (Changes x) y = owns (w.views y).phase ≡ 1
 abbrev pub IsWaitedFor : World → Phase → ℕ → Type 0
 IsWaitedFor w (Mounts phase) y = MountIsWaitedFor w phase y
 
--- task t, at this phase, waits for another task, which is there and has an operation under way
+-- another task has what task t, which is at this phase, waits for
 pub record HasCulprit (c : Config) (w : World) (t : ℕ) (phase : Phase) : Type 0 where
   pub task : ℕ
   pub there : task < c.tasks

@@ -1,5 +1,5 @@
 -- A want waits only where another task has HOLD set at its mount; a drop never waits.
-use Rattle.std.proofs.Common.{◌≡◌, ℕ, ◌<◌, Bool, true, false, ap, ◌∙◌, inl, inr}
+use Rattle.std.proofs.Common.{◌≡◌, ℕ, ◌<◌, Bool, true, false, ap, inl, inr}
 use Rattle.std.proofs.lemmas.Bool.{cases_Bool}
 use Rattle.std.proofs.lemmas.Bool.Decides.{eqb_tells}
 use Rattle.cpu_words.specs.Hooks.{HookAnswer}
@@ -19,7 +19,8 @@ use Rattle.want_laws.proofs.WantLoads.{want, want_here, IsAt, fits_here, mount_h
 
 module _ (c : Config) (w : World) (good : IsGood c w) (t : ℕ) (lt : t < c.tasks) (m p : ℕ) (wait : Bool) (hook : HookAnswer) where
   -- a want that found HOLD set, which is not its own
-  hold_found : IsAt c w good t lt m p wait hook LoadsHold → has_flag (w.words.flags m) 2 ≡ true → HasCulprit c w t (Mounts (want m p wait LoadsHold))
+  hold_found : IsAt c w good t lt m p wait hook LoadsHold → has_flag (w.words.flags m) 2 ≡ true →
+      HasCulprit c w t (Mounts (want m p wait LoadsHold))
   hold_found e h =
       let lm : m < c.mounts = (fits_here c w good t lt m p wait hook LoadsHold e).0 in
       let who : (y : ℕ) × (y < c.tasks) × (y ≡ t → ⊥) × (has_hold (role_of m (w.views y).phase) ≡ 1) =
@@ -30,7 +31,8 @@ module _ (c : Config) (w : World) (good : IsGood c w) (t : ℕ) (lt : t < c.task
 module _ (c : Config) (w : World) (good : IsGood c w) (t : ℕ) (lt : t < c.tasks) (m p : ℕ) (hook : HookAnswer) where
   -- each step of a want
   pub want_waits : (wait : Bool) (s : WantStep) → IsAt c w good t lt m p wait hook s →
-      WaitsForAnother c w t (Mounts (want m p wait s)) (after_of (Mounts (want m p wait s)) (found_at w.words (Mounts (want m p wait s)) hook) hook).0
+      WaitsForAnother c w t (Mounts (want m p wait s))
+      (after_of (Mounts (want m p wait s)) (found_at w.words (Mounts (want m p wait s)) hook) hook).0
   want_waits wait CountsUp e = tt
   want_waits true LoadsHold e =
       elim (cases_Bool (has_flag (w.words.flags m) 2)) [ inl h ↦ rw h (hold_found c w good t lt m p true hook e h) | inr h ↦ rw h tt ]
