@@ -20,6 +20,7 @@ use Rattle.gate_world.specs.Worlds.{after_step}
 use Rattle.change_laws.proofs.Each.{change_keeps}
 use Rattle.change_laws.proofs.ChangeFits.{change_there, change_acts, change_goes}
 use Rattle.change_laws.proofs.ChangeCauses.{quiet_change, change_counts, change_kept, change_own}
+use Rattle.change_laws.proofs.ChangeWaits.{change_waits}
 use Rattle.change_laws.proofs.ChangeTraces.{ChangeAt, change_kept as change_traced}
 use Rattle.gate_world.specs.Views.{held_at, holds_level}
 use Rattle.gate_world.specs.Rules.{Fitting}
@@ -38,6 +39,7 @@ change_phase c x = record {
       let f : Fits c t (held_at (w.views t)) (holds_level (w.views t)) (Some (Mounts (Changes x))) = subst (Fits c t (held_at (w.views t)) (holds_level (w.views t))) e (good Fitting t lt) in
       change_own c t lt w (after_step w t (Mounts (Changes x)) hook) earlier good after hook x.mount x.read_only x.wait x.task x.processors x.step f.0 e
       (ap (λ g. g x.mount) (change_counts w t hook x.mount x.read_only x.wait x.task x.processors x.step)) h is;
+  waits = λ lim w good t lt hook e. change_waits c w good t lt x.mount x.read_only x.task x.processors hook x.wait x.step e;
   tells = λ t w earlier h e. let k : ChangeCause c t w earlier x.mount (Releases (Err Busy)) = subst (ChangeCause c t w earlier x.mount) e h in k refl;
 }
 

@@ -4,7 +4,7 @@ use Rattle.std.specs.Prelude.{◌==◌, nat_lt, bit_or, Option, Some, None, Resu
 use Rattle.std.proofs.lemmas.Bool.{eq-eqb, ne_eqb, ltb-true, ltb-false, cases_Bool}
 use Rattle.std.proofs.lemmas.Bool.Decides.{eqb_tells}
 use Rattle.finite_sums.specs.Sums.{update, total}
-use Rattle.finite_sums.proofs.Totals.{total_at, update_map, update_same}
+use Rattle.finite_sums.proofs.Totals.{total_at}
 use Rattle.access_model.specs.declared.actions.Action.TheVariants.{MountRo, MountRw}
 use Rattle.access_model.specs.declared.errors.GateError.{GateError}
 use Rattle.access_model.specs.declared.errors.GateError.TheVariants.{Busy}

@@ -84,6 +84,21 @@ total_at (suc n) t f lt =
 pub total_none : (n : ℕ) (f : ℕ → ℕ) → ((x : ℕ) → x < n → f x ≡ 0) → total n f ≡ 0
 total_none n f h = total_same n f (λ x. 0) h ∙ total_zero n
 
+-- an index below n with a value above 0
+abbrev pub HasPlace : ℕ → (ℕ → ℕ) → Type 0
+HasPlace n f = (y : ℕ) × (y < n) × (f y ≡ 0 → ⊥)
+
+-- a sum that is not 0 has one
+pub total_place : (n : ℕ) (f : ℕ → ℕ) → (total n f ≡ 0 → ⊥) → HasPlace n f
+total_place zero f some = absurd (some refl)
+total_place (suc n) f some =
+    elim (eqb_tells (f n) 0) [
+      | inl h ↦
+          let k : HasPlace n f = total_place n f (λ z. some (omega (arith, z, h.1))) in
+          (k.0, omega (arith, k.1), k.2)
+      | inr h ↦ (n, omega arith, h.1)
+    ]
+
 -- equal residues word by word give equal residues of the sums
 pub residues : (n : ℕ) (c a b : ℕ → ℕ) → ((p : ℕ) → p < n → (c p + a p) % 18446744073709551616 ≡ b p % 18446744073709551616) → (total n c + total n a) % 18446744073709551616 ≡ total n b % 18446744073709551616
 residues zero c a b h = refl

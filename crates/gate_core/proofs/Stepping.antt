@@ -1,5 +1,5 @@
 -- One step of the core shows what the entry makes of the world.
-use Rattle.std.proofs.Common.{◌≡◌, ℕ, ◌<◌, ◌≤◌, Bool, List, [], ◌∷◌, ◌++◌, length, get_or, refl, sym, ap, ◌∙◌, subst, arith}
+use Rattle.std.proofs.Common.{◌≡◌, ℕ, ◌<◌, ◌≤◌, Bool, [], ◌∷◌, ◌++◌, length, get_or, refl, sym, ap, ◌∙◌, subst, arith}
 use Rattle.std.proofs.Math.ListN.{length-set}
 use Rattle.std.specs.Prelude.{Option, Some, slice_index, slice_set}
 use Rattle.std.proofs.lemmas.Bool.{lt-ltb}
@@ -21,7 +21,7 @@ use Rattle.gate_world.specs.declared.views.View.{View}
 use Rattle.gate_world.specs.Configs.{extents_of}
 use Rattle.gate_world.specs.Views.{held_at, holds_level, phase_after, view_after}
 use Rattle.gate_world.specs.Work.{next_of, after_of}
-use Rattle.gate_world.specs.Worlds.{World, Entry, Steps, after_step, happens, run, opening}
+use Rattle.gate_world.specs.Worlds.{World, Steps, after_step, happens, run, opening}
 use Rattle.gate_world.specs.Fits.{PhaseFits, Fits}
 use Rattle.gate_core.specs.declared.seats.Seat.{Seat}
 use Rattle.gate_world.specs.declared.accesses.Accesses.{Accesses}

@@ -5,8 +5,9 @@ ghost use Rattle.gate_world.specs.declared.config.Config.{Config};
 ghost use Rattle.gate_world.specs.Configs.{IsWithin};
 ghost use Rattle.gate_world.specs.Worlds.{Entry};
 ghost use Rattle.gate_world.specs.Rules.{IsGood};
-ghost use Rattle.gate_world.specs.Headline.{world_after, MovesTheModel, IsOneRun, NobodyIsInside, SumsHold, IdleSumsHold, OperationsAreKept};
+ghost use Rattle.gate_world.specs.Headline.{world_after, MovesTheModel, IsOneRun, NobodyIsInside, SumsHold, IdleSumsHold, NothingIsLeft, OperationsAreKept};
 ghost use Rattle.gate_world.specs.Causes.{RefusalsHaveCauses};
+ghost use Rattle.gate_world.specs.Waits.{EachWaitHasCulprit};
 
 /// The headline. For every configuration within the limits, and every schedule: any list of beginnings, refused ones included, and of
 /// steps with any hook answers, of any tasks, with any numbers in their types' ranges.
@@ -18,12 +19,15 @@ ghost use Rattle.gate_world.specs.Causes.{RefusalsHaveCauses};
 ///   done at the snapshot's last load.
 /// - `inside`: nobody holds an access at a read-only mount, nor at a level that a freeze has passed.
 /// - `sums`, `idle`: each mount's words sum to what is held and sought there, and, with no operation under way, to the accesses held.
+/// - `rests`: nothing is left behind: with no operation under way, `umount` is free, no remount is under way, and no mount has HOLD set.
 /// - `operations`: each task's events follow the order of its operation; one that replied has added exactly its stated actions, a
 ///   refusal has its cause among its events and leaves what the task held, waiting is reported only where it may be, and an operation
 ///   that waits for nobody has few events.
 /// - `causes`: a change is refused as busy only where something was counted at that mount in some world from the load of its sum's
 ///   first word to the load of its last; a want is refused as read-only only where the shown model had that mount read-only at one of
 ///   its loads.
+/// - `waits`: every wait has a culprit: a want waits only where another task has HOLD set at its mount, and a change only where another
+///   task has `umount`; a drop never waits.
 /// - `rule`: the rule of words and views, from which the rest follows: counts, holdings, the owner's words, mounts.
 ///
 /// It takes nothing, does nothing and answers nothing: its contract is the theorem. `Core` is bound to the same worlds by `Shows`.
@@ -33,7 +37,9 @@ pub fn every_schedule()
     ensures inside { (c : Config) → IsWithin c → (entries : List Entry) → NobodyIsInside c (world_after c entries) }
     ensures sums { (c : Config) → IsWithin c → (entries : List Entry) → SumsHold c (world_after c entries) }
     ensures idle { (c : Config) → IsWithin c → (entries : List Entry) → IdleSumsHold c (world_after c entries) }
+    ensures rests { (c : Config) → IsWithin c → (entries : List Entry) → NothingIsLeft c (world_after c entries) }
     ensures operations { (c : Config) → IsWithin c → (entries : List Entry) (t : ℕ) → OperationsAreKept c entries t }
     ensures causes { (c : Config) → IsWithin c → (entries : List Entry) → RefusalsHaveCauses c entries }
+    ensures waits { (c : Config) → IsWithin c → (entries : List Entry) → EachWaitHasCulprit c entries }
     ensures rule { (c : Config) → IsWithin c → (entries : List Entry) → IsGood c (world_after c entries) }
 {}

@@ -19,6 +19,7 @@ use Rattle.gate_world.specs.Rules.{IsGood, StepKeeps, role_of, IsSteady}
 use Rattle.mount_counts.specs.Roles.{Out}
 use Rattle.gate_world.specs.Causes.{all_counted, HasCause}
 use Rattle.gate_world.specs.KeptCauses.{CauseOf}
+use Rattle.gate_world.specs.Waits.{WaitsForAnother}
 use Rattle.gate_world.specs.Beginnings.{first_phase, is_in_range, is_in_order, is_within_room}
 use Rattle.gate_world.specs.Worlds.{World, after_step, found_at}
 use Rattle.gate_world.specs.Moments.{CompletesNow}
@@ -62,6 +63,9 @@ pub record PhaseKeeps (c : Config) (phase : Phase) : Type 0 where
   pub causes : (w : World) (earlier : List World) → IsGood c w → (t : ℕ) → t < c.tasks → (hook : HookAnswer) → (w.views t).phase ≡ Some phase → IsGood c (after_step w t phase hook) →
       ((after_step w t phase hook).views t).phase ≡ phase_after (after_of phase (found_at w.words phase hook) hook).0 → CauseOf c t w earlier (Some phase) →
       CauseOf c t (after_step w t phase hook) (w ∷ earlier) (phase_after (after_of phase (found_at w.words phase hook) hook).0)
+  -- where its event is a wait, another task has what it waits for
+  pub waits : IsWithin c → (w : World) → IsGood c w → (t : ℕ) → t < c.tasks → (hook : HookAnswer) → (w.views t).phase ≡ Some phase →
+      WaitsForAnother c w t phase (after_of phase (found_at w.words phase hook) hook).0
   -- its cause says what is to be told
   pub tells : (t : ℕ) (w : World) (earlier : List World) → CauseOf c t w earlier (Some phase) → HasCause c t (w ∷ earlier) (Some phase)
 

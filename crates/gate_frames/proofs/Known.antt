@@ -15,7 +15,7 @@ use Rattle.cpu_words.specs.declared.names.WordName.{WordName}
 use Rattle.cpu_words.specs.Words.{Words, put, read}
 use Rattle.gate_world.specs.Worlds.{World, after_step, found_at, value_at, words_after}
 use Rattle.gate_world.specs.Work.{after_of, next_of}
-use Rattle.std.proofs.Common.{arith, inl, inr, refl, sym, true, true≢false, ◌≡◌, ◌<◌, ◌∙◌, ◌⊎◌, ◌≢◌, ap, ℕ}
+use Rattle.std.proofs.Common.{arith, inl, inr, refl, sym, true, true≢false, ◌≡◌, ◌<◌, ◌∙◌, ◌⊎◌, ap, ℕ}
 use Rattle.std.proofs.lemmas.Bool.{cases_Bool}
 use Rattle.cpu_words.specs.Touches.{event_of, left}
 use Rattle.gate_world.specs.Found.{is_load}

@@ -1,7 +1,7 @@
 -- What the events of want, drop and change touch: the rest of the rule stays.
 use Rattle.gate_frames.proofs.Frames.{left_alone}
 use Rattle.gate_world.specs.Rules.{AtMount, Fitting, Holds, IsGood, Known, Owner, Part, SameView, SameWords, Stages, StepKeeps, Superblock, at_gates, change_owns, owns, GateStepKeeps}
-use Rattle.std.proofs.Common.{Bool, arith, inl, inr, refl, sym, true, true≢false, ◌≡◌, ◌<◌, ◌∙◌, ◌⊎◌, ◌≢◌, subst, ℕ}
+use Rattle.std.proofs.Common.{Bool, arith, inl, inr, refl, sym, true, true≢false, ◌≡◌, ◌<◌, ◌⊎◌, subst, ℕ}
 use Rattle.mount_counts.specs.declared.phases.Change.{Change}
 use Rattle.mount_counts.specs.declared.phases.ChangeStep.{ChangeStep}
 use Rattle.mount_counts.specs.declared.phases.MountPhase.TheVariants.{Change as Changes, Drop as Drops, Want as Wants}

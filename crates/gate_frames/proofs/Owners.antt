@@ -1,9 +1,9 @@
 -- What every owner of `umount` may rely on, and its events: under the lock, on the word `umount`, and on a mount's flags.
 use Rattle.std.proofs.Common.{◌≡◌, ℕ, suc, ◌+◌, ◌<◌, ◌≤◌, Bool, true, false, refl, ap, ◌∙◌, inl, inr, arith}
-use Rattle.std.specs.Prelude.{◌==◌, Option, Some, None, Ok, Err}
+use Rattle.std.specs.Prelude.{◌-◌, ◌==◌, Option, Some, None, Ok, Err}
 use Rattle.std.proofs.lemmas.Bool.Decides.{eqb_tells}
 use Rattle.finite_sums.specs.Sums.{update, total}
-use Rattle.finite_sums.proofs.Totals.{update_at, update_off, update_map, update_same, each_updated, total_updated, total_none}
+use Rattle.finite_sums.proofs.Totals.{update_at, update_off, update_map, update_same, each_updated, total_updated, total_none, HasPlace, total_place}
 use Rattle.cpu_words.specs.Words.{Words}
 use Rattle.mount_counts.specs.declared.phases.MountPhase.TheVariants.{Want as Wants, Drop as Drops, Change as Changes}
 use Rattle.mount_counts.specs.declared.phases.WantStep.TheVariants.{CountsUp}
@@ -96,6 +96,29 @@ module _ (c : Config) (w : World) (good : IsGood c w) (t : ℕ) (lt : t < c.task
   -- nobody else counts on a mount's staying read-only
   pub no_skip : (m x : ℕ) → x < c.tasks → (x ≡ t → ⊥) → owns (w.views t).phase ≡ 1 → skips (role_of m (w.views x).phase) ≡ 1 → ⊥
   no_skip m x lx ne o s = omega (arith, s, alone x lx ne o, hold_owns m (w.views x).phase)
+
+  -- where HOLD is set at a mount, another task has it set, if this one has not
+  pub who_holds : (m : ℕ) → m < c.mounts → hold_bit (w.words.flags m) ≡ 1 → has_hold (role_of m (w.views t).phase) ≡ 0 →
+      (y : ℕ) × (y < c.tasks) × (y ≡ t → ⊥) × (has_hold (role_of m (w.views y).phase) ≡ 1)
+  who_holds m lm set mine =
+      let place : HasPlace c.tasks (λ x. has_hold (role_of m (w.views x).phase)) =
+      total_place c.tasks (λ x. has_hold (role_of m (w.views x).phase))
+      (λ none. omega (arith, none, set, (good (AtMount m) lm).gate.flag)) in (
+        place.0,
+        place.1,
+        λ same. place.2 (ap (λ y. has_hold (role_of m (w.views y).phase)) same ∙ mine),
+        omega (arith, place.2, hold_owns m (w.views place.0).phase, owns_le (w.views place.0).phase),
+      )
+
+  -- where `umount` is taken, another task has it, if this one has not
+  pub who_owns : (w.words.umount ≡ 0 → ⊥) → owns (w.views t).phase ≡ 0 →
+      (y : ℕ) × (y < c.tasks) × (y ≡ t → ⊥) × (owns (w.views y).phase ≡ 1)
+  who_owns taken mine =
+      let y : ℕ = w.words.umount - 1 in
+      let is : w.words.umount ≡ suc y = omega (arith, taken) in
+      let ly : y < c.tasks = omega (arith, is, (good Owner).known) in
+      let own : owns (w.views y).phase ≡ 1 = (good Owner).owned y ly is in
+      (y, ly, λ same. omega (arith, own, mine, ap (λ x. owns (w.views x).phase) same), own)
 
   -- the sum of who has `remount` set, where this task has as before
   remounts_same : (v : View) → remounts v.phase ≡ remounts (w.views t).phase →

@@ -1,10 +1,11 @@
 -- The headline: what holds of every schedule.
-use Rattle.std.specs.Prelude.{◌≡◌, ℕ, ◌%◌, ◌<◌, Option, Some, None, Err, List, []}
+use Rattle.std.specs.Prelude.{◌≡◌, ℕ, ◌%◌, ◌<◌, false, Option, Some, None, Err, List, []}
 use Rattle.finite_sums.specs.Sums.{total}
 use Rattle.access_model.specs.Histories.{Done, end_of, IsLegal, IsMerge}
 use Rattle.access_model.specs.Laws.{NobodyHoldsClosed}
 use Rattle.access_model.specs.declared.errors.GateError.{GateError}
 use Rattle.access_model.specs.declared.replies.Next.TheVariants.{Done as Ended}
+use Rattle.mount_counts.specs.Phases.{has_flag}
 use Rattle.mount_counts.specs.Roles.{counted}
 use Rattle.gate_world.specs.declared.config.Config.{Config}
 use Rattle.gate_world.specs.declared.operations.Op.{Op}
@@ -47,6 +48,16 @@ abbrev pub IdleSumsHold : Config → World → Type 0
 IdleSumsHold c w =
     ((t : ℕ) → t < c.tasks → (w.views t).phase ≡ None) → (m : ℕ) → m < c.mounts →
     total c.processors (w.words.count m) % 18446744073709551616 ≡ total c.tasks (λ t. held_at (w.views t) m)
+
+-- no lock, no remount and no hold stands: `umount` is free, `remount` is clear, and so is HOLD, which is 2, at each mount
+pub record IsAtRest (c : Config) (w : World) : Type 0 where
+  pub umount_free : w.words.umount ≡ 0
+  pub remount_clear : w.words.remount ≡ 0
+  pub hold_clear : (m : ℕ) → m < c.mounts → has_flag (w.words.flags m) 2 ≡ false
+
+-- nothing is left behind: with no operation under way, none of them stands
+abbrev pub NothingIsLeft : Config → World → Type 0
+NothingIsLeft c w = ((t : ℕ) → t < c.tasks → (w.views t).phase ≡ None) → IsAtRest c w
 
 -- nobody holds an access at a read-only mount, or a level that a freeze has passed
 abbrev pub NobodyIsInside : Config → World → Type 0

@@ -17,4 +17,5 @@ pub mod Courses
 pub mod Traces
 pub mod Headline
 pub mod Causes
+pub mod Waits
 pub mod KeptCauses

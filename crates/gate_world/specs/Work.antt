@@ -6,7 +6,6 @@ use Rattle.access_model.specs.Replies.{map_next}
 use Rattle.cpu_words.specs.declared.names.WordName.{WordName}
 use Rattle.cpu_words.specs.declared.events.Touch.{Touch}
 use Rattle.cpu_words.specs.Hooks.{HookAnswer}
-use Rattle.mount_counts.specs.declared.phases.MountPhase.{MountPhase}
 use Rattle.mount_counts.specs.Phases.{next, after}
 use Rattle.gate_world.specs.declared.work.Phase.{Phase}
 use Rattle.gate_world.specs.declared.work.Phase.TheVariants.{Mounts}

@@ -1,5 +1,5 @@
 -- The bits of a flags word: READONLY and HOLD, set, cleared and found.
-use Rattle.std.proofs.Common.{◌≡◌, ℕ, true, false, zero, suc, ◌<◌, arith}
+use Rattle.std.proofs.Common.{◌≡◌, ℕ, true, false, zero, suc, ◌<◌, refl, arith}
 use Rattle.std.specs.Prelude.{bit_or, bit_and}
 use Rattle.mount_counts.specs.Phases.{has_flag}
 use Rattle.mount_counts.specs.Roles.{ro_bit, hold_bit}
@@ -55,6 +55,16 @@ and_not_read_only = below4 (λ f. IsWithoutReadOnly f (without_read_only f)) (om
 -- HOLD was found clear
 pub hold_clear : (f : ℕ) → f < 4 → has_flag f 2 ≡ false → hold_bit f ≡ 0
 hold_clear = below4 (λ f. has_flag f 2 ≡ false → hold_bit f ≡ 0) (λ h. omega arith) (λ h. omega arith) (λ h. cc) (λ h. cc)
+
+-- HOLD was found set
+pub hold_set : (f : ℕ) → f < 4 → has_flag f 2 ≡ true → hold_bit f ≡ 1
+hold_set = below4 (λ f. has_flag f 2 ≡ true → hold_bit f ≡ 1) (λ h. cc) (λ h. cc) (λ h. omega arith) (λ h. omega arith)
+
+-- where the bit is 0, HOLD is found clear
+pub hold_unset : (f : ℕ) → f < 4 → hold_bit f ≡ 0 → has_flag f 2 ≡ false
+hold_unset =
+    below4 (λ f. hold_bit f ≡ 0 → has_flag f 2 ≡ false) (λ h. refl) (λ h. refl)
+    (λ h. absurd (omega (arith, h))) (λ h. absurd (omega (arith, h)))
 
 -- READONLY was found clear
 pub read_only_clear : (f : ℕ) → f < 4 → has_flag f 1 ≡ false → ro_bit f ≡ 0

@@ -5,5 +5,6 @@ pub mod Entries
 pub mod Schedule
 pub mod Lists
 pub mod Snapshots
+pub mod Rests
 pub mod Whole
 pub mod Runs

@@ -11,7 +11,7 @@ use Rattle.gate_world.specs.declared.config.Config.{Config}
 use Rattle.gate_world.specs.Configs.{IsWithin, model_limits}
 use Rattle.gate_world.specs.Worlds.{World, Entry, opening}
 use Rattle.gate_world.specs.Rules.{IsGood}
-use Rattle.gate_world.specs.Headline.{world_after, actions_so_far, MovesTheModel, IsOneRun, NobodyIsInside, SumsHold, IdleSumsHold, ViewTells, OperationsAreKept}
+use Rattle.gate_world.specs.Headline.{world_after, actions_so_far, MovesTheModel, IsOneRun, NobodyIsInside, SumsHold, IdleSumsHold, NothingIsLeft, ViewTells, OperationsAreKept}
 use Rattle.gate_world.specs.Courses.{course_of, IsTraced, FollowsOrder}
 use Rattle.gate_world.specs.Traces.{Tells, actions_of}
 use Rattle.gate_world.specs.declared.operations.Op.{Op}
@@ -22,13 +22,15 @@ use Rattle.access_model.specs.declared.actions.Action.{Action}
 use Rattle.access_model.specs.declared.errors.GateError.{GateError}
 use Rattle.access_model.specs.declared.replies.Next.{Next}
 use Rattle.access_model.specs.declared.replies.Next.TheVariants.{Done as Ended}
-use Rattle.schedule_laws.proofs.Layers.{op_keeps}
+use Rattle.schedule_laws.proofs.Layers.{phase_keeps, op_keeps}
 use Rattle.trace_laws.proofs.Traced.{all_traced}
+use Rattle.gate_world.specs.Waits.{WaitsForAnother, EachWaitHasCulprit}
 use Rattle.gate_world.specs.Causes.{HasCause, RefusalsHaveCauses}
 use Rattle.schedule_laws.proofs.Entries.{TrailHolds, trail_holds, cause_tells}
 use Rattle.schedule_laws.proofs.Schedule.{opening_good, opening_shown, happens_keeps, run_keeps, gate_sums, idle_sums}
 use Rattle.schedule_laws.proofs.Lists.{run_lists}
 use Rattle.schedule_laws.proofs.Snapshots.{run_moments}
+use Rattle.schedule_laws.proofs.Rests.{at_rest}
 
 module _ (c : Config) (lim : IsWithin c) where
   pub whole_rule : (es : List Entry) → IsGood c (world_after c es)
@@ -58,6 +60,14 @@ module _ (c : Config) (lim : IsWithin c) where
 
   pub whole_idle : (es : List Entry) → IdleSumsHold c (world_after c es)
   whole_idle es = idle_sums c lim (world_after c es) (whole_rule es)
+
+  pub whole_rests : (es : List Entry) → NothingIsLeft c (world_after c es)
+  whole_rests es = at_rest c (world_after c es) (whole_rule es)
+
+  pub whole_waits : (es : List Entry) → EachWaitHasCulprit c es
+  whole_waits es t phase again hook lt at e =
+      subst (λ (s : Next Phase). WaitsForAnother c (world_after c es) t phase s) e
+      ((phase_keeps c phase).waits lim (world_after c es) (whole_rule es) t lt hook at)
 
   -- an operation that was refused has added what its refusals add
   refused_adds : (op : Op) (trace : List Traced) (comes : Next Phase) (added : List Action) (refusal : GateError) →

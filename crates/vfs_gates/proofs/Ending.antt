@@ -1,42 +1,32 @@
 -- The words of gates that are closed.
-use Rattle.std.proofs.Common.{◌≡◌, ℕ, zero, suc, ◌*◌, ◌%◌, ◌<◌, ◌≤◌, List, refl, sym, ap, ◌∙◌, arith}
+use Rattle.std.proofs.Common.{◌≡◌, ℕ, ◌*◌, ◌%◌, ◌<◌, List, ap, ◌∙◌, arith}
 use Rattle.std.specs.Prelude.{None, slice_index}
 use Rattle.finite_sums.specs.Sums.{total}
 use Rattle.finite_sums.proofs.Totals.{total_same, total_none}
 use Rattle.cpu_words.specs.declared.names.WordName.TheVariants.{Umount, Remount, MountFlags, MountCount}
 use Rattle.cpu_words.specs.Names.{place}
-use Rattle.mount_counts.specs.Roles.{has_hold, hold_bit}
+use Rattle.mount_counts.specs.Roles.{hold_bit}
 use Rattle.gate_world.specs.declared.config.Config.{Config}
-use Rattle.gate_world.specs.Rules.{owns, remounts, role_of, Owner, AtMount}
 use Rattle.schedule_laws.proofs.Schedule.{idle_sums}
+use Rattle.schedule_laws.proofs.Rests.{at_rest, no_hold as hold_is_clear}
 use Rattle.vfs_gates.specs.Ended.{Ended}
 
 module _ (c : Config) (ws : List ℕ) (e : Ended c ws) where
   idle : (t : ℕ) → t < c.tasks → (e.world.views t).phase ≡ None
   idle t lt = (e.still t lt).0
 
-  free : (u : ℕ) → u ≤ c.tasks → ((t : ℕ) → t < c.tasks → u ≡ suc t → owns (e.world.views t).phase ≡ 1) → u ≡ 0
-  free zero le owned = refl
-  free (suc t) le owned =
-      let lt : t < c.tasks = omega arith in
-      let o : owns (e.world.views t).phase ≡ 1 = owned t lt refl in
-      let z : owns (e.world.views t).phase ≡ 0 = ap owns (idle t lt) in
-      absurd (omega arith)
-
   -- nobody has umount
   pub umount_free : slice_index ws (16 * place Umount) ≡ 0
-  umount_free = e.ruled.words Umount tt ∙ free e.world.words.umount (e.ruled.good Owner).known (e.ruled.good Owner).owned
+  umount_free = e.ruled.words Umount tt ∙ (at_rest c e.world e.ruled.good idle).umount_free
 
   -- no remount is under way
   pub no_remount : slice_index ws (16 * place Remount) ≡ 0
-  no_remount = e.ruled.words Remount tt ∙ ((e.ruled.good Owner).remounting ∙ total_none c.tasks _ (λ t lt. ap remounts (idle t lt)))
+  no_remount = e.ruled.words Remount tt ∙ (at_rest c e.world e.ruled.good idle).remount_clear
 
   -- no mount has HOLD set
   pub no_hold : (m : ℕ) → m < c.mounts → slice_index ws (16 * place (MountFlags m)) < 2
   no_hold m lm =
-      let none : total c.tasks (λ t. has_hold (role_of m (e.world.views t).phase)) ≡ 0 =
-      total_none c.tasks _ (λ t lt. ap (λ p. has_hold (role_of m p)) (idle t lt)) in
-      let clear : hold_bit (e.world.words.flags m) ≡ 0 = omega (arith, none, (e.ruled.good (AtMount m) lm).gate.flag) in
+      let clear : hold_bit (e.world.words.flags m) ≡ 0 = hold_is_clear c e.world e.ruled.good idle m lm in
       let w = e.ruled.words (MountFlags m) lm in
       omega arith
 

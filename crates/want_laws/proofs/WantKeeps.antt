@@ -20,6 +20,7 @@ use Rattle.gate_world.specs.Worlds.{after_step}
 use Rattle.want_laws.proofs.Wants.{want_keeps, drop_keeps}
 use Rattle.want_laws.proofs.WantFits.{want_there, want_acts, want_goes}
 use Rattle.want_laws.proofs.WantCauses.{quiet_want, quiet_drop, want_kept, want_own}
+use Rattle.want_laws.proofs.WantWaits.{want_waits}
 use Rattle.want_laws.proofs.WantTraces.{WantAt, DropAt, want_kept as want_traced, drop_kept}
 use Rattle.gate_world.specs.Views.{held_at, holds_level}
 use Rattle.gate_world.specs.Rules.{Fitting}
@@ -42,6 +43,7 @@ want_phase c x = record {
   causes = λ w earlier good t lt hook e after is h.
       let f : Fits c t (held_at (w.views t)) (holds_level (w.views t)) (Some (Mounts (Wants x))) = subst (Fits c t (held_at (w.views t)) (holds_level (w.views t))) e (good Fitting t lt) in
       want_own c t lt w (after_step w t (Mounts (Wants x)) hook) earlier good after hook x.mount x.cpu x.wait x.step f.0 e is;
+  waits = λ lim w good t lt hook e. want_waits c w good t lt x.mount x.cpu hook x.wait x.step e;
   tells = λ t w earlier h e. let k : WantCause c t w earlier x.mount (CountsDown ReadOnly) = subst (WantCause c t w earlier x.mount) e h in k refl;
 }
 
@@ -56,6 +58,7 @@ drop_phase c m p = record {
   quiet = λ w good t lt hook n e. quiet_drop c w good t lt hook n m p e;
   stays = λ w next earlier after t f e was quiet h. tt;
   causes = λ w earlier good t lt hook e after is h. tt;
+  waits = λ lim w good t lt hook e. tt;
   tells = λ t w earlier h. tt;
 }
 

@@ -1,5 +1,5 @@
 -- Each clause is a lemma on whole schedules.
-use Rattle.schedule_laws.proofs.Whole.{whole_rule, whole_run, whole_moves, whole_nobody, whole_causes, whole_sums, whole_idle, whole_operations}
+use Rattle.schedule_laws.proofs.Whole.{whole_rule, whole_run, whole_moves, whole_nobody, whole_causes, whole_waits, whole_sums, whole_idle, whole_rests, whole_operations}
 use Rattle.gate_core.proofs.schedules.every_schedule.Goals as goal
 
 pub returns-clause-moves : goal.returns-clause-moves
@@ -17,11 +17,17 @@ returns-clause-sums c = whole_sums
 pub returns-clause-idle : goal.returns-clause-idle
 returns-clause-idle c = whole_idle
 
+pub returns-clause-rests : goal.returns-clause-rests
+returns-clause-rests c = whole_rests
+
 pub returns-clause-operations : goal.returns-clause-operations
 returns-clause-operations c = whole_operations
 
 pub returns-clause-causes : goal.returns-clause-causes
 returns-clause-causes c = whole_causes
+
+pub returns-clause-waits : goal.returns-clause-waits
+returns-clause-waits c = whole_waits
 
 pub returns-clause-rule : goal.returns-clause-rule
 returns-clause-rule c = whole_rule
