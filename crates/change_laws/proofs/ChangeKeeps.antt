@@ -34,13 +34,17 @@ change_phase c x = record {
   goes = λ lim t held levels found hook f. change_goes c lim t held levels x x.step found f;
   agrees = λ t f g h k mounts levels fits. (fits.0, fits.1, fits.2, rw (← none_agree c t f g h k mounts levels) fits.3, fits.4);
   quiet = λ w good t lt hook m e. quiet_change c w good t lt hook m x.mount x.read_only x.wait x.task x.processors x.step e;
-  stays = λ w next earlier after t f e was quiet h. change_kept c t w next earlier after x.mount x.read_only x.wait x.task x.processors x.step f.0 e was (quiet x.mount) h;
+  stays = λ w next earlier after t f e was quiet h. change_kept c t w next earlier after x.mount x.read_only x.wait x.task x.processors
+      x.step f.0 e was (quiet x.mount) h;
   causes = λ w earlier good t lt hook e after is h.
-      let f : Fits c t (held_at (w.views t)) (holds_level (w.views t)) (Some (Mounts (Changes x))) = subst (Fits c t (held_at (w.views t)) (holds_level (w.views t))) e (good Fitting t lt) in
-      change_own c t lt w (after_step w t (Mounts (Changes x)) hook) earlier good after hook x.mount x.read_only x.wait x.task x.processors x.step f.0 e
+      let f : Fits c t (held_at (w.views t)) (holds_level (w.views t)) (Some (Mounts (Changes x))) =
+      subst (Fits c t (held_at (w.views t)) (holds_level (w.views t))) e (good Fitting t lt) in
+      change_own c t lt w (after_step w t (Mounts (Changes x)) hook) earlier good after hook x.mount x.read_only x.wait x.task
+      x.processors x.step f.0 e
       (ap (λ g. g x.mount) (change_counts w t hook x.mount x.read_only x.wait x.task x.processors x.step)) h is;
   waits = λ lim w good t lt hook e. change_waits c w good t lt x.mount x.read_only x.task x.processors hook x.wait x.step e;
-  tells = λ t w earlier h e. let k : ChangeCause c t w earlier x.mount (Releases (Err Busy)) = subst (ChangeCause c t w earlier x.mount) e h in k refl;
+  tells = λ t w earlier h e. let k : ChangeCause c t w earlier x.mount (Releases (Err Busy)) =
+      subst (ChangeCause c t w earlier x.mount) e h in k refl;
 }
 
 pub change_op : (c : Config) (m : ℕ) (ro wait : Bool) → OpKeeps c (ChangeMount m ro wait)

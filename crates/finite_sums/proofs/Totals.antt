@@ -20,7 +20,8 @@ pub update_same : {A : Type 0} (f : ℕ → A) (t : ℕ) → update f t (f t) �
 update_same f t = fun_ext (λ x. elim (eqb_tells x t) [ inl h ↦ rw (h.0, update) (ap f (sym h.1)) | inr h ↦ rw (h.0, update) ])
 
 -- what holds of the new value and of each other old one holds of each
-pub each_updated : {A : Type 0} (P : ℕ → A → Type 0) (f : ℕ → A) (t : ℕ) (v : A) (x : ℕ) → P t v → ((x ≡ t → ⊥) → P x (f x)) → P x (update f t v x)
+pub each_updated : {A : Type 0} (P : ℕ → A → Type 0) (f : ℕ → A) (t : ℕ) (v : A) (x : ℕ) → P t v → ((x ≡ t → ⊥) → P x (f x)) →
+    P x (update f t v x)
 each_updated P f t v x here there =
     elim (eqb_tells x t) [
       | inl h ↦ rw (h.0, update) (subst (λ y. P y v) (sym h.1) here)
@@ -32,23 +33,27 @@ total_same zero f g h = refl
 total_same (suc n) f g h = omega (arith, total_same n f g (λ x lt. h x (omega arith)), h n (omega arith))
 
 -- a sum with one place changed, where what is summed may read the place too
-pub total_changed_by : {A : Type 0} (f : ℕ → A → ℕ) (n t : ℕ) (at : ℕ → A) (v : A) → t < n → total n (λ x. f x (update at t v x)) + f t (at t) ≡ total n (λ x. f x (at x)) + f t v
+pub total_changed_by : {A : Type 0} (f : ℕ → A → ℕ) (n t : ℕ) (at : ℕ → A) (v : A) → t < n →
+    total n (λ x. f x (update at t v x)) + f t (at t) ≡ total n (λ x. f x (at x)) + f t v
 total_changed_by f zero t at v lt = absurd (omega arith)
 total_changed_by f (suc n) t at v lt =
     elim (eqb_tells n t) [
       | inl h ↦
-          let e : total n (λ x. f x (update at t v x)) ≡ total n (λ x. f x (at x)) = total_same n _ _ (λ x l. ap (f x) (update_off at t v x (λ q. absurd (omega arith)))) in
+          let e : total n (λ x. f x (update at t v x)) ≡ total n (λ x. f x (at x)) =
+          total_same n _ _ (λ x l. ap (f x) (update_off at t v x (λ q. absurd (omega arith)))) in
           let e2 : f n (update at t v n) ≡ f n v = rw (h.0, update) in
           let e3 : f n (at n) ≡ f t (at t) = ap (λ y. f y (at y)) h.1 in
           let e4 : f n v ≡ f t v = ap (λ y. f y v) h.1 in
           omega arith
       | inr h ↦
-          let e : total n (λ x. f x (update at t v x)) + f t (at t) ≡ total n (λ x. f x (at x)) + f t v = total_changed_by f n t at v (omega arith) in
+          let e : total n (λ x. f x (update at t v x)) + f t (at t) ≡ total n (λ x. f x (at x)) + f t v =
+          total_changed_by f n t at v (omega arith) in
           let e2 : f n (update at t v n) ≡ f n (at n) = rw (h.0, update) in
           omega arith
     ]
 
-pub total_updated : {A : Type 0} (f : A → ℕ) (n t : ℕ) (at : ℕ → A) (v : A) → t < n → total n (λ x. f (update at t v x)) + f (at t) ≡ total n (λ x. f (at x)) + f v
+pub total_updated : {A : Type 0} (f : A → ℕ) (n t : ℕ) (at : ℕ → A) (v : A) → t < n →
+    total n (λ x. f (update at t v x)) + f (at t) ≡ total n (λ x. f (at x)) + f v
 total_updated f n t at v lt = total_changed_by (λ x. f) n t at v lt
 
 pub total_le : (n : ℕ) (f g : ℕ → ℕ) → ((x : ℕ) → x < n → f x ≤ g x) → total n f ≤ total n g
@@ -100,6 +105,7 @@ total_place (suc n) f some =
     ]
 
 -- equal residues word by word give equal residues of the sums
-pub residues : (n : ℕ) (c a b : ℕ → ℕ) → ((p : ℕ) → p < n → (c p + a p) % 18446744073709551616 ≡ b p % 18446744073709551616) → (total n c + total n a) % 18446744073709551616 ≡ total n b % 18446744073709551616
+pub residues : (n : ℕ) (c a b : ℕ → ℕ) → ((p : ℕ) → p < n → (c p + a p) % 18446744073709551616 ≡ b p % 18446744073709551616) →
+    (total n c + total n a) % 18446744073709551616 ≡ total n b % 18446744073709551616
 residues zero c a b h = refl
 residues (suc n) c a b h = omega (arith, residues n c a b (λ p lt. h p (omega arith)), h n (omega arith))

@@ -33,35 +33,47 @@ by_bool true P x y = x
 by_bool false P x y = y
 
 -- accesses that agree at each mount and level fit alike
-module _ (c : Config) (t : ℕ) (f g : ℕ → ℕ) (h k : ℕ → Bool) (mounts : (m : ℕ) → m < c.mounts → f m ≡ g m) (levels : (i : ℕ) → 1 ≤ i → i ≤ 3 → h i ≡ k i) where
+module _ (c : Config) (t : ℕ) (f g : ℕ → ℕ) (h k : ℕ → Bool) (mounts : (m : ℕ) → m < c.mounts → f m ≡ g m)
+    (levels : (i : ℕ) → 1 ≤ i → i ≤ 3 → h i ≡ k i) where
   pub none_agree : holds_none h ≡ holds_none k
   none_agree = rw (levels 1 (omega arith) (omega arith), levels 2 (omega arith) (omega arith), levels 3 (omega arith) (omega arith))
 
 -- of one phase
 pub record PhaseKeeps (c : Config) (phase : Phase) : Type 0 where
   -- its event keeps the rule, and moves the shown model by its action
-  pub step : IsWithin c → (w : World) → IsGood c w → (t : ℕ) → t < c.tasks → (hook : HookAnswer) → (w.views t).phase ≡ Some phase → StepKeeps c w t hook phase
+  pub step : IsWithin c → (w : World) → IsGood c w → (t : ℕ) → t < c.tasks → (hook : HookAnswer) → (w.views t).phase ≡ Some phase →
+      StepKeeps c w t hook phase
   -- a snapshot that its event completes is of the present tree
   pub completes : IsWithin c → (w : World) → IsGood c w → (t : ℕ) → t < c.tasks → (hook : HookAnswer) → (w.views t).phase ≡ Some phase →
       CompletesNow c w t hook phase
   -- the word of its event is there
-  pub word : IsWithin c → (t : ℕ) (held : ℕ → ℕ) (levels : ℕ → Bool) (hook : HookAnswer) → PhaseFits c t held levels phase → IsWord (extents_of c) (next_of phase hook).0
+  pub word : IsWithin c → (t : ℕ) (held : ℕ → ℕ) (levels : ℕ → Bool) (hook : HookAnswer) → PhaseFits c t held levels phase →
+      IsWord (extents_of c) (next_of phase hook).0
   -- its action can be done
-  pub acts : IsWithin c → (t : ℕ) (held : ℕ → ℕ) (levels : ℕ → Bool) (found : ℕ) (hook : HookAnswer) → PhaseFits c t held levels phase → ActionFits held (after_of phase found hook).1
+  pub acts : IsWithin c → (t : ℕ) (held : ℕ → ℕ) (levels : ℕ → Bool) (found : ℕ) (hook : HookAnswer) → PhaseFits c t held levels phase →
+      ActionFits held (after_of phase found hook).1
   -- what comes after it fits
   pub goes : IsWithin c → (t : ℕ) (held : ℕ → ℕ) (levels : ℕ → Bool) (found : ℕ) (hook : HookAnswer) → PhaseFits c t held levels phase →
-      Fits c t (mounts_by (after_of phase found hook).1 held) (levels_by (after_of phase found hook).1 levels) (phase_after (after_of phase found hook).0)
+      Fits c t (mounts_by (after_of phase found hook).1 held) (levels_by (after_of phase found hook).1 levels)
+      (phase_after (after_of phase found hook).0)
   -- it fits accesses that agree
-  pub agrees : (t : ℕ) (f g : ℕ → ℕ) (h k : ℕ → Bool) → ((m : ℕ) → m < c.mounts → f m ≡ g m) → ((i : ℕ) → 1 ≤ i → i ≤ 3 → h i ≡ k i) → PhaseFits c t f h phase → PhaseFits c t g k phase
+  pub agrees : (t : ℕ) (f g : ℕ → ℕ) (h k : ℕ → Bool) → ((m : ℕ) → m < c.mounts → f m ≡ g m) → ((i : ℕ) → 1 ≤ i → i ≤ 3 → h i ≡ k i) →
+      PhaseFits c t f h phase → PhaseFits c t g k phase
   -- where nothing is counted before and after its event, it leaves the counts
-  pub quiet : (w : World) → IsGood c w → (t : ℕ) → t < c.tasks → (hook : HookAnswer) (m : ℕ) → (w.views t).phase ≡ Some phase → all_counted c m w ≡ 0 → all_counted c m (after_step w t phase hook) ≡ 0 →
+  pub quiet : (w : World) → IsGood c w → (t : ℕ) → t < c.tasks → (hook : HookAnswer) (m : ℕ) → (w.views t).phase ≡ Some phase →
+      all_counted c m w ≡ 0 → all_counted c m (after_step w t phase hook) ≡ 0 →
       (after_step w t phase hook).words.count m ≡ w.words.count m
   -- its cause stays while others step
-  pub stays : (w next : World) (earlier : List World) → IsGood c next → (t : ℕ) → Fits c t (held_at (w.views t)) (holds_level (w.views t)) (Some phase) → (next.views t).phase ≡ Some phase → (w.views t).phase ≡ Some phase →
-      ((m : ℕ) → all_counted c m w ≡ 0 → all_counted c m next ≡ 0 → next.words.count m ≡ w.words.count m) → CauseOf c t w earlier (Some phase) → CauseOf c t next (w ∷ earlier) (Some phase)
+  pub stays : (w next : World) (earlier : List World) → IsGood c next → (t : ℕ) →
+      Fits c t (held_at (w.views t)) (holds_level (w.views t)) (Some phase) → (next.views t).phase ≡ Some phase →
+      (w.views t).phase ≡ Some phase →
+      ((m : ℕ) → all_counted c m w ≡ 0 → all_counted c m next ≡ 0 → next.words.count m ≡ w.words.count m) →
+      CauseOf c t w earlier (Some phase) → CauseOf c t next (w ∷ earlier) (Some phase)
   -- what comes after it has its cause
-  pub causes : (w : World) (earlier : List World) → IsGood c w → (t : ℕ) → t < c.tasks → (hook : HookAnswer) → (w.views t).phase ≡ Some phase → IsGood c (after_step w t phase hook) →
-      ((after_step w t phase hook).views t).phase ≡ phase_after (after_of phase (found_at w.words phase hook) hook).0 → CauseOf c t w earlier (Some phase) →
+  pub causes : (w : World) (earlier : List World) → IsGood c w → (t : ℕ) → t < c.tasks → (hook : HookAnswer) →
+      (w.views t).phase ≡ Some phase → IsGood c (after_step w t phase hook) →
+      ((after_step w t phase hook).views t).phase ≡ phase_after (after_of phase (found_at w.words phase hook) hook).0 →
+      CauseOf c t w earlier (Some phase) →
       CauseOf c t (after_step w t phase hook) (w ∷ earlier) (phase_after (after_of phase (found_at w.words phase hook) hook).0)
   -- where its event is a wait, another task has what it waits for
   pub waits : IsWithin c → (w : World) → IsGood c w → (t : ℕ) → t < c.tasks → (hook : HookAnswer) → (w.views t).phase ≡ Some phase →
@@ -81,7 +93,8 @@ IsSmall (Some most) = most ≤ most_events_of_all
 -- of one operation
 pub record OpKeeps (c : Config) (op : Op) : Type 0 where
   -- where it may begin, its first phase fits
-  pub fits : (t : ℕ) (held : ℕ → ℕ) (levels : ℕ → Bool) → is_in_range c op ≡ true → is_in_order c held levels op ≡ true → is_within_room held op ≡ true →
+  pub fits : (t : ℕ) (held : ℕ → ℕ) (levels : ℕ → Bool) → is_in_range c op ≡ true → is_in_order c held levels op ≡ true →
+      is_within_room held op ≡ true →
       Fits c t held levels (Some (first_phase c t op))
   -- which has no role yet, and no cause
   pub no_role : (t y : ℕ) → role_of y (Some (first_phase c t op)) ≡ Out
@@ -90,12 +103,16 @@ pub record OpKeeps (c : Config) (op : Op) : Type 0 where
   -- whether it may begin is the same with accesses that agree
   pub order_agrees : (f g : ℕ → ℕ) (h k : ℕ → Bool) → ((m : ℕ) → m < c.mounts → f m ≡ g m) → ((i : ℕ) → 1 ≤ i → i ≤ 3 → h i ≡ k i) →
       is_in_range c op ≡ true → is_in_order c f h op ≡ is_in_order c g k op
-  pub room_agrees : (f g : ℕ → ℕ) → ((m : ℕ) → m < c.mounts → f m ≡ g m) → is_in_range c op ≡ true → is_within_room f op ≡ is_within_room g op
+  pub room_agrees : (f g : ℕ → ℕ) → ((m : ℕ) → m < c.mounts → f m ≡ g m) → is_in_range c op ≡ true →
+      is_within_room f op ≡ is_within_room g op
   -- where it is refused, the accesses are those with which it began
-  pub restores : (refusal : GateError) (trace : List Traced) (before : List Action) → is_in_order c (mounts_of before) (levels_of before) op ≡ true →
-      (mounts_of (actions_of op (Err refusal) trace ++ before) ≡ mounts_of before) × (levels_of (actions_of op (Err refusal) trace ++ before) ≡ levels_of before)
+  pub restores : (refusal : GateError) (trace : List Traced) (before : List Action) →
+      is_in_order c (mounts_of before) (levels_of before) op ≡ true →
+      (mounts_of (actions_of op (Err refusal) trace ++ before) ≡ mounts_of before) ×
+      (levels_of (actions_of op (Err refusal) trace ++ before) ≡ levels_of before)
   -- its trace tells what is to be told, and is short
-  pub tells : IsWithin c → (t : ℕ) (trace : List Traced) → IsTrace c t op trace → Tells c op trace (course_of c t op trace).comes (course_of c t op trace).added
+  pub tells : IsWithin c → (t : ℕ) (trace : List Traced) → IsTrace c t op trace →
+      Tells c op trace (course_of c t op trace).comes (course_of c t op trace).added
   pub short : IsWithin c → (t : ℕ) (trace : List Traced) → IsTrace c t op trace → IsShort (most_events c op) trace
   -- its most number of events is small, where it has one
   pub most_small : IsWithin c → IsSmall (most_events c op)

@@ -29,7 +29,8 @@ actions_so_far c entries = history c opening [] entries
 -- after any schedule, whatever entry comes next: an event that adds an action adds one that is allowed in the shown model, whose
 -- effect gives the new shown model; every other entry leaves it as it was
 abbrev pub MovesTheModel : Config → List Entry → Entry → Type 0
-MovesTheModel c entries e = Moves c (shown c (world_after c entries)) (task_of e) (action_of c (world_after c entries) e) (shown c (happens c (world_after c entries) e))
+MovesTheModel c entries e = Moves c (shown c (world_after c entries)) (task_of e) (action_of c (world_after c entries) e)
+    (shown c (happens c (world_after c entries) e))
 
 -- the actions so far are a legal history, whose end is the shown model, of which each task's own list is its part, and in which each last
 -- snapshot has its moment
@@ -41,7 +42,8 @@ pub record IsOneRun (c : Config) (entries : List Entry) : Type 0 where
 
 -- each mount's words sum to what is held and sought
 abbrev pub SumsHold : Config → World → Type 0
-SumsHold c w = (m : ℕ) → m < c.mounts → total c.processors (w.words.count m) % 18446744073709551616 ≡ total c.tasks (λ t. counted (at_mount m (w.views t)))
+SumsHold c w = (m : ℕ) → m < c.mounts → total c.processors (w.words.count m) % 18446744073709551616 ≡ total c.tasks
+    (λ t. counted (at_mount m (w.views t)))
 
 -- and, with no operation under way, to the accesses held
 abbrev pub IdleSumsHold : Config → World → Type 0

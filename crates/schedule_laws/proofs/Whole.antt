@@ -48,12 +48,15 @@ module _ (c : Config) (lim : IsWithin c) where
   whole_moves es e = (happens_keeps c lim (world_after c es) (whole_rule es) e).1
 
   pub whole_nobody : (es : List Entry) → NobodyIsInside c (world_after c es)
-  whole_nobody es = subst (λ (s : State). NobodyHoldsClosed (model_limits c) s) (whole_run es).end (closed (model_limits c) (actions_so_far c es) (whole_run es).legal)
+  whole_nobody es = subst (λ (s : State). NobodyHoldsClosed (model_limits c) s) (whole_run es).end
+      (closed (model_limits c) (actions_so_far c es) (whole_run es).legal)
 
   pub whole_causes : (es : List Entry) → RefusalsHaveCauses c es
   whole_causes es t lt =
-      let h : TrailHolds c (λ w good e. (happens_keeps c lim w good e).0) opening [] es = trail_holds c (λ w good e. (happens_keeps c lim w good e).0) es opening [] (opening_good c lim) (λ x lx. tt) in
-      subst (λ (ws : List World). HasCause c t ws ((world_after c es).views t).phase) (sym h.is) (cause_tells c t (world_after c es) h.rest ((world_after c es).views t).phase (h.causes t lt))
+      let h : TrailHolds c (λ w good e. (happens_keeps c lim w good e).0) opening [] es =
+      trail_holds c (λ w good e. (happens_keeps c lim w good e).0) es opening [] (opening_good c lim) (λ x lx. tt) in
+      subst (λ (ws : List World). HasCause c t ws ((world_after c es).views t).phase) (sym h.is)
+      (cause_tells c t (world_after c es) h.rest ((world_after c es).views t).phase (h.causes t lt))
 
   pub whole_sums : (es : List Entry) → SumsHold c (world_after c es)
   whole_sums es = gate_sums c lim (world_after c es) (whole_rule es)
@@ -76,25 +79,30 @@ module _ (c : Config) (lim : IsWithin c) where
       let k : Tells c op trace (Ended (Err refusal)) added = subst (λ (s : Next Phase). Tells c op trace s added) e h in k.0
 
   -- so its task holds what it held when it began
-  holds_as_before : (t : ℕ) (v : View) (op : Op) (refusal : GateError) → FollowsOrder c t v op → v.actions ≡ actions_of op (Err refusal) v.trace ++ v.before →
+  holds_as_before : (t : ℕ) (v : View) (op : Op) (refusal : GateError) → FollowsOrder c t v op →
+      v.actions ≡ actions_of op (Err refusal) v.trace ++ v.before →
       HoldsAsBefore v
   holds_as_before t v op refusal h is =
-      let k : (mounts_of (actions_of op (Err refusal) v.trace ++ v.before) ≡ mounts_of v.before) × (levels_of (actions_of op (Err refusal) v.trace ++ v.before) ≡ levels_of v.before) =
+      let k : (mounts_of (actions_of op (Err refusal) v.trace ++ v.before) ≡ mounts_of v.before) ×
+      (levels_of (actions_of op (Err refusal) v.trace ++ v.before) ≡ levels_of v.before) =
       (op_keeps c op).restores refusal v.trace v.before (may_begin c false (mounts_of v.before) (levels_of v.before) op h.begins).order in
       (ap mounts_of is ∙ k.0, ap levels_of is ∙ k.1)
 
   op_tells : (t : ℕ) (v : View) (op : Option Op) → IsTraced c t v op → ViewTells c t v op
   op_tells t v None h = tt
   op_tells t v (Some op) h =
-      let k : Tells c op v.trace (course_of c t op v.trace).comes (course_of c t op v.trace).added = (op_keeps c op).tells lim t v.trace h.trace in
+      let k : Tells c op v.trace (course_of c t op v.trace).comes (course_of c t op v.trace).added =
+      (op_keeps c op).tells lim t v.trace h.trace in
       record {
         tells = k;
         refused = λ refusal e. holds_as_before t v op refusal h
-            (h.actions ∙ ap (λ l. l ++ v.before) (refused_adds op v.trace (course_of c t op v.trace).comes (course_of c t op v.trace).added refusal k e));
+            (h.actions ∙ ap (λ l. l ++ v.before) (refused_adds op v.trace (course_of c t op v.trace).comes
+            (course_of c t op v.trace).added refusal k e));
         short = (op_keeps c op).short lim t v.trace h.trace;
       }
 
   pub whole_operations : (es : List Entry) (t : ℕ) → OperationsAreKept c es t
   whole_operations es t =
-      let traced : IsTraced c t ((world_after c es).views t) ((world_after c es).views t).op = all_traced c opening es (λ x. (refl, refl, refl)) t in
+      let traced : IsTraced c t ((world_after c es).views t) ((world_after c es).views t).op =
+      all_traced c opening es (λ x. (refl, refl, refl)) t in
       record { traced = traced; tells = op_tells t ((world_after c es).views t) ((world_after c es).views t).op traced }

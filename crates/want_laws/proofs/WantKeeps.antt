@@ -41,10 +41,12 @@ want_phase c x = record {
   quiet = λ w good t lt hook m e. quiet_want c w good t lt hook m x.mount x.cpu x.wait x.step e;
   stays = λ w next earlier after t f e was quiet h. want_kept c t w next earlier after x.mount x.cpu x.wait x.step e h;
   causes = λ w earlier good t lt hook e after is h.
-      let f : Fits c t (held_at (w.views t)) (holds_level (w.views t)) (Some (Mounts (Wants x))) = subst (Fits c t (held_at (w.views t)) (holds_level (w.views t))) e (good Fitting t lt) in
+      let f : Fits c t (held_at (w.views t)) (holds_level (w.views t)) (Some (Mounts (Wants x))) =
+      subst (Fits c t (held_at (w.views t)) (holds_level (w.views t))) e (good Fitting t lt) in
       want_own c t lt w (after_step w t (Mounts (Wants x)) hook) earlier good after hook x.mount x.cpu x.wait x.step f.0 e is;
   waits = λ lim w good t lt hook e. want_waits c w good t lt x.mount x.cpu hook x.wait x.step e;
-  tells = λ t w earlier h e. let k : WantCause c t w earlier x.mount (CountsDown ReadOnly) = subst (WantCause c t w earlier x.mount) e h in k refl;
+  tells = λ t w earlier h e. let k : WantCause c t w earlier x.mount (CountsDown ReadOnly) =
+      subst (WantCause c t w earlier x.mount) e h in k refl;
 }
 
 pub drop_phase : (c : Config) (m p : ℕ) → PhaseKeeps c (Mounts (Drops m p))
@@ -71,7 +73,8 @@ want_op c m p wait = record {
   steady = λ t. record { owns_same = refl; remounts_same = refl; closing_same = λ i. refl };
   cause = λ t w earlier. tt;
   order_agrees = λ f g h k mounts levels there. refl;
-  room_agrees = λ f g mounts there. ap (λ y. nat_lt y 1024) (mounts m (ltb-true m c.mounts (both (nat_lt m c.mounts) (nat_lt p c.processors) there).0));
+  room_agrees = λ f g mounts there. ap (λ y. nat_lt y 1024) (mounts m
+      (ltb-true m c.mounts (both (nat_lt m c.mounts) (nat_lt p c.processors) there).0));
   restores = λ refusal trace before order. (refl, refl);
   tells = λ lim t trace h. tells (WantAt c m p wait) c t (WantOp m p wait) (want_traced c t m p wait) trace h;
   short = λ lim t trace h. is_short (WantAt c m p wait) c t (WantOp m p wait) (want_traced c t m p wait) trace h;
@@ -86,7 +89,8 @@ drop_op c m p = record {
   no_role = λ t y. refl;
   steady = λ t. record { owns_same = refl; remounts_same = refl; closing_same = λ i. refl };
   cause = λ t w earlier. tt;
-  order_agrees = λ f g h k mounts levels there. ap (nat_lt 0) (mounts m (ltb-true m c.mounts (both (nat_lt m c.mounts) (nat_lt p c.processors) there).0));
+  order_agrees = λ f g h k mounts levels there. ap (nat_lt 0) (mounts m
+      (ltb-true m c.mounts (both (nat_lt m c.mounts) (nat_lt p c.processors) there).0));
   room_agrees = λ f g mounts there. refl;
   restores = λ refusal trace before order. (refl, refl);
   tells = λ lim t trace h. tells (DropAt m p) c t (DropMount m p) (drop_kept c t m p) trace h;
