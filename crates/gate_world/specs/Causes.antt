@@ -2,7 +2,7 @@
 use Rattle.std.specs.Prelude.{◌≡◌, ℕ, ◌<◌, ◌==◌, ◌||◌, nat_lt, Bool, true, false, if◌then◌else◌, Option, Some, None, Err, List, [], ◌∷◌}
 use Rattle.finite_sums.specs.Sums.{total}
 use Rattle.access_model.specs.declared.errors.GateError.TheVariants.{Busy, ReadOnly}
-use Rattle.mount_counts.specs.declared.phases.MountPhase.TheVariants.{Want as Wants, Change as Changes}
+use Rattle.mount_counts.specs.declared.phases.MountPhase.TheVariants.{Want as Wants, Drop as Drops, Change as Changes}
 use Rattle.mount_counts.specs.declared.phases.WantStep.{WantStep}
 use Rattle.mount_counts.specs.declared.phases.WantStep.TheVariants.{LoadsRemount, LoadsReadOnly, LoadsSuperblock, CountsDown}
 use Rattle.mount_counts.specs.declared.phases.ChangeStep.{ChangeStep}
@@ -73,11 +73,13 @@ was_counted c m [] = false
 was_counted c m (w ∷ earlier) = nat_lt 0 (all_counted c m w) || was_counted c m earlier
 
 -- A task whose next event is the one with which it is refused: as read-only, and the mount was so when the task last asked; as busy, and
--- something was counted at the mount in some world from the load of its sum's first word to the load of its last.
+-- something was counted at the mount in some world from the load of its sum's first word to the load of its last. Each kind of phase has a
+-- row of its own, so that a new one says its causes.
 abbrev pub HasCause : Config → ℕ → List World → Option Phase → Type 0
+HasCause c t worlds None = Unit {0}
 HasCause c t worlds (Some (Mounts (Wants x))) = x.step ≡ CountsDown ReadOnly → was_read_only c x.mount (last_question t worlds) ≡ true
+HasCause c t worlds (Some (Mounts (Drops m p))) = Unit {0}
 HasCause c t worlds (Some (Mounts (Changes x))) = x.step ≡ Releases (Err Busy) → was_counted c x.mount (moments_of_sum t worlds) ≡ true
-HasCause c t worlds phase = Unit {0}
 
 abbrev pub RefusalsHaveCauses : Config → List Entry → Type 0
 RefusalsHaveCauses c entries = (t : ℕ) → t < c.tasks → HasCause c t (trail_of c entries) ((run c opening entries).views t).phase
