@@ -19,9 +19,11 @@ use Rattle.gate_steps.specs.declared.seating.Numbered.{Numbered}
 abbrev pub SeatItems : Type 0
 SeatItems = List Numbered
 
+-- a number with its view
 abbrev pub numbered : ℕ → View → Numbered
 numbered n v = record { number = n; view = v }
 
+-- 1 where it is so
 abbrev pub one_if : Bool → ℕ
 one_if true = 1
 one_if false = 0
@@ -31,6 +33,7 @@ abbrev pub times : ℕ → SeatItems → ℕ
 times n [] = 0
 times n (x ∷ xs) = one_if (x.number == n) + times n xs
 
+-- the same among several seats
 abbrev pub times_all : ℕ → List SeatItems → ℕ
 times_all n [] = 0
 times_all n (l ∷ ls) = times n l + times_all n ls
@@ -106,6 +109,7 @@ pub record Moved (c : Config) (begins : Option Op) (phase : Phase) (hook : HookA
   pub grows : history.log ≡ with_action x.number (phase_action world hook (Some phase)) past.log
   pub left : HaveViews (world_left c world begins phase hook x.number xs).views (items_after begins phase hook n (x ∷ xs))
 
+-- the same of a seat's own number, which is its first
 abbrev pub IsMove : Config → Option Op → Phase → HookAnswer → SeatItems → ℕ → Type 0
 IsMove c begins phase hook [] found = ⊥
 IsMove c begins phase hook (x ∷ xs) found = Moved c begins phase hook x xs found
@@ -117,10 +121,12 @@ abbrev pub happened : Config → Option Op → Phase → HookAnswer → SeatItem
 happened c begins phase hook me found after = (after.0 ≡ items_after begins phase hook found me.0) × (after.1 ≡ me.1) ×
     IsMove c begins phase hook me.0 found
 
+-- these numbers but for one
 abbrev pub without : ℕ → SeatItems → SeatItems
 without n [] = []
 without n (x ∷ xs) = cond (x.number == n) (without n xs) (x ∷ without n xs)
 
+-- the view of a number among these
 abbrev pub view_in : ℕ → SeatItems → View
 view_in n [] = opening_view
 view_in n (x ∷ xs) = cond (x.number == n) x.view (view_in n xs)

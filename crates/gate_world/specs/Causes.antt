@@ -20,6 +20,7 @@ abbrev pub trail : Config → List World → World → List Entry → List World
 trail c earlier w [] = w ∷ earlier
 trail c earlier w (e ∷ es) = trail c (w ∷ earlier) (happens c w e) es
 
+-- the same from the opening on
 abbrev pub trail_of : Config → List Entry → List World
 trail_of c entries = trail c [] opening entries
 
@@ -30,6 +31,7 @@ want_asks LoadsReadOnly = true
 want_asks LoadsSuperblock = true
 want_asks step = false
 
+-- the next event of what a task is at is a load of the read-only question
 abbrev pub asks : Option Phase → Bool
 asks (Some (Mounts (Wants x))) = want_asks x.step
 asks phase = false
@@ -49,6 +51,7 @@ abbrev pub step_read : ChangeStep → Option ℕ
 step_read (Sums sum) = Some sum.words
 step_read step = None
 
+-- how many words of a sum are read, where the next event of what a task is at is a load of a word
 abbrev pub words_read : Option Phase → Option ℕ
 words_read (Some (Mounts (Changes x))) = step_read x.step
 words_read phase = None
@@ -59,6 +62,7 @@ abbrev pub sum_worlds : World → Option ℕ → List World → List World
 sum_worlds w None earlier = earlier
 sum_worlds w (Some read) earlier = if read == 0 then w ∷ [] else w ∷ earlier
 
+-- these worlds among those of a schedule, the newest first
 abbrev pub moments_of_sum : ℕ → List World → List World
 moments_of_sum t [] = []
 moments_of_sum t (w ∷ earlier) = sum_worlds w (words_read (w.views t).phase) (moments_of_sum t earlier)
@@ -81,5 +85,6 @@ HasCause c t worlds (Some (Mounts (Wants x))) = x.step ≡ CountsDown ReadOnly �
 HasCause c t worlds (Some (Mounts (Drops m p))) = Unit {0}
 HasCause c t worlds (Some (Mounts (Changes x))) = x.step ≡ Releases (Err Busy) → was_counted c x.mount (moments_of_sum t worlds) ≡ true
 
+-- so it is of every task, after a schedule
 abbrev pub RefusalsHaveCauses : Config → List Entry → Type 0
 RefusalsHaveCauses c entries = (t : ℕ) → t < c.tasks → HasCause c t (trail_of c entries) ((run c opening entries).views t).phase

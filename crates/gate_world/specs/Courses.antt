@@ -19,6 +19,7 @@ pub record Course : Type 0 where
   pub comes : Next Phase
   pub added : List Action
 
+-- the course after an event, after which this comes, and which added this
 abbrev pub course_with : List Action → Next Phase × Option Action → Course
 course_with added after = record { comes = after.0; added = actions_after after.1 added }
 
@@ -37,6 +38,7 @@ course_of c t op (e ∷ earlier) = course_after (course_of c t op earlier).comes
 abbrev pub IsEventOf : Phase → Traced → Type 0
 IsEventOf phase e = (value : ℕ) × (e.event ≡ event_of (next_of phase e.hook).0 (next_of phase e.hook).1 value)
 
+-- the event is the one that comes next; after the end there is none
 abbrev pub IsNext : Next Phase → Traced → Type 0
 IsNext (Go phase) e = IsEventOf phase e
 IsNext (Wait phase) e = IsEventOf phase e
@@ -55,6 +57,7 @@ pub record FollowsOrder (c : Config) (t : ℕ) (v : View) (op : Op) : Type 0 whe
   pub actions : v.actions ≡ (course_of c t op v.trace).added ++ v.before
   pub begins : refusal c false (mounts_of v.before) (levels_of v.before) op ≡ None
 
+-- the same of a view that may have no operation
 abbrev pub IsTraced : Config → ℕ → View → Option Op → Type 0
 IsTraced c t v None = (v.phase ≡ None) × (v.actions ≡ []) × (v.trace ≡ [])
 IsTraced c t v (Some op) = FollowsOrder c t v op

@@ -19,15 +19,19 @@ abbrev pub SumFits : Config → ChangeStep → Type 0
 SumFits c (Sums sum) = sum.words < c.processors
 SumFits c step = Unit {0}
 
+-- A phase at a mount: its numbers are in range, and its task holds what it may. A want has room for one access more, a drop has one to
+-- give back, a change is of this task and holds no level.
 abbrev pub MountFits : Config → ℕ → (ℕ → ℕ) → (ℕ → Bool) → MountPhase → Type 0
 MountFits c t held levels (Want w) = (w.mount < c.mounts) × (w.cpu < c.processors) × (held w.mount < 1024)
 MountFits c t held levels (Drop m p) = (m < c.mounts) × (p < c.processors) × (0 < held m)
 MountFits c t held levels (Change x) = (x.mount < c.mounts) × (x.task ≡ t) × (x.processors ≡ c.processors) × (holds_none levels ≡ true) ×
     SumFits c x.step
 
+-- the same of a phase of any layer
 abbrev pub PhaseFits : Config → ℕ → (ℕ → ℕ) → (ℕ → Bool) → Phase → Type 0
 PhaseFits c t held levels (Mounts phase) = MountFits c t held levels phase
 
+-- the same of what a task is at; nothing is asked where no operation is under way
 abbrev pub Fits : Config → ℕ → (ℕ → ℕ) → (ℕ → Bool) → Option Phase → Type 0
 Fits c t held levels None = Unit {0}
 Fits c t held levels (Some phase) = PhaseFits c t held levels phase
@@ -46,6 +50,7 @@ abbrev pub mounts_by : Option Action → (ℕ → ℕ) → ℕ → ℕ
 mounts_by None held = held
 mounts_by (Some a) held = mounts_after a held
 
+-- and of the levels
 abbrev pub levels_by : Option Action → (ℕ → Bool) → ℕ → Bool
 levels_by None levels = levels
 levels_by (Some a) levels = levels_after a levels

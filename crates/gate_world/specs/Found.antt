@@ -13,6 +13,7 @@ abbrev pub is_load : Touch → Bool
 is_load Load = true
 is_load touch = false
 
+-- the touch is a compare-exchange
 abbrev pub is_cas : Touch → Bool
 is_cas (Cas expect put) = true
 is_cas touch = false
@@ -39,12 +40,15 @@ abbrev pub some_event : (Event → Bool) → List Traced → Bool
 some_event test [] = false
 some_event test (e ∷ earlier) = test e.event || some_event test earlier
 
+-- some load answered the read-only question for this mount with yes
 abbrev pub found_read_only : ℕ → List Traced → Bool
 found_read_only m trace = some_event (λ e. is_load e.touch && says_read_only m e.word e.found) trace
 
+-- some load found HOLD at this mount
 abbrev pub found_hold : ℕ → List Traced → Bool
 found_hold m trace = some_event (λ e. is_load e.touch && says_hold m e.word e.found) trace
 
+-- some compare-exchange found `umount` taken
 abbrev pub found_taken : List Traced → Bool
 found_taken trace = some_event (λ e. is_cas e.touch && says_taken e.word e.found) trace
 
@@ -90,5 +94,6 @@ IsEachCount zero (x ∷ earlier) = ⊥
 IsEachCount (suc n) [] = ⊥
 IsEachCount (suc n) (x ∷ earlier) = (x.0 ≡ n) × IsEachCount n earlier
 
+-- the wrapping sum of what was loaded
 abbrev pub sum_loaded : List (ℕ × ℕ) → ℕ
 sum_loaded loads = sum_by (λ (x : ℕ × ℕ). x.1) loads % 18446744073709551616

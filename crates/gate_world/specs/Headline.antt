@@ -23,6 +23,7 @@ use Rattle.gate_world.specs.Traces.{Tells, IsShort, most_events}
 abbrev pub world_after : Config → List Entry → World
 world_after c entries = run c opening entries
 
+-- the actions that a schedule has added, the newest first
 abbrev pub actions_so_far : Config → List Entry → List Done
 actions_so_far c entries = history c opening [] entries
 
@@ -73,6 +74,7 @@ pub record OperationTells (c : Config) (t : ℕ) (v : View) (op : Op) : Type 0 w
   pub refused : (refusal : GateError) → (course_of c t op v.trace).comes ≡ Ended (Err refusal) → HoldsAsBefore v
   pub short : IsShort (most_events c op) v.trace
 
+-- the same of a view that may have no operation
 abbrev pub ViewTells : Config → ℕ → View → Option Op → Type 0
 ViewTells c t v None = Unit {0}
 ViewTells c t v (Some op) = OperationTells c t v op

@@ -34,10 +34,12 @@ module _ (c : Config) (t : ℕ) (w : World) (earlier : List World) where
   ChangeCause m (Releases answer) = AnswerCause m answer
   ChangeCause m step = Unit {0}
 
+  -- what is kept of the causes of what a task is at
   abbrev pub CauseOf : Option Phase → Type 0
   CauseOf (Some (Mounts (Wants x))) = WantCause x.mount x.step
   CauseOf (Some (Mounts (Changes x))) = ChangeCause x.mount x.step
   CauseOf phase = Unit {0}
 
+-- and of every task
 abbrev pub Causes : Config → World → List World → Type 0
 Causes c w earlier = (t : ℕ) → t < c.tasks → CauseOf c t w earlier (w.views t).phase

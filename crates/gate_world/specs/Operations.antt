@@ -117,6 +117,7 @@ change_row m read_only wait = record {
   MayWait = λ trace. (wait ≡ true) × (each_event finds_taken trace ≡ true);
 }
 
+-- the row of each operation
 abbrev pub row : Op → OpRow
 row (Want m p wait) = want_row m p wait
 row (DropMount m p) = drop_row m p

@@ -52,9 +52,11 @@ mount_role m (Wants w) = role_if (m == w.mount) (want_role w.cpu w.step)
 mount_role m (Changes x) = role_if (m == x.mount) (change_role x.step)
 mount_role m phase = Out
 
+-- the role at a mount of a phase of any layer
 abbrev pub role_at : ℕ → Phase → Role
 role_at m (Mounts phase) = mount_role m phase
 
+-- the role at a mount of what a task is at
 abbrev pub role_of : ℕ → Option Phase → Role
 role_of m None = Out
 role_of m (Some phase) = role_at m phase
@@ -68,11 +70,13 @@ abbrev pub change_owns : ChangeStep → ℕ
 change_owns Locks = 0
 change_owns step = 1
 
+-- the same of a phase at a mount: only a change owns `umount`
 abbrev pub mount_owns : MountPhase → ℕ
 mount_owns (Wants w) = 0
 mount_owns (Drops m p) = 0
 mount_owns (Changes x) = change_owns x.step
 
+-- the same of what a task is at
 abbrev pub owns : Option Phase → ℕ
 owns None = 0
 owns (Some (Mounts phase)) = mount_owns phase
@@ -160,6 +164,7 @@ at_gates Fitting = true
 at_gates (AtMount m) = true
 at_gates part = false
 
+-- each of these parts holds
 abbrev pub GatesHold : Config → World → Type 0
 GatesHold c w = (part : Part) → at_gates part ≡ true → Holds c w part
 

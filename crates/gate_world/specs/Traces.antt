@@ -19,6 +19,7 @@ actions_of op answer trace = (row op).actions answer trace
 abbrev pub IsHonest : Config → Op → GateError → List Traced → Type 0
 IsHonest c op refusal trace = (row op).IsHonest c refusal trace
 
+-- an answer is honest where it is a reply, or a refusal that has its cause
 abbrev pub IsHonestAnswer : Config → Op → Result Reply GateError → List Traced → Type 0
 IsHonestAnswer c op (Ok reply) trace = Unit {0}
 IsHonestAnswer c op (Err refusal) trace = IsHonest c op refusal trace
@@ -27,6 +28,7 @@ IsHonestAnswer c op (Err refusal) trace = IsHonest c op refusal trace
 abbrev pub most_events : Config → Op → Option ℕ
 most_events c op = (row op).most_events c
 
+-- a trace has no more events than that, where there is a bound
 abbrev pub IsShort : Option ℕ → List Traced → Type 0
 IsShort None trace = Unit {0}
 IsShort (Some most) trace = length trace ≤ most

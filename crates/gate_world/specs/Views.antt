@@ -27,6 +27,7 @@ opening_view = record { op = None; phase = None; actions = []; events = []; trac
 abbrev pub held_at : View → ℕ → ℕ
 held_at v = mounts_of v.actions
 
+-- the same of the levels
 abbrev pub holds_level : View → ℕ → Bool
 holds_level v = levels_of v.actions
 
@@ -35,14 +36,17 @@ abbrev pub added_after : WordName → Touch → (ℕ → ℕ → ℕ) → ℕ �
 added_after (MountCount m p) (Add n) added = update added m (update (added m) p (added m p + n))
 added_after word touch added = added
 
+-- what was taken away after one event more
 abbrev pub taken_after : WordName → Touch → (ℕ → ℕ → ℕ) → ℕ → ℕ → ℕ
 taken_after (MountCount m p) (Sub n) taken = update taken m (update (taken m) p (taken m p + n))
 taken_after word touch taken = taken
 
+-- what these events added to each count word
 abbrev pub added_by : List Event → ℕ → ℕ → ℕ
 added_by [] = λ m p. 0
 added_by (e ∷ earlier) = added_after e.word e.touch (added_by earlier)
 
+-- what these events took from each count word
 abbrev pub taken_by : List Event → ℕ → ℕ → ℕ
 taken_by [] = λ m p. 0
 taken_by (e ∷ earlier) = taken_after e.word e.touch (taken_by earlier)
@@ -53,10 +57,12 @@ phase_after (Go phase) = Some phase
 phase_after (Wait phase) = Some phase
 phase_after (Done answer) = None
 
+-- an action, if there is one, on top of the earlier ones
 abbrev pub actions_after : Option Action → List Action → List Action
 actions_after None actions = actions
 actions_after (Some a) actions = a ∷ actions
 
+-- an event with the hook's answer that it read
 abbrev pub with_hook : Event → HookAnswer → Traced
 with_hook e hook = record { event = e; hook = hook }
 

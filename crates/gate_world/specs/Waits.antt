@@ -20,6 +20,7 @@ MountIsWaitedFor w (Wants x) y = has_hold (role_of x.mount (w.views y).phase) �
 MountIsWaitedFor w (Drops m p) y = ⊥
 MountIsWaitedFor w (Changes x) y = owns (w.views y).phase ≡ 1
 
+-- the same of a phase of any layer
 abbrev pub IsWaitedFor : World → Phase → ℕ → Type 0
 IsWaitedFor w (Mounts phase) y = MountIsWaitedFor w phase y
 

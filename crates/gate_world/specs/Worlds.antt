@@ -16,6 +16,7 @@ use Rattle.gate_world.specs.Work.{next_of, after_of}
 use Rattle.gate_world.specs.Views.{opening_view, view_after_beside, begun_view}
 use Rattle.gate_world.specs.Beginnings.{first_phase, view_refusal}
 
+-- the words, and what is known of each task number
 pub record World : Type 0 where
   pub words : Words
   pub views : ℕ → View
@@ -56,10 +57,12 @@ after_step_beside others w t phase hook = record {
 abbrev pub after_step : World → ℕ → Phase → HookAnswer → World
 after_step w t phase hook = after_step_beside [] w t phase hook
 
+-- the same of what a task is at: an idle task does nothing
 abbrev pub step_of : World → ℕ → HookAnswer → Option Phase → World
 step_of w t hook None = w
 step_of w t hook (Some phase) = after_step w t phase hook
 
+-- the world after a beginning, which is refused for this reason or not
 abbrev pub begin_of : Config → World → ℕ → Op → Option GateError → World
 begin_of c w t op None = after_begin c w t op
 begin_of c w t op (Some refused) = w
@@ -69,6 +72,7 @@ abbrev pub happens : Config → World → Entry → World
 happens c w (Begins t op) = begin_of c w t op (begin_refusal c w t op)
 happens c w (Steps t hook) = if nat_lt t c.tasks then step_of w t hook (w.views t).phase else w
 
+-- the world after a list of entries
 abbrev pub run : Config → World → List Entry → World
 run c w [] = w
 run c w (e ∷ es) = run c (happens c w e) es
@@ -82,14 +86,17 @@ abbrev pub phase_action : World → HookAnswer → Option Phase → Option Actio
 phase_action w hook None = None
 phase_action w hook (Some phase) = (after_of phase (found_at w.words phase hook) hook).1
 
+-- the action that an entry adds: a beginning adds none
 abbrev pub action_of : Config → World → Entry → Option Action
 action_of c w (Begins t op) = None
 action_of c w (Steps t hook) = if nat_lt t c.tasks then phase_action w hook (w.views t).phase else None
 
+-- whose entry it is
 abbrev pub task_of : Entry → ℕ
 task_of (Begins t op) = t
 task_of (Steps t hook) = t
 
+-- a history with one action more, if there is one
 abbrev pub with_action : ℕ → Option Action → List Done → List Done
 with_action t None earlier = earlier
 with_action t (Some a) earlier = (t, a) ∷ earlier

@@ -100,6 +100,7 @@ admitted v = is_admitted (mount_as_gate v)
 abbrev pub ro_bit : ℕ → ℕ
 ro_bit flags = flags % 2
 
+-- HOLD of a flags word, as 0 or 1
 abbrev pub hold_bit : ℕ → ℕ
 hold_bit flags = flags / 2
 
