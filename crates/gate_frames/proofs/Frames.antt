@@ -68,6 +68,10 @@ pub holds_as : {tasks processors f f' r r' s s' : ℕ} {c c' : ℕ → ℕ} {at 
 holds_as {tasks} {processors} ef er es ec ea h = subst (λ X. X) (sym (λ i. MountHolds tasks processors (ef i) (er i) (es i) (ec i) (ea i)))
     h
 
+-- words in which the stage and the superblock's flags are as they were are as a phase relies on them
+pub still_there : (on : Reliance) (old new : Words) → new.stage ≡ old.stage → new.sb ≡ old.sb → IsThere on old → IsThere on new
+still_there on old new es eb h = subst (λ X. X) (λ i. IsKnown on.stage (sym es i) × IsKnown on.sb (sym eb i)) h
+
 -- one mount after an event of this task, which makes this of its flags and counts and of the task's view
 abbrev pub MountHoldsAfter : Config → World → ℕ → ℕ → ℕ → (ℕ → ℕ) → MountView → Type 0
 MountHoldsAfter c w t m flags count v =
@@ -144,6 +148,11 @@ module _ (c : Config) (w : World) (t : ℕ) (lt : t < c.tasks) where
       each_updated (λ y (u : View). owns u.phase ≡ 1 → KnowsWords ws u.trace) w.views t v x
       (λ o. subst (KnowsWords ws) (sym seen.1) (known_same w.words ws same (w.views t).trace (h t lt (sym seen.0 ∙ o))))
       (λ ne o. known_same w.words ws same (w.views x).trace (h x lx o))
+  left_alone Relying ws v same seen h = λ x lx.
+      each_updated (λ y (u : View). IsThere (relied u.phase) ws) w.views t v x
+      (subst (λ on. IsThere on ws) (sym seen) (still_there (relied (w.views t).phase) w.words ws same.0 same.1 (h t lt)))
+      (λ ne. still_there (relied (w.views x).phase) w.words ws same.0 same.1 (h x lx))
+  left_alone Nodes ws v same seen h = λ n. subst IsNode (sym (ap (λ f. f n) same)) (h n)
   left_alone (AtMount m) ws v same seen h = λ lm.
       holds_as same.0 same.1 same.2 same.3 (update_map (at_mount m) w.views t v ∙
       (ap (update (λ x. at_mount m (w.views x)) t) seen ∙ update_same (λ x. at_mount m (w.views x)) t)) (h lm)

@@ -9,3 +9,4 @@ pub mod Keeps
 pub mod Rephased
 pub mod Accesses
 pub mod Places
+pub mod Hooks

@@ -77,6 +77,8 @@ same_words w Superblock = refl
 same_words w Stages = refl
 same_words w Fitting = tt
 same_words w Known = (refl, refl, refl, refl)
+same_words w Relying = (refl, refl)
+same_words w Nodes = refl
 same_words w (AtMount m) = (refl, refl, refl, refl)
 
 -- a load leaves what each part reads
@@ -85,19 +87,33 @@ pub load_unread : (w : Words) (word : WordName) (touch : Touch) (part : Part) �
 load_unread w word Load part h = subst (λ (ws : Words). SameWords w ws part) (sym (load_same w word)) (same_words w part)
 load_unread w word touch part h = absurd (true≢false (sym h))
 
--- and the words of want, drop and change are none that the stage's part reads
+-- and the words of want, drop and change are none that the stage's part reads, nor what is relied on, nor a node's
 unread : (part : Part) → at_gates part ≡ false → is_known part ≡ false → (word : WordName) → is_gate_word word ≡ true →
     (w : Words) (n : ℕ) → SameWords w (put w word n) part
 unread Stages h k Stage q w n = absurd (true≢false (sym q))
 unread Stages h k word q w n = refl
 unread Known h k word q w n = absurd (true≢false k)
+unread Relying h k Stage q w n = absurd (true≢false (sym q))
+unread Relying h k SbFlags q w n = absurd (true≢false (sym q))
+unread Relying h k word q w n = (refl, refl)
+unread Nodes h k (Node i) q w n = absurd (true≢false (sym q))
+unread Nodes h k word q w n = refl
 unread part h k word q w n = absurd (true≢false h)
 
--- nor does it read what such an event changes of its task's view
-unseen : (part : Part) → at_gates part ≡ false → is_known part ≡ false → (old new : View) → SameView old new part
-unseen Stages h k old new = tt
-unseen Known h k old new = absurd (true≢false k)
-unseen part h k old new = absurd (true≢false h)
+-- nor do they read what such an event changes of its task's view
+unseen : (part : Part) → at_gates part ≡ false → is_known part ≡ false → (old new : View) → relied new.phase ≡ relied old.phase →
+    SameView old new part
+unseen Stages h k old new same = tt
+unseen Known h k old new same = absurd (true≢false k)
+unseen Relying h k old new same = same
+unseen Nodes h k old new same = tt
+unseen part h k old new same = absurd (true≢false h)
+
+-- want, drop and change rely on nothing
+mounts_rely : (next : Next MountPhase) → relied (phase_after (map_next Mounts next)) ≡ on_nothing
+mounts_rely (Go x) = refl
+mounts_rely (Wait x) = refl
+mounts_rely (Done answer) = refl
 
 -- what comes after an event of a want owns nothing
 want_owns : (next : Next Want) → owns (phase_after (map_next Mounts (map_next Wants next))) ≡ 0
@@ -159,7 +175,8 @@ others_hold c w t lt good hook x e part h false k =
       | inl f ↦ load_unread w.words (next x hook).0 (next x hook).1 part f
       | inr f ↦ unread part h k (next x hook).0 f w.words (left (next x hook).1 (read w.words (next x hook).0))
     ])
-    (unseen part h k (w.views t) (view_after (w.views t) (Mounts x) (value_at w.words (Mounts x) hook) hook)) (good part)
+    (unseen part h k (w.views t) (view_after (w.views t) (Mounts x) (value_at w.words (Mounts x) hook) hook)
+    (mounts_rely (after x (found_at w.words (Mounts x) hook) hook).0 ∙ sym (ap relied e))) (good part)
 
 -- so an event of want, drop or change keeps the rule where it keeps the parts that it may touch
 pub whole_step : (c : Config) (w : World) (t : ℕ) → t < c.tasks → IsGood c w → (hook : HookAnswer) (x : MountPhase) →

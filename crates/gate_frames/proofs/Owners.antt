@@ -25,12 +25,17 @@ change_owns_le : (s : ChangeStep) → change_owns s ≤ 1
 change_owns_le Locks = omega arith
 change_owns_le step = omega arith
 
+remount_owns_le : (s : RemountStep) → remount_owns s ≤ 1
+remount_owns_le RemountLocks = omega arith
+remount_owns_le step = omega arith
+
 -- a task owns at most once
 pub owns_le : (p : Option Phase) → owns p ≤ 1
 owns_le None = omega arith
 owns_le (Some (Mounts (Wants x))) = omega arith
 owns_le (Some (Mounts (Drops m p))) = omega arith
 owns_le (Some (Mounts (Changes x))) = change_owns_le x.step
+owns_le (Some (Remounts x)) = remount_owns_le x.step
 
 -- a want has no hold flag set, and skips no mount
 want_hold : (p : ℕ) (s : WantStep) → has_hold (want_role p s) + skips (want_role p s) ≡ 0
@@ -49,17 +54,66 @@ hold_if : (b : Bool) (r : Role) → has_hold (role_if b r) + skips (role_if b r)
 hold_if true r = omega arith
 hold_if false r = omega arith
 
+-- in its loop, and where it lets its mounts go, a remount has at most one of both at a mount
+loop_hold : (a b : Bool) → has_hold (loop_role a b) + skips (loop_role a b) ≤ 1
+loop_hold true b = omega arith
+loop_hold false true = omega arith
+loop_hold false false = omega arith
+
+summing_hold : (a : Bool) (sum : Sum) (r : Role) → has_hold r + skips r ≤ 1 →
+    has_hold (summing_role a sum r) + skips (summing_role a sum r) ≤ 1
+summing_hold true sum r h = omega arith
+summing_hold false sum r h = h
+
+held_hold : (a : Bool) → has_hold (held_role a) + skips (held_role a) ≤ 1
+held_hold true = omega arith
+held_hold false = omega arith
+
+giving_hold : (a b : Bool) → has_hold (giving_role a b) + skips (giving_role a b) ≤ 1
+giving_hold true true = omega arith
+giving_hold false true = omega arith
+giving_hold true false = omega arith
+giving_hold false false = omega arith
+
+-- a remount has one set, or skips, only while it owns
+remount_hold : (m : ℕ) (s : RemountStep) → has_hold (remount_role m s) + skips (remount_role m s) ≤ remount_owns s
+remount_hold m (RemountLoads at held) = loop_hold (has_mount held m) (nat_lt m at)
+remount_hold m (RemountHolds at held) = loop_hold (has_mount held m) (nat_lt m at)
+remount_hold m (RemountSums at held sum) =
+    summing_hold (m == at) sum (loop_role (has_mount held m) (nat_lt m at)) (loop_hold (has_mount held m) (nat_lt m at))
+remount_hold m (SetsRemount held) = loop_hold (has_mount held m) true
+remount_hold m (RemountClears held) = held_hold (has_mount held m)
+remount_hold m (GivesUp at held) = giving_hold (m == at) (has_mount held m)
+remount_hold m RemountLocks = omega arith
+remount_hold m step = omega arith
+
 -- only the owner of `umount` has a hold flag set, or counts on a mount's staying read-only
 pub hold_owns : (m : ℕ) (p : Option Phase) → has_hold (role_of m p) + skips (role_of m p) ≤ owns p
 hold_owns m None = omega arith
 hold_owns m (Some (Mounts (Wants x))) = omega (arith, hold_if (m == x.mount) (want_role x.cpu x.step), want_hold x.cpu x.step)
 hold_owns m (Some (Mounts (Drops n p))) = omega arith
 hold_owns m (Some (Mounts (Changes x))) = omega (arith, hold_if (m == x.mount) (change_role x.step), change_hold x.step)
+hold_owns m (Some (Remounts x)) = remount_hold m x.step
+
+remount_sets_owns : (s : RemountStep) → remount_sets s ≤ remount_owns s
+remount_sets_owns RemountLocks = omega arith
+remount_sets_owns step = omega arith
 
 -- nor has anybody else `remount` set
 pub remounts_owns : (p : Option Phase) → remounts p ≤ owns p
 remounts_owns None = omega arith
 remounts_owns (Some (Mounts phase)) = omega arith
+remounts_owns (Some (Remounts x)) = remount_sets_owns x.step
+
+remount_relies_owns : (s : RemountStep) → remount_owns s ≡ 0 → remount_relies s ≡ on_nothing
+remount_relies_owns RemountLocks h = refl
+remount_relies_owns step h = absurd (omega (arith, h))
+
+-- nor does anybody else rely on a word
+pub relied_owns : (p : Option Phase) → owns p ≡ 0 → relied p ≡ on_nothing
+relied_owns None h = refl
+relied_owns (Some (Mounts phase)) h = refl
+relied_owns (Some (Remounts x)) h = remount_relies_owns x.step h
 
 module _ (c : Config) (w : World) (good : IsGood c w) (t : ℕ) (lt : t < c.tasks) where
   -- nobody else owns
@@ -159,6 +213,42 @@ module _ (c : Config) (w : World) (good : IsGood c w) (t : ℕ) (lt : t < c.task
         bit = (good Owner).bit;
         remounting = remounts_same v same;
       }
+
+  -- nobody but the owner has `remount` set
+  only_remount : owns (w.views t).phase ≡ 1 → total c.tasks (λ x. remounts (w.views x).phase) ≡ remounts (w.views t).phase
+  only_remount o =
+      elim (eqb_tells (remounts (w.views t).phase) 0) [
+        | inl z ↦ omega (arith, z.1, (good Owner).bit, (good Owner).remounting, no_remount o z.1)
+        | inr z ↦ omega (arith, z.1, (good Owner).bit, (good Owner).remounting,
+            total_at c.tasks t (λ x. remounts (w.views x).phase) lt)
+      ]
+
+  -- `remount` stands where this task has it set
+  pub remount_stands : remounts (w.views t).phase ≡ 1 → w.words.remount ≡ 1
+  remount_stands h =
+      omega (arith, h, total_at c.tasks t (λ x. remounts (w.views x).phase) lt, (good Owner).remounting, (good Owner).bit)
+
+  -- the owner stores `remount`, which stands after it as its phase says
+  pub remount_stored : (set : ℕ) (v : View) → owns (w.views t).phase ≡ 1 → owns v.phase ≡ 1 → remounts v.phase ≡ set →
+      OwnerHolds c.tasks w.words.umount set (λ x. (update w.views t v x).phase)
+  remount_stored set v o o' is = record {
+    locked = λ x lx.
+        each_updated (λ y (u : View). y < c.tasks → owns u.phase ≡ 1 → w.words.umount ≡ suc y) w.views t v x
+        (λ l q. (good Owner).locked t l o) (λ ne. (good Owner).locked x) lx;
+    owned = λ x lx.
+        each_updated (λ y (u : View). y < c.tasks → w.words.umount ≡ suc y → owns u.phase ≡ 1) w.views t v x
+        (λ l q. o') (λ ne. (good Owner).owned x) lx;
+    known = (good Owner).known;
+    bit = omega (arith, is, remounts_owns v.phase, owns_le v.phase);
+    remounting = omega (arith, is, total_updated (λ (u : View). remounts u.phase) c.tasks t w.views v lt, only_remount o);
+  }
+
+  -- what the owner relies on after its event is there, and nobody else relies on a word
+  pub relying_after : (ws : Words) (v : View) → owns (w.views t).phase ≡ 1 → IsThere (relied v.phase) ws →
+      Holds c (record { words = ws; views = update w.views t v }) Relying
+  relying_after ws v o there = λ x lx.
+      each_updated (λ y (u : View). IsThere (relied u.phase) ws) w.views t v x there
+      (λ ne. subst (λ on. IsThere on ws) (sym (relied_owns (w.views x).phase (alone x lx ne o))) (tt, tt))
 
   -- an event that leaves all words but `umount`, and the task's role at each mount
   pub umount_law : (n : ℕ) (v : View) → OwnerHolds c.tasks n w.words.remount (λ x. (update w.views t v x).phase) → ViewFits c t v →

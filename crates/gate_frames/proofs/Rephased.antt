@@ -48,6 +48,9 @@ module _ (c : Config) (w : World) (t : ℕ) (lt : t < c.tasks) (q : Option Phase
       each_updated (λ y (u : View). ViewFits c y u) w.views t (at_phase (w.views t) q) x fits (λ ne. good Fitting x lx)
   rephased_part fits good Known =
       left_alone c w t lt Known w.words (at_phase (w.views t) q) (refl, refl, refl, refl) (same.steady.owns_same, refl) (good Known)
+  rephased_part fits good Relying =
+      left_alone c w t lt Relying w.words (at_phase (w.views t) q) (refl, refl) same.relied_same (good Relying)
+  rephased_part fits good Nodes = good Nodes
   rephased_part fits good (AtMount m) =
       left_alone c w t lt (AtMount m) w.words (at_phase (w.views t) q) (refl, refl, refl, refl) (view_as refl refl refl (same.role_same m))
       (good (AtMount m))

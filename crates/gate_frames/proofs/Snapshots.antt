@@ -34,6 +34,8 @@ bare_part c w Superblock = refl
 bare_part c w Stages = refl
 bare_part c w Fitting = refl
 bare_part c w Known = refl
+bare_part c w Relying = refl
+bare_part c w Nodes = refl
 bare_part c w (AtMount m) = refl
 
 bare_views : (f : ℕ → View) (t : ℕ) (u v : View) → bare_view u ≡ bare_view v → (x : ℕ) →

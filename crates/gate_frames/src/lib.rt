@@ -9,6 +9,7 @@ ghost use Rattle.gate_world.specs.Fits.{Fits};
 ghost use Rattle.gate_world.specs.Rules.{IsGood};
 ghost use Rattle.gate_world.specs.Shown.{shown};
 ghost use Rattle.gate_world.specs.Views.{held_at, holds_level};
+ghost use Rattle.gate_world.specs.Work.{hook_of, IgnoresAnswer};
 ghost use Rattle.gate_world.specs.Worlds.{World};
 ghost use Rattle.cpu_words.specs.declared.names.WordName.{WordName as Name};
 ghost use Rattle.cpu_words.specs.Words.{Words, read, put};
@@ -24,4 +25,10 @@ pub fn phases_that_are_alike_serve_alike()
 /// A load leaves all words as they were. Does nothing: its contract is the law.
 pub fn a_load_changes_no_word()
     ensures { (w : Words) (name : Name) → put w name (read w name) ≡ w }
+{}
+
+/// An event that reads no hook's answer is the same whatever a hook answers, and so is what comes after it. Does nothing: its contract
+/// is the law.
+pub fn an_event_ignores_answers_that_it_does_not_read()
+    ensures { (phase : Phase) → IgnoresAnswer phase (hook_of phase) }
 {}

@@ -5,12 +5,13 @@ use Rattle.std.specs.Prelude.{◌≡◌, ℕ, Option}
 use Rattle.finite_sums.specs.Sums.{update}
 use Rattle.gate_world.specs.declared.work.Phase.{Phase}
 use Rattle.gate_world.specs.declared.views.View.{View}
-use Rattle.gate_world.specs.Rules.{role_of, IsSteady}
+use Rattle.gate_world.specs.Rules.{role_of, relied, IsSteady}
 use Rattle.gate_world.specs.Worlds.{World}
 
 -- all that the rule and the shown model read of a phase is the same of both, but for the accesses that it asks for
 pub record IsAlike (p q : Option Phase) : Type 0 where
   pub steady : IsSteady p q
+  pub relied_same : relied q ≡ relied p
   pub role_same : (m : ℕ) → role_of m q ≡ role_of m p
 
 -- the view of a task that stands at this phase

@@ -1,5 +1,5 @@
 -- Moments of a schedule: what stood in the world when a refusal's cause was read.
-use Rattle.std.specs.Prelude.{◌≡◌, ℕ, ◌<◌, ◌==◌, ◌||◌, nat_lt, Bool, true, false, if◌then◌else◌, Option, Some, None, Err, List, [], ◌∷◌}
+use Rattle.std.specs.Prelude.{◌≡◌, ℕ, ◌<◌, ◌==◌, ◌||◌, ◌⊎◌, not, nat_lt, Bool, true, false, if◌then◌else◌, Option, Some, None, Err, List, [], ◌∷◌}
 use Rattle.finite_sums.specs.Sums.{total}
 use Rattle.access_model.specs.declared.errors.GateError.TheVariants.{Busy, ReadOnly}
 use Rattle.mount_counts.specs.declared.phases.MountPhase.TheVariants.{Want as Wants, Drop as Drops, Change as Changes}
@@ -7,10 +7,12 @@ use Rattle.mount_counts.specs.declared.phases.WantStep.{WantStep}
 use Rattle.mount_counts.specs.declared.phases.WantStep.TheVariants.{LoadsRemount, LoadsReadOnly, LoadsSuperblock, CountsDown}
 use Rattle.mount_counts.specs.declared.phases.ChangeStep.{ChangeStep}
 use Rattle.mount_counts.specs.declared.phases.ChangeStep.TheVariants.{Sums, Releases}
+use Rattle.mount_counts.specs.declared.remounts.RemountStep.{RemountStep}
+use Rattle.mount_counts.specs.declared.remounts.RemountStep.TheVariants.{LoadsStage, Sums as RemountSums, Releases as RemountReleases}
 use Rattle.mount_counts.specs.Roles.{counted}
 use Rattle.gate_world.specs.declared.config.Config.{Config}
 use Rattle.gate_world.specs.declared.work.Phase.{Phase}
-use Rattle.gate_world.specs.declared.work.Phase.TheVariants.{Mounts}
+use Rattle.gate_world.specs.declared.work.Phase.TheVariants.{Mounts, Remounts}
 use Rattle.gate_world.specs.Worlds.{World, Entry, happens, run, opening}
 use Rattle.gate_world.specs.Shown.{shown}
 use Rattle.gate_world.specs.Rules.{at_mount}
@@ -46,14 +48,40 @@ abbrev pub was_read_only : Config → ℕ → Option World → Bool
 was_read_only c m None = false
 was_read_only c m (Some w) = (shown c w).mount_ro m || (shown c w).sb_ro
 
+-- the next event of a remount is its load of the stage
+abbrev pub step_looks : RemountStep → Bool
+step_looks LoadsStage = true
+step_looks step = false
+
+-- the same of what a task is at
+abbrev pub looks_at_stage : Option Phase → Bool
+looks_at_stage (Some (Remounts x)) = step_looks x.step
+looks_at_stage phase = false
+
+-- the world in which a task last looked at the stage
+abbrev pub last_look : ℕ → List World → Option World
+last_look t [] = None
+last_look t (w ∷ earlier) = if looks_at_stage (w.views t).phase then Some w else last_look t earlier
+
+-- the shown model had a stage other than 0 there
+abbrev pub was_frozen : Config → Option World → Bool
+was_frozen c None = false
+was_frozen c (Some w) = not ((shown c w).stage == 0)
+
 -- how many words of its sum a change has read, where its next event is a load of a word
 abbrev pub step_read : ChangeStep → Option ℕ
 step_read (Sums sum) = Some sum.words
 step_read step = None
 
+-- the same of a remount
+abbrev pub remount_read : RemountStep → Option ℕ
+remount_read (RemountSums m held sum) = Some sum.words
+remount_read step = None
+
 -- how many words of a sum are read, where the next event of what a task is at is a load of a word
 abbrev pub words_read : Option Phase → Option ℕ
 words_read (Some (Mounts (Changes x))) = step_read x.step
+words_read (Some (Remounts x)) = remount_read x.step
 words_read phase = None
 
 -- the worlds of a task's last sum: from the one in which its first word was loaded to the newest in which a word was still to be
@@ -76,14 +104,20 @@ abbrev pub was_counted : Config → ℕ → List World → Bool
 was_counted c m [] = false
 was_counted c m (w ∷ earlier) = nat_lt 0 (all_counted c m w) || was_counted c m earlier
 
+-- something was counted at some mount while the words of a task's last sum were loaded
+abbrev pub SomeWasCounted : Config → ℕ → List World → Type 0
+SomeWasCounted c t worlds = (m : ℕ) × (m < c.mounts) × (was_counted c m (moments_of_sum t worlds) ≡ true)
+
 -- A task whose next event is the one with which it is refused: as read-only, and the mount was so when the task last asked; as busy, and
--- something was counted at the mount in some world from the load of its sum's first word to the load of its last. Each kind of phase has a
--- row of its own, so that a new one says its causes.
+-- something was counted at the mount, for a remount at some mount, in some world from the load of its sum's first word to the load of its
+-- last, or, for a remount, the stage was not 0 when it looked. Each kind of phase has a row of its own, so that a new one says its causes.
 abbrev pub HasCause : Config → ℕ → List World → Option Phase → Type 0
 HasCause c t worlds None = Unit {0}
 HasCause c t worlds (Some (Mounts (Wants x))) = x.step ≡ CountsDown ReadOnly → was_read_only c x.mount (last_question t worlds) ≡ true
 HasCause c t worlds (Some (Mounts (Drops m p))) = Unit {0}
 HasCause c t worlds (Some (Mounts (Changes x))) = x.step ≡ Releases (Err Busy) → was_counted c x.mount (moments_of_sum t worlds) ≡ true
+HasCause c t worlds (Some (Remounts x)) =
+    x.step ≡ RemountReleases (Err Busy) → (was_frozen c (last_look t worlds) ≡ true) ⊎ SomeWasCounted c t worlds
 
 -- so it is of every task, after a schedule
 abbrev pub RefusalsHaveCauses : Config → List Entry → Type 0

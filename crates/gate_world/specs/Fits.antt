@@ -11,8 +11,9 @@ use Rattle.access_model.specs.declared.actions.Gate.TheVariants.{Mount, Level}
 use Rattle.access_model.specs.Actions.{mounts_after, levels_after}
 use Rattle.gate_world.specs.declared.config.Config.{Config}
 use Rattle.gate_world.specs.declared.work.Phase.{Phase}
-use Rattle.gate_world.specs.declared.work.Phase.TheVariants.{Mounts}
+use Rattle.gate_world.specs.declared.work.Phase.TheVariants.{Mounts, Remounts}
 use Rattle.gate_world.specs.Operations.{holds_none}
+use Rattle.gate_world.specs.Remounts.{RemountFits}
 
 -- a sum in progress has a word more to read
 abbrev pub SumFits : Config → ChangeStep → Type 0
@@ -27,9 +28,11 @@ MountFits c t held levels (Drop m p) = (m < c.mounts) × (p < c.processors) × (
 MountFits c t held levels (Change x) = (x.mount < c.mounts) × (x.task ≡ t) × (x.processors ≡ c.processors) × (holds_none levels ≡ true) ×
     SumFits c x.step
 
--- the same of a phase of any layer
+-- the same of a phase of any layer; a remount is of this task, of these numbers, and holds no level
 abbrev pub PhaseFits : Config → ℕ → (ℕ → ℕ) → (ℕ → Bool) → Phase → Type 0
 PhaseFits c t held levels (Mounts phase) = MountFits c t held levels phase
+PhaseFits c t held levels (Remounts x) = (x.task ≡ t) × (x.processors ≡ c.processors) × (x.mounts ≡ c.mounts) × (x.nodes ≡ c.nodes) ×
+    (holds_none levels ≡ true) × RemountFits c x.step
 
 -- the same of what a task is at; nothing is asked where no operation is under way
 abbrev pub Fits : Config → ℕ → (ℕ → ℕ) → (ℕ → Bool) → Option Phase → Type 0

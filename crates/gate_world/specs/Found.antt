@@ -1,10 +1,13 @@
 -- What the events of a trace have found.
-use Rattle.std.specs.Prelude.{◌≡◌, ℕ, zero, suc, ◌%◌, ◌==◌, not, ◌&&◌, ◌||◌, Bool, true, false, if◌then◌else◌, List, [], ◌∷◌, sum_by}
+use Rattle.std.specs.Prelude.{◌≡◌, ℕ, zero, suc, ◌%◌, ◌==◌, not, ◌&&◌, ◌||◌, Bool, true, false, if◌then◌else◌, ◌⊎◌, List, [], ◌∷◌, sum_by}
 use Rattle.cpu_words.specs.declared.names.WordName.{WordName}
-use Rattle.cpu_words.specs.declared.names.WordName.TheVariants.{Umount, SbFlags, Remount, MountFlags, MountCount}
+use Rattle.cpu_words.specs.declared.names.WordName.TheVariants.{Umount, Stage, SbFlags, Remount, MountFlags, MountCount, Node}
 use Rattle.cpu_words.specs.declared.events.Touch.{Touch}
-use Rattle.cpu_words.specs.declared.events.Touch.TheVariants.{Load, Cas}
+use Rattle.cpu_words.specs.declared.events.Touch.TheVariants.{Load, Store, And, Cas}
 use Rattle.cpu_words.specs.declared.events.Event.{Event}
+use Rattle.cpu_words.specs.Hooks.{HookAnswer}
+use Rattle.access_model.specs.declared.actions.Action.{Action}
+use Rattle.access_model.specs.declared.actions.Action.TheVariants.{Clean}
 use Rattle.mount_counts.specs.Phases.{has_flag}
 use Rattle.gate_world.specs.declared.views.Traced.{Traced}
 
@@ -97,3 +100,48 @@ IsEachCount (suc n) (x ∷ earlier) = (x.0 ≡ n) × IsEachCount n earlier
 -- the wrapping sum of what was loaded
 abbrev pub sum_loaded : List (ℕ × ℕ) → ℕ
 sum_loaded loads = sum_by (λ (x : ℕ × ℕ). x.1) loads % 18446744073709551616
+
+-- the load found the superblock's flag set
+abbrev pub says_sealed : WordName → ℕ → Bool
+says_sealed SbFlags found = not (found == 0)
+says_sealed word found = false
+
+-- the load found a stage other than 0
+abbrev pub says_frozen : WordName → ℕ → Bool
+says_frozen Stage found = not (found == 0)
+says_frozen word found = false
+
+-- some load found the superblock's flag set
+abbrev pub found_sealed : List Traced → Bool
+found_sealed trace = some_event (λ e. is_load e.touch && says_sealed e.word e.found) trace
+
+-- some load found a stage other than 0
+abbrev pub found_frozen : List Traced → Bool
+found_frozen trace = some_event (λ e. is_load e.touch && says_frozen e.word e.found) trace
+
+-- the event stores 0 in `remount`; in `umount`
+abbrev pub clears_word : WordName → WordName → Bool
+clears_word Remount Remount = true
+clears_word Umount Umount = true
+clears_word word other = false
+
+-- the touch is a store of 0
+abbrev pub is_clearing : Touch → Bool
+is_clearing (Store value) = value == 0
+is_clearing touch = false
+
+-- some event that stores 0 in this word read this answer of a hook
+abbrev pub ReadAnswer : WordName → HookAnswer → List Traced → Type 0
+ReadAnswer word answer [] = ⊥
+ReadAnswer word answer (e ∷ earlier) =
+    ((clears_word word e.event.word ≡ true) × (is_clearing e.event.touch ≡ true) × (e.hook ≡ answer)) ⊎ ReadAnswer word answer earlier
+
+-- the event cleared the mark of a node, on top of these actions
+abbrev pub clean_found : WordName → Touch → ℕ → List Action → List Action
+clean_found (Node n) (And mask) found earlier = if has_flag found 4 then Clean n ∷ earlier else earlier
+clean_found word touch found earlier = earlier
+
+-- the nodes whose marks were found set and cleared, the newest first
+abbrev pub cleans : List Traced → List Action
+cleans [] = []
+cleans (e ∷ earlier) = clean_found e.event.word e.event.touch e.event.found (cleans earlier)

@@ -1,5 +1,5 @@
 -- What is kept along a schedule about the causes of refusals.
-use Rattle.std.specs.Prelude.{◌≡◌, ℕ, ◌<◌, true, false, Option, Some, Result, Err, List, ◌∷◌}
+use Rattle.std.specs.Prelude.{◌≡◌, ◌⊎◌, ℕ, ◌<◌, true, false, Option, Some, Result, Err, List, ◌∷◌}
 use Rattle.access_model.specs.declared.errors.GateError.{GateError}
 use Rattle.access_model.specs.declared.errors.GateError.TheVariants.{Busy, ReadOnly}
 use Rattle.access_model.specs.declared.replies.Reply.{Reply}
@@ -9,11 +9,13 @@ use Rattle.mount_counts.specs.declared.phases.WantStep.{WantStep}
 use Rattle.mount_counts.specs.declared.phases.WantStep.TheVariants.{CountsDown}
 use Rattle.mount_counts.specs.declared.phases.ChangeStep.{ChangeStep}
 use Rattle.mount_counts.specs.declared.phases.ChangeStep.TheVariants.{Sums, ClearsHold, Releases}
+use Rattle.mount_counts.specs.declared.remounts.RemountStep.{RemountStep}
+use Rattle.mount_counts.specs.declared.remounts.RemountStep.TheVariants.{Sums as RemountSums, GivesUp, Releases as RemountReleases}
 use Rattle.gate_world.specs.declared.config.Config.{Config}
 use Rattle.gate_world.specs.declared.work.Phase.{Phase}
-use Rattle.gate_world.specs.declared.work.Phase.TheVariants.{Mounts}
+use Rattle.gate_world.specs.declared.work.Phase.TheVariants.{Mounts, Remounts}
 use Rattle.gate_world.specs.Worlds.{World}
-use Rattle.gate_world.specs.Causes.{last_question, was_read_only, moments_of_sum, was_counted}
+use Rattle.gate_world.specs.Causes.{last_question, was_read_only, last_look, was_frozen, moments_of_sum, was_counted, SomeWasCounted}
 
 module _ (c : Config) (t : ℕ) (w : World) (earlier : List World) where
   -- a want that is to be refused as read-only: the mount was so when it last asked
@@ -34,10 +36,23 @@ module _ (c : Config) (t : ℕ) (w : World) (earlier : List World) where
   ChangeCause m (Releases answer) = AnswerCause m answer
   ChangeCause m step = Unit {0}
 
+  -- an answer of Busy of a remount: the stage was not 0 when it looked, or something was counted while a sum was read
+  abbrev pub RemountAnswerCause : Result Reply GateError → Type 0
+  RemountAnswerCause answer =
+      answer ≡ Err Busy → (was_frozen c (last_look t (w ∷ earlier)) ≡ true) ⊎ SomeWasCounted c t (w ∷ earlier)
+
+  -- a remount: its sum is as a change's, and where it gives up, something was counted
+  abbrev pub RemountCause : RemountStep → Type 0
+  RemountCause (RemountSums m held sum) = ChangeCause m (Sums sum)
+  RemountCause (GivesUp m held) = SomeWasCounted c t (w ∷ earlier)
+  RemountCause (RemountReleases answer) = RemountAnswerCause answer
+  RemountCause step = Unit {0}
+
   -- what is kept of the causes of what a task is at
   abbrev pub CauseOf : Option Phase → Type 0
   CauseOf (Some (Mounts (Wants x))) = WantCause x.mount x.step
   CauseOf (Some (Mounts (Changes x))) = ChangeCause x.mount x.step
+  CauseOf (Some (Remounts x)) = RemountCause x.step
   CauseOf phase = Unit {0}
 
 -- and of every task

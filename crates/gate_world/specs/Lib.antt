@@ -1,5 +1,6 @@
 pub mod Configs
 pub mod Work
+pub mod Remounts
 pub mod Snapshots
 pub mod Views
 pub mod Found

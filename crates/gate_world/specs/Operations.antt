@@ -1,21 +1,39 @@
 -- One row for each operation: all that is said of it apart from its events.
-use Rattle.std.specs.Prelude.{◌≡◌, ◌≢◌, ℕ, ◌+◌, Bool, true, false, not, ◌&&◌, nat_lt, if◌then◌else◌, Option, Some, None, Result, Ok, Err, List, [], ◌∷◌}
+use Rattle.std.specs.Prelude.{◌≡◌, ◌≢◌, ◌⊎◌, ℕ, ◌+◌, ◌<◌, Bool, true, false, not, ◌&&◌, nat_lt, if◌then◌else◌, Option, Some, None, Result, Ok, Err, List, [], ◌∷◌, ◌++◌}
 use Rattle.access_model.specs.declared.actions.Action.{Action}
-use Rattle.access_model.specs.declared.actions.Action.TheVariants.{Grant, Return, MountRo, MountRw}
+use Rattle.access_model.specs.declared.actions.Action.TheVariants.{Grant, Return, MountRo, MountRw, SbRo, SbRw}
 use Rattle.access_model.specs.declared.actions.Gate.TheVariants.{Mount}
 use Rattle.access_model.specs.declared.errors.GateError.{GateError}
-use Rattle.access_model.specs.declared.errors.GateError.TheVariants.{Again, Busy, ReadOnly}
+use Rattle.access_model.specs.declared.errors.GateError.TheVariants.{Again, Busy, ReadOnly, Hook}
 use Rattle.access_model.specs.declared.replies.Reply.{Reply}
 use Rattle.mount_counts.specs.declared.phases.MountPhase.TheVariants.{Want as Wants, Drop as Drops, Change as Changes}
 use Rattle.mount_counts.specs.declared.phases.WantStep.TheVariants.{CountsUp}
 use Rattle.mount_counts.specs.declared.phases.ChangeStep.TheVariants.{Locks}
+use Rattle.mount_counts.specs.declared.remounts.RemountStep.TheVariants.{Locks as RemountLocks}
+use Rattle.cpu_words.specs.declared.names.WordName.{WordName}
+use Rattle.cpu_words.specs.declared.names.WordName.TheVariants.{Umount, Remount}
 use Rattle.gate_world.specs.declared.config.Config.{Config}
 use Rattle.gate_world.specs.declared.operations.Op.{Op}
-use Rattle.gate_world.specs.declared.operations.Op.TheVariants.{Want, DropMount, ChangeMount}
+use Rattle.gate_world.specs.declared.operations.Op.TheVariants.{Want, DropMount, ChangeMount, RemountSb}
 use Rattle.gate_world.specs.declared.work.Phase.{Phase}
-use Rattle.gate_world.specs.declared.work.Phase.TheVariants.{Mounts}
+use Rattle.gate_world.specs.declared.work.Phase.TheVariants.{Mounts, Remounts}
 use Rattle.gate_world.specs.declared.views.Traced.{Traced}
-use Rattle.gate_world.specs.Found.{found_read_only, found_hold, found_taken, finds_hold, finds_taken, each_event, looks_again, counts_loaded, IsEachCount, sum_loaded}
+use Rattle.gate_world.specs.Found.{
+  found_read_only,
+  found_hold,
+  found_taken,
+  found_sealed,
+  found_frozen,
+  finds_hold,
+  finds_taken,
+  each_event,
+  looks_again,
+  counts_loaded,
+  IsEachCount,
+  sum_loaded,
+  ReadAnswer,
+  cleans,
+}
 
 -- what is said of an operation
 pub record OpRow : Type 1 where
@@ -88,11 +106,15 @@ unless_so true false m = MountRo m ∷ []
 unless_so false true m = MountRw m ∷ []
 unless_so false false m = []
 
+-- the counts loaded of a mount, one of each processor, have a sum other than 0
+abbrev FoundBusy : Config → ℕ → List Traced → Type 0
+FoundBusy c m trace = IsEachCount c.processors (counts_loaded m trace) × (sum_loaded (counts_loaded m trace) ≢ 0)
+
 -- a change is refused again where it found `umount` taken and doesn't wait, and as busy where the counts that it loaded, one of each
 -- processor, have a sum other than 0
 abbrev change_honest : Config → ℕ → Bool → GateError → List Traced → Type 0
 change_honest c m wait Again trace = (wait ≡ false) × (found_taken trace ≡ true)
-change_honest c m wait Busy trace = IsEachCount c.processors (counts_loaded m trace) × (sum_loaded (counts_loaded m trace) ≢ 0)
+change_honest c m wait Busy trace = FoundBusy c m trace
 change_honest c m wait refusal trace = ⊥
 
 -- one that waits has found `umount` taken, and nothing else
@@ -117,8 +139,51 @@ change_row m read_only wait = record {
   MayWait = λ trace. (wait ≡ true) × (each_event finds_taken trace ≡ true);
 }
 
+-- A remount to read-only has added `sb ro` and the marks that it cleared, and `sb rw` after them where the file system refused; one to
+-- writable has added `sb rw`. It has added nothing where its trace found the superblock as it was asked for, or where it is busy.
+abbrev remount_adds : Bool → Result Reply GateError → List Traced → List Action
+remount_adds true (Ok reply) trace = if found_sealed trace then [] else cleans trace ++ (SbRo ∷ [])
+remount_adds true (Err (Hook code)) trace = SbRw ∷ (cleans trace ++ (SbRo ∷ []))
+remount_adds false (Ok reply) trace = if found_sealed trace then SbRw ∷ [] else []
+remount_adds read_only answer trace = []
+
+-- the word whose clearing the file system's refusal decides: `remount` on the way to read-only, `umount` on the way to writable
+abbrev refusing_word : Bool → WordName
+refusing_word true = Remount
+refusing_word false = Umount
+
+-- a remount is refused as busy where it found a stage other than 0, or the counts of one mount with a sum other than 0, and by the file
+-- system where that answered so at the event that its answer decides
+abbrev remount_honest : Config → Bool → GateError → List Traced → Type 0
+remount_honest c read_only Busy trace = (found_frozen trace ≡ true) ⊎ ((m : ℕ) × (m < c.mounts) × FoundBusy c m trace)
+remount_honest c read_only (Hook code) trace = ReadAnswer (refusing_word read_only) (Err code) trace
+remount_honest c read_only refusal trace = ⊥
+
+-- it waits where it has found `umount` taken, and nothing else
+abbrev remount_row : Bool → OpRow
+remount_row read_only = record {
+  first = λ c t. Remounts (record {
+    read_only = read_only;
+    task = t;
+    processors = c.processors;
+    mounts = c.mounts;
+    nodes = c.nodes;
+    step =
+        RemountLocks;
+  });
+  in_range = λ c. true;
+  in_order = λ c held levels. holds_none levels;
+  within_room = λ held. true;
+  waits = true;
+  most_events = λ c. None;
+  actions = λ answer trace. remount_adds read_only answer trace;
+  IsHonest = λ c refusal trace. remount_honest c read_only refusal trace;
+  MayWait = λ trace. each_event finds_taken trace ≡ true;
+}
+
 -- the row of each operation
 abbrev pub row : Op → OpRow
 row (Want m p wait) = want_row m p wait
 row (DropMount m p) = drop_row m p
 row (ChangeMount m read_only wait) = change_row m read_only wait
+row (RemountSb read_only) = remount_row read_only

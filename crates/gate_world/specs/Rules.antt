@@ -15,11 +15,13 @@ use Rattle.mount_counts.specs.declared.phases.ChangeStep.TheVariants.{Locks, Sum
 use Rattle.mount_counts.specs.Roles.{Role, Out, Asking, Cleared, PastRemount, PastFlags, BackingOff, Summing, Empty, Leaving, MountView, MountHolds}
 use Rattle.gate_world.specs.declared.config.Config.{Config}
 use Rattle.gate_world.specs.declared.work.Phase.{Phase}
-use Rattle.gate_world.specs.declared.work.Phase.TheVariants.{Mounts}
+use Rattle.gate_world.specs.declared.work.Phase.TheVariants.{Mounts, Remounts}
 use Rattle.gate_world.specs.declared.views.View.{View}
 use Rattle.gate_world.specs.Configs.{model_limits}
 use Rattle.gate_world.specs.Views.{held_at, holds_level, added_by, taken_by}
+use Rattle.gated_tree.specs.Nodes.{IsNode}
 use Rattle.gate_world.specs.Fits.{Fits}
+use Rattle.gate_world.specs.Remounts.{remount_role, remount_owns, remount_sets, Reliance, on_nothing, remount_relies, IsThere}
 use Rattle.gate_world.specs.Owners.{KnowsWords}
 use Rattle.gate_world.specs.Worlds.{World, after_step, phase_action}
 use Rattle.gate_world.specs.Shown.{shown, closing}
@@ -55,6 +57,7 @@ mount_role m phase = Out
 -- the role at a mount of a phase of any layer
 abbrev pub role_at : ℕ → Phase → Role
 role_at m (Mounts phase) = mount_role m phase
+role_at m (Remounts x) = remount_role m x.step
 
 -- the role at a mount of what a task is at
 abbrev pub role_of : ℕ → Option Phase → Role
@@ -80,11 +83,19 @@ mount_owns (Changes x) = change_owns x.step
 abbrev pub owns : Option Phase → ℕ
 owns None = 0
 owns (Some (Mounts phase)) = mount_owns phase
+owns (Some (Remounts x)) = remount_owns x.step
 
--- 1 while an operation has `remount` set: none of these does
+-- 1 while an operation has `remount` set: only a remount does
 abbrev pub remounts : Option Phase → ℕ
 remounts None = 0
 remounts (Some (Mounts phase)) = 0
+remounts (Some (Remounts x)) = remount_sets x.step
+
+-- what a task relies on at what it is at
+abbrev pub relied : Option Phase → Reliance
+relied None = on_nothing
+relied (Some (Mounts phase)) = on_nothing
+relied (Some (Remounts x)) = remount_relies x.step
 
 -- what the owner's words and the levels say of a task is the same at both phases
 pub record IsSteady (p q : Option Phase) : Type 0 where
@@ -117,6 +128,10 @@ pub data Part : Type 0 where
   Fitting : Part
   -- what the owner of `umount` has found or left is still there
   Known : Part
+  -- and so is what its phase relies on
+  Relying : Part
+  -- each node word is one
+  Nodes : Part
   -- one mount
   AtMount : (m : ℕ) → Part
 
@@ -132,6 +147,8 @@ Holds c w Superblock = w.words.sb ≤ 1
 Holds c w Stages = w.words.stage ≤ 4
 Holds c w Fitting = (t : ℕ) → t < c.tasks → ViewFits c t (w.views t)
 Holds c w Known = (t : ℕ) → t < c.tasks → owns (w.views t).phase ≡ 1 → KnowsWords w.words (w.views t).trace
+Holds c w Relying = (t : ℕ) → t < c.tasks → IsThere (relied (w.views t).phase) w.words
+Holds c w Nodes = (n : ℕ) → IsNode (w.words.node n)
 Holds c w (AtMount m) = m < c.mounts → MountHoldsIn c w m
 
 -- what a part reads of the words: these are as they were
@@ -141,6 +158,8 @@ SameWords old new Superblock = new.sb ≡ old.sb
 SameWords old new Stages = new.stage ≡ old.stage
 SameWords old new Fitting = Unit {0}
 SameWords old new Known = (new.stage ≡ old.stage) × (new.sb ≡ old.sb) × (new.remount ≡ old.remount) × (new.flags ≡ old.flags)
+SameWords old new Relying = (new.stage ≡ old.stage) × (new.sb ≡ old.sb)
+SameWords old new Nodes = new.node ≡ old.node
 SameWords old new (AtMount m) = (new.flags m ≡ old.flags m) × (new.remount ≡ old.remount) × (new.sb ≡ old.sb) × (new.count m ≡ old.count m)
 
 -- what a part reads of a task's view: this is as it was
@@ -150,6 +169,8 @@ SameView old new Superblock = Unit {0}
 SameView old new Stages = Unit {0}
 SameView old new Fitting = (held_at new ≡ held_at old) × (holds_level new ≡ holds_level old) × (new.phase ≡ old.phase)
 SameView old new Known = (owns new.phase ≡ owns old.phase) × (new.trace ≡ old.trace)
+SameView old new Relying = relied new.phase ≡ relied old.phase
+SameView old new Nodes = Unit {0}
 SameView old new (AtMount m) = at_mount m new ≡ at_mount m old
 
 -- the rule: each part

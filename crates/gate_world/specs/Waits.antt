@@ -8,7 +8,7 @@ use Rattle.mount_counts.specs.declared.phases.MountPhase.TheVariants.{Want as Wa
 use Rattle.mount_counts.specs.Roles.{has_hold}
 use Rattle.gate_world.specs.declared.config.Config.{Config}
 use Rattle.gate_world.specs.declared.work.Phase.{Phase}
-use Rattle.gate_world.specs.declared.work.Phase.TheVariants.{Mounts}
+use Rattle.gate_world.specs.declared.work.Phase.TheVariants.{Mounts, Remounts}
 use Rattle.gate_world.specs.Work.{after_of}
 use Rattle.gate_world.specs.Worlds.{World, Entry, found_at}
 use Rattle.gate_world.specs.Rules.{role_of, owns}
@@ -20,9 +20,10 @@ MountIsWaitedFor w (Wants x) y = has_hold (role_of x.mount (w.views y).phase) �
 MountIsWaitedFor w (Drops m p) y = ⊥
 MountIsWaitedFor w (Changes x) y = owns (w.views y).phase ≡ 1
 
--- the same of a phase of any layer
+-- the same of a phase of any layer: a remount waits for who has `umount`
 abbrev pub IsWaitedFor : World → Phase → ℕ → Type 0
 IsWaitedFor w (Mounts phase) y = MountIsWaitedFor w phase y
+IsWaitedFor w (Remounts x) y = owns (w.views y).phase ≡ 1
 
 -- another task has what task t, which is at this phase, waits for
 pub record HasCulprit (c : Config) (w : World) (t : ℕ) (phase : Phase) : Type 0 where

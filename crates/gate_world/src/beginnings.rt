@@ -3,14 +3,14 @@
 ghost use Rattle.std.specs.Prelude.{◌≡◌, ◌≤◌, false};
 ghost use Rattle.gate_world.specs.Accesses.{mounts_held, levels_held};
 ghost use Rattle.gate_world.specs.Beginnings.{beginning};
-ghost use Rattle.gate_world.specs.declared.operations.Op.TheVariants.{Want as WantOp, DropMount, ChangeMount};
+ghost use Rattle.gate_world.specs.declared.operations.Op.TheVariants.{Want as WantOp, DropMount, ChangeMount, RemountSb};
 
 use crate::accesses::Accesses;
 use crate::config::Config;
 use crate::operations::Op;
 use crate::work::Phase;
 use access_model::GateError;
-use mount_counts::{Change, ChangeStep, MountPhase, Want, WantStep};
+use mount_counts::{Change, ChangeStep, MountPhase, Remount, RemountStep, Want, WantStep};
 
 impl Op {
     /// The first phase of the operation of a task that holds these accesses, or why it can't begin, the first reason in this
@@ -39,6 +39,7 @@ impl Op {
                 read_only,
                 wait,
             } => begin_change(config, task, held, mount, read_only, wait),
+            Op::RemountSb { read_only } => begin_remount(config, task, held, read_only),
         }
     }
 }
@@ -109,5 +110,29 @@ fn begin_change(
             processors: config.processors,
             step: ChangeStep::Locks,
         })))
+    }
+}
+
+/// A remount is not begun inside a level.
+#[inline(always)]
+fn begin_remount(
+    config: Config,
+    task: u8,
+    held: &Accesses,
+    read_only: bool,
+) -> Result<Phase, GateError>
+    ensures { result ≡ beginning config task false (mounts_held held.now) (levels_held held.now) (RemountSb read_only) }
+{
+    if !held.is_in_no_level() {
+        Err(GateError::Order)
+    } else {
+        Ok(Phase::Remounts(Remount {
+            read_only,
+            task,
+            processors: config.processors,
+            mounts: config.mounts,
+            nodes: config.nodes,
+            step: RemountStep::Locks,
+        }))
     }
 }

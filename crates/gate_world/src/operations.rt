@@ -20,4 +20,8 @@ pub enum Op {
         read_only: bool,
         wait: bool,
     },
+    /// `reconfigure_super`: remounts the superblock read-only or writable. It waits for `umount`.
+    RemountSb {
+        read_only: bool,
+    },
 }

@@ -1,16 +1,20 @@
 //! What a task is at: a phase of one of the layers.
 
 ghost use Rattle.std.specs.Prelude.{◌≡◌};
-ghost use Rattle.gate_world.specs.Work.{next_of, after_of};
+ghost use Rattle.gate_world.specs.Work.{next_of, after_of, hook_of};
 
 use access_model::{Action, Next};
 use cpu_words::{Touch, WordName};
-use mount_counts::{MountPhase, Want};
+use freeze_levels::HookKind;
+use mount_counts::{MountPhase, Remount, RemountStep, Want};
 
 /// Where an operation under way stands, between two of its events.
 #[derive(Clone, Copy, PartialEq, Eq, Debug)]
 pub enum Phase {
+    /// A want, a drop or a change of a mount.
     Mounts(MountPhase),
+    /// A remount of the superblock.
+    Remounts(Remount),
 }
 
 impl Phase {
@@ -21,6 +25,7 @@ impl Phase {
     {
         match self {
             Phase::Mounts(phase) => phase.next(hook),
+            Phase::Remounts(remount) => remount.next(hook),
         }
     }
 
@@ -34,6 +39,23 @@ impl Phase {
                 let (next, action) = phase.after(found, hook);
                 (next.map(Phase::Mounts), action)
             }
+            Phase::Remounts(remount) => {
+                let (next, action) = remount.after(found, hook);
+                (next.map(Phase::Remounts), action)
+            }
+        }
+    }
+
+    /// The hook whose answer the next event reads; None where that ignores the answer.
+    pub fn wants_hook(&self) -> Option<HookKind>
+        ensures { result ≡ hook_of self.now }
+    {
+        match self {
+            Phase::Remounts(Remount {
+                step: RemountStep::SetsWritable | RemountStep::SetsReadOnly,
+                ..
+            }) => Some(HookKind::Reconfigure),
+            _ => None,
         }
     }
 }

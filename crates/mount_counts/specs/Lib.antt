@@ -1,2 +1,4 @@
 pub mod Phases
+pub mod Remounts
 pub mod Roles
+pub mod Sets

@@ -226,6 +226,16 @@ module _ {tasks processors flags remount sb : ℕ} {count : ℕ → ℕ} {at : �
         owner_event r f was now bits.0 flag (λ q. closed (sym bits.1 ∙ q)) (λ q q2 q3. remounting q q2 (sym bits.1 ∙ q3))
         (λ x lx ne s q. bits.1 ∙ q) own (λ s. absurd (omega (arith, s, none)))
 
+    -- a remount found the mount read-only, and counts on its staying so. Meets: whoever clears READONLY owns `umount`
+    pub is_skipped : (at t).role ≡ Out → ro_bit flags ≡ 1 → Becomes Skipped flags
+    is_skipped e ro =
+        owner_event Skipped flags (ap questions_of e, ap processor_of e) (refl, refl) good.bits (omega (arith, ap has_hold e)) closed
+        remounting (λ x lx ne s q. q) tt (λ s. ro)
+
+    -- an owner that has not HOLD set there has no more to do at the mount
+    pub is_left : SeeksNone (at t).role → has_hold (at t).role ≡ 0 → Becomes Out flags
+    is_left none zero = keeps_read_only Out flags none (refl, refl) (good.bits, refl) (omega (arith, zero)) tt refl
+
     -- HOLD is set, before the words are summed. Meets: a task adds before it looks for HOLD
     pub sets_hold : tasks ≤ 64 → processors ≤ 64 → 0 < processors → (at t).role ≡ Out → hold_bit flags ≡ 0 →
         Becomes (Summing 0 0) (bit_or flags 2)

@@ -1,0 +1,22 @@
+-- An event that reads no hook's answer is the same whatever a hook answers.
+
+mount_ignores : (x : MountPhase) (a b : HookAnswer) (found : ℕ) → (next x a ≡ next x b) × (after x found a ≡ after x found b)
+mount_ignores (Wants x) a b found = (refl, refl)
+mount_ignores (Drops m p) a b found = (refl, refl)
+mount_ignores (Changes x) a b found = (refl, refl)
+
+remount_ignores : (x : Remount) (s : RemountStep) → remount_hook s ≡ None → (a b : HookAnswer) (found : ℕ) →
+    (remount_next x s a ≡ remount_next x s b) × (remount_after x s found a ≡ remount_after x s found b)
+remount_ignores x SetsWritable h a b found = absurd (true≢false (ap is_some h))
+remount_ignores x SetsReadOnly h a b found = absurd (true≢false (ap is_some h))
+remount_ignores x s h a b found = (refl, refl)
+
+-- each phase
+pub ignores : (phase : Phase) → IgnoresAnswer phase (hook_of phase)
+ignores (Mounts x) h a b found =
+    let e : (next x a ≡ next x b) × (after x found a ≡ after x found b) = mount_ignores x a b found in
+    (e.0, ap (λ y. (map_next Mounts y.0, y.1)) e.1)
+ignores (Remounts x) h a b found =
+    let e : (remount_next x x.step a ≡ remount_next x x.step b) × (remount_after x x.step found a ≡ remount_after x x.step found b) =
+    remount_ignores x x.step h a b found in
+    (e.0, ap (λ y. (map_next Remounts y.0, y.1)) e.1)

@@ -1,0 +1,3 @@
+pub mod Nodes
+pub mod Phases
+pub mod Trees

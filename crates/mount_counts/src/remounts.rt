@@ -1,0 +1,235 @@
+//! The order of events of a remount of the superblock.
+
+ghost use Rattle.std.specs.Prelude.{◌≡◌};
+ghost use Rattle.access_model.specs.declared.actions.Action.TheVariants.{Clean};
+ghost use Rattle.mount_counts.specs.Remounts.{remount_next, remount_after, remount_from, past_mount, let_go, give_up, remount_summed, past_node, mark_cleared};
+
+use crate::flags::MountFlags;
+use crate::sets::MountSet;
+use access_model::{Action, GateError, Next, Reply};
+use bitflags::Flags;
+use cpu_words::{Sum, Taken, Touch, WordName};
+
+/// The dirty mark of a node word.
+const MARK: u64 = 4;
+
+/// What the next event of a remount is (`reconfigure_super`, `sb_prepare_remount_readonly`). `mount` is the one at which its
+/// loop stands, and `held` are the mounts at which it has HOLD set.
+#[derive(Clone, Copy, PartialEq, Eq, Debug)]
+pub enum RemountStep {
+    /// Takes `umount` where it is free.
+    Locks,
+    /// Loads the stage.
+    LoadsStage,
+    /// Loads the superblock's flag.
+    LoadsSuperblock,
+    /// Clears the superblock's flag, or gives `umount` back, as the file system answers.
+    SetsWritable,
+    /// Loads the flags of a mount, for READONLY.
+    LoadsFlags { mount: u8, held: MountSet },
+    /// Sets its HOLD.
+    SetsHold { mount: u8, held: MountSet },
+    /// Loads the next word of the sum of its writer counts.
+    Sums {
+        mount: u8,
+        held: MountSet,
+        sum: Sum,
+    },
+    /// Sets `remount`, with each sum 0.
+    SetsRemount { held: MountSet },
+    /// Clears HOLD of the lowest mount that it holds, with `remount` set.
+    ClearsHold { held: MountSet },
+    /// The same, where the sum of this mount was not 0.
+    GivesUp { mount: u8, held: MountSet },
+    /// Clears the dirty mark of a node.
+    ClearsMark { node: u8 },
+    /// Sets the superblock's flag, or clears `remount`, as the file system answers.
+    SetsReadOnly,
+    /// Clears `remount`, with the superblock's flag set.
+    ClearsRemount,
+    /// Gives `umount` back, and answers this.
+    Releases(Result<Reply, GateError>),
+}
+
+/// A remount of the superblock under way, by a task, among so many processors, mounts and nodes.
+#[derive(Clone, Copy, PartialEq, Eq, Debug)]
+pub struct Remount {
+    pub read_only: bool,
+    pub task: u8,
+    pub processors: u8,
+    pub mounts: u8,
+    pub nodes: u8,
+    pub step: RemountStep,
+}
+
+impl Remount {
+    /// The word and the touch of the next event, where the file system answers this. An event that the answer doesn't decide
+    /// ignores it.
+    #[inline(always)]
+    pub fn next(self, hook: Result<(), u16>) -> (WordName, Touch)
+        ensures { result ≡ remount_next self self.step hook }
+    {
+        match (self.step, hook) {
+            (RemountStep::Locks, _) => {
+                let put = self.task as u64 + 1;
+                (WordName::Umount, Touch::Cas { expect: 0, put })
+            }
+            (RemountStep::LoadsStage, _) => (WordName::Stage, Touch::Load),
+            (RemountStep::LoadsSuperblock, _) => (WordName::SbFlags, Touch::Load),
+            (RemountStep::SetsWritable, Ok(())) => (WordName::SbFlags, Touch::Store(0)),
+            (RemountStep::LoadsFlags { mount, .. }, _) => {
+                (WordName::MountFlags(mount), Touch::Load)
+            }
+            (RemountStep::SetsHold { mount, .. }, _) => (
+                WordName::MountFlags(mount),
+                Touch::Or(MountFlags::HOLD.bits()),
+            ),
+            (RemountStep::Sums { mount, sum, .. }, _) => {
+                (WordName::MountCount(mount, sum.words), Touch::Load)
+            }
+            (RemountStep::SetsRemount { .. }, _) => (WordName::Remount, Touch::Store(1)),
+            (RemountStep::ClearsHold { held } | RemountStep::GivesUp { held, .. }, _) => (
+                WordName::MountFlags(held.lowest()),
+                Touch::And(!MountFlags::HOLD.bits()),
+            ),
+            (RemountStep::ClearsMark { node }, _) => (WordName::Node(node), Touch::And(!MARK)),
+            (RemountStep::SetsReadOnly, Ok(())) => (WordName::SbFlags, Touch::Store(1)),
+            (RemountStep::SetsReadOnly, Err(_)) | (RemountStep::ClearsRemount, _) => {
+                (WordName::Remount, Touch::Store(0))
+            }
+            (RemountStep::SetsWritable, Err(_)) | (RemountStep::Releases(_), _) => {
+                (WordName::Umount, Touch::Store(0))
+            }
+        }
+    }
+
+    /// What comes after the superblock's present state was found.
+    fn from_state(self, read_only: bool) -> RemountStep
+        ensures { result ≡ remount_from self.read_only read_only }
+    {
+        match (self.read_only, read_only) {
+            (true, false) => RemountStep::LoadsFlags {
+                mount: 0,
+                held: MountSet::empty(),
+            },
+            (false, true) => RemountStep::SetsWritable,
+            _ => RemountStep::Releases(Ok(Reply::Unit)),
+        }
+    }
+
+    /// What comes after the loop is done with a mount.
+    fn past(self, mount: u8, held: MountSet) -> RemountStep
+        ensures { result ≡ past_mount self.mounts mount held }
+    {
+        if (mount as u16) + 1 < self.mounts as u16 {
+            let mount = mount + 1;
+            RemountStep::LoadsFlags { mount, held }
+        } else {
+            RemountStep::SetsRemount { held }
+        }
+    }
+
+    /// What comes after one word more of a sum.
+    fn summed(self, mount: u8, held: MountSet, sum: Sum, word: u64) -> RemountStep
+        ensures { result ≡ remount_summed self mount held sum word }
+    {
+        match sum.take(word, self.processors) {
+            Taken::More(sum) => RemountStep::Sums { mount, held, sum },
+            Taken::Total(0) => self.past(mount, held.with(mount)),
+            Taken::Total(_) => giving_up(mount, held.with(mount)),
+        }
+    }
+
+    /// What comes after the mark of a node was cleared.
+    fn cleared(self, node: u8) -> RemountStep
+        ensures { result ≡ past_node self.nodes node }
+    {
+        if (node as u16) + 1 < self.nodes as u16 {
+            let node = node + 1;
+            RemountStep::ClearsMark { node }
+        } else {
+            RemountStep::SetsReadOnly
+        }
+    }
+
+    /// What comes after the event, which found this, where the file system answers this, and the action that the event adds.
+    #[inline(always)]
+    pub fn after(self, found: u64, hook: Result<(), u16>) -> (Next<Remount>, Option<Action>)
+        ensures { result ≡ remount_after self self.step found hook }
+    {
+        let done = RemountStep::Releases(Ok(Reply::Unit));
+        let flags = MountFlags::from_bits_retain(found);
+        let (step, action) = match (self.step, hook) {
+            (RemountStep::Locks, _) if found == 0 => (RemountStep::LoadsStage, None),
+            (RemountStep::Locks, _) => return (Next::Wait(self), None),
+            (RemountStep::LoadsStage, _) if found == 0 => (RemountStep::LoadsSuperblock, None),
+            (RemountStep::LoadsStage, _) => (RemountStep::Releases(Err(GateError::Busy)), None),
+            (RemountStep::LoadsSuperblock, _) => (self.from_state(found != 0), None),
+            (RemountStep::SetsWritable, Ok(())) => (done, Some(Action::SbRw)),
+            (RemountStep::SetsWritable, Err(code)) => {
+                return (Next::Done(Err(GateError::Hook(code))), None);
+            }
+            (RemountStep::LoadsFlags { mount, held }, _) => {
+                if flags.contains(MountFlags::READONLY) {
+                    (self.past(mount, held), None)
+                } else {
+                    (RemountStep::SetsHold { mount, held }, None)
+                }
+            }
+            (RemountStep::SetsHold { mount, held }, _) => {
+                let sum = Sum::start();
+                (RemountStep::Sums { mount, held, sum }, None)
+            }
+            (RemountStep::Sums { mount, held, sum }, _) => {
+                (self.summed(mount, held, sum, found), None)
+            }
+            (RemountStep::SetsRemount { held }, _) => (letting_go(held), Some(Action::SbRo)),
+            (RemountStep::ClearsHold { held }, _) => (letting_go(held.without_lowest()), None),
+            (RemountStep::GivesUp { mount, held }, _) => {
+                (giving_up(mount, held.without_lowest()), None)
+            }
+            (RemountStep::ClearsMark { node }, _) => (self.cleared(node), cleaned(node, found)),
+            (RemountStep::SetsReadOnly, Ok(())) => (RemountStep::ClearsRemount, None),
+            (RemountStep::SetsReadOnly, Err(code)) => {
+                let refused = RemountStep::Releases(Err(GateError::Hook(code)));
+                (refused, Some(Action::SbRw))
+            }
+            (RemountStep::ClearsRemount, _) => (done, None),
+            (RemountStep::Releases(answer), _) => return (Next::Done(answer), None),
+        };
+        (Next::Go(Remount { step, ..self }), action)
+    }
+}
+
+/// What comes where the holds of these mounts are still to be cleared, with `remount` set.
+fn letting_go(held: MountSet) -> RemountStep
+    ensures { result ≡ let_go held }
+{
+    if held.bits == 0 {
+        RemountStep::ClearsMark { node: 1 }
+    } else {
+        RemountStep::ClearsHold { held }
+    }
+}
+
+/// The same, where the sum of this mount was not 0.
+fn giving_up(mount: u8, held: MountSet) -> RemountStep
+    ensures { result ≡ give_up mount held }
+{
+    if held.bits == 0 {
+        RemountStep::Releases(Err(GateError::Busy))
+    } else {
+        RemountStep::GivesUp { mount, held }
+    }
+}
+
+/// The action of clearing the mark of a node whose word was this: none where it had none.
+fn cleaned(node: u8, word: u64) -> Option<Action>
+    ensures { result ≡ mark_cleared node word }
+{
+    if word & MARK == MARK {
+        Some(Action::Clean(node))
+    } else {
+        None
+    }
+}

@@ -1,0 +1,5 @@
+pub mod RemountRoles
+pub mod RemountFits
+pub mod RemountParts
+pub mod RemountLoop
+pub mod RemountEvents

@@ -1,0 +1,326 @@
+-- The other events of a remount, and all of them as one law.
+
+module _ (c : Config) (lim : IsWithin c) (w : World) (good : IsGood c w) (t : ℕ) (lt : t < c.tasks) (x : Remount) where
+  abbrev IsHere : RemountStep → Type 0
+  IsHere s = (w.views t).phase ≡ Some (Remounts (at_remount x s))
+
+  abbrev Keeps : HookAnswer → RemountStep → Type 0
+  Keeps hook s = RemountKeeps c w t hook (Remounts (at_remount x s))
+
+  abbrev FitsHere : RemountStep → Type 0
+  FitsHere s = PhaseFits c t (held_at (w.views t)) (holds_level (w.views t)) (Remounts (at_remount x s))
+
+  -- at a mount that is held at a sum of 0, or was found read-only, `remount` may stand, and then the mount is left where it isn't held
+  vacated : (held : MountSet) (e : IsHere (SetsRemount held)) (m : ℕ) (lm : m < c.mounts) (a : Bool) →
+      remount_role m (SetsRemount held) ≡ loop_role a true →
+      Mount c w good t lt x (SetsRemount held) e m (w.words.flags m) 1 w.words.sb (held_role a)
+  vacated held e m lm true is =
+      role_stays c w good t lt x (SetsRemount held) e m (w.words.flags m) 1 w.words.sb Empty (sym is)
+      (marks_empty (good (AtMount m) lm) t lt (role_was c w good t lt x (SetsRemount held) e m ∙ is))
+  vacated held e m lm false is =
+      let r : role_of m (w.views t).phase ≡ Skipped = role_was c w good t lt x (SetsRemount held) e m ∙ is in
+      is_left (marks_skipped (good (AtMount m) lm) t lt r) t lt (ap questions_of r, ap processor_of r) (ap has_hold r)
+
+  -- and nobody holds an access there
+  vacant : (held : MountSet) → IsHere (SetsRemount held) → (m : ℕ) → m < c.mounts → (a : Bool) →
+      remount_role m (SetsRemount held) ≡ loop_role a true → (y : ℕ) → y < c.tasks → held_at (w.views y) m ≡ 0
+  vacant held e m lm true is y ly =
+      omega (arith, empties (good (AtMount m) lm) t lt (role_was c w good t lt x (SetsRemount held) e m ∙ is),
+      total_at c.tasks y (λ z. admitted (at_mount m (w.views z))) ly)
+  vacant held e m lm false is y ly =
+      let ro : ro_bit (w.words.flags m) ≡ 1 =
+      (good (AtMount m) lm).skipped t lt (ap skips (role_was c w good t lt x (SetsRemount held) e m ∙ is)) in
+      omega (arith, closed (good (AtMount m) lm) ro,
+      total_at c.tasks y (λ z. (at_mount m (w.views z)).held + past_flags (at_mount m (w.views z)).role) ly)
+
+  -- with each mount held at a sum of 0, or read-only, `remount` is set; meets: `remount` is loaded after HOLD was found clear
+  pub sets_remount : (hook : HookAnswer) (held : MountSet) → IsHere (SetsRemount held) → Keeps hook (SetsRemount held)
+  sets_remount hook held e =
+      let s : RemountStep = SetsRemount held in
+      let f : FitsHere s = here_fits c w good t lt x s e in
+      let k : (w.words.stage ≡ 0) × (w.words.sb ≡ 0) = here_relies c w good t lt x s e in
+      let v : View = view_with (w.views t) (RemountWord, Store 1) w.words.remount hook (Go (Remounts (at_remount x (let_go held))), Some SbRo)
+      in
+      let after : PartsHold c w good t lt x s e (record w.words { remount = 1 }) v ×
+      (shown c (record { words = record w.words { remount = 1 }; views = update w.views t v }) ≡ record (shown c w) { sb_ro = true }) =
+      stores c w good t lt x s e refl (let_go held) v refl (refl, refl, refl, refl)
+      (f.0, f.1, f.2, f.3, f.4, let_go_fits c lim held f.5) 1 w.words.sb true (good Superblock)
+      (let_go_stays held w.words.stage w.words.sb k.0 k.1) refl
+      (λ m lm. subst (Mount c w good t lt x s e m (w.words.flags m) 1 w.words.sb) (sym (let_go_role m held))
+      (vacated held e m lm (has_mount held m) refl)) in
+      (after.0, ((lt, (k.0, λ m lm. vacant held e m lm (has_mount held m) refl)), after.1))
+
+  -- clears HOLD of the lowest mount that it holds; meets: READONLY and `remount` are loaded after HOLD was found clear
+  lets_go : (hook : HookAnswer) (held : MountSet) (s s' : RemountStep) (e : IsHere s) → 0 < held.bits → AllBelow c.mounts held →
+      has_hold (remount_role (lowest held) s) ≡ 1 → remount_role (lowest held) s' ≡ Out →
+      ((n : ℕ) → (n ≡ lowest held → ⊥) → remount_role n s' ≡ remount_role n s) →
+      RemountFits c s' → remount_owns s ≡ 1 → Stays s' (remount_sets s) w.words.stage w.words.sb →
+      let m : ℕ = lowest held in
+      let v : View = view_with (w.views t) (MountFlags m, And 18446744073709551613) (w.words.flags m) hook
+      (Go (Remounts (at_remount x s')), None) in
+      let ws : Words = record w.words { flags = update w.words.flags m (without_hold (w.words.flags m)) } in
+      PartsHold c w good t lt x s e ws v × (shown c (record { words = ws; views = update w.views t v }) ≡ shown c w)
+  lets_go hook held s s' e some below one out others fit o stays =
+      let m : ℕ = lowest held in
+      let f : FitsHere s = here_fits c w good t lt x s e in
+      let there : m < c.mounts = below.1 m (lowest_held held some below.0).1 in
+      let g : MountHoldsIn c w m = good (AtMount m) there in
+      let v : View = view_with (w.views t) (MountFlags m, And 18446744073709551613) (w.words.flags m) hook
+      (Go (Remounts (at_remount x s')), None) in
+      let r : role_of m (w.views t).phase ≡ remount_role m s = role_was c w good t lt x s e m in
+      flags_change c w good t lt x s e o s' v refl (refl, refl, refl, refl) (f.0, f.1, f.2, f.3, f.4, fit) m
+      (without_hold (w.words.flags m)) stays (and_not_hold (w.words.flags m) g.bits).1
+      (λ lm. subst (Mount c w good t lt x s e m (without_hold (w.words.flags m)) w.words.remount w.words.sb) (sym out)
+      (mount_clears_hold g t lt (subst SeeksNone (sym r) (remount_seeks m s)) (ap has_hold r ∙ one)))
+      others
+
+  pub clears_hold : (hook : HookAnswer) (held : MountSet) → IsHere (ClearsHold held) → Keeps hook (ClearsHold held)
+  clears_hold hook held e =
+      let f : FitsHere (ClearsHold held) = here_fits c w good t lt x (ClearsHold held) e in
+      let k : (w.words.stage ≡ 0) × (w.words.sb ≡ 0) = here_relies c w good t lt x (ClearsHold held) e in
+      let rest : MountSet = without_lowest held in
+      lets_go hook held (ClearsHold held) (let_go rest) e f.5.0 f.5.1
+      (ap (λ a. has_hold (held_role a)) (lowest_held held f.5.0 f.5.1.0).1)
+      (let_go_role (lowest held) rest ∙ ap held_role (leaves_here held f.5.0 f.5.1.0))
+      (λ n ne. let_go_role n rest ∙ ap held_role (leaves_there held n f.5.0 f.5.1.0 ne))
+      (let_go_fits c lim rest (leaves_below c.mounts held f.5.0 f.5.1)) refl (let_go_stays rest w.words.stage w.words.sb k.0 k.1)
+
+  giving_holds : (a : Bool) → has_hold (giving_role a true) ≡ 1
+  giving_holds true = refl
+  giving_holds false = refl
+
+  pub gives_up : (hook : HookAnswer) (m : ℕ) (held : MountSet) → IsHere (GivesUp m held) → Keeps hook (GivesUp m held)
+  gives_up hook m held e =
+      let f : FitsHere (GivesUp m held) = here_fits c w good t lt x (GivesUp m held) e in
+      let k : (w.words.stage ≡ 0) × (w.words.sb ≡ 0) = here_relies c w good t lt x (GivesUp m held) e in
+      let rest : MountSet = without_lowest held in
+      let low : ℕ = lowest held in
+      lets_go hook held (GivesUp m held) (give_up m rest) e f.5.0 f.5.1
+      (ap (λ a. has_hold (giving_role (low == m) a)) (lowest_held held f.5.0 f.5.1.0).1 ∙ giving_holds (low == m))
+      (give_up_role low m rest ∙ (ap (giving_role (low == m)) (leaves_here held f.5.0 f.5.1.0) ∙ no_giving (low == m)))
+      (λ n ne. give_up_role n m rest ∙ ap (giving_role (n == m)) (leaves_there held n f.5.0 f.5.1.0 ne))
+      (give_up_fits c m rest f.5.2 (leaves_below c.mounts held f.5.0 f.5.1)) refl (give_up_stays m rest w.words.stage w.words.sb k.0 k.1)
+
+  -- where it has no role before and after a store of `remount` or of the superblock's flags
+  mount_rests : (s : RemountStep) (e : IsHere s) (m : ℕ) (lm : m < c.mounts) → remount_role m s ≡ Out → (set sealing : ℕ) →
+      (set ≡ 1 → sealing ≡ 0 → (w.words.remount ≡ 1) × (w.words.sb ≡ 0)) →
+      (sealing ≡ 1 → total c.tasks (λ y. (at_mount m (w.views y)).held) ≡ 0) →
+      Mount c w good t lt x s e m (w.words.flags m) set sealing Out
+  mount_rests s e m lm out set sealing mark seal =
+      let g : MountHoldsIn c w m = good (AtMount m) lm in
+      role_stays c w good t lt x s e m (w.words.flags m) set sealing Out (sym out)
+      (mount_stores g set sealing (λ a b q. remounting g (mark a b).0 (mark a b).1 q) seal)
+
+  -- the file system has answered: the superblock's flag is set, under `remount`, or the superblock is writable again
+  pub sets_read_only : (hook : HookAnswer) → IsHere SetsReadOnly → Keeps hook SetsReadOnly
+  sets_read_only (Ok answer) e =
+      let s : RemountStep = SetsReadOnly in
+      let f : FitsHere s = here_fits c w good t lt x s e in
+      let k : (w.words.stage ≡ 0) × (w.words.sb ≡ 0) = here_relies c w good t lt x s e in
+      let set : w.words.remount ≡ 1 = remount_stands c w good t lt (ap remounts e) in
+      let v : View = view_with (w.views t) (SbFlags, Store 1) w.words.sb (Ok answer) (Go (Remounts (at_remount x ClearsRemount)), None) in
+      stores c w good t lt x s e refl ClearsRemount v refl (refl, refl, refl, refl) (f.0, f.1, f.2, f.3, f.4, tt) w.words.remount 1
+      (w.words.remount == 1 || w.words.sb == 1) (omega arith) (refl, sym set, k.0, refl) (rw (eq-eqb w.words.remount 1 set) refl)
+      (λ m lm. mount_rests s e m lm refl w.words.remount 1 (λ q z. absurd (omega (arith, z)))
+      (λ q. none_remounting (good (AtMount m) lm) set k.1))
+  sets_read_only (Err code) e =
+      let s : RemountStep = SetsReadOnly in
+      let f : FitsHere s = here_fits c w good t lt x s e in
+      let k : (w.words.stage ≡ 0) × (w.words.sb ≡ 0) = here_relies c w good t lt x s e in
+      let s' : RemountStep = Releases (Err (Hook code)) in
+      let v : View = view_with (w.views t) (RemountWord, Store 0) w.words.remount (Err code) (Go (Remounts (at_remount x s')), Some SbRw) in
+      let after : PartsHold c w good t lt x s e (record w.words { remount = 0 }) v ×
+      (shown c (record { words = record w.words { remount = 0 }; views = update w.views t v }) ≡ record (shown c w) { sb_ro = false }) =
+      stores c w good t lt x s e refl s' v refl (refl, refl, refl, refl) (f.0, f.1, f.2, f.3, f.4, tt) 0 w.words.sb false
+      (good Superblock) (refl, refl, tt, tt) (ne_eqb w.words.sb 1 (λ q. omega (arith, k.1, q)))
+      (λ m lm. mount_rests s e m lm refl 0 w.words.sb (λ q. absurd (omega (arith, q))) (sealed (good (AtMount m) lm))) in
+      (after.0, ((lt, k.0), after.1))
+
+  -- with the superblock's flag set, `remount` is cleared; meets: `remount` is loaded before the superblock's flag
+  pub clears_remount : (hook : HookAnswer) → IsHere ClearsRemount → Keeps hook ClearsRemount
+  clears_remount hook e =
+      let s : RemountStep = ClearsRemount in
+      let f : FitsHere s = here_fits c w good t lt x s e in
+      let k : (w.words.stage ≡ 0) × (w.words.sb ≡ 1) = here_relies c w good t lt x s e in
+      let set : w.words.remount ≡ 1 = remount_stands c w good t lt (ap remounts e) in
+      let s' : RemountStep = Releases (Ok UnitReply) in
+      let v : View = view_with (w.views t) (RemountWord, Store 0) w.words.remount hook (Go (Remounts (at_remount x s')), None) in
+      stores c w good t lt x s e refl s' v refl (refl, refl, refl, refl) (f.0, f.1, f.2, f.3, f.4, tt) 0 w.words.sb
+      (w.words.remount == 1 || w.words.sb == 1) (good Superblock) (refl, refl, tt, tt)
+      (rw (eq-eqb w.words.remount 1 set, eq-eqb w.words.sb 1 k.1) refl)
+      (λ m lm. mount_rests s e m lm refl 0 w.words.sb (λ q. absurd (omega (arith, q))) (sealed (good (AtMount m) lm)))
+
+  -- gives `umount` back; meets: the next owner takes it
+  gives_back : (hook : HookAnswer) (s : RemountStep) (e : IsHere s) (answer : Result Reply GateError) → remount_owns s ≡ 1 →
+      remount_sets s ≡ 0 → ((m : ℕ) → remount_role m s ≡ Out) →
+      let v : View = view_with (w.views t) (Umount, Store 0) w.words.umount hook (Done answer, None) in
+      let ws : Words = record w.words { umount = 0 } in
+      PartsHold c w good t lt x s e ws v × (shown c (record { words = ws; views = update w.views t v }) ≡ shown c w)
+  gives_back hook s e answer o r role =
+      let v : View = view_with (w.views t) (Umount, Store 0) w.words.umount hook (Done answer, None) in
+      umount_changes c w good t lt x s e 0 v (refl, refl, refl, refl) tt
+      (releases_umount c w good t lt v (ap owns e ∙ o) refl (sym (ap remounts e ∙ r)))
+      (relying_after c w good t lt w.words v (ap owns e ∙ o) (tt, tt)) (λ m. sym (role m)) (λ i. refl)
+
+  pub releases : (hook : HookAnswer) (answer : Result Reply GateError) → IsHere (Releases answer) → Keeps hook (Releases answer)
+  releases hook answer e = gives_back hook (Releases answer) e answer refl refl (λ m. refl)
+
+  -- the file system has answered: the superblock's flag is cleared, or `umount` is given back
+  pub sets_writable : (hook : HookAnswer) → IsHere SetsWritable → Keeps hook SetsWritable
+  sets_writable (Ok answer) e =
+      let s : RemountStep = SetsWritable in
+      let f : FitsHere s = here_fits c w good t lt x s e in
+      let k : (w.words.stage ≡ 0) × Unit {0} = here_relies c w good t lt x s e in
+      let clear : w.words.remount ≡ 1 → ⊥ = no_remount c w good t lt (ap owns e) (ap remounts e) in
+      let s' : RemountStep = Releases (Ok UnitReply) in
+      let v : View = view_with (w.views t) (SbFlags, Store 0) w.words.sb (Ok answer) (Go (Remounts (at_remount x s')), Some SbRw) in
+      let after : PartsHold c w good t lt x s e (record w.words { sb = 0 }) v ×
+      (shown c (record { words = record w.words { sb = 0 }; views = update w.views t v }) ≡ record (shown c w) { sb_ro = false }) =
+      stores c w good t lt x s e refl s' v refl (refl, refl, refl, refl) (f.0, f.1, f.2, f.3, f.4, tt) w.words.remount 0 false
+      (omega arith) (refl, omega (arith, clear, (good Owner).bit), tt, tt) (rw (ne_eqb w.words.remount 1 clear) refl)
+      (λ m lm. mount_rests s e m lm refl w.words.remount 0 (λ q z. absurd (clear q)) (λ q. absurd (omega (arith, q)))) in
+      (after.0, ((lt, k.0), after.1))
+  sets_writable (Err code) e = gives_back (Err code) SetsWritable e (Err (Hook code)) refl refl (λ m. refl)
+
+  -- clears the mark of a node, under `remount`
+  pub clears_node : (hook : HookAnswer) (n : ℕ) → IsHere (ClearsMark n) → Keeps hook (ClearsMark n)
+  clears_node hook n e =
+      let s : RemountStep = ClearsMark n in
+      let s' : RemountStep = past_node x.nodes n in
+      let f : FitsHere s = here_fits c w good t lt x s e in
+      let k : (w.words.stage ≡ 0) × (w.words.sb ≡ 0) = here_relies c w good t lt x s e in
+      let set : w.words.remount ≡ 1 = remount_stands c w good t lt (ap remounts e) in
+      let word : ℕ = w.words.node n in
+      let node : IsNode word = good Nodes n in
+      let event : (action : Option Action) → held_at (view_with (w.views t) (Node n, And 18446744073709551611) word hook
+      (Go (Remounts (at_remount x s')), action)) ≡ held_at (w.views t) →
+      holds_level (view_with (w.views t) (Node n, And 18446744073709551611) word hook (Go (Remounts (at_remount x s')), action)) ≡
+      holds_level (w.views t) →
+      let v : View = view_with (w.views t) (Node n, And 18446744073709551611) word hook (Go (Remounts (at_remount x s')), action) in
+      let ws : Words = record w.words { node = update w.words.node n (without_mark word) } in
+      PartsHold c w good t lt x s e ws v × (shown c (record { words = ws; views = update w.views t v }) ≡
+      record (shown c w) { tree = update (λ k. node_shown (w.words.node k)) n (node_shown (without_mark word)) }) =
+      λ action held levels.
+      let v : View = view_with (w.views t) (Node n, And 18446744073709551611) word hook (Go (Remounts (at_remount x s')), action) in
+      node_changes c w good t lt x s e refl s' v refl (held, levels, refl, refl)
+      (subst (λ h. PhaseFits c t h (holds_level v) (Remounts (at_remount x s'))) (sym held)
+      (subst (λ h. PhaseFits c t (held_at (w.views t)) h (Remounts (at_remount x s'))) (sym levels)
+      (f.0, f.1, f.2, f.3, f.4, past_node_fits c x.nodes n f.3)))
+      n (without_mark word) (past_node_stays x.nodes n w.words.stage w.words.sb k.0 k.1) (cleared_node word node)
+      (λ m. past_node_role x.nodes n m) in
+      elim (cases_Bool (has_flag word 4)) [
+        | inl h ↦
+            let marked : dirty_in word ≡ 1 = mark_set word h in
+            let after : IsFile (node_shown word) × (node_shown (without_mark word) ≡ option_map (marked_as false) (node_shown word)) =
+            cleared_shown word node marked in
+            rw h (
+              (event (Some (Clean n)) refl refl).0,
+              (
+                (lt, (f.5.1, after.0, inr (inr (rw (eq-eqb w.words.remount 1 set) refl)))),
+                (event (Some (Clean n)) refl refl).1 ∙ (λ j. record (shown c w) { tree = update (λ k. node_shown (w.words.node k)) n (after.1 j) }),
+              ),
+            )
+        | inr h ↦
+            let clean : without_mark word ≡ word = clean_stays word node (mark_clear word h) in
+            rw h (
+              (event None refl refl).0,
+              (event None refl refl).1 ∙
+              (λ j. record (shown c w) {
+                tree = (ap (λ y. update (λ k. node_shown (w.words.node k)) n (node_shown y)) clean ∙ update_same (λ k. node_shown (w.words.node k)) n) j;
+              }),
+            )
+      ]
+
+  -- the view after the lock was tried, which left this in `umount`
+  abbrev tried : HookAnswer → ℕ → RemountStep → View
+  tried hook n s =
+      let event : Event = record { word = Umount; touch = Cas 0 (x.task + 1); found = w.words.umount; left = n } in
+      record (w.views t) {
+        phase = Some (Remounts (at_remount x s));
+        events = event ∷ (w.views t).events;
+        trace = record { event = event; hook = hook } ∷ (w.views t).trace;
+      }
+
+  still_relies : (hook : HookAnswer) (n : ℕ) (s : RemountStep) → IsHere Locks → remount_relies s ≡ on_nothing →
+      Holds c (record { words = w.words; views = update w.views t (tried hook n s) }) Relying
+  still_relies hook n s e a = left_alone c w t lt Relying w.words (tried hook n s) (refl, refl) (a ∙ sym (ap relied e)) (good Relying)
+
+  -- takes `umount` where it is free; meets: its owner gives it back last
+  pub locks : (hook : HookAnswer) → IsHere Locks → Keeps hook Locks
+  locks hook e =
+      let f : FitsHere Locks = here_fits c w good t lt x Locks e in
+      elim (eqb_tells w.words.umount 0) [
+        | inl h ↦ rw h.0 (
+            let v : View = tried hook (x.task + 1) LoadsStage in
+            umount_changes c w good t lt x Locks e (x.task + 1) v (refl, refl, refl, refl) f
+            (locks_umount c w good t lt (x.task + 1) v h.1 (omega (arith, f.0)) refl (sym (ap remounts e)))
+            (still_relies hook (x.task + 1) LoadsStage e refl) (λ m. refl) (λ i. refl))
+        | inr h ↦ rw h.0 (
+            let v : View = tried hook w.words.umount Locks in
+            umount_changes c w good t lt x Locks e w.words.umount v (refl, refl, refl, refl) f
+            (owner_same c w t lt good v (steady e (record { owns_same = refl; remounts_same = refl; closing_same = λ i. refl })))
+            (still_relies hook w.words.umount Locks e refl) (λ m. refl) (λ i. refl))
+      ]
+
+  -- a load by the owner that has no role, before and after it
+  still_load : (hook : HookAnswer) (name : WordName) (s s' : RemountStep) (e : IsHere s) → remount_owns s ≡ 1 →
+      Stays s' (remount_sets s) w.words.stage w.words.sb → RemountFits c s' → ((m : ℕ) → remount_role m s' ≡ remount_role m s) →
+      let coming : Next Phase = Go (Remounts (at_remount x s')) in
+      ((part : Part) → is_known part ≡ false → Holds c (after_load w t name hook coming) part) ×
+      (shown c (after_load w t name hook coming) ≡ shown c w)
+  still_load hook name s s' e o stays fit role =
+      load_event c w good t lt x s e name hook s' o stays fit (λ m lm. mount_stays c w good t lt x s e m lm (remount_role m s') (role m))
+
+  -- loads the stage; meets: whoever changes it owns `umount`
+  pub loads_stage : (hook : HookAnswer) → IsHere LoadsStage → Keeps hook LoadsStage
+  loads_stage hook e =
+      elim (eqb_tells w.words.stage 0) [
+        | inl h ↦ rw h.0 (still_load hook Stage LoadsStage LoadsSuperblock e refl (refl, refl, h.1, tt) tt (λ m. refl))
+        | inr h ↦ rw h.0 (still_load hook Stage LoadsStage (Releases (Err Busy)) e refl (refl, refl, tt, tt) tt (λ m. refl))
+      ]
+
+  begins_loop : (m : ℕ) → loop_role (has_mount no_mounts m) (nat_lt m 0) ≡ Out
+  begins_loop m = rw (none_held no_mounts refl m, le-ltb m 0 (omega arith)) refl
+
+  -- the state was found, as it was asked for or not
+  state_stays : (ro b : Bool) → w.words.stage ≡ 0 → (b ≡ false → w.words.sb ≡ 0) →
+      Stays (remount_from ro b) 0 w.words.stage w.words.sb × ((m : ℕ) → remount_role m (remount_from ro b) ≡ Out)
+  state_stays true true z none = ((refl, refl, tt, tt), λ m. refl)
+  state_stays true false z none = ((refl, refl, z, none refl), begins_loop)
+  state_stays false true z none = ((refl, refl, z, tt), λ m. refl)
+  state_stays false false z none = ((refl, refl, tt, tt), λ m. refl)
+
+  -- loads the superblock's flag
+  pub loads_superblock : (hook : HookAnswer) → IsHere LoadsSuperblock → Keeps hook LoadsSuperblock
+  loads_superblock hook e =
+      let k : (w.words.stage ≡ 0) × Unit {0} = here_relies c w good t lt x LoadsSuperblock e in
+      let found : Bool = not (w.words.sb == 0) in
+      let s : Stays (remount_from x.read_only found) 0 w.words.stage w.words.sb ×
+      ((m : ℕ) → remount_role m (remount_from x.read_only found) ≡ Out) =
+      elim (eqb_tells w.words.sb 0) [
+        | inl h ↦ rw h.0 (state_stays x.read_only false k.0 (λ q. h.1))
+        | inr h ↦ rw h.0 (state_stays x.read_only true k.0 (λ q. absurd (true≢false q)))
+      ] in
+      still_load hook SbFlags LoadsSuperblock (remount_from x.read_only found) e refl s.0 (state_fits c lim x.read_only found) s.1
+
+  -- each of them
+  remount_event : (hook : HookAnswer) (s : RemountStep) → IsHere s → Keeps hook s
+  remount_event hook Locks e = locks hook e
+  remount_event hook LoadsStage e = loads_stage hook e
+  remount_event hook LoadsSuperblock e = loads_superblock hook e
+  remount_event hook SetsWritable e = sets_writable hook e
+  remount_event hook (LoadsFlags m held) e = loads_flags c lim w good t lt x hook m held e
+  remount_event hook (SetsHold m held) e = sets_hold c lim w good t lt x hook m held e
+  remount_event hook (Sums m held sum) e = sums c lim w good t lt x hook m held sum e
+  remount_event hook (SetsRemount held) e = sets_remount hook held e
+  remount_event hook (ClearsHold held) e = clears_hold hook held e
+  remount_event hook (GivesUp m held) e = gives_up hook m held e
+  remount_event hook (ClearsMark n) e = clears_node hook n e
+  remount_event hook SetsReadOnly e = sets_read_only hook e
+  remount_event hook ClearsRemount e = clears_remount hook e
+  remount_event hook (Releases answer) e = releases hook answer e
+
+-- each event of a remount keeps the rule, and moves the shown model by its action
+pub remount_keeps : (c : Config) → IsWithin c → (w : World) → IsGood c w → (t : ℕ) → t < c.tasks → (hook : HookAnswer) (x : Remount) →
+    (w.views t).phase ≡ Some (Remounts x) → StepKeeps c w t hook (Remounts x)
+remount_keeps c lim w good t lt hook x e = whole_remount c w t lt good hook x e (remount_event c lim w good t lt x hook x.step e)

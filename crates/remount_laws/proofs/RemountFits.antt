@@ -1,0 +1,134 @@
+-- What fits after an event of a remount.
+
+-- a mount joins the set, and the lowest leaves it
+pub joins_below : (m : ℕ) (held : MountSet) → m < 8 → AllBelow m held → AllBelow (m + 1) (with_mount held m)
+joins_below m held lm h = (
+  joins_within held m lm h.0,
+  λ n q. elim (eqb_tells n m) [
+    | inl z ↦ omega (arith, z.1)
+    | inr z ↦ omega (arith, h.1 n (sym (joins_there held m n lm z.1) ∙ q))
+  ],
+)
+
+pub leaves_below : (m : ℕ) (held : MountSet) → 0 < held.bits → AllBelow m held → AllBelow m (without_lowest held)
+leaves_below m held some h = (
+  leaves_within held h.0,
+  λ n q. elim (eqb_tells n (lowest held)) [
+    | inl z ↦ absurd (true≢false (sym q ∙ (ap (has_mount (without_lowest held)) z.1 ∙ leaves_here held some h.0)))
+    | inr z ↦ h.1 n (sym (leaves_there held n some h.0 z.1) ∙ q)
+  ],
+)
+
+module _ (c : Config) where
+  none_below : (m : ℕ) → AllBelow m no_mounts
+  none_below m = (omega arith, λ n q. absurd (true≢false (sym q ∙ none_held no_mounts refl n)))
+
+  pub past_mount_fits : (mounts m : ℕ) (held : MountSet) → mounts ≡ c.mounts → m < c.mounts → AllBelow (m + 1) held →
+      RemountFits c (past_mount mounts m held)
+  past_mount_fits mounts m held same lm h =
+      elim (cases_Bool (nat_lt (m + 1) mounts)) [
+        | inl z ↦ rw z (omega (arith, ltb-true (m + 1) mounts z, same), h)
+        | inr z ↦ rw z (h.0, λ n q. omega (arith, h.1 n q, lm))
+      ]
+
+  pub give_up_fits : (m : ℕ) (held : MountSet) → m < c.mounts → AllBelow c.mounts held → RemountFits c (give_up m held)
+  give_up_fits m held lm h = elim (eqb_tells held.bits 0) [ inl z ↦ rw z.0 tt | inr z ↦ rw z.0 (omega (arith, z.1), h, lm) ]
+
+  pub past_node_fits : (nodes n : ℕ) → nodes ≡ c.nodes → RemountFits c (past_node nodes n)
+  past_node_fits nodes n same =
+      elim (cases_Bool (nat_lt (n + 1) nodes)) [
+        | inl z ↦ rw z (omega arith, omega (arith, ltb-true (n + 1) nodes z, same))
+        | inr z ↦ rw z tt
+      ]
+
+  module _ (lim : IsWithin c) where
+    pub let_go_fits : (held : MountSet) → AllBelow c.mounts held → RemountFits c (let_go held)
+    let_go_fits held h = elim (eqb_tells held.bits 0) [ inl z ↦ rw z.0 (omega arith, omega (arith, lim.nodes)) | inr z ↦ rw z.0 (omega (arith, z.1), h) ]
+
+    pub state_fits : (wanted found : Bool) → RemountFits c (remount_from wanted found)
+    state_fits true true = tt
+    state_fits true false = (lim.some_mount, none_below 0)
+    state_fits false true = tt
+    state_fits false false = tt
+
+    sums_fit : (x : Remount) (m : ℕ) (held : MountSet) (sum : Sum) (word : ℕ) → x.processors ≡ c.processors → x.mounts ≡ c.mounts →
+        m < c.mounts → AllBelow m held → RemountFits c (remount_summed x m held sum word)
+    sums_fit x m held sum word sp sm lm h =
+        let j : AllBelow (m + 1) (with_mount held m) = joins_below m held (omega (arith, lm, lim.mounts)) h in
+        elim (cases_Bool (nat_lt (sum.words + 1) x.processors)) [
+          | inl z ↦ rw z (lm, h, omega (arith, ltb-true (sum.words + 1) x.processors z, sp))
+          | inr z ↦ rw z (by_bool (wrap_add sum.total word == 0)
+              (λ b. RemountFits c (if b then past_mount x.mounts m (with_mount held m) else give_up m (with_mount held m)))
+              (past_mount_fits x.mounts m (with_mount held m) sm lm j)
+              (give_up_fits m (with_mount held m) lm (j.0, λ n q. omega (arith, j.1 n q, lm))))
+        ]
+
+    module _ (t : ℕ) (held : ℕ → ℕ) (levels : ℕ → Bool) where
+      pub remount_there : (x : Remount) (s : RemountStep) (hook : HookAnswer) → RemountFits c s →
+          IsWord (extents_of c) (remount_next x s hook).0
+      remount_there x Locks hook f = tt
+      remount_there x LoadsStage hook f = tt
+      remount_there x LoadsSuperblock hook f = tt
+      remount_there x SetsWritable (Ok answer) f = tt
+      remount_there x SetsWritable (Err code) f = tt
+      remount_there x (LoadsFlags m set) hook f = f.0
+      remount_there x (SetsHold m set) hook f = f.0
+      remount_there x (Sums m set sum) hook f = (f.0, f.2)
+      remount_there x (SetsRemount set) hook f = tt
+      remount_there x (ClearsHold set) hook f = f.1.1 (lowest set) (lowest_held set f.0 f.1.0).1
+      remount_there x (GivesUp m set) hook f = f.1.1 (lowest set) (lowest_held set f.0 f.1.0).1
+      remount_there x (ClearsMark n) hook f = f.1
+      remount_there x SetsReadOnly (Ok answer) f = tt
+      remount_there x SetsReadOnly (Err code) f = tt
+      remount_there x ClearsRemount hook f = tt
+      remount_there x (Releases answer) hook f = tt
+
+      pub remount_acts : (x : Remount) (s : RemountStep) (found : ℕ) (hook : HookAnswer) → ActionFits held (remount_after x s found hook).1
+      remount_acts x SetsWritable found (Ok answer) = tt
+      remount_acts x SetsWritable found (Err code) = tt
+      remount_acts x SetsReadOnly found (Ok answer) = tt
+      remount_acts x SetsReadOnly found (Err code) = tt
+      remount_acts x (ClearsMark n) found hook =
+          by_bool (has_flag found 4) (λ b. ActionFits held (if b then Some (Clean n) else None)) tt tt
+      remount_acts x s found hook = tt
+
+      -- what comes after an event fits
+      abbrev NextFits : Next Remount → Type 0
+      NextFits next = Fits c t held levels (phase_after (map_next Remounts next))
+
+      -- a cleaned node leaves the accesses
+      cleans_none : (n : ℕ) (b : Bool) (p : Option Phase) → Fits c t held levels p →
+          Fits c t (mounts_by (if b then Some (Clean n) else None) held) (levels_by (if b then Some (Clean n) else None) levels) p
+      cleans_none n true p f = f
+      cleans_none n false p f = f
+
+      -- what comes after each event of a remount fits
+      pub remount_goes : (x : Remount) (s : RemountStep) (found : ℕ) (hook : HookAnswer) →
+          PhaseFits c t held levels (Remounts (at_remount x s)) →
+          Fits c t (mounts_by (remount_after x s found hook).1 held) (levels_by (remount_after x s found hook).1 levels)
+          (phase_after (map_next Remounts (remount_after x s found hook).0))
+      remount_goes x Locks found hook f =
+          by_bool (found == 0) (λ b. NextFits (if b then Go (at_remount x LoadsStage) else Wait (at_remount x Locks))) f f
+      remount_goes x LoadsStage found hook f =
+          by_bool (found == 0) (λ b. NextFits (if b then Go (at_remount x LoadsSuperblock) else Go (at_remount x (Releases (Err Busy))))) f f
+      remount_goes x LoadsSuperblock found hook f = (f.0, f.1, f.2, f.3, f.4, state_fits x.read_only (not (found == 0)))
+      remount_goes x SetsWritable found (Ok answer) f = f
+      remount_goes x SetsWritable found (Err code) f = tt
+      remount_goes x (LoadsFlags m set) found hook f =
+          by_bool (has_flag found 1)
+          (λ b. NextFits (if b then Go (at_remount x (past_mount x.mounts m set)) else Go (at_remount x (SetsHold m set))))
+          (f.0, f.1, f.2, f.3, f.4, past_mount_fits x.mounts m set f.2 f.5.0 (f.5.1.0, λ n q. omega (arith, f.5.1.1 n q))) f
+      remount_goes x (SetsHold m set) found hook f = (f.0, f.1, f.2, f.3, f.4, (f.5.0, f.5.1, lim.some_processor))
+      remount_goes x (Sums m set sum) found hook f = (f.0, f.1, f.2, f.3, f.4, sums_fit x m set sum found f.1 f.2 f.5.0 f.5.1)
+      remount_goes x (SetsRemount set) found hook f = (f.0, f.1, f.2, f.3, f.4, let_go_fits set f.5)
+      remount_goes x (ClearsHold set) found hook f =
+          (f.0, f.1, f.2, f.3, f.4, let_go_fits (without_lowest set) (leaves_below c.mounts set f.5.0 f.5.1))
+      remount_goes x (GivesUp m set) found hook f =
+          (f.0, f.1, f.2, f.3, f.4, give_up_fits m (without_lowest set) f.5.2 (leaves_below c.mounts set f.5.0 f.5.1))
+      remount_goes x (ClearsMark n) found hook f =
+          cleans_none n (has_flag found 4) (Some (Remounts (at_remount x (past_node x.nodes n))))
+          (f.0, f.1, f.2, f.3, f.4, past_node_fits x.nodes n f.3)
+      remount_goes x SetsReadOnly found (Ok answer) f = f
+      remount_goes x SetsReadOnly found (Err code) f = f
+      remount_goes x ClearsRemount found hook f = f
+      remount_goes x (Releases answer) found hook f = tt

@@ -1,0 +1,236 @@
+-- What an event of a remount may leave: each part of the rule, and the shown model.
+
+-- who changes an owned word is the owner, and a remount comes to own `umount` by taking it
+remount_changes : (x : Remount) (s : RemountStep) (hook : HookAnswer) → is_owned (remount_next x s hook).0 ≡ true →
+    (is_load (remount_next x s hook).1 ≡ true) ⊎ (remount_owns s ≡ 1)
+remount_changes x Locks hook h = absurd (true≢false (sym h))
+remount_changes x s hook h = inr refl
+
+remount_comes : (x : Remount) (s : RemountStep) (hook : HookAnswer) (value : ℕ) →
+    owns (phase_after (map_next Remounts (remount_after x s (found_by (remount_next x s hook).1 value) hook).0)) ≡ 1 →
+    (remount_owns s ≡ 1) ⊎ (takes_lock (event_of (remount_next x s hook).0 (remount_next x s hook).1 value) ≡ true)
+remount_comes x Locks hook value h =
+    elim (cases_Bool (value == 0)) [
+      | inl f ↦ inr f
+      | inr f ↦ absurd (omega (arith, rw f at h))
+    ]
+remount_comes x s hook value h = inl refl
+
+remount_work : (w : World) (x : Remount) (hook : HookAnswer) → IsOwnersWork w (Remounts x) hook
+remount_work w x hook = record {
+  changes = remount_changes x x.step hook;
+  comes_to_own = remount_comes x x.step hook (value_at w.words (Remounts x) hook);
+}
+
+-- the law of an event of a remount: each part but what the owner knows, and the shown model
+abbrev pub RemountKeeps : Config → World → ℕ → HookAnswer → Phase → Type 0
+RemountKeeps c w t hook phase =
+    ((part : Part) → is_known part ≡ false → Holds c (after_step w t phase hook) part) ×
+    Moves c (shown c w) t (phase_action w hook (Some phase)) (shown c (after_step w t phase hook))
+
+-- what it knows moves with its trace
+pub whole_remount : (c : Config) (w : World) (t : ℕ) → t < c.tasks → IsGood c w → (hook : HookAnswer) (x : Remount) →
+    (w.views t).phase ≡ Some (Remounts x) → RemountKeeps c w t hook (Remounts x) → StepKeeps c w t hook (Remounts x)
+whole_remount c w t lt good hook x e keeps = (
+  λ part. elim (cases_Bool (is_known part)) [
+    | inl h ↦ subst (Holds c (after_step w t (Remounts x) hook)) (sym (known_is part h))
+        (known_after c w t (Remounts x) hook good lt e (remount_work w x hook))
+    | inr h ↦ keeps.0 part h
+  ],
+  keeps.1,
+)
+
+-- a step at which `umount` is owned, `remount` stands so, and the stage and the superblock's flags are as it relies on them
+abbrev pub Stays : RemountStep → ℕ → ℕ → ℕ → Type 0
+Stays s set stage sb = (remount_owns s ≡ 1) × (remount_sets s ≡ set) × IsKnown (remount_relies s).stage stage × IsKnown
+    (remount_relies s).sb sb
+
+module _ (c : Config) (w : World) (good : IsGood c w) (t : ℕ) (lt : t < c.tasks) (x : Remount) (s : RemountStep)
+    (e : (w.views t).phase ≡ Some (Remounts (at_remount x s))) where
+  -- what its phase and the rule say before its event
+  pub here_fits : PhaseFits c t (held_at (w.views t)) (holds_level (w.views t)) (Remounts (at_remount x s))
+  here_fits = subst (Fits c t (held_at (w.views t)) (holds_level (w.views t))) e (good Fitting t lt)
+
+  pub here_relies : IsKnown (remount_relies s).stage w.words.stage × IsKnown (remount_relies s).sb w.words.sb
+  here_relies = subst (λ p. IsThere (relied p) w.words) e (good Relying t lt)
+
+  pub role_was : (m : ℕ) → role_of m (w.views t).phase ≡ remount_role m s
+  role_was m = ap (role_of m) e
+
+  -- one mount, where its flags, `remount` and the superblock's flags are these, and this task's role is this
+  abbrev pub Mount : ℕ → ℕ → ℕ → ℕ → Role → Type 0
+  Mount m f set sealing r =
+      MountHolds c.tasks c.processors f set sealing (w.words.count m)
+      (update (λ y. at_mount m (w.views y)) t (record (at_mount m (w.views t)) { role = r }))
+
+  -- the same, where this task's role is as it was
+  pub role_stays : (m : ℕ) (f set sealing : ℕ) (r : Role) → r ≡ remount_role m s →
+      MountHolds c.tasks c.processors f set sealing (w.words.count m) (λ y. at_mount m (w.views y)) → Mount m f set sealing r
+  role_stays m f set sealing r q h =
+      holds_as refl refl refl refl
+      (ap (update (λ y. at_mount m (w.views y)) t) (view_as refl refl refl (q ∙ sym (role_was m))) ∙
+      update_same (λ y. at_mount m (w.views y)) t) h
+
+  -- it holds where nothing there has changed
+  pub mount_stays : (m : ℕ) → m < c.mounts → (r : Role) → r ≡ remount_role m s → Mount m (w.words.flags m) w.words.remount w.words.sb r
+  mount_stays m lm r q = role_stays m (w.words.flags m) w.words.remount w.words.sb r q (good (AtMount m) lm)
+
+  -- the view counts what it counted, and holds what it held
+  abbrev pub SameCounts : View → Type 0
+  SameCounts v = (held_at v ≡ held_at (w.views t)) × (holds_level v ≡ holds_level (w.views t)) ×
+      (added_by v.events ≡ added_by (w.views t).events) × (taken_by v.events ≡ taken_by (w.views t).events)
+
+  -- each part but what the owner knows
+  abbrev pub PartsHold : Words → View → Type 0
+  PartsHold ws v = (part : Part) → is_known part ≡ false → Holds c (record { words = ws; views = update w.views t v }) part
+
+  -- each part after an event, from what it says of each mount
+  pub each_part : (ws : Words) (v : View) → SameCounts v → ws.stage ≡ w.words.stage → ws.sb ≤ 1 → ws.count ≡ w.words.count →
+      ((n : ℕ) → IsNode (ws.node n)) → OwnerHolds c.tasks ws.umount ws.remount (λ y. (update w.views t v y).phase) →
+      Holds c (record { words = ws; views = update w.views t v }) Relying → ViewFits c t v →
+      ((m : ℕ) → m < c.mounts → Mount m (ws.flags m) ws.remount ws.sb (role_of m v.phase)) → PartsHold ws v
+  each_part ws v same es bit ec nodes owner relying fits own Owner k = owner
+  each_part ws v same es bit ec nodes owner relying fits own Superblock k = bit
+  each_part ws v same es bit ec nodes owner relying fits own Stages k = omega (arith, es, good Stages)
+  each_part ws v same es bit ec nodes owner relying fits own Fitting k = λ y ly.
+      each_updated (λ z (u : View). ViewFits c z u) w.views t v y fits (λ ne. good Fitting y ly)
+  each_part ws v same es bit ec nodes owner relying fits own Known k = absurd (true≢false k)
+  each_part ws v same es bit ec nodes owner relying fits own Relying k = relying
+  each_part ws v same es bit ec nodes owner relying fits own Nodes k = nodes
+  each_part ws v same es bit ec nodes owner relying fits own (AtMount m) k = λ lm.
+      holds_as refl refl refl (ap (λ f. f m) ec)
+      (update_map (at_mount m) w.views t v ∙ ap (update (λ y. at_mount m (w.views y)) t)
+      (view_as (ap (λ g. g m) same.0) (ap (λ g. g m) same.2) (ap (λ g. g m) same.3) refl)) (own m lm)
+
+  -- the shown model after it: the superblock's flag alone may change
+  pub seal_shown : (ws : Words) (v : View) (b : Bool) → ws.block ≡ w.words.block →
+      ◌≡◌ {A = ℕ → Bool} (λ m. ro_bit (ws.flags m) == 1) (λ m. ro_bit (w.words.flags m) == 1) → ws.stage ≡ w.words.stage →
+      ws.node ≡ w.words.node → ((i : ℕ) → closing i v.phase ≡ closing i (w.views t).phase) → SameCounts v →
+      (ws.remount == 1 || ws.sb == 1) ≡ b →
+      shown c (record { words = ws; views = update w.views t v }) ≡ record (shown c w) { sb_ro = b }
+  seal_shown ws v b eb ef es en ec same h =
+      shown_as c w t lt ws v eb ec ∙
+      (λ j. record (shown c w) {
+        mounts = (ap (update (λ y. held_at (w.views y)) t) same.0 ∙ update_same (λ y. held_at (w.views y)) t) j;
+        levels = (ap (update (λ y. holds_level (w.views y)) t) same.1 ∙ update_same (λ y. holds_level (w.views y)) t) j;
+        mount_ro = ef j;
+        sb_ro = h j;
+        stage = es j;
+        tree = λ n. node_shown (en j n);
+      })
+
+  module _ (o : remount_owns s ≡ 1) (s' : RemountStep) (v : View) (is : v.phase ≡ Some (Remounts (at_remount x s'))) (same : SameCounts v)
+      (fits : ViewFits c t v) where
+    -- what the step that comes relies on is there
+    relies_on : (ws : Words) → IsThere (remount_relies s') ws → Holds c (record { words = ws; views = update w.views t v }) Relying
+    relies_on ws there = relying_after c w good t lt ws v (ap owns e ∙ o) (subst (λ p. IsThere (relied p) ws) (sym is) there)
+
+    steady_to : remount_owns s' ≡ 1 → remount_sets s' ≡ remount_sets s → IsSteady (w.views t).phase v.phase
+    steady_to o' q = steady e (record {
+      owns_same = ap owns is ∙ (o' ∙ sym o);
+      remounts_same = ap remounts is ∙ q;
+      closing_same = λ i. ap (closing i) is;
+    })
+
+    -- a load by the owner, after which this step comes
+    pub loads : Stays s' (remount_sets s) w.words.stage w.words.sb →
+        ((m : ℕ) → m < c.mounts → Mount m (w.words.flags m) w.words.remount w.words.sb (remount_role m s')) →
+        PartsHold w.words v × (shown c (record { words = w.words; views = update w.views t v }) ≡ shown c w)
+    loads stays own =
+        let still : IsSteady (w.views t).phase v.phase = steady_to stays.0 stays.1 in (
+          each_part w.words v same refl (good Superblock) refl (good Nodes) (owner_same c w t lt good v still)
+              (relies_on w.words (stays.2, stays.3)) fits
+              (λ m lm. subst (Mount m (w.words.flags m) w.words.remount w.words.sb) (sym (ap (role_of m) is)) (own m lm)),
+          shown_still c w t lt w.words v refl refl refl refl refl refl still.closing_same same.0 same.1,
+        )
+
+    -- an event on the flags of one mount, which leaves READONLY
+    pub flags_change : (at f : ℕ) → Stays s' (remount_sets s) w.words.stage w.words.sb → ro_bit f ≡ ro_bit (w.words.flags at) →
+        (at < c.mounts → Mount at f w.words.remount w.words.sb (remount_role at s')) →
+        ((m : ℕ) → (m ≡ at → ⊥) → remount_role m s' ≡ remount_role m s) →
+        let ws : Words = record w.words { flags = update w.words.flags at f } in
+        PartsHold ws v × (shown c (record { words = ws; views = update w.views t v }) ≡ shown c w)
+    flags_change at f stays ro here there =
+        let ws : Words = record w.words { flags = update w.words.flags at f } in
+        let still : IsSteady (w.views t).phase v.phase = steady_to stays.0 stays.1 in (
+          each_part ws v same refl (good Superblock) refl (good Nodes) (owner_same c w t lt good v still)
+              (relies_on ws (stays.2, stays.3)) fits
+              (λ m lm. subst (Mount m (update w.words.flags at f m) w.words.remount w.words.sb) (sym (ap (role_of m) is))
+              (elim (eqb_tells m at) [
+                | inl q ↦ subst (λ y. Mount y (update w.words.flags at f y) w.words.remount w.words.sb (remount_role y s')) (sym q.1)
+                    (subst (λ k. Mount at k w.words.remount w.words.sb (remount_role at s')) (sym (update_at w.words.flags at f))
+                    (here (omega (arith, q.1, lm))))
+                | inr q ↦ subst (λ k. Mount m k w.words.remount w.words.sb (remount_role m s')) (sym (update_off w.words.flags at f m q.1))
+                    (mount_stays m lm (remount_role m s') (there m q.1))
+              ])),
+          seal_shown ws v (w.words.remount == 1 || w.words.sb == 1) refl
+              (update_map (λ y. ro_bit y == 1) w.words.flags at f ∙
+              ap (update (λ m. ro_bit (w.words.flags m) == 1) at) (ap (λ y. y == 1) ro) ∙
+              update_same (λ m. ro_bit (w.words.flags m) == 1) at)
+              refl refl still.closing_same same refl,
+        )
+
+    -- a store of `remount` or of the superblock's flags
+    pub stores : (set sealing : ℕ) (b : Bool) → sealing ≤ 1 → Stays s' set w.words.stage sealing → (set == 1 || sealing == 1) ≡ b →
+        ((m : ℕ) → m < c.mounts → Mount m (w.words.flags m) set sealing (remount_role m s')) →
+        let ws : Words = record w.words { remount = set; sb = sealing } in
+        PartsHold ws v × (shown c (record { words = ws; views = update w.views t v }) ≡ record (shown c w) { sb_ro = b })
+    stores set sealing b bit stays shows own =
+        let ws : Words = record w.words { remount = set; sb = sealing } in (
+          each_part ws v same refl bit refl (good Nodes)
+              (remount_stored c w good t lt set v (ap owns e ∙ o) (ap owns is ∙ stays.0) (ap remounts is ∙ stays.1))
+              (relies_on ws (stays.2, stays.3)) fits
+              (λ m lm. subst (Mount m (w.words.flags m) set sealing) (sym (ap (role_of m) is)) (own m lm)),
+          seal_shown ws v b refl refl refl refl (λ i. ap (closing i) is ∙ sym (ap (closing i) e)) same shows,
+        )
+
+    -- an event on the word of a node, of a remount that has no role before and after it
+    pub node_changes : (n f : ℕ) → Stays s' (remount_sets s) w.words.stage w.words.sb → IsNode f →
+        ((m : ℕ) → remount_role m s' ≡ remount_role m s) →
+        let ws : Words = record w.words { node = update w.words.node n f } in
+        PartsHold ws v × (shown c (record { words = ws; views = update w.views t v }) ≡
+        record (shown c w) { tree = update (λ k. node_shown (w.words.node k)) n (node_shown f) })
+    node_changes n f stays node role =
+        let ws : Words = record w.words { node = update w.words.node n f } in
+        let still : IsSteady (w.views t).phase v.phase = steady_to stays.0 stays.1 in (
+          each_part ws v same refl (good Superblock) refl
+              (λ k. each_updated (λ y (word : ℕ). IsNode word) w.words.node n f k node (λ ne. good Nodes k))
+              (owner_same c w t lt good v still) (relies_on ws (stays.2, stays.3)) fits
+              (λ m lm. subst (Mount m (w.words.flags m) w.words.remount w.words.sb) (sym (ap (role_of m) is))
+              (mount_stays m lm (remount_role m s') (role m))),
+          shown_as c w t lt ws v refl still.closing_same ∙
+              (λ j. record (shown c w) {
+                mounts = (ap (update (λ y. held_at (w.views y)) t) same.0 ∙ update_same (λ y. held_at (w.views y)) t) j;
+                levels = (ap (update (λ y. holds_level (w.views y)) t) same.1 ∙ update_same (λ y. holds_level (w.views y)) t) j;
+                tree = update_map node_shown w.words.node n f j;
+              }),
+        )
+
+  -- a load by the owner, after which this step comes, as its event
+  pub load_event : (name : WordName) (hook : HookAnswer) (s' : RemountStep) → remount_owns s ≡ 1 →
+      Stays s' (remount_sets s) w.words.stage w.words.sb → RemountFits c s' →
+      ((m : ℕ) → m < c.mounts → Mount m (w.words.flags m) w.words.remount w.words.sb (remount_role m s')) →
+      let coming : Next Phase = Go (Remounts (at_remount x s')) in
+      ((part : Part) → is_known part ≡ false → Holds c (after_load w t name hook coming) part) ×
+      (shown c (after_load w t name hook coming) ≡ shown c w)
+  load_event name hook s' o stays fit own =
+      let v : View = view_with (w.views t) (name, Load) (read w.words name) hook (Go (Remounts (at_remount x s')), None) in
+      let f : PhaseFits c t (held_at (w.views t)) (holds_level (w.views t)) (Remounts (at_remount x s)) = here_fits in
+      subst (λ ws. let next_world : World = record { words = ws; views = update w.views t v } in
+      ((part : Part) → is_known part ≡ false → Holds c next_world part) × (shown c next_world ≡ shown c w)) (sym (load_same w.words name))
+      (loads o s' v refl (refl, refl, added_load name (added_by (w.views t).events), taken_load name (taken_by (w.views t).events))
+      (f.0, f.1, f.2, f.3, f.4, fit) stays own)
+
+  -- an event on `umount`, of a task that has no role before and after it, and relies on nothing after it
+  pub umount_changes : (n : ℕ) (v : View) → SameCounts v → ViewFits c t v →
+      OwnerHolds c.tasks n w.words.remount (λ y. (update w.views t v y).phase) →
+      Holds c (record { words = w.words; views = update w.views t v }) Relying →
+      ((m : ℕ) → role_of m v.phase ≡ remount_role m s) → ((i : ℕ) → closing i v.phase ≡ 0) →
+      let ws : Words = record w.words { umount = n } in
+      PartsHold ws v × (shown c (record { words = ws; views = update w.views t v }) ≡ shown c w)
+  umount_changes n v same fits owner relying role close =
+      let ws : Words = record w.words { umount = n } in (
+        each_part ws v same refl (good Superblock) refl (good Nodes) owner relying fits
+            (λ m lm. mount_stays m lm (role_of m v.phase) (role m)),
+        shown_still c w t lt ws v refl refl refl refl refl refl (λ i. close i ∙ sym (ap (closing i) e)) same.0 same.1,
+      )
