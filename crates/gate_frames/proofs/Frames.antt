@@ -17,9 +17,11 @@ use Rattle.gate_world.specs.Views.{held_at, holds_level, added_after, taken_afte
 use Rattle.gate_world.specs.Worlds.{World}
 use Rattle.gate_world.specs.Shown.{shown, closing, is_passed, node_shown}
 use Rattle.gate_world.specs.Fits.{Fits}
-use Rattle.gate_world.specs.Rules.{role_if, at_mount, owns, remounts, IsSteady, OwnerHolds, ViewFits, Part, Owner, Superblock, Stages, Fitting, AtMount, Holds, SameWords, SameView, GatesHold, IsGood, Known}
+use Rattle.gate_world.specs.Rules.{role_if, at_mount, owns, remounts, IsSteady, OwnerHolds, ViewFits, Part, Owner, Superblock, Stages, Fitting, AtMount, Holds, SameWords, SameView, GatesHold, IsGood, Known, relied, Relying, Nodes}
 use Rattle.gate_world.specs.Owners.{KnowsWords}
 use Rattle.gate_frames.proofs.Known.{known_same}
+use Rattle.gate_world.specs.Remounts.{Reliance, IsThere, IsKnown}
+use Rattle.gated_tree.specs.Nodes.{IsNode}
 
 -- a load counts nowhere
 pub added_load : (name : WordName) (added : ℕ → ℕ → ℕ) → added_after name Load added ≡ added

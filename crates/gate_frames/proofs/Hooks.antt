@@ -1,4 +1,17 @@
 -- An event that reads no hook's answer is the same whatever a hook answers.
+use Rattle.mount_counts.specs.declared.phases.MountPhase.{MountPhase}
+use Rattle.mount_counts.specs.declared.remounts.Remount.{Remount}
+use Rattle.gate_world.specs.declared.work.Phase.{Phase}
+use Rattle.cpu_words.specs.Hooks.{HookAnswer}
+use Rattle.mount_counts.specs.declared.remounts.RemountStep.{RemountStep}
+use Rattle.gate_world.specs.Work.{IgnoresAnswer, remount_hook, hook_of}
+use Rattle.std.proofs.Common.{ℕ, ◌≡◌, None, ap, true≢false, is_some, refl}
+use Rattle.mount_counts.specs.Phases.{next, after}
+use Rattle.gate_world.specs.declared.work.Phase.TheVariants.{Mounts, Remounts}
+use Rattle.mount_counts.specs.declared.phases.MountPhase.TheVariants.{Want as Wants, Drop as Drops, Change as Changes}
+use Rattle.mount_counts.specs.Remounts.{remount_next, remount_after}
+use Rattle.access_model.specs.Replies.{map_next}
+use Rattle.mount_counts.specs.declared.remounts.RemountStep.TheVariants.{SetsWritable, SetsReadOnly}
 
 mount_ignores : (x : MountPhase) (a b : HookAnswer) (found : ℕ) → (next x a ≡ next x b) × (after x found a ≡ after x found b)
 mount_ignores (Wants x) a b found = (refl, refl)

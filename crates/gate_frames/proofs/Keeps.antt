@@ -15,7 +15,7 @@ use Rattle.gate_world.specs.Views.{phase_after, held_at, holds_level}
 use Rattle.gate_world.specs.Work.{next_of, after_of}
 use Rattle.gate_world.specs.Operations.{holds_none}
 use Rattle.gate_world.specs.Fits.{PhaseFits, Fits, ActionFits, mounts_by, levels_by}
-use Rattle.gate_world.specs.Rules.{IsGood, StepKeeps, role_of, IsSteady}
+use Rattle.gate_world.specs.Rules.{IsGood, StepKeeps, role_of, IsSteady, relied}
 use Rattle.mount_counts.specs.Roles.{Out}
 use Rattle.gate_world.specs.Causes.{all_counted, HasCause}
 use Rattle.gate_world.specs.KeptCauses.{CauseOf}
@@ -27,6 +27,7 @@ use Rattle.gate_world.specs.declared.operations.Op.{Op}
 use Rattle.gate_world.specs.declared.views.Traced.{Traced}
 use Rattle.gate_world.specs.Courses.{course_of, IsTrace}
 use Rattle.gate_world.specs.Traces.{Tells, IsShort, most_events}
+use Rattle.gate_world.specs.Remounts.{on_nothing}
 
 pub by_bool : (b : Bool) (P : Bool → Type 0) → P true → P false → P b
 by_bool true P x y = x

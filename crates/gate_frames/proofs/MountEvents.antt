@@ -1,7 +1,7 @@
 -- What the events of want, drop and change touch: the rest of the rule stays.
 use Rattle.gate_frames.proofs.Frames.{left_alone}
-use Rattle.gate_world.specs.Rules.{AtMount, Fitting, Holds, IsGood, Known, Owner, Part, SameView, SameWords, Stages, StepKeeps, Superblock, at_gates, change_owns, owns, GateStepKeeps}
-use Rattle.std.proofs.Common.{Bool, arith, inl, inr, refl, sym, true, true≢false, ◌≡◌, ◌<◌, ◌⊎◌, subst, ℕ}
+use Rattle.gate_world.specs.Rules.{AtMount, Fitting, Holds, IsGood, Known, Owner, Part, SameView, SameWords, Stages, StepKeeps, Superblock, at_gates, change_owns, owns, GateStepKeeps, Relying, relied, Nodes}
+use Rattle.std.proofs.Common.{Bool, arith, inl, inr, refl, sym, true, true≢false, ◌≡◌, ◌<◌, ◌⊎◌, subst, ℕ, ◌∙◌, ap}
 use Rattle.mount_counts.specs.declared.phases.Change.{Change}
 use Rattle.mount_counts.specs.declared.phases.ChangeStep.{ChangeStep}
 use Rattle.mount_counts.specs.declared.phases.MountPhase.TheVariants.{Change as Changes, Drop as Drops, Want as Wants}
@@ -12,7 +12,7 @@ use Rattle.cpu_words.specs.Hooks.{HookAnswer}
 use Rattle.gate_frames.proofs.Known.{IsOwnersWork, known_after}
 use Rattle.cpu_words.specs.declared.events.Touch.TheVariants.{Load}
 use Rattle.mount_counts.specs.declared.phases.ChangeStep.TheVariants.{LoadsSuperblock as LoadsSb, Locks, Sums}
-use Rattle.cpu_words.specs.declared.names.WordName.TheVariants.{MountCount, MountFlags, Stage, Umount}
+use Rattle.cpu_words.specs.declared.names.WordName.TheVariants.{MountCount, MountFlags, Stage, Umount, Node, SbFlags}
 use Rattle.mount_counts.specs.declared.phases.MountPhase.{MountPhase}
 use Rattle.gate_world.specs.declared.work.Phase.TheVariants.{Mounts}
 use Rattle.access_model.specs.declared.replies.Next.{Next}
@@ -25,13 +25,14 @@ use Rattle.cpu_words.specs.declared.names.WordName.{WordName}
 use Rattle.cpu_words.specs.Words.{Words, put, read}
 use Rattle.gate_world.specs.Worlds.{World, after_step, found_at, value_at, words_after}
 use Rattle.std.proofs.lemmas.Bool.{cases_Bool}
-use Rattle.mount_counts.specs.Phases.{change_after, change_next, lock_failed, want_after, want_next, next}
+use Rattle.mount_counts.specs.Phases.{change_after, change_next, lock_failed, want_after, want_next, next, after}
 use Rattle.cpu_words.specs.Touches.{event_of, found_by, left}
 use Rattle.gate_world.specs.Found.{is_load}
 use Rattle.gate_world.specs.Owners.{is_owned, takes_lock}
 use Rattle.gate_frames.proofs.Words.{load_same}
 use Rattle.access_model.specs.Replies.{map_next}
 use Rattle.gate_world.specs.Views.{phase_after, view_after}
+use Rattle.gate_world.specs.Remounts.{on_nothing}
 
 -- the words that want, drop and change write
 abbrev pub is_gate_word : WordName → Bool

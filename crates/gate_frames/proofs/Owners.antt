@@ -1,9 +1,9 @@
 -- What every owner of `umount` may rely on, and its events: under the lock, on the word `umount`, and on a mount's flags.
-use Rattle.std.proofs.Common.{◌≡◌, ℕ, suc, ◌+◌, ◌<◌, ◌≤◌, Bool, true, false, refl, ap, ◌∙◌, inl, inr, arith}
+use Rattle.std.proofs.Common.{◌≡◌, ℕ, suc, ◌+◌, ◌<◌, ◌≤◌, Bool, true, false, refl, ap, ◌∙◌, inl, inr, arith, subst, nat_lt, sym}
 use Rattle.std.specs.Prelude.{◌-◌, ◌==◌, Option, Some, None, Ok, Err}
 use Rattle.std.proofs.lemmas.Bool.Decides.{eqb_tells}
 use Rattle.finite_sums.specs.Sums.{update, total}
-use Rattle.finite_sums.proofs.Totals.{update_at, update_off, update_map, update_same, each_updated, total_updated, total_none, HasPlace, total_place}
+use Rattle.finite_sums.proofs.Totals.{update_at, update_off, update_map, update_same, each_updated, total_updated, total_none, HasPlace, total_place, total_at}
 use Rattle.cpu_words.specs.Words.{Words}
 use Rattle.mount_counts.specs.declared.phases.MountPhase.TheVariants.{Want as Wants, Drop as Drops, Change as Changes}
 use Rattle.mount_counts.specs.declared.phases.WantStep.TheVariants.{CountsUp}
@@ -13,13 +13,18 @@ use Rattle.mount_counts.specs.declared.phases.ChangeStep.TheVariants.{Locks, Cle
 use Rattle.mount_counts.specs.Roles.{Role, has_hold, skips, ro_bit, hold_bit}
 use Rattle.gate_world.specs.declared.config.Config.{Config}
 use Rattle.gate_world.specs.declared.work.Phase.{Phase}
-use Rattle.gate_world.specs.declared.work.Phase.TheVariants.{Mounts}
+use Rattle.gate_world.specs.declared.work.Phase.TheVariants.{Mounts, Remounts}
 use Rattle.gate_world.specs.declared.views.View.{View}
 use Rattle.gate_world.specs.Views.{held_at, holds_level, added_by, taken_by}
 use Rattle.gate_world.specs.Worlds.{World}
 use Rattle.gate_world.specs.Shown.{shown, closing}
-use Rattle.gate_world.specs.Rules.{want_role, change_role, role_if, role_of, at_mount, change_owns, owns, remounts, IsSteady, OwnerHolds, ViewFits, IsGood, Owner, AtMount, GatesHold}
+use Rattle.gate_world.specs.Rules.{want_role, change_role, role_if, role_of, at_mount, change_owns, owns, remounts, IsSteady, OwnerHolds, ViewFits, IsGood, Owner, AtMount, GatesHold, relied, Holds, Relying}
 use Rattle.gate_frames.proofs.Frames.{view_as, holds_as, MountHoldsAfter, owner_same, gates_after, shown_as, shown_still}
+use Rattle.mount_counts.specs.declared.remounts.RemountStep.{RemountStep}
+use Rattle.gate_world.specs.Remounts.{loop_role, held_role, giving_role, IsThere, remount_owns, summing_role, remount_role, remount_sets, on_nothing, remount_relies}
+use Rattle.cpu_words.specs.declared.sums.Sum.{Sum}
+use Rattle.mount_counts.specs.declared.remounts.RemountStep.TheVariants.{LoadsFlags as RemountLoads, SetsHold as RemountHolds, Sums as RemountSums, SetsRemount, ClearsHold as RemountClears, GivesUp, Locks as RemountLocks}
+use Rattle.mount_counts.specs.Sets.{has_mount}
 
 change_owns_le : (s : ChangeStep) → change_owns s ≤ 1
 change_owns_le Locks = omega arith

@@ -20,7 +20,7 @@ use Rattle.gate_world.specs.Views.{held_at, holds_level, phase_after, actions_af
 use Rattle.gate_world.specs.Fits.{Fits, mounts_by, levels_by}
 use Rattle.gate_world.specs.Worlds.{World}
 use Rattle.gate_world.specs.Shown.{shown}
-use Rattle.gate_world.specs.Rules.{ViewFits, Part, Owner, Superblock, Stages, Fitting, Known, AtMount, Holds, IsGood, Moves}
+use Rattle.gate_world.specs.Rules.{ViewFits, Part, Owner, Superblock, Stages, Fitting, Known, AtMount, Holds, IsGood, Moves, Relying, Nodes}
 use Rattle.gate_world.specs.Alike.{IsAlike, at_phase, rephased}
 use Rattle.gate_frames.proofs.Frames.{view_as, shown_still, left_alone}
 

@@ -18,7 +18,7 @@ use Rattle.gate_world.specs.Views.{view_with, view_after, view_after_beside}
 use Rattle.gate_world.specs.Worlds.{World, value_at, words_after, after_step, after_step_beside}
 use Rattle.gate_world.specs.Shown.{shown}
 use Rattle.gate_world.specs.Moments.{CompletesNow}
-use Rattle.gate_world.specs.Rules.{Part, Owner, Superblock, Stages, Fitting, Known, AtMount, Holds, IsGood}
+use Rattle.gate_world.specs.Rules.{Part, Owner, Superblock, Stages, Fitting, Known, AtMount, Holds, IsGood, Relying, Nodes}
 
 -- a view, and a world, without their snapshots
 abbrev bare_view : View → View

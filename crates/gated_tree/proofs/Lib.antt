@@ -1,2 +1,2 @@
 pub mod Packing
-pub mod Marks
+pub mod Cleared

@@ -104,13 +104,6 @@ word_returns word h =
       omega (arith, k, d, h.low, h.high),
     )
 
--- what a word of 64 bits unpacks to is a node that a word can say, the node of its fields, and has that word
-pub unpacked_returns : (word : ℕ) (node : NodeWord) → word < 18446744073709551616 → unpacked word ≡ Some node →
-    IsPacked word × (node ≡ node_of word) × IsLawful node × (word_of node ≡ word)
-unpacked_returns word node lt e =
-    let h : IsPacked word = unpacks_packed word node lt e in
-    let same : node_of word ≡ node = cc (packed_unpacks word h, e) in
-    (h, sym same, subst (λ n. IsLawful n × (word_of n ≡ word)) same (word_returns word h))
 
 -- what is made of something that may be missing is missing with it
 mapped : {A B : Type 0} (to : A → B) (missing : Bool) (a : A) → option_map to (if missing then None else Some a) ≡ (if missing then None else Some (to a))

@@ -234,7 +234,7 @@ module _ {tasks processors flags remount sb : ℕ} {count : ℕ → ℕ} {at : �
 
     -- an owner that has not HOLD set there has no more to do at the mount
     pub is_left : SeeksNone (at t).role → has_hold (at t).role ≡ 0 → Becomes Out flags
-    is_left none zero = keeps_read_only Out flags none (refl, refl) (good.bits, refl) (omega (arith, zero)) tt refl
+    is_left none free = keeps_read_only Out flags none (refl, refl) (good.bits, refl) (omega (arith, free)) tt refl
 
     -- HOLD is set, before the words are summed. Meets: a task adds before it looks for HOLD
     pub sets_hold : tasks ≤ 64 → processors ≤ 64 → 0 < processors → (at t).role ≡ Out → hold_bit flags ≡ 0 →

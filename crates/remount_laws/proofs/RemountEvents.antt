@@ -1,4 +1,13 @@
 -- The other events of a remount, and all of them as one law.
+use Rattle.mount_counts.specs.declared.remounts.RemountStep.TheVariants.{Locks, LoadsStage, LoadsSuperblock, SetsWritable, LoadsFlags, SetsHold, Sums, SetsRemount, ClearsHold, GivesUp, ClearsMark, SetsReadOnly, ClearsRemount, Releases}
+use Rattle.mount_counts.specs.declared.remounts.Remount.{Remount}
+use Rattle.cpu_words.specs.declared.names.WordName.TheVariants.{Remount as RemountWord, Node, Umount, Stage, SbFlags}
+use Rattle.access_model.specs.declared.replies.Reply.TheVariants.{Unit as UnitReply}
+use Rattle.mount_laws.proofs.MountLaws.{clears_hold as mount_clears_hold, stores as mount_stores}
+use Rattle.access_model.specs.Actions.{marked as marked_as}
+use Rattle.gate_world.specs.Rules.{Owner, Superblock, Relying, Nodes, AtMount}
+use Rattle.mount_counts.specs.Roles.{Out, Empty, Skipped}
+use Rattle.remount_laws.proofs.RemountParts.{RemountKeeps}
 
 module _ (c : Config) (lim : IsWithin c) (w : World) (good : IsGood c w) (t : ℕ) (lt : t < c.tasks) (x : Remount) where
   abbrev IsHere : RemountStep → Type 0

@@ -1,4 +1,6 @@
 -- What fits after an event of a remount.
+use Rattle.mount_counts.specs.declared.remounts.RemountStep.TheVariants.{Locks, LoadsStage, LoadsSuperblock, SetsWritable, LoadsFlags, SetsHold, Sums, SetsRemount, ClearsHold, GivesUp, ClearsMark, SetsReadOnly, ClearsRemount, Releases}
+use Rattle.mount_counts.specs.declared.remounts.Remount.{Remount}
 
 -- a mount joins the set, and the lowest leaves it
 pub joins_below : (m : ℕ) (held : MountSet) → m < 8 → AllBelow m held → AllBelow (m + 1) (with_mount held m)

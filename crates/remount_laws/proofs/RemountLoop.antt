@@ -1,4 +1,10 @@
 -- Events of a remount's loop over the mounts.
+use Rattle.mount_counts.specs.declared.remounts.RemountStep.TheVariants.{LoadsFlags, SetsHold, Sums, SetsRemount, ClearsHold, GivesUp, ClearsMark, SetsReadOnly, Releases}
+use Rattle.mount_counts.specs.declared.remounts.Remount.{Remount}
+use Rattle.mount_laws.proofs.MountLaws.{sets_hold as mount_sets_hold}
+use Rattle.gate_world.specs.Rules.{AtMount}
+use Rattle.mount_counts.specs.Roles.{Out, Summing}
+use Rattle.remount_laws.proofs.RemountParts.{RemountKeeps}
 
 -- what stays where the loop goes on, where holds are to be cleared, and where marks are
 past_mount_stays : (mounts m : ℕ) (held : MountSet) (stage sb : ℕ) → stage ≡ 0 → sb ≡ 0 → Stays (past_mount mounts m held) 0 stage sb

@@ -1,4 +1,8 @@
 -- What an event of a remount may leave: each part of the rule, and the shown model.
+use Rattle.mount_counts.specs.declared.remounts.RemountStep.TheVariants.{Locks}
+use Rattle.mount_counts.specs.declared.remounts.Remount.{Remount}
+use Rattle.gate_world.specs.Rules.{Owner, Superblock, Stages, Fitting, Known, Relying, Nodes, AtMount}
+use Rattle.remount_laws.proofs.RemountParts.{RemountKeeps}
 
 -- who changes an owned word is the owner, and a remount comes to own `umount` by taking it
 remount_changes : (x : Remount) (s : RemountStep) (hook : HookAnswer) → is_owned (remount_next x s hook).0 ≡ true →

@@ -1,4 +1,6 @@
 -- The roles of a remount at each mount.
+use Rattle.mount_counts.specs.declared.remounts.RemountStep.TheVariants.{LoadsFlags, SetsHold, Sums, SetsRemount, ClearsHold, GivesUp, ClearsMark, SetsReadOnly}
+use Rattle.mount_counts.specs.Roles.{Out, Summing}
 
 -- the roles of a remount seek no access
 loop_seeks : (a b : Bool) → SeeksNone (loop_role a b)
