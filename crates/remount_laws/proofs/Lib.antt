@@ -3,3 +3,4 @@ pub mod RemountFits
 pub mod RemountParts
 pub mod RemountLoop
 pub mod RemountEvents
+pub mod RemountTraces
