@@ -8,7 +8,7 @@ use Rattle.access_model.specs.Actions.{marked as marked_as}
 use Rattle.gate_world.specs.Rules.{Owner, Superblock, Relying, Nodes, AtMount, IsGood, at_mount, Holds, StepKeeps, MountHoldsIn, remounts, owns, role_of, relied, Part}
 use Rattle.mount_counts.specs.Roles.{Out, Empty, Skipped, has_hold, admitted, ro_bit, questions_of, skips, processor_of, past_flags}
 use Rattle.remount_laws.proofs.RemountParts.{RemountKeeps, here_fits, Mount, here_relies, Stays, umount_changes, role_stays, role_was, whole_remount, PartsHold, flags_change, load_event, node_changes, mount_stays, stores}
-use Rattle.std.proofs.Common.{refl, sym, ap, subst, inl, inr, true, false, arith, true≢false, ℕ, ◌<◌, Bool, ◌≡◌, Ok, Result, Some, ◌+◌, Err, nat_lt, not, ◌∷◌, le-ltb, ◌==◌, ◌∙◌, None, Option, ◌||◌, eq-eqb, ne_eqb, bit_and, option_map, eqb→eq}
+use Rattle.std.proofs.Common.{refl, sym, ap, subst, inl, inr, true, false, arith, true≢false, ℕ, ◌<◌, Bool, ◌≡◌, Ok, Result, Some, ◌+◌, Err, nat_lt, not, ◌∷◌, le-ltb, ◌==◌, ◌∙◌, None, Option, ◌||◌, eq-eqb, ne_eqb, bit_and, option_map}
 use Rattle.gate_world.specs.declared.config.Config.{Config}
 use Rattle.gate_world.specs.Configs.{IsWithin}
 use Rattle.gate_world.specs.Worlds.{World}
@@ -56,7 +56,11 @@ use Rattle.access_model.specs.States.{IsFile}
 
 -- the mark's bit of a word is its mark
 mark_set : (word : ℕ) → has_flag word 4 ≡ true → dirty_in word ≡ 1
-mark_set word h = omega (arith, and_pow word 2, eqb→eq (bit_and word 4) 4 h)
+mark_set word h =
+    elim (eqb_tells (bit_and word 4) 4) [
+      | inl z ↦ omega (arith, z.1, and_pow word 2)
+      | inr z ↦ absurd (true≢false (sym h ∙ z.0))
+    ]
 
 mark_clear : (word : ℕ) → has_flag word 4 ≡ false → dirty_in word ≡ 0
 mark_clear word h =
