@@ -71,6 +71,7 @@ want_op c m p wait = record {
       (ltb-true m c.mounts at.0, ltb-true p c.processors at.1, ltb-true (held m) 1024 room);
   no_role = λ t y. role_none y m;
   steady = λ t. record { owns_same = refl; remounts_same = refl; closing_same = λ i. refl };
+  relies = λ t. refl;
   cause = λ t w earlier. tt;
   order_agrees = λ f g h k mounts levels there. refl;
   room_agrees = λ f g mounts there. ap (λ y. nat_lt y 1024) (mounts m
@@ -88,6 +89,7 @@ drop_op c m p = record {
       (ltb-true m c.mounts at.0, ltb-true p c.processors at.1, ltb-true 0 (held m) order);
   no_role = λ t y. refl;
   steady = λ t. record { owns_same = refl; remounts_same = refl; closing_same = λ i. refl };
+  relies = λ t. refl;
   cause = λ t w earlier. tt;
   order_agrees = λ f g h k mounts levels there. ap (nat_lt 0) (mounts m
       (ltb-true m c.mounts (both (nat_lt m c.mounts) (nat_lt p c.processors) there).0));
