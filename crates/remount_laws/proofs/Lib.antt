@@ -3,3 +3,5 @@ pub mod RemountFits
 pub mod RemountParts
 pub mod RemountLoop
 pub mod RemountEvents
+pub mod RemountCauses
+pub mod RemountWaits
