@@ -4,3 +4,5 @@ pub mod RemountParts
 pub mod RemountLoop
 pub mod RemountEvents
 pub mod RemountTraces
+pub mod RemountCauses
+pub mod RemountWaits
