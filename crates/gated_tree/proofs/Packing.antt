@@ -5,7 +5,6 @@ use Rattle.std.proofs.lemmas.Bool.{eq-eqb, ne_eqb}
 use Rattle.std.proofs.lemmas.Bool.Decides.{eqb_tells, nat_tests}
 use Rattle.access_model.specs.declared.actions.Kind.{Kind}
 use Rattle.access_model.specs.declared.actions.Kind.TheVariants.{File, Dir}
-use Rattle.access_model.specs.declared.actions.NodeInfo.{NodeInfo}
 use Rattle.gated_tree.specs.declared.nodes.NodeWord.{NodeWord}
 use Rattle.gated_tree.specs.Nodes.{kind_in, dirty_in, parent_in, size_in, IsPacked, IsLawful, placed, kind_bits, mark_bit, word_of, kind_of, node_of, unpacked, info_of, node_shown}
 

@@ -1,5 +1,5 @@
 -- A snapshot of the tree: what it shows, and when it is sound and clean.
-use Rattle.std.specs.Prelude.{◌≡◌, ℕ, zero, suc, ◌<◌, ◌==◌, false, if◌then◌else◌, Option, Some, None, List, length, replicate, slice_index, slice_set}
+use Rattle.std.specs.Prelude.{◌≡◌, ℕ, zero, suc, ◌<◌, ◌==◌, false, if◌then◌else◌, Option, Some, None, length, replicate, slice_index, slice_set}
 use Rattle.finite_sums.specs.Sums.{total}
 use Rattle.access_model.specs.declared.actions.NodeInfo.{NodeInfo}
 use Rattle.access_model.specs.States.{size_of, is_dirty, IsDirectory}

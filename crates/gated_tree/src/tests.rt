@@ -9,6 +9,7 @@ use crate::snapshots::{Snapshot, SnapshotStep};
 use crate::trees::Tree;
 use access_model::{Action, GateError, Kind, Next, NodeInfo, Reply};
 use cpu_words::{Touch, WordName};
+use std::process::Abort;
 use std::test::Fail;
 
 /// A directory in the root; a file in the root of 4 blocks, dirty and clean; the same of 10 blocks, dirty.
