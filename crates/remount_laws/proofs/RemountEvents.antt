@@ -48,7 +48,7 @@ use Rattle.access_model.specs.declared.actions.Action.{Action}
 use Rattle.gate_frames.proofs.MountEvents.{is_known_part}
 use Rattle.gate_world.specs.Shown.{shown, node_shown}
 use Rattle.mount_laws.proofs.Bits.{without_hold, and_not_hold}
-use Rattle.gated_tree.proofs.Cleared.{without_mark, cleared_node, cleared_shown, clean_stays}
+use Rattle.gated_tree.proofs.ClearedMarks.{without_mark, cleared_node, cleared_shown, clean_stays}
 use Rattle.std.proofs.lemmas.Bool.{cases_Bool}
 use Rattle.mount_counts.specs.Phases.{has_flag}
 use Rattle.std.proofs.lemmas.Nat.Bits.{and_pow}
