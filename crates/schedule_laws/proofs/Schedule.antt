@@ -26,12 +26,13 @@ use Rattle.gate_world.specs.Views.{held_at, holds_level, begun_view}
 use Rattle.gate_world.specs.Beginnings.{first_phase, view_refusal}
 use Rattle.gate_world.specs.Worlds.{World, Entry, Begins, Steps, after_begin, begin_of, step_of, happens, phase_action, action_of, task_of, with_action, run, opening, history}
 use Rattle.gate_world.specs.Shown.{shown}
-use Rattle.gate_world.specs.Rules.{role_of, at_mount, MountHoldsIn, IsSteady, ViewFits, Part, Owner, Superblock, Stages, Fitting, AtMount, Holds, IsGood, Moves, owns, Known}
+use Rattle.gate_world.specs.Rules.{role_of, at_mount, MountHoldsIn, IsSteady, ViewFits, Part, Owner, Superblock, Stages, Fitting, AtMount, Holds, IsGood, Moves, owns, Known, relied, Relying, Nodes}
 use Rattle.gate_world.specs.Headline.{SumsHold, IdleSumsHold}
 use Rattle.schedule_laws.proofs.Layers.{phase_keeps, op_keeps}
 use Rattle.schedule_laws.proofs.Beginnings.{MayBegin, may_begin, first_fits}
 use Rattle.gate_frames.proofs.Frames.{view_as, left_alone, shown_still}
 use Rattle.gate_frames.proofs.Loads.{steady}
+use Rattle.gated_tree.specs.Nodes.{IsNode}
 
 pub both : (a b : Bool) → (a && b) ≡ true → (a ≡ true) × (b ≡ true)
 both true b h = (refl, h)
