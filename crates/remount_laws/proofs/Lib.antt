@@ -6,3 +6,4 @@ pub mod RemountEvents
 pub mod RemountTraces
 pub mod RemountCauses
 pub mod RemountWaits
+pub mod RemountKeeps
