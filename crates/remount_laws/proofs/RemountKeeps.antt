@@ -21,6 +21,7 @@ use Rattle.remount_laws.proofs.RemountCauses.{remount_counts, remount_stays, rem
 use Rattle.remount_laws.proofs.RemountWaits.{remount_waits}
 use Rattle.remount_laws.proofs.RemountTraces.{RemountAt, remount_kept, remount_restores}
 
+-- of each of its phases
 pub remount_phase : (c : Config) (x : Remount) → PhaseKeeps c (Remounts x)
 remount_phase c x = record {
   step = λ lim w good t lt hook e. remount_keeps c lim w good t lt hook x e;
@@ -41,6 +42,7 @@ remount_phase c x = record {
       subst (RemountCause c t w earlier) e h in k refl;
 }
 
+-- of its beginning and its trace
 pub remount_op : (c : Config) (ro : Bool) → OpKeeps c (RemountSb ro)
 remount_op c ro = record {
   fits = λ t held levels there order room. (refl, refl, refl, refl, order, tt);
