@@ -44,6 +44,7 @@ module _ (w : World) where
 
 -- a task whose view another entry leaves alone
 module _ (c : Config) (t : ℕ) (w next : World) (earlier : List World) (good : IsGood c next) where
+  -- the cause of each step stays
   pub change_kept : (m : ℕ) (ro wait : Bool) (task processors : ℕ) (s : ChangeStep) → m < c.mounts →
       (next.views t).phase ≡ Some (Mounts (change m ro wait task processors s)) →
       (w.views t).phase ≡ Some (Mounts (change m ro wait task processors s)) →
@@ -65,15 +66,18 @@ module _ (c : Config) (t : ℕ) (w next : World) (earlier : List World) (good : 
 -- the task that steps: what its next phase says, in the world after the event
 module _ (c : Config) (t : ℕ) (lt : t < c.tasks) (w next : World) (earlier : List World) (good : IsGood c w) (after : IsGood c next)
     (hook : HookAnswer) where
+  -- a change that is done is not refused
   not_busy : {A : Type 0} → Ok UnitReply ≡ Err Busy → A
   not_busy h = cc
 
+  -- nor is one whose state was found
   between_own : (m : ℕ) (ro b : Bool) → ChangeCause c t next (w ∷ earlier) m (step_between ro b)
   between_own m true true = λ r. not_busy r
   between_own m true false = tt
   between_own m false true = tt
   between_own m false false = λ r. not_busy r
 
+  -- a sum with one word more: it goes on, it was 0, or somebody was counted
   sum_own : (m : ℕ) (ro wait : Bool) (task processors : ℕ) (sum : Sum) →
       (w.views t).phase ≡ Some (Mounts (change m ro wait task processors (Sums sum))) →
       next.words.count m ≡ w.words.count m → ChangeCause c t w earlier m (Sums sum) →
@@ -103,6 +107,7 @@ module _ (c : Config) (t : ℕ) (lt : t < c.tasks) (w next : World) (earlier : L
             ]
       ]
 
+  -- what comes after an event has its cause
   pub change_own : (m : ℕ) (ro wait : Bool) (task processors : ℕ) (s : ChangeStep) → m < c.mounts →
       (w.views t).phase ≡ Some (Mounts (change m ro wait task processors s)) →
       next.words.count m ≡ w.words.count m → ChangeCause c t w earlier m s →

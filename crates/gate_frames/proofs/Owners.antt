@@ -225,8 +225,13 @@ module _ (c : Config) (w : World) (good : IsGood c w) (t : ℕ) (lt : t < c.task
   only_remount o =
       elim (eqb_tells (remounts (w.views t).phase) 0) [
         | inl z ↦ omega (arith, z.1, (good Owner).bit, (good Owner).remounting, no_remount o z.1)
-        | inr z ↦ omega (arith, z.1, (good Owner).bit, (good Owner).remounting,
-            total_at c.tasks t (λ x. remounts (w.views x).phase) lt)
+        | inr z ↦ omega (
+          arith,
+          z.1,
+          (good Owner).bit,
+          (good Owner).remounting,
+          total_at c.tasks t (λ x. remounts (w.views x).phase) lt,
+        )
       ]
 
   -- `remount` stands where this task has it set

@@ -72,6 +72,7 @@ module _ (c : Config) (t : ℕ) (w next : World) (earlier : List World) (good : 
         | inr busy ↦ inr (some_stays c t next (w ∷ earlier) (ap words_read e) busy)
       ]
 
+  -- so does the cause of each step
   pub remount_stays : (s : RemountStep) → RemountFits c s → (next.views t).phase ≡ Some (Remounts (at_remount x s)) →
       (w.views t).phase ≡ Some (Remounts (at_remount x s)) →
       ((m : ℕ) → all_counted c m w ≡ 0 → all_counted c m next ≡ 0 → next.words.count m ≡ w.words.count m) → RemountCause c t w earlier s →
@@ -88,20 +89,22 @@ module _ (c : Config) (t : ℕ) (w next : World) (earlier : List World) (after :
   abbrev CauseAfter : RemountStep → Type 0
   CauseAfter s = RemountCause c t next (w ∷ earlier) s
 
-  -- a remount that is done is not refused
+  -- a remount that is done is not refused as busy
   done_own : CauseAfter (Releases (Ok UnitReply))
   done_own r = absurd (cc)
 
-  -- nor is one that the file system refused refused as busy
+  -- nor is one that the file system refused
   hook_own : (code : ℕ) → CauseAfter (Releases (Err (Hook code)))
   hook_own code r = absurd (cc)
 
+  -- nor is one whose state was found
   from_own : (wanted found : Bool) → CauseAfter (remount_from wanted found)
   from_own true true = done_own
   from_own true false = tt
   from_own false true = tt
   from_own false false = done_own
 
+  -- a step to another mount, to a mark or to a hold to be cleared says nothing
   past_mount_own : (m : ℕ) (held : MountSet) → CauseAfter (past_mount x.mounts m held)
   past_mount_own m held =
       by_bool (nat_lt (m + 1) x.mounts) (λ b. CauseAfter (if b then LoadsFlags (m + 1) held else SetsRemount held)) tt tt
