@@ -33,6 +33,7 @@ use Rattle.schedule_laws.proofs.Beginnings.{MayBegin, may_begin, first_fits}
 use Rattle.gate_frames.proofs.Frames.{view_as, left_alone, shown_still}
 use Rattle.gate_frames.proofs.Loads.{steady}
 use Rattle.gated_tree.specs.Nodes.{IsNode}
+use Rattle.cpu_words.specs.Words.{opening_words}
 
 pub both : (a b : Bool) → (a && b) ≡ true → (a ≡ true) × (b ≡ true)
 both true b h = (refl, h)
