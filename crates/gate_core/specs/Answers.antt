@@ -5,11 +5,12 @@ use Rattle.access_model.specs.declared.replies.Next.{Next}
 use Rattle.access_model.specs.declared.replies.Next.TheVariants.{Go, Wait, Done}
 use Rattle.cpu_words.specs.Touches.{event_of}
 use Rattle.cpu_words.specs.Hooks.{HookAnswer}
+use Rattle.freeze_levels.specs.declared.hooks.HookKind.{HookKind}
 use Rattle.gate_world.specs.declared.config.Config.{Config}
 use Rattle.gate_world.specs.declared.operations.Op.{Op}
 use Rattle.gate_world.specs.declared.work.Phase.{Phase}
 use Rattle.gate_world.specs.Beginnings.{or_refusal}
-use Rattle.gate_world.specs.Work.{next_of, after_of}
+use Rattle.gate_world.specs.Work.{next_of, after_of, hook_of}
 use Rattle.gate_world.specs.Worlds.{World, begin_refusal, value_at, found_at}
 use Rattle.gate_core.specs.declared.steps.Progress.{Progress}
 use Rattle.gate_core.specs.declared.steps.Progress.TheVariants.{Idle, Going, Waiting, Done as Ended}
@@ -45,3 +46,12 @@ phase_step w hook (Some phase) = record {
 -- a step of a task, or of none
 abbrev pub step_answer : Config → World → ℕ → HookAnswer → Step
 step_answer c w t hook = if nat_lt t c.tasks then phase_step w hook (w.views t).phase else idle_step
+
+-- the hook whose answer the next event of an operation under way reads; an idle task has no next event
+abbrev pub asked_by : Option Phase → Option HookKind
+asked_by None = None
+asked_by (Some phase) = hook_of phase
+
+-- the hook whose answer the next step of a task reads, or of none
+abbrev pub wanted_hook : Config → World → ℕ → Option HookKind
+wanted_hook c w t = if nat_lt t c.tasks then asked_by (w.views t).phase else None

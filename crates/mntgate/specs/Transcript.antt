@@ -15,7 +15,8 @@ use Rattle.gate_world.specs.declared.config.Config.{Config}
 use Rattle.gate_world.specs.Worlds.{World, Entry, Begins, Steps, happens, action_of, task_of, with_action, opening}
 use Rattle.gate_core.specs.declared.steps.Progress.{Progress}
 use Rattle.gate_core.specs.declared.steps.Progress.TheVariants.{Idle, Going, Waiting, Done as Ended}
-use Rattle.gate_core.specs.Answers.{begin_answer, step_answer}
+use Rattle.gate_core.specs.Answers.{begin_answer, step_answer, wanted_hook}
+use Rattle.schedule_text.specs.declared.commands.HookFailure.{HookFailure}
 use Rattle.schedule_text.specs.declared.commands.Line.{Line}
 use Rattle.schedule_text.specs.declared.commands.Line.TheVariants.{Skipped, Config as ConfigLine, Request as RequestLine}
 use Rattle.schedule_text.specs.declared.commands.Request.{Request}
@@ -25,6 +26,7 @@ use Rattle.schedule_text.specs.declared.commands.TaskCommand.TheVariants.{Begin,
 use Rattle.schedule_text.specs.declared.faults.Fault.{Fault}
 use Rattle.schedule_text.specs.declared.faults.Fault.TheVariants.{TooManyLines, LineTooLong, CutOff, ConfigExpected, Refused}
 use Rattle.schedule_text.specs.declared.lines.Front.TheVariants.{Line as WholeLine, TooLong, Part}
+use Rattle.schedule_text.specs.Commands.{failing_answer}
 use Rattle.schedule_text.specs.Lines.{front_of}
 use Rattle.schedule_text.specs.Parsing.{parsed}
 use Rattle.schedule_text.specs.Printing.{word_line, refused_line, model_line, read_only_mount_line, held_mount_line, held_level_line, node_line}
@@ -151,31 +153,44 @@ begin_text t (Err refusal) = refused_line t refusal
 abbrev pub after_event : Play → ℕ → HookAnswer → Play
 after_event p t hook = played p (Steps t hook)
 
+-- what the hook answers that the next event of this task asks, where one may fail and all others answer Ok
+abbrev pub hook_answer : Play → ℕ → Option HookFailure → HookAnswer
+hook_answer p t None = Ok tt
+hook_answer p t (Some failure) = failing_answer failure (wanted_hook p.config p.world t)
+
+-- how this task's operation stands after its next event in a run where this hook may fail
+abbrev pub next_progress : Play → ℕ → Option HookFailure → Progress
+next_progress p t failure = (step_answer p.config p.world t (hook_answer p t failure)).progress
+
+-- the play after that event
+abbrev pub next_play : Play → ℕ → Option HookFailure → Play
+next_play p t failure = after_event p t (hook_answer p t failure)
+
 -- so many events, up to the reply or the first event that has to wait
-abbrev pub run_from : ℕ → Play → ℕ → HookAnswer → Progress × Play
-run_from zero p t hook = (Going, p)
-run_from (suc left) p t hook =
-    elim ((step_answer p.config p.world t hook).progress) [
-      | Idle ↦ (Idle, after_event p t hook)
-      | Going ↦ run_from left (after_event p t hook) t hook
-      | Waiting ↦ (Waiting, after_event p t hook)
-      | Ended answer ↦ (Ended answer, after_event p t hook)
+abbrev pub run_from : ℕ → Play → ℕ → Option HookFailure → Progress × Play
+run_from zero p t failure = (Going, p)
+run_from (suc left) p t failure =
+    elim (next_progress p t failure) [
+      | Idle ↦ (Idle, next_play p t failure)
+      | Going ↦ run_from left (next_play p t failure) t failure
+      | Waiting ↦ (Waiting, next_play p t failure)
+      | Ended answer ↦ (Ended answer, next_play p t failure)
     ]
 
--- a run: 1,000 events at most, where each hook answers this
-unfoldable pub run_of : Play → ℕ → HookAnswer → Progress × Play
-run_of p t hook = run_from 1000 p t hook
+-- a run: 1,000 events at most, where this hook may fail and all others answer Ok
+unfoldable pub run_of : Play → ℕ → Option HookFailure → Progress × Play
+run_of p t failure = run_from 1000 p t failure
 
 -- what a run prints, by how it ended and by the play then
 abbrev pub run_outcome : ℕ → Progress × Play → Outcome
 run_outcome t ran = outcome ran.1 (ended_text t ran.0 (used_now ran.1))
 
--- a command on a task; no operation asks for a hook yet, so a run's hooks all answer Ok, whichever is to fail
+-- a command on a task
 abbrev pub command_outcome : Play → ℕ → TaskCommand → Outcome
 command_outcome p t (Begin op) = outcome (played p (Begins t op)) (begin_text t (begin_answer p.config p.world t op))
 command_outcome p t (Step hook) =
     outcome (after_event p t hook) (step_text t (step_answer p.config p.world t hook) (used_now (after_event p t hook)))
-command_outcome p t (Run failure) = run_outcome t (run_of p t (Ok tt))
+command_outcome p t (Run failure) = run_outcome t (run_of p t failure)
 
 -- a request: what there is to print, or a command on a task
 abbrev pub request_outcome : Play → Request → Outcome

@@ -9,7 +9,7 @@ use access_model::{GateError, Model};
 use cpu_words::WordName;
 use gate_core::{Core, Progress, Step};
 use gate_world::{Config, Op};
-use schedule_text::{Fault, Output, Request, TaskCommand};
+use schedule_text::{Fault, HookFailure, Output, Request, TaskCommand};
 use std::alloc::{AllocError, Global};
 
 /// How many events a line `run` does at most.
@@ -42,7 +42,7 @@ impl CoreSession {
     ghost use Rattle.gate_world.specs.Worlds.{Begins, Steps};
     ghost use Rattle.mntgate.specs.Limits.{is_config};
     ghost use Rattle.mntgate.specs.CoreSessions.{ShowsPlay};
-    ghost use Rattle.mntgate.specs.Transcript.{Play, opening_play, played, used_now, begin_text, run_of, command_outcome, request_outcome, nonzero_line, words_text, mount_part, level_part, section_line, count_up, model_text, closed_line, task_text, tree_line, held_line, level_line};
+    ghost use Rattle.mntgate.specs.Transcript.{Play, opening_play, played, used_now, begin_text, hook_answer, run_of, command_outcome, request_outcome, nonzero_line, words_text, mount_part, level_part, section_line, count_up, model_text, closed_line, task_text, tree_line, held_line, level_line};
     ghost use Rattle.access_model.specs.Histories.{end_of};
     ghost use Rattle.cpu_words.specs.Names.{IsWord};
     ghost use Rattle.gate_world.specs.Configs.{extents_of};
@@ -106,9 +106,8 @@ impl CoreSession {
                 let step = self.step(task, hook)?;
                 print_step(out, task, step, self.used()).map_err(no_memory)
             }
-            // No operation asks for a hook yet, so which one is to fail makes no difference.
-            TaskCommand::Run { .. } => {
-                let ran = self.run(task, Ok(()))?;
+            TaskCommand::Run { failure } => {
+                let ran = self.run(task, failure)?;
                 print_ended(out, task, ran.progress, self.used()).map_err(no_memory)
             }
         }
@@ -139,14 +138,15 @@ impl CoreSession {
     }
 
     /// Goes on to the reply, or to the first event that finds that the task has to wait, or to the last event that one line
-    /// may do. Each hook that an event asks answers this.
-    fn run(&mut self, task: u8, hook: Result<(), u16>) -> Result<Ran, Fault>
+    /// may do. A hook may fail; all others answer Ok.
+    fn run(&mut self, task: u8, failure: Option<HookFailure>) -> Result<Ran, Fault>
         ensures few { IfOk result (λ ran. ran.events ≤ 1000) }
         ensures done { (p : Play) → ShowsPlay self.old p → IsOk result }
-        ensures progress { (p : Play) → ShowsPlay self.old p → IfOk result (λ ran. ran.progress ≡ (run_of p task hook).0) }
-        ensures shows { (p : Play) → ShowsPlay self.old p → ShowsPlay self.new (run_of p task hook).1 }
+        ensures progress { (p : Play) → ShowsPlay self.old p → IfOk result (λ ran. ran.progress ≡ (run_of p task failure).0) }
+        ensures shows { (p : Play) → ShowsPlay self.old p → ShowsPlay self.new (run_of p task failure).1 }
     {
         for events in 0..EVENTS {
+            let hook = self.hook_answer(task, failure);
             let progress = self.step(task, hook)?.progress;
             match progress {
                 Progress::Going => {}
@@ -163,6 +163,16 @@ impl CoreSession {
             events: EVENTS,
             progress: Progress::Going,
         })
+    }
+
+    /// What the hook answers that the next event of a task asks, where one may fail and all others answer Ok.
+    fn hook_answer(&self, task: u8, failure: Option<HookFailure>) -> Result<(), u16>
+        ensures { (p : Play) → ShowsPlay self.now p → result ≡ hook_answer p task failure }
+    {
+        match failure {
+            Some(failure) => failure.answer(self.core.wants_hook(task)),
+            None => Ok(()),
+        }
     }
 
     /// The blocks charged.

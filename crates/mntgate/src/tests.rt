@@ -2,6 +2,7 @@
 
 mod endings;
 mod fakes;
+mod remounts;
 
 use crate::replay::{ReplayFault, replay};
 use access_model::GateError;
@@ -243,7 +244,7 @@ static PRINTED: [(&str, &str); 10] = [
 ];
 
 /// Each schedule with the fault at which it ends.
-static FAULTS: [(&str, &str); 30] = [
+static FAULTS: [(&str, &str); 36] = [
     ("", "line 1: config expected"),
     ("config 1 1 1 2 8\n0 wa", "line 2: cut off"),
     ("config 0 1 1 2 8\n", "line 1: refused 22 Invalid"),
@@ -289,10 +290,28 @@ static FAULTS: [(&str, &str); 30] = [
     ("config 1 1 1 2 8\n0 step 65536\n", "line 2: bad number"),
     ("config 1 1 1 2 8\n0 change 0 up\n", "line 2: bad word"),
     ("config 1 1 1 2 8\n0 run write 5\n", "line 2: bad word"),
+    (
+        "config 1 1 1 2 8\n0 remount\n",
+        "line 2: wrong number of words",
+    ),
+    (
+        "config 1 1 1 2 8\n0 run sync\n",
+        "line 2: wrong number of words",
+    ),
+    (
+        "config 1 1 1 2 8\n0 step 1 1\n",
+        "line 2: wrong number of words",
+    ),
+    ("config 1 1 1 2 8\n0 remount up\n", "line 2: bad word"),
+    ("config 1 1 1 2 8\n0 run sync 0\n", "line 2: bad number"),
+    (
+        "config 1 1 1 2 8\n0 run unfreeze 65536\n",
+        "line 2: bad number",
+    ),
 ];
 
 /// Schedules whose last line has several faults, each with the first of them in the order of docs/SCHEDULES.md.
-static SEVERAL_FAULTS: [(&str, &str); 15] = [
+static SEVERAL_FAULTS: [(&str, &str); 17] = [
     ("words", "line 1: cut off"),
     ("config 1 1 1 2 8\n9 fly", "line 2: cut off"),
     ("fly x\n", "line 1: config expected"),
@@ -311,6 +330,11 @@ static SEVERAL_FAULTS: [(&str, &str); 15] = [
     ("config 1 1 1 2 8\n9 run write x\n", "line 2: no such task"),
     ("config 1 1 1 2 8\n0 run write x\n", "line 2: bad word"),
     ("config 1 1 1 2 8\n0 run sync x\n", "line 2: bad number"),
+    ("config 1 1 1 2 8\n9 remount up\n", "line 2: no such task"),
+    (
+        "config 1 1 1 2 8\n9 remount up x\n",
+        "line 2: wrong number of words",
+    ),
 ];
 
 #[test]

@@ -1,9 +1,11 @@
--- Words that name verbs and hooks.
-use Rattle.std.specs.Prelude.{ℕ, Bool, ◌==◌, ◌||◌, if◌then◌else◌, List, codes, Option, Some, None, bytes_eq}
+-- Words that name verbs and hooks, and what a hook answers that a schedule lets fail.
+use Rattle.std.specs.Prelude.{ℕ, Bool, true, false, ◌==◌, ◌||◌, if◌then◌else◌, List, codes, Option, Some, None, Ok, Err, bytes_eq}
+use Rattle.cpu_words.specs.Hooks.{HookAnswer}
+use Rattle.freeze_levels.specs.declared.hooks.HookKind.{HookKind}
+use Rattle.freeze_levels.specs.declared.hooks.HookKind.TheVariants.{Sync, FreezeFs, UnfreezeFs, Reconfigure}
+use Rattle.schedule_text.specs.declared.commands.HookFailure.{HookFailure}
 use Rattle.schedule_text.specs.declared.commands.Verb.{Verb}
-use Rattle.schedule_text.specs.declared.commands.Verb.TheVariants.{Want, TryWant, Drop, Change, TryChange, Step, Run}
-use Rattle.schedule_text.specs.declared.commands.Hook.{Hook}
-use Rattle.schedule_text.specs.declared.commands.Hook.TheVariants.{Sync, Freeze, Unfreeze, Reconfigure}
+use Rattle.schedule_text.specs.declared.commands.Verb.TheVariants.{Want, TryWant, Drop, Change, TryChange, Remount, Step, Run}
 
 -- the verb that a word names
 unfoldable pub verb_of : List ℕ → Option Verb
@@ -13,6 +15,7 @@ verb_of word =
     if bytes_eq word (codes "drop") then Some Drop else
     if bytes_eq word (codes "change") then Some Change else
     if bytes_eq word (codes "trychange") then Some TryChange else
+    if bytes_eq word (codes "remount") then Some Remount else
     if bytes_eq word (codes "step") then Some Step else
     if bytes_eq word (codes "run") then Some Run else None
 
@@ -23,13 +26,27 @@ takes TryWant words = words == 4
 takes Drop words = words == 4
 takes Change words = words == 4
 takes TryChange words = words == 4
+takes Remount words = words == 3
 takes Step words = words == 2 || words == 3
 takes Run words = words == 2 || words == 4
 
 -- the hook that a word names
-unfoldable pub hook_of : List ℕ → Option Hook
-hook_of word =
+unfoldable pub hook_named : List ℕ → Option HookKind
+hook_named word =
     if bytes_eq word (codes "sync") then Some Sync else
-    if bytes_eq word (codes "freeze") then Some Freeze else
-    if bytes_eq word (codes "unfreeze") then Some Unfreeze else
+    if bytes_eq word (codes "freeze") then Some FreezeFs else
+    if bytes_eq word (codes "unfreeze") then Some UnfreezeFs else
     if bytes_eq word (codes "reconfigure") then Some Reconfigure else None
+
+-- whether two hooks are one
+abbrev pub is_hook : HookKind → HookKind → Bool
+is_hook Sync Sync = true
+is_hook FreezeFs FreezeFs = true
+is_hook UnfreezeFs UnfreezeFs = true
+is_hook Reconfigure Reconfigure = true
+is_hook hook other = false
+
+-- what a hook answers that an event asks, where one fails and all others answer Ok; Ok where the event asks none
+abbrev pub failing_answer : HookFailure → Option HookKind → HookAnswer
+failing_answer failure None = Ok tt
+failing_answer failure (Some hook) = if is_hook hook failure.hook then Err failure.code else Ok tt

@@ -1,8 +1,8 @@
 -- What a line asks for, and the first fault of a line.
 use Rattle.std.specs.Prelude.{ℕ, Bool, true, false, not, ◌==◌, nat_lt, if◌then◌else◌, List, [], ◌∷◌, codes, bytes_eq, Option, Some, None, Result, Ok, Err, ok_or}
+use Rattle.freeze_levels.specs.declared.hooks.HookKind.{HookKind}
 use Rattle.gate_world.specs.declared.config.Config.{Config}
-use Rattle.gate_world.specs.declared.operations.Op.TheVariants.{Want as WantOp, DropMount, ChangeMount}
-use Rattle.schedule_text.specs.declared.commands.Hook.{Hook}
+use Rattle.gate_world.specs.declared.operations.Op.TheVariants.{Want as WantOp, DropMount, ChangeMount, RemountSb}
 use Rattle.schedule_text.specs.declared.commands.Line.{Line}
 use Rattle.schedule_text.specs.declared.commands.Line.TheVariants.{Skipped, Config as ConfigLine, Request as RequestLine}
 use Rattle.schedule_text.specs.declared.commands.Request.{Request}
@@ -10,12 +10,12 @@ use Rattle.schedule_text.specs.declared.commands.Request.TheVariants.{Words, Mod
 use Rattle.schedule_text.specs.declared.commands.TaskCommand.{TaskCommand}
 use Rattle.schedule_text.specs.declared.commands.TaskCommand.TheVariants.{Begin, Step as StepCommand, Run as RunCommand}
 use Rattle.schedule_text.specs.declared.commands.Verb.{Verb}
-use Rattle.schedule_text.specs.declared.commands.Verb.TheVariants.{Want, TryWant, Drop, Change, TryChange, Step, Run}
+use Rattle.schedule_text.specs.declared.commands.Verb.TheVariants.{Want, TryWant, Drop, Change, TryChange, Remount, Step, Run}
 use Rattle.schedule_text.specs.declared.faults.Fault.{Fault}
 use Rattle.schedule_text.specs.declared.faults.Fault.TheVariants.{ConfigExpected, ConfigTwice, UnknownCommand, WrongNumberOfWords, NoSuchTask, BadNumber, BadWord}
 use Rattle.schedule_text.specs.Numbers.{is_digits, number_of, byte_of, code_of}
 use Rattle.schedule_text.specs.Words.{first_word, after_word, word_count}
-use Rattle.schedule_text.specs.Commands.{verb_of, takes, hook_of}
+use Rattle.schedule_text.specs.Commands.{verb_of, takes, hook_named}
 
 -- one after the other, up to the first fault
 infixl 10 ◌>>=◌
@@ -48,8 +48,8 @@ unfoldable pub code_at : List ℕ → Result ℕ Fault
 code_at text = ok_or (code_of (first_word text)) BadNumber
 
 -- the hook that comes first
-unfoldable pub hook_at : List ℕ → Result Hook Fault
-hook_at text = ok_or (hook_of (first_word text)) BadWord
+unfoldable pub hook_at : List ℕ → Result HookKind Fault
+hook_at text = ok_or (hook_named (first_word text)) BadWord
 
 -- whether a word asks for read-only or for writable
 unfoldable pub read_only_of : List ℕ → Option Bool
@@ -91,6 +91,12 @@ change_of rest wait = do
   read_only ← read_only_at (after_word rest)
   Ok (Begin (ChangeMount mount read_only wait))
 
+-- the argument of `remount`: `ro` or `rw`
+unfoldable pub remount_of : List ℕ → Result TaskCommand Fault
+remount_of rest = do
+  read_only ← read_only_at rest
+  Ok (Begin (RemountSb read_only))
+
 -- the argument of `step`, where there is one: the code by which a hook fails
 unfoldable pub step_of : List ℕ → Result TaskCommand Fault
 step_of rest = do
@@ -111,6 +117,7 @@ arguments_of TryWant rest words = want_of rest false
 arguments_of Drop rest words = drop_of rest
 arguments_of Change rest words = change_of rest true
 arguments_of TryChange rest words = change_of rest false
+arguments_of Remount rest words = remount_of rest
 arguments_of Step rest words = if words == 2 then Ok (StepCommand (Ok tt)) else step_of rest
 arguments_of Run rest words = if words == 2 then Ok (RunCommand None) else run_of rest
 

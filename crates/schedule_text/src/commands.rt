@@ -1,22 +1,15 @@
 //! What a line asks for.
 
 ghost use Rattle.std.specs.Prelude.{◌≡◌};
+ghost use Rattle.schedule_text.specs.Commands.{hook_named};
 
+use freeze_levels::HookKind;
 use gate_world::{Config, Op};
 
-/// A hook of the file system that a schedule may let fail.
-#[derive(Clone, Copy, PartialEq, Eq, Debug)]
-pub enum Hook {
-    Sync,
-    Freeze,
-    Unfreeze,
-    Reconfigure,
-}
-
-/// That a hook answers a code in place of Ok.
+/// That a hook answers a code, from 1 to 65,535, in place of Ok.
 #[derive(Clone, Copy, PartialEq, Eq, Debug)]
 pub struct HookFailure {
-    pub hook: Hook,
+    pub hook: HookKind,
     pub code: u16,
 }
 
@@ -61,6 +54,7 @@ pub enum Verb {
     Drop,
     Change,
     TryChange,
+    Remount,
     Step,
     Run,
 }
@@ -83,6 +77,8 @@ impl Verb {
             Some(Verb::Change)
         } else if word == b"trychange".as_slice() {
             Some(Verb::TryChange)
+        } else if word == b"remount".as_slice() {
+            Some(Verb::Remount)
         } else if word == b"step".as_slice() {
             Some(Verb::Step)
         } else if word == b"run".as_slice() {
@@ -98,30 +94,41 @@ impl Verb {
     {
         match self {
             Verb::Want | Verb::TryWant | Verb::Drop | Verb::Change | Verb::TryChange => words == 4,
+            Verb::Remount => words == 3,
             Verb::Step => words == 2 || words == 3,
             Verb::Run => words == 2 || words == 4,
         }
     }
 }
 
-impl Hook {
-    ghost use Rattle.schedule_text.specs.Commands.{hook_of};
+impl HookFailure {
+    ghost use Rattle.schedule_text.specs.Commands.{failing_answer};
 
-    /// The hook that a word names.
-    #[tactic(auto, unfolding(crate::specs::Commands::hook_of))]
-    pub fn of(word: &[u8]) -> Option<Hook>
-        ensures { result ≡ hook_of word.now }
+    /// What a hook answers that an event asks, where this one fails and all others answer Ok; Ok where the event asks none.
+    pub fn answer(self, asked: Option<HookKind>) -> Result<(), u16>
+        ensures { result ≡ failing_answer self asked }
     {
-        if word == b"sync".as_slice() {
-            Some(Hook::Sync)
-        } else if word == b"freeze".as_slice() {
-            Some(Hook::Freeze)
-        } else if word == b"unfreeze".as_slice() {
-            Some(Hook::Unfreeze)
-        } else if word == b"reconfigure".as_slice() {
-            Some(Hook::Reconfigure)
-        } else {
-            None
+        match asked {
+            Some(hook) if hook == self.hook => Err(self.code),
+            _ => Ok(()),
         }
+    }
+}
+
+/// The hook that a word names.
+#[tactic(auto, unfolding(crate::specs::Commands::hook_named))]
+pub fn hook_named(word: &[u8]) -> Option<HookKind>
+    ensures { result ≡ hook_named word.now }
+{
+    if word == b"sync".as_slice() {
+        Some(HookKind::Sync)
+    } else if word == b"freeze".as_slice() {
+        Some(HookKind::FreezeFs)
+    } else if word == b"unfreeze".as_slice() {
+        Some(HookKind::UnfreezeFs)
+    } else if word == b"reconfigure".as_slice() {
+        Some(HookKind::Reconfigure)
+    } else {
+        None
     }
 }

@@ -11,7 +11,7 @@ pub mod output;
 pub mod parsing;
 pub mod words;
 
-pub use commands::{Hook, HookFailure, Line, Request, TaskCommand, Verb};
+pub use commands::{HookFailure, Line, Request, TaskCommand, Verb};
 pub use faults::Fault;
 pub use lines::{Front, LINE_BYTES, LINES, front_of};
 pub use output::Output;

@@ -1,12 +1,13 @@
 //! From a line to what it asks for.
 
 ghost use Rattle.std.specs.Prelude.{◌≡◌};
-ghost use Rattle.schedule_text.specs.Parsing.{parsed, is_skipped, config_line, config_of, command_line, alone, task_line, task_of, arguments_of, want_of, drop_of, change_of, step_of, run_of, number_at, byte_at, code_at, hook_at, read_only_at, read_only_of};
+ghost use Rattle.schedule_text.specs.Parsing.{parsed, is_skipped, config_line, config_of, command_line, alone, task_line, task_of, arguments_of, want_of, drop_of, change_of, remount_of, step_of, run_of, number_at, byte_at, code_at, hook_at, read_only_at, read_only_of};
 
-use crate::commands::{Hook, HookFailure, Line, Request, TaskCommand, Verb};
+use crate::commands::{HookFailure, Line, Request, TaskCommand, Verb, hook_named};
 use crate::faults::Fault;
 use crate::numbers::{byte_of, code_of, is_digits, number_of};
 use crate::words::{after_word, first_word, word_count};
+use freeze_levels::HookKind;
 use gate_world::{Config, Op};
 
 /// What a line asks for, where there are so many tasks, or where no configuration was given yet; or the first fault of the
@@ -141,6 +142,7 @@ fn arguments_of(verb: Verb, rest: &[u8], words: usize) -> Result<TaskCommand, Fa
         Verb::Drop => drop_of(rest),
         Verb::Change => change_of(rest, true),
         Verb::TryChange => change_of(rest, false),
+        Verb::Remount => remount_of(rest),
         Verb::Step => {
             if words == 2 {
                 Ok(TaskCommand::Step { hook: Ok(()) })
@@ -189,6 +191,14 @@ fn change_of(rest: &[u8], wait: bool) -> Result<TaskCommand, Fault>
     }))
 }
 
+#[tactic(auto, unfolding(crate::specs::Parsing::remount_of))]
+fn remount_of(rest: &[u8]) -> Result<TaskCommand, Fault>
+    ensures { result ≡ remount_of rest.now }
+{
+    let read_only = read_only_at(rest)?;
+    Ok(TaskCommand::Begin(Op::RemountSb { read_only }))
+}
+
 #[tactic(auto, unfolding(crate::specs::Parsing::step_of))]
 fn step_of(rest: &[u8]) -> Result<TaskCommand, Fault>
     ensures { result ≡ step_of rest.now }
@@ -234,10 +244,10 @@ fn code_at(text: &[u8]) -> Result<u16, Fault>
 
 /// The hook that comes first.
 #[tactic(auto, unfolding(crate::specs::Parsing::hook_at))]
-fn hook_at(text: &[u8]) -> Result<Hook, Fault>
+fn hook_at(text: &[u8]) -> Result<HookKind, Fault>
     ensures { result ≡ hook_at text.now }
 {
-    Hook::of(first_word(text)).ok_or(Fault::BadWord)
+    hook_named(first_word(text)).ok_or(Fault::BadWord)
 }
 
 /// `ro` or `rw`, which comes first.

@@ -5,4 +5,4 @@ use Rattle.mntgate.proofs.core_session.CoreSession.run.Given as goal
 
 -- the run is on its way from the play at which it began
 abbrev pub invariant-loop-events : goal.invariant-loop-events
-invariant-loop-events l = (p : Play) → ShowsPlay l.initial.self p → OnTheWay l.self p l.task l.hook l.events
+invariant-loop-events l = (p : Play) → ShowsPlay l.initial.self p → OnTheWay l.self p l.task l.failure l.events
