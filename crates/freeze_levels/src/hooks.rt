@@ -16,6 +16,26 @@ pub trait FsHooks {
     fn reconfigure(&mut self, read_only: bool) -> Result<(), u16>;
 }
 
+/// A file system of which nothing is to be done: each hook answers Ok.
+impl FsHooks for () {
+    fn sync(&mut self) -> Result<(), u16> {
+        Ok(())
+    }
+
+    fn freeze_fs(&mut self) -> Result<(), u16> {
+        Ok(())
+    }
+
+    fn unfreeze_fs(&mut self) -> Result<(), u16> {
+        Ok(())
+    }
+
+    fn reconfigure(&mut self, read_only: bool) -> Result<(), u16> {
+        let _ = read_only;
+        Ok(())
+    }
+}
+
 /// Which hook an event reads the answer of.
 #[derive(Clone, Copy, PartialEq, Eq, Debug)]
 pub enum HookKind {

@@ -11,6 +11,7 @@ use crate::numbers::{Numbers, are_all, others_of};
 use crate::rooms::Rooms;
 use crate::turns::{Turn, do_event};
 use access_model::GateError;
+use freeze_levels::HookKind;
 use gate_core::seats::Seat as Kept;
 use gate_core::{Progress, Step};
 use gate_steps::Items;
@@ -56,7 +57,7 @@ impl Model for Task {
 
 impl Task {
     ghost use Rattle.vfs_gates.specs.Room.{HasSnapshotRoom};
-    ghost use Rattle.gate_core.specs.Answers.{idle_step, unless_refused};
+    ghost use Rattle.gate_core.specs.Answers.{idle_step, unless_refused, asked_by};
     ghost use Rattle.gate_world.specs.Beginnings.{first_phase as the_first_phase};
     ghost use Rattle.gate_world.specs.Views.{held_at, holds_level as has_level};
     ghost use Rattle.vfs_gates.specs.TaskStates.{task_state, IsFrom, own_number, own_view, refusal_at, IsIdle, HoldsNothing};
@@ -132,6 +133,13 @@ impl Task {
         self.begins = Some(op);
         self.kept.phase = Some(phase);
         Ok(())
+    }
+
+    /// The hook whose answer the next step reads; None where that is the same whatever a hook answers, and where the task is idle.
+    pub fn wants_hook(&self) -> Option<HookKind>
+        ensures { result ≡ asked_by self.now.phase }
+    {
+        self.kept.phase?.wants_hook()
     }
 
     /// Does the next event of the operation that has begun, in one atomic step, where a hook of the file system answers this. An idle

@@ -7,6 +7,7 @@ use crate::gates::Gates;
 use crate::task::Task;
 use access_model::{GateError, Reply};
 use crossbeam_utils::Backoff;
+use freeze_levels::FsHooks;
 use gate_core::Progress;
 use gate_world::Op;
 use std::sync::Wait;
@@ -20,18 +21,27 @@ fn pause(backoff: &Backoff, progress: Progress) {
 }
 
 impl Task {
-    ghost use Rattle.gate_world.specs.declared.operations.Op.TheVariants.{Want, ChangeMount};
+    ghost use Rattle.gate_world.specs.declared.operations.Op.TheVariants.{Want, ChangeMount, RemountSb};
     ghost use Rattle.vfs_gates.specs.TaskStates.{IsFrom};
     ghost use Rattle.vfs_gates.specs.Runs.{the_reply, Replies, Performs};
 
-    /// Begins an operation, and does its events until it replies, however long it has to wait. Where one reads a hook of the file
-    /// system, the hook answers this.
-    fn perform_waiting<R: Wait>(
+    /// What the hook answers whose answer the next step reads; Ok where it reads none. A remount asks for read-only or writable.
+    fn ask<H: FsHooks>(&self, hooks: &mut H, read_only: bool) -> Result<(), u16> {
+        match self.wants_hook() {
+            Some(kind) => kind.ask(hooks, read_only),
+            None => Ok(()),
+        }
+    }
+
+    /// Begins an operation, and does its events until it replies, however long it has to wait. A hook of the file system is asked
+    /// once, before the step that reads its answer.
+    fn perform_waiting<R: Wait, H: FsHooks>(
         &mut self,
         rt: &R,
         gates: &Gates,
         op: Op,
-        hook: Result<(), u16>,
+        hooks: &mut H,
+        read_only: bool,
     ) -> Result<Reply, GateError>
         requires { IsFrom self.old gates.now }
         ensures { Replies the_reply op self.old self.new result }
@@ -39,6 +49,7 @@ impl Task {
         self.begin(op)?;
         let backoff = Backoff::new();
         for _ in rt.forever() {
+            let hook = self.ask(hooks, read_only);
             let step = self.step(gates, hook);
             if let Progress::Done(answer) = step.progress {
                 return answer;
@@ -66,7 +77,7 @@ impl Task {
             cpu,
             wait: true,
         };
-        outcome(self.perform_waiting(rt, gates, want, Ok(())))
+        outcome(self.perform_waiting(rt, gates, want, &mut (), false))
     }
 
     /// `mnt_make_readonly`, or its undoing. While another task has `umount` it waits. Busy where writers are counted at the mount.
@@ -87,6 +98,26 @@ impl Task {
             read_only,
             wait: true,
         };
-        outcome(self.perform_waiting(rt, gates, change, Ok(())))
+        outcome(self.perform_waiting(rt, gates, change, &mut (), false))
+    }
+
+    /// `reconfigure_super`: remounts the superblock read-only or writable. While another task has `umount` it waits. Busy where the
+    /// stage isn't 0, or, to read-only, where writers are counted at a mount. `FsHooks::reconfigure` is asked once, where the
+    /// superblock isn't as it is asked for: to read-only with nobody inside, dirty marks cleared and no new writer let in. Hook where
+    /// it fails, and then the superblock is as it was, but for the dirty marks. Order, where the task is inside a level, as `begin`.
+    /// After an Ok the superblock is as it was asked for, until another remount.
+    #[tactic(auto, using(crate::proofs::Running::was_told))]
+    pub fn remount_sb<R: Wait, H: FsHooks>(
+        &mut self,
+        rt: &R,
+        gates: &Gates,
+        read_only: bool,
+        hooks: &mut H,
+    ) -> Result<(), GateError>
+        requires { IsFrom self.old gates.now }
+        ensures { Performs (RemountSb read_only) self.old self.new result }
+    {
+        let remount = Op::RemountSb { read_only };
+        outcome(self.perform_waiting(rt, gates, remount, hooks, read_only))
     }
 }

@@ -12,14 +12,14 @@ pub returns-in-Done : goal.returns-in-Done
 returns-in-Done g c = let start = c.args.self.now in let now = c.loop in
     was_done the_reply c.args.op start c.step-step.new.self c.in-Done.answer c.in-Done.answer (sym (told_whole c.in-Done.answer))
     c.in_ok-begin.ensures.answer
-    (ends_there c.args.op start now.self c.step-step.new.self c.step-step.result c.args.hook now.invariant.goes c.step-step.ensures.event
+    (ends_there c.args.op start now.self c.step-step.new.self c.step-step.result c.ask-hook.result now.invariant.goes c.step-step.ensures.event
     (subst IsWithin (sym c.requires.1) c.args.gates.now.within) c.in-Done.answer c.in-Done.is)
 
 pub loop-preserved : goal.loop-preserved
 loop-preserved g c = let start = c.args.self.now in let now = c.loop in record {
   next = tt;
   finite = tt;
-  goes = goes_further c.args.op start now.self c.step-step.new.self c.step-step.result c.args.hook now.invariant.goes
+  goes = goes_further c.args.op start now.self c.step-step.new.self c.step-step.result c.ask-hook.result now.invariant.goes
       c.step-step.ensures.event c.in_default.not-Done;
 }
 
