@@ -1,8 +1,8 @@
--- Moments of a schedule: the last question, the moments of a sum, and what was counted.
+-- Moments of a schedule: the last question, the last look at the stage, the moments of a sum, and what was counted.
 use Rattle.cpu_words.specs.Sums.{lead, ahead}
 use Rattle.finite_sums.proofs.Totals.{total_at}
 use Rattle.finite_sums.specs.Sums.{total}
-use Rattle.gate_world.specs.Causes.{all_counted, was_counted, asks, last_question, words_read, moments_of_sum}
+use Rattle.gate_world.specs.Causes.{all_counted, was_counted, asks, last_question, looks_at_stage, last_look, words_read, moments_of_sum}
 use Rattle.gate_world.specs.Rules.{IsGood, AtMount, MountHoldsIn, at_mount}
 use Rattle.gate_world.specs.Worlds.{World}
 use Rattle.gate_world.specs.declared.config.Config.{Config}
@@ -21,13 +21,19 @@ pub or_true : (b : Bool) → (b || true) ≡ true
 or_true true = refl
 or_true false = refl
 
--- the last question and the moments of a sum, one world on
+-- the last question, the last look at the stage and the moments of a sum, one world on
 module _ (t : ℕ) (w : World) (earlier : List World) where
   pub question_skips : asks (w.views t).phase ≡ false → last_question t (w ∷ earlier) ≡ last_question t earlier
   question_skips h = rw h refl
 
   pub question_stands : asks (w.views t).phase ≡ true → last_question t (w ∷ earlier) ≡ Some w
   question_stands h = rw h refl
+
+  pub look_skips : looks_at_stage (w.views t).phase ≡ false → last_look t (w ∷ earlier) ≡ last_look t earlier
+  look_skips h = rw h refl
+
+  pub look_stands : looks_at_stage (w.views t).phase ≡ true → last_look t (w ∷ earlier) ≡ Some w
+  look_stands h = rw h refl
 
   pub sum_skips : words_read (w.views t).phase ≡ None → moments_of_sum t (w ∷ earlier) ≡ moments_of_sum t earlier
   sum_skips h = rw h refl

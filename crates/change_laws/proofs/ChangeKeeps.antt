@@ -19,7 +19,7 @@ use Rattle.gate_world.specs.KeptCauses.{ChangeCause}
 use Rattle.gate_world.specs.Worlds.{after_step}
 use Rattle.change_laws.proofs.Each.{change_keeps}
 use Rattle.change_laws.proofs.ChangeFits.{change_there, change_acts, change_goes}
-use Rattle.change_laws.proofs.ChangeCauses.{quiet_change, change_counts, change_kept, change_own}
+use Rattle.change_laws.proofs.ChangeCauses.{change_counts, change_kept, change_own}
 use Rattle.change_laws.proofs.ChangeWaits.{change_waits}
 use Rattle.change_laws.proofs.ChangeTraces.{ChangeAt, change_kept as change_traced}
 use Rattle.gate_world.specs.Views.{held_at, holds_level}
@@ -28,12 +28,13 @@ use Rattle.gate_world.specs.Rules.{Fitting}
 pub change_phase : (c : Config) (x : Change) → PhaseKeeps c (Mounts (Changes x))
 change_phase c x = record {
   step = λ lim w good t lt hook e. change_keeps c lim w good t lt hook x.mount x.read_only x.wait x.task x.processors x.step e;
-  completes = λ lim w good t lt hook e. completes_none c w t hook (Changes x);
+  completes = λ lim w good t lt hook e. completes_none c w t hook (Mounts (Changes x)) (λ trace found. refl);
   word = λ lim t held levels hook f. change_there c lim t held levels x x.step f.0 f.4;
   acts = λ lim t held levels found hook f. change_acts c lim t held levels x x.step found;
   goes = λ lim t held levels found hook f. change_goes c lim t held levels x x.step found f;
   agrees = λ t f g h k mounts levels fits. (fits.0, fits.1, fits.2, rw (← none_agree c t f g h k mounts levels) fits.3, fits.4);
-  quiet = λ w good t lt hook m e. quiet_change c w good t lt hook m x.mount x.read_only x.wait x.task x.processors x.step e;
+  quiet = λ w good t lt hook m e before after.
+      ap (λ f. f m) (change_counts w t hook x.mount x.read_only x.wait x.task x.processors x.step);
   stays = λ w next earlier after t f e was quiet h. change_kept c t w next earlier after x.mount x.read_only x.wait x.task x.processors
       x.step f.0 e was (quiet x.mount) h;
   causes = λ w earlier good t lt hook e after is h.
@@ -52,6 +53,7 @@ change_op c m ro wait = record {
   fits = λ t held levels there order room. (ltb-true m c.mounts there, refl, refl, order, tt);
   no_role = λ t y. role_none y m;
   steady = λ t. record { owns_same = refl; remounts_same = refl; closing_same = λ i. refl };
+  relies = λ t. refl;
   cause = λ t w earlier. tt;
   order_agrees = λ f g h k mounts levels there. none_agree c 0 f g h k mounts levels;
   room_agrees = λ f g mounts there. refl;

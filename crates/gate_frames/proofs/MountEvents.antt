@@ -63,11 +63,11 @@ mounts_touch (Drops m p) hook = inr refl
 mounts_touch (Changes x) hook = change_touches x x.step
 
 -- the part of what an owner knows, which each event's own trace moves
-abbrev is_known : Part → Bool
-is_known Known = true
-is_known part = false
+abbrev pub is_known_part : Part → Bool
+is_known_part Known = true
+is_known_part part = false
 
-known_is : (part : Part) → is_known part ≡ true → part ≡ Known
+pub known_is : (part : Part) → is_known_part part ≡ true → part ≡ Known
 known_is Known h = refl
 known_is part h = absurd (true≢false (sym h))
 
@@ -89,7 +89,7 @@ load_unread w word Load part h = subst (λ (ws : Words). SameWords w ws part) (s
 load_unread w word touch part h = absurd (true≢false (sym h))
 
 -- and the words of want, drop and change are none that the stage's part reads, nor what is relied on, nor a node's
-unread : (part : Part) → at_gates part ≡ false → is_known part ≡ false → (word : WordName) → is_gate_word word ≡ true →
+unread : (part : Part) → at_gates part ≡ false → is_known_part part ≡ false → (word : WordName) → is_gate_word word ≡ true →
     (w : Words) (n : ℕ) → SameWords w (put w word n) part
 unread Stages h k Stage q w n = absurd (true≢false (sym q))
 unread Stages h k word q w n = refl
@@ -102,7 +102,7 @@ unread Nodes h k word q w n = refl
 unread part h k word q w n = absurd (true≢false h)
 
 -- nor do they read what such an event changes of its task's view
-unseen : (part : Part) → at_gates part ≡ false → is_known part ≡ false → (old new : View) → relied new.phase ≡ relied old.phase →
+unseen : (part : Part) → at_gates part ≡ false → is_known_part part ≡ false → (old new : View) → relied new.phase ≡ relied old.phase →
     SameView old new part
 unseen Stages h k old new same = tt
 unseen Known h k old new same = absurd (true≢false k)
@@ -165,7 +165,7 @@ mounts_work w (Changes x) hook = record {
 -- what an event of want, drop or change leaves of the other parts
 others_hold : (c : Config) (w : World) (t : ℕ) → t < c.tasks → IsGood c w → (hook : HookAnswer) (x : MountPhase) →
     (w.views t).phase ≡ Some (Mounts x) →
-    (part : Part) → at_gates part ≡ false → (b : Bool) → is_known part ≡ b → Holds c (after_step w t (Mounts x) hook) part
+    (part : Part) → at_gates part ≡ false → (b : Bool) → is_known_part part ≡ b → Holds c (after_step w t (Mounts x) hook) part
 others_hold c w t lt good hook x e part h true k =
     subst (Holds c (after_step w t (Mounts x) hook)) (sym (known_is part k))
     (known_after c w t (Mounts x) hook good lt e (mounts_work w x hook))
@@ -187,7 +187,7 @@ whole_step c w t lt good hook x e keeps = (
   λ part.
       elim (cases_Bool (at_gates part)) [
         | inl h ↦ keeps.0 part h
-        | inr h ↦ others_hold c w t lt good hook x e part h (is_known part) refl
+        | inr h ↦ others_hold c w t lt good hook x e part h (is_known_part part) refl
       ],
   keeps.1,
 )

@@ -18,6 +18,7 @@ use Rattle.gate_world.specs.declared.views.View.{View}
 use Rattle.gate_world.specs.Views.{held_at, holds_level, added_by, taken_by}
 use Rattle.gate_world.specs.Worlds.{World}
 use Rattle.gate_world.specs.Shown.{shown, closing}
+use Rattle.gate_world.specs.Waits.{IsWaitedFor, HasCulprit}
 use Rattle.gate_world.specs.Rules.{want_role, change_role, role_if, role_of, at_mount, change_owns, owns, remounts, IsSteady, OwnerHolds, ViewFits, IsGood, Owner, AtMount, GatesHold, relied, Holds, Relying}
 use Rattle.gate_frames.proofs.Frames.{view_as, holds_as, MountHoldsAfter, owner_same, gates_after, shown_as, shown_still}
 use Rattle.mount_counts.specs.declared.remounts.RemountStep.{RemountStep}
@@ -169,15 +170,15 @@ module _ (c : Config) (w : World) (good : IsGood c w) (t : ℕ) (lt : t < c.task
         omega (arith, place.2, hold_owns m (w.views place.0).phase, owns_le (w.views place.0).phase),
       )
 
-  -- where `umount` is taken, another task has it, if this one has not
-  pub who_owns : (w.words.umount ≡ 0 → ⊥) → owns (w.views t).phase ≡ 0 →
-      (y : ℕ) × (y < c.tasks) × (y ≡ t → ⊥) × (owns (w.views y).phase ≡ 1)
-  who_owns taken mine =
+  -- where `umount` is taken, another task has it, if this one has not; so a phase that waits for who has it has a culprit
+  pub umount_taken : (phase : Phase) → ((y : ℕ) → owns (w.views y).phase ≡ 1 → IsWaitedFor w phase y) → (w.words.umount ≡ 0 → ⊥) →
+      owns (w.views t).phase ≡ 0 → HasCulprit c w t phase
+  umount_taken phase waits taken mine =
       let y : ℕ = w.words.umount - 1 in
       let is : w.words.umount ≡ suc y = omega (arith, taken) in
       let ly : y < c.tasks = omega (arith, is, (good Owner).known) in
       let own : owns (w.views y).phase ≡ 1 = (good Owner).owned y ly is in
-      (y, ly, λ same. omega (arith, own, mine, ap (λ x. owns (w.views x).phase) same), own)
+      record { task = y; there = ly; other = λ same. omega (arith, own, mine, ap (λ x. owns (w.views x).phase) same); stands = waits y own }
 
   -- the sum of who has `remount` set, where this task has as before
   remounts_same : (v : View) → remounts v.phase ≡ remounts (w.views t).phase →
@@ -224,8 +225,13 @@ module _ (c : Config) (w : World) (good : IsGood c w) (t : ℕ) (lt : t < c.task
   only_remount o =
       elim (eqb_tells (remounts (w.views t).phase) 0) [
         | inl z ↦ omega (arith, z.1, (good Owner).bit, (good Owner).remounting, no_remount o z.1)
-        | inr z ↦ omega (arith, z.1, (good Owner).bit, (good Owner).remounting,
-            total_at c.tasks t (λ x. remounts (w.views x).phase) lt)
+        | inr z ↦ omega (
+          arith,
+          z.1,
+          (good Owner).bit,
+          (good Owner).remounting,
+          total_at c.tasks t (λ x. remounts (w.views x).phase) lt,
+        )
       ]
 
   -- `remount` stands where this task has it set

@@ -8,14 +8,14 @@ use Rattle.finite_sums.specs.Sums.{update}
 use Rattle.cpu_words.specs.Words.{Words}
 use Rattle.cpu_words.specs.Touches.{found_by}
 use Rattle.cpu_words.specs.Hooks.{HookAnswer}
-use Rattle.mount_counts.specs.declared.phases.MountPhase.{MountPhase}
 use Rattle.gate_world.specs.declared.config.Config.{Config}
 use Rattle.gate_world.specs.declared.work.Phase.{Phase}
-use Rattle.gate_world.specs.declared.work.Phase.TheVariants.{Mounts}
 use Rattle.gate_world.specs.declared.views.View.{View}
+use Rattle.gate_world.specs.declared.views.Traced.{Traced}
+use Rattle.gate_world.specs.Snapshots.{completes}
 use Rattle.gate_world.specs.Work.{next_of, after_of}
 use Rattle.gate_world.specs.Views.{view_with, view_after, view_after_beside}
-use Rattle.gate_world.specs.Worlds.{World, value_at, words_after, after_step, after_step_beside}
+use Rattle.gate_world.specs.Worlds.{World, value_at, found_at, words_after, after_step, after_step_beside}
 use Rattle.gate_world.specs.Shown.{shown}
 use Rattle.gate_world.specs.Moments.{CompletesNow}
 use Rattle.gate_world.specs.Rules.{Part, Owner, Superblock, Stages, Fitting, Known, AtMount, Holds, IsGood, Relying, Nodes}
@@ -99,6 +99,8 @@ module _ (c : Config) (w : World) (t : ℕ) (phase : Phase) (hook : HookAnswer) 
   pub noted_shown : shown c (after_plain_step w t phase hook) ≡ shown c (after_step w t phase hook)
   noted_shown = shown_apart c (words_after w.words phase hook) w.views t plain noted refl
 
--- a phase of want, drop or change completes no snapshot
-pub completes_none : (c : Config) (w : World) (t : ℕ) (hook : HookAnswer) (x : MountPhase) → CompletesNow c w t hook (Mounts x)
-completes_none c w t hook x loaded e = absurd (true≢false (sym (ap is_some e)))
+-- a phase whose event completes no snapshot, whatever it finds
+pub completes_none : (c : Config) (w : World) (t : ℕ) (hook : HookAnswer) (phase : Phase) →
+    ((trace : List Traced) (found : ℕ) → completes phase trace found ≡ None) → CompletesNow c w t hook phase
+completes_none c w t hook phase none loaded e =
+    absurd (true≢false (sym (ap is_some e) ∙ ap is_some (none (w.views t).trace (found_at w.words phase hook))))

@@ -140,6 +140,7 @@ renewed_part c w good n lt Known = λ x lx.
     (λ o word value k. absurd (true≢false (ap is_some (sym k)))) (λ ne. good Known x lx)
 renewed_part c w good n lt Owner = left_alone c w n lt Owner w.words (renewed (w.views n)) (refl, refl) (refl, refl) (good Owner)
 renewed_part c w good n lt Fitting = left_alone c w n lt Fitting w.words (renewed (w.views n)) tt (refl, refl, refl) (good Fitting)
+renewed_part c w good n lt Relying = left_alone c w n lt Relying w.words (renewed (w.views n)) (refl, refl) refl (good Relying)
 renewed_part c w good n lt (AtMount m) =
     left_alone c w n lt (AtMount m) w.words (renewed (w.views n)) (refl, refl, refl, refl) refl (good (AtMount m))
 renewed_part c w good n lt part = left_alone c w n lt part w.words (renewed (w.views n)) refl tt (good part)

@@ -5,7 +5,6 @@ use Rattle.std.proofs.lemmas.Bool.{eq-eqb, ne_eqb}
 use Rattle.std.proofs.lemmas.Bool.Decides.{eqb_tells, nat_tests}
 use Rattle.access_model.specs.declared.actions.Kind.{Kind}
 use Rattle.access_model.specs.declared.actions.Kind.TheVariants.{File, Dir}
-use Rattle.access_model.specs.declared.actions.NodeInfo.{NodeInfo}
 use Rattle.gated_tree.specs.declared.nodes.NodeWord.{NodeWord}
 use Rattle.gated_tree.specs.Nodes.{kind_in, dirty_in, parent_in, size_in, IsPacked, IsLawful, placed, kind_bits, mark_bit, word_of, kind_of, node_of, unpacked, info_of, node_shown}
 
@@ -104,6 +103,14 @@ word_returns word h =
       omega (arith, k, d, h.low, h.high),
     )
 
+-- what a word of 64 bits unpacks to is a node that a word can say, the node of its fields, and has that word
+pub unpacked_returns : (word : ℕ) (node : NodeWord) → word < 18446744073709551616 → unpacked word ≡ Some node →
+    IsPacked word × (node ≡ node_of word) × IsLawful node × (word_of node ≡ word)
+unpacked_returns word node lt e =
+    let h : IsPacked word = unpacks_packed word node lt e in
+    let same : node_of word ≡ node = cc (packed_unpacks word h, e) in
+    let back : IsLawful node × (word_of node ≡ word) = subst (λ n. IsLawful n × (word_of n ≡ word)) same (word_returns word h) in
+    (h, sym same, back.0, back.1)
 
 -- what is made of something that may be missing is missing with it
 mapped : {A B : Type 0} (to : A → B) (missing : Bool) (a : A) → option_map to (if missing then None else Some a) ≡ (if missing then None else Some (to a))

@@ -1,6 +1,22 @@
-//! The tree behind the gates: its node words.
+//! The tree behind the gates: its node words, the orders of events of the calls that change it or take a snapshot of it, and what a
+//! snapshot loads. A phase says which event comes next, and what comes after it.
 #![tactic(auto)]
 
+pub mod changes;
+pub mod growth;
+pub mod marks;
 pub mod nodes;
+pub mod phases;
+pub mod snapshots;
+pub mod trees;
 
+pub use changes::{Create, CreateStep, MoveStep, MoveTo, Remove, RemoveStep};
+pub use growth::{Grow, GrowStep};
+pub use marks::{ClearMarks, Mark, MarkStep};
 pub use nodes::NodeWord;
+pub use phases::TreePhase;
+pub use snapshots::{Snapshot, SnapshotStep};
+pub use trees::{Tree, TreeWords};
+
+#[cfg(test)]
+mod tests;

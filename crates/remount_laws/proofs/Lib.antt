@@ -3,3 +3,7 @@ pub mod RemountFits
 pub mod RemountParts
 pub mod RemountLoop
 pub mod RemountEvents
+pub mod RemountTraces
+pub mod RemountCauses
+pub mod RemountWaits
+pub mod RemountKeeps

@@ -1,13 +1,73 @@
 -- The other events of a remount, and all of them as one law.
 use Rattle.mount_counts.specs.declared.remounts.RemountStep.TheVariants.{Locks, LoadsStage, LoadsSuperblock, SetsWritable, LoadsFlags, SetsHold, Sums, SetsRemount, ClearsHold, GivesUp, ClearsMark, SetsReadOnly, ClearsRemount, Releases}
 use Rattle.mount_counts.specs.declared.remounts.Remount.{Remount}
-use Rattle.cpu_words.specs.declared.names.WordName.TheVariants.{Remount as RemountWord, Node, Umount, Stage, SbFlags}
+use Rattle.cpu_words.specs.declared.names.WordName.TheVariants.{Remount as RemountWord, Node, Umount, Stage, SbFlags, MountFlags}
 use Rattle.access_model.specs.declared.replies.Reply.TheVariants.{Unit as UnitReply}
-use Rattle.mount_laws.proofs.MountLaws.{clears_hold as mount_clears_hold, stores as mount_stores}
+use Rattle.mount_laws.proofs.MountLaws.{clears_hold as mount_clears_hold, stores as mount_stores, empties, marks_empty, remounting, is_left, marks_skipped, closed, none_remounting, sealed, SeeksNone}
 use Rattle.access_model.specs.Actions.{marked as marked_as}
-use Rattle.gate_world.specs.Rules.{Owner, Superblock, Relying, Nodes, AtMount}
-use Rattle.mount_counts.specs.Roles.{Out, Empty, Skipped}
-use Rattle.remount_laws.proofs.RemountParts.{RemountKeeps}
+use Rattle.gate_world.specs.Rules.{Owner, Superblock, Relying, Nodes, AtMount, IsGood, at_mount, Holds, StepKeeps, MountHoldsIn, remounts, owns, role_of, relied, Part}
+use Rattle.mount_counts.specs.Roles.{Out, Empty, Skipped, has_hold, admitted, ro_bit, questions_of, skips, processor_of, past_flags}
+use Rattle.remount_laws.proofs.RemountParts.{RemountKeeps, here_fits, Mount, here_relies, Stays, umount_changes, role_stays, role_was, whole_remount, PartsHold, flags_change, load_event, node_changes, mount_stays, stores}
+use Rattle.std.proofs.Common.{refl, sym, ap, subst, inl, inr, true, false, arith, true≢false, ℕ, ◌<◌, Bool, ◌≡◌, Ok, Result, Some, ◌+◌, Err, nat_lt, not, ◌∷◌, le-ltb, ◌==◌, ◌∙◌, None, Option, ◌||◌, eq-eqb, ne_eqb, bit_and, option_map}
+use Rattle.gate_world.specs.declared.config.Config.{Config}
+use Rattle.gate_world.specs.Configs.{IsWithin}
+use Rattle.gate_world.specs.Worlds.{World}
+use Rattle.mount_counts.specs.declared.remounts.RemountStep.{RemountStep}
+use Rattle.cpu_words.specs.Hooks.{HookAnswer}
+use Rattle.mount_counts.specs.declared.sets.MountSet.{MountSet}
+use Rattle.gate_world.specs.Remounts.{loop_role, remount_role, AllBelow, remount_relies, giving_role, on_nothing, remount_owns, held_role, RemountFits, remount_sets}
+use Rattle.gate_world.specs.declared.work.Phase.TheVariants.{Remounts}
+use Rattle.gate_world.specs.Fits.{PhaseFits}
+use Rattle.mount_counts.specs.Remounts.{past_node, at_remount, remount_from, let_go, give_up}
+use Rattle.gate_world.specs.declared.views.View.{View}
+use Rattle.cpu_words.specs.declared.names.WordName.{WordName}
+use Rattle.std.proofs.lemmas.Bool.Decides.{eqb_tells}
+use Rattle.mount_counts.specs.Sets.{has_mount, lowest, no_mounts, without_lowest}
+use Rattle.mount_laws.proofs.Sets.{none_held, lowest_held, leaves_here, leaves_there}
+use Rattle.remount_laws.proofs.RemountLoop.{loads_flags, sets_hold, sums, let_go_stays, past_node_stays, give_up_stays}
+use Rattle.gate_world.specs.Views.{held_at, holds_level, view_with}
+use Rattle.finite_sums.specs.Sums.{total, update}
+use Rattle.access_model.specs.declared.replies.Reply.{Reply}
+use Rattle.cpu_words.specs.declared.events.Event.{Event}
+use Rattle.gate_frames.proofs.Owners.{remount_stands, no_remount, locks_umount, releases_umount, relying_after}
+use Rattle.access_model.specs.declared.errors.GateError.{GateError}
+use Rattle.cpu_words.specs.declared.events.Touch.TheVariants.{Cas, Store, And}
+use Rattle.access_model.specs.declared.errors.GateError.TheVariants.{Busy, Hook}
+use Rattle.access_model.specs.declared.replies.Next.{Next}
+use Rattle.access_model.specs.declared.replies.Next.TheVariants.{Go, Done}
+use Rattle.gated_tree.specs.Nodes.{IsNode, dirty_in}
+use Rattle.gate_frames.proofs.Frames.{left_alone, owner_same}
+use Rattle.gate_world.specs.declared.work.Phase.{Phase}
+use Rattle.remount_laws.proofs.RemountFits.{state_fits, let_go_fits, leaves_below, past_node_fits, give_up_fits}
+use Rattle.finite_sums.proofs.Totals.{total_at, update_same}
+use Rattle.access_model.specs.declared.actions.Action.TheVariants.{SbRo, SbRw, Clean}
+use Rattle.remount_laws.proofs.RemountRoles.{let_go_role, give_up_role, remount_seeks, past_node_role, no_giving}
+use Rattle.gate_frames.proofs.Loads.{steady, after_load}
+use Rattle.cpu_words.specs.Words.{Words}
+use Rattle.access_model.specs.declared.actions.Action.{Action}
+use Rattle.gate_frames.proofs.MountEvents.{is_known_part}
+use Rattle.gate_world.specs.Shown.{shown, node_shown}
+use Rattle.mount_laws.proofs.Bits.{without_hold, and_not_hold}
+use Rattle.gated_tree.proofs.ClearedMarks.{without_mark, cleared_node, cleared_shown, clean_stays}
+use Rattle.std.proofs.lemmas.Bool.{cases_Bool}
+use Rattle.mount_counts.specs.Phases.{has_flag}
+use Rattle.std.proofs.lemmas.Nat.Bits.{and_pow}
+use Rattle.access_model.specs.States.{IsFile}
+
+-- the mark's bit of a word is its mark
+mark_set : (word : ℕ) → has_flag word 4 ≡ true → dirty_in word ≡ 1
+mark_set word h =
+    elim (eqb_tells (bit_and word 4) 4) [
+      | inl z ↦ omega (arith, z.1, and_pow word 2)
+      | inr z ↦ absurd (true≢false (sym h ∙ z.0))
+    ]
+
+mark_clear : (word : ℕ) → has_flag word 4 ≡ false → dirty_in word ≡ 0
+mark_clear word h =
+    elim (eqb_tells (dirty_in word) 0) [
+      | inl z ↦ z.1
+      | inr z ↦ absurd (true≢false (sym (eq-eqb (bit_and word 4) 4 (omega (arith, and_pow word 2, z.1))) ∙ h))
+    ]
 
 module _ (c : Config) (lim : IsWithin c) (w : World) (good : IsGood c w) (t : ℕ) (lt : t < c.tasks) (x : Remount) where
   abbrev IsHere : RemountStep → Type 0
@@ -34,13 +94,19 @@ module _ (c : Config) (lim : IsWithin c) (w : World) (good : IsGood c w) (t : �
   vacant : (held : MountSet) → IsHere (SetsRemount held) → (m : ℕ) → m < c.mounts → (a : Bool) →
       remount_role m (SetsRemount held) ≡ loop_role a true → (y : ℕ) → y < c.tasks → held_at (w.views y) m ≡ 0
   vacant held e m lm true is y ly =
-      omega (arith, empties (good (AtMount m) lm) t lt (role_was c w good t lt x (SetsRemount held) e m ∙ is),
-      total_at c.tasks y (λ z. admitted (at_mount m (w.views z))) ly)
+      omega (
+        arith,
+        empties (good (AtMount m) lm) t lt (role_was c w good t lt x (SetsRemount held) e m ∙ is),
+        total_at c.tasks y (λ z. admitted (at_mount m (w.views z))) ly,
+      )
   vacant held e m lm false is y ly =
       let ro : ro_bit (w.words.flags m) ≡ 1 =
       (good (AtMount m) lm).skipped t lt (ap skips (role_was c w good t lt x (SetsRemount held) e m ∙ is)) in
-      omega (arith, closed (good (AtMount m) lm) ro,
-      total_at c.tasks y (λ z. (at_mount m (w.views z)).held + past_flags (at_mount m (w.views z)).role) ly)
+      omega (
+        arith,
+        closed (good (AtMount m) lm) ro,
+        total_at c.tasks y (λ z. (at_mount m (w.views z)).held + past_flags (at_mount m (w.views z)).role) ly,
+      )
 
   -- with each mount held at a sum of 0, or read-only, `remount` is set; meets: `remount` is loaded after HOLD was found clear
   pub sets_remount : (hook : HookAnswer) (held : MountSet) → IsHere (SetsRemount held) → Keeps hook (SetsRemount held)
@@ -234,9 +300,9 @@ module _ (c : Config) (lim : IsWithin c) (w : World) (good : IsGood c w) (t : �
             rw h (
               (event None refl refl).0,
               (event None refl refl).1 ∙
-              (λ j. record (shown c w) {
-                tree = (ap (λ y. update (λ k. node_shown (w.words.node k)) n (node_shown y)) clean ∙ update_same (λ k. node_shown (w.words.node k)) n) j;
-              }),
+                  (λ j. record (shown c w) {
+                    tree = (ap (λ y. update (λ k. node_shown (w.words.node k)) n (node_shown y)) clean ∙ update_same (λ k. node_shown (w.words.node k)) n) j;
+                  }),
             )
       ]
 
@@ -275,7 +341,7 @@ module _ (c : Config) (lim : IsWithin c) (w : World) (good : IsGood c w) (t : �
   still_load : (hook : HookAnswer) (name : WordName) (s s' : RemountStep) (e : IsHere s) → remount_owns s ≡ 1 →
       Stays s' (remount_sets s) w.words.stage w.words.sb → RemountFits c s' → ((m : ℕ) → remount_role m s' ≡ remount_role m s) →
       let coming : Next Phase = Go (Remounts (at_remount x s')) in
-      ((part : Part) → is_known part ≡ false → Holds c (after_load w t name hook coming) part) ×
+      ((part : Part) → is_known_part part ≡ false → Holds c (after_load w t name hook coming) part) ×
       (shown c (after_load w t name hook coming) ≡ shown c w)
   still_load hook name s s' e o stays fit role =
       load_event c w good t lt x s e name hook s' o stays fit (λ m lm. mount_stays c w good t lt x s e m lm (remount_role m s') (role m))

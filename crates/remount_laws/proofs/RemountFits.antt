@@ -1,6 +1,32 @@
 -- What fits after an event of a remount.
 use Rattle.mount_counts.specs.declared.remounts.RemountStep.TheVariants.{Locks, LoadsStage, LoadsSuperblock, SetsWritable, LoadsFlags, SetsHold, Sums, SetsRemount, ClearsHold, GivesUp, ClearsMark, SetsReadOnly, ClearsRemount, Releases}
 use Rattle.mount_counts.specs.declared.remounts.Remount.{Remount}
+use Rattle.std.proofs.Common.{ℕ, ◌≡◌, ◌<◌, Bool, ◌+◌, arith, Option, true≢false, sym, nat_lt, inl, inr, ◌∙◌, ltb-true, if◌then◌else◌, ap, Ok, Some, Err, ◌==◌, None, not, refl, true, false}
+use Rattle.gate_world.specs.declared.config.Config.{Config}
+use Rattle.mount_counts.specs.declared.sets.MountSet.{MountSet}
+use Rattle.gate_world.specs.Remounts.{AllBelow, RemountFits}
+use Rattle.gate_world.specs.Configs.{IsWithin, extents_of}
+use Rattle.mount_counts.specs.Sets.{no_mounts, without_lowest, with_mount, lowest, has_mount}
+use Rattle.cpu_words.specs.declared.sums.Sum.{Sum}
+use Rattle.mount_counts.specs.Remounts.{give_up, past_node, let_go, remount_from, remount_summed, past_mount, remount_after, remount_next, at_remount}
+use Rattle.mount_counts.specs.declared.remounts.RemountStep.{RemountStep}
+use Rattle.access_model.specs.declared.replies.Next.{Next}
+use Rattle.mount_laws.proofs.Sets.{leaves_within, joins_within, joins_there, none_held, leaves_here, lowest_held, leaves_there}
+use Rattle.std.proofs.lemmas.Bool.Decides.{eqb_tells}
+use Rattle.std.proofs.lemmas.Bool.{cases_Bool}
+use Rattle.cpu_words.specs.Hooks.{HookAnswer}
+use Rattle.gate_world.specs.declared.work.Phase.{Phase}
+use Rattle.cpu_words.specs.Names.{IsWord}
+use Rattle.gate_world.specs.Fits.{ActionFits, mounts_by, PhaseFits, levels_by, Fits}
+use Rattle.gate_world.specs.Views.{phase_after}
+use Rattle.access_model.specs.Replies.{map_next}
+use Rattle.gate_world.specs.declared.work.Phase.TheVariants.{Remounts}
+use Rattle.gate_frames.proofs.Keeps.{by_bool}
+use Rattle.cpu_words.specs.Touches.{wrap_add}
+use Rattle.access_model.specs.declared.actions.Action.TheVariants.{Clean}
+use Rattle.mount_counts.specs.Phases.{has_flag}
+use Rattle.access_model.specs.declared.replies.Next.TheVariants.{Go, Wait}
+use Rattle.access_model.specs.declared.errors.GateError.TheVariants.{Busy}
 
 -- a mount joins the set, and the lowest leaves it
 pub joins_below : (m : ℕ) (held : MountSet) → m < 8 → AllBelow m held → AllBelow (m + 1) (with_mount held m)

@@ -1,10 +1,39 @@
 -- Events of a remount's loop over the mounts.
 use Rattle.mount_counts.specs.declared.remounts.RemountStep.TheVariants.{LoadsFlags, SetsHold, Sums, SetsRemount, ClearsHold, GivesUp, ClearsMark, SetsReadOnly, Releases}
 use Rattle.mount_counts.specs.declared.remounts.Remount.{Remount}
-use Rattle.mount_laws.proofs.MountLaws.{sets_hold as mount_sets_hold}
-use Rattle.gate_world.specs.Rules.{AtMount}
-use Rattle.mount_counts.specs.Roles.{Out, Summing}
-use Rattle.remount_laws.proofs.RemountParts.{RemountKeeps}
+use Rattle.mount_laws.proofs.MountLaws.{sets_hold as mount_sets_hold, is_skipped, sums_on, sums_to_none, sums_to_some, is_left, SeeksNone}
+use Rattle.gate_world.specs.Rules.{AtMount, IsGood, MountHoldsIn, role_of, owns}
+use Rattle.mount_counts.specs.Roles.{Out, Summing, has_hold, hold_bit}
+use Rattle.remount_laws.proofs.RemountParts.{RemountKeeps, Stays, here_fits, here_relies, load_event, role_was, Mount, mount_stays, flags_change}
+use Rattle.std.proofs.Common.{refl, sym, ap, subst, inl, inr, true, false, arith, suc, ℕ, Bool, ◌≡◌, ◌⊎◌, ◌<◌, nat_lt, ◌==◌, ◌+◌, if◌then◌else◌, Err, Some, bit_or, ◌∙◌, ltb-true, add-one, None, ltb-false, eq-eqb, ne_eqb}
+use Rattle.mount_counts.specs.declared.sets.MountSet.{MountSet}
+use Rattle.gate_world.specs.declared.config.Config.{Config}
+use Rattle.gate_world.specs.Remounts.{giving_role, loop_role, AllBelow, remount_role}
+use Rattle.gate_world.specs.Configs.{IsWithin}
+use Rattle.gate_world.specs.Worlds.{World}
+use Rattle.mount_counts.specs.Remounts.{past_mount, let_go, give_up, past_node, at_remount}
+use Rattle.gate_frames.proofs.Keeps.{by_bool}
+use Rattle.cpu_words.specs.Hooks.{HookAnswer}
+use Rattle.mount_counts.specs.declared.remounts.RemountStep.{RemountStep}
+use Rattle.cpu_words.specs.declared.sums.Sum.{Sum}
+use Rattle.gate_world.specs.declared.work.Phase.TheVariants.{Remounts}
+use Rattle.gate_world.specs.Fits.{PhaseFits}
+use Rattle.mount_counts.specs.Sets.{has_mount, with_mount}
+use Rattle.access_model.specs.declared.errors.GateError.TheVariants.{Busy}
+use Rattle.gate_world.specs.Views.{held_at, holds_level, view_with}
+use Rattle.std.proofs.lemmas.Bool.{cases_Bool}
+use Rattle.remount_laws.proofs.RemountRoles.{not_passed, summing_here, past_mount_role, summing_there, passed_here, passed_there, give_up_role, remount_seeks}
+use Rattle.mount_counts.specs.Phases.{has_flag}
+use Rattle.cpu_words.specs.Touches.{wrap_add}
+use Rattle.cpu_words.specs.declared.names.WordName.TheVariants.{MountFlags, MountCount}
+use Rattle.remount_laws.proofs.RemountFits.{joins_below, past_mount_fits, give_up_fits}
+use Rattle.gate_frames.proofs.Owners.{no_hold}
+use Rattle.std.proofs.lemmas.Bool.Decides.{eqb_tells}
+use Rattle.gate_world.specs.declared.views.View.{View}
+use Rattle.mount_laws.proofs.Bits.{read_only_set, or_hold}
+use Rattle.cpu_words.specs.declared.events.Touch.TheVariants.{Or}
+use Rattle.access_model.specs.declared.replies.Next.TheVariants.{Go}
+use Rattle.mount_laws.proofs.Sets.{joins_here, joins_there}
 
 -- what stays where the loop goes on, where holds are to be cleared, and where marks are
 past_mount_stays : (mounts m : ℕ) (held : MountSet) (stage sb : ℕ) → stage ≡ 0 → sb ≡ 0 → Stays (past_mount mounts m held) 0 stage sb

@@ -1,8 +1,41 @@
 -- What an event of a remount may leave: each part of the rule, and the shown model.
 use Rattle.mount_counts.specs.declared.remounts.RemountStep.TheVariants.{Locks}
 use Rattle.mount_counts.specs.declared.remounts.Remount.{Remount}
-use Rattle.gate_world.specs.Rules.{Owner, Superblock, Stages, Fitting, Known, Relying, Nodes, AtMount}
-use Rattle.remount_laws.proofs.RemountParts.{RemountKeeps}
+use Rattle.gate_world.specs.Rules.{Owner, Superblock, Stages, Fitting, Known, Relying, Nodes, AtMount, IsGood, owns, Part, StepKeeps, role_of, ViewFits, relied, at_mount, Holds, IsSteady, OwnerHolds, remounts, Moves}
+use Rattle.gate_world.specs.Fits.{Fits, PhaseFits}
+use Rattle.std.proofs.Common.{refl, sym, ap, subst, inl, inr, true, false, arith, true≢false, ℕ, ◌<◌, ◌≡◌, Some, ◌⊎◌, ◌≤◌, Bool, ◌==◌, ◌||◌, ◌∙◌, None}
+use Rattle.mount_counts.specs.declared.remounts.RemountStep.{RemountStep}
+use Rattle.gate_world.specs.Worlds.{World, value_at, after_step, phase_action}
+use Rattle.gate_world.specs.declared.config.Config.{Config}
+use Rattle.cpu_words.specs.Hooks.{HookAnswer}
+use Rattle.gate_world.specs.Owners.{is_owned, takes_lock}
+use Rattle.gate_frames.proofs.Known.{IsOwnersWork, known_after}
+use Rattle.gate_world.specs.declared.work.Phase.{Phase}
+use Rattle.gate_world.specs.Remounts.{remount_owns, remount_sets, IsKnown, remount_relies, IsThere, remount_role, RemountFits}
+use Rattle.mount_counts.specs.Remounts.{remount_next, remount_after, at_remount}
+use Rattle.gate_world.specs.Views.{phase_after, held_at, holds_level, added_by, taken_by, view_with}
+use Rattle.gate_world.specs.declared.work.Phase.TheVariants.{Remounts}
+use Rattle.gate_world.specs.Found.{is_load}
+use Rattle.access_model.specs.Replies.{map_next}
+use Rattle.cpu_words.specs.Touches.{found_by, event_of}
+use Rattle.std.proofs.lemmas.Bool.{cases_Bool}
+use Rattle.mount_counts.specs.Roles.{Role, MountHolds, ro_bit}
+use Rattle.gate_world.specs.declared.views.View.{View}
+use Rattle.cpu_words.specs.Words.{Words, read}
+use Rattle.cpu_words.specs.declared.names.WordName.{WordName}
+use Rattle.finite_sums.specs.Sums.{update}
+use Rattle.gated_tree.specs.Nodes.{IsNode}
+use Rattle.gate_world.specs.Shown.{shown, closing, node_shown}
+use Rattle.access_model.specs.declared.replies.Next.{Next}
+use Rattle.gate_frames.proofs.Frames.{holds_as, owner_same, view_as, shown_as, shown_still, added_load, taken_load}
+use Rattle.finite_sums.proofs.Totals.{each_updated, update_map, update_same, update_at, update_off}
+use Rattle.gate_frames.proofs.Owners.{relying_after, remount_stored}
+use Rattle.gate_frames.proofs.Loads.{steady, after_load}
+use Rattle.access_model.specs.declared.replies.Next.TheVariants.{Go}
+use Rattle.std.proofs.lemmas.Bool.Decides.{eqb_tells}
+use Rattle.gate_frames.proofs.MountEvents.{is_known_part, known_is}
+use Rattle.cpu_words.specs.declared.events.Touch.TheVariants.{Load}
+use Rattle.gate_frames.proofs.Words.{load_same}
 
 -- who changes an owned word is the owner, and a remount comes to own `umount` by taking it
 remount_changes : (x : Remount) (s : RemountStep) (hook : HookAnswer) → is_owned (remount_next x s hook).0 ≡ true →
@@ -29,14 +62,14 @@ remount_work w x hook = record {
 -- the law of an event of a remount: each part but what the owner knows, and the shown model
 abbrev pub RemountKeeps : Config → World → ℕ → HookAnswer → Phase → Type 0
 RemountKeeps c w t hook phase =
-    ((part : Part) → is_known part ≡ false → Holds c (after_step w t phase hook) part) ×
+    ((part : Part) → is_known_part part ≡ false → Holds c (after_step w t phase hook) part) ×
     Moves c (shown c w) t (phase_action w hook (Some phase)) (shown c (after_step w t phase hook))
 
 -- what it knows moves with its trace
 pub whole_remount : (c : Config) (w : World) (t : ℕ) → t < c.tasks → IsGood c w → (hook : HookAnswer) (x : Remount) →
     (w.views t).phase ≡ Some (Remounts x) → RemountKeeps c w t hook (Remounts x) → StepKeeps c w t hook (Remounts x)
 whole_remount c w t lt good hook x e keeps = (
-  λ part. elim (cases_Bool (is_known part)) [
+  λ part. elim (cases_Bool (is_known_part part)) [
     | inl h ↦ subst (Holds c (after_step w t (Remounts x) hook)) (sym (known_is part h))
         (known_after c w t (Remounts x) hook good lt e (remount_work w x hook))
     | inr h ↦ keeps.0 part h
@@ -86,7 +119,7 @@ module _ (c : Config) (w : World) (good : IsGood c w) (t : ℕ) (lt : t < c.task
 
   -- each part but what the owner knows
   abbrev pub PartsHold : Words → View → Type 0
-  PartsHold ws v = (part : Part) → is_known part ≡ false → Holds c (record { words = ws; views = update w.views t v }) part
+  PartsHold ws v = (part : Part) → is_known_part part ≡ false → Holds c (record { words = ws; views = update w.views t v }) part
 
   -- each part after an event, from what it says of each mount
   pub each_part : (ws : Words) (v : View) → SameCounts v → ws.stage ≡ w.words.stage → ws.sb ≤ 1 → ws.count ≡ w.words.count →
@@ -215,13 +248,13 @@ module _ (c : Config) (w : World) (good : IsGood c w) (t : ℕ) (lt : t < c.task
       Stays s' (remount_sets s) w.words.stage w.words.sb → RemountFits c s' →
       ((m : ℕ) → m < c.mounts → Mount m (w.words.flags m) w.words.remount w.words.sb (remount_role m s')) →
       let coming : Next Phase = Go (Remounts (at_remount x s')) in
-      ((part : Part) → is_known part ≡ false → Holds c (after_load w t name hook coming) part) ×
+      ((part : Part) → is_known_part part ≡ false → Holds c (after_load w t name hook coming) part) ×
       (shown c (after_load w t name hook coming) ≡ shown c w)
   load_event name hook s' o stays fit own =
       let v : View = view_with (w.views t) (name, Load) (read w.words name) hook (Go (Remounts (at_remount x s')), None) in
       let f : PhaseFits c t (held_at (w.views t)) (holds_level (w.views t)) (Remounts (at_remount x s)) = here_fits in
       subst (λ ws. let next_world : World = record { words = ws; views = update w.views t v } in
-      ((part : Part) → is_known part ≡ false → Holds c next_world part) × (shown c next_world ≡ shown c w)) (sym (load_same w.words name))
+      ((part : Part) → is_known_part part ≡ false → Holds c next_world part) × (shown c next_world ≡ shown c w)) (sym (load_same w.words name))
       (loads o s' v refl (refl, refl, added_load name (added_by (w.views t).events), taken_load name (taken_by (w.views t).events))
       (f.0, f.1, f.2, f.3, f.4, fit) stays own)
 

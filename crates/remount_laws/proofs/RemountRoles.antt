@@ -1,6 +1,19 @@
 -- The roles of a remount at each mount.
 use Rattle.mount_counts.specs.declared.remounts.RemountStep.TheVariants.{LoadsFlags, SetsHold, Sums, SetsRemount, ClearsHold, GivesUp, ClearsMark, SetsReadOnly}
-use Rattle.mount_counts.specs.Roles.{Out, Summing}
+use Rattle.mount_counts.specs.Roles.{Out, Summing, Role}
+use Rattle.std.proofs.Common.{Bool, ℕ, nat_lt, ◌≡◌, ◌+◌, false, ◌<◌, ◌==◌, true, arith, inl, eq-eqb, ne_eqb, if◌then◌else◌, ◌∙◌, inr, sym, ltb-true, ap, ltb-false, refl}
+use Rattle.mount_laws.proofs.MountLaws.{SeeksNone}
+use Rattle.cpu_words.specs.declared.sums.Sum.{Sum}
+use Rattle.mount_counts.specs.declared.remounts.RemountStep.{RemountStep}
+use Rattle.mount_counts.specs.declared.sets.MountSet.{MountSet}
+use Rattle.gate_world.specs.Remounts.{giving_role, remount_role, loop_role, held_role, summing_role}
+use Rattle.mount_counts.specs.Sets.{has_mount}
+use Rattle.mount_counts.specs.Remounts.{let_go, give_up, past_node, past_mount}
+use mathlib.Core.Bool.{true}
+use Rattle.std.proofs.lemmas.Bool.{cases_Bool}
+use Rattle.std.proofs.lemmas.Bool.Decides.{eqb_tells, nat_tests}
+use Rattle.gate_frames.proofs.Keeps.{by_bool}
+use Rattle.mount_laws.proofs.Sets.{none_held}
 
 -- the roles of a remount seek no access
 loop_seeks : (a b : Bool) → SeeksNone (loop_role a b)
@@ -72,7 +85,7 @@ let_go_role m held =
       | inr z ↦ rw z.0 refl
     ]
 
-no_giving : (a : Bool) → giving_role a false ≡ Out
+pub no_giving : (a : Bool) → giving_role a false ≡ Out
 no_giving true = refl
 no_giving false = refl
 

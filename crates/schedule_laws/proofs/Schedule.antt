@@ -26,12 +26,14 @@ use Rattle.gate_world.specs.Views.{held_at, holds_level, begun_view}
 use Rattle.gate_world.specs.Beginnings.{first_phase, view_refusal}
 use Rattle.gate_world.specs.Worlds.{World, Entry, Begins, Steps, after_begin, begin_of, step_of, happens, phase_action, action_of, task_of, with_action, run, opening, history}
 use Rattle.gate_world.specs.Shown.{shown}
-use Rattle.gate_world.specs.Rules.{role_of, at_mount, MountHoldsIn, IsSteady, ViewFits, Part, Owner, Superblock, Stages, Fitting, AtMount, Holds, IsGood, Moves, owns, Known}
+use Rattle.gate_world.specs.Rules.{role_of, at_mount, MountHoldsIn, IsSteady, ViewFits, Part, Owner, Superblock, Stages, Fitting, AtMount, Holds, IsGood, Moves, owns, Known, relied, Relying, Nodes}
 use Rattle.gate_world.specs.Headline.{SumsHold, IdleSumsHold}
 use Rattle.schedule_laws.proofs.Layers.{phase_keeps, op_keeps}
 use Rattle.schedule_laws.proofs.Beginnings.{MayBegin, may_begin, first_fits}
 use Rattle.gate_frames.proofs.Frames.{view_as, left_alone, shown_still}
 use Rattle.gate_frames.proofs.Loads.{steady}
+use Rattle.gated_tree.specs.Nodes.{IsNode}
+use Rattle.cpu_words.specs.Words.{opening_words}
 
 pub both : (a b : Bool) → (a && b) ≡ true → (a ≡ true) × (b ≡ true)
 both true b h = (refl, h)
@@ -67,6 +69,10 @@ module _ (c : Config) (lim : IsWithin c) (w : World) (good : IsGood c w) (t : �
       each_updated (λ y (u : View). owns u.phase ≡ 1 → KnowsWords w.words u.trace) w.views t
       (begun_view (w.views t) op (first_phase c t op)) x
       (λ o word value k. absurd (true≢false (ap is_some (sym k)))) (λ ne. good Known x lx)
+  begun_good op h Relying =
+      left_alone c w t lt Relying w.words (begun_view (w.views t) op (first_phase c t op)) (refl, refl)
+      ((op_keeps c op).relies t ∙ sym (ap relied (idle_is (w.views t).phase h.idle))) (good Relying)
+  begun_good op h Nodes = good Nodes
   begun_good op h (AtMount m) =
       left_alone c w t lt (AtMount m) w.words (begun_view (w.views t) op (first_phase c t op)) (refl, refl, refl, refl)
       (view_as refl refl refl ((op_keeps c op).no_role t m ∙ sym (ap (role_of m) (idle_is (w.views t).phase h.idle))))
@@ -125,6 +131,20 @@ module _ (c : Config) (lim : IsWithin c) where
   zeros : (n : ℕ) → total n (λ x. 0) ≡ 0
   zeros n = total_none n (λ x. 0) (λ x lx. refl)
 
+  -- the root is a directory, and all other nodes are free
+  opening_nodes : (n : ℕ) → IsNode (opening_words.node n)
+  opening_nodes n =
+      elim (eqb_tells n 0) [
+        | inl h ↦ rw (h.0, update) (record {
+          packed = record { kind = omega arith; low = refl; high = refl; size = omega arith; free = λ z. absurd (omega (arith, z)) };
+          plain = λ z. refl;
+        })
+        | inr h ↦ rw (h.0, update) (record {
+          packed = record { kind = omega arith; low = refl; high = refl; size = omega arith; free = λ z. refl };
+          plain = λ z. refl;
+        })
+      ]
+
   pub opening_good : (part : Part) → Holds c opening part
   opening_good Owner = record {
     locked = λ t lt h. absurd (omega arith);
@@ -138,6 +158,8 @@ module _ (c : Config) (lim : IsWithin c) where
   opening_good Stages = omega arith
   opening_good Known = λ t lt o. absurd (omega (arith, o))
   opening_good Fitting = λ t lt. tt
+  opening_good Relying = λ t lt. (tt, tt)
+  opening_good Nodes = opening_nodes
   opening_good (AtMount m) = λ lm. record {
     bits = omega arith;
     gate = gate_begins c.tasks c.processors (mount_shut 0 0 0);

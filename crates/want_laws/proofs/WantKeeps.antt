@@ -33,7 +33,7 @@ both false b e = absurd (cc)
 pub want_phase : (c : Config) (x : Want) → PhaseKeeps c (Mounts (Wants x))
 want_phase c x = record {
   step = λ lim w good t lt hook e. want_keeps c lim w good t lt hook x.mount x.cpu x.wait x.step e;
-  completes = λ lim w good t lt hook e. completes_none c w t hook (Wants x);
+  completes = λ lim w good t lt hook e. completes_none c w t hook (Mounts (Wants x)) (λ trace found. refl);
   word = λ lim t held levels hook f. want_there c lim t held levels x x.step f.0 f.1;
   acts = λ lim t held levels found hook f. want_acts c lim t held levels x x.step found (omega (arith, f.0, lim.mounts)) f.2;
   goes = λ lim t held levels found hook f. want_goes c lim t held levels x x.step found f;
@@ -52,7 +52,7 @@ want_phase c x = record {
 pub drop_phase : (c : Config) (m p : ℕ) → PhaseKeeps c (Mounts (Drops m p))
 drop_phase c m p = record {
   step = λ lim w good t lt hook e. drop_keeps c lim w good t lt hook m p e;
-  completes = λ lim w good t lt hook e. completes_none c w t hook (Drops m p);
+  completes = λ lim w good t lt hook e. completes_none c w t hook (Mounts (Drops m p)) (λ trace found. refl);
   word = λ lim t held levels hook f. (f.0, f.1);
   acts = λ lim t held levels found hook f. (omega (arith, f.0, lim.mounts), f.2);
   goes = λ lim t held levels found hook f. tt;
@@ -71,6 +71,7 @@ want_op c m p wait = record {
       (ltb-true m c.mounts at.0, ltb-true p c.processors at.1, ltb-true (held m) 1024 room);
   no_role = λ t y. role_none y m;
   steady = λ t. record { owns_same = refl; remounts_same = refl; closing_same = λ i. refl };
+  relies = λ t. refl;
   cause = λ t w earlier. tt;
   order_agrees = λ f g h k mounts levels there. refl;
   room_agrees = λ f g mounts there. ap (λ y. nat_lt y 1024) (mounts m
@@ -88,6 +89,7 @@ drop_op c m p = record {
       (ltb-true m c.mounts at.0, ltb-true p c.processors at.1, ltb-true 0 (held m) order);
   no_role = λ t y. refl;
   steady = λ t. record { owns_same = refl; remounts_same = refl; closing_same = λ i. refl };
+  relies = λ t. refl;
   cause = λ t w earlier. tt;
   order_agrees = λ f g h k mounts levels there. ap (nat_lt 0) (mounts m
       (ltb-true m c.mounts (both (nat_lt m c.mounts) (nat_lt p c.processors) there).0));

@@ -1,6 +1,6 @@
 -- The dirty mark of a node's word, cleared. This file alone sees its bit.
-use Rattle.std.proofs.Common.{◌≡◌, ℕ, ◌+◌, ◌*◌, ◌/◌, ◌%◌, ◌<◌, true, false, refl, sym, ap, ◌∙◌, subst, inl, inr, arith}
-use Rattle.std.specs.Prelude.{◌==◌, bit_and, option_map, Some, None, if◌then◌else◌}
+use Rattle.std.proofs.Common.{◌≡◌, ℕ, ◌+◌, ◌*◌, ◌/◌, ◌%◌, ◌<◌, false, refl, sym, ap, ◌∙◌, arith}
+use Rattle.std.specs.Prelude.{◌==◌, bit_and, option_map, Some}
 use Rattle.std.proofs.lemmas.Bool.{eq-eqb, ne_eqb}
 use Rattle.std.proofs.lemmas.Nat.{and_comm, and-not}
 use Rattle.std.proofs.lemmas.Nat.Bits.{and_pow}
@@ -73,8 +73,8 @@ marked_file word h marked =
     let dir : kind_in word ≡ 2 → ⊥ = λ e. absurd (omega (arith, h.plain e, marked)) in
     let free : kind_in word ≡ 0 → ⊥ =
     λ e.
-        let none : word ≡ 0 = h.packed.free e in
-        absurd (omega (arith, none, marked)) in
+    let none : word ≡ 0 = h.packed.free e in
+    absurd (omega (arith, none, marked)) in
     omega (arith, h.packed.kind, dir, free)
 
 -- what a file's word shows
@@ -89,8 +89,7 @@ cleared_shown word h dirty =
     let c : IsCleared word (without_mark word) = clears_mark word h.packed in
     let before = file_shown word file in
     let after = file_shown (without_mark word) (c.kind ∙ file) in
-    let clean : (dirty_in (without_mark word) == 1) ≡ false = ne_eqb (dirty_in (without_mark word)) 1 (λ e. absurd (omega (arith, e, c.dirty))) in
-    (
+    let clean : (dirty_in (without_mark word) == 1) ≡ false = ne_eqb (dirty_in (without_mark word)) 1 (λ e. absurd (omega (arith, e, c.dirty))) in (
       rw before refl,
       after ∙ (λ j. Some (record { kind = File; parent = c.parent j; size = c.size j; dirty = clean j })) ∙ sym (ap (option_map (marked false)) before),
     )

@@ -1,0 +1,118 @@
+//! The call that makes a file larger.
+
+ghost use Rattle.std.specs.Prelude.{◌≡◌};
+ghost use Rattle.access_model.specs.declared.replies.Next.TheVariants.{Go};
+ghost use Rattle.gated_tree.specs.Nodes.{grown_node};
+ghost use Rattle.gated_tree.specs.Phases.{grow_next, at_grow, grow_from, grow_after};
+
+use crate::nodes::NodeWord;
+use access_model::{Action, GateError, Next, Reply};
+use cpu_words::{Touch, WordName};
+
+/// What the next event of a grow is. `file` is the file's node as it was loaded.
+#[derive(Clone, Copy, PartialEq, Eq, Debug)]
+pub enum GrowStep {
+    /// Loads the file's node.
+    LoadsFile,
+    /// Loads the blocks that are charged.
+    LoadsUsed(NodeWord),
+    /// Charges its blocks, where as many are charged as it found.
+    ChargesBlocks { file: NodeWord, used: u32 },
+    /// Makes the file larger and dirty, where its node is as it was loaded.
+    GrowsFile(NodeWord),
+    /// Subtracts the blocks that it charged, and is refused.
+    RefundsBlocks,
+}
+
+/// A grow of a file under way, by so many blocks, where all files together may have so many as `capacity`: what a write past the end
+/// of a file does to it (`generic_perform_write`).
+#[derive(Clone, Copy, PartialEq, Eq, Debug)]
+pub struct Grow {
+    pub file: u8,
+    pub blocks: u32,
+    pub capacity: u32,
+    pub step: GrowStep,
+}
+
+impl Grow {
+    /// The file with the blocks more, and dirty. It comes to this only where the sum is within the capacity, so it doesn't wrap.
+    fn grown(self, file: NodeWord) -> NodeWord
+        ensures { result ≡ grown_node self.blocks file }
+    {
+        NodeWord {
+            dirty: true,
+            size: file.size.wrapping_add(self.blocks),
+            ..file
+        }
+    }
+
+    pub(crate) fn next(self) -> (WordName, Touch)
+        ensures { result ≡ grow_next self self.step }
+    {
+        let blocks = u64::from(self.blocks);
+        match self.step {
+            GrowStep::LoadsFile => (WordName::Node(self.file), Touch::Load),
+            GrowStep::LoadsUsed(_) => (WordName::Used, Touch::Load),
+            GrowStep::ChargesBlocks { used, .. } => {
+                let expect = u64::from(used);
+                let put = expect + blocks;
+                (WordName::Used, Touch::Cas { expect, put })
+            }
+            GrowStep::GrowsFile(file) => {
+                let expect = file.pack();
+                let put = self.grown(file).pack();
+                (WordName::Node(self.file), Touch::Cas { expect, put })
+            }
+            GrowStep::RefundsBlocks => (WordName::Used, Touch::Sub(blocks)),
+        }
+    }
+
+    /// The same grow, with this step to come.
+    fn at(self, step: GrowStep) -> Next<Grow>
+        ensures { result ≡ Go (at_grow self step) }
+    {
+        Next::Go(Grow { step, ..self })
+    }
+
+    /// What comes after so many blocks were found charged: there is room for its own, or there is none, or the file's node was loaded
+    /// before others were charged and is out of date.
+    fn charged_from(self, file: NodeWord, used: u64) -> Next<Grow>
+        ensures { result ≡ grow_from self file used }
+    {
+        let blocks = u64::from(self.blocks);
+        let capacity = u64::from(self.capacity);
+        if used.saturating_add(blocks) > capacity {
+            Next::Done(Err(GateError::NoSpace))
+        } else if u64::from(file.size) + blocks > capacity {
+            Next::Done(Err(GateError::Again))
+        } else {
+            let used = used as u32;
+            self.at(GrowStep::ChargesBlocks { file, used })
+        }
+    }
+
+    pub(crate) fn after(self, found: u64) -> (Next<Grow>, Option<Action>)
+        ensures { result ≡ grow_after self self.step found }
+    {
+        let next = match self.step {
+            GrowStep::LoadsFile => match NodeWord::file(found) {
+                None => Next::Go(self),
+                Some(Err(refusal)) => Next::Done(Err(refusal)),
+                Some(Ok(file)) => self.at(GrowStep::LoadsUsed(file)),
+            },
+            GrowStep::LoadsUsed(file) => self.charged_from(file, found),
+            GrowStep::ChargesBlocks { file, used } if found == u64::from(used) => {
+                self.at(GrowStep::GrowsFile(file))
+            }
+            GrowStep::ChargesBlocks { .. } => Next::Done(Err(GateError::Again)),
+            GrowStep::GrowsFile(file) if found == file.pack() => {
+                let (node, blocks) = (self.file, self.blocks);
+                let grown = Action::Grow { node, blocks };
+                return (Next::Done(Ok(Reply::Unit)), Some(grown));
+            }
+            GrowStep::GrowsFile(_) => self.at(GrowStep::RefundsBlocks),
+            GrowStep::RefundsBlocks => Next::Done(Err(GateError::Again)),
+        };
+        (next, None)
+    }
+}

@@ -1,0 +1,80 @@
+//! The orders of events of all calls at the tree, as one.
+
+ghost use Rattle.std.specs.Prelude.{◌≡◌};
+ghost use Rattle.gated_tree.specs.Phases.{next, after};
+
+use crate::changes::{Create, MoveTo, Remove};
+use crate::growth::Grow;
+use crate::marks::{ClearMarks, Mark};
+use crate::snapshots::Snapshot;
+use access_model::{Action, Next};
+use cpu_words::{Touch, WordName};
+
+/// Where a call at the tree stands between two of its events.
+#[derive(Clone, Copy, PartialEq, Eq, Debug)]
+pub enum TreePhase {
+    Create(Create),
+    Remove(Remove),
+    Grow(Grow),
+    MoveTo(MoveTo),
+    /// A page fault or a write-back.
+    Mark(Mark),
+    Snapshot(Snapshot),
+    /// The clearing of all dirty marks, which is a part of a remount and of a freeze.
+    ClearMarks(ClearMarks),
+}
+
+impl TreePhase {
+    /// The word and the touch of the next event. No event at the tree reads a hook's answer.
+    pub fn next(&self, hook: Result<(), u16>) -> (WordName, Touch)
+        ensures { result ≡ next self.now hook }
+    {
+        let _ = hook;
+        match *self {
+            TreePhase::Create(create) => create.next(),
+            TreePhase::Remove(remove) => remove.next(),
+            TreePhase::Grow(grow) => grow.next(),
+            TreePhase::MoveTo(moving) => moving.next(),
+            TreePhase::Mark(mark) => mark.next(),
+            TreePhase::Snapshot(snapshot) => snapshot.next(),
+            TreePhase::ClearMarks(clearing) => clearing.next(),
+        }
+    }
+
+    /// What comes after the event, which found this, and the action that the event adds.
+    pub fn after(self, found: u64, hook: Result<(), u16>) -> (Next<TreePhase>, Option<Action>)
+        ensures { result ≡ after self found hook }
+    {
+        let _ = hook;
+        match self {
+            TreePhase::Create(create) => {
+                let (next, action) = create.after(found);
+                (next.map(TreePhase::Create), action)
+            }
+            TreePhase::Remove(remove) => {
+                let (next, action) = remove.after(found);
+                (next.map(TreePhase::Remove), action)
+            }
+            TreePhase::Grow(grow) => {
+                let (next, action) = grow.after(found);
+                (next.map(TreePhase::Grow), action)
+            }
+            TreePhase::MoveTo(moving) => {
+                let (next, action) = moving.after(found);
+                (next.map(TreePhase::MoveTo), action)
+            }
+            TreePhase::Mark(mark) => {
+                let (next, action) = mark.after(found);
+                (next.map(TreePhase::Mark), action)
+            }
+            TreePhase::Snapshot(snapshot) => {
+                let (next, action) = snapshot.after(found);
+                (next.map(TreePhase::Snapshot), action)
+            }
+            TreePhase::ClearMarks(clearing) => {
+                let (next, action) = clearing.after(found);
+                (next.map(TreePhase::ClearMarks), action)
+            }
+        }
+    }
+}

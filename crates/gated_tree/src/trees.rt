@@ -1,0 +1,177 @@
+//! The tree that a snapshot has loaded.
+#![tactic(auto, unfolding(crate::specs::Trees::words_of))]
+
+ghost use Rattle.std.specs.Prelude.{◌≡◌, ◌≤◌, ◌<◌, ◌^◌, ◌↔◌, IsTrue, IfOk, length, slice_index, vec_len};
+ghost use Rattle.finite_sums.specs.Sums.{total};
+ghost use Rattle.access_model.specs.States.{is_dirty, size_of};
+
+use crate::nodes::NodeWord;
+use access_model::{Kind, NodeInfo};
+use cpu_words::WordName;
+use std::alloc::{AllocError, Global};
+use std::collections::LinkedList;
+
+/// The words of the tree: the blocks charged, the nodes, the children charged to each. Definitions and proofs speak of these; no value
+/// of them is ever made.
+pub struct TreeWords {
+    pub used: u64,
+    pub nodes: LinkedList<u64>,
+    pub kids: LinkedList<u64>,
+}
+
+/// A snapshot of the tree, or the room for one: each word as it was loaded last. A snapshot loads them while all is frozen, so they
+/// are those of one moment.
+#[derive(Drop)]
+pub struct Tree {
+    used: u64,
+    nodes: Vec<u64>,
+    kids: Vec<u64>,
+    ghost as_many: { vec_len kids ≡ vec_len nodes },
+    ghost few: { vec_len nodes < 2 ^ 8 },
+}
+
+impl Tree {
+    ghost use Rattle.gated_tree.specs.Trees.{CountsChildren, HasDirectories, IsClean, IsSound, HasDirectory, is_child, loaded, node_at, unloaded, words_of};
+
+    /// Room for the words of so many nodes, of which none was loaded: all are 0. Where a growth of memory is refused, there is none.
+    pub fn new(alloc: Global, nodes: u8) -> Result<Tree, AllocError>
+        ensures { IfOk result (λ tree. words_of tree ≡ unloaded nodes) }
+    {
+        Ok(Tree {
+            used: 0,
+            nodes: vec![in alloc; 0; nodes as usize]?,
+            kids: vec![in alloc; 0; nodes as usize]?,
+        })
+    }
+
+    /// Notes that a word was loaded and had this value. A word that is none of the tree's changes nothing. Takes no memory.
+    pub fn load(&mut self, word: WordName, value: u64)
+        ensures { words_of self.new ≡ loaded (words_of self.old) word value }
+    {
+        match word {
+            WordName::Used => self.used = value,
+            WordName::Node(node) => {
+                if (node as usize) < self.nodes.len() {
+                    self.nodes[node as usize] = value;
+                }
+            }
+            WordName::Kids(node) => {
+                if (node as usize) < self.kids.len() {
+                    self.kids[node as usize] = value;
+                }
+            }
+            _ => {}
+        }
+    }
+
+    /// The blocks that were charged.
+    pub fn used(&self) -> u64
+        ensures { result ≡ (words_of self.now).used }
+    {
+        self.used
+    }
+
+    /// A node, with its kind, parent, size and dirty mark; None where it was free or there is none of that number.
+    pub fn node(&self, node: u8) -> Option<NodeInfo>
+        ensures { result ≡ node_at (words_of self.now) node }
+    {
+        if (node as usize) < self.nodes.len() {
+            NodeWord::shown(self.nodes[node as usize])
+        } else {
+            None
+        }
+    }
+
+    /// The children that were charged to a node; 0 where there is none of that number.
+    pub fn kids(&self, node: u8) -> u64
+        ensures { result ≡ slice_index (words_of self.now).kids node }
+    {
+        if (node as usize) < self.kids.len() {
+            self.kids[node as usize]
+        } else {
+            0
+        }
+    }
+
+    /// Whether the blocks charged are those of all files, the children charged to each node are its children, and each parent is a
+    /// directory.
+    pub fn is_sound(&self) -> bool
+        ensures { IsTrue result ↔ IsSound (words_of self.now) }
+    {
+        self.used == self.blocks() && self.counts_children() && self.has_directories()
+    }
+
+    /// Whether no file is dirty.
+    pub fn is_clean(&self) -> bool
+        ensures { IsTrue result ↔ IsClean (words_of self.now) }
+    {
+        (0..self.size()).all(|node| !self.is_dirty(node))
+    }
+
+    /// How many nodes there are, the free ones counted.
+    fn size(&self) -> u8
+        ensures { result ≡ length (words_of self.now).nodes }
+    {
+        self.nodes.len() as u8
+    }
+
+    /// The blocks of all files.
+    fn blocks(&self) -> u64
+        ensures { result ≡ total (length (words_of self.now).nodes) (λ n. size_of (node_at (words_of self.now) n)) }
+    {
+        let mut blocks: u64 = 0;
+        for node in 0..self.size() {
+            if let Some(info) = self.node(node) {
+                blocks += u64::from(info.size);
+            }
+        }
+        blocks
+    }
+
+    /// Whether the children charged to each node are its children.
+    fn counts_children(&self) -> bool
+        ensures { IsTrue result ↔ CountsChildren (words_of self.now) }
+    {
+        (0..self.size()).all(|dir| self.kids(dir) == self.children(dir))
+    }
+
+    /// Whether each node that is there has a directory for its parent.
+    fn has_directories(&self) -> bool
+        ensures { IsTrue result ↔ HasDirectories (words_of self.now) }
+    {
+        (0..self.size()).all(|node| self.has_directory(node))
+    }
+
+    /// How many nodes other than the root have this parent.
+    fn children(&self, dir: u8) -> u64
+        ensures { result ≡ total (length (words_of self.now).nodes) (λ n. is_child dir n (node_at (words_of self.now) n)) }
+    {
+        let mut children: u64 = 0;
+        for node in 0..self.size() {
+            match self.node(node) {
+                Some(info) if node != 0 && info.parent == dir => children += 1,
+                _ => {}
+            }
+        }
+        children
+    }
+
+    /// Whether a node is free, or its parent is a directory.
+    fn has_directory(&self, node: u8) -> bool
+        ensures { IsTrue result ↔ HasDirectory (node_at (words_of self.now)) (node_at (words_of self.now) node) }
+    {
+        match self.node(node) {
+            Some(info) => {
+                matches!(self.node(info.parent), Some(parent) if parent.kind == Kind::Dir)
+            }
+            None => true,
+        }
+    }
+
+    /// Whether a node is there and dirty.
+    fn is_dirty(&self, node: u8) -> bool
+        ensures { result ≡ is_dirty (node_at (words_of self.now) node) }
+    {
+        matches!(self.node(node), Some(info) if info.dirty)
+    }
+}
