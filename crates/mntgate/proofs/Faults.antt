@@ -8,10 +8,10 @@ use Rattle.schedule_text.specs.declared.commands.Request.{Request}
 use Rattle.schedule_text.specs.declared.commands.Request.TheVariants.{Words, Model, Task}
 use Rattle.schedule_text.specs.declared.commands.TaskCommand.{TaskCommand}
 use Rattle.schedule_text.specs.declared.commands.Verb.{Verb}
-use Rattle.schedule_text.specs.declared.commands.Verb.TheVariants.{Want, TryWant, Drop, Change, TryChange, Step, Run}
+use Rattle.schedule_text.specs.declared.commands.Verb.TheVariants.{Want, TryWant, Drop, Change, TryChange, Remount, Step, Run}
 use Rattle.schedule_text.specs.declared.faults.Fault.{Fault}
 use Rattle.schedule_text.specs.declared.faults.Fault.TheVariants.{ConfigExpected, ConfigTwice, UnknownCommand, WrongNumberOfWords, NoSuchTask, BadNumber, BadWord, ReadFailed, WriteFailed, Refused}
-use Rattle.schedule_text.specs.Parsing.{◌>>=◌, expect, number_at, byte_at, code_at, hook_at, read_only_at, want_of, drop_of, change_of, step_of, run_of, arguments_of, task_line, alone, command_line, config_of, config_line, line_for, parsed, task_of}
+use Rattle.schedule_text.specs.Parsing.{◌>>=◌, expect, number_at, byte_at, code_at, hook_at, read_only_at, want_of, drop_of, change_of, remount_of, step_of, run_of, arguments_of, task_line, alone, command_line, config_of, config_line, line_for, parsed, task_of}
 use Rattle.schedule_text.specs.Words.{first_word, after_word, word_count}
 use Rattle.schedule_text.specs.Commands.{verb_of, takes}
 use Rattle.schedule_text.specs.Numbers.{is_digits}
@@ -114,6 +114,11 @@ change_own : (rest : List ℕ) (wait : Bool) → FailsByOwn (change_of rest wait
 unfolding change_of
 change_own rest wait = then_own _ _ (byte_own rest) (λ (m : ℕ). then_own _ _ (read_only_own (after_word rest)) (λ (b : Bool). ok_own _))
 
+-- the argument of a remount
+remount_own : (rest : List ℕ) → FailsByOwn (remount_of rest)
+unfolding remount_of
+remount_own rest = then_own _ _ (read_only_own rest) (λ (b : Bool). ok_own _)
+
 -- the argument of a step
 step_own : (rest : List ℕ) → FailsByOwn (step_of rest)
 unfolding step_of
@@ -132,6 +137,7 @@ arguments_own TryWant rest words = want_own rest false
 arguments_own Drop rest words = drop_own rest
 arguments_own Change rest words = change_own rest true
 arguments_own TryChange rest words = change_own rest false
+arguments_own Remount rest words = remount_own rest
 arguments_own Step rest words = if_own _ _ _ (ok_own _) (step_own rest)
 arguments_own Run rest words = if_own _ _ _ (ok_own _) (run_own rest)
 

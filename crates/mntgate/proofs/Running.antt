@@ -12,16 +12,6 @@ use Rattle.mntgate.specs.Transcript.{Play, after_event, hook_answer, next_progre
 use Rattle.mntgate.specs.CoreSessions.{ShowsPlay}
 use Rattle.mntgate.specs.declared.core_session.CoreSession.{CoreSession}
 
--- a step whose hook answers as the run says is the next one of the run
-pub progress_in_run : (q : Play) (t : ℕ) (failure : Option HookFailure) (hook : HookAnswer) → hook ≡ hook_answer q t failure →
-    (step_answer q.config q.world t hook).progress ≡ next_progress q t failure
-progress_in_run q t failure hook e = ap (λ (h : HookAnswer). (step_answer q.config q.world t h).progress) e
-
--- and its play is the next one of the run
-pub shows_in_run : (session : CoreSession) (q : Play) (t : ℕ) (failure : Option HookFailure) (hook : HookAnswer) →
-    hook ≡ hook_answer q t failure → ShowsPlay session (after_event q t hook) → ShowsPlay session (next_play q t failure)
-shows_in_run session q t failure hook e h = subst (λ (a : HookAnswer). ShowsPlay session (after_event q t a)) e h
-
 -- the run has to wait, or has ended
 abbrev IsLast : Progress → Type 0
 IsLast x = (x ≡ Waiting) ⊎ ((answer : Result Reply GateError) × (x ≡ Ended answer))
@@ -37,6 +27,16 @@ pub starts : (session : CoreSession) (p : Play) (t : ℕ) (failure : Option Hook
     OnTheWay session p t failure 0
 unfolding run_of
 starts session p t failure h = record { now = p; shows = h; left = refl }
+
+module _ (session : CoreSession) (p : Play) (t : ℕ) (failure : Option HookFailure) (events : ℕ)
+    (way : OnTheWay session p t failure events) (hook : HookAnswer) (same : hook ≡ hook_answer way.now t failure) where
+  -- a step whose hook answers as the run says is the run's next one
+  pub progress_in_run : (step_answer way.now.config way.now.world t hook).progress ≡ next_progress way.now t failure
+  progress_in_run = ap (λ (h : HookAnswer). (step_answer way.now.config way.now.world t h).progress) same
+
+  -- and its play is the run's next one
+  pub shows_in_run : (new : CoreSession) → ShowsPlay new (after_event way.now t hook) → ShowsPlay new (next_play way.now t failure)
+  shows_in_run new h = subst (λ (a : HookAnswer). ShowsPlay new (after_event way.now t a)) same h
 
 -- what a run comes to by an event that answers this, where so many more may follow
 abbrev turn : ℕ → Play → ℕ → Option HookFailure → Progress → Progress × Play
