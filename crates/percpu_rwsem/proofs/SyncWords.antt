@@ -1,6 +1,6 @@
--- words of an rcu_sync: as numbers and back, and that each transition leaves a lawful one lawful
+-- words of an rcu_sync, as numbers and back
 use Rattle.std.proofs.Common.{◌≡◌, ℕ, zero, suc, true, false, ◌/◌, ◌%◌, ◌<◌, ◌≤◌, refl, sym, ap, subst, ◌∙◌, inl, inr, arith}
-use Rattle.std.specs.Prelude.{Bool, Option, Some, None, IfSome, ◌==◌}
+use Rattle.std.specs.Prelude.{Bool, Option, Some, None, ◌==◌}
 use Rattle.std.proofs.lemmas.Bool.{le-leb}
 use Rattle.std.proofs.lemmas.Bool.Decides.{eqb_tells, leb_tells}
 use Rattle.percpu_rwsem.specs.declared.sync_word.GpState.{GpState}
@@ -8,6 +8,7 @@ use Rattle.percpu_rwsem.specs.declared.sync_word.GpState.TheVariants.{Idle, Ente
 use Rattle.percpu_rwsem.specs.declared.sync_word.SyncWord.{SyncWord}
 use Rattle.percpu_rwsem.specs.SyncWords.{bit, state_number, state_of, is_lawful, IsLawful, if_lawful, pack, unpack}
 
+-- a state is found again in its number
 state_of_number : (s : GpState) → state_of (state_number s) ≡ Some s
 state_of_number Idle = refl
 state_of_number Enter = refl
@@ -15,6 +16,7 @@ state_of_number Passed = refl
 state_of_number Exit = refl
 state_of_number Replay = refl
 
+-- a state's number fits three bits
 number_small : (s : GpState) → state_number s ≤ 4
 number_small Idle = omega arith
 number_small Enter = omega arith
@@ -22,10 +24,12 @@ number_small Passed = omega arith
 number_small Exit = omega arith
 number_small Replay = omega arith
 
-bit_small : (t : Bool) → bit t ≤ 1
+-- a bit is at most 1
+pub bit_small : (t : Bool) → bit t ≤ 1
 bit_small true = omega arith
 bit_small false = omega arith
 
+-- a bit is 1 where it is true
 bit_is : (t : Bool) → (bit t == 1) ≡ t
 bit_is true = refl
 bit_is false = refl
@@ -41,6 +45,7 @@ unpack_pack w lawful =
     let taken : pack w / 8 % 2 ≡ bit w.taken = omega arith in
     rw (high, count, state, taken, le-leb w.count 65535 lawful.few, state_of_number w.state, bit_is w.taken, lawful.fits)
 
+-- a number that has a state is that state's
 state_back : (n : ℕ) (s : GpState) → state_of n ≡ Some s → state_number s ≡ n
 state_back zero s h = let e : Idle ≡ s = cc in ap state_number (sym e)
 state_back (suc zero) s h = let e : Enter ≡ s = cc in ap state_number (sym e)
@@ -49,6 +54,7 @@ state_back (suc (suc (suc zero))) s h = let e : Exit ≡ s = cc in ap state_numb
 state_back (suc (suc (suc (suc zero)))) s h = let e : Replay ≡ s = cc in ap state_number (sym e)
 state_back (suc (suc (suc (suc (suc n))))) s h = cc
 
+-- a bit is found again
 bit_back : (n : ℕ) → n < 2 → bit (n == 1) ≡ n
 bit_back zero h = refl
 bit_back (suc zero) h = refl
@@ -61,6 +67,7 @@ record SaysOf (n : ℕ) (w : SyncWord) : Type 0 where
   count : w.count ≡ n / 256
   fits : is_lawful w.state w.taken w.count ≡ true
 
+-- and so it does
 says_of : (o : Option GpState) (n : ℕ) (w : SyncWord) → state_of (n % 8) ≡ o → if_lawful o (n / 8 % 2 == 1) (n / 256) ≡ Some w → SaysOf n w
 says_of None n w e h = cc
 says_of (Some s) n w e h = elim (is_lawful s (n / 8 % 2 == 1) (n / 256)) as (λ b. is_lawful s (n / 8 % 2 == 1) (n / 256) ≡ b → SaysOf n w) [
@@ -92,14 +99,3 @@ pack_unpack n w h =
 -- which is lawful
 pub unpack_lawful : (n : ℕ) (w : SyncWord) → unpack n ≡ Some w → IsLawful w
 unpack_lawful n w h = let u = unpacked n w h in record { fits = u.2.fits; few = omega (arith, u.1, u.2.count) }
-
--- the same, of what a number says
-if_some : (P : SyncWord → Type 0) (o : Option SyncWord) → ((w : SyncWord) → o ≡ Some w → P w) → IfSome o P
-if_some P None h = tt
-if_some P (Some w) h = h w refl
-
-pub unpack_same : (n : ℕ) → IfSome (unpack n) (λ w. pack w ≡ n)
-unpack_same n = if_some (λ w. pack w ≡ n) (unpack n) (pack_unpack n)
-
-pub unpack_is_lawful : (n : ℕ) → IfSome (unpack n) IsLawful
-unpack_is_lawful n = if_some IsLawful (unpack n) (unpack_lawful n)

@@ -12,7 +12,7 @@ use cpu_words::{Touch, WordName};
 /// What the next event of a callback is (`rcu_sync_func`, and before it the wait of `call_rcu`).
 #[derive(Clone, Copy, PartialEq, Eq, Debug)]
 pub enum CallbackStep {
-    /// Takes the callback that is queued.
+    /// Takes the callback that is queued, where one is.
     Claims(Transition),
     /// Loads the next section word of its grace period.
     AwaitsSections(Grace),
@@ -20,7 +20,7 @@ pub enum CallbackStep {
     CallsBack(Transition),
 }
 
-/// A callback of a level under way, among so many tasks.
+/// A callback of a level (1 to 3) under way, among so many tasks (1 to 64). It answers whether one ran.
 #[derive(Clone, Copy, PartialEq, Eq, Debug)]
 pub struct Callback {
     pub level: u8,

@@ -1,10 +1,10 @@
 //! A grace period: each read-side section that was under way at its first load has ended at its last.
 
-ghost use Rattle.std.specs.Prelude.{◌≡◌, None};
+ghost use Rattle.std.specs.Prelude.{◌≡◌};
 ghost use Rattle.percpu_rwsem.specs.Graces.{started, looked};
 
-/// A grace period under way among so many tasks: the number whose section word is loaded next, and, where it was found odd, the first
-/// value found of it.
+/// A grace period under way among so many tasks (1 to 64): the task number whose section word is loaded next, and, where that was found
+/// odd, the first value found of it.
 #[derive(Clone, Copy, PartialEq, Eq, Debug)]
 pub struct Grace {
     pub tasks: u8,
@@ -15,11 +15,11 @@ pub struct Grace {
 /// What a load of a section word leads to.
 #[derive(Clone, Copy, PartialEq, Eq, Debug)]
 pub enum GraceNext {
-    /// On to the next number.
+    /// On to the section word of the next task.
     More(Grace),
-    /// The task is in the section that it was first found in: the same word again.
+    /// The task is in the section that it was first found in: the same word again, after a wait.
     Wait(Grace),
-    /// That was the last number.
+    /// That was the last task: each section that was under way at the start has ended.
     Ended,
 }
 
@@ -35,8 +35,8 @@ impl Grace {
         }
     }
 
-    /// What the value found in the section word leads to. Numbers are passed in order: one whose word is even is outside, and one
-    /// whose word is another than the first odd value has ended that section.
+    /// What the value found in the section word leads to. A task whose word is even is in no section, and one whose word is another than
+    /// the odd value first found has ended that section: both are passed.
     pub fn look(self, found: u64) -> GraceNext
         ensures { result ≡ looked self found }
     {

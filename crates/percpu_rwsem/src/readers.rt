@@ -8,7 +8,7 @@ use crate::sync_word::{GpState, SyncWord};
 use access_model::{Action, Gate, GateError, Next, Reply};
 use cpu_words::{Touch, WordName};
 
-/// What the next event of a down-read is (`percpu_down_read`, `__percpu_down_read_trylock`).
+/// What the next event of a down-read is (`percpu_down_read`, `percpu_down_read_trylock`).
 #[derive(Clone, Copy, PartialEq, Eq, Debug)]
 pub enum DownReadStep {
     /// Adds one to its section word, which is odd from then on (`preempt_disable`).
@@ -19,7 +19,7 @@ pub enum DownReadStep {
     CountsUpFast,
     /// Adds one to the count of its processor, and is to ask: it was another.
     CountsUpSlow,
-    /// Loads `block`: where it is 0, it is admitted.
+    /// Loads `block`: where it is 0, it is admitted (`__percpu_down_read_trylock`).
     LoadsBlock,
     /// Subtracts what it added.
     CountsDown,
@@ -29,7 +29,8 @@ pub enum DownReadStep {
     LeavesBlocked,
 }
 
-/// A down-read of a level under way, by a task on a processor. One that doesn't wait is refused where it finds `block` set.
+/// A down-read of a level (1 to 3) under way, by a task on a processor (0 to 63 both). One that doesn't wait is refused as Again where it
+/// finds `block` set, with its section left and its count taken back.
 #[derive(Clone, Copy, PartialEq, Eq, Debug)]
 pub struct DownRead {
     pub level: u8,
@@ -39,7 +40,8 @@ pub struct DownRead {
     pub step: DownReadStep,
 }
 
-/// An up-read of a level, on a processor, which need not be the one of its down-read (`percpu_up_read`): subtracts one from the count.
+/// An up-read of a level (1 to 3), on a processor (0 to 63) that need not be the one of its down-read (`percpu_up_read`): subtracts one
+/// from the count there.
 #[derive(Clone, Copy, PartialEq, Eq, Debug)]
 pub struct UpRead {
     pub level: u8,

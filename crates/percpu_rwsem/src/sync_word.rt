@@ -1,13 +1,13 @@
 //! The word of a level's `rcu_sync`: its state, whether its callback is taken, and how many writers have entered it.
 
-ghost use Rattle.std.specs.Prelude.{◌≡◌, Some, IfSome};
-ghost use Rattle.percpu_rwsem.specs.declared.sync_word.SyncWord.{SyncWord as SyncWordType};
-ghost use Rattle.percpu_rwsem.specs.SyncWords.{state_number, state_of, is_lawful, IsLawful, pack, unpack, on_enter, on_exit, on_claim, on_callback};
+ghost use Rattle.std.specs.Prelude.{◌≡◌, IfSome};
+ghost use Rattle.percpu_rwsem.specs.SyncWords.{state_number, state_of, is_lawful, IsLawful, pack, unpack};
+ghost use Rattle.percpu_rwsem.specs.SyncWords.{on_enter, on_exit, on_claim, on_callback};
 
-/// What a number has for each writer that has entered, and for a callback that is taken. The state is below both.
-const WRITER: u64 = 256;
-
+// What the number of a word has for a callback that is taken, and for each writer that has entered. The state is below both.
 const TAKEN: u64 = 8;
+
+const WRITER: u64 = 256;
 
 /// The state of an `rcu_sync` (`gp_state`).
 #[derive(Clone, Copy, PartialEq, Eq, Debug)]
@@ -92,15 +92,14 @@ impl SyncWord {
         ensures same { IfSome result (λ w. pack w ≡ number) }
         ensures lawful { IfSome result IsLawful }
     {
-        if number / 16 % 16 != 0 || number / WRITER > 65535 {
-            return None;
-        }
+        let between = number / 16 % 16;
+        let count = u16::try_from(number / WRITER).ok()?;
         let word = SyncWord {
             state: GpState::of_number(number % 8)?,
             taken: number / TAKEN % 2 == 1,
-            count: (number / WRITER) as u16,
+            count,
         };
-        if word.is_lawful() { Some(word) } else { None }
+        (between == 0 && word.is_lawful()).then_some(word)
     }
 
     /// A writer enters (`rcu_sync_enter`): GP_IDLE becomes GP_ENTER. None where 65,535 have entered. It leaves a lawful word lawful, as

@@ -27,21 +27,21 @@ use cpu_words::{Sum, Taken, Touch, WordName};
 /// What the next event of a down-write is (`percpu_down_write`).
 #[derive(Clone, Copy, PartialEq, Eq, Debug)]
 pub enum DownWriteStep {
-    /// Enters the level's `rcu_sync`.
+    /// Enters the level's `rcu_sync` (`rcu_sync_enter`).
     Enters(Transition),
-    /// Loads the next section word of its grace period: it found GP_IDLE.
+    /// Loads the next section word of its grace period: it found GP_IDLE (`synchronize_rcu`).
     AwaitsSections(Grace),
-    /// Makes GP_ENTER GP_PASSED, after its grace period.
+    /// Makes GP_ENTER GP_PASSED, after its grace period (`rcu_sync_func`).
     CallsBack(Transition),
     /// Loads the sync word, for GP_PASSED: it found GP_ENTER, so another writer waits for a grace period.
     AwaitsPassed,
-    /// Sets `block` where it is 0.
+    /// Sets `block`, where it finds 0 (`__percpu_down_write_trylock`).
     SetsBlock,
-    /// Loads the next word of the sum of the read counts.
+    /// Loads the next word of the sum of the read counts (`readers_active_check`).
     Sums(Sum),
 }
 
-/// A down-write of a level under way, among so many tasks and processors.
+/// A down-write of a level (1 to 3) under way, among so many tasks and processors (1 to 64 both). It ends with nobody holding the level.
 #[derive(Clone, Copy, PartialEq, Eq, Debug)]
 pub struct DownWrite {
     pub level: u8,
@@ -55,11 +55,11 @@ pub struct DownWrite {
 pub enum UpWriteStep {
     /// Sets `block` to 0.
     ClearsBlock,
-    /// Leaves the level's `rcu_sync`.
+    /// Leaves the level's `rcu_sync` (`rcu_sync_exit`).
     Exits(Transition),
 }
 
-/// An up-write of a level under way.
+/// An up-write of a level (1 to 3) under way. It ends with a callback queued or to follow, where no other writer is in.
 #[derive(Clone, Copy, PartialEq, Eq, Debug)]
 pub struct UpWrite {
     pub level: u8,
