@@ -1,0 +1,6 @@
+pub mod Roles
+pub mod Changes
+pub mod Events
+pub mod Laws
+pub mod Numbers
+pub mod Levels
