@@ -1,3 +1,4 @@
+pub mod Exchanges
 pub mod SyncLaws
 pub mod TransitionLaws
 pub mod EventLaws

@@ -1,5 +1,6 @@
 pub mod Roles
 pub mod Changes
+pub mod Exchanges
 pub mod Events
 pub mod Laws
 pub mod Numbers

@@ -5,6 +5,7 @@
 
 ghost use Rattle.std.specs.Prelude.{ℕ};
 ghost use Rattle.level_laws.specs.Events.{SyncLevelHolds};
+ghost use Rattle.level_laws.specs.Exchanges.{ExchangesMakeTransitions};
 ghost use Rattle.level_laws.specs.Laws.{StaysSlow, GracesAreWhole, IdleIsEarned, FastFindsOpen, EntersAlone, WritersFind, EventsKeep, opening};
 ghost use Rattle.level_laws.specs.Numbers.{AlwaysGoesOn};
 
@@ -21,6 +22,12 @@ pub fn events_keep_the_level()
 /// law.
 pub fn a_loaded_word_has_its_transition()
     ensures { AlwaysGoesOn }
+{}
+
+/// A phase makes its transition by a compare-exchange that finds the number loaded: then it puts the transition of that number, and every
+/// other event of it leaves the number as it was. Does nothing: its contract is the law.
+pub fn an_exchange_makes_its_transition()
+    ensures { ExchangesMakeTransitions }
 {}
 
 /// Readers are on the fast path only where the level is open; nobody is after a writer's grace period, which is a whole one, until the
