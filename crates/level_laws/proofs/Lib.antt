@@ -9,3 +9,5 @@ pub mod IdleLaws
 pub mod GraceLaws
 pub mod Seams
 pub mod Whole
+pub mod Operations
+pub mod ReadOperations

@@ -1,21 +1,12 @@
 -- an event of the layer above, as it is seen at one level
-use Rattle.std.proofs.Common.{◌≡◌, ℕ, refl, inl, inr}
+use Rattle.std.proofs.Common.{◌≡◌, ℕ, refl}
 use Rattle.std.proofs.Math.Path.{fun_ext}
-use Rattle.std.proofs.lemmas.Bool.Decides.{eqb_tells}
 use Rattle.finite_sums.specs.Sums.{update}
-use Rattle.finite_sums.proofs.Totals.{each_updated}
+use Rattle.finite_sums.proofs.Totals.{each_updated, update_map}
 use Rattle.level_laws.specs.Roles.{SyncRole}
 use Rattle.level_laws.specs.Levels.{level_of}
 
--- what is read of the views, where one of them changes
-pub read_changed : {A B : Type 0} (f : A → B) (at : ℕ → A) (t : ℕ) (v : A) →
-    ◌≡◌ {A = ℕ → B} (λ x. f (update at t v x)) (update (λ x. f (at x)) t (f v))
-read_changed f at t v = fun_ext (λ x. elim (eqb_tells x t) [
-  | inl h ↦ rw (h.0, update)
-  | inr h ↦ rw (h.0, update)
-])
-
--- what is read of the views, where it stays
+-- what is read of the views stays where it stays of the one that changes
 pub read_same : {A B : Type 0} (f : A → B) (at : ℕ → A) (t : ℕ) (v : A) → f v ≡ f (at t) →
     ◌≡◌ {A = ℕ → B} (λ x. f (update at t v x)) (λ x. f (at x))
 read_same f at t v e = fun_ext (λ x. each_updated (λ y w. f w ≡ f (at y)) at t v x e (λ ne. refl))
@@ -29,7 +20,7 @@ module _ {View : Type 0} (role : ℕ → View → SyncRole) (inside : View → �
       { sync = sync' i; block = block' i; full = full' i; at = update (λ x. role i (views x)) t (role i v) }
   seen_here same =
       let e = read_same inside views t v same in
-      let f = read_changed (role i) views t v in
+      let f = update_map (role i) views t v in
       λ q. record { sync = sync' i; block = block' i; full = full' i; section = section; inside = e q; at = f q }
 
   -- an event of task t at another level
@@ -47,6 +38,6 @@ module _ {View : Type 0} (role : ℕ → View → SyncRole) (inside : View → �
       record (level_of role inside sync block full section views i)
       { section = update section t value; inside = update (λ x. inside (views x)) t (inside v) }
   seen_turn value stays =
-      let e = read_changed inside views t v in
+      let e = update_map inside views t v in
       let f = read_same (role i) views t v stays in
       λ q. record { sync = sync i; block = block i; full = full i; section = update section t value; inside = e q; at = f q }

@@ -4,4 +4,5 @@ pub mod Exchanges
 pub mod Events
 pub mod Laws
 pub mod Numbers
+pub mod Operations
 pub mod Levels

@@ -6,8 +6,10 @@
 ghost use Rattle.std.specs.Prelude.{ℕ};
 ghost use Rattle.level_laws.specs.Events.{SyncLevelHolds};
 ghost use Rattle.level_laws.specs.Exchanges.{ExchangesMakeTransitions};
-ghost use Rattle.level_laws.specs.Laws.{StaysSlow, GracesAreWhole, IdleIsEarned, FastFindsOpen, EntersAlone, WritersFind, EventsKeep, opening};
+ghost use Rattle.level_laws.specs.Laws.{EventsKeep, EntersAlone, WritersFind, opening};
+ghost use Rattle.level_laws.specs.Laws.{FastFindsOpen, StaysSlow, GracesAreWhole, IdleIsEarned};
 ghost use Rattle.level_laws.specs.Numbers.{AlwaysGoesOn};
+ghost use Rattle.level_laws.specs.Operations.{DownReadsAreThere, DownWritesAreThere, UpWritesAreThere, CallbacksAreThere};
 
 /// What holds at a level holds at its beginning, and each event there keeps it; a writer that has entered is the only one, and finds
 /// what it needs. Does nothing: its contract is the law.
@@ -16,6 +18,15 @@ pub fn events_keep_the_level()
     ensures keeps { EventsKeep }
     ensures alone { EntersAlone }
     ensures finds { WritersFind }
+{}
+
+/// Each event of a down-read, a down-write, an up-write or a callback is one of those that keep the level. (An up-read's only event is on a
+/// count.) Does nothing: its contract is the law.
+pub fn operations_are_events_of_their_level()
+    ensures down_reads { DownReadsAreThere }
+    ensures down_writes { DownWritesAreThere }
+    ensures up_writes { UpWritesAreThere }
+    ensures callbacks { CallbacksAreThere }
 {}
 
 /// Wherever a writer or a callback loads the sync word, the transition that it asks for is defined. Does nothing: its contract is the
