@@ -1,0 +1,13 @@
+pub mod Exchanges
+pub mod SyncLaws
+pub mod TransitionLaws
+pub mod EventLaws
+pub mod NumberLaws
+pub mod Runs
+pub mod SlowLaws
+pub mod IdleLaws
+pub mod GraceLaws
+pub mod Seams
+pub mod Whole
+pub mod Operations
+pub mod ReadOperations

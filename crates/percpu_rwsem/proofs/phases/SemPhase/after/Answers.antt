@@ -1,0 +1,5 @@
+use Rattle.percpu_rwsem.specs.declared.phases.SemPhase.TheVariants.{UpRead as UpReads}
+use Rattle.percpu_rwsem.proofs.phases.SemPhase.after.Goals as goal
+
+pub returns-in-UpRead : goal.returns-in-UpRead
+returns-in-UpRead c = let e = c.map-in-UpRead.ensures UpReads (λ x y h. h) in rw (e, c.after-next-in-UpRead.ensures, c.in-UpRead.is)

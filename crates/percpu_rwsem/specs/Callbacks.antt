@@ -1,0 +1,55 @@
+-- The order of events of a callback of a level's rcu_sync: which word an event touches and how, and what comes after it.
+use Rattle.std.specs.Prelude.{ℕ, true, false, Option, None, Ok}
+use Rattle.access_model.specs.declared.actions.Action.{Action}
+use Rattle.access_model.specs.declared.replies.Next.{Next}
+use Rattle.access_model.specs.declared.replies.Next.TheVariants.{Go, Wait, Done}
+use Rattle.access_model.specs.declared.replies.Reply.TheVariants.{Ran}
+use Rattle.cpu_words.specs.declared.names.WordName.{WordName}
+use Rattle.cpu_words.specs.declared.names.WordName.TheVariants.{Section}
+use Rattle.cpu_words.specs.declared.events.Touch.{Touch}
+use Rattle.cpu_words.specs.declared.events.Touch.TheVariants.{Load}
+use Rattle.percpu_rwsem.specs.declared.grace.GraceNext.{GraceNext}
+use Rattle.percpu_rwsem.specs.declared.grace.GraceNext.TheVariants.{More as MoreSections, Wait as WaitsFor, Ended}
+use Rattle.percpu_rwsem.specs.declared.transitions.Transition.TheVariants.{Loads}
+use Rattle.percpu_rwsem.specs.declared.transitions.TransitionNext.{TransitionNext}
+use Rattle.percpu_rwsem.specs.declared.transitions.TransitionNext.TheVariants.{More, Undefined, Made}
+use Rattle.percpu_rwsem.specs.declared.callbacks.Callback.{Callback}
+use Rattle.percpu_rwsem.specs.declared.callbacks.CallbackStep.{CallbackStep}
+use Rattle.percpu_rwsem.specs.declared.callbacks.CallbackStep.TheVariants.{Claims, AwaitsSections, CallsBack}
+use Rattle.percpu_rwsem.specs.SyncWords.{on_claim, on_callback}
+use Rattle.percpu_rwsem.specs.Graces.{started, looked}
+use Rattle.percpu_rwsem.specs.Transitions.{transition_next, transition_after}
+
+-- callback: take the one that is queued, wait for a grace period, and make its transition
+abbrev pub callback_next : Callback → CallbackStep → WordName × Touch
+callback_next b (Claims transition) = transition_next b.level transition
+callback_next b (AwaitsSections grace) = (Section grace.task, Load)
+callback_next b (CallsBack transition) = transition_next b.level transition
+
+-- the same callback, with this step to come
+abbrev pub at_callback : Callback → CallbackStep → Callback
+at_callback b step = record b { step = step }
+
+-- what comes after an event of the claim: where none is queued, no callback ran
+abbrev pub claimed : Callback → TransitionNext → Next Callback
+claimed b (More transition) = Go (at_callback b (Claims transition))
+claimed b Undefined = Done (Ok (Ran false))
+claimed b (Made state) = Go (at_callback b (AwaitsSections (started b.tasks)))
+
+-- what comes after a load of a section word
+abbrev pub callback_looked : Callback → GraceNext → Next Callback
+callback_looked b (MoreSections grace) = Go (at_callback b (AwaitsSections grace))
+callback_looked b (WaitsFor grace) = Wait (at_callback b (AwaitsSections grace))
+callback_looked b Ended = Go (at_callback b (CallsBack Loads))
+
+-- what comes after an event of its own transition
+abbrev pub called_back : Callback → TransitionNext → Next Callback
+called_back b (More transition) = Go (at_callback b (CallsBack transition))
+called_back b Undefined = Go (at_callback b (CallsBack Loads))
+called_back b (Made state) = Done (Ok (Ran true))
+
+-- what comes after each event of a callback, in its own phases, none of which adds an action
+abbrev pub callback_after : Callback → CallbackStep → ℕ → Next Callback × Option Action
+callback_after b (Claims transition) found = (claimed b (transition_after on_claim transition found), None)
+callback_after b (AwaitsSections grace) found = (callback_looked b (looked grace found), None)
+callback_after b (CallsBack transition) found = (called_back b (transition_after on_callback transition found), None)

@@ -1,0 +1,30 @@
+-- The order of events of any operation at a level.
+use Rattle.std.specs.Prelude.{ℕ, Option}
+use Rattle.access_model.specs.declared.actions.Action.{Action}
+use Rattle.access_model.specs.declared.replies.Next.{Next}
+use Rattle.access_model.specs.Replies.{map_next}
+use Rattle.cpu_words.specs.declared.names.WordName.{WordName}
+use Rattle.cpu_words.specs.declared.events.Touch.{Touch}
+use Rattle.cpu_words.specs.Hooks.{HookAnswer}
+use Rattle.percpu_rwsem.specs.declared.phases.SemPhase.{SemPhase}
+use Rattle.percpu_rwsem.specs.declared.phases.SemPhase.TheVariants.{DownRead as DownReads, UpRead as UpReads, DownWrite as DownWrites}
+use Rattle.percpu_rwsem.specs.declared.phases.SemPhase.TheVariants.{UpWrite as UpWrites, Callback as Callbacks}
+use Rattle.percpu_rwsem.specs.Readers.{down_read_next, down_read_after, up_read_next, up_read_after}
+use Rattle.percpu_rwsem.specs.Writers.{down_write_next, down_write_after, up_write_next, up_write_after}
+use Rattle.percpu_rwsem.specs.Callbacks.{callback_next, callback_after}
+
+-- the word and the touch of the next event
+abbrev pub next : SemPhase → HookAnswer → WordName × Touch
+next (DownReads r) hook = down_read_next r r.step
+next (UpReads r) hook = up_read_next r
+next (DownWrites d) hook = down_write_next d d.step
+next (UpWrites u) hook = up_write_next u u.step
+next (Callbacks b) hook = callback_next b b.step
+
+-- what comes after the event that found this value, and the action that the event adds
+abbrev pub after : SemPhase → ℕ → HookAnswer → Next SemPhase × Option Action
+after (DownReads r) found hook = (map_next DownReads (down_read_after r r.step found).0, (down_read_after r r.step found).1)
+after (UpReads r) found hook = (map_next UpReads (up_read_after r).0, (up_read_after r).1)
+after (DownWrites d) found hook = (map_next DownWrites (down_write_after d d.step found).0, (down_write_after d d.step found).1)
+after (UpWrites u) found hook = (map_next UpWrites (up_write_after u u.step found).0, (up_write_after u u.step found).1)
+after (Callbacks b) found hook = (map_next Callbacks (callback_after b b.step found).0, (callback_after b b.step found).1)

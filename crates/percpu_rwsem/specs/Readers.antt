@@ -1,0 +1,77 @@
+-- The order of events of a down-read and an up-read: which word an event touches and how, and what comes after it.
+use Rattle.std.specs.Prelude.{ℕ, Bool, true, false, ◌==◌, if◌then◌else◌, Option, Some, None, Ok, Err}
+use Rattle.access_model.specs.declared.actions.Action.{Action}
+use Rattle.access_model.specs.declared.actions.Action.TheVariants.{Grant, Return}
+use Rattle.access_model.specs.declared.actions.Gate.TheVariants.{Level}
+use Rattle.access_model.specs.declared.errors.GateError.TheVariants.{Again}
+use Rattle.access_model.specs.declared.replies.Next.{Next}
+use Rattle.access_model.specs.declared.replies.Next.TheVariants.{Go, Wait, Done}
+use Rattle.access_model.specs.declared.replies.Reply.TheVariants.{Unit as UnitReply}
+use Rattle.cpu_words.specs.declared.names.WordName.{WordName}
+use Rattle.cpu_words.specs.declared.names.WordName.TheVariants.{Block, Sync, LevelCount, Section}
+use Rattle.cpu_words.specs.declared.events.Touch.{Touch}
+use Rattle.cpu_words.specs.declared.events.Touch.TheVariants.{Load, Add, Sub}
+use Rattle.percpu_rwsem.specs.declared.sync_word.GpState.{GpState}
+use Rattle.percpu_rwsem.specs.declared.sync_word.GpState.TheVariants.{Idle, Enter, Passed, Exit, Replay}
+use Rattle.percpu_rwsem.specs.declared.sync_word.SyncWord.{SyncWord}
+use Rattle.percpu_rwsem.specs.declared.readers.DownRead.{DownRead}
+use Rattle.percpu_rwsem.specs.declared.readers.DownReadStep.{DownReadStep}
+use Rattle.percpu_rwsem.specs.declared.readers.DownReadStep.TheVariants.{EntersSection, LoadsSync, CountsUpFast, CountsUpSlow, LoadsBlock, CountsDown, LeavesAdmitted, LeavesBlocked}
+use Rattle.percpu_rwsem.specs.declared.readers.UpRead.{UpRead}
+use Rattle.percpu_rwsem.specs.SyncWords.{unpack}
+
+-- down-read: enter a section; count up at once in GP_IDLE, else count up and ask; take the count back where the level is closed; leave
+-- the section
+abbrev pub down_read_next : DownRead → DownReadStep → WordName × Touch
+down_read_next r EntersSection = (Section r.task, Add 1)
+down_read_next r LoadsSync = (Sync r.level, Load)
+down_read_next r CountsUpFast = (LevelCount r.level r.cpu, Add 1)
+down_read_next r CountsUpSlow = (LevelCount r.level r.cpu, Add 1)
+down_read_next r LoadsBlock = (Block r.level, Load)
+down_read_next r CountsDown = (LevelCount r.level r.cpu, Sub 1)
+down_read_next r LeavesAdmitted = (Section r.task, Add 1)
+down_read_next r LeavesBlocked = (Section r.task, Add 1)
+
+-- the same down-read, with this step to come
+abbrev pub at_down_read : DownRead → DownReadStep → DownRead
+at_down_read r step = record r { step = step }
+
+-- readers are fast in GP_IDLE alone
+abbrev pub step_in : GpState → DownReadStep
+step_in Idle = CountsUpFast
+step_in Enter = CountsUpSlow
+step_in Passed = CountsUpSlow
+step_in Exit = CountsUpSlow
+step_in Replay = CountsUpSlow
+
+-- the step that a sync word leads to: a number that is no word is loaded again
+abbrev pub step_found : Option SyncWord → DownReadStep
+step_found None = LoadsSync
+step_found (Some word) = step_in word.state
+
+-- it left the section, blocked: one that waits begins again
+abbrev pub left_blocked : DownRead → Bool → Next DownRead
+left_blocked r true = Wait (at_down_read r EntersSection)
+left_blocked r false = Done (Err Again)
+
+-- what comes after each event of a down-read, in its own phases: it is granted by its addition in GP_IDLE, else by its load of `block`
+abbrev pub down_read_after : DownRead → DownReadStep → ℕ → Next DownRead × Option Action
+down_read_after r EntersSection found = (Go (at_down_read r LoadsSync), None)
+down_read_after r LoadsSync found = (Go (at_down_read r (step_found (unpack found))), None)
+down_read_after r CountsUpFast found = (Go (at_down_read r LeavesAdmitted), Some (Grant (Level r.level)))
+down_read_after r CountsUpSlow found = (Go (at_down_read r LoadsBlock), None)
+down_read_after r LoadsBlock found = (
+  if found == 0 then Go (at_down_read r LeavesAdmitted) else Go (at_down_read r CountsDown),
+  if found == 0 then Some (Grant (Level r.level)) else None,
+)
+down_read_after r CountsDown found = (Go (at_down_read r LeavesBlocked), None)
+down_read_after r LeavesAdmitted found = (Done (Ok UnitReply), None)
+down_read_after r LeavesBlocked found = (left_blocked r r.wait, None)
+
+-- up-read: one subtraction, on whatever processor
+abbrev pub up_read_next : UpRead → WordName × Touch
+up_read_next r = (LevelCount r.level r.cpu, Sub 1)
+
+-- which returns the access
+abbrev pub up_read_after : UpRead → Next UpRead × Option Action
+up_read_after r = (Done (Ok UnitReply), Some (Return (Level r.level)))
