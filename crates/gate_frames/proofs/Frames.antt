@@ -1,6 +1,6 @@
 -- What an event leaves alone.
-use Rattle.std.proofs.Common.{◌≡◌, ℕ, suc, ◌+◌, ◌<◌, refl, sym, ap, ◌∙◌, subst, inl, inr, arith, true≢false}
-use Rattle.std.specs.Prelude.{◌==◌, ◌&&◌, ◌||◌, if◌then◌else◌, Option}
+use Rattle.std.proofs.Common.{◌≡◌, ℕ, suc, ◌+◌, ◌<◌, refl, sym, ap, ◌∙◌, subst, inl, inr, arith, true≢false, Bool}
+use Rattle.std.specs.Prelude.{◌==◌, ◌&&◌, ◌||◌, if◌then◌else◌, Option, ◌%◌}
 use Rattle.std.proofs.lemmas.Bool.{eq-eqb, ne_eqb}
 use Rattle.std.proofs.lemmas.Bool.Decides.{eqb_tells}
 use Rattle.finite_sums.specs.Sums.{update, total}
@@ -17,11 +17,14 @@ use Rattle.gate_world.specs.Views.{held_at, holds_level, added_after, taken_afte
 use Rattle.gate_world.specs.Worlds.{World}
 use Rattle.gate_world.specs.Shown.{shown, closing, is_passed, node_shown}
 use Rattle.gate_world.specs.Fits.{Fits}
-use Rattle.gate_world.specs.Rules.{role_if, at_mount, owns, remounts, IsSteady, OwnerHolds, ViewFits, Part, Owner, Superblock, Stages, Fitting, AtMount, Holds, SameWords, SameView, GatesHold, IsGood, Known, relied, Relying, Nodes}
+use Rattle.gate_world.specs.Rules.{role_if, at_mount, owns, remounts, IsSteady, OwnerHolds, ViewFits, Part, Owner, Superblock, Stages, Fitting, AtMount, Holds, SameWords, SameView, GatesHold, IsGood, Known, relied, Relying, Nodes, AtLevel, SyncAt, Sections}
 use Rattle.gate_world.specs.Owners.{KnowsWords}
 use Rattle.gate_frames.proofs.Known.{known_same}
 use Rattle.gate_world.specs.Remounts.{Reliance, IsThere, IsKnown}
 use Rattle.gated_tree.specs.Nodes.{IsNode}
+use Rattle.gate_counts.specs.Levels.{Out as CountsNot, LevelView, LevelRole, LevelHolds}
+use Rattle.level_laws.specs.Roles.{Out as IsApart, SyncRole, SyncNumberHolds}
+use Rattle.gate_world.specs.Levels.{inside, at_level, level_role_of, is_frozen_whole, level_added_by, sync_role_of, level_taken_by}
 
 -- a load counts nowhere
 pub added_load : (name : WordName) (added : ℕ → ℕ → ℕ) → added_after name Load added ≡ added
@@ -73,6 +76,19 @@ holds_as {tasks} {processors} ef er es ec ea h = subst (λ X. X) (sym (λ i. Mou
 -- words in which the stage and the superblock's flags are as they were are as a phase relies on them
 pub still_there : (on : Reliance) (old new : Words) → new.stage ≡ old.stage → new.sb ≡ old.sb → IsThere on old → IsThere on new
 still_there on old new es eb h = subst (λ X. X) (λ i. IsKnown on.stage (sym es i) × IsKnown on.sb (sym eb i)) h
+
+-- a view of a level with the same accesses, net additions and role
+pub level_view_as : {h h' : ℕ} {a a' k k' : ℕ → ℕ} {r r' : LevelRole} → h ≡ h' → a ≡ a' → k ≡ k' → r ≡ r' →
+    ◌≡◌ {A = LevelView} (record { held = h; added = a; taken = k; role = r }) (record { held = h'; added = a'; taken = k'; role = r' })
+level_view_as eh ea ek er = λ i. record { held = eh i; added = ea i; taken = ek i; role = er i }
+
+pub level_as : {tasks processors b b' f f' : ℕ} {c c' : ℕ → ℕ} {at at' : ℕ → LevelView} → b ≡ b' → f ≡ f' → c ≡ c' → at ≡ at' →
+    LevelHolds tasks processors b' f' c' at' → LevelHolds tasks processors b f c at
+level_as {tasks} {processors} eb ef ec ea h = subst (λ X. X) (sym (λ i. LevelHolds tasks processors (eb i) (ef i) (ec i) (ea i))) h
+
+pub sync_as : {tasks n n' b b' f f' : ℕ} {s s' : ℕ → ℕ} {at at' : ℕ → SyncRole} → n ≡ n' → b ≡ b' → f ≡ f' → s ≡ s' → at ≡ at' →
+    SyncNumberHolds tasks n' b' f' s' at' → SyncNumberHolds tasks n b f s at
+sync_as {tasks} en eb ef es ea h = subst (λ X. X) (sym (λ i. SyncNumberHolds tasks (en i) (eb i) (ef i) (es i) (ea i))) h
 
 -- one mount after an event of this task, which makes this of its flags and counts and of the task's view
 abbrev pub MountHoldsAfter : Config → World → ℕ → ℕ → ℕ → (ℕ → ℕ) → MountView → Type 0
@@ -159,6 +175,17 @@ module _ (c : Config) (w : World) (t : ℕ) (lt : t < c.tasks) where
       holds_as same.0 same.1 same.2 same.3 (update_map (at_mount m) w.views t v ∙
       (ap (update (λ x. at_mount m (w.views x)) t) seen ∙ update_same (λ x. at_mount m (w.views x)) t)) (h lm)
 
+  left_alone (AtLevel i) ws v same seen h = λ l1 l3.
+      level_as same.0 same.2 same.1 (update_map (at_level i) w.views t v ∙
+      (ap (update (λ x. at_level i (w.views x)) t) seen ∙ update_same (λ x. at_level i (w.views x)) t)) (h l1 l3)
+  left_alone (SyncAt i) ws v same seen h = λ l1 l3.
+      sync_as same.0 same.1 same.3 same.2 (update_map (λ (u : View). sync_role_of i u.phase) w.views t v ∙
+      (ap (update (λ x. sync_role_of i (w.views x).phase) t) seen ∙ update_same (λ x. sync_role_of i (w.views x).phase) t)) (h l1 l3)
+  left_alone Sections ws v same seen h = λ x lx.
+      ap (λ f. f x % 2) same ∙
+      each_updated (λ y (u : View). y < c.tasks → w.words.section y % 2 ≡ inside u.phase) w.views t v x
+      (λ l. h t l ∙ sym seen) (λ ne. h x) lx
+
   module _ (good : IsGood c w) where
     -- an owner's words and phase as they were
     pub owner_same : (v : View) → IsSteady (w.views t).phase v.phase →
@@ -193,3 +220,42 @@ module _ (c : Config) (w : World) (t : ℕ) (lt : t < c.tasks) where
               left_alone (AtMount n) ws v (o.0, er, es, o.1) o.2 (good (AtMount n)) ln
         ]
     gates_after m ws v er es owner fits off own part h = absurd (true≢false (sym h))
+
+-- a phase that counts at no level, has no part in its rcu_sync, and is inside no section
+pub record IsOffLevels (p : Option Phase) : Type 0 where
+  pub counts_not : (i : ℕ) → level_role_of i p ≡ CountsNot
+  pub apart : (i : ℕ) → sync_role_of i p ≡ IsApart
+  pub outside : inside p ≡ 0
+
+-- what the parts of levels read of the words is the same
+pub record SameLevelWords (old new : Words) : Type 0 where
+  pub block_same : new.block ≡ old.block
+  pub level_same : new.level ≡ old.level
+  pub sync_same : new.sync ≡ old.sync
+  pub section_same : new.section ≡ old.section
+  pub whole_same : is_frozen_whole new ≡ is_frozen_whole old
+
+-- and of a view's accesses and net additions
+pub record SameLevelCounts (old new : View) : Type 0 where
+  pub held_same : holds_level new ≡ holds_level old
+  pub added_same : level_added_by new.events ≡ level_added_by old.events
+  pub taken_same : level_taken_by new.events ≡ level_taken_by old.events
+
+-- so an event of such a phase leaves the levels alone
+module _ (c : Config) (w : World) (t : ℕ) (lt : t < c.tasks) (good : IsGood c w) (ws : Words) (v : View)
+    (words : SameLevelWords w.words ws) (counts : SameLevelCounts (w.views t) v) (was : IsOffLevels (w.views t).phase)
+    (now : IsOffLevels v.phase) where
+  pub level_left : (i : ℕ) → Holds c (record { words = ws; views = update w.views t v }) (AtLevel i)
+  level_left i =
+      left_alone c w t lt (AtLevel i) ws v (ap (λ f. f i) words.block_same, ap (λ f. f i) words.level_same, words.whole_same)
+      (level_view_as (ap (λ (f : ℕ → Bool). if f i then 1 else 0) counts.held_same) (ap (λ f. f i) counts.added_same)
+      (ap (λ f. f i) counts.taken_same) (now.counts_not i ∙ sym (was.counts_not i))) (good (AtLevel i))
+
+  pub sync_left : (i : ℕ) → Holds c (record { words = ws; views = update w.views t v }) (SyncAt i)
+  sync_left i =
+      left_alone c w t lt (SyncAt i) ws v
+      (ap (λ f. f i) words.sync_same, ap (λ f. f i) words.block_same, words.section_same, words.whole_same)
+      (now.apart i ∙ sym (was.apart i)) (good (SyncAt i))
+
+  pub sections_left : Holds c (record { words = ws; views = update w.views t v }) Sections
+  sections_left = left_alone c w t lt Sections ws v words.section_same (now.outside ∙ sym was.outside) (good Sections)

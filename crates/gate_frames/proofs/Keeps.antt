@@ -28,6 +28,9 @@ use Rattle.gate_world.specs.declared.views.Traced.{Traced}
 use Rattle.gate_world.specs.Courses.{course_of, IsTrace}
 use Rattle.gate_world.specs.Traces.{Tells, IsShort, most_events}
 use Rattle.gate_world.specs.Remounts.{on_nothing}
+use Rattle.gate_counts.specs.Levels.{Out as CountsNot}
+use Rattle.level_laws.specs.Roles.{Out as IsApart}
+use Rattle.gate_world.specs.Levels.{inside, level_role_of, sync_role_of}
 
 pub by_bool : (b : Bool) (P : Bool → Type 0) → P true → P false → P b
 by_bool true P x y = x
@@ -97,10 +100,13 @@ pub record OpKeeps (c : Config) (op : Op) : Type 0 where
   pub fits : (t : ℕ) (held : ℕ → ℕ) (levels : ℕ → Bool) → is_in_range c op ≡ true → is_in_order c held levels op ≡ true →
       is_within_room held op ≡ true →
       Fits c t held levels (Some (first_phase c t op))
-  -- which has no role yet, relies on nothing, and has no cause
+  -- which has no role yet at a mount or a level, relies on nothing, is inside no section, and has no cause
   pub no_role : (t y : ℕ) → role_of y (Some (first_phase c t op)) ≡ Out
   pub steady : (t : ℕ) → IsSteady None (Some (first_phase c t op))
   pub relies : (t : ℕ) → relied (Some (first_phase c t op)) ≡ on_nothing
+  pub counts_not : (t i : ℕ) → level_role_of i (Some (first_phase c t op)) ≡ CountsNot
+  pub apart : (t i : ℕ) → sync_role_of i (Some (first_phase c t op)) ≡ IsApart
+  pub outside : (t : ℕ) → inside (Some (first_phase c t op)) ≡ 0
   pub cause : (t : ℕ) (w : World) (earlier : List World) → CauseOf c t w earlier (Some (first_phase c t op))
   -- whether it may begin is the same with accesses that agree
   pub order_agrees : (f g : ℕ → ℕ) (h k : ℕ → Bool) → ((m : ℕ) → m < c.mounts → f m ≡ g m) → ((i : ℕ) → 1 ≤ i → i ≤ 3 → h i ≡ k i) →

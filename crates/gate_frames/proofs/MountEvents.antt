@@ -1,22 +1,22 @@
 -- What the events of want, drop and change touch: the rest of the rule stays.
-use Rattle.gate_frames.proofs.Frames.{left_alone}
-use Rattle.gate_world.specs.Rules.{AtMount, Fitting, Holds, IsGood, Known, Owner, Part, SameView, SameWords, Stages, StepKeeps, Superblock, at_gates, change_owns, owns, GateStepKeeps, Relying, relied, Nodes}
-use Rattle.std.proofs.Common.{Bool, arith, inl, inr, refl, sym, true, true≢false, ◌≡◌, ◌<◌, ◌⊎◌, subst, ℕ, ◌∙◌, ap}
+use Rattle.gate_frames.proofs.Frames.{left_alone, level_view_as}
+use Rattle.gate_world.specs.Rules.{AtMount, Fitting, Holds, IsGood, Known, Owner, Part, SameView, SameWords, Stages, StepKeeps, Superblock, at_gates, change_owns, owns, GateStepKeeps, Relying, relied, Nodes, AtLevel, SyncAt, Sections}
+use Rattle.std.proofs.Common.{Bool, arith, inl, inr, refl, sym, true, true≢false, ◌≡◌, ◌<◌, ◌⊎◌, subst, ℕ, ◌∙◌, ap, List}
 use Rattle.mount_counts.specs.declared.phases.Change.{Change}
 use Rattle.mount_counts.specs.declared.phases.ChangeStep.{ChangeStep}
 use Rattle.mount_counts.specs.declared.phases.MountPhase.TheVariants.{Change as Changes, Drop as Drops, Want as Wants}
 use Rattle.gate_world.specs.declared.config.Config.{Config}
-use Rattle.mount_counts.specs.declared.phases.WantStep.TheVariants.{CountsDown, CountsUp}
+use Rattle.mount_counts.specs.declared.phases.WantStep.TheVariants.{CountsDown, CountsUp, LoadsSuperblock}
 use Rattle.access_model.specs.declared.replies.Next.TheVariants.{Done, Go, Wait}
 use Rattle.cpu_words.specs.Hooks.{HookAnswer}
 use Rattle.gate_frames.proofs.Known.{IsOwnersWork, known_after}
 use Rattle.cpu_words.specs.declared.events.Touch.TheVariants.{Load}
 use Rattle.mount_counts.specs.declared.phases.ChangeStep.TheVariants.{LoadsSuperblock as LoadsSb, Locks, Sums}
-use Rattle.cpu_words.specs.declared.names.WordName.TheVariants.{MountCount, MountFlags, Stage, Umount, Node, SbFlags}
+use Rattle.cpu_words.specs.declared.names.WordName.TheVariants.{MountCount, MountFlags, Stage, Umount, Node, SbFlags, Block, LevelCount, Sync, Section}
 use Rattle.mount_counts.specs.declared.phases.MountPhase.{MountPhase}
 use Rattle.gate_world.specs.declared.work.Phase.TheVariants.{Mounts}
 use Rattle.access_model.specs.declared.replies.Next.{Next}
-use Rattle.std.specs.Prelude.{Some, false, sum, ◌==◌}
+use Rattle.std.specs.Prelude.{Some, false, sum, ◌==◌, if◌then◌else◌}
 use Rattle.cpu_words.specs.declared.events.Touch.{Touch}
 use Rattle.gate_world.specs.declared.views.View.{View}
 use Rattle.mount_counts.specs.declared.phases.Want.{Want}
@@ -31,8 +31,13 @@ use Rattle.gate_world.specs.Found.{is_load}
 use Rattle.gate_world.specs.Owners.{is_owned, takes_lock}
 use Rattle.gate_frames.proofs.Words.{load_same}
 use Rattle.access_model.specs.Replies.{map_next}
-use Rattle.gate_world.specs.Views.{phase_after, view_after}
+use Rattle.gate_world.specs.Views.{phase_after, view_after, actions_after}
 use Rattle.gate_world.specs.Remounts.{on_nothing}
+use Rattle.gate_counts.specs.Levels.{Out as CountsNot}
+use Rattle.level_laws.specs.Roles.{Out as IsApart}
+use Rattle.gate_world.specs.Levels.{inside, at_level, level_added_after, level_taken_after, level_role_of, sync_role_of, level_added_by, level_taken_by}
+use Rattle.access_model.specs.declared.actions.Action.{Action}
+use Rattle.access_model.specs.Histories.{levels_of}
 
 -- the words that want, drop and change write
 abbrev pub is_gate_word : WordName → Bool
@@ -81,6 +86,9 @@ same_words w Known = (refl, refl, refl, refl)
 same_words w Relying = (refl, refl)
 same_words w Nodes = refl
 same_words w (AtMount m) = (refl, refl, refl, refl)
+same_words w (AtLevel i) = (refl, refl, refl)
+same_words w (SyncAt i) = (refl, refl, refl, refl)
+same_words w Sections = refl
 
 -- a load leaves what each part reads
 pub load_unread : (w : Words) (word : WordName) (touch : Touch) (part : Part) → is_load touch ≡ true →
@@ -97,18 +105,64 @@ unread Known h k word q w n = absurd (true≢false k)
 unread Relying h k Stage q w n = absurd (true≢false (sym q))
 unread Relying h k SbFlags q w n = absurd (true≢false (sym q))
 unread Relying h k word q w n = (refl, refl)
+unread (AtLevel j) h k Stage q w n = absurd (true≢false (sym q))
+unread (AtLevel j) h k SbFlags q w n = absurd (true≢false (sym q))
+unread (AtLevel j) h k (Block i) q w n = absurd (true≢false (sym q))
+unread (AtLevel j) h k (LevelCount i p) q w n = absurd (true≢false (sym q))
+unread (AtLevel j) h k word q w n = (refl, refl, refl)
+unread (SyncAt j) h k Stage q w n = absurd (true≢false (sym q))
+unread (SyncAt j) h k SbFlags q w n = absurd (true≢false (sym q))
+unread (SyncAt j) h k (Block i) q w n = absurd (true≢false (sym q))
+unread (SyncAt j) h k (Sync i) q w n = absurd (true≢false (sym q))
+unread (SyncAt j) h k (Section t) q w n = absurd (true≢false (sym q))
+unread (SyncAt j) h k word q w n = (refl, refl, refl, refl)
+unread Sections h k (Section t) q w n = absurd (true≢false (sym q))
+unread Sections h k word q w n = refl
 unread Nodes h k (Node i) q w n = absurd (true≢false (sym q))
 unread Nodes h k word q w n = refl
 unread part h k word q w n = absurd (true≢false h)
 
--- nor do they read what such an event changes of its task's view
-unseen : (part : Part) → at_gates part ≡ false → is_known_part part ≡ false → (old new : View) → relied new.phase ≡ relied old.phase →
-    SameView old new part
+-- what the parts that an event of want, drop or change doesn't touch read of its task's view is the same
+record IsUnseen (old new : View) : Type 0 where
+  relied_same : relied new.phase ≡ relied old.phase
+  level_same : (i : ℕ) → at_level i new ≡ at_level i old
+  sync_same : (i : ℕ) → sync_role_of i new.phase ≡ sync_role_of i old.phase
+  inside_same : inside new.phase ≡ inside old.phase
+
+-- so they read the same
+unseen : (part : Part) → at_gates part ≡ false → is_known_part part ≡ false → (old new : View) → IsUnseen old new → SameView old new part
 unseen Stages h k old new same = tt
 unseen Known h k old new same = absurd (true≢false k)
-unseen Relying h k old new same = same
+unseen Relying h k old new same = same.relied_same
 unseen Nodes h k old new same = tt
+unseen (AtLevel i) h k old new same = same.level_same i
+unseen (SyncAt i) h k old new same = same.sync_same i
+unseen Sections h k old new same = same.inside_same
 unseen part h k old new same = absurd (true≢false h)
+
+-- an event on a word of want, drop and change counts at no level
+level_added_gate : (word : WordName) → is_gate_word word ≡ true → (touch : Touch) (added : ℕ → ℕ → ℕ) →
+    level_added_after word touch added ≡ added
+level_added_gate (LevelCount i p) q touch added = absurd (true≢false (sym q))
+level_added_gate word q touch added = refl
+
+level_taken_gate : (word : WordName) → is_gate_word word ≡ true → (touch : Touch) (taken : ℕ → ℕ → ℕ) →
+    level_taken_after word touch taken ≡ taken
+level_taken_gate (LevelCount i p) q touch taken = absurd (true≢false (sym q))
+level_taken_gate word q touch taken = refl
+
+-- nor does a load
+pub level_added_load : (word : WordName) (touch : Touch) (added : ℕ → ℕ → ℕ) → is_load touch ≡ true →
+    level_added_after word touch added ≡ added
+level_added_load Umount Load added h = refl
+level_added_load word Load added h = refl
+level_added_load word touch added h = absurd (true≢false (sym h))
+
+pub level_taken_load : (word : WordName) (touch : Touch) (taken : ℕ → ℕ → ℕ) → is_load touch ≡ true →
+    level_taken_after word touch taken ≡ taken
+level_taken_load Umount Load taken h = refl
+level_taken_load word Load taken h = refl
+level_taken_load word touch taken h = absurd (true≢false (sym h))
 
 -- want, drop and change rely on nothing
 mounts_rely : (next : Next MountPhase) → relied (phase_after (map_next Mounts next)) ≡ on_nothing
@@ -162,6 +216,63 @@ mounts_work w (Changes x) hook = record {
   comes_to_own = change_comes x x.step (value_at w.words (Mounts (Changes x)) hook);
 }
 
+-- want, drop and change count at no level, have no part in its rcu_sync, and are inside no section
+mounts_count : (i : ℕ) (next : Next MountPhase) → level_role_of i (phase_after (map_next Mounts next)) ≡ CountsNot
+mounts_count i (Go x) = refl
+mounts_count i (Wait x) = refl
+mounts_count i (Done answer) = refl
+
+mounts_apart : (i : ℕ) (next : Next MountPhase) → sync_role_of i (phase_after (map_next Mounts next)) ≡ IsApart
+mounts_apart i (Go x) = refl
+mounts_apart i (Wait x) = refl
+mounts_apart i (Done answer) = refl
+
+mounts_outside : (next : Next MountPhase) → inside (phase_after (map_next Mounts next)) ≡ 0
+mounts_outside (Go x) = refl
+mounts_outside (Wait x) = refl
+mounts_outside (Done answer) = refl
+
+-- and they add no action at a level
+want_levels : (x : Want) (s : WantStep) (found : ℕ) (actions : List Action) →
+    levels_of (actions_after (want_after x s found).1 actions) ≡ levels_of actions
+want_levels x LoadsSuperblock found actions = elim (cases_Bool (found == 0)) [ inl h ↦ rw h refl | inr h ↦ rw h refl ]
+want_levels x s found actions = refl
+
+change_levels : (x : Change) (s : ChangeStep) (found : ℕ) (actions : List Action) →
+    levels_of (actions_after (change_after x s found).1 actions) ≡ levels_of actions
+change_levels x Locks found actions = refl
+change_levels x s found actions = refl
+
+mounts_levels : (x : MountPhase) (found : ℕ) (hook : HookAnswer) (actions : List Action) →
+    levels_of (actions_after (after x found hook).1 actions) ≡ levels_of actions
+mounts_levels (Wants x) found hook actions = want_levels x x.step found actions
+mounts_levels (Drops m p) found hook actions = refl
+mounts_levels (Changes x) found hook actions = change_levels x x.step found actions
+
+-- so their events are unseen at the levels
+mounts_unseen : (v : View) (x : MountPhase) (value : ℕ) (hook : HookAnswer) → v.phase ≡ Some (Mounts x) →
+    IsUnseen v (view_after v (Mounts x) value hook)
+mounts_unseen v x value hook e =
+    let found : ℕ = found_by (next x hook).1 value in
+    let added : level_added_after (next x hook).0 (next x hook).1 (level_added_by v.events) ≡ level_added_by v.events =
+    elim (mounts_touch x hook) [
+      | inl h ↦ level_added_load (next x hook).0 (next x hook).1 (level_added_by v.events) h
+      | inr h ↦ level_added_gate (next x hook).0 h (next x hook).1 (level_added_by v.events)
+    ] in
+    let taken : level_taken_after (next x hook).0 (next x hook).1 (level_taken_by v.events) ≡ level_taken_by v.events =
+    elim (mounts_touch x hook) [
+      | inl h ↦ level_taken_load (next x hook).0 (next x hook).1 (level_taken_by v.events) h
+      | inr h ↦ level_taken_gate (next x hook).0 h (next x hook).1 (level_taken_by v.events)
+    ] in
+    record {
+      relied_same = mounts_rely (after x found hook).0 ∙ sym (ap relied e);
+      level_same = λ i. level_view_as
+          (ap (λ (f : ℕ → Bool). if f i then 1 else 0) (mounts_levels x found hook v.actions))
+          (ap (λ f. f i) added) (ap (λ f. f i) taken) (mounts_count i (after x found hook).0 ∙ sym (ap (level_role_of i) e));
+      sync_same = λ i. mounts_apart i (after x found hook).0 ∙ sym (ap (sync_role_of i) e);
+      inside_same = mounts_outside (after x found hook).0 ∙ sym (ap inside e);
+    }
+
 -- what an event of want, drop or change leaves of the other parts
 others_hold : (c : Config) (w : World) (t : ℕ) → t < c.tasks → IsGood c w → (hook : HookAnswer) (x : MountPhase) →
     (w.views t).phase ≡ Some (Mounts x) →
@@ -177,7 +288,7 @@ others_hold c w t lt good hook x e part h false k =
       | inr f ↦ unread part h k (next x hook).0 f w.words (left (next x hook).1 (read w.words (next x hook).0))
     ])
     (unseen part h k (w.views t) (view_after (w.views t) (Mounts x) (value_at w.words (Mounts x) hook) hook)
-    (mounts_rely (after x (found_at w.words (Mounts x) hook) hook).0 ∙ sym (ap relied e))) (good part)
+    (mounts_unseen (w.views t) x (value_at w.words (Mounts x) hook) hook e)) (good part)
 
 -- so an event of want, drop or change keeps the rule where it keeps the parts that it may touch
 pub whole_step : (c : Config) (w : World) (t : ℕ) → t < c.tasks → IsGood c w → (hook : HookAnswer) (x : MountPhase) →

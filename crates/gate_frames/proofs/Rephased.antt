@@ -20,9 +20,9 @@ use Rattle.gate_world.specs.Views.{held_at, holds_level, phase_after, actions_af
 use Rattle.gate_world.specs.Fits.{Fits, mounts_by, levels_by}
 use Rattle.gate_world.specs.Worlds.{World}
 use Rattle.gate_world.specs.Shown.{shown}
-use Rattle.gate_world.specs.Rules.{ViewFits, Part, Owner, Superblock, Stages, Fitting, Known, AtMount, Holds, IsGood, Moves, Relying, Nodes}
+use Rattle.gate_world.specs.Rules.{ViewFits, Part, Owner, Superblock, Stages, Fitting, Known, AtMount, Holds, IsGood, Moves, Relying, Nodes, AtLevel, SyncAt, Sections}
 use Rattle.gate_world.specs.Alike.{IsAlike, at_phase, rephased}
-use Rattle.gate_frames.proofs.Frames.{view_as, shown_still, left_alone}
+use Rattle.gate_frames.proofs.Frames.{view_as, shown_still, left_alone, level_view_as}
 
 -- what is alike to a phase is alike to the same phase
 alike_of : {p q r : Option Phase} → p ≡ q → IsAlike q r → IsAlike p r
@@ -54,6 +54,14 @@ module _ (c : Config) (w : World) (t : ℕ) (lt : t < c.tasks) (q : Option Phase
   rephased_part fits good (AtMount m) =
       left_alone c w t lt (AtMount m) w.words (at_phase (w.views t) q) (refl, refl, refl, refl) (view_as refl refl refl (same.role_same m))
       (good (AtMount m))
+
+  rephased_part fits good (AtLevel i) =
+      left_alone c w t lt (AtLevel i) w.words (at_phase (w.views t) q) (refl, refl, refl) (level_view_as refl refl refl (same.level_same i))
+      (good (AtLevel i))
+  rephased_part fits good (SyncAt i) =
+      left_alone c w t lt (SyncAt i) w.words (at_phase (w.views t) q) (refl, refl, refl, refl) (same.sync_same i) (good (SyncAt i))
+  rephased_part fits good Sections =
+      left_alone c w t lt Sections w.words (at_phase (w.views t) q) refl same.inside_same (good Sections)
 
   -- so the rule does
   pub rephased_good : Fits c t (held_at (w.views t)) (holds_level (w.views t)) q → IsGood c w → IsGood c (rephased w t q)

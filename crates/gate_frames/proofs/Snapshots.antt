@@ -18,7 +18,7 @@ use Rattle.gate_world.specs.Views.{view_with, view_after, view_after_beside}
 use Rattle.gate_world.specs.Worlds.{World, value_at, found_at, words_after, after_step, after_step_beside}
 use Rattle.gate_world.specs.Shown.{shown}
 use Rattle.gate_world.specs.Moments.{CompletesNow}
-use Rattle.gate_world.specs.Rules.{Part, Owner, Superblock, Stages, Fitting, Known, AtMount, Holds, IsGood, Relying, Nodes}
+use Rattle.gate_world.specs.Rules.{Part, Owner, Superblock, Stages, Fitting, Known, AtMount, Holds, IsGood, Relying, Nodes, AtLevel, SyncAt, Sections}
 
 -- a view, and a world, without their snapshots
 abbrev bare_view : View → View
@@ -37,6 +37,9 @@ bare_part c w Known = refl
 bare_part c w Relying = refl
 bare_part c w Nodes = refl
 bare_part c w (AtMount m) = refl
+bare_part c w (AtLevel i) = refl
+bare_part c w (SyncAt i) = refl
+bare_part c w Sections = refl
 
 bare_views : (f : ℕ → View) (t : ℕ) (u v : View) → bare_view u ≡ bare_view v → (x : ℕ) →
     bare_view (update f t u x) ≡ bare_view (update f t v x)

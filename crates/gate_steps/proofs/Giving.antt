@@ -141,6 +141,11 @@ renewed_part c w good n lt Known = λ x lx.
 renewed_part c w good n lt Owner = left_alone c w n lt Owner w.words (renewed (w.views n)) (refl, refl) (refl, refl) (good Owner)
 renewed_part c w good n lt Fitting = left_alone c w n lt Fitting w.words (renewed (w.views n)) tt (refl, refl, refl) (good Fitting)
 renewed_part c w good n lt Relying = left_alone c w n lt Relying w.words (renewed (w.views n)) (refl, refl) refl (good Relying)
+renewed_part c w good n lt (AtLevel i) =
+    left_alone c w n lt (AtLevel i) w.words (renewed (w.views n)) (refl, refl, refl) refl (good (AtLevel i))
+renewed_part c w good n lt (SyncAt i) =
+    left_alone c w n lt (SyncAt i) w.words (renewed (w.views n)) (refl, refl, refl, refl) refl (good (SyncAt i))
+renewed_part c w good n lt Sections = left_alone c w n lt Sections w.words (renewed (w.views n)) refl refl (good Sections)
 renewed_part c w good n lt (AtMount m) =
     left_alone c w n lt (AtMount m) w.words (renewed (w.views n)) (refl, refl, refl, refl) refl (good (AtMount m))
 renewed_part c w good n lt part = left_alone c w n lt part w.words (renewed (w.views n)) refl tt (good part)

@@ -7,11 +7,15 @@ use Rattle.gate_world.specs.declared.work.Phase.{Phase}
 use Rattle.gate_world.specs.declared.views.View.{View}
 use Rattle.gate_world.specs.Rules.{role_of, relied, IsSteady}
 use Rattle.gate_world.specs.Worlds.{World}
+use Rattle.gate_world.specs.Levels.{level_role_of, sync_role_of, inside}
 
 -- all that the rule and the shown model read of a phase is the same of both, but for the accesses that it asks for
 pub record IsAlike (p q : Option Phase) : Type 0 where
   pub steady : IsSteady p q
   pub relied_same : relied q ≡ relied p
+  pub level_same : (i : ℕ) → level_role_of i q ≡ level_role_of i p
+  pub sync_same : (i : ℕ) → sync_role_of i q ≡ sync_role_of i p
+  pub inside_same : inside q ≡ inside p
   pub role_same : (m : ℕ) → role_of m q ≡ role_of m p
 
 -- the view of a task that stands at this phase

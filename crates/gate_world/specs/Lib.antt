@@ -11,6 +11,7 @@ pub mod Beginnings
 pub mod Worlds
 pub mod Shown
 pub mod Moments
+pub mod Levels
 pub mod Fits
 pub mod Rules
 pub mod Alike

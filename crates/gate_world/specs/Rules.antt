@@ -20,6 +20,9 @@ use Rattle.gate_world.specs.declared.views.View.{View}
 use Rattle.gate_world.specs.Configs.{model_limits}
 use Rattle.gate_world.specs.Views.{held_at, holds_level, added_by, taken_by}
 use Rattle.gated_tree.specs.Nodes.{IsNode}
+use Rattle.gate_counts.specs.Levels.{LevelHolds}
+use Rattle.level_laws.specs.Roles.{SyncNumberHolds}
+use Rattle.gate_world.specs.Levels.{sync_role_of, inside, at_level, is_frozen_whole, SectionsAreOdd}
 use Rattle.gate_world.specs.Fits.{Fits}
 use Rattle.gate_world.specs.Remounts.{remount_role, remount_owns, remount_sets, Reliance, on_nothing, remount_relies, IsThere}
 use Rattle.gate_world.specs.Owners.{KnowsWords}
@@ -134,11 +137,28 @@ pub data Part : Type 0 where
   Nodes : Part
   -- one mount
   AtMount : (m : ℕ) → Part
+  -- one freeze level: its counts
+  AtLevel : (i : ℕ) → Part
+  -- and its rcu_sync, its `block` and the sections that its grace periods wait for
+  SyncAt : (i : ℕ) → Part
+  -- the read-side sections
+  Sections : Part
 
 -- what the part of one mount says of a world that has the mount
 abbrev pub MountHoldsIn : Config → World → ℕ → Type 0
 MountHoldsIn c w m =
     MountHolds c.tasks c.processors (w.words.flags m) w.words.remount w.words.sb (w.words.count m) (λ t. at_mount m (w.views t))
+
+-- what the counts of one level say of a world
+abbrev pub LevelHoldsIn : Config → World → ℕ → Type 0
+LevelHoldsIn c w i =
+    LevelHolds c.tasks c.processors (w.words.block i) (is_frozen_whole w.words) (w.words.level i) (λ t. at_level i (w.views t))
+
+-- and what its rcu_sync says
+abbrev pub SyncHoldsIn : Config → World → ℕ → Type 0
+SyncHoldsIn c w i =
+    SyncNumberHolds c.tasks (w.words.sync i) (w.words.block i) (is_frozen_whole w.words) w.words.section
+    (λ t. sync_role_of i (w.views t).phase)
 
 -- what a part says of a world
 abbrev pub Holds : Config → World → Part → Type 0
@@ -150,6 +170,9 @@ Holds c w Known = (t : ℕ) → t < c.tasks → owns (w.views t).phase ≡ 1 →
 Holds c w Relying = (t : ℕ) → t < c.tasks → IsThere (relied (w.views t).phase) w.words
 Holds c w Nodes = (n : ℕ) → IsNode (w.words.node n)
 Holds c w (AtMount m) = m < c.mounts → MountHoldsIn c w m
+Holds c w (AtLevel i) = 1 ≤ i → i ≤ 3 → LevelHoldsIn c w i
+Holds c w (SyncAt i) = 1 ≤ i → i ≤ 3 → SyncHoldsIn c w i
+Holds c w Sections = SectionsAreOdd c.tasks w.words.section (λ t. (w.views t).phase)
 
 -- what a part reads of the words: these are as they were
 abbrev pub SameWords : Words → Words → Part → Type 0
@@ -161,8 +184,13 @@ SameWords old new Known = (new.stage ≡ old.stage) × (new.sb ≡ old.sb) × (n
 SameWords old new Relying = (new.stage ≡ old.stage) × (new.sb ≡ old.sb)
 SameWords old new Nodes = new.node ≡ old.node
 SameWords old new (AtMount m) = (new.flags m ≡ old.flags m) × (new.remount ≡ old.remount) × (new.sb ≡ old.sb) × (new.count m ≡ old.count m)
+SameWords old new (AtLevel i) = (new.block i ≡ old.block i) × (new.level i ≡ old.level i) × (is_frozen_whole new ≡ is_frozen_whole old)
+SameWords old new (SyncAt i) =
+    (new.sync i ≡ old.sync i) × (new.block i ≡ old.block i) × (new.section ≡ old.section) × (is_frozen_whole new ≡ is_frozen_whole old)
+SameWords old new Sections = new.section ≡ old.section
 
 -- what a part reads of a task's view: this is as it was
+
 abbrev pub SameView : View → View → Part → Type 0
 SameView old new Owner = (owns new.phase ≡ owns old.phase) × (remounts new.phase ≡ remounts old.phase)
 SameView old new Superblock = Unit {0}
@@ -172,6 +200,9 @@ SameView old new Known = (owns new.phase ≡ owns old.phase) × (new.trace ≡ o
 SameView old new Relying = relied new.phase ≡ relied old.phase
 SameView old new Nodes = Unit {0}
 SameView old new (AtMount m) = at_mount m new ≡ at_mount m old
+SameView old new (AtLevel i) = at_level i new ≡ at_level i old
+SameView old new (SyncAt i) = sync_role_of i new.phase ≡ sync_role_of i old.phase
+SameView old new Sections = inside new.phase ≡ inside old.phase
 
 -- the rule: each part
 abbrev pub IsGood : Config → World → Type 0

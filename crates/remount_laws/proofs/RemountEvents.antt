@@ -53,6 +53,11 @@ use Rattle.std.proofs.lemmas.Bool.{cases_Bool}
 use Rattle.mount_counts.specs.Phases.{has_flag}
 use Rattle.std.proofs.lemmas.Nat.Bits.{and_pow}
 use Rattle.access_model.specs.States.{IsFile}
+use Rattle.gate_world.specs.Levels.{is_frozen_whole}
+
+-- at stage 0 the file system isn't frozen, whatever the superblock's flags are
+not_frozen : (w : Words) (set sealing : ℕ) → w.stage ≡ 0 → is_frozen_whole (record w { remount = set; sb = sealing }) ≡ is_frozen_whole w
+not_frozen w set sealing z = rw (ne_eqb w.stage 4 (λ q. omega (arith, z, q))) refl
 
 -- the mark's bit of a word is its mark
 mark_set : (word : ℕ) → has_flag word 4 ≡ true → dirty_in word ≡ 1
@@ -118,8 +123,8 @@ module _ (c : Config) (lim : IsWithin c) (w : World) (good : IsGood c w) (t : �
       in
       let after : PartsHold c w good t lt x s e (record w.words { remount = 1 }) v ×
       (shown c (record { words = record w.words { remount = 1 }; views = update w.views t v }) ≡ record (shown c w) { sb_ro = true }) =
-      stores c w good t lt x s e refl (let_go held) v refl (refl, refl, refl, refl)
-      (f.0, f.1, f.2, f.3, f.4, let_go_fits c lim held f.5) 1 w.words.sb true (good Superblock)
+      stores c w good t lt x s e refl (let_go held) v refl (refl, refl, refl, refl, refl, refl)
+      (f.0, f.1, f.2, f.3, f.4, let_go_fits c lim held f.5) 1 w.words.sb true refl (good Superblock)
       (let_go_stays held w.words.stage w.words.sb k.0 k.1) refl
       (λ m lm. subst (Mount c w good t lt x s e m (w.words.flags m) 1 w.words.sb) (sym (let_go_role m held))
       (vacated held e m lm (has_mount held m) refl)) in
@@ -143,7 +148,7 @@ module _ (c : Config) (lim : IsWithin c) (w : World) (good : IsGood c w) (t : �
       let v : View = view_with (w.views t) (MountFlags m, And 18446744073709551613) (w.words.flags m) hook
       (Go (Remounts (at_remount x s')), None) in
       let r : role_of m (w.views t).phase ≡ remount_role m s = role_was c w good t lt x s e m in
-      flags_change c w good t lt x s e o s' v refl (refl, refl, refl, refl) (f.0, f.1, f.2, f.3, f.4, fit) m
+      flags_change c w good t lt x s e o s' v refl (refl, refl, refl, refl, refl, refl) (f.0, f.1, f.2, f.3, f.4, fit) m
       (without_hold (w.words.flags m)) stays (and_not_hold (w.words.flags m) g.bits).1
       (λ lm. subst (Mount c w good t lt x s e m (without_hold (w.words.flags m)) w.words.remount w.words.sb) (sym out)
       (mount_clears_hold g t lt (subst SeeksNone (sym r) (remount_seeks m s)) (ap has_hold r ∙ one)))
@@ -194,8 +199,8 @@ module _ (c : Config) (lim : IsWithin c) (w : World) (good : IsGood c w) (t : �
       let k : (w.words.stage ≡ 0) × (w.words.sb ≡ 0) = here_relies c w good t lt x s e in
       let set : w.words.remount ≡ 1 = remount_stands c w good t lt (ap remounts e) in
       let v : View = view_with (w.views t) (SbFlags, Store 1) w.words.sb (Ok answer) (Go (Remounts (at_remount x ClearsRemount)), None) in
-      stores c w good t lt x s e refl ClearsRemount v refl (refl, refl, refl, refl) (f.0, f.1, f.2, f.3, f.4, tt) w.words.remount 1
-      (w.words.remount == 1 || w.words.sb == 1) (omega arith) (refl, sym set, k.0, refl) (rw (eq-eqb w.words.remount 1 set) refl)
+      stores c w good t lt x s e refl ClearsRemount v refl (refl, refl, refl, refl, refl, refl) (f.0, f.1, f.2, f.3, f.4, tt) w.words.remount 1
+      (w.words.remount == 1 || w.words.sb == 1) (not_frozen w.words w.words.remount 1 k.0) (omega arith) (refl, sym set, k.0, refl) (rw (eq-eqb w.words.remount 1 set) refl)
       (λ m lm. mount_rests s e m lm refl w.words.remount 1 (λ q z. absurd (omega (arith, z)))
       (λ q. none_remounting (good (AtMount m) lm) set k.1))
   sets_read_only (Err code) e =
@@ -206,7 +211,7 @@ module _ (c : Config) (lim : IsWithin c) (w : World) (good : IsGood c w) (t : �
       let v : View = view_with (w.views t) (RemountWord, Store 0) w.words.remount (Err code) (Go (Remounts (at_remount x s')), Some SbRw) in
       let after : PartsHold c w good t lt x s e (record w.words { remount = 0 }) v ×
       (shown c (record { words = record w.words { remount = 0 }; views = update w.views t v }) ≡ record (shown c w) { sb_ro = false }) =
-      stores c w good t lt x s e refl s' v refl (refl, refl, refl, refl) (f.0, f.1, f.2, f.3, f.4, tt) 0 w.words.sb false
+      stores c w good t lt x s e refl s' v refl (refl, refl, refl, refl, refl, refl) (f.0, f.1, f.2, f.3, f.4, tt) 0 w.words.sb false refl
       (good Superblock) (refl, refl, tt, tt) (ne_eqb w.words.sb 1 (λ q. omega (arith, k.1, q)))
       (λ m lm. mount_rests s e m lm refl 0 w.words.sb (λ q. absurd (omega (arith, q))) (sealed (good (AtMount m) lm))) in
       (after.0, ((lt, k.0), after.1))
@@ -220,8 +225,8 @@ module _ (c : Config) (lim : IsWithin c) (w : World) (good : IsGood c w) (t : �
       let set : w.words.remount ≡ 1 = remount_stands c w good t lt (ap remounts e) in
       let s' : RemountStep = Releases (Ok UnitReply) in
       let v : View = view_with (w.views t) (RemountWord, Store 0) w.words.remount hook (Go (Remounts (at_remount x s')), None) in
-      stores c w good t lt x s e refl s' v refl (refl, refl, refl, refl) (f.0, f.1, f.2, f.3, f.4, tt) 0 w.words.sb
-      (w.words.remount == 1 || w.words.sb == 1) (good Superblock) (refl, refl, tt, tt)
+      stores c w good t lt x s e refl s' v refl (refl, refl, refl, refl, refl, refl) (f.0, f.1, f.2, f.3, f.4, tt) 0 w.words.sb
+      (w.words.remount == 1 || w.words.sb == 1) refl (good Superblock) (refl, refl, tt, tt)
       (rw (eq-eqb w.words.remount 1 set, eq-eqb w.words.sb 1 k.1) refl)
       (λ m lm. mount_rests s e m lm refl 0 w.words.sb (λ q. absurd (omega (arith, q))) (sealed (good (AtMount m) lm)))
 
@@ -233,9 +238,9 @@ module _ (c : Config) (lim : IsWithin c) (w : World) (good : IsGood c w) (t : �
       PartsHold c w good t lt x s e ws v × (shown c (record { words = ws; views = update w.views t v }) ≡ shown c w)
   gives_back hook s e answer o r role =
       let v : View = view_with (w.views t) (Umount, Store 0) w.words.umount hook (Done answer, None) in
-      umount_changes c w good t lt x s e 0 v (refl, refl, refl, refl) tt
+      umount_changes c w good t lt x s e 0 v (refl, refl, refl, refl, refl, refl) tt
       (releases_umount c w good t lt v (ap owns e ∙ o) refl (sym (ap remounts e ∙ r)))
-      (relying_after c w good t lt w.words v (ap owns e ∙ o) (tt, tt)) (λ m. sym (role m)) (λ i. refl)
+      (relying_after c w good t lt w.words v (ap owns e ∙ o) (tt, tt)) (record { counts_not = λ i. refl; apart = λ i. refl; outside = refl }) (λ m. sym (role m)) (λ i. refl)
 
   pub releases : (hook : HookAnswer) (answer : Result Reply GateError) → IsHere (Releases answer) → Keeps hook (Releases answer)
   releases hook answer e = gives_back hook (Releases answer) e answer refl refl (λ m. refl)
@@ -251,8 +256,8 @@ module _ (c : Config) (lim : IsWithin c) (w : World) (good : IsGood c w) (t : �
       let v : View = view_with (w.views t) (SbFlags, Store 0) w.words.sb (Ok answer) (Go (Remounts (at_remount x s')), Some SbRw) in
       let after : PartsHold c w good t lt x s e (record w.words { sb = 0 }) v ×
       (shown c (record { words = record w.words { sb = 0 }; views = update w.views t v }) ≡ record (shown c w) { sb_ro = false }) =
-      stores c w good t lt x s e refl s' v refl (refl, refl, refl, refl) (f.0, f.1, f.2, f.3, f.4, tt) w.words.remount 0 false
-      (omega arith) (refl, omega (arith, clear, (good Owner).bit), tt, tt) (rw (ne_eqb w.words.remount 1 clear) refl)
+      stores c w good t lt x s e refl s' v refl (refl, refl, refl, refl, refl, refl) (f.0, f.1, f.2, f.3, f.4, tt) w.words.remount 0 false
+      (not_frozen w.words w.words.remount 0 k.0) (omega arith) (refl, omega (arith, clear, (good Owner).bit), tt, tt) (rw (ne_eqb w.words.remount 1 clear) refl)
       (λ m lm. mount_rests s e m lm refl w.words.remount 0 (λ q z. absurd (clear q)) (λ q. absurd (omega (arith, q)))) in
       (after.0, ((lt, k.0), after.1))
   sets_writable (Err code) e = gives_back (Err code) SetsWritable e (Err (Hook code)) refl refl (λ m. refl)
@@ -277,7 +282,7 @@ module _ (c : Config) (lim : IsWithin c) (w : World) (good : IsGood c w) (t : �
       record (shown c w) { tree = update (λ k. node_shown (w.words.node k)) n (node_shown (without_mark word)) }) =
       λ action held levels.
       let v : View = view_with (w.views t) (Node n, And 18446744073709551611) word hook (Go (Remounts (at_remount x s')), action) in
-      node_changes c w good t lt x s e refl s' v refl (held, levels, refl, refl)
+      node_changes c w good t lt x s e refl s' v refl (held, levels, refl, refl, refl, refl)
       (subst (λ h. PhaseFits c t h (holds_level v) (Remounts (at_remount x s'))) (sym held)
       (subst (λ h. PhaseFits c t (held_at (w.views t)) h (Remounts (at_remount x s'))) (sym levels)
       (f.0, f.1, f.2, f.3, f.4, past_node_fits c x.nodes n f.3)))
@@ -327,14 +332,14 @@ module _ (c : Config) (lim : IsWithin c) (w : World) (good : IsGood c w) (t : �
       elim (eqb_tells w.words.umount 0) [
         | inl h ↦ rw h.0 (
             let v : View = tried hook (x.task + 1) LoadsStage in
-            umount_changes c w good t lt x Locks e (x.task + 1) v (refl, refl, refl, refl) f
+            umount_changes c w good t lt x Locks e (x.task + 1) v (refl, refl, refl, refl, refl, refl) f
             (locks_umount c w good t lt (x.task + 1) v h.1 (omega (arith, f.0)) refl (sym (ap remounts e)))
-            (still_relies hook (x.task + 1) LoadsStage e refl) (λ m. refl) (λ i. refl))
+            (still_relies hook (x.task + 1) LoadsStage e refl) (record { counts_not = λ i. refl; apart = λ i. refl; outside = refl }) (λ m. refl) (λ i. refl))
         | inr h ↦ rw h.0 (
             let v : View = tried hook w.words.umount Locks in
-            umount_changes c w good t lt x Locks e w.words.umount v (refl, refl, refl, refl) f
+            umount_changes c w good t lt x Locks e w.words.umount v (refl, refl, refl, refl, refl, refl) f
             (owner_same c w t lt good v (steady e (record { owns_same = refl; remounts_same = refl; closing_same = λ i. refl })))
-            (still_relies hook w.words.umount Locks e refl) (λ m. refl) (λ i. refl))
+            (still_relies hook w.words.umount Locks e refl) (record { counts_not = λ i. refl; apart = λ i. refl; outside = refl }) (λ m. refl) (λ i. refl))
       ]
 
   -- a load by the owner that has no role, before and after it

@@ -49,6 +49,9 @@ remount_op c ro = record {
   no_role = λ t y. refl;
   steady = λ t. record { owns_same = refl; remounts_same = refl; closing_same = λ i. refl };
   relies = λ t. refl;
+  counts_not = λ t i. refl;
+  apart = λ t i. refl;
+  outside = λ t. refl;
   cause = λ t w earlier. tt;
   order_agrees = λ f g h k mounts levels there. none_agree c 0 f g h k mounts levels;
   room_agrees = λ f g mounts there. refl;

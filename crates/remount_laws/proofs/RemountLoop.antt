@@ -119,7 +119,7 @@ module _ (c : Config) (lim : IsWithin c) (w : World) (good : IsGood c w) (t : �
       let clear : hold_bit (w.words.flags m) ≡ 0 = no_hold c w good t lt m f.5.0 (ap owns e) (ap has_hold was) in
       let v : View = view_with (w.views t) (MountFlags m, Or 2) (w.words.flags m) hook
       (Go (Remounts (at_remount x (Sums m held sum))), None) in
-      flags_change c w good t lt x s e refl (Sums m held sum) v refl (refl, refl, refl, refl)
+      flags_change c w good t lt x s e refl (Sums m held sum) v refl (refl, refl, refl, refl, refl, refl)
       (f.0, f.1, f.2, f.3, f.4, (f.5.0, f.5.1, lim.some_processor)) m word (refl, refl, k.0, k.1) (or_hold (w.words.flags m) g.bits).1
       (λ lm. subst (Mount c w good t lt x s e m word w.words.remount w.words.sb)
       (sym (summing_here m sum (loop_role (has_mount held m) (nat_lt m m))))

@@ -1,7 +1,7 @@
 -- What an event of a remount may leave: each part of the rule, and the shown model.
 use Rattle.mount_counts.specs.declared.remounts.RemountStep.TheVariants.{Locks}
 use Rattle.mount_counts.specs.declared.remounts.Remount.{Remount}
-use Rattle.gate_world.specs.Rules.{Owner, Superblock, Stages, Fitting, Known, Relying, Nodes, AtMount, IsGood, owns, Part, StepKeeps, role_of, ViewFits, relied, at_mount, Holds, IsSteady, OwnerHolds, remounts, Moves}
+use Rattle.gate_world.specs.Rules.{Owner, Superblock, Stages, Fitting, Known, Relying, Nodes, AtMount, IsGood, owns, Part, StepKeeps, role_of, ViewFits, relied, at_mount, Holds, IsSteady, OwnerHolds, remounts, Moves, AtLevel, SyncAt, Sections}
 use Rattle.gate_world.specs.Fits.{Fits, PhaseFits}
 use Rattle.std.proofs.Common.{refl, sym, ap, subst, inl, inr, true, false, arith, true≢false, ℕ, ◌<◌, ◌≡◌, Some, ◌⊎◌, ◌≤◌, Bool, ◌==◌, ◌||◌, ◌∙◌, None}
 use Rattle.mount_counts.specs.declared.remounts.RemountStep.{RemountStep}
@@ -27,15 +27,16 @@ use Rattle.finite_sums.specs.Sums.{update}
 use Rattle.gated_tree.specs.Nodes.{IsNode}
 use Rattle.gate_world.specs.Shown.{shown, closing, node_shown}
 use Rattle.access_model.specs.declared.replies.Next.{Next}
-use Rattle.gate_frames.proofs.Frames.{holds_as, owner_same, view_as, shown_as, shown_still, added_load, taken_load}
+use Rattle.gate_frames.proofs.Frames.{holds_as, owner_same, view_as, shown_as, shown_still, added_load, taken_load, SameLevelCounts, IsOffLevels, SameLevelWords, level_left, sync_left, sections_left}
 use Rattle.finite_sums.proofs.Totals.{each_updated, update_map, update_same, update_at, update_off}
 use Rattle.gate_frames.proofs.Owners.{relying_after, remount_stored}
 use Rattle.gate_frames.proofs.Loads.{steady, after_load}
 use Rattle.access_model.specs.declared.replies.Next.TheVariants.{Go}
 use Rattle.std.proofs.lemmas.Bool.Decides.{eqb_tells}
-use Rattle.gate_frames.proofs.MountEvents.{is_known_part, known_is}
+use Rattle.gate_frames.proofs.MountEvents.{is_known_part, known_is, level_added_load, level_taken_load}
 use Rattle.cpu_words.specs.declared.events.Touch.TheVariants.{Load}
 use Rattle.gate_frames.proofs.Words.{load_same}
+use Rattle.gate_world.specs.Levels.{level_added_by, is_frozen_whole, level_taken_by}
 
 -- who changes an owned word is the owner, and a remount comes to own `umount` by taking it
 remount_changes : (x : Remount) (s : RemountStep) (hook : HookAnswer) → is_owned (remount_next x s hook).0 ≡ true →
@@ -115,29 +116,45 @@ module _ (c : Config) (w : World) (good : IsGood c w) (t : ℕ) (lt : t < c.task
   -- the view counts what it counted, and holds what it held
   abbrev pub SameCounts : View → Type 0
   SameCounts v = (held_at v ≡ held_at (w.views t)) × (holds_level v ≡ holds_level (w.views t)) ×
-      (added_by v.events ≡ added_by (w.views t).events) × (taken_by v.events ≡ taken_by (w.views t).events)
+      (added_by v.events ≡ added_by (w.views t).events) × (taken_by v.events ≡ taken_by (w.views t).events) ×
+      (level_added_by v.events ≡ level_added_by (w.views t).events) × (level_taken_by v.events ≡ level_taken_by (w.views t).events)
+
+  -- the same, as the levels read it
+  at_levels : (v : View) → SameCounts v → SameLevelCounts (w.views t) v
+  at_levels v same = record { held_same = same.1; added_same = same.4; taken_same = same.5 }
+
+  -- its phase is off the levels
+  off_now : IsOffLevels (w.views t).phase
+  off_now = subst IsOffLevels (sym e) (record { counts_not = λ i. refl; apart = λ i. refl; outside = refl })
 
   -- each part but what the owner knows
   abbrev pub PartsHold : Words → View → Type 0
   PartsHold ws v = (part : Part) → is_known_part part ≡ false → Holds c (record { words = ws; views = update w.views t v }) part
 
   -- each part after an event, from what it says of each mount
-  pub each_part : (ws : Words) (v : View) → SameCounts v → ws.stage ≡ w.words.stage → ws.sb ≤ 1 → ws.count ≡ w.words.count →
+  pub each_part : (ws : Words) (v : View) → SameCounts v → SameLevelWords w.words ws → IsOffLevels v.phase →
+      ws.stage ≡ w.words.stage → ws.sb ≤ 1 → ws.count ≡ w.words.count →
       ((n : ℕ) → IsNode (ws.node n)) → OwnerHolds c.tasks ws.umount ws.remount (λ y. (update w.views t v y).phase) →
       Holds c (record { words = ws; views = update w.views t v }) Relying → ViewFits c t v →
       ((m : ℕ) → m < c.mounts → Mount m (ws.flags m) ws.remount ws.sb (role_of m v.phase)) → PartsHold ws v
-  each_part ws v same es bit ec nodes owner relying fits own Owner k = owner
-  each_part ws v same es bit ec nodes owner relying fits own Superblock k = bit
-  each_part ws v same es bit ec nodes owner relying fits own Stages k = omega (arith, es, good Stages)
-  each_part ws v same es bit ec nodes owner relying fits own Fitting k = λ y ly.
+  each_part ws v same levels off es bit ec nodes owner relying fits own Owner k = owner
+  each_part ws v same levels off es bit ec nodes owner relying fits own Superblock k = bit
+  each_part ws v same levels off es bit ec nodes owner relying fits own Stages k = omega (arith, es, good Stages)
+  each_part ws v same levels off es bit ec nodes owner relying fits own Fitting k = λ y ly.
       each_updated (λ z (u : View). ViewFits c z u) w.views t v y fits (λ ne. good Fitting y ly)
-  each_part ws v same es bit ec nodes owner relying fits own Known k = absurd (true≢false k)
-  each_part ws v same es bit ec nodes owner relying fits own Relying k = relying
-  each_part ws v same es bit ec nodes owner relying fits own Nodes k = nodes
-  each_part ws v same es bit ec nodes owner relying fits own (AtMount m) k = λ lm.
+  each_part ws v same levels off es bit ec nodes owner relying fits own Known k = absurd (true≢false k)
+  each_part ws v same levels off es bit ec nodes owner relying fits own Relying k = relying
+  each_part ws v same levels off es bit ec nodes owner relying fits own Nodes k = nodes
+  each_part ws v same levels off es bit ec nodes owner relying fits own (AtMount m) k = λ lm.
       holds_as refl refl refl (ap (λ f. f m) ec)
       (update_map (at_mount m) w.views t v ∙ ap (update (λ y. at_mount m (w.views y)) t)
       (view_as (ap (λ g. g m) same.0) (ap (λ g. g m) same.2) (ap (λ g. g m) same.3) refl)) (own m lm)
+  each_part ws v same levels off es bit ec nodes owner relying fits own (AtLevel i) k =
+      level_left c w t lt good ws v levels (at_levels v same) off_now off i
+  each_part ws v same levels off es bit ec nodes owner relying fits own (SyncAt i) k =
+      sync_left c w t lt good ws v levels (at_levels v same) off_now off i
+  each_part ws v same levels off es bit ec nodes owner relying fits own Sections k =
+      sections_left c w t lt good ws v levels (at_levels v same) off_now off
 
   -- the shown model after it: the superblock's flag alone may change
   pub seal_shown : (ws : Words) (v : View) (b : Bool) → ws.block ≡ w.words.block →
@@ -158,6 +175,10 @@ module _ (c : Config) (w : World) (good : IsGood c w) (t : ℕ) (lt : t < c.task
 
   module _ (o : remount_owns s ≡ 1) (s' : RemountStep) (v : View) (is : v.phase ≡ Some (Remounts (at_remount x s'))) (same : SameCounts v)
       (fits : ViewFits c t v) where
+    -- the phase that comes is off the levels
+    off_then : IsOffLevels v.phase
+    off_then = subst IsOffLevels (sym is) (record { counts_not = λ i. refl; apart = λ i. refl; outside = refl })
+
     -- what the step that comes relies on is there
     relies_on : (ws : Words) → IsThere (remount_relies s') ws → Holds c (record { words = ws; views = update w.views t v }) Relying
     relies_on ws there = relying_after c w good t lt ws v (ap owns e ∙ o) (subst (λ p. IsThere (relied p) ws) (sym is) there)
@@ -175,7 +196,7 @@ module _ (c : Config) (w : World) (good : IsGood c w) (t : ℕ) (lt : t < c.task
         PartsHold w.words v × (shown c (record { words = w.words; views = update w.views t v }) ≡ shown c w)
     loads stays own =
         let still : IsSteady (w.views t).phase v.phase = steady_to stays.0 stays.1 in (
-          each_part w.words v same refl (good Superblock) refl (good Nodes) (owner_same c w t lt good v still)
+          each_part w.words v same (record { block_same = refl; level_same = refl; sync_same = refl; section_same = refl; whole_same = refl }) off_then refl (good Superblock) refl (good Nodes) (owner_same c w t lt good v still)
               (relies_on w.words (stays.2, stays.3)) fits
               (λ m lm. subst (Mount m (w.words.flags m) w.words.remount w.words.sb) (sym (ap (role_of m) is)) (own m lm)),
           shown_still c w t lt w.words v refl refl refl refl refl refl still.closing_same same.0 same.1,
@@ -190,7 +211,7 @@ module _ (c : Config) (w : World) (good : IsGood c w) (t : ℕ) (lt : t < c.task
     flags_change at f stays ro here there =
         let ws : Words = record w.words { flags = update w.words.flags at f } in
         let still : IsSteady (w.views t).phase v.phase = steady_to stays.0 stays.1 in (
-          each_part ws v same refl (good Superblock) refl (good Nodes) (owner_same c w t lt good v still)
+          each_part ws v same (record { block_same = refl; level_same = refl; sync_same = refl; section_same = refl; whole_same = refl }) off_then refl (good Superblock) refl (good Nodes) (owner_same c w t lt good v still)
               (relies_on ws (stays.2, stays.3)) fits
               (λ m lm. subst (Mount m (update w.words.flags at f m) w.words.remount w.words.sb) (sym (ap (role_of m) is))
               (elim (eqb_tells m at) [
@@ -208,13 +229,14 @@ module _ (c : Config) (w : World) (good : IsGood c w) (t : ℕ) (lt : t < c.task
         )
 
     -- a store of `remount` or of the superblock's flags
-    pub stores : (set sealing : ℕ) (b : Bool) → sealing ≤ 1 → Stays s' set w.words.stage sealing → (set == 1 || sealing == 1) ≡ b →
+    pub stores : (set sealing : ℕ) (b : Bool) → is_frozen_whole (record w.words { remount = set; sb = sealing }) ≡ is_frozen_whole w.words →
+        sealing ≤ 1 → Stays s' set w.words.stage sealing → (set == 1 || sealing == 1) ≡ b →
         ((m : ℕ) → m < c.mounts → Mount m (w.words.flags m) set sealing (remount_role m s')) →
         let ws : Words = record w.words { remount = set; sb = sealing } in
         PartsHold ws v × (shown c (record { words = ws; views = update w.views t v }) ≡ record (shown c w) { sb_ro = b })
-    stores set sealing b bit stays shows own =
+    stores set sealing b whole bit stays shows own =
         let ws : Words = record w.words { remount = set; sb = sealing } in (
-          each_part ws v same refl bit refl (good Nodes)
+          each_part ws v same (record { block_same = refl; level_same = refl; sync_same = refl; section_same = refl; whole_same = whole }) off_then refl bit refl (good Nodes)
               (remount_stored c w good t lt set v (ap owns e ∙ o) (ap owns is ∙ stays.0) (ap remounts is ∙ stays.1))
               (relies_on ws (stays.2, stays.3)) fits
               (λ m lm. subst (Mount m (w.words.flags m) set sealing) (sym (ap (role_of m) is)) (own m lm)),
@@ -230,7 +252,7 @@ module _ (c : Config) (w : World) (good : IsGood c w) (t : ℕ) (lt : t < c.task
     node_changes n f stays node role =
         let ws : Words = record w.words { node = update w.words.node n f } in
         let still : IsSteady (w.views t).phase v.phase = steady_to stays.0 stays.1 in (
-          each_part ws v same refl (good Superblock) refl
+          each_part ws v same (record { block_same = refl; level_same = refl; sync_same = refl; section_same = refl; whole_same = refl }) off_then refl (good Superblock) refl
               (λ k. each_updated (λ y (word : ℕ). IsNode word) w.words.node n f k node (λ ne. good Nodes k))
               (owner_same c w t lt good v still) (relies_on ws (stays.2, stays.3)) fits
               (λ m lm. subst (Mount m (w.words.flags m) w.words.remount w.words.sb) (sym (ap (role_of m) is))
@@ -255,19 +277,20 @@ module _ (c : Config) (w : World) (good : IsGood c w) (t : ℕ) (lt : t < c.task
       let f : PhaseFits c t (held_at (w.views t)) (holds_level (w.views t)) (Remounts (at_remount x s)) = here_fits in
       subst (λ ws. let next_world : World = record { words = ws; views = update w.views t v } in
       ((part : Part) → is_known_part part ≡ false → Holds c next_world part) × (shown c next_world ≡ shown c w)) (sym (load_same w.words name))
-      (loads o s' v refl (refl, refl, added_load name (added_by (w.views t).events), taken_load name (taken_by (w.views t).events))
+      (loads o s' v refl (refl, refl, added_load name (added_by (w.views t).events), taken_load name (taken_by (w.views t).events),
+      level_added_load name Load (level_added_by (w.views t).events) refl, level_taken_load name Load (level_taken_by (w.views t).events) refl)
       (f.0, f.1, f.2, f.3, f.4, fit) stays own)
 
   -- an event on `umount`, of a task that has no role before and after it, and relies on nothing after it
   pub umount_changes : (n : ℕ) (v : View) → SameCounts v → ViewFits c t v →
       OwnerHolds c.tasks n w.words.remount (λ y. (update w.views t v y).phase) →
-      Holds c (record { words = w.words; views = update w.views t v }) Relying →
+      Holds c (record { words = w.words; views = update w.views t v }) Relying → IsOffLevels v.phase →
       ((m : ℕ) → role_of m v.phase ≡ remount_role m s) → ((i : ℕ) → closing i v.phase ≡ 0) →
       let ws : Words = record w.words { umount = n } in
       PartsHold ws v × (shown c (record { words = ws; views = update w.views t v }) ≡ shown c w)
-  umount_changes n v same fits owner relying role close =
+  umount_changes n v same fits owner relying off role close =
       let ws : Words = record w.words { umount = n } in (
-        each_part ws v same refl (good Superblock) refl (good Nodes) owner relying fits
+        each_part ws v same (record { block_same = refl; level_same = refl; sync_same = refl; section_same = refl; whole_same = refl }) off refl (good Superblock) refl (good Nodes) owner relying fits
             (λ m lm. mount_stays m lm (role_of m v.phase) (role m)),
         shown_still c w t lt ws v refl refl refl refl refl refl (λ i. close i ∙ sym (ap (closing i) e)) same.0 same.1,
       )

@@ -26,14 +26,16 @@ use Rattle.gate_world.specs.Views.{held_at, holds_level, begun_view}
 use Rattle.gate_world.specs.Beginnings.{first_phase, view_refusal}
 use Rattle.gate_world.specs.Worlds.{World, Entry, Begins, Steps, after_begin, begin_of, step_of, happens, phase_action, action_of, task_of, with_action, run, opening, history}
 use Rattle.gate_world.specs.Shown.{shown}
-use Rattle.gate_world.specs.Rules.{role_of, at_mount, MountHoldsIn, IsSteady, ViewFits, Part, Owner, Superblock, Stages, Fitting, AtMount, Holds, IsGood, Moves, owns, Known, relied, Relying, Nodes}
+use Rattle.gate_world.specs.Rules.{role_of, at_mount, MountHoldsIn, IsSteady, ViewFits, Part, Owner, Superblock, Stages, Fitting, AtMount, Holds, IsGood, Moves, owns, Known, relied, Relying, Nodes, AtLevel, SyncAt, Sections}
 use Rattle.gate_world.specs.Headline.{SumsHold, IdleSumsHold}
 use Rattle.schedule_laws.proofs.Layers.{phase_keeps, op_keeps}
 use Rattle.schedule_laws.proofs.Beginnings.{MayBegin, may_begin, first_fits}
-use Rattle.gate_frames.proofs.Frames.{view_as, left_alone, shown_still}
+use Rattle.gate_frames.proofs.Frames.{view_as, left_alone, shown_still, level_view_as}
 use Rattle.gate_frames.proofs.Loads.{steady}
 use Rattle.gated_tree.specs.Nodes.{IsNode}
 use Rattle.cpu_words.specs.Words.{opening_words}
+use Rattle.gate_world.specs.Levels.{inside, level_role_of, sync_role_of}
+use Rattle.level_laws.proofs.Whole.{opening_is_right}
 
 pub both : (a b : Bool) → (a && b) ≡ true → (a ≡ true) × (b ≡ true)
 both true b h = (refl, h)
@@ -73,6 +75,16 @@ module _ (c : Config) (lim : IsWithin c) (w : World) (good : IsGood c w) (t : �
       left_alone c w t lt Relying w.words (begun_view (w.views t) op (first_phase c t op)) (refl, refl)
       ((op_keeps c op).relies t ∙ sym (ap relied (idle_is (w.views t).phase h.idle))) (good Relying)
   begun_good op h Nodes = good Nodes
+  begun_good op h (AtLevel i) =
+      left_alone c w t lt (AtLevel i) w.words (begun_view (w.views t) op (first_phase c t op)) (refl, refl, refl)
+      (level_view_as refl refl refl ((op_keeps c op).counts_not t i ∙ sym (ap (level_role_of i) (idle_is (w.views t).phase h.idle))))
+      (good (AtLevel i))
+  begun_good op h (SyncAt i) =
+      left_alone c w t lt (SyncAt i) w.words (begun_view (w.views t) op (first_phase c t op)) (refl, refl, refl, refl)
+      ((op_keeps c op).apart t i ∙ sym (ap (sync_role_of i) (idle_is (w.views t).phase h.idle))) (good (SyncAt i))
+  begun_good op h Sections =
+      left_alone c w t lt Sections w.words (begun_view (w.views t) op (first_phase c t op)) refl
+      ((op_keeps c op).outside t ∙ sym (ap inside (idle_is (w.views t).phase h.idle))) (good Sections)
   begun_good op h (AtMount m) =
       left_alone c w t lt (AtMount m) w.words (begun_view (w.views t) op (first_phase c t op)) (refl, refl, refl, refl)
       (view_as refl refl refl ((op_keeps c op).no_role t m ∙ sym (ap (role_of m) (idle_is (w.views t).phase h.idle))))
@@ -160,6 +172,9 @@ module _ (c : Config) (lim : IsWithin c) where
   opening_good Fitting = λ t lt. tt
   opening_good Relying = λ t lt. (tt, tt)
   opening_good Nodes = opening_nodes
+  opening_good (AtLevel i) = λ l1 l3. record { known = omega arith; gate = gate_begins c.tasks c.processors (λ j. 0 ≡ 1) }
+  opening_good (SyncAt i) = λ l1 l3. (opening_is_right c.tasks).level
+  opening_good Sections = λ t lt. refl
   opening_good (AtMount m) = λ lm. record {
     bits = omega arith;
     gate = gate_begins c.tasks c.processors (mount_shut 0 0 0);

@@ -72,6 +72,9 @@ want_op c m p wait = record {
   no_role = λ t y. role_none y m;
   steady = λ t. record { owns_same = refl; remounts_same = refl; closing_same = λ i. refl };
   relies = λ t. refl;
+  counts_not = λ t i. refl;
+  apart = λ t i. refl;
+  outside = λ t. refl;
   cause = λ t w earlier. tt;
   order_agrees = λ f g h k mounts levels there. refl;
   room_agrees = λ f g mounts there. ap (λ y. nat_lt y 1024) (mounts m
@@ -90,6 +93,9 @@ drop_op c m p = record {
   no_role = λ t y. refl;
   steady = λ t. record { owns_same = refl; remounts_same = refl; closing_same = λ i. refl };
   relies = λ t. refl;
+  counts_not = λ t i. refl;
+  apart = λ t i. refl;
+  outside = λ t. refl;
   cause = λ t w earlier. tt;
   order_agrees = λ f g h k mounts levels there. ap (nat_lt 0) (mounts m
       (ltb-true m c.mounts (both (nat_lt m c.mounts) (nat_lt p c.processors) there).0));

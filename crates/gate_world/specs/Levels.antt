@@ -1,0 +1,70 @@
+-- Freeze levels: what each predicate of one reads of the words and of each task's view.
+use Rattle.std.specs.Prelude.{◌≡◌, ℕ, ◌+◌, ◌%◌, ◌<◌, ◌==◌, ◌&&◌, if◌then◌else◌, Option, Some, None, List, [], ◌∷◌}
+use Rattle.finite_sums.specs.Sums.{update}
+use Rattle.cpu_words.specs.declared.names.WordName.{WordName}
+use Rattle.cpu_words.specs.declared.names.WordName.TheVariants.{LevelCount}
+use Rattle.cpu_words.specs.declared.events.Touch.{Touch}
+use Rattle.cpu_words.specs.declared.events.Touch.TheVariants.{Add, Sub}
+use Rattle.cpu_words.specs.declared.events.Event.{Event}
+use Rattle.cpu_words.specs.Words.{Words}
+use Rattle.gate_counts.specs.Levels.{LevelRole, Out as CountsNot, LevelView}
+use Rattle.level_laws.specs.Roles.{SyncRole, Out as IsApart}
+use Rattle.gate_world.specs.declared.work.Phase.{Phase}
+use Rattle.gate_world.specs.declared.work.Phase.TheVariants.{Mounts, Remounts}
+use Rattle.gate_world.specs.declared.views.View.{View}
+use Rattle.gate_world.specs.Views.{holds_level}
+
+-- net additions are what was added to a level's count word less what was taken away: each is a sum over the events
+abbrev pub level_added_after : WordName → Touch → (ℕ → ℕ → ℕ) → ℕ → ℕ → ℕ
+level_added_after (LevelCount i p) (Add n) added = update added i (update (added i) p (added i p + n))
+level_added_after word touch added = added
+
+-- what was taken away after one event more
+abbrev pub level_taken_after : WordName → Touch → (ℕ → ℕ → ℕ) → ℕ → ℕ → ℕ
+level_taken_after (LevelCount i p) (Sub n) taken = update taken i (update (taken i) p (taken i p + n))
+level_taken_after word touch taken = taken
+
+-- what these events added to each count word of the levels
+abbrev pub level_added_by : List Event → ℕ → ℕ → ℕ
+level_added_by [] = λ i p. 0
+level_added_by (e ∷ earlier) = level_added_after e.word e.touch (level_added_by earlier)
+
+-- what these events took from each
+abbrev pub level_taken_by : List Event → ℕ → ℕ → ℕ
+level_taken_by [] = λ i p. 0
+level_taken_by (e ∷ earlier) = level_taken_after e.word e.touch (level_taken_by earlier)
+
+-- what a task is doing at a level's counts: no phase of these layers counts there
+abbrev pub level_role_of : ℕ → Option Phase → LevelRole
+level_role_of i None = CountsNot
+level_role_of i (Some (Mounts phase)) = CountsNot
+level_role_of i (Some (Remounts x)) = CountsNot
+
+-- and at its rcu_sync: nothing either
+abbrev pub sync_role_of : ℕ → Option Phase → SyncRole
+sync_role_of i None = IsApart
+sync_role_of i (Some (Mounts phase)) = IsApart
+sync_role_of i (Some (Remounts x)) = IsApart
+
+-- 1 while it is inside a read-side section: no phase of these layers is
+abbrev pub inside : Option Phase → ℕ
+inside None = 0
+inside (Some (Mounts phase)) = 0
+inside (Some (Remounts x)) = 0
+
+-- what a level's counts read of a view
+abbrev pub at_level : ℕ → View → LevelView
+at_level i v = record {
+  held = (if holds_level v i then 1 else 0);
+  added = level_added_by v.events i;
+  taken = level_taken_by v.events i;
+  role = level_role_of i v.phase;
+}
+
+-- 1 while the file system is frozen as a whole, by closed levels: at stage 4 of a writable superblock
+abbrev pub is_frozen_whole : Words → ℕ
+is_frozen_whole w = if w.stage == 4 && w.sb == 0 then 1 else 0
+
+-- a section word is odd exactly while its task is inside a read-side section
+abbrev pub SectionsAreOdd : ℕ → (ℕ → ℕ) → (ℕ → Option Phase) → Type 0
+SectionsAreOdd tasks section phases = (t : ℕ) → t < tasks → section t % 2 ≡ inside (phases t)
