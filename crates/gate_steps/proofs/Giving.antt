@@ -15,7 +15,7 @@ use Rattle.gate_world.specs.declared.config.Config.{Config}
 use Rattle.gate_world.specs.declared.views.View.{View}
 use Rattle.gate_world.specs.Worlds.{World}
 use Rattle.cpu_words.specs.Words.{Words}
-use Rattle.gate_world.specs.Rules.{IsGood, Part, Owner, Fitting, AtMount, SameWords, SameView, Holds, owns, Known, Relying}
+use Rattle.gate_world.specs.Rules.{IsGood, Part, Owner, Fitting, AtMount, SameWords, SameView, Holds, owns, Known, Relying, AtLevel, SyncAt, Sections}
 use Rattle.gate_frames.proofs.Frames.{left_alone, shown_still}
 use Rattle.gate_steps.specs.declared.seating.Numbered.{Numbered}
 use Rattle.gate_steps.specs.Seating.{SeatItems, numbered, one_if, times, times_all, HaveViews, Dealt, without, view_in, renewed, kept_of, given_of, Spares}
