@@ -1,10 +1,11 @@
-//! Worked rows on the core, refusals in their order, and words that there are and aren't.
+//! Worked rows on the core, refusals in their order, words that there are and aren't, and the hook that a remount asks.
 
 use crate::machine::Core;
 use crate::steps::{Progress, Step};
 use crate::{Config, Op};
-use access_model::{GateError, Reply};
+use access_model::{Action, GateError, Reply};
 use cpu_words::{Event, Touch, WordName};
+use freeze_levels::HookKind;
 use std::test::Fail;
 
 fn small() -> Config {
@@ -124,5 +125,27 @@ fn words_begin_at_zero_but_for_the_root(rt: HostRuntime) -> Result<(), Fail> {
         ..small()
     };
     assert_eq!(rt; Core::new(rt.alloc(), none).err(), Some(GateError::Invalid));
+    Ok(())
+}
+
+/// A remount to read-only asks its hook once, after the last mark was cleared.
+#[test]
+fn a_remount_asks_the_file_system_once(rt: HostRuntime) -> Result<(), Fail> {
+    let mut core = Core::new(rt.alloc(), small())?;
+    core.begin(0, Op::RemountSb { read_only: true })?;
+    for _ in 0..10 {
+        assert_eq!(rt; core.wants_hook(0), None);
+        assert_eq!(rt; core.step(0, Err(4)).progress, Progress::Going);
+    }
+    assert_eq!(rt; core.wants_hook(0), Some(HookKind::Reconfigure));
+    assert_eq!(rt; core.wants_hook(1), None, "idle");
+    assert_eq!(rt; core.wants_hook(3), None, "no such task");
+    assert_eq!(rt; core.step(0, Err(5)).action, Some(Action::SbRw));
+    assert_eq!(rt; core.wants_hook(0), None);
+    assert_eq!(rt;
+        core.step(0, Ok(())).progress,
+        Progress::Done(Err(GateError::Hook(5)))
+    );
+    assert_eq!(rt; core.wants_hook(0), None);
     Ok(())
 }
