@@ -2,6 +2,7 @@
 
 ghost use Rattle.vfs_gates.specs.TaskStates.{IsFrom};
 
+mod remounts;
 mod worked;
 
 use crate::{Gates, Task};
