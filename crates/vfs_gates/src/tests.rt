@@ -2,6 +2,8 @@
 
 ghost use Rattle.vfs_gates.specs.TaskStates.{IsFrom};
 
+mod hooks;
+mod remounts;
 mod worked;
 
 use crate::{Gates, Task};
@@ -76,38 +78,49 @@ fn to_and_fro(mut task: Task, gates: &Gates, wanted: u16) -> (Task, u16, u16)
     (task, done, wrong)
 }
 
-/// Takes an access and gives it back, so often, and says how often a want was refused but as read-only.
-fn wants<R: Wait>(mut task: Task, rt: &R, gates: &Gates, cpu: u8, count: u16) -> (Task, u16)
+/// Takes an access at each of so many mounts and gives it back on the other processor, so often, and says how often a want was refused
+/// but as read-only.
+fn wants<R: Wait>(
+    mut task: Task,
+    rt: &R,
+    gates: &Gates,
+    cpu: u8,
+    mounts: u8,
+    count: u16,
+) -> (Task, u16)
     requires { IsFrom task gates.now }
     ensures { IsFrom result.0 gates.now }
 {
-    let mut wrong = 0;
+    let mut wrong = 0u16;
     for _round in 0..count {
-        let good = match task.want(rt, gates, 0, cpu) {
-            Ok(()) => task.drop_mount(gates, 0, cpu).is_ok(),
-            Err(refusal) => refusal == GateError::ReadOnly,
-        };
-        if !good {
-            wrong += 1;
+        for mount in 0..mounts {
+            let good = match task.want(rt, gates, mount, cpu) {
+                Ok(()) => task.drop_mount(gates, mount, cpu ^ 1).is_ok(),
+                Err(refusal) => refusal == GateError::ReadOnly,
+            };
+            if !good {
+                wrong = wrong.saturating_add(1);
+            }
         }
     }
     (task, wrong)
 }
 
-/// Two tasks want, each in a thread and on a processor of its own.
+/// Two tasks want at so many mounts, each in a thread and on a processor of its own.
 fn both_want<R: Threads + Wait + Sync>(
     one: Task,
     two: Task,
     rt: &R,
     gates: &Gates,
+    mounts: u8,
 ) -> ((Task, u16), (Task, u16))
     requires { IsFrom one gates.now × IsFrom two gates.now }
     ensures { IsFrom result.0.0 gates.now × IsFrom result.1.0 gates.now }
 {
     thread::join(
         rt,
-        || wants(one, rt, gates, 0, 300),
-        || wants(two, rt, gates, 1, 300),
+        || wants(one, rt, gates, 0, mounts, 300),
+        || wants(two, rt, gates, 1, mounts, 300),
     )
 }
 
@@ -142,7 +155,7 @@ fn a_change_keeps_its_own_thread_out(rt: HostRuntime) -> Result<(), Fail> {
     let ((mut task, done, wrong), ((one, bad), (two, worse))) = thread::join(
         &rt,
         || to_and_fro(task, &gates, 50),
-        || both_want(one, two, &rt, &gates),
+        || both_want(one, two, &rt, &gates, 1),
     );
     assert_eq!(rt; (done, wrong, bad, worse), (50, 0, 0, 0));
     assert!(rt; task.join(&gates, one).is_ok());

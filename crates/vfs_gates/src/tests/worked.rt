@@ -13,24 +13,24 @@ use gate_world::{Config, Op};
 use std::alloc::Global;
 use std::test::Fail;
 
-const UMOUNT: WordName = WordName::Umount;
+pub(super) const UMOUNT: WordName = WordName::Umount;
 
-const SUPERBLOCK: WordName = WordName::SbFlags;
+pub(super) const SUPERBLOCK: WordName = WordName::SbFlags;
 
-const REMOUNT: WordName = WordName::Remount;
+pub(super) const REMOUNT: WordName = WordName::Remount;
 
-const FLAGS: WordName = WordName::MountFlags(0);
+pub(super) const FLAGS: WordName = WordName::MountFlags(0);
 
-const COUNT: WordName = WordName::MountCount(0, 0);
+pub(super) const COUNT: WordName = WordName::MountCount(0, 0);
 
-fn one_processor(tasks: u8) -> Config {
+pub(super) fn one_processor(tasks: u8) -> Config {
     Config {
         processors: 1,
         ..small(tasks)
     }
 }
 
-fn event(touch: Touch, word: WordName, found: u64, left: u64) -> Event {
+pub(super) fn event(touch: Touch, word: WordName, found: u64, left: u64) -> Event {
     Event {
         word,
         touch,
@@ -39,8 +39,9 @@ fn event(touch: Touch, word: WordName, found: u64, left: u64) -> Event {
     }
 }
 
-/// Does the next event, and says whether it is this one, adds this action, and leaves the operation so.
-fn does(
+/// Does the next event, which asks no hook, and says whether it is this one, adds this action, and leaves the operation so. It is
+/// handed a failure, which no event reads that asks no hook.
+pub(super) fn does(
     task: &mut Task,
     gates: &Gates,
     event: Event,
@@ -55,11 +56,11 @@ fn does(
         action,
         progress,
     };
-    task.step(gates, Ok(())) == wanted
+    task.wants_hook().is_none() && task.step(gates, Err(4)) == wanted
 }
 
 /// Does the next events, and says whether they are these, and add nothing, and the operation goes on.
-fn goes(task: &mut Task, gates: &Gates, events: &[Event]) -> bool
+pub(super) fn goes(task: &mut Task, gates: &Gates, events: &[Event]) -> bool
     requires { IsFrom task.old gates.now }
     ensures { IsFrom task.new gates.now }
 {
