@@ -1,4 +1,6 @@
-//! A want and a change, driven by hand: each event, with the value that it finds, and what comes after it.
+//! A want, a change and a remount, driven by hand: each event, with the value that it finds, and what comes after it.
+
+mod remounts;
 
 use crate::flags::MountFlags;
 use crate::phases::{Change, ChangeStep, MountPhase, Want, WantStep};
