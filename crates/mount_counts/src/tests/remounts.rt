@@ -1,12 +1,9 @@
 //! A remount of the superblock, driven by hand over two mounts, two processors and three nodes.
 
+use super::{Driven, Expected, drive, look, quiet, store};
 use crate::remounts::{Remount, RemountStep};
 use access_model::{Action, GateError, Next, Reply};
 use cpu_words::{Touch, WordName};
-use std::process::Abort;
-
-/// An event as a test has it: its word and touch, the value that it finds, and the action that it adds.
-type Expected = (WordName, Touch, u64, Option<Action>);
 
 /// What a mask has that clears HOLD, and one that clears a dirty mark: all other bits.
 const NO_HOLD: u64 = 18446744073709551613;
@@ -25,46 +22,19 @@ fn begun(read_only: bool) -> Remount {
     }
 }
 
-/// What comes after these events, where the file system answers this at each of them.
-fn drive<R: Abort>(
-    rt: &R,
-    first: Remount,
-    hook: Result<(), u16>,
-    events: &[Expected],
-) -> Next<Remount> {
-    let mut next = Next::Go(first);
-    for &(word, touch, found, action) in events {
-        next = match next {
-            Next::Go(remount) | Next::Wait(remount) => {
-                assert_eq!(rt; remount.next(hook), (word, touch));
-                let (next, added) = remount.after(found, hook);
-                assert_eq!(rt; added, action);
-                next
-            }
-            Next::Done(answer) => Next::Done(answer),
-        };
+impl Driven for Remount {
+    fn next(self, hook: Result<(), u16>) -> (WordName, Touch) {
+        Remount::next(self, hook)
     }
-    next
-}
 
-/// An event that adds no action.
-fn quiet(word: WordName, touch: Touch, found: u64) -> Expected {
-    (word, touch, found, None)
-}
-
-/// A look at a word.
-fn look(word: WordName, found: u64) -> Expected {
-    quiet(word, Touch::Load, found)
+    fn after(self, found: u64, hook: Result<(), u16>) -> (Next<Remount>, Option<Action>) {
+        Remount::after(self, found, hook)
+    }
 }
 
 /// The lock, as it finds this.
 fn lock(found: u64) -> Expected {
     quiet(WordName::Umount, Touch::Cas { expect: 0, put: 5 }, found)
-}
-
-/// A store that adds no action.
-fn store(word: WordName, value: u64) -> Expected {
-    quiet(word, Touch::Store(value), value)
 }
 
 /// The clearing of HOLD of a mount that has nothing else set.
