@@ -2,7 +2,8 @@
 
 ghost use Rattle.std.specs.Prelude.{◌≡◌};
 ghost use Rattle.access_model.specs.declared.actions.Action.TheVariants.{Clean};
-ghost use Rattle.mount_counts.specs.Remounts.{remount_next, remount_after, remount_from, past_mount, let_go, give_up, remount_summed, past_node, mark_cleared};
+ghost use Rattle.access_model.specs.declared.replies.Next.TheVariants.{Go};
+ghost use Rattle.mount_counts.specs.Remounts.{remount_next, remount_after, remount_from, past_mount, let_go, give_up, at_remount, remount_summed, past_node, mark_cleared};
 
 use crate::flags::MountFlags;
 use crate::sets::MountSet;
@@ -30,11 +31,7 @@ pub enum RemountStep {
     /// Sets its HOLD.
     SetsHold { mount: u8, held: MountSet },
     /// Loads the next word of the sum of its writer counts.
-    Sums {
-        mount: u8,
-        held: MountSet,
-        sum: Sum,
-    },
+    Sums { mount: u8, held: MountSet, sum: Sum },
     /// Sets `remount`, with each sum 0.
     SetsRemount { held: MountSet },
     /// Clears HOLD of the lowest mount that it holds, with `remount` set.
@@ -69,37 +66,37 @@ impl Remount {
     pub fn next(self, hook: Result<(), u16>) -> (WordName, Touch)
         ensures { result ≡ remount_next self self.step hook }
     {
-        match (self.step, hook) {
-            (RemountStep::Locks, _) => {
+        match self.step {
+            RemountStep::Locks => {
                 let put = self.task as u64 + 1;
                 (WordName::Umount, Touch::Cas { expect: 0, put })
             }
-            (RemountStep::LoadsStage, _) => (WordName::Stage, Touch::Load),
-            (RemountStep::LoadsSuperblock, _) => (WordName::SbFlags, Touch::Load),
-            (RemountStep::SetsWritable, Ok(())) => (WordName::SbFlags, Touch::Store(0)),
-            (RemountStep::LoadsFlags { mount, .. }, _) => {
-                (WordName::MountFlags(mount), Touch::Load)
-            }
-            (RemountStep::SetsHold { mount, .. }, _) => (
+            RemountStep::LoadsStage => (WordName::Stage, Touch::Load),
+            RemountStep::LoadsSuperblock => (WordName::SbFlags, Touch::Load),
+            RemountStep::SetsWritable => match hook {
+                Ok(()) => (WordName::SbFlags, Touch::Store(0)),
+                Err(_) => (WordName::Umount, Touch::Store(0)),
+            },
+            RemountStep::LoadsFlags { mount, .. } => (WordName::MountFlags(mount), Touch::Load),
+            RemountStep::SetsHold { mount, .. } => (
                 WordName::MountFlags(mount),
                 Touch::Or(MountFlags::HOLD.bits()),
             ),
-            (RemountStep::Sums { mount, sum, .. }, _) => {
+            RemountStep::Sums { mount, sum, .. } => {
                 (WordName::MountCount(mount, sum.words), Touch::Load)
             }
-            (RemountStep::SetsRemount { .. }, _) => (WordName::Remount, Touch::Store(1)),
-            (RemountStep::ClearsHold { held } | RemountStep::GivesUp { held, .. }, _) => (
+            RemountStep::SetsRemount { .. } => (WordName::Remount, Touch::Store(1)),
+            RemountStep::ClearsHold { held } | RemountStep::GivesUp { held, .. } => (
                 WordName::MountFlags(held.lowest()),
                 Touch::And(!MountFlags::HOLD.bits()),
             ),
-            (RemountStep::ClearsMark { node }, _) => (WordName::Node(node), Touch::And(!MARK)),
-            (RemountStep::SetsReadOnly, Ok(())) => (WordName::SbFlags, Touch::Store(1)),
-            (RemountStep::SetsReadOnly, Err(_)) | (RemountStep::ClearsRemount, _) => {
-                (WordName::Remount, Touch::Store(0))
-            }
-            (RemountStep::SetsWritable, Err(_)) | (RemountStep::Releases(_), _) => {
-                (WordName::Umount, Touch::Store(0))
-            }
+            RemountStep::ClearsMark { node } => (WordName::Node(node), Touch::And(!MARK)),
+            RemountStep::SetsReadOnly => match hook {
+                Ok(()) => (WordName::SbFlags, Touch::Store(1)),
+                Err(_) => (WordName::Remount, Touch::Store(0)),
+            },
+            RemountStep::ClearsRemount => (WordName::Remount, Touch::Store(0)),
+            RemountStep::Releases(_) => (WordName::Umount, Touch::Store(0)),
         }
     }
 
@@ -152,52 +149,74 @@ impl Remount {
         }
     }
 
+    /// The same remount, with this step to come.
+    fn at(self, step: RemountStep) -> Next<Remount>
+        ensures { result ≡ Go (at_remount self step) }
+    {
+        Next::Go(Remount { step, ..self })
+    }
+
+    /// What comes after the event, which found this, where the file system answers this.
+    fn next_after(self, found: u64, hook: Result<(), u16>) -> Next<Remount>
+        ensures { result ≡ (remount_after self self.step found hook).0 }
+    {
+        let done = RemountStep::Releases(Ok(Reply::Unit));
+        let flags = MountFlags::from_bits_retain(found);
+        self.at(match self.step {
+            RemountStep::Locks if found == 0 => RemountStep::LoadsStage,
+            RemountStep::Locks => return Next::Wait(self),
+            RemountStep::LoadsStage if found == 0 => RemountStep::LoadsSuperblock,
+            RemountStep::LoadsStage => RemountStep::Releases(Err(GateError::Busy)),
+            RemountStep::LoadsSuperblock => self.from_state(found != 0),
+            RemountStep::SetsWritable => match hook {
+                Ok(()) => done,
+                Err(code) => return Next::Done(Err(GateError::Hook(code))),
+            },
+            RemountStep::LoadsFlags { mount, held } => {
+                if flags.contains(MountFlags::READONLY) {
+                    self.past(mount, held)
+                } else {
+                    RemountStep::SetsHold { mount, held }
+                }
+            }
+            RemountStep::SetsHold { mount, held } => {
+                let sum = Sum::start();
+                RemountStep::Sums { mount, held, sum }
+            }
+            RemountStep::Sums { mount, held, sum } => self.summed(mount, held, sum, found),
+            RemountStep::SetsRemount { held } => letting_go(held),
+            RemountStep::ClearsHold { held } => letting_go(held.without_lowest()),
+            RemountStep::GivesUp { mount, held } => giving_up(mount, held.without_lowest()),
+            RemountStep::ClearsMark { node } => self.cleared(node),
+            RemountStep::SetsReadOnly => match hook {
+                Ok(()) => RemountStep::ClearsRemount,
+                Err(code) => RemountStep::Releases(Err(GateError::Hook(code))),
+            },
+            RemountStep::ClearsRemount => done,
+            RemountStep::Releases(answer) => return Next::Done(answer),
+        })
+    }
+
+    /// The action that the event adds, which found this, where the file system answers this.
+    fn action_of(self, found: u64, hook: Result<(), u16>) -> Option<Action>
+        ensures { result ≡ (remount_after self self.step found hook).1 }
+    {
+        match (self.step, hook) {
+            (RemountStep::SetsWritable, Ok(())) | (RemountStep::SetsReadOnly, Err(_)) => Some(
+                Action::SbRw,
+            ),
+            (RemountStep::SetsRemount { .. }, _) => Some(Action::SbRo),
+            (RemountStep::ClearsMark { node }, _) => cleaned(node, found),
+            _ => None,
+        }
+    }
+
     /// What comes after the event, which found this, where the file system answers this, and the action that the event adds.
     #[inline(always)]
     pub fn after(self, found: u64, hook: Result<(), u16>) -> (Next<Remount>, Option<Action>)
         ensures { result ≡ remount_after self self.step found hook }
     {
-        let done = RemountStep::Releases(Ok(Reply::Unit));
-        let flags = MountFlags::from_bits_retain(found);
-        let (step, action) = match (self.step, hook) {
-            (RemountStep::Locks, _) if found == 0 => (RemountStep::LoadsStage, None),
-            (RemountStep::Locks, _) => return (Next::Wait(self), None),
-            (RemountStep::LoadsStage, _) if found == 0 => (RemountStep::LoadsSuperblock, None),
-            (RemountStep::LoadsStage, _) => (RemountStep::Releases(Err(GateError::Busy)), None),
-            (RemountStep::LoadsSuperblock, _) => (self.from_state(found != 0), None),
-            (RemountStep::SetsWritable, Ok(())) => (done, Some(Action::SbRw)),
-            (RemountStep::SetsWritable, Err(code)) => {
-                return (Next::Done(Err(GateError::Hook(code))), None);
-            }
-            (RemountStep::LoadsFlags { mount, held }, _) => {
-                if flags.contains(MountFlags::READONLY) {
-                    (self.past(mount, held), None)
-                } else {
-                    (RemountStep::SetsHold { mount, held }, None)
-                }
-            }
-            (RemountStep::SetsHold { mount, held }, _) => {
-                let sum = Sum::start();
-                (RemountStep::Sums { mount, held, sum }, None)
-            }
-            (RemountStep::Sums { mount, held, sum }, _) => {
-                (self.summed(mount, held, sum, found), None)
-            }
-            (RemountStep::SetsRemount { held }, _) => (letting_go(held), Some(Action::SbRo)),
-            (RemountStep::ClearsHold { held }, _) => (letting_go(held.without_lowest()), None),
-            (RemountStep::GivesUp { mount, held }, _) => {
-                (giving_up(mount, held.without_lowest()), None)
-            }
-            (RemountStep::ClearsMark { node }, _) => (self.cleared(node), cleaned(node, found)),
-            (RemountStep::SetsReadOnly, Ok(())) => (RemountStep::ClearsRemount, None),
-            (RemountStep::SetsReadOnly, Err(code)) => {
-                let refused = RemountStep::Releases(Err(GateError::Hook(code)));
-                (refused, Some(Action::SbRw))
-            }
-            (RemountStep::ClearsRemount, _) => (done, None),
-            (RemountStep::Releases(answer), _) => return (Next::Done(answer), None),
-        };
-        (Next::Go(Remount { step, ..self }), action)
+        (self.next_after(found, hook), self.action_of(found, hook))
     }
 }
 
