@@ -63,12 +63,12 @@ KnowsDownWrite (Enters transition) = KnowsWords on_enter transition
 KnowsDownWrite (CallsBack transition) = KnowsWords on_callback transition
 KnowsDownWrite _ = Unit {0}
 
--- what an up-write does
+-- what an up-write knows of it
 abbrev pub KnowsUpWrite : UpWriteStep → Type 0
 KnowsUpWrite ClearsBlock = Unit {0}
 KnowsUpWrite (Exits transition) = KnowsWords on_exit transition
 
--- what a callback does
+-- what a callback knows of it
 abbrev pub KnowsCallback : CallbackStep → Type 0
 KnowsCallback (Claims transition) = KnowsWords on_claim transition
 KnowsCallback (AwaitsGrace grace) = Unit {0}
