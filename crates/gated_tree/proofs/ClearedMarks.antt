@@ -1,13 +1,14 @@
 -- The dirty mark of a node's word, cleared. This file alone sees its bit.
-use Rattle.std.proofs.Common.{◌≡◌, ℕ, ◌+◌, ◌*◌, ◌/◌, ◌%◌, ◌<◌, false, refl, sym, ap, ◌∙◌, arith}
+use Rattle.std.proofs.Common.{◌≡◌, ℕ, ◌+◌, ◌*◌, ◌/◌, ◌%◌, ◌<◌, false, refl, sym, ap, ◌∙◌, subst, arith}
 use Rattle.std.specs.Prelude.{◌==◌, bit_and, option_map, Some}
 use Rattle.std.proofs.lemmas.Bool.{eq-eqb, ne_eqb}
 use Rattle.std.proofs.lemmas.Nat.{and_comm, and-not}
 use Rattle.std.proofs.lemmas.Nat.Bits.{and_pow}
-use Rattle.access_model.specs.declared.actions.Kind.TheVariants.{File}
+use Rattle.access_model.specs.declared.actions.Kind.TheVariants.{File, Dir}
 use Rattle.access_model.specs.Actions.{marked}
-use Rattle.access_model.specs.States.{IsFile}
+use Rattle.access_model.specs.States.{is_dirty, IsFile, IsDirectory}
 use Rattle.gated_tree.specs.Nodes.{kind_in, dirty_in, parent_in, size_in, IsPacked, IsNode, node_shown}
+use Rattle.gated_tree.proofs.Words.{dirty_shown}
 
 -- a word after an `and` with not 4
 abbrev pub without_mark : ℕ → ℕ
@@ -80,6 +81,13 @@ marked_file word h marked =
 -- what a file's word shows
 file_shown : (word : ℕ) → kind_in word ≡ 1 → node_shown word ≡ Some (record { kind = File; parent = parent_in word; size = size_in word; dirty = dirty_in word == 1 })
 file_shown word file = rw (ne_eqb (kind_in word) 0 (λ e. absurd (omega (arith, e, file))), eq-eqb (kind_in word) 1 file) refl
+
+-- no directory is dirty
+pub directory_clean : (word : ℕ) → IsNode word → IsDirectory (node_shown word) → is_dirty (node_shown word) ≡ false
+directory_clean word h dir =
+    dirty_shown word h.packed ∙ ne_eqb (dirty_in word) 1 (λ marked.
+    let wrong : File ≡ Dir = subst IsDirectory (file_shown word (marked_file word h marked)) dir in
+    absurd cc)
 
 -- where the mark is set, the word shows a file, and the cleared word the same file, clean
 pub cleared_shown : (word : ℕ) → IsNode word → dirty_in word ≡ 1 →

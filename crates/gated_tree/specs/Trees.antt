@@ -28,10 +28,14 @@ loaded tree name value = tree
 abbrev pub node_at : TreeWords → ℕ → Option NodeInfo
 node_at tree n = node_shown (slice_index tree.nodes n)
 
+-- 1 where two numbers are one
+abbrev pub is_same : ℕ → ℕ → ℕ
+is_same a b = if a == b then 1 else 0
+
 -- 1 for a node that is there and has this parent
 abbrev pub has_parent : ℕ → Option NodeInfo → ℕ
 has_parent d None = 0
-has_parent d (Some node) = if node.parent == d then 1 else 0
+has_parent d (Some node) = is_same node.parent d
 
 -- 1 for a child of this directory: the root, which is its own parent, is no child
 abbrev pub is_child : ℕ → ℕ → Option NodeInfo → ℕ
