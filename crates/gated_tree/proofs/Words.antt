@@ -92,12 +92,17 @@ as_directory_is node dir (Some File) e = absurd cc
 as_directory_is node dir (Some Dir) e = refl
 
 -- what a load of a file's node found is the word of that file
-pub file_loaded : (word : ℕ) (file : NodeWord) → IsPacked word → file_in word ≡ Some (Ok file) → (word_of file ≡ word) × (file.kind ≡ Some File)
+pub file_loaded : (word : ℕ) (file : NodeWord) → IsPacked word → file_in word ≡ Some (Ok file) →
+    (word_of file ≡ word) × (file.kind ≡ Some File) × (file.parent < 64)
 file_loaded word file h e =
     let read : as_file (node_of word) (kind_of (kind_in word)) ≡ Ok file =
     some_is _ _ (sym (ap (option_map (λ node. as_file node node.kind)) (packed_unpacks word h)) ∙ e) in
     let is : (kind_of (kind_in word) ≡ Some File) × (node_of word ≡ file) = as_file_is (node_of word) file (kind_of (kind_in word)) read in
-    (sym (ap word_of is.1) ∙ (word_returns word h).1, sym (ap (λ node. node.kind) is.1) ∙ is.0)
+    let back = word_returns word h in (
+      sym (ap word_of is.1) ∙ back.1,
+      sym (ap (λ node. node.kind) is.1) ∙ is.0,
+      subst (λ node. node.parent < 64) is.1 back.0.0,
+    )
 
 -- what a load of a directory's node found is a directory
 pub directory_loaded : (word : ℕ) (dir : NodeWord) → IsPacked word → directory_in word ≡ Some (Ok dir) → IsDirectory (node_shown word)
