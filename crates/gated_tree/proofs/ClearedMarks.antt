@@ -7,7 +7,8 @@ use Rattle.std.proofs.lemmas.Nat.Bits.{and_pow}
 use Rattle.access_model.specs.declared.actions.Kind.TheVariants.{File, Dir}
 use Rattle.access_model.specs.Actions.{marked}
 use Rattle.access_model.specs.States.{is_dirty, IsFile, IsDirectory}
-use Rattle.gated_tree.specs.Nodes.{kind_in, dirty_in, parent_in, size_in, IsPacked, IsNode, node_shown}
+use Rattle.gated_tree.specs.Nodes.{kind_in, dirty_in, parent_in, size_in, IsPacked, IsNode, mark_bit, word_of, node_of, node_shown, marked_node}
+use Rattle.gated_tree.proofs.Packing.{bit_back, word_returns}
 use Rattle.gated_tree.proofs.Words.{dirty_shown}
 
 -- a word after an `and` with not 4
@@ -68,6 +69,13 @@ cleared_node word h =
 pub clean_stays : (word : ℕ) → IsNode word → dirty_in word ≡ 0 → without_mark word ≡ word
 clean_stays word h clean = omega (arith, mark_taken word (packed_below word h.packed), clean)
 
+-- the cleared word is that of the same node, clean
+pub cleared_is : (word : ℕ) → IsPacked word → without_mark word ≡ word_of (marked_node false (node_of word))
+cleared_is word h =
+    let back = word_returns word h in
+    let bit : mark_bit (dirty_in word == 1) ≡ dirty_in word = bit_back (dirty_in word) (omega arith) in
+    omega (arith, mark_taken word (packed_below word h), back.1, bit)
+
 -- only a file's word has the mark
 pub marked_file : (word : ℕ) → IsNode word → dirty_in word ≡ 1 → kind_in word ≡ 1
 marked_file word h marked =
@@ -79,7 +87,7 @@ marked_file word h marked =
     omega (arith, h.packed.kind, dir, free)
 
 -- what a file's word shows
-file_shown : (word : ℕ) → kind_in word ≡ 1 → node_shown word ≡ Some (record { kind = File; parent = parent_in word; size = size_in word; dirty = dirty_in word == 1 })
+pub file_shown : (word : ℕ) → kind_in word ≡ 1 → node_shown word ≡ Some (record { kind = File; parent = parent_in word; size = size_in word; dirty = dirty_in word == 1 })
 file_shown word file = rw (ne_eqb (kind_in word) 0 (λ e. absurd (omega (arith, e, file))), eq-eqb (kind_in word) 1 file) refl
 
 -- no directory is dirty
