@@ -1,0 +1,7 @@
+pub mod Laws
+pub mod Counts
+pub mod Changes
+pub mod Clearings
+pub mod Each
+mod Sample
+pub mod Allowed

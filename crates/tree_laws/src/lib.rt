@@ -1,0 +1,35 @@
+//! The laws of the tree behind the gates, over its words and the roles of tasks: what each event there keeps, and what action it is.
+//! It has no code: its functions state laws.
+#![tactic(auto)]
+
+ghost use Rattle.std.specs.Prelude.{◌≡◌, ℕ, suc, ◌+◌, ◌<◌, ◌≤◌, Option};
+ghost use Rattle.access_model.specs.declared.actions.Action.{Action};
+ghost use Rattle.gated_tree.specs.Nodes.{IsNode};
+ghost use Rattle.gated_tree.specs.Roles.{AreWithin, Bounds, Reading, TreeHolds, TreeState};
+ghost use Rattle.gated_tree.specs.Trees.{IsClean, IsSound};
+ghost use Rattle.tree_laws.specs.Events.{Comes, Event, IsQuiet, MovesBy, tree_shown};
+
+/// Each event keeps what holds of the tree. Where it adds an action, the shown tree allows that and moves by just its effect; else the
+/// shown tree stays. Does nothing: its contract is the law.
+pub fn each_event_keeps_the_tree()
+    ensures { (c : Bounds) → AreWithin c → (s : TreeState) → TreeHolds c s → (t : ℕ) → t < c.tasks → (next : TreeState)
+        (action : Option Action) → Event c s t next action → TreeHolds c next × MovesBy c s.node next.node action }
+{}
+
+/// At any moment each node word is one that a node may have, and the blocks charged are within the capacity. Does nothing: its
+/// contract is the law.
+pub fn each_node_word_unpacks()
+    ensures nodes { (c : Bounds) → AreWithin c → (s : TreeState) → Comes c s → (n : ℕ) → n < c.nodes → IsNode (s.node n) }
+    ensures room { (c : Bounds) → AreWithin c → (s : TreeState) → Comes c s → s.used ≤ c.capacity }
+{}
+
+/// Where nobody has charged anything, the tree is sound. A whole snapshot of a sealed tree has then loaded the words of a tree that is
+/// sound and clean. Does nothing: its contract is the law.
+pub fn counts_are_exact_where_nobody_charges()
+    ensures words { (c : Bounds) → AreWithin c → (s : TreeState) → Comes c s → IsQuiet c s →
+        IsSound c.nodes s.used (tree_shown s.node) s.kids }
+    ensures snapshot { (c : Bounds) → AreWithin c → (s : TreeState) → Comes c s → IsQuiet c s → s.sealed ≡ 1 →
+        (t : ℕ) → t < c.tasks → (k : ℕ) (values : ℕ → ℕ) → s.at t ≡ Reading k values → c.nodes + c.nodes < k →
+        IsSound c.nodes (values 0) (tree_shown (λ n. values (suc n))) (λ d. values (suc (c.nodes + d))) ×
+        IsClean c.nodes (tree_shown (λ n. values (suc n))) }
+{}
