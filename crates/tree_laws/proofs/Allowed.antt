@@ -4,15 +4,11 @@ use Rattle.access_model.specs.declared.actions.Action.{Action}
 use Rattle.access_model.specs.declared.actions.Action.TheVariants.{Create, Remove, Grow, MoveTo, Dirty, Clean}
 use Rattle.access_model.specs.States.{Limits, State}
 use Rattle.access_model.specs.Actions.{MayDo, after_action, tree_after}
-use Rattle.gated_tree.specs.Roles.{Bounds}
-use Rattle.tree_laws.specs.Events.{TreeAllows, HasLeave}
-
--- the model has the same numbers of tasks, nodes and blocks
-abbrev pub bounds_of : Limits → Bounds
-bounds_of l = record { tasks = l.tasks; nodes = l.nodes; capacity = l.capacity }
+use Rattle.tree_laws.specs.Events.{TreeAllows, HasLeave, bounds_of}
 
 -- an action that the tree allows, of a task with the accesses that it needs, is one that the model allows
-pub may_do : (l : Limits) (s : State) (t : ℕ) (action : Action) → HasLeave l s t action → TreeAllows (bounds_of l) s.tree action → MayDo l s t action
+pub may_do : (l : Limits) (s : State) (t : ℕ) (action : Action) → HasLeave l s t action → TreeAllows (bounds_of l) s.tree action →
+    MayDo l s t action
 may_do l s t (Create n d kind) leave a = (leave, a.0, a.1, a.2, a.3)
 may_do l s t (Remove n) leave a = (leave, a.0, a.1)
 may_do l s t (Grow n b) leave a = (leave, a.0, a.1, a.2, a.3)

@@ -6,7 +6,7 @@ use Rattle.access_model.specs.declared.actions.NodeInfo.{NodeInfo}
 use Rattle.access_model.specs.declared.actions.Action.{Action}
 use Rattle.access_model.specs.declared.actions.Action.TheVariants.{Create, Remove, Grow, MoveTo, Dirty, Clean}
 use Rattle.access_model.specs.States.{Limits, State, size_of, IsFile, IsDirectory}
-use Rattle.access_model.specs.Actions.{HoldsSomeMount, IsWriter, tree_after}
+use Rattle.access_model.specs.Actions.{HoldsSomeMount, IsWriter, MayDo, after_action, tree_after}
 use Rattle.cpu_words.specs.Touches.{wrap_add, wrap_sub}
 use Rattle.gated_tree.specs.declared.nodes.NodeWord.{NodeWord}
 use Rattle.gated_tree.specs.Nodes.{dirty_in, word_of, node_shown, new_node, grown_node, moved_node, marked_node, file_in, directory_in}
@@ -139,3 +139,11 @@ HasLeave l s t (MoveTo n d) = IsWriter l s t
 HasLeave l s t (Dirty n) = (s.levels t 2 ≡ true) × HoldsSomeMount l s t
 HasLeave l s t (Clean n) = (s.levels t 3 ≡ true) ⊎ ((s.passed ≡ 2) ⊎ (s.sb_ro ≡ true))
 HasLeave l s t _ = ⊥
+
+-- the model's numbers of tasks, nodes and blocks
+abbrev pub bounds_of : Limits → Bounds
+bounds_of l = record { tasks = l.tasks; nodes = l.nodes; capacity = l.capacity }
+
+-- the model allows an action of a task, and its effect is on the tree alone
+abbrev pub ModelDoes : Limits → State → ℕ → Action → Type 0
+ModelDoes l s t action = MayDo l s t action × (after_action s t action ≡ record s { tree = tree_after action s.tree })

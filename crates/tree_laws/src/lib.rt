@@ -4,10 +4,11 @@
 
 ghost use Rattle.std.specs.Prelude.{◌≡◌, ℕ, suc, ◌+◌, ◌<◌, ◌≤◌, Option};
 ghost use Rattle.access_model.specs.declared.actions.Action.{Action};
+ghost use Rattle.access_model.specs.States.{Limits, State};
 ghost use Rattle.gated_tree.specs.Nodes.{IsNode};
 ghost use Rattle.gated_tree.specs.Roles.{AreWithin, Bounds, Reading, TreeHolds, TreeState};
 ghost use Rattle.gated_tree.specs.Trees.{IsClean, IsSound};
-ghost use Rattle.tree_laws.specs.Events.{Comes, Event, IsQuiet, MovesBy, tree_shown};
+ghost use Rattle.tree_laws.specs.Events.{Comes, Event, HasLeave, IsQuiet, ModelDoes, MovesBy, TreeAllows, bounds_of, tree_shown};
 
 /// Each event keeps what holds of the tree. Where it adds an action, the shown tree allows that and moves by just its effect; else the
 /// shown tree stays. Does nothing: its contract is the law.
@@ -32,4 +33,11 @@ pub fn counts_are_exact_where_nobody_charges()
         (t : ℕ) → t < c.tasks → (k : ℕ) (values : ℕ → ℕ) → s.at t ≡ Reading k values → c.nodes + c.nodes < k →
         IsSound c.nodes (values 0) (tree_shown (λ n. values (suc n))) (λ d. values (suc (c.nodes + d))) ×
         IsClean c.nodes (tree_shown (λ n. values (suc n))) }
+{}
+
+/// An action that the tree allows, of a task with the accesses that the model asks for, is one that the model allows, and it changes
+/// the tree alone. Does nothing: its contract is the law.
+pub fn the_model_allows_what_the_tree_allows()
+    ensures { (l : Limits) (s : State) (t : ℕ) (action : Action) → HasLeave l s t action → TreeAllows (bounds_of l) s.tree action →
+        ModelDoes l s t action }
 {}
