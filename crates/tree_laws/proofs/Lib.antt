@@ -5,3 +5,4 @@ pub mod Clearings
 pub mod Each
 mod Sample
 pub mod Allowed
+pub mod Steps
