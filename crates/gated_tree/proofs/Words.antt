@@ -1,12 +1,12 @@
 -- What the words of nodes say and show: of a node that a call makes, and of one that it loaded.
-use Rattle.std.proofs.Common.{◌≡◌, ℕ, Bool, false, ◌<◌, refl, sym, ap, ◌∙◌, subst, inl, inr, arith}
-use Rattle.std.specs.Prelude.{◌==◌, Option, Some, None, Ok, option_map}
+use Rattle.std.proofs.Common.{◌≡◌, ℕ, Bool, true, false, ◌<◌, refl, sym, ap, ◌∙◌, subst, inl, inr, arith}
+use Rattle.std.specs.Prelude.{◌==◌, Option, Some, None, Ok, if◌then◌else◌, option_map}
 use Rattle.std.proofs.lemmas.Bool.Decides.{eqb_tells}
 use Rattle.access_model.specs.declared.actions.Kind.{Kind}
 use Rattle.access_model.specs.declared.actions.Kind.TheVariants.{File, Dir}
 use Rattle.access_model.specs.States.{is_dirty, IsDirectory}
 use Rattle.gated_tree.specs.declared.nodes.NodeWord.{NodeWord}
-use Rattle.gated_tree.specs.Nodes.{kind_in, dirty_in, parent_in, size_in, IsPacked, IsNode, placed, kind_bits, mark_bit, word_of, kind_of, node_of, info_of, node_shown, new_node, as_file, as_directory, file_in, directory_in}
+use Rattle.gated_tree.specs.Nodes.{kind_in, dirty_in, parent_in, size_in, IsPacked, IsNode, placed, kind_bits, mark_bit, word_of, kind_of, node_of, is_stray, info_of, node_shown, new_node, as_file, as_directory, file_in, directory_in}
 use Rattle.gated_tree.proofs.Packing.{packed_unpacks, mark_back, mark_below, word_returns, fields_shown}
 
 -- a kind comes back from its bits, which are below 3
@@ -120,3 +120,14 @@ dirty_shown word h = elim (eqb_tells (kind_in word) 0) [
       rw e.0 (sym (ap (λ w. dirty_in w == 1) none))
   | inr e ↦ rw e.0 refl
 ]
+
+-- the parent of a file that any word has fits its bits
+narrow_unless : (stray : Bool) (word : ℕ) (file : NodeWord) →
+    option_map (λ node. as_file node node.kind) (if stray then None else Some (node_of word)) ≡ Some (Ok file) → file.parent < 64
+narrow_unless true word file e = absurd cc
+narrow_unless false word file e =
+    let is : (kind_of (kind_in word) ≡ Some File) × (node_of word ≡ file) = as_file_is (node_of word) file (kind_of (kind_in word)) (some_is _ _ e) in
+    subst (λ node. node.parent < 64) is.1 (omega arith)
+
+pub file_narrow : (word : ℕ) (file : NodeWord) → file_in word ≡ Some (Ok file) → file.parent < 64
+file_narrow word file e = narrow_unless (is_stray word) word file e

@@ -94,6 +94,21 @@ CreateStepFits c (ChargesChild node) = node < c.nodes
 CreateStepFits c (TakesNode node) = node < c.nodes
 CreateStepFits c RefundsChild = Unit {0}
 
+-- the parent of a file that a remove has loaded fits its bits
+abbrev pub RemoveStepFits : RemoveStep → Type 0
+RemoveStepFits LoadsFileToRemove = Unit {0}
+RemoveStepFits (FreesNode file) = file.parent < 64
+RemoveStepFits (RefundsItsBlocks file) = file.parent < 64
+RemoveStepFits (RefundsItsChild file) = file.parent < 64
+
+-- so does that of a file that a move has loaded, and the directory from which it subtracts a child
+abbrev pub MoveStepFits : MoveStep → Type 0
+MoveStepFits LoadsFileToMove = Unit {0}
+MoveStepFits (LoadsTarget file) = file.parent < 64
+MoveStepFits (ChargesTarget file) = file.parent < 64
+MoveStepFits (MovesFile file) = file.parent < 64
+MoveStepFits (RefundsOne dir answer) = dir < 64
+
 -- a snapshot's node to come is one of the tree's
 abbrev pub SnapshotStepFits : Bounds → SnapshotStep → Type 0
 SnapshotStepFits c (LoadsNodeWord node) = node < c.nodes
@@ -103,9 +118,15 @@ SnapshotStepFits c step = Unit {0}
 -- the numbers of a phase are in range, and are those of the tree
 abbrev pub TreePhaseFits : Bounds → ℕ → TreePhase → Type 0
 TreePhaseFits c t (Creates x) = (x.dir < c.nodes) × (x.nodes ≡ c.nodes) × CreateStepFits c x.step
-TreePhaseFits c t (Removes x) = x.file < c.nodes
+TreePhaseFits c t (Removes x) = (x.file < c.nodes) × RemoveStepFits x.step
 TreePhaseFits c t (Grows x) = (x.file < c.nodes) × (1 ≤ x.blocks) × (x.capacity ≡ c.capacity)
-TreePhaseFits c t (Moves x) = (x.file < c.nodes) × (x.dir < c.nodes)
+TreePhaseFits c t (Moves x) = (x.file < c.nodes) × (x.dir < c.nodes) × MoveStepFits x.step
 TreePhaseFits c t (Marks x) = x.file < c.nodes
 TreePhaseFits c t (Snapshots x) = (x.task ≡ t) × (x.nodes ≡ c.nodes) × SnapshotStepFits c x.step
 TreePhaseFits c t (Clears x) = (x.node < c.nodes) × (x.nodes ≡ c.nodes)
+
+-- what comes after an event fits
+abbrev pub NextFits : Bounds → ℕ → Next TreePhase → Type 0
+NextFits c t (Go phase) = TreePhaseFits c t phase
+NextFits c t (Wait phase) = TreePhaseFits c t phase
+NextFits c t (Done answer) = Unit {0}

@@ -42,7 +42,7 @@ pub record Bounds : Type 0 where
 -- they are within the limits
 pub record AreWithin (c : Bounds) : Type 0 where
   pub tasks : c.tasks ≤ 64
-  pub some_node : 1 ≤ c.nodes
+  pub some_node : 2 ≤ c.nodes
   pub nodes : c.nodes ≤ 64
   pub capacity : c.capacity < 4294967296
 

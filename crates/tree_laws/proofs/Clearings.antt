@@ -61,7 +61,7 @@ module _ (c : Bounds) (s : TreeState) (good : TreeHolds c s) where
     -- a clearing begins at node 1, since the root is clean
     pub clearing_begins : AreWithin c → s.at t ≡ Out → TreeHolds c (turned s t (Clearing 1))
     clearing_begins within is =
-        let root : is_dirty (node_shown (s.node 0)) ≡ false = directory_clean (s.node 0) (good.words 0 within.some_node) good.root in
+        let root : is_dirty (node_shown (s.node 0)) ≡ false = directory_clean (s.node 0) (good.words 0 (omega (arith, within.some_node))) good.root in
         moves c s good t lt (Clearing 1) (sym (ap charge is)) (λ d. sym (ap (child_charge d) is))
         (λ n l.
         let first : 0 ≡ n = omega (arith, l) in

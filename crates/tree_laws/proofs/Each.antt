@@ -66,7 +66,7 @@ opening_holds c within =
     record {
       words = λ n ln. each (λ n. IsNode) root_is_node (λ n. free_is_node) n;
       root = refl;
-      parents = λ n ln. each (λ n w. HasParent c.nodes node (node_shown w)) (within.some_node, refl) (λ n. tt) n;
+      parents = λ n ln. each (λ n w. HasParent c.nodes node (node_shown w)) (omega (arith, within.some_node), refl) (λ n. tt) n;
       blocks = omega (
         arith,
         total_none c.nodes (λ n. size_of (node_shown (node n))) (λ n ln. each (λ n w. size_of (node_shown w) ≡ 0) refl (λ n. refl) n),

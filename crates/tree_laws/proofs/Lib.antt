@@ -6,3 +6,5 @@ pub mod Each
 mod Sample
 pub mod Allowed
 pub mod Steps
+pub mod Sweeps
+pub mod Fitting
