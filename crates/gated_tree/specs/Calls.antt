@@ -1,5 +1,5 @@
 -- What each phase is doing at the tree, and what its numbers must be.
-use Rattle.std.specs.Prelude.{◌≡◌, ℕ, suc, ◌+◌, ◌<◌, ◌≤◌, Result, Ok, Err}
+use Rattle.std.specs.Prelude.{◌≡◌, ℕ, suc, ◌+◌, ◌<◌, ◌≤◌}
 use Rattle.access_model.specs.declared.replies.Next.{Next}
 use Rattle.access_model.specs.declared.replies.Next.TheVariants.{Go, Wait, Done}
 use Rattle.gated_tree.specs.declared.changes.Create.{Create}
@@ -17,8 +17,6 @@ use Rattle.gated_tree.specs.declared.growth.GrowStep.TheVariants.{LoadsFile as L
 use Rattle.gated_tree.specs.declared.marks.Mark.{Mark}
 use Rattle.gated_tree.specs.declared.marks.MarkStep.{MarkStep}
 use Rattle.gated_tree.specs.declared.marks.MarkStep.TheVariants.{LoadsFile as LoadsFileToMark, MarksFile}
-use Rattle.gated_tree.specs.declared.marks.ClearMarks.{ClearMarks}
-use Rattle.gated_tree.specs.declared.snapshots.Snapshot.{Snapshot}
 use Rattle.gated_tree.specs.declared.snapshots.SnapshotStep.{SnapshotStep}
 use Rattle.gated_tree.specs.declared.snapshots.SnapshotStep.TheVariants.{Locks, LoadsStage, LoadsUsed as LoadsUsedWord, LoadsNode as LoadsNodeWord, LoadsKids, Releases}
 use Rattle.gated_tree.specs.declared.phases.TreePhase.{TreePhase}

@@ -1,14 +1,12 @@
 -- The numbers of a phase stay in range, and each word of its events is there.
-use Rattle.std.proofs.Common.{◌≡◌, ℕ, zero, suc, Bool, true, false, ◌+◌, ◌<◌, ◌≤◌, refl, sym, ap, ◌∙◌, subst, inl, inr, arith}
+use Rattle.std.proofs.Common.{◌≡◌, ℕ, Bool, true, false, ◌+◌, ◌<◌, refl, inl, inr, arith}
 use Rattle.std.specs.Prelude.{◌==◌, Option, Some, None, Result, Ok, Err, is_some, nat_lt, if◌then◌else◌}
 use Rattle.std.proofs.lemmas.Bool.{cases_lt, lt-ltb, le-ltb}
-use Rattle.finite_sums.specs.Sums.{update}
 use Rattle.access_model.specs.declared.errors.GateError.{GateError}
 use Rattle.access_model.specs.declared.replies.Next.{Next}
-use Rattle.access_model.specs.declared.replies.Next.TheVariants.{Go, Wait, Done}
+use Rattle.access_model.specs.declared.replies.Next.TheVariants.{Go}
 use Rattle.access_model.specs.Replies.{map_next}
 use Rattle.cpu_words.specs.Hooks.{HookAnswer}
-use Rattle.cpu_words.specs.Names.{Extents, IsWord}
 use Rattle.gated_tree.specs.declared.nodes.NodeWord.{NodeWord}
 use Rattle.gated_tree.specs.declared.changes.Create.{Create}
 use Rattle.gated_tree.specs.declared.changes.CreateStep.{CreateStep}
@@ -32,12 +30,10 @@ use Rattle.gated_tree.specs.declared.snapshots.SnapshotStep.TheVariants.{Locks, 
 use Rattle.gated_tree.specs.declared.phases.TreePhase.{TreePhase}
 use Rattle.gated_tree.specs.declared.phases.TreePhase.TheVariants.{Create as Creates, Remove as Removes, Grow as Grows, MoveTo as Moves, Mark as Marks, Snapshot as Snapshots, ClearMarks as Clears}
 use Rattle.gated_tree.specs.Nodes.{word_of, unpacked, file_in, directory_in, node_after}
-use Rattle.gated_tree.specs.Phases.{after_look, next, after, create_looked, create_looks_at, create_past, create_after, at_create, remove_after, at_remove, grow_from, grow_after, at_grow, move_after, at_move, mark_after, at_mark, snapshot_after, snapshot_locked_out, node_step, kids_step, at_snapshot, clear_after, clears_at}
-use Rattle.gated_tree.specs.Calls.{phase_role, CreateStepFits, RemoveStepFits, MoveStepFits, SnapshotStepFits, TreePhaseFits, NextFits}
-use Rattle.gated_tree.specs.Roles.{Role, Returning, Bounds, TreeState, AreWithin, TreeHolds}
+use Rattle.gated_tree.specs.Phases.{after_look, after, create_looked, create_past, create_after, at_create, remove_after, at_remove, grow_after, at_grow, move_after, at_move, mark_after, at_mark, snapshot_after, snapshot_locked_out, node_step, kids_step, clear_after}
+use Rattle.gated_tree.specs.Calls.{CreateStepFits, RemoveStepFits, MoveStepFits, SnapshotStepFits, TreePhaseFits, NextFits}
+use Rattle.gated_tree.specs.Roles.{Bounds, AreWithin}
 use Rattle.gated_tree.proofs.Words.{file_narrow}
-use Rattle.tree_laws.specs.Steps.{tree_in}
-use Rattle.tree_laws.proofs.Laws.{role_says}
 
 module _ (c : Bounds) (within : AreWithin c) (t : ℕ) where
   -- what comes after a look at a node

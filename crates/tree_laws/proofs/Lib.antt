@@ -8,3 +8,4 @@ pub mod Allowed
 pub mod Steps
 pub mod Sweeps
 pub mod Fitting
+pub mod Phases

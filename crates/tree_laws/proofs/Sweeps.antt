@@ -1,25 +1,23 @@
 -- Each event of a clearing of the dirty marks and of a snapshot is an event of the tree.
-use Rattle.std.proofs.Common.{◌≡◌, ℕ, zero, suc, Bool, true, false, ◌+◌, ◌-◌, ◌<◌, ◌≤◌, refl, sym, ap, ◌∙◌, subst, inl, inr, arith}
-use Rattle.std.specs.Prelude.{◌==◌, Option, Some, None, is_some, nat_lt, if◌then◌else◌}
+use Rattle.std.proofs.Common.{◌≡◌, ℕ, suc, Bool, true, false, ◌+◌, ◌-◌, ◌<◌, refl, sym, ap, ◌∙◌, subst, inl, inr, arith}
+use Rattle.std.specs.Prelude.{is_some}
 use Rattle.std.proofs.lemmas.Bool.{cases_lt, lt-ltb, le-ltb}
 use Rattle.std.proofs.lemmas.Bool.Decides.{eqb_tells}
 use Rattle.std.proofs.Math.Path.{fun_ext}
 use Rattle.finite_sums.specs.Sums.{update}
 use Rattle.finite_sums.proofs.Totals.{update_at, update_off}
-use Rattle.access_model.specs.declared.actions.Action.{Action}
-use Rattle.access_model.specs.declared.actions.Action.TheVariants.{Clean}
-use Rattle.cpu_words.specs.declared.names.WordName.TheVariants.{Umount, Stage, Used, Node, Kids}
+use Rattle.cpu_words.specs.declared.names.WordName.TheVariants.{Used, Node, Kids}
 use Rattle.cpu_words.specs.Words.{Words}
 use Rattle.gated_tree.specs.declared.marks.ClearMarks.{ClearMarks}
 use Rattle.gated_tree.specs.declared.snapshots.Snapshot.{Snapshot}
 use Rattle.gated_tree.specs.declared.snapshots.SnapshotStep.{SnapshotStep}
 use Rattle.gated_tree.specs.declared.snapshots.SnapshotStep.TheVariants.{Locks, LoadsStage, LoadsUsed, LoadsNode, LoadsKids, Releases}
-use Rattle.gated_tree.specs.Nodes.{dirty_in, unpacked, node_after}
-use Rattle.gated_tree.specs.Phases.{clear_next, clear_after, clears_at, snapshot_next, snapshot_after, snapshot_locked_out, node_step, kids_step}
+use Rattle.gated_tree.specs.Nodes.{dirty_in, unpacked}
+use Rattle.gated_tree.specs.Phases.{clear_next, clear_after, snapshot_next, snapshot_after, snapshot_locked_out}
 use Rattle.gated_tree.specs.Calls.{snapshot_role, role_after, SnapshotStepFits}
 use Rattle.gated_tree.specs.Roles.{Role, Out, Clearing, Reading, Bounds, TreeState, AreWithin, TreeHolds, HasNoCharge, tree_word}
 use Rattle.gated_tree.proofs.Packing.{packed_unpacks}
-use Rattle.tree_laws.specs.Events.{turned, with_node, cleared_word, tree_shown, MovesBy, MayClean}
+use Rattle.tree_laws.specs.Events.{turned, MayClean}
 use Rattle.tree_laws.specs.Steps.{tree_in, words_left, found_at, EventKeeps, NotesLoad}
 use Rattle.tree_laws.proofs.Counts.{leaves}
 use Rattle.tree_laws.proofs.Clearings.{clears, passes, snapshot_begins, snapshot_loads}
@@ -83,7 +81,8 @@ module _ (c : Bounds) (within : AreWithin c) (sealed : ℕ) (w : Words) (at : �
   pub snapshot_step : (x : Snapshot) (step : SnapshotStep) (values noted : ℕ → ℕ) → x.nodes ≡ c.nodes → SnapshotStepFits c step →
       at t ≡ snapshot_role x.nodes values step → NotesLoad x.nodes step values noted (found_at w (snapshot_next x step)) →
       EventKeeps c sealed w at t (snapshot_next x step)
-      (role_after (λ y. snapshot_role y.nodes noted y.step) (snapshot_after x step (found_at w (snapshot_next x step))).0) None
+      (role_after (λ y. snapshot_role y.nodes noted y.step) (snapshot_after x step (found_at w (snapshot_next x step))).0)
+      (snapshot_after x step (found_at w (snapshot_next x step))).1
   snapshot_step x Locks values noted same fits is notes = elim (eqb_tells w.umount 0) [
     | inl e ↦ rw e.0 (stays_at c within sealed w at good t lt Out is, refl)
     | inr e ↦ rw e.0 (locked_out x noted x.wait is, refl)

@@ -5,10 +5,17 @@
 ghost use Rattle.std.specs.Prelude.{◌≡◌, ℕ, suc, ◌+◌, ◌<◌, ◌≤◌, Option};
 ghost use Rattle.access_model.specs.declared.actions.Action.{Action};
 ghost use Rattle.access_model.specs.States.{Limits, State};
+ghost use Rattle.cpu_words.specs.Hooks.{HookAnswer};
+ghost use Rattle.cpu_words.specs.Names.{Extents, IsWord};
+ghost use Rattle.cpu_words.specs.Words.{Words};
+ghost use Rattle.gated_tree.specs.declared.phases.TreePhase.{TreePhase};
 ghost use Rattle.gated_tree.specs.Nodes.{IsNode};
-ghost use Rattle.gated_tree.specs.Roles.{AreWithin, Bounds, Reading, TreeHolds, TreeState};
+ghost use Rattle.gated_tree.specs.Phases.{after, next};
+ghost use Rattle.gated_tree.specs.Calls.{NextFits, TreePhaseFits, phase_role};
+ghost use Rattle.gated_tree.specs.Roles.{AreWithin, Bounds, Reading, Role, TreeHolds, TreeState};
 ghost use Rattle.gated_tree.specs.Trees.{IsClean, IsSound};
 ghost use Rattle.tree_laws.specs.Events.{Comes, Event, HasLeave, IsQuiet, ModelDoes, MovesBy, TreeAllows, bounds_of, tree_shown};
+ghost use Rattle.tree_laws.specs.Steps.{MayStep, Notes, StepKeeps, found_at, tree_in};
 
 /// Each event keeps what holds of the tree. Where it adds an action, the shown tree allows that and moves by just its effect; else the
 /// shown tree stays. Does nothing: its contract is the law.
@@ -40,4 +47,22 @@ pub fn counts_are_exact_where_nobody_charges()
 pub fn the_model_allows_what_the_tree_allows()
     ensures { (l : Limits) (s : State) (t : ℕ) (action : Action) → HasLeave l s t action → TreeAllows (bounds_of l) s.tree action →
         ModelDoes l s t action }
+{}
+
+/// Each event of each call at the tree, among all words, keeps what holds of the tree. Where it adds an action, the shown tree allows that
+/// and moves by just its effect; else the shown tree stays. The word of the event is there. Does nothing: its contract is the law.
+pub fn each_call_keeps_the_tree()
+    ensures events { (c : Bounds) → AreWithin c → (sealed : ℕ) (w : Words) (at : ℕ → Role) → TreeHolds c (tree_in sealed w at) →
+        (t : ℕ) → t < c.tasks → (phase : TreePhase) (values noted : ℕ → ℕ) (hook : HookAnswer) → at t ≡ phase_role values phase →
+        TreePhaseFits c t phase → MayStep c (tree_in sealed w at) phase → Notes phase values noted (found_at w (next phase hook)) →
+        StepKeeps c sealed w at t phase noted hook }
+    ensures words { (c : Bounds) → AreWithin c → (sealed : ℕ) (w : Words) (at : ℕ → Role) → TreeHolds c (tree_in sealed w at) →
+        (t : ℕ) → t < c.tasks → (e : Extents) → e.nodes ≡ c.nodes → (phase : TreePhase) (values : ℕ → ℕ) (hook : HookAnswer) →
+        at t ≡ phase_role values phase → TreePhaseFits c t phase → IsWord e (next phase hook).0 }
+{}
+
+/// Whatever an event of a phase finds, the numbers of the phase that comes after it are in range. Does nothing: its contract is the law.
+pub fn what_comes_after_fits()
+    ensures { (c : Bounds) → AreWithin c → (t : ℕ) (phase : TreePhase) (found : ℕ) (hook : HookAnswer) → TreePhaseFits c t phase →
+        NextFits c t (after phase found hook).0 }
 {}
