@@ -87,7 +87,8 @@ marked_file word h marked =
     omega (arith, h.packed.kind, dir, free)
 
 -- what a file's word shows
-pub file_shown : (word : ℕ) → kind_in word ≡ 1 → node_shown word ≡ Some (record { kind = File; parent = parent_in word; size = size_in word; dirty = dirty_in word == 1 })
+pub file_shown : (word : ℕ) → kind_in word ≡ 1 →
+    node_shown word ≡ Some (record { kind = File; parent = parent_in word; size = size_in word; dirty = dirty_in word == 1 })
 file_shown word file = rw (ne_eqb (kind_in word) 0 (λ e. absurd (omega (arith, e, file))), eq-eqb (kind_in word) 1 file) refl
 
 -- no directory is dirty
@@ -105,7 +106,9 @@ cleared_shown word h dirty =
     let c : IsCleared word (without_mark word) = clears_mark word h.packed in
     let before = file_shown word file in
     let after = file_shown (without_mark word) (c.kind ∙ file) in
-    let clean : (dirty_in (without_mark word) == 1) ≡ false = ne_eqb (dirty_in (without_mark word)) 1 (λ e. absurd (omega (arith, e, c.dirty))) in (
+    let clean : (dirty_in (without_mark word) == 1) ≡ false =
+    ne_eqb (dirty_in (without_mark word)) 1 (λ e. absurd (omega (arith, e, c.dirty))) in (
       rw before refl,
-      after ∙ (λ j. Some (record { kind = File; parent = c.parent j; size = c.size j; dirty = clean j })) ∙ sym (ap (option_map (marked false)) before),
+      after ∙ (λ j. Some (record { kind = File; parent = c.parent j; size = c.size j; dirty = clean j })) ∙
+          sym (ap (option_map (marked false)) before),
     )

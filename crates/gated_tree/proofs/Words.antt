@@ -48,7 +48,8 @@ placed_packed k d p s some kind dirty parent size = record {
 }
 
 -- the word of a file whose fields fit is a node's
-pub file_is_node : (b : Bool) (p s : ℕ) → p < 64 → s < 4294967296 → IsNode (word_of (record { kind = Some File; dirty = b; parent = p; size = s }))
+pub file_is_node : (b : Bool) (p s : ℕ) → p < 64 → s < 4294967296 →
+    IsNode (word_of (record { kind = Some File; dirty = b; parent = p; size = s }))
 file_is_node b p s parent size = record {
   packed = placed_packed 1 (mark_bit b) p s (omega arith) (omega arith) (mark_below b) parent size;
   plain = λ e. absurd (omega (arith, e, (fields_placed 1 (mark_bit b) p s (omega arith) (mark_below b) parent).0));
@@ -66,7 +67,8 @@ new_is_node Dir dir h = record {
 
 -- the word of a free node is a node's
 pub free_is_node : IsNode 0
-free_is_node = record { packed = record { kind = omega arith; low = refl; high = refl; size = omega arith; free = λ e. refl }; plain = λ e. refl }
+free_is_node =
+    record { packed = record { kind = omega arith; low = refl; high = refl; size = omega arith; free = λ e. refl }; plain = λ e. refl }
 
 -- the word of the root is a node's
 pub root_is_node : IsNode 2
@@ -126,7 +128,8 @@ narrow_unless : (stray : Bool) (word : ℕ) (file : NodeWord) →
     option_map (λ node. as_file node node.kind) (if stray then None else Some (node_of word)) ≡ Some (Ok file) → file.parent < 64
 narrow_unless true word file e = absurd cc
 narrow_unless false word file e =
-    let is : (kind_of (kind_in word) ≡ Some File) × (node_of word ≡ file) = as_file_is (node_of word) file (kind_of (kind_in word)) (some_is _ _ e) in
+    let is : (kind_of (kind_in word) ≡ Some File) × (node_of word ≡ file) =
+    as_file_is (node_of word) file (kind_of (kind_in word)) (some_is _ _ e) in
     subst (λ node. node.parent < 64) is.1 (omega arith)
 
 pub file_narrow : (word : ℕ) (file : NodeWord) → file_in word ≡ Some (Ok file) → file.parent < 64

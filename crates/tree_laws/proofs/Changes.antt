@@ -27,7 +27,8 @@ file_shows file kind parent = word_shows file parent ∙ ap (λ k. info_of (reco
 
 -- the word of a file whose fields fit is a node's
 file_fits : (file : NodeWord) → file.kind ≡ Some File → file.parent < 64 → file.size < 4294967296 → IsNode (word_of file)
-file_fits file kind parent size = subst (λ k. IsNode (word_of (record file { kind = k }))) (sym kind) (file_is_node file.dirty file.parent file.size parent size)
+file_fits file kind parent size =
+    subst (λ k. IsNode (word_of (record file { kind = k }))) (sym kind) (file_is_node file.dirty file.parent file.size parent size)
 
 -- a file's word is replaced, and so the shown tree has what the action makes of the file
 file_replaced : (node : ℕ → ℕ) (n : ℕ) (old new : NodeWord) (to : NodeInfo → NodeInfo) → node_shown (node n) ≡ Some (file_info old) →
@@ -123,34 +124,40 @@ module _ (c : Bounds) (s : TreeState) (good : TreeHolds c s) (t : ℕ) (lt : t <
   -- a grow's file gets its blocks, and is dirty
   pub grows : (file : NodeWord) (b n : ℕ) → AreWithin c → NobodyReads c s → MayDirty c s → s.at t ≡ Charged file b → n < c.nodes →
       s.node n ≡ word_of file →
-      TreeHolds c (with_node s n (word_of (grown_node b file)) t Out) × TreeDoes c s.node (update s.node n (word_of (grown_node b file))) (Grow n b)
+      TreeHolds c (with_node s n (word_of (grown_node b file)) t Out) × TreeDoes c s.node (update s.node n (word_of (grown_node b file)))
+      (Grow n b)
   grows file b n within quiet may is ln found =
       let h : MayGrow c file b = role_says c s good t lt (Charged file b) is in
       let there : IsThere n file = is_there n file within h.loaded ln found in
       let fits : (file.size + b) % 4294967296 ≡ file.size + b = omega (arith, h.size, within.capacity) in
       let least : charge (s.at t) ≤ total c.tasks (λ x. charge (s.at x)) = total_at c.tasks t (λ x. charge (s.at x)) lt in (
-        file_changes n file (grown_node b file) Out ln there there.kind there.narrow (omega (arith, fits, h.size, within.capacity)) there.parent
+        file_changes n file (grown_node b file) Out ln there there.kind there.narrow (omega (arith, fits, h.size, within.capacity))
+            there.parent
             (omega (arith, fits, ap charge is)) (λ d. omega (arith, ap (child_charge d) is)) (inr may) (inr quiet) tt,
         record {
           allowed = (ln, subst IsFile (sym there.shows) refl, h.some, omega (arith, good.blocks, good.room, least, ap charge is));
-          effect = file_replaced s.node n file (grown_node b file) (grown b) there.shows (file_shows (grown_node b file) there.kind there.narrow)
+          effect =
+              file_replaced s.node n file (grown_node b file) (grown b) there.shows (file_shows (grown_node b file) there.kind there.narrow)
               (λ j. record { kind = File; parent = file.parent; size = sym fits j; dirty = true });
         },
       )
 
   -- a move's file gets its new parent; the old one still counts it
-  pub moves_to : (file : NodeWord) (d n : ℕ) → AreWithin c → NobodyReads c s → s.at t ≡ Moving file d → n < c.nodes → s.node n ≡ word_of file →
+  pub moves_to : (file : NodeWord) (d n : ℕ) → AreWithin c → NobodyReads c s → s.at t ≡ Moving file d → n < c.nodes →
+      s.node n ≡ word_of file →
       TreeHolds c (with_node s n (word_of (moved_node d file)) t (Returning file.parent)) ×
       TreeDoes c s.node (update s.node n (word_of (moved_node d file))) (MoveTo n d)
   moves_to file d n within quiet is ln found =
       let h : IsFileNode c.nodes file × IsDirectoryAt c.nodes s.node d = role_says c s good t lt (Moving file d) is in
       let there : IsThere n file = is_there n file within h.0 ln found in
       let narrow : d < 64 = omega (arith, h.1.0, within.nodes) in (
-        file_changes n file (moved_node d file) (Returning file.parent) ln there there.kind narrow (omega (arith, there.size, within.capacity)) h.1
+        file_changes n file (moved_node d file) (Returning file.parent) ln there there.kind narrow
+            (omega (arith, there.size, within.capacity)) h.1
             (omega (arith, ap charge is)) (λ e. omega (arith, ap (child_charge e) is)) (inl (λ e. e)) (inr quiet) h.0.parent,
         record {
           allowed = (ln, h.1.0, subst IsFile (sym there.shows) refl, h.1.1);
-          effect = file_replaced s.node n file (moved_node d file) (moved d) there.shows (file_shows (moved_node d file) there.kind narrow) refl;
+          effect =
+              file_replaced s.node n file (moved_node d file) (moved d) there.shows (file_shows (moved_node d file) there.kind narrow) refl;
         },
       )
 
@@ -162,7 +169,8 @@ module _ (c : Bounds) (s : TreeState) (good : TreeHolds c s) (t : ℕ) (lt : t <
   dirties file n within quiet may is ln found =
       let h : IsFileNode c.nodes file = role_says c s good t lt (Loaded file) is in
       let there : IsThere n file = is_there n file within h ln found in (
-        file_changes n file (marked_node true file) Out ln there there.kind there.narrow (omega (arith, there.size, within.capacity)) there.parent
+        file_changes n file (marked_node true file) Out ln there there.kind there.narrow (omega (arith, there.size, within.capacity))
+            there.parent
             (omega (arith, ap charge is)) (λ d. omega (arith, ap (child_charge d) is)) (inr may) (inr quiet) tt,
         record {
           allowed = (ln, subst IsFile (sym there.shows) refl);
@@ -183,8 +191,10 @@ module _ (c : Bounds) (s : TreeState) (good : TreeHolds c s) (t : ℕ) (lt : t <
       λ sealed.
       let clean : file.dirty ≡ false = sym (ap is_dirty there.shows) ∙ good.clean sealed n ln in
       (λ j. word_of (record file { dirty = sym clean j })) ∙ sym found in (
-        file_changes n file (marked_node false file) r ln there there.kind there.narrow (omega (arith, there.size, within.capacity)) there.parent
-            (omega (arith, e)) (λ d. omega (arith, k d)) (inl (λ z. refl)) (elim may [ inl sealed ↦ inl (still sealed) | inr quiet ↦ inr quiet ]) own,
+        file_changes n file (marked_node false file) r ln there there.kind there.narrow (omega (arith, there.size, within.capacity))
+            there.parent
+            (omega (arith, e)) (λ d. omega (arith, k d)) (inl (λ z. refl))
+            (elim may [ inl sealed ↦ inl (still sealed) | inr quiet ↦ inr quiet ]) own,
         record {
           allowed = (ln, subst IsFile (sym there.shows) refl);
           effect = file_replaced s.node n file (marked_node false file) (marked false) there.shows
@@ -197,4 +207,5 @@ module _ (c : Bounds) (s : TreeState) (good : TreeHolds c s) (t : ℕ) (lt : t <
       TreeHolds c (with_node s n (word_of (marked_node false file)) t Out) ×
       TreeDoes c s.node (update s.node n (word_of (marked_node false file))) (Clean n)
   flushes file n within may is ln found =
-      unmarks file n Out within (role_says c s good t lt (Loaded file) is) may (sym (ap charge is)) (λ d. sym (ap (child_charge d) is)) ln found tt
+      unmarks file n Out within (role_says c s good t lt (Loaded file) is) may (sym (ap charge is)) (λ d. sym (ap (child_charge d) is)) ln
+      found tt

@@ -20,7 +20,8 @@ use Rattle.tree_laws.proofs.Laws.{role_says, moves}
 use Rattle.tree_laws.proofs.Changes.{file_shows, unmarks}
 
 -- each parent, in range and a directory, is a directory
-parent_there : (nodes : ℕ) (node : ℕ → ℕ) (entry : Option NodeInfo) → HasParent nodes node entry → HasDirectory nodes (tree_shown node) entry
+parent_there : (nodes : ℕ) (node : ℕ → ℕ) (entry : Option NodeInfo) → HasParent nodes node entry →
+    HasDirectory nodes (tree_shown node) entry
 parent_there nodes node None h = tt
 parent_there nodes node (Some info) h = h
 
@@ -61,7 +62,8 @@ module _ (c : Bounds) (s : TreeState) (good : TreeHolds c s) where
     -- a clearing begins at node 1, since the root is clean
     pub clearing_begins : AreWithin c → s.at t ≡ Out → TreeHolds c (turned s t (Clearing 1))
     clearing_begins within is =
-        let root : is_dirty (node_shown (s.node 0)) ≡ false = directory_clean (s.node 0) (good.words 0 (omega (arith, within.some_node))) good.root in
+        let root : is_dirty (node_shown (s.node 0)) ≡ false =
+        directory_clean (s.node 0) (good.words 0 (omega (arith, within.some_node))) good.root in
         moves c s good t lt (Clearing 1) (sym (ap charge is)) (λ d. sym (ap (child_charge d) is))
         (λ n l.
         let first : 0 ≡ n = omega (arith, l) in
@@ -85,7 +87,8 @@ module _ (c : Bounds) (s : TreeState) (good : TreeHolds c s) where
         (λ l. clean) (λ ne l. before x (omega (arith, l, ne))) in
         subst (λ w. TreeHolds c (with_node s n w t (Clearing (suc n))) × TreeDoes c s.node (update s.node n w) (Clean n))
         (sym (cleared_is (s.node n) (good.words n ln).packed))
-        (unmarks c s good t lt file n (Clearing (suc n)) within h may (sym (ap charge is)) (λ d. sym (ap (child_charge d) is)) ln (sym back.1) now)
+        (unmarks c s good t lt file n (Clearing (suc n)) within h may (sym (ap charge is)) (λ d. sym (ap (child_charge d) is)) ln
+        (sym back.1) now)
 
     -- a clearing comes to a node that isn't marked, whose word stays
     pub passes : (n : ℕ) → s.at t ≡ Clearing n → n < c.nodes → dirty_in (s.node n) ≡ 0 →
@@ -120,7 +123,8 @@ module _ (c : Bounds) (s : TreeState) (good : TreeHolds c s) where
     pub snapshot_loads : (k : ℕ) (values next : ℕ → ℕ) → s.at t ≡ Reading k values → next k ≡ tree_word c.nodes s.used s.node s.kids k →
         ((i : ℕ) → i < k → next i ≡ values i) → TreeHolds c (turned s t (Reading (suc k) next))
     snapshot_loads k values next is word earlier =
-        let before : (i : ℕ) → i < k → values i ≡ tree_word c.nodes s.used s.node s.kids i = role_says c s good t lt (Reading k values) is in
+        let before : (i : ℕ) → i < k → values i ≡ tree_word c.nodes s.used s.node s.kids i =
+        role_says c s good t lt (Reading k values) is in
         moves c s good t lt (Reading (suc k) next) (sym (ap charge is)) (λ d. sym (ap (child_charge d) is))
         (λ i l. elim (eqb_tells i k) [
           | inl e ↦ subst (λ x. next x ≡ tree_word c.nodes s.used s.node s.kids x) (sym e.1) word
@@ -132,7 +136,8 @@ module _ (c : Bounds) (s : TreeState) (good : TreeHolds c s) where
         (values 0 ≡ s.used) × ((n : ℕ) → n < c.nodes → values (suc n) ≡ s.node n) ×
         ((d : ℕ) → d < c.nodes → values (suc (c.nodes + d)) ≡ s.kids d)
     snapshot_is k values is whole =
-        let says : (i : ℕ) → i < k → values i ≡ tree_word c.nodes s.used s.node s.kids i = role_says c s good t lt (Reading k values) is in (
+        let says : (i : ℕ) → i < k → values i ≡ tree_word c.nodes s.used s.node s.kids i =
+        role_says c s good t lt (Reading k values) is in (
           says 0 (omega (arith, whole)),
           λ n ln. rw (lt-ltb n c.nodes ln) at (says (suc n) (omega (arith, whole, ln))),
           λ d ld.

@@ -68,7 +68,8 @@ module _ (c : Bounds) (s : TreeState) (good : TreeHolds c s) (t : ℕ) (lt : t <
       let read = file_loaded (s.node n) file (good.words n ln).packed found in
       let parent : IsDirectoryAt c.nodes s.node file.parent =
       file_parent c s.node (s.node n) file (ap node_shown (sym read.0) ∙ word_shows file read.2) read.1 (good.parents n ln) in
-      moves c s good t lt (Loaded file) (sym (ap charge is)) (λ e. sym (ap (child_charge e) is)) (record { kind = read.1; parent = parent.0 })
+      moves c s good t lt (Loaded file) (sym (ap charge is)) (λ e. sym (ap (child_charge e) is))
+      (record { kind = read.1; parent = parent.0 })
 
   -- a move's load finds its directory
   pub finds_target : (file dir : NodeWord) (d : ℕ) → s.at t ≡ Loaded file → d < c.nodes → directory_in (s.node d) ≡ Some (Ok dir) →
@@ -96,7 +97,8 @@ module _ (c : Bounds) (s : TreeState) (good : TreeHolds c s) (t : ℕ) (lt : t <
   -- and that of a move
   pub move_fails : (file : NodeWord) (d : ℕ) → s.at t ≡ Moving file d → TreeHolds c (turned s t (Returning d))
   move_fails file d is =
-      moves c s good t lt (Returning d) (sym (ap charge is)) (λ e. sym (ap (child_charge e) is)) (role_says c s good t lt (Moving file d) is).1.0
+      moves c s good t lt (Returning d) (sym (ap charge is)) (λ e. sym (ap (child_charge e) is))
+      (role_says c s good t lt (Moving file d) is).1.0
 
   -- and that of a grow
   pub grow_fails : (file : NodeWord) (b : ℕ) → s.at t ≡ Charged file b → TreeHolds c (turned s t (Refunding b))
@@ -122,10 +124,12 @@ module _ (c : Bounds) (s : TreeState) (good : TreeHolds c s) (t : ℕ) (lt : t <
 
   -- after a failed grow
   pub refunds_blocks : (b : ℕ) → AreWithin c → NobodyReads c s → s.at t ≡ Refunding b → TreeHolds c (with_used s (wrap_sub s.used b) t Out)
-  refunds_blocks b within quiet is = subtracts_blocks b Out within quiet (omega (arith, ap charge is)) (λ d. sym (ap (child_charge d) is)) tt
+  refunds_blocks b within quiet is =
+      subtracts_blocks b Out within quiet (omega (arith, ap charge is)) (λ d. sym (ap (child_charge d) is)) tt
 
   -- and after a remove
-  pub frees_blocks : (b d : ℕ) → AreWithin c → NobodyReads c s → s.at t ≡ Freed b d → TreeHolds c (with_used s (wrap_sub s.used b) t (Returning d))
+  pub frees_blocks : (b d : ℕ) → AreWithin c → NobodyReads c s → s.at t ≡ Freed b d →
+      TreeHolds c (with_used s (wrap_sub s.used b) t (Returning d))
   frees_blocks b d within quiet is =
       subtracts_blocks b (Returning d) within quiet (omega (arith, ap charge is)) (λ e. sym (ap (child_charge e) is))
       (role_says c s good t lt (Freed b d) is)
@@ -154,7 +158,8 @@ module _ (c : Bounds) (s : TreeState) (good : TreeHolds c s) (t : ℕ) (lt : t <
       (omega (arith, more, k d, same_here d)) (λ ne. omega (arith, k x, same_off d x ne))) (λ i q. absurd (omega (arith, q, quiet))) own
 
   -- by a create
-  pub create_adds : (d : ℕ) → AreWithin c → NobodyReads c s → s.at t ≡ Found d → TreeHolds c (with_kids s d (wrap_add (s.kids d) 1) t (Placing d))
+  pub create_adds : (d : ℕ) → AreWithin c → NobodyReads c s → s.at t ≡ Found d →
+      TreeHolds c (with_kids s d (wrap_add (s.kids d) 1) t (Placing d))
   create_adds d within quiet is =
       let h : IsDirectoryAt c.nodes s.node d = role_says c s good t lt (Found d) is in
       adds_child d (Placing d) within quiet h.0 (sym (ap charge is)) (λ e. omega (arith, ap (child_charge e) is)) h
@@ -167,7 +172,8 @@ module _ (c : Bounds) (s : TreeState) (good : TreeHolds c s) (t : ℕ) (lt : t <
       adds_child d (Moving file d) within quiet h.1.0 (sym (ap charge is)) (λ e. omega (arith, ap (child_charge e) is)) h
 
   -- a child that was charged is subtracted
-  pub subtracts_child : (d : ℕ) → AreWithin c → NobodyReads c s → s.at t ≡ Returning d → TreeHolds c (with_kids s d (wrap_sub (s.kids d) 1) t Out)
+  pub subtracts_child : (d : ℕ) → AreWithin c → NobodyReads c s → s.at t ≡ Returning d →
+      TreeHolds c (with_kids s d (wrap_sub (s.kids d) 1) t Out)
   subtracts_child d within quiet is =
       let ld : d < c.nodes = role_says c s good t lt (Returning d) is in
       let few : s.kids d ≤ 128 = few_children d ld within in
@@ -178,4 +184,5 @@ module _ (c : Bounds) (s : TreeState) (good : TreeHolds c s) (t : ℕ) (lt : t <
       let less : wrap_sub (s.kids d) 1 + 1 ≡ s.kids d = omega (arith, few, some) in
       counts_change c s good t lt Out s.used (update s.kids d (wrap_sub (s.kids d) 1)) (omega (arith, ap charge is)) good.room
       (λ x lx. each_updated (λ y v. v + child_charge y (s.at t) ≡ s.kids y + 0) s.kids d (wrap_sub (s.kids d) 1) x
-      (omega (arith, less, own)) (λ ne. omega (arith, ap (child_charge x) is, same_off d x ne))) (λ i q. absurd (omega (arith, q, quiet))) tt
+      (omega (arith, less, own)) (λ ne. omega (arith, ap (child_charge x) is, same_off d x ne))) (λ i q. absurd (omega (arith, q, quiet)))
+      tt

@@ -18,11 +18,13 @@ module _ (c : Bounds) (within : AreWithin c) (s : TreeState) (good : TreeHolds c
   -- the store that ends a clearing seals the tree
   clearing_seals : (n : ℕ) → c.nodes ≤ n → s.at t ≡ Clearing n → TreeHolds c (record (turned s t Out) { sealed = 1 })
   clearing_seals n past is =
-      let left : TreeHolds c (turned s t Out) = leaves c s good t lt (record { blocks = ap charge is; children = λ d. ap (child_charge d) is }) in
+      let left : TreeHolds c (turned s t Out) =
+      leaves c s good t lt (record { blocks = ap charge is; children = λ d. ap (child_charge d) is }) in
       seals c (turned s t Out) left (clearing_ends c s good t lt n past is)
 
   -- each event
-  pub each_event : (next : TreeState) (action : Option Action) → Event c s t next action → TreeHolds c next × MovesBy c s.node next.node action
+  pub each_event : (next : TreeState) (action : Option Action) → Event c s t next action →
+      TreeHolds c next × MovesBy c s.node next.node action
   each_event next action (FindsDirectory d dir is ld found) = (finds_directory c s good t lt d dir is ld found, refl)
   each_event next action (FindsFile n file is ln found) = (finds_file c s good t lt n file within is ln found, refl)
   each_event next action (FindsTarget file dir d is ld found) = (finds_target c s good t lt file dir d is ld found, refl)

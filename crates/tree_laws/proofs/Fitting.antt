@@ -83,7 +83,8 @@ module _ (c : Bounds) (within : AreWithin c) (t : ℕ) where
   remove_fits x (RefundsItsBlocks file) found n fits = (n, fits)
   remove_fits x (RefundsItsChild file) found n fits = tt
 
-  grow_fits : (x : Grow) (step : GrowStep) (found : ℕ) → TreePhaseFits c t (Grows x) → NextFits c t (map_next Grows (grow_after x step found).0)
+  grow_fits : (x : Grow) (step : GrowStep) (found : ℕ) → TreePhaseFits c t (Grows x) →
+      NextFits c t (map_next Grows (grow_after x step found).0)
   grow_fits x LoadsFileToGrow found fits =
       looked_fits Grows (at_grow x LoadsFileToGrow) (λ file. at_grow x (LoadsUsed file)) (file_in found) fits (λ file e. fits)
   grow_fits x (LoadsUsed file) found fits =
@@ -98,7 +99,8 @@ module _ (c : Bounds) (within : AreWithin c) (t : ℕ) where
       looked_fits Moves (at_move x LoadsFileToMove) (λ file. at_move x (LoadsTarget file)) (file_in found) (n, d, tt)
       (λ file e. (n, d, file_narrow found file e))
   move_fits x (LoadsTarget file) found n d fits =
-      looked_fits Moves (at_move x (LoadsTarget file)) (λ dir. at_move x (ChargesTarget file)) (directory_in found) (n, d, fits) (λ dir e. (n, d, fits))
+      looked_fits Moves (at_move x (LoadsTarget file)) (λ dir. at_move x (ChargesTarget file)) (directory_in found) (n, d, fits)
+      (λ dir e. (n, d, fits))
   move_fits x (ChargesTarget file) found n d fits = (n, d, fits)
   move_fits x (MovesFile file) found n d fits = either Moves (found == word_of file) _ _ (n, d, fits) (n, d, omega (arith, d, within.nodes))
   move_fits x (RefundsOne dir answer) found n d fits = tt
@@ -109,7 +111,8 @@ module _ (c : Bounds) (within : AreWithin c) (t : ℕ) where
   mark_fits x (MarksFile file) found n = either Marks (found == word_of file) _ _ tt tt
 
   -- a snapshot that finds `umount` taken
-  locked_out_fits : (x : Snapshot) (wait : Bool) → x.task ≡ t → x.nodes ≡ c.nodes → NextFits c t (map_next Snapshots (snapshot_locked_out x wait))
+  locked_out_fits : (x : Snapshot) (wait : Bool) → x.task ≡ t → x.nodes ≡ c.nodes →
+      NextFits c t (map_next Snapshots (snapshot_locked_out x wait))
   locked_out_fits x true own same = (own, same, tt)
   locked_out_fits x false own same = tt
 

@@ -77,7 +77,8 @@ module _ (c : Bounds) (s : TreeState) (good : TreeHolds c s) (t : ℕ) (lt : t <
       TreeHolds c (with_node s n w t r)
   node_changes n w r ln file fits parent blocks children clean read own =
       let dirs : (d : ℕ) → IsDirectory (node_shown (s.node d)) → IsDirectory (node_shown (update s.node n w d)) =
-      λ d. each_updated (λ y v. IsDirectory (node_shown (s.node y)) → IsDirectory (node_shown v)) s.node n w d (λ e. absurd (file e)) (λ ne e. e) in
+      λ d. each_updated (λ y v. IsDirectory (node_shown (s.node y)) → IsDirectory (node_shown v)) s.node n w d (λ e. absurd (file e))
+      (λ ne e. e) in
       let above : 0 < n = elim (cases_lt 0 n) [
         | inl l ↦ l
         | inr z ↦
@@ -90,7 +91,8 @@ module _ (c : Bounds) (s : TreeState) (good : TreeHolds c s) (t : ℕ) (lt : t <
         | inl e ↦ ap (λ f. tree_word c.nodes s.used f s.kids i) (ap (update s.node n) e ∙ update_same s.node n)
         | inr z ↦ absurd (omega (arith, q, z))
       ] in
-      let unmarked : (x : ℕ) → (MayDirty c s → ⊥) → is_dirty (node_shown (s.node x)) ≡ false → is_dirty (node_shown (update s.node n w x)) ≡ false =
+      let unmarked : (x : ℕ) → (MayDirty c s → ⊥) → is_dirty (node_shown (s.node x)) ≡ false →
+      is_dirty (node_shown (update s.node n w x)) ≡ false =
       λ x no. each_updated (λ y v. is_dirty (node_shown (s.node y)) ≡ false → is_dirty (node_shown v) ≡ false) s.node n w x
       (λ e. elim clean [ inl h ↦ h e | inr h ↦ absurd (no h) ]) (λ ne e. e) in
       record {

@@ -53,8 +53,10 @@ module _ (c : Bounds) (within : AreWithin c) (sealed : ℕ) (w : Words) (at : �
   with_role event action role other same h = subst (λ r. EventKeeps c sealed w at t event r action) same h
 
   -- each event of each call
-  pub each_phase : (phase : TreePhase) (values noted : ℕ → ℕ) (hook : HookAnswer) → at t ≡ phase_role values phase → TreePhaseFits c t phase →
-      MayStep c (tree_in sealed w at) phase → Notes phase values noted (found_at w (next phase hook)) → StepKeeps c sealed w at t phase noted hook
+  pub each_phase : (phase : TreePhase) (values noted : ℕ → ℕ) (hook : HookAnswer) → at t ≡ phase_role values phase →
+      TreePhaseFits c t phase →
+      MayStep c (tree_in sealed w at) phase → Notes phase values noted (found_at w (next phase hook)) →
+      StepKeeps c sealed w at t phase noted hook
   each_phase (Creates x) values noted hook is fits may notes =
       with_role (create_next x x.step) _ _ _ (role_mapped Creates (phase_role noted) _)
       (create_step c within sealed w at good t lt x x.step fits.0 fits.2 may is)
@@ -100,7 +102,8 @@ module _ (c : Bounds) (within : AreWithin c) (sealed : ℕ) (w : Words) (at : �
     grow_there x (GrowsFile file) n = omega (arith, n, nodes)
     grow_there x RefundsBlocks n = tt
 
-    move_there : (x : MoveTo) (step : MoveStep) → x.file < c.nodes → x.dir < c.nodes → at t ≡ move_role x step → IsWord e (move_next x step).0
+    move_there : (x : MoveTo) (step : MoveStep) → x.file < c.nodes → x.dir < c.nodes → at t ≡ move_role x step →
+        IsWord e (move_next x step).0
     move_there x LoadsFileToMove n d is = omega (arith, n, nodes)
     move_there x (LoadsTarget file) n d is = omega (arith, d, nodes)
     move_there x (ChargesTarget file) n d is = omega (arith, d, nodes)

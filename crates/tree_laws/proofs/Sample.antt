@@ -27,5 +27,6 @@ sample =
     let e : Comes small _ = After _ _ 0 None d (omega arith) (FindsFile 1 made refl (omega arith) refl) in
     let f : Comes small _ = After _ _ 0 None e (omega arith) (FindsRoom made 3 refl (omega arith) (omega arith) (omega arith)) in
     let g : Comes small _ = After _ _ 0 None f (omega arith) (ChargesBlocks made 3 refl refl) in
-    let h : Comes small _ = After _ _ 0 _ g (omega arith) (Grows made 3 1 refl (record { unsealed = refl; nobody_clears = refl }) refl (omega arith) refl) in
+    let h : Comes small _ =
+    After _ _ 0 _ g (omega arith) (Grows made 3 1 refl (record { unsealed = refl; nobody_clears = refl }) refl (omega arith) refl) in
     (_, h, refl, refl, refl)

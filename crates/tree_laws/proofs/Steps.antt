@@ -10,6 +10,7 @@ use Rattle.access_model.specs.declared.actions.Kind.{Kind}
 use Rattle.access_model.specs.declared.errors.GateError.{GateError}
 use Rattle.access_model.specs.declared.errors.GateError.TheVariants.{Again}
 use Rattle.access_model.specs.declared.replies.Reply.TheVariants.{Unit as UnitReply}
+use Rattle.access_model.specs.declared.replies.Next.{Next}
 use Rattle.access_model.specs.declared.replies.Next.TheVariants.{Go, Done}
 use Rattle.cpu_words.specs.declared.names.WordName.{WordName}
 use Rattle.cpu_words.specs.declared.names.WordName.TheVariants.{Umount, Stage, SbFlags, Remount, MountFlags, MountCount, Block, Sync, LevelCount, Section, Used, Node, Kids}
@@ -109,7 +110,8 @@ module _ (c : Bounds) (within : AreWithin c) (sealed : ℕ) (w : Words) (at : �
 
   -- a create that found a node of this kind
   kind_found : (x : Create) (node : ℕ) → at t ≡ Found x.dir → (kind : Option Kind) →
-      TreeHolds c (turned here t (role_after (λ y. create_role y y.step) (if is_some kind then create_past x node else Go (at_create x (ChargesChild node)))))
+      let next : Next Create = if is_some kind then create_past x node else Go (at_create x (ChargesChild node)) in
+      TreeHolds c (turned here t (role_after (λ y. create_role y y.step) next))
   kind_found x node is None = stays_at (Found x.dir) is
   kind_found x node is (Some kind) = looks_on x is (node_after node x.nodes)
 
@@ -120,13 +122,15 @@ module _ (c : Bounds) (within : AreWithin c) (sealed : ℕ) (w : Words) (at : �
   looked_at x node is (Some found) = kind_found x node is found.kind
 
   -- each event of a create
-  pub create_step : (x : Create) (step : CreateStep) → x.dir < c.nodes → CreateStepFits c step → NobodyReads c here → at t ≡ create_role x step →
+  pub create_step : (x : Create) (step : CreateStep) → x.dir < c.nodes → CreateStepFits c step → NobodyReads c here →
+      at t ≡ create_role x step →
       EventKeeps c sealed w at t (create_next x step)
       (role_after (λ y. create_role y y.step) (create_after x step (found_at w (create_next x step))).0)
       (create_after x step (found_at w (create_next x step))).1
   create_step x LoadsDirectory ld fits quiet is =
       leaves_word (Node x.dir) _
-      (looked (λ y. create_role y y.step) (at_create x LoadsDirectory) (λ dir. at_create x (LoadsNode 1)) is out_free (directory_in (w.node x.dir))
+      (looked (λ y. create_role y y.step) (at_create x LoadsDirectory) (λ dir. at_create x (LoadsNode 1)) is out_free
+      (directory_in (w.node x.dir))
       (λ dir e. finds_directory c here good t lt x.dir dir is ld e))
   create_step x (LoadsNode node) ld fits quiet is = leaves_word (Node node) _ (looked_at x node is (unpacked (w.node node)))
   create_step x (ChargesChild node) ld fits quiet is = as_event (create_next x (ChargesChild node)) _ _ (CreateAdds x.dir quiet is)
@@ -149,8 +153,10 @@ module _ (c : Bounds) (within : AreWithin c) (sealed : ℕ) (w : Words) (at : �
     | inl e ↦ rw e.0 (each_event c within here good t lt _ _ (Removes file x.file quiet is ln e.1))
     | inr e ↦ rw e.0 (leaves_word (Node x.file) Out (ends_free (Loaded file) is (loaded_free file)))
   ]
-  remove_step x (RefundsItsBlocks file) ln quiet is = as_event (remove_next x (RefundsItsBlocks file)) _ _ (FreesBlocks file.size file.parent quiet is)
-  remove_step x (RefundsItsChild file) ln quiet is = as_event (remove_next x (RefundsItsChild file)) _ _ (SubtractsChild file.parent quiet is)
+  remove_step x (RefundsItsBlocks file) ln quiet is =
+      as_event (remove_next x (RefundsItsBlocks file)) _ _ (FreesBlocks file.size file.parent quiet is)
+  remove_step x (RefundsItsChild file) ln quiet is =
+      as_event (remove_next x (RefundsItsChild file)) _ _ (SubtractsChild file.parent quiet is)
 
   -- so many blocks were found charged
   found_used : (x : Grow) (file : NodeWord) → 1 ≤ x.blocks → x.capacity ≡ c.capacity → at t ≡ Loaded file →
@@ -165,7 +171,8 @@ module _ (c : Bounds) (within : AreWithin c) (sealed : ℕ) (w : Words) (at : �
   ]
 
   -- each event of a grow
-  pub grow_step : (x : Grow) (step : GrowStep) → x.file < c.nodes → 1 ≤ x.blocks → x.capacity ≡ c.capacity → NobodyReads c here → MayDirty c here →
+  pub grow_step : (x : Grow) (step : GrowStep) → x.file < c.nodes → 1 ≤ x.blocks → x.capacity ≡ c.capacity → NobodyReads c here →
+      MayDirty c here →
       at t ≡ grow_role x step →
       EventKeeps c sealed w at t (grow_next x step)
       (role_after (λ y. grow_role y y.step) (grow_after x step (found_at w (grow_next x step))).0)

@@ -56,13 +56,12 @@ module _ (c : Bounds) (within : AreWithin c) (sealed : ℕ) (w : Words) (at : �
       (clear_after x (w.node x.node)).1
   clear_step x ln may is =
       let done = clears_node x ln may is in
+      let left : TreeState = tree_in sealed (words_left w (clear_next x)) at in
       let on : Clearing (suc x.node) ≡ Clearing (x.node + 1) = ap Clearing (omega arith) in
       elim (cases_lt (x.node + 1) x.nodes) [
-        | inl l ↦ rw (lt-ltb (x.node + 1) x.nodes l) (subst (λ r. TreeHolds c (turned (tree_in sealed (words_left w (clear_next x)) at) t r)) on done.0, done.1)
-        | inr l ↦ rw (le-ltb (x.node + 1) x.nodes l) (
-          drops_role (tree_in sealed (words_left w (clear_next x)) at) (Clearing (suc x.node)) (record { blocks = refl; children = λ d. refl }) done.0,
-          done.1,
-        )
+        | inl l ↦ rw (lt-ltb (x.node + 1) x.nodes l) (subst (λ r. TreeHolds c (turned left t r)) on done.0, done.1)
+        | inr l ↦ rw (le-ltb (x.node + 1) x.nodes l)
+            (drops_role left (Clearing (suc x.node)) (record { blocks = refl; children = λ d. refl }) done.0, done.1)
       ]
 
   -- a snapshot that loads a word has one value more
@@ -96,9 +95,11 @@ module _ (c : Bounds) (within : AreWithin c) (sealed : ℕ) (w : Words) (at : �
   snapshot_step x (LoadsNode node) values noted same fits is notes =
       let there : is_some (unpacked (w.node node)) ≡ true = ap is_some (packed_unpacks (w.node node) (good.words node fits).packed) in
       let word : noted (suc node) ≡ tree_word c.nodes w.used w.node w.kids (suc node) = rw (lt-ltb node c.nodes fits) notes.0 in
+      let load : (next : ℕ) → suc (suc node) ≡ next → TreeHolds c (turned here t (Reading next noted)) =
+      λ next on. reads (suc node) next values noted is word notes.1 on in
       leaves_word c within sealed w at good t lt (Node node) _ (rw there (elim (cases_lt (node + 1) x.nodes) [
-        | inl l ↦ rw (lt-ltb (node + 1) x.nodes l) (reads (suc node) (suc (node + 1)) values noted is word notes.1 (omega arith))
-        | inr l ↦ rw (le-ltb (node + 1) x.nodes l) (reads (suc node) (suc (x.nodes + 0)) values noted is word notes.1 (omega (arith, l, fits, same)))
+        | inl l ↦ rw (lt-ltb (node + 1) x.nodes l) (load (suc (node + 1)) (omega arith))
+        | inr l ↦ rw (le-ltb (node + 1) x.nodes l) (load (suc (x.nodes + 0)) (omega (arith, l, fits, same)))
       ]))
   snapshot_step x (LoadsKids node) values noted same fits is notes =
       let back : x.nodes + node - c.nodes ≡ node = omega (arith, same) in
@@ -108,6 +109,7 @@ module _ (c : Bounds) (within : AreWithin c) (sealed : ℕ) (w : Words) (at : �
         | inl l ↦ rw (lt-ltb (node + 1) x.nodes l)
             (reads (suc (x.nodes + node)) (suc (x.nodes + (node + 1))) values noted is word notes.1 (omega arith))
         | inr l ↦ rw (le-ltb (node + 1) x.nodes l)
-            (ends_free c within sealed w at good t lt (Reading (suc (x.nodes + node)) values) is (record { blocks = refl; children = λ d. refl }))
+            (ends_free c within sealed w at good t lt (Reading (suc (x.nodes + node)) values) is
+            (record { blocks = refl; children = λ d. refl }))
       ])
   snapshot_step x (Releases answer) values noted same fits is notes = (stays_at c within sealed w at good t lt Out is, refl)
