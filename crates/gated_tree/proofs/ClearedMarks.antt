@@ -1,13 +1,15 @@
 -- The dirty mark of a node's word, cleared. This file alone sees its bit.
-use Rattle.std.proofs.Common.{◌≡◌, ℕ, ◌+◌, ◌*◌, ◌/◌, ◌%◌, ◌<◌, false, refl, sym, ap, ◌∙◌, arith}
+use Rattle.std.proofs.Common.{◌≡◌, ℕ, ◌+◌, ◌*◌, ◌/◌, ◌%◌, ◌<◌, false, refl, sym, ap, ◌∙◌, subst, arith}
 use Rattle.std.specs.Prelude.{◌==◌, bit_and, option_map, Some}
 use Rattle.std.proofs.lemmas.Bool.{eq-eqb, ne_eqb}
 use Rattle.std.proofs.lemmas.Nat.{and_comm, and-not}
 use Rattle.std.proofs.lemmas.Nat.Bits.{and_pow}
-use Rattle.access_model.specs.declared.actions.Kind.TheVariants.{File}
+use Rattle.access_model.specs.declared.actions.Kind.TheVariants.{File, Dir}
 use Rattle.access_model.specs.Actions.{marked}
-use Rattle.access_model.specs.States.{IsFile}
-use Rattle.gated_tree.specs.Nodes.{kind_in, dirty_in, parent_in, size_in, IsPacked, IsNode, node_shown}
+use Rattle.access_model.specs.States.{is_dirty, IsFile, IsDirectory}
+use Rattle.gated_tree.specs.Nodes.{kind_in, dirty_in, parent_in, size_in, IsPacked, IsNode, mark_bit, word_of, node_of, node_shown, marked_node}
+use Rattle.gated_tree.proofs.Packing.{bit_back, word_returns}
+use Rattle.gated_tree.proofs.Words.{dirty_shown}
 
 -- a word after an `and` with not 4
 abbrev pub without_mark : ℕ → ℕ
@@ -67,6 +69,13 @@ cleared_node word h =
 pub clean_stays : (word : ℕ) → IsNode word → dirty_in word ≡ 0 → without_mark word ≡ word
 clean_stays word h clean = omega (arith, mark_taken word (packed_below word h.packed), clean)
 
+-- the cleared word is that of the same node, clean
+pub cleared_is : (word : ℕ) → IsPacked word → without_mark word ≡ word_of (marked_node false (node_of word))
+cleared_is word h =
+    let back = word_returns word h in
+    let bit : mark_bit (dirty_in word == 1) ≡ dirty_in word = bit_back (dirty_in word) (omega arith) in
+    omega (arith, mark_taken word (packed_below word h), back.1, bit)
+
 -- only a file's word has the mark
 pub marked_file : (word : ℕ) → IsNode word → dirty_in word ≡ 1 → kind_in word ≡ 1
 marked_file word h marked =
@@ -78,8 +87,16 @@ marked_file word h marked =
     omega (arith, h.packed.kind, dir, free)
 
 -- what a file's word shows
-file_shown : (word : ℕ) → kind_in word ≡ 1 → node_shown word ≡ Some (record { kind = File; parent = parent_in word; size = size_in word; dirty = dirty_in word == 1 })
+pub file_shown : (word : ℕ) → kind_in word ≡ 1 →
+    node_shown word ≡ Some (record { kind = File; parent = parent_in word; size = size_in word; dirty = dirty_in word == 1 })
 file_shown word file = rw (ne_eqb (kind_in word) 0 (λ e. absurd (omega (arith, e, file))), eq-eqb (kind_in word) 1 file) refl
+
+-- no directory is dirty
+pub directory_clean : (word : ℕ) → IsNode word → IsDirectory (node_shown word) → is_dirty (node_shown word) ≡ false
+directory_clean word h dir =
+    dirty_shown word h.packed ∙ ne_eqb (dirty_in word) 1 (λ marked.
+    let wrong : File ≡ Dir = subst IsDirectory (file_shown word (marked_file word h marked)) dir in
+    absurd cc)
 
 -- where the mark is set, the word shows a file, and the cleared word the same file, clean
 pub cleared_shown : (word : ℕ) → IsNode word → dirty_in word ≡ 1 →
@@ -89,7 +106,9 @@ cleared_shown word h dirty =
     let c : IsCleared word (without_mark word) = clears_mark word h.packed in
     let before = file_shown word file in
     let after = file_shown (without_mark word) (c.kind ∙ file) in
-    let clean : (dirty_in (without_mark word) == 1) ≡ false = ne_eqb (dirty_in (without_mark word)) 1 (λ e. absurd (omega (arith, e, c.dirty))) in (
+    let clean : (dirty_in (without_mark word) == 1) ≡ false =
+    ne_eqb (dirty_in (without_mark word)) 1 (λ e. absurd (omega (arith, e, c.dirty))) in (
       rw before refl,
-      after ∙ (λ j. Some (record { kind = File; parent = c.parent j; size = c.size j; dirty = clean j })) ∙ sym (ap (option_map (marked false)) before),
+      after ∙ (λ j. Some (record { kind = File; parent = c.parent j; size = c.size j; dirty = clean j })) ∙
+          sym (ap (option_map (marked false)) before),
     )

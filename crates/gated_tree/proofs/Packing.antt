@@ -15,7 +15,8 @@ tested kind low high none node = if kind == 3 || (not (low == 0) || (not (high =
 -- the word of some node unpacks to the node of its fields
 pub packed_unpacks : (word : ℕ) → IsPacked word → unpacked word ≡ Some (node_of word)
 packed_unpacks word h =
-    let e : unpacked word ≡ tested (word % 4) 0 0 (word == 0) (Some (node_of word)) = λ j. tested (word % 4) (h.low j) (h.high j) (word == 0) (Some (node_of word)) in
+    let e : unpacked word ≡ tested (word % 4) 0 0 (word == 0) (Some (node_of word)) =
+    λ j. tested (word % 4) (h.low j) (h.high j) (word == 0) (Some (node_of word)) in
     e ∙ rw (ne_eqb (word % 4) 3 (λ q. absurd (omega (arith, h.kind))))
     (elim (eqb_tells (word % 4) 0) [
       | inl z ↦ rw (z.0, eq-eqb word 0 (h.free z.1))
@@ -53,20 +54,22 @@ fields_back k d p s some kind mark parent =
     λ j. tested (ek j) (el j) (eh j) (w == 0) (Some (record { kind = kind_of (ek j); dirty = ed j == 1; parent = ep j; size = es j })) in
     e ∙ rw (ne_eqb k 3 (λ q. absurd (omega arith)), ne_eqb k 0 (λ q. absurd (omega arith)))
 
+-- a node of these fields
+abbrev node_with : Option Kind → Bool → ℕ → ℕ → NodeWord
+node_with kind b p s = record { kind = kind; dirty = b; parent = p; size = s }
+
 -- a node's word unpacks to the node, field by field
-pub node_back : (kind : Option Kind) (b : Bool) (p s : ℕ) → IsLawful (record { kind = kind; dirty = b; parent = p; size = s }) →
-    unpacked (word_of (record { kind = kind; dirty = b; parent = p; size = s })) ≡ Some (record { kind = kind; dirty = b; parent = p; size = s })
+pub node_back : (kind : Option Kind) (b : Bool) (p s : ℕ) → IsLawful (node_with kind b p s) →
+    unpacked (word_of (node_with kind b p s)) ≡ Some (node_with kind b p s)
 node_back None b p s h =
     let e : (b ≡ false) × (p ≡ 0) × (s ≡ 0) = h.1 refl in
-    let to : unpacked (word_of (record { kind = None; dirty = b; parent = p; size = s })) ≡ Some (record { kind = None; dirty = false; parent = 0; size = 0 }) =
-    λ j. unpacked (word_of (record { kind = None; dirty = e.0 j; parent = e.1 j; size = e.2 j })) in
-    to ∙ sym (λ j. Some (record { kind = None; dirty = e.0 j; parent = e.1 j; size = e.2 j }))
+    let to : unpacked (word_of (node_with None b p s)) ≡ Some (node_with None false 0 0) =
+    λ j. unpacked (word_of (node_with None (e.0 j) (e.1 j) (e.2 j))) in
+    to ∙ sym (λ j. Some (node_with None (e.0 j) (e.1 j) (e.2 j)))
 node_back (Some File) b p s h =
-    fields_back 1 (mark_bit b) p s (omega arith) (omega arith) (mark_below b) h.0 ∙
-    (λ j. Some (record { kind = Some File; dirty = mark_back b j; parent = p; size = s }))
+    fields_back 1 (mark_bit b) p s (omega arith) (omega arith) (mark_below b) h.0 ∙ (λ j. Some (node_with (Some File) (mark_back b j) p s))
 node_back (Some Dir) b p s h =
-    fields_back 2 (mark_bit b) p s (omega arith) (omega arith) (mark_below b) h.0 ∙
-    (λ j. Some (record { kind = Some Dir; dirty = mark_back b j; parent = p; size = s }))
+    fields_back 2 (mark_bit b) p s (omega arith) (omega arith) (mark_below b) h.0 ∙ (λ j. Some (node_with (Some Dir) (mark_back b j) p s))
 
 -- a node that a word can say comes back from its word
 pub node_returns : (node : NodeWord) → IsLawful node → unpacked (word_of node) ≡ Some node
@@ -113,7 +116,8 @@ unpacked_returns word node lt e =
     (h, sym same, back.0, back.1)
 
 -- what is made of something that may be missing is missing with it
-mapped : {A B : Type 0} (to : A → B) (missing : Bool) (a : A) → option_map to (if missing then None else Some a) ≡ (if missing then None else Some (to a))
+mapped : {A B : Type 0} (to : A → B) (missing : Bool) (a : A) →
+    option_map to (if missing then None else Some a) ≡ (if missing then None else Some (to a))
 mapped to true a = refl
 mapped to false a = refl
 

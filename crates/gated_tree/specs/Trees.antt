@@ -19,44 +19,65 @@ unloaded nodes = record { used = 0; nodes = replicate nodes 0; kids = replicate 
 
 -- the words after one more was loaded; a word that is none of the tree's is not noted
 abbrev pub loaded : TreeWords → WordName → ℕ → TreeWords
-loaded tree Used value = record tree { used = value }
-loaded tree (Node n) value = record tree { nodes = slice_set tree.nodes n value }
-loaded tree (Kids n) value = record tree { kids = slice_set tree.kids n value }
-loaded tree name value = tree
+loaded words Used value = record words { used = value }
+loaded words (Node n) value = record words { nodes = slice_set words.nodes n value }
+loaded words (Kids n) value = record words { kids = slice_set words.kids n value }
+loaded words name value = words
 
 -- a node as its word shows it: nothing where it is free, or there is none of that number
 abbrev pub node_at : TreeWords → ℕ → Option NodeInfo
-node_at tree n = node_shown (slice_index tree.nodes n)
+node_at words n = node_shown (slice_index words.nodes n)
+
+-- 1 where two numbers are one
+abbrev pub is_same : ℕ → ℕ → ℕ
+is_same a b = if a == b then 1 else 0
 
 -- 1 for a node that is there and has this parent
 abbrev pub has_parent : ℕ → Option NodeInfo → ℕ
 has_parent d None = 0
-has_parent d (Some node) = if node.parent == d then 1 else 0
+has_parent d (Some node) = is_same node.parent d
 
 -- 1 for a child of this directory: the root, which is its own parent, is no child
 abbrev pub is_child : ℕ → ℕ → Option NodeInfo → ℕ
 is_child d zero entry = 0
 is_child d (suc n) entry = has_parent d entry
 
--- the parent of a node that is there is a directory
-abbrev pub HasDirectory : (ℕ → Option NodeInfo) → Option NodeInfo → Type 0
-HasDirectory tree None = Unit {0}
-HasDirectory tree (Some node) = IsDirectory (tree node.parent)
-
--- the children charged to each node are its children
-abbrev pub CountsChildren : TreeWords → Type 0
-CountsChildren tree = (d : ℕ) → d < length tree.nodes → slice_index tree.kids d ≡ total (length tree.nodes) (λ n. is_child d n (node_at tree n))
+-- the parent of a node that is there is one of so many nodes, and a directory
+abbrev pub HasDirectory : ℕ → (ℕ → Option NodeInfo) → Option NodeInfo → Type 0
+HasDirectory nodes tree None = Unit {0}
+HasDirectory nodes tree (Some node) = (node.parent < nodes) × IsDirectory (tree node.parent)
 
 -- each parent is a directory
-abbrev pub HasDirectories : TreeWords → Type 0
-HasDirectories tree = (n : ℕ) → n < length tree.nodes → HasDirectory (node_at tree) (node_at tree n)
+abbrev pub HasDirectories : ℕ → (ℕ → Option NodeInfo) → Type 0
+HasDirectories nodes tree = (n : ℕ) → n < nodes → HasDirectory nodes tree (tree n)
 
--- the blocks charged are those of all files, the children charged are those that there are, and each parent is a directory
-pub record IsSound (tree : TreeWords) : Type 0 where
-  pub blocks : tree.used ≡ total (length tree.nodes) (λ n. size_of (node_at tree n))
-  pub children : CountsChildren tree
-  pub parents : HasDirectories tree
+-- the blocks of all files
+abbrev pub blocks_in : ℕ → (ℕ → Option NodeInfo) → ℕ
+blocks_in nodes tree = total nodes (λ n. size_of (tree n))
+
+-- how many children a node has
+abbrev pub children_in : ℕ → (ℕ → Option NodeInfo) → ℕ → ℕ
+children_in nodes tree d = total nodes (λ n. is_child d n (tree n))
+
+-- the children charged to each node are its children
+abbrev pub CountsChildren : ℕ → (ℕ → Option NodeInfo) → (ℕ → ℕ) → Type 0
+CountsChildren nodes tree kids = (d : ℕ) → d < nodes → kids d ≡ children_in nodes tree d
+
+-- A tree of so many nodes is sound: the blocks charged are those of all files, the children charged are those that there are, and each
+-- parent is a directory.
+pub record IsSound (nodes used : ℕ) (tree : ℕ → Option NodeInfo) (kids : ℕ → ℕ) : Type 0 where
+  pub blocks : used ≡ blocks_in nodes tree
+  pub children : CountsChildren nodes tree kids
+  pub parents : HasDirectories nodes tree
 
 -- no node is dirty
-abbrev pub IsClean : TreeWords → Type 0
-IsClean tree = (n : ℕ) → n < length tree.nodes → is_dirty (node_at tree n) ≡ false
+abbrev pub IsClean : ℕ → (ℕ → Option NodeInfo) → Type 0
+IsClean nodes tree = (n : ℕ) → n < nodes → is_dirty (tree n) ≡ false
+
+-- the tree that a snapshot loaded is sound
+abbrev pub LoadedSound : TreeWords → Type 0
+LoadedSound words = IsSound (length words.nodes) words.used (node_at words) (slice_index words.kids)
+
+-- and clean
+abbrev pub LoadedClean : TreeWords → Type 0
+LoadedClean words = IsClean (length words.nodes) (node_at words)

@@ -1,9 +1,8 @@
 //! The tree that a snapshot has loaded.
 #![tactic(auto, unfolding(crate::specs::Trees::words_of))]
 
-ghost use Rattle.std.specs.Prelude.{◌≡◌, ◌≤◌, ◌<◌, ◌^◌, ◌↔◌, IsTrue, IfOk, length, slice_index, vec_len};
-ghost use Rattle.finite_sums.specs.Sums.{total};
-ghost use Rattle.access_model.specs.States.{is_dirty, size_of};
+ghost use Rattle.std.specs.Prelude.{◌≡◌, ◌≤◌, ◌<◌, ◌^◌, ◌↔◌, IsTrue, IfOk, OnSome, length, slice_index, vec_len};
+ghost use Rattle.access_model.specs.States.{is_dirty};
 
 use crate::nodes::NodeWord;
 use access_model::{Kind, NodeInfo};
@@ -31,7 +30,7 @@ pub struct Tree {
 }
 
 impl Tree {
-    ghost use Rattle.gated_tree.specs.Trees.{CountsChildren, HasDirectories, IsClean, IsSound, HasDirectory, is_child, loaded, node_at, unloaded, words_of};
+    ghost use Rattle.gated_tree.specs.Trees.{CountsChildren, HasDirectories, HasDirectory, LoadedClean, LoadedSound, blocks_in, children_in, loaded, node_at, unloaded, words_of};
 
     /// Room for the words of so many nodes, of which none was loaded: all are 0. Where a growth of memory is refused, there is none.
     pub fn new(alloc: Global, nodes: u8) -> Result<Tree, AllocError>
@@ -73,7 +72,8 @@ impl Tree {
 
     /// A node, with its kind, parent, size and dirty mark; None where it was free or there is none of that number.
     pub fn node(&self, node: u8) -> Option<NodeInfo>
-        ensures { result ≡ node_at (words_of self.now) node }
+        ensures value { result ≡ node_at (words_of self.now) node }
+        ensures there { OnSome result (node < length (words_of self.now).nodes) }
     {
         if (node as usize) < self.nodes.len() {
             NodeWord::shown(self.nodes[node as usize])
@@ -96,14 +96,14 @@ impl Tree {
     /// Whether the blocks charged are those of all files, the children charged to each node are its children, and each parent is a
     /// directory.
     pub fn is_sound(&self) -> bool
-        ensures { IsTrue result ↔ IsSound (words_of self.now) }
+        ensures { IsTrue result ↔ LoadedSound (words_of self.now) }
     {
         self.used == self.blocks() && self.counts_children() && self.has_directories()
     }
 
     /// Whether no file is dirty.
     pub fn is_clean(&self) -> bool
-        ensures { IsTrue result ↔ IsClean (words_of self.now) }
+        ensures { IsTrue result ↔ LoadedClean (words_of self.now) }
     {
         (0..self.size()).all(|node| !self.is_dirty(node))
     }
@@ -117,7 +117,7 @@ impl Tree {
 
     /// The blocks of all files.
     fn blocks(&self) -> u64
-        ensures { result ≡ total (length (words_of self.now).nodes) (λ n. size_of (node_at (words_of self.now) n)) }
+        ensures { let words = words_of self.now in result ≡ blocks_in (length words.nodes) (node_at words) }
     {
         let mut blocks: u64 = 0;
         for node in 0..self.size() {
@@ -130,21 +130,22 @@ impl Tree {
 
     /// Whether the children charged to each node are its children.
     fn counts_children(&self) -> bool
-        ensures { IsTrue result ↔ CountsChildren (words_of self.now) }
+        ensures { let words = words_of self.now in
+            IsTrue result ↔ CountsChildren (length words.nodes) (node_at words) (slice_index words.kids) }
     {
         (0..self.size()).all(|dir| self.kids(dir) == self.children(dir))
     }
 
     /// Whether each node that is there has a directory for its parent.
     fn has_directories(&self) -> bool
-        ensures { IsTrue result ↔ HasDirectories (words_of self.now) }
+        ensures { let words = words_of self.now in IsTrue result ↔ HasDirectories (length words.nodes) (node_at words) }
     {
         (0..self.size()).all(|node| self.has_directory(node))
     }
 
     /// How many nodes other than the root have this parent.
     fn children(&self, dir: u8) -> u64
-        ensures { result ≡ total (length (words_of self.now).nodes) (λ n. is_child dir n (node_at (words_of self.now) n)) }
+        ensures { let words = words_of self.now in result ≡ children_in (length words.nodes) (node_at words) dir }
     {
         let mut children: u64 = 0;
         for node in 0..self.size() {
@@ -158,7 +159,8 @@ impl Tree {
 
     /// Whether a node is free, or its parent is a directory.
     fn has_directory(&self, node: u8) -> bool
-        ensures { IsTrue result ↔ HasDirectory (node_at (words_of self.now)) (node_at (words_of self.now) node) }
+        ensures { let words = words_of self.now in
+            IsTrue result ↔ HasDirectory (length words.nodes) (node_at words) (node_at words node) }
     {
         match self.node(node) {
             Some(info) => {

@@ -1,0 +1,153 @@
+-- The tree behind the gates: what holds of its words between any two events, and what that reads of each task's phase.
+use Rattle.std.specs.Prelude.{◌≡◌, ℕ, zero, suc, ◌+◌, ◌-◌, ◌<◌, ◌≤◌, nat_lt, if◌then◌else◌, false, Option, Some, None}
+use Rattle.finite_sums.specs.Sums.{total}
+use Rattle.access_model.specs.declared.actions.Kind.TheVariants.{File}
+use Rattle.access_model.specs.declared.actions.NodeInfo.{NodeInfo}
+use Rattle.access_model.specs.States.{size_of, is_dirty, IsDirectory}
+use Rattle.gated_tree.specs.declared.nodes.NodeWord.{NodeWord}
+use Rattle.gated_tree.specs.Nodes.{IsNode, node_shown}
+use Rattle.gated_tree.specs.Trees.{is_same, is_child}
+
+-- What a task is doing at the tree. `file` is its file's node as it was loaded, `dir` a directory's number, `blocks` a charge.
+pub data Role : Type 0 where
+  -- nothing that the tree counts
+  Out : Role
+  -- loaded a file's node
+  Loaded : (file : NodeWord) → Role
+  -- a create: found a directory; charged a child to it
+  Found : (dir : ℕ) → Role
+  Placing : (dir : ℕ) → Role
+  -- a move: loaded a file's node and found a directory; charged a child to it
+  Targets : (file : NodeWord) (dir : ℕ) → Role
+  Moving : (file : NodeWord) (dir : ℕ) → Role
+  -- a grow: found room for its blocks where so many were charged; charged them; is to subtract them
+  Growing : (file : NodeWord) (blocks : ℕ) (used : ℕ) → Role
+  Charged : (file : NodeWord) (blocks : ℕ) → Role
+  Refunding : (blocks : ℕ) → Role
+  -- a remove: is to subtract the file's blocks, and then its child
+  Freed : (blocks : ℕ) (dir : ℕ) → Role
+  -- is to subtract a child
+  Returning : (dir : ℕ) → Role
+  -- clears the dirty marks, and is at this node
+  Clearing : (node : ℕ) → Role
+  -- a snapshot: loaded so many words, which had these values
+  Reading : (words : ℕ) (values : ℕ → ℕ) → Role
+
+-- how many tasks and nodes there are, and how many blocks all files may have together
+pub record Bounds : Type 0 where
+  pub tasks : ℕ
+  pub nodes : ℕ
+  pub capacity : ℕ
+
+-- they are within the limits
+pub record AreWithin (c : Bounds) : Type 0 where
+  pub tasks : c.tasks ≤ 64
+  pub some_node : 2 ≤ c.nodes
+  pub nodes : c.nodes ≤ 64
+  pub capacity : c.capacity < 4294967296
+
+-- The words of the tree and the roles of all tasks at one moment. `sealed` is 1 where the tree must be clean: the superblock is read-only,
+-- or the stage is 3 or 4.
+pub record TreeState : Type 0 where
+  pub sealed : ℕ
+  pub used : ℕ
+  pub node : ℕ → ℕ
+  pub kids : ℕ → ℕ
+  pub at : ℕ → Role
+
+-- the blocks that a role has charged
+abbrev pub charge : Role → ℕ
+charge (Charged file blocks) = blocks
+charge (Refunding blocks) = blocks
+charge (Freed blocks dir) = blocks
+charge _ = 0
+
+-- 1 where it has charged a child to this directory
+abbrev pub child_charge : ℕ → Role → ℕ
+child_charge d (Placing dir) = is_same dir d
+child_charge d (Moving file dir) = is_same dir d
+child_charge d (Freed blocks dir) = is_same dir d
+child_charge d (Returning dir) = is_same dir d
+child_charge d _ = 0
+
+-- the nodes below this one it has cleared
+abbrev pub cleared : Role → ℕ
+cleared (Clearing node) = node
+cleared _ = 0
+
+-- how many words a snapshot has loaded
+abbrev pub words_read : Role → ℕ
+words_read (Reading words values) = words
+words_read _ = 0
+
+-- the words of the tree in the order in which a snapshot loads them: `used`, the nodes, the children
+abbrev pub tree_word : ℕ → ℕ → (ℕ → ℕ) → (ℕ → ℕ) → ℕ → ℕ
+tree_word nodes used node kids zero = used
+tree_word nodes used node kids (suc i) = if nat_lt i nodes then node i else kids (i - nodes)
+
+-- there is that node, and it is a directory
+abbrev pub IsDirectoryAt : ℕ → (ℕ → ℕ) → ℕ → Type 0
+IsDirectoryAt nodes node d = (d < nodes) × IsDirectory (node_shown (node d))
+
+-- the parent of a node that is there is a directory
+abbrev pub HasParent : ℕ → (ℕ → ℕ) → Option NodeInfo → Type 0
+HasParent nodes node None = Unit {0}
+HasParent nodes node (Some info) = IsDirectoryAt nodes node info.parent
+
+-- a file as it was loaded, with its parent in range
+pub record IsFileNode (nodes : ℕ) (file : NodeWord) : Type 0 where
+  pub kind : file.kind ≡ Some File
+  pub parent : file.parent < nodes
+
+-- such a file, that may grow by so many blocks
+pub record MayGrow (c : Bounds) (file : NodeWord) (blocks : ℕ) : Type 0 where
+  pub loaded : IsFileNode c.nodes file
+  pub some : 0 < blocks
+  pub size : file.size + blocks ≤ c.capacity
+
+module _ (c : Bounds) (used : ℕ) (node kids : ℕ → ℕ) where
+  -- What a role says. A node that was loaded is a file's. A directory that was found is one: no directory ever changes. A grow is within
+  -- its bounds. The nodes that a clearing has passed are clean. Each word that a snapshot loaded is still what it was.
+  abbrev pub RoleHolds : Role → Type 0
+  RoleHolds (Loaded file) = IsFileNode c.nodes file
+  RoleHolds (Found dir) = IsDirectoryAt c.nodes node dir
+  RoleHolds (Placing dir) = IsDirectoryAt c.nodes node dir
+  RoleHolds (Targets file dir) = IsFileNode c.nodes file × IsDirectoryAt c.nodes node dir
+  RoleHolds (Moving file dir) = IsFileNode c.nodes file × IsDirectoryAt c.nodes node dir
+  RoleHolds (Growing file blocks found) = MayGrow c file blocks × (found + blocks ≤ c.capacity)
+  RoleHolds (Charged file blocks) = MayGrow c file blocks
+  RoleHolds (Freed blocks dir) = dir < c.nodes
+  RoleHolds (Returning dir) = dir < c.nodes
+  RoleHolds (Clearing at) = (n : ℕ) → n < at → is_dirty (node_shown (node n)) ≡ false
+  RoleHolds (Reading words values) = (i : ℕ) → i < words → values i ≡ tree_word c.nodes used node kids i
+  RoleHolds _ = Unit {0}
+
+-- what holds of the tree between any two events
+pub record TreeHolds (c : Bounds) (s : TreeState) : Type 0 where
+  -- each node word is one that a node may have; node 0 is a directory
+  pub words : (n : ℕ) → n < c.nodes → IsNode (s.node n)
+  pub root : IsDirectory (node_shown (s.node 0))
+  -- each parent is in range, and is a directory
+  pub parents : (n : ℕ) → n < c.nodes → HasParent c.nodes s.node (node_shown (s.node n))
+  -- the blocks charged are those of all files, with what tasks have charged, and are within the capacity
+  pub blocks : s.used ≡ total c.nodes (λ n. size_of (node_shown (s.node n))) + total c.tasks (λ t. charge (s.at t))
+  pub room : s.used ≤ c.capacity
+  -- the children charged to a node are those that it has, with those that tasks have charged
+  pub children : (d : ℕ) → d < c.nodes →
+      s.kids d ≡ total c.nodes (λ n. is_child d n (node_shown (s.node n))) + total c.tasks (λ t. child_charge d (s.at t))
+  pub roles : (t : ℕ) → t < c.tasks → RoleHolds c s.used s.node s.kids (s.at t)
+  pub clean : s.sealed ≡ 1 → (n : ℕ) → n < c.nodes → is_dirty (node_shown (s.node n)) ≡ false
+
+-- no snapshot has loaded a word
+abbrev pub NobodyReads : Bounds → TreeState → Type 0
+NobodyReads c s = total c.tasks (λ t. words_read (s.at t)) ≡ 0
+
+-- the tree needn't be clean, and nobody is clearing it
+pub record MayDirty (c : Bounds) (s : TreeState) : Type 0 where
+  pub unsealed : s.sealed ≡ 0
+  pub nobody_clears : total c.tasks (λ t. cleared (s.at t)) ≡ 0
+
+-- a role that has charged nothing
+pub record HasNoCharge (r : Role) : Type 0 where
+  pub blocks : charge r ≡ 0
+  pub children : (d : ℕ) → child_charge d r ≡ 0

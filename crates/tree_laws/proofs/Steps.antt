@@ -1,0 +1,242 @@
+-- Each event of each call is an event of the tree.
+use Rattle.std.proofs.Common.{◌≡◌, ℕ, Bool, true, false, ◌+◌, ◌<◌, ◌≤◌, refl, sym, ap, ◌∙◌, subst, inl, inr, arith}
+use Rattle.std.specs.Prelude.{◌==◌, Option, Some, None, Result, Ok, Err, is_some, if◌then◌else◌}
+use Rattle.std.proofs.lemmas.Bool.{cases_lt, lt-ltb, le-ltb}
+use Rattle.std.proofs.lemmas.Bool.Decides.{eqb_tells}
+use Rattle.finite_sums.specs.Sums.{update}
+use Rattle.finite_sums.proofs.Totals.{update_same}
+use Rattle.access_model.specs.declared.actions.Action.{Action}
+use Rattle.access_model.specs.declared.actions.Kind.{Kind}
+use Rattle.access_model.specs.declared.errors.GateError.{GateError}
+use Rattle.access_model.specs.declared.errors.GateError.TheVariants.{Again}
+use Rattle.access_model.specs.declared.replies.Reply.TheVariants.{Unit as UnitReply}
+use Rattle.access_model.specs.declared.replies.Next.{Next}
+use Rattle.access_model.specs.declared.replies.Next.TheVariants.{Go, Done}
+use Rattle.cpu_words.specs.declared.names.WordName.{WordName}
+use Rattle.cpu_words.specs.declared.names.WordName.TheVariants.{Umount, Stage, SbFlags, Remount, MountFlags, MountCount, Block, Sync, LevelCount, Section, Used, Node, Kids}
+use Rattle.cpu_words.specs.declared.events.Touch.{Touch}
+use Rattle.cpu_words.specs.declared.events.Touch.TheVariants.{Load, Cas}
+use Rattle.cpu_words.specs.Words.{Words, read, put}
+use Rattle.gated_tree.specs.declared.nodes.NodeWord.{NodeWord}
+use Rattle.gated_tree.specs.declared.changes.Create.{Create}
+use Rattle.gated_tree.specs.declared.changes.CreateStep.{CreateStep}
+use Rattle.gated_tree.specs.declared.changes.CreateStep.TheVariants.{LoadsDirectory, LoadsNode, ChargesChild, TakesNode, RefundsChild}
+use Rattle.gated_tree.specs.declared.changes.Remove.{Remove}
+use Rattle.gated_tree.specs.declared.changes.RemoveStep.{RemoveStep}
+use Rattle.gated_tree.specs.declared.changes.RemoveStep.TheVariants.{LoadsFile as LoadsFileToRemove, FreesNode, RefundsBlocks as RefundsItsBlocks, RefundsChild as RefundsItsChild}
+use Rattle.gated_tree.specs.declared.changes.MoveTo.{MoveTo}
+use Rattle.gated_tree.specs.declared.changes.MoveStep.{MoveStep}
+use Rattle.gated_tree.specs.declared.changes.MoveStep.TheVariants.{LoadsFile as LoadsFileToMove, LoadsDirectory as LoadsTarget, ChargesChild as ChargesTarget, MovesFile, RefundsChild as RefundsOne}
+use Rattle.gated_tree.specs.declared.growth.Grow.{Grow}
+use Rattle.gated_tree.specs.declared.growth.GrowStep.{GrowStep}
+use Rattle.gated_tree.specs.declared.growth.GrowStep.TheVariants.{LoadsFile as LoadsFileToGrow, LoadsUsed, ChargesBlocks, GrowsFile, RefundsBlocks}
+use Rattle.gated_tree.specs.declared.marks.Mark.{Mark}
+use Rattle.gated_tree.specs.declared.marks.MarkStep.{MarkStep}
+use Rattle.gated_tree.specs.declared.marks.MarkStep.TheVariants.{LoadsFile as LoadsFileToMark, MarksFile}
+use Rattle.gated_tree.specs.Nodes.{word_of, unpacked, file_in, directory_in, node_after, marked_node}
+use Rattle.gated_tree.specs.Phases.{after_look, create_next, create_looked, create_looks_at, create_past, create_after, at_create, remove_next, remove_after, at_remove, grow_next, grow_from, grow_after, at_grow, move_next, move_after, at_move, mark_next, mark_done, mark_after, at_mark}
+use Rattle.gated_tree.specs.Calls.{create_role, remove_role, grow_role, move_role, mark_role, role_after, CreateStepFits}
+use Rattle.gated_tree.specs.Roles.{Role, Out, Loaded, Found, Growing, Charged, Refunding, Returning, Bounds, TreeState, AreWithin, TreeHolds, NobodyReads, MayDirty, HasNoCharge}
+use Rattle.tree_laws.specs.Events.{Event, tree_shown, turned, RefundsBlocks as TakesBack, FreesBlocks, CreateAdds, MoveAdds, SubtractsChild, Creates, Removes, Grows, Moves, Dirties, Flushes}
+use Rattle.tree_laws.specs.Steps.{tree_in, words_left, found_at, EventKeeps, MayMark}
+use Rattle.tree_laws.proofs.Counts.{looks, leaves, finds_directory, finds_file, finds_target, finds_room, create_fails, move_fails, grow_fails, charges_blocks}
+use Rattle.tree_laws.proofs.Each.{each_event}
+
+-- a write of what is there leaves the tree
+same_tree : (sealed : ℕ) (w : Words) (at : ℕ → Role) (name : WordName) → tree_in sealed (put w name (read w name)) at ≡ tree_in sealed w at
+same_tree sealed w at (Node n) = λ j. record (tree_in sealed w at) { node = update_same w.node n j }
+same_tree sealed w at (Kids n) = λ j. record (tree_in sealed w at) { kids = update_same w.kids n j }
+same_tree sealed w at Umount = refl
+same_tree sealed w at Stage = refl
+same_tree sealed w at SbFlags = refl
+same_tree sealed w at Remount = refl
+same_tree sealed w at (MountFlags m) = refl
+same_tree sealed w at (MountCount m p) = refl
+same_tree sealed w at (Block i) = refl
+same_tree sealed w at (Sync i) = refl
+same_tree sealed w at (LevelCount i p) = refl
+same_tree sealed w at (Section x) = refl
+same_tree sealed w at Used = refl
+
+module _ (c : Bounds) (within : AreWithin c) (sealed : ℕ) (w : Words) (at : ℕ → Role) (good : TreeHolds c (tree_in sealed w at))
+    (t : ℕ) (lt : t < c.tasks) where
+  -- the tree before the event
+  abbrev here : TreeState
+  here = tree_in sealed w at
+
+  -- a load, or any event that leaves the word as it was, where only the task's role changes
+  pub leaves_word : (name : WordName) (role : Role) → TreeHolds c (turned here t role) → EventKeeps c sealed w at t (name, Load) role None
+  leaves_word name role h = (
+    subst (TreeHolds c) (sym (same_tree sealed w (update at t role) name)) h,
+    ap (λ s. tree_shown s.node) (same_tree sealed w at name),
+  )
+
+  -- an event of the tree, among all words
+  pub as_event : (event : WordName × Touch) (role : Role) (action : Option Action) →
+      Event c here t (tree_in sealed (words_left w event) (update at t role)) action → EventKeeps c sealed w at t event role action
+  as_event event role action e = each_event c within here good t lt _ action e
+
+  -- a task at a role that charges nothing
+  pub ends_free : (role : Role) → at t ≡ role → HasNoCharge role → TreeHolds c (turned here t Out)
+  ends_free role is free = leaves c here good t lt (subst HasNoCharge (sym is) free)
+
+  -- and at a role that it keeps
+  pub stays_at : (role : Role) → at t ≡ role → TreeHolds c (turned here t role)
+  stays_at role is = subst (λ r. TreeHolds c (turned here t r)) is (looks c here good t lt)
+
+  -- what comes after a look at a node: the same again, a refusal, or what was looked for
+  pub looked : {P : Type 0} (role : P → Role) (again : P) (to : NodeWord → P) → at t ≡ role again → HasNoCharge (role again) →
+      (r : Option (Result NodeWord GateError)) → ((node : NodeWord) → r ≡ Some (Ok node) → TreeHolds c (turned here t (role (to node)))) →
+      TreeHolds c (turned here t (role_after role (after_look again to r)))
+  looked role again to is free None found = stays_at (role again) is
+  looked role again to is free (Some (Ok node)) found = found node refl
+  looked role again to is free (Some (Err refusal)) found = ends_free (role again) is free
+
+  -- nothing is charged
+  out_free : HasNoCharge Out
+  out_free = record { blocks = refl; children = λ d. refl }
+
+  loaded_free : (file : NodeWord) → HasNoCharge (Loaded file)
+  loaded_free file = record { blocks = refl; children = λ d. refl }
+
+  found_free : (d : ℕ) → HasNoCharge (Found d)
+  found_free d = record { blocks = refl; children = λ e. refl }
+
+  -- a create that looks at the next node, or at none
+  looks_on : (x : Create) → at t ≡ Found x.dir → (node : Option ℕ) →
+      TreeHolds c (turned here t (role_after (λ y. create_role y y.step) (create_looks_at x node)))
+  looks_on x is None = ends_free (Found x.dir) is (found_free x.dir)
+  looks_on x is (Some node) = stays_at (Found x.dir) is
+
+  -- a create that found a node of this kind
+  kind_found : (x : Create) (node : ℕ) → at t ≡ Found x.dir → (kind : Option Kind) →
+      let next : Next Create = if is_some kind then create_past x node else Go (at_create x (ChargesChild node)) in
+      TreeHolds c (turned here t (role_after (λ y. create_role y y.step) next))
+  kind_found x node is None = stays_at (Found x.dir) is
+  kind_found x node is (Some kind) = looks_on x is (node_after node x.nodes)
+
+  -- a create that looked at a node
+  looked_at : (x : Create) (node : ℕ) → at t ≡ Found x.dir → (found : Option NodeWord) →
+      TreeHolds c (turned here t (role_after (λ y. create_role y y.step) (create_looked x node found)))
+  looked_at x node is None = stays_at (Found x.dir) is
+  looked_at x node is (Some found) = kind_found x node is found.kind
+
+  -- each event of a create
+  pub create_step : (x : Create) (step : CreateStep) → x.dir < c.nodes → CreateStepFits c step → NobodyReads c here →
+      at t ≡ create_role x step →
+      EventKeeps c sealed w at t (create_next x step)
+      (role_after (λ y. create_role y y.step) (create_after x step (found_at w (create_next x step))).0)
+      (create_after x step (found_at w (create_next x step))).1
+  create_step x LoadsDirectory ld fits quiet is =
+      leaves_word (Node x.dir) _
+      (looked (λ y. create_role y y.step) (at_create x LoadsDirectory) (λ dir. at_create x (LoadsNode 1)) is out_free
+      (directory_in (w.node x.dir))
+      (λ dir e. finds_directory c here good t lt x.dir dir is ld e))
+  create_step x (LoadsNode node) ld fits quiet is = leaves_word (Node node) _ (looked_at x node is (unpacked (w.node node)))
+  create_step x (ChargesChild node) ld fits quiet is = as_event (create_next x (ChargesChild node)) _ _ (CreateAdds x.dir quiet is)
+  create_step x (TakesNode node) ld fits quiet is = elim (eqb_tells (w.node node) 0) [
+    | inl e ↦ rw e.0 (each_event c within here good t lt _ _ (Creates node x.dir x.kind quiet is fits e.1))
+    | inr e ↦ rw e.0 (leaves_word (Node node) (Returning x.dir) (create_fails c here good t lt x.dir is))
+  ]
+  create_step x RefundsChild ld fits quiet is = as_event (create_next x RefundsChild) _ _ (SubtractsChild x.dir quiet is)
+
+  -- each event of a remove
+  pub remove_step : (x : Remove) (step : RemoveStep) → x.file < c.nodes → NobodyReads c here → at t ≡ remove_role x step →
+      EventKeeps c sealed w at t (remove_next x step)
+      (role_after (λ y. remove_role y y.step) (remove_after x step (found_at w (remove_next x step))).0)
+      (remove_after x step (found_at w (remove_next x step))).1
+  remove_step x LoadsFileToRemove ln quiet is =
+      leaves_word (Node x.file) _
+      (looked (λ y. remove_role y y.step) (at_remove x LoadsFileToRemove) (λ file. at_remove x (FreesNode file)) is out_free
+      (file_in (w.node x.file)) (λ file e. finds_file c here good t lt x.file file within is ln e))
+  remove_step x (FreesNode file) ln quiet is = elim (eqb_tells (w.node x.file) (word_of file)) [
+    | inl e ↦ rw e.0 (each_event c within here good t lt _ _ (Removes file x.file quiet is ln e.1))
+    | inr e ↦ rw e.0 (leaves_word (Node x.file) Out (ends_free (Loaded file) is (loaded_free file)))
+  ]
+  remove_step x (RefundsItsBlocks file) ln quiet is =
+      as_event (remove_next x (RefundsItsBlocks file)) _ _ (FreesBlocks file.size file.parent quiet is)
+  remove_step x (RefundsItsChild file) ln quiet is =
+      as_event (remove_next x (RefundsItsChild file)) _ _ (SubtractsChild file.parent quiet is)
+
+  -- so many blocks were found charged
+  found_used : (x : Grow) (file : NodeWord) → 1 ≤ x.blocks → x.capacity ≡ c.capacity → at t ≡ Loaded file →
+      TreeHolds c (turned here t (role_after (λ y. grow_role y y.step) (grow_from x file w.used)))
+  found_used x file some same is = elim (cases_lt x.capacity (w.used + x.blocks)) [
+    | inl l ↦ rw (lt-ltb x.capacity (w.used + x.blocks) l) (ends_free (Loaded file) is (loaded_free file))
+    | inr l ↦ rw (le-ltb x.capacity (w.used + x.blocks) l) (elim (cases_lt x.capacity (file.size + x.blocks)) [
+      | inl m ↦ rw (lt-ltb x.capacity (file.size + x.blocks) m) (ends_free (Loaded file) is (loaded_free file))
+      | inr m ↦ rw (le-ltb x.capacity (file.size + x.blocks) m)
+          (finds_room c here good t lt file x.blocks is some (omega (arith, l, same)) (omega (arith, m, same)))
+    ])
+  ]
+
+  -- each event of a grow
+  pub grow_step : (x : Grow) (step : GrowStep) → x.file < c.nodes → 1 ≤ x.blocks → x.capacity ≡ c.capacity → NobodyReads c here →
+      MayDirty c here →
+      at t ≡ grow_role x step →
+      EventKeeps c sealed w at t (grow_next x step)
+      (role_after (λ y. grow_role y y.step) (grow_after x step (found_at w (grow_next x step))).0)
+      (grow_after x step (found_at w (grow_next x step))).1
+  grow_step x LoadsFileToGrow ln some same quiet may is =
+      leaves_word (Node x.file) _
+      (looked (λ y. grow_role y y.step) (at_grow x LoadsFileToGrow) (λ file. at_grow x (LoadsUsed file)) is out_free
+      (file_in (w.node x.file)) (λ file e. finds_file c here good t lt x.file file within is ln e))
+  grow_step x (LoadsUsed file) ln some same quiet may is = leaves_word Used _ (found_used x file some same is)
+  grow_step x (ChargesBlocks file used) ln some same quiet may is = elim (eqb_tells w.used used) [
+    | inl e ↦ rw e.0 (
+      subst (λ u. TreeHolds c (record (turned here t (Charged file x.blocks)) { used = u + x.blocks })) e.1
+          (charges_blocks c here good t lt file x.blocks quiet (is ∙ ap (Growing file x.blocks) (sym e.1))),
+      refl,
+    )
+    | inr e ↦ rw e.0 (leaves_word Used Out (ends_free (Growing file x.blocks used) is (record { blocks = refl; children = λ d. refl })))
+  ]
+  grow_step x (GrowsFile file) ln some same quiet may is = elim (eqb_tells (w.node x.file) (word_of file)) [
+    | inl e ↦ rw e.0 (each_event c within here good t lt _ _ (Grows file x.blocks x.file quiet may is ln e.1))
+    | inr e ↦ rw e.0 (leaves_word (Node x.file) (Refunding x.blocks) (grow_fails c here good t lt file x.blocks is))
+  ]
+  grow_step x RefundsBlocks ln some same quiet may is = as_event (grow_next x RefundsBlocks) _ _ (TakesBack x.blocks quiet is)
+
+  -- each event of a move
+  pub move_step : (x : MoveTo) (step : MoveStep) → x.file < c.nodes → x.dir < c.nodes → NobodyReads c here → at t ≡ move_role x step →
+      EventKeeps c sealed w at t (move_next x step)
+      (role_after (λ y. move_role y y.step) (move_after x step (found_at w (move_next x step))).0)
+      (move_after x step (found_at w (move_next x step))).1
+  move_step x LoadsFileToMove ln ld quiet is =
+      leaves_word (Node x.file) _
+      (looked (λ y. move_role y y.step) (at_move x LoadsFileToMove) (λ file. at_move x (LoadsTarget file)) is out_free
+      (file_in (w.node x.file)) (λ file e. finds_file c here good t lt x.file file within is ln e))
+  move_step x (LoadsTarget file) ln ld quiet is =
+      leaves_word (Node x.dir) _
+      (looked (λ y. move_role y y.step) (at_move x (LoadsTarget file)) (λ dir. at_move x (ChargesTarget file)) is (loaded_free file)
+      (directory_in (w.node x.dir)) (λ dir e. finds_target c here good t lt file dir x.dir is ld e))
+  move_step x (ChargesTarget file) ln ld quiet is = as_event (move_next x (ChargesTarget file)) _ _ (MoveAdds file x.dir quiet is)
+  move_step x (MovesFile file) ln ld quiet is = elim (eqb_tells (w.node x.file) (word_of file)) [
+    | inl e ↦ rw e.0 (each_event c within here good t lt _ _ (Moves file x.dir x.file quiet is ln e.1))
+    | inr e ↦ rw e.0 (leaves_word (Node x.file) (Returning x.dir) (move_fails c here good t lt file x.dir is))
+  ]
+  move_step x (RefundsOne dir answer) ln ld quiet is = as_event (move_next x (RefundsOne dir answer)) _ _ (SubtractsChild dir quiet is)
+
+  -- the compare-exchange of a page fault or a write-back
+  marks_file : (n : ℕ) (file : NodeWord) (dirty : Bool) → n < c.nodes → MayMark dirty c here → at t ≡ Loaded file →
+      EventKeeps c sealed w at t (Node n, Cas (word_of file) (word_of (marked_node dirty file)))
+      (role_after (λ (y : Mark). mark_role y y.step) (if w.node n == word_of file then Done (Ok UnitReply) else Done (Err Again)))
+      (if w.node n == word_of file then Some (mark_done dirty n) else None)
+  marks_file n file true ln may is = elim (eqb_tells (w.node n) (word_of file)) [
+    | inl e ↦ rw e.0 (each_event c within here good t lt _ _ (Dirties file n may.0 may.1 is ln e.1))
+    | inr e ↦ rw e.0 (leaves_word (Node n) Out (ends_free (Loaded file) is (loaded_free file)))
+  ]
+  marks_file n file false ln may is = elim (eqb_tells (w.node n) (word_of file)) [
+    | inl e ↦ rw e.0 (each_event c within here good t lt _ _ (Flushes file n may is ln e.1))
+    | inr e ↦ rw e.0 (leaves_word (Node n) Out (ends_free (Loaded file) is (loaded_free file)))
+  ]
+
+  -- each event of a page fault or a write-back
+  pub mark_step : (x : Mark) (step : MarkStep) → x.file < c.nodes → MayMark x.dirty c here → at t ≡ mark_role x step →
+      EventKeeps c sealed w at t (mark_next x step)
+      (role_after (λ y. mark_role y y.step) (mark_after x step (found_at w (mark_next x step))).0)
+      (mark_after x step (found_at w (mark_next x step))).1
+  mark_step x LoadsFileToMark ln may is =
+      leaves_word (Node x.file) _
+      (looked (λ y. mark_role y y.step) (at_mark x LoadsFileToMark) (λ file. at_mark x (MarksFile file)) is out_free
+      (file_in (w.node x.file)) (λ file e. finds_file c here good t lt x.file file within is ln e))
+  mark_step x (MarksFile file) ln may is = marks_file x.file file x.dirty ln may is
