@@ -15,10 +15,23 @@ use std::thread;
 /// How many mounts there are where threads meet.
 const MOUNTS: u8 = 3;
 
-/// A file system that refuses every third remount that it is asked for, and whatever else it is asked for. It counts the remounts.
+/// A file system that refuses every third remount that it is asked for, one to what it is, and whatever else it is asked for. It counts
+/// the remounts.
 #[derive(Drop)]
 struct EveryThird {
     asked: u16,
+    is_read_only: bool,
+}
+
+impl EveryThird {
+    /// One that is writable, and has been asked so often.
+    fn writable(asked: u16) -> EveryThird {
+        let is_read_only = false;
+        EveryThird {
+            asked,
+            is_read_only,
+        }
+    }
 }
 
 impl FsHooks for EveryThird {
@@ -35,9 +48,15 @@ impl FsHooks for EveryThird {
     }
 
     fn reconfigure(&mut self, read_only: bool) -> Result<(), u16> {
-        let _ = read_only;
         self.asked = self.asked.saturating_add(1);
-        if self.asked % 3 == 0 { Err(5) } else { Ok(()) }
+        if self.is_read_only == read_only {
+            return Err(4);
+        }
+        if self.asked % 3 == 0 {
+            return Err(5);
+        }
+        self.is_read_only = read_only;
+        Ok(())
     }
 }
 
@@ -87,7 +106,7 @@ fn a_remount_asks_its_hook_once(rt: HostRuntime) -> Result<(), Fail> {
     let shut = Err(GateError::ReadOnly);
     task.want(&rt, &gates, 0, 1)?;
     let busy = [(true, Err(GateError::Busy), 1, Ok(()))];
-    let mut hooks = EveryThird { asked: 1 };
+    let mut hooks = EveryThird::writable(1);
     assert!(rt; all_answer(&mut task, &rt, &gates, &mut hooks, &busy));
     task.drop_mount(&gates, 0, 0)?;
     let to_writable = [
@@ -96,7 +115,7 @@ fn a_remount_asks_its_hook_once(rt: HostRuntime) -> Result<(), Fail> {
         (false, Ok(()), 4, Ok(())),
     ];
     assert!(rt; all_answer(&mut task, &rt, &gates, &mut hooks, &to_writable));
-    let mut hooks = EveryThird { asked: 0 };
+    let mut hooks = EveryThird::writable(0);
     let to_read_only = [
         (false, Ok(()), 0, Ok(())),
         (true, Ok(()), 1, shut),
@@ -178,7 +197,7 @@ fn remount_to_and_fro<R: Wait>(
     requires { IsFrom task gates.now }
     ensures { IsFrom result.0 gates.now }
 {
-    let mut hooks = EveryThird { asked: 0 };
+    let mut hooks = EveryThird::writable(0);
     let mut done = 0;
     let mut wrong = 0u16;
     for _round in 0..1_000_000 {
