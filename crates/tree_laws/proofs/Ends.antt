@@ -32,10 +32,10 @@ use Rattle.gated_tree.specs.declared.snapshots.Snapshot.{Snapshot}
 use Rattle.gated_tree.specs.declared.snapshots.SnapshotStep.{SnapshotStep}
 use Rattle.gated_tree.specs.declared.snapshots.SnapshotStep.TheVariants.{Locks, LoadsStage, LoadsUsed as LoadsUsedWord, LoadsNode as LoadsNodeWord, LoadsKids, Releases}
 use Rattle.gated_tree.specs.Nodes.{kind_in, word_of, unpacked, file_in, directory_in, node_after}
-use Rattle.gated_tree.specs.Phases.{after_look, create_next, create_looked, create_after, at_create, remove_next, remove_after, at_remove, grow_next, grow_after, at_grow, move_next, move_after, at_move, mark_next, mark_after, mark_done, at_mark, snapshot_next, snapshot_after, snapshot_locked_out, node_step, kids_step}
+use Rattle.gated_tree.specs.Phases.{after_look, create_next, create_looked, at_create, remove_next, at_remove, grow_next, at_grow, move_next, at_move, mark_next, mark_done, at_mark, snapshot_next, snapshot_locked_out, node_step, kids_step}
 use Rattle.gated_tree.specs.Refusals.{CreateHonest, FileHonest, GrowHonest, MoveHonest, SnapshotHonest, finds_free, finds_taken, finds_file, finds_directory, finds_large, finds_full, finds_other, finds_owner, finds_thawed}
 use Rattle.gated_tree.proofs.Refused.{file_refused, directory_refused, taken_some, size_loaded}
-use Rattle.tree_laws.specs.Ends.{with_action, where_done, remove_added, move_added, create_adds, IsReply, IsNodeReply, CreateKnows, GrowKnows, MoveAnswers, MoveKnows, SnapshotAnswers, SnapshotKnows, EndsWell, SeesMore}
+use Rattle.tree_laws.specs.Ends.{where_done, remove_added, move_added, create_adds, IsReply, IsNodeReply, CreateKnows, GrowKnows, MoveAnswers, MoveKnows, SnapshotAnswers, SnapshotKnows, EndsWell, SeesMore, CreateEnds, RemoveEnds, GrowEnds, MoveEnds, MarkEnds, SnapshotEnds}
 
 -- two tests that are passed
 both : (a b : Bool) → a ≡ true → b ≡ true → (a && b) ≡ true
@@ -52,7 +52,8 @@ missed b e = rw e refl
 module _ (Seen More : (Event → Bool) → Type 0) where
   -- a look at a node ends well where what was looked for does, and where each refusal has its cause
   look_ends : {P : Type 0} (Knows : P → Type 0) (added : P → List Action) (IsOne : Reply → Type 0) (IsHonest : GateError → Type 0)
-      (adds : Result Reply GateError → List Action) (again : P) (to : NodeWord → P) (actions : List Action) (r : Option (Result NodeWord GateError)) →
+      (adds : Result Reply GateError → List Action) (again : P) (to : NodeWord → P) (actions : List Action)
+      (r : Option (Result NodeWord GateError)) →
       Knows again × (actions ≡ added again) → ((node : NodeWord) → r ≡ Some (Ok node) → Knows (to node) × (actions ≡ added (to node))) →
       ((refusal : GateError) → r ≡ Some (Err refusal) → IsHonest refusal × (actions ≡ adds (Err refusal))) →
       EndsWell Knows added IsOne IsHonest adds (after_look again to r) actions
@@ -64,7 +65,8 @@ module _ (Seen More : (Event → Bool) → Type 0) where
   create_seen : (x : Create) (node value : ℕ) → CreateKnows Seen x (LoadsNode node) →
       SeesMore Seen More (event_of (create_next x (LoadsNode node)).0 (create_next x (LoadsNode node)).1 value) →
       (r : Option NodeWord) → unpacked value ≡ r →
-      EndsWell (λ (y : Create). CreateKnows More y y.step) (λ y. []) IsNodeReply (CreateHonest More x) (create_adds x) (create_looked x node r) []
+      EndsWell (λ (y : Create). CreateKnows More y y.step) (λ y. []) IsNodeReply (CreateHonest More x) (create_adds x)
+      (create_looked x node r) []
   create_seen x node value knows sees None was = (λ n some below. sees.earlier _ (knows n some below), refl)
   create_seen x node value knows sees (Some found) was = elim (cases_Bool (is_some found.kind)) [
     | inl taken ↦
@@ -83,9 +85,7 @@ module _ (Seen More : (Event → Bool) → Type 0) where
 
   pub create_ends : (x : Create) (step : CreateStep) (value : ℕ) → CreateKnows Seen x step →
       SeesMore Seen More (event_of (create_next x step).0 (create_next x step).1 value) →
-      EndsWell (λ (y : Create). CreateKnows More y y.step) (λ y. []) IsNodeReply (CreateHonest More x) (create_adds x)
-      (create_after x step (found_by (create_next x step).1 value)).0
-      (with_action (create_after x step (found_by (create_next x step).1 value)).1 [])
+      CreateEnds More x step (found_by (create_next x step).1 value)
   create_ends x LoadsDirectory value knows sees =
       look_ends (λ (y : Create). CreateKnows More y y.step) (λ y. []) IsNodeReply (CreateHonest More x) (create_adds x)
       (at_create x LoadsDirectory) (λ dir. at_create x (LoadsNode 1)) [] (directory_in value) (tt, refl)
@@ -93,7 +93,8 @@ module _ (Seen More : (Event → Bool) → Type 0) where
       (λ refusal e. (
         elim (directory_refused value refusal e) [
           | inl h ↦ subst (CreateHonest More x) (sym h.0) (sees.now (finds_free x.dir) (both _ _ (here x.dir) (eq-eqb value 0 h.1)))
-          | inr h ↦ subst (CreateHonest More x) (sym h.0) (sees.now (finds_file x.dir) (both _ _ (here x.dir) (eq-eqb (kind_in value) 1 h.1)))
+          | inr h ↦
+              subst (CreateHonest More x) (sym h.0) (sees.now (finds_file x.dir) (both _ _ (here x.dir) (eq-eqb (kind_in value) 1 h.1)))
         ],
         refl,
       ))
@@ -110,12 +111,11 @@ module _ (Seen More : (Event → Bool) → Type 0) where
   -- each event of a remove
   pub remove_ends : (x : Remove) (step : RemoveStep) (value : ℕ) →
       SeesMore Seen More (event_of (remove_next x step).0 (remove_next x step).1 value) →
-      EndsWell (λ (y : Remove). Unit {0}) (λ y. remove_added y y.step) (IsReply UnitReply) (FileHonest More x.file)
-      (where_done (RemoveAction x.file)) (remove_after x step (found_by (remove_next x step).1 value)).0
-      (with_action (remove_after x step (found_by (remove_next x step).1 value)).1 (remove_added x step))
+      RemoveEnds More x step (found_by (remove_next x step).1 value)
   remove_ends x LoadsFileToRemove value sees =
       look_ends (λ (y : Remove). Unit {0}) (λ y. remove_added y y.step) (IsReply UnitReply) (FileHonest More x.file)
-      (where_done (RemoveAction x.file)) (at_remove x LoadsFileToRemove) (λ file. at_remove x (FreesNode file)) [] (file_in value) (tt, refl)
+      (where_done (RemoveAction x.file)) (at_remove x LoadsFileToRemove) (λ file. at_remove x (FreesNode file)) [] (file_in value)
+      (tt, refl)
       (λ file e. (tt, refl))
       (λ refusal e. (
         elim (file_refused value refusal e) [
@@ -137,12 +137,11 @@ module _ (Seen More : (Event → Bool) → Type 0) where
   -- each event of a grow
   pub grow_ends : (x : Grow) (step : GrowStep) (value : ℕ) → GrowKnows Seen x step →
       SeesMore Seen More (event_of (grow_next x step).0 (grow_next x step).1 value) →
-      EndsWell (λ (y : Grow). GrowKnows More y y.step) (λ y. []) (IsReply UnitReply) (GrowHonest More x)
-      (where_done (GrowAction x.file x.blocks)) (grow_after x step (found_by (grow_next x step).1 value)).0
-      (with_action (grow_after x step (found_by (grow_next x step).1 value)).1 [])
+      GrowEnds More x step (found_by (grow_next x step).1 value)
   grow_ends x LoadsFileToGrow value knows sees =
       look_ends (λ (y : Grow). GrowKnows More y y.step) (λ y. []) (IsReply UnitReply) (GrowHonest More x)
-      (where_done (GrowAction x.file x.blocks)) (at_grow x LoadsFileToGrow) (λ file. at_grow x (LoadsUsed file)) [] (file_in value) (tt, refl)
+      (where_done (GrowAction x.file x.blocks)) (at_grow x LoadsFileToGrow) (λ file. at_grow x (LoadsUsed file)) [] (file_in value)
+      (tt, refl)
       (λ file e. (
         λ large. sees.now (finds_large x.file x.blocks x.capacity) (both _ _ (here x.file)
             (ap (λ node. nat_lt x.capacity (node.size + x.blocks)) (size_loaded value file e) ∙ large)),
@@ -192,12 +191,11 @@ module _ (Seen More : (Event → Bool) → Type 0) where
   -- each event of a move
   pub move_ends : (x : MoveTo) (step : MoveStep) (value : ℕ) → MoveKnows Seen x step →
       SeesMore Seen More (event_of (move_next x step).0 (move_next x step).1 value) →
-      EndsWell (λ (y : MoveTo). MoveKnows More y y.step) (λ y. move_added y y.step) (IsReply UnitReply) (MoveHonest More x)
-      (where_done (MoveToAction x.file x.dir)) (move_after x step (found_by (move_next x step).1 value)).0
-      (with_action (move_after x step (found_by (move_next x step).1 value)).1 (move_added x step))
+      MoveEnds More x step (found_by (move_next x step).1 value)
   move_ends x LoadsFileToMove value knows sees =
       look_ends (λ (y : MoveTo). MoveKnows More y y.step) (λ y. move_added y y.step) (IsReply UnitReply) (MoveHonest More x)
-      (where_done (MoveToAction x.file x.dir)) (at_move x LoadsFileToMove) (λ file. at_move x (LoadsTarget file)) [] (file_in value) (tt, refl)
+      (where_done (MoveToAction x.file x.dir)) (at_move x LoadsFileToMove) (λ file. at_move x (LoadsTarget file)) [] (file_in value)
+      (tt, refl)
       (λ file e. (tt, refl))
       (λ refusal e. (
         elim (file_refused value refusal e) [
@@ -209,7 +207,8 @@ module _ (Seen More : (Event → Bool) → Type 0) where
       ))
   move_ends x (LoadsTarget file) value knows sees =
       look_ends (λ (y : MoveTo). MoveKnows More y y.step) (λ y. move_added y y.step) (IsReply UnitReply) (MoveHonest More x)
-      (where_done (MoveToAction x.file x.dir)) (at_move x (LoadsTarget file)) (λ dir. at_move x (ChargesTarget file)) [] (directory_in value)
+      (where_done (MoveToAction x.file x.dir)) (at_move x (LoadsTarget file)) (λ dir. at_move x (ChargesTarget file)) []
+      (directory_in value)
       (tt, refl) (λ dir e. (tt, refl))
       (λ refusal e. (
         elim (directory_refused value refusal e) [
@@ -229,8 +228,7 @@ module _ (Seen More : (Event → Bool) → Type 0) where
 
   -- each event of a page fault or a write-back
   pub mark_ends : (x : Mark) (step : MarkStep) (value : ℕ) → SeesMore Seen More (event_of (mark_next x step).0 (mark_next x step).1 value) →
-      EndsWell (λ (y : Mark). Unit {0}) (λ y. []) (IsReply UnitReply) (FileHonest More x.file) (where_done (mark_done x.dirty x.file))
-      (mark_after x step (found_by (mark_next x step).1 value)).0 (with_action (mark_after x step (found_by (mark_next x step).1 value)).1 [])
+      MarkEnds More x step (found_by (mark_next x step).1 value)
   mark_ends x LoadsFileToMark value sees =
       look_ends (λ (y : Mark). Unit {0}) (λ y. []) (IsReply UnitReply) (FileHonest More x.file) (where_done (mark_done x.dirty x.file))
       (at_mark x LoadsFileToMark) (λ file. at_mark x (MarksFile file)) [] (file_in value) (tt, refl) (λ file e. (tt, refl))
@@ -274,9 +272,7 @@ module _ (Seen More : (Event → Bool) → Type 0) where
   -- each event of a snapshot
   pub snapshot_ends : (x : Snapshot) (step : SnapshotStep) (value : ℕ) → SnapshotKnows Seen x step →
       SeesMore Seen More (event_of (snapshot_next x step).0 (snapshot_next x step).1 value) →
-      EndsWell (λ (y : Snapshot). SnapshotKnows More y y.step) (λ y. []) (IsReply TreeReply) (SnapshotHonest More x) (λ answer. [])
-      (snapshot_after x step (found_by (snapshot_next x step).1 value)).0
-      (with_action (snapshot_after x step (found_by (snapshot_next x step).1 value)).1 [])
+      SnapshotEnds More x step (found_by (snapshot_next x step).1 value)
   snapshot_ends x Locks value knows sees = elim (eqb_tells value 0) [
     | inl e ↦ rw e.0 (tt, refl)
     | inr e ↦

@@ -1,7 +1,7 @@
 -- What the events of a call have found, as far as it has come: so each refusal has its cause among them, and an answer its actions.
 use Rattle.std.specs.Prelude.{◌≡◌, ℕ, ◌+◌, ◌<◌, ◌≤◌, nat_lt, Bool, true, Option, Some, None, Result, Ok, Err, List, [], ◌∷◌}
 use Rattle.access_model.specs.declared.actions.Action.{Action}
-use Rattle.access_model.specs.declared.actions.Action.TheVariants.{Create as CreateAction, Remove as RemoveAction, MoveTo as MoveToAction}
+use Rattle.access_model.specs.declared.actions.Action.TheVariants.{Create as CreateAction, Remove as RemoveAction, Grow as GrowAction, MoveTo as MoveToAction}
 use Rattle.access_model.specs.declared.errors.GateError.{GateError}
 use Rattle.access_model.specs.declared.errors.GateError.TheVariants.{Again, Invalid}
 use Rattle.access_model.specs.declared.replies.Next.{Next}
@@ -21,10 +21,13 @@ use Rattle.gated_tree.specs.declared.changes.MoveStep.TheVariants.{RefundsChild 
 use Rattle.gated_tree.specs.declared.growth.Grow.{Grow}
 use Rattle.gated_tree.specs.declared.growth.GrowStep.{GrowStep}
 use Rattle.gated_tree.specs.declared.growth.GrowStep.TheVariants.{LoadsUsed, RefundsBlocks}
+use Rattle.gated_tree.specs.declared.marks.Mark.{Mark}
+use Rattle.gated_tree.specs.declared.marks.MarkStep.{MarkStep}
 use Rattle.gated_tree.specs.declared.snapshots.Snapshot.{Snapshot}
 use Rattle.gated_tree.specs.declared.snapshots.SnapshotStep.{SnapshotStep}
 use Rattle.gated_tree.specs.declared.snapshots.SnapshotStep.TheVariants.{Releases}
-use Rattle.gated_tree.specs.Refusals.{finds_taken, finds_other, finds_large, finds_thawed}
+use Rattle.gated_tree.specs.Phases.{create_after, remove_after, grow_after, move_after, mark_after, mark_done, snapshot_after}
+use Rattle.gated_tree.specs.Refusals.{CreateHonest, FileHonest, GrowHonest, MoveHonest, SnapshotHonest, finds_taken, finds_other, finds_large, finds_thawed}
 
 -- an action, if there is one, on top of the earlier ones
 abbrev pub with_action : Option Action → List Action → List Action
@@ -107,3 +110,44 @@ EndsWell Knows added IsOne IsHonest adds (Done (Err refusal)) actions = IsHonest
 pub record SeesMore (Seen More : (Event → Bool) → Type 0) (e : Event) : Type 0 where
   pub earlier : (test : Event → Bool) → Seen test → More test
   pub now : (test : Event → Bool) → test e ≡ true → More test
+
+-- some event of a call passed this test, by an account of its events
+abbrev pub Passed : ((Event → Bool) → Bool) → (Event → Bool) → Type 0
+Passed seen test = seen test ≡ true
+
+module _ (More : (Event → Bool) → Type 0) where
+  -- after the event of a create that found this value: it is done with a node, which it has created, or refused, with a cause
+  abbrev pub CreateEnds : Create → CreateStep → ℕ → Type 0
+  CreateEnds x step found =
+      EndsWell (λ (y : Create). CreateKnows More y y.step) (λ y. []) IsNodeReply (CreateHonest More x) (create_adds x)
+      (create_after x step found).0 (with_action (create_after x step found).1 [])
+
+  -- of a remove: its file is removed
+  abbrev pub RemoveEnds : Remove → RemoveStep → ℕ → Type 0
+  RemoveEnds x step found =
+      EndsWell (λ (y : Remove). Unit {0}) (λ y. remove_added y y.step) (IsReply UnitReply) (FileHonest More x.file)
+      (where_done (RemoveAction x.file)) (remove_after x step found).0 (with_action (remove_after x step found).1 (remove_added x step))
+
+  -- of a grow: its file has grown
+  abbrev pub GrowEnds : Grow → GrowStep → ℕ → Type 0
+  GrowEnds x step found =
+      EndsWell (λ (y : Grow). GrowKnows More y y.step) (λ y. []) (IsReply UnitReply) (GrowHonest More x)
+      (where_done (GrowAction x.file x.blocks)) (grow_after x step found).0 (with_action (grow_after x step found).1 [])
+
+  -- of a move: its file has moved
+  abbrev pub MoveEnds : MoveTo → MoveStep → ℕ → Type 0
+  MoveEnds x step found =
+      EndsWell (λ (y : MoveTo). MoveKnows More y y.step) (λ y. move_added y y.step) (IsReply UnitReply) (MoveHonest More x)
+      (where_done (MoveToAction x.file x.dir)) (move_after x step found).0 (with_action (move_after x step found).1 (move_added x step))
+
+  -- of a page fault or a write-back: its file is dirty, or clean
+  abbrev pub MarkEnds : Mark → MarkStep → ℕ → Type 0
+  MarkEnds x step found =
+      EndsWell (λ (y : Mark). Unit {0}) (λ y. []) (IsReply UnitReply) (FileHonest More x.file) (where_done (mark_done x.dirty x.file))
+      (mark_after x step found).0 (with_action (mark_after x step found).1 [])
+
+  -- of a snapshot: it has added nothing
+  abbrev pub SnapshotEnds : Snapshot → SnapshotStep → ℕ → Type 0
+  SnapshotEnds x step found =
+      EndsWell (λ (y : Snapshot). SnapshotKnows More y y.step) (λ y. []) (IsReply TreeReply) (SnapshotHonest More x) (λ answer. [])
+      (snapshot_after x step found).0 (with_action (snapshot_after x step found).1 [])
