@@ -1,3 +1,4 @@
 pub mod Packing
 pub mod Words
 pub mod ClearedMarks
+pub mod Refused

@@ -2,19 +2,34 @@
 //! It has no code: its functions state laws.
 #![tactic(auto)]
 
-ghost use Rattle.std.specs.Prelude.{◌≡◌, ℕ, suc, ◌+◌, ◌<◌, ◌≤◌, Option};
+ghost use Rattle.std.specs.Prelude.{◌≡◌, ℕ, suc, ◌+◌, ◌<◌, ◌≤◌, Bool, Option};
 ghost use Rattle.access_model.specs.declared.actions.Action.{Action};
 ghost use Rattle.access_model.specs.States.{Limits, State};
 ghost use Rattle.cpu_words.specs.Hooks.{HookAnswer};
 ghost use Rattle.cpu_words.specs.Names.{Extents, IsWord};
 ghost use Rattle.cpu_words.specs.Words.{Words};
+ghost use Rattle.cpu_words.specs.declared.events.Event.{Event as WordEvent};
+ghost use Rattle.cpu_words.specs.Touches.{event_of, found_by};
+ghost use Rattle.gated_tree.specs.declared.changes.Create.{Create};
+ghost use Rattle.gated_tree.specs.declared.changes.CreateStep.{CreateStep};
+ghost use Rattle.gated_tree.specs.declared.changes.Remove.{Remove};
+ghost use Rattle.gated_tree.specs.declared.changes.RemoveStep.{RemoveStep};
+ghost use Rattle.gated_tree.specs.declared.changes.MoveTo.{MoveTo};
+ghost use Rattle.gated_tree.specs.declared.changes.MoveStep.{MoveStep};
+ghost use Rattle.gated_tree.specs.declared.growth.Grow.{Grow};
+ghost use Rattle.gated_tree.specs.declared.growth.GrowStep.{GrowStep};
+ghost use Rattle.gated_tree.specs.declared.marks.Mark.{Mark};
+ghost use Rattle.gated_tree.specs.declared.marks.MarkStep.{MarkStep};
+ghost use Rattle.gated_tree.specs.declared.snapshots.Snapshot.{Snapshot};
+ghost use Rattle.gated_tree.specs.declared.snapshots.SnapshotStep.{SnapshotStep};
 ghost use Rattle.gated_tree.specs.declared.phases.TreePhase.{TreePhase};
 ghost use Rattle.gated_tree.specs.Nodes.{IsNode};
-ghost use Rattle.gated_tree.specs.Phases.{after, next};
+ghost use Rattle.gated_tree.specs.Phases.{after, create_next, grow_next, mark_next, move_next, next, remove_next, snapshot_next};
 ghost use Rattle.gated_tree.specs.Calls.{NextFits, TreePhaseFits, phase_role};
 ghost use Rattle.gated_tree.specs.Roles.{AreWithin, Bounds, Reading, Role, TreeHolds, TreeState};
 ghost use Rattle.gated_tree.specs.Trees.{IsClean, IsSound};
 ghost use Rattle.tree_laws.specs.Events.{Comes, Event, HasLeave, IsQuiet, ModelDoes, MovesBy, TreeAllows, bounds_of, tree_shown};
+ghost use Rattle.tree_laws.specs.Ends.{CreateEnds, CreateKnows, GrowEnds, GrowKnows, MarkEnds, MoveEnds, MoveKnows, Passed, RemoveEnds, SeesMore, SnapshotEnds, SnapshotKnows};
 ghost use Rattle.tree_laws.specs.Steps.{MayStep, Notes, StepKeeps, found_at, tree_in};
 
 /// Each event keeps what holds of the tree. Where it adds an action, the shown tree allows that and moves by just its effect; else the
@@ -65,4 +80,30 @@ pub fn each_call_keeps_the_tree()
 pub fn what_comes_after_fits()
     ensures { (c : Bounds) → AreWithin c → (t : ℕ) (phase : TreePhase) (found : ℕ) (hook : HookAnswer) → TreePhaseFits c t phase →
         NextFits c t (after phase found hook).0 }
+{}
+
+/// What the events of a call have found is known from each event to the next, by any account of which tests they passed. So a call that is
+/// done has added its action and no other, one that is refused has added none, and the refusal has its cause among the events. Does
+/// nothing: its contract is the law.
+pub fn each_call_ends_honestly()
+    ensures create { (seen more : (WordEvent → Bool) → Bool) (x : Create) (step : CreateStep) (value : ℕ) →
+        CreateKnows (Passed seen) x step →
+        SeesMore (Passed seen) (Passed more) (event_of (create_next x step).0 (create_next x step).1 value) →
+        CreateEnds (Passed more) x step (found_by (create_next x step).1 value) }
+    ensures remove { (seen more : (WordEvent → Bool) → Bool) (x : Remove) (step : RemoveStep) (value : ℕ) →
+        SeesMore (Passed seen) (Passed more) (event_of (remove_next x step).0 (remove_next x step).1 value) →
+        RemoveEnds (Passed more) x step (found_by (remove_next x step).1 value) }
+    ensures grow { (seen more : (WordEvent → Bool) → Bool) (x : Grow) (step : GrowStep) (value : ℕ) → GrowKnows (Passed seen) x step →
+        SeesMore (Passed seen) (Passed more) (event_of (grow_next x step).0 (grow_next x step).1 value) →
+        GrowEnds (Passed more) x step (found_by (grow_next x step).1 value) }
+    ensures move_to { (seen more : (WordEvent → Bool) → Bool) (x : MoveTo) (step : MoveStep) (value : ℕ) → MoveKnows (Passed seen) x step →
+        SeesMore (Passed seen) (Passed more) (event_of (move_next x step).0 (move_next x step).1 value) →
+        MoveEnds (Passed more) x step (found_by (move_next x step).1 value) }
+    ensures mark { (seen more : (WordEvent → Bool) → Bool) (x : Mark) (step : MarkStep) (value : ℕ) →
+        SeesMore (Passed seen) (Passed more) (event_of (mark_next x step).0 (mark_next x step).1 value) →
+        MarkEnds (Passed more) x step (found_by (mark_next x step).1 value) }
+    ensures snapshot { (seen more : (WordEvent → Bool) → Bool) (x : Snapshot) (step : SnapshotStep) (value : ℕ) →
+        SnapshotKnows (Passed seen) x step →
+        SeesMore (Passed seen) (Passed more) (event_of (snapshot_next x step).0 (snapshot_next x step).1 value) →
+        SnapshotEnds (Passed more) x step (found_by (snapshot_next x step).1 value) }
 {}

@@ -1,0 +1,294 @@
+-- What is known of a call's events is kept from each event to the next, up to its answer.
+use Rattle.std.proofs.Common.{◌≡◌, ℕ, Bool, true, false, ◌+◌, ◌<◌, ◌≤◌, refl, sym, ap, ◌∙◌, subst, inl, inr, arith}
+use Rattle.std.specs.Prelude.{◌==◌, ◌&&◌, Option, Some, None, Result, Ok, Err, List, [], is_some, nat_lt, not}
+use Rattle.std.proofs.lemmas.Bool.{cases_Bool, cases_lt, eq-eqb, ne_eqb, lt-ltb, le-ltb}
+use Rattle.std.proofs.lemmas.Bool.Decides.{eqb_tells}
+use Rattle.access_model.specs.declared.actions.Action.{Action}
+use Rattle.access_model.specs.declared.actions.Action.TheVariants.{Remove as RemoveAction, MoveTo as MoveToAction, Grow as GrowAction}
+use Rattle.access_model.specs.declared.errors.GateError.{GateError}
+use Rattle.access_model.specs.declared.errors.GateError.TheVariants.{Again, Invalid}
+use Rattle.access_model.specs.declared.replies.Next.TheVariants.{Done}
+use Rattle.access_model.specs.declared.replies.Reply.{Reply}
+use Rattle.access_model.specs.declared.replies.Reply.TheVariants.{Unit as UnitReply, Tree as TreeReply}
+use Rattle.cpu_words.specs.declared.events.Event.{Event}
+use Rattle.cpu_words.specs.Touches.{event_of, found_by}
+use Rattle.gated_tree.specs.declared.nodes.NodeWord.{NodeWord}
+use Rattle.gated_tree.specs.declared.changes.Create.{Create}
+use Rattle.gated_tree.specs.declared.changes.CreateStep.{CreateStep}
+use Rattle.gated_tree.specs.declared.changes.CreateStep.TheVariants.{LoadsDirectory, LoadsNode, ChargesChild, TakesNode, RefundsChild}
+use Rattle.gated_tree.specs.declared.changes.Remove.{Remove}
+use Rattle.gated_tree.specs.declared.changes.RemoveStep.{RemoveStep}
+use Rattle.gated_tree.specs.declared.changes.RemoveStep.TheVariants.{LoadsFile as LoadsFileToRemove, FreesNode, RefundsBlocks as RefundsItsBlocks, RefundsChild as RefundsItsChild}
+use Rattle.gated_tree.specs.declared.changes.MoveTo.{MoveTo}
+use Rattle.gated_tree.specs.declared.changes.MoveStep.{MoveStep}
+use Rattle.gated_tree.specs.declared.changes.MoveStep.TheVariants.{LoadsFile as LoadsFileToMove, LoadsDirectory as LoadsTarget, ChargesChild as ChargesTarget, MovesFile, RefundsChild as RefundsOne}
+use Rattle.gated_tree.specs.declared.growth.Grow.{Grow}
+use Rattle.gated_tree.specs.declared.growth.GrowStep.{GrowStep}
+use Rattle.gated_tree.specs.declared.growth.GrowStep.TheVariants.{LoadsFile as LoadsFileToGrow, LoadsUsed, ChargesBlocks, GrowsFile, RefundsBlocks}
+use Rattle.gated_tree.specs.declared.marks.Mark.{Mark}
+use Rattle.gated_tree.specs.declared.marks.MarkStep.{MarkStep}
+use Rattle.gated_tree.specs.declared.marks.MarkStep.TheVariants.{LoadsFile as LoadsFileToMark, MarksFile}
+use Rattle.gated_tree.specs.declared.snapshots.Snapshot.{Snapshot}
+use Rattle.gated_tree.specs.declared.snapshots.SnapshotStep.{SnapshotStep}
+use Rattle.gated_tree.specs.declared.snapshots.SnapshotStep.TheVariants.{Locks, LoadsStage, LoadsUsed as LoadsUsedWord, LoadsNode as LoadsNodeWord, LoadsKids, Releases}
+use Rattle.gated_tree.specs.Nodes.{kind_in, word_of, unpacked, file_in, directory_in, node_after}
+use Rattle.gated_tree.specs.Phases.{after_look, create_next, create_looked, at_create, remove_next, at_remove, grow_next, at_grow, move_next, at_move, mark_next, mark_done, at_mark, snapshot_next, snapshot_locked_out, node_step, kids_step}
+use Rattle.gated_tree.specs.Refusals.{CreateHonest, FileHonest, GrowHonest, MoveHonest, SnapshotHonest, finds_free, finds_taken, finds_file, finds_directory, finds_large, finds_full, finds_other, finds_owner, finds_thawed}
+use Rattle.gated_tree.proofs.Refused.{file_refused, directory_refused, taken_some, size_loaded}
+use Rattle.tree_laws.specs.Ends.{where_done, remove_added, move_added, create_adds, IsReply, IsNodeReply, CreateKnows, GrowKnows, MoveAnswers, MoveKnows, SnapshotAnswers, SnapshotKnows, EndsWell, SeesMore, CreateEnds, RemoveEnds, GrowEnds, MoveEnds, MarkEnds, SnapshotEnds}
+
+-- two tests that are passed
+both : (a b : Bool) → a ≡ true → b ≡ true → (a && b) ≡ true
+both a b x y = rw (x, y) refl
+
+-- a number is itself
+here : (n : ℕ) → (n == n) ≡ true
+here n = eq-eqb n n refl
+
+-- a test that is not passed
+missed : (b : Bool) → b ≡ false → not b ≡ true
+missed b e = rw e refl
+
+module _ (Seen More : (Event → Bool) → Type 0) where
+  -- a look at a node ends well where what was looked for does, and where each refusal has its cause
+  look_ends : {P : Type 0} (Knows : P → Type 0) (added : P → List Action) (IsOne : Reply → Type 0) (IsHonest : GateError → Type 0)
+      (adds : Result Reply GateError → List Action) (again : P) (to : NodeWord → P) (actions : List Action)
+      (r : Option (Result NodeWord GateError)) →
+      Knows again × (actions ≡ added again) → ((node : NodeWord) → r ≡ Some (Ok node) → Knows (to node) × (actions ≡ added (to node))) →
+      ((refusal : GateError) → r ≡ Some (Err refusal) → IsHonest refusal × (actions ≡ adds (Err refusal))) →
+      EndsWell Knows added IsOne IsHonest adds (after_look again to r) actions
+  look_ends Knows added IsOne IsHonest adds again to actions None stays found refused = stays
+  look_ends Knows added IsOne IsHonest adds again to actions (Some (Ok node)) stays found refused = found node refl
+  look_ends Knows added IsOne IsHonest adds again to actions (Some (Err refusal)) stays found refused = refused refusal refl
+
+  -- each event of a create
+  create_seen : (x : Create) (node value : ℕ) → CreateKnows Seen x (LoadsNode node) →
+      SeesMore Seen More (event_of (create_next x (LoadsNode node)).0 (create_next x (LoadsNode node)).1 value) →
+      (r : Option NodeWord) → unpacked value ≡ r →
+      EndsWell (λ (y : Create). CreateKnows More y y.step) (λ y. []) IsNodeReply (CreateHonest More x) (create_adds x)
+      (create_looked x node r) []
+  create_seen x node value knows sees None was = (λ n some below. sees.earlier _ (knows n some below), refl)
+  create_seen x node value knows sees (Some found) was = elim (cases_Bool (is_some found.kind)) [
+    | inl taken ↦
+        let more : (n : ℕ) → 1 ≤ n → n < node + 1 → More (finds_taken n) =
+        λ n some below. elim (eqb_tells n node) [
+          | inl e ↦ subst (λ k. More (finds_taken k)) (sym e.1) (sees.now (finds_taken node)
+              (both _ _ (here node) (missed (value == 0) (ne_eqb value 0 (taken_some value found was taken)))))
+          | inr e ↦ sees.earlier _ (knows n some (omega (arith, below, e.1)))
+        ] in
+        rw taken (elim (cases_lt (node + 1) x.nodes) [
+          | inl l ↦ rw (lt-ltb (node + 1) x.nodes l) (more, refl)
+          | inr l ↦ rw (le-ltb (node + 1) x.nodes l) (λ n some below. more n some (omega (arith, below, l)), refl)
+        ])
+    | inr free ↦ rw free (tt, refl)
+  ]
+
+  pub create_ends : (x : Create) (step : CreateStep) (value : ℕ) → CreateKnows Seen x step →
+      SeesMore Seen More (event_of (create_next x step).0 (create_next x step).1 value) →
+      CreateEnds More x step (found_by (create_next x step).1 value)
+  create_ends x LoadsDirectory value knows sees =
+      look_ends (λ (y : Create). CreateKnows More y y.step) (λ y. []) IsNodeReply (CreateHonest More x) (create_adds x)
+      (at_create x LoadsDirectory) (λ dir. at_create x (LoadsNode 1)) [] (directory_in value) (tt, refl)
+      (λ dir e. (λ n some below. absurd (omega (arith, some, below)), refl))
+      (λ refusal e. (
+        elim (directory_refused value refusal e) [
+          | inl h ↦ subst (CreateHonest More x) (sym h.0) (sees.now (finds_free x.dir) (both _ _ (here x.dir) (eq-eqb value 0 h.1)))
+          | inr h ↦
+              subst (CreateHonest More x) (sym h.0) (sees.now (finds_file x.dir) (both _ _ (here x.dir) (eq-eqb (kind_in value) 1 h.1)))
+        ],
+        refl,
+      ))
+  create_ends x (LoadsNode node) value knows sees = create_seen x node value knows sees (unpacked value) refl
+  create_ends x (ChargesChild node) value knows sees = (tt, refl)
+  create_ends x (TakesNode node) value knows sees = elim (eqb_tells value 0) [
+    | inl e ↦ rw e.0 (tt, refl)
+    | inr e ↦
+        let other : More finds_other = sees.now finds_other (missed (value == 0) e.0) in
+        rw e.0 (other, refl)
+  ]
+  create_ends x RefundsChild value knows sees = (sees.earlier finds_other knows, refl)
+
+  -- each event of a remove
+  pub remove_ends : (x : Remove) (step : RemoveStep) (value : ℕ) →
+      SeesMore Seen More (event_of (remove_next x step).0 (remove_next x step).1 value) →
+      RemoveEnds More x step (found_by (remove_next x step).1 value)
+  remove_ends x LoadsFileToRemove value sees =
+      look_ends (λ (y : Remove). Unit {0}) (λ y. remove_added y y.step) (IsReply UnitReply) (FileHonest More x.file)
+      (where_done (RemoveAction x.file)) (at_remove x LoadsFileToRemove) (λ file. at_remove x (FreesNode file)) [] (file_in value)
+      (tt, refl)
+      (λ file e. (tt, refl))
+      (λ refusal e. (
+        elim (file_refused value refusal e) [
+          | inl h ↦ subst (FileHonest More x.file) (sym h.0) (sees.now (finds_free x.file) (both _ _ (here x.file) (eq-eqb value 0 h.1)))
+          | inr h ↦ subst (FileHonest More x.file) (sym h.0)
+              (sees.now (finds_directory x.file) (both _ _ (here x.file) (eq-eqb (kind_in value) 2 h.1)))
+        ],
+        refl,
+      ))
+  remove_ends x (FreesNode file) value sees = elim (eqb_tells value (word_of file)) [
+    | inl e ↦ rw e.0 (tt, refl)
+    | inr e ↦
+        let other : More finds_other = sees.now finds_other (missed (value == word_of file) e.0) in
+        rw e.0 (other, refl)
+  ]
+  remove_ends x (RefundsItsBlocks file) value sees = (tt, refl)
+  remove_ends x (RefundsItsChild file) value sees = (refl, refl)
+
+  -- each event of a grow
+  pub grow_ends : (x : Grow) (step : GrowStep) (value : ℕ) → GrowKnows Seen x step →
+      SeesMore Seen More (event_of (grow_next x step).0 (grow_next x step).1 value) →
+      GrowEnds More x step (found_by (grow_next x step).1 value)
+  grow_ends x LoadsFileToGrow value knows sees =
+      look_ends (λ (y : Grow). GrowKnows More y y.step) (λ y. []) (IsReply UnitReply) (GrowHonest More x)
+      (where_done (GrowAction x.file x.blocks)) (at_grow x LoadsFileToGrow) (λ file. at_grow x (LoadsUsed file)) [] (file_in value)
+      (tt, refl)
+      (λ file e. (
+        λ large. sees.now (finds_large x.file x.blocks x.capacity) (both _ _ (here x.file)
+            (ap (λ node. nat_lt x.capacity (node.size + x.blocks)) (size_loaded value file e) ∙ large)),
+        refl,
+      ))
+      (λ refusal e. (
+        elim (file_refused value refusal e) [
+          | inl h ↦ subst (GrowHonest More x) (sym h.0) (sees.now (finds_free x.file) (both _ _ (here x.file) (eq-eqb value 0 h.1)))
+          | inr h ↦ subst (GrowHonest More x) (sym h.0)
+              (sees.now (finds_directory x.file) (both _ _ (here x.file) (eq-eqb (kind_in value) 2 h.1)))
+        ],
+        refl,
+      ))
+  grow_ends x (LoadsUsed file) value knows sees = elim (cases_Bool (nat_lt x.capacity (value + x.blocks))) [
+    | inl full ↦
+        let cause : More (finds_full x.blocks x.capacity) = sees.now (finds_full x.blocks x.capacity) full in
+        rw full (cause, refl)
+    | inr room ↦ rw room (elim (cases_Bool (nat_lt x.capacity (file.size + x.blocks))) [
+      | inl large ↦
+          let cause : More (finds_large x.file x.blocks x.capacity) = sees.earlier _ (knows large) in
+          rw large (inr cause, refl)
+      | inr fits ↦ rw fits (tt, refl)
+    ])
+  ]
+  grow_ends x (ChargesBlocks file used) value knows sees = elim (eqb_tells value used) [
+    | inl e ↦ rw e.0 (tt, refl)
+    | inr e ↦
+        let other : More finds_other = sees.now finds_other (missed (value == used) e.0) in
+        rw e.0 (inl other, refl)
+  ]
+  grow_ends x (GrowsFile file) value knows sees = elim (eqb_tells value (word_of file)) [
+    | inl e ↦ rw e.0 (refl, refl)
+    | inr e ↦
+        let other : More finds_other = sees.now finds_other (missed (value == word_of file) e.0) in
+        rw e.0 (other, refl)
+  ]
+  grow_ends x RefundsBlocks value knows sees = (inl (sees.earlier finds_other knows), refl)
+
+  -- a move that answers
+  move_answers : (x : MoveTo) (answer : Result Reply GateError) (e : Event) → MoveAnswers Seen answer → SeesMore Seen More e →
+      EndsWell (λ (y : MoveTo). MoveKnows More y y.step) (λ y. move_added y y.step) (IsReply UnitReply) (MoveHonest More x)
+      (where_done (MoveToAction x.file x.dir)) (Done answer) (where_done (MoveToAction x.file x.dir) answer)
+  move_answers x (Ok reply) e knows sees = (knows, refl)
+  move_answers x (Err Again) e knows sees = (sees.earlier finds_other knows, refl)
+  move_answers x (Err refusal) e knows sees = absurd knows
+
+  -- each event of a move
+  pub move_ends : (x : MoveTo) (step : MoveStep) (value : ℕ) → MoveKnows Seen x step →
+      SeesMore Seen More (event_of (move_next x step).0 (move_next x step).1 value) →
+      MoveEnds More x step (found_by (move_next x step).1 value)
+  move_ends x LoadsFileToMove value knows sees =
+      look_ends (λ (y : MoveTo). MoveKnows More y y.step) (λ y. move_added y y.step) (IsReply UnitReply) (MoveHonest More x)
+      (where_done (MoveToAction x.file x.dir)) (at_move x LoadsFileToMove) (λ file. at_move x (LoadsTarget file)) [] (file_in value)
+      (tt, refl)
+      (λ file e. (tt, refl))
+      (λ refusal e. (
+        elim (file_refused value refusal e) [
+          | inl h ↦ subst (MoveHonest More x) (sym h.0) (inl (sees.now (finds_free x.file) (both _ _ (here x.file) (eq-eqb value 0 h.1))))
+          | inr h ↦ subst (MoveHonest More x) (sym h.0)
+              (sees.now (finds_directory x.file) (both _ _ (here x.file) (eq-eqb (kind_in value) 2 h.1)))
+        ],
+        refl,
+      ))
+  move_ends x (LoadsTarget file) value knows sees =
+      look_ends (λ (y : MoveTo). MoveKnows More y y.step) (λ y. move_added y y.step) (IsReply UnitReply) (MoveHonest More x)
+      (where_done (MoveToAction x.file x.dir)) (at_move x (LoadsTarget file)) (λ dir. at_move x (ChargesTarget file)) []
+      (directory_in value)
+      (tt, refl) (λ dir e. (tt, refl))
+      (λ refusal e. (
+        elim (directory_refused value refusal e) [
+          | inl h ↦ subst (MoveHonest More x) (sym h.0) (inr (sees.now (finds_free x.dir) (both _ _ (here x.dir) (eq-eqb value 0 h.1))))
+          | inr h ↦ subst (MoveHonest More x) (sym h.0) (sees.now (finds_file x.dir) (both _ _ (here x.dir) (eq-eqb (kind_in value) 1 h.1)))
+        ],
+        refl,
+      ))
+  move_ends x (ChargesTarget file) value knows sees = (tt, refl)
+  move_ends x (MovesFile file) value knows sees = elim (eqb_tells value (word_of file)) [
+    | inl e ↦ rw e.0 (refl, refl)
+    | inr e ↦
+        let other : More finds_other = sees.now finds_other (missed (value == word_of file) e.0) in
+        rw e.0 (other, refl)
+  ]
+  move_ends x (RefundsOne dir answer) value knows sees = move_answers x answer _ knows sees
+
+  -- each event of a page fault or a write-back
+  pub mark_ends : (x : Mark) (step : MarkStep) (value : ℕ) → SeesMore Seen More (event_of (mark_next x step).0 (mark_next x step).1 value) →
+      MarkEnds More x step (found_by (mark_next x step).1 value)
+  mark_ends x LoadsFileToMark value sees =
+      look_ends (λ (y : Mark). Unit {0}) (λ y. []) (IsReply UnitReply) (FileHonest More x.file) (where_done (mark_done x.dirty x.file))
+      (at_mark x LoadsFileToMark) (λ file. at_mark x (MarksFile file)) [] (file_in value) (tt, refl) (λ file e. (tt, refl))
+      (λ refusal e. (
+        elim (file_refused value refusal e) [
+          | inl h ↦ subst (FileHonest More x.file) (sym h.0) (sees.now (finds_free x.file) (both _ _ (here x.file) (eq-eqb value 0 h.1)))
+          | inr h ↦ subst (FileHonest More x.file) (sym h.0)
+              (sees.now (finds_directory x.file) (both _ _ (here x.file) (eq-eqb (kind_in value) 2 h.1)))
+        ],
+        refl,
+      ))
+  mark_ends x (MarksFile file) value sees = elim (eqb_tells value (word_of file)) [
+    | inl e ↦ rw e.0 (refl, refl)
+    | inr e ↦
+        let other : More finds_other = sees.now finds_other (missed (value == word_of file) e.0) in
+        rw e.0 (other, refl)
+  ]
+
+  -- a snapshot that finds `umount` taken, and one that answers
+  locked_out : (x : Snapshot) (wait : Bool) → x.wait ≡ wait → More finds_owner →
+      EndsWell (λ (y : Snapshot). SnapshotKnows More y y.step) (λ y. []) (IsReply TreeReply) (SnapshotHonest More x) (λ answer. [])
+      (snapshot_locked_out x wait) []
+  locked_out x true is owned = (tt, refl)
+  locked_out x false is owned = ((is, owned), refl)
+
+  snapshot_answers : (x : Snapshot) (answer : Result Reply GateError) (e : Event) → SnapshotAnswers Seen answer → SeesMore Seen More e →
+      EndsWell (λ (y : Snapshot). SnapshotKnows More y y.step) (λ y. []) (IsReply TreeReply) (SnapshotHonest More x) (λ answer. [])
+      (Done answer) []
+  snapshot_answers x (Ok reply) e knows sees = (knows, refl)
+  snapshot_answers x (Err Invalid) e knows sees = (sees.earlier finds_thawed knows, refl)
+  snapshot_answers x (Err refusal) e knows sees = absurd knows
+
+  node_knows : (x : Snapshot) (next : Option ℕ) → SnapshotKnows More x (node_step next)
+  node_knows x (Some node) = tt
+  node_knows x None = tt
+
+  kids_know : (x : Snapshot) (next : Option ℕ) → SnapshotKnows More x (kids_step next)
+  kids_know x (Some node) = tt
+  kids_know x None = refl
+
+  -- each event of a snapshot
+  pub snapshot_ends : (x : Snapshot) (step : SnapshotStep) (value : ℕ) → SnapshotKnows Seen x step →
+      SeesMore Seen More (event_of (snapshot_next x step).0 (snapshot_next x step).1 value) →
+      SnapshotEnds More x step (found_by (snapshot_next x step).1 value)
+  snapshot_ends x Locks value knows sees = elim (eqb_tells value 0) [
+    | inl e ↦ rw e.0 (tt, refl)
+    | inr e ↦
+        let owned : More finds_owner = sees.now finds_owner (missed (value == 0) e.0) in
+        rw e.0 (locked_out x x.wait refl owned)
+  ]
+  snapshot_ends x LoadsStage value knows sees = elim (eqb_tells value 4) [
+    | inl e ↦ rw e.0 (tt, refl)
+    | inr e ↦
+        let thawed : More finds_thawed = sees.now finds_thawed (missed (value == 4) e.0) in
+        rw e.0 (thawed, refl)
+  ]
+  snapshot_ends x LoadsUsedWord value knows sees = (tt, refl)
+  snapshot_ends x (LoadsNodeWord node) value knows sees = elim (cases_Bool (is_some (unpacked value))) [
+    | inl said ↦ rw said (node_knows x (node_after node x.nodes), refl)
+    | inr none ↦ rw none (tt, refl)
+  ]
+  snapshot_ends x (LoadsKids node) value knows sees = (kids_know x (node_after node x.nodes), refl)
+  snapshot_ends x (Releases answer) value knows sees = snapshot_answers x answer _ knows sees

@@ -1,0 +1,22 @@
+-- each is a lemma
+use Rattle.tree_laws.specs.Ends.{Passed}
+use Rattle.tree_laws.proofs.Ends.{create_ends, remove_ends, grow_ends, move_ends, mark_ends, snapshot_ends}
+use Rattle.tree_laws.proofs.each_call_ends_honestly.Goals as goal
+
+pub returns-clause-create : goal.returns-clause-create
+returns-clause-create c = λ seen more. create_ends (Passed seen) (Passed more)
+
+pub returns-clause-remove : goal.returns-clause-remove
+returns-clause-remove c = λ seen more. remove_ends (Passed seen) (Passed more)
+
+pub returns-clause-grow : goal.returns-clause-grow
+returns-clause-grow c = λ seen more. grow_ends (Passed seen) (Passed more)
+
+pub returns-clause-move_to : goal.returns-clause-move_to
+returns-clause-move_to c = λ seen more. move_ends (Passed seen) (Passed more)
+
+pub returns-clause-mark : goal.returns-clause-mark
+returns-clause-mark c = λ seen more. mark_ends (Passed seen) (Passed more)
+
+pub returns-clause-snapshot : goal.returns-clause-snapshot
+returns-clause-snapshot c = λ seen more. snapshot_ends (Passed seen) (Passed more)
