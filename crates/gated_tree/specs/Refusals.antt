@@ -34,21 +34,29 @@ abbrev pub misses : Touch → ℕ → Bool
 misses (Cas expect put) found = not (found == expect)
 misses touch found = false
 
--- it is one of `umount`
+-- it is a compare-exchange
+abbrev pub is_exchange : Touch → Bool
+is_exchange (Cas expect put) = true
+is_exchange touch = false
+
+-- the word is `umount`
 abbrev pub is_umount : WordName → Bool
 is_umount Umount = true
 is_umount word = false
 
--- a load found this node free; taken; a file; a directory
+-- a load found this node free
 abbrev pub finds_free : ℕ → Event → Bool
 finds_free n e = loads_node n e.word e.touch && (e.found == 0)
 
+-- a load found it taken
 abbrev pub finds_taken : ℕ → Event → Bool
 finds_taken n e = loads_node n e.word e.touch && not (e.found == 0)
 
+-- a load found a file there
 abbrev pub finds_file : ℕ → Event → Bool
 finds_file n e = loads_node n e.word e.touch && (kind_in e.found == 1)
 
+-- a load found a directory there
 abbrev pub finds_directory : ℕ → Event → Bool
 finds_directory n e = loads_node n e.word e.touch && (kind_in e.found == 2)
 
@@ -60,12 +68,13 @@ finds_large n blocks capacity e = loads_node n e.word e.touch && nat_lt capacity
 abbrev pub finds_full : ℕ → ℕ → Event → Bool
 finds_full blocks capacity e = loads_used e.word e.touch && nat_lt capacity (e.found + blocks)
 
--- a compare-exchange found another value than it expected; one of `umount` found it taken
+-- a compare-exchange found another value than it expected
 abbrev pub finds_other : Event → Bool
 finds_other e = misses e.touch e.found
 
+-- a compare-exchange found `umount` taken
 abbrev pub finds_owner : Event → Bool
-finds_owner e = is_umount e.word && misses e.touch e.found
+finds_owner e = is_umount e.word && (is_exchange e.touch && not (e.found == 0))
 
 -- a load found a stage at which not all is frozen
 abbrev pub finds_thawed : Event → Bool

@@ -1,5 +1,5 @@
 -- The tree behind the gates: what holds of its words between any two events, and what that reads of each task's phase.
-use Rattle.std.specs.Prelude.{◌≡◌, ℕ, zero, suc, ◌+◌, ◌-◌, ◌<◌, ◌≤◌, nat_lt, if◌then◌else◌, false, Option, Some, None}
+use Rattle.std.specs.Prelude.{◌≡◌, ℕ, zero, suc, ◌+◌, ◌-◌, ◌<◌, ◌≤◌, ◌==◌, ◌||◌, nat_lt, nat_le, if◌then◌else◌, false, Option, Some, None}
 use Rattle.finite_sums.specs.Sums.{total}
 use Rattle.access_model.specs.declared.actions.Kind.TheVariants.{File}
 use Rattle.access_model.specs.declared.actions.NodeInfo.{NodeInfo}
@@ -54,6 +54,10 @@ pub record TreeState : Type 0 where
   pub node : ℕ → ℕ
   pub kids : ℕ → ℕ
   pub at : ℕ → Role
+
+-- 1 where the superblock is read-only, or the stage is 3 or 4
+abbrev pub sealed_by : (sb stage : ℕ) → ℕ
+sealed_by sb stage = if sb == 1 || nat_le 3 stage then 1 else 0
 
 -- the blocks that a role has charged
 abbrev pub charge : Role → ℕ

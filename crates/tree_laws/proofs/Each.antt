@@ -16,7 +16,7 @@ use Rattle.tree_laws.proofs.Clearings.{seals, opens, clearing_begins, clears, pa
 
 module _ (c : Bounds) (within : AreWithin c) (s : TreeState) (good : TreeHolds c s) (t : ℕ) (lt : t < c.tasks) where
   -- the store that ends a clearing seals the tree
-  clearing_seals : (n : ℕ) → c.nodes ≤ n → s.at t ≡ Clearing n → TreeHolds c (record (turned s t Out) { sealed = 1 })
+  pub clearing_seals : (n : ℕ) → c.nodes ≤ n → s.at t ≡ Clearing n → TreeHolds c (record (turned s t Out) { sealed = 1 })
   clearing_seals n past is =
       let left : TreeHolds c (turned s t Out) =
       leaves c s good t lt (record { blocks = ap charge is; children = λ d. ap (child_charge d) is }) in
