@@ -174,7 +174,6 @@ module _ (c : Config) (w : World) (t : ℕ) (lt : t < c.tasks) where
   left_alone (AtMount m) ws v same seen h = λ lm.
       holds_as same.0 same.1 same.2 same.3 (update_map (at_mount m) w.views t v ∙
       (ap (update (λ x. at_mount m (w.views x)) t) seen ∙ update_same (λ x. at_mount m (w.views x)) t)) (h lm)
-
   left_alone (AtLevel i) ws v same seen h = λ l1 l3.
       level_as same.0 same.2 same.1 (update_map (at_level i) w.views t v ∙
       (ap (update (λ x. at_level i (w.views x)) t) seen ∙ update_same (λ x. at_level i (w.views x)) t)) (h l1 l3)

@@ -54,7 +54,6 @@ module _ (c : Config) (w : World) (t : ℕ) (lt : t < c.tasks) (q : Option Phase
   rephased_part fits good (AtMount m) =
       left_alone c w t lt (AtMount m) w.words (at_phase (w.views t) q) (refl, refl, refl, refl) (view_as refl refl refl (same.role_same m))
       (good (AtMount m))
-
   rephased_part fits good (AtLevel i) =
       left_alone c w t lt (AtLevel i) w.words (at_phase (w.views t) q) (refl, refl, refl) (level_view_as refl refl refl (same.level_same i))
       (good (AtLevel i))

@@ -51,10 +51,12 @@ impl Phase {
         ensures { result ≡ hook_of self.now }
     {
         match self {
-            Phase::Remounts(Remount {
-                step: RemountStep::SetsWritable | RemountStep::SetsReadOnly,
-                ..
-            }) => Some(HookKind::Reconfigure),
+            Phase::Remounts(
+                Remount {
+                    step: RemountStep::SetsWritable | RemountStep::SetsReadOnly,
+                    ..
+                },
+            ) => Some(HookKind::Reconfigure),
             _ => None,
         }
     }

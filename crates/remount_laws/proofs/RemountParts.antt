@@ -277,8 +277,14 @@ module _ (c : Config) (w : World) (good : IsGood c w) (t : ℕ) (lt : t < c.task
       let f : PhaseFits c t (held_at (w.views t)) (holds_level (w.views t)) (Remounts (at_remount x s)) = here_fits in
       subst (λ ws. let next_world : World = record { words = ws; views = update w.views t v } in
       ((part : Part) → is_known_part part ≡ false → Holds c next_world part) × (shown c next_world ≡ shown c w)) (sym (load_same w.words name))
-      (loads o s' v refl (refl, refl, added_load name (added_by (w.views t).events), taken_load name (taken_by (w.views t).events),
-      level_added_load name Load (level_added_by (w.views t).events) refl, level_taken_load name Load (level_taken_by (w.views t).events) refl)
+      (loads o s' v refl (
+        refl,
+        refl,
+        added_load name (added_by (w.views t).events),
+        taken_load name (taken_by (w.views t).events),
+        level_added_load name Load (level_added_by (w.views t).events) refl,
+        level_taken_load name Load (level_taken_by (w.views t).events) refl,
+      )
       (f.0, f.1, f.2, f.3, f.4, fit) stays own)
 
   -- an event on `umount`, of a task that has no role before and after it, and relies on nothing after it
