@@ -29,7 +29,7 @@ pub change_phase : (c : Config) (x : Change) → PhaseKeeps c (Mounts (Changes x
 change_phase c x = record {
   step = λ lim w good t lt hook e. change_keeps c lim w good t lt hook x.mount x.read_only x.wait x.task x.processors x.step e;
   completes = λ lim w good t lt hook e. completes_none c w t hook (Mounts (Changes x)) (λ trace found. refl);
-  word = λ lim t held levels hook f. change_there c lim t held levels x x.step f.0 f.4;
+  word = λ lim t lt held levels hook f. change_there c lim t held levels x x.step f.0 f.4;
   acts = λ lim t held levels found hook f. change_acts c lim t held levels x x.step found;
   goes = λ lim t held levels found hook f. change_goes c lim t held levels x x.step found f;
   agrees = λ t f g h k mounts levels fits. (fits.0, fits.1, fits.2, rw (← none_agree c t f g h k mounts levels) fits.3, fits.4);
@@ -43,7 +43,7 @@ change_phase c x = record {
       change_own c t lt w (after_step w t (Mounts (Changes x)) hook) earlier good after hook x.mount x.read_only x.wait x.task
       x.processors x.step f.0 e
       (ap (λ g. g x.mount) (change_counts w t hook x.mount x.read_only x.wait x.task x.processors x.step)) h is;
-  waits = λ lim w good t lt hook e. change_waits c w good t lt x.mount x.read_only x.task x.processors hook x.wait x.step e;
+  waits = λ lim w earlier good t lt hook e cause. change_waits c w earlier good t lt x.mount x.read_only x.task x.processors hook x.wait x.step e;
   tells = λ t w earlier h e. let k : ChangeCause c t w earlier x.mount (Releases (Err Busy)) =
       subst (ChangeCause c t w earlier x.mount) e h in k refl;
 }

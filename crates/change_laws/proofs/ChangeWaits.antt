@@ -1,4 +1,5 @@
 -- A change waits only where another task has `umount`.
+use Rattle.std.specs.Prelude.{List}
 use Rattle.std.proofs.Common.{ℕ, ◌<◌, Bool, true, false, ap, inl, inr}
 use Rattle.std.proofs.lemmas.Bool.{cases_Bool}
 use Rattle.std.proofs.lemmas.Bool.Decides.{eqb_tells}
@@ -15,11 +16,11 @@ use Rattle.gate_world.specs.Waits.{WaitsForAnother}
 use Rattle.gate_frames.proofs.Owners.{umount_taken}
 use Rattle.change_laws.proofs.ChangeLoads.{change, IsAt}
 
-module _ (c : Config) (w : World) (good : IsGood c w) (t : ℕ) (lt : t < c.tasks)
+module _ (c : Config) (w : World) (earlier : List World) (good : IsGood c w) (t : ℕ) (lt : t < c.tasks)
     (m : ℕ) (ro : Bool) (task processors : ℕ) (hook : HookAnswer) where
   -- each step of a change
   pub change_waits : (wait : Bool) (s : ChangeStep) → IsAt c w good t lt m ro wait task processors hook s →
-      WaitsForAnother c w t (Mounts (change m ro wait task processors s))
+      WaitsForAnother c w earlier t (Mounts (change m ro wait task processors s))
       (after_of (Mounts (change m ro wait task processors s)) (found_at w.words (Mounts (change m ro wait task processors s)) hook) hook).0
   change_waits true Locks e =
       elim (eqb_tells w.words.umount 0) [

@@ -7,7 +7,7 @@ use Rattle.mount_counts.specs.declared.remounts.RemountStep.{RemountStep}
 use Rattle.gate_world.specs.Work.{IgnoresAnswer, remount_hook, hook_of}
 use Rattle.std.proofs.Common.{ℕ, ◌≡◌, None, ap, true≢false, is_some, refl}
 use Rattle.mount_counts.specs.Phases.{next, after}
-use Rattle.gate_world.specs.declared.work.Phase.TheVariants.{Mounts, Remounts}
+use Rattle.gate_world.specs.declared.work.Phase.TheVariants.{Mounts, Remounts, DownReads, UpReads, Callbacks, Writes}
 use Rattle.mount_counts.specs.declared.phases.MountPhase.TheVariants.{Want as Wants, Drop as Drops, Change as Changes}
 use Rattle.mount_counts.specs.Remounts.{remount_next, remount_after}
 use Rattle.access_model.specs.Replies.{map_next}
@@ -33,3 +33,7 @@ ignores (Remounts x) h a b found =
     let e : (remount_next x x.step a ≡ remount_next x x.step b) × (remount_after x x.step found a ≡ remount_after x x.step found b) =
     remount_ignores x x.step h a b found in
     (e.0, ap (λ y. (map_next Remounts y.0, y.1)) e.1)
+ignores (DownReads r) h a b found = (refl, refl)
+ignores (UpReads u) h a b found = (refl, refl)
+ignores (Callbacks x) h a b found = (refl, refl)
+ignores (Writes x) h a b found = (refl, refl)

@@ -51,8 +51,8 @@ pub record PhaseKeeps (c : Config) (phase : Phase) : Type 0 where
   pub completes : IsWithin c → (w : World) → IsGood c w → (t : ℕ) → t < c.tasks → (hook : HookAnswer) → (w.views t).phase ≡ Some phase →
       CompletesNow c w t hook phase
   -- the word of its event is there
-  pub word : IsWithin c → (t : ℕ) (held : ℕ → ℕ) (levels : ℕ → Bool) (hook : HookAnswer) → PhaseFits c t held levels phase →
-      IsWord (extents_of c) (next_of phase hook).0
+  pub word : IsWithin c → (t : ℕ) → t < c.tasks → (held : ℕ → ℕ) (levels : ℕ → Bool) (hook : HookAnswer) →
+      PhaseFits c t held levels phase → IsWord (extents_of c) (next_of phase hook).0
   -- its action can be done
   pub acts : IsWithin c → (t : ℕ) (held : ℕ → ℕ) (levels : ℕ → Bool) (found : ℕ) (hook : HookAnswer) → PhaseFits c t held levels phase →
       ActionFits held (after_of phase found hook).1
@@ -79,9 +79,10 @@ pub record PhaseKeeps (c : Config) (phase : Phase) : Type 0 where
       ((after_step w t phase hook).views t).phase ≡ phase_after (after_of phase (found_at w.words phase hook) hook).0 →
       CauseOf c t w earlier (Some phase) →
       CauseOf c t (after_step w t phase hook) (w ∷ earlier) (phase_after (after_of phase (found_at w.words phase hook) hook).0)
-  -- where its event is a wait, another task has what it waits for
-  pub waits : IsWithin c → (w : World) → IsGood c w → (t : ℕ) → t < c.tasks → (hook : HookAnswer) → (w.views t).phase ≡ Some phase →
-      WaitsForAnother c w t phase (after_of phase (found_at w.words phase hook) hook).0
+  -- where its event is a wait, another task has what it waits for, or had it when that was found
+  pub waits : IsWithin c → (w : World) (earlier : List World) → IsGood c w → (t : ℕ) → t < c.tasks → (hook : HookAnswer) →
+      (w.views t).phase ≡ Some phase → CauseOf c t w earlier (Some phase) →
+      WaitsForAnother c w earlier t phase (after_of phase (found_at w.words phase hook) hook).0
   -- its cause says what is to be told
   pub tells : (t : ℕ) (w : World) (earlier : List World) → CauseOf c t w earlier (Some phase) → HasCause c t (w ∷ earlier) (Some phase)
 

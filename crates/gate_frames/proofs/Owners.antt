@@ -13,13 +13,15 @@ use Rattle.mount_counts.specs.declared.phases.ChangeStep.TheVariants.{Locks, Cle
 use Rattle.mount_counts.specs.Roles.{Role, has_hold, skips, ro_bit, hold_bit}
 use Rattle.gate_world.specs.declared.config.Config.{Config}
 use Rattle.gate_world.specs.declared.work.Phase.{Phase}
-use Rattle.gate_world.specs.declared.work.Phase.TheVariants.{Mounts, Remounts}
+use Rattle.gate_world.specs.declared.work.Phase.TheVariants.{Mounts, Remounts, Writes}
+use Rattle.write_access.specs.declared.phases.WritePhase.{WritePhase}
+use Rattle.write_access.specs.declared.phases.WritePhase.TheVariants.{Wants as WriteWants}
 use Rattle.gate_world.specs.declared.views.View.{View}
 use Rattle.gate_world.specs.Views.{held_at, holds_level, added_by, taken_by}
 use Rattle.gate_world.specs.Worlds.{World}
 use Rattle.gate_world.specs.Shown.{shown, closing}
 use Rattle.gate_world.specs.Waits.{IsWaitedFor, HasCulprit}
-use Rattle.gate_world.specs.Rules.{want_role, change_role, role_if, role_of, at_mount, change_owns, owns, remounts, IsSteady, OwnerHolds, ViewFits, IsGood, Owner, AtMount, GatesHold, relied, Holds, Relying}
+use Rattle.gate_world.specs.Rules.{want_role, change_role, write_role, role_if, role_of, at_mount, change_owns, owns, remounts, IsSteady, OwnerHolds, ViewFits, IsGood, Owner, AtMount, GatesHold, relied, Holds, Relying}
 use Rattle.gate_frames.proofs.Frames.{view_as, holds_as, MountHoldsAfter, owner_same, gates_after, shown_as, shown_still}
 use Rattle.mount_counts.specs.declared.remounts.RemountStep.{RemountStep}
 use Rattle.gate_world.specs.Remounts.{loop_role, held_role, giving_role, IsThere, remount_owns, summing_role, remount_role, remount_sets, on_nothing, remount_relies}
@@ -42,6 +44,7 @@ owns_le (Some (Mounts (Wants x))) = omega arith
 owns_le (Some (Mounts (Drops m p))) = omega arith
 owns_le (Some (Mounts (Changes x))) = change_owns_le x.step
 owns_le (Some (Remounts x)) = remount_owns_le x.step
+owns_le (Some phase) = omega arith
 
 -- a want has no hold flag set, and skips no mount
 want_hold : (p : ℕ) (s : WantStep) → has_hold (want_role p s) + skips (want_role p s) ≡ 0
@@ -93,6 +96,11 @@ remount_hold m (GivesUp at held) = giving_hold (m == at) (has_mount held m)
 remount_hold m RemountLocks = omega arith
 remount_hold m step = omega arith
 
+-- nor has a write access
+write_hold : (m : ℕ) (x : WritePhase) → has_hold (write_role m x) + skips (write_role m x) ≡ 0
+write_hold m (WriteWants x) = omega (arith, hold_if (m == x.mount) (want_role x.cpu x.step), want_hold x.cpu x.step)
+write_hold m x = refl
+
 -- only the owner of `umount` has a hold flag set, or counts on a mount's staying read-only
 pub hold_owns : (m : ℕ) (p : Option Phase) → has_hold (role_of m p) + skips (role_of m p) ≤ owns p
 hold_owns m None = omega arith
@@ -100,6 +108,8 @@ hold_owns m (Some (Mounts (Wants x))) = omega (arith, hold_if (m == x.mount) (wa
 hold_owns m (Some (Mounts (Drops n p))) = omega arith
 hold_owns m (Some (Mounts (Changes x))) = omega (arith, hold_if (m == x.mount) (change_role x.step), change_hold x.step)
 hold_owns m (Some (Remounts x)) = remount_hold m x.step
+hold_owns m (Some (Writes x)) = omega (arith, write_hold m x)
+hold_owns m (Some phase) = omega arith
 
 remount_sets_owns : (s : RemountStep) → remount_sets s ≤ remount_owns s
 remount_sets_owns RemountLocks = omega arith
@@ -110,6 +120,7 @@ pub remounts_owns : (p : Option Phase) → remounts p ≤ owns p
 remounts_owns None = omega arith
 remounts_owns (Some (Mounts phase)) = omega arith
 remounts_owns (Some (Remounts x)) = remount_sets_owns x.step
+remounts_owns (Some phase) = omega arith
 
 remount_relies_owns : (s : RemountStep) → remount_owns s ≡ 0 → remount_relies s ≡ on_nothing
 remount_relies_owns RemountLocks h = refl
@@ -120,6 +131,7 @@ pub relied_owns : (p : Option Phase) → owns p ≡ 0 → relied p ≡ on_nothin
 relied_owns None h = refl
 relied_owns (Some (Mounts phase)) h = refl
 relied_owns (Some (Remounts x)) h = remount_relies_owns x.step h
+relied_owns (Some phase) h = refl
 
 module _ (c : Config) (w : World) (good : IsGood c w) (t : ℕ) (lt : t < c.tasks) where
   -- nobody else owns

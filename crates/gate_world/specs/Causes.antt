@@ -12,7 +12,13 @@ use Rattle.mount_counts.specs.declared.remounts.RemountStep.TheVariants.{LoadsSt
 use Rattle.mount_counts.specs.Roles.{counted}
 use Rattle.gate_world.specs.declared.config.Config.{Config}
 use Rattle.gate_world.specs.declared.work.Phase.{Phase}
-use Rattle.gate_world.specs.declared.work.Phase.TheVariants.{Mounts, Remounts}
+use Rattle.gate_world.specs.declared.work.Phase.TheVariants.{Mounts, Remounts, DownReads, UpReads, Callbacks, Writes}
+use Rattle.percpu_rwsem.specs.declared.readers.DownReadStep.{DownReadStep}
+use Rattle.percpu_rwsem.specs.declared.readers.DownReadStep.TheVariants.{LoadsBlock, LeavesBlocked}
+use Rattle.level_laws.specs.Roles.{closed}
+use Rattle.write_access.specs.declared.phases.WritePhase.{WritePhase}
+use Rattle.write_access.specs.declared.phases.WritePhase.TheVariants.{Takes, Wants as WriteWants, GivesBack}
+use Rattle.gate_world.specs.Levels.{sync_role_of, is_frozen_whole}
 use Rattle.gate_world.specs.Worlds.{World, Entry, happens, run, opening}
 use Rattle.gate_world.specs.Shown.{shown}
 use Rattle.gate_world.specs.Rules.{at_mount}
@@ -33,9 +39,15 @@ want_asks LoadsReadOnly = true
 want_asks LoadsSuperblock = true
 want_asks step = false
 
+-- the same of a write access
+abbrev pub write_asks : WritePhase → Bool
+write_asks (WriteWants x) = want_asks x.step
+write_asks x = false
+
 -- the next event of what a task is at is a load of the read-only question
 abbrev pub asks : Option Phase → Bool
 asks (Some (Mounts (Wants x))) = want_asks x.step
+asks (Some (Writes x)) = write_asks x
 asks phase = false
 
 -- the world in which a task last asked whether a mount is read-only
@@ -67,6 +79,34 @@ last_look t (w ∷ earlier) = if looks_at_stage (w.views t).phase then Some w el
 abbrev pub was_frozen : Config → Option World → Bool
 was_frozen c None = false
 was_frozen c (Some w) = not ((shown c w).stage == 0)
+
+-- the next event of a down-read is its load of `block`
+abbrev pub read_asks : DownReadStep → Bool
+read_asks LoadsBlock = true
+read_asks step = false
+
+-- the same of a write access
+abbrev pub write_asks_level : WritePhase → Bool
+write_asks_level (Takes m r) = read_asks r.step
+write_asks_level x = false
+
+-- the same of what a task is at
+abbrev pub asks_level : Option Phase → Bool
+asks_level (Some (DownReads r)) = read_asks r.step
+asks_level (Some (Writes x)) = write_asks_level x
+asks_level phase = false
+
+-- the world in which a task last asked whether a level is closed
+abbrev pub last_asked : ℕ → List World → Option World
+last_asked t [] = None
+last_asked t (w ∷ earlier) = if asks_level (w.views t).phase then Some w else last_asked t earlier
+
+-- the level was closed for the task there: the file system was frozen as a whole, or another task had closed the level
+abbrev pub WasClosed : Config → ℕ → ℕ → Option World → Type 0
+WasClosed c t i None = ⊥
+WasClosed c t i (Some w) =
+    (is_frozen_whole w.words ≡ 1) ⊎
+    ((y : ℕ) × (y < c.tasks) × (y ≡ t → ⊥) × (closed (sync_role_of i (w.views y).phase) ≡ 1))
 
 -- how many words of its sum a change has read, where its next event is a load of a word
 abbrev pub step_read : ChangeStep → Option ℕ
@@ -108,9 +148,17 @@ was_counted c m (w ∷ earlier) = nat_lt 0 (all_counted c m w) || was_counted c 
 abbrev pub SomeWasCounted : Config → ℕ → List World → Type 0
 SomeWasCounted c t worlds = (m : ℕ) × (m < c.mounts) × (was_counted c m (moments_of_sum t worlds) ≡ true)
 
+-- the same of a write access that is refused as read-only, or waits for level 1
+abbrev pub WriteHasCause : Config → ℕ → List World → WritePhase → Type 0
+WriteHasCause c t worlds (Takes m r) = r.step ≡ LeavesBlocked → WasClosed c t r.level (last_asked t worlds)
+WriteHasCause c t worlds (WriteWants x) = x.step ≡ CountsDown ReadOnly → was_read_only c x.mount (last_question t worlds) ≡ true
+WriteHasCause c t worlds (GivesBack m p refusal) = refusal ≡ ReadOnly → was_read_only c m (last_question t worlds) ≡ true
+WriteHasCause c t worlds x = Unit {0}
+
 -- A task whose next event is the one with which it is refused: as read-only, and the mount was so when the task last asked; as busy, and
 -- something was counted at the mount, for a remount at some mount, in some world from the load of its sum's first word to the load of its
--- last, or, for a remount, the stage was not 0 when it looked. Each kind of phase has a row of its own, so that a new one says its causes.
+-- last, or, for a remount, the stage was not 0 when it looked; again, or with which it waits, for a level, and the level was closed when the
+-- task last asked. Each kind of phase has a row of its own, so that a new one says its causes.
 abbrev pub HasCause : Config → ℕ → List World → Option Phase → Type 0
 HasCause c t worlds None = Unit {0}
 HasCause c t worlds (Some (Mounts (Wants x))) = x.step ≡ CountsDown ReadOnly → was_read_only c x.mount (last_question t worlds) ≡ true
@@ -118,6 +166,10 @@ HasCause c t worlds (Some (Mounts (Drops m p))) = Unit {0}
 HasCause c t worlds (Some (Mounts (Changes x))) = x.step ≡ Releases (Err Busy) → was_counted c x.mount (moments_of_sum t worlds) ≡ true
 HasCause c t worlds (Some (Remounts x)) =
     x.step ≡ RemountReleases (Err Busy) → (was_frozen c (last_look t worlds) ≡ true) ⊎ SomeWasCounted c t worlds
+HasCause c t worlds (Some (DownReads r)) = r.step ≡ LeavesBlocked → WasClosed c t r.level (last_asked t worlds)
+HasCause c t worlds (Some (UpReads u)) = Unit {0}
+HasCause c t worlds (Some (Callbacks b)) = Unit {0}
+HasCause c t worlds (Some (Writes x)) = WriteHasCause c t worlds x
 
 -- so it is of every task, after a schedule
 abbrev pub RefusalsHaveCauses : Config → List Entry → Type 0

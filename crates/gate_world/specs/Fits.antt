@@ -11,8 +11,16 @@ use Rattle.access_model.specs.declared.actions.Gate.TheVariants.{Mount, Level}
 use Rattle.access_model.specs.Actions.{mounts_after, levels_after}
 use Rattle.gate_world.specs.declared.config.Config.{Config}
 use Rattle.gate_world.specs.declared.work.Phase.{Phase}
-use Rattle.gate_world.specs.declared.work.Phase.TheVariants.{Mounts, Remounts}
-use Rattle.gate_world.specs.Operations.{holds_none}
+use Rattle.gate_world.specs.declared.work.Phase.TheVariants.{Mounts, Remounts, DownReads, UpReads, Callbacks, Writes}
+use Rattle.percpu_rwsem.specs.declared.readers.DownRead.{DownRead}
+use Rattle.percpu_rwsem.specs.declared.readers.DownReadStep.{DownReadStep}
+use Rattle.percpu_rwsem.specs.declared.readers.DownReadStep.TheVariants.{LeavesAdmitted}
+use Rattle.percpu_rwsem.specs.declared.callbacks.CallbackStep.{CallbackStep}
+use Rattle.percpu_rwsem.specs.declared.callbacks.CallbackStep.TheVariants.{AwaitsSections}
+use Rattle.level_laws.specs.Operations.{KnowsCallback}
+use Rattle.write_access.specs.declared.phases.WritePhase.{WritePhase}
+use Rattle.write_access.specs.declared.phases.WritePhase.TheVariants.{Takes, Wants as WriteWants, GivesBack, Drops as WriteDrops, Ends}
+use Rattle.gate_world.specs.Operations.{holds_none, holds_none_from}
 use Rattle.gate_world.specs.Remounts.{RemountFits}
 
 -- a sum in progress has a word more to read
@@ -28,11 +36,38 @@ MountFits c t held levels (Drop m p) = (m < c.mounts) × (p < c.processors) × (
 MountFits c t held levels (Change x) = (x.mount < c.mounts) × (x.task ≡ t) × (x.processors ≡ c.processors) × (holds_none levels ≡ true) ×
     SumFits c x.step
 
--- the same of a phase of any layer; a remount is of this task, of these numbers, and holds no level
+-- a down-read holds no level from its own up before its grant, and holds its own after it
+abbrev pub ReadStepFits : ℕ → (ℕ → Bool) → DownReadStep → Type 0
+ReadStepFits i levels LeavesAdmitted = levels i ≡ true
+ReadStepFits i levels step = holds_none_from i levels ≡ true
+
+-- its numbers are in range, and it is of this task
+abbrev pub ReadFits : Config → ℕ → (ℕ → Bool) → DownRead → Type 0
+ReadFits c t levels r = (1 ≤ r.level) × (r.level ≤ 3) × (r.cpu < c.processors) × (r.task ≡ t) × ReadStepFits r.level levels r.step
+
+-- a callback's grace period is among all tasks, and has a task more to look at
+abbrev pub GraceFits : ℕ → CallbackStep → Type 0
+GraceFits tasks (AwaitsSections grace) = (grace.tasks ≡ tasks) × (grace.task < tasks)
+GraceFits tasks step = Unit {0}
+
+-- a write access is at level 1, has room for an access at its mount until it has one, and holds the level once it is inside
+abbrev pub WriteFits : Config → ℕ → (ℕ → ℕ) → (ℕ → Bool) → WritePhase → Type 0
+WriteFits c t held levels (Takes m r) = ReadFits c t levels r × (r.level ≡ 1) × (m < c.mounts) × (held m < 1024)
+WriteFits c t held levels (WriteWants w) = MountFits c t held levels (Want w) × (levels 1 ≡ true)
+WriteFits c t held levels (GivesBack m p refusal) = (m < c.mounts) × (p < c.processors) × (levels 1 ≡ true)
+WriteFits c t held levels (WriteDrops m p) = MountFits c t held levels (Drop m p) × (levels 1 ≡ true)
+WriteFits c t held levels (Ends p) = (p < c.processors) × (levels 1 ≡ true)
+
+-- The same of a phase of any layer: a remount is of this task, of these numbers, and holds no level; an up-read holds its level; a callback
+-- is of all tasks, and knows the words of an exchange that is to come.
 abbrev pub PhaseFits : Config → ℕ → (ℕ → ℕ) → (ℕ → Bool) → Phase → Type 0
 PhaseFits c t held levels (Mounts phase) = MountFits c t held levels phase
 PhaseFits c t held levels (Remounts x) = (x.task ≡ t) × (x.processors ≡ c.processors) × (x.mounts ≡ c.mounts) × (x.nodes ≡ c.nodes) ×
     (holds_none levels ≡ true) × RemountFits c x.step
+PhaseFits c t held levels (DownReads r) = ReadFits c t levels r
+PhaseFits c t held levels (UpReads u) = (1 ≤ u.level) × (u.level ≤ 3) × (u.cpu < c.processors) × (levels u.level ≡ true)
+PhaseFits c t held levels (Callbacks b) = (1 ≤ b.level) × (b.level ≤ 3) × (b.tasks ≡ c.tasks) × GraceFits c.tasks b.step × KnowsCallback b.step
+PhaseFits c t held levels (Writes x) = WriteFits c t held levels x
 
 -- the same of what a task is at; nothing is asked where no operation is under way
 abbrev pub Fits : Config → ℕ → (ℕ → ℕ) → (ℕ → Bool) → Option Phase → Type 0

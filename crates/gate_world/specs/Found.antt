@@ -1,14 +1,16 @@
 -- What the events of a trace have found.
-use Rattle.std.specs.Prelude.{◌≡◌, ℕ, zero, suc, ◌%◌, ◌==◌, not, ◌&&◌, ◌||◌, Bool, true, false, if◌then◌else◌, ◌⊎◌, List, [], ◌∷◌, sum_by}
+use Rattle.std.specs.Prelude.{◌≡◌, ℕ, zero, suc, ◌%◌, ◌==◌, not, ◌&&◌, ◌||◌, Bool, true, false, if◌then◌else◌, ◌⊎◌, Option, Some, None, is_some, List, [], ◌∷◌, sum_by}
 use Rattle.cpu_words.specs.declared.names.WordName.{WordName}
-use Rattle.cpu_words.specs.declared.names.WordName.TheVariants.{Umount, Stage, SbFlags, Remount, MountFlags, MountCount, Node}
+use Rattle.cpu_words.specs.declared.names.WordName.TheVariants.{Umount, Stage, SbFlags, Remount, MountFlags, MountCount, Block, Sync, LevelCount, Section, Node}
 use Rattle.cpu_words.specs.declared.events.Touch.{Touch}
-use Rattle.cpu_words.specs.declared.events.Touch.TheVariants.{Load, Store, And, Cas}
+use Rattle.cpu_words.specs.declared.events.Touch.TheVariants.{Load, Store, Add, Sub, And, Cas}
 use Rattle.cpu_words.specs.declared.events.Event.{Event}
 use Rattle.cpu_words.specs.Hooks.{HookAnswer}
 use Rattle.access_model.specs.declared.actions.Action.{Action}
 use Rattle.access_model.specs.declared.actions.Action.TheVariants.{Clean}
 use Rattle.mount_counts.specs.Phases.{has_flag}
+use Rattle.percpu_rwsem.specs.declared.sync_word.SyncWord.{SyncWord}
+use Rattle.percpu_rwsem.specs.SyncWords.{unpack, on_claim}
 use Rattle.gate_world.specs.declared.views.Traced.{Traced}
 
 -- the touch is a load; a compare-exchange
@@ -145,3 +147,90 @@ clean_found word touch found earlier = earlier
 abbrev pub cleans : List Traced → List Action
 cleans [] = []
 cleans (e ∷ earlier) = clean_found e.event.word e.event.touch e.event.found (cleans earlier)
+
+-- the newest event passes this test
+abbrev pub newest : (Event → Bool) → List Traced → Bool
+newest test [] = false
+newest test (e ∷ earlier) = test e.event
+
+-- the event is a load that found a level's `block` set
+abbrev pub says_closed : ℕ → WordName → ℕ → Bool
+says_closed i (Block j) found = (j == i) && not (found == 0)
+says_closed i word found = false
+
+-- some load found it set
+abbrev pub finds_closed : ℕ → Event → Bool
+finds_closed i e = is_load e.touch && says_closed i e.word e.found
+
+-- of the trace
+abbrev pub found_closed : ℕ → List Traced → Bool
+found_closed i trace = some_event (finds_closed i) trace
+
+-- the event takes one from a count of a level
+abbrev pub takes_from : ℕ → WordName → Touch → Bool
+takes_from i (LevelCount j p) (Sub n) = j == i
+takes_from i word touch = false
+
+-- the newest event is that, and the one before it found `block` set
+abbrev pub backed_off : ℕ → List Traced → Bool
+backed_off i [] = false
+backed_off i (e ∷ earlier) = takes_from i e.event.word e.event.touch && newest (finds_closed i) earlier
+
+-- the event turns a section word
+abbrev pub turns_section : WordName → Touch → Bool
+turns_section (Section u) (Add n) = true
+turns_section word touch = false
+
+-- the newest event ends a section in which a level was found closed, and its count was taken back
+abbrev pub left_closed : ℕ → List Traced → Bool
+left_closed i [] = false
+left_closed i (e ∷ earlier) = turns_section e.event.word e.event.touch && backed_off i earlier
+
+-- the event adds to a count of this mount
+abbrev pub adds_to : ℕ → WordName → Touch → Bool
+adds_to m (MountCount n p) (Add k) = n == m
+adds_to m word touch = false
+
+-- the newest event found HOLD at this mount, and so did each before it, back to the addition to its count
+abbrev pub holds_since : ℕ → List Traced → Bool
+holds_since m [] = false
+holds_since m (e ∷ earlier) = finds_hold m e.event && (newest (λ d. adds_to m d.word d.touch) earlier || holds_since m earlier)
+
+-- the event is a load that found a task inside a read-side section
+abbrev pub says_inside : WordName → ℕ → Bool
+says_inside (Section u) found = found % 2 == 1
+says_inside word found = false
+
+-- of an event
+abbrev pub finds_inside : Event → Bool
+finds_inside e = is_load e.touch && says_inside e.word e.found
+
+-- a word in which no callback is queued that isn't taken
+abbrev pub none_queued : Option SyncWord → Bool
+none_queued None = false
+none_queued (Some word) = not (is_some (on_claim word))
+
+-- the load found no callback to take at this level
+abbrev pub says_none_queued : ℕ → WordName → ℕ → Bool
+says_none_queued i (Sync j) found = (j == i) && none_queued (unpack found)
+says_none_queued i word found = false
+
+-- of an event
+abbrev pub finds_none_queued : ℕ → Event → Bool
+finds_none_queued i e = is_load e.touch && says_none_queued i e.word e.found
+
+-- a compare-exchange that found what it expected
+abbrev pub exchanges : Touch → ℕ → Bool
+exchanges (Cas expect put) found = found == expect
+exchanges touch found = false
+
+-- of a level's sync word
+abbrev pub is_sync : ℕ → WordName → Bool
+is_sync i (Sync j) = j == i
+is_sync i word = false
+
+-- how many transitions of a level's sync word the trace has made
+abbrev pub transitions_made : ℕ → List Traced → ℕ
+transitions_made i [] = 0
+transitions_made i (e ∷ earlier) =
+    if is_sync i e.event.word && exchanges e.event.touch e.event.found then suc (transitions_made i earlier) else transitions_made i earlier

@@ -1,5 +1,5 @@
 -- The headline: what holds of every schedule.
-use Rattle.std.specs.Prelude.{◌≡◌, ℕ, ◌%◌, ◌<◌, false, Option, Some, None, Err, List, []}
+use Rattle.std.specs.Prelude.{◌≡◌, ℕ, ◌%◌, ◌<◌, ◌≤◌, false, if◌then◌else◌, Option, Some, None, Err, List, []}
 use Rattle.finite_sums.specs.Sums.{total}
 use Rattle.access_model.specs.Histories.{Done, end_of, IsLegal, IsMerge}
 use Rattle.access_model.specs.Laws.{NobodyHoldsClosed}
@@ -11,7 +11,12 @@ use Rattle.gate_world.specs.declared.config.Config.{Config}
 use Rattle.gate_world.specs.declared.operations.Op.{Op}
 use Rattle.gate_world.specs.declared.views.View.{View}
 use Rattle.gate_world.specs.Configs.{model_limits}
-use Rattle.gate_world.specs.Views.{held_at, HoldsAsBefore}
+use Rattle.gate_counts.specs.Gates.{counted as counted_of}
+use Rattle.gate_counts.specs.Levels.{level_as_gate}
+use Rattle.percpu_rwsem.specs.declared.sync_word.SyncWord.{SyncWord}
+use Rattle.percpu_rwsem.specs.SyncWords.{unpack}
+use Rattle.gate_world.specs.Levels.{at_level, is_frozen_whole}
+use Rattle.gate_world.specs.Views.{held_at, holds_level, HoldsAsBefore}
 use Rattle.gate_world.specs.Worlds.{World, Entry, happens, action_of, task_of, run, opening, history}
 use Rattle.gate_world.specs.Shown.{shown}
 use Rattle.gate_world.specs.Moments.{AllHaveMoments}
@@ -41,22 +46,38 @@ pub record IsOneRun (c : Config) (entries : List Entry) : Type 0 where
   pub lists : IsMerge (λ t. ((world_after c entries).views t).actions) (actions_so_far c entries)
   pub snapshots : AllHaveMoments c (actions_so_far c entries) (world_after c entries)
 
--- each mount's words sum to what is held and sought
-abbrev pub SumsHold : Config → World → Type 0
-SumsHold c w = (m : ℕ) → m < c.mounts → total c.processors (w.words.count m) % 18446744073709551616 ≡ total c.tasks
-    (λ t. counted (at_mount m (w.views t)))
+-- each mount's words sum to what is held and sought there, and so do each level's
+pub record SumsHold (c : Config) (w : World) : Type 0 where
+  pub mounts : (m : ℕ) → m < c.mounts → total c.processors (w.words.count m) % 18446744073709551616 ≡ total c.tasks
+      (λ t. counted (at_mount m (w.views t)))
+  pub levels : (i : ℕ) → 1 ≤ i → i ≤ 3 → total c.processors (w.words.level i) % 18446744073709551616 ≡ total c.tasks
+      (λ t. counted_of (level_as_gate (at_level i (w.views t))))
 
--- and, with no operation under way, to the accesses held
+-- to the accesses held
+pub record HeldSumsHold (c : Config) (w : World) : Type 0 where
+  pub mounts : (m : ℕ) → m < c.mounts → total c.processors (w.words.count m) % 18446744073709551616 ≡ total c.tasks
+      (λ t. held_at (w.views t) m)
+  pub levels : (i : ℕ) → 1 ≤ i → i ≤ 3 → total c.processors (w.words.level i) % 18446744073709551616 ≡ total c.tasks
+      (λ t. if holds_level (w.views t) i then 1 else 0)
+
+-- with no operation under way
 abbrev pub IdleSumsHold : Config → World → Type 0
-IdleSumsHold c w =
-    ((t : ℕ) → t < c.tasks → (w.views t).phase ≡ None) → (m : ℕ) → m < c.mounts →
-    total c.processors (w.words.count m) % 18446744073709551616 ≡ total c.tasks (λ t. held_at (w.views t) m)
+IdleSumsHold c w = ((t : ℕ) → t < c.tasks → (w.views t).phase ≡ None) → HeldSumsHold c w
 
--- no lock, no remount and no hold stands: `umount` is free, `remount` is clear, and so is HOLD, which is 2, at each mount
+-- a sync word whose callback nobody has taken
+abbrev pub IsUntaken : Option SyncWord → Type 0
+IsUntaken None = ⊥
+IsUntaken (Some word) = word.taken ≡ false
+
+-- No lock, no remount and no hold stands: `umount` is free, `remount` is clear, and so is HOLD, which is 2, at each mount. No section is
+-- under way, a level is closed only where the file system is frozen as a whole, and no callback is taken.
 pub record IsAtRest (c : Config) (w : World) : Type 0 where
   pub umount_free : w.words.umount ≡ 0
   pub remount_clear : w.words.remount ≡ 0
   pub hold_clear : (m : ℕ) → m < c.mounts → has_flag (w.words.flags m) 2 ≡ false
+  pub sections_even : (t : ℕ) → t < c.tasks → w.words.section t % 2 ≡ 0
+  pub levels_open : (i : ℕ) → 1 ≤ i → i ≤ 3 → w.words.block i ≡ is_frozen_whole w.words
+  pub callbacks_free : (i : ℕ) → 1 ≤ i → i ≤ 3 → IsUntaken (unpack (w.words.sync i))
 
 -- nothing is left behind: with no operation under way, none of them stands
 abbrev pub NothingIsLeft : Config → World → Type 0

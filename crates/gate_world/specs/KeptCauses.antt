@@ -13,9 +13,13 @@ use Rattle.mount_counts.specs.declared.remounts.RemountStep.{RemountStep}
 use Rattle.mount_counts.specs.declared.remounts.RemountStep.TheVariants.{Sums as RemountSums, GivesUp, Releases as RemountReleases}
 use Rattle.gate_world.specs.declared.config.Config.{Config}
 use Rattle.gate_world.specs.declared.work.Phase.{Phase}
-use Rattle.gate_world.specs.declared.work.Phase.TheVariants.{Mounts, Remounts}
+use Rattle.gate_world.specs.declared.work.Phase.TheVariants.{Mounts, Remounts, DownReads, Writes}
+use Rattle.percpu_rwsem.specs.declared.readers.DownReadStep.{DownReadStep}
+use Rattle.percpu_rwsem.specs.declared.readers.DownReadStep.TheVariants.{CountsDown as TakesBack, LeavesBlocked}
+use Rattle.write_access.specs.declared.phases.WritePhase.{WritePhase}
+use Rattle.write_access.specs.declared.phases.WritePhase.TheVariants.{Takes, Wants as WriteWants, GivesBack}
 use Rattle.gate_world.specs.Worlds.{World}
-use Rattle.gate_world.specs.Causes.{last_question, was_read_only, last_look, was_frozen, moments_of_sum, was_counted, SomeWasCounted}
+use Rattle.gate_world.specs.Causes.{last_question, was_read_only, last_look, was_frozen, moments_of_sum, was_counted, SomeWasCounted, last_asked, WasClosed}
 
 module _ (c : Config) (t : ℕ) (w : World) (earlier : List World) where
   -- a want that is to be refused as read-only: the mount was so when it last asked
@@ -48,11 +52,26 @@ module _ (c : Config) (t : ℕ) (w : World) (earlier : List World) where
   RemountCause (RemountReleases answer) = RemountAnswerCause answer
   RemountCause step = Unit {0}
 
+  -- a down-read that takes its count back, or leaves its section after that: the level was closed when it last asked
+  abbrev pub ReadCause : ℕ → DownReadStep → Type 0
+  ReadCause i TakesBack = WasClosed c t i (last_asked t (w ∷ earlier))
+  ReadCause i LeavesBlocked = WasClosed c t i (last_asked t (w ∷ earlier))
+  ReadCause i step = Unit {0}
+
+  -- a write access: as its gate's own operation; where it gives the level back, the mount was read-only when it last asked
+  abbrev pub WriteCause : WritePhase → Type 0
+  WriteCause (Takes m r) = ReadCause r.level r.step
+  WriteCause (WriteWants x) = WantCause x.mount x.step
+  WriteCause (GivesBack m p refusal) = WantCause m (CountsDown refusal)
+  WriteCause x = Unit {0}
+
   -- what is kept of the causes of what a task is at
   abbrev pub CauseOf : Option Phase → Type 0
   CauseOf (Some (Mounts (Wants x))) = WantCause x.mount x.step
   CauseOf (Some (Mounts (Changes x))) = ChangeCause x.mount x.step
   CauseOf (Some (Remounts x)) = RemountCause x.step
+  CauseOf (Some (DownReads r)) = ReadCause r.level r.step
+  CauseOf (Some (Writes x)) = WriteCause x
   CauseOf phase = Unit {0}
 
 -- and of every task

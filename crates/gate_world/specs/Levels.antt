@@ -1,5 +1,5 @@
 -- Freeze levels: what each predicate of one reads of the words and of each task's view.
-use Rattle.std.specs.Prelude.{◌≡◌, ℕ, ◌+◌, ◌%◌, ◌<◌, ◌==◌, ◌&&◌, if◌then◌else◌, Option, Some, None, List, [], ◌∷◌}
+use Rattle.std.specs.Prelude.{◌≡◌, ℕ, ◌+◌, ◌%◌, ◌<◌, ◌==◌, ◌&&◌, if◌then◌else◌, Bool, true, false, Option, Some, None, List, [], ◌∷◌}
 use Rattle.finite_sums.specs.Sums.{update}
 use Rattle.cpu_words.specs.declared.names.WordName.{WordName}
 use Rattle.cpu_words.specs.declared.names.WordName.TheVariants.{LevelCount}
@@ -7,10 +7,16 @@ use Rattle.cpu_words.specs.declared.events.Touch.{Touch}
 use Rattle.cpu_words.specs.declared.events.Touch.TheVariants.{Add, Sub}
 use Rattle.cpu_words.specs.declared.events.Event.{Event}
 use Rattle.cpu_words.specs.Words.{Words}
-use Rattle.gate_counts.specs.Levels.{LevelRole, Out as CountsNot, LevelView}
+use Rattle.gate_counts.specs.Levels.{LevelRole, Out as CountsNot, Seeking, BackingOff, LevelView}
 use Rattle.level_laws.specs.Roles.{SyncRole, Out as IsApart}
+use Rattle.level_laws.specs.Operations.{down_read_role, down_read_inside, callback_role}
+use Rattle.percpu_rwsem.specs.declared.readers.DownRead.{DownRead}
+use Rattle.percpu_rwsem.specs.declared.readers.DownReadStep.{DownReadStep}
+use Rattle.percpu_rwsem.specs.declared.readers.DownReadStep.TheVariants.{LoadsBlock, CountsDown}
+use Rattle.write_access.specs.declared.phases.WritePhase.{WritePhase}
+use Rattle.write_access.specs.declared.phases.WritePhase.TheVariants.{Takes}
 use Rattle.gate_world.specs.declared.work.Phase.{Phase}
-use Rattle.gate_world.specs.declared.work.Phase.TheVariants.{Mounts, Remounts}
+use Rattle.gate_world.specs.declared.work.Phase.TheVariants.{Mounts, Remounts, DownReads, UpReads, Callbacks, Writes}
 use Rattle.gate_world.specs.declared.views.View.{View}
 use Rattle.gate_world.specs.Views.{holds_level}
 
@@ -34,23 +40,66 @@ abbrev pub level_taken_by : List Event → ℕ → ℕ → ℕ
 level_taken_by [] = λ i p. 0
 level_taken_by (e ∷ earlier) = level_taken_after e.word e.touch (level_taken_by earlier)
 
--- what a task is doing at a level's counts: no phase of these layers counts there
+-- a role at one level alone
+abbrev pub count_role_if : Bool → LevelRole → LevelRole
+count_role_if true r = r
+count_role_if false r = CountsNot
+
+-- the same of its rcu_sync
+abbrev pub sync_role_if : Bool → SyncRole → SyncRole
+sync_role_if true r = r
+sync_role_if false r = IsApart
+
+-- what a step of a down-read is doing at its level's counts, on this processor: on the fast path it has added nothing before its grant
+abbrev pub read_count_role : ℕ → DownReadStep → LevelRole
+read_count_role p LoadsBlock = Seeking p
+read_count_role p CountsDown = BackingOff p
+read_count_role p step = CountsNot
+
+-- the same of a write access, which is at a level's counts only where it goes inside
+abbrev pub write_count_role : ℕ → WritePhase → LevelRole
+write_count_role i (Takes m r) = count_role_if (i == r.level) (read_count_role r.cpu r.step)
+write_count_role i x = CountsNot
+
+-- what a task is doing at a level's counts
 abbrev pub level_role_of : ℕ → Option Phase → LevelRole
 level_role_of i None = CountsNot
 level_role_of i (Some (Mounts phase)) = CountsNot
 level_role_of i (Some (Remounts x)) = CountsNot
+level_role_of i (Some (DownReads r)) = count_role_if (i == r.level) (read_count_role r.cpu r.step)
+level_role_of i (Some (UpReads u)) = CountsNot
+level_role_of i (Some (Callbacks b)) = CountsNot
+level_role_of i (Some (Writes x)) = write_count_role i x
 
--- and at its rcu_sync: nothing either
+-- a write access at a level's rcu_sync
+abbrev pub write_sync_role : ℕ → WritePhase → SyncRole
+write_sync_role i (Takes m r) = sync_role_if (i == r.level) (down_read_role r.step)
+write_sync_role i x = IsApart
+
+-- what a task is doing at a level's rcu_sync
 abbrev pub sync_role_of : ℕ → Option Phase → SyncRole
 sync_role_of i None = IsApart
 sync_role_of i (Some (Mounts phase)) = IsApart
 sync_role_of i (Some (Remounts x)) = IsApart
+sync_role_of i (Some (DownReads r)) = sync_role_if (i == r.level) (down_read_role r.step)
+sync_role_of i (Some (UpReads u)) = IsApart
+sync_role_of i (Some (Callbacks b)) = sync_role_if (i == b.level) (callback_role b.step)
+sync_role_of i (Some (Writes x)) = write_sync_role i x
 
--- 1 while it is inside a read-side section: no phase of these layers is
+-- 1 while a write access is inside a read-side section
+abbrev pub write_inside : WritePhase → ℕ
+write_inside (Takes m r) = down_read_inside r.step
+write_inside x = 0
+
+-- the same of what a task is at
 abbrev pub inside : Option Phase → ℕ
 inside None = 0
 inside (Some (Mounts phase)) = 0
 inside (Some (Remounts x)) = 0
+inside (Some (DownReads r)) = down_read_inside r.step
+inside (Some (UpReads u)) = 0
+inside (Some (Callbacks b)) = 0
+inside (Some (Writes x)) = write_inside x
 
 -- what a level's counts read of a view
 abbrev pub at_level : ℕ → View → LevelView

@@ -1,11 +1,12 @@
 -- One row for each operation: all that is said of it apart from its events.
-use Rattle.std.specs.Prelude.{◌≡◌, ◌≢◌, ◌⊎◌, ℕ, ◌+◌, ◌<◌, Bool, true, false, not, ◌&&◌, nat_lt, if◌then◌else◌, Option, Some, None, Result, Ok, Err, List, [], ◌∷◌, ◌++◌}
+use Rattle.std.specs.Prelude.{◌≡◌, ◌≢◌, ◌⊎◌, ℕ, ◌+◌, ◌<◌, Bool, true, false, not, ◌&&◌, ◌||◌, nat_lt, if◌then◌else◌, Option, Some, None, Result, Ok, Err, List, [], ◌∷◌, ◌++◌}
 use Rattle.access_model.specs.declared.actions.Action.{Action}
 use Rattle.access_model.specs.declared.actions.Action.TheVariants.{Grant, Return, MountRo, MountRw, SbRo, SbRw}
-use Rattle.access_model.specs.declared.actions.Gate.TheVariants.{Mount}
+use Rattle.access_model.specs.declared.actions.Gate.TheVariants.{Mount, Level}
 use Rattle.access_model.specs.declared.errors.GateError.{GateError}
 use Rattle.access_model.specs.declared.errors.GateError.TheVariants.{Again, Busy, ReadOnly, Hook}
 use Rattle.access_model.specs.declared.replies.Reply.{Reply}
+use Rattle.access_model.specs.declared.replies.Reply.TheVariants.{Ran}
 use Rattle.mount_counts.specs.declared.phases.MountPhase.TheVariants.{Want as Wants, Drop as Drops, Change as Changes}
 use Rattle.mount_counts.specs.declared.phases.WantStep.TheVariants.{CountsUp}
 use Rattle.mount_counts.specs.declared.phases.ChangeStep.TheVariants.{Locks}
@@ -14,9 +15,13 @@ use Rattle.cpu_words.specs.declared.names.WordName.{WordName}
 use Rattle.cpu_words.specs.declared.names.WordName.TheVariants.{Umount, Remount}
 use Rattle.gate_world.specs.declared.config.Config.{Config}
 use Rattle.gate_world.specs.declared.operations.Op.{Op}
-use Rattle.gate_world.specs.declared.operations.Op.TheVariants.{Want, DropMount, ChangeMount, RemountSb}
+use Rattle.gate_world.specs.declared.operations.Op.TheVariants.{Want, DropMount, ChangeMount, RemountSb, Start, End, WantWrite, DropWrite, Callback}
 use Rattle.gate_world.specs.declared.work.Phase.{Phase}
-use Rattle.gate_world.specs.declared.work.Phase.TheVariants.{Mounts, Remounts}
+use Rattle.percpu_rwsem.specs.declared.readers.DownReadStep.TheVariants.{EntersSection}
+use Rattle.percpu_rwsem.specs.declared.callbacks.CallbackStep.TheVariants.{Claims}
+use Rattle.percpu_rwsem.specs.declared.transitions.Transition.TheVariants.{Loads}
+use Rattle.write_access.specs.declared.phases.WritePhase.TheVariants.{Takes, Drops as WriteDrops}
+use Rattle.gate_world.specs.declared.work.Phase.TheVariants.{Mounts, Remounts, DownReads, UpReads, Callbacks, Writes}
 use Rattle.gate_world.specs.declared.views.Traced.{Traced}
 use Rattle.gate_world.specs.Found.{
   found_read_only,
@@ -33,6 +38,13 @@ use Rattle.gate_world.specs.Found.{
   sum_loaded,
   ReadAnswer,
   cleans,
+  newest,
+  found_closed,
+  left_closed,
+  holds_since,
+  finds_inside,
+  finds_none_queued,
+  transitions_made,
 }
 
 -- what is said of an operation
@@ -53,6 +65,8 @@ pub record OpRow : Type 1 where
   pub actions : Result Reply GateError → List Traced → List Action
   -- a refusal has its cause in the trace, and there is no other refusal
   pub IsHonest : Config → GateError → List Traced → Type 0
+  -- a reply says what the trace found
+  pub IsTold : Reply → List Traced → Type 0
   -- it may report that it waits after these events
   pub MayWait : List Traced → Type 0
 
@@ -82,6 +96,7 @@ want_row m p wait = record {
   most_events = λ c. if wait then None else Some 6;
   actions = λ answer trace. where_done (Grant (Mount m) ∷ []) answer;
   IsHonest = λ c refusal trace. want_honest m wait refusal trace;
+  IsTold = λ reply trace. Unit {0};
   MayWait = λ trace. (wait ≡ true) × (looks_again (finds_hold m) trace ≡ true);
 }
 
@@ -96,6 +111,7 @@ drop_row m p = record {
   most_events = λ c. Some 1;
   actions = λ answer trace. where_done (Return (Mount m) ∷ []) answer;
   IsHonest = λ c refusal trace. ⊥;
+  IsTold = λ reply trace. Unit {0};
   MayWait = λ trace. ⊥;
 }
 
@@ -136,6 +152,7 @@ change_row m read_only wait = record {
   most_events = λ c. if wait then None else Some (c.processors + 7);
   actions = λ answer trace. where_done (unless_so read_only (found_read_only m trace) m) answer;
   IsHonest = λ c refusal trace. change_honest c m wait refusal trace;
+  IsTold = λ reply trace. Unit {0};
   MayWait = λ trace. (wait ≡ true) × (each_event finds_taken trace ≡ true);
 }
 
@@ -178,7 +195,114 @@ remount_row read_only = record {
   most_events = λ c. None;
   actions = λ answer trace. remount_adds read_only answer trace;
   IsHonest = λ c refusal trace. remount_honest c read_only refusal trace;
+  IsTold = λ reply trace. Unit {0};
   MayWait = λ trace. each_event finds_taken trace ≡ true;
+}
+
+-- there is such a level
+abbrev pub is_level_number : ℕ → Bool
+is_level_number i = nat_lt 0 i && nat_lt i 4
+
+-- with these levels held, no level from this one up is
+abbrev pub holds_none_from : ℕ → (ℕ → Bool) → Bool
+holds_none_from i levels =
+    (nat_lt 1 i || not (levels 1)) && ((nat_lt 2 i || not (levels 2)) && (nat_lt 3 i || not (levels 3)))
+
+-- a start is refused again where it found the level closed and doesn't wait
+abbrev start_honest : ℕ → Bool → GateError → List Traced → Type 0
+start_honest i wait Again trace = (wait ≡ false) × (found_closed i trace ≡ true)
+start_honest i wait refusal trace = ⊥
+
+-- a start that is granted has added its grant; one that waits has found the level closed, taken its count back and left its section
+abbrev start_row : ℕ → ℕ → Bool → OpRow
+start_row i p wait = record {
+  first = λ c t. DownReads (record { level = i; cpu = p; task = t; wait = wait; step = EntersSection });
+  in_range = λ c. is_level_number i && nat_lt p c.processors;
+  in_order = λ c held levels. holds_none_from i levels;
+  within_room = λ held. true;
+  waits = wait;
+  most_events = λ c. if wait then None else Some 6;
+  actions = λ answer trace. where_done (Grant (Level i) ∷ []) answer;
+  IsHonest = λ c refusal trace. start_honest i wait refusal trace;
+  IsTold = λ reply trace. Unit {0};
+  MayWait = λ trace. (wait ≡ true) × (left_closed i trace ≡ true);
+}
+
+-- an end has added its return, and is never refused
+abbrev end_row : ℕ → ℕ → OpRow
+end_row i p = record {
+  first = λ c t. UpReads (record { level = i; cpu = p });
+  in_range = λ c. is_level_number i && nat_lt p c.processors;
+  in_order = λ c held levels. levels i;
+  within_room = λ held. true;
+  waits = false;
+  most_events = λ c. Some 1;
+  actions = λ answer trace. where_done (Return (Level i) ∷ []) answer;
+  IsHonest = λ c refusal trace. ⊥;
+  IsTold = λ reply trace. Unit {0};
+  MayWait = λ trace. ⊥;
+}
+
+-- a taking of write access has added the grants of both gates; where it is refused, the grant of level 1 and its return
+abbrev write_adds : ℕ → Result Reply GateError → List Action
+write_adds m (Ok reply) = Grant (Mount m) ∷ (Grant (Level 1) ∷ [])
+write_adds m (Err refusal) = Return (Level 1) ∷ (Grant (Level 1) ∷ [])
+
+-- it is refused as read-only alone, where it found the mount so
+abbrev write_honest : ℕ → GateError → List Traced → Type 0
+write_honest m ReadOnly trace = found_read_only m trace ≡ true
+write_honest m refusal trace = ⊥
+
+-- it waits for level 1 as a start does, and then for the mount as a want does
+abbrev want_write_row : ℕ → ℕ → OpRow
+want_write_row m p = record {
+  first = λ c t. Writes (Takes m (record { level = 1; cpu = p; task = t; wait = true; step = EntersSection }));
+  in_range = λ c. nat_lt m c.mounts && nat_lt p c.processors;
+  in_order = λ c held levels. holds_none levels;
+  within_room = λ held. nat_lt (held m) 1024;
+  waits = true;
+  most_events = λ c. None;
+  actions = λ answer trace. write_adds m answer;
+  IsHonest = λ c refusal trace. write_honest m refusal trace;
+  IsTold = λ reply trace. Unit {0};
+  MayWait = λ trace. (left_closed 1 trace ≡ true) ⊎ (holds_since m trace ≡ true);
+}
+
+-- a return of write access has added both returns, and is never refused
+abbrev drop_write_row : ℕ → ℕ → OpRow
+drop_write_row m p = record {
+  first = λ c t. Writes (WriteDrops m p);
+  in_range = λ c. nat_lt m c.mounts && nat_lt p c.processors;
+  in_order = λ c held levels. levels 1 && nat_lt 0 (held m);
+  within_room = λ held. true;
+  waits = false;
+  most_events = λ c. Some 2;
+  actions = λ answer trace. where_done (Return (Level 1) ∷ (Return (Mount m) ∷ [])) answer;
+  IsHonest = λ c refusal trace. ⊥;
+  IsTold = λ reply trace. Unit {0};
+  MayWait = λ trace. ⊥;
+}
+
+-- A callback ran where it has made two transitions, its claim and its own; where it says that none did, it has made none, and its newest
+-- event found none queued.
+abbrev callback_told : ℕ → Reply → List Traced → Type 0
+callback_told i (Ran true) trace = transitions_made i trace ≡ 2
+callback_told i (Ran false) trace = (transitions_made i trace ≡ 0) × (newest (finds_none_queued i) trace ≡ true)
+callback_told i reply trace = ⊥
+
+-- a callback adds no action and is never refused; it waits where it found a task inside a section
+abbrev callback_row : ℕ → OpRow
+callback_row i = record {
+  first = λ c t. Callbacks (record { level = i; tasks = c.tasks; step = Claims Loads });
+  in_range = λ c. is_level_number i;
+  in_order = λ c held levels. true;
+  within_room = λ held. true;
+  waits = true;
+  most_events = λ c. None;
+  actions = λ answer trace. [];
+  IsHonest = λ c refusal trace. ⊥;
+  IsTold = λ reply trace. callback_told i reply trace;
+  MayWait = λ trace. newest finds_inside trace ≡ true;
 }
 
 -- the row of each operation
@@ -187,3 +311,8 @@ row (Want m p wait) = want_row m p wait
 row (DropMount m p) = drop_row m p
 row (ChangeMount m read_only wait) = change_row m read_only wait
 row (RemountSb read_only) = remount_row read_only
+row (Start i p wait) = start_row i p wait
+row (End i p) = end_row i p
+row (WantWrite m p) = want_write_row m p
+row (DropWrite m p) = drop_write_row m p
+row (Callback i) = callback_row i

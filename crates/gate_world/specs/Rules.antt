@@ -15,7 +15,9 @@ use Rattle.mount_counts.specs.declared.phases.ChangeStep.TheVariants.{Locks, Sum
 use Rattle.mount_counts.specs.Roles.{Role, Out, Asking, Cleared, PastRemount, PastFlags, BackingOff, Summing, Empty, Leaving, MountView, MountHolds}
 use Rattle.gate_world.specs.declared.config.Config.{Config}
 use Rattle.gate_world.specs.declared.work.Phase.{Phase}
-use Rattle.gate_world.specs.declared.work.Phase.TheVariants.{Mounts, Remounts}
+use Rattle.gate_world.specs.declared.work.Phase.TheVariants.{Mounts, Remounts, DownReads, UpReads, Callbacks, Writes}
+use Rattle.write_access.specs.declared.phases.WritePhase.{WritePhase}
+use Rattle.write_access.specs.declared.phases.WritePhase.TheVariants.{Wants as WriteWants}
 use Rattle.gate_world.specs.declared.views.View.{View}
 use Rattle.gate_world.specs.Configs.{model_limits}
 use Rattle.gate_world.specs.Views.{held_at, holds_level, added_by, taken_by}
@@ -57,10 +59,19 @@ mount_role m (Wants w) = role_if (m == w.mount) (want_role w.cpu w.step)
 mount_role m (Changes x) = role_if (m == x.mount) (change_role x.step)
 mount_role m phase = Out
 
--- the role at a mount of a phase of any layer
+-- the role at a mount of a write access: it has one where it wants the mount
+abbrev pub write_role : ℕ → WritePhase → Role
+write_role m (WriteWants w) = role_if (m == w.mount) (want_role w.cpu w.step)
+write_role m x = Out
+
+-- the role at a mount of a phase of any layer: what is at a level alone has none
 abbrev pub role_at : ℕ → Phase → Role
 role_at m (Mounts phase) = mount_role m phase
 role_at m (Remounts x) = remount_role m x.step
+role_at m (DownReads r) = Out
+role_at m (UpReads u) = Out
+role_at m (Callbacks b) = Out
+role_at m (Writes x) = write_role m x
 
 -- the role at a mount of what a task is at
 abbrev pub role_of : ℕ → Option Phase → Role
@@ -87,18 +98,30 @@ abbrev pub owns : Option Phase → ℕ
 owns None = 0
 owns (Some (Mounts phase)) = mount_owns phase
 owns (Some (Remounts x)) = remount_owns x.step
+owns (Some (DownReads r)) = 0
+owns (Some (UpReads u)) = 0
+owns (Some (Callbacks b)) = 0
+owns (Some (Writes x)) = 0
 
 -- 1 while an operation has `remount` set: only a remount does
 abbrev pub remounts : Option Phase → ℕ
 remounts None = 0
 remounts (Some (Mounts phase)) = 0
 remounts (Some (Remounts x)) = remount_sets x.step
+remounts (Some (DownReads r)) = 0
+remounts (Some (UpReads u)) = 0
+remounts (Some (Callbacks b)) = 0
+remounts (Some (Writes x)) = 0
 
 -- what a task relies on at what it is at
 abbrev pub relied : Option Phase → Reliance
 relied None = on_nothing
 relied (Some (Mounts phase)) = on_nothing
 relied (Some (Remounts x)) = remount_relies x.step
+relied (Some (DownReads r)) = on_nothing
+relied (Some (UpReads u)) = on_nothing
+relied (Some (Callbacks b)) = on_nothing
+relied (Some (Writes x)) = on_nothing
 
 -- what the owner's words and the levels say of a task is the same at both phases
 pub record IsSteady (p q : Option Phase) : Type 0 where

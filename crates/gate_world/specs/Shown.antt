@@ -7,7 +7,7 @@ use Rattle.access_model.specs.States.{State}
 use Rattle.mount_counts.specs.Roles.{ro_bit}
 use Rattle.gate_world.specs.declared.config.Config.{Config}
 use Rattle.gate_world.specs.declared.work.Phase.{Phase}
-use Rattle.gate_world.specs.declared.work.Phase.TheVariants.{Mounts, Remounts}
+use Rattle.gate_world.specs.declared.work.Phase.TheVariants.{Mounts, Remounts, DownReads, UpReads, Callbacks, Writes}
 use Rattle.gate_world.specs.Views.{held_at, holds_level}
 use Rattle.gate_world.specs.Worlds.{World}
 
@@ -29,6 +29,10 @@ abbrev pub closing : ℕ → Option Phase → ℕ
 closing i None = 0
 closing i (Some (Mounts phase)) = 0
 closing i (Some (Remounts x)) = 0
+closing i (Some (DownReads r)) = 0
+closing i (Some (UpReads u)) = 0
+closing i (Some (Callbacks b)) = 0
+closing i (Some (Writes x)) = 0
 
 -- 1 where a level's `block` is set and no task is still closing it
 abbrev pub is_passed : Config → World → ℕ → ℕ

@@ -19,9 +19,13 @@ actions_of op answer trace = (row op).actions answer trace
 abbrev pub IsHonest : Config → Op → GateError → List Traced → Type 0
 IsHonest c op refusal trace = (row op).IsHonest c refusal trace
 
--- an answer is honest where it is a reply, or a refusal that has its cause
+-- a reply says what the trace found
+abbrev pub IsTold : Op → Reply → List Traced → Type 0
+IsTold op reply trace = (row op).IsTold reply trace
+
+-- an answer is honest where it is a reply that says what was found, or a refusal that has its cause
 abbrev pub IsHonestAnswer : Config → Op → Result Reply GateError → List Traced → Type 0
-IsHonestAnswer c op (Ok reply) trace = Unit {0}
+IsHonestAnswer c op (Ok reply) trace = IsTold op reply trace
 IsHonestAnswer c op (Err refusal) trace = IsHonest c op refusal trace
 
 -- the most events of an operation, where it waits for nobody

@@ -1,5 +1,5 @@
 -- Waits: where an event reports that its operation waits, another task has what it waits for.
-use Rattle.std.specs.Prelude.{◌≡◌, ℕ, ◌<◌, Some, List}
+use Rattle.std.specs.Prelude.{◌≡◌, ℕ, ◌<◌, Some, List, [], ◌∷◌}
 use Rattle.access_model.specs.declared.replies.Next.{Next}
 use Rattle.access_model.specs.declared.replies.Next.TheVariants.{Go, Wait, Done}
 use Rattle.cpu_words.specs.Hooks.{HookAnswer}
@@ -8,7 +8,11 @@ use Rattle.mount_counts.specs.declared.phases.MountPhase.TheVariants.{Want as Wa
 use Rattle.mount_counts.specs.Roles.{has_hold}
 use Rattle.gate_world.specs.declared.config.Config.{Config}
 use Rattle.gate_world.specs.declared.work.Phase.{Phase}
-use Rattle.gate_world.specs.declared.work.Phase.TheVariants.{Mounts, Remounts}
+use Rattle.gate_world.specs.declared.work.Phase.TheVariants.{Mounts, Remounts, DownReads, UpReads, Callbacks, Writes}
+use Rattle.write_access.specs.declared.phases.WritePhase.{WritePhase}
+use Rattle.write_access.specs.declared.phases.WritePhase.TheVariants.{Takes, Wants as WriteWants}
+use Rattle.gate_world.specs.Levels.{inside}
+use Rattle.gate_world.specs.Causes.{trail_of, last_asked, WasClosed}
 use Rattle.gate_world.specs.Work.{after_of}
 use Rattle.gate_world.specs.Worlds.{World, Entry, found_at}
 use Rattle.gate_world.specs.Rules.{role_of, owns}
@@ -20,10 +24,15 @@ MountIsWaitedFor w (Wants x) y = has_hold (role_of x.mount (w.views y).phase) �
 MountIsWaitedFor w (Drops m p) y = ⊥
 MountIsWaitedFor w (Changes x) y = owns (w.views y).phase ≡ 1
 
--- the same of a phase of any layer: a remount waits for who has `umount`
+-- The same of a phase of any layer: a remount waits for who has `umount`, a callback for who is inside a read-side section. A reader of a
+-- level waits for nobody at its own event: it has found the level closed before.
 abbrev pub IsWaitedFor : World → Phase → ℕ → Type 0
 IsWaitedFor w (Mounts phase) y = MountIsWaitedFor w phase y
 IsWaitedFor w (Remounts x) y = owns (w.views y).phase ≡ 1
+IsWaitedFor w (DownReads r) y = ⊥
+IsWaitedFor w (UpReads u) y = ⊥
+IsWaitedFor w (Callbacks b) y = inside (w.views y).phase ≡ 1
+IsWaitedFor w (Writes x) y = ⊥
 
 -- another task has what task t, which is at this phase, waits for
 pub record HasCulprit (c : Config) (w : World) (t : ℕ) (phase : Phase) : Type 0 where
@@ -32,15 +41,37 @@ pub record HasCulprit (c : Config) (w : World) (t : ℕ) (phase : Phase) : Type 
   pub other : task ≡ t → ⊥
   pub stands : IsWaitedFor w phase task
 
--- an event after which this comes is no wait, or its phase waits for another task
-abbrev pub WaitsForAnother : Config → World → ℕ → Phase → Next Phase → Type 0
-WaitsForAnother c w t phase (Go next) = Unit {0}
-WaitsForAnother c w t phase (Wait next) = HasCulprit c w t phase
-WaitsForAnother c w t phase (Done answer) = Unit {0}
+-- the same of a write access: for level 1 as a reader, for the mount as a want
+abbrev pub WriteHasCulprit : Config → World → List World → ℕ → WritePhase → Type 0
+WriteHasCulprit c w earlier t (Takes m r) = WasClosed c t r.level (last_asked t (w ∷ earlier))
+WriteHasCulprit c w earlier t (WriteWants x) = HasCulprit c w t (Mounts (Wants x))
+WriteHasCulprit c w earlier t x = ⊥
 
--- every wait has a culprit: after any schedule, where the next event of a task finds what makes it wait, another task has what it waits
--- for, in the world in which the event is done
+-- what makes a phase wait, with the present world and the earlier ones: for a reader, that the level was closed when it last asked; for
+-- any other, that another task has now what it waits for
+abbrev pub HasCulpritSince : Config → World → List World → ℕ → Phase → Type 0
+HasCulpritSince c w earlier t (Mounts phase) = HasCulprit c w t (Mounts phase)
+HasCulpritSince c w earlier t (Remounts x) = HasCulprit c w t (Remounts x)
+HasCulpritSince c w earlier t (DownReads r) = WasClosed c t r.level (last_asked t (w ∷ earlier))
+HasCulpritSince c w earlier t (UpReads u) = ⊥
+HasCulpritSince c w earlier t (Callbacks b) = HasCulprit c w t (Callbacks b)
+HasCulpritSince c w earlier t (Writes x) = WriteHasCulprit c w earlier t x
+
+-- an event after which this comes is no wait, or its phase waits for what another task has or had
+abbrev pub WaitsForAnother : Config → World → List World → ℕ → Phase → Next Phase → Type 0
+WaitsForAnother c w earlier t phase (Go next) = Unit {0}
+WaitsForAnother c w earlier t phase (Wait next) = HasCulpritSince c w earlier t phase
+WaitsForAnother c w earlier t phase (Done answer) = Unit {0}
+
+-- the same of the worlds of a schedule, the newest first
+abbrev pub HasCulpritAmong : Config → List World → ℕ → Phase → Type 0
+HasCulpritAmong c [] t phase = ⊥
+HasCulpritAmong c (w ∷ earlier) t phase = HasCulpritSince c w earlier t phase
+
+-- Every wait has a culprit: after any schedule, where the next event of a task reports that it waits, another task has what it waits for, in
+-- the world in which the event is done; or, where it waits for a level, that was closed in the world in which the task last asked.
 abbrev pub EachWaitHasCulprit : Config → List Entry → Type 0
 EachWaitHasCulprit c entries =
     (t : ℕ) (phase again : Phase) (hook : HookAnswer) → t < c.tasks → ((world_after c entries).views t).phase ≡ Some phase →
-    (after_of phase (found_at (world_after c entries).words phase hook) hook).0 ≡ Wait again → HasCulprit c (world_after c entries) t phase
+    (after_of phase (found_at (world_after c entries).words phase hook) hook).0 ≡ Wait again →
+    HasCulpritAmong c (trail_of c entries) t phase

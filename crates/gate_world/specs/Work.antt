@@ -13,17 +13,39 @@ use Rattle.mount_counts.specs.declared.remounts.RemountStep.TheVariants.{SetsWri
 use Rattle.freeze_levels.specs.declared.hooks.HookKind.{HookKind}
 use Rattle.freeze_levels.specs.declared.hooks.HookKind.TheVariants.{Reconfigure}
 use Rattle.gate_world.specs.declared.work.Phase.{Phase}
-use Rattle.gate_world.specs.declared.work.Phase.TheVariants.{Mounts, Remounts}
+use Rattle.mount_counts.specs.declared.phases.MountPhase.TheVariants.{Want as PlainWant, Drop as PlainDrop}
+use Rattle.percpu_rwsem.specs.Readers.{down_read_next, down_read_after, up_read_next, up_read_after}
+use Rattle.percpu_rwsem.specs.Callbacks.{callback_next, callback_after}
+use Rattle.write_access.specs.declared.phases.WritePhase.{WritePhase}
+use Rattle.write_access.specs.declared.phases.WritePhase.TheVariants.{Takes, Wants, GivesBack, Drops, Ends}
+use Rattle.write_access.specs.Phases.{next as write_next, after as write_after, leaves_on}
+use Rattle.gate_world.specs.declared.work.Phase.TheVariants.{Mounts, Remounts, DownReads, UpReads, Callbacks, Writes}
 
 -- the word and the touch of the next event
 abbrev pub next_of : Phase → HookAnswer → WordName × Touch
 next_of (Mounts phase) hook = next phase hook
 next_of (Remounts x) hook = remount_next x x.step hook
+next_of (DownReads r) hook = down_read_next r r.step
+next_of (UpReads u) hook = up_read_next u
+next_of (Callbacks b) hook = callback_next b b.step
+next_of (Writes x) hook = write_next x
 
 -- what comes after the event that found this value, and the action that the event adds
 abbrev pub after_of : Phase → ℕ → HookAnswer → Next Phase × Option Action
 after_of (Mounts phase) found hook = (map_next Mounts (after phase found hook).0, (after phase found hook).1)
 after_of (Remounts x) found hook = (map_next Remounts (remount_after x x.step found hook).0, (remount_after x x.step found hook).1)
+after_of (DownReads r) found hook = (map_next DownReads (down_read_after r r.step found).0, (down_read_after r r.step found).1)
+after_of (UpReads u) found hook = (map_next UpReads (up_read_after u).0, (up_read_after u).1)
+after_of (Callbacks b) found hook = (map_next Callbacks (callback_after b b.step found).0, (callback_after b b.step found).1)
+after_of (Writes x) found hook = (map_next Writes (write_after x found).0, (write_after x found).1)
+
+-- the phase of its own gate at which a taking or a return of write access stands
+abbrev pub plain : WritePhase → Phase
+plain (Takes m r) = DownReads r
+plain (Wants x) = Mounts (PlainWant x)
+plain (GivesBack m p refusal) = UpReads (leaves_on p)
+plain (Drops m p) = Mounts (PlainDrop m p)
+plain (Ends p) = UpReads (leaves_on p)
 
 -- the hook whose answer a step of a remount reads
 abbrev pub remount_hook : RemountStep → Option HookKind
@@ -33,8 +55,8 @@ remount_hook step = None
 
 -- the hook whose answer the next event reads: any other event is the same whatever a hook answers
 abbrev pub hook_of : Phase → Option HookKind
-hook_of (Mounts phase) = None
 hook_of (Remounts x) = remount_hook x.step
+hook_of phase = None
 
 -- where no hook's answer is read, the next event is the same for any two answers, and so is what comes after it
 abbrev pub IgnoresAnswer : Phase → Option HookKind → Type 0

@@ -1,7 +1,7 @@
 //! What a task holds at run time.
 
 ghost use Rattle.std.specs.Prelude.{◌≡◌, slice_index};
-ghost use Rattle.gate_world.specs.Operations.{holds_none};
+ghost use Rattle.gate_world.specs.Operations.{holds_none, holds_none_from};
 ghost use Rattle.gate_world.specs.Fits.{ActionFits};
 ghost use Rattle.gate_world.specs.Accesses.{no_accesses, levels_held, accesses_after};
 
@@ -57,5 +57,15 @@ impl Accesses {
         ensures { result ≡ holds_none (levels_held self.now) }
     {
         !self.levels[1] && !self.levels[2] && !self.levels[3]
+    }
+
+    /// Whether the task is inside no level from this one up.
+    #[inline(always)]
+    pub fn is_in_none_from(&self, level: u8) -> bool
+        ensures { result ≡ holds_none_from level (levels_held self.now) }
+    {
+        (level > 1 || !self.levels[1])
+            && (level > 2 || !self.levels[2])
+            && (level > 3 || !self.levels[3])
     }
 }

@@ -1,9 +1,10 @@
 //! Beginnings: where an operation starts, or why it can't. What is asked of each operation, and its first phase, stand together.
 
 ghost use Rattle.std.specs.Prelude.{◌≡◌, ◌≤◌, false};
+ghost use Rattle.gate_world.specs.Operations.{is_level_number};
 ghost use Rattle.gate_world.specs.Accesses.{mounts_held, levels_held};
 ghost use Rattle.gate_world.specs.Beginnings.{beginning};
-ghost use Rattle.gate_world.specs.declared.operations.Op.TheVariants.{Want as WantOp, DropMount, ChangeMount, RemountSb};
+ghost use Rattle.gate_world.specs.declared.operations.Op.TheVariants.{Want as WantOp, DropMount, ChangeMount, RemountSb, Start, End, WantWrite, DropWrite, Callback as CallbackOp};
 
 use crate::accesses::Accesses;
 use crate::config::Config;
@@ -11,6 +12,8 @@ use crate::operations::Op;
 use crate::work::Phase;
 use access_model::GateError;
 use mount_counts::{Change, ChangeStep, MountPhase, Remount, RemountStep, Want, WantStep};
+use percpu_rwsem::{Callback, CallbackStep, DownRead, DownReadStep, Transition, UpRead};
+use write_access::WritePhase;
 
 impl Op {
     /// The first phase of the operation of a task that holds these accesses, or why it can't begin, the first reason in this
@@ -40,6 +43,11 @@ impl Op {
                 wait,
             } => begin_change(config, task, held, mount, read_only, wait),
             Op::RemountSb { read_only } => begin_remount(config, task, held, read_only),
+            Op::Start { level, cpu, wait } => begin_start(config, task, held, level, cpu, wait),
+            Op::End { level, cpu } => begin_end(config, held, level, cpu),
+            Op::WantWrite { mount, cpu } => begin_want_write(config, task, held, mount, cpu),
+            Op::DropWrite { mount, cpu } => begin_drop_write(config, held, mount, cpu),
+            Op::Callback { level } => begin_callback(config, level),
         }
     }
 }
@@ -133,6 +141,115 @@ fn begin_remount(
             mounts: config.mounts,
             nodes: config.nodes,
             step: RemountStep::Locks,
+        }))
+    }
+}
+
+/// Whether there is such a level.
+#[inline(always)]
+fn is_level(level: u8) -> bool
+    ensures { result ≡ is_level_number level }
+{
+    0 < level && level < 4
+}
+
+/// A start goes inside no level that isn't above those that the task is inside.
+#[inline(always)]
+fn begin_start(
+    config: Config,
+    task: u8,
+    held: &Accesses,
+    level: u8,
+    cpu: u8,
+    wait: bool,
+) -> Result<Phase, GateError>
+    ensures { result ≡ beginning config task false (mounts_held held.now) (levels_held held.now) (Start level cpu wait) }
+{
+    if !is_level(level) || cpu >= config.processors {
+        Err(GateError::Invalid)
+    } else if !held.is_in_none_from(level) {
+        Err(GateError::Order)
+    } else {
+        Ok(Phase::DownReads(DownRead {
+            level,
+            cpu,
+            task,
+            wait,
+            step: DownReadStep::EntersSection,
+        }))
+    }
+}
+
+/// An end leaves a level that the task is inside.
+#[inline(always)]
+fn begin_end(config: Config, held: &Accesses, level: u8, cpu: u8) -> Result<Phase, GateError>
+    ensures { result ≡ beginning config 0 false (mounts_held held.now) (levels_held held.now) (End level cpu) }
+{
+    if !is_level(level) || cpu >= config.processors {
+        Err(GateError::Invalid)
+    } else if !held.levels[level as usize] {
+        Err(GateError::Order)
+    } else {
+        Ok(Phase::UpReads(UpRead { level, cpu }))
+    }
+}
+
+/// A taking of write access is not begun inside a level, and needs room for one access more at its mount.
+#[inline(always)]
+fn begin_want_write(
+    config: Config,
+    task: u8,
+    held: &Accesses,
+    mount: u8,
+    cpu: u8,
+) -> Result<Phase, GateError>
+    requires { config.mounts ≤ 8 }
+    ensures { result ≡ beginning config task false (mounts_held held.now) (levels_held held.now) (WantWrite mount cpu) }
+{
+    if mount >= config.mounts || cpu >= config.processors {
+        Err(GateError::Invalid)
+    } else if !held.is_in_no_level() {
+        Err(GateError::Order)
+    } else if held.mounts[mount as usize] >= 1024 {
+        Err(GateError::TooMany)
+    } else {
+        let read = DownRead {
+            level: 1,
+            cpu,
+            task,
+            wait: true,
+            step: DownReadStep::EntersSection,
+        };
+        Ok(Phase::Writes(WritePhase::Takes { mount, read }))
+    }
+}
+
+/// A return of write access needs both to give back.
+#[inline(always)]
+fn begin_drop_write(config: Config, held: &Accesses, mount: u8, cpu: u8) -> Result<Phase, GateError>
+    requires { config.mounts ≤ 8 }
+    ensures { result ≡ beginning config 0 false (mounts_held held.now) (levels_held held.now) (DropWrite mount cpu) }
+{
+    if mount >= config.mounts || cpu >= config.processors {
+        Err(GateError::Invalid)
+    } else if !held.levels[1] || held.mounts[mount as usize] == 0 {
+        Err(GateError::Order)
+    } else {
+        Ok(Phase::Writes(WritePhase::Drops { mount, cpu }))
+    }
+}
+
+/// A callback may be run by whoever has nothing else under way.
+fn begin_callback(config: Config, level: u8) -> Result<Phase, GateError>
+    ensures { result ≡ beginning config 0 false (λ mount. 0) (λ i. false) (CallbackOp level) }
+{
+    if !is_level(level) {
+        Err(GateError::Invalid)
+    } else {
+        Ok(Phase::Callbacks(Callback {
+            level,
+            tasks: config.tasks,
+            step: CallbackStep::Claims(Transition::Loads),
         }))
     }
 }

@@ -24,4 +24,30 @@ pub enum Op {
     RemountSb {
         read_only: bool,
     },
+    /// `sb_start_write`, `sb_start_pagefault`, `sb_start_intwrite`: goes inside a level (1 to 3), counted on a processor.
+    Start {
+        level: u8,
+        cpu: u8,
+        wait: bool,
+    },
+    /// `sb_end_write` and its like: leaves a level, on any processor.
+    End {
+        level: u8,
+        cpu: u8,
+    },
+    /// `mnt_want_write`: goes inside level 1 and takes an access at a mount, both on a processor. It waits for both.
+    WantWrite {
+        mount: u8,
+        cpu: u8,
+    },
+    /// `mnt_drop_write`: gives the access back and leaves level 1, both on any processor.
+    DropWrite {
+        mount: u8,
+        cpu: u8,
+    },
+    /// `rcu_sync_func`, which the kernel's RCU calls: runs the callback that a level has queued, where it has one. It waits for
+    /// readers' sections.
+    Callback {
+        level: u8,
+    },
 }

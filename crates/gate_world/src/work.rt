@@ -7,6 +7,8 @@ use access_model::{Action, Next};
 use cpu_words::{Touch, WordName};
 use freeze_levels::HookKind;
 use mount_counts::{MountPhase, Remount, RemountStep, Want};
+use percpu_rwsem::{Callback, DownRead, UpRead};
+use write_access::WritePhase;
 
 /// Where an operation under way stands, between two of its events.
 #[derive(Clone, Copy, PartialEq, Eq, Debug)]
@@ -15,6 +17,14 @@ pub enum Phase {
     Mounts(MountPhase),
     /// A remount of the superblock.
     Remounts(Remount),
+    /// A start at a freeze level.
+    DownReads(DownRead),
+    /// An end at a freeze level.
+    UpReads(UpRead),
+    /// A callback of a freeze level.
+    Callbacks(Callback),
+    /// A taking or a return of write access.
+    Writes(WritePhase),
 }
 
 impl Phase {
@@ -26,6 +36,10 @@ impl Phase {
         match self {
             Phase::Mounts(phase) => phase.next(hook),
             Phase::Remounts(remount) => remount.next(hook),
+            Phase::DownReads(read) => read.next(),
+            Phase::UpReads(read) => read.next(),
+            Phase::Callbacks(callback) => callback.next(),
+            Phase::Writes(phase) => phase.next(),
         }
     }
 
@@ -42,6 +56,22 @@ impl Phase {
             Phase::Remounts(remount) => {
                 let (next, action) = remount.after(found, hook);
                 (next.map(Phase::Remounts), action)
+            }
+            Phase::DownReads(read) => {
+                let (next, action) = read.after(found);
+                (next.map(Phase::DownReads), action)
+            }
+            Phase::UpReads(read) => {
+                let (next, action) = read.after();
+                (next.map(Phase::UpReads), action)
+            }
+            Phase::Callbacks(callback) => {
+                let (next, action) = callback.after(found);
+                (next.map(Phase::Callbacks), action)
+            }
+            Phase::Writes(phase) => {
+                let (next, action) = phase.after(found);
+                (next.map(Phase::Writes), action)
             }
         }
     }
@@ -109,6 +139,73 @@ impl UnderWay for Want {
 
     #[inline(always)]
     fn after(self, found: u64, hook: Result<(), u16>) -> (Next<Want>, Option<Action>) {
+        let _ = hook;
+        self.after(found)
+    }
+}
+
+impl UnderWay for MountPhase {
+    ghost use Rattle.gate_world.specs.declared.work.Phase.TheVariants.{Mounts};
+
+    ghost as_phase = { λ phase. Mounts phase };
+
+    #[inline(always)]
+    fn phase(self) -> Phase {
+        Phase::Mounts(self)
+    }
+
+    #[inline(always)]
+    fn after(self, found: u64, hook: Result<(), u16>) -> (Next<MountPhase>, Option<Action>) {
+        self.after(found, hook)
+    }
+}
+
+impl UnderWay for DownRead {
+    ghost use Rattle.gate_world.specs.declared.work.Phase.TheVariants.{DownReads};
+
+    ghost as_phase = { λ read. DownReads read };
+
+    #[inline(always)]
+    fn phase(self) -> Phase {
+        Phase::DownReads(self)
+    }
+
+    #[inline(always)]
+    fn after(self, found: u64, hook: Result<(), u16>) -> (Next<DownRead>, Option<Action>) {
+        let _ = hook;
+        self.after(found)
+    }
+}
+
+impl UnderWay for UpRead {
+    ghost use Rattle.gate_world.specs.declared.work.Phase.TheVariants.{UpReads};
+
+    ghost as_phase = { λ read. UpReads read };
+
+    #[inline(always)]
+    fn phase(self) -> Phase {
+        Phase::UpReads(self)
+    }
+
+    #[inline(always)]
+    fn after(self, found: u64, hook: Result<(), u16>) -> (Next<UpRead>, Option<Action>) {
+        let _ = (found, hook);
+        self.after()
+    }
+}
+
+impl UnderWay for WritePhase {
+    ghost use Rattle.gate_world.specs.declared.work.Phase.TheVariants.{Writes};
+
+    ghost as_phase = { λ phase. Writes phase };
+
+    #[inline(always)]
+    fn phase(self) -> Phase {
+        Phase::Writes(self)
+    }
+
+    #[inline(always)]
+    fn after(self, found: u64, hook: Result<(), u16>) -> (Next<WritePhase>, Option<Action>) {
         let _ = hook;
         self.after(found)
     }

@@ -26,7 +26,7 @@ pub remount_phase : (c : Config) (x : Remount) → PhaseKeeps c (Remounts x)
 remount_phase c x = record {
   step = λ lim w good t lt hook e. remount_keeps c lim w good t lt hook x e;
   completes = λ lim w good t lt hook e. completes_none c w t hook (Remounts x) (λ trace found. refl);
-  word = λ lim t held levels hook f. remount_there c lim t held levels x x.step hook f.5;
+  word = λ lim t lt held levels hook f. remount_there c lim t held levels x x.step hook f.5;
   acts = λ lim t held levels found hook f. remount_acts c lim t held levels x x.step found hook;
   goes = λ lim t held levels found hook f. remount_goes c lim t held levels x x.step found hook f;
   agrees = λ t f g h k mounts levels fits.
@@ -37,7 +37,7 @@ remount_phase c x = record {
       let f : Fits c t (held_at (w.views t)) (holds_level (w.views t)) (Some (Remounts x)) =
       subst (Fits c t (held_at (w.views t)) (holds_level (w.views t))) e (good Fitting t lt) in
       remount_own c t w (after_step w t (Remounts x) hook) earlier after x hook x.step f.1 f.5 e (remount_counts w t x hook x.step) h is;
-  waits = λ lim w good t lt hook e. remount_waits c w good t lt x hook x.step e;
+  waits = λ lim w earlier good t lt hook e cause. remount_waits c w earlier good t lt x hook x.step e;
   tells = λ t w earlier h e. let k : RemountCause c t w earlier (Releases (Err Busy)) =
       subst (RemountCause c t w earlier) e h in k refl;
 }

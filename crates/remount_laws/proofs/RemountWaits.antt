@@ -1,6 +1,6 @@
 -- A remount waits only where another task has `umount`.
 use Rattle.std.proofs.Common.{◌≡◌, ℕ, ◌<◌, ap, inl, inr}
-use Rattle.std.specs.Prelude.{Some, Ok, Err}
+use Rattle.std.specs.Prelude.{Some, Ok, Err, List}
 use Rattle.std.proofs.lemmas.Bool.{cases_Bool}
 use Rattle.std.proofs.lemmas.Bool.Decides.{eqb_tells}
 use Rattle.cpu_words.specs.Hooks.{HookAnswer}
@@ -17,10 +17,10 @@ use Rattle.gate_world.specs.Rules.{owns, IsGood}
 use Rattle.gate_world.specs.Waits.{WaitsForAnother}
 use Rattle.gate_frames.proofs.Owners.{umount_taken}
 
-module _ (c : Config) (w : World) (good : IsGood c w) (t : ℕ) (lt : t < c.tasks) (x : Remount) where
+module _ (c : Config) (w : World) (earlier : List World) (good : IsGood c w) (t : ℕ) (lt : t < c.tasks) (x : Remount) where
   -- each step of a remount
   pub remount_waits : (hook : HookAnswer) (s : RemountStep) → (w.views t).phase ≡ Some (Remounts (at_remount x s)) →
-      WaitsForAnother c w t (Remounts (at_remount x s))
+      WaitsForAnother c w earlier t (Remounts (at_remount x s))
       (after_of (Remounts (at_remount x s)) (found_at w.words (Remounts (at_remount x s)) hook) hook).0
   remount_waits hook Locks e =
       elim (eqb_tells w.words.umount 0) [

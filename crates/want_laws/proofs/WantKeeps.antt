@@ -34,7 +34,7 @@ pub want_phase : (c : Config) (x : Want) → PhaseKeeps c (Mounts (Wants x))
 want_phase c x = record {
   step = λ lim w good t lt hook e. want_keeps c lim w good t lt hook x.mount x.cpu x.wait x.step e;
   completes = λ lim w good t lt hook e. completes_none c w t hook (Mounts (Wants x)) (λ trace found. refl);
-  word = λ lim t held levels hook f. want_there c lim t held levels x x.step f.0 f.1;
+  word = λ lim t lt held levels hook f. want_there c lim t held levels x x.step f.0 f.1;
   acts = λ lim t held levels found hook f. want_acts c lim t held levels x x.step found (omega (arith, f.0, lim.mounts)) f.2;
   goes = λ lim t held levels found hook f. want_goes c lim t held levels x x.step found f;
   agrees = λ t f g h k mounts levels fits. (fits.0, fits.1, omega (arith, fits.2, mounts x.mount fits.0));
@@ -44,7 +44,7 @@ want_phase c x = record {
       let f : Fits c t (held_at (w.views t)) (holds_level (w.views t)) (Some (Mounts (Wants x))) =
       subst (Fits c t (held_at (w.views t)) (holds_level (w.views t))) e (good Fitting t lt) in
       want_own c t lt w (after_step w t (Mounts (Wants x)) hook) earlier good after hook x.mount x.cpu x.wait x.step f.0 e is;
-  waits = λ lim w good t lt hook e. want_waits c w good t lt x.mount x.cpu hook x.wait x.step e;
+  waits = λ lim w earlier good t lt hook e cause. want_waits c w earlier good t lt x.mount x.cpu hook x.wait x.step e;
   tells = λ t w earlier h e. let k : WantCause c t w earlier x.mount (CountsDown ReadOnly) =
       subst (WantCause c t w earlier x.mount) e h in k refl;
 }
@@ -53,14 +53,14 @@ pub drop_phase : (c : Config) (m p : ℕ) → PhaseKeeps c (Mounts (Drops m p))
 drop_phase c m p = record {
   step = λ lim w good t lt hook e. drop_keeps c lim w good t lt hook m p e;
   completes = λ lim w good t lt hook e. completes_none c w t hook (Mounts (Drops m p)) (λ trace found. refl);
-  word = λ lim t held levels hook f. (f.0, f.1);
+  word = λ lim t lt held levels hook f. (f.0, f.1);
   acts = λ lim t held levels found hook f. (omega (arith, f.0, lim.mounts), f.2);
   goes = λ lim t held levels found hook f. tt;
   agrees = λ t f g h k mounts levels fits. (fits.0, fits.1, omega (arith, fits.2, mounts m fits.0));
   quiet = λ w good t lt hook n e. quiet_drop c w good t lt hook n m p e;
   stays = λ w next earlier after t f e was quiet h. tt;
   causes = λ w earlier good t lt hook e after is h. tt;
-  waits = λ lim w good t lt hook e. tt;
+  waits = λ lim w earlier good t lt hook e cause. tt;
   tells = λ t w earlier h. tt;
 }
 

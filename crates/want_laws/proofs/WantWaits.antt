@@ -1,4 +1,5 @@
 -- A want waits only where another task has HOLD set at its mount; a drop never waits.
+use Rattle.std.specs.Prelude.{List}
 use Rattle.std.proofs.Common.{◌≡◌, ℕ, ◌<◌, Bool, true, false, ap, inl, inr}
 use Rattle.std.proofs.lemmas.Bool.{cases_Bool}
 use Rattle.std.proofs.lemmas.Bool.Decides.{eqb_tells}
@@ -28,10 +29,10 @@ module _ (c : Config) (w : World) (good : IsGood c w) (t : ℕ) (lt : t < c.task
       (ap has_hold (want_here m p wait LoadsHold e)) in
       record { task = who.0; there = who.1; other = who.2; stands = who.3 }
 
-module _ (c : Config) (w : World) (good : IsGood c w) (t : ℕ) (lt : t < c.tasks) (m p : ℕ) (hook : HookAnswer) where
+module _ (c : Config) (w : World) (earlier : List World) (good : IsGood c w) (t : ℕ) (lt : t < c.tasks) (m p : ℕ) (hook : HookAnswer) where
   -- each step of a want
   pub want_waits : (wait : Bool) (s : WantStep) → IsAt c w good t lt m p wait hook s →
-      WaitsForAnother c w t (Mounts (want m p wait s))
+      WaitsForAnother c w earlier t (Mounts (want m p wait s))
       (after_of (Mounts (want m p wait s)) (found_at w.words (Mounts (want m p wait s)) hook) hook).0
   want_waits wait CountsUp e = tt
   want_waits true LoadsHold e =
