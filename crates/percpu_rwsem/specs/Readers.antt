@@ -44,9 +44,9 @@ step_in Passed = CountsUpSlow
 step_in Exit = CountsUpSlow
 step_in Replay = CountsUpSlow
 
--- the step that a sync word leads to: a number that is no word is loaded again
+-- the step that a sync word leads to: only GP_IDLE leads to the fast path, and so a number that is no word doesn't
 abbrev pub step_found : Option SyncWord → DownReadStep
-step_found None = LoadsSync
+step_found None = CountsUpSlow
 step_found (Some word) = step_in word.state
 
 -- it left the section, blocked: one that waits begins again

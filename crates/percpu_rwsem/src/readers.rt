@@ -49,15 +49,15 @@ pub struct UpRead {
 }
 
 impl DownReadStep {
-    /// The step that a sync word leads to. A number that is no word is loaded again.
+    /// The step that a number found in a sync word leads to. As in the kernel, which asks for GP_IDLE alone, any other number, also one
+    /// that is no word, leads to the slow path.
     #[inline(always)]
     fn after_sync(found: u64) -> DownReadStep
         ensures { result ≡ step_found (unpack found) }
     {
         match SyncWord::unpack(found) {
-            None => DownReadStep::LoadsSync,
             Some(word) if word.state == GpState::Idle => DownReadStep::CountsUpFast,
-            Some(_) => DownReadStep::CountsUpSlow,
+            _ => DownReadStep::CountsUpSlow,
         }
     }
 }
