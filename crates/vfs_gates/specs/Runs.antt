@@ -1,9 +1,10 @@
 -- Whole operations of a task, from the beginning to the reply.
-use Rattle.std.specs.Prelude.{◌≡◌, ℕ, Option, Some, None, Result, Ok, Err, List, [], ◌∷◌, ◌++◌}
+use Rattle.std.specs.Prelude.{◌≡◌, ℕ, Bool, false, Option, Some, None, Result, Ok, Err, List, [], ◌∷◌, ◌++◌}
 use Rattle.access_model.specs.declared.errors.GateError.{GateError}
 use Rattle.access_model.specs.declared.replies.Next.{Next}
 use Rattle.access_model.specs.declared.replies.Next.TheVariants.{Go, Wait, Done}
 use Rattle.access_model.specs.declared.replies.Reply.{Reply}
+use Rattle.access_model.specs.declared.replies.Reply.TheVariants.{Ran}
 use Rattle.cpu_words.specs.declared.events.Event.{Event}
 use Rattle.cpu_words.specs.Touches.{event_of}
 use Rattle.gate_world.specs.declared.config.Config.{Config}
@@ -103,6 +104,11 @@ the_reply reply = reply
 -- a call that tells only whether the operation was done
 abbrev pub unit_of : Reply → Unit {0}
 unit_of reply = tt
+
+-- a call that tells whether a callback ran
+abbrev pub ran_of : Reply → Bool
+ran_of (Ran ran) = ran
+ran_of reply = false
 
 -- One whole operation. Its events are a trace of it that ends in this answer. The own view has done just these events and their
 -- actions, and nothing else of the task changed. Each event was a move in a world that the rule holds of. So it has added exactly the

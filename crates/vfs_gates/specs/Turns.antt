@@ -6,16 +6,15 @@ use Rattle.cpu_words.specs.declared.events.Event.{Event}
 use Rattle.gate_world.specs.declared.config.Config.{Config}
 use Rattle.gate_world.specs.declared.operations.Op.{Op}
 use Rattle.gate_world.specs.declared.work.Phase.{Phase}
-use Rattle.gate_world.specs.declared.work.Phase.TheVariants.{Mounts}
+use Rattle.gate_world.specs.declared.work.Phase.TheVariants.{Writes}
 use Rattle.access_model.specs.Replies.{map_next}
-use Rattle.mount_counts.specs.declared.phases.Want.{Want}
-use Rattle.mount_counts.specs.declared.phases.MountPhase.TheVariants.{Want as Wants}
 use Rattle.gate_core.specs.declared.seats.Seat.{Seat}
 use Rattle.gate_world.specs.declared.accesses.Accesses.{Accesses}
 use Rattle.gate_core.specs.declared.steps.Step.{Step}
 use Rattle.gate_core.specs.Answers.{progress_of}
 use Rattle.gate_steps.specs.Seating.{SeatItems}
 use Rattle.vfs_gates.specs.Ties.{Ties}
+use Rattle.write_access.specs.declared.phases.WritePhase.{WritePhase}
 
 -- what is kept of a task whose operation stands there
 abbrev pub kept_at : Option Phase → Accesses → Seat
@@ -37,6 +36,6 @@ StayTied c begins phase accesses items left accesses_left items_left =
 abbrev pub step_was : Event → Option Action → Next Phase → Step
 step_was event action next = record { event = Some event; action = action; progress = progress_of next }
 
--- what comes next of a want, as phases
-abbrev pub of_the_want : Next Want → Next Phase
-of_the_want next = map_next (λ want. Mounts (Wants want)) next
+-- what comes next of a taking or a return of write access, as phases
+abbrev pub of_write : Next WritePhase → Next Phase
+of_write next = map_next (λ phase. Writes phase) next

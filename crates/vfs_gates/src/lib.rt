@@ -6,6 +6,7 @@ mod calls;
 mod closed;
 mod gates;
 pub mod laws;
+mod lines;
 mod numbers;
 mod parts;
 mod rooms;

@@ -1,16 +1,23 @@
 //! Calls that may wait for other tasks.
 
-ghost use Rattle.std.specs.Prelude.{true};
+ghost use Rattle.std.specs.Prelude.{◌≡◌, true};
+ghost use Rattle.gate_world.specs.declared.operations.Op.{Op as OpType};
+ghost use Rattle.vfs_gates.specs.TaskStates.{TaskState};
+ghost use Rattle.vfs_gates.specs.Runs.{told_as, ran_of, Goes};
 
 use crate::calls::outcome;
 use crate::gates::Gates;
+use crate::lines::InLine;
 use crate::task::Task;
-use access_model::{GateError, Reply};
+use access_model::{GateError, Next, Reply};
 use crossbeam_utils::Backoff;
 use freeze_levels::FsHooks;
 use gate_core::Progress;
 use gate_world::Op;
+use mount_counts::{Want, WantStep};
+use percpu_rwsem::{DownRead, DownReadStep};
 use std::sync::Wait;
+use write_access::WritePhase;
 
 /// Waits a little after an event that found what the operation waits for, and longer from time to time.
 fn pause(backoff: &Backoff, progress: Progress) {
@@ -20,10 +27,22 @@ fn pause(backoff: &Backoff, progress: Progress) {
     }
 }
 
+/// Why the operation was refused, or whether a callback ran.
+fn ran(answer: Result<Reply, GateError>) -> Result<bool, GateError>
+    ensures { result ≡ told_as ran_of answer }
+{
+    match answer {
+        Ok(Reply::Ran(ran)) => Ok(ran),
+        Ok(_) => Ok(false),
+        Err(refusal) => Err(refusal),
+    }
+}
+
 impl Task {
-    ghost use Rattle.gate_world.specs.declared.operations.Op.TheVariants.{Want, ChangeMount, RemountSb};
-    ghost use Rattle.vfs_gates.specs.TaskStates.{IsFrom};
-    ghost use Rattle.vfs_gates.specs.Runs.{the_reply, Replies, Performs};
+    ghost use Rattle.gate_world.specs.Beginnings.{first_phase};
+    ghost use Rattle.gate_world.specs.declared.operations.Op.TheVariants.{Want as WantOp, ChangeMount, RemountSb, Start, WantWrite, Callback};
+    ghost use Rattle.vfs_gates.specs.TaskStates.{IsFrom, own_number};
+    ghost use Rattle.vfs_gates.specs.Runs.{the_reply, Called, Replies, Performs};
 
     /// What the hook answers whose answer the next step reads; Ok where it reads none. A remount asks for read-only or writable.
     fn ask<H: FsHooks>(&self, hooks: &mut H, read_only: bool) -> Result<(), u16> {
@@ -33,20 +52,20 @@ impl Task {
         }
     }
 
-    /// Begins an operation, and does its events until it replies, however long it has to wait. A hook of the file system is asked
+    /// Does the events of the operation that has begun until it replies, however long it has to wait. A hook of the file system is asked
     /// once, before the step that reads its answer.
-    fn perform_waiting<R: Wait, H: FsHooks>(
+    #[cold]
+    #[inline(never)]
+    fn finish_waiting<R: Wait, H: FsHooks>(
         &mut self,
         rt: &R,
         gates: &Gates,
-        op: Op,
         hooks: &mut H,
         read_only: bool,
     ) -> Result<Reply, GateError>
         requires { IsFrom self.old gates.now }
-        ensures { Replies the_reply op self.old self.new result }
+        ensures { (op : OpType) (start : TaskState) → Goes op start self.old → Called op start self.new result }
     {
-        self.begin(op)?;
         let backoff = Backoff::new();
         for _ in rt.forever() {
             let hook = self.ask(hooks, read_only);
@@ -59,9 +78,49 @@ impl Task {
         unreachable!()
     }
 
-    /// `mnt_want_write`: an access at a mount, taken on a processor. While a change of the mount holds writers off it waits. ReadOnly
+    /// Begins an operation, and does its events until it replies, however long it has to wait, with the hooks of the file system.
+    fn perform_waiting<R: Wait, H: FsHooks>(
+        &mut self,
+        rt: &R,
+        gates: &Gates,
+        op: Op,
+        hooks: &mut H,
+        read_only: bool,
+    ) -> Result<Reply, GateError>
+        requires { IsFrom self.old gates.now }
+        ensures { Replies the_reply op self.old self.new result }
+    {
+        self.begin(op)?;
+        self.finish_waiting(rt, gates, hooks, read_only)
+    }
+
+    /// Begins an operation that has this first phase and asks no hook, and does its events in a line. Where one of them finds something
+    /// else, it notes where the operation stands and does the rest, however long it has to wait.
+    #[inline(always)]
+    fn perform_or_wait<R: Wait, P: InLine>(
+        &mut self,
+        rt: &R,
+        gates: &Gates,
+        op: Op,
+        first: P,
+    ) -> Result<(), GateError>
+        requires from { IsFrom self.old gates.now }
+        requires first { P.as_phase first ≡ first_phase self.old.config (own_number self.old.items) op }
+        ensures { Performs op self.old self.new result }
+    {
+        self.admit(op)?;
+        let accesses = &mut self.kept.accesses;
+        match first.go_in_line(gates, &mut self.seat, accesses, Some(op)) {
+            Next::Done(answer) => outcome(answer),
+            Next::Go(under_way) | Next::Wait(under_way) => {
+                self.kept.phase = Some(under_way.phase());
+                outcome(self.finish_waiting(rt, gates, &mut (), false))
+            }
+        }
+    }
+
+    /// `__mnt_want_write`: an access at a mount, taken on a processor. While a change of the mount holds writers off it waits. ReadOnly
     /// where the mount or the superblock is read-only; then the task holds what it held. Order, Invalid and TooMany as `begin`.
-    #[tactic(auto, using(crate::proofs::Running::was_told))]
     pub fn want<R: Wait>(
         &mut self,
         rt: &R,
@@ -70,14 +129,77 @@ impl Task {
         cpu: u8,
     ) -> Result<(), GateError>
         requires { IsFrom self.old gates.now }
-        ensures { Performs (Want mount cpu true) self.old self.new result }
+        ensures { Performs (WantOp mount cpu true) self.old self.new result }
     {
-        let want = Op::Want {
+        let wait = true;
+        let step = WantStep::CountsUp;
+        let want = Want {
             mount,
             cpu,
-            wait: true,
+            wait,
+            step,
         };
-        outcome(self.perform_waiting(rt, gates, want, &mut (), false))
+        self.perform_or_wait(rt, gates, Op::Want { mount, cpu, wait }, want)
+    }
+
+    /// `sb_start_write`, `sb_start_pagefault`, `sb_start_intwrite` (`percpu_down_read`): goes inside a freeze level, 1 to 3, counted on
+    /// a processor. While a freeze closes the level it waits, with its count taken back. It is never refused once it has begun: Order,
+    /// where the task is inside this level or one above it, and Invalid as `begin`.
+    pub fn start<R: Wait>(
+        &mut self,
+        rt: &R,
+        gates: &Gates,
+        level: u8,
+        cpu: u8,
+    ) -> Result<(), GateError>
+        requires { IsFrom self.old gates.now }
+        ensures { Performs (Start level cpu true) self.old self.new result }
+    {
+        let wait = true;
+        let read = DownRead {
+            level,
+            cpu,
+            task: self.number(),
+            wait,
+            step: DownReadStep::EntersSection,
+        };
+        self.perform_or_wait(rt, gates, Op::Start { level, cpu, wait }, read)
+    }
+
+    /// `mnt_want_write`: goes inside level 1 and takes an access at a mount, both on a processor. While a freeze closes the level, and
+    /// then while a change of the mount holds writers off, it waits. ReadOnly where the mount or the superblock is read-only; then the
+    /// task has left the level and holds what it held. Order, where the task is inside a level, Invalid and TooMany as `begin`.
+    pub fn want_write<R: Wait>(
+        &mut self,
+        rt: &R,
+        gates: &Gates,
+        mount: u8,
+        cpu: u8,
+    ) -> Result<(), GateError>
+        requires { IsFrom self.old gates.now }
+        ensures { Performs (WantWrite mount cpu) self.old self.new result }
+    {
+        let read = DownRead {
+            level: 1,
+            cpu,
+            task: self.number(),
+            wait: true,
+            step: DownReadStep::EntersSection,
+        };
+        let op = Op::WantWrite { mount, cpu };
+        self.perform_or_wait(rt, gates, op, WritePhase::Takes { mount, read })
+    }
+
+    /// `rcu_sync_func`, with the wait of `call_rcu` before it: runs the callback that the `rcu_sync` of a level, 1 to 3, has queued, after
+    /// each section of a reader that was under way has ended, for which it waits. Answers whether one ran: false where none was
+    /// queued. It is never refused once it has begun: Invalid, and Order where an operation is under way, as `begin`.
+    #[tactic(auto, using(crate::proofs::Running::was_told))]
+    pub fn callback<R: Wait>(&mut self, rt: &R, gates: &Gates, level: u8) -> Result<bool, GateError>
+        requires { IsFrom self.old gates.now }
+        ensures { Replies ran_of (Callback level) self.old self.new result }
+    {
+        let callback = Op::Callback { level };
+        ran(self.perform_waiting(rt, gates, callback, &mut (), false))
     }
 
     /// `mnt_make_readonly`, or its undoing. While another task has `umount` it waits. Busy where writers are counted at the mount.
