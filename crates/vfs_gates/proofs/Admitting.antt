@@ -67,13 +67,21 @@ pub refused_by : (op : Op) (start : TaskState) (refused : GateError) →
 refused_by op start refused is =
     sym (ap unless_refused (err_means (first_phase start.config (own_number start.items) op) (refusal_at op start) refused is))
 
+-- what is the first phase as the task's state says is so as its fields say
+pub first_so : (op : Op) (task : Inside) (start : TaskState) →
+    task_state task.seat.table_id task.config task.begins task.kept.phase task.seat.me.0 ≡ start →
+    Ties task.number task.config task.begins task.kept task.spare task.seat.me.0 → (phase : Phase) →
+    phase ≡ first_phase start.config (own_number start.items) op → phase ≡ first_phase task.config task.number op
+first_so op task start start_is ties phase is =
+    is ∙ sym (ap (λ (n : ℕ). first_phase task.config n op)
+    (number_same task.number task.config task.begins task.kept task.spare task.seat.me.0 ties) ∙
+    ap (λ (s : TaskState). first_phase s.config (own_number s.items) op) start_is)
+
 -- the phase that was answered is the operation's first
 pub first_by : (op : Op) (task : Inside) (start : TaskState) →
     task_state task.seat.table_id task.config task.begins task.kept.phase task.seat.me.0 ≡ start →
     Ties task.number task.config task.begins task.kept task.spare task.seat.me.0 → (phase : Phase) → Ok phase ≡ beginning_at op start →
     phase ≡ first_phase task.config task.number op
 first_by op task start start_is ties phase is =
-    (ok_means (first_phase start.config (own_number start.items) op) (refusal_at op start) phase is).1 ∙
-    sym (ap (λ (n : ℕ). first_phase task.config n op)
-    (number_same task.number task.config task.begins task.kept task.spare task.seat.me.0 ties) ∙
-    ap (λ (s : TaskState). first_phase s.config (own_number s.items) op) start_is)
+    first_so op task start start_is ties phase
+    (ok_means (first_phase start.config (own_number start.items) op) (refusal_at op start) phase is).1

@@ -24,7 +24,7 @@ use Rattle.vfs_gates.specs.Ties.{PhaseOk, OwnTies, Ties}
 use Rattle.vfs_gates.specs.Turns.{kept_at, IsTied, StayTied}
 use Rattle.vfs_gates.specs.Runs.{Goes, Went, Called}
 use Rattle.vfs_gates.specs.declared.task.Task.TheInside.{Inside}
-use Rattle.vfs_gates.proofs.Admitting.{admitted_by, first_by}
+use Rattle.vfs_gates.proofs.Admitting.{admitted_by, first_so, first_by}
 use Rattle.vfs_gates.proofs.Running.{starts}
 
 -- what was not refused has no refusal
@@ -94,6 +94,15 @@ abbrev pub admitted_call : (op : Op) (task : Inside) (gates : Config) (start : T
 admitted_call op task gates start start_is from ties first answered =
     call_of op task gates start start_is from ties (admitted_by op start first answered) first
     (first_by op task start start_is ties first answered)
+
+-- the call of an operation that was admitted with some phase, and whose first phase is this
+abbrev pub call_with : (op : Op) (task : Inside) (gates : Config) (start : TaskState) →
+    task_state task.seat.table_id task.config task.begins task.kept.phase task.seat.me.0 ≡ start → start.config ≡ gates →
+    Ties task.number task.config task.begins task.kept task.spare task.seat.me.0 → (answered : Phase) →
+    Ok answered ≡ beginning_at op start → (first : Phase) → first ≡ first_phase start.config (own_number start.items) op → Call
+call_with op task gates start start_is from ties answered admitted first is =
+    call_of op task gates start start_is from ties (admitted_by op start answered admitted) first
+    (first_so op task start start_is ties first is)
 
 -- the numbers of the task, as the call finds them
 abbrev pub items_of : Call → SeatItems

@@ -63,6 +63,7 @@ fn go_on_if<P: UnderWay>(
     ensures slots { seat.new.me.1 ≡ seat.old.me.1 }
     ensures tied { StayTied gates.now.config None (phase_after (map_next P.as_phase next)) accesses.old seat.old.me.0
         (phase_after (map_next P.as_phase result)) accesses.new seat.new.me.0 }
+    ensures still { IsTied gates.now.config None (phase_after (map_next P.as_phase result)) accesses.new seat.new.me.0 }
     ensures went { (op : OpType) (start : TaskState) →
         Went op start (map_next P.as_phase next)
         (task_state seat.old.table_id gates.now.config None (phase_after (map_next P.as_phase next)) seat.old.me.0) →
@@ -70,8 +71,15 @@ fn go_on_if<P: UnderWay>(
         (task_state seat.new.table_id gates.now.config None (phase_after (map_next P.as_phase result)) seat.new.me.0) }
 {
     match next {
-        Next::Go(under_way) if goes_on => go_on(gates, seat, accesses, None, under_way, Ok(())),
-        next => next,
+        Next::Go(under_way) => {
+            if goes_on {
+                go_on(gates, seat, accesses, None, under_way, Ok(()))
+            } else {
+                Next::Go(under_way)
+            }
+        }
+        Next::Wait(under_way) => Next::Wait(under_way),
+        Next::Done(answer) => Next::Done(answer),
     }
 }
 

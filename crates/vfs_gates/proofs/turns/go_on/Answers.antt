@@ -13,3 +13,7 @@ do_event-next-requires-clause-tied g c = c.requires.tied
 
 pub returns-clause-tied : goal.returns-clause-tied
 returns-clause-tied g c = c.do_event-next.ensures.tied
+
+pub returns-clause-still : goal.returns-clause-still
+returns-clause-still g c = let t = c.requires.tied in
+    record { number = t.number; flags = t.flags; ties = c.do_event-next.ensures.tied t.number t.flags t.ties }

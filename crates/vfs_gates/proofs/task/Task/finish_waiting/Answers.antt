@@ -1,0 +1,25 @@
+use Rattle.std.proofs.Common.{refl, sym, subst, ◌∙◌}
+use Rattle.gate_world.specs.Configs.{IsWithin}
+use Rattle.vfs_gates.proofs.Running.{goes_further, ends_there}
+use Rattle.vfs_gates.proofs.task.Task.finish_waiting.Goals as goal
+
+pub loop-init : goal.loop-init
+loop-init g c = record { next = tt; finite = tt; table = refl; config = refl; goes = λ op start goes. goes }
+
+pub returns-in-Done : goal.returns-in-Done
+returns-in-Done g c op start goes = let now = c.loop in
+    ends_there op start now.self c.step-step.new.self c.step-step.result c.ask-hook.result (now.invariant.goes op start goes)
+    c.step-step.ensures.event (subst IsWithin (sym c.requires.1 ∙ goes.config) c.args.gates.now.within) c.in-Done.answer c.in-Done.is
+
+pub loop-preserved : goal.loop-preserved
+loop-preserved g c = let now = c.loop in record {
+  next = tt;
+  finite = tt;
+  table = c.step-step.ensures.table ∙ now.invariant.table;
+  config = c.step-step.ensures.config ∙ now.invariant.config;
+  goes = λ op start goes. goes_further op start now.self c.step-step.new.self c.step-step.result c.ask-hook.result
+      (now.invariant.goes op start goes) c.step-step.ensures.event c.in_default.not-Done;
+}
+
+pub step-step-requires : goal.step-step-requires
+step-step-requires g c = let now = c.loop in (now.invariant.table ∙ c.requires.0, now.invariant.config ∙ c.requires.1)

@@ -1,0 +1,14 @@
+use Rattle.std.proofs.Common.{◌≡◌}
+use Rattle.gate_world.specs.declared.operations.Op.{Op}
+use Rattle.vfs_gates.specs.TaskStates.{TaskState}
+use Rattle.vfs_gates.specs.Runs.{Goes}
+use Rattle.vfs_gates.proofs.task.Task.finish_waiting.Given as goal
+
+abbrev pub invariant-loop : goal.invariant-loop
+invariant-loop g l = record {
+  next : (goal.iterator-loop g).can_next l.iterator';
+  finite : (goal.iterator-loop g).is_finite l.iterator';
+  table : l.self.table ≡ l.fn.self.table;
+  config : l.self.config ≡ l.fn.self.config;
+  goes : (op : Op) (start : TaskState) → Goes op start l.fn.self → Goes op start l.self;
+}
