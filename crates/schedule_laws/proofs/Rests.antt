@@ -23,10 +23,37 @@ module _ (c : Config) (w : World) (good : IsGood c w) (idle : (t : ℕ) → t < 
       total_none c.tasks _ (λ t lt. ap (λ p. has_hold (role_of m p)) (idle t lt)) in
       omega (arith, none, (good (AtMount m) lm).gate.flag)
 
+  -- nobody is inside a section
+  no_section : (t : ℕ) → t < c.tasks → w.words.section t % 2 ≡ 0
+  no_section t lt = good Sections t lt ∙ ap inside (idle t lt)
+
+  -- nobody has closed a level
+  no_closed : (i : ℕ) → 1 ≤ i → i ≤ 3 → w.words.block i ≡ is_frozen_whole w.words
+  no_closed i l1 l3 =
+      let none : total c.tasks (λ t. closed (sync_role_of i (w.views t).phase)) ≡ 0 =
+      total_none c.tasks _ (λ t lt. ap (λ p. closed (sync_role_of i p)) (idle t lt)) in
+      omega (arith, none, (good (SyncAt i) l1 l3).holds.blocked)
+
+  -- a callback that is taken is 1
+  untaken : (b : Bool) → bit b ≡ 0 → b ≡ false
+  untaken true h = absurd (omega (arith, h))
+  untaken false h = refl
+
+  -- nobody has taken a callback
+  no_callback : (i : ℕ) → 1 ≤ i → i ≤ 3 → IsUntaken (unpack (w.words.sync i))
+  no_callback i l1 l3 =
+      let s : SyncHoldsIn c w i = good (SyncAt i) l1 l3 in
+      let none : total c.tasks (λ t. claimed (sync_role_of i (w.views t).phase)) ≡ 0 =
+      total_none c.tasks _ (λ t lt. ap (λ p. claimed (sync_role_of i p)) (idle t lt)) in
+      subst IsUntaken (sym s.packed) (untaken s.word.taken (omega (arith, none, s.holds.taken)))
+
   -- so nothing is left
   pub at_rest : IsAtRest c w
   at_rest = record {
     umount_free = free w.words.umount (good Owner).known (good Owner).owned;
     remount_clear = (good Owner).remounting ∙ total_none c.tasks _ (λ t lt. ap remounts (idle t lt));
     hold_clear = λ m lm. hold_unset (w.words.flags m) (good (AtMount m) lm).bits (no_hold m lm);
+    sections_even = no_section;
+    levels_open = no_closed;
+    callbacks_free = no_callback;
   }
