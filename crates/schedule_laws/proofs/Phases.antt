@@ -16,12 +16,14 @@ use Rattle.schedule_laws.proofs.Layers.{phase_keeps}
 
 module _ (c : Config) (within : IsWithin c) (t : ℕ) (held : ℕ → ℕ) (levels : ℕ → Bool) where
   -- the word of its next event is there
-  pub word_there : (phase : Phase) (hook : HookAnswer) → PhaseFits c t held levels phase → IsWord (extents_of c) (next_of phase hook).0
-  word_there phase hook f = (phase_keeps c phase).word within t held levels hook f
+  pub word_there : t < c.tasks → (phase : Phase) (hook : HookAnswer) → PhaseFits c t held levels phase →
+      IsWord (extents_of c) (next_of phase hook).0
+  word_there lt phase hook f = (phase_keeps c phase).word within t lt held levels hook f
 
   -- and so it has a place
-  pub word_placed : (phase : Phase) (hook : HookAnswer) → PhaseFits c t held levels phase → place (next_of phase hook).0 < words_in_all
-  word_placed phase hook f = place_small (extents_of c) (are_few c within) (next_of phase hook).0 (word_there phase hook f)
+  pub word_placed : t < c.tasks → (phase : Phase) (hook : HookAnswer) → PhaseFits c t held levels phase →
+      place (next_of phase hook).0 < words_in_all
+  word_placed lt phase hook f = place_small (extents_of c) (are_few c within) (next_of phase hook).0 (word_there lt phase hook f)
 
   -- the action of the event can be done
   pub action_fits : (phase : Phase) (found : ℕ) (hook : HookAnswer) → PhaseFits c t held levels phase →

@@ -1,5 +1,8 @@
 -- Nothing is left behind: with no operation under way nobody has a lock, a remount or a hold.
-use Rattle.std.proofs.Common.{◌≡◌, ℕ, zero, suc, ◌<◌, ◌≤◌, refl, ap, ◌∙◌, arith}
+use Rattle.percpu_rwsem.specs.SyncWords.{bit, unpack}
+use Rattle.level_laws.specs.Roles.{closed, claimed}
+use Rattle.gate_world.specs.Levels.{is_frozen_whole, sync_role_of, inside}
+use Rattle.std.proofs.Common.{◌≡◌, ℕ, zero, suc, ◌<◌, ◌≤◌, refl, ap, ◌∙◌, arith, Bool, false, true, subst, sym, ◌%◌}
 use Rattle.std.specs.Prelude.{None}
 use Rattle.finite_sums.specs.Sums.{total}
 use Rattle.finite_sums.proofs.Totals.{total_none}
@@ -7,8 +10,8 @@ use Rattle.mount_counts.specs.Roles.{has_hold, hold_bit}
 use Rattle.mount_laws.proofs.Bits.{hold_unset}
 use Rattle.gate_world.specs.declared.config.Config.{Config}
 use Rattle.gate_world.specs.Worlds.{World}
-use Rattle.gate_world.specs.Rules.{owns, remounts, role_of, IsGood, Owner, AtMount}
-use Rattle.gate_world.specs.Headline.{IsAtRest}
+use Rattle.gate_world.specs.Rules.{owns, remounts, role_of, IsGood, Owner, AtMount, SyncHoldsIn, SyncAt, Sections}
+use Rattle.gate_world.specs.Headline.{IsAtRest, IsUntaken}
 
 module _ (c : Config) (w : World) (good : IsGood c w) (idle : (t : ℕ) → t < c.tasks → (w.views t).phase ≡ None) where
   -- a number of `umount` that is of no owner is 0

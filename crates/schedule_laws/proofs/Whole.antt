@@ -1,4 +1,5 @@
 -- What holds of every schedule from the opening on.
+use Rattle.gate_world.specs.KeptCauses.{CauseOf}
 use Rattle.schedule_laws.proofs.Beginnings.{may_begin}
 use Rattle.access_model.specs.Histories.{mounts_of, levels_of}
 use Rattle.gate_world.specs.Views.{HoldsAsBefore}
@@ -24,7 +25,7 @@ use Rattle.access_model.specs.declared.replies.Next.{Next}
 use Rattle.access_model.specs.declared.replies.Next.TheVariants.{Done as Ended}
 use Rattle.schedule_laws.proofs.Layers.{phase_keeps, op_keeps}
 use Rattle.trace_laws.proofs.Traced.{all_traced}
-use Rattle.gate_world.specs.Waits.{WaitsForAnother, EachWaitHasCulprit}
+use Rattle.gate_world.specs.Waits.{WaitsForAnother, EachWaitHasCulprit, HasCulpritAmong}
 use Rattle.gate_world.specs.Causes.{HasCause, RefusalsHaveCauses}
 use Rattle.schedule_laws.proofs.Entries.{TrailHolds, trail_holds, cause_tells}
 use Rattle.schedule_laws.proofs.Schedule.{opening_good, opening_shown, happens_keeps, run_keeps, gate_sums, idle_sums}
