@@ -93,7 +93,7 @@ module _ (memory : Memory) (sound : IsSound memory) (t : ℕ) (lt : t < memory.c
 
   -- and in the list
   pub place_fits : place name < length memory.words
-  place_fits = omega (arith, sound.words, word_placed config sound.within t mounts levels lt phase hook phase_fits)
+  place_fits = omega (arith, sound.words, word_placed config sound.within t mounts levels (omega (arith, lt, sound.within.tasks)) phase hook phase_fits)
 
   -- the action of the event can be done
   pub acts : ActionFits mounts done.1
