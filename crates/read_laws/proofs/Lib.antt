@@ -1,1 +1,2 @@
 pub mod ReadTraces
+pub mod ReadFits
