@@ -254,4 +254,4 @@ module _ (c : Config) (within : IsWithin c) (t : ℕ) (held : ℕ → ℕ) (leve
   callback_goes s found f =
       let some : 0 < b.tasks = omega (arith, f.2, within.some_task) in
       all_fit f.0 f.1 f.2 (callback_after b s found).0 (same_level b s found)
-          (grace_goes b s found some (subst (λ n. GraceFits n s) (sym f.2) f.3)) (knows_next b s found some f.4)
+      (grace_goes b s found some (subst (λ n. GraceFits n s) (sym f.2) f.3)) (knows_next b s found some f.4)
