@@ -1,3 +1,4 @@
 pub mod ReadTraces
 pub mod ReadFits
 pub mod CallbackTraces
+pub mod ReadCauses
