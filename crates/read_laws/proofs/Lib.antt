@@ -2,3 +2,4 @@ pub mod ReadTraces
 pub mod ReadFits
 pub mod CallbackTraces
 pub mod ReadCauses
+pub mod ReadWaits
