@@ -1,12 +1,12 @@
 -- All that is proved of a start and of an end.
-use Rattle.std.proofs.Common.{◌≡◌, ℕ, ◌<◌, Bool, true, false, refl, sym, ap, subst, ◌∙◌, arith, ◌≤◌}
-use Rattle.std.specs.Prelude.{nat_lt, Some, List, ◌&&◌, ◌==◌}
+use Rattle.std.proofs.Common.{◌≡◌, ℕ, ◌<◌, Bool, true, refl, sym, ap, subst, ◌∙◌, arith, ◌≤◌}
+use Rattle.std.specs.Prelude.{nat_lt, Some, ◌&&◌, ◌==◌}
 use Rattle.std.proofs.lemmas.Bool.{ltb-true}
 use Rattle.cpu_words.specs.Hooks.{HookAnswer}
 use Rattle.percpu_rwsem.specs.declared.readers.DownRead.{DownRead}
 use Rattle.percpu_rwsem.specs.declared.readers.UpRead.{UpRead}
 use Rattle.percpu_rwsem.specs.declared.readers.DownReadStep.{DownReadStep}
-use Rattle.percpu_rwsem.specs.declared.readers.DownReadStep.TheVariants.{EntersSection, LoadsSync, CountsUpFast, CountsUpSlow, LoadsBlock, CountsDown, LeavesAdmitted, LeavesBlocked}
+use Rattle.percpu_rwsem.specs.declared.readers.DownReadStep.TheVariants.{EntersSection}
 use Rattle.percpu_rwsem.specs.Readers.{down_read_after, at_down_read}
 use Rattle.gate_counts.specs.Levels.{Out as CountsNot}
 use Rattle.level_laws.specs.Roles.{Out as IsApart, closed}
@@ -17,7 +17,7 @@ use Rattle.gate_world.specs.declared.work.Phase.TheVariants.{DownReads, UpReads}
 use Rattle.gate_world.specs.Causes.{asks_level}
 use Rattle.gate_world.specs.Configs.{IsWithin}
 use Rattle.gate_world.specs.Fits.{Fits, mounts_by, levels_by}
-use Rattle.gate_world.specs.Levels.{level_role_of, sync_role_of, count_role_if, sync_role_if}
+use Rattle.gate_world.specs.Levels.{sync_role_of, count_role_if, sync_role_if}
 use Rattle.gate_world.specs.Operations.{is_level_number}
 use Rattle.gate_world.specs.Rules.{IsGood, StepKeeps, Fitting}
 use Rattle.gate_world.specs.Traces.{most_events}
