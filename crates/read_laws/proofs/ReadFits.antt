@@ -62,32 +62,31 @@ module _ (h k : ℕ → Bool) (levels : (i : ℕ) → 1 ≤ i → i ≤ 3 → h 
   read_step_agrees i LeavesAdmitted l1 l3 f = sym (levels i l1 l3) ∙ f
   read_step_agrees i s l1 l3 f = sym (none_from_agree i) ∙ f
 
-module _ (c : Config) (t : ℕ) (levels : ℕ → Bool) where
-  -- the word of each event of a down-read is there
-  pub read_there : t < c.tasks → (r : DownRead) (s : DownReadStep) → 1 ≤ r.level → r.level ≤ 3 → r.cpu < c.processors → r.task ≡ t →
-      IsWord (extents_of c) (down_read_next r s).0
-  read_there lt r EntersSection l1 l3 p same = omega (arith, same, lt)
-  read_there lt r LoadsSync l1 l3 p same = (l1, l3)
-  read_there lt r CountsUpFast l1 l3 p same = (l1, l3, p)
-  read_there lt r CountsUpSlow l1 l3 p same = (l1, l3, p)
-  read_there lt r LoadsBlock l1 l3 p same = (l1, l3)
-  read_there lt r CountsDown l1 l3 p same = (l1, l3, p)
-  read_there lt r LeavesAdmitted l1 l3 p same = omega (arith, same, lt)
-  read_there lt r LeavesBlocked l1 l3 p same = omega (arith, same, lt)
+-- the word of each event of a down-read is there
+pub read_there : (c : Config) (t : ℕ) → t < c.tasks → (r : DownRead) (s : DownReadStep) → 1 ≤ r.level → r.level ≤ 3 →
+    r.cpu < c.processors → r.task ≡ t → IsWord (extents_of c) (down_read_next r s).0
+read_there c t lt r EntersSection l1 l3 p same = omega (arith, same, lt)
+read_there c t lt r LoadsSync l1 l3 p same = (l1, l3)
+read_there c t lt r CountsUpFast l1 l3 p same = (l1, l3, p)
+read_there c t lt r CountsUpSlow l1 l3 p same = (l1, l3, p)
+read_there c t lt r LoadsBlock l1 l3 p same = (l1, l3)
+read_there c t lt r CountsDown l1 l3 p same = (l1, l3, p)
+read_there c t lt r LeavesAdmitted l1 l3 p same = omega (arith, same, lt)
+read_there c t lt r LeavesBlocked l1 l3 p same = omega (arith, same, lt)
 
-  -- its action can be done
-  pub read_acts : (held : ℕ → ℕ) (r : DownRead) (s : DownReadStep) (found : ℕ) → 1 ≤ r.level → r.level ≤ 3 →
-      ActionFits held (down_read_after r s found).1
-  read_acts held r CountsUpFast found l1 l3 = (l1, l3)
-  read_acts held r LoadsBlock found l1 l3 =
-      by_bool (found == 0) (λ b. ActionFits held (if b then Some (Grant (Level r.level)) else None)) (l1, l3) tt
-  read_acts held r s found l1 l3 = tt
+-- its action can be done
+pub read_acts : (held : ℕ → ℕ) (r : DownRead) (s : DownReadStep) (found : ℕ) → 1 ≤ r.level → r.level ≤ 3 →
+    ActionFits held (down_read_after r s found).1
+read_acts held r CountsUpFast found l1 l3 = (l1, l3)
+read_acts held r LoadsBlock found l1 l3 =
+    by_bool (found == 0) (λ b. ActionFits held (if b then Some (Grant (Level r.level)) else None)) (l1, l3) tt
+read_acts held r s found l1 l3 = tt
 
-  -- it moves no access at a mount
-  pub read_mounts : (held : ℕ → ℕ) (r : DownRead) (s : DownReadStep) (found : ℕ) → mounts_by (down_read_after r s found).1 held ≡ held
-  read_mounts held r LoadsBlock found =
-      by_bool (found == 0) (λ b. mounts_by (if b then Some (Grant (Level r.level)) else None) held ≡ held) refl refl
-  read_mounts held r s found = refl
+-- it moves no access at a mount
+pub read_mounts : (held : ℕ → ℕ) (r : DownRead) (s : DownReadStep) (found : ℕ) → mounts_by (down_read_after r s found).1 held ≡ held
+read_mounts held r LoadsBlock found =
+    by_bool (found == 0) (λ b. mounts_by (if b then Some (Grant (Level r.level)) else None) held ≡ held) refl refl
+read_mounts held r s found = refl
 
 -- What comes after an event of a down-read at this level, on this processor, fits these accesses; and where it ends well, the level is
 -- held. So an operation that goes on inside the level knows that it is.

@@ -47,8 +47,8 @@ pub read_phase_by : (c : Config) (r : DownRead) → KeepsRule c (DownReads r) �
 read_phase_by c r keeps = record {
   step = λ within w good t lt hook e. keeps within w good t lt hook e;
   completes = λ within w good t lt hook e. completes_none c w t hook (DownReads r) (λ trace found. refl);
-  word = λ within t lt held levels hook f. read_there c t levels lt r r.step f.0 f.1 f.2 f.3;
-  acts = λ within t held levels found hook f. read_acts c t levels held r r.step found f.0 f.1;
+  word = λ within t lt held levels hook f. read_there c t lt r r.step f.0 f.1 f.2 f.3;
+  acts = λ within t held levels found hook f. read_acts held r r.step found f.0 f.1;
   goes = λ within t held levels found hook f.
       read_fits c t r.level r.cpu (mounts_by (down_read_after r r.step found).1 held)
       (levels_by (down_read_after r r.step found).1 levels) (down_read_after r r.step found).0
