@@ -1,1 +1,2 @@
 pub mod LevelWorlds
+pub mod ReadLevels
