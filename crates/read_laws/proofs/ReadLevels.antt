@@ -156,8 +156,8 @@ module _ (c : Config) (w : World) (good : IsGood c w) (hook : HookAnswer) (r : D
   )
 
   -- an addition to its section word is an event of each level
-  turned : (v : View) → down_read_role s ≡ IsApart → ((i : ℕ) → sync_role_of i v.phase ≡ IsApart) → inside v.phase ≡ 1 - down_read_inside s →
-      LevelsHold c (record { words = turned_words c w good r.task lt; views = update w.views r.task v })
+  turned : (v : View) → down_read_role s ≡ IsApart → ((i : ℕ) → sync_role_of i v.phase ≡ IsApart) →
+      inside v.phase ≡ 1 - down_read_inside s → LevelsHold c (record { words = turned_words c w good r.task lt; views = update w.views r.task v })
   turned v apart off turns =
       let now : (i : ℕ) → sync_role_of i (w.views r.task).phase ≡ IsApart =
       λ i. ap (sync_role_of i) e ∙ (ap (sync_role_if (i == r.level)) apart ∙ apart_if (i == r.level)) in
