@@ -1,0 +1,2 @@
+pub mod LevelParts
+pub mod LevelCounts
