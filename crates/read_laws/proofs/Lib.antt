@@ -1,2 +1,4 @@
 pub mod LevelWorlds
 pub mod ReadLevels
+pub mod LevelParts
+pub mod LevelCounts
