@@ -40,7 +40,7 @@ module _ (number : ℕ) (c : Config) (begins : Option Op) (phase : Phase) (acces
   word_inside : (l : SeatItems) → Ties number c begins (kept_at (Some phase) accesses) flags l → place (next_of phase hook).0 < words_in_all
   word_inside [] t = absurd t
   word_inside (x ∷ xs) t =
-      word_placed c t.within x.number (held_at x.view) (holds_level x.view) phase hook t.fits
+      word_placed c t.within x.number (held_at x.view) (holds_level x.view) (omega (arith, t.below, t.same_number)) phase hook t.fits
 
   -- the own number may do the event
   may_act : (l : SeatItems) → Ties number c begins (kept_at (Some phase) accesses) flags l → Acts c begins phase l

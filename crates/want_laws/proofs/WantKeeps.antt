@@ -9,7 +9,7 @@ use Rattle.mount_counts.specs.declared.phases.WantStep.TheVariants.{CountsDown}
 use Rattle.gate_world.specs.declared.config.Config.{Config}
 use Rattle.gate_world.specs.declared.work.Phase.TheVariants.{Mounts}
 use Rattle.gate_world.specs.Fits.{Fits}
-use Rattle.gate_frames.proofs.Keeps.{by_bool, PhaseKeeps, IsSmall, OpKeeps}
+use Rattle.gate_frames.proofs.Keeps.{by_bool, PhaseKeeps, IsSmall, OpKeeps, word_among}
 use Rattle.gate_frames.proofs.Loads.{role_none}
 use Rattle.gate_frames.proofs.Snapshots.{completes_none}
 use Rattle.gate_world.specs.declared.operations.Op.TheVariants.{Want as WantOp, DropMount}
@@ -34,7 +34,7 @@ pub want_phase : (c : Config) (x : Want) → PhaseKeeps c (Mounts (Wants x))
 want_phase c x = record {
   step = λ lim w good t lt hook e. want_keeps c lim w good t lt hook x.mount x.cpu x.wait x.step e;
   completes = λ lim w good t lt hook e. completes_none c w t hook (Mounts (Wants x)) (λ trace found. refl);
-  word = λ lim t lt held levels hook f. want_there c lim t held levels x x.step f.0 f.1;
+  word = λ lim n le t lt held levels hook f. word_among c n le _ (want_there c lim t held levels x x.step f.0 f.1);
   acts = λ lim t held levels found hook f. want_acts c lim t held levels x x.step found (omega (arith, f.0, lim.mounts)) f.2;
   goes = λ lim t held levels found hook f. want_goes c lim t held levels x x.step found f;
   agrees = λ t f g h k mounts levels fits. (fits.0, fits.1, omega (arith, fits.2, mounts x.mount fits.0));
@@ -53,7 +53,7 @@ pub drop_phase : (c : Config) (m p : ℕ) → PhaseKeeps c (Mounts (Drops m p))
 drop_phase c m p = record {
   step = λ lim w good t lt hook e. drop_keeps c lim w good t lt hook m p e;
   completes = λ lim w good t lt hook e. completes_none c w t hook (Mounts (Drops m p)) (λ trace found. refl);
-  word = λ lim t lt held levels hook f. (f.0, f.1);
+  word = λ lim n le t lt held levels hook f. (f.0, f.1);
   acts = λ lim t held levels found hook f. (omega (arith, f.0, lim.mounts), f.2);
   goes = λ lim t held levels found hook f. tt;
   agrees = λ t f g h k mounts levels fits. (fits.0, fits.1, omega (arith, fits.2, mounts m fits.0));
