@@ -3,6 +3,7 @@
 ghost use Rattle.vfs_gates.specs.TaskStates.{IsFrom};
 
 mod hooks;
+mod levels;
 mod remounts;
 mod worked;
 
