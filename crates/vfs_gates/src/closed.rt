@@ -52,8 +52,8 @@ fn count_of(gate: Gate, cpu: u8) -> WordName
 }
 
 impl Closed {
-    ghost use Rattle.access_model.specs.declared.actions.Gate.TheVariants.{Mount};
-    ghost use Rattle.cpu_words.specs.declared.names.WordName.TheVariants.{Umount, Remount, MountFlags};
+    ghost use Rattle.access_model.specs.declared.actions.Gate.TheVariants.{Mount, Level};
+    ghost use Rattle.cpu_words.specs.declared.names.WordName.TheVariants.{Umount, Remount, MountFlags, Section};
 
     /// The value of a word; None where there is no such word.
     pub fn word(&self, name: WordName) -> Option<u64>
@@ -63,6 +63,8 @@ impl Closed {
         ensures umount { name ≡ Umount → result ≡ Some 0 }
         ensures remount { name ≡ Remount → result ≡ Some 0 }
         ensures hold { (m : ℕ) → name ≡ MountFlags m → IfSome result (λ flags. flags < 2) }
+        // No task is inside a reader's section.
+        ensures section { (t : ℕ) → name ≡ Section t → IfSome result (λ word. word % 2 ≡ 0) }
     {
         if self.config.has_word(name) {
             Some(word_of(&self.closed, name))
@@ -80,6 +82,8 @@ impl Closed {
         ensures not_there { ¬ IsGate self.now.config gate → result ≡ None }
         // Every access at a mount was given back, on whatever processors.
         ensures mounts { (m : ℕ) → gate ≡ Mount m → m < self.now.config.mounts → result ≡ Some 0 }
+        // Every level was left, on whatever processors.
+        ensures levels { (i : ℕ) → gate ≡ Level i → (1 ≤ i) × (i ≤ 3) → result ≡ Some 0 }
     {
         if !self.config.has_word(count_of(gate, 0)) {
             return None;
