@@ -7,14 +7,26 @@ use anyhow::{Result, bail};
 use gate_world::Config;
 use std::alloc::Global;
 use std::rt::Clock;
+use std::sync::Wait;
 use std::thread;
 use std::thread::Threads;
 use std::time::{Duration, Instant};
 use vfs_gates::{Gates, Task};
 
+/// What is taken and given back in a pair.
+#[derive(Clone, Copy, PartialEq, Eq, Debug)]
+pub(crate) enum Pair {
+    /// An access at mount 0.
+    Mount,
+    /// A place inside level 1.
+    Level,
+    /// Write access: both.
+    WriteAccess,
+}
+
 /// Takes an access at mount 0 and gives it back, so often, on the processor with the task's own number, and says whether each call
 /// was done.
-fn take_and_give(mut task: Task, gates: &Gates, pairs: u32) -> bool
+fn want_and_drop(mut task: Task, gates: &Gates, pairs: u32) -> bool
     requires { IsFrom task gates.now }
 {
     let cpu = task.number();
@@ -24,6 +36,44 @@ fn take_and_give(mut task: Task, gates: &Gates, pairs: u32) -> bool
         }
     }
     true
+}
+
+/// Goes inside level 1 and leaves it, likewise.
+fn start_and_end(mut task: Task, gates: &Gates, pairs: u32) -> bool
+    requires { IsFrom task gates.now }
+{
+    let cpu = task.number();
+    for _round in 0..pairs {
+        if task.try_start(gates, 1, cpu).is_err() || task.end(gates, 1, cpu).is_err() {
+            return false;
+        }
+    }
+    true
+}
+
+/// Takes write access at mount 0 and gives it back, likewise.
+fn want_and_drop_write<R: Wait>(mut task: Task, rt: &R, gates: &Gates, pairs: u32) -> bool
+    requires { IsFrom task gates.now }
+{
+    let cpu = task.number();
+    for _round in 0..pairs {
+        let wanted = task.want_write(rt, gates, 0, cpu);
+        if wanted.is_err() || task.drop_write(gates, 0, cpu).is_err() {
+            return false;
+        }
+    }
+    true
+}
+
+/// Does so many pairs of one kind.
+fn do_pairs<R: Wait>(task: Task, rt: &R, gates: &Gates, pair: Pair, pairs: u32) -> bool
+    requires { IsFrom task gates.now }
+{
+    match pair {
+        Pair::Mount => want_and_drop(task, gates, pairs),
+        Pair::Level => start_and_end(task, gates, pairs),
+        Pair::WriteAccess => want_and_drop_write(task, rt, gates, pairs),
+    }
 }
 
 /// The first task and those that it gives its numbers to, so many in all, or the first alone.
@@ -41,9 +91,10 @@ fn tasks_of(alloc: Global, gates: &Gates, mut first: Task, threads: u8) -> Resul
 }
 
 /// How long so many threads take for so many pairs each, every thread with a task and a processor of its own.
-pub(crate) fn measure<R: Threads + Clock + Sync>(
+pub(crate) fn measure<R: Threads + Wait + Clock + Sync>(
     rt: &R,
     alloc: Global,
+    pair: Pair,
     threads: u8,
     pairs: u32,
 ) -> Result<Duration> {
@@ -63,7 +114,7 @@ pub(crate) fn measure<R: Threads + Clock + Sync>(
         tasks,
         &|task| -> bool
             requires { IsFrom task shared.now }
-        { take_and_give(task, shared, pairs) },
+        { do_pairs(task, rt, shared, pair, pairs) },
     )?;
     let took = start.elapsed(rt)?;
     if !done.iter().all(|each| *each) {

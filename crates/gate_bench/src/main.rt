@@ -1,5 +1,6 @@
-//! Measures how many pairs of a taken and a returned access threads do in a second: at the gates, each thread at a processor of
-//! its own; at one count word that all threads share; and at a read lock. With no argument it measures nothing and prints nothing.
+//! Measures how many pairs of a taking and a return threads do in a second: at the gates, of an access at a mount, of a place inside
+//! a level and of write access, each thread at a processor of its own; at one count word that all threads share; and at a read lock.
+//! With no argument it measures nothing and prints nothing.
 #![tactic(auto)]
 
 mod at_gates;
@@ -7,6 +8,7 @@ mod at_others;
 mod rates;
 
 use anyhow::Result;
+use at_gates::Pair;
 use rates::{Subject, print_rate};
 use std::alloc::Global;
 use std::rt::Clock;
@@ -21,6 +23,15 @@ const PAIRS: u32 = 1_000_000;
 
 /// How many threads there are in each measurement.
 const THREADS: [u8; 3] = [1, 2, 4];
+
+/// What is measured, in this order.
+const SUBJECTS: [Subject; 5] = [
+    Subject::Gates(Pair::Mount),
+    Subject::Gates(Pair::Level),
+    Subject::Gates(Pair::WriteAccess),
+    Subject::SharedWord,
+    Subject::ReadLock,
+];
 
 fn main(rt: HostRuntime) -> Result<()> {
     let words: Vec<String> = std::env::args(&rt)?.collect(rt.alloc())?;
@@ -40,16 +51,16 @@ fn main(rt: HostRuntime) -> Result<()> {
     Ok(())
 }
 
-/// Measures and prints the three subjects with so many threads.
+/// Measures and prints each subject with so many threads.
 fn measure<R: Threads + Wait + Clock + Print + Sync>(
     rt: &R,
     alloc: Global,
     threads: u8,
     pairs: u32,
 ) -> Result<()> {
-    for subject in [Subject::Gates, Subject::SharedWord, Subject::ReadLock] {
+    for subject in SUBJECTS {
         let took = match subject {
-            Subject::Gates => at_gates::measure(rt, alloc, threads, pairs)?,
+            Subject::Gates(pair) => at_gates::measure(rt, alloc, pair, threads, pairs)?,
             Subject::SharedWord => at_others::measure_word(rt, alloc, threads, pairs)?,
             Subject::ReadLock => at_others::measure_lock(rt, alloc, threads, pairs)?,
         };

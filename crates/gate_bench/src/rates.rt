@@ -2,13 +2,14 @@
 
 ghost use Rattle.std.specs.Prelude.{◌≡◌, ◌*◌, ◌/◌, max};
 
+use crate::at_gates::Pair;
 use std::time::Duration;
 use std::{fmt, io};
 
 /// What is measured.
 #[derive(Clone, Copy, PartialEq, Eq, Debug)]
 pub(crate) enum Subject {
-    Gates,
+    Gates(Pair),
     SharedWord,
     ReadLock,
 }
@@ -16,7 +17,9 @@ pub(crate) enum Subject {
 impl fmt::Display for Subject {
     fn fmt<W: fmt::Write>(&self, f: &mut fmt::Formatter<W>) -> fmt::Result {
         f.write_str(match self {
-            Subject::Gates => "gates",
+            Subject::Gates(Pair::Mount) => "mount",
+            Subject::Gates(Pair::Level) => "level",
+            Subject::Gates(Pair::WriteAccess) => "write access",
             Subject::SharedWord => "shared word",
             Subject::ReadLock => "read lock",
         })
