@@ -47,7 +47,7 @@ pub read_phase_by : (c : Config) (r : DownRead) → KeepsRule c (DownReads r) �
 read_phase_by c r keeps = record {
   step = λ within w good t lt hook e. keeps within w good t lt hook e;
   completes = λ within w good t lt hook e. completes_none c w t hook (DownReads r) (λ trace found. refl);
-  word = λ within t lt held levels hook f. read_there c t lt r r.step f.0 f.1 f.2 f.3;
+  word = λ within n le t lt held levels hook f. read_there (record c { tasks = n }) t lt r r.step f.0 f.1 f.2 f.3;
   acts = λ within t held levels found hook f. read_acts held r r.step found f.0 f.1;
   goes = λ within t held levels found hook f.
       read_fits c t r.level r.cpu (mounts_by (down_read_after r r.step found).1 held)
@@ -76,7 +76,7 @@ pub end_phase_by : (c : Config) (u : UpRead) → KeepsRule c (UpReads u) → Pha
 end_phase_by c u keeps = record {
   step = λ within w good t lt hook e. keeps within w good t lt hook e;
   completes = λ within w good t lt hook e. completes_none c w t hook (UpReads u) (λ trace found. refl);
-  word = λ within t lt held levels hook f. (f.0, f.1, f.2);
+  word = λ within n le t lt held levels hook f. (f.0, f.1, f.2);
   acts = λ within t held levels found hook f. (f.0, f.1);
   goes = λ within t held levels found hook f. tt;
   agrees = λ t f g h k mounts levels fits. (fits.0, fits.1, fits.2, sym (levels u.level fits.0 fits.1) ∙ fits.3);
