@@ -1,2 +1,4 @@
+pub mod LevelWorlds
 pub mod LevelParts
 pub mod LevelCounts
+pub mod ReadEvents
