@@ -66,13 +66,6 @@ module _ (c : Config) (w : World) (good : IsGood c w) (t : ℕ) (lt : t < c.task
               left_alone c w t lt (AtLevel j) ws v (ap (λ f. f j) words.block_same, o.0, whole_same w.words ws words) o.1 (good (AtLevel j))
         ]
 
-    -- one that counts at none
-    pub levels_same : ws.level ≡ w.words.level → ((j : ℕ) → at_level j v ≡ at_level j (w.views t)) →
-        (j : ℕ) → Holds c (record { words = ws; views = update w.views t v }) (AtLevel j)
-    levels_same counts seen j =
-        left_alone c w t lt (AtLevel j) ws v (ap (λ f. f j) words.block_same, ap (λ f. f j) counts, whole_same w.words ws words) (seen j)
-        (good (AtLevel j))
-
 -- 1 where an access is held
 abbrev pub bit : Bool → ℕ
 bit b = if b then 1 else 0

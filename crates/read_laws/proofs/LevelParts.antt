@@ -12,7 +12,7 @@ use Rattle.access_model.specs.Replies.{map_next}
 use Rattle.gate_world.specs.Worlds.{World}
 use Rattle.gate_world.specs.declared.work.Phase.TheVariants.{UpReads, DownReads}
 use Rattle.percpu_rwsem.specs.declared.readers.DownRead.{DownRead}
-use Rattle.gate_world.specs.Levels.{is_frozen_whole, sync_role_of, inside}
+use Rattle.gate_world.specs.Levels.{is_frozen_whole, sync_role_of, inside, at_level}
 use Rattle.gate_world.specs.Views.{held_at, added_by, phase_after, taken_by, holds_level}
 use Rattle.gate_world.specs.Rules.{owns, remounts, IsGood, relied, Holds, ViewFits, Owner, Known, AtMount, AtLevel, role_of, SyncAt, Sections, Superblock, Stages, Fitting, Relying, Nodes}
 use Rattle.gate_world.specs.declared.config.Config.{Config}
@@ -174,3 +174,10 @@ module _ (c : Config) (w : World) (good : IsGood c w) (t : ℕ) (lt : t < c.task
   -- and the sections, where it is inside one or not as before
   pub sections_left_at : ws.section ≡ w.words.section → inside v.phase ≡ inside (w.views t).phase → Holds c then_world Sections
   sections_left_at section same = left_alone c w t lt Sections ws v section same (good Sections)
+
+  -- the counts of a level, where the task counts there as it did
+  pub counts_left_at : ws.level ≡ w.words.level → ((i : ℕ) → at_level i v ≡ at_level i (w.views t)) → (i : ℕ) →
+      Holds c then_world (AtLevel i)
+  counts_left_at counts same i =
+      left_alone c w t lt (AtLevel i) ws v
+      (ap (λ f. f i) words.block_same, ap (λ f. f i) counts, whole_same w.words ws words) (same i) (good (AtLevel i))
