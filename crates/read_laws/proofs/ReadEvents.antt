@@ -1,4 +1,6 @@
 -- Each event of a start.
+use Rattle.gate_counts.proofs.LevelLaws.{is_refused, is_granted}
+use Rattle.finite_sums.proofs.Totals.{update_same, update_off, update_at}
 use Rattle.level_laws.proofs.ReadOperations.{down_reads_are_there}
 use Rattle.level_laws.specs.Events.{SyncStep}
 use Rattle.access_model.specs.declared.actions.Action.{Action}
@@ -6,14 +8,14 @@ use Rattle.cpu_words.specs.declared.events.Touch.{Touch}
 use Rattle.percpu_rwsem.specs.SyncWords.{unpack}
 use Rattle.cpu_words.specs.declared.names.WordName.{WordName}
 use Rattle.gate_frames.proofs.Frames.{level_view_as}
-use Rattle.read_laws.proofs.LevelWorlds.{not_passed, sync_turned, sections_turned, sync_on, sync_off, IsEventAt, level_in, touched, sync_there, sync_elsewhere}
+use Rattle.read_laws.proofs.LevelWorlds.{not_passed, sync_turned, sections_turned, sync_on, sync_off, IsEventAt, level_in, touched, sync_there, sync_elsewhere, fast_finds_open}
 use Rattle.access_model.specs.declared.actions.Gate.TheVariants.{Level}
 use Rattle.access_model.specs.declared.replies.Reply.TheVariants.{Unit as UnitReply}
 use Rattle.cpu_words.specs.Touches.{wrap_add}
-use Rattle.cpu_words.specs.declared.events.Touch.TheVariants.{Add, Load}
+use Rattle.cpu_words.specs.declared.events.Touch.TheVariants.{Add, Load, Sub}
 use Rattle.access_model.specs.declared.actions.Action.TheVariants.{Grant}
 use Rattle.gate_world.specs.Shown.{shown}
-use Rattle.cpu_words.specs.declared.names.WordName.TheVariants.{Section, Sync}
+use Rattle.cpu_words.specs.declared.names.WordName.TheVariants.{Section, Sync, LevelCount, Block}
 use Rattle.access_model.specs.declared.replies.Next.TheVariants.{Go, Done}
 use Rattle.finite_sums.specs.Sums.{update}
 use Rattle.gate_world.specs.declared.views.View.{View}
@@ -21,18 +23,18 @@ use Rattle.access_model.specs.Actions.{IsAllowed}
 use Rattle.cpu_words.specs.Words.{Words, put, read}
 use Rattle.access_model.specs.declared.replies.Next.{Next}
 use Rattle.gate_world.specs.declared.work.Phase.{Phase}
-use Rattle.read_laws.proofs.LevelParts.{IsAtLevels, reads_at_levels, IsBeside, SameAtMounts, level_parts, level_still, counts_left_at, sections_left_at}
+use Rattle.read_laws.proofs.LevelParts.{IsAtLevels, reads_at_levels, IsBeside, SameAtMounts, level_parts, level_still, counts_left_at, sections_left_at, sync_left_at, level_shown}
 use Rattle.cpu_words.specs.Hooks.{HookAnswer}
-use Rattle.gate_world.specs.Rules.{IsGood, StepKeeps, Fitting, Holds, SyncAt, Sections}
+use Rattle.gate_world.specs.Rules.{IsGood, StepKeeps, Fitting, Holds, SyncAt, Sections, Moves, AtLevel}
 use Rattle.gate_world.specs.Worlds.{World}
 use Rattle.gate_world.specs.Configs.{IsWithin, model_limits}
-use Rattle.read_laws.proofs.LevelCounts.{count_none, sync_none, count_on, count_off}
+use Rattle.read_laws.proofs.LevelCounts.{count_none, sync_none, count_on, count_off, SameElsewhere, words_up, LevelHoldsAfter, up_beside, words_down, seeks, down_beside, enters_fast, backs_off, held_bit, level_follows, bit_room}
 use Rattle.gate_world.specs.declared.work.Phase.TheVariants.{DownReads}
 use Rattle.access_model.specs.Replies.{map_next}
 use Rattle.percpu_rwsem.specs.declared.sync_word.GpState.TheVariants.{Idle, Enter, Passed, Exit, Replay}
 use Rattle.gate_world.specs.Views.{phase_after, holds_level, held_at, view_with}
 use Rattle.gate_world.specs.Fits.{ReadFits, ReadStepFits, Fits}
-use Rattle.gate_world.specs.Levels.{read_count_role, level_role_of, sync_role_of, inside, count_role_if, sync_role_if}
+use Rattle.gate_world.specs.Levels.{read_count_role, level_role_of, sync_role_of, inside, count_role_if, sync_role_if, at_level}
 use Rattle.percpu_rwsem.specs.declared.readers.DownRead.{DownRead}
 use Rattle.percpu_rwsem.specs.Readers.{step_in, step_found, at_down_read, left_blocked}
 use Rattle.level_laws.specs.Operations.{down_read_inside, down_read_role, left_by}
@@ -299,3 +301,184 @@ module _ (c : Config) (lim : IsWithin c) (w : World) (good : IsGood c w) (t : �
             (path.inside_still ∙ sym (ap inside e))),
         level_still c w good t lt ws v beside (at_levels LoadsSync e) (reads_at_levels n) mounts refl,
       )
+
+  -- at other levels it counts nowhere before and after an event that leaves what the task holds
+  same_elsewhere : (s s' : DownReadStep) → IsAt s → (v : View) → v.phase ≡ Some (DownReads (at_down_read r s')) →
+      holds_level v ≡ holds_level (w.views t) → SameElsewhere r.level (w.views t) v
+  same_elsewhere s s' e v q held = record {
+    held_same = λ j ne. ap (λ f. held_bit (f j)) held;
+    role_same = λ j ne. counts_there s' q j ne ∙ sym (counts_there s e j ne);
+  }
+
+  -- nor after a grant of its level
+  granted_elsewhere : (s s' : DownReadStep) → IsAt s → (v : View) → v.phase ≡ Some (DownReads (at_down_read r s')) →
+      holds_level v ≡ update (holds_level (w.views t)) r.level true → SameElsewhere r.level (w.views t) v
+  granted_elsewhere s s' e v q held = record {
+    held_same = λ j ne. ap (λ f. held_bit (f j)) held ∙ ap held_bit (update_off (holds_level (w.views t)) r.level true j ne);
+    role_same = λ j ne. counts_there s' q j ne ∙ sym (counts_there s e j ne);
+  }
+
+  -- an addition on the slow path
+  counts_up_slow : IsAt CountsUpSlow → StepKeeps c w t hook (DownReads (at_down_read r CountsUpSlow))
+  counts_up_slow e =
+      let i : ℕ = r.level in
+      let f : FitsHere CountsUpSlow = fits_here CountsUpSlow e in
+      let n : Next DownRead = Go (at_down_read r LoadsBlock) in
+      let v : View = then_view (LevelCount i r.cpu, Add 1) (n, None) in
+      let ws : Words = words_up c lim w good t lt i r.cpu f.2 hook (map_next DownReads n, None) in
+      let beside : IsBeside w.words ws = up_beside c lim w good t lt i r.cpu f.2 hook (map_next DownReads n, None) in
+      let mounts : SameAtMounts (w.views t) v = record { held_same = refl; added_same = refl; taken_same = refl } in (
+        level_parts c w good t lt ws v beside (at_levels CountsUpSlow e) (reads_at_levels n) mounts f
+            (seeks c lim w good t lt i r.cpu f.2 hook (map_next DownReads n, None) (counts_here CountsUpSlow e) (counts_here LoadsBlock refl) refl
+            (same_elsewhere CountsUpSlow LoadsBlock e v refl refl))
+            (sync_left_at c w good t lt ws v beside (at_levels CountsUpSlow e) (reads_at_levels n) refl refl
+            (λ j. apart_nowhere LoadsBlock refl refl j ∙ sym (apart_nowhere CountsUpSlow e refl j)))
+            (sections_left_at c w good t lt ws v beside (at_levels CountsUpSlow e) (reads_at_levels n) refl (sym (ap inside e))),
+        level_still c w good t lt ws v beside (at_levels CountsUpSlow e) (reads_at_levels n) mounts refl,
+      )
+
+  -- a subtraction by a task that was blocked
+  counts_down : IsAt CountsDown → StepKeeps c w t hook (DownReads (at_down_read r CountsDown))
+  counts_down e =
+      let i : ℕ = r.level in
+      let f : FitsHere CountsDown = fits_here CountsDown e in
+      let n : Next DownRead = Go (at_down_read r LeavesBlocked) in
+      let v : View = then_view (LevelCount i r.cpu, Sub 1) (n, None) in
+      let ws : Words = words_down c lim w good t lt i r.cpu f.2 hook (map_next DownReads n, None) in
+      let beside : IsBeside w.words ws = down_beside c lim w good t lt i r.cpu f.2 hook (map_next DownReads n, None) in
+      let mounts : SameAtMounts (w.views t) v = record { held_same = refl; added_same = refl; taken_same = refl } in (
+        level_parts c w good t lt ws v beside (at_levels CountsDown e) (reads_at_levels n) mounts f
+            (backs_off c lim w good t lt i r.cpu f.2 hook (map_next DownReads n, None) (counts_here CountsDown e) (counts_here LeavesBlocked refl) refl
+            (same_elsewhere CountsDown LeavesBlocked e v refl refl))
+            (sync_left_at c w good t lt ws v beside (at_levels CountsDown e) (reads_at_levels n) refl refl
+            (λ j. apart_nowhere LeavesBlocked refl refl j ∙ sym (apart_nowhere CountsDown e refl j)))
+            (sections_left_at c w good t lt ws v beside (at_levels CountsDown e) (reads_at_levels n) refl (sym (ap inside e))),
+        level_still c w good t lt ws v beside (at_levels CountsDown e) (reads_at_levels n) mounts refl,
+      )
+
+  -- an addition on the fast path, which is the grant
+  counts_up_fast : IsAt CountsUpFast → StepKeeps c w t hook (DownReads (at_down_read r CountsUpFast))
+  counts_up_fast e =
+      let i : ℕ = r.level in
+      let f : FitsHere CountsUpFast = fits_here CountsUpFast e in
+      let clear : w.words.block i ≡ 0 = fast_finds_open c w good i f.0 f.1 t lt (sync_here CountsUpFast e) in
+      let n : Next DownRead = Go (at_down_read r LeavesAdmitted) in
+      let a : Option Action = Some (Grant (Level i)) in
+      let v : View = then_view (LevelCount i r.cpu, Add 1) (n, a) in
+      let ws : Words = words_up c lim w good t lt i r.cpu f.2 hook (map_next DownReads n, a) in
+      let beside : IsBeside w.words ws = up_beside c lim w good t lt i r.cpu f.2 hook (map_next DownReads n, a) in
+      let mounts : SameAtMounts (w.views t) v = record { held_same = refl; added_same = refl; taken_same = refl } in (
+        level_parts c w good t lt ws v beside (at_levels CountsUpFast e) (reads_at_levels n) mounts
+            (f.0, f.1, f.2, f.3, update_at (holds_level (w.views t)) i true)
+            (enters_fast c lim w good t lt i r.cpu f.2 hook (map_next DownReads n, a) clear (counts_here CountsUpFast e)
+            (counts_here LeavesAdmitted refl) (none_from (holds_level (w.views t)) i i f.4 f.0 (omega arith) f.1)
+            (update_at (holds_level (w.views t)) i true) (granted_elsewhere CountsUpFast LeavesAdmitted e v refl refl))
+            (own_sync CountsUpFast LeavesAdmitted e (LevelCount i r.cpu) (Add 1) refl v refl
+            (λ l1 l3. down_reads_are_there c.tasks (w.words.level i r.cpu) (level_in w i) (record (at_down_read r CountsUpFast) { task = t }) lt
+            (sync_here CountsUpFast e) (ap inside e)))
+            (sections_left_at c w good t lt ws v beside (at_levels CountsUpFast e) (reads_at_levels n) refl (sym (ap inside e))),
+        (may_grant CountsUpFast e f.4 clear, level_shown c w good t lt ws v beside (at_levels CountsUpFast e) (reads_at_levels n) mounts),
+      )
+
+  -- the words after a load of `block`
+  abbrev block_words : Words
+  block_words = put w.words (Block r.level) (w.words.block r.level)
+
+  block_beside : IsBeside w.words block_words
+  block_beside = record {
+    umount_same = refl;
+    remount_same = refl;
+    sb_same = refl;
+    stage_same = refl;
+    flags_same = refl;
+    count_same = refl;
+    node_same = refl;
+    block_same = update_same w.words.block r.level;
+  }
+
+  -- the world after it, from what it leaves of the counts of the task's own level
+  block_law : (s' : DownReadStep) (a : Option Action) → IsAt LoadsBlock → down_read_inside s' ≡ 1 → down_read_role s' ≡ IsApart →
+      let v : View = then_view (Block r.level, Load) (Go (at_down_read r s'), a) in
+      held_at v ≡ held_at (w.views t) → ReadStepFits r.level (holds_level v) s' → SameElsewhere r.level (w.views t) v →
+      (1 ≤ r.level → r.level ≤ 3 → LevelHoldsAfter c w good t lt r.level (w.words.level r.level)
+      (record (at_level r.level (w.views t)) { held = held_bit (holds_level v r.level); role = read_count_role r.cpu s' })) →
+      IsGood c (record { words = block_words; views = update w.views t v })
+  block_law s' a e within apart held fits same own =
+      let i : ℕ = r.level in
+      let f : FitsHere LoadsBlock = fits_here LoadsBlock e in
+      let n : Next DownRead = Go (at_down_read r s') in
+      let v : View = then_view (Block i, Load) (n, a) in
+      level_parts c w good t lt block_words v block_beside (at_levels LoadsBlock e) (reads_at_levels n)
+      (record { held_same = held; added_same = refl; taken_same = refl }) (f.0, f.1, f.2, f.3, fits)
+      (level_follows c w good t lt i block_words v block_beside (w.words.level i)
+      (record (at_level i (w.views t)) { held = held_bit (holds_level v i); role = read_count_role r.cpu s' }) refl
+      (level_view_as refl refl refl (counts_here s' refl)) own
+      (λ j ne. (refl, level_view_as (same.held_same j ne) refl refl (same.role_same j ne))))
+      (sync_left_at c w good t lt block_words v block_beside (at_levels LoadsBlock e) (reads_at_levels n) refl refl
+      (λ j. apart_nowhere s' refl apart j ∙ sym (apart_nowhere LoadsBlock e refl j)))
+      (sections_left_at c w good t lt block_words v block_beside (at_levels LoadsBlock e) (reads_at_levels n) refl
+      (within ∙ sym (ap inside e)))
+
+  -- a load of `block` that found 0 is the grant
+  finds_clear : IsAt LoadsBlock → w.words.block r.level ≡ 0 →
+      let v : View = then_view (Block r.level, Load) (Go (at_down_read r LeavesAdmitted), Some (Grant (Level r.level))) in
+      let next : World = record { words = block_words; views = update w.views t v } in
+      IsGood c next × Moves c (shown c w) t (Some (Grant (Level r.level))) (shown c next)
+  finds_clear e clear =
+      let i : ℕ = r.level in
+      let f : FitsHere LoadsBlock = fits_here LoadsBlock e in
+      let n : Next DownRead = Go (at_down_read r LeavesAdmitted) in
+      let v : View = then_view (Block i, Load) (n, Some (Grant (Level i))) in
+      let none : holds_level (w.views t) i ≡ false = none_from (holds_level (w.views t)) i i f.4 f.0 (omega arith) f.1 in
+      let now : holds_level v i ≡ true = update_at (holds_level (w.views t)) i true in (
+        block_law LeavesAdmitted (Some (Grant (Level i))) e refl refl refl now (granted_elsewhere LoadsBlock LeavesAdmitted e v refl refl)
+            (λ l1 l3. subst (λ h. LevelHoldsAfter c w good t lt i (w.words.level i)
+            (record (at_level i (w.views t)) { held = h; role = CountsNot }))
+            (sym (ap held_bit now ∙ sym (ap (λ b. held_bit b + 1) none)))
+            (is_granted (good (AtLevel i) l1 l3) t lt r.cpu (counts_here LoadsBlock e) clear (bit_room (holds_level (w.views t) i)))),
+        (
+          may_grant LoadsBlock e f.4 clear,
+          level_shown c w good t lt block_words v block_beside (at_levels LoadsBlock e) (reads_at_levels n)
+              (record { held_same = refl; added_same = refl; taken_same = refl }),
+        ),
+      )
+
+  -- one that found it set leads to the subtraction
+  finds_set : IsAt LoadsBlock →
+      let v : View = then_view (Block r.level, Load) (Go (at_down_read r CountsDown), None) in
+      let next : World = record { words = block_words; views = update w.views t v } in
+      IsGood c next × (shown c next ≡ shown c w)
+  finds_set e =
+      let i : ℕ = r.level in
+      let f : FitsHere LoadsBlock = fits_here LoadsBlock e in
+      let n : Next DownRead = Go (at_down_read r CountsDown) in
+      let v : View = then_view (Block i, Load) (n, None) in (
+        block_law CountsDown None e refl refl refl f.4 (same_elsewhere LoadsBlock CountsDown e v refl refl)
+            (λ l1 l3. is_refused (good (AtLevel i) l1 l3) t lt r.cpu (counts_here LoadsBlock e)),
+        level_still c w good t lt block_words v block_beside (at_levels LoadsBlock e) (reads_at_levels n)
+            (record { held_same = refl; added_same = refl; taken_same = refl }) refl,
+      )
+
+  -- a load of `block`
+  loads_block : IsAt LoadsBlock → StepKeeps c w t hook (DownReads (at_down_read r LoadsBlock))
+  loads_block e =
+      elim (eqb_tells (w.words.block r.level) 0) [
+        | inl h ↦ rw h.0 (finds_clear e h.1)
+        | inr h ↦ rw h.0 (finds_set e)
+      ]
+
+  -- each step of a start
+  each_step : (s : DownReadStep) → IsAt s → StepKeeps c w t hook (DownReads (at_down_read r s))
+  each_step EntersSection e = enters_section e
+  each_step LoadsSync e = loads_sync e
+  each_step CountsUpFast e = counts_up_fast e
+  each_step CountsUpSlow e = counts_up_slow e
+  each_step LoadsBlock e = loads_block e
+  each_step CountsDown e = counts_down e
+  each_step LeavesAdmitted e = leaves_admitted e
+  each_step LeavesBlocked e = leaves_blocked e
+
+-- Each event of a start keeps the rule, and moves the shown model by its action or not at all.
+pub read_keeps : (c : Config) → IsWithin c → (w : World) → IsGood c w → (t : ℕ) → t < c.tasks → (hook : HookAnswer) → (r : DownRead) →
+    (w.views t).phase ≡ Some (DownReads r) → StepKeeps c w t hook (DownReads r)
+read_keeps c lim w good t lt hook r e = each_step c lim w good t lt hook r r.step e
