@@ -3,6 +3,7 @@ pub mod ReadLevels
 pub mod LevelParts
 pub mod LevelCounts
 pub mod CallbackEvents
+pub mod ReadEvents
 pub mod ReadTraces
 pub mod ReadFits
 pub mod CallbackTraces

@@ -26,6 +26,7 @@ use Rattle.gate_world.specs.Worlds.{World, after_step, found_at}
 use Rattle.gate_frames.proofs.Keeps.{by_bool, PhaseKeeps, IsSmall, OpKeeps}
 use Rattle.gate_frames.proofs.Snapshots.{completes_none}
 use Rattle.trace_laws.proofs.Says.{tells, is_short}
+use Rattle.read_laws.proofs.ReadEvents.{read_keeps}
 use Rattle.read_laws.proofs.ReadFits.{both_true, level_there, none_from_agree, read_step_agrees, read_there, read_acts, read_goes, read_fits}
 use Rattle.read_laws.proofs.ReadCauses.{read_not_closed, read_stays, read_own, asks_next, next_cause, read_tells}
 use Rattle.read_laws.proofs.ReadWaits.{read_waits, start_waits}
@@ -42,10 +43,10 @@ pub read_counts : (w : World) (t : ℕ) (hook : HookAnswer) (r : DownRead) (s : 
 read_counts w t hook r EntersSection = refl
 read_counts w t hook r s = refl
 
--- of each phase of a start, where each event keeps the rule
-pub read_phase_by : (c : Config) (r : DownRead) → KeepsRule c (DownReads r) → PhaseKeeps c (DownReads r)
-read_phase_by c r keeps = record {
-  step = λ within w good t lt hook e. keeps within w good t lt hook e;
+-- of each phase of a start
+pub read_phase : (c : Config) (r : DownRead) → PhaseKeeps c (DownReads r)
+read_phase c r = record {
+  step = λ within w good t lt hook e. read_keeps c within w good t lt hook r e;
   completes = λ within w good t lt hook e. completes_none c w t hook (DownReads r) (λ trace found. refl);
   word = λ within t lt held levels hook f. read_there c t lt r r.step f.0 f.1 f.2 f.3;
   acts = λ within t held levels found hook f. read_acts held r r.step found f.0 f.1;
