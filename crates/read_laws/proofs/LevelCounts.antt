@@ -77,21 +77,23 @@ pub record SameElsewhere (i : ℕ) (old new : View) : Type 0 where
 
 module _ (c : Config) (lim : IsWithin c) (w : World) (good : IsGood c w) (t : ℕ) (lt : t < c.tasks) (i p : ℕ) (lp : p < c.processors)
     (hook : HookAnswer) (coming : Next Phase × Option Action) where
-  -- the words after an addition to a level's count on this processor, and after a subtraction
+  -- the words after an addition to a level's count on this processor
   abbrev pub words_up : Words
   words_up = put w.words (LevelCount i p) (wrap_add (w.words.level i p) 1)
 
+  -- and after a subtraction
   abbrev pub words_down : Words
   words_down = put w.words (LevelCount i p) (wrap_sub (w.words.level i p) 1)
 
-  -- the task's view then
+  -- the task's view after the addition
   abbrev pub view_up : View
   view_up = view_with (w.views t) (LevelCount i p, Add 1) (w.words.level i p) hook coming
 
+  -- and after the subtraction
   abbrev pub view_down : View
   view_down = view_with (w.views t) (LevelCount i p, Sub 1) (w.words.level i p) hook coming
 
-  -- these words are as they were beside the level
+  -- an addition leaves the words beside the level
   pub up_beside : IsBeside w.words words_up
   up_beside = record {
     umount_same = refl;
@@ -104,6 +106,7 @@ module _ (c : Config) (lim : IsWithin c) (w : World) (good : IsGood c w) (t : �
     block_same = refl;
   }
 
+  -- so does a subtraction
   pub down_beside : IsBeside w.words words_down
   down_beside = record {
     umount_same = refl;
@@ -120,10 +123,11 @@ module _ (c : Config) (lim : IsWithin c) (w : World) (good : IsGood c w) (t : �
   abbrev was : LevelView
   was = at_level i (w.views t)
 
-  -- what the task has added to them after an addition, and taken after a subtraction
+  -- what the task has added to them after the addition
   abbrev added_more : ℕ → ℕ
   added_more = update was.added p (was.added p + 1)
 
+  -- what it has taken from them after the subtraction
   abbrev taken_more : ℕ → ℕ
   taken_more = update was.taken p (was.taken p + 1)
 

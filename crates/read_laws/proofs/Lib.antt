@@ -4,6 +4,7 @@ pub mod LevelParts
 pub mod LevelCounts
 pub mod CallbackEvents
 pub mod ReadEvents
+pub mod EndEvents
 pub mod ReadTraces
 pub mod ReadFits
 pub mod CallbackTraces

@@ -76,8 +76,11 @@ none_from levels i (suc (suc (suc (suc j)))) h l1 le l3 = absurd (omega arith)
 
 -- What the step that a sync word leads to has: it is inside the section, and has added nothing.
 record IsPath (s : DownReadStep) : Type 0 where
+  -- it is inside
   inside_still : down_read_inside s ≡ 1
+  -- it has added nothing
   counts_not : (p : ℕ) → read_count_role p s ≡ CountsNot
+  -- it fits what a start that holds nothing from its level up holds
   fits_still : (i : ℕ) (levels : ℕ → Bool) → holds_none_from i levels ≡ true → ReadStepFits i levels s
 
 -- the slow path has it
@@ -97,20 +100,23 @@ path_found : (o : Option SyncWord) → IsPath (step_found o)
 path_found None = slow_path
 path_found (Some word) = path_in word.state
 
--- a start that was blocked begins anew or is done, out of its section and off the level
 module _ (c : Config) (t : ℕ) (held : ℕ → ℕ) (levels : ℕ → Bool) (r : DownRead) where
+  -- a start that was blocked begins anew or is done, and counts at no level
   blocked_counts : (b : Bool) (j : ℕ) → level_role_of j (phase_after (map_next DownReads (left_blocked r b))) ≡ CountsNot
   blocked_counts true j = count_none (j == r.level)
   blocked_counts false j = refl
 
+  -- it has no part in a level's rcu_sync
   blocked_apart : (b : Bool) (j : ℕ) → sync_role_of j (phase_after (map_next DownReads (left_blocked r b))) ≡ IsApart
   blocked_apart true j = sync_none (j == r.level)
   blocked_apart false j = refl
 
+  -- it is inside no section
   blocked_outside : (b : Bool) → inside (phase_after (map_next DownReads (left_blocked r b))) ≡ 0
   blocked_outside true = refl
   blocked_outside false = refl
 
+  -- and it fits what it holds
   blocked_fits : (b : Bool) → ReadFits c t levels (at_down_read r LeavesBlocked) →
       Fits c t held levels (phase_after (map_next DownReads (left_blocked r b)))
   blocked_fits true f = f
@@ -121,10 +127,11 @@ module _ (c : Config) (lim : IsWithin c) (w : World) (good : IsGood c w) (t : �
   abbrev IsAt : DownReadStep → Type 0
   IsAt s = (w.views t).phase ≡ Some (DownReads (at_down_read r s))
 
-  -- what the rule says of its numbers and accesses
+  -- its numbers are in range, and its task holds what it may
   abbrev FitsHere : DownReadStep → Type 0
   FitsHere s = ReadFits c t (holds_level (w.views t)) (at_down_read r s)
 
+  -- the rule says so
   fits_here : (s : DownReadStep) → IsAt s → FitsHere s
   fits_here s e = subst (Fits c t (held_at (w.views t)) (holds_level (w.views t))) e (good Fitting t lt)
 
@@ -198,19 +205,21 @@ module _ (c : Config) (lim : IsWithin c) (w : World) (good : IsGood c w) (t : �
         ),
       )
 
-  -- the task's own section word changes, as it enters its section or leaves it
+  -- its view after an addition to its own section word
   abbrev section_view : Next DownRead → View
   section_view n = view_with (w.views t) (Section r.task, Add 1) (w.words.section r.task) hook (map_next DownReads n, None)
 
+  -- the words then
   abbrev section_words : Words
   section_words = put w.words (Section r.task) (wrap_add (w.words.section r.task) 1)
 
+  -- such an addition keeps the rule, and leaves the shown model
   abbrev SectionKeeps : Next DownRead → Type 0
   SectionKeeps n =
       let next : World = record { words = section_words; views = update w.views t (section_view n) } in
       IsGood c next × (shown c next ≡ shown c w)
 
-  -- an event that turns it keeps the rule
+  -- it does, as the task enters its section or leaves it
   turns : (s : DownReadStep) (n : Next DownRead) → IsAt s → read_count_role r.cpu s ≡ CountsNot → down_read_role s ≡ IsApart →
       ((j : ℕ) → level_role_of j (phase_after (map_next DownReads n)) ≡ CountsNot) →
       ((j : ℕ) → sync_role_of j (phase_after (map_next DownReads n)) ≡ IsApart) →
@@ -384,6 +393,7 @@ module _ (c : Config) (lim : IsWithin c) (w : World) (good : IsGood c w) (t : �
   abbrev block_words : Words
   block_words = put w.words (Block r.level) (w.words.block r.level)
 
+  -- they are the same beside the level
   block_beside : IsBeside w.words block_words
   block_beside = record {
     umount_same = refl;
