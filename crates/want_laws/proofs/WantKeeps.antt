@@ -23,7 +23,8 @@ use Rattle.access_model.specs.declared.replies.Next.{Next}
 use Rattle.want_laws.proofs.Wants.{want_keeps, drop_keeps}
 use Rattle.want_laws.proofs.WantFits.{want_there, want_acts, want_goes}
 use Rattle.want_laws.proofs.WantCauses.{quiet_want, quiet_drop, want_kept, want_own, next_cause, next_asked}
-use Rattle.want_laws.proofs.WantWaits.{want_waits}
+use Rattle.want_laws.proofs.WantWaits.{want_waits, next_waits}
+use Rattle.want_laws.proofs.WantLoads.{want_here}
 use Rattle.want_laws.proofs.WantTraces.{WantAt, DropAt, want_kept as want_traced, drop_kept}
 use Rattle.gate_world.specs.Views.{held_at, holds_level}
 use Rattle.gate_world.specs.Rules.{Fitting}
@@ -51,7 +52,11 @@ want_phase c x = record {
       let coming : Next Want = (want_after x x.step (found_at w.words (Mounts (Wants x)) hook)).0 in
       next_cause c t next (w ∷ earlier) x.mount coming
       (want_own c t lt w next earlier good x x.step f.0 (ap asks e) (ap asks is ∙ next_asked coming) h);
-  waits = λ lim w earlier good t lt hook e cause. want_waits c w earlier good t lt x.mount x.cpu hook x.wait x.step e;
+  waits = λ lim w earlier good t lt hook e cause.
+      let f : Fits c t (held_at (w.views t)) (holds_level (w.views t)) (Some (Mounts (Wants x))) =
+      subst (Fits c t (held_at (w.views t)) (holds_level (w.views t))) e (good Fitting t lt) in
+      next_waits c w good t lt x earlier (want_after x x.step (found_at w.words (Mounts (Wants x)) hook)).0
+      (want_waits c w good t lt x x.step f.0 (want_here x.mount x.cpu x.wait x.step e));
   tells = λ t w earlier h e. let k : WantCause c t w earlier x.mount (CountsDown ReadOnly) =
       subst (WantCause c t w earlier x.mount) e h in k refl;
 }
