@@ -1,1 +1,3 @@
 pub mod ReadTraces
+pub mod ReadFits
+pub mod CallbackTraces
