@@ -1,2 +1,3 @@
 pub mod Alikes
+pub mod WriteSteps
 pub mod WriteTraces
