@@ -1,3 +1,5 @@
 pub mod ReadTraces
 pub mod ReadFits
 pub mod CallbackTraces
+pub mod ReadCauses
+pub mod ReadWaits
