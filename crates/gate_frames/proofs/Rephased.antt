@@ -29,7 +29,7 @@ pub alike_of : {p q r : Option Phase} → p ≡ q → IsAlike q r → IsAlike p 
 alike_of {p} {q} {r} e h = subst (λ x. IsAlike x r) (sym e) h
 
 -- of two values put at one place the later one stands
-update_twice : {A : Type 0} (f : ℕ → A) (t : ℕ) (u v : A) → update (update f t u) t v ≡ update f t v
+pub update_twice : {A : Type 0} (f : ℕ → A) (t : ℕ) (u v : A) → update (update f t u) t v ≡ update f t v
 update_twice f t u v =
     fun_ext (λ x. elim (eqb_tells x t) [
       | inl h ↦ rw (h.0, update)

@@ -1,3 +1,4 @@
 pub mod Alikes
 pub mod WriteSteps
 pub mod WriteTraces
+pub mod WriteCauses
