@@ -1,11 +1,9 @@
 -- Traces of a callback.
-use Rattle.std.proofs.Common.{◌≡◌, ℕ, suc, ◌+◌, ◌%◌, Bool, true, false, refl, sym, ap, subst, ◌∙◌, inl, inr}
-use Rattle.std.specs.Prelude.{◌==◌, ◌&&◌, nat_lt, Option, Some, None, Ok, List, [], ◌∷◌}
+use Rattle.std.proofs.Common.{◌≡◌, ℕ, suc, ◌+◌, ◌%◌, refl, sym, ap, subst, inl, inr}
+use Rattle.std.specs.Prelude.{◌==◌, nat_lt, Option, Some, None, List, [], ◌∷◌}
 use Rattle.std.proofs.lemmas.Bool.{eq-eqb, cases_Bool}
 use Rattle.access_model.specs.declared.actions.Action.{Action}
 use Rattle.access_model.specs.declared.replies.Next.{Next}
-use Rattle.access_model.specs.declared.replies.Next.TheVariants.{Go, Wait, Done}
-use Rattle.access_model.specs.declared.replies.Reply.TheVariants.{Ran}
 use Rattle.access_model.specs.Replies.{map_next}
 use Rattle.cpu_words.specs.Hooks.{HookAnswer}
 use Rattle.percpu_rwsem.specs.declared.sync_word.SyncWord.{SyncWord}
@@ -23,7 +21,7 @@ use Rattle.gate_world.specs.declared.operations.Op.TheVariants.{Callback as Call
 use Rattle.gate_world.specs.declared.work.Phase.{Phase}
 use Rattle.gate_world.specs.declared.work.Phase.TheVariants.{Callbacks}
 use Rattle.gate_world.specs.declared.views.Traced.{Traced}
-use Rattle.gate_world.specs.Found.{transitions_made, newest, finds_none_queued, finds_inside}
+use Rattle.gate_world.specs.Found.{transitions_made}
 use Rattle.gate_world.specs.Views.{with_hook}
 use Rattle.trace_laws.proofs.Says.{Says, SaysAfter, Kept, event_at}
 

@@ -1,8 +1,7 @@
 -- The cause of a down-read's wait or refusal, along a schedule: the level was closed when it last asked. What is said here of a task that
 -- asks as a down-read does serves an operation that goes through one as a part of its own.
-use Rattle.std.proofs.Common.{◌≡◌, ℕ, ◌+◌, ◌<◌, ◌≤◌, Bool, true, false, refl, sym, ap, subst, ◌∙◌, inl, inr, arith}
+use Rattle.std.proofs.Common.{◌≡◌, ℕ, ◌+◌, ◌≤◌, Bool, true, false, refl, sym, ap, subst, ◌∙◌, inl, inr, arith}
 use Rattle.std.specs.Prelude.{◌==◌, ◌&&◌, if◌then◌else◌, ◌⊎◌, Some, List, ◌∷◌}
-use Rattle.std.proofs.lemmas.Bool.{cases_Bool}
 use Rattle.std.proofs.lemmas.Bool.Decides.{eqb_tells}
 use Rattle.finite_sums.specs.Sums.{total}
 use Rattle.finite_sums.proofs.Totals.{HasPlace, total_place}
@@ -18,7 +17,6 @@ use Rattle.percpu_rwsem.specs.Readers.{down_read_after, at_down_read, left_block
 use Rattle.level_laws.specs.Roles.{SyncRole, Out, Fast, Waiting, Past, Entered, Closed, Claimed, Ready, closed}
 use Rattle.level_laws.specs.Operations.{down_read_role}
 use Rattle.gate_world.specs.declared.config.Config.{Config}
-use Rattle.gate_world.specs.declared.work.Phase.{Phase}
 use Rattle.gate_world.specs.declared.work.Phase.TheVariants.{DownReads}
 use Rattle.gate_world.specs.Causes.{last_asked, asks_level, read_asks, WasClosed}
 use Rattle.gate_world.specs.KeptCauses.{ReadCause, CauseOf}

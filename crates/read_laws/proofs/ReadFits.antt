@@ -1,6 +1,6 @@
 -- What fits after an event of a down-read, an up-read and a callback.
-use Rattle.std.proofs.Common.{◌≡◌, ℕ, ◌+◌, ◌%◌, ◌<◌, ◌≤◌, Bool, true, false, refl, sym, ap, subst, ◌∙◌, inl, inr, arith}
-use Rattle.std.specs.Prelude.{◌==◌, ◌&&◌, nat_lt, if◌then◌else◌, Option, Some, None, Ok, Err}
+use Rattle.std.proofs.Common.{◌≡◌, ℕ, ◌+◌, ◌%◌, ◌<◌, ◌≤◌, Bool, true, false, refl, sym, subst, ◌∙◌, inl, inr, arith}
+use Rattle.std.specs.Prelude.{◌==◌, ◌&&◌, nat_lt, if◌then◌else◌, Some, None, Ok, Err}
 use Rattle.std.proofs.lemmas.Bool.{cases_Bool, ltb-true}
 use Rattle.finite_sums.specs.Sums.{update}
 use Rattle.finite_sums.proofs.Totals.{update_at}
@@ -23,12 +23,13 @@ use Rattle.percpu_rwsem.specs.declared.callbacks.Callback.{Callback}
 use Rattle.percpu_rwsem.specs.declared.callbacks.CallbackStep.{CallbackStep}
 use Rattle.percpu_rwsem.specs.declared.callbacks.CallbackStep.TheVariants.{Claims, AwaitsSections, CallsBack}
 use Rattle.percpu_rwsem.specs.SyncWords.{unpack, on_claim, on_callback}
-use Rattle.percpu_rwsem.specs.Graces.{started, passed_on, looked, is_first}
+use Rattle.percpu_rwsem.specs.Graces.{passed_on, looked, is_first}
 use Rattle.percpu_rwsem.specs.Transitions.{transition_after}
-use Rattle.percpu_rwsem.specs.Readers.{down_read_next, down_read_after, at_down_read, step_found, left_blocked}
+use Rattle.percpu_rwsem.specs.Readers.{down_read_next, down_read_after, at_down_read, left_blocked}
 use Rattle.percpu_rwsem.specs.Callbacks.{callback_next, callback_after, at_callback, claimed, callback_looked, called_back}
 use Rattle.level_laws.specs.Events.{SyncLevel}
-use Rattle.level_laws.specs.Operations.{KnowsCallback, HoldsOfNext, callback_role}
+use Rattle.cpu_words.specs.Touches.{found_by}
+use Rattle.level_laws.specs.Operations.{value_at, KnowsCallback, HoldsOfNext, callback_role}
 use Rattle.level_laws.proofs.Operations.{callbacks_are_there}
 use Rattle.gate_world.specs.declared.config.Config.{Config}
 use Rattle.gate_world.specs.declared.work.Phase.TheVariants.{DownReads, Callbacks}
@@ -61,32 +62,31 @@ module _ (h k : ℕ → Bool) (levels : (i : ℕ) → 1 ≤ i → i ≤ 3 → h 
   read_step_agrees i LeavesAdmitted l1 l3 f = sym (levels i l1 l3) ∙ f
   read_step_agrees i s l1 l3 f = sym (none_from_agree i) ∙ f
 
-module _ (c : Config) (t : ℕ) (levels : ℕ → Bool) where
-  -- the word of each event of a down-read is there
-  pub read_there : t < c.tasks → (r : DownRead) (s : DownReadStep) → 1 ≤ r.level → r.level ≤ 3 → r.cpu < c.processors → r.task ≡ t →
-      IsWord (extents_of c) (down_read_next r s).0
-  read_there lt r EntersSection l1 l3 p same = omega (arith, same, lt)
-  read_there lt r LoadsSync l1 l3 p same = (l1, l3)
-  read_there lt r CountsUpFast l1 l3 p same = (l1, l3, p)
-  read_there lt r CountsUpSlow l1 l3 p same = (l1, l3, p)
-  read_there lt r LoadsBlock l1 l3 p same = (l1, l3)
-  read_there lt r CountsDown l1 l3 p same = (l1, l3, p)
-  read_there lt r LeavesAdmitted l1 l3 p same = omega (arith, same, lt)
-  read_there lt r LeavesBlocked l1 l3 p same = omega (arith, same, lt)
+-- the word of each event of a down-read is there
+pub read_there : (c : Config) (t : ℕ) → t < c.tasks → (r : DownRead) (s : DownReadStep) → 1 ≤ r.level → r.level ≤ 3 →
+    r.cpu < c.processors → r.task ≡ t → IsWord (extents_of c) (down_read_next r s).0
+read_there c t lt r EntersSection l1 l3 p same = omega (arith, same, lt)
+read_there c t lt r LoadsSync l1 l3 p same = (l1, l3)
+read_there c t lt r CountsUpFast l1 l3 p same = (l1, l3, p)
+read_there c t lt r CountsUpSlow l1 l3 p same = (l1, l3, p)
+read_there c t lt r LoadsBlock l1 l3 p same = (l1, l3)
+read_there c t lt r CountsDown l1 l3 p same = (l1, l3, p)
+read_there c t lt r LeavesAdmitted l1 l3 p same = omega (arith, same, lt)
+read_there c t lt r LeavesBlocked l1 l3 p same = omega (arith, same, lt)
 
-  -- its action can be done
-  pub read_acts : (held : ℕ → ℕ) (r : DownRead) (s : DownReadStep) (found : ℕ) → 1 ≤ r.level → r.level ≤ 3 →
-      ActionFits held (down_read_after r s found).1
-  read_acts held r CountsUpFast found l1 l3 = (l1, l3)
-  read_acts held r LoadsBlock found l1 l3 =
-      by_bool (found == 0) (λ b. ActionFits held (if b then Some (Grant (Level r.level)) else None)) (l1, l3) tt
-  read_acts held r s found l1 l3 = tt
+-- its action can be done
+pub read_acts : (held : ℕ → ℕ) (r : DownRead) (s : DownReadStep) (found : ℕ) → 1 ≤ r.level → r.level ≤ 3 →
+    ActionFits held (down_read_after r s found).1
+read_acts held r CountsUpFast found l1 l3 = (l1, l3)
+read_acts held r LoadsBlock found l1 l3 =
+    by_bool (found == 0) (λ b. ActionFits held (if b then Some (Grant (Level r.level)) else None)) (l1, l3) tt
+read_acts held r s found l1 l3 = tt
 
-  -- it moves no access at a mount
-  pub read_mounts : (held : ℕ → ℕ) (r : DownRead) (s : DownReadStep) (found : ℕ) → mounts_by (down_read_after r s found).1 held ≡ held
-  read_mounts held r LoadsBlock found =
-      by_bool (found == 0) (λ b. mounts_by (if b then Some (Grant (Level r.level)) else None) held ≡ held) refl refl
-  read_mounts held r s found = refl
+-- it moves no access at a mount
+pub read_mounts : (held : ℕ → ℕ) (r : DownRead) (s : DownReadStep) (found : ℕ) → mounts_by (down_read_after r s found).1 held ≡ held
+read_mounts held r LoadsBlock found =
+    by_bool (found == 0) (λ b. mounts_by (if b then Some (Grant (Level r.level)) else None) held ≡ held) refl refl
+read_mounts held r s found = refl
 
 -- What comes after an event of a down-read at this level, on this processor, fits these accesses; and where it ends well, the level is
 -- held. So an operation that goes on inside the level knows that it is.
@@ -107,8 +107,8 @@ module _ (c : Config) (t : ℕ) (r : DownRead) (l1 : 1 ≤ r.level) (l3 : r.leve
       ReadGoes c t r.level r.cpu (levels_by (down_read_after r s found).1 levels) (down_read_after r s found).0
   read_goes levels EntersSection found h = goes_on levels LoadsSync h
   read_goes levels LoadsSync found h =
-      by_word (λ s. ReadGoes c t r.level r.cpu levels (Go (at_down_read r s))) (goes_on levels CountsUpFast h) (goes_on levels CountsUpSlow h)
-      (unpack found)
+      by_word (λ s. ReadGoes c t r.level r.cpu levels (Go (at_down_read r s))) (goes_on levels CountsUpFast h)
+      (goes_on levels CountsUpSlow h) (unpack found)
   read_goes levels CountsUpFast found h = goes_on (update levels r.level true) LeavesAdmitted (update_at levels r.level true)
   read_goes levels CountsUpSlow found h = goes_on levels LoadsBlock h
   read_goes levels LoadsBlock found h =
@@ -143,7 +143,7 @@ callback_acts_none b (Claims transition) found = refl
 callback_acts_none b (AwaitsSections grace) found = refl
 callback_acts_none b (CallsBack transition) found = refl
 
--- a callback that comes next has grace period of all tasks, and a task more to look at
+-- the grace period of a callback that comes next is of all tasks, and has a task more to look at
 abbrev NextGraceFits : ℕ → Next Callback → Type 0
 NextGraceFits tasks next = HoldsOfNext (λ (x : Callback). GraceFits tasks x.step) next
 
@@ -194,20 +194,23 @@ level_with found s = record {
   at = λ x. callback_role s;
 }
 
--- what comes after an event of a callback knows the words of its exchange, and is of as many tasks
-knows_next : (b : Callback) (s : CallbackStep) (found : ℕ) → 0 < b.tasks → KnowsCallback s →
-    HoldsOfNext (λ (x : Callback). (x.tasks ≡ b.tasks) × KnowsCallback x.step) (callback_after b s found).0
-knows_next b (Claims Loads) found some k =
-    (callbacks_are_there 0 found (level_with found (Claims Loads)) (at_callback b (Claims Loads)) some refl k).1
-knows_next b (Claims (Exchanges from to)) found some k =
-    (callbacks_are_there 0 found (level_with found (Claims (Exchanges from to))) (at_callback b (Claims (Exchanges from to))) some refl k).1
-knows_next b (AwaitsSections grace) found some k =
-    (callbacks_are_there 0 found (level_with found (AwaitsSections grace)) (at_callback b (AwaitsSections grace)) some refl k).1
-knows_next b (CallsBack Loads) found some k =
-    (callbacks_are_there 0 found (level_with found (CallsBack Loads)) (at_callback b (CallsBack Loads)) some refl k).1
-knows_next b (CallsBack (Exchanges from to)) found some k =
-    (callbacks_are_there 0 found (level_with found (CallsBack (Exchanges from to))) (at_callback b (CallsBack (Exchanges from to))) some refl
-    k).1
+-- what comes next knows the words of its exchange, and is of as many tasks
+abbrev KnowsNext : Callback → Next Callback → Type 0
+KnowsNext b next = HoldsOfNext (λ (x : Callback). (x.tasks ≡ b.tasks) × KnowsCallback x.step) next
+
+-- so it is after an event that found this, whatever it is
+knows_there : (b : Callback) (found : ℕ) → 0 < b.tasks → KnowsCallback b.step →
+    KnowsNext b (callback_after b b.step (found_by (callback_next b b.step).1
+    (value_at (level_with found b.step) found (callback_next b b.step).0))).0
+knows_there b found some k = (callbacks_are_there 0 found (level_with found b.step) b some refl k).1
+
+-- and so at each step
+knows_next : (b : Callback) (s : CallbackStep) (found : ℕ) → 0 < b.tasks → KnowsCallback s → KnowsNext b (callback_after b s found).0
+knows_next b (Claims Loads) found some k = knows_there (at_callback b (Claims Loads)) found some k
+knows_next b (Claims (Exchanges from to)) found some k = knows_there (at_callback b (Claims (Exchanges from to))) found some k
+knows_next b (AwaitsSections grace) found some k = knows_there (at_callback b (AwaitsSections grace)) found some k
+knows_next b (CallsBack Loads) found some k = knows_there (at_callback b (CallsBack Loads)) found some k
+knows_next b (CallsBack (Exchanges from to)) found some k = knows_there (at_callback b (CallsBack (Exchanges from to))) found some k
 
 -- and it is at the same level
 abbrev AtLevelOf : Callback → Next Callback → Type 0
@@ -240,8 +243,7 @@ same_level b (CallsBack transition) found = call_level b (transition_after on_ca
 module _ (c : Config) (within : IsWithin c) (t : ℕ) (held : ℕ → ℕ) (levels : ℕ → Bool) (b : Callback) where
   -- all this together says that what comes next fits
   all_fit : 1 ≤ b.level → b.level ≤ 3 → b.tasks ≡ c.tasks → (n : Next Callback) → AtLevelOf b n → NextGraceFits b.tasks n →
-      HoldsOfNext (λ (x : Callback). (x.tasks ≡ b.tasks) × KnowsCallback x.step) n →
-      Fits c t held levels (phase_after (map_next Callbacks n))
+      KnowsNext b n → Fits c t held levels (phase_after (map_next Callbacks n))
   all_fit l1 l3 same (Go x) l g k =
       (omega (arith, l, l1), omega (arith, l, l3), k.0 ∙ same, subst (λ n. GraceFits n x.step) same g, k.1)
   all_fit l1 l3 same (Wait x) l g k =

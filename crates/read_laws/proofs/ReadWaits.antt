@@ -1,6 +1,6 @@
 -- A down-read waits only where it found the level closed; a callback only where another task is inside a read-side section.
-use Rattle.std.proofs.Common.{◌≡◌, ℕ, ◌+◌, ◌%◌, ◌<◌, Bool, true, false, refl, sym, ap, ◌∙◌, inl, inr, arith}
-use Rattle.std.specs.Prelude.{◌==◌, ◌&&◌, nat_lt, Option, Some, None, List, ◌∷◌}
+use Rattle.std.proofs.Common.{◌≡◌, ℕ, ◌+◌, ◌%◌, ◌<◌, sym, ap, ◌∙◌, inl, inr, arith}
+use Rattle.std.specs.Prelude.{◌==◌, nat_lt, Some, List, ◌∷◌}
 use Rattle.std.proofs.lemmas.Bool.{cases_Bool}
 use Rattle.std.proofs.lemmas.Bool.Decides.{eqb_tells}
 use Rattle.access_model.specs.declared.replies.Next.{Next}
@@ -17,12 +17,11 @@ use Rattle.percpu_rwsem.specs.declared.callbacks.Callback.{Callback}
 use Rattle.percpu_rwsem.specs.declared.callbacks.CallbackStep.{CallbackStep}
 use Rattle.percpu_rwsem.specs.declared.callbacks.CallbackStep.TheVariants.{Claims, AwaitsSections, CallsBack}
 use Rattle.percpu_rwsem.specs.SyncWords.{unpack, on_claim, on_callback}
-use Rattle.percpu_rwsem.specs.Graces.{is_first, passed_on, looked}
+use Rattle.percpu_rwsem.specs.Graces.{is_first, passed_on}
 use Rattle.percpu_rwsem.specs.Transitions.{transition_after}
 use Rattle.percpu_rwsem.specs.Readers.{down_read_after, at_down_read, left_blocked}
 use Rattle.percpu_rwsem.specs.Callbacks.{at_callback, claimed, callback_looked, called_back}
 use Rattle.gate_world.specs.declared.config.Config.{Config}
-use Rattle.gate_world.specs.declared.work.Phase.{Phase}
 use Rattle.gate_world.specs.declared.work.Phase.TheVariants.{DownReads, Callbacks}
 use Rattle.gate_world.specs.Causes.{last_asked, WasClosed}
 use Rattle.gate_world.specs.Fits.{GraceFits}
@@ -92,8 +91,7 @@ module _ (c : Config) (w : World) (earlier : List World) (t : ℕ) where
         record {
           task = g.task;
           there = lt;
-          other = λ same.
-              let out : inside (w.views g.task).phase ≡ 0 = ap (λ y. inside (w.views y).phase) same ∙ ap inside e in omega (arith, is_in, out);
+          other = λ same. omega (arith, is_in, ap (λ y. inside (w.views y).phase) same ∙ ap inside e);
           stands = is_in;
         }
 
