@@ -64,7 +64,7 @@ takes_fits : (c : Config) (t : ℕ) (held : ℕ → ℕ) (levels : ℕ → Bool)
 takes_fits c t held levels m r found f =
     let left : ℕ → Bool = levels_by (down_read_after r r.step found).1 levels in
     let n : Next DownRead = (down_read_after r r.step found).0 in
-    subst (λ h. Fits c t h left (phase_after (map_next Writes (then_wants m r.cpu n)))) (sym (read_mounts c t levels held r r.step found))
+    subst (λ h. Fits c t h left (phase_after (map_next Writes (then_wants m r.cpu n)))) (sym (read_mounts held r r.step found))
     (takes_goes c t held left m r.cpu f.2 f.0.2 r.level n f.1 f.3
     (read_goes c t r f.0.0 f.0.1 f.0.2 f.0.3 levels r.step found f.0.4))
 
