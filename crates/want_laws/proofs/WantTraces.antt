@@ -149,7 +149,8 @@ module _ (c : Config) (m p : ℕ) (base : List Action) (below : List Traced) (va
       rw f (
         (LoadsHold, refl, (h.0, λ q. absurd (cc), inr (finds, h.2))),
         refl,
-        and_true (finds_hold m e) (newest (λ d. adds_to m d.word d.touch) earlier || holds_since m earlier) finds (began m below earlier h.2),
+        and_true (finds_hold m e) (newest (λ d. adds_to m d.word d.touch) earlier || holds_since m earlier) finds
+            (began m below earlier h.2),
         λ none. and_true (finds_hold m e) (each_but_first (finds_hold m) earlier) finds
             (alone m earlier (subst (λ l. HeldSince m l earlier) none h.2)),
       )

@@ -84,7 +84,8 @@ module _ (c : Config) (w : World) (good : IsGood c w) (t : ℕ) (lt : t < c.task
       Fits c t (mounts_by plain_action (held_at (w.views t))) (levels_by plain_action (holds_level (w.views t))) (phase_after coming) →
       IsGood c (made_in w coming) × Moves c (shown c w) t plain_action (shown c (made_in w coming))
   write_step law coming after fits =
-      made_keeps c w t lt (Some (plain x)) (next_of (plain x) hook) hook plain_after coming plain_action good before fits_plain law after fits
+      made_keeps c w t lt (Some (plain x)) (next_of (plain x) hook) hook plain_after coming plain_action good before fits_plain law after
+      fits
 
   -- where nothing is counted at a mount in that world before the gate's event and after it, the event leaves the counts
   abbrev pub PlainQuiet : ℕ → Type 0
