@@ -25,7 +25,7 @@ use Rattle.gate_frames.proofs.Keeps.{by_bool, PhaseKeeps, OpKeeps}
 use Rattle.gate_frames.proofs.Snapshots.{completes_none}
 use Rattle.trace_laws.proofs.Says.{tells, is_short}
 use Rattle.read_laws.proofs.ReadFits.{level_there, callback_there, callback_goes, callback_acts_none}
-use Rattle.read_laws.proofs.ReadKeeps.{KeepsRule}
+use Rattle.read_laws.proofs.CallbackEvents.{callback_keeps}
 use Rattle.read_laws.proofs.ReadWaits.{callback_waits}
 use Rattle.read_laws.proofs.CallbackTraces.{CallbackAt, callback_kept}
 
@@ -45,10 +45,10 @@ callback_cause c t w earlier (Go x) = tt
 callback_cause c t w earlier (Wait x) = tt
 callback_cause c t w earlier (Done answer) = tt
 
--- of each phase of a callback, where each event keeps the rule
-pub callback_phase_by : (c : Config) (b : Callback) → KeepsRule c (Callbacks b) → PhaseKeeps c (Callbacks b)
-callback_phase_by c b keeps = record {
-  step = λ within w good t lt hook e. keeps within w good t lt hook e;
+-- of each of its phases
+pub callback_phase : (c : Config) (b : Callback) → PhaseKeeps c (Callbacks b)
+callback_phase c b = record {
+  step = λ within w good t lt hook e. callback_keeps c within w good t lt hook b e;
   completes = λ within w good t lt hook e. completes_none c w t hook (Callbacks b) (λ trace found. refl);
   word = λ within t lt held levels hook f. callback_there c b b.step f.0 f.1 f.3;
   acts = λ within t held levels found hook f.
@@ -70,7 +70,7 @@ callback_phase_by c b keeps = record {
   tells = λ t w earlier h. tt;
 }
 
--- of a callback
+-- of its beginning and its trace
 pub callback_op : (c : Config) (i : ℕ) → OpKeeps c (CallbackOp i)
 callback_op c i = record {
   fits = λ t held levels there order room.

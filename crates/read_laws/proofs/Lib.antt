@@ -1,3 +1,8 @@
+pub mod LevelWorlds
+pub mod ReadLevels
+pub mod LevelParts
+pub mod LevelCounts
+pub mod CallbackEvents
 pub mod ReadTraces
 pub mod ReadFits
 pub mod CallbackTraces
