@@ -1,5 +1,5 @@
 -- The causes and the waits of a write access: those of its gate, whichever it is at.
-use Rattle.std.proofs.Common.{◌≡◌, ℕ, ◌<◌, Bool, refl, sym, ap, subst}
+use Rattle.std.proofs.Common.{◌≡◌, ℕ, ◌<◌, refl, sym, ap, subst}
 use Rattle.std.specs.Prelude.{Ok, Err, List, ◌∷◌}
 use Rattle.access_model.specs.declared.replies.Next.{Next}
 use Rattle.access_model.specs.declared.replies.Next.TheVariants.{Go, Wait, Done}

@@ -1,10 +1,9 @@
 -- All that is proved of a taking and of a return of write access, each from what is proved of its gates.
 use Rattle.std.proofs.Common.{◌≡◌, ℕ, ◌<◌, Bool, true, false, arith, ap, sym, ◌∙◌, refl, subst, true≢false}
-use Rattle.std.specs.Prelude.{nat_lt, not, Some, Ok, Err, ◌==◌, ◌&&◌, List, ◌∷◌}
+use Rattle.std.specs.Prelude.{nat_lt, not, Some, Ok, Err, ◌==◌, ◌&&◌, ◌∷◌}
 use Rattle.std.proofs.lemmas.Bool.{ltb-true}
 use Rattle.finite_sums.specs.Sums.{update}
 use Rattle.finite_sums.proofs.Totals.{update_same}
-use Rattle.access_model.specs.declared.actions.Action.{Action}
 use Rattle.access_model.specs.declared.errors.GateError.{GateError}
 use Rattle.access_model.specs.declared.errors.GateError.TheVariants.{ReadOnly}
 use Rattle.access_model.specs.declared.replies.Next.{Next}
@@ -20,17 +19,14 @@ use Rattle.mount_counts.specs.declared.phases.Want.{Want}
 use Rattle.mount_counts.specs.declared.phases.WantStep.TheVariants.{CountsDown}
 use Rattle.mount_counts.specs.Phases.{want_after}
 use Rattle.percpu_rwsem.specs.declared.readers.DownRead.{DownRead}
-use Rattle.percpu_rwsem.specs.declared.readers.UpRead.{UpRead}
 use Rattle.percpu_rwsem.specs.Readers.{down_read_after}
 use Rattle.write_access.specs.declared.phases.WritePhase.{WritePhase}
 use Rattle.write_access.specs.declared.phases.WritePhase.TheVariants.{Takes, Wants, GivesBack, Drops, Ends}
 use Rattle.write_access.specs.Phases.{then_wants, then_gives_back, leaves_on}
 use Rattle.gate_world.specs.declared.config.Config.{Config}
 use Rattle.gate_world.specs.declared.operations.Op.TheVariants.{WantWrite, DropWrite}
-use Rattle.gate_world.specs.declared.work.Phase.{Phase}
-use Rattle.gate_world.specs.declared.work.Phase.TheVariants.{Mounts, DownReads, UpReads, Writes}
+use Rattle.gate_world.specs.declared.work.Phase.TheVariants.{Mounts, DownReads, Writes}
 use Rattle.gate_world.specs.Configs.{IsWithin}
-use Rattle.gate_world.specs.Operations.{holds_none}
 use Rattle.gate_world.specs.Views.{held_at, holds_level, phase_after}
 use Rattle.gate_world.specs.Fits.{WriteFits, Fits, mounts_by, levels_by}
 use Rattle.gate_world.specs.Causes.{asks, asks_level}
@@ -46,7 +42,7 @@ use Rattle.trace_laws.proofs.Says.{tells, is_short}
 use Rattle.read_laws.proofs.ReadFits.{read_mounts, read_goes}
 use Rattle.read_laws.proofs.ReadCauses.{read_stays, read_own, read_not_closed, read_tells}
 use Rattle.read_laws.proofs.ReadWaits.{read_waits}
-use Rattle.read_laws.proofs.ReadKeeps.{read_counts}
+use Rattle.read_laws.proofs.ReadKeeps.{read_counts, read_phase, end_phase}
 use Rattle.want_laws.proofs.WantFits.{want_leaves}
 use Rattle.want_laws.proofs.WantCauses.{want_kept, want_own}
 use Rattle.want_laws.proofs.WantWaits.{want_waits}
@@ -78,160 +74,159 @@ wants_fits c lim t held levels x found hook f =
     f.0.0 f.0.1 (want_after x x.step found).0 (ap (λ g. g 1) (want_leaves x x.step found levels) ∙ f.1)
     ((want_phase c x).goes lim t held levels found hook f.0)
 
-module _ (c : Config) (reads : (r : DownRead) → PhaseKeeps c (DownReads r)) (ends : (u : UpRead) → PhaseKeeps c (UpReads u)) where
-  -- each event keeps the rule, and moves the shown model by its action or not at all, as its gate's does
-  pub write_keeps : IsWithin c → (w : World) → IsGood c w → (t : ℕ) → t < c.tasks → (hook : HookAnswer) → (x : WritePhase) →
-      (w.views t).phase ≡ Some (Writes x) → StepKeeps c w t hook (Writes x)
-  write_keeps lim w good t lt hook (Takes m r) e =
-      let n : Next DownRead = (down_read_after r r.step (found_at w.words (DownReads r) hook)).0 in
+-- each event keeps the rule, and moves the shown model by its action or not at all, as its gate's does
+pub write_keeps : (c : Config) → IsWithin c → (w : World) → IsGood c w → (t : ℕ) → t < c.tasks → (hook : HookAnswer) → (x : WritePhase) →
+    (w.views t).phase ≡ Some (Writes x) → StepKeeps c w t hook (Writes x)
+write_keeps c lim w good t lt hook (Takes m r) e =
+    let n : Next DownRead = (down_read_after r r.step (found_at w.words (DownReads r) hook)).0 in
+    let f : WriteFits c t (held_at (w.views t)) (holds_level (w.views t)) (Takes m r) =
+    write_fits_now c w good t lt hook (Takes m r) e in
+    write_step c w good t lt hook (Takes m r) e
+    (λ g at. (read_phase c r).step lim (first_world c w good t lt hook (Takes m r) e) g t lt hook at)
+    (map_next Writes (then_wants m r.cpu n)) (alike_takes m r.cpu n)
+    (takes_fits c t (held_at (w.views t)) (holds_level (w.views t)) m r (found_at w.words (DownReads r) hook) f)
+write_keeps c lim w good t lt hook (Wants x) e =
+    let n : Next Want = (want_after x x.step (found_at w.words (Mounts (PlainWant x)) hook)).0 in
+    let f : WriteFits c t (held_at (w.views t)) (holds_level (w.views t)) (Wants x) = write_fits_now c w good t lt hook (Wants x) e in
+    write_step c w good t lt hook (Wants x) e
+    (λ g at. (want_phase c x).step lim (first_world c w good t lt hook (Wants x) e) g t lt hook at)
+    (map_next Writes (then_gives_back x.mount x.cpu n)) (alike_wants x.mount x.cpu n)
+    (wants_fits c lim t (held_at (w.views t)) (holds_level (w.views t)) x (found_at w.words (Mounts (PlainWant x)) hook) hook f)
+write_keeps c lim w good t lt hook (GivesBack m p refusal) e =
+    write_step c w good t lt hook (GivesBack m p refusal) e
+    (λ g at. (end_phase c (leaves_on p)).step lim (first_world c w good t lt hook (GivesBack m p refusal) e) g t lt hook at)
+    (Done (Err refusal)) alike_none tt
+write_keeps c lim w good t lt hook (Drops m p) e =
+    let f : WriteFits c t (held_at (w.views t)) (holds_level (w.views t)) (Drops m p) =
+    write_fits_now c w good t lt hook (Drops m p) e in
+    write_step c w good t lt hook (Drops m p) e
+    (λ g at. (drop_phase c m p).step lim (first_world c w good t lt hook (Drops m p) e) g t lt hook at)
+    (Go (Writes (Ends p))) (alike_ends p) (f.0.1, f.1)
+write_keeps c lim w good t lt hook (Ends p) e =
+    write_step c w good t lt hook (Ends p) e
+    (λ g at. (end_phase c (leaves_on p)).step lim (first_world c w good t lt hook (Ends p) e) g t lt hook at)
+    (Done (Ok UnitReply)) alike_none tt
+
+-- what is proved of a phase at level 1
+takes_phase : (c : Config) (m : ℕ) (r : DownRead) → PhaseKeeps c (Writes (Takes m r))
+takes_phase c m r = record {
+  step = λ lim w good t lt hook e. write_keeps c lim w good t lt hook (Takes m r) e;
+  completes = λ lim w good t lt hook e. completes_none c w t hook (Writes (Takes m r)) (λ trace found. refl);
+  word = λ lim t lt held levels hook f. (read_phase c r).word lim t lt held levels hook f.0;
+  acts = λ lim t held levels found hook f. (read_phase c r).acts lim t held levels found hook f.0;
+  goes = λ lim t held levels found hook f. takes_fits c t held levels m r found f;
+  agrees = λ t f g h k mounts levels fits.
+      ((read_phase c r).agrees t f g h k mounts levels fits.0, fits.1, fits.2, omega (arith, fits.3, mounts m fits.2));
+  quiet = λ w good t lt hook n e before after. ap (λ f. f n) (read_counts w t hook r r.step);
+  stays = λ w next earlier good t f e was quiet h. read_stays c t w next earlier r.level r.step (ap asks_level e) h;
+  causes = λ w earlier good t lt hook e after is h.
       let f : WriteFits c t (held_at (w.views t)) (holds_level (w.views t)) (Takes m r) =
       write_fits_now c w good t lt hook (Takes m r) e in
-      write_step c w good t lt hook (Takes m r) e
-      (λ g at. (reads r).step lim (first_world c w good t lt hook (Takes m r) e) g t lt hook at)
-      (map_next Writes (then_wants m r.cpu n)) (alike_takes m r.cpu n)
-      (takes_fits c t (held_at (w.views t)) (holds_level (w.views t)) m r (found_at w.words (DownReads r) hook) f)
-  write_keeps lim w good t lt hook (Wants x) e =
-      let n : Next Want = (want_after x x.step (found_at w.words (Mounts (PlainWant x)) hook)).0 in
+      let next : World = after_step w t (Writes (Takes m r)) hook in
+      let n : Next DownRead = (down_read_after r r.step (found_at w.words (DownReads r) hook)).0 in
+      takes_cause c t w next earlier m r.cpu n
+      (read_own c t w next earlier good r f.0.0 f.0.1 hook r.step (ap asks_level e)
+      (ap (λ q. closed (sync_role_of r.level q)) e ∙ read_not_closed r.level r.level r.step) h
+      (takes_asks c t w next earlier m r.cpu n is));
+  waits = λ lim w earlier good t lt hook e cause.
+      takes_waits c t w earlier m r.cpu r (down_read_after r r.step (found_at w.words (DownReads r) hook)).0
+      (read_waits c w earlier t r r.step (found_at w.words (DownReads r) hook) cause);
+  tells = λ t w earlier h e. read_tells c t w earlier r.level r.step h e;
+}
+
+-- what is proved of a phase at the mount
+wants_phase : (c : Config) (x : Want) → PhaseKeeps c (Writes (Wants x))
+wants_phase c x = record {
+  step = λ lim w good t lt hook e. write_keeps c lim w good t lt hook (Wants x) e;
+  completes = λ lim w good t lt hook e. completes_none c w t hook (Writes (Wants x)) (λ trace found. refl);
+  word = λ lim t lt held levels hook f. (want_phase c x).word lim t lt held levels hook f.0;
+  acts = λ lim t held levels found hook f. (want_phase c x).acts lim t held levels found hook f.0;
+  goes = λ lim t held levels found hook f. wants_fits c lim t held levels x found hook f;
+  agrees = λ t f g h k mounts levels fits.
+      ((want_phase c x).agrees t f g h k mounts levels fits.0, sym (levels 1 (omega arith) (omega arith)) ∙ fits.1);
+  quiet = λ w good t lt hook n e before after.
+      let coming : Next Want = (want_after x x.step (found_at w.words (Mounts (PlainWant x)) hook)).0 in
+      write_quiet c w good t lt hook (Wants x) e (map_next Writes (then_gives_back x.mount x.cpu coming))
+      (alike_wants x.mount x.cpu coming) n
+      (λ g at. (want_phase c x).quiet (first_world c w good t lt hook (Wants x) e) g t lt hook n at) before after;
+  stays = λ w next earlier good t f e was quiet h. want_kept c t w next earlier x.mount x.step (ap asks e) h;
+  causes = λ w earlier good t lt hook e after is h.
       let f : WriteFits c t (held_at (w.views t)) (holds_level (w.views t)) (Wants x) = write_fits_now c w good t lt hook (Wants x) e in
-      write_step c w good t lt hook (Wants x) e
-      (λ g at. (want_phase c x).step lim (first_world c w good t lt hook (Wants x) e) g t lt hook at)
-      (map_next Writes (then_gives_back x.mount x.cpu n)) (alike_wants x.mount x.cpu n)
-      (wants_fits c lim t (held_at (w.views t)) (holds_level (w.views t)) x (found_at w.words (Mounts (PlainWant x)) hook) hook f)
-  write_keeps lim w good t lt hook (GivesBack m p refusal) e =
-      write_step c w good t lt hook (GivesBack m p refusal) e
-      (λ g at. (ends (leaves_on p)).step lim (first_world c w good t lt hook (GivesBack m p refusal) e) g t lt hook at)
-      (Done (Err refusal)) alike_none tt
-  write_keeps lim w good t lt hook (Drops m p) e =
-      let f : WriteFits c t (held_at (w.views t)) (holds_level (w.views t)) (Drops m p) =
-      write_fits_now c w good t lt hook (Drops m p) e in
-      write_step c w good t lt hook (Drops m p) e
-      (λ g at. (drop_phase c m p).step lim (first_world c w good t lt hook (Drops m p) e) g t lt hook at)
-      (Go (Writes (Ends p))) (alike_ends p) (f.0.1, f.1)
-  write_keeps lim w good t lt hook (Ends p) e =
-      write_step c w good t lt hook (Ends p) e
-      (λ g at. (ends (leaves_on p)).step lim (first_world c w good t lt hook (Ends p) e) g t lt hook at)
-      (Done (Ok UnitReply)) alike_none tt
+      let next : World = after_step w t (Writes (Wants x)) hook in
+      let n : Next Want = (want_after x x.step (found_at w.words (Mounts (PlainWant x)) hook)).0 in
+      wants_cause c t next (w ∷ earlier) x.mount x.cpu n
+      (want_own c t lt w next earlier good x x.step f.0.0 (ap asks e)
+      (ap asks is ∙ wants_asked c t next earlier x.mount x.cpu n) h);
+  waits = λ lim w earlier good t lt hook e cause.
+      let f : WriteFits c t (held_at (w.views t)) (holds_level (w.views t)) (Wants x) = write_fits_now c w good t lt hook (Wants x) e in
+      wants_waits c t w earlier x.mount x.cpu good lt x (want_after x x.step (found_at w.words (Mounts (PlainWant x)) hook)).0
+      (want_waits c w good t lt x x.step f.0.0 (ap (role_of x.mount) e ∙ role_on x.mount _));
+  tells = λ t w earlier h e. let k : WantCause c t w earlier x.mount (CountsDown ReadOnly) =
+      subst (WantCause c t w earlier x.mount) e h in k refl;
+}
 
-  -- what is proved of a phase at level 1
-  takes_phase : (m : ℕ) (r : DownRead) → PhaseKeeps c (Writes (Takes m r))
-  takes_phase m r = record {
-    step = λ lim w good t lt hook e. write_keeps lim w good t lt hook (Takes m r) e;
-    completes = λ lim w good t lt hook e. completes_none c w t hook (Writes (Takes m r)) (λ trace found. refl);
-    word = λ lim t lt held levels hook f. (reads r).word lim t lt held levels hook f.0;
-    acts = λ lim t held levels found hook f. (reads r).acts lim t held levels found hook f.0;
-    goes = λ lim t held levels found hook f. takes_fits c t held levels m r found f;
-    agrees = λ t f g h k mounts levels fits.
-        ((reads r).agrees t f g h k mounts levels fits.0, fits.1, fits.2, omega (arith, fits.3, mounts m fits.2));
-    quiet = λ w good t lt hook n e before after. ap (λ f. f n) (read_counts w t hook r r.step);
-    stays = λ w next earlier good t f e was quiet h. read_stays c t w next earlier r.level r.step (ap asks_level e) h;
-    causes = λ w earlier good t lt hook e after is h.
-        let f : WriteFits c t (held_at (w.views t)) (holds_level (w.views t)) (Takes m r) =
-        write_fits_now c w good t lt hook (Takes m r) e in
-        let next : World = after_step w t (Writes (Takes m r)) hook in
-        let n : Next DownRead = (down_read_after r r.step (found_at w.words (DownReads r) hook)).0 in
-        takes_cause c t w next earlier m r.cpu n
-        (read_own c t w next earlier good r f.0.0 f.0.1 hook r.step (ap asks_level e)
-        (ap (λ q. closed (sync_role_of r.level q)) e ∙ read_not_closed r.level r.level r.step) h
-        (takes_asks c t w next earlier m r.cpu n is));
-    waits = λ lim w earlier good t lt hook e cause.
-        takes_waits c t w earlier m r.cpu r (down_read_after r r.step (found_at w.words (DownReads r) hook)).0
-        (read_waits c w earlier t r r.step (found_at w.words (DownReads r) hook) cause);
-    tells = λ t w earlier h e. read_tells c t w earlier r.level r.step h e;
-  }
+-- what is proved of a phase that leaves the level, as the mount was refused
+gives_back_phase : (c : Config) (m p : ℕ) (refusal : GateError) → PhaseKeeps c (Writes (GivesBack m p refusal))
+gives_back_phase c m p refusal = record {
+  step = λ lim w good t lt hook e. write_keeps c lim w good t lt hook (GivesBack m p refusal) e;
+  completes = λ lim w good t lt hook e. completes_none c w t hook (Writes (GivesBack m p refusal)) (λ trace found. refl);
+  word = λ lim t lt held levels hook f.
+      (end_phase c (leaves_on p)).word lim t lt held levels hook (omega arith, omega arith, f.1, f.2);
+  acts = λ lim t held levels found hook f. (omega arith, omega arith);
+  goes = λ lim t held levels found hook f. tt;
+  agrees = λ t f g h k mounts levels fits. (fits.0, fits.1, sym (levels 1 (omega arith) (omega arith)) ∙ fits.2);
+  quiet = λ w good t lt hook n e before after. refl;
+  stays = λ w next earlier good t f e was quiet h. want_kept c t w next earlier m (CountsDown refusal) (ap asks e) h;
+  causes = λ w earlier good t lt hook e after is h. tt;
+  waits = λ lim w earlier good t lt hook e cause. tt;
+  tells = λ t w earlier h. h;
+}
 
-  -- what is proved of a phase at the mount
-  wants_phase : (x : Want) → PhaseKeeps c (Writes (Wants x))
-  wants_phase x = record {
-    step = λ lim w good t lt hook e. write_keeps lim w good t lt hook (Wants x) e;
-    completes = λ lim w good t lt hook e. completes_none c w t hook (Writes (Wants x)) (λ trace found. refl);
-    word = λ lim t lt held levels hook f. (want_phase c x).word lim t lt held levels hook f.0;
-    acts = λ lim t held levels found hook f. (want_phase c x).acts lim t held levels found hook f.0;
-    goes = λ lim t held levels found hook f. wants_fits c lim t held levels x found hook f;
-    agrees = λ t f g h k mounts levels fits.
-        ((want_phase c x).agrees t f g h k mounts levels fits.0, sym (levels 1 (omega arith) (omega arith)) ∙ fits.1);
-    quiet = λ w good t lt hook n e before after.
-        let coming : Next Want = (want_after x x.step (found_at w.words (Mounts (PlainWant x)) hook)).0 in
-        write_quiet c w good t lt hook (Wants x) e (map_next Writes (then_gives_back x.mount x.cpu coming))
-        (alike_wants x.mount x.cpu coming) n
-        (λ g at. (want_phase c x).quiet (first_world c w good t lt hook (Wants x) e) g t lt hook n at) before after;
-    stays = λ w next earlier good t f e was quiet h. want_kept c t w next earlier x.mount x.step (ap asks e) h;
-    causes = λ w earlier good t lt hook e after is h.
-        let f : WriteFits c t (held_at (w.views t)) (holds_level (w.views t)) (Wants x) = write_fits_now c w good t lt hook (Wants x) e in
-        let next : World = after_step w t (Writes (Wants x)) hook in
-        let n : Next Want = (want_after x x.step (found_at w.words (Mounts (PlainWant x)) hook)).0 in
-        wants_cause c t next (w ∷ earlier) x.mount x.cpu n
-        (want_own c t lt w next earlier good x x.step f.0.0 (ap asks e)
-        (ap asks is ∙ wants_asked c t next earlier x.mount x.cpu n) h);
-    waits = λ lim w earlier good t lt hook e cause.
-        let f : WriteFits c t (held_at (w.views t)) (holds_level (w.views t)) (Wants x) = write_fits_now c w good t lt hook (Wants x) e in
-        wants_waits c t w earlier x.mount x.cpu good lt x (want_after x x.step (found_at w.words (Mounts (PlainWant x)) hook)).0
-        (want_waits c w good t lt x x.step f.0.0 (ap (role_of x.mount) e ∙ role_on x.mount _));
-    tells = λ t w earlier h e. let k : WantCause c t w earlier x.mount (CountsDown ReadOnly) =
-        subst (WantCause c t w earlier x.mount) e h in k refl;
-  }
+-- what is proved of a phase that gives the mount back
+drops_phase : (c : Config) (m p : ℕ) → PhaseKeeps c (Writes (Drops m p))
+drops_phase c m p = record {
+  step = λ lim w good t lt hook e. write_keeps c lim w good t lt hook (Drops m p) e;
+  completes = λ lim w good t lt hook e. completes_none c w t hook (Writes (Drops m p)) (λ trace found. refl);
+  word = λ lim t lt held levels hook f. (drop_phase c m p).word lim t lt held levels hook f.0;
+  acts = λ lim t held levels found hook f. (drop_phase c m p).acts lim t held levels found hook f.0;
+  goes = λ lim t held levels found hook f. (f.0.1, f.1);
+  agrees = λ t f g h k mounts levels fits.
+      ((drop_phase c m p).agrees t f g h k mounts levels fits.0, sym (levels 1 (omega arith) (omega arith)) ∙ fits.1);
+  quiet = λ w good t lt hook n e before after.
+      write_quiet c w good t lt hook (Drops m p) e (Go (Writes (Ends p))) (alike_ends p) n
+      (λ g at. (drop_phase c m p).quiet (first_world c w good t lt hook (Drops m p) e) g t lt hook n at) before after;
+  stays = λ w next earlier good t f e was quiet h. tt;
+  causes = λ w earlier good t lt hook e after is h. tt;
+  waits = λ lim w earlier good t lt hook e cause. tt;
+  tells = λ t w earlier h. tt;
+}
 
-  -- what is proved of a phase that leaves the level, as the mount was refused
-  gives_back_phase : (m p : ℕ) (refusal : GateError) → PhaseKeeps c (Writes (GivesBack m p refusal))
-  gives_back_phase m p refusal = record {
-    step = λ lim w good t lt hook e. write_keeps lim w good t lt hook (GivesBack m p refusal) e;
-    completes = λ lim w good t lt hook e. completes_none c w t hook (Writes (GivesBack m p refusal)) (λ trace found. refl);
-    word = λ lim t lt held levels hook f.
-        (ends (leaves_on p)).word lim t lt held levels hook (omega arith, omega arith, f.1, f.2);
-    acts = λ lim t held levels found hook f. (omega arith, omega arith);
-    goes = λ lim t held levels found hook f. tt;
-    agrees = λ t f g h k mounts levels fits. (fits.0, fits.1, sym (levels 1 (omega arith) (omega arith)) ∙ fits.2);
-    quiet = λ w good t lt hook n e before after. refl;
-    stays = λ w next earlier good t f e was quiet h. want_kept c t w next earlier m (CountsDown refusal) (ap asks e) h;
-    causes = λ w earlier good t lt hook e after is h. tt;
-    waits = λ lim w earlier good t lt hook e cause. tt;
-    tells = λ t w earlier h. h;
-  }
+-- what is proved of a phase that leaves the level last
+ends_phase : (c : Config) (p : ℕ) → PhaseKeeps c (Writes (Ends p))
+ends_phase c p = record {
+  step = λ lim w good t lt hook e. write_keeps c lim w good t lt hook (Ends p) e;
+  completes = λ lim w good t lt hook e. completes_none c w t hook (Writes (Ends p)) (λ trace found. refl);
+  word = λ lim t lt held levels hook f.
+      (end_phase c (leaves_on p)).word lim t lt held levels hook (omega arith, omega arith, f.0, f.1);
+  acts = λ lim t held levels found hook f. (omega arith, omega arith);
+  goes = λ lim t held levels found hook f. tt;
+  agrees = λ t f g h k mounts levels fits. (fits.0, sym (levels 1 (omega arith) (omega arith)) ∙ fits.1);
+  quiet = λ w good t lt hook n e before after. refl;
+  stays = λ w next earlier good t f e was quiet h. tt;
+  causes = λ w earlier good t lt hook e after is h. tt;
+  waits = λ lim w earlier good t lt hook e cause. tt;
+  tells = λ t w earlier h. tt;
+}
 
-  -- what is proved of a phase that gives the mount back
-  drops_phase : (m p : ℕ) → PhaseKeeps c (Writes (Drops m p))
-  drops_phase m p = record {
-    step = λ lim w good t lt hook e. write_keeps lim w good t lt hook (Drops m p) e;
-    completes = λ lim w good t lt hook e. completes_none c w t hook (Writes (Drops m p)) (λ trace found. refl);
-    word = λ lim t lt held levels hook f. (drop_phase c m p).word lim t lt held levels hook f.0;
-    acts = λ lim t held levels found hook f. (drop_phase c m p).acts lim t held levels found hook f.0;
-    goes = λ lim t held levels found hook f. (f.0.1, f.1);
-    agrees = λ t f g h k mounts levels fits.
-        ((drop_phase c m p).agrees t f g h k mounts levels fits.0, sym (levels 1 (omega arith) (omega arith)) ∙ fits.1);
-    quiet = λ w good t lt hook n e before after.
-        write_quiet c w good t lt hook (Drops m p) e (Go (Writes (Ends p))) (alike_ends p) n
-        (λ g at. (drop_phase c m p).quiet (first_world c w good t lt hook (Drops m p) e) g t lt hook n at) before after;
-    stays = λ w next earlier good t f e was quiet h. tt;
-    causes = λ w earlier good t lt hook e after is h. tt;
-    waits = λ lim w earlier good t lt hook e cause. tt;
-    tells = λ t w earlier h. tt;
-  }
+-- each phase
+pub write_phase : (c : Config) (x : WritePhase) → PhaseKeeps c (Writes x)
+write_phase c (Takes m r) = takes_phase c m r
+write_phase c (Wants x) = wants_phase c x
+write_phase c (GivesBack m p refusal) = gives_back_phase c m p refusal
+write_phase c (Drops m p) = drops_phase c m p
+write_phase c (Ends p) = ends_phase c p
 
-  -- what is proved of a phase that leaves the level last
-  ends_phase : (p : ℕ) → PhaseKeeps c (Writes (Ends p))
-  ends_phase p = record {
-    step = λ lim w good t lt hook e. write_keeps lim w good t lt hook (Ends p) e;
-    completes = λ lim w good t lt hook e. completes_none c w t hook (Writes (Ends p)) (λ trace found. refl);
-    word = λ lim t lt held levels hook f.
-        (ends (leaves_on p)).word lim t lt held levels hook (omega arith, omega arith, f.0, f.1);
-    acts = λ lim t held levels found hook f. (omega arith, omega arith);
-    goes = λ lim t held levels found hook f. tt;
-    agrees = λ t f g h k mounts levels fits. (fits.0, sym (levels 1 (omega arith) (omega arith)) ∙ fits.1);
-    quiet = λ w good t lt hook n e before after. refl;
-    stays = λ w next earlier good t f e was quiet h. tt;
-    causes = λ w earlier good t lt hook e after is h. tt;
-    waits = λ lim w earlier good t lt hook e cause. tt;
-    tells = λ t w earlier h. tt;
-  }
-
-  -- each phase
-  pub write_phase : (x : WritePhase) → PhaseKeeps c (Writes x)
-  write_phase (Takes m r) = takes_phase m r
-  write_phase (Wants x) = wants_phase x
-  write_phase (GivesBack m p refusal) = gives_back_phase m p refusal
-  write_phase (Drops m p) = drops_phase m p
-  write_phase (Ends p) = ends_phase p
-
--- what is not true
+-- what is not, is false
 is_false : (b : Bool) → not b ≡ true → b ≡ false
 is_false true h = absurd (true≢false (sym h))
 is_false false h = refl

@@ -1,6 +1,6 @@
 -- Traces of a taking and of a return of write access: those of their gates, one after the other.
-use Rattle.std.proofs.Common.{◌≡◌, ℕ, ◌≤◌, Bool, true, false, refl, sym, ap, subst, inl, inr, arith}
-use Rattle.std.specs.Prelude.{◌==◌, ◌+◌, Ok, Err, List, [], ◌∷◌, length}
+use Rattle.std.proofs.Common.{◌≡◌, ℕ, ◌≤◌, true, refl, sym, ap, subst, inl, inr, arith}
+use Rattle.std.specs.Prelude.{Ok, Err, List, [], ◌∷◌, length}
 use Rattle.access_model.specs.declared.actions.Action.{Action}
 use Rattle.access_model.specs.declared.actions.Action.TheVariants.{Grant, Return}
 use Rattle.access_model.specs.declared.actions.Gate.TheVariants.{Mount, Level}
