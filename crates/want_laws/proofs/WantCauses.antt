@@ -35,11 +35,13 @@ use Rattle.gate_world.specs.KeptCauses.{WantCause, CauseOf}
 use Rattle.want_laws.proofs.WantLoads.{want}
 
 module _ (c : Config) (w : World) (good : IsGood c w) (t : ℕ) (lt : t < c.tasks) (hook : HookAnswer) (m : ℕ) where
+  -- where nothing is counted at the mount before the event of a phase and after it, the event leaves the mount's counts
   abbrev IsQuiet : MountPhase → Type 0
   IsQuiet phase = (w.views t).phase ≡ Some (Mounts phase) → all_counted c m w ≡ 0 →
       all_counted c m (after_step w t (Mounts phase) hook) ≡ 0 →
       (after_step w t (Mounts phase) hook).words.count m ≡ w.words.count m
 
+  -- a want that has added is counted there
   quiet_add : (n p : ℕ) (wait : Bool) → IsQuiet (want n p wait CountsUp)
   quiet_add n p wait e before after =
       elim (eqb_tells m n) [
@@ -53,6 +55,7 @@ module _ (c : Config) (w : World) (good : IsGood c w) (t : ℕ) (lt : t < c.task
         | inr h ↦ update_off w.words.count n _ m h.1
       ]
 
+  -- and so is one that has not yet taken its count back
   quiet_back : (n p : ℕ) (wait : Bool) (refusal : GateError) → IsQuiet (want n p wait (CountsDown refusal))
   quiet_back n p wait refusal e before after =
       elim (eqb_tells m n) [
@@ -63,6 +66,7 @@ module _ (c : Config) (w : World) (good : IsGood c w) (t : ℕ) (lt : t < c.task
         | inr h ↦ update_off w.words.count n _ m h.1
       ]
 
+  -- and who holds an access that it is to give back
   pub quiet_drop : (n p : ℕ) → IsQuiet (Drops n p)
   quiet_drop n p e before after =
       elim (eqb_tells m n) [
@@ -72,6 +76,7 @@ module _ (c : Config) (w : World) (good : IsGood c w) (t : ℕ) (lt : t < c.task
         | inr h ↦ update_off w.words.count n _ m h.1
       ]
 
+  -- so it is of each step of a want
   pub quiet_want : (n p : ℕ) (wait : Bool) (s : WantStep) → IsQuiet (want n p wait s)
   quiet_want n p wait CountsUp e before after = quiet_add n p wait e before after
   quiet_want n p wait LoadsHold e before after = refl

@@ -22,6 +22,7 @@ use Rattle.gate_world.specs.Fits.{MountFits, Fits, ActionFits, mounts_by, levels
 use Rattle.gate_frames.proofs.Keeps.{by_bool}
 
 module _ (c : Config) (within : IsWithin c) (t : ℕ) (held : ℕ → ℕ) (levels : ℕ → Bool) where
+  -- the word of each event of a want is there
   pub want_there : (w : Want) (step : WantStep) → w.mount < c.mounts → w.cpu < c.processors → IsWord (extents_of c) (want_next w step).0
   want_there w CountsUp m p = (m, p)
   want_there w LoadsHold m p = m
@@ -30,6 +31,7 @@ module _ (c : Config) (within : IsWithin c) (t : ℕ) (held : ℕ → ℕ) (leve
   want_there w LoadsSuperblock m p = tt
   want_there w (CountsDown refusal) m p = (m, p)
 
+  -- its action can be done
   pub want_acts : (w : Want) (step : WantStep) (found : ℕ) → w.mount < 8 → held w.mount < 1024 → ActionFits held (want_after w step found).1
   want_acts w LoadsSuperblock found m room = by_bool (found == 0) (λ b. ActionFits held (if b then Some (Grant (Mount w.mount)) else None))
       (m, room) tt

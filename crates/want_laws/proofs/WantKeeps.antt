@@ -35,6 +35,7 @@ both true true e = (refl, refl)
 both true false e = (refl, e)
 both false b e = absurd (cc)
 
+-- of each phase of a want
 pub want_phase : (c : Config) (x : Want) → PhaseKeeps c (Mounts (Wants x))
 want_phase c x = record {
   step = λ lim w good t lt hook e. want_keeps c lim w good t lt hook x.mount x.cpu x.wait x.step e;
@@ -61,6 +62,7 @@ want_phase c x = record {
       subst (WantCause c t w earlier x.mount) e h in k refl;
 }
 
+-- of the one phase of a drop
 pub drop_phase : (c : Config) (m p : ℕ) → PhaseKeeps c (Mounts (Drops m p))
 drop_phase c m p = record {
   step = λ lim w good t lt hook e. drop_keeps c lim w good t lt hook m p e;
@@ -76,6 +78,7 @@ drop_phase c m p = record {
   tells = λ t w earlier h. tt;
 }
 
+-- of a want
 pub want_op : (c : Config) (m p : ℕ) (wait : Bool) → OpKeeps c (WantOp m p wait)
 want_op c m p wait = record {
   fits = λ t held levels there order room.
@@ -97,6 +100,7 @@ want_op c m p wait = record {
   most_small = λ lim. by_bool wait (λ w. IsSmall (most_events c (WantOp m p w))) tt (omega arith);
 }
 
+-- of a drop
 pub drop_op : (c : Config) (m p : ℕ) → OpKeeps c (DropMount m p)
 drop_op c m p = record {
   fits = λ t held levels there order room.
