@@ -112,7 +112,7 @@ takes_phase : (c : Config) (m : ℕ) (r : DownRead) → PhaseKeeps c (Writes (Ta
 takes_phase c m r = record {
   step = λ lim w good t lt hook e. write_keeps c lim w good t lt hook (Takes m r) e;
   completes = λ lim w good t lt hook e. completes_none c w t hook (Writes (Takes m r)) (λ trace found. refl);
-  word = λ lim t lt held levels hook f. (read_phase c r).word lim t lt held levels hook f.0;
+  word = λ lim n le t lt held levels hook f. (read_phase c r).word lim n le t lt held levels hook f.0;
   acts = λ lim t held levels found hook f. (read_phase c r).acts lim t held levels found hook f.0;
   goes = λ lim t held levels found hook f. takes_fits c t held levels m r found f;
   agrees = λ t f g h k mounts levels fits.
@@ -139,7 +139,7 @@ wants_phase : (c : Config) (x : Want) → PhaseKeeps c (Writes (Wants x))
 wants_phase c x = record {
   step = λ lim w good t lt hook e. write_keeps c lim w good t lt hook (Wants x) e;
   completes = λ lim w good t lt hook e. completes_none c w t hook (Writes (Wants x)) (λ trace found. refl);
-  word = λ lim t lt held levels hook f. (want_phase c x).word lim t lt held levels hook f.0;
+  word = λ lim n le t lt held levels hook f. (want_phase c x).word lim n le t lt held levels hook f.0;
   acts = λ lim t held levels found hook f. (want_phase c x).acts lim t held levels found hook f.0;
   goes = λ lim t held levels found hook f. wants_fits c lim t held levels x found hook f;
   agrees = λ t f g h k mounts levels fits.
@@ -170,8 +170,8 @@ gives_back_phase : (c : Config) (m p : ℕ) (refusal : GateError) → PhaseKeeps
 gives_back_phase c m p refusal = record {
   step = λ lim w good t lt hook e. write_keeps c lim w good t lt hook (GivesBack m p refusal) e;
   completes = λ lim w good t lt hook e. completes_none c w t hook (Writes (GivesBack m p refusal)) (λ trace found. refl);
-  word = λ lim t lt held levels hook f.
-      (end_phase c (leaves_on p)).word lim t lt held levels hook (omega arith, omega arith, f.1, f.2);
+  word = λ lim n le t lt held levels hook f.
+      (end_phase c (leaves_on p)).word lim n le t lt held levels hook (omega arith, omega arith, f.1, f.2);
   acts = λ lim t held levels found hook f. (omega arith, omega arith);
   goes = λ lim t held levels found hook f. tt;
   agrees = λ t f g h k mounts levels fits. (fits.0, fits.1, sym (levels 1 (omega arith) (omega arith)) ∙ fits.2);
@@ -187,7 +187,7 @@ drops_phase : (c : Config) (m p : ℕ) → PhaseKeeps c (Writes (Drops m p))
 drops_phase c m p = record {
   step = λ lim w good t lt hook e. write_keeps c lim w good t lt hook (Drops m p) e;
   completes = λ lim w good t lt hook e. completes_none c w t hook (Writes (Drops m p)) (λ trace found. refl);
-  word = λ lim t lt held levels hook f. (drop_phase c m p).word lim t lt held levels hook f.0;
+  word = λ lim n le t lt held levels hook f. (drop_phase c m p).word lim n le t lt held levels hook f.0;
   acts = λ lim t held levels found hook f. (drop_phase c m p).acts lim t held levels found hook f.0;
   goes = λ lim t held levels found hook f. (f.0.1, f.1);
   agrees = λ t f g h k mounts levels fits.
@@ -206,8 +206,8 @@ ends_phase : (c : Config) (p : ℕ) → PhaseKeeps c (Writes (Ends p))
 ends_phase c p = record {
   step = λ lim w good t lt hook e. write_keeps c lim w good t lt hook (Ends p) e;
   completes = λ lim w good t lt hook e. completes_none c w t hook (Writes (Ends p)) (λ trace found. refl);
-  word = λ lim t lt held levels hook f.
-      (end_phase c (leaves_on p)).word lim t lt held levels hook (omega arith, omega arith, f.0, f.1);
+  word = λ lim n le t lt held levels hook f.
+      (end_phase c (leaves_on p)).word lim n le t lt held levels hook (omega arith, omega arith, f.0, f.1);
   acts = λ lim t held levels found hook f. (omega arith, omega arith);
   goes = λ lim t held levels found hook f. tt;
   agrees = λ t f g h k mounts levels fits. (fits.0, sym (levels 1 (omega arith) (omega arith)) ∙ fits.1);
