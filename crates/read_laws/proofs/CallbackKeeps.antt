@@ -21,7 +21,7 @@ use Rattle.gate_world.specs.Levels.{sync_role_if}
 use Rattle.gate_world.specs.Rules.{Fitting}
 use Rattle.gate_world.specs.Views.{held_at, holds_level, phase_after}
 use Rattle.gate_world.specs.Worlds.{World, after_step, found_at}
-use Rattle.gate_frames.proofs.Keeps.{by_bool, PhaseKeeps, OpKeeps}
+use Rattle.gate_frames.proofs.Keeps.{by_bool, word_among, PhaseKeeps, OpKeeps}
 use Rattle.gate_frames.proofs.Snapshots.{completes_none}
 use Rattle.trace_laws.proofs.Says.{tells, is_short}
 use Rattle.read_laws.proofs.ReadFits.{level_there, callback_there, callback_goes, callback_acts_none}
@@ -50,7 +50,7 @@ pub callback_phase : (c : Config) (b : Callback) → PhaseKeeps c (Callbacks b)
 callback_phase c b = record {
   step = λ within w good t lt hook e. callback_keeps c within w good t lt hook b e;
   completes = λ within w good t lt hook e. completes_none c w t hook (Callbacks b) (λ trace found. refl);
-  word = λ within t lt held levels hook f. callback_there c b b.step f.0 f.1 f.3;
+  word = λ within n le t lt held levels hook f. word_among c n le _ (callback_there c b b.step f.0 f.1 f.3);
   acts = λ within t held levels found hook f.
       subst (ActionFits held) (sym (callback_acts_none b b.step found)) tt;
   goes = λ within t held levels found hook f.

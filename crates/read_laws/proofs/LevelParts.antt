@@ -12,7 +12,7 @@ use Rattle.access_model.specs.Replies.{map_next}
 use Rattle.gate_world.specs.Worlds.{World}
 use Rattle.gate_world.specs.declared.work.Phase.TheVariants.{UpReads, DownReads}
 use Rattle.percpu_rwsem.specs.declared.readers.DownRead.{DownRead}
-use Rattle.gate_world.specs.Levels.{is_frozen_whole}
+use Rattle.gate_world.specs.Levels.{is_frozen_whole, sync_role_of, inside, at_level}
 use Rattle.gate_world.specs.Views.{held_at, added_by, phase_after, taken_by, holds_level}
 use Rattle.gate_world.specs.Rules.{owns, remounts, IsGood, relied, Holds, ViewFits, Owner, Known, AtMount, AtLevel, role_of, SyncAt, Sections, Superblock, Stages, Fitting, Relying, Nodes}
 use Rattle.gate_world.specs.declared.config.Config.{Config}
@@ -139,12 +139,15 @@ module _ (c : Config) (w : World) (good : IsGood c w) (t : ℕ) (lt : t < c.task
   closing_same i = now.closes_none i ∙ sym (was.closes_none i)
 
   -- the shown model, where the task's accesses at levels alone may be others
-  pub level_shown : SameAtMounts (w.views t) v →
-      shown c then_world ≡ record (shown c w) { levels = update (λ x. holds_level (w.views x)) t (holds_level v) }
+  pub level_shown : SameAtMounts (w.views t) v → shown c then_world ≡
+      record (shown c w) {
+        mounts = update (λ x. held_at (w.views x)) t (held_at (w.views t));
+        levels = update (λ x. holds_level (w.views x)) t (holds_level v);
+      }
   level_shown mounts =
       shown_as c w t lt ws v words.block_same closing_same ∙
       (λ j. record (shown c w) {
-        mounts = (ap (update (λ x. held_at (w.views x)) t) mounts.held_same ∙ update_same (λ x. held_at (w.views x)) t) j;
+        mounts = update (λ x. held_at (w.views x)) t (mounts.held_same j);
         levels = update (λ x. holds_level (w.views x)) t (holds_level v);
         mount_ro = λ m. ro_bit (words.flags_same j m) == 1;
         sb_ro = words.remount_same j == 1 || words.sb_same j == 1;
@@ -157,5 +160,24 @@ module _ (c : Config) (w : World) (good : IsGood c w) (t : ℕ) (lt : t < c.task
   level_still mounts el =
       level_shown mounts ∙
       (λ j. record (shown c w) {
+        mounts = update_same (λ x. held_at (w.views x)) t j;
         levels = (ap (update (λ x. holds_level (w.views x)) t) el ∙ update_same (λ x. holds_level (w.views x)) t) j;
       })
+
+  -- the rcu_sync of a level, where the task's part in it is as it was
+  pub sync_left_at : ws.sync ≡ w.words.sync → ws.section ≡ w.words.section →
+      ((i : ℕ) → sync_role_of i v.phase ≡ sync_role_of i (w.views t).phase) → (i : ℕ) → Holds c then_world (SyncAt i)
+  sync_left_at syncs section same i =
+      left_alone c w t lt (SyncAt i) ws v
+      (ap (λ f. f i) syncs, ap (λ f. f i) words.block_same, section, whole_same w.words ws words) (same i) (good (SyncAt i))
+
+  -- and the sections, where it is inside one or not as before
+  pub sections_left_at : ws.section ≡ w.words.section → inside v.phase ≡ inside (w.views t).phase → Holds c then_world Sections
+  sections_left_at section same = left_alone c w t lt Sections ws v section same (good Sections)
+
+  -- the counts of a level, where the task counts there as it did
+  pub counts_left_at : ws.level ≡ w.words.level → ((i : ℕ) → at_level i v ≡ at_level i (w.views t)) → (i : ℕ) →
+      Holds c then_world (AtLevel i)
+  counts_left_at counts same i =
+      left_alone c w t lt (AtLevel i) ws v
+      (ap (λ f. f i) words.block_same, ap (λ f. f i) counts, whole_same w.words ws words) (same i) (good (AtLevel i))

@@ -3,6 +3,8 @@ pub mod ReadLevels
 pub mod LevelParts
 pub mod LevelCounts
 pub mod CallbackEvents
+pub mod ReadEvents
+pub mod EndEvents
 pub mod ReadTraces
 pub mod ReadFits
 pub mod CallbackTraces

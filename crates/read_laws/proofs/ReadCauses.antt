@@ -47,11 +47,11 @@ step_not_closed s = refl
 pub read_not_closed : (i j : ℕ) (s : DownReadStep) → closed (sync_role_if (i == j) (down_read_role s)) ≡ 0
 read_not_closed i j s = by_bool (i == j) (λ b. closed (sync_role_if b (down_read_role s)) ≡ 0) (step_not_closed s) refl
 
--- 1 or 0
+-- 1 where this is true
 abbrev one_if : Bool → ℕ
 one_if b = if b then 1 else 0
 
--- either
+-- which is 1 or 0
 one_or_none : (b : Bool) → (one_if b ≡ 1) ⊎ (one_if b ≡ 0)
 one_or_none true = inl refl
 one_or_none false = inr refl

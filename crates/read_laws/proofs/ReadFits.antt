@@ -52,8 +52,8 @@ level_there i h =
     let l : (nat_lt 0 i ≡ true) × (nat_lt i 4 ≡ true) = both_true (nat_lt 0 i) (nat_lt i 4) h in
     (omega (arith, ltb-true 0 i l.0), omega (arith, ltb-true i 4 l.1))
 
--- accesses that agree at each level hold none from a level up alike
 module _ (h k : ℕ → Bool) (levels : (i : ℕ) → 1 ≤ i → i ≤ 3 → h i ≡ k i) where
+  -- accesses that agree at each level hold none from a level up alike
   pub none_from_agree : (i : ℕ) → holds_none_from i h ≡ holds_none_from i k
   none_from_agree i = rw (levels 1 (omega arith) (omega arith), levels 2 (omega arith) (omega arith), levels 3 (omega arith) (omega arith))
 
@@ -96,13 +96,13 @@ ReadGoes c t i p levels (Wait r) = ReadFits c t levels r × (r.level ≡ i) × (
 ReadGoes c t i p levels (Done (Ok reply)) = levels i ≡ true
 ReadGoes c t i p levels (Done (Err refusal)) = Unit {0}
 
--- so it is after each event
 module _ (c : Config) (t : ℕ) (r : DownRead) (l1 : 1 ≤ r.level) (l3 : r.level ≤ 3) (p : r.cpu < c.processors) (same : r.task ≡ t) where
   -- the next step fits these accesses
   goes_on : (levels : ℕ → Bool) (s : DownReadStep) → ReadStepFits r.level levels s →
       ReadGoes c t r.level r.cpu levels (Go (at_down_read r s))
   goes_on levels s h = ((l1, l3, p, same, h), refl, refl)
 
+  -- so it is after each event
   pub read_goes : (levels : ℕ → Bool) (s : DownReadStep) (found : ℕ) → ReadStepFits r.level levels s →
       ReadGoes c t r.level r.cpu (levels_by (down_read_after r s found).1 levels) (down_read_after r s found).0
   read_goes levels EntersSection found h = goes_on levels LoadsSync h

@@ -12,29 +12,24 @@ use Rattle.gate_counts.specs.Levels.{Out as CountsNot}
 use Rattle.level_laws.specs.Roles.{Out as IsApart, closed}
 use Rattle.gate_world.specs.declared.config.Config.{Config}
 use Rattle.gate_world.specs.declared.operations.Op.TheVariants.{Start, End}
-use Rattle.gate_world.specs.declared.work.Phase.{Phase}
 use Rattle.gate_world.specs.declared.work.Phase.TheVariants.{DownReads, UpReads}
 use Rattle.gate_world.specs.Causes.{asks_level}
-use Rattle.gate_world.specs.Configs.{IsWithin}
 use Rattle.gate_world.specs.Fits.{Fits, mounts_by, levels_by}
 use Rattle.gate_world.specs.Levels.{sync_role_of, count_role_if, sync_role_if}
 use Rattle.gate_world.specs.Operations.{is_level_number}
-use Rattle.gate_world.specs.Rules.{IsGood, StepKeeps, Fitting}
+use Rattle.gate_world.specs.Rules.{Fitting}
 use Rattle.gate_world.specs.Traces.{most_events}
 use Rattle.gate_world.specs.Views.{held_at, holds_level}
 use Rattle.gate_world.specs.Worlds.{World, after_step, found_at}
 use Rattle.gate_frames.proofs.Keeps.{by_bool, PhaseKeeps, IsSmall, OpKeeps}
 use Rattle.gate_frames.proofs.Snapshots.{completes_none}
 use Rattle.trace_laws.proofs.Says.{tells, is_short}
+use Rattle.read_laws.proofs.EndEvents.{end_keeps}
+use Rattle.read_laws.proofs.ReadEvents.{read_keeps}
 use Rattle.read_laws.proofs.ReadFits.{both_true, level_there, none_from_agree, read_step_agrees, read_there, read_acts, read_goes, read_fits}
 use Rattle.read_laws.proofs.ReadCauses.{read_not_closed, read_stays, read_own, asks_next, next_cause, read_tells}
 use Rattle.read_laws.proofs.ReadWaits.{read_waits, start_waits}
 use Rattle.read_laws.proofs.ReadTraces.{StartAt, EndAt, start_kept, end_kept}
-
--- the event of a phase keeps the rule, and moves the shown model by its action
-abbrev pub KeepsRule : Config → Phase → Type 0
-KeepsRule c phase = IsWithin c → (w : World) → IsGood c w → (t : ℕ) → t < c.tasks → (hook : HookAnswer) → (w.views t).phase ≡ Some phase →
-    StepKeeps c w t hook phase
 
 -- no event of a down-read touches a mount's count
 pub read_counts : (w : World) (t : ℕ) (hook : HookAnswer) (r : DownRead) (s : DownReadStep) →
@@ -42,12 +37,12 @@ pub read_counts : (w : World) (t : ℕ) (hook : HookAnswer) (r : DownRead) (s : 
 read_counts w t hook r EntersSection = refl
 read_counts w t hook r s = refl
 
--- of each phase of a start, where each event keeps the rule
-pub read_phase_by : (c : Config) (r : DownRead) → KeepsRule c (DownReads r) → PhaseKeeps c (DownReads r)
-read_phase_by c r keeps = record {
-  step = λ within w good t lt hook e. keeps within w good t lt hook e;
+-- of each phase of a start
+pub read_phase : (c : Config) (r : DownRead) → PhaseKeeps c (DownReads r)
+read_phase c r = record {
+  step = λ within w good t lt hook e. read_keeps c within w good t lt hook r e;
   completes = λ within w good t lt hook e. completes_none c w t hook (DownReads r) (λ trace found. refl);
-  word = λ within t lt held levels hook f. read_there c t lt r r.step f.0 f.1 f.2 f.3;
+  word = λ within n le t lt held levels hook f. read_there (record c { tasks = n }) t lt r r.step f.0 f.1 f.2 f.3;
   acts = λ within t held levels found hook f. read_acts held r r.step found f.0 f.1;
   goes = λ within t held levels found hook f.
       read_fits c t r.level r.cpu (mounts_by (down_read_after r r.step found).1 held)
@@ -72,11 +67,11 @@ read_phase_by c r keeps = record {
 }
 
 -- of the one phase of an end
-pub end_phase_by : (c : Config) (u : UpRead) → KeepsRule c (UpReads u) → PhaseKeeps c (UpReads u)
-end_phase_by c u keeps = record {
-  step = λ within w good t lt hook e. keeps within w good t lt hook e;
+pub end_phase : (c : Config) (u : UpRead) → PhaseKeeps c (UpReads u)
+end_phase c u = record {
+  step = λ within w good t lt hook e. end_keeps c within w good t lt hook u e;
   completes = λ within w good t lt hook e. completes_none c w t hook (UpReads u) (λ trace found. refl);
-  word = λ within t lt held levels hook f. (f.0, f.1, f.2);
+  word = λ within n le t lt held levels hook f. (f.0, f.1, f.2);
   acts = λ within t held levels found hook f. (f.0, f.1);
   goes = λ within t held levels found hook f. tt;
   agrees = λ t f g h k mounts levels fits. (fits.0, fits.1, fits.2, sym (levels u.level fits.0 fits.1) ∙ fits.3);
@@ -95,7 +90,7 @@ in_level c i p there =
     let l : (1 ≤ i) × (i ≤ 3) = level_there i at.0 in
     (l.0, l.1, ltb-true p c.processors at.1)
 
--- of a start
+-- of the beginning and the trace of a start
 pub start_op : (c : Config) (i p : ℕ) (wait : Bool) → OpKeeps c (Start i p wait)
 start_op c i p wait = record {
   fits = λ t held levels there order room.
@@ -116,7 +111,7 @@ start_op c i p wait = record {
   most_small = λ within. by_bool wait (λ b. IsSmall (most_events c (Start i p b))) tt (omega arith);
 }
 
--- of an end
+-- of those of an end
 pub end_op : (c : Config) (i p : ℕ) → OpKeeps c (End i p)
 end_op c i p = record {
   fits = λ t held levels there order room.

@@ -1,13 +1,12 @@
 -- The words of gates that are closed.
-use Rattle.std.proofs.Common.{◌≡◌, ℕ, ◌*◌, ◌%◌, ◌<◌, ◌≤◌, List, refl, ap, ◌∙◌, arith}
-use Rattle.std.specs.Prelude.{None, slice_index, if◌then◌else◌}
+use Rattle.std.proofs.Common.{◌≡◌, ℕ, ◌*◌, ◌%◌, ◌<◌, List, ap, ◌∙◌, arith, ◌≤◌, Bool}
+use Rattle.std.specs.Prelude.{if◌then◌else◌, None, slice_index}
 use Rattle.finite_sums.specs.Sums.{total}
 use Rattle.finite_sums.proofs.Totals.{total_same, total_none}
-use Rattle.cpu_words.specs.declared.names.WordName.TheVariants.{Umount, Remount, MountFlags, MountCount, LevelCount, Section}
+use Rattle.cpu_words.specs.declared.names.WordName.TheVariants.{Umount, Remount, MountFlags, MountCount, Section, LevelCount}
 use Rattle.cpu_words.specs.Names.{place}
 use Rattle.mount_counts.specs.Roles.{hold_bit}
 use Rattle.gate_world.specs.declared.config.Config.{Config}
-use Rattle.gate_world.specs.Views.{holds_level}
 use Rattle.schedule_laws.proofs.Schedule.{idle_sums}
 use Rattle.schedule_laws.proofs.Rests.{at_rest, no_hold as hold_is_clear}
 use Rattle.vfs_gates.specs.Ended.{Ended}
@@ -39,18 +38,15 @@ module _ (c : Config) (ws : List ℕ) (e : Ended c ws) where
       (λ p lp. e.ruled.words (MountCount m p) (lm, lp))) ∙
       ((idle_sums c e.ruled.within e.world e.ruled.good idle).mounts m lm ∙ total_none c.tasks _ (λ t lt. (e.still t lt).1.0 m lm))
 
-  -- nobody is inside a level
-  none_inside : (i : ℕ) → 1 ≤ i → i ≤ 3 → (t : ℕ) → t < c.tasks → (if holds_level (e.world.views t) i then 1 else 0) ≡ 0
-  none_inside i one three t lt = rw ((e.still t lt).1.1 i one three) refl
-
-  -- so the words of a level do too
+  -- and so do those of a level
   pub level_sums_to_none : (i : ℕ) → 1 ≤ i → i ≤ 3 → total c.processors
       (λ p. slice_index ws (16 * place (LevelCount i p))) % 18446744073709551616 ≡ 0
-  level_sums_to_none i one three =
+  level_sums_to_none i l1 l3 =
       ap (λ s. s % 18446744073709551616) (total_same c.processors _ (e.world.words.level i)
-      (λ p lp. e.ruled.words (LevelCount i p) (one, three, lp))) ∙
-      ((idle_sums c e.ruled.within e.world e.ruled.good idle).levels i one three ∙ total_none c.tasks _ (none_inside i one three))
+      (λ p lp. e.ruled.words (LevelCount i p) (l1, l3, lp))) ∙
+      ((idle_sums c e.ruled.within e.world e.ruled.good idle).levels i l1 l3 ∙
+      total_none c.tasks _ (λ t lt. ap (λ (b : Bool). if b then 1 else 0) ((e.still t lt).1.1 i l1 l3)))
 
-  -- nobody is inside a section
+  -- each section has ended
   pub no_section : (t : ℕ) → t < c.tasks → slice_index ws (16 * place (Section t)) % 2 ≡ 0
-  no_section t lt = ap (λ s. s % 2) (e.ruled.words (Section t) lt) ∙ (at_rest c e.world e.ruled.good idle).sections_even t lt
+  no_section t lt = ap (λ n. n % 2) (e.ruled.words (Section t) lt) ∙ (at_rest c e.world e.ruled.good idle).sections_even t lt

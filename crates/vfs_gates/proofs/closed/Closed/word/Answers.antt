@@ -1,4 +1,4 @@
-use Rattle.std.proofs.Common.{◌≡◌, ◌*◌, ◌%◌, ◌<◌, ℕ, Some, refl, sym, ap, ◌∙◌, subst}
+use Rattle.std.proofs.Common.{◌≡◌, ◌%◌, ◌*◌, ◌<◌, ℕ, Some, refl, sym, ap, ◌∙◌, subst}
 use Rattle.std.specs.Prelude.{slice_index}
 use Rattle.std.specs.Slots.{slots_items}
 use Rattle.cpu_words.specs.declared.names.WordName.{WordName}
@@ -23,8 +23,8 @@ returns-then-has_word-clause-hold c m is = let w = c.self.inside in let ws = slo
     subst (λ (v : ℕ). v < 2) (sym (c.word_of.ensures ∙ ap (λ (n : WordName). slice_index ws (16 * place n)) is))
     (no_hold w.config ws c.self.invariant.4 m there)
 
-pub returns-then-has_word-clause-section : goal.returns-then-has_word-clause-section
-returns-then-has_word-clause-section c t is = let w = c.self.inside in let ws = slots_items w.closed.words in
+pub returns-then-has_word-clause-sections : goal.returns-then-has_word-clause-sections
+returns-then-has_word-clause-sections c t is = let w = c.self.inside in let ws = slots_items w.closed.words in
     let there = subst (λ (n : WordName). IsWord (extents_of w.config) n) is (c.if-has_word.ensures.0 refl) in
     subst (λ (v : ℕ). v % 2 ≡ 0) (sym (c.word_of.ensures ∙ ap (λ (n : WordName). slice_index ws (16 * place n)) is))
     (no_section w.config ws c.self.invariant.4 t there)
