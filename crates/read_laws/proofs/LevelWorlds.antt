@@ -1,5 +1,5 @@
 -- One level of a world, as the laws of a level have it: what holds there, and what an event of a task leaves of it.
-use Rattle.std.proofs.Common.{◌≡◌, ℕ, zero, suc, ◌+◌, ◌-◌, ◌<◌, ◌≤◌, refl, sym, ap, ◌∙◌, subst, inl, inr, arith}
+use Rattle.std.proofs.Common.{◌≡◌, ℕ, zero, suc, ◌-◌, ◌<◌, ◌≤◌, refl, sym, ap, ◌∙◌, subst, arith}
 use Rattle.std.specs.Prelude.{Option, Some, None, Bool, true, false, ◌==◌, ◌&&◌, if◌then◌else◌}
 use Rattle.std.proofs.lemmas.Bool.{eq-eqb, ne_eqb}
 use Rattle.finite_sums.specs.Sums.{update, total}
@@ -110,12 +110,21 @@ never_closed i (Some (Writes (Ends p))) = refl
 pub closed_below : (i j : ℕ) (p : Option Phase) → 1 ≤ i → i ≤ j → closed (sync_role_of j p) ≤ closed (sync_role_of i p)
 closed_below i j p one le = omega (arith, never_closed j p)
 
--- a task's role at its own level, and at another one
+-- a task's role at its own level is the one it has there
 pub sync_on : (i : ℕ) (r : SyncRole) → sync_role_if (i == i) r ≡ r
 sync_on i r = rw (eq-eqb i i refl)
 
+-- and it has none at another level
 pub sync_off : (i j : ℕ) (r : SyncRole) → (i ≡ j → ⊥) → sync_role_if (i == j) r ≡ IsApart
 sync_off i j r ne = rw (ne_eqb i j ne)
+
+-- a word that the rcu_sync or the counts of this level read
+abbrev pub IsOfLevel : ℕ → WordName → Type 0
+IsOfLevel i (Sync j) = j ≡ i
+IsOfLevel i (Block j) = j ≡ i
+IsOfLevel i (LevelCount j p) = j ≡ i
+IsOfLevel i (Section u) = Unit {0}
+IsOfLevel i name = ⊥
 
 -- An event at this level that changes no section word: of its sync word, its `block` or its counts, or a load of a section word.
 abbrev pub IsEventAt : ℕ → WordName → Touch → Type 0
@@ -125,25 +134,32 @@ IsEventAt i (LevelCount j p) touch = j ≡ i
 IsEventAt i (Section u) Load = Unit {0}
 IsEventAt i name touch = ⊥
 
+-- it is of a word of the level
+event_word : (i : ℕ) (name : WordName) (touch : Touch) → IsEventAt i name touch → IsOfLevel i name
+event_word i (Sync j) touch e = e
+event_word i (Block j) touch e = e
+event_word i (LevelCount j p) touch e = e
+event_word i (Section u) touch e = tt
+event_word i name touch e = absurd e
+
 -- the level with one of its words put is the level of the world with this word put
-put_level : (w : World) (i : ℕ) (name : WordName) (touch : Touch) → IsEventAt i name touch → (n : ℕ) →
+put_level : (w : World) (i : ℕ) (name : WordName) → IsOfLevel i name → (n : ℕ) →
     put_at (level_in w i) name n ≡ level_in (record { words = put w.words name n; views = w.views }) i
-put_level w i (Sync j) touch e n =
-    λ q. record (level_in w i) { sync = (sym (update_at w.words.sync j n) ∙ ap (update w.words.sync j n) e) q }
-put_level w i (Block j) touch e n =
+put_level w i (Sync j) e n = λ q. record (level_in w i) { sync = (sym (update_at w.words.sync j n) ∙ ap (update w.words.sync j n) e) q }
+put_level w i (Block j) e n =
     λ q. record (level_in w i) { block = (sym (update_at w.words.block j n) ∙ ap (update w.words.block j n) e) q }
-put_level w i (LevelCount j p) touch e n = refl
-put_level w i (Section u) Load e n = refl
-put_level w i name touch e n = absurd e
+put_level w i (LevelCount j p) e n = refl
+put_level w i (Section u) e n = refl
+put_level w i name e n = absurd e
 
 -- the level finds in its word what the world has there
-pub found_level : (w : World) (i : ℕ) (name : WordName) (touch : Touch) → IsEventAt i name touch →
+pub found_level : (w : World) (i : ℕ) (name : WordName) → IsOfLevel i name →
     value_at (level_in w i) (read w.words name) name ≡ read w.words name
-found_level w i (Sync j) touch e = ap w.words.sync (sym e)
-found_level w i (Block j) touch e = ap w.words.block (sym e)
-found_level w i (LevelCount j p) touch e = refl
-found_level w i (Section u) Load e = refl
-found_level w i name touch e = absurd e
+found_level w i (Sync j) e = ap w.words.sync (sym e)
+found_level w i (Block j) e = ap w.words.block (sym e)
+found_level w i (LevelCount j p) e = refl
+found_level w i (Section u) e = refl
+found_level w i name e = absurd e
 
 -- such an event leaves the sections
 section_kept : (w : Words) (i : ℕ) (name : WordName) (touch : Touch) → IsEventAt i name touch →
@@ -274,6 +290,22 @@ module _ (c : Config) (w : World) (good : IsGood c w) where
       pub sections_turned : Holds c (record { words = turned_words; views = update w.views t v }) Sections
       sections_turned = (level_steps turned_words v 1 (omega arith) (omega arith) (turns_level 1)).sections.odd
 
+    -- what an event of a level leaves, where it is one of this task on a word of the level
+    pub level_there : (i : ℕ) (name : WordName) (touch : Touch) → IsOfLevel i name → (v : View) → 1 ≤ i → i ≤ 3 →
+        SyncStep c.tasks (level_in w i)
+        (record (left_by (level_in w i) t (name, touch) (read w.words name) (sync_role_of i v.phase)) {
+          inside = update (level_in w i).inside t (inside v.phase);
+        }) →
+        SyncLevelHolds c.tasks
+        (level_in (record { words = put w.words name (left touch (read w.words name)); views = update w.views t v }) i)
+    level_there i name touch is v one three s =
+        let n : ℕ = left touch (read w.words name) in
+        level_steps (put w.words name n) v i one three (subst (SyncStep c.tasks (level_in w i))
+        ((λ q. record (put_level w i name is n q) {
+          inside = update (level_in w i).inside t (inside v.phase);
+          at = update (level_in w i).at t (sync_role_of i v.phase);
+        }) ∙ sym (level_moves (put w.words name n) v i)) s)
+
     module _ (i : ℕ) (name : WordName) (touch : Touch) (is : IsEventAt i name touch) (v : View) where
       -- the world after an event at this level
       abbrev pub touched : World
@@ -285,12 +317,7 @@ module _ (c : Config) (w : World) (good : IsGood c w) where
           (record (left_by (level_in w i) t (name, touch) (read w.words name) (sync_role_of i v.phase)) {
             inside = update (level_in w i).inside t (inside v.phase);
           })) → Holds c touched (SyncAt i)
-      sync_there s =
-          sync_steps touched.words v i _
-          ((λ q. record (put_level w i name touch is (left touch (read w.words name)) q) {
-            inside = update (level_in w i).inside t (inside v.phase);
-            at = update (level_in w i).at t (sync_role_of i v.phase);
-          }) ∙ sym (level_moves touched.words v i)) s
+      sync_there s one three = (level_there i name touch (event_word i name touch is) v one three (s one three)).level
 
       -- the other levels are left alone
       pub sync_elsewhere : (j : ℕ) → (j ≡ i → ⊥) → sync_role_of j v.phase ≡ sync_role_of j (w.views t).phase →
