@@ -1,11 +1,10 @@
 -- Events of a callback: each keeps the rule, and leaves the shown model.
 use Rattle.std.proofs.Common.{◌≡◌, ℕ, ◌+◌, ◌<◌, ◌≤◌, refl, sym, ap, ◌∙◌, subst, inl, inr, arith}
-use Rattle.std.specs.Prelude.{Option, Some, None, Bool, true, false, ◌==◌, ◌&&◌, ◌%◌, nat_lt, if◌then◌else◌, List}
+use Rattle.std.specs.Prelude.{Some, None, Bool, ◌==◌, ◌&&◌, ◌%◌, nat_lt, if◌then◌else◌}
 use Rattle.std.proofs.lemmas.Bool.{cases_Bool, ltb-true}
 use Rattle.std.proofs.lemmas.Bool.Decides.{eqb_tells}
 use Rattle.finite_sums.specs.Sums.{update}
 use Rattle.finite_sums.proofs.Totals.{update_same}
-use Rattle.access_model.specs.declared.actions.Action.{Action}
 use Rattle.access_model.specs.declared.replies.Next.{Next}
 use Rattle.access_model.specs.declared.replies.Next.TheVariants.{Go, Wait, Done}
 use Rattle.access_model.specs.Histories.{mounts_of, levels_of}
@@ -16,9 +15,6 @@ use Rattle.cpu_words.specs.Touches.{found_by, left}
 use Rattle.cpu_words.specs.Words.{Words, read, put}
 use Rattle.cpu_words.specs.Hooks.{HookAnswer}
 use Rattle.percpu_rwsem.specs.declared.grace.Grace.{Grace}
-use Rattle.percpu_rwsem.specs.declared.grace.GraceNext.{GraceNext}
-use Rattle.percpu_rwsem.specs.declared.grace.GraceNext.TheVariants.{More as MoreSections, Wait as WaitsFor, Ended}
-use Rattle.percpu_rwsem.specs.declared.transitions.Transition.{Transition}
 use Rattle.percpu_rwsem.specs.declared.transitions.Transition.TheVariants.{Loads, Exchanges}
 use Rattle.percpu_rwsem.specs.declared.transitions.TransitionNext.{TransitionNext}
 use Rattle.percpu_rwsem.specs.declared.transitions.TransitionNext.TheVariants.{More, Undefined, Made}
@@ -29,7 +25,7 @@ use Rattle.percpu_rwsem.specs.SyncWords.{on_claim, on_callback}
 use Rattle.percpu_rwsem.specs.Graces.{is_first, passed_on, looked}
 use Rattle.percpu_rwsem.specs.Transitions.{transition_after}
 use Rattle.percpu_rwsem.specs.Callbacks.{at_callback, callback_next, callback_after, claimed, callback_looked, called_back}
-use Rattle.level_laws.specs.Roles.{SyncRole, Out as IsApart}
+use Rattle.level_laws.specs.Roles.{Out as IsApart}
 use Rattle.level_laws.specs.Events.{SyncLevel, SyncLevelHolds, SyncStep}
 use Rattle.level_laws.specs.Operations.{callback_role, KnowsCallback, CallbackIsThere, left_by, put_at, value_at, by_next, HoldsOfNext}
 use Rattle.level_laws.proofs.Operations.{callbacks_are_there}
@@ -39,10 +35,10 @@ use Rattle.gate_world.specs.declared.work.Phase.TheVariants.{Callbacks}
 use Rattle.gate_world.specs.Configs.{IsWithin}
 use Rattle.gate_world.specs.Fits.{Fits, PhaseFits, GraceFits}
 use Rattle.gate_world.specs.Views.{view_after, phase_after, actions_after, held_at, holds_level, added_by, added_after, taken_by, taken_after}
-use Rattle.gate_world.specs.Worlds.{World, after_step}
+use Rattle.gate_world.specs.Worlds.{World}
 use Rattle.gate_world.specs.Shown.{shown}
 use Rattle.gate_world.specs.Levels.{sync_role_if, sync_role_of, inside, level_added_by, level_added_after, level_taken_by, level_taken_after, level_role_of}
-use Rattle.gate_world.specs.Rules.{IsGood, StepKeeps, Moves, AtLevel, SyncAt, Sections, Fitting, Holds, ViewFits}
+use Rattle.gate_world.specs.Rules.{IsGood, StepKeeps, Moves, AtLevel, SyncAt, Fitting, Holds, ViewFits}
 use Rattle.gate_counts.specs.Levels.{Out as CountsNot}
 use Rattle.gate_frames.proofs.Frames.{left_alone, level_view_as}
 use Rattle.read_laws.proofs.LevelWorlds.{level_in, sync_on, sync_off, IsOfLevel, IsEventAt, found_level, level_there, sync_elsewhere}
@@ -101,9 +97,9 @@ inside_same l b (AwaitsSections g) n = refl
 inside_same l b (CallsBack Loads) n = refl
 inside_same l b (CallsBack (Exchanges from to)) n = refl
 
--- it counts nowhere
+-- its event counts nowhere
 module _ (b : Callback) (counted : ℕ → ℕ → ℕ) where
-  -- not at a mount
+  -- it adds nothing at a mount
   added_same : (s : CallbackStep) → added_after (callback_next b s).0 (callback_next b s).1 counted ≡ counted
   added_same (Claims Loads) = refl
   added_same (Claims (Exchanges from to)) = refl
@@ -111,6 +107,7 @@ module _ (b : Callback) (counted : ℕ → ℕ → ℕ) where
   added_same (CallsBack Loads) = refl
   added_same (CallsBack (Exchanges from to)) = refl
 
+  -- and takes nothing there
   taken_same : (s : CallbackStep) → taken_after (callback_next b s).0 (callback_next b s).1 counted ≡ counted
   taken_same (Claims Loads) = refl
   taken_same (Claims (Exchanges from to)) = refl
@@ -118,7 +115,7 @@ module _ (b : Callback) (counted : ℕ → ℕ → ℕ) where
   taken_same (CallsBack Loads) = refl
   taken_same (CallsBack (Exchanges from to)) = refl
 
-  -- nor at a level
+  -- it adds nothing at a level
   level_added_same : (s : CallbackStep) → level_added_after (callback_next b s).0 (callback_next b s).1 counted ≡ counted
   level_added_same (Claims Loads) = refl
   level_added_same (Claims (Exchanges from to)) = refl
@@ -126,6 +123,7 @@ module _ (b : Callback) (counted : ℕ → ℕ → ℕ) where
   level_added_same (CallsBack Loads) = refl
   level_added_same (CallsBack (Exchanges from to)) = refl
 
+  -- and takes nothing there
   level_taken_same : (s : CallbackStep) → level_taken_after (callback_next b s).0 (callback_next b s).1 counted ≡ counted
   level_taken_same (Claims Loads) = refl
   level_taken_same (Claims (Exchanges from to)) = refl
@@ -254,10 +252,11 @@ next_fits c t level tasks held levels one three all (Done answer) stays knows = 
 
 module _ (c : Config) (w : World) (good : IsGood c w) (t : ℕ) (lt : t < c.tasks) (hook : HookAnswer) (b : Callback) (s : CallbackStep)
     (e : (w.views t).phase ≡ Some (Callbacks (at_callback b s))) where
-  -- the word of its event, and how it touches it
+  -- the word of its event
   abbrev name : WordName
   name = (callback_next b s).0
 
+  -- and how it touches it
   abbrev touch : Touch
   touch = (callback_next b s).1
 
@@ -265,13 +264,15 @@ module _ (c : Config) (w : World) (good : IsGood c w) (t : ℕ) (lt : t < c.task
   abbrev coming : Next Callback
   coming = (callback_after b s (found_by touch (read w.words name))).0
 
-  -- its view then, and the world
+  -- its view then
   abbrev seen_after : View
   seen_after = view_after (w.views t) (Callbacks (at_callback b s)) (read w.words name) hook
 
+  -- the words
   abbrev then_words : Words
   then_words = put w.words name (left touch (read w.words name))
 
+  -- and the world
   abbrev then_world : World
   then_world = record { words = then_words; views = update w.views t seen_after }
 
@@ -361,7 +362,8 @@ module _ (c : Config) (w : World) (good : IsGood c w) (t : ℕ) (lt : t < c.task
   -- what comes after it fits
   fits_next : ViewFits c t seen_after
   fits_next =
-      next_fits c t b.level b.tasks (held_at seen_after) (holds_level seen_after) here_fits.0 here_fits.1 here_fits.2 coming stays knows_next
+      next_fits c t b.level b.tasks (held_at seen_after) (holds_level seen_after) here_fits.0 here_fits.1 here_fits.2 coming stays
+      knows_next
 
   -- so the rule holds, and the shown model is as it was
   keeps_at : StepKeeps c w t hook (Callbacks (at_callback b s))

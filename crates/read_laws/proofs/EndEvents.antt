@@ -22,8 +22,8 @@ use Rattle.gate_world.specs.Rules.{IsGood, StepKeeps, Fitting}
 use Rattle.gate_world.specs.Worlds.{World}
 use Rattle.gate_world.specs.Configs.{IsWithin}
 use Rattle.gate_world.specs.declared.config.Config.{Config}
-use Rattle.std.proofs.Common.{◌≡◌, ℕ, ◌<◌, ◌≤◌, Bool, true, false, refl, sym, ap, ◌∙◌, subst}
-use Rattle.std.specs.Prelude.{Option, Some, None, Ok}
+use Rattle.std.proofs.Common.{◌≡◌, ℕ, ◌<◌, false, refl, sym, ap, subst}
+use Rattle.std.specs.Prelude.{Option, Some, Ok}
 
 module _ (c : Config) (lim : IsWithin c) (w : World) (good : IsGood c w) (t : ℕ) (lt : t < c.tasks) (hook : HookAnswer) (u : UpRead)
     (e : (w.views t).phase ≡ Some (UpReads u)) where

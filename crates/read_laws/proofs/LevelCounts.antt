@@ -20,10 +20,9 @@ use Rattle.gate_world.specs.Rules.{IsGood, Holds, AtLevel}
 use Rattle.gate_world.specs.Worlds.{World}
 use Rattle.std.proofs.lemmas.Bool.{eq-eqb, ne_eqb}
 use Rattle.gate_world.specs.declared.config.Config.{Config}
-use Rattle.gate_world.specs.Levels.{count_role_if, is_frozen_whole, at_level, level_role_of, level_added_by, level_taken_by, sync_role_if}
-use Rattle.std.proofs.Common.{◌≡◌, ℕ, zero, suc, ◌+◌, ◌<◌, ◌≤◌, Bool, true, false, refl, sym, ap, ◌∙◌, subst, inl, inr, arith, true≢false}
-use Rattle.std.specs.Prelude.{◌==◌, ◌&&◌, ◌||◌, not, nat_lt, if◌then◌else◌, Option, Some, None}
-use Rattle.level_laws.specs.Roles.{Out as IsApart}
+use Rattle.gate_world.specs.Levels.{count_role_if, is_frozen_whole, at_level, level_role_of, level_added_by, level_taken_by}
+use Rattle.std.proofs.Common.{◌≡◌, ℕ, ◌+◌, ◌<◌, ◌≤◌, Bool, true, false, refl, sym, ap, ◌∙◌, subst, inl, inr, arith}
+use Rattle.std.specs.Prelude.{◌==◌, if◌then◌else◌, Option}
 use Rattle.gate_counts.specs.Levels.{Out as CountsNot, Seeking, BackingOff, LevelRole, LevelView, LevelHolds}
 
 -- at its own level a role is that
@@ -194,8 +193,3 @@ module _ (c : Config) (lim : IsWithin c) (w : World) (good : IsGood c w) (t : �
   leaves out role held none same =
       levels_down 0 CountsNot (ap held_bit none) role same
       (λ l1 l3. gives_back (good (AtLevel i) l1 l3) t lt lim.tasks lim.processors p lp 0 out (ap held_bit held))
-
--- no part in a level's rcu_sync is none at whichever level
-pub sync_none : (b : Bool) → sync_role_if b IsApart ≡ IsApart
-sync_none true = refl
-sync_none false = refl

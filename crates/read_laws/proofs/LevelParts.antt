@@ -21,10 +21,8 @@ use Rattle.access_model.specs.declared.replies.Next.{Next}
 use Rattle.gate_world.specs.declared.views.View.{View}
 use Rattle.gate_world.specs.declared.work.Phase.{Phase}
 use Rattle.cpu_words.specs.Words.{Words}
-use Rattle.std.proofs.Common.{◌≡◌, ℕ, ◌<◌, Bool, true, false, refl, sym, ap, ◌∙◌, inl, inr, arith, true≢false}
-use Rattle.std.specs.Prelude.{◌==◌, ◌&&◌, ◌||◌, if◌then◌else◌, Option, Some, None}
-use Rattle.gate_counts.specs.Levels.{Out as CountsNot, LevelRole, LevelView}
-use Rattle.level_laws.specs.Roles.{Out as IsApart, SyncRole}
+use Rattle.std.proofs.Common.{◌≡◌, ℕ, ◌<◌, refl, sym, ap, ◌∙◌, arith}
+use Rattle.std.specs.Prelude.{◌==◌, ◌&&◌, ◌||◌, if◌then◌else◌, Option, Some}
 
 -- the words that are no level's own are as they were, and so is `block`
 pub record IsBeside (old new : Words) : Type 0 where

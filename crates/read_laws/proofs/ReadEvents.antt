@@ -1,14 +1,13 @@
 -- Each event of a start.
+use Rattle.read_laws.proofs.ReadLevels.{LevelsHold, read_levels}
 use Rattle.gate_counts.proofs.LevelLaws.{is_refused, is_granted}
 use Rattle.finite_sums.proofs.Totals.{update_same, update_off, update_at}
-use Rattle.level_laws.proofs.ReadOperations.{down_reads_are_there}
-use Rattle.level_laws.specs.Events.{SyncStep}
 use Rattle.access_model.specs.declared.actions.Action.{Action}
 use Rattle.cpu_words.specs.declared.events.Touch.{Touch}
 use Rattle.percpu_rwsem.specs.SyncWords.{unpack}
 use Rattle.cpu_words.specs.declared.names.WordName.{WordName}
 use Rattle.gate_frames.proofs.Frames.{level_view_as}
-use Rattle.read_laws.proofs.LevelWorlds.{not_passed, sync_turned, sections_turned, sync_on, sync_off, IsEventAt, level_in, touched, sync_there, sync_elsewhere, fast_finds_open}
+use Rattle.read_laws.proofs.LevelWorlds.{not_passed, sync_on, fast_finds_open}
 use Rattle.access_model.specs.declared.actions.Gate.TheVariants.{Level}
 use Rattle.access_model.specs.declared.replies.Reply.TheVariants.{Unit as UnitReply}
 use Rattle.cpu_words.specs.Touches.{wrap_add}
@@ -23,31 +22,30 @@ use Rattle.access_model.specs.Actions.{IsAllowed}
 use Rattle.cpu_words.specs.Words.{Words, put, read}
 use Rattle.access_model.specs.declared.replies.Next.{Next}
 use Rattle.gate_world.specs.declared.work.Phase.{Phase}
-use Rattle.read_laws.proofs.LevelParts.{IsAtLevels, reads_at_levels, IsBeside, SameAtMounts, level_parts, level_still, counts_left_at, sections_left_at, sync_left_at, level_shown}
+use Rattle.read_laws.proofs.LevelParts.{IsAtLevels, reads_at_levels, IsBeside, SameAtMounts, level_parts, level_still, counts_left_at, level_shown}
 use Rattle.cpu_words.specs.Hooks.{HookAnswer}
-use Rattle.gate_world.specs.Rules.{IsGood, StepKeeps, Fitting, Holds, SyncAt, Sections, Moves, AtLevel}
-use Rattle.gate_world.specs.Worlds.{World}
+use Rattle.gate_world.specs.Rules.{IsGood, StepKeeps, Fitting, Moves, AtLevel}
+use Rattle.gate_world.specs.Worlds.{World, after_step}
 use Rattle.gate_world.specs.Configs.{IsWithin, model_limits}
-use Rattle.read_laws.proofs.LevelCounts.{count_none, sync_none, count_on, count_off, SameElsewhere, words_up, LevelHoldsAfter, up_beside, words_down, seeks, down_beside, enters_fast, backs_off, held_bit, level_follows, bit_room}
+use Rattle.read_laws.proofs.LevelCounts.{count_none, count_on, count_off, SameElsewhere, words_up, LevelHoldsAfter, up_beside, words_down, seeks, down_beside, enters_fast, backs_off, held_bit, level_follows, bit_room}
 use Rattle.gate_world.specs.declared.work.Phase.TheVariants.{DownReads}
 use Rattle.access_model.specs.Replies.{map_next}
 use Rattle.percpu_rwsem.specs.declared.sync_word.GpState.TheVariants.{Idle, Enter, Passed, Exit, Replay}
 use Rattle.gate_world.specs.Views.{phase_after, holds_level, held_at, view_with}
 use Rattle.gate_world.specs.Fits.{ReadFits, ReadStepFits, Fits}
-use Rattle.gate_world.specs.Levels.{read_count_role, level_role_of, sync_role_of, inside, count_role_if, sync_role_if, at_level}
+use Rattle.gate_world.specs.Levels.{read_count_role, level_role_of, sync_role_of, count_role_if, at_level}
 use Rattle.percpu_rwsem.specs.declared.readers.DownRead.{DownRead}
 use Rattle.percpu_rwsem.specs.Readers.{step_in, step_found, at_down_read, left_blocked}
-use Rattle.level_laws.specs.Operations.{down_read_inside, down_read_role, left_by}
 use Rattle.gate_world.specs.declared.config.Config.{Config}
 use Rattle.percpu_rwsem.specs.declared.sync_word.SyncWord.{SyncWord}
 use Rattle.percpu_rwsem.specs.declared.sync_word.GpState.{GpState}
 use Rattle.percpu_rwsem.specs.declared.readers.DownReadStep.{DownReadStep}
 use Rattle.gate_world.specs.Operations.{holds_none_from}
 use Rattle.std.proofs.lemmas.Bool.Decides.{nat_tests, eqb_tells}
-use Rattle.std.proofs.Common.{◌≡◌, ℕ, zero, suc, ◌+◌, ◌-◌, ◌<◌, ◌≤◌, Bool, true, false, refl, sym, ap, ◌∙◌, subst, inl, inr, arith, true≢false}
-use Rattle.std.specs.Prelude.{◌==◌, ◌&&◌, ◌||◌, not, nat_lt, if◌then◌else◌, Option, Some, None, Ok}
-use Rattle.gate_counts.specs.Levels.{Out as CountsNot, Seeking, BackingOff as BacksAway, LevelRole, LevelView, LevelHolds}
-use Rattle.level_laws.specs.Roles.{Out as IsApart, SyncRole, Fast, fast}
+use Rattle.std.proofs.Common.{◌≡◌, ℕ, zero, suc, ◌+◌, ◌<◌, ◌≤◌, Bool, true, false, refl, sym, ap, ◌∙◌, subst, inl, inr, arith, true≢false}
+use Rattle.std.specs.Prelude.{◌==◌, ◌&&◌, ◌||◌, not, nat_lt, Option, Some, None, Ok}
+use Rattle.gate_counts.specs.Levels.{Out as CountsNot}
+use Rattle.level_laws.specs.Roles.{Fast}
 use Rattle.percpu_rwsem.specs.declared.readers.DownReadStep.TheVariants.{EntersSection, LoadsSync, CountsUpFast, CountsUpSlow, LoadsBlock, CountsDown, LeavesAdmitted, LeavesBlocked}
 
 -- a level that isn't held, of those that are to be free
@@ -74,10 +72,8 @@ none_from levels i (suc (suc (suc zero))) h l1 le l3 =
     or_left (levels 3) (nat_lt 3 i) (not_below 3 i le) (and_both _ _ (and_both _ _ h).1).1
 none_from levels i (suc (suc (suc (suc j)))) h l1 le l3 = absurd (omega arith)
 
--- What the step that a sync word leads to has: it is inside the section, and has added nothing.
+-- What is so of the step that a sync word leads to.
 record IsPath (s : DownReadStep) : Type 0 where
-  -- it is inside
-  inside_still : down_read_inside s ≡ 1
   -- it has added nothing
   counts_not : (p : ℕ) → read_count_role p s ≡ CountsNot
   -- it fits what a start that holds nothing from its level up holds
@@ -85,11 +81,11 @@ record IsPath (s : DownReadStep) : Type 0 where
 
 -- the slow path has it
 slow_path : IsPath CountsUpSlow
-slow_path = record { inside_still = refl; counts_not = λ p. refl; fits_still = λ i levels h. h }
+slow_path = record { counts_not = λ p. refl; fits_still = λ i levels h. h }
 
 -- whatever the state is
 path_in : (s : GpState) → IsPath (step_in s)
-path_in Idle = record { inside_still = refl; counts_not = λ p. refl; fits_still = λ i levels h. h }
+path_in Idle = record { counts_not = λ p. refl; fits_still = λ i levels h. h }
 path_in Enter = slow_path
 path_in Passed = slow_path
 path_in Exit = slow_path
@@ -100,27 +96,16 @@ path_found : (o : Option SyncWord) → IsPath (step_found o)
 path_found None = slow_path
 path_found (Some word) = path_in word.state
 
-module _ (c : Config) (t : ℕ) (held : ℕ → ℕ) (levels : ℕ → Bool) (r : DownRead) where
-  -- a start that was blocked begins anew or is done, and counts at no level
-  blocked_counts : (b : Bool) (j : ℕ) → level_role_of j (phase_after (map_next DownReads (left_blocked r b))) ≡ CountsNot
-  blocked_counts true j = count_none (j == r.level)
-  blocked_counts false j = refl
+-- a start that was blocked begins anew or is done, and counts at no level
+blocked_counts : (r : DownRead) (b : Bool) (j : ℕ) → level_role_of j (phase_after (map_next DownReads (left_blocked r b))) ≡ CountsNot
+blocked_counts r true j = count_none (j == r.level)
+blocked_counts r false j = refl
 
-  -- it has no part in a level's rcu_sync
-  blocked_apart : (b : Bool) (j : ℕ) → sync_role_of j (phase_after (map_next DownReads (left_blocked r b))) ≡ IsApart
-  blocked_apart true j = sync_none (j == r.level)
-  blocked_apart false j = refl
-
-  -- it is inside no section
-  blocked_outside : (b : Bool) → inside (phase_after (map_next DownReads (left_blocked r b))) ≡ 0
-  blocked_outside true = refl
-  blocked_outside false = refl
-
-  -- and it fits what it holds
-  blocked_fits : (b : Bool) → ReadFits c t levels (at_down_read r LeavesBlocked) →
-      Fits c t held levels (phase_after (map_next DownReads (left_blocked r b)))
-  blocked_fits true f = f
-  blocked_fits false f = tt
+-- it fits what it holds
+blocked_fits : (c : Config) (t : ℕ) (held : ℕ → ℕ) (levels : ℕ → Bool) (r : DownRead) (b : Bool) →
+    ReadFits c t levels (at_down_read r LeavesBlocked) → Fits c t held levels (phase_after (map_next DownReads (left_blocked r b)))
+blocked_fits c t held levels r true f = f
+blocked_fits c t held levels r false f = tt
 
 module _ (c : Config) (lim : IsWithin c) (w : World) (good : IsGood c w) (t : ℕ) (lt : t < c.tasks) (hook : HookAnswer) (r : DownRead) where
   -- the start is at this step
@@ -134,6 +119,12 @@ module _ (c : Config) (lim : IsWithin c) (w : World) (good : IsGood c w) (t : �
   -- the rule says so
   fits_here : (s : DownReadStep) → IsAt s → FitsHere s
   fits_here s e = subst (Fits c t (held_at (w.views t)) (holds_level (w.views t))) e (good Fitting t lt)
+
+  -- its event leaves the rcu_sync of each level, and the sections
+  levels_hold : (s : DownReadStep) → IsAt s → LevelsHold c (after_step w t (DownReads (at_down_read r s)) hook)
+  levels_hold s e =
+      let f : FitsHere s = fits_here s e in
+      read_levels c w good t lt hook (at_down_read r s) f.3 f.0 f.1 e
 
   -- its phase is at levels alone
   at_levels : (s : DownReadStep) → IsAt s → IsAtLevels (w.views t).phase
@@ -154,43 +145,6 @@ module _ (c : Config) (lim : IsWithin c) (w : World) (good : IsGood c w) (t : �
       (j : ℕ) → level_role_of j q ≡ CountsNot
   counts_nowhere s e none j =
       ap (level_role_of j) e ∙ (ap (count_role_if (j == r.level)) none ∙ count_none (j == r.level))
-
-  -- it has no part in any rcu_sync where it has none in its own level's
-  apart_nowhere : {q : Option Phase} (s : DownReadStep) → q ≡ Some (DownReads (at_down_read r s)) → down_read_role s ≡ IsApart →
-      (j : ℕ) → sync_role_of j q ≡ IsApart
-  apart_nowhere s e none j = ap (sync_role_of j) e ∙ (ap (sync_role_if (j == r.level)) none ∙ sync_none (j == r.level))
-
-  -- it has its part in its own level's
-  sync_here : {q : Option Phase} (s : DownReadStep) → q ≡ Some (DownReads (at_down_read r s)) → sync_role_of r.level q ≡ down_read_role s
-  sync_here s e = ap (sync_role_of r.level) e ∙ sync_on r.level (down_read_role s)
-
-  -- and in no other
-  sync_there_none : {q : Option Phase} (s : DownReadStep) → q ≡ Some (DownReads (at_down_read r s)) →
-      (j : ℕ) → (j ≡ r.level → ⊥) → sync_role_of j q ≡ IsApart
-  sync_there_none s e j ne = ap (sync_role_of j) e ∙ sync_off j r.level (down_read_role s) ne
-
-  -- an event of its own level's rcu_sync leaves what holds of each
-  own_sync : (s s' : DownReadStep) → IsAt s → (name : WordName) (touch : Touch) (is : IsEventAt r.level name touch) (v : View) →
-      v.phase ≡ Some (DownReads (at_down_read r s')) →
-      (1 ≤ r.level → r.level ≤ 3 → SyncStep c.tasks (level_in w r.level)
-      (record (left_by (level_in w r.level) t (name, touch) (read w.words name) (down_read_role s')) {
-        inside = update (level_in w r.level).inside t (down_read_inside s');
-      })) → (j : ℕ) → Holds c (touched c w good t lt r.level name touch is v) (SyncAt j)
-  own_sync s s' e name touch is v q steps j =
-      elim (eqb_tells j r.level) [
-        | inl h ↦ subst (λ y. Holds c (touched c w good t lt r.level name touch is v) (SyncAt y)) (sym h.1)
-            (sync_there c w good t lt r.level name touch is v (λ l1 l3.
-            subst (λ x. SyncStep c.tasks (level_in w r.level)
-            (record (left_by (level_in w r.level) t (name, touch) (read w.words name) x) {
-              inside = update (level_in w r.level).inside t (inside v.phase);
-            })) (sym (sync_here s' q))
-            (subst (λ k. SyncStep c.tasks (level_in w r.level)
-            (record (left_by (level_in w r.level) t (name, touch) (read w.words name) (down_read_role s')) {
-              inside = update (level_in w r.level).inside t k;
-            })) (sym (ap inside q)) (steps l1 l3))))
-        | inr h ↦ sync_elsewhere c w good t lt r.level name touch is v j h.1
-            (sync_there_none s' q j h.1 ∙ sym (sync_there_none s e j h.1))
-      ]
 
   -- the task holds no level from its own up, and may be granted its level where that is clear
   may_grant : (s : DownReadStep) → IsAt s → holds_none_from r.level (holds_level (w.views t)) ≡ true → w.words.block r.level ≡ 0 →
@@ -213,6 +167,19 @@ module _ (c : Config) (lim : IsWithin c) (w : World) (good : IsGood c w) (t : �
   abbrev section_words : Words
   section_words = put w.words (Section r.task) (wrap_add (w.words.section r.task) 1)
 
+  -- they are the same beside the levels
+  section_beside : IsBeside w.words section_words
+  section_beside = record {
+    umount_same = refl;
+    remount_same = refl;
+    sb_same = refl;
+    stage_same = refl;
+    flags_same = refl;
+    count_same = refl;
+    node_same = refl;
+    block_same = refl;
+  }
+
   -- such an addition keeps the rule, and leaves the shown model
   abbrev SectionKeeps : Next DownRead → Type 0
   SectionKeeps n =
@@ -220,57 +187,35 @@ module _ (c : Config) (lim : IsWithin c) (w : World) (good : IsGood c w) (t : �
       IsGood c next × (shown c next ≡ shown c w)
 
   -- it does, as the task enters its section or leaves it
-  turns : (s : DownReadStep) (n : Next DownRead) → IsAt s → read_count_role r.cpu s ≡ CountsNot → down_read_role s ≡ IsApart →
+  turns : (s : DownReadStep) (n : Next DownRead) → IsAt s → read_count_role r.cpu s ≡ CountsNot →
       ((j : ℕ) → level_role_of j (phase_after (map_next DownReads n)) ≡ CountsNot) →
-      ((j : ℕ) → sync_role_of j (phase_after (map_next DownReads n)) ≡ IsApart) →
-      inside (phase_after (map_next DownReads n)) + down_read_inside s ≡ 1 →
-      Fits c t (held_at (w.views t)) (holds_level (w.views t)) (phase_after (map_next DownReads n)) → SectionKeeps n
-  turns s n e counts apart no_count no_part turn fits =
+      Fits c t (held_at (w.views t)) (holds_level (w.views t)) (phase_after (map_next DownReads n)) →
+      LevelsHold c (record { words = section_words; views = update w.views t (section_view n) }) → SectionKeeps n
+  turns s n e counts no_count fits levels =
       let v : View = section_view n in
-      let f : FitsHere s = fits_here s e in
-      let ws : ℕ → Words = λ u. put w.words (Section u) (wrap_add (w.words.section u) 1) in
-      let beside : IsBeside w.words section_words = record {
-        umount_same = refl;
-        remount_same = refl;
-        sb_same = refl;
-        stage_same = refl;
-        flags_same = refl;
-        count_same = refl;
-        node_same = refl;
-        block_same = refl;
-      } in
-      let mounts : SameAtMounts (w.views t) v = record { held_same = refl; added_same = refl; taken_same = refl } in
-      let slow : (j : ℕ) → fast (sync_role_of j (w.views t).phase) ≡ 0 = λ j. ap fast (apart_nowhere s e apart j) in
-      let still : (j : ℕ) → sync_role_of j v.phase ≡ sync_role_of j (w.views t).phase = λ j. no_part j ∙ sym (apart_nowhere s e apart j) in
-      let turned : inside v.phase ≡ 1 - inside (w.views t).phase = omega (arith, turn, ap inside e) in (
-        level_parts c w good t lt section_words v beside (at_levels s e) (reads_at_levels n) mounts fits
-            (counts_left_at c w good t lt section_words v beside (at_levels s e) (reads_at_levels n) refl
+      let mounts : SameAtMounts (w.views t) v = record { held_same = refl; added_same = refl; taken_same = refl } in (
+        level_parts c w good t lt section_words v section_beside (at_levels s e) (reads_at_levels n) mounts fits
+            (counts_left_at c w good t lt section_words v section_beside (at_levels s e) (reads_at_levels n) refl
             (λ j. level_view_as refl refl refl (no_count j ∙ sym (counts_nowhere s e counts j))))
-            (λ j. subst (λ u. Holds c (record { words = ws u; views = update w.views t v }) (SyncAt j)) (sym f.3)
-            (sync_turned c w good t lt v slow still turned j))
-            (subst (λ u. Holds c (record { words = ws u; views = update w.views t v }) Sections) (sym f.3)
-            (sections_turned c w good t lt v slow still turned)),
-        level_still c w good t lt section_words v beside (at_levels s e) (reads_at_levels n) mounts refl,
+            levels.0 levels.1,
+        level_still c w good t lt section_words v section_beside (at_levels s e) (reads_at_levels n) mounts refl,
       )
 
   -- the task enters its section
   enters_section : IsAt EntersSection → StepKeeps c w t hook (DownReads (at_down_read r EntersSection))
   enters_section e =
-      turns EntersSection (Go (at_down_read r LoadsSync)) e refl refl (counts_nowhere LoadsSync refl refl) (apart_nowhere LoadsSync refl refl)
-      refl (fits_here EntersSection e)
+      turns EntersSection (Go (at_down_read r LoadsSync)) e refl (counts_nowhere LoadsSync refl refl) (fits_here EntersSection e)
+      (levels_hold EntersSection e)
 
   -- it leaves it, granted
   leaves_admitted : IsAt LeavesAdmitted → StepKeeps c w t hook (DownReads (at_down_read r LeavesAdmitted))
-  leaves_admitted e =
-      turns LeavesAdmitted (Done (Ok UnitReply)) e refl refl (λ j. refl) (λ j. refl) refl tt
+  leaves_admitted e = turns LeavesAdmitted (Done (Ok UnitReply)) e refl (λ j. refl) tt (levels_hold LeavesAdmitted e)
 
   -- or blocked, and begins anew or is refused
   leaves_blocked : IsAt LeavesBlocked → StepKeeps c w t hook (DownReads (at_down_read r LeavesBlocked))
   leaves_blocked e =
-      turns LeavesBlocked (left_blocked r r.wait) e refl refl (blocked_counts c t (held_at (w.views t)) (holds_level (w.views t)) r r.wait)
-      (blocked_apart c t (held_at (w.views t)) (holds_level (w.views t)) r r.wait)
-      (omega (arith, blocked_outside c t (held_at (w.views t)) (holds_level (w.views t)) r r.wait))
-      (blocked_fits c t (held_at (w.views t)) (holds_level (w.views t)) r r.wait (fits_here LeavesBlocked e))
+      turns LeavesBlocked (left_blocked r r.wait) e refl (blocked_counts r r.wait)
+      (blocked_fits c t (held_at (w.views t)) (holds_level (w.views t)) r r.wait (fits_here LeavesBlocked e)) (levels_hold LeavesBlocked e)
 
   -- the world after an event on this word, in which its task comes to this
   abbrev then_view : WordName × Touch → Next DownRead × Option Action → View
@@ -303,11 +248,7 @@ module _ (c : Config) (lim : IsWithin c) (w : World) (good : IsGood c w) (t : �
             (counts_left_at c w good t lt ws v beside (at_levels LoadsSync e) (reads_at_levels n) refl
             (λ j. level_view_as refl refl refl
             (counts_nowhere s refl (path.counts_not r.cpu) j ∙ sym (counts_nowhere LoadsSync e refl j))))
-            (own_sync LoadsSync s e (Sync i) Load refl v refl
-            (λ l1 l3. down_reads_are_there c.tasks (w.words.sync i) (level_in w i) (record (at_down_read r LoadsSync) { task = t }) lt
-            (sync_here LoadsSync e) (ap inside e)))
-            (sections_left_at c w good t lt ws v beside (at_levels LoadsSync e) (reads_at_levels n) refl
-            (path.inside_still ∙ sym (ap inside e))),
+            (levels_hold LoadsSync e).0 (levels_hold LoadsSync e).1,
         level_still c w good t lt ws v beside (at_levels LoadsSync e) (reads_at_levels n) mounts refl,
       )
 
@@ -338,11 +279,9 @@ module _ (c : Config) (lim : IsWithin c) (w : World) (good : IsGood c w) (t : �
       let beside : IsBeside w.words ws = up_beside c lim w good t lt i r.cpu f.2 hook (map_next DownReads n, None) in
       let mounts : SameAtMounts (w.views t) v = record { held_same = refl; added_same = refl; taken_same = refl } in (
         level_parts c w good t lt ws v beside (at_levels CountsUpSlow e) (reads_at_levels n) mounts f
-            (seeks c lim w good t lt i r.cpu f.2 hook (map_next DownReads n, None) (counts_here CountsUpSlow e) (counts_here LoadsBlock refl) refl
-            (same_elsewhere CountsUpSlow LoadsBlock e v refl refl))
-            (sync_left_at c w good t lt ws v beside (at_levels CountsUpSlow e) (reads_at_levels n) refl refl
-            (λ j. apart_nowhere LoadsBlock refl refl j ∙ sym (apart_nowhere CountsUpSlow e refl j)))
-            (sections_left_at c w good t lt ws v beside (at_levels CountsUpSlow e) (reads_at_levels n) refl (sym (ap inside e))),
+            (seeks c lim w good t lt i r.cpu f.2 hook (map_next DownReads n, None) (counts_here CountsUpSlow e)
+            (counts_here LoadsBlock refl) refl (same_elsewhere CountsUpSlow LoadsBlock e v refl refl))
+            (levels_hold CountsUpSlow e).0 (levels_hold CountsUpSlow e).1,
         level_still c w good t lt ws v beside (at_levels CountsUpSlow e) (reads_at_levels n) mounts refl,
       )
 
@@ -357,11 +296,9 @@ module _ (c : Config) (lim : IsWithin c) (w : World) (good : IsGood c w) (t : �
       let beside : IsBeside w.words ws = down_beside c lim w good t lt i r.cpu f.2 hook (map_next DownReads n, None) in
       let mounts : SameAtMounts (w.views t) v = record { held_same = refl; added_same = refl; taken_same = refl } in (
         level_parts c w good t lt ws v beside (at_levels CountsDown e) (reads_at_levels n) mounts f
-            (backs_off c lim w good t lt i r.cpu f.2 hook (map_next DownReads n, None) (counts_here CountsDown e) (counts_here LeavesBlocked refl) refl
-            (same_elsewhere CountsDown LeavesBlocked e v refl refl))
-            (sync_left_at c w good t lt ws v beside (at_levels CountsDown e) (reads_at_levels n) refl refl
-            (λ j. apart_nowhere LeavesBlocked refl refl j ∙ sym (apart_nowhere CountsDown e refl j)))
-            (sections_left_at c w good t lt ws v beside (at_levels CountsDown e) (reads_at_levels n) refl (sym (ap inside e))),
+            (backs_off c lim w good t lt i r.cpu f.2 hook (map_next DownReads n, None) (counts_here CountsDown e)
+            (counts_here LeavesBlocked refl) refl (same_elsewhere CountsDown LeavesBlocked e v refl refl))
+            (levels_hold CountsDown e).0 (levels_hold CountsDown e).1,
         level_still c w good t lt ws v beside (at_levels CountsDown e) (reads_at_levels n) mounts refl,
       )
 
@@ -370,7 +307,7 @@ module _ (c : Config) (lim : IsWithin c) (w : World) (good : IsGood c w) (t : �
   counts_up_fast e =
       let i : ℕ = r.level in
       let f : FitsHere CountsUpFast = fits_here CountsUpFast e in
-      let clear : w.words.block i ≡ 0 = fast_finds_open c w good i f.0 f.1 t lt (sync_here CountsUpFast e) in
+      let clear : w.words.block i ≡ 0 = fast_finds_open c w good i f.0 f.1 t lt (ap (sync_role_of i) e ∙ sync_on i Fast) in
       let n : Next DownRead = Go (at_down_read r LeavesAdmitted) in
       let a : Option Action = Some (Grant (Level i)) in
       let v : View = then_view (LevelCount i r.cpu, Add 1) (n, a) in
@@ -382,10 +319,7 @@ module _ (c : Config) (lim : IsWithin c) (w : World) (good : IsGood c w) (t : �
             (enters_fast c lim w good t lt i r.cpu f.2 hook (map_next DownReads n, a) clear (counts_here CountsUpFast e)
             (counts_here LeavesAdmitted refl) (none_from (holds_level (w.views t)) i i f.4 f.0 (omega arith) f.1)
             (update_at (holds_level (w.views t)) i true) (granted_elsewhere CountsUpFast LeavesAdmitted e v refl refl))
-            (own_sync CountsUpFast LeavesAdmitted e (LevelCount i r.cpu) (Add 1) refl v refl
-            (λ l1 l3. down_reads_are_there c.tasks (w.words.level i r.cpu) (level_in w i) (record (at_down_read r CountsUpFast) { task = t }) lt
-            (sync_here CountsUpFast e) (ap inside e)))
-            (sections_left_at c w good t lt ws v beside (at_levels CountsUpFast e) (reads_at_levels n) refl (sym (ap inside e))),
+            (levels_hold CountsUpFast e).0 (levels_hold CountsUpFast e).1,
         (may_grant CountsUpFast e f.4 clear, level_shown c w good t lt ws v beside (at_levels CountsUpFast e) (reads_at_levels n) mounts),
       )
 
@@ -407,13 +341,14 @@ module _ (c : Config) (lim : IsWithin c) (w : World) (good : IsGood c w) (t : �
   }
 
   -- the world after it, from what it leaves of the counts of the task's own level
-  block_law : (s' : DownReadStep) (a : Option Action) → IsAt LoadsBlock → down_read_inside s' ≡ 1 → down_read_role s' ≡ IsApart →
+  block_law : (s' : DownReadStep) (a : Option Action) → IsAt LoadsBlock →
       let v : View = then_view (Block r.level, Load) (Go (at_down_read r s'), a) in
       held_at v ≡ held_at (w.views t) → ReadStepFits r.level (holds_level v) s' → SameElsewhere r.level (w.views t) v →
       (1 ≤ r.level → r.level ≤ 3 → LevelHoldsAfter c w good t lt r.level (w.words.level r.level)
       (record (at_level r.level (w.views t)) { held = held_bit (holds_level v r.level); role = read_count_role r.cpu s' })) →
+      LevelsHold c (record { words = block_words; views = update w.views t v }) →
       IsGood c (record { words = block_words; views = update w.views t v })
-  block_law s' a e within apart held fits same own =
+  block_law s' a e held fits same own levels =
       let i : ℕ = r.level in
       let f : FitsHere LoadsBlock = fits_here LoadsBlock e in
       let n : Next DownRead = Go (at_down_read r s') in
@@ -424,28 +359,26 @@ module _ (c : Config) (lim : IsWithin c) (w : World) (good : IsGood c w) (t : �
       (record (at_level i (w.views t)) { held = held_bit (holds_level v i); role = read_count_role r.cpu s' }) refl
       (level_view_as refl refl refl (counts_here s' refl)) own
       (λ j ne. (refl, level_view_as (same.held_same j ne) refl refl (same.role_same j ne))))
-      (sync_left_at c w good t lt block_words v block_beside (at_levels LoadsBlock e) (reads_at_levels n) refl refl
-      (λ j. apart_nowhere s' refl apart j ∙ sym (apart_nowhere LoadsBlock e refl j)))
-      (sections_left_at c w good t lt block_words v block_beside (at_levels LoadsBlock e) (reads_at_levels n) refl
-      (within ∙ sym (ap inside e)))
+      levels.0 levels.1
 
   -- a load of `block` that found 0 is the grant
   finds_clear : IsAt LoadsBlock → w.words.block r.level ≡ 0 →
       let v : View = then_view (Block r.level, Load) (Go (at_down_read r LeavesAdmitted), Some (Grant (Level r.level))) in
       let next : World = record { words = block_words; views = update w.views t v } in
-      IsGood c next × Moves c (shown c w) t (Some (Grant (Level r.level))) (shown c next)
-  finds_clear e clear =
+      LevelsHold c next → IsGood c next × Moves c (shown c w) t (Some (Grant (Level r.level))) (shown c next)
+  finds_clear e clear levels =
       let i : ℕ = r.level in
       let f : FitsHere LoadsBlock = fits_here LoadsBlock e in
       let n : Next DownRead = Go (at_down_read r LeavesAdmitted) in
       let v : View = then_view (Block i, Load) (n, Some (Grant (Level i))) in
       let none : holds_level (w.views t) i ≡ false = none_from (holds_level (w.views t)) i i f.4 f.0 (omega arith) f.1 in
       let now : holds_level v i ≡ true = update_at (holds_level (w.views t)) i true in (
-        block_law LeavesAdmitted (Some (Grant (Level i))) e refl refl refl now (granted_elsewhere LoadsBlock LeavesAdmitted e v refl refl)
+        block_law LeavesAdmitted (Some (Grant (Level i))) e refl now (granted_elsewhere LoadsBlock LeavesAdmitted e v refl refl)
             (λ l1 l3. subst (λ h. LevelHoldsAfter c w good t lt i (w.words.level i)
             (record (at_level i (w.views t)) { held = h; role = CountsNot }))
             (sym (ap held_bit now ∙ sym (ap (λ b. held_bit b + 1) none)))
-            (is_granted (good (AtLevel i) l1 l3) t lt r.cpu (counts_here LoadsBlock e) clear (bit_room (holds_level (w.views t) i)))),
+            (is_granted (good (AtLevel i) l1 l3) t lt r.cpu (counts_here LoadsBlock e) clear (bit_room (holds_level (w.views t) i))))
+            levels,
         (
           may_grant LoadsBlock e f.4 clear,
           level_shown c w good t lt block_words v block_beside (at_levels LoadsBlock e) (reads_at_levels n)
@@ -457,14 +390,14 @@ module _ (c : Config) (lim : IsWithin c) (w : World) (good : IsGood c w) (t : �
   finds_set : IsAt LoadsBlock →
       let v : View = then_view (Block r.level, Load) (Go (at_down_read r CountsDown), None) in
       let next : World = record { words = block_words; views = update w.views t v } in
-      IsGood c next × (shown c next ≡ shown c w)
-  finds_set e =
+      LevelsHold c next → IsGood c next × (shown c next ≡ shown c w)
+  finds_set e levels =
       let i : ℕ = r.level in
       let f : FitsHere LoadsBlock = fits_here LoadsBlock e in
       let n : Next DownRead = Go (at_down_read r CountsDown) in
       let v : View = then_view (Block i, Load) (n, None) in (
-        block_law CountsDown None e refl refl refl f.4 (same_elsewhere LoadsBlock CountsDown e v refl refl)
-            (λ l1 l3. is_refused (good (AtLevel i) l1 l3) t lt r.cpu (counts_here LoadsBlock e)),
+        block_law CountsDown None e refl f.4 (same_elsewhere LoadsBlock CountsDown e v refl refl)
+            (λ l1 l3. is_refused (good (AtLevel i) l1 l3) t lt r.cpu (counts_here LoadsBlock e)) levels,
         level_still c w good t lt block_words v block_beside (at_levels LoadsBlock e) (reads_at_levels n)
             (record { held_same = refl; added_same = refl; taken_same = refl }) refl,
       )
@@ -472,9 +405,10 @@ module _ (c : Config) (lim : IsWithin c) (w : World) (good : IsGood c w) (t : �
   -- a load of `block`
   loads_block : IsAt LoadsBlock → StepKeeps c w t hook (DownReads (at_down_read r LoadsBlock))
   loads_block e =
+      let levels : LevelsHold c (after_step w t (DownReads (at_down_read r LoadsBlock)) hook) = levels_hold LoadsBlock e in
       elim (eqb_tells (w.words.block r.level) 0) [
-        | inl h ↦ rw h.0 (finds_clear e h.1)
-        | inr h ↦ rw h.0 (finds_set e)
+        | inl h ↦ rw h.0 (finds_clear e h.1 (rw h.0 at levels))
+        | inr h ↦ rw h.0 (finds_set e (rw h.0 at levels))
       ]
 
   -- each step of a start

@@ -1,6 +1,6 @@
 -- Events of a down-read leave the rcu_sync of each level, and the sections.
 use Rattle.std.proofs.Common.{◌≡◌, ℕ, ◌-◌, ◌<◌, ◌≤◌, refl, sym, ap, ◌∙◌, subst, inl, inr}
-use Rattle.std.specs.Prelude.{Option, Some, None, Bool, true, false, ◌==◌, if◌then◌else◌}
+use Rattle.std.specs.Prelude.{Some, Bool, true, false, ◌==◌, if◌then◌else◌}
 use Rattle.std.proofs.lemmas.Bool.Decides.{eqb_tells}
 use Rattle.finite_sums.specs.Sums.{update}
 use Rattle.access_model.specs.declared.replies.Next.{Next}
@@ -15,15 +15,15 @@ use Rattle.percpu_rwsem.specs.declared.readers.DownRead.{DownRead}
 use Rattle.percpu_rwsem.specs.declared.readers.DownReadStep.{DownReadStep}
 use Rattle.percpu_rwsem.specs.declared.readers.DownReadStep.TheVariants.{EntersSection, LoadsSync, CountsUpFast, CountsUpSlow, LoadsBlock, CountsDown, LeavesAdmitted, LeavesBlocked}
 use Rattle.percpu_rwsem.specs.Readers.{at_down_read, down_read_next, down_read_after, left_blocked}
-use Rattle.level_laws.specs.Roles.{SyncRole, Out as IsApart, fast}
+use Rattle.level_laws.specs.Roles.{Out as IsApart, fast}
 use Rattle.level_laws.specs.Events.{SyncLevelHolds, SyncStep}
-use Rattle.level_laws.specs.Operations.{down_read_role, down_read_inside, left_by, value_at, by_next, HoldsOfNext}
+use Rattle.level_laws.specs.Operations.{down_read_role, down_read_inside, left_by, by_next, HoldsOfNext}
 use Rattle.level_laws.proofs.ReadOperations.{down_reads_are_there}
 use Rattle.gate_world.specs.declared.config.Config.{Config}
 use Rattle.gate_world.specs.declared.views.View.{View}
 use Rattle.gate_world.specs.declared.work.Phase.TheVariants.{DownReads}
 use Rattle.gate_world.specs.Views.{view_after, phase_after}
-use Rattle.gate_world.specs.Worlds.{World, after_step, value_at as word_value}
+use Rattle.gate_world.specs.Worlds.{World, after_step}
 use Rattle.gate_world.specs.Levels.{sync_role_if, sync_role_of, inside}
 use Rattle.gate_world.specs.Rules.{IsGood, SyncAt, Sections, Holds}
 use Rattle.read_laws.proofs.LevelWorlds.{level_in, sync_on, sync_off, IsOfLevel, IsEventAt, found_level, level_there, turned_words, sync_turned, sections_turned, sync_elsewhere}
@@ -157,7 +157,8 @@ module _ (c : Config) (w : World) (good : IsGood c w) (hook : HookAnswer) (r : D
 
   -- an addition to its section word is an event of each level
   turned : (v : View) → down_read_role s ≡ IsApart → ((i : ℕ) → sync_role_of i v.phase ≡ IsApart) →
-      inside v.phase ≡ 1 - down_read_inside s → LevelsHold c (record { words = turned_words c w good r.task lt; views = update w.views r.task v })
+      inside v.phase ≡ 1 - down_read_inside s →
+      LevelsHold c (record { words = turned_words c w good r.task lt; views = update w.views r.task v })
   turned v apart off turns =
       let now : (i : ℕ) → sync_role_of i (w.views r.task).phase ≡ IsApart =
       λ i. ap (sync_role_of i) e ∙ (ap (sync_role_if (i == r.level)) apart ∙ apart_if (i == r.level)) in
