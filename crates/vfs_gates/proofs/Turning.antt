@@ -14,10 +14,8 @@ use Rattle.gate_world.specs.declared.operations.Op.{Op}
 use Rattle.gate_world.specs.declared.work.Phase.{Phase}
 use Rattle.gate_world.specs.Fits.{ActionFits}
 use Rattle.gate_world.specs.Views.{held_at, holds_level, phase_after}
-use Rattle.access_model.specs.declared.replies.Next.TheVariants.{Go, Wait, Done}
 use Rattle.gate_core.specs.declared.seats.Seat.{Seat}
 use Rattle.gate_world.specs.Work.{next_of, after_of}
-use Rattle.access_model.specs.Replies.{map_next}
 use Rattle.gate_world.specs.declared.accesses.Accesses.{Accesses}
 use Rattle.gate_core.specs.Answers.{progress_of}
 use Rattle.gate_world.specs.Accesses.{accesses_after}
