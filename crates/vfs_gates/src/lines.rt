@@ -4,6 +4,7 @@ ghost use Rattle.std.specs.Prelude.{◌≡◌, Some, None};
 ghost use Rattle.access_model.specs.Replies.{map_next};
 ghost use Rattle.gate_world.specs.Views.{phase_after};
 ghost use Rattle.gate_world.specs.declared.operations.Op.{Op as OpType};
+ghost use Rattle.gate_world.specs.declared.work.Phase.TheVariants.{Writes};
 ghost use Rattle.vfs_gates.specs.TaskStates.{TaskState, task_state};
 ghost use Rattle.vfs_gates.specs.Turns.{IsTied, StayTied, of_write};
 ghost use Rattle.vfs_gates.specs.Runs.{Goes, Went};
@@ -211,6 +212,46 @@ fn want_then(
     go_on_if(gates, seat, accesses, next, goes_on)
 }
 
+/// Whether this is a taking of write access that begins.
+#[inline(always)]
+fn begins_to_take(phase: WritePhase) -> bool {
+    matches!(phase, WritePhase::Takes { read, .. } if read.step == DownReadStep::EntersSection)
+}
+
+/// The events of a taking of write access that begins, in a line; of another phase its event alone. What comes after the last of
+/// them. It is a function of its own, as it is long, and asks again what its phase is, so that each event of the line is known.
+#[inline(never)]
+fn take_in_line(
+    gates: &Gates,
+    seat: &mut Seat,
+    accesses: &mut Accesses,
+    begins: Option<Op>,
+    phase: WritePhase,
+) -> Next<WritePhase>
+    requires table { seat.old.table_id ≡ gates.now.table.shared.table_id }
+    requires tied { IsTied gates.now.config begins (Some (Writes phase)) accesses.old seat.old.me.0 }
+    ensures table { seat.new.table_id ≡ seat.old.table_id }
+    ensures slots { seat.new.me.1 ≡ seat.old.me.1 }
+    ensures tied { StayTied gates.now.config begins (Some (Writes phase)) accesses.old seat.old.me.0
+        (phase_after (of_write result)) accesses.new seat.new.me.0 }
+    ensures went { (op : OpType) (start : TaskState) →
+        Goes op start (task_state seat.old.table_id gates.now.config begins (Some (Writes phase)) seat.old.me.0) →
+        Went op start (of_write result)
+        (task_state seat.new.table_id gates.now.config None (phase_after (of_write result)) seat.new.me.0) }
+{
+    if !begins_to_take(phase) {
+        return go_on(gates, seat, accesses, begins, phase, Ok(()));
+    }
+    let next = go_on(gates, seat, accesses, begins, phase, Ok(()));
+    let goes_on = enters_by(next, DownReadStep::LoadsSync);
+    let next = go_on_if(gates, seat, accesses, next, goes_on);
+    let goes_on = enters_by(next, DownReadStep::CountsUpFast);
+    let next = go_on_if(gates, seat, accesses, next, goes_on);
+    let goes_on = enters_by(next, DownReadStep::LeavesAdmitted);
+    let next = go_on_if(gates, seat, accesses, next, goes_on);
+    want_then(gates, seat, accesses, next)
+}
+
 impl InLine for WritePhase {
     #[inline(always)]
     fn go_in_line(
@@ -220,13 +261,11 @@ impl InLine for WritePhase {
         accesses: &mut Accesses,
         begins: Option<Op>,
     ) -> Next<WritePhase> {
+        if begins_to_take(self) {
+            return take_in_line(gates, seat, accesses, begins, self);
+        }
         let next = go_on(gates, seat, accesses, begins, self, Ok(()));
-        let goes_on = leaves_level(next) || enters_by(next, DownReadStep::LoadsSync);
-        let next = go_on_if(gates, seat, accesses, next, goes_on);
-        let goes_on = enters_by(next, DownReadStep::CountsUpFast);
-        let next = go_on_if(gates, seat, accesses, next, goes_on);
-        let goes_on = enters_by(next, DownReadStep::LeavesAdmitted);
-        let next = go_on_if(gates, seat, accesses, next, goes_on);
-        want_then(gates, seat, accesses, next)
+        let goes_on = leaves_level(next);
+        go_on_if(gates, seat, accesses, next, goes_on)
     }
 }
