@@ -9,7 +9,7 @@ use Rattle.mount_counts.specs.declared.phases.ChangeStep.TheVariants.{Releases}
 use Rattle.gate_world.specs.declared.config.Config.{Config}
 use Rattle.gate_world.specs.declared.work.Phase.TheVariants.{Mounts}
 use Rattle.gate_world.specs.Fits.{Fits}
-use Rattle.gate_frames.proofs.Keeps.{by_bool, none_agree, PhaseKeeps, IsSmall, OpKeeps}
+use Rattle.gate_frames.proofs.Keeps.{by_bool, none_agree, word_among, PhaseKeeps, IsSmall, OpKeeps}
 use Rattle.gate_frames.proofs.Loads.{role_none}
 use Rattle.gate_frames.proofs.Snapshots.{completes_none}
 use Rattle.gate_world.specs.declared.operations.Op.TheVariants.{ChangeMount}
@@ -29,7 +29,7 @@ pub change_phase : (c : Config) (x : Change) → PhaseKeeps c (Mounts (Changes x
 change_phase c x = record {
   step = λ lim w good t lt hook e. change_keeps c lim w good t lt hook x.mount x.read_only x.wait x.task x.processors x.step e;
   completes = λ lim w good t lt hook e. completes_none c w t hook (Mounts (Changes x)) (λ trace found. refl);
-  word = λ lim t lt held levels hook f. change_there c lim t held levels x x.step f.0 f.4;
+  word = λ lim n le t lt held levels hook f. word_among c n le _ (change_there c lim t held levels x x.step f.0 f.4);
   acts = λ lim t held levels found hook f. change_acts c lim t held levels x x.step found;
   goes = λ lim t held levels found hook f. change_goes c lim t held levels x x.step found f;
   agrees = λ t f g h k mounts levels fits. (fits.0, fits.1, fits.2, rw (← none_agree c t f g h k mounts levels) fits.3, fits.4);

@@ -2,12 +2,13 @@
 use Rattle.std.proofs.Common.{◌≡◌, ℕ, true, List, [], ◌∷◌, ◌++◌, refl}
 use Rattle.std.specs.Prelude.{Ok, Err, replicate}
 use Rattle.access_model.specs.declared.actions.Action.TheVariants.{Grant, Return, MountRo}
-use Rattle.access_model.specs.declared.actions.Gate.TheVariants.{Mount}
-use Rattle.access_model.specs.declared.errors.GateError.TheVariants.{Busy}
+use Rattle.access_model.specs.declared.actions.Gate.TheVariants.{Mount, Level}
+use Rattle.access_model.specs.declared.replies.Reply.TheVariants.{Ran}
+use Rattle.access_model.specs.declared.errors.GateError.TheVariants.{Busy, ReadOnly}
 use Rattle.gate_world.specs.declared.config.Config.{Config}
-use Rattle.gate_world.specs.declared.operations.Op.TheVariants.{Want, DropMount, ChangeMount}
+use Rattle.gate_world.specs.declared.operations.Op.TheVariants.{Want, DropMount, ChangeMount, Start, WantWrite, DropWrite, Callback}
 use Rattle.gate_world.specs.Worlds.{Entry, Begins, Steps, run, history, opening}
-use Rattle.gate_core.specs.declared.steps.Progress.TheVariants.{Done}
+use Rattle.gate_core.specs.declared.steps.Progress.TheVariants.{Done, Idle}
 use Rattle.gate_core.specs.Answers.{step_answer}
 
 -- three tasks, two processors, one mount
@@ -61,3 +62,49 @@ contends_history = refl
 -- and the mount's flags are as they were
 contends_flags : (run small opening (contends ++ steps 1 1)).words.flags 0 ≡ 0
 contends_flags = refl
+
+-- write access: four events at level 1, and five at the mount; and its return on the other processor
+abbrev writes : List Entry
+writes = Begins 1 (WantWrite 0 1) ∷ steps 9 1 ++ (Begins 1 (DropWrite 0 0) ∷ steps 2 1)
+
+-- it goes inside the level first, and leaves it last
+writes_history : history small opening [] writes ≡
+    (1, Return (Level 1)) ∷ ((1, Return (Mount 0)) ∷ ((1, Grant (Mount 0)) ∷ ((1, Grant (Level 1)) ∷ [])))
+writes_history = refl
+
+-- its one section has ended
+writes_section : (run small opening writes).words.section 1 ≡ 2
+writes_section = refl
+
+-- the level's count on the other processor has wrapped below 0
+writes_given_back : (run small opening writes).words.level 1 0 ≡ 18446744073709551615
+writes_given_back = refl
+
+-- write access at a mount that is read-only
+abbrev refuses : List Entry
+refuses = closes ++ (Begins 1 (WantWrite 0 1) ∷ steps 9 1)
+
+-- the last of its ten events refuses it
+refuses_ends : (step_answer small (run small opening refuses) 1 (Ok tt)).progress ≡ Done (Err ReadOnly)
+refuses_ends = refl
+
+-- and gives the level back
+refuses_history : history small opening [] (refuses ++ steps 1 1) ≡
+    (1, Return (Level 1)) ∷ ((1, Grant (Level 1)) ∷ ((0, MountRo 0) ∷ []))
+refuses_history = refl
+
+-- inside level 2, neither a start at level 1 nor a change can begin
+abbrev orders : List Entry
+orders = Begins 0 (Start 2 0 true) ∷ steps 4 0 ++ (Begins 0 (Start 1 0 true) ∷ (Begins 0 (ChangeMount 0 true true) ∷ []))
+
+-- so the next step finds nothing under way
+orders_idle : (step_answer small (run small opening orders) 0 (Ok tt)).progress ≡ Idle
+orders_idle = refl
+
+-- a callback of a level that has none queued
+abbrev calls : List Entry
+calls = Begins 2 (Callback 3) ∷ []
+
+-- says so, by one event
+calls_none : (step_answer small (run small opening calls) 2 (Ok tt)).progress ≡ Done (Ok (Ran false))
+calls_none = refl

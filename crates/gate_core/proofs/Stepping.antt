@@ -89,11 +89,11 @@ module _ (memory : Memory) (sound : IsSound memory) (t : ℕ) (lt : t < memory.c
 
   -- so the word is there
   there : IsWord (extents_of config) name
-  there = word_there config sound.within t mounts levels phase hook phase_fits
+  there = word_there config sound.within t mounts levels lt phase hook phase_fits
 
   -- and in the list
   pub place_fits : place name < length memory.words
-  place_fits = omega (arith, sound.words, word_placed config sound.within t mounts levels phase hook phase_fits)
+  place_fits = omega (arith, sound.words, word_placed config sound.within t mounts levels (omega (arith, lt, sound.within.tasks)) phase hook phase_fits)
 
   -- the action of the event can be done
   pub acts : ActionFits mounts done.1

@@ -18,17 +18,21 @@ ghost use Rattle.gate_world.specs.Waits.{EachWaitHasCulprit};
 ///   task's last snapshot has a moment in it at which everything was frozen, with the tree that was loaded, after just what the task had
 ///   done at the snapshot's last load.
 /// - `inside`: nobody holds an access at a read-only mount, nor at a level that a freeze has passed.
-/// - `sums`, `idle`: each mount's words sum to what is held and sought there, and, with no operation under way, to the accesses held.
-/// - `rests`: nothing is left behind: with no operation under way, `umount` is free, no remount is under way, and no mount has HOLD set.
+/// - `sums`, `idle`: each mount's and each level's words sum to what is held and sought there, and, with no operation under way, to the
+///   accesses held.
+/// - `rests`: nothing is left behind: with no operation under way, `umount` is free, no remount is under way, no mount has HOLD set, no
+///   read-side section is under way, a level is closed only where the file system is frozen as a whole, and no callback is taken.
 /// - `operations`: each task's events follow the order of its operation; one that replied has added exactly its stated actions, a
 ///   refusal has its cause among its events and leaves what the task held, waiting is reported only where it may be, and an operation
 ///   that waits for nobody has few events.
 /// - `causes`: a change is refused as busy only where something was counted at that mount in some world from the load of its sum's
-///   first word to the load of its last; a want is refused as read-only only where the shown model had that mount read-only at one of
-///   its loads.
-/// - `waits`: every wait has a culprit: a want waits only where another task has HOLD set at its mount, and a change only where another
-///   task has `umount`; a drop never waits.
-/// - `rule`: the rule of words and views, from which the rest follows: counts, holdings, the owner's words, mounts.
+///   first word to the load of its last, and so a remount, at some mount, or where the stage was not 0 when it looked; a want is refused as
+///   read-only only where the shown model had that mount read-only at one of its loads; a start that doesn't wait is refused only where
+///   another task had the level closed, or the file system was frozen as a whole, in the world in which it last looked.
+/// - `waits`: every wait has a culprit: a want waits only where another task has HOLD set at its mount, a change and a remount only where
+///   another task has `umount`, a callback only where another task is inside a section, and a start only where the level was closed when
+///   it last looked, as above; a drop and an end never wait.
+/// - `rule`: the rule of words and views, from which the rest follows: counts, holdings, the owner's words, mounts, levels, sections.
 ///
 /// It takes nothing, does nothing and answers nothing: its contract is the theorem. `Core` is bound to the same worlds by `Shows`.
 pub fn every_schedule()

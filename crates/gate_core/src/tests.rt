@@ -3,7 +3,7 @@
 use crate::machine::Core;
 use crate::steps::{Progress, Step};
 use crate::{Config, Op};
-use access_model::{Action, GateError, Reply};
+use access_model::{Action, Gate, GateError, Reply};
 use cpu_words::{Event, Touch, WordName};
 use freeze_levels::HookKind;
 use std::test::Fail;
@@ -147,5 +147,50 @@ fn a_remount_asks_the_file_system_once(rt: HostRuntime) -> Result<(), Fail> {
         Progress::Done(Err(GateError::Hook(5)))
     );
     assert_eq!(rt; core.wants_hook(0), None);
+    Ok(())
+}
+
+/// Levels are gone into from below, and what asks for no level is refused inside one.
+#[test]
+fn levels_are_gone_into_from_below(rt: HostRuntime) -> Result<(), Fail> {
+    let mut core = Core::new(rt.alloc(), small())?;
+    let start = |level| Op::Start {
+        level,
+        cpu: 0,
+        wait: false,
+    };
+    assert_eq!(rt; core.begin(0, start(0)), Err(GateError::Invalid));
+    assert_eq!(rt; core.begin(0, start(4)), Err(GateError::Invalid));
+    core.begin(0, start(2))?;
+    assert_eq!(rt;
+        steps(&mut core, 0, 4).progress,
+        Progress::Done(Ok(Reply::Unit))
+    );
+    assert_eq!(rt; core.begin(0, start(1)), Err(GateError::Order));
+    assert_eq!(rt; core.begin(0, start(2)), Err(GateError::Order));
+    assert_eq!(rt;
+        core.begin(0, Op::WantWrite { mount: 0, cpu: 0 }),
+        Err(GateError::Order)
+    );
+    assert_eq!(rt;
+        core.begin(0, Op::DropWrite { mount: 0, cpu: 0 }),
+        Err(GateError::Order)
+    );
+    assert_eq!(rt;
+        core.begin(0, Op::RemountSb { read_only: true }),
+        Err(GateError::Order)
+    );
+    assert_eq!(rt;
+        core.begin(0, Op::End { level: 1, cpu: 0 }),
+        Err(GateError::Order)
+    );
+    core.begin(0, start(3))?;
+    steps(&mut core, 0, 4);
+    core.begin(0, Op::End { level: 2, cpu: 1 })?;
+    assert_eq!(rt;
+        steps(&mut core, 0, 1).action,
+        Some(Action::Return(Gate::Level(2)))
+    );
+    assert_eq!(rt; core.word(WordName::LevelCount(2, 1)), Some(u64::MAX));
     Ok(())
 }

@@ -1,4 +1,6 @@
 -- What the crate of an operation proves of it: of each of its phases, and of its beginning and its trace.
+use Rattle.cpu_words.specs.declared.names.WordName.TheVariants.{MountFlags, MountCount, Block, Sync, LevelCount, Section, Node, Kids, Umount, Stage, SbFlags, Remount, Used}
+use Rattle.cpu_words.specs.declared.names.WordName.{WordName}
 use Rattle.access_model.specs.Histories.{mounts_of, levels_of}
 use Rattle.gate_world.specs.Traces.{actions_of}
 use Rattle.std.specs.Prelude.{Err, ◌++◌}
@@ -10,7 +12,7 @@ use Rattle.cpu_words.specs.Names.{IsWord}
 use Rattle.cpu_words.specs.Hooks.{HookAnswer}
 use Rattle.gate_world.specs.declared.config.Config.{Config}
 use Rattle.gate_world.specs.declared.work.Phase.{Phase}
-use Rattle.gate_world.specs.Configs.{IsWithin, extents_of}
+use Rattle.gate_world.specs.Configs.{IsWithin, extents_of, extents_among}
 use Rattle.gate_world.specs.Views.{phase_after, held_at, holds_level}
 use Rattle.gate_world.specs.Work.{next_of, after_of}
 use Rattle.gate_world.specs.Operations.{holds_none}
@@ -42,6 +44,22 @@ module _ (c : Config) (t : ℕ) (f g : ℕ → ℕ) (h k : ℕ → Bool) (mounts
   pub none_agree : holds_none h ≡ holds_none k
   none_agree = rw (levels 1 (omega arith) (omega arith), levels 2 (omega arith) (omega arith), levels 3 (omega arith) (omega arith))
 
+-- a word that is there among the tasks is there among more of them
+pub word_among : (c : Config) (n : ℕ) → c.tasks ≤ n → (name : WordName) → IsWord (extents_of c) name → IsWord (extents_among n c) name
+word_among c n le Umount h = h
+word_among c n le Stage h = h
+word_among c n le SbFlags h = h
+word_among c n le Remount h = h
+word_among c n le (MountFlags m) h = h
+word_among c n le (MountCount m p) h = h
+word_among c n le (Block i) h = h
+word_among c n le (Sync i) h = h
+word_among c n le (LevelCount i p) h = h
+word_among c n le (Section t) h = omega (arith, le, h)
+word_among c n le Used h = h
+word_among c n le (Node m) h = h
+word_among c n le (Kids m) h = h
+
 -- of one phase
 pub record PhaseKeeps (c : Config) (phase : Phase) : Type 0 where
   -- its event keeps the rule, and moves the shown model by its action
@@ -50,9 +68,9 @@ pub record PhaseKeeps (c : Config) (phase : Phase) : Type 0 where
   -- a snapshot that its event completes is of the present tree
   pub completes : IsWithin c → (w : World) → IsGood c w → (t : ℕ) → t < c.tasks → (hook : HookAnswer) → (w.views t).phase ≡ Some phase →
       CompletesNow c w t hook phase
-  -- the word of its event is there
-  pub word : IsWithin c → (t : ℕ) → t < c.tasks → (held : ℕ → ℕ) (levels : ℕ → Bool) (hook : HookAnswer) →
-      PhaseFits c t held levels phase → IsWord (extents_of c) (next_of phase hook).0
+  -- the word of its event is there, among however many tasks its own number is one of
+  pub word : IsWithin c → (n : ℕ) → c.tasks ≤ n → (t : ℕ) → t < n → (held : ℕ → ℕ) (levels : ℕ → Bool) (hook : HookAnswer) →
+      PhaseFits c t held levels phase → IsWord (extents_among n c) (next_of phase hook).0
   -- its action can be done
   pub acts : IsWithin c → (t : ℕ) (held : ℕ → ℕ) (levels : ℕ → Bool) (found : ℕ) (hook : HookAnswer) → PhaseFits c t held levels phase →
       ActionFits held (after_of phase found hook).1

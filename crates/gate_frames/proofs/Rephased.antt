@@ -25,11 +25,11 @@ use Rattle.gate_world.specs.Alike.{IsAlike, at_phase, rephased}
 use Rattle.gate_frames.proofs.Frames.{view_as, shown_still, left_alone, level_view_as}
 
 -- what is alike to a phase is alike to the same phase
-alike_of : {p q r : Option Phase} → p ≡ q → IsAlike q r → IsAlike p r
+pub alike_of : {p q r : Option Phase} → p ≡ q → IsAlike q r → IsAlike p r
 alike_of {p} {q} {r} e h = subst (λ x. IsAlike x r) (sym e) h
 
 -- of two values put at one place the later one stands
-update_twice : {A : Type 0} (f : ℕ → A) (t : ℕ) (u v : A) → update (update f t u) t v ≡ update f t v
+pub update_twice : {A : Type 0} (f : ℕ → A) (t : ℕ) (u v : A) → update (update f t u) t v ≡ update f t v
 update_twice f t u v =
     fun_ext (λ x. elim (eqb_tells x t) [
       | inl h ↦ rw (h.0, update)
@@ -90,7 +90,7 @@ made w t n hook coming action = record {
 module _ (c : Config) (w : World) (t : ℕ) (lt : t < c.tasks) (p : Option Phase) (n : WordName × Touch) (hook : HookAnswer)
     (a b : Next Phase) (action : Option Action) where
   -- the event of the first, done again at the second's phases, is the event of the second
-  made_again : rephased (made (rephased w t p) t n hook a action) t (phase_after b) ≡ made w t n hook b action
+  pub made_again : rephased (made (rephased w t p) t n hook a action) t (phase_after b) ≡ made w t n hook b action
   made_again =
       let v : View = at_phase (w.views t) p in
       let u : View = view_with v n (read w.words n.0) hook (a, action) in

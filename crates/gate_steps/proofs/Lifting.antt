@@ -163,7 +163,7 @@ lifted c slots id (x ∷ xs) carried begins phase hook acts s held len at small 
     let kept : IsGood c after × Moves c (shown c w') t a (shown c after) =
     (beside.0, subst (Moves c (shown c w') t a) beside.1 law.1) in
     let there : IsWord (extents_of c) name =
-    word_there c lim t (held_at (w'.views t)) (holds_level (w'.views t)) phase hook
+    word_there c lim t (held_at (w'.views t)) (holds_level (w'.views t)) lt phase hook
     (subst (λ o. Fits c t (held_at (w'.views t)) (holds_level (w'.views t)) o) en.at_phase (en.good Fitting t lt)) in
     let i : ℕ = table_index (place name) in
     let n : ℕ = slice_index s.words i in

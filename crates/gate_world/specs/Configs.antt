@@ -1,5 +1,5 @@
 -- The limits of a configuration.
-use Rattle.std.specs.Prelude.{◌≤◌, ◌<◌}
+use Rattle.std.specs.Prelude.{ℕ, ◌≤◌, ◌<◌}
 use Rattle.access_model.specs.States.{Limits}
 use Rattle.cpu_words.specs.Names.{Extents}
 use Rattle.gate_world.specs.declared.config.Config.{Config}
@@ -23,3 +23,7 @@ model_limits c = record { tasks = c.tasks; mounts = c.mounts; nodes = c.nodes; c
 -- what the words read of it
 abbrev pub extents_of : Config → Extents
 extents_of c = record { tasks = c.tasks; processors = c.processors; mounts = c.mounts; nodes = c.nodes }
+
+-- the same, with section words for this many tasks
+abbrev pub extents_among : ℕ → Config → Extents
+extents_among n c = record { tasks = n; processors = c.processors; mounts = c.mounts; nodes = c.nodes }

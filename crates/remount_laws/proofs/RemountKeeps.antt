@@ -12,7 +12,7 @@ use Rattle.gate_world.specs.KeptCauses.{RemountCause}
 use Rattle.gate_world.specs.Rules.{Fitting}
 use Rattle.gate_world.specs.Views.{held_at, holds_level}
 use Rattle.gate_world.specs.Worlds.{after_step}
-use Rattle.gate_frames.proofs.Keeps.{none_agree, PhaseKeeps, OpKeeps}
+use Rattle.gate_frames.proofs.Keeps.{none_agree, word_among, PhaseKeeps, OpKeeps}
 use Rattle.gate_frames.proofs.Snapshots.{completes_none}
 use Rattle.trace_laws.proofs.Says.{tells, is_short}
 use Rattle.remount_laws.proofs.RemountEvents.{remount_keeps}
@@ -26,7 +26,7 @@ pub remount_phase : (c : Config) (x : Remount) → PhaseKeeps c (Remounts x)
 remount_phase c x = record {
   step = λ lim w good t lt hook e. remount_keeps c lim w good t lt hook x e;
   completes = λ lim w good t lt hook e. completes_none c w t hook (Remounts x) (λ trace found. refl);
-  word = λ lim t lt held levels hook f. remount_there c lim t held levels x x.step hook f.5;
+  word = λ lim n le t lt held levels hook f. word_among c n le _ (remount_there c lim t held levels x x.step hook f.5);
   acts = λ lim t held levels found hook f. remount_acts c lim t held levels x x.step found hook;
   goes = λ lim t held levels found hook f. remount_goes c lim t held levels x x.step found hook f;
   agrees = λ t f g h k mounts levels fits.

@@ -1,27 +1,31 @@
 -- A phase that fits: the word of its next event is there and has a place, the action of the event can be done, and the phase that comes
 -- fits.
-use Rattle.std.proofs.Common.{◌≡◌, ℕ, ◌<◌, ◌≤◌, Bool}
+use Rattle.std.proofs.Common.{◌≡◌, ℕ, ◌<◌, ◌≤◌, Bool, arith}
 use Rattle.std.specs.Prelude.{Option, Some, None}
 use Rattle.cpu_words.specs.Names.{IsWord, place, words_in_all}
 use Rattle.cpu_words.specs.Hooks.{HookAnswer}
 use Rattle.cpu_words.proofs.Places.{place_small}
 use Rattle.gate_world.specs.declared.config.Config.{Config}
 use Rattle.gate_world.specs.declared.work.Phase.{Phase}
-use Rattle.gate_world.specs.Configs.{IsWithin, extents_of}
+use Rattle.gate_world.specs.Configs.{IsWithin, extents_of, extents_among}
 use Rattle.gate_world.specs.Views.{phase_after}
 use Rattle.gate_world.specs.Work.{next_of, after_of}
 use Rattle.gate_world.specs.Fits.{PhaseFits, Fits, ActionFits, mounts_by, levels_by}
-use Rattle.gate_frames.proofs.Places.{are_few}
+use Rattle.gate_frames.proofs.Places.{are_few, few_among}
 use Rattle.schedule_laws.proofs.Layers.{phase_keeps}
 
 module _ (c : Config) (within : IsWithin c) (t : ℕ) (held : ℕ → ℕ) (levels : ℕ → Bool) where
   -- the word of its next event is there
-  pub word_there : (phase : Phase) (hook : HookAnswer) → PhaseFits c t held levels phase → IsWord (extents_of c) (next_of phase hook).0
-  word_there phase hook f = (phase_keeps c phase).word within t held levels hook f
+  pub word_there : t < c.tasks → (phase : Phase) (hook : HookAnswer) → PhaseFits c t held levels phase →
+      IsWord (extents_of c) (next_of phase hook).0
+  word_there lt phase hook f = (phase_keeps c phase).word within c.tasks (omega arith) t lt held levels hook f
 
-  -- and so it has a place
-  pub word_placed : (phase : Phase) (hook : HookAnswer) → PhaseFits c t held levels phase → place (next_of phase hook).0 < words_in_all
-  word_placed phase hook f = place_small (extents_of c) (are_few c within) (next_of phase hook).0 (word_there phase hook f)
+  -- and has a place, whatever number within the limits the task has
+  pub word_placed : t < 64 → (phase : Phase) (hook : HookAnswer) → PhaseFits c t held levels phase →
+      place (next_of phase hook).0 < words_in_all
+  word_placed lt phase hook f =
+      place_small (extents_among 64 c) (few_among c within) (next_of phase hook).0
+      ((phase_keeps c phase).word within 64 within.tasks t lt held levels hook f)
 
   -- the action of the event can be done
   pub action_fits : (phase : Phase) (found : ℕ) (hook : HookAnswer) → PhaseFits c t held levels phase →

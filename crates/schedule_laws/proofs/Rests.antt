@@ -1,5 +1,8 @@
 -- Nothing is left behind: with no operation under way nobody has a lock, a remount or a hold.
-use Rattle.std.proofs.Common.{◌≡◌, ℕ, zero, suc, ◌<◌, ◌≤◌, refl, ap, ◌∙◌, arith}
+use Rattle.percpu_rwsem.specs.SyncWords.{bit, unpack}
+use Rattle.level_laws.specs.Roles.{closed, claimed}
+use Rattle.gate_world.specs.Levels.{is_frozen_whole, sync_role_of, inside}
+use Rattle.std.proofs.Common.{◌≡◌, ℕ, zero, suc, ◌<◌, ◌≤◌, refl, ap, ◌∙◌, arith, Bool, false, true, subst, sym, ◌%◌}
 use Rattle.std.specs.Prelude.{None}
 use Rattle.finite_sums.specs.Sums.{total}
 use Rattle.finite_sums.proofs.Totals.{total_none}
@@ -7,8 +10,8 @@ use Rattle.mount_counts.specs.Roles.{has_hold, hold_bit}
 use Rattle.mount_laws.proofs.Bits.{hold_unset}
 use Rattle.gate_world.specs.declared.config.Config.{Config}
 use Rattle.gate_world.specs.Worlds.{World}
-use Rattle.gate_world.specs.Rules.{owns, remounts, role_of, IsGood, Owner, AtMount}
-use Rattle.gate_world.specs.Headline.{IsAtRest}
+use Rattle.gate_world.specs.Rules.{owns, remounts, role_of, IsGood, Owner, AtMount, SyncHoldsIn, SyncAt, Sections}
+use Rattle.gate_world.specs.Headline.{IsAtRest, IsUntaken}
 
 module _ (c : Config) (w : World) (good : IsGood c w) (idle : (t : ℕ) → t < c.tasks → (w.views t).phase ≡ None) where
   -- a number of `umount` that is of no owner is 0
@@ -23,10 +26,37 @@ module _ (c : Config) (w : World) (good : IsGood c w) (idle : (t : ℕ) → t < 
       total_none c.tasks _ (λ t lt. ap (λ p. has_hold (role_of m p)) (idle t lt)) in
       omega (arith, none, (good (AtMount m) lm).gate.flag)
 
+  -- nobody is inside a section
+  no_section : (t : ℕ) → t < c.tasks → w.words.section t % 2 ≡ 0
+  no_section t lt = good Sections t lt ∙ ap inside (idle t lt)
+
+  -- nobody has closed a level
+  no_closed : (i : ℕ) → 1 ≤ i → i ≤ 3 → w.words.block i ≡ is_frozen_whole w.words
+  no_closed i l1 l3 =
+      let none : total c.tasks (λ t. closed (sync_role_of i (w.views t).phase)) ≡ 0 =
+      total_none c.tasks _ (λ t lt. ap (λ p. closed (sync_role_of i p)) (idle t lt)) in
+      omega (arith, none, (good (SyncAt i) l1 l3).holds.blocked)
+
+  -- a callback that is taken is 1
+  untaken : (b : Bool) → bit b ≡ 0 → b ≡ false
+  untaken true h = absurd (omega (arith, h))
+  untaken false h = refl
+
+  -- nobody has taken a callback
+  no_callback : (i : ℕ) → 1 ≤ i → i ≤ 3 → IsUntaken (unpack (w.words.sync i))
+  no_callback i l1 l3 =
+      let s : SyncHoldsIn c w i = good (SyncAt i) l1 l3 in
+      let none : total c.tasks (λ t. claimed (sync_role_of i (w.views t).phase)) ≡ 0 =
+      total_none c.tasks _ (λ t lt. ap (λ p. claimed (sync_role_of i p)) (idle t lt)) in
+      subst IsUntaken (sym s.packed) (untaken s.word.taken (omega (arith, none, s.holds.taken)))
+
   -- so nothing is left
   pub at_rest : IsAtRest c w
   at_rest = record {
     umount_free = free w.words.umount (good Owner).known (good Owner).owned;
     remount_clear = (good Owner).remounting ∙ total_none c.tasks _ (λ t lt. ap remounts (idle t lt));
     hold_clear = λ m lm. hold_unset (w.words.flags m) (good (AtMount m) lm).bits (no_hold m lm);
+    sections_even = no_section;
+    levels_open = no_closed;
+    callbacks_free = no_callback;
   }

@@ -26,7 +26,9 @@ use Rattle.gate_world.specs.Views.{held_at, holds_level, begun_view}
 use Rattle.gate_world.specs.Beginnings.{first_phase, view_refusal}
 use Rattle.gate_world.specs.Worlds.{World, Entry, Begins, Steps, after_begin, begin_of, step_of, happens, phase_action, action_of, task_of, with_action, run, opening, history}
 use Rattle.gate_world.specs.Shown.{shown}
-use Rattle.gate_world.specs.Rules.{role_of, at_mount, MountHoldsIn, IsSteady, ViewFits, Part, Owner, Superblock, Stages, Fitting, AtMount, Holds, IsGood, Moves, owns, Known, relied, Relying, Nodes, AtLevel, SyncAt, Sections}
+use Rattle.gate_counts.specs.Gates.{below, counted as counted_of}
+use Rattle.gate_counts.specs.Levels.{level_as_gate, processor_of as level_processor}
+use Rattle.gate_world.specs.Rules.{role_of, at_mount, MountHoldsIn, LevelHoldsIn, IsSteady, ViewFits, Part, Owner, Superblock, Stages, Fitting, AtMount, Holds, IsGood, Moves, owns, Known, relied, Relying, Nodes, AtLevel, SyncAt, Sections}
 use Rattle.gate_world.specs.Headline.{SumsHold, IdleSumsHold}
 use Rattle.schedule_laws.proofs.Layers.{phase_keeps, op_keeps}
 use Rattle.schedule_laws.proofs.Beginnings.{MayBegin, may_begin, first_fits}
@@ -34,7 +36,7 @@ use Rattle.gate_frames.proofs.Frames.{view_as, left_alone, shown_still, level_vi
 use Rattle.gate_frames.proofs.Loads.{steady}
 use Rattle.gated_tree.specs.Nodes.{IsNode}
 use Rattle.cpu_words.specs.Words.{opening_words}
-use Rattle.gate_world.specs.Levels.{inside, level_role_of, sync_role_of}
+use Rattle.gate_world.specs.Levels.{inside, at_level, level_role_of, sync_role_of}
 use Rattle.level_laws.proofs.Whole.{opening_is_right}
 
 pub both : (a b : Bool) → (a && b) ≡ true → (a ≡ true) × (b ≡ true)
@@ -190,8 +192,9 @@ module _ (c : Config) (lim : IsWithin c) where
       λ i. record opening_state { tree = fun_ext opening_tree i }
 
   -- a mount's words sum to what is counted, as a whole number
-  pub gate_sums : (w : World) → IsGood c w → SumsHold c w
-  gate_sums w good m lm =
+  mount_sums : (w : World) → IsGood c w → (m : ℕ) → m < c.mounts →
+      total c.processors (w.words.count m) % 18446744073709551616 ≡ total c.tasks (λ t. counted (at_mount m (w.views t)))
+  mount_sums w good m lm =
       let g : MountHoldsIn c w m = good (AtMount m) lm in
       let s : total c.processors (w.words.count m) % 18446744073709551616 ≡
       total c.tasks (λ t. counted (at_mount m (w.views t))) % 18446744073709551616 = words_sum g.gate.counts in
@@ -199,7 +202,26 @@ module _ (c : Config) (lim : IsWithin c) where
       total_bound c.tasks 1025 _ (λ x lx. omega (arith, g.gate.room x lx, below_le 0 (processor_of (role_of m (w.views x).phase)))) in
       omega (arith, lim.tasks)
 
+  -- so do a level's
+  level_sums : (w : World) → IsGood c w → (i : ℕ) → 1 ≤ i → i ≤ 3 →
+      total c.processors (w.words.level i) % 18446744073709551616 ≡ total c.tasks (λ t. counted_of (level_as_gate (at_level i (w.views t))))
+  level_sums w good i l1 l3 =
+      let g : LevelHoldsIn c w i = good (AtLevel i) l1 l3 in
+      let s : total c.processors (w.words.level i) % 18446744073709551616 ≡
+      total c.tasks (λ t. counted_of (level_as_gate (at_level i (w.views t)))) % 18446744073709551616 = words_sum g.gate.counts in
+      let b : total c.tasks (λ t. counted_of (level_as_gate (at_level i (w.views t)))) ≤ c.tasks * 1025 =
+      total_bound c.tasks 1025 _ (λ x lx. omega (arith, g.gate.room x lx, below_le 0 (level_processor (level_role_of i (w.views x).phase)))) in
+      omega (arith, lim.tasks)
+
+  pub gate_sums : (w : World) → IsGood c w → SumsHold c w
+  gate_sums w good = record { mounts = mount_sums w good; levels = level_sums w good }
+
   -- with no operation under way, to the accesses held
   pub idle_sums : (w : World) → IsGood c w → IdleSumsHold c w
-  idle_sums w good idle m lm =
-      gate_sums w good m lm ∙ total_same c.tasks _ _ (λ x lx. omega (arith, ap (λ u. sought (role_of m u)) (idle x lx)))
+  idle_sums w good idle = record {
+    mounts = λ m lm.
+        mount_sums w good m lm ∙ total_same c.tasks _ _ (λ x lx. omega (arith, ap (λ u. sought (role_of m u)) (idle x lx)));
+    levels = λ i l1 l3.
+        level_sums w good i l1 l3 ∙
+        total_same c.tasks _ _ (λ x lx. omega (arith, ap (λ u. below 0 (level_processor (level_role_of i u))) (idle x lx)));
+  }

@@ -1,4 +1,5 @@
 -- What holds of every schedule from the opening on.
+use Rattle.gate_world.specs.KeptCauses.{CauseOf}
 use Rattle.schedule_laws.proofs.Beginnings.{may_begin}
 use Rattle.access_model.specs.Histories.{mounts_of, levels_of}
 use Rattle.gate_world.specs.Views.{HoldsAsBefore}
@@ -24,7 +25,7 @@ use Rattle.access_model.specs.declared.replies.Next.{Next}
 use Rattle.access_model.specs.declared.replies.Next.TheVariants.{Done as Ended}
 use Rattle.schedule_laws.proofs.Layers.{phase_keeps, op_keeps}
 use Rattle.trace_laws.proofs.Traced.{all_traced}
-use Rattle.gate_world.specs.Waits.{WaitsForAnother, EachWaitHasCulprit}
+use Rattle.gate_world.specs.Waits.{WaitsForAnother, EachWaitHasCulprit, HasCulpritAmong}
 use Rattle.gate_world.specs.Causes.{HasCause, RefusalsHaveCauses}
 use Rattle.schedule_laws.proofs.Entries.{TrailHolds, trail_holds, cause_tells}
 use Rattle.schedule_laws.proofs.Schedule.{opening_good, opening_shown, happens_keeps, run_keeps, gate_sums, idle_sums}
@@ -51,10 +52,12 @@ module _ (c : Config) (lim : IsWithin c) where
   whole_nobody es = subst (λ (s : State). NobodyHoldsClosed (model_limits c) s) (whole_run es).end
       (closed (model_limits c) (actions_so_far c es) (whole_run es).legal)
 
+  whole_trail : (es : List Entry) → TrailHolds c (λ w good e. (happens_keeps c lim w good e).0) opening [] es
+  whole_trail es = trail_holds c (λ w good e. (happens_keeps c lim w good e).0) es opening [] (opening_good c lim) (λ x lx. tt)
+
   pub whole_causes : (es : List Entry) → RefusalsHaveCauses c es
   whole_causes es t lt =
-      let h : TrailHolds c (λ w good e. (happens_keeps c lim w good e).0) opening [] es =
-      trail_holds c (λ w good e. (happens_keeps c lim w good e).0) es opening [] (opening_good c lim) (λ x lx. tt) in
+      let h : TrailHolds c (λ w good e. (happens_keeps c lim w good e).0) opening [] es = whole_trail es in
       subst (λ (ws : List World). HasCause c t ws ((world_after c es).views t).phase) (sym h.is)
       (cause_tells c t (world_after c es) h.rest ((world_after c es).views t).phase (h.causes t lt))
 
@@ -69,8 +72,11 @@ module _ (c : Config) (lim : IsWithin c) where
 
   pub whole_waits : (es : List Entry) → EachWaitHasCulprit c es
   whole_waits es t phase again hook lt at e =
-      subst (λ (s : Next Phase). WaitsForAnother c (world_after c es) t phase s) e
-      ((phase_keeps c phase).waits lim (world_after c es) (whole_rule es) t lt hook at)
+      let h : TrailHolds c (λ w good e. (happens_keeps c lim w good e).0) opening [] es = whole_trail es in
+      let cause : CauseOf c t (world_after c es) h.rest (Some phase) = subst (CauseOf c t (world_after c es) h.rest) at (h.causes t lt) in
+      subst (λ (ws : List World). HasCulpritAmong c ws t phase) (sym h.is)
+      (subst (λ (s : Next Phase). WaitsForAnother c (world_after c es) h.rest t phase s) e
+      ((phase_keeps c phase).waits lim (world_after c es) h.rest (whole_rule es) t lt hook at cause))
 
   -- an operation that was refused has added what its refusals add
   refused_adds : (op : Op) (trace : List Traced) (comes : Next Phase) (added : List Action) (refusal : GateError) →

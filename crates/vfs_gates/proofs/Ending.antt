@@ -1,9 +1,9 @@
 -- The words of gates that are closed.
-use Rattle.std.proofs.Common.{◌≡◌, ℕ, ◌*◌, ◌%◌, ◌<◌, List, ap, ◌∙◌, arith}
-use Rattle.std.specs.Prelude.{None, slice_index}
+use Rattle.std.proofs.Common.{◌≡◌, ℕ, ◌*◌, ◌%◌, ◌<◌, List, ap, ◌∙◌, arith, ◌≤◌, Bool}
+use Rattle.std.specs.Prelude.{if◌then◌else◌, None, slice_index}
 use Rattle.finite_sums.specs.Sums.{total}
 use Rattle.finite_sums.proofs.Totals.{total_same, total_none}
-use Rattle.cpu_words.specs.declared.names.WordName.TheVariants.{Umount, Remount, MountFlags, MountCount}
+use Rattle.cpu_words.specs.declared.names.WordName.TheVariants.{Umount, Remount, MountFlags, MountCount, Section, LevelCount}
 use Rattle.cpu_words.specs.Names.{place}
 use Rattle.mount_counts.specs.Roles.{hold_bit}
 use Rattle.gate_world.specs.declared.config.Config.{Config}
@@ -36,4 +36,17 @@ module _ (c : Config) (ws : List ℕ) (e : Ended c ws) where
   sums_to_none m lm =
       ap (λ s. s % 18446744073709551616) (total_same c.processors _ (e.world.words.count m)
       (λ p lp. e.ruled.words (MountCount m p) (lm, lp))) ∙
-      (idle_sums c e.ruled.within e.world e.ruled.good idle m lm ∙ total_none c.tasks _ (λ t lt. (e.still t lt).1.0 m lm))
+      ((idle_sums c e.ruled.within e.world e.ruled.good idle).mounts m lm ∙ total_none c.tasks _ (λ t lt. (e.still t lt).1.0 m lm))
+
+  -- and so do those of a level
+  pub level_sums_to_none : (i : ℕ) → 1 ≤ i → i ≤ 3 → total c.processors
+      (λ p. slice_index ws (16 * place (LevelCount i p))) % 18446744073709551616 ≡ 0
+  level_sums_to_none i l1 l3 =
+      ap (λ s. s % 18446744073709551616) (total_same c.processors _ (e.world.words.level i)
+      (λ p lp. e.ruled.words (LevelCount i p) (l1, l3, lp))) ∙
+      ((idle_sums c e.ruled.within e.world e.ruled.good idle).levels i l1 l3 ∙
+      total_none c.tasks _ (λ t lt. ap (λ (b : Bool). if b then 1 else 0) ((e.still t lt).1.1 i l1 l3)))
+
+  -- each section has ended
+  pub no_section : (t : ℕ) → t < c.tasks → slice_index ws (16 * place (Section t)) % 2 ≡ 0
+  no_section t lt = ap (λ n. n % 2) (e.ruled.words (Section t) lt) ∙ (at_rest c e.world e.ruled.good idle).sections_even t lt

@@ -1,5 +1,5 @@
 -- One event apart from the task: what it leaves of the fields, and which step it was.
-use Rattle.std.proofs.Common.{◌≡◌, ℕ, ◌<◌, Bool, List, [], ◌∷◌, refl, sym, ap, ◌∙◌, subst}
+use Rattle.std.proofs.Common.{◌≡◌, ℕ, ◌<◌, Bool, List, [], ◌∷◌, refl, sym, ap, ◌∙◌, subst, arith}
 use Rattle.std.specs.Prelude.{Option, Some, None, slice_index}
 use Rattle.access_model.specs.declared.actions.Action.{Action}
 use Rattle.access_model.specs.declared.replies.Next.{Next}
@@ -40,7 +40,7 @@ module _ (number : ℕ) (c : Config) (begins : Option Op) (phase : Phase) (acces
   word_inside : (l : SeatItems) → Ties number c begins (kept_at (Some phase) accesses) flags l → place (next_of phase hook).0 < words_in_all
   word_inside [] t = absurd t
   word_inside (x ∷ xs) t =
-      word_placed c t.within x.number (held_at x.view) (holds_level x.view) phase hook t.fits
+      word_placed c t.within x.number (held_at x.view) (holds_level x.view) (omega (arith, t.below, t.same_number)) phase hook t.fits
 
   -- the own number may do the event
   may_act : (l : SeatItems) → Ties number c begins (kept_at (Some phase) accesses) flags l → Acts c begins phase l

@@ -52,17 +52,18 @@ fn count_of(gate: Gate, cpu: u8) -> WordName
 }
 
 impl Closed {
-    ghost use Rattle.access_model.specs.declared.actions.Gate.TheVariants.{Mount};
-    ghost use Rattle.cpu_words.specs.declared.names.WordName.TheVariants.{Umount, Remount, MountFlags};
+    ghost use Rattle.access_model.specs.declared.actions.Gate.TheVariants.{Mount, Level};
+    ghost use Rattle.cpu_words.specs.declared.names.WordName.TheVariants.{Umount, Remount, MountFlags, Section};
 
     /// The value of a word; None where there is no such word.
     pub fn word(&self, name: WordName) -> Option<u64>
         ensures there { IsWord (extents_of self.now.config) name → result ≡ Some (slice_index self.now.words (16 * place name)) }
         ensures not_there { ¬ IsWord (extents_of self.now.config) name → result ≡ None }
-        // Nobody has `umount`, no remount is under way, and no mount holds writers off.
+        // Nobody has `umount`, no remount is under way, no mount holds writers off, and no read-side section is under way.
         ensures umount { name ≡ Umount → result ≡ Some 0 }
         ensures remount { name ≡ Remount → result ≡ Some 0 }
         ensures hold { (m : ℕ) → name ≡ MountFlags m → IfSome result (λ flags. flags < 2) }
+        ensures sections { (t : ℕ) → name ≡ Section t → IfSome result (λ word. word % 2 ≡ 0) }
     {
         if self.config.has_word(name) {
             Some(word_of(&self.closed, name))
@@ -78,8 +79,9 @@ impl Closed {
             result ≡ Some (total self.now.config.processors (λ cpu. slice_index self.now.words (16 * place (count_word gate cpu)))
             % 18446744073709551616) }
         ensures not_there { ¬ IsGate self.now.config gate → result ≡ None }
-        // Every access at a mount was given back, on whatever processors.
+        // Every access was given back, on whatever processors.
         ensures mounts { (m : ℕ) → gate ≡ Mount m → m < self.now.config.mounts → result ≡ Some 0 }
+        ensures levels { (i : ℕ) → gate ≡ Level i → 1 ≤ i → i ≤ 3 → result ≡ Some 0 }
     {
         if !self.config.has_word(count_of(gate, 0)) {
             return None;

@@ -1,7 +1,7 @@
 -- What fits after an event of a want.
 use Rattle.gate_world.specs.declared.work.Phase.TheVariants.{Mounts}
 use Rattle.access_model.specs.declared.replies.Next.{Next}
-use Rattle.std.proofs.Common.{ℕ, ◌<◌, Bool}
+use Rattle.std.proofs.Common.{◌≡◌, refl, ℕ, ◌<◌, Bool}
 use Rattle.std.specs.Prelude.{◌==◌, if◌then◌else◌, Some, None, Ok}
 use Rattle.access_model.specs.declared.actions.Action.TheVariants.{Grant}
 use Rattle.access_model.specs.declared.actions.Gate.TheVariants.{Mount}
@@ -22,6 +22,7 @@ use Rattle.gate_world.specs.Fits.{MountFits, Fits, ActionFits, mounts_by, levels
 use Rattle.gate_frames.proofs.Keeps.{by_bool}
 
 module _ (c : Config) (within : IsWithin c) (t : ℕ) (held : ℕ → ℕ) (levels : ℕ → Bool) where
+  -- the word of each event of a want is there
   pub want_there : (w : Want) (step : WantStep) → w.mount < c.mounts → w.cpu < c.processors → IsWord (extents_of c) (want_next w step).0
   want_there w CountsUp m p = (m, p)
   want_there w LoadsHold m p = m
@@ -30,6 +31,7 @@ module _ (c : Config) (within : IsWithin c) (t : ℕ) (held : ℕ → ℕ) (leve
   want_there w LoadsSuperblock m p = tt
   want_there w (CountsDown refusal) m p = (m, p)
 
+  -- its action can be done
   pub want_acts : (w : Want) (step : WantStep) (found : ℕ) → w.mount < 8 → held w.mount < 1024 → ActionFits held (want_after w step found).1
   want_acts w LoadsSuperblock found m room = by_bool (found == 0) (λ b. ActionFits held (if b then Some (Grant (Mount w.mount)) else None))
       (m, room) tt
@@ -60,3 +62,9 @@ module _ (c : Config) (within : IsWithin c) (t : ℕ) (held : ℕ → ℕ) (leve
       by_bool (has_flag found 1) (λ b. NextFits (if b then Go (at_want w (CountsDown ReadOnly)) else Go (at_want w LoadsSuperblock))) f f
   want_goes w LoadsSuperblock found f = by_bool (found == 0) (AnsweredFits w) tt f
   want_goes w (CountsDown refusal) found f = tt
+
+-- no event of a want moves a level
+pub want_leaves : (w : Want) (step : WantStep) (found : ℕ) (levels : ℕ → Bool) → levels_by (want_after w step found).1 levels ≡ levels
+want_leaves w LoadsSuperblock found levels =
+    by_bool (found == 0) (λ b. levels_by (if b then Some (Grant (Mount w.mount)) else None) levels ≡ levels) refl refl
+want_leaves w step found levels = refl

@@ -1,44 +1,65 @@
--- A want waits only where another task has HOLD set at its mount; a drop never waits.
+-- A want waits only where another task has HOLD set at its mount, whether it is an operation of its own or stands in a longer one.
 use Rattle.std.specs.Prelude.{List}
 use Rattle.std.proofs.Common.{◌≡◌, ℕ, ◌<◌, Bool, true, false, ap, inl, inr}
 use Rattle.std.proofs.lemmas.Bool.{cases_Bool}
 use Rattle.std.proofs.lemmas.Bool.Decides.{eqb_tells}
-use Rattle.cpu_words.specs.Hooks.{HookAnswer}
+use Rattle.access_model.specs.declared.replies.Next.{Next}
+use Rattle.access_model.specs.declared.replies.Next.TheVariants.{Go, Wait, Done}
+use Rattle.access_model.specs.Replies.{map_next}
+use Rattle.cpu_words.specs.Touches.{found_by}
+use Rattle.cpu_words.specs.Words.{read}
+use Rattle.mount_counts.specs.declared.phases.MountPhase.TheVariants.{Want as Wants}
+use Rattle.mount_counts.specs.declared.phases.Want.{Want}
 use Rattle.mount_counts.specs.declared.phases.WantStep.{WantStep}
 use Rattle.mount_counts.specs.declared.phases.WantStep.TheVariants.{CountsUp, LoadsHold, LoadsRemount, LoadsReadOnly, LoadsSuperblock, CountsDown}
-use Rattle.mount_counts.specs.Phases.{has_flag}
+use Rattle.mount_counts.specs.Phases.{has_flag, want_next, want_after, hold_found}
 use Rattle.mount_counts.specs.Roles.{has_hold}
 use Rattle.mount_laws.proofs.Bits.{hold_set}
 use Rattle.gate_world.specs.declared.config.Config.{Config}
 use Rattle.gate_world.specs.declared.work.Phase.TheVariants.{Mounts}
-use Rattle.gate_world.specs.Work.{after_of}
-use Rattle.gate_world.specs.Worlds.{World, found_at}
-use Rattle.gate_world.specs.Rules.{role_of, IsGood}
+use Rattle.gate_world.specs.Worlds.{World}
+use Rattle.gate_world.specs.Rules.{role_of, want_role, IsGood, AtMount}
 use Rattle.gate_world.specs.Waits.{HasCulprit, WaitsForAnother}
 use Rattle.gate_frames.proofs.Owners.{who_holds}
-use Rattle.want_laws.proofs.WantLoads.{want, want_here, IsAt, fits_here, mount_here}
 
-module _ (c : Config) (w : World) (good : IsGood c w) (t : ℕ) (lt : t < c.tasks) (m p : ℕ) (wait : Bool) (hook : HookAnswer) where
-  -- a want that found HOLD set, which is not its own
-  hold_found : IsAt c w good t lt m p wait hook LoadsHold → has_flag (w.words.flags m) 2 ≡ true →
-      HasCulprit c w t (Mounts (want m p wait LoadsHold))
-  hold_found e h =
-      let lm : m < c.mounts = (fits_here c w good t lt m p wait hook LoadsHold e).0 in
-      let who : (y : ℕ) × (y < c.tasks) × (y ≡ t → ⊥) × (has_hold (role_of m (w.views y).phase) ≡ 1) =
-      who_holds c w good t lt m lm (hold_set (w.words.flags m) (mount_here c w good t lt m p wait hook LoadsHold e).bits h)
-      (ap has_hold (want_here m p wait LoadsHold e)) in
+module _ (c : Config) (w : World) (good : IsGood c w) (t : ℕ) (lt : t < c.tasks) (x : Want) where
+  -- where this comes after an event of the want, it is no wait, or another task has HOLD set
+  abbrev pub NextWaits : Next Want → Type 0
+  NextWaits (Go y) = Unit {0}
+  NextWaits (Wait y) = HasCulprit c w t (Mounts (Wants x))
+  NextWaits (Done answer) = Unit {0}
+
+  -- HOLD was found set, and this task has not set it
+  holder : x.mount < c.mounts → has_hold (role_of x.mount (w.views t).phase) ≡ 0 → has_flag (w.words.flags x.mount) 2 ≡ true →
+      HasCulprit c w t (Mounts (Wants x))
+  holder there mine h =
+      let who : (y : ℕ) × (y < c.tasks) × (y ≡ t → ⊥) × (has_hold (role_of x.mount (w.views y).phase) ≡ 1) =
+      who_holds c w good t lt x.mount there (hold_set (w.words.flags x.mount) (good (AtMount x.mount) there).bits h) mine in
       record { task = who.0; there = who.1; other = who.2; stands = who.3 }
 
-module _ (c : Config) (w : World) (earlier : List World) (good : IsGood c w) (t : ℕ) (lt : t < c.tasks) (m p : ℕ) (hook : HookAnswer) where
+  -- so, where the want waits, another task has it set
+  hold_waits : (b : Bool) → x.mount < c.mounts → has_hold (role_of x.mount (w.views t).phase) ≡ 0 →
+      has_flag (w.words.flags x.mount) 2 ≡ true → NextWaits (hold_found x b)
+  hold_waits true there mine h = holder there mine h
+  hold_waits false there mine h = tt
+
   -- each step of a want
-  pub want_waits : (wait : Bool) (s : WantStep) → IsAt c w good t lt m p wait hook s →
-      WaitsForAnother c w earlier t (Mounts (want m p wait s))
-      (after_of (Mounts (want m p wait s)) (found_at w.words (Mounts (want m p wait s)) hook) hook).0
-  want_waits wait CountsUp e = tt
-  want_waits true LoadsHold e =
-      elim (cases_Bool (has_flag (w.words.flags m) 2)) [ inl h ↦ rw h (hold_found c w good t lt m p true hook e h) | inr h ↦ rw h tt ]
-  want_waits false LoadsHold e = elim (cases_Bool (has_flag (w.words.flags m) 2)) [ inl h ↦ rw h tt | inr h ↦ rw h tt ]
-  want_waits wait LoadsRemount e = elim (eqb_tells w.words.remount 0) [ inl h ↦ rw h.0 tt | inr h ↦ rw h.0 tt ]
-  want_waits wait LoadsReadOnly e = elim (cases_Bool (has_flag (w.words.flags m) 1)) [ inl h ↦ rw h tt | inr h ↦ rw h tt ]
-  want_waits wait LoadsSuperblock e = elim (eqb_tells w.words.sb 0) [ inl h ↦ rw h.0 tt | inr h ↦ rw h.0 tt ]
-  want_waits wait (CountsDown refusal) e = tt
+  pub want_waits : (s : WantStep) → x.mount < c.mounts → role_of x.mount (w.views t).phase ≡ want_role x.cpu s →
+      NextWaits (want_after x s (found_by (want_next x s).1 (read w.words (want_next x s).0))).0
+  want_waits CountsUp there e = tt
+  want_waits LoadsHold there e =
+      elim (cases_Bool (has_flag (w.words.flags x.mount) 2)) [
+        | inl h ↦ rw h (hold_waits x.wait there (ap has_hold e) h)
+        | inr h ↦ rw h tt
+      ]
+  want_waits LoadsRemount there e = elim (eqb_tells w.words.remount 0) [ inl h ↦ rw h.0 tt | inr h ↦ rw h.0 tt ]
+  want_waits LoadsReadOnly there e = elim (cases_Bool (has_flag (w.words.flags x.mount) 1)) [ inl h ↦ rw h tt | inr h ↦ rw h tt ]
+  want_waits LoadsSuperblock there e = elim (eqb_tells w.words.sb 0) [ inl h ↦ rw h.0 tt | inr h ↦ rw h.0 tt ]
+  want_waits (CountsDown refusal) there e = tt
+
+  -- so it is of a want's own operation
+  pub next_waits : (earlier : List World) (n : Next Want) → NextWaits n →
+      WaitsForAnother c w earlier t (Mounts (Wants x)) (map_next Mounts (map_next Wants n))
+  next_waits earlier (Go y) h = tt
+  next_waits earlier (Wait y) h = h
+  next_waits earlier (Done answer) h = tt

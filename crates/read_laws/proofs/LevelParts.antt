@@ -1,0 +1,181 @@
+-- What an event at a freeze level leaves alone, where it leaves the word `block` of each.
+use Rattle.gate_frames.proofs.Known.{known_same}
+use Rattle.gate_world.specs.Owners.{KnowsWords}
+use Rattle.mount_counts.specs.Roles.{ro_bit, Out}
+use Rattle.access_model.specs.declared.replies.Next.TheVariants.{Go, Wait, Done}
+use Rattle.finite_sums.proofs.Totals.{update_same, each_updated}
+use Rattle.gate_frames.proofs.Frames.{shown_as, left_alone, view_as}
+use Rattle.gate_world.specs.Remounts.{on_nothing}
+use Rattle.gate_world.specs.Shown.{closing, shown, node_shown}
+use Rattle.finite_sums.specs.Sums.{update}
+use Rattle.access_model.specs.Replies.{map_next}
+use Rattle.gate_world.specs.Worlds.{World}
+use Rattle.gate_world.specs.declared.work.Phase.TheVariants.{UpReads, DownReads}
+use Rattle.percpu_rwsem.specs.declared.readers.DownRead.{DownRead}
+use Rattle.gate_world.specs.Levels.{is_frozen_whole, sync_role_of, inside, at_level}
+use Rattle.gate_world.specs.Views.{held_at, added_by, phase_after, taken_by, holds_level}
+use Rattle.gate_world.specs.Rules.{owns, remounts, IsGood, relied, Holds, ViewFits, Owner, Known, AtMount, AtLevel, role_of, SyncAt, Sections, Superblock, Stages, Fitting, Relying, Nodes}
+use Rattle.gate_world.specs.declared.config.Config.{Config}
+use Rattle.percpu_rwsem.specs.declared.readers.UpRead.{UpRead}
+use Rattle.access_model.specs.declared.replies.Next.{Next}
+use Rattle.gate_world.specs.declared.views.View.{View}
+use Rattle.gate_world.specs.declared.work.Phase.{Phase}
+use Rattle.cpu_words.specs.Words.{Words}
+use Rattle.std.proofs.Common.{◌≡◌, ℕ, ◌<◌, refl, sym, ap, ◌∙◌, arith}
+use Rattle.std.specs.Prelude.{◌==◌, ◌&&◌, ◌||◌, if◌then◌else◌, Option, Some}
+
+-- the words that are no level's own are as they were, and so is `block`
+pub record IsBeside (old new : Words) : Type 0 where
+  pub umount_same : new.umount ≡ old.umount
+  pub remount_same : new.remount ≡ old.remount
+  pub sb_same : new.sb ≡ old.sb
+  pub stage_same : new.stage ≡ old.stage
+  pub flags_same : new.flags ≡ old.flags
+  pub count_same : new.count ≡ old.count
+  pub node_same : new.node ≡ old.node
+  pub block_same : new.block ≡ old.block
+
+-- a phase at levels alone: it owns nothing, relies on nothing, closes no level and has no role at a mount
+pub record IsAtLevels (p : Option Phase) : Type 0 where
+  pub owns_none : owns p ≡ 0
+  pub remounts_none : remounts p ≡ 0
+  pub relies_none : relied p ≡ on_nothing
+  pub closes_none : (i : ℕ) → closing i p ≡ 0
+  pub out_of_mounts : (m : ℕ) → role_of m p ≡ Out
+
+-- a view's accesses at mounts, and what it added to their words and took away, are as they were
+pub record SameAtMounts (old new : View) : Type 0 where
+  pub held_same : held_at new ≡ held_at old
+  pub added_same : added_by new.events ≡ added_by old.events
+  pub taken_same : taken_by new.events ≡ taken_by old.events
+
+-- frozen or not as before
+pub whole_same : (old new : Words) → IsBeside old new → is_frozen_whole new ≡ is_frozen_whole old
+whole_same old new words = λ k. if words.stage_same k == 4 && words.sb_same k == 0 then 1 else 0
+
+-- what is there after a down-read's event is at levels alone
+pub reads_at_levels : (next : Next DownRead) → IsAtLevels (phase_after (map_next DownReads next))
+reads_at_levels (Go r) = record {
+  owns_none = refl;
+  remounts_none = refl;
+  relies_none = refl;
+  closes_none = λ i. refl;
+  out_of_mounts = λ m. refl;
+}
+reads_at_levels (Wait r) = record {
+  owns_none = refl;
+  remounts_none = refl;
+  relies_none = refl;
+  closes_none = λ i. refl;
+  out_of_mounts = λ m. refl;
+}
+reads_at_levels (Done answer) = record {
+  owns_none = refl;
+  remounts_none = refl;
+  relies_none = refl;
+  closes_none = λ i. refl;
+  out_of_mounts = λ m. refl;
+}
+
+-- so is an up-read
+pub end_at_levels : (u : UpRead) → IsAtLevels (Some (UpReads u))
+end_at_levels u = record {
+  owns_none = refl;
+  remounts_none = refl;
+  relies_none = refl;
+  closes_none = λ i. refl;
+  out_of_mounts = λ m. refl;
+}
+
+module _ (c : Config) (w : World) (good : IsGood c w) (t : ℕ) (lt : t < c.tasks) (ws : Words) (v : View) (words : IsBeside w.words ws)
+    (was : IsAtLevels (w.views t).phase) (now : IsAtLevels v.phase) where
+  -- the world after the event
+  abbrev pub then_world : World
+  then_world = record { words = ws; views = update w.views t v }
+
+  -- the owner of `umount` is no such task, and its words are as they were
+  owner_left : Holds c then_world Owner
+  owner_left =
+      left_alone c w t lt Owner ws v (words.umount_same, words.remount_same)
+      (now.owns_none ∙ sym was.owns_none, now.remounts_none ∙ sym was.remounts_none) (good Owner)
+
+  -- so what it knows is there
+  known_left : Holds c then_world Known
+  known_left x lx =
+      each_updated (λ y (u : View). owns u.phase ≡ 1 → KnowsWords ws u.trace) w.views t v x
+      (λ o. absurd (omega (arith, o, now.owns_none)))
+      (λ ne o. known_same w.words ws (words.stage_same, words.sb_same, words.remount_same, words.flags_same) (w.views x).trace
+      (good Known x lx o))
+
+  -- each mount
+  mount_left : SameAtMounts (w.views t) v → (m : ℕ) → Holds c then_world (AtMount m)
+  mount_left mounts m =
+      left_alone c w t lt (AtMount m) ws v
+      (ap (λ f. f m) words.flags_same, words.remount_same, words.sb_same, ap (λ f. f m) words.count_same)
+      (view_as (ap (λ f. f m) mounts.held_same) (ap (λ f. f m) mounts.added_same) (ap (λ f. f m) mounts.taken_same)
+      (now.out_of_mounts m ∙ sym (was.out_of_mounts m))) (good (AtMount m))
+
+  -- all parts, from those of the levels
+  pub level_parts : SameAtMounts (w.views t) v → ViewFits c t v → ((i : ℕ) → Holds c then_world (AtLevel i)) →
+      ((i : ℕ) → Holds c then_world (SyncAt i)) → Holds c then_world Sections → IsGood c then_world
+  level_parts mounts fits levels syncs sections Owner = owner_left
+  level_parts mounts fits levels syncs sections Superblock = left_alone c w t lt Superblock ws v words.sb_same tt (good Superblock)
+  level_parts mounts fits levels syncs sections Stages = left_alone c w t lt Stages ws v words.stage_same tt (good Stages)
+  level_parts mounts fits levels syncs sections Fitting = λ x lx.
+      each_updated (λ y (u : View). ViewFits c y u) w.views t v x fits (λ ne. good Fitting x lx)
+  level_parts mounts fits levels syncs sections Known = known_left
+  level_parts mounts fits levels syncs sections Relying =
+      left_alone c w t lt Relying ws v (words.stage_same, words.sb_same) (now.relies_none ∙ sym was.relies_none) (good Relying)
+  level_parts mounts fits levels syncs sections Nodes = left_alone c w t lt Nodes ws v words.node_same tt (good Nodes)
+  level_parts mounts fits levels syncs sections (AtMount m) = mount_left mounts m
+  level_parts mounts fits levels syncs sections (AtLevel i) = levels i
+  level_parts mounts fits levels syncs sections (SyncAt i) = syncs i
+  level_parts mounts fits levels syncs sections Sections = sections
+
+  -- a level is closed as before
+  pub closing_same : (i : ℕ) → closing i v.phase ≡ closing i (w.views t).phase
+  closing_same i = now.closes_none i ∙ sym (was.closes_none i)
+
+  -- the shown model, where the task's accesses at levels alone may be others
+  pub level_shown : SameAtMounts (w.views t) v → shown c then_world ≡
+      record (shown c w) {
+        mounts = update (λ x. held_at (w.views x)) t (held_at (w.views t));
+        levels = update (λ x. holds_level (w.views x)) t (holds_level v);
+      }
+  level_shown mounts =
+      shown_as c w t lt ws v words.block_same closing_same ∙
+      (λ j. record (shown c w) {
+        mounts = update (λ x. held_at (w.views x)) t (mounts.held_same j);
+        levels = update (λ x. holds_level (w.views x)) t (holds_level v);
+        mount_ro = λ m. ro_bit (words.flags_same j m) == 1;
+        sb_ro = words.remount_same j == 1 || words.sb_same j == 1;
+        stage = words.stage_same j;
+        tree = λ n. node_shown (words.node_same j n);
+      })
+
+  -- and where they are as they were
+  pub level_still : SameAtMounts (w.views t) v → holds_level v ≡ holds_level (w.views t) → shown c then_world ≡ shown c w
+  level_still mounts el =
+      level_shown mounts ∙
+      (λ j. record (shown c w) {
+        mounts = update_same (λ x. held_at (w.views x)) t j;
+        levels = (ap (update (λ x. holds_level (w.views x)) t) el ∙ update_same (λ x. holds_level (w.views x)) t) j;
+      })
+
+  -- the rcu_sync of a level, where the task's part in it is as it was
+  pub sync_left_at : ws.sync ≡ w.words.sync → ws.section ≡ w.words.section →
+      ((i : ℕ) → sync_role_of i v.phase ≡ sync_role_of i (w.views t).phase) → (i : ℕ) → Holds c then_world (SyncAt i)
+  sync_left_at syncs section same i =
+      left_alone c w t lt (SyncAt i) ws v
+      (ap (λ f. f i) syncs, ap (λ f. f i) words.block_same, section, whole_same w.words ws words) (same i) (good (SyncAt i))
+
+  -- and the sections, where it is inside one or not as before
+  pub sections_left_at : ws.section ≡ w.words.section → inside v.phase ≡ inside (w.views t).phase → Holds c then_world Sections
+  sections_left_at section same = left_alone c w t lt Sections ws v section same (good Sections)
+
+  -- the counts of a level, where the task counts there as it did
+  pub counts_left_at : ws.level ≡ w.words.level → ((i : ℕ) → at_level i v ≡ at_level i (w.views t)) → (i : ℕ) →
+      Holds c then_world (AtLevel i)
+  counts_left_at counts same i =
+      left_alone c w t lt (AtLevel i) ws v
+      (ap (λ f. f i) words.block_same, ap (λ f. f i) counts, whole_same w.words ws words) (same i) (good (AtLevel i))

@@ -1,0 +1,14 @@
+pub mod LevelWorlds
+pub mod ReadLevels
+pub mod LevelParts
+pub mod LevelCounts
+pub mod CallbackEvents
+pub mod ReadEvents
+pub mod EndEvents
+pub mod ReadTraces
+pub mod ReadFits
+pub mod CallbackTraces
+pub mod ReadCauses
+pub mod ReadWaits
+pub mod ReadKeeps
+pub mod CallbackKeeps
