@@ -1,5 +1,5 @@
 -- Worked schedules, by computing, on two processors and one mount.
-use Rattle.std.proofs.Common.{◌≡◌, ℕ, true, List, [], ◌∷◌, ◌++◌, refl}
+use Rattle.std.proofs.Common.{◌≡◌, ℕ, true, List, [], ◌∷◌, ◌++◌, refl, false}
 use Rattle.std.specs.Prelude.{Ok, Err, replicate}
 use Rattle.access_model.specs.declared.actions.Action.TheVariants.{Grant, Return, MountRo}
 use Rattle.access_model.specs.declared.actions.Gate.TheVariants.{Mount, Level}
