@@ -150,7 +150,7 @@ fn a_remount_asks_the_file_system_once(rt: HostRuntime) -> Result<(), Fail> {
     Ok(())
 }
 
-/// Levels are gone into from below, and what asks for no level is refused inside one.
+/// Levels are gone into from below; what asks for no level is refused inside one.
 #[test]
 fn levels_are_gone_into_from_below(rt: HostRuntime) -> Result<(), Fail> {
     let mut core = Core::new(rt.alloc(), small())?;
