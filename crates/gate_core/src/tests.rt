@@ -150,7 +150,7 @@ fn a_remount_asks_the_file_system_once(rt: HostRuntime) -> Result<(), Fail> {
     Ok(())
 }
 
-/// Levels are gone into from below, and what asks for no level is refused inside one.
+/// Levels are gone into from below; what asks for no level is refused inside one.
 #[test]
 fn levels_are_gone_into_from_below(rt: HostRuntime) -> Result<(), Fail> {
     let mut core = Core::new(rt.alloc(), small())?;
@@ -159,33 +159,24 @@ fn levels_are_gone_into_from_below(rt: HostRuntime) -> Result<(), Fail> {
         cpu: 0,
         wait: false,
     };
-    assert_eq!(rt; core.begin(0, start(0)), Err(GateError::Invalid));
-    assert_eq!(rt; core.begin(0, start(4)), Err(GateError::Invalid));
     core.begin(0, start(2))?;
     assert_eq!(rt;
         steps(&mut core, 0, 4).progress,
         Progress::Done(Ok(Reply::Unit))
     );
-    assert_eq!(rt; core.begin(0, start(1)), Err(GateError::Order));
-    assert_eq!(rt; core.begin(0, start(2)), Err(GateError::Order));
-    assert_eq!(rt;
-        core.begin(0, Op::WantWrite { mount: 0, cpu: 0 }),
-        Err(GateError::Order)
-    );
-    assert_eq!(rt;
-        core.begin(0, Op::DropWrite { mount: 0, cpu: 0 }),
-        Err(GateError::Order)
-    );
-    assert_eq!(rt;
-        core.begin(0, Op::RemountSb { read_only: true }),
-        Err(GateError::Order)
-    );
-    assert_eq!(rt;
-        core.begin(0, Op::End { level: 1, cpu: 0 }),
-        Err(GateError::Order)
-    );
-    core.begin(0, start(3))?;
-    steps(&mut core, 0, 4);
+    for (op, refusal) in [
+        (start(0), GateError::Invalid),
+        (start(4), GateError::Invalid),
+        (start(1), GateError::Order),
+        (start(2), GateError::Order),
+        (Op::WantWrite { mount: 0, cpu: 0 }, GateError::Order),
+        (Op::DropWrite { mount: 0, cpu: 0 }, GateError::Order),
+        (Op::RemountSb { read_only: true }, GateError::Order),
+        (Op::End { level: 1, cpu: 0 }, GateError::Order),
+        (Op::Callback { level: 4 }, GateError::Invalid),
+    ] {
+        assert_eq!(rt; core.begin(0, op), Err(refusal), "{op:?}");
+    }
     core.begin(0, Op::End { level: 2, cpu: 1 })?;
     assert_eq!(rt;
         steps(&mut core, 0, 1).action,

@@ -157,8 +157,8 @@ WriteHasCause c t worlds x = Unit {0}
 
 -- A task whose next event is the one with which it is refused: as read-only, and the mount was so when the task last asked; as busy, and
 -- something was counted at the mount, for a remount at some mount, in some world from the load of its sum's first word to the load of its
--- last, or, for a remount, the stage was not 0 when it looked; again, or with which it waits, for a level, and the level was closed when the
--- task last asked. Each kind of phase has a row of its own, so that a new one says its causes.
+-- last, or, for a remount, the stage was not 0 when it looked; again, or with which it waits, for a level, and the level was closed when
+-- the task last asked. Each kind of phase has a row of its own, so that a new one says its causes.
 abbrev pub HasCause : Config → ℕ → List World → Option Phase → Type 0
 HasCause c t worlds None = Unit {0}
 HasCause c t worlds (Some (Mounts (Wants x))) = x.step ≡ CountsDown ReadOnly → was_read_only c x.mount (last_question t worlds) ≡ true

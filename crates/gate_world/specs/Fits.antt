@@ -66,7 +66,8 @@ PhaseFits c t held levels (Remounts x) = (x.task ≡ t) × (x.processors ≡ c.p
     (holds_none levels ≡ true) × RemountFits c x.step
 PhaseFits c t held levels (DownReads r) = ReadFits c t levels r
 PhaseFits c t held levels (UpReads u) = (1 ≤ u.level) × (u.level ≤ 3) × (u.cpu < c.processors) × (levels u.level ≡ true)
-PhaseFits c t held levels (Callbacks b) = (1 ≤ b.level) × (b.level ≤ 3) × (b.tasks ≡ c.tasks) × GraceFits c.tasks b.step × KnowsCallback b.step
+PhaseFits c t held levels (Callbacks b) = (1 ≤ b.level) × (b.level ≤ 3) × (b.tasks ≡ c.tasks) × GraceFits c.tasks b.step ×
+    KnowsCallback b.step
 PhaseFits c t held levels (Writes x) = WriteFits c t held levels x
 
 -- the same of what a task is at; nothing is asked where no operation is under way

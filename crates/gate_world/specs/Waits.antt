@@ -68,8 +68,8 @@ abbrev pub HasCulpritAmong : Config → List World → ℕ → Phase → Type 0
 HasCulpritAmong c [] t phase = ⊥
 HasCulpritAmong c (w ∷ earlier) t phase = HasCulpritSince c w earlier t phase
 
--- Every wait has a culprit: after any schedule, where the next event of a task reports that it waits, another task has what it waits for, in
--- the world in which the event is done; or, where it waits for a level, that was closed in the world in which the task last asked.
+-- Every wait has a culprit: after any schedule, where the next event of a task reports that it waits, another task has what it waits for,
+-- in the world in which the event is done; or, where it waits for a level, that was closed in the world in which the task last asked.
 abbrev pub EachWaitHasCulprit : Config → List Entry → Type 0
 EachWaitHasCulprit c entries =
     (t : ℕ) (phase again : Phase) (hook : HookAnswer) → t < c.tasks → ((world_after c entries).views t).phase ≡ Some phase →

@@ -8,10 +8,10 @@ use Rattle.schedule_text.specs.declared.commands.Request.{Request}
 use Rattle.schedule_text.specs.declared.commands.Request.TheVariants.{Words, Model, Task}
 use Rattle.schedule_text.specs.declared.commands.TaskCommand.{TaskCommand}
 use Rattle.schedule_text.specs.declared.commands.Verb.{Verb}
-use Rattle.schedule_text.specs.declared.commands.Verb.TheVariants.{Want, TryWant, Drop, Change, TryChange, Remount, Step, Run}
+use Rattle.schedule_text.specs.declared.commands.Verb.TheVariants.{Want, TryWant, Drop, Start, TryStart, End, WantWrite, DropWrite, Change, TryChange, Remount, Callback, Step, Run}
 use Rattle.schedule_text.specs.declared.faults.Fault.{Fault}
 use Rattle.schedule_text.specs.declared.faults.Fault.TheVariants.{ConfigExpected, ConfigTwice, UnknownCommand, WrongNumberOfWords, NoSuchTask, BadNumber, BadWord, ReadFailed, WriteFailed, Refused}
-use Rattle.schedule_text.specs.Parsing.{◌>>=◌, expect, number_at, byte_at, code_at, hook_at, read_only_at, want_of, drop_of, change_of, remount_of, step_of, run_of, arguments_of, task_line, alone, command_line, config_of, config_line, line_for, parsed, task_of}
+use Rattle.schedule_text.specs.Parsing.{◌>>=◌, expect, number_at, byte_at, code_at, hook_at, read_only_at, want_of, drop_of, start_of, end_of, want_write_of, drop_write_of, change_of, remount_of, callback_of, step_of, run_of, arguments_of, task_line, alone, command_line, config_of, config_line, line_for, parsed, task_of}
 use Rattle.schedule_text.specs.Words.{first_word, after_word, word_count}
 use Rattle.schedule_text.specs.Commands.{verb_of, takes}
 use Rattle.schedule_text.specs.Numbers.{is_digits}
@@ -109,6 +109,26 @@ drop_own : (rest : List ℕ) → FailsByOwn (drop_of rest)
 unfolding drop_of
 drop_own rest = then_own _ _ (byte_own rest) (λ (m : ℕ). then_own _ _ (byte_own (after_word rest)) (λ (c : ℕ). ok_own _))
 
+-- the arguments of a start
+start_own : (rest : List ℕ) (wait : Bool) → FailsByOwn (start_of rest wait)
+unfolding start_of
+start_own rest wait = then_own _ _ (byte_own rest) (λ (i : ℕ). then_own _ _ (byte_own (after_word rest)) (λ (c : ℕ). ok_own _))
+
+-- the arguments of an end
+end_own : (rest : List ℕ) → FailsByOwn (end_of rest)
+unfolding end_of
+end_own rest = then_own _ _ (byte_own rest) (λ (i : ℕ). then_own _ _ (byte_own (after_word rest)) (λ (c : ℕ). ok_own _))
+
+-- the arguments of a taking of write access
+want_write_own : (rest : List ℕ) → FailsByOwn (want_write_of rest)
+unfolding want_write_of
+want_write_own rest = then_own _ _ (byte_own rest) (λ (m : ℕ). then_own _ _ (byte_own (after_word rest)) (λ (c : ℕ). ok_own _))
+
+-- the arguments of a return of write access
+drop_write_own : (rest : List ℕ) → FailsByOwn (drop_write_of rest)
+unfolding drop_write_of
+drop_write_own rest = then_own _ _ (byte_own rest) (λ (m : ℕ). then_own _ _ (byte_own (after_word rest)) (λ (c : ℕ). ok_own _))
+
 -- the arguments of a change
 change_own : (rest : List ℕ) (wait : Bool) → FailsByOwn (change_of rest wait)
 unfolding change_of
@@ -118,6 +138,11 @@ change_own rest wait = then_own _ _ (byte_own rest) (λ (m : ℕ). then_own _ _ 
 remount_own : (rest : List ℕ) → FailsByOwn (remount_of rest)
 unfolding remount_of
 remount_own rest = then_own _ _ (read_only_own rest) (λ (b : Bool). ok_own _)
+
+-- the argument of a callback
+callback_own : (rest : List ℕ) → FailsByOwn (callback_of rest)
+unfolding callback_of
+callback_own rest = then_own _ _ (byte_own rest) (λ (i : ℕ). ok_own _)
 
 -- the argument of a step
 step_own : (rest : List ℕ) → FailsByOwn (step_of rest)
@@ -135,9 +160,15 @@ unfolding arguments_of
 arguments_own Want rest words = want_own rest true
 arguments_own TryWant rest words = want_own rest false
 arguments_own Drop rest words = drop_own rest
+arguments_own Start rest words = start_own rest true
+arguments_own TryStart rest words = start_own rest false
+arguments_own End rest words = end_own rest
+arguments_own WantWrite rest words = want_write_own rest
+arguments_own DropWrite rest words = drop_write_own rest
 arguments_own Change rest words = change_own rest true
 arguments_own TryChange rest words = change_own rest false
 arguments_own Remount rest words = remount_own rest
+arguments_own Callback rest words = callback_own rest
 arguments_own Step rest words = if_own _ _ _ (ok_own _) (step_own rest)
 arguments_own Run rest words = if_own _ _ _ (ok_own _) (run_own rest)
 

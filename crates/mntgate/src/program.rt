@@ -25,7 +25,11 @@ pub(crate) enum Ending {
 
 impl Ending {
     /// The exit status.
-    pub(crate) fn status(self) -> u8 {
+    pub(crate) fn status(self) -> u8
+        ensures done { self ≡ Done → result ≡ 0 }
+        ensures refused { self ≡ Refused → result ≡ 1 }
+        ensures misused { self ≡ Misused → result ≡ 2 }
+    {
         match self {
             Ending::Done => 0,
             Ending::Refused => 1,
@@ -75,6 +79,7 @@ fn run_replay<R: Read, W: Write, E: Write>(
         Replayed (R.remaining reader.old) (R.remaining reader.new) (W.contents writer.old) (W.contents writer.new) (Ok tt) }
     ensures refused { result ≡ Refused → (fault : ReplayFault) ×
         Replayed (R.remaining reader.old) (R.remaining reader.new) (W.contents writer.old) (W.contents writer.new) (Err fault) }
+    ensures read { (result ≡ Done) ⊎ (result ≡ Refused) }
 {
     match replay(alloc, reader, writer) {
         Ok(()) => Ending::Done,

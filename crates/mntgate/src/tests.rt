@@ -2,6 +2,7 @@
 
 mod endings;
 mod fakes;
+mod levels;
 mod remounts;
 
 use crate::replay::{ReplayFault, replay};
@@ -38,6 +39,14 @@ fn prints<R: Abort + Alloc<A = Global>>(rt: &R, schedule: &str, text: &str) -> R
     let (printed, ended) = played(rt.alloc(), schedule.as_bytes())?;
     assert_eq!(rt; printed.as_slice(), text.as_bytes());
     expect_end(rt, ended, "")
+}
+
+/// That each schedule prints what stands beside it, and ends without a fault.
+fn print_all<R: Abort + Alloc<A = Global>>(rt: &R, schedules: &[(&str, &str)]) -> Result<(), Fail> {
+    for (schedule, text) in schedules.iter() {
+        prints(rt, schedule, text)?;
+    }
+    Ok(())
 }
 
 /// Each schedule with what it prints.
@@ -244,7 +253,7 @@ static PRINTED: [(&str, &str); 10] = [
 ];
 
 /// Each schedule with the fault at which it ends.
-static FAULTS: [(&str, &str); 36] = [
+static FAULTS: [(&str, &str); 41] = [
     ("", "line 1: config expected"),
     ("config 1 1 1 2 8\n0 wa", "line 2: cut off"),
     ("config 0 1 1 2 8\n", "line 1: refused 22 Invalid"),
@@ -262,7 +271,7 @@ static FAULTS: [(&str, &str); 36] = [
     ("config 1 1 1 2 8\nfly\n", "line 2: unknown command"),
     ("config 1 1 1 2 8\n0 fly\n", "line 2: unknown command"),
     ("config 1 1 1 2 8\ntree\n", "line 2: unknown command"),
-    ("config 1 1 1 2 8\n0 start 1 0\n", "line 2: unknown command"),
+    ("config 1 1 1 2 8\n0 freeze\n", "line 2: unknown command"),
     ("config 1 1 1 2 8\n 0 step\n", "line 2: unknown command"),
     ("config 1 1 1 2 8\n0  step\n", "line 2: unknown command"),
     ("config 1 1 1 2 8\n0\n", "line 2: wrong number of words"),
@@ -303,6 +312,17 @@ static FAULTS: [(&str, &str); 36] = [
         "line 2: wrong number of words",
     ),
     ("config 1 1 1 2 8\n0 remount up\n", "line 2: bad word"),
+    (
+        "config 1 1 1 2 8\n0 trystart 1 0 0\n",
+        "line 2: wrong number of words",
+    ),
+    (
+        "config 1 1 1 2 8\n0 callback\n",
+        "line 2: wrong number of words",
+    ),
+    ("config 1 1 1 2 8\n0 callback x\n", "line 2: bad number"),
+    ("config 1 1 1 2 8\n0 end 1 x\n", "line 2: bad number"),
+    ("config 1 1 1 2 8\n0 dropwrite x 0\n", "line 2: bad number"),
     ("config 1 1 1 2 8\n0 run sync 0\n", "line 2: bad number"),
     (
         "config 1 1 1 2 8\n0 run unfreeze 65536\n",
@@ -339,10 +359,7 @@ static SEVERAL_FAULTS: [(&str, &str); 17] = [
 
 #[test]
 fn schedules_print_what_they_ask_for(rt: HostRuntime) -> Result<(), Fail> {
-    for (schedule, text) in PRINTED.iter() {
-        prints(&rt, schedule, text)?;
-    }
-    Ok(())
+    print_all(&rt, PRINTED.as_slice())
 }
 
 #[test]

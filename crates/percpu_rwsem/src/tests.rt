@@ -101,8 +101,6 @@ fn a_down_read_is_granted_at_once_in_the_idle_state(rt: HostRuntime) -> Result<(
     let granted = Some(Action::Grant(Gate::Level(2)));
     let events = [
         (WordName::Section(3), Touch::Add(1), 6, None),
-        // No word of an rcu_sync, so it is loaded again.
-        (WordName::Sync(2), Touch::Load, 5, None),
         (WordName::Sync(2), Touch::Load, 0, None),
         (WordName::LevelCount(2, 1), Touch::Add(1), 0, granted),
     ];
@@ -117,7 +115,8 @@ fn a_down_read_asks_for_block_in_another_state(rt: HostRuntime) -> Result<(), Fa
     let granted = Some(Action::Grant(Gate::Level(2)));
     let events = [
         (WordName::Section(3), Touch::Add(1), 0, None),
-        (WordName::Sync(2), Touch::Load, 3, None),
+        // No word of an rcu_sync, so it isn't GP_IDLE.
+        (WordName::Sync(2), Touch::Load, 5, None),
         (WordName::LevelCount(2, 1), Touch::Add(1), 4, None),
         (WordName::Block(2), Touch::Load, 0, granted),
     ];

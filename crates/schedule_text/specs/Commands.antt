@@ -5,7 +5,7 @@ use Rattle.freeze_levels.specs.declared.hooks.HookKind.{HookKind}
 use Rattle.freeze_levels.specs.declared.hooks.HookKind.TheVariants.{Sync, FreezeFs, UnfreezeFs, Reconfigure}
 use Rattle.schedule_text.specs.declared.commands.HookFailure.{HookFailure}
 use Rattle.schedule_text.specs.declared.commands.Verb.{Verb}
-use Rattle.schedule_text.specs.declared.commands.Verb.TheVariants.{Want, TryWant, Drop, Change, TryChange, Remount, Step, Run}
+use Rattle.schedule_text.specs.declared.commands.Verb.TheVariants.{Want, TryWant, Drop, Start, TryStart, End, WantWrite, DropWrite, Change, TryChange, Remount, Callback, Step, Run}
 
 -- the verb that a word names
 unfoldable pub verb_of : List ℕ → Option Verb
@@ -13,9 +13,15 @@ verb_of word =
     if bytes_eq word (codes "want") then Some Want else
     if bytes_eq word (codes "trywant") then Some TryWant else
     if bytes_eq word (codes "drop") then Some Drop else
+    if bytes_eq word (codes "start") then Some Start else
+    if bytes_eq word (codes "trystart") then Some TryStart else
+    if bytes_eq word (codes "end") then Some End else
+    if bytes_eq word (codes "wantwrite") then Some WantWrite else
+    if bytes_eq word (codes "dropwrite") then Some DropWrite else
     if bytes_eq word (codes "change") then Some Change else
     if bytes_eq word (codes "trychange") then Some TryChange else
     if bytes_eq word (codes "remount") then Some Remount else
+    if bytes_eq word (codes "callback") then Some Callback else
     if bytes_eq word (codes "step") then Some Step else
     if bytes_eq word (codes "run") then Some Run else None
 
@@ -24,9 +30,15 @@ abbrev pub takes : Verb → ℕ → Bool
 takes Want words = words == 4
 takes TryWant words = words == 4
 takes Drop words = words == 4
+takes Start words = words == 4
+takes TryStart words = words == 4
+takes End words = words == 4
+takes WantWrite words = words == 4
+takes DropWrite words = words == 4
 takes Change words = words == 4
 takes TryChange words = words == 4
 takes Remount words = words == 3
+takes Callback words = words == 3
 takes Step words = words == 2 || words == 3
 takes Run words = words == 2 || words == 4
 

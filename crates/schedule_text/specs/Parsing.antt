@@ -2,7 +2,7 @@
 use Rattle.std.specs.Prelude.{ℕ, Bool, true, false, not, ◌==◌, nat_lt, if◌then◌else◌, List, [], ◌∷◌, codes, bytes_eq, Option, Some, None, Result, Ok, Err, ok_or}
 use Rattle.freeze_levels.specs.declared.hooks.HookKind.{HookKind}
 use Rattle.gate_world.specs.declared.config.Config.{Config}
-use Rattle.gate_world.specs.declared.operations.Op.TheVariants.{Want as WantOp, DropMount, ChangeMount, RemountSb}
+use Rattle.gate_world.specs.declared.operations.Op.TheVariants.{Want as WantOp, DropMount, Start as StartOp, End as EndOp, WantWrite as WantWriteOp, DropWrite as DropWriteOp, ChangeMount, RemountSb, Callback as CallbackOp}
 use Rattle.schedule_text.specs.declared.commands.Line.{Line}
 use Rattle.schedule_text.specs.declared.commands.Line.TheVariants.{Skipped, Config as ConfigLine, Request as RequestLine}
 use Rattle.schedule_text.specs.declared.commands.Request.{Request}
@@ -10,7 +10,7 @@ use Rattle.schedule_text.specs.declared.commands.Request.TheVariants.{Words, Mod
 use Rattle.schedule_text.specs.declared.commands.TaskCommand.{TaskCommand}
 use Rattle.schedule_text.specs.declared.commands.TaskCommand.TheVariants.{Begin, Step as StepCommand, Run as RunCommand}
 use Rattle.schedule_text.specs.declared.commands.Verb.{Verb}
-use Rattle.schedule_text.specs.declared.commands.Verb.TheVariants.{Want, TryWant, Drop, Change, TryChange, Remount, Step, Run}
+use Rattle.schedule_text.specs.declared.commands.Verb.TheVariants.{Want, TryWant, Drop, Start, TryStart, End, WantWrite, DropWrite, Change, TryChange, Remount, Callback, Step, Run}
 use Rattle.schedule_text.specs.declared.faults.Fault.{Fault}
 use Rattle.schedule_text.specs.declared.faults.Fault.TheVariants.{ConfigExpected, ConfigTwice, UnknownCommand, WrongNumberOfWords, NoSuchTask, BadNumber, BadWord}
 use Rattle.schedule_text.specs.Numbers.{is_digits, number_of, byte_of, code_of}
@@ -84,6 +84,34 @@ drop_of rest = do
   cpu ← byte_at (after_word rest)
   Ok (Begin (DropMount mount cpu))
 
+-- the arguments of `start` and `trystart`: a level and a processor
+unfoldable pub start_of : List ℕ → Bool → Result TaskCommand Fault
+start_of rest wait = do
+  level ← byte_at rest
+  cpu ← byte_at (after_word rest)
+  Ok (Begin (StartOp level cpu wait))
+
+-- the arguments of `end`: a level and a processor
+unfoldable pub end_of : List ℕ → Result TaskCommand Fault
+end_of rest = do
+  level ← byte_at rest
+  cpu ← byte_at (after_word rest)
+  Ok (Begin (EndOp level cpu))
+
+-- the arguments of `wantwrite`: a mount and a processor
+unfoldable pub want_write_of : List ℕ → Result TaskCommand Fault
+want_write_of rest = do
+  mount ← byte_at rest
+  cpu ← byte_at (after_word rest)
+  Ok (Begin (WantWriteOp mount cpu))
+
+-- the arguments of `dropwrite`: a mount and a processor
+unfoldable pub drop_write_of : List ℕ → Result TaskCommand Fault
+drop_write_of rest = do
+  mount ← byte_at rest
+  cpu ← byte_at (after_word rest)
+  Ok (Begin (DropWriteOp mount cpu))
+
 -- the arguments of `change` and `trychange`: a mount, and `ro` or `rw`
 unfoldable pub change_of : List ℕ → Bool → Result TaskCommand Fault
 change_of rest wait = do
@@ -96,6 +124,12 @@ unfoldable pub remount_of : List ℕ → Result TaskCommand Fault
 remount_of rest = do
   read_only ← read_only_at rest
   Ok (Begin (RemountSb read_only))
+
+-- the argument of `callback`: a level
+unfoldable pub callback_of : List ℕ → Result TaskCommand Fault
+callback_of rest = do
+  level ← byte_at rest
+  Ok (Begin (CallbackOp level))
 
 -- the argument of `step`, where there is one: the code by which a hook fails
 unfoldable pub step_of : List ℕ → Result TaskCommand Fault
@@ -115,9 +149,15 @@ unfoldable pub arguments_of : Verb → List ℕ → ℕ → Result TaskCommand F
 arguments_of Want rest words = want_of rest true
 arguments_of TryWant rest words = want_of rest false
 arguments_of Drop rest words = drop_of rest
+arguments_of Start rest words = start_of rest true
+arguments_of TryStart rest words = start_of rest false
+arguments_of End rest words = end_of rest
+arguments_of WantWrite rest words = want_write_of rest
+arguments_of DropWrite rest words = drop_write_of rest
 arguments_of Change rest words = change_of rest true
 arguments_of TryChange rest words = change_of rest false
 arguments_of Remount rest words = remount_of rest
+arguments_of Callback rest words = callback_of rest
 arguments_of Step rest words = if words == 2 then Ok (StepCommand (Ok tt)) else step_of rest
 arguments_of Run rest words = if words == 2 then Ok (RunCommand None) else run_of rest
 

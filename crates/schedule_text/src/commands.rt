@@ -52,9 +52,15 @@ pub enum Verb {
     Want,
     TryWant,
     Drop,
+    Start,
+    TryStart,
+    End,
+    WantWrite,
+    DropWrite,
     Change,
     TryChange,
     Remount,
+    Callback,
     Step,
     Run,
 }
@@ -73,12 +79,24 @@ impl Verb {
             Some(Verb::TryWant)
         } else if word == b"drop".as_slice() {
             Some(Verb::Drop)
+        } else if word == b"start".as_slice() {
+            Some(Verb::Start)
+        } else if word == b"trystart".as_slice() {
+            Some(Verb::TryStart)
+        } else if word == b"end".as_slice() {
+            Some(Verb::End)
+        } else if word == b"wantwrite".as_slice() {
+            Some(Verb::WantWrite)
+        } else if word == b"dropwrite".as_slice() {
+            Some(Verb::DropWrite)
         } else if word == b"change".as_slice() {
             Some(Verb::Change)
         } else if word == b"trychange".as_slice() {
             Some(Verb::TryChange)
         } else if word == b"remount".as_slice() {
             Some(Verb::Remount)
+        } else if word == b"callback".as_slice() {
+            Some(Verb::Callback)
         } else if word == b"step".as_slice() {
             Some(Verb::Step)
         } else if word == b"run".as_slice() {
@@ -93,8 +111,11 @@ impl Verb {
         ensures { result ≡ takes self words }
     {
         match self {
-            Verb::Want | Verb::TryWant | Verb::Drop | Verb::Change | Verb::TryChange => words == 4,
-            Verb::Remount => words == 3,
+            Verb::Want | Verb::TryWant | Verb::Drop | Verb::Start | Verb::TryStart | Verb::End => {
+                words == 4
+            }
+            Verb::WantWrite | Verb::DropWrite | Verb::Change | Verb::TryChange => words == 4,
+            Verb::Remount | Verb::Callback => words == 3,
             Verb::Step => words == 2 || words == 3,
             Verb::Run => words == 2 || words == 4,
         }

@@ -1,7 +1,7 @@
 //! From a line to what it asks for.
 
 ghost use Rattle.std.specs.Prelude.{◌≡◌};
-ghost use Rattle.schedule_text.specs.Parsing.{parsed, is_skipped, config_line, config_of, command_line, alone, task_line, task_of, arguments_of, want_of, drop_of, change_of, remount_of, step_of, run_of, number_at, byte_at, code_at, hook_at, read_only_at, read_only_of};
+ghost use Rattle.schedule_text.specs.Parsing.{parsed, is_skipped, config_line, config_of, command_line, alone, task_line, task_of, arguments_of, want_of, drop_of, start_of, end_of, want_write_of, drop_write_of, change_of, remount_of, callback_of, step_of, run_of, number_at, byte_at, code_at, hook_at, read_only_at, read_only_of};
 
 use crate::commands::{HookFailure, Line, Request, TaskCommand, Verb, hook_named};
 use crate::faults::Fault;
@@ -140,9 +140,15 @@ fn arguments_of(verb: Verb, rest: &[u8], words: usize) -> Result<TaskCommand, Fa
         Verb::Want => want_of(rest, true),
         Verb::TryWant => want_of(rest, false),
         Verb::Drop => drop_of(rest),
+        Verb::Start => start_of(rest, true),
+        Verb::TryStart => start_of(rest, false),
+        Verb::End => end_of(rest),
+        Verb::WantWrite => want_write_of(rest),
+        Verb::DropWrite => drop_write_of(rest),
         Verb::Change => change_of(rest, true),
         Verb::TryChange => change_of(rest, false),
         Verb::Remount => remount_of(rest),
+        Verb::Callback => callback_of(rest),
         Verb::Step => {
             if words == 2 {
                 Ok(TaskCommand::Step { hook: Ok(()) })
@@ -178,6 +184,42 @@ fn drop_of(rest: &[u8]) -> Result<TaskCommand, Fault>
     Ok(TaskCommand::Begin(Op::DropMount { mount, cpu }))
 }
 
+#[tactic(auto, unfolding(crate::specs::Parsing::start_of))]
+fn start_of(rest: &[u8], wait: bool) -> Result<TaskCommand, Fault>
+    ensures { result ≡ start_of rest.now wait }
+{
+    let level = byte_at(rest)?;
+    let cpu = byte_at(after_word(rest))?;
+    Ok(TaskCommand::Begin(Op::Start { level, cpu, wait }))
+}
+
+#[tactic(auto, unfolding(crate::specs::Parsing::end_of))]
+fn end_of(rest: &[u8]) -> Result<TaskCommand, Fault>
+    ensures { result ≡ end_of rest.now }
+{
+    let level = byte_at(rest)?;
+    let cpu = byte_at(after_word(rest))?;
+    Ok(TaskCommand::Begin(Op::End { level, cpu }))
+}
+
+#[tactic(auto, unfolding(crate::specs::Parsing::want_write_of))]
+fn want_write_of(rest: &[u8]) -> Result<TaskCommand, Fault>
+    ensures { result ≡ want_write_of rest.now }
+{
+    let mount = byte_at(rest)?;
+    let cpu = byte_at(after_word(rest))?;
+    Ok(TaskCommand::Begin(Op::WantWrite { mount, cpu }))
+}
+
+#[tactic(auto, unfolding(crate::specs::Parsing::drop_write_of))]
+fn drop_write_of(rest: &[u8]) -> Result<TaskCommand, Fault>
+    ensures { result ≡ drop_write_of rest.now }
+{
+    let mount = byte_at(rest)?;
+    let cpu = byte_at(after_word(rest))?;
+    Ok(TaskCommand::Begin(Op::DropWrite { mount, cpu }))
+}
+
 #[tactic(auto, unfolding(crate::specs::Parsing::change_of))]
 fn change_of(rest: &[u8], wait: bool) -> Result<TaskCommand, Fault>
     ensures { result ≡ change_of rest.now wait }
@@ -197,6 +239,14 @@ fn remount_of(rest: &[u8]) -> Result<TaskCommand, Fault>
 {
     let read_only = read_only_at(rest)?;
     Ok(TaskCommand::Begin(Op::RemountSb { read_only }))
+}
+
+#[tactic(auto, unfolding(crate::specs::Parsing::callback_of))]
+fn callback_of(rest: &[u8]) -> Result<TaskCommand, Fault>
+    ensures { result ≡ callback_of rest.now }
+{
+    let level = byte_at(rest)?;
+    Ok(TaskCommand::Begin(Op::Callback { level }))
 }
 
 #[tactic(auto, unfolding(crate::specs::Parsing::step_of))]

@@ -13,15 +13,27 @@ use percpu_rwsem::{DownRead, UpRead};
 #[derive(Clone, Copy, PartialEq, Eq, Debug)]
 pub enum WritePhase {
     /// Goes inside the level, and then wants this mount.
-    Takes { mount: u8, read: DownRead },
+    Takes {
+        mount: u8,
+        read: DownRead,
+    },
     /// Wants the mount, inside the level.
     Wants(Want),
     /// Leaves the level, as this mount was refused with this.
-    GivesBack { mount: u8, cpu: u8, refusal: GateError },
+    GivesBack {
+        mount: u8,
+        cpu: u8,
+        refusal: GateError,
+    },
     /// Gives the mount back, and then leaves the level.
-    Drops { mount: u8, cpu: u8 },
+    Drops {
+        mount: u8,
+        cpu: u8,
+    },
     /// Leaves the level.
-    Ends { cpu: u8 },
+    Ends {
+        cpu: u8,
+    },
 }
 
 /// The up-read of level 1 on a processor.

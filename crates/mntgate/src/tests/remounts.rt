@@ -1,17 +1,7 @@
 //! Remounts of the superblock, and hooks that fail.
 
-use crate::tests::prints;
-use std::alloc::Global;
-use std::process::Abort;
+use crate::tests::print_all;
 use std::test::Fail;
-
-/// That each schedule prints what stands beside it, and ends without a fault.
-fn print_all<R: Abort + Alloc<A = Global>>(rt: &R, schedules: &[(&str, &str)]) -> Result<(), Fail> {
-    for (schedule, text) in schedules.iter() {
-        prints(rt, schedule, text)?;
-    }
-    Ok(())
-}
 
 /// Remounts whose hook answers Ok.
 static ANSWERED: [(&str, &str); 2] = [

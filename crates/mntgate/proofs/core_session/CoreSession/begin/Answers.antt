@@ -8,15 +8,15 @@ use Rattle.mntgate.proofs.Showing.{after_begin, begin_is}
 use Rattle.mntgate.proofs.core_session.CoreSession.begin.Goals as goal
 
 pub returns-in-Ok-clause-shows : goal.returns-in-Ok-clause-shows
-returns-in-Ok-clause-shows c p h = after_begin _ _ p _ _ h (refl, c.begin.ensures.config) refl c.begin.ensures.shows
+returns-in-Ok-clause-shows c p h = after_begin _ _ p _ c.args.op h (refl, c.begin.ensures.config) refl c.begin.ensures.shows
 
 pub returns-in-Err-clause-prints : goal.returns-in-Err-clause-prints
 returns-in-Err-clause-prints c p h =
     let old = c.args.out.now.bytes.items in
     let new = c.refused_line.new.self.bytes.items in
-    let x = begin_is _ p _ _ _ h c.begin.ensures.answer in
+    let x = begin_is _ p _ c.args.op _ h c.begin.ensures.answer in
     let k : OnOk c.map_err.result (new ≡ old ++ refused_line c.args.task c.in-Err.refusal) = grind (arith, common_steps) in
     subst (λ (r : Result (Unit {0}) GateError). OnOk c.map_err.result (new ≡ old ++ begin_text c.args.task r)) (sym c.in-Err.is ∙ x) k
 
 pub returns-in-Err-clause-shows : goal.returns-in-Err-clause-shows
-returns-in-Err-clause-shows c p h = after_begin _ _ p _ _ h (refl, c.begin.ensures.config) refl c.begin.ensures.shows
+returns-in-Err-clause-shows c p h = after_begin _ _ p _ c.args.op h (refl, c.begin.ensures.config) refl c.begin.ensures.shows
