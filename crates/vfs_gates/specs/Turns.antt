@@ -14,6 +14,8 @@ use Rattle.gate_core.specs.declared.steps.Step.{Step}
 use Rattle.gate_core.specs.Answers.{progress_of}
 use Rattle.gate_steps.specs.Seating.{SeatItems}
 use Rattle.vfs_gates.specs.Ties.{Ties}
+use Rattle.percpu_rwsem.specs.declared.readers.DownRead.{DownRead}
+use Rattle.percpu_rwsem.specs.declared.readers.DownReadStep.{DownReadStep}
 use Rattle.write_access.specs.declared.phases.WritePhase.{WritePhase}
 
 -- what is kept of a task whose operation stands there
@@ -39,3 +41,7 @@ step_was event action next = record { event = Some event; action = action; progr
 -- what comes next of a taking or a return of write access, as phases
 abbrev pub of_write : Next WritePhase → Next Phase
 of_write next = map_next (λ phase. Writes phase) next
+
+-- a down-read of these parts
+abbrev pub down_read : ℕ → ℕ → ℕ → Bool → DownReadStep → DownRead
+down_read level cpu task wait step = record { level = level; cpu = cpu; task = task; wait = wait; step = step }

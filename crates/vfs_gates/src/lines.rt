@@ -6,7 +6,8 @@ ghost use Rattle.gate_world.specs.Views.{phase_after};
 ghost use Rattle.gate_world.specs.declared.operations.Op.{Op as OpType};
 ghost use Rattle.gate_world.specs.declared.work.Phase.TheVariants.{Writes};
 ghost use Rattle.vfs_gates.specs.TaskStates.{TaskState, task_state};
-ghost use Rattle.vfs_gates.specs.Turns.{IsTied, StayTied, of_write};
+ghost use Rattle.vfs_gates.specs.Turns.{IsTied, StayTied, of_write, down_read};
+ghost use Rattle.write_access.specs.declared.phases.WritePhase.TheVariants.{Takes, Drops};
 ghost use Rattle.vfs_gates.specs.Runs.{Goes, Went};
 
 use crate::gates::Gates;
@@ -212,36 +213,40 @@ fn want_then(
     go_on_if(gates, seat, accesses, next, goes_on)
 }
 
-/// Whether this is a taking of write access that begins.
-#[inline(always)]
-fn begins_to_take(phase: WritePhase) -> bool {
-    matches!(phase, WritePhase::Takes { read, .. } if read.step == DownReadStep::EntersSection)
-}
-
-/// The events of a taking of write access that begins, in a line; of another phase its event alone. What comes after the last of
-/// them. It is a function of its own, as it is long, and asks again what its phase is, so that each event of the line is known.
+/// The events of a taking of write access in a line, with this step of its level to come. What comes after the last of them. It is a
+/// function of its own, as it is long, and is told the parts of its phase, so that the compiler knows each event in it.
 #[inline(never)]
 fn take_in_line(
     gates: &Gates,
     seat: &mut Seat,
     accesses: &mut Accesses,
     begins: Option<Op>,
-    phase: WritePhase,
+    mount: u8,
+    level: u8,
+    cpu: u8,
+    task: u8,
+    wait: bool,
+    step: DownReadStep,
 ) -> Next<WritePhase>
     requires table { seat.old.table_id ≡ gates.now.table.shared.table_id }
-    requires tied { IsTied gates.now.config begins (Some (Writes phase)) accesses.old seat.old.me.0 }
+    requires tied { IsTied gates.now.config begins (Some (Writes (Takes mount (down_read level cpu task wait step)))) accesses.old seat.old.me.0 }
     ensures table { seat.new.table_id ≡ seat.old.table_id }
     ensures slots { seat.new.me.1 ≡ seat.old.me.1 }
-    ensures tied { StayTied gates.now.config begins (Some (Writes phase)) accesses.old seat.old.me.0
+    ensures tied { StayTied gates.now.config begins (Some (Writes (Takes mount (down_read level cpu task wait step)))) accesses.old seat.old.me.0
         (phase_after (of_write result)) accesses.new seat.new.me.0 }
     ensures went { (op : OpType) (start : TaskState) →
-        Goes op start (task_state seat.old.table_id gates.now.config begins (Some (Writes phase)) seat.old.me.0) →
+        Goes op start (task_state seat.old.table_id gates.now.config begins (Some (Writes (Takes mount (down_read level cpu task wait step)))) seat.old.me.0) →
         Went op start (of_write result)
         (task_state seat.new.table_id gates.now.config None (phase_after (of_write result)) seat.new.me.0) }
 {
-    if !begins_to_take(phase) {
-        return go_on(gates, seat, accesses, begins, phase, Ok(()));
-    }
+    let read = DownRead {
+        level,
+        cpu,
+        task,
+        wait,
+        step,
+    };
+    let phase = WritePhase::Takes { mount, read };
     let next = go_on(gates, seat, accesses, begins, phase, Ok(()));
     let goes_on = enters_by(next, DownReadStep::LoadsSync);
     let next = go_on_if(gates, seat, accesses, next, goes_on);
@@ -250,6 +255,33 @@ fn take_in_line(
     let goes_on = enters_by(next, DownReadStep::LeavesAdmitted);
     let next = go_on_if(gates, seat, accesses, next, goes_on);
     want_then(gates, seat, accesses, next)
+}
+
+/// The two events of a return of write access, likewise.
+#[inline(never)]
+fn give_in_line(
+    gates: &Gates,
+    seat: &mut Seat,
+    accesses: &mut Accesses,
+    begins: Option<Op>,
+    mount: u8,
+    cpu: u8,
+) -> Next<WritePhase>
+    requires table { seat.old.table_id ≡ gates.now.table.shared.table_id }
+    requires tied { IsTied gates.now.config begins (Some (Writes (Drops mount cpu))) accesses.old seat.old.me.0 }
+    ensures table { seat.new.table_id ≡ seat.old.table_id }
+    ensures slots { seat.new.me.1 ≡ seat.old.me.1 }
+    ensures tied { StayTied gates.now.config begins (Some (Writes (Drops mount cpu))) accesses.old seat.old.me.0
+        (phase_after (of_write result)) accesses.new seat.new.me.0 }
+    ensures went { (op : OpType) (start : TaskState) →
+        Goes op start (task_state seat.old.table_id gates.now.config begins (Some (Writes (Drops mount cpu))) seat.old.me.0) →
+        Went op start (of_write result)
+        (task_state seat.new.table_id gates.now.config None (phase_after (of_write result)) seat.new.me.0) }
+{
+    let phase = WritePhase::Drops { mount, cpu };
+    let next = go_on(gates, seat, accesses, begins, phase, Ok(()));
+    let goes_on = leaves_level(next);
+    go_on_if(gates, seat, accesses, next, goes_on)
 }
 
 impl InLine for WritePhase {
@@ -261,11 +293,23 @@ impl InLine for WritePhase {
         accesses: &mut Accesses,
         begins: Option<Op>,
     ) -> Next<WritePhase> {
-        if begins_to_take(self) {
-            return take_in_line(gates, seat, accesses, begins, self);
+        match self {
+            WritePhase::Takes { mount, read } => {
+                let DownRead {
+                    level,
+                    cpu,
+                    task,
+                    wait,
+                    step,
+                } = read;
+                take_in_line(
+                    gates, seat, accesses, begins, mount, level, cpu, task, wait, step,
+                )
+            }
+            WritePhase::Drops { mount, cpu } => {
+                give_in_line(gates, seat, accesses, begins, mount, cpu)
+            }
+            phase => go_on(gates, seat, accesses, begins, phase, Ok(())),
         }
-        let next = go_on(gates, seat, accesses, begins, self, Ok(()));
-        let goes_on = leaves_level(next);
-        go_on_if(gates, seat, accesses, next, goes_on)
     }
 }

@@ -1,5 +1,20 @@
--- the second event goes on from what the first one left
+-- a taking and a return go on as what they are
+use Rattle.std.proofs.Common.{subst}
+use Rattle.std.specs.Prelude.{Some}
+use Rattle.gate_world.specs.declared.work.Phase.TheVariants.{Writes}
+use Rattle.write_access.specs.declared.phases.WritePhase.{WritePhase}
+use Rattle.vfs_gates.specs.Ties.{Ties}
+use Rattle.vfs_gates.specs.Turns.{kept_at}
 use Rattle.vfs_gates.proofs.lines.WritePhaseInLine.go_in_line.Goals as goal
 
-pub returns-clause-tied : goal.returns-clause-tied
-returns-clause-tied c number flags ties = c.go_on_if.ensures.tied number flags (c.go_on-next.ensures.tied number flags ties)
+pub returns-in-Takes-clause-tied : goal.returns-in-Takes-clause-tied
+returns-in-Takes-clause-tied c number flags ties =
+    c.take_in_line.ensures.tied number flags
+    (subst (λ (p : WritePhase). Ties number c.args.gates.now.config c.args.begins (kept_at (Some (Writes p)) c.args.accesses.now) flags
+    c.args.seat.now.me.0) c.in-Takes.is ties)
+
+pub returns-in-Drops-clause-tied : goal.returns-in-Drops-clause-tied
+returns-in-Drops-clause-tied c number flags ties =
+    c.give_in_line.ensures.tied number flags
+    (subst (λ (p : WritePhase). Ties number c.args.gates.now.config c.args.begins (kept_at (Some (Writes p)) c.args.accesses.now) flags
+    c.args.seat.now.me.0) c.in-Drops.is ties)
