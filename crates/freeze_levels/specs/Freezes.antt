@@ -69,9 +69,9 @@ freeze_next x (Releases answer) hook = (Umount, Store 0)
 abbrev pub at_freeze : Freeze → FreezeStep → Freeze
 at_freeze x step = record x { step = step }
 
--- `umount` was tried for: this step comes where it was free, and else another try
-abbrev pub freeze_locked : Freeze → ℕ → FreezeStep → Next Freeze
-freeze_locked x found step = if found == 0 then Go (at_freeze x step) else Wait x
+-- `umount` was tried for, in this step: another step comes where it was free, and else the same one again
+abbrev pub freeze_locked : Freeze → FreezeStep → ℕ → FreezeStep → Next Freeze
+freeze_locked x again found step = if found == 0 then Go (at_freeze x step) else Wait (at_freeze x again)
 
 -- the closing of a level that begins
 abbrev pub freeze_closes : Freeze → ℕ → FreezeStep
@@ -123,7 +123,7 @@ freeze_completed x (Err code) = stage_stored x 0 (freeze_fails 3 code)
 
 -- what comes after each event of a freeze, in its own phases
 abbrev pub freeze_after : Freeze → FreezeStep → ℕ → HookAnswer → Next Freeze × Option Action
-freeze_after x Locks found hook = (freeze_locked x found LoadsStage, None)
+freeze_after x Locks found hook = (freeze_locked x Locks found LoadsStage, None)
 freeze_after x LoadsStage found hook = (
   if found == 0 then Go (at_freeze x LoadsSuperblock) else Go (at_freeze x (Releases (Err Busy))),
   None,
@@ -137,7 +137,7 @@ freeze_after x SetsWrite found hook = stage_stored x 1 Unlocks
 freeze_after x Unlocks found hook = (Go (at_freeze x (freeze_closes x 1)), None)
 freeze_after x (Closes d) found hook =
     (after_closing x d.level (down_write_after d d.step found).0, (down_write_after d d.step found).1)
-freeze_after x LocksAgain found hook = (freeze_locked x found SetsPageFault, None)
+freeze_after x LocksAgain found hook = (freeze_locked x LocksAgain found SetsPageFault, None)
 freeze_after x SetsPageFault found hook = stage_stored x 2 (freeze_closes x 2)
 freeze_after x (Cleans marks) found hook = (after_clearing x (clear_after marks found).0, (clear_after marks found).1)
 freeze_after x SetsFs found hook = freeze_synced x hook

@@ -49,10 +49,6 @@ thaw_next x (Releases answer) hook = (Umount, Store 0)
 abbrev pub at_thaw : Thaw → ThawStep → Thaw
 at_thaw x step = record x { step = step }
 
--- `umount` was tried for
-abbrev pub thaw_locked : Thaw → ℕ → Next Thaw
-thaw_locked x found = if found == 0 then Go (at_thaw x LoadsStage) else Wait x
-
 -- the levels up to this one are still to be reopened, the highest first
 abbrev pub thaw_opens : ℕ → ThawStep
 thaw_opens level = if level == 0 then Releases (Ok UnitReply) else Reopens (reopening level)
@@ -70,7 +66,7 @@ thawed x (Err code) = (Done (Err (Hook code)), None)
 
 -- what comes after each event of a thaw, in its own phases
 abbrev pub thaw_after : Thaw → ThawStep → ℕ → HookAnswer → Next Thaw × Option Action
-thaw_after x Locks found hook = (thaw_locked x found, None)
+thaw_after x Locks found hook = (if found == 0 then Go (at_thaw x LoadsStage) else Wait (at_thaw x Locks), None)
 thaw_after x LoadsStage found hook = (
   if found == 4 then Go (at_thaw x LoadsSuperblock) else Go (at_thaw x (Releases (Err Invalid))),
   None,

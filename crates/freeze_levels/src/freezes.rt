@@ -121,7 +121,7 @@ impl Freeze {
 
     /// What comes after a try to take `umount`: this step, where it was free, and else another try.
     fn locked(self, found: u64, step: FreezeStep) -> Next<Freeze>
-        ensures { result ≡ freeze_locked self found step }
+        ensures { result ≡ freeze_locked self self.step found step }
     {
         if found == 0 {
             Next::Go(self.at(step))

@@ -2,7 +2,7 @@
 //! comes after it.
 
 use crate::freezes::{Freeze, FreezeStep};
-use crate::hooks::HookKind;
+use crate::hooks::{FsHooks, HookKind};
 use crate::thaws::{Thaw, ThawStep};
 use access_model::{Action, GateError, Next, Reply};
 use cpu_words::{Touch, WordName};
@@ -267,4 +267,38 @@ fn both_wait_where_umount_is_taken(rt: HostRuntime) {
     }
     let end = drive(&rt, None, Next::Go(thaw()), &taken);
     assert_eq!(rt; end, Next::Wait(thaw()));
+}
+
+/// A file system of which each hook fails with a code of its own.
+struct Failing;
+
+impl FsHooks for Failing {
+    fn sync(&mut self) -> Result<(), u16> {
+        Err(1)
+    }
+
+    fn freeze_fs(&mut self) -> Result<(), u16> {
+        Err(2)
+    }
+
+    fn unfreeze_fs(&mut self) -> Result<(), u16> {
+        Err(3)
+    }
+
+    fn reconfigure(&mut self, read_only: bool) -> Result<(), u16> {
+        Err(if read_only { 4 } else { 5 })
+    }
+}
+
+#[test]
+fn each_kind_asks_its_own_hook(rt: HostRuntime) {
+    for (kind, read_only, code) in [
+        (HookKind::Sync, true, 1),
+        (HookKind::FreezeFs, true, 2),
+        (HookKind::UnfreezeFs, true, 3),
+        (HookKind::Reconfigure, true, 4),
+        (HookKind::Reconfigure, false, 5),
+    ] {
+        assert_eq!(rt; kind.ask(&mut Failing, read_only), Err(code));
+    }
 }

@@ -6,7 +6,6 @@ ghost use Rattle.freeze_levels.specs.Thaws.{
   thaw_after,
   thaw_hook,
   at_thaw,
-  thaw_locked,
   thaw_opens,
   thawed,
   after_opening,
@@ -85,17 +84,6 @@ impl Thaw {
         Thaw { step, ..self }
     }
 
-    /// What comes after the try to take `umount`: another try, where it was taken.
-    fn locked(self, found: u64) -> Next<Thaw>
-        ensures { result ≡ thaw_locked self found }
-    {
-        if found == 0 {
-            Next::Go(self.at(ThawStep::LoadsStage))
-        } else {
-            Next::Wait(self)
-        }
-    }
-
     /// What comes after the store that `unfreeze_fs` decides.
     fn thawed(self, hook: Result<(), u16>) -> (Next<Thaw>, Option<Action>)
         ensures { result ≡ thawed self hook }
@@ -124,7 +112,8 @@ impl Thaw {
     {
         let done = ThawStep::Releases(Ok(Reply::Unit));
         let step = match self.step {
-            ThawStep::Locks => return (self.locked(found), None),
+            ThawStep::Locks if found == 0 => ThawStep::LoadsStage,
+            ThawStep::Locks => return (Next::Wait(self), None),
             ThawStep::LoadsStage if found == 4 => ThawStep::LoadsSuperblock,
             ThawStep::LoadsStage => ThawStep::Releases(Err(GateError::Invalid)),
             ThawStep::LoadsSuperblock if found == 0 => ThawStep::SetsUnfrozen,
