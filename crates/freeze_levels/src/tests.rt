@@ -270,6 +270,7 @@ fn both_wait_where_umount_is_taken(rt: HostRuntime) {
 }
 
 /// A file system of which each hook fails with a code of its own.
+#[derive(Clone, Copy)]
 struct Failing;
 
 impl FsHooks for Failing {
