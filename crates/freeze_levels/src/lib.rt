@@ -1,6 +1,26 @@
-//! Freezes, remounts and the file system that they ask: its hooks.
+//! Freezes and thaws of the superblock, each as an order of events on words, and the file system that they and a remount ask: its
+//! hooks. A phase says which event comes next, and what comes after it.
 #![tactic(auto)]
 
-pub mod hooks;
+ghost use Rattle.freeze_levels.specs.declared.freezes.Freeze.{Freeze as FreezeType};
+ghost use Rattle.freeze_levels.specs.declared.thaws.Thaw.{Thaw as ThawType};
+ghost use Rattle.freeze_levels.specs.Answers.{FreezeIgnoresAnswer, ThawIgnoresAnswer};
 
+pub mod freezes;
+pub mod hooks;
+pub mod levels;
+pub mod thaws;
+
+pub use freezes::{Freeze, FreezeStep};
 pub use hooks::{FsHooks, HookKind};
+pub use thaws::{Thaw, ThawStep};
+
+/// An event of a freeze or a thaw that reads no hook's answer is the same whatever a hook answers, and so is what comes after it. Does
+/// nothing: its contract is the law.
+pub fn an_event_ignores_answers_that_it_does_not_read()
+    ensures of_freezes { (x : FreezeType) → FreezeIgnoresAnswer x }
+    ensures of_thaws { (x : ThawType) → ThawIgnoresAnswer x }
+{}
+
+#[cfg(test)]
+mod tests;

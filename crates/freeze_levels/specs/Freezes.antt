@@ -1,0 +1,147 @@
+-- The order of events of a freeze of the superblock: which word an event touches and how, and what comes after it. Two events are decided
+-- by the answer of the file system.
+use Rattle.std.specs.Prelude.{ℕ, ◌+◌, ◌-◌, ◌==◌, if◌then◌else◌, Option, Some, None, Ok, Err}
+use Rattle.access_model.specs.declared.actions.Action.{Action}
+use Rattle.access_model.specs.declared.actions.Action.TheVariants.{Stage as StageAction}
+use Rattle.access_model.specs.declared.errors.GateError.TheVariants.{Busy, Hook}
+use Rattle.access_model.specs.declared.replies.Next.{Next}
+use Rattle.access_model.specs.declared.replies.Next.TheVariants.{Go, Wait, Done}
+use Rattle.access_model.specs.declared.replies.Reply.TheVariants.{Unit as UnitReply}
+use Rattle.cpu_words.specs.declared.names.WordName.{WordName}
+use Rattle.cpu_words.specs.declared.names.WordName.TheVariants.{Umount, Stage, SbFlags}
+use Rattle.cpu_words.specs.declared.events.Touch.{Touch}
+use Rattle.cpu_words.specs.declared.events.Touch.TheVariants.{Load, Store, Cas}
+use Rattle.cpu_words.specs.Hooks.{HookAnswer}
+use Rattle.gated_tree.specs.declared.marks.ClearMarks.{ClearMarks}
+use Rattle.gated_tree.specs.Phases.{clear_next, clear_after}
+use Rattle.percpu_rwsem.specs.declared.writers.DownWrite.{DownWrite}
+use Rattle.percpu_rwsem.specs.declared.writers.UpWrite.{UpWrite}
+use Rattle.percpu_rwsem.specs.Writers.{down_write_next, down_write_after, up_write_next, up_write_after}
+use Rattle.freeze_levels.specs.declared.hooks.HookKind.{HookKind}
+use Rattle.freeze_levels.specs.declared.hooks.HookKind.TheVariants.{Sync, FreezeFs}
+use Rattle.freeze_levels.specs.declared.freezes.Freeze.{Freeze}
+use Rattle.freeze_levels.specs.declared.freezes.FreezeStep.{FreezeStep}
+use Rattle.freeze_levels.specs.declared.freezes.FreezeStep.TheVariants.{
+  Locks,
+  LoadsStage,
+  LoadsSuperblock,
+  CompletesReadOnly,
+  SetsWrite,
+  Unlocks,
+  Closes,
+  LocksAgain,
+  SetsPageFault,
+  Cleans,
+  SetsFs,
+  SetsComplete,
+  Reopens,
+  Releases,
+}
+use Rattle.freeze_levels.specs.Levels.{closing, reopening}
+
+-- the hook whose answer a step reads
+abbrev pub freeze_hook : FreezeStep → Option HookKind
+freeze_hook SetsFs = Some Sync
+freeze_hook SetsComplete = Some FreezeFs
+freeze_hook step = None
+
+-- freeze: under `umount` store stage 1, and give it back while level 1 is closed; under `umount` again store stage 2, close level 2 and
+-- clear the dirty marks; store 3 and close level 3; store 4. Where a hook fails, store 0 and reopen the levels that are closed
+abbrev pub freeze_next : Freeze → FreezeStep → HookAnswer → WordName × Touch
+freeze_next x Locks hook = (Umount, Cas 0 (x.task + 1))
+freeze_next x LoadsStage hook = (Stage, Load)
+freeze_next x LoadsSuperblock hook = (SbFlags, Load)
+freeze_next x CompletesReadOnly hook = (Stage, Store 4)
+freeze_next x SetsWrite hook = (Stage, Store 1)
+freeze_next x Unlocks hook = (Umount, Store 0)
+freeze_next x (Closes d) hook = down_write_next d d.step
+freeze_next x LocksAgain hook = (Umount, Cas 0 (x.task + 1))
+freeze_next x SetsPageFault hook = (Stage, Store 2)
+freeze_next x (Cleans marks) hook = clear_next marks
+freeze_next x SetsFs (Ok answer) = (Stage, Store 3)
+freeze_next x SetsFs (Err code) = (Stage, Store 0)
+freeze_next x SetsComplete (Ok answer) = (Stage, Store 4)
+freeze_next x SetsComplete (Err code) = (Stage, Store 0)
+freeze_next x (Reopens u code) hook = up_write_next u u.step
+freeze_next x (Releases answer) hook = (Umount, Store 0)
+
+-- the same freeze, with this step to come
+abbrev pub at_freeze : Freeze → FreezeStep → Freeze
+at_freeze x step = record x { step = step }
+
+-- `umount` was tried for, in this step: another step comes where it was free, and else the same one again
+abbrev pub freeze_locked : Freeze → FreezeStep → ℕ → FreezeStep → Next Freeze
+freeze_locked x again found step = if found == 0 then Go (at_freeze x step) else Wait (at_freeze x again)
+
+-- the closing of a level that begins
+abbrev pub freeze_closes : Freeze → ℕ → FreezeStep
+freeze_closes x level = Closes (closing level x.tasks x.processors)
+
+-- a level is closed, with so many nodes: after level 1 `umount` is taken again, after level 2 the marks are cleared from node 1 on, and
+-- after level 3 the file system does its own part
+abbrev pub level_closed : ℕ → ℕ → FreezeStep
+level_closed level nodes =
+    if level == 1 then LocksAgain else
+    if level == 2 then Cleans record { node = 1; nodes = nodes } else
+    SetsComplete
+
+-- what comes after an event of the closing of a level
+abbrev pub after_closing : Freeze → ℕ → Next DownWrite → Next Freeze
+after_closing x level (Go d) = Go (at_freeze x (Closes d))
+after_closing x level (Wait d) = Wait (at_freeze x (Closes d))
+after_closing x level (Done answer) = Go (at_freeze x (level_closed level x.nodes))
+
+-- what comes after the clearing of a mark: after the last one the file system is asked for its sync
+abbrev pub after_clearing : Freeze → Next ClearMarks → Next Freeze
+after_clearing x (Go marks) = Go (at_freeze x (Cleans marks))
+after_clearing x (Wait marks) = Wait (at_freeze x (Cleans marks))
+after_clearing x (Done answer) = Go (at_freeze x SetsFs)
+
+-- a hook failed with this code, and the levels up to this one are still to be reopened, the highest first
+abbrev pub freeze_fails : ℕ → ℕ → FreezeStep
+freeze_fails level code = if level == 0 then Releases (Err (Hook code)) else Reopens (reopening level) code
+
+-- what comes after an event of the reopening of a level: after the last one the level below it is reopened
+abbrev pub after_reopening : Freeze → ℕ → ℕ → Next UpWrite → Next Freeze
+after_reopening x level code (Go u) = Go (at_freeze x (Reopens u code))
+after_reopening x level code (Wait u) = Wait (at_freeze x (Reopens u code))
+after_reopening x level code (Done answer) = Go (at_freeze x (freeze_fails (level - 1) code))
+
+-- a stage was stored, which is an action, and this step comes
+abbrev pub stage_stored : Freeze → ℕ → FreezeStep → Next Freeze × Option Action
+stage_stored x stage step = (Go (at_freeze x step), Some (StageAction stage))
+
+-- stage 3 was stored, or 0 where `sync` failed: the levels 1 and 2 are closed
+abbrev pub freeze_synced : Freeze → HookAnswer → Next Freeze × Option Action
+freeze_synced x (Ok answer) = stage_stored x 3 (freeze_closes x 3)
+freeze_synced x (Err code) = stage_stored x 0 (freeze_fails 2 code)
+
+-- stage 4 was stored, or 0 where `freeze_fs` failed: all levels are closed
+abbrev pub freeze_completed : Freeze → HookAnswer → Next Freeze × Option Action
+freeze_completed x (Ok answer) = stage_stored x 4 (Releases (Ok UnitReply))
+freeze_completed x (Err code) = stage_stored x 0 (freeze_fails 3 code)
+
+-- what comes after each event of a freeze, in its own phases
+abbrev pub freeze_after : Freeze → FreezeStep → ℕ → HookAnswer → Next Freeze × Option Action
+freeze_after x Locks found hook = (freeze_locked x Locks found LoadsStage, None)
+freeze_after x LoadsStage found hook = (
+  if found == 0 then Go (at_freeze x LoadsSuperblock) else Go (at_freeze x (Releases (Err Busy))),
+  None,
+)
+freeze_after x LoadsSuperblock found hook = (
+  if found == 0 then Go (at_freeze x SetsWrite) else Go (at_freeze x CompletesReadOnly),
+  None,
+)
+freeze_after x CompletesReadOnly found hook = stage_stored x 4 (Releases (Ok UnitReply))
+freeze_after x SetsWrite found hook = stage_stored x 1 Unlocks
+freeze_after x Unlocks found hook = (Go (at_freeze x (freeze_closes x 1)), None)
+freeze_after x (Closes d) found hook =
+    (after_closing x d.level (down_write_after d d.step found).0, (down_write_after d d.step found).1)
+freeze_after x LocksAgain found hook = (freeze_locked x LocksAgain found SetsPageFault, None)
+freeze_after x SetsPageFault found hook = stage_stored x 2 (freeze_closes x 2)
+freeze_after x (Cleans marks) found hook = (after_clearing x (clear_after marks found).0, (clear_after marks found).1)
+freeze_after x SetsFs found hook = freeze_synced x hook
+freeze_after x SetsComplete found hook = freeze_completed x hook
+freeze_after x (Reopens u code) found hook =
+    (after_reopening x u.level code (up_write_after u u.step found).0, (up_write_after u u.step found).1)
+freeze_after x (Releases answer) found hook = (Done answer, None)

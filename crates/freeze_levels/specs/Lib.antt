@@ -1,0 +1,4 @@
+pub mod Levels
+pub mod Freezes
+pub mod Thaws
+pub mod Answers

@@ -1,0 +1,81 @@
+-- The order of events of a thaw of the superblock: which word an event touches and how, and what comes after it. One event is decided by
+-- the answer of the file system.
+use Rattle.std.specs.Prelude.{ℕ, ◌+◌, ◌-◌, ◌==◌, if◌then◌else◌, Option, Some, None, Ok, Err}
+use Rattle.access_model.specs.declared.actions.Action.{Action}
+use Rattle.access_model.specs.declared.actions.Action.TheVariants.{Stage as StageAction}
+use Rattle.access_model.specs.declared.errors.GateError.TheVariants.{Invalid, Hook}
+use Rattle.access_model.specs.declared.replies.Next.{Next}
+use Rattle.access_model.specs.declared.replies.Next.TheVariants.{Go, Wait, Done}
+use Rattle.access_model.specs.declared.replies.Reply.TheVariants.{Unit as UnitReply}
+use Rattle.cpu_words.specs.declared.names.WordName.{WordName}
+use Rattle.cpu_words.specs.declared.names.WordName.TheVariants.{Umount, Stage, SbFlags}
+use Rattle.cpu_words.specs.declared.events.Touch.{Touch}
+use Rattle.cpu_words.specs.declared.events.Touch.TheVariants.{Load, Store, Cas}
+use Rattle.cpu_words.specs.Hooks.{HookAnswer}
+use Rattle.percpu_rwsem.specs.declared.writers.UpWrite.{UpWrite}
+use Rattle.percpu_rwsem.specs.Writers.{up_write_next, up_write_after}
+use Rattle.freeze_levels.specs.declared.hooks.HookKind.{HookKind}
+use Rattle.freeze_levels.specs.declared.hooks.HookKind.TheVariants.{UnfreezeFs}
+use Rattle.freeze_levels.specs.declared.thaws.Thaw.{Thaw}
+use Rattle.freeze_levels.specs.declared.thaws.ThawStep.{ThawStep}
+use Rattle.freeze_levels.specs.declared.thaws.ThawStep.TheVariants.{
+  Locks,
+  LoadsStage,
+  LoadsSuperblock,
+  UnfreezesReadOnly,
+  SetsUnfrozen,
+  Reopens,
+  Releases,
+}
+use Rattle.freeze_levels.specs.Levels.{reopening}
+
+-- the hook whose answer a step reads
+abbrev pub thaw_hook : ThawStep → Option HookKind
+thaw_hook SetsUnfrozen = Some UnfreezeFs
+thaw_hook step = None
+
+-- thaw: under `umount`, and at stage 4 alone, store stage 0 and reopen the levels; where the hook fails, all stays frozen
+abbrev pub thaw_next : Thaw → ThawStep → HookAnswer → WordName × Touch
+thaw_next x Locks hook = (Umount, Cas 0 (x.task + 1))
+thaw_next x LoadsStage hook = (Stage, Load)
+thaw_next x LoadsSuperblock hook = (SbFlags, Load)
+thaw_next x UnfreezesReadOnly hook = (Stage, Store 0)
+thaw_next x SetsUnfrozen (Ok answer) = (Stage, Store 0)
+thaw_next x SetsUnfrozen (Err code) = (Umount, Store 0)
+thaw_next x (Reopens u) hook = up_write_next u u.step
+thaw_next x (Releases answer) hook = (Umount, Store 0)
+
+-- the same thaw, with this step to come
+abbrev pub at_thaw : Thaw → ThawStep → Thaw
+at_thaw x step = record x { step = step }
+
+-- the levels up to this one are still to be reopened, the highest first
+abbrev pub thaw_opens : ℕ → ThawStep
+thaw_opens level = if level == 0 then Releases (Ok UnitReply) else Reopens (reopening level)
+
+-- what comes after an event of the reopening of a level: after the last one the level below it is reopened
+abbrev pub after_opening : Thaw → ℕ → Next UpWrite → Next Thaw
+after_opening x level (Go u) = Go (at_thaw x (Reopens u))
+after_opening x level (Wait u) = Wait (at_thaw x (Reopens u))
+after_opening x level (Done answer) = Go (at_thaw x (thaw_opens (level - 1)))
+
+-- stage 0 was stored, with all levels closed, or `umount` was given back where `unfreeze_fs` failed
+abbrev pub thawed : Thaw → HookAnswer → Next Thaw × Option Action
+thawed x (Ok answer) = (Go (at_thaw x (thaw_opens 3)), Some (StageAction 0))
+thawed x (Err code) = (Done (Err (Hook code)), None)
+
+-- what comes after each event of a thaw, in its own phases
+abbrev pub thaw_after : Thaw → ThawStep → ℕ → HookAnswer → Next Thaw × Option Action
+thaw_after x Locks found hook = (if found == 0 then Go (at_thaw x LoadsStage) else Wait (at_thaw x Locks), None)
+thaw_after x LoadsStage found hook = (
+  if found == 4 then Go (at_thaw x LoadsSuperblock) else Go (at_thaw x (Releases (Err Invalid))),
+  None,
+)
+thaw_after x LoadsSuperblock found hook = (
+  if found == 0 then Go (at_thaw x SetsUnfrozen) else Go (at_thaw x UnfreezesReadOnly),
+  None,
+)
+thaw_after x UnfreezesReadOnly found hook = (Go (at_thaw x (Releases (Ok UnitReply))), Some (StageAction 0))
+thaw_after x SetsUnfrozen found hook = thawed x hook
+thaw_after x (Reopens u) found hook = (after_opening x u.level (up_write_after u u.step found).0, (up_write_after u u.step found).1)
+thaw_after x (Releases answer) found hook = (Done answer, None)

@@ -1,0 +1,262 @@
+//! The order of events of a freeze of the superblock.
+
+ghost use Rattle.std.specs.Prelude.{◌≡◌};
+ghost use Rattle.access_model.specs.declared.replies.Next.TheVariants.{Go};
+ghost use Rattle.freeze_levels.specs.Freezes.{
+  freeze_next,
+  freeze_after,
+  freeze_hook,
+  at_freeze,
+  freeze_locked,
+  freeze_closes,
+  freeze_synced,
+  freeze_completed,
+  stage_stored,
+  level_closed,
+  after_closing,
+  after_clearing,
+  freeze_fails,
+  after_reopening,
+};
+
+use crate::hooks::HookKind;
+use crate::levels::{closing, reopening};
+use access_model::{Action, GateError, Next, Reply};
+use cpu_words::{Touch, WordName};
+use gated_tree::ClearMarks;
+use percpu_rwsem::{DownWrite, UpWrite};
+
+/// What the next event of a freeze is (`freeze_super`).
+#[derive(Clone, Copy, PartialEq, Eq, Debug)]
+pub enum FreezeStep {
+    /// Takes `umount` where it is free.
+    Locks,
+    /// Loads the stage, for SB_UNFROZEN.
+    LoadsStage,
+    /// Loads the superblock's flag.
+    LoadsSuperblock,
+    /// Stores SB_FREEZE_COMPLETE at once: the superblock is read-only.
+    CompletesReadOnly,
+    /// Stores SB_FREEZE_WRITE.
+    SetsWrite,
+    /// Gives `umount` back, before level 1 is closed.
+    Unlocks,
+    /// Closes a level (`sb_wait_write`).
+    Closes(DownWrite),
+    /// Takes `umount` again where it is free, with level 1 closed.
+    LocksAgain,
+    /// Stores SB_FREEZE_PAGEFAULT.
+    SetsPageFault,
+    /// Clears the dirty mark of a node (`sync_filesystem`).
+    Cleans(ClearMarks),
+    /// Stores SB_FREEZE_FS, or SB_UNFROZEN, as the file system answers `sync`.
+    SetsFs,
+    /// Stores SB_FREEZE_COMPLETE, or SB_UNFROZEN, as the file system answers `freeze_fs`.
+    SetsComplete,
+    /// Reopens a level, as a hook failed with this code (`sb_freeze_unlock`).
+    Reopens { write: UpWrite, code: u16 },
+    /// Gives `umount` back, and answers this.
+    Releases(Result<Reply, GateError>),
+}
+
+/// A freeze of the superblock under way, by a task, among so many tasks, processors and nodes.
+#[derive(Clone, Copy, PartialEq, Eq, Debug)]
+pub struct Freeze {
+    pub task: u8,
+    pub tasks: u8,
+    pub processors: u8,
+    pub nodes: u8,
+    pub step: FreezeStep,
+}
+
+impl Freeze {
+    /// The hook whose answer the next event reads.
+    pub fn wants_hook(self) -> Option<HookKind>
+        ensures { result ≡ freeze_hook self.step }
+    {
+        match self.step {
+            FreezeStep::SetsFs => Some(HookKind::Sync),
+            FreezeStep::SetsComplete => Some(HookKind::FreezeFs),
+            _ => None,
+        }
+    }
+
+    /// The word and the touch of the next event, where the file system answers this. An event that the answer doesn't decide
+    /// ignores it.
+    #[inline(always)]
+    pub fn next(self, hook: Result<(), u16>) -> (WordName, Touch)
+        ensures { result ≡ freeze_next self self.step hook }
+    {
+        match self.step {
+            FreezeStep::Locks | FreezeStep::LocksAgain => {
+                let put = self.task as u64 + 1;
+                (WordName::Umount, Touch::Cas { expect: 0, put })
+            }
+            FreezeStep::LoadsStage => (WordName::Stage, Touch::Load),
+            FreezeStep::LoadsSuperblock => (WordName::SbFlags, Touch::Load),
+            FreezeStep::CompletesReadOnly => (WordName::Stage, Touch::Store(4)),
+            FreezeStep::SetsWrite => (WordName::Stage, Touch::Store(1)),
+            FreezeStep::SetsPageFault => (WordName::Stage, Touch::Store(2)),
+            FreezeStep::SetsFs => match hook {
+                Ok(()) => (WordName::Stage, Touch::Store(3)),
+                Err(_) => (WordName::Stage, Touch::Store(0)),
+            },
+            FreezeStep::SetsComplete => match hook {
+                Ok(()) => (WordName::Stage, Touch::Store(4)),
+                Err(_) => (WordName::Stage, Touch::Store(0)),
+            },
+            FreezeStep::Closes(write) => write.next(),
+            FreezeStep::Cleans(clearing) => clearing.next(),
+            FreezeStep::Reopens { write, .. } => write.next(),
+            FreezeStep::Unlocks | FreezeStep::Releases(_) => (WordName::Umount, Touch::Store(0)),
+        }
+    }
+
+    /// The same freeze, with this step to come.
+    fn at(self, step: FreezeStep) -> Freeze
+        ensures { result ≡ at_freeze self step }
+    {
+        Freeze { step, ..self }
+    }
+
+    /// What comes after a try to take `umount`: this step, where it was free, and else another try.
+    fn locked(self, found: u64, step: FreezeStep) -> Next<Freeze>
+        ensures { result ≡ freeze_locked self self.step found step }
+    {
+        if found == 0 {
+            Next::Go(self.at(step))
+        } else {
+            Next::Wait(self)
+        }
+    }
+
+    /// The closing of a level that begins.
+    fn closes(self, level: u8) -> FreezeStep
+        ensures { result ≡ freeze_closes self level }
+    {
+        FreezeStep::Closes(closing(level, self.tasks, self.processors))
+    }
+
+    /// What comes after an event of the closing of a level.
+    fn after_closing(self, level: u8, next: Next<DownWrite>) -> Next<Freeze>
+        ensures { result ≡ after_closing self level next }
+    {
+        match next {
+            Next::Go(write) => Next::Go(self.at(FreezeStep::Closes(write))),
+            Next::Wait(write) => Next::Wait(self.at(FreezeStep::Closes(write))),
+            Next::Done(_) => Next::Go(self.at(closed(level, self.nodes))),
+        }
+    }
+
+    /// What comes after the clearing of a node's mark.
+    fn after_clearing(self, next: Next<ClearMarks>) -> Next<Freeze>
+        ensures { result ≡ after_clearing self next }
+    {
+        match next {
+            Next::Go(clearing) => Next::Go(self.at(FreezeStep::Cleans(clearing))),
+            Next::Wait(clearing) => Next::Wait(self.at(FreezeStep::Cleans(clearing))),
+            Next::Done(_) => Next::Go(self.at(FreezeStep::SetsFs)),
+        }
+    }
+
+    /// What comes after an event of the reopening of a level.
+    fn after_reopening(self, level: u8, code: u16, next: Next<UpWrite>) -> Next<Freeze>
+        ensures { result ≡ after_reopening self level code next }
+    {
+        match next {
+            Next::Go(write) => Next::Go(self.at(FreezeStep::Reopens { write, code })),
+            Next::Wait(write) => Next::Wait(self.at(FreezeStep::Reopens { write, code })),
+            Next::Done(_) => Next::Go(self.at(failing(level.saturating_sub(1), code))),
+        }
+    }
+
+    /// What comes after a store of this stage: this step, and the action of the stage.
+    fn stored(self, stage: u8, step: FreezeStep) -> (Next<Freeze>, Option<Action>)
+        ensures { result ≡ stage_stored self stage step }
+    {
+        (Next::Go(self.at(step)), Some(Action::Stage(stage)))
+    }
+
+    /// What comes after the store that `sync` decides.
+    fn synced(self, hook: Result<(), u16>) -> (Next<Freeze>, Option<Action>)
+        ensures { result ≡ freeze_synced self hook }
+    {
+        match hook {
+            Ok(()) => self.stored(3, self.closes(3)),
+            Err(code) => self.stored(0, failing(2, code)),
+        }
+    }
+
+    /// What comes after the store that `freeze_fs` decides.
+    fn completed(self, hook: Result<(), u16>) -> (Next<Freeze>, Option<Action>)
+        ensures { result ≡ freeze_completed self hook }
+    {
+        match hook {
+            Ok(()) => self.stored(4, FreezeStep::Releases(Ok(Reply::Unit))),
+            Err(code) => self.stored(0, failing(3, code)),
+        }
+    }
+
+    /// What comes after the event, which found this, where the file system answers this, and the action that the event adds.
+    #[inline(always)]
+    pub fn after(self, found: u64, hook: Result<(), u16>) -> (Next<Freeze>, Option<Action>)
+        ensures { result ≡ freeze_after self self.step found hook }
+    {
+        let done = FreezeStep::Releases(Ok(Reply::Unit));
+        let busy = FreezeStep::Releases(Err(GateError::Busy));
+        let step = match self.step {
+            FreezeStep::Locks => return (self.locked(found, FreezeStep::LoadsStage), None),
+            FreezeStep::LocksAgain => {
+                return (self.locked(found, FreezeStep::SetsPageFault), None);
+            }
+            FreezeStep::LoadsStage if found == 0 => FreezeStep::LoadsSuperblock,
+            FreezeStep::LoadsStage => busy,
+            FreezeStep::LoadsSuperblock if found == 0 => FreezeStep::SetsWrite,
+            FreezeStep::LoadsSuperblock => FreezeStep::CompletesReadOnly,
+            FreezeStep::Unlocks => self.closes(1),
+            FreezeStep::CompletesReadOnly => return self.stored(4, done),
+            FreezeStep::SetsWrite => return self.stored(1, FreezeStep::Unlocks),
+            FreezeStep::SetsPageFault => return self.stored(2, self.closes(2)),
+            FreezeStep::SetsFs => return self.synced(hook),
+            FreezeStep::SetsComplete => return self.completed(hook),
+            FreezeStep::Closes(write) => {
+                let (next, action) = write.after(found);
+                return (self.after_closing(write.level, next), action);
+            }
+            FreezeStep::Cleans(clearing) => {
+                let (next, action) = clearing.after(found);
+                return (self.after_clearing(next), action);
+            }
+            FreezeStep::Reopens { write, code } => {
+                let (next, action) = write.after(found);
+                return (self.after_reopening(write.level, code, next), action);
+            }
+            FreezeStep::Releases(answer) => return (Next::Done(answer), None),
+        };
+        (Next::Go(self.at(step)), None)
+    }
+}
+
+/// What comes after the closing of a level, among so many nodes: level 1 is closed with `umount` given back, level 2 before the marks
+/// are cleared, and level 3 before the file system's own part.
+fn closed(level: u8, nodes: u8) -> FreezeStep
+    ensures { result ≡ level_closed level nodes }
+{
+    match level {
+        1 => FreezeStep::LocksAgain,
+        2 => FreezeStep::Cleans(ClearMarks::start(nodes)),
+        _ => FreezeStep::SetsComplete,
+    }
+}
+
+/// What comes where a hook failed with this code and the levels up to this one are still to be reopened, the highest first.
+fn failing(level: u8, code: u16) -> FreezeStep
+    ensures { result ≡ freeze_fails level code }
+{
+    if level == 0 {
+        FreezeStep::Releases(Err(GateError::Hook(code)))
+    } else {
+        let write = reopening(level);
+        FreezeStep::Reopens { write, code }
+    }
+}
