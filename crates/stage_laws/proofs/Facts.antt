@@ -144,3 +144,8 @@ pub no_levels : (r : StageRole) → has_position r ≡ 0 → passed_by r ≡ 0
 no_levels (Freezing stage place owner) h = absurd (omega (arith, h))
 no_levels (Reopening closed) h = absurd (omega (arith, h))
 no_levels r h = refl
+
+-- a level counts to a number as to the one below it, where it isn't that number
+pub up_to_below : (i n : ℕ) → 1 ≤ n → (i ≡ n → ⊥) → up_to i n ≡ up_to i (n - 1)
+up_to_below i zero h ne = absurd (omega (arith, h))
+up_to_below i (suc n) h ne = let e : suc n - 1 ≡ n = omega arith in rw e (up_to_next i n ne)
