@@ -1,9 +1,11 @@
 -- The action of each event is allowed in each state that shows the moment before it.
+use Rattle.stage_laws.proofs.EachEvent.{fewer, own_clean}
 use Rattle.stage_laws.proofs.StageLaws.{freeze_bound, own_remount, relied_on, ways}
 use Rattle.stage_laws.proofs.Positions.{owner_idle, passed_idle, passed_own}
-use Rattle.std.proofs.Common.{◌≡◌, ℕ, zero, suc, ◌+◌, ◌*◌, ◌<◌, ◌≤◌, refl, sym, ap, ◌∙◌, subst, inl, inr, arith}
+use Rattle.std.proofs.Common.{◌≡◌, ℕ, zero, suc, ◌+◌, ◌*◌, ◌-◌, ◌<◌, ◌≤◌, refl, sym, ap, ◌∙◌, subst, inl, inr, arith}
 use Rattle.std.specs.Prelude.{◌==◌, ◌||◌, ◌⊎◌, Bool, true, false, Option, Some, None}
 use Rattle.std.proofs.lemmas.Bool.Decides.{eqb_tells}
+use Rattle.std.proofs.lemmas.Option.{none-some}
 use Rattle.access_model.specs.declared.actions.Action.{Action}
 use Rattle.access_model.specs.declared.actions.Action.TheVariants.{SbRo, SbRw, Stage, Pass, Reopen, Clean}
 use Rattle.access_model.specs.States.{Limits, State, IsClean}
@@ -12,9 +14,18 @@ use Rattle.stage_laws.specs.Roles.{StageRole, Aside, Owning, Remounting, Freezin
 use Rattle.stage_laws.specs.Shown.{passed_shown, AsksOthers}
 use Rattle.stage_laws.specs.Events.{Stages, Holds, Shows, StageEvent, Happens, action_of, cleaned, Advances, Begins, CancelsRemount, ClearsBlock, ClearsMark, ClearsMarkReadOnly, Completes, Fails, FreezesAtOnce, Passes, SetsRemount, SetsWritable, Syncs, Thaws, ThawsAtOnce}
 
+-- the action that there is, or else this one
+abbrev action_or : Action → Option Action → Action
+action_or a None = a
+action_or a (Some b) = b
+
+-- one action is there
+some_inj : {a b : Action} → Some a ≡ Some b → a ≡ b
+some_inj {a} {b} e = ap (action_or a) e
+
 -- the action of a clearing, if there is one, cleans that node
 cleaned_is : (node mark : ℕ) (action : Action) (P : Action → Type 0) → cleaned node mark ≡ Some action → P (Clean node) → P action
-cleaned_is node zero action P e p = absurd (none_some e)
+cleaned_is node zero action P e p = absurd (none-some action e)
 cleaned_is node (suc mark) action P e p = subst P (some_inj e) p
 
 module _ (l : Limits) (x : Stages) (h : Holds l.tasks l.nodes x) (t : ℕ) (lt : t < l.tasks) (s : State) (shows : Shows l x s) where
@@ -106,4 +117,4 @@ module _ (l : Limits) (x : Stages) (h : Holds l.tasks l.nodes x) (t : ℕ) (lt :
       let r : x.remount ≡ 1 = own_remount l.tasks x h.stages t lt (Remounting sb node) e refl in
       cleaned_is node (x.dirty node) action (λ act. AsksOthers l s act → MayDo l s t act) a
       (λ ask. (ask.0, ask.1, inr (inr (shows.stages.sb_same ∙ (rw r refl))))) asks
-  may kind x' p action a asks = absurd (none_some a)
+  may kind x' p action a asks = absurd (none-some action a)

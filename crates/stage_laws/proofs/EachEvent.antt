@@ -13,7 +13,7 @@ module _ (tasks nodes : ℕ) (x : Stages) (h : Holds tasks nodes x) (t : ℕ) (l
   none dirty m l = absurd (omega (arith, l))
 
   -- the nodes that the task has cleared are clean
-  own_clean : (old : StageRole) → x.at t ≡ old → CleanBelow (clean_by old) x.dirty
+  pub own_clean : (old : StageRole) → x.at t ≡ old → CleanBelow (clean_by old) x.dirty
   own_clean old e = subst (λ r. CleanBelow (clean_by r) x.dirty) e (h.marks.cleared t lt)
 
   -- a stage after which no more nodes have to be clean
@@ -46,7 +46,7 @@ module _ (tasks nodes : ℕ) (x : Stages) (h : Holds tasks nodes x) (t : ℕ) (l
   passed_clean (suc (suc level)) clean c = c
 
   -- fewer nodes are clean where more are
-  fewer : (k : ℕ) → nodes ≤ k → CleanBelow k x.dirty → CleanBelow nodes x.dirty
+  pub fewer : (k : ℕ) → nodes ≤ k → CleanBelow k x.dirty → CleanBelow nodes x.dirty
   fewer k le c m l = c m (omega (arith, l, le))
 
   -- each event keeps both

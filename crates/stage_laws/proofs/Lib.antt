@@ -5,3 +5,5 @@ pub mod StageLaws
 pub mod MarkLaws
 pub mod EachEvent
 pub mod Allowed
+pub mod Effects
+pub mod Whole

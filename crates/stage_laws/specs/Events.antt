@@ -1,5 +1,5 @@
 -- The stage from event to event.
-use Rattle.std.specs.Prelude.{◌≡◌, ℕ, suc, ◌<◌, ◌≤◌, ◌⊎◌, ◌==◌, if◌then◌else◌, Bool, true, false, Option, Some, None}
+use Rattle.std.specs.Prelude.{◌≡◌, ℕ, zero, suc, ◌<◌, ◌≤◌, ◌⊎◌, ◌==◌, if◌then◌else◌, Bool, true, false, Option, Some, None}
 use Rattle.finite_sums.specs.Sums.{update, total}
 use Rattle.access_model.specs.declared.actions.Action.{Action}
 use Rattle.access_model.specs.declared.actions.Action.TheVariants.{SbRo, SbRw, Stage, Pass, Reopen, Clean}
@@ -141,7 +141,8 @@ Happens tasks nodes t x x' Stays = x' ≡ x
 
 -- a node is cleaned where it was dirty
 abbrev pub cleaned : ℕ → ℕ → Option Action
-cleaned node mark = if mark == 0 then None else Some (Clean node)
+cleaned node zero = None
+cleaned node (suc mark) = Some (Clean node)
 
 -- The action that an event adds. An event on a node's mark by another call may add one of its own, which is that call's.
 abbrev pub action_of : StageEvent → Stages → Option Action
