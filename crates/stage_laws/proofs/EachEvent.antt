@@ -97,7 +97,7 @@ module _ (tasks nodes : ℕ) (x : Stages) (h : Holds tasks nodes x) (t : ℕ) (l
   }
   after_kind (Completes clean) x' (e, p) = subst (Holds tasks nodes) (sym p) record {
     stages = completes tasks x h.stages t lt clean e;
-    marks = same_marks 4 x.sb (Owning (Some 4) (Some 0))
+    marks = same_marks 4 x.sb (Owning None None)
         (λ s. h.marks.frozen (omega (arith, relied_on tasks x h.stages t lt (Freezing 3 (HasPassed clean) true) e))) h.marks.read_only (none x.dirty);
   }
   after_kind (Fails stage clean) x' (e, low, p) = subst (Holds tasks nodes) (sym p) record {
@@ -106,7 +106,7 @@ module _ (tasks nodes : ℕ) (x : Stages) (h : Holds tasks nodes x) (t : ℕ) (l
   }
   after_kind FreezesAtOnce x' (e, p) = subst (Holds tasks nodes) (sym p) record {
     stages = freezes_at_once tasks x h.stages t lt e;
-    marks = same_marks 4 x.sb (Owning (Some 4) (Some 1))
+    marks = same_marks 4 x.sb (Owning None None)
         (λ s. h.marks.read_only (relied_on tasks x h.stages t lt (Owning (Some 0) (Some 1)) e).1) h.marks.read_only (none x.dirty);
   }
   after_kind Thaws x' (e, p) = subst (Holds tasks nodes) (sym p) record {
@@ -115,7 +115,7 @@ module _ (tasks nodes : ℕ) (x : Stages) (h : Holds tasks nodes x) (t : ℕ) (l
   }
   after_kind ThawsAtOnce x' (e, p) = subst (Holds tasks nodes) (sym p) record {
     stages = thaws_at_once tasks x h.stages t lt e;
-    marks = same_marks 0 x.sb (Owning (Some 0) (Some 1)) (λ s. absurd (omega (arith, s))) h.marks.read_only (none x.dirty);
+    marks = same_marks 0 x.sb (Owning None None) (λ s. absurd (omega (arith, s))) h.marks.read_only (none x.dirty);
   }
   after_kind (SetsBlock level owner) x' (e, p) = subst (Holds tasks nodes) (sym p) record {
     stages = sets_block tasks x h.stages t lt level owner e;
@@ -139,15 +139,15 @@ module _ (tasks nodes : ℕ) (x : Stages) (h : Holds tasks nodes x) (t : ℕ) (l
   }
   after_kind (ClearsRemount clean) x' (e, p) = subst (Holds tasks nodes) (sym p) record {
     stages = clears_remount tasks x h.stages t lt 1 clean e;
-    marks = quiet (Owning (Some 0) (Some 1)) (none x.dirty);
+    marks = quiet (Owning None None) (none x.dirty);
   }
   after_kind (CancelsRemount clean) x' (e, p) = subst (Holds tasks nodes) (sym p) record {
     stages = clears_remount tasks x h.stages t lt 0 clean e;
-    marks = quiet (Owning (Some 0) (Some 0)) (none x.dirty);
+    marks = quiet (Owning None None) (none x.dirty);
   }
   after_kind (SetsWritable sb) x' (e, p) = subst (Holds tasks nodes) (sym p) record {
     stages = sets_writable tasks x h.stages t lt sb e;
-    marks = same_marks x.stage 0 (Owning (Some 0) (Some 0)) h.marks.frozen (λ r. absurd (omega (arith, r))) (none x.dirty);
+    marks = same_marks x.stage 0 (Owning None None) h.marks.frozen (λ r. absurd (omega (arith, r))) (none x.dirty);
   }
   after_kind (ClearsMark node) x' (e, p) = subst (Holds tasks nodes) (sym p) record {
     stages = turns tasks x h.stages t lt (Freezing 2 (HasPassed node) true) (Freezing 2 (HasPassed (suc node)) true) e (omega (arith, h.stages.alone)) refl refl refl

@@ -112,7 +112,7 @@ module _ (tasks nodes : ℕ) (x : Stages) (h : Holds tasks nodes x) (t : ℕ) (l
   effect (Completes clean) x' (e, p) =
       let k : x.stage ≡ 3 = relies (Freezing 3 (HasPassed clean) true) e in
       let b : _ = freeze_bound tasks x h.stages t lt (Freezing 3 (HasPassed clean) true) e refl in
-      shown_at (Completes clean) x' _ p (stage_shown 4 (Freezing 3 (HasPassed clean) true) (Owning (Some 4) (Some 0)) e
+      shown_at (Completes clean) x' _ p (stage_shown 4 (Freezing 3 (HasPassed clean) true) (Owning None None) e
       (completes tasks x h.stages t lt clean e)
       (omega (arith, k, b, ways tasks x h.stages t lt, full_is 4 x.sb (omega arith) h.stages.superblock)))
   effect (Fails stage clean) x' (e, low, p) =
@@ -121,7 +121,7 @@ module _ (tasks nodes : ℕ) (x : Stages) (h : Holds tasks nodes x) (t : ℕ) (l
       (fails tasks x h.stages t lt stage clean e) (omega (arith, b, ways tasks x h.stages t lt)))
   effect FreezesAtOnce x' (e, p) =
       let k : (x.stage ≡ 0) × (x.sb ≡ 1) = relies (Owning (Some 0) (Some 1)) e in
-      shown_at FreezesAtOnce x' _ p (stage_shown 4 (Owning (Some 0) (Some 1)) (Owning (Some 4) (Some 1)) e
+      shown_at FreezesAtOnce x' _ p (stage_shown 4 (Owning (Some 0) (Some 1)) (Owning None None) e
       (freezes_at_once tasks x h.stages t lt e)
       (omega (arith, k, ways tasks x h.stages t lt, full_is 4 x.sb (omega arith) h.stages.superblock)))
   effect Thaws x' (e, p) =
@@ -130,7 +130,7 @@ module _ (tasks nodes : ℕ) (x : Stages) (h : Holds tasks nodes x) (t : ℕ) (l
       (omega (arith, k, ways tasks x h.stages t lt)))
   effect ThawsAtOnce x' (e, p) =
       let k : (x.stage ≡ 4) × (x.sb ≡ 1) = relies (Owning (Some 4) (Some 1)) e in
-      shown_at ThawsAtOnce x' _ p (stage_shown 0 (Owning (Some 4) (Some 1)) (Owning (Some 0) (Some 1)) e
+      shown_at ThawsAtOnce x' _ p (stage_shown 0 (Owning (Some 4) (Some 1)) (Owning None None) e
       (thaws_at_once tasks x h.stages t lt e) (omega (arith, k, ways tasks x h.stages t lt)))
   effect (SetsBlock level owner) x' (e, p) =
       shown_at (SetsBlock level owner) x' _ p (quiet_shown (update x.block level 1) (Freezing level Before owner) (Freezing level Closing owner) e
@@ -154,15 +154,15 @@ module _ (tasks nodes : ℕ) (x : Stages) (h : Holds tasks nodes x) (t : ℕ) (l
   effect (ClearsRemount clean) x' (e, p) =
       let k : (x.stage ≡ 0) × (x.sb ≡ 1) = relies (Remounting 1 clean) e in
       let r : x.remount ≡ 1 = own_remount tasks x h.stages t lt (Remounting 1 clean) e refl in
-      shown_at (ClearsRemount clean) x' _ p (flag_shown x.sb 0 (Remounting 1 clean) (Owning (Some 0) (Some 1)) s e
+      shown_at (ClearsRemount clean) x' _ p (flag_shown x.sb 0 (Remounting 1 clean) (Owning None None) s e
       k.0 (clears_remount tasks x h.stages t lt 1 clean e) refl refl refl (shows.sb_same ∙ (rw (r, k.1) refl)))
   effect (CancelsRemount clean) x' (e, p) =
       let k : (x.stage ≡ 0) × (x.sb ≡ 0) = relies (Remounting 0 clean) e in
-      shown_at (CancelsRemount clean) x' _ p (flag_shown x.sb 0 (Remounting 0 clean) (Owning (Some 0) (Some 0)) (state_after s t (Some SbRw)) e
+      shown_at (CancelsRemount clean) x' _ p (flag_shown x.sb 0 (Remounting 0 clean) (Owning None None) (state_after s t (Some SbRw)) e
       k.0 (clears_remount tasks x h.stages t lt 0 clean e) refl refl refl (rw k.1 refl))
   effect (SetsWritable sb) x' (e, p) =
       let r : x.remount ≡ 0 = own_remount tasks x h.stages t lt (Owning (Some 0) sb) e refl in
-      shown_at (SetsWritable sb) x' _ p (flag_shown 0 x.remount (Owning (Some 0) sb) (Owning (Some 0) (Some 0)) (state_after s t (Some SbRw)) e
+      shown_at (SetsWritable sb) x' _ p (flag_shown 0 x.remount (Owning (Some 0) sb) (Owning None None) (state_after s t (Some SbRw)) e
       (relies (Owning (Some 0) sb) e).0 (sets_writable tasks x h.stages t lt sb e) refl refl refl (rw r refl))
   effect (ClearsMark node) x' (e, p) =
       shown_at (ClearsMark node) x' _ p (clearing_shows tasks (playing (record x { dirty = update x.dirty node 0 }) t (Freezing 2 (HasPassed (suc node)) true)) s t node (x.dirty node)

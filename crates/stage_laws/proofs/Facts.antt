@@ -66,9 +66,16 @@ closes_le i low (Freezing stage place owner) = omega (arith, up_to_grows i (clos
 closes_le i low (Reopening closed) = omega (arith, up_to_grows i closed closed (omega arith))
 closes_le i low r = omega (arith, up_to_off i 0 (omega (arith, low)))
 
+-- a level that is closed and not passed is the one of the stage
+sums_one : (i stage : ℕ) → 1 ≤ i → (if i == stage then 1 else 0) + up_to i (stage - 1) ≡ up_to i stage
+sums_one i stage low = grind (arith, nat_tests, low)
+
 -- a level that is closed is passed, or its sum is still to be 0
-pub parts : (i : ℕ) (r : StageRole) → (sums i r + passes i r ≡ closes i r) × (passes i r ≤ closes i r)
-parts i r = omega (arith, up_to_grows i (passed_by r) (closed_by r) (passed_le r))
+pub parts : (i : ℕ) → 1 ≤ i → (r : StageRole) → sums i r + passes i r ≡ closes i r
+parts i low (Freezing stage Before owner) = omega arith
+parts i low (Freezing stage Closing owner) = sums_one i stage low
+parts i low (Freezing stage (HasPassed clean) owner) = omega arith
+parts i low r = omega arith
 
 -- who opens levels knows the stage to be 0
 pub reopens_at : (stage sb : ℕ) (r : StageRole) → KnowsStage stage sb r → 0 < reopens r → stage ≡ 0

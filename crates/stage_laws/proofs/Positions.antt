@@ -77,7 +77,7 @@ module _ (tasks stage sb remount : ℕ) (block : ℕ → ℕ) (at : ℕ → Stag
   passed_level : (i : ℕ) → 1 ≤ i → i ≤ 3 → is_passed tasks block at i ≡ total tasks (λ t. passes i (at t)) + is_full stage sb
   passed_level i low high =
       let c : total tasks (λ t. sums i (at t) + passes i (at t)) ≡ total tasks (λ t. closes i (at t)) =
-      total_same tasks _ _ (λ u lu. (parts i (at u)).0) in
+      total_same tasks _ _ (λ u lu. parts i low (at u)) in
       let a : total tasks (λ t. sums i (at t) + passes i (at t)) ≡ total tasks (λ t. sums i (at t)) + total tasks (λ t. passes i (at t)) =
       total_add tasks (λ t. sums i (at t)) (λ t. passes i (at t)) in
       let le : total tasks (λ t. closes i (at t)) ≤ total tasks (λ t. has_position (at t)) = total_le tasks _ _ (λ u lu. closes_le i low (at u)) in

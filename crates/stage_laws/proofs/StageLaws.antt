@@ -125,12 +125,12 @@ module _ (tasks : ℕ) (x : Stages) (good : StagesHold tasks x.stage x.sb x.remo
       (λ h. b.3) refl (λ i l h. omega (arith, ap (up_to i) q, ways, k, high, b.3, full_is (suc s) x.sb (omega (arith, high)) good.superblock))
 
   -- it is complete
-  pub completes : (clean : ℕ) → x.at t ≡ Freezing 3 (HasPassed clean) true → StagesAt (playing (record x { stage = 4 }) t (Owning (Some 4) (Some 0)))
+  pub completes : (clean : ℕ) → x.at t ≡ Freezing 3 (HasPassed clean) true → StagesAt (playing (record x { stage = 4 }) t (Owning None None))
   completes clean e =
       let k : x.stage ≡ 3 = relied_on (Freezing 3 (HasPassed clean) true) e in
       let b : _ = freeze_bound (Freezing 3 (HasPassed clean) true) e refl in
-      stores 4 (Freezing 3 (HasPassed clean) true) (Owning (Some 4) (Some 0)) e refl refl refl (omega arith) (sym b.0) refl
-      (λ h. b.3) (refl, b.3)
+      stores 4 (Freezing 3 (HasPassed clean) true) (Owning None None) e refl refl refl (omega arith) (sym b.0) refl
+      (λ h. b.3) (tt, tt)
       (λ i l h. omega (arith, ways, k, b.3, up_to_le i 3 h, up_to_off i 0 (omega (arith, l)), full_is 4 x.sb (omega arith) good.superblock))
 
   -- it failed at its stage
@@ -142,11 +142,11 @@ module _ (tasks : ℕ) (x : Stages) (good : StagesHold tasks x.stage x.sb x.remo
       (λ h. b.3) (refl, omega (arith, k, b)) (λ i l h. omega (arith, ways, b, full_is 0 x.sb (omega arith) good.superblock))
 
   -- a freeze of a read-only superblock
-  pub freezes_at_once : x.at t ≡ Owning (Some 0) (Some 1) → StagesAt (playing (record x { stage = 4 }) t (Owning (Some 4) (Some 1)))
+  pub freezes_at_once : x.at t ≡ Owning (Some 0) (Some 1) → StagesAt (playing (record x { stage = 4 }) t (Owning None None))
   freezes_at_once e =
       let k : (x.stage ≡ 0) × (x.sb ≡ 1) = relied_on (Owning (Some 0) (Some 1)) e in
-      stores 4 (Owning (Some 0) (Some 1)) (Owning (Some 4) (Some 1)) e refl refl refl (omega arith) (omega (arith, k, ways)) refl
-      (λ w. absurd (omega (arith, w))) (refl, k.1) (λ i l h. omega (arith, k, ways, full_is 4 x.sb (omega arith) good.superblock))
+      stores 4 (Owning (Some 0) (Some 1)) (Owning None None) e refl refl refl (omega arith) (omega (arith, k, ways)) refl
+      (λ w. absurd (omega (arith, w))) (tt, tt) (λ i l h. omega (arith, k, ways, full_is 4 x.sb (omega arith) good.superblock))
 
   -- a thaw
   pub thaws : x.at t ≡ Owning (Some 4) (Some 0) → StagesAt (playing (record x { stage = 0 }) t (Reopening 3))
@@ -157,11 +157,11 @@ module _ (tasks : ℕ) (x : Stages) (good : StagesHold tasks x.stage x.sb x.remo
       (λ i l h. omega (arith, k, ways, up_to_le i 3 h, up_to_off i 0 (omega (arith, l)), full_is 0 x.sb (omega arith) good.superblock))
 
   -- and one of a read-only superblock
-  pub thaws_at_once : x.at t ≡ Owning (Some 4) (Some 1) → StagesAt (playing (record x { stage = 0 }) t (Owning (Some 0) (Some 1)))
+  pub thaws_at_once : x.at t ≡ Owning (Some 4) (Some 1) → StagesAt (playing (record x { stage = 0 }) t (Owning None None))
   thaws_at_once e =
       let k : (x.stage ≡ 4) × (x.sb ≡ 1) = relied_on (Owning (Some 4) (Some 1)) e in
-      stores 0 (Owning (Some 4) (Some 1)) (Owning (Some 0) (Some 1)) e refl refl refl (omega arith) (omega (arith, k, ways)) refl
-      (λ w. absurd (omega (arith, w))) (refl, k.1) (λ i l h. omega (arith, k, ways, full_is 0 x.sb (omega arith) good.superblock))
+      stores 0 (Owning (Some 4) (Some 1)) (Owning None None) e refl refl refl (omega arith) (omega (arith, k, ways)) refl
+      (λ w. absurd (omega (arith, w))) (tt, tt) (λ i l h. omega (arith, k, ways, full_is 0 x.sb (omega arith) good.superblock))
 
   -- a swap of `block` closes the level of the stage
   pub sets_block : (i : ℕ) (owner : Bool) → x.at t ≡ Freezing i Before owner →
@@ -198,17 +198,17 @@ module _ (tasks : ℕ) (x : Stages) (good : StagesHold tasks x.stage x.sb x.remo
       stores_flags 1 x.remount (Remounting 0 clean) (Remounting 1 clean) e k.0 refl refl refl refl refl (omega arith) refl (k.0, refl)
 
   -- and clears `remount`, after that or where the file system refused
-  pub clears_remount : (b clean : ℕ) → x.at t ≡ Remounting b clean → StagesAt (playing (record x { remount = 0 }) t (Owning (Some 0) (Some b)))
+  pub clears_remount : (b clean : ℕ) → x.at t ≡ Remounting b clean → StagesAt (playing (record x { remount = 0 }) t (Owning None None))
   clears_remount b clean e =
       let k : (x.stage ≡ 0) × (x.sb ≡ b) = relied_on (Remounting b clean) e in
-      stores_flags x.sb 0 (Remounting b clean) (Owning (Some 0) (Some b)) e k.0 refl refl refl refl refl good.superblock
-      (omega (arith, own_remount (Remounting b clean) e refl)) k
+      stores_flags x.sb 0 (Remounting b clean) (Owning None None) e k.0 refl refl refl refl refl good.superblock
+      (omega (arith, own_remount (Remounting b clean) e refl)) (tt, tt)
 
   -- a remount makes the superblock writable
-  pub sets_writable : (b : Option ℕ) → x.at t ≡ Owning (Some 0) b → StagesAt (playing (record x { sb = 0 }) t (Owning (Some 0) (Some 0)))
+  pub sets_writable : (b : Option ℕ) → x.at t ≡ Owning (Some 0) b → StagesAt (playing (record x { sb = 0 }) t (Owning None None))
   sets_writable b e =
       let z : x.stage ≡ 0 = (relied_on (Owning (Some 0) b) e).0 in
-      stores_flags 0 x.remount (Owning (Some 0) b) (Owning (Some 0) (Some 0)) e z refl refl refl refl refl (omega arith) refl (z, refl)
+      stores_flags 0 x.remount (Owning (Some 0) b) (Owning None None) e z refl refl refl refl refl (omega arith) refl (tt, tt)
 
   -- a sum was 0: the same levels are closed
   pub turns_block : (i clean : ℕ) (owner : Bool) → x.at t ≡ Freezing i Closing owner → StagesAt (playing x t (Freezing i (HasPassed clean) owner))

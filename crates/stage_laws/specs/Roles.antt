@@ -90,7 +90,8 @@ passes i r = up_to i (passed_by r)
 
 -- 1 where it has closed level i and not passed it
 abbrev pub sums : ℕ → StageRole → ℕ
-sums i r = closes i r - passes i r
+sums i (Freezing stage Closing owner) = if i == stage then 1 else 0
+sums i r = 0
 
 -- the nodes below this one are clean at a place: marks are cleared once level 2 is passed
 abbrev pub clean_at : ℕ → Place → ℕ
