@@ -7,3 +7,4 @@ pub mod EachEvent
 pub mod Allowed
 pub mod Effects
 pub mod Whole
+pub mod Walks

@@ -1,5 +1,6 @@
 -- The laws of the stage.
-use Rattle.std.specs.Prelude.{◌≡◌, ℕ, ◌+◌, ◌<◌, ◌≤◌, ◌⊎◌, Option, Some, None}
+use Rattle.std.specs.Prelude.{◌≡◌, ℕ, ◌+◌, ◌<◌, ◌≤◌, ◌⊎◌, Option, Some, None, List, [], ◌∷◌}
+use Rattle.access_model.specs.declared.actions.Action.TheVariants.{Stage, Pass, Reopen, Clean}
 use Rattle.access_model.specs.declared.actions.Action.{Action}
 use Rattle.access_model.specs.States.{Limits, State}
 use Rattle.access_model.specs.Actions.{IsAllowed}
@@ -71,3 +72,21 @@ FrozenAsAWhole = (tasks nodes : ℕ) (x : Stages) → Holds tasks nodes x →
 abbrev pub OpenElsewhere : Type 0
 OpenElsewhere = (tasks nodes : ℕ) (x : Stages) → Holds tasks nodes x → ((t : ℕ) → t < tasks → has_position (x.at t) ≡ 0) →
     is_full x.stage x.sb ≡ 0 → (passed_shown tasks x.block x.at ≡ 0) × ((i : ℕ) → 1 ≤ i → i ≤ 3 → x.block i ≡ 0)
+
+-- one action more, if there is one
+abbrev pub with_one : Option Action → List Action → List Action
+with_one None actions = actions
+with_one (Some action) actions = action ∷ actions
+
+-- a run of events of task 0, with the actions that it adds, the first one first
+pub data StageRun (tasks nodes : ℕ) : Stages → List Action → Stages → Type 0 where
+  Ends : (x : Stages) → StageRun tasks nodes x [] x
+  Goes : (x x' last : Stages) (actions : List Action) (kind : StageEvent) → Happens tasks nodes 0 x x' kind → StageRun tasks nodes x' actions last →
+      StageRun tasks nodes x (with_one (action_of kind x) actions) last
+
+-- Whole operations do happen: from the beginning, where a node is marked dirty, a task freezes the file system, and another time thaws it.
+abbrev pub FreezeAndThawHappen : Type 0
+FreezeAndThawHappen =
+    (frozen : Stages) × (thawed : Stages) × (frozen.stage ≡ 4) × (frozen.at 0 ≡ Aside) × (thawed.stage ≡ 0) × (thawed.at 0 ≡ Aside) ×
+    StageRun 1 2 opening (Stage 1 ∷ Pass 1 ∷ Stage 2 ∷ Pass 2 ∷ Clean 1 ∷ Stage 3 ∷ Pass 3 ∷ Stage 4 ∷ []) frozen ×
+    StageRun 1 2 frozen (Stage 0 ∷ Reopen 3 ∷ Reopen 2 ∷ Reopen 1 ∷ []) thawed

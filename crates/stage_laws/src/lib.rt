@@ -6,7 +6,7 @@ ghost use Rattle.std.specs.Prelude.{ℕ};
 ghost use Rattle.stage_laws.specs.Events.{Holds};
 ghost use Rattle.stage_laws.specs.Laws.{opening, EventsKeep, ActionsAreAllowed, ActionsHaveTheirEffect};
 ghost use Rattle.stage_laws.specs.Laws.{FreezeIsUnderWay, FreezeKeepsOthersOut, PositionsAreAlone, OnlyTheFreezeMovesTheStage};
-ghost use Rattle.stage_laws.specs.Laws.{PositionsTellTheLevels, FrozenAsAWhole, OpenElsewhere};
+ghost use Rattle.stage_laws.specs.Laws.{PositionsTellTheLevels, FrozenAsAWhole, OpenElsewhere, FreezeAndThawHappen};
 
 /// What holds of the stage and of the marks holds at the beginning, and each event keeps it. Does nothing: its contract is the law.
 pub fn each_event_keeps_the_stages()
@@ -36,4 +36,9 @@ pub fn positions_tell_the_levels()
     ensures positions { PositionsTellTheLevels }
     ensures frozen { FrozenAsAWhole }
     ensures elsewhere { OpenElsewhere }
+{}
+
+/// A whole freeze and a whole thaw happen, each event as it is asked for. Does nothing: its contract is the law.
+pub fn a_freeze_and_a_thaw_happen()
+    ensures { FreezeAndThawHappen }
 {}
