@@ -2,16 +2,16 @@
 use Rattle.stage_laws.proofs.EachEvent.{fewer, own_clean}
 use Rattle.stage_laws.proofs.StageLaws.{freeze_bound, own_remount, relied_on, ways}
 use Rattle.stage_laws.proofs.Positions.{owner_idle, passed_idle, passed_own}
-use Rattle.std.proofs.Common.{◌≡◌, ℕ, zero, suc, ◌+◌, ◌*◌, ◌-◌, ◌<◌, ◌≤◌, refl, sym, ap, ◌∙◌, subst, inl, inr, arith}
-use Rattle.std.specs.Prelude.{◌==◌, ◌||◌, ◌⊎◌, Bool, true, false, Option, Some, None}
+use Rattle.std.proofs.Common.{◌≡◌, ℕ, zero, suc, ◌-◌, ◌<◌, ◌≤◌, refl, ap, ◌∙◌, subst, inl, inr, arith}
+use Rattle.std.specs.Prelude.{◌==◌, Bool, true, false, Option, Some, None}
 use Rattle.std.proofs.lemmas.Bool.Decides.{eqb_tells}
 use Rattle.std.proofs.lemmas.Option.{none-some}
 use Rattle.access_model.specs.declared.actions.Action.{Action}
-use Rattle.access_model.specs.declared.actions.Action.TheVariants.{SbRo, SbRw, Stage, Pass, Reopen, Clean}
+use Rattle.access_model.specs.declared.actions.Action.TheVariants.{SbRo, Pass, Clean}
 use Rattle.access_model.specs.States.{Limits, State, IsClean}
-use Rattle.access_model.specs.Actions.{MayDo, IsAllowed}
-use Rattle.stage_laws.specs.Roles.{StageRole, Aside, Owning, Remounting, Freezing, Reopening, StagesHold, CleanBelow, Closing, HasPassed, KnowsStage, has_position, owns, passed_by, remounts}
-use Rattle.stage_laws.specs.Shown.{passed_shown, AsksOthers}
+use Rattle.access_model.specs.Actions.{MayDo}
+use Rattle.stage_laws.specs.Roles.{StageRole, Owning, Remounting, Freezing, Reopening, CleanBelow, Closing, HasPassed, KnowsStage, has_position, owns, passed_by, remounts}
+use Rattle.stage_laws.specs.Shown.{AsksOthers}
 use Rattle.stage_laws.specs.Events.{Stages, Holds, Shows, StageEvent, Happens, action_of, cleaned, Advances, Begins, CancelsRemount, ClearsBlock, ClearsMark, ClearsMarkReadOnly, Completes, Fails, FreezesAtOnce, Passes, SetsRemount, SetsWritable, Syncs, Thaws, ThawsAtOnce}
 
 -- the action that there is, or else this one

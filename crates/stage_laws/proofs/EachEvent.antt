@@ -1,11 +1,11 @@
 -- Each event keeps what holds of the stage and of the marks.
 use Rattle.stage_laws.proofs.MarkLaws.{cleared_anew, washed, one_more, marked}
 use Rattle.stage_laws.proofs.StageLaws.{turns, relied_on, releases_open, begins, advances, completes, fails, freezes_at_once, thaws, thaws_at_once, sets_block, turns_block, clears_block, sets_remount, clears_remount, sets_read_only, sets_writable}
-use Rattle.std.proofs.Common.{◌≡◌, ℕ, suc, ◌+◌, ◌<◌, ◌≤◌, refl, sym, ap, ◌∙◌, subst, inl, inr, arith, zero}
-use Rattle.std.specs.Prelude.{Bool, true, false, Option, Some, None}
-use Rattle.finite_sums.specs.Sums.{update, total}
-use Rattle.stage_laws.specs.Roles.{StageRole, Aside, Owning, Remounting, Freezing, Reopening, StagesHold, CleanBelow, MarksHold, clean_by, clean_at, Closing, HasPassed, Before}
-use Rattle.stage_laws.specs.Events.{Stages, Holds, playing, StageEvent, Happens, LocksAgain, Releases, LetsGo, LoadsStage, LoadsSb, Advances, Syncs, Completes, Fails, SetsBlock, Passes, ClearsBlock, SetsRemount, Begins, CancelsRemount, ClearsMark, ClearsMarkReadOnly, ClearsRemount, FreezesAtOnce, Locks, MarksNode, Recalls, ReleasesOpen, SetsReadOnly, SetsWritable, Stays, Thaws, ThawsAtOnce, WashesNode}
+use Rattle.std.proofs.Common.{◌≡◌, ℕ, suc, ◌<◌, ◌≤◌, refl, sym, subst, arith, zero}
+use Rattle.std.specs.Prelude.{true, false, Some, None}
+use Rattle.finite_sums.specs.Sums.{update}
+use Rattle.stage_laws.specs.Roles.{StageRole, Aside, Owning, Remounting, Freezing, Reopening, CleanBelow, MarksHold, clean_by, clean_at, Closing, HasPassed, Before}
+use Rattle.stage_laws.specs.Events.{Stages, Holds, StageEvent, Happens, LocksAgain, Releases, LetsGo, LoadsStage, LoadsSb, Advances, Syncs, Completes, Fails, SetsBlock, Passes, ClearsBlock, SetsRemount, Begins, CancelsRemount, ClearsMark, ClearsMarkReadOnly, ClearsRemount, FreezesAtOnce, Locks, MarksNode, Recalls, ReleasesOpen, SetsReadOnly, SetsWritable, Stays, Thaws, ThawsAtOnce, WashesNode}
 
 module _ (tasks nodes : ℕ) (x : Stages) (h : Holds tasks nodes x) (t : ℕ) (lt : t < tasks) where
   -- nothing is clean below node 0

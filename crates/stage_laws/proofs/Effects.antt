@@ -4,14 +4,13 @@ use Rattle.stage_laws.proofs.EachEvent.{after_kind}
 use Rattle.stage_laws.proofs.Facts.{full_is}
 use Rattle.stage_laws.proofs.Changes.{passed_moves}
 use Rattle.stage_laws.proofs.Positions.{passed_own}
-use Rattle.std.proofs.Common.{◌≡◌, ℕ, zero, suc, ◌+◌, ◌*◌, ◌-◌, ◌<◌, ◌≤◌, refl, sym, ap, ◌∙◌, subst, inl, inr, arith}
-use Rattle.std.specs.Prelude.{◌==◌, ◌||◌, Bool, true, false, Option, Some, None}
+use Rattle.std.proofs.Common.{◌≡◌, ℕ, zero, suc, ◌+◌, ◌*◌, ◌<◌, refl, sym, ap, ◌∙◌, subst, arith}
+use Rattle.std.specs.Prelude.{◌==◌, ◌||◌, true, false, Some, None}
 use Rattle.finite_sums.specs.Sums.{update}
-use Rattle.access_model.specs.declared.actions.Action.{Action}
-use Rattle.access_model.specs.declared.actions.Action.TheVariants.{SbRo, SbRw, Stage, Pass, Reopen, Clean}
+use Rattle.access_model.specs.declared.actions.Action.TheVariants.{SbRo, SbRw, Stage, Pass, Reopen}
 use Rattle.access_model.specs.States.{State}
 use Rattle.stage_laws.specs.Roles.{StageRole, Aside, Owning, Remounting, Freezing, Reopening, StagesHold, Before, Closing, HasPassed, KnowsStage, has_position, is_full, passed_by}
-use Rattle.stage_laws.specs.Shown.{passed_shown, ShowsStages, state_after}
+use Rattle.stage_laws.specs.Shown.{ShowsStages, state_after}
 use Rattle.stage_laws.specs.Events.{Stages, Holds, StageEvent, Happens, action_of, cleaned, playing, Advances, Begins, CancelsRemount, ClearsBlock, ClearsMark, ClearsMarkReadOnly, ClearsRemount, Completes, Fails, FreezesAtOnce, LetsGo, LoadsSb, LoadsStage, Locks, LocksAgain, MarksNode, Passes, Recalls, Releases, ReleasesOpen, SetsBlock, SetsReadOnly, SetsRemount, SetsWritable, Stays, Syncs, Thaws, ThawsAtOnce, WashesNode}
 
 -- a state shows a moment
@@ -32,11 +31,11 @@ module _ (tasks nodes : ℕ) (x : Stages) (h : Holds tasks nodes x) (t : ℕ) (l
   shown_after old new stage' sb' remount' block' s' e good st p b = record {
     stage_same = st;
     passed_same = omega (
-          arith,
-          p,
-          shows.passed_same,
-          passed_moves tasks x.stage x.sb x.remount x.block x.at h.stages t lt old new stage' sb' remount' block' e good,
-        );
+      arith,
+      p,
+      shows.passed_same,
+      passed_moves tasks x.stage x.sb x.remount x.block x.at h.stages t lt old new stage' sb' remount' block' e good,
+    );
     sb_same = b;
   }
 

@@ -2,13 +2,12 @@
 use Rattle.stage_laws.proofs.Facts.{owner_only}
 use Rattle.stage_laws.proofs.Positions.{way, who_freezes, passed_own, passed_is}
 use Rattle.finite_sums.proofs.Totals.{each_updated, total_at}
-use Rattle.std.proofs.Common.{◌≡◌, ℕ, suc, ◌+◌, ◌<◌, ◌≤◌, refl, sym, ap, ◌∙◌, subst, inl, inr, arith, ◌%◌, ◌/◌, zero, ◌-◌}
-use Rattle.std.specs.Prelude.{Bool, true, false, Option, Some, None}
+use Rattle.std.proofs.Common.{◌≡◌, ℕ, suc, ◌+◌, ◌<◌, ◌≤◌, refl, inl, inr, arith, ◌%◌, ◌/◌, zero, ◌-◌}
 use Rattle.std.proofs.lemmas.Bool.Decides.{eqb_tells}
-use Rattle.finite_sums.specs.Sums.{update, total}
+use Rattle.finite_sums.specs.Sums.{update}
 use Rattle.stage_laws.specs.Roles.{StageRole, StagesHold, CleanBelow, MarksHold, Place, clean_by, KnowsStage, under_way, clean_at, remounts, freezes, passed_at, passed_by, HasPassed, has_position, Freezing, is_full, Remounting, Before, Closing}
 use Rattle.stage_laws.specs.Shown.{passed_shown}
-use Rattle.stage_laws.specs.Events.{Stages, Holds, playing}
+use Rattle.stage_laws.specs.Events.{Stages, Holds}
 
 -- clean nodes stay clean where one is cleaned
 still_clean : (n node : ℕ) (dirty : ℕ → ℕ) → CleanBelow n dirty → CleanBelow n (update dirty node 0)
@@ -65,13 +64,13 @@ marked tasks nodes x node mark h passed remount sb =
     let good : StagesHold tasks x.stage x.sb x.remount x.block x.at = h.stages in
     let ways : (under_way x.stage ≡ (x.stage % 4 + 3) / 4) × (is_full x.stage x.sb ≡ x.stage / 4 - x.sb) = way tasks x.stage x.sb x.remount x.block x.at good in
     let none : x.stage ≡ 3 → ⊥ = λ e.
-        let w : (t : ℕ) × (t < tasks) × (freezes (x.at t) ≡ 1) = who_freezes tasks x.stage x.sb x.remount x.block x.at good (omega (arith, e, ways)) in
-        omega (
-          arith,
-          passed,
-          passed_third (x.at w.0) x.stage x.sb (good.knows w.0 w.1) w.2 e,
-          passed_own tasks x.stage x.sb x.remount x.block x.at good w.0 w.1 (omega (arith, w.2, owner_only (x.at w.0))),
-        ) in
+    let w : (t : ℕ) × (t < tasks) × (freezes (x.at t) ≡ 1) = who_freezes tasks x.stage x.sb x.remount x.block x.at good (omega (arith, e, ways)) in
+    omega (
+      arith,
+      passed,
+      passed_third (x.at w.0) x.stage x.sb (good.knows w.0 w.1) w.2 e,
+      passed_own tasks x.stage x.sb x.remount x.block x.at good w.0 w.1 (omega (arith, w.2, owner_only (x.at w.0))),
+    ) in
     let low : x.stage < 3 = elim (eqb_tells x.stage 3) [
       | inl e ↦ absurd (none e.1)
       | inr e ↦ omega (arith, e.1, sb, ways, passed, good.stages, passed_is tasks x.stage x.sb x.remount x.block x.at good)

@@ -1,10 +1,10 @@
 -- Whole operations, event by event: what one event leaves is what the next one asks for.
 use Rattle.std.proofs.Common.{◌≡◌, ℕ, refl, arith, suc, zero}
-use Rattle.std.specs.Prelude.{true, false, Option, Some, None, List, [], ◌∷◌}
+use Rattle.std.specs.Prelude.{true, false, Some, None, List}
 use Rattle.access_model.specs.declared.actions.Action.{Action}
 use Rattle.stage_laws.specs.Roles.{Before, HasPassed, CleanBelow}
 use Rattle.stage_laws.specs.Events.{Stages, StageEvent, Happens, action_of, Advances, Begins, ClearsBlock, ClearsMark, Completes, LetsGo, LoadsSb, LoadsStage, Locks, LocksAgain, MarksNode, Passes, Releases, ReleasesOpen, SetsBlock, Syncs, Thaws}
-use Rattle.stage_laws.specs.Laws.{opening, with_one, StageRun, Ends, Goes, FreezeAndThawHappen}
+use Rattle.stage_laws.specs.Laws.{with_one, StageRun, Ends, Goes, FreezeAndThawHappen}
 
 -- one event, and the rest of a run of one task and two nodes
 goes : {x x' last : Stages} {actions : List Action} (kind : StageEvent) → Happens 1 2 0 x x' kind → StageRun 1 2 x' actions last →

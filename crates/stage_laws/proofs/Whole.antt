@@ -5,29 +5,27 @@ use Rattle.stage_laws.proofs.Effects.{effect}
 use Rattle.stage_laws.proofs.StageLaws.{freeze_bound, relied_on}
 use Rattle.stage_laws.proofs.Allowed.{may}
 use Rattle.stage_laws.proofs.Facts.{up_to_off}
-use Rattle.std.proofs.Common.{◌≡◌, ℕ, zero, suc, ◌+◌, ◌*◌, ◌-◌, ◌/◌, ◌%◌, ◌<◌, ◌≤◌, refl, sym, ap, ◌∙◌, subst, inl, inr, arith, set}
-use Rattle.std.specs.Prelude.{◌==◌, ◌||◌, ◌⊎◌, Bool, true, false, Option, Some, None}
+use Rattle.std.proofs.Common.{◌≡◌, ℕ, ◌<◌, ◌≤◌, refl, sym, ap, ◌∙◌, inl, inr, arith}
+use Rattle.std.specs.Prelude.{◌⊎◌, Bool, true, Option, Some}
 use Rattle.std.proofs.lemmas.Bool.Decides.{eqb_tells}
 use Rattle.finite_sums.proofs.Totals.{total_none, total_zero, total_at, HasPlace, total_place}
-use Rattle.access_model.specs.States.{State}
-use Rattle.stage_laws.specs.Roles.{StageRole, Aside, Owning, Remounting, Freezing, Reopening, StagesHold, HasPassed, KnowsStage, Place, closes, freezes, has_position, is_full, remounts}
-use Rattle.stage_laws.specs.Shown.{passed_shown, ShowsStages, state_after}
-use Rattle.stage_laws.specs.Events.{Stages, Holds, Shows, StageEvent, Happens, action_of, Advances, Begins, CancelsRemount, ClearsBlock, ClearsMark, ClearsMarkReadOnly, ClearsRemount, Completes, Fails, FreezesAtOnce, LetsGo, LoadsSb, LoadsStage, Locks, LocksAgain, MarksNode, Passes, Recalls, Releases, ReleasesOpen, SetsBlock, SetsReadOnly, SetsRemount, SetsWritable, Stays, Syncs, Thaws, ThawsAtOnce, WashesNode}
-use Rattle.stage_laws.specs.Laws.{opening, StageStep, EventsKeep, ActionsAreAllowed, ActionsHaveTheirEffect, FreezeIsUnderWay, FreezeKeepsOthersOut, FrozenAsAWhole, OnlyTheFreezeMovesTheStage, OpenElsewhere, PositionsAreAlone, PositionsTellTheLevels}
+use Rattle.stage_laws.specs.Roles.{StageRole, Aside, Owning, Remounting, Freezing, HasPassed, KnowsStage, Place, closes, freezes, has_position, is_full, remounts}
+use Rattle.stage_laws.specs.Events.{Stages, Holds, StageEvent, Happens, Advances, Begins, CancelsRemount, ClearsBlock, ClearsMark, ClearsMarkReadOnly, ClearsRemount, Completes, Fails, FreezesAtOnce, LetsGo, LoadsSb, LoadsStage, Locks, LocksAgain, MarksNode, Passes, Recalls, Releases, ReleasesOpen, SetsBlock, SetsReadOnly, SetsRemount, SetsWritable, Stays, Syncs, Thaws, ThawsAtOnce, WashesNode}
+use Rattle.stage_laws.specs.Laws.{opening, EventsKeep, ActionsAreAllowed, ActionsHaveTheirEffect, FreezeIsUnderWay, FreezeKeepsOthersOut, FrozenAsAWhole, OnlyTheFreezeMovesTheStage, OpenElsewhere, PositionsAreAlone, PositionsTellTheLevels}
 
 -- everything holds where nothing is frozen and nobody has begun anything
 pub opening_is_right : (tasks nodes : ℕ) → Holds tasks nodes opening
 opening_is_right tasks nodes = record {
   stages = record {
-        stages = omega arith;
-        superblock = omega arith;
-        alone = omega (arith, total_zero tasks);
-        freezing = total_zero tasks;
-        writable = λ e. refl;
-        remounting = sym (total_zero tasks);
-        blocks = λ i low high. omega (arith, total_none tasks (λ t. closes i Aside) (λ t lt. up_to_off i 0 (omega (arith, low))));
-        knows = λ t lt. tt;
-      };
+    stages = omega arith;
+    superblock = omega arith;
+    alone = omega (arith, total_zero tasks);
+    freezing = total_zero tasks;
+    writable = λ e. refl;
+    remounting = sym (total_zero tasks);
+    blocks = λ i low high. omega (arith, total_none tasks (λ t. closes i Aside) (λ t lt. up_to_off i 0 (omega (arith, low))));
+    knows = λ t lt. tt;
+  };
   marks = record { frozen = λ e m lt. refl; read_only = λ e m lt. refl; cleared = λ t lt m l. refl };
 }
 
@@ -89,7 +87,7 @@ frozen_as_a_whole tasks nodes x h =
       (λ e.
           let full : is_full x.stage x.sb ≡ 1 = omega (arith, e, w) in
           let none : (t : ℕ) → t < tasks → has_position (x.at t) ≡ 0 = λ t lt.
-              omega (arith, full, one_position tasks x.stage x.sb x.remount x.block x.at h.stages, total_at tasks t (λ u. has_position (x.at u)) lt) in (
+          omega (arith, full, one_position tasks x.stage x.sb x.remount x.block x.at h.stages, total_at tasks t (λ u. has_position (x.at u)) lt) in (
             (λ i low high. block_idle tasks x.stage x.sb x.remount x.block x.at h.stages none i low high ∙ full),
             omega (arith, full, passed_idle tasks x.stage x.sb x.remount x.block x.at h.stages none),
             none,

@@ -1,10 +1,10 @@
 -- The laws of the stage.
-use Rattle.std.specs.Prelude.{◌≡◌, ℕ, ◌+◌, ◌<◌, ◌≤◌, ◌⊎◌, Option, Some, None, List, [], ◌∷◌}
+use Rattle.std.specs.Prelude.{◌≡◌, ℕ, ◌<◌, ◌≤◌, Option, Some, None, List, [], ◌∷◌}
 use Rattle.access_model.specs.declared.actions.Action.TheVariants.{Stage, Pass, Reopen, Clean}
 use Rattle.access_model.specs.declared.actions.Action.{Action}
 use Rattle.access_model.specs.States.{Limits, State}
 use Rattle.access_model.specs.Actions.{IsAllowed}
-use Rattle.stage_laws.specs.Roles.{StageRole, Aside, Owning, Remounting, Freezing, owns, freezes, has_position, remounts, closes, closed_by, passed_by, under_way, is_full, CleanBelow}
+use Rattle.stage_laws.specs.Roles.{Aside, Owning, freezes, has_position, closes, passed_by, is_full}
 use Rattle.stage_laws.specs.Shown.{passed_shown, ShowsStages, AsksOthers, state_after}
 use Rattle.stage_laws.specs.Events.{Stages, Holds, Shows, StageEvent, Happens, action_of}
 

@@ -1,6 +1,6 @@
 -- How far a freeze has come: the stage, the superblock's flags, `remount`, the blocks of the levels and the marks of the nodes, and what
 -- each task is doing with them.
-use Rattle.std.specs.Prelude.{◌≡◌, ℕ, zero, suc, ◌+◌, ◌-◌, ◌<◌, ◌≤◌, ◌==◌, ◌&&◌, nat_le, nat_lt, if◌then◌else◌, Bool, true, false, Option, Some, None}
+use Rattle.std.specs.Prelude.{◌≡◌, ℕ, suc, ◌+◌, ◌-◌, ◌<◌, ◌≤◌, ◌==◌, ◌&&◌, nat_le, nat_lt, if◌then◌else◌, Bool, Option, Some, None}
 use Rattle.finite_sums.specs.Sums.{total}
 
 -- Where a freeze is with the level of its stage.
