@@ -47,7 +47,8 @@ module _ (l : Limits) (x : Stages) (h : Holds l.tasks l.nodes x) (t : ℕ) (lt :
   no_level : (old : StageRole) → x.at t ≡ old → owns old ≡ 1 → has_position old ≡ 0 → x.stage ≡ 0 → s.passed ≡ 0
   no_level old e o n z =
       let w : _ = ways l.tasks x h.stages t lt in
-      let idle : _ = owner_idle l.tasks x.stage x.sb x.remount x.block x.at h.stages t lt (ap owns e ∙ o) (ap has_position e ∙ n) (omega (arith, z, w)) in
+      let idle : _ =
+      owner_idle l.tasks x.stage x.sb x.remount x.block x.at h.stages t lt (ap owns e ∙ o) (ap has_position e ∙ n) (omega (arith, z, w)) in
       omega (arith, shows.stages.passed_same, passed_idle l.tasks x.stage x.sb x.remount x.block x.at h.stages idle, z, w)
 
   -- whether the superblock is shown read-only, to an owner that hasn't set `remount`
@@ -59,7 +60,8 @@ module _ (l : Limits) (x : Stages) (h : Holds l.tasks l.nodes x) (t : ℕ) (lt :
   relies old e = relied_on l.tasks x h.stages t lt old e
 
   -- what is allowed under what it asks is allowed
-  may_be : (act action : Action) → Some act ≡ Some action → AsksOthers l s action → (AsksOthers l s act → MayDo l s t act) → MayDo l s t action
+  may_be : (act action : Action) → Some act ≡ Some action → AsksOthers l s action → (AsksOthers l s act → MayDo l s t act) →
+      MayDo l s t action
   may_be act action a asks f = subst (λ b. AsksOthers l s b → MayDo l s t b) (some_inj a) f asks
 
   -- the action of each event is allowed
@@ -67,8 +69,12 @@ module _ (l : Limits) (x : Stages) (h : Holds l.tasks l.nodes x) (t : ℕ) (lt :
       AsksOthers l s action → MayDo l s t action
   may Begins x' (e, p) action a asks =
       let k : (x.stage ≡ 0) × (x.sb ≡ 0) = relies (Owning (Some 0) (Some 0)) e in
-      subst (MayDo l s t) (some_inj a)
-      (at_stage 0 k.0, no_level (Owning (Some 0) (Some 0)) e refl refl k.0, flag_of (Owning (Some 0) (Some 0)) false e refl refl (rw k.1 refl))
+      subst (MayDo l s t) (some_inj a) (
+        at_stage 0 k.0,
+        no_level (Owning (Some 0) (Some 0)) e refl refl k.0,
+        flag_of (Owning (Some 0) (Some 0)) false e refl refl
+            (rw k.1 refl),
+      )
   may (Advances clean) x' (e, p) action a asks =
       subst (MayDo l s t) (some_inj a)
       (at_stage 1 (relies (Freezing 1 (HasPassed clean) true) e), own_levels (Freezing 1 (HasPassed clean) true) e refl)
@@ -94,10 +100,16 @@ module _ (l : Limits) (x : Stages) (h : Holds l.tasks l.nodes x) (t : ℕ) (lt :
       let k : (x.stage ≡ 0) × (x.sb ≡ 1) = relies (Owning (Some 0) (Some 1)) e in
       subst (MayDo l s t) (some_inj a) (
         all_clean (h.marks.read_only k.1),
-        inr (at_stage 0 k.0, no_level (Owning (Some 0) (Some 1)) e refl refl k.0, flag_of (Owning (Some 0) (Some 1)) true e refl refl (rw k.1 refl)),
+        inr (
+          at_stage 0 k.0,
+          no_level (Owning (Some 0) (Some 1)) e refl refl k.0,
+          flag_of (Owning (Some 0) (Some 1)) true e refl refl
+              (rw k.1 refl),
+        ),
       )
   may Thaws x' (e, p) action a asks = subst (MayDo l s t) (some_inj a) (inr (inr (at_stage 4 (relies (Owning (Some 4) (Some 0)) e).0)))
-  may ThawsAtOnce x' (e, p) action a asks = subst (MayDo l s t) (some_inj a) (inr (inr (at_stage 4 (relies (Owning (Some 4) (Some 1)) e).0)))
+  may ThawsAtOnce x' (e, p) action a asks = subst (MayDo l s t) (some_inj a)
+      (inr (inr (at_stage 4 (relies (Owning (Some 4) (Some 1)) e).0)))
   may (Passes level clean owner) x' (e, c, p) action a asks =
       let k : x.stage ≡ level = relies (Freezing level Closing owner) e in
       let b : _ = freeze_bound l.tasks x h.stages t lt (Freezing level Closing owner) e refl in

@@ -14,7 +14,8 @@ free_knows stage sb stage' sb' Aside o h k = tt
 free_knows stage sb stage' sb' (Freezing known place owner) o h k = elim h [ inl e ↦ absurd (omega (arith, e)) | inr e ↦ e ∙ k ]
 free_knows stage sb stage' sb' r o h k = absurd (omega (arith, o))
 
-module _ (tasks stage sb remount : ℕ) (block : ℕ → ℕ) (at : ℕ → StageRole) (good : StagesHold tasks stage sb remount block at) (t : ℕ) (lt : t < tasks) where
+module _ (tasks stage sb remount : ℕ) (block : ℕ → ℕ) (at : ℕ → StageRole) (good : StagesHold tasks stage sb remount block at) (t : ℕ)
+    (lt : t < tasks) where
   -- what an event's words and role after it have to agree on with those before it
   pub record Agrees (old new : StageRole) (stage' sb' remount' : ℕ) (block' : ℕ → ℕ) : Type 0 where
     pub stages : stage' ≤ 4
@@ -28,7 +29,8 @@ module _ (tasks stage sb remount : ℕ) (block : ℕ → ℕ) (at : ℕ → Stag
     pub own : KnowsStage stage' sb' new
 
   -- then the stage holds after it
-  pub any_event : (old new : StageRole) (stage' sb' remount' : ℕ) (block' : ℕ → ℕ) → at t ≡ old → Agrees old new stage' sb' remount' block' →
+  pub any_event : (old new : StageRole) (stage' sb' remount' : ℕ) (block' : ℕ → ℕ) → at t ≡ old →
+      Agrees old new stage' sb' remount' block' →
       StagesHold tasks stage' sb' remount' block' (update at t new)
   any_event old new stage' sb' remount' block' e agrees = record {
     stages = agrees.stages;

@@ -17,7 +17,8 @@ module _ (tasks nodes : ℕ) (x : Stages) (h : Holds tasks nodes x) (t : ℕ) (l
   own_clean old e = subst (λ r. CleanBelow (clean_by r) x.dirty) e (h.marks.cleared t lt)
 
   -- a stage after which no more nodes have to be clean
-  same_marks : (stage' sb' : ℕ) (new : StageRole) → (3 ≤ stage' → CleanBelow nodes x.dirty) → (sb' ≡ 1 → CleanBelow nodes x.dirty) → CleanBelow (clean_by new) x.dirty →
+  same_marks : (stage' sb' : ℕ) (new : StageRole) → (3 ≤ stage' → CleanBelow nodes x.dirty) → (sb' ≡ 1 → CleanBelow nodes x.dirty) →
+      CleanBelow (clean_by new) x.dirty →
       MarksHold tasks nodes stage' sb' x.dirty (update x.at t new)
   same_marks stage' sb' new f r c = cleared_anew tasks nodes x.stage x.sb stage' sb' x.dirty x.at t new h.marks f r c
 
@@ -31,7 +32,8 @@ module _ (tasks nodes : ℕ) (x : Stages) (h : Holds tasks nodes x) (t : ℕ) (l
   cleans node old new e c c' =
       let w : MarksHold tasks nodes x.stage x.sb (update x.dirty node 0) x.at = washed tasks nodes x.stage x.sb x.dirty x.at node h.marks in
       cleared_anew tasks nodes x.stage x.sb x.stage x.sb (update x.dirty node 0) x.at t new w w.frozen w.read_only
-      (subst (λ k. CleanBelow k (update x.dirty node 0)) (sym c') (one_more node x.dirty (subst (λ k. CleanBelow k x.dirty) c (own_clean old e))))
+      (subst (λ k. CleanBelow k (update x.dirty node 0)) (sym c')
+      (one_more node x.dirty (subst (λ k. CleanBelow k x.dirty) c (own_clean old e))))
 
   -- while a level is closing, no mark is cleared
   closing_clean : (level : ℕ) → CleanBelow (clean_at level Closing) x.dirty
@@ -65,7 +67,8 @@ module _ (tasks nodes : ℕ) (x : Stages) (h : Holds tasks nodes x) (t : ℕ) (l
     marks = quiet Aside (none x.dirty);
   }
   after_kind (LetsGo stage place) x' (e, p) = subst (Holds tasks nodes) (sym p) record {
-    stages = turns tasks x h.stages t lt (Freezing stage place true) (Freezing stage place false) e (omega (arith, h.stages.alone)) refl refl refl
+    stages = turns tasks x h.stages t lt (Freezing stage place true) (Freezing stage place false) e (omega (arith, h.stages.alone)) refl
+        refl refl
         (relied_on tasks x h.stages t lt (Freezing stage place true) e);
     marks = quiet (Freezing stage place false) (own_clean (Freezing stage place true) e);
   }
@@ -93,12 +96,14 @@ module _ (tasks nodes : ℕ) (x : Stages) (h : Holds tasks nodes x) (t : ℕ) (l
   }
   after_kind (Syncs clean) x' (e, all, p) = subst (Holds tasks nodes) (sym p) record {
     stages = advances tasks x h.stages t lt 2 clean (omega arith) (omega arith) e;
-    marks = same_marks 3 x.sb (Freezing 3 Before true) (λ s. fewer clean all (own_clean (Freezing 2 (HasPassed clean) true) e)) h.marks.read_only (none x.dirty);
+    marks = same_marks 3 x.sb (Freezing 3 Before true) (λ s. fewer clean all (own_clean (Freezing 2 (HasPassed clean) true) e))
+        h.marks.read_only (none x.dirty);
   }
   after_kind (Completes clean) x' (e, p) = subst (Holds tasks nodes) (sym p) record {
     stages = completes tasks x h.stages t lt clean e;
     marks = same_marks 4 x.sb (Owning None None)
-        (λ s. h.marks.frozen (omega (arith, relied_on tasks x h.stages t lt (Freezing 3 (HasPassed clean) true) e))) h.marks.read_only (none x.dirty);
+        (λ s. h.marks.frozen (omega (arith, relied_on tasks x h.stages t lt (Freezing 3 (HasPassed clean) true) e))) h.marks.read_only
+        (none x.dirty);
   }
   after_kind (Fails stage clean) x' (e, low, p) = subst (Holds tasks nodes) (sym p) record {
     stages = fails tasks x h.stages t lt stage clean e;
@@ -135,7 +140,8 @@ module _ (tasks nodes : ℕ) (x : Stages) (h : Holds tasks nodes x) (t : ℕ) (l
   }
   after_kind (SetsReadOnly clean) x' (e, all, p) = subst (Holds tasks nodes) (sym p) record {
     stages = sets_read_only tasks x h.stages t lt clean e;
-    marks = same_marks x.stage 1 (Remounting 1 clean) h.marks.frozen (λ r. fewer clean all (own_clean (Remounting 0 clean) e)) (own_clean (Remounting 0 clean) e);
+    marks = same_marks x.stage 1 (Remounting 1 clean) h.marks.frozen (λ r. fewer clean all (own_clean (Remounting 0 clean) e))
+        (own_clean (Remounting 0 clean) e);
   }
   after_kind (ClearsRemount clean) x' (e, p) = subst (Holds tasks nodes) (sym p) record {
     stages = clears_remount tasks x h.stages t lt 1 clean e;
@@ -150,7 +156,8 @@ module _ (tasks nodes : ℕ) (x : Stages) (h : Holds tasks nodes x) (t : ℕ) (l
     marks = same_marks x.stage 0 (Owning None None) h.marks.frozen (λ r. absurd (omega (arith, r))) (none x.dirty);
   }
   after_kind (ClearsMark node) x' (e, p) = subst (Holds tasks nodes) (sym p) record {
-    stages = turns tasks x h.stages t lt (Freezing 2 (HasPassed node) true) (Freezing 2 (HasPassed (suc node)) true) e (omega (arith, h.stages.alone)) refl refl refl
+    stages = turns tasks x h.stages t lt (Freezing 2 (HasPassed node) true) (Freezing 2 (HasPassed (suc node)) true) e
+        (omega (arith, h.stages.alone)) refl refl refl
         (relied_on tasks x h.stages t lt (Freezing 2 (HasPassed node) true) e);
     marks = cleans node (Freezing 2 (HasPassed node) true) (Freezing 2 (HasPassed (suc node)) true) e refl refl;
   }
@@ -168,7 +175,8 @@ module _ (tasks nodes : ℕ) (x : Stages) (h : Holds tasks nodes x) (t : ℕ) (l
     marks = washed tasks nodes x.stage x.sb x.dirty x.at node h.marks;
   }
   after_kind (Recalls old new) x' (e, a, k, c, p) = subst (Holds tasks nodes) (sym p) record {
-    stages = turns tasks x h.stages t lt old new e (omega (arith, h.stages.alone, a.owns_same)) a.freezes_same a.remounts_same a.closed_same k;
+    stages = turns tasks x h.stages t lt old new e (omega (arith, h.stages.alone, a.owns_same)) a.freezes_same a.remounts_same
+        a.closed_same k;
     marks = quiet new c;
   }
   after_kind Stays x' p = subst (Holds tasks nodes) (sym p) h

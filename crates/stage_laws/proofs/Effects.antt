@@ -18,7 +18,8 @@ abbrev pub ShowsAt : ℕ → Stages → State → Type 0
 ShowsAt tasks y s = ShowsStages tasks y.stage y.sb y.remount y.block y.at s
 
 -- a clearing shows what was shown
-clearing_shows : (tasks : ℕ) (y : Stages) (s : State) (t node mark : ℕ) → ShowsAt tasks y s → ShowsAt tasks y (state_after s t (cleaned node mark))
+clearing_shows : (tasks : ℕ) (y : Stages) (s : State) (t node mark : ℕ) → ShowsAt tasks y s →
+    ShowsAt tasks y (state_after s t (cleaned node mark))
 clearing_shows tasks y s t node zero h = h
 clearing_shows tasks y s t node (suc mark) h = record { stage_same = h.stage_same; passed_same = h.passed_same; sb_same = h.sb_same }
 
@@ -53,7 +54,8 @@ module _ (tasks nodes : ℕ) (x : Stages) (h : Holds tasks nodes x) (t : ℕ) (l
       shown_after old new x.stage x.sb x.remount block' s e good shows.stage_same (omega (arith, p)) shows.sb_same
 
   -- at stage 0 an owner without a position stores a flag
-  flag_shown : (b m : ℕ) (old new : StageRole) (s' : State) → x.at t ≡ old → x.stage ≡ 0 → StagesHold tasks x.stage b m x.block (update x.at t new) →
+  flag_shown : (b m : ℕ) (old new : StageRole) (s' : State) → x.at t ≡ old → x.stage ≡ 0 →
+      StagesHold tasks x.stage b m x.block (update x.at t new) →
       s'.stage ≡ s.stage → s'.passed ≡ s.passed → passed_by new ≡ passed_by old → s'.sb_ro ≡ (m == 1 || b == 1) →
       ShowsAt tasks (playing (record x { sb = b; remount = m }) t new) s'
   flag_shown b m old new s' e z good st pa p f =
@@ -79,7 +81,8 @@ module _ (tasks nodes : ℕ) (x : Stages) (h : Holds tasks nodes x) (t : ℕ) (l
       shows.passed_same ∙ passed_own tasks x.stage x.sb x.remount x.block x.at h.stages t lt (ap has_position e ∙ p) ∙ ap passed_by e
 
   -- an event of a role on no word shown
-  turned : (kind : StageEvent) (x' : Stages) (old new : StageRole) → x.at t ≡ old → x' ≡ playing x t new → Happens tasks nodes t x (playing x t new) kind →
+  turned : (kind : StageEvent) (x' : Stages) (old new : StageRole) → x.at t ≡ old → x' ≡ playing x t new →
+      Happens tasks nodes t x (playing x t new) kind →
       passed_by new ≡ passed_by old → ShowsAt tasks x' s
   turned kind x' old new e p happens q =
       subst (λ z. ShowsAt tasks z s) (sym p) (quiet_shown x.block old new e (kept kind (playing x t new) happens) q)
@@ -132,7 +135,8 @@ module _ (tasks nodes : ℕ) (x : Stages) (h : Holds tasks nodes x) (t : ℕ) (l
       shown_at ThawsAtOnce x' _ p (stage_shown 0 (Owning (Some 4) (Some 1)) (Owning None None) e
       (thaws_at_once tasks x h.stages t lt e) (omega (arith, k, ways tasks x h.stages t lt)))
   effect (SetsBlock level owner) x' (e, p) =
-      shown_at (SetsBlock level owner) x' _ p (quiet_shown (update x.block level 1) (Freezing level Before owner) (Freezing level Closing owner) e
+      shown_at (SetsBlock level owner) x' _ p (quiet_shown (update x.block level 1) (Freezing level Before owner)
+      (Freezing level Closing owner) e
       (sets_block tasks x h.stages t lt level owner e) refl)
   effect (Passes level clean owner) x' (e, c, p) =
       let k : x.stage ≡ level = relies (Freezing level Closing owner) e in
@@ -141,7 +145,8 @@ module _ (tasks nodes : ℕ) (x : Stages) (h : Holds tasks nodes x) (t : ℕ) (l
       shows.stage_same (omega (arith, own_levels (Freezing level Closing owner) e refl)) shows.sb_same)
   effect (ClearsBlock below) x' (e, p) =
       shown_at (ClearsBlock below) x' _ p (shown_after (Reopening (suc below)) (Reopening below)
-      x.stage x.sb x.remount (update x.block (suc below) 0) (state_after s t (Some (Reopen (suc below)))) e (clears_block tasks x h.stages t lt below e)
+      x.stage x.sb x.remount (update x.block (suc below) 0) (state_after s t (Some (Reopen (suc below)))) e
+      (clears_block tasks x h.stages t lt below e)
       shows.stage_same (omega (arith, own_levels (Reopening (suc below)) e refl)) shows.sb_same)
   effect (SetsRemount clean) x' (e, c, p) =
       shown_at (SetsRemount clean) x' _ p (flag_shown x.sb 1 (Owning (Some 0) (Some 0)) (Remounting 0 clean) (state_after s t (Some SbRo)) e
@@ -164,11 +169,13 @@ module _ (tasks nodes : ℕ) (x : Stages) (h : Holds tasks nodes x) (t : ℕ) (l
       shown_at (SetsWritable sb) x' _ p (flag_shown 0 x.remount (Owning (Some 0) sb) (Owning None None) (state_after s t (Some SbRw)) e
       (relies (Owning (Some 0) sb) e).0 (sets_writable tasks x h.stages t lt sb e) refl refl refl (rw r refl))
   effect (ClearsMark node) x' (e, p) =
-      shown_at (ClearsMark node) x' _ p (clearing_shows tasks (playing (record x { dirty = update x.dirty node 0 }) t (Freezing 2 (HasPassed (suc node)) true)) s t node (x.dirty node)
+      shown_at (ClearsMark node) x' _ p (clearing_shows tasks
+      (playing (record x { dirty = update x.dirty node 0 }) t (Freezing 2 (HasPassed (suc node)) true)) s t node (x.dirty node)
       (quiet_shown x.block (Freezing 2 (HasPassed node) true) (Freezing 2 (HasPassed (suc node)) true) e
       (kept (ClearsMark node) _ (e, refl)) refl))
   effect (ClearsMarkReadOnly sb node) x' (e, p) =
-      shown_at (ClearsMarkReadOnly sb node) x' _ p (clearing_shows tasks (playing (record x { dirty = update x.dirty node 0 }) t (Remounting sb (suc node))) s t node (x.dirty node)
+      shown_at (ClearsMarkReadOnly sb node) x' _ p
+      (clearing_shows tasks (playing (record x { dirty = update x.dirty node 0 }) t (Remounting sb (suc node))) s t node (x.dirty node)
       (quiet_shown x.block (Remounting sb node) (Remounting sb (suc node)) e (kept (ClearsMarkReadOnly sb node) _ (e, refl)) refl))
   effect (MarksNode node mark) x' (low, r, b, p) = shown_at (MarksNode node mark) x' (record x { dirty = update x.dirty node mark }) p shows
   effect (WashesNode node) x' p = shown_at (WashesNode node) x' (record x { dirty = update x.dirty node 0 }) p shows

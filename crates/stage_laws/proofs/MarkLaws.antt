@@ -39,7 +39,8 @@ passed_third (Freezing known (HasPassed clean) owner) stage sb k f e = omega (ar
 passed_third r stage sb k f e = absurd (omega (arith, f))
 
 -- where the marks hold, another role that has cleared as many changes nothing
-pub cleared_anew : (tasks nodes stage sb stage' sb' : ℕ) (dirty : ℕ → ℕ) (at : ℕ → StageRole) (t : ℕ) (new : StageRole) → MarksHold tasks nodes stage sb dirty at →
+pub cleared_anew : (tasks nodes stage sb stage' sb' : ℕ) (dirty : ℕ → ℕ) (at : ℕ → StageRole) (t : ℕ) (new : StageRole) →
+    MarksHold tasks nodes stage sb dirty at →
     (3 ≤ stage' → CleanBelow nodes dirty) → (sb' ≡ 1 → CleanBelow nodes dirty) → CleanBelow (clean_by new) dirty →
     MarksHold tasks nodes stage' sb' dirty (update at t new)
 cleared_anew tasks nodes stage sb stage' sb' dirty at t new h f r c = record {
@@ -58,13 +59,16 @@ washed tasks nodes stage sb dirty at node h = record {
 }
 
 -- marks are made only where none is to stay clear: before level 2 is passed, at a writable superblock
-pub marked : (tasks nodes : ℕ) (x : Stages) (node mark : ℕ) → Holds tasks nodes x → passed_shown tasks x.block x.at < 2 → x.remount ≡ 0 → x.sb ≡ 0 →
+pub marked : (tasks nodes : ℕ) (x : Stages) (node mark : ℕ) → Holds tasks nodes x → passed_shown tasks x.block x.at < 2 → x.remount ≡ 0 →
+    x.sb ≡ 0 →
     MarksHold tasks nodes x.stage x.sb (update x.dirty node mark) x.at
 marked tasks nodes x node mark h passed remount sb =
     let good : StagesHold tasks x.stage x.sb x.remount x.block x.at = h.stages in
-    let ways : (under_way x.stage ≡ (x.stage % 4 + 3) / 4) × (is_full x.stage x.sb ≡ x.stage / 4 - x.sb) = way tasks x.stage x.sb x.remount x.block x.at good in
+    let ways : (under_way x.stage ≡ (x.stage % 4 + 3) / 4) × (is_full x.stage x.sb ≡ x.stage / 4 - x.sb) =
+    way tasks x.stage x.sb x.remount x.block x.at good in
     let none : x.stage ≡ 3 → ⊥ = λ e.
-    let w : (t : ℕ) × (t < tasks) × (freezes (x.at t) ≡ 1) = who_freezes tasks x.stage x.sb x.remount x.block x.at good (omega (arith, e, ways)) in
+    let w : (t : ℕ) × (t < tasks) × (freezes (x.at t) ≡ 1) =
+    who_freezes tasks x.stage x.sb x.remount x.block x.at good (omega (arith, e, ways)) in
     omega (
       arith,
       passed,

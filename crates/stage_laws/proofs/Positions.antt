@@ -25,18 +25,21 @@ module _ (tasks stage sb remount : ℕ) (block : ℕ → ℕ) (at : ℕ → Stag
   -- it is at most 1
   pub remount_le : remount ≤ 1
   remount_le =
-      let h : total tasks (λ t. remounts (at t)) ≤ total tasks (λ t. owns (at t)) = total_le tasks _ _ (λ u lu. omega (arith, owner_only (at u))) in
+      let h : total tasks (λ t. remounts (at t)) ≤ total tasks (λ t. owns (at t)) =
+      total_le tasks _ _ (λ u lu. omega (arith, owner_only (at u))) in
       omega (arith, good.remounting, good.alone, h)
 
   -- if somebody opens levels the stage is 0, and at most one task does
   reopening : (stage * total tasks (λ t. reopens (at t)) ≡ 0) × (total tasks (λ t. reopens (at t)) ≤ 1)
   reopening =
-      let le : total tasks (λ t. reopens (at t)) ≤ total tasks (λ t. owns (at t)) = total_le tasks _ _ (λ u lu. omega (arith, owner_only (at u))) in
+      let le : total tasks (λ t. reopens (at t)) ≤ total tasks (λ t. owns (at t)) =
+      total_le tasks _ _ (λ u lu. omega (arith, owner_only (at u))) in
       elim (eqb_tells (total tasks (λ t. reopens (at t))) 0) [
         | inl h ↦ (rw h.1 (omega arith), omega (arith, h.1))
         | inr h ↦
             let p : HasPlace tasks (λ t. reopens (at t)) = total_place tasks (λ t. reopens (at t)) h.1 in
-            let some : 0 < reopens (at p.0) = elim (eqb_tells (reopens (at p.0)) 0) [ inl k ↦ absurd (p.2 k.1) | inr k ↦ omega (arith, k.1) ] in
+            let some : 0 < reopens (at p.0) =
+            elim (eqb_tells (reopens (at p.0)) 0) [ inl k ↦ absurd (p.2 k.1) | inr k ↦ omega (arith, k.1) ] in
             (rw (reopens_at stage sb (at p.0) (good.knows p.0 p.1) some) (omega arith), omega (arith, le, good.alone))
       ]
 
@@ -48,7 +51,12 @@ module _ (tasks stage sb remount : ℕ) (block : ℕ → ℕ) (at : ℕ → Stag
       elim (eqb_tells (total tasks (λ t. reopens (at t))) 0) [
         | inl h ↦ omega (arith, a, h.1, way, good.freezing, good.stages)
         | inr h ↦
-            let z : stage ≡ 0 = elim (eqb_tells stage 0) [ inl k ↦ k.1 | inr k ↦ absurd (nonzero stage (total tasks (λ t. reopens (at t))) k.1 h.1 reopening.0) ] in
+            let z : stage ≡ 0 =
+            elim (eqb_tells stage 0) [
+              | inl k ↦ k.1
+              | inr k ↦ absurd
+                  (nonzero stage (total tasks (λ t. reopens (at t))) k.1 h.1 reopening.0)
+            ] in
             omega (arith, a, z, way, good.freezing, reopening.1)
       ]
 
@@ -70,7 +78,8 @@ module _ (tasks stage sb remount : ℕ) (block : ℕ → ℕ) (at : ℕ → Stag
   -- where nobody has a position, a block is set while the file system is frozen as a whole
   pub block_idle : ((t : ℕ) → t < tasks → has_position (at t) ≡ 0) → (i : ℕ) → 1 ≤ i → i ≤ 3 → block i ≡ is_full stage sb
   block_idle none i low high =
-      let c : total tasks (λ y. closes i (at y)) ≡ 0 = total_none tasks (λ y. closes i (at y)) (λ u lu. omega (arith, closes_le i low (at u), none u lu)) in
+      let c : total tasks (λ y. closes i (at y)) ≡ 0 =
+      total_none tasks (λ y. closes i (at y)) (λ u lu. omega (arith, closes_le i low (at u), none u lu)) in
       omega (arith, c, good.blocks i low high)
 
   -- a level is shown as passed where a task has passed it, or the file system is frozen as a whole
@@ -80,7 +89,8 @@ module _ (tasks stage sb remount : ℕ) (block : ℕ → ℕ) (at : ℕ → Stag
       total_same tasks _ _ (λ u lu. parts i low (at u)) in
       let a : total tasks (λ t. sums i (at t) + passes i (at t)) ≡ total tasks (λ t. sums i (at t)) + total tasks (λ t. passes i (at t)) =
       total_add tasks (λ t. sums i (at t)) (λ t. passes i (at t)) in
-      let le : total tasks (λ t. closes i (at t)) ≤ total tasks (λ t. has_position (at t)) = total_le tasks _ _ (λ u lu. closes_le i low (at u)) in
+      let le : total tasks (λ t. closes i (at t)) ≤ total tasks (λ t. has_position (at t)) =
+      total_le tasks _ _ (λ u lu. closes_le i low (at u)) in
       let b : block i ≤ 1 = omega (arith, le, good.blocks i low high, one_position) in
       omega (arith, c, a, good.blocks i low high, passed_test (block i) (total tasks (λ t. sums i (at t))) b)
 
@@ -94,7 +104,8 @@ module _ (tasks stage sb remount : ℕ) (block : ℕ → ℕ) (at : ℕ → Stag
   passed_is =
       let e : total tasks (λ t. passes 1 (at t) + (passes 2 (at t) + passes 3 (at t))) ≡ total tasks (λ t. passed_by (at t)) =
       total_same tasks _ _ (λ u lu. three (passed_by (at u)) (passed_bound u lu)) in
-      let a : total tasks (λ t. passes 1 (at t) + (passes 2 (at t) + passes 3 (at t))) ≡ total tasks (λ t. passes 1 (at t)) + total tasks (λ t. passes 2 (at t) + passes 3 (at t)) =
+      let a : total tasks (λ t. passes 1 (at t) + (passes 2 (at t) + passes 3 (at t))) ≡ total tasks (λ t. passes 1 (at t)) + total tasks
+      (λ t. passes 2 (at t) + passes 3 (at t)) =
       total_add tasks (λ t. passes 1 (at t)) (λ t. passes 2 (at t) + passes 3 (at t)) in
       omega (
         arith,
@@ -120,11 +131,13 @@ module _ (tasks stage sb remount : ℕ) (block : ℕ → ℕ) (at : ℕ → Stag
   -- at stages 1 to 3 somebody is in a freeze
   pub who_freezes : under_way stage ≡ 1 → (t : ℕ) × (t < tasks) × (freezes (at t) ≡ 1)
   who_freezes w =
-      let p : HasPlace tasks (λ t. freezes (at t)) = total_place tasks (λ t. freezes (at t)) (λ z. absurd (omega (arith, z, w, good.freezing))) in
+      let p : HasPlace tasks (λ t. freezes (at t)) =
+      total_place tasks (λ t. freezes (at t)) (λ z. absurd (omega (arith, z, w, good.freezing))) in
       (p.0, p.1, elim (eqb_tells (freezes (at p.0)) 0) [ inl k ↦ absurd (p.2 k.1) | inr k ↦ omega (arith, k.1, owner_only (at p.0)) ])
 
   -- an owner without a position, at no stage of a freeze, is sure that nobody has one
-  pub owner_idle : (t : ℕ) → t < tasks → owns (at t) ≡ 1 → has_position (at t) ≡ 0 → under_way stage ≡ 0 → (u : ℕ) → u < tasks → has_position (at u) ≡ 0
+  pub owner_idle : (t : ℕ) → t < tasks → owns (at t) ≡ 1 → has_position (at t) ≡ 0 → under_way stage ≡ 0 → (u : ℕ) → u < tasks →
+      has_position (at u) ≡ 0
   owner_idle t lt o n w u lu =
       let f : freezes (at u) ≡ 0 = omega (arith, w, good.freezing, total_at tasks u (λ y. freezes (at y)) lu) in
       elim (eqb_tells u t) [

@@ -40,7 +40,8 @@ module _ (tasks : ℕ) (x : Stages) (good : StagesHold tasks x.stage x.sb x.remo
       })
 
   -- a freeze or a thaw goes on with its level's block: that alone changes
-  pub moves_block : (old new : StageRole) (block' : ℕ → ℕ) → x.at t ≡ old → owns new ≡ owns old → freezes new ≡ freezes old → remounts new ≡ remounts old →
+  pub moves_block : (old new : StageRole) (block' : ℕ → ℕ) → x.at t ≡ old → owns new ≡ owns old → freezes new ≡ freezes old →
+      remounts new ≡ remounts old →
       KnowsStage x.stage x.sb new → ((i : ℕ) → 1 ≤ i → i ≤ 3 → block' i + closes i old ≡ x.block i + closes i new) →
       StagesAt (playing (record x { block = block' }) t new)
   moves_block old new block' e o f r k b =
@@ -75,7 +76,8 @@ module _ (tasks : ℕ) (x : Stages) (good : StagesHold tasks x.stage x.sb x.remo
       })
 
   -- at stage 0 an owner without a position stores the superblock's flag or `remount`
-  pub stores_flags : (b m : ℕ) (old new : StageRole) → x.at t ≡ old → x.stage ≡ 0 → owns old ≡ 1 → owns new ≡ 1 → freezes old ≡ 0 → freezes new ≡ 0 →
+  pub stores_flags : (b m : ℕ) (old new : StageRole) → x.at t ≡ old → x.stage ≡ 0 → owns old ≡ 1 → owns new ≡ 1 → freezes old ≡ 0 →
+      freezes new ≡ 0 →
       closed_by new ≡ closed_by old → b ≤ 1 → remounts new + x.remount ≡ remounts old + m → KnowsStage x.stage b new →
       StagesAt (playing (record x { sb = b; remount = m }) t new)
   stores_flags b m old new e z o o' f f' c le r k =
@@ -96,9 +98,11 @@ module _ (tasks : ℕ) (x : Stages) (good : StagesHold tasks x.stage x.sb x.remo
   own_remount old e o = remount_own tasks x.stage x.sb x.remount x.block x.at good t lt (ap owns e ∙ o) ∙ ap remounts e
 
   -- a freeze's stage is 1 to 3, and the superblock writable
-  pub freeze_bound : (old : StageRole) → x.at t ≡ old → freezes old ≡ 1 → (under_way x.stage ≡ 1) × (1 ≤ x.stage) × (x.stage ≤ 3) × (x.sb ≡ 0)
+  pub freeze_bound : (old : StageRole) → x.at t ≡ old → freezes old ≡ 1 →
+      (under_way x.stage ≡ 1) × (1 ≤ x.stage) × (x.stage ≤ 3) × (x.sb ≡ 0)
   freeze_bound old e f =
-      let w : under_way x.stage ≡ 1 = omega (arith, f, ap freezes e, good.freezing, total_at tasks t (λ y. freezes (x.at y)) lt, ways, good.stages) in
+      let w : under_way x.stage ≡ 1 =
+      omega (arith, f, ap freezes e, good.freezing, total_at tasks t (λ y. freezes (x.at y)) lt, ways, good.stages) in
       omega (arith, w, ways, good.stages, good.writable w)
 
   -- where a task has a position, a block is as that has it
@@ -110,7 +114,8 @@ module _ (tasks : ℕ) (x : Stages) (good : StagesHold tasks x.stage x.sb x.remo
   pub begins : x.at t ≡ Owning (Some 0) (Some 0) → StagesAt (playing (record x { stage = 1 }) t (Freezing 1 Before true))
   begins e =
       let k : (x.stage ≡ 0) × (x.sb ≡ 0) = relied_on (Owning (Some 0) (Some 0)) e in
-      stores 1 (Owning (Some 0) (Some 0)) (Freezing 1 Before true) e refl refl refl (omega arith) (omega (arith, k, ways)) refl (λ w. k.1) refl
+      stores 1 (Owning (Some 0) (Some 0)) (Freezing 1 Before true) e refl refl refl (omega arith) (omega (arith, k, ways)) refl (λ w. k.1)
+      refl
       (λ i low high. omega (arith, k, ways))
 
   -- it goes on from stage 1 to 2, and from 2 to 3
@@ -121,11 +126,22 @@ module _ (tasks : ℕ) (x : Stages) (good : StagesHold tasks x.stage x.sb x.remo
       let b : _ = freeze_bound (Freezing s (HasPassed clean) true) e refl in
       let q : suc s - 1 ≡ s = omega arith in
       let w : under_way (suc s) ≡ 1 = omega (arith, low, high, way_is (suc s) (omega (arith, high))) in
-      stores (suc s) (Freezing s (HasPassed clean) true) (Freezing (suc s) Before true) e refl refl refl (omega (arith, high)) (sym b.0) (sym w)
-      (λ h. b.3) refl (λ i l h. omega (arith, ap (up_to i) q, ways, k, high, b.3, full_is (suc s) x.sb (omega (arith, high)) good.superblock))
+      stores (suc s) (Freezing s (HasPassed clean) true) (Freezing (suc s) Before true) e refl refl refl (omega (arith, high)) (sym b.0)
+      (sym w)
+      (λ h. b.3) refl (λ i l h. omega (
+        arith,
+        ap (up_to i) q,
+        ways,
+        k,
+        high,
+        b.3,
+        full_is (suc s) x.sb (omega (arith, high))
+            good.superblock,
+      ))
 
   -- it is complete
-  pub completes : (clean : ℕ) → x.at t ≡ Freezing 3 (HasPassed clean) true → StagesAt (playing (record x { stage = 4 }) t (Owning None None))
+  pub completes : (clean : ℕ) → x.at t ≡ Freezing 3 (HasPassed clean) true →
+      StagesAt (playing (record x { stage = 4 }) t (Owning None None))
   completes clean e =
       let k : x.stage ≡ 3 = relied_on (Freezing 3 (HasPassed clean) true) e in
       let b : _ = freeze_bound (Freezing 3 (HasPassed clean) true) e refl in
@@ -171,7 +187,12 @@ module _ (tasks : ℕ) (x : Stages) (good : StagesHold tasks x.stage x.sb x.remo
       let b : _ = freeze_bound (Freezing i Before owner) e refl in
       moves_block (Freezing i Before owner) (Freezing i Closing owner) (update x.block i 1) e refl refl refl k
       (λ j l h. each_updated (λ y v. v + closes y (Freezing i Before owner) ≡ x.block y + closes y (Freezing i Closing owner)) x.block i 1 j
-      (omega (arith, own_block (Freezing i Before owner) e refl i (omega (arith, k, b)) (omega (arith, k, b)), up_to_le i i (omega arith), up_to_off i (i - 1) (omega (arith, k, b))))
+      (omega (
+        arith,
+        own_block (Freezing i Before owner) e refl i (omega (arith, k, b)) (omega (arith, k, b)),
+        up_to_le i i (omega arith),
+        up_to_off i (i - 1) (omega (arith, k, b)),
+      ))
       (λ ne. omega (arith, up_to_below j i (omega (arith, k, b)) ne)))
 
   -- a store of `block` opens the last level that is closed
@@ -181,7 +202,13 @@ module _ (tasks : ℕ) (x : Stages) (good : StagesHold tasks x.stage x.sb x.remo
       let k : (x.stage ≡ 0) × (suc n ≤ 3) = relied_on (Reopening (suc n)) e in
       moves_block (Reopening (suc n)) (Reopening n) (update x.block (suc n) 0) e refl refl refl (k.0, omega (arith, k))
       (λ j l h. each_updated (λ y v. v + closes y (Reopening (suc n)) ≡ x.block y + closes y (Reopening n)) x.block (suc n) 0 j
-      (omega (arith, own_block (Reopening (suc n)) e refl (suc n) (omega arith) k.1, up_to_le (suc n) (suc n) (omega arith), up_to_off (suc n) n (omega arith)))
+      (omega (
+        arith,
+        own_block (Reopening (suc n)) e refl (suc n) (omega arith) k.1,
+        up_to_le (suc n) (suc n) (omega arith),
+        up_to_off
+            (suc n) n (omega arith),
+      ))
       (λ ne. omega (arith, up_to_next j n ne)))
 
   -- a remount to read-only sets `remount`
@@ -211,7 +238,8 @@ module _ (tasks : ℕ) (x : Stages) (good : StagesHold tasks x.stage x.sb x.remo
       stores_flags 0 x.remount (Owning (Some 0) b) (Owning None None) e z refl refl refl refl refl (omega arith) refl (tt, tt)
 
   -- a sum was 0: the same levels are closed
-  pub turns_block : (i clean : ℕ) (owner : Bool) → x.at t ≡ Freezing i Closing owner → StagesAt (playing x t (Freezing i (HasPassed clean) owner))
+  pub turns_block : (i clean : ℕ) (owner : Bool) → x.at t ≡ Freezing i Closing owner →
+      StagesAt (playing x t (Freezing i (HasPassed clean) owner))
   turns_block i clean owner e =
       turns (Freezing i Closing owner) (Freezing i (HasPassed clean) owner) e (omega (arith, good.alone)) refl refl refl
       (relied_on (Freezing i Closing owner) e)

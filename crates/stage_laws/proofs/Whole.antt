@@ -72,13 +72,19 @@ freeze_keeps_others_out tasks nodes x h t lt f =
 
 -- a position is alone
 pub positions_are_alone : PositionsAreAlone
-positions_are_alone tasks nodes x h t lt p =
-    (not_full tasks x.stage x.sb x.remount x.block x.at h.stages t lt p, other_position tasks x.stage x.sb x.remount x.block x.at h.stages t lt p)
+positions_are_alone tasks nodes x h t lt p = (
+  not_full tasks x.stage x.sb x.remount x.block x.at h.stages t lt p,
+  other_position tasks x.stage x.sb x.remount x.block x.at h.stages
+      t lt p,
+)
 
 -- it tells what is closed and passed
 pub positions_tell_the_levels : PositionsTellTheLevels
-positions_tell_the_levels tasks nodes x h t lt p =
-    (passed_own tasks x.stage x.sb x.remount x.block x.at h.stages t lt p, block_at tasks x.stage x.sb x.remount x.block x.at h.stages t lt p)
+positions_tell_the_levels tasks nodes x h t lt p = (
+  passed_own tasks x.stage x.sb x.remount x.block x.at h.stages t lt p,
+  block_at tasks x.stage x.sb x.remount x.block x.at h.stages t
+      lt p,
+)
 
 -- where a block is set and no task's own the file system is frozen as a whole, and then nobody has a position
 pub frozen_as_a_whole : FrozenAsAWhole
@@ -87,13 +93,20 @@ frozen_as_a_whole tasks nodes x h =
       (λ e.
           let full : is_full x.stage x.sb ≡ 1 = omega (arith, e, w) in
           let none : (t : ℕ) → t < tasks → has_position (x.at t) ≡ 0 = λ t lt.
-          omega (arith, full, one_position tasks x.stage x.sb x.remount x.block x.at h.stages, total_at tasks t (λ u. has_position (x.at u)) lt) in (
+          omega (
+            arith,
+            full,
+            one_position tasks x.stage x.sb x.remount x.block x.at h.stages,
+            total_at tasks t
+                (λ u. has_position (x.at u)) lt,
+          ) in (
             (λ i low high. block_idle tasks x.stage x.sb x.remount x.block x.at h.stages none i low high ∙ full),
             omega (arith, full, passed_idle tasks x.stage x.sb x.remount x.block x.at h.stages none),
             none,
           )),
       λ i low high set free.
-          let full : is_full x.stage x.sb ≡ 1 = omega (arith, set, h.stages.blocks i low high, total_none tasks (λ u. closes i (x.at u)) free) in
+          let full : is_full x.stage x.sb ≡ 1 =
+          omega (arith, set, h.stages.blocks i low high, total_none tasks (λ u. closes i (x.at u)) free) in
           omega (arith, full, w, h.stages.stages, h.stages.superblock),
     )
 
@@ -105,7 +118,8 @@ open_elsewhere tasks nodes x h none full = (
 )
 
 -- a store of a stage asks for what is said of it: at stages 1 to 3 nobody but the freeze can be there
-module _ (tasks nodes : ℕ) (x : Stages) (h : Holds tasks nodes x) (t : ℕ) (lt : t < tasks) (low : 1 ≤ x.stage) (high : x.stage ≤ 3) (out : freezes (x.at t) ≡ 0) where
+module _ (tasks nodes : ℕ) (x : Stages) (h : Holds tasks nodes x) (t : ℕ) (lt : t < tasks) (low : 1 ≤ x.stage) (high : x.stage ≤ 3)
+    (out : freezes (x.at t) ≡ 0) where
   -- an owner relies on no other stage
   not_at : (k : ℕ) (b : Option ℕ) (C : Type 0) → x.at t ≡ Owning (Some k) b → (k ≡ 0) ⊎ (k ≡ 4) → C
   not_at k b C e o =

@@ -24,7 +24,8 @@ EventsKeep = (tasks nodes : ℕ) (x x' : Stages) (t : ℕ) (kind : StageEvent) �
 
 -- The action of each event is allowed in each state that shows the moment before it.
 abbrev pub ActionsAreAllowed : Type 0
-ActionsAreAllowed = (l : Limits) (x x' : Stages) (t : ℕ) (kind : StageEvent) → StageStep l.tasks l.nodes x x' t kind → (s : State) → Shows l x s →
+ActionsAreAllowed = (l : Limits) (x x' : Stages) (t : ℕ) (kind : StageEvent) → StageStep l.tasks l.nodes x x' t kind → (s : State) →
+    Shows l x s →
     (action : Action) → action_of kind x ≡ Some action → AsksOthers l s action → IsAllowed l s t action
 
 -- And its effect shows the stage after it; an event with no action leaves the stage that was shown.
@@ -81,7 +82,8 @@ with_one (Some action) actions = action ∷ actions
 -- a run of events of task 0, with the actions that it adds, the first one first
 pub data StageRun (tasks nodes : ℕ) : Stages → List Action → Stages → Type 0 where
   Ends : (x : Stages) → StageRun tasks nodes x [] x
-  Goes : (x x' last : Stages) (actions : List Action) (kind : StageEvent) → Happens tasks nodes 0 x x' kind → StageRun tasks nodes x' actions last →
+  Goes : (x x' last : Stages) (actions : List Action) (kind : StageEvent) → Happens tasks nodes 0 x x' kind →
+      StageRun tasks nodes x' actions last →
       StageRun tasks nodes x (with_one (action_of kind x) actions) last
 
 -- Whole operations do happen: from the beginning, where a node is marked dirty, a task freezes the file system, and another time thaws it.

@@ -1,5 +1,5 @@
-//! The laws of the stage: how far a freeze has come, the superblock's flags, the blocks of the levels and the marks of the nodes, over plain
-//! numbers and what each task is doing with them. It has no code: its functions state laws.
+//! The laws of the stage: how far a freeze has come, the superblock's flags, the blocks of the levels and the marks of the nodes, over
+//! plain numbers and what each task is doing with them. It has no code: its functions state laws.
 #![tactic(auto)]
 
 ghost use Rattle.std.specs.Prelude.{ℕ};
@@ -14,8 +14,8 @@ pub fn each_event_keeps_the_stages()
     ensures keeps { EventsKeep }
 {}
 
-/// The action of each event is allowed, and has the effect that is shown after it; an event without one changes nothing of it. Does nothing:
-/// its contract is the law.
+/// The action of each event is allowed, and has the effect that is shown after it; an event without one changes nothing of it. Does
+/// nothing: its contract is the law.
 pub fn each_action_is_allowed()
     ensures allowed { ActionsAreAllowed }
     ensures effects { ActionsHaveTheirEffect }
