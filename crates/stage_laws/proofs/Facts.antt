@@ -1,5 +1,5 @@
 -- What holds of every role, of the numbers that say how far a freeze has come, and of sums in which at most one place counts.
-use Rattle.std.proofs.Common.{◌≡◌, ℕ, zero, suc, ◌+◌, ◌*◌, ◌-◌, ◌/◌, ◌%◌, ◌<◌, ◌≤◌, Bool, true, false, refl, sym, inl, inr, arith}
+use Rattle.std.proofs.Common.{◌≡◌, ℕ, zero, suc, ◌+◌, ◌*◌, ◌-◌, ◌/◌, ◌%◌, ◌<◌, ◌≤◌, Bool, true, false, refl, sym, inl, inr, arith, ap}
 use Rattle.std.specs.Prelude.{◌==◌, ◌&&◌, if◌then◌else◌}
 use Rattle.std.proofs.lemmas.Bool.{le-leb, lt-leb}
 use Rattle.std.proofs.lemmas.Bool.Decides.{nat_tests, eqb_tells}
@@ -156,3 +156,21 @@ no_levels r h = refl
 pub up_to_below : (i n : ℕ) → 1 ≤ n → (i ≡ n → ⊥) → up_to i n ≡ up_to i (n - 1)
 up_to_below i zero h ne = absurd (omega (arith, h))
 up_to_below i (suc n) h ne = let e : suc n - 1 ≡ n = omega arith in rw e (up_to_next i n ne)
+
+-- while the file system is frozen as a whole, each level counts, and else none
+pub full_levels : (i : ℕ) → 1 ≤ i → i ≤ 3 → (full : ℕ) → full ≤ 1 → 0 + full ≡ up_to i (3 * full)
+full_levels i low high zero le = sym (up_to_off i 0 low)
+full_levels i low high (suc zero) le = sym (up_to_le i 3 high)
+full_levels i low high (suc (suc n)) le = absurd (omega (arith, le))
+
+-- who has a position has one
+pub some_position : (r : StageRole) → (has_position r ≡ 0 → ⊥) → has_position r ≡ 1
+some_position (Freezing stage place owner) h = refl
+some_position (Reopening closed) h = refl
+some_position r h = absurd (h refl)
+
+-- who is in a freeze at this stage has stored it last
+pub freeze_role : (stage sb : ℕ) (r : StageRole) → KnowsStage stage sb r → freezes r ≡ 1 →
+    (place : Place) × (owner : Bool) × (r ≡ Freezing stage place owner)
+freeze_role stage sb (Freezing known place owner) k f = (place, owner, ap (λ s. Freezing s place owner) (sym k))
+freeze_role stage sb r k f = absurd (omega (arith, f))

@@ -1,11 +1,11 @@
 -- What follows at one moment: one owner, one position, and what the blocks and the levels passed are then.
-use Rattle.std.proofs.Common.{◌≡◌, ℕ, ◌+◌, ◌*◌, ◌-◌, ◌<◌, ◌≤◌, sym, ◌∙◌, subst, inl, inr, arith, ◌%◌, ◌/◌}
+use Rattle.std.proofs.Common.{◌≡◌, ℕ, ◌+◌, ◌*◌, ◌-◌, ◌<◌, ◌≤◌, sym, ◌∙◌, subst, inl, inr, arith, ◌%◌, ◌/◌, ap}
 use Rattle.std.proofs.lemmas.Bool.Decides.{eqb_tells}
 use Rattle.finite_sums.specs.Sums.{total}
 use Rattle.finite_sums.proofs.Totals.{total_same, total_add, total_le, total_at, total_none, HasPlace, total_place}
-use Rattle.stage_laws.specs.Roles.{StageRole, owns, freezes, reopens, has_position, remounts, closes, passes, sums, passed_by, under_way, is_full, StagesHold}
+use Rattle.stage_laws.specs.Roles.{StageRole, owns, freezes, reopens, has_position, remounts, closes, passes, sums, passed_by, under_way, is_full, StagesHold, up_to}
 use Rattle.stage_laws.specs.Shown.{is_passed, passed_shown}
-use Rattle.stage_laws.proofs.Facts.{owner_only, parts, closes_le, reopens_at, passed_three, three, way_is, full_is, passed_test, other_zero, total_alone, nonzero, stage_bound, no_levels}
+use Rattle.stage_laws.proofs.Facts.{owner_only, parts, closes_le, reopens_at, passed_three, three, way_is, full_is, passed_test, other_zero, total_alone, nonzero, stage_bound, no_levels, full_levels, some_position}
 
 module _ (tasks stage sb remount : ℕ) (block : ℕ → ℕ) (at : ℕ → StageRole) (good : StagesHold tasks stage sb remount block at) where
   -- the stage as arithmetic: whether it is 1 to 3, and whether the file system is frozen as a whole
@@ -143,4 +143,34 @@ module _ (tasks stage sb remount : ℕ) (block : ℕ → ℕ) (at : ℕ → Stag
       elim (eqb_tells u t) [
         | inl h ↦ subst (λ y. has_position (at y) ≡ 0) (sym h.1) n
         | inr h ↦ omega (arith, f, owner_only (at u), other_owns t lt o u lu h.1)
+      ]
+
+  -- at stage 4 nobody has a position
+  pub nobody_at_four : stage ≡ 4 → (t : ℕ) → t < tasks → has_position (at t) ≡ 0
+  nobody_at_four e t lt =
+      let f : freezes (at t) ≡ 0 = omega (arith, e, way, good.freezing, total_at tasks t (λ y. freezes (at y)) lt) in
+      elim (eqb_tells (reopens (at t)) 0) [
+        | inl h ↦ omega (arith, f, h.1)
+        | inr h ↦ absurd (omega (arith, e, reopens_at stage sb (at t) (good.knows t lt) (omega (arith, h.1))))
+      ]
+
+  -- a level is passed where a task's position, or the freeze of the whole file system, is past it
+  pub passed_in_order : (i : ℕ) → 1 ≤ i → i ≤ 3 → is_passed tasks block at i ≡ up_to i (passed_shown tasks block at)
+  passed_in_order i low high =
+      elim (eqb_tells (total tasks (λ t. has_position (at t))) 0) [
+        | inl h ↦
+            let none : (t : ℕ) → t < tasks → has_position (at t) ≡ 0 =
+            λ t lt. omega (arith, h.1, total_at tasks t (λ y. has_position (at y)) lt) in
+            let c : total tasks (λ y. passes i (at y)) ≡ 0 =
+            total_none tasks (λ y. passes i (at y)) (λ u lu. omega (arith, closes_le i low (at u), parts i low (at u), none u lu)) in
+            passed_level i low high ∙ ap (λ n. n + is_full stage sb) c ∙ full_levels i low high (is_full stage sb)
+            (omega (arith, one_position)) ∙
+            ap (up_to i) (sym (passed_idle none))
+        | inr h ↦
+            let p : HasPlace tasks (λ t. has_position (at t)) = total_place tasks (λ t. has_position (at t)) h.1 in
+            let one : has_position (at p.0) ≡ 1 = some_position (at p.0) p.2 in
+            let c : total tasks (λ y. passes i (at y)) ≡ passes i (at p.0) =
+            total_alone tasks p.0 (λ y. passes i (at y)) p.1
+            (λ u lu ne. omega (arith, closes_le i low (at u), parts i low (at u), other_position p.0 p.1 one u lu ne)) in
+            omega (arith, passed_level i low high, c, not_full p.0 p.1 one, ap (up_to i) (passed_own p.0 p.1 one))
       ]

@@ -1,17 +1,17 @@
 -- What the stage says at one moment, and who moves it.
 use Rattle.stage_laws.proofs.EachEvent.{after_kind}
-use Rattle.stage_laws.proofs.Positions.{block_at, block_idle, not_full, one_position, other_position, passed_idle, passed_own, who_freezes, way}
+use Rattle.stage_laws.proofs.Positions.{block_at, block_idle, not_full, one_position, other_position, passed_idle, passed_own, who_freezes, way, nobody_at_four, passed_in_order}
 use Rattle.stage_laws.proofs.Effects.{effect}
 use Rattle.stage_laws.proofs.StageLaws.{freeze_bound, relied_on}
 use Rattle.stage_laws.proofs.Allowed.{may}
-use Rattle.stage_laws.proofs.Facts.{up_to_off}
+use Rattle.stage_laws.proofs.Facts.{up_to_off, freeze_role}
 use Rattle.std.proofs.Common.{◌≡◌, ℕ, ◌<◌, ◌≤◌, refl, sym, ap, ◌∙◌, inl, inr, arith}
 use Rattle.std.specs.Prelude.{◌⊎◌, Bool, true, Option, Some}
 use Rattle.std.proofs.lemmas.Bool.Decides.{eqb_tells}
 use Rattle.finite_sums.proofs.Totals.{total_none, total_zero, total_at, HasPlace, total_place}
 use Rattle.stage_laws.specs.Roles.{StageRole, Aside, Owning, Remounting, Freezing, HasPassed, KnowsStage, Place, closes, freezes, has_position, is_full, remounts}
 use Rattle.stage_laws.specs.Events.{Stages, Holds, StageEvent, Happens, Advances, Begins, CancelsRemount, ClearsBlock, ClearsMark, ClearsMarkReadOnly, ClearsRemount, Completes, Fails, FreezesAtOnce, LetsGo, LoadsSb, LoadsStage, Locks, LocksAgain, MarksNode, Passes, Recalls, Releases, ReleasesOpen, SetsBlock, SetsReadOnly, SetsRemount, SetsWritable, Stays, Syncs, Thaws, ThawsAtOnce, WashesNode}
-use Rattle.stage_laws.specs.Laws.{opening, EventsKeep, ActionsAreAllowed, ActionsHaveTheirEffect, FreezeIsUnderWay, FreezeKeepsOthersOut, FrozenAsAWhole, OnlyTheFreezeMovesTheStage, OpenElsewhere, PositionsAreAlone, PositionsTellTheLevels}
+use Rattle.stage_laws.specs.Laws.{opening, EventsKeep, ActionsAreAllowed, ActionsHaveTheirEffect, FreezeIsUnderWay, FreezeKeepsOthersOut, FrozenAsAWhole, OnlyTheFreezeMovesTheStage, OpenElsewhere, PositionsAreAlone, PositionsTellTheLevels, LevelsPassInOrder, NobodyAtStageFour}
 
 -- everything holds where nothing is frozen and nobody has begun anything
 pub opening_is_right : (tasks nodes : ℕ) → Holds tasks nodes opening
@@ -45,8 +45,12 @@ actions_have_their_effect tasks nodes x x' t kind step s shows = effect tasks no
 -- at stages 1 to 3 a freeze is under way
 pub freeze_is_under_way : FreezeIsUnderWay
 freeze_is_under_way tasks nodes x h low high =
+    let w : (t : ℕ) × (t < tasks) × (freezes (x.at t) ≡ 1) =
     who_freezes tasks x.stage x.sb x.remount x.block x.at h.stages
-    (omega (arith, low, high, way tasks x.stage x.sb x.remount x.block x.at h.stages))
+    (omega (arith, low, high, way tasks x.stage x.sb x.remount x.block x.at h.stages)) in
+    let r : (place : Place) × (owner : Bool) × (x.at w.0 ≡ Freezing x.stage place owner) =
+    freeze_role x.stage x.sb (x.at w.0) (h.stages.knows w.0 w.1) w.2 in
+    (w.0, w.1, r.0, r.1, r.2)
 
 -- a task that has `remount` set knows the stage to be 0
 remounts_at : (stage sb : ℕ) (r : StageRole) → KnowsStage stage sb r → (remounts r ≡ 0 → ⊥) → stage ≡ 0
@@ -109,6 +113,14 @@ frozen_as_a_whole tasks nodes x h =
           omega (arith, set, h.stages.blocks i low high, total_none tasks (λ u. closes i (x.at u)) free) in
           omega (arith, full, w, h.stages.stages, h.stages.superblock),
     )
+
+-- at stage 4 nobody has a position
+pub nobody_at_stage_four : NobodyAtStageFour
+nobody_at_stage_four tasks nodes x h = nobody_at_four tasks x.stage x.sb x.remount x.block x.at h.stages
+
+-- levels are passed in order
+pub levels_pass_in_order : LevelsPassInOrder
+levels_pass_in_order tasks nodes x h = passed_in_order tasks x.stage x.sb x.remount x.block x.at h.stages
 
 -- elsewhere every level is open
 pub open_elsewhere : OpenElsewhere

@@ -1,11 +1,12 @@
 -- The laws of the stage.
+use Rattle.std.proofs.Common.{Bool}
 use Rattle.std.specs.Prelude.{◌≡◌, ℕ, ◌<◌, ◌≤◌, Option, Some, None, List, [], ◌∷◌}
 use Rattle.access_model.specs.declared.actions.Action.TheVariants.{Stage, Pass, Reopen, Clean}
 use Rattle.access_model.specs.declared.actions.Action.{Action}
 use Rattle.access_model.specs.States.{Limits, State}
 use Rattle.access_model.specs.Actions.{IsAllowed}
-use Rattle.stage_laws.specs.Roles.{Aside, Owning, freezes, has_position, closes, passed_by, is_full}
-use Rattle.stage_laws.specs.Shown.{passed_shown, ShowsStages, AsksOthers, state_after}
+use Rattle.stage_laws.specs.Roles.{Aside, Owning, freezes, has_position, closes, passed_by, is_full, Freezing, Place, up_to}
+use Rattle.stage_laws.specs.Shown.{is_passed, passed_shown, ShowsStages, AsksOthers, state_after}
 use Rattle.stage_laws.specs.Events.{Stages, Holds, Shows, StageEvent, Happens, action_of}
 
 -- nothing is frozen, no flag and no mark is set, and everybody is aside
@@ -34,13 +35,13 @@ ActionsHaveTheirEffect = (tasks nodes : ℕ) (x x' : Stages) (t : ℕ) (kind : S
     ShowsStages tasks x.stage x.sb x.remount x.block x.at s →
     ShowsStages tasks x'.stage x'.sb x'.remount x'.block x'.at (state_after s t (action_of kind x))
 
--- At stages 1 to 3 one task is in a freeze, which stored that stage last.
+-- At stages 1 to 3 one task is in a freeze, and the stage is the one that it stored last.
 abbrev pub FreezeIsUnderWay : Type 0
 FreezeIsUnderWay = (tasks nodes : ℕ) (x : Stages) → Holds tasks nodes x → 1 ≤ x.stage → x.stage ≤ 3 →
-    (t : ℕ) × (t < tasks) × (freezes (x.at t) ≡ 1)
+    (t : ℕ) × (t < tasks) × (place : Place) × (owner : Bool) × (x.at t ≡ Freezing x.stage place owner)
 
--- Where a task is in a freeze, the stage is 1 to 3, the superblock writable, `remount` clear or about to be set by nobody: no other owner
--- relies on stage 0, and no task has set `remount`.
+-- Where a task is in a freeze, the stage is 1 to 3, the superblock writable and `remount` clear, and no owner relies on stage 0: a second
+-- freeze finds another stage, and no remount is past its look at it.
 abbrev pub FreezeKeepsOthersOut : Type 0
 FreezeKeepsOthersOut = (tasks nodes : ℕ) (x : Stages) → Holds tasks nodes x → (t : ℕ) → t < tasks → freezes (x.at t) ≡ 1 →
     (1 ≤ x.stage) × (x.stage ≤ 3) × (x.sb ≡ 0) × (x.remount ≡ 0) ×
@@ -68,6 +69,15 @@ FrozenAsAWhole = (tasks nodes : ℕ) (x : Stages) → Holds tasks nodes x →
     ((i : ℕ) → 1 ≤ i → i ≤ 3 → x.block i ≡ 1) × (passed_shown tasks x.block x.at ≡ 3) ×
     ((t : ℕ) → t < tasks → has_position (x.at t) ≡ 0)) ×
     ((i : ℕ) → 1 ≤ i → i ≤ 3 → x.block i ≡ 1 → ((t : ℕ) → t < tasks → closes i (x.at t) ≡ 0) → (x.stage ≡ 4) × (x.sb ≡ 0))
+
+-- At stage 4 no task has a position.
+abbrev pub NobodyAtStageFour : Type 0
+NobodyAtStageFour = (tasks nodes : ℕ) (x : Stages) → Holds tasks nodes x → x.stage ≡ 4 → (t : ℕ) → t < tasks → has_position (x.at t) ≡ 0
+
+-- Levels are passed in order: a level is shown as passed just where the number of levels passed is at least its own.
+abbrev pub LevelsPassInOrder : Type 0
+LevelsPassInOrder = (tasks nodes : ℕ) (x : Stages) → Holds tasks nodes x → (i : ℕ) → 1 ≤ i → i ≤ 3 →
+    is_passed tasks x.block x.at i ≡ up_to i (passed_shown tasks x.block x.at)
 
 -- Where no task has a position and the file system is not frozen as a whole, no block is set and no level passed.
 abbrev pub OpenElsewhere : Type 0

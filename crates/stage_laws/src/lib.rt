@@ -6,7 +6,8 @@ ghost use Rattle.std.specs.Prelude.{ℕ};
 ghost use Rattle.stage_laws.specs.Events.{Holds};
 ghost use Rattle.stage_laws.specs.Laws.{opening, EventsKeep, ActionsAreAllowed, ActionsHaveTheirEffect};
 ghost use Rattle.stage_laws.specs.Laws.{FreezeIsUnderWay, FreezeKeepsOthersOut, PositionsAreAlone, OnlyTheFreezeMovesTheStage};
-ghost use Rattle.stage_laws.specs.Laws.{PositionsTellTheLevels, FrozenAsAWhole, OpenElsewhere, FreezeAndThawHappen};
+ghost use Rattle.stage_laws.specs.Laws.{PositionsTellTheLevels, FrozenAsAWhole, NobodyAtStageFour, OpenElsewhere, LevelsPassInOrder};
+ghost use Rattle.stage_laws.specs.Laws.{FreezeAndThawHappen};
 
 /// What holds of the stage and of the marks holds at the beginning, and each event keeps it. Does nothing: its contract is the law.
 pub fn each_event_keeps_the_stages()
@@ -35,7 +36,9 @@ pub fn one_freeze_is_under_way()
 pub fn positions_tell_the_levels()
     ensures positions { PositionsTellTheLevels }
     ensures frozen { FrozenAsAWhole }
+    ensures at_four { NobodyAtStageFour }
     ensures elsewhere { OpenElsewhere }
+    ensures order { LevelsPassInOrder }
 {}
 
 /// A whole freeze and a whole thaw happen, each event as it is asked for. Does nothing: its contract is the law.
