@@ -1,0 +1,10 @@
+pub mod Facts
+pub mod Positions
+pub mod Changes
+pub mod StageLaws
+pub mod MarkLaws
+pub mod EachEvent
+pub mod Allowed
+pub mod Effects
+pub mod Whole
+pub mod Walks

@@ -1,0 +1,4 @@
+pub mod Roles
+pub mod Events
+pub mod Shown
+pub mod Laws
