@@ -213,8 +213,9 @@ fn want_then(
     go_on_if(gates, seat, accesses, next, goes_on)
 }
 
-/// The events of a taking of write access in a line, with this step of its level to come. What comes after the last of them. It is a
-/// function of its own, as it is long, and is told the parts of its phase, so that the compiler knows each event in it.
+/// The events of a taking of write access that begins, in a line; of one that has gone on its next event alone. What comes after the
+/// last of them. It is a function of its own, as it is long. It is told the parts of its phase, and asks whether it begins, so that
+/// the compiler knows each event in it.
 #[inline(never)]
 fn take_in_line(
     gates: &Gates,
@@ -247,6 +248,9 @@ fn take_in_line(
         step,
     };
     let phase = WritePhase::Takes { mount, read };
+    if step != DownReadStep::EntersSection {
+        return go_on(gates, seat, accesses, begins, phase, Ok(()));
+    }
     let next = go_on(gates, seat, accesses, begins, phase, Ok(()));
     let goes_on = enters_by(next, DownReadStep::LoadsSync);
     let next = go_on_if(gates, seat, accesses, next, goes_on);
