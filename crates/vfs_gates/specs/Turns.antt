@@ -17,6 +17,7 @@ use Rattle.vfs_gates.specs.Ties.{Ties}
 use Rattle.percpu_rwsem.specs.declared.readers.DownRead.{DownRead}
 use Rattle.percpu_rwsem.specs.declared.readers.DownReadStep.{DownReadStep}
 use Rattle.write_access.specs.declared.phases.WritePhase.{WritePhase}
+use Rattle.write_access.specs.declared.phases.WritePhase.TheVariants.{Takes}
 
 -- what is kept of a task whose operation stands there
 abbrev pub kept_at : Option Phase → Accesses → Seat
@@ -42,6 +43,7 @@ step_was event action next = record { event = Some event; action = action; progr
 abbrev pub of_write : Next WritePhase → Next Phase
 of_write next = map_next (λ phase. Writes phase) next
 
--- a down-read of these parts
-abbrev pub down_read : ℕ → ℕ → ℕ → Bool → DownReadStep → DownRead
-down_read level cpu task wait step = record { level = level; cpu = cpu; task = task; wait = wait; step = step }
+-- a taking of write access at a mount, with a down-read of these parts
+abbrev pub taking : ℕ → ℕ → ℕ → ℕ → Bool → DownReadStep → Option Phase
+taking mount level cpu task wait step =
+    Some (Writes (Takes mount (record { level = level; cpu = cpu; task = task; wait = wait; step = step })))

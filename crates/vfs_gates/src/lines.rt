@@ -6,8 +6,8 @@ ghost use Rattle.gate_world.specs.Views.{phase_after};
 ghost use Rattle.gate_world.specs.declared.operations.Op.{Op as OpType};
 ghost use Rattle.gate_world.specs.declared.work.Phase.TheVariants.{Writes};
 ghost use Rattle.vfs_gates.specs.TaskStates.{TaskState, task_state};
-ghost use Rattle.vfs_gates.specs.Turns.{IsTied, StayTied, of_write, down_read};
-ghost use Rattle.write_access.specs.declared.phases.WritePhase.TheVariants.{Takes, Drops};
+ghost use Rattle.vfs_gates.specs.Turns.{IsTied, StayTied, of_write, taking};
+ghost use Rattle.write_access.specs.declared.phases.WritePhase.TheVariants.{Drops};
 ghost use Rattle.vfs_gates.specs.Runs.{Goes, Went};
 
 use crate::gates::Gates;
@@ -230,13 +230,13 @@ fn take_in_line(
     step: DownReadStep,
 ) -> Next<WritePhase>
     requires table { seat.old.table_id ≡ gates.now.table.shared.table_id }
-    requires tied { IsTied gates.now.config begins (Some (Writes (Takes mount (down_read level cpu task wait step)))) accesses.old seat.old.me.0 }
+    requires tied { IsTied gates.now.config begins (taking mount level cpu task wait step) accesses.old seat.old.me.0 }
     ensures table { seat.new.table_id ≡ seat.old.table_id }
     ensures slots { seat.new.me.1 ≡ seat.old.me.1 }
-    ensures tied { StayTied gates.now.config begins (Some (Writes (Takes mount (down_read level cpu task wait step)))) accesses.old seat.old.me.0
+    ensures tied { StayTied gates.now.config begins (taking mount level cpu task wait step) accesses.old seat.old.me.0
         (phase_after (of_write result)) accesses.new seat.new.me.0 }
     ensures went { (op : OpType) (start : TaskState) →
-        Goes op start (task_state seat.old.table_id gates.now.config begins (Some (Writes (Takes mount (down_read level cpu task wait step)))) seat.old.me.0) →
+        Goes op start (task_state seat.old.table_id gates.now.config begins (taking mount level cpu task wait step) seat.old.me.0) →
         Went op start (of_write result)
         (task_state seat.new.table_id gates.now.config None (phase_after (of_write result)) seat.new.me.0) }
 {
