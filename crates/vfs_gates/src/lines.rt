@@ -216,7 +216,7 @@ fn want_then(
 /// The events of a taking of write access that begins, in a line; of one that has gone on its next event alone. What comes after the
 /// last of them. It is a function of its own, as it is long. It is told the parts of its phase, and asks whether it begins, so that
 /// the compiler knows each event in it.
-#[inline(never)]
+#[inline]
 fn take_in_line(
     gates: &Gates,
     seat: &mut Seat,
@@ -262,7 +262,7 @@ fn take_in_line(
 }
 
 /// The two events of a return of write access, likewise.
-#[inline(never)]
+#[inline]
 fn give_in_line(
     gates: &Gates,
     seat: &mut Seat,
