@@ -5,14 +5,15 @@ use Rattle.std.specs.Prelude.{◌≡◌, ℕ, Option}
 use Rattle.finite_sums.specs.Sums.{update}
 use Rattle.gate_world.specs.declared.work.Phase.{Phase}
 use Rattle.gate_world.specs.declared.views.View.{View}
-use Rattle.gate_world.specs.Rules.{role_of, relied, IsSteady}
+use Rattle.gate_world.specs.Rules.{role_of, IsSteady}
+use Rattle.gate_world.specs.Stages.{stage_role_of}
 use Rattle.gate_world.specs.Worlds.{World}
 use Rattle.gate_world.specs.Levels.{level_role_of, sync_role_of, inside}
 
 -- all that the rule and the shown model read of a phase is the same of both, but for the accesses that it asks for
 pub record IsAlike (p q : Option Phase) : Type 0 where
   pub steady : IsSteady p q
-  pub relied_same : relied q ≡ relied p
+  pub stage_same : stage_role_of q ≡ stage_role_of p
   pub level_same : (i : ℕ) → level_role_of i q ≡ level_role_of i p
   pub sync_same : (i : ℕ) → sync_role_of i q ≡ sync_role_of i p
   pub inside_same : inside q ≡ inside p

@@ -1,7 +1,7 @@
 -- Moments of a schedule: what stood in the world when a refusal's cause was read.
 use Rattle.std.specs.Prelude.{◌≡◌, ℕ, ◌<◌, ◌==◌, ◌||◌, ◌⊎◌, not, nat_lt, Bool, true, false, if◌then◌else◌, Option, Some, None, Err, List, [], ◌∷◌}
 use Rattle.finite_sums.specs.Sums.{total}
-use Rattle.access_model.specs.declared.errors.GateError.TheVariants.{Busy, ReadOnly}
+use Rattle.access_model.specs.declared.errors.GateError.TheVariants.{Busy, ReadOnly, Invalid}
 use Rattle.mount_counts.specs.declared.phases.MountPhase.TheVariants.{Want as Wants, Drop as Drops, Change as Changes}
 use Rattle.mount_counts.specs.declared.phases.WantStep.{WantStep}
 use Rattle.mount_counts.specs.declared.phases.WantStep.TheVariants.{LoadsRemount, LoadsReadOnly, LoadsSuperblock, CountsDown}
@@ -12,13 +12,21 @@ use Rattle.mount_counts.specs.declared.remounts.RemountStep.TheVariants.{LoadsSt
 use Rattle.mount_counts.specs.Roles.{counted}
 use Rattle.gate_world.specs.declared.config.Config.{Config}
 use Rattle.gate_world.specs.declared.work.Phase.{Phase}
-use Rattle.gate_world.specs.declared.work.Phase.TheVariants.{Mounts, Remounts, DownReads, UpReads, Callbacks, Writes}
+use Rattle.gate_world.specs.declared.work.Phase.TheVariants.{Mounts, Remounts, DownReads, UpReads, Callbacks, Writes, Freezes, Thaws}
 use Rattle.percpu_rwsem.specs.declared.readers.DownReadStep.{DownReadStep}
 use Rattle.percpu_rwsem.specs.declared.readers.DownReadStep.TheVariants.{LoadsBlock, LeavesBlocked}
 use Rattle.level_laws.specs.Roles.{closed}
 use Rattle.write_access.specs.declared.phases.WritePhase.{WritePhase}
 use Rattle.write_access.specs.declared.phases.WritePhase.TheVariants.{Takes, Wants as WriteWants, GivesBack}
-use Rattle.gate_world.specs.Levels.{sync_role_of, is_frozen_whole}
+use Rattle.percpu_rwsem.specs.declared.writers.DownWriteStep.{DownWriteStep}
+use Rattle.percpu_rwsem.specs.declared.writers.DownWriteStep.TheVariants.{Sums as SumsLevel}
+use Rattle.freeze_levels.specs.declared.freezes.FreezeStep.{FreezeStep}
+use Rattle.freeze_levels.specs.declared.freezes.FreezeStep.TheVariants.{LoadsStage as FreezeLoadsStage, Closes, Releases as FreezeReleases}
+use Rattle.freeze_levels.specs.declared.thaws.ThawStep.{ThawStep}
+use Rattle.freeze_levels.specs.declared.thaws.ThawStep.TheVariants.{LoadsStage as ThawLoadsStage, Releases as ThawReleases}
+use Rattle.gate_counts.specs.Gates.{counted as counted_of}
+use Rattle.gate_counts.specs.Levels.{level_as_gate}
+use Rattle.gate_world.specs.Levels.{sync_role_of, is_frozen_whole, at_level}
 use Rattle.gate_world.specs.Worlds.{World, Entry, happens, run, opening}
 use Rattle.gate_world.specs.Shown.{shown}
 use Rattle.gate_world.specs.Rules.{at_mount}
@@ -65,9 +73,21 @@ abbrev pub step_looks : RemountStep → Bool
 step_looks LoadsStage = true
 step_looks step = false
 
+-- the same of a freeze
+abbrev pub freeze_looks : FreezeStep → Bool
+freeze_looks FreezeLoadsStage = true
+freeze_looks step = false
+
+-- and of a thaw
+abbrev pub thaw_looks : ThawStep → Bool
+thaw_looks ThawLoadsStage = true
+thaw_looks step = false
+
 -- the same of what a task is at
 abbrev pub looks_at_stage : Option Phase → Bool
 looks_at_stage (Some (Remounts x)) = step_looks x.step
+looks_at_stage (Some (Freezes x)) = freeze_looks x.step
+looks_at_stage (Some (Thaws x)) = thaw_looks x.step
 looks_at_stage phase = false
 
 -- the world in which a task last looked at the stage
@@ -79,6 +99,11 @@ last_look t (w ∷ earlier) = if looks_at_stage (w.views t).phase then Some w el
 abbrev pub was_frozen : Config → Option World → Bool
 was_frozen c None = false
 was_frozen c (Some w) = not ((shown c w).stage == 0)
+
+-- it had a stage other than 4 there
+abbrev pub was_incomplete : Config → Option World → Bool
+was_incomplete c None = false
+was_incomplete c (Some w) = not ((shown c w).stage == 4)
 
 -- the next event of a down-read is its load of `block`
 abbrev pub read_asks : DownReadStep → Bool
@@ -118,10 +143,21 @@ abbrev pub remount_read : RemountStep → Option ℕ
 remount_read (RemountSums m held sum) = Some sum.words
 remount_read step = None
 
+-- the same of a down-write, which sums the words of its level
+abbrev pub down_write_read : DownWriteStep → Option ℕ
+down_write_read (SumsLevel sum) = Some sum.words
+down_write_read step = None
+
+-- the same of a freeze
+abbrev pub freeze_read : FreezeStep → Option ℕ
+freeze_read (Closes d) = down_write_read d.step
+freeze_read step = None
+
 -- how many words of a sum are read, where the next event of what a task is at is a load of a word
 abbrev pub words_read : Option Phase → Option ℕ
 words_read (Some (Mounts (Changes x))) = step_read x.step
 words_read (Some (Remounts x)) = remount_read x.step
+words_read (Some (Freezes x)) = freeze_read x.step
 words_read phase = None
 
 -- the worlds of a task's last sum: from the one in which its first word was loaded to the newest in which a word was still to be
@@ -144,6 +180,15 @@ abbrev pub was_counted : Config → ℕ → List World → Bool
 was_counted c m [] = false
 was_counted c m (w ∷ earlier) = nat_lt 0 (all_counted c m w) || was_counted c m earlier
 
+-- what is held and sought at a level
+abbrev pub all_inside : Config → ℕ → World → ℕ
+all_inside c i w = total c.tasks (λ t. counted_of (level_as_gate (at_level i (w.views t))))
+
+-- something was counted at the level in one of these worlds
+abbrev pub was_inside : Config → ℕ → List World → Bool
+was_inside c i [] = false
+was_inside c i (w ∷ earlier) = nat_lt 0 (all_inside c i w) || was_inside c i earlier
+
 -- something was counted at some mount while the words of a task's last sum were loaded
 abbrev pub SomeWasCounted : Config → ℕ → List World → Type 0
 SomeWasCounted c t worlds = (m : ℕ) × (m < c.mounts) × (was_counted c m (moments_of_sum t worlds) ≡ true)
@@ -155,9 +200,18 @@ WriteHasCause c t worlds (WriteWants x) = x.step ≡ CountsDown ReadOnly → was
 WriteHasCause c t worlds (GivesBack m p refusal) = refusal ≡ ReadOnly → was_read_only c m (last_question t worlds) ≡ true
 WriteHasCause c t worlds x = Unit {0}
 
+-- the same of a freeze that is refused as busy, and of a thaw that is refused as invalid: the stage was so when it looked
+abbrev pub FreezeHasCause : Config → ℕ → List World → FreezeStep → Type 0
+FreezeHasCause c t worlds (FreezeReleases answer) = answer ≡ Err Busy → was_frozen c (last_look t worlds) ≡ true
+FreezeHasCause c t worlds step = Unit {0}
+
+abbrev pub ThawHasCause : Config → ℕ → List World → ThawStep → Type 0
+ThawHasCause c t worlds (ThawReleases answer) = answer ≡ Err Invalid → was_incomplete c (last_look t worlds) ≡ true
+ThawHasCause c t worlds step = Unit {0}
+
 -- A task whose next event is the one with which it is refused: as read-only, and the mount was so when the task last asked; as busy, and
 -- something was counted at the mount, for a remount at some mount, in some world from the load of its sum's first word to the load of its
--- last, or, for a remount, the stage was not 0 when it looked; again, or with which it waits, for a level, and the level was closed when
+-- last, or, for a remount or a freeze, the stage was not 0 when it looked; as invalid, for a thaw, and the stage was not 4 then; again, or with which it waits, for a level, and the level was closed when
 -- the task last asked. Each kind of phase has a row of its own, so that a new one says its causes.
 abbrev pub HasCause : Config → ℕ → List World → Option Phase → Type 0
 HasCause c t worlds None = Unit {0}
@@ -170,6 +224,8 @@ HasCause c t worlds (Some (DownReads r)) = r.step ≡ LeavesBlocked → WasClose
 HasCause c t worlds (Some (UpReads u)) = Unit {0}
 HasCause c t worlds (Some (Callbacks b)) = Unit {0}
 HasCause c t worlds (Some (Writes x)) = WriteHasCause c t worlds x
+HasCause c t worlds (Some (Freezes x)) = FreezeHasCause c t worlds x.step
+HasCause c t worlds (Some (Thaws x)) = ThawHasCause c t worlds x.step
 
 -- so it is of every task, after a schedule
 abbrev pub RefusalsHaveCauses : Config → List Entry → Type 0

@@ -11,13 +11,21 @@ use Rattle.access_model.specs.declared.actions.Gate.TheVariants.{Mount, Level}
 use Rattle.access_model.specs.Actions.{mounts_after, levels_after}
 use Rattle.gate_world.specs.declared.config.Config.{Config}
 use Rattle.gate_world.specs.declared.work.Phase.{Phase}
-use Rattle.gate_world.specs.declared.work.Phase.TheVariants.{Mounts, Remounts, DownReads, UpReads, Callbacks, Writes}
+use Rattle.gate_world.specs.declared.work.Phase.TheVariants.{Mounts, Remounts, DownReads, UpReads, Callbacks, Writes, Freezes, Thaws}
 use Rattle.percpu_rwsem.specs.declared.readers.DownRead.{DownRead}
 use Rattle.percpu_rwsem.specs.declared.readers.DownReadStep.{DownReadStep}
 use Rattle.percpu_rwsem.specs.declared.readers.DownReadStep.TheVariants.{LeavesAdmitted}
 use Rattle.percpu_rwsem.specs.declared.callbacks.CallbackStep.{CallbackStep}
 use Rattle.percpu_rwsem.specs.declared.callbacks.CallbackStep.TheVariants.{AwaitsSections}
-use Rattle.level_laws.specs.Operations.{KnowsCallback}
+use Rattle.percpu_rwsem.specs.declared.writers.DownWrite.{DownWrite}
+use Rattle.percpu_rwsem.specs.declared.writers.DownWriteStep.{DownWriteStep}
+use Rattle.percpu_rwsem.specs.declared.writers.DownWriteStep.TheVariants.{AwaitsSections as AwaitsReaders, Sums as SumsLevel}
+use Rattle.percpu_rwsem.specs.declared.writers.UpWrite.{UpWrite}
+use Rattle.freeze_levels.specs.declared.freezes.FreezeStep.{FreezeStep}
+use Rattle.freeze_levels.specs.declared.freezes.FreezeStep.TheVariants.{Closes, Cleans, Reopens as FreezeReopens}
+use Rattle.freeze_levels.specs.declared.thaws.ThawStep.{ThawStep}
+use Rattle.freeze_levels.specs.declared.thaws.ThawStep.TheVariants.{Reopens as ThawReopens}
+use Rattle.level_laws.specs.Operations.{KnowsCallback, KnowsDownWrite, KnowsUpWrite}
 use Rattle.write_access.specs.declared.phases.WritePhase.{WritePhase}
 use Rattle.write_access.specs.declared.phases.WritePhase.TheVariants.{Takes, Wants as WriteWants, GivesBack, Drops as WriteDrops, Ends}
 use Rattle.gate_world.specs.Operations.{holds_none, holds_none_from}
@@ -50,6 +58,33 @@ abbrev pub GraceFits : ℕ → CallbackStep → Type 0
 GraceFits tasks (AwaitsSections grace) = (grace.tasks ≡ tasks) × (grace.task < tasks)
 GraceFits tasks step = Unit {0}
 
+-- a down-write's grace period is among all tasks and has a task more to look at, and its sum has a word more to read
+abbrev pub DownWriteStepFits : Config → DownWriteStep → Type 0
+DownWriteStepFits c (AwaitsReaders grace) = (grace.tasks ≡ c.tasks) × (grace.task < c.tasks)
+DownWriteStepFits c (SumsLevel sum) = sum.words < c.processors
+DownWriteStepFits c step = Unit {0}
+
+-- its numbers are in range, and it knows the words of an exchange that is to come
+abbrev pub DownWriteFits : Config → DownWrite → Type 0
+DownWriteFits c d = (1 ≤ d.level) × (d.level ≤ 3) × (d.tasks ≡ c.tasks) × (d.processors ≡ c.processors) × DownWriteStepFits c d.step ×
+    KnowsDownWrite d.step
+
+-- the same of an up-write
+abbrev pub UpWriteFits : UpWrite → Type 0
+UpWriteFits u = (1 ≤ u.level) × (u.level ≤ 3) × KnowsUpWrite u.step
+
+-- a freeze clears the marks of nodes but the root
+abbrev pub FreezeFits : Config → FreezeStep → Type 0
+FreezeFits c (Closes d) = DownWriteFits c d
+FreezeFits c (Cleans marks) = (marks.nodes ≡ c.nodes) × (1 ≤ marks.node) × (marks.node < c.nodes)
+FreezeFits c (FreezeReopens u code) = UpWriteFits u
+FreezeFits c step = Unit {0}
+
+-- a thaw's numbers are those of its levels
+abbrev pub ThawFits : ThawStep → Type 0
+ThawFits (ThawReopens u) = UpWriteFits u
+ThawFits step = Unit {0}
+
 -- a write access is at level 1, has room for an access at its mount until it has one, and holds the level once it is inside
 abbrev pub WriteFits : Config → ℕ → (ℕ → ℕ) → (ℕ → Bool) → WritePhase → Type 0
 WriteFits c t held levels (Takes m r) = ReadFits c t levels r × (r.level ≡ 1) × (m < c.mounts) × (held m < 1024)
@@ -59,7 +94,8 @@ WriteFits c t held levels (WriteDrops m p) = MountFits c t held levels (Drop m p
 WriteFits c t held levels (Ends p) = (p < c.processors) × (levels 1 ≡ true)
 
 -- The same of a phase of any layer: a remount is of this task, of these numbers, and holds no level; an up-read holds its level; a callback
--- is of all tasks, and knows the words of an exchange that is to come.
+-- is of all tasks, and knows the words of an exchange that is to come; a freeze or a thaw is of this task, of these numbers, and holds no
+-- level.
 abbrev pub PhaseFits : Config → ℕ → (ℕ → ℕ) → (ℕ → Bool) → Phase → Type 0
 PhaseFits c t held levels (Mounts phase) = MountFits c t held levels phase
 PhaseFits c t held levels (Remounts x) = (x.task ≡ t) × (x.processors ≡ c.processors) × (x.mounts ≡ c.mounts) × (x.nodes ≡ c.nodes) ×
@@ -69,6 +105,9 @@ PhaseFits c t held levels (UpReads u) = (1 ≤ u.level) × (u.level ≤ 3) × (u
 PhaseFits c t held levels (Callbacks b) = (1 ≤ b.level) × (b.level ≤ 3) × (b.tasks ≡ c.tasks) × GraceFits c.tasks b.step ×
     KnowsCallback b.step
 PhaseFits c t held levels (Writes x) = WriteFits c t held levels x
+PhaseFits c t held levels (Freezes x) = (x.task ≡ t) × (x.tasks ≡ c.tasks) × (x.processors ≡ c.processors) × (x.nodes ≡ c.nodes) ×
+    (holds_none levels ≡ true) × FreezeFits c x.step
+PhaseFits c t held levels (Thaws x) = (x.task ≡ t) × (holds_none levels ≡ true) × ThawFits x.step
 
 -- the same of what a task is at; nothing is asked where no operation is under way
 abbrev pub Fits : Config → ℕ → (ℕ → ℕ) → (ℕ → Bool) → Option Phase → Type 0

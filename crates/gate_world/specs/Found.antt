@@ -1,16 +1,17 @@
 -- What the events of a trace have found.
-use Rattle.std.specs.Prelude.{◌≡◌, ℕ, zero, suc, ◌%◌, ◌==◌, not, ◌&&◌, ◌||◌, Bool, true, false, if◌then◌else◌, ◌⊎◌, Option, Some, None, is_some, List, [], ◌∷◌, sum_by}
+use Rattle.std.specs.Prelude.{◌≡◌, ◌≢◌, ℕ, zero, suc, ◌%◌, ◌==◌, not, ◌&&◌, ◌||◌, Bool, true, false, if◌then◌else◌, ◌⊎◌, Option, Some, None, is_some, List, [], ◌∷◌, sum_by}
 use Rattle.cpu_words.specs.declared.names.WordName.{WordName}
 use Rattle.cpu_words.specs.declared.names.WordName.TheVariants.{Umount, Stage, SbFlags, Remount, MountFlags, MountCount, Block, Sync, LevelCount, Section, Node}
 use Rattle.cpu_words.specs.declared.events.Touch.{Touch}
-use Rattle.cpu_words.specs.declared.events.Touch.TheVariants.{Load, Store, Add, Sub, And, Cas}
+use Rattle.cpu_words.specs.declared.events.Touch.TheVariants.{Load, Store, Add, Sub, And, Cas, Swap}
 use Rattle.cpu_words.specs.declared.events.Event.{Event}
 use Rattle.cpu_words.specs.Hooks.{HookAnswer}
 use Rattle.access_model.specs.declared.actions.Action.{Action}
 use Rattle.access_model.specs.declared.actions.Action.TheVariants.{Clean}
 use Rattle.mount_counts.specs.Phases.{has_flag}
 use Rattle.percpu_rwsem.specs.declared.sync_word.SyncWord.{SyncWord}
-use Rattle.percpu_rwsem.specs.SyncWords.{unpack, on_claim}
+use Rattle.cpu_words.specs.Touches.{wrap_add}
+use Rattle.percpu_rwsem.specs.SyncWords.{unpack, is_passed, on_claim}
 use Rattle.gate_world.specs.declared.views.Traced.{Traced}
 
 -- the touch is a load; a compare-exchange
@@ -121,10 +122,29 @@ found_sealed trace = some_event (λ e. is_load e.touch && says_sealed e.word e.f
 abbrev pub found_frozen : List Traced → Bool
 found_frozen trace = some_event (λ e. is_load e.touch && says_frozen e.word e.found) trace
 
--- the event stores 0 in `remount`; in `umount`
+-- the load found another stage than SB_FREEZE_COMPLETE, which is 4
+abbrev pub says_incomplete : WordName → ℕ → Bool
+says_incomplete Stage found = not (found == 4)
+says_incomplete word found = false
+
+-- some load found one
+abbrev pub found_incomplete : List Traced → Bool
+found_incomplete trace = some_event (λ e. is_load e.touch && says_incomplete e.word e.found) trace
+
+-- the event stores this stage
+abbrev pub stores_stage : ℕ → WordName → Touch → Bool
+stores_stage n Stage (Store value) = value == n
+stores_stage n word touch = false
+
+-- some event did
+abbrev pub stored_stage : ℕ → List Traced → Bool
+stored_stage n trace = some_event (λ e. stores_stage n e.word e.touch) trace
+
+-- they are the same, and one of the words whose clearing a hook's answer decides: `remount`, `umount`, the stage
 abbrev pub clears_word : WordName → WordName → Bool
 clears_word Remount Remount = true
 clears_word Umount Umount = true
+clears_word Stage Stage = true
 clears_word word other = false
 
 -- the touch is a store of 0
@@ -234,3 +254,39 @@ abbrev pub transitions_made : ℕ → List Traced → ℕ
 transitions_made i [] = 0
 transitions_made i (e ∷ earlier) =
     if is_sync i e.event.word && exchanges e.event.touch e.event.found then suc (transitions_made i earlier) else transitions_made i earlier
+
+-- a word in which a writer that found GP_IDLE is in its grace period or past it
+abbrev pub is_entering : Option SyncWord → Bool
+is_entering None = false
+is_entering (Some word) = not (is_passed word.state)
+
+-- the load found a level's sync word so
+abbrev pub says_entering : WordName → ℕ → Bool
+says_entering (Sync i) found = is_entering (unpack found)
+says_entering word found = false
+
+-- the swap found a level's `block` set
+abbrev pub says_blocked : WordName → Touch → ℕ → Bool
+says_blocked (Block i) (Swap value) found = not (found == 0)
+says_blocked word touch found = false
+
+-- The event is one after which a writer of a level looks again: it found a task inside a section, another writer that is entering, or the
+-- level's `block` set.
+abbrev pub finds_readers : Event → Bool
+finds_readers e = finds_inside e || ((is_load e.touch && says_entering e.word e.found) || says_blocked e.word e.touch e.found)
+
+-- the newest events are one load of each of so many processors' counts of a level, from 0 up
+abbrev pub IsLevelSum : ℕ → ℕ → List Traced → Type 0
+IsLevelSum i zero trace = Unit {0}
+IsLevelSum i (suc n) [] = ⊥
+IsLevelSum i (suc n) (e ∷ earlier) = (e.event.word ≡ LevelCount i n) × (e.event.touch ≡ Load) × IsLevelSum i n earlier
+
+-- the wrapping sum of what the newest events found, so many of them
+abbrev pub sum_of_newest : ℕ → List Traced → ℕ
+sum_of_newest zero trace = 0
+sum_of_newest (suc n) [] = 0
+sum_of_newest (suc n) (e ∷ earlier) = wrap_add (sum_of_newest n earlier) e.event.found
+
+-- the newest events are loads of a level's counts, one of each processor, and their sum isn't 0
+abbrev pub FoundInside : ℕ → List Traced → Type 0
+FoundInside processors trace = (i : ℕ) × IsLevelSum i processors trace × (sum_of_newest processors trace ≢ 0)

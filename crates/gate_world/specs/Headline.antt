@@ -1,5 +1,5 @@
 -- The headline: what holds of every schedule.
-use Rattle.std.specs.Prelude.{◌≡◌, ℕ, ◌%◌, ◌<◌, ◌≤◌, false, if◌then◌else◌, Option, Some, None, Err, List, []}
+use Rattle.std.specs.Prelude.{◌≡◌, ℕ, ◌%◌, ◌<◌, ◌≤◌, ◌⊎◌, Bool, false, if◌then◌else◌, Option, Some, None, Err, List, []}
 use Rattle.finite_sums.specs.Sums.{total}
 use Rattle.access_model.specs.Histories.{Done, end_of, IsLegal, IsMerge}
 use Rattle.access_model.specs.Laws.{NobodyHoldsClosed}
@@ -18,7 +18,8 @@ use Rattle.percpu_rwsem.specs.SyncWords.{unpack}
 use Rattle.gate_world.specs.Levels.{at_level, is_frozen_whole}
 use Rattle.gate_world.specs.Views.{held_at, holds_level, HoldsAsBefore}
 use Rattle.gate_world.specs.Worlds.{World, Entry, happens, action_of, task_of, run, opening, history}
-use Rattle.gate_world.specs.Shown.{shown}
+use Rattle.stage_laws.specs.Roles.{Place, Freezing, freezes}
+use Rattle.gate_world.specs.Shown.{shown, stage_roles}
 use Rattle.gate_world.specs.Moments.{AllHaveMoments}
 use Rattle.gate_world.specs.Rules.{at_mount, Moves}
 use Rattle.gate_world.specs.Courses.{course_of, IsTraced}
@@ -70,7 +71,7 @@ IsUntaken None = ⊥
 IsUntaken (Some word) = word.taken ≡ false
 
 -- No lock, no remount and no hold stands: `umount` is free, `remount` is clear, and so is HOLD, which is 2, at each mount. No section is
--- under way, a level is closed only where the file system is frozen as a whole, and no callback is taken.
+-- under way, a level is closed only where the file system is frozen as a whole, no callback is taken, and no freeze is half done.
 pub record IsAtRest (c : Config) (w : World) : Type 0 where
   pub umount_free : w.words.umount ≡ 0
   pub remount_clear : w.words.remount ≡ 0
@@ -78,10 +79,17 @@ pub record IsAtRest (c : Config) (w : World) : Type 0 where
   pub sections_even : (t : ℕ) → t < c.tasks → w.words.section t % 2 ≡ 0
   pub levels_open : (i : ℕ) → 1 ≤ i → i ≤ 3 → w.words.block i ≡ is_frozen_whole w.words
   pub callbacks_free : (i : ℕ) → 1 ≤ i → i ≤ 3 → IsUntaken (unpack (w.words.sync i))
+  pub stage_settled : (w.words.stage ≡ 0) ⊎ (w.words.stage ≡ 4)
 
 -- nothing is left behind: with no operation under way, none of them stands
 abbrev pub NothingIsLeft : Config → World → Type 0
 NothingIsLeft c w = ((t : ℕ) → t < c.tasks → (w.views t).phase ≡ None) → IsAtRest c w
+
+-- At stages 1 to 3 one task is in a freeze, between its store of 1 and its store of 4 or 0, and the stage is the one that it stored last.
+abbrev pub FreezeIsUnderWay : Config → World → Type 0
+FreezeIsUnderWay c w = 1 ≤ w.words.stage → w.words.stage ≤ 3 →
+    (t : ℕ) × (t < c.tasks) × (place : Place) × (owner : Bool) × (stage_roles w t ≡ Freezing w.words.stage place owner) ×
+    ((u : ℕ) → u < c.tasks → (u ≡ t → ⊥) → freezes (stage_roles w u) ≡ 0)
 
 -- nobody holds an access at a read-only mount, or a level that a freeze has passed
 abbrev pub NobodyIsInside : Config → World → Type 0

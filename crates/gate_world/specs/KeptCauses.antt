@@ -1,7 +1,7 @@
 -- What is kept along a schedule about the causes of refusals.
 use Rattle.std.specs.Prelude.{◌≡◌, ◌⊎◌, ℕ, ◌<◌, true, false, Option, Some, Result, Err, List, ◌∷◌}
 use Rattle.access_model.specs.declared.errors.GateError.{GateError}
-use Rattle.access_model.specs.declared.errors.GateError.TheVariants.{Busy, ReadOnly}
+use Rattle.access_model.specs.declared.errors.GateError.TheVariants.{Busy, ReadOnly, Invalid}
 use Rattle.access_model.specs.declared.replies.Reply.{Reply}
 use Rattle.cpu_words.specs.Sums.{lead}
 use Rattle.mount_counts.specs.declared.phases.MountPhase.TheVariants.{Want as Wants, Change as Changes}
@@ -13,13 +13,19 @@ use Rattle.mount_counts.specs.declared.remounts.RemountStep.{RemountStep}
 use Rattle.mount_counts.specs.declared.remounts.RemountStep.TheVariants.{Sums as RemountSums, GivesUp, Releases as RemountReleases}
 use Rattle.gate_world.specs.declared.config.Config.{Config}
 use Rattle.gate_world.specs.declared.work.Phase.{Phase}
-use Rattle.gate_world.specs.declared.work.Phase.TheVariants.{Mounts, Remounts, DownReads, Writes}
+use Rattle.gate_world.specs.declared.work.Phase.TheVariants.{Mounts, Remounts, DownReads, Writes, Freezes, Thaws}
 use Rattle.percpu_rwsem.specs.declared.readers.DownReadStep.{DownReadStep}
 use Rattle.percpu_rwsem.specs.declared.readers.DownReadStep.TheVariants.{CountsDown as TakesBack, LeavesBlocked}
 use Rattle.write_access.specs.declared.phases.WritePhase.{WritePhase}
 use Rattle.write_access.specs.declared.phases.WritePhase.TheVariants.{Takes, Wants as WriteWants, GivesBack}
+use Rattle.percpu_rwsem.specs.declared.writers.DownWriteStep.{DownWriteStep}
+use Rattle.percpu_rwsem.specs.declared.writers.DownWriteStep.TheVariants.{Sums as SumsLevel}
+use Rattle.freeze_levels.specs.declared.freezes.FreezeStep.{FreezeStep}
+use Rattle.freeze_levels.specs.declared.freezes.FreezeStep.TheVariants.{Closes, Releases as FreezeReleases}
+use Rattle.freeze_levels.specs.declared.thaws.ThawStep.{ThawStep}
+use Rattle.freeze_levels.specs.declared.thaws.ThawStep.TheVariants.{Releases as ThawReleases}
 use Rattle.gate_world.specs.Worlds.{World}
-use Rattle.gate_world.specs.Causes.{last_question, was_read_only, last_look, was_frozen, moments_of_sum, was_counted, SomeWasCounted, last_asked, WasClosed}
+use Rattle.gate_world.specs.Causes.{last_question, was_read_only, last_look, was_frozen, was_incomplete, moments_of_sum, was_inside, was_counted, SomeWasCounted, last_asked, WasClosed}
 
 module _ (c : Config) (t : ℕ) (w : World) (earlier : List World) where
   -- a want that is to be refused as read-only: the mount was so when it last asked
@@ -65,6 +71,24 @@ module _ (c : Config) (t : ℕ) (w : World) (earlier : List World) where
   WriteCause (GivesBack m p refusal) = WantCause m (CountsDown refusal)
   WriteCause x = Unit {0}
 
+  -- a down-write: where nothing was counted at its level since its sum began, the lead is 0
+  abbrev pub DownWriteCause : ℕ → DownWriteStep → Type 0
+  DownWriteCause i (SumsLevel sum) =
+      (sum.words ≡ 0 → sum.total ≡ 0) ×
+      (was_inside c i (moments_of_sum t (w ∷ earlier)) ≡ false → lead c.processors (w.words.level i) sum.words sum.total ≡ 0)
+  DownWriteCause i step = Unit {0}
+
+  -- a freeze: its sum is as its down-write's, and where it is busy, the stage was not 0 when it looked
+  abbrev pub FreezeCause : FreezeStep → Type 0
+  FreezeCause (Closes d) = DownWriteCause d.level d.step
+  FreezeCause (FreezeReleases answer) = answer ≡ Err Busy → was_frozen c (last_look t (w ∷ earlier)) ≡ true
+  FreezeCause step = Unit {0}
+
+  -- a thaw that is invalid: the stage was not 4 when it looked
+  abbrev pub ThawCause : ThawStep → Type 0
+  ThawCause (ThawReleases answer) = answer ≡ Err Invalid → was_incomplete c (last_look t (w ∷ earlier)) ≡ true
+  ThawCause step = Unit {0}
+
   -- what is kept of the causes of what a task is at
   abbrev pub CauseOf : Option Phase → Type 0
   CauseOf (Some (Mounts (Wants x))) = WantCause x.mount x.step
@@ -72,6 +96,8 @@ module _ (c : Config) (t : ℕ) (w : World) (earlier : List World) where
   CauseOf (Some (Remounts x)) = RemountCause x.step
   CauseOf (Some (DownReads r)) = ReadCause r.level r.step
   CauseOf (Some (Writes x)) = WriteCause x
+  CauseOf (Some (Freezes x)) = FreezeCause x.step
+  CauseOf (Some (Thaws x)) = ThawCause x.step
   CauseOf phase = Unit {0}
 
 -- and of every task

@@ -1,6 +1,7 @@
 pub mod Configs
 pub mod Work
 pub mod Remounts
+pub mod Stages
 pub mod Snapshots
 pub mod Views
 pub mod Found

@@ -1,10 +1,10 @@
 -- One row for each operation: all that is said of it apart from its events.
 use Rattle.std.specs.Prelude.{◌≡◌, ◌≢◌, ◌⊎◌, ℕ, ◌+◌, ◌<◌, Bool, true, false, not, ◌&&◌, ◌||◌, nat_lt, if◌then◌else◌, Option, Some, None, Result, Ok, Err, List, [], ◌∷◌, ◌++◌}
 use Rattle.access_model.specs.declared.actions.Action.{Action}
-use Rattle.access_model.specs.declared.actions.Action.TheVariants.{Grant, Return, MountRo, MountRw, SbRo, SbRw}
+use Rattle.access_model.specs.declared.actions.Action.TheVariants.{Grant, Return, MountRo, MountRw, SbRo, SbRw, Stage as StageAction, Pass, Reopen}
 use Rattle.access_model.specs.declared.actions.Gate.TheVariants.{Mount, Level}
 use Rattle.access_model.specs.declared.errors.GateError.{GateError}
-use Rattle.access_model.specs.declared.errors.GateError.TheVariants.{Again, Busy, ReadOnly, Hook}
+use Rattle.access_model.specs.declared.errors.GateError.TheVariants.{Again, Busy, ReadOnly, Invalid, Hook}
 use Rattle.access_model.specs.declared.replies.Reply.{Reply}
 use Rattle.access_model.specs.declared.replies.Reply.TheVariants.{Ran}
 use Rattle.mount_counts.specs.declared.phases.MountPhase.TheVariants.{Want as Wants, Drop as Drops, Change as Changes}
@@ -12,16 +12,18 @@ use Rattle.mount_counts.specs.declared.phases.WantStep.TheVariants.{CountsUp}
 use Rattle.mount_counts.specs.declared.phases.ChangeStep.TheVariants.{Locks}
 use Rattle.mount_counts.specs.declared.remounts.RemountStep.TheVariants.{Locks as RemountLocks}
 use Rattle.cpu_words.specs.declared.names.WordName.{WordName}
-use Rattle.cpu_words.specs.declared.names.WordName.TheVariants.{Umount, Remount}
+use Rattle.cpu_words.specs.declared.names.WordName.TheVariants.{Umount, Remount, Stage}
 use Rattle.gate_world.specs.declared.config.Config.{Config}
 use Rattle.gate_world.specs.declared.operations.Op.{Op}
-use Rattle.gate_world.specs.declared.operations.Op.TheVariants.{Want, DropMount, ChangeMount, RemountSb, Start, End, WantWrite, DropWrite, Callback}
+use Rattle.gate_world.specs.declared.operations.Op.TheVariants.{Want, DropMount, ChangeMount, RemountSb, Start, End, WantWrite, DropWrite, Callback, Freeze as FreezeOp, Thaw as ThawOp}
 use Rattle.gate_world.specs.declared.work.Phase.{Phase}
 use Rattle.percpu_rwsem.specs.declared.readers.DownReadStep.TheVariants.{EntersSection}
 use Rattle.percpu_rwsem.specs.declared.callbacks.CallbackStep.TheVariants.{Claims}
 use Rattle.percpu_rwsem.specs.declared.transitions.Transition.TheVariants.{Loads}
 use Rattle.write_access.specs.declared.phases.WritePhase.TheVariants.{Takes, Drops as WriteDrops}
-use Rattle.gate_world.specs.declared.work.Phase.TheVariants.{Mounts, Remounts, DownReads, UpReads, Callbacks, Writes}
+use Rattle.freeze_levels.specs.declared.freezes.FreezeStep.TheVariants.{Locks as FreezeLocks}
+use Rattle.freeze_levels.specs.declared.thaws.ThawStep.TheVariants.{Locks as ThawLocks}
+use Rattle.gate_world.specs.declared.work.Phase.TheVariants.{Mounts, Remounts, DownReads, UpReads, Callbacks, Writes, Freezes, Thaws}
 use Rattle.gate_world.specs.declared.views.Traced.{Traced}
 use Rattle.gate_world.specs.Found.{
   found_read_only,
@@ -45,6 +47,10 @@ use Rattle.gate_world.specs.Found.{
   finds_inside,
   finds_none_queued,
   transitions_made,
+  found_incomplete,
+  stored_stage,
+  finds_readers,
+  FoundInside,
 }
 
 -- what is said of an operation
@@ -68,7 +74,7 @@ pub record OpRow : Type 1 where
   -- a reply says what the trace found
   pub IsTold : Reply → List Traced → Type 0
   -- it may report that it waits after these events
-  pub MayWait : List Traced → Type 0
+  pub MayWait : Config → List Traced → Type 0
 
 -- with these levels held, no level is
 abbrev pub holds_none : (ℕ → Bool) → Bool
@@ -97,7 +103,7 @@ want_row m p wait = record {
   actions = λ answer trace. where_done (Grant (Mount m) ∷ []) answer;
   IsHonest = λ c refusal trace. want_honest m wait refusal trace;
   IsTold = λ reply trace. Unit {0};
-  MayWait = λ trace. (wait ≡ true) × (looks_again (finds_hold m) trace ≡ true);
+  MayWait = λ c trace. (wait ≡ true) × (looks_again (finds_hold m) trace ≡ true);
 }
 
 -- a drop has added its return, and is never refused
@@ -112,7 +118,7 @@ drop_row m p = record {
   actions = λ answer trace. where_done (Return (Mount m) ∷ []) answer;
   IsHonest = λ c refusal trace. ⊥;
   IsTold = λ reply trace. Unit {0};
-  MayWait = λ trace. ⊥;
+  MayWait = λ c trace. ⊥;
 }
 
 -- a change has added the mount's new state, but nothing where its trace found the state as it was asked for
@@ -153,7 +159,7 @@ change_row m read_only wait = record {
   actions = λ answer trace. where_done (unless_so read_only (found_read_only m trace) m) answer;
   IsHonest = λ c refusal trace. change_honest c m wait refusal trace;
   IsTold = λ reply trace. Unit {0};
-  MayWait = λ trace. (wait ≡ true) × (each_event finds_taken trace ≡ true);
+  MayWait = λ c trace. (wait ≡ true) × (each_event finds_taken trace ≡ true);
 }
 
 -- A remount to read-only has added `sb ro` and the marks that it cleared, and `sb rw` after them where the file system refused; one to
@@ -196,7 +202,7 @@ remount_row read_only = record {
   actions = λ answer trace. remount_adds read_only answer trace;
   IsHonest = λ c refusal trace. remount_honest c read_only refusal trace;
   IsTold = λ reply trace. Unit {0};
-  MayWait = λ trace. each_event finds_taken trace ≡ true;
+  MayWait = λ c trace. each_event finds_taken trace ≡ true;
 }
 
 -- there is such a level
@@ -225,7 +231,7 @@ start_row i p wait = record {
   actions = λ answer trace. where_done (Grant (Level i) ∷ []) answer;
   IsHonest = λ c refusal trace. start_honest i wait refusal trace;
   IsTold = λ reply trace. Unit {0};
-  MayWait = λ trace. (wait ≡ true) × (left_closed i trace ≡ true);
+  MayWait = λ c trace. (wait ≡ true) × (left_closed i trace ≡ true);
 }
 
 -- an end has added its return, and is never refused
@@ -240,7 +246,7 @@ end_row i p = record {
   actions = λ answer trace. where_done (Return (Level i) ∷ []) answer;
   IsHonest = λ c refusal trace. ⊥;
   IsTold = λ reply trace. Unit {0};
-  MayWait = λ trace. ⊥;
+  MayWait = λ c trace. ⊥;
 }
 
 -- a taking of write access has added the grants of both gates; where it is refused, the grant of level 1 and its return
@@ -265,7 +271,7 @@ want_write_row m p = record {
   actions = λ answer trace. write_adds m answer;
   IsHonest = λ c refusal trace. write_honest m refusal trace;
   IsTold = λ reply trace. Unit {0};
-  MayWait = λ trace. (left_closed 1 trace ≡ true) ⊎ (holds_since m trace ≡ true);
+  MayWait = λ c trace. (left_closed 1 trace ≡ true) ⊎ (holds_since m trace ≡ true);
 }
 
 -- a return of write access has added both returns, and is never refused
@@ -280,7 +286,7 @@ drop_write_row m p = record {
   actions = λ answer trace. where_done (Return (Level 1) ∷ (Return (Mount m) ∷ [])) answer;
   IsHonest = λ c refusal trace. ⊥;
   IsTold = λ reply trace. Unit {0};
-  MayWait = λ trace. ⊥;
+  MayWait = λ c trace. ⊥;
 }
 
 -- A callback ran where it has made two transitions, its claim and its own; where it says that none did, it has made none, and its newest
@@ -302,7 +308,77 @@ callback_row i = record {
   actions = λ answer trace. [];
   IsHonest = λ c refusal trace. ⊥;
   IsTold = λ reply trace. callback_told i reply trace;
-  MayWait = λ trace. newest finds_inside trace ≡ true;
+  MayWait = λ c trace. newest finds_inside trace ≡ true;
+}
+
+-- What a freeze has added on its way to stage 3: stage 1, level 1 passed, stage 2, level 2 passed, and the marks that it cleared.
+abbrev pub two_levels_closed : List Traced → List Action
+two_levels_closed trace = cleans trace ++ (Pass 2 ∷ (StageAction 2 ∷ (Pass 1 ∷ (StageAction 1 ∷ []))))
+
+-- and on its way to stage 4: stage 3 and level 3 passed, too
+abbrev pub all_levels_closed : List Traced → List Action
+all_levels_closed trace = Pass 3 ∷ (StageAction 3 ∷ two_levels_closed trace)
+
+-- A freeze has added all this and stage 4, or stage 4 alone where it found the superblock read-only. Where the file system failed, stage 0
+-- stands in its place, and the levels that it had closed are reopened, the highest first: two, where it could not be synced, and all
+-- three, where stage 3 was stored. It has added nothing where it is busy.
+abbrev pub freeze_adds : Result Reply GateError → List Traced → List Action
+freeze_adds (Ok reply) trace = StageAction 4 ∷ (if found_sealed trace then [] else all_levels_closed trace)
+freeze_adds (Err (Hook code)) trace =
+    Reopen 1 ∷ (Reopen 2 ∷ (
+      if stored_stage 3 trace
+      then Reopen 3 ∷ (StageAction 0 ∷ all_levels_closed trace)
+      else StageAction 0 ∷ two_levels_closed trace
+    ))
+freeze_adds (Err refusal) trace = []
+
+-- a freeze is refused as busy where it found a stage other than 0, and by the file system where that answered so at the store of stage 0
+abbrev freeze_honest : GateError → List Traced → Type 0
+freeze_honest Busy trace = found_frozen trace ≡ true
+freeze_honest (Hook code) trace = ReadAnswer Stage (Err code) trace
+freeze_honest refusal trace = ⊥
+
+-- it waits where it found `umount` taken, readers or a writer at the level that it closes, or all counts of a level with a sum other than 0
+abbrev freeze_row : OpRow
+freeze_row = record {
+  first = λ c t. Freezes (record { task = t; tasks = c.tasks; processors = c.processors; nodes = c.nodes; step = FreezeLocks });
+  in_range = λ c. true;
+  in_order = λ c held levels. holds_none levels;
+  within_room = λ held. true;
+  waits = true;
+  most_events = λ c. None;
+  actions = λ answer trace. freeze_adds answer trace;
+  IsHonest = λ c refusal trace. freeze_honest refusal trace;
+  IsTold = λ reply trace. Unit {0};
+  MayWait = λ c trace. (newest finds_taken trace ≡ true) ⊎ ((newest finds_readers trace ≡ true) ⊎ FoundInside c.processors trace);
+}
+
+-- A thaw has added stage 0 and the levels reopened, the highest first, or stage 0 alone where it found the superblock read-only; nothing,
+-- where it is refused.
+abbrev pub thaw_adds : Result Reply GateError → List Traced → List Action
+thaw_adds (Ok reply) trace =
+    if found_sealed trace then StageAction 0 ∷ [] else Reopen 1 ∷ (Reopen 2 ∷ (Reopen 3 ∷ (StageAction 0 ∷ [])))
+thaw_adds (Err refusal) trace = []
+
+-- a thaw is refused as invalid where it found a stage other than 4, and by the file system where that answered so at the release
+abbrev thaw_honest : GateError → List Traced → Type 0
+thaw_honest Invalid trace = found_incomplete trace ≡ true
+thaw_honest (Hook code) trace = ReadAnswer Umount (Err code) trace
+thaw_honest refusal trace = ⊥
+
+-- it waits where it has found `umount` taken, and nothing else
+abbrev thaw_row : OpRow
+thaw_row = record {
+  first = λ c t. Thaws (record { task = t; step = ThawLocks });
+  in_range = λ c. true;
+  in_order = λ c held levels. holds_none levels;
+  within_room = λ held. true;
+  waits = true;
+  most_events = λ c. None;
+  actions = λ answer trace. thaw_adds answer trace;
+  IsHonest = λ c refusal trace. thaw_honest refusal trace;
+  IsTold = λ reply trace. Unit {0};
+  MayWait = λ c trace. each_event finds_taken trace ≡ true;
 }
 
 -- the row of each operation
@@ -316,3 +392,5 @@ row (End i p) = end_row i p
 row (WantWrite m p) = want_write_row m p
 row (DropWrite m p) = drop_write_row m p
 row (Callback i) = callback_row i
+row FreezeOp = freeze_row
+row ThawOp = thaw_row

@@ -1,4 +1,4 @@
--- A remount between two of its events: what it does at each mount, what it owns, has set and relies on, and what its numbers are.
+-- A remount between two of its events: what it does at each mount, what it owns and has set, and what its numbers are.
 use Rattle.std.specs.Prelude.{◌≡◌, ℕ, suc, ◌+◌, ◌<◌, ◌≤◌, ◌==◌, nat_lt, Bool, true, false, Option, Some, None}
 use Rattle.cpu_words.specs.declared.sums.Sum.{Sum}
 use Rattle.cpu_words.specs.Words.{Words}
@@ -68,34 +68,6 @@ remount_sets (ClearsMark n) = 1
 remount_sets SetsReadOnly = 1
 remount_sets ClearsRemount = 1
 remount_sets step = 0
-
--- what a phase relies on: values that its task, as the owner of `umount`, found or left in the stage and the superblock's flags
-pub record Reliance : Type 0 where
-  pub stage : Option ℕ
-  pub sb : Option ℕ
-
--- on nothing
-abbrev pub on_nothing : Reliance
-on_nothing = record { stage = None; sb = None }
-
--- a remount relies on the stage 0 that it found, and on the flags that it found; on those that it set, where it is to be read-only
-abbrev pub remount_relies : RemountStep → Reliance
-remount_relies Locks = on_nothing
-remount_relies LoadsStage = on_nothing
-remount_relies LoadsSuperblock = record { stage = Some 0; sb = None }
-remount_relies SetsWritable = record { stage = Some 0; sb = None }
-remount_relies ClearsRemount = record { stage = Some 0; sb = Some 1 }
-remount_relies (Releases answer) = on_nothing
-remount_relies step = record { stage = Some 0; sb = Some 0 }
-
--- a word is what is known of it, where something is
-abbrev pub IsKnown : Option ℕ → ℕ → Type 0
-IsKnown None word = Unit {0}
-IsKnown (Some value) word = word ≡ value
-
--- the words are as a phase relies on them
-abbrev pub IsThere : Reliance → Words → Type 0
-IsThere on words = IsKnown on.stage words.stage × IsKnown on.sb words.sb
 
 -- all mounts of a set are below this one
 abbrev pub AllBelow : ℕ → MountSet → Type 0

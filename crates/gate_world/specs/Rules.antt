@@ -15,21 +15,23 @@ use Rattle.mount_counts.specs.declared.phases.ChangeStep.TheVariants.{Locks, Sum
 use Rattle.mount_counts.specs.Roles.{Role, Out, Asking, Cleared, PastRemount, PastFlags, BackingOff, Summing, Empty, Leaving, MountView, MountHolds}
 use Rattle.gate_world.specs.declared.config.Config.{Config}
 use Rattle.gate_world.specs.declared.work.Phase.{Phase}
-use Rattle.gate_world.specs.declared.work.Phase.TheVariants.{Mounts, Remounts, DownReads, UpReads, Callbacks, Writes}
+use Rattle.gate_world.specs.declared.work.Phase.TheVariants.{Mounts, Remounts, DownReads, UpReads, Callbacks, Writes, Freezes, Thaws}
 use Rattle.write_access.specs.declared.phases.WritePhase.{WritePhase}
 use Rattle.write_access.specs.declared.phases.WritePhase.TheVariants.{Wants as WriteWants}
 use Rattle.gate_world.specs.declared.views.View.{View}
 use Rattle.gate_world.specs.Configs.{model_limits}
 use Rattle.gate_world.specs.Views.{held_at, holds_level, added_by, taken_by}
-use Rattle.gated_tree.specs.Nodes.{IsNode}
+use Rattle.gated_tree.specs.Nodes.{IsNode, kind_in, dirty_in}
 use Rattle.gate_counts.specs.Levels.{LevelHolds}
 use Rattle.level_laws.specs.Roles.{SyncNumberHolds}
 use Rattle.gate_world.specs.Levels.{sync_role_of, inside, at_level, is_frozen_whole, SectionsAreOdd}
 use Rattle.gate_world.specs.Fits.{Fits}
-use Rattle.gate_world.specs.Remounts.{remount_role, remount_owns, remount_sets, Reliance, on_nothing, remount_relies, IsThere}
+use Rattle.gate_world.specs.Remounts.{remount_role, remount_owns, remount_sets}
+use Rattle.gate_world.specs.Stages.{freeze_stage_role, thaw_stage_role, stage_role_of}
+use Rattle.stage_laws.specs.Roles.{owns as stage_owns, StagesHold, MarksHold}
 use Rattle.gate_world.specs.Owners.{KnowsWords}
 use Rattle.gate_world.specs.Worlds.{World, after_step, phase_action}
-use Rattle.gate_world.specs.Shown.{shown, closing}
+use Rattle.gate_world.specs.Shown.{shown, closing, stage_roles}
 
 -- what a step of a want is doing at its mount, on this processor
 abbrev pub want_role : ℕ → WantStep → Role
@@ -72,6 +74,8 @@ role_at m (DownReads r) = Out
 role_at m (UpReads u) = Out
 role_at m (Callbacks b) = Out
 role_at m (Writes x) = write_role m x
+role_at m (Freezes x) = Out
+role_at m (Thaws x) = Out
 
 -- the role at a mount of what a task is at
 abbrev pub role_of : ℕ → Option Phase → Role
@@ -102,6 +106,8 @@ owns (Some (DownReads r)) = 0
 owns (Some (UpReads u)) = 0
 owns (Some (Callbacks b)) = 0
 owns (Some (Writes x)) = 0
+owns (Some (Freezes x)) = stage_owns (freeze_stage_role x.nodes x.step)
+owns (Some (Thaws x)) = stage_owns (thaw_stage_role x.step)
 
 -- 1 while an operation has `remount` set: only a remount does
 abbrev pub remounts : Option Phase → ℕ
@@ -112,16 +118,8 @@ remounts (Some (DownReads r)) = 0
 remounts (Some (UpReads u)) = 0
 remounts (Some (Callbacks b)) = 0
 remounts (Some (Writes x)) = 0
-
--- what a task relies on at what it is at
-abbrev pub relied : Option Phase → Reliance
-relied None = on_nothing
-relied (Some (Mounts phase)) = on_nothing
-relied (Some (Remounts x)) = remount_relies x.step
-relied (Some (DownReads r)) = on_nothing
-relied (Some (UpReads u)) = on_nothing
-relied (Some (Callbacks b)) = on_nothing
-relied (Some (Writes x)) = on_nothing
+remounts (Some (Freezes x)) = 0
+remounts (Some (Thaws x)) = 0
 
 -- what the owner's words and the levels say of a task is the same at both phases
 pub record IsSteady (p q : Option Phase) : Type 0 where
@@ -146,16 +144,14 @@ ViewFits c t v = Fits c t (held_at v) (holds_level v) v.phase
 pub data Part : Type 0 where
   -- `umount`, `remount` and who has them
   Owner : Part
-  -- the superblock's flags
-  Superblock : Part
-  -- how far a freeze has come
+  -- how far a freeze has come, and the superblock's flags
   Stages : Part
+  -- the dirty marks of the nodes
+  Marks : Part
   -- each phase and its task's accesses
   Fitting : Part
   -- what the owner of `umount` has found or left is still there
   Known : Part
-  -- and so is what its phase relies on
-  Relying : Part
   -- each node word is one
   Nodes : Part
   -- one mount
@@ -183,15 +179,18 @@ SyncHoldsIn c w i =
     SyncNumberHolds c.tasks (w.words.sync i) (w.words.block i) (is_frozen_whole w.words) w.words.section
     (λ t. sync_role_of i (w.views t).phase)
 
+-- the dirty mark of each node, 0 or 1
+abbrev pub marks_of : Words → ℕ → ℕ
+marks_of words n = dirty_in (words.node n)
+
 -- what a part says of a world
 abbrev pub Holds : Config → World → Part → Type 0
 Holds c w Owner = OwnerHolds c.tasks w.words.umount w.words.remount (λ t. (w.views t).phase)
-Holds c w Superblock = w.words.sb ≤ 1
-Holds c w Stages = w.words.stage ≤ 4
+Holds c w Stages = StagesHold c.tasks w.words.stage w.words.sb w.words.remount w.words.block (stage_roles w)
+Holds c w Marks = MarksHold c.tasks c.nodes w.words.stage w.words.sb (marks_of w.words) (stage_roles w)
 Holds c w Fitting = (t : ℕ) → t < c.tasks → ViewFits c t (w.views t)
 Holds c w Known = (t : ℕ) → t < c.tasks → owns (w.views t).phase ≡ 1 → KnowsWords w.words (w.views t).trace
-Holds c w Relying = (t : ℕ) → t < c.tasks → IsThere (relied (w.views t).phase) w.words
-Holds c w Nodes = (n : ℕ) → IsNode (w.words.node n)
+Holds c w Nodes = ((n : ℕ) → IsNode (w.words.node n)) × (kind_in (w.words.node 0) ≡ 2)
 Holds c w (AtMount m) = m < c.mounts → MountHoldsIn c w m
 Holds c w (AtLevel i) = 1 ≤ i → i ≤ 3 → LevelHoldsIn c w i
 Holds c w (SyncAt i) = 1 ≤ i → i ≤ 3 → SyncHoldsIn c w i
@@ -200,11 +199,10 @@ Holds c w Sections = SectionsAreOdd c.tasks w.words.section (λ t. (w.views t).p
 -- what a part reads of the words: these are as they were
 abbrev pub SameWords : Words → Words → Part → Type 0
 SameWords old new Owner = (new.umount ≡ old.umount) × (new.remount ≡ old.remount)
-SameWords old new Superblock = new.sb ≡ old.sb
-SameWords old new Stages = new.stage ≡ old.stage
+SameWords old new Stages = (new.stage ≡ old.stage) × (new.sb ≡ old.sb) × (new.remount ≡ old.remount) × (new.block ≡ old.block)
+SameWords old new Marks = (new.stage ≡ old.stage) × (new.sb ≡ old.sb) × (new.node ≡ old.node)
 SameWords old new Fitting = Unit {0}
 SameWords old new Known = (new.stage ≡ old.stage) × (new.sb ≡ old.sb) × (new.remount ≡ old.remount) × (new.flags ≡ old.flags)
-SameWords old new Relying = (new.stage ≡ old.stage) × (new.sb ≡ old.sb)
 SameWords old new Nodes = new.node ≡ old.node
 SameWords old new (AtMount m) = (new.flags m ≡ old.flags m) × (new.remount ≡ old.remount) × (new.sb ≡ old.sb) × (new.count m ≡ old.count m)
 SameWords old new (AtLevel i) = (new.block i ≡ old.block i) × (new.level i ≡ old.level i) × (is_frozen_whole new ≡ is_frozen_whole old)
@@ -216,11 +214,10 @@ SameWords old new Sections = new.section ≡ old.section
 
 abbrev pub SameView : View → View → Part → Type 0
 SameView old new Owner = (owns new.phase ≡ owns old.phase) × (remounts new.phase ≡ remounts old.phase)
-SameView old new Superblock = Unit {0}
-SameView old new Stages = Unit {0}
+SameView old new Stages = stage_role_of new.phase ≡ stage_role_of old.phase
+SameView old new Marks = stage_role_of new.phase ≡ stage_role_of old.phase
 SameView old new Fitting = (held_at new ≡ held_at old) × (holds_level new ≡ holds_level old) × (new.phase ≡ old.phase)
 SameView old new Known = (owns new.phase ≡ owns old.phase) × (new.trace ≡ old.trace)
-SameView old new Relying = relied new.phase ≡ relied old.phase
 SameView old new Nodes = Unit {0}
 SameView old new (AtMount m) = at_mount m new ≡ at_mount m old
 SameView old new (AtLevel i) = at_level i new ≡ at_level i old
@@ -234,7 +231,6 @@ IsGood c w = (part : Part) → Holds c w part
 -- the parts that an event of want, drop or change may touch
 abbrev pub at_gates : Part → Bool
 at_gates Owner = true
-at_gates Superblock = true
 at_gates Fitting = true
 at_gates (AtMount m) = true
 at_gates part = false

@@ -1,14 +1,15 @@
 -- The shown model: what words and views show of the access model.
-use Rattle.std.specs.Prelude.{ℕ, ◌+◌, ◌/◌, ◌%◌, ◌&&◌, ◌||◌, ◌==◌, if◌then◌else◌, Option, Some, None}
-use Rattle.finite_sums.specs.Sums.{total}
+use Rattle.std.specs.Prelude.{ℕ, ◌/◌, ◌%◌, ◌||◌, ◌==◌, if◌then◌else◌, Option, Some, None}
 use Rattle.access_model.specs.declared.actions.Kind.TheVariants.{File, Dir}
 use Rattle.access_model.specs.declared.actions.NodeInfo.{NodeInfo}
 use Rattle.access_model.specs.States.{State}
 use Rattle.mount_counts.specs.Roles.{ro_bit}
 use Rattle.gate_world.specs.declared.config.Config.{Config}
 use Rattle.gate_world.specs.declared.work.Phase.{Phase}
-use Rattle.gate_world.specs.declared.work.Phase.TheVariants.{Mounts, Remounts, DownReads, UpReads, Callbacks, Writes}
 use Rattle.gate_world.specs.Views.{held_at, holds_level}
+use Rattle.stage_laws.specs.Roles.{StageRole, sums}
+use Rattle.stage_laws.specs.Shown.{is_passed as passed_at_level, passed_shown}
+use Rattle.gate_world.specs.Stages.{stage_role_of}
 use Rattle.gate_world.specs.Worlds.{World}
 
 -- what a node word shows: the kind in bits 0 and 1 (0 free, 1 a file, 2 a directory), the dirty mark in bit 2, the parent in bits 8
@@ -24,19 +25,17 @@ node_shown word =
           word / 4 % 2 == 1;
     }
 
--- 1 while a phase has a level's `block` set and its sum has not been 0: no phase of these layers
+-- 1 while a phase has a level's `block` set and its sum has not been 0
 abbrev pub closing : ℕ → Option Phase → ℕ
-closing i None = 0
-closing i (Some (Mounts phase)) = 0
-closing i (Some (Remounts x)) = 0
-closing i (Some (DownReads r)) = 0
-closing i (Some (UpReads u)) = 0
-closing i (Some (Callbacks b)) = 0
-closing i (Some (Writes x)) = 0
+closing i p = sums i (stage_role_of p)
+
+-- what each task is doing with the stage
+abbrev pub stage_roles : World → ℕ → StageRole
+stage_roles w t = stage_role_of (w.views t).phase
 
 -- 1 where a level's `block` is set and no task is still closing it
 abbrev pub is_passed : Config → World → ℕ → ℕ
-is_passed c w i = if w.words.block i == 1 && total c.tasks (λ t. closing i (w.views t).phase) == 0 then 1 else 0
+is_passed c w i = passed_at_level c.tasks w.words.block (stage_roles w) i
 
 -- the model that words and views show
 abbrev pub shown : Config → World → State
@@ -46,6 +45,6 @@ shown c w = record {
   mount_ro = λ m. ro_bit (w.words.flags m) == 1;
   sb_ro = w.words.remount == 1 || w.words.sb == 1;
   stage = w.words.stage;
-  passed = is_passed c w 1 + (is_passed c w 2 + is_passed c w 3);
+  passed = passed_shown c.tasks w.words.block (stage_roles w);
   tree = λ n. node_shown (w.words.node n);
 }

@@ -2,7 +2,7 @@
 use Rattle.std.specs.Prelude.{ℕ, Option, Some, None, List, length}
 use Rattle.access_model.specs.declared.actions.Action.{Action}
 use Rattle.gate_world.specs.declared.work.Phase.{Phase}
-use Rattle.gate_world.specs.declared.work.Phase.TheVariants.{Mounts, Remounts, DownReads, UpReads, Callbacks, Writes}
+use Rattle.gate_world.specs.declared.work.Phase.TheVariants.{Mounts, Remounts, DownReads, UpReads, Callbacks, Writes, Freezes, Thaws}
 use Rattle.gate_world.specs.declared.views.Traced.{Traced}
 use Rattle.gate_world.specs.declared.views.TreeWords.{TreeWords}
 use Rattle.gate_world.specs.declared.views.Snapshot.{Snapshot}
@@ -16,6 +16,8 @@ completes (DownReads r) trace found = None
 completes (UpReads u) trace found = None
 completes (Callbacks b) trace found = None
 completes (Writes x) trace found = None
+completes (Freezes x) trace found = None
+completes (Thaws x) trace found = None
 
 -- a number's last snapshot after an event that completes this one, or none: until then the number had done these actions, and each
 -- other number of its task so many

@@ -38,12 +38,12 @@ IsShort None trace = Unit {0}
 IsShort (Some most) trace = length trace ≤ most
 
 -- an operation may report that it waits after these events
-abbrev pub MayWait : Op → List Traced → Type 0
-MayWait op trace = (row op).MayWait trace
+abbrev pub MayWait : Config → Op → List Traced → Type 0
+MayWait c op trace = (row op).MayWait c trace
 
 -- what the trace of an operation says, by where the operation stands
 abbrev pub Tells : Config → Op → List Traced → Next Phase → List Action → Type 0
 Tells c op trace (Go phase) added = Unit {0}
 Tells c op [] (Wait phase) added = ⊥
-Tells c op (e ∷ earlier) (Wait phase) added = MayWait op (e ∷ earlier)
+Tells c op (e ∷ earlier) (Wait phase) added = MayWait c op (e ∷ earlier)
 Tells c op trace (Done answer) added = (added ≡ actions_of op answer trace) × IsHonestAnswer c op answer trace

@@ -1,5 +1,5 @@
 -- Waits: where an event reports that its operation waits, another task has what it waits for.
-use Rattle.std.specs.Prelude.{◌≡◌, ℕ, ◌<◌, Some, List, [], ◌∷◌}
+use Rattle.std.specs.Prelude.{◌≡◌, ℕ, ◌<◌, true, Some, List, [], ◌∷◌}
 use Rattle.access_model.specs.declared.replies.Next.{Next}
 use Rattle.access_model.specs.declared.replies.Next.TheVariants.{Go, Wait, Done}
 use Rattle.cpu_words.specs.Hooks.{HookAnswer}
@@ -8,11 +8,16 @@ use Rattle.mount_counts.specs.declared.phases.MountPhase.TheVariants.{Want as Wa
 use Rattle.mount_counts.specs.Roles.{has_hold}
 use Rattle.gate_world.specs.declared.config.Config.{Config}
 use Rattle.gate_world.specs.declared.work.Phase.{Phase}
-use Rattle.gate_world.specs.declared.work.Phase.TheVariants.{Mounts, Remounts, DownReads, UpReads, Callbacks, Writes}
+use Rattle.gate_world.specs.declared.work.Phase.TheVariants.{Mounts, Remounts, DownReads, UpReads, Callbacks, Writes, Freezes, Thaws}
 use Rattle.write_access.specs.declared.phases.WritePhase.{WritePhase}
 use Rattle.write_access.specs.declared.phases.WritePhase.TheVariants.{Takes, Wants as WriteWants}
+use Rattle.percpu_rwsem.specs.declared.writers.DownWriteStep.{DownWriteStep}
+use Rattle.percpu_rwsem.specs.declared.writers.DownWriteStep.TheVariants.{AwaitsSections, Sums as SumsLevel}
+use Rattle.freeze_levels.specs.declared.freezes.Freeze.{Freeze}
+use Rattle.freeze_levels.specs.declared.freezes.FreezeStep.{FreezeStep}
+use Rattle.freeze_levels.specs.declared.freezes.FreezeStep.TheVariants.{Locks, LocksAgain, Closes}
 use Rattle.gate_world.specs.Levels.{inside}
-use Rattle.gate_world.specs.Causes.{trail_of, last_asked, WasClosed}
+use Rattle.gate_world.specs.Causes.{trail_of, last_asked, WasClosed, moments_of_sum, was_inside}
 use Rattle.gate_world.specs.Work.{after_of}
 use Rattle.gate_world.specs.Worlds.{World, Entry, found_at}
 use Rattle.gate_world.specs.Rules.{role_of, owns}
@@ -24,8 +29,20 @@ MountIsWaitedFor w (Wants x) y = has_hold (role_of x.mount (w.views y).phase) �
 MountIsWaitedFor w (Drops m p) y = ⊥
 MountIsWaitedFor w (Changes x) y = owns (w.views y).phase ≡ 1
 
--- The same of a phase of any layer: a remount waits for who has `umount`, a callback for who is inside a read-side section. A reader of a
--- level waits for nobody at its own event: it has found the level closed before.
+-- a down-write waits for who is inside a read-side section; where it sums, it waits for who was counted while it did
+abbrev pub DownWriteIsWaitedFor : World → DownWriteStep → ℕ → Type 0
+DownWriteIsWaitedFor w (AwaitsSections grace) y = inside (w.views y).phase ≡ 1
+DownWriteIsWaitedFor w step y = ⊥
+
+-- a freeze waits for who has `umount`, and as its down-write
+abbrev pub FreezeIsWaitedFor : World → FreezeStep → ℕ → Type 0
+FreezeIsWaitedFor w Locks y = owns (w.views y).phase ≡ 1
+FreezeIsWaitedFor w LocksAgain y = owns (w.views y).phase ≡ 1
+FreezeIsWaitedFor w (Closes d) y = DownWriteIsWaitedFor w d.step y
+FreezeIsWaitedFor w step y = ⊥
+
+-- The same of a phase of any layer: a remount and a thaw wait for who has `umount`, a callback for who is inside a read-side section. A
+-- reader of a level waits for nobody at its own event: it has found the level closed before.
 abbrev pub IsWaitedFor : World → Phase → ℕ → Type 0
 IsWaitedFor w (Mounts phase) y = MountIsWaitedFor w phase y
 IsWaitedFor w (Remounts x) y = owns (w.views y).phase ≡ 1
@@ -33,6 +50,8 @@ IsWaitedFor w (DownReads r) y = ⊥
 IsWaitedFor w (UpReads u) y = ⊥
 IsWaitedFor w (Callbacks b) y = inside (w.views y).phase ≡ 1
 IsWaitedFor w (Writes x) y = ⊥
+IsWaitedFor w (Freezes x) y = FreezeIsWaitedFor w x.step y
+IsWaitedFor w (Thaws x) y = owns (w.views y).phase ≡ 1
 
 -- another task has what task t, which is at this phase, waits for
 pub record HasCulprit (c : Config) (w : World) (t : ℕ) (phase : Phase) : Type 0 where
@@ -47,8 +66,18 @@ WriteHasCulprit c w earlier t (Takes m r) = WasClosed c t r.level (last_asked t 
 WriteHasCulprit c w earlier t (WriteWants x) = HasCulprit c w t (Mounts (Wants x))
 WriteHasCulprit c w earlier t x = ⊥
 
+-- the same of a down-write: where it sums its level's words, something was counted there in one of the worlds of its sum
+abbrev pub DownWriteHasCulprit : Config → World → List World → ℕ → Freeze → ℕ → DownWriteStep → Type 0
+DownWriteHasCulprit c w earlier t x i (SumsLevel sum) = was_inside c i (moments_of_sum t (w ∷ earlier)) ≡ true
+DownWriteHasCulprit c w earlier t x i step = HasCulprit c w t (Freezes x)
+
+-- of a freeze
+abbrev pub FreezeHasCulprit : Config → World → List World → ℕ → Freeze → FreezeStep → Type 0
+FreezeHasCulprit c w earlier t x (Closes d) = DownWriteHasCulprit c w earlier t x d.level d.step
+FreezeHasCulprit c w earlier t x step = HasCulprit c w t (Freezes x)
+
 -- what makes a phase wait, with the present world and the earlier ones: for a reader, that the level was closed when it last asked; for
--- any other, that another task has now what it waits for
+-- a freeze that sums, that something was counted at the level meanwhile; for any other, that another task has now what it waits for
 abbrev pub HasCulpritSince : Config → World → List World → ℕ → Phase → Type 0
 HasCulpritSince c w earlier t (Mounts phase) = HasCulprit c w t (Mounts phase)
 HasCulpritSince c w earlier t (Remounts x) = HasCulprit c w t (Remounts x)
@@ -56,6 +85,8 @@ HasCulpritSince c w earlier t (DownReads r) = WasClosed c t r.level (last_asked 
 HasCulpritSince c w earlier t (UpReads u) = ⊥
 HasCulpritSince c w earlier t (Callbacks b) = HasCulprit c w t (Callbacks b)
 HasCulpritSince c w earlier t (Writes x) = WriteHasCulprit c w earlier t x
+HasCulpritSince c w earlier t (Freezes x) = FreezeHasCulprit c w earlier t x x.step
+HasCulpritSince c w earlier t (Thaws x) = HasCulprit c w t (Thaws x)
 
 -- an event after which this comes is no wait, or its phase waits for what another task has or had
 abbrev pub WaitsForAnother : Config → World → List World → ℕ → Phase → Next Phase → Type 0
@@ -69,7 +100,8 @@ HasCulpritAmong c [] t phase = ⊥
 HasCulpritAmong c (w ∷ earlier) t phase = HasCulpritSince c w earlier t phase
 
 -- Every wait has a culprit: after any schedule, where the next event of a task reports that it waits, another task has what it waits for,
--- in the world in which the event is done; or, where it waits for a level, that was closed in the world in which the task last asked.
+-- in the world in which the event is done; or, where it waits for a level, that was closed in the world in which the task last asked, or,
+-- where a freeze sums the words of one, something was counted there while it did.
 abbrev pub EachWaitHasCulprit : Config → List Entry → Type 0
 EachWaitHasCulprit c entries =
     (t : ℕ) (phase again : Phase) (hook : HookAnswer) → t < c.tasks → ((world_after c entries).views t).phase ≡ Some phase →

@@ -10,6 +10,8 @@ use Rattle.mount_counts.specs.Phases.{next, after}
 use Rattle.mount_counts.specs.Remounts.{remount_next, remount_after}
 use Rattle.mount_counts.specs.declared.remounts.RemountStep.{RemountStep}
 use Rattle.mount_counts.specs.declared.remounts.RemountStep.TheVariants.{SetsWritable, SetsReadOnly}
+use Rattle.freeze_levels.specs.Freezes.{freeze_next, freeze_after, freeze_hook}
+use Rattle.freeze_levels.specs.Thaws.{thaw_next, thaw_after, thaw_hook}
 use Rattle.freeze_levels.specs.declared.hooks.HookKind.{HookKind}
 use Rattle.freeze_levels.specs.declared.hooks.HookKind.TheVariants.{Reconfigure}
 use Rattle.gate_world.specs.declared.work.Phase.{Phase}
@@ -19,7 +21,7 @@ use Rattle.percpu_rwsem.specs.Callbacks.{callback_next, callback_after}
 use Rattle.write_access.specs.declared.phases.WritePhase.{WritePhase}
 use Rattle.write_access.specs.declared.phases.WritePhase.TheVariants.{Takes, Wants, GivesBack, Drops, Ends}
 use Rattle.write_access.specs.Phases.{next as write_next, after as write_after, leaves_on}
-use Rattle.gate_world.specs.declared.work.Phase.TheVariants.{Mounts, Remounts, DownReads, UpReads, Callbacks, Writes}
+use Rattle.gate_world.specs.declared.work.Phase.TheVariants.{Mounts, Remounts, DownReads, UpReads, Callbacks, Writes, Freezes, Thaws}
 
 -- the word and the touch of the next event
 abbrev pub next_of : Phase → HookAnswer → WordName × Touch
@@ -29,6 +31,8 @@ next_of (DownReads r) hook = down_read_next r r.step
 next_of (UpReads u) hook = up_read_next u
 next_of (Callbacks b) hook = callback_next b b.step
 next_of (Writes x) hook = write_next x
+next_of (Freezes x) hook = freeze_next x x.step hook
+next_of (Thaws x) hook = thaw_next x x.step hook
 
 -- what comes after the event that found this value, and the action that the event adds
 abbrev pub after_of : Phase → ℕ → HookAnswer → Next Phase × Option Action
@@ -38,6 +42,8 @@ after_of (DownReads r) found hook = (map_next DownReads (down_read_after r r.ste
 after_of (UpReads u) found hook = (map_next UpReads (up_read_after u).0, (up_read_after u).1)
 after_of (Callbacks b) found hook = (map_next Callbacks (callback_after b b.step found).0, (callback_after b b.step found).1)
 after_of (Writes x) found hook = (map_next Writes (write_after x found).0, (write_after x found).1)
+after_of (Freezes x) found hook = (map_next Freezes (freeze_after x x.step found hook).0, (freeze_after x x.step found hook).1)
+after_of (Thaws x) found hook = (map_next Thaws (thaw_after x x.step found hook).0, (thaw_after x x.step found hook).1)
 
 -- the phase of its own gate at which a taking or a return of write access stands
 abbrev pub plain : WritePhase → Phase
@@ -56,6 +62,8 @@ remount_hook step = None
 -- the hook whose answer the next event reads: any other event is the same whatever a hook answers
 abbrev pub hook_of : Phase → Option HookKind
 hook_of (Remounts x) = remount_hook x.step
+hook_of (Freezes x) = freeze_hook x.step
+hook_of (Thaws x) = thaw_hook x.step
 hook_of phase = None
 
 -- where no hook's answer is read, the next event is the same for any two answers, and so is what comes after it

@@ -4,13 +4,14 @@ ghost use Rattle.std.specs.Prelude.{◌≡◌, ◌≤◌, false};
 ghost use Rattle.gate_world.specs.Operations.{is_level_number};
 ghost use Rattle.gate_world.specs.Accesses.{mounts_held, levels_held};
 ghost use Rattle.gate_world.specs.Beginnings.{beginning};
-ghost use Rattle.gate_world.specs.declared.operations.Op.TheVariants.{Want as WantOp, DropMount, ChangeMount, RemountSb, Start, End, WantWrite, DropWrite, Callback as CallbackOp};
+ghost use Rattle.gate_world.specs.declared.operations.Op.TheVariants.{Want as WantOp, DropMount, ChangeMount, RemountSb, Start, End, WantWrite, DropWrite, Callback as CallbackOp, Freeze as FreezeOp, Thaw as ThawOp};
 
 use crate::accesses::Accesses;
 use crate::config::Config;
 use crate::operations::Op;
 use crate::work::Phase;
 use access_model::GateError;
+use freeze_levels::{Freeze, FreezeStep, Thaw, ThawStep};
 use mount_counts::{Change, ChangeStep, MountPhase, Remount, RemountStep, Want, WantStep};
 use percpu_rwsem::{Callback, CallbackStep, DownRead, DownReadStep, Transition, UpRead};
 use write_access::WritePhase;
@@ -48,6 +49,8 @@ impl Op {
             Op::WantWrite { mount, cpu } => begin_want_write(config, task, held, mount, cpu),
             Op::DropWrite { mount, cpu } => begin_drop_write(config, held, mount, cpu),
             Op::Callback { level } => begin_callback(config, level),
+            Op::Freeze => begin_freeze(config, task, held),
+            Op::Thaw => begin_thaw(config, task, held),
         }
     }
 }
@@ -250,6 +253,38 @@ fn begin_callback(config: Config, level: u8) -> Result<Phase, GateError>
             level,
             tasks: config.tasks,
             step: CallbackStep::Claims(Transition::Loads),
+        }))
+    }
+}
+
+/// A freeze is not begun inside a level, which it would wait for.
+fn begin_freeze(config: Config, task: u8, held: &Accesses) -> Result<Phase, GateError>
+    ensures { result ≡ beginning config task false (mounts_held held.now) (levels_held held.now) FreezeOp }
+{
+    if !held.is_in_no_level() {
+        Err(GateError::Order)
+    } else {
+        Ok(Phase::Freezes(Freeze {
+            task,
+            tasks: config.tasks,
+            processors: config.processors,
+            nodes: config.nodes,
+            step: FreezeStep::Locks,
+        }))
+    }
+}
+
+/// Nor is a thaw.
+fn begin_thaw(config: Config, task: u8, held: &Accesses) -> Result<Phase, GateError>
+    ensures { result ≡ beginning config task false (mounts_held held.now) (levels_held held.now) ThawOp }
+{
+    let _ = config;
+    if !held.is_in_no_level() {
+        Err(GateError::Order)
+    } else {
+        Ok(Phase::Thaws(Thaw {
+            task,
+            step: ThawStep::Locks,
         }))
     }
 }

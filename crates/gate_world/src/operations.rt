@@ -50,4 +50,9 @@ pub enum Op {
     Callback {
         level: u8,
     },
+    /// `freeze_super`: closes the levels one after the other, and freezes the file system. It waits for `umount`, and for who is
+    /// inside a level.
+    Freeze,
+    /// `thaw_super`: thaws a frozen file system and reopens its levels, whoever froze it. It waits for `umount`.
+    Thaw,
 }

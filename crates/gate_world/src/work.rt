@@ -5,7 +5,7 @@ ghost use Rattle.gate_world.specs.Work.{next_of, after_of, hook_of};
 
 use access_model::{Action, Next};
 use cpu_words::{Touch, WordName};
-use freeze_levels::HookKind;
+use freeze_levels::{Freeze, HookKind, Thaw};
 use mount_counts::{MountPhase, Remount, RemountStep, Want};
 use percpu_rwsem::{Callback, DownRead, UpRead};
 use write_access::WritePhase;
@@ -25,6 +25,10 @@ pub enum Phase {
     Callbacks(Callback),
     /// A taking or a return of write access.
     Writes(WritePhase),
+    /// A freeze of the superblock.
+    Freezes(Freeze),
+    /// A thaw of it.
+    Thaws(Thaw),
 }
 
 impl Phase {
@@ -40,6 +44,8 @@ impl Phase {
             Phase::UpReads(read) => read.next(),
             Phase::Callbacks(callback) => callback.next(),
             Phase::Writes(phase) => phase.next(),
+            Phase::Freezes(freeze) => freeze.next(hook),
+            Phase::Thaws(thaw) => thaw.next(hook),
         }
     }
 
@@ -73,6 +79,14 @@ impl Phase {
                 let (next, action) = phase.after(found);
                 (next.map(Phase::Writes), action)
             }
+            Phase::Freezes(freeze) => {
+                let (next, action) = freeze.after(found, hook);
+                (next.map(Phase::Freezes), action)
+            }
+            Phase::Thaws(thaw) => {
+                let (next, action) = thaw.after(found, hook);
+                (next.map(Phase::Thaws), action)
+            }
         }
     }
 
@@ -87,6 +101,8 @@ impl Phase {
                     ..
                 },
             ) => Some(HookKind::Reconfigure),
+            Phase::Freezes(freeze) => freeze.wants_hook(),
+            Phase::Thaws(thaw) => thaw.wants_hook(),
             _ => None,
         }
     }
@@ -208,5 +224,37 @@ impl UnderWay for WritePhase {
     fn after(self, found: u64, hook: Result<(), u16>) -> (Next<WritePhase>, Option<Action>) {
         let _ = hook;
         self.after(found)
+    }
+}
+
+impl UnderWay for Freeze {
+    ghost use Rattle.gate_world.specs.declared.work.Phase.TheVariants.{Freezes};
+
+    ghost as_phase = { λ freeze. Freezes freeze };
+
+    #[inline(always)]
+    fn phase(self) -> Phase {
+        Phase::Freezes(self)
+    }
+
+    #[inline(always)]
+    fn after(self, found: u64, hook: Result<(), u16>) -> (Next<Freeze>, Option<Action>) {
+        self.after(found, hook)
+    }
+}
+
+impl UnderWay for Thaw {
+    ghost use Rattle.gate_world.specs.declared.work.Phase.TheVariants.{Thaws};
+
+    ghost as_phase = { λ thaw. Thaws thaw };
+
+    #[inline(always)]
+    fn phase(self) -> Phase {
+        Phase::Thaws(self)
+    }
+
+    #[inline(always)]
+    fn after(self, found: u64, hook: Result<(), u16>) -> (Next<Thaw>, Option<Action>) {
+        self.after(found, hook)
     }
 }
