@@ -15,13 +15,14 @@ use Rattle.gate_world.specs.declared.views.View.{View}
 use Rattle.gate_world.specs.declared.work.Phase.{Phase}
 use Rattle.gate_world.specs.Views.{held_at, holds_level, added_after, taken_after}
 use Rattle.gate_world.specs.Worlds.{World}
-use Rattle.gate_world.specs.Shown.{shown, closing, is_passed, node_shown}
+use Rattle.gate_world.specs.Shown.{shown, closing, is_passed, node_shown, stage_roles}
 use Rattle.gate_world.specs.Fits.{Fits}
-use Rattle.gate_world.specs.Rules.{role_if, at_mount, owns, remounts, IsSteady, OwnerHolds, ViewFits, Part, Owner, Superblock, Stages, Fitting, AtMount, Holds, SameWords, SameView, GatesHold, IsGood, Known, relied, Relying, Nodes, AtLevel, SyncAt, Sections}
+use Rattle.gate_world.specs.Rules.{role_if, at_mount, owns, remounts, IsSteady, OwnerHolds, ViewFits, Part, Owner, Stages, Marks, marks_of, Fitting, AtMount, Holds, SameWords, SameView, GatesHold, IsGood, Known, Nodes, AtLevel, SyncAt, Sections}
 use Rattle.gate_world.specs.Owners.{KnowsWords}
 use Rattle.gate_frames.proofs.Known.{known_same}
-use Rattle.gate_world.specs.Remounts.{Reliance, IsThere, IsKnown}
-use Rattle.gated_tree.specs.Nodes.{IsNode}
+use Rattle.gated_tree.specs.Nodes.{IsNode, kind_in, dirty_in}
+use Rattle.stage_laws.specs.Roles.{StageRole, StagesHold, MarksHold}
+use Rattle.gate_world.specs.Stages.{stage_role_of}
 use Rattle.gate_counts.specs.Levels.{Out as CountsNot, LevelView, LevelRole, LevelHolds}
 use Rattle.level_laws.specs.Roles.{Out as IsApart, SyncRole, SyncNumberHolds}
 use Rattle.gate_world.specs.Levels.{inside, at_level, level_role_of, is_frozen_whole, level_added_by, sync_role_of, level_taken_by}
@@ -73,9 +74,13 @@ pub holds_as : {tasks processors f f' r r' s s' : ℕ} {c c' : ℕ → ℕ} {at 
 holds_as {tasks} {processors} ef er es ec ea h = subst (λ X. X) (sym (λ i. MountHolds tasks processors (ef i) (er i) (es i) (ec i) (ea i)))
     h
 
--- words in which the stage and the superblock's flags are as they were are as a phase relies on them
-pub still_there : (on : Reliance) (old new : Words) → new.stage ≡ old.stage → new.sb ≡ old.sb → IsThere on old → IsThere on new
-still_there on old new es eb h = subst (λ X. X) (λ i. IsKnown on.stage (sym es i) × IsKnown on.sb (sym eb i)) h
+pub stages_as : {tasks s s' f f' r r' : ℕ} {b b' : ℕ → ℕ} {at at' : ℕ → StageRole} → s ≡ s' → f ≡ f' → r ≡ r' → b ≡ b' → at ≡ at' →
+    StagesHold tasks s' f' r' b' at' → StagesHold tasks s f r b at
+stages_as {tasks} es ef er eb ea h = subst (λ X. X) (sym (λ i. StagesHold tasks (es i) (ef i) (er i) (eb i) (ea i))) h
+
+pub marks_as : {tasks nodes s s' f f' : ℕ} {d d' : ℕ → ℕ} {at at' : ℕ → StageRole} → s ≡ s' → f ≡ f' → d ≡ d' → at ≡ at' →
+    MarksHold tasks nodes s' f' d' at' → MarksHold tasks nodes s f d at
+marks_as {tasks} {nodes} es ef ed ea h = subst (λ X. X) (sym (λ i. MarksHold tasks nodes (es i) (ef i) (ed i) (ea i))) h
 
 -- a view of a level with the same accesses, net additions and role
 pub level_view_as : {h h' : ℕ} {a a' k k' : ℕ → ℕ} {r r' : LevelRole} → h ≡ h' → a ≡ a' → k ≡ k' → r ≡ r' →
@@ -143,6 +148,12 @@ module _ (c : Config) (w : World) (t : ℕ) (lt : t < c.tasks) where
         tree = λ n. node_shown (en j n);
       })
 
+  -- what each task is doing with the stage, where this one does what it did
+  pub stage_roles_left : (v : View) → stage_role_of v.phase ≡ stage_role_of (w.views t).phase →
+      ◌≡◌ {A = ℕ → StageRole} (λ x. stage_role_of (update w.views t v x).phase) (stage_roles w)
+  stage_roles_left v seen =
+      update_map (λ (u : View). stage_role_of u.phase) w.views t v ∙ ap (update (stage_roles w) t) seen ∙ update_same (stage_roles w) t
+
   -- each part of the rule where an event leaves what it reads
   pub left_alone : (part : Part) (ws : Words) (v : View) → SameWords w.words ws part → SameView (w.views t) v part → Holds c w part →
       Holds c (record { words = ws; views = update w.views t v }) part
@@ -155,8 +166,8 @@ module _ (c : Config) (w : World) (t : ℕ) (lt : t < c.tasks) where
     bit = omega (arith, same.1, h.bit);
     remounting = omega (arith, same.1, h.remounting, seen.1, total_updated (λ (u : View). remounts u.phase) c.tasks t w.views v lt);
   }
-  left_alone Superblock ws v same seen h = omega (arith, same, h)
-  left_alone Stages ws v same seen h = omega (arith, same, h)
+  left_alone Stages ws v same seen h = stages_as same.0 same.1 same.2 same.3 (stage_roles_left v seen) h
+  left_alone Marks ws v same seen h = marks_as same.0 same.1 (λ i n. dirty_in (same.2 i n)) (stage_roles_left v seen) h
   left_alone Fitting ws v same seen h = λ x lx.
       each_updated (λ y (u : View). ViewFits c y u) w.views t v x
       (subst (λ (p : Option Phase). Fits c t (held_at v) (holds_level v) p) (sym seen.2)
@@ -166,11 +177,7 @@ module _ (c : Config) (w : World) (t : ℕ) (lt : t < c.tasks) where
       each_updated (λ y (u : View). owns u.phase ≡ 1 → KnowsWords ws u.trace) w.views t v x
       (λ o. subst (KnowsWords ws) (sym seen.1) (known_same w.words ws same (w.views t).trace (h t lt (sym seen.0 ∙ o))))
       (λ ne o. known_same w.words ws same (w.views x).trace (h x lx o))
-  left_alone Relying ws v same seen h = λ x lx.
-      each_updated (λ y (u : View). IsThere (relied u.phase) ws) w.views t v x
-      (subst (λ on. IsThere on ws) (sym seen) (still_there (relied (w.views t).phase) w.words ws same.0 same.1 (h t lt)))
-      (λ ne. still_there (relied (w.views x).phase) w.words ws same.0 same.1 (h x lx))
-  left_alone Nodes ws v same seen h = λ n. subst IsNode (sym (ap (λ f. f n) same)) (h n)
+  left_alone Nodes ws v same seen h = (λ n. subst IsNode (sym (ap (λ f. f n) same)) (h.0 n), ap (λ f. kind_in (f 0)) same ∙ h.1)
   left_alone (AtMount m) ws v same seen h = λ lm.
       holds_as same.0 same.1 same.2 same.3 (update_map (at_mount m) w.views t v ∙
       (ap (update (λ x. at_mount m (w.views x)) t) seen ∙ update_same (λ x. at_mount m (w.views x)) t)) (h lm)
@@ -201,7 +208,6 @@ module _ (c : Config) (w : World) (t : ℕ) (lt : t < c.tasks) where
         (m < c.mounts → MountHoldsAfter c w t m (ws.flags m) (ws.count m) (at_mount m v)) →
         GatesHold c (record { words = ws; views = update w.views t v })
     gates_after m ws v er es owner fits off own Owner h = owner
-    gates_after m ws v er es owner fits off own Superblock h = left_alone Superblock ws v es tt (good Superblock)
     gates_after m ws v er es owner fits off own Fitting h = λ x lx. each_updated (λ y u. ViewFits c y u) w.views t v x fits
         (λ ne. good Fitting x lx)
     gates_after m ws v er es owner fits off own (AtMount n) h = λ ln.

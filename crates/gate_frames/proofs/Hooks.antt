@@ -1,13 +1,21 @@
 -- An event that reads no hook's answer is the same whatever a hook answers.
 use Rattle.mount_counts.specs.declared.phases.MountPhase.{MountPhase}
 use Rattle.mount_counts.specs.declared.remounts.Remount.{Remount}
+use Rattle.freeze_levels.specs.declared.freezes.Freeze.{Freeze}
+use Rattle.freeze_levels.specs.declared.freezes.FreezeStep.{FreezeStep}
+use Rattle.freeze_levels.specs.declared.freezes.FreezeStep.TheVariants.{SetsFs, SetsComplete}
+use Rattle.freeze_levels.specs.declared.thaws.Thaw.{Thaw}
+use Rattle.freeze_levels.specs.declared.thaws.ThawStep.{ThawStep}
+use Rattle.freeze_levels.specs.declared.thaws.ThawStep.TheVariants.{SetsUnfrozen}
+use Rattle.freeze_levels.specs.Freezes.{freeze_hook, freeze_next, freeze_after}
+use Rattle.freeze_levels.specs.Thaws.{thaw_hook, thaw_next, thaw_after}
 use Rattle.gate_world.specs.declared.work.Phase.{Phase}
 use Rattle.cpu_words.specs.Hooks.{HookAnswer}
 use Rattle.mount_counts.specs.declared.remounts.RemountStep.{RemountStep}
 use Rattle.gate_world.specs.Work.{IgnoresAnswer, remount_hook, hook_of}
 use Rattle.std.proofs.Common.{ℕ, ◌≡◌, None, ap, true≢false, is_some, refl}
 use Rattle.mount_counts.specs.Phases.{next, after}
-use Rattle.gate_world.specs.declared.work.Phase.TheVariants.{Mounts, Remounts, DownReads, UpReads, Callbacks, Writes}
+use Rattle.gate_world.specs.declared.work.Phase.TheVariants.{Mounts, Remounts, DownReads, UpReads, Callbacks, Writes, Freezes, Thaws}
 use Rattle.mount_counts.specs.declared.phases.MountPhase.TheVariants.{Want as Wants, Drop as Drops, Change as Changes}
 use Rattle.mount_counts.specs.Remounts.{remount_next, remount_after}
 use Rattle.access_model.specs.Replies.{map_next}
@@ -24,6 +32,17 @@ remount_ignores x SetsWritable h a b found = absurd (true≢false (ap is_some h)
 remount_ignores x SetsReadOnly h a b found = absurd (true≢false (ap is_some h))
 remount_ignores x s h a b found = (refl, refl)
 
+freeze_ignores : (x : Freeze) (s : FreezeStep) → freeze_hook s ≡ None → (a b : HookAnswer) (found : ℕ) →
+    (freeze_next x s a ≡ freeze_next x s b) × (freeze_after x s found a ≡ freeze_after x s found b)
+freeze_ignores x SetsFs h a b found = absurd (true≢false (ap is_some h))
+freeze_ignores x SetsComplete h a b found = absurd (true≢false (ap is_some h))
+freeze_ignores x s h a b found = (refl, refl)
+
+thaw_ignores : (x : Thaw) (s : ThawStep) → thaw_hook s ≡ None → (a b : HookAnswer) (found : ℕ) →
+    (thaw_next x s a ≡ thaw_next x s b) × (thaw_after x s found a ≡ thaw_after x s found b)
+thaw_ignores x SetsUnfrozen h a b found = absurd (true≢false (ap is_some h))
+thaw_ignores x s h a b found = (refl, refl)
+
 -- each phase
 pub ignores : (phase : Phase) → IgnoresAnswer phase (hook_of phase)
 ignores (Mounts x) h a b found =
@@ -37,3 +56,11 @@ ignores (DownReads r) h a b found = (refl, refl)
 ignores (UpReads u) h a b found = (refl, refl)
 ignores (Callbacks x) h a b found = (refl, refl)
 ignores (Writes x) h a b found = (refl, refl)
+ignores (Freezes x) h a b found =
+    let e : (freeze_next x x.step a ≡ freeze_next x x.step b) × (freeze_after x x.step found a ≡ freeze_after x x.step found b) =
+    freeze_ignores x x.step h a b found in
+    (e.0, ap (λ y. (map_next Freezes y.0, y.1)) e.1)
+ignores (Thaws x) h a b found =
+    let e : (thaw_next x x.step a ≡ thaw_next x x.step b) × (thaw_after x x.step found a ≡ thaw_after x x.step found b) =
+    thaw_ignores x x.step h a b found in
+    (e.0, ap (λ y. (map_next Thaws y.0, y.1)) e.1)

@@ -17,9 +17,9 @@ use Rattle.gate_world.specs.Views.{phase_after, held_at, holds_level}
 use Rattle.gate_world.specs.Work.{next_of, after_of}
 use Rattle.gate_world.specs.Operations.{holds_none}
 use Rattle.gate_world.specs.Fits.{PhaseFits, Fits, ActionFits, mounts_by, levels_by}
-use Rattle.gate_world.specs.Rules.{IsGood, StepKeeps, role_of, IsSteady, relied}
+use Rattle.gate_world.specs.Rules.{IsGood, StepKeeps, role_of, IsSteady}
 use Rattle.mount_counts.specs.Roles.{Out}
-use Rattle.gate_world.specs.Causes.{all_counted, HasCause}
+use Rattle.gate_world.specs.Causes.{all_counted, all_inside, HasCause}
 use Rattle.gate_world.specs.KeptCauses.{CauseOf}
 use Rattle.gate_world.specs.Waits.{WaitsForAnother}
 use Rattle.gate_world.specs.Beginnings.{first_phase, is_in_range, is_in_order, is_within_room}
@@ -29,7 +29,8 @@ use Rattle.gate_world.specs.declared.operations.Op.{Op}
 use Rattle.gate_world.specs.declared.views.Traced.{Traced}
 use Rattle.gate_world.specs.Courses.{course_of, IsTrace}
 use Rattle.gate_world.specs.Traces.{Tells, IsShort, most_events}
-use Rattle.gate_world.specs.Remounts.{on_nothing}
+use Rattle.gate_world.specs.Stages.{stage_role_of}
+use Rattle.stage_laws.specs.Roles.{Aside}
 use Rattle.gate_counts.specs.Levels.{Out as CountsNot}
 use Rattle.level_laws.specs.Roles.{Out as IsApart}
 use Rattle.gate_world.specs.Levels.{inside, level_role_of, sync_role_of}
@@ -60,6 +61,11 @@ word_among c n le Used h = h
 word_among c n le (Node m) h = h
 word_among c n le (Kids m) h = h
 
+-- where nothing is counted at a gate in two worlds, its counts are the same in both
+pub record IsQuiet (c : Config) (w next : World) : Type 0 where
+  pub mounts : (m : ℕ) → all_counted c m w ≡ 0 → all_counted c m next ≡ 0 → next.words.count m ≡ w.words.count m
+  pub levels : (i : ℕ) → all_inside c i w ≡ 0 → all_inside c i next ≡ 0 → next.words.level i ≡ w.words.level i
+
 -- of one phase
 pub record PhaseKeeps (c : Config) (phase : Phase) : Type 0 where
   -- its event keeps the rule, and moves the shown model by its action
@@ -85,11 +91,14 @@ pub record PhaseKeeps (c : Config) (phase : Phase) : Type 0 where
   pub quiet : (w : World) → IsGood c w → (t : ℕ) → t < c.tasks → (hook : HookAnswer) (m : ℕ) → (w.views t).phase ≡ Some phase →
       all_counted c m w ≡ 0 → all_counted c m (after_step w t phase hook) ≡ 0 →
       (after_step w t phase hook).words.count m ≡ w.words.count m
+  -- and at a level
+  pub level_quiet : (w : World) → IsGood c w → (t : ℕ) → t < c.tasks → (hook : HookAnswer) (i : ℕ) → (w.views t).phase ≡ Some phase →
+      all_inside c i w ≡ 0 → all_inside c i (after_step w t phase hook) ≡ 0 →
+      (after_step w t phase hook).words.level i ≡ w.words.level i
   -- its cause stays while others step
   pub stays : (w next : World) (earlier : List World) → IsGood c next → (t : ℕ) →
       Fits c t (held_at (w.views t)) (holds_level (w.views t)) (Some phase) → (next.views t).phase ≡ Some phase →
-      (w.views t).phase ≡ Some phase →
-      ((m : ℕ) → all_counted c m w ≡ 0 → all_counted c m next ≡ 0 → next.words.count m ≡ w.words.count m) →
+      (w.views t).phase ≡ Some phase → IsQuiet c w next →
       CauseOf c t w earlier (Some phase) → CauseOf c t next (w ∷ earlier) (Some phase)
   -- what comes after it has its cause
   pub causes : (w : World) (earlier : List World) → IsGood c w → (t : ℕ) → t < c.tasks → (hook : HookAnswer) →
@@ -119,10 +128,10 @@ pub record OpKeeps (c : Config) (op : Op) : Type 0 where
   pub fits : (t : ℕ) (held : ℕ → ℕ) (levels : ℕ → Bool) → is_in_range c op ≡ true → is_in_order c held levels op ≡ true →
       is_within_room held op ≡ true →
       Fits c t held levels (Some (first_phase c t op))
-  -- which has no role yet at a mount or a level, relies on nothing, is inside no section, and has no cause
+  -- which has no role yet at a mount or a level, does nothing with the stage, is inside no section, and has no cause
   pub no_role : (t y : ℕ) → role_of y (Some (first_phase c t op)) ≡ Out
   pub steady : (t : ℕ) → IsSteady None (Some (first_phase c t op))
-  pub relies : (t : ℕ) → relied (Some (first_phase c t op)) ≡ on_nothing
+  pub aside : (t : ℕ) → stage_role_of (Some (first_phase c t op)) ≡ Aside
   pub counts_not : (t i : ℕ) → level_role_of i (Some (first_phase c t op)) ≡ CountsNot
   pub apart : (t i : ℕ) → sync_role_of i (Some (first_phase c t op)) ≡ IsApart
   pub outside : (t : ℕ) → inside (Some (first_phase c t op)) ≡ 0

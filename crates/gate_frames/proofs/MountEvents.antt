@@ -1,6 +1,6 @@
 -- What the events of want, drop and change touch: the rest of the rule stays.
 use Rattle.gate_frames.proofs.Frames.{left_alone, level_view_as}
-use Rattle.gate_world.specs.Rules.{AtMount, Fitting, Holds, IsGood, Known, Owner, Part, SameView, SameWords, Stages, StepKeeps, Superblock, at_gates, change_owns, owns, GateStepKeeps, Relying, relied, Nodes, AtLevel, SyncAt, Sections}
+use Rattle.gate_world.specs.Rules.{AtMount, Fitting, Holds, IsGood, Known, Owner, Part, SameView, SameWords, Stages, Marks, StepKeeps, at_gates, change_owns, owns, GateStepKeeps, Nodes, AtLevel, SyncAt, Sections}
 use Rattle.std.proofs.Common.{Bool, arith, inl, inr, refl, sym, true, true≢false, ◌≡◌, ◌<◌, ◌⊎◌, subst, ℕ, ◌∙◌, ap, List}
 use Rattle.mount_counts.specs.declared.phases.Change.{Change}
 use Rattle.mount_counts.specs.declared.phases.ChangeStep.{ChangeStep}
@@ -12,7 +12,7 @@ use Rattle.cpu_words.specs.Hooks.{HookAnswer}
 use Rattle.gate_frames.proofs.Known.{IsOwnersWork, known_after}
 use Rattle.cpu_words.specs.declared.events.Touch.TheVariants.{Load}
 use Rattle.mount_counts.specs.declared.phases.ChangeStep.TheVariants.{LoadsSuperblock as LoadsSb, Locks, Sums}
-use Rattle.cpu_words.specs.declared.names.WordName.TheVariants.{MountCount, MountFlags, Stage, Umount, Node, SbFlags, Block, LevelCount, Sync, Section}
+use Rattle.cpu_words.specs.declared.names.WordName.TheVariants.{MountCount, MountFlags, Stage, Umount, Node, SbFlags, Block, LevelCount, Sync, Section, Remount}
 use Rattle.mount_counts.specs.declared.phases.MountPhase.{MountPhase}
 use Rattle.gate_world.specs.declared.work.Phase.TheVariants.{Mounts}
 use Rattle.access_model.specs.declared.replies.Next.{Next}
@@ -32,7 +32,8 @@ use Rattle.gate_world.specs.Owners.{is_owned, takes_lock}
 use Rattle.gate_frames.proofs.Words.{load_same}
 use Rattle.access_model.specs.Replies.{map_next}
 use Rattle.gate_world.specs.Views.{phase_after, view_after, actions_after}
-use Rattle.gate_world.specs.Remounts.{on_nothing}
+use Rattle.gate_world.specs.Stages.{stage_role_of}
+use Rattle.stage_laws.specs.Roles.{Aside}
 use Rattle.gate_counts.specs.Levels.{Out as CountsNot}
 use Rattle.level_laws.specs.Roles.{Out as IsApart}
 use Rattle.gate_world.specs.Levels.{inside, at_level, level_added_after, level_taken_after, level_role_of, sync_role_of, level_added_by, level_taken_by}
@@ -79,11 +80,10 @@ known_is part h = absurd (true≢false (sym h))
 -- what a part reads is the same in the same words
 same_words : (w : Words) (part : Part) → SameWords w w part
 same_words w Owner = (refl, refl)
-same_words w Superblock = refl
-same_words w Stages = refl
+same_words w Stages = (refl, refl, refl, refl)
+same_words w Marks = (refl, refl, refl)
 same_words w Fitting = tt
 same_words w Known = (refl, refl, refl, refl)
-same_words w Relying = (refl, refl)
 same_words w Nodes = refl
 same_words w (AtMount m) = (refl, refl, refl, refl)
 same_words w (AtLevel i) = (refl, refl, refl)
@@ -96,15 +96,19 @@ pub load_unread : (w : Words) (word : WordName) (touch : Touch) (part : Part) �
 load_unread w word Load part h = subst (λ (ws : Words). SameWords w ws part) (sym (load_same w word)) (same_words w part)
 load_unread w word touch part h = absurd (true≢false (sym h))
 
--- and the words of want, drop and change are none that the stage's part reads, nor what is relied on, nor a node's
+-- and the words of want, drop and change are none that the parts of the stage, the marks, the nodes and the levels read
 unread : (part : Part) → at_gates part ≡ false → is_known_part part ≡ false → (word : WordName) → is_gate_word word ≡ true →
     (w : Words) (n : ℕ) → SameWords w (put w word n) part
 unread Stages h k Stage q w n = absurd (true≢false (sym q))
-unread Stages h k word q w n = refl
+unread Stages h k SbFlags q w n = absurd (true≢false (sym q))
+unread Stages h k Remount q w n = absurd (true≢false (sym q))
+unread Stages h k (Block i) q w n = absurd (true≢false (sym q))
+unread Stages h k word q w n = (refl, refl, refl, refl)
+unread Marks h k Stage q w n = absurd (true≢false (sym q))
+unread Marks h k SbFlags q w n = absurd (true≢false (sym q))
+unread Marks h k (Node i) q w n = absurd (true≢false (sym q))
+unread Marks h k word q w n = (refl, refl, refl)
 unread Known h k word q w n = absurd (true≢false k)
-unread Relying h k Stage q w n = absurd (true≢false (sym q))
-unread Relying h k SbFlags q w n = absurd (true≢false (sym q))
-unread Relying h k word q w n = (refl, refl)
 unread (AtLevel j) h k Stage q w n = absurd (true≢false (sym q))
 unread (AtLevel j) h k SbFlags q w n = absurd (true≢false (sym q))
 unread (AtLevel j) h k (Block i) q w n = absurd (true≢false (sym q))
@@ -124,16 +128,16 @@ unread part h k word q w n = absurd (true≢false h)
 
 -- what the parts that an event of want, drop or change doesn't touch read of its task's view is the same
 record IsUnseen (old new : View) : Type 0 where
-  relied_same : relied new.phase ≡ relied old.phase
+  stage_same : stage_role_of new.phase ≡ stage_role_of old.phase
   level_same : (i : ℕ) → at_level i new ≡ at_level i old
   sync_same : (i : ℕ) → sync_role_of i new.phase ≡ sync_role_of i old.phase
   inside_same : inside new.phase ≡ inside old.phase
 
 -- so they read the same
 unseen : (part : Part) → at_gates part ≡ false → is_known_part part ≡ false → (old new : View) → IsUnseen old new → SameView old new part
-unseen Stages h k old new same = tt
+unseen Stages h k old new same = same.stage_same
+unseen Marks h k old new same = same.stage_same
 unseen Known h k old new same = absurd (true≢false k)
-unseen Relying h k old new same = same.relied_same
 unseen Nodes h k old new same = tt
 unseen (AtLevel i) h k old new same = same.level_same i
 unseen (SyncAt i) h k old new same = same.sync_same i
@@ -164,11 +168,11 @@ level_taken_load Umount Load taken h = refl
 level_taken_load word Load taken h = refl
 level_taken_load word touch taken h = absurd (true≢false (sym h))
 
--- want, drop and change rely on nothing
-mounts_rely : (next : Next MountPhase) → relied (phase_after (map_next Mounts next)) ≡ on_nothing
-mounts_rely (Go x) = refl
-mounts_rely (Wait x) = refl
-mounts_rely (Done answer) = refl
+-- want, drop and change do nothing with the stage
+mounts_aside : (next : Next MountPhase) → stage_role_of (phase_after (map_next Mounts next)) ≡ Aside
+mounts_aside (Go x) = refl
+mounts_aside (Wait x) = refl
+mounts_aside (Done answer) = refl
 
 -- what comes after an event of a want owns nothing
 want_owns : (next : Next Want) → owns (phase_after (map_next Mounts (map_next Wants next))) ≡ 0
@@ -265,7 +269,7 @@ mounts_unseen v x value hook e =
       | inr h ↦ level_taken_gate (next x hook).0 h (next x hook).1 (level_taken_by v.events)
     ] in
     record {
-      relied_same = mounts_rely (after x found hook).0 ∙ sym (ap relied e);
+      stage_same = mounts_aside (after x found hook).0 ∙ sym (ap stage_role_of e);
       level_same = λ i. level_view_as
           (ap (λ (f : ℕ → Bool). if f i then 1 else 0) (mounts_levels x found hook v.actions))
           (ap (λ f. f i) added) (ap (λ f. f i) taken) (mounts_count i (after x found hook).0 ∙ sym (ap (level_role_of i) e));
@@ -302,3 +306,22 @@ whole_step c w t lt good hook x e keeps = (
       ],
   keeps.1,
 )
+
+-- a load leaves the counts of every level
+pub loads_leave_levels : (w : Words) (word : WordName) (touch : Touch) → is_load touch ≡ true → (i : ℕ) →
+    (put w word (left touch (read w word))).level i ≡ w.level i
+loads_leave_levels w word Load h i = ap (λ (ws : Words). ws.level i) (load_same w word)
+loads_leave_levels w word touch h i = absurd (true≢false (sym h))
+
+-- and so does an event of want, drop or change
+level_put : (w : Words) (word : WordName) → is_gate_word word ≡ true → (n i : ℕ) → (put w word n).level i ≡ w.level i
+level_put w (LevelCount j p) q n i = absurd (true≢false (sym q))
+level_put w word q n i = refl
+
+pub mounts_quiet : (w : World) (t : ℕ) (hook : HookAnswer) (x : MountPhase) (i : ℕ) →
+    (after_step w t (Mounts x) hook).words.level i ≡ w.words.level i
+mounts_quiet w t hook x i =
+    elim (mounts_touch x hook) [
+      | inl h ↦ loads_leave_levels w.words (next x hook).0 (next x hook).1 h i
+      | inr h ↦ level_put w.words (next x hook).0 h (left (next x hook).1 (read w.words (next x hook).0)) i
+    ]

@@ -13,7 +13,7 @@ use Rattle.mount_counts.specs.declared.phases.ChangeStep.TheVariants.{Locks, Cle
 use Rattle.mount_counts.specs.Roles.{Role, has_hold, skips, ro_bit, hold_bit}
 use Rattle.gate_world.specs.declared.config.Config.{Config}
 use Rattle.gate_world.specs.declared.work.Phase.{Phase}
-use Rattle.gate_world.specs.declared.work.Phase.TheVariants.{Mounts, Remounts, Writes}
+use Rattle.gate_world.specs.declared.work.Phase.TheVariants.{Mounts, Remounts, Writes, Freezes, Thaws}
 use Rattle.write_access.specs.declared.phases.WritePhase.{WritePhase}
 use Rattle.write_access.specs.declared.phases.WritePhase.TheVariants.{Wants as WriteWants}
 use Rattle.gate_world.specs.declared.views.View.{View}
@@ -21,13 +21,15 @@ use Rattle.gate_world.specs.Views.{held_at, holds_level, added_by, taken_by}
 use Rattle.gate_world.specs.Worlds.{World}
 use Rattle.gate_world.specs.Shown.{shown, closing}
 use Rattle.gate_world.specs.Waits.{IsWaitedFor, HasCulprit}
-use Rattle.gate_world.specs.Rules.{want_role, change_role, write_role, role_if, role_of, at_mount, change_owns, owns, remounts, IsSteady, OwnerHolds, ViewFits, IsGood, Owner, AtMount, GatesHold, relied, Holds, Relying}
+use Rattle.gate_world.specs.Rules.{want_role, change_role, write_role, role_if, role_of, at_mount, change_owns, owns, remounts, IsSteady, OwnerHolds, ViewFits, IsGood, Owner, AtMount, GatesHold}
 use Rattle.gate_frames.proofs.Frames.{view_as, holds_as, MountHoldsAfter, owner_same, gates_after, shown_as, shown_still}
 use Rattle.mount_counts.specs.declared.remounts.RemountStep.{RemountStep}
-use Rattle.gate_world.specs.Remounts.{loop_role, held_role, giving_role, IsThere, remount_owns, summing_role, remount_role, remount_sets, on_nothing, remount_relies}
+use Rattle.gate_world.specs.Remounts.{loop_role, held_role, giving_role, remount_owns, summing_role, remount_role, remount_sets}
 use Rattle.cpu_words.specs.declared.sums.Sum.{Sum}
 use Rattle.mount_counts.specs.declared.remounts.RemountStep.TheVariants.{LoadsFlags as RemountLoads, SetsHold as RemountHolds, Sums as RemountSums, SetsRemount, ClearsHold as RemountClears, GivesUp, Locks as RemountLocks}
 use Rattle.mount_counts.specs.Sets.{has_mount}
+use Rattle.stage_laws.proofs.Facts.{owns_le as stage_owns_le}
+use Rattle.gate_world.specs.Stages.{freeze_stage_role, thaw_stage_role}
 
 change_owns_le : (s : ChangeStep) → change_owns s ≤ 1
 change_owns_le Locks = omega arith
@@ -44,6 +46,8 @@ owns_le (Some (Mounts (Wants x))) = omega arith
 owns_le (Some (Mounts (Drops m p))) = omega arith
 owns_le (Some (Mounts (Changes x))) = change_owns_le x.step
 owns_le (Some (Remounts x)) = remount_owns_le x.step
+owns_le (Some (Freezes x)) = stage_owns_le (freeze_stage_role x.nodes x.step)
+owns_le (Some (Thaws x)) = stage_owns_le (thaw_stage_role x.step)
 owns_le (Some phase) = omega arith
 
 -- a want has no hold flag set, and skips no mount
@@ -121,17 +125,6 @@ remounts_owns None = omega arith
 remounts_owns (Some (Mounts phase)) = omega arith
 remounts_owns (Some (Remounts x)) = remount_sets_owns x.step
 remounts_owns (Some phase) = omega arith
-
-remount_relies_owns : (s : RemountStep) → remount_owns s ≡ 0 → remount_relies s ≡ on_nothing
-remount_relies_owns RemountLocks h = refl
-remount_relies_owns step h = absurd (omega (arith, h))
-
--- nor does anybody else rely on a word
-pub relied_owns : (p : Option Phase) → owns p ≡ 0 → relied p ≡ on_nothing
-relied_owns None h = refl
-relied_owns (Some (Mounts phase)) h = refl
-relied_owns (Some (Remounts x)) h = remount_relies_owns x.step h
-relied_owns (Some phase) h = refl
 
 module _ (c : Config) (w : World) (good : IsGood c w) (t : ℕ) (lt : t < c.tasks) where
   -- nobody else owns
@@ -265,13 +258,6 @@ module _ (c : Config) (w : World) (good : IsGood c w) (t : ℕ) (lt : t < c.task
     bit = omega (arith, is, remounts_owns v.phase, owns_le v.phase);
     remounting = omega (arith, is, total_updated (λ (u : View). remounts u.phase) c.tasks t w.views v lt, only_remount o);
   }
-
-  -- what the owner relies on after its event is there, and nobody else relies on a word
-  pub relying_after : (ws : Words) (v : View) → owns (w.views t).phase ≡ 1 → IsThere (relied v.phase) ws →
-      Holds c (record { words = ws; views = update w.views t v }) Relying
-  relying_after ws v o there = λ x lx.
-      each_updated (λ y (u : View). IsThere (relied u.phase) ws) w.views t v x there
-      (λ ne. subst (λ on. IsThere on ws) (sym (relied_owns (w.views x).phase (alone x lx ne o))) (tt, tt))
 
   -- an event that leaves all words but `umount`, and the task's role at each mount
   pub umount_law : (n : ℕ) (v : View) → OwnerHolds c.tasks n w.words.remount (λ x. (update w.views t v x).phase) → ViewFits c t v →
