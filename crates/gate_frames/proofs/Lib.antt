@@ -10,3 +10,4 @@ pub mod Rephased
 pub mod Accesses
 pub mod Places
 pub mod Hooks
+pub mod Stages

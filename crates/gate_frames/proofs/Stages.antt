@@ -1,0 +1,159 @@
+-- The stage of a world, as the laws of the stage have it: what holds of it, what an event of a task leaves of it, and which actions are
+-- allowed.
+use Rattle.std.proofs.lemmas.Bool.Decides.{eqb_tells}
+use Rattle.gated_tree.specs.Nodes.{dirty_in}
+use Rattle.std.proofs.Common.{◌≡◌, ℕ, suc, ◌<◌, ◌≤◌, refl, sym, ap, ◌∙◌, subst, inl, inr, arith, ◌%◌, Bool}
+use Rattle.std.specs.Prelude.{Option, Some, None, ◌==◌, ◌||◌, false}
+use Rattle.finite_sums.specs.Sums.{update, total}
+use Rattle.finite_sums.proofs.Totals.{total_le, total_none, update_map, update_same}
+use Rattle.access_model.specs.States.{State, is_dirty}
+use Rattle.access_model.specs.Actions.{IsAllowed}
+use Rattle.access_model.specs.declared.actions.Action.{Action}
+use Rattle.cpu_words.specs.Words.{Words}
+use Rattle.mount_counts.specs.declared.remounts.RemountStep.{RemountStep}
+use Rattle.mount_counts.specs.declared.remounts.RemountStep.TheVariants.{Locks}
+use Rattle.mount_counts.specs.Roles.{ro_bit}
+use Rattle.stage_laws.specs.Roles.{StageRole, owns as stage_owns, StagesHold, MarksHold}
+use Rattle.stage_laws.specs.Shown.{ShowsStages, AsksOthers, state_after, passed_shown}
+use Rattle.stage_laws.specs.Events.{Stages as StageMoment, Holds as StageHolds, Shows, StageEvent, Happens, action_of}
+use Rattle.stage_laws.proofs.Whole.{events_keep, actions_are_allowed, actions_have_their_effect}
+use Rattle.gate_world.specs.declared.config.Config.{Config}
+use Rattle.gate_world.specs.declared.views.View.{View}
+use Rattle.gate_world.specs.declared.work.Phase.{Phase}
+use Rattle.gate_world.specs.declared.work.Phase.TheVariants.{Mounts, Remounts, DownReads, UpReads, Callbacks, Writes, Freezes, Thaws}
+use Rattle.gate_world.specs.Configs.{model_limits}
+use Rattle.gate_world.specs.Remounts.{remount_owns}
+use Rattle.gate_world.specs.Rules.{owns, remounts, IsGood, Holds, Owner, Stages, Marks, marks_of, Moves}
+use Rattle.gate_world.specs.Shown.{shown, stage_roles, node_shown}
+use Rattle.gate_world.specs.Stages.{stage_role_of, remount_stage_role}
+use Rattle.gate_world.specs.Views.{held_at, holds_level}
+use Rattle.gate_world.specs.Worlds.{World}
+use Rattle.gate_frames.proofs.Owners.{owns_le}
+
+-- the stage of a world
+abbrev pub stages_in : World → StageMoment
+stages_in w = record {
+  stage = w.words.stage;
+  sb = w.words.sb;
+  remount = w.words.remount;
+  block = w.words.block;
+  dirty = marks_of w.words;
+  at = stage_roles w;
+}
+
+-- a remount that owns by its stage owns `umount`
+remount_owner : (nodes : ℕ) (s : RemountStep) → stage_owns (remount_stage_role nodes s) ≤ remount_owns s
+remount_owner nodes Locks = omega arith
+remount_owner nodes s = omega arith
+
+-- who owns by the stage owns `umount`
+pub stage_owner : (p : Option Phase) → stage_owns (stage_role_of p) ≤ owns p
+stage_owner None = omega arith
+stage_owner (Some (Mounts phase)) = omega arith
+stage_owner (Some (Remounts x)) = remount_owner x.nodes x.step
+stage_owner (Some (DownReads r)) = omega arith
+stage_owner (Some (UpReads u)) = omega arith
+stage_owner (Some (Callbacks b)) = omega arith
+stage_owner (Some (Writes x)) = omega arith
+stage_owner (Some (Freezes x)) = omega arith
+stage_owner (Some (Thaws x)) = omega arith
+
+-- a node without a mark is shown without one
+clean_shown : (word : ℕ) → dirty_in word ≡ 0 → is_dirty (node_shown word) ≡ false
+clean_shown word e = elim (eqb_tells (word % 4) 0) [
+  | inl q ↦ rw q.0 refl
+  | inr q ↦ rw (q.0, e) refl
+]
+
+module _ (c : Config) (w : World) (good : IsGood c w) where
+  -- what holds of the stage of a good world
+  pub stages_right : StageHolds c.tasks c.nodes (stages_in w)
+  stages_right = record { stages = good Stages; marks = good Marks }
+
+  -- the shown model shows it
+  pub stages_shown : Shows (model_limits c) (stages_in w) (shown c w)
+  stages_shown = record {
+    stages = record { stage_same = refl; passed_same = refl; sb_same = refl };
+    marks = λ n lt e. clean_shown (w.words.node n) e;
+  }
+
+  -- where `umount` is free nobody owns by the stage
+  pub nobody_owns : w.words.umount ≡ 0 → total c.tasks (λ x. stage_owns (stage_roles w x)) ≡ 0
+  nobody_owns free = total_none c.tasks (λ x. stage_owns (stage_roles w x)) (λ x lx.
+      let none : owns (w.views x).phase ≡ 1 → ⊥ = λ o. omega (arith, free, (good Owner).locked x lx o) in
+      omega (arith, none, owns_le (w.views x).phase, stage_owner (w.views x).phase))
+
+  module _ (t : ℕ) (lt : t < c.tasks) (ws : Words) (v : View) where
+    -- the stage of the world after an event of this task
+    pub stage_moves : stages_in (record { words = ws; views = update w.views t v }) ≡ record {
+      stage = ws.stage;
+      sb = ws.sb;
+      remount = ws.remount;
+      block = ws.block;
+      dirty = marks_of ws;
+      at = update (stage_roles w) t (stage_role_of v.phase);
+    }
+    stage_moves = λ i. record {
+      stage = ws.stage;
+      sb = ws.sb;
+      remount = ws.remount;
+      block = ws.block;
+      dirty = marks_of ws;
+      at = update_map (λ (u : View). stage_role_of u.phase) w.views t v i;
+    }
+
+    -- what is there of the stage where the event is one of these
+    abbrev pub IsStageEvent : StageEvent → Type 0
+    IsStageEvent kind = Happens c.tasks c.nodes t (stages_in w) record {
+      stage = ws.stage;
+      sb = ws.sb;
+      remount = ws.remount;
+      block = ws.block;
+      dirty = marks_of ws;
+      at = update (stage_roles w) t (stage_role_of v.phase);
+    } kind
+
+    module _ (kind : StageEvent) (happens : IsStageEvent kind) where
+      -- so all holds of it again
+      stage_kept : StageHolds c.tasks c.nodes (stages_in (record { words = ws; views = update w.views t v }))
+      stage_kept = subst (StageHolds c.tasks c.nodes) (sym stage_moves)
+          (events_keep c.tasks c.nodes (stages_in w) _ t kind (record { right = stages_right; there = lt; happens = happens }))
+
+      pub stages_after : Holds c (record { words = ws; views = update w.views t v }) Stages
+      stages_after = stage_kept.stages
+
+      pub marks_after : Holds c (record { words = ws; views = update w.views t v }) Marks
+      marks_after = stage_kept.marks
+
+      -- its action is allowed, where the other parts have what it asks for
+      pub stage_action : (a : Action) → action_of kind (stages_in w) ≡ Some a → AsksOthers (model_limits c) (shown c w) a →
+          IsAllowed (model_limits c) (shown c w) t a
+      stage_action a is asks =
+          actions_are_allowed (model_limits c) (stages_in w) _ t kind
+          (record { right = stages_right; there = lt; happens = happens }) (shown c w) stages_shown a is asks
+
+      -- and the state after it has the stage, the number of levels passed and the superblock's flag that are shown then
+      pub stage_effect : ShowsStages c.tasks ws.stage ws.sb ws.remount ws.block (update (stage_roles w) t (stage_role_of v.phase))
+          (state_after (shown c w) t (action_of kind (stages_in w)))
+      stage_effect =
+          actions_have_their_effect c.tasks c.nodes (stages_in w) _ t kind
+          (record { right = stages_right; there = lt; happens = happens }) (shown c w) stages_shown.stages
+
+    -- The shown model after an event of a task that holds what it held at the mounts and the levels, and that leaves the flags of the
+    -- mounts: it is a state that shows the stage then, and the nodes, and is else as it was.
+    pub shown_by : ws.flags ≡ w.words.flags → held_at v ≡ held_at (w.views t) → holds_level v ≡ holds_level (w.views t) → (s : State) →
+        ShowsStages c.tasks ws.stage ws.sb ws.remount ws.block (update (stage_roles w) t (stage_role_of v.phase)) s →
+        s.mounts ≡ (shown c w).mounts → s.levels ≡ (shown c w).levels → s.mount_ro ≡ (shown c w).mount_ro →
+        s.tree ≡ (λ n. node_shown (ws.node n)) → shown c (record { words = ws; views = update w.views t v }) ≡ s
+    shown_by flags held levels s shows em el ef et = λ j. record {
+      mounts = (update_map held_at w.views t v ∙ ap (update (λ x. held_at (w.views x)) t) held ∙
+          update_same (λ x. held_at (w.views x)) t ∙ sym em) j;
+      levels = (update_map holds_level w.views t v ∙ ap (update (λ x. holds_level (w.views x)) t) levels ∙
+          update_same (λ x. holds_level (w.views x)) t ∙ sym el) j;
+      mount_ro = (ap {B = ℕ → Bool} (λ (f : ℕ → ℕ) m. ro_bit (f m) == 1) flags ∙ sym ef) j;
+      sb_ro = sym shows.sb_same j;
+      stage = sym shows.stage_same j;
+      passed = (ap (passed_shown c.tasks ws.block) (update_map (λ (u : View). stage_role_of u.phase) w.views t v) ∙
+          sym shows.passed_same) j;
+      tree = sym et j;
+    }
