@@ -1,4 +1,3 @@
-pub mod LevelWorlds
 pub mod ReadLevels
 pub mod LevelParts
 pub mod LevelCounts

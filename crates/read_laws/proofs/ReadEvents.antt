@@ -7,7 +7,7 @@ use Rattle.cpu_words.specs.declared.events.Touch.{Touch}
 use Rattle.percpu_rwsem.specs.SyncWords.{unpack}
 use Rattle.cpu_words.specs.declared.names.WordName.{WordName}
 use Rattle.gate_frames.proofs.Frames.{level_view_as}
-use Rattle.read_laws.proofs.LevelWorlds.{not_passed, sync_on, fast_finds_open}
+use Rattle.level_frames.proofs.LevelWorlds.{not_passed, sync_on, fast_finds_open}
 use Rattle.access_model.specs.declared.actions.Gate.TheVariants.{Level}
 use Rattle.access_model.specs.declared.replies.Reply.TheVariants.{Unit as UnitReply}
 use Rattle.cpu_words.specs.Touches.{wrap_add}

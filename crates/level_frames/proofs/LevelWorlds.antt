@@ -1,4 +1,6 @@
 -- One level of a world, as the laws of a level have it: what holds there, and what an event of a task leaves of it.
+use Rattle.stage_laws.specs.Roles.{sums}
+use Rattle.level_frames.proofs.Stands.{freeze_slow, stand_below, thaw_slow}
 use Rattle.std.proofs.Common.{◌≡◌, ℕ, zero, suc, ◌-◌, ◌<◌, ◌≤◌, refl, sym, ap, ◌∙◌, subst, arith}
 use Rattle.std.specs.Prelude.{Option, Some, None, Bool, true, false, ◌==◌, ◌&&◌, if◌then◌else◌}
 use Rattle.std.proofs.lemmas.Bool.{eq-eqb, ne_eqb}
@@ -22,10 +24,10 @@ use Rattle.level_laws.proofs.Whole.{events_keep, fast_finds_open as level_is_ope
 use Rattle.gate_world.specs.declared.config.Config.{Config}
 use Rattle.gate_world.specs.declared.views.View.{View}
 use Rattle.gate_world.specs.declared.work.Phase.{Phase}
-use Rattle.gate_world.specs.declared.work.Phase.TheVariants.{Mounts, Remounts, DownReads, UpReads, Callbacks, Writes}
+use Rattle.gate_world.specs.declared.work.Phase.TheVariants.{Mounts, Remounts, DownReads, UpReads, Callbacks, Writes, Freezes, Thaws}
 use Rattle.gate_world.specs.Worlds.{World}
-use Rattle.gate_world.specs.Levels.{sync_role_if, sync_role_of, inside, is_frozen_whole}
-use Rattle.gate_world.specs.Shown.{shown, closing, is_passed}
+use Rattle.gate_world.specs.Levels.{sync_role_if, sync_role_of, inside, is_frozen_whole, freeze_stand, thaw_stand}
+use Rattle.gate_world.specs.Shown.{shown, closing, is_passed, stage_roles}
 use Rattle.gate_world.specs.Rules.{IsGood, SameWords, SyncAt, Sections, Holds}
 use Rattle.gate_frames.proofs.Frames.{left_alone}
 
@@ -72,6 +74,8 @@ fast_in_section i (Some (Writes (Wants x))) = omega arith
 fast_in_section i (Some (Writes (GivesBack m p refusal))) = omega arith
 fast_in_section i (Some (Writes (Drops m p))) = omega arith
 fast_in_section i (Some (Writes (Ends p))) = omega arith
+fast_in_section i (Some (Freezes x)) = omega (arith, freeze_slow i x.step)
+fast_in_section i (Some (Thaws x)) = omega (arith, thaw_slow i x.step)
 
 -- no down-read has closed a level
 read_opens : (b : Bool) (s : DownReadStep) → closed (sync_role_if b (down_read_role s)) ≡ 0
@@ -92,23 +96,21 @@ callback_opens true (AwaitsSections grace) = refl
 callback_opens true (CallsBack transition) = refl
 callback_opens false s = refl
 
--- no phase of these layers has
-never_closed : (i : ℕ) (p : Option Phase) → closed (sync_role_of i p) ≡ 0
-never_closed i None = refl
-never_closed i (Some (Mounts phase)) = refl
-never_closed i (Some (Remounts x)) = refl
-never_closed i (Some (DownReads r)) = read_opens (i == r.level) r.step
-never_closed i (Some (UpReads u)) = refl
-never_closed i (Some (Callbacks b)) = callback_opens (i == b.level) b.step
-never_closed i (Some (Writes (Takes m r))) = read_opens (i == r.level) r.step
-never_closed i (Some (Writes (Wants x))) = refl
-never_closed i (Some (Writes (GivesBack m p refusal))) = refl
-never_closed i (Some (Writes (Drops m p))) = refl
-never_closed i (Some (Writes (Ends p))) = refl
-
 -- who has closed a level has closed each one below it
 pub closed_below : (i j : ℕ) (p : Option Phase) → 1 ≤ i → i ≤ j → closed (sync_role_of j p) ≤ closed (sync_role_of i p)
-closed_below i j p one le = omega (arith, never_closed j p)
+closed_below i j None one le = omega arith
+closed_below i j (Some (Mounts phase)) one le = omega arith
+closed_below i j (Some (Remounts x)) one le = omega arith
+closed_below i j (Some (DownReads r)) one le = omega (arith, read_opens (j == r.level) r.step)
+closed_below i j (Some (UpReads u)) one le = omega arith
+closed_below i j (Some (Callbacks b)) one le = omega (arith, callback_opens (j == b.level) b.step)
+closed_below i j (Some (Writes (Takes m r))) one le = omega (arith, read_opens (j == r.level) r.step)
+closed_below i j (Some (Writes (Wants x))) one le = omega arith
+closed_below i j (Some (Writes (GivesBack m p refusal))) one le = omega arith
+closed_below i j (Some (Writes (Drops m p))) one le = omega arith
+closed_below i j (Some (Writes (Ends p))) one le = omega arith
+closed_below i j (Some (Freezes x)) one le = stand_below i j (freeze_stand x.step) le
+closed_below i j (Some (Thaws x)) one le = stand_below i j (thaw_stand x.step) le
 
 -- a task's role at its own level is the one it has there
 pub sync_on : (i : ℕ) (r : SyncRole) → sync_role_if (i == i) r ≡ r
@@ -215,7 +217,7 @@ module _ (c : Config) (w : World) (good : IsGood c w) where
 
   -- each level passed counts once
   counts_once : (i : ℕ) → is_passed c w i ≤ 1
-  counts_once i = passed_once (w.words.block i == 1 && total c.tasks (λ x. closing i (w.views x).phase) == 0)
+  counts_once i = passed_once (w.words.block i == 1 && total c.tasks (λ x. sums i (stage_roles w x)) == 0)
 
   -- so the shown model has passed fewer levels than one whose `block` is clear
   pub not_passed : (i : ℕ) → 1 ≤ i → i ≤ 3 → w.words.block i ≡ 0 → (shown c w).passed < i
