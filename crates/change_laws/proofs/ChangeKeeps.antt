@@ -11,6 +11,7 @@ use Rattle.gate_world.specs.declared.work.Phase.TheVariants.{Mounts}
 use Rattle.gate_world.specs.Fits.{Fits}
 use Rattle.gate_frames.proofs.Keeps.{by_bool, none_agree, word_among, PhaseKeeps, IsSmall, OpKeeps}
 use Rattle.gate_frames.proofs.Loads.{role_none}
+use Rattle.gate_frames.proofs.MountEvents.{mounts_quiet}
 use Rattle.gate_frames.proofs.Snapshots.{completes_none}
 use Rattle.gate_world.specs.declared.operations.Op.TheVariants.{ChangeMount}
 use Rattle.gate_world.specs.Traces.{most_events}
@@ -35,8 +36,9 @@ change_phase c x = record {
   agrees = λ t f g h k mounts levels fits. (fits.0, fits.1, fits.2, rw (← none_agree c t f g h k mounts levels) fits.3, fits.4);
   quiet = λ w good t lt hook m e before after.
       ap (λ f. f m) (change_counts w t hook x.mount x.read_only x.wait x.task x.processors x.step);
+  level_quiet = λ w good t lt hook i e before after. mounts_quiet w t hook (Changes x) i;
   stays = λ w next earlier after t f e was quiet h. change_kept c t w next earlier after x.mount x.read_only x.wait x.task x.processors
-      x.step f.0 e was (quiet x.mount) h;
+      x.step f.0 e was (quiet.mounts x.mount) h;
   causes = λ w earlier good t lt hook e after is h.
       let f : Fits c t (held_at (w.views t)) (holds_level (w.views t)) (Some (Mounts (Changes x))) =
       subst (Fits c t (held_at (w.views t)) (holds_level (w.views t))) e (good Fitting t lt) in
@@ -53,7 +55,7 @@ change_op c m ro wait = record {
   fits = λ t held levels there order room. (ltb-true m c.mounts there, refl, refl, order, tt);
   no_role = λ t y. role_none y m;
   steady = λ t. record { owns_same = refl; remounts_same = refl; closing_same = λ i. refl };
-  relies = λ t. refl;
+  aside = λ t. refl;
   counts_not = λ t i. refl;
   apart = λ t i. refl;
   outside = λ t. refl;

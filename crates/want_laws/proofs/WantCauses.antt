@@ -6,7 +6,7 @@ use Rattle.finite_sums.proofs.Totals.{update_at, update_off}
 use Rattle.gate_frames.proofs.Frames.{role_on}
 use Rattle.gate_frames.proofs.Loads.{fits_now}
 use Rattle.gate_world.specs.Causes.{all_counted, asks, want_asks, was_read_only}
-use Rattle.gate_world.specs.Rules.{IsGood, Owner, Superblock, AtMount, role_of}
+use Rattle.gate_world.specs.Rules.{IsGood, Owner, Stages, AtMount, role_of}
 use Rattle.gate_world.specs.Views.{held_at, view_after, phase_after}
 use Rattle.gate_world.specs.Worlds.{World, after_step}
 use Rattle.gate_world.specs.declared.config.Config.{Config}
@@ -169,7 +169,7 @@ module _ (c : Config) (t : ℕ) (lt : t < c.tasks) (w next : World) (earlier : L
       elim (eqb_tells w.words.sb 0) [
         | inl f ↦ rw f.0 tt
         | inr f ↦
-            let one : w.words.sb ≡ 1 = omega (arith, f.1, good Superblock) in
+            let one : w.words.sb ≡ 1 = omega (arith, f.1, (good Stages).superblock) in
             rw f.0 (
               refl,
               asked x.mount e (rw f.0 at e')

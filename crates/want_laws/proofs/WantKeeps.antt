@@ -11,6 +11,7 @@ use Rattle.gate_world.specs.declared.work.Phase.TheVariants.{Mounts}
 use Rattle.gate_world.specs.Fits.{Fits}
 use Rattle.gate_frames.proofs.Keeps.{by_bool, PhaseKeeps, IsSmall, OpKeeps, word_among}
 use Rattle.gate_frames.proofs.Loads.{role_none}
+use Rattle.gate_frames.proofs.MountEvents.{mounts_quiet}
 use Rattle.gate_frames.proofs.Snapshots.{completes_none}
 use Rattle.gate_world.specs.declared.operations.Op.TheVariants.{Want as WantOp, DropMount}
 use Rattle.gate_world.specs.Traces.{most_events}
@@ -45,6 +46,7 @@ want_phase c x = record {
   goes = λ lim t held levels found hook f. want_goes c lim t held levels x x.step found f;
   agrees = λ t f g h k mounts levels fits. (fits.0, fits.1, omega (arith, fits.2, mounts x.mount fits.0));
   quiet = λ w good t lt hook m e. quiet_want c w good t lt hook m x.mount x.cpu x.wait x.step e;
+  level_quiet = λ w good t lt hook i e before after. mounts_quiet w t hook (Wants x) i;
   stays = λ w next earlier after t f e was quiet h. want_kept c t w next earlier x.mount x.step (ap asks e) h;
   causes = λ w earlier good t lt hook e after is h.
       let f : Fits c t (held_at (w.views t)) (holds_level (w.views t)) (Some (Mounts (Wants x))) =
@@ -72,6 +74,7 @@ drop_phase c m p = record {
   goes = λ lim t held levels found hook f. tt;
   agrees = λ t f g h k mounts levels fits. (fits.0, fits.1, omega (arith, fits.2, mounts m fits.0));
   quiet = λ w good t lt hook n e. quiet_drop c w good t lt hook n m p e;
+  level_quiet = λ w good t lt hook i e before after. mounts_quiet w t hook (Drops m p) i;
   stays = λ w next earlier after t f e was quiet h. tt;
   causes = λ w earlier good t lt hook e after is h. tt;
   waits = λ lim w earlier good t lt hook e cause. tt;
@@ -86,7 +89,7 @@ want_op c m p wait = record {
       (ltb-true m c.mounts at.0, ltb-true p c.processors at.1, ltb-true (held m) 1024 room);
   no_role = λ t y. role_none y m;
   steady = λ t. record { owns_same = refl; remounts_same = refl; closing_same = λ i. refl };
-  relies = λ t. refl;
+  aside = λ t. refl;
   counts_not = λ t i. refl;
   apart = λ t i. refl;
   outside = λ t. refl;
@@ -108,7 +111,7 @@ drop_op c m p = record {
       (ltb-true m c.mounts at.0, ltb-true p c.processors at.1, ltb-true 0 (held m) order);
   no_role = λ t y. refl;
   steady = λ t. record { owns_same = refl; remounts_same = refl; closing_same = λ i. refl };
-  relies = λ t. refl;
+  aside = λ t. refl;
   counts_not = λ t i. refl;
   apart = λ t i. refl;
   outside = λ t. refl;
