@@ -5,7 +5,7 @@ ghost use Rattle.gate_world.specs.declared.config.Config.{Config};
 ghost use Rattle.gate_world.specs.Configs.{IsWithin};
 ghost use Rattle.gate_world.specs.Worlds.{Entry};
 ghost use Rattle.gate_world.specs.Rules.{IsGood};
-ghost use Rattle.gate_world.specs.Headline.{world_after, MovesTheModel, IsOneRun, NobodyIsInside, SumsHold, IdleSumsHold, NothingIsLeft, OperationsAreKept};
+ghost use Rattle.gate_world.specs.Headline.{world_after, MovesTheModel, IsOneRun, NobodyIsInside, SumsHold, IdleSumsHold, NothingIsLeft, FreezeIsUnderWay, OperationsAreKept};
 ghost use Rattle.gate_world.specs.Causes.{RefusalsHaveCauses};
 ghost use Rattle.gate_world.specs.Waits.{EachWaitHasCulprit};
 
@@ -21,18 +21,23 @@ ghost use Rattle.gate_world.specs.Waits.{EachWaitHasCulprit};
 /// - `sums`, `idle`: each mount's and each level's words sum to what is held and sought there, and, with no operation under way, to the
 ///   accesses held.
 /// - `rests`: nothing is left behind: with no operation under way, `umount` is free, no remount is under way, no mount has HOLD set, no
-///   read-side section is under way, a level is closed only where the file system is frozen as a whole, and no callback is taken.
+///   read-side section is under way, a level is closed only where the file system is frozen as a whole, no callback is taken, and no
+///   freeze is half done: the stage is SB_UNFROZEN or SB_FREEZE_COMPLETE.
+/// - `freezes`: at the stages in between, one freeze is under way, and the stage is the one that it stored last.
 /// - `operations`: each task's events follow the order of its operation; one that replied has added exactly its stated actions, a
 ///   refusal has its cause among its events and leaves what the task held, waiting is reported only where it may be, and an operation
 ///   that waits for nobody has few events.
 /// - `causes`: a change is refused as busy only where something was counted at that mount in some world from the load of its sum's
-///   first word to the load of its last, and so a remount, at some mount, or where the stage was not 0 when it looked; a want is refused as
-///   read-only only where the shown model had that mount read-only at one of its loads; a start that doesn't wait is refused only where
-///   another task had the level closed, or the file system was frozen as a whole, in the world in which it last looked.
-/// - `waits`: every wait has a culprit: a want waits only where another task has HOLD set at its mount, a change and a remount only where
-///   another task has `umount`, a callback only where another task is inside a section, and a start only where the level was closed when
-///   it last looked, as above; a drop and an end never wait.
-/// - `rule`: the rule of words and views, from which the rest follows: counts, holdings, the owner's words, mounts, levels, sections.
+///   first word to the load of its last, and so a remount, at some mount, or where the stage was not 0 when it looked; a freeze is busy only
+///   where it wasn't, and a thaw invalid only where it wasn't 4; a want is refused as read-only only where the shown model had that mount
+///   read-only at one of its loads; a start that doesn't wait is refused only where another task had the level closed, or the file system was
+///   frozen as a whole, in the world in which it last looked.
+/// - `waits`: every wait has a culprit: a want waits only where another task has HOLD set at its mount, a change, a remount and a thaw only
+///   where another task has `umount`, a callback only where another task is inside a section, and a start only where the level was closed
+///   when it last looked, as above; a freeze waits as a remount and as a callback do, and where something was counted at the level that it
+///   closes, in some world from the load of its sum's first word to the load of its last; a drop and an end never wait.
+/// - `rule`: the rule of words and views, from which the rest follows: counts, holdings, the owner's words, the stage and the marks,
+///   mounts, levels, sections.
 ///
 /// It takes nothing, does nothing and answers nothing: its contract is the theorem. `Core` is bound to the same worlds by `Shows`.
 pub fn every_schedule()
@@ -42,6 +47,7 @@ pub fn every_schedule()
     ensures sums { (c : Config) → IsWithin c → (entries : List Entry) → SumsHold c (world_after c entries) }
     ensures idle { (c : Config) → IsWithin c → (entries : List Entry) → IdleSumsHold c (world_after c entries) }
     ensures rests { (c : Config) → IsWithin c → (entries : List Entry) → NothingIsLeft c (world_after c entries) }
+    ensures freezes { (c : Config) → IsWithin c → (entries : List Entry) → FreezeIsUnderWay c (world_after c entries) }
     ensures operations { (c : Config) → IsWithin c → (entries : List Entry) (t : ℕ) → OperationsAreKept c entries t }
     ensures causes { (c : Config) → IsWithin c → (entries : List Entry) → RefusalsHaveCauses c entries }
     ensures waits { (c : Config) → IsWithin c → (entries : List Entry) → EachWaitHasCulprit c entries }

@@ -15,14 +15,14 @@ use Rattle.gate_world.specs.Fits.{Fits}
 use Rattle.gate_world.specs.Beginnings.{first_phase, view_refusal}
 use Rattle.gate_world.specs.Worlds.{World, Entry, Begins, Steps, after_begin, begin_of, after_step, step_of, value_at, happens, run}
 use Rattle.gate_world.specs.Rules.{IsGood, Fitting}
-use Rattle.gate_world.specs.Causes.{trail, all_counted, HasCause}
+use Rattle.gate_world.specs.Causes.{trail, HasCause}
+use Rattle.gate_frames.proofs.Keeps.{IsQuiet}
 use Rattle.gate_world.specs.KeptCauses.{CauseOf, Causes}
 use Rattle.schedule_laws.proofs.Layers.{phase_keeps, op_keeps}
 
 module _ (c : Config) (w : World) (earlier : List World) (good : IsGood c w) (holds : Causes c w earlier) where
   -- a task that another entry leaves alone
-  module _ (next : World) (after : IsGood c next) (t : ℕ) (lt : t < c.tasks)
-      (quiet : (m : ℕ) → all_counted c m w ≡ 0 → all_counted c m next ≡ 0 → next.words.count m ≡ w.words.count m) where
+  module _ (next : World) (after : IsGood c next) (t : ℕ) (lt : t < c.tasks) (quiet : IsQuiet c w next) where
     kept : (p : Option Phase) → Fits c t (held_at (w.views t)) (holds_level (w.views t)) p → (next.views t).phase ≡ p →
         (w.views t).phase ≡ p → CauseOf c t w earlier p → CauseOf c t next (w ∷ earlier) p
     kept None f e was h = tt
@@ -35,7 +35,7 @@ module _ (c : Config) (w : World) (earlier : List World) (good : IsGood c w) (ho
         (subst (λ (v : View). CauseOf c t w earlier v.phase) (sym same) (holds t lt))
 
   same_causes : Causes c w (w ∷ earlier)
-  same_causes t lt = alone w good t lt (λ m a b. refl) refl
+  same_causes t lt = alone w good t lt (record { mounts = λ m a b. refl; levels = λ i a b. refl }) refl
 
   step_causes : (u : ℕ) → u < c.tasks → (hook : HookAnswer) (p : Option Phase) → (w.views u).phase ≡ p → IsGood c (step_of w u hook p) →
       Causes c (step_of w u hook p) (w ∷ earlier)
@@ -51,7 +51,10 @@ module _ (c : Config) (w : World) (earlier : List World) (good : IsGood c w) (ho
             ((phase_keeps c phase).causes w earlier good u lu hook e after (ap (λ (x : View). x.phase) is)
             (subst (CauseOf c u w earlier) e (holds u lu))) in
             subst (λ y. CauseOf c y next (w ∷ earlier) (next.views y).phase) (sym h.1) there
-        | inr h ↦ alone next after t lt (λ m a b. (phase_keeps c phase).quiet w good u lu hook m e a b) (update_off w.views u v t h.1)
+        | inr h ↦ alone next after t lt (record {
+          mounts = λ m a b. (phase_keeps c phase).quiet w good u lu hook m e a b;
+          levels = λ i a b. (phase_keeps c phase).level_quiet w good u lu hook i e a b;
+        }) (update_off w.views u v t h.1)
       ]
 
   first_causes : (u : ℕ) (op : Op) (next : World) → CauseOf c u next (w ∷ earlier) (Some (first_phase c u op))
@@ -68,7 +71,7 @@ module _ (c : Config) (w : World) (earlier : List World) (good : IsGood c w) (ho
             let there : CauseOf c u next (w ∷ earlier) (next.views u).phase =
             subst (CauseOf c u next (w ∷ earlier)) (sym (ap (λ (x : View). x.phase) is)) (first_causes u op next) in
             subst (λ y. CauseOf c y next (w ∷ earlier) (next.views y).phase) (sym h.1) there
-        | inr h ↦ alone next after t lt (λ m a b. refl) (update_off w.views u v t h.1)
+        | inr h ↦ alone next after t lt (record { mounts = λ m a b. refl; levels = λ i a b. refl }) (update_off w.views u v t h.1)
       ]
 
   pub happens_causes : (e : Entry) → IsGood c (happens c w e) → Causes c (happens c w e) (w ∷ earlier)

@@ -28,16 +28,18 @@ use Rattle.gate_world.specs.Worlds.{World, Entry, Begins, Steps, after_begin, be
 use Rattle.gate_world.specs.Shown.{shown}
 use Rattle.gate_counts.specs.Gates.{below, counted as counted_of}
 use Rattle.gate_counts.specs.Levels.{level_as_gate, processor_of as level_processor}
-use Rattle.gate_world.specs.Rules.{role_of, at_mount, MountHoldsIn, LevelHoldsIn, IsSteady, ViewFits, Part, Owner, Superblock, Stages, Fitting, AtMount, Holds, IsGood, Moves, owns, Known, relied, Relying, Nodes, AtLevel, SyncAt, Sections}
+use Rattle.gate_world.specs.Rules.{role_of, at_mount, MountHoldsIn, LevelHoldsIn, IsSteady, ViewFits, Part, Owner, Stages, Marks, Fitting, AtMount, Holds, IsGood, Moves, owns, Known, Nodes, AtLevel, SyncAt, Sections, marks_of}
 use Rattle.gate_world.specs.Headline.{SumsHold, IdleSumsHold}
 use Rattle.schedule_laws.proofs.Layers.{phase_keeps, op_keeps}
 use Rattle.schedule_laws.proofs.Beginnings.{MayBegin, may_begin, first_fits}
-use Rattle.gate_frames.proofs.Frames.{view_as, left_alone, shown_still, level_view_as}
+use Rattle.gate_frames.proofs.Frames.{view_as, left_alone, shown_still, level_view_as, marks_as}
 use Rattle.gate_frames.proofs.Loads.{steady}
 use Rattle.gated_tree.specs.Nodes.{IsNode}
 use Rattle.cpu_words.specs.Words.{opening_words}
 use Rattle.gate_world.specs.Levels.{inside, at_level, level_role_of, sync_role_of}
 use Rattle.level_laws.proofs.Whole.{opening_is_right}
+use Rattle.stage_laws.proofs.Whole.{opening_is_right as stages_open}
+use Rattle.gate_world.specs.Stages.{stage_role_of}
 
 pub both : (a b : Bool) → (a && b) ≡ true → (a ≡ true) × (b ≡ true)
 both true b h = (refl, h)
@@ -67,15 +69,16 @@ module _ (c : Config) (lim : IsWithin c) (w : World) (good : IsGood c w) (t : �
       steady (idle_is (w.views t).phase h.idle) ((op_keeps c op).steady t) in
       left_alone c w t lt Owner w.words (begun_view (w.views t) op (first_phase c t op)) (refl, refl) (same.owns_same, same.remounts_same)
       (good Owner)
-  begun_good op h Superblock = good Superblock
-  begun_good op h Stages = good Stages
+  begun_good op h Stages =
+      left_alone c w t lt Stages w.words (begun_view (w.views t) op (first_phase c t op)) (refl, refl, refl, refl)
+      ((op_keeps c op).aside t ∙ sym (ap stage_role_of (idle_is (w.views t).phase h.idle))) (good Stages)
+  begun_good op h Marks =
+      left_alone c w t lt Marks w.words (begun_view (w.views t) op (first_phase c t op)) (refl, refl, refl)
+      ((op_keeps c op).aside t ∙ sym (ap stage_role_of (idle_is (w.views t).phase h.idle))) (good Marks)
   begun_good op h Known = λ x lx.
       each_updated (λ y (u : View). owns u.phase ≡ 1 → KnowsWords w.words u.trace) w.views t
       (begun_view (w.views t) op (first_phase c t op)) x
       (λ o word value k. absurd (true≢false (ap is_some (sym k)))) (λ ne. good Known x lx)
-  begun_good op h Relying =
-      left_alone c w t lt Relying w.words (begun_view (w.views t) op (first_phase c t op)) (refl, refl)
-      ((op_keeps c op).relies t ∙ sym (ap relied (idle_is (w.views t).phase h.idle))) (good Relying)
   begun_good op h Nodes = good Nodes
   begun_good op h (AtLevel i) =
       left_alone c w t lt (AtLevel i) w.words (begun_view (w.views t) op (first_phase c t op)) (refl, refl, refl)
@@ -159,6 +162,10 @@ module _ (c : Config) (lim : IsWithin c) where
         })
       ]
 
+  -- none has a mark
+  opening_clean : (n : ℕ) → marks_of opening_words n ≡ 0
+  opening_clean n = elim (eqb_tells n 0) [ inl h ↦ rw (h.0, update) refl | inr h ↦ rw (h.0, update) refl ]
+
   pub opening_good : (part : Part) → Holds c opening part
   opening_good Owner = record {
     locked = λ t lt h. absurd (omega arith);
@@ -168,12 +175,11 @@ module _ (c : Config) (lim : IsWithin c) where
         omega arith;
     remounting = sym (zeros c.tasks);
   }
-  opening_good Superblock = omega arith
-  opening_good Stages = omega arith
+  opening_good Stages = (stages_open c.tasks c.nodes).stages
+  opening_good Marks = marks_as refl refl (fun_ext opening_clean) refl (stages_open c.tasks c.nodes).marks
   opening_good Known = λ t lt o. absurd (omega (arith, o))
   opening_good Fitting = λ t lt. tt
-  opening_good Relying = λ t lt. (tt, tt)
-  opening_good Nodes = opening_nodes
+  opening_good Nodes = (opening_nodes, refl)
   opening_good (AtLevel i) = λ l1 l3. record { known = omega arith; gate = gate_begins c.tasks c.processors (λ j. 0 ≡ 1) }
   opening_good (SyncAt i) = λ l1 l3. (opening_is_right c.tasks).level
   opening_good Sections = λ t lt. refl

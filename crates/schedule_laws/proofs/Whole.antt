@@ -12,7 +12,7 @@ use Rattle.gate_world.specs.declared.config.Config.{Config}
 use Rattle.gate_world.specs.Configs.{IsWithin, model_limits}
 use Rattle.gate_world.specs.Worlds.{World, Entry, opening}
 use Rattle.gate_world.specs.Rules.{IsGood}
-use Rattle.gate_world.specs.Headline.{world_after, actions_so_far, MovesTheModel, IsOneRun, NobodyIsInside, SumsHold, IdleSumsHold, NothingIsLeft, ViewTells, OperationsAreKept}
+use Rattle.gate_world.specs.Headline.{world_after, actions_so_far, MovesTheModel, IsOneRun, NobodyIsInside, SumsHold, IdleSumsHold, NothingIsLeft, FreezeIsUnderWay, ViewTells, OperationsAreKept}
 use Rattle.gate_world.specs.Courses.{course_of, IsTraced, FollowsOrder}
 use Rattle.gate_world.specs.Traces.{Tells, actions_of}
 use Rattle.gate_world.specs.declared.operations.Op.{Op}
@@ -31,7 +31,7 @@ use Rattle.schedule_laws.proofs.Entries.{TrailHolds, trail_holds, cause_tells}
 use Rattle.schedule_laws.proofs.Schedule.{opening_good, opening_shown, happens_keeps, run_keeps, gate_sums, idle_sums}
 use Rattle.schedule_laws.proofs.Lists.{run_lists}
 use Rattle.schedule_laws.proofs.Snapshots.{run_moments}
-use Rattle.schedule_laws.proofs.Rests.{at_rest}
+use Rattle.schedule_laws.proofs.Rests.{at_rest, a_freeze_is_under_way}
 
 module _ (c : Config) (lim : IsWithin c) where
   pub whole_rule : (es : List Entry) → IsGood c (world_after c es)
@@ -69,6 +69,9 @@ module _ (c : Config) (lim : IsWithin c) where
 
   pub whole_rests : (es : List Entry) → NothingIsLeft c (world_after c es)
   whole_rests es = at_rest c (world_after c es) (whole_rule es)
+
+  pub whole_freezes : (es : List Entry) → FreezeIsUnderWay c (world_after c es)
+  whole_freezes es = a_freeze_is_under_way c (world_after c es) (whole_rule es)
 
   pub whole_waits : (es : List Entry) → EachWaitHasCulprit c es
   whole_waits es t phase again hook lt at e =
