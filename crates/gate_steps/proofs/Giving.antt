@@ -15,7 +15,7 @@ use Rattle.gate_world.specs.declared.config.Config.{Config}
 use Rattle.gate_world.specs.declared.views.View.{View}
 use Rattle.gate_world.specs.Worlds.{World}
 use Rattle.cpu_words.specs.Words.{Words}
-use Rattle.gate_world.specs.Rules.{IsGood, Part, Owner, Fitting, AtMount, SameWords, SameView, Holds, owns, Known, Relying, AtLevel, SyncAt, Sections}
+use Rattle.gate_world.specs.Rules.{IsGood, Part, Owner, Fitting, AtMount, SameWords, SameView, Holds, owns, Known, Stages, Marks, AtLevel, SyncAt, Sections}
 use Rattle.gate_frames.proofs.Frames.{left_alone, shown_still}
 use Rattle.gate_steps.specs.declared.seating.Numbered.{Numbered}
 use Rattle.gate_steps.specs.Seating.{SeatItems, numbered, one_if, times, times_all, HaveViews, Dealt, without, view_in, renewed, kept_of, given_of, Spares}
@@ -140,7 +140,9 @@ renewed_part c w good n lt Known = λ x lx.
     (λ o word value k. absurd (true≢false (ap is_some (sym k)))) (λ ne. good Known x lx)
 renewed_part c w good n lt Owner = left_alone c w n lt Owner w.words (renewed (w.views n)) (refl, refl) (refl, refl) (good Owner)
 renewed_part c w good n lt Fitting = left_alone c w n lt Fitting w.words (renewed (w.views n)) tt (refl, refl, refl) (good Fitting)
-renewed_part c w good n lt Relying = left_alone c w n lt Relying w.words (renewed (w.views n)) (refl, refl) refl (good Relying)
+renewed_part c w good n lt Stages =
+    left_alone c w n lt Stages w.words (renewed (w.views n)) (refl, refl, refl, refl) refl (good Stages)
+renewed_part c w good n lt Marks = left_alone c w n lt Marks w.words (renewed (w.views n)) (refl, refl, refl) refl (good Marks)
 renewed_part c w good n lt (AtLevel i) =
     left_alone c w n lt (AtLevel i) w.words (renewed (w.views n)) (refl, refl, refl) refl (good (AtLevel i))
 renewed_part c w good n lt (SyncAt i) =

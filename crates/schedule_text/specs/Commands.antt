@@ -5,7 +5,7 @@ use Rattle.freeze_levels.specs.declared.hooks.HookKind.{HookKind}
 use Rattle.freeze_levels.specs.declared.hooks.HookKind.TheVariants.{Sync, FreezeFs, UnfreezeFs, Reconfigure}
 use Rattle.schedule_text.specs.declared.commands.HookFailure.{HookFailure}
 use Rattle.schedule_text.specs.declared.commands.Verb.{Verb}
-use Rattle.schedule_text.specs.declared.commands.Verb.TheVariants.{Want, TryWant, Drop, Start, TryStart, End, WantWrite, DropWrite, Change, TryChange, Remount, Callback, Step, Run}
+use Rattle.schedule_text.specs.declared.commands.Verb.TheVariants.{Want, TryWant, Drop, Start, TryStart, End, WantWrite, DropWrite, Change, TryChange, Remount, Callback, Freeze, Thaw, Step, Run}
 
 -- the verb that a word names
 unfoldable pub verb_of : List ℕ → Option Verb
@@ -22,6 +22,8 @@ verb_of word =
     if bytes_eq word (codes "trychange") then Some TryChange else
     if bytes_eq word (codes "remount") then Some Remount else
     if bytes_eq word (codes "callback") then Some Callback else
+    if bytes_eq word (codes "freeze") then Some Freeze else
+    if bytes_eq word (codes "thaw") then Some Thaw else
     if bytes_eq word (codes "step") then Some Step else
     if bytes_eq word (codes "run") then Some Run else None
 
@@ -39,6 +41,8 @@ takes Change words = words == 4
 takes TryChange words = words == 4
 takes Remount words = words == 3
 takes Callback words = words == 3
+takes Freeze words = words == 2
+takes Thaw words = words == 2
 takes Step words = words == 2 || words == 3
 takes Run words = words == 2 || words == 4
 

@@ -61,6 +61,8 @@ pub enum Verb {
     TryChange,
     Remount,
     Callback,
+    Freeze,
+    Thaw,
     Step,
     Run,
 }
@@ -97,6 +99,10 @@ impl Verb {
             Some(Verb::Remount)
         } else if word == b"callback".as_slice() {
             Some(Verb::Callback)
+        } else if word == b"freeze".as_slice() {
+            Some(Verb::Freeze)
+        } else if word == b"thaw".as_slice() {
+            Some(Verb::Thaw)
         } else if word == b"step".as_slice() {
             Some(Verb::Step)
         } else if word == b"run".as_slice() {
@@ -116,6 +122,7 @@ impl Verb {
             }
             Verb::WantWrite | Verb::DropWrite | Verb::Change | Verb::TryChange => words == 4,
             Verb::Remount | Verb::Callback => words == 3,
+            Verb::Freeze | Verb::Thaw => words == 2,
             Verb::Step => words == 2 || words == 3,
             Verb::Run => words == 2 || words == 4,
         }

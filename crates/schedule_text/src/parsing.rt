@@ -149,6 +149,8 @@ fn arguments_of(verb: Verb, rest: &[u8], words: usize) -> Result<TaskCommand, Fa
         Verb::TryChange => change_of(rest, false),
         Verb::Remount => remount_of(rest),
         Verb::Callback => callback_of(rest),
+        Verb::Freeze => Ok(TaskCommand::Begin(Op::Freeze)),
+        Verb::Thaw => Ok(TaskCommand::Begin(Op::Thaw)),
         Verb::Step => {
             if words == 2 {
                 Ok(TaskCommand::Step { hook: Ok(()) })

@@ -40,7 +40,7 @@ fn ran(answer: Result<Reply, GateError>) -> Result<bool, GateError>
 
 impl Task {
     ghost use Rattle.gate_world.specs.Beginnings.{first_phase};
-    ghost use Rattle.gate_world.specs.declared.operations.Op.TheVariants.{Want as WantOp, ChangeMount, RemountSb, Start, WantWrite, Callback};
+    ghost use Rattle.gate_world.specs.declared.operations.Op.TheVariants.{Want as WantOp, ChangeMount, RemountSb, Start, WantWrite, Callback, Freeze, Thaw};
     ghost use Rattle.vfs_gates.specs.TaskStates.{IsFrom, own_number};
     ghost use Rattle.vfs_gates.specs.Runs.{the_reply, Called, Replies, Performs};
 
@@ -241,5 +241,39 @@ impl Task {
     {
         let remount = Op::RemountSb { read_only };
         outcome(self.perform_waiting(rt, gates, remount, hooks, read_only))
+    }
+
+    /// `freeze_super`: closes the three freeze levels, one after the other, waiting at each for who is inside, and freezes the file system.
+    /// While another task has `umount` it waits. Busy where the stage isn't SB_UNFROZEN. `FsHooks::sync` is asked once, with levels 1 and 2
+    /// closed and the dirty marks cleared, and `FsHooks::freeze_fs` once, with all levels closed; a superblock that is read-only is frozen at
+    /// once, and no hook asked. Hook where one fails, and then the levels are open and the file system is as it was, but for the dirty
+    /// marks. Order, where the task is inside a level, as `begin`. After an Ok nobody is inside a level, nor comes inside, until a thaw.
+    #[tactic(auto, using(crate::proofs::Running::was_told))]
+    pub fn freeze<R: Wait, H: FsHooks>(
+        &mut self,
+        rt: &R,
+        gates: &Gates,
+        hooks: &mut H,
+    ) -> Result<(), GateError>
+        requires { IsFrom self.old gates.now }
+        ensures { Performs Freeze self.old self.new result }
+    {
+        outcome(self.perform_waiting(rt, gates, Op::Freeze, hooks, false))
+    }
+
+    /// `thaw_super`: thaws a file system that any task has frozen, and reopens its levels, the highest first. While another task has
+    /// `umount` it waits. Invalid where the stage isn't SB_FREEZE_COMPLETE. `FsHooks::unfreeze_fs` is asked once, unless the superblock is
+    /// read-only; Hook where it fails, and then all stays frozen. Order, where the task is inside a level, as `begin`.
+    #[tactic(auto, using(crate::proofs::Running::was_told))]
+    pub fn thaw<R: Wait, H: FsHooks>(
+        &mut self,
+        rt: &R,
+        gates: &Gates,
+        hooks: &mut H,
+    ) -> Result<(), GateError>
+        requires { IsFrom self.old gates.now }
+        ensures { Performs Thaw self.old self.new result }
+    {
+        outcome(self.perform_waiting(rt, gates, Op::Thaw, hooks, false))
     }
 }
