@@ -129,8 +129,8 @@ module _ (c : Config) (lim : IsWithin c) (w : World) (good : IsGood c w) (t : �
       let s : RemountStep = SetsRemount held in
       let f : FitsHere s = here_fits c w good t lt x s e in
       let k : (w.words.stage ≡ 0) × (w.words.sb ≡ 0) = here_knows c w good t lt x s e in
-      let v : View = view_with (w.views t) (RemountWord, Store 1) w.words.remount hook (Go (Remounts (at_remount x (let_go held))), Some SbRo)
-      in
+      let v : View = view_with (w.views t) (RemountWord, Store 1) w.words.remount hook
+      (Go (Remounts (at_remount x (let_go held))), Some SbRo) in
       let after : PartsHold c w good t lt x s e (record w.words { remount = 1 }) v ×
       (shown c (record { words = record w.words { remount = 1 }; views = update w.views t v }) ≡ record (shown c w) { sb_ro = true }) =
       stores c w good t lt x s e refl (let_go held) v refl (refl, refl, refl, refl, refl, refl)
@@ -213,7 +213,8 @@ module _ (c : Config) (lim : IsWithin c) (w : World) (good : IsGood c w) (t : �
       let k : (w.words.stage ≡ 0) × (w.words.sb ≡ 0) = here_knows c w good t lt x s e in
       let set : w.words.remount ≡ 1 = remount_stands c w good t lt (ap remounts e) in
       let v : View = view_with (w.views t) (SbFlags, Store 1) w.words.sb (Ok answer) (Go (Remounts (at_remount x ClearsRemount)), None) in
-      stores c w good t lt x s e refl ClearsRemount v refl (refl, refl, refl, refl, refl, refl) (f.0, f.1, f.2, f.3, f.4, tt) w.words.remount 1
+      stores c w good t lt x s e refl ClearsRemount v refl (refl, refl, refl, refl, refl, refl) (f.0, f.1, f.2, f.3, f.4, tt)
+      w.words.remount 1
       (w.words.remount == 1 || w.words.sb == 1) (not_frozen w.words w.words.remount 1 k.0) (refl, sym set)
       (stage_holds c w good t lt x s e (record w.words { sb = 1 }) v (StoresReadOnly x.nodes)
       (ap stage_role_of e, omega (arith, f.3), refl)) (rw (eq-eqb w.words.remount 1 set) refl)
@@ -278,7 +279,8 @@ module _ (c : Config) (lim : IsWithin c) (w : World) (good : IsGood c w) (t : �
       (shown c (record { words = record w.words { sb = 0 }; views = update w.views t v }) ≡ record (shown c w) { sb_ro = false }) =
       stores c w good t lt x s e refl s' v refl (refl, refl, refl, refl, refl, refl) (f.0, f.1, f.2, f.3, f.4, tt) w.words.remount 0 false
       (not_frozen w.words w.words.remount 0 k.0) (refl, omega (arith, clear, (good Owner).bit))
-      (stage_holds c w good t lt x s e (record w.words { sb = 0 }) v (StoresWritable None) (ap stage_role_of e, refl)) (rw (ne_eqb w.words.remount 1 clear) refl)
+      (stage_holds c w good t lt x s e (record w.words { sb = 0 }) v (StoresWritable None) (ap stage_role_of e, refl))
+      (rw (ne_eqb w.words.remount 1 clear) refl)
       (λ m lm. mount_rests s e m lm refl w.words.remount 0 (λ q z. absurd (clear q)) (λ q. absurd (omega (arith, q)))) in
       (after.0, ((lt, k.0), after.1))
   sets_writable (Err code) e = gives_back (Err code) SetsWritable e (Err (Hook code)) refl refl (λ m. refl) (Some 0) None refl
@@ -326,7 +328,8 @@ module _ (c : Config) (lim : IsWithin c) (w : World) (good : IsGood c w) (t : �
               (event (Some (Clean n)) refl refl).0,
               (
                 (lt, (f.5.1, after.0, inr (inr (rw (eq-eqb w.words.remount 1 set) refl)))),
-                (event (Some (Clean n)) refl refl).1 ∙ (λ j. record (shown c w) { tree = update (λ k. node_shown (w.words.node k)) n (after.1 j) }),
+                (event (Some (Clean n)) refl refl).1 ∙
+                    (λ j. record (shown c w) { tree = update (λ k. node_shown (w.words.node k)) n (after.1 j) }),
               ),
             )
         | inr h ↦
@@ -335,7 +338,8 @@ module _ (c : Config) (lim : IsWithin c) (w : World) (good : IsGood c w) (t : �
               (event None refl refl).0,
               (event None refl refl).1 ∙
                   (λ j. record (shown c w) {
-                    tree = (ap (λ y. update (λ k. node_shown (w.words.node k)) n (node_shown y)) clean ∙ update_same (λ k. node_shown (w.words.node k)) n) j;
+                    tree = (ap (λ y. update (λ k. node_shown (w.words.node k)) n (node_shown y)) clean ∙
+                        update_same (λ k. node_shown (w.words.node k)) n) j;
                   }),
             )
       ]
@@ -368,7 +372,8 @@ module _ (c : Config) (lim : IsWithin c) (w : World) (good : IsGood c w) (t : �
             umount_changes c w good t lt x Locks e (x.task + 1) v (refl, refl, refl, refl, refl, refl) f
             (locks_umount c w good t lt (x.task + 1) v h.1 (omega (arith, f.0)) refl (sym (ap remounts e)))
             (stage_holds c w good t lt x Locks e (record w.words { umount = x.task + 1 }) v LocksStage
-            (ap stage_role_of e, nobody_owns c w good h.1, refl)) (record { counts_not = λ i. refl; apart = λ i. refl; outside = refl }) (λ m. refl) (λ i. refl))
+            (ap stage_role_of e, nobody_owns c w good h.1, refl))
+            (record { counts_not = λ i. refl; apart = λ i. refl; outside = refl }) (λ m. refl) (λ i. refl))
         | inr h ↦ rw h.0 (
             let v : View = tried hook w.words.umount Locks in
             umount_changes c w good t lt x Locks e w.words.umount v (refl, refl, refl, refl, refl, refl) f
@@ -399,16 +404,18 @@ module _ (c : Config) (lim : IsWithin c) (w : World) (good : IsGood c w) (t : �
   begins_loop : (m : ℕ) → loop_role (has_mount no_mounts m) (nat_lt m 0) ≡ Out
   begins_loop m = rw (none_held no_mounts refl m, le-ltb m 0 (omega arith)) refl
 
-  -- the state was found, as it was asked for or not
+  -- what is to hold of a step for which the stage and the flags were found
   abbrev FromState : RemountStep → Type 0
   FromState s = Stays s 0 × GoesOn (Owning (Some 0) None) x.nodes s w.words.stage w.words.sb (marks_of w.words) ×
       ((m : ℕ) → remount_role m s ≡ Out)
 
   -- it goes on as an owner that relies on this
   from_state : (stage sb : Option ℕ) → IsKnown stage w.words.stage → IsKnown sb w.words.sb →
-      IsAlike (Owning (Some 0) None) (Owning stage sb) × (IsKnown stage w.words.stage × IsKnown sb w.words.sb) × CleanBelow 0 (marks_of w.words)
+      IsAlike (Owning (Some 0) None) (Owning stage sb) × (IsKnown stage w.words.stage × IsKnown sb w.words.sb) ×
+      CleanBelow 0 (marks_of w.words)
   from_state stage sb a b = owner_on (Some 0) None stage sb w.words.stage w.words.sb (marks_of w.words) a b
 
+  -- it holds where the state was found, as it was asked for or not
   state_stays : (ro b : Bool) → w.words.stage ≡ 0 → (b ≡ false → w.words.sb ≡ 0) → FromState (remount_from ro b)
   state_stays true true z none = ((refl, refl), from_state None None tt tt, λ m. refl)
   state_stays true false z none = ((refl, refl), from_state (Some 0) (Some 0) z (none refl), begins_loop)

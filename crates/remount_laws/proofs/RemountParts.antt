@@ -117,7 +117,7 @@ remount_closes_none i nodes s = refl
 
 module _ (c : Config) (w : World) (good : IsGood c w) (t : ℕ) (lt : t < c.tasks) (x : Remount) (s : RemountStep)
     (e : (w.views t).phase ≡ Some (Remounts (at_remount x s))) where
-  -- what its phase and the rule say before its event
+  -- its phase fits its task's accesses
   pub here_fits : PhaseFits c t (held_at (w.views t)) (holds_level (w.views t)) (Remounts (at_remount x s))
   here_fits = subst (Fits c t (held_at (w.views t)) (holds_level (w.views t))) e (good Fitting t lt)
 
@@ -340,7 +340,8 @@ module _ (c : Config) (w : World) (good : IsGood c w) (t : ℕ) (lt : t < c.task
       let v : View = view_with (w.views t) (name, Load) (read w.words name) hook (Go (Remounts (at_remount x s')), None) in
       let f : PhaseFits c t (held_at (w.views t)) (holds_level (w.views t)) (Remounts (at_remount x s)) = here_fits in
       subst (λ ws. let next_world : World = record { words = ws; views = update w.views t v } in
-      ((part : Part) → is_known_part part ≡ false → Holds c next_world part) × (shown c next_world ≡ shown c w)) (sym (load_same w.words name))
+      ((part : Part) → is_known_part part ≡ false → Holds c next_world part) × (shown c next_world ≡ shown c w))
+      (sym (load_same w.words name))
       (loads o s' v refl (
         refl,
         refl,
