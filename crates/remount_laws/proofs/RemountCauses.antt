@@ -56,6 +56,26 @@ module _ (w : World) (t : ℕ) (x : Remount) where
   remount_counts hook ClearsRemount = refl
   remount_counts hook (Releases answer) = refl
 
+  -- and the levels
+  pub remount_levels : (hook : HookAnswer) (s : RemountStep) →
+      (after_step w t (Remounts (at_remount x s)) hook).words.level ≡ w.words.level
+  remount_levels hook Locks = refl
+  remount_levels hook LoadsStage = refl
+  remount_levels hook LoadsSuperblock = refl
+  remount_levels (Ok answer) SetsWritable = refl
+  remount_levels (Err code) SetsWritable = refl
+  remount_levels hook (LoadsFlags m held) = refl
+  remount_levels hook (SetsHold m held) = refl
+  remount_levels hook (Sums m held sum) = ap (λ (ws : Words). ws.level) (load_same w.words (MountCount m sum.words))
+  remount_levels hook (SetsRemount held) = refl
+  remount_levels hook (ClearsHold held) = refl
+  remount_levels hook (GivesUp m held) = refl
+  remount_levels hook (ClearsMark n) = refl
+  remount_levels (Ok answer) SetsReadOnly = refl
+  remount_levels (Err code) SetsReadOnly = refl
+  remount_levels hook ClearsRemount = refl
+  remount_levels hook (Releases answer) = refl
+
 -- where no word of a sum is to be loaded, what was counted at some mount stays so
 some_stays : (c : Config) (t : ℕ) (w : World) (earlier : List World) → words_read (w.views t).phase ≡ None → SomeWasCounted c t earlier →
     SomeWasCounted c t (w ∷ earlier)

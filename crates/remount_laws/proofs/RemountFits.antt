@@ -71,7 +71,11 @@ module _ (c : Config) where
 
   module _ (lim : IsWithin c) where
     pub let_go_fits : (held : MountSet) → AllBelow c.mounts held → RemountFits c (let_go held)
-    let_go_fits held h = elim (eqb_tells held.bits 0) [ inl z ↦ rw z.0 (omega arith, omega (arith, lim.nodes)) | inr z ↦ rw z.0 (omega (arith, z.1), h) ]
+    let_go_fits held h =
+        elim (eqb_tells held.bits 0) [
+          | inl z ↦ rw z.0 (omega arith, omega (arith, lim.nodes))
+          | inr z ↦ rw z.0 (omega (arith, z.1), h)
+        ]
 
     pub state_fits : (wanted found : Bool) → RemountFits c (remount_from wanted found)
     state_fits true true = tt
@@ -138,7 +142,8 @@ module _ (c : Config) where
       remount_goes x Locks found hook f =
           by_bool (found == 0) (λ b. NextFits (if b then Go (at_remount x LoadsStage) else Wait (at_remount x Locks))) f f
       remount_goes x LoadsStage found hook f =
-          by_bool (found == 0) (λ b. NextFits (if b then Go (at_remount x LoadsSuperblock) else Go (at_remount x (Releases (Err Busy))))) f f
+          by_bool (found == 0)
+          (λ b. NextFits (if b then Go (at_remount x LoadsSuperblock) else Go (at_remount x (Releases (Err Busy))))) f f
       remount_goes x LoadsSuperblock found hook f = (f.0, f.1, f.2, f.3, f.4, state_fits x.read_only (not (found == 0)))
       remount_goes x SetsWritable found (Ok answer) f = f
       remount_goes x SetsWritable found (Err code) f = tt

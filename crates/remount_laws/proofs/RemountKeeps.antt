@@ -17,7 +17,7 @@ use Rattle.gate_frames.proofs.Snapshots.{completes_none}
 use Rattle.trace_laws.proofs.Says.{tells, is_short}
 use Rattle.remount_laws.proofs.RemountEvents.{remount_keeps}
 use Rattle.remount_laws.proofs.RemountFits.{remount_there, remount_acts, remount_goes}
-use Rattle.remount_laws.proofs.RemountCauses.{remount_counts, remount_stays, remount_own}
+use Rattle.remount_laws.proofs.RemountCauses.{remount_counts, remount_levels, remount_stays, remount_own}
 use Rattle.remount_laws.proofs.RemountWaits.{remount_waits}
 use Rattle.remount_laws.proofs.RemountTraces.{RemountAt, remount_kept, remount_restores}
 
@@ -32,7 +32,8 @@ remount_phase c x = record {
   agrees = λ t f g h k mounts levels fits.
       (fits.0, fits.1, fits.2, fits.3, rw (← none_agree c t f g h k mounts levels) fits.4, fits.5);
   quiet = λ w good t lt hook m e before after. ap (λ f. f m) (remount_counts w t x hook x.step);
-  stays = λ w next earlier after t f e was quiet h. remount_stays c t w next earlier after x x.step f.5 e was quiet h;
+  level_quiet = λ w good t lt hook i e before after. ap (λ f. f i) (remount_levels w t x hook x.step);
+  stays = λ w next earlier after t f e was quiet h. remount_stays c t w next earlier after x x.step f.5 e was quiet.mounts h;
   causes = λ w earlier good t lt hook e after is h.
       let f : Fits c t (held_at (w.views t)) (holds_level (w.views t)) (Some (Remounts x)) =
       subst (Fits c t (held_at (w.views t)) (holds_level (w.views t))) e (good Fitting t lt) in
@@ -48,7 +49,7 @@ remount_op c ro = record {
   fits = λ t held levels there order room. (refl, refl, refl, refl, order, tt);
   no_role = λ t y. refl;
   steady = λ t. record { owns_same = refl; remounts_same = refl; closing_same = λ i. refl };
-  relies = λ t. refl;
+  aside = λ t. refl;
   counts_not = λ t i. refl;
   apart = λ t i. refl;
   outside = λ t. refl;

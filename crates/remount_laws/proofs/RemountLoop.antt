@@ -4,10 +4,14 @@ use Rattle.mount_counts.specs.declared.remounts.Remount.{Remount}
 use Rattle.mount_laws.proofs.MountLaws.{sets_hold as mount_sets_hold, is_skipped, sums_on, sums_to_none, sums_to_some, is_left, SeeksNone}
 use Rattle.gate_world.specs.Rules.{AtMount, IsGood, MountHoldsIn, role_of, owns}
 use Rattle.mount_counts.specs.Roles.{Out, Summing, has_hold, hold_bit}
-use Rattle.remount_laws.proofs.RemountParts.{RemountKeeps, Stays, here_fits, here_relies, load_event, role_was, Mount, mount_stays, flags_change}
+use Rattle.remount_laws.proofs.RemountParts.{RemountKeeps, Stays, GoesOn, in_loop, owner_on, alike_same, here_fits, here_knows, load_event, role_was, Mount, mount_stays, flags_change}
 use Rattle.std.proofs.Common.{refl, sym, ap, subst, inl, inr, true, false, arith, suc, ℕ, Bool, ◌≡◌, ◌⊎◌, ◌<◌, nat_lt, ◌==◌, ◌+◌, if◌then◌else◌, Err, Some, bit_or, ◌∙◌, ltb-true, add-one, None, ltb-false, eq-eqb, ne_eqb}
 use Rattle.mount_counts.specs.declared.sets.MountSet.{MountSet}
 use Rattle.gate_world.specs.declared.config.Config.{Config}
+use Rattle.gate_world.specs.Stages.{remount_stage_role}
+use Rattle.stage_laws.specs.Roles.{Remounting, CleanBelow}
+use Rattle.stage_laws.specs.Events.{IsAlike}
+use Rattle.gate_world.specs.Rules.{marks_of}
 use Rattle.gate_world.specs.Remounts.{giving_role, loop_role, AllBelow, remount_role}
 use Rattle.gate_world.specs.Configs.{IsWithin}
 use Rattle.gate_world.specs.Worlds.{World}
@@ -36,23 +40,59 @@ use Rattle.access_model.specs.declared.replies.Next.TheVariants.{Go}
 use Rattle.mount_laws.proofs.Sets.{joins_here, joins_there}
 
 -- what stays where the loop goes on, where holds are to be cleared, and where marks are
-past_mount_stays : (mounts m : ℕ) (held : MountSet) (stage sb : ℕ) → stage ≡ 0 → sb ≡ 0 → Stays (past_mount mounts m held) 0 stage sb
-past_mount_stays mounts m held stage sb a b =
-    by_bool (nat_lt (m + 1) mounts) (λ z. Stays (if z then LoadsFlags (m + 1) held else SetsRemount held) 0 stage sb)
-    (refl, refl, a, b) (refl, refl, a, b)
+past_mount_stays : (mounts m : ℕ) (held : MountSet) → Stays (past_mount mounts m held) 0
+past_mount_stays mounts m held =
+    by_bool (nat_lt (m + 1) mounts) (λ z. Stays (if z then LoadsFlags (m + 1) held else SetsRemount held) 0) (refl, refl) (refl, refl)
 
-pub let_go_stays : (held : MountSet) (stage sb : ℕ) → stage ≡ 0 → sb ≡ 0 → Stays (let_go held) 1 stage sb
-let_go_stays held stage sb a b =
-    by_bool (held.bits == 0) (λ z. Stays (if z then ClearsMark 1 else ClearsHold held) 1 stage sb) (refl, refl, a, b) (refl, refl, a, b)
+pub let_go_stays : (held : MountSet) → Stays (let_go held) 1
+let_go_stays held =
+    by_bool (held.bits == 0) (λ z. Stays (if z then ClearsMark 1 else ClearsHold held) 1) (refl, refl) (refl, refl)
 
-pub give_up_stays : (m : ℕ) (held : MountSet) (stage sb : ℕ) → stage ≡ 0 → sb ≡ 0 → Stays (give_up m held) 0 stage sb
-give_up_stays m held stage sb a b =
-    by_bool (held.bits == 0) (λ z. Stays (if z then Releases (Err Busy) else GivesUp m held) 0 stage sb) (refl, refl, tt, tt) (refl, refl, a, b)
+pub give_up_stays : (m : ℕ) (held : MountSet) → Stays (give_up m held) 0
+give_up_stays m held =
+    by_bool (held.bits == 0) (λ z. Stays (if z then Releases (Err Busy) else GivesUp m held) 0) (refl, refl) (refl, refl)
 
-pub past_node_stays : (nodes n stage sb : ℕ) → stage ≡ 0 → sb ≡ 0 → Stays (past_node nodes n) 1 stage sb
-past_node_stays nodes n stage sb a b =
-    by_bool (nat_lt (n + 1) nodes) (λ z. Stays (if z then ClearsMark (n + 1) else SetsReadOnly) 1 stage sb) (refl, refl, a, b)
-    (refl, refl, a, b)
+pub past_node_stays : (nodes n : ℕ) → Stays (past_node nodes n) 1
+past_node_stays nodes n =
+    by_bool (nat_lt (n + 1) nodes) (λ z. Stays (if z then ClearsMark (n + 1) else SetsReadOnly) 1) (refl, refl) (refl, refl)
+
+-- the role at the stage where holds are to be cleared under `remount`, and where the mark of a node was
+pub let_go_stage : (nodes : ℕ) (held : MountSet) → remount_stage_role nodes (let_go held) ≡ Remounting 0 1
+let_go_stage nodes held =
+    by_bool (held.bits == 0) (λ z. remount_stage_role nodes (if z then ClearsMark 1 else ClearsHold held) ≡ Remounting 0 1) refl refl
+
+pub past_node_stage : (nodes n : ℕ) → n < nodes → remount_stage_role nodes (past_node nodes n) ≡ Remounting 0 (suc n)
+past_node_stage nodes n there =
+    elim (cases_Bool (nat_lt (n + 1) nodes)) [
+      | inl z ↦ rw z (ap (λ k. Remounting 0 k) (add-one n))
+      | inr z ↦
+          let last : nodes ≡ suc n = omega (arith, ltb-false (n + 1) nodes z, there) in
+          rw z (ap (λ k. Remounting 0 k) last)
+    ]
+
+-- a remount in its loop, or at the end of one, goes on at stage 0 of a writable superblock
+module _ (nodes stage sb : ℕ) (dirty : ℕ → ℕ) (a : stage ≡ 0) (b : sb ≡ 0) where
+  -- to another step of its loop
+  pub loop_on : IsAlike in_loop in_loop × ((stage ≡ 0) × (sb ≡ 0)) × CleanBelow 0 dirty
+  loop_on = owner_on (Some 0) (Some 0) (Some 0) (Some 0) stage sb dirty a b
+
+  -- past a mount
+  past_mount_on : (mounts m : ℕ) (held : MountSet) → GoesOn in_loop nodes (past_mount mounts m held) stage sb dirty
+  past_mount_on mounts m held =
+      by_bool (nat_lt (m + 1) mounts) (λ z. GoesOn in_loop nodes (if z then LoadsFlags (m + 1) held else SetsRemount held) stage sb dirty)
+      loop_on loop_on
+
+  -- where it gives up
+  pub give_up_on : (m : ℕ) (held : MountSet) → GoesOn in_loop nodes (give_up m held) stage sb dirty
+  give_up_on m held =
+      by_bool (held.bits == 0) (λ z. GoesOn in_loop nodes (if z then Releases (Err Busy) else GivesUp m held) stage sb dirty)
+      (owner_on (Some 0) (Some 0) None None stage sb dirty tt tt) loop_on
+
+  -- where holds are to be cleared under `remount`
+  pub let_go_on : (held : MountSet) → CleanBelow 1 dirty → GoesOn (Remounting 0 1) nodes (let_go held) stage sb dirty
+  let_go_on held clean =
+      let there : IsAlike (Remounting 0 1) (Remounting 0 1) × ((stage ≡ 0) × (sb ≡ 0)) × CleanBelow 1 dirty = (alike_same, (a, b), clean) in
+      by_bool (held.bits == 0) (λ z. GoesOn (Remounting 0 1) nodes (if z then ClearsMark 1 else ClearsHold held) stage sb dirty) there there
 
 -- a mount that is held is empty before and after a sum that was not 0, but that of the sum; one that isn't held is left
 giving_or_left : (a b : Bool) → (giving_role false a ≡ loop_role a b) ⊎
@@ -83,12 +123,13 @@ module _ (c : Config) (lim : IsWithin c) (w : World) (good : IsGood c w) (t : �
   loads_flags m held e =
       let s : RemountStep = LoadsFlags m held in
       let f : FitsHere s = here_fits c w good t lt x s e in
-      let k : (w.words.stage ≡ 0) × (w.words.sb ≡ 0) = here_relies c w good t lt x s e in
+      let k : (w.words.stage ≡ 0) × (w.words.sb ≡ 0) = here_knows c w good t lt x s e in
       let g : MountHoldsIn c w m = good (AtMount m) f.5.0 in
       let out : loop_role (has_mount held m) (nat_lt m m) ≡ Out = out_here m held f.5.1 in
       elim (cases_Bool (has_flag (w.words.flags m) 1)) [
         | inl h ↦ rw h (load_event c w good t lt x s e (MountFlags m) hook (past_mount x.mounts m held) refl
-            (past_mount_stays x.mounts m held w.words.stage w.words.sb k.0 k.1)
+            (past_mount_stays x.mounts m held)
+            (past_mount_on x.nodes w.words.stage w.words.sb (marks_of w.words) k.0 k.1 x.mounts m held)
             (past_mount_fits c x.mounts m held f.2 f.5.0 (f.5.1.0, λ n q. omega (arith, f.5.1.1 n q)))
             (λ n ln. subst (Mount c w good t lt x s e n (w.words.flags n) w.words.remount w.words.sb)
             (sym (past_mount_role x.mounts m held n (omega (arith, f.2, ln))))
@@ -102,7 +143,8 @@ module _ (c : Config) (lim : IsWithin c) (w : World) (good : IsGood c w) (t : �
               | inr q ↦ mount_stays c w good t lt x s e n ln (loop_role (has_mount held n) (nat_lt n (m + 1)))
                   (ap (loop_role (has_mount held n)) (passed_there m n q.1))
             ])))
-        | inr h ↦ rw h (load_event c w good t lt x s e (MountFlags m) hook (SetsHold m held) refl (refl, refl, k.0, k.1) f.5
+        | inr h ↦ rw h (load_event c w good t lt x s e (MountFlags m) hook (SetsHold m held) refl (refl, refl)
+            (loop_on x.nodes w.words.stage w.words.sb (marks_of w.words) k.0 k.1) f.5
             (λ n ln. mount_stays c w good t lt x s e n ln (remount_role n (SetsHold m held)) refl))
       ]
 
@@ -111,7 +153,7 @@ module _ (c : Config) (lim : IsWithin c) (w : World) (good : IsGood c w) (t : �
   sets_hold m held e =
       let s : RemountStep = SetsHold m held in
       let f : FitsHere s = here_fits c w good t lt x s e in
-      let k : (w.words.stage ≡ 0) × (w.words.sb ≡ 0) = here_relies c w good t lt x s e in
+      let k : (w.words.stage ≡ 0) × (w.words.sb ≡ 0) = here_knows c w good t lt x s e in
       let g : MountHoldsIn c w m = good (AtMount m) f.5.0 in
       let word : ℕ = bit_or (w.words.flags m) 2 in
       let sum : Sum = record { words = 0; total = 0 } in
@@ -120,7 +162,8 @@ module _ (c : Config) (lim : IsWithin c) (w : World) (good : IsGood c w) (t : �
       let v : View = view_with (w.views t) (MountFlags m, Or 2) (w.words.flags m) hook
       (Go (Remounts (at_remount x (Sums m held sum))), None) in
       flags_change c w good t lt x s e refl (Sums m held sum) v refl (refl, refl, refl, refl, refl, refl)
-      (f.0, f.1, f.2, f.3, f.4, (f.5.0, f.5.1, lim.some_processor)) m word (refl, refl, k.0, k.1) (or_hold (w.words.flags m) g.bits).1
+      (f.0, f.1, f.2, f.3, f.4, (f.5.0, f.5.1, lim.some_processor)) m word (refl, refl)
+      (loop_on x.nodes w.words.stage w.words.sb (marks_of w.words) k.0 k.1) (or_hold (w.words.flags m) g.bits).1
       (λ lm. subst (Mount c w good t lt x s e m word w.words.remount w.words.sb)
       (sym (summing_here m sum (loop_role (has_mount held m) (nat_lt m m))))
       (mount_sets_hold g t lt lim.tasks lim.processors lim.some_processor was clear))
@@ -131,7 +174,7 @@ module _ (c : Config) (lim : IsWithin c) (w : World) (good : IsGood c w) (t : �
   sums m held sum e =
       let s : RemountStep = Sums m held sum in
       let f : FitsHere s = here_fits c w good t lt x s e in
-      let k : (w.words.stage ≡ 0) × (w.words.sb ≡ 0) = here_relies c w good t lt x s e in
+      let k : (w.words.stage ≡ 0) × (w.words.sb ≡ 0) = here_knows c w good t lt x s e in
       let g : MountHoldsIn c w m = good (AtMount m) f.5.0 in
       let i : ℕ = sum.words in
       let now : ℕ = wrap_add sum.total (w.words.count m i) in
@@ -146,7 +189,8 @@ module _ (c : Config) (lim : IsWithin c) (w : World) (good : IsGood c w) (t : �
         | inl h ↦
             let more : suc i < c.processors = omega (arith, ltb-true (i + 1) x.processors h, f.1) in
             let on : Sum = record { words = i + 1; total = now } in
-            rw h (load_event c w good t lt x s e (MountCount m i) hook (Sums m held on) refl (refl, refl, k.0, k.1)
+            rw h (load_event c w good t lt x s e (MountCount m i) hook (Sums m held on) refl (refl, refl)
+            (loop_on x.nodes w.words.stage w.words.sb (marks_of w.words) k.0 k.1)
             (f.5.0, f.5.1, omega (arith, more))
             (λ n ln. elim (eqb_tells n m) [
               | inl q ↦ subst (λ y. Mount c w good t lt x s e y (w.words.flags y) w.words.remount w.words.sb
@@ -162,7 +206,9 @@ module _ (c : Config) (lim : IsWithin c) (w : World) (good : IsGood c w) (t : �
             let last : suc i ≡ c.processors = omega (arith, f.5.2, ltb-false (i + 1) x.processors h, f.1) in
             elim (eqb_tells now 0) [
               | inl z ↦ rw (h, z.0) (load_event c w good t lt x s e (MountCount m i) hook (past_mount x.mounts m joined) refl
-                  (past_mount_stays x.mounts m joined w.words.stage w.words.sb k.0 k.1) (past_mount_fits c x.mounts m joined f.2 f.5.0 below)
+                  (past_mount_stays x.mounts m joined)
+                  (past_mount_on x.nodes w.words.stage w.words.sb (marks_of w.words) k.0 k.1 x.mounts m joined)
+                  (past_mount_fits c x.mounts m joined f.2 f.5.0 below)
                   (λ n ln. subst (Mount c w good t lt x s e n (w.words.flags n) w.words.remount w.words.sb)
                   (sym (past_mount_role x.mounts m joined n (omega (arith, f.2, ln))))
                   (elim (eqb_tells n m) [
@@ -175,7 +221,8 @@ module _ (c : Config) (lim : IsWithin c) (w : World) (good : IsGood c w) (t : �
                         ((λ j. loop_role (joins_there held m n small q.1 j) (passed_there m n q.1 j)) ∙ sym (others n q.1))
                   ])))
               | inr z ↦ rw (h, z.0) (load_event c w good t lt x s e (MountCount m i) hook (give_up m joined) refl
-                  (give_up_stays m joined w.words.stage w.words.sb k.0 k.1)
+                  (give_up_stays m joined)
+                  (give_up_on x.nodes w.words.stage w.words.sb (marks_of w.words) k.0 k.1 m joined)
                   (give_up_fits c m joined f.5.0 (below.0, λ n q. omega (arith, below.1 n q, f.5.0)))
                   (λ n ln. subst (Mount c w good t lt x s e n (w.words.flags n) w.words.remount w.words.sb)
                   (sym (give_up_role n m joined))

@@ -1,9 +1,9 @@
 -- What an event of a remount may leave: each part of the rule, and the shown model.
 use Rattle.mount_counts.specs.declared.remounts.RemountStep.TheVariants.{Locks}
 use Rattle.mount_counts.specs.declared.remounts.Remount.{Remount}
-use Rattle.gate_world.specs.Rules.{Owner, Superblock, Stages, Fitting, Known, Relying, Nodes, AtMount, IsGood, owns, Part, StepKeeps, role_of, ViewFits, relied, at_mount, Holds, IsSteady, OwnerHolds, remounts, Moves, AtLevel, SyncAt, Sections}
+use Rattle.gate_world.specs.Rules.{Owner, Stages, Marks, Fitting, Known, Nodes, AtMount, IsGood, owns, Part, StepKeeps, role_of, ViewFits, at_mount, Holds, IsSteady, OwnerHolds, remounts, Moves, AtLevel, SyncAt, Sections, marks_of}
 use Rattle.gate_world.specs.Fits.{Fits, PhaseFits}
-use Rattle.std.proofs.Common.{refl, sym, ap, subst, inl, inr, true, false, arith, true≢false, ℕ, ◌<◌, ◌≡◌, Some, ◌⊎◌, ◌≤◌, Bool, ◌==◌, ◌||◌, ◌∙◌, None}
+use Rattle.std.proofs.Common.{refl, sym, ap, subst, inl, inr, true, false, arith, true≢false, ℕ, ◌<◌, ◌≡◌, Some, ◌⊎◌, ◌≤◌, Bool, ◌==◌, ◌||◌, ◌∙◌, None, Option}
 use Rattle.mount_counts.specs.declared.remounts.RemountStep.{RemountStep}
 use Rattle.gate_world.specs.Worlds.{World, value_at, after_step, phase_action}
 use Rattle.gate_world.specs.declared.config.Config.{Config}
@@ -11,7 +11,7 @@ use Rattle.cpu_words.specs.Hooks.{HookAnswer}
 use Rattle.gate_world.specs.Owners.{is_owned, takes_lock}
 use Rattle.gate_frames.proofs.Known.{IsOwnersWork, known_after}
 use Rattle.gate_world.specs.declared.work.Phase.{Phase}
-use Rattle.gate_world.specs.Remounts.{remount_owns, remount_sets, IsKnown, remount_relies, IsThere, remount_role, RemountFits}
+use Rattle.gate_world.specs.Remounts.{remount_owns, remount_sets, remount_role, RemountFits}
 use Rattle.mount_counts.specs.Remounts.{remount_next, remount_after, at_remount}
 use Rattle.gate_world.specs.Views.{phase_after, held_at, holds_level, added_by, taken_by, view_with}
 use Rattle.gate_world.specs.declared.work.Phase.TheVariants.{Remounts}
@@ -24,12 +24,16 @@ use Rattle.gate_world.specs.declared.views.View.{View}
 use Rattle.cpu_words.specs.Words.{Words, read}
 use Rattle.cpu_words.specs.declared.names.WordName.{WordName}
 use Rattle.finite_sums.specs.Sums.{update}
-use Rattle.gated_tree.specs.Nodes.{IsNode}
+use Rattle.gated_tree.specs.Nodes.{IsNode, kind_in}
 use Rattle.gate_world.specs.Shown.{shown, closing, node_shown}
 use Rattle.access_model.specs.declared.replies.Next.{Next}
 use Rattle.gate_frames.proofs.Frames.{holds_as, owner_same, view_as, shown_as, shown_still, added_load, taken_load, SameLevelCounts, IsOffLevels, SameLevelWords, level_left, sync_left, sections_left}
 use Rattle.finite_sums.proofs.Totals.{each_updated, update_map, update_same, update_at, update_off}
-use Rattle.gate_frames.proofs.Owners.{relying_after, remount_stored}
+use Rattle.gate_frames.proofs.Owners.{remount_stored}
+use Rattle.gate_frames.proofs.Stages.{stages_in, IsStageEvent, stages_after, marks_after}
+use Rattle.stage_laws.specs.Roles.{StageRole, Owning, IsKnown, KnowsStage, CleanBelow, clean_by, sums as stage_sums}
+use Rattle.stage_laws.specs.Events.{StageEvent, Recalls, IsAlike, playing}
+use Rattle.gate_world.specs.Stages.{stage_role_of, remount_stage_role}
 use Rattle.gate_frames.proofs.Loads.{steady, after_load}
 use Rattle.access_model.specs.declared.replies.Next.TheVariants.{Go}
 use Rattle.std.proofs.lemmas.Bool.Decides.{eqb_tells}
@@ -78,19 +82,52 @@ whole_remount c w t lt good hook x e keeps = (
   keeps.1,
 )
 
--- a step at which `umount` is owned, `remount` stands so, and the stage and the superblock's flags are as it relies on them
-abbrev pub Stays : RemountStep → ℕ → ℕ → ℕ → Type 0
-Stays s set stage sb = (remount_owns s ≡ 1) × (remount_sets s ≡ set) × IsKnown (remount_relies s).stage stage × IsKnown
-    (remount_relies s).sb sb
+-- a step at which `umount` is owned, and `remount` stands so
+abbrev pub Stays : RemountStep → ℕ → Type 0
+Stays s set = (remount_owns s ≡ 1) × (remount_sets s ≡ set)
+
+-- A step to which a remount in this role goes on without a change of the stage and the flags: its role is alike, and what it relies on is
+-- so of this stage, these flags and these marks.
+abbrev pub GoesOn : StageRole → ℕ → RemountStep → ℕ → ℕ → (ℕ → ℕ) → Type 0
+GoesOn old nodes s stage sb dirty =
+    IsAlike old (remount_stage_role nodes s) × KnowsStage stage sb (remount_stage_role nodes s) ×
+    CleanBelow (clean_by (remount_stage_role nodes s)) dirty
+
+-- in the loop over the mounts
+abbrev pub in_loop : StageRole
+in_loop = Owning (Some 0) (Some 0)
+
+-- a role is like itself
+pub alike_same : {r : StageRole} → IsAlike r r
+alike_same {r} = record { owns_same = refl; freezes_same = refl; remounts_same = refl; closed_same = refl; passed_same = refl }
+
+-- an owner goes on as an owner, where what it relies on then is so
+pub owner_on : (old_stage old_sb new_stage new_sb : Option ℕ) (stage sb : ℕ) (dirty : ℕ → ℕ) → IsKnown new_stage stage → IsKnown new_sb sb →
+    IsAlike (Owning old_stage old_sb) (Owning new_stage new_sb) × (IsKnown new_stage stage × IsKnown new_sb sb) × CleanBelow 0 dirty
+owner_on old_stage old_sb new_stage new_sb stage sb dirty a b = (
+  record { owns_same = refl; freezes_same = refl; remounts_same = refl; closed_same = refl; passed_same = refl },
+  (a, b),
+  λ m below. absurd (omega (arith, below)),
+)
+
+-- a remount closes no level
+pub remount_closes_none : (i nodes : ℕ) (s : RemountStep) → stage_sums i (remount_stage_role nodes s) ≡ 0
+remount_closes_none i nodes Locks = refl
+remount_closes_none i nodes s = refl
 
 module _ (c : Config) (w : World) (good : IsGood c w) (t : ℕ) (lt : t < c.tasks) (x : Remount) (s : RemountStep)
     (e : (w.views t).phase ≡ Some (Remounts (at_remount x s))) where
-  -- what its phase and the rule say before its event
+  -- its phase fits its task's accesses
   pub here_fits : PhaseFits c t (held_at (w.views t)) (holds_level (w.views t)) (Remounts (at_remount x s))
   here_fits = subst (Fits c t (held_at (w.views t)) (holds_level (w.views t))) e (good Fitting t lt)
 
-  pub here_relies : IsKnown (remount_relies s).stage w.words.stage × IsKnown (remount_relies s).sb w.words.sb
-  here_relies = subst (λ p. IsThere (relied p) w.words) e (good Relying t lt)
+  -- what its step relies on is so
+  pub here_knows : KnowsStage w.words.stage w.words.sb (remount_stage_role x.nodes s)
+  here_knows = subst (λ p. KnowsStage w.words.stage w.words.sb (stage_role_of p)) e ((good Stages).knows t lt)
+
+  -- the marks that it has cleared are clear
+  pub here_cleared : CleanBelow (clean_by (remount_stage_role x.nodes s)) (marks_of w.words)
+  here_cleared = subst (λ p. CleanBelow (clean_by (stage_role_of p)) (marks_of w.words)) e ((good Marks).cleared t lt)
 
   pub role_was : (m : ℕ) → role_of m (w.views t).phase ≡ remount_role m s
   role_was m = ap (role_of m) e
@@ -131,29 +168,44 @@ module _ (c : Config) (w : World) (good : IsGood c w) (t : ℕ) (lt : t < c.task
   abbrev pub PartsHold : Words → View → Type 0
   PartsHold ws v = (part : Part) → is_known_part part ≡ false → Holds c (record { words = ws; views = update w.views t v }) part
 
-  -- each part after an event, from what it says of each mount
+  -- both parts of the stage
+  abbrev pub StageHolds : Words → View → Type 0
+  StageHolds ws v =
+      Holds c (record { words = ws; views = update w.views t v }) Stages × Holds c (record { words = ws; views = update w.views t v }) Marks
+
+  -- they hold after an event of one of the kinds
+  pub stage_holds : (ws : Words) (v : View) (kind : StageEvent) → IsStageEvent c w good t lt ws v kind → StageHolds ws v
+  stage_holds ws v kind happens = (stages_after c w good t lt ws v kind happens, marks_after c w good t lt ws v kind happens)
+
+  -- and after an event on the flags of a mount, or on none, with which the remount goes on
+  pub goes_on : (flags : ℕ → ℕ) (s' : RemountStep) (v : View) → v.phase ≡ Some (Remounts (at_remount x s')) →
+      GoesOn (remount_stage_role x.nodes s) x.nodes s' w.words.stage w.words.sb (marks_of w.words) →
+      StageHolds (record w.words { flags = flags }) v
+  goes_on flags s' v is on =
+      stage_holds (record w.words { flags = flags }) v (Recalls (remount_stage_role x.nodes s) (remount_stage_role x.nodes s'))
+      (ap stage_role_of e, on.0, on.1, on.2, ap (λ p. playing (stages_in w) t (stage_role_of p)) is)
+
+  -- each part after an event, from what it says of each mount and of the stage
   pub each_part : (ws : Words) (v : View) → SameCounts v → SameLevelWords w.words ws → IsOffLevels v.phase →
-      ws.stage ≡ w.words.stage → ws.sb ≤ 1 → ws.count ≡ w.words.count →
-      ((n : ℕ) → IsNode (ws.node n)) → OwnerHolds c.tasks ws.umount ws.remount (λ y. (update w.views t v y).phase) →
-      Holds c (record { words = ws; views = update w.views t v }) Relying → ViewFits c t v →
+      ws.count ≡ w.words.count → ((n : ℕ) → IsNode (ws.node n)) × (kind_in (ws.node 0) ≡ 2) →
+      OwnerHolds c.tasks ws.umount ws.remount (λ y. (update w.views t v y).phase) → StageHolds ws v → ViewFits c t v →
       ((m : ℕ) → m < c.mounts → Mount m (ws.flags m) ws.remount ws.sb (role_of m v.phase)) → PartsHold ws v
-  each_part ws v same levels off es bit ec nodes owner relying fits own Owner k = owner
-  each_part ws v same levels off es bit ec nodes owner relying fits own Superblock k = bit
-  each_part ws v same levels off es bit ec nodes owner relying fits own Stages k = omega (arith, es, good Stages)
-  each_part ws v same levels off es bit ec nodes owner relying fits own Fitting k = λ y ly.
+  each_part ws v same levels off ec nodes owner stage fits own Owner k = owner
+  each_part ws v same levels off ec nodes owner stage fits own Stages k = stage.0
+  each_part ws v same levels off ec nodes owner stage fits own Marks k = stage.1
+  each_part ws v same levels off ec nodes owner stage fits own Fitting k = λ y ly.
       each_updated (λ z (u : View). ViewFits c z u) w.views t v y fits (λ ne. good Fitting y ly)
-  each_part ws v same levels off es bit ec nodes owner relying fits own Known k = absurd (true≢false k)
-  each_part ws v same levels off es bit ec nodes owner relying fits own Relying k = relying
-  each_part ws v same levels off es bit ec nodes owner relying fits own Nodes k = nodes
-  each_part ws v same levels off es bit ec nodes owner relying fits own (AtMount m) k = λ lm.
+  each_part ws v same levels off ec nodes owner stage fits own Known k = absurd (true≢false k)
+  each_part ws v same levels off ec nodes owner stage fits own Nodes k = nodes
+  each_part ws v same levels off ec nodes owner stage fits own (AtMount m) k = λ lm.
       holds_as refl refl refl (ap (λ f. f m) ec)
       (update_map (at_mount m) w.views t v ∙ ap (update (λ y. at_mount m (w.views y)) t)
       (view_as (ap (λ g. g m) same.0) (ap (λ g. g m) same.2) (ap (λ g. g m) same.3) refl)) (own m lm)
-  each_part ws v same levels off es bit ec nodes owner relying fits own (AtLevel i) k =
+  each_part ws v same levels off ec nodes owner stage fits own (AtLevel i) k =
       level_left c w t lt good ws v levels (at_levels v same) off_now off i
-  each_part ws v same levels off es bit ec nodes owner relying fits own (SyncAt i) k =
+  each_part ws v same levels off ec nodes owner stage fits own (SyncAt i) k =
       sync_left c w t lt good ws v levels (at_levels v same) off_now off i
-  each_part ws v same levels off es bit ec nodes owner relying fits own Sections k =
+  each_part ws v same levels off ec nodes owner stage fits own Sections k =
       sections_left c w t lt good ws v levels (at_levels v same) off_now off
 
   -- the shown model after it: the superblock's flag alone may change
@@ -179,40 +231,45 @@ module _ (c : Config) (w : World) (good : IsGood c w) (t : ℕ) (lt : t < c.task
     off_then : IsOffLevels v.phase
     off_then = subst IsOffLevels (sym is) (record { counts_not = λ i. refl; apart = λ i. refl; outside = refl })
 
-    -- what the step that comes relies on is there
-    relies_on : (ws : Words) → IsThere (remount_relies s') ws → Holds c (record { words = ws; views = update w.views t v }) Relying
-    relies_on ws there = relying_after c w good t lt ws v (ap owns e ∙ o) (subst (λ p. IsThere (relied p) ws) (sym is) there)
+    -- it closes no level, as before
+    closes_same : (i : ℕ) → closing i v.phase ≡ closing i (w.views t).phase
+    closes_same i =
+        ap (closing i) is ∙ (remount_closes_none i x.nodes s' ∙ (sym (remount_closes_none i x.nodes s) ∙ sym (ap (closing i) e)))
 
     steady_to : remount_owns s' ≡ 1 → remount_sets s' ≡ remount_sets s → IsSteady (w.views t).phase v.phase
     steady_to o' q = steady e (record {
       owns_same = ap owns is ∙ (o' ∙ sym o);
       remounts_same = ap remounts is ∙ q;
-      closing_same = λ i. ap (closing i) is;
+      closing_same = λ i. ap (closing i) is ∙ (remount_closes_none i x.nodes s' ∙ sym (remount_closes_none i x.nodes s));
     })
 
     -- a load by the owner, after which this step comes
-    pub loads : Stays s' (remount_sets s) w.words.stage w.words.sb →
+    pub loads : Stays s' (remount_sets s) → StageHolds w.words v →
         ((m : ℕ) → m < c.mounts → Mount m (w.words.flags m) w.words.remount w.words.sb (remount_role m s')) →
         PartsHold w.words v × (shown c (record { words = w.words; views = update w.views t v }) ≡ shown c w)
-    loads stays own =
+    loads stays stage own =
         let still : IsSteady (w.views t).phase v.phase = steady_to stays.0 stays.1 in (
-          each_part w.words v same (record { block_same = refl; level_same = refl; sync_same = refl; section_same = refl; whole_same = refl }) off_then refl (good Superblock) refl (good Nodes) (owner_same c w t lt good v still)
-              (relies_on w.words (stays.2, stays.3)) fits
+          each_part w.words v same
+              (record { block_same = refl; level_same = refl; sync_same = refl; section_same = refl; whole_same = refl }) off_then
+              refl (good Nodes) (owner_same c w t lt good v still) stage fits
               (λ m lm. subst (Mount m (w.words.flags m) w.words.remount w.words.sb) (sym (ap (role_of m) is)) (own m lm)),
           shown_still c w t lt w.words v refl refl refl refl refl refl still.closing_same same.0 same.1,
         )
 
     -- an event on the flags of one mount, which leaves READONLY
-    pub flags_change : (at f : ℕ) → Stays s' (remount_sets s) w.words.stage w.words.sb → ro_bit f ≡ ro_bit (w.words.flags at) →
+    pub flags_change : (at f : ℕ) → Stays s' (remount_sets s) →
+        GoesOn (remount_stage_role x.nodes s) x.nodes s' w.words.stage w.words.sb (marks_of w.words) →
+        ro_bit f ≡ ro_bit (w.words.flags at) →
         (at < c.mounts → Mount at f w.words.remount w.words.sb (remount_role at s')) →
         ((m : ℕ) → (m ≡ at → ⊥) → remount_role m s' ≡ remount_role m s) →
         let ws : Words = record w.words { flags = update w.words.flags at f } in
         PartsHold ws v × (shown c (record { words = ws; views = update w.views t v }) ≡ shown c w)
-    flags_change at f stays ro here there =
+    flags_change at f stays on ro here there =
         let ws : Words = record w.words { flags = update w.words.flags at f } in
         let still : IsSteady (w.views t).phase v.phase = steady_to stays.0 stays.1 in (
-          each_part ws v same (record { block_same = refl; level_same = refl; sync_same = refl; section_same = refl; whole_same = refl }) off_then refl (good Superblock) refl (good Nodes) (owner_same c w t lt good v still)
-              (relies_on ws (stays.2, stays.3)) fits
+          each_part ws v same
+              (record { block_same = refl; level_same = refl; sync_same = refl; section_same = refl; whole_same = refl }) off_then
+              refl (good Nodes) (owner_same c w t lt good v still) (goes_on (update w.words.flags at f) s' v is on) fits
               (λ m lm. subst (Mount m (update w.words.flags at f m) w.words.remount w.words.sb) (sym (ap (role_of m) is))
               (elim (eqb_tells m at) [
                 | inl q ↦ subst (λ y. Mount y (update w.words.flags at f y) w.words.remount w.words.sb (remount_role y s')) (sym q.1)
@@ -230,31 +287,38 @@ module _ (c : Config) (w : World) (good : IsGood c w) (t : ℕ) (lt : t < c.task
 
     -- a store of `remount` or of the superblock's flags
     pub stores : (set sealing : ℕ) (b : Bool) → is_frozen_whole (record w.words { remount = set; sb = sealing }) ≡ is_frozen_whole w.words →
-        sealing ≤ 1 → Stays s' set w.words.stage sealing → (set == 1 || sealing == 1) ≡ b →
+        Stays s' set → StageHolds (record w.words { remount = set; sb = sealing }) v → (set == 1 || sealing == 1) ≡ b →
         ((m : ℕ) → m < c.mounts → Mount m (w.words.flags m) set sealing (remount_role m s')) →
         let ws : Words = record w.words { remount = set; sb = sealing } in
         PartsHold ws v × (shown c (record { words = ws; views = update w.views t v }) ≡ record (shown c w) { sb_ro = b })
-    stores set sealing b whole bit stays shows own =
+    stores set sealing b whole stays stage shows own =
         let ws : Words = record w.words { remount = set; sb = sealing } in (
-          each_part ws v same (record { block_same = refl; level_same = refl; sync_same = refl; section_same = refl; whole_same = whole }) off_then refl bit refl (good Nodes)
-              (remount_stored c w good t lt set v (ap owns e ∙ o) (ap owns is ∙ stays.0) (ap remounts is ∙ stays.1))
-              (relies_on ws (stays.2, stays.3)) fits
+          each_part ws v same
+              (record { block_same = refl; level_same = refl; sync_same = refl; section_same = refl; whole_same = whole }) off_then
+              refl (good Nodes) (remount_stored c w good t lt set v (ap owns e ∙ o) (ap owns is ∙ stays.0) (ap remounts is ∙ stays.1))
+              stage fits
               (λ m lm. subst (Mount m (w.words.flags m) set sealing) (sym (ap (role_of m) is)) (own m lm)),
-          seal_shown ws v b refl refl refl refl (λ i. ap (closing i) is ∙ sym (ap (closing i) e)) same shows,
+          seal_shown ws v b refl refl refl refl closes_same same shows,
         )
 
-    -- an event on the word of a node, of a remount that has no role before and after it
-    pub node_changes : (n f : ℕ) → Stays s' (remount_sets s) w.words.stage w.words.sb → IsNode f →
+    -- an event on the word of a node other than the root, of a remount that has no role before and after it
+    pub node_changes : (n f : ℕ) → 1 ≤ n → Stays s' (remount_sets s) →
+        StageHolds (record w.words { node = update w.words.node n f }) v → IsNode f →
         ((m : ℕ) → remount_role m s' ≡ remount_role m s) →
         let ws : Words = record w.words { node = update w.words.node n f } in
         PartsHold ws v × (shown c (record { words = ws; views = update w.views t v }) ≡
         record (shown c w) { tree = update (λ k. node_shown (w.words.node k)) n (node_shown f) })
-    node_changes n f stays node role =
+    node_changes n f low stays stage node role =
         let ws : Words = record w.words { node = update w.words.node n f } in
         let still : IsSteady (w.views t).phase v.phase = steady_to stays.0 stays.1 in (
-          each_part ws v same (record { block_same = refl; level_same = refl; sync_same = refl; section_same = refl; whole_same = refl }) off_then refl (good Superblock) refl
-              (λ k. each_updated (λ y (word : ℕ). IsNode word) w.words.node n f k node (λ ne. good Nodes k))
-              (owner_same c w t lt good v still) (relies_on ws (stays.2, stays.3)) fits
+          each_part ws v same
+              (record { block_same = refl; level_same = refl; sync_same = refl; section_same = refl; whole_same = refl }) off_then
+              refl
+              (
+                λ k. each_updated (λ y (word : ℕ). IsNode word) w.words.node n f k node (λ ne. (good Nodes).0 k),
+                ap kind_in (update_off w.words.node n f 0 (λ q. omega (arith, low, q))) ∙ (good Nodes).1,
+              )
+              (owner_same c w t lt good v still) stage fits
               (λ m lm. subst (Mount m (w.words.flags m) w.words.remount w.words.sb) (sym (ap (role_of m) is))
               (mount_stays m lm (remount_role m s') (role m))),
           shown_as c w t lt ws v refl still.closing_same ∙
@@ -267,16 +331,17 @@ module _ (c : Config) (w : World) (good : IsGood c w) (t : ℕ) (lt : t < c.task
 
   -- a load by the owner, after which this step comes, as its event
   pub load_event : (name : WordName) (hook : HookAnswer) (s' : RemountStep) → remount_owns s ≡ 1 →
-      Stays s' (remount_sets s) w.words.stage w.words.sb → RemountFits c s' →
-      ((m : ℕ) → m < c.mounts → Mount m (w.words.flags m) w.words.remount w.words.sb (remount_role m s')) →
+      Stays s' (remount_sets s) → GoesOn (remount_stage_role x.nodes s) x.nodes s' w.words.stage w.words.sb (marks_of w.words) →
+      RemountFits c s' → ((m : ℕ) → m < c.mounts → Mount m (w.words.flags m) w.words.remount w.words.sb (remount_role m s')) →
       let coming : Next Phase = Go (Remounts (at_remount x s')) in
       ((part : Part) → is_known_part part ≡ false → Holds c (after_load w t name hook coming) part) ×
       (shown c (after_load w t name hook coming) ≡ shown c w)
-  load_event name hook s' o stays fit own =
+  load_event name hook s' o stays on fit own =
       let v : View = view_with (w.views t) (name, Load) (read w.words name) hook (Go (Remounts (at_remount x s')), None) in
       let f : PhaseFits c t (held_at (w.views t)) (holds_level (w.views t)) (Remounts (at_remount x s)) = here_fits in
       subst (λ ws. let next_world : World = record { words = ws; views = update w.views t v } in
-      ((part : Part) → is_known_part part ≡ false → Holds c next_world part) × (shown c next_world ≡ shown c w)) (sym (load_same w.words name))
+      ((part : Part) → is_known_part part ≡ false → Holds c next_world part) × (shown c next_world ≡ shown c w))
+      (sym (load_same w.words name))
       (loads o s' v refl (
         refl,
         refl,
@@ -285,18 +350,20 @@ module _ (c : Config) (w : World) (good : IsGood c w) (t : ℕ) (lt : t < c.task
         level_added_load name Load (level_added_by (w.views t).events) refl,
         level_taken_load name Load (level_taken_by (w.views t).events) refl,
       )
-      (f.0, f.1, f.2, f.3, f.4, fit) stays own)
+      (f.0, f.1, f.2, f.3, f.4, fit) stays (goes_on w.words.flags s' v refl on) own)
 
-  -- an event on `umount`, of a task that has no role before and after it, and relies on nothing after it
+  -- an event on `umount`, of a task that has no role before and after it
   pub umount_changes : (n : ℕ) (v : View) → SameCounts v → ViewFits c t v →
       OwnerHolds c.tasks n w.words.remount (λ y. (update w.views t v y).phase) →
-      Holds c (record { words = w.words; views = update w.views t v }) Relying → IsOffLevels v.phase →
+      StageHolds (record w.words { umount = n }) v → IsOffLevels v.phase →
       ((m : ℕ) → role_of m v.phase ≡ remount_role m s) → ((i : ℕ) → closing i v.phase ≡ 0) →
       let ws : Words = record w.words { umount = n } in
       PartsHold ws v × (shown c (record { words = ws; views = update w.views t v }) ≡ shown c w)
-  umount_changes n v same fits owner relying off role close =
+  umount_changes n v same fits owner stage off role close =
       let ws : Words = record w.words { umount = n } in (
-        each_part ws v same (record { block_same = refl; level_same = refl; sync_same = refl; section_same = refl; whole_same = refl }) off refl (good Superblock) refl (good Nodes) owner relying fits
+        each_part ws v same (record { block_same = refl; level_same = refl; sync_same = refl; section_same = refl; whole_same = refl }) off
+            refl (good Nodes) owner stage fits
             (λ m lm. mount_stays m lm (role_of m v.phase) (role m)),
-        shown_still c w t lt ws v refl refl refl refl refl refl (λ i. close i ∙ sym (ap (closing i) e)) same.0 same.1,
+        shown_still c w t lt ws v refl refl refl refl refl refl
+            (λ i. close i ∙ (sym (remount_closes_none i x.nodes s) ∙ sym (ap (closing i) e))) same.0 same.1,
       )

@@ -105,4 +105,5 @@ summing_there m n sum r ne = rw (ne_eqb n m ne) refl
 
 -- the file marks no role
 pub past_node_role : (nodes n m : ℕ) → remount_role m (past_node nodes n) ≡ Out
-past_node_role nodes n m = by_bool (nat_lt (n + 1) nodes) (λ b. remount_role m (if b then ClearsMark (n + 1) else SetsReadOnly) ≡ Out) refl refl
+past_node_role nodes n m =
+    by_bool (nat_lt (n + 1) nodes) (λ b. remount_role m (if b then ClearsMark (n + 1) else SetsReadOnly) ≡ Out) refl refl
