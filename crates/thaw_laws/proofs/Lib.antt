@@ -1,1 +1,4 @@
 pub mod ThawTraces
+pub mod ThawFits
+pub mod ThawCauses
+pub mod ThawWaits
