@@ -2,3 +2,4 @@ pub mod ThawTraces
 pub mod ThawFits
 pub mod ThawCauses
 pub mod ThawWaits
+pub mod ThawKeeps
