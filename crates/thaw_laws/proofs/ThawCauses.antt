@@ -1,11 +1,9 @@
 -- The causes of a thaw's refusals, along a schedule, and the counts, which a thaw leaves.
-use Rattle.std.proofs.Common.{◌≡◌, ℕ, refl, ap, ◌∙◌, inl, inr, true}
+use Rattle.std.proofs.Common.{◌≡◌, ℕ, refl, ap, ◌∙◌, inl, inr}
 use Rattle.std.proofs.lemmas.Bool.{ne_eqb}
 use Rattle.std.proofs.lemmas.Bool.Decides.{eqb_tells}
-use Rattle.std.specs.Prelude.{Option, Some, None, Result, Ok, Err, List, ◌∷◌, ◌==◌, ◌-◌, not}
-use Rattle.access_model.specs.declared.errors.GateError.{GateError}
-use Rattle.access_model.specs.declared.errors.GateError.TheVariants.{Invalid, Hook}
-use Rattle.access_model.specs.declared.replies.Reply.{Reply}
+use Rattle.std.specs.Prelude.{Option, Some, Ok, Err, List, ◌∷◌, ◌-◌, not}
+use Rattle.access_model.specs.declared.errors.GateError.TheVariants.{Invalid}
 use Rattle.access_model.specs.declared.replies.Reply.TheVariants.{Unit as UnitReply}
 use Rattle.access_model.specs.Replies.{map_next}
 use Rattle.cause_laws.proofs.Moments.{look_skips, look_stands}

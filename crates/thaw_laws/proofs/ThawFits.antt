@@ -1,6 +1,6 @@
 -- What fits after an event of a thaw.
 use Rattle.std.proofs.Common.{◌≡◌, ℕ, ◌≤◌, true, arith, inl, inr}
-use Rattle.std.specs.Prelude.{◌-◌, ◌==◌, if◌then◌else◌, Bool, Option, Some, None, Ok, Err}
+use Rattle.std.specs.Prelude.{◌-◌, ◌==◌, if◌then◌else◌, Bool, Ok, Err}
 use Rattle.std.proofs.lemmas.Bool.Decides.{eqb_tells}
 use Rattle.access_model.specs.declared.errors.GateError.TheVariants.{Invalid}
 use Rattle.access_model.specs.declared.replies.Next.{Next}
@@ -89,7 +89,8 @@ module _ (c : Config) (t : ℕ) (held : ℕ → ℕ) (levels : ℕ → Bool) (x 
 
   -- so it is after an event of its transition
   exit_goes : (level : ℕ) (transition : Transition) (found : ℕ) → 1 ≤ level → level ≤ 3 → KnowsWords on_exit transition →
-      NextFits (after_opening x level (exit_made (record { level = level; step = Exits transition }) (transition_after on_exit transition found)))
+      NextFits (after_opening x level
+      (exit_made (record { level = level; step = Exits transition }) (transition_after on_exit transition found)))
   exit_goes level transition found l1 l3 knows =
       exit_fits level found (left (transition_next level transition).1 found) (Exits transition) (transition_after on_exit transition found)
       l1 l3 (exchanges_make_transitions on_exit level found transition knows)
@@ -109,7 +110,8 @@ module _ (c : Config) (t : ℕ) (held : ℕ → ℕ) (levels : ℕ → Bool) (x 
   -- and at each step
   step_goes : (s : ThawStep) (found : ℕ) (hook : HookAnswer) → ThawFits s → GoesOn s found hook
   step_goes Locks found hook f =
-      by_bool (found == 0) (λ b. NextFits (if b then Go (at_thaw x LoadsStage) else Wait (at_thaw x Locks))) (same, none, tt) (same, none, tt)
+      by_bool (found == 0) (λ b. NextFits (if b then Go (at_thaw x LoadsStage) else Wait (at_thaw x Locks)))
+      (same, none, tt) (same, none, tt)
   step_goes LoadsStage found hook f =
       by_bool (found == 4) (λ b. NextFits (if b then Go (at_thaw x LoadsSuperblock) else Go (at_thaw x (Releases (Err Invalid)))))
       (same, none, tt) (same, none, tt)

@@ -1,6 +1,6 @@
 -- Traces of a thaw.
 use Rattle.std.proofs.Common.{◌≡◌, ℕ, zero, suc, ◌≤◌, true, false, refl, sym, ap, ◌∙◌, subst, inl, inr, arith}
-use Rattle.std.specs.Prelude.{◌-◌, ◌==◌, Result, Ok, Err, Option, Some, None, List, [], ◌∷◌, ◌++◌}
+use Rattle.std.specs.Prelude.{◌-◌, ◌==◌, Result, Ok, Err, List, [], ◌∷◌, ◌++◌}
 use Rattle.std.proofs.lemmas.Bool.{cases_Bool}
 use Rattle.std.proofs.lemmas.Bool.Decides.{eqb_tells}
 use Rattle.access_model.specs.declared.actions.Action.{Action}
@@ -18,7 +18,6 @@ use Rattle.cpu_words.specs.Touches.{event_of}
 use Rattle.percpu_rwsem.specs.declared.transitions.Transition.TheVariants.{Loads, Exchanges}
 use Rattle.percpu_rwsem.specs.declared.transitions.TransitionNext.{TransitionNext}
 use Rattle.percpu_rwsem.specs.declared.transitions.TransitionNext.TheVariants.{More, Undefined, Made}
-use Rattle.percpu_rwsem.specs.declared.writers.UpWrite.{UpWrite}
 use Rattle.percpu_rwsem.specs.declared.writers.UpWriteStep.{UpWriteStep}
 use Rattle.percpu_rwsem.specs.declared.writers.UpWriteStep.TheVariants.{ClearsBlock, Exits}
 use Rattle.percpu_rwsem.specs.SyncWords.{on_exit}
@@ -168,8 +167,8 @@ module _ (c : Config) (t value : ℕ) (earlier : List Traced) (added : List Acti
     (ap (λ (l : List Action). Reopen level ∷ l) h.0 ∙ opens_one level h.2 h.3, h.1, h.2, h.3),
   )
   reopens hook level (Exits Loads) h =
-      exit_says level (Exits Loads) (transition_after on_exit Loads value) (longer hook (Reopens (record { level = level; step = Exits Loads })))
-      h.3 h.2 h.0 h.1
+      exit_says level (Exits Loads) (transition_after on_exit Loads value)
+      (longer hook (Reopens (record { level = level; step = Exits Loads }))) h.3 h.2 h.0 h.1
   reopens hook level (Exits (Exchanges from to)) h =
       exit_says level (Exits (Exchanges from to)) (transition_after on_exit (Exchanges from to) value)
       (longer hook (Reopens (record { level = level; step = Exits (Exchanges from to) }))) h.3 h.2 h.0 h.1
