@@ -1,0 +1,5 @@
+pub mod ThawTraces
+pub mod ThawFits
+pub mod ThawCauses
+pub mod ThawWaits
+pub mod ThawKeeps
