@@ -184,7 +184,8 @@ gives_back_phase c m p refusal = record {
   quiet = λ w good t lt hook n e before after. refl;
   level_quiet = λ w good t lt hook i e before after.
       write_level_quiet c w good t lt hook (GivesBack m p refusal) e (Done (Err refusal)) alike_none i
-      (λ g at. (end_phase c (leaves_on p)).level_quiet (first_world c w good t lt hook (GivesBack m p refusal) e) g t lt hook i at) before after;
+      (λ g at.
+      (end_phase c (leaves_on p)).level_quiet (first_world c w good t lt hook (GivesBack m p refusal) e) g t lt hook i at) before after;
   stays = λ w next earlier good t f e was quiet h. want_kept c t w next earlier m (CountsDown refusal) (ap asks e) h;
   causes = λ w earlier good t lt hook e after is h. tt;
   waits = λ lim w earlier good t lt hook e cause. tt;
