@@ -142,22 +142,19 @@ after_at_levels : (n : Next Callback) → IsAtLevels (phase_after (map_next Call
 after_at_levels (Go x) = record {
   owns_none = refl;
   remounts_none = refl;
-  relies_none = refl;
-  closes_none = λ i. refl;
+  aside = refl;
   out_of_mounts = λ m. refl;
 }
 after_at_levels (Wait x) = record {
   owns_none = refl;
   remounts_none = refl;
-  relies_none = refl;
-  closes_none = λ i. refl;
+  aside = refl;
   out_of_mounts = λ m. refl;
 }
 after_at_levels (Done answer) = record {
   owns_none = refl;
   remounts_none = refl;
-  relies_none = refl;
-  closes_none = λ i. refl;
+  aside = refl;
   out_of_mounts = λ m. refl;
 }
 

@@ -38,7 +38,16 @@ callback_counts w t hook b (AwaitsSections grace) = refl
 callback_counts w t hook b (CallsBack Loads) = refl
 callback_counts w t hook b (CallsBack (Exchanges from to)) = refl
 
--- nor has what comes after it a cause
+-- nor a level's
+callback_levels : (w : World) (t : ℕ) (hook : HookAnswer) (b : Callback) (s : CallbackStep) →
+    (after_step w t (Callbacks (at_callback b s)) hook).words.level ≡ w.words.level
+callback_levels w t hook b (Claims Loads) = refl
+callback_levels w t hook b (Claims (Exchanges from to)) = refl
+callback_levels w t hook b (AwaitsSections grace) = refl
+callback_levels w t hook b (CallsBack Loads) = refl
+callback_levels w t hook b (CallsBack (Exchanges from to)) = refl
+
+-- and what comes after it has no cause
 callback_cause : (c : Config) (t : ℕ) (w : World) (earlier : List World) (n : Next Callback) →
     CauseOf c t w earlier (phase_after (map_next Callbacks n))
 callback_cause c t w earlier (Go x) = tt
@@ -59,6 +68,7 @@ callback_phase c b = record {
       (sym (callback_acts_none b b.step found)) (callback_goes c within t held levels b b.step found f);
   agrees = λ t f g h k mounts levels fits. fits;
   quiet = λ w good t lt hook m e before after. ap (λ f. f m) (callback_counts w t hook b b.step);
+  level_quiet = λ w good t lt hook i e before after. ap (λ f. f i) (callback_levels w t hook b b.step);
   stays = λ w next earlier good t f e was quiet h. tt;
   causes = λ w earlier good t lt hook e after is h.
       callback_cause c t (after_step w t (Callbacks b) hook) (w ∷ earlier)
@@ -78,7 +88,7 @@ callback_op c i = record {
       (l.0, l.1, refl, tt, tt);
   no_role = λ t y. refl;
   steady = λ t. record { owns_same = refl; remounts_same = refl; closing_same = λ j. refl };
-  relies = λ t. refl;
+  aside = λ t. refl;
   counts_not = λ t j. refl;
   apart = λ t j. by_bool (j == i) (λ b. sync_role_if b IsApart ≡ IsApart) refl refl;
   outside = λ t. refl;

@@ -5,7 +5,6 @@ use Rattle.mount_counts.specs.Roles.{ro_bit, Out}
 use Rattle.access_model.specs.declared.replies.Next.TheVariants.{Go, Wait, Done}
 use Rattle.finite_sums.proofs.Totals.{update_same, each_updated}
 use Rattle.gate_frames.proofs.Frames.{shown_as, left_alone, view_as}
-use Rattle.gate_world.specs.Remounts.{on_nothing}
 use Rattle.gate_world.specs.Shown.{closing, shown, node_shown}
 use Rattle.finite_sums.specs.Sums.{update}
 use Rattle.access_model.specs.Replies.{map_next}
@@ -14,7 +13,9 @@ use Rattle.gate_world.specs.declared.work.Phase.TheVariants.{UpReads, DownReads}
 use Rattle.percpu_rwsem.specs.declared.readers.DownRead.{DownRead}
 use Rattle.gate_world.specs.Levels.{is_frozen_whole, sync_role_of, inside, at_level}
 use Rattle.gate_world.specs.Views.{held_at, added_by, phase_after, taken_by, holds_level}
-use Rattle.gate_world.specs.Rules.{owns, remounts, IsGood, relied, Holds, ViewFits, Owner, Known, AtMount, AtLevel, role_of, SyncAt, Sections, Superblock, Stages, Fitting, Relying, Nodes}
+use Rattle.gate_world.specs.Rules.{owns, remounts, IsGood, Holds, ViewFits, Owner, Known, AtMount, AtLevel, role_of, SyncAt, Sections, Stages, Marks, Fitting, Nodes}
+use Rattle.gate_world.specs.Stages.{stage_role_of}
+use Rattle.stage_laws.specs.Roles.{Aside, sums}
 use Rattle.gate_world.specs.declared.config.Config.{Config}
 use Rattle.percpu_rwsem.specs.declared.readers.UpRead.{UpRead}
 use Rattle.access_model.specs.declared.replies.Next.{Next}
@@ -35,12 +36,11 @@ pub record IsBeside (old new : Words) : Type 0 where
   pub node_same : new.node ≡ old.node
   pub block_same : new.block ≡ old.block
 
--- a phase at levels alone: it owns nothing, relies on nothing, closes no level and has no role at a mount
+-- a phase at levels alone: it owns nothing, does nothing with the stage, so closes no level, and has no role at a mount
 pub record IsAtLevels (p : Option Phase) : Type 0 where
   pub owns_none : owns p ≡ 0
   pub remounts_none : remounts p ≡ 0
-  pub relies_none : relied p ≡ on_nothing
-  pub closes_none : (i : ℕ) → closing i p ≡ 0
+  pub aside : stage_role_of p ≡ Aside
   pub out_of_mounts : (m : ℕ) → role_of m p ≡ Out
 
 -- a view's accesses at mounts, and what it added to their words and took away, are as they were
@@ -58,22 +58,19 @@ pub reads_at_levels : (next : Next DownRead) → IsAtLevels (phase_after (map_ne
 reads_at_levels (Go r) = record {
   owns_none = refl;
   remounts_none = refl;
-  relies_none = refl;
-  closes_none = λ i. refl;
+  aside = refl;
   out_of_mounts = λ m. refl;
 }
 reads_at_levels (Wait r) = record {
   owns_none = refl;
   remounts_none = refl;
-  relies_none = refl;
-  closes_none = λ i. refl;
+  aside = refl;
   out_of_mounts = λ m. refl;
 }
 reads_at_levels (Done answer) = record {
   owns_none = refl;
   remounts_none = refl;
-  relies_none = refl;
-  closes_none = λ i. refl;
+  aside = refl;
   out_of_mounts = λ m. refl;
 }
 
@@ -82,8 +79,7 @@ pub end_at_levels : (u : UpRead) → IsAtLevels (Some (UpReads u))
 end_at_levels u = record {
   owns_none = refl;
   remounts_none = refl;
-  relies_none = refl;
-  closes_none = λ i. refl;
+  aside = refl;
   out_of_mounts = λ m. refl;
 }
 
@@ -119,13 +115,14 @@ module _ (c : Config) (w : World) (good : IsGood c w) (t : ℕ) (lt : t < c.task
   pub level_parts : SameAtMounts (w.views t) v → ViewFits c t v → ((i : ℕ) → Holds c then_world (AtLevel i)) →
       ((i : ℕ) → Holds c then_world (SyncAt i)) → Holds c then_world Sections → IsGood c then_world
   level_parts mounts fits levels syncs sections Owner = owner_left
-  level_parts mounts fits levels syncs sections Superblock = left_alone c w t lt Superblock ws v words.sb_same tt (good Superblock)
-  level_parts mounts fits levels syncs sections Stages = left_alone c w t lt Stages ws v words.stage_same tt (good Stages)
+  level_parts mounts fits levels syncs sections Stages =
+      left_alone c w t lt Stages ws v (words.stage_same, words.sb_same, words.remount_same, words.block_same)
+      (now.aside ∙ sym was.aside) (good Stages)
+  level_parts mounts fits levels syncs sections Marks =
+      left_alone c w t lt Marks ws v (words.stage_same, words.sb_same, words.node_same) (now.aside ∙ sym was.aside) (good Marks)
   level_parts mounts fits levels syncs sections Fitting = λ x lx.
       each_updated (λ y (u : View). ViewFits c y u) w.views t v x fits (λ ne. good Fitting x lx)
   level_parts mounts fits levels syncs sections Known = known_left
-  level_parts mounts fits levels syncs sections Relying =
-      left_alone c w t lt Relying ws v (words.stage_same, words.sb_same) (now.relies_none ∙ sym was.relies_none) (good Relying)
   level_parts mounts fits levels syncs sections Nodes = left_alone c w t lt Nodes ws v words.node_same tt (good Nodes)
   level_parts mounts fits levels syncs sections (AtMount m) = mount_left mounts m
   level_parts mounts fits levels syncs sections (AtLevel i) = levels i
@@ -134,7 +131,7 @@ module _ (c : Config) (w : World) (good : IsGood c w) (t : ℕ) (lt : t < c.task
 
   -- a level is closed as before
   pub closing_same : (i : ℕ) → closing i v.phase ≡ closing i (w.views t).phase
-  closing_same i = now.closes_none i ∙ sym (was.closes_none i)
+  closing_same i = ap (sums i) (now.aside ∙ sym was.aside)
 
   -- the shown model, where the task's accesses at levels alone may be others
   pub level_shown : SameAtMounts (w.views t) v → shown c then_world ≡

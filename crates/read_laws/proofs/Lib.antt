@@ -1,6 +1,7 @@
 pub mod ReadLevels
 pub mod LevelParts
 pub mod LevelCounts
+pub mod LevelQuiet
 pub mod CallbackEvents
 pub mod ReadEvents
 pub mod EndEvents

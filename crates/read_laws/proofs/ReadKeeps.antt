@@ -25,6 +25,7 @@ use Rattle.gate_frames.proofs.Keeps.{by_bool, PhaseKeeps, IsSmall, OpKeeps}
 use Rattle.gate_frames.proofs.Snapshots.{completes_none}
 use Rattle.trace_laws.proofs.Says.{tells, is_short}
 use Rattle.read_laws.proofs.EndEvents.{end_keeps}
+use Rattle.read_laws.proofs.LevelQuiet.{quiet_read, quiet_end}
 use Rattle.read_laws.proofs.ReadEvents.{read_keeps}
 use Rattle.read_laws.proofs.ReadFits.{both_true, level_there, none_from_agree, read_step_agrees, read_there, read_acts, read_goes, read_fits}
 use Rattle.read_laws.proofs.ReadCauses.{read_not_closed, read_stays, read_own, asks_next, next_cause, read_tells}
@@ -51,6 +52,7 @@ read_phase c r = record {
   agrees = λ t f g h k mounts levels fits.
       (fits.0, fits.1, fits.2, fits.3, read_step_agrees h k levels r.level r.step fits.0 fits.1 fits.4);
   quiet = λ w good t lt hook m e before after. ap (λ f. f m) (read_counts w t hook r r.step);
+  level_quiet = λ w good t lt hook i e. quiet_read c w good t lt hook i r r.step e;
   stays = λ w next earlier good t f e was quiet h. read_stays c t w next earlier r.level r.step (ap asks_level e) h;
   causes = λ w earlier good t lt hook e after is h.
       let f : Fits c t (held_at (w.views t)) (holds_level (w.views t)) (Some (DownReads r)) =
@@ -76,6 +78,7 @@ end_phase c u = record {
   goes = λ within t held levels found hook f. tt;
   agrees = λ t f g h k mounts levels fits. (fits.0, fits.1, fits.2, sym (levels u.level fits.0 fits.1) ∙ fits.3);
   quiet = λ w good t lt hook m e before after. refl;
+  level_quiet = λ w good t lt hook i e. quiet_end c w good t lt hook i u e;
   stays = λ w next earlier good t f e was quiet h. tt;
   causes = λ w earlier good t lt hook e after is h. tt;
   waits = λ within w earlier good t lt hook e cause. tt;
@@ -98,7 +101,7 @@ start_op c i p wait = record {
       (l.0, l.1, l.2, refl, order);
   no_role = λ t y. refl;
   steady = λ t. record { owns_same = refl; remounts_same = refl; closing_same = λ j. refl };
-  relies = λ t. refl;
+  aside = λ t. refl;
   counts_not = λ t j. by_bool (j == i) (λ b. count_role_if b CountsNot ≡ CountsNot) refl refl;
   apart = λ t j. by_bool (j == i) (λ b. sync_role_if b IsApart ≡ IsApart) refl refl;
   outside = λ t. refl;
@@ -119,7 +122,7 @@ end_op c i p = record {
       (l.0, l.1, l.2, order);
   no_role = λ t y. refl;
   steady = λ t. record { owns_same = refl; remounts_same = refl; closing_same = λ j. refl };
-  relies = λ t. refl;
+  aside = λ t. refl;
   counts_not = λ t j. refl;
   apart = λ t j. refl;
   outside = λ t. refl;

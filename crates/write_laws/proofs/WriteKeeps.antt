@@ -36,6 +36,7 @@ use Rattle.gate_world.specs.Worlds.{World, after_step, found_at}
 use Rattle.gate_world.specs.Rules.{IsGood, StepKeeps, role_of}
 use Rattle.gate_frames.proofs.Frames.{role_on}
 use Rattle.gate_frames.proofs.Keeps.{by_bool, PhaseKeeps, OpKeeps, none_agree}
+use Rattle.gate_frames.proofs.MountEvents.{mounts_quiet}
 use Rattle.gate_frames.proofs.Rephased.{update_twice}
 use Rattle.gate_frames.proofs.Snapshots.{completes_none}
 use Rattle.trace_laws.proofs.Says.{tells, is_short}
@@ -48,7 +49,7 @@ use Rattle.want_laws.proofs.WantCauses.{want_kept, want_own}
 use Rattle.want_laws.proofs.WantWaits.{want_waits}
 use Rattle.want_laws.proofs.WantKeeps.{both, want_phase, drop_phase}
 use Rattle.write_laws.proofs.Alikes.{alike_takes, alike_wants, alike_ends, alike_none, takes_goes, wants_goes}
-use Rattle.write_laws.proofs.WriteSteps.{write_fits_now, write_step, write_quiet, first_world}
+use Rattle.write_laws.proofs.WriteSteps.{write_fits_now, write_step, write_quiet, write_level_quiet, first_world}
 use Rattle.write_laws.proofs.WriteCauses.{takes_asks, takes_cause, takes_waits, wants_asked, wants_cause, wants_waits}
 use Rattle.write_laws.proofs.WriteTraces.{WriteAt, DropAt, write_kept, drop_kept}
 
@@ -118,6 +119,10 @@ takes_phase c m r = record {
   agrees = λ t f g h k mounts levels fits.
       ((read_phase c r).agrees t f g h k mounts levels fits.0, fits.1, fits.2, omega (arith, fits.3, mounts m fits.2));
   quiet = λ w good t lt hook n e before after. ap (λ f. f n) (read_counts w t hook r r.step);
+  level_quiet = λ w good t lt hook i e before after.
+      let coming : Next DownRead = (down_read_after r r.step (found_at w.words (DownReads r) hook)).0 in
+      write_level_quiet c w good t lt hook (Takes m r) e (map_next Writes (then_wants m r.cpu coming)) (alike_takes m r.cpu coming) i
+      (λ g at. (read_phase c r).level_quiet (first_world c w good t lt hook (Takes m r) e) g t lt hook i at) before after;
   stays = λ w next earlier good t f e was quiet h. read_stays c t w next earlier r.level r.step (ap asks_level e) h;
   causes = λ w earlier good t lt hook e after is h.
       let f : WriteFits c t (held_at (w.views t)) (holds_level (w.views t)) (Takes m r) =
@@ -149,6 +154,7 @@ wants_phase c x = record {
       write_quiet c w good t lt hook (Wants x) e (map_next Writes (then_gives_back x.mount x.cpu coming))
       (alike_wants x.mount x.cpu coming) n
       (λ g at. (want_phase c x).quiet (first_world c w good t lt hook (Wants x) e) g t lt hook n at) before after;
+  level_quiet = λ w good t lt hook i e before after. mounts_quiet w t hook (PlainWant x) i;
   stays = λ w next earlier good t f e was quiet h. want_kept c t w next earlier x.mount x.step (ap asks e) h;
   causes = λ w earlier good t lt hook e after is h.
       let f : WriteFits c t (held_at (w.views t)) (holds_level (w.views t)) (Wants x) = write_fits_now c w good t lt hook (Wants x) e in
@@ -176,6 +182,10 @@ gives_back_phase c m p refusal = record {
   goes = λ lim t held levels found hook f. tt;
   agrees = λ t f g h k mounts levels fits. (fits.0, fits.1, sym (levels 1 (omega arith) (omega arith)) ∙ fits.2);
   quiet = λ w good t lt hook n e before after. refl;
+  level_quiet = λ w good t lt hook i e before after.
+      write_level_quiet c w good t lt hook (GivesBack m p refusal) e (Done (Err refusal)) alike_none i
+      (λ g at.
+      (end_phase c (leaves_on p)).level_quiet (first_world c w good t lt hook (GivesBack m p refusal) e) g t lt hook i at) before after;
   stays = λ w next earlier good t f e was quiet h. want_kept c t w next earlier m (CountsDown refusal) (ap asks e) h;
   causes = λ w earlier good t lt hook e after is h. tt;
   waits = λ lim w earlier good t lt hook e cause. tt;
@@ -195,6 +205,7 @@ drops_phase c m p = record {
   quiet = λ w good t lt hook n e before after.
       write_quiet c w good t lt hook (Drops m p) e (Go (Writes (Ends p))) (alike_ends p) n
       (λ g at. (drop_phase c m p).quiet (first_world c w good t lt hook (Drops m p) e) g t lt hook n at) before after;
+  level_quiet = λ w good t lt hook i e before after. refl;
   stays = λ w next earlier good t f e was quiet h. tt;
   causes = λ w earlier good t lt hook e after is h. tt;
   waits = λ lim w earlier good t lt hook e cause. tt;
@@ -212,6 +223,9 @@ ends_phase c p = record {
   goes = λ lim t held levels found hook f. tt;
   agrees = λ t f g h k mounts levels fits. (fits.0, sym (levels 1 (omega arith) (omega arith)) ∙ fits.1);
   quiet = λ w good t lt hook n e before after. refl;
+  level_quiet = λ w good t lt hook i e before after.
+      write_level_quiet c w good t lt hook (Ends p) e (Done (Ok UnitReply)) alike_none i
+      (λ g at. (end_phase c (leaves_on p)).level_quiet (first_world c w good t lt hook (Ends p) e) g t lt hook i at) before after;
   stays = λ w next earlier good t f e was quiet h. tt;
   causes = λ w earlier good t lt hook e after is h. tt;
   waits = λ lim w earlier good t lt hook e cause. tt;
@@ -249,7 +263,7 @@ want_write_op c m p = record {
       ((omega arith, omega arith, at.1, refl, order), refl, at.0, ltb-true (held m) 1024 room);
   no_role = λ t y. refl;
   steady = λ t. record { owns_same = refl; remounts_same = refl; closing_same = λ j. refl };
-  relies = λ t. refl;
+  aside = λ t. refl;
   counts_not = λ t j. by_bool (j == 1) (λ b. count_role_if b CountsNot ≡ CountsNot) refl refl;
   apart = λ t j. by_bool (j == 1) (λ b. sync_role_if b IsApart ≡ IsApart) refl refl;
   outside = λ t. refl;
@@ -274,7 +288,7 @@ drop_write_op c m p = record {
       ((at.0, at.1, ltb-true 0 (held m) o.1), o.0);
   no_role = λ t y. refl;
   steady = λ t. record { owns_same = refl; remounts_same = refl; closing_same = λ j. refl };
-  relies = λ t. refl;
+  aside = λ t. refl;
   counts_not = λ t j. refl;
   apart = λ t j. refl;
   outside = λ t. refl;

@@ -18,11 +18,14 @@ use Rattle.gate_world.specs.Views.{held_at, holds_level, phase_after}
 use Rattle.gate_world.specs.Work.{plain, next_of, after_of}
 use Rattle.gate_world.specs.Fits.{Fits, WriteFits, PhaseFits, mounts_by, levels_by}
 use Rattle.gate_world.specs.Alike.{IsAlike, at_phase, rephased}
-use Rattle.gate_world.specs.Causes.{all_counted}
+use Rattle.gate_world.specs.Causes.{all_counted, all_inside}
 use Rattle.gate_world.specs.Worlds.{World, found_at}
 use Rattle.gate_world.specs.Shown.{shown}
 use Rattle.gate_world.specs.Rules.{IsGood, Moves, Fitting, at_mount}
-use Rattle.gate_frames.proofs.Frames.{view_as}
+use Rattle.gate_world.specs.Levels.{at_level}
+use Rattle.gate_counts.specs.Gates.{counted as counted_of}
+use Rattle.gate_counts.specs.Levels.{LevelView, level_as_gate}
+use Rattle.gate_frames.proofs.Frames.{view_as, level_view_as}
 use Rattle.gate_frames.proofs.Rephased.{alike_of, rephased_good, made, made_again, made_keeps}
 use Rattle.write_laws.proofs.Alikes.{alike_plain}
 
@@ -42,6 +45,15 @@ rephased_counted c w t q same m =
     let there : at_mount m (at_phase (w.views t) q) ≡ at_mount m (w.views t) = view_as refl refl refl (same.role_same m) in
     ap (total c.tasks) (fun_ext (λ x. each_updated (λ y (u : View). counted (at_mount m u) ≡ counted (at_mount m (w.views y))) w.views t
     (at_phase (w.views t) q) x (ap counted there) (λ ne. refl)))
+
+-- and at each level
+pub rephased_inside : (c : Config) (w : World) (t : ℕ) (q : Option Phase) → IsAlike (w.views t).phase q → (i : ℕ) →
+    all_inside c i (rephased w t q) ≡ all_inside c i w
+rephased_inside c w t q same i =
+    let there : at_level i (at_phase (w.views t) q) ≡ at_level i (w.views t) = level_view_as refl refl refl (same.level_same i) in
+    ap (total c.tasks) (fun_ext (λ x. each_updated
+    (λ y (u : View). counted_of (level_as_gate (at_level i u)) ≡ counted_of (level_as_gate (at_level i (w.views y)))) w.views t
+    (at_phase (w.views t) q) x (ap (λ (l : LevelView). counted_of (level_as_gate l)) there) (λ ne. refl)))
 
 module _ (c : Config) (w : World) (good : IsGood c w) (t : ℕ) (lt : t < c.tasks) (hook : HookAnswer) (x : WritePhase)
     (e : (w.views t).phase ≡ Some (Writes x)) where
@@ -109,3 +121,26 @@ module _ (c : Config) (w : World) (good : IsGood c w) (t : ℕ) (lt : t < c.task
       (ap (λ (u : View). u.phase) (update_at w.views t (at_phase (w.views t) (Some (plain x)))))
       (rephased_counted c w t (Some (plain x)) before m ∙ a)
       (made_counted coming after m ∙ b)
+
+  -- the same of a level: where nothing is counted there in that world before the gate's event and after it, the event leaves the counts
+  abbrev pub PlainLevelQuiet : ℕ → Type 0
+  PlainLevelQuiet i = IsGood c first_world → (first_world.views t).phase ≡ Some (plain x) → all_inside c i first_world ≡ 0 →
+      all_inside c i (made_in first_world plain_after) ≡ 0 → (made_in w plain_after).words.level i ≡ w.words.level i
+
+  -- as much is counted there after it as after the event of the longer operation
+  made_inside : (coming : Next Phase) → IsAlike (phase_after plain_after) (phase_after coming) → (i : ℕ) →
+      all_inside c i (made_in first_world plain_after) ≡ all_inside c i (made_in w coming)
+  made_inside coming after i =
+      let there : World = made_in first_world plain_after in
+      let is : (there.views t).phase ≡ phase_after plain_after = ap (λ (u : View). u.phase) (update_at first_world.views t _) in
+      sym (rephased_inside c there t (phase_after coming) (alike_of is after) i) ∙
+      ap (all_inside c i) (made_again c w t lt (Some (plain x)) (next_of (plain x) hook) hook plain_after coming plain_action)
+
+  -- so the event of the longer operation leaves them too
+  pub write_level_quiet : (coming : Next Phase) → IsAlike (phase_after plain_after) (phase_after coming) → (i : ℕ) → PlainLevelQuiet i →
+      all_inside c i w ≡ 0 → all_inside c i (made_in w coming) ≡ 0 → (made_in w plain_after).words.level i ≡ w.words.level i
+  write_level_quiet coming after i quiet a b =
+      quiet (rephased_good c w t lt (Some (plain x)) before fits_plain good)
+      (ap (λ (u : View). u.phase) (update_at w.views t (at_phase (w.views t) (Some (plain x)))))
+      (rephased_inside c w t (Some (plain x)) before i ∙ a)
+      (made_inside coming after i ∙ b)
