@@ -1,6 +1,6 @@
 -- Traces of a freeze of the superblock.
-use Rattle.std.proofs.Common.{◌≡◌, ℕ, zero, suc, ◌+◌, ◌-◌, Bool, true, false, refl, sym, ap, ◌∙◌, subst, inl, inr, true≢false, arith}
-use Rattle.std.specs.Prelude.{◌==◌, nat_lt, if◌then◌else◌, Option, Some, None, Result, Ok, Err, List, [], ◌∷◌, ◌++◌, bit_and}
+use Rattle.std.proofs.Common.{◌≡◌, ℕ, zero, suc, ◌+◌, ◌-◌, Bool, true, false, refl, sym, ap, ◌∙◌, subst, inl, inr, arith}
+use Rattle.std.specs.Prelude.{◌==◌, nat_lt, if◌then◌else◌, Option, Result, Ok, Err, List, [], ◌∷◌, ◌++◌, bit_and}
 use Rattle.std.proofs.lemmas.Bool.{eq-eqb, ne_eqb, cases_Bool}
 use Rattle.std.proofs.lemmas.Bool.Decides.{eqb_tells}
 use Rattle.std.proofs.lemmas.Nat.Bits.{and_pow}
@@ -21,7 +21,8 @@ use Rattle.cpu_words.specs.declared.events.Touch.TheVariants.{Store, And}
 use Rattle.cpu_words.specs.Hooks.{HookAnswer}
 use Rattle.cpu_words.specs.Touches.{event_of, found_by}
 use Rattle.mount_counts.specs.Phases.{has_flag}
-use Rattle.gated_tree.specs.Nodes.{dirty_in}
+use Rattle.gated_tree.specs.Nodes.{dirty_in, node_after}
+use Rattle.gated_tree.specs.Phases.{clears_at}
 use Rattle.gated_tree.specs.declared.marks.ClearMarks.{ClearMarks}
 use Rattle.percpu_rwsem.specs.declared.transitions.Transition.{Transition}
 use Rattle.percpu_rwsem.specs.declared.transitions.Transition.TheVariants.{Loads, Exchanges}
@@ -54,7 +55,7 @@ use Rattle.freeze_levels.specs.declared.freezes.FreezeStep.TheVariants.{
   Reopens,
   Releases,
 }
-use Rattle.freeze_levels.specs.Freezes.{after_closing, after_reopening, freeze_fails, level_closed}
+use Rattle.freeze_levels.specs.Freezes.{after_closing, after_clearing, after_reopening, freeze_fails, level_closed}
 use Rattle.gate_world.specs.declared.config.Config.{Config}
 use Rattle.gate_world.specs.declared.operations.Op.TheVariants.{Freeze as FreezeOp}
 use Rattle.gate_world.specs.declared.work.Phase.{Phase}
@@ -67,18 +68,7 @@ use Rattle.gate_world.specs.Operations.{two_levels_closed, all_levels_closed}
 use Rattle.gate_world.specs.Traces.{actions_of, IsHonestAnswer, Tells, IsShort, most_events}
 use Rattle.gate_world.specs.Views.{actions_after, with_hook}
 use Rattle.trace_laws.proofs.Says.{Says, SaysAfter, Kept, event_at, tells, is_short}
-use Rattle.freeze_laws.proofs.FreezeSums.{
-  ClosingSays,
-  ClosingGoes,
-  ClosingNext,
-  FoundOthers,
-  Leaves,
-  closing_at,
-  closing_trace,
-  closing_found,
-  closing_leaves,
-  closing_event,
-}
+use Rattle.freeze_laws.proofs.FreezeSums.{ClosingSays, ClosingNext, Leaves, closing_at, closing_trace, closing_found, closing_leaves, closing_event}
 
 -- a freeze of the superblock by a task, at this step
 abbrev pub freeze_of : Config → ℕ → FreezeStep → Freeze
@@ -275,25 +265,27 @@ module _ (c : Config) (lim : IsWithin c) (t value : ℕ) (earlier : List Traced)
       (closing_event c lim i value hook earlier s h.4)
       )
 
-  -- a mark was found set, or clear, and another node comes, or none
+  -- another node comes, or the marks are cleared
+  node_says : (marks : ClearMarks) (trace : List Traced) (actions : List Action) →
+      HasAdded (two_levels_closed trace) false trace actions →
+      Says (FreezeAt c t) c FreezeOp trace
+      (map_next Freezes (after_clearing (freeze_of c t (Cleans marks)) (clears_at marks (node_after marks.node marks.nodes)))) actions
+  node_says marks trace actions h =
+      elim (cases_Bool (nat_lt (marks.node + 1) marks.nodes)) [
+        | inl f ↦ rw f (Cleans (record marks { node = marks.node + 1 }), refl, h)
+        | inr f ↦ rw f (SetsFs, refl, h)
+      ]
+
+  -- a mark was found set, or clear
   clears : (hook : HookAnswer) (marks : ClearMarks) → StepSays c (Cleans marks) earlier added → After hook (Cleans marks)
   clears hook marks h =
-      let mark : (dirty_in value == 1) ≡ has_flag value 4 = mark_bit value in
+      let trace : List Traced = longer hook (Cleans marks) in
       elim (cases_Bool (has_flag value 4)) [
-        | inl f ↦
-            let now : HasAdded (two_levels_closed (longer hook (Cleans marks))) false (longer hook (Cleans marks)) (Clean marks.node ∷ added) =
-            (rw f (ap (λ (l : List Action). Clean marks.node ∷ l) h.0), h.1, h.2) in
-            elim (cases_Bool (nat_lt (marks.node + 1) marks.nodes)) [
-              | inl g ↦ rw (g, mark ∙ f) (Cleans (record marks { node = marks.node + 1 }), refl, now)
-              | inr g ↦ rw (g, mark ∙ f) (SetsFs, refl, now)
-            ]
-        | inr f ↦
-            let now : HasAdded (two_levels_closed (longer hook (Cleans marks))) false (longer hook (Cleans marks)) added =
-            (rw f h.0, h.1, h.2) in
-            elim (cases_Bool (nat_lt (marks.node + 1) marks.nodes)) [
-              | inl g ↦ rw (g, mark ∙ f) (Cleans (record marks { node = marks.node + 1 }), refl, now)
-              | inr g ↦ rw (g, mark ∙ f) (SetsFs, refl, now)
-            ]
+        | inl f ↦ rw (mark_bit value ∙ f) (
+            node_says marks trace (Clean marks.node ∷ added)
+            (rw f (ap (λ (l : List Action). Clean marks.node ∷ l) h.0), h.1, h.2)
+            )
+        | inr f ↦ rw (mark_bit value ∙ f) (node_says marks trace added (rw f h.0, h.1, h.2))
       ]
 
   -- the file system has answered `sync`: stage 3 is stored, or 0
@@ -325,17 +317,17 @@ module _ (c : Config) (lim : IsWithin c) (t value : ℕ) (earlier : List Traced)
   )
 
   -- a level is being left, or it is left and the level below it comes
-  leaves_on : (hook : HookAnswer) (i code : ℕ) (from : Transition) (trace : List Traced) (n : TransitionNext) → AreLeft i trace added →
+  leaves_on : (i code : ℕ) (from : Transition) (trace : List Traced) (n : TransitionNext) → AreLeft i trace added →
       ReadAnswer Stage (Err code) trace →
       Says (FreezeAt c t) c FreezeOp trace
       (map_next Freezes (after_reopening (freeze_of c t (Reopens (record { level = suc i; step = Exits from }) code)) (suc i) code
       (exit_made (record { level = suc i; step = Exits from }) n)))
       added
-  leaves_on hook i code from trace (More transition) h said =
+  leaves_on i code from trace (More transition) h said =
       (Reopens (record { level = suc i; step = Exits transition }) code, refl, (suc i, Exits transition, refl, h, said))
-  leaves_on hook i code from trace Undefined h said =
+  leaves_on i code from trace Undefined h said =
       (Reopens (record { level = suc i; step = Exits Loads }) code, refl, (suc i, Exits Loads, refl, h, said))
-  leaves_on hook i code from trace (Made state) h said = rw (below_next i) (freeze_fails i code, refl, fails_says c i code trace added h said)
+  leaves_on i code from trace (Made state) h said = rw (below_next i) (freeze_fails i code, refl, fails_says c i code trace added h said)
 
   -- an event on a level's words leaves what is left
   still_left : (hook : HookAnswer) (i n : ℕ) (transition : Transition) → AreLeft n earlier added →
@@ -363,7 +355,7 @@ module _ (c : Config) (lim : IsWithin c) (t value : ℕ) (earlier : List Traced)
       ReadAnswer Stage (Err code) earlier → After hook (Reopens (record { level = i; step = s }) code)
   reopening_event hook code zero s h said = absurd h
   reopening_event hook code (suc i) (Exits transition) h said =
-      leaves_on hook i code transition (longer hook (Reopens (record { level = suc i; step = Exits transition }) code))
+      leaves_on i code transition (longer hook (Reopens (record { level = suc i; step = Exits transition }) code))
       (transition_after on_exit transition (found_by (transition_next (suc i) transition).1 value)) (still_left hook (suc i) i transition h) (inr said)
   reopening_event hook code (suc i) ClearsBlock h said = (
     Reopens (record { level = suc i; step = Exits Loads }) code,
