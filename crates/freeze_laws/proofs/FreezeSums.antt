@@ -196,7 +196,8 @@ module _ (c : Config) (lim : IsWithin c) (i value : ℕ) (hook : HookAnswer) (ea
       (enter_goes (closing_trace (Enters transition)) (transition_after on_enter transition (closing_found (Enters transition))), refl)
   closing_event (AwaitsSections grace) h = looks_at_section grace
   closing_event (CallsBack transition) h =
-      (callback_goes (closing_trace (CallsBack transition)) (transition_after on_callback transition (closing_found (CallsBack transition))), refl)
+      let found : ℕ = closing_found (CallsBack transition) in
+      (callback_goes (closing_trace (CallsBack transition)) (transition_after on_callback transition found), refl)
   closing_event AwaitsPassed h = looks_at_sync (unpack value) refl
   closing_event SetsBlock h = sets_block
   closing_event (Sums sum) h = sums_on sum h

@@ -68,7 +68,16 @@ use Rattle.gate_world.specs.Operations.{two_levels_closed, all_levels_closed}
 use Rattle.gate_world.specs.Traces.{actions_of, IsHonestAnswer, Tells, IsShort, most_events}
 use Rattle.gate_world.specs.Views.{actions_after, with_hook}
 use Rattle.trace_laws.proofs.Says.{Says, SaysAfter, Kept, event_at, tells, is_short}
-use Rattle.freeze_laws.proofs.FreezeSums.{ClosingSays, ClosingNext, Leaves, closing_at, closing_trace, closing_found, closing_leaves, closing_event}
+use Rattle.freeze_laws.proofs.FreezeSums.{
+  ClosingSays,
+  ClosingNext,
+  Leaves,
+  closing_at,
+  closing_trace,
+  closing_found,
+  closing_leaves,
+  closing_event,
+}
 
 -- a freeze of the superblock by a task, at this step
 abbrev pub freeze_of : Config → ℕ → FreezeStep → Freeze
@@ -78,7 +87,7 @@ freeze_of c t step = record { task = t; tasks = c.tasks; processors = c.processo
 abbrev pub freeze_at : Config → ℕ → FreezeStep → Phase
 freeze_at c t step = Freezes (freeze_of c t step)
 
--- these actions are added, the superblock was found writable, and stage 3 stored or not
+-- these actions are added, the superblock wasn't found read-only, and stage 3 is stored or not
 abbrev HasAdded : List Action → Bool → List Traced → List Action → Type 0
 HasAdded done third trace added = (added ≡ done) × (found_sealed trace ≡ false) × (stored_stage 3 trace ≡ third)
 
@@ -93,7 +102,7 @@ IsClosing (suc (suc zero)) trace added = HasBegun (StageAction 2 ∷ (Pass 1 ∷
 IsClosing (suc (suc (suc zero))) trace added = HasAdded (StageAction 3 ∷ two_levels_closed trace) true trace added
 IsClosing i trace added = ⊥
 
--- what a freeze that the file system has refused has added where two levels are closed
+-- what a freeze whose hook failed has added where two levels are still closed
 abbrev two_left : List Traced → List Action
 two_left trace =
     if stored_stage 3 trace
@@ -206,7 +215,8 @@ below_next i = omega arith
 
 -- an event that gives `umount` back leaves what is told
 lock_leaves : (c : Config) (answer : Result Reply GateError) (value : ℕ) (hook : HookAnswer) (earlier : List Traced)
-    (added : List Action) → Answers c answer earlier added → Answers c answer (with_hook (event_of Umount (Store 0) value) hook ∷ earlier) added
+    (added : List Action) → Answers c answer earlier added →
+    Answers c answer (with_hook (event_of Umount (Store 0) value) hook ∷ earlier) added
 lock_leaves c (Err (Hook code)) value hook earlier added h = (h.0, inr h.1)
 lock_leaves c answer value hook earlier added h = h
 
@@ -356,7 +366,8 @@ module _ (c : Config) (lim : IsWithin c) (t value : ℕ) (earlier : List Traced)
   reopening_event hook code zero s h said = absurd h
   reopening_event hook code (suc i) (Exits transition) h said =
       leaves_on i code transition (longer hook (Reopens (record { level = suc i; step = Exits transition }) code))
-      (transition_after on_exit transition (found_by (transition_next (suc i) transition).1 value)) (still_left hook (suc i) i transition h) (inr said)
+      (transition_after on_exit transition (found_by (transition_next (suc i) transition).1 value))
+      (still_left hook (suc i) i transition h) (inr said)
   reopening_event hook code (suc i) ClearsBlock h said = (
     Reopens (record { level = suc i; step = Exits Loads }) code,
     refl,
