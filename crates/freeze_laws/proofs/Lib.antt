@@ -1,0 +1,2 @@
+pub mod FreezeSums
+pub mod FreezeTraces

@@ -1,0 +1,203 @@
+-- What the trace of an operation says while it closes a level: which events are added to it, and why it waits.
+use Rattle.std.proofs.Common.{◌≡◌, ℕ, suc, ◌+◌, ◌%◌, ◌<◌, ◌⊎◌, true, refl, ap, ◌∙◌, subst, inl, inr, add-one, arith}
+use Rattle.std.specs.Prelude.{◌==◌, nat_lt, Option, Some, None, List, ◌∷◌}
+use Rattle.std.proofs.lemmas.Bool.{ltb-true, ltb-false, cases_Bool}
+use Rattle.std.proofs.lemmas.Bool.Decides.{eqb_tells}
+use Rattle.access_model.specs.declared.actions.Action.{Action}
+use Rattle.access_model.specs.declared.actions.Action.TheVariants.{Pass}
+use Rattle.access_model.specs.declared.replies.Next.{Next}
+use Rattle.access_model.specs.declared.replies.Next.TheVariants.{Go, Wait, Done}
+use Rattle.cpu_words.specs.declared.sums.Sum.{Sum}
+use Rattle.cpu_words.specs.Hooks.{HookAnswer}
+use Rattle.cpu_words.specs.Touches.{wrap_add, event_of, found_by}
+use Rattle.percpu_rwsem.specs.declared.sync_word.GpState.{GpState}
+use Rattle.percpu_rwsem.specs.declared.sync_word.GpState.TheVariants.{Idle, Enter, Passed, Exit, Replay}
+use Rattle.percpu_rwsem.specs.declared.sync_word.SyncWord.{SyncWord}
+use Rattle.percpu_rwsem.specs.declared.grace.Grace.{Grace}
+use Rattle.percpu_rwsem.specs.declared.transitions.Transition.TheVariants.{Loads, Exchanges}
+use Rattle.percpu_rwsem.specs.declared.transitions.TransitionNext.{TransitionNext}
+use Rattle.percpu_rwsem.specs.declared.transitions.TransitionNext.TheVariants.{More, Undefined, Made}
+use Rattle.percpu_rwsem.specs.declared.writers.DownWrite.{DownWrite}
+use Rattle.percpu_rwsem.specs.declared.writers.DownWriteStep.{DownWriteStep}
+use Rattle.percpu_rwsem.specs.declared.writers.DownWriteStep.TheVariants.{Enters, AwaitsSections, CallsBack, AwaitsPassed, SetsBlock, Sums}
+use Rattle.percpu_rwsem.specs.SyncWords.{unpack, is_passed, on_enter, on_callback}
+use Rattle.percpu_rwsem.specs.Graces.{is_first, passed_on}
+use Rattle.percpu_rwsem.specs.Transitions.{transition_after}
+use Rattle.percpu_rwsem.specs.Writers.{
+  down_write_next,
+  down_write_after,
+  entered_from,
+  enter_step,
+  callback_step,
+  sections_awaited,
+  passed_awaited,
+  sum_begun,
+}
+use Rattle.gate_world.specs.declared.config.Config.{Config}
+use Rattle.gate_world.specs.declared.views.Traced.{Traced}
+use Rattle.gate_world.specs.Configs.{IsWithin}
+use Rattle.gate_world.specs.Found.{found_sealed, stored_stage, cleans, newest, finds_readers, IsLevelSum, sum_of_newest, FoundInside}
+use Rattle.gate_world.specs.Views.{with_hook}
+
+-- the closing of this level, among the tasks and processors of a configuration, at a step
+abbrev pub closing_at : Config → ℕ → DownWriteStep → DownWrite
+closing_at c i s = record { level = i; tasks = c.tasks; processors = c.processors; step = s }
+
+-- the sum of a step under way is what the newest events found
+abbrev pub ClosingSays : Config → ℕ → DownWriteStep → List Traced → Type 0
+ClosingSays c i (Sums sum) trace =
+    (sum.words < c.processors) × IsLevelSum i sum.words trace × (sum.total ≡ sum_of_newest sum.words trace)
+ClosingSays c i s trace = Unit {0}
+
+-- a step of the closing comes, and the trace says what it is to say there
+abbrev pub ClosingGoes : Config → ℕ → List Traced → DownWrite → Type 0
+ClosingGoes c i trace d = (s : DownWriteStep) × (d ≡ closing_at c i s) × ClosingSays c i s trace
+
+-- the newest event found readers or another writer, or the newest events a sum other than 0
+abbrev pub FoundOthers : Config → List Traced → Type 0
+FoundOthers c trace = (newest finds_readers trace ≡ true) ⊎ FoundInside c.processors trace
+
+-- What the trace says by what comes after an event of the closing of a level, which added this: only the last event adds an action, the
+-- pass of the level.
+abbrev pub ClosingNext : Config → ℕ → List Traced → Next DownWrite → Option Action → Type 0
+ClosingNext c i trace (Go d) action = ClosingGoes c i trace d × (action ≡ None)
+ClosingNext c i trace (Wait d) action = ClosingGoes c i trace d × (action ≡ None) × FoundOthers c trace
+ClosingNext c i trace (Done answer) action = action ≡ Some (Pass i)
+
+-- the trace has found the superblock's flag, stored stage 3 and cleared marks as an earlier one had
+abbrev pub Leaves : List Traced → List Traced → Type 0
+Leaves trace earlier =
+    (found_sealed trace ≡ found_sealed earlier) × (stored_stage 3 trace ≡ stored_stage 3 earlier) × (cleans trace ≡ cleans earlier)
+
+module _ (c : Config) (lim : IsWithin c) (i value : ℕ) (hook : HookAnswer) (earlier : List Traced) where
+  -- the trace after the event of a step
+  abbrev pub closing_trace : DownWriteStep → List Traced
+  closing_trace s =
+      with_hook (event_of (down_write_next (closing_at c i s) s).0 (down_write_next (closing_at c i s) s).1 value) hook ∷ earlier
+
+  -- what the event of a step found
+  abbrev pub closing_found : DownWriteStep → ℕ
+  closing_found s = found_by (down_write_next (closing_at c i s) s).1 value
+
+  -- each event of the closing of a level leaves what was found, stored and cleared
+  pub closing_leaves : (s : DownWriteStep) → Leaves (closing_trace s) earlier
+  closing_leaves (Enters Loads) = (refl, refl, refl)
+  closing_leaves (Enters (Exchanges from to)) = (refl, refl, refl)
+  closing_leaves (AwaitsSections grace) = (refl, refl, refl)
+  closing_leaves (CallsBack Loads) = (refl, refl, refl)
+  closing_leaves (CallsBack (Exchanges from to)) = (refl, refl, refl)
+  closing_leaves AwaitsPassed = (refl, refl, refl)
+  closing_leaves SetsBlock = (refl, refl, refl)
+  closing_leaves (Sums sum) = (refl, refl, refl)
+
+  -- what the trace says after the event of a step
+  abbrev AfterClosing : DownWriteStep → Type 0
+  AfterClosing s =
+      ClosingNext c i (closing_trace s) (down_write_after (closing_at c i s) s (closing_found s)).0
+      (down_write_after (closing_at c i s) s (closing_found s)).1
+
+  -- a step with no sum comes, whatever state was left
+  state_goes : (trace : List Traced) (state : GpState) → ClosingGoes c i trace (closing_at c i (entered_from c.tasks state))
+  state_goes trace Idle = (entered_from c.tasks Idle, refl, tt)
+  state_goes trace Enter = (AwaitsPassed, refl, tt)
+  state_goes trace Passed = (SetsBlock, refl, tt)
+  state_goes trace Exit = (SetsBlock, refl, tt)
+  state_goes trace Replay = (SetsBlock, refl, tt)
+
+  -- the same after each event of the enter
+  enter_goes : (trace : List Traced) (n : TransitionNext) → ClosingGoes c i trace (closing_at c i (enter_step c.tasks n))
+  enter_goes trace (More transition) = (Enters transition, refl, tt)
+  enter_goes trace Undefined = (Enters Loads, refl, tt)
+  enter_goes trace (Made state) = state_goes trace state
+
+  -- and after each event that ends a grace period
+  callback_goes : (trace : List Traced) (n : TransitionNext) → ClosingGoes c i trace (closing_at c i (callback_step n))
+  callback_goes trace (More transition) = (CallsBack transition, refl, tt)
+  callback_goes trace Undefined = (CallsBack Loads, refl, tt)
+  callback_goes trace (Made state) = (SetsBlock, refl, tt)
+
+  -- a task is passed
+  passed_goes : (trace : List Traced) (g : Grace) →
+      ClosingNext c i trace (sections_awaited (closing_at c i (AwaitsSections g)) (passed_on g)) None
+  passed_goes trace g =
+      elim (cases_Bool (nat_lt (g.task + 1) g.tasks)) [
+        | inl f ↦ rw f ((AwaitsSections (record { tasks = g.tasks; task = g.task + 1; first = None }), refl, tt), refl)
+        | inr f ↦ rw f ((CallsBack Loads, refl, tt), refl)
+      ]
+
+  -- a task is passed, or it is still inside its section
+  looks_at_section : (g : Grace) → AfterClosing (AwaitsSections g)
+  looks_at_section g =
+      elim (cases_Bool (value % 2 == 1)) [
+        | inl f ↦ elim (cases_Bool (is_first g.first value)) [
+          | inl e ↦ rw (f, e) (
+            (AwaitsSections (record { tasks = g.tasks; task = g.task; first = Some value }), refl, tt),
+            refl,
+            inl (rw f refl),
+          )
+          | inr e ↦ rw (f, e) (passed_goes (closing_trace (AwaitsSections g)) g)
+        ]
+        | inr f ↦ rw f (passed_goes (closing_trace (AwaitsSections g)) g)
+      ]
+
+  -- the sync word was found past GP_ENTER, or a writer in its grace period
+  looks_at_sync : (o : Option SyncWord) → unpack value ≡ o →
+      ClosingNext c i (closing_trace AwaitsPassed) (passed_awaited (closing_at c i AwaitsPassed) o) None
+  looks_at_sync None e = ((AwaitsPassed, refl, tt), refl)
+  looks_at_sync (Some word) e =
+      elim (cases_Bool (is_passed word.state)) [
+        | inl f ↦ rw f ((SetsBlock, refl, tt), refl)
+        | inr f ↦ rw f ((AwaitsPassed, refl, tt), refl, inl (rw (e, f) refl))
+      ]
+
+  -- a sum begins, of no event
+  sum_begins : (trace : List Traced) → ClosingGoes c i trace (closing_at c i sum_begun)
+  sum_begins trace = (sum_begun, refl, (lim.some_processor, tt, refl))
+
+  -- `block` was found 0, or set by another writer
+  sets_block : AfterClosing SetsBlock
+  sets_block =
+      elim (cases_Bool (value == 0)) [
+        | inl f ↦ rw f (sum_begins (closing_trace SetsBlock), refl)
+        | inr f ↦ rw f ((SetsBlock, refl, tt), refl, inl (rw f refl))
+      ]
+
+  -- the sum goes on, or it is a sum of all counts: 0, or not
+  sums_on : (sum : Sum) → ClosingSays c i (Sums sum) earlier → AfterClosing (Sums sum)
+  sums_on sum h =
+      let trace : List Traced = closing_trace (Sums sum) in
+      let more : IsLevelSum i (suc sum.words) trace = (refl, refl, h.1) in
+      let now : wrap_add sum.total value ≡ sum_of_newest (suc sum.words) trace = ap (λ s. wrap_add s value) h.2 in
+      elim (cases_Bool (nat_lt (sum.words + 1) c.processors)) [
+        | inl f ↦
+            rw f (
+              (
+                Sums record { words = sum.words + 1; total = wrap_add sum.total value },
+                refl,
+                (ltb-true (sum.words + 1) c.processors f, rw (add-one sum.words) more, rw (add-one sum.words) now),
+              ),
+              refl,
+            )
+        | inr f ↦
+            let last : suc sum.words ≡ c.processors = omega (arith, ltb-false (sum.words + 1) c.processors f, h.0) in
+            elim (eqb_tells (wrap_add sum.total value) 0) [
+              | inl z ↦ rw (f, z.0) refl
+              | inr z ↦ rw (f, z.0) (
+                sum_begins trace,
+                refl,
+                inr (i, subst (λ n. IsLevelSum i n trace) last more, λ q. z.1 (now ∙ ap (λ n. sum_of_newest n trace) last ∙ q)),
+              )
+            ]
+      ]
+
+  -- each event of the closing of a level keeps what the trace says of it
+  pub closing_event : (s : DownWriteStep) → ClosingSays c i s earlier → AfterClosing s
+  closing_event (Enters transition) h =
+      (enter_goes (closing_trace (Enters transition)) (transition_after on_enter transition (closing_found (Enters transition))), refl)
+  closing_event (AwaitsSections grace) h = looks_at_section grace
+  closing_event (CallsBack transition) h =
+      let found : ℕ = closing_found (CallsBack transition) in
+      (callback_goes (closing_trace (CallsBack transition)) (transition_after on_callback transition found), refl)
+  closing_event AwaitsPassed h = looks_at_sync (unpack value) refl
+  closing_event SetsBlock h = sets_block
+  closing_event (Sums sum) h = sums_on sum h
