@@ -1,1 +1,2 @@
 pub mod FreezeFits
+pub mod FreezeCauses
