@@ -1,2 +1,3 @@
 pub mod FreezeFits
 pub mod FreezeCauses
+pub mod FreezeWaits
