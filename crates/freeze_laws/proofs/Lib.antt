@@ -1,3 +1,4 @@
 pub mod FreezeFits
 pub mod FreezeCauses
 pub mod FreezeWaits
+pub mod FreezeKeeps
