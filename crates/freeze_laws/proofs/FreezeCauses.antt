@@ -1,15 +1,14 @@
 -- The causes of a freeze's refusal and of the sums of its levels, along a schedule.
-use Rattle.std.proofs.Common.{◌≡◌, ℕ, suc, ◌+◌, ◌-◌, ◌%◌, ◌<◌, ◌≤◌, Bool, true, false, refl, sym, ap, ◌∙◌, inl, inr, arith, add-one, true≢false}
-use Rattle.std.specs.Prelude.{nat_lt, Option, Some, None, Result, Ok, Err, List, [], ◌∷◌, ◌==◌, ◌&&◌, not, if◌then◌else◌}
+use Rattle.std.proofs.Common.{◌≡◌, ℕ, suc, ◌+◌, ◌-◌, ◌%◌, ◌<◌, ◌≤◌, true, false, refl, sym, ap, ◌∙◌, inl, inr, arith, add-one, true≢false}
+use Rattle.std.specs.Prelude.{nat_lt, Option, Some, None, Ok, Err, List, [], ◌∷◌, ◌==◌, not}
 use Rattle.std.proofs.lemmas.Bool.{ltb-false, ne_eqb, cases_Bool}
 use Rattle.std.proofs.lemmas.Bool.Decides.{eqb_tells}
-use Rattle.access_model.specs.declared.errors.GateError.TheVariants.{Busy, Hook}
+use Rattle.access_model.specs.declared.errors.GateError.TheVariants.{Busy}
 use Rattle.access_model.specs.declared.replies.Next.{Next}
 use Rattle.access_model.specs.declared.replies.Next.TheVariants.{Go, Wait, Done}
-use Rattle.access_model.specs.declared.replies.Reply.TheVariants.{Unit as UnitReply}
 use Rattle.access_model.specs.Replies.{map_next}
 use Rattle.cpu_words.specs.Hooks.{HookAnswer}
-use Rattle.cpu_words.specs.Sums.{lead, ahead, sum_taking}
+use Rattle.cpu_words.specs.Sums.{lead, ahead}
 use Rattle.cpu_words.specs.Touches.{left, wrap_add}
 use Rattle.cpu_words.specs.Words.{Words, read, put}
 use Rattle.cpu_words.specs.declared.names.WordName.TheVariants.{LevelCount}
@@ -19,22 +18,10 @@ use Rattle.gate_counts.proofs.Events.{words_sum}
 use Rattle.gate_counts.proofs.Numbers.{ahead_none, ahead_step, ahead_past}
 use Rattle.gated_tree.specs.Phases.{clear_after}
 use Rattle.gated_tree.specs.declared.marks.ClearMarks.{ClearMarks}
-use Rattle.percpu_rwsem.specs.Graces.{is_first, passed_on, looked}
-use Rattle.percpu_rwsem.specs.SyncWords.{unpack, is_passed, on_enter, on_exit, on_callback}
+use Rattle.percpu_rwsem.specs.Graces.{looked}
+use Rattle.percpu_rwsem.specs.SyncWords.{unpack, is_passed, on_enter, on_callback}
 use Rattle.percpu_rwsem.specs.Transitions.{transition_after}
-use Rattle.percpu_rwsem.specs.Writers.{
-  down_write_next,
-  down_write_after,
-  at_down_write,
-  enter_step,
-  callback_step,
-  sections_awaited,
-  passed_awaited,
-  down_write_summed,
-  up_write_next,
-  up_write_after,
-}
-use Rattle.percpu_rwsem.specs.declared.grace.Grace.{Grace}
+use Rattle.percpu_rwsem.specs.Writers.{down_write_next, down_write_after, at_down_write, enter_step, callback_step, sections_awaited, passed_awaited, up_write_next, up_write_after}
 use Rattle.percpu_rwsem.specs.declared.grace.GraceNext.{GraceNext}
 use Rattle.percpu_rwsem.specs.declared.grace.GraceNext.TheVariants.{More as MoreSections, Wait as WaitsFor, Ended}
 use Rattle.percpu_rwsem.specs.declared.sync_word.GpState.TheVariants.{Idle, Enter, Passed, Exit, Replay}
@@ -77,7 +64,7 @@ use Rattle.gate_world.specs.Worlds.{World, found_at, after_step}
 use Rattle.gate_world.specs.declared.config.Config.{Config}
 use Rattle.gate_world.specs.declared.work.Phase.{Phase}
 use Rattle.gate_world.specs.declared.work.Phase.TheVariants.{Freezes}
-use Rattle.gate_frames.proofs.Keeps.{by_bool, IsQuiet}
+use Rattle.gate_frames.proofs.Keeps.{IsQuiet}
 use Rattle.gate_frames.proofs.Words.{load_same}
 use Rattle.cause_laws.proofs.Moments.{look_skips, look_stands, sum_begins, sum_goes}
 

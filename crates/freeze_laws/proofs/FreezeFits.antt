@@ -1,5 +1,5 @@
 -- What fits after an event of a freeze, of the closing of a level and of its reopening.
-use Rattle.std.proofs.Common.{◌≡◌, ℕ, ◌+◌, ◌-◌, ◌%◌, ◌<◌, ◌≤◌, Bool, true, false, refl, sym, ap, subst, ◌∙◌, inl, inr, arith}
+use Rattle.std.proofs.Common.{◌≡◌, ℕ, ◌+◌, ◌-◌, ◌%◌, ◌<◌, ◌≤◌, Bool, true, false, refl, sym, subst, inl, inr, arith}
 use Rattle.std.specs.Prelude.{◌==◌, ◌&&◌, nat_lt, if◌then◌else◌, Option, Some, None, Ok, Err}
 use Rattle.std.proofs.lemmas.Bool.{cases_Bool, ltb-true}
 use Rattle.std.proofs.lemmas.Bool.Decides.{eqb_tells}
@@ -16,29 +16,13 @@ use Rattle.cpu_words.specs.Sums.{sum_taking}
 use Rattle.cpu_words.specs.Touches.{wrap_add}
 use Rattle.cpu_words.specs.declared.sums.Sum.{Sum}
 use Rattle.gated_tree.specs.Phases.{clear_after}
-use Rattle.gated_tree.specs.Nodes.{dirty_in, node_after}
+use Rattle.gated_tree.specs.Nodes.{dirty_in}
 use Rattle.gated_tree.specs.declared.marks.ClearMarks.{ClearMarks}
 use Rattle.percpu_rwsem.specs.SyncWords.{unpack, is_passed, on_enter, on_exit, on_callback}
-use Rattle.percpu_rwsem.specs.Graces.{started, is_first, passed_on, looked}
+use Rattle.percpu_rwsem.specs.Graces.{is_first, passed_on, looked}
 use Rattle.percpu_rwsem.specs.Transitions.{transition_after}
-use Rattle.percpu_rwsem.specs.Writers.{
-  down_write_next,
-  down_write_after,
-  at_down_write,
-  enter_step,
-  entered_from,
-  callback_step,
-  sections_awaited,
-  passed_awaited,
-  sum_begun,
-  down_write_summed,
-  up_write_next,
-  up_write_after,
-  at_up_write,
-  exit_made,
-}
+use Rattle.percpu_rwsem.specs.Writers.{down_write_next, down_write_after, at_down_write, enter_step, callback_step, sections_awaited, passed_awaited, sum_begun, down_write_summed, up_write_next, up_write_after, exit_made}
 use Rattle.percpu_rwsem.specs.declared.grace.Grace.{Grace}
-use Rattle.percpu_rwsem.specs.declared.sync_word.GpState.{GpState}
 use Rattle.percpu_rwsem.specs.declared.sync_word.GpState.TheVariants.{Idle, Enter, Passed, Exit, Replay}
 use Rattle.percpu_rwsem.specs.declared.sync_word.SyncWord.{SyncWord}
 use Rattle.percpu_rwsem.specs.declared.transitions.Transition.TheVariants.{Loads, Exchanges}
@@ -80,7 +64,7 @@ use Rattle.freeze_levels.specs.declared.freezes.FreezeStep.TheVariants.{
   Reopens,
   Releases,
 }
-use Rattle.level_laws.specs.Exchanges.{Shows, KnowsWords}
+use Rattle.level_laws.specs.Exchanges.{Shows}
 use Rattle.level_laws.specs.Operations.{HoldsOfNext, KnowsDownWrite, KnowsUpWrite}
 use Rattle.level_laws.proofs.Exchanges.{exchanges_make_transitions}
 use Rattle.gate_world.specs.Configs.{IsWithin, extents_of}
@@ -286,13 +270,14 @@ module _ (c : Config) (within : IsWithin c) where
         (l1, l3, same, processors, within.some_processor, tt) (l1, l3, same, processors, tt, tt)
     down_write_goes (Sums sum) found f k = summed_goes sum found
 
-  -- what comes after an event of an up-write fits
+  -- what comes after an event of the transition of an up-write fits
   exits_goes : (u : UpWrite) (found v : ℕ) → 1 ≤ u.level → u.level ≤ 3 → (n : TransitionNext) → Shows on_exit found v n →
       HoldsOfNext UpWriteFits (exit_made u n)
   exits_goes u found v l1 l3 (More transition) h = (l1, l3, h.1)
   exits_goes u found v l1 l3 Undefined h = (l1, l3, tt)
   exits_goes u found v l1 l3 (Made state) h = tt
 
+  -- so it is after each event of an up-write
   up_write_goes : (u : UpWrite) (s : UpWriteStep) (found : ℕ) → 1 ≤ u.level → u.level ≤ 3 → KnowsUpWrite s →
       HoldsOfNext UpWriteFits (up_write_after u s found).0
   up_write_goes u ClearsBlock found l1 l3 k = (l1, l3, tt)

@@ -1,29 +1,20 @@
 -- A freeze waits only where another task has `umount`, where one is inside a read-side section, or where something was counted at the level
 -- that it closes.
-use Rattle.std.proofs.Common.{◌≡◌, ℕ, suc, ◌+◌, ◌-◌, ◌%◌, ◌<◌, ◌≤◌, true, refl, sym, ap, ◌∙◌, inl, inr, arith}
-use Rattle.std.specs.Prelude.{nat_lt, Some, None, Ok, Err, List, ◌∷◌, ◌==◌, ◌⊎◌, Option}
+use Rattle.std.proofs.Common.{◌≡◌, ℕ, ◌+◌, ◌%◌, ◌<◌, ◌≤◌, true, refl, sym, ap, ◌∙◌, inl, inr, arith}
+use Rattle.std.specs.Prelude.{nat_lt, Some, Ok, Err, List, ◌⊎◌}
 use Rattle.std.proofs.lemmas.Bool.{cases_Bool, ltb-false, eq-eqb}
 use Rattle.std.proofs.lemmas.Bool.Decides.{eqb_tells}
 use Rattle.access_model.specs.declared.replies.Next.{Next}
-use Rattle.access_model.specs.declared.replies.Next.TheVariants.{Go, Wait, Done}
 use Rattle.access_model.specs.Replies.{map_next}
 use Rattle.cpu_words.specs.Hooks.{HookAnswer}
 use Rattle.cpu_words.specs.Touches.{wrap_add}
 use Rattle.cpu_words.specs.declared.sums.Sum.{Sum}
 use Rattle.gated_tree.specs.Phases.{clear_after}
 use Rattle.gated_tree.specs.declared.marks.ClearMarks.{ClearMarks}
-use Rattle.percpu_rwsem.specs.Graces.{is_first, passed_on, looked}
-use Rattle.percpu_rwsem.specs.SyncWords.{unpack, is_passed, is_queued, on_enter, on_exit, on_callback}
+use Rattle.percpu_rwsem.specs.Graces.{is_first, passed_on}
+use Rattle.percpu_rwsem.specs.SyncWords.{is_passed, is_queued, on_exit}
 use Rattle.percpu_rwsem.specs.Transitions.{transition_after}
-use Rattle.percpu_rwsem.specs.Writers.{
-  down_write_after,
-  at_down_write,
-  enter_step,
-  callback_step,
-  sections_awaited,
-  up_write_after,
-  exit_made,
-}
+use Rattle.percpu_rwsem.specs.Writers.{down_write_after, at_down_write, sections_awaited, up_write_after, exit_made}
 use Rattle.percpu_rwsem.specs.declared.grace.Grace.{Grace}
 use Rattle.percpu_rwsem.specs.declared.sync_word.GpState.{GpState}
 use Rattle.percpu_rwsem.specs.declared.sync_word.GpState.TheVariants.{Idle, Enter, Passed, Exit, Replay}
@@ -35,7 +26,7 @@ use Rattle.percpu_rwsem.specs.declared.writers.DownWriteStep.TheVariants.{Enters
 use Rattle.percpu_rwsem.specs.declared.writers.UpWrite.{UpWrite}
 use Rattle.percpu_rwsem.specs.declared.writers.UpWriteStep.{UpWriteStep}
 use Rattle.percpu_rwsem.specs.declared.writers.UpWriteStep.TheVariants.{ClearsBlock, Exits}
-use Rattle.freeze_levels.specs.Freezes.{at_freeze, after_closing, after_clearing, after_reopening, freeze_after}
+use Rattle.freeze_levels.specs.Freezes.{at_freeze, after_closing, after_clearing, after_reopening}
 use Rattle.freeze_levels.specs.declared.freezes.Freeze.{Freeze}
 use Rattle.freeze_levels.specs.declared.freezes.FreezeStep.{FreezeStep}
 use Rattle.freeze_levels.specs.declared.freezes.FreezeStep.TheVariants.{
@@ -57,13 +48,12 @@ use Rattle.freeze_levels.specs.declared.freezes.FreezeStep.TheVariants.{
 use Rattle.level_laws.specs.Changes.{state_found, state_found_in}
 use Rattle.level_laws.specs.Events.{SyncLevelHolds}
 use Rattle.level_laws.specs.Operations.{down_write_role}
-use Rattle.level_laws.specs.Roles.{SyncRole, Entered, entered, entering, closed}
+use Rattle.level_laws.specs.Roles.{Entered, entered, entering, closed}
 use Rattle.level_laws.proofs.Whole.{writers_find}
 use Rattle.level_frames.proofs.LevelWorlds.{level_in, level_right}
-use Rattle.gate_world.specs.Causes.{was_inside, moments_of_sum}
 use Rattle.gate_world.specs.Fits.{DownWriteStepFits, FreezeFits}
 use Rattle.gate_world.specs.KeptCauses.{DownWriteCause, FreezeCause}
-use Rattle.gate_world.specs.Levels.{inside, sync_role_of, sync_beside}
+use Rattle.gate_world.specs.Levels.{inside, sync_role_of}
 use Rattle.gate_world.specs.Rules.{owns, IsGood, Sections}
 use Rattle.gate_world.specs.Waits.{HasCulprit, WaitsForAnother}
 use Rattle.gate_world.specs.Work.{after_of}
@@ -100,11 +90,7 @@ module _ (c : Config) (w : World) (earlier : List World) (good : IsGood c w) (t 
   Waits s n = WaitsForAnother c w earlier t (Freezes (at_freeze x s)) (map_next Freezes n)
 
   module _ (d : DownWrite) (one : 1 ≤ d.level) (three : d.level ≤ 3) where
-    -- no event of the enter is a wait
-    enter_waits : (s : FreezeStep) (n : TransitionNext) → Waits s (after_closing x d.level (Go (at_down_write d (enter_step d.tasks n))))
-    enter_waits s n = tt
-
-    -- nor the passing of a task
+    -- the passing of a task is no wait
     passed_waits : (s : FreezeStep) (g : Grace) → Waits s (after_closing x d.level (sections_awaited d (passed_on g)))
     passed_waits s g = elim (cases_Bool (nat_lt (g.task + 1) g.tasks)) [ inl f ↦ rw f tt | inr f ↦ rw f tt ]
 
@@ -183,12 +169,13 @@ module _ (c : Config) (w : World) (earlier : List World) (good : IsGood c w) (t 
     closing_waits hook SetsBlock e same f h = rw (eq-eqb (w.words.block d.level) 0 (found_there SetsBlock e refl).0) tt
     closing_waits hook (Sums sum) e same f h = sum_waits sum f same h
 
-  -- no event of the reopening of a level is a wait
+  -- no event of the transition with which a level is left is a wait
   exits_waits : (s : FreezeStep) (u : UpWrite) (level code : ℕ) (n : TransitionNext) → Waits s (after_reopening x level code (exit_made u n))
   exits_waits s u level code (More transition) = tt
   exits_waits s u level code Undefined = tt
   exits_waits s u level code (Made state) = tt
 
+  -- so none of its reopening is
   reopening_waits : (s : FreezeStep) (u : UpWrite) (step : UpWriteStep) (level code found : ℕ) →
       Waits s (after_reopening x level code (up_write_after u step found).0)
   reopening_waits s u ClearsBlock level code found = tt
