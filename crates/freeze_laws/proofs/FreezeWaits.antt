@@ -170,7 +170,8 @@ module _ (c : Config) (w : World) (earlier : List World) (good : IsGood c w) (t 
     closing_waits hook (Sums sum) e same f h = sum_waits sum f same h
 
   -- no event of the transition with which a level is left is a wait
-  exits_waits : (s : FreezeStep) (u : UpWrite) (level code : ℕ) (n : TransitionNext) → Waits s (after_reopening x level code (exit_made u n))
+  exits_waits : (s : FreezeStep) (u : UpWrite) (level code : ℕ) (n : TransitionNext) →
+      Waits s (after_reopening x level code (exit_made u n))
   exits_waits s u level code (More transition) = tt
   exits_waits s u level code Undefined = tt
   exits_waits s u level code (Made state) = tt
