@@ -1,6 +1,6 @@
 //! What `gate_bench` is compared with: the same pairs by hand, over padded atomics with sequentially consistent steps, and with no
 //! proof. A pair is a want and a drop of a mount, a start and an end of level 1, or a taking and a return of write access, which is
-//! both. Each thread is a task of its own, at a processor of its own.
+//! both. Each thread is a task of its own, at a processor of its own. Freezes and thaws are one task's, among so many tasks and processors.
 //!
 //!     rustc -O -o /tmp/by-hand bench/by-hand.rs && /tmp/by-hand
 
@@ -11,13 +11,27 @@ use std::time::Instant;
 /// Words from one word to the next, so that each has cache lines of its own.
 const APART: usize = 16;
 
+const UMOUNT: usize = 0;
+const STAGE: usize = 1;
 const SUPERBLOCK: usize = 2;
 const REMOUNT: usize = 3;
 const READONLY: u64 = 1;
 const HOLD: u64 = 2;
 
+/// A sync word: the state in bits 0 to 2, the callback's taking in bit 3, and the count from bit 8 on.
+const IDLE: u64 = 0;
+const ENTER: u64 = 1;
+const PASSED: u64 = 2;
+const EXIT: u64 = 3;
+const REPLAY: u64 = 4;
+const TAKEN: u64 = 8;
+const COUNTED: u64 = 256;
+
 /// Pairs of each thread.
 const PAIRS: u32 = 20_000_000;
+
+/// Freezes and thaws in one measurement.
+const FREEZES: u32 = 200_000;
 
 #[derive(Debug)]
 enum Refusal {
@@ -145,6 +159,122 @@ fn drop_write(words: &Words, task: &mut Task, mount: usize, cpu: usize) -> Resul
     end(words, task, 1, cpu)
 }
 
+/// Makes a transition of a level's sync word, and answers the state that it found.
+fn transition(words: &Words, level: usize, makes: impl Fn(u64) -> Option<u64>) -> Option<u64> {
+    loop {
+        let found = words.sync(level).load(SeqCst);
+        let put = makes(found)?;
+        if words.sync(level).compare_exchange(found, put, SeqCst, SeqCst).is_ok() {
+            return Some(found & 7);
+        }
+    }
+}
+
+/// Waits until each section that was under way has ended.
+fn await_sections(words: &Words, tasks: usize) {
+    for task in 0..tasks {
+        let first = words.section(task).load(SeqCst);
+        while first % 2 == 1 && words.section(task).load(SeqCst) == first {
+            thread::yield_now();
+        }
+    }
+}
+
+fn on_callback(found: u64) -> Option<u64> {
+    match found & 7 {
+        ENTER => Some(found - ENTER + PASSED),
+        EXIT | REPLAY if found >= COUNTED => Some(found / COUNTED * COUNTED + PASSED),
+        EXIT => Some(IDLE),
+        REPLAY => Some(EXIT),
+        _ => None,
+    }
+}
+
+#[inline(never)]
+fn close_level(words: &Words, level: usize, size: usize) {
+    let entered = transition(words, level, |found| match found & 7 {
+        IDLE => Some(ENTER + COUNTED),
+        _ => Some(found + COUNTED),
+    });
+    if entered == Some(IDLE) {
+        await_sections(words, size);
+        transition(words, level, on_callback);
+    }
+    while words.block(level).swap(1, SeqCst) != 0 {
+        thread::yield_now();
+    }
+    while (0..size).fold(0, |sum, cpu| words.level_count(level, cpu).load(SeqCst).wrapping_add(sum)) != 0 {
+        thread::yield_now();
+    }
+}
+
+#[inline(never)]
+fn open_level(words: &Words, level: usize) {
+    words.block(level).store(0, SeqCst);
+    transition(words, level, |found| match found & 7 {
+        PASSED => Some(found - COUNTED - PASSED + EXIT),
+        EXIT => Some(found - COUNTED - EXIT + REPLAY),
+        _ => Some(found - COUNTED),
+    });
+}
+
+fn lock(words: &Words, number: u64) {
+    while words.0[APART * UMOUNT].compare_exchange(0, number + 1, SeqCst, SeqCst).is_err() {
+        thread::yield_now();
+    }
+}
+
+fn unlock(words: &Words) {
+    words.0[APART * UMOUNT].store(0, SeqCst);
+}
+
+#[inline(never)]
+fn freeze(words: &Words, node: &AtomicU64, size: usize) -> bool {
+    let stage = &words.0[APART * STAGE];
+    lock(words, 0);
+    if stage.load(SeqCst) != 0 || words.0[APART * SUPERBLOCK].load(SeqCst) != 0 {
+        unlock(words);
+        return false;
+    }
+    stage.store(1, SeqCst);
+    unlock(words);
+    close_level(words, 1, size);
+    lock(words, 0);
+    stage.store(2, SeqCst);
+    close_level(words, 2, size);
+    node.fetch_and(!4, SeqCst);
+    stage.store(3, SeqCst);
+    close_level(words, 3, size);
+    stage.store(4, SeqCst);
+    unlock(words);
+    true
+}
+
+#[inline(never)]
+fn thaw(words: &Words) -> bool {
+    let stage = &words.0[APART * STAGE];
+    lock(words, 0);
+    if stage.load(SeqCst) != 4 || words.0[APART * SUPERBLOCK].load(SeqCst) != 0 {
+        unlock(words);
+        return false;
+    }
+    stage.store(0, SeqCst);
+    for level in [3, 2, 1] {
+        open_level(words, level);
+    }
+    unlock(words);
+    true
+}
+
+#[inline(never)]
+fn callback(words: &Words, level: usize, size: usize) {
+    let claim = |found: u64| (found & 7 >= EXIT && found & TAKEN == 0).then_some(found + TAKEN);
+    if transition(words, level, claim).is_some() {
+        await_sections(words, size);
+        transition(words, level, on_callback);
+    }
+}
+
 #[derive(Clone, Copy)]
 enum Pair {
     Mount,
@@ -195,6 +325,20 @@ fn main() {
             let pairs = threads as f64 * f64::from(PAIRS);
             let rate = pairs / start.elapsed().as_secs_f64() / 1e6;
             println!("{name} by hand {threads} threads {rate:.1} million pairs a second");
+        }
+    }
+    let node = AtomicU64::new(0);
+    for size in [1, 8, 64] {
+        for (name, runs_callbacks) in [("freeze and thaw", false), ("freeze, thaw and callbacks", true)] {
+            let start = Instant::now();
+            for _ in 0..FREEZES {
+                assert!(freeze(&words, &node, size) && thaw(&words));
+                if runs_callbacks {
+                    (1..=3).for_each(|level| callback(&words, level, size));
+                }
+            }
+            let micros = start.elapsed().as_secs_f64() * 1e6 / f64::from(FREEZES);
+            println!("{name} by hand {size} tasks and processors {micros:.1} microseconds");
         }
     }
 }

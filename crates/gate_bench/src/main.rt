@@ -1,15 +1,17 @@
 //! Measures how many pairs of a taking and a return threads do in a second: at the gates, of an access at a mount, of a place inside
-//! a level and of write access, each thread at a processor of its own; at one count word that all threads share; and at a read lock.
-//! With no argument it measures nothing and prints nothing.
+//! a level and of write access, each thread at a processor of its own; at one count word that all threads share; and at a read lock. Then
+//! how long a freeze and a thaw take, among how many tasks and processors. With no argument it measures nothing and prints nothing.
 #![tactic(auto)]
 
+mod at_freezes;
 mod at_gates;
 mod at_others;
 mod rates;
 
 use anyhow::Result;
+use at_freezes::Callbacks;
 use at_gates::Pair;
-use rates::{Subject, print_rate};
+use rates::{Subject, print_rate, print_time};
 use std::alloc::Global;
 use std::rt::Clock;
 use std::sync::Wait;
@@ -23,6 +25,12 @@ const PAIRS: u32 = 1_000_000;
 
 /// How many threads there are in each measurement.
 const THREADS: [u8; 3] = [1, 2, 4];
+
+/// How many tasks and processors there are where freezes are measured.
+const SIZES: [u8; 3] = [1, 8, 64];
+
+/// How many pairs there are for each freeze that is measured.
+const PAIRS_A_FREEZE: u32 = 100;
 
 /// What is measured, in this order.
 const SUBJECTS: [Subject; 5] = [
@@ -48,6 +56,9 @@ fn main(rt: HostRuntime) -> Result<()> {
     for threads in THREADS {
         measure(&rt, rt.alloc(), threads, pairs)?;
     }
+    for size in SIZES {
+        measure_freezes(&rt, rt.alloc(), size, pairs / PAIRS_A_FREEZE)?;
+    }
     Ok(())
 }
 
@@ -65,6 +76,20 @@ fn measure<R: Threads + Wait + Clock + Print + Sync>(
             Subject::ReadLock => at_others::measure_lock(rt, alloc, threads, pairs)?,
         };
         print_rate(rt, subject, threads, pairs, took)?;
+    }
+    Ok(())
+}
+
+/// Measures and prints freezes and thaws among so many tasks and processors, without the callbacks of the levels and with them.
+fn measure_freezes<R: Wait + Clock + Print>(
+    rt: &R,
+    alloc: Global,
+    size: u8,
+    rounds: u32,
+) -> Result<()> {
+    for callbacks in [Callbacks::None, Callbacks::AfterEachThaw] {
+        let took = at_freezes::measure(rt, alloc, size, callbacks, rounds)?;
+        print_time(rt, callbacks, size, rounds, took)?;
     }
     Ok(())
 }

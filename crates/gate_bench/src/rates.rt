@@ -2,6 +2,7 @@
 
 ghost use Rattle.std.specs.Prelude.{◌≡◌, ◌*◌, ◌/◌, max};
 
+use crate::at_freezes::Callbacks;
 use crate::at_gates::Pair;
 use std::time::Duration;
 use std::{fmt, io};
@@ -46,4 +47,29 @@ pub(crate) fn print_rate(
     let tenths = tenths_of_a_million(threads, pairs, micros);
     let (whole, tenth) = (tenths / 10, tenths % 10);
     println!(rt; "{subject} {threads} threads {whole}.{tenth} million pairs a second")
+}
+
+/// Tenths of a microsecond for each of so many rounds, rounded down; no round counts as 1.
+fn tenths_of_a_microsecond(rounds: u32, nanos: u64) -> u64
+    ensures { result ≡ nanos / (100 * max 1 rounds) }
+{
+    nanos / (100 * u64::from(rounds.max(1)))
+}
+
+/// Prints the line of one measurement of freezes.
+pub(crate) fn print_time(
+    rt: &impl Print,
+    callbacks: Callbacks,
+    size: u8,
+    rounds: u32,
+    took: Duration,
+) -> io::Result<()> {
+    let nanos = u64::try_from(took.as_nanos()).unwrap_or(u64::MAX);
+    let tenths = tenths_of_a_microsecond(rounds, nanos);
+    let (whole, tenth) = (tenths / 10, tenths % 10);
+    let what = match callbacks {
+        Callbacks::None => "freeze and thaw",
+        Callbacks::AfterEachThaw => "freeze, thaw and callbacks",
+    };
+    println!(rt; "{what} {size} tasks and processors {whole}.{tenth} microseconds")
 }

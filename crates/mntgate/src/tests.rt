@@ -2,6 +2,7 @@
 
 mod endings;
 mod fakes;
+mod freezes;
 mod levels;
 mod remounts;
 
@@ -253,7 +254,7 @@ static PRINTED: [(&str, &str); 10] = [
 ];
 
 /// Each schedule with the fault at which it ends.
-static FAULTS: [(&str, &str); 41] = [
+static FAULTS: [(&str, &str); 43] = [
     ("", "line 1: config expected"),
     ("config 1 1 1 2 8\n0 wa", "line 2: cut off"),
     ("config 0 1 1 2 8\n", "line 1: refused 22 Invalid"),
@@ -271,7 +272,7 @@ static FAULTS: [(&str, &str); 41] = [
     ("config 1 1 1 2 8\nfly\n", "line 2: unknown command"),
     ("config 1 1 1 2 8\n0 fly\n", "line 2: unknown command"),
     ("config 1 1 1 2 8\ntree\n", "line 2: unknown command"),
-    ("config 1 1 1 2 8\n0 freeze\n", "line 2: unknown command"),
+    ("config 1 1 1 2 8\n0 freezes\n", "line 2: unknown command"),
     ("config 1 1 1 2 8\n 0 step\n", "line 2: unknown command"),
     ("config 1 1 1 2 8\n0  step\n", "line 2: unknown command"),
     ("config 1 1 1 2 8\n0\n", "line 2: wrong number of words"),
@@ -321,6 +322,14 @@ static FAULTS: [(&str, &str); 41] = [
         "line 2: wrong number of words",
     ),
     ("config 1 1 1 2 8\n0 callback x\n", "line 2: bad number"),
+    (
+        "config 1 1 1 2 8\n0 freeze x\n",
+        "line 2: wrong number of words",
+    ),
+    (
+        "config 1 1 1 2 8\n0 thaw 1\n",
+        "line 2: wrong number of words",
+    ),
     ("config 1 1 1 2 8\n0 end 1 x\n", "line 2: bad number"),
     ("config 1 1 1 2 8\n0 dropwrite x 0\n", "line 2: bad number"),
     ("config 1 1 1 2 8\n0 run sync 0\n", "line 2: bad number"),

@@ -2,6 +2,7 @@
 
 ghost use Rattle.vfs_gates.specs.TaskStates.{IsFrom};
 
+mod freezes;
 mod hooks;
 mod levels;
 mod remounts;

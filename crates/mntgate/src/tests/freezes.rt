@@ -1,0 +1,245 @@
+//! Freezes and thaws: their waits, their refusals, and what they leave.
+
+use crate::tests::print_all;
+use std::test::Fail;
+
+/// Schedules of freezes and thaws among readers, remounts and each other.
+static FREEZES: [(&str, &str); 9] = [
+    // A reader on the fast path goes on beside a freeze, which waits for its section and then for its count.
+    (
+        "config 2 1 1 2 8\n\
+         1 start 1 0\n\
+         1 step\n\
+         1 step\n\
+         0 freeze\n\
+         0 step\n\
+         0 step\n\
+         0 step\n\
+         0 step\n\
+         0 step\n\
+         0 step\n\
+         0 step\n\
+         0 step\n\
+         0 step\n\
+         0 run\n\
+         1 step\n\
+         1 step\n\
+         0 run\n\
+         1 end 1 0\n\
+         1 run\n\
+         0 run\n\
+         words\n",
+        "1 add section1 0 1\n\
+         1 load sync1 0 0\n\
+         0 cas umount 0 1\n\
+         0 load stage 0 0\n\
+         0 load sb 0 0\n\
+         0 store stage 1 stage 1\n\
+         0 store umount 0\n\
+         0 load sync1 0 0\n\
+         0 cas sync1 0 257\n\
+         0 load section0 0 0\n\
+         0 load section1 1 1 waiting\n\
+         0 waiting\n\
+         1 add level1.cpu0 0 1 grant level 1\n\
+         1 add section1 1 2\n\
+         1 ok\n\
+         0 waiting\n\
+         1 ok\n\
+         0 ok\n\
+         stage 4\n\
+         block1 1\n\
+         sync1 258\n\
+         block2 1\n\
+         sync2 258\n\
+         block3 1\n\
+         sync3 258\n\
+         section1 2\n",
+    ),
+    // A thaw leaves a callback to each level; a level whose callback has run waits for a grace period again, the others don't.
+    (
+        "config 1 1 1 2 8\n\
+         0 freeze\n\
+         0 run\n\
+         0 thaw\n\
+         0 run\n\
+         0 callback 1\n\
+         0 run\n\
+         0 callback 1\n\
+         0 run\n\
+         0 freeze\n\
+         0 run\n\
+         words\n",
+        "0 ok\n\
+         0 ok\n\
+         0 ok ran\n\
+         0 ok none\n\
+         0 ok\n\
+         stage 4\n\
+         block1 1\n\
+         sync1 258\n\
+         block2 1\n\
+         sync2 259\n\
+         block3 1\n\
+         sync3 259\n",
+    ),
+    // While a freeze waits at level 1, level 2 is open, and no new writer comes inside level 1.
+    (
+        "config 3 1 1 2 8\n\
+         0 start 1 0\n\
+         0 run\n\
+         1 freeze\n\
+         1 run\n\
+         2 start 2 0\n\
+         2 run\n\
+         2 end 2 0\n\
+         2 run\n\
+         2 trystart 1 0\n\
+         2 run\n\
+         0 end 1 0\n\
+         0 run\n\
+         1 run\n",
+        "0 ok\n\
+         1 waiting\n\
+         2 ok\n\
+         2 ok\n\
+         2 refused 11 Again\n\
+         0 ok\n\
+         1 ok\n",
+    ),
+    // At stage 1 `umount` is free, and whoever takes it finds the stage; at stage 2 the freeze has it, and a thaw waits for it.
+    (
+        "config 3 1 1 2 8\n\
+         0 start 1 0\n\
+         0 run\n\
+         1 freeze\n\
+         1 run\n\
+         2 freeze\n\
+         2 run\n\
+         2 thaw\n\
+         2 run\n\
+         2 remount ro\n\
+         2 run\n\
+         0 end 1 0\n\
+         0 run\n\
+         0 start 2 0\n\
+         0 run\n\
+         1 run\n\
+         2 thaw\n\
+         2 run\n\
+         0 end 2 0\n\
+         0 run\n\
+         1 run\n\
+         2 run\n",
+        "0 ok\n\
+         1 waiting\n\
+         2 refused 16 Busy\n\
+         2 refused 22 Invalid\n\
+         2 refused 16 Busy\n\
+         0 ok\n\
+         0 ok\n\
+         1 waiting\n\
+         2 waiting\n\
+         0 ok\n\
+         1 ok\n\
+         2 ok\n",
+    ),
+    // After a freeze that the file system refused each level is open.
+    (
+        "config 1 1 1 2 8\n\
+         0 freeze\n\
+         0 run sync 5\n\
+         0 thaw\n\
+         0 run\n\
+         0 start 1 0\n\
+         0 run\n\
+         0 start 2 0\n\
+         0 run\n",
+        "0 refused hook 5\n\
+         0 refused 22 Invalid\n\
+         0 ok\n\
+         0 ok\n",
+    ),
+    // A read-only superblock is frozen at once, with no level closed, and any task may thaw it.
+    (
+        "config 2 1 1 2 8\n\
+         0 remount ro\n\
+         0 run\n\
+         0 freeze\n\
+         0 run\n\
+         model\n\
+         words\n\
+         1 remount rw\n\
+         1 run\n\
+         1 thaw\n\
+         1 run\n\
+         1 remount rw\n\
+         1 run\n\
+         1 want 0 0\n\
+         1 run\n",
+        "0 ok\n\
+         0 ok\n\
+         model stage 4 passed 0 sb ro\n\
+         node 0 dir 0 0 clean\n\
+         stage 4\n\
+         sb 1\n\
+         1 refused 16 Busy\n\
+         1 ok\n\
+         1 ok\n\
+         1 ok\n",
+    ),
+    // A thaw that the file system refuses leaves all frozen.
+    (
+        "config 2 1 2 2 8\n\
+         1 want 1 0\n\
+         1 run\n\
+         0 remount ro\n\
+         0 run\n\
+         words\n\
+         1 drop 1 0\n\
+         1 run\n\
+         0 remount ro\n\
+         0 run reconfigure 7\n\
+         words\n\
+         0 freeze\n\
+         0 run\n\
+         0 thaw\n\
+         0 run unfreeze 9\n\
+         0 thaw\n\
+         0 run\n",
+        "1 ok\n\
+         0 refused 16 Busy\n\
+         mount1.cpu0 1\n\
+         1 ok\n\
+         0 refused hook 7\n\
+         0 ok\n\
+         0 refused hook 9\n\
+         0 ok\n",
+    ),
+    // The file system's own part fails: three levels are reopened, and each has a callback.
+    (
+        "config 1 1 1 2 8\n\
+         0 freeze\n\
+         0 run freeze 6\n\
+         words\n",
+        "0 refused hook 6\n\
+         sync1 3\n\
+         sync2 3\n\
+         sync3 3\n",
+    ),
+    // Its sync fails: two are.
+    (
+        "config 1 1 1 2 8\n\
+         0 freeze\n\
+         0 run sync 16\n\
+         words\n",
+        "0 refused hook 16\n\
+         sync1 3\n\
+         sync2 3\n",
+    ),
+];
+
+#[test]
+fn freezes_and_thaws_print_what_they_do(rt: HostRuntime) -> Result<(), Fail> {
+    print_all(&rt, FREEZES.as_slice())
+}
