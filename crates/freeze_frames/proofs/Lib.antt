@@ -1,2 +1,3 @@
 pub mod Standing
 pub mod StandRoles
+pub mod WholeLevels

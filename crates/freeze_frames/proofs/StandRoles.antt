@@ -259,13 +259,13 @@ module _ (c : Config) (w : World) (good : IsGood c w) (t : ℕ) (lt : t < c.task
 
   -- and where the task takes this role there
   pub counts_become : (ws : Words) (i : ℕ) (block' full' : ℕ) (r : LevelRole) → ws.block i ≡ block' → is_frozen_whole ws ≡ full' →
-      ws.level i ≡ w.words.level i → stand_count i z ≡ r →
+      ws.level i ≡ w.words.level i → (1 ≤ i → i ≤ 3 → stand_count i z ≡ r) →
       (1 ≤ i → i ≤ 3 → LevelHolds c.tasks c.processors block' full' (w.words.level i)
       (update (λ x. at_level i (w.views x)) t (record (at_level i (w.views t)) { role = r }))) →
       Holds c (left_world w t ws v) (AtLevel i)
   counts_become ws i block' full' r eb ef ec e h one three =
       level_as eb ef ec
-      (update_map (at_level i) w.views t v ∙ ap (update (λ x. at_level i (w.views x)) t) (seen_counts i one three r e)) (h one three)
+      (update_map (at_level i) w.views t v ∙ ap (update (λ x. at_level i (w.views x)) t) (seen_counts i one three r (e one three))) (h one three)
 
   -- a level's rcu_sync where neither what it reads of the words nor its role there changes
   pub sync_left : (ws : Words) (i : ℕ) → ws.sync i ≡ w.words.sync i → ws.block i ≡ w.words.block i → ws.section ≡ w.words.section →
