@@ -1,3 +1,4 @@
 pub mod Standing
 pub mod StandRoles
 pub mod WholeLevels
+pub mod UpLevels

@@ -16,7 +16,7 @@ use Rattle.gate_world.specs.Worlds.{World}
 use Rattle.gate_world.specs.Levels.{at_level, level_role_of, inside, is_frozen_whole}
 use Rattle.gate_world.specs.Rules.{IsGood, Holds, AtLevel, SyncAt, Sections}
 use Rattle.gate_frames.proofs.Frames.{left_alone, level_as, level_view_as, SameLevelWords, SameLevelCounts}
-use Rattle.level_frames.proofs.LevelWorlds.{level_in, IsEventAt, sync_there, sync_elsewhere, sections_stay}
+use Rattle.level_frames.proofs.LevelWorlds.{level_in, IsOfLevel, IsEventAt, sync_there, sync_elsewhere, sections_stay}
 use Rattle.freeze_frames.proofs.Standing.{LevelsHold, left_world}
 use Rattle.freeze_levels.specs.Levels.{closing, reopening}
 use Rattle.gate_counts.specs.Levels.{Out as CountsNot, Passed as CountsPassed}
@@ -230,6 +230,14 @@ touched_whole w i (Block k) touch e = refl
 touched_whole w i (LevelCount k p) touch e = refl
 touched_whole w i (Section u) Load e = refl
 touched_whole w i name touch e = absurd e
+
+-- its word is one of the level
+pub is_of_level : (i : ℕ) (name : WordName) (touch : Touch) → IsEventAt i name touch → IsOfLevel i name
+is_of_level i (Sync k) touch e = e
+is_of_level i (Block k) touch e = e
+is_of_level i (LevelCount k p) touch e = e
+is_of_level i (Section u) touch e = tt
+is_of_level i name touch e = absurd e
 
 -- a word that is put is none of who is inside a section
 put_inside : (l : SyncLevel) (name : WordName) (n : ℕ) → (put_at l name n).inside ≡ l.inside
