@@ -1,15 +1,17 @@
 -- What each event of a down-write leaves of the levels: it enters the rcu_sync of its level, sets `block`, and sums the counts until nobody
 -- is counted.
-use Rattle.access_model.specs.declared.replies.Reply.TheVariants.{Unit as UnitReply}
 use Rattle.std.proofs.Common.{◌≡◌, ℕ, suc, ◌+◌, ◌<◌, ◌≤◌, refl, sym, ap, ◌∙◌, subst, inl, inr, arith, true≢false}
-use Rattle.std.specs.Prelude.{Option, Some, None, Ok, Bool, true, false, ◌==◌, nat_lt, if◌then◌else◌}
+use Rattle.std.specs.Prelude.{Option, Some, None, Ok, Bool, true, false, ◌==◌, if◌then◌else◌}
 use Rattle.std.proofs.lemmas.Bool.{eq-eqb, lt-ltb, le-ltb, cases_lt}
 use Rattle.std.proofs.lemmas.Bool.Decides.{eqb_tells}
 use Rattle.std.proofs.lemmas.Option.{none-some}
 use Rattle.finite_sums.specs.Sums.{update, total}
 use Rattle.finite_sums.proofs.Totals.{update_at, update_map, update_same}
+use Rattle.access_model.specs.declared.replies.Reply.TheVariants.{Unit as UnitReply}
+use Rattle.access_model.specs.declared.actions.Action.TheVariants.{Pass}
+use Rattle.access_model.specs.declared.replies.Next.{Next}
+use Rattle.access_model.specs.declared.replies.Next.TheVariants.{Go, Wait, Done}
 use Rattle.cpu_words.specs.declared.names.WordName.{WordName}
-use Rattle.cpu_words.specs.declared.names.WordName.TheVariants.{LevelCount}
 use Rattle.cpu_words.specs.declared.events.Touch.{Touch}
 use Rattle.cpu_words.specs.declared.sums.Sum.{Sum}
 use Rattle.cpu_words.specs.declared.sums.Taken.{Taken}
@@ -17,10 +19,12 @@ use Rattle.cpu_words.specs.declared.sums.Taken.TheVariants.{More as MoreWords, T
 use Rattle.cpu_words.specs.Sums.{sum_taking}
 use Rattle.cpu_words.specs.Touches.{found_by, left, wrap_add}
 use Rattle.cpu_words.specs.Words.{Words, read, put}
-use Rattle.access_model.specs.declared.actions.Action.{Action}
-use Rattle.access_model.specs.declared.actions.Action.TheVariants.{Pass}
-use Rattle.access_model.specs.declared.replies.Next.{Next}
-use Rattle.access_model.specs.declared.replies.Next.TheVariants.{Go, Wait, Done}
+use Rattle.percpu_rwsem.specs.declared.readers.DownReadStep.{DownReadStep}
+use Rattle.percpu_rwsem.specs.declared.readers.DownReadStep.TheVariants.{CountsUpFast}
+use Rattle.percpu_rwsem.specs.declared.callbacks.CallbackStep.{CallbackStep}
+use Rattle.percpu_rwsem.specs.declared.callbacks.CallbackStep.TheVariants.{Claims, AwaitsSections as AwaitsGrace, CallsBack as MakesCall}
+use Rattle.percpu_rwsem.specs.declared.writers.UpWriteStep.{UpWriteStep}
+use Rattle.percpu_rwsem.specs.declared.writers.UpWriteStep.TheVariants.{ClearsBlock, Exits as ExitsLevel}
 use Rattle.percpu_rwsem.specs.declared.grace.GraceNext.{GraceNext}
 use Rattle.percpu_rwsem.specs.declared.grace.GraceNext.TheVariants.{More as MoreSections, Wait as WaitsFor, Ended}
 use Rattle.percpu_rwsem.specs.declared.sync_word.GpState.{GpState}
@@ -36,24 +40,35 @@ use Rattle.percpu_rwsem.specs.SyncWords.{unpack, is_passed, is_queued, on_enter,
 use Rattle.percpu_rwsem.specs.Graces.{looked}
 use Rattle.percpu_rwsem.specs.Transitions.{transition_after}
 use Rattle.percpu_rwsem.specs.Writers.{down_write_next, down_write_after, at_down_write, entered_from, enter_step, callback_step, sections_awaited, passed_awaited, sum_begun, down_write_summed}
+use Rattle.freeze_levels.specs.declared.freezes.FreezeStep.{FreezeStep}
+use Rattle.freeze_levels.specs.declared.freezes.FreezeStep.TheVariants.{Closes, LocksAgain, SetsPageFault, Cleans, SetsFs, SetsComplete, Reopens as FreezeReopens}
+use Rattle.freeze_levels.specs.declared.thaws.ThawStep.{ThawStep}
+use Rattle.freeze_levels.specs.declared.thaws.ThawStep.TheVariants.{Reopens as ThawReopens}
+use Rattle.write_access.specs.declared.phases.WritePhase.TheVariants.{Takes, Wants as WriteWants, GivesBack, Drops as WriteDrops, Ends}
 use Rattle.gate_counts.specs.Levels.{LevelRole, LevelView, LevelHolds, Out as CountsNot, Summing, Passed as CountsPassed}
 use Rattle.gate_counts.proofs.LevelLaws.{swaps, sums_on, passes, sums_anew, none_passed}
-use Rattle.level_laws.specs.Roles.{SyncRole, Out as IsApart, Entered as HasEntered, Closed, entered, entering}
+use Rattle.stage_laws.specs.Roles.{has_position}
+use Rattle.stage_laws.proofs.Facts.{total_alone}
+use Rattle.stage_laws.proofs.Positions.{other_position, not_full}
+use Rattle.level_laws.specs.Roles.{SyncRole, Waiting, Past as HasPassed, Out as IsApart, Entered as HasEntered, Closed, entered, entering}
+use Rattle.level_laws.specs.Operations.{down_read_role, callback_role, down_write_role, value_at, left_by, by_next, HoldsOfNext}
 use Rattle.level_laws.proofs.NumberLaws.{state_is}
-use Rattle.level_laws.specs.Changes.{state_found}
 use Rattle.level_laws.specs.Events.{SyncLevelHolds, SyncStep}
-use Rattle.level_laws.specs.Operations.{down_write_role, value_at, left_by, by_next, HoldsOfNext}
 use Rattle.level_laws.proofs.EventLaws.{swap_keeps}
 use Rattle.level_laws.proofs.Operations.{down_writes_are_there}
 use Rattle.level_laws.proofs.Whole.{writers_find}
+use Rattle.gate_world.specs.Shown.{stage_roles}
+use Rattle.gate_world.specs.Rules.{Stages, IsGood, Holds, AtLevel}
+use Rattle.gate_world.specs.Stages.{stage_role_of, freeze_stage_role, thaw_stage_role, reopening_role}
+use Rattle.gate_world.specs.Levels.{sync_role_if, freeze_stand, thaw_stand, Stand, stand_count, stand_sync, closed_to, down_count_role, sync_role_of, at_level, is_frozen_whole, level_role_of}
+use Rattle.gate_world.specs.declared.work.Phase.{Phase}
+use Rattle.gate_world.specs.declared.work.Phase.TheVariants.{Mounts, Remounts, DownReads, UpReads, Callbacks, Writes, Freezes, Thaws}
 use Rattle.gate_world.specs.declared.config.Config.{Config}
 use Rattle.gate_world.specs.declared.views.View.{View}
 use Rattle.gate_world.specs.Configs.{IsWithin}
 use Rattle.gate_world.specs.Fits.{DownWriteFits}
 use Rattle.gate_world.specs.Views.{holds_level}
 use Rattle.gate_world.specs.Worlds.{World}
-use Rattle.gate_world.specs.Levels.{Stand, stand_count, stand_sync, closed_to, down_count_role, sync_role_of, at_level, is_frozen_whole, level_role_of}
-use Rattle.gate_world.specs.Rules.{IsGood, Holds, AtLevel}
 use Rattle.gate_frames.proofs.Frames.{SameLevelCounts}
 use Rattle.level_frames.proofs.LevelWorlds.{level_in, level_right, found_level, IsEventAt}
 use Rattle.freeze_frames.proofs.Standing.{Stands, closing_stand, stand_after_closing, LevelsHold, left_world}
@@ -326,8 +341,10 @@ module _ (c : Config) (lim : IsWithin c) (w : World) (good : IsGood c w) (t : �
         was.syncs d.level one three ∙ sync_at d.level (closing_stand (at_down_write d AwaitsPassed)) refl in
         let finds = writers_find c.tasks l right t lt (ap entered here) (ap entering here) in
         state_passes d (w.words.sync d.level) right.level.word right.level.packed
-        (elim finds.3 [ | inl q ↦ ap is_passed (state_is (w.words.sync d.level) right.level.word Passed right.level.packed q) |
-        inr q ↦ queued_passed right.level.word.state q ])
+        (elim finds.3 [
+          | inl q ↦ ap is_passed (state_is (w.words.sync d.level) right.level.word Passed right.level.packed q)
+          | inr q ↦ queued_passed right.level.word.state q
+        ])
 
     module _ (v : View) (counts : SameLevelCounts (w.views t) v) where
       -- an event before its swap, or after it a load for GP_PASSED, leaves the counts of its level
@@ -452,3 +469,81 @@ passes_leaves_nobody c lim w good t lt d fits was j e v held =
     update_map f w.views t v ∙
     (ap (λ (h : ℕ → Bool). update (λ x. f (w.views x)) t (if h d.level then 1 else 0)) held ∙ update_same (λ x. f (w.views x)) t) in
     ap (total c.tasks) same ∙ passes_finds_nobody c lim w good t lt d fits was j e
+
+-- a role has entered once at most
+entered_le : (r : SyncRole) → entered r ≤ 1
+entered_le (Waiting g) = omega arith
+entered_le HasPassed = omega arith
+entered_le HasEntered = omega arith
+entered_le Closed = omega arith
+entered_le r = omega arith
+
+-- no down-read has entered a level
+read_enters : (b : Bool) (s : DownReadStep) → entered (sync_role_if b (down_read_role s)) ≡ 0
+read_enters true CountsUpFast = refl
+read_enters true s = refl
+read_enters false s = refl
+
+-- nor has a callback
+callback_enters : (b : Bool) (s : CallbackStep) → entered (sync_role_if b (callback_role s)) ≡ 0
+callback_enters true (Claims transition) = refl
+callback_enters true (AwaitsGrace grace) = refl
+callback_enters true (MakesCall transition) = refl
+callback_enters false s = refl
+
+-- who reopens levels has a position
+reopening_position : (level : ℕ) (s : UpWriteStep) → has_position (reopening_role level s) ≡ 1
+reopening_position level ClearsBlock = refl
+reopening_position level (ExitsLevel transition) = refl
+
+-- a freeze that has entered a level has a position
+freeze_enters : (i nodes : ℕ) (s : FreezeStep) → entered (stand_sync i (freeze_stand s)) ≤ has_position (freeze_stage_role nodes s)
+freeze_enters i nodes (Closes d) = entered_le (stand_sync i (freeze_stand (Closes d)))
+freeze_enters i nodes LocksAgain = entered_le (stand_sync i (freeze_stand LocksAgain))
+freeze_enters i nodes SetsPageFault = entered_le (stand_sync i (freeze_stand SetsPageFault))
+freeze_enters i nodes (Cleans marks) = entered_le (stand_sync i (freeze_stand (Cleans marks)))
+freeze_enters i nodes SetsFs = entered_le (stand_sync i (freeze_stand SetsFs))
+freeze_enters i nodes SetsComplete = entered_le (stand_sync i (freeze_stand SetsComplete))
+freeze_enters i nodes (FreezeReopens u code) =
+    omega (arith, entered_le (stand_sync i (freeze_stand (FreezeReopens u code))), reopening_position u.level u.step)
+freeze_enters i nodes s = omega arith
+
+-- and a thaw
+thaw_enters : (i : ℕ) (s : ThawStep) → entered (stand_sync i (thaw_stand s)) ≤ has_position (thaw_stage_role s)
+thaw_enters i (ThawReopens u) =
+    omega (arith, entered_le (stand_sync i (thaw_stand (ThawReopens u))), reopening_position u.level u.step)
+thaw_enters i s = omega arith
+
+-- so whoever has entered a level has a position
+pub entered_position : (i : ℕ) (p : Option Phase) → entered (sync_role_of i p) ≤ has_position (stage_role_of p)
+entered_position i None = omega arith
+entered_position i (Some (Mounts phase)) = omega arith
+entered_position i (Some (Remounts x)) = omega arith
+entered_position i (Some (DownReads r)) = omega (arith, read_enters (i == r.level) r.step)
+entered_position i (Some (UpReads u)) = omega arith
+entered_position i (Some (Callbacks b)) = omega (arith, callback_enters (i == b.level) b.step)
+entered_position i (Some (Writes (Takes m r))) = omega (arith, read_enters (i == r.level) r.step)
+entered_position i (Some (Writes (WriteWants x))) = omega arith
+entered_position i (Some (Writes (GivesBack m p refusal))) = omega arith
+entered_position i (Some (Writes (WriteDrops m p))) = omega arith
+entered_position i (Some (Writes (Ends p))) = omega arith
+entered_position i (Some (Freezes x)) = freeze_enters i x.nodes x.step
+entered_position i (Some (Thaws x)) = thaw_enters i x.step
+
+-- where a task with a position has not entered a level, nobody has, and the file system isn't frozen as a whole
+pub entered_by_nobody : (c : Config) (w : World) → IsGood c w → (t : ℕ) → t < c.tasks →
+    has_position (stage_role_of (w.views t).phase) ≡ 1 → (i : ℕ) → sync_role_of i (w.views t).phase ≡ IsApart →
+    total c.tasks (λ x. entered (sync_role_of i (w.views x).phase)) + is_frozen_whole w.words ≡ 0
+entered_by_nobody c w good t lt position i apart =
+    let others : (x : ℕ) → x < c.tasks → (x ≡ t → ⊥) → entered (sync_role_of i (w.views x).phase) ≡ 0 =
+    λ x lx ne. omega (
+      arith,
+      entered_position i (w.views x).phase,
+      other_position c.tasks w.words.stage w.words.sb w.words.remount w.words.block (stage_roles w) (good Stages) t lt position x lx ne,
+    ) in
+    omega (
+      arith,
+      total_alone c.tasks t (λ x. entered (sync_role_of i (w.views x).phase)) lt others,
+      ap entered apart,
+      not_full c.tasks w.words.stage w.words.sb w.words.remount w.words.block (stage_roles w) (good Stages) t lt position,
+    )

@@ -1,4 +1,8 @@
 -- What who stands at a level has there, below it and above it; which stands say the same; and what an event of such a task leaves.
+use Rattle.std.proofs.Common.{◌≡◌, ℕ, zero, suc, ◌-◌, ◌<◌, ◌≤◌, refl, sym, ap, ◌∙◌, inl, inr, arith, subst}
+use Rattle.std.specs.Prelude.{Option, Some, None, Bool, if◌then◌else◌}
+use Rattle.std.proofs.lemmas.Bool.{eq-eqb, ne_eqb, lt-ltb, le-ltb, cases_lt}
+use Rattle.std.proofs.lemmas.Bool.Decides.{eqb_tells}
 use Rattle.finite_sums.specs.Sums.{update}
 use Rattle.finite_sums.proofs.Totals.{update_map, update_off, update_same}
 use Rattle.cpu_words.specs.declared.names.WordName.{WordName}
@@ -7,27 +11,20 @@ use Rattle.cpu_words.specs.declared.events.Touch.{Touch}
 use Rattle.cpu_words.specs.declared.events.Touch.TheVariants.{Load}
 use Rattle.cpu_words.specs.Words.{Words, put, read}
 use Rattle.cpu_words.specs.Touches.{left}
-use Rattle.gate_counts.specs.Levels.{LevelRole, LevelHolds}
+use Rattle.freeze_levels.specs.Levels.{closing, reopening}
+use Rattle.gate_counts.specs.Levels.{LevelRole, LevelHolds, Out as CountsNot, Passed as CountsPassed}
 use Rattle.level_laws.specs.Events.{SyncLevel, SyncStep}
 use Rattle.level_laws.specs.Operations.{put_at, left_by}
+use Rattle.level_laws.specs.Roles.{Closed, Out as IsApart}
 use Rattle.gate_world.specs.declared.config.Config.{Config}
 use Rattle.gate_world.specs.declared.views.View.{View}
 use Rattle.gate_world.specs.Worlds.{World}
-use Rattle.gate_world.specs.Levels.{at_level, level_role_of, inside, is_frozen_whole}
+use Rattle.gate_world.specs.Levels.{at_level, level_role_of, inside, is_frozen_whole, Stand, stand_count, stand_sync, closed_to}
 use Rattle.gate_world.specs.Rules.{IsGood, Holds, AtLevel, SyncAt, Sections}
+use Rattle.gate_world.specs.declared.work.Phase.{Phase}
 use Rattle.gate_frames.proofs.Frames.{left_alone, level_as, level_view_as, SameLevelWords, SameLevelCounts}
 use Rattle.level_frames.proofs.LevelWorlds.{level_in, IsOfLevel, IsEventAt, sync_there, sync_elsewhere, sections_stay}
-use Rattle.freeze_frames.proofs.Standing.{LevelsHold, left_world}
-use Rattle.freeze_levels.specs.Levels.{closing, reopening}
-use Rattle.gate_counts.specs.Levels.{Out as CountsNot, Passed as CountsPassed}
-use Rattle.level_laws.specs.Roles.{Closed, Out as IsApart}
-use Rattle.freeze_frames.proofs.Standing.{closing_stand, still_closed, Stands, opening_stand}
-use Rattle.gate_world.specs.declared.work.Phase.{Phase}
-use Rattle.gate_world.specs.Levels.{Stand, stand_count, stand_sync, closed_to}
-use Rattle.std.proofs.Common.{◌≡◌, ℕ, zero, suc, ◌-◌, ◌<◌, ◌≤◌, refl, sym, ap, ◌∙◌, inl, inr, arith, subst}
-use Rattle.std.specs.Prelude.{Option, Some, None, Bool, if◌then◌else◌}
-use Rattle.std.proofs.lemmas.Bool.{eq-eqb, ne_eqb, lt-ltb, le-ltb, cases_lt}
-use Rattle.std.proofs.lemmas.Bool.Decides.{eqb_tells}
+use Rattle.freeze_frames.proofs.Standing.{LevelsHold, left_world, closing_stand, still_closed, Stands, opening_stand}
 
 -- at its own level
 pub count_at : (i : ℕ) (s : Stand) → i ≡ s.level → stand_count i (Some s) ≡ s.count
@@ -170,7 +167,8 @@ pub opening_says : (level : ℕ) → 1 ≤ level → SaySame (still_closed level
 opening_says level one = subst (SaySame (still_closed level)) (still_closed_is level one) (says_same (still_closed level))
 
 -- so a task with a level closed may begin to reopen it
-pub opens_next : (p : Option Phase) (level : ℕ) → 1 ≤ level → Stands p (still_closed level) → Stands p (Some (opening_stand (reopening level)))
+pub opens_next : (p : Option Phase) (level : ℕ) → 1 ≤ level → Stands p (still_closed level) →
+    Stands p (Some (opening_stand (reopening level)))
 opens_next p level one = stands_so p _ _ (opening_says level one)
 
 -- and the other way round
@@ -206,12 +204,14 @@ beside_still (suc (suc n)) s one e = subst (SayBeside (suc (suc n)) (Some s)) (s
 pub still_count : (level : ℕ) → 1 ≤ level → stand_count level (still_closed (level - 1)) ≡ CountsNot
 still_count zero one = absurd (omega (arith, one))
 still_count (suc zero) one = refl
-still_count (suc (suc n)) one = ap (stand_count (suc (suc n))) (still_before n) ∙ count_above (suc (suc n)) (closed_to (suc n)) (omega arith)
+still_count (suc (suc n)) one =
+    ap (stand_count (suc (suc n))) (still_before n) ∙ count_above (suc (suc n)) (closed_to (suc n)) (omega arith)
 
 pub still_sync : (level : ℕ) → 1 ≤ level → stand_sync level (still_closed (level - 1)) ≡ IsApart
 still_sync zero one = absurd (omega (arith, one))
 still_sync (suc zero) one = refl
-still_sync (suc (suc n)) one = ap (stand_sync (suc (suc n))) (still_before n) ∙ sync_above (suc (suc n)) (closed_to (suc n)) (omega arith)
+still_sync (suc (suc n)) one =
+    ap (stand_sync (suc (suc n))) (still_before n) ∙ sync_above (suc (suc n)) (closed_to (suc n)) (omega arith)
 
 -- an event at a level leaves `block` of the others
 touched_block : (w : Words) (i j : ℕ) → (j ≡ i → ⊥) → (name : WordName) (touch : Touch) → IsEventAt i name touch →
@@ -273,7 +273,8 @@ module _ (c : Config) (w : World) (good : IsGood c w) (t : ℕ) (lt : t < c.task
       Holds c (left_world w t ws v) (AtLevel i)
   counts_become ws i block' full' r eb ef ec e h one three =
       level_as eb ef ec
-      (update_map (at_level i) w.views t v ∙ ap (update (λ x. at_level i (w.views x)) t) (seen_counts i one three r (e one three))) (h one three)
+      (update_map (at_level i) w.views t v ∙ ap (update (λ x. at_level i (w.views x)) t) (seen_counts i one three r (e one three)))
+      (h one three)
 
   -- a level's rcu_sync where neither what it reads of the words nor its role there changes
   pub sync_left : (ws : Words) (i : ℕ) → ws.sync i ≡ w.words.sync i → ws.block i ≡ w.words.block i → ws.section ≡ w.words.section →

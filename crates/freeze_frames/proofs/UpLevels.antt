@@ -1,14 +1,13 @@
 -- What each event of an up-write leaves of the levels: its store opens its level, and its exchange leaves the rcu_sync.
-use Rattle.std.proofs.Common.{◌≡◌, ℕ, ◌<◌, ◌≤◌, refl, sym, ap, ◌∙◌, subst}
-use Rattle.std.specs.Prelude.{Option, Some, None}
-use Rattle.finite_sums.specs.Sums.{update}
+use Rattle.std.proofs.Common.{◌≡◌, ℕ, ◌<◌, ◌≤◌, refl, sym, ◌∙◌, subst}
+use Rattle.std.specs.Prelude.{Some}
 use Rattle.finite_sums.proofs.Totals.{update_at}
+use Rattle.access_model.specs.declared.replies.Next.{Next}
+use Rattle.access_model.specs.declared.replies.Next.TheVariants.{Go, Wait, Done}
 use Rattle.cpu_words.specs.declared.names.WordName.{WordName}
 use Rattle.cpu_words.specs.declared.events.Touch.{Touch}
 use Rattle.cpu_words.specs.Touches.{found_by, left}
 use Rattle.cpu_words.specs.Words.{Words, read, put}
-use Rattle.access_model.specs.declared.replies.Next.{Next}
-use Rattle.access_model.specs.declared.replies.Next.TheVariants.{Go, Wait, Done}
 use Rattle.percpu_rwsem.specs.declared.transitions.Transition.TheVariants.{Loads, Exchanges}
 use Rattle.percpu_rwsem.specs.declared.transitions.TransitionNext.{TransitionNext}
 use Rattle.percpu_rwsem.specs.declared.transitions.TransitionNext.TheVariants.{More, Undefined, Made}
@@ -18,9 +17,9 @@ use Rattle.percpu_rwsem.specs.declared.writers.UpWriteStep.TheVariants.{ClearsBl
 use Rattle.percpu_rwsem.specs.SyncWords.{on_exit}
 use Rattle.percpu_rwsem.specs.Transitions.{transition_after}
 use Rattle.percpu_rwsem.specs.Writers.{up_write_next, up_write_after, at_up_write, exit_made}
-use Rattle.gate_counts.specs.Levels.{Out as CountsNot, Passed as CountsPassed}
+use Rattle.gate_counts.specs.Levels.{Out as CountsNot}
 use Rattle.gate_counts.proofs.LevelLaws.{reopens}
-use Rattle.level_laws.specs.Roles.{SyncRole, Out as IsApart}
+use Rattle.level_laws.specs.Roles.{Out as IsApart}
 use Rattle.level_laws.specs.Events.{SyncStep}
 use Rattle.level_laws.specs.Operations.{up_write_role, left_by, by_next, HoldsOfNext}
 use Rattle.level_laws.proofs.Operations.{up_writes_are_there}

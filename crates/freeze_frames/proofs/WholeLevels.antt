@@ -1,19 +1,19 @@
 -- The store of stage 4 that leaves all levels closed and no task's own, and the store of stage 0 that takes them over.
-use Rattle.std.proofs.Common.{◌≡◌, ℕ, ◌<◌, ◌≤◌, refl, sym, ap, ◌∙◌}
-use Rattle.std.specs.Prelude.{Option, Some, None}
+use Rattle.std.proofs.Common.{◌≡◌, ℕ, ◌<◌, refl, sym, ap, ◌∙◌}
+use Rattle.std.specs.Prelude.{Some, None}
 use Rattle.finite_sums.specs.Sums.{update}
 use Rattle.finite_sums.proofs.Totals.{update_same}
 use Rattle.cpu_words.specs.Words.{Words}
 use Rattle.gate_counts.specs.Levels.{Out as CountsNot, Passed as CountsPassed}
 use Rattle.gate_counts.proofs.LevelLaws.{is_left_frozen, thaws}
 use Rattle.level_laws.specs.Roles.{SyncRole, Out as IsApart, Closed}
-use Rattle.level_laws.specs.Events.{SyncLevel, SyncStep, Freezes, Thaws}
+use Rattle.level_laws.specs.Events.{Freezes, Thaws}
 use Rattle.gate_world.specs.declared.config.Config.{Config}
 use Rattle.gate_world.specs.declared.views.View.{View}
 use Rattle.gate_world.specs.Configs.{IsWithin}
 use Rattle.gate_world.specs.Worlds.{World}
-use Rattle.gate_world.specs.Levels.{Stand, closed_to, stand_sync, inside, is_frozen_whole, sync_role_of}
-use Rattle.gate_world.specs.Rules.{IsGood, Holds, AtLevel, SyncAt, Sections}
+use Rattle.gate_world.specs.Levels.{closed_to, inside, is_frozen_whole, sync_role_of}
+use Rattle.gate_world.specs.Rules.{IsGood, AtLevel}
 use Rattle.gate_frames.proofs.Frames.{SameLevelCounts}
 use Rattle.level_frames.proofs.LevelWorlds.{level_in, level_moves, sync_steps}
 use Rattle.freeze_frames.proofs.Standing.{Stands, LevelsHold, left_world}
