@@ -117,7 +117,8 @@ passed_level : (d : DownWrite) (o : Option SyncWord) → AtTheLevel d.level (pas
 passed_level d None = refl
 passed_level d (Some word) = state_level d (is_passed word.state)
 
-swap_level : (d : DownWrite) (b : Bool) → AtTheLevel d.level (if b then Go (at_down_write d sum_begun) else Wait (at_down_write d SetsBlock))
+swap_level : (d : DownWrite) (b : Bool) →
+    AtTheLevel d.level (if b then Go (at_down_write d sum_begun) else Wait (at_down_write d SetsBlock))
 swap_level d true = refl
 swap_level d false = refl
 
