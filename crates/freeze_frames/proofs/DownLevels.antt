@@ -108,28 +108,34 @@ grace_level d (MoreSections g) = refl
 grace_level d (WaitsFor g) = refl
 grace_level d Ended = refl
 
+-- one that loads for GP_PASSED does
 state_level : (d : DownWrite) (b : Bool) →
     AtTheLevel d.level (if b then Go (at_down_write d SetsBlock) else Wait (at_down_write d AwaitsPassed))
 state_level d true = refl
 state_level d false = refl
 
+-- whatever number it finds
 passed_level : (d : DownWrite) (o : Option SyncWord) → AtTheLevel d.level (passed_awaited d o)
 passed_level d None = refl
 passed_level d (Some word) = state_level d (is_passed word.state)
 
+-- one that swaps `block` does
 swap_level : (d : DownWrite) (b : Bool) →
     AtTheLevel d.level (if b then Go (at_down_write d sum_begun) else Wait (at_down_write d SetsBlock))
 swap_level d true = refl
 swap_level d false = refl
 
+-- one that has its total
 total_level : (d : DownWrite) (b : Bool) → AtTheLevel d.level (if b then Done (Ok UnitReply) else Wait (at_down_write d sum_begun))
 total_level d true = tt
 total_level d false = refl
 
+-- and one that takes a word more
 summed_level : (d : DownWrite) (taken : Taken) → AtTheLevel d.level (down_write_summed d taken).0
 summed_level d (MoreWords sum) = refl
 summed_level d (Total n) = total_level d (n == 0)
 
+-- so each does
 pub down_write_level : (d : DownWrite) (s : DownWriteStep) (found : ℕ) → AtTheLevel d.level (down_write_after d s found).0
 down_write_level d (Enters x) found = refl
 down_write_level d (AwaitsSections g) found = grace_level d (looked g found)
@@ -164,27 +170,32 @@ entered_counts tasks Passed = refl
 entered_counts tasks Exit = refl
 entered_counts tasks Replay = refl
 
+-- nor has it while it enters
 enter_counts : (tasks : ℕ) (n : TransitionNext) → down_count_role (enter_step tasks n) ≡ CountsNot
 enter_counts tasks (More x) = refl
 enter_counts tasks Undefined = refl
 enter_counts tasks (Made state) = entered_counts tasks state
 
+-- or ends its grace period
 call_counts : (n : TransitionNext) → down_count_role (callback_step n) ≡ CountsNot
 call_counts (More x) = refl
 call_counts Undefined = refl
 call_counts (Made state) = refl
 
+-- or is in it
 grace_counts : (d : DownWrite) (n : GraceNext) →
     stand_count d.level (stand_after_closing d.level (sections_awaited d n)) ≡ CountsNot
 grace_counts d (MoreSections g) = counts_as d (AwaitsSections g)
 grace_counts d (WaitsFor g) = counts_as d (AwaitsSections g)
 grace_counts d Ended = counts_as d (CallsBack Loads)
 
+-- or has loaded for GP_PASSED
 state_counts : (d : DownWrite) (b : Bool) → stand_count d.level (stand_after_closing d.level
     (if b then Go (at_down_write d SetsBlock) else Wait (at_down_write d AwaitsPassed))) ≡ CountsNot
 state_counts d true = counts_as d SetsBlock
 state_counts d false = counts_as d AwaitsPassed
 
+-- whatever number it found
 passed_counts : (d : DownWrite) (o : Option SyncWord) →
     stand_count d.level (stand_after_closing d.level (passed_awaited d o)) ≡ CountsNot
 passed_counts d None = counts_as d AwaitsPassed
@@ -219,11 +230,13 @@ abbrev taken_role : Taken → LevelRole
 taken_role (MoreWords sum) = Summing sum.words sum.total
 taken_role (Total n) = total_role (n == 0)
 
+-- so it stands then at its level
 total_counts : (d : DownWrite) (b : Bool) → stand_count d.level (stand_after_closing d.level
     (if b then Done (Ok UnitReply) else Wait (at_down_write d sum_begun))) ≡ total_role b
 total_counts d true = count_at d.level (closed_to d.level) refl
 total_counts d false = counts_as d sum_begun
 
+-- and so after one word more
 taken_counts : (d : DownWrite) (taken : Taken) →
     stand_count d.level (stand_after_closing d.level (down_write_summed d taken).0) ≡ taken_role taken
 taken_counts d (MoreWords sum) = counts_as d (Sums sum)
@@ -234,6 +247,7 @@ total_passes : (i j : ℕ) (b : Bool) → (if b then Some (Pass i) else None) �
 total_passes i j true e = refl
 total_passes i j false e = absurd (none-some (Pass j) e)
 
+-- so the event that passes a level leaves it passed
 taken_passes : (d : DownWrite) (j : ℕ) (taken : Taken) → (down_write_summed d taken).1 ≡ Some (Pass j) → taken_role taken ≡ CountsPassed
 taken_passes d j (MoreWords sum) e = absurd (none-some (Pass j) e)
 taken_passes d j (Total n) e = ap total_role (total_passes d.level j (n == 0) e)
@@ -255,7 +269,7 @@ module _ (c : Config) (lim : IsWithin c) (w : World) (good : IsGood c w) (t : �
   RoleAfter i r = LevelHolds c.tasks c.processors (w.words.block i) (is_frozen_whole w.words) (w.words.level i)
       (update (λ x. at_level i (w.views x)) t (record (at_level i (w.views t)) { role = r }))
 
-  -- a word more of a sum leaves what holds of the counts
+  -- the last word of a sum leaves what holds of the counts
   total_taken : (i k sum : ℕ) → 1 ≤ i → i ≤ 3 → level_role_of i (w.views t).phase ≡ Summing k sum → suc k ≡ c.processors → (n : ℕ) →
       n ≡ wrap_add sum (w.words.level i k) → RoleAfter i (total_role (n == 0))
   total_taken i k sum one three here last n e = elim (eqb_tells n 0) [
@@ -265,6 +279,7 @@ module _ (c : Config) (lim : IsWithin c) (w : World) (good : IsGood c w) (t : �
         (sums_anew (good (AtLevel i) one three) t lt lim.tasks lim.processors k sum here last)
   ]
 
+  -- a word more of a sum, whether it is its last or not
   word_taken : (i k sum : ℕ) → 1 ≤ i → i ≤ 3 → level_role_of i (w.views t).phase ≡ Summing k sum → k < c.processors → (taken : Taken) →
       IsTaken k (wrap_add sum (w.words.level i k)) c.processors taken → RoleAfter i (taken_role taken)
   word_taken i k sum one three here more (MoreWords next) is =
@@ -348,7 +363,7 @@ module _ (c : Config) (lim : IsWithin c) (w : World) (good : IsGood c w) (t : �
         ])
 
     module _ (v : View) (counts : SameLevelCounts (w.views t) v) where
-      -- an event before its swap, or after it a load for GP_PASSED, leaves the counts of its level
+      -- an event before its swap leaves the counts of its level
       waits_here : (s : DownWriteStep) → (words_closing s).block d.level ≡ w.words.block d.level →
           is_frozen_whole (words_closing s) ≡ is_frozen_whole w.words → down_count_role s ≡ CountsNot →
           stand_count d.level (stand_after_closing d.level (next_closing s)) ≡ CountsNot →

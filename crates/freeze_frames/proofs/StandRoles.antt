@@ -30,6 +30,7 @@ use Rattle.freeze_frames.proofs.Standing.{LevelsHold, left_world, closing_stand,
 pub count_at : (i : ℕ) (s : Stand) → i ≡ s.level → stand_count i (Some s) ≡ s.count
 count_at i s e = rw (eq-eqb i s.level e) refl
 
+-- and its rcu_sync there
 pub sync_at : (i : ℕ) (s : Stand) → i ≡ s.level → stand_sync i (Some s) ≡ s.sync
 sync_at i s e = rw (eq-eqb i s.level e) refl
 
@@ -37,6 +38,7 @@ sync_at i s e = rw (eq-eqb i s.level e) refl
 pub count_below : (i : ℕ) (s : Stand) → i < s.level → stand_count i (Some s) ≡ CountsPassed
 count_below i s lt = rw (ne_eqb i s.level (λ e. omega (arith, e, lt)), lt-ltb i s.level lt) refl
 
+-- with their rcu_sync
 pub sync_below : (i : ℕ) (s : Stand) → i < s.level → stand_sync i (Some s) ≡ Closed
 sync_below i s lt = rw (ne_eqb i s.level (λ e. omega (arith, e, lt)), lt-ltb i s.level lt) refl
 
@@ -44,6 +46,7 @@ sync_below i s lt = rw (ne_eqb i s.level (λ e. omega (arith, e, lt)), lt-ltb i 
 pub count_above : (i : ℕ) (s : Stand) → s.level < i → stand_count i (Some s) ≡ CountsNot
 count_above i s lt = rw (ne_eqb i s.level (λ e. omega (arith, e, lt)), le-ltb i s.level (omega (arith, lt))) refl
 
+-- nor is their rcu_sync
 pub sync_above : (i : ℕ) (s : Stand) → s.level < i → stand_sync i (Some s) ≡ IsApart
 sync_above i s lt = rw (ne_eqb i s.level (λ e. omega (arith, e, lt)), le-ltb i s.level (omega (arith, lt))) refl
 
@@ -150,6 +153,7 @@ pub closing_next : (p : Option Phase) (n tasks processors : ℕ) → 1 ≤ n →
     Stands p (Some (closing_stand (closing (suc n) tasks processors))) → Stands p (Some (closed_to n))
 closing_next p n tasks processors some = stands_so p _ _ (say_back _ _ (closing_says n tasks processors some))
 
+-- and that of the first
 pub closing_first : (p : Option Phase) (tasks processors : ℕ) → Stands p (Some (closing_stand (closing 1 tasks processors))) → Stands p None
 closing_first p tasks processors = stands_so p _ _ (say_back _ _ (closing_says_none tasks processors))
 
@@ -207,6 +211,7 @@ still_count (suc zero) one = refl
 still_count (suc (suc n)) one =
     ap (stand_count (suc (suc n))) (still_before n) ∙ count_above (suc (suc n)) (closed_to (suc n)) (omega arith)
 
+-- nor of its rcu_sync
 pub still_sync : (level : ℕ) → 1 ≤ level → stand_sync level (still_closed (level - 1)) ≡ IsApart
 still_sync zero one = absurd (omega (arith, one))
 still_sync (suc zero) one = refl
