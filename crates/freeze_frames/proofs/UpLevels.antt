@@ -57,6 +57,7 @@ exit_level u (More x) = refl
 exit_level u Undefined = refl
 exit_level u (Made state) = tt
 
+-- after each of its events
 pub up_write_level : (u : UpWrite) (s : UpWriteStep) (found : ℕ) →
     HoldsOfNext (λ (x : UpWrite). x.level ≡ u.level) (up_write_after u s found).0
 up_write_level u ClearsBlock found = refl
