@@ -1,13 +1,17 @@
 -- The law of each event of a thaw.
 use Rattle.gate_frames.proofs.MountEvents.{level_added_load, level_taken_load}
 use Rattle.freeze_frames.proofs.UpLevels.{up_write_levels}
-use Rattle.gate_world.specs.Shown.{shown, node_shown}
+use Rattle.access_model.specs.Histories.{mounts_of, levels_of}
+use Rattle.gated_tree.specs.Nodes.{dirty_in}
+use Rattle.gate_world.specs.Shown.{stage_roles, shown, node_shown}
 use Rattle.percpu_rwsem.specs.declared.transitions.Transition.TheVariants.{Exchanges, Loads}
 use Rattle.cpu_words.specs.Touches.{found_by, left}
 use Rattle.thaw_laws.proofs.ThawFits.{thaw_goes}
 use Rattle.freeze_frames.proofs.WholeLevels.{thaws_all}
 use Rattle.access_model.specs.declared.errors.GateError.TheVariants.{Invalid, Hook}
 use Rattle.freeze_frames.proofs.StandRoles.{levels_stay}
+use Rattle.freeze_frames.proofs.WriterStages.{writer_beside, writer_stores, stored_levels, stays_there, none_leaves, SameStageWords}
+use Rattle.freeze_frames.proofs.WriterWords.{writer_at_level, up_write_words, up_write_counts_none, up_write_adds, reopen_leaves}
 use Rattle.freeze_frames.proofs.WriterOwner.{lock_given, lock_taken, owner_stays}
 use Rattle.percpu_rwsem.specs.SyncWords.{on_exit}
 use Rattle.finite_sums.specs.Sums.{update}
@@ -27,7 +31,7 @@ use Rattle.std.proofs.lemmas.Bool.Decides.{eqb_tells}
 use Rattle.cpu_words.specs.declared.events.Event.{Event}
 use Rattle.cpu_words.specs.declared.names.WordName.{WordName}
 use Rattle.gate_frames.proofs.Stages.{stages_in, IsStageEvent, nobody_owns}
-use Rattle.gate_world.specs.Fits.{PhaseFits, ThawFits, Fits}
+use Rattle.gate_world.specs.Fits.{mounts_by, levels_by, PhaseFits, ThawFits, Fits}
 use Rattle.percpu_rwsem.specs.Writers.{exit_made, up_write_next, up_write_after}
 use Rattle.access_model.specs.declared.replies.Next.TheVariants.{Go, Wait, Done}
 use Rattle.cpu_words.specs.Words.{Words, read, put}
@@ -38,13 +42,13 @@ use Rattle.std.proofs.lemmas.Bool.{ne_eqb}
 use Rattle.access_model.specs.Replies.{map_next}
 use Rattle.gate_world.specs.Rules.{owns, IsGood, Stages, StepKeeps, OwnerHolds, ViewFits, marks_of, Fitting, Nodes}
 use Rattle.gate_frames.proofs.Keeps.{by_bool}
-use Rattle.gate_world.specs.Views.{phase_after, held_at, holds_level, view_with, added_by, taken_by}
+use Rattle.gate_world.specs.Views.{actions_after, added_after, taken_after, phase_after, held_at, holds_level, view_with, added_by, taken_by}
 use Rattle.freeze_frames.proofs.WriterParts.{AsksWhere, IsBeside, SameAtMounts, IsWriter, WriterLaw, writer_law, thaw_work, idle_writes, LeavesRest, WriterKeeps, reopening_owns, thaws_write, thaw_comes, whole_writer}
 use Rattle.gate_world.specs.Worlds.{World}
 use Rattle.percpu_rwsem.specs.declared.transitions.TransitionNext.{TransitionNext}
 use Rattle.percpu_rwsem.specs.declared.writers.UpWrite.{UpWrite}
 use Rattle.freeze_levels.specs.Thaws.{at_thaw, thaw_opens, after_opening}
-use Rattle.gate_world.specs.Levels.{thaw_stand, level_added_by, level_taken_by, closed_to}
+use Rattle.gate_world.specs.Levels.{is_frozen_whole, level_added_after, level_taken_after, thaw_stand, level_added_by, level_taken_by, closed_to}
 use Rattle.access_model.specs.declared.actions.NodeInfo.{NodeInfo}
 use Rattle.stage_laws.specs.Shown.{state_after}
 use Rattle.gate_world.specs.Configs.{IsWithin, model_limits}
@@ -77,33 +81,12 @@ use Rattle.stage_laws.specs.Events.{
   ThawsAtOnce,
   ClearsBlock as ClearsBlockOf,
   Recalls,
+  Stays,
   playing,
   action_of as stage_action_of,
 }
 use Rattle.stage_laws.specs.Roles.{StageRole, Aside, Owning, Reopening, KnowsStage, CleanBelow, clean_by, is_full, owns as stage_owns}
 use Rattle.gate_world.specs.declared.work.Phase.TheVariants.{Thaws}
-
--- a thaw adds no action but its store of stage 0 and the reopenings
-abbrev IsThawAction : Option Action → Type 0
-IsThawAction None = Unit {0}
-IsThawAction (Some (StageAction n)) = Unit {0}
-IsThawAction (Some (Reopen i)) = Unit {0}
-IsThawAction (Some a) = ⊥
-
--- such an action asks nothing of the other parts
-thaw_asks : (l : Limits) (s : State) (action : Option Action) → IsThawAction action → AsksWhere l s action
-thaw_asks l s None h = tt
-thaw_asks l s (Some (StageAction n)) h = tt
-thaw_asks l s (Some (Reopen i)) h = tt
-thaw_asks l s (Some a) h = absurd h
-
--- and leaves what is shown of the accesses, the mounts and the tree
-thaw_leaves : (old : State) (t : ℕ) (action : Option Action) → IsThawAction action → (tree : ℕ → Option NodeInfo) → old.tree ≡ tree →
-    LeavesRest old (state_after old t action) tree
-thaw_leaves old t None h tree e = record { mounts_same = refl; levels_same = refl; ro_same = refl; tree_same = e }
-thaw_leaves old t (Some (StageAction n)) h tree e = record { mounts_same = refl; levels_same = refl; ro_same = refl; tree_same = e }
-thaw_leaves old t (Some (Reopen i)) h tree e = record { mounts_same = refl; levels_same = refl; ro_same = refl; tree_same = e }
-thaw_leaves old t (Some a) h tree e = absurd h
 
 -- owners that rely on one thing or another are alike
 owners_alike : (stage sb stage' sb' : Option ℕ) → IsAlike (Owning stage sb) (Owning stage' sb')
@@ -184,9 +167,17 @@ module _ (c : Config) (lim : IsWithin c) (w : World) (good : IsGood c w) (t : �
   abbrev Keeps : HookAnswer → ThawStep → Type 0
   Keeps hook s = WriterKeeps c w t hook (Thaws (at_thaw x s))
 
-  -- its phase fits its accesses
-  here_fits : (s : ThawStep) → IsHere s → PhaseFits c t (held_at (w.views t)) (holds_level (w.views t)) (Thaws (at_thaw x s))
+  -- this step fits the task's accesses
+  abbrev FitsHere : ThawStep → Type 0
+  FitsHere s = PhaseFits c t (held_at (w.views t)) (holds_level (w.views t)) (Thaws (at_thaw x s))
+
+  -- as the one does at which it is
+  here_fits : (s : ThawStep) → IsHere s → FitsHere s
   here_fits s e = subst (Fits c t (held_at (w.views t)) (holds_level (w.views t))) e (good Fitting t lt)
+
+  -- and another step that fits
+  goes_to : (s s' : ThawStep) → IsHere s → ThawFits s' → FitsHere s'
+  goes_to s s' e fit = let f : FitsHere s = here_fits s e in (f.0, f.1, fit)
 
   -- what it relies on is so
   here_knows : (s : ThawStep) → IsHere s → KnowsStage w.words.stage w.words.sb (thaw_stage_role s)
@@ -200,84 +191,59 @@ module _ (c : Config) (lim : IsWithin c) (w : World) (good : IsGood c w) (t : �
   here_writes : (s : ThawStep) → IsHere s → IsWriter (w.views t).phase
   here_writes s e = subst IsWriter (sym e) (thaws_write (at_thaw x s))
 
-  -- nor has what comes after
-  then_writes : (v : View) (n : Next Thaw) → v.phase ≡ phase_after (map_next Thaws n) → IsWriter v.phase
-  then_writes v n is = subst IsWriter (sym is) (thaw_comes n)
-
-  -- an event of a thaw, by what it leaves of the words, of the task's view, of `umount` and of the levels, and by its kind
-  thaw_law : (s : ThawStep) (e : IsHere s) (ws : Words) (v : View) (n : Next Thaw) → v.phase ≡ phase_after (map_next Thaws n) →
-      (action : Option Action) (kind : StageEvent) → IsThawAction action → stage_action_of kind (stages_in w) ≡ action →
-      IsBeside w.words ws → SameAtMounts (w.views t) v → ws.node ≡ w.words.node →
-      OwnerHolds c.tasks ws.umount ws.remount (λ y. (update w.views t v y).phase) → LevelsHold c (left_world w t ws v) → ViewFits c t v →
-      IsStageEvent c w good t lt ws v kind → WriterLaw c w t ws v action
-  thaw_law s e ws v n is action kind asks adds beside counts node owner levels fits happens =
-      writer_law c w good t lt ws v action kind record {
-        words = beside;
-        counts = counts;
-        was = here_writes s e;
-        now = then_writes v n is;
-        owner = owner;
-        levels = levels;
-        nodes = left_alone c w t lt Nodes ws v node tt (good Nodes);
-        fits = fits;
-        happens = happens;
-        adds = adds;
-        asks = thaw_asks (model_limits c) (shown c w) action asks;
-        rest = thaw_leaves (shown c w) t action asks (λ k. node_shown (ws.node k))
-            (λ j k. node_shown (sym node j k));
-      }
-
-  -- the words after an event on `umount` or on the stage
-  abbrev stored : ℕ → ℕ → Words
-  stored umount stage = record w.words { umount = umount; stage = stage }
-
-  -- such an event, where no level is the thaw's own before it and after it
-  off_law : (s : ThawStep) (e : IsHere s) → thaw_stand s ≡ None → (umount stage : ℕ) →
-      is_full stage w.words.sb ≡ is_full w.words.stage w.words.sb → (v : View) (n : Next Thaw) → v.phase ≡ phase_after (map_next Thaws n) →
-      Stands v.phase None → (action : Option Action) (kind : StageEvent) → IsThawAction action →
-      stage_action_of kind (stages_in w) ≡ action → SameAtMounts (w.views t) v → SameLevelCounts (w.views t) v →
-      OwnerHolds c.tasks umount w.words.remount (λ y. (update w.views t v y).phase) → ViewFits c t v →
-      IsStageEvent c w good t lt (stored umount stage) v kind → WriterLaw c w t (stored umount stage) v action
-  off_law s e none umount stage whole v n is stands action kind asks adds counts levels owner fits happens =
-      thaw_law s e (stored umount stage) v n is action kind asks adds
-      (record { flags_same = refl; count_same = refl; remount_same = refl; sb_same = refl }) counts refl owner
-      (levels_stay c w good t lt (stored umount stage) v None
-      (record { block_same = refl; level_same = refl; sync_same = refl; section_same = refl; whole_same = whole }) levels
-      (subst (Stands (w.views t).phase) none (here_stands s e)) stands)
-      fits happens
-
-  -- an event on those words by the owner, with which it goes on at this step as the owner
-  goes_law : (hook : HookAnswer) (s : ThawStep) (e : IsHere s) → thaw_stand s ≡ None → (name : WordName) (touch : Touch) (value : ℕ)
-      (stage : ℕ) →
-      is_full stage w.words.sb ≡ is_full w.words.stage w.words.sb → (s' : ThawStep) → thaw_stand s' ≡ None → (action : Option Action)
-      (kind : StageEvent) → IsThawAction action → stage_action_of kind (stages_in w) ≡ action →
-      owns (Some (Thaws (at_thaw x s'))) ≡ owns (Some (Thaws (at_thaw x s))) → ThawFits s' →
-      let v : View = view_with (w.views t) (name, touch) value hook (Go (Thaws (at_thaw x s')), action) in
-      SameAtMounts (w.views t) v → SameLevelCounts (w.views t) v →
-      IsStageEvent c w good t lt (stored w.words.umount stage) v kind → WriterLaw c w t (stored w.words.umount stage) v action
-  goes_law hook s e none name touch value stage whole s' none' action kind asks adds own fit counts levels happens =
-      let f = here_fits s e in
-      let v : View = view_with (w.views t) (name, touch) value hook (Go (Thaws (at_thaw x s')), action) in
-      off_law s e none w.words.umount stage whole v (Go (at_thaw x s')) refl
-      (subst (Stands (Some (Thaws (at_thaw x s')))) none' (thaw_stands (at_thaw x s'))) action kind asks adds counts levels
-      (owner_stays c w good t lt v (here_writes s e) (then_writes v (Go (at_thaw x s')) refl) (stored w.words.umount stage) refl refl
-      (own ∙ sym (ap owns e)))
-      (subst (λ h. Fits c t h (holds_level v) (Some (Thaws (at_thaw x s')))) (sym counts.held_same)
-      (subst (λ h. Fits c t (held_at (w.views t)) h (Some (Thaws (at_thaw x s')))) (sym counts.levels_same) (f.0, f.1, fit)))
-      happens
+  -- the view after an event of this word and touch, after which this step comes
+  abbrev view_at : WordName × Touch → ℕ → HookAnswer → ThawStep → Option Action → View
+  view_at event value hook s action = view_with (w.views t) event value hook (Go (Thaws (at_thaw x s)), action)
 
   -- a load by the owner, which goes on relying on this
   load_law : (hook : HookAnswer) (name : WordName) (value : ℕ) (s s' : ThawStep) (e : IsHere s) → thaw_stand s ≡ None →
-      thaw_stand s' ≡ None → (a b a' b' : Option ℕ) → thaw_stage_role s ≡ Owning a b → thaw_stage_role s' ≡ Owning a' b' → ThawFits s' →
-      KnowsStage w.words.stage w.words.sb (Owning a' b') →
-      let v : View = view_with (w.views t) (name, Load) value hook (Go (Thaws (at_thaw x s')), None) in
-      WriterLaw c w t w.words v None
-  load_law hook name value s s' e none none' a b a' b' role role' fit knows =
-      goes_law hook s e none name Load value w.words.stage refl s' none' None (Recalls (Owning a b) (Owning a' b')) tt refl
-      (ap stage_owns role' ∙ sym (ap stage_owns role)) fit
-      (record { held_same = refl; levels_same = refl; added_same = added_load name (added_by (w.views t).events); taken_same = taken_load name (taken_by (w.views t).events) })
-      (record { held_same = refl; added_same = level_added_load name Load (level_added_by (w.views t).events) refl; taken_same = level_taken_load name Load (level_taken_by (w.views t).events) refl })
-      (ap stage_role_of e ∙ role, owners_alike a b a' b', knows, none_below (marks_of w.words), ap (playing (stages_in w) t) role')
+      thaw_stand s' ≡ None → (stage sb stage' sb' : Option ℕ) → thaw_stage_role s ≡ Owning stage sb →
+      thaw_stage_role s' ≡ Owning stage' sb' → ThawFits s' → KnowsStage w.words.stage w.words.sb (Owning stage' sb') →
+      WriterLaw c w t w.words (view_at (name, Load) value hook s' None) None
+  load_law hook name value s s' e none none' stage sb stage' sb' role role' fit knows =
+      let v : View = view_at (name, Load) value hook s' None in
+      let now : IsWriter v.phase = thaws_write (at_thaw x s') in
+      writer_beside c w good t lt v (here_writes s e) now
+      (record {
+        held_same = refl;
+        levels_same = refl;
+        added_same = added_load name (added_by (w.views t).events);
+        taken_same = taken_load name (taken_by (w.views t).events);
+      })
+      (record {
+        held_same = refl;
+        added_same = level_added_load name Load (level_added_by (w.views t).events) refl;
+        taken_same = level_taken_load name Load (level_taken_by (w.views t).events) refl;
+      })
+      (goes_to s s' e fit) w.words.umount None (Recalls (Owning stage sb) (Owning stage' sb'))
+      (owner_stays c w good t lt v (here_writes s e) now w.words refl refl (ap stage_owns role' ∙ sym (ap owns e ∙ ap stage_owns role)))
+      (subst (Stands (w.views t).phase) none (here_stands s e))
+      (subst (Stands (Some (Thaws (at_thaw x s')))) none' (thaw_stands (at_thaw x s')))
+      (
+        ap stage_role_of e ∙ role,
+        owners_alike stage sb stage' sb',
+        knows,
+        none_below (marks_of w.words),
+        ap (playing (stages_in w) t) role',
+      )
+      refl
+
+  -- the owner's store of stage 0, by what it leaves of the levels and by its kind
+  store_law : (hook : HookAnswer) (s s' : ThawStep) (e : IsHere s) (kind : StageEvent) → stage_owns (thaw_stage_role s) ≡ 1 →
+      stage_owns (thaw_stage_role s') ≡ 1 → ThawFits s' →
+      let v : View = view_at (Stage, Store 0) w.words.stage hook s' (Some (StageAction 0)) in
+      let ws : Words = record w.words { stage = 0 } in
+      LevelsHold c (left_world w t ws v) → IsStageEvent c w good t lt ws v kind →
+      stage_action_of kind (stages_in w) ≡ Some (StageAction 0) → WriterLaw c w t ws v (Some (StageAction 0))
+  store_law hook s s' e kind own own' fit levels happens adds =
+      let v : View = view_at (Stage, Store 0) w.words.stage hook s' (Some (StageAction 0)) in
+      let now : IsWriter v.phase = thaws_write (at_thaw x s') in
+      writer_stores c w good t lt v (here_writes s e) now
+      (record { held_same = refl; levels_same = refl; added_same = refl; taken_same = refl })
+      (record { held_same = refl; added_same = refl; taken_same = refl })
+      (goes_to s s' e fit) 0 kind
+      (owner_stays c w good t lt v (here_writes s e) now w.words refl refl (own' ∙ sym (ap owns e ∙ own)))
+      levels happens adds
 
   -- gives `umount` back; meets: the next owner takes it
   gives_back : (hook : HookAnswer) (s : ThawStep) (e : IsHere s) → thaw_stand s ≡ None → (answer : Result Reply GateError)
@@ -286,11 +252,12 @@ module _ (c : Config) (lim : IsWithin c) (w : World) (good : IsGood c w) (t : �
       WriterLaw c w t (record w.words { umount = 0 }) v None
   gives_back hook s e none answer stage sb role =
       let v : View = view_with (w.views t) (Umount, Store 0) w.words.umount hook (Done answer, None) in
-      off_law s e none 0 w.words.stage refl v (Done answer) refl idle_stands None (ReleasesStage stage sb) tt refl
+      writer_beside c w good t lt v (here_writes s e) idle_writes
       (record { held_same = refl; levels_same = refl; added_same = refl; taken_same = refl })
       (record { held_same = refl; added_same = refl; taken_same = refl })
-      (lock_given c w good t lt v (here_writes s e) idle_writes (ap owns e ∙ ap stage_owns role) refl) tt
-      (ap stage_role_of e ∙ role, refl)
+      tt 0 None (ReleasesStage stage sb)
+      (lock_given c w good t lt v (here_writes s e) idle_writes (ap owns e ∙ ap stage_owns role) refl)
+      (subst (Stands (w.views t).phase) none (here_stands s e)) idle_stands (ap stage_role_of e ∙ role, refl) refl
 
   -- the view after the lock was tried, which left this in `umount`
   abbrev tried : HookAnswer → ℕ → ThawStep → View
@@ -302,121 +269,196 @@ module _ (c : Config) (lim : IsWithin c) (w : World) (good : IsGood c w) (t : �
         trace = record { event = event; hook = hook } ∷ (w.views t).trace;
       }
 
+  -- a try of the lock, which leaves this in `umount`, and after which this step comes
+  try_law : (hook : HookAnswer) (e : IsHere Locks) (n : ℕ) (s : ThawStep) → thaw_stand s ≡ None → ThawFits s → (kind : StageEvent) →
+      OwnerHolds c.tasks n w.words.remount (λ y. (update w.views t (tried hook n s) y).phase) →
+      IsStageEvent c w good t lt (record w.words { umount = n }) (tried hook n s) kind → stage_action_of kind (stages_in w) ≡ None →
+      WriterLaw c w t (record w.words { umount = n }) (tried hook n s) None
+  try_law hook e n s none fit kind owner happens adds =
+      writer_beside c w good t lt (tried hook n s) (here_writes Locks e) (thaws_write (at_thaw x s))
+      (record { held_same = refl; levels_same = refl; added_same = refl; taken_same = refl })
+      (record { held_same = refl; added_same = refl; taken_same = refl })
+      (goes_to Locks s e fit) n None kind owner (here_stands Locks e)
+      (subst (Stands (Some (Thaws (at_thaw x s)))) none (thaw_stands (at_thaw x s))) happens adds
+
   -- takes `umount` where it is free; meets: its owner gives it back last
   locks : (hook : HookAnswer) → IsHere Locks → Keeps hook Locks
   locks hook e =
-      let f = here_fits Locks e in
       elim (eqb_tells w.words.umount 0) [
         | inl h ↦ rw h.0 (
-            let v : View = tried hook (x.task + 1) LoadsStage in
-            off_law Locks e refl (x.task + 1) w.words.stage refl v (Go (at_thaw x LoadsStage)) refl (thaw_stands (at_thaw x LoadsStage)) None
-            LocksStage tt refl (record { held_same = refl; levels_same = refl; added_same = refl; taken_same = refl })
-            (record { held_same = refl; added_same = refl; taken_same = refl })
-            (lock_taken c w good t lt v (here_writes Locks e) (thaws_write (at_thaw x LoadsStage)) (x.task + 1) h.1 (omega (arith, f.0)) refl)
-            (f.0, f.1, tt)
-            (ap stage_role_of e, nobody_owns c w good h.1, refl))
+            let n : ℕ = x.task + 1 in
+            let mine : n ≡ suc t = omega (arith, (here_fits Locks e).0) in
+            try_law hook e n LoadsStage refl tt LocksStage
+            (lock_taken c w good t lt (tried hook n LoadsStage) (here_writes Locks e) (thaws_write (at_thaw x LoadsStage)) n h.1 mine refl)
+            (ap stage_role_of e, nobody_owns c w good h.1, refl) refl)
         | inr h ↦ rw h.0 (
-            let v : View = tried hook w.words.umount Locks in
-            off_law Locks e refl w.words.umount w.words.stage refl v (Wait (at_thaw x Locks)) refl (thaw_stands (at_thaw x Locks)) None
-            (Recalls Aside Aside) tt refl (record { held_same = refl; levels_same = refl; added_same = refl; taken_same = refl })
-            (record { held_same = refl; added_same = refl; taken_same = refl })
-            (owner_stays c w good t lt v (here_writes Locks e) (thaws_write (at_thaw x Locks)) w.words refl refl (sym (ap owns e)))
-            (f.0, f.1, tt)
-            (ap stage_role_of e, alike_same Aside, tt, none_below (marks_of w.words), refl))
+            let n : ℕ = w.words.umount in
+            try_law hook e n Locks refl tt Stays
+            (owner_stays c w good t lt (tried hook n Locks) (here_writes Locks e) (thaws_write (at_thaw x Locks)) w.words refl refl
+            (sym (ap owns e)))
+            (stays_there c w good t lt w.words (tried hook n Locks)
+            (record { stage_same = refl; sb_same = refl; remount_same = refl; block_same = refl; node_same = refl })
+            (sym (ap stage_role_of e))) refl)
       ]
 
   -- loads the stage, which has to be 4; meets: whoever changes it owns `umount`
   loads_stage : (hook : HookAnswer) → IsHere LoadsStage → Keeps hook LoadsStage
   loads_stage hook e =
       elim (eqb_tells w.words.stage 4) [
-        | inl h ↦ rw h.0 (load_law hook Stage w.words.stage LoadsStage LoadsSuperblock e refl refl None None (Some 4) None refl refl tt (h.1, tt))
-        | inr h ↦ rw h.0 (load_law hook Stage w.words.stage LoadsStage (Releases (Err Invalid)) e refl refl None None None None refl refl tt (tt, tt))
+        | inl h ↦ rw h.0 (load_law hook Stage w.words.stage LoadsStage LoadsSuperblock e refl refl None None (Some 4) None refl refl tt
+            (h.1, tt))
+        | inr h ↦ rw h.0 (load_law hook Stage w.words.stage LoadsStage (Releases (Err Invalid)) e refl refl None None None None refl refl tt
+            (tt, tt))
       ]
 
   -- loads the superblock's flag: 0, or else 1
   loads_superblock : (hook : HookAnswer) → IsHere LoadsSuperblock → Keeps hook LoadsSuperblock
   loads_superblock hook e =
-      let k : (w.words.stage ≡ 4) × Unit {0} = here_knows LoadsSuperblock e in
+      let s : ThawStep = LoadsSuperblock in
+      let k : (w.words.stage ≡ 4) × Unit {0} = here_knows s e in
       elim (eqb_tells w.words.sb 0) [
-        | inl h ↦ rw h.0 (load_law hook SbFlags w.words.sb LoadsSuperblock SetsUnfrozen e refl refl (Some 4) None (Some 4) (Some 0) refl refl tt
+        | inl h ↦ rw h.0 (load_law hook SbFlags w.words.sb s SetsUnfrozen e refl refl (Some 4) None (Some 4) (Some 0) refl refl tt
             (k.0, h.1))
-        | inr h ↦ rw h.0 (load_law hook SbFlags w.words.sb LoadsSuperblock UnfreezesReadOnly e refl refl (Some 4) None (Some 4) (Some 1) refl refl
-            tt (k.0, omega (arith, h.1, (good Stages).superblock)))
+        | inr h ↦ rw h.0 (load_law hook SbFlags w.words.sb s UnfreezesReadOnly e refl refl (Some 4) None (Some 4) (Some 1) refl refl tt
+            (k.0, omega (arith, h.1, (good Stages).superblock)))
       ]
 
   -- a read-only superblock is thawed at once: its freeze closed no level
   unfreezes_read_only : (hook : HookAnswer) → IsHere UnfreezesReadOnly → Keeps hook UnfreezesReadOnly
   unfreezes_read_only hook e =
       let k : (w.words.stage ≡ 4) × (w.words.sb ≡ 1) = here_knows UnfreezesReadOnly e in
+      let s' : ThawStep = Releases (Ok UnitReply) in
+      let v : View = view_at (Stage, Store 0) w.words.stage hook s' (Some (StageAction 0)) in
       let whole : is_full 0 w.words.sb ≡ is_full w.words.stage w.words.sb = rw (k.0, k.1) refl in
-      goes_law hook UnfreezesReadOnly e refl Stage (Store 0) w.words.stage 0 whole (Releases (Ok UnitReply)) refl (Some (StageAction 0))
-      ThawsAtOnce tt refl refl tt (record { held_same = refl; levels_same = refl; added_same = refl; taken_same = refl })
-      (record { held_same = refl; added_same = refl; taken_same = refl }) (ap stage_role_of e, refl)
+      store_law hook UnfreezesReadOnly s' e ThawsAtOnce refl refl tt
+      (stored_levels c w good t lt v (record { held_same = refl; added_same = refl; taken_same = refl }) 0 None whole
+      (here_stands UnfreezesReadOnly e) (thaw_stands (at_thaw x s')))
+      (ap stage_role_of e, refl) refl
 
-  -- stores stage 0 of a writable superblock, with all levels closed from here on as the thaw's own; or gives `umount` back, where
+  -- stores stage 0 of a writable superblock, with all levels closed as the thaw's own from here on, or gives `umount` back, where
   -- the file system refused
   sets_unfrozen : (hook : HookAnswer) → IsHere SetsUnfrozen → Keeps hook SetsUnfrozen
   sets_unfrozen (Ok answer) e =
       let k : (w.words.stage ≡ 4) × (w.words.sb ≡ 0) = here_knows SetsUnfrozen e in
-      let f = here_fits SetsUnfrozen e in
       let s' : ThawStep = Reopens (reopening 3) in
-      let ws : Words = stored w.words.umount 0 in
-      let v : View = view_with (w.views t) (Stage, Store 0) w.words.stage (Ok answer) (Go (Thaws (at_thaw x s')), Some (StageAction 0)) in
-      thaw_law SetsUnfrozen e ws v (Go (at_thaw x s')) refl (Some (StageAction 0)) StoresThaw tt refl
-      (record { flags_same = refl; count_same = refl; remount_same = refl; sb_same = refl })
-      (record { held_same = refl; levels_same = refl; added_same = refl; taken_same = refl }) refl
-      (owner_stays c w good t lt v (here_writes SetsUnfrozen e) (thaws_write (at_thaw x s')) ws refl refl (sym (ap owns e)))
-      (thaws_all c lim w good t lt ws v (record { block_same = refl; level_same = refl; sync_same = refl; section_same = refl })
+      let v : View = view_at (Stage, Store 0) w.words.stage (Ok answer) s' (Some (StageAction 0)) in
+      let frozen : is_frozen_whole w.words ≡ 1 = rw (k.0, k.1) refl in
+      store_law (Ok answer) SetsUnfrozen s' e StoresThaw refl refl (omega arith, omega arith, tt)
+      (thaws_all c lim w good t lt (record w.words { stage = 0 }) v
+      (record { block_same = refl; level_same = refl; sync_same = refl; section_same = refl })
       (record { held_same = refl; added_same = refl; taken_same = refl }) (here_stands SetsUnfrozen e) (thaw_stands (at_thaw x s'))
-      (rw (k.0, k.1) refl) refl)
-      (f.0, f.1, (omega arith, omega arith, tt)) (ap stage_role_of e, refl)
+      frozen refl)
+      (ap stage_role_of e, refl) refl
   sets_unfrozen (Err code) e = gives_back (Err code) SetsUnfrozen e refl (Err (Hook code)) (Some 4) (Some 0) refl
 
   -- gives `umount` back with its answer
   releases : (hook : HookAnswer) (answer : Result Reply GateError) → IsHere (Releases answer) → Keeps hook (Releases answer)
   releases hook answer e = gives_back hook (Releases answer) e refl answer None None refl
 
-  -- an event of a level's reopening, by what it leaves
-  reopens_law : (hook : HookAnswer) (u : UpWrite) (e : IsHere (Reopens u)) →
-      let event : WordName × Touch = up_write_next u u.step in
-      let value : ℕ = read w.words event.0 in
-      let after : Next UpWrite × Option Action = up_write_after u u.step (found_by event.1 value) in
-      let ws : Words = put w.words event.0 (left event.1 value) in
-      let v : View = view_with (w.views t) event value hook (map_next Thaws (after_opening x u.level after.0), after.1) in
-      (kind : StageEvent) → IsThawAction after.1 → stage_action_of kind (stages_in w) ≡ after.1 →
-      IsBeside w.words ws → SameAtMounts (w.views t) v → SameLevelCounts (w.views t) v → ws.node ≡ w.words.node →
-      ws.umount ≡ w.words.umount → ViewFits c t v →
-      IsStageEvent c w good t lt ws v kind → WriterLaw c w t ws v after.1
-  reopens_law hook u e kind asks adds beside counts levels node umount fits happens =
-      let event : WordName × Touch = up_write_next u u.step in
-      let value : ℕ = read w.words event.0 in
-      let after : Next UpWrite × Option Action = up_write_after u u.step (found_by event.1 value) in
-      let ws : Words = put w.words event.0 (left event.1 value) in
-      let v : View = view_with (w.views t) event value hook (map_next Thaws (after_opening x u.level after.0), after.1) in
-      let f = here_fits (Reopens u) e in
-      thaw_law (Reopens u) e ws v (after_opening x u.level after.0) refl after.1 kind asks adds beside counts node
-      (owner_stays c w good t lt v (here_writes (Reopens u) e) (then_writes v (after_opening x u.level after.0) refl) ws umount
-      beside.remount_same (opening_owns x u.level after.0 ∙ sym (ap owns e ∙ reopening_owns u.level u.step)))
-      (up_write_levels c lim w good t lt u v levels f.2 (here_stands (Reopens u) e) (opening_stands x u.level after.0))
-      fits happens
+  -- What an event of a level's reopening finds and leaves.
+  module _ (hook : HookAnswer) (u : UpWrite) where
+    -- its word and its touch
+    abbrev event_here : WordName × Touch
+    event_here = up_write_next u u.step
+
+    -- what it finds
+    abbrev found_here : ℕ
+    found_here = found_by event_here.1 (read w.words event_here.0)
+
+    -- what comes after it
+    abbrev next_here : Next UpWrite × Option Action
+    next_here = up_write_after u u.step found_here
+
+    -- the words after it
+    abbrev words_here : Words
+    words_here = put w.words event_here.0 (left event_here.1 (read w.words event_here.0))
+
+    -- and the task's view
+    abbrev view_here : View
+    view_here =
+        view_with (w.views t) event_here (read w.words event_here.0) hook
+        (map_next Thaws (after_opening x u.level next_here.0), next_here.1)
+
+    -- it leaves the task's accesses
+    held_here : held_at view_here ≡ held_at (w.views t)
+    held_here =
+        up_write_adds u (λ a. mounts_of (actions_after a (w.views t).actions) ≡ held_at (w.views t)) refl refl u.step found_here
+
+    levels_here : holds_level view_here ≡ holds_level (w.views t)
+    levels_here =
+        up_write_adds u (λ a. levels_of (actions_after a (w.views t).actions) ≡ holds_level (w.views t)) refl refl u.step found_here
+
+    -- what comes after it fits them
+    fits_here : FitsHere (Reopens u) → ViewFits c t view_here
+    fits_here f =
+        subst (λ h. Fits c t h (holds_level view_here) view_here.phase)
+        (up_write_adds u (λ a. mounts_by a (held_at (w.views t)) ≡ mounts_of (actions_after a (w.views t).actions)) refl refl u.step
+        found_here)
+        (subst (λ h. Fits c t (mounts_by next_here.1 (held_at (w.views t))) h view_here.phase)
+        (up_write_adds u (λ a. levels_by a (holds_level (w.views t)) ≡ levels_of (actions_after a (w.views t).actions)) refl refl u.step
+        found_here)
+        (thaw_goes c t (held_at (w.views t)) (holds_level (w.views t)) x (Reopens u) found_here hook f))
+
+    -- the law of it, by what it is of the stage
+    reopens_law : (e : IsHere (Reopens u)) (kind : StageEvent) → IsStageEvent c w good t lt words_here view_here kind →
+        stage_action_of kind (stages_in w) ≡ next_here.1 → WriterLaw c w t words_here view_here next_here.1
+    reopens_law e kind happens adds =
+        let f : FitsHere (Reopens u) = here_fits (Reopens u) e in
+        let none : (g : ℕ → ℕ → ℕ) → (added_after event_here.0 event_here.1 g ≡ g) × (taken_after event_here.0 event_here.1 g ≡ g) ×
+        (level_added_after event_here.0 event_here.1 g ≡ g) × (level_taken_after event_here.0 event_here.1 g ≡ g) =
+        up_write_counts_none u u.step in
+        writer_at_level c w good t lt words_here view_here next_here.1 kind (here_writes (Reopens u) e)
+        (thaw_comes (after_opening x u.level next_here.0)) (up_write_words w.words u u.step)
+        (record {
+          held_same = held_here;
+          levels_same = levels_here;
+          added_same = (none (added_by (w.views t).events)).0;
+          taken_same = (none (taken_by (w.views t).events)).1;
+        })
+        (fits_here f)
+        (opening_owns x u.level next_here.0 ∙ sym (ap owns e ∙ reopening_owns u.level u.step))
+        (up_write_levels c lim w good t lt u view_here
+        (record {
+          held_same = levels_here;
+          added_same = (none (level_added_by (w.views t).events)).2;
+          taken_same = (none (level_taken_by (w.views t).events)).3;
+        })
+        f.2 (here_stands (Reopens u) e) (opening_stands x u.level next_here.0))
+        happens adds
+        (up_write_adds u (AsksWhere (model_limits c) (shown c w)) tt tt u.step found_here)
+        (up_write_adds u (λ a. LeavesRest (shown c w) (state_after (shown c w) t a) (shown c w).tree)
+        (none_leaves c w good t lt) (reopen_leaves (shown c w) t u.level) u.step found_here)
+
+    -- where the level is open and it leaves the words of the stage, the thaw goes on to the next level or to its release
+    leaves_law : (e : IsHere (Reopens u)) → thaw_stage_role (Reopens u) ≡ Reopening (u.level - 1) → None ≡ next_here.1 →
+        GoesOn (Reopening (u.level - 1)) w.words.stage w.words.sb (marks_of w.words) (stage_role_of view_here.phase) →
+        SameStageWords w.words words_here → WriterLaw c w t words_here view_here next_here.1
+    leaves_law e role none on same =
+        reopens_law e (Recalls (Reopening (u.level - 1)) (stage_role_of view_here.phase)) (
+          ap stage_role_of e ∙ role,
+          on.0,
+          on.1,
+          on.2,
+          λ j. record {
+            stage = same.stage_same j;
+            sb = same.sb_same j;
+            remount = same.remount_same j;
+            block = same.block_same j;
+            dirty = λ n. dirty_in (same.node_same j n);
+            at = update (stage_roles w) t (stage_role_of view_here.phase);
+          },
+        ) none
 
   -- opens a level; meets: who seeks its grant finds its `block` clear
   clears_block : (hook : HookAnswer) (level : ℕ) → IsHere (Reopens (record { level = level; step = ClearsBlock })) →
       Keeps hook (Reopens (record { level = level; step = ClearsBlock }))
   clears_block hook zero e = absurd (omega (arith, (here_fits (Reopens (record { level = zero; step = ClearsBlock })) e).2.0))
   clears_block hook (suc below) e =
-      let u : UpWrite = record { level = suc below; step = ClearsBlock } in
-      let f = here_fits (Reopens u) e in
       let down : suc below - 1 ≡ below = omega arith in
-      reopens_law hook u e (ClearsBlockOf below) tt refl
-      (record { flags_same = refl; count_same = refl; remount_same = refl; sb_same = refl })
-      (record { held_same = refl; levels_same = refl; added_same = refl; taken_same = refl })
-      (record { held_same = refl; added_same = refl; taken_same = refl }) refl refl
-      (f.0, f.1, (f.2.0, f.2.1, tt))
-      (
+      reopens_law hook (record { level = suc below; step = ClearsBlock }) e (ClearsBlockOf below) (
         ap stage_role_of e,
         ap (λ k. playing (record (stages_in w) { block = update w.words.block (suc below) 0 }) t (Reopening k)) down,
-      )
+      ) refl
 
   -- leaves its rcu_sync; meets: the next writer enters it
   exits : (hook : HookAnswer) (level : ℕ) (transition : Transition) →
@@ -424,29 +466,16 @@ module _ (c : Config) (lim : IsWithin c) (w : World) (good : IsGood c w) (t : �
       Keeps hook (Reopens (record { level = level; step = Exits transition }))
   exits hook level Loads e =
       let u : UpWrite = record { level = level; step = Exits Loads } in
-      let f = here_fits (Reopens u) e in
-      let k : (w.words.stage ≡ 0) × (level - 1 ≤ 3) = here_knows (Reopens u) e in
-      let found : ℕ = w.words.sync level in
-      let on = exit_on x level (Exits Loads) (transition_after on_exit Loads found) w.words.stage w.words.sb (marks_of w.words) f.2.1 k.0 in
-      reopens_law hook u e (Recalls (Reopening (level - 1)) _) tt refl
-      (record { flags_same = refl; count_same = refl; remount_same = refl; sb_same = refl })
-      (record { held_same = refl; levels_same = refl; added_same = refl; taken_same = refl })
-      (record { held_same = refl; added_same = refl; taken_same = refl }) refl refl
-      (thaw_goes c t (held_at (w.views t)) (holds_level (w.views t)) x (Reopens u) found hook f)
-      (ap stage_role_of e, on.0, on.1, on.2, refl)
+      leaves_law hook u e refl refl
+      (exit_on x level u.step (transition_after on_exit Loads (w.words.sync level)) w.words.stage w.words.sb (marks_of w.words)
+      (here_fits (Reopens u) e).2.1 (here_knows (Reopens u) e).0)
+      (record { stage_same = refl; sb_same = refl; remount_same = refl; block_same = refl; node_same = refl })
   exits hook level (Exchanges from to) e =
       let u : UpWrite = record { level = level; step = Exits (Exchanges from to) } in
-      let f = here_fits (Reopens u) e in
-      let k : (w.words.stage ≡ 0) × (level - 1 ≤ 3) = here_knows (Reopens u) e in
-      let found : ℕ = w.words.sync level in
-      let on = exit_on x level (Exits (Exchanges from to)) (transition_after on_exit (Exchanges from to) found) w.words.stage w.words.sb
-          (marks_of w.words) f.2.1 k.0 in
-      reopens_law hook u e (Recalls (Reopening (level - 1)) _) tt refl
-      (record { flags_same = refl; count_same = refl; remount_same = refl; sb_same = refl })
-      (record { held_same = refl; levels_same = refl; added_same = refl; taken_same = refl })
-      (record { held_same = refl; added_same = refl; taken_same = refl }) refl refl
-      (thaw_goes c t (held_at (w.views t)) (holds_level (w.views t)) x (Reopens u) found hook f)
-      (ap stage_role_of e, on.0, on.1, on.2, refl)
+      leaves_law hook u e refl refl
+      (exit_on x level u.step (transition_after on_exit (Exchanges from to) (w.words.sync level)) w.words.stage w.words.sb
+      (marks_of w.words) (here_fits (Reopens u) e).2.1 (here_knows (Reopens u) e).0)
+      (record { stage_same = refl; sb_same = refl; remount_same = refl; block_same = refl; node_same = refl })
 
   -- each event of a level's reopening
   reopening_event : (hook : HookAnswer) (level : ℕ) (s : UpWriteStep) → IsHere (Reopens (record { level = level; step = s })) →
