@@ -1,68 +1,42 @@
 -- The law of each event of a thaw.
-use Rattle.gate_frames.proofs.MountEvents.{level_added_load, level_taken_load}
-use Rattle.freeze_frames.proofs.UpLevels.{up_write_levels}
-use Rattle.access_model.specs.Histories.{mounts_of, levels_of}
-use Rattle.gated_tree.specs.Nodes.{dirty_in}
-use Rattle.gate_world.specs.Shown.{stage_roles, shown, node_shown}
-use Rattle.percpu_rwsem.specs.declared.transitions.Transition.TheVariants.{Exchanges, Loads}
-use Rattle.cpu_words.specs.Touches.{found_by, left}
-use Rattle.thaw_laws.proofs.ThawFits.{thaw_goes}
-use Rattle.freeze_frames.proofs.WholeLevels.{thaws_all}
-use Rattle.access_model.specs.declared.errors.GateError.TheVariants.{Invalid, Hook}
-use Rattle.freeze_frames.proofs.StandRoles.{levels_stay}
-use Rattle.freeze_frames.proofs.WriterStages.{writer_beside, writer_stores, stored_levels, stays_there, none_leaves, SameStageWords}
-use Rattle.freeze_frames.proofs.WriterWords.{writer_at_level, up_write_words, up_write_counts_none, up_write_adds, reopen_leaves}
-use Rattle.freeze_frames.proofs.WriterOwner.{lock_given, lock_taken, owner_stays}
-use Rattle.percpu_rwsem.specs.SyncWords.{on_exit}
-use Rattle.finite_sums.specs.Sums.{update}
-use Rattle.access_model.specs.declared.replies.Reply.TheVariants.{Unit as UnitReply}
-use Rattle.access_model.specs.declared.errors.GateError.{GateError}
-use Rattle.gate_frames.proofs.Frames.{SameLevelCounts, left_alone, added_load, taken_load}
-use Rattle.percpu_rwsem.specs.Transitions.{transition_after}
-use Rattle.freeze_levels.specs.Levels.{reopening}
-use Rattle.cpu_words.specs.declared.events.Touch.TheVariants.{Store, Cas, Load}
-use Rattle.access_model.specs.declared.replies.Reply.{Reply}
-use Rattle.cpu_words.specs.declared.events.Touch.{Touch}
-use Rattle.percpu_rwsem.specs.declared.transitions.TransitionNext.TheVariants.{More, Made, Undefined}
-use Rattle.percpu_rwsem.specs.declared.transitions.Transition.{Transition}
-use Rattle.percpu_rwsem.specs.declared.writers.UpWriteStep.TheVariants.{ClearsBlock, Exits}
-use Rattle.cpu_words.specs.declared.names.WordName.TheVariants.{Stage, Umount, SbFlags}
-use Rattle.std.proofs.lemmas.Bool.Decides.{eqb_tells}
-use Rattle.cpu_words.specs.declared.events.Event.{Event}
-use Rattle.cpu_words.specs.declared.names.WordName.{WordName}
-use Rattle.gate_frames.proofs.Stages.{stages_in, IsStageEvent, nobody_owns}
-use Rattle.gate_world.specs.Fits.{mounts_by, levels_by, PhaseFits, ThawFits, Fits}
-use Rattle.percpu_rwsem.specs.Writers.{exit_made, up_write_next, up_write_after}
-use Rattle.access_model.specs.declared.replies.Next.TheVariants.{Go, Wait, Done}
-use Rattle.cpu_words.specs.Words.{Words, read, put}
-use Rattle.gate_world.specs.declared.views.View.{View}
-use Rattle.cpu_words.specs.Hooks.{HookAnswer}
-use Rattle.freeze_levels.specs.declared.thaws.ThawStep.{ThawStep}
+use Rattle.std.proofs.Common.{refl, ◌∙◌, inr, ℕ, arith, ◌≤◌, ◌≡◌, subst, suc, ◌-◌, ◌<◌, zero, sym, inl, ap, ◌+◌}
 use Rattle.std.proofs.lemmas.Bool.{ne_eqb}
-use Rattle.access_model.specs.Replies.{map_next}
-use Rattle.gate_world.specs.Rules.{owns, IsGood, Stages, StepKeeps, OwnerHolds, ViewFits, marks_of, Fitting, Nodes}
-use Rattle.gate_frames.proofs.Keeps.{by_bool}
-use Rattle.gate_world.specs.Views.{actions_after, added_after, taken_after, phase_after, held_at, holds_level, view_with, added_by, taken_by}
-use Rattle.freeze_frames.proofs.WriterParts.{AsksWhere, IsBeside, SameAtMounts, IsWriter, WriterLaw, writer_law, thaw_work, idle_writes, LeavesRest, WriterKeeps, reopening_owns, thaws_write, thaw_comes, whole_writer}
-use Rattle.gate_world.specs.Worlds.{World}
-use Rattle.percpu_rwsem.specs.declared.transitions.TransitionNext.{TransitionNext}
-use Rattle.percpu_rwsem.specs.declared.writers.UpWrite.{UpWrite}
-use Rattle.freeze_levels.specs.Thaws.{at_thaw, thaw_opens, after_opening}
-use Rattle.gate_world.specs.Levels.{is_frozen_whole, level_added_after, level_taken_after, thaw_stand, level_added_by, level_taken_by, closed_to}
-use Rattle.access_model.specs.declared.actions.NodeInfo.{NodeInfo}
-use Rattle.stage_laws.specs.Shown.{state_after}
-use Rattle.gate_world.specs.Configs.{IsWithin, model_limits}
-use Rattle.percpu_rwsem.specs.declared.writers.UpWriteStep.{UpWriteStep}
-use Rattle.gate_world.specs.Stages.{thaw_stage_role, stage_role_of}
-use Rattle.access_model.specs.declared.replies.Next.{Next}
-use Rattle.access_model.specs.declared.actions.Action.{Action}
-use Rattle.gate_world.specs.declared.config.Config.{Config}
-use Rattle.freeze_frames.proofs.Standing.{Stands, still_closed, stand_after_opening, LevelsHold, left_world}
-use Rattle.freeze_levels.specs.declared.thaws.Thaw.{Thaw}
-use Rattle.std.proofs.Common.{refl, ◌∙◌, inr, ℕ, arith, ◌≤◌, ◌≡◌, subst, suc, ◌-◌, ◌<◌, zero, sym, inl, ap, ◌+◌, inr, ◌∙◌}
-use Rattle.access_model.specs.States.{Limits, State}
+use Rattle.std.proofs.lemmas.Bool.Decides.{eqb_tells}
 use Rattle.std.specs.Prelude.{if◌then◌else◌, Option, Some, None, ◌==◌, Result, Ok, ◌∷◌, Err}
-use Rattle.access_model.specs.declared.actions.Action.TheVariants.{Stage as StageAction, Reopen}
+use Rattle.finite_sums.specs.Sums.{update}
+use Rattle.access_model.specs.Histories.{mounts_of, levels_of}
+use Rattle.access_model.specs.Replies.{map_next}
+use Rattle.access_model.specs.declared.actions.Action.{Action}
+use Rattle.access_model.specs.declared.actions.Action.TheVariants.{Stage as StageAction}
+use Rattle.access_model.specs.declared.errors.GateError.{GateError}
+use Rattle.access_model.specs.declared.errors.GateError.TheVariants.{Invalid, Hook}
+use Rattle.access_model.specs.declared.replies.Next.{Next}
+use Rattle.access_model.specs.declared.replies.Next.TheVariants.{Go, Wait, Done}
+use Rattle.access_model.specs.declared.replies.Reply.{Reply}
+use Rattle.access_model.specs.declared.replies.Reply.TheVariants.{Unit as UnitReply}
+use Rattle.cpu_words.specs.Hooks.{HookAnswer}
+use Rattle.cpu_words.specs.Touches.{found_by, left}
+use Rattle.cpu_words.specs.Words.{Words, read, put}
+use Rattle.cpu_words.specs.declared.events.Event.{Event}
+use Rattle.cpu_words.specs.declared.events.Touch.{Touch}
+use Rattle.cpu_words.specs.declared.events.Touch.TheVariants.{Store, Cas, Load}
+use Rattle.cpu_words.specs.declared.names.WordName.{WordName}
+use Rattle.cpu_words.specs.declared.names.WordName.TheVariants.{Stage, Umount, SbFlags}
+use Rattle.gated_tree.specs.Nodes.{dirty_in}
+use Rattle.percpu_rwsem.specs.SyncWords.{on_exit}
+use Rattle.percpu_rwsem.specs.Transitions.{transition_after}
+use Rattle.percpu_rwsem.specs.Writers.{exit_made, up_write_next, up_write_after}
+use Rattle.percpu_rwsem.specs.declared.transitions.Transition.{Transition}
+use Rattle.percpu_rwsem.specs.declared.transitions.Transition.TheVariants.{Exchanges, Loads}
+use Rattle.percpu_rwsem.specs.declared.transitions.TransitionNext.{TransitionNext}
+use Rattle.percpu_rwsem.specs.declared.transitions.TransitionNext.TheVariants.{More, Made, Undefined}
+use Rattle.percpu_rwsem.specs.declared.writers.UpWrite.{UpWrite}
+use Rattle.percpu_rwsem.specs.declared.writers.UpWriteStep.{UpWriteStep}
+use Rattle.percpu_rwsem.specs.declared.writers.UpWriteStep.TheVariants.{ClearsBlock, Exits}
+use Rattle.freeze_levels.specs.Levels.{reopening}
+use Rattle.freeze_levels.specs.Thaws.{at_thaw, thaw_opens, after_opening}
+use Rattle.freeze_levels.specs.declared.thaws.Thaw.{Thaw}
+use Rattle.freeze_levels.specs.declared.thaws.ThawStep.{ThawStep}
 use Rattle.freeze_levels.specs.declared.thaws.ThawStep.TheVariants.{
   Locks,
   LoadsStage,
@@ -85,8 +59,61 @@ use Rattle.stage_laws.specs.Events.{
   playing,
   action_of as stage_action_of,
 }
-use Rattle.stage_laws.specs.Roles.{StageRole, Aside, Owning, Reopening, KnowsStage, CleanBelow, clean_by, is_full, owns as stage_owns}
+use Rattle.stage_laws.specs.Roles.{StageRole, Owning, Reopening, KnowsStage, CleanBelow, clean_by, is_full, owns as stage_owns}
+use Rattle.stage_laws.specs.Shown.{state_after}
+use Rattle.gate_world.specs.Configs.{IsWithin, model_limits}
+use Rattle.gate_world.specs.Fits.{mounts_by, levels_by, PhaseFits, ThawFits, Fits}
+use Rattle.gate_world.specs.Levels.{
+  is_frozen_whole,
+  level_added_after,
+  level_taken_after,
+  thaw_stand,
+  level_added_by,
+  level_taken_by,
+  closed_to,
+}
+use Rattle.gate_world.specs.Rules.{owns, IsGood, Stages, StepKeeps, OwnerHolds, ViewFits, marks_of, Fitting}
+use Rattle.gate_world.specs.Shown.{stage_roles, shown}
+use Rattle.gate_world.specs.Stages.{thaw_stage_role, stage_role_of}
+use Rattle.gate_world.specs.Views.{
+  actions_after,
+  added_after,
+  taken_after,
+  phase_after,
+  held_at,
+  holds_level,
+  view_with,
+  added_by,
+  taken_by,
+}
+use Rattle.gate_world.specs.Worlds.{World}
+use Rattle.gate_world.specs.declared.config.Config.{Config}
+use Rattle.gate_world.specs.declared.views.View.{View}
 use Rattle.gate_world.specs.declared.work.Phase.TheVariants.{Thaws}
+use Rattle.gate_frames.proofs.Frames.{added_load, taken_load}
+use Rattle.gate_frames.proofs.Keeps.{by_bool}
+use Rattle.gate_frames.proofs.MountEvents.{level_added_load, level_taken_load}
+use Rattle.gate_frames.proofs.Stages.{stages_in, IsStageEvent, nobody_owns}
+use Rattle.freeze_frames.proofs.Standing.{Stands, still_closed, stand_after_opening, LevelsHold, left_world}
+use Rattle.freeze_frames.proofs.UpLevels.{up_write_levels}
+use Rattle.freeze_frames.proofs.WholeLevels.{thaws_all}
+use Rattle.freeze_frames.proofs.WriterOwner.{lock_given, lock_taken, owner_stays}
+use Rattle.freeze_frames.proofs.WriterParts.{
+  AsksWhere,
+  IsWriter,
+  WriterLaw,
+  thaw_work,
+  idle_writes,
+  LeavesRest,
+  WriterKeeps,
+  reopening_owns,
+  thaws_write,
+  thaw_comes,
+  whole_writer,
+}
+use Rattle.freeze_frames.proofs.WriterStages.{writer_beside, writer_stores, stored_levels, stays_there, none_leaves, SameStageWords}
+use Rattle.freeze_frames.proofs.WriterWords.{writer_at_level, up_write_words, up_write_counts_none, up_write_adds, reopen_leaves}
+use Rattle.thaw_laws.proofs.ThawFits.{thaw_goes}
 
 -- owners that rely on one thing or another are alike
 owners_alike : (stage sb stage' sb' : Option ℕ) → IsAlike (Owning stage sb) (Owning stage' sb')
@@ -120,16 +147,19 @@ module _ (x : Thaw) where
       (thaw_stands (at_thaw x (Releases (Ok UnitReply)))) (thaw_stands (at_thaw x (Reopens (reopening level))))
 
   -- it stands so with the levels
-  opening_stands : (level : ℕ) (n : Next UpWrite) → Stands (phase_after (map_next Thaws (after_opening x level n))) (stand_after_opening level n)
+  opening_stands : (level : ℕ) (n : Next UpWrite) →
+      Stands (phase_after (map_next Thaws (after_opening x level n))) (stand_after_opening level n)
   opening_stands level (Go u) = thaw_stands (at_thaw x (Reopens u))
   opening_stands level (Wait u) = thaw_stands (at_thaw x (Reopens u))
   opening_stands level (Done answer) = opens_stand (level - 1)
 
-  -- it owns `umount`
+  -- it owns `umount`, with the levels up to one still closed
   opens_own : (level : ℕ) → stage_owns (thaw_stage_role (thaw_opens level)) ≡ 1
   opens_own level =
-      by_bool (level == 0) (λ b. stage_owns (thaw_stage_role (if b then Releases (Ok UnitReply) else Reopens (reopening level))) ≡ 1) refl refl
+      by_bool (level == 0) (λ b. stage_owns (thaw_stage_role (if b then Releases (Ok UnitReply) else Reopens (reopening level))) ≡ 1)
+      refl refl
 
+  -- and after each event
   opening_owns : (level : ℕ) (n : Next UpWrite) → owns (phase_after (map_next Thaws (after_opening x level n))) ≡ 1
   opening_owns level (Go u) = reopening_owns u.level u.step
   opening_owns level (Wait u) = reopening_owns u.level u.step
@@ -218,8 +248,7 @@ module _ (c : Config) (lim : IsWithin c) (w : World) (good : IsGood c w) (t : �
       (goes_to s s' e fit) w.words.umount None (Recalls (Owning stage sb) (Owning stage' sb'))
       (owner_stays c w good t lt v (here_writes s e) now w.words refl refl (ap stage_owns role' ∙ sym (ap owns e ∙ ap stage_owns role)))
       (subst (Stands (w.views t).phase) none (here_stands s e))
-      (subst (Stands (Some (Thaws (at_thaw x s')))) none' (thaw_stands (at_thaw x s')))
-      (
+      (subst (Stands (Some (Thaws (at_thaw x s')))) none' (thaw_stands (at_thaw x s'))) (
         ap stage_role_of e ∙ role,
         owners_alike stage sb stage' sb',
         knows,
@@ -379,11 +408,12 @@ module _ (c : Config) (lim : IsWithin c) (w : World) (good : IsGood c w) (t : �
         view_with (w.views t) event_here (read w.words event_here.0) hook
         (map_next Thaws (after_opening x u.level next_here.0), next_here.1)
 
-    -- it leaves the task's accesses
+    -- it leaves the task's accesses at the mounts
     held_here : held_at view_here ≡ held_at (w.views t)
     held_here =
         up_write_adds u (λ a. mounts_of (actions_after a (w.views t).actions) ≡ held_at (w.views t)) refl refl u.step found_here
 
+    -- and at the levels
     levels_here : holds_level view_here ≡ holds_level (w.views t)
     levels_here =
         up_write_adds u (λ a. levels_of (actions_after a (w.views t).actions) ≡ holds_level (w.views t)) refl refl u.step found_here
