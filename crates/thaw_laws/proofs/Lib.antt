@@ -2,4 +2,5 @@ pub mod ThawTraces
 pub mod ThawFits
 pub mod ThawCauses
 pub mod ThawWaits
+pub mod ThawEvents
 pub mod ThawKeeps

@@ -1,31 +1,23 @@
--- All that is proved of a thaw, but the law of its events, which is taken here as it is proved elsewhere.
-use Rattle.std.proofs.Common.{◌≡◌, ℕ, ◌<◌, ap, refl}
-use Rattle.std.specs.Prelude.{Some}
-use Rattle.cpu_words.specs.Hooks.{HookAnswer}
+-- All that is proved of a thaw.
+use Rattle.std.proofs.Common.{ap, refl}
 use Rattle.freeze_levels.specs.declared.thaws.Thaw.{Thaw}
 use Rattle.gate_world.specs.declared.config.Config.{Config}
 use Rattle.gate_world.specs.declared.operations.Op.TheVariants.{Thaw as ThawOp}
 use Rattle.gate_world.specs.declared.work.Phase.TheVariants.{Thaws}
-use Rattle.gate_world.specs.Configs.{IsWithin}
-use Rattle.gate_world.specs.Rules.{IsGood, StepKeeps}
-use Rattle.gate_world.specs.Worlds.{World, after_step}
+use Rattle.gate_world.specs.Worlds.{after_step}
 use Rattle.gate_frames.proofs.Keeps.{none_agree, word_among, PhaseKeeps, OpKeeps}
 use Rattle.gate_frames.proofs.Snapshots.{completes_none}
 use Rattle.trace_laws.proofs.Says.{tells, is_short}
+use Rattle.thaw_laws.proofs.ThawEvents.{thaw_keeps}
 use Rattle.thaw_laws.proofs.ThawFits.{thaw_there, thaw_acts, thaw_goes}
 use Rattle.thaw_laws.proofs.ThawCauses.{thaw_counts, thaw_stays, thaw_told, thaw_own}
 use Rattle.thaw_laws.proofs.ThawWaits.{thaw_waits}
 use Rattle.thaw_laws.proofs.ThawTraces.{ThawAt, thaw_kept, thaw_restores}
 
--- the law of a thaw's events at one of its phases: each keeps the rule, and moves the shown model by its action
-abbrev pub ThawStepKeeps : Config → Thaw → Type 0
-ThawStepKeeps c x = IsWithin c → (w : World) → IsGood c w → (t : ℕ) → t < c.tasks → (hook : HookAnswer) →
-    (w.views t).phase ≡ Some (Thaws x) → StepKeeps c w t hook (Thaws x)
-
--- of each of its phases, with that law
-pub thaw_phase : (c : Config) (x : Thaw) → ThawStepKeeps c x → PhaseKeeps c (Thaws x)
-thaw_phase c x keeps = record {
-  step = keeps;
+-- of each of its phases
+pub thaw_phase : (c : Config) (x : Thaw) → PhaseKeeps c (Thaws x)
+thaw_phase c x = record {
+  step = λ lim w good t lt hook e. thaw_keeps c lim w good t lt hook x e;
   completes = λ lim w good t lt hook e. completes_none c w t hook (Thaws x) (λ trace found. refl);
   word = λ lim n le t lt held levels hook f. word_among c n le _ (thaw_there c x x.step hook f.2);
   acts = λ lim t held levels found hook f. thaw_acts held x x.step found hook;
