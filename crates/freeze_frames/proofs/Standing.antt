@@ -1,5 +1,5 @@
 -- How a task stands with the levels, and what the rule says of all of them.
-use Rattle.std.proofs.Common.{◌≡◌, ℕ, ◌≤◌}
+use Rattle.std.proofs.Common.{◌≡◌, ℕ, ◌<◌, ◌≤◌, refl}
 use Rattle.std.specs.Prelude.{Option, Some, None, ◌==◌, ◌-◌, if◌then◌else◌}
 use Rattle.finite_sums.specs.Sums.{update}
 use Rattle.cpu_words.specs.Words.{Words}
