@@ -49,6 +49,14 @@ module _ (c : Config) (w : World) (good : IsGood c w) (t : ℕ) (lt : t < c.task
   pub stage_leaves : (n : ℕ) → LeavesRest (shown c w) (after_action (shown c w) t (StageAction n)) (shown c w).tree
   stage_leaves n = record { mounts_same = refl; levels_same = refl; ro_same = refl; tree_same = refl }
 
+  -- a store of the stage leaves the levels, where the file system is frozen as a whole or not as before
+  pub stored_levels : (v : View) → SameLevelCounts (w.views t) v → (n : ℕ) (stand : Option Stand) →
+      is_frozen_whole (record w.words { stage = n }) ≡ is_frozen_whole w.words → Stands (w.views t).phase stand →
+      Stands v.phase stand → LevelsHold c (left_world w t (record w.words { stage = n }) v)
+  stored_levels v levels n stand whole before after =
+      levels_stay c w good t lt (record w.words { stage = n }) v stand
+      (record { block_same = refl; level_same = refl; sync_same = refl; section_same = refl; whole_same = whole }) levels before after
+
   module _ (v : View) (was : IsWriter (w.views t).phase) (now : IsWriter v.phase) (mounts : SameAtMounts (w.views t) v)
       (levels : SameLevelCounts (w.views t) v) (fits : ViewFits c t v) where
     -- an event that leaves all words but `umount`, and how its task stands with the levels
@@ -96,10 +104,3 @@ module _ (c : Config) (w : World) (good : IsGood c w) (t : ℕ) (lt : t < c.task
           asks = tt;
           rest = stage_leaves n;
         })
-
-    -- which leaves the levels, where the file system is frozen as a whole or not as before
-    pub stored_levels : (n : ℕ) (stand : Option Stand) → is_frozen_whole (record w.words { stage = n }) ≡ is_frozen_whole w.words →
-        Stands (w.views t).phase stand → Stands v.phase stand → LevelsHold c (left_world w t (record w.words { stage = n }) v)
-    stored_levels n stand whole before after =
-        levels_stay c w good t lt (record w.words { stage = n }) v stand
-        (record { block_same = refl; level_same = refl; sync_same = refl; section_same = refl; whole_same = whole }) levels before after
