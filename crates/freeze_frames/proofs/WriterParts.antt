@@ -76,19 +76,21 @@ pub record IsWriter (p : Option Phase) : Type 0 where
 pub idle_writes : IsWriter None
 idle_writes = record { out_of_mounts = λ m. refl; remounts_none = refl }
 
--- a freeze, and a thaw
+-- a freeze
 pub freezes_write : (x : Freeze) → IsWriter (Some (Freezes x))
 freezes_write x = record { out_of_mounts = λ m. refl; remounts_none = refl }
 
+-- a thaw, too
 pub thaws_write : (x : Thaw) → IsWriter (Some (Thaws x))
 thaws_write x = record { out_of_mounts = λ m. refl; remounts_none = refl }
 
--- what comes after an event of a freeze, and of a thaw
+-- what comes after an event of a freeze
 pub freeze_comes : (n : Next Freeze) → IsWriter (phase_after (map_next Freezes n))
 freeze_comes (Go x) = freezes_write x
 freeze_comes (Wait x) = freezes_write x
 freeze_comes (Done answer) = idle_writes
 
+-- and after one of a thaw
 pub thaw_comes : (n : Next Thaw) → IsWriter (phase_after (map_next Thaws n))
 thaw_comes (Go x) = thaws_write x
 thaw_comes (Wait x) = thaws_write x
@@ -206,22 +208,26 @@ whole_writer c w t lt good hook phase e work keeps = (
 -- What comes after an event of a down-write is the same one with another step, or it is done.
 module _ (d : DownWrite) (P : Next DownWrite → Type 0) (go : (s : DownWriteStep) → P (Go (at_down_write d s)))
     (wait : (s : DownWriteStep) → P (Wait (at_down_write d s))) (done : P (Done (Ok UnitReply))) where
+  -- after a load of a section word
   sections_come : (n : GraceNext) → P (sections_awaited d n)
   sections_come (MoreSections grace) = go (AwaitsSections grace)
   sections_come (WaitsFor grace) = wait (AwaitsSections grace)
   sections_come Ended = go (CallsBack Loads)
 
+  -- after a load of the sync word
   passed_comes : (o : Option SyncWord) → P (passed_awaited d o)
   passed_comes None = go AwaitsPassed
   passed_comes (Some word) =
       by_bool (is_passed word.state) (λ b. P (if b then Go (at_down_write d SetsBlock) else Wait (at_down_write d AwaitsPassed)))
       (go SetsBlock) (wait AwaitsPassed)
 
+  -- after a load of a count
   summed_comes : (n : Taken) → P (down_write_summed d n).0
   summed_comes (MoreWords sum) = go (Sums sum)
   summed_comes (Total total) =
       by_bool (total == 0) (λ b. P (if b then Done (Ok UnitReply) else Wait (at_down_write d sum_begun))) done (wait sum_begun)
 
+  -- after each event
   pub down_write_comes : (s : DownWriteStep) (found : ℕ) → P (down_write_after d s found).0
   down_write_comes (Enters transition) found = go (enter_step d.tasks (transition_after on_enter transition found))
   down_write_comes (AwaitsSections grace) found = sections_come (looked grace found)
@@ -232,7 +238,7 @@ module _ (d : DownWrite) (P : Next DownWrite → Type 0) (go : (s : DownWriteSte
       (go sum_begun) (wait SetsBlock)
   down_write_comes (Sums sum) found = summed_comes (sum_taking sum found d.processors)
 
--- a down-write and an up-write change no word that only the owner changes
+-- a down-write changes no word that only the owner changes
 down_write_off : (d : DownWrite) (s : DownWriteStep) → is_owned (down_write_next d s).0 ≡ false
 down_write_off d (Enters Loads) = refl
 down_write_off d (Enters (Exchanges from to)) = refl
@@ -243,6 +249,7 @@ down_write_off d AwaitsPassed = refl
 down_write_off d SetsBlock = refl
 down_write_off d (Sums sum) = refl
 
+-- nor does an up-write
 up_write_off : (u : UpWrite) (s : UpWriteStep) → is_owned (up_write_next u s).0 ≡ false
 up_write_off u ClearsBlock = refl
 up_write_off u (Exits Loads) = refl
@@ -294,20 +301,21 @@ freeze_comes_to c x (Closes d) hook value f h =
 freeze_comes_to c x (FreezeReopens u code) hook value f h = inl (reopening_owns u.level u.step)
 freeze_comes_to c x s hook value f h = inl refl
 
--- who changes an owned word is the owner, and a freeze comes to own `umount` by taking it
+-- so it does an owner's work
 pub freeze_work : (c : Config) (w : World) (x : Freeze) (hook : HookAnswer) → FreezeFits c x.step → IsOwnersWork w (Freezes x) hook
 freeze_work c w x hook f = record {
   changes = freeze_changes x x.step hook;
   comes_to_own = freeze_comes_to c x x.step hook (value_at w.words (Freezes x) hook) f;
 }
 
--- so it is of a thaw
+-- a thaw changes an owned word as the owner
 thaw_changes : (x : Thaw) (s : ThawStep) (hook : HookAnswer) → is_owned (thaw_next x s hook).0 ≡ true →
     (is_load (thaw_next x s hook).1 ≡ true) ⊎ (stage_owns (thaw_stage_role s) ≡ 1)
 thaw_changes x ThawLocks hook h = absurd (true≢false (sym h))
 thaw_changes x (ThawReopens u) hook h = inr (reopening_owns u.level u.step)
 thaw_changes x s hook h = inr refl
 
+-- and comes to own `umount` by taking it
 thaw_comes_to : (x : Thaw) (s : ThawStep) (hook : HookAnswer) (value : ℕ) →
     owns (phase_after (map_next Thaws (thaw_after x s (found_by (thaw_next x s hook).1 value) hook).0)) ≡ 1 →
     (stage_owns (thaw_stage_role s) ≡ 1) ⊎ (takes_lock (event_of (thaw_next x s hook).0 (thaw_next x s hook).1 value) ≡ true)
@@ -319,6 +327,7 @@ thaw_comes_to x ThawLocks hook value h =
 thaw_comes_to x (ThawReopens u) hook value h = inl (reopening_owns u.level u.step)
 thaw_comes_to x s hook value h = inl refl
 
+-- so it does an owner's work
 pub thaw_work : (w : World) (x : Thaw) (hook : HookAnswer) → IsOwnersWork w (Thaws x) hook
 thaw_work w x hook = record {
   changes = thaw_changes x x.step hook;

@@ -1,5 +1,5 @@
 -- Events of a freeze or a thaw that leave the words of the levels: on `umount`, loads by the owner, and stores of the stage.
-use Rattle.std.proofs.Common.{◌≡◌, ℕ, ◌<◌, refl, sym, ap, ◌∙◌}
+use Rattle.std.proofs.Common.{◌≡◌, ℕ, ◌<◌, refl, ap, ◌∙◌}
 use Rattle.std.specs.Prelude.{Option, Some, None}
 use Rattle.finite_sums.specs.Sums.{update}
 use Rattle.finite_sums.proofs.Totals.{update_same}
@@ -7,7 +7,8 @@ use Rattle.access_model.specs.Actions.{after_action}
 use Rattle.access_model.specs.declared.actions.Action.TheVariants.{Stage as StageAction}
 use Rattle.cpu_words.specs.Words.{Words}
 use Rattle.gated_tree.specs.Nodes.{dirty_in}
-use Rattle.stage_laws.specs.Events.{StageEvent, Stays, action_of as stage_action_of}
+use Rattle.stage_laws.specs.Roles.{StageRole}
+use Rattle.stage_laws.specs.Events.{playing, StageEvent, Stays, action_of as stage_action_of}
 use Rattle.gate_world.specs.declared.config.Config.{Config}
 use Rattle.gate_world.specs.declared.views.View.{View}
 use Rattle.gate_world.specs.Levels.{Stand, is_frozen_whole}
@@ -42,10 +43,15 @@ module _ (c : Config) (w : World) (good : IsGood c w) (t : ℕ) (lt : t < c.task
     at = (ap (update (stage_roles w) t) same ∙ update_same (stage_roles w) t) j;
   }
 
-  -- no action, and the store of a stage, leave the accesses, the mounts and the tree
+  -- who plays the role that it had is where it was
+  pub still_plays : {r : StageRole} → r ≡ stage_role_of (w.views t).phase → playing (stages_in w) t r ≡ stages_in w
+  still_plays same = λ j. record (stages_in w) { at = (ap (update (stage_roles w) t) same ∙ update_same (stage_roles w) t) j }
+
+  -- no action leaves the accesses, the mounts and the tree
   pub none_leaves : LeavesRest (shown c w) (shown c w) (shown c w).tree
   none_leaves = record { mounts_same = refl; levels_same = refl; ro_same = refl; tree_same = refl }
 
+  -- nor does the store of a stage touch them
   pub stage_leaves : (n : ℕ) → LeavesRest (shown c w) (after_action (shown c w) t (StageAction n)) (shown c w).tree
   stage_leaves n = record { mounts_same = refl; levels_same = refl; ro_same = refl; tree_same = refl }
 
@@ -73,7 +79,8 @@ module _ (c : Config) (w : World) (good : IsGood c w) (t : ℕ) (lt : t < c.task
           now = now;
           owner = owner;
           levels = levels_stay c w good t lt (record w.words { umount = n }) v stand
-              (record { block_same = refl; level_same = refl; sync_same = refl; section_same = refl; whole_same = refl }) levels before after;
+              (record { block_same = refl; level_same = refl; sync_same = refl; section_same = refl; whole_same = refl }) levels before
+              after;
           nodes = good Nodes;
           fits = fits;
           happens = happens;

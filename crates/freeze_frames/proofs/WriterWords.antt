@@ -1,6 +1,6 @@
 -- Events of a down-write and of an up-write: the words that they leave, the counts, and what they add.
-use Rattle.std.proofs.Common.{◌≡◌, ℕ, ◌<◌, refl, sym, ap, ◌∙◌}
-use Rattle.std.specs.Prelude.{◌==◌, if◌then◌else◌, Option, Some, None}
+use Rattle.std.proofs.Common.{◌≡◌, ℕ, ◌<◌, refl, sym, ◌∙◌}
+use Rattle.std.specs.Prelude.{Ok, ◌==◌, if◌then◌else◌, Option, Some, None}
 use Rattle.access_model.specs.States.{State}
 use Rattle.access_model.specs.declared.actions.Action.{Action}
 use Rattle.access_model.specs.declared.actions.Action.TheVariants.{Pass, Reopen}
@@ -17,7 +17,14 @@ use Rattle.percpu_rwsem.specs.declared.writers.DownWriteStep.TheVariants.{Enters
 use Rattle.percpu_rwsem.specs.declared.writers.UpWrite.{UpWrite}
 use Rattle.percpu_rwsem.specs.declared.writers.UpWriteStep.{UpWriteStep}
 use Rattle.percpu_rwsem.specs.declared.writers.UpWriteStep.TheVariants.{ClearsBlock, Exits}
-use Rattle.percpu_rwsem.specs.Writers.{down_write_next, down_write_after, down_write_summed, up_write_next, up_write_after}
+use Rattle.access_model.specs.declared.replies.Next.{Next}
+use Rattle.access_model.specs.declared.replies.Next.TheVariants.{Go, Done}
+use Rattle.access_model.specs.declared.replies.Reply.TheVariants.{Unit as UnitReply}
+use Rattle.percpu_rwsem.specs.declared.transitions.TransitionNext.{TransitionNext}
+use Rattle.percpu_rwsem.specs.declared.transitions.TransitionNext.TheVariants.{More, Undefined, Made}
+use Rattle.percpu_rwsem.specs.SyncWords.{on_exit}
+use Rattle.percpu_rwsem.specs.Transitions.{transition_after}
+use Rattle.percpu_rwsem.specs.Writers.{exit_made, down_write_next, down_write_after, down_write_summed, up_write_next, up_write_after}
 use Rattle.stage_laws.specs.Events.{StageEvent, action_of as stage_action_of}
 use Rattle.stage_laws.specs.Shown.{state_after}
 use Rattle.gate_world.specs.declared.config.Config.{Config}
@@ -118,7 +125,8 @@ up_write_words w u (Exits (Exchanges from to)) = record {
 
 -- a down-write counts nothing, at mounts or at levels
 pub down_write_counts_none : (d : DownWrite) (s : DownWriteStep) (f : ℕ → ℕ → ℕ) →
-    (added_after (down_write_next d s).0 (down_write_next d s).1 f ≡ f) × (taken_after (down_write_next d s).0 (down_write_next d s).1 f ≡ f) ×
+    (added_after (down_write_next d s).0 (down_write_next d s).1 f ≡ f) ×
+    (taken_after (down_write_next d s).0 (down_write_next d s).1 f ≡ f) ×
     (level_added_after (down_write_next d s).0 (down_write_next d s).1 f ≡ f) ×
     (level_taken_after (down_write_next d s).0 (down_write_next d s).1 f ≡ f)
 down_write_counts_none d (Enters Loads) f = (refl, refl, refl, refl)
@@ -141,10 +149,12 @@ up_write_counts_none u (Exits (Exchanges from to)) f = (refl, refl, refl, refl)
 
 -- What an event of a down-write adds: nothing, or that its level is passed.
 module _ (d : DownWrite) (P : Option Action → Type 0) (none : P None) (pass : P (Some (Pass d.level))) where
+  -- a load of a count
   summed_adds : (n : Taken) → P (down_write_summed d n).1
   summed_adds (MoreWords sum) = none
   summed_adds (Total total) = by_bool (total == 0) (λ b. P (if b then Some (Pass d.level) else None)) pass none
 
+  -- each event
   pub down_write_adds : (s : DownWriteStep) (found : ℕ) → P (down_write_after d s found).1
   down_write_adds (Sums sum) found = summed_adds (sum_taking sum found d.processors)
   down_write_adds s found = none
@@ -155,10 +165,25 @@ pub up_write_adds : (u : UpWrite) (P : Option Action → Type 0) → P None → 
 up_write_adds u P none opens ClearsBlock found = opens
 up_write_adds u P none opens (Exits transition) found = none
 
--- a level that is passed or reopened leaves the accesses, the mounts and the tree
+-- What comes after an event of an up-write is the same one, past its store, or it is done.
+module _ (u : UpWrite) (P : Next UpWrite → Type 0) (go : (s : UpWriteStep) → P (Go (record u { step = s })))
+    (done : P (Done (Ok UnitReply))) where
+  -- after one of its transition
+  exit_comes : (n : TransitionNext) → P (exit_made u n)
+  exit_comes (More transition) = go (Exits transition)
+  exit_comes Undefined = go (Exits Loads)
+  exit_comes (Made state) = done
+
+  -- after each event
+  pub up_write_comes : (s : UpWriteStep) (found : ℕ) → P (up_write_after u s found).0
+  up_write_comes ClearsBlock found = go (Exits Loads)
+  up_write_comes (Exits transition) found = exit_comes (transition_after on_exit transition found)
+
+-- a level that is passed leaves the accesses, the mounts and the tree
 pub pass_leaves : (s : State) (t i : ℕ) → LeavesRest s (after_action s t (Pass i)) s.tree
 pass_leaves s t i = record { mounts_same = refl; levels_same = refl; ro_same = refl; tree_same = refl }
 
+-- so does one that is reopened
 pub reopen_leaves : (s : State) (t i : ℕ) → LeavesRest s (after_action s t (Reopen i)) s.tree
 reopen_leaves s t i = record { mounts_same = refl; levels_same = refl; ro_same = refl; tree_same = refl }
 

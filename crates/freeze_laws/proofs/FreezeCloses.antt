@@ -1,9 +1,9 @@
 -- The events of a freeze on the words of a level that it closes.
-use Rattle.std.proofs.Common.{◌≡◌, ℕ, zero, suc, ◌+◌, ◌-◌, ◌<◌, ◌≤◌, Bool, true, false, refl, sym, ap, ◌∙◌, subst, inl, inr, arith, true≢false, nat_lt}
+use Rattle.std.proofs.Common.{◌≡◌, ℕ, ◌<◌, ◌≤◌, Bool, true, false, refl, sym, ap, ◌∙◌, inl, inr, arith, true≢false, nat_lt}
 use Rattle.std.specs.Prelude.{◌==◌, if◌then◌else◌, Option, Some, None, Ok}
 use Rattle.std.proofs.lemmas.Bool.{eq-eqb, cases_Bool}
 use Rattle.finite_sums.specs.Sums.{update, total}
-use Rattle.finite_sums.proofs.Totals.{total_at, update_same}
+use Rattle.finite_sums.proofs.Totals.{total_at}
 use Rattle.access_model.specs.declared.actions.Action.{Action}
 use Rattle.access_model.specs.declared.actions.Action.TheVariants.{Pass}
 use Rattle.access_model.specs.declared.replies.Next.{Next}
@@ -11,8 +11,6 @@ use Rattle.access_model.specs.declared.replies.Next.TheVariants.{Go, Wait, Done}
 use Rattle.access_model.specs.declared.replies.Reply.TheVariants.{Unit as UnitReply}
 use Rattle.access_model.specs.Histories.{mounts_of, levels_of}
 use Rattle.access_model.specs.Replies.{map_next}
-use Rattle.cpu_words.specs.declared.names.WordName.{WordName}
-use Rattle.cpu_words.specs.declared.events.Touch.{Touch}
 use Rattle.cpu_words.specs.declared.sums.Sum.{Sum}
 use Rattle.cpu_words.specs.declared.sums.Taken.{Taken}
 use Rattle.cpu_words.specs.declared.sums.Taken.TheVariants.{More as MoreWords, Total}
@@ -21,7 +19,6 @@ use Rattle.cpu_words.specs.Sums.{sum_taking}
 use Rattle.cpu_words.specs.Touches.{left, found_by}
 use Rattle.cpu_words.specs.Words.{Words, read, put}
 use Rattle.freeze_levels.specs.declared.freezes.Freeze.{Freeze}
-use Rattle.freeze_levels.specs.declared.freezes.FreezeStep.{FreezeStep}
 use Rattle.freeze_levels.specs.declared.freezes.FreezeStep.TheVariants.{Closes}
 use Rattle.freeze_levels.specs.Freezes.{at_freeze, after_closing, level_closed}
 use Rattle.percpu_rwsem.specs.declared.grace.GraceNext.{GraceNext}
@@ -38,7 +35,7 @@ use Rattle.percpu_rwsem.specs.Graces.{looked}
 use Rattle.percpu_rwsem.specs.SyncWords.{unpack, is_passed, on_enter, on_callback}
 use Rattle.percpu_rwsem.specs.Transitions.{transition_after}
 use Rattle.percpu_rwsem.specs.Writers.{down_write_next, down_write_after, at_down_write, enter_step, callback_step, sections_awaited, passed_awaited, sum_begun, down_write_summed}
-use Rattle.stage_laws.specs.Roles.{StageRole, Place, Before, Closing, HasPassed, Freezing, owns as stage_owns, has_position, bit, CleanBelow}
+use Rattle.stage_laws.specs.Roles.{Place, Before, Closing, HasPassed, Freezing, owns as stage_owns, has_position, bit, CleanBelow}
 use Rattle.stage_laws.specs.Shown.{state_after}
 use Rattle.stage_laws.specs.Events.{StageEvent, Happens, Stays, SetsBlock as SetsBlockStage, Passes, playing, action_of as stage_action_of}
 use Rattle.stage_laws.proofs.Facts.{at_level}
@@ -47,21 +44,21 @@ use Rattle.gate_world.specs.declared.views.View.{View}
 use Rattle.gate_world.specs.declared.work.Phase.{Phase}
 use Rattle.gate_world.specs.declared.work.Phase.TheVariants.{Freezes}
 use Rattle.gate_world.specs.Configs.{IsWithin, model_limits}
-use Rattle.gate_world.specs.Fits.{Fits, PhaseFits, FreezeFits, mounts_by, levels_by}
+use Rattle.gate_world.specs.Fits.{Fits, mounts_by, levels_by}
 use Rattle.gate_world.specs.Levels.{closed_to}
 use Rattle.gate_world.specs.Rules.{IsGood, Nodes, owns, marks_of, ViewFits}
-use Rattle.gate_world.specs.Shown.{shown, stage_roles}
+use Rattle.gate_world.specs.Shown.{shown}
 use Rattle.gate_world.specs.Stages.{freeze_stage_role, stage_role_of, place_of}
 use Rattle.gate_world.specs.Views.{held_at, holds_level, phase_after, actions_after, view_with, added_by, taken_by}
 use Rattle.gate_world.specs.Levels.{level_added_by, level_taken_by}
 use Rattle.gate_world.specs.Worlds.{World}
 use Rattle.gate_frames.proofs.Keeps.{by_bool}
 use Rattle.gate_frames.proofs.Stages.{IsStageEvent, stages_in}
-use Rattle.freeze_frames.proofs.Standing.{Stands, LevelsHold, left_world, closing_stand, stand_after_closing}
+use Rattle.freeze_frames.proofs.Standing.{Stands, LevelsHold, left_world, stand_after_closing}
 use Rattle.freeze_frames.proofs.DownLevels.{down_write_levels, passes_finds_nobody, swap_finds_clear, entered_by_nobody}
-use Rattle.freeze_frames.proofs.WriterParts.{IsWriter, SameAtMounts, LeavesRest, AsksWhere, WriterKeeps, WriterLaw, freeze_comes, down_write_comes}
-use Rattle.freeze_frames.proofs.WriterStages.{SameStageWords, stays_there, none_leaves}
-use Rattle.freeze_frames.proofs.WriterWords.{IsAtLevels, down_write_words, down_write_counts_none, down_write_adds, pass_leaves, writer_at_level}
+use Rattle.freeze_frames.proofs.WriterParts.{LeavesRest, AsksWhere, WriterLaw, freeze_comes, down_write_comes}
+use Rattle.freeze_frames.proofs.WriterStages.{still_plays, stays_there, none_leaves}
+use Rattle.freeze_frames.proofs.WriterWords.{down_write_words, down_write_counts_none, down_write_adds, pass_leaves, writer_at_level}
 use Rattle.freeze_laws.proofs.FreezeFits.{freeze_goes}
 use Rattle.freeze_laws.proofs.FreezeStages.{freeze_stands, IsHere, Keeps, FitsHere, here_fits, here_stands, here_writes}
 
@@ -85,21 +82,25 @@ enter_place tasks (Made Passed) = refl
 enter_place tasks (Made Exit) = refl
 enter_place tasks (Made Replay) = refl
 
+-- so it is past its grace period
 callback_place : (n : TransitionNext) → place_of (callback_step n) ≡ Before
 callback_place (More transition) = refl
 callback_place Undefined = refl
 callback_place (Made state) = refl
 
+-- in it
 sections_place : (d : DownWrite) (n : GraceNext) → IsAtPlace d Before (sections_awaited d n)
 sections_place d (MoreSections grace) = (refl, refl)
 sections_place d (WaitsFor grace) = (refl, refl)
 sections_place d Ended = (refl, refl)
 
+-- and where it waits for another writer's
 passed_place : (d : DownWrite) (o : Option SyncWord) → IsAtPlace d Before (passed_awaited d o)
 passed_place d None = (refl, refl)
 passed_place d (Some word) =
-    by_bool (is_passed word.state) (λ b. IsAtPlace d Before (if b then Go (at_down_write d SetsBlock) else Wait (at_down_write d AwaitsPassed)))
-    (refl, refl) (refl, refl)
+    by_bool (is_passed word.state)
+    (λ b. IsAtPlace d Before (if b then Go (at_down_write d SetsBlock) else Wait (at_down_write d AwaitsPassed))) (refl, refl)
+    (refl, refl)
 
 -- what a freeze does with the stage at such a place
 place_role : (x : Freeze) (d : DownWrite) (p : Place) (n : Next DownWrite) → IsAtPlace d p n →
@@ -142,23 +143,19 @@ module _ (c : Config) (lim : IsWithin c) (w : World) (good : IsGood c w) (t : �
       let plain = ((good Nodes).0 0).plain (good Nodes).1 in
       ap (marks_of w.words) zero_is ∙ omega (arith, plain)
 
-  -- who plays the role that it had is where it was
-  still_plays : {r : StageRole} → r ≡ stage_role_of (w.views t).phase → playing (stages_in w) t r ≡ stages_in w
-  still_plays same = λ j. record (stages_in w) { at = (ap (update (stage_roles w) t) same ∙ update_same (stage_roles w) t) j }
-
   -- what the last load of a sum is of the stage
   sum_happens : (d : DownWrite) → stage_role_of (w.views t).phase ≡ Freezing d.level Closing (nat_lt 1 d.level) → 1 ≤ d.level →
       d.level ≤ 3 → (n : Taken) →
       Happens c.tasks c.nodes t (stages_in w) (playing (stages_in w) t
       (stage_role_of (phase_after (map_next Freezes (after_closing x d.level (down_write_summed d n).0))))) (sum_kind d n)
-  sum_happens d role low high (MoreWords sum) = still_plays (sym role)
+  sum_happens d role low high (MoreWords sum) = still_plays c w good t lt (sym role)
   sum_happens d role low high (Total sum) =
       by_bool (sum == 0) (λ b. Happens c.tasks c.nodes t (stages_in w) (playing (stages_in w) t
       (stage_role_of (phase_after (map_next Freezes (after_closing x d.level
       (if b then Done (Ok UnitReply) else Wait (at_down_write d sum_begun)))))))
       (if b then Passes d.level (clean_from d.level) (nat_lt 1 d.level) else Stays))
       (role, root_clean d.level low high, ap (playing (stages_in w) t) (closed_role x d.level low high))
-      (still_plays (sym role))
+      (still_plays c w good t lt (sym role))
 
   -- what it adds
   sum_adds : (d : DownWrite) (n : Taken) → stage_action_of (sum_kind d n) (stages_in w) ≡ (down_write_summed d n).1
@@ -178,23 +175,28 @@ module _ (c : Config) (lim : IsWithin c) (w : World) (good : IsGood c w) (t : �
       (λ g. g d.level refl) (λ g. tt) h
 
   module _ (d : DownWrite) (e : IsHere c lim w good t lt x (Closes d)) where
-    -- the words after its event, what it found, what comes after it, and its view then
+    -- the words after its event
     abbrev words_then : Words
     words_then = put w.words (down_write_next d d.step).0 (left (down_write_next d d.step).1 (read w.words (down_write_next d d.step).0))
 
+    -- what it found
     abbrev found_here : ℕ
     found_here = found_by (down_write_next d d.step).1 (read w.words (down_write_next d d.step).0)
 
+    -- what comes after it
     abbrev next_here : Next DownWrite
     next_here = (down_write_after d d.step found_here).0
 
+    -- what it adds
     abbrev adds_here : Option Action
     adds_here = (down_write_after d d.step found_here).1
 
+    -- and its task's view then
     abbrev view_then : View
     view_then = view_with (w.views t) (down_write_next d d.step) (read w.words (down_write_next d d.step).0) hook
         (map_next Freezes (after_closing x d.level next_here), adds_here)
 
+    -- its step fits before it
     fits_now : FitsHere c lim w good t lt x (Closes d)
     fits_now = here_fits c lim w good t lt x (Closes d) e
 
@@ -309,20 +311,20 @@ module _ (c : Config) (lim : IsWithin c) (w : World) (good : IsGood c w) (t : �
       Keeps c lim w good t lt x hook (Closes (at_down_write d s))
   closes d (Enters Loads) e =
       let y : DownWrite = at_down_write d (Enters Loads) in
-      closing_law y e Stays (closing_stays y e refl Before refl (refl, enter_place d.tasks (transition_after on_enter Loads (w.words.sync d.level))))
-      refl tt
+      closing_law y e Stays
+      (closing_stays y e refl Before refl (refl, enter_place d.tasks (transition_after on_enter Loads (w.words.sync d.level)))) refl tt
   closes d (Enters (Exchanges from to)) e =
       let y : DownWrite = at_down_write d (Enters (Exchanges from to)) in
       closing_law y e Stays
-      (closing_stays y e refl Before refl (refl, enter_place d.tasks (transition_after on_enter (Exchanges from to) (w.words.sync d.level))))
-      refl tt
+      (closing_stays y e refl Before refl
+      (refl, enter_place d.tasks (transition_after on_enter (Exchanges from to) (w.words.sync d.level)))) refl tt
   closes d (AwaitsSections grace) e =
       let y : DownWrite = at_down_write d (AwaitsSections grace) in
       closing_law y e Stays (closing_stays y e refl Before refl (sections_place y (looked grace (w.words.section grace.task)))) refl tt
   closes d (CallsBack Loads) e =
       let y : DownWrite = at_down_write d (CallsBack Loads) in
-      closing_law y e Stays (closing_stays y e refl Before refl (refl, callback_place (transition_after on_callback Loads (w.words.sync d.level))))
-      refl tt
+      closing_law y e Stays
+      (closing_stays y e refl Before refl (refl, callback_place (transition_after on_callback Loads (w.words.sync d.level)))) refl tt
   closes d (CallsBack (Exchanges from to)) e =
       let y : DownWrite = at_down_write d (CallsBack (Exchanges from to)) in
       closing_law y e Stays

@@ -1,18 +1,17 @@
 -- The events of a freeze on nodes and on the words of a level that it reopens, and all of its events as one law.
-use Rattle.std.proofs.Common.{◌≡◌, ℕ, zero, suc, ◌+◌, ◌-◌, ◌<◌, ◌≤◌, Bool, true, false, refl, sym, ap, ◌∙◌, subst, inl, inr, arith, true≢false, nat_lt}
-use Rattle.std.specs.Prelude.{◌==◌, if◌then◌else◌, Option, Some, None, Ok, Err, option_map}
+use Rattle.std.proofs.Common.{◌≡◌, ℕ, suc, ◌+◌, ◌-◌, ◌<◌, true, false, refl, sym, ap, ◌∙◌, subst, inl, inr, arith, nat_lt}
+use Rattle.std.specs.Prelude.{◌==◌, if◌then◌else◌, Option, Some, None, Err, option_map}
 use Rattle.std.proofs.lemmas.Bool.{cases_Bool, ltb-true, ltb-false}
 use Rattle.std.proofs.lemmas.Bool.Decides.{eqb_tells}
 use Rattle.finite_sums.specs.Sums.{update}
 use Rattle.finite_sums.proofs.Totals.{update_map, update_same, update_off, each_updated}
-use Rattle.access_model.specs.Actions.{after_action, marked}
+use Rattle.access_model.specs.Actions.{marked}
 use Rattle.access_model.specs.States.{IsFile}
 use Rattle.access_model.specs.Histories.{mounts_of, levels_of}
 use Rattle.access_model.specs.Replies.{map_next}
 use Rattle.access_model.specs.declared.actions.Action.{Action}
 use Rattle.access_model.specs.declared.actions.Action.TheVariants.{Clean, Reopen}
 use Rattle.access_model.specs.declared.replies.Next.{Next}
-use Rattle.access_model.specs.declared.replies.Next.TheVariants.{Go, Wait, Done}
 use Rattle.cpu_words.specs.Hooks.{HookAnswer}
 use Rattle.cpu_words.specs.Touches.{left, found_by}
 use Rattle.cpu_words.specs.Words.{Words, read, put}
@@ -27,7 +26,6 @@ use Rattle.freeze_levels.specs.declared.freezes.FreezeStep.TheVariants.{Locks, L
 use Rattle.freeze_levels.specs.Freezes.{at_freeze, after_reopening, freeze_fails}
 use Rattle.freeze_levels.specs.Levels.{reopening}
 use Rattle.access_model.specs.declared.errors.GateError.TheVariants.{Hook}
-use Rattle.access_model.specs.declared.replies.Reply.TheVariants.{Unit as UnitReply}
 use Rattle.percpu_rwsem.specs.declared.transitions.Transition.TheVariants.{Loads, Exchanges}
 use Rattle.percpu_rwsem.specs.declared.transitions.TransitionNext.{TransitionNext}
 use Rattle.percpu_rwsem.specs.declared.transitions.TransitionNext.TheVariants.{More, Undefined, Made}
@@ -36,8 +34,8 @@ use Rattle.percpu_rwsem.specs.declared.writers.UpWriteStep.{UpWriteStep}
 use Rattle.percpu_rwsem.specs.declared.writers.UpWriteStep.TheVariants.{ClearsBlock, Exits}
 use Rattle.percpu_rwsem.specs.SyncWords.{on_exit}
 use Rattle.percpu_rwsem.specs.Transitions.{transition_after}
-use Rattle.percpu_rwsem.specs.Writers.{up_write_next, up_write_after, at_up_write, exit_made}
-use Rattle.stage_laws.specs.Roles.{StageRole, HasPassed, Owning, Freezing, Reopening, owns as stage_owns, CleanBelow}
+use Rattle.percpu_rwsem.specs.Writers.{up_write_next, up_write_after, exit_made}
+use Rattle.stage_laws.specs.Roles.{HasPassed, Owning, Freezing, Reopening, owns as stage_owns}
 use Rattle.stage_laws.specs.Shown.{state_after}
 use Rattle.stage_laws.specs.Events.{StageEvent, Happens, Stays, Recalls, playing, cleaned, action_of as stage_action_of, ClearsMark as ClearsMarkStage, ClearsBlock as ClearsBlockStage}
 use Rattle.gate_world.specs.declared.config.Config.{Config}
@@ -45,21 +43,21 @@ use Rattle.gate_world.specs.declared.views.View.{View}
 use Rattle.gate_world.specs.declared.work.Phase.{Phase}
 use Rattle.gate_world.specs.declared.work.Phase.TheVariants.{Freezes}
 use Rattle.gate_world.specs.Configs.{IsWithin, model_limits}
-use Rattle.gate_world.specs.Fits.{Fits, PhaseFits, FreezeFits, mounts_by, levels_by}
+use Rattle.gate_world.specs.Fits.{Fits, FreezeFits, mounts_by, levels_by}
 use Rattle.gate_world.specs.Levels.{closed_to, freeze_stand, level_added_by, level_taken_by}
 use Rattle.gate_world.specs.Rules.{IsGood, Nodes, owns, marks_of, ViewFits, Holds, StepKeeps}
 use Rattle.gate_world.specs.Shown.{shown, stage_roles, node_shown}
-use Rattle.gate_world.specs.Stages.{freeze_stage_role, stage_role_of, reopening_role}
+use Rattle.gate_world.specs.Stages.{freeze_stage_role, stage_role_of}
 use Rattle.gate_world.specs.Views.{held_at, holds_level, phase_after, actions_after, view_with, added_by, taken_by}
 use Rattle.gate_world.specs.Worlds.{World}
 use Rattle.gate_frames.proofs.Stages.{IsStageEvent, stages_in}
-use Rattle.freeze_frames.proofs.Standing.{Stands, LevelsHold, left_world, opening_stand, stand_after_opening, still_closed}
+use Rattle.freeze_frames.proofs.Standing.{Stands, LevelsHold, left_world, stand_after_opening, still_closed}
 use Rattle.freeze_frames.proofs.StandRoles.{levels_stay}
 use Rattle.freeze_frames.proofs.UpLevels.{up_write_levels}
-use Rattle.freeze_frames.proofs.WriterParts.{IsWriter, SameAtMounts, LeavesRest, AsksWhere, WriterKeeps, WriterLaw, writer_law, freeze_comes, freezes_write, freeze_work, whole_writer, reopening_owns}
+use Rattle.freeze_frames.proofs.WriterParts.{IsWriter, SameAtMounts, LeavesRest, AsksWhere, WriterLaw, writer_law, freeze_comes, freezes_write, freeze_work, whole_writer, reopening_owns}
 use Rattle.freeze_frames.proofs.WriterOwner.{owner_stays}
-use Rattle.freeze_frames.proofs.WriterStages.{stays_there, none_leaves}
-use Rattle.freeze_frames.proofs.WriterWords.{up_write_words, up_write_counts_none, up_write_adds, reopen_leaves, writer_at_level}
+use Rattle.freeze_frames.proofs.WriterStages.{still_plays, none_leaves}
+use Rattle.freeze_frames.proofs.WriterWords.{up_write_comes, up_write_words, up_write_counts_none, up_write_adds, reopen_leaves, writer_at_level}
 use Rattle.freeze_laws.proofs.FreezeFits.{freeze_goes}
 use Rattle.freeze_laws.proofs.FreezeStages.{freeze_stands, IsHere, Keeps, FitsHere, here_fits, here_stands, here_writes, goes_to, view_at, locks, loads_stage, loads_superblock, completes_read_only, sets_write, unlocks, locks_again, sets_page_fault, sets_fs, sets_complete, releases}
 use Rattle.freeze_laws.proofs.FreezeCloses.{closes}
@@ -76,22 +74,11 @@ fails_stands x level code =
       | inr q ↦ rw q.0 (freeze_stands (at_freeze x (Reopens (reopening level) code)))
     ]
 
--- what comes after an event of an up-write whose store was made
-module _ (u : UpWrite) (P : Next UpWrite → Type 0) (go : (s : UpWriteStep) → P (Go (record u { step = s }))) (done : P (Done (Ok UnitReply)))
-    where
-  exit_comes : (n : TransitionNext) → P (exit_made u n)
-  exit_comes (More transition) = go (Exits transition)
-  exit_comes Undefined = go (Exits Loads)
-  exit_comes (Made state) = done
-
-  up_write_comes : (s : UpWriteStep) (found : ℕ) → P (up_write_after u s found).0
-  up_write_comes ClearsBlock found = go (Exits Loads)
-  up_write_comes (Exits transition) found = exit_comes (transition_after on_exit transition found)
-
--- the event of the stage that comes with an event of the transition: with the last one of level 1, the owner relies on nothing
+-- the event of the stage that comes with the last event of a transition: after that of level 1 the owner relies on nothing
 abbrev fails_kind : ℕ → StageEvent
 fails_kind level = if level == 0 then Recalls (Reopening level) (Owning None None) else Stays
 
+-- the same of each event of it
 abbrev exit_kind : ℕ → TransitionNext → StageEvent
 exit_kind level (More transition) = Stays
 exit_kind level Undefined = Stays
@@ -101,12 +88,15 @@ module _ (c : Config) (lim : IsWithin c) (w : World) (good : IsGood c w) (t : �
   -- the clearing of a node's mark, after which this step comes
   module _ (marks : ClearMarks) (e : IsHere c lim w good t lt x (Cleans marks)) (s : FreezeStep) (fit : FreezeFits c s)
       (role : freeze_stage_role x.nodes s ≡ Freezing 2 (HasPassed (suc marks.node)) true) (stand : freeze_stand s ≡ Some (closed_to 2)) where
+    -- the node's word
     abbrev node_word : ℕ
     node_word = w.words.node marks.node
 
+    -- the words after it
     abbrev cleared_words : Words
     cleared_words = record w.words { node = update w.words.node marks.node (without_mark node_word) }
 
+    -- and the view, where this is added
     abbrev cleared_view : Option Action → View
     cleared_view action = view_at c lim w good t lt x (Node marks.node, And 18446744073709551611) node_word hook s action
 
@@ -120,7 +110,8 @@ module _ (c : Config) (lim : IsWithin c) (w : World) (good : IsGood c w) (t : �
         )
 
     -- it is that event of the stage
-    mark_happens : (action : Option Action) → IsStageEvent c w good t lt cleared_words (cleared_view action) (ClearsMarkStage marks.node)
+    mark_happens : (action : Option Action) →
+        IsStageEvent c w good t lt cleared_words (cleared_view action) (ClearsMarkStage marks.node)
     mark_happens action = (
       ap stage_role_of e,
       λ j. record (stages_in w) {
@@ -163,7 +154,8 @@ module _ (c : Config) (lim : IsWithin c) (w : World) (good : IsGood c w) (t : �
         WriterLaw c w t cleared_words (cleared_view (Some (Clean marks.node))) (Some (Clean marks.node))
     clears_set set =
         let f : FitsHere c lim w good t lt x (Cleans marks) = here_fits c lim w good t lt x (Cleans marks) e in
-        let after : IsFile (node_shown node_word) × (node_shown (without_mark node_word) ≡ option_map (marked false) (node_shown node_word)) =
+        let after : IsFile (node_shown node_word) ×
+        (node_shown (without_mark node_word) ≡ option_map (marked false) (node_shown node_word)) =
         cleared_shown node_word ((good Nodes).0 marks.node) set in
         node_law (Some (Clean marks.node)) (record { held_same = refl; levels_same = refl; added_same = refl; taken_same = refl })
         (goes_to c lim w good t lt x (Cleans marks) s e fit) (ap (cleaned marks.node) set) (f.5.2, after.0)
@@ -184,7 +176,8 @@ module _ (c : Config) (lim : IsWithin c) (w : World) (good : IsGood c w) (t : �
           mounts_same = refl;
           levels_same = refl;
           ro_same = refl;
-          tree_same = sym ((λ j n. node_shown (update w.words.node marks.node (clean_stays node_word ((good Nodes).0 marks.node) clean j) n)) ∙
+          tree_same = sym ((λ j n. node_shown (update w.words.node marks.node
+              (clean_stays node_word ((good Nodes).0 marks.node) clean j) n)) ∙
               (λ j n. node_shown (update_same w.words.node marks.node j n)));
         })
 
@@ -214,22 +207,28 @@ module _ (c : Config) (lim : IsWithin c) (w : World) (good : IsGood c w) (t : �
 
   -- an event of the reopening of a level
   module _ (u : UpWrite) (code : ℕ) (e : IsHere c lim w good t lt x (Reopens u code)) where
+    -- the words after it
     abbrev words_then : Words
     words_then = put w.words (up_write_next u u.step).0 (left (up_write_next u u.step).1 (read w.words (up_write_next u u.step).0))
 
+    -- what it found
     abbrev found_here : ℕ
     found_here = found_by (up_write_next u u.step).1 (read w.words (up_write_next u u.step).0)
 
+    -- what comes after it
     abbrev next_here : Next UpWrite
     next_here = (up_write_after u u.step found_here).0
 
+    -- what it adds
     abbrev adds_here : Option Action
     adds_here = (up_write_after u u.step found_here).1
 
+    -- and its task's view then
     abbrev view_then : View
     view_then = view_with (w.views t) (up_write_next u u.step) (read w.words (up_write_next u u.step).0) hook
         (map_next Freezes (after_reopening x u.level code next_here), adds_here)
 
+    -- its step fits before it
     fits_now : FitsHere c lim w good t lt x (Reopens u code)
     fits_now = here_fits c lim w good t lt x (Reopens u code) e
 
@@ -300,10 +299,6 @@ module _ (c : Config) (lim : IsWithin c) (w : World) (good : IsGood c w) (t : �
       ap (λ i. playing (record (stages_in w) { block = update w.words.block i 0 }) t (Reopening (u.level - 1))) is)
       (ap (λ i. Some (Reopen i)) (sym is))
 
-  -- who plays the role that it had is where it was
-  still_plays : {r : StageRole} → r ≡ stage_role_of (w.views t).phase → playing (stages_in w) t r ≡ stages_in w
-  still_plays same = λ j. record (stages_in w) { at = (ap (update (stage_roles w) t) same ∙ update_same (stage_roles w) t) j }
-
   -- what the last event of a level's transition is of the stage
   fails_happens : (level code : ℕ) → stage_role_of (w.views t).phase ≡ Reopening level →
       Happens c.tasks c.nodes t (stages_in w) (playing (stages_in w) t (freeze_stage_role x.nodes (freeze_fails level code)))
@@ -317,15 +312,15 @@ module _ (c : Config) (lim : IsWithin c) (w : World) (good : IsGood c w) (t : �
             closed_same = sym q.1;
             passed_same = sym q.1;
           }, (tt, tt), λ m l. absurd (omega (arith, l)), refl)
-        | inr q ↦ rw q.0 (still_plays (sym role))
+        | inr q ↦ rw q.0 (still_plays c w good t lt (sym role))
       ]
 
   -- and each event of it
   exit_happens : (u : UpWrite) (code : ℕ) → stage_role_of (w.views t).phase ≡ Reopening (u.level - 1) → (n : TransitionNext) →
       Happens c.tasks c.nodes t (stages_in w) (playing (stages_in w) t
       (stage_role_of (phase_after (map_next Freezes (after_reopening x u.level code (exit_made u n)))))) (exit_kind (u.level - 1) n)
-  exit_happens u code role (More transition) = still_plays (sym role)
-  exit_happens u code role Undefined = still_plays (sym role)
+  exit_happens u code role (More transition) = still_plays c w good t lt (sym role)
+  exit_happens u code role Undefined = still_plays c w good t lt (sym role)
   exit_happens u code role (Made state) = fails_happens (u.level - 1) code role
 
   -- none of which adds anything
@@ -334,6 +329,7 @@ module _ (c : Config) (lim : IsWithin c) (w : World) (good : IsGood c w) (t : �
   exit_adds level Undefined = refl
   exit_adds level (Made state) = elim (eqb_tells level 0) [ inl q ↦ rw q.0 refl | inr q ↦ rw q.0 refl ]
 
+  -- each event of the reopening of a level
   reopens : (u : UpWrite) (code : ℕ) (s : UpWriteStep) → IsHere c lim w good t lt x (Reopens (record u { step = s }) code) →
       Keeps c lim w good t lt x hook (Reopens (record u { step = s }) code)
   reopens u code ClearsBlock e = clears_block u code e

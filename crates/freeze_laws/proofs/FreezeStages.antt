@@ -1,39 +1,36 @@
 -- The events of a freeze on `umount`, the stage and the superblock's flag, and its clearing of marks.
-use Rattle.std.proofs.Common.{◌≡◌, ℕ, suc, ◌+◌, ◌-◌, ◌<◌, ◌≤◌, Bool, true, false, refl, sym, ap, ◌∙◌, subst, inl, inr, arith, true≢false}
-use Rattle.std.proofs.lemmas.Bool.{eq-eqb, ne_eqb, cases_Bool}
+use Rattle.std.proofs.Common.{◌≡◌, ℕ, ◌+◌, ◌<◌, refl, sym, ap, ◌∙◌, subst, inl, inr, arith}
+use Rattle.std.proofs.lemmas.Bool.{ne_eqb}
 use Rattle.std.proofs.lemmas.Bool.Decides.{eqb_tells}
 use Rattle.finite_sums.specs.Sums.{update}
 use Rattle.stage_laws.specs.Events.{Happens, playing}
-use Rattle.std.specs.Prelude.{◌∷◌, ◌==◌, Option, Some, None, Ok, Err, if◌then◌else◌, Result}
+use Rattle.std.specs.Prelude.{◌∷◌, Option, Some, None, Ok, Err, Result}
 use Rattle.freeze_levels.specs.declared.freezes.Freeze.{Freeze}
 use Rattle.freeze_levels.specs.declared.freezes.FreezeStep.{FreezeStep}
-use Rattle.freeze_levels.specs.declared.freezes.FreezeStep.TheVariants.{Locks, LoadsStage, LoadsSuperblock, CompletesReadOnly, SetsWrite, Unlocks, Closes, LocksAgain, SetsPageFault, Cleans, SetsFs, SetsComplete, Reopens, Releases}
-use Rattle.freeze_levels.specs.Freezes.{at_freeze, freeze_closes, freeze_fails, level_closed}
-use Rattle.freeze_levels.specs.Levels.{closing, reopening}
+use Rattle.freeze_levels.specs.declared.freezes.FreezeStep.TheVariants.{Locks, LoadsStage, LoadsSuperblock, CompletesReadOnly, SetsWrite, Unlocks, LocksAgain, SetsPageFault, SetsFs, SetsComplete, Releases}
+use Rattle.freeze_levels.specs.Freezes.{at_freeze, freeze_closes, freeze_fails}
 use Rattle.access_model.specs.declared.actions.Action.{Action}
-use Rattle.access_model.specs.declared.actions.Action.TheVariants.{Stage as StageAction, Clean}
+use Rattle.access_model.specs.declared.actions.Action.TheVariants.{Stage as StageAction}
 use Rattle.access_model.specs.declared.errors.GateError.{GateError}
 use Rattle.access_model.specs.declared.errors.GateError.TheVariants.{Busy}
 use Rattle.access_model.specs.declared.replies.Reply.{Reply}
 use Rattle.access_model.specs.declared.replies.Reply.TheVariants.{Unit as UnitReply}
-use Rattle.access_model.specs.declared.replies.Next.{Next}
-use Rattle.access_model.specs.declared.replies.Next.TheVariants.{Go, Wait, Done}
+use Rattle.access_model.specs.declared.replies.Next.TheVariants.{Go, Done}
 use Rattle.cpu_words.specs.declared.names.WordName.{WordName}
-use Rattle.cpu_words.specs.declared.names.WordName.TheVariants.{Umount, Stage as StageWord, SbFlags, Node}
+use Rattle.cpu_words.specs.declared.names.WordName.TheVariants.{Umount, Stage as StageWord, SbFlags}
 use Rattle.cpu_words.specs.declared.events.Touch.{Touch}
-use Rattle.cpu_words.specs.declared.events.Touch.TheVariants.{Load, Store, Cas, And}
+use Rattle.cpu_words.specs.declared.events.Touch.TheVariants.{Load, Store, Cas}
 use Rattle.cpu_words.specs.Words.{Words}
 use Rattle.cpu_words.specs.declared.events.Event.{Event}
 use Rattle.cpu_words.specs.Hooks.{HookAnswer}
-use Rattle.stage_laws.specs.Roles.{StageRole, Place, Before, Closing, HasPassed, Aside, Owning, Freezing, Reopening, owns as stage_owns, under_way, is_full, KnowsStage}
-use Rattle.stage_laws.specs.Events.{StageEvent, Begins, Advances, Syncs, Completes, Fails, FreezesAtOnce, ClearsMark, LetsGo, Stays, LoadsSb, Locks as LocksStage, LocksAgain as LocksStageAgain, LoadsStage as FindsStage, Releases as ReleasesStage, action_of as stage_action_of}
+use Rattle.stage_laws.specs.Roles.{StageRole, Before, HasPassed, Owning, owns as stage_owns, is_full, KnowsStage}
+use Rattle.stage_laws.specs.Events.{StageEvent, Begins, Advances, Syncs, Completes, Fails, FreezesAtOnce, LetsGo, Stays, LoadsSb, Locks as LocksStage, LocksAgain as LocksStageAgain, LoadsStage as FindsStage, Releases as ReleasesStage, action_of as stage_action_of}
 use Rattle.gate_world.specs.declared.config.Config.{Config}
 use Rattle.gate_world.specs.declared.views.View.{View}
-use Rattle.gate_world.specs.declared.work.Phase.{Phase}
 use Rattle.gate_world.specs.declared.work.Phase.TheVariants.{Freezes}
 use Rattle.gate_world.specs.Configs.{IsWithin}
 use Rattle.gate_world.specs.Fits.{Fits, PhaseFits, FreezeFits}
-use Rattle.gate_world.specs.Levels.{Stand, closed_to, freeze_stand, is_frozen_whole}
+use Rattle.gate_world.specs.Levels.{Stand, closed_to, freeze_stand}
 use Rattle.gate_world.specs.Rules.{IsGood, Fitting, Stages, owns, OwnerHolds}
 use Rattle.gate_world.specs.Stages.{freeze_stage_role, stage_role_of}
 use Rattle.gate_world.specs.Views.{held_at, holds_level, view_with}
@@ -41,9 +38,9 @@ use Rattle.gate_world.specs.Worlds.{World}
 use Rattle.gate_frames.proofs.Frames.{SameLevelCounts}
 use Rattle.gate_frames.proofs.Stages.{IsStageEvent, stages_in, nobody_owns}
 use Rattle.freeze_frames.proofs.Standing.{Stands, LevelsHold, left_world}
-use Rattle.freeze_frames.proofs.StandRoles.{closing_first, closing_next, stands_so}
+use Rattle.freeze_frames.proofs.StandRoles.{closing_first, closing_next}
 use Rattle.freeze_frames.proofs.WholeLevels.{freezes_all}
-use Rattle.freeze_frames.proofs.WriterParts.{IsWriter, SameAtMounts, WriterKeeps, WriterLaw, freezes_write, idle_writes, writer_law}
+use Rattle.freeze_frames.proofs.WriterParts.{IsWriter, SameAtMounts, WriterKeeps, WriterLaw, freezes_write, idle_writes}
 use Rattle.freeze_frames.proofs.WriterOwner.{owner_stays, lock_taken, lock_given}
 use Rattle.freeze_frames.proofs.WriterStages.{stays_there, writer_beside, writer_stores, stored_levels}
 
@@ -64,22 +61,27 @@ module _ (c : Config) (lim : IsWithin c) (w : World) (good : IsGood c w) (t : �
   abbrev pub IsHere : FreezeStep → Type 0
   IsHere s = (w.views t).phase ≡ Some (Freezes (at_freeze x s))
 
+  -- the law of its event
   abbrev pub Keeps : HookAnswer → FreezeStep → Type 0
   Keeps hook s = WriterKeeps c w t hook (Freezes (at_freeze x s))
 
+  -- the step fits its task's accesses
   abbrev pub FitsHere : FreezeStep → Type 0
   FitsHere s = PhaseFits c t (held_at (w.views t)) (holds_level (w.views t)) (Freezes (at_freeze x s))
 
-  -- what its phase and the rule say before its event
+  -- so it does in a good world
   pub here_fits : (s : FreezeStep) → IsHere s → FitsHere s
   here_fits s e = subst (Fits c t (held_at (w.views t)) (holds_level (w.views t))) e (good Fitting t lt)
 
+  -- what it relies on of the stage is so
   pub here_knows : (s : FreezeStep) → IsHere s → KnowsStage w.words.stage w.words.sb (freeze_stage_role x.nodes s)
   here_knows s e = subst (λ p. KnowsStage w.words.stage w.words.sb (stage_role_of p)) e ((good Stages).knows t lt)
 
+  -- it stands so with the levels
   pub here_stands : (s : FreezeStep) → IsHere s → Stands (w.views t).phase (freeze_stand s)
   here_stands s e = subst (λ p. Stands p (freeze_stand s)) (sym e) (freeze_stands (at_freeze x s))
 
+  -- it has no role at a mount
   pub here_writes : (s : FreezeStep) → IsHere s → IsWriter (w.views t).phase
   here_writes s e = subst IsWriter (sym e) (freezes_write (at_freeze x s))
 
@@ -239,7 +241,8 @@ module _ (c : Config) (lim : IsWithin c) (w : World) (good : IsGood c w) (t : �
         | inl h ↦ rw h.0 (
             let v : View = tried hook (x.task + 1) LoadsStage in
             tries Locks LoadsStage e (x.task + 1) hook None LocksStage tt
-            (lock_taken c w good t lt v (here_writes Locks e) (freezes_write (at_freeze x LoadsStage)) (x.task + 1) h.1 (omega (arith, f.0)) refl)
+            (lock_taken c w good t lt v (here_writes Locks e) (freezes_write (at_freeze x LoadsStage)) (x.task + 1) h.1
+            (omega (arith, f.0)) refl)
             refl refl (ap stage_role_of e, nobody_owns c w good h.1, refl) refl)
         | inr h ↦ rw h.0 (tries_again Locks e hook tt)
       ]
@@ -309,8 +312,8 @@ module _ (c : Config) (lim : IsWithin c) (w : World) (good : IsGood c w) (t : �
         | inl h ↦ rw h.0 (loads hook StageWord w.words.stage LoadsStage LoadsSuperblock e (FindsStage None None) refl refl refl refl tt
             (record { held_same = refl; levels_same = refl; added_same = refl; taken_same = refl })
             (record { held_same = refl; added_same = refl; taken_same = refl })
-            (finds LoadsStage e (view_at (StageWord, Load) w.words.stage hook LoadsSuperblock None) (FindsStage None None) w.words.stage 0 h.1
-            (λ n. Owning (Some n) None) (ap stage_role_of e, refl) refl) refl)
+            (finds LoadsStage e (view_at (StageWord, Load) w.words.stage hook LoadsSuperblock None) (FindsStage None None) w.words.stage 0
+            h.1 (λ n. Owning (Some n) None) (ap stage_role_of e, refl) refl) refl)
         | inr h ↦ rw h.0 (loads hook StageWord w.words.stage LoadsStage (Releases (Err Busy)) e Stays refl refl refl refl tt
             (record { held_same = refl; levels_same = refl; added_same = refl; taken_same = refl })
             (record { held_same = refl; added_same = refl; taken_same = refl })
@@ -331,6 +334,6 @@ module _ (c : Config) (lim : IsWithin c) (w : World) (good : IsGood c w) (t : �
         | inr h ↦ rw h.0 (loads hook SbFlags w.words.sb LoadsSuperblock CompletesReadOnly e (LoadsSb (Some 0) None) refl refl refl refl tt
             (record { held_same = refl; levels_same = refl; added_same = refl; taken_same = refl })
             (record { held_same = refl; added_same = refl; taken_same = refl })
-            (finds LoadsSuperblock e (view_at (SbFlags, Load) w.words.sb hook CompletesReadOnly None) (LoadsSb (Some 0) None) w.words.sb 1
-            (omega (arith, h.1, (good Stages).superblock)) (λ n. Owning (Some 0) (Some n)) (ap stage_role_of e, refl) refl) refl)
+            (finds LoadsSuperblock e (view_at (SbFlags, Load) w.words.sb hook CompletesReadOnly None) (LoadsSb (Some 0) None) w.words.sb
+            1             (omega (arith, h.1, (good Stages).superblock)) (λ n. Owning (Some 0) (Some n)) (ap stage_role_of e, refl) refl) refl)
       ]

@@ -1,0 +1,4 @@
+pub mod FreezeFits
+pub mod FreezeStages
+pub mod FreezeCloses
+pub mod FreezeEvents
