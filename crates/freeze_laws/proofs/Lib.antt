@@ -1,6 +1,9 @@
 pub mod FreezeSums
 pub mod FreezeTraces
 pub mod FreezeFits
+pub mod FreezeStages
+pub mod FreezeCloses
+pub mod FreezeEvents
 pub mod FreezeCauses
 pub mod FreezeWaits
 pub mod FreezeKeeps
