@@ -23,27 +23,8 @@ use Rattle.gate_frames.proofs.Snapshots.{completes_none}
 use Rattle.freeze_laws.proofs.FreezeFits.{freeze_word, freeze_acts, freeze_goes}
 use Rattle.freeze_laws.proofs.FreezeCauses.{freeze_counts, freeze_stays, freeze_own, freeze_cause_tells}
 use Rattle.freeze_laws.proofs.FreezeWaits.{freeze_waits}
-
--- each event of this freeze keeps the rule, and moves the shown model by its action
-abbrev pub EventsKeep : Config → Freeze → Type 0
-EventsKeep c x = IsWithin c → (w : World) → IsGood c w → (t : ℕ) → t < c.tasks → (hook : HookAnswer) →
-    (w.views t).phase ≡ Some (Freezes x) → StepKeeps c w t hook (Freezes x)
-
--- where a freeze is refused, the accesses are those with which it began
-abbrev pub Restores : Config → Type 0
-Restores c = (refusal : GateError) (trace : List Traced) (before : List Action) →
-    is_in_order c (mounts_of before) (levels_of before) FreezeOp ≡ true →
-    (mounts_of (actions_of FreezeOp (Err refusal) trace ++ before) ≡ mounts_of before) ×
-    (levels_of (actions_of FreezeOp (Err refusal) trace ++ before) ≡ levels_of before)
-
--- its trace tells what is to be told
-abbrev pub TracesTell : Config → Type 0
-TracesTell c = IsWithin c → (t : ℕ) (trace : List Traced) → IsTrace c t FreezeOp trace →
-    Tells c FreezeOp trace (course_of c t FreezeOp trace).comes (course_of c t FreezeOp trace).added
-
--- and is short
-abbrev pub TracesShort : Config → Type 0
-TracesShort c = IsWithin c → (t : ℕ) (trace : List Traced) → IsTrace c t FreezeOp trace → IsShort (most_events c FreezeOp) trace
+use Rattle.freeze_laws.proofs.FreezeEvents.{freeze_keeps}
+use Rattle.freeze_laws.proofs.FreezeTraces.{freeze_tells, freeze_short, freeze_restores}
 
 -- what a freeze says of its task's accesses, in a good world
 fits_here : (c : Config) (x : Freeze) (w : World) → IsGood c w → (t : ℕ) → t < c.tasks → (w.views t).phase ≡ Some (Freezes x) →
@@ -51,9 +32,9 @@ fits_here : (c : Config) (x : Freeze) (w : World) → IsGood c w → (t : ℕ) �
 fits_here c x w good t lt e = subst (Fits c t (held_at (w.views t)) (holds_level (w.views t))) e (good Fitting t lt)
 
 -- of each of its phases
-pub freeze_phase : (c : Config) (x : Freeze) → EventsKeep c x → PhaseKeeps c (Freezes x)
-freeze_phase c x keeps = record {
-  step = keeps;
+pub freeze_phase : (c : Config) (x : Freeze) → PhaseKeeps c (Freezes x)
+freeze_phase c x = record {
+  step = λ within w good t lt hook e. freeze_keeps c within w good t lt hook x e;
   completes = λ within w good t lt hook e. completes_none c w t hook (Freezes x) (λ trace found. refl);
   word = λ within n le t lt held levels hook f. word_among c n le _ (freeze_word c x x.step hook f.5);
   acts = λ within t held levels found hook f. freeze_acts x x.step held found hook;
@@ -72,8 +53,8 @@ freeze_phase c x keeps = record {
 }
 
 -- of its beginning and its trace
-pub freeze_op : (c : Config) → Restores c → TracesTell c → TracesShort c → OpKeeps c FreezeOp
-freeze_op c restores tells short = record {
+pub freeze_op : (c : Config) → OpKeeps c FreezeOp
+freeze_op c = record {
   fits = λ t held levels there order room. (refl, refl, refl, refl, order, tt);
   no_role = λ t y. refl;
   steady = λ t. record { owns_same = refl; remounts_same = refl; closing_same = λ i. refl };
@@ -84,8 +65,8 @@ freeze_op c restores tells short = record {
   cause = λ t w earlier. tt;
   order_agrees = λ f g h k mounts levels there. none_agree c 0 f g h k mounts levels;
   room_agrees = λ f g mounts there. refl;
-  restores = restores;
-  tells = tells;
-  short = short;
+  restores = λ refusal trace before order. freeze_restores refusal trace before;
+  tells = freeze_tells c;
+  short = freeze_short c;
   most_small = λ within. tt;
 }
