@@ -196,7 +196,9 @@ module _ (c : Config) (lim : IsWithin c) (w : World) (good : IsGood c w) (t : �
       WriterLaw c w t (record w.words { umount = n }) v None
   beside s s' e n value word touch hook stand kind mounts levels fit owner before after happens adds =
       writer_beside c w good t lt (view_at (word, touch) value hook s' None) (here_writes s e)
-      (freezes_write (at_freeze x s')) mounts levels (goes_to s s' e fit) n stand kind owner (subst (Stands (w.views t).phase) before (here_stands s e)) after happens adds
+      (freezes_write (at_freeze x s')) mounts levels
+      (goes_to s s' e fit) n stand kind owner
+      (subst (Stands (w.views t).phase) before (here_stands s e)) after happens adds
 
   -- the view after the lock was tried, which left this in `umount`, with this step to come
   abbrev tried : HookAnswer → ℕ → FreezeStep → View
