@@ -87,7 +87,8 @@ exit_kind level (Made state) = fails_kind level
 module _ (c : Config) (lim : IsWithin c) (w : World) (good : IsGood c w) (t : ℕ) (lt : t < c.tasks) (x : Freeze) (hook : HookAnswer) where
   -- the clearing of a node's mark, after which this step comes
   module _ (marks : ClearMarks) (e : IsHere c lim w good t lt x (Cleans marks)) (s : FreezeStep) (fit : FreezeFits c s)
-      (role : freeze_stage_role x.nodes s ≡ Freezing 2 (HasPassed (suc marks.node)) true) (stand : freeze_stand s ≡ Some (closed_to 2)) where
+      (role : freeze_stage_role x.nodes s ≡ Freezing 2 (HasPassed (suc marks.node)) true)
+      (stand : freeze_stand s ≡ Some (closed_to 2)) where
     -- the node's word
     abbrev node_word : ℕ
     node_word = w.words.node marks.node

@@ -195,9 +195,10 @@ module _ (c : Config) (lim : IsWithin c) (w : World) (good : IsGood c w) (t : �
       IsStageEvent c w good t lt (record w.words { umount = n }) v kind → stage_action_of kind (stages_in w) ≡ None →
       WriterLaw c w t (record w.words { umount = n }) v None
   beside s s' e n value word touch hook stand kind mounts levels fit owner before after happens adds =
-      writer_beside c w good t lt (view_at (word, touch) value hook s' None) (here_writes s e) (freezes_write
-      (at_freeze x s')) mounts levels
-      (goes_to s s' e fit) n stand kind owner (subst (Stands (w.views t).phase) before (here_stands s e)) after happens adds
+      writer_beside c w good t lt (view_at (word, touch) value hook s' None) (here_writes s e)
+      (freezes_write (at_freeze x s')) mounts levels
+      (goes_to s s' e fit) n stand kind owner
+      (subst (Stands (w.views t).phase) before (here_stands s e)) after happens adds
 
   -- the view after the lock was tried, which left this in `umount`, with this step to come
   abbrev tried : HookAnswer → ℕ → FreezeStep → View
@@ -336,6 +337,5 @@ module _ (c : Config) (lim : IsWithin c) (w : World) (good : IsGood c w) (t : �
             (record { held_same = refl; levels_same = refl; added_same = refl; taken_same = refl })
             (record { held_same = refl; added_same = refl; taken_same = refl })
             (finds LoadsSuperblock e (view_at (SbFlags, Load) w.words.sb hook CompletesReadOnly None) (LoadsSb (Some 0) None) w.words.sb
-            1             (omega (arith, h.1, (good Stages).superblock))
-            (λ n. Owning (Some 0) (Some n)) (ap stage_role_of e, refl) refl) refl)
+            1 (omega (arith, h.1, (good Stages).superblock)) (λ n. Owning (Some 0) (Some n)) (ap stage_role_of e, refl) refl) refl)
       ]
