@@ -70,7 +70,8 @@ use Rattle.gate_world.specs.Fits.{DownWriteFits}
 use Rattle.gate_world.specs.Views.{holds_level}
 use Rattle.gate_world.specs.Worlds.{World}
 use Rattle.gate_frames.proofs.Frames.{SameLevelCounts}
-use Rattle.level_frames.proofs.LevelWorlds.{level_in, level_right, found_level, IsEventAt}
+use Rattle.gate_world.specs.LevelRuns.{level_in}
+use Rattle.level_frames.proofs.LevelWorlds.{level_right, found_level, IsEventAt}
 use Rattle.freeze_frames.proofs.Standing.{Stands, closing_stand, stand_after_closing, LevelsHold, left_world}
 use Rattle.freeze_frames.proofs.StandRoles.{count_at, sync_at, SayBeside, beside_each, is_of_level, counts_left, counts_become, levels_move}
 

@@ -23,7 +23,8 @@ use Rattle.gate_world.specs.Levels.{at_level, level_role_of, inside, is_frozen_w
 use Rattle.gate_world.specs.Rules.{IsGood, Holds, AtLevel, SyncAt, Sections}
 use Rattle.gate_world.specs.declared.work.Phase.{Phase}
 use Rattle.gate_frames.proofs.Frames.{left_alone, level_as, level_view_as, SameLevelWords, SameLevelCounts}
-use Rattle.level_frames.proofs.LevelWorlds.{level_in, IsOfLevel, IsEventAt, sync_there, sync_elsewhere, sections_stay}
+use Rattle.gate_world.specs.LevelRuns.{level_in}
+use Rattle.level_frames.proofs.LevelWorlds.{IsOfLevel, IsEventAt, sync_there, sync_elsewhere, sections_stay}
 use Rattle.freeze_frames.proofs.Standing.{LevelsHold, left_world, closing_stand, still_closed, Stands, opening_stand}
 
 -- at its own level

@@ -31,7 +31,8 @@ use Rattle.gate_world.specs.Worlds.{World}
 use Rattle.gate_world.specs.Levels.{Stand, stand_count, stand_sync, is_frozen_whole}
 use Rattle.gate_world.specs.Rules.{IsGood, Holds, AtLevel}
 use Rattle.gate_frames.proofs.Frames.{SameLevelCounts}
-use Rattle.level_frames.proofs.LevelWorlds.{level_in, found_level, IsEventAt}
+use Rattle.gate_world.specs.LevelRuns.{level_in}
+use Rattle.level_frames.proofs.LevelWorlds.{found_level, IsEventAt}
 use Rattle.freeze_frames.proofs.Standing.{Stands, opening_stand, stand_after_opening, LevelsHold, left_world}
 use Rattle.freeze_frames.proofs.StandRoles.{count_at, sync_at, still_count, still_sync, SayBeside, beside_each, beside_still, is_of_level, counts_left, counts_become, levels_move}
 

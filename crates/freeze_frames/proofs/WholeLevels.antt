@@ -15,7 +15,8 @@ use Rattle.gate_world.specs.Worlds.{World}
 use Rattle.gate_world.specs.Levels.{closed_to, inside, is_frozen_whole, sync_role_of}
 use Rattle.gate_world.specs.Rules.{IsGood, AtLevel}
 use Rattle.gate_frames.proofs.Frames.{SameLevelCounts}
-use Rattle.level_frames.proofs.LevelWorlds.{level_in, level_moves, sync_steps}
+use Rattle.gate_world.specs.LevelRuns.{level_in}
+use Rattle.level_frames.proofs.LevelWorlds.{level_moves, sync_steps}
 use Rattle.freeze_frames.proofs.Standing.{Stands, LevelsHold, left_world}
 use Rattle.freeze_frames.proofs.StandRoles.{count_closed, sync_closed, counts_become, sections_left}
 

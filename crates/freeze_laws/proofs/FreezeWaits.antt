@@ -50,7 +50,8 @@ use Rattle.level_laws.specs.Events.{SyncLevelHolds}
 use Rattle.level_laws.specs.Operations.{down_write_role}
 use Rattle.level_laws.specs.Roles.{Entered, entered, entering, closed}
 use Rattle.level_laws.proofs.Whole.{writers_find}
-use Rattle.level_frames.proofs.LevelWorlds.{level_in, level_right}
+use Rattle.gate_world.specs.LevelRuns.{level_in}
+use Rattle.level_frames.proofs.LevelWorlds.{level_right}
 use Rattle.gate_world.specs.Fits.{DownWriteStepFits, FreezeFits}
 use Rattle.gate_world.specs.KeptCauses.{DownWriteCause, FreezeCause}
 use Rattle.gate_world.specs.Levels.{inside, sync_role_of}

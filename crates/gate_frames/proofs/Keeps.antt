@@ -34,6 +34,8 @@ use Rattle.stage_laws.specs.Roles.{Aside}
 use Rattle.gate_counts.specs.Levels.{Out as CountsNot}
 use Rattle.level_laws.specs.Roles.{Out as IsApart}
 use Rattle.gate_world.specs.Levels.{inside, level_role_of, sync_role_of}
+use Rattle.gate_world.specs.LevelRuns.{level_in}
+use Rattle.level_laws.specs.Events.{SyncStep}
 
 pub by_bool : (b : Bool) (P : Bool → Type 0) → P true → P false → P b
 by_bool true P x y = x
@@ -71,6 +73,9 @@ pub record PhaseKeeps (c : Config) (phase : Phase) : Type 0 where
   -- its event keeps the rule, and moves the shown model by its action
   pub step : IsWithin c → (w : World) → IsGood c w → (t : ℕ) → t < c.tasks → (hook : HookAnswer) → (w.views t).phase ≡ Some phase →
       StepKeeps c w t hook phase
+  -- its event is one of each level's
+  pub runs : IsWithin c → (w : World) → IsGood c w → (t : ℕ) → t < c.tasks → (hook : HookAnswer) → (w.views t).phase ≡ Some phase →
+      (i : ℕ) → 1 ≤ i → i ≤ 3 → SyncStep c.tasks (level_in w i) (level_in (after_step w t phase hook) i)
   -- a snapshot that its event completes is of the present tree
   pub completes : IsWithin c → (w : World) → IsGood c w → (t : ℕ) → t < c.tasks → (hook : HookAnswer) → (w.views t).phase ≡ Some phase →
       CompletesNow c w t hook phase

@@ -11,3 +11,4 @@ pub mod Accesses
 pub mod Places
 pub mod Hooks
 pub mod Stages
+pub mod LevelSteps

@@ -19,6 +19,7 @@ pub mod Alike
 pub mod Courses
 pub mod Traces
 pub mod Headline
+pub mod LevelRuns
 pub mod Causes
 pub mod Waits
 pub mod KeptCauses

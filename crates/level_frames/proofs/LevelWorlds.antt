@@ -26,21 +26,11 @@ use Rattle.gate_world.specs.declared.views.View.{View}
 use Rattle.gate_world.specs.declared.work.Phase.{Phase}
 use Rattle.gate_world.specs.declared.work.Phase.TheVariants.{Mounts, Remounts, DownReads, UpReads, Callbacks, Writes, Freezes, Thaws}
 use Rattle.gate_world.specs.Worlds.{World}
+use Rattle.gate_world.specs.LevelRuns.{level_in}
 use Rattle.gate_world.specs.Levels.{sync_role_if, sync_role_of, inside, is_frozen_whole, freeze_stand, thaw_stand}
 use Rattle.gate_world.specs.Shown.{shown, closing, is_passed, stage_roles}
 use Rattle.gate_world.specs.Rules.{IsGood, SameWords, SyncAt, Sections, Holds}
 use Rattle.gate_frames.proofs.Frames.{left_alone}
-
--- one level of a world
-abbrev pub level_in : World → ℕ → SyncLevel
-level_in w i = record {
-  sync = w.words.sync i;
-  block = w.words.block i;
-  full = is_frozen_whole w.words;
-  section = w.words.section;
-  inside = λ x. inside (w.views x).phase;
-  at = λ x. sync_role_of i (w.views x).phase;
-}
 
 -- a down-read on the fast path is inside its section
 read_fast : (b : Bool) (s : DownReadStep) → fast (sync_role_if b (down_read_role s)) ≤ down_read_inside s

@@ -41,7 +41,8 @@ use Rattle.gate_world.specs.Levels.{sync_role_if, sync_role_of, inside, level_ad
 use Rattle.gate_world.specs.Rules.{IsGood, StepKeeps, Moves, AtLevel, SyncAt, Fitting, Holds, ViewFits}
 use Rattle.gate_counts.specs.Levels.{Out as CountsNot}
 use Rattle.gate_frames.proofs.Frames.{left_alone, level_view_as}
-use Rattle.level_frames.proofs.LevelWorlds.{level_in, sync_on, sync_off, IsOfLevel, IsEventAt, found_level, level_there, sync_elsewhere}
+use Rattle.gate_world.specs.LevelRuns.{level_in}
+use Rattle.level_frames.proofs.LevelWorlds.{sync_on, sync_off, IsOfLevel, IsEventAt, found_level, level_there, sync_elsewhere}
 use Rattle.read_laws.proofs.LevelParts.{IsBeside, IsAtLevels, SameAtMounts, whole_same, level_parts, level_still}
 
 -- each event of a callback is one of its level that changes no section word

@@ -26,7 +26,8 @@ use Rattle.gate_world.specs.Views.{view_after, phase_after}
 use Rattle.gate_world.specs.Worlds.{World, after_step}
 use Rattle.gate_world.specs.Levels.{sync_role_if, sync_role_of, inside}
 use Rattle.gate_world.specs.Rules.{IsGood, SyncAt, Sections, Holds}
-use Rattle.level_frames.proofs.LevelWorlds.{level_in, sync_on, sync_off, IsOfLevel, IsEventAt, found_level, level_there, turned_words, sync_turned, sections_turned, sync_elsewhere}
+use Rattle.gate_world.specs.LevelRuns.{level_in}
+use Rattle.level_frames.proofs.LevelWorlds.{sync_on, sync_off, IsOfLevel, IsEventAt, found_level, level_there, turned_words, sync_turned, sections_turned, sync_elsewhere}
 
 -- what the rule says of the rcu_sync of each level, and of the sections
 abbrev pub LevelsHold : Config → World → Type 0
