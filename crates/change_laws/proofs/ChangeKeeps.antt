@@ -12,6 +12,7 @@ use Rattle.gate_world.specs.Fits.{Fits}
 use Rattle.gate_frames.proofs.Keeps.{by_bool, none_agree, word_among, PhaseKeeps, IsSmall, OpKeeps}
 use Rattle.gate_frames.proofs.Loads.{role_none}
 use Rattle.gate_frames.proofs.MountEvents.{mounts_quiet}
+use Rattle.gate_frames.proofs.MountRuns.{mounts_run}
 use Rattle.gate_frames.proofs.Snapshots.{completes_none}
 use Rattle.gate_world.specs.declared.operations.Op.TheVariants.{ChangeMount}
 use Rattle.gate_world.specs.Traces.{most_events}
@@ -29,6 +30,7 @@ use Rattle.gate_world.specs.Rules.{Fitting}
 pub change_phase : (c : Config) (x : Change) → PhaseKeeps c (Mounts (Changes x))
 change_phase c x = record {
   step = λ lim w good t lt hook e. change_keeps c lim w good t lt hook x.mount x.read_only x.wait x.task x.processors x.step e;
+  runs = λ lim w good t lt hook e i l1 l3. mounts_run c.tasks w t lt hook (Changes x) e i;
   completes = λ lim w good t lt hook e. completes_none c w t hook (Mounts (Changes x)) (λ trace found. refl);
   word = λ lim n le t lt held levels hook f. word_among c n le _ (change_there c lim t held levels x x.step f.0 f.4);
   acts = λ lim t held levels found hook f. change_acts c lim t held levels x x.step found;

@@ -12,3 +12,4 @@ pub mod Places
 pub mod Hooks
 pub mod Stages
 pub mod LevelSteps
+pub mod MountRuns

@@ -6,4 +6,5 @@ pub mod RemountEvents
 pub mod RemountTraces
 pub mod RemountCauses
 pub mod RemountWaits
+pub mod RemountRuns
 pub mod RemountKeeps

@@ -60,7 +60,7 @@ use Rattle.access_model.specs.States.{IsFile}
 use Rattle.gate_world.specs.Levels.{is_frozen_whole}
 
 -- at stage 0 the file system isn't frozen, whatever the superblock's flags are
-not_frozen : (w : Words) (set sealing : ℕ) → w.stage ≡ 0 → is_frozen_whole (record w { remount = set; sb = sealing }) ≡ is_frozen_whole w
+pub not_frozen : (w : Words) (set sealing : ℕ) → w.stage ≡ 0 → is_frozen_whole (record w { remount = set; sb = sealing }) ≡ is_frozen_whole w
 not_frozen w set sealing z = rw (ne_eqb w.stage 4 (λ q. omega (arith, z, q))) refl
 
 -- the mark's bit of a word is its mark

@@ -16,6 +16,7 @@ use Rattle.gate_frames.proofs.Keeps.{none_agree, word_among, PhaseKeeps, OpKeeps
 use Rattle.gate_frames.proofs.Snapshots.{completes_none}
 use Rattle.trace_laws.proofs.Says.{tells, is_short}
 use Rattle.remount_laws.proofs.RemountEvents.{remount_keeps}
+use Rattle.remount_laws.proofs.RemountRuns.{remount_runs}
 use Rattle.remount_laws.proofs.RemountFits.{remount_there, remount_acts, remount_goes}
 use Rattle.remount_laws.proofs.RemountCauses.{remount_counts, remount_levels, remount_stays, remount_own}
 use Rattle.remount_laws.proofs.RemountWaits.{remount_waits}
@@ -25,6 +26,7 @@ use Rattle.remount_laws.proofs.RemountTraces.{RemountAt, remount_kept, remount_r
 pub remount_phase : (c : Config) (x : Remount) → PhaseKeeps c (Remounts x)
 remount_phase c x = record {
   step = λ lim w good t lt hook e. remount_keeps c lim w good t lt hook x e;
+  runs = λ lim w good t lt hook e i l1 l3. remount_runs c w good t lt hook x e i;
   completes = λ lim w good t lt hook e. completes_none c w t hook (Remounts x) (λ trace found. refl);
   word = λ lim n le t lt held levels hook f. word_among c n le _ (remount_there c lim t held levels x x.step hook f.5);
   acts = λ lim t held levels found hook f. remount_acts c lim t held levels x x.step found hook;

@@ -12,6 +12,7 @@ use Rattle.gate_world.specs.Fits.{Fits}
 use Rattle.gate_frames.proofs.Keeps.{by_bool, PhaseKeeps, IsSmall, OpKeeps, word_among}
 use Rattle.gate_frames.proofs.Loads.{role_none}
 use Rattle.gate_frames.proofs.MountEvents.{mounts_quiet}
+use Rattle.gate_frames.proofs.MountRuns.{mounts_run}
 use Rattle.gate_frames.proofs.Snapshots.{completes_none}
 use Rattle.gate_world.specs.declared.operations.Op.TheVariants.{Want as WantOp, DropMount}
 use Rattle.gate_world.specs.Traces.{most_events}
@@ -40,6 +41,7 @@ both false b e = absurd (cc)
 pub want_phase : (c : Config) (x : Want) → PhaseKeeps c (Mounts (Wants x))
 want_phase c x = record {
   step = λ lim w good t lt hook e. want_keeps c lim w good t lt hook x.mount x.cpu x.wait x.step e;
+  runs = λ lim w good t lt hook e i l1 l3. mounts_run c.tasks w t lt hook (Wants x) e i;
   completes = λ lim w good t lt hook e. completes_none c w t hook (Mounts (Wants x)) (λ trace found. refl);
   word = λ lim n le t lt held levels hook f. word_among c n le _ (want_there c lim t held levels x x.step f.0 f.1);
   acts = λ lim t held levels found hook f. want_acts c lim t held levels x x.step found (omega (arith, f.0, lim.mounts)) f.2;
@@ -68,6 +70,7 @@ want_phase c x = record {
 pub drop_phase : (c : Config) (m p : ℕ) → PhaseKeeps c (Mounts (Drops m p))
 drop_phase c m p = record {
   step = λ lim w good t lt hook e. drop_keeps c lim w good t lt hook m p e;
+  runs = λ lim w good t lt hook e i l1 l3. mounts_run c.tasks w t lt hook (Drops m p) e i;
   completes = λ lim w good t lt hook e. completes_none c w t hook (Mounts (Drops m p)) (λ trace found. refl);
   word = λ lim n le t lt held levels hook f. (f.0, f.1);
   acts = λ lim t held levels found hook f. (omega (arith, f.0, lim.mounts), f.2);
