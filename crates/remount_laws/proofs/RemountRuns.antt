@@ -12,7 +12,7 @@ use Rattle.level_laws.specs.Roles.{Out as IsApart}
 use Rattle.mount_counts.specs.Remounts.{at_remount, remount_after}
 use Rattle.mount_counts.specs.declared.remounts.Remount.{Remount}
 use Rattle.mount_counts.specs.declared.remounts.RemountStep.{RemountStep}
-use Rattle.mount_counts.specs.declared.remounts.RemountStep.TheVariants.{Locks, SetsWritable, SetsReadOnly}
+use Rattle.mount_counts.specs.declared.remounts.RemountStep.TheVariants.{SetsWritable, SetsReadOnly}
 use Rattle.gate_world.specs.LevelRuns.{level_in}
 use Rattle.gate_world.specs.Levels.{inside, sync_role_of}
 use Rattle.gate_world.specs.Rules.{IsGood, SameWords, SyncAt}
