@@ -30,7 +30,8 @@ use Rattle.gate_frames.proofs.LevelSteps.{level_kept, level_stays}
 -- an event that leaves what a level reads of the words, of a task that has no part in the level and is inside no section, before it and
 -- after it, is one at which the level stays
 pub apart_run : (tasks : ℕ) (w : World) (t : ℕ) → t < tasks → (hook : HookAnswer) (phase : Phase) → (w.views t).phase ≡ Some phase →
-    (i : ℕ) → SameWords w.words (words_after w.words phase hook) (SyncAt i) → inside (Some phase) ≡ 0 → sync_role_of i (Some phase) ≡ IsApart →
+    (i : ℕ) → SameWords w.words (words_after w.words phase hook) (SyncAt i) → inside (Some phase) ≡ 0 →
+    sync_role_of i (Some phase) ≡ IsApart →
     inside (phase_after (after_of phase (found_at w.words phase hook) hook).0) ≡ 0 →
     sync_role_of i (phase_after (after_of phase (found_at w.words phase hook) hook).0) ≡ IsApart →
     SyncStep tasks (level_in w i) (level_in (after_step w t phase hook) i)
