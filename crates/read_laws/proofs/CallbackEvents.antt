@@ -46,7 +46,7 @@ use Rattle.level_frames.proofs.LevelWorlds.{sync_on, sync_off, IsOfLevel, IsEven
 use Rattle.read_laws.proofs.LevelParts.{IsBeside, IsAtLevels, SameAtMounts, whole_same, level_parts, level_still}
 
 -- each event of a callback is one of its level that changes no section word
-event_of_level : (b : Callback) (s : CallbackStep) → IsEventAt b.level (callback_next b s).0 (callback_next b s).1
+pub event_of_level : (b : Callback) (s : CallbackStep) → IsEventAt b.level (callback_next b s).0 (callback_next b s).1
 event_of_level b (Claims Loads) = refl
 event_of_level b (Claims (Exchanges from to)) = refl
 event_of_level b (AwaitsSections g) = tt
@@ -54,7 +54,7 @@ event_of_level b (CallsBack Loads) = refl
 event_of_level b (CallsBack (Exchanges from to)) = refl
 
 -- so it is on a word of the level
-word_of_level : (b : Callback) (s : CallbackStep) → IsOfLevel b.level (callback_next b s).0
+pub word_of_level : (b : Callback) (s : CallbackStep) → IsOfLevel b.level (callback_next b s).0
 word_of_level b (Claims Loads) = refl
 word_of_level b (Claims (Exchanges from to)) = refl
 word_of_level b (AwaitsSections g) = tt
@@ -251,11 +251,11 @@ next_fits c t level tasks held levels one three all (Done answer) stays knows = 
 module _ (c : Config) (w : World) (good : IsGood c w) (t : ℕ) (lt : t < c.tasks) (hook : HookAnswer) (b : Callback) (s : CallbackStep)
     (e : (w.views t).phase ≡ Some (Callbacks (at_callback b s))) where
   -- the word of its event
-  abbrev name : WordName
+  abbrev pub name : WordName
   name = (callback_next b s).0
 
   -- and how it touches it
-  abbrev touch : Touch
+  abbrev pub touch : Touch
   touch = (callback_next b s).1
 
   -- what comes after it
@@ -263,7 +263,7 @@ module _ (c : Config) (w : World) (good : IsGood c w) (t : ℕ) (lt : t < c.task
   coming = (callback_after b s (found_by touch (read w.words name))).0
 
   -- its view then
-  abbrev seen_after : View
+  abbrev pub seen_after : View
   seen_after = view_after (w.views t) (Callbacks (at_callback b s)) (read w.words name) hook
 
   -- the words
@@ -303,16 +303,22 @@ module _ (c : Config) (w : World) (good : IsGood c w) (t : ℕ) (lt : t < c.task
       subst (λ value. HoldsOfNext (λ (x : Callback). (x.tasks ≡ b.tasks) × KnowsCallback x.step)
       (callback_after b s (found_by touch value)).0) found is_there.1
 
-  -- the event leaves what holds at its level
-  own_level : SyncLevelHolds c.tasks (level_in then_world b.level)
-  own_level =
+  -- it is inside no section before its event and after it
+  pub stays_outside : inside seen_after.phase ≡ inside (w.views t).phase
+  stays_outside = after_outside coming ∙ sym (ap inside e)
+
+  -- the event is one of its level
+  pub steps_there : SyncStep c.tasks (level_in w b.level)
+      (record (left_by (level_in w b.level) t (name, touch) (read w.words name) (sync_role_of b.level seen_after.phase)) {
+        inside = update (level_in w b.level).inside t (inside seen_after.phase);
+      })
+  steps_there =
       let i : ℕ = b.level in
       let n : ℕ = left touch (read w.words name) in
       let out : update (level_in w i).inside t (inside seen_after.phase) ≡ (put_at (level_in w i) name n).inside =
-      ap (update (level_in w i).inside t) (after_outside coming ∙ sym (ap inside e)) ∙
+      ap (update (level_in w i).inside t) stays_outside ∙
       (update_same (level_in w i).inside t ∙ sym (inside_same (level_in w i) b s n)) in
-      level_there c w good t lt i name touch (word_of_level b s) seen_after here_fits.0 here_fits.1
-      (subst (λ k. SyncStep c.tasks (level_in w i) (record (left_by (level_in w i) t (name, touch) (read w.words name)
+      subst (λ k. SyncStep c.tasks (level_in w i) (record (left_by (level_in w i) t (name, touch) (read w.words name)
       (sync_role_of i seen_after.phase)) { inside = k })) (sym out)
       (subst (λ k. SyncStep c.tasks (level_in w i) (left_by (level_in w i) t (name, touch) (read w.words name) k))
       (role_next i b.tasks coming stays)
@@ -320,7 +326,17 @@ module _ (c : Config) (w : World) (good : IsGood c w) (t : ℕ) (lt : t < c.task
       (by_next (λ (x : Callback). callback_role x.step) IsApart (callback_after b s (found_by touch value)).0))) found
       (subst (λ k. SyncStep k (level_in w i) (left_by (level_in w i) t (name, touch) (value_at (level_in w i) (read w.words name) name)
       (by_next (λ (x : Callback). callback_role x.step) IsApart
-      (callback_after b s (found_by touch (value_at (level_in w i) (read w.words name) name))).0))) here_fits.2 is_there.0))))
+      (callback_after b s (found_by touch (value_at (level_in w i) (read w.words name) name))).0))) here_fits.2 is_there.0)))
+
+  -- so it leaves what holds at its level
+  own_level : SyncLevelHolds c.tasks (level_in then_world b.level)
+  own_level =
+      level_there c w good t lt b.level name touch (word_of_level b s) seen_after here_fits.0 here_fits.1 steps_there
+
+  -- its task's role at the other levels stays
+  pub stays_apart : (i : ℕ) → (i ≡ b.level → ⊥) → sync_role_of i seen_after.phase ≡ sync_role_of i (w.views t).phase
+  stays_apart i ne =
+      role_elsewhere b.level i b.tasks ne coming stays ∙ sym (ap (sync_role_of i) e ∙ sync_off i b.level (callback_role s) ne)
 
   -- and the other levels
   syncs : (i : ℕ) → Holds c then_world (SyncAt i)
@@ -328,9 +344,7 @@ module _ (c : Config) (w : World) (good : IsGood c w) (t : ℕ) (lt : t < c.task
       elim (eqb_tells i b.level) [
         | inl q ↦ subst (λ k. Holds c then_world (SyncAt k)) (sym q.1) (λ one three. own_level.level)
         | inr q ↦
-            sync_elsewhere c w good t lt b.level name touch (event_of_level b s) seen_after i q.1
-            (role_elsewhere b.level i b.tasks q.1 coming stays ∙
-            sym (ap (sync_role_of i) e ∙ sync_off i b.level (callback_role s) q.1))
+            sync_elsewhere c w good t lt b.level name touch (event_of_level b s) seen_after i q.1 (stays_apart i q.1)
       ]
 
   -- it adds no action, so the task holds what it held

@@ -27,6 +27,7 @@ use Rattle.trace_laws.proofs.Says.{tells, is_short}
 use Rattle.read_laws.proofs.ReadFits.{level_there, callback_there, callback_goes, callback_acts_none}
 use Rattle.read_laws.proofs.CallbackEvents.{callback_keeps}
 use Rattle.read_laws.proofs.ReadWaits.{callback_waits}
+use Rattle.read_laws.proofs.ReadRuns.{callback_runs}
 use Rattle.read_laws.proofs.CallbackTraces.{CallbackAt, callback_kept}
 
 -- no event of a callback touches a mount's count
@@ -58,6 +59,7 @@ callback_cause c t w earlier (Done answer) = tt
 pub callback_phase : (c : Config) (b : Callback) → PhaseKeeps c (Callbacks b)
 callback_phase c b = record {
   step = λ within w good t lt hook e. callback_keeps c within w good t lt hook b e;
+  runs = λ within w good t lt hook e i one three. callback_runs c w good t lt hook b e i;
   completes = λ within w good t lt hook e. completes_none c w t hook (Callbacks b) (λ trace found. refl);
   word = λ within n le t lt held levels hook f. word_among c n le _ (callback_there c b b.step f.0 f.1 f.3);
   acts = λ within t held levels found hook f.

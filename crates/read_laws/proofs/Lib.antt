@@ -10,5 +10,6 @@ pub mod ReadFits
 pub mod CallbackTraces
 pub mod ReadCauses
 pub mod ReadWaits
+pub mod ReadRuns
 pub mod ReadKeeps
 pub mod CallbackKeeps

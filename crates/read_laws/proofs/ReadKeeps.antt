@@ -30,6 +30,7 @@ use Rattle.read_laws.proofs.ReadEvents.{read_keeps}
 use Rattle.read_laws.proofs.ReadFits.{both_true, level_there, none_from_agree, read_step_agrees, read_there, read_acts, read_goes, read_fits}
 use Rattle.read_laws.proofs.ReadCauses.{read_not_closed, read_stays, read_own, asks_next, next_cause, read_tells}
 use Rattle.read_laws.proofs.ReadWaits.{read_waits, start_waits}
+use Rattle.read_laws.proofs.ReadRuns.{read_runs, end_runs}
 use Rattle.read_laws.proofs.ReadTraces.{StartAt, EndAt, start_kept, end_kept}
 
 -- no event of a down-read touches a mount's count
@@ -42,6 +43,7 @@ read_counts w t hook r s = refl
 pub read_phase : (c : Config) (r : DownRead) → PhaseKeeps c (DownReads r)
 read_phase c r = record {
   step = λ within w good t lt hook e. read_keeps c within w good t lt hook r e;
+  runs = λ within w good t lt hook e i one three. read_runs c w good t lt hook r e i;
   completes = λ within w good t lt hook e. completes_none c w t hook (DownReads r) (λ trace found. refl);
   word = λ within n le t lt held levels hook f. read_there (record c { tasks = n }) t lt r r.step f.0 f.1 f.2 f.3;
   acts = λ within t held levels found hook f. read_acts held r r.step found f.0 f.1;
@@ -72,6 +74,7 @@ read_phase c r = record {
 pub end_phase : (c : Config) (u : UpRead) → PhaseKeeps c (UpReads u)
 end_phase c u = record {
   step = λ within w good t lt hook e. end_keeps c within w good t lt hook u e;
+  runs = λ within w good t lt hook e i one three. end_runs c w t lt hook u e i;
   completes = λ within w good t lt hook e. completes_none c w t hook (UpReads u) (λ trace found. refl);
   word = λ within n le t lt held levels hook f. (f.0, f.1, f.2);
   acts = λ within t held levels found hook f. (f.0, f.1);

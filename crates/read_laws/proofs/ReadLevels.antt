@@ -65,21 +65,21 @@ role_next i (Wait x) h = sym (ap (λ k. sync_role_if (i == k) (down_read_role x.
 role_next i (Done answer) h = refl
 
 -- at another level there is none
-role_elsewhere : (i j : ℕ) → (j ≡ i → ⊥) → (n : Next DownRead) → HoldsOfNext (λ (x : DownRead). x.level ≡ i) n →
+pub role_elsewhere : (i j : ℕ) → (j ≡ i → ⊥) → (n : Next DownRead) → HoldsOfNext (λ (x : DownRead). x.level ≡ i) n →
     sync_role_of j (phase_after (map_next DownReads n)) ≡ IsApart
 role_elsewhere i j ne (Go x) h = sync_off j x.level (down_read_role x.step) (λ q. ne (q ∙ h))
 role_elsewhere i j ne (Wait x) h = sync_off j x.level (down_read_role x.step) (λ q. ne (q ∙ h))
 role_elsewhere i j ne (Done answer) h = refl
 
 -- and whether it is inside a section is what its step says
-inside_next : (n : Next DownRead) →
+pub inside_next : (n : Next DownRead) →
     by_next (λ (x : DownRead). down_read_inside x.step) 0 n ≡ inside (phase_after (map_next DownReads n))
 inside_next (Go x) = refl
 inside_next (Wait x) = refl
 inside_next (Done answer) = refl
 
 -- each event of a down-read is of a word of its level
-word_of_level : (r : DownRead) (s : DownReadStep) → IsOfLevel r.level (down_read_next r s).0
+pub word_of_level : (r : DownRead) (s : DownReadStep) → IsOfLevel r.level (down_read_next r s).0
 word_of_level r EntersSection = tt
 word_of_level r LoadsSync = refl
 word_of_level r CountsUpFast = refl
@@ -90,23 +90,23 @@ word_of_level r LeavesAdmitted = tt
 word_of_level r LeavesBlocked = tt
 
 -- a blocked down-read is apart from every rcu_sync
-blocked_apart : (r : DownRead) (b : Bool) (i : ℕ) → sync_role_of i (phase_after (map_next DownReads (left_blocked r b))) ≡ IsApart
+pub blocked_apart : (r : DownRead) (b : Bool) (i : ℕ) → sync_role_of i (phase_after (map_next DownReads (left_blocked r b))) ≡ IsApart
 blocked_apart r true i = apart_if (i == r.level)
 blocked_apart r false i = refl
 
 -- and outside its section
-blocked_outside : (r : DownRead) (b : Bool) → inside (phase_after (map_next DownReads (left_blocked r b))) ≡ 0
+pub blocked_outside : (r : DownRead) (b : Bool) → inside (phase_after (map_next DownReads (left_blocked r b))) ≡ 0
 blocked_outside r true = refl
 blocked_outside r false = refl
 
 module _ (c : Config) (w : World) (good : IsGood c w) (hook : HookAnswer) (r : DownRead) (lt : r.task < c.tasks) (one : 1 ≤ r.level)
     (three : r.level ≤ 3) (s : DownReadStep) (e : (w.views r.task).phase ≡ Some (DownReads (at_down_read r s))) where
   -- the world after its event
-  abbrev after_event : World
+  abbrev pub after_event : World
   after_event = after_step w r.task (DownReads (at_down_read r s)) hook
 
   -- and its view there
-  abbrev seen_after : View
+  abbrev pub seen_after : View
   seen_after = view_after (w.views r.task) (DownReads (at_down_read r s)) (read w.words (down_read_next r s).0) hook
 
   -- its role before the event
@@ -114,7 +114,7 @@ module _ (c : Config) (w : World) (good : IsGood c w) (hook : HookAnswer) (r : D
   role_now = ap (sync_role_of r.level) e ∙ sync_on r.level (down_read_role s)
 
   -- the event is one of its level
-  steps_there : SyncStep c.tasks (level_in w r.level)
+  pub steps_there : SyncStep c.tasks (level_in w r.level)
       (record (left_by (level_in w r.level) r.task (down_read_next r s) (read w.words (down_read_next r s).0)
       (sync_role_of r.level seen_after.phase)) { inside = update (level_in w r.level).inside r.task (inside seen_after.phase) })
   steps_there =

@@ -1,5 +1,5 @@
 -- All that is proved of a taking and of a return of write access, each from what is proved of its gates.
-use Rattle.std.proofs.Common.{◌≡◌, ℕ, ◌<◌, Bool, true, false, arith, ap, sym, ◌∙◌, refl, subst, true≢false}
+use Rattle.std.proofs.Common.{◌≡◌, ℕ, ◌<◌, ◌≤◌, Bool, true, false, arith, ap, sym, ◌∙◌, refl, subst, true≢false}
 use Rattle.std.specs.Prelude.{nat_lt, not, Some, Ok, Err, ◌==◌, ◌&&◌, ◌∷◌}
 use Rattle.std.proofs.lemmas.Bool.{ltb-true}
 use Rattle.finite_sums.specs.Sums.{update}
@@ -14,6 +14,7 @@ use Rattle.access_model.specs.Replies.{map_next}
 use Rattle.cpu_words.specs.Hooks.{HookAnswer}
 use Rattle.gate_counts.specs.Levels.{Out as CountsNot}
 use Rattle.level_laws.specs.Roles.{Out as IsApart, closed}
+use Rattle.level_laws.specs.Events.{SyncStep}
 use Rattle.mount_counts.specs.declared.phases.MountPhase.TheVariants.{Want as PlainWant}
 use Rattle.mount_counts.specs.declared.phases.Want.{Want}
 use Rattle.mount_counts.specs.declared.phases.WantStep.TheVariants.{CountsDown}
@@ -32,6 +33,7 @@ use Rattle.gate_world.specs.Fits.{WriteFits, Fits, mounts_by, levels_by}
 use Rattle.gate_world.specs.Causes.{asks, asks_level}
 use Rattle.gate_world.specs.KeptCauses.{WantCause}
 use Rattle.gate_world.specs.Levels.{sync_role_of, sync_role_if, count_role_if}
+use Rattle.gate_world.specs.LevelRuns.{level_in}
 use Rattle.gate_world.specs.Worlds.{World, after_step, found_at}
 use Rattle.gate_world.specs.Rules.{IsGood, StepKeeps, role_of}
 use Rattle.gate_frames.proofs.Frames.{role_on}
@@ -49,7 +51,7 @@ use Rattle.want_laws.proofs.WantCauses.{want_kept, want_own}
 use Rattle.want_laws.proofs.WantWaits.{want_waits}
 use Rattle.want_laws.proofs.WantKeeps.{both, want_phase, drop_phase}
 use Rattle.write_laws.proofs.Alikes.{alike_takes, alike_wants, alike_ends, alike_none, takes_goes, wants_goes}
-use Rattle.write_laws.proofs.WriteSteps.{write_fits_now, write_step, write_quiet, write_level_quiet, first_world}
+use Rattle.write_laws.proofs.WriteSteps.{write_fits_now, write_step, write_quiet, write_level_quiet, write_runs, first_world}
 use Rattle.write_laws.proofs.WriteCauses.{takes_asks, takes_cause, takes_waits, wants_asked, wants_cause, wants_waits}
 use Rattle.write_laws.proofs.WriteTraces.{WriteAt, DropAt, write_kept, drop_kept}
 
@@ -108,10 +110,34 @@ write_keeps c lim w good t lt hook (Ends p) e =
     (λ g at. (end_phase c (leaves_on p)).step lim (first_world c w good t lt hook (Ends p) e) g t lt hook at)
     (Done (Ok UnitReply)) alike_none tt
 
+-- each event is one of each level's kinds of event, as its gate's is
+write_phase_runs : (c : Config) → IsWithin c → (w : World) → IsGood c w → (t : ℕ) → t < c.tasks → (hook : HookAnswer) → (x : WritePhase) →
+    (w.views t).phase ≡ Some (Writes x) → (i : ℕ) → 1 ≤ i → i ≤ 3 →
+    SyncStep c.tasks (level_in w i) (level_in (after_step w t (Writes x) hook) i)
+write_phase_runs c lim w good t lt hook (Takes m r) e i one three =
+    let n : Next DownRead = (down_read_after r r.step (found_at w.words (DownReads r) hook)).0 in
+    write_runs c w good t lt hook (Takes m r) e (map_next Writes (then_wants m r.cpu n)) (alike_takes m r.cpu n) i
+    (λ g at. (read_phase c r).runs lim (first_world c w good t lt hook (Takes m r) e) g t lt hook at i one three)
+write_phase_runs c lim w good t lt hook (Wants x) e i one three =
+    let n : Next Want = (want_after x x.step (found_at w.words (Mounts (PlainWant x)) hook)).0 in
+    write_runs c w good t lt hook (Wants x) e (map_next Writes (then_gives_back x.mount x.cpu n)) (alike_wants x.mount x.cpu n) i
+    (λ g at. (want_phase c x).runs lim (first_world c w good t lt hook (Wants x) e) g t lt hook at i one three)
+write_phase_runs c lim w good t lt hook (GivesBack m p refusal) e i one three =
+    write_runs c w good t lt hook (GivesBack m p refusal) e (Done (Err refusal)) alike_none i
+    (λ g at.
+    (end_phase c (leaves_on p)).runs lim (first_world c w good t lt hook (GivesBack m p refusal) e) g t lt hook at i one three)
+write_phase_runs c lim w good t lt hook (Drops m p) e i one three =
+    write_runs c w good t lt hook (Drops m p) e (Go (Writes (Ends p))) (alike_ends p) i
+    (λ g at. (drop_phase c m p).runs lim (first_world c w good t lt hook (Drops m p) e) g t lt hook at i one three)
+write_phase_runs c lim w good t lt hook (Ends p) e i one three =
+    write_runs c w good t lt hook (Ends p) e (Done (Ok UnitReply)) alike_none i
+    (λ g at. (end_phase c (leaves_on p)).runs lim (first_world c w good t lt hook (Ends p) e) g t lt hook at i one three)
+
 -- what is proved of a phase at level 1
 takes_phase : (c : Config) (m : ℕ) (r : DownRead) → PhaseKeeps c (Writes (Takes m r))
 takes_phase c m r = record {
   step = λ lim w good t lt hook e. write_keeps c lim w good t lt hook (Takes m r) e;
+  runs = λ lim w good t lt hook e i one three. write_phase_runs c lim w good t lt hook (Takes m r) e i one three;
   completes = λ lim w good t lt hook e. completes_none c w t hook (Writes (Takes m r)) (λ trace found. refl);
   word = λ lim n le t lt held levels hook f. (read_phase c r).word lim n le t lt held levels hook f.0;
   acts = λ lim t held levels found hook f. (read_phase c r).acts lim t held levels found hook f.0;
@@ -143,6 +169,7 @@ takes_phase c m r = record {
 wants_phase : (c : Config) (x : Want) → PhaseKeeps c (Writes (Wants x))
 wants_phase c x = record {
   step = λ lim w good t lt hook e. write_keeps c lim w good t lt hook (Wants x) e;
+  runs = λ lim w good t lt hook e i one three. write_phase_runs c lim w good t lt hook (Wants x) e i one three;
   completes = λ lim w good t lt hook e. completes_none c w t hook (Writes (Wants x)) (λ trace found. refl);
   word = λ lim n le t lt held levels hook f. (want_phase c x).word lim n le t lt held levels hook f.0;
   acts = λ lim t held levels found hook f. (want_phase c x).acts lim t held levels found hook f.0;
@@ -175,6 +202,7 @@ wants_phase c x = record {
 gives_back_phase : (c : Config) (m p : ℕ) (refusal : GateError) → PhaseKeeps c (Writes (GivesBack m p refusal))
 gives_back_phase c m p refusal = record {
   step = λ lim w good t lt hook e. write_keeps c lim w good t lt hook (GivesBack m p refusal) e;
+  runs = λ lim w good t lt hook e i one three. write_phase_runs c lim w good t lt hook (GivesBack m p refusal) e i one three;
   completes = λ lim w good t lt hook e. completes_none c w t hook (Writes (GivesBack m p refusal)) (λ trace found. refl);
   word = λ lim n le t lt held levels hook f.
       (end_phase c (leaves_on p)).word lim n le t lt held levels hook (omega arith, omega arith, f.1, f.2);
@@ -196,6 +224,7 @@ gives_back_phase c m p refusal = record {
 drops_phase : (c : Config) (m p : ℕ) → PhaseKeeps c (Writes (Drops m p))
 drops_phase c m p = record {
   step = λ lim w good t lt hook e. write_keeps c lim w good t lt hook (Drops m p) e;
+  runs = λ lim w good t lt hook e i one three. write_phase_runs c lim w good t lt hook (Drops m p) e i one three;
   completes = λ lim w good t lt hook e. completes_none c w t hook (Writes (Drops m p)) (λ trace found. refl);
   word = λ lim n le t lt held levels hook f. (drop_phase c m p).word lim n le t lt held levels hook f.0;
   acts = λ lim t held levels found hook f. (drop_phase c m p).acts lim t held levels found hook f.0;
@@ -216,6 +245,7 @@ drops_phase c m p = record {
 ends_phase : (c : Config) (p : ℕ) → PhaseKeeps c (Writes (Ends p))
 ends_phase c p = record {
   step = λ lim w good t lt hook e. write_keeps c lim w good t lt hook (Ends p) e;
+  runs = λ lim w good t lt hook e i one three. write_phase_runs c lim w good t lt hook (Ends p) e i one three;
   completes = λ lim w good t lt hook e. completes_none c w t hook (Writes (Ends p)) (λ trace found. refl);
   word = λ lim n le t lt held levels hook f.
       (end_phase c (leaves_on p)).word lim n le t lt held levels hook (omega arith, omega arith, f.0, f.1);

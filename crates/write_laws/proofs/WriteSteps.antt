@@ -23,9 +23,12 @@ use Rattle.gate_world.specs.Worlds.{World, found_at}
 use Rattle.gate_world.specs.Shown.{shown}
 use Rattle.gate_world.specs.Rules.{IsGood, Moves, Fitting, at_mount}
 use Rattle.gate_world.specs.Levels.{at_level}
+use Rattle.gate_world.specs.LevelRuns.{level_in}
+use Rattle.level_laws.specs.Events.{SyncStep}
 use Rattle.gate_counts.specs.Gates.{counted as counted_of}
 use Rattle.gate_counts.specs.Levels.{LevelView, level_as_gate}
 use Rattle.gate_frames.proofs.Frames.{view_as, level_view_as}
+use Rattle.gate_frames.proofs.LevelSteps.{level_kept}
 use Rattle.gate_frames.proofs.Rephased.{alike_of, rephased_good, made, made_again, made_keeps}
 use Rattle.write_laws.proofs.Alikes.{alike_plain}
 
@@ -54,6 +57,12 @@ rephased_inside c w t q same i =
     ap (total c.tasks) (fun_ext (λ x. each_updated
     (λ y (u : View). counted_of (level_as_gate (at_level i u)) ≡ counted_of (level_as_gate (at_level i (w.views y)))) w.views t
     (at_phase (w.views t) q) x (ap (λ (l : LevelView). counted_of (level_as_gate l)) there) (λ ne. refl)))
+
+-- and each level is the same
+pub rephased_level : (w : World) (t : ℕ) (q : Option Phase) → IsAlike (w.views t).phase q → (i : ℕ) →
+    level_in (rephased w t q) i ≡ level_in w i
+rephased_level w t q same i =
+    level_kept w t i w.words (at_phase (w.views t) q) refl refl refl refl same.inside_same (same.sync_same i)
 
 module _ (c : Config) (w : World) (good : IsGood c w) (t : ℕ) (lt : t < c.tasks) (hook : HookAnswer) (x : WritePhase)
     (e : (w.views t).phase ≡ Some (Writes x)) where
@@ -144,3 +153,26 @@ module _ (c : Config) (w : World) (good : IsGood c w) (t : ℕ) (lt : t < c.task
       (ap (λ (u : View). u.phase) (update_at w.views t (at_phase (w.views t) (Some (plain x)))))
       (rephased_inside c w t (Some (plain x)) before i ∙ a)
       (made_inside coming after i ∙ b)
+
+  -- where the rule holds of that world, the gate's event there is one of this level's
+  abbrev pub PlainRuns : ℕ → Type 0
+  PlainRuns i = IsGood c first_world → (first_world.views t).phase ≡ Some (plain x) →
+      SyncStep c.tasks (level_in first_world i) (level_in (made_in first_world plain_after) i)
+
+  -- each level is the same after it as after the event of the longer operation
+  made_level : (coming : Next Phase) → IsAlike (phase_after plain_after) (phase_after coming) → (i : ℕ) →
+      level_in (made_in first_world plain_after) i ≡ level_in (made_in w coming) i
+  made_level coming after i =
+      let there : World = made_in first_world plain_after in
+      let is : (there.views t).phase ≡ phase_after plain_after = ap (λ (u : View). u.phase) (update_at first_world.views t _) in
+      sym (rephased_level there t (phase_after coming) (alike_of is after) i) ∙
+      ap (λ y. level_in y i) (made_again c w t lt (Some (plain x)) (next_of (plain x) hook) hook plain_after coming plain_action)
+
+  -- so the event of the longer operation is the same kind of event of the level
+  pub write_runs : (coming : Next Phase) → IsAlike (phase_after plain_after) (phase_after coming) → (i : ℕ) → PlainRuns i →
+      SyncStep c.tasks (level_in w i) (level_in (made_in w coming) i)
+  write_runs coming after i runs =
+      subst (λ l. SyncStep c.tasks l (level_in (made_in w coming) i)) (rephased_level w t (Some (plain x)) before i)
+      (subst (SyncStep c.tasks (level_in first_world i)) (made_level coming after i)
+      (runs (rephased_good c w t lt (Some (plain x)) before fits_plain good)
+      (ap (λ (u : View). u.phase) (update_at w.views t (at_phase (w.views t) (Some (plain x)))))))
