@@ -4,7 +4,7 @@ use crate::tests::print_all;
 use std::test::Fail;
 
 /// Schedules of freezes and thaws among readers, remounts and each other.
-static FREEZES: [(&str, &str); 9] = [
+static FREEZES: [(&str, &str); 13] = [
     // A reader on the fast path goes on beside a freeze, which waits for its section and then for its count.
     (
         "config 2 1 1 2 8\n\
@@ -236,6 +236,312 @@ static FREEZES: [(&str, &str); 9] = [
         "0 refused hook 16\n\
          sync1 3\n\
          sync2 3\n",
+    ),
+    // A freeze and a thaw of an idle file system, event by event: 5 events under the lock, 8 at each level, and 6 for the rest.
+    (
+        "config 1 2 1 2 8\n\
+         0 freeze\n\
+         0 step\n\
+         0 step\n\
+         0 step\n\
+         0 step\n\
+         0 step\n\
+         0 step\n\
+         0 step\n\
+         0 step\n\
+         0 step\n\
+         0 step\n\
+         0 step\n\
+         0 step\n\
+         0 step\n\
+         0 step\n\
+         0 step\n\
+         model\n\
+         0 step\n\
+         0 step\n\
+         0 step\n\
+         0 step\n\
+         0 step\n\
+         0 step\n\
+         0 step\n\
+         0 step\n\
+         0 step\n\
+         0 step\n\
+         0 step\n\
+         0 step\n\
+         0 step\n\
+         0 step\n\
+         0 step\n\
+         0 step\n\
+         0 step\n\
+         0 step\n\
+         0 step\n\
+         0 step\n\
+         0 thaw\n\
+         0 step\n\
+         0 step\n\
+         0 step\n\
+         0 step\n\
+         0 step\n\
+         0 step\n\
+         0 step\n\
+         0 step\n\
+         0 step\n\
+         0 step\n\
+         0 step\n\
+         0 step\n\
+         0 step\n\
+         0 step\n\
+         words\n",
+        "0 cas umount 0 1\n\
+         0 load stage 0 0\n\
+         0 load sb 0 0\n\
+         0 store stage 1 stage 1\n\
+         0 store umount 0\n\
+         0 load sync1 0 0\n\
+         0 cas sync1 0 257\n\
+         0 load section0 0 0\n\
+         0 load sync1 257 257\n\
+         0 cas sync1 257 258\n\
+         0 swap block1 0 1\n\
+         0 load level1.cpu0 0 0\n\
+         0 load level1.cpu1 0 0 pass 1\n\
+         0 cas umount 0 1\n\
+         0 store stage 2 stage 2\n\
+         model stage 2 passed 1 sb rw\n\
+         node 0 dir 0 0 clean\n\
+         0 load sync2 0 0\n\
+         0 cas sync2 0 257\n\
+         0 load section0 0 0\n\
+         0 load sync2 257 257\n\
+         0 cas sync2 257 258\n\
+         0 swap block2 0 1\n\
+         0 load level2.cpu0 0 0\n\
+         0 load level2.cpu1 0 0 pass 2\n\
+         0 and node1 0 0\n\
+         0 store stage 3 stage 3\n\
+         0 load sync3 0 0\n\
+         0 cas sync3 0 257\n\
+         0 load section0 0 0\n\
+         0 load sync3 257 257\n\
+         0 cas sync3 257 258\n\
+         0 swap block3 0 1\n\
+         0 load level3.cpu0 0 0\n\
+         0 load level3.cpu1 0 0 pass 3\n\
+         0 store stage 4 stage 4\n\
+         0 store umount 0\n\
+         0 ok\n\
+         0 cas umount 0 1\n\
+         0 load stage 4 4\n\
+         0 load sb 0 0\n\
+         0 store stage 0 stage 0\n\
+         0 store block3 0 reopen 3\n\
+         0 load sync3 258 258\n\
+         0 cas sync3 258 3\n\
+         0 store block2 0 reopen 2\n\
+         0 load sync2 258 258\n\
+         0 cas sync2 258 3\n\
+         0 store block1 0 reopen 1\n\
+         0 load sync1 258 258\n\
+         0 cas sync1 258 3\n\
+         0 store umount 0\n\
+         0 ok\n\
+         sync1 3\n\
+         sync2 3\n\
+         sync3 3\n",
+    ),
+    // A freeze whose sync fails opens two levels, event by event; the next one finds a callback queued, and readers slow.
+    (
+        "config 1 1 1 2 8\n\
+         0 freeze\n\
+         0 step\n\
+         0 step\n\
+         0 step\n\
+         0 step\n\
+         0 step\n\
+         0 step\n\
+         0 step\n\
+         0 step\n\
+         0 step\n\
+         0 step\n\
+         0 step\n\
+         0 step\n\
+         0 step\n\
+         0 step\n\
+         0 step\n\
+         0 step\n\
+         0 step\n\
+         0 step\n\
+         0 step\n\
+         0 step\n\
+         0 step\n\
+         0 step\n\
+         0 step 5\n\
+         0 step\n\
+         0 step\n\
+         0 step\n\
+         0 step\n\
+         0 step\n\
+         0 step\n\
+         0 step\n\
+         words\n\
+         0 freeze\n\
+         0 step\n\
+         0 step\n\
+         0 step\n\
+         0 step\n\
+         0 step\n\
+         0 step\n\
+         0 step\n\
+         0 step\n\
+         0 step\n\
+         0 run\n\
+         model\n",
+        "0 cas umount 0 1\n\
+         0 load stage 0 0\n\
+         0 load sb 0 0\n\
+         0 store stage 1 stage 1\n\
+         0 store umount 0\n\
+         0 load sync1 0 0\n\
+         0 cas sync1 0 257\n\
+         0 load section0 0 0\n\
+         0 load sync1 257 257\n\
+         0 cas sync1 257 258\n\
+         0 swap block1 0 1\n\
+         0 load level1.cpu0 0 0 pass 1\n\
+         0 cas umount 0 1\n\
+         0 store stage 2 stage 2\n\
+         0 load sync2 0 0\n\
+         0 cas sync2 0 257\n\
+         0 load section0 0 0\n\
+         0 load sync2 257 257\n\
+         0 cas sync2 257 258\n\
+         0 swap block2 0 1\n\
+         0 load level2.cpu0 0 0 pass 2\n\
+         0 and node1 0 0\n\
+         0 store stage 0 stage 0\n\
+         0 store block2 0 reopen 2\n\
+         0 load sync2 258 258\n\
+         0 cas sync2 258 3\n\
+         0 store block1 0 reopen 1\n\
+         0 load sync1 258 258\n\
+         0 cas sync1 258 3\n\
+         0 store umount 0\n\
+         0 refused hook 5\n\
+         sync1 3\n\
+         sync2 3\n\
+         0 cas umount 0 1\n\
+         0 load stage 0 0\n\
+         0 load sb 0 0\n\
+         0 store stage 1 stage 1\n\
+         0 store umount 0\n\
+         0 load sync1 3 3\n\
+         0 cas sync1 3 259\n\
+         0 swap block1 0 1\n\
+         0 load level1.cpu0 0 0 pass 1\n\
+         0 ok\n\
+         model stage 4 passed 3 sb rw\n\
+         node 0 dir 0 0 clean\n",
+    ),
+    // Readers of a frozen file system back off on the processor where they added; a waiting one goes inside once its level is open.
+    (
+        "config 2 2 1 3 8\n\
+         0 freeze\n\
+         0 run\n\
+         1 trystart 2 1\n\
+         1 step\n\
+         1 step\n\
+         1 step\n\
+         1 step\n\
+         1 step\n\
+         1 step\n\
+         1 start 2 1\n\
+         1 run\n\
+         0 thaw\n\
+         0 step\n\
+         0 step\n\
+         0 step\n\
+         0 step 9\n\
+         0 thaw\n\
+         0 step\n\
+         0 step\n\
+         0 step\n\
+         0 step\n\
+         1 run\n\
+         0 step\n\
+         0 step\n\
+         0 step\n\
+         1 run\n\
+         0 run\n\
+         1 run\n\
+         model\n",
+        "0 ok\n\
+         1 add section1 0 1\n\
+         1 load sync2 258 258\n\
+         1 add level2.cpu1 0 1\n\
+         1 load block2 1 1\n\
+         1 sub level2.cpu1 1 0\n\
+         1 add section1 1 2\n\
+         1 refused 11 Again\n\
+         1 waiting\n\
+         0 cas umount 0 1\n\
+         0 load stage 4 4\n\
+         0 load sb 0 0\n\
+         0 store umount 0\n\
+         0 refused hook 9\n\
+         0 cas umount 0 1\n\
+         0 load stage 4 4\n\
+         0 load sb 0 0\n\
+         0 store stage 0 stage 0\n\
+         1 waiting\n\
+         0 store block3 0 reopen 3\n\
+         0 load sync3 258 258\n\
+         0 cas sync3 258 3\n\
+         1 waiting\n\
+         0 ok\n\
+         1 ok\n\
+         model stage 0 passed 0 sb rw\n\
+         task 1 level 2\n\
+         node 0 dir 0 0 clean\n",
+    ),
+    // A sum finds a reader that it can find on no one word; a code at an event that asks no hook makes no difference.
+    (
+        "config 2 2 1 3 8\n\
+         1 start 3 1\n\
+         1 run\n\
+         0 freeze\n\
+         0 run\n\
+         1 end 3 0\n\
+         1 step\n\
+         0 step\n\
+         0 step\n\
+         0 step\n\
+         0 step 300\n\
+         0 run\n\
+         words\n\
+         model\n",
+        "1 ok\n\
+         0 waiting\n\
+         1 sub level3.cpu0 0 18446744073709551615 return level 3\n\
+         1 ok\n\
+         0 load level3.cpu0 18446744073709551615 18446744073709551615\n\
+         0 load level3.cpu1 1 1 pass 3\n\
+         0 store stage 4 stage 4\n\
+         0 store umount 0\n\
+         0 ok\n\
+         0 idle\n\
+         stage 4\n\
+         block1 1\n\
+         sync1 258\n\
+         block2 1\n\
+         sync2 258\n\
+         block3 1\n\
+         sync3 258\n\
+         level3.cpu0 18446744073709551615\n\
+         level3.cpu1 1\n\
+         section1 2\n\
+         model stage 4 passed 3 sb rw\n\
+         node 0 dir 0 0 clean\n",
     ),
 ];
 
