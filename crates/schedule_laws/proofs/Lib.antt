@@ -8,3 +8,4 @@ pub mod Snapshots
 pub mod Rests
 pub mod Whole
 pub mod Runs
+pub mod LevelRuns
