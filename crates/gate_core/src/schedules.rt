@@ -7,6 +7,7 @@ ghost use Rattle.gate_world.specs.Worlds.{Entry};
 ghost use Rattle.gate_world.specs.Rules.{IsGood};
 ghost use Rattle.gate_world.specs.Headline.{world_after, MovesTheModel, IsOneRun, NobodyIsInside, SumsHold, IdleSumsHold, NothingIsLeft, FreezeIsUnderWay, OperationsAreKept};
 ghost use Rattle.gate_world.specs.Causes.{RefusalsHaveCauses};
+ghost use Rattle.gate_world.specs.LevelRuns.{LevelsAreRuns};
 ghost use Rattle.gate_world.specs.Waits.{EachWaitHasCulprit};
 
 /// The headline. For every configuration within the limits, and every schedule: any list of beginnings, refused ones included, and of
@@ -24,6 +25,9 @@ ghost use Rattle.gate_world.specs.Waits.{EachWaitHasCulprit};
 ///   read-side section is under way, a level is closed only where the file system is frozen as a whole, no callback is taken, and no
 ///   freeze is half done: the stage is SB_UNFROZEN or SB_FREEZE_COMPLETE.
 /// - `freezes`: at the stages in between, one freeze is under way, and the stage is the one that it stored last.
+/// - `levels`: what a schedule makes of each freeze level is a run of it, so its grace periods are kept: a writer that is past one had a whole
+///   one since it entered, from there on nobody is on the level's fast path until its state has been GP_IDLE again, and it becomes so only
+///   from GP_EXIT, by a callback, with a whole grace period after its claim.
 /// - `operations`: each task's events follow the order of its operation; one that replied has added exactly its stated actions, a
 ///   refusal has its cause among its events and leaves what the task held, waiting is reported only where it may be, and an operation
 ///   that waits for nobody has few events.
@@ -48,6 +52,7 @@ pub fn every_schedule()
     ensures idle { (c : Config) → IsWithin c → (entries : List Entry) → IdleSumsHold c (world_after c entries) }
     ensures rests { (c : Config) → IsWithin c → (entries : List Entry) → NothingIsLeft c (world_after c entries) }
     ensures freezes { (c : Config) → IsWithin c → (entries : List Entry) → FreezeIsUnderWay c (world_after c entries) }
+    ensures levels { (c : Config) → IsWithin c → (entries : List Entry) → LevelsAreRuns c entries }
     ensures operations { (c : Config) → IsWithin c → (entries : List Entry) (t : ℕ) → OperationsAreKept c entries t }
     ensures causes { (c : Config) → IsWithin c → (entries : List Entry) → RefusalsHaveCauses c entries }
     ensures waits { (c : Config) → IsWithin c → (entries : List Entry) → EachWaitHasCulprit c entries }
