@@ -1,36 +1,37 @@
 -- What each event of a freeze or a thaw is of each level: one of the level's own kinds of event, or one that leaves it.
--- an event that leaves what the levels read of the words, and how its task stands with them, leaves each level
-use Rattle.freeze_frames.proofs.DownLevels.{next_closing, down_write_event, closing_others, closing_there}
-use Rattle.level_laws.specs.Roles.{Out as IsApart, entered}
-use Rattle.freeze_frames.proofs.UpLevels.{next_opening, up_write_event, opening_others, opening_there}
-use Rattle.percpu_rwsem.specs.Writers.{down_write_after, up_write_after, down_write_next, up_write_next}
-use Rattle.std.proofs.lemmas.Bool.Decides.{eqb_tells}
-use Rattle.finite_sums.specs.Sums.{update, total}
-use Rattle.finite_sums.proofs.Totals.{update_at, update_same}
-use Rattle.gate_frames.proofs.LevelSteps.{level_stays, level_kept, level_moved}
-use Rattle.level_laws.specs.Events.{SyncStep}
-use Rattle.cpu_words.specs.Touches.{left, found_by}
-use Rattle.cpu_words.specs.declared.names.WordName.TheVariants.{Sync, Block, LevelCount, Section}
-use Rattle.freeze_frames.proofs.StandRoles.{SayBeside, touched_sync, put_inside, touched_block, touched_whole, touched_section}
-use Rattle.gate_world.specs.LevelRuns.{level_in}
-use Rattle.gate_frames.proofs.Frames.{SameLevelWords}
-use Rattle.freeze_frames.proofs.Standing.{Stands, LevelsRun, closing_stand, opening_stand, left_world, stand_after_closing, stand_after_opening}
-use Rattle.level_laws.specs.Operations.{put_at, left_by}
-use Rattle.gate_world.specs.Levels.{Stand, stand_sync, inside, sync_role_of, is_frozen_whole}
-use Rattle.gate_world.specs.Fits.{DownWriteFits, UpWriteFits}
-use Rattle.level_frames.proofs.LevelWorlds.{IsEventAt}
-use Rattle.std.specs.Prelude.{Option, Some}
-use Rattle.percpu_rwsem.specs.declared.writers.UpWrite.{UpWrite}
-use Rattle.percpu_rwsem.specs.declared.writers.DownWrite.{DownWrite}
-use Rattle.gate_world.specs.declared.views.View.{View}
-use Rattle.cpu_words.specs.declared.events.Touch.{Touch}
-use Rattle.cpu_words.specs.Words.{Words, put, read}
-use Rattle.gate_world.specs.Rules.{IsGood}
-use Rattle.cpu_words.specs.declared.names.WordName.{WordName}
-use Rattle.gate_world.specs.Configs.{IsWithin}
 use Rattle.std.proofs.Common.{refl, ℕ, ◌<◌, ◌≤◌, ◌≡◌, sym, ap, ◌∙◌, inl, subst, arith, inr, ◌+◌}
+use Rattle.std.proofs.lemmas.Bool.Decides.{eqb_tells}
+use Rattle.std.specs.Prelude.{Option, Some}
+use Rattle.finite_sums.proofs.Totals.{update_at, update_same}
+use Rattle.finite_sums.specs.Sums.{update, total}
+use Rattle.cpu_words.specs.Touches.{left, found_by}
+use Rattle.cpu_words.specs.Words.{Words, put, read}
+use Rattle.cpu_words.specs.declared.events.Touch.{Touch}
+use Rattle.cpu_words.specs.declared.names.WordName.TheVariants.{Sync, Block, LevelCount, Section}
+use Rattle.cpu_words.specs.declared.names.WordName.{WordName}
+use Rattle.percpu_rwsem.specs.Writers.{down_write_after, up_write_after, down_write_next, up_write_next}
+use Rattle.percpu_rwsem.specs.declared.writers.DownWrite.{DownWrite}
+use Rattle.percpu_rwsem.specs.declared.writers.UpWrite.{UpWrite}
+use Rattle.level_laws.specs.Events.{SyncStep}
+use Rattle.level_laws.specs.Operations.{put_at, left_by}
+use Rattle.level_laws.specs.Roles.{Out as IsApart, entered}
+use Rattle.gate_world.specs.Configs.{IsWithin}
+use Rattle.gate_world.specs.Fits.{DownWriteFits, UpWriteFits}
+use Rattle.gate_world.specs.LevelRuns.{level_in}
+use Rattle.gate_world.specs.Levels.{Stand, stand_sync, inside, sync_role_of, is_frozen_whole}
+use Rattle.gate_world.specs.Rules.{IsGood}
 use Rattle.gate_world.specs.Worlds.{World}
 use Rattle.gate_world.specs.declared.config.Config.{Config}
+use Rattle.gate_world.specs.declared.views.View.{View}
+use Rattle.gate_frames.proofs.Frames.{SameLevelWords}
+use Rattle.gate_frames.proofs.LevelSteps.{level_stays, level_kept, level_moved}
+use Rattle.level_frames.proofs.LevelWorlds.{IsEventAt}
+use Rattle.freeze_frames.proofs.DownLevels.{next_closing, down_write_event, closing_others, closing_there}
+use Rattle.freeze_frames.proofs.StandRoles.{SayBeside, touched_sync, put_inside, touched_block, touched_whole, touched_section}
+use Rattle.freeze_frames.proofs.Standing.{Stands, LevelsRun, closing_stand, opening_stand, left_world, stand_after_closing, stand_after_opening}
+use Rattle.freeze_frames.proofs.UpLevels.{next_opening, up_write_event, opening_others, opening_there}
+
+-- an event that leaves what the levels read of the words, and how its task stands with them, leaves each level
 pub levels_stay_runs : (c : Config) (w : World) (t : ℕ) → t < c.tasks → (ws : Words) (v : View) (s : Option Stand) →
     SameLevelWords w.words ws → Stands (w.views t).phase s → Stands v.phase s → LevelsRun c w (left_world w t ws v)
 levels_stay_runs c w t lt ws v s words was now i one three =

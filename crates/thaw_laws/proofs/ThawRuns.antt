@@ -1,6 +1,6 @@
 -- Each event of a thaw is one of each level, or leaves it.
 use Rattle.std.proofs.Common.{◌≡◌, ℕ, ◌<◌, refl}
-use Rattle.std.specs.Prelude.{◌==◌, if◌then◌else◌, Option, Some, None, Ok, Err}
+use Rattle.std.specs.Prelude.{◌==◌, if◌then◌else◌, Some, None, Ok, Err}
 use Rattle.access_model.specs.Replies.{map_next}
 use Rattle.access_model.specs.declared.errors.GateError.TheVariants.{Invalid}
 use Rattle.access_model.specs.declared.replies.Next.TheVariants.{Go, Wait}
@@ -73,7 +73,8 @@ module _ (c : Config) (lim : IsWithin c) (w : World) (good : IsGood c w) (t : �
       (record { block_same = refl; level_same = refl; sync_same = refl; section_same = refl; whole_same = refl })
       (here_stands c lim w good t lt x LoadsStage e)
       (by_bool (w.words.stage == 4)
-      (λ b. Stands (phase_after (map_next Thaws (if b then Go (at_thaw x LoadsSuperblock) else Go (at_thaw x (Releases (Err Invalid)))))) None)
+      (λ b. Stands (phase_after (map_next Thaws
+      (if b then Go (at_thaw x LoadsSuperblock) else Go (at_thaw x (Releases (Err Invalid)))))) None)
       (thaw_stands (at_thaw x LoadsSuperblock)) (thaw_stands (at_thaw x (Releases (Err Invalid)))))
   thaw_run hook LoadsSuperblock e =
       leaves hook LoadsSuperblock
