@@ -363,6 +363,38 @@ module _ (c : Config) (lim : IsWithin c) (w : World) (good : IsGood c w) (t : �
           | inr q ↦ queued_passed right.level.word.state q
         ])
 
+    -- its event is one of the rcu_sync of its level; it enters where nobody has entered
+    pub closing_there : (s : DownWriteStep) → DownWriteFits c (at_down_write d s) →
+        Stands (w.views t).phase (Some (closing_stand (at_down_write d s))) →
+        (sync_role_of d.level (w.views t).phase ≡ IsApart →
+        total c.tasks (λ x. entered (sync_role_of d.level (w.views x).phase)) + is_frozen_whole w.words ≡ 0) →
+        SyncStep c.tasks (level_in w d.level)
+        (left_by (level_in w d.level) t (down_write_next d s) (read w.words (down_write_next d s).0)
+        (stand_sync d.level (stand_after_closing d.level (next_closing s))))
+    closing_there s fits was alone =
+        let name : WordName = (down_write_next d s).0 in
+        let touch : Touch = (down_write_next d s).1 in
+        let l = level_in w d.level in
+        let found = found_level w d.level name (is_of_level d.level name touch (down_write_event d s)) in
+        let there = down_writes_are_there t (read w.words name) l (at_down_write d s) (omega (arith, lt, fits.2))
+        (subst (λ k. SyncLevelHolds k l) (sym fits.2) (level_right c w good d.level fits.0 fits.1))
+        (was.syncs d.level fits.0 fits.1 ∙ sync_at d.level (closing_stand (at_down_write d s)) refl) fits.5
+        (λ out. subst (λ k. total k (λ x. entered (sync_role_of d.level (w.views x).phase)) + is_frozen_whole w.words ≡ 0)
+        (sym fits.2) (alone out)) in
+        subst (λ k. SyncStep c.tasks l (left_by l t (name, touch) (read w.words name) k))
+        (closing_sync d.level (next_closing s) (down_write_level d s (found_closing s)))
+        (subst (λ value. SyncStep c.tasks l (left_by l t (name, touch) value
+        (by_next (λ (x : DownWrite). down_write_role x.step) Closed (down_write_after d s (found_by touch value)).0))) found
+        (subst (λ k. SyncStep k l (left_by l t (name, touch) (value_at l (read w.words name) name)
+        (by_next (λ (x : DownWrite). down_write_role x.step) Closed
+        (down_write_after d s (found_by touch (value_at l (read w.words name) name))).0))) fits.2 there.0))
+
+    -- what comes after it says what it said of the other levels
+    pub closing_others : (s : DownWriteStep) →
+        SayBeside d.level (Some (closing_stand (at_down_write d s))) (stand_after_closing d.level (next_closing s))
+    closing_others s =
+        closing_beside d.level (closing_stand (at_down_write d s)) refl (next_closing s) (down_write_level d s (found_closing s))
+
     module _ (v : View) (counts : SameLevelCounts (w.views t) v) where
       -- an event before its swap leaves the counts of its level
       waits_here : (s : DownWriteStep) → (words_closing s).block d.level ≡ w.words.block d.level →
@@ -416,32 +448,6 @@ module _ (c : Config) (lim : IsWithin c) (w : World) (good : IsGood c w) (t : �
           (λ low high. taken_counts d (sum_taking sum (w.words.level d.level sum.words) d.processors))
           (λ low high. summed_here sum fits was)
 
-      -- its event is one of the rcu_sync of its level; it enters where nobody has entered
-      closing_there : (s : DownWriteStep) → DownWriteFits c (at_down_write d s) →
-          Stands (w.views t).phase (Some (closing_stand (at_down_write d s))) →
-          (sync_role_of d.level (w.views t).phase ≡ IsApart →
-          total c.tasks (λ x. entered (sync_role_of d.level (w.views x).phase)) + is_frozen_whole w.words ≡ 0) →
-          SyncStep c.tasks (level_in w d.level)
-          (left_by (level_in w d.level) t (down_write_next d s) (read w.words (down_write_next d s).0)
-          (stand_sync d.level (stand_after_closing d.level (next_closing s))))
-      closing_there s fits was alone =
-          let name : WordName = (down_write_next d s).0 in
-          let touch : Touch = (down_write_next d s).1 in
-          let l = level_in w d.level in
-          let found = found_level w d.level name (is_of_level d.level name touch (down_write_event d s)) in
-          let there = down_writes_are_there t (read w.words name) l (at_down_write d s) (omega (arith, lt, fits.2))
-          (subst (λ k. SyncLevelHolds k l) (sym fits.2) (level_right c w good d.level fits.0 fits.1))
-          (was.syncs d.level fits.0 fits.1 ∙ sync_at d.level (closing_stand (at_down_write d s)) refl) fits.5
-          (λ out. subst (λ k. total k (λ x. entered (sync_role_of d.level (w.views x).phase)) + is_frozen_whole w.words ≡ 0)
-          (sym fits.2) (alone out)) in
-          subst (λ k. SyncStep c.tasks l (left_by l t (name, touch) (read w.words name) k))
-          (closing_sync d.level (next_closing s) (down_write_level d s (found_closing s)))
-          (subst (λ value. SyncStep c.tasks l (left_by l t (name, touch) value
-          (by_next (λ (x : DownWrite). down_write_role x.step) Closed (down_write_after d s (found_by touch value)).0))) found
-          (subst (λ k. SyncStep k l (left_by l t (name, touch) (value_at l (read w.words name) name)
-          (by_next (λ (x : DownWrite). down_write_role x.step) Closed
-          (down_write_after d s (found_by touch (value_at l (read w.words name) name))).0))) fits.2 there.0))
-
       -- each event of a down-write leaves the levels as the rule has them
       pub down_write_levels_at : (s : DownWriteStep) → DownWriteFits c (at_down_write d s) →
           Stands (w.views t).phase (Some (closing_stand (at_down_write d s))) →
@@ -452,8 +458,7 @@ module _ (c : Config) (lim : IsWithin c) (w : World) (good : IsGood c w) (t : �
       down_write_levels_at s fits was now alone =
           levels_move c w good t lt v (Some (closing_stand (at_down_write d s))) (stand_after_closing d.level (next_closing s)) was now
           counts d.level (down_write_next d s).0 (down_write_next d s).1 (down_write_event d s) (down_write_counts w.words d s)
-          (closing_beside d.level (closing_stand (at_down_write d s)) refl (next_closing s) (down_write_level d s (found_closing s)))
-          (closing_here s fits was now) (λ low high. closing_there s fits was alone)
+          (closing_others s) (closing_here s fits was now) (λ low high. closing_there s fits was alone)
 
 -- so it does at the step that it is at
 pub down_write_levels : (c : Config) → IsWithin c → (w : World) → IsGood c w → (t : ℕ) → t < c.tasks → (d : DownWrite) (v : View) →

@@ -3,6 +3,7 @@ pub mod StandRoles
 pub mod WholeLevels
 pub mod UpLevels
 pub mod DownLevels
+pub mod LevelRuns
 pub mod WriterParts
 pub mod WriterOwner
 pub mod WriterStages

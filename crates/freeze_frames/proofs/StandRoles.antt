@@ -220,7 +220,7 @@ still_sync (suc (suc n)) one =
     ap (stand_sync (suc (suc n))) (still_before n) ∙ sync_above (suc (suc n)) (closed_to (suc n)) (omega arith)
 
 -- an event at a level leaves `block` of the others
-touched_block : (w : Words) (i j : ℕ) → (j ≡ i → ⊥) → (name : WordName) (touch : Touch) → IsEventAt i name touch →
+pub touched_block : (w : Words) (i j : ℕ) → (j ≡ i → ⊥) → (name : WordName) (touch : Touch) → IsEventAt i name touch →
     (put w name (left touch (read w name))).block j ≡ w.block j
 touched_block w i j ne (Sync k) touch e = refl
 touched_block w i j ne (Block k) touch e = update_off w.block k _ j (λ q. ne (q ∙ e))
@@ -229,13 +229,31 @@ touched_block w i j ne (Section u) Load e = refl
 touched_block w i j ne name touch e = absurd e
 
 -- and whether the file system is frozen as a whole
-touched_whole : (w : Words) (i : ℕ) (name : WordName) (touch : Touch) → IsEventAt i name touch →
+pub touched_whole : (w : Words) (i : ℕ) (name : WordName) (touch : Touch) → IsEventAt i name touch →
     is_frozen_whole (put w name (left touch (read w name))) ≡ is_frozen_whole w
 touched_whole w i (Sync k) touch e = refl
 touched_whole w i (Block k) touch e = refl
 touched_whole w i (LevelCount k p) touch e = refl
 touched_whole w i (Section u) Load e = refl
 touched_whole w i name touch e = absurd e
+
+-- and the sync words of the others
+pub touched_sync : (w : Words) (i j : ℕ) → (j ≡ i → ⊥) → (name : WordName) (touch : Touch) → IsEventAt i name touch →
+    (put w name (left touch (read w name))).sync j ≡ w.sync j
+touched_sync w i j ne (Sync k) touch e = update_off w.sync k _ j (λ q. ne (q ∙ e))
+touched_sync w i j ne (Block k) touch e = refl
+touched_sync w i j ne (LevelCount k p) touch e = refl
+touched_sync w i j ne (Section u) Load e = refl
+touched_sync w i j ne name touch e = absurd e
+
+-- and all section words
+pub touched_section : (w : Words) (i : ℕ) (name : WordName) (touch : Touch) → IsEventAt i name touch →
+    (put w name (left touch (read w name))).section ≡ w.section
+touched_section w i (Sync k) touch e = refl
+touched_section w i (Block k) touch e = refl
+touched_section w i (LevelCount k p) touch e = refl
+touched_section w i (Section u) Load e = update_same w.section u
+touched_section w i name touch e = absurd e
 
 -- its word is one of the level
 pub is_of_level : (i : ℕ) (name : WordName) (touch : Touch) → IsEventAt i name touch → IsOfLevel i name
@@ -246,7 +264,7 @@ is_of_level i (Section u) touch e = tt
 is_of_level i name touch e = absurd e
 
 -- a word that is put is none of who is inside a section
-put_inside : (l : SyncLevel) (name : WordName) (n : ℕ) → (put_at l name n).inside ≡ l.inside
+pub put_inside : (l : SyncLevel) (name : WordName) (n : ℕ) → (put_at l name n).inside ≡ l.inside
 put_inside l (Sync i) n = refl
 put_inside l (Block i) n = refl
 put_inside l (Section u) n = refl

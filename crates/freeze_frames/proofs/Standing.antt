@@ -1,5 +1,5 @@
 -- How a task stands with the levels, and what the rule says of all of them.
-use Rattle.std.proofs.Common.{◌≡◌, ℕ, ◌<◌, ◌≤◌, refl}
+use Rattle.std.proofs.Common.{◌≡◌, ℕ, ◌≤◌}
 use Rattle.std.specs.Prelude.{Option, Some, None, ◌==◌, ◌-◌, if◌then◌else◌}
 use Rattle.finite_sums.specs.Sums.{update}
 use Rattle.cpu_words.specs.Words.{Words}
@@ -7,12 +7,14 @@ use Rattle.access_model.specs.declared.replies.Next.{Next}
 use Rattle.access_model.specs.declared.replies.Next.TheVariants.{Go, Wait, Done}
 use Rattle.percpu_rwsem.specs.declared.writers.DownWrite.{DownWrite}
 use Rattle.percpu_rwsem.specs.declared.writers.UpWrite.{UpWrite}
+use Rattle.level_laws.specs.Events.{SyncStep}
 use Rattle.level_laws.specs.Operations.{down_write_role, up_write_role}
 use Rattle.gate_world.specs.declared.config.Config.{Config}
 use Rattle.gate_world.specs.declared.views.View.{View}
 use Rattle.gate_world.specs.declared.work.Phase.{Phase}
 use Rattle.gate_world.specs.Levels.{Stand, closed_to, stand_count, stand_sync, down_count_role, up_count_role, level_role_of, sync_role_of, inside}
 use Rattle.gate_world.specs.Rules.{Holds, AtLevel, SyncAt, Sections}
+use Rattle.gate_world.specs.LevelRuns.{level_in}
 use Rattle.gate_world.specs.Worlds.{World}
 
 -- a phase stands so with the levels, and is inside no section
@@ -52,3 +54,7 @@ LevelsHold c w = ((i : ℕ) → Holds c w (AtLevel i)) × ((i : ℕ) → Holds c
 -- the world after an event of a task that leaves these words and this view
 abbrev pub left_world : World → ℕ → Words → View → World
 left_world w t ws v = record { words = ws; views = update w.views t v }
+
+-- from the one world to the other each level makes a step of its own
+abbrev pub LevelsRun : Config → World → World → Type 0
+LevelsRun c w next = (i : ℕ) → 1 ≤ i → i ≤ 3 → SyncStep c.tasks (level_in w i) (level_in next i)

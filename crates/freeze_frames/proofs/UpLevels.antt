@@ -85,8 +85,7 @@ exit_counts u one (More x) = count_at u.level (opening_stand (at_up_write u x)) 
 exit_counts u one Undefined = count_at u.level (opening_stand (at_up_write u Loads)) refl
 exit_counts u one (Made state) = still_count u.level one
 
-module _ (c : Config) (lim : IsWithin c) (w : World) (good : IsGood c w) (t : ℕ) (lt : t < c.tasks) (u : UpWrite) (v : View)
-    (counts : SameLevelCounts (w.views t) v) where
+module _ (c : Config) (lim : IsWithin c) (w : World) (good : IsGood c w) (t : ℕ) (lt : t < c.tasks) (u : UpWrite) where
   -- the words after its event at this step
   abbrev pub words_opening : UpWriteStep → Words
   words_opening s = put w.words (up_write_next u s).0 (left (up_write_next u s).1 (read w.words (up_write_next u s).0))
@@ -95,48 +94,63 @@ module _ (c : Config) (lim : IsWithin c) (w : World) (good : IsGood c w) (t : �
   abbrev pub next_opening : UpWriteStep → Next UpWrite
   next_opening s = (up_write_after u s (found_by (up_write_next u s).1 (read w.words (up_write_next u s).0))).0
 
-  -- the counts of its level after its event: its store opens the level
-  opening_here : (s : UpWriteStep) → 1 ≤ u.level → Stands (w.views t).phase (Some (opening_stand (opening_at u s))) →
-      Stands v.phase (stand_after_opening u.level (next_opening s)) → Holds c (left_world w t (words_opening s) v) (AtLevel u.level)
-  opening_here ClearsBlock one was now =
-      counts_become c w good t lt v (Some (opening_stand (opening_at u ClearsBlock)))
-      (stand_after_opening u.level (next_opening ClearsBlock)) was now counts (words_opening ClearsBlock) u.level 0
-      (is_frozen_whole w.words) CountsNot (update_at w.words.block u.level 0) refl refl
-      (λ low high. count_at u.level (opening_stand (at_up_write u Loads)) refl)
-      (λ low high. reopens (good (AtLevel u.level) low high) t lt lim.tasks lim.processors
-      (was.counts u.level low high ∙ count_at u.level (opening_stand (opening_at u ClearsBlock)) refl))
-  opening_here (Exits Loads) one was now =
-      counts_left c w good t lt v (Some (opening_stand (opening_at u (Exits Loads))))
-      (stand_after_opening u.level (next_opening (Exits Loads))) was now counts (words_opening (Exits Loads)) u.level refl refl refl
-      (λ low high. exit_counts u one (transition_after on_exit Loads (w.words.sync u.level)) ∙
-      sym (count_at u.level (opening_stand (opening_at u (Exits Loads))) refl))
-  opening_here (Exits (Exchanges from to)) one was now =
-      counts_left c w good t lt v (Some (opening_stand (opening_at u (Exits (Exchanges from to)))))
-      (stand_after_opening u.level (next_opening (Exits (Exchanges from to)))) was now counts (words_opening (Exits (Exchanges from to)))
-      u.level refl refl refl
-      (λ low high. exit_counts u one (transition_after on_exit (Exchanges from to) (w.words.sync u.level)) ∙
-      sym (count_at u.level (opening_stand (opening_at u (Exits (Exchanges from to)))) refl))
-
-  -- each event of an up-write leaves the levels as the rule has them
-  pub up_write_levels_at : (s : UpWriteStep) → UpWriteFits (opening_at u s) →
-      Stands (w.views t).phase (Some (opening_stand (opening_at u s))) →
-      Stands v.phase (stand_after_opening u.level (next_opening s)) → LevelsHold c (left_world w t (words_opening s) v)
-  up_write_levels_at s fits was now =
+  -- its event is one of the rcu_sync of its level
+  pub opening_there : (s : UpWriteStep) → UpWriteFits (opening_at u s) →
+      Stands (w.views t).phase (Some (opening_stand (opening_at u s))) → 1 ≤ u.level → u.level ≤ 3 →
+      SyncStep c.tasks (level_in w u.level) (left_by (level_in w u.level) t (up_write_next u s) (read w.words (up_write_next u s).0)
+      (stand_sync u.level (stand_after_opening u.level (next_opening s))))
+  opening_there s fits was low high =
       let name : WordName = (up_write_next u s).0 in
       let touch : Touch = (up_write_next u s).1 in
       let stays = up_write_level u s (found_by touch (read w.words name)) in
       let found = found_level w u.level name (is_of_level u.level name touch (up_write_event u s)) in
-      levels_move c w good t lt v (Some (opening_stand (opening_at u s))) (stand_after_opening u.level (next_opening s)) was now counts
-      u.level name touch (up_write_event u s) (up_write_counts w.words u s (left touch (read w.words name)))
-      (opening_beside u.level (opening_stand (opening_at u s)) fits.0 refl (next_opening s) stays)
-      (opening_here s fits.0 was now)
-      (λ low high.
       let there = up_writes_are_there c.tasks t (read w.words name) (level_in w u.level) (opening_at u s) lt
       (was.syncs u.level low high ∙ sync_at u.level (opening_stand (opening_at u s)) refl) fits.2 in
       subst (λ k. SyncStep c.tasks (level_in w u.level) (left_by (level_in w u.level) t (name, touch) (read w.words name) k))
       (opening_sync u.level fits.0 (next_opening s) stays)
       (subst (λ value. SyncStep c.tasks (level_in w u.level) (left_by (level_in w u.level) t (name, touch) value
-      (by_next (λ (x : UpWrite). up_write_role x.step) IsApart (up_write_after u s (found_by touch value)).0))) found there.0))
+      (by_next (λ (x : UpWrite). up_write_role x.step) IsApart (up_write_after u s (found_by touch value)).0))) found there.0)
+
+  -- what comes after it says what it said of the other levels
+  pub opening_others : (s : UpWriteStep) → UpWriteFits (opening_at u s) →
+      SayBeside u.level (Some (opening_stand (opening_at u s))) (stand_after_opening u.level (next_opening s))
+  opening_others s fits =
+      opening_beside u.level (opening_stand (opening_at u s)) fits.0 refl (next_opening s)
+      (up_write_level u s (found_by (up_write_next u s).1 (read w.words (up_write_next u s).0)))
+
+  module _ (v : View) (counts : SameLevelCounts (w.views t) v) where
+    -- the counts of its level after its event: its store opens the level
+    opening_here : (s : UpWriteStep) → 1 ≤ u.level → Stands (w.views t).phase (Some (opening_stand (opening_at u s))) →
+        Stands v.phase (stand_after_opening u.level (next_opening s)) → Holds c (left_world w t (words_opening s) v) (AtLevel u.level)
+    opening_here ClearsBlock one was now =
+        counts_become c w good t lt v (Some (opening_stand (opening_at u ClearsBlock)))
+        (stand_after_opening u.level (next_opening ClearsBlock)) was now counts (words_opening ClearsBlock) u.level 0
+        (is_frozen_whole w.words) CountsNot (update_at w.words.block u.level 0) refl refl
+        (λ low high. count_at u.level (opening_stand (at_up_write u Loads)) refl)
+        (λ low high. reopens (good (AtLevel u.level) low high) t lt lim.tasks lim.processors
+        (was.counts u.level low high ∙ count_at u.level (opening_stand (opening_at u ClearsBlock)) refl))
+    opening_here (Exits Loads) one was now =
+        counts_left c w good t lt v (Some (opening_stand (opening_at u (Exits Loads))))
+        (stand_after_opening u.level (next_opening (Exits Loads))) was now counts (words_opening (Exits Loads)) u.level refl refl refl
+        (λ low high. exit_counts u one (transition_after on_exit Loads (w.words.sync u.level)) ∙
+        sym (count_at u.level (opening_stand (opening_at u (Exits Loads))) refl))
+    opening_here (Exits (Exchanges from to)) one was now =
+        counts_left c w good t lt v (Some (opening_stand (opening_at u (Exits (Exchanges from to)))))
+        (stand_after_opening u.level (next_opening (Exits (Exchanges from to)))) was now counts (words_opening (Exits (Exchanges from to)))
+        u.level refl refl refl
+        (λ low high. exit_counts u one (transition_after on_exit (Exchanges from to) (w.words.sync u.level)) ∙
+        sym (count_at u.level (opening_stand (opening_at u (Exits (Exchanges from to)))) refl))
+
+    -- each event of an up-write leaves the levels as the rule has them
+    pub up_write_levels_at : (s : UpWriteStep) → UpWriteFits (opening_at u s) →
+        Stands (w.views t).phase (Some (opening_stand (opening_at u s))) →
+        Stands v.phase (stand_after_opening u.level (next_opening s)) → LevelsHold c (left_world w t (words_opening s) v)
+    up_write_levels_at s fits was now =
+        let name : WordName = (up_write_next u s).0 in
+        let touch : Touch = (up_write_next u s).1 in
+        levels_move c w good t lt v (Some (opening_stand (opening_at u s))) (stand_after_opening u.level (next_opening s)) was now counts
+        u.level name touch (up_write_event u s) (up_write_counts w.words u s (left touch (read w.words name)))
+        (opening_others s fits) (opening_here s fits.0 was now) (opening_there s fits was)
 
 -- so it does at the step that it is at
 pub up_write_levels : (c : Config) → IsWithin c → (w : World) → IsGood c w → (t : ℕ) → t < c.tasks → (u : UpWrite) (v : View) →

@@ -1,5 +1,5 @@
 -- The store of stage 4 that leaves all levels closed and no task's own, and the store of stage 0 that takes them over.
-use Rattle.std.proofs.Common.{◌≡◌, ℕ, ◌<◌, refl, sym, ap, ◌∙◌}
+use Rattle.std.proofs.Common.{◌≡◌, ℕ, ◌<◌, refl, sym, ap, ◌∙◌, subst}
 use Rattle.std.specs.Prelude.{Some, None}
 use Rattle.finite_sums.specs.Sums.{update}
 use Rattle.finite_sums.proofs.Totals.{update_same}
@@ -7,7 +7,7 @@ use Rattle.cpu_words.specs.Words.{Words}
 use Rattle.gate_counts.specs.Levels.{Out as CountsNot, Passed as CountsPassed}
 use Rattle.gate_counts.proofs.LevelLaws.{is_left_frozen, thaws}
 use Rattle.level_laws.specs.Roles.{SyncRole, Out as IsApart, Closed}
-use Rattle.level_laws.specs.Events.{Freezes, Thaws}
+use Rattle.level_laws.specs.Events.{Freezes, Thaws, SyncStep}
 use Rattle.gate_world.specs.declared.config.Config.{Config}
 use Rattle.gate_world.specs.declared.views.View.{View}
 use Rattle.gate_world.specs.Configs.{IsWithin}
@@ -16,8 +16,8 @@ use Rattle.gate_world.specs.Levels.{closed_to, inside, is_frozen_whole, sync_rol
 use Rattle.gate_world.specs.Rules.{IsGood, AtLevel}
 use Rattle.gate_frames.proofs.Frames.{SameLevelCounts}
 use Rattle.gate_world.specs.LevelRuns.{level_in}
-use Rattle.level_frames.proofs.LevelWorlds.{level_moves, sync_steps}
-use Rattle.freeze_frames.proofs.Standing.{Stands, LevelsHold, left_world}
+use Rattle.level_frames.proofs.LevelWorlds.{level_moves, level_steps}
+use Rattle.freeze_frames.proofs.Standing.{Stands, LevelsHold, LevelsRun, left_world}
 use Rattle.freeze_frames.proofs.StandRoles.{count_closed, sync_closed, counts_become, sections_left}
 
 -- the words of the levels are as they were, but for whether the file system is frozen as a whole
@@ -28,7 +28,7 @@ pub record SameWordsOfLevels (old new : Words) : Type 0 where
   pub section_same : new.section ≡ old.section
 
 module _ (c : Config) (lim : IsWithin c) (w : World) (good : IsGood c w) (t : ℕ) (lt : t < c.tasks) (ws : Words) (v : View)
-    (words : SameWordsOfLevels w.words ws) (counts : SameLevelCounts (w.views t) v) where
+    (words : SameWordsOfLevels w.words ws) where
   -- one level after such an event, by which its task takes this role there
   whole_after : (i full : ℕ) (r : SyncRole) → is_frozen_whole ws ≡ full → inside v.phase ≡ inside (w.views t).phase →
       sync_role_of i v.phase ≡ r →
@@ -45,39 +45,42 @@ module _ (c : Config) (lim : IsWithin c) (w : World) (good : IsGood c w) (t : �
         at = update (level_in w i).at t (now q);
       }))
 
-  -- where all levels are closed by the task, and the file system is frozen as a whole from here on, they are left to no task
-  pub freezes_all : Stands (w.views t).phase (Some (closed_to 3)) → Stands v.phase None → is_frozen_whole ws ≡ 1 →
-      LevelsHold c (left_world w t ws v)
-  freezes_all was now whole = (
-    λ i. counts_become c w good t lt v (Some (closed_to 3)) None was now counts ws i (w.words.block i) 1 CountsNot
-        (ap (λ f. f i) words.block_same) whole (ap (λ f. f i) words.level_same) (λ one three. refl)
-        (λ one three. is_left_frozen (good (AtLevel i) one three) t lt lim.tasks lim.processors
-        (was.counts i one three ∙ count_closed i 3 three)),
-    λ i one three. sync_steps c w good t lt ws v i (record (level_in w i) { full = 1; at = update (level_in w i).at t IsApart })
-        (whole_after i 1 IsApart whole (now.outside ∙ sym was.outside) (now.syncs i one three))
-        (λ low high. record {
-          task = t;
-          there = lt;
-          kind = Freezes;
-          happens = (was.syncs i one three ∙ sync_closed i 3 three, refl);
-        }) one three,
-    sections_left c w good t lt v (Some (closed_to 3)) None was now counts ws words.section_same,
-  )
+  -- where the task has all levels closed, and the file system is frozen as a whole from here on, each level is left to no task
+  pub freezes_runs : Stands (w.views t).phase (Some (closed_to 3)) → Stands v.phase None → is_frozen_whole ws ≡ 1 →
+      LevelsRun c w (left_world w t ws v)
+  freezes_runs was now whole i one three =
+      subst (SyncStep c.tasks (level_in w i))
+      (whole_after i 1 IsApart whole (now.outside ∙ sym was.outside) (now.syncs i one three))
+      record { task = t; there = lt; kind = Freezes; happens = (was.syncs i one three ∙ sync_closed i 3 three, refl) }
 
-  -- where the file system is frozen as a whole until here, the task has all levels closed from here on
-  pub thaws_all : Stands (w.views t).phase None → Stands v.phase (Some (closed_to 3)) → is_frozen_whole w.words ≡ 1 →
-      is_frozen_whole ws ≡ 0 → LevelsHold c (left_world w t ws v)
-  thaws_all was now frozen whole = (
-    λ i. counts_become c w good t lt v None (Some (closed_to 3)) was now counts ws i (w.words.block i) 0 CountsPassed
-        (ap (λ f. f i) words.block_same) whole (ap (λ f. f i) words.level_same) (λ one three. count_closed i 3 three)
-        (λ one three. thaws (good (AtLevel i) one three) t lt lim.tasks lim.processors (was.counts i one three) frozen),
-    λ i one three. sync_steps c w good t lt ws v i (record (level_in w i) { full = 0; at = update (level_in w i).at t Closed })
-        (whole_after i 0 Closed whole (now.outside ∙ sym was.outside) (now.syncs i one three ∙ sync_closed i 3 three))
-        (λ low high. record {
-          task = t;
-          there = lt;
-          kind = Thaws;
-          happens = (was.syncs i one three, frozen, refl);
-        }) one three,
-    sections_left c w good t lt v None (Some (closed_to 3)) was now counts ws words.section_same,
-  )
+  -- where it is frozen as a whole until here, the task takes each level over
+  pub thaws_runs : Stands (w.views t).phase None → Stands v.phase (Some (closed_to 3)) → is_frozen_whole w.words ≡ 1 →
+      is_frozen_whole ws ≡ 0 → LevelsRun c w (left_world w t ws v)
+  thaws_runs was now frozen whole i one three =
+      subst (SyncStep c.tasks (level_in w i))
+      (whole_after i 0 Closed whole (now.outside ∙ sym was.outside) (now.syncs i one three ∙ sync_closed i 3 three))
+      record { task = t; there = lt; kind = Thaws; happens = (was.syncs i one three, frozen, refl) }
+
+  module _ (counts : SameLevelCounts (w.views t) v) where
+    -- where all levels are closed by the task, and the file system is frozen as a whole from here on, they are left to no task
+    pub freezes_all : Stands (w.views t).phase (Some (closed_to 3)) → Stands v.phase None → is_frozen_whole ws ≡ 1 →
+        LevelsHold c (left_world w t ws v)
+    freezes_all was now whole = (
+      λ i. counts_become c w good t lt v (Some (closed_to 3)) None was now counts ws i (w.words.block i) 1 CountsNot
+          (ap (λ f. f i) words.block_same) whole (ap (λ f. f i) words.level_same) (λ one three. refl)
+          (λ one three. is_left_frozen (good (AtLevel i) one three) t lt lim.tasks lim.processors
+          (was.counts i one three ∙ count_closed i 3 three)),
+      λ i one three. (level_steps c w good t lt ws v i one three (freezes_runs was now whole i one three)).level,
+      sections_left c w good t lt v (Some (closed_to 3)) None was now counts ws words.section_same,
+    )
+
+    -- where the file system is frozen as a whole until here, the task has all levels closed from here on
+    pub thaws_all : Stands (w.views t).phase None → Stands v.phase (Some (closed_to 3)) → is_frozen_whole w.words ≡ 1 →
+        is_frozen_whole ws ≡ 0 → LevelsHold c (left_world w t ws v)
+    thaws_all was now frozen whole = (
+      λ i. counts_become c w good t lt v None (Some (closed_to 3)) was now counts ws i (w.words.block i) 0 CountsPassed
+          (ap (λ f. f i) words.block_same) whole (ap (λ f. f i) words.level_same) (λ one three. count_closed i 3 three)
+          (λ one three. thaws (good (AtLevel i) one three) t lt lim.tasks lim.processors (was.counts i one three) frozen),
+      λ i one three. (level_steps c w good t lt ws v i one three (thaws_runs was now frozen whole i one three)).level,
+      sections_left c w good t lt v None (Some (closed_to 3)) was now counts ws words.section_same,
+    )

@@ -221,7 +221,7 @@ module _ (c : Config) (lim : IsWithin c) (w : World) (good : IsGood c w) (t : 鈩
         (位 s. refl) (位 s. refl) (ap stage_owns (closed_role x d.level fits_now.5.0 fits_now.5.1)) d.step found_here
 
     -- how it stands with the levels
-    stands_then : Stands view_then.phase (stand_after_closing d.level next_here)
+    pub stands_then : Stands view_then.phase (stand_after_closing d.level next_here)
     stands_then =
         down_write_comes d (位 n. Stands (phase_after (map_next Freezes (after_closing x d.level n))) (stand_after_closing d.level n))
         (位 s. freeze_stands (at_freeze x (Closes (at_down_write d s)))) (位 s. freeze_stands (at_freeze x (Closes (at_down_write d s))))

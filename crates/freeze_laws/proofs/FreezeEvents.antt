@@ -255,7 +255,7 @@ module _ (c : Config) (lim : IsWithin c) (w : World) (good : IsGood c w) (t : �
         (λ s. reopening_owns u.level s) (fails_owns x (u.level - 1) code) u.step found_here
 
     -- how it stands with the levels
-    stands_then : Stands view_then.phase (stand_after_opening u.level next_here)
+    pub stands_then : Stands view_then.phase (stand_after_opening u.level next_here)
     stands_then =
         up_write_comes u (λ n. Stands (phase_after (map_next Freezes (after_reopening x u.level code n))) (stand_after_opening u.level n))
         (λ s. freeze_stands (at_freeze x (Reopens (record u { step = s }) code))) (fails_stands x (u.level - 1) code) u.step found_here

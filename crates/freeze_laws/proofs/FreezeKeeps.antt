@@ -1,22 +1,13 @@
 -- All that is proved of a freeze, from the law of its events and from what its trace tells.
 use Rattle.std.proofs.Common.{◌≡◌, ℕ, ◌<◌, ap, refl, subst}
-use Rattle.std.specs.Prelude.{Some, Err, List, ◌++◌, true}
-use Rattle.access_model.specs.Histories.{mounts_of, levels_of}
-use Rattle.access_model.specs.declared.actions.Action.{Action}
-use Rattle.access_model.specs.declared.errors.GateError.{GateError}
-use Rattle.cpu_words.specs.Hooks.{HookAnswer}
+use Rattle.std.specs.Prelude.{Some}
 use Rattle.freeze_levels.specs.declared.freezes.Freeze.{Freeze}
-use Rattle.gate_world.specs.Beginnings.{is_in_order}
-use Rattle.gate_world.specs.Configs.{IsWithin}
-use Rattle.gate_world.specs.Courses.{course_of, IsTrace}
 use Rattle.gate_world.specs.Fits.{Fits, PhaseFits}
-use Rattle.gate_world.specs.Rules.{IsGood, StepKeeps, Fitting}
-use Rattle.gate_world.specs.Traces.{actions_of, Tells, IsShort, most_events}
+use Rattle.gate_world.specs.Rules.{IsGood, Fitting}
 use Rattle.gate_world.specs.Views.{held_at, holds_level}
 use Rattle.gate_world.specs.Worlds.{World, after_step}
 use Rattle.gate_world.specs.declared.config.Config.{Config}
 use Rattle.gate_world.specs.declared.operations.Op.TheVariants.{Freeze as FreezeOp}
-use Rattle.gate_world.specs.declared.views.Traced.{Traced}
 use Rattle.gate_world.specs.declared.work.Phase.TheVariants.{Freezes}
 use Rattle.gate_frames.proofs.Keeps.{none_agree, word_among, PhaseKeeps, OpKeeps}
 use Rattle.gate_frames.proofs.Snapshots.{completes_none}
@@ -24,6 +15,7 @@ use Rattle.freeze_laws.proofs.FreezeFits.{freeze_word, freeze_acts, freeze_goes}
 use Rattle.freeze_laws.proofs.FreezeCauses.{freeze_counts, freeze_stays, freeze_own, freeze_cause_tells}
 use Rattle.freeze_laws.proofs.FreezeWaits.{freeze_waits}
 use Rattle.freeze_laws.proofs.FreezeEvents.{freeze_keeps}
+use Rattle.freeze_laws.proofs.FreezeRuns.{freeze_runs}
 use Rattle.freeze_laws.proofs.FreezeTraces.{freeze_tells, freeze_short, freeze_restores}
 
 -- what a freeze says of its task's accesses, in a good world
@@ -35,6 +27,7 @@ fits_here c x w good t lt e = subst (Fits c t (held_at (w.views t)) (holds_level
 pub freeze_phase : (c : Config) (x : Freeze) → PhaseKeeps c (Freezes x)
 freeze_phase c x = record {
   step = λ within w good t lt hook e. freeze_keeps c within w good t lt hook x e;
+  runs = λ within w good t lt hook e. freeze_runs c within w good t lt hook x e;
   completes = λ within w good t lt hook e. completes_none c w t hook (Freezes x) (λ trace found. refl);
   word = λ within n le t lt held levels hook f. word_among c n le _ (freeze_word c x x.step hook f.5);
   acts = λ within t held levels found hook f. freeze_acts x x.step held found hook;

@@ -4,6 +4,7 @@ pub mod FreezeFits
 pub mod FreezeStages
 pub mod FreezeCloses
 pub mod FreezeEvents
+pub mod FreezeRuns
 pub mod FreezeCauses
 pub mod FreezeWaits
 pub mod FreezeKeeps

@@ -129,11 +129,11 @@ none_below : (dirty : ℕ → ℕ) → CleanBelow 0 dirty
 none_below dirty n below = absurd (omega (arith, below))
 
 -- a thaw stands with the levels as its step does
-thaw_stands : (x : Thaw) → Stands (Some (Thaws x)) (thaw_stand x.step)
+pub thaw_stands : (x : Thaw) → Stands (Some (Thaws x)) (thaw_stand x.step)
 thaw_stands x = record { counts = λ i one three. refl; syncs = λ i one three. refl; outside = refl }
 
 -- and no operation with none
-idle_stands : Stands None None
+pub idle_stands : Stands None None
 idle_stands = record { counts = λ i one three. refl; syncs = λ i one three. refl; outside = refl }
 
 -- What comes after an event of a level's reopening.
@@ -147,7 +147,7 @@ module _ (x : Thaw) where
       (thaw_stands (at_thaw x (Releases (Ok UnitReply)))) (thaw_stands (at_thaw x (Reopens (reopening level))))
 
   -- it stands so with the levels
-  opening_stands : (level : ℕ) (n : Next UpWrite) →
+  pub opening_stands : (level : ℕ) (n : Next UpWrite) →
       Stands (phase_after (map_next Thaws (after_opening x level n))) (stand_after_opening level n)
   opening_stands level (Go u) = thaw_stands (at_thaw x (Reopens u))
   opening_stands level (Wait u) = thaw_stands (at_thaw x (Reopens u))
@@ -190,7 +190,7 @@ exit_on x level s (Made state) stage sb dirty l3 z = opens_on (level - 1) stage 
 
 module _ (c : Config) (lim : IsWithin c) (w : World) (good : IsGood c w) (t : ℕ) (lt : t < c.tasks) (x : Thaw) where
   -- the task is at this step of the thaw
-  abbrev IsHere : ThawStep → Type 0
+  abbrev pub IsHere : ThawStep → Type 0
   IsHere s = (w.views t).phase ≡ Some (Thaws (at_thaw x s))
 
   -- the law of its event
@@ -198,11 +198,11 @@ module _ (c : Config) (lim : IsWithin c) (w : World) (good : IsGood c w) (t : �
   Keeps hook s = WriterKeeps c w t hook (Thaws (at_thaw x s))
 
   -- this step fits the task's accesses
-  abbrev FitsHere : ThawStep → Type 0
+  abbrev pub FitsHere : ThawStep → Type 0
   FitsHere s = PhaseFits c t (held_at (w.views t)) (holds_level (w.views t)) (Thaws (at_thaw x s))
 
   -- as the one does at which it is
-  here_fits : (s : ThawStep) → IsHere s → FitsHere s
+  pub here_fits : (s : ThawStep) → IsHere s → FitsHere s
   here_fits s e = subst (Fits c t (held_at (w.views t)) (holds_level (w.views t))) e (good Fitting t lt)
 
   -- and another step that fits
@@ -210,11 +210,11 @@ module _ (c : Config) (lim : IsWithin c) (w : World) (good : IsGood c w) (t : �
   goes_to s s' e fit = let f : FitsHere s = here_fits s e in (f.0, f.1, fit)
 
   -- what it relies on is so
-  here_knows : (s : ThawStep) → IsHere s → KnowsStage w.words.stage w.words.sb (thaw_stage_role s)
+  pub here_knows : (s : ThawStep) → IsHere s → KnowsStage w.words.stage w.words.sb (thaw_stage_role s)
   here_knows s e = subst (λ p. KnowsStage w.words.stage w.words.sb (stage_role_of p)) e ((good Stages).knows t lt)
 
   -- it stands with the levels as its step does
-  here_stands : (s : ThawStep) → IsHere s → Stands (w.views t).phase (thaw_stand s)
+  pub here_stands : (s : ThawStep) → IsHere s → Stands (w.views t).phase (thaw_stand s)
   here_stands s e = subst (λ p. Stands p (thaw_stand s)) (sym e) (thaw_stands (at_thaw x s))
 
   -- it has no role at a mount

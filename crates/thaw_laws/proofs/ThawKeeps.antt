@@ -9,6 +9,7 @@ use Rattle.gate_frames.proofs.Keeps.{none_agree, word_among, PhaseKeeps, OpKeeps
 use Rattle.gate_frames.proofs.Snapshots.{completes_none}
 use Rattle.trace_laws.proofs.Says.{tells, is_short}
 use Rattle.thaw_laws.proofs.ThawEvents.{thaw_keeps}
+use Rattle.thaw_laws.proofs.ThawRuns.{thaw_runs}
 use Rattle.thaw_laws.proofs.ThawFits.{thaw_there, thaw_acts, thaw_goes}
 use Rattle.thaw_laws.proofs.ThawCauses.{thaw_counts, thaw_stays, thaw_told, thaw_own}
 use Rattle.thaw_laws.proofs.ThawWaits.{thaw_waits}
@@ -18,6 +19,7 @@ use Rattle.thaw_laws.proofs.ThawTraces.{ThawAt, thaw_kept, thaw_restores}
 pub thaw_phase : (c : Config) (x : Thaw) → PhaseKeeps c (Thaws x)
 thaw_phase c x = record {
   step = λ lim w good t lt hook e. thaw_keeps c lim w good t lt hook x e;
+  runs = λ lim w good t lt hook e. thaw_runs c lim w good t lt hook x e;
   completes = λ lim w good t lt hook e. completes_none c w t hook (Thaws x) (λ trace found. refl);
   word = λ lim n le t lt held levels hook f. word_among c n le _ (thaw_there c x x.step hook f.2);
   acts = λ lim t held levels found hook f. thaw_acts held x x.step found hook;
