@@ -118,9 +118,11 @@ closed_role x level = at_level
 -- how it stands with the levels then
 closed_stands : (x : Freeze) (level : ℕ) → 1 ≤ level → level ≤ 3 →
     Stands (Some (Freezes (at_freeze x (level_closed level x.nodes)))) (Some (closed_to level))
-closed_stands x level = at_level (λ i. Stands (Some (Freezes (at_freeze x (level_closed i x.nodes)))) (Some (closed_to i)))
-    (freeze_stands (at_freeze x (level_closed 1 x.nodes)), freeze_stands (at_freeze x (level_closed 2 x.nodes)),
-    freeze_stands (at_freeze x (level_closed 3 x.nodes))) level
+closed_stands x level = at_level (λ i. Stands (Some (Freezes (at_freeze x (level_closed i x.nodes)))) (Some (closed_to i))) (
+  freeze_stands (at_freeze x (level_closed 1 x.nodes)),
+  freeze_stands (at_freeze x (level_closed 2 x.nodes)),
+  freeze_stands (at_freeze x (level_closed 3 x.nodes)),
+) level
 
 -- `block` is set where the swap found it clear
 swapped_role : (x : Freeze) (d : DownWrite) (b : Bool) → b ≡ true →

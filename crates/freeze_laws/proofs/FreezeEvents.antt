@@ -295,9 +295,10 @@ module _ (c : Config) (lim : IsWithin c) (w : World) (good : IsGood c w) (t : �
       let y : UpWrite = record u { step = ClearsBlock } in
       let f : FitsHere c lim w good t lt x (Reopens y code) = here_fits c lim w good t lt x (Reopens y code) e in
       let is : u.level ≡ suc (u.level - 1) = omega (arith, f.5.0) in
-      reopening_law y code e (ClearsBlockStage (u.level - 1))
-      (ap stage_role_of e ∙ ap Reopening is,
-      ap (λ i. playing (record (stages_in w) { block = update w.words.block i 0 }) t (Reopening (u.level - 1))) is)
+      reopening_law y code e (ClearsBlockStage (u.level - 1)) (
+        ap stage_role_of e ∙ ap Reopening is,
+        ap (λ i. playing (record (stages_in w) { block = update w.words.block i 0 }) t (Reopening (u.level - 1))) is,
+      )
       (ap (λ i. Some (Reopen i)) (sym is))
 
   -- what the last event of a level's transition is of the stage
@@ -306,13 +307,19 @@ module _ (c : Config) (lim : IsWithin c) (w : World) (good : IsGood c w) (t : �
       (fails_kind level)
   fails_happens level code role =
       elim (eqb_tells level 0) [
-        | inl q ↦ rw q.0 (role, record {
+        | inl q ↦ rw q.0 (
+          role,
+          record {
             owns_same = refl;
             freezes_same = refl;
             remounts_same = refl;
             closed_same = sym q.1;
             passed_same = sym q.1;
-          }, (tt, tt), λ m l. absurd (omega (arith, l)), refl)
+          },
+          (tt, tt),
+          λ m l. absurd (omega (arith, l)),
+          refl,
+        )
         | inr q ↦ rw q.0 (still_plays c w good t lt (sym role))
       ]
 

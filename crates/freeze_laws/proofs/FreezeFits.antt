@@ -256,14 +256,24 @@ module _ (c : Config) (within : IsWithin c) where
     -- so it is after each event
     down_write_goes : (s : DownWriteStep) (found : ℕ) → DownWriteStepFits c s → KnowsDownWrite s → Goes (down_write_after d s found).0
     down_write_goes (Enters transition) found f k =
-        let shows = exchanges_make_transitions on_enter d.level found transition k in
-        (l1, l3, same, processors, enter_fits d.tasks same (transition_after on_enter transition found),
-        knows_enter d.tasks found _ (transition_after on_enter transition found) shows)
+        let shows = exchanges_make_transitions on_enter d.level found transition k in (
+          l1,
+          l3,
+          same,
+          processors,
+          enter_fits d.tasks same (transition_after on_enter transition found),
+          knows_enter d.tasks found _ (transition_after on_enter transition found) shows,
+        )
     down_write_goes (AwaitsSections grace) found f k = looked_goes grace found f.0 f.1
     down_write_goes (CallsBack transition) found f k =
-        let shows = exchanges_make_transitions on_callback d.level found transition k in
-        (l1, l3, same, processors, callback_fits (transition_after on_callback transition found),
-        knows_callback found _ (transition_after on_callback transition found) shows)
+        let shows = exchanges_make_transitions on_callback d.level found transition k in (
+          l1,
+          l3,
+          same,
+          processors,
+          callback_fits (transition_after on_callback transition found),
+          knows_callback found _ (transition_after on_callback transition found) shows,
+        )
     down_write_goes AwaitsPassed found f k = passed_found_goes (unpack found)
     down_write_goes SetsBlock found f k =
         by_bool (found == 0) (λ b. Goes (if b then Go (at_down_write d sum_begun) else Wait (at_down_write d SetsBlock)))

@@ -67,6 +67,7 @@ use Rattle.gate_world.specs.Found.{found_sealed, stored_stage, cleans, clean_fou
 use Rattle.gate_world.specs.Operations.{two_levels_closed, all_levels_closed}
 use Rattle.gate_world.specs.Traces.{actions_of, IsHonestAnswer, Tells, IsShort, most_events}
 use Rattle.gate_world.specs.Views.{actions_after, with_hook}
+use Rattle.trace_laws.proofs.Cleans.{LeaveAccesses, cleans_leave}
 use Rattle.trace_laws.proofs.Says.{Says, SaysAfter, Kept, event_at, tells, is_short}
 use Rattle.freeze_laws.proofs.FreezeSums.{
   ClosingSays,
@@ -420,24 +421,7 @@ pub freeze_short : (c : Config) → IsWithin c → (t : ℕ) (trace : List Trace
     IsShort (most_events c FreezeOp) trace
 freeze_short c lim t trace h = is_short (FreezeAt c t) c t FreezeOp (freeze_kept c lim t) trace h
 
--- these actions leave each access and each level as it was
-abbrev LeaveAccesses : List Action → List Action → Type 0
-LeaveAccesses actions before = (mounts_of (actions ++ before) ≡ mounts_of before) × (levels_of (actions ++ before) ≡ levels_of before)
-
--- clearing a mark leaves them, on top of actions that do
-clean_leaves : (word : WordName) (touch : Touch) (found : ℕ) (actions rest before : List Action) → LeaveAccesses (actions ++ rest) before →
-    LeaveAccesses (clean_found word touch found actions ++ rest) before
-clean_leaves (Node n) (And mask) found actions rest before h =
-    elim (cases_Bool (has_flag found 4)) [ inl f ↦ rw f h | inr f ↦ rw f h ]
-clean_leaves word touch found actions rest before h = h
-
--- so does clearing each mark of a trace
-cleans_leave : (trace : List Traced) (rest before : List Action) → LeaveAccesses rest before → LeaveAccesses (cleans trace ++ rest) before
-cleans_leave [] rest before h = h
-cleans_leave (e ∷ earlier) rest before h =
-    clean_leaves e.event.word e.event.touch e.event.found (cleans earlier) rest before (cleans_leave earlier rest before h)
-
--- so do the actions of a freeze whose file system has failed
+-- what a freeze has added whose file system has failed leaves each access and each level as it was
 failed_leaves : (code : ℕ) (trace : List Traced) (before : List Action) →
     LeaveAccesses (actions_of FreezeOp (Err (Hook code)) trace) before
 failed_leaves code trace before =

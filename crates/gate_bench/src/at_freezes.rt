@@ -38,13 +38,7 @@ fn freeze_and_thaw<R: Wait>(task: &mut Task, rt: &R, gates: &Gates, callbacks: C
 }
 
 /// Does so many rounds of it.
-fn rounds<R: Wait>(
-    mut task: Task,
-    rt: &R,
-    gates: &Gates,
-    callbacks: Callbacks,
-    count: u32,
-) -> bool
+fn rounds<R: Wait>(mut task: Task, rt: &R, gates: &Gates, callbacks: Callbacks, count: u32) -> bool
     requires { IsFrom task gates.now }
 {
     for _round in 0..count {

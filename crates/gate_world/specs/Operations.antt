@@ -326,9 +326,9 @@ abbrev pub freeze_adds : Result Reply GateError → List Traced → List Action
 freeze_adds (Ok reply) trace = StageAction 4 ∷ (if found_sealed trace then [] else all_levels_closed trace)
 freeze_adds (Err (Hook code)) trace =
     Reopen 1 ∷ (Reopen 2 ∷ (
-      if stored_stage 3 trace
-      then Reopen 3 ∷ (StageAction 0 ∷ all_levels_closed trace)
-      else StageAction 0 ∷ two_levels_closed trace
+    if stored_stage 3 trace
+    then Reopen 3 ∷ (StageAction 0 ∷ all_levels_closed trace)
+    else StageAction 0 ∷ two_levels_closed trace
     ))
 freeze_adds (Err refusal) trace = []
 

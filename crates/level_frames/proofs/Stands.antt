@@ -50,7 +50,7 @@ thaw_slow i s = refl
 
 -- a number below another
 pub below : (i n : ℕ) → i < n → nat_lt i n ≡ true
-below i n lt = elim (cases_Bool (nat_lt i n)) [ | inl h ↦ h | inr h ↦ absurd (omega (arith, lt, ltb-false i n h)) ]
+below i n lt = elim (cases_Bool (nat_lt i n)) [ inl h ↦ h | inr h ↦ absurd (omega (arith, lt, ltb-false i n h)) ]
 
 -- who stands at a level has closed each one below it
 closed_le : (r : SyncRole) → closed r ≤ 1
@@ -75,4 +75,3 @@ beside_below i j level r le =
 pub stand_below : (i j : ℕ) (s : Option Stand) → i ≤ j → closed (stand_sync j s) ≤ closed (stand_sync i s)
 stand_below i j None le = omega arith
 stand_below i j (Some s) le = beside_below i j s.level s.sync le
-

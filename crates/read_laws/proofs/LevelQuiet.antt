@@ -66,8 +66,11 @@ module _ (c : Config) (w : World) (good : IsGood c w) (t : ℕ) (lt : t < c.task
             let is : next.views t ≡ v = update_at w.views t v in
             let seeks : level_role_of i v.phase ≡ Seeking r.cpu =
             ap (λ y. level_role_of y v.phase) h.1 ∙ count_on r.level (Seeking r.cpu) in
-            absurd (omega (arith, after,
-            sought_inside c i t next lt (Seeking r.cpu) (ap (λ (u : View). level_role_of i u.phase) is ∙ seeks) refl))
+            absurd (omega (
+              arith,
+              after,
+              sought_inside c i t next lt (Seeking r.cpu) (ap (λ (u : View). level_role_of i u.phase) is ∙ seeks) refl,
+            ))
         | inr h ↦ update_off w.words.level r.level _ i h.1
       ]
 

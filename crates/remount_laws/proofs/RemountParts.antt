@@ -313,8 +313,7 @@ module _ (c : Config) (w : World) (good : IsGood c w) (t : ℕ) (lt : t < c.task
         let still : IsSteady (w.views t).phase v.phase = steady_to stays.0 stays.1 in (
           each_part ws v same
               (record { block_same = refl; level_same = refl; sync_same = refl; section_same = refl; whole_same = refl }) off_then
-              refl
-              (
+              refl (
                 λ k. each_updated (λ y (word : ℕ). IsNode word) w.words.node n f k node (λ ne. (good Nodes).0 k),
                 ap kind_in (update_off w.words.node n f 0 (λ q. omega (arith, low, q))) ∙ (good Nodes).1,
               )

@@ -49,6 +49,7 @@ use Rattle.gate_world.specs.Configs.{IsWithin}
 use Rattle.gate_world.specs.Found.{found_sealed, counts_loaded, sum_loaded, IsEachCount, each_event, finds_taken, cleans, clean_found}
 use Rattle.gate_world.specs.Traces.{actions_of, IsHonestAnswer}
 use Rattle.gate_frames.proofs.Keeps.{by_bool}
+use Rattle.trace_laws.proofs.Cleans.{cleans_leave}
 use Rattle.trace_laws.proofs.Says.{SaysAfter, Kept, event_at}
 
 -- a remount of the superblock by a task, at this step
@@ -339,23 +340,6 @@ remount_kept c lim t ro = record {
       (remount_event c lim t ro value earlier added hook here.0 here.2);
   short = λ trace phase added here. tt;
 }
-
--- these actions leave each access and each level as it was
-abbrev LeaveAccesses : List Action → List Action → Type 0
-LeaveAccesses actions before = (mounts_of (actions ++ before) ≡ mounts_of before) × (levels_of (actions ++ before) ≡ levels_of before)
-
--- clearing a mark leaves them, on top of actions that do
-clean_leaves : (word : WordName) (touch : Touch) (found : ℕ) (actions rest before : List Action) → LeaveAccesses (actions ++ rest) before →
-    LeaveAccesses (clean_found word touch found actions ++ rest) before
-clean_leaves (Node n) (And mask) found actions rest before h =
-    elim (cases_Bool (has_flag found 4)) [ inl f ↦ rw f h | inr f ↦ rw f h ]
-clean_leaves word touch found actions rest before h = h
-
--- so does clearing each mark of a trace
-cleans_leave : (trace : List Traced) (rest before : List Action) → LeaveAccesses rest before → LeaveAccesses (cleans trace ++ rest) before
-cleans_leave [] rest before h = h
-cleans_leave (e ∷ earlier) rest before h =
-    clean_leaves e.event.word e.event.touch e.event.found (cleans earlier) rest before (cleans_leave earlier rest before h)
 
 -- so does what a remount has added where it is refused
 pub remount_restores : (ro : Bool) (refusal : GateError) (trace : List Traced) (before : List Action) →

@@ -1,6 +1,10 @@
 -- Each freeze level of a schedule is a run of it, so its grace periods are kept.
+use Rattle.level_laws.proofs.IdleLaws.{only_callbacks_idle}
+use Rattle.level_laws.proofs.Whole.{idle_is_earned}
+use Rattle.level_laws.proofs.SlowLaws.{stays_slow}
+use Rattle.level_laws.proofs.GraceLaws.{graces_are_whole}
 use Rattle.std.proofs.Common.{◌≡◌, ℕ, zero, suc, ◌<◌, ◌≤◌, refl, sym, ap, ◌∙◌, subst, inl, inr, arith}
-use Rattle.std.specs.Prelude.{Option, Some, None, List, [], ◌∷◌, length, take, nat_lt}
+use Rattle.std.specs.Prelude.{Option, Some, None, List, [], ◌∷◌, length, take, nat_lt, is_some}
 use Rattle.std.proofs.lemmas.Bool.{cases_Bool, ltb-true}
 use Rattle.finite_sums.specs.Sums.{update}
 use Rattle.access_model.specs.declared.errors.GateError.{GateError}
@@ -19,7 +23,7 @@ use Rattle.gate_world.specs.Beginnings.{first_phase, view_refusal}
 use Rattle.gate_world.specs.LevelRuns.{level_in, level_after, IsLevelRun, GracesAreKept, LevelsAreRuns}
 use Rattle.gate_world.specs.Levels.{inside, sync_role_of}
 use Rattle.gate_world.specs.Rules.{IsGood}
-use Rattle.gate_world.specs.Views.{begun_view}
+use Rattle.gate_world.specs.Views.{begun_view, held_at, holds_level}
 use Rattle.gate_world.specs.Worlds.{World, Entry, Begins, Steps, begin_of, step_of, happens, run, opening}
 use Rattle.gate_frames.proofs.LevelSteps.{level_stays, level_kept}
 use Rattle.level_frames.proofs.LevelWorlds.{level_right}
@@ -72,7 +76,8 @@ module _ (c : Config) (lim : IsWithin c) (i : ℕ) (one : 1 ≤ i) (three : i �
 
   -- where all holds of the level
   moment_right : (es : List Entry) (w : World) → IsGood c w → (k : ℕ) → k ≤ length es → SyncLevelHolds c.tasks (level_in (run c w (take k es)) i)
-  moment_right [] w good k le = level_right c w good i one three
+  moment_right [] w good zero le = level_right c w good i one three
+  moment_right [] w good (suc k) le = level_right c w good i one three
   moment_right (e ∷ es) w good zero le = level_right c w good i one three
   moment_right (e ∷ es) w good (suc k) le = moment_right es (happens c w e) (happens_keeps c lim w good e).0 k (omega (arith, le))
 

@@ -101,7 +101,10 @@ fn a_freeze_shuts_the_levels_and_a_thaw_opens_them(rt: HostRuntime) -> Result<()
     assert_eq!(rt; task.end(&gates, 3, 1), Ok(()));
     assert_eq!(rt; task.freeze(&rt, &gates, &mut ()), Ok(()));
     assert_eq!(rt; other.freeze(&rt, &gates, &mut ()), Err(GateError::Busy));
-    assert_eq!(rt; other.remount_sb(&rt, &gates, true, &mut ()), Err(GateError::Busy));
+    assert_eq!(rt;
+        other.remount_sb(&rt, &gates, true, &mut ()),
+        Err(GateError::Busy)
+    );
     assert_eq!(rt; other.try_start(&gates, 1, 0), Err(GateError::Again));
     assert_eq!(rt; task.try_start(&gates, 3, 1), Err(GateError::Again));
     assert_eq!(rt; other.thaw(&rt, &gates, &mut ()), Ok(()));
@@ -129,7 +132,11 @@ fn a_hook_that_fails_leaves_all_as_it_was(rt: HostRuntime) -> Result<(), Fail> {
     for asked in [4, 3] {
         // The fifth question is the freeze's first, or its second.
         let met = 0;
-        let mut hooks = InTurn { readers, asked, met };
+        let mut hooks = InTurn {
+            readers,
+            asked,
+            met,
+        };
         assert_eq!(rt; task.freeze(&rt, &gates, &mut hooks), failed);
         assert_eq!(rt; hooks.asked, 5);
         assert_eq!(rt; task.thaw(&rt, &gates, &mut hooks), Err(GateError::Invalid));
@@ -276,23 +283,24 @@ fn nobody_is_inside_while_it_is_frozen(rt: HostRuntime) -> Result<(), Fail> {
     let caller = task.split(rt.alloc(), &gates)?;
     let readers = Readers::none();
     let readers = &readers;
-    let (((mut task, done, wrong, met), (caller, called)), ((one, visited), (two, visited_too))) = thread::join(
-        &rt,
-        || {
-            thread::join(
-                &rt,
-                || freezes(task, &rt, &gates, readers, FREEZES),
-                || callbacks(caller, &rt, &gates, 1000),
-            )
-        },
-        || {
-            thread::join(
-                &rt,
-                || visits(one, &rt, &gates, readers, 0, 5000),
-                || visits(two, &rt, &gates, readers, 1, 5000),
-            )
-        },
-    );
+    let (((mut task, done, wrong, met), (caller, called)), ((one, visited), (two, visited_too))) =
+        thread::join(
+            &rt,
+            || {
+                thread::join(
+                    &rt,
+                    || freezes(task, &rt, &gates, readers, FREEZES),
+                    || callbacks(caller, &rt, &gates, 1000),
+                )
+            },
+            || {
+                thread::join(
+                    &rt,
+                    || visits(one, &rt, &gates, readers, 0, 5000),
+                    || visits(two, &rt, &gates, readers, 1, 5000),
+                )
+            },
+        );
     assert_eq!(rt; (done, wrong, met), (FREEZES, 0, 0));
     assert_eq!(rt; (called, visited, visited_too), (1000, 5000, 5000));
     assert!(rt; task.join(&gates, one).is_ok());

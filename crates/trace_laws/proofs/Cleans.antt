@@ -1,0 +1,30 @@
+-- The marks that a trace has cleared are no accesses.
+use Rattle.std.proofs.Common.{◌≡◌, ℕ, inl, inr}
+use Rattle.std.specs.Prelude.{List, [], ◌∷◌, ◌++◌}
+use Rattle.std.proofs.lemmas.Bool.{cases_Bool}
+use Rattle.access_model.specs.declared.actions.Action.{Action}
+use Rattle.access_model.specs.Histories.{mounts_of, levels_of}
+use Rattle.cpu_words.specs.declared.names.WordName.{WordName}
+use Rattle.cpu_words.specs.declared.names.WordName.TheVariants.{Node}
+use Rattle.cpu_words.specs.declared.events.Touch.{Touch}
+use Rattle.cpu_words.specs.declared.events.Touch.TheVariants.{And}
+use Rattle.mount_counts.specs.Phases.{has_flag}
+use Rattle.gate_world.specs.declared.views.Traced.{Traced}
+use Rattle.gate_world.specs.Found.{clean_found, cleans}
+
+-- these actions leave each access and each level as it was
+abbrev pub LeaveAccesses : List Action → List Action → Type 0
+LeaveAccesses actions before = (mounts_of (actions ++ before) ≡ mounts_of before) × (levels_of (actions ++ before) ≡ levels_of before)
+
+-- clearing a mark leaves them, on top of actions that do
+clean_leaves : (word : WordName) (touch : Touch) (found : ℕ) (actions rest before : List Action) → LeaveAccesses (actions ++ rest) before →
+    LeaveAccesses (clean_found word touch found actions ++ rest) before
+clean_leaves (Node n) (And mask) found actions rest before h =
+    elim (cases_Bool (has_flag found 4)) [ inl f ↦ rw f h | inr f ↦ rw f h ]
+clean_leaves word touch found actions rest before h = h
+
+-- so does clearing each mark of a trace
+pub cleans_leave : (trace : List Traced) (rest before : List Action) → LeaveAccesses rest before → LeaveAccesses (cleans trace ++ rest) before
+cleans_leave [] rest before h = h
+cleans_leave (e ∷ earlier) rest before h =
+    clean_leaves e.event.word e.event.touch e.event.found (cleans earlier) rest before (cleans_leave earlier rest before h)
