@@ -156,6 +156,45 @@ fn a_hook_that_fails_leaves_all_as_it_was(rt: HostRuntime) -> Result<(), Fail> {
     Ok(())
 }
 
+/// Tries to go inside level 1 on a processor, up to a million times, until it is, and leaves it. Says whether both were done.
+fn start_at_last(mut task: Task, gates: &Gates, cpu: u8) -> (Task, bool)
+    requires { IsFrom task gates.now }
+    ensures { IsFrom result.0 gates.now }
+{
+    for _round in 0..1_000_000 {
+        if task.try_start(gates, 1, cpu).is_ok() {
+            break;
+        }
+        thread::yield_now();
+    }
+    let is_outside = task.end(gates, 1, cpu).is_ok();
+    (task, is_outside)
+}
+
+#[test]
+fn a_freeze_comes_after_two_threads(rt: HostRuntime) -> Result<(), Fail> {
+    let (gates, mut task) = Gates::new(rt.alloc(), small(2))?;
+    let other = task.split(rt.alloc(), &gates)?;
+    let ((mut task, one), (other, two)) = thread::join(
+        &rt,
+        || start_at_last(task, &gates, 0),
+        || start_at_last(other, &gates, 1),
+    );
+    assert!(rt; one && two);
+    assert_eq!(rt; task.freeze(&rt, &gates, &mut ()), Ok(()));
+    let Err((error, gates, mut task)) = gates.close(task) else {
+        panic!(rt; "closed before the join")
+    };
+    assert_eq!(rt; error, GateError::Order);
+    assert!(rt; task.join(&gates, other).is_ok());
+    let Ok(closed) = gates.close(task) else {
+        panic!(rt; "not closed")
+    };
+    assert_eq!(rt; closed.gate_sum(Gate::Level(1)), Some(0));
+    assert_eq!(rt; closed.word(WordName::Stage), Some(4));
+    Ok(())
+}
+
 /// Goes inside a level on one processor, counted among its readers, and leaves it on the other.
 fn visit<R: Wait>(
     task: &mut Task,
