@@ -25,7 +25,7 @@ pub returns-clause-freezes : goal.returns-clause-freezes
 returns-clause-freezes c = whole_freezes
 
 pub returns-clause-levels : goal.returns-clause-levels
-returns-clause-levels c = whole_levels c
+returns-clause-levels c = whole_levels
 
 pub returns-clause-operations : goal.returns-clause-operations
 returns-clause-operations c = whole_operations
