@@ -11,6 +11,7 @@ use std::sync::Wait;
 use std::sync::atomic::{AtomicU64, Ordering};
 use std::test::Fail;
 use std::thread;
+use std::thread::Threads;
 
 /// How often the file system is frozen where threads meet.
 const FREEZES: u16 = 200;
@@ -123,33 +124,40 @@ fn a_freeze_shuts_the_levels_and_a_thaw_opens_them(rt: HostRuntime) -> Result<()
     Ok(())
 }
 
+/// Whether a freeze is refused by a file system that has been asked so often, at its fifth question, and leaves all open.
+fn fails<R: Wait>(task: &mut Task, rt: &R, gates: &Gates, readers: &Readers, asked: u16) -> bool
+    requires { IsFrom task.old gates.now }
+    ensures { IsFrom task.new gates.now }
+{
+    let met = 0;
+    let mut hooks = InTurn {
+        readers,
+        asked,
+        met,
+    };
+    task.freeze(rt, gates, &mut hooks) == Err(GateError::Hook(7))
+        && hooks.asked == 5
+        && task.thaw(rt, gates, &mut hooks) == Err(GateError::Invalid)
+        && task.try_start(gates, 3, 0).is_ok()
+        && task.end(gates, 3, 0).is_ok()
+}
+
 #[test]
 fn a_hook_that_fails_leaves_all_as_it_was(rt: HostRuntime) -> Result<(), Fail> {
     let (gates, mut task) = Gates::new(rt.alloc(), small(1))?;
     let readers = Readers::none();
     let readers = &readers;
-    let failed = Err(GateError::Hook(7));
-    for asked in [4, 3] {
-        // The fifth question is the freeze's first, or its second.
-        let met = 0;
-        let mut hooks = InTurn {
-            readers,
-            asked,
-            met,
-        };
-        assert_eq!(rt; task.freeze(&rt, &gates, &mut hooks), failed);
-        assert_eq!(rt; hooks.asked, 5);
-        assert_eq!(rt; task.thaw(&rt, &gates, &mut hooks), Err(GateError::Invalid));
-        assert_eq!(rt; task.try_start(&gates, 3, 0), Ok(()));
-        assert_eq!(rt; task.end(&gates, 3, 0), Ok(()));
-    }
+    // The fifth question is the freeze's first, or its second.
+    assert!(rt; fails(&mut task, &rt, &gates, readers, 4));
+    assert!(rt; fails(&mut task, &rt, &gates, readers, 3));
     let mut hooks = InTurn {
         readers,
         asked: 2,
         met: 0,
     };
     assert_eq!(rt; task.freeze(&rt, &gates, &mut hooks), Ok(()));
-    assert_eq!(rt; task.thaw(&rt, &gates, &mut hooks), failed);
+    let refused = task.thaw(&rt, &gates, &mut hooks);
+    assert_eq!(rt; refused, Err(GateError::Hook(7)));
     assert_eq!(rt; task.try_start(&gates, 1, 0), Err(GateError::Again));
     assert_eq!(rt; task.thaw(&rt, &gates, &mut hooks), Ok(()));
     assert_eq!(rt; (hooks.asked, hooks.met), (6, 0));
@@ -314,6 +322,47 @@ fn freezes<R: Wait>(
     (task, done, wrong, met)
 }
 
+/// Two tasks that visit all levels, so often, each on a thread.
+fn both_visit<R: Wait + Threads + Sync>(
+    one: Task,
+    two: Task,
+    rt: &R,
+    gates: &Gates,
+    readers: &Readers,
+    count: u16,
+) -> ((Task, u16), (Task, u16))
+    requires one { IsFrom one gates.now }
+    requires two { IsFrom two gates.now }
+    ensures one { IsFrom result.0.0 gates.now }
+    ensures two { IsFrom result.1.0 gates.now }
+{
+    thread::join(
+        rt,
+        || visits(one, rt, gates, readers, 0, count),
+        || visits(two, rt, gates, readers, 1, count),
+    )
+}
+
+/// A task that freezes and thaws, and one that runs callbacks, each on a thread.
+fn freezes_and_callbacks<R: Wait + Threads + Sync>(
+    task: Task,
+    caller: Task,
+    rt: &R,
+    gates: &Gates,
+    readers: &Readers,
+) -> ((Task, u16, u16, u16), (Task, u16))
+    requires task { IsFrom task gates.now }
+    requires caller { IsFrom caller gates.now }
+    ensures task { IsFrom result.0.0 gates.now }
+    ensures caller { IsFrom result.1.0 gates.now }
+{
+    thread::join(
+        rt,
+        || freezes(task, rt, gates, readers, FREEZES),
+        || callbacks(caller, rt, gates, 1000),
+    )
+}
+
 #[test]
 fn nobody_is_inside_while_it_is_frozen(rt: HostRuntime) -> Result<(), Fail> {
     let (gates, mut task) = Gates::new(rt.alloc(), small(4))?;
@@ -322,26 +371,14 @@ fn nobody_is_inside_while_it_is_frozen(rt: HostRuntime) -> Result<(), Fail> {
     let caller = task.split(rt.alloc(), &gates)?;
     let readers = Readers::none();
     let readers = &readers;
-    let (((mut task, done, wrong, met), (caller, called)), ((one, visited), (two, visited_too))) =
+    let (((mut task, done, wrong, met), (caller, called)), ((one, first), (two, second))) =
         thread::join(
             &rt,
-            || {
-                thread::join(
-                    &rt,
-                    || freezes(task, &rt, &gates, readers, FREEZES),
-                    || callbacks(caller, &rt, &gates, 1000),
-                )
-            },
-            || {
-                thread::join(
-                    &rt,
-                    || visits(one, &rt, &gates, readers, 0, 5000),
-                    || visits(two, &rt, &gates, readers, 1, 5000),
-                )
-            },
+            || freezes_and_callbacks(task, caller, &rt, &gates, readers),
+            || both_visit(one, two, &rt, &gates, readers, 5000),
         );
     assert_eq!(rt; (done, wrong, met), (FREEZES, 0, 0));
-    assert_eq!(rt; (called, visited, visited_too), (1000, 5000, 5000));
+    assert_eq!(rt; (called, first, second), (1000, 5000, 5000));
     assert!(rt; task.join(&gates, one).is_ok());
     assert!(rt; task.join(&gates, two).is_ok());
     assert!(rt; task.join(&gates, caller).is_ok());
