@@ -1,7 +1,7 @@
 -- Phases that stand for one another: all that the rule reads of the one it reads of the other. So an operation that goes through the
 -- phases of another, as
 -- a part of its own, needs no second proof of its events.
-use Rattle.std.specs.Prelude.{◌≡◌, ℕ, Option}
+use Rattle.std.specs.Prelude.{◌≡◌, ℕ, Option, List}
 use Rattle.finite_sums.specs.Sums.{update}
 use Rattle.gate_world.specs.declared.work.Phase.{Phase}
 use Rattle.gate_world.specs.declared.views.View.{View}
@@ -9,6 +9,8 @@ use Rattle.gate_world.specs.Rules.{role_of, IsSteady}
 use Rattle.gate_world.specs.Stages.{stage_role_of}
 use Rattle.gate_world.specs.Worlds.{World}
 use Rattle.gate_world.specs.Levels.{level_role_of, sync_role_of, inside}
+use Rattle.gate_world.specs.declared.views.Traced.{Traced}
+use Rattle.gate_world.specs.Trees.{tree_role_of}
 
 -- all that the rule and the shown model read of a phase is the same of both, but for the accesses that it asks for
 pub record IsAlike (p q : Option Phase) : Type 0 where
@@ -17,6 +19,7 @@ pub record IsAlike (p q : Option Phase) : Type 0 where
   pub level_same : (i : ℕ) → level_role_of i q ≡ level_role_of i p
   pub sync_same : (i : ℕ) → sync_role_of i q ≡ sync_role_of i p
   pub inside_same : inside q ≡ inside p
+  pub tree_same : (trace : List Traced) → tree_role_of trace q ≡ tree_role_of trace p
   pub role_same : (m : ℕ) → role_of m q ≡ role_of m p
 
 -- the view of a task that stands at this phase

@@ -1,7 +1,7 @@
 -- Moments of a schedule: what stood in the world when a refusal's cause was read.
 use Rattle.std.specs.Prelude.{◌≡◌, ℕ, ◌<◌, ◌==◌, ◌||◌, ◌⊎◌, not, nat_lt, Bool, true, false, if◌then◌else◌, Option, Some, None, Err, List, [], ◌∷◌}
 use Rattle.finite_sums.specs.Sums.{total}
-use Rattle.access_model.specs.declared.errors.GateError.TheVariants.{Busy, ReadOnly, Invalid}
+use Rattle.access_model.specs.declared.errors.GateError.TheVariants.{Busy, ReadOnly, Invalid, NoEntry, NotDir, IsDir}
 use Rattle.mount_counts.specs.declared.phases.MountPhase.TheVariants.{Want as Wants, Drop as Drops, Change as Changes}
 use Rattle.mount_counts.specs.declared.phases.WantStep.{WantStep}
 use Rattle.mount_counts.specs.declared.phases.WantStep.TheVariants.{LoadsRemount, LoadsReadOnly, LoadsSuperblock, CountsDown}
@@ -12,7 +12,7 @@ use Rattle.mount_counts.specs.declared.remounts.RemountStep.TheVariants.{LoadsSt
 use Rattle.mount_counts.specs.Roles.{counted}
 use Rattle.gate_world.specs.declared.config.Config.{Config}
 use Rattle.gate_world.specs.declared.work.Phase.{Phase}
-use Rattle.gate_world.specs.declared.work.Phase.TheVariants.{Mounts, Remounts, DownReads, UpReads, Callbacks, Writes, Freezes, Thaws}
+use Rattle.gate_world.specs.declared.work.Phase.TheVariants.{Mounts, Remounts, DownReads, UpReads, Callbacks, Writes, Freezes, Thaws, Trees}
 use Rattle.percpu_rwsem.specs.declared.readers.DownReadStep.{DownReadStep}
 use Rattle.percpu_rwsem.specs.declared.readers.DownReadStep.TheVariants.{LoadsBlock, LeavesBlocked}
 use Rattle.level_laws.specs.Roles.{closed}
@@ -27,9 +27,34 @@ use Rattle.freeze_levels.specs.declared.thaws.ThawStep.TheVariants.{LoadsStage a
 use Rattle.gate_counts.specs.Gates.{counted as counted_of}
 use Rattle.gate_counts.specs.Levels.{level_as_gate}
 use Rattle.gate_world.specs.Levels.{sync_role_of, is_frozen_whole, at_level}
-use Rattle.gate_world.specs.Worlds.{World, Entry, happens, run, opening}
+use Rattle.gate_world.specs.Worlds.{World, Entry, happens, run, opening, found_at}
 use Rattle.gate_world.specs.Shown.{shown}
 use Rattle.gate_world.specs.Rules.{at_mount}
+use Rattle.gated_tree.specs.declared.phases.TreePhase.{TreePhase}
+use Rattle.gated_tree.specs.declared.phases.TreePhase.TheVariants.{Create as Creates, Remove as Removes, Grow as Grows, MoveTo as Moves, Mark as TreeMarks, Snapshot as Snapshots}
+use Rattle.gated_tree.specs.declared.snapshots.SnapshotStep.{SnapshotStep}
+use Rattle.gated_tree.specs.declared.snapshots.SnapshotStep.TheVariants.{LoadsStage as SnapshotLoadsStage, Releases as SnapshotReleases}
+use Rattle.gated_tree.specs.declared.changes.Create.{Create}
+use Rattle.gated_tree.specs.declared.changes.CreateStep.{CreateStep}
+use Rattle.gated_tree.specs.declared.changes.CreateStep.TheVariants.{LoadsDirectory}
+use Rattle.gated_tree.specs.declared.changes.Remove.{Remove}
+use Rattle.gated_tree.specs.declared.changes.RemoveStep.{RemoveStep}
+use Rattle.gated_tree.specs.declared.changes.RemoveStep.TheVariants.{LoadsFile as LoadsFileToRemove}
+use Rattle.gated_tree.specs.declared.changes.MoveTo.{MoveTo}
+use Rattle.gated_tree.specs.declared.changes.MoveStep.{MoveStep}
+use Rattle.gated_tree.specs.declared.changes.MoveStep.TheVariants.{LoadsFile as LoadsFileToMove, LoadsDirectory as LoadsTarget}
+use Rattle.gated_tree.specs.declared.growth.Grow.{Grow}
+use Rattle.gated_tree.specs.declared.growth.GrowStep.{GrowStep}
+use Rattle.gated_tree.specs.declared.growth.GrowStep.TheVariants.{LoadsFile as LoadsFileToGrow}
+use Rattle.gated_tree.specs.declared.marks.Mark.{Mark}
+use Rattle.gated_tree.specs.declared.marks.MarkStep.{MarkStep}
+use Rattle.gated_tree.specs.declared.marks.MarkStep.TheVariants.{LoadsFile as LoadsFileToMark}
+use Rattle.access_model.specs.declared.actions.NodeInfo.{NodeInfo}
+use Rattle.access_model.specs.States.{IsFile, IsDirectory}
+use Rattle.access_model.specs.declared.errors.GateError.{GateError}
+use Rattle.access_model.specs.declared.replies.Next.TheVariants.{Done}
+use Rattle.cpu_words.specs.Hooks.{HookAnswer}
+use Rattle.gate_world.specs.Work.{after_of}
 
 -- the worlds of a schedule, the newest first: the one that it leaves, and each that an entry found
 abbrev pub trail : Config → List World → World → List Entry → List World
@@ -83,11 +108,21 @@ abbrev pub thaw_looks : ThawStep → Bool
 thaw_looks ThawLoadsStage = true
 thaw_looks step = false
 
+-- and of a snapshot
+abbrev pub snapshot_looks : SnapshotStep → Bool
+snapshot_looks SnapshotLoadsStage = true
+snapshot_looks step = false
+
+abbrev pub tree_looks : TreePhase → Bool
+tree_looks (Snapshots x) = snapshot_looks x.step
+tree_looks phase = false
+
 -- the same of what a task is at
 abbrev pub looks_at_stage : Option Phase → Bool
 looks_at_stage (Some (Remounts x)) = step_looks x.step
 looks_at_stage (Some (Freezes x)) = freeze_looks x.step
 looks_at_stage (Some (Thaws x)) = thaw_looks x.step
+looks_at_stage (Some (Trees phase)) = tree_looks phase
 looks_at_stage phase = false
 
 -- the world in which a task last looked at the stage
@@ -209,10 +244,75 @@ abbrev pub ThawHasCause : Config → ℕ → List World → ThawStep → Type 0
 ThawHasCause c t worlds (ThawReleases answer) = answer ≡ Err Invalid → was_incomplete c (last_look t worlds) ≡ true
 ThawHasCause c t worlds step = Unit {0}
 
+-- the node that the next event of a call at the tree loads to see of which kind it is
+abbrev pub create_sees : Create → CreateStep → Option ℕ
+create_sees x LoadsDirectory = Some x.dir
+create_sees x step = None
+
+abbrev pub remove_sees : Remove → RemoveStep → Option ℕ
+remove_sees x LoadsFileToRemove = Some x.file
+remove_sees x step = None
+
+abbrev pub grow_sees : Grow → GrowStep → Option ℕ
+grow_sees x LoadsFileToGrow = Some x.file
+grow_sees x step = None
+
+abbrev pub move_sees : MoveTo → MoveStep → Option ℕ
+move_sees x LoadsFileToMove = Some x.file
+move_sees x (LoadsTarget file) = Some x.dir
+move_sees x step = None
+
+abbrev pub mark_sees : Mark → MarkStep → Option ℕ
+mark_sees x LoadsFileToMark = Some x.file
+mark_sees x step = None
+
+abbrev pub tree_sees : TreePhase → Option ℕ
+tree_sees (Creates x) = create_sees x x.step
+tree_sees (Removes x) = remove_sees x x.step
+tree_sees (Grows x) = grow_sees x x.step
+tree_sees (Moves x) = move_sees x x.step
+tree_sees (TreeMarks x) = mark_sees x x.step
+tree_sees phase = None
+
+-- the refusal tells what the shown model has at this node: nothing, a file, a directory
+abbrev pub TellsOf : Option NodeInfo → GateError → Type 0
+TellsOf entry NoEntry = entry ≡ None
+TellsOf entry NotDir = IsFile entry
+TellsOf entry IsDir = IsDirectory entry
+TellsOf entry refusal = Unit {0}
+
+-- a refusal that tells what a node is: the event that brings it is a load of that node
+abbrev pub is_of_node : GateError → Bool
+is_of_node NoEntry = true
+is_of_node NotDir = true
+is_of_node IsDir = true
+is_of_node refusal = false
+
+-- A call at the tree that its next event refuses so loads a node with that event, and the shown model has the node so.
+abbrev pub NodeHasCause : Config → World → TreePhase → Type 0
+NodeHasCause c w phase = (hook : HookAnswer) (refusal : GateError) →
+    (after_of (Trees phase) (found_at w.words (Trees phase) hook) hook).0 ≡ Done (Err refusal) → is_of_node refusal ≡ true →
+    (n : ℕ) × (tree_sees phase ≡ Some n) × TellsOf ((shown c w).tree n) refusal
+
+-- the same in the newest of these worlds
+abbrev pub NodeHadCause : Config → List World → TreePhase → Type 0
+NodeHadCause c [] phase = ⊥
+NodeHadCause c (w ∷ earlier) phase = NodeHasCause c w phase
+
+-- a snapshot that is refused as invalid: the stage was not 4 when it looked
+abbrev pub SnapshotHasCause : Config → ℕ → List World → SnapshotStep → Type 0
+SnapshotHasCause c t worlds (SnapshotReleases answer) = answer ≡ Err Invalid → was_incomplete c (last_look t worlds) ≡ true
+SnapshotHasCause c t worlds step = Unit {0}
+
+-- the same of a call at the tree
+abbrev pub TreeHasCause : Config → ℕ → List World → TreePhase → Type 0
+TreeHasCause c t worlds (Snapshots x) = SnapshotHasCause c t worlds x.step
+TreeHasCause c t worlds phase = NodeHadCause c worlds phase
+
 -- A task whose next event is the one with which it is refused: as read-only, and the mount was so when the task last asked; as busy, and
 -- something was counted at the mount, for a remount at some mount, in some world from the load of its sum's first word to the load of its
 -- last, or, for a remount or a freeze, the stage was not 0 when it looked; as invalid, for a thaw, and the stage was not 4 then; again, or with which it waits, for a level, and the level was closed when
--- the task last asked. Each kind of phase has a row of its own, so that a new one says its causes.
+-- the task last asked; as a node that is free, a file or a directory, and the node is so. Each kind of phase has a row of its own, so that a new one says its causes.
 abbrev pub HasCause : Config → ℕ → List World → Option Phase → Type 0
 HasCause c t worlds None = Unit {0}
 HasCause c t worlds (Some (Mounts (Wants x))) = x.step ≡ CountsDown ReadOnly → was_read_only c x.mount (last_question t worlds) ≡ true
@@ -226,6 +326,7 @@ HasCause c t worlds (Some (Callbacks b)) = Unit {0}
 HasCause c t worlds (Some (Writes x)) = WriteHasCause c t worlds x
 HasCause c t worlds (Some (Freezes x)) = FreezeHasCause c t worlds x.step
 HasCause c t worlds (Some (Thaws x)) = ThawHasCause c t worlds x.step
+HasCause c t worlds (Some (Trees phase)) = TreeHasCause c t worlds phase
 
 -- so it is of every task, after a schedule
 abbrev pub RefusalsHaveCauses : Config → List Entry → Type 0

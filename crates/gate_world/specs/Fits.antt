@@ -11,7 +11,7 @@ use Rattle.access_model.specs.declared.actions.Gate.TheVariants.{Mount, Level}
 use Rattle.access_model.specs.Actions.{mounts_after, levels_after}
 use Rattle.gate_world.specs.declared.config.Config.{Config}
 use Rattle.gate_world.specs.declared.work.Phase.{Phase}
-use Rattle.gate_world.specs.declared.work.Phase.TheVariants.{Mounts, Remounts, DownReads, UpReads, Callbacks, Writes, Freezes, Thaws}
+use Rattle.gate_world.specs.declared.work.Phase.TheVariants.{Mounts, Remounts, DownReads, UpReads, Callbacks, Writes, Freezes, Thaws, Trees}
 use Rattle.percpu_rwsem.specs.declared.readers.DownRead.{DownRead}
 use Rattle.percpu_rwsem.specs.declared.readers.DownReadStep.{DownReadStep}
 use Rattle.percpu_rwsem.specs.declared.readers.DownReadStep.TheVariants.{LeavesAdmitted}
@@ -28,7 +28,11 @@ use Rattle.freeze_levels.specs.declared.thaws.ThawStep.TheVariants.{Reopens as T
 use Rattle.level_laws.specs.Operations.{KnowsCallback, KnowsDownWrite, KnowsUpWrite}
 use Rattle.write_access.specs.declared.phases.WritePhase.{WritePhase}
 use Rattle.write_access.specs.declared.phases.WritePhase.TheVariants.{Takes, Wants as WriteWants, GivesBack, Drops as WriteDrops, Ends}
-use Rattle.gate_world.specs.Operations.{holds_none, holds_none_from}
+use Rattle.gated_tree.specs.declared.phases.TreePhase.{TreePhase}
+use Rattle.gated_tree.specs.declared.phases.TreePhase.TheVariants.{Mark as TreeMarks, Snapshot as Snapshots, ClearMarks as TreeClears}
+use Rattle.gated_tree.specs.Calls.{TreePhaseFits}
+use Rattle.gate_world.specs.Trees.{tree_bounds}
+use Rattle.gate_world.specs.Operations.{holds_none, holds_none_from, is_writer, may_mark}
 use Rattle.gate_world.specs.Remounts.{RemountFits}
 
 -- a sum in progress has a word more to read
@@ -93,9 +97,17 @@ WriteFits c t held levels (GivesBack m p refusal) = (m < c.mounts) × (p < c.pro
 WriteFits c t held levels (WriteDrops m p) = MountFits c t held levels (Drop m p) × (levels 1 ≡ true)
 WriteFits c t held levels (Ends p) = (p < c.processors) × (levels 1 ≡ true)
 
+-- who may be at a call of the tree: a writer inside level 1 or, for a page fault, level 2, with an access at some mount; for a write-back,
+-- who is inside level 3; for a snapshot, who holds no level. A clearing of marks is a part of a remount or a freeze alone.
+abbrev pub TreeAccess : Config → (ℕ → ℕ) → (ℕ → Bool) → TreePhase → Type 0
+TreeAccess c held levels (TreeMarks x) = may_mark x.dirty c held levels ≡ true
+TreeAccess c held levels (Snapshots x) = holds_none levels ≡ true
+TreeAccess c held levels (TreeClears x) = ⊥
+TreeAccess c held levels phase = is_writer c held levels ≡ true
+
 -- The same of a phase of any layer: a remount is of this task, of these numbers, and holds no level; an up-read holds its level; a callback
 -- is of all tasks, and knows the words of an exchange that is to come; a freeze or a thaw is of this task, of these numbers, and holds no
--- level.
+-- level; a call at the tree is one that its task may be at.
 abbrev pub PhaseFits : Config → ℕ → (ℕ → ℕ) → (ℕ → Bool) → Phase → Type 0
 PhaseFits c t held levels (Mounts phase) = MountFits c t held levels phase
 PhaseFits c t held levels (Remounts x) = (x.task ≡ t) × (x.processors ≡ c.processors) × (x.mounts ≡ c.mounts) × (x.nodes ≡ c.nodes) ×
@@ -108,6 +120,7 @@ PhaseFits c t held levels (Writes x) = WriteFits c t held levels x
 PhaseFits c t held levels (Freezes x) = (x.task ≡ t) × (x.tasks ≡ c.tasks) × (x.processors ≡ c.processors) × (x.nodes ≡ c.nodes) ×
     (holds_none levels ≡ true) × FreezeFits c x.step
 PhaseFits c t held levels (Thaws x) = (x.task ≡ t) × (holds_none levels ≡ true) × ThawFits x.step
+PhaseFits c t held levels (Trees phase) = TreePhaseFits (tree_bounds c) t phase × TreeAccess c held levels phase
 
 -- the same of what a task is at; nothing is asked where no operation is under way
 abbrev pub Fits : Config → ℕ → (ℕ → ℕ) → (ℕ → Bool) → Option Phase → Type 0

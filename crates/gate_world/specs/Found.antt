@@ -168,6 +168,10 @@ abbrev pub cleans : List Traced → List Action
 cleans [] = []
 cleans (e ∷ earlier) = clean_found e.event.word e.event.touch e.event.found (cleans earlier)
 
+-- some event of the trace passes this test, as a statement
+abbrev pub SeenIn : List Traced → (Event → Bool) → Type 0
+SeenIn trace test = some_event test trace ≡ true
+
 -- the newest event passes this test
 abbrev pub newest : (Event → Bool) → List Traced → Bool
 newest test [] = false

@@ -24,6 +24,7 @@ use Rattle.gate_world.specs.Moments.{AllHaveMoments}
 use Rattle.gate_world.specs.Rules.{at_mount, Moves}
 use Rattle.gate_world.specs.Courses.{course_of, IsTraced}
 use Rattle.gate_world.specs.Traces.{Tells, IsShort, most_events}
+use Rattle.gated_tree.specs.Trees.{IsSound, IsClean}
 
 -- the world after a schedule, and the actions that its events added, the newest first
 abbrev pub world_after : Config → List Entry → World
@@ -70,8 +71,21 @@ abbrev pub IsUntaken : Option SyncWord → Type 0
 IsUntaken None = ⊥
 IsUntaken (Some word) = word.taken ≡ false
 
+-- the blocks and children charged are those that there are, and each parent is a directory
+abbrev pub TreeIsSound : Config → World → Type 0
+TreeIsSound c w = IsSound c.nodes w.words.used (shown c w).tree w.words.kids
+
+-- no file is dirty
+abbrev pub TreeIsClean : Config → World → Type 0
+TreeIsClean c w = IsClean c.nodes (shown c w).tree
+
+-- At stage 4 the tree is sound and clean: nobody is under way who has charged anything, or could make a file dirty.
+abbrev pub FrozenTreeIsWhole : Config → World → Type 0
+FrozenTreeIsWhole c w = w.words.stage ≡ 4 → TreeIsSound c w × TreeIsClean c w
+
 -- No lock, no remount and no hold stands: `umount` is free, `remount` is clear, and so is HOLD, which is 2, at each mount. No section is
--- under way, a level is closed only where the file system is frozen as a whole, no callback is taken, and no freeze is half done.
+-- under way, a level is closed only where the file system is frozen as a whole, no callback is taken, no freeze is half done, and
+-- the tree is sound.
 pub record IsAtRest (c : Config) (w : World) : Type 0 where
   pub umount_free : w.words.umount ≡ 0
   pub remount_clear : w.words.remount ≡ 0
@@ -80,6 +94,7 @@ pub record IsAtRest (c : Config) (w : World) : Type 0 where
   pub levels_open : (i : ℕ) → 1 ≤ i → i ≤ 3 → w.words.block i ≡ is_frozen_whole w.words
   pub callbacks_free : (i : ℕ) → 1 ≤ i → i ≤ 3 → IsUntaken (unpack (w.words.sync i))
   pub stage_settled : (w.words.stage ≡ 0) ⊎ (w.words.stage ≡ 4)
+  pub tree_sound : TreeIsSound c w
 
 -- nothing is left behind: with no operation under way, none of them stands
 abbrev pub NothingIsLeft : Config → World → Type 0

@@ -13,7 +13,7 @@ use Rattle.mount_counts.specs.declared.remounts.RemountStep.{RemountStep}
 use Rattle.mount_counts.specs.declared.remounts.RemountStep.TheVariants.{Sums as RemountSums, GivesUp, Releases as RemountReleases}
 use Rattle.gate_world.specs.declared.config.Config.{Config}
 use Rattle.gate_world.specs.declared.work.Phase.{Phase}
-use Rattle.gate_world.specs.declared.work.Phase.TheVariants.{Mounts, Remounts, DownReads, Writes, Freezes, Thaws}
+use Rattle.gate_world.specs.declared.work.Phase.TheVariants.{Mounts, Remounts, DownReads, Writes, Freezes, Thaws, Trees}
 use Rattle.percpu_rwsem.specs.declared.readers.DownReadStep.{DownReadStep}
 use Rattle.percpu_rwsem.specs.declared.readers.DownReadStep.TheVariants.{CountsDown as TakesBack, LeavesBlocked}
 use Rattle.write_access.specs.declared.phases.WritePhase.{WritePhase}
@@ -26,6 +26,10 @@ use Rattle.freeze_levels.specs.declared.thaws.ThawStep.{ThawStep}
 use Rattle.freeze_levels.specs.declared.thaws.ThawStep.TheVariants.{Releases as ThawReleases}
 use Rattle.gate_world.specs.Worlds.{World}
 use Rattle.gate_world.specs.Causes.{last_question, was_read_only, last_look, was_frozen, was_incomplete, moments_of_sum, was_inside, was_counted, SomeWasCounted, last_asked, WasClosed}
+use Rattle.gated_tree.specs.declared.phases.TreePhase.{TreePhase}
+use Rattle.gated_tree.specs.declared.phases.TreePhase.TheVariants.{Snapshot as Snapshots}
+use Rattle.gated_tree.specs.declared.snapshots.SnapshotStep.{SnapshotStep}
+use Rattle.gated_tree.specs.declared.snapshots.SnapshotStep.TheVariants.{Releases as SnapshotReleases}
 
 module _ (c : Config) (t : ℕ) (w : World) (earlier : List World) where
   -- a want that is to be refused as read-only: the mount was so when it last asked
@@ -89,6 +93,16 @@ module _ (c : Config) (t : ℕ) (w : World) (earlier : List World) where
   ThawCause (ThawReleases answer) = answer ≡ Err Invalid → was_incomplete c (last_look t (w ∷ earlier)) ≡ true
   ThawCause step = Unit {0}
 
+  -- a snapshot that is invalid, likewise
+  abbrev pub SnapshotCause : SnapshotStep → Type 0
+  SnapshotCause (SnapshotReleases answer) = answer ≡ Err Invalid → was_incomplete c (last_look t (w ∷ earlier)) ≡ true
+  SnapshotCause step = Unit {0}
+
+  -- another call at the tree has its cause at the event itself
+  abbrev pub TreeCause : TreePhase → Type 0
+  TreeCause (Snapshots x) = SnapshotCause x.step
+  TreeCause phase = Unit {0}
+
   -- what is kept of the causes of what a task is at
   abbrev pub CauseOf : Option Phase → Type 0
   CauseOf (Some (Mounts (Wants x))) = WantCause x.mount x.step
@@ -98,6 +112,7 @@ module _ (c : Config) (t : ℕ) (w : World) (earlier : List World) where
   CauseOf (Some (Writes x)) = WriteCause x
   CauseOf (Some (Freezes x)) = FreezeCause x.step
   CauseOf (Some (Thaws x)) = ThawCause x.step
+  CauseOf (Some (Trees phase)) = TreeCause phase
   CauseOf phase = Unit {0}
 
 -- and of every task

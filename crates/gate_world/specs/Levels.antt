@@ -24,7 +24,7 @@ use Rattle.freeze_levels.specs.declared.thaws.ThawStep.TheVariants.{Reopens as T
 use Rattle.write_access.specs.declared.phases.WritePhase.{WritePhase}
 use Rattle.write_access.specs.declared.phases.WritePhase.TheVariants.{Takes}
 use Rattle.gate_world.specs.declared.work.Phase.{Phase}
-use Rattle.gate_world.specs.declared.work.Phase.TheVariants.{Mounts, Remounts, DownReads, UpReads, Callbacks, Writes, Freezes, Thaws}
+use Rattle.gate_world.specs.declared.work.Phase.TheVariants.{Mounts, Remounts, DownReads, UpReads, Callbacks, Writes, Freezes, Thaws, Trees}
 use Rattle.stage_laws.specs.Roles.{is_full}
 use Rattle.gate_world.specs.declared.views.View.{View}
 use Rattle.gate_world.specs.Views.{holds_level}
@@ -140,6 +140,7 @@ level_role_of i (Some (Callbacks b)) = CountsNot
 level_role_of i (Some (Writes x)) = write_count_role i x
 level_role_of i (Some (Freezes x)) = stand_count i (freeze_stand x.step)
 level_role_of i (Some (Thaws x)) = stand_count i (thaw_stand x.step)
+level_role_of i (Some (Trees phase)) = CountsNot
 
 -- a write access at a level's rcu_sync
 abbrev pub write_sync_role : ℕ → WritePhase → SyncRole
@@ -157,6 +158,7 @@ sync_role_of i (Some (Callbacks b)) = sync_role_if (i == b.level) (callback_role
 sync_role_of i (Some (Writes x)) = write_sync_role i x
 sync_role_of i (Some (Freezes x)) = stand_sync i (freeze_stand x.step)
 sync_role_of i (Some (Thaws x)) = stand_sync i (thaw_stand x.step)
+sync_role_of i (Some (Trees phase)) = IsApart
 
 -- 1 while a write access is inside a read-side section
 abbrev pub write_inside : WritePhase → ℕ
@@ -174,6 +176,7 @@ inside (Some (Callbacks b)) = 0
 inside (Some (Writes x)) = write_inside x
 inside (Some (Freezes x)) = 0
 inside (Some (Thaws x)) = 0
+inside (Some (Trees phase)) = 0
 
 -- what a level's counts read of a view
 abbrev pub at_level : ℕ → View → LevelView

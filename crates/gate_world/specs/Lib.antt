@@ -2,14 +2,15 @@ pub mod Configs
 pub mod Work
 pub mod Remounts
 pub mod Stages
+pub mod Found
 pub mod Snapshots
 pub mod Views
-pub mod Found
 pub mod Owners
 pub mod Operations
 pub mod Accesses
 pub mod Beginnings
 pub mod Worlds
+pub mod Trees
 pub mod Shown
 pub mod Moments
 pub mod Levels

@@ -1,36 +1,42 @@
 -- The moments of snapshots in a history.
-use Rattle.std.specs.Prelude.{◌≡◌, ℕ, ◌<◌, Option, Some, None, List, ◌∷◌, slice_index}
-use Rattle.access_model.specs.declared.actions.NodeInfo.{NodeInfo}
+use Rattle.std.specs.Prelude.{◌≡◌, ℕ, ◌<◌, Option, Some, None, List, ◌∷◌, length, slice_index}
 use Rattle.access_model.specs.Histories.{Done}
 use Rattle.moment_laws.specs.Moments.{WasFrozenWith}
 use Rattle.cpu_words.specs.Words.{Words}
 use Rattle.cpu_words.specs.Hooks.{HookAnswer}
 use Rattle.gate_world.specs.declared.config.Config.{Config}
-use Rattle.gate_world.specs.declared.views.TreeWords.{TreeWords}
+use Rattle.gated_tree.specs.declared.trees.TreeWords.{TreeWords}
+use Rattle.gated_tree.specs.Trees.{LoadedSound, LoadedClean, node_at}
 use Rattle.gate_world.specs.declared.views.Snapshot.{Snapshot}
 use Rattle.gate_world.specs.declared.work.Phase.{Phase}
 use Rattle.gate_world.specs.Snapshots.{completes}
 use Rattle.gate_world.specs.Worlds.{World, found_at}
-use Rattle.gate_world.specs.Shown.{node_shown}
 
--- the tree that was loaded
-abbrev pub tree_loaded : TreeWords → ℕ → Option NodeInfo
-tree_loaded loaded n = node_shown (slice_index loaded.nodes n)
+-- A snapshot of a task number has a moment in a history. It is of all nodes, and of a tree that is sound and clean; and after some of
+-- the history's first actions everything was frozen, the tree was the one loaded, and this number and each other one of its task had done
+-- just what they had done at the snapshot's last load.
+pub record IsOfMoment (c : Config) (log : List Done) (t : ℕ) (s : Snapshot) : Type 0 where
+  pub whole : length s.loaded.nodes ≡ c.nodes
+  pub sound : LoadedSound s.loaded
+  pub clean : LoadedClean s.loaded
+  pub stands : WasFrozenWith c.nodes (node_at s.loaded) ((t, s.done) ∷ s.others) log
 
--- A number's last snapshot has a moment in a history: after some of its first actions everything was frozen, the tree was the one loaded,
--- and this number and each other one of its task had done just what they had done at the snapshot's last load.
+-- so it is of a number's last snapshot, where it has one
 abbrev pub HasMoment : Config → List Done → ℕ → Option Snapshot → Type 0
 HasMoment c log t None = Unit {0}
-HasMoment c log t (Some s) = WasFrozenWith c.nodes (tree_loaded s.loaded) ((t, s.done) ∷ s.others) log
+HasMoment c log t (Some s) = IsOfMoment c log t s
 
 -- each number's last snapshot has one
 abbrev pub AllHaveMoments : Config → List Done → World → Type 0
 AllHaveMoments c log w = (t : ℕ) → HasMoment c log t (w.views t).snapshot
 
--- everything is frozen, and what was loaded are the present nodes
+-- everything is frozen, and what was loaded are the present words of the tree, of all nodes
 pub record IsPresentTree (c : Config) (words : Words) (loaded : TreeWords) : Type 0 where
   pub frozen : words.stage ≡ 4
+  pub whole : length loaded.nodes ≡ c.nodes
+  pub used : words.used ≡ loaded.used
   pub nodes : (n : ℕ) → n < c.nodes → words.node n ≡ slice_index loaded.nodes n
+  pub kids : (n : ℕ) → n < c.nodes → words.kids n ≡ slice_index loaded.kids n
 
 -- where the next event of a phase completes a snapshot, it is of the present tree
 abbrev pub CompletesNow : Config → World → ℕ → HookAnswer → Phase → Type 0

@@ -1,12 +1,12 @@
 -- One row for each operation: all that is said of it apart from its events.
-use Rattle.std.specs.Prelude.{◌≡◌, ◌≢◌, ◌⊎◌, ℕ, ◌+◌, ◌<◌, Bool, true, false, not, ◌&&◌, ◌||◌, nat_lt, if◌then◌else◌, Option, Some, None, Result, Ok, Err, List, [], ◌∷◌, ◌++◌}
+use Rattle.std.specs.Prelude.{◌≡◌, ◌≢◌, ◌⊎◌, ℕ, zero, suc, ◌+◌, ◌*◌, ◌<◌, Bool, true, false, not, ◌&&◌, ◌||◌, nat_lt, if◌then◌else◌, Option, Some, None, Result, Ok, Err, List, [], ◌∷◌, ◌++◌}
 use Rattle.access_model.specs.declared.actions.Action.{Action}
-use Rattle.access_model.specs.declared.actions.Action.TheVariants.{Grant, Return, MountRo, MountRw, SbRo, SbRw, Stage as StageAction, Pass, Reopen}
+use Rattle.access_model.specs.declared.actions.Action.TheVariants.{Grant, Return, MountRo, MountRw, SbRo, SbRw, Stage as StageAction, Pass, Reopen, Create as CreateAction, Remove as RemoveAction, Grow as GrowAction, MoveTo as MoveToAction}
 use Rattle.access_model.specs.declared.actions.Gate.TheVariants.{Mount, Level}
 use Rattle.access_model.specs.declared.errors.GateError.{GateError}
 use Rattle.access_model.specs.declared.errors.GateError.TheVariants.{Again, Busy, ReadOnly, Invalid, Hook}
 use Rattle.access_model.specs.declared.replies.Reply.{Reply}
-use Rattle.access_model.specs.declared.replies.Reply.TheVariants.{Ran}
+use Rattle.access_model.specs.declared.replies.Reply.TheVariants.{Unit as UnitReply, Node as NodeReply, Ran, Tree as TreeReply}
 use Rattle.mount_counts.specs.declared.phases.MountPhase.TheVariants.{Want as Wants, Drop as Drops, Change as Changes}
 use Rattle.mount_counts.specs.declared.phases.WantStep.TheVariants.{CountsUp}
 use Rattle.mount_counts.specs.declared.phases.ChangeStep.TheVariants.{Locks}
@@ -15,7 +15,7 @@ use Rattle.cpu_words.specs.declared.names.WordName.{WordName}
 use Rattle.cpu_words.specs.declared.names.WordName.TheVariants.{Umount, Remount, Stage}
 use Rattle.gate_world.specs.declared.config.Config.{Config}
 use Rattle.gate_world.specs.declared.operations.Op.{Op}
-use Rattle.gate_world.specs.declared.operations.Op.TheVariants.{Want, DropMount, ChangeMount, RemountSb, Start, End, WantWrite, DropWrite, Callback, Freeze as FreezeOp, Thaw as ThawOp}
+use Rattle.gate_world.specs.declared.operations.Op.TheVariants.{Want, DropMount, ChangeMount, RemountSb, Start, End, WantWrite, DropWrite, Callback, Freeze as FreezeOp, Thaw as ThawOp, Create as CreateOp, Remove as RemoveOp, Grow as GrowOp, MoveTo as MoveToOp, Fault as FaultOp, Flush as FlushOp, Snapshot as SnapshotOp}
 use Rattle.gate_world.specs.declared.work.Phase.{Phase}
 use Rattle.percpu_rwsem.specs.declared.readers.DownReadStep.TheVariants.{EntersSection}
 use Rattle.percpu_rwsem.specs.declared.callbacks.CallbackStep.TheVariants.{Claims}
@@ -23,13 +23,31 @@ use Rattle.percpu_rwsem.specs.declared.transitions.Transition.TheVariants.{Loads
 use Rattle.write_access.specs.declared.phases.WritePhase.TheVariants.{Takes, Drops as WriteDrops}
 use Rattle.freeze_levels.specs.declared.freezes.FreezeStep.TheVariants.{Locks as FreezeLocks}
 use Rattle.freeze_levels.specs.declared.thaws.ThawStep.TheVariants.{Locks as ThawLocks}
-use Rattle.gate_world.specs.declared.work.Phase.TheVariants.{Mounts, Remounts, DownReads, UpReads, Callbacks, Writes, Freezes, Thaws}
+use Rattle.gate_world.specs.declared.work.Phase.TheVariants.{Mounts, Remounts, DownReads, UpReads, Callbacks, Writes, Freezes, Thaws, Trees}
 use Rattle.gate_world.specs.declared.views.Traced.{Traced}
+use Rattle.access_model.specs.declared.actions.Kind.{Kind}
+use Rattle.gated_tree.specs.declared.changes.Create.{Create}
+use Rattle.gated_tree.specs.declared.changes.CreateStep.TheVariants.{LoadsDirectory}
+use Rattle.gated_tree.specs.declared.changes.Remove.{Remove}
+use Rattle.gated_tree.specs.declared.changes.RemoveStep.TheVariants.{LoadsFile as LoadsFileToRemove}
+use Rattle.gated_tree.specs.declared.changes.MoveTo.{MoveTo}
+use Rattle.gated_tree.specs.declared.changes.MoveStep.TheVariants.{LoadsFile as LoadsFileToMove}
+use Rattle.gated_tree.specs.declared.growth.Grow.{Grow}
+use Rattle.gated_tree.specs.declared.growth.GrowStep.TheVariants.{LoadsFile as LoadsFileToGrow}
+use Rattle.gated_tree.specs.declared.marks.Mark.{Mark}
+use Rattle.gated_tree.specs.declared.marks.MarkStep.TheVariants.{LoadsFile as LoadsFileToMark}
+use Rattle.gated_tree.specs.declared.snapshots.Snapshot.{Snapshot}
+use Rattle.gated_tree.specs.declared.snapshots.SnapshotStep.TheVariants.{Locks as SnapshotLocks}
+use Rattle.gated_tree.specs.declared.phases.TreePhase.{TreePhase}
+use Rattle.gated_tree.specs.declared.phases.TreePhase.TheVariants.{Create as Creates, Remove as Removes, Grow as Grows, MoveTo as Moves, Mark as TreeMarks, Snapshot as Snapshots}
+use Rattle.gated_tree.specs.Phases.{mark_done}
+use Rattle.gated_tree.specs.Refusals.{CreateHonest, FileHonest, GrowHonest, MoveHonest, SnapshotHonest}
 use Rattle.gate_world.specs.Found.{
   found_read_only,
   found_hold,
   found_taken,
   found_sealed,
+  SeenIn,
   found_frozen,
   finds_hold,
   finds_taken,
@@ -75,6 +93,19 @@ pub record OpRow : Type 1 where
   pub IsTold : Reply → List Traced → Type 0
   -- it may report that it waits after these events
   pub MayWait : Config → List Traced → Type 0
+
+-- an access is held at one of so many mounts
+abbrev pub some_mount : ℕ → (ℕ → ℕ) → Bool
+some_mount zero held = false
+some_mount (suc m) held = some_mount m held || nat_lt 0 (held m)
+
+-- who may change the tree: a task inside level 1 with an access at some mount
+abbrev pub is_writer : Config → (ℕ → ℕ) → (ℕ → Bool) → Bool
+is_writer c held levels = levels 1 && some_mount c.mounts held
+
+-- who may make a file dirty by a page fault: the same, inside level 2
+abbrev pub is_faulter : Config → (ℕ → ℕ) → (ℕ → Bool) → Bool
+is_faulter c held levels = levels 2 && some_mount c.mounts held
 
 -- with these levels held, no level is
 abbrev pub holds_none : (ℕ → Bool) → Bool
@@ -381,6 +412,135 @@ thaw_row = record {
   MayWait = λ c trace. each_event finds_taken trace ≡ true;
 }
 
+-- there is that node
+abbrev pub has_node : ℕ → Config → Bool
+has_node n c = nat_lt n c.nodes
+
+-- the first phase of a create
+abbrev pub first_create : Config → ℕ → Kind → Create
+first_create c d kind = record { dir = d; kind = kind; nodes = c.nodes; step = LoadsDirectory }
+
+-- what a create has added, by its answer: the node that it names
+abbrev pub create_adds : ℕ → Kind → Result Reply GateError → List Action
+create_adds d kind (Ok (NodeReply n)) = CreateAction n d kind ∷ []
+create_adds d kind answer = []
+
+-- a create answers the number of a node
+abbrev pub IsNodeReply : Reply → Type 0
+IsNodeReply (NodeReply n) = Unit {0}
+IsNodeReply reply = ⊥
+
+-- A create is refused where it found its directory free or a file, all nodes taken, or its node taken meanwhile.
+abbrev create_row : ℕ → Kind → OpRow
+create_row d kind = record {
+  first = λ c t. Trees (Creates (first_create c d kind));
+  in_range = has_node d;
+  in_order = is_writer;
+  within_room = λ held. true;
+  waits = false;
+  most_events = λ c. Some (c.nodes + 3);
+  actions = λ answer trace. create_adds d kind answer;
+  IsHonest = λ c refusal trace. CreateHonest (SeenIn trace) (first_create c d kind) refusal;
+  IsTold = λ reply trace. IsNodeReply reply;
+  MayWait = λ c trace. ⊥;
+}
+
+-- a call that is done answers nothing else
+abbrev pub IsUnit : Reply → Type 0
+IsUnit reply = reply ≡ UnitReply
+
+-- A call on a file is refused where it found the file's node free or a directory, or where that changed meanwhile.
+abbrev file_row : ℕ → TreePhase → (Config → (ℕ → ℕ) → (ℕ → Bool) → Bool) → ℕ → Action → OpRow
+file_row file first in_order most action = record {
+  first = λ c t. Trees first;
+  in_range = has_node file;
+  in_order = in_order;
+  within_room = λ held. true;
+  waits = false;
+  most_events = λ c. Some most;
+  actions = λ answer trace. where_done (action ∷ []) answer;
+  IsHonest = λ c refusal trace. FileHonest (SeenIn trace) file refusal;
+  IsTold = λ reply trace. IsUnit reply;
+  MayWait = λ c trace. ⊥;
+}
+
+-- the first phases of the calls on a file
+abbrev pub first_remove : ℕ → Remove
+first_remove file = record { file = file; step = LoadsFileToRemove }
+
+abbrev pub first_grow : Config → ℕ → ℕ → Grow
+first_grow c file blocks = record { file = file; blocks = blocks; capacity = c.capacity; step = LoadsFileToGrow }
+
+abbrev pub first_move : ℕ → ℕ → MoveTo
+first_move file dir = record { file = file; dir = dir; step = LoadsFileToMove }
+
+abbrev pub first_mark : Bool → ℕ → Mark
+first_mark dirty file = record { file = file; dirty = dirty; step = LoadsFileToMark }
+
+-- a grow is refused also where it found no room for its blocks
+abbrev grow_row : ℕ → ℕ → OpRow
+grow_row file blocks = record {
+  first = λ c t. Trees (Grows (first_grow c file blocks));
+  in_range = λ c. has_node file c && nat_lt 0 blocks;
+  in_order = is_writer;
+  within_room = λ held. true;
+  waits = false;
+  most_events = λ c. Some 5;
+  actions = λ answer trace. where_done (GrowAction file blocks ∷ []) answer;
+  IsHonest = λ c refusal trace. GrowHonest (SeenIn trace) (first_grow c file blocks) refusal;
+  IsTold = λ reply trace. IsUnit reply;
+  MayWait = λ c trace. ⊥;
+}
+
+-- a move also where it found its directory free or a file
+abbrev move_row : ℕ → ℕ → OpRow
+move_row file dir = record {
+  first = λ c t. Trees (Moves (first_move file dir));
+  in_range = λ c. has_node file c && has_node dir c;
+  in_order = is_writer;
+  within_room = λ held. true;
+  waits = false;
+  most_events = λ c. Some 5;
+  actions = λ answer trace. where_done (MoveToAction file dir ∷ []) answer;
+  IsHonest = λ c refusal trace. MoveHonest (SeenIn trace) (first_move file dir) refusal;
+  IsTold = λ reply trace. IsUnit reply;
+  MayWait = λ c trace. ⊥;
+}
+
+-- who may begin a page fault, or a write-back
+abbrev pub may_mark : Bool → Config → (ℕ → ℕ) → (ℕ → Bool) → Bool
+may_mark true c held levels = is_faulter c held levels
+may_mark false c held levels = levels 3
+
+-- a page fault sets a file's mark, a write-back clears it
+abbrev mark_row : Bool → ℕ → OpRow
+mark_row dirty file = file_row file (TreeMarks (first_mark dirty file)) (may_mark dirty) 2 (mark_done dirty file)
+
+-- the first phase of a snapshot
+abbrev pub first_snapshot : Config → ℕ → Bool → Snapshot
+first_snapshot c t wait = record { wait = wait; task = t; nodes = c.nodes; step = SnapshotLocks }
+
+-- where a snapshot doesn't wait, it has a most number of events
+abbrev pub snapshot_most : Bool → ℕ → Option ℕ
+snapshot_most true nodes = None
+snapshot_most false nodes = Some (2 * nodes + 4)
+
+-- A snapshot has added nothing, and answers a tree. It is refused where it found `umount` taken and doesn't wait, or a stage other than 4;
+-- one that waits has found `umount` taken, and nothing else.
+abbrev snapshot_row : Bool → OpRow
+snapshot_row wait = record {
+  first = λ c t. Trees (Snapshots (first_snapshot c t wait));
+  in_range = λ c. true;
+  in_order = λ c held levels. holds_none levels;
+  within_room = λ held. true;
+  waits = wait;
+  most_events = λ c. snapshot_most wait c.nodes;
+  actions = λ answer trace. [];
+  IsHonest = λ c refusal trace. SnapshotHonest (SeenIn trace) (first_snapshot c 0 wait) refusal;
+  IsTold = λ reply trace. reply ≡ TreeReply;
+  MayWait = λ c trace. (wait ≡ true) × (each_event finds_taken trace ≡ true);
+}
+
 -- the row of each operation
 abbrev pub row : Op → OpRow
 row (Want m p wait) = want_row m p wait
@@ -394,3 +554,10 @@ row (DropWrite m p) = drop_write_row m p
 row (Callback i) = callback_row i
 row FreezeOp = freeze_row
 row ThawOp = thaw_row
+row (CreateOp d kind) = create_row d kind
+row (RemoveOp file) = file_row file (Removes (first_remove file)) is_writer 4 (RemoveAction file)
+row (GrowOp file blocks) = grow_row file blocks
+row (MoveToOp file dir) = move_row file dir
+row (FaultOp file) = mark_row true file
+row (FlushOp file) = mark_row false file
+row (SnapshotOp wait) = snapshot_row wait

@@ -15,20 +15,22 @@ use Rattle.mount_counts.specs.declared.phases.ChangeStep.TheVariants.{Locks, Sum
 use Rattle.mount_counts.specs.Roles.{Role, Out, Asking, Cleared, PastRemount, PastFlags, BackingOff, Summing, Empty, Leaving, MountView, MountHolds}
 use Rattle.gate_world.specs.declared.config.Config.{Config}
 use Rattle.gate_world.specs.declared.work.Phase.{Phase}
-use Rattle.gate_world.specs.declared.work.Phase.TheVariants.{Mounts, Remounts, DownReads, UpReads, Callbacks, Writes, Freezes, Thaws}
+use Rattle.gate_world.specs.declared.work.Phase.TheVariants.{Mounts, Remounts, DownReads, UpReads, Callbacks, Writes, Freezes, Thaws, Trees}
 use Rattle.write_access.specs.declared.phases.WritePhase.{WritePhase}
 use Rattle.write_access.specs.declared.phases.WritePhase.TheVariants.{Wants as WriteWants}
 use Rattle.gate_world.specs.declared.views.View.{View}
 use Rattle.gate_world.specs.Configs.{model_limits}
 use Rattle.gate_world.specs.Views.{held_at, holds_level, added_by, taken_by}
-use Rattle.gated_tree.specs.Nodes.{IsNode, kind_in, dirty_in}
+use Rattle.gated_tree.specs.Nodes.{dirty_in}
+use Rattle.gated_tree.specs.Roles.{TreeHolds}
+use Rattle.gate_world.specs.Trees.{tree_bounds, tree_of, tree_role_of, is_sealed}
 use Rattle.gate_counts.specs.Levels.{LevelHolds}
 use Rattle.level_laws.specs.Roles.{SyncNumberHolds}
 use Rattle.gate_world.specs.Levels.{sync_role_of, inside, at_level, is_frozen_whole, SectionsAreOdd}
 use Rattle.gate_world.specs.Fits.{Fits}
 use Rattle.gate_world.specs.Remounts.{remount_role, remount_owns, remount_sets}
-use Rattle.gate_world.specs.Stages.{freeze_stage_role, thaw_stage_role, stage_role_of}
-use Rattle.stage_laws.specs.Roles.{owns as stage_owns, StagesHold, MarksHold}
+use Rattle.gate_world.specs.Stages.{freeze_stage_role, thaw_stage_role, tree_stage_role, stage_role_of}
+use Rattle.stage_laws.specs.Roles.{owns as stage_owns, StagesHold}
 use Rattle.gate_world.specs.Owners.{KnowsWords}
 use Rattle.gate_world.specs.Worlds.{World, after_step, phase_action}
 use Rattle.gate_world.specs.Shown.{shown, closing, stage_roles}
@@ -76,6 +78,7 @@ role_at m (Callbacks b) = Out
 role_at m (Writes x) = write_role m x
 role_at m (Freezes x) = Out
 role_at m (Thaws x) = Out
+role_at m (Trees phase) = Out
 
 -- the role at a mount of what a task is at
 abbrev pub role_of : ℕ → Option Phase → Role
@@ -108,6 +111,7 @@ owns (Some (Callbacks b)) = 0
 owns (Some (Writes x)) = 0
 owns (Some (Freezes x)) = stage_owns (freeze_stage_role x.nodes x.step)
 owns (Some (Thaws x)) = stage_owns (thaw_stage_role x.step)
+owns (Some (Trees phase)) = stage_owns (tree_stage_role phase)
 
 -- 1 while an operation has `remount` set: only a remount does
 abbrev pub remounts : Option Phase → ℕ
@@ -120,6 +124,7 @@ remounts (Some (Callbacks b)) = 0
 remounts (Some (Writes x)) = 0
 remounts (Some (Freezes x)) = 0
 remounts (Some (Thaws x)) = 0
+remounts (Some (Trees phase)) = 0
 
 -- what the owner's words and the levels say of a task is the same at both phases
 pub record IsSteady (p q : Option Phase) : Type 0 where
@@ -146,14 +151,12 @@ pub data Part : Type 0 where
   Owner : Part
   -- how far a freeze has come, and the superblock's flags
   Stages : Part
-  -- the dirty marks of the nodes
-  Marks : Part
   -- each phase and its task's accesses
   Fitting : Part
   -- what the owner of `umount` has found or left is still there
   Known : Part
-  -- each node word is one
-  Nodes : Part
+  -- the tree: its nodes, what is charged, its dirty marks
+  Tree : Part
   -- one mount
   AtMount : (m : ℕ) → Part
   -- one freeze level: its counts
@@ -187,10 +190,9 @@ marks_of words n = dirty_in (words.node n)
 abbrev pub Holds : Config → World → Part → Type 0
 Holds c w Owner = OwnerHolds c.tasks w.words.umount w.words.remount (λ t. (w.views t).phase)
 Holds c w Stages = StagesHold c.tasks w.words.stage w.words.sb w.words.remount w.words.block (stage_roles w)
-Holds c w Marks = MarksHold c.tasks c.nodes w.words.stage w.words.sb (marks_of w.words) (stage_roles w)
 Holds c w Fitting = (t : ℕ) → t < c.tasks → ViewFits c t (w.views t)
 Holds c w Known = (t : ℕ) → t < c.tasks → owns (w.views t).phase ≡ 1 → KnowsWords w.words (w.views t).trace
-Holds c w Nodes = ((n : ℕ) → IsNode (w.words.node n)) × (kind_in (w.words.node 0) ≡ 2)
+Holds c w Tree = TreeHolds (tree_bounds c) (tree_of w)
 Holds c w (AtMount m) = m < c.mounts → MountHoldsIn c w m
 Holds c w (AtLevel i) = 1 ≤ i → i ≤ 3 → LevelHoldsIn c w i
 Holds c w (SyncAt i) = 1 ≤ i → i ≤ 3 → SyncHoldsIn c w i
@@ -200,10 +202,9 @@ Holds c w Sections = SectionsAreOdd c.tasks w.words.section (λ t. (w.views t).p
 abbrev pub SameWords : Words → Words → Part → Type 0
 SameWords old new Owner = (new.umount ≡ old.umount) × (new.remount ≡ old.remount)
 SameWords old new Stages = (new.stage ≡ old.stage) × (new.sb ≡ old.sb) × (new.remount ≡ old.remount) × (new.block ≡ old.block)
-SameWords old new Marks = (new.stage ≡ old.stage) × (new.sb ≡ old.sb) × (new.node ≡ old.node)
 SameWords old new Fitting = Unit {0}
 SameWords old new Known = (new.stage ≡ old.stage) × (new.sb ≡ old.sb) × (new.remount ≡ old.remount) × (new.flags ≡ old.flags)
-SameWords old new Nodes = new.node ≡ old.node
+SameWords old new Tree = (new.used ≡ old.used) × (new.node ≡ old.node) × (new.kids ≡ old.kids) × (is_sealed new ≡ is_sealed old)
 SameWords old new (AtMount m) = (new.flags m ≡ old.flags m) × (new.remount ≡ old.remount) × (new.sb ≡ old.sb) × (new.count m ≡ old.count m)
 SameWords old new (AtLevel i) = (new.block i ≡ old.block i) × (new.level i ≡ old.level i) × (is_frozen_whole new ≡ is_frozen_whole old)
 SameWords old new (SyncAt i) =
@@ -215,10 +216,9 @@ SameWords old new Sections = new.section ≡ old.section
 abbrev pub SameView : View → View → Part → Type 0
 SameView old new Owner = (owns new.phase ≡ owns old.phase) × (remounts new.phase ≡ remounts old.phase)
 SameView old new Stages = stage_role_of new.phase ≡ stage_role_of old.phase
-SameView old new Marks = stage_role_of new.phase ≡ stage_role_of old.phase
 SameView old new Fitting = (held_at new ≡ held_at old) × (holds_level new ≡ holds_level old) × (new.phase ≡ old.phase)
 SameView old new Known = (owns new.phase ≡ owns old.phase) × (new.trace ≡ old.trace)
-SameView old new Nodes = Unit {0}
+SameView old new Tree = tree_role_of new.trace new.phase ≡ tree_role_of old.trace old.phase
 SameView old new (AtMount m) = at_mount m new ≡ at_mount m old
 SameView old new (AtLevel i) = at_level i new ≡ at_level i old
 SameView old new (SyncAt i) = sync_role_of i new.phase ≡ sync_role_of i old.phase

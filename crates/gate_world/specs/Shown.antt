@@ -1,9 +1,8 @@
 -- The shown model: what words and views show of the access model.
-use Rattle.std.specs.Prelude.{ℕ, ◌/◌, ◌%◌, ◌||◌, ◌==◌, if◌then◌else◌, Option, Some, None}
-use Rattle.access_model.specs.declared.actions.Kind.TheVariants.{File, Dir}
-use Rattle.access_model.specs.declared.actions.NodeInfo.{NodeInfo}
+use Rattle.std.specs.Prelude.{ℕ, ◌||◌, ◌==◌, Option}
 use Rattle.access_model.specs.States.{State}
 use Rattle.mount_counts.specs.Roles.{ro_bit}
+use Rattle.gated_tree.specs.Nodes.{node_shown}
 use Rattle.gate_world.specs.declared.config.Config.{Config}
 use Rattle.gate_world.specs.declared.work.Phase.{Phase}
 use Rattle.gate_world.specs.Views.{held_at, holds_level}
@@ -11,19 +10,6 @@ use Rattle.stage_laws.specs.Roles.{StageRole, sums}
 use Rattle.stage_laws.specs.Shown.{is_passed as passed_at_level, passed_shown}
 use Rattle.gate_world.specs.Stages.{stage_role_of}
 use Rattle.gate_world.specs.Worlds.{World}
-
--- what a node word shows: the kind in bits 0 and 1 (0 free, 1 a file, 2 a directory), the dirty mark in bit 2, the parent in bits 8
--- to 13, the size in bits 32 to 63
-abbrev pub node_shown : ℕ → Option NodeInfo
-node_shown word =
-    if word % 4 == 0 then None else
-    Some record {
-      kind = (if word % 4 == 1 then File else Dir);
-      parent = word / 256 % 64;
-      size = word / 4294967296;
-      dirty =
-          word / 4 % 2 == 1;
-    }
 
 -- 1 while a phase has a level's `block` set and its sum has not been 0
 abbrev pub closing : ℕ → Option Phase → ℕ

@@ -1,23 +1,52 @@
 -- Snapshots: which event completes one, and what is noted of it.
-use Rattle.std.specs.Prelude.{ℕ, Option, Some, None, List, length}
+use Rattle.std.specs.Prelude.{ℕ, if◌then◌else◌, Option, Some, None, List, [], ◌∷◌, length, slice_index}
 use Rattle.access_model.specs.declared.actions.Action.{Action}
+use Rattle.gated_tree.specs.declared.phases.TreePhase.{TreePhase}
+use Rattle.gated_tree.specs.declared.phases.TreePhase.TheVariants.{Snapshot as Snapshots}
+use Rattle.gated_tree.specs.declared.snapshots.SnapshotStep.{SnapshotStep}
+use Rattle.gated_tree.specs.declared.snapshots.SnapshotStep.TheVariants.{LoadsKids}
+use Rattle.gated_tree.specs.declared.trees.TreeWords.{TreeWords}
+use Rattle.cpu_words.specs.declared.names.WordName.TheVariants.{Kids}
+use Rattle.gated_tree.specs.Nodes.{node_after}
+use Rattle.gated_tree.specs.Roles.{tree_word}
+use Rattle.gated_tree.specs.Trees.{unloaded, loaded}
 use Rattle.gate_world.specs.declared.work.Phase.{Phase}
-use Rattle.gate_world.specs.declared.work.Phase.TheVariants.{Mounts, Remounts, DownReads, UpReads, Callbacks, Writes, Freezes, Thaws}
+use Rattle.gate_world.specs.declared.work.Phase.TheVariants.{Trees}
 use Rattle.gate_world.specs.declared.views.Traced.{Traced}
-use Rattle.gate_world.specs.declared.views.TreeWords.{TreeWords}
 use Rattle.gate_world.specs.declared.views.Snapshot.{Snapshot}
+use Rattle.gate_world.specs.Found.{is_load}
+
+-- what the loads of a trace have noted, in room for so many nodes: of each word of the tree what its newest load found
+abbrev pub loads_noted : ℕ → List Traced → TreeWords
+loads_noted nodes [] = unloaded nodes
+loads_noted nodes (e ∷ earlier) =
+    if is_load e.event.touch then loaded (loads_noted nodes earlier) e.event.word e.event.found else loads_noted nodes earlier
+
+-- the same in the order in which a snapshot loads them
+abbrev pub values_noted : ℕ → List Traced → ℕ → ℕ
+values_noted nodes trace =
+    tree_word nodes (loads_noted nodes trace).used (slice_index (loads_noted nodes trace).nodes) (slice_index (loads_noted nodes trace).kids)
+
+-- what was loaded, where the load of the children of this node is a snapshot's last
+abbrev pub noted_last : Option ℕ → TreeWords → Option TreeWords
+noted_last (Some next) words = None
+noted_last None words = Some words
+
+-- a snapshot of so many nodes: it is complete with the load of the children of the last one
+abbrev pub snapshot_completes : ℕ → SnapshotStep → List Traced → ℕ → Option TreeWords
+snapshot_completes nodes (LoadsKids n) trace found = noted_last (node_after n nodes) (loaded (loads_noted nodes trace) (Kids n) found)
+snapshot_completes nodes step trace found = None
+
+-- the same of a call at the tree: only a snapshot completes one
+abbrev pub tree_completes : TreePhase → List Traced → ℕ → Option TreeWords
+tree_completes (Snapshots x) trace found = snapshot_completes x.nodes x.step trace found
+tree_completes phase trace found = None
 
 -- what the snapshot has loaded that the next event of a phase completes, after these events of its operation, where the event finds
--- this: no phase of these layers completes one
+-- this
 abbrev pub completes : Phase → List Traced → ℕ → Option TreeWords
-completes (Mounts phase) trace found = None
-completes (Remounts x) trace found = None
-completes (DownReads r) trace found = None
-completes (UpReads u) trace found = None
-completes (Callbacks b) trace found = None
-completes (Writes x) trace found = None
-completes (Freezes x) trace found = None
-completes (Thaws x) trace found = None
+completes (Trees phase) trace found = tree_completes phase trace found
+completes phase trace found = None
 
 -- a number's last snapshot after an event that completes this one, or none: until then the number had done these actions, and each
 -- other number of its task so many

@@ -44,8 +44,12 @@ use Rattle.freeze_levels.specs.declared.thaws.ThawStep.TheVariants.{
   Releases as ThawReleases,
 }
 use Rattle.stage_laws.specs.Roles.{Place, Before, Closing, HasPassed, StageRole, Aside, Owning, Remounting, Freezing, Reopening}
+use Rattle.gated_tree.specs.declared.phases.TreePhase.{TreePhase}
+use Rattle.gated_tree.specs.declared.phases.TreePhase.TheVariants.{Snapshot as Snapshots}
+use Rattle.gated_tree.specs.declared.snapshots.SnapshotStep.{SnapshotStep}
+use Rattle.gated_tree.specs.declared.snapshots.SnapshotStep.TheVariants.{Locks as SnapshotLocks, LoadsStage as SnapshotLoadsStage, Releases as SnapshotReleases}
 use Rattle.gate_world.specs.declared.work.Phase.{Phase}
-use Rattle.gate_world.specs.declared.work.Phase.TheVariants.{Mounts, Remounts, DownReads, UpReads, Callbacks, Writes, Freezes, Thaws}
+use Rattle.gate_world.specs.declared.work.Phase.TheVariants.{Mounts, Remounts, DownReads, UpReads, Callbacks, Writes, Freezes, Thaws, Trees}
 
 -- A remount, among so many nodes: in its loop it relies on the stage 0 and the flags 0 that it found, and with `remount` set it clears the
 -- marks from node 1 on; the root, node 0, never has one.
@@ -98,6 +102,18 @@ thaw_stage_role SetsUnfrozen = Owning (Some 4) (Some 0)
 thaw_stage_role (ThawReopens u) = reopening_role u.level u.step
 thaw_stage_role (ThawReleases answer) = Owning None None
 
+-- a snapshot: from its load of stage 4 on it relies on that
+abbrev pub snapshot_stage_role : SnapshotStep → StageRole
+snapshot_stage_role SnapshotLocks = Aside
+snapshot_stage_role SnapshotLoadsStage = Owning None None
+snapshot_stage_role (SnapshotReleases answer) = Owning None None
+snapshot_stage_role step = Owning (Some 4) None
+
+-- no other call at the tree has to do with the stage
+abbrev pub tree_stage_role : TreePhase → StageRole
+tree_stage_role (Snapshots x) = snapshot_stage_role x.step
+tree_stage_role phase = Aside
+
 -- What a task is at: only these change the stage and the flags, or rely on them. (A change owns `umount` too, and does neither.)
 abbrev pub stage_role_of : Option Phase → StageRole
 stage_role_of None = Aside
@@ -109,3 +125,4 @@ stage_role_of (Some (Callbacks b)) = Aside
 stage_role_of (Some (Writes x)) = Aside
 stage_role_of (Some (Freezes x)) = freeze_stage_role x.nodes x.step
 stage_role_of (Some (Thaws x)) = thaw_stage_role x.step
+stage_role_of (Some (Trees phase)) = tree_stage_role phase

@@ -8,7 +8,7 @@ use Rattle.mount_counts.specs.declared.phases.MountPhase.TheVariants.{Want as Wa
 use Rattle.mount_counts.specs.Roles.{has_hold}
 use Rattle.gate_world.specs.declared.config.Config.{Config}
 use Rattle.gate_world.specs.declared.work.Phase.{Phase}
-use Rattle.gate_world.specs.declared.work.Phase.TheVariants.{Mounts, Remounts, DownReads, UpReads, Callbacks, Writes, Freezes, Thaws}
+use Rattle.gate_world.specs.declared.work.Phase.TheVariants.{Mounts, Remounts, DownReads, UpReads, Callbacks, Writes, Freezes, Thaws, Trees}
 use Rattle.write_access.specs.declared.phases.WritePhase.{WritePhase}
 use Rattle.write_access.specs.declared.phases.WritePhase.TheVariants.{Takes, Wants as WriteWants}
 use Rattle.percpu_rwsem.specs.declared.writers.DownWriteStep.{DownWriteStep}
@@ -22,6 +22,8 @@ use Rattle.gate_world.specs.Work.{after_of}
 use Rattle.gate_world.specs.Worlds.{World, Entry, found_at}
 use Rattle.gate_world.specs.Rules.{role_of, owns}
 use Rattle.gate_world.specs.Headline.{world_after}
+use Rattle.gated_tree.specs.declared.phases.TreePhase.{TreePhase}
+use Rattle.gated_tree.specs.declared.phases.TreePhase.TheVariants.{Snapshot as Snapshots}
 
 -- What a phase waits for, task y has: a want waits for who has HOLD set at its mount, a change for who has `umount`, a drop for nobody.
 abbrev pub MountIsWaitedFor : World → MountPhase → ℕ → Type 0
@@ -41,6 +43,11 @@ FreezeIsWaitedFor w LocksAgain y = owns (w.views y).phase ≡ 1
 FreezeIsWaitedFor w (Closes d) y = DownWriteIsWaitedFor w d.step y
 FreezeIsWaitedFor w step y = ⊥
 
+-- a snapshot waits for who has `umount`, and no other call at the tree waits
+abbrev pub TreeIsWaitedFor : World → TreePhase → ℕ → Type 0
+TreeIsWaitedFor w (Snapshots x) y = owns (w.views y).phase ≡ 1
+TreeIsWaitedFor w phase y = ⊥
+
 -- The same of a phase of any layer: a remount and a thaw wait for who has `umount`, a callback for who is inside a read-side section. A
 -- reader of a level waits for nobody at its own event: it has found the level closed before.
 abbrev pub IsWaitedFor : World → Phase → ℕ → Type 0
@@ -52,6 +59,7 @@ IsWaitedFor w (Callbacks b) y = inside (w.views y).phase ≡ 1
 IsWaitedFor w (Writes x) y = ⊥
 IsWaitedFor w (Freezes x) y = FreezeIsWaitedFor w x.step y
 IsWaitedFor w (Thaws x) y = owns (w.views y).phase ≡ 1
+IsWaitedFor w (Trees phase) y = TreeIsWaitedFor w phase y
 
 -- another task has what task t, which is at this phase, waits for
 pub record HasCulprit (c : Config) (w : World) (t : ℕ) (phase : Phase) : Type 0 where
@@ -87,6 +95,7 @@ HasCulpritSince c w earlier t (Callbacks b) = HasCulprit c w t (Callbacks b)
 HasCulpritSince c w earlier t (Writes x) = WriteHasCulprit c w earlier t x
 HasCulpritSince c w earlier t (Freezes x) = FreezeHasCulprit c w earlier t x x.step
 HasCulpritSince c w earlier t (Thaws x) = HasCulprit c w t (Thaws x)
+HasCulpritSince c w earlier t (Trees phase) = HasCulprit c w t (Trees phase)
 
 -- an event after which this comes is no wait, or its phase waits for what another task has or had
 abbrev pub WaitsForAnother : Config → World → List World → ℕ → Phase → Next Phase → Type 0

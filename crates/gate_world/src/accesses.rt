@@ -1,9 +1,9 @@
 //! What a task holds at run time.
 
-ghost use Rattle.std.specs.Prelude.{◌≡◌, slice_index};
-ghost use Rattle.gate_world.specs.Operations.{holds_none, holds_none_from};
+ghost use Rattle.std.specs.Prelude.{◌≡◌, ◌≤◌, slice_index};
+ghost use Rattle.gate_world.specs.Operations.{holds_none, holds_none_from, some_mount};
 ghost use Rattle.gate_world.specs.Fits.{ActionFits};
-ghost use Rattle.gate_world.specs.Accesses.{no_accesses, levels_held, accesses_after};
+ghost use Rattle.gate_world.specs.Accesses.{no_accesses, mounts_held, levels_held, accesses_after};
 
 use access_model::{Action, Gate};
 
@@ -67,5 +67,17 @@ impl Accesses {
         (level > 1 || !self.levels[1])
             && (level > 2 || !self.levels[2])
             && (level > 3 || !self.levels[3])
+    }
+
+    /// Whether the task holds an access at one of so many mounts.
+    pub fn holds_some_mount(&self, mounts: u8) -> bool
+        requires { mounts ≤ 8 }
+        ensures { result ≡ some_mount mounts (mounts_held self.now) }
+    {
+        let mut some = false;
+        for mount in 0..mounts {
+            some = some || self.mounts[mount as usize] > 0;
+        }
+        some
     }
 }

@@ -1,17 +1,18 @@
 //! Beginnings: where an operation starts, or why it can't. What is asked of each operation, and its first phase, stand together.
 
 ghost use Rattle.std.specs.Prelude.{◌≡◌, ◌≤◌, false};
-ghost use Rattle.gate_world.specs.Operations.{is_level_number};
+ghost use Rattle.gate_world.specs.Operations.{is_level_number, is_writer};
 ghost use Rattle.gate_world.specs.Accesses.{mounts_held, levels_held};
 ghost use Rattle.gate_world.specs.Beginnings.{beginning};
-ghost use Rattle.gate_world.specs.declared.operations.Op.TheVariants.{Want as WantOp, DropMount, ChangeMount, RemountSb, Start, End, WantWrite, DropWrite, Callback as CallbackOp, Freeze as FreezeOp, Thaw as ThawOp};
+ghost use Rattle.gate_world.specs.declared.operations.Op.TheVariants.{Want as WantOp, DropMount, ChangeMount, RemountSb, Start, End, WantWrite, DropWrite, Callback as CallbackOp, Freeze as FreezeOp, Thaw as ThawOp, Create as CreateOp, Remove as RemoveOp, Grow as GrowOp, MoveTo as MoveToOp, Fault as FaultOp, Flush as FlushOp, Snapshot as SnapshotOp};
 
 use crate::accesses::Accesses;
 use crate::config::Config;
 use crate::operations::Op;
 use crate::work::Phase;
-use access_model::GateError;
+use access_model::{GateError, Kind};
 use freeze_levels::{Freeze, FreezeStep, Thaw, ThawStep};
+use gated_tree::{Create, CreateStep, Grow, GrowStep, Mark, MarkStep, MoveStep, MoveTo, Remove, RemoveStep, Snapshot, SnapshotStep, TreePhase};
 use mount_counts::{Change, ChangeStep, MountPhase, Remount, RemountStep, Want, WantStep};
 use percpu_rwsem::{Callback, CallbackStep, DownRead, DownReadStep, Transition, UpRead};
 use write_access::WritePhase;
@@ -51,6 +52,13 @@ impl Op {
             Op::Callback { level } => begin_callback(config, level),
             Op::Freeze => begin_freeze(config, task, held),
             Op::Thaw => begin_thaw(config, task, held),
+            Op::Create { dir, kind } => begin_create(config, held, dir, kind),
+            Op::Remove { file } => begin_remove(config, held, file),
+            Op::Grow { file, blocks } => begin_grow(config, held, file, blocks),
+            Op::MoveTo { file, dir } => begin_move(config, held, file, dir),
+            Op::Fault { file } => begin_fault(config, held, file),
+            Op::Flush { file } => begin_flush(config, held, file),
+            Op::Snapshot { wait } => begin_snapshot(config, task, held, wait),
         }
     }
 }
@@ -286,5 +294,142 @@ fn begin_thaw(config: Config, task: u8, held: &Accesses) -> Result<Phase, GateEr
             task,
             step: ThawStep::Locks,
         }))
+    }
+}
+
+/// Whether a task may change the tree: it is inside level 1, and holds an access at some mount.
+fn may_write(config: Config, held: &Accesses) -> bool
+    requires { config.mounts ≤ 8 }
+    ensures { result ≡ is_writer config (mounts_held held.now) (levels_held held.now) }
+{
+    held.levels[1] && held.holds_some_mount(config.mounts)
+}
+
+/// A create is of a writer, in a directory that there may be.
+fn begin_create(config: Config, held: &Accesses, dir: u8, kind: Kind) -> Result<Phase, GateError>
+    requires { config.mounts ≤ 8 }
+    ensures { result ≡ beginning config 0 false (mounts_held held.now) (levels_held held.now) (CreateOp dir kind) }
+{
+    if dir >= config.nodes {
+        Err(GateError::Invalid)
+    } else if !may_write(config, held) {
+        Err(GateError::Order)
+    } else {
+        Ok(Phase::Trees(TreePhase::Create(Create {
+            dir,
+            kind,
+            nodes: config.nodes,
+            step: CreateStep::LoadsDirectory,
+        })))
+    }
+}
+
+/// So is a remove.
+fn begin_remove(config: Config, held: &Accesses, file: u8) -> Result<Phase, GateError>
+    requires { config.mounts ≤ 8 }
+    ensures { result ≡ beginning config 0 false (mounts_held held.now) (levels_held held.now) (RemoveOp file) }
+{
+    if file >= config.nodes {
+        Err(GateError::Invalid)
+    } else if !may_write(config, held) {
+        Err(GateError::Order)
+    } else {
+        Ok(Phase::Trees(TreePhase::Remove(Remove {
+            file,
+            step: RemoveStep::LoadsFile,
+        })))
+    }
+}
+
+/// So is a grow, by some blocks.
+fn begin_grow(config: Config, held: &Accesses, file: u8, blocks: u32) -> Result<Phase, GateError>
+    requires { config.mounts ≤ 8 }
+    ensures { result ≡ beginning config 0 false (mounts_held held.now) (levels_held held.now) (GrowOp file blocks) }
+{
+    if file >= config.nodes || blocks == 0 {
+        Err(GateError::Invalid)
+    } else if !may_write(config, held) {
+        Err(GateError::Order)
+    } else {
+        Ok(Phase::Trees(TreePhase::Grow(Grow {
+            file,
+            blocks,
+            capacity: config.capacity,
+            step: GrowStep::LoadsFile,
+        })))
+    }
+}
+
+/// So is a move.
+fn begin_move(config: Config, held: &Accesses, file: u8, dir: u8) -> Result<Phase, GateError>
+    requires { config.mounts ≤ 8 }
+    ensures { result ≡ beginning config 0 false (mounts_held held.now) (levels_held held.now) (MoveToOp file dir) }
+{
+    if file >= config.nodes || dir >= config.nodes {
+        Err(GateError::Invalid)
+    } else if !may_write(config, held) {
+        Err(GateError::Order)
+    } else {
+        Ok(Phase::Trees(TreePhase::MoveTo(MoveTo {
+            file,
+            dir,
+            step: MoveStep::LoadsFile,
+        })))
+    }
+}
+
+/// A page fault is of a task inside level 2, with an access at some mount.
+fn begin_fault(config: Config, held: &Accesses, file: u8) -> Result<Phase, GateError>
+    requires { config.mounts ≤ 8 }
+    ensures { result ≡ beginning config 0 false (mounts_held held.now) (levels_held held.now) (FaultOp file) }
+{
+    if file >= config.nodes {
+        Err(GateError::Invalid)
+    } else if !(held.levels[2] && held.holds_some_mount(config.mounts)) {
+        Err(GateError::Order)
+    } else {
+        Ok(Phase::Trees(TreePhase::Mark(Mark {
+            file,
+            dirty: true,
+            step: MarkStep::LoadsFile,
+        })))
+    }
+}
+
+/// A write-back is of a task inside level 3.
+fn begin_flush(config: Config, held: &Accesses, file: u8) -> Result<Phase, GateError>
+    ensures { result ≡ beginning config 0 false (mounts_held held.now) (levels_held held.now) (FlushOp file) }
+{
+    if file >= config.nodes {
+        Err(GateError::Invalid)
+    } else if !held.levels[3] {
+        Err(GateError::Order)
+    } else {
+        Ok(Phase::Trees(TreePhase::Mark(Mark {
+            file,
+            dirty: false,
+            step: MarkStep::LoadsFile,
+        })))
+    }
+}
+
+/// A snapshot is not begun inside a level.
+fn begin_snapshot(
+    config: Config,
+    task: u8,
+    held: &Accesses,
+    wait: bool,
+) -> Result<Phase, GateError>
+    ensures { result ≡ beginning config task false (mounts_held held.now) (levels_held held.now) (SnapshotOp wait) }
+{
+    if !held.is_in_no_level() {
+        Err(GateError::Order)
+    } else {
+        Ok(Phase::Trees(TreePhase::Snapshot(Snapshot {
+            wait,
+            task,
+            nodes: config.nodes,
+            step: SnapshotStep::Locks,
+        })))
     }
 }

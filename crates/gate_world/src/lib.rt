@@ -12,5 +12,5 @@ pub mod work;
 pub use accesses::Accesses;
 pub use config::Config;
 pub use operations::Op;
-pub use views::{Snapshot, Traced, TreeWords, View};
+pub use views::{Snapshot, Traced, View};
 pub use work::{Phase, UnderWay};

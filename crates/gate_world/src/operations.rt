@@ -1,5 +1,7 @@
 //! The operations that a task may begin.
 
+use access_model::Kind;
+
 /// An operation. `wait` chooses the form that looks again and again; the try form answers Again in its place.
 #[derive(Clone, Copy, PartialEq, Eq, Debug)]
 pub enum Op {
@@ -55,4 +57,35 @@ pub enum Op {
     Freeze,
     /// `thaw_super`: thaws a frozen file system and reopens its levels, whoever froze it. It waits for `umount`.
     Thaw,
+    /// `vfs_create`, `vfs_mkdir`: makes a file or a directory in a directory, in the first free node.
+    Create {
+        dir: u8,
+        kind: Kind,
+    },
+    /// `vfs_unlink`: removes a file, and gives its blocks back.
+    Remove {
+        file: u8,
+    },
+    /// `vfs_write` past the end: makes a file larger by so many blocks, and dirty.
+    Grow {
+        file: u8,
+        blocks: u32,
+    },
+    /// `vfs_rename`: gives a file another directory.
+    MoveTo {
+        file: u8,
+        dir: u8,
+    },
+    /// `page_mkwrite`: makes a file dirty, inside level 2.
+    Fault {
+        file: u8,
+    },
+    /// Write-back: makes a file clean, inside level 3.
+    Flush {
+        file: u8,
+    },
+    /// A snapshot of the whole tree, under `umount`, while the file system is frozen.
+    Snapshot {
+        wait: bool,
+    },
 }

@@ -4,6 +4,7 @@ use crate::operations::Op;
 use crate::work::Phase;
 use access_model::Action;
 use cpu_words::Event;
+use gated_tree::TreeWords;
 use std::collections::LinkedList;
 
 /// An event with the hook's answer that it read.
@@ -11,13 +12,6 @@ use std::collections::LinkedList;
 pub struct Traced {
     pub event: Event,
     pub hook: Result<(), u16>,
-}
-
-/// The words of the tree: the blocks charged, the nodes, the children charged.
-pub struct TreeWords {
-    pub used: u64,
-    pub nodes: LinkedList<u64>,
-    pub kids: LinkedList<u64>,
 }
 
 /// A snapshot: what it loaded, and how many actions had been done at its last load by its number, and by each other number of its task.

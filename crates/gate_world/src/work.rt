@@ -6,6 +6,7 @@ ghost use Rattle.gate_world.specs.Work.{next_of, after_of, hook_of};
 use access_model::{Action, Next};
 use cpu_words::{Touch, WordName};
 use freeze_levels::{Freeze, HookKind, Thaw};
+use gated_tree::TreePhase;
 use mount_counts::{MountPhase, Remount, RemountStep, Want};
 use percpu_rwsem::{Callback, DownRead, UpRead};
 use write_access::WritePhase;
@@ -29,6 +30,8 @@ pub enum Phase {
     Freezes(Freeze),
     /// A thaw of it.
     Thaws(Thaw),
+    /// A call at the tree, or a snapshot of it.
+    Trees(TreePhase),
 }
 
 impl Phase {
@@ -46,6 +49,7 @@ impl Phase {
             Phase::Writes(phase) => phase.next(),
             Phase::Freezes(freeze) => freeze.next(hook),
             Phase::Thaws(thaw) => thaw.next(hook),
+            Phase::Trees(phase) => phase.next(hook),
         }
     }
 
@@ -86,6 +90,10 @@ impl Phase {
             Phase::Thaws(thaw) => {
                 let (next, action) = thaw.after(found, hook);
                 (next.map(Phase::Thaws), action)
+            }
+            Phase::Trees(phase) => {
+                let (next, action) = phase.after(found, hook);
+                (next.map(Phase::Trees), action)
             }
         }
     }
@@ -255,6 +263,22 @@ impl UnderWay for Thaw {
 
     #[inline(always)]
     fn after(self, found: u64, hook: Result<(), u16>) -> (Next<Thaw>, Option<Action>) {
+        self.after(found, hook)
+    }
+}
+
+impl UnderWay for TreePhase {
+    ghost use Rattle.gate_world.specs.declared.work.Phase.TheVariants.{Trees};
+
+    ghost as_phase = { λ phase. Trees phase };
+
+    #[inline(always)]
+    fn phase(self) -> Phase {
+        Phase::Trees(self)
+    }
+
+    #[inline(always)]
+    fn after(self, found: u64, hook: Result<(), u16>) -> (Next<TreePhase>, Option<Action>) {
         self.after(found, hook)
     }
 }

@@ -1,5 +1,8 @@
 -- What each phase is doing at the tree, and what its numbers must be.
-use Rattle.std.specs.Prelude.{◌≡◌, ℕ, suc, ◌+◌, ◌<◌, ◌≤◌}
+use Rattle.std.specs.Prelude.{◌≡◌, ℕ, suc, ◌+◌, ◌<◌, ◌≤◌, Result, Ok, Err}
+use Rattle.access_model.specs.declared.errors.GateError.{GateError}
+use Rattle.access_model.specs.declared.errors.GateError.TheVariants.{Again}
+use Rattle.access_model.specs.declared.replies.Reply.{Reply}
 use Rattle.access_model.specs.declared.replies.Next.{Next}
 use Rattle.access_model.specs.declared.replies.Next.TheVariants.{Go, Wait, Done}
 use Rattle.gated_tree.specs.declared.changes.Create.{Create}
@@ -99,13 +102,19 @@ RemoveStepFits (FreesNode file) = file.parent < 64
 RemoveStepFits (RefundsItsBlocks file) = file.parent < 64
 RemoveStepFits (RefundsItsChild file) = file.parent < 64
 
+-- the answer that a move is to give: done, or again
+abbrev pub IsMoveAnswer : Result Reply GateError → Type 0
+IsMoveAnswer (Ok reply) = Unit {0}
+IsMoveAnswer (Err Again) = Unit {0}
+IsMoveAnswer (Err refusal) = ⊥
+
 -- so does that of a file that a move has loaded, and the directory from which it subtracts a child
 abbrev pub MoveStepFits : MoveStep → Type 0
 MoveStepFits LoadsFileToMove = Unit {0}
 MoveStepFits (LoadsTarget file) = file.parent < 64
 MoveStepFits (ChargesTarget file) = file.parent < 64
 MoveStepFits (MovesFile file) = file.parent < 64
-MoveStepFits (RefundsOne dir answer) = dir < 64
+MoveStepFits (RefundsOne dir answer) = (dir < 64) × IsMoveAnswer answer
 
 -- a snapshot's node to come is one of the tree's
 abbrev pub SnapshotStepFits : Bounds → SnapshotStep → Type 0
