@@ -102,7 +102,7 @@ module _ (c : Bounds) (within : AreWithin c) (t : ℕ) where
       looked_fits Moves (at_move x (LoadsTarget file)) (λ dir. at_move x (ChargesTarget file)) (directory_in found) (n, d, fits)
       (λ dir e. (n, d, fits))
   move_fits x (ChargesTarget file) found n d fits = (n, d, fits)
-  move_fits x (MovesFile file) found n d fits = either Moves (found == word_of file) _ _ (n, d, fits, tt) (n, d, omega (arith, d, within.nodes), tt)
+  move_fits x (MovesFile file) found n d fits = either Moves (found == word_of file) _ _ (n, d, (fits, tt)) (n, d, (omega (arith, d, within.nodes), tt))
   move_fits x (RefundsOne dir answer) found n d fits = tt
 
   mark_fits : (x : Mark) (step : MarkStep) (found : ℕ) → x.file < c.nodes → NextFits c t (map_next Marks (mark_after x step found).0)
