@@ -1,8 +1,8 @@
 -- What an event of a freeze or a thaw may leave: each part of the rule, and the shown model.
 use Rattle.cpu_words.specs.Sums.{sum_taking}
 use Rattle.access_model.specs.States.{Limits}
-use Rattle.gate_world.specs.Shown.{node_shown}
 use Rattle.percpu_rwsem.specs.Graces.{looked}
+use Rattle.gated_tree.specs.Nodes.{node_shown}
 use Rattle.gate_world.specs.Configs.{model_limits}
 use Rattle.percpu_rwsem.specs.SyncWords.{is_passed, on_enter, on_callback, unpack}
 use Rattle.percpu_rwsem.specs.Transitions.{transition_after}

@@ -27,12 +27,13 @@ use Rattle.percpu_rwsem.specs.Transitions.{transition_after}
 use Rattle.percpu_rwsem.specs.Writers.{exit_made, down_write_next, down_write_after, down_write_summed, up_write_next, up_write_after}
 use Rattle.stage_laws.specs.Events.{StageEvent, action_of as stage_action_of}
 use Rattle.stage_laws.specs.Shown.{state_after}
+use Rattle.gated_tree.specs.Nodes.{node_shown}
 use Rattle.gate_world.specs.declared.config.Config.{Config}
 use Rattle.gate_world.specs.declared.views.View.{View}
 use Rattle.gate_world.specs.Configs.{model_limits}
 use Rattle.gate_world.specs.Levels.{level_added_after, level_taken_after}
 use Rattle.gate_world.specs.Rules.{IsGood, ViewFits, Nodes, owns}
-use Rattle.gate_world.specs.Shown.{shown, node_shown}
+use Rattle.gate_world.specs.Shown.{shown}
 use Rattle.gate_world.specs.Views.{added_after, taken_after}
 use Rattle.gate_world.specs.Worlds.{World}
 use Rattle.gate_frames.proofs.Frames.{left_alone}

@@ -18,7 +18,7 @@ use Rattle.cpu_words.specs.Words.{Words, read, put}
 use Rattle.cpu_words.specs.declared.names.WordName.TheVariants.{Node}
 use Rattle.cpu_words.specs.declared.events.Touch.TheVariants.{And}
 use Rattle.gated_tree.specs.declared.marks.ClearMarks.{ClearMarks}
-use Rattle.gated_tree.specs.Nodes.{IsNode, kind_in, dirty_in}
+use Rattle.gated_tree.specs.Nodes.{IsNode, kind_in, dirty_in, node_shown}
 use Rattle.gated_tree.proofs.ClearedMarks.{without_mark, cleared_node, cleared_shown, clean_stays, clears_mark}
 use Rattle.freeze_levels.specs.declared.freezes.Freeze.{Freeze}
 use Rattle.freeze_levels.specs.declared.freezes.FreezeStep.{FreezeStep}
@@ -46,7 +46,7 @@ use Rattle.gate_world.specs.Configs.{IsWithin, model_limits}
 use Rattle.gate_world.specs.Fits.{Fits, FreezeFits, mounts_by, levels_by}
 use Rattle.gate_world.specs.Levels.{closed_to, freeze_stand, level_added_by, level_taken_by}
 use Rattle.gate_world.specs.Rules.{IsGood, Nodes, owns, marks_of, ViewFits, Holds, StepKeeps}
-use Rattle.gate_world.specs.Shown.{shown, stage_roles, node_shown}
+use Rattle.gate_world.specs.Shown.{shown, stage_roles}
 use Rattle.gate_world.specs.Stages.{freeze_stage_role, stage_role_of}
 use Rattle.gate_world.specs.Views.{held_at, holds_level, phase_after, actions_after, view_with, added_by, taken_by}
 use Rattle.gate_world.specs.Worlds.{World}

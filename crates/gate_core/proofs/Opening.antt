@@ -6,7 +6,7 @@ use Rattle.cpu_words.specs.Names.{words_in_all}
 use Rattle.cpu_words.specs.Lists.{AreOpening}
 use Rattle.cpu_words.proofs.Places.{opening_listed}
 use Rattle.gate_world.specs.declared.config.Config.{Config}
-use Rattle.gate_world.specs.Configs.{IsWithin, extents_of}
+use Rattle.gate_world.specs.Configs.{IsWithin, extents_kept}
 use Rattle.gate_world.specs.Worlds.{opening}
 use Rattle.gate_world.specs.Fits.{Fits}
 use Rattle.gate_frames.proofs.Places.{are_few}
@@ -34,7 +34,7 @@ module _ (c : Config) (within : IsWithin c) (words : List ℕ) (opens : AreOpeni
   pub opening_shown : Shows memory opening
   opening_shown = record {
     words =
-        opening_listed (extents_of c) (are_few c within) (λ place. place) (λ i j q. q) words_in_all words opens
+        opening_listed (extents_kept c) (are_few c within) (λ place. place) (λ i j q. q) words_in_all words opens
         (omega (arith, within.some_node));
     phases = λ t lt. at_seat (λ (s : Seat). s.phase ≡ None) refl t lt;
     mounts = λ t m lt lm. at_seat (λ (s : Seat). mounts_in s m ≡ 0) (zero_held m (omega (arith, within.mounts))) t lt;

@@ -18,7 +18,7 @@ use Rattle.cpu_words.specs.Hooks.{HookAnswer}
 use Rattle.gate_world.specs.declared.config.Config.{Config}
 use Rattle.gate_world.specs.declared.work.Phase.{Phase}
 use Rattle.gate_world.specs.declared.views.View.{View}
-use Rattle.gate_world.specs.Configs.{extents_of}
+use Rattle.gate_world.specs.Configs.{extents_kept}
 use Rattle.gate_world.specs.Views.{held_at, holds_level, phase_after, view_after}
 use Rattle.gate_world.specs.Work.{next_of, after_of}
 use Rattle.gate_world.specs.Worlds.{World, Steps, after_step, happens, run, opening}
@@ -88,7 +88,7 @@ module _ (memory : Memory) (sound : IsSound memory) (t : ℕ) (lt : t < memory.c
   phase_fits = subst (Fits config t mounts levels) is (sound.fits t lt)
 
   -- so the word is there
-  there : IsWord (extents_of config) name
+  there : IsWord (extents_kept config) name
   there = word_there config sound.within t mounts levels lt phase hook phase_fits
 
   -- and in the list
@@ -137,10 +137,10 @@ module _ (memory : Memory) (sound : IsSound memory) (t : ℕ) (lt : t < memory.c
         ap (λ f. f i) (sym (levels_of_after (done_at (read w.words name)).1 (w.views t).actions)))
 
     -- the words after the event
-    words_after_shown : (n : WordName) → IsWord (extents_of config) n →
+    words_after_shown : (n : WordName) → IsWord (extents_kept config) n →
         slice_index memory_after.words (place n) ≡ read (after_step w t phase hook).words n
     words_after_shown n rn =
-        written (extents_of config) (are_few config sound.within) (λ place. place) (λ i j q. q)
+        written (extents_kept config) (are_few config sound.within) (λ place. place) (λ i j q. q)
         memory.words w.words name (left touch value) place_fits there shows.words n rn ∙
         ap (λ y. read (put w.words name (left touch y)) n) (words_shown w shows)
 

@@ -4,7 +4,7 @@ use Rattle.cpu_words.specs.declared.names.WordName.{WordName}
 use Rattle.cpu_words.specs.Names.{IsWord, place, words_in_all}
 use Rattle.cpu_words.specs.Words.{read}
 use Rattle.gate_world.specs.declared.config.Config.{Config}
-use Rattle.gate_world.specs.Configs.{IsWithin, extents_of}
+use Rattle.gate_world.specs.Configs.{IsWithin, extents_kept}
 use Rattle.gate_world.specs.Views.{held_at, holds_level}
 use Rattle.gate_world.specs.Worlds.{World, Entry, run, opening}
 use Rattle.gate_world.specs.Fits.{Fits}
@@ -28,7 +28,7 @@ seat_of memory t = slice_index_or memory.seats t no_seat
 -- The memory shows this world: each word that there is, and each task's phase and accesses. Lists of actions and events stand in
 -- no memory.
 pub record Shows (memory : Memory) (w : World) : Type 0 where
-  pub words : (name : WordName) → IsWord (extents_of memory.config) name → slice_index memory.words (place name) ≡ read w.words name
+  pub words : (name : WordName) → IsWord (extents_kept memory.config) name → slice_index memory.words (place name) ≡ read w.words name
   pub phases : (t : ℕ) → t < memory.config.tasks → (seat_of memory t).phase ≡ (w.views t).phase
   pub mounts : (t m : ℕ) → t < memory.config.tasks → m < memory.config.mounts → mounts_in (seat_of memory t) m ≡ held_at (w.views t) m
   pub levels : (t i : ℕ) → t < memory.config.tasks → 1 ≤ i → i ≤ 3 → levels_in (seat_of memory t) i ≡ holds_level (w.views t) i

@@ -15,13 +15,15 @@ use Rattle.gate_world.specs.declared.views.View.{View}
 use Rattle.gate_world.specs.declared.work.Phase.{Phase}
 use Rattle.gate_world.specs.Views.{held_at, holds_level, added_after, taken_after}
 use Rattle.gate_world.specs.Worlds.{World}
-use Rattle.gate_world.specs.Shown.{shown, closing, is_passed, node_shown, stage_roles}
+use Rattle.gate_world.specs.Shown.{shown, closing, is_passed, stage_roles}
 use Rattle.gate_world.specs.Fits.{Fits}
-use Rattle.gate_world.specs.Rules.{role_if, at_mount, owns, remounts, IsSteady, OwnerHolds, ViewFits, Part, Owner, Stages, Marks, marks_of, Fitting, AtMount, Holds, SameWords, SameView, GatesHold, IsGood, Known, Nodes, AtLevel, SyncAt, Sections}
+use Rattle.gate_world.specs.Rules.{role_if, at_mount, owns, remounts, IsSteady, OwnerHolds, ViewFits, Part, Owner, Stages, Fitting, AtMount, Holds, SameWords, SameView, GatesHold, IsGood, Known, Tree, AtLevel, SyncAt, Sections}
 use Rattle.gate_world.specs.Owners.{KnowsWords}
 use Rattle.gate_frames.proofs.Known.{known_same}
-use Rattle.gated_tree.specs.Nodes.{IsNode, kind_in, dirty_in}
-use Rattle.stage_laws.specs.Roles.{StageRole, StagesHold, MarksHold}
+use Rattle.gated_tree.specs.Nodes.{node_shown}
+use Rattle.gated_tree.specs.Roles.{Role as TreeRole, TreeState, TreeHolds}
+use Rattle.gate_world.specs.Trees.{tree_bounds, tree_role_of, tree_roles}
+use Rattle.stage_laws.specs.Roles.{StageRole, StagesHold}
 use Rattle.gate_world.specs.Stages.{stage_role_of}
 use Rattle.gate_counts.specs.Levels.{Out as CountsNot, LevelView, LevelRole, LevelHolds}
 use Rattle.level_laws.specs.Roles.{Out as IsApart, SyncRole, SyncNumberHolds}
@@ -78,9 +80,11 @@ pub stages_as : {tasks s s' f f' r r' : ℕ} {b b' : ℕ → ℕ} {at at' : ℕ 
     StagesHold tasks s' f' r' b' at' → StagesHold tasks s f r b at
 stages_as {tasks} es ef er eb ea h = subst (λ X. X) (sym (λ i. StagesHold tasks (es i) (ef i) (er i) (eb i) (ea i))) h
 
-pub marks_as : {tasks nodes s s' f f' : ℕ} {d d' : ℕ → ℕ} {at at' : ℕ → StageRole} → s ≡ s' → f ≡ f' → d ≡ d' → at ≡ at' →
-    MarksHold tasks nodes s' f' d' at' → MarksHold tasks nodes s f d at
-marks_as {tasks} {nodes} es ef ed ea h = subst (λ X. X) (sym (λ i. MarksHold tasks nodes (es i) (ef i) (ed i) (ea i))) h
+-- a tree with the same words and roles
+pub tree_as : {s s' u u' : ℕ} {n n' k k' : ℕ → ℕ} {at at' : ℕ → TreeRole} → s ≡ s' → u ≡ u' → n ≡ n' → k ≡ k' → at ≡ at' →
+    ◌≡◌ {A = TreeState} (record { sealed = s; used = u; node = n; kids = k; at = at })
+    (record { sealed = s'; used = u'; node = n'; kids = k'; at = at' })
+tree_as es eu en ek ea = λ i. record { sealed = es i; used = eu i; node = en i; kids = ek i; at = ea i }
 
 -- a view of a level with the same accesses, net additions and role
 pub level_view_as : {h h' : ℕ} {a a' k k' : ℕ → ℕ} {r r' : LevelRole} → h ≡ h' → a ≡ a' → k ≡ k' → r ≡ r' →
@@ -154,6 +158,13 @@ module _ (c : Config) (w : World) (t : ℕ) (lt : t < c.tasks) where
   stage_roles_left v seen =
       update_map (λ (u : View). stage_role_of u.phase) w.views t v ∙ ap (update (stage_roles w) t) seen ∙ update_same (stage_roles w) t
 
+  -- what each task is doing at the tree, likewise
+  pub tree_roles_left : (v : View) → tree_role_of v.trace v.phase ≡ tree_role_of (w.views t).trace (w.views t).phase →
+      ◌≡◌ {A = ℕ → TreeRole} (λ x. tree_role_of (update w.views t v x).trace (update w.views t v x).phase) (tree_roles w)
+  tree_roles_left v seen =
+      update_map (λ (u : View). tree_role_of u.trace u.phase) w.views t v ∙ ap (update (tree_roles w) t) seen ∙
+      update_same (tree_roles w) t
+
   -- each part of the rule where an event leaves what it reads
   pub left_alone : (part : Part) (ws : Words) (v : View) → SameWords w.words ws part → SameView (w.views t) v part → Holds c w part →
       Holds c (record { words = ws; views = update w.views t v }) part
@@ -167,7 +178,6 @@ module _ (c : Config) (w : World) (t : ℕ) (lt : t < c.tasks) where
     remounting = omega (arith, same.1, h.remounting, seen.1, total_updated (λ (u : View). remounts u.phase) c.tasks t w.views v lt);
   }
   left_alone Stages ws v same seen h = stages_as same.0 same.1 same.2 same.3 (stage_roles_left v seen) h
-  left_alone Marks ws v same seen h = marks_as same.0 same.1 (λ i n. dirty_in (same.2 i n)) (stage_roles_left v seen) h
   left_alone Fitting ws v same seen h = λ x lx.
       each_updated (λ y (u : View). ViewFits c y u) w.views t v x
       (subst (λ (p : Option Phase). Fits c t (held_at v) (holds_level v) p) (sym seen.2)
@@ -177,7 +187,8 @@ module _ (c : Config) (w : World) (t : ℕ) (lt : t < c.tasks) where
       each_updated (λ y (u : View). owns u.phase ≡ 1 → KnowsWords ws u.trace) w.views t v x
       (λ o. subst (KnowsWords ws) (sym seen.1) (known_same w.words ws same (w.views t).trace (h t lt (sym seen.0 ∙ o))))
       (λ ne o. known_same w.words ws same (w.views x).trace (h x lx o))
-  left_alone Nodes ws v same seen h = (λ n. subst IsNode (sym (ap (λ f. f n) same)) (h.0 n), ap (λ f. kind_in (f 0)) same ∙ h.1)
+  left_alone Tree ws v same seen h =
+      subst (TreeHolds (tree_bounds c)) (sym (tree_as same.3 same.0 same.1 same.2 (tree_roles_left v seen))) h
   left_alone (AtMount m) ws v same seen h = λ lm.
       holds_as same.0 same.1 same.2 same.3 (update_map (at_mount m) w.views t v ∙
       (ap (update (λ x. at_mount m (w.views x)) t) seen ∙ update_same (λ x. at_mount m (w.views x)) t)) (h lm)

@@ -15,11 +15,16 @@ use Rattle.mount_counts.specs.declared.remounts.RemountStep.{RemountStep}
 use Rattle.gate_world.specs.Work.{IgnoresAnswer, remount_hook, hook_of}
 use Rattle.std.proofs.Common.{ℕ, ◌≡◌, None, ap, true≢false, is_some, refl}
 use Rattle.mount_counts.specs.Phases.{next, after}
-use Rattle.gate_world.specs.declared.work.Phase.TheVariants.{Mounts, Remounts, DownReads, UpReads, Callbacks, Writes, Freezes, Thaws}
+use Rattle.gate_world.specs.declared.work.Phase.TheVariants.{Mounts, Remounts, DownReads, UpReads, Callbacks, Writes, Freezes, Thaws, Trees}
 use Rattle.mount_counts.specs.declared.phases.MountPhase.TheVariants.{Want as Wants, Drop as Drops, Change as Changes}
 use Rattle.mount_counts.specs.Remounts.{remount_next, remount_after}
 use Rattle.access_model.specs.Replies.{map_next}
 use Rattle.mount_counts.specs.declared.remounts.RemountStep.TheVariants.{SetsWritable, SetsReadOnly}
+use Rattle.gate_world.specs.Trees.{tree_role_of}
+use Rattle.gate_frames.proofs.Trees.{marks_right}
+use Rattle.gated_tree.specs.declared.phases.TreePhase.{TreePhase}
+use Rattle.gated_tree.specs.Phases.{next as tree_next, after as tree_after}
+use Rattle.gated_tree.specs.declared.phases.TreePhase.TheVariants.{Create as Creates, Remove as Removes, Grow as Grows, MoveTo as Moves, Mark as TreeMarks, Snapshot as Snapshots, ClearMarks as TreeClears}
 
 mount_ignores : (x : MountPhase) (a b : HookAnswer) (found : ℕ) → (next x a ≡ next x b) × (after x found a ≡ after x found b)
 mount_ignores (Wants x) a b found = (refl, refl)
@@ -43,6 +48,15 @@ thaw_ignores : (x : Thaw) (s : ThawStep) → thaw_hook s ≡ None → (a b : Hoo
 thaw_ignores x SetsUnfrozen h a b found = absurd (true≢false (ap is_some h))
 thaw_ignores x s h a b found = (refl, refl)
 
+tree_ignores : (x : TreePhase) (a b : HookAnswer) (found : ℕ) → (tree_next x a ≡ tree_next x b) × (tree_after x found a ≡ tree_after x found b)
+tree_ignores (Creates x) a b found = (refl, refl)
+tree_ignores (Removes x) a b found = (refl, refl)
+tree_ignores (Grows x) a b found = (refl, refl)
+tree_ignores (Moves x) a b found = (refl, refl)
+tree_ignores (TreeMarks x) a b found = (refl, refl)
+tree_ignores (Snapshots x) a b found = (refl, refl)
+tree_ignores (TreeClears x) a b found = (refl, refl)
+
 -- each phase
 pub ignores : (phase : Phase) → IgnoresAnswer phase (hook_of phase)
 ignores (Mounts x) h a b found =
@@ -64,3 +78,6 @@ ignores (Thaws x) h a b found =
     let e : (thaw_next x x.step a ≡ thaw_next x x.step b) × (thaw_after x x.step found a ≡ thaw_after x x.step found b) =
     thaw_ignores x x.step h a b found in
     (e.0, ap (λ y. (map_next Thaws y.0, y.1)) e.1)
+ignores (Trees x) h a b found =
+    let e : (tree_next x a ≡ tree_next x b) × (tree_after x found a ≡ tree_after x found b) = tree_ignores x a b found in
+    (e.0, ap (λ y. (map_next Trees y.0, y.1)) e.1)

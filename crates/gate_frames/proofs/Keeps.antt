@@ -12,6 +12,8 @@ use Rattle.cpu_words.specs.Names.{IsWord}
 use Rattle.cpu_words.specs.Hooks.{HookAnswer}
 use Rattle.gate_world.specs.declared.config.Config.{Config}
 use Rattle.gate_world.specs.declared.work.Phase.{Phase}
+use Rattle.gated_tree.specs.Roles.{Out as OffTree}
+use Rattle.gate_world.specs.Trees.{tree_role_of}
 use Rattle.gate_world.specs.Configs.{IsWithin, extents_of, extents_among}
 use Rattle.gate_world.specs.Views.{phase_after, held_at, holds_level}
 use Rattle.gate_world.specs.Work.{next_of, after_of}
@@ -47,21 +49,22 @@ module _ (c : Config) (t : ℕ) (f g : ℕ → ℕ) (h k : ℕ → Bool) (mounts
   pub none_agree : holds_none h ≡ holds_none k
   none_agree = rw (levels 1 (omega arith) (omega arith), levels 2 (omega arith) (omega arith), levels 3 (omega arith) (omega arith))
 
--- a word that is there among the tasks is there among more of them
-pub word_among : (c : Config) (n : ℕ) → c.tasks ≤ n → (name : WordName) → IsWord (extents_of c) name → IsWord (extents_among n c) name
-word_among c n le Umount h = h
-word_among c n le Stage h = h
-word_among c n le SbFlags h = h
-word_among c n le Remount h = h
-word_among c n le (MountFlags m) h = h
-word_among c n le (MountCount m p) h = h
-word_among c n le (Block i) h = h
-word_among c n le (Sync i) h = h
-word_among c n le (LevelCount i p) h = h
-word_among c n le (Section t) h = omega (arith, le, h)
-word_among c n le Used h = h
-word_among c n le (Node m) h = h
-word_among c n le (Kids m) h = h
+-- a word that is there is kept, among more tasks, too
+pub word_among : (c : Config) → IsWithin c → (n : ℕ) → c.tasks ≤ n → (name : WordName) → IsWord (extents_of c) name →
+    IsWord (extents_among n c) name
+word_among c within n le Umount h = h
+word_among c within n le Stage h = h
+word_among c within n le SbFlags h = h
+word_among c within n le Remount h = h
+word_among c within n le (MountFlags m) h = h
+word_among c within n le (MountCount m p) h = h
+word_among c within n le (Block i) h = h
+word_among c within n le (Sync i) h = h
+word_among c within n le (LevelCount i p) h = h
+word_among c within n le (Section t) h = omega (arith, le, h)
+word_among c within n le Used h = h
+word_among c within n le (Node m) h = omega (arith, within.nodes, h)
+word_among c within n le (Kids m) h = omega (arith, within.nodes, h)
 
 -- where nothing is counted at a gate in two worlds, its counts are the same in both
 pub record IsQuiet (c : Config) (w next : World) : Type 0 where
@@ -79,7 +82,7 @@ pub record PhaseKeeps (c : Config) (phase : Phase) : Type 0 where
   -- a snapshot that its event completes is of the present tree
   pub completes : IsWithin c → (w : World) → IsGood c w → (t : ℕ) → t < c.tasks → (hook : HookAnswer) → (w.views t).phase ≡ Some phase →
       CompletesNow c w t hook phase
-  -- the word of its event is there, among however many tasks its own number is one of
+  -- the word of its event is kept, among however many tasks its own number is one of
   pub word : IsWithin c → (n : ℕ) → c.tasks ≤ n → (t : ℕ) → t < n → (held : ℕ → ℕ) (levels : ℕ → Bool) (hook : HookAnswer) →
       PhaseFits c t held levels phase → IsWord (extents_among n c) (next_of phase hook).0
   -- its action can be done
@@ -133,13 +136,14 @@ pub record OpKeeps (c : Config) (op : Op) : Type 0 where
   pub fits : (t : ℕ) (held : ℕ → ℕ) (levels : ℕ → Bool) → is_in_range c op ≡ true → is_in_order c held levels op ≡ true →
       is_within_room held op ≡ true →
       Fits c t held levels (Some (first_phase c t op))
-  -- which has no role yet at a mount or a level, does nothing with the stage, is inside no section, and has no cause
+  -- which has no role yet at a mount, a level or the tree, does nothing with the stage, is inside no section, and has no cause
   pub no_role : (t y : ℕ) → role_of y (Some (first_phase c t op)) ≡ Out
   pub steady : (t : ℕ) → IsSteady None (Some (first_phase c t op))
   pub aside : (t : ℕ) → stage_role_of (Some (first_phase c t op)) ≡ Aside
   pub counts_not : (t i : ℕ) → level_role_of i (Some (first_phase c t op)) ≡ CountsNot
   pub apart : (t i : ℕ) → sync_role_of i (Some (first_phase c t op)) ≡ IsApart
   pub outside : (t : ℕ) → inside (Some (first_phase c t op)) ≡ 0
+  pub off_tree : (t : ℕ) (trace : List Traced) → tree_role_of trace (Some (first_phase c t op)) ≡ OffTree
   pub cause : (t : ℕ) (w : World) (earlier : List World) → CauseOf c t w earlier (Some (first_phase c t op))
   -- whether it may begin is the same with accesses that agree
   pub order_agrees : (f g : ℕ → ℕ) (h k : ℕ → Bool) → ((m : ℕ) → m < c.mounts → f m ≡ g m) → ((i : ℕ) → 1 ≤ i → i ≤ 3 → h i ≡ k i) →

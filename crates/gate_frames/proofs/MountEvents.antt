@@ -1,6 +1,6 @@
 -- What the events of want, drop and change touch: the rest of the rule stays.
 use Rattle.gate_frames.proofs.Frames.{left_alone, level_view_as}
-use Rattle.gate_world.specs.Rules.{AtMount, Fitting, Holds, IsGood, Known, Owner, Part, SameView, SameWords, Stages, Marks, StepKeeps, at_gates, change_owns, owns, GateStepKeeps, Nodes, AtLevel, SyncAt, Sections}
+use Rattle.gate_world.specs.Rules.{AtMount, Fitting, Holds, IsGood, Known, Owner, Part, SameView, SameWords, Stages, StepKeeps, at_gates, change_owns, owns, GateStepKeeps, Tree, AtLevel, SyncAt, Sections}
 use Rattle.std.proofs.Common.{Bool, arith, inl, inr, refl, sym, true, true≢false, ◌≡◌, ◌<◌, ◌⊎◌, subst, ℕ, ◌∙◌, ap, List}
 use Rattle.mount_counts.specs.declared.phases.Change.{Change}
 use Rattle.mount_counts.specs.declared.phases.ChangeStep.{ChangeStep}
@@ -12,7 +12,7 @@ use Rattle.cpu_words.specs.Hooks.{HookAnswer}
 use Rattle.gate_frames.proofs.Known.{IsOwnersWork, known_after}
 use Rattle.cpu_words.specs.declared.events.Touch.TheVariants.{Load}
 use Rattle.mount_counts.specs.declared.phases.ChangeStep.TheVariants.{LoadsSuperblock as LoadsSb, Locks, Sums}
-use Rattle.cpu_words.specs.declared.names.WordName.TheVariants.{MountCount, MountFlags, Stage, Umount, Node, SbFlags, Block, LevelCount, Sync, Section, Remount}
+use Rattle.cpu_words.specs.declared.names.WordName.TheVariants.{MountCount, MountFlags, Stage, Umount, Node, SbFlags, Block, LevelCount, Sync, Section, Remount, Kids, Used}
 use Rattle.mount_counts.specs.declared.phases.MountPhase.{MountPhase}
 use Rattle.gate_world.specs.declared.work.Phase.TheVariants.{Mounts}
 use Rattle.access_model.specs.declared.replies.Next.{Next}
@@ -39,6 +39,9 @@ use Rattle.level_laws.specs.Roles.{Out as IsApart}
 use Rattle.gate_world.specs.Levels.{inside, at_level, level_added_after, level_taken_after, level_role_of, sync_role_of, level_added_by, level_taken_by}
 use Rattle.access_model.specs.declared.actions.Action.{Action}
 use Rattle.access_model.specs.Histories.{levels_of}
+use Rattle.gate_world.specs.Trees.{tree_role_of}
+use Rattle.gate_world.specs.declared.views.Traced.{Traced}
+use Rattle.gated_tree.specs.Roles.{Out as OffTree}
 
 -- the words that want, drop and change write
 abbrev pub is_gate_word : WordName → Bool
@@ -81,10 +84,9 @@ known_is part h = absurd (true≢false (sym h))
 same_words : (w : Words) (part : Part) → SameWords w w part
 same_words w Owner = (refl, refl)
 same_words w Stages = (refl, refl, refl, refl)
-same_words w Marks = (refl, refl, refl)
 same_words w Fitting = tt
 same_words w Known = (refl, refl, refl, refl)
-same_words w Nodes = refl
+same_words w Tree = (refl, refl, refl, refl)
 same_words w (AtMount m) = (refl, refl, refl, refl)
 same_words w (AtLevel i) = (refl, refl, refl)
 same_words w (SyncAt i) = (refl, refl, refl, refl)
@@ -104,10 +106,6 @@ unread Stages h k SbFlags q w n = absurd (true≢false (sym q))
 unread Stages h k Remount q w n = absurd (true≢false (sym q))
 unread Stages h k (Block i) q w n = absurd (true≢false (sym q))
 unread Stages h k word q w n = (refl, refl, refl, refl)
-unread Marks h k Stage q w n = absurd (true≢false (sym q))
-unread Marks h k SbFlags q w n = absurd (true≢false (sym q))
-unread Marks h k (Node i) q w n = absurd (true≢false (sym q))
-unread Marks h k word q w n = (refl, refl, refl)
 unread Known h k word q w n = absurd (true≢false k)
 unread (AtLevel j) h k Stage q w n = absurd (true≢false (sym q))
 unread (AtLevel j) h k SbFlags q w n = absurd (true≢false (sym q))
@@ -122,13 +120,18 @@ unread (SyncAt j) h k (Section t) q w n = absurd (true≢false (sym q))
 unread (SyncAt j) h k word q w n = (refl, refl, refl, refl)
 unread Sections h k (Section t) q w n = absurd (true≢false (sym q))
 unread Sections h k word q w n = refl
-unread Nodes h k (Node i) q w n = absurd (true≢false (sym q))
-unread Nodes h k word q w n = refl
+unread Tree h k Stage q w n = absurd (true≢false (sym q))
+unread Tree h k SbFlags q w n = absurd (true≢false (sym q))
+unread Tree h k Used q w n = absurd (true≢false (sym q))
+unread Tree h k (Node i) q w n = absurd (true≢false (sym q))
+unread Tree h k (Kids i) q w n = absurd (true≢false (sym q))
+unread Tree h k word q w n = (refl, refl, refl, refl)
 unread part h k word q w n = absurd (true≢false h)
 
 -- what the parts that an event of want, drop or change doesn't touch read of its task's view is the same
 record IsUnseen (old new : View) : Type 0 where
   stage_same : stage_role_of new.phase ≡ stage_role_of old.phase
+  tree_same : tree_role_of new.trace new.phase ≡ tree_role_of old.trace old.phase
   level_same : (i : ℕ) → at_level i new ≡ at_level i old
   sync_same : (i : ℕ) → sync_role_of i new.phase ≡ sync_role_of i old.phase
   inside_same : inside new.phase ≡ inside old.phase
@@ -136,9 +139,8 @@ record IsUnseen (old new : View) : Type 0 where
 -- so they read the same
 unseen : (part : Part) → at_gates part ≡ false → is_known_part part ≡ false → (old new : View) → IsUnseen old new → SameView old new part
 unseen Stages h k old new same = same.stage_same
-unseen Marks h k old new same = same.stage_same
 unseen Known h k old new same = absurd (true≢false k)
-unseen Nodes h k old new same = tt
+unseen Tree h k old new same = same.tree_same
 unseen (AtLevel i) h k old new same = same.level_same i
 unseen (SyncAt i) h k old new same = same.sync_same i
 unseen Sections h k old new same = same.inside_same
@@ -236,6 +238,12 @@ mounts_outside (Go x) = refl
 mounts_outside (Wait x) = refl
 mounts_outside (Done answer) = refl
 
+-- nor has it to do with the tree
+mounts_off_tree : (trace : List Traced) (n : Next MountPhase) → tree_role_of trace (phase_after (map_next Mounts n)) ≡ OffTree
+mounts_off_tree trace (Go phase) = refl
+mounts_off_tree trace (Wait phase) = refl
+mounts_off_tree trace (Done answer) = refl
+
 -- and they add no action at a level
 want_levels : (x : Want) (s : WantStep) (found : ℕ) (actions : List Action) →
     levels_of (actions_after (want_after x s found).1 actions) ≡ levels_of actions
@@ -270,6 +278,7 @@ mounts_unseen v x value hook e =
     ] in
     record {
       stage_same = mounts_aside (after x found hook).0 ∙ sym (ap stage_role_of e);
+      tree_same = mounts_off_tree (view_after v (Mounts x) value hook).trace (after x found hook).0 ∙ sym (ap (tree_role_of v.trace) e);
       level_same = λ i. level_view_as
           (ap (λ (f : ℕ → Bool). if f i then 1 else 0) (mounts_levels x found hook v.actions))
           (ap (λ f. f i) added) (ap (λ f. f i) taken) (mounts_count i (after x found hook).0 ∙ sym (ap (level_role_of i) e));

@@ -13,7 +13,7 @@ use Rattle.mount_counts.specs.declared.phases.ChangeStep.TheVariants.{Locks, Cle
 use Rattle.mount_counts.specs.Roles.{Role, has_hold, skips, ro_bit, hold_bit}
 use Rattle.gate_world.specs.declared.config.Config.{Config}
 use Rattle.gate_world.specs.declared.work.Phase.{Phase}
-use Rattle.gate_world.specs.declared.work.Phase.TheVariants.{Mounts, Remounts, Writes, Freezes, Thaws}
+use Rattle.gate_world.specs.declared.work.Phase.TheVariants.{Mounts, Remounts, Writes, Freezes, Thaws, Trees}
 use Rattle.write_access.specs.declared.phases.WritePhase.{WritePhase}
 use Rattle.write_access.specs.declared.phases.WritePhase.TheVariants.{Wants as WriteWants}
 use Rattle.gate_world.specs.declared.views.View.{View}
@@ -29,7 +29,7 @@ use Rattle.cpu_words.specs.declared.sums.Sum.{Sum}
 use Rattle.mount_counts.specs.declared.remounts.RemountStep.TheVariants.{LoadsFlags as RemountLoads, SetsHold as RemountHolds, Sums as RemountSums, SetsRemount, ClearsHold as RemountClears, GivesUp, Locks as RemountLocks}
 use Rattle.mount_counts.specs.Sets.{has_mount}
 use Rattle.stage_laws.proofs.Facts.{owns_le as stage_owns_le}
-use Rattle.gate_world.specs.Stages.{freeze_stage_role, thaw_stage_role}
+use Rattle.gate_world.specs.Stages.{freeze_stage_role, thaw_stage_role, tree_stage_role}
 
 change_owns_le : (s : ChangeStep) → change_owns s ≤ 1
 change_owns_le Locks = omega arith
@@ -48,6 +48,7 @@ owns_le (Some (Mounts (Changes x))) = change_owns_le x.step
 owns_le (Some (Remounts x)) = remount_owns_le x.step
 owns_le (Some (Freezes x)) = stage_owns_le (freeze_stage_role x.nodes x.step)
 owns_le (Some (Thaws x)) = stage_owns_le (thaw_stage_role x.step)
+owns_le (Some (Trees x)) = stage_owns_le (tree_stage_role x)
 owns_le (Some phase) = omega arith
 
 -- a want has no hold flag set, and skips no mount

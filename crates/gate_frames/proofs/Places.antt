@@ -1,13 +1,13 @@
--- The words of a configuration have places.
+-- The words that are kept of a configuration have places.
 use Rattle.std.proofs.Common.{arith}
 use Rattle.cpu_words.specs.Lists.{AreFew}
 use Rattle.gate_world.specs.declared.config.Config.{Config}
-use Rattle.gate_world.specs.Configs.{IsWithin, extents_of, extents_among}
+use Rattle.gate_world.specs.Configs.{IsWithin, extents_kept, extents_among}
 
 -- a configuration within the limits has no more of each than there may be
-pub are_few : (c : Config) → IsWithin c → AreFew (extents_of c)
-are_few c within = record { tasks = within.tasks; processors = within.processors; mounts = within.mounts; nodes = within.nodes }
+pub are_few : (c : Config) → IsWithin c → AreFew (extents_kept c)
+are_few c within = record { tasks = within.tasks; processors = within.processors; mounts = within.mounts; nodes = omega arith }
 
 -- nor with the section words of as many tasks as there may be
 pub few_among : (c : Config) → IsWithin c → AreFew (extents_among 64 c)
-few_among c within = record { tasks = omega arith; processors = within.processors; mounts = within.mounts; nodes = within.nodes }
+few_among c within = record { tasks = omega arith; processors = within.processors; mounts = within.mounts; nodes = omega arith }

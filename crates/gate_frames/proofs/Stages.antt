@@ -1,7 +1,7 @@
 -- The stage of a world, as the laws of the stage have it: what holds of it, what an event of a task leaves of it, and which actions are
 -- allowed.
 use Rattle.std.proofs.lemmas.Bool.Decides.{eqb_tells}
-use Rattle.gated_tree.specs.Nodes.{dirty_in}
+use Rattle.gated_tree.specs.Nodes.{dirty_in, node_shown}
 use Rattle.std.proofs.Common.{◌≡◌, ℕ, suc, ◌<◌, ◌≤◌, refl, sym, ap, ◌∙◌, subst, inl, inr, arith, ◌%◌, Bool}
 use Rattle.std.specs.Prelude.{Option, Some, None, ◌==◌, ◌||◌, false}
 use Rattle.finite_sums.specs.Sums.{update, total}
@@ -20,15 +20,16 @@ use Rattle.stage_laws.proofs.Whole.{events_keep, actions_are_allowed, actions_ha
 use Rattle.gate_world.specs.declared.config.Config.{Config}
 use Rattle.gate_world.specs.declared.views.View.{View}
 use Rattle.gate_world.specs.declared.work.Phase.{Phase}
-use Rattle.gate_world.specs.declared.work.Phase.TheVariants.{Mounts, Remounts, DownReads, UpReads, Callbacks, Writes, Freezes, Thaws}
+use Rattle.gate_world.specs.declared.work.Phase.TheVariants.{Mounts, Remounts, DownReads, UpReads, Callbacks, Writes, Freezes, Thaws, Trees}
 use Rattle.gate_world.specs.Configs.{model_limits}
 use Rattle.gate_world.specs.Remounts.{remount_owns}
-use Rattle.gate_world.specs.Rules.{owns, remounts, IsGood, Holds, Owner, Stages, Marks, marks_of, Moves}
-use Rattle.gate_world.specs.Shown.{shown, stage_roles, node_shown}
+use Rattle.gate_world.specs.Rules.{owns, remounts, IsGood, Holds, Owner, Stages, marks_of, Moves}
+use Rattle.gate_world.specs.Shown.{shown, stage_roles}
 use Rattle.gate_world.specs.Stages.{stage_role_of, remount_stage_role}
 use Rattle.gate_world.specs.Views.{held_at, holds_level}
 use Rattle.gate_world.specs.Worlds.{World}
 use Rattle.gate_frames.proofs.Owners.{owns_le}
+use Rattle.gate_frames.proofs.Trees.{marks_right}
 
 -- the stage of a world
 abbrev pub stages_in : World → StageMoment
@@ -57,6 +58,7 @@ stage_owner (Some (Callbacks b)) = omega arith
 stage_owner (Some (Writes x)) = omega arith
 stage_owner (Some (Freezes x)) = omega arith
 stage_owner (Some (Thaws x)) = omega arith
+stage_owner (Some (Trees x)) = omega arith
 
 -- a node without a mark is shown without one
 clean_shown : (word : ℕ) → dirty_in word ≡ 0 → is_dirty (node_shown word) ≡ false
@@ -68,7 +70,7 @@ clean_shown word e = elim (eqb_tells (word % 4) 0) [
 module _ (c : Config) (w : World) (good : IsGood c w) where
   -- what holds of the stage of a good world
   pub stages_right : StageHolds c.tasks c.nodes (stages_in w)
-  stages_right = record { stages = good Stages; marks = good Marks }
+  stages_right = record { stages = good Stages; marks = marks_right c w good }
 
   -- the shown model shows it
   pub stages_shown : Shows (model_limits c) (stages_in w) (shown c w)
@@ -121,9 +123,6 @@ module _ (c : Config) (w : World) (good : IsGood c w) where
 
       pub stages_after : Holds c (record { words = ws; views = update w.views t v }) Stages
       stages_after = stage_kept.stages
-
-      pub marks_after : Holds c (record { words = ws; views = update w.views t v }) Marks
-      marks_after = stage_kept.marks
 
       -- its action is allowed, where the other parts have what it asks for
       pub stage_action : (a : Action) → action_of kind (stages_in w) ≡ Some a → AsksOthers (model_limits c) (shown c w) a →

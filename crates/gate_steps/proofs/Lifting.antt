@@ -20,7 +20,7 @@ use Rattle.gate_world.specs.declared.operations.Op.{Op}
 use Rattle.gate_world.specs.declared.work.Phase.{Phase}
 use Rattle.gate_world.specs.declared.views.View.{View}
 use Rattle.gate_world.specs.declared.views.Snapshot.{Snapshot}
-use Rattle.gate_world.specs.Configs.{IsWithin, model_limits, extents_of}
+use Rattle.gate_world.specs.Configs.{IsWithin, model_limits, extents_kept}
 use Rattle.gate_world.specs.Work.{next_of, after_of}
 use Rattle.gate_world.specs.Snapshots.{completes, last_snapshot}
 use Rattle.gate_world.specs.Views.{held_at, holds_level, begun_view, view_with, view_after_beside}
@@ -162,7 +162,7 @@ lifted c slots id (x ∷ xs) carried begins phase hook acts s held len at small 
     let beside : IsGood c after × (shown c (after_step w' t phase hook) ≡ shown c after) = others_apart c others w' t phase hook law.0 in
     let kept : IsGood c after × Moves c (shown c w') t a (shown c after) =
     (beside.0, subst (Moves c (shown c w') t a) beside.1 law.1) in
-    let there : IsWord (extents_of c) name =
+    let there : IsWord (extents_kept c) name =
     word_there c lim t (held_at (w'.views t)) (holds_level (w'.views t)) lt phase hook
     (subst (λ o. Fits c t (held_at (w'.views t)) (holds_level (w'.views t)) o) en.at_phase (en.good Fitting t lt)) in
     let i : ℕ = table_index (place name) in

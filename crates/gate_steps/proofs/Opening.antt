@@ -8,7 +8,7 @@ use Rattle.cpu_words.specs.Words.{opening_words}
 use Rattle.cpu_words.specs.Lists.{AreOpening}
 use Rattle.cpu_words.proofs.Places.{opening_listed}
 use Rattle.gate_world.specs.declared.config.Config.{Config}
-use Rattle.gate_world.specs.Configs.{IsWithin, extents_of}
+use Rattle.gate_world.specs.Configs.{IsWithin, extents_kept}
 use Rattle.gate_world.specs.Views.{opening_view}
 use Rattle.gate_world.specs.Worlds.{opening}
 use Rattle.gate_frames.proofs.Places.{are_few}
@@ -60,7 +60,7 @@ first_views n (suc id) l e = absurd (some-ne-none l (sym e))
 module _ (c : Config) (lim : IsWithin c) (ws : List ℕ) (opens : AreOpening table_index table_length ws) where
   -- the table shows the opening words
   shows_opening : TableShows c ws opening_words
-  shows_opening = opening_listed (extents_of c) (are_few c lim) table_index apart table_length ws opens (omega (arith, lim.some_node))
+  shows_opening = opening_listed (extents_kept c) (are_few c lim) table_index apart table_length ws opens (omega (arith, lim.some_node))
 
   -- and its rule holds, with all numbers in the first seat
   pub opening_held : Held c ws (first_items c ∷ [])

@@ -8,7 +8,7 @@ use Rattle.cpu_words.specs.Names.{IsWord, place}
 use Rattle.cpu_words.specs.Words.{Words, put}
 use Rattle.cpu_words.proofs.Places.{place_small, written}
 use Rattle.gate_world.specs.declared.config.Config.{Config}
-use Rattle.gate_world.specs.Configs.{IsWithin, extents_of}
+use Rattle.gate_world.specs.Configs.{IsWithin, extents_kept}
 use Rattle.gate_frames.proofs.Places.{are_few}
 use Rattle.gate_steps.specs.Rules.{table_index, table_length, TableShows}
 
@@ -18,14 +18,14 @@ apart i j e = omega arith
 
 module _ (c : Config) (within : IsWithin c) where
   -- each word lies in the table
-  pub lies_inside : (name : WordName) → IsWord (extents_of c) name → table_index (place name) < table_length
-  lies_inside name there = omega (arith, place_small (extents_of c) (are_few c within) name there)
+  pub lies_inside : (name : WordName) → IsWord (extents_kept c) name → table_index (place name) < table_length
+  lies_inside name there = omega (arith, place_small (extents_kept c) (are_few c within) name there)
 
   -- after a write of one word the table shows the words with that one written
-  pub table_written : (ws : List ℕ) (w : Words) (name : WordName) (v : ℕ) → length ws ≡ table_length → IsWord (extents_of c) name →
+  pub table_written : (ws : List ℕ) (w : Words) (name : WordName) (v : ℕ) → length ws ≡ table_length → IsWord (extents_kept c) name →
       TableShows c ws w → TableShows c (slice_set ws (table_index (place name)) v) (put w name v)
   table_written ws w name v long here shows =
-      written (extents_of c) (are_few c within) table_index apart ws w name v (omega (arith, lies_inside name here)) here shows
+      written (extents_kept c) (are_few c within) table_index apart ws w name v (omega (arith, lies_inside name here)) here shows
 
 -- what is read at an index
 pub read_at : (ws : List ℕ) (i n : ℕ) → get_elem? ws i ≡ some n → slice_index ws i ≡ n

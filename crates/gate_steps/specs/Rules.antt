@@ -5,7 +5,7 @@ use Rattle.cpu_words.specs.Words.{Words, opening_words}
 use Rattle.cpu_words.specs.Lists.{ListShows}
 use Rattle.gate_world.specs.declared.config.Config.{Config}
 use Rattle.gate_world.specs.declared.views.View.{View}
-use Rattle.gate_world.specs.Configs.{IsWithin, extents_of}
+use Rattle.gate_world.specs.Configs.{IsWithin, extents_kept}
 use Rattle.gate_world.specs.Worlds.{World, Entry, run, opening}
 use Rattle.gate_world.specs.Rules.{IsGood}
 use Rattle.gate_steps.specs.Histories.{HasHistory}
@@ -21,7 +21,7 @@ table_length = table_index words_in_all
 
 -- the table has these words
 abbrev pub TableShows : Config → List ℕ → Words → Type 0
-TableShows c ws words = ListShows table_index (extents_of c) ws words
+TableShows c ws words = ListShows table_index (extents_kept c) ws words
 
 -- no number of a task has had an event
 abbrev pub IsUntouched : Config → (ℕ → View) → Type 0

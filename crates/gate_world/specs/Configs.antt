@@ -24,6 +24,10 @@ model_limits c = record { tasks = c.tasks; mounts = c.mounts; nodes = c.nodes; c
 abbrev pub extents_of : Config → Extents
 extents_of c = record { tasks = c.tasks; processors = c.processors; mounts = c.mounts; nodes = c.nodes }
 
--- the same, with section words for this many tasks
+-- the words that are kept, of so many tasks: those of 64 nodes, however many the tree has
 abbrev pub extents_among : ℕ → Config → Extents
-extents_among n c = record { tasks = n; processors = c.processors; mounts = c.mounts; nodes = c.nodes }
+extents_among n c = record { tasks = n; processors = c.processors; mounts = c.mounts; nodes = 64 }
+
+-- the words that are kept of a configuration's tasks
+abbrev pub extents_kept : Config → Extents
+extents_kept c = extents_among c.tasks c

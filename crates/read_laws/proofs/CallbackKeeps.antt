@@ -61,7 +61,7 @@ callback_phase c b = record {
   step = λ within w good t lt hook e. callback_keeps c within w good t lt hook b e;
   runs = λ within w good t lt hook e i one three. callback_runs c w good t lt hook b e i;
   completes = λ within w good t lt hook e. completes_none c w t hook (Callbacks b) (λ trace found. refl);
-  word = λ within n le t lt held levels hook f. word_among c n le _ (callback_there c b b.step f.0 f.1 f.3);
+  word = λ within n le t lt held levels hook f. word_among c within n le _ (callback_there c b b.step f.0 f.1 f.3);
   acts = λ within t held levels found hook f.
       subst (ActionFits held) (sym (callback_acts_none b b.step found)) tt;
   goes = λ within t held levels found hook f.

@@ -1,11 +1,12 @@
 -- What an event at a freeze level leaves alone, where it leaves the word `block` of each.
 use Rattle.gate_frames.proofs.Known.{known_same}
+use Rattle.gated_tree.specs.Nodes.{node_shown}
 use Rattle.gate_world.specs.Owners.{KnowsWords}
 use Rattle.mount_counts.specs.Roles.{ro_bit, Out}
 use Rattle.access_model.specs.declared.replies.Next.TheVariants.{Go, Wait, Done}
 use Rattle.finite_sums.proofs.Totals.{update_same, each_updated}
 use Rattle.gate_frames.proofs.Frames.{shown_as, left_alone, view_as}
-use Rattle.gate_world.specs.Shown.{closing, shown, node_shown}
+use Rattle.gate_world.specs.Shown.{closing, shown}
 use Rattle.finite_sums.specs.Sums.{update}
 use Rattle.access_model.specs.Replies.{map_next}
 use Rattle.gate_world.specs.Worlds.{World}

@@ -39,7 +39,7 @@ use Rattle.cpu_words.specs.declared.events.Touch.TheVariants.{Cas, Store, And}
 use Rattle.access_model.specs.declared.errors.GateError.TheVariants.{Busy, Hook}
 use Rattle.access_model.specs.declared.replies.Next.{Next}
 use Rattle.access_model.specs.declared.replies.Next.TheVariants.{Go, Done}
-use Rattle.gated_tree.specs.Nodes.{IsNode, dirty_in}
+use Rattle.gated_tree.specs.Nodes.{IsNode, dirty_in, node_shown}
 use Rattle.gate_frames.proofs.Frames.{left_alone, owner_same}
 use Rattle.gate_world.specs.declared.work.Phase.{Phase}
 use Rattle.remount_laws.proofs.RemountFits.{state_fits, let_go_fits, leaves_below, past_node_fits, give_up_fits}
@@ -50,7 +50,7 @@ use Rattle.gate_frames.proofs.Loads.{steady, after_load}
 use Rattle.cpu_words.specs.Words.{Words}
 use Rattle.access_model.specs.declared.actions.Action.{Action}
 use Rattle.gate_frames.proofs.MountEvents.{is_known_part}
-use Rattle.gate_world.specs.Shown.{shown, node_shown}
+use Rattle.gate_world.specs.Shown.{shown}
 use Rattle.mount_laws.proofs.Bits.{without_hold, and_not_hold}
 use Rattle.gated_tree.proofs.ClearedMarks.{without_mark, cleared_node, cleared_shown, clean_stays, clears_mark}
 use Rattle.std.proofs.lemmas.Bool.{cases_Bool}

@@ -24,8 +24,8 @@ use Rattle.gate_world.specs.declared.views.View.{View}
 use Rattle.cpu_words.specs.Words.{Words, read}
 use Rattle.cpu_words.specs.declared.names.WordName.{WordName}
 use Rattle.finite_sums.specs.Sums.{update}
-use Rattle.gated_tree.specs.Nodes.{IsNode, kind_in}
-use Rattle.gate_world.specs.Shown.{shown, closing, node_shown}
+use Rattle.gated_tree.specs.Nodes.{IsNode, kind_in, node_shown}
+use Rattle.gate_world.specs.Shown.{shown, closing}
 use Rattle.access_model.specs.declared.replies.Next.{Next}
 use Rattle.gate_frames.proofs.Frames.{holds_as, owner_same, view_as, shown_as, shown_still, added_load, taken_load, SameLevelCounts, IsOffLevels, SameLevelWords, level_left, sync_left, sections_left}
 use Rattle.finite_sums.proofs.Totals.{each_updated, update_map, update_same, update_at, update_off}

@@ -7,7 +7,7 @@ use Rattle.cpu_words.specs.Hooks.{HookAnswer}
 use Rattle.cpu_words.proofs.Places.{place_small}
 use Rattle.gate_world.specs.declared.config.Config.{Config}
 use Rattle.gate_world.specs.declared.work.Phase.{Phase}
-use Rattle.gate_world.specs.Configs.{IsWithin, extents_of, extents_among}
+use Rattle.gate_world.specs.Configs.{IsWithin, extents_kept, extents_among}
 use Rattle.gate_world.specs.Views.{phase_after}
 use Rattle.gate_world.specs.Work.{next_of, after_of}
 use Rattle.gate_world.specs.Fits.{PhaseFits, Fits, ActionFits, mounts_by, levels_by}
@@ -17,7 +17,7 @@ use Rattle.schedule_laws.proofs.Layers.{phase_keeps}
 module _ (c : Config) (within : IsWithin c) (t : ℕ) (held : ℕ → ℕ) (levels : ℕ → Bool) where
   -- the word of its next event is there
   pub word_there : t < c.tasks → (phase : Phase) (hook : HookAnswer) → PhaseFits c t held levels phase →
-      IsWord (extents_of c) (next_of phase hook).0
+      IsWord (extents_kept c) (next_of phase hook).0
   word_there lt phase hook f = (phase_keeps c phase).word within c.tasks (omega arith) t lt held levels hook f
 
   -- and has a place, whatever number within the limits the task has

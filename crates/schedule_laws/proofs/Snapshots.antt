@@ -10,18 +10,19 @@ use Rattle.access_model.specs.Histories.{Done, end_of, IsLegal, own_part, IsMerg
 use Rattle.moment_laws.specs.Moments.{HaveDone}
 use Rattle.moment_laws.proofs.Moments.{is_now, stays}
 use Rattle.cpu_words.specs.Hooks.{HookAnswer}
+use Rattle.gated_tree.specs.Nodes.{node_shown}
 use Rattle.gate_world.specs.declared.config.Config.{Config}
 use Rattle.gate_world.specs.declared.operations.Op.{Op}
 use Rattle.gate_world.specs.declared.work.Phase.{Phase}
 use Rattle.gate_world.specs.declared.views.View.{View}
-use Rattle.gate_world.specs.declared.views.TreeWords.{TreeWords}
+use Rattle.gated_tree.specs.declared.trees.TreeWords.{TreeWords}
 use Rattle.gate_world.specs.declared.views.Snapshot.{Snapshot}
 use Rattle.gate_world.specs.Configs.{IsWithin, model_limits}
 use Rattle.gate_world.specs.Snapshots.{completes, last_snapshot}
 use Rattle.gate_world.specs.Views.{view_after_beside, begun_view}
 use Rattle.gate_world.specs.Beginnings.{first_phase, view_refusal}
 use Rattle.gate_world.specs.Worlds.{World, Entry, Begins, Steps, begin_of, after_step_beside, step_of, happens, phase_action, action_of, task_of, with_action, found_at, value_at, run, history}
-use Rattle.gate_world.specs.Shown.{node_shown, shown}
+use Rattle.gate_world.specs.Shown.{shown}
 use Rattle.gate_world.specs.Moments.{tree_loaded, HasMoment, AllHaveMoments, IsPresentTree, CompletesNow}
 use Rattle.gate_world.specs.Rules.{IsGood, Moves}
 use Rattle.schedule_laws.proofs.Layers.{phase_keeps}

@@ -9,7 +9,7 @@ use Rattle.gate_world.specs.declared.config.Config.{Config}
 use Rattle.gate_world.specs.declared.operations.Op.{Op}
 use Rattle.gate_world.specs.declared.views.View.{View}
 use Rattle.gate_world.specs.declared.views.Traced.{Traced}
-use Rattle.gate_world.specs.declared.views.TreeWords.{TreeWords}
+use Rattle.gated_tree.specs.declared.trees.TreeWords.{TreeWords}
 use Rattle.gate_world.specs.declared.views.Snapshot.{Snapshot}
 use Rattle.gate_world.specs.Configs.{model_limits}
 use Rattle.gate_world.specs.Snapshots.{last_snapshot}

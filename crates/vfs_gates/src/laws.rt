@@ -6,7 +6,7 @@ ghost use Rattle.access_model.specs.declared.replies.Reply.{Reply};
 ghost use Rattle.gate_world.specs.declared.operations.Op.{Op};
 ghost use Rattle.gate_world.specs.declared.views.Snapshot.{Snapshot};
 ghost use Rattle.gate_world.specs.declared.views.Traced.{Traced};
-ghost use Rattle.gate_world.specs.declared.views.TreeWords.{TreeWords};
+ghost use Rattle.gated_tree.specs.declared.trees.TreeWords.{TreeWords};
 ghost use Rattle.gate_world.specs.Courses.{course_of};
 ghost use Rattle.gate_steps.specs.Seating.{done_by};
 ghost use Rattle.vfs_gates.specs.TaskStates.{TaskState, own_number, own_view, spare_of};

@@ -1,0 +1,210 @@
+-- The tree of a world, as the laws of the tree have it: what an event of a task leaves of it, and what it shows.
+use Rattle.std.proofs.Common.{◌≡◌, ℕ, suc, ◌<◌, ◌≤◌, refl, sym, ap, ◌∙◌, subst, inl, inr, arith, Bool, true≢false, zero}
+use Rattle.std.proofs.lemmas.Bool.Decides.{eqb_tells}
+use Rattle.std.specs.Prelude.{Option, Some, None, List, ◌==◌, ◌||◌, nat_le, true, false, nat_lt}
+use Rattle.finite_sums.specs.Sums.{update}
+use Rattle.finite_sums.proofs.Totals.{update_map}
+use Rattle.access_model.specs.States.{is_dirty, IsDirectory}
+use Rattle.access_model.specs.declared.actions.Action.{Action}
+use Rattle.cpu_words.specs.Words.{Words}
+use Rattle.mount_counts.specs.declared.remounts.RemountStep.{RemountStep}
+use Rattle.mount_counts.specs.declared.remounts.RemountStep.TheVariants.{ClearsHold, ClearsMark, SetsReadOnly, ClearsRemount}
+use Rattle.freeze_levels.specs.declared.freezes.FreezeStep.{FreezeStep}
+use Rattle.freeze_levels.specs.declared.freezes.FreezeStep.TheVariants.{Closes, Cleans, SetsFs, Reopens as FreezeReopens}
+use Rattle.gated_tree.specs.Nodes.{IsNode, dirty_in, kind_in, node_shown}
+use Rattle.gated_tree.specs.Roles.{Role, TreeHolds, TreeState, Bounds, AreWithin, RoleHolds, Clearing, sealed_by}
+use Rattle.tree_laws.specs.Events.{Event, MovesBy}
+use Rattle.tree_laws.proofs.Each.{each_event}
+use Rattle.stage_laws.specs.Roles.{MarksHold, StagesHold, CleanBelow, clean_by, KnowsStage, Freezing}
+use Rattle.gate_world.specs.declared.config.Config.{Config}
+use Rattle.gate_world.specs.declared.views.View.{View}
+use Rattle.gate_world.specs.declared.views.Traced.{Traced}
+use Rattle.gate_world.specs.declared.work.Phase.{Phase}
+use Rattle.gate_world.specs.declared.work.Phase.TheVariants.{Mounts, Remounts, DownReads, UpReads, Callbacks, Writes, Freezes, Thaws, Trees}
+use Rattle.gate_world.specs.Configs.{IsWithin}
+use Rattle.gate_world.specs.Fits.{Fits, FreezeFits, PhaseFits}
+use Rattle.gate_world.specs.Rules.{IsGood, Holds, Tree, Stages, Fitting, marks_of}
+use Rattle.gate_world.specs.Shown.{stage_roles}
+use Rattle.gate_world.specs.Stages.{stage_role_of, remount_stage_role, freeze_stage_role, reopening_role, snapshot_stage_role, thaw_stage_role, tree_stage_role, place_of}
+use Rattle.gate_world.specs.Trees.{tree_bounds, tree_of, tree_role_of, tree_roles, is_sealed, remount_tree_role, freeze_tree_role, tree_role_of, tree_role_of, tree_role_of, tree_role_of, tree_role_of, tree_role_of, tree_role_of, tree_role_of, tree_role_of, tree_role_of, tree_role_of, tree_role_of, tree_role_of, tree_role_of, tree_role_of, tree_role_of, tree_role_of, tree_role_of, tree_role_of, tree_role_of, tree_role_of, tree_role_of, tree_role_of, tree_role_of, tree_role_of, tree_role_of, tree_role_of, tree_role_of, tree_role_of, tree_role_of, tree_role_of, tree_role_of, tree_role_of, tree_role_of, tree_role_of, tree_role_of, tree_role_of, tree_role_of, tree_role_of}
+use Rattle.gate_world.specs.Views.{held_at, holds_level}
+use Rattle.gate_world.specs.Worlds.{World}
+use Rattle.cpu_words.specs.declared.names.WordName.TheVariants.{Kids, Kids, Kids, Kids, Kids, Kids, Kids, Kids, Kids, Kids, Kids, Kids, Kids, Kids, Kids, Kids, Kids, Kids, Kids, Kids, Kids, Kids, Kids, Kids, Kids, Kids, Kids, Kids, Kids, Kids, Kids, Kids, Kids, Kids, Kids, Kids, Kids, Kids}
+use Rattle.std.proofs.lemmas.Bool.{le-leb}
+use Rattle.percpu_rwsem.specs.declared.writers.DownWriteStep.{DownWriteStep}
+use Rattle.percpu_rwsem.specs.declared.writers.UpWriteStep.{UpWriteStep}
+use Rattle.gated_tree.specs.declared.snapshots.SnapshotStep.{SnapshotStep}
+use Rattle.gate_world.specs.Remounts.{RemountFits}
+use Rattle.freeze_levels.specs.declared.thaws.ThawStep.{ThawStep}
+use Rattle.gated_tree.specs.declared.phases.TreePhase.{TreePhase}
+use Rattle.percpu_rwsem.specs.declared.writers.UpWriteStep.TheVariants.{Exits, ClearsBlock}
+use Rattle.gated_tree.specs.declared.snapshots.SnapshotStep.TheVariants.{Locks as SnapshotLocks, LoadsStage as SnapshotLoadsStage, Releases as SnapshotReleases}
+use Rattle.freeze_levels.specs.declared.thaws.ThawStep.TheVariants.{Reopens as ThawReopens}
+use Rattle.gated_tree.specs.declared.phases.TreePhase.TheVariants.{Snapshot as Snapshots}
+use Rattle.percpu_rwsem.specs.declared.writers.DownWriteStep.TheVariants.{Sums}
+
+-- a configuration within the limits is one for the laws of the tree
+pub tree_within : (c : Config) → IsWithin c → AreWithin (tree_bounds c)
+tree_within c within = record { tasks = within.tasks; some_node = within.some_node; nodes = within.nodes; capacity = within.capacity }
+
+-- the tree is sealed at stages 3 and 4, and where the superblock's flag is set
+pub sealed_frozen : (sb stage : ℕ) → 3 ≤ stage → sealed_by sb stage ≡ 1
+sealed_frozen sb stage h = elim (eqb_tells sb 1) [ inl e ↦ rw e.0 refl | inr e ↦ rw (e.0, le-leb 3 stage h) refl ]
+
+pub sealed_read_only : (sb stage : ℕ) → sb ≡ 1 → sealed_by sb stage ≡ 1
+sealed_read_only sb stage e = rw e refl
+
+-- a free node shows nothing
+free_shown : (word : ℕ) → kind_in word ≡ 0 → node_shown word ≡ None
+free_shown word free = rw free refl
+
+-- a mark is 0 or 1
+dirty_small : (word : ℕ) → dirty_in word < 2
+dirty_small word = omega arith
+
+-- a node that is shown clean has no mark
+pub shown_clean : (word : ℕ) → (kind_in word ≡ 0 → word ≡ 0) → is_dirty (node_shown word) ≡ false → dirty_in word ≡ 0
+shown_clean word free clean = elim (eqb_tells (kind_in word) 0) [
+  | inl q ↦ ap dirty_in (free q.1)
+  | inr q ↦
+      elim (eqb_tells (dirty_in word) 1) [
+        | inl d ↦ absurd (true≢false (sym (rw (q.0, d.0) refl) ∙ clean))
+        | inr d ↦ omega (arith, d.1, dirty_small word)
+      ]
+]
+
+module _ (c : Config) (w : World) (good : IsGood c w) (t : ℕ) (lt : t < c.tasks) (ws : Words) (v : View) where
+  -- the tree of the world after an event of this task
+  abbrev pub tree_then : TreeState
+  tree_then = record {
+    sealed = is_sealed ws;
+    used = ws.used;
+    node = ws.node;
+    kids = ws.kids;
+    at = update (tree_roles w) t (tree_role_of v.trace v.phase);
+  }
+
+  pub tree_moves : tree_of (record { words = ws; views = update w.views t v }) ≡ tree_then
+  tree_moves = λ i. record {
+    sealed = is_sealed ws;
+    used = ws.used;
+    node = ws.node;
+    kids = ws.kids;
+    at = update_map (λ (u : View). tree_role_of u.trace u.phase) w.views t v i;
+  }
+
+  -- what holds of the tree then, holds of the world
+  pub tree_holds : TreeHolds (tree_bounds c) tree_then → Holds c (record { words = ws; views = update w.views t v }) Tree
+  tree_holds h = subst (TreeHolds (tree_bounds c)) (sym tree_moves) h
+
+  -- where the event is one of the tree's, all holds of it again, and the nodes that are shown move by its action
+  pub tree_after : IsWithin c → (action : Option Action) → Event (tree_bounds c) (tree_of w) t tree_then action →
+      Holds c (record { words = ws; views = update w.views t v }) Tree
+  tree_after within action event =
+      tree_holds (each_event (tree_bounds c) (tree_within c within) (tree_of w) (good Tree) t lt tree_then action event).0
+
+  pub tree_moved : IsWithin c → (action : Option Action) → Event (tree_bounds c) (tree_of w) t tree_then action →
+      MovesBy (tree_bounds c) w.words.node ws.node action
+  tree_moved within action event =
+      (each_event (tree_bounds c) (tree_within c within) (tree_of w) (good Tree) t lt tree_then action event).1
+
+-- what a task is at says of its accesses
+module _ (c : Config) (w : World) (good : IsGood c w) where
+  -- the root is there
+  root_there : kind_in (w.words.node 0) ≡ 0 → ⊥
+  root_there free = subst IsDirectory (free_shown (w.words.node 0) free) (good Tree).root
+
+  -- the nodes that a role has cleared have no marks
+  cleared_clean : (n : ℕ) → n ≤ c.nodes → (t : ℕ) → t < c.tasks → tree_roles w t ≡ Clearing n → CleanBelow n (marks_of w.words)
+  cleared_clean n le t lt is m lm =
+      let h : RoleHolds (tree_bounds c) w.words.used w.words.node w.words.kids (Clearing n) =
+      subst (RoleHolds (tree_bounds c) w.words.used w.words.node w.words.kids) is ((good Tree).roles t lt) in
+      shown_clean (w.words.node m) ((good Tree).words m (omega (arith, lm, le))).packed.free (h m lm)
+
+  -- the root has none, once a clearing has begun
+  first_clean : (t : ℕ) → t < c.tasks → tree_roles w t ≡ Clearing 1 → CleanBelow 1 (marks_of w.words)
+  first_clean t lt is m lm =
+      let h : RoleHolds (tree_bounds c) w.words.used w.words.node w.words.kids (Clearing 1) =
+      subst (RoleHolds (tree_bounds c) w.words.used w.words.node w.words.kids) is ((good Tree).roles t lt) in
+      let zero_is : m ≡ 0 = omega (arith, lm) in
+      shown_clean (w.words.node m) (λ e. absurd (root_there (subst (λ n. kind_in (w.words.node n) ≡ 0) zero_is e))) (h m lm)
+
+  all_clean : is_sealed w.words ≡ 1 → CleanBelow c.nodes (marks_of w.words)
+  all_clean sealed m lm = shown_clean (w.words.node m) ((good Tree).words m lm).packed.free ((good Tree).clean sealed m lm)
+
+  none_clean : CleanBelow 0 (marks_of w.words)
+  none_clean m lm = absurd (omega (arith, lm))
+
+  closing_clean : (level : ℕ) (s : DownWriteStep) (owner : Bool) →
+      CleanBelow (clean_by (Freezing level (place_of s) owner)) (marks_of w.words)
+  closing_clean zero s owner = none_clean
+  closing_clean (suc zero) s owner = none_clean
+  closing_clean (suc (suc level)) (Sums sum) owner = none_clean
+  closing_clean (suc (suc level)) s owner = none_clean
+
+  reopening_clean : (level : ℕ) (s : UpWriteStep) → CleanBelow (clean_by (reopening_role level s)) (marks_of w.words)
+  reopening_clean level ClearsBlock = none_clean
+  reopening_clean level (Exits transition) = none_clean
+
+  snapshot_clean : (s : SnapshotStep) → CleanBelow (clean_by (snapshot_stage_role s)) (marks_of w.words)
+  snapshot_clean SnapshotLocks = none_clean
+  snapshot_clean SnapshotLoadsStage = none_clean
+  snapshot_clean (SnapshotReleases answer) = none_clean
+  snapshot_clean s = none_clean
+
+  -- those that a remount has cleared
+  remount_clean : (nodes : ℕ) (s : RemountStep) (t : ℕ) → t < c.tasks → nodes ≡ c.nodes → RemountFits c s →
+      tree_roles w t ≡ remount_tree_role nodes s → KnowsStage w.words.stage w.words.sb (remount_stage_role nodes s) →
+      CleanBelow (clean_by (remount_stage_role nodes s)) (marks_of w.words)
+  remount_clean nodes (ClearsHold held) t lt same fits is knows = first_clean t lt is
+  remount_clean nodes (ClearsMark n) t lt same fits is knows = cleared_clean n (omega (arith, fits.1)) t lt is
+  remount_clean nodes SetsReadOnly t lt same fits is knows = cleared_clean nodes (omega (arith, same)) t lt is
+  remount_clean nodes ClearsRemount t lt same fits is knows =
+      subst (λ n. CleanBelow n (marks_of w.words)) (sym same) (all_clean (sealed_read_only w.words.sb w.words.stage knows.1))
+  remount_clean nodes s t lt same fits is knows = none_clean
+
+  -- those that a freeze has cleared
+  freeze_clean : (nodes : ℕ) (s : FreezeStep) (t : ℕ) → t < c.tasks → nodes ≡ c.nodes → FreezeFits c s →
+      tree_roles w t ≡ freeze_tree_role nodes s → CleanBelow (clean_by (freeze_stage_role nodes s)) (marks_of w.words)
+  freeze_clean nodes (Closes d) t lt same fits is = closing_clean d.level d.step (nat_lt 1 d.level)
+  freeze_clean nodes (Cleans marks) t lt same fits is = cleared_clean marks.node (omega (arith, fits.2)) t lt is
+  freeze_clean nodes SetsFs t lt same fits is = cleared_clean nodes (omega (arith, same)) t lt is
+  freeze_clean nodes (FreezeReopens u code) t lt same fits is = reopening_clean u.level u.step
+  freeze_clean nodes s t lt same fits is = none_clean
+
+  thaw_clean : (s : ThawStep) → CleanBelow (clean_by (thaw_stage_role s)) (marks_of w.words)
+  thaw_clean (ThawReopens u) = reopening_clean u.level u.step
+  thaw_clean s = none_clean
+
+  tree_clean : (x : TreePhase) → CleanBelow (clean_by (tree_stage_role x)) (marks_of w.words)
+  tree_clean (Snapshots x) = snapshot_clean x.step
+  tree_clean x = none_clean
+
+  -- those that what a task is at has cleared
+  phase_clean : (t : ℕ) → t < c.tasks → (p : Option Phase) → (w.views t).phase ≡ p →
+      CleanBelow (clean_by (stage_role_of p)) (marks_of w.words)
+  phase_clean t lt None is = none_clean
+  phase_clean t lt (Some (Mounts phase)) is = none_clean
+  phase_clean t lt (Some (Remounts x)) is =
+      let fits : PhaseFits c t (held_at (w.views t)) (holds_level (w.views t)) (Remounts x) =
+      subst (Fits c t (held_at (w.views t)) (holds_level (w.views t))) is (good Fitting t lt) in
+      remount_clean x.nodes x.step t lt fits.3 fits.5 (ap (tree_role_of (w.views t).trace) is)
+      (subst (λ p. KnowsStage w.words.stage w.words.sb (stage_role_of p)) is ((good Stages).knows t lt))
+  phase_clean t lt (Some (DownReads r)) is = none_clean
+  phase_clean t lt (Some (UpReads u)) is = none_clean
+  phase_clean t lt (Some (Callbacks b)) is = none_clean
+  phase_clean t lt (Some (Writes x)) is = none_clean
+  phase_clean t lt (Some (Freezes x)) is =
+      let fits : PhaseFits c t (held_at (w.views t)) (holds_level (w.views t)) (Freezes x) =
+      subst (Fits c t (held_at (w.views t)) (holds_level (w.views t))) is (good Fitting t lt) in
+      freeze_clean x.nodes x.step t lt fits.3 fits.5 (ap (tree_role_of (w.views t).trace) is)
+  phase_clean t lt (Some (Thaws x)) is = thaw_clean x.step
+  phase_clean t lt (Some (Trees x)) is = tree_clean x
+
+  -- what the laws of the stage read of the marks
+  pub marks_right : MarksHold c.tasks c.nodes w.words.stage w.words.sb (marks_of w.words) (stage_roles w)
+  marks_right = record {
+    frozen = λ h. all_clean (sealed_frozen w.words.sb w.words.stage h);
+    read_only = λ e. all_clean (sealed_read_only w.words.sb w.words.stage e);
+    cleared = λ t lt. phase_clean t lt (w.views t).phase refl;
+  }
