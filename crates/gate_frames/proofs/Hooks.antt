@@ -20,8 +20,6 @@ use Rattle.mount_counts.specs.declared.phases.MountPhase.TheVariants.{Want as Wa
 use Rattle.mount_counts.specs.Remounts.{remount_next, remount_after}
 use Rattle.access_model.specs.Replies.{map_next}
 use Rattle.mount_counts.specs.declared.remounts.RemountStep.TheVariants.{SetsWritable, SetsReadOnly}
-use Rattle.gate_world.specs.Trees.{tree_role_of}
-use Rattle.gate_frames.proofs.Trees.{marks_right}
 use Rattle.gated_tree.specs.declared.phases.TreePhase.{TreePhase}
 use Rattle.gated_tree.specs.Phases.{next as tree_next, after as tree_after}
 use Rattle.gated_tree.specs.declared.phases.TreePhase.TheVariants.{Create as Creates, Remove as Removes, Grow as Grows, MoveTo as Moves, Mark as TreeMarks, Snapshot as Snapshots, ClearMarks as TreeClears}

@@ -1,11 +1,9 @@
 -- Events as steps of a level.
-use Rattle.std.proofs.Common.{◌≡◌, ℕ, ◌<◌, refl, sym, ap, ◌∙◌}
-use Rattle.std.specs.Prelude.{Option}
+use Rattle.std.proofs.Common.{◌≡◌, ℕ, ◌<◌, ap, ◌∙◌}
 use Rattle.finite_sums.specs.Sums.{update}
 use Rattle.finite_sums.proofs.Totals.{update_map, update_same}
 use Rattle.cpu_words.specs.Words.{Words}
-use Rattle.level_laws.specs.Events.{SyncLevel, SyncStep, SyncEvent, Stays, Happens}
-use Rattle.gate_world.specs.declared.config.Config.{Config}
+use Rattle.level_laws.specs.Events.{SyncLevel, SyncStep, Stays}
 use Rattle.gate_world.specs.declared.views.View.{View}
 use Rattle.gate_world.specs.Levels.{inside, sync_role_of, is_frozen_whole}
 use Rattle.gate_world.specs.LevelRuns.{level_in}

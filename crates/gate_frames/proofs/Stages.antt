@@ -2,10 +2,10 @@
 -- allowed.
 use Rattle.std.proofs.lemmas.Bool.Decides.{eqb_tells}
 use Rattle.gated_tree.specs.Nodes.{dirty_in, node_shown}
-use Rattle.std.proofs.Common.{◌≡◌, ℕ, suc, ◌<◌, ◌≤◌, refl, sym, ap, ◌∙◌, subst, inl, inr, arith, ◌%◌, Bool}
-use Rattle.std.specs.Prelude.{Option, Some, None, ◌==◌, ◌||◌, false}
+use Rattle.std.proofs.Common.{◌≡◌, ℕ, ◌<◌, ◌≤◌, refl, sym, ap, ◌∙◌, subst, inl, inr, arith, ◌%◌, Bool}
+use Rattle.std.specs.Prelude.{Option, Some, None, ◌==◌, false}
 use Rattle.finite_sums.specs.Sums.{update, total}
-use Rattle.finite_sums.proofs.Totals.{total_le, total_none, update_map, update_same}
+use Rattle.finite_sums.proofs.Totals.{total_none, update_map, update_same}
 use Rattle.access_model.specs.States.{State, is_dirty}
 use Rattle.access_model.specs.Actions.{IsAllowed}
 use Rattle.access_model.specs.declared.actions.Action.{Action}
@@ -13,7 +13,7 @@ use Rattle.cpu_words.specs.Words.{Words}
 use Rattle.mount_counts.specs.declared.remounts.RemountStep.{RemountStep}
 use Rattle.mount_counts.specs.declared.remounts.RemountStep.TheVariants.{Locks}
 use Rattle.mount_counts.specs.Roles.{ro_bit}
-use Rattle.stage_laws.specs.Roles.{StageRole, owns as stage_owns, StagesHold, MarksHold}
+use Rattle.stage_laws.specs.Roles.{owns as stage_owns}
 use Rattle.stage_laws.specs.Shown.{ShowsStages, AsksOthers, state_after, passed_shown}
 use Rattle.stage_laws.specs.Events.{Stages as StageMoment, Holds as StageHolds, Shows, StageEvent, Happens, action_of}
 use Rattle.stage_laws.proofs.Whole.{events_keep, actions_are_allowed, actions_have_their_effect}
@@ -23,7 +23,7 @@ use Rattle.gate_world.specs.declared.work.Phase.{Phase}
 use Rattle.gate_world.specs.declared.work.Phase.TheVariants.{Mounts, Remounts, DownReads, UpReads, Callbacks, Writes, Freezes, Thaws, Trees}
 use Rattle.gate_world.specs.Configs.{model_limits}
 use Rattle.gate_world.specs.Remounts.{remount_owns}
-use Rattle.gate_world.specs.Rules.{owns, remounts, IsGood, Holds, Owner, Stages, marks_of, Moves}
+use Rattle.gate_world.specs.Rules.{owns, IsGood, Holds, Owner, Stages, marks_of}
 use Rattle.gate_world.specs.Shown.{shown, stage_roles}
 use Rattle.gate_world.specs.Stages.{stage_role_of, remount_stage_role}
 use Rattle.gate_world.specs.Views.{held_at, holds_level}

@@ -1,9 +1,9 @@
 -- The tree of a world, as the laws of the tree have it: what an event of a task leaves of it, and what it shows.
 use Rattle.std.proofs.Common.{◌≡◌, ℕ, suc, ◌<◌, ◌≤◌, refl, sym, ap, ◌∙◌, subst, inl, inr, arith, Bool, true≢false, zero}
 use Rattle.std.proofs.lemmas.Bool.Decides.{eqb_tells}
-use Rattle.std.specs.Prelude.{Option, Some, None, List, ◌==◌, ◌||◌, nat_le, true, false, nat_lt}
+use Rattle.std.specs.Prelude.{Option, Some, None, List, false, nat_lt}
 use Rattle.finite_sums.specs.Sums.{update}
-use Rattle.finite_sums.proofs.Totals.{update_map}
+use Rattle.finite_sums.proofs.Totals.{update_map, total_none}
 use Rattle.access_model.specs.States.{is_dirty, IsDirectory}
 use Rattle.access_model.specs.declared.actions.Action.{Action}
 use Rattle.cpu_words.specs.Words.{Words}
@@ -11,11 +11,11 @@ use Rattle.mount_counts.specs.declared.remounts.RemountStep.{RemountStep}
 use Rattle.mount_counts.specs.declared.remounts.RemountStep.TheVariants.{ClearsHold, ClearsMark, SetsReadOnly, ClearsRemount}
 use Rattle.freeze_levels.specs.declared.freezes.FreezeStep.{FreezeStep}
 use Rattle.freeze_levels.specs.declared.freezes.FreezeStep.TheVariants.{Closes, Cleans, SetsFs, Reopens as FreezeReopens}
-use Rattle.gated_tree.specs.Nodes.{IsNode, dirty_in, kind_in, node_shown}
-use Rattle.gated_tree.specs.Roles.{Role, TreeHolds, TreeState, Bounds, AreWithin, RoleHolds, Clearing, sealed_by}
+use Rattle.gated_tree.specs.Nodes.{dirty_in, kind_in, node_shown}
+use Rattle.gated_tree.specs.Roles.{TreeHolds, TreeState, AreWithin, RoleHolds, Clearing, sealed_by, NobodyReads, words_read}
 use Rattle.tree_laws.specs.Events.{Event, MovesBy}
 use Rattle.tree_laws.proofs.Each.{each_event}
-use Rattle.stage_laws.specs.Roles.{MarksHold, StagesHold, CleanBelow, clean_by, KnowsStage, Freezing}
+use Rattle.stage_laws.specs.Roles.{MarksHold, CleanBelow, clean_by, KnowsStage, Freezing}
 use Rattle.gate_world.specs.declared.config.Config.{Config}
 use Rattle.gate_world.specs.declared.views.View.{View}
 use Rattle.gate_world.specs.declared.views.Traced.{Traced}
@@ -26,10 +26,9 @@ use Rattle.gate_world.specs.Fits.{Fits, FreezeFits, PhaseFits}
 use Rattle.gate_world.specs.Rules.{IsGood, Holds, Tree, Stages, Fitting, marks_of}
 use Rattle.gate_world.specs.Shown.{stage_roles}
 use Rattle.gate_world.specs.Stages.{stage_role_of, remount_stage_role, freeze_stage_role, reopening_role, snapshot_stage_role, thaw_stage_role, tree_stage_role, place_of}
-use Rattle.gate_world.specs.Trees.{tree_bounds, tree_of, tree_role_of, tree_roles, is_sealed, remount_tree_role, freeze_tree_role, tree_role_of, tree_role_of, tree_role_of, tree_role_of, tree_role_of, tree_role_of, tree_role_of, tree_role_of, tree_role_of, tree_role_of, tree_role_of, tree_role_of, tree_role_of, tree_role_of, tree_role_of, tree_role_of, tree_role_of, tree_role_of, tree_role_of, tree_role_of, tree_role_of, tree_role_of, tree_role_of, tree_role_of, tree_role_of, tree_role_of, tree_role_of, tree_role_of, tree_role_of, tree_role_of, tree_role_of, tree_role_of, tree_role_of, tree_role_of, tree_role_of, tree_role_of, tree_role_of, tree_role_of, tree_role_of}
+use Rattle.gate_world.specs.Trees.{tree_bounds, tree_of, tree_role_of, tree_roles, is_sealed, remount_tree_role, freeze_tree_role, tree_role_of, tree_role_of, tree_role_of, tree_role_of, tree_role_of, tree_role_of, tree_role_of, tree_role_of, tree_role_of, tree_role_of, tree_role_of, tree_role_of, tree_role_of, tree_role_of, tree_role_of, tree_role_of, tree_role_of, tree_role_of, tree_role_of, tree_role_of, tree_role_of, tree_role_of, tree_role_of, tree_role_of, tree_role_of, tree_role_of, tree_role_of, tree_role_of, tree_role_of, tree_role_of, tree_role_of, tree_role_of, tree_role_of, tree_role_of, tree_role_of, tree_role_of, tree_role_of, tree_role_of, tree_role_of, nodes_noted}
 use Rattle.gate_world.specs.Views.{held_at, holds_level}
 use Rattle.gate_world.specs.Worlds.{World}
-use Rattle.cpu_words.specs.declared.names.WordName.TheVariants.{Kids, Kids, Kids, Kids, Kids, Kids, Kids, Kids, Kids, Kids, Kids, Kids, Kids, Kids, Kids, Kids, Kids, Kids, Kids, Kids, Kids, Kids, Kids, Kids, Kids, Kids, Kids, Kids, Kids, Kids, Kids, Kids, Kids, Kids, Kids, Kids, Kids, Kids}
 use Rattle.std.proofs.lemmas.Bool.{le-leb}
 use Rattle.percpu_rwsem.specs.declared.writers.DownWriteStep.{DownWriteStep}
 use Rattle.percpu_rwsem.specs.declared.writers.UpWriteStep.{UpWriteStep}
@@ -38,10 +37,29 @@ use Rattle.gate_world.specs.Remounts.{RemountFits}
 use Rattle.freeze_levels.specs.declared.thaws.ThawStep.{ThawStep}
 use Rattle.gated_tree.specs.declared.phases.TreePhase.{TreePhase}
 use Rattle.percpu_rwsem.specs.declared.writers.UpWriteStep.TheVariants.{Exits, ClearsBlock}
-use Rattle.gated_tree.specs.declared.snapshots.SnapshotStep.TheVariants.{Locks as SnapshotLocks, LoadsStage as SnapshotLoadsStage, Releases as SnapshotReleases}
+use Rattle.gated_tree.specs.declared.snapshots.SnapshotStep.TheVariants.{Locks as SnapshotLocks, LoadsStage as SnapshotLoadsStage, LoadsUsed as SnapshotLoadsUsed, LoadsNode as SnapshotLoadsNode, LoadsKids as SnapshotLoadsKids, Releases as SnapshotReleases}
 use Rattle.freeze_levels.specs.declared.thaws.ThawStep.TheVariants.{Reopens as ThawReopens}
-use Rattle.gated_tree.specs.declared.phases.TreePhase.TheVariants.{Snapshot as Snapshots}
+use Rattle.gated_tree.specs.declared.phases.TreePhase.TheVariants.{Snapshot as Snapshots, Create as Creates, Remove as Removes, Grow as Grows, MoveTo as Moves, Mark as TreeMarks, ClearMarks as TreeClears}
 use Rattle.percpu_rwsem.specs.declared.writers.DownWriteStep.TheVariants.{Sums}
+use Rattle.gated_tree.specs.declared.snapshots.Snapshot.{Snapshot}
+use Rattle.gated_tree.specs.declared.changes.Create.{Create}
+use Rattle.gated_tree.specs.declared.changes.Remove.{Remove}
+use Rattle.gated_tree.specs.declared.growth.Grow.{Grow}
+use Rattle.gated_tree.specs.declared.changes.MoveTo.{MoveTo}
+use Rattle.gated_tree.specs.declared.marks.Mark.{Mark}
+use Rattle.gated_tree.specs.Roles.{words_read}
+use Rattle.gated_tree.specs.Calls.{snapshot_role, phase_role, create_role, remove_role, grow_role, move_role, mark_role}
+use Rattle.gated_tree.specs.declared.changes.CreateStep.{CreateStep}
+use Rattle.gated_tree.specs.declared.changes.RemoveStep.{RemoveStep}
+use Rattle.gated_tree.specs.declared.growth.GrowStep.{GrowStep}
+use Rattle.gated_tree.specs.declared.changes.MoveStep.{MoveStep}
+use Rattle.gated_tree.specs.declared.marks.MarkStep.{MarkStep}
+use Rattle.gate_world.specs.Snapshots.{values_noted}
+use Rattle.gated_tree.specs.declared.changes.CreateStep.TheVariants.{LoadsDirectory, LoadsNode, ChargesChild, TakesNode, RefundsChild}
+use Rattle.gated_tree.specs.declared.changes.RemoveStep.TheVariants.{LoadsFile as LoadsFileToRemove, FreesNode, RefundsBlocks as RefundsItsBlocks, RefundsChild as RefundsItsChild}
+use Rattle.gated_tree.specs.declared.growth.GrowStep.TheVariants.{LoadsFile as LoadsFileToGrow, LoadsUsed, ChargesBlocks, GrowsFile, RefundsBlocks}
+use Rattle.gated_tree.specs.declared.changes.MoveStep.TheVariants.{LoadsFile as LoadsFileToMove, LoadsDirectory as LoadsTarget, ChargesChild as ChargesTarget, MovesFile, RefundsChild as RefundsOne}
+use Rattle.gated_tree.specs.declared.marks.MarkStep.TheVariants.{LoadsFile as LoadsFileToMark, MarksFile}
 
 -- a configuration within the limits is one for the laws of the tree
 pub tree_within : (c : Config) → IsWithin c → AreWithin (tree_bounds c)
@@ -208,3 +226,77 @@ module _ (c : Config) (w : World) (good : IsGood c w) where
     read_only = λ e. all_clean (sealed_read_only w.words.sb w.words.stage e);
     cleared = λ t lt. phase_clean t lt (w.views t).phase refl;
   }
+
+  -- where the stage isn't 4, a snapshot has loaded no word
+  snapshot_unread : (x : Snapshot) (s : SnapshotStep) (values : ℕ → ℕ) → (w.words.stage ≡ 4 → ⊥) →
+      KnowsStage w.words.stage w.words.sb (snapshot_stage_role s) → words_read (snapshot_role x.nodes values s) ≡ 0
+  snapshot_unread x SnapshotLocks values apart knows = refl
+  snapshot_unread x SnapshotLoadsStage values apart knows = refl
+  snapshot_unread x SnapshotLoadsUsed values apart knows = refl
+  snapshot_unread x (SnapshotLoadsNode n) values apart knows = absurd (apart knows.0)
+  snapshot_unread x (SnapshotLoadsKids n) values apart knows = absurd (apart knows.0)
+  snapshot_unread x (SnapshotReleases answer) values apart knows = refl
+
+  create_unread : (x : Create) (s : CreateStep) → words_read (create_role x s) ≡ 0
+  create_unread x LoadsDirectory = refl
+  create_unread x (LoadsNode n) = refl
+  create_unread x (ChargesChild n) = refl
+  create_unread x (TakesNode n) = refl
+  create_unread x RefundsChild = refl
+
+  remove_unread : (x : Remove) (s : RemoveStep) → words_read (remove_role x s) ≡ 0
+  remove_unread x LoadsFileToRemove = refl
+  remove_unread x (FreesNode file) = refl
+  remove_unread x (RefundsItsBlocks file) = refl
+  remove_unread x (RefundsItsChild file) = refl
+
+  grow_unread : (x : Grow) (s : GrowStep) → words_read (grow_role x s) ≡ 0
+  grow_unread x LoadsFileToGrow = refl
+  grow_unread x (LoadsUsed file) = refl
+  grow_unread x (ChargesBlocks file used) = refl
+  grow_unread x (GrowsFile file) = refl
+  grow_unread x RefundsBlocks = refl
+
+  move_unread : (x : MoveTo) (s : MoveStep) → words_read (move_role x s) ≡ 0
+  move_unread x LoadsFileToMove = refl
+  move_unread x (LoadsTarget file) = refl
+  move_unread x (ChargesTarget file) = refl
+  move_unread x (MovesFile file) = refl
+  move_unread x (RefundsOne dir answer) = refl
+
+  mark_unread : (x : Mark) (s : MarkStep) → words_read (mark_role x s) ≡ 0
+  mark_unread x LoadsFileToMark = refl
+  mark_unread x (MarksFile file) = refl
+
+  tree_unread : (x : TreePhase) (values : ℕ → ℕ) → (w.words.stage ≡ 4 → ⊥) →
+      KnowsStage w.words.stage w.words.sb (tree_stage_role x) → words_read (phase_role values x) ≡ 0
+  tree_unread (Creates x) values apart knows = create_unread x x.step
+  tree_unread (Removes x) values apart knows = remove_unread x x.step
+  tree_unread (Grows x) values apart knows = grow_unread x x.step
+  tree_unread (Moves x) values apart knows = move_unread x x.step
+  tree_unread (TreeMarks x) values apart knows = mark_unread x x.step
+  tree_unread (Snapshots x) values apart knows = snapshot_unread x x.step values apart knows
+  tree_unread (TreeClears x) values apart knows = refl
+
+  remount_unread : (nodes : ℕ) (s : RemountStep) → words_read (remount_tree_role nodes s) ≡ 0
+  remount_unread nodes (ClearsHold held) = refl
+  remount_unread nodes (ClearsMark n) = refl
+  remount_unread nodes SetsReadOnly = refl
+  remount_unread nodes s = refl
+
+  freeze_unread : (nodes : ℕ) (s : FreezeStep) → words_read (freeze_tree_role nodes s) ≡ 0
+  freeze_unread nodes (Cleans marks) = refl
+  freeze_unread nodes SetsFs = refl
+  freeze_unread nodes s = refl
+
+  phase_unread : (trace : List Traced) (p : Option Phase) → (w.words.stage ≡ 4 → ⊥) →
+      KnowsStage w.words.stage w.words.sb (stage_role_of p) → words_read (tree_role_of trace p) ≡ 0
+  phase_unread trace (Some (Remounts x)) apart knows = remount_unread x.nodes x.step
+  phase_unread trace (Some (Freezes x)) apart knows = freeze_unread x.nodes x.step
+  phase_unread trace (Some (Trees x)) apart knows = tree_unread x (values_noted (nodes_noted x) trace) apart knows
+  phase_unread trace p apart knows = refl
+
+  -- so nobody reads then
+  pub nobody_reads : (w.words.stage ≡ 4 → ⊥) → NobodyReads (tree_bounds c) (tree_of w)
+  nobody_reads apart = total_none c.tasks (λ t. words_read (tree_roles w t)) (λ t lt.
+      phase_unread (w.views t).trace (w.views t).phase apart ((good Stages).knows t lt))

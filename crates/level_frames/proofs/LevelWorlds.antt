@@ -24,7 +24,7 @@ use Rattle.level_laws.proofs.Whole.{events_keep, fast_finds_open as level_is_ope
 use Rattle.gate_world.specs.declared.config.Config.{Config}
 use Rattle.gate_world.specs.declared.views.View.{View}
 use Rattle.gate_world.specs.declared.work.Phase.{Phase}
-use Rattle.gate_world.specs.declared.work.Phase.TheVariants.{Mounts, Remounts, DownReads, UpReads, Callbacks, Writes, Freezes, Thaws}
+use Rattle.gate_world.specs.declared.work.Phase.TheVariants.{Mounts, Remounts, DownReads, UpReads, Callbacks, Writes, Freezes, Thaws, Trees}
 use Rattle.gate_world.specs.Worlds.{World}
 use Rattle.gate_world.specs.LevelRuns.{level_in}
 use Rattle.gate_world.specs.Levels.{sync_role_if, sync_role_of, inside, is_frozen_whole, freeze_stand, thaw_stand}
@@ -66,6 +66,7 @@ fast_in_section i (Some (Writes (Drops m p))) = omega arith
 fast_in_section i (Some (Writes (Ends p))) = omega arith
 fast_in_section i (Some (Freezes x)) = omega (arith, freeze_slow i x.step)
 fast_in_section i (Some (Thaws x)) = omega (arith, thaw_slow i x.step)
+fast_in_section i (Some (Trees phase)) = omega arith
 
 -- no down-read has closed a level
 read_opens : (b : Bool) (s : DownReadStep) → closed (sync_role_if b (down_read_role s)) ≡ 0
@@ -101,6 +102,7 @@ closed_below i j (Some (Writes (Drops m p))) one le = omega arith
 closed_below i j (Some (Writes (Ends p))) one le = omega arith
 closed_below i j (Some (Freezes x)) one le = stand_below i j (freeze_stand x.step) le
 closed_below i j (Some (Thaws x)) one le = stand_below i j (thaw_stand x.step) le
+closed_below i j (Some (Trees phase)) one le = omega arith
 
 -- a task's role at its own level is the one it has there
 pub sync_on : (i : ℕ) (r : SyncRole) → sync_role_if (i == i) r ≡ r
