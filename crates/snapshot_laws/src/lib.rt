@@ -1,0 +1,2 @@
+//! The laws of snapshots: their events keep the rule, and what they load is the tree of one moment, sound and clean. It has no code.
+#![tactic(auto)]
