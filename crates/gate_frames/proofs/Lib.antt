@@ -12,5 +12,6 @@ pub mod Places
 pub mod Hooks
 pub mod Trees
 pub mod Stages
+pub mod MayHolds
 pub mod LevelSteps
 pub mod MountRuns

@@ -1,5 +1,5 @@
 -- Courses: how far an operation has come by its events, in the order of its phases. They speak of no other task.
-use Rattle.std.specs.Prelude.{◌≡◌, ℕ, false, Option, Some, None, List, [], ◌∷◌, ◌++◌}
+use Rattle.std.specs.Prelude.{◌≡◌, ℕ, false, Option, Some, None, List, [], ◌∷◌, ◌++◌, ◌<◌, is_some}
 use Rattle.access_model.specs.declared.actions.Action.{Action}
 use Rattle.access_model.specs.declared.replies.Next.{Next}
 use Rattle.access_model.specs.Histories.{mounts_of, levels_of}
@@ -13,6 +13,12 @@ use Rattle.gate_world.specs.declared.views.Traced.{Traced}
 use Rattle.gate_world.specs.Work.{next_of, after_of}
 use Rattle.gate_world.specs.Views.{phase_after, actions_after}
 use Rattle.gate_world.specs.Beginnings.{first_phase, refusal}
+use Rattle.cpu_words.specs.declared.names.WordName.{WordName}
+use Rattle.gate_world.specs.Worlds.{World, value_at}
+use Rattle.cpu_words.specs.declared.names.WordName.TheVariants.{Node}
+use Rattle.cpu_words.specs.Hooks.{HookAnswer}
+use Rattle.gated_tree.specs.Nodes.{unpacked}
+use Rattle.std.proofs.Common.{true}
 
 -- where an operation stands, and the actions that it has added, the newest first
 pub record Course : Type 0 where
@@ -34,9 +40,15 @@ abbrev pub course_of : Config → ℕ → Op → List Traced → Course
 course_of c t op [] = record { comes = Go (first_phase c t op); added = [] }
 course_of c t op (e ∷ earlier) = course_after (course_of c t op earlier).comes (course_of c t op earlier).added e
 
--- the event is the one of this phase, on a word that held some value
+-- a value that a word may hold: the word of a node is a node's
+abbrev pub MayHold : WordName → ℕ → Type 0
+MayHold (Node n) value = is_some (unpacked value) ≡ true
+MayHold word value = Unit {0}
+
+-- the event is the one of this phase, on a word that held some value which it may hold
 abbrev pub IsEventOf : Phase → Traced → Type 0
-IsEventOf phase e = (value : ℕ) × (e.event ≡ event_of (next_of phase e.hook).0 (next_of phase e.hook).1 value)
+IsEventOf phase e =
+    (value : ℕ) × (e.event ≡ event_of (next_of phase e.hook).0 (next_of phase e.hook).1 value) × MayHold (next_of phase e.hook).0 value
 
 -- the event is the one that comes next; after the end there is none
 abbrev pub IsNext : Next Phase → Traced → Type 0
@@ -61,3 +73,12 @@ pub record FollowsOrder (c : Config) (t : ℕ) (v : View) (op : Op) : Type 0 whe
 abbrev pub IsTraced : Config → ℕ → View → Option Op → Type 0
 IsTraced c t v None = (v.phase ≡ None) × (v.actions ≡ []) × (v.trace ≡ [])
 IsTraced c t v (Some op) = FollowsOrder c t v op
+
+-- the next event of each task is on a word that holds what it may
+abbrev pub EventsMayBe : Config → World → Type 0
+EventsMayBe c w = (t : ℕ) → t < c.tasks → (phase : Phase) (hook : HookAnswer) → (w.views t).phase ≡ Some phase →
+    MayHold (next_of phase hook).0 (value_at w.words phase hook)
+
+-- the trace of each task number is one of its operation
+abbrev pub AllTraced : Config → World → Type 0
+AllTraced c w = (t : ℕ) → IsTraced c t (w.views t) (w.views t).op

@@ -1,7 +1,7 @@
 -- Each view follows its operation, after every schedule.
 use Rattle.std.proofs.Common.{◌≡◌, ℕ, refl, sym, ap, ◌∙◌, subst, inl, inr, Bool, false, is_some, true≢false}
 use Rattle.std.specs.Prelude.{true, false, Option, Some, None, nat_lt, List, [], ◌∷◌, ◌++◌}
-use Rattle.std.proofs.lemmas.Bool.{cases_Bool}
+use Rattle.std.proofs.lemmas.Bool.{cases_Bool, cases_lt, lt-ltb, le-ltb}
 use Rattle.finite_sums.proofs.Totals.{each_updated}
 use Rattle.access_model.specs.declared.actions.Action.{Action}
 use Rattle.access_model.specs.declared.errors.GateError.{GateError}
@@ -17,8 +17,8 @@ use Rattle.gate_world.specs.declared.views.Traced.{Traced}
 use Rattle.gate_world.specs.Work.{next_of, after_of}
 use Rattle.gate_world.specs.Views.{phase_after, actions_after, with_hook, view_after, begun_view, held_at, holds_level}
 use Rattle.gate_world.specs.Beginnings.{first_phase, view_refusal, refusal}
-use Rattle.gate_world.specs.Worlds.{World, Entry, Begins, Steps, begin_refusal, begin_of, value_at, step_of, happens, run}
-use Rattle.gate_world.specs.Courses.{course_with, course_after, course_of, IsEventOf, IsNext, IsTraced}
+use Rattle.gate_world.specs.Worlds.{World, Entry, Begins, Steps, begin_refusal, begin_of, value_at, step_of, happens, run, opening}
+use Rattle.gate_world.specs.Courses.{course_with, course_after, course_of, IsEventOf, IsNext, IsTraced, MayHold, AllTraced, EventsMayBe}
 use Rattle.trace_laws.proofs.Says.{event_at}
 
 -- where an operation stands at this phase, its event is the next, and what comes after it is the course after it
@@ -40,14 +40,14 @@ newest (Some a) actions added before h = ap (λ l. a ∷ l) h
 
 -- the next event of a view that follows its operation
 step_follows : (c : Config) (t : ℕ) (v : View) (op : Option Op) (phase : Phase) (value : ℕ) (hook : HookAnswer) → v.phase ≡ Some phase →
-    IsTraced c t v op → IsTraced c t (view_after v phase value hook) op
-step_follows c t v None phase value hook e h = absurd (cc)
-step_follows c t v (Some op) phase value hook e h =
+    MayHold (next_of phase hook).0 value → IsTraced c t v op → IsTraced c t (view_after v phase value hook) op
+step_follows c t v None phase value hook e may h = absurd (cc)
+step_follows c t v (Some op) phase value hook e may h =
     let event : Traced = with_hook (event_at phase value hook) hook in
     let s : IsNext (course_of c t op v.trace).comes event × (course_after (course_of c t op v.trace).comes
     (course_of c t op v.trace).added event ≡ course_with (course_of c t op v.trace).added
     (after_of phase (found_by (next_of phase hook).1 value) hook)) =
-    stands_at (course_of c t op v.trace).comes (course_of c t op v.trace).added phase event (sym h.phase ∙ e) (value, refl) in
+    stands_at (course_of c t op v.trace).comes (course_of c t op v.trace).added phase event (sym h.phase ∙ e) (value, refl, may) in
     record {
       trace = (s.0, h.trace);
       phase = ap (λ x. phase_after x.comes) (sym s.1);
@@ -55,10 +55,6 @@ step_follows c t v (Some op) phase value hook e h =
           (course_of c t op v.trace).added v.before h.actions ∙ ap (λ x. x.added ++ v.before) (sym s.1);
       begins = h.begins;
     }
-
--- each view of a world follows its operation
-abbrev pub AllTraced : Config → World → Type 0
-AllTraced c w = (t : ℕ) → IsTraced c t (w.views t) (w.views t).op
 
 -- why an operation can't begin, where another is under way or none is
 abbrev unless_under_way : Config → View → Op → Bool → Option GateError
@@ -87,24 +83,23 @@ begin_entry c w t op h =
       | inr f ↦ rw f h
     ]
 
--- a step adds the event that the phase wants
-step_keeps : (c : Config) (w : World) (t : ℕ) (hook : HookAnswer) (phase : Option Phase) → (w.views t).phase ≡ phase → AllTraced c w →
-    AllTraced c (step_of w t hook phase)
-step_keeps c w t hook None e h x = h x
-step_keeps c w t hook (Some phase) e h x =
+-- a step adds the event that the phase wants, on a word that holds what it may
+step_keeps : (c : Config) (w : World) (t : ℕ) (hook : HookAnswer) (phase : Option Phase) → (w.views t).phase ≡ phase → t < c.tasks →
+    EventsMayBe c w → AllTraced c w → AllTraced c (step_of w t hook phase)
+step_keeps c w t hook None e lt may h x = h x
+step_keeps c w t hook (Some phase) e lt may h x =
     each_updated (λ y (v : View). IsTraced c y v v.op) w.views t (view_after (w.views t) phase (value_at w.words phase hook) hook) x
-    (step_follows c t (w.views t) (w.views t).op phase (value_at w.words phase hook) hook e (h t)) (λ ne. h x)
+    (step_follows c t (w.views t) (w.views t).op phase (value_at w.words phase hook) hook e (may t lt phase hook e) (h t)) (λ ne. h x)
 
 -- so each entry keeps it
-entry_keeps : (c : Config) (w : World) (e : Entry) → AllTraced c w → AllTraced c (happens c w e)
-entry_keeps c w (Begins t op) h = begin_entry c w t op h
-entry_keeps c w (Steps t hook) h =
-    elim (cases_Bool (nat_lt t c.tasks)) [
-      | inl f ↦ rw f (step_keeps c w t hook (w.views t).phase refl h)
-      | inr f ↦ rw f h
+pub entry_keeps : (c : Config) (w : World) (e : Entry) → EventsMayBe c w → AllTraced c w → AllTraced c (happens c w e)
+entry_keeps c w (Begins t op) may h = begin_entry c w t op h
+entry_keeps c w (Steps t hook) may h =
+    elim (cases_lt t c.tasks) [
+      | inl l ↦ rw (lt-ltb t c.tasks l) (step_keeps c w t hook (w.views t).phase refl l may h)
+      | inr l ↦ rw (le-ltb t c.tasks l) h
     ]
 
--- and every schedule does
-pub all_traced : (c : Config) (w : World) (entries : List Entry) → AllTraced c w → AllTraced c (run c w entries)
-all_traced c w [] h = h
-all_traced c w (e ∷ entries) h = all_traced c (happens c w e) entries (entry_keeps c w e h)
+-- so it is at the beginning
+pub opening_traced : (c : Config) → AllTraced c opening
+opening_traced c t = (refl, refl, refl)

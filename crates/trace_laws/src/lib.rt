@@ -2,18 +2,14 @@
 //! for nobody. It has no code: its functions state laws.
 #![tactic(auto)]
 
-ghost use Rattle.std.specs.Prelude.{ℕ, ◌<◌, List};
 ghost use Rattle.gate_world.specs.declared.config.Config.{Config};
-ghost use Rattle.gate_world.specs.declared.operations.Op.{Op};
-ghost use Rattle.gate_world.specs.declared.views.Traced.{Traced};
-ghost use Rattle.gate_world.specs.Configs.{IsWithin};
-ghost use Rattle.gate_world.specs.Courses.{course_of, IsTrace, IsTraced};
-ghost use Rattle.gate_world.specs.Traces.{Tells, most_events, IsShort};
-ghost use Rattle.gate_world.specs.Worlds.{Entry, opening, run};
+ghost use Rattle.gate_world.specs.Courses.{AllTraced, EventsMayBe};
+ghost use Rattle.gate_world.specs.Worlds.{Entry, World, happens, opening};
 
-/// After every schedule, the trace of each task is a trace of its operation: its events come in the operation's order, its phase is
-/// the one that they lead to, and the actions that they add are its newest. Does nothing: its contract is the law.
+/// The trace of each task is a trace of its operation: its events come in the operation's order, its phase is the one that they lead to,
+/// and the actions that they add are its newest. So it is at the opening, and each entry of a schedule keeps it where the words hold what
+/// they may, which they do in every schedule. Does nothing: its contract is the law.
 pub fn each_view_follows_its_operation()
-    ensures { (c : Config) (entries : List Entry) (t : ℕ) → t < c.tasks →
-        IsTraced c t ((run c opening entries).views t) ((run c opening entries).views t).op }
+    ensures opening { (c : Config) → AllTraced c opening }
+    ensures entries { (c : Config) (w : World) (e : Entry) → EventsMayBe c w → AllTraced c w → AllTraced c (happens c w e) }
 {}

@@ -1,7 +1,9 @@
-use Rattle.std.proofs.Common.{refl}
-use Rattle.gate_world.specs.Worlds.{opening}
-use Rattle.trace_laws.proofs.Traced.{all_traced}
+-- both are lemmas
+use Rattle.trace_laws.proofs.Traced.{entry_keeps, opening_traced}
 use Rattle.trace_laws.proofs.each_view_follows_its_operation.Goals as goal
 
-pub returns : goal.returns
-returns c = λ config entries t lt. all_traced config opening entries (λ x. (refl, refl, refl)) t
+pub returns-clause-opening : goal.returns-clause-opening
+returns-clause-opening c = opening_traced
+
+pub returns-clause-entries : goal.returns-clause-entries
+returns-clause-entries c = entry_keeps

@@ -1,0 +1,266 @@
+-- The next event of each task is on a word that holds what it may: the word of a node of the tree is a node's.
+use Rattle.std.proofs.Common.{◌≡◌, ℕ, ◌<◌, ◌≤◌, subst, ap, arith, Bool}
+use Rattle.std.specs.Prelude.{Option, Some, None, Ok, Err, is_some}
+use Rattle.mount_counts.specs.declared.phases.MountPhase.TheVariants.{Want as MWants, Drop as MDrops, Change as MChanges}
+use Rattle.mount_counts.specs.declared.phases.WantStep.TheVariants.{CountsUp, LoadsHold, LoadsRemount, LoadsReadOnly, LoadsSuperblock, CountsDown}
+use Rattle.mount_counts.specs.declared.phases.ChangeStep.TheVariants.{Locks, LoadsFlags, LoadsSuperblock as LoadsSb, ClearsReadOnly, SetsHold, Sums, SetsReadOnly, ClearsHold, Releases}
+use Rattle.mount_counts.specs.declared.remounts.RemountStep.TheVariants.{Locks as RLocks, LoadsStage as RLoadsStage, LoadsSuperblock as RLoadsSuperblock, SetsWritable, LoadsFlags as RLoadsFlags, SetsHold as RSetsHold, Sums as RSums, SetsRemount, ClearsHold as RClearsHold, GivesUp, ClearsMark, SetsReadOnly as RSetsReadOnly, ClearsRemount, Releases as RReleases}
+use Rattle.percpu_rwsem.specs.declared.transitions.Transition.TheVariants.{Loads, Exchanges}
+use Rattle.percpu_rwsem.specs.declared.readers.DownReadStep.TheVariants.{EntersSection, LoadsSync, CountsUpFast, CountsUpSlow, LoadsBlock, CountsDown as DCountsDown, LeavesAdmitted, LeavesBlocked}
+use Rattle.percpu_rwsem.specs.declared.callbacks.CallbackStep.TheVariants.{Claims, AwaitsSections as CAwaitsSections, CallsBack as CCallsBack}
+use Rattle.percpu_rwsem.specs.declared.writers.DownWriteStep.TheVariants.{Enters, AwaitsSections as WAwaitsSections, CallsBack as WCallsBack, AwaitsPassed, SetsBlock, Sums as WSums}
+use Rattle.percpu_rwsem.specs.declared.writers.UpWriteStep.TheVariants.{ClearsBlock, Exits}
+use Rattle.write_access.specs.declared.phases.WritePhase.TheVariants.{Takes, Wants as WWants, GivesBack, Drops as WDrops, Ends}
+use Rattle.freeze_levels.specs.declared.freezes.FreezeStep.TheVariants.{Locks as FLocks, LoadsStage as FLoadsStage, LoadsSuperblock as FLoadsSuperblock, CompletesReadOnly, SetsWrite, Unlocks, Closes, LocksAgain, SetsPageFault, Cleans, SetsFs, SetsComplete, Reopens as FReopens, Releases as FReleases}
+use Rattle.freeze_levels.specs.declared.thaws.ThawStep.TheVariants.{Locks as TLocks, LoadsStage as TLoadsStage, LoadsSuperblock as TLoadsSuperblock, UnfreezesReadOnly, SetsUnfrozen, Reopens as TReopens, Releases as TReleases}
+use Rattle.gated_tree.specs.declared.changes.CreateStep.TheVariants.{LoadsDirectory, LoadsNode, ChargesChild, TakesNode, RefundsChild}
+use Rattle.gated_tree.specs.declared.changes.RemoveStep.TheVariants.{LoadsFile as LoadsFileToRemove, FreesNode, RefundsBlocks as RefundsItsBlocks, RefundsChild as RefundsItsChild}
+use Rattle.gated_tree.specs.declared.growth.GrowStep.TheVariants.{LoadsFile as LoadsFileToGrow, LoadsUsed, ChargesBlocks, GrowsFile, RefundsBlocks}
+use Rattle.gated_tree.specs.declared.changes.MoveStep.TheVariants.{LoadsFile as LoadsFileToMove, LoadsDirectory as LoadsTarget, ChargesChild as ChargesTarget, MovesFile, RefundsChild as RefundsOne}
+use Rattle.gated_tree.specs.declared.marks.MarkStep.TheVariants.{LoadsFile as LoadsFileToMark, MarksFile}
+use Rattle.gated_tree.specs.declared.snapshots.SnapshotStep.TheVariants.{Locks as SLocks, LoadsStage as SLoadsStage, LoadsUsed as SLoadsUsed, LoadsNode as SLoadsNode, LoadsKids as SLoadsKids, Releases as SReleases}
+use Rattle.gated_tree.specs.declared.phases.TreePhase.TheVariants.{Create as Creates, Remove as Removes, Grow as Grows, MoveTo as Moves, Mark as TreeMarks, Snapshot as Snapshots, ClearMarks as TreeClears}
+use Rattle.gate_world.specs.declared.work.Phase.TheVariants.{Mounts, Remounts, DownReads, UpReads, Callbacks, Writes, Freezes, Thaws, Trees}
+use Rattle.gated_tree.specs.Phases.{next as tree_next, remove_next, grow_next, move_next, mark_next, create_next, snapshot_next}
+use Rattle.write_access.specs.Phases.{next as write_next}
+use Rattle.gated_tree.proofs.Packing.{packed_unpacks}
+use Rattle.gate_world.specs.Rules.{IsGood, Tree, Fitting}
+use Rattle.cpu_words.specs.declared.names.WordName.TheVariants.{Node}
+use Rattle.gate_world.specs.Courses.{MayHold, EventsMayBe}
+use Rattle.gate_world.specs.declared.config.Config.{Config}
+use Rattle.cpu_words.specs.declared.names.WordName.{WordName}
+use Rattle.mount_counts.specs.declared.phases.Want.{Want}
+use Rattle.mount_counts.specs.declared.phases.Change.{Change}
+use Rattle.mount_counts.specs.declared.remounts.Remount.{Remount}
+use Rattle.percpu_rwsem.specs.declared.transitions.Transition.{Transition}
+use Rattle.percpu_rwsem.specs.declared.readers.DownRead.{DownRead}
+use Rattle.percpu_rwsem.specs.declared.callbacks.Callback.{Callback}
+use Rattle.percpu_rwsem.specs.declared.writers.DownWrite.{DownWrite}
+use Rattle.percpu_rwsem.specs.declared.writers.UpWrite.{UpWrite}
+use Rattle.write_access.specs.declared.phases.WritePhase.{WritePhase}
+use Rattle.freeze_levels.specs.declared.freezes.Freeze.{Freeze}
+use Rattle.freeze_levels.specs.declared.thaws.Thaw.{Thaw}
+use Rattle.gated_tree.specs.declared.changes.Create.{Create}
+use Rattle.gated_tree.specs.declared.changes.Remove.{Remove}
+use Rattle.gated_tree.specs.declared.growth.Grow.{Grow}
+use Rattle.gated_tree.specs.declared.changes.MoveTo.{MoveTo}
+use Rattle.gated_tree.specs.declared.marks.Mark.{Mark}
+use Rattle.gated_tree.specs.declared.snapshots.Snapshot.{Snapshot}
+use Rattle.gated_tree.specs.declared.phases.TreePhase.{TreePhase}
+use Rattle.gate_world.specs.declared.work.Phase.{Phase}
+use Rattle.gate_world.specs.Worlds.{World}
+use Rattle.mount_counts.specs.declared.phases.WantStep.{WantStep}
+use Rattle.mount_counts.specs.declared.phases.ChangeStep.{ChangeStep}
+use Rattle.mount_counts.specs.declared.remounts.RemountStep.{RemountStep}
+use Rattle.percpu_rwsem.specs.Transitions.{transition_next}
+use Rattle.percpu_rwsem.specs.declared.readers.DownReadStep.{DownReadStep}
+use Rattle.percpu_rwsem.specs.declared.callbacks.CallbackStep.{CallbackStep}
+use Rattle.percpu_rwsem.specs.declared.writers.DownWriteStep.{DownWriteStep}
+use Rattle.percpu_rwsem.specs.declared.writers.UpWriteStep.{UpWriteStep}
+use Rattle.freeze_levels.specs.declared.freezes.FreezeStep.{FreezeStep}
+use Rattle.freeze_levels.specs.declared.thaws.ThawStep.{ThawStep}
+use Rattle.gated_tree.specs.declared.changes.CreateStep.{CreateStep}
+use Rattle.gated_tree.specs.declared.changes.RemoveStep.{RemoveStep}
+use Rattle.gated_tree.specs.declared.growth.GrowStep.{GrowStep}
+use Rattle.gated_tree.specs.declared.changes.MoveStep.{MoveStep}
+use Rattle.gated_tree.specs.declared.marks.MarkStep.{MarkStep}
+use Rattle.gated_tree.specs.declared.snapshots.SnapshotStep.{SnapshotStep}
+use Rattle.cpu_words.specs.Hooks.{HookAnswer}
+use Rattle.cpu_words.specs.Words.{read}
+use Rattle.gate_world.specs.Work.{next_of}
+use Rattle.mount_counts.specs.Phases.{want_next, change_next}
+use Rattle.gate_world.specs.Remounts.{RemountFits}
+use Rattle.percpu_rwsem.specs.Readers.{down_read_next}
+use Rattle.percpu_rwsem.specs.Callbacks.{callback_next}
+use Rattle.percpu_rwsem.specs.Writers.{down_write_next, up_write_next}
+use Rattle.gate_world.specs.Fits.{FreezeFits, PhaseFits, Fits}
+use Rattle.freeze_levels.specs.Thaws.{thaw_next}
+use Rattle.gated_tree.specs.Calls.{CreateStepFits, SnapshotStepFits, TreePhaseFits}
+use Rattle.gate_world.specs.Views.{held_at, holds_level}
+use Rattle.mount_counts.specs.Remounts.{remount_next}
+use Rattle.freeze_levels.specs.Freezes.{freeze_next}
+use Rattle.gate_world.specs.Trees.{tree_bounds}
+
+-- the word of a node is that of one of the tree's
+abbrev IsOfTree : Config → WordName → Type 0
+IsOfTree c (Node n) = n < c.nodes
+IsOfTree c word = Unit {0}
+
+module _ (c : Config) where
+  want_word : (x : Want) (s : WantStep) → IsOfTree c (want_next x s).0
+  want_word x CountsUp = tt
+  want_word x LoadsHold = tt
+  want_word x LoadsRemount = tt
+  want_word x LoadsReadOnly = tt
+  want_word x LoadsSuperblock = tt
+  want_word x (CountsDown refusal) = tt
+
+  change_word : (x : Change) (s : ChangeStep) → IsOfTree c (change_next x s).0
+  change_word x Locks = tt
+  change_word x LoadsFlags = tt
+  change_word x LoadsSb = tt
+  change_word x ClearsReadOnly = tt
+  change_word x SetsHold = tt
+  change_word x (Sums sum) = tt
+  change_word x SetsReadOnly = tt
+  change_word x (ClearsHold answer) = tt
+  change_word x (Releases answer) = tt
+
+  remount_word : (x : Remount) (s : RemountStep) (hook : HookAnswer) → RemountFits c s → IsOfTree c (remount_next x s hook).0
+  remount_word x RLocks hook fits = tt
+  remount_word x RLoadsStage hook fits = tt
+  remount_word x RLoadsSuperblock hook fits = tt
+  remount_word x SetsWritable (Ok answer) fits = tt
+  remount_word x SetsWritable (Err code) fits = tt
+  remount_word x (RLoadsFlags m held) hook fits = tt
+  remount_word x (RSetsHold m held) hook fits = tt
+  remount_word x (RSums m held sum) hook fits = tt
+  remount_word x (SetsRemount held) hook fits = tt
+  remount_word x (RClearsHold held) hook fits = tt
+  remount_word x (GivesUp m held) hook fits = tt
+  remount_word x (ClearsMark n) hook fits = fits.1
+  remount_word x RSetsReadOnly (Ok answer) fits = tt
+  remount_word x RSetsReadOnly (Err code) fits = tt
+  remount_word x ClearsRemount hook fits = tt
+  remount_word x (RReleases answer) hook fits = tt
+
+  transition_word : (level : ℕ) (x : Transition) → IsOfTree c (transition_next level x).0
+  transition_word level Loads = tt
+  transition_word level (Exchanges from to) = tt
+
+  read_word : (x : DownRead) (s : DownReadStep) → IsOfTree c (down_read_next x s).0
+  read_word x EntersSection = tt
+  read_word x LoadsSync = tt
+  read_word x CountsUpFast = tt
+  read_word x CountsUpSlow = tt
+  read_word x LoadsBlock = tt
+  read_word x DCountsDown = tt
+  read_word x LeavesAdmitted = tt
+  read_word x LeavesBlocked = tt
+
+  callback_word : (x : Callback) (s : CallbackStep) → IsOfTree c (callback_next x s).0
+  callback_word x (Claims transition) = transition_word x.level transition
+  callback_word x (CAwaitsSections grace) = tt
+  callback_word x (CCallsBack transition) = transition_word x.level transition
+
+  down_write_word : (x : DownWrite) (s : DownWriteStep) → IsOfTree c (down_write_next x s).0
+  down_write_word x (Enters transition) = transition_word x.level transition
+  down_write_word x (WAwaitsSections grace) = tt
+  down_write_word x (WCallsBack transition) = transition_word x.level transition
+  down_write_word x AwaitsPassed = tt
+  down_write_word x SetsBlock = tt
+  down_write_word x (WSums sum) = tt
+
+  up_write_word : (x : UpWrite) (s : UpWriteStep) → IsOfTree c (up_write_next x s).0
+  up_write_word x ClearsBlock = tt
+  up_write_word x (Exits transition) = transition_word x.level transition
+
+  write_word : (x : WritePhase) → IsOfTree c (write_next x).0
+  write_word (Takes m r) = read_word r r.step
+  write_word (WWants w) = want_word w w.step
+  write_word (GivesBack m p refusal) = tt
+  write_word (WDrops m p) = tt
+  write_word (Ends p) = tt
+
+  freeze_word : (x : Freeze) (s : FreezeStep) (hook : HookAnswer) → FreezeFits c s → IsOfTree c (freeze_next x s hook).0
+  freeze_word x FLocks hook fits = tt
+  freeze_word x FLoadsStage hook fits = tt
+  freeze_word x FLoadsSuperblock hook fits = tt
+  freeze_word x CompletesReadOnly hook fits = tt
+  freeze_word x SetsWrite hook fits = tt
+  freeze_word x Unlocks hook fits = tt
+  freeze_word x (Closes d) hook fits = down_write_word d d.step
+  freeze_word x LocksAgain hook fits = tt
+  freeze_word x SetsPageFault hook fits = tt
+  freeze_word x (Cleans marks) hook fits = fits.2
+  freeze_word x SetsFs (Ok answer) fits = tt
+  freeze_word x SetsFs (Err code) fits = tt
+  freeze_word x SetsComplete (Ok answer) fits = tt
+  freeze_word x SetsComplete (Err code) fits = tt
+  freeze_word x (FReopens u code) hook fits = up_write_word u u.step
+  freeze_word x (FReleases answer) hook fits = tt
+
+  thaw_word : (x : Thaw) (s : ThawStep) (hook : HookAnswer) → IsOfTree c (thaw_next x s hook).0
+  thaw_word x TLocks hook = tt
+  thaw_word x TLoadsStage hook = tt
+  thaw_word x TLoadsSuperblock hook = tt
+  thaw_word x UnfreezesReadOnly hook = tt
+  thaw_word x SetsUnfrozen (Ok answer) = tt
+  thaw_word x SetsUnfrozen (Err code) = tt
+  thaw_word x (TReopens u) hook = up_write_word u u.step
+  thaw_word x (TReleases answer) hook = tt
+
+  create_word : (x : Create) (s : CreateStep) → x.dir < c.nodes → CreateStepFits (tree_bounds c) s → IsOfTree c (create_next x s).0
+  create_word x LoadsDirectory lt fits = lt
+  create_word x (LoadsNode n) lt fits = fits
+  create_word x (ChargesChild n) lt fits = tt
+  create_word x (TakesNode n) lt fits = fits
+  create_word x RefundsChild lt fits = tt
+
+  remove_word : (x : Remove) (s : RemoveStep) → x.file < c.nodes → IsOfTree c (remove_next x s).0
+  remove_word x LoadsFileToRemove lt = lt
+  remove_word x (FreesNode file) lt = lt
+  remove_word x (RefundsItsBlocks file) lt = tt
+  remove_word x (RefundsItsChild file) lt = tt
+
+  grow_word : (x : Grow) (s : GrowStep) → x.file < c.nodes → IsOfTree c (grow_next x s).0
+  grow_word x LoadsFileToGrow lt = lt
+  grow_word x (LoadsUsed file) lt = tt
+  grow_word x (ChargesBlocks file used) lt = tt
+  grow_word x (GrowsFile file) lt = lt
+  grow_word x RefundsBlocks lt = tt
+
+  move_word : (x : MoveTo) (s : MoveStep) → x.file < c.nodes → x.dir < c.nodes → IsOfTree c (move_next x s).0
+  move_word x LoadsFileToMove lt ld = lt
+  move_word x (LoadsTarget file) lt ld = ld
+  move_word x (ChargesTarget file) lt ld = tt
+  move_word x (MovesFile file) lt ld = lt
+  move_word x (RefundsOne dir answer) lt ld = tt
+
+  mark_word : (x : Mark) (s : MarkStep) → x.file < c.nodes → IsOfTree c (mark_next x s).0
+  mark_word x LoadsFileToMark lt = lt
+  mark_word x (MarksFile file) lt = lt
+
+  snapshot_word : (x : Snapshot) (s : SnapshotStep) → SnapshotStepFits (tree_bounds c) s → IsOfTree c (snapshot_next x s).0
+  snapshot_word x SLocks fits = tt
+  snapshot_word x SLoadsStage fits = tt
+  snapshot_word x SLoadsUsed fits = tt
+  snapshot_word x (SLoadsNode n) fits = fits
+  snapshot_word x (SLoadsKids n) fits = tt
+  snapshot_word x (SReleases answer) fits = tt
+
+  tree_word : (t : ℕ) (x : TreePhase) (hook : HookAnswer) → TreePhaseFits (tree_bounds c) t x → IsOfTree c (tree_next x hook).0
+  tree_word t (Creates x) hook fits = create_word x x.step fits.0 fits.2
+  tree_word t (Removes x) hook fits = remove_word x x.step fits.0
+  tree_word t (Grows x) hook fits = grow_word x x.step fits.0
+  tree_word t (Moves x) hook fits = move_word x x.step fits.0 fits.1
+  tree_word t (TreeMarks x) hook fits = mark_word x x.step fits
+  tree_word t (Snapshots x) hook fits = snapshot_word x x.step fits.2
+  tree_word t (TreeClears x) hook fits = fits.0
+
+  -- the word of each phase's next event
+  phase_word : (t : ℕ) (held : ℕ → ℕ) (levels : ℕ → Bool) (phase : Phase) (hook : HookAnswer) → PhaseFits c t held levels phase →
+      IsOfTree c (next_of phase hook).0
+  phase_word t held levels (Mounts (MWants x)) hook fits = want_word x x.step
+  phase_word t held levels (Mounts (MDrops m p)) hook fits = tt
+  phase_word t held levels (Mounts (MChanges x)) hook fits = change_word x x.step
+  phase_word t held levels (Remounts x) hook fits = remount_word x x.step hook fits.5
+  phase_word t held levels (DownReads r) hook fits = read_word r r.step
+  phase_word t held levels (UpReads u) hook fits = tt
+  phase_word t held levels (Callbacks b) hook fits = callback_word b b.step
+  phase_word t held levels (Writes x) hook fits = write_word x
+  phase_word t held levels (Freezes x) hook fits = freeze_word x x.step hook fits.5
+  phase_word t held levels (Thaws x) hook fits = thaw_word x x.step hook
+  phase_word t held levels (Trees x) hook fits = tree_word t x hook fits.0
+
+  -- the words of a good world hold what they may
+  held_well : (w : World) → IsGood c w → (word : WordName) → IsOfTree c word → MayHold word (read w.words word)
+  held_well w good (Node n) lt = ap is_some (packed_unpacks (w.words.node n) ((good Tree).words n lt).packed)
+  held_well w good word lt = tt
+
+  -- so each event is on such a word
+  pub events_may_be : (w : World) → IsGood c w → EventsMayBe c w
+  events_may_be w good t lt phase hook is =
+      held_well w good (next_of phase hook).0
+      (phase_word t (held_at (w.views t)) (holds_level (w.views t)) phase hook
+      (subst (Fits c t (held_at (w.views t)) (holds_level (w.views t))) is (good Fitting t lt)))
