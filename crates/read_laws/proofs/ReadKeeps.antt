@@ -108,6 +108,7 @@ start_op c i p wait = record {
   counts_not = λ t j. by_bool (j == i) (λ b. count_role_if b CountsNot ≡ CountsNot) refl refl;
   apart = λ t j. by_bool (j == i) (λ b. sync_role_if b IsApart ≡ IsApart) refl refl;
   outside = λ t. refl;
+  off_tree = λ t trace. refl;
   cause = λ t w earlier. tt;
   order_agrees = λ f g h k mounts levels there. none_from_agree h k levels i;
   room_agrees = λ f g mounts there. refl;
@@ -129,6 +130,7 @@ end_op c i p = record {
   counts_not = λ t j. refl;
   apart = λ t j. refl;
   outside = λ t. refl;
+  off_tree = λ t trace. refl;
   cause = λ t w earlier. tt;
   order_agrees = λ f g h k mounts levels there. levels i (in_level c i p there).0 (in_level c i p there).1;
   room_agrees = λ f g mounts there. refl;
