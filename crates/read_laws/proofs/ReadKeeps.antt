@@ -45,7 +45,7 @@ read_phase c r = record {
   step = λ within w good t lt hook e. read_keeps c within w good t lt hook r e;
   runs = λ within w good t lt hook e i one three. read_runs c w good t lt hook r e i;
   completes = λ within w good t lt hook e. completes_none c w t hook (DownReads r) (λ trace found. refl);
-  word = λ within n le t lt held levels hook f. read_there (record c { tasks = n }) t lt r r.step f.0 f.1 f.2 f.3;
+  word = λ within n le t lt held levels hook f. read_there (record c { tasks = n; nodes = 64 }) t lt r r.step f.0 f.1 f.2 f.3;
   acts = λ within t held levels found hook f. read_acts held r r.step found f.0 f.1;
   goes = λ within t held levels found hook f.
       read_fits c t r.level r.cpu (mounts_by (down_read_after r r.step found).1 held)
