@@ -47,7 +47,8 @@ change_phase c x = record {
       change_own c t lt w (after_step w t (Mounts (Changes x)) hook) earlier good after hook x.mount x.read_only x.wait x.task
       x.processors x.step f.0 e
       (ap (λ g. g x.mount) (change_counts w t hook x.mount x.read_only x.wait x.task x.processors x.step)) h is;
-  waits = λ lim w earlier good t lt hook e cause. change_waits c w earlier good t lt x.mount x.read_only x.task x.processors hook x.wait x.step e;
+  waits = λ lim w earlier good t lt hook e cause.
+      change_waits c w earlier good t lt x.mount x.read_only x.task x.processors hook x.wait x.step e;
   tells = λ t w earlier h e. let k : ChangeCause c t w earlier x.mount (Releases (Err Busy)) =
       subst (ChangeCause c t w earlier x.mount) e h in k refl;
 }
@@ -61,6 +62,7 @@ change_op c m ro wait = record {
   counts_not = λ t i. refl;
   apart = λ t i. refl;
   outside = λ t. refl;
+  off_tree = λ t trace. refl;
   cause = λ t w earlier. tt;
   order_agrees = λ f g h k mounts levels there. none_agree c 0 f g h k mounts levels;
   room_agrees = λ f g mounts there. refl;

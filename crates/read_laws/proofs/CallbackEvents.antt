@@ -70,7 +70,9 @@ beside w sections syncs = record {
   stage_same = refl;
   flags_same = refl;
   count_same = refl;
+  used_same = refl;
   node_same = refl;
+  kids_same = refl;
   block_same = refl;
 }
 
@@ -145,18 +147,21 @@ after_at_levels (Go x) = record {
   remounts_none = refl;
   aside = refl;
   out_of_mounts = λ m. refl;
+  off_tree = λ trace. refl;
 }
 after_at_levels (Wait x) = record {
   owns_none = refl;
   remounts_none = refl;
   aside = refl;
   out_of_mounts = λ m. refl;
+  off_tree = λ trace. refl;
 }
 after_at_levels (Done answer) = record {
   owns_none = refl;
   remounts_none = refl;
   aside = refl;
   out_of_mounts = λ m. refl;
+  off_tree = λ trace. refl;
 }
 
 -- it counts at no level

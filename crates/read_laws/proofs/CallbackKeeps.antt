@@ -94,6 +94,7 @@ callback_op c i = record {
   counts_not = λ t j. refl;
   apart = λ t j. by_bool (j == i) (λ b. sync_role_if b IsApart ≡ IsApart) refl refl;
   outside = λ t. refl;
+  off_tree = λ t trace. refl;
   cause = λ t w earlier. tt;
   order_agrees = λ f g h k mounts levels there. refl;
   room_agrees = λ f g mounts there. refl;

@@ -101,7 +101,9 @@ module _ (c : Config) (lim : IsWithin c) (w : World) (good : IsGood c w) (t : â„
     stage_same = refl;
     flags_same = refl;
     count_same = refl;
+    used_same = refl;
     node_same = refl;
+    kids_same = refl;
     block_same = refl;
   }
 
@@ -114,7 +116,9 @@ module _ (c : Config) (lim : IsWithin c) (w : World) (good : IsGood c w) (t : â„
     stage_same = refl;
     flags_same = refl;
     count_same = refl;
+    used_same = refl;
     node_same = refl;
+    kids_same = refl;
     block_same = refl;
   }
 

@@ -1,6 +1,9 @@
 -- What an event at a freeze level leaves alone, where it leaves the word `block` of each.
 use Rattle.gate_frames.proofs.Known.{known_same}
 use Rattle.gated_tree.specs.Nodes.{node_shown}
+use Rattle.gated_tree.specs.Roles.{Out as OffTree, sealed_by}
+use Rattle.gate_world.specs.Trees.{is_sealed, tree_role_of}
+use Rattle.gate_world.specs.declared.views.Traced.{Traced}
 use Rattle.gate_world.specs.Owners.{KnowsWords}
 use Rattle.mount_counts.specs.Roles.{ro_bit, Out}
 use Rattle.access_model.specs.declared.replies.Next.TheVariants.{Go, Wait, Done}
@@ -14,7 +17,7 @@ use Rattle.gate_world.specs.declared.work.Phase.TheVariants.{UpReads, DownReads}
 use Rattle.percpu_rwsem.specs.declared.readers.DownRead.{DownRead}
 use Rattle.gate_world.specs.Levels.{is_frozen_whole, sync_role_of, inside, at_level}
 use Rattle.gate_world.specs.Views.{held_at, added_by, phase_after, taken_by, holds_level}
-use Rattle.gate_world.specs.Rules.{owns, remounts, IsGood, Holds, ViewFits, Owner, Known, AtMount, AtLevel, role_of, SyncAt, Sections, Stages, Marks, Fitting, Nodes}
+use Rattle.gate_world.specs.Rules.{owns, remounts, IsGood, Holds, ViewFits, Owner, Known, AtMount, AtLevel, role_of, SyncAt, Sections, Stages, Fitting, Tree}
 use Rattle.gate_world.specs.Stages.{stage_role_of}
 use Rattle.stage_laws.specs.Roles.{Aside, sums}
 use Rattle.gate_world.specs.declared.config.Config.{Config}
@@ -24,7 +27,7 @@ use Rattle.gate_world.specs.declared.views.View.{View}
 use Rattle.gate_world.specs.declared.work.Phase.{Phase}
 use Rattle.cpu_words.specs.Words.{Words}
 use Rattle.std.proofs.Common.{◌≡◌, ℕ, ◌<◌, refl, sym, ap, ◌∙◌, arith}
-use Rattle.std.specs.Prelude.{◌==◌, ◌&&◌, ◌||◌, if◌then◌else◌, Option, Some}
+use Rattle.std.specs.Prelude.{◌==◌, ◌&&◌, ◌||◌, if◌then◌else◌, Option, Some, List}
 
 -- the words that are no level's own are as they were, and so is `block`
 pub record IsBeside (old new : Words) : Type 0 where
@@ -34,15 +37,19 @@ pub record IsBeside (old new : Words) : Type 0 where
   pub stage_same : new.stage ≡ old.stage
   pub flags_same : new.flags ≡ old.flags
   pub count_same : new.count ≡ old.count
+  pub used_same : new.used ≡ old.used
   pub node_same : new.node ≡ old.node
+  pub kids_same : new.kids ≡ old.kids
   pub block_same : new.block ≡ old.block
 
--- a phase at levels alone: it owns nothing, does nothing with the stage, so closes no level, and has no role at a mount
+-- a phase at levels alone: it owns nothing, does nothing with the stage, so closes no level, and has no role at a mount or
+-- the tree
 pub record IsAtLevels (p : Option Phase) : Type 0 where
   pub owns_none : owns p ≡ 0
   pub remounts_none : remounts p ≡ 0
   pub aside : stage_role_of p ≡ Aside
   pub out_of_mounts : (m : ℕ) → role_of m p ≡ Out
+  pub off_tree : (trace : List Traced) → tree_role_of trace p ≡ OffTree
 
 -- a view's accesses at mounts, and what it added to their words and took away, are as they were
 pub record SameAtMounts (old new : View) : Type 0 where
@@ -54,6 +61,10 @@ pub record SameAtMounts (old new : View) : Type 0 where
 pub whole_same : (old new : Words) → IsBeside old new → is_frozen_whole new ≡ is_frozen_whole old
 whole_same old new words = λ k. if words.stage_same k == 4 && words.sb_same k == 0 then 1 else 0
 
+-- sealed or not as before
+sealed_same : (old new : Words) → IsBeside old new → is_sealed new ≡ is_sealed old
+sealed_same old new words = λ k. sealed_by (words.sb_same k) (words.stage_same k)
+
 -- what is there after a down-read's event is at levels alone
 pub reads_at_levels : (next : Next DownRead) → IsAtLevels (phase_after (map_next DownReads next))
 reads_at_levels (Go r) = record {
@@ -61,18 +72,21 @@ reads_at_levels (Go r) = record {
   remounts_none = refl;
   aside = refl;
   out_of_mounts = λ m. refl;
+  off_tree = λ trace. refl;
 }
 reads_at_levels (Wait r) = record {
   owns_none = refl;
   remounts_none = refl;
   aside = refl;
   out_of_mounts = λ m. refl;
+  off_tree = λ trace. refl;
 }
 reads_at_levels (Done answer) = record {
   owns_none = refl;
   remounts_none = refl;
   aside = refl;
   out_of_mounts = λ m. refl;
+  off_tree = λ trace. refl;
 }
 
 -- so is an up-read
@@ -82,6 +96,7 @@ end_at_levels u = record {
   remounts_none = refl;
   aside = refl;
   out_of_mounts = λ m. refl;
+  off_tree = λ trace. refl;
 }
 
 module _ (c : Config) (w : World) (good : IsGood c w) (t : ℕ) (lt : t < c.tasks) (ws : Words) (v : View) (words : IsBeside w.words ws)
@@ -112,6 +127,12 @@ module _ (c : Config) (w : World) (good : IsGood c w) (t : ℕ) (lt : t < c.task
       (view_as (ap (λ f. f m) mounts.held_same) (ap (λ f. f m) mounts.added_same) (ap (λ f. f m) mounts.taken_same)
       (now.out_of_mounts m ∙ sym (was.out_of_mounts m))) (good (AtMount m))
 
+  -- the tree
+  tree_left : Holds c then_world Tree
+  tree_left =
+      left_alone c w t lt Tree ws v (words.used_same, words.node_same, words.kids_same, sealed_same w.words ws words)
+      (now.off_tree v.trace ∙ sym (was.off_tree (w.views t).trace)) (good Tree)
+
   -- all parts, from those of the levels
   pub level_parts : SameAtMounts (w.views t) v → ViewFits c t v → ((i : ℕ) → Holds c then_world (AtLevel i)) →
       ((i : ℕ) → Holds c then_world (SyncAt i)) → Holds c then_world Sections → IsGood c then_world
@@ -119,12 +140,10 @@ module _ (c : Config) (w : World) (good : IsGood c w) (t : ℕ) (lt : t < c.task
   level_parts mounts fits levels syncs sections Stages =
       left_alone c w t lt Stages ws v (words.stage_same, words.sb_same, words.remount_same, words.block_same)
       (now.aside ∙ sym was.aside) (good Stages)
-  level_parts mounts fits levels syncs sections Marks =
-      left_alone c w t lt Marks ws v (words.stage_same, words.sb_same, words.node_same) (now.aside ∙ sym was.aside) (good Marks)
   level_parts mounts fits levels syncs sections Fitting = λ x lx.
       each_updated (λ y (u : View). ViewFits c y u) w.views t v x fits (λ ne. good Fitting x lx)
   level_parts mounts fits levels syncs sections Known = known_left
-  level_parts mounts fits levels syncs sections Nodes = left_alone c w t lt Nodes ws v words.node_same tt (good Nodes)
+  level_parts mounts fits levels syncs sections Tree = tree_left
   level_parts mounts fits levels syncs sections (AtMount m) = mount_left mounts m
   level_parts mounts fits levels syncs sections (AtLevel i) = levels i
   level_parts mounts fits levels syncs sections (SyncAt i) = syncs i

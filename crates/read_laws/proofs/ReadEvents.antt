@@ -176,7 +176,9 @@ module _ (c : Config) (lim : IsWithin c) (w : World) (good : IsGood c w) (t : â„
     stage_same = refl;
     flags_same = refl;
     count_same = refl;
+    used_same = refl;
     node_same = refl;
+    kids_same = refl;
     block_same = refl;
   }
 
@@ -239,7 +241,9 @@ module _ (c : Config) (lim : IsWithin c) (w : World) (good : IsGood c w) (t : â„
         stage_same = refl;
         flags_same = refl;
         count_same = refl;
+        used_same = refl;
         node_same = refl;
+        kids_same = refl;
         block_same = refl;
       } in
       let mounts : SameAtMounts (w.views t) v = record { held_same = refl; added_same = refl; taken_same = refl } in (
@@ -336,7 +340,9 @@ module _ (c : Config) (lim : IsWithin c) (w : World) (good : IsGood c w) (t : â„
     stage_same = refl;
     flags_same = refl;
     count_same = refl;
+    used_same = refl;
     node_same = refl;
+    kids_same = refl;
     block_same = update_same w.words.block r.level;
   }
 

@@ -45,7 +45,7 @@ read_phase c r = record {
   step = λ within w good t lt hook e. read_keeps c within w good t lt hook r e;
   runs = λ within w good t lt hook e i one three. read_runs c w good t lt hook r e i;
   completes = λ within w good t lt hook e. completes_none c w t hook (DownReads r) (λ trace found. refl);
-  word = λ within n le t lt held levels hook f. read_there (record c { tasks = n }) t lt r r.step f.0 f.1 f.2 f.3;
+  word = λ within n le t lt held levels hook f. read_there (record c { tasks = n; nodes = 64 }) t lt r r.step f.0 f.1 f.2 f.3;
   acts = λ within t held levels found hook f. read_acts held r r.step found f.0 f.1;
   goes = λ within t held levels found hook f.
       read_fits c t r.level r.cpu (mounts_by (down_read_after r r.step found).1 held)
@@ -108,6 +108,7 @@ start_op c i p wait = record {
   counts_not = λ t j. by_bool (j == i) (λ b. count_role_if b CountsNot ≡ CountsNot) refl refl;
   apart = λ t j. by_bool (j == i) (λ b. sync_role_if b IsApart ≡ IsApart) refl refl;
   outside = λ t. refl;
+  off_tree = λ t trace. refl;
   cause = λ t w earlier. tt;
   order_agrees = λ f g h k mounts levels there. none_from_agree h k levels i;
   room_agrees = λ f g mounts there. refl;
@@ -129,6 +130,7 @@ end_op c i p = record {
   counts_not = λ t j. refl;
   apart = λ t j. refl;
   outside = λ t. refl;
+  off_tree = λ t trace. refl;
   cause = λ t w earlier. tt;
   order_agrees = λ f g h k mounts levels there. levels i (in_level c i p there).0 (in_level c i p there).1;
   room_agrees = λ f g mounts there. refl;

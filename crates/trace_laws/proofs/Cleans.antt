@@ -24,7 +24,8 @@ clean_leaves (Node n) (And mask) found actions rest before h =
 clean_leaves word touch found actions rest before h = h
 
 -- so does clearing each mark of a trace
-pub cleans_leave : (trace : List Traced) (rest before : List Action) → LeaveAccesses rest before → LeaveAccesses (cleans trace ++ rest) before
+pub cleans_leave : (trace : List Traced) (rest before : List Action) → LeaveAccesses rest before →
+    LeaveAccesses (cleans trace ++ rest) before
 cleans_leave [] rest before h = h
 cleans_leave (e ∷ earlier) rest before h =
     clean_leaves e.event.word e.event.touch e.event.found (cleans earlier) rest before (cleans_leave earlier rest before h)

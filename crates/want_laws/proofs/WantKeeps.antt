@@ -96,6 +96,7 @@ want_op c m p wait = record {
   counts_not = λ t i. refl;
   apart = λ t i. refl;
   outside = λ t. refl;
+  off_tree = λ t trace. refl;
   cause = λ t w earlier. tt;
   order_agrees = λ f g h k mounts levels there. refl;
   room_agrees = λ f g mounts there. ap (λ y. nat_lt y 1024) (mounts m
@@ -118,6 +119,7 @@ drop_op c m p = record {
   counts_not = λ t i. refl;
   apart = λ t i. refl;
   outside = λ t. refl;
+  off_tree = λ t trace. refl;
   cause = λ t w earlier. tt;
   order_agrees = λ f g h k mounts levels there. ap (nat_lt 0) (mounts m
       (ltb-true m c.mounts (both (nat_lt m c.mounts) (nat_lt p c.processors) there).0));

@@ -297,6 +297,7 @@ want_write_op c m p = record {
   counts_not = λ t j. by_bool (j == 1) (λ b. count_role_if b CountsNot ≡ CountsNot) refl refl;
   apart = λ t j. by_bool (j == 1) (λ b. sync_role_if b IsApart ≡ IsApart) refl refl;
   outside = λ t. refl;
+  off_tree = λ t trace. refl;
   cause = λ t w earlier. tt;
   order_agrees = λ f g h k mounts levels there. none_agree c 0 f g h k mounts levels;
   room_agrees = λ f g mounts there. ap (λ y. nat_lt y 1024) (mounts m (in_mount c m p there).0);
@@ -322,6 +323,7 @@ drop_write_op c m p = record {
   counts_not = λ t j. refl;
   apart = λ t j. refl;
   outside = λ t. refl;
+  off_tree = λ t trace. refl;
   cause = λ t w earlier. tt;
   order_agrees = λ f g h k mounts levels there. rw (levels 1 (omega arith) (omega arith), mounts m (in_mount c m p there).0) refl;
   room_agrees = λ f g mounts there. refl;
