@@ -1,11 +1,13 @@
--- Words that name verbs and hooks, and what a hook answers that a schedule lets fail.
+-- Words that name verbs, hooks and kinds of nodes, and what a hook answers that a schedule lets fail.
 use Rattle.std.specs.Prelude.{ℕ, Bool, true, false, ◌==◌, ◌||◌, if◌then◌else◌, List, codes, Option, Some, None, Ok, Err, bytes_eq}
+use Rattle.access_model.specs.declared.actions.Kind.{Kind}
+use Rattle.access_model.specs.declared.actions.Kind.TheVariants.{File, Dir}
 use Rattle.cpu_words.specs.Hooks.{HookAnswer}
 use Rattle.freeze_levels.specs.declared.hooks.HookKind.{HookKind}
 use Rattle.freeze_levels.specs.declared.hooks.HookKind.TheVariants.{Sync, FreezeFs, UnfreezeFs, Reconfigure}
 use Rattle.schedule_text.specs.declared.commands.HookFailure.{HookFailure}
 use Rattle.schedule_text.specs.declared.commands.Verb.{Verb}
-use Rattle.schedule_text.specs.declared.commands.Verb.TheVariants.{Want, TryWant, Drop, Start, TryStart, End, WantWrite, DropWrite, Change, TryChange, Remount, Callback, Freeze, Thaw, Step, Run}
+use Rattle.schedule_text.specs.declared.commands.Verb.TheVariants.{Want, TryWant, Drop, Start, TryStart, End, WantWrite, DropWrite, Change, TryChange, Remount, Callback, Freeze, Thaw, Create, Remove, Grow, Move, Fault, Flush, Snapshot, TrySnapshot, Step, Run}
 
 -- the verb that a word names
 unfoldable pub verb_of : List ℕ → Option Verb
@@ -24,6 +26,14 @@ verb_of word =
     if bytes_eq word (codes "callback") then Some Callback else
     if bytes_eq word (codes "freeze") then Some Freeze else
     if bytes_eq word (codes "thaw") then Some Thaw else
+    if bytes_eq word (codes "create") then Some Create else
+    if bytes_eq word (codes "remove") then Some Remove else
+    if bytes_eq word (codes "grow") then Some Grow else
+    if bytes_eq word (codes "move") then Some Move else
+    if bytes_eq word (codes "fault") then Some Fault else
+    if bytes_eq word (codes "flush") then Some Flush else
+    if bytes_eq word (codes "snapshot") then Some Snapshot else
+    if bytes_eq word (codes "trysnapshot") then Some TrySnapshot else
     if bytes_eq word (codes "step") then Some Step else
     if bytes_eq word (codes "run") then Some Run else None
 
@@ -43,6 +53,14 @@ takes Remount words = words == 3
 takes Callback words = words == 3
 takes Freeze words = words == 2
 takes Thaw words = words == 2
+takes Create words = words == 4
+takes Remove words = words == 3
+takes Grow words = words == 4
+takes Move words = words == 4
+takes Fault words = words == 3
+takes Flush words = words == 3
+takes Snapshot words = words == 2
+takes TrySnapshot words = words == 2
 takes Step words = words == 2 || words == 3
 takes Run words = words == 2 || words == 4
 
@@ -53,6 +71,12 @@ hook_named word =
     if bytes_eq word (codes "freeze") then Some FreezeFs else
     if bytes_eq word (codes "unfreeze") then Some UnfreezeFs else
     if bytes_eq word (codes "reconfigure") then Some Reconfigure else None
+
+-- the kind of node that a word names
+unfoldable pub kind_named : List ℕ → Option Kind
+kind_named word =
+    if bytes_eq word (codes "file") then Some File else
+    if bytes_eq word (codes "dir") then Some Dir else None
 
 -- whether two hooks are one
 abbrev pub is_hook : HookKind → HookKind → Bool

@@ -2,20 +2,21 @@
 use Rattle.std.specs.Prelude.{ℕ, Bool, true, false, not, ◌==◌, nat_lt, if◌then◌else◌, List, [], ◌∷◌, codes, bytes_eq, Option, Some, None, Result, Ok, Err, ok_or}
 use Rattle.freeze_levels.specs.declared.hooks.HookKind.{HookKind}
 use Rattle.gate_world.specs.declared.config.Config.{Config}
-use Rattle.gate_world.specs.declared.operations.Op.TheVariants.{Want as WantOp, DropMount, Start as StartOp, End as EndOp, WantWrite as WantWriteOp, DropWrite as DropWriteOp, ChangeMount, RemountSb, Callback as CallbackOp, Freeze as FreezeOp, Thaw as ThawOp}
+use Rattle.access_model.specs.declared.actions.Kind.{Kind}
+use Rattle.gate_world.specs.declared.operations.Op.TheVariants.{Want as WantOp, DropMount, Start as StartOp, End as EndOp, WantWrite as WantWriteOp, DropWrite as DropWriteOp, ChangeMount, RemountSb, Callback as CallbackOp, Freeze as FreezeOp, Thaw as ThawOp, Create as CreateOp, Remove as RemoveOp, Grow as GrowOp, MoveTo as MoveToOp, Fault as FaultOp, Flush as FlushOp, Snapshot as SnapshotOp}
 use Rattle.schedule_text.specs.declared.commands.Line.{Line}
 use Rattle.schedule_text.specs.declared.commands.Line.TheVariants.{Skipped, Config as ConfigLine, Request as RequestLine}
 use Rattle.schedule_text.specs.declared.commands.Request.{Request}
-use Rattle.schedule_text.specs.declared.commands.Request.TheVariants.{Words, Model, Task}
+use Rattle.schedule_text.specs.declared.commands.Request.TheVariants.{Words, Tree, Model, Task}
 use Rattle.schedule_text.specs.declared.commands.TaskCommand.{TaskCommand}
 use Rattle.schedule_text.specs.declared.commands.TaskCommand.TheVariants.{Begin, Step as StepCommand, Run as RunCommand}
 use Rattle.schedule_text.specs.declared.commands.Verb.{Verb}
-use Rattle.schedule_text.specs.declared.commands.Verb.TheVariants.{Want, TryWant, Drop, Start, TryStart, End, WantWrite, DropWrite, Change, TryChange, Remount, Callback, Freeze, Thaw, Step, Run}
+use Rattle.schedule_text.specs.declared.commands.Verb.TheVariants.{Want, TryWant, Drop, Start, TryStart, End, WantWrite, DropWrite, Change, TryChange, Remount, Callback, Freeze, Thaw, Create, Remove, Grow, Move, Fault as FaultVerb, Flush, Snapshot, TrySnapshot, Step, Run}
 use Rattle.schedule_text.specs.declared.faults.Fault.{Fault}
 use Rattle.schedule_text.specs.declared.faults.Fault.TheVariants.{ConfigExpected, ConfigTwice, UnknownCommand, WrongNumberOfWords, NoSuchTask, BadNumber, BadWord}
 use Rattle.schedule_text.specs.Numbers.{is_digits, number_of, byte_of, code_of}
 use Rattle.schedule_text.specs.Words.{first_word, after_word, word_count}
-use Rattle.schedule_text.specs.Commands.{verb_of, takes, hook_named}
+use Rattle.schedule_text.specs.Commands.{verb_of, takes, hook_named, kind_named}
 
 -- one after the other, up to the first fault
 infixl 10 ◌>>=◌
@@ -131,6 +132,49 @@ callback_of rest = do
   level ← byte_at rest
   Ok (Begin (CallbackOp level))
 
+-- the kind of node that comes first
+unfoldable pub kind_at : List ℕ → Result Kind Fault
+kind_at text = ok_or (kind_named (first_word text)) BadWord
+
+-- the arguments of `create`: a directory, and `file` or `dir`
+unfoldable pub create_of : List ℕ → Result TaskCommand Fault
+create_of rest = do
+  dir ← byte_at rest
+  kind ← kind_at (after_word rest)
+  Ok (Begin (CreateOp dir kind))
+
+-- the argument of `remove`: a file
+unfoldable pub remove_of : List ℕ → Result TaskCommand Fault
+remove_of rest = do
+  file ← byte_at rest
+  Ok (Begin (RemoveOp file))
+
+-- the arguments of `grow`: a file, and how many blocks
+unfoldable pub grow_of : List ℕ → Result TaskCommand Fault
+grow_of rest = do
+  file ← byte_at rest
+  blocks ← number_at (after_word rest)
+  Ok (Begin (GrowOp file blocks))
+
+-- the arguments of `move`: a file, and a directory
+unfoldable pub move_of : List ℕ → Result TaskCommand Fault
+move_of rest = do
+  file ← byte_at rest
+  dir ← byte_at (after_word rest)
+  Ok (Begin (MoveToOp file dir))
+
+-- the argument of `fault`: a file
+unfoldable pub fault_of : List ℕ → Result TaskCommand Fault
+fault_of rest = do
+  file ← byte_at rest
+  Ok (Begin (FaultOp file))
+
+-- the argument of `flush`: a file
+unfoldable pub flush_of : List ℕ → Result TaskCommand Fault
+flush_of rest = do
+  file ← byte_at rest
+  Ok (Begin (FlushOp file))
+
 -- the argument of `step`, where there is one: the code by which a hook fails
 unfoldable pub step_of : List ℕ → Result TaskCommand Fault
 step_of rest = do
@@ -160,6 +204,14 @@ arguments_of Remount rest words = remount_of rest
 arguments_of Callback rest words = callback_of rest
 arguments_of Freeze rest words = Ok (Begin FreezeOp)
 arguments_of Thaw rest words = Ok (Begin ThawOp)
+arguments_of Create rest words = create_of rest
+arguments_of Remove rest words = remove_of rest
+arguments_of Grow rest words = grow_of rest
+arguments_of Move rest words = move_of rest
+arguments_of FaultVerb rest words = fault_of rest
+arguments_of Flush rest words = flush_of rest
+arguments_of Snapshot rest words = Ok (Begin (SnapshotOp true))
+arguments_of TrySnapshot rest words = Ok (Begin (SnapshotOp false))
 arguments_of Step rest words = if words == 2 then Ok (StepCommand (Ok tt)) else step_of rest
 arguments_of Run rest words = if words == 2 then Ok (RunCommand None) else run_of rest
 
@@ -181,6 +233,7 @@ unfoldable pub command_line : List ℕ → ℕ → Result Line Fault
 command_line line tasks =
     if bytes_eq (first_word line) (codes "config") then Err ConfigTwice else
     if bytes_eq (first_word line) (codes "words") then alone (word_count line) Words else
+    if bytes_eq (first_word line) (codes "tree") then alone (word_count line) Tree else
     if bytes_eq (first_word line) (codes "model") then alone (word_count line) Model else
     if not (is_digits (first_word line)) then Err UnknownCommand else
     if word_count line == 1 then Err WrongNumberOfWords else task_line line tasks

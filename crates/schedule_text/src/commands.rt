@@ -1,8 +1,9 @@
 //! What a line asks for.
 
 ghost use Rattle.std.specs.Prelude.{◌≡◌};
-ghost use Rattle.schedule_text.specs.Commands.{hook_named};
+ghost use Rattle.schedule_text.specs.Commands.{hook_named, kind_named};
 
+use access_model::Kind;
 use freeze_levels::HookKind;
 use gate_world::{Config, Op};
 
@@ -29,6 +30,8 @@ pub enum TaskCommand {
 pub enum Request {
     /// To print the words of memory that aren't 0.
     Words,
+    /// To print the words of the tree that aren't 0.
+    Tree,
     /// To print the model.
     Model,
     /// Something of a task.
@@ -63,6 +66,14 @@ pub enum Verb {
     Callback,
     Freeze,
     Thaw,
+    Create,
+    Remove,
+    Grow,
+    Move,
+    Fault,
+    Flush,
+    Snapshot,
+    TrySnapshot,
     Step,
     Run,
 }
@@ -103,6 +114,22 @@ impl Verb {
             Some(Verb::Freeze)
         } else if word == b"thaw".as_slice() {
             Some(Verb::Thaw)
+        } else if word == b"create".as_slice() {
+            Some(Verb::Create)
+        } else if word == b"remove".as_slice() {
+            Some(Verb::Remove)
+        } else if word == b"grow".as_slice() {
+            Some(Verb::Grow)
+        } else if word == b"move".as_slice() {
+            Some(Verb::Move)
+        } else if word == b"fault".as_slice() {
+            Some(Verb::Fault)
+        } else if word == b"flush".as_slice() {
+            Some(Verb::Flush)
+        } else if word == b"snapshot".as_slice() {
+            Some(Verb::Snapshot)
+        } else if word == b"trysnapshot".as_slice() {
+            Some(Verb::TrySnapshot)
         } else if word == b"step".as_slice() {
             Some(Verb::Step)
         } else if word == b"run".as_slice() {
@@ -121,8 +148,10 @@ impl Verb {
                 words == 4
             }
             Verb::WantWrite | Verb::DropWrite | Verb::Change | Verb::TryChange => words == 4,
+            Verb::Create | Verb::Grow | Verb::Move => words == 4,
             Verb::Remount | Verb::Callback => words == 3,
-            Verb::Freeze | Verb::Thaw => words == 2,
+            Verb::Remove | Verb::Fault | Verb::Flush => words == 3,
+            Verb::Freeze | Verb::Thaw | Verb::Snapshot | Verb::TrySnapshot => words == 2,
             Verb::Step => words == 2 || words == 3,
             Verb::Run => words == 2 || words == 4,
         }
@@ -156,6 +185,20 @@ pub fn hook_named(word: &[u8]) -> Option<HookKind>
         Some(HookKind::UnfreezeFs)
     } else if word == b"reconfigure".as_slice() {
         Some(HookKind::Reconfigure)
+    } else {
+        None
+    }
+}
+
+/// The kind of node that a word names: a file or a directory.
+#[tactic(auto, unfolding(crate::specs::Commands::kind_named))]
+pub fn kind_named(word: &[u8]) -> Option<Kind>
+    ensures { result ≡ kind_named word.now }
+{
+    if word == b"file".as_slice() {
+        Some(Kind::File)
+    } else if word == b"dir".as_slice() {
+        Some(Kind::Dir)
     } else {
         None
     }

@@ -1,12 +1,13 @@
 //! From a line to what it asks for.
 
 ghost use Rattle.std.specs.Prelude.{◌≡◌};
-ghost use Rattle.schedule_text.specs.Parsing.{parsed, is_skipped, config_line, config_of, command_line, alone, task_line, task_of, arguments_of, want_of, drop_of, start_of, end_of, want_write_of, drop_write_of, change_of, remount_of, callback_of, step_of, run_of, number_at, byte_at, code_at, hook_at, read_only_at, read_only_of};
+ghost use Rattle.schedule_text.specs.Parsing.{parsed, is_skipped, config_line, config_of, command_line, alone, task_line, task_of, arguments_of, want_of, drop_of, start_of, end_of, want_write_of, drop_write_of, change_of, remount_of, callback_of, create_of, remove_of, grow_of, move_of, fault_of, flush_of, step_of, run_of, number_at, byte_at, code_at, hook_at, kind_at, read_only_at, read_only_of};
 
-use crate::commands::{HookFailure, Line, Request, TaskCommand, Verb, hook_named};
+use crate::commands::{HookFailure, Line, Request, TaskCommand, Verb, hook_named, kind_named};
 use crate::faults::Fault;
 use crate::numbers::{byte_of, code_of, is_digits, number_of};
 use crate::words::{after_word, first_word, word_count};
+use access_model::Kind;
 use freeze_levels::HookKind;
 use gate_world::{Config, Op};
 
@@ -84,6 +85,8 @@ fn command_line(line: &[u8], tasks: u8) -> Result<Line, Fault>
         Err(Fault::ConfigTwice)
     } else if first == b"words".as_slice() {
         alone(words, Request::Words)
+    } else if first == b"tree".as_slice() {
+        alone(words, Request::Tree)
     } else if first == b"model".as_slice() {
         alone(words, Request::Model)
     } else if !is_digits(first) {
@@ -151,6 +154,14 @@ fn arguments_of(verb: Verb, rest: &[u8], words: usize) -> Result<TaskCommand, Fa
         Verb::Callback => callback_of(rest),
         Verb::Freeze => Ok(TaskCommand::Begin(Op::Freeze)),
         Verb::Thaw => Ok(TaskCommand::Begin(Op::Thaw)),
+        Verb::Create => create_of(rest),
+        Verb::Remove => remove_of(rest),
+        Verb::Grow => grow_of(rest),
+        Verb::Move => move_of(rest),
+        Verb::Fault => fault_of(rest),
+        Verb::Flush => flush_of(rest),
+        Verb::Snapshot => Ok(TaskCommand::Begin(Op::Snapshot { wait: true })),
+        Verb::TrySnapshot => Ok(TaskCommand::Begin(Op::Snapshot { wait: false })),
         Verb::Step => {
             if words == 2 {
                 Ok(TaskCommand::Step { hook: Ok(()) })
@@ -251,6 +262,57 @@ fn callback_of(rest: &[u8]) -> Result<TaskCommand, Fault>
     Ok(TaskCommand::Begin(Op::Callback { level }))
 }
 
+#[tactic(auto, unfolding(crate::specs::Parsing::create_of))]
+fn create_of(rest: &[u8]) -> Result<TaskCommand, Fault>
+    ensures { result ≡ create_of rest.now }
+{
+    let dir = byte_at(rest)?;
+    let kind = kind_at(after_word(rest))?;
+    Ok(TaskCommand::Begin(Op::Create { dir, kind }))
+}
+
+#[tactic(auto, unfolding(crate::specs::Parsing::remove_of))]
+fn remove_of(rest: &[u8]) -> Result<TaskCommand, Fault>
+    ensures { result ≡ remove_of rest.now }
+{
+    let file = byte_at(rest)?;
+    Ok(TaskCommand::Begin(Op::Remove { file }))
+}
+
+#[tactic(auto, unfolding(crate::specs::Parsing::grow_of))]
+fn grow_of(rest: &[u8]) -> Result<TaskCommand, Fault>
+    ensures { result ≡ grow_of rest.now }
+{
+    let file = byte_at(rest)?;
+    let blocks = number_at(after_word(rest))?;
+    Ok(TaskCommand::Begin(Op::Grow { file, blocks }))
+}
+
+#[tactic(auto, unfolding(crate::specs::Parsing::move_of))]
+fn move_of(rest: &[u8]) -> Result<TaskCommand, Fault>
+    ensures { result ≡ move_of rest.now }
+{
+    let file = byte_at(rest)?;
+    let dir = byte_at(after_word(rest))?;
+    Ok(TaskCommand::Begin(Op::MoveTo { file, dir }))
+}
+
+#[tactic(auto, unfolding(crate::specs::Parsing::fault_of))]
+fn fault_of(rest: &[u8]) -> Result<TaskCommand, Fault>
+    ensures { result ≡ fault_of rest.now }
+{
+    let file = byte_at(rest)?;
+    Ok(TaskCommand::Begin(Op::Fault { file }))
+}
+
+#[tactic(auto, unfolding(crate::specs::Parsing::flush_of))]
+fn flush_of(rest: &[u8]) -> Result<TaskCommand, Fault>
+    ensures { result ≡ flush_of rest.now }
+{
+    let file = byte_at(rest)?;
+    Ok(TaskCommand::Begin(Op::Flush { file }))
+}
+
 #[tactic(auto, unfolding(crate::specs::Parsing::step_of))]
 fn step_of(rest: &[u8]) -> Result<TaskCommand, Fault>
     ensures { result ≡ step_of rest.now }
@@ -300,6 +362,14 @@ fn hook_at(text: &[u8]) -> Result<HookKind, Fault>
     ensures { result ≡ hook_at text.now }
 {
     hook_named(first_word(text)).ok_or(Fault::BadWord)
+}
+
+/// The kind of node that comes first.
+#[tactic(auto, unfolding(crate::specs::Parsing::kind_at))]
+fn kind_at(text: &[u8]) -> Result<Kind, Fault>
+    ensures { result ≡ kind_at text.now }
+{
+    kind_named(first_word(text)).ok_or(Fault::BadWord)
 }
 
 /// `ro` or `rw`, which comes first.
