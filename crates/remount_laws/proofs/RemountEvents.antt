@@ -64,7 +64,8 @@ use Rattle.gate_world.specs.Trees.{tree_bounds, tree_of, tree_roles, remount_tre
 use Rattle.gate_frames.proofs.Trees.{shown_clean, nobody_reads}
 
 -- at stage 0 the file system isn't frozen, whatever the superblock's flags are
-pub not_frozen : (w : Words) (set sealing : ℕ) → w.stage ≡ 0 → is_frozen_whole (record w { remount = set; sb = sealing }) ≡ is_frozen_whole w
+pub not_frozen : (w : Words) (set sealing : ℕ) → w.stage ≡ 0 →
+    is_frozen_whole (record w { remount = set; sb = sealing }) ≡ is_frozen_whole w
 not_frozen w set sealing z = rw (ne_eqb w.stage 4 (λ q. omega (arith, z, q))) refl
 
 -- the mark's bit of a word is its mark
@@ -253,8 +254,8 @@ module _ (c : Config) (lim : IsWithin c) (w : World) (good : IsGood c w) (t : �
       let v : View = view_with (w.views t) (RemountWord, Store 0) w.words.remount (Err code) (Go (Remounts (at_remount x s')), Some SbRw) in
       let after : PartsHold c w good t lt x s e (record w.words { remount = 0 }) v ×
       (shown c (record { words = record w.words { remount = 0 }; views = update w.views t v }) ≡ record (shown c w) { sb_ro = false }) =
-      stores c w good t lt x s e refl s' v refl (refl, refl, refl, refl, refl, refl) (f.0, f.1, f.2, f.3, f.4, tt) 0 w.words.sb false OffTree
-      refl (refl, refl, refl)
+      stores c w good t lt x s e refl s' v refl (refl, refl, refl, refl, refl, refl) (f.0, f.1, f.2, f.3, f.4, tt) 0 w.words.sb false
+      OffTree refl (refl, refl, refl)
       (tree_by c w good t lt x s e lim (record w.words { remount = 0 }) v OffTree refl None
       (Leaves (no_charge x.nodes (tree_roles w t) (tree_was c w good t lt x s e))))
       (stage_holds c w good t lt x s e (record w.words { remount = 0 }) v (CancelsRemount x.nodes) (ap stage_role_of e, refl))
@@ -280,7 +281,8 @@ module _ (c : Config) (lim : IsWithin c) (w : World) (good : IsGood c w) (t : �
 
   -- gives `umount` back; meets: the next owner takes it
   gives_back : (hook : HookAnswer) (s : RemountStep) (e : IsHere s) (answer : Result Reply GateError) → remount_owns s ≡ 1 →
-      remount_sets s ≡ 0 → ((m : ℕ) → remount_role m s ≡ Out) → remount_tree_role x.nodes s ≡ OffTree → (stage sb : Option ℕ) → remount_stage_role x.nodes s ≡ Owning stage sb →
+      remount_sets s ≡ 0 → ((m : ℕ) → remount_role m s ≡ Out) → remount_tree_role x.nodes s ≡ OffTree →
+      (stage sb : Option ℕ) → remount_stage_role x.nodes s ≡ Owning stage sb →
       let v : View = view_with (w.views t) (Umount, Store 0) w.words.umount hook (Done answer, None) in
       let ws : Words = record w.words { umount = 0 } in
       PartsHold c w good t lt x s e ws v × (shown c (record { words = ws; views = update w.views t v }) ≡ shown c w)
@@ -331,8 +333,9 @@ module _ (c : Config) (lim : IsWithin c) (w : World) (good : IsGood c w) (t : �
       let cleared : update (marks_of w.words) n (dirty_in (without_mark word)) ≡ update (marks_of w.words) n 0 =
       ap (update (marks_of w.words) n) (clears_mark word node.packed).dirty in
       let left : Words = record w.words { node = update w.words.node n (without_mark word) } in
-      let event : (action : Option Action) → TreeEvent (tree_bounds c) (tree_of w) t (tree_where c w good t lt x s e left (Clearing (suc n)))
-      action → held_at (view_with (w.views t) (Node n, And 18446744073709551611) word hook
+      let then : TreeState = tree_where c w good t lt x s e left (Clearing (suc n)) in
+      let event : (action : Option Action) → TreeEvent (tree_bounds c) (tree_of w) t then action →
+      held_at (view_with (w.views t) (Node n, And 18446744073709551611) word hook
       (Go (Remounts (at_remount x s')), action)) ≡ held_at (w.views t) →
       holds_level (view_with (w.views t) (Node n, And 18446744073709551611) word hook (Go (Remounts (at_remount x s')), action)) ≡
       holds_level (w.views t) →
@@ -359,7 +362,7 @@ module _ (c : Config) (lim : IsWithin c) (w : World) (good : IsGood c w) (t : �
             let marked : dirty_in word ≡ 1 = mark_set word h in
             let after : IsFile (node_shown word) × (node_shown (without_mark word) ≡ option_map (marked_as false) (node_shown word)) =
             cleared_shown word node marked in
-            let happens : TreeEvent (tree_bounds c) (tree_of w) t (tree_where c w good t lt x s e left (Clearing (suc n))) (Some (Clean n)) =
+            let happens : TreeEvent (tree_bounds c) (tree_of w) t then (Some (Clean n)) =
             Clears n (inr (nobody_reads c w good (λ q. omega (arith, k.0, q)))) was f.5.1 marked in
             rw h (
               (event (Some (Clean n)) happens refl refl).0,
@@ -371,7 +374,7 @@ module _ (c : Config) (lim : IsWithin c) (w : World) (good : IsGood c w) (t : �
             )
         | inr h ↦
             let clean : without_mark word ≡ word = clean_stays word node (mark_clear word h) in
-            let happens : TreeEvent (tree_bounds c) (tree_of w) t (tree_where c w good t lt x s e left (Clearing (suc n))) None =
+            let happens : TreeEvent (tree_bounds c) (tree_of w) t then None =
             Passes n was f.5.1 (mark_clear word h) in
             rw h (
               (event None happens refl refl).0,

@@ -325,7 +325,8 @@ module _ (c : Config) (w : World) (good : IsGood c w) (t : ℕ) (lt : t < c.task
         )
 
     -- a store of `remount` or of the superblock's flags
-    pub stores : (set sealing : ℕ) (b : Bool) (role : TreeRole) → is_frozen_whole (record w.words { remount = set; sb = sealing }) ≡ is_frozen_whole w.words →
+    pub stores : (set sealing : ℕ) (b : Bool) (role : TreeRole) →
+        is_frozen_whole (record w.words { remount = set; sb = sealing }) ≡ is_frozen_whole w.words →
         Stays x.nodes s' set role → TreeIsRight (record w.words { remount = set; sb = sealing }) v →
         StageHolds (record w.words { remount = set; sb = sealing }) v → (set == 1 || sealing == 1) ≡ b →
         ((m : ℕ) → m < c.mounts → Mount m (w.words.flags m) set sealing (remount_role m s')) →
