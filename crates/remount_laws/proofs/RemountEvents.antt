@@ -5,10 +5,10 @@ use Rattle.cpu_words.specs.declared.names.WordName.TheVariants.{Remount as Remou
 use Rattle.access_model.specs.declared.replies.Reply.TheVariants.{Unit as UnitReply}
 use Rattle.mount_laws.proofs.MountLaws.{clears_hold as mount_clears_hold, stores as mount_stores, empties, marks_empty, remounting, is_left, marks_skipped, closed, none_remounting, sealed, SeeksNone}
 use Rattle.access_model.specs.Actions.{marked as marked_as}
-use Rattle.gate_world.specs.Rules.{Owner, Stages, Marks, Nodes, AtMount, IsGood, at_mount, Holds, StepKeeps, MountHoldsIn, remounts, owns, role_of, Part, marks_of}
+use Rattle.gate_world.specs.Rules.{Owner, Stages, Tree, AtMount, IsGood, at_mount, Holds, StepKeeps, MountHoldsIn, remounts, owns, role_of, Part, marks_of}
 use Rattle.mount_counts.specs.Roles.{Out, Empty, Skipped, has_hold, admitted, ro_bit, questions_of, skips, processor_of, past_flags}
-use Rattle.remount_laws.proofs.RemountParts.{RemountKeeps, here_fits, Mount, here_knows, here_cleared, Stays, GoesOn, StageHolds, stage_holds, owner_on, umount_changes, role_stays, role_was, whole_remount, PartsHold, flags_change, load_event, node_changes, mount_stays, stores}
-use Rattle.std.proofs.Common.{refl, sym, ap, subst, inl, inr, true, false, arith, true≢false, ℕ, ◌<◌, Bool, ◌≡◌, Ok, Result, Some, ◌+◌, Err, nat_lt, not, ◌∷◌, le-ltb, ◌==◌, ◌∙◌, None, Option, ◌||◌, eq-eqb, ne_eqb, bit_and, option_map}
+use Rattle.remount_laws.proofs.RemountParts.{RemountKeeps, tree_was, tree_stays, tree_by, tree_where, here_fits, Mount, here_knows, here_cleared, Stays, GoesOn, StageHolds, stage_holds, owner_on, umount_changes, role_stays, role_was, whole_remount, PartsHold, flags_change, load_event, node_changes, mount_stays, stores}
+use Rattle.std.proofs.Common.{refl, sym, ap, subst, inl, inr, true, false, arith, true≢false, ℕ, suc, ◌<◌, Bool, ◌≡◌, Ok, Result, Some, ◌+◌, Err, nat_lt, not, ◌∷◌, le-ltb, ◌==◌, ◌∙◌, None, Option, ◌||◌, eq-eqb, ne_eqb, bit_and, option_map}
 use Rattle.gate_world.specs.declared.config.Config.{Config}
 use Rattle.gate_world.specs.Configs.{IsWithin}
 use Rattle.gate_world.specs.Worlds.{World}
@@ -52,15 +52,20 @@ use Rattle.access_model.specs.declared.actions.Action.{Action}
 use Rattle.gate_frames.proofs.MountEvents.{is_known_part}
 use Rattle.gate_world.specs.Shown.{shown}
 use Rattle.mount_laws.proofs.Bits.{without_hold, and_not_hold}
-use Rattle.gated_tree.proofs.ClearedMarks.{without_mark, cleared_node, cleared_shown, clean_stays, clears_mark}
+use Rattle.gated_tree.proofs.ClearedMarks.{without_mark, cleared_shown, clean_stays, clears_mark, directory_clean}
 use Rattle.std.proofs.lemmas.Bool.{cases_Bool}
 use Rattle.mount_counts.specs.Phases.{has_flag}
 use Rattle.std.proofs.lemmas.Nat.Bits.{and_pow}
 use Rattle.access_model.specs.States.{IsFile}
 use Rattle.gate_world.specs.Levels.{is_frozen_whole}
+use Rattle.gated_tree.specs.Roles.{Role as TreeRole, Out as OffTree, Clearing, Bounds, TreeState, sealed_by, charge, child_charge, HasNoCharge}
+use Rattle.tree_laws.specs.Events.{Event as TreeEvent, BeginsClearing, Clears, Passes, Seals, Leaves, Opens}
+use Rattle.gate_world.specs.Trees.{tree_bounds, tree_of, tree_roles, remount_tree_role}
+use Rattle.gate_frames.proofs.Trees.{shown_clean, nobody_reads}
 
 -- at stage 0 the file system isn't frozen, whatever the superblock's flags are
-pub not_frozen : (w : Words) (set sealing : ℕ) → w.stage ≡ 0 → is_frozen_whole (record w { remount = set; sb = sealing }) ≡ is_frozen_whole w
+pub not_frozen : (w : Words) (set sealing : ℕ) → w.stage ≡ 0 →
+    is_frozen_whole (record w { remount = set; sb = sealing }) ≡ is_frozen_whole w
 not_frozen w set sealing z = rw (ne_eqb w.stage 4 (λ q. omega (arith, z, q))) refl
 
 -- the mark's bit of a word is its mark
@@ -77,6 +82,21 @@ mark_clear word h =
       | inl z ↦ z.1
       | inr z ↦ absurd (true≢false (sym (eq-eqb (bit_and word 4) 4 (omega (arith, and_pow word 2, z.1))) ∙ h))
     ]
+
+-- at stage 0 of a writable superblock the tree isn't sealed
+sealed_writable : (stage : ℕ) → stage ≡ 0 → sealed_by 0 stage ≡ 0
+sealed_writable stage z = rw z refl
+
+-- a clearing has charged nothing
+no_charge : (n : ℕ) (role : TreeRole) → role ≡ Clearing n → HasNoCharge role
+no_charge n role is = record { blocks = ap charge is; children = λ d. ap (child_charge d) is }
+
+-- the tree is opened, by a task whose role stays
+opens : (b : Bounds) (s : TreeState) (t sealed : ℕ) (role : TreeRole) → sealed ≡ 0 → s.at t ≡ role →
+    TreeEvent b s t (record s { sealed = sealed; at = update s.at t role }) None
+opens b s t sealed role zero was =
+    let same : update s.at t role ≡ s.at = ap (update s.at t) (sym was) ∙ update_same s.at t in
+    subst (λ next. TreeEvent b s t next None) (sym (λ i. record s { sealed = zero i; at = same i })) Opens
 
 module _ (c : Config) (lim : IsWithin c) (w : World) (good : IsGood c w) (t : ℕ) (lt : t < c.tasks) (x : Remount) where
   abbrev IsHere : RemountStep → Type 0
@@ -121,7 +141,9 @@ module _ (c : Config) (lim : IsWithin c) (w : World) (good : IsGood c w) (t : �
   root_clean : CleanBelow 1 (marks_of w.words)
   root_clean n below =
       let first : n ≡ 0 = omega (arith, below) in
-      subst (λ k. dirty_in (w.words.node k) ≡ 0) (sym first) (omega (arith, ((good Nodes).0 0).plain (good Nodes).1))
+      let root : IsNode (w.words.node 0) = (good Tree).words 0 (omega (arith, lim.some_node)) in
+      subst (λ k. dirty_in (w.words.node k) ≡ 0) (sym first)
+      (shown_clean (w.words.node 0) root.packed.free (directory_clean (w.words.node 0) root (good Tree).root))
 
   -- with each mount held at a sum of 0, or read-only, `remount` is set; meets: `remount` is loaded after HOLD was found clear
   pub sets_remount : (hook : HookAnswer) (held : MountSet) → IsHere (SetsRemount held) → Keeps hook (SetsRemount held)
@@ -134,7 +156,9 @@ module _ (c : Config) (lim : IsWithin c) (w : World) (good : IsGood c w) (t : �
       let after : PartsHold c w good t lt x s e (record w.words { remount = 1 }) v ×
       (shown c (record { words = record w.words { remount = 1 }; views = update w.views t v }) ≡ record (shown c w) { sb_ro = true }) =
       stores c w good t lt x s e refl (let_go held) v refl (refl, refl, refl, refl, refl, refl)
-      (f.0, f.1, f.2, f.3, f.4, let_go_fits c lim held f.5) 1 w.words.sb true refl (let_go_stays held)
+      (f.0, f.1, f.2, f.3, f.4, let_go_fits c lim held f.5) 1 w.words.sb true (Clearing 1) refl (let_go_stays x.nodes held)
+      (tree_by c w good t lt x s e lim (record w.words { remount = 1 }) v (Clearing 1) (let_go_stays x.nodes held).2 None
+      (BeginsClearing (tree_was c w good t lt x s e)))
       (stage_holds c w good t lt x s e (record w.words { remount = 1 }) v (StoresRemount 1)
       (ap stage_role_of e, root_clean, ap (playing (record (stages_in w) { remount = 1 }) t) (let_go_stage x.nodes held))) refl
       (λ m lm. subst (Mount c w good t lt x s e m (w.words.flags m) 1 w.words.sb) (sym (let_go_role m held))
@@ -145,7 +169,7 @@ module _ (c : Config) (lim : IsWithin c) (w : World) (good : IsGood c w) (t : �
   lets_go : (hook : HookAnswer) (held : MountSet) (s s' : RemountStep) (e : IsHere s) → 0 < held.bits → AllBelow c.mounts held →
       has_hold (remount_role (lowest held) s) ≡ 1 → remount_role (lowest held) s' ≡ Out →
       ((n : ℕ) → (n ≡ lowest held → ⊥) → remount_role n s' ≡ remount_role n s) →
-      RemountFits c s' → remount_owns s ≡ 1 → Stays s' (remount_sets s) →
+      RemountFits c s' → remount_owns s ≡ 1 → Stays x.nodes s' (remount_sets s) (remount_tree_role x.nodes s) →
       GoesOn (remount_stage_role x.nodes s) x.nodes s' w.words.stage w.words.sb (marks_of w.words) →
       let m : ℕ = lowest held in
       let v : View = view_with (w.views t) (MountFlags m, And 18446744073709551613) (w.words.flags m) hook
@@ -175,7 +199,7 @@ module _ (c : Config) (lim : IsWithin c) (w : World) (good : IsGood c w) (t : �
       (ap (λ a. has_hold (held_role a)) (lowest_held held f.5.0 f.5.1.0).1)
       (let_go_role (lowest held) rest ∙ ap held_role (leaves_here held f.5.0 f.5.1.0))
       (λ n ne. let_go_role n rest ∙ ap held_role (leaves_there held n f.5.0 f.5.1.0 ne))
-      (let_go_fits c lim rest (leaves_below c.mounts held f.5.0 f.5.1)) refl (let_go_stays rest)
+      (let_go_fits c lim rest (leaves_below c.mounts held f.5.0 f.5.1)) refl (let_go_stays x.nodes rest)
       (let_go_on x.nodes w.words.stage w.words.sb (marks_of w.words) k.0 k.1 rest (here_cleared c w good t lt x (ClearsHold held) e))
 
   giving_holds : (a : Bool) → has_hold (giving_role a true) ≡ 1
@@ -192,7 +216,7 @@ module _ (c : Config) (lim : IsWithin c) (w : World) (good : IsGood c w) (t : �
       (ap (λ a. has_hold (giving_role (low == m) a)) (lowest_held held f.5.0 f.5.1.0).1 ∙ giving_holds (low == m))
       (give_up_role low m rest ∙ (ap (giving_role (low == m)) (leaves_here held f.5.0 f.5.1.0) ∙ no_giving (low == m)))
       (λ n ne. give_up_role n m rest ∙ ap (giving_role (n == m)) (leaves_there held n f.5.0 f.5.1.0 ne))
-      (give_up_fits c m rest f.5.2 (leaves_below c.mounts held f.5.0 f.5.1)) refl (give_up_stays m rest)
+      (give_up_fits c m rest f.5.2 (leaves_below c.mounts held f.5.0 f.5.1)) refl (give_up_stays x.nodes m rest)
       (give_up_on x.nodes w.words.stage w.words.sb (marks_of w.words) k.0 k.1 m rest)
 
   -- where it has no role before and after a store of `remount` or of the superblock's flags
@@ -215,7 +239,9 @@ module _ (c : Config) (lim : IsWithin c) (w : World) (good : IsGood c w) (t : �
       let v : View = view_with (w.views t) (SbFlags, Store 1) w.words.sb (Ok answer) (Go (Remounts (at_remount x ClearsRemount)), None) in
       stores c w good t lt x s e refl ClearsRemount v refl (refl, refl, refl, refl, refl, refl) (f.0, f.1, f.2, f.3, f.4, tt)
       w.words.remount 1
-      (w.words.remount == 1 || w.words.sb == 1) (not_frozen w.words w.words.remount 1 k.0) (refl, sym set)
+      (w.words.remount == 1 || w.words.sb == 1) OffTree (not_frozen w.words w.words.remount 1 k.0) (refl, sym set, refl)
+      (tree_by c w good t lt x s e lim (record w.words { sb = 1 }) v OffTree refl None
+      (Seals x.nodes (omega (arith, f.3)) (tree_was c w good t lt x s e)))
       (stage_holds c w good t lt x s e (record w.words { sb = 1 }) v (StoresReadOnly x.nodes)
       (ap stage_role_of e, omega (arith, f.3), refl)) (rw (eq-eqb w.words.remount 1 set) refl)
       (λ m lm. mount_rests s e m lm refl w.words.remount 1 (λ q z. absurd (omega (arith, z)))
@@ -228,8 +254,10 @@ module _ (c : Config) (lim : IsWithin c) (w : World) (good : IsGood c w) (t : �
       let v : View = view_with (w.views t) (RemountWord, Store 0) w.words.remount (Err code) (Go (Remounts (at_remount x s')), Some SbRw) in
       let after : PartsHold c w good t lt x s e (record w.words { remount = 0 }) v ×
       (shown c (record { words = record w.words { remount = 0 }; views = update w.views t v }) ≡ record (shown c w) { sb_ro = false }) =
-      stores c w good t lt x s e refl s' v refl (refl, refl, refl, refl, refl, refl) (f.0, f.1, f.2, f.3, f.4, tt) 0 w.words.sb false refl
-      (refl, refl)
+      stores c w good t lt x s e refl s' v refl (refl, refl, refl, refl, refl, refl) (f.0, f.1, f.2, f.3, f.4, tt) 0 w.words.sb false
+      OffTree refl (refl, refl, refl)
+      (tree_by c w good t lt x s e lim (record w.words { remount = 0 }) v OffTree refl None
+      (Leaves (no_charge x.nodes (tree_roles w t) (tree_was c w good t lt x s e))))
       (stage_holds c w good t lt x s e (record w.words { remount = 0 }) v (CancelsRemount x.nodes) (ap stage_role_of e, refl))
       (ne_eqb w.words.sb 1 (λ q. omega (arith, k.1, q)))
       (λ m lm. mount_rests s e m lm refl 0 w.words.sb (λ q. absurd (omega (arith, q))) (sealed (good (AtMount m) lm))) in
@@ -245,26 +273,28 @@ module _ (c : Config) (lim : IsWithin c) (w : World) (good : IsGood c w) (t : �
       let s' : RemountStep = Releases (Ok UnitReply) in
       let v : View = view_with (w.views t) (RemountWord, Store 0) w.words.remount hook (Go (Remounts (at_remount x s')), None) in
       stores c w good t lt x s e refl s' v refl (refl, refl, refl, refl, refl, refl) (f.0, f.1, f.2, f.3, f.4, tt) 0 w.words.sb
-      (w.words.remount == 1 || w.words.sb == 1) refl (refl, refl)
+      (w.words.remount == 1 || w.words.sb == 1) OffTree refl (refl, refl, refl)
+      (tree_stays c w good t lt x s e (record w.words { remount = 0 }) v refl refl refl refl refl)
       (stage_holds c w good t lt x s e (record w.words { remount = 0 }) v (TakesRemount x.nodes) (ap stage_role_of e, refl))
       (rw (eq-eqb w.words.remount 1 set, eq-eqb w.words.sb 1 k.1) refl)
       (λ m lm. mount_rests s e m lm refl 0 w.words.sb (λ q. absurd (omega (arith, q))) (sealed (good (AtMount m) lm)))
 
   -- gives `umount` back; meets: the next owner takes it
   gives_back : (hook : HookAnswer) (s : RemountStep) (e : IsHere s) (answer : Result Reply GateError) → remount_owns s ≡ 1 →
-      remount_sets s ≡ 0 → ((m : ℕ) → remount_role m s ≡ Out) → (stage sb : Option ℕ) → remount_stage_role x.nodes s ≡ Owning stage sb →
+      remount_sets s ≡ 0 → ((m : ℕ) → remount_role m s ≡ Out) → remount_tree_role x.nodes s ≡ OffTree →
+      (stage sb : Option ℕ) → remount_stage_role x.nodes s ≡ Owning stage sb →
       let v : View = view_with (w.views t) (Umount, Store 0) w.words.umount hook (Done answer, None) in
       let ws : Words = record w.words { umount = 0 } in
       PartsHold c w good t lt x s e ws v × (shown c (record { words = ws; views = update w.views t v }) ≡ shown c w)
-  gives_back hook s e answer o r role stage sb owning =
+  gives_back hook s e answer o r role tree stage sb owning =
       let v : View = view_with (w.views t) (Umount, Store 0) w.words.umount hook (Done answer, None) in
       umount_changes c w good t lt x s e 0 v (refl, refl, refl, refl, refl, refl) tt
       (releases_umount c w good t lt v (ap owns e ∙ o) refl (sym (ap remounts e ∙ r)))
       (stage_holds c w good t lt x s e (record w.words { umount = 0 }) v (ReleasesStage stage sb) (ap stage_role_of e ∙ owning, refl))
-      (record { counts_not = λ i. refl; apart = λ i. refl; outside = refl }) (λ m. sym (role m)) (λ i. refl)
+      (record { counts_not = λ i. refl; apart = λ i. refl; outside = refl }) (λ m. sym (role m)) (sym tree) (λ i. refl)
 
   pub releases : (hook : HookAnswer) (answer : Result Reply GateError) → IsHere (Releases answer) → Keeps hook (Releases answer)
-  releases hook answer e = gives_back hook (Releases answer) e answer refl refl (λ m. refl) None None refl
+  releases hook answer e = gives_back hook (Releases answer) e answer refl refl (λ m. refl) refl None None refl
 
   -- the file system has answered: the superblock's flag is cleared, or `umount` is given back
   pub sets_writable : (hook : HookAnswer) → IsHere SetsWritable → Keeps hook SetsWritable
@@ -278,12 +308,15 @@ module _ (c : Config) (lim : IsWithin c) (w : World) (good : IsGood c w) (t : �
       let after : PartsHold c w good t lt x s e (record w.words { sb = 0 }) v ×
       (shown c (record { words = record w.words { sb = 0 }; views = update w.views t v }) ≡ record (shown c w) { sb_ro = false }) =
       stores c w good t lt x s e refl s' v refl (refl, refl, refl, refl, refl, refl) (f.0, f.1, f.2, f.3, f.4, tt) w.words.remount 0 false
-      (not_frozen w.words w.words.remount 0 k.0) (refl, omega (arith, clear, (good Owner).bit))
+      OffTree (not_frozen w.words w.words.remount 0 k.0) (refl, omega (arith, clear, (good Owner).bit), refl)
+      (tree_by c w good t lt x s e lim (record w.words { sb = 0 }) v OffTree refl None
+      (opens (tree_bounds c) (tree_of w) t (sealed_by 0 w.words.stage) OffTree (sealed_writable w.words.stage k.0)
+      (tree_was c w good t lt x s e)))
       (stage_holds c w good t lt x s e (record w.words { sb = 0 }) v (StoresWritable None) (ap stage_role_of e, refl))
       (rw (ne_eqb w.words.remount 1 clear) refl)
       (λ m lm. mount_rests s e m lm refl w.words.remount 0 (λ q z. absurd (clear q)) (λ q. absurd (omega (arith, q)))) in
       (after.0, ((lt, k.0), after.1))
-  sets_writable (Err code) e = gives_back (Err code) SetsWritable e (Err (Hook code)) refl refl (λ m. refl) (Some 0) None refl
+  sets_writable (Err code) e = gives_back (Err code) SetsWritable e (Err (Hook code)) refl refl (λ m. refl) refl (Some 0) None refl
 
   -- clears the mark of a node, under `remount`
   pub clears_node : (hook : HookAnswer) (n : ℕ) → IsHere (ClearsMark n) → Keeps hook (ClearsMark n)
@@ -294,10 +327,15 @@ module _ (c : Config) (lim : IsWithin c) (w : World) (good : IsGood c w) (t : �
       let k : (w.words.stage ≡ 0) × (w.words.sb ≡ 0) = here_knows c w good t lt x s e in
       let set : w.words.remount ≡ 1 = remount_stands c w good t lt (ap remounts e) in
       let word : ℕ = w.words.node n in
-      let node : IsNode word = (good Nodes).0 n in
+      let node : IsNode word = (good Tree).words n f.5.1 in
+      let below : n < x.nodes = omega (arith, f.3, f.5.1) in
+      let was : tree_roles w t ≡ Clearing n = tree_was c w good t lt x s e in
       let cleared : update (marks_of w.words) n (dirty_in (without_mark word)) ≡ update (marks_of w.words) n 0 =
       ap (update (marks_of w.words) n) (clears_mark word node.packed).dirty in
-      let event : (action : Option Action) → held_at (view_with (w.views t) (Node n, And 18446744073709551611) word hook
+      let left : Words = record w.words { node = update w.words.node n (without_mark word) } in
+      let then : TreeState = tree_where c w good t lt x s e left (Clearing (suc n)) in
+      let event : (action : Option Action) → TreeEvent (tree_bounds c) (tree_of w) t then action →
+      held_at (view_with (w.views t) (Node n, And 18446744073709551611) word hook
       (Go (Remounts (at_remount x s')), action)) ≡ held_at (w.views t) →
       holds_level (view_with (w.views t) (Node n, And 18446744073709551611) word hook (Go (Remounts (at_remount x s')), action)) ≡
       holds_level (w.views t) →
@@ -305,38 +343,42 @@ module _ (c : Config) (lim : IsWithin c) (w : World) (good : IsGood c w) (t : �
       let ws : Words = record w.words { node = update w.words.node n (without_mark word) } in
       PartsHold c w good t lt x s e ws v × (shown c (record { words = ws; views = update w.views t v }) ≡
       record (shown c w) { tree = update (λ k. node_shown (w.words.node k)) n (node_shown (without_mark word)) }) =
-      λ action held levels.
+      λ action happens held levels.
       let v : View = view_with (w.views t) (Node n, And 18446744073709551611) word hook (Go (Remounts (at_remount x s')), action) in
       node_changes c w good t lt x s e refl s' v refl (held, levels, refl, refl, refl, refl)
       (subst (λ h. PhaseFits c t h (holds_level v) (Remounts (at_remount x s'))) (sym held)
       (subst (λ h. PhaseFits c t (held_at (w.views t)) h (Remounts (at_remount x s'))) (sym levels)
       (f.0, f.1, f.2, f.3, f.4, past_node_fits c x.nodes n f.3)))
-      n (without_mark word) f.5.0 (past_node_stays x.nodes n)
-      (stage_holds c w good t lt x s e (record w.words { node = update w.words.node n (without_mark word) }) v (ClearsMarkReadOnly 0 n) (
+      n (without_mark word) (Clearing (suc n)) (past_node_stays x.nodes n below)
+      (tree_by c w good t lt x s e lim left v (Clearing (suc n)) (past_node_stays x.nodes n below).2 action happens)
+      (stage_holds c w good t lt x s e left v (ClearsMarkReadOnly 0 n) (
         ap stage_role_of e,
         λ j. playing (record (stages_in w) { dirty = (update_map dirty_in w.words.node n (without_mark word) ∙ cleared) j }) t
-            (past_node_stage x.nodes n (omega (arith, f.3, f.5.1)) j),
+            (past_node_stage x.nodes n below j),
       ))
-      (cleared_node word node)
       (λ m. past_node_role x.nodes n m) in
       elim (cases_Bool (has_flag word 4)) [
         | inl h ↦
             let marked : dirty_in word ≡ 1 = mark_set word h in
             let after : IsFile (node_shown word) × (node_shown (without_mark word) ≡ option_map (marked_as false) (node_shown word)) =
             cleared_shown word node marked in
+            let happens : TreeEvent (tree_bounds c) (tree_of w) t then (Some (Clean n)) =
+            Clears n (inr (nobody_reads c w good (λ q. omega (arith, k.0, q)))) was f.5.1 marked in
             rw h (
-              (event (Some (Clean n)) refl refl).0,
+              (event (Some (Clean n)) happens refl refl).0,
               (
                 (lt, (f.5.1, after.0, inr (inr (rw (eq-eqb w.words.remount 1 set) refl)))),
-                (event (Some (Clean n)) refl refl).1 ∙
+                (event (Some (Clean n)) happens refl refl).1 ∙
                     (λ j. record (shown c w) { tree = update (λ k. node_shown (w.words.node k)) n (after.1 j) }),
               ),
             )
         | inr h ↦
             let clean : without_mark word ≡ word = clean_stays word node (mark_clear word h) in
+            let happens : TreeEvent (tree_bounds c) (tree_of w) t then None =
+            Passes n was f.5.1 (mark_clear word h) in
             rw h (
-              (event None refl refl).0,
-              (event None refl refl).1 ∙
+              (event None happens refl refl).0,
+              (event None happens refl refl).1 ∙
                   (λ j. record (shown c w) {
                     tree = (ap (λ y. update (λ k. node_shown (w.words.node k)) n (node_shown y)) clean ∙
                         update_same (λ k. node_shown (w.words.node k)) n) j;
@@ -357,10 +399,8 @@ module _ (c : Config) (lim : IsWithin c) (w : World) (good : IsGood c w) (t : �
   -- a lock that is not free leaves the stage
   still_aside : (hook : HookAnswer) (e : IsHere Locks) →
       StageHolds c w good t lt x Locks e (record w.words { umount = w.words.umount }) (tried hook w.words.umount Locks)
-  still_aside hook e = (
-    left_alone c w t lt Stages w.words (tried hook w.words.umount Locks) (refl, refl, refl, refl) (sym (ap stage_role_of e)) (good Stages),
-    left_alone c w t lt Marks w.words (tried hook w.words.umount Locks) (refl, refl, refl) (sym (ap stage_role_of e)) (good Marks),
-  )
+  still_aside hook e =
+      left_alone c w t lt Stages w.words (tried hook w.words.umount Locks) (refl, refl, refl, refl) (sym (ap stage_role_of e)) (good Stages)
 
   -- takes `umount` where it is free; meets: its owner gives it back last
   pub locks : (hook : HookAnswer) → IsHere Locks → Keeps hook Locks
@@ -373,17 +413,18 @@ module _ (c : Config) (lim : IsWithin c) (w : World) (good : IsGood c w) (t : �
             (locks_umount c w good t lt (x.task + 1) v h.1 (omega (arith, f.0)) refl (sym (ap remounts e)))
             (stage_holds c w good t lt x Locks e (record w.words { umount = x.task + 1 }) v LocksStage
             (ap stage_role_of e, nobody_owns c w good h.1, refl))
-            (record { counts_not = λ i. refl; apart = λ i. refl; outside = refl }) (λ m. refl) (λ i. refl))
+            (record { counts_not = λ i. refl; apart = λ i. refl; outside = refl }) (λ m. refl) refl (λ i. refl))
         | inr h ↦ rw h.0 (
             let v : View = tried hook w.words.umount Locks in
             umount_changes c w good t lt x Locks e w.words.umount v (refl, refl, refl, refl, refl, refl) f
             (owner_same c w t lt good v (steady e (record { owns_same = refl; remounts_same = refl; closing_same = λ i. refl })))
-            (still_aside hook e) (record { counts_not = λ i. refl; apart = λ i. refl; outside = refl }) (λ m. refl) (λ i. refl))
+            (still_aside hook e) (record { counts_not = λ i. refl; apart = λ i. refl; outside = refl }) (λ m. refl) refl (λ i. refl))
       ]
 
   -- a load by the owner that has no role, before and after it
   still_load : (hook : HookAnswer) (name : WordName) (s s' : RemountStep) (e : IsHere s) → remount_owns s ≡ 1 →
-      Stays s' (remount_sets s) → GoesOn (remount_stage_role x.nodes s) x.nodes s' w.words.stage w.words.sb (marks_of w.words) →
+      Stays x.nodes s' (remount_sets s) (remount_tree_role x.nodes s) →
+      GoesOn (remount_stage_role x.nodes s) x.nodes s' w.words.stage w.words.sb (marks_of w.words) →
       RemountFits c s' → ((m : ℕ) → remount_role m s' ≡ remount_role m s) →
       let coming : Next Phase = Go (Remounts (at_remount x s')) in
       ((part : Part) → is_known_part part ≡ false → Holds c (after_load w t name hook coming) part) ×
@@ -395,9 +436,9 @@ module _ (c : Config) (lim : IsWithin c) (w : World) (good : IsGood c w) (t : �
   pub loads_stage : (hook : HookAnswer) → IsHere LoadsStage → Keeps hook LoadsStage
   loads_stage hook e =
       elim (eqb_tells w.words.stage 0) [
-        | inl h ↦ rw h.0 (still_load hook Stage LoadsStage LoadsSuperblock e refl (refl, refl)
+        | inl h ↦ rw h.0 (still_load hook Stage LoadsStage LoadsSuperblock e refl (refl, refl, refl)
             (owner_on None None (Some 0) None w.words.stage w.words.sb (marks_of w.words) h.1 tt) tt (λ m. refl))
-        | inr h ↦ rw h.0 (still_load hook Stage LoadsStage (Releases (Err Busy)) e refl (refl, refl)
+        | inr h ↦ rw h.0 (still_load hook Stage LoadsStage (Releases (Err Busy)) e refl (refl, refl, refl)
             (owner_on None None None None w.words.stage w.words.sb (marks_of w.words) tt tt) tt (λ m. refl))
       ]
 
@@ -406,7 +447,7 @@ module _ (c : Config) (lim : IsWithin c) (w : World) (good : IsGood c w) (t : �
 
   -- what is to hold of a step for which the stage and the flags were found
   abbrev FromState : RemountStep → Type 0
-  FromState s = Stays s 0 × GoesOn (Owning (Some 0) None) x.nodes s w.words.stage w.words.sb (marks_of w.words) ×
+  FromState s = Stays x.nodes s 0 OffTree × GoesOn (Owning (Some 0) None) x.nodes s w.words.stage w.words.sb (marks_of w.words) ×
       ((m : ℕ) → remount_role m s ≡ Out)
 
   -- it goes on as an owner that relies on this
@@ -417,10 +458,10 @@ module _ (c : Config) (lim : IsWithin c) (w : World) (good : IsGood c w) (t : �
 
   -- it holds where the state was found, as it was asked for or not
   state_stays : (ro b : Bool) → w.words.stage ≡ 0 → (b ≡ false → w.words.sb ≡ 0) → FromState (remount_from ro b)
-  state_stays true true z none = ((refl, refl), from_state None None tt tt, λ m. refl)
-  state_stays true false z none = ((refl, refl), from_state (Some 0) (Some 0) z (none refl), begins_loop)
-  state_stays false true z none = ((refl, refl), from_state (Some 0) None z tt, λ m. refl)
-  state_stays false false z none = ((refl, refl), from_state None None tt tt, λ m. refl)
+  state_stays true true z none = ((refl, refl, refl), from_state None None tt tt, λ m. refl)
+  state_stays true false z none = ((refl, refl, refl), from_state (Some 0) (Some 0) z (none refl), begins_loop)
+  state_stays false true z none = ((refl, refl, refl), from_state (Some 0) None z tt, λ m. refl)
+  state_stays false false z none = ((refl, refl, refl), from_state None None tt tt, λ m. refl)
 
   -- loads the superblock's flag
   pub loads_superblock : (hook : HookAnswer) → IsHere LoadsSuperblock → Keeps hook LoadsSuperblock

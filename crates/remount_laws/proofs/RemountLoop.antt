@@ -1,5 +1,5 @@
 -- Events of a remount's loop over the mounts.
-use Rattle.mount_counts.specs.declared.remounts.RemountStep.TheVariants.{LoadsFlags, SetsHold, Sums, SetsRemount, ClearsHold, GivesUp, ClearsMark, SetsReadOnly, Releases}
+use Rattle.mount_counts.specs.declared.remounts.RemountStep.TheVariants.{LoadsFlags, SetsHold, Sums, SetsRemount, ClearsHold, GivesUp, ClearsMark, Releases}
 use Rattle.mount_counts.specs.declared.remounts.Remount.{Remount}
 use Rattle.mount_laws.proofs.MountLaws.{sets_hold as mount_sets_hold, is_skipped, sums_on, sums_to_none, sums_to_some, is_left, SeeksNone}
 use Rattle.gate_world.specs.Rules.{AtMount, IsGood, MountHoldsIn, role_of, owns}
@@ -7,6 +7,7 @@ use Rattle.mount_counts.specs.Roles.{Out, Summing, has_hold, hold_bit}
 use Rattle.remount_laws.proofs.RemountParts.{RemountKeeps, Stays, GoesOn, in_loop, owner_on, alike_same, here_fits, here_knows, load_event, role_was, Mount, mount_stays, flags_change}
 use Rattle.std.proofs.Common.{refl, sym, ap, subst, inl, inr, true, false, arith, suc, ℕ, Bool, ◌≡◌, ◌⊎◌, ◌<◌, nat_lt, ◌==◌, ◌+◌, if◌then◌else◌, Err, Some, bit_or, ◌∙◌, ltb-true, add-one, None, ltb-false, eq-eqb, ne_eqb}
 use Rattle.mount_counts.specs.declared.sets.MountSet.{MountSet}
+use Rattle.gated_tree.specs.Roles.{Out as OffTree, Clearing}
 use Rattle.gate_world.specs.declared.config.Config.{Config}
 use Rattle.gate_world.specs.Stages.{remount_stage_role}
 use Rattle.stage_laws.specs.Roles.{Remounting, CleanBelow}
@@ -40,21 +41,29 @@ use Rattle.access_model.specs.declared.replies.Next.TheVariants.{Go}
 use Rattle.mount_laws.proofs.Sets.{joins_here, joins_there}
 
 -- what stays where the loop goes on, where holds are to be cleared, and where marks are
-past_mount_stays : (mounts m : ℕ) (held : MountSet) → Stays (past_mount mounts m held) 0
-past_mount_stays mounts m held =
-    by_bool (nat_lt (m + 1) mounts) (λ z. Stays (if z then LoadsFlags (m + 1) held else SetsRemount held) 0) (refl, refl) (refl, refl)
+past_mount_stays : (nodes mounts m : ℕ) (held : MountSet) → Stays nodes (past_mount mounts m held) 0 OffTree
+past_mount_stays nodes mounts m held =
+    by_bool (nat_lt (m + 1) mounts) (λ z. Stays nodes (if z then LoadsFlags (m + 1) held else SetsRemount held) 0 OffTree)
+    (refl, refl, refl) (refl, refl, refl)
 
-pub let_go_stays : (held : MountSet) → Stays (let_go held) 1
-let_go_stays held =
-    by_bool (held.bits == 0) (λ z. Stays (if z then ClearsMark 1 else ClearsHold held) 1) (refl, refl) (refl, refl)
+pub let_go_stays : (nodes : ℕ) (held : MountSet) → Stays nodes (let_go held) 1 (Clearing 1)
+let_go_stays nodes held =
+    by_bool (held.bits == 0) (λ z. Stays nodes (if z then ClearsMark 1 else ClearsHold held) 1 (Clearing 1))
+    (refl, refl, refl) (refl, refl, refl)
 
-pub give_up_stays : (m : ℕ) (held : MountSet) → Stays (give_up m held) 0
-give_up_stays m held =
-    by_bool (held.bits == 0) (λ z. Stays (if z then Releases (Err Busy) else GivesUp m held) 0) (refl, refl) (refl, refl)
+pub give_up_stays : (nodes m : ℕ) (held : MountSet) → Stays nodes (give_up m held) 0 OffTree
+give_up_stays nodes m held =
+    by_bool (held.bits == 0) (λ z. Stays nodes (if z then Releases (Err Busy) else GivesUp m held) 0 OffTree)
+    (refl, refl, refl) (refl, refl, refl)
 
-pub past_node_stays : (nodes n : ℕ) → Stays (past_node nodes n) 1
-past_node_stays nodes n =
-    by_bool (nat_lt (n + 1) nodes) (λ z. Stays (if z then ClearsMark (n + 1) else SetsReadOnly) 1) (refl, refl) (refl, refl)
+pub past_node_stays : (nodes n : ℕ) → n < nodes → Stays nodes (past_node nodes n) 1 (Clearing (suc n))
+past_node_stays nodes n there =
+    elim (cases_Bool (nat_lt (n + 1) nodes)) [
+      | inl z ↦ rw z (refl, refl, ap (λ k. Clearing k) (add-one n))
+      | inr z ↦
+          let last : nodes ≡ suc n = omega (arith, ltb-false (n + 1) nodes z, there) in
+          rw z (refl, refl, ap (λ k. Clearing k) last)
+    ]
 
 -- the role at the stage where holds are to be cleared under `remount`, and where the mark of a node was
 pub let_go_stage : (nodes : ℕ) (held : MountSet) → remount_stage_role nodes (let_go held) ≡ Remounting 0 1
@@ -128,7 +137,7 @@ module _ (c : Config) (lim : IsWithin c) (w : World) (good : IsGood c w) (t : �
       let out : loop_role (has_mount held m) (nat_lt m m) ≡ Out = out_here m held f.5.1 in
       elim (cases_Bool (has_flag (w.words.flags m) 1)) [
         | inl h ↦ rw h (load_event c w good t lt x s e (MountFlags m) hook (past_mount x.mounts m held) refl
-            (past_mount_stays x.mounts m held)
+            (past_mount_stays x.nodes x.mounts m held)
             (past_mount_on x.nodes w.words.stage w.words.sb (marks_of w.words) k.0 k.1 x.mounts m held)
             (past_mount_fits c x.mounts m held f.2 f.5.0 (f.5.1.0, λ n q. omega (arith, f.5.1.1 n q)))
             (λ n ln. subst (Mount c w good t lt x s e n (w.words.flags n) w.words.remount w.words.sb)
@@ -143,7 +152,7 @@ module _ (c : Config) (lim : IsWithin c) (w : World) (good : IsGood c w) (t : �
               | inr q ↦ mount_stays c w good t lt x s e n ln (loop_role (has_mount held n) (nat_lt n (m + 1)))
                   (ap (loop_role (has_mount held n)) (passed_there m n q.1))
             ])))
-        | inr h ↦ rw h (load_event c w good t lt x s e (MountFlags m) hook (SetsHold m held) refl (refl, refl)
+        | inr h ↦ rw h (load_event c w good t lt x s e (MountFlags m) hook (SetsHold m held) refl (refl, refl, refl)
             (loop_on x.nodes w.words.stage w.words.sb (marks_of w.words) k.0 k.1) f.5
             (λ n ln. mount_stays c w good t lt x s e n ln (remount_role n (SetsHold m held)) refl))
       ]
@@ -162,7 +171,7 @@ module _ (c : Config) (lim : IsWithin c) (w : World) (good : IsGood c w) (t : �
       let v : View = view_with (w.views t) (MountFlags m, Or 2) (w.words.flags m) hook
       (Go (Remounts (at_remount x (Sums m held sum))), None) in
       flags_change c w good t lt x s e refl (Sums m held sum) v refl (refl, refl, refl, refl, refl, refl)
-      (f.0, f.1, f.2, f.3, f.4, (f.5.0, f.5.1, lim.some_processor)) m word (refl, refl)
+      (f.0, f.1, f.2, f.3, f.4, (f.5.0, f.5.1, lim.some_processor)) m word (refl, refl, refl)
       (loop_on x.nodes w.words.stage w.words.sb (marks_of w.words) k.0 k.1) (or_hold (w.words.flags m) g.bits).1
       (λ lm. subst (Mount c w good t lt x s e m word w.words.remount w.words.sb)
       (sym (summing_here m sum (loop_role (has_mount held m) (nat_lt m m))))
@@ -189,7 +198,7 @@ module _ (c : Config) (lim : IsWithin c) (w : World) (good : IsGood c w) (t : �
         | inl h ↦
             let more : suc i < c.processors = omega (arith, ltb-true (i + 1) x.processors h, f.1) in
             let on : Sum = record { words = i + 1; total = now } in
-            rw h (load_event c w good t lt x s e (MountCount m i) hook (Sums m held on) refl (refl, refl)
+            rw h (load_event c w good t lt x s e (MountCount m i) hook (Sums m held on) refl (refl, refl, refl)
             (loop_on x.nodes w.words.stage w.words.sb (marks_of w.words) k.0 k.1)
             (f.5.0, f.5.1, omega (arith, more))
             (λ n ln. elim (eqb_tells n m) [
@@ -206,7 +215,7 @@ module _ (c : Config) (lim : IsWithin c) (w : World) (good : IsGood c w) (t : �
             let last : suc i ≡ c.processors = omega (arith, f.5.2, ltb-false (i + 1) x.processors h, f.1) in
             elim (eqb_tells now 0) [
               | inl z ↦ rw (h, z.0) (load_event c w good t lt x s e (MountCount m i) hook (past_mount x.mounts m joined) refl
-                  (past_mount_stays x.mounts m joined)
+                  (past_mount_stays x.nodes x.mounts m joined)
                   (past_mount_on x.nodes w.words.stage w.words.sb (marks_of w.words) k.0 k.1 x.mounts m joined)
                   (past_mount_fits c x.mounts m joined f.2 f.5.0 below)
                   (λ n ln. subst (Mount c w good t lt x s e n (w.words.flags n) w.words.remount w.words.sb)
@@ -221,7 +230,7 @@ module _ (c : Config) (lim : IsWithin c) (w : World) (good : IsGood c w) (t : �
                         ((λ j. loop_role (joins_there held m n small q.1 j) (passed_there m n q.1 j)) ∙ sym (others n q.1))
                   ])))
               | inr z ↦ rw (h, z.0) (load_event c w good t lt x s e (MountCount m i) hook (give_up m joined) refl
-                  (give_up_stays m joined)
+                  (give_up_stays x.nodes m joined)
                   (give_up_on x.nodes w.words.stage w.words.sb (marks_of w.words) k.0 k.1 m joined)
                   (give_up_fits c m joined f.5.0 (below.0, λ n q. omega (arith, below.1 n q, f.5.0)))
                   (λ n ln. subst (Mount c w good t lt x s e n (w.words.flags n) w.words.remount w.words.sb)

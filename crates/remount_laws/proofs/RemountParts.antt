@@ -1,9 +1,9 @@
 -- What an event of a remount may leave: each part of the rule, and the shown model.
 use Rattle.mount_counts.specs.declared.remounts.RemountStep.TheVariants.{Locks}
 use Rattle.mount_counts.specs.declared.remounts.Remount.{Remount}
-use Rattle.gate_world.specs.Rules.{Owner, Stages, Marks, Fitting, Known, Nodes, AtMount, IsGood, owns, Part, StepKeeps, role_of, ViewFits, at_mount, Holds, IsSteady, OwnerHolds, remounts, Moves, AtLevel, SyncAt, Sections, marks_of}
+use Rattle.gate_world.specs.Rules.{Owner, Stages, Tree, Fitting, Known, AtMount, IsGood, owns, Part, StepKeeps, role_of, ViewFits, at_mount, Holds, IsSteady, OwnerHolds, remounts, Moves, AtLevel, SyncAt, Sections, marks_of}
 use Rattle.gate_world.specs.Fits.{Fits, PhaseFits}
-use Rattle.std.proofs.Common.{refl, sym, ap, subst, inl, inr, true, false, arith, true≢false, ℕ, ◌<◌, ◌≡◌, Some, ◌⊎◌, ◌≤◌, Bool, ◌==◌, ◌||◌, ◌∙◌, None, Option}
+use Rattle.std.proofs.Common.{refl, sym, ap, subst, inl, inr, true, false, arith, true≢false, ℕ, ◌<◌, ◌≡◌, Some, ◌⊎◌, Bool, ◌==◌, ◌||◌, ◌∙◌, None, Option}
 use Rattle.mount_counts.specs.declared.remounts.RemountStep.{RemountStep}
 use Rattle.gate_world.specs.Worlds.{World, value_at, after_step, phase_action}
 use Rattle.gate_world.specs.declared.config.Config.{Config}
@@ -24,13 +24,19 @@ use Rattle.gate_world.specs.declared.views.View.{View}
 use Rattle.cpu_words.specs.Words.{Words, read}
 use Rattle.cpu_words.specs.declared.names.WordName.{WordName}
 use Rattle.finite_sums.specs.Sums.{update}
-use Rattle.gated_tree.specs.Nodes.{IsNode, kind_in, node_shown}
+use Rattle.gated_tree.specs.Nodes.{node_shown}
+use Rattle.gated_tree.specs.Roles.{Role as TreeRole, TreeState}
+use Rattle.tree_laws.specs.Events.{Event as TreeEvent}
+use Rattle.gate_world.specs.Configs.{IsWithin}
+use Rattle.gate_world.specs.Trees.{tree_bounds, tree_of, tree_role_of, tree_roles, is_sealed, remount_tree_role}
+use Rattle.gate_frames.proofs.Trees.{marks_right, tree_after}
+use Rattle.access_model.specs.declared.actions.Action.{Action}
 use Rattle.gate_world.specs.Shown.{shown, closing}
 use Rattle.access_model.specs.declared.replies.Next.{Next}
-use Rattle.gate_frames.proofs.Frames.{holds_as, owner_same, view_as, shown_as, shown_still, added_load, taken_load, SameLevelCounts, IsOffLevels, SameLevelWords, level_left, sync_left, sections_left}
+use Rattle.gate_frames.proofs.Frames.{left_alone, holds_as, owner_same, view_as, shown_as, shown_still, added_load, taken_load, SameLevelCounts, IsOffLevels, SameLevelWords, level_left, sync_left, sections_left}
 use Rattle.finite_sums.proofs.Totals.{each_updated, update_map, update_same, update_at, update_off}
 use Rattle.gate_frames.proofs.Owners.{remount_stored}
-use Rattle.gate_frames.proofs.Stages.{stages_in, IsStageEvent, stages_after, marks_after}
+use Rattle.gate_frames.proofs.Stages.{stages_in, IsStageEvent, stages_after}
 use Rattle.stage_laws.specs.Roles.{StageRole, Owning, IsKnown, KnowsStage, CleanBelow, clean_by, sums as stage_sums}
 use Rattle.stage_laws.specs.Events.{StageEvent, Recalls, IsAlike, playing}
 use Rattle.gate_world.specs.Stages.{stage_role_of, remount_stage_role}
@@ -82,9 +88,9 @@ whole_remount c w t lt good hook x e keeps = (
   keeps.1,
 )
 
--- a step at which `umount` is owned, and `remount` stands so
-abbrev pub Stays : RemountStep → ℕ → Type 0
-Stays s set = (remount_owns s ≡ 1) × (remount_sets s ≡ set)
+-- a step, among so many nodes, at which `umount` is owned, `remount` stands so, and the remount is doing this at the tree
+abbrev pub Stays : ℕ → RemountStep → ℕ → TreeRole → Type 0
+Stays nodes s set role = (remount_owns s ≡ 1) × (remount_sets s ≡ set) × (remount_tree_role nodes s ≡ role)
 
 -- A step to which a remount in this role goes on without a change of the stage and the flags: its role is alike, and what it relies on is
 -- so of this stage, these flags and these marks.
@@ -127,7 +133,7 @@ module _ (c : Config) (w : World) (good : IsGood c w) (t : ℕ) (lt : t < c.task
 
   -- the marks that it has cleared are clear
   pub here_cleared : CleanBelow (clean_by (remount_stage_role x.nodes s)) (marks_of w.words)
-  here_cleared = subst (λ p. CleanBelow (clean_by (stage_role_of p)) (marks_of w.words)) e ((good Marks).cleared t lt)
+  here_cleared = subst (λ p. CleanBelow (clean_by (stage_role_of p)) (marks_of w.words)) e ((marks_right c w good).cleared t lt)
 
   pub role_was : (m : ℕ) → role_of m (w.views t).phase ≡ remount_role m s
   role_was m = ap (role_of m) e
@@ -168,14 +174,43 @@ module _ (c : Config) (w : World) (good : IsGood c w) (t : ℕ) (lt : t < c.task
   abbrev pub PartsHold : Words → View → Type 0
   PartsHold ws v = (part : Part) → is_known_part part ≡ false → Holds c (record { words = ws; views = update w.views t v }) part
 
-  -- both parts of the stage
+  -- the part of the stage, and that of the tree
   abbrev pub StageHolds : Words → View → Type 0
-  StageHolds ws v =
-      Holds c (record { words = ws; views = update w.views t v }) Stages × Holds c (record { words = ws; views = update w.views t v }) Marks
+  StageHolds ws v = Holds c (record { words = ws; views = update w.views t v }) Stages
 
-  -- they hold after an event of one of the kinds
+  abbrev pub TreeIsRight : Words → View → Type 0
+  TreeIsRight ws v = Holds c (record { words = ws; views = update w.views t v }) Tree
+
+  -- what it is doing at the tree
+  pub tree_was : tree_roles w t ≡ remount_tree_role x.nodes s
+  tree_was = ap (tree_role_of (w.views t).trace) e
+
+  -- the tree after an event that leaves its words, of a remount that does there what it did
+  pub tree_stays : (ws : Words) (v : View) → ws.used ≡ w.words.used → ws.node ≡ w.words.node → ws.kids ≡ w.words.kids →
+      is_sealed ws ≡ is_sealed w.words → tree_role_of v.trace v.phase ≡ remount_tree_role x.nodes s → TreeIsRight ws v
+  tree_stays ws v used node kids sealed role =
+      left_alone c w t lt Tree ws v (used, node, kids, sealed) (role ∙ sym tree_was) (good Tree)
+
+  -- the tree of these words, where it is doing this there
+  abbrev pub tree_where : Words → TreeRole → TreeState
+  tree_where ws role = record {
+    sealed = is_sealed ws;
+    used = ws.used;
+    node = ws.node;
+    kids = ws.kids;
+    at = update (tree_roles w) t role;
+  }
+
+  -- the tree after one of the tree's events, with which the remount comes to do this there
+  pub tree_by : IsWithin c → (ws : Words) (v : View) (role : TreeRole) → tree_role_of v.trace v.phase ≡ role → (action : Option Action) →
+      TreeEvent (tree_bounds c) (tree_of w) t (tree_where ws role) action → TreeIsRight ws v
+  tree_by lim ws v role now action event =
+      tree_after c w good t lt ws v lim action
+      (subst (λ r. TreeEvent (tree_bounds c) (tree_of w) t (tree_where ws r) action) (sym now) event)
+
+  -- the stage holds after an event of one of the kinds
   pub stage_holds : (ws : Words) (v : View) (kind : StageEvent) → IsStageEvent c w good t lt ws v kind → StageHolds ws v
-  stage_holds ws v kind happens = (stages_after c w good t lt ws v kind happens, marks_after c w good t lt ws v kind happens)
+  stage_holds ws v kind happens = stages_after c w good t lt ws v kind happens
 
   -- and after an event on the flags of a mount, or on none, with which the remount goes on
   pub goes_on : (flags : ℕ → ℕ) (s' : RemountStep) (v : View) → v.phase ≡ Some (Remounts (at_remount x s')) →
@@ -185,27 +220,26 @@ module _ (c : Config) (w : World) (good : IsGood c w) (t : ℕ) (lt : t < c.task
       stage_holds (record w.words { flags = flags }) v (Recalls (remount_stage_role x.nodes s) (remount_stage_role x.nodes s'))
       (ap stage_role_of e, on.0, on.1, on.2, ap (λ p. playing (stages_in w) t (stage_role_of p)) is)
 
-  -- each part after an event, from what it says of each mount and of the stage
+  -- each part after an event, from what it says of each mount, of the stage and of the tree
   pub each_part : (ws : Words) (v : View) → SameCounts v → SameLevelWords w.words ws → IsOffLevels v.phase →
-      ws.count ≡ w.words.count → ((n : ℕ) → IsNode (ws.node n)) × (kind_in (ws.node 0) ≡ 2) →
+      ws.count ≡ w.words.count → TreeIsRight ws v →
       OwnerHolds c.tasks ws.umount ws.remount (λ y. (update w.views t v y).phase) → StageHolds ws v → ViewFits c t v →
       ((m : ℕ) → m < c.mounts → Mount m (ws.flags m) ws.remount ws.sb (role_of m v.phase)) → PartsHold ws v
-  each_part ws v same levels off ec nodes owner stage fits own Owner k = owner
-  each_part ws v same levels off ec nodes owner stage fits own Stages k = stage.0
-  each_part ws v same levels off ec nodes owner stage fits own Marks k = stage.1
-  each_part ws v same levels off ec nodes owner stage fits own Fitting k = λ y ly.
+  each_part ws v same levels off ec tree owner stage fits own Owner k = owner
+  each_part ws v same levels off ec tree owner stage fits own Stages k = stage
+  each_part ws v same levels off ec tree owner stage fits own Fitting k = λ y ly.
       each_updated (λ z (u : View). ViewFits c z u) w.views t v y fits (λ ne. good Fitting y ly)
-  each_part ws v same levels off ec nodes owner stage fits own Known k = absurd (true≢false k)
-  each_part ws v same levels off ec nodes owner stage fits own Nodes k = nodes
-  each_part ws v same levels off ec nodes owner stage fits own (AtMount m) k = λ lm.
+  each_part ws v same levels off ec tree owner stage fits own Known k = absurd (true≢false k)
+  each_part ws v same levels off ec tree owner stage fits own Tree k = tree
+  each_part ws v same levels off ec tree owner stage fits own (AtMount m) k = λ lm.
       holds_as refl refl refl (ap (λ f. f m) ec)
       (update_map (at_mount m) w.views t v ∙ ap (update (λ y. at_mount m (w.views y)) t)
       (view_as (ap (λ g. g m) same.0) (ap (λ g. g m) same.2) (ap (λ g. g m) same.3) refl)) (own m lm)
-  each_part ws v same levels off ec nodes owner stage fits own (AtLevel i) k =
+  each_part ws v same levels off ec tree owner stage fits own (AtLevel i) k =
       level_left c w t lt good ws v levels (at_levels v same) off_now off i
-  each_part ws v same levels off ec nodes owner stage fits own (SyncAt i) k =
+  each_part ws v same levels off ec tree owner stage fits own (SyncAt i) k =
       sync_left c w t lt good ws v levels (at_levels v same) off_now off i
-  each_part ws v same levels off ec nodes owner stage fits own Sections k =
+  each_part ws v same levels off ec tree owner stage fits own Sections k =
       sections_left c w t lt good ws v levels (at_levels v same) off_now off
 
   -- the shown model after it: the superblock's flag alone may change
@@ -243,21 +277,25 @@ module _ (c : Config) (w : World) (good : IsGood c w) (t : ℕ) (lt : t < c.task
       closing_same = λ i. ap (closing i) is ∙ (remount_closes_none i x.nodes s' ∙ sym (remount_closes_none i x.nodes s));
     })
 
+    -- at the tree it does what the step that comes says
+    tree_now : tree_role_of v.trace v.phase ≡ remount_tree_role x.nodes s'
+    tree_now = ap (tree_role_of v.trace) is
+
     -- a load by the owner, after which this step comes
-    pub loads : Stays s' (remount_sets s) → StageHolds w.words v →
+    pub loads : Stays x.nodes s' (remount_sets s) (remount_tree_role x.nodes s) → StageHolds w.words v →
         ((m : ℕ) → m < c.mounts → Mount m (w.words.flags m) w.words.remount w.words.sb (remount_role m s')) →
         PartsHold w.words v × (shown c (record { words = w.words; views = update w.views t v }) ≡ shown c w)
     loads stays stage own =
         let still : IsSteady (w.views t).phase v.phase = steady_to stays.0 stays.1 in (
           each_part w.words v same
               (record { block_same = refl; level_same = refl; sync_same = refl; section_same = refl; whole_same = refl }) off_then
-              refl (good Nodes) (owner_same c w t lt good v still) stage fits
+              refl (tree_stays w.words v refl refl refl refl (tree_now ∙ stays.2)) (owner_same c w t lt good v still) stage fits
               (λ m lm. subst (Mount m (w.words.flags m) w.words.remount w.words.sb) (sym (ap (role_of m) is)) (own m lm)),
           shown_still c w t lt w.words v refl refl refl refl refl refl still.closing_same same.0 same.1,
         )
 
     -- an event on the flags of one mount, which leaves READONLY
-    pub flags_change : (at f : ℕ) → Stays s' (remount_sets s) →
+    pub flags_change : (at f : ℕ) → Stays x.nodes s' (remount_sets s) (remount_tree_role x.nodes s) →
         GoesOn (remount_stage_role x.nodes s) x.nodes s' w.words.stage w.words.sb (marks_of w.words) →
         ro_bit f ≡ ro_bit (w.words.flags at) →
         (at < c.mounts → Mount at f w.words.remount w.words.sb (remount_role at s')) →
@@ -269,7 +307,8 @@ module _ (c : Config) (w : World) (good : IsGood c w) (t : ℕ) (lt : t < c.task
         let still : IsSteady (w.views t).phase v.phase = steady_to stays.0 stays.1 in (
           each_part ws v same
               (record { block_same = refl; level_same = refl; sync_same = refl; section_same = refl; whole_same = refl }) off_then
-              refl (good Nodes) (owner_same c w t lt good v still) (goes_on (update w.words.flags at f) s' v is on) fits
+              refl (tree_stays ws v refl refl refl refl (tree_now ∙ stays.2)) (owner_same c w t lt good v still)
+              (goes_on (update w.words.flags at f) s' v is on) fits
               (λ m lm. subst (Mount m (update w.words.flags at f m) w.words.remount w.words.sb) (sym (ap (role_of m) is))
               (elim (eqb_tells m at) [
                 | inl q ↦ subst (λ y. Mount y (update w.words.flags at f y) w.words.remount w.words.sb (remount_role y s')) (sym q.1)
@@ -286,40 +325,39 @@ module _ (c : Config) (w : World) (good : IsGood c w) (t : ℕ) (lt : t < c.task
         )
 
     -- a store of `remount` or of the superblock's flags
-    pub stores : (set sealing : ℕ) (b : Bool) → is_frozen_whole (record w.words { remount = set; sb = sealing }) ≡ is_frozen_whole w.words →
-        Stays s' set → StageHolds (record w.words { remount = set; sb = sealing }) v → (set == 1 || sealing == 1) ≡ b →
+    pub stores : (set sealing : ℕ) (b : Bool) (role : TreeRole) →
+        is_frozen_whole (record w.words { remount = set; sb = sealing }) ≡ is_frozen_whole w.words →
+        Stays x.nodes s' set role → TreeIsRight (record w.words { remount = set; sb = sealing }) v →
+        StageHolds (record w.words { remount = set; sb = sealing }) v → (set == 1 || sealing == 1) ≡ b →
         ((m : ℕ) → m < c.mounts → Mount m (w.words.flags m) set sealing (remount_role m s')) →
         let ws : Words = record w.words { remount = set; sb = sealing } in
         PartsHold ws v × (shown c (record { words = ws; views = update w.views t v }) ≡ record (shown c w) { sb_ro = b })
-    stores set sealing b whole stays stage shows own =
+    stores set sealing b role whole stays tree stage shows own =
         let ws : Words = record w.words { remount = set; sb = sealing } in (
           each_part ws v same
               (record { block_same = refl; level_same = refl; sync_same = refl; section_same = refl; whole_same = whole }) off_then
-              refl (good Nodes) (remount_stored c w good t lt set v (ap owns e ∙ o) (ap owns is ∙ stays.0) (ap remounts is ∙ stays.1))
+              refl tree (remount_stored c w good t lt set v (ap owns e ∙ o) (ap owns is ∙ stays.0) (ap remounts is ∙ stays.1))
               stage fits
               (λ m lm. subst (Mount m (w.words.flags m) set sealing) (sym (ap (role_of m) is)) (own m lm)),
           seal_shown ws v b refl refl refl refl closes_same same shows,
         )
 
-    -- an event on the word of a node other than the root, of a remount that has no role before and after it
-    pub node_changes : (n f : ℕ) → 1 ≤ n → Stays s' (remount_sets s) →
-        StageHolds (record w.words { node = update w.words.node n f }) v → IsNode f →
+    -- an event on the word of a node, of a remount that has no role at a mount before and after it
+    pub node_changes : (n f : ℕ) (role : TreeRole) → Stays x.nodes s' (remount_sets s) role →
+        TreeIsRight (record w.words { node = update w.words.node n f }) v →
+        StageHolds (record w.words { node = update w.words.node n f }) v →
         ((m : ℕ) → remount_role m s' ≡ remount_role m s) →
         let ws : Words = record w.words { node = update w.words.node n f } in
         PartsHold ws v × (shown c (record { words = ws; views = update w.views t v }) ≡
         record (shown c w) { tree = update (λ k. node_shown (w.words.node k)) n (node_shown f) })
-    node_changes n f low stays stage node role =
+    node_changes n f role stays tree stage roles =
         let ws : Words = record w.words { node = update w.words.node n f } in
         let still : IsSteady (w.views t).phase v.phase = steady_to stays.0 stays.1 in (
           each_part ws v same
               (record { block_same = refl; level_same = refl; sync_same = refl; section_same = refl; whole_same = refl }) off_then
-              refl (
-                λ k. each_updated (λ y (word : ℕ). IsNode word) w.words.node n f k node (λ ne. (good Nodes).0 k),
-                ap kind_in (update_off w.words.node n f 0 (λ q. omega (arith, low, q))) ∙ (good Nodes).1,
-              )
-              (owner_same c w t lt good v still) stage fits
+              refl tree (owner_same c w t lt good v still) stage fits
               (λ m lm. subst (Mount m (w.words.flags m) w.words.remount w.words.sb) (sym (ap (role_of m) is))
-              (mount_stays m lm (remount_role m s') (role m))),
+              (mount_stays m lm (remount_role m s') (roles m))),
           shown_as c w t lt ws v refl still.closing_same ∙
               (λ j. record (shown c w) {
                 mounts = (ap (update (λ y. held_at (w.views y)) t) same.0 ∙ update_same (λ y. held_at (w.views y)) t) j;
@@ -330,7 +368,8 @@ module _ (c : Config) (w : World) (good : IsGood c w) (t : ℕ) (lt : t < c.task
 
   -- a load by the owner, after which this step comes, as its event
   pub load_event : (name : WordName) (hook : HookAnswer) (s' : RemountStep) → remount_owns s ≡ 1 →
-      Stays s' (remount_sets s) → GoesOn (remount_stage_role x.nodes s) x.nodes s' w.words.stage w.words.sb (marks_of w.words) →
+      Stays x.nodes s' (remount_sets s) (remount_tree_role x.nodes s) →
+      GoesOn (remount_stage_role x.nodes s) x.nodes s' w.words.stage w.words.sb (marks_of w.words) →
       RemountFits c s' → ((m : ℕ) → m < c.mounts → Mount m (w.words.flags m) w.words.remount w.words.sb (remount_role m s')) →
       let coming : Next Phase = Go (Remounts (at_remount x s')) in
       ((part : Part) → is_known_part part ≡ false → Holds c (after_load w t name hook coming) part) ×
@@ -351,17 +390,18 @@ module _ (c : Config) (w : World) (good : IsGood c w) (t : ℕ) (lt : t < c.task
       )
       (f.0, f.1, f.2, f.3, f.4, fit) stays (goes_on w.words.flags s' v refl on) own)
 
-  -- an event on `umount`, of a task that has no role before and after it
+  -- an event on `umount`, of a task that has no role at a mount before and after it, and does at the tree what it did
   pub umount_changes : (n : ℕ) (v : View) → SameCounts v → ViewFits c t v →
       OwnerHolds c.tasks n w.words.remount (λ y. (update w.views t v y).phase) →
       StageHolds (record w.words { umount = n }) v → IsOffLevels v.phase →
-      ((m : ℕ) → role_of m v.phase ≡ remount_role m s) → ((i : ℕ) → closing i v.phase ≡ 0) →
+      ((m : ℕ) → role_of m v.phase ≡ remount_role m s) → tree_role_of v.trace v.phase ≡ remount_tree_role x.nodes s →
+      ((i : ℕ) → closing i v.phase ≡ 0) →
       let ws : Words = record w.words { umount = n } in
       PartsHold ws v × (shown c (record { words = ws; views = update w.views t v }) ≡ shown c w)
-  umount_changes n v same fits owner stage off role close =
+  umount_changes n v same fits owner stage off role tree close =
       let ws : Words = record w.words { umount = n } in (
         each_part ws v same (record { block_same = refl; level_same = refl; sync_same = refl; section_same = refl; whole_same = refl }) off
-            refl (good Nodes) owner stage fits
+            refl (tree_stays ws v refl refl refl refl tree) owner stage fits
             (λ m lm. mount_stays m lm (role_of m v.phase) (role m)),
         shown_still c w t lt ws v refl refl refl refl refl refl
             (λ i. close i ∙ (sym (remount_closes_none i x.nodes s) ∙ sym (ap (closing i) e))) same.0 same.1,

@@ -11,10 +11,8 @@ use Rattle.access_model.specs.declared.errors.GateError.TheVariants.{Busy, Hook}
 use Rattle.access_model.specs.declared.replies.Reply.{Reply}
 use Rattle.access_model.specs.declared.replies.Reply.TheVariants.{Unit as UnitReply}
 use Rattle.access_model.specs.Histories.{mounts_of, levels_of}
-use Rattle.cpu_words.specs.declared.names.WordName.{WordName}
-use Rattle.cpu_words.specs.declared.names.WordName.TheVariants.{Umount, Node}
-use Rattle.cpu_words.specs.declared.events.Touch.{Touch}
-use Rattle.cpu_words.specs.declared.events.Touch.TheVariants.{Store, And}
+use Rattle.cpu_words.specs.declared.names.WordName.TheVariants.{Umount}
+use Rattle.cpu_words.specs.declared.events.Touch.TheVariants.{Store}
 use Rattle.cpu_words.specs.declared.sums.Sum.{Sum}
 use Rattle.cpu_words.specs.Hooks.{HookAnswer}
 use Rattle.cpu_words.specs.Touches.{wrap_add, event_of}
@@ -46,7 +44,7 @@ use Rattle.gate_world.specs.declared.work.Phase.TheVariants.{Remounts}
 use Rattle.gate_world.specs.declared.views.Traced.{Traced}
 use Rattle.gate_world.specs.Views.{with_hook}
 use Rattle.gate_world.specs.Configs.{IsWithin}
-use Rattle.gate_world.specs.Found.{found_sealed, counts_loaded, sum_loaded, IsEachCount, each_event, finds_taken, cleans, clean_found}
+use Rattle.gate_world.specs.Found.{found_sealed, counts_loaded, sum_loaded, IsEachCount, each_event, finds_taken, cleans}
 use Rattle.gate_world.specs.Traces.{actions_of, IsHonestAnswer}
 use Rattle.gate_frames.proofs.Keeps.{by_bool}
 use Rattle.trace_laws.proofs.Cleans.{cleans_leave}
