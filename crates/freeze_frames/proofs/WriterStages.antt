@@ -14,9 +14,10 @@ use Rattle.gate_world.specs.declared.views.View.{View}
 use Rattle.gate_world.specs.Levels.{Stand, is_frozen_whole}
 use Rattle.gate_world.specs.Shown.{shown, stage_roles}
 use Rattle.gate_world.specs.Stages.{stage_role_of}
-use Rattle.gate_world.specs.Rules.{IsGood, OwnerHolds, ViewFits, Nodes}
+use Rattle.gate_world.specs.Rules.{IsGood, OwnerHolds, Holds, ViewFits, Tree}
+use Rattle.gate_world.specs.Trees.{tree_role_of}
 use Rattle.gate_world.specs.Worlds.{World}
-use Rattle.gate_frames.proofs.Frames.{SameLevelCounts}
+use Rattle.gate_frames.proofs.Frames.{SameLevelCounts, left_alone}
 use Rattle.gate_frames.proofs.Stages.{IsStageEvent, stages_in}
 use Rattle.freeze_frames.proofs.Standing.{Stands, LevelsHold, left_world}
 use Rattle.freeze_frames.proofs.StandRoles.{levels_stay}
@@ -65,13 +66,14 @@ module _ (c : Config) (w : World) (good : IsGood c w) (t : ℕ) (lt : t < c.task
 
   module _ (v : View) (was : IsWriter (w.views t).phase) (now : IsWriter v.phase) (mounts : SameAtMounts (w.views t) v)
       (levels : SameLevelCounts (w.views t) v) (fits : ViewFits c t v) where
-    -- an event that leaves all words but `umount`, and how its task stands with the levels
+    -- an event that leaves all words but `umount`, and what its task has to do with the levels and the tree
     pub writer_beside : (n : ℕ) (stand : Option Stand) (kind : StageEvent) →
         OwnerHolds c.tasks n w.words.remount (λ y. (update w.views t v y).phase) →
         Stands (w.views t).phase stand → Stands v.phase stand →
+        tree_role_of v.trace v.phase ≡ tree_role_of (w.views t).trace (w.views t).phase →
         IsStageEvent c w good t lt (record w.words { umount = n }) v kind → stage_action_of kind (stages_in w) ≡ None →
         WriterLaw c w t (record w.words { umount = n }) v None
-    writer_beside n stand kind owner before after happens adds =
+    writer_beside n stand kind owner before after same happens adds =
         writer_law c w good t lt (record w.words { umount = n }) v None kind (record {
           words = record { flags_same = refl; count_same = refl; remount_same = refl; sb_same = refl };
           counts = mounts;
@@ -81,7 +83,7 @@ module _ (c : Config) (w : World) (good : IsGood c w) (t : ℕ) (lt : t < c.task
           levels = levels_stay c w good t lt (record w.words { umount = n }) v stand
               (record { block_same = refl; level_same = refl; sync_same = refl; section_same = refl; whole_same = refl }) levels before
               after;
-          nodes = good Nodes;
+          tree = left_alone c w t lt Tree (record w.words { umount = n }) v (refl, refl, refl, refl) same (good Tree);
           fits = fits;
           happens = happens;
           adds = adds;
@@ -93,10 +95,11 @@ module _ (c : Config) (w : World) (good : IsGood c w) (t : ℕ) (lt : t < c.task
     pub writer_stores : (n : ℕ) (kind : StageEvent) →
         OwnerHolds c.tasks w.words.umount w.words.remount (λ y. (update w.views t v y).phase) →
         LevelsHold c (left_world w t (record w.words { stage = n }) v) →
+        Holds c (left_world w t (record w.words { stage = n }) v) Tree →
         IsStageEvent c w good t lt (record w.words { stage = n }) v kind →
         stage_action_of kind (stages_in w) ≡ Some (StageAction n) →
         WriterLaw c w t (record w.words { stage = n }) v (Some (StageAction n))
-    writer_stores n kind owner hold happens adds =
+    writer_stores n kind owner hold tree happens adds =
         writer_law c w good t lt (record w.words { stage = n }) v (Some (StageAction n)) kind (record {
           words = record { flags_same = refl; count_same = refl; remount_same = refl; sb_same = refl };
           counts = mounts;
@@ -104,7 +107,7 @@ module _ (c : Config) (w : World) (good : IsGood c w) (t : ℕ) (lt : t < c.task
           now = now;
           owner = owner;
           levels = hold;
-          nodes = good Nodes;
+          tree = tree;
           fits = fits;
           happens = happens;
           adds = adds;
