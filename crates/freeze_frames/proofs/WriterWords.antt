@@ -1,5 +1,5 @@
 -- Events of a down-write and of an up-write: the words that they leave, the counts, and what they add.
-use Rattle.std.proofs.Common.{◌≡◌, ℕ, ◌<◌, refl, sym, ◌∙◌}
+use Rattle.std.proofs.Common.{◌≡◌, ℕ, ◌<◌, refl, sym, ◌∙◌, subst}
 use Rattle.std.specs.Prelude.{Ok, ◌==◌, if◌then◌else◌, Option, Some, None}
 use Rattle.access_model.specs.States.{State}
 use Rattle.access_model.specs.declared.actions.Action.{Action}
@@ -30,11 +30,14 @@ use Rattle.stage_laws.specs.Shown.{state_after}
 use Rattle.gated_tree.specs.Nodes.{node_shown}
 use Rattle.gate_world.specs.declared.config.Config.{Config}
 use Rattle.gate_world.specs.declared.views.View.{View}
-use Rattle.gate_world.specs.Configs.{model_limits}
+use Rattle.gate_world.specs.Configs.{IsWithin, model_limits}
 use Rattle.gate_world.specs.Levels.{level_added_after, level_taken_after}
 use Rattle.gate_world.specs.Rules.{IsGood, Holds, ViewFits, Tree, owns}
-use Rattle.gate_world.specs.Trees.{tree_role_of}
-use Rattle.gated_tree.specs.Roles.{sealed_by}
+use Rattle.gate_world.specs.Trees.{tree_bounds, tree_of, tree_role_of, tree_roles}
+use Rattle.gated_tree.specs.Roles.{Out, Clearing, sealed_by}
+use Rattle.tree_laws.specs.Events.{Event, turned, BeginsClearing}
+use Rattle.gate_frames.proofs.Trees.{tree_then, tree_after}
+use Rattle.finite_sums.specs.Sums.{update}
 use Rattle.gate_world.specs.Shown.{shown}
 use Rattle.gate_world.specs.Views.{added_after, taken_after}
 use Rattle.gate_world.specs.Worlds.{World}
@@ -220,6 +223,21 @@ pub tree_beside : (c : Config) (w : World) → IsGood c w → (t : ℕ) → t < 
 tree_beside c w good t lt ws v words same =
     left_alone c w t lt Tree ws v
     (words.used_same, words.node_same, words.kids_same, (λ j. sealed_by (words.beside.sb_same j) (words.stage_same j))) same (good Tree)
+
+-- and where a clearing of marks begins
+pub tree_begins : (c : Config) (w : World) → IsGood c w → (t : ℕ) → t < c.tasks → (ws : Words) (v : View) → IsWithin c →
+    IsAtLevels w.words ws → tree_role_of (w.views t).trace (w.views t).phase ≡ Out → tree_role_of v.trace v.phase ≡ Clearing 1 →
+    Holds c (left_world w t ws v) Tree
+tree_begins c w good t lt ws v within words was now =
+    let same : tree_then c w good t lt ws v ≡ turned (tree_of w) t (Clearing 1) =
+    λ j. record {
+      sealed = sealed_by (words.beside.sb_same j) (words.stage_same j);
+      used = words.used_same j;
+      node = words.node_same j;
+      kids = words.kids_same j;
+      at = update (tree_roles w) t (now j);
+    } in
+    tree_after c w good t lt ws v within None (subst (λ s. Event (tree_bounds c) (tree_of w) t s None) (sym same) (BeginsClearing was))
 
 -- the law of an event of a freeze or a thaw on a word of a level, which leaves who owns `umount`
 pub writer_at_level : (c : Config) (w : World) (good : IsGood c w) (t : ℕ) (lt : t < c.tasks) (ws : Words) (v : View)
