@@ -128,7 +128,7 @@ module _ (c : Config) (lim : IsWithin c) (w : World) (good : IsGood c w) (t : �
       stored_levels c w good t lt v (record { held_same = refl; added_same = refl; taken_same = refl }) n stand whole
       (subst (Stands (w.views t).phase) before (here_stands s e)) after
 
-  -- which leaves the tree, where it is sealed or not as before, and does nothing there
+  -- and the tree, where it is sealed or not as before, and the freeze does there what it did
   kept_tree : (hook : HookAnswer) (s s' : FreezeStep) (e : IsHere s) (n : ℕ) → freeze_tree_role x.nodes s' ≡ freeze_tree_role x.nodes s →
       sealed_by w.words.sb n ≡ sealed_by w.words.sb w.words.stage →
       let v : View = view_at (StageWord, Store n) w.words.stage hook s' (Some (StageAction n)) in
@@ -137,7 +137,7 @@ module _ (c : Config) (lim : IsWithin c) (w : World) (good : IsGood c w) (t : �
       stored_tree c w good t lt (view_at (StageWord, Store n) w.words.stage hook s' (Some (StageAction n))) (same ∙ sym (here_tree s e)) n
       sealed
 
-  -- what the tree is after a store of stage 3, with no mark left
+  -- a store of stage 3, with no mark left, seals the tree
   sealed_tree : (v : View) → IsHere SetsFs → tree_role_of v.trace v.phase ≡ OffTree →
       Holds c (left_world w t (record w.words { stage = 3 }) v) Tree
   sealed_tree v e now =
@@ -148,7 +148,7 @@ module _ (c : Config) (lim : IsWithin c) (w : World) (good : IsGood c w) (t : �
       tree_after c w good t lt (record w.words { stage = 3 }) v lim None
       (subst (λ s. TreeEvent (tree_bounds c) (tree_of w) t s None) (sym after) (Seals x.nodes (omega (arith, f.3)) (here_tree SetsFs e)))
 
-  -- and after one of stage 0 in its place
+  -- one of stage 0 in its place leaves it as it was
   left_tree : (v : View) → IsHere SetsFs → tree_role_of v.trace v.phase ≡ OffTree →
       Holds c (left_world w t (record w.words { stage = 0 }) v) Tree
   left_tree v e now =
@@ -340,8 +340,8 @@ module _ (c : Config) (lim : IsWithin c) (w : World) (good : IsGood c w) (t : �
   loads : (hook : HookAnswer) (word : WordName) (value : ℕ) (s s' : FreezeStep) (e : IsHere s) (kind : StageEvent) →
       let v : View = view_at (word, Load) value hook s' None in
       stage_owns (freeze_stage_role x.nodes s) ≡ 1 → stage_owns (freeze_stage_role x.nodes s') ≡ 1 →
-      freeze_stand s ≡ None → freeze_stand s' ≡ None → freeze_tree_role x.nodes s' ≡ freeze_tree_role x.nodes s → FreezeFits c s' →
-      SameAtMounts (w.views t) v → SameLevelCounts (w.views t) v →
+      freeze_stand s ≡ None → freeze_stand s' ≡ None → freeze_tree_role x.nodes s' ≡ freeze_tree_role x.nodes s →
+      FreezeFits c s' → SameAtMounts (w.views t) v → SameLevelCounts (w.views t) v →
       IsStageEvent c w good t lt w.words v kind → stage_action_of kind (stages_in w) ≡ None → WriterLaw c w t w.words v None
   loads hook word value s s' e kind o o' before after same fit mounts levels happens adds =
       let v : View = view_at (word, Load) value hook s' None in
