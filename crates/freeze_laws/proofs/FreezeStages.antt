@@ -382,8 +382,8 @@ module _ (c : Config) (lim : IsWithin c) (w : World) (good : IsGood c w) (t : �
             (record { held_same = refl; added_same = refl; taken_same = refl })
             (finds LoadsSuperblock e (view_at (SbFlags, Load) w.words.sb hook SetsWrite None) (LoadsSb (Some 0) None) w.words.sb 0 h.1
             (λ n. Owning (Some 0) (Some n)) (ap stage_role_of e, refl) refl) refl)
-        | inr h ↦ rw h.0 (loads hook SbFlags w.words.sb LoadsSuperblock CompletesReadOnly e (LoadsSb (Some 0) None) refl refl refl refl refl tt
-            (record { held_same = refl; levels_same = refl; added_same = refl; taken_same = refl })
+        | inr h ↦ rw h.0 (loads hook SbFlags w.words.sb LoadsSuperblock CompletesReadOnly e (LoadsSb (Some 0) None) refl refl refl refl refl
+            tt (record { held_same = refl; levels_same = refl; added_same = refl; taken_same = refl })
             (record { held_same = refl; added_same = refl; taken_same = refl })
             (finds LoadsSuperblock e (view_at (SbFlags, Load) w.words.sb hook CompletesReadOnly None) (LoadsSb (Some 0) None) w.words.sb
             1 (omega (arith, h.1, (good Stages).superblock)) (λ n. Owning (Some 0) (Some n)) (ap stage_role_of e, refl) refl) refl)
