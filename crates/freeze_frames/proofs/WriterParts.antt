@@ -30,7 +30,7 @@ use Rattle.freeze_levels.specs.Freezes.{freeze_next, level_closed, freeze_after,
 use Rattle.percpu_rwsem.specs.Writers.{sum_begun, at_down_write, down_write_next, up_write_next, down_write_after, sections_awaited, passed_awaited, down_write_summed, enter_step, callback_step}
 use Rattle.gate_frames.proofs.Known.{IsOwnersWork, known_after}
 use Rattle.gate_world.specs.Shown.{shown, stage_roles}
-use Rattle.gate_frames.proofs.Stages.{stages_after, marks_after, stage_action, shown_by, IsStageEvent, stages_in, stage_effect}
+use Rattle.gate_frames.proofs.Stages.{stages_after, stage_action, shown_by, IsStageEvent, stages_in, stage_effect}
 use Rattle.access_model.specs.Replies.{map_next}
 use Rattle.mount_counts.specs.Roles.{Out}
 use Rattle.freeze_levels.specs.declared.thaws.ThawStep.{ThawStep}
@@ -43,7 +43,7 @@ use Rattle.access_model.specs.declared.actions.Action.{Action}
 use Rattle.access_model.specs.declared.actions.NodeInfo.{NodeInfo}
 use Rattle.gate_world.specs.Views.{phase_after, held_at, holds_level, added_by, taken_by}
 use Rattle.gate_world.specs.declared.work.Phase.TheVariants.{Freezes, Thaws}
-use Rattle.gate_world.specs.Rules.{Stages, Marks, Fitting, Known, Nodes, AtMount, Sections, role_of, IsGood, OwnerHolds, Part, Moves, owns, remounts, StepKeeps, Holds, Nodes, ViewFits, AtMount, AtLevel, SyncAt, Owner}
+use Rattle.gate_world.specs.Rules.{Stages, Fitting, Known, Tree, AtMount, Sections, role_of, IsGood, OwnerHolds, Part, Moves, owns, remounts, StepKeeps, Holds, ViewFits, AtLevel, SyncAt, Owner}
 use Rattle.gate_world.specs.Worlds.{World, value_at, after_step, phase_action}
 use Rattle.percpu_rwsem.specs.declared.writers.UpWriteStep.{UpWriteStep}
 use Rattle.percpu_rwsem.specs.declared.writers.UpWrite.{UpWrite}
@@ -133,7 +133,7 @@ module _ (c : Config) (w : World) (good : IsGood c w) (t : ℕ) (lt : t < c.task
     pub now : IsWriter v.phase
     pub owner : OwnerHolds c.tasks ws.umount ws.remount (λ y. (update w.views t v y).phase)
     pub levels : LevelsHold c (left_world w t ws v)
-    pub nodes : Holds c (left_world w t ws v) Nodes
+    pub tree : Holds c (left_world w t ws v) Tree
     pub fits : ViewFits c t v
     pub happens : IsStageEvent c w good t lt ws v kind
     pub adds : stage_action_of kind (stages_in w) ≡ action
@@ -148,10 +148,9 @@ module _ (c : Config) (w : World) (good : IsGood c w) (t : ℕ) (lt : t < c.task
   pub writer_parts : WriterEvent → PartsHold
   writer_parts h Owner k = h.owner
   writer_parts h Stages k = stages_after c w good t lt ws v kind h.happens
-  writer_parts h Marks k = marks_after c w good t lt ws v kind h.happens
   writer_parts h Fitting k = λ y ly. each_updated (λ z (u : View). ViewFits c z u) w.views t v y h.fits (λ ne. good Fitting y ly)
   writer_parts h Known k = absurd (true≢false k)
-  writer_parts h Nodes k = h.nodes
+  writer_parts h Tree k = h.tree
   writer_parts h (AtMount m) k =
       left_alone c w t lt (AtMount m) ws v
       (ap (λ f. f m) h.words.flags_same, h.words.remount_same, h.words.sb_same, ap (λ f. f m) h.words.count_same)

@@ -1,5 +1,6 @@
 -- Events of a freeze or a thaw that leave the words of the levels: on `umount`, loads by the owner, and stores of the stage.
-use Rattle.std.proofs.Common.{◌≡◌, ℕ, ◌<◌, refl, ap, ◌∙◌}
+use Rattle.std.proofs.Common.{◌≡◌, ℕ, ◌<◌, refl, sym, ap, ◌∙◌, subst, inl, inr, arith}
+use Rattle.std.proofs.lemmas.Bool.Decides.{eqb_tells}
 use Rattle.std.specs.Prelude.{Option, Some, None}
 use Rattle.finite_sums.specs.Sums.{update}
 use Rattle.finite_sums.proofs.Totals.{update_same}
@@ -14,9 +15,14 @@ use Rattle.gate_world.specs.declared.views.View.{View}
 use Rattle.gate_world.specs.Levels.{Stand, is_frozen_whole}
 use Rattle.gate_world.specs.Shown.{shown, stage_roles}
 use Rattle.gate_world.specs.Stages.{stage_role_of}
-use Rattle.gate_world.specs.Rules.{IsGood, OwnerHolds, ViewFits, Nodes}
+use Rattle.gate_world.specs.Rules.{IsGood, OwnerHolds, Holds, ViewFits, Stages, Tree}
+use Rattle.gate_world.specs.Trees.{tree_bounds, tree_of, tree_role_of, tree_roles}
+use Rattle.gate_world.specs.Configs.{IsWithin}
+use Rattle.gated_tree.specs.Roles.{TreeState, sealed_by}
+use Rattle.tree_laws.specs.Events.{Event, Opens}
+use Rattle.gate_frames.proofs.Trees.{sealed_read_only, tree_then, tree_after}
 use Rattle.gate_world.specs.Worlds.{World}
-use Rattle.gate_frames.proofs.Frames.{SameLevelCounts}
+use Rattle.gate_frames.proofs.Frames.{SameLevelCounts, left_alone}
 use Rattle.gate_frames.proofs.Stages.{IsStageEvent, stages_in}
 use Rattle.freeze_frames.proofs.Standing.{Stands, LevelsHold, left_world}
 use Rattle.freeze_frames.proofs.StandRoles.{levels_stay}
@@ -63,15 +69,42 @@ module _ (c : Config) (w : World) (good : IsGood c w) (t : ℕ) (lt : t < c.task
       levels_stay c w good t lt (record w.words { stage = n }) v stand
       (record { block_same = refl; level_same = refl; sync_same = refl; section_same = refl; whole_same = whole }) levels before after
 
+  -- nor the tree, where it is sealed or not as before, and the task does there what it did
+  pub stored_tree : (v : View) → tree_role_of v.trace v.phase ≡ tree_role_of (w.views t).trace (w.views t).phase → (n : ℕ) →
+      sealed_by w.words.sb n ≡ sealed_by w.words.sb w.words.stage → Holds c (left_world w t (record w.words { stage = n }) v) Tree
+  stored_tree v same n sealed =
+      left_alone c w t lt Tree (record w.words { stage = n }) v (refl, refl, refl, sealed) same (good Tree)
+
+  -- a store of stage 0 opens it, where the superblock's flag isn't set
+  pub opened_tree : IsWithin c → (v : View) → tree_role_of v.trace v.phase ≡ tree_role_of (w.views t).trace (w.views t).phase →
+      Holds c (left_world w t (record w.words { stage = 0 }) v) Tree
+  opened_tree within v same =
+      elim (eqb_tells w.words.sb 0) [
+        | inl q ↦
+            let unsealed : sealed_by w.words.sb 0 ≡ 0 = rw q.1 refl in
+            let after : ◌≡◌ {A = TreeState} (tree_then c w good t lt (record w.words { stage = 0 }) v)
+            (record (tree_of w) { sealed = 0 }) =
+            λ j. record (tree_of w) {
+              sealed = unsealed j;
+              at = (ap (update (tree_roles w) t) same ∙ update_same (tree_roles w) t) j;
+            } in
+            tree_after c w good t lt (record w.words { stage = 0 }) v within None
+            (subst (λ s. Event (tree_bounds c) (tree_of w) t s None) (sym after) Opens)
+        | inr q ↦
+            let set : w.words.sb ≡ 1 = omega (arith, q.1, (good Stages).superblock) in
+            stored_tree v same 0 (sealed_read_only w.words.sb 0 set ∙ sym (sealed_read_only w.words.sb w.words.stage set))
+      ]
+
   module _ (v : View) (was : IsWriter (w.views t).phase) (now : IsWriter v.phase) (mounts : SameAtMounts (w.views t) v)
       (levels : SameLevelCounts (w.views t) v) (fits : ViewFits c t v) where
-    -- an event that leaves all words but `umount`, and how its task stands with the levels
+    -- an event that leaves all words but `umount`, and what its task has to do with the levels and the tree
     pub writer_beside : (n : ℕ) (stand : Option Stand) (kind : StageEvent) →
         OwnerHolds c.tasks n w.words.remount (λ y. (update w.views t v y).phase) →
         Stands (w.views t).phase stand → Stands v.phase stand →
+        tree_role_of v.trace v.phase ≡ tree_role_of (w.views t).trace (w.views t).phase →
         IsStageEvent c w good t lt (record w.words { umount = n }) v kind → stage_action_of kind (stages_in w) ≡ None →
         WriterLaw c w t (record w.words { umount = n }) v None
-    writer_beside n stand kind owner before after happens adds =
+    writer_beside n stand kind owner before after same happens adds =
         writer_law c w good t lt (record w.words { umount = n }) v None kind (record {
           words = record { flags_same = refl; count_same = refl; remount_same = refl; sb_same = refl };
           counts = mounts;
@@ -81,7 +114,7 @@ module _ (c : Config) (w : World) (good : IsGood c w) (t : ℕ) (lt : t < c.task
           levels = levels_stay c w good t lt (record w.words { umount = n }) v stand
               (record { block_same = refl; level_same = refl; sync_same = refl; section_same = refl; whole_same = refl }) levels before
               after;
-          nodes = good Nodes;
+          tree = left_alone c w t lt Tree (record w.words { umount = n }) v (refl, refl, refl, refl) same (good Tree);
           fits = fits;
           happens = happens;
           adds = adds;
@@ -93,10 +126,11 @@ module _ (c : Config) (w : World) (good : IsGood c w) (t : ℕ) (lt : t < c.task
     pub writer_stores : (n : ℕ) (kind : StageEvent) →
         OwnerHolds c.tasks w.words.umount w.words.remount (λ y. (update w.views t v y).phase) →
         LevelsHold c (left_world w t (record w.words { stage = n }) v) →
+        Holds c (left_world w t (record w.words { stage = n }) v) Tree →
         IsStageEvent c w good t lt (record w.words { stage = n }) v kind →
         stage_action_of kind (stages_in w) ≡ Some (StageAction n) →
         WriterLaw c w t (record w.words { stage = n }) v (Some (StageAction n))
-    writer_stores n kind owner hold happens adds =
+    writer_stores n kind owner hold tree happens adds =
         writer_law c w good t lt (record w.words { stage = n }) v (Some (StageAction n)) kind (record {
           words = record { flags_same = refl; count_same = refl; remount_same = refl; sb_same = refl };
           counts = mounts;
@@ -104,7 +138,7 @@ module _ (c : Config) (w : World) (good : IsGood c w) (t : ℕ) (lt : t < c.task
           now = now;
           owner = owner;
           levels = hold;
-          nodes = good Nodes;
+          tree = tree;
           fits = fits;
           happens = happens;
           adds = adds;

@@ -1,5 +1,5 @@
 -- Events of a down-write and of an up-write: the words that they leave, the counts, and what they add.
-use Rattle.std.proofs.Common.{◌≡◌, ℕ, ◌<◌, refl, sym, ◌∙◌}
+use Rattle.std.proofs.Common.{◌≡◌, ℕ, ◌<◌, refl, sym, ◌∙◌, subst}
 use Rattle.std.specs.Prelude.{Ok, ◌==◌, if◌then◌else◌, Option, Some, None}
 use Rattle.access_model.specs.States.{State}
 use Rattle.access_model.specs.declared.actions.Action.{Action}
@@ -30,9 +30,14 @@ use Rattle.stage_laws.specs.Shown.{state_after}
 use Rattle.gated_tree.specs.Nodes.{node_shown}
 use Rattle.gate_world.specs.declared.config.Config.{Config}
 use Rattle.gate_world.specs.declared.views.View.{View}
-use Rattle.gate_world.specs.Configs.{model_limits}
+use Rattle.gate_world.specs.Configs.{IsWithin, model_limits}
 use Rattle.gate_world.specs.Levels.{level_added_after, level_taken_after}
-use Rattle.gate_world.specs.Rules.{IsGood, ViewFits, Nodes, owns}
+use Rattle.gate_world.specs.Rules.{IsGood, Holds, ViewFits, Tree, owns}
+use Rattle.gate_world.specs.Trees.{tree_bounds, tree_of, tree_role_of, tree_roles}
+use Rattle.gated_tree.specs.Roles.{Out, Clearing, sealed_by}
+use Rattle.tree_laws.specs.Events.{Event, turned, BeginsClearing}
+use Rattle.gate_frames.proofs.Trees.{tree_then, tree_after}
+use Rattle.finite_sums.specs.Sums.{update}
 use Rattle.gate_world.specs.Shown.{shown}
 use Rattle.gate_world.specs.Views.{added_after, taken_after}
 use Rattle.gate_world.specs.Worlds.{World}
@@ -49,6 +54,8 @@ pub record IsAtLevels (old new : Words) : Type 0 where
   pub umount_same : new.umount ≡ old.umount
   pub stage_same : new.stage ≡ old.stage
   pub node_same : new.node ≡ old.node
+  pub used_same : new.used ≡ old.used
+  pub kids_same : new.kids ≡ old.kids
 
 -- a down-write writes words of levels alone
 pub down_write_words : (w : Words) (d : DownWrite) (s : DownWriteStep) →
@@ -58,48 +65,64 @@ down_write_words w d (Enters Loads) = record {
   umount_same = refl;
   stage_same = refl;
   node_same = refl;
+  used_same = refl;
+  kids_same = refl;
 }
 down_write_words w d (Enters (Exchanges from to)) = record {
   beside = record { flags_same = refl; count_same = refl; remount_same = refl; sb_same = refl };
   umount_same = refl;
   stage_same = refl;
   node_same = refl;
+  used_same = refl;
+  kids_same = refl;
 }
 down_write_words w d (AwaitsSections grace) = record {
   beside = record { flags_same = refl; count_same = refl; remount_same = refl; sb_same = refl };
   umount_same = refl;
   stage_same = refl;
   node_same = refl;
+  used_same = refl;
+  kids_same = refl;
 }
 down_write_words w d (CallsBack Loads) = record {
   beside = record { flags_same = refl; count_same = refl; remount_same = refl; sb_same = refl };
   umount_same = refl;
   stage_same = refl;
   node_same = refl;
+  used_same = refl;
+  kids_same = refl;
 }
 down_write_words w d (CallsBack (Exchanges from to)) = record {
   beside = record { flags_same = refl; count_same = refl; remount_same = refl; sb_same = refl };
   umount_same = refl;
   stage_same = refl;
   node_same = refl;
+  used_same = refl;
+  kids_same = refl;
 }
 down_write_words w d AwaitsPassed = record {
   beside = record { flags_same = refl; count_same = refl; remount_same = refl; sb_same = refl };
   umount_same = refl;
   stage_same = refl;
   node_same = refl;
+  used_same = refl;
+  kids_same = refl;
 }
 down_write_words w d SetsBlock = record {
   beside = record { flags_same = refl; count_same = refl; remount_same = refl; sb_same = refl };
   umount_same = refl;
   stage_same = refl;
   node_same = refl;
+  used_same = refl;
+  kids_same = refl;
 }
 down_write_words w d (Sums sum) = record {
   beside = record { flags_same = refl; count_same = refl; remount_same = refl; sb_same = refl };
   umount_same = refl;
   stage_same = refl;
   node_same = refl;
+  used_same = refl;
+  kids_same = refl;
 }
 
 -- and an up-write
@@ -110,18 +133,24 @@ up_write_words w u ClearsBlock = record {
   umount_same = refl;
   stage_same = refl;
   node_same = refl;
+  used_same = refl;
+  kids_same = refl;
 }
 up_write_words w u (Exits Loads) = record {
   beside = record { flags_same = refl; count_same = refl; remount_same = refl; sb_same = refl };
   umount_same = refl;
   stage_same = refl;
   node_same = refl;
+  used_same = refl;
+  kids_same = refl;
 }
 up_write_words w u (Exits (Exchanges from to)) = record {
   beside = record { flags_same = refl; count_same = refl; remount_same = refl; sb_same = refl };
   umount_same = refl;
   stage_same = refl;
   node_same = refl;
+  used_same = refl;
+  kids_same = refl;
 }
 
 -- a down-write counts nothing, at mounts or at levels
@@ -188,14 +217,36 @@ pass_leaves s t i = record { mounts_same = refl; levels_same = refl; ro_same = r
 pub reopen_leaves : (s : State) (t i : ℕ) → LeavesRest s (after_action s t (Reopen i)) s.tree
 reopen_leaves s t i = record { mounts_same = refl; levels_same = refl; ro_same = refl; tree_same = refl }
 
+-- the tree is left, where its task does there what it did
+pub tree_beside : (c : Config) (w : World) → IsGood c w → (t : ℕ) → t < c.tasks → (ws : Words) (v : View) → IsAtLevels w.words ws →
+    tree_role_of v.trace v.phase ≡ tree_role_of (w.views t).trace (w.views t).phase → Holds c (left_world w t ws v) Tree
+tree_beside c w good t lt ws v words same =
+    left_alone c w t lt Tree ws v
+    (words.used_same, words.node_same, words.kids_same, (λ j. sealed_by (words.beside.sb_same j) (words.stage_same j))) same (good Tree)
+
+-- and where a clearing of marks begins
+pub tree_begins : (c : Config) (w : World) → IsGood c w → (t : ℕ) → t < c.tasks → (ws : Words) (v : View) → IsWithin c →
+    IsAtLevels w.words ws → tree_role_of (w.views t).trace (w.views t).phase ≡ Out → tree_role_of v.trace v.phase ≡ Clearing 1 →
+    Holds c (left_world w t ws v) Tree
+tree_begins c w good t lt ws v within words was now =
+    let same : tree_then c w good t lt ws v ≡ turned (tree_of w) t (Clearing 1) =
+    λ j. record {
+      sealed = sealed_by (words.beside.sb_same j) (words.stage_same j);
+      used = words.used_same j;
+      node = words.node_same j;
+      kids = words.kids_same j;
+      at = update (tree_roles w) t (now j);
+    } in
+    tree_after c w good t lt ws v within None (subst (λ s. Event (tree_bounds c) (tree_of w) t s None) (sym same) (BeginsClearing was))
+
 -- the law of an event of a freeze or a thaw on a word of a level, which leaves who owns `umount`
 pub writer_at_level : (c : Config) (w : World) (good : IsGood c w) (t : ℕ) (lt : t < c.tasks) (ws : Words) (v : View)
     (action : Option Action) (kind : StageEvent) → IsWriter (w.views t).phase → IsWriter v.phase → IsAtLevels w.words ws →
     SameAtMounts (w.views t) v → ViewFits c t v → owns v.phase ≡ owns (w.views t).phase → LevelsHold c (left_world w t ws v) →
-    IsStageEvent c w good t lt ws v kind → stage_action_of kind (stages_in w) ≡ action →
+    Holds c (left_world w t ws v) Tree → IsStageEvent c w good t lt ws v kind → stage_action_of kind (stages_in w) ≡ action →
     AsksWhere (model_limits c) (shown c w) action →
     LeavesRest (shown c w) (state_after (shown c w) t action) (shown c w).tree → WriterLaw c w t ws v action
-writer_at_level c w good t lt ws v action kind was now words mounts fits own levels happens adds asks rest =
+writer_at_level c w good t lt ws v action kind was now words mounts fits own levels tree happens adds asks rest =
     writer_law c w good t lt ws v action kind (record {
       words = words.beside;
       counts = mounts;
@@ -203,7 +254,7 @@ writer_at_level c w good t lt ws v action kind was now words mounts fits own lev
       now = now;
       owner = owner_stays c w good t lt v was now ws words.umount_same words.beside.remount_same own;
       levels = levels;
-      nodes = left_alone c w t lt Nodes ws v words.node_same tt (good Nodes);
+      tree = tree;
       fits = fits;
       happens = happens;
       adds = adds;

@@ -1,7 +1,8 @@
 -- The events of a freeze on the words of a level that it closes.
-use Rattle.std.proofs.Common.{◌≡◌, ℕ, ◌<◌, ◌≤◌, Bool, true, false, refl, sym, ap, ◌∙◌, inl, inr, arith, true≢false, nat_lt}
+use Rattle.std.proofs.Common.{◌≡◌, ◌⊎◌, ℕ, ◌<◌, ◌≤◌, Bool, true, false, refl, sym, ap, ◌∙◌, inl, inr, arith, true≢false, nat_lt}
 use Rattle.std.specs.Prelude.{◌==◌, if◌then◌else◌, Option, Some, None, Ok}
 use Rattle.std.proofs.lemmas.Bool.{eq-eqb, cases_Bool}
+use Rattle.std.proofs.lemmas.Bool.Decides.{eqb_tells}
 use Rattle.finite_sums.specs.Sums.{update, total}
 use Rattle.finite_sums.proofs.Totals.{total_at}
 use Rattle.access_model.specs.declared.actions.Action.{Action}
@@ -46,21 +47,26 @@ use Rattle.gate_world.specs.declared.work.Phase.TheVariants.{Freezes}
 use Rattle.gate_world.specs.Configs.{IsWithin, model_limits}
 use Rattle.gate_world.specs.Fits.{Fits, mounts_by, levels_by}
 use Rattle.gate_world.specs.Levels.{closed_to}
-use Rattle.gate_world.specs.Rules.{IsGood, Nodes, owns, marks_of, ViewFits}
+use Rattle.gate_world.specs.Rules.{IsGood, Holds, Tree, owns, marks_of, ViewFits}
 use Rattle.gate_world.specs.Shown.{shown}
 use Rattle.gate_world.specs.Stages.{freeze_stage_role, stage_role_of, place_of}
 use Rattle.gate_world.specs.Views.{held_at, holds_level, phase_after, actions_after, view_with, added_by, taken_by}
 use Rattle.gate_world.specs.Levels.{level_added_by, level_taken_by}
 use Rattle.gate_world.specs.Worlds.{World}
+use Rattle.gate_world.specs.Trees.{tree_role_of, tree_roles, freeze_tree_role}
+use Rattle.gated_tree.specs.Nodes.{IsNode}
+use Rattle.gated_tree.specs.Roles.{Out as OffTree, Clearing}
+use Rattle.gated_tree.proofs.ClearedMarks.{directory_clean}
 use Rattle.gate_frames.proofs.Keeps.{by_bool}
+use Rattle.gate_frames.proofs.Trees.{shown_clean}
 use Rattle.gate_frames.proofs.Stages.{IsStageEvent, stages_in}
 use Rattle.freeze_frames.proofs.Standing.{Stands, LevelsHold, left_world, stand_after_closing}
 use Rattle.freeze_frames.proofs.DownLevels.{down_write_levels, passes_finds_nobody, swap_finds_clear, entered_by_nobody}
 use Rattle.freeze_frames.proofs.WriterParts.{LeavesRest, AsksWhere, WriterLaw, freeze_comes, down_write_comes}
 use Rattle.freeze_frames.proofs.WriterStages.{still_plays, stays_there, none_leaves}
-use Rattle.freeze_frames.proofs.WriterWords.{down_write_words, down_write_counts_none, down_write_adds, pass_leaves, writer_at_level}
+use Rattle.freeze_frames.proofs.WriterWords.{tree_beside, tree_begins, down_write_words, down_write_counts_none, down_write_adds, pass_leaves, writer_at_level}
 use Rattle.freeze_laws.proofs.FreezeFits.{freeze_goes}
-use Rattle.freeze_laws.proofs.FreezeStages.{freeze_stands, IsHere, Keeps, FitsHere, here_fits, here_stands, here_writes}
+use Rattle.freeze_laws.proofs.FreezeStages.{freeze_stands, IsHere, Keeps, FitsHere, here_fits, here_stands, here_tree, here_writes}
 
 -- once level 2 is passed the clearing of marks begins at node 1
 abbrev clean_from : ℕ → ℕ
@@ -115,6 +121,15 @@ closed_role : (x : Freeze) (level : ℕ) → 1 ≤ level → level ≤ 3 →
 closed_role x level = at_level
     (λ i. freeze_stage_role x.nodes (level_closed i x.nodes) ≡ Freezing i (HasPassed (clean_from i)) (nat_lt 1 i)) (refl, refl, refl) level
 
+-- a clearing of marks begins once level 2 is closed
+closed_tree : (nodes level : ℕ) → (freeze_tree_role nodes (level_closed level nodes) ≡ OffTree) ⊎
+    (freeze_tree_role nodes (level_closed level nodes) ≡ Clearing 1)
+closed_tree nodes level =
+    elim (eqb_tells level 1) [
+      | inl q ↦ rw q.0 (inl refl)
+      | inr q ↦ elim (eqb_tells level 2) [ inl p ↦ rw (q.0, p.0) (inr refl) | inr p ↦ rw (q.0, p.0) (inl refl) ]
+    ]
+
 -- how it stands with the levels then
 closed_stands : (x : Freeze) (level : ℕ) → 1 ≤ level → level ≤ 3 →
     Stands (Some (Freezes (at_freeze x (level_closed level x.nodes)))) (Some (closed_to level))
@@ -142,8 +157,9 @@ module _ (c : Config) (lim : IsWithin c) (w : World) (good : IsGood c w) (t : �
   root_clean level low high m l =
       let at_most : clean_from level ≤ 1 = at_level (λ i. clean_from i ≤ 1) (omega arith, omega arith, omega arith) level low high in
       let zero_is : m ≡ 0 = omega (arith, l, at_most) in
-      let plain = ((good Nodes).0 0).plain (good Nodes).1 in
-      ap (marks_of w.words) zero_is ∙ omega (arith, plain)
+      let there : IsNode (w.words.node 0) = (good Tree).words 0 (omega (arith, lim.some_node)) in
+      ap (marks_of w.words) zero_is ∙
+      shown_clean (w.words.node 0) there.packed.free (directory_clean (w.words.node 0) there (good Tree).root)
 
   -- what the last load of a sum is of the stage
   sum_happens : (d : DownWrite) → stage_role_of (w.views t).phase ≡ Freezing d.level Closing (nat_lt 1 d.level) → 1 ≤ d.level →
@@ -241,6 +257,22 @@ module _ (c : Config) (lim : IsWithin c) (w : World) (good : IsGood c w) (t : �
         fits_now.5 (here_stands c lim w good t lt x (Closes d) e) stands_then
         (entered_by_nobody c w good t lt (ap (λ p. has_position (stage_role_of p)) e) d.level)
 
+    -- what it does at the tree: nothing, or it begins to clear marks
+    tree_role_then : (tree_role_of view_then.trace view_then.phase ≡ OffTree) ⊎ (tree_role_of view_then.trace view_then.phase ≡ Clearing 1)
+    tree_role_then =
+        down_write_comes d (λ n. let p : Option Phase = phase_after (map_next Freezes (after_closing x d.level n)) in
+        (tree_role_of view_then.trace p ≡ OffTree) ⊎ (tree_role_of view_then.trace p ≡ Clearing 1))
+        (λ s. inl refl) (λ s. inl refl) (closed_tree x.nodes d.level) d.step found_here
+
+    -- what is left of the tree
+    tree_left : Holds c (left_world w t words_then view_then) Tree
+    tree_left =
+        let was : tree_roles w t ≡ OffTree = here_tree c lim w good t lt x (Closes d) e in
+        elim tree_role_then [
+          | inl now ↦ tree_beside c w good t lt words_then view_then (down_write_words w.words d d.step) (now ∙ sym was)
+          | inr now ↦ tree_begins c w good t lt words_then view_then lim (down_write_words w.words d d.step) was now
+        ]
+
     -- so its event keeps the rule, where it is this event of the stage
     closing_law : (kind : StageEvent) → IsStageEvent c w good t lt words_then view_then kind →
         stage_action_of kind (stages_in w) ≡ adds_here → AsksWhere (model_limits c) (shown c w) adds_here →
@@ -254,7 +286,7 @@ module _ (c : Config) (lim : IsWithin c) (w : World) (good : IsGood c w) (t : �
           added_same = (down_write_counts_none d d.step (added_by (w.views t).events)).0;
           taken_same = (down_write_counts_none d d.step (taken_by (w.views t).events)).1;
         })
-        fits_then (owns_then ∙ sym (ap owns e)) levels_then happens adds asks
+        fits_then (owns_then ∙ sym (ap owns e)) levels_then tree_left happens adds asks
         (down_write_adds d (λ a. LeavesRest (shown c w) (state_after (shown c w) t a) (shown c w).tree) (none_leaves c w good t lt)
         (pass_leaves (shown c w) t d.level) d.step found_here)
 

@@ -4,7 +4,7 @@ use Rattle.std.specs.Prelude.{◌==◌, if◌then◌else◌, Option, Some, None,
 use Rattle.std.proofs.lemmas.Bool.{cases_Bool, ltb-true, ltb-false}
 use Rattle.std.proofs.lemmas.Bool.Decides.{eqb_tells}
 use Rattle.finite_sums.specs.Sums.{update}
-use Rattle.finite_sums.proofs.Totals.{update_map, update_same, update_off, each_updated}
+use Rattle.finite_sums.proofs.Totals.{update_map, update_same}
 use Rattle.access_model.specs.Actions.{marked}
 use Rattle.access_model.specs.States.{IsFile}
 use Rattle.access_model.specs.Histories.{mounts_of, levels_of}
@@ -18,8 +18,12 @@ use Rattle.cpu_words.specs.Words.{Words, read, put}
 use Rattle.cpu_words.specs.declared.names.WordName.TheVariants.{Node}
 use Rattle.cpu_words.specs.declared.events.Touch.TheVariants.{And}
 use Rattle.gated_tree.specs.declared.marks.ClearMarks.{ClearMarks}
-use Rattle.gated_tree.specs.Nodes.{IsNode, kind_in, dirty_in, node_shown}
-use Rattle.gated_tree.proofs.ClearedMarks.{without_mark, cleared_node, cleared_shown, clean_stays, clears_mark}
+use Rattle.gated_tree.specs.Nodes.{IsNode, dirty_in, node_shown}
+use Rattle.gated_tree.specs.Roles.{Out as OffTree, Clearing, TreeState}
+use Rattle.gated_tree.proofs.ClearedMarks.{without_mark, cleared_shown, clean_stays, clears_mark}
+use Rattle.tree_laws.specs.Events.{Event, Clears, Passes, with_node}
+use Rattle.gate_world.specs.Trees.{tree_bounds, tree_of, tree_role_of, freeze_tree_role}
+use Rattle.gate_frames.proofs.Trees.{tree_after, nobody_reads}
 use Rattle.freeze_levels.specs.declared.freezes.Freeze.{Freeze}
 use Rattle.freeze_levels.specs.declared.freezes.FreezeStep.{FreezeStep}
 use Rattle.freeze_levels.specs.declared.freezes.FreezeStep.TheVariants.{Locks, LoadsStage, LoadsSuperblock, CompletesReadOnly, SetsWrite, Unlocks, Closes, LocksAgain, SetsPageFault, Cleans, SetsFs, SetsComplete, Reopens, Releases}
@@ -45,7 +49,7 @@ use Rattle.gate_world.specs.declared.work.Phase.TheVariants.{Freezes}
 use Rattle.gate_world.specs.Configs.{IsWithin, model_limits}
 use Rattle.gate_world.specs.Fits.{Fits, FreezeFits, mounts_by, levels_by}
 use Rattle.gate_world.specs.Levels.{closed_to, freeze_stand, level_added_by, level_taken_by}
-use Rattle.gate_world.specs.Rules.{IsGood, Nodes, owns, marks_of, ViewFits, Holds, StepKeeps}
+use Rattle.gate_world.specs.Rules.{IsGood, Tree, owns, marks_of, ViewFits, Holds, StepKeeps}
 use Rattle.gate_world.specs.Shown.{shown, stage_roles}
 use Rattle.gate_world.specs.Stages.{freeze_stage_role, stage_role_of}
 use Rattle.gate_world.specs.Views.{held_at, holds_level, phase_after, actions_after, view_with, added_by, taken_by}
@@ -57,9 +61,9 @@ use Rattle.freeze_frames.proofs.UpLevels.{up_write_levels}
 use Rattle.freeze_frames.proofs.WriterParts.{IsWriter, SameAtMounts, LeavesRest, AsksWhere, WriterLaw, writer_law, freeze_comes, freezes_write, freeze_work, whole_writer, reopening_owns}
 use Rattle.freeze_frames.proofs.WriterOwner.{owner_stays}
 use Rattle.freeze_frames.proofs.WriterStages.{still_plays, none_leaves}
-use Rattle.freeze_frames.proofs.WriterWords.{up_write_comes, up_write_words, up_write_counts_none, up_write_adds, reopen_leaves, writer_at_level}
+use Rattle.freeze_frames.proofs.WriterWords.{tree_beside, up_write_comes, up_write_words, up_write_counts_none, up_write_adds, reopen_leaves, writer_at_level}
 use Rattle.freeze_laws.proofs.FreezeFits.{freeze_goes}
-use Rattle.freeze_laws.proofs.FreezeStages.{freeze_stands, IsHere, Keeps, FitsHere, here_fits, here_stands, here_writes, goes_to, view_at, locks, loads_stage, loads_superblock, completes_read_only, sets_write, unlocks, locks_again, sets_page_fault, sets_fs, sets_complete, releases}
+use Rattle.freeze_laws.proofs.FreezeStages.{freeze_stands, IsHere, Keeps, FitsHere, here_fits, here_knows, here_stands, here_tree, here_writes, goes_to, view_at, locks, loads_stage, loads_superblock, completes_read_only, sets_write, unlocks, locks_again, sets_page_fault, sets_fs, sets_complete, releases}
 use Rattle.freeze_laws.proofs.FreezeCloses.{closes}
 
 -- what a freeze that failed does with the stage, with these levels still to be reopened
@@ -73,6 +77,10 @@ fails_stands x level code =
       | inl q ↦ rw q.0 (freeze_stands (at_freeze x (Releases (Err (Hook code)))))
       | inr q ↦ rw q.0 (freeze_stands (at_freeze x (Reopens (reopening level) code)))
     ]
+
+-- at the tree it does nothing then
+fails_tree : (x : Freeze) (level code : ℕ) → freeze_tree_role x.nodes (freeze_fails level code) ≡ OffTree
+fails_tree x level code = elim (eqb_tells level 0) [ inl q ↦ rw q.0 refl | inr q ↦ rw q.0 refl ]
 
 -- the event of the stage that comes with the last event of a transition: after that of level 1 the owner relies on nothing
 abbrev fails_kind : ℕ → StageEvent
@@ -88,6 +96,7 @@ module _ (c : Config) (lim : IsWithin c) (w : World) (good : IsGood c w) (t : �
   -- the clearing of a node's mark, after which this step comes
   module _ (marks : ClearMarks) (e : IsHere c lim w good t lt x (Cleans marks)) (s : FreezeStep) (fit : FreezeFits c s)
       (role : freeze_stage_role x.nodes s ≡ Freezing 2 (HasPassed (suc marks.node)) true)
+      (past : freeze_tree_role x.nodes s ≡ Clearing (suc marks.node))
       (stand : freeze_stand s ≡ Some (closed_to 2)) where
     -- the node's word
     abbrev node_word : ℕ
@@ -101,14 +110,23 @@ module _ (c : Config) (lim : IsWithin c) (w : World) (good : IsGood c w) (t : �
     abbrev cleared_view : Option Action → View
     cleared_view action = view_at c lim w good t lt x (Node marks.node, And 18446744073709551611) node_word hook s action
 
-    -- the nodes are nodes again
-    nodes_cleared : (v : View) → Holds c (left_world w t cleared_words v) Nodes
-    nodes_cleared v =
-        let f : FitsHere c lim w good t lt x (Cleans marks) = here_fits c lim w good t lt x (Cleans marks) e in (
-          λ n. each_updated (λ y (word : ℕ). IsNode word) w.words.node marks.node (without_mark node_word) n
-              (cleared_node node_word ((good Nodes).0 marks.node)) (λ ne. (good Nodes).0 n),
-          ap kind_in (update_off w.words.node marks.node (without_mark node_word) 0 (λ z. omega (arith, z, f.5.1))) ∙ (good Nodes).1,
-        )
+    -- the node is there
+    node_there : IsNode node_word
+    node_there =
+        let f : FitsHere c lim w good t lt x (Cleans marks) = here_fits c lim w good t lt x (Cleans marks) e in
+        (good Tree).words marks.node f.5.2
+
+    -- the tree after it
+    abbrev cleared_tree : TreeState
+    cleared_tree = with_node (tree_of w) marks.node (without_mark node_word) t (Clearing (suc marks.node))
+
+    -- is what is left of it
+    tree_cleared : (action : Option Action) → Event (tree_bounds c) (tree_of w) t cleared_tree action →
+        Holds c (left_world w t cleared_words (cleared_view action)) Tree
+    tree_cleared action event =
+        tree_after c w good t lt cleared_words (cleared_view action) lim action
+        (subst (λ r. Event (tree_bounds c) (tree_of w) t (with_node (tree_of w) marks.node (without_mark node_word) t r) action) (sym past)
+        event)
 
     -- it is that event of the stage
     mark_happens : (action : Option Action) →
@@ -117,7 +135,7 @@ module _ (c : Config) (lim : IsWithin c) (w : World) (good : IsGood c w) (t : �
       ap stage_role_of e,
       λ j. record (stages_in w) {
         dirty = (update_map dirty_in w.words.node marks.node (without_mark node_word) ∙
-            ap (update (marks_of w.words) marks.node) (clears_mark node_word ((good Nodes).0 marks.node).packed).dirty) j;
+            ap (update (marks_of w.words) marks.node) (clears_mark node_word node_there.packed).dirty) j;
         at = update (stage_roles w) t (role j);
       },
     )
@@ -126,8 +144,9 @@ module _ (c : Config) (lim : IsWithin c) (w : World) (good : IsGood c w) (t : �
     node_law : (action : Option Action) → SameAtMounts (w.views t) (cleared_view action) → ViewFits c t (cleared_view action) →
         cleaned marks.node (dirty_in node_word) ≡ action → AsksWhere (model_limits c) (shown c w) action →
         LeavesRest (shown c w) (state_after (shown c w) t action) (λ n. node_shown (cleared_words.node n)) →
+        Event (tree_bounds c) (tree_of w) t cleared_tree action →
         WriterLaw c w t cleared_words (cleared_view action) action
-    node_law action mounts fits adds asks rest =
+    node_law action mounts fits adds asks rest event =
         let v : View = cleared_view action in
         let was : IsWriter (w.views t).phase = here_writes c lim w good t lt x (Cleans marks) e in
         let now : IsWriter v.phase = freezes_write (at_freeze x s) in
@@ -142,7 +161,7 @@ module _ (c : Config) (lim : IsWithin c) (w : World) (good : IsGood c w) (t : �
               (record { held_same = mounts.levels_same; added_same = refl; taken_same = refl })
               (here_stands c lim w good t lt x (Cleans marks) e)
               (subst (Stands (Some (Freezes (at_freeze x s)))) stand (freeze_stands (at_freeze x s)));
-          nodes = nodes_cleared v;
+          tree = tree_cleared action event;
           fits = fits;
           happens = mark_happens action;
           adds = adds;
@@ -155,9 +174,11 @@ module _ (c : Config) (lim : IsWithin c) (w : World) (good : IsGood c w) (t : �
         WriterLaw c w t cleared_words (cleared_view (Some (Clean marks.node))) (Some (Clean marks.node))
     clears_set set =
         let f : FitsHere c lim w good t lt x (Cleans marks) = here_fits c lim w good t lt x (Cleans marks) e in
+        let k : w.words.stage ≡ 2 = here_knows c lim w good t lt x (Cleans marks) e in
+        let not_frozen : w.words.stage ≡ 4 → ⊥ = λ four. omega (arith, k, four) in
         let after : IsFile (node_shown node_word) ×
         (node_shown (without_mark node_word) ≡ option_map (marked false) (node_shown node_word)) =
-        cleared_shown node_word ((good Nodes).0 marks.node) set in
+        cleared_shown node_word node_there set in
         node_law (Some (Clean marks.node)) (record { held_same = refl; levels_same = refl; added_same = refl; taken_same = refl })
         (goes_to c lim w good t lt x (Cleans marks) s e fit) (ap (cleaned marks.node) set) (f.5.2, after.0)
         (record {
@@ -167,10 +188,12 @@ module _ (c : Config) (lim : IsWithin c) (w : World) (good : IsGood c w) (t : �
           tree_same = sym (update_map node_shown w.words.node marks.node (without_mark node_word) ∙
               ap (update (λ n. node_shown (w.words.node n)) marks.node) after.1);
         })
+        (Clears marks.node (inr (nobody_reads c w good not_frozen)) (here_tree c lim w good t lt x (Cleans marks) e) f.5.2 set)
 
     -- and where it was clear
     clears_clean : dirty_in node_word ≡ 0 → WriterLaw c w t cleared_words (cleared_view None) None
     clears_clean clean =
+        let f : FitsHere c lim w good t lt x (Cleans marks) = here_fits c lim w good t lt x (Cleans marks) e in
         node_law None (record { held_same = refl; levels_same = refl; added_same = refl; taken_same = refl })
         (goes_to c lim w good t lt x (Cleans marks) s e fit) (ap (cleaned marks.node) clean) tt
         (record {
@@ -178,9 +201,10 @@ module _ (c : Config) (lim : IsWithin c) (w : World) (good : IsGood c w) (t : �
           levels_same = refl;
           ro_same = refl;
           tree_same = sym ((λ j n. node_shown (update w.words.node marks.node
-              (clean_stays node_word ((good Nodes).0 marks.node) clean j) n)) ∙
+              (clean_stays node_word node_there clean j) n)) ∙
               (λ j n. node_shown (update_same w.words.node marks.node j n)));
         })
+        (Passes marks.node (here_tree c lim w good t lt x (Cleans marks) e) f.5.2 clean)
 
   -- clears the mark of a node
   cleans : (marks : ClearMarks) → IsHere c lim w good t lt x (Cleans marks) → Keeps c lim w good t lt x hook (Cleans marks)
@@ -190,19 +214,21 @@ module _ (c : Config) (lim : IsWithin c) (w : World) (good : IsGood c w) (t : �
       let more : FreezeStep = Cleans (record marks { node = marks.node + 1 }) in
       let next : freeze_stage_role x.nodes more ≡ Freezing 2 (HasPassed (suc marks.node)) true =
       ap (λ n. Freezing 2 (HasPassed n) true) (omega arith) in
+      let further : freeze_tree_role x.nodes more ≡ Clearing (suc marks.node) = ap Clearing (omega arith) in
       elim (cases_Bool (nat_lt (marks.node + 1) marks.nodes)) [
         | inl h ↦
             let fit : FreezeFits c more = (f.5.0, omega arith, omega (arith, f.5.0, ltb-true (marks.node + 1) marks.nodes h)) in
             elim (eqb_tells (dirty_in word) 1) [
-              | inl k ↦ rw (h, k.0) (clears_set marks e more fit next refl k.1)
-              | inr k ↦ rw (h, k.0) (clears_clean marks e more fit next refl (omega (arith, k.1)))
+              | inl k ↦ rw (h, k.0) (clears_set marks e more fit next further refl k.1)
+              | inr k ↦ rw (h, k.0) (clears_clean marks e more fit next further refl (omega (arith, k.1)))
             ]
         | inr h ↦
+            let all : x.nodes ≡ suc marks.node = omega (arith, f.3, f.5.0, f.5.2, ltb-false (marks.node + 1) marks.nodes h) in
             let last : freeze_stage_role x.nodes SetsFs ≡ Freezing 2 (HasPassed (suc marks.node)) true =
-            ap (λ n. Freezing 2 (HasPassed n) true) (omega (arith, f.3, f.5.0, f.5.2, ltb-false (marks.node + 1) marks.nodes h)) in
+            ap (λ n. Freezing 2 (HasPassed n) true) all in
             elim (eqb_tells (dirty_in word) 1) [
-              | inl k ↦ rw (h, k.0) (clears_set marks e SetsFs tt last refl k.1)
-              | inr k ↦ rw (h, k.0) (clears_clean marks e SetsFs tt last refl (omega (arith, k.1)))
+              | inl k ↦ rw (h, k.0) (clears_set marks e SetsFs tt last (ap Clearing all) refl k.1)
+              | inr k ↦ rw (h, k.0) (clears_clean marks e SetsFs tt last (ap Clearing all) refl (omega (arith, k.1)))
             ]
       ]
 
@@ -271,6 +297,19 @@ module _ (c : Config) (lim : IsWithin c) (w : World) (good : IsGood c w) (t : �
         })
         fits_now.5 (here_stands c lim w good t lt x (Reopens u code) e) stands_then
 
+    -- it does nothing at the tree
+    tree_role_then : tree_role_of view_then.trace view_then.phase ≡ OffTree
+    tree_role_then =
+        up_write_comes u
+        (λ n. tree_role_of view_then.trace (phase_after (map_next Freezes (after_reopening x u.level code n))) ≡ OffTree) (λ s. refl)
+        (fails_tree x (u.level - 1) code) u.step found_here
+
+    -- what is left of it
+    tree_left : Holds c (left_world w t words_then view_then) Tree
+    tree_left =
+        tree_beside c w good t lt words_then view_then (up_write_words w.words u u.step)
+        (tree_role_then ∙ sym (here_tree c lim w good t lt x (Reopens u code) e))
+
     -- so its event keeps the rule, where it is this event of the stage
     reopening_law : (kind : StageEvent) → IsStageEvent c w good t lt words_then view_then kind →
         stage_action_of kind (stages_in w) ≡ adds_here → WriterLaw c w t words_then view_then adds_here
@@ -283,7 +322,7 @@ module _ (c : Config) (lim : IsWithin c) (w : World) (good : IsGood c w) (t : �
           added_same = (up_write_counts_none u u.step (added_by (w.views t).events)).0;
           taken_same = (up_write_counts_none u u.step (taken_by (w.views t).events)).1;
         })
-        fits_then (owns_then ∙ sym (ap owns e ∙ reopening_owns u.level u.step)) levels_then happens adds
+        fits_then (owns_then ∙ sym (ap owns e ∙ reopening_owns u.level u.step)) levels_then tree_left happens adds
         (up_write_adds u (λ a. AsksWhere (model_limits c) (shown c w) a) tt tt u.step found_here)
         (up_write_adds u (λ a. LeavesRest (shown c w) (state_after (shown c w) t a) (shown c w).tree) (none_leaves c w good t lt)
         (reopen_leaves (shown c w) t u.level) u.step found_here)

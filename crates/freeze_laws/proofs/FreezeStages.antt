@@ -31,7 +31,11 @@ use Rattle.gate_world.specs.declared.work.Phase.TheVariants.{Freezes}
 use Rattle.gate_world.specs.Configs.{IsWithin}
 use Rattle.gate_world.specs.Fits.{Fits, PhaseFits, FreezeFits}
 use Rattle.gate_world.specs.Levels.{Stand, closed_to, freeze_stand}
-use Rattle.gate_world.specs.Rules.{IsGood, Fitting, Stages, owns, OwnerHolds}
+use Rattle.gate_world.specs.Rules.{IsGood, Holds, Fitting, Stages, Tree, owns, OwnerHolds}
+use Rattle.gate_world.specs.Trees.{tree_bounds, tree_of, tree_role_of, tree_roles, freeze_tree_role}
+use Rattle.gated_tree.specs.Roles.{Out as OffTree, TreeState, HasNoCharge, sealed_by}
+use Rattle.tree_laws.specs.Events.{Event as TreeEvent, turned, Leaves, Seals}
+use Rattle.gate_frames.proofs.Trees.{sealed_frozen, tree_then, tree_after}
 use Rattle.gate_world.specs.Stages.{freeze_stage_role, stage_role_of}
 use Rattle.gate_world.specs.Views.{held_at, holds_level, view_with}
 use Rattle.gate_world.specs.Worlds.{World}
@@ -42,7 +46,7 @@ use Rattle.freeze_frames.proofs.StandRoles.{closing_first, closing_next}
 use Rattle.freeze_frames.proofs.WholeLevels.{freezes_all}
 use Rattle.freeze_frames.proofs.WriterParts.{IsWriter, SameAtMounts, WriterKeeps, WriterLaw, freezes_write, idle_writes}
 use Rattle.freeze_frames.proofs.WriterOwner.{owner_stays, lock_taken, lock_given}
-use Rattle.freeze_frames.proofs.WriterStages.{stays_there, writer_beside, writer_stores, stored_levels}
+use Rattle.freeze_frames.proofs.WriterStages.{stays_there, writer_beside, writer_stores, stored_levels, stored_tree, opened_tree}
 
 -- how a freeze stands with the levels
 pub freeze_stands : (x : Freeze) → Stands (Some (Freezes x)) (freeze_stand x.step)
@@ -81,6 +85,10 @@ module _ (c : Config) (lim : IsWithin c) (w : World) (good : IsGood c w) (t : �
   pub here_stands : (s : FreezeStep) → IsHere s → Stands (w.views t).phase (freeze_stand s)
   here_stands s e = subst (λ p. Stands p (freeze_stand s)) (sym e) (freeze_stands (at_freeze x s))
 
+  -- it does so at the tree
+  pub here_tree : (s : FreezeStep) → IsHere s → tree_roles w t ≡ freeze_tree_role x.nodes s
+  here_tree s e = ap (tree_role_of (w.views t).trace) e
+
   -- it has no role at a mount
   pub here_writes : (s : FreezeStep) → IsHere s → IsWriter (w.views t).phase
   here_writes s e = subst IsWriter (sym e) (freezes_write (at_freeze x s))
@@ -98,9 +106,9 @@ module _ (c : Config) (lim : IsWithin c) (w : World) (good : IsGood c w) (t : �
       stage_owns (freeze_stage_role x.nodes s) ≡ 1 → stage_owns (freeze_stage_role x.nodes s') ≡ 1 → FreezeFits c s' →
       let v : View = view_at (StageWord, Store n) w.words.stage hook s' (Some (StageAction n)) in
       let ws : Words = record w.words { stage = n } in
-      LevelsHold c (left_world w t ws v) → IsStageEvent c w good t lt ws v kind →
+      LevelsHold c (left_world w t ws v) → Holds c (left_world w t ws v) Tree → IsStageEvent c w good t lt ws v kind →
       stage_action_of kind (stages_in w) ≡ Some (StageAction n) → WriterLaw c w t ws v (Some (StageAction n))
-  stores hook s s' e n kind o o' fit levels happens adds =
+  stores hook s s' e n kind o o' fit levels tree happens adds =
       let v : View = view_at (StageWord, Store n) w.words.stage hook s' (Some (StageAction n)) in
       let now : IsWriter v.phase = freezes_write (at_freeze x s') in
       writer_stores c w good t lt v (here_writes s e) now
@@ -108,7 +116,7 @@ module _ (c : Config) (lim : IsWithin c) (w : World) (good : IsGood c w) (t : �
       (record { held_same = refl; added_same = refl; taken_same = refl })
       (goes_to s s' e fit) n kind
       (owner_stays c w good t lt v (here_writes s e) now w.words refl refl (o' ∙ sym (ap owns e ∙ o)))
-      levels happens adds
+      levels tree happens adds
 
   -- which leaves the levels, where the file system is frozen as a whole or not as before
   kept_levels : (hook : HookAnswer) (s s' : FreezeStep) (e : IsHere s) (n : ℕ) (stand : Option Stand) →
@@ -120,6 +128,38 @@ module _ (c : Config) (lim : IsWithin c) (w : World) (good : IsGood c w) (t : �
       stored_levels c w good t lt v (record { held_same = refl; added_same = refl; taken_same = refl }) n stand whole
       (subst (Stands (w.views t).phase) before (here_stands s e)) after
 
+  -- and the tree, where it is sealed or not as before, and the freeze does there what it did
+  kept_tree : (hook : HookAnswer) (s s' : FreezeStep) (e : IsHere s) (n : ℕ) → freeze_tree_role x.nodes s' ≡ freeze_tree_role x.nodes s →
+      sealed_by w.words.sb n ≡ sealed_by w.words.sb w.words.stage →
+      let v : View = view_at (StageWord, Store n) w.words.stage hook s' (Some (StageAction n)) in
+      Holds c (left_world w t (record w.words { stage = n }) v) Tree
+  kept_tree hook s s' e n same sealed =
+      stored_tree c w good t lt (view_at (StageWord, Store n) w.words.stage hook s' (Some (StageAction n))) (same ∙ sym (here_tree s e)) n
+      sealed
+
+  -- a store of stage 3, with no mark left, seals the tree
+  sealed_tree : (v : View) → IsHere SetsFs → tree_role_of v.trace v.phase ≡ OffTree →
+      Holds c (left_world w t (record w.words { stage = 3 }) v) Tree
+  sealed_tree v e now =
+      let f : FitsHere SetsFs = here_fits SetsFs e in
+      let after : ◌≡◌ {A = TreeState} (tree_then c w good t lt (record w.words { stage = 3 }) v)
+      (record (turned (tree_of w) t OffTree) { sealed = 1 }) =
+      λ j. record (tree_of w) { sealed = sealed_frozen w.words.sb 3 (omega arith) j; at = update (tree_roles w) t (now j) } in
+      tree_after c w good t lt (record w.words { stage = 3 }) v lim None
+      (subst (λ s. TreeEvent (tree_bounds c) (tree_of w) t s None) (sym after) (Seals x.nodes (omega (arith, f.3)) (here_tree SetsFs e)))
+
+  -- one of stage 0 in its place leaves it as it was
+  left_tree : (v : View) → IsHere SetsFs → tree_role_of v.trace v.phase ≡ OffTree →
+      Holds c (left_world w t (record w.words { stage = 0 }) v) Tree
+  left_tree v e now =
+      let k : w.words.stage ≡ 2 = here_knows SetsFs e in
+      let sealed : sealed_by w.words.sb 0 ≡ sealed_by w.words.sb w.words.stage = rw k refl in
+      let after : tree_then c w good t lt (record w.words { stage = 0 }) v ≡ turned (tree_of w) t OffTree =
+      λ j. record (tree_of w) { sealed = sealed j; at = update (tree_roles w) t (now j) } in
+      tree_after c w good t lt (record w.words { stage = 0 }) v lim None
+      (subst (λ s. TreeEvent (tree_bounds c) (tree_of w) t s None) (sym after)
+      (Leaves (subst HasNoCharge (sym (here_tree SetsFs e)) (record { blocks = refl; children = λ d. refl }))))
+
   -- the superblock is read-only: stores stage 4 at once
   pub completes_read_only : (hook : HookAnswer) → IsHere CompletesReadOnly → Keeps hook CompletesReadOnly
   completes_read_only hook e =
@@ -127,6 +167,7 @@ module _ (c : Config) (lim : IsWithin c) (w : World) (good : IsGood c w) (t : �
       let s' : FreezeStep = Releases (Ok UnitReply) in
       stores hook CompletesReadOnly s' e 4 FreezesAtOnce refl refl tt
       (kept_levels hook CompletesReadOnly s' e 4 None (rw (k.0, k.1) refl) refl (freeze_stands (at_freeze x s')))
+      (kept_tree hook CompletesReadOnly s' e 4 refl (rw k.1 refl))
       (ap stage_role_of e, refl) refl
 
   -- stores stage 1
@@ -135,6 +176,7 @@ module _ (c : Config) (lim : IsWithin c) (w : World) (good : IsGood c w) (t : �
       let k : (w.words.stage ≡ 0) × (w.words.sb ≡ 0) = here_knows SetsWrite e in
       stores hook SetsWrite Unlocks e 1 Begins refl refl tt
       (kept_levels hook SetsWrite Unlocks e 1 None (rw k.0 refl) refl (freeze_stands (at_freeze x Unlocks)))
+      (kept_tree hook SetsWrite Unlocks e 1 refl (rw k.0 refl))
       (ap stage_role_of e, refl) refl
 
   -- stores stage 2, and begins to close level 2
@@ -146,6 +188,7 @@ module _ (c : Config) (lim : IsWithin c) (w : World) (good : IsGood c w) (t : �
       stores hook SetsPageFault s' e 2 (Advances 0) refl refl (omega arith, omega arith, f.1, f.2, tt, tt)
       (kept_levels hook SetsPageFault s' e 2 (Some (closed_to 1)) (rw k refl) refl
       (closing_next (Some (Freezes (at_freeze x s'))) 1 x.tasks x.processors (omega arith) (freeze_stands (at_freeze x s'))))
+      (kept_tree hook SetsPageFault s' e 2 refl (rw k refl))
       (ap stage_role_of e, refl) refl
 
   -- the file system has answered: stores stage 3, and begins to close level 3, or stores stage 0, and begins to reopen level 2
@@ -157,12 +200,14 @@ module _ (c : Config) (lim : IsWithin c) (w : World) (good : IsGood c w) (t : �
       stores (Ok answer) SetsFs s' e 3 (Syncs x.nodes) refl refl (omega arith, omega arith, f.1, f.2, tt, tt)
       (kept_levels (Ok answer) SetsFs s' e 3 (Some (closed_to 2)) (rw k refl) refl
       (closing_next (Some (Freezes (at_freeze x s'))) 2 x.tasks x.processors (omega arith) (freeze_stands (at_freeze x s'))))
+      (sealed_tree (view_at (StageWord, Store 3) w.words.stage (Ok answer) s' (Some (StageAction 3))) e refl)
       (ap stage_role_of e, omega (arith, f.3), refl) refl
   sets_fs (Err code) e =
       let k : w.words.stage ≡ 2 = here_knows SetsFs e in
       let s' : FreezeStep = freeze_fails 2 code in
       stores (Err code) SetsFs s' e 0 (Fails 2 x.nodes) refl refl (omega arith, omega arith, tt)
       (kept_levels (Err code) SetsFs s' e 0 (Some (closed_to 2)) (rw k refl) refl (freeze_stands (at_freeze x s')))
+      (left_tree (view_at (StageWord, Store 0) w.words.stage (Err code) s' (Some (StageAction 0))) e refl)
       (ap stage_role_of e, omega arith, refl) refl
 
   -- the same for stage 4, with which the closed levels are no task's own, or stage 0, after which level 3 is to be reopened
@@ -177,12 +222,16 @@ module _ (c : Config) (lim : IsWithin c) (w : World) (good : IsGood c w) (t : �
       (record { block_same = refl; level_same = refl; sync_same = refl; section_same = refl })
       (record { held_same = refl; added_same = refl; taken_same = refl }) (here_stands SetsComplete e) (freeze_stands (at_freeze x s'))
       (rw sb refl))
+      (kept_tree (Ok answer) SetsComplete s' e 4 refl
+      (sealed_frozen w.words.sb 4 (omega arith) ∙ sym (sealed_frozen w.words.sb w.words.stage (omega (arith, k)))))
       (ap stage_role_of e, refl) refl
   sets_complete (Err code) e =
       let k : w.words.stage ≡ 3 = here_knows SetsComplete e in
       let s' : FreezeStep = freeze_fails 3 code in
       stores (Err code) SetsComplete s' e 0 (Fails 3 0) refl refl (omega arith, omega arith, tt)
       (kept_levels (Err code) SetsComplete s' e 0 (Some (closed_to 3)) (rw k refl) refl (freeze_stands (at_freeze x s')))
+      (opened_tree c w good t lt lim (view_at (StageWord, Store 0) w.words.stage (Err code) s' (Some (StageAction 0)))
+      (sym (here_tree SetsComplete e)))
       (ap stage_role_of e, omega arith, refl) refl
 
   -- an event that leaves all words but `umount`, after which this step comes
@@ -191,14 +240,14 @@ module _ (c : Config) (lim : IsWithin c) (w : World) (good : IsGood c w) (t : �
       let v : View = view_at (word, touch) value hook s' None in
       SameAtMounts (w.views t) v → SameLevelCounts (w.views t) v → FreezeFits c s' →
       OwnerHolds c.tasks n w.words.remount (λ y. (update w.views t v y).phase) →
-      freeze_stand s ≡ stand → Stands (Some (Freezes (at_freeze x s'))) stand →
+      freeze_stand s ≡ stand → Stands (Some (Freezes (at_freeze x s'))) stand → freeze_tree_role x.nodes s' ≡ freeze_tree_role x.nodes s →
       IsStageEvent c w good t lt (record w.words { umount = n }) v kind → stage_action_of kind (stages_in w) ≡ None →
       WriterLaw c w t (record w.words { umount = n }) v None
-  beside s s' e n value word touch hook stand kind mounts levels fit owner before after happens adds =
+  beside s s' e n value word touch hook stand kind mounts levels fit owner before after same happens adds =
       writer_beside c w good t lt (view_at (word, touch) value hook s' None) (here_writes s e)
       (freezes_write (at_freeze x s')) mounts levels
       (goes_to s s' e fit) n stand kind owner
-      (subst (Stands (w.views t).phase) before (here_stands s e)) after happens adds
+      (subst (Stands (w.views t).phase) before (here_stands s e)) after (same ∙ sym (here_tree s e)) happens adds
 
   -- the view after the lock was tried, which left this in `umount`, with this step to come
   abbrev tried : HookAnswer → ℕ → FreezeStep → View
@@ -214,15 +263,15 @@ module _ (c : Config) (lim : IsWithin c) (w : World) (good : IsGood c w) (t : �
   tries : (s s' : FreezeStep) (e : IsHere s) (n : ℕ) (hook : HookAnswer) (stand : Option Stand) (kind : StageEvent) →
       let v : View = tried hook n s' in
       FreezeFits c s' → OwnerHolds c.tasks n w.words.remount (λ y. (update w.views t v y).phase) →
-      freeze_stand s ≡ stand → freeze_stand s' ≡ stand →
+      freeze_stand s ≡ stand → freeze_stand s' ≡ stand → freeze_tree_role x.nodes s' ≡ freeze_tree_role x.nodes s →
       IsStageEvent c w good t lt (record w.words { umount = n }) v kind → stage_action_of kind (stages_in w) ≡ None →
       WriterLaw c w t (record w.words { umount = n }) v None
-  tries s s' e n hook stand kind fit owner before after happens adds =
+  tries s s' e n hook stand kind fit owner before after same happens adds =
       writer_beside c w good t lt (tried hook n s') (here_writes s e) (freezes_write (at_freeze x s'))
       (record { held_same = refl; levels_same = refl; added_same = refl; taken_same = refl })
       (record { held_same = refl; added_same = refl; taken_same = refl }) (goes_to s s' e fit) n stand kind owner
       (subst (Stands (w.views t).phase) before (here_stands s e))
-      (subst (Stands (Some (Freezes (at_freeze x s')))) after (freeze_stands (at_freeze x s'))) happens adds
+      (subst (Stands (Some (Freezes (at_freeze x s')))) after (freeze_stands (at_freeze x s'))) (same ∙ sym (here_tree s e)) happens adds
 
   -- in vain: the same step comes again
   tries_again : (s : FreezeStep) (e : IsHere s) (hook : HookAnswer) → FreezeFits c s →
@@ -230,7 +279,7 @@ module _ (c : Config) (lim : IsWithin c) (w : World) (good : IsGood c w) (t : �
   tries_again s e hook fit =
       let v : View = tried hook w.words.umount s in
       tries s s e w.words.umount hook (freeze_stand s) Stays fit
-      (owner_stays c w good t lt v (here_writes s e) (freezes_write (at_freeze x s)) w.words refl refl (sym (ap owns e))) refl refl
+      (owner_stays c w good t lt v (here_writes s e) (freezes_write (at_freeze x s)) w.words refl refl (sym (ap owns e))) refl refl refl
       (stays_there c w good t lt w.words v
       (record { stage_same = refl; sb_same = refl; remount_same = refl; block_same = refl; node_same = refl })
       (sym (ap stage_role_of e))) refl
@@ -245,7 +294,7 @@ module _ (c : Config) (lim : IsWithin c) (w : World) (good : IsGood c w) (t : �
             tries Locks LoadsStage e (x.task + 1) hook None LocksStage tt
             (lock_taken c w good t lt v (here_writes Locks e) (freezes_write (at_freeze x LoadsStage)) (x.task + 1) h.1
             (omega (arith, f.0)) refl)
-            refl refl (ap stage_role_of e, nobody_owns c w good h.1, refl) refl)
+            refl refl refl (ap stage_role_of e, nobody_owns c w good h.1, refl) refl)
         | inr h ↦ rw h.0 (tries_again Locks e hook tt)
       ]
 
@@ -259,7 +308,7 @@ module _ (c : Config) (lim : IsWithin c) (w : World) (good : IsGood c w) (t : �
             tries LocksAgain SetsPageFault e (x.task + 1) hook (Some (closed_to 1)) (LocksStageAgain 1 (HasPassed 0)) tt
             (lock_taken c w good t lt v (here_writes LocksAgain e) (freezes_write (at_freeze x SetsPageFault)) (x.task + 1) h.1
             (omega (arith, f.0)) refl)
-            refl refl (ap stage_role_of e, nobody_owns c w good h.1, refl) refl)
+            refl refl refl (ap stage_role_of e, nobody_owns c w good h.1, refl) refl)
         | inr h ↦ rw h.0 (tries_again LocksAgain e hook tt)
       ]
 
@@ -274,7 +323,7 @@ module _ (c : Config) (lim : IsWithin c) (w : World) (good : IsGood c w) (t : �
       (record { held_same = refl; added_same = refl; taken_same = refl }) (omega arith, omega arith, f.1, f.2, tt, tt)
       (lock_given c w good t lt v (here_writes Unlocks e) (freezes_write (at_freeze x s')) (ap owns e) refl)
       refl (closing_first (Some (Freezes (at_freeze x s'))) x.tasks x.processors (freeze_stands (at_freeze x s')))
-      (ap stage_role_of e, refl) refl
+      refl (ap stage_role_of e, refl) refl
 
   -- gives it back at the end
   pub releases : (hook : HookAnswer) (answer : Result Reply GateError) → IsHere (Releases answer) → Keeps hook (Releases answer)
@@ -285,20 +334,20 @@ module _ (c : Config) (lim : IsWithin c) (w : World) (good : IsGood c w) (t : �
       (record { held_same = refl; levels_same = refl; added_same = refl; taken_same = refl })
       (record { held_same = refl; added_same = refl; taken_same = refl }) tt 0 None (ReleasesStage None None)
       (lock_given c w good t lt v (here_writes s e) idle_writes (ap owns e) refl)
-      (here_stands s e) idle_stands (ap stage_role_of e, refl) refl
+      (here_stands s e) idle_stands (sym (here_tree s e)) (ap stage_role_of e, refl) refl
 
   -- a load by the owner, after which this step comes
   loads : (hook : HookAnswer) (word : WordName) (value : ℕ) (s s' : FreezeStep) (e : IsHere s) (kind : StageEvent) →
       let v : View = view_at (word, Load) value hook s' None in
       stage_owns (freeze_stage_role x.nodes s) ≡ 1 → stage_owns (freeze_stage_role x.nodes s') ≡ 1 →
-      freeze_stand s ≡ None → freeze_stand s' ≡ None → FreezeFits c s' →
-      SameAtMounts (w.views t) v → SameLevelCounts (w.views t) v →
+      freeze_stand s ≡ None → freeze_stand s' ≡ None → freeze_tree_role x.nodes s' ≡ freeze_tree_role x.nodes s →
+      FreezeFits c s' → SameAtMounts (w.views t) v → SameLevelCounts (w.views t) v →
       IsStageEvent c w good t lt w.words v kind → stage_action_of kind (stages_in w) ≡ None → WriterLaw c w t w.words v None
-  loads hook word value s s' e kind o o' before after fit mounts levels happens adds =
+  loads hook word value s s' e kind o o' before after same fit mounts levels happens adds =
       let v : View = view_at (word, Load) value hook s' None in
       beside s s' e w.words.umount value word Load hook None kind mounts levels fit
       (owner_stays c w good t lt v (here_writes s e) (freezes_write (at_freeze x s')) w.words refl refl (o' ∙ sym (ap owns e ∙ o)))
-      before (subst (Stands (Some (Freezes (at_freeze x s')))) after (freeze_stands (at_freeze x s'))) happens adds
+      before (subst (Stands (Some (Freezes (at_freeze x s')))) after (freeze_stands (at_freeze x s'))) same happens adds
 
   -- an owner that found a word so relies on it
   finds : (s : FreezeStep) (e : IsHere s) (v : View) (kind : StageEvent) → (found value : ℕ) → found ≡ value → (role : ℕ → StageRole) →
@@ -311,12 +360,12 @@ module _ (c : Config) (lim : IsWithin c) (w : World) (good : IsGood c w) (t : �
   pub loads_stage : (hook : HookAnswer) → IsHere LoadsStage → Keeps hook LoadsStage
   loads_stage hook e =
       elim (eqb_tells w.words.stage 0) [
-        | inl h ↦ rw h.0 (loads hook StageWord w.words.stage LoadsStage LoadsSuperblock e (FindsStage None None) refl refl refl refl tt
+        | inl h ↦ rw h.0 (loads hook StageWord w.words.stage LoadsStage LoadsSuperblock e (FindsStage None None) refl refl refl refl refl tt
             (record { held_same = refl; levels_same = refl; added_same = refl; taken_same = refl })
             (record { held_same = refl; added_same = refl; taken_same = refl })
             (finds LoadsStage e (view_at (StageWord, Load) w.words.stage hook LoadsSuperblock None) (FindsStage None None) w.words.stage 0
             h.1 (λ n. Owning (Some n) None) (ap stage_role_of e, refl) refl) refl)
-        | inr h ↦ rw h.0 (loads hook StageWord w.words.stage LoadsStage (Releases (Err Busy)) e Stays refl refl refl refl tt
+        | inr h ↦ rw h.0 (loads hook StageWord w.words.stage LoadsStage (Releases (Err Busy)) e Stays refl refl refl refl refl tt
             (record { held_same = refl; levels_same = refl; added_same = refl; taken_same = refl })
             (record { held_same = refl; added_same = refl; taken_same = refl })
             (stays_there c w good t lt w.words (view_at (StageWord, Load) w.words.stage hook (Releases (Err Busy)) None)
@@ -328,13 +377,13 @@ module _ (c : Config) (lim : IsWithin c) (w : World) (good : IsGood c w) (t : �
   pub loads_superblock : (hook : HookAnswer) → IsHere LoadsSuperblock → Keeps hook LoadsSuperblock
   loads_superblock hook e =
       elim (eqb_tells w.words.sb 0) [
-        | inl h ↦ rw h.0 (loads hook SbFlags w.words.sb LoadsSuperblock SetsWrite e (LoadsSb (Some 0) None) refl refl refl refl tt
+        | inl h ↦ rw h.0 (loads hook SbFlags w.words.sb LoadsSuperblock SetsWrite e (LoadsSb (Some 0) None) refl refl refl refl refl tt
             (record { held_same = refl; levels_same = refl; added_same = refl; taken_same = refl })
             (record { held_same = refl; added_same = refl; taken_same = refl })
             (finds LoadsSuperblock e (view_at (SbFlags, Load) w.words.sb hook SetsWrite None) (LoadsSb (Some 0) None) w.words.sb 0 h.1
             (λ n. Owning (Some 0) (Some n)) (ap stage_role_of e, refl) refl) refl)
-        | inr h ↦ rw h.0 (loads hook SbFlags w.words.sb LoadsSuperblock CompletesReadOnly e (LoadsSb (Some 0) None) refl refl refl refl tt
-            (record { held_same = refl; levels_same = refl; added_same = refl; taken_same = refl })
+        | inr h ↦ rw h.0 (loads hook SbFlags w.words.sb LoadsSuperblock CompletesReadOnly e (LoadsSb (Some 0) None) refl refl refl refl refl
+            tt (record { held_same = refl; levels_same = refl; added_same = refl; taken_same = refl })
             (record { held_same = refl; added_same = refl; taken_same = refl })
             (finds LoadsSuperblock e (view_at (SbFlags, Load) w.words.sb hook CompletesReadOnly None) (LoadsSb (Some 0) None) w.words.sb
             1 (omega (arith, h.1, (good Stages).superblock)) (λ n. Owning (Some 0) (Some n)) (ap stage_role_of e, refl) refl) refl)

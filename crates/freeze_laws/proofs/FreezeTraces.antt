@@ -14,10 +14,8 @@ use Rattle.access_model.specs.declared.replies.Reply.{Reply}
 use Rattle.access_model.specs.declared.replies.Reply.TheVariants.{Unit as UnitReply}
 use Rattle.access_model.specs.Replies.{map_next}
 use Rattle.access_model.specs.Histories.{mounts_of, levels_of}
-use Rattle.cpu_words.specs.declared.names.WordName.{WordName}
-use Rattle.cpu_words.specs.declared.names.WordName.TheVariants.{Umount, Stage, Block, Node}
-use Rattle.cpu_words.specs.declared.events.Touch.{Touch}
-use Rattle.cpu_words.specs.declared.events.Touch.TheVariants.{Store, And}
+use Rattle.cpu_words.specs.declared.names.WordName.TheVariants.{Umount, Stage, Block}
+use Rattle.cpu_words.specs.declared.events.Touch.TheVariants.{Store}
 use Rattle.cpu_words.specs.Hooks.{HookAnswer}
 use Rattle.cpu_words.specs.Touches.{event_of, found_by}
 use Rattle.mount_counts.specs.Phases.{has_flag}
@@ -63,7 +61,7 @@ use Rattle.gate_world.specs.declared.work.Phase.TheVariants.{Freezes}
 use Rattle.gate_world.specs.declared.views.Traced.{Traced}
 use Rattle.gate_world.specs.Configs.{IsWithin}
 use Rattle.gate_world.specs.Courses.{IsTrace, course_of}
-use Rattle.gate_world.specs.Found.{found_sealed, stored_stage, cleans, clean_found, ReadAnswer}
+use Rattle.gate_world.specs.Found.{found_sealed, stored_stage, cleans, ReadAnswer}
 use Rattle.gate_world.specs.Operations.{two_levels_closed, all_levels_closed}
 use Rattle.gate_world.specs.Traces.{actions_of, IsHonestAnswer, Tells, IsShort, most_events}
 use Rattle.gate_world.specs.Views.{actions_after, with_hook}

@@ -2,7 +2,7 @@
 use Rattle.std.proofs.Common.{refl, ◌∙◌, inr, ℕ, arith, ◌≤◌, ◌≡◌, subst, suc, ◌-◌, ◌<◌, zero, sym, inl, ap, ◌+◌}
 use Rattle.std.proofs.lemmas.Bool.{ne_eqb}
 use Rattle.std.proofs.lemmas.Bool.Decides.{eqb_tells}
-use Rattle.std.specs.Prelude.{if◌then◌else◌, Option, Some, None, ◌==◌, Result, Ok, ◌∷◌, Err}
+use Rattle.std.specs.Prelude.{if◌then◌else◌, List, Option, Some, None, ◌==◌, Result, Ok, ◌∷◌, Err}
 use Rattle.finite_sums.specs.Sums.{update}
 use Rattle.access_model.specs.Histories.{mounts_of, levels_of}
 use Rattle.access_model.specs.Replies.{map_next}
@@ -87,6 +87,9 @@ use Rattle.gate_world.specs.Views.{
   taken_by,
 }
 use Rattle.gate_world.specs.Worlds.{World}
+use Rattle.gate_world.specs.Trees.{tree_role_of}
+use Rattle.gate_world.specs.declared.views.Traced.{Traced}
+use Rattle.gated_tree.specs.Roles.{Out as OffTree}
 use Rattle.gate_world.specs.declared.config.Config.{Config}
 use Rattle.gate_world.specs.declared.views.View.{View}
 use Rattle.gate_world.specs.declared.work.Phase.TheVariants.{Thaws}
@@ -111,8 +114,8 @@ use Rattle.freeze_frames.proofs.WriterParts.{
   thaw_comes,
   whole_writer,
 }
-use Rattle.freeze_frames.proofs.WriterStages.{writer_beside, writer_stores, stored_levels, stays_there, none_leaves, SameStageWords}
-use Rattle.freeze_frames.proofs.WriterWords.{writer_at_level, up_write_words, up_write_counts_none, up_write_adds, reopen_leaves}
+use Rattle.freeze_frames.proofs.WriterStages.{opened_tree, writer_beside, writer_stores, stored_levels, stays_there, none_leaves, SameStageWords}
+use Rattle.freeze_frames.proofs.WriterWords.{tree_beside, writer_at_level, up_write_words, up_write_counts_none, up_write_adds, reopen_leaves}
 use Rattle.thaw_laws.proofs.ThawFits.{thaw_goes}
 
 -- owners that rely on one thing or another are alike
@@ -164,6 +167,12 @@ module _ (x : Thaw) where
   opening_owns level (Go u) = reopening_owns u.level u.step
   opening_owns level (Wait u) = reopening_owns u.level u.step
   opening_owns level (Done answer) = opens_own (level - 1)
+
+-- a thaw does nothing at the tree, whatever comes after an event of it
+tree_comes : (trace : List Traced) (n : Next Thaw) → tree_role_of trace (phase_after (map_next Thaws n)) ≡ OffTree
+tree_comes trace (Go x) = refl
+tree_comes trace (Wait x) = refl
+tree_comes trace (Done answer) = refl
 
 -- a role that is like this one, relies on what is so, and has cleared nodes that are clean
 abbrev GoesOn : StageRole → ℕ → ℕ → (ℕ → ℕ) → StageRole → Type 0
@@ -217,6 +226,10 @@ module _ (c : Config) (lim : IsWithin c) (w : World) (good : IsGood c w) (t : �
   pub here_stands : (s : ThawStep) → IsHere s → Stands (w.views t).phase (thaw_stand s)
   here_stands s e = subst (λ p. Stands p (thaw_stand s)) (sym e) (thaw_stands (at_thaw x s))
 
+  -- it does nothing at the tree
+  here_off_tree : (s : ThawStep) → IsHere s → tree_role_of (w.views t).trace (w.views t).phase ≡ OffTree
+  here_off_tree s e = ap (tree_role_of (w.views t).trace) e
+
   -- it has no role at a mount
   here_writes : (s : ThawStep) → IsHere s → IsWriter (w.views t).phase
   here_writes s e = subst IsWriter (sym e) (thaws_write (at_thaw x s))
@@ -248,7 +261,7 @@ module _ (c : Config) (lim : IsWithin c) (w : World) (good : IsGood c w) (t : �
       (goes_to s s' e fit) w.words.umount None (Recalls (Owning stage sb) (Owning stage' sb'))
       (owner_stays c w good t lt v (here_writes s e) now w.words refl refl (ap stage_owns role' ∙ sym (ap owns e ∙ ap stage_owns role)))
       (subst (Stands (w.views t).phase) none (here_stands s e))
-      (subst (Stands (Some (Thaws (at_thaw x s')))) none' (thaw_stands (at_thaw x s'))) (
+      (subst (Stands (Some (Thaws (at_thaw x s')))) none' (thaw_stands (at_thaw x s'))) (sym (here_off_tree s e)) (
         ap stage_role_of e ∙ role,
         owners_alike stage sb stage' sb',
         knows,
@@ -272,7 +285,7 @@ module _ (c : Config) (lim : IsWithin c) (w : World) (good : IsGood c w) (t : �
       (record { held_same = refl; added_same = refl; taken_same = refl })
       (goes_to s s' e fit) 0 kind
       (owner_stays c w good t lt v (here_writes s e) now w.words refl refl (own' ∙ sym (ap owns e ∙ own)))
-      levels happens adds
+      levels (opened_tree c w good t lt lim v (sym (here_off_tree s e))) happens adds
 
   -- gives `umount` back; meets: the next owner takes it
   gives_back : (hook : HookAnswer) (s : ThawStep) (e : IsHere s) → thaw_stand s ≡ None → (answer : Result Reply GateError)
@@ -286,7 +299,8 @@ module _ (c : Config) (lim : IsWithin c) (w : World) (good : IsGood c w) (t : �
       (record { held_same = refl; added_same = refl; taken_same = refl })
       tt 0 None (ReleasesStage stage sb)
       (lock_given c w good t lt v (here_writes s e) idle_writes (ap owns e ∙ ap stage_owns role) refl)
-      (subst (Stands (w.views t).phase) none (here_stands s e)) idle_stands (ap stage_role_of e ∙ role, refl) refl
+      (subst (Stands (w.views t).phase) none (here_stands s e)) idle_stands (sym (here_off_tree s e)) (ap stage_role_of e ∙ role, refl)
+      refl
 
   -- the view after the lock was tried, which left this in `umount`
   abbrev tried : HookAnswer → ℕ → ThawStep → View
@@ -308,7 +322,7 @@ module _ (c : Config) (lim : IsWithin c) (w : World) (good : IsGood c w) (t : �
       (record { held_same = refl; levels_same = refl; added_same = refl; taken_same = refl })
       (record { held_same = refl; added_same = refl; taken_same = refl })
       (goes_to Locks s e fit) n None kind owner (here_stands Locks e)
-      (subst (Stands (Some (Thaws (at_thaw x s)))) none (thaw_stands (at_thaw x s))) happens adds
+      (subst (Stands (Some (Thaws (at_thaw x s)))) none (thaw_stands (at_thaw x s))) (sym (here_off_tree Locks e)) happens adds
 
   -- takes `umount` where it is free; meets: its owner gives it back last
   locks : (hook : HookAnswer) → IsHere Locks → Keeps hook Locks
@@ -454,6 +468,8 @@ module _ (c : Config) (lim : IsWithin c) (w : World) (good : IsGood c w) (t : �
           taken_same = (none (level_taken_by (w.views t).events)).3;
         })
         f.2 (here_stands (Reopens u) e) (opening_stands x u.level next_here.0))
+        (tree_beside c w good t lt words_here view_here (up_write_words w.words u u.step)
+        (tree_comes view_here.trace (after_opening x u.level next_here.0) ∙ sym (here_off_tree (Reopens u) e)))
         happens adds
         (up_write_adds u (AsksWhere (model_limits c) (shown c w)) tt tt u.step found_here)
         (up_write_adds u (λ a. LeavesRest (shown c w) (state_after (shown c w) t a) (shown c w).tree)

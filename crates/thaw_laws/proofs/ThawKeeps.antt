@@ -43,6 +43,7 @@ thaw_op c = record {
   counts_not = λ t i. refl;
   apart = λ t i. refl;
   outside = λ t. refl;
+  off_tree = λ t trace. refl;
   cause = λ t w earlier. tt;
   order_agrees = λ f g h k mounts levels there. none_agree c 0 f g h k mounts levels;
   room_agrees = λ f g mounts there. refl;
