@@ -26,7 +26,7 @@ use Rattle.gate_world.specs.Fits.{Fits, FreezeFits, PhaseFits}
 use Rattle.gate_world.specs.Rules.{IsGood, Holds, Tree, Stages, Fitting, marks_of}
 use Rattle.gate_world.specs.Shown.{stage_roles}
 use Rattle.gate_world.specs.Stages.{stage_role_of, remount_stage_role, freeze_stage_role, reopening_role, snapshot_stage_role, thaw_stage_role, tree_stage_role, place_of}
-use Rattle.gate_world.specs.Trees.{tree_bounds, tree_of, tree_role_of, tree_roles, is_sealed, remount_tree_role, freeze_tree_role, tree_role_of, tree_role_of, tree_role_of, tree_role_of, tree_role_of, tree_role_of, tree_role_of, tree_role_of, tree_role_of, tree_role_of, tree_role_of, tree_role_of, tree_role_of, tree_role_of, tree_role_of, tree_role_of, tree_role_of, tree_role_of, tree_role_of, tree_role_of, tree_role_of, tree_role_of, tree_role_of, tree_role_of, tree_role_of, tree_role_of, tree_role_of, tree_role_of, tree_role_of, tree_role_of, tree_role_of, tree_role_of, tree_role_of, tree_role_of, tree_role_of, tree_role_of, tree_role_of, tree_role_of, tree_role_of, nodes_noted}
+use Rattle.gate_world.specs.Trees.{tree_bounds, tree_of, tree_role_of, tree_roles, is_sealed, remount_tree_role, freeze_tree_role, nodes_noted}
 use Rattle.gate_world.specs.Views.{held_at, holds_level}
 use Rattle.gate_world.specs.Worlds.{World}
 use Rattle.std.proofs.lemmas.Bool.{le-leb}

@@ -12,7 +12,7 @@ use Rattle.cpu_words.specs.Names.{IsWord}
 use Rattle.cpu_words.specs.Words.{read}
 use Rattle.cpu_words.specs.declared.names.WordName.{WordName}
 use Rattle.cpu_words.specs.declared.names.WordName.TheVariants.{Umount, Stage, SbFlags, Remount}
-use Rattle.mntgate.specs.Transcript.{Play, count_up, nonzero_line, mount_part, level_part, section_line, words_text}
+use Rattle.mntgate.specs.Transcript.{Play, count_up, nonzero_line, mount_part, level_part, section_line, node_word_line, kids_line, tree_words_text, words_text}
 use Rattle.mntgate.specs.CoreSessions.{ShowsPlay}
 use Rattle.mntgate.specs.declared.core_session.CoreSession.{CoreSession}
 
@@ -90,3 +90,15 @@ all_words p o a b c d e f g h i ea eb ec ed ee ef eg eh ei =
     let t = nine o (line Umount) (line Stage) (line SbFlags) (line Remount) mounts (level_part p 1) (level_part p 2) (level_part p 3)
     sections in
     joined i h g f e d c b a o _ _ _ _ _ _ _ _ _ ei eh eg ef ee ed ec eb ea ∙ t
+
+-- what `tree` prints: the blocks charged, the nodes and the children
+pub all_tree_words : (p : Play) (o a b c : List ℕ) → a ≡ o ++ nonzero_line p.world Used →
+    b ≡ a ++ flat_map (node_word_line p) (count_up p.config.nodes) → c ≡ b ++ flat_map (kids_line p) (count_up p.config.nodes) →
+    c ≡ o ++ tree_words_text p
+unfolding tree_words_text
+all_tree_words p o a b c ea eb ec =
+    let used = nonzero_line p.world Used in
+    let nodes = flat_map (node_word_line p) (count_up p.config.nodes) in
+    let kids = flat_map (kids_line p) (count_up p.config.nodes) in
+    let whole : ((o ++ used) ++ nodes) ++ kids ≡ o ++ (used ++ nodes ++ kids) = simp append_assoc in
+    ec ∙ (ap (λ l. l ++ kids) (eb ∙ ap (λ l. l ++ nodes) ea) ∙ whole)

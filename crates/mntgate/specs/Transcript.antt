@@ -9,7 +9,7 @@ use Rattle.access_model.specs.States.{State}
 use Rattle.access_model.specs.Histories.{Done, end_of}
 use Rattle.cpu_words.specs.Hooks.{HookAnswer}
 use Rattle.cpu_words.specs.declared.names.WordName.{WordName}
-use Rattle.cpu_words.specs.declared.names.WordName.TheVariants.{Umount, Stage, SbFlags, Remount, MountFlags, MountCount, Block, Sync, LevelCount, Section}
+use Rattle.cpu_words.specs.declared.names.WordName.TheVariants.{Umount, Stage, SbFlags, Remount, MountFlags, MountCount, Block, Sync, LevelCount, Section, Used, Node, Kids}
 use Rattle.cpu_words.specs.Words.{read}
 use Rattle.gate_world.specs.declared.config.Config.{Config}
 use Rattle.gate_world.specs.Worlds.{World, Entry, Begins, Steps, happens, action_of, task_of, with_action, opening}
@@ -20,7 +20,7 @@ use Rattle.schedule_text.specs.declared.commands.HookFailure.{HookFailure}
 use Rattle.schedule_text.specs.declared.commands.Line.{Line}
 use Rattle.schedule_text.specs.declared.commands.Line.TheVariants.{Skipped, Config as ConfigLine, Request as RequestLine}
 use Rattle.schedule_text.specs.declared.commands.Request.{Request}
-use Rattle.schedule_text.specs.declared.commands.Request.TheVariants.{Words, Model, Task}
+use Rattle.schedule_text.specs.declared.commands.Request.TheVariants.{Words, Tree, Model, Task}
 use Rattle.schedule_text.specs.declared.commands.TaskCommand.{TaskCommand}
 use Rattle.schedule_text.specs.declared.commands.TaskCommand.TheVariants.{Begin, Step, Run}
 use Rattle.schedule_text.specs.declared.faults.Fault.{Fault}
@@ -89,6 +89,18 @@ unfoldable pub words_text : Play → List ℕ
 words_text p =
     words_of p (Umount ∷ Stage ∷ SbFlags ∷ Remount ∷ []) ++ flat_map (mount_part p) (count_up p.config.mounts) ++
     flat_map (level_part p) (1 ∷ 2 ∷ 3 ∷ []) ++ flat_map (section_line p) (count_up p.config.tasks)
+
+-- what is printed of a node's word, and of the children charged to it
+abbrev pub node_word_line : Play → ℕ → List ℕ
+node_word_line p n = nonzero_line p.world (Node n)
+
+abbrev pub kids_line : Play → ℕ → List ℕ
+kids_line p n = nonzero_line p.world (Kids n)
+
+-- `tree`: each word of the tree that isn't 0: the blocks charged, all nodes, the children charged to each
+unfoldable pub tree_words_text : Play → List ℕ
+tree_words_text p =
+    nonzero_line p.world Used ++ flat_map (node_word_line p) (count_up p.config.nodes) ++ flat_map (kids_line p) (count_up p.config.nodes)
 
 -- that a mount is read-only, where it is
 abbrev pub when_read_only : Bool → ℕ → List ℕ
@@ -195,6 +207,7 @@ command_outcome p t (Run failure) = run_outcome t (run_of p t failure)
 -- a request: what there is to print, or a command on a task
 abbrev pub request_outcome : Play → Request → Outcome
 request_outcome p Words = outcome p (words_text p)
+request_outcome p Tree = outcome p (tree_words_text p)
 request_outcome p Model = outcome p (model_text p)
 request_outcome p (Task t command) = command_outcome p t command
 

@@ -42,7 +42,7 @@ impl CoreSession {
     ghost use Rattle.gate_world.specs.Worlds.{Begins, Steps};
     ghost use Rattle.mntgate.specs.Limits.{is_config};
     ghost use Rattle.mntgate.specs.CoreSessions.{ShowsPlay};
-    ghost use Rattle.mntgate.specs.Transcript.{Play, opening_play, played, used_now, begin_text, hook_answer, run_of, command_outcome, request_outcome, nonzero_line, words_text, mount_part, level_part, section_line, count_up, model_text, closed_line, task_text, tree_line, held_line, level_line};
+    ghost use Rattle.mntgate.specs.Transcript.{Play, opening_play, played, used_now, begin_text, hook_answer, run_of, command_outcome, request_outcome, nonzero_line, words_text, mount_part, level_part, section_line, node_word_line, kids_line, tree_words_text, count_up, model_text, closed_line, task_text, tree_line, held_line, level_line};
     ghost use Rattle.access_model.specs.Histories.{end_of};
     ghost use Rattle.cpu_words.specs.Names.{IsWord};
     ghost use Rattle.gate_world.specs.Configs.{extents_of};
@@ -83,6 +83,7 @@ impl CoreSession {
     {
         match request {
             Request::Words => self.print_words(out).map_err(no_memory),
+            Request::Tree => self.print_tree_words(out).map_err(no_memory),
             Request::Model => self.print_model(out).map_err(no_memory),
             Request::Task { task, command } => self.do_command(task, command, out),
         }
@@ -237,6 +238,36 @@ impl CoreSession {
     {
         for task in 0..self.config.tasks {
             self.print_word(WordName::Section(task), out)?;
+        }
+        Ok(())
+    }
+
+    /// Prints the words of the tree that aren't 0.
+    #[tactic(auto, unfolding(crate::specs::Transcript::tree_words_text))]
+    pub(crate) fn print_tree_words(&self, out: &mut Output) -> Result<(), AllocError>
+        ensures { (p : Play) → ShowsPlay self.now p → OnOk result (out.new.bytes.items ≡ out.old.bytes.items ++ tree_words_text p) }
+    {
+        self.print_word(WordName::Used, out)?;
+        self.print_node_words(out)?;
+        self.print_kids(out)
+    }
+
+    fn print_node_words(&self, out: &mut Output) -> Result<(), AllocError>
+        ensures { (p : Play) → ShowsPlay self.now p →
+            OnOk result (out.new.bytes.items ≡ out.old.bytes.items ++ flat_map (node_word_line p) (count_up p.config.nodes)) }
+    {
+        for node in 0..self.config.nodes {
+            self.print_word(WordName::Node(node), out)?;
+        }
+        Ok(())
+    }
+
+    fn print_kids(&self, out: &mut Output) -> Result<(), AllocError>
+        ensures { (p : Play) → ShowsPlay self.now p →
+            OnOk result (out.new.bytes.items ≡ out.old.bytes.items ++ flat_map (kids_line p) (count_up p.config.nodes)) }
+    {
+        for node in 0..self.config.nodes {
+            self.print_word(WordName::Kids(node), out)?;
         }
         Ok(())
     }
