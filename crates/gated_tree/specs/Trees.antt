@@ -1,5 +1,5 @@
 -- A snapshot of the tree: what it shows, and when it is sound and clean.
-use Rattle.std.specs.Prelude.{◌≡◌, ℕ, zero, suc, ◌<◌, ◌==◌, false, if◌then◌else◌, Option, Some, None, length, replicate, slice_index, slice_set}
+use Rattle.std.specs.Prelude.{◌≡◌, ℕ, zero, suc, ◌<◌, ◌==◌, Bool, false, not, is_some, if◌then◌else◌, Option, Some, None, length, replicate, slice_index, slice_set}
 use Rattle.finite_sums.specs.Sums.{total}
 use Rattle.access_model.specs.declared.actions.NodeInfo.{NodeInfo}
 use Rattle.access_model.specs.States.{size_of, is_dirty, IsDirectory}
@@ -7,7 +7,9 @@ use Rattle.cpu_words.specs.declared.names.WordName.{WordName}
 use Rattle.cpu_words.specs.declared.names.WordName.TheVariants.{Used, Node, Kids}
 use Rattle.gated_tree.specs.declared.trees.Tree.{Tree}
 use Rattle.gated_tree.specs.declared.trees.TreeWords.{TreeWords}
-use Rattle.gated_tree.specs.Nodes.{node_shown}
+use Rattle.gated_tree.specs.declared.snapshots.SnapshotStep.{SnapshotStep}
+use Rattle.gated_tree.specs.declared.snapshots.SnapshotStep.TheVariants.{LoadsKids}
+use Rattle.gated_tree.specs.Nodes.{node_shown, node_after}
 
 -- the words of a snapshot
 unfoldable pub words_of : Tree → TreeWords
@@ -81,3 +83,8 @@ LoadedSound words = IsSound (length words.nodes) words.used (node_at words) (sli
 -- and clean
 abbrev pub LoadedClean : TreeWords → Type 0
 LoadedClean words = IsClean (length words.nodes) (node_at words)
+
+-- a snapshot's last load is that of the children of the last node
+abbrev pub loads_last : ℕ → SnapshotStep → Bool
+loads_last nodes (LoadsKids n) = not (is_some (node_after n nodes))
+loads_last nodes step = false

@@ -4,6 +4,7 @@
 ghost use Rattle.std.specs.Prelude.{◌≡◌};
 ghost use Rattle.access_model.specs.declared.replies.Next.TheVariants.{Go};
 ghost use Rattle.gated_tree.specs.Nodes.{node_after};
+ghost use Rattle.gated_tree.specs.Trees.{loads_last};
 ghost use Rattle.gated_tree.specs.Phases.{snapshot_next, at_snapshot, node_step, kids_step, snapshot_after};
 
 use crate::nodes::{NodeWord, following};
@@ -40,6 +41,16 @@ pub struct Snapshot {
 }
 
 impl Snapshot {
+    /// Whether the next event is the load of its last word: of the children that are charged to the last node.
+    pub fn loads_last(self) -> bool
+        ensures { result ≡ loads_last self.nodes self.step }
+    {
+        match self.step {
+            SnapshotStep::LoadsKids(node) => following(node, self.nodes).is_none(),
+            _ => false,
+        }
+    }
+
     pub(crate) fn next(self) -> (WordName, Touch)
         ensures { result ≡ snapshot_next self self.step }
     {

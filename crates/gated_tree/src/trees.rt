@@ -63,6 +63,15 @@ impl Tree {
         }
     }
 
+    /// Makes the room that of a snapshot which has loaded nothing: all words are 0 again. Takes no memory.
+    pub fn clear(&mut self)
+        ensures { words_of self.new ≡ unloaded (length (words_of self.old).nodes) }
+    {
+        self.used = 0;
+        self.nodes.fill(0);
+        self.kids.fill(0);
+    }
+
     /// The blocks that were charged.
     pub fn used(&self) -> u64
         ensures { result ≡ (words_of self.now).used }
