@@ -3,6 +3,7 @@
 mod endings;
 mod fakes;
 mod freezes;
+mod trees;
 mod levels;
 mod remounts;
 

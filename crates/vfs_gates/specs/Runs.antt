@@ -4,7 +4,7 @@ use Rattle.access_model.specs.declared.errors.GateError.{GateError}
 use Rattle.access_model.specs.declared.replies.Next.{Next}
 use Rattle.access_model.specs.declared.replies.Next.TheVariants.{Go, Wait, Done}
 use Rattle.access_model.specs.declared.replies.Reply.{Reply}
-use Rattle.access_model.specs.declared.replies.Reply.TheVariants.{Ran}
+use Rattle.access_model.specs.declared.replies.Reply.TheVariants.{Ran, Node as NodeReply}
 use Rattle.cpu_words.specs.declared.events.Event.{Event}
 use Rattle.cpu_words.specs.Touches.{event_of}
 use Rattle.gate_world.specs.declared.config.Config.{Config}
@@ -104,6 +104,11 @@ the_reply reply = reply
 -- a call that tells only whether the operation was done
 abbrev pub unit_of : Reply → Unit {0}
 unit_of reply = tt
+
+-- a call that tells the node that it took
+abbrev pub node_of : Reply → ℕ
+node_of (NodeReply node) = node
+node_of reply = 0
 
 -- a call that tells whether a callback ran
 abbrev pub ran_of : Reply → Bool

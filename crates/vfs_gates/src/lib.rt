@@ -13,6 +13,7 @@ mod rooms;
 mod task;
 #[cfg(test)]
 mod tests;
+mod tree_calls;
 mod turns;
 mod waits;
 

@@ -1,6 +1,6 @@
 //! A task: the right to do the events of one number.
 
-ghost use Rattle.std.specs.Prelude.{◌≡◌, ◌≤◌, ◌<◌, ◌↔◌, IsTrue, Some, None, OnOk, OnErr, [], false};
+ghost use Rattle.std.specs.Prelude.{◌≡◌, ◌≤◌, ◌<◌, ◌↔◌, IsTrue, Some, None, OnOk, OnErr, OnSome, [], false};
 ghost use Rattle.gate_world.specs.Configs.{IsWithin};
 ghost use Rattle.gate_world.specs.declared.work.Phase.{Phase as PhaseType};
 ghost use Rattle.vfs_gates.specs.TaskStates.{IsNothing};
@@ -12,10 +12,11 @@ use crate::rooms::Rooms;
 use crate::turns::{Turn, do_event};
 use access_model::GateError;
 use freeze_levels::HookKind;
+use gated_tree::{Tree, TreePhase};
 use gate_core::seats::Seat as Kept;
 use gate_core::{Progress, Step};
 use gate_steps::Items;
-use gate_world::{Accesses, Config, Op};
+use gate_world::{Accesses, Config, Op, Phase};
 use std::marker::Model;
 
 /// The seat of a task at the table.
@@ -44,7 +45,7 @@ pub struct Task {
 impl Model for Task {
     ghost use Rattle.std.specs.Prelude.{◌≡◌, []};
     ghost use Rattle.vfs_gates.specs.TaskStates.{TaskState, task_state};
-    ghost use Rattle.vfs_gates.specs.Room.{HasSnapshotRoom};
+    ghost use Rattle.vfs_gates.specs.Room.{RoomTells};
     ghost use Rattle.vfs_gates.specs.Ties.{Ties};
 
     ghost Value = { TaskState };
@@ -52,7 +53,7 @@ impl Model for Task {
     ghost view = { λ t. task_state t.seat.table_id t.config t.begins t.kept.phase t.seat.me.0 };
 
     ghost invariant = { λ t. Ties t.number t.config t.begins t.kept t.spare t.seat.me.0 × (t.seat.me.1 ≡ [])
-        × HasSnapshotRoom t.config.nodes t.rooms };
+        × RoomTells t.config.nodes t.rooms t.begins t.kept.phase t.seat.me.0 };
 }
 
 impl Task {
@@ -64,11 +65,13 @@ impl Task {
     ghost use Rattle.vfs_gates.specs.Stepped.{Stepped};
     ghost use Rattle.vfs_gates.specs.Ended.{HasAll};
     ghost use Rattle.vfs_gates.specs.Ties.{AllRest};
+    ghost use Rattle.gate_world.specs.declared.views.Snapshot.{Snapshot};
+    ghost use Rattle.gated_tree.specs.Trees.{words_of};
 
     pub(crate) fn first(config: Config, seat: Seat, rooms: Rooms) -> Task
         requires within { IsWithin config }
         requires seat { seat.me ≡ (first_items config, []) }
-        requires room { HasSnapshotRoom config.nodes rooms }
+        requires room { HasSnapshotRoom config.nodes rooms × (rooms.taken ≡ false) }
         ensures { result ≡ task_state seat.table_id config None None (first_items config) }
     {
         Task {
@@ -116,6 +119,15 @@ impl Task {
         (1..=3).contains(&level) && self.kept.accesses.levels[level as usize]
     }
 
+    /// The last snapshot that the task has taken; None before its first. What it shows is the tree of one moment at which all was frozen,
+    /// sound and clean.
+    pub fn tree(&self) -> Option<&Tree>
+        ensures there { (s : Snapshot) → (own_view self.now.items).snapshot ≡ Some s → OnSome result (λ tree. words_of tree.now ≡ s.loaded) }
+        ensures not_there { (own_view self.now.items).snapshot ≡ None → result ≡ None }
+    {
+        self.rooms.last()
+    }
+
     /// Begins an operation; it has no event, and changes no word. Refused, and then nothing is changed: Order where an operation is
     /// under way; Invalid where a number of the operation is out of range; Order where the task holds what the operation must not
     /// find held, or doesn't hold what it gives back; TooMany where the task would get its 1,025th access at a mount.
@@ -130,6 +142,9 @@ impl Task {
         ensures refused { OnErr result (self.new ≡ self.old) }
     {
         let phase = self.admit(op)?;
+        if let Op::Snapshot { .. } = op {
+            self.rooms.clear();
+        }
         self.begins = Some(op);
         self.kept.phase = Some(phase);
         Ok(())
@@ -161,6 +176,9 @@ impl Task {
             action,
             next,
         } = do_event(gates, &mut self.seat, accesses, begins, phase, hook);
+        if let Phase::Trees(TreePhase::Snapshot(snapshot)) = phase {
+            self.rooms.note(snapshot, event);
+        }
         let (progress, phase) = Progress::of(next);
         self.begins = None;
         self.kept.phase = phase;

@@ -79,7 +79,7 @@ impl Task {
     }
 
     /// Begins an operation, and does its events until it replies, however long it has to wait, with the hooks of the file system.
-    fn perform_waiting<R: Wait, H: FsHooks>(
+    pub(crate) fn perform_waiting<R: Wait, H: FsHooks>(
         &mut self,
         rt: &R,
         gates: &Gates,

@@ -1,0 +1,114 @@
+//! Calls at the tree behind the gates, and snapshots of it. All but one wait for nobody.
+
+ghost use Rattle.std.specs.Prelude.{◌≡◌};
+ghost use Rattle.vfs_gates.specs.Runs.{told_as, node_of};
+
+use crate::calls::outcome;
+use crate::gates::Gates;
+use crate::task::Task;
+use access_model::{GateError, Kind, Reply};
+use gate_world::Op;
+use std::sync::Wait;
+
+/// Why a create was refused, or the node that it took.
+fn node(answer: Result<Reply, GateError>) -> Result<u8, GateError>
+    ensures { result ≡ told_as node_of answer }
+{
+    match answer {
+        Ok(Reply::Node(node)) => Ok(node),
+        Ok(_) => Ok(0),
+        Err(refusal) => Err(refusal),
+    }
+}
+
+impl Task {
+    ghost use Rattle.gate_world.specs.Traces.{most_events};
+    ghost use Rattle.gate_world.specs.declared.operations.Op.TheVariants.{Create as CreateOp, Remove as RemoveOp, Grow as GrowOp, MoveTo as MoveToOp, Fault as FaultOp, Flush as FlushOp, Snapshot as SnapshotOp};
+    ghost use Rattle.vfs_gates.specs.TaskStates.{IsFrom};
+    ghost use Rattle.vfs_gates.specs.Runs.{IsBounded, Performs, Replies, the_reply};
+
+    /// Begins an operation that has a most number of events and asks no hook, and does its events until it replies.
+    fn call(&mut self, gates: &Gates, op: Op) -> Result<Reply, GateError>
+        requires from { IsFrom self.old gates.now }
+        requires tries { IsBounded (most_events self.old.config op) }
+        ensures { Replies the_reply op self.old self.new result }
+    {
+        self.begin(op)?;
+        self.finish(gates, Ok(()))
+    }
+
+    /// `vfs_create`, `vfs_mkdir`: makes an empty, clean file or directory in a directory, and tells the number of its node. NoEntry where
+    /// the directory's node is free, NotDir where it is a file; NoSpace where no node is free; Again where its node was taken meanwhile:
+    /// then nothing is changed. Order, where the task is not inside level 1 with an access at some mount, and Invalid as `begin`.
+    pub fn create(&mut self, gates: &Gates, dir: u8, kind: Kind) -> Result<u8, GateError>
+        requires { IsFrom self.old gates.now }
+        ensures { Replies node_of (CreateOp dir kind) self.old self.new result }
+    {
+        node(self.call(gates, Op::Create { dir, kind }))
+    }
+
+    /// `vfs_unlink`: frees a file's node, and gives its blocks back. NoEntry where the node is free, IsDir where it is a directory; Again
+    /// where it changed meanwhile: then nothing is changed. Order, as `create`, and Invalid as `begin`.
+    pub fn remove(&mut self, gates: &Gates, file: u8) -> Result<(), GateError>
+        requires { IsFrom self.old gates.now }
+        ensures { Performs (RemoveOp file) self.old self.new result }
+    {
+        outcome(self.call(gates, Op::Remove { file }))
+    }
+
+    /// `vfs_write` past a file's end: makes it larger by so many blocks, and dirty. NoEntry and IsDir as `remove`; NoSpace where there is
+    /// no room for the blocks; Again where the file or the blocks charged changed meanwhile: then nothing is changed. Order, as `create`,
+    /// and Invalid as `begin`, also for no block.
+    pub fn grow(&mut self, gates: &Gates, file: u8, blocks: u32) -> Result<(), GateError>
+        requires { IsFrom self.old gates.now }
+        ensures { Performs (GrowOp file blocks) self.old self.new result }
+    {
+        outcome(self.call(gates, Op::Grow { file, blocks }))
+    }
+
+    /// `vfs_rename`: gives a file another directory. NoEntry and IsDir as `remove`, NoEntry and NotDir of the directory as `create`; Again
+    /// where the file changed meanwhile: then nothing is changed. Order, as `create`, and Invalid as `begin`.
+    pub fn move_to(&mut self, gates: &Gates, file: u8, dir: u8) -> Result<(), GateError>
+        requires { IsFrom self.old gates.now }
+        ensures { Performs (MoveToOp file dir) self.old self.new result }
+    {
+        outcome(self.call(gates, Op::MoveTo { file, dir }))
+    }
+
+    /// `page_mkwrite`: makes a file dirty. NoEntry, IsDir and Again as `remove`. Order, where the task is not inside level 2 with an access
+    /// at some mount, and Invalid as `begin`.
+    pub fn fault(&mut self, gates: &Gates, file: u8) -> Result<(), GateError>
+        requires { IsFrom self.old gates.now }
+        ensures { Performs (FaultOp file) self.old self.new result }
+    {
+        outcome(self.call(gates, Op::Fault { file }))
+    }
+
+    /// A write-back: makes a file clean. NoEntry, IsDir and Again as `remove`. Order, where the task is not inside level 3, and Invalid as
+    /// `begin`.
+    pub fn flush(&mut self, gates: &Gates, file: u8) -> Result<(), GateError>
+        requires { IsFrom self.old gates.now }
+        ensures { Performs (FlushOp file) self.old self.new result }
+    {
+        outcome(self.call(gates, Op::Flush { file }))
+    }
+
+    /// A snapshot of the tree that doesn't wait, which `tree` shows from then on. Again where another task has `umount`, Invalid where the
+    /// file system is not frozen; then the last snapshot stays. Order, where the task is inside a level, and Invalid as `begin`.
+    pub fn try_snapshot(&mut self, gates: &Gates) -> Result<(), GateError>
+        requires { IsFrom self.old gates.now }
+        ensures { Performs (SnapshotOp false) self.old self.new result }
+    {
+        outcome(self.call(gates, Op::Snapshot { wait: false }))
+    }
+
+    /// The same, which waits for `umount`: Invalid where the file system is not frozen. Order, where the task is inside a level, and
+    /// Invalid as `begin`.
+    pub fn snapshot<R: Wait>(&mut self, rt: &R, gates: &Gates) -> Result<(), GateError>
+        requires { IsFrom self.old gates.now }
+        ensures { Performs (SnapshotOp true) self.old self.new result }
+    {
+        let op = Op::Snapshot { wait: true };
+        outcome(self.perform_waiting(rt, gates, op, &mut (), false))
+    }
+}
