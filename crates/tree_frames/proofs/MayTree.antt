@@ -205,6 +205,7 @@ module _ (c : Config) (w : World) (good : IsGood c w) where
     LeaveFor None = Unit {0}
     LeaveFor (Some action) = HasLeave (model_limits c) (shown c w) t action
 
+    -- where it is the one that there is
     leave_if : (b : Bool) (action : Action) → HasLeave (model_limits c) (shown c w) t action →
         LeaveFor (if b then Some action else None)
     leave_if true action leave = leave

@@ -40,7 +40,7 @@ use Rattle.gated_tree.specs.declared.phases.TreePhase.TheVariants.{Create as Cre
 use Rattle.gated_tree.specs.Nodes.{word_of, node_shown, file_in, dirty_in}
 use Rattle.gated_tree.specs.Phases.{next, after, after_look, create_next, create_after, remove_next, remove_after, grow_next, grow_after, move_next, move_after, mark_next, mark_after, mark_done, at_mark, snapshot_next, snapshot_after, clear_after}
 use Rattle.gated_tree.specs.Calls.{phase_role, role_after, TreePhaseFits, NextFits}
-use Rattle.gated_tree.specs.Roles.{TreeHolds, sealed_by}
+use Rattle.gated_tree.specs.Roles.{Role, TreeHolds, sealed_by}
 use Rattle.mount_counts.specs.Roles.{Out, ro_bit}
 use Rattle.stage_laws.specs.Roles.{sums, is_full}
 use Rattle.tree_laws.specs.Events.{MovesBy}
@@ -88,6 +88,7 @@ is_call_word (Node n) = true
 is_call_word (Kids d) = true
 is_call_word word = false
 
+-- the first are among the second
 node_call : (word : WordName) → is_node_word word ≡ true → is_call_word word ≡ true
 node_call Used h = refl
 node_call (Node n) h = refl
@@ -131,6 +132,7 @@ abbrev pub is_snapshot : TreePhase → Bool
 is_snapshot (Snapshots x) = true
 is_snapshot x = false
 
+-- so it is of each such call
 pub node_word : (x : TreePhase) (hook : HookAnswer) → is_snapshot x ≡ false → is_node_word (next x hook).0 ≡ true
 node_word (Creates x) hook other = create_word x x.step
 node_word (Removes x) hook other = remove_word x x.step
@@ -144,6 +146,7 @@ node_word (Clears x) hook other = refl
 abbrev pub IsCallTouch : WordName × Touch → Type 0
 IsCallTouch x = (is_load x.1 ≡ true) ⊎ (is_call_word x.0 ≡ true)
 
+-- a snapshot loads, or touches `umount`
 snapshot_touch : (x : Snapshot) (s : SnapshotStep) → IsCallTouch (snapshot_next x s)
 snapshot_touch x Locks = inr refl
 snapshot_touch x LoadsStage = inl refl
@@ -169,6 +172,7 @@ pub record IsBesideTree (old new : Words) : Type 0 where
   pub level_same : new.level ≡ old.level
   pub section_same : new.section ≡ old.section
 
+-- where nothing is written, all words are
 same_beside : (w : Words) → IsBesideTree w w
 same_beside w = record {
   stage_same = refl;
@@ -182,25 +186,55 @@ same_beside w = record {
   section_same = refl;
 }
 
+-- where such a word is written
 write_beside : (w : Words) (word : WordName) (n : ℕ) → is_call_word word ≡ true → IsBesideTree w (put w word n)
 write_beside w Umount n h = record {
-  stage_same = refl; sb_same = refl; remount_same = refl; flags_same = refl; count_same = refl; block_same = refl; sync_same = refl;
-  level_same = refl; section_same = refl;
+  stage_same = refl;
+  sb_same = refl;
+  remount_same = refl;
+  flags_same = refl;
+  count_same = refl;
+  block_same = refl;
+  sync_same = refl;
+  level_same = refl;
+  section_same = refl;
 }
 write_beside w Used n h = record {
-  stage_same = refl; sb_same = refl; remount_same = refl; flags_same = refl; count_same = refl; block_same = refl; sync_same = refl;
-  level_same = refl; section_same = refl;
+  stage_same = refl;
+  sb_same = refl;
+  remount_same = refl;
+  flags_same = refl;
+  count_same = refl;
+  block_same = refl;
+  sync_same = refl;
+  level_same = refl;
+  section_same = refl;
 }
 write_beside w (Node x) n h = record {
-  stage_same = refl; sb_same = refl; remount_same = refl; flags_same = refl; count_same = refl; block_same = refl; sync_same = refl;
-  level_same = refl; section_same = refl;
+  stage_same = refl;
+  sb_same = refl;
+  remount_same = refl;
+  flags_same = refl;
+  count_same = refl;
+  block_same = refl;
+  sync_same = refl;
+  level_same = refl;
+  section_same = refl;
 }
 write_beside w (Kids d) n h = record {
-  stage_same = refl; sb_same = refl; remount_same = refl; flags_same = refl; count_same = refl; block_same = refl; sync_same = refl;
-  level_same = refl; section_same = refl;
+  stage_same = refl;
+  sb_same = refl;
+  remount_same = refl;
+  flags_same = refl;
+  count_same = refl;
+  block_same = refl;
+  sync_same = refl;
+  level_same = refl;
+  section_same = refl;
 }
 write_beside w word n h = absurd (true≢false (sym h))
 
+-- and where a word is loaded
 load_beside : (w : Words) (word : WordName) (touch : Touch) → is_load touch ≡ true → IsBesideTree w (put w word (left touch (read w word)))
 load_beside w word Load h = subst (IsBesideTree w) (sym (load_same w word)) (same_beside w)
 load_beside w word touch h = absurd (true≢false (sym h))
@@ -255,6 +289,7 @@ record CountsNowhere (x : WordName × Touch) : Type 0 where
   level_added : (a : ℕ → ℕ → ℕ) → level_added_after x.0 x.1 a ≡ a
   level_taken : (a : ℕ → ℕ → ℕ) → level_taken_after x.0 x.1 a ≡ a
 
+-- each such touch counts nowhere
 counts_nowhere : (x : WordName × Touch) → IsCallTouch x → CountsNowhere x
 counts_nowhere x touches = elim touches [
   | inl h ↦ record {
@@ -276,9 +311,11 @@ pub record LeavesAccesses (action : Option Action) : Type 0 where
   pub mounts : (held : ℕ → ℕ) → mounts_by action held ≡ held
   pub levels : (held : ℕ → Bool) → levels_by action held ≡ held
 
+-- where there is none
 leaves_none : LeavesAccesses None
 leaves_none = record { mounts = λ held. refl; levels = λ held. refl }
 
+-- where there is one that does, or none
 leaves_if : (b : Bool) (action : Action) → LeavesAccesses (Some action) → LeavesAccesses (if b then Some action else None)
 leaves_if true action h = h
 leaves_if false action h = leaves_none
@@ -346,11 +383,13 @@ module _ (c : Config) (held : ℕ → ℕ) (levels : ℕ → Bool) where
   AccessAfter (Wait x) = TreeAccess c held levels x
   AccessAfter (Done answer) = Unit {0}
 
+  -- a phase of the same call
   comes_with : {P : Type 0} (to : P → TreePhase) → ((y : P) → TreeAccess c held levels (to y)) → (n : Next P) → AccessAfter (map_next to n)
   comes_with to may (Go y) = may y
   comes_with to may (Wait y) = may y
   comes_with to may (Done answer) = tt
 
+  -- after a look at a file
   looked_with : {A : Type 0} (again : Mark) (from : A → Mark) → TreeAccess c held levels (Marks again) →
       ((a : A) → TreeAccess c held levels (Marks (from a))) → (r : Option (Result A GateError)) →
       AccessAfter (map_next Marks (after_look again from r))
@@ -358,6 +397,7 @@ module _ (c : Config) (held : ℕ → ℕ) (levels : ℕ → Bool) where
   looked_with again from may more (Some (Ok a)) = more a
   looked_with again from may more (Some (Err refusal)) = tt
 
+  -- after an event of a page fault or a write-back
   mark_access : (x : Mark) (s : MarkStep) (found : ℕ) → TreeAccess c held levels (Marks x) →
       AccessAfter (map_next Marks (mark_after x s found).0)
   mark_access x LoadsFileToMark found may =
@@ -376,7 +416,8 @@ module _ (c : Config) (held : ℕ → ℕ) (levels : ℕ → Bool) where
   access_after (Clears x) found hook may = absurd may
 
   -- so what comes after it fits
-  next_fits : (t : ℕ) (n : Next TreePhase) → NextFits (tree_bounds c) t n → AccessAfter n → Fits c t held levels (phase_after (map_next Trees n))
+  next_fits : (t : ℕ) (n : Next TreePhase) → NextFits (tree_bounds c) t n → AccessAfter n →
+      Fits c t held levels (phase_after (map_next Trees n))
   next_fits t (Go x) fits may = (fits, may)
   next_fits t (Wait x) fits may = (fits, may)
   next_fits t (Done answer) fits may = tt
@@ -407,6 +448,7 @@ pub record IsOffGates (p : Option Phase) : Type 0 where
   pub closing_none : (i : ℕ) → closing i p ≡ 0
   pub remounts_none : remounts p ≡ 0
 
+-- no operation is under way
 idle_off : IsOffGates None
 idle_off = record {
   out_of_mounts = λ m. refl;
@@ -415,6 +457,7 @@ idle_off = record {
   remounts_none = refl;
 }
 
+-- a snapshot closes no level
 snapshot_closing : (i : ℕ) (s : SnapshotStep) → sums i (snapshot_stage_role s) ≡ 0
 snapshot_closing i Locks = refl
 snapshot_closing i LoadsStage = refl
@@ -423,6 +466,7 @@ snapshot_closing i (LoadsNodeWord n) = refl
 snapshot_closing i (LoadsKids n) = refl
 snapshot_closing i (Releases answer) = refl
 
+-- nor does another call
 tree_closing : (i : ℕ) (x : TreePhase) → sums i (tree_stage_role x) ≡ 0
 tree_closing i (Snapshots x) = snapshot_closing i x.step
 tree_closing i x = refl
@@ -558,9 +602,10 @@ module _ (c : Config) (w : World) (good : IsGood c w) (t : ℕ) (lt : t < c.task
       each_phase (tree_bounds c) (tree_within c within) (is_sealed w.words) w.words (tree_roles w) (good Tree) t lt x
       (values_noted (nodes_noted x) (w.views t).trace) noted hook (ap (tree_role_of (w.views t).trace) e) (call_fits c w good t lt x e).0
       (may_step c w good t lt x e) notes in
+      let now_roles : ℕ → Role = update (tree_roles w) t (tree_role_of call_view.trace call_view.phase) in
       (
         tree_holds c w good t lt call_words call_view
-        (subst (λ s. TreeHolds (tree_bounds c) (tree_in s call_words (update (tree_roles w) t (tree_role_of call_view.trace call_view.phase))))
+        (subst (λ s. TreeHolds (tree_bounds c) (tree_in s call_words now_roles))
         (sym (sealed_beside w.words call_words (call_beside w.words x hook)))
         (subst (λ r. TreeHolds (tree_bounds c) (tree_in (is_sealed w.words) call_words (update (tree_roles w) t r))) role kept.0)),
         kept.1,
