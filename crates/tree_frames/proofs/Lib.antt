@@ -1,0 +1,4 @@
+pub mod Holders
+pub mod MayTree
+pub mod NodeParts
+pub mod NodeEvents
