@@ -1,2 +1,4 @@
 pub mod Stubs
 pub mod Frozen
+pub mod Noted
+pub mod Completes
