@@ -2,3 +2,4 @@ pub mod Stubs
 pub mod Frozen
 pub mod Noted
 pub mod Completes
+pub mod SnapshotEvents
