@@ -42,6 +42,7 @@ use Rattle.gate_world.specs.Configs.{IsWithin}
 use Rattle.gate_world.specs.Fits.{Fits, PhaseFits}
 use Rattle.gate_world.specs.Found.{is_load}
 use Rattle.gate_world.specs.Levels.{level_added_after, level_taken_after, level_added_by, level_taken_by}
+use Rattle.gate_world.specs.Operations.{holds_none}
 use Rattle.gate_world.specs.Owners.{is_owned, takes_lock}
 use Rattle.gate_world.specs.Rules.{Part, Owner, Stages, Fitting, Known, Tree, AtMount, AtLevel, SyncAt, Sections, Holds, IsGood, Moves, OwnerHolds, StepKeeps, ViewFits, owns, remounts, role_of, marks_of}
 use Rattle.gate_world.specs.Shown.{shown, closing, stage_roles}
@@ -352,3 +353,182 @@ module _ (c : Config) (within : IsWithin c) (w : World) (good : IsGood c w) (t :
       load_owner (LoadsKids n) e (umount_left (Kids n)) (kids_own (node_after n x.nodes) ∙ sym (ap owns e))
   owner_law (Releases answer) e own =
       releases_umount c w good t lt (view_here (Releases answer)) (ap owns e) refl (later_remounts (Releases answer) e)
+
+-- a phase of a snapshot, or none, has no role at a mount
+abbrev IsOffMounts : Option Phase → Type 0
+IsOffMounts p = (m : ℕ) → role_of m p ≡ Out
+
+-- nor at a level
+trees_off_levels : (y : Snapshot) → IsOffLevels (Some (Trees (Snapshots y)))
+trees_off_levels y = record { counts_not = λ i. refl; apart = λ i. refl; outside = refl }
+
+idle_off_levels : IsOffLevels None
+idle_off_levels = record { counts_not = λ i. refl; apart = λ i. refl; outside = refl }
+
+-- What comes after an event is at the same loads of the tree, in the laws of the tree and here.
+later_role : (x : Snapshot) (s : SnapshotStep) (found : ℕ) (trace : List Traced) →
+    role_after (phase_role (values_noted x.nodes trace)) (map_next Snapshots (snapshot_after x s found).0) ≡
+    tree_role_of trace (later (snapshot_after x s found).0)
+later_role x s found trace =
+    snapshot_comes x (λ n. role_after (phase_role (values_noted x.nodes trace)) (map_next Snapshots n) ≡ tree_role_of trace (later n))
+    (λ s'. refl) refl (λ answer. refl) s found
+
+-- what fits the tree fits a task that holds no level
+later_fits : (c : Config) (t : ℕ) (held : ℕ → ℕ) (levels : ℕ → Bool) (x : Snapshot) (s : SnapshotStep) (found : ℕ) →
+    holds_none levels ≡ true → NextFits (tree_bounds c) t (map_next Snapshots (snapshot_after x s found).0) →
+    Fits c t held levels (later (snapshot_after x s found).0)
+later_fits c t held levels x s found none =
+    snapshot_comes x (λ n. NextFits (tree_bounds c) t (map_next Snapshots n) → Fits c t held levels (later n))
+    (λ s' fits. (fits, none)) (λ fits. (fits, none)) (λ answer fits. tt) s found
+
+-- The law of the event to come.
+module _ (c : Config) (within : IsWithin c) (w : World) (good : IsGood c w) (t : ℕ) (lt : t < c.tasks) (hook : HookAnswer)
+    (x : Snapshot) (e : (w.views t).phase ≡ Some (Trees (Snapshots x))) where
+  -- the words after it
+  abbrev words_now : Words
+  words_now = words_here c within w good t lt hook x x.step
+
+  -- the task's view
+  abbrev view_now : View
+  view_now = view_here c within w good t lt hook x x.step
+
+  -- and the world
+  abbrev world_now : World
+  world_now = world_here c within w good t lt hook x x.step
+
+  -- its numbers fit
+  fits_now : PhaseFits c t (held_at (w.views t)) (holds_level (w.views t)) (Trees (Snapshots x))
+  fits_now = subst (Fits c t (held_at (w.views t)) (holds_level (w.views t))) e (good Fitting t lt)
+
+  -- and those of what comes after it
+  fits_then : ViewFits c t view_now
+  fits_then =
+      let found : ℕ = found_here c within w good t lt hook x x.step in
+      let p : Option Phase = view_now.phase in
+      let fits : Fits c t (held_at (w.views t)) (holds_level (w.views t)) p =
+      later_fits c t (held_at (w.views t)) (holds_level (w.views t)) x x.step found fits_now.1
+      (fits_after (tree_bounds c) (tree_within c within) t (Snapshots x) found hook fits_now.0) in
+      subst (λ (f : ℕ → ℕ). Fits c t f (holds_level view_now) p) (sym (held_here c within w good t lt hook x x.step))
+      (subst (λ (g : ℕ → Bool). Fits c t (held_at (w.views t)) g p) (sym (levels_here c within w good t lt hook x x.step)) fits)
+
+  -- what holds of the tree
+  tree_law : Holds c world_now Tree
+  tree_law =
+      let values : ℕ → ℕ = values_noted x.nodes (w.views t).trace in
+      let noted : ℕ → ℕ = values_noted x.nodes view_now.trace in
+      let value : ℕ = read w.words (snapshot_next x x.step).0 in
+      let found : ℕ = found_here c within w good t lt hook x x.step in
+      let beside : IsBeside w.words words_now = event_beside w.words x x.step in
+      let kept : TreeStepKeeps (tree_bounds c) (is_sealed w.words) w.words (tree_roles w) t (Snapshots x) noted hook =
+      each_phase (tree_bounds c) (tree_within c within) (is_sealed w.words) w.words (tree_roles w) (good Tree) t lt (Snapshots x) values noted
+      hook (ap (tree_role_of (w.views t).trace) e) fits_now.0 tt
+      (notes_step (tree_bounds c) x x.step fits_now.0.1 fits_now.0.2 (w.views t).trace value hook) in
+      let same : ◌≡◌ {A = TreeState} (record {
+        sealed = is_sealed w.words;
+        used = words_now.used;
+        node = words_now.node;
+        kids = words_now.kids;
+        at = update (tree_roles w) t (role_after (phase_role noted) (map_next Snapshots (snapshot_after x x.step found).0));
+      }) (tree_then c w good t lt words_now view_now) =
+      λ j. record {
+        sealed = sealed_by (sym beside.sb_same j) (sym beside.stage_same j);
+        used = words_now.used;
+        node = words_now.node;
+        kids = words_now.kids;
+        at = update (tree_roles w) t (later_role x x.step found view_now.trace j);
+      } in
+      tree_holds c w good t lt words_now view_now (subst (TreeHolds (tree_bounds c)) same kept.0)
+
+  -- its task has no role at a mount or a level
+  off_mounts : IsOffMounts view_now.phase
+  off_mounts = snapshot_comes x (λ n. IsOffMounts (later n)) (λ s m. refl) (λ m. refl) (λ answer m. refl) x.step
+      (found_here c within w good t lt hook x x.step)
+
+  off_levels : IsOffLevels view_now.phase
+  off_levels =
+      snapshot_comes x (λ n. IsOffLevels (later n)) (λ s. trees_off_levels (at_snapshot x s)) (trees_off_levels (at_snapshot x Locks))
+      (λ answer. idle_off_levels) x.step (found_here c within w good t lt hook x x.step)
+
+  was_off_levels : IsOffLevels (w.views t).phase
+  was_off_levels = subst IsOffLevels (sym e) (trees_off_levels x)
+
+  -- the words of the levels are as they were
+  level_words : SameLevelWords w.words words_now
+  level_words =
+      let beside : IsBeside w.words words_now = event_beside w.words x x.step in
+      record {
+        block_same = beside.block_same;
+        level_same = beside.level_same;
+        sync_same = beside.sync_same;
+        section_same = beside.section_same;
+        whole_same = λ j. is_full (beside.stage_same j) (beside.sb_same j);
+      }
+
+  -- and its counts there
+  level_counts : SameLevelCounts (w.views t) view_now
+  level_counts = record {
+    held_same = levels_here c within w good t lt hook x x.step;
+    added_same = (counts_none x x.step (level_added_by (w.views t).events)).2;
+    taken_same = (counts_none x x.step (level_taken_by (w.views t).events)).3;
+  }
+
+  -- each part but what the owner knows
+  parts_hold : (part : Part) → is_known_part part ≡ false → Holds c world_now part
+  parts_hold Owner k = owner_law c within w good t lt hook x x.step e fits_now.0.0
+  parts_hold Stages k = stage_law c within w good t lt hook x x.step e
+  parts_hold Fitting k = λ y ly. each_updated (λ z (u : View). ViewFits c z u) w.views t view_now y fits_then (λ ne. good Fitting y ly)
+  parts_hold Known k = absurd (true≢false k)
+  parts_hold Tree k = tree_law
+  parts_hold (AtMount m) k =
+      let beside : IsBeside w.words words_now = event_beside w.words x x.step in
+      left_alone c w t lt (AtMount m) words_now view_now
+      (ap (λ f. f m) beside.flags_same, beside.remount_same, beside.sb_same, ap (λ f. f m) beside.count_same)
+      (view_as (ap (λ f. f m) (held_here c within w good t lt hook x x.step))
+      (ap (λ f. f m) (counts_none x x.step (added_by (w.views t).events)).0)
+      (ap (λ f. f m) (counts_none x x.step (taken_by (w.views t).events)).1)
+      (off_mounts m ∙ sym (ap (role_of m) e))) (good (AtMount m))
+  parts_hold (AtLevel i) k = level_left c w t lt good words_now view_now level_words level_counts was_off_levels off_levels i
+  parts_hold (SyncAt i) k = sync_left c w t lt good words_now view_now level_words level_counts was_off_levels off_levels i
+  parts_hold Sections k = sections_left c w t lt good words_now view_now level_words level_counts was_off_levels off_levels
+
+  -- the shown model is as it was
+  shown_now : shown c world_now ≡ shown c w
+  shown_now =
+      let beside : IsBeside w.words words_now = event_beside w.words x x.step in
+      shown_still c w t lt words_now view_now beside.block_same beside.flags_same beside.remount_same beside.sb_same beside.stage_same
+      beside.node_same
+      (λ i. snapshot_comes x (λ n. closing i (later n) ≡ 0) (step_sums i) refl (λ answer. refl) x.step
+      (found_here c within w good t lt hook x x.step) ∙ sym (ap (closing i) e ∙ step_sums i x.step))
+      (held_here c within w good t lt hook x x.step) (levels_here c within w good t lt hook x x.step)
+
+  -- it does an owner's work
+  owners_work : IsOwnersWork w (Trees (Snapshots x)) hook
+  owners_work = record {
+    changes = snapshot_changes x x.step;
+    comes_to_own = snapshot_comes_to x x.step (read w.words (snapshot_next x x.step).0);
+  }
+
+  -- so the rule holds after it
+  good_then : IsGood c (after_step w t (Trees (Snapshots x)) hook)
+  good_then part =
+      elim (cases_Bool (is_known_part part)) [
+        | inl h ↦ subst (Holds c (after_step w t (Trees (Snapshots x)) hook)) (sym (known_is part h))
+            (known_after c w t (Trees (Snapshots x)) hook good lt e owners_work)
+        | inr h ↦ noted_part c w t (Trees (Snapshots x)) hook part (parts_hold part h)
+      ]
+
+  -- and nothing is shown to move
+  shown_then : shown c (after_step w t (Trees (Snapshots x)) hook) ≡ shown c w
+  shown_then = sym (noted_shown c w t (Trees (Snapshots x)) hook) ∙ shown_now
+
+  keeps_now : StepKeeps c w t hook (Trees (Snapshots x))
+  keeps_now = (
+    good_then,
+    subst (λ a. Moves c (shown c w) t a (shown c (after_step w t (Trees (Snapshots x)) hook)))
+        (sym (adds_none x x.step (found_here c within w good t lt hook x x.step))) shown_then,
+  )
+
+-- each event of a snapshot keeps the rule, and moves nothing that is shown
+pub snapshot_step : (c : Config) → IsWithin c → (w : World) → IsGood c w → (t : ℕ) → t < c.tasks → (hook : HookAnswer) (x : Snapshot) →
+    (w.views t).phase ≡ Some (Trees (Snapshots x)) → StepKeeps c w t hook (Trees (Snapshots x))
+snapshot_step c within w good t lt hook x e = keeps_now c within w good t lt hook x e
