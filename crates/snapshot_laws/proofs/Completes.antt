@@ -49,7 +49,8 @@ module _ (c : Config) (w : World) (good : IsGood c w) (t : ℕ) (lt : t < c.task
   here_reads : (i : ℕ) → i < suc (x.nodes + n) →
       values_noted x.nodes (w.views t).trace i ≡ tree_word c.nodes w.words.used w.words.node w.words.kids i
   here_reads =
-      subst (λ p. RoleHolds (tree_bounds c) w.words.used w.words.node w.words.kids (tree_role_of (w.views t).trace p)) e ((good Tree).roles t lt)
+      subst (λ p. RoleHolds (tree_bounds c) w.words.used w.words.node w.words.kids (tree_role_of (w.views t).trace p)) e
+      ((good Tree).roles t lt)
 
   -- it relies on stage 4
   here_knows : KnowsStage w.words.stage w.words.sb (stage_role_of (Some (Trees (Snapshots (at_snapshot x (LoadsKids n))))))

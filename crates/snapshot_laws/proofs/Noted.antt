@@ -28,7 +28,8 @@ abbrev pub IsLong : ℕ → TreeWords → Type 0
 IsLong nodes words = (length words.nodes ≡ nodes) × (length words.kids ≡ nodes)
 
 -- a load keeps the room
-pub loaded_long : (nodes : ℕ) (words : TreeWords) (name : WordName) (value : ℕ) → IsLong nodes words → IsLong nodes (loaded words name value)
+pub loaded_long : (nodes : ℕ) (words : TreeWords) (name : WordName) (value : ℕ) → IsLong nodes words →
+    IsLong nodes (loaded words name value)
 loaded_long nodes words (Node n) value long = (length-set words.nodes n value ∙ long.0, long.1)
 loaded_long nodes words (Kids n) value long = (long.0, length-set words.kids n value ∙ long.1)
 loaded_long nodes words name value long = long
@@ -47,7 +48,8 @@ abbrev pub values_of : ℕ → TreeWords → ℕ → ℕ
 values_of nodes words = tree_word nodes words.used (slice_index words.nodes) (slice_index words.kids)
 
 -- a load of `used` is the first value
-notes_used : (nodes : ℕ) (words : TreeWords) (value : ℕ) → NotesOne 0 (values_of nodes words) (values_of nodes (loaded words Used value)) value
+notes_used : (nodes : ℕ) (words : TreeWords) (value : ℕ) →
+    NotesOne 0 (values_of nodes words) (values_of nodes (loaded words Used value)) value
 notes_used nodes words value = (refl, λ i l. absurd (omega (arith, l)))
 
 -- a load of a node leaves the values before it
@@ -100,7 +102,8 @@ notes_step c x s same fits trace value hook = tt
 -- these are the words of a tree of so many nodes
 abbrev pub AreWords : ℕ → TreeWords → ℕ → (ℕ → ℕ) → (ℕ → ℕ) → Type 0
 AreWords nodes words used node kids =
-    (used ≡ words.used) × ((n : ℕ) → n < nodes → node n ≡ slice_index words.nodes n) × ((n : ℕ) → n < nodes → kids n ≡ slice_index words.kids n)
+    (used ≡ words.used) × ((n : ℕ) → n < nodes → node n ≡ slice_index words.nodes n) ×
+    ((n : ℕ) → n < nodes → kids n ≡ slice_index words.kids n)
 
 -- so it is where all values are those of the tree
 are_words : (nodes : ℕ) (words : TreeWords) (used : ℕ) (node kids : ℕ → ℕ) →

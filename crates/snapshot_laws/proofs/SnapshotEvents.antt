@@ -127,10 +127,12 @@ adds_none x (Releases answer) found = refl
 -- What comes after it is the same snapshot at another step, or it is done.
 module _ (x : Snapshot) (P : Next Snapshot → Type 0) (go : (s : SnapshotStep) → P (Go (at_snapshot x s)))
     (wait : P (Wait (at_snapshot x Locks))) (done : (answer : Result Reply GateError) → P (Done answer)) where
+  -- after a lock that was taken
   locked_out_comes : (b : Bool) → P (snapshot_locked_out x b)
   locked_out_comes true = wait
   locked_out_comes false = done _
 
+  -- after each event
   snapshot_comes : (s : SnapshotStep) (found : ℕ) → P (snapshot_after x s found).0
   snapshot_comes Locks found =
       by_bool (found == 0) (λ b. P (if b then Go (at_snapshot x LoadsStage) else snapshot_locked_out x x.wait))
@@ -190,7 +192,8 @@ node_role x n found =
 -- who owns by its stage owns
 later_owns : (x : Snapshot) (s : SnapshotStep) (found : ℕ) →
     owns (later (snapshot_after x s found).0) ≡ stage_owns (stage_role_of (later (snapshot_after x s found).0))
-later_owns x s found = snapshot_comes x (λ n. owns (later n) ≡ stage_owns (stage_role_of (later n))) (λ s'. refl) refl (λ answer. refl) s found
+later_owns x s found =
+    snapshot_comes x (λ n. owns (later n) ≡ stage_owns (stage_role_of (later n))) (λ s'. refl) refl (λ answer. refl) s found
 
 -- it changes a word that only the owner changes as the owner
 snapshot_changes : (x : Snapshot) (s : SnapshotStep) → is_owned (snapshot_next x s).0 ≡ true →
@@ -215,6 +218,7 @@ owners_alike : (stage sb stage' sb' : Option ℕ) → IsAlike (Owning stage sb) 
 owners_alike stage sb stage' sb' =
     record { owns_same = refl; freezes_same = refl; remounts_same = refl; closed_same = refl; passed_same = refl }
 
+-- who is no owner is like itself
 aside_alike : IsAlike Aside Aside
 aside_alike = record { owns_same = refl; freezes_same = refl; remounts_same = refl; closed_same = refl; passed_same = refl }
 
@@ -246,10 +250,11 @@ module _ (c : Config) (within : IsWithin c) (w : World) (good : IsGood c w) (t :
   abbrev world_here : SnapshotStep → World
   world_here s = record { words = words_here s; views = update w.views t (view_here s) }
 
-  -- it holds what it held
+  -- it holds what it held at the mounts
   held_here : (s : SnapshotStep) → held_at (view_here s) ≡ held_at (w.views t)
   held_here s = ap (λ a. mounts_of (actions_after a (w.views t).actions)) (adds_none x s (found_here s))
 
+  -- and at the levels
   levels_here : (s : SnapshotStep) → holds_level (view_here s) ≡ holds_level (w.views t)
   levels_here s = ap (λ a. levels_of (actions_after a (w.views t).actions)) (adds_none x s (found_here s))
 
@@ -286,7 +291,8 @@ module _ (c : Config) (within : IsWithin c) (w : World) (good : IsGood c w) (t :
   here_knows s e = subst (λ p. KnowsStage w.words.stage w.words.sb (stage_role_of p)) e ((good Stages).knows t lt)
 
   -- past the last node it relies on nothing
-  kids_recalls : (n : ℕ) → IsHere (LoadsKids n) → (o : Option ℕ) → stage_role_of (view_here (LoadsKids n)).phase ≡ snapshot_stage_role (kids_step o) →
+  kids_recalls : (n : ℕ) → IsHere (LoadsKids n) → (o : Option ℕ) →
+      stage_role_of (view_here (LoadsKids n)).phase ≡ snapshot_stage_role (kids_step o) →
       Holds c (world_here (LoadsKids n)) Stages
   kids_recalls n e (Some next) is =
       recalls (LoadsKids n) e (Owning (Some 4) None) is (owners_alike (Some 4) None (Some 4) None) (here_knows (LoadsKids n) e) refl
@@ -362,6 +368,7 @@ IsOffMounts p = (m : ℕ) → role_of m p ≡ Out
 trees_off_levels : (y : Snapshot) → IsOffLevels (Some (Trees (Snapshots y)))
 trees_off_levels y = record { counts_not = λ i. refl; apart = λ i. refl; outside = refl }
 
+-- and none without an operation
 idle_off_levels : IsOffLevels None
 idle_off_levels = record { counts_not = λ i. refl; apart = λ i. refl; outside = refl }
 
@@ -420,8 +427,8 @@ module _ (c : Config) (within : IsWithin c) (w : World) (good : IsGood c w) (t :
       let found : ℕ = found_here c within w good t lt hook x x.step in
       let beside : IsBeside w.words words_now = event_beside w.words x x.step in
       let kept : TreeStepKeeps (tree_bounds c) (is_sealed w.words) w.words (tree_roles w) t (Snapshots x) noted hook =
-      each_phase (tree_bounds c) (tree_within c within) (is_sealed w.words) w.words (tree_roles w) (good Tree) t lt (Snapshots x) values noted
-      hook (ap (tree_role_of (w.views t).trace) e) fits_now.0 tt
+      each_phase (tree_bounds c) (tree_within c within) (is_sealed w.words) w.words (tree_roles w) (good Tree) t lt (Snapshots x) values
+      noted hook (ap (tree_role_of (w.views t).trace) e) fits_now.0 tt
       (notes_step (tree_bounds c) x x.step fits_now.0.1 fits_now.0.2 (w.views t).trace value hook) in
       let same : ◌≡◌ {A = TreeState} (record {
         sealed = is_sealed w.words;
@@ -439,16 +446,18 @@ module _ (c : Config) (within : IsWithin c) (w : World) (good : IsGood c w) (t :
       } in
       tree_holds c w good t lt words_now view_now (subst (TreeHolds (tree_bounds c)) same kept.0)
 
-  -- its task has no role at a mount or a level
+  -- its task has no role at a mount after it
   off_mounts : IsOffMounts view_now.phase
   off_mounts = snapshot_comes x (λ n. IsOffMounts (later n)) (λ s m. refl) (λ m. refl) (λ answer m. refl) x.step
       (found_here c within w good t lt hook x x.step)
 
+  -- nor at a level
   off_levels : IsOffLevels view_now.phase
   off_levels =
       snapshot_comes x (λ n. IsOffLevels (later n)) (λ s. trees_off_levels (at_snapshot x s)) (trees_off_levels (at_snapshot x Locks))
       (λ answer. idle_off_levels) x.step (found_here c within w good t lt hook x x.step)
 
+  -- where it had none before
   was_off_levels : IsOffLevels (w.views t).phase
   was_off_levels = subst IsOffLevels (sym e) (trees_off_levels x)
 
@@ -521,6 +530,7 @@ module _ (c : Config) (within : IsWithin c) (w : World) (good : IsGood c w) (t :
   shown_then : shown c (after_step w t (Trees (Snapshots x)) hook) ≡ shown c w
   shown_then = sym (noted_shown c w t (Trees (Snapshots x)) hook) ∙ shown_now
 
+  -- the law of it
   keeps_now : StepKeeps c w t hook (Trees (Snapshots x))
   keeps_now = (
     good_then,
