@@ -1,12 +1,11 @@
 -- The last load of a snapshot: the tree that it has loaded is the present one.
-use Rattle.std.proofs.Common.{◌≡◌, ℕ, ◌+◌, ◌<◌, ◌≤◌, refl, sym, subst, ap, inl, inr, arith, true≢false, suc, ◌∙◌}
-use Rattle.std.specs.Prelude.{Option, Some, None, is_some, List}
+use Rattle.std.proofs.Common.{◌≡◌, ℕ, ◌+◌, ◌<◌, ◌≤◌, sym, subst, ap, inl, inr, arith, true≢false, suc, ◌∙◌}
+use Rattle.std.specs.Prelude.{Some, None, is_some}
 use Rattle.std.proofs.lemmas.Bool.{lt-ltb, le-ltb, cases_lt}
 use Rattle.cpu_words.specs.Hooks.{HookAnswer}
 use Rattle.cpu_words.specs.declared.names.WordName.TheVariants.{Kids}
-use Rattle.gated_tree.specs.Calls.{TreePhaseFits}
 use Rattle.gated_tree.specs.Phases.{at_snapshot}
-use Rattle.gated_tree.specs.Roles.{RoleHolds, tree_word, Reading}
+use Rattle.gated_tree.specs.Roles.{RoleHolds, tree_word}
 use Rattle.gated_tree.specs.Trees.{loaded}
 use Rattle.gated_tree.specs.declared.phases.TreePhase.TheVariants.{Snapshot as Snapshots}
 use Rattle.gated_tree.specs.declared.snapshots.Snapshot.{Snapshot}
@@ -23,7 +22,7 @@ use Rattle.gate_world.specs.Snapshots.{loads_noted, values_noted, snapshot_compl
 use Rattle.gate_world.specs.Stages.{stage_role_of}
 use Rattle.gate_world.specs.Trees.{tree_bounds, tree_role_of}
 use Rattle.gate_world.specs.Views.{held_at, holds_level}
-use Rattle.gate_world.specs.Worlds.{World, found_at}
+use Rattle.gate_world.specs.Worlds.{World}
 use Rattle.stage_laws.specs.Roles.{KnowsStage}
 use Rattle.snapshot_laws.proofs.Noted.{IsLong, loaded_long, noted_long, last_load, AreWords}
 

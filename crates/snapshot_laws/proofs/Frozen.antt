@@ -1,13 +1,15 @@
--- Where the file system is frozen nobody has charged anything, so the tree is sound and clean; nor where no operation is under way.
+-- Where the file system is frozen nobody has charged anything, so the tree is sound and clean. It is sound, too, where nobody is at work.
 use Rattle.std.proofs.Common.{◌≡◌, ℕ, ◌<◌, Bool, refl, sym, subst, arith}
 use Rattle.std.specs.Prelude.{Option, Some, None, List, true}
-use Rattle.gated_tree.specs.Calls.{snapshot_role, mark_role, phase_role}
-use Rattle.gated_tree.specs.Roles.{Role, HasNoCharge, TreeHolds}
+use Rattle.gated_tree.specs.Calls.{snapshot_role, mark_role}
+use Rattle.gated_tree.specs.Roles.{HasNoCharge}
 use Rattle.gated_tree.specs.declared.marks.Mark.{Mark}
 use Rattle.gated_tree.specs.declared.marks.MarkStep.{MarkStep}
 use Rattle.gated_tree.specs.declared.marks.MarkStep.TheVariants.{LoadsFile as LoadsFileToMark, MarksFile}
-use Rattle.gated_tree.specs.declared.phases.TreePhase.{TreePhase}
-use Rattle.gated_tree.specs.declared.phases.TreePhase.TheVariants.{Snapshot as Snapshots, Create as Creates, Remove as Removes, Grow as Grows, MoveTo as Moves, Mark as TreeMarks, ClearMarks as TreeClears}
+use Rattle.gated_tree.specs.declared.phases.TreePhase.TheVariants.{
+  Snapshot as Snapshots, Create as Creates, Remove as Removes, Grow as Grows, MoveTo as Moves, Mark as TreeMarks,
+  ClearMarks as TreeClears,
+}
 use Rattle.gated_tree.specs.declared.snapshots.SnapshotStep.{SnapshotStep}
 use Rattle.gated_tree.specs.declared.snapshots.SnapshotStep.TheVariants.{Locks, LoadsStage, LoadsUsed, LoadsNode, LoadsKids, Releases}
 use Rattle.mount_counts.specs.declared.remounts.RemountStep.{RemountStep}
@@ -17,19 +19,19 @@ use Rattle.freeze_levels.specs.declared.freezes.FreezeStep.TheVariants.{Cleans, 
 use Rattle.gate_world.specs.declared.config.Config.{Config}
 use Rattle.gate_world.specs.declared.views.Traced.{Traced}
 use Rattle.gate_world.specs.declared.work.Phase.{Phase}
-use Rattle.gate_world.specs.declared.work.Phase.TheVariants.{Mounts, Remounts, DownReads, UpReads, Callbacks, Writes, Freezes, Thaws, Trees}
+use Rattle.gate_world.specs.declared.work.Phase.TheVariants.{Remounts, Freezes, Trees}
 use Rattle.gate_world.specs.Configs.{IsWithin}
 use Rattle.gate_world.specs.Fits.{Fits}
 use Rattle.gate_world.specs.Headline.{TreeIsSound, FrozenTreeIsWhole}
 use Rattle.gate_world.specs.Operations.{is_writer}
 use Rattle.gate_world.specs.Rules.{IsGood, Tree, Fitting}
 use Rattle.gate_world.specs.Snapshots.{values_noted}
-use Rattle.gate_world.specs.Trees.{tree_bounds, tree_of, tree_role_of, tree_roles, remount_tree_role, freeze_tree_role, nodes_noted}
+use Rattle.gate_world.specs.Trees.{tree_bounds, tree_of, tree_role_of, tree_roles, remount_tree_role, freeze_tree_role}
 use Rattle.gate_world.specs.Views.{held_at, holds_level}
 use Rattle.gate_world.specs.Worlds.{World}
 use Rattle.gate_frames.proofs.Trees.{sealed_frozen}
 use Rattle.tree_laws.proofs.Clearings.{exact}
-use Rattle.snapshot_laws.proofs.Stubs.{writer_not_frozen}
+use Rattle.tree_frames.proofs.Holders.{writer_not_frozen}
 
 -- a snapshot charges nothing
 pub snapshot_charges_none : (nodes : ℕ) (values : ℕ → ℕ) (s : SnapshotStep) → HasNoCharge (snapshot_role nodes values s)

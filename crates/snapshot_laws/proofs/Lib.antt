@@ -1,4 +1,3 @@
-pub mod Stubs
 pub mod Frozen
 pub mod Noted
 pub mod Completes

@@ -1,13 +1,12 @@
 -- The law of each event of a snapshot.
-use Rattle.std.proofs.Common.{◌≡◌, ℕ, suc, ◌+◌, ◌<◌, Bool, true, false, List, refl, sym, ap, ◌∙◌, subst, inl, inr, arith, true≢false, ◌⊎◌}
-use Rattle.std.specs.Prelude.{◌==◌, if◌then◌else◌, Option, Some, None, is_some, Result, Ok, Err, ◌∷◌}
+use Rattle.std.proofs.Common.{◌≡◌, ℕ, suc, ◌<◌, Bool, true, false, List, refl, sym, ap, ◌∙◌, subst, inl, inr, arith, true≢false, ◌⊎◌}
+use Rattle.std.specs.Prelude.{◌==◌, if◌then◌else◌, Option, Some, None, is_some, Result, Err}
 use Rattle.std.proofs.lemmas.Bool.{cases_Bool}
 use Rattle.std.proofs.lemmas.Bool.Decides.{eqb_tells}
 use Rattle.finite_sums.specs.Sums.{update}
 use Rattle.finite_sums.proofs.Totals.{each_updated}
 use Rattle.access_model.specs.Histories.{mounts_of, levels_of}
 use Rattle.access_model.specs.Replies.{map_next}
-use Rattle.access_model.specs.declared.actions.Action.{Action}
 use Rattle.access_model.specs.declared.errors.GateError.{GateError}
 use Rattle.access_model.specs.declared.errors.GateError.TheVariants.{Invalid}
 use Rattle.access_model.specs.declared.replies.Next.{Next}
@@ -15,11 +14,10 @@ use Rattle.access_model.specs.declared.replies.Next.TheVariants.{Go, Wait, Done}
 use Rattle.access_model.specs.declared.replies.Reply.{Reply}
 use Rattle.cpu_words.specs.declared.names.WordName.{WordName}
 use Rattle.cpu_words.specs.declared.names.WordName.TheVariants.{Stage, Used, Node, Kids}
-use Rattle.cpu_words.specs.declared.events.Touch.{Touch}
 use Rattle.cpu_words.specs.Hooks.{HookAnswer}
 use Rattle.cpu_words.specs.Touches.{event_of, found_by}
 use Rattle.cpu_words.specs.Words.{Words, read, put}
-use Rattle.gated_tree.specs.Calls.{snapshot_role, phase_role, role_after, NextFits, TreePhaseFits}
+use Rattle.gated_tree.specs.Calls.{phase_role, role_after, NextFits}
 use Rattle.gated_tree.specs.Nodes.{dirty_in, unpacked, node_after}
 use Rattle.gated_tree.specs.Phases.{snapshot_next, snapshot_after, at_snapshot, snapshot_locked_out, node_step, kids_step}
 use Rattle.gated_tree.specs.Roles.{TreeHolds, TreeState, sealed_by}
@@ -32,7 +30,7 @@ use Rattle.tree_laws.proofs.Fitting.{fits_after}
 use Rattle.tree_laws.proofs.Phases.{each_phase}
 use Rattle.tree_laws.specs.Steps.{words_left, StepKeeps as TreeStepKeeps}
 use Rattle.stage_laws.specs.Events.{Locks as LocksStage, Releases as ReleasesStage, Recalls, IsAlike, playing, Stages as StageMoment}
-use Rattle.stage_laws.specs.Roles.{StageRole, Aside, Owning, KnowsStage, CleanBelow, clean_by, is_full, sums, owns as stage_owns}
+use Rattle.stage_laws.specs.Roles.{StageRole, Aside, Owning, KnowsStage, clean_by, is_full, sums, owns as stage_owns}
 use Rattle.gate_world.specs.declared.config.Config.{Config}
 use Rattle.gate_world.specs.declared.views.View.{View}
 use Rattle.gate_world.specs.declared.views.Traced.{Traced}
@@ -44,20 +42,27 @@ use Rattle.gate_world.specs.Found.{is_load}
 use Rattle.gate_world.specs.Levels.{level_added_after, level_taken_after, level_added_by, level_taken_by}
 use Rattle.gate_world.specs.Operations.{holds_none}
 use Rattle.gate_world.specs.Owners.{is_owned, takes_lock}
-use Rattle.gate_world.specs.Rules.{Part, Owner, Stages, Fitting, Known, Tree, AtMount, AtLevel, SyncAt, Sections, Holds, IsGood, Moves, OwnerHolds, StepKeeps, ViewFits, owns, remounts, role_of, marks_of}
+use Rattle.gate_world.specs.Rules.{
+  Part, Owner, Stages, Fitting, Known, Tree, AtMount, AtLevel, SyncAt, Sections, Holds, IsGood, Moves, StepKeeps, ViewFits, owns,
+  remounts, role_of, marks_of,
+}
 use Rattle.gate_world.specs.Shown.{shown, closing, stage_roles}
 use Rattle.gate_world.specs.Snapshots.{values_noted}
 use Rattle.gate_world.specs.Stages.{stage_role_of, snapshot_stage_role}
-use Rattle.gate_world.specs.Trees.{tree_bounds, tree_of, tree_roles, tree_role_of, is_sealed}
-use Rattle.gate_world.specs.Views.{held_at, holds_level, actions_after, added_after, taken_after, added_by, taken_by, phase_after, view_with}
-use Rattle.gate_world.specs.Worlds.{World, after_step, phase_action}
-use Rattle.gate_frames.proofs.Frames.{left_alone, view_as, shown_still, IsOffLevels, SameLevelWords, SameLevelCounts, level_left, sync_left, sections_left}
+use Rattle.gate_world.specs.Trees.{tree_bounds, tree_roles, tree_role_of, is_sealed}
+use Rattle.gate_world.specs.Views.{
+  held_at, holds_level, actions_after, added_after, taken_after, added_by, taken_by, phase_after, view_with,
+}
+use Rattle.gate_world.specs.Worlds.{World, after_step}
+use Rattle.gate_frames.proofs.Frames.{
+  left_alone, view_as, shown_still, IsOffLevels, SameLevelWords, SameLevelCounts, level_left, sync_left, sections_left,
+}
 use Rattle.gate_frames.proofs.Keeps.{by_bool}
 use Rattle.gate_frames.proofs.Known.{IsOwnersWork, known_after}
 use Rattle.gate_frames.proofs.MountEvents.{is_known_part, known_is}
 use Rattle.gate_frames.proofs.Owners.{locks_umount, releases_umount}
-use Rattle.gate_frames.proofs.Snapshots.{after_plain_step, noted_part, noted_shown}
-use Rattle.gate_frames.proofs.Stages.{stages_in, stages_after, IsStageEvent, nobody_owns}
+use Rattle.gate_frames.proofs.Snapshots.{noted_part, noted_shown}
+use Rattle.gate_frames.proofs.Stages.{stages_in, stages_after, nobody_owns}
 use Rattle.gate_frames.proofs.Trees.{tree_within, tree_holds, tree_then}
 use Rattle.gate_frames.proofs.Words.{load_same}
 use Rattle.snapshot_laws.proofs.Noted.{notes_step}
