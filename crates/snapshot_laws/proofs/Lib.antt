@@ -1,0 +1,4 @@
+pub mod Frozen
+pub mod Noted
+pub mod Completes
+pub mod SnapshotEvents
