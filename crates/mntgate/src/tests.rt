@@ -3,9 +3,9 @@
 mod endings;
 mod fakes;
 mod freezes;
-mod trees;
 mod levels;
 mod remounts;
+mod trees;
 
 use crate::replay::{ReplayFault, replay};
 use access_model::GateError;
@@ -272,7 +272,20 @@ static FAULTS: [(&str, &str); 43] = [
     ),
     ("config 1 1 1 2 8\nfly\n", "line 2: unknown command"),
     ("config 1 1 1 2 8\n0 fly\n", "line 2: unknown command"),
-    ("config 1 1 1 2 8\ntree\n", "line 2: unknown command"),
+    ("config 1 1 1 2 8\ntrees\n", "line 2: unknown command"),
+    ("config 1 1 1 2 8\n0 tree\n", "line 2: unknown command"),
+    ("config 1 1 1 2 8\ntree 0\n", "line 2: wrong number of words"),
+    (
+        "config 1 1 1 2 8\n0 create 0\n",
+        "line 2: wrong number of words",
+    ),
+    (
+        "config 1 1 1 2 8\n0 snapshot 1\n",
+        "line 2: wrong number of words",
+    ),
+    ("config 1 1 1 2 8\n0 create x fifo\n", "line 2: bad number"),
+    ("config 1 1 1 2 8\n0 create 0 fifo\n", "line 2: bad word"),
+    ("config 1 1 1 2 8\n0 grow 1 x\n", "line 2: bad number"),
     ("config 1 1 1 2 8\n0 freezes\n", "line 2: unknown command"),
     ("config 1 1 1 2 8\n 0 step\n", "line 2: unknown command"),
     ("config 1 1 1 2 8\n0  step\n", "line 2: unknown command"),

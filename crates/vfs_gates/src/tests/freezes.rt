@@ -190,6 +190,7 @@ fn a_freeze_comes_after_two_threads(rt: HostRuntime) -> Result<(), Fail> {
     );
     assert!(rt; one && two);
     assert_eq!(rt; task.freeze(&rt, &gates, &mut ()), Ok(()));
+    assert_eq!(rt; task.try_snapshot(&gates), Ok(()));
     let Err((error, gates, mut task)) = gates.close(task) else {
         panic!(rt; "closed before the join")
     };
