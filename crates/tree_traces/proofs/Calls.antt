@@ -1,6 +1,6 @@
 -- What the trace of a call at the tree says, kept from each event to the next, whichever call it is.
-use Rattle.std.proofs.Common.{◌≡◌, ℕ, suc, ◌<◌, ◌≤◌, Bool, true, false, refl, sym, ap, ◌∙◌, subst, arith}
-use Rattle.std.specs.Prelude.{◌||◌, Option, Some, None, Result, Ok, Err, List, [], ◌∷◌, length, is_some, option_map}
+use Rattle.std.proofs.Common.{◌≡◌, ℕ, ◌<◌, ◌≤◌, Bool, true, false, refl, sym, ap, ◌∙◌, subst, arith}
+use Rattle.std.specs.Prelude.{◌||◌, Option, Some, None, Result, Ok, Err, List, ◌∷◌, length, is_some, option_map}
 use Rattle.access_model.specs.declared.actions.Action.{Action}
 use Rattle.access_model.specs.declared.errors.GateError.{GateError}
 use Rattle.access_model.specs.declared.replies.Next.{Next}
@@ -82,7 +82,8 @@ module _ (P S : Type 0) (to : P → TreePhase) (at : S → P) (Knows : ((Event �
     pub short : (waits ≡ false → length trace ≤ most) → IsShort (most_events c op) trace
 
   module _ (IsOne : Reply → Type 0) (Honest : GateError → Type 0) (adds : Result Reply GateError → List Action) (e : Traced)
-      (earlier : List Traced) (answers : Answers IsOne Honest adds (e ∷ earlier)) (n : ℕ) (within : waits ≡ false → length earlier ≤ n) where
+      (earlier : List Traced) (answers : Answers IsOne Honest adds (e ∷ earlier)) (n : ℕ)
+      (within : waits ≡ false → length earlier ≤ n) where
 
     -- what is known and what comes say what the trace says after an event
     next_says : (next : Next P) (added : List Action) → EndsWell (Knows (SeenIn (e ∷ earlier))) so_far IsOne Honest adds next added →

@@ -6,10 +6,8 @@ use Rattle.access_model.specs.declared.actions.Action.{Action}
 use Rattle.access_model.specs.declared.errors.GateError.{GateError}
 use Rattle.access_model.specs.declared.errors.GateError.TheVariants.{NoEntry, NotDir, NoSpace, Again}
 use Rattle.access_model.specs.declared.actions.Kind.{Kind}
-use Rattle.access_model.specs.declared.replies.Next.TheVariants.{Go, Done}
 use Rattle.access_model.specs.declared.replies.Reply.{Reply}
 use Rattle.access_model.specs.declared.replies.Reply.TheVariants.{Node as NodeReply}
-use Rattle.cpu_words.specs.Hooks.{HookAnswer}
 use Rattle.cpu_words.specs.Touches.{found_by}
 use Rattle.gate_world.specs.declared.config.Config.{Config}
 use Rattle.gate_world.specs.declared.operations.Op.TheVariants.{Create as CreateOp}
@@ -55,6 +53,10 @@ events_before c RefundsChild = c.nodes + 2
 abbrev Knows : ((Event → Bool) → Type 0) → Create → Type 0
 Knows seen x = CreateKnows seen x x.step
 
+-- it has added nothing before its end
+abbrev so_far : Create → List Action
+so_far x = []
+
 module _ (c : Config) (d : ℕ) (kind : Kind) where
   -- the create at a step
   abbrev create_of : CreateStep → Create
@@ -62,11 +64,11 @@ module _ (c : Config) (d : ℕ) (kind : Kind) where
 
   -- what its trace says at a phase
   abbrev CreateAt : List Traced → Phase → List Action → Type 0
-  CreateAt = CallAt Create CreateStep Creates create_of Knows (λ x. []) (IsThere c) (events_before c) (c.nodes + 3) false c (CreateOp d kind)
+  CreateAt = CallAt Create CreateStep Creates create_of Knows so_far (IsThere c) (events_before c) (c.nodes + 3) false c (CreateOp d kind)
 
   -- what comes after so many events
   abbrev Comes : List Traced → ℕ → Next Create → Type 0
-  Comes = Stays Create CreateStep Creates create_of Knows (λ x. []) (IsThere c) (events_before c) (c.nodes + 3) false c (CreateOp d kind)
+  Comes = Stays Create CreateStep Creates create_of Knows so_far (IsThere c) (events_before c) (c.nodes + 3) false c (CreateOp d kind)
 
   -- a look at a node that was there
   node_looked : (trace : List Traced) (node : ℕ) (r : Option NodeWord) → node < c.nodes → is_some r ≡ true →
@@ -125,7 +127,7 @@ module _ (c : Config) (d : ℕ) (kind : Kind) where
 
   -- so the trace of a create says what its row asks for
   create_answers : (s : CreateStep) (trace : List Traced) →
-      Answers Create CreateStep Creates create_of Knows (λ x. []) (IsThere c) (events_before c) (c.nodes + 3) false c (CreateOp d kind)
+      Answers Create CreateStep Creates create_of Knows so_far (IsThere c) (events_before c) (c.nodes + 3) false c (CreateOp d kind)
       IsNodeReply (CreateHonest (SeenIn trace) (create_of s)) (create_adds (create_of s)) trace
   create_answers s trace = record {
     told = create_told trace;
@@ -145,7 +147,7 @@ module _ (c : Config) (d : ℕ) (kind : Kind) where
         subst (λ (p : Phase). MayHold (next_of p hook).0 value → SaysAfter CreateAt c (CreateOp d kind) p value hook earlier added)
         (sym here.1)
         (λ holds.
-          call_says Create CreateStep Creates create_of Knows (λ x. []) (IsThere c) (events_before c) (c.nodes + 3) false c (CreateOp d kind)
+          call_says Create CreateStep Creates create_of Knows so_far (IsThere c) (events_before c) (c.nodes + 3) false c (CreateOp d kind)
           IsNodeReply (CreateHonest (SeenIn (e ∷ earlier)) (create_of s)) (create_adds (create_of s)) e earlier
           (create_answers s (e ∷ earlier)) (events_before c s) here.2.3
           (create_after (create_of s) s (found_by (create_next (create_of s) s).1 value)).0

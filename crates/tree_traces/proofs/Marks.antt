@@ -1,15 +1,13 @@
 -- Traces of a page fault and of a write-back.
-use Rattle.std.proofs.Common.{◌≡◌, ℕ, ◌<◌, ◌≤◌, Bool, true, false, refl, sym, subst, inl, inr, arith}
-use Rattle.std.specs.Prelude.{◌==◌, Option, Some, None, Result, Ok, Err, List, [], ◌∷◌, length, is_some}
+use Rattle.std.proofs.Common.{◌≡◌, ℕ, ◌≤◌, Bool, true, false, refl, sym, subst, inl, inr, arith}
+use Rattle.std.specs.Prelude.{◌==◌, Result, Ok, Err, List, [], ◌∷◌, length}
 use Rattle.std.proofs.lemmas.Bool.{cases_Bool}
 use Rattle.access_model.specs.declared.actions.Action.{Action}
 use Rattle.access_model.specs.declared.errors.GateError.{GateError}
 use Rattle.access_model.specs.declared.replies.Next.{Next}
-use Rattle.access_model.specs.declared.replies.Next.TheVariants.{Go, Done}
 use Rattle.access_model.specs.declared.replies.Reply.{Reply}
 use Rattle.access_model.specs.declared.replies.Reply.TheVariants.{Unit as UnitReply}
 use Rattle.cpu_words.specs.declared.events.Event.{Event}
-use Rattle.cpu_words.specs.Hooks.{HookAnswer}
 use Rattle.cpu_words.specs.Touches.{found_by}
 use Rattle.gate_world.specs.declared.config.Config.{Config}
 use Rattle.gate_world.specs.declared.work.Phase.{Phase}
@@ -25,7 +23,6 @@ use Rattle.gate_world.specs.Work.{next_of}
 use Rattle.trace_laws.proofs.Says.{KeptWell, SaysAfter, event_at, tells_well, is_short_well}
 use Rattle.tree_laws.specs.Ends.{IsReply, where_done}
 use Rattle.tree_traces.proofs.Calls.{Answers, CallAt, Stays, call_says, looked, made_some, sees}
-use Rattle.access_model.specs.declared.errors.GateError.TheVariants.{NoEntry, IsDir, Again}
 use Rattle.gate_world.specs.declared.operations.Op.{Op}
 use Rattle.gate_world.specs.declared.operations.Op.TheVariants.{Fault as FaultOp, Flush as FlushOp}
 use Rattle.gate_world.specs.Operations.{first_mark}
@@ -116,10 +113,10 @@ module _ (c : Config) (file : ℕ) (dirty : Bool) where
   ]
 
   -- so the trace of a mark says what its row asks for
-  mark_answers : (s : MarkStep) (trace : List Traced) →
+  mark_answers : (trace : List Traced) →
       Answers Mark MarkStep TreeMarks mark_of Knows so_far IsThere events_before 2 false c (mark_op file dirty)
       (IsReply UnitReply) (FileHonest (SeenIn trace) file) (where_done (mark_done dirty file)) trace
-  mark_answers s trace = record {
+  mark_answers trace = record {
     told = mark_told file dirty trace;
     honest = mark_cause c file dirty trace;
     actions = mark_actions file dirty trace;
@@ -144,7 +141,7 @@ module _ (c : Config) (file : ℕ) (dirty : Bool) where
         (λ holds.
           call_says Mark MarkStep TreeMarks mark_of Knows so_far IsThere events_before 2 false c (mark_op file dirty)
           (IsReply UnitReply) (FileHonest (SeenIn (e ∷ earlier)) file) (where_done (mark_done dirty file)) e earlier
-          (mark_answers s (e ∷ earlier)) (events_before s) here.2.3
+          (mark_answers (e ∷ earlier)) (events_before s) here.2.3
           (mark_after (mark_of s) s (found_by (mark_next (mark_of s) s).1 value)).0
           (mark_after (mark_of s) s (found_by (mark_next (mark_of s) s).1 value)).1 ([]) added here.2.2
           (mark_ends (SeenIn earlier) (SeenIn (e ∷ earlier)) (mark_of s) s value (sees e earlier))

@@ -1,15 +1,13 @@
 -- Traces of a move.
-use Rattle.std.proofs.Common.{◌≡◌, ℕ, ◌<◌, ◌≤◌, Bool, true, false, refl, sym, subst, inl, inr, arith}
-use Rattle.std.specs.Prelude.{◌==◌, Option, Some, None, Result, Ok, Err, List, [], ◌∷◌, length, is_some}
+use Rattle.std.proofs.Common.{◌≡◌, ℕ, ◌≤◌, Bool, false, refl, sym, subst, inl, inr, arith}
+use Rattle.std.specs.Prelude.{◌==◌, Result, Ok, Err, List, ◌∷◌, length}
 use Rattle.std.proofs.lemmas.Bool.{cases_Bool}
 use Rattle.access_model.specs.declared.actions.Action.{Action}
 use Rattle.access_model.specs.declared.errors.GateError.{GateError}
 use Rattle.access_model.specs.declared.replies.Next.{Next}
-use Rattle.access_model.specs.declared.replies.Next.TheVariants.{Go, Done}
 use Rattle.access_model.specs.declared.replies.Reply.{Reply}
 use Rattle.access_model.specs.declared.replies.Reply.TheVariants.{Unit as UnitReply}
 use Rattle.cpu_words.specs.declared.events.Event.{Event}
-use Rattle.cpu_words.specs.Hooks.{HookAnswer}
 use Rattle.cpu_words.specs.Touches.{found_by}
 use Rattle.gate_world.specs.declared.config.Config.{Config}
 use Rattle.gate_world.specs.declared.work.Phase.{Phase}
@@ -18,11 +16,10 @@ use Rattle.gate_world.specs.declared.views.Traced.{Traced}
 use Rattle.gate_world.specs.Configs.{IsWithin}
 use Rattle.gate_world.specs.Courses.{IsTrace, MayHold, course_of}
 use Rattle.gate_world.specs.Found.{SeenIn}
-use Rattle.gate_world.specs.Traces.{actions_of, IsHonest, IsShort, IsTold, Tells, most_events}
+use Rattle.gate_world.specs.Traces.{actions_of, IsHonest, IsShort, Tells, most_events}
 use Rattle.gate_world.specs.Views.{with_hook}
 use Rattle.gate_world.specs.Work.{next_of}
 use Rattle.trace_laws.proofs.Says.{KeptWell, SaysAfter, event_at, tells_well, is_short_well}
-use Rattle.tree_laws.specs.Ends.{IsReply, where_done}
 use Rattle.tree_traces.proofs.Calls.{Answers, CallAt, Stays, call_says, looked, made_some, sees}
 use Rattle.access_model.specs.declared.actions.Action.TheVariants.{MoveTo as MoveToAction}
 use Rattle.access_model.specs.declared.errors.GateError.TheVariants.{NoEntry, IsDir, NotDir, Again}
@@ -35,7 +32,7 @@ use Rattle.gated_tree.specs.declared.phases.TreePhase.TheVariants.{MoveTo as Mov
 use Rattle.gated_tree.specs.Nodes.{word_of, as_file, as_directory, unpacked, file_in, directory_in}
 use Rattle.gated_tree.specs.Phases.{at_move, move_after, move_next}
 use Rattle.gated_tree.specs.Refusals.{MoveHonest}
-use Rattle.tree_laws.specs.Ends.{MoveKnows, move_added}
+use Rattle.tree_laws.specs.Ends.{IsReply, MoveKnows, move_added, where_done}
 use Rattle.tree_laws.proofs.Ends.{move_ends}
 
 -- how many events a move has done before a step

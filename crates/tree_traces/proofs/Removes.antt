@@ -1,15 +1,13 @@
 -- Traces of a remove.
-use Rattle.std.proofs.Common.{◌≡◌, ℕ, ◌<◌, ◌≤◌, Bool, true, false, refl, sym, subst, inl, inr, arith}
-use Rattle.std.specs.Prelude.{◌==◌, Option, Some, None, Result, Ok, Err, List, [], ◌∷◌, length, is_some}
+use Rattle.std.proofs.Common.{◌≡◌, ℕ, ◌≤◌, Bool, false, refl, sym, subst, inl, inr, arith}
+use Rattle.std.specs.Prelude.{◌==◌, Result, Ok, Err, List, ◌∷◌, length}
 use Rattle.std.proofs.lemmas.Bool.{cases_Bool}
 use Rattle.access_model.specs.declared.actions.Action.{Action}
 use Rattle.access_model.specs.declared.errors.GateError.{GateError}
 use Rattle.access_model.specs.declared.replies.Next.{Next}
-use Rattle.access_model.specs.declared.replies.Next.TheVariants.{Go, Done}
 use Rattle.access_model.specs.declared.replies.Reply.{Reply}
 use Rattle.access_model.specs.declared.replies.Reply.TheVariants.{Unit as UnitReply}
 use Rattle.cpu_words.specs.declared.events.Event.{Event}
-use Rattle.cpu_words.specs.Hooks.{HookAnswer}
 use Rattle.cpu_words.specs.Touches.{found_by}
 use Rattle.gate_world.specs.declared.config.Config.{Config}
 use Rattle.gate_world.specs.declared.work.Phase.{Phase}
@@ -18,14 +16,12 @@ use Rattle.gate_world.specs.declared.views.Traced.{Traced}
 use Rattle.gate_world.specs.Configs.{IsWithin}
 use Rattle.gate_world.specs.Courses.{IsTrace, MayHold, course_of}
 use Rattle.gate_world.specs.Found.{SeenIn}
-use Rattle.gate_world.specs.Traces.{actions_of, IsHonest, IsShort, IsTold, Tells, most_events}
+use Rattle.gate_world.specs.Traces.{actions_of, IsShort, Tells, most_events}
 use Rattle.gate_world.specs.Views.{with_hook}
 use Rattle.gate_world.specs.Work.{next_of}
 use Rattle.trace_laws.proofs.Says.{KeptWell, SaysAfter, event_at, tells_well, is_short_well}
-use Rattle.tree_laws.specs.Ends.{IsReply, where_done}
 use Rattle.tree_traces.proofs.Calls.{Answers, CallAt, Stays, call_says, looked, made_some, sees}
 use Rattle.access_model.specs.declared.actions.Action.TheVariants.{Remove as RemoveAction}
-use Rattle.access_model.specs.declared.errors.GateError.TheVariants.{NoEntry, IsDir, Again}
 use Rattle.gate_world.specs.declared.operations.Op.TheVariants.{Remove as RemoveOp}
 use Rattle.gate_world.specs.Operations.{first_remove}
 use Rattle.gated_tree.specs.declared.changes.Remove.{Remove}
@@ -35,7 +31,7 @@ use Rattle.gated_tree.specs.declared.phases.TreePhase.TheVariants.{Remove as Rem
 use Rattle.gated_tree.specs.Nodes.{word_of, as_file, unpacked, file_in}
 use Rattle.gated_tree.specs.Phases.{at_remove, remove_after, remove_next}
 use Rattle.gated_tree.specs.Refusals.{FileHonest}
-use Rattle.tree_laws.specs.Ends.{remove_added}
+use Rattle.tree_laws.specs.Ends.{IsReply, remove_added, where_done}
 use Rattle.tree_laws.proofs.Ends.{remove_ends}
 
 -- how many events a remove has done before a step
@@ -83,14 +79,6 @@ module _ (c : Config) (file : ℕ) where
   remove_goes (RefundsBlocks node) value trace may = (RefundsChild node, refl, tt, λ q. omega arith)
   remove_goes (RefundsChild node) value trace may = λ q. omega arith
 
-  -- why a remove is refused doesn't depend on its step
-  remove_cause : (s : RemoveStep) (trace : List Traced) (refusal : GateError) → FileHonest (SeenIn trace) file refusal →
-      IsHonest c (RemoveOp file) refusal trace
-  remove_cause s trace NoEntry h = h
-  remove_cause s trace IsDir h = h
-  remove_cause s trace Again h = h
-  remove_cause s trace refusal h = absurd h
-
   -- what it has added, said both ways
   remove_actions : (trace : List Traced) (answer : Result Reply GateError) →
       where_done (RemoveAction file) answer ≡ actions_of (RemoveOp file) answer trace
@@ -98,12 +86,12 @@ module _ (c : Config) (file : ℕ) where
   remove_actions trace (Err refusal) = refl
 
   -- so the trace of a remove says what its row asks for
-  remove_answers : (s : RemoveStep) (trace : List Traced) →
+  remove_answers : (trace : List Traced) →
       Answers Remove RemoveStep Removes remove_of Knows so_far IsThere events_before 4 false c (RemoveOp file)
       (IsReply UnitReply) (FileHonest (SeenIn trace) file) (where_done (RemoveAction file)) trace
-  remove_answers s trace = record {
+  remove_answers trace = record {
     told = λ reply h. h;
-    honest = remove_cause s trace;
+    honest = λ refusal h. h;
     actions = remove_actions trace;
     short = λ h. h refl;
   }
@@ -128,7 +116,7 @@ module _ (c : Config) (file : ℕ) where
         (λ holds.
           call_says Remove RemoveStep Removes remove_of Knows so_far IsThere events_before 4 false c (RemoveOp file)
           (IsReply UnitReply) (FileHonest (SeenIn (e ∷ earlier)) file) (where_done (RemoveAction file)) e earlier
-          (remove_answers s (e ∷ earlier)) (events_before s) here.2.3
+          (remove_answers (e ∷ earlier)) (events_before s) here.2.3
           (remove_after (remove_of s) s (found_by (remove_next (remove_of s) s).1 value)).0
           (remove_after (remove_of s) s (found_by (remove_next (remove_of s) s).1 value)).1 (remove_added (remove_of s) s) added here.2.2
           (remove_ends (SeenIn earlier) (SeenIn (e ∷ earlier)) (remove_of s) s value (sees e earlier))

@@ -1,13 +1,12 @@
 -- Traces of a snapshot.
 use Rattle.std.proofs.Common.{◌≡◌, ℕ, ◌+◌, ◌*◌, ◌<◌, ◌≤◌, Bool, true, false, refl, sym, subst, inl, inr, arith}
-use Rattle.std.specs.Prelude.{◌==◌, ◌&&◌, Option, Some, None, Result, Ok, Err, List, [], ◌∷◌, length, is_some}
+use Rattle.std.specs.Prelude.{◌==◌, Ok, Err, List, [], ◌∷◌, length}
 use Rattle.std.proofs.lemmas.Bool.{cases_Bool, cases_lt, lt-ltb, le-ltb}
 use Rattle.access_model.specs.declared.actions.Action.{Action}
 use Rattle.access_model.specs.declared.errors.GateError.{GateError}
 use Rattle.access_model.specs.declared.errors.GateError.TheVariants.{Again, Invalid}
 use Rattle.access_model.specs.declared.replies.Next.{Next}
-use Rattle.access_model.specs.declared.replies.Next.TheVariants.{Go, Done}
-use Rattle.access_model.specs.declared.replies.Reply.{Reply}
+use Rattle.access_model.specs.declared.replies.Next.TheVariants.{Go}
 use Rattle.access_model.specs.declared.replies.Reply.TheVariants.{Tree as TreeReply}
 use Rattle.cpu_words.specs.declared.events.Event.{Event}
 use Rattle.cpu_words.specs.Hooks.{HookAnswer}
@@ -123,7 +122,8 @@ module _ (c : Config) (t : ℕ) (wait : Bool) where
     | inr e ↦ rw e (Releases (Err Invalid), refl, tt, λ q. omega arith)
   ]
   snapshot_goes lim earlier LoadsUsed value hook there may = (LoadsNode 0, refl, omega (arith, lim.some_node), λ q. omega arith)
-  snapshot_goes lim earlier (LoadsNode node) value hook there may = rw may (next_node (longer earlier value hook (LoadsNode node)) node there)
+  snapshot_goes lim earlier (LoadsNode node) value hook there may =
+      rw may (next_node (longer earlier value hook (LoadsNode node)) node there)
   snapshot_goes lim earlier (LoadsKids node) value hook there may = next_kids (longer earlier value hook (LoadsKids node)) node there
   snapshot_goes lim earlier (Releases answer) value hook there may = λ q. omega arith
 
