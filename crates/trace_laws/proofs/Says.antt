@@ -14,7 +14,7 @@ use Rattle.gate_world.specs.declared.views.Traced.{Traced}
 use Rattle.gate_world.specs.Work.{next_of, after_of}
 use Rattle.gate_world.specs.Views.{actions_after, with_hook}
 use Rattle.gate_world.specs.Beginnings.{first_phase}
-use Rattle.gate_world.specs.Courses.{course_after, course_of, IsEventOf, IsNext, IsTrace}
+use Rattle.gate_world.specs.Courses.{course_after, course_of, IsEventOf, IsNext, IsTrace, MayHold}
 use Rattle.gate_world.specs.Traces.{most_events, IsShort, Tells}
 
 -- what a trace says by where its operation stands, where `At` is what it says at a phase
@@ -34,21 +34,29 @@ SaysAfter At c op phase value hook earlier added =
     Says At c op (with_hook (event_at phase value hook) hook ∷ earlier) (after_of phase (found_by (next_of phase hook).1 value) hook).0
     (actions_after (after_of phase (found_by (next_of phase hook).1 value) hook).1 added)
 
--- what is kept of an operation: it holds at the beginning, each event keeps it, and it bounds the trace
+-- What is kept of an operation: it holds at the beginning, each event keeps it, and it bounds the trace. An event is on a word that held
+-- what it may.
+pub record KeptWell (At : List Traced → Phase → List Action → Type 0) (c : Config) (t : ℕ) (op : Op) : Type 0 where
+  pub first : At [] (first_phase c t op) []
+  pub more : (phase : Phase) (value : ℕ) (hook : HookAnswer) (earlier : List Traced) (added : List Action) →
+      MayHold (next_of phase hook).0 value → At earlier phase added → SaysAfter At c op phase value hook earlier added
+  pub short : (trace : List Traced) (phase : Phase) (added : List Action) → At trace phase added → IsShort (most_events c op) trace
+
+-- the same, where an event keeps it whatever its word held
 pub record Kept (At : List Traced → Phase → List Action → Type 0) (c : Config) (t : ℕ) (op : Op) : Type 0 where
   pub first : At [] (first_phase c t op) []
   pub more : (phase : Phase) (value : ℕ) (hook : HookAnswer) (earlier : List Traced) (added : List Action) → At earlier phase added →
       SaysAfter At c op phase value hook earlier added
   pub short : (trace : List Traced) (phase : Phase) (added : List Action) → At trace phase added → IsShort (most_events c op) trace
 
-module _ (At : List Traced → Phase → List Action → Type 0) (c : Config) (t : ℕ) (op : Op) (kept : Kept At c t op) where
+module _ (At : List Traced → Phase → List Action → Type 0) (c : Config) (t : ℕ) (op : Op) (kept : KeptWell At c t op) where
   -- the event of a phase keeps what the trace says
   event_keeps : (phase : Phase) (added : List Action) (e : Traced) (earlier : List Traced) → IsEventOf phase e → At earlier phase added →
       Says At c op (e ∷ earlier) (after_of phase e.event.found e.hook).0 (actions_after (after_of phase e.event.found e.hook).1 added)
   event_keeps phase added e earlier next here =
       subst (λ (event : Event). Says At c op (with_hook event e.hook ∷ earlier) (after_of phase event.found e.hook).0
       (actions_after (after_of phase event.found e.hook).1 added))
-      (sym next.1) (kept.more phase next.0 e.hook earlier added here)
+      (sym next.1) (kept.more phase next.0 e.hook earlier added next.2 here)
 
   -- one more event of a trace does
   next_keeps : (comes : Next Phase) (added : List Action) (e : Traced) (earlier : List Traced) → IsNext comes e →
@@ -59,7 +67,7 @@ module _ (At : List Traced → Phase → List Action → Type 0) (c : Config) (t
   next_keeps (Done answer) added e earlier next here = absurd next
 
   -- every trace says it
-  pub says : (trace : List Traced) → IsTrace c t op trace → Says At c op trace (course_of c t op trace).comes (course_of c t op trace).added
+  says : (trace : List Traced) → IsTrace c t op trace → Says At c op trace (course_of c t op trace).comes (course_of c t op trace).added
   says [] h = kept.first
   says (e ∷ earlier) h = next_keeps (course_of c t op earlier).comes (course_of c t op earlier).added e earlier h.0 (says earlier h.1)
 
@@ -78,8 +86,25 @@ module _ (At : List Traced → Phase → List Action → Type 0) (c : Config) (t
   says_short trace (Done answer) added h = h.1
 
   -- so every trace tells what is to be told, and is short
+  pub tells_well : (trace : List Traced) → IsTrace c t op trace →
+      Tells c op trace (course_of c t op trace).comes (course_of c t op trace).added
+  tells_well trace h = says_tells trace (course_of c t op trace).comes (course_of c t op trace).added (says trace h)
+
+  pub is_short_well : (trace : List Traced) → IsTrace c t op trace → IsShort (most_events c op) trace
+  is_short_well trace h = says_short trace (course_of c t op trace).comes (course_of c t op trace).added (says trace h)
+
+module _ (At : List Traced → Phase → List Action → Type 0) (c : Config) (t : ℕ) (op : Op) (kept : Kept At c t op) where
+  -- what is kept whatever a word held is kept where it held what it may
+  kept_well : KeptWell At c t op
+  kept_well = record {
+    first = kept.first;
+    more = λ phase value hook earlier added may here. kept.more phase value hook earlier added here;
+    short = kept.short;
+  }
+
+  -- so every trace tells what is to be told then too, and is short
   pub tells : (trace : List Traced) → IsTrace c t op trace → Tells c op trace (course_of c t op trace).comes (course_of c t op trace).added
-  tells trace h = says_tells trace (course_of c t op trace).comes (course_of c t op trace).added (says trace h)
+  tells trace h = tells_well At c t op kept_well trace h
 
   pub is_short : (trace : List Traced) → IsTrace c t op trace → IsShort (most_events c op) trace
-  is_short trace h = says_short trace (course_of c t op trace).comes (course_of c t op trace).added (says trace h)
+  is_short trace h = is_short_well At c t op kept_well trace h
