@@ -12,7 +12,10 @@ use crate::operations::Op;
 use crate::work::Phase;
 use access_model::{GateError, Kind};
 use freeze_levels::{Freeze, FreezeStep, Thaw, ThawStep};
-use gated_tree::{Create, CreateStep, Grow, GrowStep, Mark, MarkStep, MoveStep, MoveTo, Remove, RemoveStep, Snapshot, SnapshotStep, TreePhase};
+use gated_tree::{
+    Create, CreateStep, Grow, GrowStep, Mark, MarkStep, MoveStep, MoveTo, Remove, RemoveStep,
+    Snapshot, SnapshotStep, TreePhase,
+};
 use mount_counts::{Change, ChangeStep, MountPhase, Remount, RemountStep, Want, WantStep};
 use percpu_rwsem::{Callback, CallbackStep, DownRead, DownReadStep, Transition, UpRead};
 use write_access::WritePhase;
@@ -414,12 +417,7 @@ fn begin_flush(config: Config, held: &Accesses, file: u8) -> Result<Phase, GateE
 }
 
 /// A snapshot is not begun inside a level.
-fn begin_snapshot(
-    config: Config,
-    task: u8,
-    held: &Accesses,
-    wait: bool,
-) -> Result<Phase, GateError>
+fn begin_snapshot(config: Config, task: u8, held: &Accesses, wait: bool) -> Result<Phase, GateError>
     ensures { result ≡ beginning config task false (mounts_held held.now) (levels_held held.now) (SnapshotOp wait) }
 {
     if !held.is_in_no_level() {

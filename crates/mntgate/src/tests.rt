@@ -274,7 +274,10 @@ static FAULTS: [(&str, &str); 43] = [
     ("config 1 1 1 2 8\n0 fly\n", "line 2: unknown command"),
     ("config 1 1 1 2 8\ntrees\n", "line 2: unknown command"),
     ("config 1 1 1 2 8\n0 tree\n", "line 2: unknown command"),
-    ("config 1 1 1 2 8\ntree 0\n", "line 2: wrong number of words"),
+    (
+        "config 1 1 1 2 8\ntree 0\n",
+        "line 2: wrong number of words",
+    ),
     (
         "config 1 1 1 2 8\n0 create 0\n",
         "line 2: wrong number of words",

@@ -45,7 +45,11 @@ impl Task {
     /// file system, the hook answers this.
     #[cold]
     #[inline(never)]
-    pub(crate) fn finish(&mut self, gates: &Gates, hook: Result<(), u16>) -> Result<Reply, GateError>
+    pub(crate) fn finish(
+        &mut self,
+        gates: &Gates,
+        hook: Result<(), u16>,
+    ) -> Result<Reply, GateError>
         requires from { IsFrom self.old gates.now }
         requires trying { IsTrying self.old }
         ensures { (op : OpType) (start : TaskState) → Goes op start self.old → Called op start self.new result }

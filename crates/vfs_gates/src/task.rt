@@ -12,11 +12,11 @@ use crate::rooms::Rooms;
 use crate::turns::{Turn, do_event};
 use access_model::GateError;
 use freeze_levels::HookKind;
-use gated_tree::{Tree, TreePhase};
 use gate_core::seats::Seat as Kept;
 use gate_core::{Progress, Step};
 use gate_steps::Items;
 use gate_world::{Accesses, Config, Op, Phase};
+use gated_tree::{Tree, TreePhase};
 use std::marker::Model;
 
 /// The seat of a task at the table.

@@ -199,11 +199,7 @@ fn both_write<R: Wait + Threads + Sync>(
     ensures one { IsFrom result.0.0 gates.now }
     ensures two { IsFrom result.1.0 gates.now }
 {
-    thread::join(
-        rt,
-        || write(one, rt, gates, 0),
-        || write(two, rt, gates, 1),
-    )
+    thread::join(rt, || write(one, rt, gates, 0), || write(two, rt, gates, 1))
 }
 
 /// Four writers.
