@@ -1,1 +1,2 @@
 pub mod TreeWords
+pub mod TreeFits
