@@ -2,7 +2,7 @@
 use Rattle.std.proofs.Common.{◌≡◌, ℕ, refl, ap, ◌∙◌, inl, inr}
 use Rattle.std.proofs.lemmas.Bool.{ne_eqb}
 use Rattle.std.proofs.lemmas.Bool.Decides.{eqb_tells}
-use Rattle.std.specs.Prelude.{Option, Some, None, Ok, Err, List, ◌∷◌, not, Bool, true, false, if◌then◌else◌, is_some}
+use Rattle.std.specs.Prelude.{Option, Some, None, Ok, Err, List, ◌∷◌, not, Bool, true, false, if◌then◌else◌, is_some, ◌==◌}
 use Rattle.access_model.specs.declared.errors.GateError.TheVariants.{Invalid}
 use Rattle.access_model.specs.declared.replies.Reply.TheVariants.{Tree as TreeReply}
 use Rattle.access_model.specs.declared.replies.Next.{Next}

@@ -1,6 +1,6 @@
 -- Of the calls at the tree only a snapshot waits, and only where another task has `umount`.
 use Rattle.std.proofs.Common.{◌≡◌, ℕ, ◌<◌, ap, inl, inr}
-use Rattle.std.specs.Prelude.{Some, None, Ok, Err, List, Option, Result, ◌==◌, if◌then◌else◌, Bool, true, false, is_some, nat_lt}
+use Rattle.std.specs.Prelude.{Some, None, Ok, Err, List, Option, Result, ◌==◌, if◌then◌else◌, Bool, true, false, is_some, nat_lt, ◌+◌}
 use Rattle.std.proofs.lemmas.Bool.Decides.{eqb_tells}
 use Rattle.access_model.specs.Replies.{map_next}
 use Rattle.access_model.specs.declared.replies.Next.{Next}
