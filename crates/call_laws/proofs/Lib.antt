@@ -6,3 +6,4 @@ pub mod TreeCauses
 pub mod NodeCauses
 pub mod Stubs
 pub mod CallPhases
+pub mod CallOps
