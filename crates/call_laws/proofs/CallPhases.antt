@@ -6,7 +6,7 @@ use Rattle.gate_world.specs.declared.work.Phase.TheVariants.{Trees}
 use Rattle.gate_world.specs.Views.{held_at, holds_level}
 use Rattle.gate_world.specs.Worlds.{after_step}
 use Rattle.gate_frames.proofs.Keeps.{PhaseKeeps}
-use Rattle.call_laws.proofs.Stubs.{tree_step, tree_completes_now}
+use Rattle.call_laws.proofs.CallSteps.{call_step, call_completes}
 use Rattle.call_laws.proofs.TreeWords.{tree_there, tree_leaves}
 use Rattle.call_laws.proofs.TreeFits.{tree_acts, tree_goes, tree_agrees}
 use Rattle.call_laws.proofs.TreeRuns.{tree_runs}
@@ -16,9 +16,9 @@ use Rattle.call_laws.proofs.NodeCauses.{tree_told}
 
 pub tree_phase_keeps : (c : Config) (x : TreePhase) → PhaseKeeps c (Trees x)
 tree_phase_keeps c x = record {
-  step = λ within w good t lt hook e. tree_step c within w good t lt hook x e;
+  step = λ within w good t lt hook e. call_step c within w good t lt hook x e;
   runs = λ within w good t lt hook e i one three. tree_runs c.tasks w t lt hook x e i;
-  completes = λ within w good t lt hook e. tree_completes_now c within w good t lt hook x e;
+  completes = λ within w good t lt hook e. call_completes c within w good t lt hook x e;
   word = λ within n le t lt held levels hook f. tree_there c within n t x hook f.0;
   acts = λ within t held levels found hook f. tree_acts held x found hook;
   goes = λ within t held levels found hook f. tree_goes c within t held levels x found hook f;

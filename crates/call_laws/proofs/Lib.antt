@@ -5,5 +5,6 @@ pub mod TreeWaits
 pub mod TreeCauses
 pub mod NodeCauses
 pub mod Stubs
+pub mod CallSteps
 pub mod CallPhases
 pub mod CallOps

@@ -1,9 +1,11 @@
 -- What other crates prove of the calls at the tree, until they are joined.
-use Rattle.std.proofs.Common.{◌≡◌, ℕ, ◌<◌, Bool}
+use Rattle.std.proofs.Common.{◌≡◌, ℕ, ◌<◌, Bool, true, false}
 use Rattle.std.specs.Prelude.{Some, List}
 use Rattle.cpu_words.specs.Hooks.{HookAnswer}
 use Rattle.access_model.specs.declared.actions.Kind.{Kind}
 use Rattle.gated_tree.specs.declared.phases.TreePhase.{TreePhase}
+use Rattle.gated_tree.specs.declared.phases.TreePhase.TheVariants.{Snapshot as Snapshots}
+use Rattle.gated_tree.specs.declared.snapshots.Snapshot.{Snapshot}
 use Rattle.gate_world.specs.declared.config.Config.{Config}
 use Rattle.gate_world.specs.declared.operations.Op.{Op}
 use Rattle.gate_world.specs.declared.operations.Op.TheVariants.{Create as CreateOp, Remove as RemoveOp, Grow as GrowOp, MoveTo as MoveToOp, Fault as FaultOp, Flush as FlushOp, Snapshot as SnapshotOp}
@@ -16,13 +18,22 @@ use Rattle.gate_world.specs.Rules.{IsGood, StepKeeps}
 use Rattle.gate_world.specs.Traces.{Tells, IsShort, most_events}
 use Rattle.gate_world.specs.Worlds.{World}
 
--- each event at the tree keeps the rule
-axiom pub tree_step : (c : Config) → IsWithin c → (w : World) → IsGood c w → (t : ℕ) → t < c.tasks → (hook : HookAnswer) →
-    (x : TreePhase) → (w.views t).phase ≡ Some (Trees x) → StepKeeps c w t hook (Trees x)
+-- the call is a snapshot
+abbrev pub is_snapshot : TreePhase → Bool
+is_snapshot (Snapshots x) = true
+is_snapshot x = false
 
--- a snapshot that it completes is of the present tree
-axiom pub tree_completes_now : (c : Config) → IsWithin c → (w : World) → IsGood c w → (t : ℕ) → t < c.tasks → (hook : HookAnswer) →
-    (x : TreePhase) → (w.views t).phase ≡ Some (Trees x) → CompletesNow c w t hook (Trees x)
+-- each event of a call but a snapshot keeps the rule
+axiom pub tree_step : (c : Config) → IsWithin c → (w : World) → IsGood c w → (t : ℕ) → t < c.tasks → (hook : HookAnswer) (x : TreePhase) →
+    is_snapshot x ≡ false → (w.views t).phase ≡ Some (Trees x) → StepKeeps c w t hook (Trees x)
+
+-- so does each event of a snapshot
+axiom pub snapshot_step : (c : Config) → IsWithin c → (w : World) → IsGood c w → (t : ℕ) → t < c.tasks → (hook : HookAnswer) (x : Snapshot) →
+    (w.views t).phase ≡ Some (Trees (Snapshots x)) → StepKeeps c w t hook (Trees (Snapshots x))
+
+-- and a snapshot that it completes is of the present tree
+axiom pub snapshot_completes_now : (c : Config) → IsWithin c → (w : World) → IsGood c w → (t : ℕ) → t < c.tasks → (hook : HookAnswer)
+    (x : Snapshot) → (w.views t).phase ≡ Some (Trees (Snapshots x)) → CompletesNow c w t hook (Trees (Snapshots x))
 
 -- the trace of an operation tells what is to be told
 abbrev pub AllTell : Config → Op → Type 0

@@ -2,6 +2,9 @@
 use Rattle.std.proofs.Common.{◌≡◌, ℕ, ◌<◌, refl, arith}
 use Rattle.cpu_words.specs.Hooks.{HookAnswer}
 use Rattle.cpu_words.specs.Names.{IsWord}
+use Rattle.cpu_words.specs.Words.{Words, put}
+use Rattle.cpu_words.specs.declared.names.WordName.{WordName}
+use Rattle.cpu_words.specs.declared.names.WordName.TheVariants.{Umount, Used, Node, Kids}
 use Rattle.gated_tree.specs.declared.nodes.NodeWord.{NodeWord}
 use Rattle.gated_tree.specs.declared.changes.Create.{Create}
 use Rattle.gated_tree.specs.declared.changes.CreateStep.{CreateStep}
@@ -27,7 +30,6 @@ use Rattle.gated_tree.specs.declared.phases.TreePhase.TheVariants.{Create as Cre
 use Rattle.gated_tree.specs.Calls.{CreateStepFits, RemoveStepFits, MoveStepFits, SnapshotStepFits, TreePhaseFits}
 use Rattle.gated_tree.specs.Phases.{create_next, remove_next, grow_next, move_next, mark_next, snapshot_next, next as tree_next, at_create, at_remove, at_grow, at_move, at_mark, at_snapshot}
 use Rattle.gate_world.specs.declared.config.Config.{Config}
-use Rattle.cpu_words.specs.Words.{Words}
 use Rattle.gate_world.specs.Configs.{IsWithin, extents_among}
 use Rattle.gate_world.specs.Rules.{SameWords, SyncAt}
 use Rattle.gate_world.specs.Worlds.{words_after}
@@ -97,56 +99,82 @@ pub record SameLevels (old new : Words) : Type 0 where
   pub counts : new.count ≡ old.count
   pub level_counts : new.level ≡ old.level
 
+-- a word of the tree, or `umount`: no level reads it, and it is no count
+abbrev IsApartWord : WordName → Type 0
+IsApartWord Umount = Unit {0}
+IsApartWord Used = Unit {0}
+IsApartWord (Node n) = Unit {0}
+IsApartWord (Kids n) = Unit {0}
+IsApartWord name = ⊥
+
+-- so a write of it leaves the levels and the counts
+put_apart : (w : Words) (name : WordName) (value : ℕ) → IsApartWord name → SameLevels w (put w name value)
+put_apart w Umount value h = record { at_levels = λ i. (refl, refl, refl, refl); counts = refl; level_counts = refl }
+put_apart w Used value h = record { at_levels = λ i. (refl, refl, refl, refl); counts = refl; level_counts = refl }
+put_apart w (Node n) value h = record { at_levels = λ i. (refl, refl, refl, refl); counts = refl; level_counts = refl }
+put_apart w (Kids n) value h = record { at_levels = λ i. (refl, refl, refl, refl); counts = refl; level_counts = refl }
+put_apart w name value h = absurd h
+
+-- each event of a create is on such a word
+create_apart : (x : Create) (s : CreateStep) → IsApartWord (create_next x s).0
+create_apart x LoadsDirectory = tt
+create_apart x (LoadsNode node) = tt
+create_apart x (ChargesChild node) = tt
+create_apart x (TakesNode node) = tt
+create_apart x RefundsChild = tt
+
+-- of a remove
+remove_apart : (x : Remove) (s : RemoveStep) → IsApartWord (remove_next x s).0
+remove_apart x LoadsFileToRemove = tt
+remove_apart x (FreesNode file) = tt
+remove_apart x (RefundsItsBlocks file) = tt
+remove_apart x (RefundsItsChild file) = tt
+
+-- of a grow
+grow_apart : (x : Grow) (s : GrowStep) → IsApartWord (grow_next x s).0
+grow_apart x LoadsFileToGrow = tt
+grow_apart x (LoadsUsed file) = tt
+grow_apart x (ChargesBlocks file used) = tt
+grow_apart x (GrowsFile file) = tt
+grow_apart x RefundsBlocks = tt
+
+-- of a move
+move_apart : (x : MoveTo) (s : MoveStep) → IsApartWord (move_next x s).0
+move_apart x LoadsFileToMove = tt
+move_apart x (LoadsTarget file) = tt
+move_apart x (ChargesTarget file) = tt
+move_apart x (MovesFile file) = tt
+move_apart x (RefundsOne dir answer) = tt
+
+-- of a page fault and a write-back
+mark_apart : (x : Mark) (s : MarkStep) → IsApartWord (mark_next x s).0
+mark_apart x LoadsFileToMark = tt
+mark_apart x (MarksFile file) = tt
+
 module _ (w : Words) (hook : HookAnswer) where
   -- what an event of a phase leaves of the words
   abbrev Leaves : TreePhase → Type 0
   Leaves x = SameLevels w (words_after w (Trees x) hook)
 
-  create_leaves : (x : Create) (s : CreateStep) → Leaves (Creates (at_create x s))
-  create_leaves x LoadsDirectory = record { at_levels = λ i. (refl, refl, refl, refl); counts = refl; level_counts = refl }
-  create_leaves x (LoadsNode node) = record { at_levels = λ i. (refl, refl, refl, refl); counts = refl; level_counts = refl }
-  create_leaves x (ChargesChild node) = record { at_levels = λ i. (refl, refl, refl, refl); counts = refl; level_counts = refl }
-  create_leaves x (TakesNode node) = record { at_levels = λ i. (refl, refl, refl, refl); counts = refl; level_counts = refl }
-  create_leaves x RefundsChild = record { at_levels = λ i. (refl, refl, refl, refl); counts = refl; level_counts = refl }
+  -- an event on such a word leaves the levels and the counts
+  word_leaves : (x : TreePhase) → IsApartWord (tree_next x hook).0 → Leaves x
+  word_leaves x h = put_apart w (tree_next x hook).0 _ h
 
-  remove_leaves : (x : Remove) (s : RemoveStep) → Leaves (Removes (at_remove x s))
-  remove_leaves x LoadsFileToRemove = record { at_levels = λ i. (refl, refl, refl, refl); counts = refl; level_counts = refl }
-  remove_leaves x (FreesNode file) = record { at_levels = λ i. (refl, refl, refl, refl); counts = refl; level_counts = refl }
-  remove_leaves x (RefundsItsBlocks file) = record { at_levels = λ i. (refl, refl, refl, refl); counts = refl; level_counts = refl }
-  remove_leaves x (RefundsItsChild file) = record { at_levels = λ i. (refl, refl, refl, refl); counts = refl; level_counts = refl }
-
-  grow_leaves : (x : Grow) (s : GrowStep) → Leaves (Grows (at_grow x s))
-  grow_leaves x LoadsFileToGrow = record { at_levels = λ i. (refl, refl, refl, refl); counts = refl; level_counts = refl }
-  grow_leaves x (LoadsUsed file) = record { at_levels = λ i. (refl, refl, refl, refl); counts = refl; level_counts = refl }
-  grow_leaves x (ChargesBlocks file used) = record { at_levels = λ i. (refl, refl, refl, refl); counts = refl; level_counts = refl }
-  grow_leaves x (GrowsFile file) = record { at_levels = λ i. (refl, refl, refl, refl); counts = refl; level_counts = refl }
-  grow_leaves x RefundsBlocks = record { at_levels = λ i. (refl, refl, refl, refl); counts = refl; level_counts = refl }
-
-  move_leaves : (x : MoveTo) (s : MoveStep) → Leaves (Moves (at_move x s))
-  move_leaves x LoadsFileToMove = record { at_levels = λ i. (refl, refl, refl, refl); counts = refl; level_counts = refl }
-  move_leaves x (LoadsTarget file) = record { at_levels = λ i. (refl, refl, refl, refl); counts = refl; level_counts = refl }
-  move_leaves x (ChargesTarget file) = record { at_levels = λ i. (refl, refl, refl, refl); counts = refl; level_counts = refl }
-  move_leaves x (MovesFile file) = record { at_levels = λ i. (refl, refl, refl, refl); counts = refl; level_counts = refl }
-  move_leaves x (RefundsOne dir answer) = record { at_levels = λ i. (refl, refl, refl, refl); counts = refl; level_counts = refl }
-
-  mark_leaves : (x : Mark) (s : MarkStep) → Leaves (TreeMarks (at_mark x s))
-  mark_leaves x LoadsFileToMark = record { at_levels = λ i. (refl, refl, refl, refl); counts = refl; level_counts = refl }
-  mark_leaves x (MarksFile file) = record { at_levels = λ i. (refl, refl, refl, refl); counts = refl; level_counts = refl }
-
+  -- a snapshot also loads the stage
   snapshot_leaves : (x : Snapshot) (s : SnapshotStep) → Leaves (Snapshots (at_snapshot x s))
-  snapshot_leaves x Locks = record { at_levels = λ i. (refl, refl, refl, refl); counts = refl; level_counts = refl }
+  snapshot_leaves x Locks = word_leaves (Snapshots (at_snapshot x Locks)) tt
   snapshot_leaves x LoadsStage = record { at_levels = λ i. (refl, refl, refl, refl); counts = refl; level_counts = refl }
-  snapshot_leaves x LoadsUsedWord = record { at_levels = λ i. (refl, refl, refl, refl); counts = refl; level_counts = refl }
-  snapshot_leaves x (LoadsNodeWord node) = record { at_levels = λ i. (refl, refl, refl, refl); counts = refl; level_counts = refl }
-  snapshot_leaves x (LoadsKids node) = record { at_levels = λ i. (refl, refl, refl, refl); counts = refl; level_counts = refl }
-  snapshot_leaves x (Releases answer) = record { at_levels = λ i. (refl, refl, refl, refl); counts = refl; level_counts = refl }
+  snapshot_leaves x LoadsUsedWord = word_leaves (Snapshots (at_snapshot x LoadsUsedWord)) tt
+  snapshot_leaves x (LoadsNodeWord node) = word_leaves (Snapshots (at_snapshot x (LoadsNodeWord node))) tt
+  snapshot_leaves x (LoadsKids node) = word_leaves (Snapshots (at_snapshot x (LoadsKids node))) tt
+  snapshot_leaves x (Releases answer) = word_leaves (Snapshots (at_snapshot x (Releases answer))) tt
 
   -- no event at the tree changes a word of a level, or a count
   pub tree_leaves : (x : TreePhase) → Leaves x
-  tree_leaves (Creates x) = create_leaves x x.step
-  tree_leaves (Removes x) = remove_leaves x x.step
-  tree_leaves (Grows x) = grow_leaves x x.step
-  tree_leaves (Moves x) = move_leaves x x.step
-  tree_leaves (TreeMarks x) = mark_leaves x x.step
+  tree_leaves (Creates x) = word_leaves (Creates x) (create_apart x x.step)
+  tree_leaves (Removes x) = word_leaves (Removes x) (remove_apart x x.step)
+  tree_leaves (Grows x) = word_leaves (Grows x) (grow_apart x x.step)
+  tree_leaves (Moves x) = word_leaves (Moves x) (move_apart x x.step)
+  tree_leaves (TreeMarks x) = word_leaves (TreeMarks x) (mark_apart x x.step)
   tree_leaves (Snapshots x) = snapshot_leaves x x.step
-  tree_leaves (TreeClears x) = record { at_levels = λ i. (refl, refl, refl, refl); counts = refl; level_counts = refl }
+  tree_leaves (TreeClears x) = word_leaves (TreeClears x) tt
