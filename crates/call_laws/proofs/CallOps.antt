@@ -4,10 +4,33 @@ use Rattle.std.proofs.lemmas.Bool.{ltb-true}
 use Rattle.std.specs.Prelude.{nat_lt, ◌&&◌, false}
 use Rattle.access_model.specs.declared.actions.Kind.{Kind}
 use Rattle.gate_world.specs.declared.config.Config.{Config}
-use Rattle.gate_world.specs.declared.operations.Op.TheVariants.{Create as CreateOp, Remove as RemoveOp, Grow as GrowOp, MoveTo as MoveToOp, Fault as FaultOp, Flush as FlushOp, Snapshot as SnapshotOp}
+use Rattle.gate_world.specs.declared.operations.Op.TheVariants.{
+  Create as CreateOp,
+  Remove as RemoveOp,
+  Grow as GrowOp,
+  MoveTo as MoveToOp,
+  Fault as FaultOp,
+  Flush as FlushOp,
+  Snapshot as SnapshotOp,
+}
 use Rattle.gate_world.specs.Traces.{most_events}
 use Rattle.gate_frames.proofs.Keeps.{by_bool, none_agree, IsSmall, OpKeeps}
-use Rattle.call_laws.proofs.Stubs.{create_tells, create_short, remove_tells, remove_short, grow_tells, grow_short, move_tells, move_short, fault_tells, fault_short, flush_tells, flush_short, snapshot_tells, snapshot_short}
+use Rattle.call_laws.proofs.Stubs.{
+  create_tells,
+  create_short,
+  remove_tells,
+  remove_short,
+  grow_tells,
+  grow_short,
+  move_tells,
+  move_short,
+  fault_tells,
+  fault_short,
+  flush_tells,
+  flush_short,
+  snapshot_tells,
+  snapshot_short,
+}
 use Rattle.call_laws.proofs.TreeFits.{writer_agrees, faulter_agrees}
 
 -- what is true of both is true of each

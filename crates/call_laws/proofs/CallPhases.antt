@@ -1,5 +1,5 @@
 -- All that is proved of each event of a call at the tree.
-use Rattle.std.proofs.Common.{ap, refl}
+use Rattle.std.proofs.Common.{ap}
 use Rattle.gated_tree.specs.declared.phases.TreePhase.{TreePhase}
 use Rattle.gate_world.specs.declared.config.Config.{Config}
 use Rattle.gate_world.specs.declared.work.Phase.TheVariants.{Trees}
@@ -14,6 +14,7 @@ use Rattle.call_laws.proofs.TreeCauses.{tree_stays, tree_own}
 use Rattle.call_laws.proofs.TreeWaits.{tree_waits}
 use Rattle.call_laws.proofs.NodeCauses.{tree_told}
 
+-- of each phase of a call at the tree
 pub tree_phase_keeps : (c : Config) (x : TreePhase) → PhaseKeeps c (Trees x)
 tree_phase_keeps c x = record {
   step = λ within w good t lt hook e. call_step c within w good t lt hook x e;

@@ -8,7 +8,15 @@ use Rattle.gated_tree.specs.declared.phases.TreePhase.TheVariants.{Snapshot as S
 use Rattle.gated_tree.specs.declared.snapshots.Snapshot.{Snapshot}
 use Rattle.gate_world.specs.declared.config.Config.{Config}
 use Rattle.gate_world.specs.declared.operations.Op.{Op}
-use Rattle.gate_world.specs.declared.operations.Op.TheVariants.{Create as CreateOp, Remove as RemoveOp, Grow as GrowOp, MoveTo as MoveToOp, Fault as FaultOp, Flush as FlushOp, Snapshot as SnapshotOp}
+use Rattle.gate_world.specs.declared.operations.Op.TheVariants.{
+  Create as CreateOp,
+  Remove as RemoveOp,
+  Grow as GrowOp,
+  MoveTo as MoveToOp,
+  Fault as FaultOp,
+  Flush as FlushOp,
+  Snapshot as SnapshotOp,
+}
 use Rattle.gate_world.specs.declared.views.Traced.{Traced}
 use Rattle.gate_world.specs.declared.work.Phase.TheVariants.{Trees}
 use Rattle.gate_world.specs.Configs.{IsWithin}
@@ -28,8 +36,8 @@ axiom pub tree_step : (c : Config) → IsWithin c → (w : World) → IsGood c w
     is_snapshot x ≡ false → (w.views t).phase ≡ Some (Trees x) → StepKeeps c w t hook (Trees x)
 
 -- so does each event of a snapshot
-axiom pub snapshot_step : (c : Config) → IsWithin c → (w : World) → IsGood c w → (t : ℕ) → t < c.tasks → (hook : HookAnswer) (x : Snapshot) →
-    (w.views t).phase ≡ Some (Trees (Snapshots x)) → StepKeeps c w t hook (Trees (Snapshots x))
+axiom pub snapshot_step : (c : Config) → IsWithin c → (w : World) → IsGood c w → (t : ℕ) → t < c.tasks → (hook : HookAnswer)
+    (x : Snapshot) → (w.views t).phase ≡ Some (Trees (Snapshots x)) → StepKeeps c w t hook (Trees (Snapshots x))
 
 -- and a snapshot that it completes is of the present tree
 axiom pub snapshot_completes_now : (c : Config) → IsWithin c → (w : World) → IsGood c w → (t : ℕ) → t < c.tasks → (hook : HookAnswer)
@@ -44,6 +52,7 @@ AllTell c op = IsWithin c → (t : ℕ) (trace : List Traced) → IsTrace c t op
 abbrev pub AllShort : Config → Op → Type 0
 AllShort c op = IsWithin c → (t : ℕ) (trace : List Traced) → IsTrace c t op trace → IsShort (most_events c op) trace
 
+-- what each operation tells, and that it is short
 axiom pub create_tells : (d : ℕ) (kind : Kind) (c : Config) → AllTell c (CreateOp d kind)
 axiom pub create_short : (d : ℕ) (kind : Kind) (c : Config) → AllShort c (CreateOp d kind)
 axiom pub remove_tells : (file : ℕ) (c : Config) → AllTell c (RemoveOp file)

@@ -1,39 +1,47 @@
 -- The causes of the refusals of the calls at the tree, along a schedule: a snapshot keeps one, as a thaw does, and no other call does.
-use Rattle.std.proofs.Common.{◌≡◌, ℕ, refl, ap, ◌∙◌, inl, inr}
+use Rattle.std.proofs.Common.{◌≡◌, ℕ, ap, ◌∙◌, inl, inr}
 use Rattle.std.proofs.lemmas.Bool.{ne_eqb}
 use Rattle.std.proofs.lemmas.Bool.Decides.{eqb_tells}
-use Rattle.std.specs.Prelude.{Option, Some, None, Ok, Err, List, ◌∷◌, not, Bool, true, false, if◌then◌else◌, is_some, ◌==◌}
+use Rattle.std.specs.Prelude.{Option, Some, None, Err, List, ◌∷◌, not, Bool, true, false, if◌then◌else◌, is_some, ◌==◌}
 use Rattle.access_model.specs.declared.errors.GateError.TheVariants.{Invalid}
-use Rattle.access_model.specs.declared.replies.Reply.TheVariants.{Tree as TreeReply}
 use Rattle.access_model.specs.declared.replies.Next.{Next}
 use Rattle.access_model.specs.declared.replies.Next.TheVariants.{Done, Go, Wait}
 use Rattle.access_model.specs.Replies.{map_next}
 use Rattle.cause_laws.proofs.Moments.{look_skips, look_stands}
 use Rattle.cpu_words.specs.Hooks.{HookAnswer}
-use Rattle.gated_tree.specs.declared.nodes.NodeWord.{NodeWord}
-use Rattle.gated_tree.specs.declared.changes.Create.{Create}
-use Rattle.gated_tree.specs.declared.changes.CreateStep.{CreateStep}
-use Rattle.gated_tree.specs.declared.changes.CreateStep.TheVariants.{LoadsDirectory, LoadsNode, ChargesChild, TakesNode, RefundsChild}
-use Rattle.gated_tree.specs.declared.changes.Remove.{Remove}
-use Rattle.gated_tree.specs.declared.changes.RemoveStep.{RemoveStep}
-use Rattle.gated_tree.specs.declared.changes.RemoveStep.TheVariants.{LoadsFile as LoadsFileToRemove, FreesNode, RefundsBlocks as RefundsItsBlocks, RefundsChild as RefundsItsChild}
-use Rattle.gated_tree.specs.declared.changes.MoveTo.{MoveTo}
-use Rattle.gated_tree.specs.declared.changes.MoveStep.{MoveStep}
-use Rattle.gated_tree.specs.declared.changes.MoveStep.TheVariants.{LoadsFile as LoadsFileToMove, LoadsDirectory as LoadsTarget, ChargesChild as ChargesTarget, MovesFile, RefundsChild as RefundsOne}
-use Rattle.gated_tree.specs.declared.growth.Grow.{Grow}
-use Rattle.gated_tree.specs.declared.growth.GrowStep.{GrowStep}
-use Rattle.gated_tree.specs.declared.growth.GrowStep.TheVariants.{LoadsFile as LoadsFileToGrow, LoadsUsed, ChargesBlocks, GrowsFile, RefundsBlocks}
-use Rattle.gated_tree.specs.declared.marks.Mark.{Mark}
-use Rattle.gated_tree.specs.declared.marks.MarkStep.{MarkStep}
-use Rattle.gated_tree.specs.declared.marks.MarkStep.TheVariants.{LoadsFile as LoadsFileToMark, MarksFile}
-use Rattle.gated_tree.specs.declared.marks.ClearMarks.{ClearMarks}
 use Rattle.gated_tree.specs.declared.snapshots.Snapshot.{Snapshot}
 use Rattle.gated_tree.specs.declared.snapshots.SnapshotStep.{SnapshotStep}
-use Rattle.gated_tree.specs.declared.snapshots.SnapshotStep.TheVariants.{Locks, LoadsStage, LoadsUsed as LoadsUsedWord, LoadsNode as LoadsNodeWord, LoadsKids, Releases}
+use Rattle.gated_tree.specs.declared.snapshots.SnapshotStep.TheVariants.{
+  Locks,
+  LoadsStage,
+  LoadsUsed as LoadsUsedWord,
+  LoadsNode as LoadsNodeWord,
+  LoadsKids,
+  Releases,
+}
 use Rattle.gated_tree.specs.declared.phases.TreePhase.{TreePhase}
-use Rattle.gated_tree.specs.declared.phases.TreePhase.TheVariants.{Create as Creates, Remove as Removes, Grow as Grows, MoveTo as Moves, Mark as TreeMarks, Snapshot as Snapshots, ClearMarks as TreeClears}
+use Rattle.gated_tree.specs.declared.phases.TreePhase.TheVariants.{
+  Create as Creates,
+  Remove as Removes,
+  Grow as Grows,
+  MoveTo as Moves,
+  Mark as TreeMarks,
+  Snapshot as Snapshots,
+  ClearMarks as TreeClears,
+}
 use Rattle.gated_tree.specs.Nodes.{unpacked, node_after}
-use Rattle.gated_tree.specs.Phases.{create_after, remove_after, grow_after, move_after, mark_after, snapshot_locked_out, clear_after, at_snapshot, kids_step, node_step}
+use Rattle.gated_tree.specs.Phases.{
+  create_after,
+  remove_after,
+  grow_after,
+  move_after,
+  mark_after,
+  snapshot_locked_out,
+  clear_after,
+  at_snapshot,
+  kids_step,
+  node_step,
+}
 use Rattle.gate_world.specs.declared.config.Config.{Config}
 use Rattle.gate_world.specs.declared.work.Phase.{Phase}
 use Rattle.gate_world.specs.declared.work.Phase.TheVariants.{Trees}
@@ -45,7 +53,8 @@ use Rattle.gate_world.specs.Worlds.{World, found_at}
 
 -- a snapshot whose view another entry leaves alone: the cause of each step stays
 snapshot_stays : (c : Config) (t : ℕ) (w next : World) (earlier : List World) (x : Snapshot) (s : SnapshotStep) →
-    (next.views t).phase ≡ Some (Trees (Snapshots (at_snapshot x s))) → SnapshotCause c t w earlier s → SnapshotCause c t next (w ∷ earlier) s
+    (next.views t).phase ≡ Some (Trees (Snapshots (at_snapshot x s))) → SnapshotCause c t w earlier s →
+    SnapshotCause c t next (w ∷ earlier) s
 snapshot_stays c t w next earlier x (Releases answer) e h =
     λ r. ap (was_incomplete c) (look_skips t next (w ∷ earlier) (ap looks_at_stage e)) ∙ h r
 snapshot_stays c t w next earlier x s e h = tt
@@ -80,10 +89,12 @@ module _ (c : Config) (t : ℕ) (w next : World) (earlier : List World) where
   either true n m h k = h
   either false n m h k = k
 
+  -- a snapshot that finds `umount` taken keeps none
   locked_out_own : (x : Snapshot) (wait : Bool) → CauseAfter (snapshot_locked_out x wait)
   locked_out_own x true = tt
   locked_out_own x false = tt
 
+  -- nor does one that goes on to a node
   node_own : (x : Snapshot) (o : Option ℕ) → CauseAfter (Go (at_snapshot x (node_step o)))
   node_own x (Some node) = tt
   node_own x None = tt
@@ -101,6 +112,7 @@ module _ (c : Config) (t : ℕ) (w next : World) (earlier : List World) where
       ap (was_incomplete c) (look_skips t next (w ∷ earlier) (ap looks_at_stage e') ∙ look_stands t w earlier (ap looks_at_stage e)) ∙
       ap not (ne_eqb w.words.stage 4 other)
 
+  -- what comes after an event of a snapshot has its cause
   snapshot_own : (hook : HookAnswer) (x : Snapshot) (s : SnapshotStep) → (w.views t).phase ≡ Some (Trees (Snapshots (at_snapshot x s))) →
       let comes : Option Phase = phase_after
       (after_of (Trees (Snapshots (at_snapshot x s))) (found_at w.words (Trees (Snapshots (at_snapshot x s))) hook) hook).0 in

@@ -1,6 +1,6 @@
 -- What fits after an event of a call at the tree: the same accesses, and numbers that are in range.
 use Rattle.std.proofs.Common.{◌≡◌, ℕ, suc, ◌<◌, ◌≤◌, Bool, true, false, refl, sym, ap, ◌∙◌, arith, subst, zero}
-use Rattle.std.specs.Prelude.{Option, Some, None, Ok, Err, Result, if◌then◌else◌, ◌==◌, ◌||◌, nat_lt, ◌&&◌}
+use Rattle.std.specs.Prelude.{Option, Some, None, Ok, Err, Result, if◌then◌else◌, ◌==◌, ◌||◌, nat_lt}
 use Rattle.access_model.specs.declared.replies.Next.{Next}
 use Rattle.access_model.specs.declared.replies.Next.TheVariants.{Go, Wait, Done}
 use Rattle.access_model.specs.Replies.{map_next}
@@ -11,23 +11,65 @@ use Rattle.gated_tree.specs.declared.changes.CreateStep.{CreateStep}
 use Rattle.gated_tree.specs.declared.changes.CreateStep.TheVariants.{LoadsDirectory, LoadsNode, ChargesChild, TakesNode, RefundsChild}
 use Rattle.gated_tree.specs.declared.changes.Remove.{Remove}
 use Rattle.gated_tree.specs.declared.changes.RemoveStep.{RemoveStep}
-use Rattle.gated_tree.specs.declared.changes.RemoveStep.TheVariants.{LoadsFile as LoadsFileToRemove, FreesNode, RefundsBlocks as RefundsItsBlocks, RefundsChild as RefundsItsChild}
+use Rattle.gated_tree.specs.declared.changes.RemoveStep.TheVariants.{
+  LoadsFile as LoadsFileToRemove,
+  FreesNode,
+  RefundsBlocks as RefundsItsBlocks,
+  RefundsChild as RefundsItsChild,
+}
 use Rattle.gated_tree.specs.declared.changes.MoveTo.{MoveTo}
 use Rattle.gated_tree.specs.declared.changes.MoveStep.{MoveStep}
-use Rattle.gated_tree.specs.declared.changes.MoveStep.TheVariants.{LoadsFile as LoadsFileToMove, LoadsDirectory as LoadsTarget, ChargesChild as ChargesTarget, MovesFile, RefundsChild as RefundsOne}
+use Rattle.gated_tree.specs.declared.changes.MoveStep.TheVariants.{
+  LoadsFile as LoadsFileToMove,
+  LoadsDirectory as LoadsTarget,
+  ChargesChild as ChargesTarget,
+  MovesFile,
+  RefundsChild as RefundsOne,
+}
 use Rattle.gated_tree.specs.declared.growth.Grow.{Grow}
 use Rattle.gated_tree.specs.declared.growth.GrowStep.{GrowStep}
-use Rattle.gated_tree.specs.declared.growth.GrowStep.TheVariants.{LoadsFile as LoadsFileToGrow, LoadsUsed, ChargesBlocks, GrowsFile, RefundsBlocks}
+use Rattle.gated_tree.specs.declared.growth.GrowStep.TheVariants.{
+  LoadsFile as LoadsFileToGrow,
+  LoadsUsed,
+  ChargesBlocks,
+  GrowsFile,
+  RefundsBlocks,
+}
 use Rattle.gated_tree.specs.declared.marks.Mark.{Mark}
 use Rattle.gated_tree.specs.declared.marks.MarkStep.{MarkStep}
 use Rattle.gated_tree.specs.declared.marks.MarkStep.TheVariants.{LoadsFile as LoadsFileToMark, MarksFile}
-use Rattle.gated_tree.specs.declared.marks.ClearMarks.{ClearMarks}
 use Rattle.gated_tree.specs.declared.snapshots.Snapshot.{Snapshot}
 use Rattle.gated_tree.specs.declared.snapshots.SnapshotStep.{SnapshotStep}
-use Rattle.gated_tree.specs.declared.snapshots.SnapshotStep.TheVariants.{Locks, LoadsStage, LoadsUsed as LoadsUsedWord, LoadsNode as LoadsNodeWord, LoadsKids, Releases}
+use Rattle.gated_tree.specs.declared.snapshots.SnapshotStep.TheVariants.{
+  Locks,
+  LoadsStage,
+  LoadsUsed as LoadsUsedWord,
+  LoadsNode as LoadsNodeWord,
+  LoadsKids,
+  Releases,
+}
 use Rattle.gated_tree.specs.declared.phases.TreePhase.{TreePhase}
-use Rattle.gated_tree.specs.declared.phases.TreePhase.TheVariants.{Create as Creates, Remove as Removes, Grow as Grows, MoveTo as Moves, Mark as TreeMarks, Snapshot as Snapshots, ClearMarks as TreeClears}
-use Rattle.gated_tree.specs.Phases.{create_after, remove_after, grow_after, move_after, mark_after, mark_done, snapshot_after, clear_after, after as tree_after, after_look, at_mark}
+use Rattle.gated_tree.specs.declared.phases.TreePhase.TheVariants.{
+  Create as Creates,
+  Remove as Removes,
+  Grow as Grows,
+  MoveTo as Moves,
+  Mark as TreeMarks,
+  Snapshot as Snapshots,
+  ClearMarks as TreeClears,
+}
+use Rattle.gated_tree.specs.Phases.{
+  create_after,
+  remove_after,
+  grow_after,
+  move_after,
+  mark_after,
+  mark_done,
+  snapshot_after,
+  after as tree_after,
+  after_look,
+  at_mark,
+}
 use Rattle.access_model.specs.declared.actions.Action.{Action}
 use Rattle.gated_tree.specs.Nodes.{dirty_in, file_in, word_of}
 use Rattle.gate_world.specs.declared.config.Config.{Config}
@@ -45,7 +87,13 @@ use Rattle.gate_frames.proofs.Keeps.{none_agree}
 use Rattle.gate_world.specs.Views.{phase_after}
 use Rattle.gate_world.specs.declared.work.Phase.{Phase}
 use Rattle.tree_laws.proofs.Fitting.{fits_after}
-use Rattle.access_model.specs.declared.actions.Action.TheVariants.{Create as CreateAction, Clean, Remove as RemoveAction, Grow as GrowAction, MoveTo as MoveToAction}
+use Rattle.access_model.specs.declared.actions.Action.TheVariants.{
+  Create as CreateAction,
+  Clean,
+  Remove as RemoveAction,
+  Grow as GrowAction,
+  MoveTo as MoveToAction,
+}
 use Rattle.gate_frames.proofs.Trees.{tree_within}
 
 -- an action at the tree can be done, and leaves its task's accesses
@@ -63,25 +111,31 @@ if_leaves : (b : Bool) (a : Option Action) → LeavesAccesses a → LeavesAccess
 if_leaves true a h = h
 if_leaves false a h = none_leaves
 
+-- a mark that is set or cleared does
 mark_done_leaves : (dirty : Bool) (file : ℕ) → LeavesAccesses (Some (mark_done dirty file))
 mark_done_leaves true file = record { can = λ held. tt; mounts = λ held. refl; levels = λ held. refl }
 mark_done_leaves false file = record { can = λ held. tt; mounts = λ held. refl; levels = λ held. refl }
 
+-- so it is of each event of a create
 create_action : (x : Create) (s : CreateStep) (found : ℕ) → LeavesAccesses (create_after x s found).1
 create_action x LoadsDirectory found = none_leaves
 create_action x (LoadsNode node) found = none_leaves
 create_action x (ChargesChild node) found = none_leaves
 create_action x (TakesNode node) found =
-    if_leaves (found == 0) (Some (CreateAction node x.dir x.kind)) (record { can = λ held. tt; mounts = λ held. refl; levels = λ held. refl })
+    if_leaves (found == 0) (Some (CreateAction node x.dir x.kind))
+    (record { can = λ held. tt; mounts = λ held. refl; levels = λ held. refl })
 create_action x RefundsChild found = none_leaves
 
+-- of a remove
 remove_action : (x : Remove) (s : RemoveStep) (found : ℕ) → LeavesAccesses (remove_after x s found).1
 remove_action x LoadsFileToRemove found = none_leaves
 remove_action x (FreesNode file) found =
-    if_leaves (found == word_of file) (Some (RemoveAction x.file)) (record { can = λ held. tt; mounts = λ held. refl; levels = λ held. refl })
+    if_leaves (found == word_of file) (Some (RemoveAction x.file))
+    (record { can = λ held. tt; mounts = λ held. refl; levels = λ held. refl })
 remove_action x (RefundsItsBlocks file) found = none_leaves
 remove_action x (RefundsItsChild file) found = none_leaves
 
+-- of a grow
 grow_action : (x : Grow) (s : GrowStep) (found : ℕ) → LeavesAccesses (grow_after x s found).1
 grow_action x LoadsFileToGrow found = none_leaves
 grow_action x (LoadsUsed file) found = none_leaves
@@ -91,6 +145,7 @@ grow_action x (GrowsFile file) found =
     (record { can = λ held. tt; mounts = λ held. refl; levels = λ held. refl })
 grow_action x RefundsBlocks found = none_leaves
 
+-- of a move
 move_action : (x : MoveTo) (s : MoveStep) (found : ℕ) → LeavesAccesses (move_after x s found).1
 move_action x LoadsFileToMove found = none_leaves
 move_action x (LoadsTarget file) found = none_leaves
@@ -100,11 +155,13 @@ move_action x (MovesFile file) found =
     (record { can = λ held. tt; mounts = λ held. refl; levels = λ held. refl })
 move_action x (RefundsOne dir answer) found = none_leaves
 
+-- of a page fault or a write-back
 mark_action : (x : Mark) (s : MarkStep) (found : ℕ) → LeavesAccesses (mark_after x s found).1
 mark_action x LoadsFileToMark found = none_leaves
 mark_action x (MarksFile file) found =
     if_leaves (found == word_of file) (Some (mark_done x.dirty x.file)) (mark_done_leaves x.dirty x.file)
 
+-- a snapshot has no action
 snapshot_action : (x : Snapshot) (s : SnapshotStep) (found : ℕ) → LeavesAccesses (snapshot_after x s found).1
 snapshot_action x Locks found = none_leaves
 snapshot_action x LoadsStage found = none_leaves
@@ -137,21 +194,25 @@ module _ (c : Config) (held : ℕ → ℕ) (levels : ℕ → Bool) where
   same_access to may (Wait p) = may p
   same_access to may (Done answer) = tt
 
+  -- a page fault or a write-back that has looked at its file is of the same kind
   looked_mark : (x : Mark) → may_mark x.dirty c held levels ≡ true → (r : Option (Result NodeWord GateError)) →
       NextAccess (map_next TreeMarks (after_look (at_mark x LoadsFileToMark) (λ file. at_mark x (MarksFile file)) r))
   looked_mark x may None = may
   looked_mark x may (Some (Ok file)) = may
   looked_mark x may (Some (Err refusal)) = tt
 
+  -- and is done after its exchange
   marked_mark : (b : Bool) → NextAccess (map_next TreeMarks (if b then Done (Ok UnitReply) else Done (Err Again)))
   marked_mark true = tt
   marked_mark false = tt
 
+  -- so it asks for the same accesses
   mark_access : (x : Mark) (s : MarkStep) (found : ℕ) → may_mark x.dirty c held levels ≡ true →
       NextAccess (map_next TreeMarks (mark_after x s found).0)
   mark_access x LoadsFileToMark found may = looked_mark x may (file_in found)
   mark_access x (MarksFile file) found may = marked_mark (found == word_of file)
 
+  -- so it is of each call at the tree
   next_access : (x : TreePhase) (found : ℕ) (hook : HookAnswer) → TreeAccess c held levels x → NextAccess (tree_after x found hook).0
   next_access (Creates x) found hook may = same_access Creates (λ p. may) (create_after x x.step found).0
   next_access (Removes x) found hook may = same_access Removes (λ p. may) (remove_after x x.step found).0
@@ -198,13 +259,16 @@ module _ (c : Config) (f g : ℕ → ℕ) (h k : ℕ → Bool) (mounts : (m : �
   pub writer_agrees : is_writer c f h ≡ is_writer c g k
   writer_agrees = rw (levels 1 (omega arith) (omega arith), some_agree f g c.mounts c.mounts (omega arith) mounts) refl
 
+  -- and who may make a file dirty by a page fault
   pub faulter_agrees : is_faulter c f h ≡ is_faulter c g k
   faulter_agrees = rw (levels 2 (omega arith) (omega arith), some_agree f g c.mounts c.mounts (omega arith) mounts) refl
 
+  -- and who may set or clear the mark of a file
   pub mark_agrees : (dirty : Bool) → may_mark dirty c f h ≡ may_mark dirty c g k
   mark_agrees true = faulter_agrees
   mark_agrees false = levels 3 (omega arith) (omega arith)
 
+  -- so it is of each call at the tree
   access_agrees : (x : TreePhase) → TreeAccess c f h x → TreeAccess c g k x
   access_agrees (TreeMarks x) may = sym (mark_agrees x.dirty) ∙ may
   access_agrees (Snapshots x) may = sym (none_agree c 0 f g h k mounts levels) ∙ may

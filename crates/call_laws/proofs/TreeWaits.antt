@@ -13,31 +13,79 @@ use Rattle.gated_tree.specs.declared.changes.CreateStep.{CreateStep}
 use Rattle.gated_tree.specs.declared.changes.CreateStep.TheVariants.{LoadsDirectory, LoadsNode, ChargesChild, TakesNode, RefundsChild}
 use Rattle.gated_tree.specs.declared.changes.Remove.{Remove}
 use Rattle.gated_tree.specs.declared.changes.RemoveStep.{RemoveStep}
-use Rattle.gated_tree.specs.declared.changes.RemoveStep.TheVariants.{LoadsFile as LoadsFileToRemove, FreesNode, RefundsBlocks as RefundsItsBlocks, RefundsChild as RefundsItsChild}
+use Rattle.gated_tree.specs.declared.changes.RemoveStep.TheVariants.{
+  LoadsFile as LoadsFileToRemove,
+  FreesNode,
+  RefundsBlocks as RefundsItsBlocks,
+  RefundsChild as RefundsItsChild,
+}
 use Rattle.gated_tree.specs.declared.changes.MoveTo.{MoveTo}
 use Rattle.gated_tree.specs.declared.changes.MoveStep.{MoveStep}
-use Rattle.gated_tree.specs.declared.changes.MoveStep.TheVariants.{LoadsFile as LoadsFileToMove, LoadsDirectory as LoadsTarget, ChargesChild as ChargesTarget, MovesFile, RefundsChild as RefundsOne}
+use Rattle.gated_tree.specs.declared.changes.MoveStep.TheVariants.{
+  LoadsFile as LoadsFileToMove,
+  LoadsDirectory as LoadsTarget,
+  ChargesChild as ChargesTarget,
+  MovesFile,
+  RefundsChild as RefundsOne,
+}
 use Rattle.gated_tree.specs.declared.growth.Grow.{Grow}
 use Rattle.gated_tree.specs.declared.growth.GrowStep.{GrowStep}
-use Rattle.gated_tree.specs.declared.growth.GrowStep.TheVariants.{LoadsFile as LoadsFileToGrow, LoadsUsed, ChargesBlocks, GrowsFile, RefundsBlocks}
+use Rattle.gated_tree.specs.declared.growth.GrowStep.TheVariants.{
+  LoadsFile as LoadsFileToGrow,
+  LoadsUsed,
+  ChargesBlocks,
+  GrowsFile,
+  RefundsBlocks,
+}
 use Rattle.gated_tree.specs.declared.marks.Mark.{Mark}
 use Rattle.gated_tree.specs.declared.marks.MarkStep.{MarkStep}
 use Rattle.gated_tree.specs.declared.marks.MarkStep.TheVariants.{LoadsFile as LoadsFileToMark, MarksFile}
 use Rattle.gated_tree.specs.declared.marks.ClearMarks.{ClearMarks}
 use Rattle.gated_tree.specs.declared.snapshots.Snapshot.{Snapshot}
 use Rattle.gated_tree.specs.declared.snapshots.SnapshotStep.{SnapshotStep}
-use Rattle.gated_tree.specs.declared.snapshots.SnapshotStep.TheVariants.{Locks, LoadsStage, LoadsUsed as LoadsUsedWord, LoadsNode as LoadsNodeWord, LoadsKids, Releases}
+use Rattle.gated_tree.specs.declared.snapshots.SnapshotStep.TheVariants.{
+  Locks,
+  LoadsStage,
+  LoadsUsed as LoadsUsedWord,
+  LoadsNode as LoadsNodeWord,
+  LoadsKids,
+  Releases,
+}
 use Rattle.gated_tree.specs.declared.phases.TreePhase.{TreePhase}
-use Rattle.gated_tree.specs.declared.phases.TreePhase.TheVariants.{Create as Creates, Remove as Removes, Grow as Grows, MoveTo as Moves, Mark as TreeMarks, Snapshot as Snapshots, ClearMarks as TreeClears}
+use Rattle.gated_tree.specs.declared.phases.TreePhase.TheVariants.{
+  Create as Creates,
+  Remove as Removes,
+  Grow as Grows,
+  MoveTo as Moves,
+  Mark as TreeMarks,
+  Snapshot as Snapshots,
+  ClearMarks as TreeClears,
+}
 use Rattle.gated_tree.specs.Nodes.{word_of, unpacked, file_in, directory_in, node_after}
-use Rattle.gated_tree.specs.Phases.{create_after, create_past, create_looks_at, create_looked, remove_after, grow_after, move_after, mark_after, snapshot_locked_out, snapshot_after, clear_after, after_look, at_create, at_snapshot, clears_at, kids_step, node_step}
+use Rattle.gated_tree.specs.Phases.{
+  create_after,
+  create_past,
+  create_looks_at,
+  create_looked,
+  remove_after,
+  grow_after,
+  move_after,
+  mark_after,
+  snapshot_locked_out,
+  snapshot_after,
+  clear_after,
+  after_look,
+  at_create,
+  at_snapshot,
+  clears_at,
+}
 use Rattle.gate_world.specs.declared.config.Config.{Config}
 use Rattle.gate_world.specs.declared.work.Phase.{Phase}
 use Rattle.gate_world.specs.declared.work.Phase.TheVariants.{Trees}
 use Rattle.gate_world.specs.Work.{after_of}
 use Rattle.gate_world.specs.Worlds.{World, found_at}
 use Rattle.gate_world.specs.Rules.{owns, IsGood}
-use Rattle.gate_world.specs.Waits.{WaitsForAnother, HasCulprit}
+use Rattle.gate_world.specs.Waits.{WaitsForAnother}
 use Rattle.gate_frames.proofs.Owners.{umount_taken}
 
 -- what comes is no wait
@@ -57,15 +105,18 @@ look_goes again to None = tt
 look_goes again to (Some (Ok a)) = tt
 look_goes again to (Some (Err refusal)) = tt
 
+-- a create goes on to the next node, or there is none
 create_at : (x : Create) (o : Option ℕ) → GoesOn (create_looks_at x o)
 create_at x None = tt
 create_at x (Some node) = tt
 
+-- or it has looked at a node
 create_seen : (x : Create) (node : ℕ) (found : Option NodeWord) → GoesOn (create_looked x node found)
 create_seen x node None = tt
 create_seen x node (Some found) =
     either (is_some found.kind) (create_past x node) (Go (at_create x (ChargesChild node))) (create_at x (node_after node x.nodes)) tt
 
+-- so it never waits
 create_goes_on : (x : Create) (s : CreateStep) (found : ℕ) → GoesOn (create_after x s found).0
 create_goes_on x LoadsDirectory found = look_goes _ _ (directory_in found)
 create_goes_on x (LoadsNode node) found = create_seen x node (unpacked found)
@@ -73,12 +124,14 @@ create_goes_on x (ChargesChild node) found = tt
 create_goes_on x (TakesNode node) found = either (found == 0) _ _ tt tt
 create_goes_on x RefundsChild found = tt
 
+-- nor does a remove
 remove_goes_on : (x : Remove) (s : RemoveStep) (found : ℕ) → GoesOn (remove_after x s found).0
 remove_goes_on x LoadsFileToRemove found = look_goes _ _ (file_in found)
 remove_goes_on x (FreesNode file) found = either (found == word_of file) _ _ tt tt
 remove_goes_on x (RefundsItsBlocks file) found = tt
 remove_goes_on x (RefundsItsChild file) found = tt
 
+-- nor a grow
 grow_goes_on : (x : Grow) (s : GrowStep) (found : ℕ) → GoesOn (grow_after x s found).0
 grow_goes_on x LoadsFileToGrow found = look_goes _ _ (file_in found)
 grow_goes_on x (LoadsUsed file) found =
@@ -87,6 +140,7 @@ grow_goes_on x (ChargesBlocks file used) found = either (found == used) _ _ tt t
 grow_goes_on x (GrowsFile file) found = either (found == word_of file) _ _ tt tt
 grow_goes_on x RefundsBlocks found = tt
 
+-- nor a move
 move_goes_on : (x : MoveTo) (s : MoveStep) (found : ℕ) → GoesOn (move_after x s found).0
 move_goes_on x LoadsFileToMove found = look_goes _ _ (file_in found)
 move_goes_on x (LoadsTarget file) found = look_goes _ _ (directory_in found)
@@ -94,10 +148,12 @@ move_goes_on x (ChargesTarget file) found = tt
 move_goes_on x (MovesFile file) found = either (found == word_of file) _ _ tt tt
 move_goes_on x (RefundsOne dir answer) found = tt
 
+-- nor a page fault or a write-back
 mark_goes_on : (x : Mark) (s : MarkStep) (found : ℕ) → GoesOn (mark_after x s found).0
 mark_goes_on x LoadsFileToMark found = look_goes _ _ (file_in found)
 mark_goes_on x (MarksFile file) found = either (found == word_of file) _ _ tt tt
 
+-- nor a clearing of marks
 clear_goes_on : (x : ClearMarks) (o : Option ℕ) → GoesOn (clears_at x o)
 clear_goes_on x None = tt
 clear_goes_on x (Some node) = tt
@@ -117,7 +173,9 @@ module _ (c : Config) (w : World) (earlier : List World) (t : ℕ) where
   locked_out_waits x phase false h = tt
 
   module _ (good : IsGood c w) (lt : t < c.tasks) where
-    snapshot_waits : (hook : HookAnswer) (x : Snapshot) (s : SnapshotStep) → (w.views t).phase ≡ Some (Trees (Snapshots (at_snapshot x s))) →
+    -- each event of a snapshot
+    snapshot_waits : (hook : HookAnswer) (x : Snapshot) (s : SnapshotStep) →
+        (w.views t).phase ≡ Some (Trees (Snapshots (at_snapshot x s))) →
         WaitsForAnother c w earlier t (Trees (Snapshots (at_snapshot x s)))
         (after_of (Trees (Snapshots (at_snapshot x s))) (found_at w.words (Trees (Snapshots (at_snapshot x s))) hook) hook).0
     snapshot_waits hook x Locks e =
@@ -127,7 +185,8 @@ module _ (c : Config) (w : World) (earlier : List World) (t : ℕ) where
               (umount_taken c w good t lt (Trees (Snapshots (at_snapshot x Locks))) (λ y own. own) h.1 (ap owns e)))
         ]
     snapshot_waits hook x LoadsStage e =
-        no_wait Snapshots (Trees (Snapshots (at_snapshot x LoadsStage))) (snapshot_after (at_snapshot x LoadsStage) LoadsStage w.words.stage).0
+        no_wait Snapshots (Trees (Snapshots (at_snapshot x LoadsStage)))
+        (snapshot_after (at_snapshot x LoadsStage) LoadsStage w.words.stage).0
         (either (w.words.stage == 4) _ _ tt tt)
     snapshot_waits hook x LoadsUsedWord e = tt
     snapshot_waits hook x (LoadsNodeWord node) e =

@@ -5,30 +5,69 @@ use Rattle.cpu_words.specs.Names.{IsWord}
 use Rattle.cpu_words.specs.Words.{Words, put}
 use Rattle.cpu_words.specs.declared.names.WordName.{WordName}
 use Rattle.cpu_words.specs.declared.names.WordName.TheVariants.{Umount, Used, Node, Kids}
-use Rattle.gated_tree.specs.declared.nodes.NodeWord.{NodeWord}
 use Rattle.gated_tree.specs.declared.changes.Create.{Create}
 use Rattle.gated_tree.specs.declared.changes.CreateStep.{CreateStep}
 use Rattle.gated_tree.specs.declared.changes.CreateStep.TheVariants.{LoadsDirectory, LoadsNode, ChargesChild, TakesNode, RefundsChild}
 use Rattle.gated_tree.specs.declared.changes.Remove.{Remove}
 use Rattle.gated_tree.specs.declared.changes.RemoveStep.{RemoveStep}
-use Rattle.gated_tree.specs.declared.changes.RemoveStep.TheVariants.{LoadsFile as LoadsFileToRemove, FreesNode, RefundsBlocks as RefundsItsBlocks, RefundsChild as RefundsItsChild}
+use Rattle.gated_tree.specs.declared.changes.RemoveStep.TheVariants.{
+  LoadsFile as LoadsFileToRemove,
+  FreesNode,
+  RefundsBlocks as RefundsItsBlocks,
+  RefundsChild as RefundsItsChild,
+}
 use Rattle.gated_tree.specs.declared.changes.MoveTo.{MoveTo}
 use Rattle.gated_tree.specs.declared.changes.MoveStep.{MoveStep}
-use Rattle.gated_tree.specs.declared.changes.MoveStep.TheVariants.{LoadsFile as LoadsFileToMove, LoadsDirectory as LoadsTarget, ChargesChild as ChargesTarget, MovesFile, RefundsChild as RefundsOne}
+use Rattle.gated_tree.specs.declared.changes.MoveStep.TheVariants.{
+  LoadsFile as LoadsFileToMove,
+  LoadsDirectory as LoadsTarget,
+  ChargesChild as ChargesTarget,
+  MovesFile,
+  RefundsChild as RefundsOne,
+}
 use Rattle.gated_tree.specs.declared.growth.Grow.{Grow}
 use Rattle.gated_tree.specs.declared.growth.GrowStep.{GrowStep}
-use Rattle.gated_tree.specs.declared.growth.GrowStep.TheVariants.{LoadsFile as LoadsFileToGrow, LoadsUsed, ChargesBlocks, GrowsFile, RefundsBlocks}
+use Rattle.gated_tree.specs.declared.growth.GrowStep.TheVariants.{
+  LoadsFile as LoadsFileToGrow,
+  LoadsUsed,
+  ChargesBlocks,
+  GrowsFile,
+  RefundsBlocks,
+}
 use Rattle.gated_tree.specs.declared.marks.Mark.{Mark}
 use Rattle.gated_tree.specs.declared.marks.MarkStep.{MarkStep}
 use Rattle.gated_tree.specs.declared.marks.MarkStep.TheVariants.{LoadsFile as LoadsFileToMark, MarksFile}
-use Rattle.gated_tree.specs.declared.marks.ClearMarks.{ClearMarks}
 use Rattle.gated_tree.specs.declared.snapshots.Snapshot.{Snapshot}
 use Rattle.gated_tree.specs.declared.snapshots.SnapshotStep.{SnapshotStep}
-use Rattle.gated_tree.specs.declared.snapshots.SnapshotStep.TheVariants.{Locks, LoadsStage, LoadsUsed as LoadsUsedWord, LoadsNode as LoadsNodeWord, LoadsKids, Releases}
+use Rattle.gated_tree.specs.declared.snapshots.SnapshotStep.TheVariants.{
+  Locks,
+  LoadsStage,
+  LoadsUsed as LoadsUsedWord,
+  LoadsNode as LoadsNodeWord,
+  LoadsKids,
+  Releases,
+}
 use Rattle.gated_tree.specs.declared.phases.TreePhase.{TreePhase}
-use Rattle.gated_tree.specs.declared.phases.TreePhase.TheVariants.{Create as Creates, Remove as Removes, Grow as Grows, MoveTo as Moves, Mark as TreeMarks, Snapshot as Snapshots, ClearMarks as TreeClears}
+use Rattle.gated_tree.specs.declared.phases.TreePhase.TheVariants.{
+  Create as Creates,
+  Remove as Removes,
+  Grow as Grows,
+  MoveTo as Moves,
+  Mark as TreeMarks,
+  Snapshot as Snapshots,
+  ClearMarks as TreeClears,
+}
 use Rattle.gated_tree.specs.Calls.{CreateStepFits, RemoveStepFits, MoveStepFits, SnapshotStepFits, TreePhaseFits}
-use Rattle.gated_tree.specs.Phases.{create_next, remove_next, grow_next, move_next, mark_next, snapshot_next, next as tree_next, at_create, at_remove, at_grow, at_move, at_mark, at_snapshot}
+use Rattle.gated_tree.specs.Phases.{
+  create_next,
+  remove_next,
+  grow_next,
+  move_next,
+  mark_next,
+  snapshot_next,
+  next as tree_next,
+  at_snapshot,
+}
 use Rattle.gate_world.specs.declared.config.Config.{Config}
 use Rattle.gate_world.specs.Configs.{IsWithin, extents_among}
 use Rattle.gate_world.specs.Rules.{SameWords, SyncAt}
@@ -41,6 +80,7 @@ module _ (c : Config) (within : IsWithin c) (n t : ℕ) where
   kept : (m : ℕ) → m < c.nodes → m < 64
   kept m lm = omega (arith, within.nodes, lm)
 
+  -- the word of each event of a create is kept
   create_there : (x : Create) (s : CreateStep) → x.dir < c.nodes → CreateStepFits (tree_bounds c) s →
       IsWord (extents_among n c) (create_next x s).0
   create_there x LoadsDirectory d f = kept x.dir d
@@ -49,12 +89,14 @@ module _ (c : Config) (within : IsWithin c) (n t : ℕ) where
   create_there x (TakesNode node) d f = kept node f
   create_there x RefundsChild d f = kept x.dir d
 
+  -- of a remove
   remove_there : (x : Remove) (s : RemoveStep) → x.file < c.nodes → RemoveStepFits s → IsWord (extents_among n c) (remove_next x s).0
   remove_there x LoadsFileToRemove d f = kept x.file d
   remove_there x (FreesNode file) d f = kept x.file d
   remove_there x (RefundsItsBlocks file) d f = tt
   remove_there x (RefundsItsChild file) d f = f
 
+  -- of a grow
   grow_there : (x : Grow) (s : GrowStep) → x.file < c.nodes → IsWord (extents_among n c) (grow_next x s).0
   grow_there x LoadsFileToGrow d = kept x.file d
   grow_there x (LoadsUsed file) d = tt
@@ -62,6 +104,7 @@ module _ (c : Config) (within : IsWithin c) (n t : ℕ) where
   grow_there x (GrowsFile file) d = kept x.file d
   grow_there x RefundsBlocks d = tt
 
+  -- of a move
   move_there : (x : MoveTo) (s : MoveStep) → x.file < c.nodes → x.dir < c.nodes → MoveStepFits s →
       IsWord (extents_among n c) (move_next x s).0
   move_there x LoadsFileToMove l d f = kept x.file l
@@ -70,10 +113,12 @@ module _ (c : Config) (within : IsWithin c) (n t : ℕ) where
   move_there x (MovesFile file) l d f = kept x.file l
   move_there x (RefundsOne dir answer) l d f = f.0
 
+  -- of a page fault and a write-back
   mark_there : (x : Mark) (s : MarkStep) → x.file < c.nodes → IsWord (extents_among n c) (mark_next x s).0
   mark_there x LoadsFileToMark d = kept x.file d
   mark_there x (MarksFile file) d = kept x.file d
 
+  -- of a snapshot
   snapshot_there : (x : Snapshot) (s : SnapshotStep) → SnapshotStepFits (tree_bounds c) s →
       IsWord (extents_among n c) (snapshot_next x s).0
   snapshot_there x Locks f = tt
