@@ -15,22 +15,12 @@ use Rattle.gate_world.specs.declared.operations.Op.TheVariants.{
 }
 use Rattle.gate_world.specs.Traces.{most_events}
 use Rattle.gate_frames.proofs.Keeps.{by_bool, none_agree, IsSmall, OpKeeps}
-use Rattle.call_laws.proofs.Stubs.{
-  create_tells,
-  create_short,
-  remove_tells,
-  remove_short,
-  grow_tells,
-  grow_short,
-  move_tells,
-  move_short,
-  fault_tells,
-  fault_short,
-  flush_tells,
-  flush_short,
-  snapshot_tells,
-  snapshot_short,
-}
+use Rattle.tree_traces.proofs.Creates.{create_tells, create_short}
+use Rattle.tree_traces.proofs.Removes.{remove_tells, remove_short}
+use Rattle.tree_traces.proofs.Grows.{grow_tells, grow_short}
+use Rattle.tree_traces.proofs.Moves.{move_tells, move_short}
+use Rattle.tree_traces.proofs.Marks.{fault_tells, fault_short, flush_tells, flush_short}
+use Rattle.tree_traces.proofs.Snapshots.{snapshot_tells, snapshot_short}
 use Rattle.call_laws.proofs.TreeFits.{writer_agrees, faulter_agrees}
 
 -- what is true of both is true of each

@@ -4,7 +4,6 @@ pub mod TreeRuns
 pub mod TreeWaits
 pub mod TreeCauses
 pub mod NodeCauses
-pub mod Stubs
 pub mod CallSteps
 pub mod CallPhases
 pub mod CallOps
