@@ -1,0 +1,9 @@
+pub mod TreeWords
+pub mod TreeFits
+pub mod TreeRuns
+pub mod TreeWaits
+pub mod TreeCauses
+pub mod NodeCauses
+pub mod CallSteps
+pub mod CallPhases
+pub mod CallOps

@@ -118,8 +118,9 @@ pub record PhaseKeeps (c : Config) (phase : Phase) : Type 0 where
   pub waits : IsWithin c → (w : World) (earlier : List World) → IsGood c w → (t : ℕ) → t < c.tasks → (hook : HookAnswer) →
       (w.views t).phase ≡ Some phase → CauseOf c t w earlier (Some phase) →
       WaitsForAnother c w earlier t phase (after_of phase (found_at w.words phase hook) hook).0
-  -- its cause says what is to be told
-  pub tells : (t : ℕ) (w : World) (earlier : List World) → CauseOf c t w earlier (Some phase) → HasCause c t (w ∷ earlier) (Some phase)
+  -- where it fits its task's accesses, its cause says what is to be told
+  pub tells : (t : ℕ) (w : World) (earlier : List World) → Fits c t (held_at (w.views t)) (holds_level (w.views t)) (Some phase) →
+      CauseOf c t w earlier (Some phase) → HasCause c t (w ∷ earlier) (Some phase)
 
 -- the most events of any operation that has a most number of them
 abbrev pub most_events_of_all : ℕ

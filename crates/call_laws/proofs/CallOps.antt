@@ -1,0 +1,173 @@
+-- All that is proved of the beginnings and the traces of the operations at the tree.
+use Rattle.std.proofs.Common.{◌≡◌, ℕ, Bool, true, arith, refl}
+use Rattle.std.proofs.lemmas.Bool.{ltb-true}
+use Rattle.std.specs.Prelude.{nat_lt, ◌&&◌, false}
+use Rattle.access_model.specs.declared.actions.Kind.{Kind}
+use Rattle.gate_world.specs.declared.config.Config.{Config}
+use Rattle.gate_world.specs.declared.operations.Op.TheVariants.{
+  Create as CreateOp,
+  Remove as RemoveOp,
+  Grow as GrowOp,
+  MoveTo as MoveToOp,
+  Fault as FaultOp,
+  Flush as FlushOp,
+  Snapshot as SnapshotOp,
+}
+use Rattle.gate_world.specs.Traces.{most_events}
+use Rattle.gate_frames.proofs.Keeps.{by_bool, none_agree, IsSmall, OpKeeps}
+use Rattle.tree_traces.proofs.Creates.{create_tells, create_short}
+use Rattle.tree_traces.proofs.Removes.{remove_tells, remove_short}
+use Rattle.tree_traces.proofs.Grows.{grow_tells, grow_short}
+use Rattle.tree_traces.proofs.Moves.{move_tells, move_short}
+use Rattle.tree_traces.proofs.Marks.{fault_tells, fault_short, flush_tells, flush_short}
+use Rattle.tree_traces.proofs.Snapshots.{snapshot_tells, snapshot_short}
+use Rattle.call_laws.proofs.TreeFits.{writer_agrees, faulter_agrees}
+
+-- what is true of both is true of each
+both_true : (a b : Bool) → (a && b) ≡ true → (a ≡ true) × (b ≡ true)
+both_true true b e = (refl, e)
+both_true false b e = absurd cc
+
+-- of a create
+pub create_keeps : (c : Config) (d : ℕ) (kind : Kind) → OpKeeps c (CreateOp d kind)
+create_keeps c d kind = record {
+  fits = λ t held levels there order room. ((ltb-true d c.nodes there, refl, tt), order);
+  no_role = λ t y. refl;
+  steady = λ t. record { owns_same = refl; remounts_same = refl; closing_same = λ i. refl };
+  aside = λ t. refl;
+  counts_not = λ t i. refl;
+  apart = λ t i. refl;
+  outside = λ t. refl;
+  off_tree = λ t trace. refl;
+  cause = λ t w earlier. tt;
+  order_agrees = λ f g h k mounts levels there. writer_agrees c f g h k mounts levels;
+  room_agrees = λ f g mounts there. refl;
+  restores = λ refusal trace before order. (refl, refl);
+  tells = λ within t trace h. create_tells d kind c within t trace h;
+  short = λ within t trace h. create_short d kind c within t trace h;
+  most_small = λ within. omega (arith, within.nodes);
+}
+
+-- of a remove
+pub remove_keeps : (c : Config) (file : ℕ) → OpKeeps c (RemoveOp file)
+remove_keeps c file = record {
+  fits = λ t held levels there order room. ((ltb-true file c.nodes there, tt), order);
+  no_role = λ t y. refl;
+  steady = λ t. record { owns_same = refl; remounts_same = refl; closing_same = λ i. refl };
+  aside = λ t. refl;
+  counts_not = λ t i. refl;
+  apart = λ t i. refl;
+  outside = λ t. refl;
+  off_tree = λ t trace. refl;
+  cause = λ t w earlier. tt;
+  order_agrees = λ f g h k mounts levels there. writer_agrees c f g h k mounts levels;
+  room_agrees = λ f g mounts there. refl;
+  restores = λ refusal trace before order. (refl, refl);
+  tells = λ within t trace h. remove_tells file c within t trace h;
+  short = λ within t trace h. remove_short file c within t trace h;
+  most_small = λ within. omega arith;
+}
+
+-- of a grow
+pub grow_keeps : (c : Config) (file blocks : ℕ) → OpKeeps c (GrowOp file blocks)
+grow_keeps c file blocks = record {
+  fits = λ t held levels there order room.
+      let both : (nat_lt file c.nodes ≡ true) × (nat_lt 0 blocks ≡ true) = both_true (nat_lt file c.nodes) (nat_lt 0 blocks) there in
+      ((ltb-true file c.nodes both.0, ltb-true 0 blocks both.1, refl), order);
+  no_role = λ t y. refl;
+  steady = λ t. record { owns_same = refl; remounts_same = refl; closing_same = λ i. refl };
+  aside = λ t. refl;
+  counts_not = λ t i. refl;
+  apart = λ t i. refl;
+  outside = λ t. refl;
+  off_tree = λ t trace. refl;
+  cause = λ t w earlier. tt;
+  order_agrees = λ f g h k mounts levels there. writer_agrees c f g h k mounts levels;
+  room_agrees = λ f g mounts there. refl;
+  restores = λ refusal trace before order. (refl, refl);
+  tells = λ within t trace h. grow_tells file blocks c within t trace h;
+  short = λ within t trace h. grow_short file blocks c within t trace h;
+  most_small = λ within. omega arith;
+}
+
+-- of a move
+pub move_keeps : (c : Config) (file dir : ℕ) → OpKeeps c (MoveToOp file dir)
+move_keeps c file dir = record {
+  fits = λ t held levels there order room.
+      let both : (nat_lt file c.nodes ≡ true) × (nat_lt dir c.nodes ≡ true) = both_true (nat_lt file c.nodes) (nat_lt dir c.nodes) there in
+      ((ltb-true file c.nodes both.0, ltb-true dir c.nodes both.1, tt), order);
+  no_role = λ t y. refl;
+  steady = λ t. record { owns_same = refl; remounts_same = refl; closing_same = λ i. refl };
+  aside = λ t. refl;
+  counts_not = λ t i. refl;
+  apart = λ t i. refl;
+  outside = λ t. refl;
+  off_tree = λ t trace. refl;
+  cause = λ t w earlier. tt;
+  order_agrees = λ f g h k mounts levels there. writer_agrees c f g h k mounts levels;
+  room_agrees = λ f g mounts there. refl;
+  restores = λ refusal trace before order. (refl, refl);
+  tells = λ within t trace h. move_tells file dir c within t trace h;
+  short = λ within t trace h. move_short file dir c within t trace h;
+  most_small = λ within. omega arith;
+}
+
+-- of a page fault
+pub fault_keeps : (c : Config) (file : ℕ) → OpKeeps c (FaultOp file)
+fault_keeps c file = record {
+  fits = λ t held levels there order room. (ltb-true file c.nodes there, order);
+  no_role = λ t y. refl;
+  steady = λ t. record { owns_same = refl; remounts_same = refl; closing_same = λ i. refl };
+  aside = λ t. refl;
+  counts_not = λ t i. refl;
+  apart = λ t i. refl;
+  outside = λ t. refl;
+  off_tree = λ t trace. refl;
+  cause = λ t w earlier. tt;
+  order_agrees = λ f g h k mounts levels there. faulter_agrees c f g h k mounts levels;
+  room_agrees = λ f g mounts there. refl;
+  restores = λ refusal trace before order. (refl, refl);
+  tells = λ within t trace h. fault_tells file c within t trace h;
+  short = λ within t trace h. fault_short file c within t trace h;
+  most_small = λ within. omega arith;
+}
+
+-- of a write-back
+pub flush_keeps : (c : Config) (file : ℕ) → OpKeeps c (FlushOp file)
+flush_keeps c file = record {
+  fits = λ t held levels there order room. (ltb-true file c.nodes there, order);
+  no_role = λ t y. refl;
+  steady = λ t. record { owns_same = refl; remounts_same = refl; closing_same = λ i. refl };
+  aside = λ t. refl;
+  counts_not = λ t i. refl;
+  apart = λ t i. refl;
+  outside = λ t. refl;
+  off_tree = λ t trace. refl;
+  cause = λ t w earlier. tt;
+  order_agrees = λ f g h k mounts levels there. levels 3 (omega arith) (omega arith);
+  room_agrees = λ f g mounts there. refl;
+  restores = λ refusal trace before order. (refl, refl);
+  tells = λ within t trace h. flush_tells file c within t trace h;
+  short = λ within t trace h. flush_short file c within t trace h;
+  most_small = λ within. omega arith;
+}
+
+-- of a snapshot
+pub snapshot_keeps : (c : Config) (wait : Bool) → OpKeeps c (SnapshotOp wait)
+snapshot_keeps c wait = record {
+  fits = λ t held levels there order room. ((refl, refl, tt), order);
+  no_role = λ t y. refl;
+  steady = λ t. record { owns_same = refl; remounts_same = refl; closing_same = λ i. refl };
+  aside = λ t. refl;
+  counts_not = λ t i. refl;
+  apart = λ t i. refl;
+  outside = λ t. refl;
+  off_tree = λ t trace. refl;
+  cause = λ t w earlier. tt;
+  order_agrees = λ f g h k mounts levels there. none_agree c 0 f g h k mounts levels;
+  room_agrees = λ f g mounts there. refl;
+  restores = λ refusal trace before order. (refl, refl);
+  tells = λ within t trace h. snapshot_tells wait c within t trace h;
+  short = λ within t trace h. snapshot_short wait c within t trace h;
+  most_small = λ within. by_bool wait (λ b. IsSmall (most_events c (SnapshotOp b))) tt (omega (arith, within.nodes));
+}
