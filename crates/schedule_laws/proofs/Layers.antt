@@ -14,7 +14,8 @@ use Rattle.read_laws.proofs.CallbackKeeps.{callback_phase, callback_op}
 use Rattle.write_laws.proofs.WriteKeeps.{write_phase, want_write_op, drop_write_op}
 use Rattle.freeze_laws.proofs.FreezeKeeps.{freeze_phase, freeze_op}
 use Rattle.thaw_laws.proofs.ThawKeeps.{thaw_phase, thaw_op}
-use Rattle.call_laws.proofs.CallKeeps.{tree_phase_keeps, create_keeps, remove_keeps, grow_keeps, move_keeps, fault_keeps, flush_keeps, snapshot_keeps}
+use Rattle.call_laws.proofs.CallPhases.{tree_phase_keeps}
+use Rattle.call_laws.proofs.CallOps.{create_keeps, remove_keeps, grow_keeps, move_keeps, fault_keeps, flush_keeps, snapshot_keeps}
 
 pub phase_keeps : (c : Config) (phase : Phase) → PhaseKeeps c phase
 phase_keeps c (Mounts (Wants x)) = want_phase c x

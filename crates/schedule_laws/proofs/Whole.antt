@@ -11,7 +11,7 @@ use Rattle.access_model.proofs.Closed.{closed}
 use Rattle.gate_world.specs.declared.config.Config.{Config}
 use Rattle.gate_world.specs.Configs.{IsWithin, model_limits}
 use Rattle.gate_world.specs.Worlds.{World, Entry, opening, happens, run}
-use Rattle.gate_world.specs.Rules.{IsGood}
+use Rattle.gate_world.specs.Rules.{IsGood, Fitting}
 use Rattle.gate_world.specs.Headline.{world_after, actions_so_far, MovesTheModel, IsOneRun, NobodyIsInside, SumsHold, IdleSumsHold, NothingIsLeft, FreezeIsUnderWay, FrozenTreeIsWhole, ViewTells, OperationsAreKept}
 use Rattle.gate_world.specs.Courses.{course_of, IsTraced, FollowsOrder, AllTraced}
 use Rattle.gate_world.specs.Traces.{Tells, actions_of}
@@ -61,7 +61,8 @@ module _ (c : Config) (lim : IsWithin c) where
   whole_causes es t lt =
       let h : TrailHolds c (λ w good e. (happens_keeps c lim w good e).0) opening [] es = whole_trail es in
       subst (λ (ws : List World). HasCause c t ws ((world_after c es).views t).phase) (sym h.is)
-      (cause_tells c t (world_after c es) h.rest ((world_after c es).views t).phase (h.causes t lt))
+      (cause_tells c t (world_after c es) h.rest ((world_after c es).views t).phase (whole_rule es Fitting t lt)
+      (h.causes t lt))
 
   pub whole_sums : (es : List Entry) → SumsHold c (world_after c es)
   whole_sums es = gate_sums c lim (world_after c es) (whole_rule es)
