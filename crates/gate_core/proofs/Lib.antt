@@ -3,3 +3,4 @@ pub mod Stepping
 pub mod Beginning
 pub mod Opening
 pub mod Rows
+pub mod TreeRows

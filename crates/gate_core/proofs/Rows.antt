@@ -12,11 +12,11 @@ use Rattle.gate_core.specs.declared.steps.Progress.TheVariants.{Done, Idle}
 use Rattle.gate_core.specs.Answers.{step_answer}
 
 -- three tasks, two processors, one mount
-abbrev small : Config
+abbrev pub small : Config
 small = record { tasks = 3; processors = 2; mounts = 1; nodes = 2; capacity = 8 }
 
 -- so many steps of a task
-abbrev steps : ℕ → ℕ → List Entry
+abbrev pub steps : ℕ → ℕ → List Entry
 steps n t = replicate n (Steps t (Ok tt))
 
 -- a change of an idle mount to read-only

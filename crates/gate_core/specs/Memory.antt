@@ -25,7 +25,7 @@ no_seat = record { phase = None; accesses = record { mounts = []; levels = [] } 
 abbrev pub seat_of : Memory → ℕ → Seat
 seat_of memory t = slice_index_or memory.seats t no_seat
 
--- The memory shows this world: each word that there is, and each task's phase and accesses. Lists of actions and events stand in
+-- The memory shows this world: each word that is kept, and each task's phase and accesses. Lists of actions and events stand in
 -- no memory.
 pub record Shows (memory : Memory) (w : World) : Type 0 where
   pub words : (name : WordName) → IsWord (extents_kept memory.config) name → slice_index memory.words (place name) ≡ read w.words name

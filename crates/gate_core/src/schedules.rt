@@ -5,7 +5,7 @@ ghost use Rattle.gate_world.specs.declared.config.Config.{Config};
 ghost use Rattle.gate_world.specs.Configs.{IsWithin};
 ghost use Rattle.gate_world.specs.Worlds.{Entry};
 ghost use Rattle.gate_world.specs.Rules.{IsGood};
-ghost use Rattle.gate_world.specs.Headline.{world_after, MovesTheModel, IsOneRun, NobodyIsInside, SumsHold, IdleSumsHold, NothingIsLeft, FreezeIsUnderWay, OperationsAreKept};
+ghost use Rattle.gate_world.specs.Headline.{world_after, MovesTheModel, IsOneRun, NobodyIsInside, SumsHold, IdleSumsHold, NothingIsLeft, FreezeIsUnderWay, FrozenTreeIsWhole, OperationsAreKept};
 ghost use Rattle.gate_world.specs.Causes.{RefusalsHaveCauses};
 ghost use Rattle.gate_world.specs.LevelRuns.{LevelsAreRuns};
 ghost use Rattle.gate_world.specs.Waits.{EachWaitHasCulprit};
@@ -16,15 +16,17 @@ ghost use Rattle.gate_world.specs.Waits.{EachWaitHasCulprit};
 /// - `moves`: whatever entry comes next, an event that adds an action adds one that is allowed in the shown model, whose effect gives
 ///   the new shown model; every other entry leaves the shown model as it was.
 /// - `run`: so the actions so far are a legal history whose end is the shown model, each task's own list is its part of it, and each
-///   task's last snapshot has a moment in it at which everything was frozen, with the tree that was loaded, after just what the task had
-///   done at the snapshot's last load.
+///   task's last snapshot is of all nodes, sound and clean, and has a moment in it at which everything was frozen, with the tree that was
+///   loaded, after just what the task had done at the snapshot's last load.
 /// - `inside`: nobody holds an access at a read-only mount, nor at a level that a freeze has passed.
 /// - `sums`, `idle`: each mount's and each level's words sum to what is held and sought there, and, with no operation under way, to the
 ///   accesses held.
 /// - `rests`: nothing is left behind: with no operation under way, `umount` is free, no remount is under way, no mount has HOLD set, no
-///   read-side section is under way, a level is closed only where the file system is frozen as a whole, no callback is taken, and no
-///   freeze is half done: the stage is SB_UNFROZEN or SB_FREEZE_COMPLETE.
+///   read-side section is under way, a level is closed only where the file system is frozen as a whole, no callback is taken, no
+///   freeze is half done: the stage is SB_UNFROZEN or SB_FREEZE_COMPLETE; and the tree is sound, as below.
 /// - `freezes`: at the stages in between, one freeze is under way, and the stage is the one that it stored last.
+/// - `trees`: at SB_FREEZE_COMPLETE the tree is sound and clean, whatever is under way: the blocks charged are those of all files, the
+///   children charged to each node are those that it has, each parent is a directory, and no file is dirty.
 /// - `levels`: what a schedule makes of each freeze level is a run of it, so its grace periods are kept: a writer that is past one had a whole
 ///   one since it entered, from there on nobody is on the level's fast path until its state has been GP_IDLE again, and it becomes so only
 ///   from GP_EXIT, by a callback, with a whole grace period after its claim.
@@ -33,15 +35,17 @@ ghost use Rattle.gate_world.specs.Waits.{EachWaitHasCulprit};
 ///   that waits for nobody has few events.
 /// - `causes`: a change is refused as busy only where something was counted at that mount in some world from the load of its sum's
 ///   first word to the load of its last, and so a remount, at some mount, or where the stage was not 0 when it looked; a freeze is busy only
-///   where it wasn't, and a thaw invalid only where it wasn't 4; a want is refused as read-only only where the shown model had that mount
-///   read-only at one of its loads; a start that doesn't wait is refused only where another task had the level closed, or the file system was
-///   frozen as a whole, in the world in which it last looked.
-/// - `waits`: every wait has a culprit: a want waits only where another task has HOLD set at its mount, a change, a remount and a thaw only
-///   where another task has `umount`, a callback only where another task is inside a section, and a start only where the level was closed
-///   when it last looked, as above; a freeze waits as a remount and as a callback do, and where something was counted at the level that it
-///   closes, in some world from the load of its sum's first word to the load of its last; a drop and an end never wait.
-/// - `rule`: the rule of words and views, from which the rest follows: counts, holdings, the owner's words, the stage and the marks,
-///   mounts, levels, sections.
+///   where it wasn't, and a thaw or a snapshot invalid only where it wasn't 4; a want is refused as read-only only where the shown model had
+///   that mount read-only at one of its loads; a start that doesn't wait is refused only where another task had the level closed, or the file
+///   system was frozen as a whole, in the world in which it last looked; another call at the tree is refused for a node, as one that is free,
+///   a file or a directory, only where the shown model has that node so in the world of the load that it is refused with.
+/// - `waits`: every wait has a culprit: a want waits only where another task has HOLD set at its mount, a change, a remount, a thaw and a
+///   snapshot only where another task has `umount`, a callback only where another task is inside a section, and a start only where the level
+///   was closed when it last looked, as above; a freeze waits as a remount and as a callback do, and where something was counted at the level
+///   that it closes, in some world from the load of its sum's first word to the load of its last; a drop, an end and the other calls at the
+///   tree never wait.
+/// - `rule`: the rule of words and views, from which the rest follows: counts, holdings, the owner's words, the stage, the tree and its
+///   marks, mounts, levels, sections.
 ///
 /// It takes nothing, does nothing and answers nothing: its contract is the theorem. `Core` is bound to the same worlds by `Shows`.
 pub fn every_schedule()
@@ -52,6 +56,7 @@ pub fn every_schedule()
     ensures idle { (c : Config) → IsWithin c → (entries : List Entry) → IdleSumsHold c (world_after c entries) }
     ensures rests { (c : Config) → IsWithin c → (entries : List Entry) → NothingIsLeft c (world_after c entries) }
     ensures freezes { (c : Config) → IsWithin c → (entries : List Entry) → FreezeIsUnderWay c (world_after c entries) }
+    ensures trees { (c : Config) → IsWithin c → (entries : List Entry) → FrozenTreeIsWhole c (world_after c entries) }
     ensures levels { (c : Config) → IsWithin c → (entries : List Entry) → LevelsAreRuns c entries }
     ensures operations { (c : Config) → IsWithin c → (entries : List Entry) (t : ℕ) → OperationsAreKept c entries t }
     ensures causes { (c : Config) → IsWithin c → (entries : List Entry) → RefusalsHaveCauses c entries }

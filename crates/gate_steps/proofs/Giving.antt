@@ -1,7 +1,7 @@
 -- A seat gives one of its numbers to a new seat, or takes back those of another.
-use Rattle.std.specs.Prelude.{is_some}
+use Rattle.std.specs.Prelude.{Option, Some, None}
 use Rattle.gate_world.specs.Owners.{KnowsWords}
-use Rattle.std.proofs.Common.{◌≡◌, ℕ, zero, suc, ◌+◌, ◌<◌, ◌≤◌, ◌≢◌, ◌⊎◌, cond, eqb, List, [], ◌∷◌, ◌++◌, set, sym, refl, ap, ◌∙◌, subst, inl, inr, ⊎_elim, arith, eq-eqb, ne_eqb, true≢false}
+use Rattle.std.proofs.Common.{◌≡◌, ℕ, zero, suc, ◌+◌, ◌<◌, ◌≤◌, ◌≢◌, ◌⊎◌, cond, eqb, List, [], ◌∷◌, ◌++◌, set, sym, refl, ap, ◌∙◌, subst, inl, inr, ⊎_elim, arith, eq-eqb, ne_eqb}
 use mathlib.Core.Logic.{dite}
 use mathlib.Core.Option.{some, some-injective, some-ne-none}
 use native.Mathlib.Decide.{ℕ_discrete}
@@ -13,12 +13,15 @@ use Rattle.atomic_table.specs.Table.{Splits, Joins}
 use Rattle.atomic_table.proofs.Lists.{at_set, at_snoc, set_else}
 use Rattle.gate_world.specs.declared.config.Config.{Config}
 use Rattle.gate_world.specs.declared.views.View.{View}
+use Rattle.gate_world.specs.declared.views.Traced.{Traced}
+use Rattle.gate_world.specs.declared.work.Phase.{Phase}
+use Rattle.gate_world.specs.Trees.{tree_role_of}
 use Rattle.gate_world.specs.Worlds.{World}
 use Rattle.cpu_words.specs.Words.{Words}
-use Rattle.gate_world.specs.Rules.{IsGood, Part, Owner, Fitting, AtMount, SameWords, SameView, Holds, owns, Known, Stages, Marks, AtLevel, SyncAt, Sections}
+use Rattle.gate_world.specs.Rules.{IsGood, Part, Owner, Fitting, AtMount, Holds, owns, Known, Stages, Tree, AtLevel, SyncAt, Sections}
 use Rattle.gate_frames.proofs.Frames.{left_alone, shown_still}
 use Rattle.gate_steps.specs.declared.seating.Numbered.{Numbered}
-use Rattle.gate_steps.specs.Seating.{SeatItems, numbered, one_if, times, times_all, HaveViews, Dealt, without, view_in, renewed, kept_of, given_of, Spares}
+use Rattle.gate_steps.specs.Seating.{SeatItems, numbered, one_if, times, times_all, HaveViews, Dealt, without, view_in, renewed, kept_of, given_of, Spares, trace_kept}
 use Rattle.gate_world.specs.Moments.{HasMoment}
 use Rattle.gate_steps.specs.Histories.{HasHistory}
 use Rattle.gate_steps.proofs.Dealing.{one_if-same, one_if-other, times-append, times_all-set, times_all-one, times_all-snoc, known, apart}
@@ -133,16 +136,29 @@ module _ (tasks : ℕ) (views : ℕ → View) (seats : List SeatItems) (dealt : 
 abbrev renewed_at : World → ℕ → World
 renewed_at w n = record { words = w.words; views = update w.views n (renewed (w.views n)) }
 
--- each part of the rule holds of it: it reads the same of the view, but for what an owner knows, which a renewed view has to find anew
+-- what an owner of `umount` knows, it knows still
+renewed_knows : (ws : Words) (p : Option Phase) (trace : List Traced) → (owns p ≡ 1 → KnowsWords ws trace) → owns p ≡ 1 →
+    KnowsWords ws (trace_kept p trace)
+renewed_knows ws None trace knows o = absurd (omega (arith, o))
+renewed_knows ws (Some phase) trace knows o = knows o
+
+-- what the number is doing at the tree, it does still
+renewed_role : (p : Option Phase) (trace : List Traced) → tree_role_of (trace_kept p trace) p ≡ tree_role_of trace p
+renewed_role None trace = refl
+renewed_role (Some phase) trace = refl
+
+-- each part of the rule holds of it: it reads the same of the view, but for the trace of a number that is idle
 renewed_part : (c : Config) (w : World) → IsGood c w → (n : ℕ) → n < c.tasks → (part : Part) → Holds c (renewed_at w n) part
 renewed_part c w good n lt Known = λ x lx.
     each_updated (λ y (u : View). owns u.phase ≡ 1 → KnowsWords w.words u.trace) w.views n (renewed (w.views n)) x
-    (λ o word value k. absurd (true≢false (ap is_some (sym k)))) (λ ne. good Known x lx)
+    (renewed_knows w.words (w.views n).phase (w.views n).trace (good Known n lt)) (λ ne. good Known x lx)
 renewed_part c w good n lt Owner = left_alone c w n lt Owner w.words (renewed (w.views n)) (refl, refl) (refl, refl) (good Owner)
 renewed_part c w good n lt Fitting = left_alone c w n lt Fitting w.words (renewed (w.views n)) tt (refl, refl, refl) (good Fitting)
 renewed_part c w good n lt Stages =
     left_alone c w n lt Stages w.words (renewed (w.views n)) (refl, refl, refl, refl) refl (good Stages)
-renewed_part c w good n lt Marks = left_alone c w n lt Marks w.words (renewed (w.views n)) (refl, refl, refl) refl (good Marks)
+renewed_part c w good n lt Tree =
+    left_alone c w n lt Tree w.words (renewed (w.views n)) (refl, refl, refl, refl)
+    (renewed_role (w.views n).phase (w.views n).trace) (good Tree)
 renewed_part c w good n lt (AtLevel i) =
     left_alone c w n lt (AtLevel i) w.words (renewed (w.views n)) (refl, refl, refl) refl (good (AtLevel i))
 renewed_part c w good n lt (SyncAt i) =
@@ -150,7 +166,6 @@ renewed_part c w good n lt (SyncAt i) =
 renewed_part c w good n lt Sections = left_alone c w n lt Sections w.words (renewed (w.views n)) refl refl (good Sections)
 renewed_part c w good n lt (AtMount m) =
     left_alone c w n lt (AtMount m) w.words (renewed (w.views n)) (refl, refl, refl, refl) refl (good (AtMount m))
-renewed_part c w good n lt part = left_alone c w n lt part w.words (renewed (w.views n)) refl tt (good part)
 
 -- so the rule does
 renewed_good : (c : Config) (w : World) → IsGood c w → (n : ℕ) → n < c.tasks → IsGood c (renewed_at w n)

@@ -32,6 +32,7 @@ use Rattle.moment_laws.specs.Moments.{HaveDone}
 use Rattle.gate_world.specs.Fits.{Fits}
 use Rattle.gate_world.specs.Rules.{IsGood, Moves, StepKeeps}
 use Rattle.gate_frames.proofs.Snapshots.{others_apart}
+use Rattle.snapshot_laws.proofs.Frozen.{frozen_whole}
 use Rattle.schedule_laws.proofs.Layers.{phase_keeps}
 use Rattle.schedule_laws.proofs.Beginnings.{may_begin}
 use Rattle.schedule_laws.proofs.Schedule.{begun_keeps, legal_more}
@@ -188,7 +189,7 @@ lifted c slots id (x ∷ xs) carried begins phase hook acts s held len at small 
       legal = more.0;
       end = more.1;
       lists = beside_lists others w' log t hook phase en.lists;
-      snapshots = beside_moments c w' log ends others t hook phase en.lists done
+      snapshots = beside_moments c w' (frozen_whole c lim w' en.good) log ends others t hook phase en.lists done
           ((phase_keeps c phase).completes lim w' en.good t lt hook en.at_phase) en.snapshots;
     } in (
       items_after begins phase hook (found_by touch n) (x ∷ xs),

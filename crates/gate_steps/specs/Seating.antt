@@ -7,6 +7,7 @@ use Rattle.gate_world.specs.declared.config.Config.{Config}
 use Rattle.gate_world.specs.declared.operations.Op.{Op}
 use Rattle.gate_world.specs.declared.work.Phase.{Phase}
 use Rattle.gate_world.specs.declared.views.View.{View}
+use Rattle.gate_world.specs.declared.views.Traced.{Traced}
 use Rattle.gate_world.specs.Views.{opening_view, begun_view, view_after_beside}
 use Rattle.gate_world.specs.Beginnings.{first_phase, view_refusal}
 use Rattle.gate_world.specs.Worlds.{World, after_begin, found_at, after_step_beside, phase_action, with_action}
@@ -131,9 +132,15 @@ abbrev pub view_in : ℕ → SeatItems → View
 view_in n [] = opening_view
 view_in n (x ∷ xs) = cond (x.number == n) x.view (view_in n xs)
 
+-- The trace with which another task takes over: none where no operation is under way. Where one is, what it has noted by its loads is a
+-- part of what it does, and stays.
+abbrev pub trace_kept : Option Phase → List Traced → List Traced
+trace_kept None trace = []
+trace_kept (Some phase) trace = trace
+
 -- the view with which another task takes over: no operation of its own yet
 abbrev pub renewed : View → View
-renewed v = record v { op = None; trace = []; snapshot = None }
+renewed v = record v { op = None; trace = trace_kept v.phase v.trace; snapshot = None }
 
 -- what a seat keeps that gives a number
 abbrev pub kept_of : ℕ → SeatItems → SeatItems

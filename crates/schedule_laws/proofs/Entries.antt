@@ -101,7 +101,7 @@ module _ (c : Config) (keeps : (w : World) → IsGood c w → (e : Entry) → Is
       record { rest = t.rest; is = t.is; causes = t.causes }
 
 -- what a phase's cause says at its refusal
-pub cause_tells : (c : Config) (t : ℕ) (w : World) (earlier : List World) (p : Option Phase) → CauseOf c t w earlier p →
-    HasCause c t (w ∷ earlier) p
-cause_tells c t w earlier None h = tt
-cause_tells c t w earlier (Some phase) h = (phase_keeps c phase).tells t w earlier h
+pub cause_tells : (c : Config) (t : ℕ) (w : World) (earlier : List World) (p : Option Phase) →
+    Fits c t (held_at (w.views t)) (holds_level (w.views t)) p → CauseOf c t w earlier p → HasCause c t (w ∷ earlier) p
+cause_tells c t w earlier None fits h = tt
+cause_tells c t w earlier (Some phase) fits h = (phase_keeps c phase).tells t w earlier fits h

@@ -3,18 +3,12 @@ use Rattle.level_laws.proofs.IdleLaws.{only_callbacks_idle}
 use Rattle.level_laws.proofs.Whole.{idle_is_earned}
 use Rattle.level_laws.proofs.SlowLaws.{stays_slow}
 use Rattle.level_laws.proofs.GraceLaws.{graces_are_whole}
-use Rattle.std.proofs.Common.{◌≡◌, ℕ, zero, suc, ◌<◌, ◌≤◌, refl, sym, ap, ◌∙◌, subst, inl, inr, arith}
+use Rattle.std.proofs.Common.{◌≡◌, ℕ, zero, suc, ◌<◌, ◌≤◌, refl, sym, ap, ◌∙◌, inl, inr, arith}
 use Rattle.std.specs.Prelude.{Option, Some, None, List, [], ◌∷◌, length, take, nat_lt, is_some}
 use Rattle.std.proofs.lemmas.Bool.{cases_Bool, ltb-true}
-use Rattle.finite_sums.specs.Sums.{update}
 use Rattle.access_model.specs.declared.errors.GateError.{GateError}
 use Rattle.cpu_words.specs.Hooks.{HookAnswer}
-use Rattle.percpu_rwsem.specs.declared.sync_word.GpState.TheVariants.{Idle, Exit}
-use Rattle.percpu_rwsem.specs.Graces.{started}
-use Rattle.level_laws.specs.Roles.{Out, Past, Ready, Claimed, claimed}
-use Rattle.level_laws.specs.Changes.{state_found}
-use Rattle.level_laws.specs.Events.{SyncLevel, SyncLevelHolds, SyncStep, SyncRun, Calls}
-use Rattle.level_laws.specs.Laws.{WholeGrace}
+use Rattle.level_laws.specs.Events.{SyncLevelHolds, SyncStep, SyncRun}
 use Rattle.gate_world.specs.declared.config.Config.{Config}
 use Rattle.gate_world.specs.declared.operations.Op.{Op}
 use Rattle.gate_world.specs.declared.work.Phase.{Phase}

@@ -11,7 +11,7 @@ use Rattle.gate_world.specs.Configs.{IsWithin, extents_kept, extents_among}
 use Rattle.gate_world.specs.Views.{phase_after}
 use Rattle.gate_world.specs.Work.{next_of, after_of}
 use Rattle.gate_world.specs.Fits.{PhaseFits, Fits, ActionFits, mounts_by, levels_by}
-use Rattle.gate_frames.proofs.Places.{are_few, few_among}
+use Rattle.gate_frames.proofs.Places.{few_among}
 use Rattle.schedule_laws.proofs.Layers.{phase_keeps}
 
 module _ (c : Config) (within : IsWithin c) (t : ℕ) (held : ℕ → ℕ) (levels : ℕ → Bool) where

@@ -20,6 +20,7 @@ use Rattle.stage_laws.proofs.Facts.{way_is, other_zero}
 use Rattle.stage_laws.proofs.Whole.{freeze_is_under_way}
 use Rattle.stage_laws.specs.Roles.{Place, Freezing}
 use Rattle.gate_frames.proofs.Stages.{stages_in, stages_right}
+use Rattle.snapshot_laws.proofs.Frozen.{idle_sound}
 use Rattle.gate_world.specs.Headline.{FreezeIsUnderWay}
 use Rattle.std.proofs.lemmas.Bool.Decides.{eqb_tells}
 
@@ -81,6 +82,7 @@ module _ (c : Config) (w : World) (good : IsGood c w) (idle : (t : ℕ) → t < 
     levels_open = no_closed;
     callbacks_free = no_callback;
     stage_settled = settled;
+    tree_sound = idle_sound c w good idle;
   }
 
 -- no two freezes are

@@ -28,18 +28,19 @@ use Rattle.gate_world.specs.Worlds.{World, Entry, Begins, Steps, after_begin, be
 use Rattle.gate_world.specs.Shown.{shown}
 use Rattle.gate_counts.specs.Gates.{below, counted as counted_of}
 use Rattle.gate_counts.specs.Levels.{level_as_gate, processor_of as level_processor}
-use Rattle.gate_world.specs.Rules.{role_of, at_mount, MountHoldsIn, LevelHoldsIn, IsSteady, ViewFits, Part, Owner, Stages, Marks, Fitting, AtMount, Holds, IsGood, Moves, owns, Known, Nodes, AtLevel, SyncAt, Sections, marks_of}
+use Rattle.gate_world.specs.Rules.{role_of, at_mount, MountHoldsIn, LevelHoldsIn, IsSteady, ViewFits, Part, Owner, Stages, Fitting, AtMount, Holds, IsGood, Moves, owns, Known, Tree, AtLevel, SyncAt, Sections}
 use Rattle.gate_world.specs.Headline.{SumsHold, IdleSumsHold}
 use Rattle.schedule_laws.proofs.Layers.{phase_keeps, op_keeps}
 use Rattle.schedule_laws.proofs.Beginnings.{MayBegin, may_begin, first_fits}
-use Rattle.gate_frames.proofs.Frames.{view_as, left_alone, shown_still, level_view_as, marks_as}
+use Rattle.gate_frames.proofs.Frames.{view_as, left_alone, shown_still, level_view_as}
+use Rattle.gate_frames.proofs.Trees.{tree_within}
 use Rattle.gate_frames.proofs.Loads.{steady}
-use Rattle.gated_tree.specs.Nodes.{IsNode}
-use Rattle.cpu_words.specs.Words.{opening_words}
+use Rattle.tree_laws.proofs.Each.{opening_holds}
 use Rattle.gate_world.specs.Levels.{inside, at_level, level_role_of, sync_role_of}
 use Rattle.level_laws.proofs.Whole.{opening_is_right}
 use Rattle.stage_laws.proofs.Whole.{opening_is_right as stages_open}
 use Rattle.gate_world.specs.Stages.{stage_role_of}
+use Rattle.gate_world.specs.Trees.{tree_bounds, tree_role_of}
 
 pub both : (a b : Bool) → (a && b) ≡ true → (a ≡ true) × (b ≡ true)
 both true b h = (refl, h)
@@ -72,14 +73,13 @@ module _ (c : Config) (lim : IsWithin c) (w : World) (good : IsGood c w) (t : �
   begun_good op h Stages =
       left_alone c w t lt Stages w.words (begun_view (w.views t) op (first_phase c t op)) (refl, refl, refl, refl)
       ((op_keeps c op).aside t ∙ sym (ap stage_role_of (idle_is (w.views t).phase h.idle))) (good Stages)
-  begun_good op h Marks =
-      left_alone c w t lt Marks w.words (begun_view (w.views t) op (first_phase c t op)) (refl, refl, refl)
-      ((op_keeps c op).aside t ∙ sym (ap stage_role_of (idle_is (w.views t).phase h.idle))) (good Marks)
+  begun_good op h Tree =
+      left_alone c w t lt Tree w.words (begun_view (w.views t) op (first_phase c t op)) (refl, refl, refl, refl)
+      ((op_keeps c op).off_tree t [] ∙ sym (ap (tree_role_of (w.views t).trace) (idle_is (w.views t).phase h.idle))) (good Tree)
   begun_good op h Known = λ x lx.
       each_updated (λ y (u : View). owns u.phase ≡ 1 → KnowsWords w.words u.trace) w.views t
       (begun_view (w.views t) op (first_phase c t op)) x
       (λ o word value k. absurd (true≢false (ap is_some (sym k)))) (λ ne. good Known x lx)
-  begun_good op h Nodes = good Nodes
   begun_good op h (AtLevel i) =
       left_alone c w t lt (AtLevel i) w.words (begun_view (w.views t) op (first_phase c t op)) (refl, refl, refl)
       (level_view_as refl refl refl ((op_keeps c op).counts_not t i ∙ sym (ap (level_role_of i) (idle_is (w.views t).phase h.idle))))
@@ -148,24 +148,6 @@ module _ (c : Config) (lim : IsWithin c) where
   zeros : (n : ℕ) → total n (λ x. 0) ≡ 0
   zeros n = total_none n (λ x. 0) (λ x lx. refl)
 
-  -- the root is a directory, and all other nodes are free
-  opening_nodes : (n : ℕ) → IsNode (opening_words.node n)
-  opening_nodes n =
-      elim (eqb_tells n 0) [
-        | inl h ↦ rw (h.0, update) (record {
-          packed = record { kind = omega arith; low = refl; high = refl; size = omega arith; free = λ z. absurd (omega (arith, z)) };
-          plain = λ z. refl;
-        })
-        | inr h ↦ rw (h.0, update) (record {
-          packed = record { kind = omega arith; low = refl; high = refl; size = omega arith; free = λ z. refl };
-          plain = λ z. refl;
-        })
-      ]
-
-  -- none has a mark
-  opening_clean : (n : ℕ) → marks_of opening_words n ≡ 0
-  opening_clean n = elim (eqb_tells n 0) [ inl h ↦ rw (h.0, update) refl | inr h ↦ rw (h.0, update) refl ]
-
   pub opening_good : (part : Part) → Holds c opening part
   opening_good Owner = record {
     locked = λ t lt h. absurd (omega arith);
@@ -176,10 +158,9 @@ module _ (c : Config) (lim : IsWithin c) where
     remounting = sym (zeros c.tasks);
   }
   opening_good Stages = (stages_open c.tasks c.nodes).stages
-  opening_good Marks = marks_as refl refl (fun_ext opening_clean) refl (stages_open c.tasks c.nodes).marks
+  opening_good Tree = opening_holds (tree_bounds c) (tree_within c lim)
   opening_good Known = λ t lt o. absurd (omega (arith, o))
   opening_good Fitting = λ t lt. tt
-  opening_good Nodes = (opening_nodes, refl)
   opening_good (AtLevel i) = λ l1 l3. record { known = omega arith; gate = gate_begins c.tasks c.processors (λ j. 0 ≡ 1) }
   opening_good (SyncAt i) = λ l1 l3. (opening_is_right c.tasks).level
   opening_good Sections = λ t lt. refl

@@ -4,16 +4,16 @@ use Rattle.schedule_laws.proofs.Beginnings.{may_begin}
 use Rattle.access_model.specs.Histories.{mounts_of, levels_of}
 use Rattle.gate_world.specs.Views.{HoldsAsBefore}
 use Rattle.std.proofs.Common.{◌≡◌, ℕ, refl, sym, subst, ◌∙◌, ap}
-use Rattle.std.specs.Prelude.{Option, Some, None, Err, List, [], ◌++◌, false}
+use Rattle.std.specs.Prelude.{Option, Some, None, Err, List, [], ◌∷◌, ◌++◌, false}
 use Rattle.access_model.specs.States.{State}
 use Rattle.access_model.specs.Laws.{NobodyHoldsClosed}
 use Rattle.access_model.proofs.Closed.{closed}
 use Rattle.gate_world.specs.declared.config.Config.{Config}
 use Rattle.gate_world.specs.Configs.{IsWithin, model_limits}
-use Rattle.gate_world.specs.Worlds.{World, Entry, opening}
-use Rattle.gate_world.specs.Rules.{IsGood}
-use Rattle.gate_world.specs.Headline.{world_after, actions_so_far, MovesTheModel, IsOneRun, NobodyIsInside, SumsHold, IdleSumsHold, NothingIsLeft, FreezeIsUnderWay, ViewTells, OperationsAreKept}
-use Rattle.gate_world.specs.Courses.{course_of, IsTraced, FollowsOrder}
+use Rattle.gate_world.specs.Worlds.{World, Entry, opening, happens, run}
+use Rattle.gate_world.specs.Rules.{IsGood, Fitting}
+use Rattle.gate_world.specs.Headline.{world_after, actions_so_far, MovesTheModel, IsOneRun, NobodyIsInside, SumsHold, IdleSumsHold, NothingIsLeft, FreezeIsUnderWay, FrozenTreeIsWhole, ViewTells, OperationsAreKept}
+use Rattle.gate_world.specs.Courses.{course_of, IsTraced, FollowsOrder, AllTraced}
 use Rattle.gate_world.specs.Traces.{Tells, actions_of}
 use Rattle.gate_world.specs.declared.operations.Op.{Op}
 use Rattle.gate_world.specs.declared.work.Phase.{Phase}
@@ -24,7 +24,9 @@ use Rattle.access_model.specs.declared.errors.GateError.{GateError}
 use Rattle.access_model.specs.declared.replies.Next.{Next}
 use Rattle.access_model.specs.declared.replies.Next.TheVariants.{Done as Ended}
 use Rattle.schedule_laws.proofs.Layers.{phase_keeps, op_keeps}
-use Rattle.trace_laws.proofs.Traced.{all_traced}
+use Rattle.trace_laws.proofs.Traced.{opening_traced, entry_keeps}
+use Rattle.gate_frames.proofs.MayHolds.{events_may_be}
+use Rattle.snapshot_laws.proofs.Frozen.{frozen_whole}
 use Rattle.gate_world.specs.Waits.{WaitsForAnother, EachWaitHasCulprit, HasCulpritAmong}
 use Rattle.gate_world.specs.Causes.{HasCause, RefusalsHaveCauses}
 use Rattle.schedule_laws.proofs.Entries.{TrailHolds, trail_holds, cause_tells}
@@ -59,7 +61,8 @@ module _ (c : Config) (lim : IsWithin c) where
   whole_causes es t lt =
       let h : TrailHolds c (λ w good e. (happens_keeps c lim w good e).0) opening [] es = whole_trail es in
       subst (λ (ws : List World). HasCause c t ws ((world_after c es).views t).phase) (sym h.is)
-      (cause_tells c t (world_after c es) h.rest ((world_after c es).views t).phase (h.causes t lt))
+      (cause_tells c t (world_after c es) h.rest ((world_after c es).views t).phase (whole_rule es Fitting t lt)
+      (h.causes t lt))
 
   pub whole_sums : (es : List Entry) → SumsHold c (world_after c es)
   whole_sums es = gate_sums c lim (world_after c es) (whole_rule es)
@@ -72,6 +75,9 @@ module _ (c : Config) (lim : IsWithin c) where
 
   pub whole_freezes : (es : List Entry) → FreezeIsUnderWay c (world_after c es)
   whole_freezes es = a_freeze_is_under_way c (world_after c es) (whole_rule es)
+
+  pub whole_trees : (es : List Entry) → FrozenTreeIsWhole c (world_after c es)
+  whole_trees es = frozen_whole c lim (world_after c es) (whole_rule es)
 
   pub whole_waits : (es : List Entry) → EachWaitHasCulprit c es
   whole_waits es t phase again hook lt at e =
@@ -110,8 +116,14 @@ module _ (c : Config) (lim : IsWithin c) where
         short = (op_keeps c op).short lim t v.trace h.trace;
       }
 
+  -- each view follows its operation, as each event is on a word that holds what it may
+  run_traced : (es : List Entry) (w : World) → IsGood c w → AllTraced c w → AllTraced c (run c w es)
+  run_traced [] w good h = h
+  run_traced (e ∷ es) w good h =
+      run_traced es (happens c w e) (happens_keeps c lim w good e).0 (entry_keeps c w e (events_may_be c w good) h)
+
   pub whole_operations : (es : List Entry) (t : ℕ) → OperationsAreKept c es t
   whole_operations es t =
       let traced : IsTraced c t ((world_after c es).views t) ((world_after c es).views t).op =
-      all_traced c opening es (λ x. (refl, refl, refl)) t in
+      run_traced es opening (opening_good c lim) (opening_traced c) t in
       record { traced = traced; tells = op_tells t ((world_after c es).views t) ((world_after c es).views t).op traced }

@@ -21,7 +21,8 @@ pub fn what_a_trace_tells()
 {}
 
 /// The trace of an operation that waits for nobody has a stated number of events at most: of a want 6, of a drop 1, of a change 7 and
-/// one for each processor. Does nothing: its contract is the law.
+/// one for each processor, of a create 3 and one for each node, of a grow or a move 5, of a remove 4, of a page fault or a write-back 2,
+/// of a snapshot 4 and two for each node. Does nothing: its contract is the law.
 pub fn how_long_a_trace_is()
     ensures { (c : Config) → IsWithin c → (t : ℕ) (op : Op) (trace : List Traced) → IsTrace c t op trace → IsShort (most_events c op) trace }
 {}
