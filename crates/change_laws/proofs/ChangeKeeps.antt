@@ -49,7 +49,7 @@ change_phase c x = record {
       (ap (λ g. g x.mount) (change_counts w t hook x.mount x.read_only x.wait x.task x.processors x.step)) h is;
   waits = λ lim w earlier good t lt hook e cause.
       change_waits c w earlier good t lt x.mount x.read_only x.task x.processors hook x.wait x.step e;
-  tells = λ t w earlier h e. let k : ChangeCause c t w earlier x.mount (Releases (Err Busy)) =
+  tells = λ t w earlier fits h e. let k : ChangeCause c t w earlier x.mount (Releases (Err Busy)) =
       subst (ChangeCause c t w earlier x.mount) e h in k refl;
 }
 

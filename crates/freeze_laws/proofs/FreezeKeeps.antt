@@ -42,7 +42,7 @@ freeze_phase c x = record {
       (freeze_counts w t x hook x.step).1 h is;
   waits = λ within w earlier good t lt hook e cause.
       freeze_waits c w earlier good t lt x hook x.step e (fits_here c x w good t lt e).5 cause;
-  tells = λ t w earlier h. freeze_cause_tells c t w earlier x.step h;
+  tells = λ t w earlier fits h. freeze_cause_tells c t w earlier x.step h;
 }
 
 -- of its beginning and its trace

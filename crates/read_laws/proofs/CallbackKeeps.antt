@@ -79,7 +79,7 @@ callback_phase c b = record {
       let f : Fits c t (held_at (w.views t)) (holds_level (w.views t)) (Some (Callbacks b)) =
       subst (Fits c t (held_at (w.views t)) (holds_level (w.views t))) e (good Fitting t lt) in
       callback_waits c w earlier t good b hook b.step e f.3;
-  tells = λ t w earlier h. tt;
+  tells = λ t w earlier fits h. tt;
 }
 
 -- of its beginning and its trace

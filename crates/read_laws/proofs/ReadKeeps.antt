@@ -67,7 +67,7 @@ read_phase c r = record {
   waits = λ within w earlier good t lt hook e cause.
       start_waits c w earlier t r (down_read_after r r.step (found_at w.words (DownReads r) hook)).0
       (read_waits c w earlier t r r.step (found_at w.words (DownReads r) hook) cause);
-  tells = λ t w earlier h e. read_tells c t w earlier r.level r.step h e;
+  tells = λ t w earlier fits h e. read_tells c t w earlier r.level r.step h e;
 }
 
 -- of the one phase of an end
@@ -85,7 +85,7 @@ end_phase c u = record {
   stays = λ w next earlier good t f e was quiet h. tt;
   causes = λ w earlier good t lt hook e after is h. tt;
   waits = λ within w earlier good t lt hook e cause. tt;
-  tells = λ t w earlier h. tt;
+  tells = λ t w earlier fits h. tt;
 }
 
 -- a level and a processor that are in range

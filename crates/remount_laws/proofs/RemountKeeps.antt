@@ -41,7 +41,7 @@ remount_phase c x = record {
       subst (Fits c t (held_at (w.views t)) (holds_level (w.views t))) e (good Fitting t lt) in
       remount_own c t w (after_step w t (Remounts x) hook) earlier after x hook x.step f.1 f.5 e (remount_counts w t x hook x.step) h is;
   waits = λ lim w earlier good t lt hook e cause. remount_waits c w earlier good t lt x hook x.step e;
-  tells = λ t w earlier h e. let k : RemountCause c t w earlier (Releases (Err Busy)) =
+  tells = λ t w earlier fits h e. let k : RemountCause c t w earlier (Releases (Err Busy)) =
       subst (RemountCause c t w earlier) e h in k refl;
 }
 

@@ -30,7 +30,7 @@ thaw_phase c x = record {
   stays = λ w next earlier after t f e was quiet h. thaw_stays c t w next earlier x x.step e h;
   causes = λ w earlier good t lt hook e after is h. thaw_own c t w (after_step w t (Thaws x) hook) earlier x hook x.step e is;
   waits = λ lim w earlier good t lt hook e cause. thaw_waits c w earlier t good lt x hook x.step e;
-  tells = λ t w earlier h. thaw_told c t w earlier x.step h;
+  tells = λ t w earlier fits h. thaw_told c t w earlier x.step h;
 }
 
 -- of its beginning and its trace

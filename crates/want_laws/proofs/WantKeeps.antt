@@ -62,7 +62,7 @@ want_phase c x = record {
       subst (Fits c t (held_at (w.views t)) (holds_level (w.views t))) e (good Fitting t lt) in
       next_waits c w good t lt x earlier (want_after x x.step (found_at w.words (Mounts (Wants x)) hook)).0
       (want_waits c w good t lt x x.step f.0 (want_here x.mount x.cpu x.wait x.step e));
-  tells = λ t w earlier h e. let k : WantCause c t w earlier x.mount (CountsDown ReadOnly) =
+  tells = λ t w earlier fits h e. let k : WantCause c t w earlier x.mount (CountsDown ReadOnly) =
       subst (WantCause c t w earlier x.mount) e h in k refl;
 }
 
@@ -81,7 +81,7 @@ drop_phase c m p = record {
   stays = λ w next earlier after t f e was quiet h. tt;
   causes = λ w earlier good t lt hook e after is h. tt;
   waits = λ lim w earlier good t lt hook e cause. tt;
-  tells = λ t w earlier h. tt;
+  tells = λ t w earlier fits h. tt;
 }
 
 -- of a want

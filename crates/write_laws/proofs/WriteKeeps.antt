@@ -162,7 +162,7 @@ takes_phase c m r = record {
   waits = λ lim w earlier good t lt hook e cause.
       takes_waits c t w earlier m r.cpu r (down_read_after r r.step (found_at w.words (DownReads r) hook)).0
       (read_waits c w earlier t r r.step (found_at w.words (DownReads r) hook) cause);
-  tells = λ t w earlier h e. read_tells c t w earlier r.level r.step h e;
+  tells = λ t w earlier fits h e. read_tells c t w earlier r.level r.step h e;
 }
 
 -- what is proved of a phase at the mount
@@ -194,7 +194,7 @@ wants_phase c x = record {
       let f : WriteFits c t (held_at (w.views t)) (holds_level (w.views t)) (Wants x) = write_fits_now c w good t lt hook (Wants x) e in
       wants_waits c t w earlier x.mount x.cpu good lt x (want_after x x.step (found_at w.words (Mounts (PlainWant x)) hook)).0
       (want_waits c w good t lt x x.step f.0.0 (ap (role_of x.mount) e ∙ role_on x.mount _));
-  tells = λ t w earlier h e. let k : WantCause c t w earlier x.mount (CountsDown ReadOnly) =
+  tells = λ t w earlier fits h e. let k : WantCause c t w earlier x.mount (CountsDown ReadOnly) =
       subst (WantCause c t w earlier x.mount) e h in k refl;
 }
 
@@ -217,7 +217,7 @@ gives_back_phase c m p refusal = record {
   stays = λ w next earlier good t f e was quiet h. want_kept c t w next earlier m (CountsDown refusal) (ap asks e) h;
   causes = λ w earlier good t lt hook e after is h. tt;
   waits = λ lim w earlier good t lt hook e cause. tt;
-  tells = λ t w earlier h. h;
+  tells = λ t w earlier fits h. h;
 }
 
 -- what is proved of a phase that gives the mount back
@@ -238,7 +238,7 @@ drops_phase c m p = record {
   stays = λ w next earlier good t f e was quiet h. tt;
   causes = λ w earlier good t lt hook e after is h. tt;
   waits = λ lim w earlier good t lt hook e cause. tt;
-  tells = λ t w earlier h. tt;
+  tells = λ t w earlier fits h. tt;
 }
 
 -- what is proved of a phase that leaves the level last
@@ -259,7 +259,7 @@ ends_phase c p = record {
   stays = λ w next earlier good t f e was quiet h. tt;
   causes = λ w earlier good t lt hook e after is h. tt;
   waits = λ lim w earlier good t lt hook e cause. tt;
-  tells = λ t w earlier h. tt;
+  tells = λ t w earlier fits h. tt;
 }
 
 -- each phase
