@@ -1,6 +1,7 @@
 pub mod FlagSteps
 pub mod Going
 pub mod Turning
+pub mod Rooming
 pub mod Parting
 pub mod Closing
 pub mod Ending

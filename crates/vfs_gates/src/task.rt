@@ -15,8 +15,8 @@ use freeze_levels::HookKind;
 use gate_core::seats::Seat as Kept;
 use gate_core::{Progress, Step};
 use gate_steps::Items;
-use gate_world::{Accesses, Config, Op, Phase};
-use gated_tree::{Tree, TreePhase};
+use gate_world::{Accesses, Config, Op};
+use gated_tree::Tree;
 use std::marker::Model;
 
 /// The seat of a task at the table.
@@ -142,9 +142,7 @@ impl Task {
         ensures refused { OnErr result (self.new ≡ self.old) }
     {
         let phase = self.admit(op)?;
-        if let Op::Snapshot { .. } = op {
-            self.rooms.clear();
-        }
+        self.rooms.begin(op);
         self.begins = Some(op);
         self.kept.phase = Some(phase);
         Ok(())
@@ -176,9 +174,7 @@ impl Task {
             action,
             next,
         } = do_event(gates, &mut self.seat, accesses, begins, phase, hook);
-        if let Phase::Trees(TreePhase::Snapshot(snapshot)) = phase {
-            self.rooms.note(snapshot, event);
-        }
+        self.rooms.follow(phase, event);
         let (progress, phase) = Progress::of(next);
         self.begins = None;
         self.kept.phase = phase;
