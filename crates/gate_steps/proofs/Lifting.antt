@@ -39,6 +39,9 @@ use Rattle.schedule_laws.proofs.Schedule.{begun_keeps, legal_more}
 use Rattle.gate_world.specs.Rules.{Fitting}
 use Rattle.schedule_laws.proofs.Lists.{beside_lists, begin_lists}
 use Rattle.schedule_laws.proofs.Snapshots.{beside_moments, begin_moments}
+use Rattle.gate_world.specs.Courses.{MayHold}
+use Rattle.gate_frames.proofs.MayHolds.{events_may_be}
+use Rattle.gate_steps.proofs.Stores.{held_found, no_store}
 use Rattle.schedule_laws.proofs.Phases.{word_there}
 use Rattle.gate_steps.specs.declared.seating.Numbered.{Numbered}
 use Rattle.gate_steps.specs.Seating.{SeatItems, HaveViews, MayStep, Acts, entered, world_entered, done_by, items_after, happened}
@@ -218,6 +221,8 @@ lifted c slots id (x ∷ xs) carried begins phase hook acts s held len at small 
           before = good;
           mine = mine;
           found = ap (found_by touch) (held.ruled.words name there);
+          holds = held_found name touch n (no_store phase hook)
+              (subst (MayHold name) (sym value) (events_may_be c w' en.good t lt phase hook en.at_phase));
           after = kept.0;
           moves = subst (λ (z : Shown × Words). Moves c z.0 t (after_of phase (found_at z.1 phase hook) hook).1 (shown c after))
               (λ j. (en.shows j, en.words j)) kept.1;

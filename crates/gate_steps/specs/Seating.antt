@@ -11,6 +11,8 @@ use Rattle.gate_world.specs.declared.views.Traced.{Traced}
 use Rattle.gate_world.specs.Views.{opening_view, begun_view, view_after_beside}
 use Rattle.gate_world.specs.Beginnings.{first_phase, view_refusal}
 use Rattle.gate_world.specs.Worlds.{World, after_begin, found_at, after_step_beside, phase_action, with_action}
+use Rattle.gate_world.specs.Work.{next_of}
+use Rattle.gate_world.specs.Courses.{MayHold}
 use Rattle.gate_world.specs.Shown.{shown}
 use Rattle.gate_world.specs.Rules.{IsGood, Moves}
 use Rattle.gate_steps.specs.Histories.{HasHistory}
@@ -94,7 +96,7 @@ world_left c w begins phase hook n others = after_step_beside (done_by others) (
 
 -- The event happened in some world that the rule holds of, with one history, in which the seat's numbers have their views. What it left
 -- is such a world too, in which they have the views that the seat knows then. It moves the shown model by its action, and its history is
--- the one before with this action.
+-- the one before with this action. What it found is what its word may hold.
 pub record Moved (c : Config) (begins : Option Op) (phase : Phase) (hook : HookAnswer) (x : Numbered) (xs : SeatItems)
     (n : ℕ) : Type 0 where
   pub world : World
@@ -102,6 +104,7 @@ pub record Moved (c : Config) (begins : Option Op) (phase : Phase) (hook : HookA
   pub before : IsGood c world
   pub mine : HaveViews world.views (x ∷ xs)
   pub found : n ≡ found_at world.words phase hook
+  pub holds : MayHold (next_of phase hook).0 n
   pub after : IsGood c (world_left c world begins phase hook x.number xs)
   pub moves : Moves c (shown c world) x.number (phase_action world hook (Some phase))
       (shown c (world_left c world begins phase hook x.number xs))

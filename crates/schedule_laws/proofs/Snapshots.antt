@@ -40,7 +40,7 @@ directory_as nodes old new same None h = tt
 directory_as nodes old new same (Some node) h = (h.0, subst IsDirectory (same node.parent h.0) h.1)
 
 -- and such a tree is as sound
-sound_as : (nodes used used' : ℕ) (old new : ℕ → Option NodeInfo) (kids kids' : ℕ → ℕ) → used ≡ used' →
+pub sound_as : (nodes used used' : ℕ) (old new : ℕ → Option NodeInfo) (kids kids' : ℕ → ℕ) → used ≡ used' →
     ((n : ℕ) → n < nodes → old n ≡ new n) → ((n : ℕ) → n < nodes → kids n ≡ kids' n) →
     IsSound nodes used old kids → IsSound nodes used' new kids'
 sound_as nodes used used' old new kids kids' same_used same same_kids sound = record {

@@ -1,15 +1,18 @@
 -- The words of gates that are closed.
-use Rattle.std.proofs.Common.{◌≡◌, ℕ, ◌*◌, ◌%◌, ◌<◌, List, ap, ◌∙◌, arith, ◌≤◌, Bool}
+use Rattle.std.proofs.Common.{◌≡◌, ℕ, ◌*◌, ◌%◌, ◌<◌, List, ap, sym, ◌∙◌, arith, ◌≤◌, Bool}
 use Rattle.std.specs.Prelude.{if◌then◌else◌, None, slice_index}
 use Rattle.finite_sums.specs.Sums.{total}
 use Rattle.finite_sums.proofs.Totals.{total_same, total_none}
-use Rattle.cpu_words.specs.declared.names.WordName.TheVariants.{Umount, Remount, MountFlags, MountCount, Section, LevelCount}
+use Rattle.cpu_words.specs.declared.names.WordName.TheVariants.{Umount, Remount, MountFlags, MountCount, Section, LevelCount, Used, Node, Kids}
 use Rattle.cpu_words.specs.Names.{place}
 use Rattle.mount_counts.specs.Roles.{hold_bit}
 use Rattle.gate_world.specs.declared.config.Config.{Config}
+use Rattle.gated_tree.specs.Nodes.{node_shown}
+use Rattle.gate_world.specs.Shown.{shown}
+use Rattle.schedule_laws.proofs.Snapshots.{sound_as}
 use Rattle.schedule_laws.proofs.Schedule.{idle_sums}
 use Rattle.schedule_laws.proofs.Rests.{at_rest, no_hold as hold_is_clear}
-use Rattle.vfs_gates.specs.Ended.{Ended}
+use Rattle.vfs_gates.specs.Ended.{Ended, LeavesSoundTree}
 
 module _ (c : Config) (ws : List ℕ) (e : Ended c ws) where
   idle : (t : ℕ) → t < c.tasks → (e.world.views t).phase ≡ None
@@ -50,3 +53,12 @@ module _ (c : Config) (ws : List ℕ) (e : Ended c ws) where
   -- each section has ended
   pub no_section : (t : ℕ) → t < c.tasks → slice_index ws (16 * place (Section t)) % 2 ≡ 0
   no_section t lt = ap (λ n. n % 2) (e.ruled.words (Section t) lt) ∙ (at_rest c e.world e.ruled.good idle).sections_even t lt
+
+  -- the tree is sound
+  pub sound_tree : LeavesSoundTree c ws
+  sound_tree =
+      let here : (n : ℕ) → n < c.nodes → n < 64 = λ n lt. omega (arith, lt, e.ruled.within.nodes) in
+      sound_as c.nodes e.world.words.used (slice_index ws (16 * place Used)) (shown c e.world).tree
+      (λ n. node_shown (slice_index ws (16 * place (Node n)))) e.world.words.kids (λ n. slice_index ws (16 * place (Kids n)))
+      (sym (e.ruled.words Used tt)) (λ n lt. sym (ap node_shown (e.ruled.words (Node n) (here n lt))))
+      (λ n lt. sym (e.ruled.words (Kids n) (here n lt))) (at_rest c e.world e.ruled.good idle).tree_sound

@@ -1,11 +1,12 @@
 pub mod FlagSteps
 pub mod Going
 pub mod Turning
-pub mod Rooming
 pub mod Parting
 pub mod Closing
 pub mod Ending
 pub mod Running
 pub mod Admitting
 pub mod Calling
+pub mod Rooming
 pub mod Seeing
+pub mod Taking

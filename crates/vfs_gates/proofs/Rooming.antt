@@ -1,6 +1,8 @@
 -- What the room for snapshots tells of a task, as its operation begins and goes on.
-use Rattle.std.proofs.Common.{◌≡◌, ℕ, ◌<◌, ◌≤◌, refl, sym, ap, ◌∙◌, subst, inl, inr, arith, Bool, true≢false}
-use Rattle.std.specs.Prelude.{Option, Some, None, List, [], ◌∷◌, true, false, not, is_some, if◌then◌else◌, length, slice_set}
+use Rattle.std.proofs.Common.{◌≡◌, ℕ, zero, suc, ◌<◌, ◌≤◌, refl, sym, ap, ◌∙◌, subst, inl, inr, arith, Bool, true≢false}
+use Rattle.std.specs.Prelude.{Option, Some, None, Result, List, [], ◌∷◌, ◌++◌, ◌==◌, ◌⊎◌, true, false, not, is_some, option_map, length}
+use Rattle.std.proofs.Common.{length-set}
+use Rattle.std.proofs.lemmas.List.{length-replicate}
 use Rattle.std.proofs.lemmas.Bool.{cases_Bool}
 use Rattle.access_model.specs.declared.replies.Next.{Next}
 use Rattle.access_model.specs.declared.replies.Next.TheVariants.{Go, Wait, Done}
@@ -16,8 +18,9 @@ use Rattle.gated_tree.specs.declared.snapshots.Snapshot.{Snapshot}
 use Rattle.gated_tree.specs.declared.snapshots.SnapshotStep.{SnapshotStep}
 use Rattle.gated_tree.specs.declared.snapshots.SnapshotStep.TheVariants.{Locks, LoadsStage, LoadsUsed, LoadsNode, LoadsKids, Releases}
 use Rattle.gated_tree.specs.declared.trees.TreeWords.{TreeWords}
-use Rattle.gated_tree.specs.Nodes.{node_after}
-use Rattle.gated_tree.specs.Phases.{snapshot_next, snapshot_after, at_snapshot}
+use Rattle.percpu_rwsem.specs.Readers.{up_read_after}
+use Rattle.gated_tree.specs.Nodes.{node_after, unpacked}
+use Rattle.gated_tree.specs.Phases.{snapshot_next, snapshot_after, snapshot_locked_out, at_snapshot, kids_step}
 use Rattle.gated_tree.specs.Trees.{loads_last, loaded, unloaded, words_of}
 use Rattle.gate_world.specs.declared.config.Config.{Config}
 use Rattle.gate_world.specs.declared.operations.Op.{Op}
@@ -26,18 +29,30 @@ use Rattle.gate_world.specs.declared.work.Phase.TheVariants.{Mounts, Remounts, D
 use Rattle.gate_world.specs.declared.views.Traced.{Traced}
 use Rattle.gate_world.specs.Beginnings.{first_phase}
 use Rattle.gate_world.specs.Found.{is_load}
-use Rattle.gate_world.specs.Snapshots.{completes, loads_noted, snapshot_completes}
+use Rattle.gate_world.specs.Snapshots.{completes, last_snapshot, loads_noted, noted_last, snapshot_completes}
 use Rattle.gate_world.specs.Views.{phase_after, with_hook}
 use Rattle.gate_world.specs.Work.{after_of, next_of}
-use Rattle.gate_steps.specs.Seating.{SeatItems, items_after}
+use Rattle.gate_steps.specs.declared.seating.Numbered.{Numbered}
+use Rattle.gate_steps.specs.Seating.{SeatItems, deal, done_by, entered, given_of, items_after, kept_of}
+use Rattle.gate_steps.specs.Rules.{first_items}
+use Rattle.gate_core.specs.declared.seats.Seat.{Seat}
+use Rattle.gate_core.specs.declared.steps.Step.{Step}
+use Rattle.atomic_table.specs.Seated.{TableId}
+use Rattle.access_model.specs.declared.actions.Action.{Action}
+use Rattle.access_model.specs.declared.errors.GateError.{GateError}
+use Rattle.access_model.specs.declared.replies.Reply.{Reply}
+use Rattle.gate_world.specs.declared.operations.Op.TheVariants.{Snapshot as SnapshotOp}
+use Rattle.gate_world.specs.declared.views.View.{View}
+use Rattle.gate_world.specs.declared.views.Snapshot.{Snapshot as Noted}
+use Rattle.gate_world.specs.Courses.{course_after, course_of}
 use Rattle.vfs_gates.specs.declared.rooms.Rooms.{Rooms}
-use Rattle.vfs_gates.specs.Room.{HasSnapshotRoom, LastTells, NextTells, CallTells, StepTells, RoomTells, noted_in, trace_so_far}
-use Rattle.vfs_gates.specs.TaskStates.{own_view}
-
--- a phase of a snapshot
-abbrev pub is_of_snapshot : Phase → Bool
-is_of_snapshot (Trees (Snapshots x)) = true
-is_of_snapshot phase = false
+use Rattle.vfs_gates.specs.Room.{HasSnapshotRoom, LastTells, NextTells, CallTells, StepTells, RoomTells, is_of_snapshot, last_in, noted_in, trace_so_far}
+use Rattle.vfs_gates.specs.TaskStates.{TaskState, own_number, own_view, task_state}
+use Rattle.vfs_gates.specs.Runs.{Called, Goes, completed_by, items_at, ran_items, ran_snapshot}
+use Rattle.vfs_gates.specs.Stepped.{Stepped}
+use Rattle.vfs_gates.specs.Ties.{Ties}
+use Rattle.vfs_gates.specs.Turns.{step_was}
+use Rattle.vfs_gates.proofs.Calling.{Call, Left, ended_at, goes_at, idle, own_is}
 
 -- what comes next is none
 abbrev pub NextIsOther : Next Phase → Type 0
@@ -63,7 +78,7 @@ pub goes_on_other : (phase : Phase) (found : ℕ) (hook : HookAnswer) → is_of_
 goes_on_other (Mounts x) found hook h = other_next Mounts (λ p. refl) _
 goes_on_other (Remounts x) found hook h = other_next Remounts (λ p. refl) _
 goes_on_other (DownReads x) found hook h = other_next DownReads (λ p. refl) _
-goes_on_other (UpReads x) found hook h = other_next UpReads (λ p. refl) _
+goes_on_other (UpReads x) found hook h = other_next UpReads (λ p. refl) (up_read_after x).0
 goes_on_other (Callbacks x) found hook h = other_next Callbacks (λ p. refl) _
 goes_on_other (Writes x) found hook h = other_next Writes (λ p. refl) _
 goes_on_other (Freezes x) found hook h = other_next Freezes (λ p. refl) _
@@ -116,3 +131,376 @@ other_completes (Trees (Moves x)) trace found h = refl
 other_completes (Trees (TreeMarks x)) trace found h = refl
 other_completes (Trees (Snapshots x)) trace found h = absurd (true≢false h)
 other_completes (Trees (TreeClears x)) trace found h = refl
+
+-- a load of a word keeps how many nodes there are
+loaded_long : (words : TreeWords) (name : WordName) (value : ℕ) → length (loaded words name value).nodes ≡ length words.nodes
+loaded_long words (Node n) value = length-set words.nodes n value
+loaded_long words name value = refl
+
+noted_long : (words : TreeWords) (e : Event) → length (noted_in words e).nodes ≡ length words.nodes
+noted_long words e = elim (cases_Bool (is_load e.touch)) [ inl h ↦ rw h (loaded_long words e.word e.found) | inr h ↦ rw h refl ]
+
+-- the same last snapshot is told by a room with the same words
+last_same : (r left : Rooms) → left.taken ≡ r.taken → words_of left.last ≡ words_of r.last → (o : Option Noted) → LastTells r o →
+    LastTells left o
+last_same r left taken last None h = taken ∙ h
+last_same r left taken last (Some s) h = (taken ∙ h.0, last ∙ h.1)
+
+-- the view's last snapshot after an event, by what the event completes
+abbrev last_after : Option Op → Phase → HookAnswer → ℕ → Numbered → SeatItems → Option TreeWords → Option Noted
+last_after begins phase hook found x xs taken =
+    last_snapshot taken (entered x.view begins phase).actions (done_by xs) (entered x.view begins phase).snapshot
+
+-- an event begins with the same last snapshot, and with the events so far
+entered_snapshot : (begins : Option Op) (phase : Phase) (v : View) → (entered v begins phase).snapshot ≡ v.snapshot
+entered_snapshot None phase v = refl
+entered_snapshot (Some op) phase v = refl
+
+entered_trace : (begins : Option Op) (phase : Phase) (v : View) → (entered v begins phase).trace ≡ trace_so_far begins v
+entered_trace None phase v = refl
+entered_trace (Some op) phase v = refl
+
+-- an event that completes no snapshot leaves the last one
+last_stays : (begins : Option Op) (phase : Phase) (hook : HookAnswer) (found : ℕ) (x : Numbered) (xs : SeatItems) →
+    completes phase (entered x.view begins phase).trace (found_by (next_of phase hook).1 found) ≡ None →
+    (own_view (items_after begins phase hook found (x ∷ xs))).snapshot ≡ x.view.snapshot
+last_stays begins phase hook found x xs none =
+    ap (last_after begins phase hook found x xs) none ∙ entered_snapshot begins phase x.view
+
+-- an event of an operation that is no snapshot
+followed_other : (nodes : ℕ) (r : Rooms) (begins : Option Op) (phase : Phase) (hook : HookAnswer) (found : ℕ) (x : Numbered)
+    (xs : SeatItems) → is_of_snapshot phase ≡ false → RoomTells nodes r begins (Some phase) (x ∷ xs) →
+    RoomTells nodes r None (phase_after (after_of phase (found_by (next_of phase hook).1 found) hook).0)
+    (items_after begins phase hook found (x ∷ xs))
+followed_other nodes r begins phase hook found x xs other h = record {
+  room = h.room;
+  last = subst (LastTells r) (sym (last_stays begins phase hook found x xs (other_completes phase _ _ other))) h.last;
+  next = next_tells r _ (after_of phase (found_by (next_of phase hook).1 found) hook).0
+      (goes_on_other phase (found_by (next_of phase hook).1 found) hook other);
+}
+
+-- a snapshot keeps its number of nodes
+abbrev HaveNodes : ℕ → Next Snapshot → Type 0
+HaveNodes nodes (Go s) = s.nodes ≡ nodes
+HaveNodes nodes (Wait s) = s.nodes ≡ nodes
+HaveNodes nodes (Done answer) = Unit {0}
+
+locked_out_nodes : (s : Snapshot) (wait : Bool) → HaveNodes s.nodes (snapshot_locked_out s wait)
+locked_out_nodes s true = refl
+locked_out_nodes s false = tt
+
+after_nodes : (s : Snapshot) (step : SnapshotStep) (found : ℕ) → HaveNodes s.nodes (snapshot_after s step found).0
+after_nodes s Locks found =
+    elim (cases_Bool (found == 0)) [ inl h ↦ rw h refl | inr h ↦ rw h (locked_out_nodes s s.wait) ]
+after_nodes s LoadsStage found = elim (cases_Bool (found == 4)) [ inl h ↦ rw h refl | inr h ↦ rw h refl ]
+after_nodes s LoadsUsed found = refl
+after_nodes s (LoadsNode n) found = elim (cases_Bool (is_some (unpacked found))) [ inl h ↦ rw h refl | inr h ↦ rw h refl ]
+after_nodes s (LoadsKids n) found = refl
+after_nodes s (Releases answer) found = tt
+
+-- what has been loaded is in the room, whatever comes next
+step_tells : (nodes : ℕ) (words : TreeWords) (trace : List Traced) (step : SnapshotStep) → words ≡ loads_noted nodes trace →
+    StepTells nodes words trace step
+step_tells nodes words trace (Releases answer) h = tt
+step_tells nodes words trace Locks h = h
+step_tells nodes words trace LoadsStage h = h
+step_tells nodes words trace LoadsUsed h = h
+step_tells nodes words trace (LoadsNode n) h = h
+step_tells nodes words trace (LoadsKids n) h = h
+
+snapshot_tells : (nodes : ℕ) (r : Rooms) (trace : List Traced) (n : Next Snapshot) → HaveNodes nodes n →
+    words_of r.next ≡ loads_noted nodes trace → NextTells r trace (phase_after (map_next Trees (map_next Snapshots n)))
+snapshot_tells nodes r trace (Go s) same h =
+    step_tells s.nodes (words_of r.next) trace s.step (subst (λ n. words_of r.next ≡ loads_noted n trace) (sym same) h)
+snapshot_tells nodes r trace (Wait s) same h =
+    step_tells s.nodes (words_of r.next) trace s.step (subst (λ n. words_of r.next ≡ loads_noted n trace) (sym same) h)
+snapshot_tells nodes r trace (Done answer) same h = tt
+
+-- what the room tells before an event of a snapshot that isn't its release
+told_so_far : (nodes : ℕ) (words : TreeWords) (trace : List Traced) (step : SnapshotStep) → StepTells nodes words trace step →
+    (words ≡ loads_noted nodes trace) ⊎ ((answer : Result Reply GateError) × (step ≡ Releases answer))
+told_so_far nodes words trace Locks h = inl h
+told_so_far nodes words trace LoadsStage h = inl h
+told_so_far nodes words trace LoadsUsed h = inl h
+told_so_far nodes words trace (LoadsNode n) h = inl h
+told_so_far nodes words trace (LoadsKids n) h = inl h
+told_so_far nodes words trace (Releases answer) h = inr (answer, refl)
+
+-- what is left of the room by an event that isn't the last load, and by one that is
+pub record GoesOn (r left : Rooms) (event : Event) : Type 0 where
+  pub taken_same : left.taken ≡ r.taken
+  pub last_words : words_of left.last ≡ words_of r.last
+  pub next_words : words_of left.next ≡ noted_in (words_of r.next) event
+
+pub record Ends (r left : Rooms) (event : Event) : Type 0 where
+  pub taken_now : left.taken ≡ true
+  pub last_words : words_of left.last ≡ noted_in (words_of r.next) event
+  pub next_words : words_of left.next ≡ words_of r.last
+
+-- a node comes after this one, or none does
+unfinished_last : (o : Option ℕ) (words : TreeWords) → not (is_some o) ≡ false → noted_last o words ≡ None
+unfinished_last (Some n) words h = refl
+unfinished_last None words h = absurd (true≢false h)
+
+finished_last : (o : Option ℕ) (words : TreeWords) → not (is_some o) ≡ true → noted_last o words ≡ Some words
+finished_last (Some n) words h = absurd (true≢false (sym h))
+finished_last None words h = refl
+
+-- a snapshot's event that isn't its last load completes none
+unfinished : (nodes : ℕ) (step : SnapshotStep) (trace : List Traced) (found : ℕ) → loads_last nodes step ≡ false →
+    snapshot_completes nodes step trace found ≡ None
+unfinished nodes (LoadsKids n) trace found h = unfinished_last (node_after n nodes) _ h
+unfinished nodes Locks trace found h = refl
+unfinished nodes LoadsStage trace found h = refl
+unfinished nodes LoadsUsed trace found h = refl
+unfinished nodes (LoadsNode n) trace found h = refl
+unfinished nodes (Releases answer) trace found h = refl
+
+-- a release leaves nothing to tell
+release_tells : (left : Rooms) (trace : List Traced) (s : Snapshot) (step : SnapshotStep) (answer : Result Reply GateError) (found : ℕ) →
+    step ≡ Releases answer → NextTells left trace (phase_after (map_next Trees (map_next Snapshots (snapshot_after s step found).0)))
+release_tells left trace s step answer found e =
+    subst (λ y. NextTells left trace (phase_after (map_next Trees (map_next Snapshots (snapshot_after s y found).0)))) (sym e) tt
+
+-- nor does the last load, after which comes the release
+kids_tell : (nodes : ℕ) (words : TreeWords) (trace : List Traced) (o : Option ℕ) → not (is_some o) ≡ true →
+    StepTells nodes words trace (kids_step o)
+kids_tell nodes words trace (Some n) h = absurd (true≢false (sym h))
+kids_tell nodes words trace None h = tt
+
+-- the last load is of a node's children, after which no node comes
+last_load_is : (nodes : ℕ) (step : SnapshotStep) → loads_last nodes step ≡ true →
+    (n : ℕ) × (step ≡ LoadsKids n) × (not (is_some (node_after n nodes)) ≡ true)
+last_load_is nodes (LoadsKids n) h = (n, refl, h)
+last_load_is nodes Locks h = absurd (true≢false (sym h))
+last_load_is nodes LoadsStage h = absurd (true≢false (sym h))
+last_load_is nodes LoadsUsed h = absurd (true≢false (sym h))
+last_load_is nodes (LoadsNode n) h = absurd (true≢false (sym h))
+last_load_is nodes (Releases answer) h = absurd (true≢false (sym h))
+
+module _ (nodes : ℕ) (r left : Rooms) (begins : Option Op) (s : Snapshot) (hook : HookAnswer) (found : ℕ) (x : Numbered)
+    (xs : SeatItems) where
+  -- the snapshot at a step, and its event there
+  abbrev at_step : SnapshotStep → Phase
+  at_step step = Trees (Snapshots (at_snapshot s step))
+
+  abbrev event : SnapshotStep → Event
+  event step = event_of (snapshot_next s step).0 (snapshot_next s step).1 found
+
+  abbrev seen : SnapshotStep → ℕ
+  seen step = found_by (snapshot_next s step).1 found
+
+  -- the events of it before this one
+  abbrev before : SnapshotStep → List Traced
+  before step = (entered x.view begins (at_step step)).trace
+
+  -- what the room tells after its event
+  abbrev Followed : SnapshotStep → Type 0
+  Followed step =
+      RoomTells nodes left None (phase_after (after_of (at_step step) (seen step) hook).0) (items_after begins (at_step step) hook found (x ∷ xs))
+
+  -- what it tells of what was loaded before
+  told : (step : SnapshotStep) → RoomTells nodes r begins (Some (at_step step)) (x ∷ xs) →
+      StepTells s.nodes (words_of r.next) (before step) step
+  told step h =
+      subst (λ trace. StepTells s.nodes (words_of r.next) trace step) (sym (entered_trace begins (at_step step) x.view)) h.next
+
+  -- after an event that isn't the last load
+  followed_on : (step : SnapshotStep) → loads_last s.nodes step ≡ false → GoesOn r left (event step) →
+      RoomTells nodes r begins (Some (at_step step)) (x ∷ xs) → Followed step
+  followed_on step on goes h = record {
+    room = (ap (λ (w : TreeWords). length w.nodes) goes.last_words ∙ h.room.0,
+        ap (λ (w : TreeWords). length w.nodes) goes.next_words ∙ (noted_long (words_of r.next) (event step) ∙ h.room.1));
+    last = subst (LastTells left)
+        (sym (last_stays begins (at_step step) hook found x xs (unfinished s.nodes step (before step) (seen step) on)))
+        (last_same r left goes.taken_same goes.last_words x.view.snapshot h.last);
+    next = elim (told_so_far s.nodes (words_of r.next) (before step) step (told step h)) [
+      | inl same ↦ snapshot_tells s.nodes left (with_hook (event step) hook ∷ before step) (snapshot_after (at_snapshot s step) step (seen step)).0
+          (after_nodes (at_snapshot s step) step (seen step)) (goes.next_words ∙ ap (λ w. noted_in w (event step)) same)
+      | inr end ↦ release_tells left (with_hook (event step) hook ∷ before step) (at_snapshot s step) step end.0 (seen step) end.1
+    ];
+  }
+
+  -- after the last load
+  followed_last : (n : ℕ) → not (is_some (node_after n s.nodes)) ≡ true → Ends r left (event (LoadsKids n)) →
+      RoomTells nodes r begins (Some (at_step (LoadsKids n))) (x ∷ xs) → Followed (LoadsKids n)
+  followed_last n last ends h =
+      let kids : TreeWords = loaded (loads_noted s.nodes (before (LoadsKids n))) (Kids n) found in
+      let completed : completes (at_step (LoadsKids n)) (before (LoadsKids n)) found ≡ Some kids = finished_last (node_after n s.nodes) kids last in
+      let words : words_of left.last ≡ kids = ends.last_words ∙ ap (λ w. loaded w (Kids n) found) (told (LoadsKids n) h) in record {
+        room = (ap (λ (w : TreeWords). length w.nodes) ends.last_words ∙ (noted_long (words_of r.next) (event (LoadsKids n)) ∙ h.room.1),
+            ap (λ (w : TreeWords). length w.nodes) ends.next_words ∙ h.room.0);
+        last = subst (LastTells left) (sym (ap (last_after begins (at_step (LoadsKids n)) hook found x xs) completed)) (ends.taken_now, words);
+        next = kids_tell s.nodes (words_of left.next) (with_hook (event (LoadsKids n)) hook ∷ before (LoadsKids n)) (node_after n s.nodes) last;
+      }
+
+  -- after any
+  pub followed_snapshot : (loads_last s.nodes s.step ≡ false → GoesOn r left (event s.step)) →
+      (loads_last s.nodes s.step ≡ true → Ends r left (event s.step)) →
+      RoomTells nodes r begins (Some (Trees (Snapshots s))) (x ∷ xs) → Followed s.step
+  followed_snapshot goes ends h = elim (cases_Bool (loads_last s.nodes s.step)) [
+    | inl last ↦
+        let load : (n : ℕ) × (s.step ≡ LoadsKids n) × (not (is_some (node_after n s.nodes)) ≡ true) = last_load_is s.nodes s.step last in
+        subst (λ step. Ends r left (event step) → RoomTells nodes r begins (Some (at_step step)) (x ∷ xs) → Followed step) (sym load.1)
+        (followed_last load.0 load.2) (ends last) h
+    | inr on ↦ followed_on s.step on (goes on) h
+  ]
+
+-- an operation that is no snapshot, as far as it has come
+completed_other : (n : Next Phase) (earlier : List Traced) (e : Traced) → NextIsOther n → completed_by n earlier e ≡ None
+completed_other (Go phase) earlier e h = other_completes phase earlier e.event.found h
+completed_other (Wait phase) earlier e h = other_completes phase earlier e.event.found h
+completed_other (Done answer) earlier e h = refl
+
+course_other : (n : Next Phase) (added : List Action) (e : Traced) → NextIsOther n → NextIsOther (course_after n added e).comes
+course_other (Go phase) added e h = goes_on_other phase e.event.found e.hook h
+course_other (Wait phase) added e h = goes_on_other phase e.event.found e.hook h
+course_other (Done answer) added e h = tt
+
+module _ (c : Config) (t : ℕ) (op : Op) (other : is_of_snapshot (first_phase c t op) ≡ false) where
+  -- it stays none
+  stays_other : (trace : List Traced) → NextIsOther (course_of c t op trace).comes
+  stays_other [] = other
+  stays_other (e ∷ earlier) = course_other (course_of c t op earlier).comes (course_of c t op earlier).added e (stays_other earlier)
+
+  -- and leaves the last snapshot
+  ran_other : (others : List (ℕ × ℕ)) (trace : List Traced) (v : View) → ran_snapshot c t op others trace v ≡ v.snapshot
+  ran_other others [] v = refl
+  ran_other others (e ∷ earlier) v =
+      ap (λ taken. last_snapshot taken ((course_of c t op earlier).added ++ v.actions) others (ran_snapshot c t op others earlier v))
+      (completed_other (course_of c t op earlier).comes earlier e (stays_other earlier)) ∙ ran_other others earlier v
+
+-- of a task's numbers
+items_other : (c : Config) (op : Op) (items : SeatItems) → is_of_snapshot (first_phase c (own_number items) op) ≡ false →
+    (trace : List Traced) → (own_view (ran_items c op trace items)).snapshot ≡ (own_view items).snapshot
+items_other c op [] other trace = refl
+items_other c op (x ∷ xs) other trace = ran_other c x.number op other (done_by xs) trace x.view
+
+items_at_other : (c : Config) (op : Op) (items : SeatItems) → is_of_snapshot (first_phase c (own_number items) op) ≡ false →
+    (trace : List Traced) → (own_view (items_at c op trace items)).snapshot ≡ (own_view items).snapshot
+items_at_other c op items other [] = refl
+items_at_other c op items other (e ∷ earlier) = items_other c op items other (e ∷ earlier)
+
+-- so the room tells of a task whose operation goes on
+goes_room : (nodes : ℕ) (r : Rooms) (op : Op) (start now : TaskState) (begins left : Option Op) (phase : Option Phase) →
+    is_of_snapshot (first_phase start.config (own_number start.items) op) ≡ false → Goes op start now →
+    RoomTells nodes r begins phase start.items → RoomTells nodes r left now.phase now.items
+goes_room nodes r op start now begins left phase other goes h = record {
+  room = h.room;
+  last = subst (LastTells r)
+      (sym (ap (λ (l : SeatItems). (own_view l).snapshot) goes.items ∙ items_at_other start.config op start.items other goes.trace)) h.last;
+  next = subst (NextTells r (trace_so_far left (own_view now.items))) (sym goes.phase)
+      (next_tells r (trace_so_far left (own_view now.items)) (course_of start.config (own_number start.items) op goes.trace).comes
+      (stays_other start.config (own_number start.items) op other goes.trace));
+}
+
+-- and of one whose operation was done
+called_room : (nodes : ℕ) (r : Rooms) (op : Op) (start now : TaskState) (answer : Result Reply GateError) (begins left : Option Op)
+    (phase stands : Option Phase) → is_of_snapshot (first_phase start.config (own_number start.items) op) ≡ false →
+    Called op start now answer → stands ≡ None → RoomTells nodes r begins phase start.items → RoomTells nodes r left stands now.items
+called_room nodes r op start now answer begins left phase stands other called none h = record {
+  room = h.room;
+  last = subst (LastTells r)
+      (sym (ap (λ (s : TaskState). (own_view s.items).snapshot) called.after ∙
+      items_other start.config op start.items other called.trace)) h.last;
+  next = subst (NextTells r (trace_so_far left (own_view now.items))) (sym none) tt;
+}
+
+-- as a task begins an operation, its room tells of the operation's first phase
+pub begun_in : (call : Call) (r : Rooms) →
+    RoomTells call.task.config.nodes r (Some call.op) (Some (first_phase call.task.config call.task.number call.op)) call.task.seat.me.0 →
+    RoomTells call.task.config.nodes r (Some call.op) (Some call.first) call.task.seat.me.0
+begun_in call r h =
+    subst (λ (p : Phase). RoomTells call.task.config.nodes r (Some call.op) (Some p) call.task.seat.me.0) (sym call.first_is) h
+
+-- of a call that does its events in a line
+module _ (call : Call) (r : Rooms) (other : is_of_snapshot call.first ≡ false)
+    (h : RoomTells call.task.config.nodes r call.task.begins call.task.kept.phase call.task.seat.me.0) where
+  other_start : is_of_snapshot (first_phase call.start.config (own_number call.start.items) call.op) ≡ false
+  other_start =
+      sym (ap (λ (s : TaskState). is_of_snapshot (first_phase s.config (own_number s.items) call.op)) call.start_is) ∙
+      (ap (λ n. is_of_snapshot (first_phase call.task.config n call.op)) (own_is call) ∙ (sym (ap is_of_snapshot call.first_is) ∙ other))
+
+  start_room : RoomTells call.task.config.nodes r call.task.begins call.task.kept.phase call.start.items
+  start_room = subst (λ (s : TaskState). RoomTells call.task.config.nodes r call.task.begins call.task.kept.phase s.items) call.start_is h
+
+  -- it goes on at this phase
+  pub room_at : (left : Left call) (phase : Phase) → phase_after left.next ≡ Some phase →
+      RoomTells call.task.config.nodes r call.task.begins (Some phase) left.items
+  room_at left phase is =
+      goes_room call.task.config.nodes r call.op call.start _ call.task.begins call.task.begins call.task.kept.phase other_start
+      (goes_at call left phase is) start_room
+
+  -- or was done
+  pub room_done : (left : Left call) (answer : Result Reply GateError) → left.next ≡ Done answer →
+      RoomTells call.task.config.nodes r call.task.begins call.task.kept.phase left.items
+  room_done left answer is =
+      called_room call.task.config.nodes r call.op call.start _ answer call.task.begins call.task.begins call.task.kept.phase
+      call.task.kept.phase other_start (ended_at call left answer is) (idle call) start_room
+
+-- an event of a task, which follows the room
+pub stepped_room : (nodes : ℕ) (r left : Rooms) (begins : Option Op) (phase : Phase) (hook : HookAnswer) (table table_left : TableId)
+    (c : Config) (items items_left : SeatItems) (event : Event) (action : Option Action) (next : Next Phase) (number : ℕ) (kept : Seat)
+    (flags : List Bool) → Ties number c begins kept flags items →
+    Stepped phase hook (task_state table c begins (Some phase) items) (step_was event action next)
+    (task_state table_left c None (phase_after next) items_left) → RoomTells nodes r begins (Some phase) items →
+    ((found : ℕ) → 1 ≤ length items → event ≡ event_of (next_of phase hook).0 (next_of phase hook).1 found →
+    RoomTells nodes r begins (Some phase) items →
+    RoomTells nodes left None (phase_after (after_of phase event.found hook).0) (items_after begins phase hook found items)) →
+    RoomTells nodes left None (phase_after next) items_left
+stepped_room nodes r left begins phase hook table table_left c [] items_left event action next number kept flags ties stepped h follows =
+    absurd ties
+stepped_room nodes r left begins phase hook table table_left c (x ∷ xs) items_left event action next number kept flags ties stepped h follows =
+    let same_event : Some event ≡ Some (event_of (next_of phase hook).0 (next_of phase hook).1 stepped.found) =
+    ap (λ (s : Step). s.event) stepped.step in
+    let is : event ≡ event_of (next_of phase hook).0 (next_of phase hook).1 stepped.found = cc in
+    let stands : phase_after next ≡ phase_after (after_of phase event.found hook).0 =
+    ap (λ (s : TaskState). s.phase) stepped.new ∙ ap (λ (e : Event). phase_after (after_of phase e.found hook).0) (sym is) in
+    let there : items_left ≡ items_after begins phase hook stepped.found (x ∷ xs) = ap (λ (s : TaskState). s.items) stepped.new in
+    let P : Option Phase × SeatItems → Type 0 = λ z. RoomTells nodes left None z.0 z.1 in
+    subst P (λ i. (sym stands i, sym there i)) (follows stepped.found (omega arith) is h)
+
+-- a room that has nothing yet, of a task that has none
+pub room_new : (nodes : ℕ) (r : Rooms) (begins : Option Op) (phase : Option Phase) (items : SeatItems) → HasSnapshotRoom nodes r →
+    r.taken ≡ false → (own_view items).snapshot ≡ None → phase ≡ None → RoomTells nodes r begins phase items
+room_new nodes r begins phase items room taken none idle = record {
+  room = room;
+  last = subst (LastTells r) (sym none) taken;
+  next = subst (NextTells r (trace_so_far begins (own_view items))) (sym idle) tt;
+}
+
+-- a task whose own view is the same
+pub room_same : (nodes : ℕ) (r : Rooms) (begins : Option Op) (phase : Option Phase) (items items_left : SeatItems) →
+    own_view items_left ≡ own_view items → RoomTells nodes r begins phase items → RoomTells nodes r begins phase items_left
+room_same nodes r begins phase items items_left same h = record {
+  room = h.room;
+  last = subst (λ (v : View). LastTells r v.snapshot) (sym same) h.last;
+  next = subst (λ (v : View). NextTells r (trace_so_far begins v) phase) (sym same) h.next;
+}
+
+-- so it is where a number was given, or others were taken back
+pub kept_view : (n : ℕ) (l : SeatItems) → own_view (kept_of n l) ≡ own_view l
+kept_view n [] = refl
+kept_view n (x ∷ xs) = refl
+
+pub joined_view : (number : ℕ) (c : Config) (begins : Option Op) (kept : Seat) (flags : List Bool) (l k : SeatItems) →
+    Ties number c begins kept flags l → own_view (l ++ k) ≡ own_view l
+joined_view number c begins kept flags [] k ties = absurd ties
+joined_view number c begins kept flags (x ∷ xs) k ties = refl
+
+-- a number that was given has no snapshot, nor has one that has done nothing
+pub given_unseen : (n : ℕ) (l : SeatItems) → (own_view (given_of n l)).snapshot ≡ None
+given_unseen n [] = refl
+given_unseen n (x ∷ xs) = refl
+
+dealt_unseen : (n k : ℕ) → (own_view (deal n k)).snapshot ≡ None
+dealt_unseen n zero = refl
+dealt_unseen n (suc k) = refl
+
+pub first_unseen : (c : Config) → (own_view (first_items c)).snapshot ≡ None
+first_unseen c = dealt_unseen 0 c.tasks
+
+-- what the room shows is the view's last snapshot
+pub shows_last : (r : Rooms) (o : Option Noted) → LastTells r o → last_in r ≡ option_map (λ (s : Noted). s.loaded) o
+shows_last r None h = rw h refl
+shows_last r (Some s) h = rw h.0 (ap (λ (w : TreeWords). Some w) h.1)

@@ -18,7 +18,7 @@ use Rattle.gate_world.specs.Snapshots.{completes, last_snapshot}
 use Rattle.gate_world.specs.Views.{phase_after, actions_after, view_after_beside, with_hook}
 use Rattle.gate_world.specs.Work.{next_of, after_of}
 use Rattle.gate_world.specs.Beginnings.{first_phase}
-use Rattle.gate_world.specs.Courses.{Course, course_with, course_after, course_of, IsEventOf, IsNext, IsTrace}
+use Rattle.gate_world.specs.Courses.{Course, course_with, course_after, course_of, IsEventOf, IsNext, IsTrace, MayHold}
 use Rattle.gate_world.specs.Traces.{Tells, most_events, IsShort}
 use Rattle.gate_frames.proofs.Keeps.{most_events_of_all, IsSmall}
 use Rattle.schedule_laws.proofs.Layers.{op_keeps}
@@ -60,6 +60,12 @@ move_is : (c : Config) (op : Op) (items : SeatItems) (earlier : List Traced) (e 
 move_is c op items earlier e (Go q) p is h = subst (IsMoveOf c op items earlier e) (let f : p ≡ q = cc in f) h
 move_is c op items earlier e (Wait q) p is h = subst (IsMoveOf c op items earlier e) (let f : p ≡ q = cc in f) h
 move_is c op items earlier e (Done a) p is h = absurd (let f : ⊥ = cc in f)
+
+-- what an event found is what its word may hold
+move_holds : (c : Config) (begins : Option Op) (p : Phase) (hook : HookAnswer) (items : SeatItems) (found : ℕ) →
+    IsMove c begins p hook items found → MayHold (next_of p hook).0 found
+move_holds c begins p hook [] found move = absurd move
+move_holds c begins p hook (x ∷ xs) found move = move.holds
 
 -- an event leaves one history
 move_has_history : (c : Config) (begins : Option Op) (p : Phase) (hook : HookAnswer) (items : SeatItems) (found : ℕ) →
@@ -212,7 +218,7 @@ module _ (op : Op) (start now left : TaskState) (step : Step) (h : HookAnswer) (
 
   -- the trace is one of the operation
   follows_after : IsTrace c n op trace
-  follows_after = (next_is (course_of c n op goes.trace).comes p e stands_there (found, refl), goes.follows)
+  follows_after = (next_is (course_of c n op goes.trace).comes p e stands_there (found, refl, move_holds c now.begins p h now.items found did.moves), goes.follows)
 
   -- the course after the event
   course_here : course_of c n op trace ≡ course_with (course_of c n op goes.trace).added after

@@ -13,7 +13,8 @@ use Rattle.gated_tree.specs.declared.trees.TreeWords.{TreeWords}
 use Rattle.gate_world.specs.declared.views.Snapshot.{Snapshot}
 use Rattle.gate_world.specs.Configs.{model_limits}
 use Rattle.gate_world.specs.Snapshots.{last_snapshot}
-use Rattle.gate_world.specs.Moments.{tree_loaded, HasMoment}
+use Rattle.gated_tree.specs.Trees.{node_at}
+use Rattle.gate_world.specs.Moments.{HasMoment}
 use Rattle.gate_world.specs.Courses.{course_of}
 use Rattle.gate_steps.specs.Seating.{SeatItems, HaveHistory, done_by}
 use Rattle.vfs_gates.specs.TaskStates.{TaskState, own_number, own_view, spare_of}
@@ -33,11 +34,11 @@ saw_a_moment c (x ∷ xs) all s some_there e =
     record {
       all = all;
       moment = moment;
-      tells = tells (model_limits c) (tree_loaded s.loaded) done lists log all.history.legal all.history.lists moment;
+      tells = tells (model_limits c) (node_at s.loaded) done lists log all.history.legal all.history.lists moment.stands;
     }
 
 -- a task whose number ran an operation is there, with the same number
-same_own : (c : Config) (op : Op) (trace : List Traced) (items : SeatItems) → 1 ≤ length items →
+pub same_own : (c : Config) (op : Op) (trace : List Traced) (items : SeatItems) → 1 ≤ length items →
     (own_number (ran_items c op trace items) ≡ own_number items) × (1 ≤ length (ran_items c op trace items)) ×
     ((own_view (ran_items c op trace items)).snapshot ≡
     ran_snapshot c (own_number items) op (done_by (spare_of items)) trace (own_view items))

@@ -1,5 +1,9 @@
 -- What is known of the words once no thread shares them.
-use Rattle.std.specs.Prelude.{ℕ, ◌<◌, ◌≤◌, List}
+use Rattle.std.specs.Prelude.{ℕ, ◌*◌, ◌<◌, ◌≤◌, List, slice_index}
+use Rattle.cpu_words.specs.Names.{place}
+use Rattle.cpu_words.specs.declared.names.WordName.TheVariants.{Used, Node, Kids}
+use Rattle.gated_tree.specs.Nodes.{node_shown}
+use Rattle.gated_tree.specs.Trees.{IsSound}
 use Rattle.cpu_words.specs.Words.{opening_words}
 use Rattle.gate_world.specs.declared.config.Config.{Config}
 use Rattle.gate_world.specs.Worlds.{World}
@@ -34,3 +38,10 @@ pub record EndedWith (c : Config) (ws : List ℕ) (items : SeatItems) : Type 0 w
 -- Gates whose last task knows these numbers would close with all words as they begin.
 abbrev pub HasOpeningWords : Config → SeatItems → Type 0
 HasOpeningWords c items = (ws : List ℕ) → EndedWith c ws items → TableShows c ws opening_words
+
+-- The tree of these words is sound: the blocks charged are those of all files, the children charged to each node are its children, and each
+-- parent is a directory.
+abbrev pub LeavesSoundTree : Config → List ℕ → Type 0
+LeavesSoundTree c ws =
+    IsSound c.nodes (slice_index ws (16 * place Used)) (λ n. node_shown (slice_index ws (16 * place (Node n))))
+    (λ n. slice_index ws (16 * place (Kids n)))

@@ -23,9 +23,18 @@ use Rattle.vfs_gates.specs.TaskStates.{own_view}
 abbrev pub HasSnapshotRoom : ℕ → Rooms → Type 0
 HasSnapshotRoom nodes r = (length (words_of r.last).nodes ≡ nodes) × (length (words_of r.next).nodes ≡ nodes)
 
+-- the words of the last snapshot, where there is one
+abbrev pub last_in : Rooms → Option TreeWords
+last_in r = if r.taken then Some (words_of r.last) else None
+
 -- the words with what an event has loaded
 abbrev pub noted_in : TreeWords → Event → TreeWords
 noted_in words e = if is_load e.touch then loaded words e.word e.found else words
+
+-- a phase of a snapshot
+abbrev pub is_of_snapshot : Phase → Bool
+is_of_snapshot (Trees (Snapshots x)) = true
+is_of_snapshot phase = false
 
 -- the last snapshot in the room is the one that a view has
 abbrev pub LastTells : Rooms → Option Snapshot → Type 0

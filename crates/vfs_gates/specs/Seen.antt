@@ -1,17 +1,28 @@
 -- What a task's last snapshot is of.
-use Rattle.std.specs.Prelude.{ℕ, ◌∷◌}
-use Rattle.moment_laws.specs.Moments.{WasFrozenWith, MomentTells}
+use Rattle.std.specs.Prelude.{◌≡◌, ℕ, Some, length, ◌∷◌}
+use Rattle.moment_laws.specs.Moments.{MomentTells}
 use Rattle.gate_world.specs.declared.config.Config.{Config}
 use Rattle.gate_world.specs.declared.views.Snapshot.{Snapshot}
 use Rattle.gate_world.specs.Configs.{model_limits}
-use Rattle.gate_world.specs.Moments.{tree_loaded}
-use Rattle.gate_steps.specs.Seating.{SeatItems, HaveHistory}
+use Rattle.gate_world.specs.Moments.{IsOfMoment}
+use Rattle.gated_tree.specs.Trees.{node_at}
+use Rattle.gate_steps.specs.Seating.{SeatItems, HaveHistory, done_by}
+use Rattle.vfs_gates.specs.TaskStates.{own_number, own_view, spare_of}
 
--- The snapshot of this number is of a moment of the one history in which the numbers of a task have their views. At that moment everything
--- was frozen, the tree was the one loaded, and the numbers that the snapshot notes had done just what it notes. What had been done until
--- then is a legal history, which cuts their own lists there, and no node of the tree was dirty.
+-- The snapshot of this number is of a moment of the one history in which the numbers of a task have their views. It is of all nodes, sound
+-- and clean. At that moment everything was frozen, the tree was the one loaded, and the numbers that the snapshot notes had done just what
+-- it notes. What had been done until then is a legal history, which cuts their own lists there, and no node of the tree was dirty.
 pub record IsOfAMoment (c : Config) (number : ℕ) (items : SeatItems) (s : Snapshot) : Type 0 where
   pub all : HaveHistory c items
-  pub moment : WasFrozenWith c.nodes (tree_loaded s.loaded) ((number, s.done) ∷ s.others) all.history.log
-  pub tells : MomentTells (model_limits c) (tree_loaded s.loaded) ((number, s.done) ∷ s.others) (λ t. (all.world.views t).actions)
-      moment.earlier
+  pub moment : IsOfMoment c all.history.log number s
+  pub tells : MomentTells (model_limits c) (node_at s.loaded) ((number, s.done) ∷ s.others) (λ t. (all.world.views t).actions)
+      moment.stands.earlier
+
+-- A task that had these numbers has taken a snapshot since, of a moment of the one history: its own number and those that it had to give
+-- have done nothing in between.
+pub record HasTaken (c : Config) (before items : SeatItems) : Type 0 where
+  pub seen : Snapshot
+  pub shows : (own_view items).snapshot ≡ Some seen
+  pub done : seen.done ≡ length (own_view before).actions
+  pub others : seen.others ≡ done_by (spare_of before)
+  pub moment : IsOfAMoment c (own_number before) items seen

@@ -29,6 +29,7 @@ impl Task {
     ghost use Rattle.gate_world.specs.Beginnings.{first_phase};
     ghost use Rattle.gate_world.specs.Traces.{most_events};
     ghost use Rattle.gate_world.specs.declared.operations.Op.TheVariants.{Want as WantOp, DropMount, ChangeMount, Start, End, DropWrite};
+    ghost use Rattle.vfs_gates.specs.Room.{is_of_snapshot};
     ghost use Rattle.vfs_gates.specs.TaskStates.{IsFrom, beginning_at, own_number};
     ghost use Rattle.vfs_gates.specs.Runs.{Called, IsBounded, IsTrying, Performs};
 
@@ -68,6 +69,7 @@ impl Task {
     fn perform<P: InLine>(&mut self, gates: &Gates, op: Op, first: P) -> Result<(), GateError>
         requires from { IsFrom self.old gates.now }
         requires first { P.as_phase first ≡ first_phase self.old.config (own_number self.old.items) op }
+        requires other { is_of_snapshot (P.as_phase first) ≡ false }
         requires tries { IsBounded (most_events self.old.config op) }
         ensures { Performs op self.old self.new result }
     {

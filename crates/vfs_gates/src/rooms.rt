@@ -1,6 +1,6 @@
 //! Room for snapshots.
 
-ghost use Rattle.std.specs.Prelude.{◌≡◌, ◌≤◌, ℕ, IfOk, OnSome, Option, Some, None, false, true, length};
+ghost use Rattle.std.specs.Prelude.{◌≡◌, ◌≤◌, ℕ, IfOk, Option, option_map, Some, None, false, true, length};
 ghost use Rattle.gated_tree.specs.Trees.{loads_last, unloaded, words_of};
 ghost use Rattle.cpu_words.specs.Hooks.{HookAnswer};
 ghost use Rattle.cpu_words.specs.Touches.{event_of};
@@ -11,7 +11,7 @@ ghost use Rattle.gate_world.specs.Beginnings.{first_phase};
 ghost use Rattle.gate_world.specs.Views.{phase_after};
 ghost use Rattle.gate_world.specs.Work.{after_of, next_of};
 ghost use Rattle.gate_steps.specs.Seating.{SeatItems, items_after};
-ghost use Rattle.vfs_gates.specs.Room.{HasSnapshotRoom, RoomTells, noted_in};
+ghost use Rattle.vfs_gates.specs.Room.{HasSnapshotRoom, RoomTells, last_in, noted_in};
 
 use cpu_words::{Event, Touch};
 use gate_world::{Op, Phase};
@@ -41,7 +41,7 @@ impl Rooms {
 
     /// The last snapshot.
     pub fn last(&self) -> Option<&Tree>
-        ensures there { self.now.taken ≡ true → OnSome result (λ tree. words_of tree.now ≡ words_of self.now.last) }
+        ensures { option_map (λ tree. words_of tree.now) result ≡ last_in self.now }
     {
         if self.taken { Some(&self.last) } else { None }
     }

@@ -1,6 +1,6 @@
 //! A task: the right to do the events of one number.
 
-ghost use Rattle.std.specs.Prelude.{◌≡◌, ◌≤◌, ◌<◌, ◌↔◌, IsTrue, Some, None, OnOk, OnErr, OnSome, [], false};
+ghost use Rattle.std.specs.Prelude.{◌≡◌, ◌≤◌, ◌<◌, ◌↔◌, IsTrue, Some, None, OnOk, OnErr, option_map, [], false};
 ghost use Rattle.gate_world.specs.Configs.{IsWithin};
 ghost use Rattle.gate_world.specs.declared.work.Phase.{Phase as PhaseType};
 ghost use Rattle.vfs_gates.specs.TaskStates.{IsNothing};
@@ -122,8 +122,7 @@ impl Task {
     /// The last snapshot that the task has taken; None before its first. What it shows is the tree of one moment at which all was frozen,
     /// sound and clean.
     pub fn tree(&self) -> Option<&Tree>
-        ensures there { (s : Snapshot) → (own_view self.now.items).snapshot ≡ Some s → OnSome result (λ tree. words_of tree.now ≡ s.loaded) }
-        ensures not_there { (own_view self.now.items).snapshot ≡ None → result ≡ None }
+        ensures { option_map (λ tree. words_of tree.now) result ≡ option_map (λ (s : Snapshot). s.loaded) (own_view self.now.items).snapshot }
     {
         self.rooms.last()
     }

@@ -1,6 +1,6 @@
 //! Calls at the tree behind the gates, and snapshots of it. All but one wait for nobody.
 
-ghost use Rattle.std.specs.Prelude.{◌≡◌};
+ghost use Rattle.std.specs.Prelude.{◌≡◌, true, false};
 ghost use Rattle.vfs_gates.specs.Runs.{told_as, node_of};
 
 use crate::calls::outcome;

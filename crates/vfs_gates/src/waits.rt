@@ -1,6 +1,6 @@
 //! Calls that may wait for other tasks.
 
-ghost use Rattle.std.specs.Prelude.{◌≡◌, true};
+ghost use Rattle.std.specs.Prelude.{◌≡◌, true, false};
 ghost use Rattle.gate_world.specs.declared.operations.Op.{Op as OpType};
 ghost use Rattle.vfs_gates.specs.TaskStates.{TaskState};
 ghost use Rattle.vfs_gates.specs.Runs.{told_as, ran_of, Goes};
@@ -41,6 +41,7 @@ fn ran(answer: Result<Reply, GateError>) -> Result<bool, GateError>
 impl Task {
     ghost use Rattle.gate_world.specs.Beginnings.{first_phase};
     ghost use Rattle.gate_world.specs.declared.operations.Op.TheVariants.{Want as WantOp, ChangeMount, RemountSb, Start, WantWrite, Callback, Freeze, Thaw};
+    ghost use Rattle.vfs_gates.specs.Room.{is_of_snapshot};
     ghost use Rattle.vfs_gates.specs.TaskStates.{IsFrom, own_number};
     ghost use Rattle.vfs_gates.specs.Runs.{the_reply, Called, Replies, Performs};
 
@@ -106,6 +107,7 @@ impl Task {
     ) -> Result<(), GateError>
         requires from { IsFrom self.old gates.now }
         requires first { P.as_phase first ≡ first_phase self.old.config (own_number self.old.items) op }
+        requires other { is_of_snapshot (P.as_phase first) ≡ false }
         ensures { Performs op self.old self.new result }
     {
         self.admit(op)?;

@@ -6,6 +6,7 @@ use Rattle.vfs_gates.proofs.Admitting.{admitted_by, refused_by}
 use Rattle.vfs_gates.proofs.Calling.{Call, admitted_call, begun, begun_state}
 use Rattle.vfs_gates.proofs.task.Task.begin.Goals as goal
 use Rattle.vfs_gates.proofs.task.Task.begin.Goals.{In_ok-phase}
+use Rattle.vfs_gates.proofs.Rooming.{begun_in}
 
 pub returns-in_err-phase-clause-answer : goal.returns-in_err-phase-clause-answer
 returns-in_err-phase-clause-answer c = let p = err_from_is_err_and c.from_residual.result c.from_residual.ensures.1 in
@@ -25,7 +26,12 @@ call c =
     c.in_ok-phase.phase c.in_ok-phase.ensures
 
 pub invariant_of-self : goal.invariant_of-self
-invariant_of-self c = (begun (call (goal.at.invariant_of-self c).In_ok-phase), c.self.invariant.1, c.self.invariant.2)
+invariant_of-self c = (
+  begun (call (goal.at.invariant_of-self c).In_ok-phase),
+  c.self.invariant.1,
+  begun_in (call (goal.at.invariant_of-self c).In_ok-phase) _ (c.begin.ensures c.self.inside.config c.self.inside.begins
+      c.self.inside.kept.phase c.self.inside.seat.me.0 c.self.inside.number c.self.invariant.2),
+)
 
 pub returns-clause-answer : goal.returns-clause-answer
 returns-clause-answer c = admitted_by c.args.op c.args.self.now c.in_ok-phase.phase c.in_ok-phase.ensures

@@ -1,7 +1,10 @@
-use Rattle.std.proofs.Common.{ap, sym, subst, None}
+use Rattle.std.proofs.Common.{ap, sym, subst, ◌∙◌, None}
 use Rattle.gate_steps.specs.Seating.{SeatItems}
 use Rattle.vfs_gates.specs.Ties.{Ties}
 use Rattle.vfs_gates.proofs.Parting.{first_ties}
+use Rattle.gate_core.specs.declared.seats.Seat.{Seat}
+use Rattle.vfs_gates.specs.TaskStates.{own_view}
+use Rattle.vfs_gates.proofs.Rooming.{first_unseen, room_new}
 use Rattle.vfs_gates.proofs.task.Task.first.Goals as goal
 
 pub invariant_of-result : goal.invariant_of-result
@@ -10,5 +13,6 @@ invariant_of-result c = let within = c.requires.within in
     within.tasks c.others_of.ensures in (
       subst (λ (l : SeatItems). Ties 0 c.args.config None c.idle.result c.others_of.result l) (sym (ap (λ z. z.0) c.requires.seat)) m,
       ap (λ z. z.1) c.requires.seat,
-      c.requires.room,
+      room_new c.args.config.nodes c.args.rooms None c.idle.result.phase c.args.seat.me.0 c.requires.room.0 c.requires.room.1
+          (ap (λ z. (own_view z.0).snapshot) c.requires.seat ∙ first_unseen c.args.config) (ap (λ (k : Seat). k.phase) c.idle.ensures),
     )

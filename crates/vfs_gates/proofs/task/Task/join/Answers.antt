@@ -4,6 +4,7 @@ use Rattle.gate_steps.specs.Seating.{SeatItems}
 use Rattle.vfs_gates.specs.TaskStates.{TaskState, Empty, own_view}
 use Rattle.vfs_gates.specs.Ties.{Ties}
 use Rattle.vfs_gates.proofs.Parting.{join_self, below}
+use Rattle.vfs_gates.proofs.Rooming.{joined_view, room_same}
 use Rattle.vfs_gates.proofs.task.Task.join.Goals as goal
 
 pub invariant_of-self : goal.invariant_of-self
@@ -25,5 +26,7 @@ invariant_of-self c = let mine = c.self.inside in let others = c.other.inside in
       subst (λ (l : SeatItems). Ties mine.number mine.config mine.begins mine.kept (set c.add_all.new.numbers others.number true) l)
           (sym (ap (λ z. z.0) joined)) m,
       ap (λ z. z.1) joined ∙ c.self.invariant.1,
-      c.self.invariant.2,
+      room_same mine.config.nodes mine.rooms mine.begins mine.kept.phase mine.seat.me.0 c.take_back.new.seat.me.0
+          (ap (λ z. own_view z.0) joined ∙ joined_view mine.number mine.config mine.begins mine.kept mine.spare mine.seat.me.0
+          others.seat.me.0 c.self.invariant.0) c.self.invariant.2,
     )

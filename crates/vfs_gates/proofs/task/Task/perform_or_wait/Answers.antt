@@ -10,6 +10,7 @@ use Rattle.vfs_gates.proofs.Calling.{Call, Left, call_with, is_tied, has_begun, 
 use Rattle.vfs_gates.proofs.Running.{was_refused, was_done}
 use Rattle.vfs_gates.proofs.task.Task.perform_or_wait.Goals as goal
 use Rattle.vfs_gates.proofs.task.Task.perform_or_wait.Goals.{After-go_in_line}
+use Rattle.vfs_gates.proofs.Rooming.{room_at, room_done}
 
 -- the call, and what its line has left
 abbrev call : (g : _) → After-go_in_line g → Call
@@ -37,7 +38,8 @@ invariant_of-self g c =
     let d = (goal.at.invariant_of-self g c).After-go_in_line in (
       ties_done (call g d) (left g d) c.in-Done.answer (done_at g.P.UnderWay.as_phase c.go_in_line.result c.in-Done.answer c.in-Done.is),
       c.go_in_line.ensures.slots ∙ c.self.invariant.1,
-      c.self.invariant.2,
+      room_done (call g d) _ c.requires.other c.self.invariant.2 (left g d) c.in-Done.answer
+          (done_at g.P.UnderWay.as_phase c.go_in_line.result c.in-Done.answer c.in-Done.is),
     )
 
 pub invariant_of-self-in-Go : goal.invariant_of-self-in-Go
@@ -46,7 +48,9 @@ invariant_of-self-in-Go g c =
       ties_at (call g d) (left g d) _ (stands_at g.P.UnderWay.as_phase c.go_in_line.result c.in-Go.under_way c.in-Go.is ∙
           ap (λ (p : Phase). Some p) (sym c.phase.ensures)),
       c.go_in_line.ensures.slots ∙ c.self.invariant.1,
-      c.self.invariant.2,
+      room_at (call g d) _ c.requires.other c.self.invariant.2 (left g d) _
+          (stands_at g.P.UnderWay.as_phase c.go_in_line.result c.in-Go.under_way c.in-Go.is ∙
+          ap (λ (p : Phase). Some p) (sym c.phase.ensures)),
     )
 
 pub returns-in-Done : goal.returns-in-Done

@@ -1,6 +1,6 @@
 -- the fields after an event are what the seat knows after it
-use Rattle.std.proofs.Common.{◌≡◌, ◌∙◌, sym, ap, refl}
-use Rattle.std.specs.Prelude.{Some, None}
+use Rattle.std.proofs.Common.{◌≡◌, ◌∙◌, sym, ap, refl, subst}
+use Rattle.std.specs.Prelude.{Option, Some, None}
 use Rattle.access_model.specs.declared.replies.Next.{Next}
 use Rattle.gate_world.specs.declared.work.Phase.{Phase}
 use Rattle.gate_world.specs.Views.{phase_after}
@@ -9,6 +9,9 @@ use Rattle.vfs_gates.specs.TaskStates.{TaskState, task_state}
 use Rattle.vfs_gates.specs.Turns.{kept_at}
 use Rattle.vfs_gates.proofs.Turning.{tied_at, stepped_there}
 use Rattle.access_model.proofs.Mapped.{map_next_same}
+use Rattle.access_model.specs.Replies.{map_next}
+use Rattle.vfs_gates.specs.Room.{RoomTells}
+use Rattle.vfs_gates.proofs.Rooming.{stepped_room}
 use Rattle.vfs_gates.proofs.task.Task.step.Goals as goal
 
 pub do_event-action-requires-clause-tied : goal.do_event-action-requires-clause-tied
@@ -33,7 +36,16 @@ invariant_of-self c =
       tied_at t.number None t.spare c.do_event-action.new.seat.me.0 (kept_at _ c.do_event-action.new.accesses) c.of-progress.result.1 tied
           (sym same) stands,
       c.do_event-action.ensures.slots ∙ c.self.invariant.1,
-      c.self.invariant.2,
+      subst (λ (o : Option Phase). RoomTells t.config.nodes c.follow.new.self None o c.do_event-action.new.seat.me.0)
+          stands
+          (stepped_room t.config.nodes t.rooms c.follow.new.self t.begins c.in-Some.phase c.args.hook t.seat.table_id
+          c.do_event-action.new.seat.table_id c.args.gates.now.config t.seat.me.0 c.do_event-action.new.seat.me.0
+          c.do_event-action.result.event c.do_event-action.result.action (map_next (λ phase. phase) next) t.number
+          (kept_at (Some c.in-Some.phase) t.kept.accesses) t.spare
+          (tied_at t.number t.begins t.spare t.seat.me.0 t.kept (Some c.in-Some.phase) c.self.invariant.0 same c.in-Some.is)
+          c.do_event-action.ensures.stepped
+          (subst (λ (o : Option Phase). RoomTells t.config.nodes t.rooms t.begins o t.seat.me.0) c.in-Some.is c.self.invariant.2)
+          (λ found some is tells. c.follow.ensures t.config.nodes t.begins c.args.hook found t.seat.me.0 some is tells)),
     )
 
 pub returns-clause-event : goal.returns-clause-event

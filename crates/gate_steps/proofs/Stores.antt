@@ -1,0 +1,271 @@
+-- No event stores into the word of a node, so what it finds there is what the word held.
+use Rattle.std.proofs.Common.{◌≡◌, ℕ, ◌<◌, ◌≤◌, subst, ap, arith, Bool}
+use Rattle.std.specs.Prelude.{Option, Some, None, Ok, Err}
+use Rattle.mount_counts.specs.declared.phases.MountPhase.TheVariants.{Want as MWants, Drop as MDrops, Change as MChanges}
+use Rattle.mount_counts.specs.declared.phases.WantStep.TheVariants.{CountsUp, LoadsHold, LoadsRemount, LoadsReadOnly, LoadsSuperblock, CountsDown}
+use Rattle.mount_counts.specs.declared.phases.ChangeStep.TheVariants.{Locks, LoadsFlags, LoadsSuperblock as LoadsSb, ClearsReadOnly, SetsHold, Sums, SetsReadOnly, ClearsHold, Releases}
+use Rattle.mount_counts.specs.declared.remounts.RemountStep.TheVariants.{Locks as RLocks, LoadsStage as RLoadsStage, LoadsSuperblock as RLoadsSuperblock, SetsWritable, LoadsFlags as RLoadsFlags, SetsHold as RSetsHold, Sums as RSums, SetsRemount, ClearsHold as RClearsHold, GivesUp, ClearsMark, SetsReadOnly as RSetsReadOnly, ClearsRemount, Releases as RReleases}
+use Rattle.percpu_rwsem.specs.declared.transitions.Transition.TheVariants.{Loads, Exchanges}
+use Rattle.percpu_rwsem.specs.declared.readers.DownReadStep.TheVariants.{EntersSection, LoadsSync, CountsUpFast, CountsUpSlow, LoadsBlock, CountsDown as DCountsDown, LeavesAdmitted, LeavesBlocked}
+use Rattle.percpu_rwsem.specs.declared.callbacks.CallbackStep.TheVariants.{Claims, AwaitsSections as CAwaitsSections, CallsBack as CCallsBack}
+use Rattle.percpu_rwsem.specs.declared.writers.DownWriteStep.TheVariants.{Enters, AwaitsSections as WAwaitsSections, CallsBack as WCallsBack, AwaitsPassed, SetsBlock, Sums as WSums}
+use Rattle.percpu_rwsem.specs.declared.writers.UpWriteStep.TheVariants.{ClearsBlock, Exits}
+use Rattle.write_access.specs.declared.phases.WritePhase.TheVariants.{Takes, Wants as WWants, GivesBack, Drops as WDrops, Ends}
+use Rattle.freeze_levels.specs.declared.freezes.FreezeStep.TheVariants.{Locks as FLocks, LoadsStage as FLoadsStage, LoadsSuperblock as FLoadsSuperblock, CompletesReadOnly, SetsWrite, Unlocks, Closes, LocksAgain, SetsPageFault, Cleans, SetsFs, SetsComplete, Reopens as FReopens, Releases as FReleases}
+use Rattle.freeze_levels.specs.declared.thaws.ThawStep.TheVariants.{Locks as TLocks, LoadsStage as TLoadsStage, LoadsSuperblock as TLoadsSuperblock, UnfreezesReadOnly, SetsUnfrozen, Reopens as TReopens, Releases as TReleases}
+use Rattle.gated_tree.specs.declared.changes.CreateStep.TheVariants.{LoadsDirectory, LoadsNode, ChargesChild, TakesNode, RefundsChild}
+use Rattle.gated_tree.specs.declared.changes.RemoveStep.TheVariants.{LoadsFile as LoadsFileToRemove, FreesNode, RefundsBlocks as RefundsItsBlocks, RefundsChild as RefundsItsChild}
+use Rattle.gated_tree.specs.declared.growth.GrowStep.TheVariants.{LoadsFile as LoadsFileToGrow, LoadsUsed, ChargesBlocks, GrowsFile, RefundsBlocks}
+use Rattle.gated_tree.specs.declared.changes.MoveStep.TheVariants.{LoadsFile as LoadsFileToMove, LoadsDirectory as LoadsTarget, ChargesChild as ChargesTarget, MovesFile, RefundsChild as RefundsOne}
+use Rattle.gated_tree.specs.declared.marks.MarkStep.TheVariants.{LoadsFile as LoadsFileToMark, MarksFile}
+use Rattle.gated_tree.specs.declared.snapshots.SnapshotStep.TheVariants.{Locks as SLocks, LoadsStage as SLoadsStage, LoadsUsed as SLoadsUsed, LoadsNode as SLoadsNode, LoadsKids as SLoadsKids, Releases as SReleases}
+use Rattle.gated_tree.specs.declared.phases.TreePhase.TheVariants.{Create as Creates, Remove as Removes, Grow as Grows, MoveTo as Moves, Mark as TreeMarks, Snapshot as Snapshots, ClearMarks as TreeClears}
+use Rattle.gate_world.specs.declared.work.Phase.TheVariants.{Mounts, Remounts, DownReads, UpReads, Callbacks, Writes, Freezes, Thaws, Trees}
+use Rattle.gated_tree.specs.Phases.{next as tree_next, remove_next, grow_next, move_next, mark_next, create_next, snapshot_next}
+use Rattle.write_access.specs.Phases.{next as write_next}
+use Rattle.gate_world.specs.Rules.{Tree}
+use Rattle.cpu_words.specs.declared.names.WordName.TheVariants.{Umount, Stage, SbFlags, Remount as RemountWord, MountFlags, MountCount, Block, Sync, LevelCount, Section, Used, Node, Kids}
+use Rattle.cpu_words.specs.declared.events.Touch.{Touch}
+use Rattle.cpu_words.specs.declared.events.Touch.TheVariants.{Load, Store, Add, Sub, Or, And, Swap, Cas}
+use Rattle.cpu_words.specs.Touches.{found_by}
+use Rattle.gate_world.specs.Courses.{MayHold}
+use Rattle.cpu_words.specs.declared.names.WordName.{WordName}
+use Rattle.mount_counts.specs.declared.phases.Want.{Want}
+use Rattle.mount_counts.specs.declared.phases.Change.{Change}
+use Rattle.mount_counts.specs.declared.remounts.Remount.{Remount}
+use Rattle.percpu_rwsem.specs.declared.transitions.Transition.{Transition}
+use Rattle.percpu_rwsem.specs.declared.readers.DownRead.{DownRead}
+use Rattle.percpu_rwsem.specs.declared.callbacks.Callback.{Callback}
+use Rattle.percpu_rwsem.specs.declared.writers.DownWrite.{DownWrite}
+use Rattle.percpu_rwsem.specs.declared.writers.UpWrite.{UpWrite}
+use Rattle.write_access.specs.declared.phases.WritePhase.{WritePhase}
+use Rattle.freeze_levels.specs.declared.freezes.Freeze.{Freeze}
+use Rattle.freeze_levels.specs.declared.thaws.Thaw.{Thaw}
+use Rattle.gated_tree.specs.declared.changes.Create.{Create}
+use Rattle.gated_tree.specs.declared.changes.Remove.{Remove}
+use Rattle.gated_tree.specs.declared.growth.Grow.{Grow}
+use Rattle.gated_tree.specs.declared.changes.MoveTo.{MoveTo}
+use Rattle.gated_tree.specs.declared.marks.Mark.{Mark}
+use Rattle.gated_tree.specs.declared.snapshots.Snapshot.{Snapshot}
+use Rattle.gated_tree.specs.declared.phases.TreePhase.{TreePhase}
+use Rattle.gate_world.specs.declared.work.Phase.{Phase}
+use Rattle.gate_world.specs.Worlds.{World}
+use Rattle.mount_counts.specs.declared.phases.WantStep.{WantStep}
+use Rattle.mount_counts.specs.declared.phases.ChangeStep.{ChangeStep}
+use Rattle.mount_counts.specs.declared.remounts.RemountStep.{RemountStep}
+use Rattle.percpu_rwsem.specs.Transitions.{transition_next}
+use Rattle.percpu_rwsem.specs.declared.readers.DownReadStep.{DownReadStep}
+use Rattle.percpu_rwsem.specs.declared.callbacks.CallbackStep.{CallbackStep}
+use Rattle.percpu_rwsem.specs.declared.writers.DownWriteStep.{DownWriteStep}
+use Rattle.percpu_rwsem.specs.declared.writers.UpWriteStep.{UpWriteStep}
+use Rattle.freeze_levels.specs.declared.freezes.FreezeStep.{FreezeStep}
+use Rattle.freeze_levels.specs.declared.thaws.ThawStep.{ThawStep}
+use Rattle.gated_tree.specs.declared.changes.CreateStep.{CreateStep}
+use Rattle.gated_tree.specs.declared.changes.RemoveStep.{RemoveStep}
+use Rattle.gated_tree.specs.declared.growth.GrowStep.{GrowStep}
+use Rattle.gated_tree.specs.declared.changes.MoveStep.{MoveStep}
+use Rattle.gated_tree.specs.declared.marks.MarkStep.{MarkStep}
+use Rattle.gated_tree.specs.declared.snapshots.SnapshotStep.{SnapshotStep}
+use Rattle.cpu_words.specs.Hooks.{HookAnswer}
+use Rattle.gate_world.specs.Work.{next_of}
+use Rattle.mount_counts.specs.Phases.{want_next, change_next}
+use Rattle.percpu_rwsem.specs.Readers.{down_read_next}
+use Rattle.percpu_rwsem.specs.Callbacks.{callback_next}
+use Rattle.percpu_rwsem.specs.Writers.{down_write_next, up_write_next}
+use Rattle.freeze_levels.specs.Thaws.{thaw_next}
+use Rattle.mount_counts.specs.Remounts.{remount_next}
+use Rattle.freeze_levels.specs.Freezes.{freeze_next}
+
+-- no node's word is stored into
+abbrev pub IsNoStore : WordName × Touch → Type 0
+IsNoStore (Node n, Store value) = ⊥
+IsNoStore event = Unit {0}
+
+want_word : (x : Want) (s : WantStep) → IsNoStore (want_next x s)
+want_word x CountsUp = tt
+want_word x LoadsHold = tt
+want_word x LoadsRemount = tt
+want_word x LoadsReadOnly = tt
+want_word x LoadsSuperblock = tt
+want_word x (CountsDown refusal) = tt
+
+change_word : (x : Change) (s : ChangeStep) → IsNoStore (change_next x s)
+change_word x Locks = tt
+change_word x LoadsFlags = tt
+change_word x LoadsSb = tt
+change_word x ClearsReadOnly = tt
+change_word x SetsHold = tt
+change_word x (Sums sum) = tt
+change_word x SetsReadOnly = tt
+change_word x (ClearsHold answer) = tt
+change_word x (Releases answer) = tt
+
+remount_word : (x : Remount) (s : RemountStep) (hook : HookAnswer) → IsNoStore (remount_next x s hook)
+remount_word x RLocks hook = tt
+remount_word x RLoadsStage hook = tt
+remount_word x RLoadsSuperblock hook = tt
+remount_word x SetsWritable (Ok answer) = tt
+remount_word x SetsWritable (Err code) = tt
+remount_word x (RLoadsFlags m held) hook = tt
+remount_word x (RSetsHold m held) hook = tt
+remount_word x (RSums m held sum) hook = tt
+remount_word x (SetsRemount held) hook = tt
+remount_word x (RClearsHold held) hook = tt
+remount_word x (GivesUp m held) hook = tt
+remount_word x (ClearsMark n) hook = tt
+remount_word x RSetsReadOnly (Ok answer) = tt
+remount_word x RSetsReadOnly (Err code) = tt
+remount_word x ClearsRemount hook = tt
+remount_word x (RReleases answer) hook = tt
+
+transition_word : (level : ℕ) (x : Transition) → IsNoStore (transition_next level x)
+transition_word level Loads = tt
+transition_word level (Exchanges from to) = tt
+
+read_word : (x : DownRead) (s : DownReadStep) → IsNoStore (down_read_next x s)
+read_word x EntersSection = tt
+read_word x LoadsSync = tt
+read_word x CountsUpFast = tt
+read_word x CountsUpSlow = tt
+read_word x LoadsBlock = tt
+read_word x DCountsDown = tt
+read_word x LeavesAdmitted = tt
+read_word x LeavesBlocked = tt
+
+callback_word : (x : Callback) (s : CallbackStep) → IsNoStore (callback_next x s)
+callback_word x (Claims transition) = transition_word x.level transition
+callback_word x (CAwaitsSections grace) = tt
+callback_word x (CCallsBack transition) = transition_word x.level transition
+
+down_write_word : (x : DownWrite) (s : DownWriteStep) → IsNoStore (down_write_next x s)
+down_write_word x (Enters transition) = transition_word x.level transition
+down_write_word x (WAwaitsSections grace) = tt
+down_write_word x (WCallsBack transition) = transition_word x.level transition
+down_write_word x AwaitsPassed = tt
+down_write_word x SetsBlock = tt
+down_write_word x (WSums sum) = tt
+
+up_write_word : (x : UpWrite) (s : UpWriteStep) → IsNoStore (up_write_next x s)
+up_write_word x ClearsBlock = tt
+up_write_word x (Exits transition) = transition_word x.level transition
+
+write_word : (x : WritePhase) → IsNoStore (write_next x)
+write_word (Takes m r) = read_word r r.step
+write_word (WWants w) = want_word w w.step
+write_word (GivesBack m p refusal) = tt
+write_word (WDrops m p) = tt
+write_word (Ends p) = tt
+
+freeze_word : (x : Freeze) (s : FreezeStep) (hook : HookAnswer) → IsNoStore (freeze_next x s hook)
+freeze_word x FLocks hook = tt
+freeze_word x FLoadsStage hook = tt
+freeze_word x FLoadsSuperblock hook = tt
+freeze_word x CompletesReadOnly hook = tt
+freeze_word x SetsWrite hook = tt
+freeze_word x Unlocks hook = tt
+freeze_word x (Closes d) hook = down_write_word d d.step
+freeze_word x LocksAgain hook = tt
+freeze_word x SetsPageFault hook = tt
+freeze_word x (Cleans marks) hook = tt
+freeze_word x SetsFs (Ok answer) = tt
+freeze_word x SetsFs (Err code) = tt
+freeze_word x SetsComplete (Ok answer) = tt
+freeze_word x SetsComplete (Err code) = tt
+freeze_word x (FReopens u code) hook = up_write_word u u.step
+freeze_word x (FReleases answer) hook = tt
+
+thaw_word : (x : Thaw) (s : ThawStep) (hook : HookAnswer) → IsNoStore (thaw_next x s hook)
+thaw_word x TLocks hook = tt
+thaw_word x TLoadsStage hook = tt
+thaw_word x TLoadsSuperblock hook = tt
+thaw_word x UnfreezesReadOnly hook = tt
+thaw_word x SetsUnfrozen (Ok answer) = tt
+thaw_word x SetsUnfrozen (Err code) = tt
+thaw_word x (TReopens u) hook = up_write_word u u.step
+thaw_word x (TReleases answer) hook = tt
+
+create_word : (x : Create) (s : CreateStep) → IsNoStore (create_next x s)
+create_word x LoadsDirectory = tt
+create_word x (LoadsNode n) = tt
+create_word x (ChargesChild n) = tt
+create_word x (TakesNode n) = tt
+create_word x RefundsChild = tt
+
+remove_word : (x : Remove) (s : RemoveStep) → IsNoStore (remove_next x s)
+remove_word x LoadsFileToRemove = tt
+remove_word x (FreesNode file) = tt
+remove_word x (RefundsItsBlocks file) = tt
+remove_word x (RefundsItsChild file) = tt
+
+grow_word : (x : Grow) (s : GrowStep) → IsNoStore (grow_next x s)
+grow_word x LoadsFileToGrow = tt
+grow_word x (LoadsUsed file) = tt
+grow_word x (ChargesBlocks file used) = tt
+grow_word x (GrowsFile file) = tt
+grow_word x RefundsBlocks = tt
+
+move_word : (x : MoveTo) (s : MoveStep) → IsNoStore (move_next x s)
+move_word x LoadsFileToMove = tt
+move_word x (LoadsTarget file) = tt
+move_word x (ChargesTarget file) = tt
+move_word x (MovesFile file) = tt
+move_word x (RefundsOne dir answer) = tt
+
+mark_word : (x : Mark) (s : MarkStep) → IsNoStore (mark_next x s)
+mark_word x LoadsFileToMark = tt
+mark_word x (MarksFile file) = tt
+
+snapshot_word : (x : Snapshot) (s : SnapshotStep) → IsNoStore (snapshot_next x s)
+snapshot_word x SLocks = tt
+snapshot_word x SLoadsStage = tt
+snapshot_word x SLoadsUsed = tt
+snapshot_word x (SLoadsNode n) = tt
+snapshot_word x (SLoadsKids n) = tt
+snapshot_word x (SReleases answer) = tt
+
+tree_word : (x : TreePhase) (hook : HookAnswer) → IsNoStore (tree_next x hook)
+tree_word (Creates x) hook = create_word x x.step
+tree_word (Removes x) hook = remove_word x x.step
+tree_word (Grows x) hook = grow_word x x.step
+tree_word (Moves x) hook = move_word x x.step
+tree_word (TreeMarks x) hook = mark_word x x.step
+tree_word (Snapshots x) hook = snapshot_word x x.step
+tree_word (TreeClears x) hook = tt
+
+-- by no phase's next event
+pub no_store : (phase : Phase) (hook : HookAnswer) → IsNoStore (next_of phase hook)
+no_store (Mounts (MWants x)) hook = want_word x x.step
+no_store (Mounts (MDrops m p)) hook = tt
+no_store (Mounts (MChanges x)) hook = change_word x x.step
+no_store (Remounts x) hook = remount_word x x.step hook
+no_store (DownReads r) hook = read_word r r.step
+no_store (UpReads u) hook = tt
+no_store (Callbacks b) hook = callback_word b b.step
+no_store (Writes x) hook = write_word x
+no_store (Freezes x) hook = freeze_word x x.step hook
+no_store (Thaws x) hook = thaw_word x x.step hook
+no_store (Trees x) hook = tree_word x hook
+
+-- so what an event finds in a word is what the word held, where that is a node's
+pub held_found : (word : WordName) (touch : Touch) (value : ℕ) → IsNoStore (word, touch) → MayHold word value →
+    MayHold word (found_by touch value)
+held_found (Node n) (Store new) value none may = absurd none
+held_found (Node n) Load value none may = may
+held_found (Node n) (Add by) value none may = may
+held_found (Node n) (Sub by) value none may = may
+held_found (Node n) (Or bits) value none may = may
+held_found (Node n) (And bits) value none may = may
+held_found (Node n) (Swap new) value none may = may
+held_found (Node n) (Cas expect put) value none may = may
+held_found Umount touch value none may = tt
+held_found Stage touch value none may = tt
+held_found SbFlags touch value none may = tt
+held_found RemountWord touch value none may = tt
+held_found (MountFlags m) touch value none may = tt
+held_found (MountCount m p) touch value none may = tt
+held_found (Block i) touch value none may = tt
+held_found (Sync i) touch value none may = tt
+held_found (LevelCount i p) touch value none may = tt
+held_found (Section t) touch value none may = tt
+held_found Used touch value none may = tt
+held_found (Kids n) touch value none may = tt

@@ -1,0 +1,162 @@
+-- A snapshot that replied has taken one: its last load but its release is the last load of the tree.
+use Rattle.std.proofs.Common.{◌≡◌, ℕ, ◌<◌, ◌≤◌, refl, sym, ap, ◌∙◌, subst, inl, inr, arith, Bool, true≢false}
+use Rattle.std.specs.Prelude.{Option, Some, None, Result, Ok, Err, List, [], ◌∷◌, ◌++◌, ◌==◌, true, false, is_some, length}
+use Rattle.std.proofs.lemmas.Bool.{cases_Bool}
+use Rattle.access_model.specs.declared.actions.Action.{Action}
+use Rattle.access_model.specs.declared.errors.GateError.{GateError}
+use Rattle.access_model.specs.declared.replies.Next.{Next}
+use Rattle.access_model.specs.declared.replies.Next.TheVariants.{Go, Wait, Done}
+use Rattle.access_model.specs.declared.replies.Reply.{Reply}
+use Rattle.access_model.specs.Replies.{map_next}
+use Rattle.gated_tree.specs.declared.phases.TreePhase.TheVariants.{Snapshot as Snapshots}
+use Rattle.gated_tree.specs.declared.snapshots.Snapshot.{Snapshot}
+use Rattle.gated_tree.specs.declared.snapshots.SnapshotStep.{SnapshotStep}
+use Rattle.gated_tree.specs.declared.snapshots.SnapshotStep.TheVariants.{Locks, LoadsStage, LoadsUsed, LoadsNode, LoadsKids, Releases}
+use Rattle.gated_tree.specs.declared.trees.TreeWords.{TreeWords}
+use Rattle.gated_tree.specs.Nodes.{node_after, unpacked}
+use Rattle.gated_tree.specs.Phases.{snapshot_after, snapshot_locked_out, node_step, kids_step, at_snapshot}
+use Rattle.gate_world.specs.declared.config.Config.{Config}
+use Rattle.gate_world.specs.declared.operations.Op.TheVariants.{Snapshot as SnapshotOp}
+use Rattle.gate_world.specs.declared.work.Phase.{Phase}
+use Rattle.gate_world.specs.declared.work.Phase.TheVariants.{Trees}
+use Rattle.gate_world.specs.declared.views.Traced.{Traced}
+use Rattle.gate_world.specs.declared.views.View.{View}
+use Rattle.gate_world.specs.declared.views.Snapshot.{Snapshot as Noted}
+use Rattle.gate_world.specs.Views.{actions_after}
+use Rattle.gate_world.specs.Courses.{course_of, course_after, IsNext, IsTrace}
+use Rattle.gate_world.specs.Snapshots.{last_snapshot, noted_last, snapshot_completes}
+use Rattle.gate_steps.specs.Seating.{SeatItems, done_by}
+use Rattle.vfs_gates.specs.TaskStates.{TaskState, own_number, own_view, spare_of}
+use Rattle.vfs_gates.specs.Runs.{Called, completed_by, ran_items, ran_snapshot}
+use Rattle.vfs_gates.specs.Seen.{HasTaken}
+use Rattle.vfs_gates.proofs.Seeing.{call_saw, same_own}
+
+module _ (c : Config) (t : ℕ) (wait : Bool) (others : List (ℕ × ℕ)) (v : View) where
+  -- the last snapshot after these events
+  abbrev seen : List Traced → Option Noted
+  seen trace = ran_snapshot c t (SnapshotOp wait) others trace v
+
+  -- it is one that was taken after just what had been done before the call
+  abbrev HasOne : List Traced → Type 0
+  HasOne trace = (words : TreeWords) × (seen trace ≡ Some (record { loaded = words; done = length v.actions; others = others }))
+
+  -- so it is where an answer is a reply
+  abbrev Answers : List Traced → Result Reply GateError → Type 0
+  Answers trace (Ok reply) = HasOne trace
+  Answers trace (Err refusal) = Unit {0}
+
+  abbrev StandsAt : List Traced → SnapshotStep → Type 0
+  StandsAt trace (Releases answer) = Answers trace answer
+  StandsAt trace step = Unit {0}
+
+  abbrev AtPhase : List Traced → Phase → Type 0
+  AtPhase trace (Trees (Snapshots x)) = StandsAt trace x.step
+  AtPhase trace phase = ⊥
+
+  abbrev Comes : List Traced → Next Phase → Type 0
+  Comes trace (Go phase) = AtPhase trace phase
+  Comes trace (Wait phase) = AtPhase trace phase
+  Comes trace (Done answer) = Answers trace answer
+
+  -- the same of what comes after an event of a snapshot, as it says it itself
+  abbrev ComesNext : List Traced → Next Snapshot → Type 0
+  ComesNext trace n = Comes trace (map_next Trees (map_next Snapshots n))
+
+  locked_out : (trace : List Traced) (s : Snapshot) (waits : Bool) → ComesNext trace (snapshot_locked_out s waits)
+  locked_out trace s true = tt
+  locked_out trace s false = tt
+
+  node_comes : (trace : List Traced) (s : Snapshot) (o : Option ℕ) → ComesNext trace (Go (at_snapshot s (node_step o)))
+  node_comes trace s (Some n) = tt
+  node_comes trace s None = tt
+
+  -- after the load of a node's children: the last one completes a snapshot
+  kids_come : (trace : List Traced) (e : Traced) (s : Snapshot) (o : Option ℕ) (words : TreeWords) (added : List Action) → added ≡ [] →
+      seen (e ∷ trace) ≡ last_snapshot (noted_last o words) (added ++ v.actions) others (seen trace) →
+      ComesNext (e ∷ trace) (Go (at_snapshot s (kids_step o)))
+  kids_come trace e s (Some n) words added none is = tt
+  kids_come trace e s None words added none is =
+      (words, is ∙ ap (λ (l : List Action). last_snapshot (Some words) (l ++ v.actions) others (seen trace)) none)
+
+  -- an answer stays what it was, with an event that completes none
+  answer_stays : (trace : List Traced) (e : Traced) (answer : Result Reply GateError) → seen (e ∷ trace) ≡ seen trace →
+      Answers trace answer → Answers (e ∷ trace) answer
+  answer_stays trace e (Ok reply) same h = (h.0, same ∙ h.1)
+  answer_stays trace e (Err refusal) same h = tt
+
+  -- the event of a step
+  step_comes : (trace : List Traced) (e : Traced) (s : Snapshot) (step : SnapshotStep) (added : List Action) → added ≡ [] →
+      seen (e ∷ trace) ≡ last_snapshot (snapshot_completes s.nodes step trace e.event.found) (added ++ v.actions) others (seen trace) →
+      StandsAt trace step → ComesNext (e ∷ trace) (snapshot_after s step e.event.found).0
+  step_comes trace e s Locks added none is h =
+      elim (cases_Bool (e.event.found == 0)) [ inl f ↦ rw f tt | inr f ↦ rw f (locked_out (e ∷ trace) s s.wait) ]
+  step_comes trace e s LoadsStage added none is h =
+      elim (cases_Bool (e.event.found == 4)) [ inl f ↦ rw f tt | inr f ↦ rw f tt ]
+  step_comes trace e s LoadsUsed added none is h = tt
+  step_comes trace e s (LoadsNode n) added none is h =
+      elim (cases_Bool (is_some (unpacked e.event.found))) [
+        | inl f ↦ rw f (node_comes (e ∷ trace) s (node_after n s.nodes))
+        | inr f ↦ rw f tt
+      ]
+  step_comes trace e s (LoadsKids n) added none is h = kids_come trace e s (node_after n s.nodes) _ added none is
+  step_comes trace e s (Releases answer) added none is h = answer_stays trace e answer is h
+
+  -- what a snapshot adds is nothing
+  adds_nothing : (s : Snapshot) (step : SnapshotStep) (found : ℕ) → (snapshot_after s step found).1 ≡ None
+  adds_nothing s Locks found = refl
+  adds_nothing s LoadsStage found = refl
+  adds_nothing s LoadsUsed found = refl
+  adds_nothing s (LoadsNode n) found = refl
+  adds_nothing s (LoadsKids n) found = refl
+  adds_nothing s (Releases answer) found = refl
+
+  -- one event more
+  phase_comes : (trace : List Traced) (e : Traced) (phase : Phase) (added : List Action) → added ≡ [] → AtPhase trace phase →
+      seen (e ∷ trace) ≡ last_snapshot (completed_by (Go phase) trace e) (added ++ v.actions) others (seen trace) →
+      Comes (e ∷ trace) (course_after (Go phase) added e).comes × ((course_after (Go phase) added e).added ≡ [])
+  phase_comes trace e (Trees (Snapshots x)) added none h is = (
+    step_comes trace e x x.step added none is h,
+    ap (λ a. actions_after a added) (adds_nothing x x.step e.event.found) ∙ none,
+  )
+  phase_comes trace e phase added none h is = absurd h
+
+  more_comes : (trace : List Traced) (e : Traced) (n : Next Phase) (added : List Action) → added ≡ [] → Comes trace n →
+      IsNext n e → seen (e ∷ trace) ≡ last_snapshot (completed_by n trace e) (added ++ v.actions) others (seen trace) →
+      Comes (e ∷ trace) (course_after n added e).comes × ((course_after n added e).added ≡ [])
+  more_comes trace e (Go phase) added none h next is = phase_comes trace e phase added none h is
+  more_comes trace e (Wait phase) added none h next is = phase_comes trace e phase added none h is
+  more_comes trace e (Done answer) added none h next is = absurd next
+
+  -- all events
+  all_come : (trace : List Traced) → IsTrace c t (SnapshotOp wait) trace →
+      Comes trace (course_of c t (SnapshotOp wait) trace).comes × ((course_of c t (SnapshotOp wait) trace).added ≡ [])
+  all_come [] h = (tt, refl)
+  all_come (e ∷ earlier) h =
+      let before : Comes earlier (course_of c t (SnapshotOp wait) earlier).comes × ((course_of c t (SnapshotOp wait) earlier).added ≡ []) =
+      all_come earlier h.1 in
+      more_comes earlier e (course_of c t (SnapshotOp wait) earlier).comes (course_of c t (SnapshotOp wait) earlier).added before.1 before.0
+      h.0 refl
+
+  -- so one that replied has taken one
+  pub replied_one : (trace : List Traced) (reply : Reply) → IsTrace c t (SnapshotOp wait) trace →
+      (course_of c t (SnapshotOp wait) trace).comes ≡ Done (Ok reply) → HasOne trace
+  replied_one trace reply h ends = subst (Comes trace) ends (all_come trace h).0
+
+-- a whole call of a snapshot that replied
+pub has_taken : (wait : Bool) (old left : TaskState) (reply : Reply) → 1 ≤ length old.items →
+    Called (SnapshotOp wait) old left (Ok reply) → HasTaken old.config old.items left.items
+has_taken wait old left reply some_there called =
+    let c : Config = old.config in
+    let others : List (ℕ × ℕ) = done_by (spare_of old.items) in
+    let v : View = own_view old.items in
+    let one = replied_one c (own_number old.items) wait others v called.trace reply called.follows called.ends in
+    let own = same_own c (SnapshotOp wait) called.trace old.items some_there in
+    let noted : Noted = record { loaded = one.0; done = length v.actions; others = others } in
+    let shows : (own_view left.items).snapshot ≡ Some noted =
+    ap (λ (s : TaskState). (own_view s.items).snapshot) called.after ∙ (own.2 ∙ one.1) in record {
+      seen = noted;
+      shows = shows;
+      done = refl;
+      others = refl;
+      moment = call_saw (SnapshotOp wait) old left (Ok reply) called noted some_there shows;
+    }
