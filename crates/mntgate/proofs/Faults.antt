@@ -5,13 +5,13 @@ use Rattle.access_model.specs.declared.errors.GateError.TheVariants.{NoMemory, I
 use Rattle.schedule_text.specs.declared.commands.Line.{Line}
 use Rattle.schedule_text.specs.declared.commands.Line.TheVariants.{Skipped, Config as ConfigLine, Request as RequestLine}
 use Rattle.schedule_text.specs.declared.commands.Request.{Request}
-use Rattle.schedule_text.specs.declared.commands.Request.TheVariants.{Words, Model, Task}
+use Rattle.schedule_text.specs.declared.commands.Request.TheVariants.{Words, Tree, Model, Task}
 use Rattle.schedule_text.specs.declared.commands.TaskCommand.{TaskCommand}
 use Rattle.schedule_text.specs.declared.commands.Verb.{Verb}
-use Rattle.schedule_text.specs.declared.commands.Verb.TheVariants.{Want, TryWant, Drop, Start, TryStart, End, WantWrite, DropWrite, Change, TryChange, Remount, Callback, Freeze, Thaw, Step, Run}
+use Rattle.schedule_text.specs.declared.commands.Verb.TheVariants.{Want, TryWant, Drop, Start, TryStart, End, WantWrite, DropWrite, Change, TryChange, Remount, Callback, Freeze, Thaw, Create, Remove, Grow, Move, Fault as FaultVerb, Flush, Snapshot, TrySnapshot, Step, Run}
 use Rattle.schedule_text.specs.declared.faults.Fault.{Fault}
 use Rattle.schedule_text.specs.declared.faults.Fault.TheVariants.{ConfigExpected, ConfigTwice, UnknownCommand, WrongNumberOfWords, NoSuchTask, BadNumber, BadWord, ReadFailed, WriteFailed, Refused}
-use Rattle.schedule_text.specs.Parsing.{◌>>=◌, expect, number_at, byte_at, code_at, hook_at, read_only_at, want_of, drop_of, start_of, end_of, want_write_of, drop_write_of, change_of, remount_of, callback_of, step_of, run_of, arguments_of, task_line, alone, command_line, config_of, config_line, line_for, parsed, task_of}
+use Rattle.schedule_text.specs.Parsing.{◌>>=◌, expect, number_at, byte_at, code_at, hook_at, read_only_at, want_of, drop_of, start_of, end_of, want_write_of, drop_write_of, change_of, remount_of, callback_of, kind_at, create_of, remove_of, grow_of, move_of, fault_of, flush_of, step_of, run_of, arguments_of, task_line, alone, command_line, config_of, config_line, line_for, parsed, task_of}
 use Rattle.schedule_text.specs.Words.{first_word, after_word, word_count}
 use Rattle.schedule_text.specs.Commands.{verb_of, takes}
 use Rattle.schedule_text.specs.Numbers.{is_digits}
@@ -144,6 +144,41 @@ callback_own : (rest : List ℕ) → FailsByOwn (callback_of rest)
 unfolding callback_of
 callback_own rest = then_own _ _ (byte_own rest) (λ (i : ℕ). ok_own _)
 
+-- the kind of a node
+kind_own : (text : List ℕ) → FailsByOwn (kind_at text)
+unfolding kind_at
+kind_own text = or_own _ BadWord refl
+
+-- the arguments of a creation
+create_own : (rest : List ℕ) → FailsByOwn (create_of rest)
+unfolding create_of
+create_own rest = then_own _ _ (byte_own rest) (λ (d : ℕ). then_own _ _ (kind_own (after_word rest)) (λ _. ok_own _))
+
+-- the argument of a removal
+remove_own : (rest : List ℕ) → FailsByOwn (remove_of rest)
+unfolding remove_of
+remove_own rest = then_own _ _ (byte_own rest) (λ (n : ℕ). ok_own _)
+
+-- the arguments of a growth
+grow_own : (rest : List ℕ) → FailsByOwn (grow_of rest)
+unfolding grow_of
+grow_own rest = then_own _ _ (byte_own rest) (λ (n : ℕ). then_own _ _ (number_own (after_word rest)) (λ (b : ℕ). ok_own _))
+
+-- the arguments of a move
+move_own : (rest : List ℕ) → FailsByOwn (move_of rest)
+unfolding move_of
+move_own rest = then_own _ _ (byte_own rest) (λ (n : ℕ). then_own _ _ (byte_own (after_word rest)) (λ (d : ℕ). ok_own _))
+
+-- the argument of a fault on a page
+page_fault_own : (rest : List ℕ) → FailsByOwn (fault_of rest)
+unfolding fault_of
+page_fault_own rest = then_own _ _ (byte_own rest) (λ (n : ℕ). ok_own _)
+
+-- the argument of a flush
+flush_own : (rest : List ℕ) → FailsByOwn (flush_of rest)
+unfolding flush_of
+flush_own rest = then_own _ _ (byte_own rest) (λ (n : ℕ). ok_own _)
+
 -- the argument of a step
 step_own : (rest : List ℕ) → FailsByOwn (step_of rest)
 unfolding step_of
@@ -171,6 +206,14 @@ arguments_own Remount rest words = remount_own rest
 arguments_own Callback rest words = callback_own rest
 arguments_own Freeze rest words = ok_own _
 arguments_own Thaw rest words = ok_own _
+arguments_own Create rest words = create_own rest
+arguments_own Remove rest words = remove_own rest
+arguments_own Grow rest words = grow_own rest
+arguments_own Move rest words = move_own rest
+arguments_own FaultVerb rest words = page_fault_own rest
+arguments_own Flush rest words = flush_own rest
+arguments_own Snapshot rest words = ok_own _
+arguments_own TrySnapshot rest words = ok_own _
 arguments_own Step rest words = if_own _ _ _ (ok_own _) (step_own rest)
 arguments_own Run rest words = if_own _ _ _ (ok_own _) (run_own rest)
 
@@ -194,9 +237,10 @@ unfolding command_line
 command_own line tasks =
     if_own (bytes_eq (first_word line) (codes "config")) _ _ (err_own ConfigTwice refl)
     (if_own (bytes_eq (first_word line) (codes "words")) _ _ (alone_own (word_count line) Words)
+    (if_own (bytes_eq (first_word line) (codes "tree")) _ _ (alone_own (word_count line) Tree)
     (if_own (bytes_eq (first_word line) (codes "model")) _ _ (alone_own (word_count line) Model)
     (if_own (not (is_digits (first_word line))) _ _ (err_own UnknownCommand refl)
-    (if_own (word_count line == 1) _ _ (err_own WrongNumberOfWords refl) (task_own line tasks)))))
+    (if_own (word_count line == 1) _ _ (err_own WrongNumberOfWords refl) (task_own line tasks))))))
 
 -- the numbers of a configuration
 config_own : (rest : List ℕ) → FailsByOwn (config_of rest)

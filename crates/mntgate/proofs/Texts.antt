@@ -11,7 +11,7 @@ use Rattle.gate_core.specs.Memory.{Shows}
 use Rattle.cpu_words.specs.Names.{IsWord}
 use Rattle.cpu_words.specs.Words.{read}
 use Rattle.cpu_words.specs.declared.names.WordName.{WordName}
-use Rattle.cpu_words.specs.declared.names.WordName.TheVariants.{Umount, Stage, SbFlags, Remount}
+use Rattle.cpu_words.specs.declared.names.WordName.TheVariants.{Umount, Stage, SbFlags, Remount, Used}
 use Rattle.mntgate.specs.Transcript.{Play, count_up, nonzero_line, mount_part, level_part, section_line, node_word_line, kids_line, tree_words_text, words_text}
 use Rattle.mntgate.specs.CoreSessions.{ShowsPlay}
 use Rattle.mntgate.specs.declared.core_session.CoreSession.{CoreSession}
