@@ -218,7 +218,7 @@ module _ (op : Op) (start now left : TaskState) (step : Step) (h : HookAnswer) (
 
   -- the trace is one of the operation
   follows_after : IsTrace c n op trace
-  follows_after = (next_is (course_of c n op goes.trace).comes p e stands_there (found, refl, move_holds c now.begins p h now.items found did.moves), goes.follows)
+  follows_after = (next_is (course_of c n op goes.trace).comes p e stands_there (found, refl, move_holds now.config now.begins p h now.items found did.moves), goes.follows)
 
   -- the course after the event
   course_here : course_of c n op trace ≡ course_with (course_of c n op goes.trace).added after
