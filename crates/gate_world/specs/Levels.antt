@@ -1,5 +1,5 @@
 -- Freeze levels: what each predicate of one reads of the words and of each task's view.
-use Rattle.std.specs.Prelude.{◌≡◌, ℕ, ◌+◌, ◌%◌, ◌<◌, ◌==◌, ◌&&◌, nat_lt, if◌then◌else◌, Bool, true, false, Option, Some, None, List, [], ◌∷◌}
+use Rattle.std.specs.Prelude.{◌≡◌, ℕ, ◌+◌, ◌%◌, ◌<◌, ◌==◌, nat_lt, if◌then◌else◌, Bool, true, false, Option, Some, None, List, [], ◌∷◌}
 use Rattle.finite_sums.specs.Sums.{update}
 use Rattle.cpu_words.specs.declared.names.WordName.{WordName}
 use Rattle.cpu_words.specs.declared.names.WordName.TheVariants.{LevelCount}
@@ -10,7 +10,6 @@ use Rattle.cpu_words.specs.Words.{Words}
 use Rattle.gate_counts.specs.Levels.{LevelRole, Out as CountsNot, Seeking, BackingOff, Summing, Passed, LevelView}
 use Rattle.level_laws.specs.Roles.{SyncRole, Out as IsApart, Closed}
 use Rattle.level_laws.specs.Operations.{down_read_role, down_read_inside, down_write_role, up_write_role, callback_role}
-use Rattle.percpu_rwsem.specs.declared.readers.DownRead.{DownRead}
 use Rattle.percpu_rwsem.specs.declared.readers.DownReadStep.{DownReadStep}
 use Rattle.percpu_rwsem.specs.declared.readers.DownReadStep.TheVariants.{LoadsBlock, CountsDown}
 use Rattle.percpu_rwsem.specs.declared.writers.DownWriteStep.{DownWriteStep}

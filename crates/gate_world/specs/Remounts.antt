@@ -1,25 +1,9 @@
 -- A remount between two of its events: what it does at each mount, what it owns and has set, and what its numbers are.
-use Rattle.std.specs.Prelude.{◌≡◌, ℕ, suc, ◌+◌, ◌<◌, ◌≤◌, ◌==◌, nat_lt, Bool, true, false, Option, Some, None}
+use Rattle.std.specs.Prelude.{◌≡◌, ℕ, ◌<◌, ◌≤◌, ◌==◌, nat_lt, Bool, true, false}
 use Rattle.cpu_words.specs.declared.sums.Sum.{Sum}
-use Rattle.cpu_words.specs.Words.{Words}
 use Rattle.mount_counts.specs.declared.sets.MountSet.{MountSet}
 use Rattle.mount_counts.specs.declared.remounts.RemountStep.{RemountStep}
-use Rattle.mount_counts.specs.declared.remounts.RemountStep.TheVariants.{
-  Locks,
-  LoadsStage,
-  SetsWritable,
-  LoadsSuperblock,
-  LoadsFlags,
-  SetsHold,
-  Sums,
-  SetsRemount,
-  ClearsHold,
-  GivesUp,
-  ClearsMark,
-  SetsReadOnly,
-  ClearsRemount,
-  Releases,
-}
+use Rattle.mount_counts.specs.declared.remounts.RemountStep.TheVariants.{Locks, LoadsFlags, SetsHold, Sums, SetsRemount, ClearsHold, GivesUp, ClearsMark, SetsReadOnly, ClearsRemount}
 use Rattle.mount_counts.specs.Sets.{has_mount}
 use Rattle.mount_counts.specs.Roles.{Role, Out, Summing, Empty, Leaving, Skipped}
 use Rattle.gate_world.specs.declared.config.Config.{Config}

@@ -27,8 +27,8 @@ use Rattle.gate_world.specs.declared.work.Phase.{Phase}
 use Rattle.gate_world.specs.declared.work.Phase.TheVariants.{Mounts, Remounts, DownReads, UpReads, Callbacks, Writes, Freezes, Thaws, Trees}
 use Rattle.gate_world.specs.Worlds.{World}
 use Rattle.gate_world.specs.LevelRuns.{level_in}
-use Rattle.gate_world.specs.Levels.{sync_role_if, sync_role_of, inside, is_frozen_whole, freeze_stand, thaw_stand}
-use Rattle.gate_world.specs.Shown.{shown, closing, is_passed, stage_roles}
+use Rattle.gate_world.specs.Levels.{sync_role_if, sync_role_of, inside, freeze_stand, thaw_stand}
+use Rattle.gate_world.specs.Shown.{shown, is_passed, stage_roles}
 use Rattle.gate_world.specs.Rules.{IsGood, SameWords, SyncAt, Sections, Holds}
 use Rattle.gate_frames.proofs.Frames.{left_alone}
 

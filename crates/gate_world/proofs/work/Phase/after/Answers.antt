@@ -1,5 +1,5 @@
 -- an up-read has one event, whatever it finds
-use Rattle.std.proofs.Common.{◌≡◌, refl, sym, ap, ◌∙◌}
+use Rattle.std.proofs.Common.{sym, ap, ◌∙◌}
 use Rattle.gate_world.specs.declared.work.Phase.TheVariants.{UpReads}
 use Rattle.gate_world.specs.Work.{after_of}
 use Rattle.access_model.specs.Replies.{map_next}
