@@ -175,7 +175,8 @@ followed_other : (nodes : ℕ) (r : Rooms) (begins : Option Op) (phase : Phase) 
 followed_other nodes r begins phase hook found x xs other h = record {
   room = h.room;
   last = subst (LastTells r) (sym (last_stays begins phase hook found x xs (other_completes phase _ _ other))) h.last;
-  next = next_tells r _ (after_of phase (found_by (next_of phase hook).1 found) hook).0
+  next = next_tells r (trace_so_far None (own_view (items_after begins phase hook found (x ∷ xs))))
+      (after_of phase (found_by (next_of phase hook).1 found) hook).0
       (goes_on_other phase (found_by (next_of phase hook).1 found) hook other);
 }
 
