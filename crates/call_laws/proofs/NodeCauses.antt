@@ -211,9 +211,12 @@ clears_not x (Some node) = tt
 module _ (c : Config) (w : World) where
   -- a create is refused so where it looks at its directory
   create_node : (x : Create) (s : CreateStep) → NodeHasCause c w (Creates (at_create x s))
-  create_node x LoadsDirectory hook refusal e is =
-      (x.dir, refl, directory_tells (w.words.node x.dir) refusal
-      (look_refused Creates _ _ (directory_in (w.words.node x.dir)) refusal e))
+  create_node x LoadsDirectory hook refusal e is = (
+    x.dir,
+    refl,
+    directory_tells (w.words.node x.dir) refusal
+        (look_refused Creates _ _ (directory_in (w.words.node x.dir)) refusal e),
+  )
   create_node x (LoadsNode node) hook refusal e is =
       not_of_node Creates _ (create_looked_not (at_create x (LoadsNode node)) node (unpacked (w.words.node node))) refusal e is
   create_node x (ChargesChild node) hook refusal e is =
@@ -226,9 +229,12 @@ module _ (c : Config) (w : World) where
 
   -- a remove, where it looks at its file
   remove_node : (x : Remove) (s : RemoveStep) → NodeHasCause c w (Removes (at_remove x s))
-  remove_node x LoadsFileToRemove hook refusal e is =
-      (x.file, refl, file_tells (w.words.node x.file) refusal
-      (look_refused Removes _ _ (file_in (w.words.node x.file)) refusal e))
+  remove_node x LoadsFileToRemove hook refusal e is = (
+    x.file,
+    refl,
+    file_tells (w.words.node x.file) refusal
+        (look_refused Removes _ _ (file_in (w.words.node x.file)) refusal e),
+  )
   remove_node x (FreesNode file) hook refusal e is =
       not_of_node Removes (remove_after (at_remove x (FreesNode file)) (FreesNode file) (w.words.node x.file)).0
       (either (w.words.node x.file == word_of file) _ _ tt refl) refusal e is
@@ -241,9 +247,12 @@ module _ (c : Config) (w : World) where
 
   -- a grow likewise
   grow_node : (x : Grow) (s : GrowStep) → NodeHasCause c w (Grows (at_grow x s))
-  grow_node x LoadsFileToGrow hook refusal e is =
-      (x.file, refl, file_tells (w.words.node x.file) refusal
-      (look_refused Grows _ _ (file_in (w.words.node x.file)) refusal e))
+  grow_node x LoadsFileToGrow hook refusal e is = (
+    x.file,
+    refl,
+    file_tells (w.words.node x.file) refusal
+        (look_refused Grows _ _ (file_in (w.words.node x.file)) refusal e),
+  )
   grow_node x (LoadsUsed file) hook refusal e is =
       not_of_node Grows (grow_after (at_grow x (LoadsUsed file)) (LoadsUsed file) w.words.used).0
       (either (nat_lt x.capacity (w.words.used + x.blocks)) _ _ refl (either (nat_lt x.capacity (file.size + x.blocks)) _ _ refl tt))
@@ -259,12 +268,18 @@ module _ (c : Config) (w : World) where
 
   -- a move, where it looks at its file or at its directory
   move_node : (x : MoveTo) (s : MoveStep) → MoveStepFits s → NodeHasCause c w (Moves (at_move x s))
-  move_node x LoadsFileToMove fits hook refusal e is =
-      (x.file, refl, file_tells (w.words.node x.file) refusal
-      (look_refused Moves _ _ (file_in (w.words.node x.file)) refusal e))
-  move_node x (LoadsTarget file) fits hook refusal e is =
-      (x.dir, refl, directory_tells (w.words.node x.dir) refusal
-      (look_refused Moves _ _ (directory_in (w.words.node x.dir)) refusal e))
+  move_node x LoadsFileToMove fits hook refusal e is = (
+    x.file,
+    refl,
+    file_tells (w.words.node x.file) refusal
+        (look_refused Moves _ _ (file_in (w.words.node x.file)) refusal e),
+  )
+  move_node x (LoadsTarget file) fits hook refusal e is = (
+    x.dir,
+    refl,
+    directory_tells (w.words.node x.dir) refusal
+        (look_refused Moves _ _ (directory_in (w.words.node x.dir)) refusal e),
+  )
   move_node x (ChargesTarget file) fits hook refusal e is =
       not_of_node Moves (move_after (at_move x (ChargesTarget file)) (ChargesTarget file) (w.words.kids x.dir)).0 tt refusal e is
   move_node x (MovesFile file) fits hook refusal e is =
@@ -276,9 +291,12 @@ module _ (c : Config) (w : World) where
 
   -- a page fault or a write-back, where it looks at its file
   mark_node : (x : Mark) (s : MarkStep) → NodeHasCause c w (TreeMarks (at_mark x s))
-  mark_node x LoadsFileToMark hook refusal e is =
-      (x.file, refl, file_tells (w.words.node x.file) refusal
-      (look_refused TreeMarks _ _ (file_in (w.words.node x.file)) refusal e))
+  mark_node x LoadsFileToMark hook refusal e is = (
+    x.file,
+    refl,
+    file_tells (w.words.node x.file) refusal
+        (look_refused TreeMarks _ _ (file_in (w.words.node x.file)) refusal e),
+  )
   mark_node x (MarksFile file) hook refusal e is =
       not_of_node TreeMarks (mark_after (at_mark x (MarksFile file)) (MarksFile file) (w.words.node x.file)).0
       (either (w.words.node x.file == word_of file) _ _ tt refl) refusal e is

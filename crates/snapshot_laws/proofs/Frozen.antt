@@ -7,7 +7,12 @@ use Rattle.gated_tree.specs.declared.marks.Mark.{Mark}
 use Rattle.gated_tree.specs.declared.marks.MarkStep.{MarkStep}
 use Rattle.gated_tree.specs.declared.marks.MarkStep.TheVariants.{LoadsFile as LoadsFileToMark, MarksFile}
 use Rattle.gated_tree.specs.declared.phases.TreePhase.TheVariants.{
-  Snapshot as Snapshots, Create as Creates, Remove as Removes, Grow as Grows, MoveTo as Moves, Mark as TreeMarks,
+  Snapshot as Snapshots,
+  Create as Creates,
+  Remove as Removes,
+  Grow as Grows,
+  MoveTo as Moves,
+  Mark as TreeMarks,
   ClearMarks as TreeClears,
 }
 use Rattle.gated_tree.specs.declared.snapshots.SnapshotStep.{SnapshotStep}

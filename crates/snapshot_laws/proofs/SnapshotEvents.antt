@@ -43,19 +43,52 @@ use Rattle.gate_world.specs.Levels.{level_added_after, level_taken_after, level_
 use Rattle.gate_world.specs.Operations.{holds_none}
 use Rattle.gate_world.specs.Owners.{is_owned, takes_lock}
 use Rattle.gate_world.specs.Rules.{
-  Part, Owner, Stages, Fitting, Known, Tree, AtMount, AtLevel, SyncAt, Sections, Holds, IsGood, Moves, StepKeeps, ViewFits, owns,
-  remounts, role_of, marks_of,
+  Part,
+  Owner,
+  Stages,
+  Fitting,
+  Known,
+  Tree,
+  AtMount,
+  AtLevel,
+  SyncAt,
+  Sections,
+  Holds,
+  IsGood,
+  Moves,
+  StepKeeps,
+  ViewFits,
+  owns,
+  remounts,
+  role_of,
+  marks_of,
 }
 use Rattle.gate_world.specs.Shown.{shown, closing, stage_roles}
 use Rattle.gate_world.specs.Snapshots.{values_noted}
 use Rattle.gate_world.specs.Stages.{stage_role_of, snapshot_stage_role}
 use Rattle.gate_world.specs.Trees.{tree_bounds, tree_roles, tree_role_of, is_sealed}
 use Rattle.gate_world.specs.Views.{
-  held_at, holds_level, actions_after, added_after, taken_after, added_by, taken_by, phase_after, view_with,
+  held_at,
+  holds_level,
+  actions_after,
+  added_after,
+  taken_after,
+  added_by,
+  taken_by,
+  phase_after,
+  view_with,
 }
 use Rattle.gate_world.specs.Worlds.{World, after_step}
 use Rattle.gate_frames.proofs.Frames.{
-  left_alone, view_as, shown_still, IsOffLevels, SameLevelWords, SameLevelCounts, level_left, sync_left, sections_left,
+  left_alone,
+  view_as,
+  shown_still,
+  IsOffLevels,
+  SameLevelWords,
+  SameLevelCounts,
+  level_left,
+  sync_left,
+  sections_left,
 }
 use Rattle.gate_frames.proofs.Keeps.{by_bool}
 use Rattle.gate_frames.proofs.Known.{IsOwnersWork, known_after}

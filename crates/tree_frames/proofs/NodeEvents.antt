@@ -134,12 +134,10 @@ module _ (c : Config) (within : IsWithin c) (w : World) (good : IsGood c w) (t :
   -- each part of the rule
   each_part : (part : Part) → Holds c (after_step w t (Trees x) hook) part
   each_part Owner =
-      left_alone c w t lt Owner (call_words c w good t lt x hook e) (call_view c w good t lt x hook e)
-      (
+      left_alone c w t lt Owner (call_words c w good t lt x hook e) (call_view c w good t lt x hook e) (
         umount_same w.words (next x hook).0 (left (next x hook).1 (read w.words (next x hook).0)) (node_word x hook other),
         beside.remount_same,
-      )
-      (
+      ) (
         now_plain.owns_none ∙ sym was_plain.owns_none,
         (next_off (call_next c w good t lt x hook e)).remounts_none ∙ sym (subst (λ p. remounts p ≡ 0) (sym e) refl),
       )

@@ -293,17 +293,17 @@ record CountsNowhere (x : WordName × Touch) : Type 0 where
 counts_nowhere : (x : WordName × Touch) → IsCallTouch x → CountsNowhere x
 counts_nowhere x touches = elim touches [
   | inl h ↦ record {
-      added = λ a. added_loaded x.0 x.1 a h;
-      taken = λ a. taken_loaded x.0 x.1 a h;
-      level_added = λ a. level_added_load x.0 x.1 a h;
-      level_taken = λ a. level_taken_load x.0 x.1 a h;
-    }
+    added = λ a. added_loaded x.0 x.1 a h;
+    taken = λ a. taken_loaded x.0 x.1 a h;
+    level_added = λ a. level_added_load x.0 x.1 a h;
+    level_taken = λ a. level_taken_load x.0 x.1 a h;
+  }
   | inr h ↦ record {
-      added = λ a. added_call x.0 x.1 a h;
-      taken = λ a. taken_call x.0 x.1 a h;
-      level_added = λ a. level_added_call x.0 x.1 a h;
-      level_taken = λ a. level_taken_call x.0 x.1 a h;
-    }
+    added = λ a. added_call x.0 x.1 a h;
+    taken = λ a. taken_call x.0 x.1 a h;
+    level_added = λ a. level_added_call x.0 x.1 a h;
+    level_taken = λ a. level_taken_call x.0 x.1 a h;
+  }
 ]
 
 -- an action, if there is one, leaves its task's accesses
@@ -602,12 +602,11 @@ module _ (c : Config) (w : World) (good : IsGood c w) (t : ℕ) (lt : t < c.task
       each_phase (tree_bounds c) (tree_within c within) (is_sealed w.words) w.words (tree_roles w) (good Tree) t lt x
       (values_noted (nodes_noted x) (w.views t).trace) noted hook (ap (tree_role_of (w.views t).trace) e) (call_fits c w good t lt x e).0
       (may_step c w good t lt x e) notes in
-      let now_roles : ℕ → Role = update (tree_roles w) t (tree_role_of call_view.trace call_view.phase) in
-      (
+      let now_roles : ℕ → Role = update (tree_roles w) t (tree_role_of call_view.trace call_view.phase) in (
         tree_holds c w good t lt call_words call_view
-        (subst (λ s. TreeHolds (tree_bounds c) (tree_in s call_words now_roles))
-        (sym (sealed_beside w.words call_words (call_beside w.words x hook)))
-        (subst (λ r. TreeHolds (tree_bounds c) (tree_in (is_sealed w.words) call_words (update (tree_roles w) t r))) role kept.0)),
+            (subst (λ s. TreeHolds (tree_bounds c) (tree_in s call_words now_roles))
+            (sym (sealed_beside w.words call_words (call_beside w.words x hook)))
+            (subst (λ r. TreeHolds (tree_bounds c) (tree_in (is_sealed w.words) call_words (update (tree_roles w) t r))) role kept.0)),
         kept.1,
       )
 

@@ -57,7 +57,6 @@ looked Holds again to (Some (Err refusal)) h goes refused = refused refusal
 -- besides, and after how many events it is there at most; how many events it has at most where it doesn't wait; its operation.
 module _ (P S : Type 0) (to : P → TreePhase) (at : S → P) (Knows : ((Event → Bool) → Type 0) → P → Type 0) (so_far : P → List Action)
     (Is : List Traced → S → Type 0) (done : S → ℕ) (most : ℕ) (waits : Bool) (c : Config) (op : Op) where
-
   -- what the trace of a call says at a step
   abbrev pub CallSays : List Traced → S → List Action → Type 0
   CallSays trace s added =
@@ -84,7 +83,6 @@ module _ (P S : Type 0) (to : P → TreePhase) (at : S → P) (Knows : ((Event �
   module _ (IsOne : Reply → Type 0) (Honest : GateError → Type 0) (adds : Result Reply GateError → List Action) (e : Traced)
       (earlier : List Traced) (answers : Answers IsOne Honest adds (e ∷ earlier)) (n : ℕ)
       (within : waits ≡ false → length earlier ≤ n) where
-
     -- what is known and what comes say what the trace says after an event
     next_says : (next : Next P) (added : List Action) → EndsWell (Knows (SeenIn (e ∷ earlier))) so_far IsOne Honest adds next added →
         Stays (e ∷ earlier) n next → Says CallAt c op (e ∷ earlier) (map_next Trees (map_next to next)) added

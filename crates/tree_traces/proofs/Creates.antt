@@ -147,13 +147,13 @@ module _ (c : Config) (d : ℕ) (kind : Kind) where
         subst (λ (p : Phase). MayHold (next_of p hook).0 value → SaysAfter CreateAt c (CreateOp d kind) p value hook earlier added)
         (sym here.1)
         (λ holds.
-          call_says Create CreateStep Creates create_of Knows so_far (IsThere c) (events_before c) (c.nodes + 3) false c (CreateOp d kind)
-          IsNodeReply (CreateHonest (SeenIn (e ∷ earlier)) (create_of s)) (create_adds (create_of s)) e earlier
-          (create_answers s (e ∷ earlier)) (events_before c s) here.2.3
-          (create_after (create_of s) s (found_by (create_next (create_of s) s).1 value)).0
-          (create_after (create_of s) s (found_by (create_next (create_of s) s).1 value)).1 [] added here.2.2
-          (create_ends (SeenIn earlier) (SeenIn (e ∷ earlier)) (create_of s) s value here.2.1 (sees e earlier))
-          (create_goes lim earlier s value here.2.0 (e ∷ earlier) holds))
+        call_says Create CreateStep Creates create_of Knows so_far (IsThere c) (events_before c) (c.nodes + 3) false c (CreateOp d kind)
+        IsNodeReply (CreateHonest (SeenIn (e ∷ earlier)) (create_of s)) (create_adds (create_of s)) e earlier
+        (create_answers s (e ∷ earlier)) (events_before c s) here.2.3
+        (create_after (create_of s) s (found_by (create_next (create_of s) s).1 value)).0
+        (create_after (create_of s) s (found_by (create_next (create_of s) s).1 value)).1 [] added here.2.2
+        (create_ends (SeenIn earlier) (SeenIn (e ∷ earlier)) (create_of s) s value here.2.1 (sees e earlier))
+        (create_goes lim earlier s value here.2.0 (e ∷ earlier) holds))
         may;
     short = λ trace phase added here. create_within here.0 trace here.2.0 (here.2.3 refl);
   }

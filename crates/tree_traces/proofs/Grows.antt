@@ -136,13 +136,13 @@ module _ (c : Config) (file blocks : ℕ) where
         subst (λ (p : Phase). MayHold (next_of p hook).0 value → SaysAfter GrowAt c (GrowOp file blocks) p value hook earlier added)
         (sym here.1)
         (λ holds.
-          call_says Grow GrowStep Grows grow_of Knows so_far IsThere events_before 5 false c (GrowOp file blocks)
-          (IsReply UnitReply) (GrowHonest (SeenIn (e ∷ earlier)) (grow_of s)) (where_done (GrowAction file blocks)) e earlier
-          (grow_answers s (e ∷ earlier)) (events_before s) here.2.3
-          (grow_after (grow_of s) s (found_by (grow_next (grow_of s) s).1 value)).0
-          (grow_after (grow_of s) s (found_by (grow_next (grow_of s) s).1 value)).1 ([]) added here.2.2
-          (grow_ends (SeenIn earlier) (SeenIn (e ∷ earlier)) (grow_of s) s value here.2.1 (sees e earlier))
-          (grow_goes s value (e ∷ earlier) holds))
+        call_says Grow GrowStep Grows grow_of Knows so_far IsThere events_before 5 false c (GrowOp file blocks)
+        (IsReply UnitReply) (GrowHonest (SeenIn (e ∷ earlier)) (grow_of s)) (where_done (GrowAction file blocks)) e earlier
+        (grow_answers s (e ∷ earlier)) (events_before s) here.2.3
+        (grow_after (grow_of s) s (found_by (grow_next (grow_of s) s).1 value)).0
+        (grow_after (grow_of s) s (found_by (grow_next (grow_of s) s).1 value)).1 ([]) added here.2.2
+        (grow_ends (SeenIn earlier) (SeenIn (e ∷ earlier)) (grow_of s) s value here.2.1 (sees e earlier))
+        (grow_goes s value (e ∷ earlier) holds))
         may;
     short = λ trace phase added here. grow_within here.0 trace (here.2.3 refl);
   }

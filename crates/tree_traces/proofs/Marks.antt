@@ -139,13 +139,13 @@ module _ (c : Config) (file : ℕ) (dirty : Bool) where
         subst (λ (p : Phase). MayHold (next_of p hook).0 value → SaysAfter MarkAt c (mark_op file dirty) p value hook earlier added)
         (sym here.1)
         (λ holds.
-          call_says Mark MarkStep TreeMarks mark_of Knows so_far IsThere events_before 2 false c (mark_op file dirty)
-          (IsReply UnitReply) (FileHonest (SeenIn (e ∷ earlier)) file) (where_done (mark_done dirty file)) e earlier
-          (mark_answers (e ∷ earlier)) (events_before s) here.2.3
-          (mark_after (mark_of s) s (found_by (mark_next (mark_of s) s).1 value)).0
-          (mark_after (mark_of s) s (found_by (mark_next (mark_of s) s).1 value)).1 ([]) added here.2.2
-          (mark_ends (SeenIn earlier) (SeenIn (e ∷ earlier)) (mark_of s) s value (sees e earlier))
-          (mark_goes s value (e ∷ earlier) holds))
+        call_says Mark MarkStep TreeMarks mark_of Knows so_far IsThere events_before 2 false c (mark_op file dirty)
+        (IsReply UnitReply) (FileHonest (SeenIn (e ∷ earlier)) file) (where_done (mark_done dirty file)) e earlier
+        (mark_answers (e ∷ earlier)) (events_before s) here.2.3
+        (mark_after (mark_of s) s (found_by (mark_next (mark_of s) s).1 value)).0
+        (mark_after (mark_of s) s (found_by (mark_next (mark_of s) s).1 value)).1 ([]) added here.2.2
+        (mark_ends (SeenIn earlier) (SeenIn (e ∷ earlier)) (mark_of s) s value (sees e earlier))
+        (mark_goes s value (e ∷ earlier) holds))
         may;
     short = λ trace phase added here. mark_short c file dirty trace (mark_within here.0 trace (here.2.3 refl));
   }

@@ -130,13 +130,13 @@ module _ (c : Config) (file dir : ℕ) where
         subst (λ (p : Phase). MayHold (next_of p hook).0 value → SaysAfter MoveAt c (MoveToOp file dir) p value hook earlier added)
         (sym here.1)
         (λ holds.
-          call_says MoveTo MoveStep Moves move_of Knows so_far IsThere events_before 5 false c (MoveToOp file dir)
-          (IsReply UnitReply) (MoveHonest (SeenIn (e ∷ earlier)) (move_of s)) (where_done (MoveToAction file dir)) e earlier
-          (move_answers s (e ∷ earlier)) (events_before s) here.2.3
-          (move_after (move_of s) s (found_by (move_next (move_of s) s).1 value)).0
-          (move_after (move_of s) s (found_by (move_next (move_of s) s).1 value)).1 (move_added (move_of s) s) added here.2.2
-          (move_ends (SeenIn earlier) (SeenIn (e ∷ earlier)) (move_of s) s value here.2.1 (sees e earlier))
-          (move_goes s value (e ∷ earlier) holds))
+        call_says MoveTo MoveStep Moves move_of Knows so_far IsThere events_before 5 false c (MoveToOp file dir)
+        (IsReply UnitReply) (MoveHonest (SeenIn (e ∷ earlier)) (move_of s)) (where_done (MoveToAction file dir)) e earlier
+        (move_answers s (e ∷ earlier)) (events_before s) here.2.3
+        (move_after (move_of s) s (found_by (move_next (move_of s) s).1 value)).0
+        (move_after (move_of s) s (found_by (move_next (move_of s) s).1 value)).1 (move_added (move_of s) s) added here.2.2
+        (move_ends (SeenIn earlier) (SeenIn (e ∷ earlier)) (move_of s) s value here.2.1 (sees e earlier))
+        (move_goes s value (e ∷ earlier) holds))
         may;
     short = λ trace phase added here. move_within here.0 trace (here.2.3 refl);
   }

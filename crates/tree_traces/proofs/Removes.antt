@@ -114,13 +114,13 @@ module _ (c : Config) (file : ℕ) where
         subst (λ (p : Phase). MayHold (next_of p hook).0 value → SaysAfter RemoveAt c (RemoveOp file) p value hook earlier added)
         (sym here.1)
         (λ holds.
-          call_says Remove RemoveStep Removes remove_of Knows so_far IsThere events_before 4 false c (RemoveOp file)
-          (IsReply UnitReply) (FileHonest (SeenIn (e ∷ earlier)) file) (where_done (RemoveAction file)) e earlier
-          (remove_answers (e ∷ earlier)) (events_before s) here.2.3
-          (remove_after (remove_of s) s (found_by (remove_next (remove_of s) s).1 value)).0
-          (remove_after (remove_of s) s (found_by (remove_next (remove_of s) s).1 value)).1 (remove_added (remove_of s) s) added here.2.2
-          (remove_ends (SeenIn earlier) (SeenIn (e ∷ earlier)) (remove_of s) s value (sees e earlier))
-          (remove_goes s value (e ∷ earlier) holds))
+        call_says Remove RemoveStep Removes remove_of Knows so_far IsThere events_before 4 false c (RemoveOp file)
+        (IsReply UnitReply) (FileHonest (SeenIn (e ∷ earlier)) file) (where_done (RemoveAction file)) e earlier
+        (remove_answers (e ∷ earlier)) (events_before s) here.2.3
+        (remove_after (remove_of s) s (found_by (remove_next (remove_of s) s).1 value)).0
+        (remove_after (remove_of s) s (found_by (remove_next (remove_of s) s).1 value)).1 (remove_added (remove_of s) s) added here.2.2
+        (remove_ends (SeenIn earlier) (SeenIn (e ∷ earlier)) (remove_of s) s value (sees e earlier))
+        (remove_goes s value (e ∷ earlier) holds))
         may;
     short = λ trace phase added here. remove_within here.0 trace (here.2.3 refl);
   }

@@ -163,13 +163,13 @@ module _ (c : Config) (t : ℕ) (wait : Bool) where
         subst (λ (p : Phase). MayHold (next_of p hook).0 value → SaysAfter SnapshotAt c (SnapshotOp wait) p value hook earlier added)
         (sym here.1)
         (λ holds.
-          call_says Snapshot SnapshotStep Snapshots snapshot_of Knows so_far (IsThere c) (events_before c) (2 * c.nodes + 4) wait c
-          (SnapshotOp wait) (IsReply TreeReply) (SnapshotHonest (SeenIn (e ∷ earlier)) (snapshot_of s)) (λ answer. []) e earlier
-          (snapshot_answers s (e ∷ earlier)) (events_before c s) here.2.3
-          (snapshot_after (snapshot_of s) s (found_by (snapshot_next (snapshot_of s) s).1 value)).0
-          (snapshot_after (snapshot_of s) s (found_by (snapshot_next (snapshot_of s) s).1 value)).1 [] added here.2.2
-          (snapshot_ends (SeenIn earlier) (SeenIn (e ∷ earlier)) (snapshot_of s) s value here.2.1 (sees e earlier))
-          (snapshot_goes lim earlier s value hook here.2.0 holds))
+        call_says Snapshot SnapshotStep Snapshots snapshot_of Knows so_far (IsThere c) (events_before c) (2 * c.nodes + 4) wait c
+        (SnapshotOp wait) (IsReply TreeReply) (SnapshotHonest (SeenIn (e ∷ earlier)) (snapshot_of s)) (λ answer. []) e earlier
+        (snapshot_answers s (e ∷ earlier)) (events_before c s) here.2.3
+        (snapshot_after (snapshot_of s) s (found_by (snapshot_next (snapshot_of s) s).1 value)).0
+        (snapshot_after (snapshot_of s) s (found_by (snapshot_next (snapshot_of s) s).1 value)).1 [] added here.2.2
+        (snapshot_ends (SeenIn earlier) (SeenIn (e ∷ earlier)) (snapshot_of s) s value here.2.1 (sees e earlier))
+        (snapshot_goes lim earlier s value hook here.2.0 holds))
         may;
     short = λ trace phase added here. most_short c wait trace (λ q. snapshot_within here.0 trace here.2.0 (here.2.3 q));
   }
