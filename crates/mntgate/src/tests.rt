@@ -255,7 +255,7 @@ static PRINTED: [(&str, &str); 10] = [
 ];
 
 /// Each schedule with the fault at which it ends.
-static FAULTS: [(&str, &str); 43] = [
+static FAULTS: [(&str, &str); 50] = [
     ("", "line 1: config expected"),
     ("config 1 1 1 2 8\n0 wa", "line 2: cut off"),
     ("config 0 1 1 2 8\n", "line 1: refused 22 Invalid"),
