@@ -202,50 +202,22 @@ fn both_write<R: Wait + Threads + Sync>(
     thread::join(rt, || write(one, rt, gates, 0), || write(two, rt, gates, 1))
 }
 
-/// Four writers.
-fn four_write<R: Wait + Threads + Sync>(
-    one: Task,
-    two: Task,
-    three: Task,
-    four: Task,
-    rt: &R,
-    gates: &Gates,
-) -> (((Task, u16), (Task, u16)), ((Task, u16), (Task, u16)))
-    requires one { IsFrom one gates.now }
-    requires two { IsFrom two gates.now }
-    requires three { IsFrom three gates.now }
-    requires four { IsFrom four gates.now }
-    ensures one { IsFrom result.0.0.0 gates.now }
-    ensures two { IsFrom result.0.1.0 gates.now }
-    ensures three { IsFrom result.1.0.0 gates.now }
-    ensures four { IsFrom result.1.1.0 gates.now }
-{
-    thread::join(
-        rt,
-        || both_write(one, two, rt, gates),
-        || both_write(three, four, rt, gates),
-    )
-}
-
-/// Two writers and the one that takes snapshots.
-fn two_write_beside_backup<R: Wait + Threads + Sync>(
+/// The one that takes snapshots, and a writer, each on a thread.
+fn back_up_beside<R: Wait + Threads + Sync>(
     task: Task,
-    five: Task,
-    six: Task,
+    three: Task,
     rt: &R,
     gates: &Gates,
-) -> ((Task, u16), ((Task, u16), (Task, u16)))
+) -> ((Task, u16), (Task, u16))
     requires task { IsFrom task gates.now }
-    requires five { IsFrom five gates.now }
-    requires six { IsFrom six gates.now }
+    requires three { IsFrom three gates.now }
     ensures task { IsFrom result.0.0 gates.now }
-    ensures five { IsFrom result.1.0.0 gates.now }
-    ensures six { IsFrom result.1.1.0 gates.now }
+    ensures three { IsFrom result.1.0 gates.now }
 {
     thread::join(
         rt,
         || back_up(task, rt, gates),
-        || both_write(five, six, rt, gates),
+        || write(three, rt, gates, 0),
     )
 }
 
@@ -254,33 +226,25 @@ fn snapshots_beside_writers_are_whole(rt: HostRuntime) -> Result<(), Fail> {
     let config = Config {
         nodes: NODES,
         capacity: 20,
-        ..small(7)
+        ..small(4)
     };
     let (gates, mut task) = Gates::new(rt.alloc(), config)?;
     let one = task.split(rt.alloc(), &gates)?;
     let two = task.split(rt.alloc(), &gates)?;
     let three = task.split(rt.alloc(), &gates)?;
-    let four = task.split(rt.alloc(), &gates)?;
-    let five = task.split(rt.alloc(), &gates)?;
-    let six = task.split(rt.alloc(), &gates)?;
     assert_eq!(rt; task.want_write(&rt, &gates, 0, 0), Ok(()));
     assert_eq!(rt; task.create(&gates, 0, Kind::Dir), Ok(1));
     assert_eq!(rt; task.drop_write(&gates, 0, 0), Ok(()));
-    let (((mut task, taken), ((five, fifth), (six, sixth))), others) = thread::join(
+    let (((mut task, taken), (three, third)), ((one, first), (two, second))) = thread::join(
         &rt,
-        || two_write_beside_backup(task, five, six, &rt, &gates),
-        || four_write(one, two, three, four, &rt, &gates),
+        || back_up_beside(task, three, &rt, &gates),
+        || both_write(one, two, &rt, &gates),
     );
-    let (((one, first), (two, second)), ((three, third), (four, fourth))) = others;
     assert_eq!(rt; taken, FREEZES);
-    let done = [first, second, third, fourth, fifth, sixth];
-    assert_eq!(rt; done, [ROUNDS; 6]);
+    assert_eq!(rt; [first, second, third], [ROUNDS; 3]);
     assert!(rt; task.join(&gates, one).is_ok());
     assert!(rt; task.join(&gates, two).is_ok());
     assert!(rt; task.join(&gates, three).is_ok());
-    assert!(rt; task.join(&gates, four).is_ok());
-    assert!(rt; task.join(&gates, five).is_ok());
-    assert!(rt; task.join(&gates, six).is_ok());
     let Ok(closed) = gates.close(task) else {
         panic!(rt; "not closed")
     };
