@@ -1,6 +1,8 @@
 //! What `gate_bench` is compared with: the same pairs by hand, over padded atomics with sequentially consistent steps, and with no
 //! proof. A pair is a want and a drop of a mount, a start and an end of level 1, or a taking and a return of write access, which is
-//! both. Each thread is a task of its own, at a processor of its own. Freezes and thaws are one task's, among so many tasks and processors.
+//! both. Each thread is a task of its own, at a processor of its own. Freezes and thaws are one task's, among so many tasks and processors. A
+//! round is what a writer does in a run (`mntgate run`): it takes write access, makes its file larger by one block, and gives the access
+//! back on another processor, while one more thread makes the mount read-only and writable again.
 //!
 //!     rustc -O -o /tmp/by-hand bench/by-hand.rs && /tmp/by-hand
 
@@ -33,10 +35,23 @@ const PAIRS: u32 = 20_000_000;
 /// Freezes and thaws in one measurement.
 const FREEZES: u32 = 200_000;
 
+/// Rounds of each writer in one run, and runs in one measurement.
+const ROUNDS: u32 = 10_000;
+const RUNS: u32 = 50;
+
+/// A node's word: the kind in bits 0 and 1, the dirty mark, and the size from bit 32 on.
+const FILE: u64 = 1;
+const KIND: u64 = 3;
+const DIRTY: u64 = 4;
+const BLOCK: u64 = 1 << 32;
+
 #[derive(Debug)]
 enum Refusal {
     Again,
+    Busy,
     ReadOnly,
+    NoSpace,
+    NoEntry,
     TooMany,
     Order,
 }
@@ -66,6 +81,14 @@ impl Words {
 
     fn level_count(&self, level: usize, cpu: usize) -> &AtomicU64 {
         &self.0[APART * (659 + 64 * level + cpu)]
+    }
+
+    fn used(&self) -> &AtomicU64 {
+        &self.0[APART * 18]
+    }
+
+    fn node(&self, node: usize) -> &AtomicU64 {
+        &self.0[APART * (83 + node)]
     }
 
     fn is_read_only(&self, mount: usize) -> bool {
@@ -307,6 +330,126 @@ fn take_and_give(words: &Words, number: usize, pair: Pair) -> Result<(), Refusal
     Ok(())
 }
 
+/// Makes a file larger by one block, unless another was before it.
+#[inline(never)]
+fn grow(words: &Words, task: &Task, file: usize, capacity: u64) -> Result<(), Refusal> {
+    if task.mounts.iter().all(|held| *held == 0) || !task.levels[1] {
+        return Err(Refusal::Order);
+    }
+    let (node, used) = (words.node(file), words.used());
+    let found = node.load(SeqCst);
+    if found & KIND != FILE {
+        return Err(Refusal::NoEntry);
+    }
+    let charged = used.load(SeqCst);
+    if charged >= capacity {
+        return Err(Refusal::NoSpace);
+    }
+    if used.compare_exchange(charged, charged + 1, SeqCst, SeqCst).is_err() {
+        return Err(Refusal::Again);
+    }
+    if node.compare_exchange(found, (found | DIRTY) + BLOCK, SeqCst, SeqCst).is_err() {
+        used.fetch_sub(1, SeqCst);
+        return Err(Refusal::Again);
+    }
+    Ok(())
+}
+
+/// Makes a mount read-only, or writable.
+#[inline(never)]
+fn change_mount(words: &Words, number: u64, mount: usize, read_only: bool, processors: usize) -> Result<(), Refusal> {
+    lock(words, number);
+    let flags = words.flags(mount);
+    if !read_only {
+        if flags.load(SeqCst) & READONLY != 0 {
+            flags.fetch_and(!READONLY, SeqCst);
+        }
+        unlock(words);
+        return Ok(());
+    }
+    if flags.load(SeqCst) & READONLY != 0 || words.0[APART * SUPERBLOCK].load(SeqCst) != 0 {
+        unlock(words);
+        return Ok(());
+    }
+    flags.fetch_or(HOLD, SeqCst);
+    let sum = (0..processors).fold(0u64, |sum, cpu| words.count(mount, cpu).load(SeqCst).wrapping_add(sum));
+    if sum == 0 {
+        flags.fetch_or(READONLY, SeqCst);
+    }
+    flags.fetch_and(!HOLD, SeqCst);
+    unlock(words);
+    if sum == 0 { Ok(()) } else { Err(Refusal::Busy) }
+}
+
+/// Waits longer from time to time: some turns, and then the processor is left to others.
+struct Backoff(u32);
+
+impl Backoff {
+    fn snooze(&mut self) {
+        if self.0 <= 6 {
+            for _ in 0..1 << self.0 {
+                std::hint::spin_loop();
+            }
+            self.0 += 1;
+        } else {
+            thread::yield_now();
+        }
+    }
+}
+
+fn write(words: &Words, number: usize, processors: usize, capacity: u64) {
+    let mut task = Task {
+        number,
+        mounts: [0; 8],
+        levels: [false; 4],
+    };
+    let writer = number - 2;
+    for round in 0..ROUNDS as usize {
+        let mut backoff = Backoff(0);
+        while want_write(words, &mut task, 0, (writer + round) % processors).is_err() {
+            backoff.snooze();
+        }
+        while grow(words, &task, writer + 1, capacity).is_err() {}
+        drop_write(words, &mut task, 0, (writer + round + 1) % processors).expect("it is held");
+    }
+}
+
+fn remount(words: &Words, processors: usize) {
+    for _ in 0..ROUNDS {
+        let _ = change_mount(words, 1, 0, true, processors);
+        change_mount(words, 1, 0, false, processors).expect("it is never refused");
+    }
+}
+
+/// One run: a remounter, and all other tasks but the first write.
+fn run(tasks: usize) {
+    let words = Words((0..APART * 915).map(|_| AtomicU64::new(0)).collect());
+    let capacity = (tasks as u64 - 2) * u64::from(ROUNDS);
+    for file in 1..tasks - 1 {
+        words.node(file).store(FILE, SeqCst);
+    }
+    thread::scope(|scope| {
+        let words = &words;
+        scope.spawn(move || remount(words, tasks));
+        for number in 2..tasks {
+            scope.spawn(move || write(words, number, tasks, capacity));
+        }
+    });
+    assert_eq!(words.used().load(SeqCst), capacity);
+}
+
+fn measure_runs() {
+    for tasks in [4, 8, 16] {
+        let start = Instant::now();
+        for _ in 0..RUNS {
+            run(tasks);
+        }
+        let rounds = (tasks - 2) as f64 * f64::from(ROUNDS) * f64::from(RUNS);
+        let rate = rounds / start.elapsed().as_secs_f64() / 1e3;
+        println!("run by hand {tasks} tasks {rate:.0} thousand rounds a second");
+    }
+}
+
 fn main() {
     let words = Words((0..APART * 915).map(|_| AtomicU64::new(0)).collect());
     for threads in [1, 2, 4] {
@@ -341,4 +484,5 @@ fn main() {
             println!("{name} by hand {size} tasks and processors {micros:.1} microseconds");
         }
     }
+    measure_runs();
 }

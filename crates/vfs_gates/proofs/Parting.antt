@@ -191,3 +191,9 @@ first_ties c idle (suc n) flags within still some_there few set_are = subst (λ 
             (λ ge. let t = times-deal_below k 1 n (omega arith) in absurd (omega arith))),
       );
     })
+
+-- a task has a number of its own
+pub has_own : (number : ℕ) (c : Config) (begins : Option Op) (kept : Seat) (flags : List Bool) (items : SeatItems) →
+    Ties number c begins kept flags items → 1 ≤ length items
+has_own number c begins kept flags [] h = absurd h
+has_own number c begins kept flags (x ∷ xs) h = omega arith

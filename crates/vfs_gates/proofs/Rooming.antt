@@ -1,39 +1,26 @@
 -- What the room for snapshots tells of a task, as its operation begins and goes on.
-use Rattle.std.proofs.Common.{◌≡◌, ℕ, zero, suc, ◌<◌, ◌≤◌, refl, sym, ap, ◌∙◌, subst, inl, inr, arith, Bool, true≢false}
-use Rattle.std.specs.Prelude.{Option, Some, None, Result, List, [], ◌∷◌, ◌++◌, ◌==◌, ◌⊎◌, true, false, not, is_some, option_map, length}
-use Rattle.std.proofs.Common.{length-set}
-use Rattle.std.proofs.lemmas.List.{length-replicate}
-use Rattle.std.proofs.lemmas.Bool.{cases_Bool}
+use Rattle.std.proofs.Common.{◌≡◌, ℕ, zero, suc, ◌≤◌, refl, sym, ap, ◌∙◌, subst, arith, Bool, true≢false}
+use Rattle.std.specs.Prelude.{Option, Some, None, Result, List, [], ◌∷◌, ◌++◌, false, option_map, length}
 use Rattle.access_model.specs.declared.replies.Next.{Next}
 use Rattle.access_model.specs.declared.replies.Next.TheVariants.{Go, Wait, Done}
 use Rattle.access_model.specs.Replies.{map_next}
 use Rattle.cpu_words.specs.Hooks.{HookAnswer}
-use Rattle.cpu_words.specs.Touches.{event_of, found_by}
+use Rattle.cpu_words.specs.Touches.{event_of}
 use Rattle.cpu_words.specs.declared.events.Event.{Event}
-use Rattle.cpu_words.specs.declared.names.WordName.{WordName}
-use Rattle.cpu_words.specs.declared.names.WordName.TheVariants.{Umount, Stage, SbFlags, Remount, MountFlags, MountCount, Block, Sync, LevelCount, Section, Used, Node, Kids}
 use Rattle.gated_tree.specs.declared.phases.TreePhase.{TreePhase}
 use Rattle.gated_tree.specs.declared.phases.TreePhase.TheVariants.{Create as Creates, Remove as Removes, Grow as Grows, MoveTo as Moves, Mark as TreeMarks, Snapshot as Snapshots, ClearMarks as TreeClears}
-use Rattle.gated_tree.specs.declared.snapshots.Snapshot.{Snapshot}
-use Rattle.gated_tree.specs.declared.snapshots.SnapshotStep.{SnapshotStep}
-use Rattle.gated_tree.specs.declared.snapshots.SnapshotStep.TheVariants.{Locks, LoadsStage, LoadsUsed, LoadsNode, LoadsKids, Releases}
 use Rattle.gated_tree.specs.declared.trees.TreeWords.{TreeWords}
 use Rattle.percpu_rwsem.specs.Readers.{up_read_after}
-use Rattle.gated_tree.specs.Nodes.{node_after, unpacked}
-use Rattle.gated_tree.specs.Phases.{snapshot_next, snapshot_after, snapshot_locked_out, at_snapshot, kids_step}
-use Rattle.gated_tree.specs.Trees.{loads_last, loaded, unloaded, words_of}
 use Rattle.gate_world.specs.declared.config.Config.{Config}
 use Rattle.gate_world.specs.declared.operations.Op.{Op}
 use Rattle.gate_world.specs.declared.work.Phase.{Phase}
 use Rattle.gate_world.specs.declared.work.Phase.TheVariants.{Mounts, Remounts, DownReads, UpReads, Callbacks, Writes, Freezes, Thaws, Trees}
 use Rattle.gate_world.specs.declared.views.Traced.{Traced}
 use Rattle.gate_world.specs.Beginnings.{first_phase}
-use Rattle.gate_world.specs.Found.{is_load}
-use Rattle.gate_world.specs.Snapshots.{completes, last_snapshot, loads_noted, noted_last, snapshot_completes}
-use Rattle.gate_world.specs.Views.{phase_after, with_hook}
+use Rattle.gate_world.specs.Snapshots.{completes, last_snapshot}
+use Rattle.gate_world.specs.Views.{phase_after}
 use Rattle.gate_world.specs.Work.{after_of, next_of}
-use Rattle.gate_steps.specs.declared.seating.Numbered.{Numbered}
-use Rattle.gate_steps.specs.Seating.{SeatItems, deal, done_by, entered, given_of, items_after, kept_of}
+use Rattle.gate_steps.specs.Seating.{SeatItems, deal, done_by, given_of, items_after, kept_of}
 use Rattle.gate_steps.specs.Rules.{first_items}
 use Rattle.gate_core.specs.declared.seats.Seat.{Seat}
 use Rattle.gate_core.specs.declared.steps.Step.{Step}
@@ -41,12 +28,11 @@ use Rattle.atomic_table.specs.Seated.{TableId}
 use Rattle.access_model.specs.declared.actions.Action.{Action}
 use Rattle.access_model.specs.declared.errors.GateError.{GateError}
 use Rattle.access_model.specs.declared.replies.Reply.{Reply}
-use Rattle.gate_world.specs.declared.operations.Op.TheVariants.{Snapshot as SnapshotOp}
 use Rattle.gate_world.specs.declared.views.View.{View}
 use Rattle.gate_world.specs.declared.views.Snapshot.{Snapshot as Noted}
 use Rattle.gate_world.specs.Courses.{course_after, course_of}
 use Rattle.vfs_gates.specs.declared.rooms.Rooms.{Rooms}
-use Rattle.vfs_gates.specs.Room.{HasSnapshotRoom, LastTells, NextTells, CallTells, StepTells, RoomTells, is_of_snapshot, last_in, noted_in, trace_so_far}
+use Rattle.vfs_gates.specs.Room.{HasSnapshotRoom, LastTells, NextTells, RoomTells, is_of_snapshot, last_in, trace_so_far}
 use Rattle.vfs_gates.specs.TaskStates.{TaskState, own_number, own_view, task_state}
 use Rattle.vfs_gates.specs.Runs.{Called, Goes, completed_by, items_at, ran_items, ran_snapshot}
 use Rattle.vfs_gates.specs.Stepped.{Stepped}

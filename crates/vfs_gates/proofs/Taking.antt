@@ -1,5 +1,5 @@
 -- A snapshot that replied has taken one: its last load but its release is the last load of the tree.
-use Rattle.std.proofs.Common.{◌≡◌, ℕ, ◌<◌, ◌≤◌, refl, sym, ap, ◌∙◌, subst, inl, inr, arith, Bool, true≢false}
+use Rattle.std.proofs.Common.{◌≡◌, ℕ, ◌≤◌, refl, ap, ◌∙◌, subst, inl, inr, arith, Bool}
 use Rattle.std.specs.Prelude.{Option, Some, None, Result, Ok, Err, List, [], ◌∷◌, ◌++◌, ◌==◌, true, false, is_some, length}
 use Rattle.std.proofs.lemmas.Bool.{cases_Bool}
 use Rattle.access_model.specs.declared.actions.Action.{Action}
@@ -13,9 +13,11 @@ use Rattle.gated_tree.specs.declared.snapshots.Snapshot.{Snapshot}
 use Rattle.gated_tree.specs.declared.snapshots.SnapshotStep.{SnapshotStep}
 use Rattle.gated_tree.specs.declared.snapshots.SnapshotStep.TheVariants.{Locks, LoadsStage, LoadsUsed, LoadsNode, LoadsKids, Releases}
 use Rattle.gated_tree.specs.declared.trees.TreeWords.{TreeWords}
+use Rattle.gated_tree.specs.Trees.{LoadedClean, LoadedSound}
 use Rattle.gated_tree.specs.Nodes.{node_after, unpacked}
 use Rattle.gated_tree.specs.Phases.{snapshot_after, snapshot_locked_out, node_step, kids_step, at_snapshot}
 use Rattle.gate_world.specs.declared.config.Config.{Config}
+use Rattle.gate_world.specs.declared.operations.Op.{Op}
 use Rattle.gate_world.specs.declared.operations.Op.TheVariants.{Snapshot as SnapshotOp}
 use Rattle.gate_world.specs.declared.work.Phase.{Phase}
 use Rattle.gate_world.specs.declared.work.Phase.TheVariants.{Trees}
@@ -26,8 +28,8 @@ use Rattle.gate_world.specs.Views.{actions_after}
 use Rattle.gate_world.specs.Courses.{course_of, course_after, IsNext, IsTrace}
 use Rattle.gate_world.specs.Snapshots.{last_snapshot, noted_last, snapshot_completes}
 use Rattle.gate_steps.specs.Seating.{SeatItems, done_by}
-use Rattle.vfs_gates.specs.TaskStates.{TaskState, own_number, own_view, spare_of}
-use Rattle.vfs_gates.specs.Runs.{Called, completed_by, ran_items, ran_snapshot}
+use Rattle.vfs_gates.specs.TaskStates.{TaskState, own_number, own_view, refusal_at, spare_of}
+use Rattle.vfs_gates.specs.Runs.{Called, Performs, completed_by, ran_items, ran_snapshot, told_as, unit_of}
 use Rattle.vfs_gates.specs.Seen.{HasTaken}
 use Rattle.vfs_gates.proofs.Seeing.{call_saw, same_own}
 
@@ -160,3 +162,36 @@ has_taken wait old left reply some_there called =
       others = refl;
       moment = call_saw (SnapshotOp wait) old left (Ok reply) called noted some_there shows;
     }
+
+-- the last snapshot of a task is sound and clean
+abbrev pub HasWhole : TaskState → Type 0
+HasWhole left = (s : Noted) × ((own_view left.items).snapshot ≡ Some s) × LoadedSound s.loaded × LoadedClean s.loaded
+
+-- what has run has the numbers that it had
+some_before : (c : Config) (op : Op) (trace : List Traced) (items : SeatItems) → 1 ≤ length (ran_items c op trace items) → 1 ≤ length items
+some_before c op trace [] h = h
+some_before c op trace (x ∷ xs) h = omega arith
+
+-- a call of a snapshot that was done has replied, so it has taken one
+answered_whole : (wait : Bool) (old left : TaskState) → 1 ≤ length left.items → (answer : Result Reply GateError) →
+    ◌≡◌ {A = Result (Unit {0}) GateError} (Ok tt) (told_as unit_of answer) → Called (SnapshotOp wait) old left answer → HasWhole left
+answered_whole wait old left some_left (Ok reply) e called =
+    let some_ran : 1 ≤ length (ran_items old.config (SnapshotOp wait) called.trace old.items) =
+    subst (λ (s : TaskState). 1 ≤ length s.items) called.after some_left in
+    let some_there = some_before old.config (SnapshotOp wait) called.trace old.items some_ran in
+    let taken = has_taken wait old left reply some_there called in
+    (taken.seen, taken.shows, taken.moment.moment.sound, taken.moment.moment.clean)
+answered_whole wait old left some_left (Err refusal) e called = absurd cc
+
+-- and it was not refused at its beginning
+begun_whole : (wait : Bool) (old left : TaskState) → 1 ≤ length left.items → Performs (SnapshotOp wait) old left (Ok tt) →
+    (r : Option GateError) → refusal_at (SnapshotOp wait) old ≡ r → HasWhole left
+begun_whole wait old left some_left did None e =
+    let done = did.done e in answered_whole wait old left some_left done.0 done.1 done.2
+begun_whole wait old left some_left did (Some refusal) e =
+    let is : ◌≡◌ {A = Result (Unit {0}) GateError} (Ok tt) (Err refusal) = (did.refused refusal e).0 in absurd cc
+
+-- so a call of a snapshot that was done has taken one that is sound and clean
+pub took_whole : (wait : Bool) (old left : TaskState) → 1 ≤ length left.items → Performs (SnapshotOp wait) old left (Ok tt) →
+    HasWhole left
+took_whole wait old left some_left did = begun_whole wait old left some_left did (refusal_at (SnapshotOp wait) old) refl

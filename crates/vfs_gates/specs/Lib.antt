@@ -8,3 +8,4 @@ pub mod Sums
 pub mod Ended
 pub mod Seen
 pub mod Runs
+pub mod Plans

@@ -14,7 +14,6 @@ use Rattle.gate_core.specs.declared.steps.Step.{Step}
 use Rattle.gate_core.specs.Answers.{progress_of}
 use Rattle.gate_steps.specs.Seating.{SeatItems}
 use Rattle.vfs_gates.specs.Ties.{Ties}
-use Rattle.percpu_rwsem.specs.declared.readers.DownRead.{DownRead}
 use Rattle.percpu_rwsem.specs.declared.readers.DownReadStep.{DownReadStep}
 use Rattle.write_access.specs.declared.phases.WritePhase.{WritePhase}
 use Rattle.write_access.specs.declared.phases.WritePhase.TheVariants.{Takes}

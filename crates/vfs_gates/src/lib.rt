@@ -10,6 +10,7 @@ mod lines;
 mod numbers;
 mod parts;
 mod rooms;
+mod runs;
 mod task;
 #[cfg(test)]
 mod tests;
@@ -19,4 +20,5 @@ mod waits;
 
 pub use closed::Closed;
 pub use gates::Gates;
+pub use runs::{Meeting, Totals, run_with};
 pub use task::Task;

@@ -1,6 +1,6 @@
 //! A task: the right to do the events of one number.
 
-ghost use Rattle.std.specs.Prelude.{◌≡◌, ◌≤◌, ◌<◌, ◌↔◌, IsTrue, Some, None, OnOk, OnErr, option_map, [], false};
+ghost use Rattle.std.specs.Prelude.{◌≡◌, ◌≤◌, ◌<◌, ◌↔◌, IsTrue, Some, None, OnOk, OnErr, option_map, [], false, length};
 ghost use Rattle.gate_world.specs.Configs.{IsWithin};
 ghost use Rattle.gate_world.specs.declared.work.Phase.{Phase as PhaseType};
 ghost use Rattle.vfs_gates.specs.TaskStates.{IsNothing};
@@ -85,9 +85,10 @@ impl Task {
         }
     }
 
-    /// The task's own number.
+    /// The task's own number. It always has one.
     pub fn number(&self) -> u8
-        ensures { result ≡ own_number self.now.items }
+        ensures own { result ≡ own_number self.now.items }
+        ensures there { 1 ≤ length self.now.items }
     {
         self.number
     }
@@ -122,7 +123,8 @@ impl Task {
     /// The last snapshot that the task has taken; None before its first. What it shows is the tree of one moment at which all was frozen,
     /// sound and clean.
     pub fn tree(&self) -> Option<&Tree>
-        ensures { option_map (λ tree. words_of tree.now) result ≡ option_map (λ (s : Snapshot). s.loaded) (own_view self.now.items).snapshot }
+        ensures last { option_map (λ tree. words_of tree.now) result ≡ option_map (λ (s : Snapshot). s.loaded) (own_view self.now.items).snapshot }
+        ensures there { 1 ≤ length self.now.items }
     {
         self.rooms.last()
     }

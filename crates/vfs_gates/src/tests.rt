@@ -6,6 +6,7 @@ mod freezes;
 mod hooks;
 mod levels;
 mod remounts;
+mod runs;
 mod trees;
 mod worked;
 

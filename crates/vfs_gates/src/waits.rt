@@ -19,11 +19,13 @@ use percpu_rwsem::{DownRead, DownReadStep};
 use std::sync::Wait;
 use write_access::WritePhase;
 
-/// Waits a little after an event that found what the operation waits for, and longer from time to time.
+/// Waits a little after an event that found what the operation waits for, and the longer the more often it did: soon the processor is
+/// left to others each time, since who is waited for may need it. A wait may take several events before it looks again, so none of
+/// these makes the pauses short again.
 fn pause(backoff: &Backoff, progress: Progress) {
     match progress {
         Progress::Waiting => backoff.snooze(),
-        Progress::Idle | Progress::Going | Progress::Done(_) => backoff.reset(),
+        Progress::Idle | Progress::Going | Progress::Done(_) => {}
     }
 }
 

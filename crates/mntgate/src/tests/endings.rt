@@ -6,7 +6,9 @@ use std::alloc::{AllocError, Global};
 use std::io;
 use std::io::ErrorKind;
 use std::process::Abort;
+use std::sync::Wait;
 use std::test::Fail;
+use std::thread::Threads;
 
 /// The words of a command line.
 fn words_of(alloc: Global, line: &str) -> Result<Vec<String>, AllocError> {
@@ -18,27 +20,76 @@ fn words_of(alloc: Global, line: &str) -> Result<Vec<String>, AllocError> {
 }
 
 /// That a command line over a schedule ends with this status, and that what it tells begins with this text; with none,
-/// where the text is empty.
-fn ends<R: Abort + Alloc<A = Global>>(
+/// where the text is empty. Gives what it printed.
+fn ends<R: Abort + Alloc<A = Global> + Threads + Wait + Sync>(
     rt: &R,
     line: &str,
     schedule: &str,
     status: u8,
     text: &str,
-) -> Result<(), Fail> {
+) -> Result<Vec<u8>, Fail> {
     let words = words_of(rt.alloc(), line)?;
     let (mut printed, mut errors) = (Vec::new(rt.alloc()), Vec::new(rt.alloc()));
     let mut reader = schedule.as_bytes();
     let ending = run(
+        rt,
         rt.alloc(),
         words.as_slice(),
         &mut reader,
         &mut printed,
         &mut errors,
+        None,
     )?;
     assert_eq!(rt; ending.status(), status);
     assert!(rt; errors.as_slice().starts_with(text.as_bytes()));
     assert_eq!(rt; errors.is_empty(), text.is_empty());
+    Ok(printed)
+}
+
+/// That a run of these numbers prints this and ends with no fault.
+fn runs<R: Abort + Alloc<A = Global> + Threads + Wait + Sync>(
+    rt: &R,
+    line: &str,
+    text: &str,
+) -> Result<(), Fail> {
+    let printed = ends(rt, line, "", 0, "")?;
+    assert_eq!(rt; printed.as_slice(), text.as_bytes());
+    Ok(())
+}
+
+#[test]
+fn a_run_prints_what_it_counted(rt: HostRuntime) -> Result<(), Fail> {
+    let counted = "grown 200\nfrozen 3\nsnapshots 3\nremounts 100\nheld 0\n";
+    for processors in ["2", "1", "64"] {
+        let line = format!(in rt.alloc();
+            "mntgate run --tasks 4 --cpus {processors} --rounds 100 --freezes 3"
+        )?;
+        runs(&rt, line.as_str(), counted)?;
+    }
+    runs(
+        &rt,
+        "mntgate run --tasks 3 --cpus 1 --rounds 1 --freezes 0",
+        "grown 1\nfrozen 0\nsnapshots 0\nremounts 1\nheld 0\n",
+    )
+}
+
+#[test]
+fn the_numbers_of_a_run_have_their_limits(rt: HostRuntime) -> Result<(), Fail> {
+    for line in [
+        "mntgate run",
+        "mntgate run --tasks 4 --cpus 2 --rounds 100",
+        "mntgate run --tasks 2 --cpus 1 --rounds 1 --freezes 0",
+        "mntgate run --tasks 65 --cpus 1 --rounds 1 --freezes 0",
+        "mntgate run --tasks 3 --cpus 0 --rounds 1 --freezes 0",
+        "mntgate run --tasks 3 --cpus 65 --rounds 1 --freezes 0",
+        "mntgate run --tasks 3 --cpus 1 --rounds 0 --freezes 0",
+        "mntgate run --tasks 3 --cpus 1 --rounds 10001 --freezes 0",
+        "mntgate run --tasks 3 --cpus 1 --rounds 1 --freezes 1001",
+        "mntgate run --tasks 3 --cpus 1 --rounds 1 --freezes none",
+    ] {
+        let printed = ends(&rt, line, "", 2, "error: ")?;
+        assert!(rt; printed.is_empty());
+    }
     Ok(())
 }
 
@@ -69,7 +120,8 @@ fn the_exit_status_says_how_it_ended(rt: HostRuntime) -> Result<(), Fail> {
         "Write gates of a mounted file system\n",
     )?;
     ends(&rt, "mntgate play", good, 2, "error: ")?;
-    ends(&rt, "mntgate replay twice", good, 2, "error: ")
+    ends(&rt, "mntgate replay twice", good, 2, "error: ")?;
+    Ok(())
 }
 
 #[test]
@@ -79,11 +131,13 @@ fn a_write_that_fails_is_told(rt: HostRuntime) -> Result<(), Fail> {
     let mut errors = Vec::new(rt.alloc());
     let mut reader = b"config 1 1 1 2 8\n0 step\n".as_slice();
     let ending = run(
+        &rt,
         rt.alloc(),
         words.as_slice(),
         &mut reader,
         &mut writer,
         &mut errors,
+        None,
     )?;
     assert_eq!(rt; ending.status(), 1);
     assert_eq!(rt; errors.as_slice(), b"line 3: write failed\n".as_slice());

@@ -1,5 +1,6 @@
 //! Calls at the tree, and snapshots of it, by calls and beside writers in threads.
 
+ghost use Rattle.std.specs.Prelude.{◌≡◌, All, IfOk};
 ghost use Rattle.vfs_gates.specs.TaskStates.{IsFrom};
 
 use super::small;
@@ -8,16 +9,20 @@ use access_model::{GateError, Kind};
 use cpu_words::WordName;
 use gate_world::Config;
 use gated_tree::{NodeWord, Tree};
+use std::alloc::Global;
 use std::sync::Wait;
 use std::test::Fail;
 use std::thread;
-use std::thread::Threads;
+use std::thread::{Promise, PromisedHandle, Scope, Threads};
 
 /// How many nodes there are where threads meet.
 const NODES: u8 = 12;
 
 /// How often the file system is frozen there.
 const FREEZES: u16 = 50;
+
+/// How many tasks write there.
+const WRITERS: u8 = 6;
 
 /// How often each writer takes write access there.
 const ROUNDS: u16 = 400;
@@ -187,37 +192,116 @@ fn back_up<R: Wait>(mut task: Task, rt: &R, gates: &Gates) -> (Task, u16)
     (task, done)
 }
 
-/// Two writers, each on a thread.
-fn both_write<R: Wait + Threads + Sync>(
-    one: Task,
-    two: Task,
-    rt: &R,
-    gates: &Gates,
-) -> ((Task, u16), (Task, u16))
-    requires one { IsFrom one gates.now }
-    requires two { IsFrom two gates.now }
-    ensures one { IsFrom result.0.0 gates.now }
-    ensures two { IsFrom result.1.0 gates.now }
-{
-    thread::join(rt, || write(one, rt, gates, 0), || write(two, rt, gates, 1))
+/// The promise of a writer's thread: its task comes back to these gates.
+#[derive(Clone, Copy)]
+struct Home<'g>(&'g Gates);
+
+impl<'g> Promise<(Task, u16)> for Home<'g> {
+    ghost kept_by = { λ home written. IsFrom written.0 home.0.now };
 }
 
-/// The one that takes snapshots, and a writer, each on a thread.
-fn back_up_beside<R: Wait + Threads + Sync>(
-    task: Task,
-    three: Task,
+/// A writer that is to be joined.
+type Writer<'g> = PromisedHandle<(Task, u16), Home<'g>>;
+
+/// Starts a writer, in a thread of its own.
+fn start_writer<'s, E, R: Wait + Sync>(
+    scope: &Scope<'s, E>,
+    rt: &'s R,
+    alloc: Global,
+    gates: &'s Gates,
+    task: &mut Task,
+    cpu: u8,
+) -> Result<Writer<'s>, GateError>
+    requires { IsFrom task.old gates.now }
+    ensures from { IsFrom task.new gates.now }
+    ensures home { IfOk result (λ w. w.promise.0.now ≡ gates.now) }
+{
+    let other = task.split(alloc, gates)?;
+    let started = scope.spawn_with(Home(gates), move || write(other, rt, gates, cpu));
+    started.map_err(|_| GateError::NoMemory)
+}
+
+/// Starts all writers.
+fn start_writers<'s, E, R: Wait + Sync>(
+    scope: &Scope<'s, E>,
+    rt: &'s R,
+    alloc: Global,
+    gates: &'s Gates,
+    task: &mut Task,
+) -> Result<Vec<Writer<'s>>, GateError>
+    requires { IsFrom task.old gates.now }
+    ensures from { IsFrom task.new gates.now }
+    ensures homes { IfOk result (λ writers. All (λ w. w.promise.0.now ≡ gates.now) writers.items) }
+{
+    let mut writers = Vec::new(alloc);
+    for writer in 0..WRITERS {
+        let writer = start_writer(scope, rt, alloc, gates, task, writer % 2)?;
+        if writers.push(writer).is_err() {
+            return Err(GateError::NoMemory);
+        }
+    }
+    Ok(writers)
+}
+
+/// Joins a writer, and says how many rounds it did.
+fn join_writer<R: Threads>(
     rt: &R,
     gates: &Gates,
-) -> ((Task, u16), (Task, u16))
-    requires task { IsFrom task gates.now }
-    requires three { IsFrom three gates.now }
-    ensures task { IsFrom result.0.0 gates.now }
-    ensures three { IsFrom result.1.0 gates.now }
+    task: &mut Task,
+    writer: Writer<'_>,
+) -> Result<u16, GateError>
+    requires from { IsFrom task.old gates.now }
+    requires home { writer.promise.0.now ≡ gates.now }
+    ensures { IsFrom task.new gates.now }
 {
-    thread::join(
+    let (other, done) = writer.join(rt);
+    match task.join(gates, other) {
+        Ok(()) => Ok(done),
+        Err((refusal, _)) => Err(refusal),
+    }
+}
+
+/// Joins all writers, and says how many of them did all rounds.
+fn join_writers<R: Threads>(
+    rt: &R,
+    gates: &Gates,
+    task: &mut Task,
+    mut writers: Vec<Writer<'_>>,
+) -> Result<u8, GateError>
+    requires from { IsFrom task.old gates.now }
+    requires homes { All (λ w. w.promise.0.now ≡ gates.now) writers.items }
+    ensures { IsFrom task.new gates.now }
+{
+    let mut well = 0u8;
+    while let Some(writer) = writers.pop() {
+        let done = join_writer(rt, gates, task, writer)?;
+        well = well.wrapping_add(u8::from(done == ROUNDS));
+    }
+    Ok(well)
+}
+
+/// Writes in threads beside the one that takes snapshots. Says how often that was done, and how many writers did all rounds.
+fn back_up_beside_writers<R: Wait + Threads + Sync>(
+    rt: &R,
+    alloc: Global,
+    gates: &Gates,
+    mut task: Task,
+) -> Result<(Task, u16, u8), GateError>
+    requires { IsFrom task gates.now }
+    ensures { IfOk result (λ r. IsFrom r.0 gates.now) }
+{
+    thread::scope(
+        thread::scope_env(),
         rt,
-        || back_up(task, rt, gates),
-        || write(three, rt, gates, 0),
+        move |scope| -> Result<(Task, u16, u8), GateError>
+            requires { IsFrom task gates.now }
+            ensures { IfOk result (λ r. IsFrom r.0 gates.entry.now) }
+        {
+            let writers = start_writers(scope, rt, alloc, gates, &mut task)?;
+            let (mut task, taken) = back_up(task, rt, gates);
+            let well = join_writers(rt, gates, &mut task, writers)?;
+            Ok((task, taken, well))
+        },
     )
 }
 
@@ -226,25 +310,14 @@ fn snapshots_beside_writers_are_whole(rt: HostRuntime) -> Result<(), Fail> {
     let config = Config {
         nodes: NODES,
         capacity: 20,
-        ..small(4)
+        ..small(1 + WRITERS)
     };
     let (gates, mut task) = Gates::new(rt.alloc(), config)?;
-    let one = task.split(rt.alloc(), &gates)?;
-    let two = task.split(rt.alloc(), &gates)?;
-    let three = task.split(rt.alloc(), &gates)?;
     assert_eq!(rt; task.want_write(&rt, &gates, 0, 0), Ok(()));
     assert_eq!(rt; task.create(&gates, 0, Kind::Dir), Ok(1));
     assert_eq!(rt; task.drop_write(&gates, 0, 0), Ok(()));
-    let (((mut task, taken), (three, third)), ((one, first), (two, second))) = thread::join(
-        &rt,
-        || back_up_beside(task, three, &rt, &gates),
-        || both_write(one, two, &rt, &gates),
-    );
-    assert_eq!(rt; taken, FREEZES);
-    assert_eq!(rt; [first, second, third], [ROUNDS; 3]);
-    assert!(rt; task.join(&gates, one).is_ok());
-    assert!(rt; task.join(&gates, two).is_ok());
-    assert!(rt; task.join(&gates, three).is_ok());
+    let (task, taken, well) = back_up_beside_writers(&rt, rt.alloc(), &gates, task)?;
+    assert_eq!(rt; (taken, well), (FREEZES, WRITERS));
     let Ok(closed) = gates.close(task) else {
         panic!(rt; "not closed")
     };
