@@ -19,6 +19,7 @@ pub enum Taken {
 
 impl Sum {
     /// The sum of no word.
+    #[inline(always)]
     pub fn start() -> Sum
         ensures { result ≡ record { words = 0; total = 0 } }
     {
@@ -28,6 +29,7 @@ impl Sum {
     /// The sum with the next word, of so many processors (1 to 64, and above the number of words already taken): `Total`
     /// where it was the last one. A single word may have wrapped below 0, where an access was given back on another
     /// processor than it was taken on: only the total means something.
+    #[inline(always)]
     pub fn take(self, word: u64, processors: u8) -> Taken
         ensures step { result ≡ sum_taking self word processors }
         ensures words { (taken : List ℕ) → length taken < processors → self ≡ sum_of taken →

@@ -345,6 +345,7 @@ fn begin_remove(config: Config, held: &Accesses, file: u8) -> Result<Phase, Gate
 }
 
 /// So is a grow, by some blocks.
+#[inline(always)]
 fn begin_grow(config: Config, held: &Accesses, file: u8, blocks: u32) -> Result<Phase, GateError>
     requires { config.mounts ≤ 8 }
     ensures { result ≡ beginning config 0 false (mounts_held held.now) (levels_held held.now) (GrowOp file blocks) }

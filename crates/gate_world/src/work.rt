@@ -6,8 +6,8 @@ ghost use Rattle.gate_world.specs.Work.{next_of, after_of, hook_of};
 use access_model::{Action, Next};
 use cpu_words::{Touch, WordName};
 use freeze_levels::{Freeze, HookKind, Thaw};
-use gated_tree::TreePhase;
-use mount_counts::{MountPhase, Remount, RemountStep, Want};
+use gated_tree::{Grow, TreePhase};
+use mount_counts::{Change, MountPhase, Remount, RemountStep, Want};
 use percpu_rwsem::{Callback, DownRead, UpRead};
 use write_access::WritePhase;
 
@@ -184,6 +184,24 @@ impl UnderWay for MountPhase {
     }
 }
 
+impl UnderWay for Change {
+    ghost use Rattle.gate_world.specs.declared.work.Phase.TheVariants.{Mounts};
+    ghost use Rattle.mount_counts.specs.declared.phases.MountPhase.TheVariants.{Change as Changes};
+
+    ghost as_phase = { λ change. Mounts (Changes change) };
+
+    #[inline(always)]
+    fn phase(self) -> Phase {
+        Phase::Mounts(MountPhase::Change(self))
+    }
+
+    #[inline(always)]
+    fn after(self, found: u64, hook: Result<(), u16>) -> (Next<Change>, Option<Action>) {
+        let _ = hook;
+        self.after(found)
+    }
+}
+
 impl UnderWay for DownRead {
     ghost use Rattle.gate_world.specs.declared.work.Phase.TheVariants.{DownReads};
 
@@ -280,5 +298,23 @@ impl UnderWay for TreePhase {
     #[inline(always)]
     fn after(self, found: u64, hook: Result<(), u16>) -> (Next<TreePhase>, Option<Action>) {
         self.after(found, hook)
+    }
+}
+
+impl UnderWay for Grow {
+    ghost use Rattle.gate_world.specs.declared.work.Phase.TheVariants.{Trees};
+    ghost use Rattle.gated_tree.specs.declared.phases.TreePhase.TheVariants.{Grow as Grows};
+
+    ghost as_phase = { λ grow. Trees (Grows grow) };
+
+    #[inline(always)]
+    fn phase(self) -> Phase {
+        Phase::Trees(TreePhase::Grow(self))
+    }
+
+    #[inline(always)]
+    fn after(self, found: u64, hook: Result<(), u16>) -> (Next<Grow>, Option<Action>) {
+        let _ = hook;
+        self.after(found)
     }
 }

@@ -36,6 +36,7 @@ pub struct Grow {
 
 impl Grow {
     /// The file with the blocks more, and dirty. It comes to this only where the sum is within the capacity, so it doesn't wrap.
+    #[inline(always)]
     fn grown(self, file: NodeWord) -> NodeWord
         ensures { result ≡ grown_node self.blocks file }
     {
@@ -46,6 +47,7 @@ impl Grow {
         }
     }
 
+    #[inline(always)]
     pub(crate) fn next(self) -> (WordName, Touch)
         ensures { result ≡ grow_next self self.step }
     {
@@ -68,6 +70,7 @@ impl Grow {
     }
 
     /// The same grow, with this step to come.
+    #[inline(always)]
     fn at(self, step: GrowStep) -> Next<Grow>
         ensures { result ≡ Go (at_grow self step) }
     {
@@ -76,6 +79,7 @@ impl Grow {
 
     /// What comes after so many blocks were found charged: there is room for its own, or there is none, or the file's node was loaded
     /// before others were charged and is out of date.
+    #[inline(always)]
     fn charged_from(self, file: NodeWord, used: u64) -> Next<Grow>
         ensures { result ≡ grow_from self file used }
     {
@@ -91,7 +95,9 @@ impl Grow {
         }
     }
 
-    pub(crate) fn after(self, found: u64) -> (Next<Grow>, Option<Action>)
+    /// What comes after the event, which found this, and the action that the event adds.
+    #[inline(always)]
+    pub fn after(self, found: u64) -> (Next<Grow>, Option<Action>)
         ensures { result ≡ grow_after self self.step found }
     {
         let next = match self.step {

@@ -24,6 +24,7 @@ impl NodeWord {
     /// The word of a node: the kind in bits 0 and 1 (0 free, 1 a file, 2 a directory), the dirty mark in bit 2, the parent in bits 8
     /// to 13, the size in bits 32 to 63. It unpacks to the node again where the parent is below 64 and a free node says nothing
     /// else.
+    #[inline]
     pub fn pack(self) -> u64
         ensures word { result ≡ word_of self }
         ensures back { IsLawful self → unpacked result ≡ Some self }
@@ -38,6 +39,7 @@ impl NodeWord {
 
     /// The node of a word. None where its kind is 3, where a bit outside the fields is set, and where it is of kind 0 and isn't 0.
     /// Any other word is that of the node again.
+    #[inline]
     pub fn unpack(word: u64) -> Option<NodeWord>
         ensures node { result ≡ unpacked word }
         ensures back { IfSome result (λ node. IsLawful node × (word_of node ≡ word)) }
@@ -51,6 +53,7 @@ impl NodeWord {
     }
 
     /// The fields of a word, whatever else it has.
+    #[inline]
     pub(crate) fn fields(word: u64) -> NodeWord
         ensures { result ≡ node_of word }
     {
@@ -84,6 +87,7 @@ impl NodeWord {
     }
 
     /// The file of a word, or why a call refuses it; None where the word is no node's.
+    #[inline]
     pub(crate) fn file(word: u64) -> Option<Result<NodeWord, GateError>>
         ensures { result ≡ file_in word }
     {

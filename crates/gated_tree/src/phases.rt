@@ -26,6 +26,7 @@ pub enum TreePhase {
 
 impl TreePhase {
     /// The word and the touch of the next event. No event at the tree reads a hook's answer.
+    #[inline(always)]
     pub fn next(&self, hook: Result<(), u16>) -> (WordName, Touch)
         ensures { result ≡ next self.now hook }
     {

@@ -144,6 +144,7 @@ impl Want {
 }
 
 impl Change {
+    #[inline(always)]
     fn next(self) -> (WordName, Touch)
         ensures { result ≡ change_next self self.step }
     {
@@ -165,6 +166,7 @@ impl Change {
     }
 
     /// The same change, with this step to come.
+    #[inline(always)]
     fn at(self, step: ChangeStep) -> Next<Change>
         ensures { result ≡ Go (at_change self step) }
     {
@@ -172,6 +174,7 @@ impl Change {
     }
 
     /// What comes after the present state was found.
+    #[inline(always)]
     fn from_state(self, read_only: bool) -> ChangeStep
         ensures { result ≡ change_from self read_only }
     {
@@ -183,6 +186,7 @@ impl Change {
     }
 
     /// What comes after one word more of the sum.
+    #[inline(always)]
     fn summed(self, sum: Sum, word: u64) -> ChangeStep
         ensures { result ≡ change_summed self sum word }
     {
@@ -193,7 +197,9 @@ impl Change {
         }
     }
 
-    fn after(self, found: u64) -> (Next<Change>, Option<Action>)
+    /// What comes after the event, which found this, and the action that the event adds.
+    #[inline(always)]
+    pub fn after(self, found: u64) -> (Next<Change>, Option<Action>)
         ensures { result ≡ change_after self self.step found }
     {
         let done = Ok(Reply::Unit);
