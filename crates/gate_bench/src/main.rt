@@ -1,17 +1,18 @@
 //! Measures how many pairs of a taking and a return threads do in a second: at the gates, of an access at a mount, of a place inside
 //! a level and of write access, each thread at a processor of its own; at one count word that all threads share; and at a read lock. Then
-//! how long a freeze and a thaw take, among how many tasks and processors. With no argument it measures nothing and prints nothing.
+//! how long a freeze and a thaw take, among how many tasks and processors, and how many rounds the writers of whole runs do in a second. With no argument it measures nothing and prints nothing.
 #![tactic(auto)]
 
 mod at_freezes;
 mod at_gates;
 mod at_others;
+mod at_runs;
 mod rates;
 
 use anyhow::Result;
 use at_freezes::Callbacks;
 use at_gates::Pair;
-use rates::{Subject, print_rate, print_time};
+use rates::{Subject, print_rate, print_run, print_time};
 use std::alloc::Global;
 use std::rt::Clock;
 use std::sync::Wait;
@@ -31,6 +32,12 @@ const SIZES: [u8; 3] = [1, 8, 64];
 
 /// How many pairs there are for each freeze that is measured.
 const PAIRS_A_FREEZE: u32 = 100;
+
+/// How many tasks there are where runs are measured, two of which don't write.
+const RUN_TASKS: [u8; 3] = [4, 8, 16];
+
+/// How many pairs there are for each run that is measured.
+const PAIRS_A_RUN: u32 = 400_000;
 
 /// What is measured, in this order.
 const SUBJECTS: [Subject; 5] = [
@@ -58,6 +65,11 @@ fn main(rt: HostRuntime) -> Result<()> {
     }
     for size in SIZES {
         measure_freezes(&rt, rt.alloc(), size, pairs / PAIRS_A_FREEZE)?;
+    }
+    for tasks in RUN_TASKS {
+        let runs = pairs / PAIRS_A_RUN;
+        let took = at_runs::measure(&rt, rt.alloc(), tasks, runs)?;
+        print_run(&rt, tasks, runs, took)?;
     }
     Ok(())
 }

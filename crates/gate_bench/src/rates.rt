@@ -1,9 +1,10 @@
 //! Rates, and the lines that say them.
 
-ghost use Rattle.std.specs.Prelude.{◌≡◌, ◌*◌, ◌/◌, max};
+ghost use Rattle.std.specs.Prelude.{◌≡◌, ◌≤◌, ◌*◌, ◌/◌, max};
 
 use crate::at_freezes::Callbacks;
 use crate::at_gates::Pair;
+use crate::at_runs::ROUNDS;
 use std::time::Duration;
 use std::{fmt, io};
 
@@ -72,4 +73,20 @@ pub(crate) fn print_time(
         Callbacks::AfterEachThaw => "freeze, thaw and callbacks",
     };
     println!(rt; "{what} {size} tasks and processors {whole}.{tenth} microseconds")
+}
+
+/// Thousands of rounds a second, rounded down, where so many writers did so many rounds in so many microseconds; a time of 0 counts as 1.
+fn thousands(writers: u8, rounds: u64, micros: u64) -> u64
+    requires { rounds ≤ 42949672950000 }
+    ensures { result ≡ writers * rounds * 1000 / max 1 micros }
+{
+    u64::from(writers) * rounds * 1000 / micros.max(1)
+}
+
+/// Prints the line of one measurement of runs.
+pub(crate) fn print_run(rt: &impl Print, tasks: u8, runs: u32, took: Duration) -> io::Result<()> {
+    let micros = u64::try_from(took.as_micros()).unwrap_or(u64::MAX);
+    let rounds = u64::from(runs) * u64::from(ROUNDS);
+    let rate = thousands(tasks.saturating_sub(2), rounds, micros);
+    println!(rt; "run {tasks} tasks {rate} thousand rounds a second")
 }

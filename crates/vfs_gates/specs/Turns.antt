@@ -6,7 +6,11 @@ use Rattle.cpu_words.specs.declared.events.Event.{Event}
 use Rattle.gate_world.specs.declared.config.Config.{Config}
 use Rattle.gate_world.specs.declared.operations.Op.{Op}
 use Rattle.gate_world.specs.declared.work.Phase.{Phase}
-use Rattle.gate_world.specs.declared.work.Phase.TheVariants.{Writes}
+use Rattle.gate_world.specs.declared.work.Phase.TheVariants.{Mounts, Trees, Writes}
+use Rattle.gated_tree.specs.declared.growth.Grow.{Grow}
+use Rattle.gated_tree.specs.declared.phases.TreePhase.TheVariants.{Grow as Grows}
+use Rattle.mount_counts.specs.declared.phases.Change.{Change}
+use Rattle.mount_counts.specs.declared.phases.MountPhase.TheVariants.{Change as Changes}
 use Rattle.access_model.specs.Replies.{map_next}
 use Rattle.gate_core.specs.declared.seats.Seat.{Seat}
 use Rattle.gate_world.specs.declared.accesses.Accesses.{Accesses}
@@ -41,6 +45,14 @@ step_was event action next = record { event = Some event; action = action; progr
 -- what comes next of a taking or a return of write access, as phases
 abbrev pub of_write : Next WritePhase → Next Phase
 of_write next = map_next (λ phase. Writes phase) next
+
+-- what comes next of a change of a mount, as phases
+abbrev pub of_change : Next Change → Next Phase
+of_change next = map_next (λ change. Mounts (Changes change)) next
+
+-- what comes next of a grow of a file, as phases
+abbrev pub of_grow : Next Grow → Next Phase
+of_grow next = map_next (λ grow. Trees (Grows grow)) next
 
 -- a taking of write access at a mount, with a down-read of these parts
 abbrev pub taking : ℕ → ℕ → ℕ → ℕ → Bool → DownReadStep → Option Phase

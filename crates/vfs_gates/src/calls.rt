@@ -11,7 +11,7 @@ use crate::task::Task;
 use access_model::{GateError, Next, Reply};
 use gate_core::Progress;
 use gate_world::{Op, Phase};
-use mount_counts::{MountPhase, Want, WantStep};
+use mount_counts::{Change, ChangeStep, MountPhase, Want, WantStep};
 use percpu_rwsem::{DownRead, DownReadStep, UpRead};
 use write_access::WritePhase;
 
@@ -29,6 +29,8 @@ impl Task {
     ghost use Rattle.gate_world.specs.Beginnings.{first_phase};
     ghost use Rattle.gate_world.specs.Traces.{most_events};
     ghost use Rattle.gate_world.specs.declared.operations.Op.TheVariants.{Want as WantOp, DropMount, ChangeMount, Start, End, DropWrite};
+    ghost use Rattle.gate_world.specs.declared.work.Phase.TheVariants.{Mounts};
+    ghost use Rattle.mount_counts.specs.declared.phases.MountPhase.TheVariants.{Change as Changes};
     ghost use Rattle.vfs_gates.specs.Room.{is_of_snapshot};
     ghost use Rattle.vfs_gates.specs.TaskStates.{IsFrom, beginning_at, own_number};
     ghost use Rattle.vfs_gates.specs.Runs.{Called, IsBounded, IsTrying, Performs};
@@ -66,7 +68,12 @@ impl Task {
     /// Begins an operation that has a most number of events and this first phase, and does its events in a line. Where one of them finds
     /// something else, it notes where the operation stands and does the rest.
     #[inline(always)]
-    fn perform<P: InLine>(&mut self, gates: &Gates, op: Op, first: P) -> Result<(), GateError>
+    pub(crate) fn perform<P: InLine>(
+        &mut self,
+        gates: &Gates,
+        op: Op,
+        first: P,
+    ) -> Result<(), GateError>
         requires from { IsFrom self.old gates.now }
         requires first { P.as_phase first ≡ first_phase self.old.config (own_number self.old.items) op }
         requires other { is_of_snapshot (P.as_phase first) ≡ false }
@@ -149,6 +156,21 @@ impl Task {
         self.perform(gates, op, WritePhase::Drops { mount, cpu })
     }
 
+    /// A change of a mount by the task that is to begin.
+    #[inline(always)]
+    pub(crate) fn first_change(&self, mount: u8, read_only: bool, wait: bool) -> Change
+        ensures { Mounts (Changes result) ≡ first_phase self.now.config (own_number self.now.items) (ChangeMount mount read_only wait) }
+    {
+        Change {
+            mount,
+            read_only,
+            wait,
+            task: self.number(),
+            processors: self.config.processors,
+            step: ChangeStep::Locks,
+        }
+    }
+
     /// `mnt_make_readonly`, or its undoing, that doesn't wait. Again where another task has `umount`, Busy where writers are
     /// counted at the mount. Order, where the task is inside a level, and Invalid as `begin`.
     pub fn try_change_mount(
@@ -160,12 +182,13 @@ impl Task {
         requires { IsFrom self.old gates.now }
         ensures { Performs (ChangeMount mount read_only false) self.old self.new result }
     {
-        let change = Op::ChangeMount {
+        let wait = false;
+        let change = self.first_change(mount, read_only, wait);
+        let op = Op::ChangeMount {
             mount,
             read_only,
-            wait: false,
+            wait,
         };
-        self.begin(change)?;
-        outcome(self.finish(gates, Ok(())))
+        self.perform(gates, op, change)
     }
 }

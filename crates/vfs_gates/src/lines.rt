@@ -10,6 +10,9 @@ ghost use Rattle.vfs_gates.specs.Turns.{IsTied, StayTied, of_write, taking};
 ghost use Rattle.write_access.specs.declared.phases.WritePhase.TheVariants.{Drops};
 ghost use Rattle.vfs_gates.specs.Runs.{Goes, Went};
 
+mod changes;
+mod grows;
+
 use crate::gates::Gates;
 use crate::task::Seat;
 use crate::turns::go_on;

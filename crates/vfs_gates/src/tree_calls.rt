@@ -8,6 +8,7 @@ use crate::gates::Gates;
 use crate::task::Task;
 use access_model::{GateError, Kind, Reply};
 use gate_world::Op;
+use gated_tree::{Grow, GrowStep};
 use std::sync::Wait;
 
 /// Why a create was refused, or the node that it took.
@@ -63,7 +64,13 @@ impl Task {
         requires { IsFrom self.old gates.now }
         ensures { Performs (GrowOp file blocks) self.old self.new result }
     {
-        outcome(self.call(gates, Op::Grow { file, blocks }))
+        let grow = Grow {
+            file,
+            blocks,
+            capacity: self.config.capacity,
+            step: GrowStep::LoadsFile,
+        };
+        self.perform(gates, Op::Grow { file, blocks }, grow)
     }
 
     /// `vfs_rename`: gives a file another directory. NoEntry and IsDir as `remove`, NoEntry and NotDir of the directory as `create`; Again

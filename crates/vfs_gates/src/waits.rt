@@ -208,7 +208,6 @@ impl Task {
 
     /// `mnt_make_readonly`, or its undoing. While another task has `umount` it waits. Busy where writers are counted at the mount.
     /// Order, where the task is inside a level, and Invalid as `begin`.
-    #[tactic(auto, using(crate::proofs::Running::was_told))]
     pub fn change_mount<R: Wait>(
         &mut self,
         rt: &R,
@@ -219,12 +218,14 @@ impl Task {
         requires { IsFrom self.old gates.now }
         ensures { Performs (ChangeMount mount read_only true) self.old self.new result }
     {
-        let change = Op::ChangeMount {
+        let wait = true;
+        let change = self.first_change(mount, read_only, wait);
+        let op = Op::ChangeMount {
             mount,
             read_only,
-            wait: true,
+            wait,
         };
-        outcome(self.perform_waiting(rt, gates, change, &mut (), false))
+        self.perform_or_wait(rt, gates, op, change)
     }
 
     /// `reconfigure_super`: remounts the superblock read-only or writable. While another task has `umount` it waits. Busy where the
