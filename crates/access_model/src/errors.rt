@@ -19,7 +19,7 @@ pub enum GateError {
     /// A growth of memory was refused.
     #[error("out of memory")]
     NoMemory,
-    /// Somebody is inside, or a freeze is under way.
+    /// Somebody is inside, or a freeze stands or is under way.
     #[error("busy")]
     Busy,
     /// The node that was named is a file.
@@ -43,7 +43,8 @@ pub enum GateError {
     /// A call at a time at which the task may not make it.
     #[error("out of order")]
     Order,
-    /// A hook of the file system failed with this code, which is never taken for one of the numbers above.
+    /// A hook of the file system failed with this code. It is a refusal of its own, whatever the code: `Hook(16)` isn't `Busy`, though its
+    /// number is the same.
     #[error("hook failed with {0}")]
     Hook(u16),
 }

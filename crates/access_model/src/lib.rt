@@ -8,8 +8,6 @@ pub mod errors;
 pub mod laws;
 pub mod model;
 pub mod replies;
-#[cfg(test)]
-mod tests;
 
 pub use actions::{Action, Gate, Kind, NodeInfo};
 pub use errors::GateError;

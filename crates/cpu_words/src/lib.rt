@@ -9,6 +9,3 @@ pub mod sums;
 pub use events::{Event, Touch};
 pub use names::{STRIDE, WORDS, WordName};
 pub use sums::{Sum, Taken};
-
-#[cfg(test)]
-mod tests;

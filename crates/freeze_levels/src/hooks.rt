@@ -1,7 +1,7 @@
 //! What a freeze, a thaw or a remount asks of the file system.
 
-/// The hooks of a file system. Each answers Ok, or Err with the code of its failure, from 1 to 65,535; the call that asked it
-/// ends with `GateError::Hook` of that code. Nothing is promised of what a hook does.
+/// The hooks of a file system. Each answers Ok, or Err with the code of its failure, 0 to 65,535; the call that asked it ends with
+/// `GateError::Hook` of that code, of 0, too. Nothing is promised of what a hook does.
 pub trait FsHooks {
     /// Writes all that is dirty (`sync_filesystem`).
     fn sync(&mut self) -> Result<(), u16>;

@@ -21,6 +21,3 @@ pub fn an_event_ignores_answers_that_it_does_not_read()
     ensures of_freezes { (x : FreezeType) → FreezeIgnoresAnswer x }
     ensures of_thaws { (x : ThawType) → ThawIgnoresAnswer x }
 {}
-
-#[cfg(test)]
-mod tests;

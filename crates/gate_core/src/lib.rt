@@ -12,6 +12,3 @@ pub use machine::Core;
 pub use schedules::every_schedule;
 pub use seats::Seat;
 pub use steps::{Progress, Step};
-
-#[cfg(test)]
-mod tests;

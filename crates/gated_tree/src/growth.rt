@@ -77,8 +77,8 @@ impl Grow {
         Next::Go(Grow { step, ..self })
     }
 
-    /// What comes after so many blocks were found charged: there is room for its own, or there is none, or the file's node was loaded
-    /// before others were charged and is out of date.
+    /// What comes after so many blocks were found charged: there is room for its own, or there is none, or the file that was loaded has
+    /// more than fits beside its own, so that it was removed since then, and its node is out of date.
     #[inline(always)]
     fn charged_from(self, file: NodeWord, used: u64) -> Next<Grow>
         ensures { result ≡ grow_from self file used }

@@ -17,6 +17,3 @@ pub use nodes::NodeWord;
 pub use phases::TreePhase;
 pub use snapshots::{Snapshot, SnapshotStep};
 pub use trees::{Tree, TreeWords};
-
-#[cfg(test)]
-mod tests;

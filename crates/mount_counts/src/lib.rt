@@ -11,6 +11,3 @@ pub use flags::MountFlags;
 pub use phases::{Change, ChangeStep, MountPhase, Want, WantStep};
 pub use remounts::{Remount, RemountStep};
 pub use sets::MountSet;
-
-#[cfg(test)]
-mod tests;

@@ -17,6 +17,3 @@ pub use readers::{DownRead, DownReadStep, UpRead};
 pub use sync_word::{GpState, SyncWord};
 pub use transitions::{Transition, TransitionNext};
 pub use writers::{DownWrite, DownWriteStep, UpWrite, UpWriteStep};
-
-#[cfg(test)]
-mod tests;

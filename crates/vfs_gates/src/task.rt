@@ -26,9 +26,20 @@ pub(crate) type Seat = atomic_table::Seat<(), Items>;
 /// still give to others. Contracts see its table, its configuration, the operation that it has begun until its first event, the
 /// phase at which it stands, and its numbers with their views, its own first.
 ///
-/// A task that is dropped while it holds an access keeps that access for good: a change of that mount to read-only is `Busy` from then
-/// on, and `Gates::close` can no longer be reached. One that is dropped at rest takes its numbers with it, so that `close` can't be
-/// reached either.
+/// A task that is dropped takes its numbers with it, so that `Gates::close` is refused as `Order` from then on, and what it has left in
+/// the words stays there for good. At rest that is nothing more, and the gates work on. No refusal tells others of it; they meet:
+///
+/// - an access at a mount, or a want past its addition: each change of that mount to read-only, and each remount to read-only, is `Busy`;
+/// - a level, or a start that is counted there: a freeze waits there, with the levels up to it closed, so that starts of these wait;
+/// - an operation that owns `umount`: `try_change_mount` and `try_snapshot` are `Again`, and a change, a remount, a freeze, a thaw and a
+///   snapshot wait. Where it has HOLD set at a mount, wants there wait, too, and where it has `remount` set, wants are `ReadOnly`;
+/// - a freeze that has given `umount` back at stage 1: a freeze and a remount are `Busy`, a thaw and a snapshot `Invalid`;
+/// - a start inside its section: a callback waits, and so does a freeze that finds the readers of a level fast;
+/// - a callback that is taken: `callback` of that level answers false, and its readers stay on their slow path;
+/// - a call at the tree: what it has charged stays charged, and the level that it needs is as above.
+///
+/// So each task is to be joined, at rest: an access is given back before a refusal is handed on, and an operation that has begun is done
+/// to its end. docs/REFUSALS.md says more.
 #[derive(Drop)]
 pub struct Task {
     pub(crate) number: u8,

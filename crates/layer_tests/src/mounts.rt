@@ -2,11 +2,10 @@
 
 mod remounts;
 
-use crate::flags::MountFlags;
-use crate::phases::{Change, ChangeStep, MountPhase, Want, WantStep};
 use access_model::{Action, Gate, Next, Reply};
 use bitflags::Flags;
 use cpu_words::{Touch, WordName};
+use mount_counts::{Change, ChangeStep, MountFlags, MountPhase, Want, WantStep};
 use std::process::Abort;
 
 /// An event as a test has it: its word and touch, the value that it finds, and the action that it adds.

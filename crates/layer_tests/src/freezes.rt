@@ -1,11 +1,9 @@
 //! A freeze and a thaw among two tasks, two processors and two nodes, driven by hand: each event, with the value that it finds, and what
 //! comes after it.
 
-use crate::freezes::{Freeze, FreezeStep};
-use crate::hooks::{FsHooks, HookKind};
-use crate::thaws::{Thaw, ThawStep};
 use access_model::{Action, GateError, Next, Reply};
 use cpu_words::{Touch, WordName};
+use freeze_levels::{Freeze, FreezeStep, FsHooks, HookKind, Thaw, ThawStep};
 use std::process::Abort;
 
 /// An event as a test has it: its word and touch, the value that it finds, and the action that it adds.

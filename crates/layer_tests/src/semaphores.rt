@@ -1,15 +1,12 @@
 //! The transitions of packed words, and each operation at a level, driven by hand: each event, with the value that it finds, and what
 //! comes after it.
 
-use crate::callbacks::{Callback, CallbackStep};
-use crate::grace::{Grace, GraceNext};
-use crate::phases::SemPhase;
-use crate::readers::{DownRead, DownReadStep, UpRead};
-use crate::sync_word::SyncWord;
-use crate::transitions::Transition;
-use crate::writers::{DownWrite, DownWriteStep, UpWrite, UpWriteStep};
 use access_model::{Action, Gate, GateError, Next, Reply};
 use cpu_words::{Touch, WordName};
+use percpu_rwsem::{
+    Callback, CallbackStep, DownRead, DownReadStep, DownWrite, DownWriteStep, Grace, GraceNext,
+    SemPhase, SyncWord, Transition, UpRead, UpWrite, UpWriteStep,
+};
 use std::process::Abort;
 use std::test::Fail;
 

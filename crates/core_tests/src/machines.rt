@@ -1,11 +1,10 @@
 //! Worked rows on the core, refusals in their order, words that there are and aren't, and the hook that a remount asks.
 
-use crate::machine::Core;
-use crate::steps::{Progress, Step};
-use crate::{Config, Op};
 use access_model::{Action, Gate, GateError, Reply};
 use cpu_words::{Event, Touch, WordName};
 use freeze_levels::HookKind;
+use gate_core::{Core, Progress, Step};
+use gate_world::{Config, Op};
 use std::test::Fail;
 
 fn small() -> Config {

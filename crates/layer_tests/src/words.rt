@@ -1,8 +1,6 @@
 //! Sums, touches and places, with values from arithmetic by hand.
 
-use crate::events::{Event, Touch};
-use crate::names::{WORDS, WordName};
-use crate::sums::{Sum, Taken};
+use cpu_words::{Event, Sum, Taken, Touch, WORDS, WordName};
 
 /// 2^64 less 1.
 const LAST: u64 = 18446744073709551615;

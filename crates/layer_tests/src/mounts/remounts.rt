@@ -1,9 +1,9 @@
 //! A remount of the superblock, driven by hand over two mounts, two processors and three nodes.
 
 use super::{Driven, Expected, drive, look, quiet, store};
-use crate::remounts::{Remount, RemountStep};
 use access_model::{Action, GateError, Next, Reply};
 use cpu_words::{Touch, WordName};
+use mount_counts::{Remount, RemountStep};
 
 /// What a mask has that clears HOLD, and one that clears a dirty mark: all other bits.
 const NO_HOLD: u64 = 18446744073709551613;

@@ -1,8 +1,6 @@
 //! What no clause says: that calls succeed, and the printed names and numbers.
 
-use crate::actions::{Action, Gate, Kind};
-use crate::errors::GateError;
-use crate::model::Model;
+use access_model::{Action, Gate, GateError, Kind, Model};
 use std::alloc::Global;
 use std::test::Fail;
 

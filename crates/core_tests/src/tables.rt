@@ -1,8 +1,7 @@
 //! One event on a table that is opened, dealt, joined and closed.
 
-use crate::steps::{event, give, take_back};
-use crate::tables::{close, open, word_of};
 use cpu_words::WordName;
+use gate_steps::{close, event, give, open, take_back, word_of};
 use gate_world::{Config, Op, Phase};
 use mount_counts::{MountPhase, Want, WantStep};
 use std::test::Fail;

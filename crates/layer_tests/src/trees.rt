@@ -1,14 +1,11 @@
 //! Node words by hand, and each call at the tree, driven by hand: each event, with the value that it finds, and what comes after it.
 
-use crate::changes::{Create, CreateStep, MoveStep, MoveTo, Remove, RemoveStep};
-use crate::growth::{Grow, GrowStep};
-use crate::marks::{ClearMarks, Mark, MarkStep};
-use crate::nodes::NodeWord;
-use crate::phases::TreePhase;
-use crate::snapshots::{Snapshot, SnapshotStep};
-use crate::trees::Tree;
 use access_model::{Action, GateError, Kind, Next, NodeInfo, Reply};
 use cpu_words::{Touch, WordName};
+use gated_tree::{
+    ClearMarks, Create, CreateStep, Grow, GrowStep, Mark, MarkStep, MoveStep, MoveTo, NodeWord,
+    Remove, RemoveStep, Snapshot, SnapshotStep, Tree, TreePhase,
+};
 use std::process::Abort;
 use std::test::Fail;
 
