@@ -101,7 +101,7 @@ impl Task {
     }
 
     /// A snapshot of the tree that doesn't wait, which `tree` shows from then on. Again where another task has `umount`, Invalid where the
-    /// file system is not frozen; then the last snapshot stays. Order, where the task is inside a level, and Invalid as `begin`.
+    /// file system is not frozen; then the last snapshot stays. Order, where the task is inside a level, as `begin`.
     pub fn try_snapshot(&mut self, gates: &Gates) -> Result<(), GateError>
         requires { IsFrom self.old gates.now }
         ensures { Performs (SnapshotOp false) self.old self.new result }
@@ -109,8 +109,7 @@ impl Task {
         outcome(self.call(gates, Op::Snapshot { wait: false }))
     }
 
-    /// The same, which waits for `umount`: Invalid where the file system is not frozen. Order, where the task is inside a level, and
-    /// Invalid as `begin`.
+    /// The same, which waits for `umount`: Invalid where the file system is not frozen. Order, where the task is inside a level, as `begin`.
     pub fn snapshot<R: Wait>(&mut self, rt: &R, gates: &Gates) -> Result<(), GateError>
         requires { IsFrom self.old gates.now }
         ensures { Performs (SnapshotOp true) self.old self.new result }

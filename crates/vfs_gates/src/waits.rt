@@ -251,8 +251,9 @@ impl Task {
     /// `freeze_super`: closes the three freeze levels, one after the other, waiting at each for who is inside, and freezes the file system.
     /// While another task has `umount` it waits. Busy where the stage isn't SB_UNFROZEN. `FsHooks::sync` is asked once, with levels 1 and 2
     /// closed and the dirty marks cleared, and `FsHooks::freeze_fs` once, with all levels closed; a superblock that is read-only is frozen at
-    /// once, and no hook asked. Hook where one fails, and then the levels are open and the file system is as it was, but for the dirty
-    /// marks. Order, where the task is inside a level, as `begin`. After an Ok nobody is inside a level, nor comes inside, until a thaw.
+    /// once, with no level closed and no hook asked. Hook where one fails, and then the levels are open and the file system is as it was, but
+    /// for the dirty marks. Order, where the task is inside a level, as `begin`. After an Ok nobody is inside a level that was closed, nor
+    /// comes inside, until a thaw.
     #[tactic(auto, using(crate::proofs::Running::was_told))]
     pub fn freeze<R: Wait, H: FsHooks>(
         &mut self,

@@ -17,6 +17,30 @@ use access_model::Next;
 use gate_world::{Accesses, Op};
 use mount_counts::{Change, ChangeStep};
 
+/// Whether a change goes on with this step.
+#[inline(always)]
+fn changes_by(next: Next<Change>, step: ChangeStep) -> bool {
+    matches!(next, Next::Go(change) if change.step == step)
+}
+
+/// Whether a change goes on with a word of its sum.
+#[inline(always)]
+fn adds_a_count(next: Next<Change>) -> bool {
+    matches!(next, Next::Go(change) if matches!(change.step, ChangeStep::Sums(_)))
+}
+
+/// Whether a change goes on with letting writers in again.
+#[inline(always)]
+fn clears_hold(next: Next<Change>) -> bool {
+    matches!(next, Next::Go(change) if matches!(change.step, ChangeStep::ClearsHold(_)))
+}
+
+/// Whether a change goes on with giving `umount` back.
+#[inline(always)]
+fn releases(next: Next<Change>) -> bool {
+    matches!(next, Next::Go(change) if matches!(change.step, ChangeStep::Releases(_)))
+}
+
 /// The events up to the one that holds writers off, or up to what stands in its way. What comes after the last of them.
 #[inline]
 fn begin_change(
@@ -39,12 +63,11 @@ fn begin_change(
         (task_state seat.new.table_id gates.now.config None (phase_after (of_change result)) seat.new.me.0) }
 {
     let next = go_on(gates, seat, accesses, begins, change, Ok(()));
-    let goes_on = matches!(next, Next::Go(change) if matches!(change.step, ChangeStep::LoadsFlags));
+    let goes_on = changes_by(next, ChangeStep::LoadsFlags);
     let next = go_on_if(gates, seat, accesses, next, goes_on);
-    let goes_on =
-        matches!(next, Next::Go(change) if matches!(change.step, ChangeStep::LoadsSuperblock));
+    let goes_on = changes_by(next, ChangeStep::LoadsSuperblock);
     let next = go_on_if(gates, seat, accesses, next, goes_on);
-    let goes_on = matches!(next, Next::Go(change) if matches!(change.step, ChangeStep::SetsHold));
+    let goes_on = changes_by(next, ChangeStep::SetsHold);
     go_on_if(gates, seat, accesses, next, goes_on)
 }
 
@@ -71,8 +94,7 @@ fn add_counts(
         (task_state seat.new.table_id gates.now.config None (phase_after (of_change result)) seat.new.me.0) }
 {
     for _cpu in 0..processors {
-        let goes_on =
-            matches!(next, Next::Go(change) if matches!(change.step, ChangeStep::Sums(_)));
+        let goes_on = adds_a_count(next);
         next = go_on_if(gates, seat, accesses, next, goes_on);
     }
     next
@@ -99,17 +121,13 @@ fn end_change(
         Went op start (of_change result)
         (task_state seat.new.table_id gates.now.config None (phase_after (of_change result)) seat.new.me.0) }
 {
-    let goes_on =
-        matches!(next, Next::Go(change) if matches!(change.step, ChangeStep::SetsReadOnly));
+    let goes_on = changes_by(next, ChangeStep::SetsReadOnly);
     let next = go_on_if(gates, seat, accesses, next, goes_on);
-    let goes_on =
-        matches!(next, Next::Go(change) if matches!(change.step, ChangeStep::ClearsHold(_)));
+    let goes_on = clears_hold(next);
     let next = go_on_if(gates, seat, accesses, next, goes_on);
-    let goes_on =
-        matches!(next, Next::Go(change) if matches!(change.step, ChangeStep::ClearsReadOnly));
+    let goes_on = changes_by(next, ChangeStep::ClearsReadOnly);
     let next = go_on_if(gates, seat, accesses, next, goes_on);
-    let goes_on =
-        matches!(next, Next::Go(change) if matches!(change.step, ChangeStep::Releases(_)));
+    let goes_on = releases(next);
     go_on_if(gates, seat, accesses, next, goes_on)
 }
 

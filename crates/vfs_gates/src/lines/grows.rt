@@ -17,6 +17,24 @@ use access_model::Next;
 use gate_world::{Accesses, Op};
 use gated_tree::{Grow, GrowStep};
 
+/// Whether a grow goes on with the blocks that are charged.
+#[inline(always)]
+fn loads_used(next: Next<Grow>) -> bool {
+    matches!(next, Next::Go(grow) if matches!(grow.step, GrowStep::LoadsUsed(_)))
+}
+
+/// Whether a grow goes on with charging its own.
+#[inline(always)]
+fn charges_blocks(next: Next<Grow>) -> bool {
+    matches!(next, Next::Go(grow) if matches!(grow.step, GrowStep::ChargesBlocks { .. }))
+}
+
+/// Whether a grow goes on with its file.
+#[inline(always)]
+fn grows_file(next: Next<Grow>) -> bool {
+    matches!(next, Next::Go(grow) if matches!(grow.step, GrowStep::GrowsFile(_)))
+}
+
 /// The four events of a grow that nobody is before. What comes after the last of them.
 #[inline]
 fn grow_in_line(
@@ -38,12 +56,11 @@ fn grow_in_line(
         (task_state seat.new.table_id gates.now.config None (phase_after (of_grow result)) seat.new.me.0) }
 {
     let next = go_on(gates, seat, accesses, begins, grow, Ok(()));
-    let goes_on = matches!(next, Next::Go(grow) if matches!(grow.step, GrowStep::LoadsUsed(_)));
+    let goes_on = loads_used(next);
     let next = go_on_if(gates, seat, accesses, next, goes_on);
-    let goes_on =
-        matches!(next, Next::Go(grow) if matches!(grow.step, GrowStep::ChargesBlocks { .. }));
+    let goes_on = charges_blocks(next);
     let next = go_on_if(gates, seat, accesses, next, goes_on);
-    let goes_on = matches!(next, Next::Go(grow) if matches!(grow.step, GrowStep::GrowsFile(_)));
+    let goes_on = grows_file(next);
     go_on_if(gates, seat, accesses, next, goes_on)
 }
 

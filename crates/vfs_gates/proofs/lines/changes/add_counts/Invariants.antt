@@ -8,16 +8,16 @@ use Rattle.vfs_gates.specs.Turns.{IsTied, StayTied, of_change}
 use Rattle.vfs_gates.specs.Runs.{Went}
 use Rattle.vfs_gates.proofs.lines.changes.add_counts.Given as goal
 
-abbrev pub invariant-loop-_cpu : goal.invariant-loop-_cpu
-invariant-loop-_cpu l = record {
+abbrev pub invariant-loop-cpu : goal.invariant-loop-cpu
+invariant-loop-cpu l = record {
   table : l.seat.table_id ≡ l.fn.seat.table_id;
   slots : l.seat.me.1 ≡ l.fn.seat.me.1;
-  tied : StayTied l.fn.gates.now.config None (phase_after (of_change l.fn.next)) l.fn.accesses.now l.fn.seat.me.0
-      (phase_after (of_change l.next)) l.accesses.now l.seat.me.0;
-  still : IsTied l.fn.gates.now.config None (phase_after (of_change l.next)) l.accesses.now l.seat.me.0;
+  tied : StayTied l.fn.gates.config None (phase_after (of_change l.fn.next)) l.fn.accesses l.fn.seat.me.0
+      (phase_after (of_change l.next)) l.accesses l.seat.me.0;
+  still : IsTied l.fn.gates.config None (phase_after (of_change l.next)) l.accesses l.seat.me.0;
   went : (op : Op) (start : TaskState) →
       Went op start (of_change l.fn.next)
-      (task_state l.fn.seat.table_id l.fn.gates.now.config None (phase_after (of_change l.fn.next)) l.fn.seat.me.0) →
+      (task_state l.fn.seat.table_id l.fn.gates.config None (phase_after (of_change l.fn.next)) l.fn.seat.me.0) →
       Went op start (of_change l.next)
-      (task_state l.seat.table_id l.fn.gates.now.config None (phase_after (of_change l.next)) l.seat.me.0);
+      (task_state l.seat.table_id l.fn.gates.config None (phase_after (of_change l.next)) l.seat.me.0);
 }
