@@ -261,3 +261,49 @@ fn a_remount_fails_at_its_hook(rt: HostRuntime) -> Result<(), Fail> {
     assert!(rt; fails_with_each_code(&mut task, &rt, &gates, Question::ToWritable));
     Ok(())
 }
+
+/// Whether the call that asks this question answers so, and asks nothing.
+fn asks_nothing<R: Wait>(
+    task: &mut Task,
+    rt: &R,
+    gates: &Gates,
+    question: Question,
+    wanted: Result<(), GateError>,
+) -> bool
+    requires { IsFrom task.old gates.now }
+    ensures { IsFrom task.new gates.now }
+{
+    let (code, asked) = (5, Asked::NEVER);
+    let mut hooks = FailsAt {
+        question,
+        code,
+        asked,
+    };
+    calls(task, rt, gates, question, &mut hooks) == wanted && hooks.asked == Asked::NEVER
+}
+
+#[test]
+fn a_call_that_needs_no_answer_asks_nothing(rt: HostRuntime) -> Result<(), Fail> {
+    let (gates, mut task) = Gates::new(rt.alloc(), small(1))?;
+    let (order, busy) = (Err(GateError::Order), Err(GateError::Busy));
+    let invalid = Err(GateError::Invalid);
+    assert!(rt; asks_nothing(&mut task, &rt, &gates, Question::UnfreezeFs, invalid));
+    assert!(rt; asks_nothing(&mut task, &rt, &gates, Question::ToWritable, Ok(())));
+    assert_eq!(rt; task.try_start(&gates, 1, 0), Ok(()));
+    assert!(rt; asks_nothing(&mut task, &rt, &gates, Question::Sync, order));
+    assert!(rt; asks_nothing(&mut task, &rt, &gates, Question::UnfreezeFs, order));
+    assert!(rt; asks_nothing(&mut task, &rt, &gates, Question::ToReadOnly, order));
+    assert_eq!(rt; task.end(&gates, 1, 0), Ok(()));
+    assert_eq!(rt; task.try_want(&gates, 0, 0), Ok(()));
+    assert!(rt; asks_nothing(&mut task, &rt, &gates, Question::ToReadOnly, busy));
+    assert_eq!(rt; task.drop_mount(&gates, 0, 0), Ok(()));
+    assert_eq!(rt; task.freeze(&rt, &gates, &mut ()), Ok(()));
+    assert!(rt; asks_nothing(&mut task, &rt, &gates, Question::Sync, busy));
+    assert!(rt; asks_nothing(&mut task, &rt, &gates, Question::ToReadOnly, busy));
+    assert_eq!(rt; task.thaw(&rt, &gates, &mut ()), Ok(()));
+    assert_eq!(rt; task.remount_sb(&rt, &gates, true, &mut ()), Ok(()));
+    assert!(rt; asks_nothing(&mut task, &rt, &gates, Question::ToReadOnly, Ok(())));
+    assert!(rt; asks_nothing(&mut task, &rt, &gates, Question::FreezeFs, Ok(())));
+    assert!(rt; asks_nothing(&mut task, &rt, &gates, Question::UnfreezeFs, Ok(())));
+    Ok(())
+}

@@ -1,7 +1,6 @@
 //! Worked schedules by single steps, each event as its line is printed: the word, what was done to it, what it held and what was
 //! left, the action, and how the operation stands.
 
-ghost use Rattle.std.specs.Prelude.{◌≡◌, IfOk};
 ghost use Rattle.vfs_gates.specs.TaskStates.{IsFrom};
 
 use super::small;
@@ -195,43 +194,5 @@ fn worked_schedules_event_by_event(rt: HostRuntime) -> Result<(), Fail> {
     assert!(rt; a_change_alone(rt.alloc())?);
     assert!(rt; a_change_against_a_holder(rt.alloc())?);
     assert!(rt; a_waiter_is_counted(rt.alloc())?);
-    Ok(())
-}
-
-/// Tries twice, and says what the second try answers where the first finds no memory, and else the first.
-fn split_again(task: &mut Task, alloc: Global, gates: &Gates) -> Result<Task, GateError>
-    requires { IsFrom task.old gates.now }
-    ensures this { IsFrom task.new gates.now }
-    ensures that { IfOk result (λ that. IsFrom that gates.now) }
-{
-    match task.split(alloc, gates) {
-        Err(GateError::NoMemory) if task.number() == 0 && task.is_idle() => {
-            task.split(alloc, gates)
-        }
-        answer => answer,
-    }
-}
-
-/// Gates whose making is tried again where there is no memory.
-fn make_again(alloc: Global, config: Config) -> Result<(Gates, Task), GateError>
-    ensures { IfOk result (λ made. IsFrom made.1 made.0) }
-{
-    match Gates::new(alloc, config) {
-        Err(GateError::NoMemory) => Gates::new(alloc, config),
-        answer => answer,
-    }
-}
-
-/// Where one growth is refused, which one so ever, the call answers so and changes nothing, and the same call afterwards is done:
-/// `rt try --test --fail-alloc N` refuses the growth number N.
-#[test]
-fn a_refused_growth_changes_nothing(rt: HostRuntime) -> Result<(), Fail> {
-    let (gates, mut task) = make_again(rt.alloc(), small(3))?;
-    let one = split_again(&mut task, rt.alloc(), &gates)?;
-    let two = split_again(&mut task, rt.alloc(), &gates)?;
-    assert_eq!(rt; (task.number(), one.number(), two.number()), (0, 1, 2));
-    assert!(rt; task.join(&gates, two).is_ok());
-    assert!(rt; task.join(&gates, one).is_ok());
-    assert!(rt; gates.close(task).is_ok());
     Ok(())
 }
