@@ -1,6 +1,6 @@
 //! The gates, and the tasks that are split off.
 
-ghost use Rattle.std.specs.Prelude.{IfOk, IfSome};
+ghost use Rattle.std.specs.Prelude.{IfOk};
 ghost use Rattle.vfs_gates.specs.TaskStates.{IsFrom};
 
 use crate::ending::Ending;
