@@ -1,6 +1,6 @@
-//! Makes each call of the libraries that takes memory. Where one is refused for lack of it, it has to have changed nothing, and to be done
-//! when it is made again. bench/refuse-memory.sh runs this program under `rt try --fail-alloc`, which refuses one growth: as many growths are
-//! asked for first as the input's line says, so that each growth of each call is the one that is refused in some run.
+//! Makes each call of the libraries that takes memory. Where one is refused for lack of it, it has to have changed nothing, and to be
+//! done when it is made again. bench/refuse-memory.sh runs this program under `rt try --fail-alloc`, which refuses one growth: as many
+//! growths are asked for first as the input's line says, so that each growth of each call is the one that is refused in some run.
 #![tactic(auto)]
 
 mod ending;
