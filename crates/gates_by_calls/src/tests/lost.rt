@@ -1,0 +1,148 @@
+//! Tasks that are lost: dropped while they hold something, or own something. Whoever is left is refused where he has to be, and only there.
+
+ghost use Rattle.std.specs.Prelude.{IfOk};
+ghost use Rattle.vfs_gates.specs.TaskStates.{IsFrom};
+
+use super::small;
+use access_model::GateError;
+use cpu_words::{Touch, WordName};
+use gate_core::Progress;
+use gate_world::{Config, Op};
+use std::alloc::Global;
+use std::test::Fail;
+use vfs_gates::{Gates, Task};
+
+/// Whether the gates can't be closed with the task that is left, and both come back as they were: a change of the first mount still answers
+/// so.
+fn stay_open(gates: Gates, task: Task, change: Result<(), GateError>) -> bool
+    requires { IsFrom task gates }
+{
+    let Err((refusal, gates, mut task)) = gates.close(task) else {
+        return false;
+    };
+    refusal == GateError::Order
+        && task.number() == 0
+        && task.is_idle()
+        && task.try_change_mount(&gates, 0, true) == change
+}
+
+#[test]
+fn a_lost_access_keeps_its_mount_busy(rt: HostRuntime) -> Result<(), Fail> {
+    let config = Config {
+        mounts: 2,
+        ..small(2)
+    };
+    let (gates, mut task) = Gates::new(rt.alloc(), config)?;
+    let mut lost = task.split(rt.alloc(), &gates)?;
+    assert_eq!(rt; lost.try_want(&gates, 0, 1), Ok(()));
+    drop(lost);
+    let busy = Err(GateError::Busy);
+    assert_eq!(rt; task.try_change_mount(&gates, 0, true), busy);
+    assert_eq!(rt; task.try_change_mount(&gates, 0, true), busy);
+    assert_eq!(rt; task.try_want(&gates, 0, 0), Ok(()));
+    assert_eq!(rt; task.drop_mount(&gates, 0, 0), Ok(()));
+    assert_eq!(rt; task.try_change_mount(&gates, 0, true), busy);
+    assert_eq!(rt; task.try_change_mount(&gates, 1, true), Ok(()));
+    assert_eq!(rt; task.try_want(&gates, 1, 0), Err(GateError::ReadOnly));
+    assert!(rt; stay_open(gates, task, busy));
+    Ok(())
+}
+
+/// Begins a change of the first mount to read-only, and does so many of its events. Says whether it goes on, and whether the last of them
+/// was this touch of this word.
+fn goes_up_to(task: &mut Task, gates: &Gates, events: u8, touch: Touch, word: WordName) -> bool
+    requires { IsFrom task.old gates.now }
+    ensures { IsFrom task.new gates.now }
+{
+    let change = Op::ChangeMount {
+        mount: 0,
+        read_only: true,
+        wait: true,
+    };
+    let mut is_there = task.begin(change).is_ok();
+    for done in 1..=events {
+        let step = task.step(gates, Ok(()));
+        is_there = is_there && step.progress == Progress::Going;
+        if done == events {
+            is_there = is_there
+                && step
+                    .event
+                    .is_some_and(|event| event.touch == touch && event.word == word);
+        }
+    }
+    is_there
+}
+
+/// Gates of two mounts at which a task was lost that owned `umount`, after so many events of a change, of which the last was this.
+fn lose_owner(
+    alloc: Global,
+    events: u8,
+    touch: Touch,
+    word: WordName,
+) -> Result<(Gates, Task), GateError>
+    ensures { IfOk result (λ made. IsFrom made.1 made.0) }
+{
+    let config = Config {
+        mounts: 2,
+        ..small(2)
+    };
+    let (gates, mut task) = Gates::new(alloc, config)?;
+    let mut lost = task.split(alloc, &gates)?;
+    if !goes_up_to(&mut lost, &gates, events, touch, word) {
+        return Err(GateError::Order);
+    }
+    Ok((gates, task))
+}
+
+#[test]
+fn a_lost_owner_keeps_umount(rt: HostRuntime) -> Result<(), Fail> {
+    let lock = Touch::Cas { expect: 0, put: 2 };
+    let (gates, mut task) = lose_owner(rt.alloc(), 1, lock, WordName::Umount)?;
+    let again = Err(GateError::Again);
+    assert_eq!(rt; task.try_change_mount(&gates, 0, true), again);
+    assert_eq!(rt; task.try_change_mount(&gates, 0, false), again);
+    assert_eq!(rt; task.try_change_mount(&gates, 1, true), again);
+    assert_eq!(rt; task.try_snapshot(&gates), again);
+    assert_eq!(rt; task.try_want(&gates, 0, 0), Ok(()));
+    assert_eq!(rt; task.drop_mount(&gates, 0, 1), Ok(()));
+    assert_eq!(rt; task.try_snapshot(&gates), again);
+    assert!(rt; stay_open(gates, task, again));
+    Ok(())
+}
+
+#[test]
+fn a_lost_owner_keeps_hold(rt: HostRuntime) -> Result<(), Fail> {
+    let hold = WordName::MountFlags(0);
+    let (gates, mut task) = lose_owner(rt.alloc(), 4, Touch::Or(2), hold)?;
+    let again = Err(GateError::Again);
+    assert_eq!(rt; task.try_want(&gates, 0, 0), again);
+    assert_eq!(rt; task.holds_mount(0), 0);
+    assert_eq!(rt; task.try_want(&gates, 1, 0), Ok(()));
+    assert_eq!(rt; task.drop_mount(&gates, 1, 1), Ok(()));
+    assert_eq!(rt; task.try_start(&gates, 1, 0), Ok(()));
+    assert_eq!(rt; task.end(&gates, 1, 1), Ok(()));
+    assert!(rt; stay_open(gates, task, again));
+    Ok(())
+}
+
+/// A freeze would wait for it for ever, so none is asked for here.
+#[test]
+fn a_task_is_lost_inside_a_level(rt: HostRuntime) -> Result<(), Fail> {
+    let (gates, mut task) = Gates::new(rt.alloc(), small(2))?;
+    let mut lost = task.split(rt.alloc(), &gates)?;
+    assert_eq!(rt; lost.try_start(&gates, 1, 0), Ok(()));
+    drop(lost);
+    assert!(rt; stay_open(gates, task, Ok(())));
+    Ok(())
+}
+
+#[test]
+fn a_task_is_lost_at_rest(rt: HostRuntime) -> Result<(), Fail> {
+    let (gates, mut task) = Gates::new(rt.alloc(), small(2))?;
+    let lost = task.split(rt.alloc(), &gates)?;
+    drop(lost);
+    let refused = task.split(rt.alloc(), &gates).err();
+    assert_eq!(rt; refused, Some(GateError::TooMany));
+    assert!(rt; stay_open(gates, task, Ok(())));
+    Ok(())
+}

@@ -1,0 +1,34 @@
+//! How a call ended that takes memory.
+
+use std::fmt;
+
+/// How a call ended that takes memory.
+#[derive(Clone, Copy, PartialEq, Eq, Debug)]
+pub(crate) enum Ending {
+    /// No growth was refused, and it was done.
+    Done,
+    /// It was refused for lack of memory, had changed nothing, and was done when it was made again.
+    DoneAgain,
+    /// It was refused in another way, or had changed something, or was refused again.
+    Wrong,
+}
+
+impl Ending {
+    /// How two calls ended, one after the other, of which at most one may have been refused.
+    pub(crate) fn and(self, other: Ending) -> Ending {
+        match (self, other) {
+            (Ending::Done, ending) | (ending, Ending::Done) => ending,
+            _ => Ending::Wrong,
+        }
+    }
+}
+
+impl fmt::Display for Ending {
+    fn fmt<W: fmt::Write>(&self, f: &mut fmt::Formatter<W>) -> fmt::Result {
+        match self {
+            Ending::Done => f.write_str("done"),
+            Ending::DoneAgain => f.write_str("done again"),
+            Ending::Wrong => f.write_str("WRONG"),
+        }
+    }
+}

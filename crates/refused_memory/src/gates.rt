@@ -1,0 +1,73 @@
+//! The gates, and the tasks that are split off.
+
+ghost use Rattle.std.specs.Prelude.{IfOk};
+ghost use Rattle.vfs_gates.specs.TaskStates.{IsFrom};
+
+use crate::ending::Ending;
+use crate::models::SMALL;
+use access_model::GateError;
+use std::alloc::Global;
+use vfs_gates::{Gates, Task};
+
+/// Gates whose making is tried again where there is no memory, and how that ended.
+fn make(alloc: Global) -> Result<(Gates, Task, Ending), GateError>
+    ensures { IfOk result (λ made. IsFrom made.1 made.0) }
+{
+    match Gates::new(alloc, SMALL) {
+        Ok((gates, task)) => Ok((gates, task, Ending::Done)),
+        Err(GateError::NoMemory) => {
+            let (gates, task) = Gates::new(alloc, SMALL)?;
+            Ok((gates, task, Ending::DoneAgain))
+        }
+        Err(refusal) => Err(refusal),
+    }
+}
+
+/// A task that is split off, tried again where there is no memory, and how that ended. It has to have this number, whichever try was done:
+/// a refused one takes none.
+fn split(
+    task: &mut Task,
+    alloc: Global,
+    gates: &Gates,
+    number: u8,
+) -> Result<(Task, Ending), GateError>
+    requires { IsFrom task.old gates.now }
+    ensures this { IsFrom task.new gates.now }
+    ensures that { IfOk result (λ that. IsFrom that.0 gates.now) }
+{
+    let (other, ending) = match task.split(alloc, gates) {
+        Ok(other) => (other, Ending::Done),
+        Err(GateError::NoMemory) if task.number() == 0 && task.is_idle() => {
+            (task.split(alloc, gates)?, Ending::DoneAgain)
+        }
+        Err(refusal) => return Err(refusal),
+    };
+    if other.number() == number {
+        Ok((other, ending))
+    } else {
+        Ok((other, Ending::Wrong))
+    }
+}
+
+/// Splits off all tasks that there are, and joins them. The gates can be closed then, since no number is lost. Tells how the splits ended.
+fn split_all(alloc: Global, gates: Gates, mut task: Task) -> Result<Ending, GateError>
+    requires { IsFrom task gates }
+{
+    let (one, first) = split(&mut task, alloc, &gates, 1)?;
+    let (two, second) = split(&mut task, alloc, &gates, 2)?;
+    if task.join(&gates, one).is_err() || task.join(&gates, two).is_err() {
+        return Ok(Ending::Wrong);
+    }
+    if gates.close(task).is_err() {
+        return Ok(Ending::Wrong);
+    }
+    Ok(first.and(second))
+}
+
+/// How the making of gates and the splits ended.
+pub(crate) fn make_and_split(alloc: Global) -> (Ending, Ending) {
+    let Ok((gates, task, made)) = make(alloc) else {
+        return (Ending::Wrong, Ending::Wrong);
+    };
+    (made, split_all(alloc, gates, task).unwrap_or(Ending::Wrong))
+}

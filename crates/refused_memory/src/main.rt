@@ -1,0 +1,47 @@
+//! Makes each call of the libraries that takes memory. Where one is refused for lack of it, it has to have changed nothing, and to be
+//! done when it is made again. bench/refuse-memory.sh runs this program under `rt try --fail-alloc`, which refuses one growth: as many
+//! growths are asked for first as the input's line says, so that each growth of each call is the one that is refused in some run.
+#![tactic(auto)]
+
+mod ending;
+mod gates;
+mod models;
+mod threads;
+
+use anyhow::Result;
+use std::alloc::Global;
+use std::io::Read;
+
+/// Asks for so many small growths, one after the other, and gives each back.
+fn ask_for_growths(alloc: Global, count: u16) {
+    for _growth in 0..count {
+        let mut bytes = Vec::new(alloc);
+        let _refused = bytes.push(0u8);
+    }
+}
+
+/// The number that a line of digits says.
+fn count_of(line: &[u8]) -> u16 {
+    let mut count = 0u16;
+    for byte in line {
+        if byte.is_ascii_digit() {
+            count = count.wrapping_mul(10).wrapping_add(u16::from(*byte - b'0'));
+        }
+    }
+    count
+}
+
+fn main(rt: HostRuntime) -> Result<()> {
+    let mut line = [0u8; 8];
+    let length = rt.stdin().read(&mut line)?;
+    let count = count_of(&line[..length]);
+    let alloc = rt.alloc();
+    ask_for_growths(alloc, count);
+    let (made, split) = gates::make_and_split(alloc);
+    println!(rt; "model {}", models::make_model(alloc))?;
+    println!(rt; "core {}", models::make_core(alloc))?;
+    println!(rt; "gates {made}")?;
+    println!(rt; "split {split}")?;
+    println!(rt; "run {}", threads::run(&rt, alloc))?;
+    Ok(())
+}
