@@ -13,8 +13,8 @@ use Rattle.cpu_words.specs.Words.{read}
 use Rattle.cpu_words.specs.declared.names.WordName.{WordName}
 use Rattle.cpu_words.specs.declared.names.WordName.TheVariants.{Umount, Stage, SbFlags, Remount, Used}
 use Rattle.mntgate.specs.Transcript.{Play, count_up, nonzero_line, mount_part, level_part, section_line, node_word_line, kids_line, tree_words_text, words_text}
-use Rattle.mntgate.specs.CoreSessions.{ShowsPlay}
-use Rattle.mntgate.specs.declared.core_session.CoreSession.{CoreSession}
+use Rattle.mntgate.specs.Sessions.{ShowsPlay}
+use Rattle.mntgate.specs.declared.session.Session.{Session}
 
 -- the texts of one number more
 pub one_more : (f : ℕ → List ℕ) (old now new : List ℕ) (i : ℕ) → now ≡ old ++ flat_map f (count_up i) → new ≡ now ++ f i →
@@ -34,7 +34,7 @@ pub all_of : (f : ℕ → List ℕ) (old new : List ℕ) (i n : ℕ) → new ≡
 all_of f old new i n h e = h ∙ ap (λ (k : ℕ). old ++ flat_map f (count_up k)) e
 
 -- the value of a word, at the play that a session shows
-pub word_is : (s : CoreSession) (p : Play) (name : WordName) (r : Option ℕ) → ShowsPlay s p → IsWord (extents_of p.config) name →
+pub word_is : (s : Session) (p : Play) (name : WordName) (r : Option ℕ) → ShowsPlay s p → IsWord (extents_of p.config) name →
     (IsWord (extents_of s.core.config) name → (w : World) → Shows s.core w → r ≡ Some (read w.words name)) →
     r ≡ Some (read p.world.words name)
 word_is s p name r h word is = is (subst (λ (c : Config). IsWord (extents_of c) name) (sym h.core) word) p.world h.shows
