@@ -63,8 +63,8 @@ pub fn replay_gates<R: Read, W: Write>(
     replay_over(alloc, Over::Gates, reader, writer)
 }
 
-/// A replay over either. What it reads, writes and answers is known over the core.
-fn replay_over<R: Read, W: Write>(
+/// A replay over either gates. What it reads, writes and answers is known over the core.
+pub(crate) fn replay_over<R: Read, W: Write>(
     alloc: Global,
     over: Over,
     reader: &mut R,
