@@ -5,6 +5,8 @@ pub mod Reading
 pub mod Pending
 pub mod Transcript
 pub mod Reached
+pub mod Noted
+pub mod Splitting
 pub mod Drivers
 pub mod Sessions
 pub mod Replayed

@@ -42,7 +42,7 @@ impl Driver {
         ensures opens { over ≡ Over.Core → IfOk result (λ driver. DriverShows driver config opening) }
         ensures within { OnOk result (IsWithin config) }
         ensures invalid { ¬ IsWithin config → result ≡ Err Invalid }
-        ensures memory { over ≡ Over.Core → IsWithin config → IfErr result (λ e. e ≡ NoMemory) }
+        ensures memory { IsWithin config → IfErr result (λ e. e ≡ NoMemory) }
     {
         match over {
             Over::Core => Ok(Driver::Core(Core::new(alloc, config)?)),
@@ -84,7 +84,8 @@ impl Driver {
 
     /// The value of a word; None where the configuration has no such word.
     pub(crate) fn word(&self, name: WordName) -> Option<u64>
-        ensures { (c : Config) (w : World) → DriverShows self.now c w → IsWord (extents_of c) name → result ≡ Some (read w.words name) }
+        ensures { (c : Config) (w : World) → DriverShows self.now c w → IsWord (extents_of c) name →
+            result ≡ Some (read w.words name) }
     {
         match self {
             Driver::Core(core) => core.word(name),

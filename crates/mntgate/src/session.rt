@@ -54,7 +54,7 @@ impl Session {
         ensures opens { over ≡ Over.Core → IfOk result (λ session. ShowsPlay session (opening_play config)) }
         ensures within { OnOk result (is_config config ≡ true) }
         ensures invalid { is_config config ≡ false → result ≡ Err (Refused Invalid) }
-        ensures memory { over ≡ Over.Core → is_config config ≡ true → IfErr result (λ fault. fault ≡ Refused NoMemory) }
+        ensures memory { is_config config ≡ true → IfErr result (λ fault. fault ≡ Refused NoMemory) }
     {
         let driver = Driver::new(alloc, over, config).map_err(Fault::Refused)?;
         let (tasks, mounts, nodes) = (config.tasks, config.mounts, config.nodes);

@@ -27,12 +27,14 @@ returns-clause-goes_on c input held left holds done less way =
           (ap pending done_so.input ∙ c.take.ensures) prints none;
       shows = shows;
     })
-    (done_so.prints way.play way.shows) (done_so.shows way.play way.shows) (done_so.done way.play way.shows)
+    (done_so.prints way.play (record { over = way.shows.over; session = way.shows.session }))
+    (done_so.shows way.play (record { over = way.shows.over; session = way.shows.session }))
+    (done_so.done way.play (record { over = way.shows.over; session = way.shows.session }))
 
 pub returns-clause-stops : goal.returns-clause-stops
 returns-clause-stops c input held left holds done less way =
     let is : parsed (take c.args.length (pending c.args.self.now.input)) (tasks_of way.play) ≡ Ok c.in_ok-line.line =
     ap (λ l. parsed l (tasks_of way.play)) (sym c.first.ensures)
     ∙ ap (parsed c.first.result.now) (sym (c.tasks.ensures way.play way.shows.session)) ∙ sym c.in_ok-line.ensures in
-    fails_with c.do_parsed.result _ _ _ (c.do_parsed.ensures.fault way.play way.shows) c.do_parsed.ensures.kept
+    fails_with c.do_parsed.result _ _ _ (c.do_parsed.ensures.fault way.play (record { over = way.shows.over; session = way.shows.session })) c.do_parsed.ensures.kept
     (λ fault how kept. failed_line way.way c.args.length less c.requires.front c.in_ok-line.line is fault _ how kept)

@@ -4,10 +4,10 @@ use Rattle.schedule_text.specs.Faults.{text_of, cause_of}
 use Rattle.schedule_text.specs.declared.faults.Fault.TheVariants.{Refused}
 use Rattle.mntgate.specs.Replayed.{Reports}
 use Rattle.mntgate.proofs.Replaying.{never_begun}
-use Rattle.mntgate.proofs.replay.replay.Goals as goal
+use Rattle.mntgate.proofs.replay.replay_over.Goals as goal
 
 pub returns-in-Err-clause-replayed : goal.returns-in-Err-clause-replayed
-returns-in-Err-clause-replayed g c =
+returns-in-Err-clause-replayed g c core =
     let told = c.fault_after.ensures in
     let reports : Reports c.fault_after.result (Refused NoMemory) = record {
       text = told.text ∙ ap text_of c.no_memory.ensures;
