@@ -1,4 +1,4 @@
--- Tasks that are split off, one after the other, have the numbers in their order, and none is refused but for memory.
+-- Tasks that are split off, one after the other, take the numbers in their order, and none is refused but for memory.
 use Rattle.std.proofs.Common.{◌≡◌, ℕ, zero, suc, ◌+◌, ◌<◌, ◌≤◌, ◌≢◌, refl, ap, ◌∙◌, arith, [], ◌∷◌}
 use mathlib.Core.Logic.{dite}
 use native.Mathlib.Decide.{ℕ_discrete, dec_lt}
@@ -6,11 +6,11 @@ use Rattle.access_model.specs.declared.errors.GateError.{GateError}
 use Rattle.access_model.specs.declared.errors.GateError.TheVariants.{Order, TooMany, NoMemory}
 use Rattle.gate_world.specs.declared.config.Config.{Config}
 use Rattle.gate_steps.specs.Rules.{first_items}
-use Rattle.gate_steps.specs.Seating.{SeatItems, times, kept_of, given_of, deal}
+use Rattle.gate_steps.specs.Seating.{SeatItems, times, kept_of, deal}
 use Rattle.gate_steps.proofs.Giving.{times-without, times-without_other}
 use Rattle.gate_steps.proofs.Opening.{times-deal, times-deal_below}
 use Rattle.vfs_gates.specs.Parts.{SplitOf, SplitRefused}
-use Rattle.vfs_gates.specs.TaskStates.{TaskState, IsIdle, spare_of, own_number}
+use Rattle.vfs_gates.specs.TaskStates.{TaskState, IsIdle, spare_of}
 use Rattle.mntgate.specs.Splitting.{Gives}
 
 -- the numbers behind the first of so many
@@ -53,11 +53,6 @@ spare_gone : (n : ℕ) (items : SeatItems) → times n (spare_of (kept_of n item
 spare_gone n [] = refl
 spare_gone n (x ∷ xs) = times-without n xs
 
--- the task that it was given to has it as its own
-given_number : (n : ℕ) (items : SeatItems) → 1 ≤ times n (spare_of items) → own_number (given_of n items) ≡ n
-given_number n [] there = absurd (omega arith)
-given_number n (x ∷ xs) there = refl
-
 -- after a split the first task has the numbers behind the next to give
 pub gives_on : (first left other : TaskState) (from count : ℕ) → Gives first from count → from < count → SplitOf first left other →
     Gives left (from + 1) count
@@ -75,13 +70,6 @@ gives_on first left other from count gives below s =
           ∙ ap (λ (n : ℕ). times n (spare_of (kept_of s.number first.items))) yes ∙ spare_gone s.number first.items)
           (λ ne. same k ne ∙ gives.earlier k (omega arith));
     }
-
--- the task that was split off has the next number
-pub has_next : (first left other : TaskState) (from count : ℕ) → Gives first from count → from < count → SplitOf first left other →
-    own_number other.items ≡ from
-has_next first left other from count gives below s =
-    ap (λ (t : TaskState). own_number t.items) s.given ∙ given_number s.number first.items s.there
-    ∙ next_number first left other from count gives below s
 
 -- while a number is left, a split is refused for memory alone
 pub refused_for_memory : (first : TaskState) (from count : ℕ) (e : GateError) → Gives first from count → from < count →
