@@ -2,6 +2,7 @@ pub mod Blocks
 pub mod Playing
 pub mod Showing
 pub mod Texts
+pub mod Splitting
 pub mod Running
 pub mod Fronts
 pub mod Faults

@@ -9,33 +9,33 @@ use Rattle.gate_core.specs.declared.steps.Progress.TheVariants.{Idle, Going, Wai
 use Rattle.gate_core.specs.Answers.{step_answer}
 use Rattle.schedule_text.specs.declared.commands.HookFailure.{HookFailure}
 use Rattle.mntgate.specs.Transcript.{Play, after_event, hook_answer, next_progress, next_play, run_from, run_of}
-use Rattle.mntgate.specs.CoreSessions.{ShowsPlay}
-use Rattle.mntgate.specs.declared.core_session.CoreSession.{CoreSession}
+use Rattle.mntgate.specs.Sessions.{ShowsPlay}
+use Rattle.mntgate.specs.declared.session.Session.{Session}
 
 -- the run has to wait, or has ended
 abbrev IsLast : Progress → Type 0
 IsLast x = (x ≡ Waiting) ⊎ ((answer : Result Reply GateError) × (x ≡ Ended answer))
 
 -- a run that is on its way, after so many events
-pub record OnTheWay (session : CoreSession) (p : Play) (t : ℕ) (failure : Option HookFailure) (events : ℕ) : Type 0 where
+pub record OnTheWay (session : Session) (p : Play) (t : ℕ) (failure : Option HookFailure) (events : ℕ) : Type 0 where
   pub now : Play
   pub shows : ShowsPlay session now
   pub left : run_of p t failure ≡ run_from (1000 - events) now t failure
 
 -- before its first event
-pub starts : (session : CoreSession) (p : Play) (t : ℕ) (failure : Option HookFailure) → ShowsPlay session p →
+pub starts : (session : Session) (p : Play) (t : ℕ) (failure : Option HookFailure) → ShowsPlay session p →
     OnTheWay session p t failure 0
 unfolding run_of
 starts session p t failure h = record { now = p; shows = h; left = refl }
 
-module _ (session : CoreSession) (p : Play) (t : ℕ) (failure : Option HookFailure) (events : ℕ)
+module _ (session : Session) (p : Play) (t : ℕ) (failure : Option HookFailure) (events : ℕ)
     (way : OnTheWay session p t failure events) (hook : HookAnswer) (same : hook ≡ hook_answer way.now t failure) where
   -- a step whose hook answers as the run says is the run's next one
   pub progress_in_run : (step_answer way.now.config way.now.world t hook).progress ≡ next_progress way.now t failure
   progress_in_run = ap (λ (h : HookAnswer). (step_answer way.now.config way.now.world t h).progress) same
 
   -- and its play is the run's next one
-  pub shows_in_run : (new : CoreSession) → ShowsPlay new (after_event way.now t hook) → ShowsPlay new (next_play way.now t failure)
+  pub shows_in_run : (new : Session) → ShowsPlay new (after_event way.now t hook) → ShowsPlay new (next_play way.now t failure)
   shows_in_run new h = subst (λ (a : HookAnswer). ShowsPlay new (after_event way.now t a)) same h
 
 -- what a run comes to by an event that answers this, where so many more may follow
@@ -57,7 +57,7 @@ one_turn p q t failure events x lt left is =
     left ∙ ap (λ (n : ℕ). run_from n q t failure) e ∙ ap (turn (1000 - (events + 1)) q t failure) (sym is)
 
 -- an event after which the operation goes on
-pub goes_on : (session new : CoreSession) (p : Play) (t : ℕ) (failure : Option HookFailure) (events : ℕ)
+pub goes_on : (session new : Session) (p : Play) (t : ℕ) (failure : Option HookFailure) (events : ℕ)
     (way : OnTheWay session p t failure events) → events < 1000 → Going ≡ next_progress way.now t failure →
     ShowsPlay new (next_play way.now t failure) → OnTheWay new p t failure (events + 1)
 goes_on session new p t failure events way lt is h = record {
@@ -67,7 +67,7 @@ goes_on session new p t failure events way lt is h = record {
 }
 
 -- an idle task ends the run
-pub is_idle : (session : CoreSession) (p : Play) (t : ℕ) (failure : Option HookFailure) (events : ℕ)
+pub is_idle : (session : Session) (p : Play) (t : ℕ) (failure : Option HookFailure) (events : ℕ)
     (way : OnTheWay session p t failure events) → events < 1000 → Idle ≡ next_progress way.now t failure →
     run_of p t failure ≡ (Idle, next_play way.now t failure)
 is_idle session p t failure events way lt is = one_turn p way.now t failure events Idle lt way.left is
@@ -91,7 +91,7 @@ ended x (inl e) = ap going_ends e
 ended x (inr e) = ap going_ends e.1
 
 -- having to wait or a reply ends the run
-pub stops : (session : CoreSession) (p : Play) (t : ℕ) (failure : Option HookFailure) (events : ℕ)
+pub stops : (session : Session) (p : Play) (t : ℕ) (failure : Option HookFailure) (events : ℕ)
     (way : OnTheWay session p t failure events) (x : Progress) → events < 1000 → x ≡ next_progress way.now t failure → IsLast x →
     run_of p t failure ≡ (x, next_play way.now t failure)
 stops session p t failure events way x lt is how =
@@ -103,6 +103,6 @@ pub progress_so : (p : Play) (t : ℕ) (failure : Option HookFailure) (x : Progr
 progress_so p t failure x q e = ap (λ (r : Progress × Play). r.0) e
 
 -- the play that a run ends in, where it is known
-pub shows_so : (session : CoreSession) (p : Play) (t : ℕ) (failure : Option HookFailure) (x : Progress) (q : Play) →
+pub shows_so : (session : Session) (p : Play) (t : ℕ) (failure : Option HookFailure) (x : Progress) (q : Play) →
     run_of p t failure ≡ (x, q) → ShowsPlay session q → ShowsPlay session (run_of p t failure).1
 shows_so session p t failure x q e h = subst (λ (r : Progress × Play). ShowsPlay session r.1) (sym e) h

@@ -1,20 +1,11 @@
 -- Texts of 0, 1, .. n - 1, and what words and models print.
-use Rattle.std.proofs.Common.{◌≡◌, ℕ, ◌+◌, sym, ap, subst, ◌∙◌, List, [], ◌++◌, map, append_assoc, append-nil, add-one}
-use Rattle.std.specs.Prelude.{Option, Some}
+use Rattle.std.proofs.Common.{◌≡◌, ℕ, ◌+◌, sym, ap, ◌∙◌, List, [], ◌++◌, map, append_assoc, append-nil, add-one}
 use Rattle.std.specs.List.{flat_map}
 use Rattle.std.proofs.lemmas.List.{flat_map_more}
 use Rattle.std.proofs.lemmas.List.Folds.{flat_map-map}
-use Rattle.gate_world.specs.Configs.{extents_of}
-use Rattle.gate_world.specs.declared.config.Config.{Config}
-use Rattle.gate_world.specs.Worlds.{World}
-use Rattle.gate_core.specs.Memory.{Shows}
-use Rattle.cpu_words.specs.Names.{IsWord}
-use Rattle.cpu_words.specs.Words.{read}
 use Rattle.cpu_words.specs.declared.names.WordName.{WordName}
 use Rattle.cpu_words.specs.declared.names.WordName.TheVariants.{Umount, Stage, SbFlags, Remount, Used}
 use Rattle.mntgate.specs.Transcript.{Play, count_up, nonzero_line, mount_part, level_part, section_line, node_word_line, kids_line, tree_words_text, words_text}
-use Rattle.mntgate.specs.CoreSessions.{ShowsPlay}
-use Rattle.mntgate.specs.declared.core_session.CoreSession.{CoreSession}
 
 -- the texts of one number more
 pub one_more : (f : ℕ → List ℕ) (old now new : List ℕ) (i : ℕ) → now ≡ old ++ flat_map f (count_up i) → new ≡ now ++ f i →
@@ -32,12 +23,6 @@ none_more f old now i so_far none = one_more f old now now i so_far (sym (ap (λ
 pub all_of : (f : ℕ → List ℕ) (old new : List ℕ) (i n : ℕ) → new ≡ old ++ flat_map f (count_up i) → i ≡ n →
     new ≡ old ++ flat_map f (count_up n)
 all_of f old new i n h e = h ∙ ap (λ (k : ℕ). old ++ flat_map f (count_up k)) e
-
--- the value of a word, at the play that a session shows
-pub word_is : (s : CoreSession) (p : Play) (name : WordName) (r : Option ℕ) → ShowsPlay s p → IsWord (extents_of p.config) name →
-    (IsWord (extents_of s.core.config) name → (w : World) → Shows s.core w → r ≡ Some (read w.words name)) →
-    r ≡ Some (read p.world.words name)
-word_is s p name r h word is = is (subst (λ (c : Config). IsWord (extents_of c) name) (sym h.core) word) p.world h.shows
 
 -- three texts, one behind the other
 assoc : (a b c : List ℕ) → (a ++ b) ++ c ≡ a ++ (b ++ c)

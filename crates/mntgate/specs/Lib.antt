@@ -5,7 +5,10 @@ pub mod Reading
 pub mod Pending
 pub mod Transcript
 pub mod Reached
-pub mod CoreSessions
+pub mod Noted
+pub mod Splitting
+pub mod Drivers
+pub mod Sessions
 pub mod Replayed
 pub mod Replaying
-pub mod CoreReplays
+pub mod LineReplays

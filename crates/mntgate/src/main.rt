@@ -1,13 +1,15 @@
 //! The program: write gates of a mounted file system, driven from the command line.
 #![tactic(auto)]
 
-mod core_replay;
-mod core_session;
+mod drivers;
+mod gates_driver;
 mod input;
+mod line_replay;
 mod printing;
 mod program;
 mod replay;
 mod runs;
+mod session;
 #[cfg(test)]
 mod tests;
 mod writing;

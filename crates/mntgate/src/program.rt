@@ -2,26 +2,31 @@
 
 ghost use Rattle.std.specs.Prelude.{◌≡◌, ◌⊎◌, IfOk, Ok, Err};
 ghost use Rattle.mntgate.specs.Replayed.{Replayed};
-ghost use Rattle.mntgate.specs.declared.program.Ending.TheVariants.{Done, Ran, Refused, Misused};
+ghost use Rattle.mntgate.specs.declared.program.Ending.TheVariants.{Done, DoneOverGates, Ran, Refused, Misused};
 ghost use Rattle.mntgate.specs.declared.replay.ReplayFault.{ReplayFault};
 
-use crate::replay::replay;
+use crate::replay::{ReplayFault, replay, replay_gates};
 use crate::runs;
 use crate::runs::{Asked, Progress};
 use clap::builder::ValueParser;
 use clap::error::ErrorKind;
-use clap::{Arg, ArgMatches, Command, Error};
+use clap::{Arg, ArgAction, ArgMatches, Command, Error};
 use std::alloc::{AllocError, Global};
 use std::io;
 use std::io::{Read, Stderr, Write};
 use std::sync::Wait;
 use std::thread::Threads;
 
+/// The flag of a replay over the gates that threads use.
+const OVER_GATES: &str = "over-gates";
+
 /// How the program ends.
 #[derive(Clone, Copy, PartialEq, Eq, Debug)]
 pub(crate) enum Ending {
     /// The whole schedule was done.
     Done,
+    /// It was done over the gates that threads use.
+    DoneOverGates,
     /// A run was done, and what it counted is written.
     Ran,
     /// A schedule or a run was refused, or could not be read or written, or there was no memory.
@@ -34,12 +39,13 @@ impl Ending {
     /// The exit status.
     pub(crate) fn status(self) -> u8
         ensures done { self ≡ Done → result ≡ 0 }
+        ensures done_over_gates { self ≡ DoneOverGates → result ≡ 0 }
         ensures ran { self ≡ Ran → result ≡ 0 }
         ensures refused { self ≡ Refused → result ≡ 1 }
         ensures misused { self ≡ Misused → result ≡ 2 }
     {
         match self {
-            Ending::Done | Ending::Ran => 0,
+            Ending::Done | Ending::DoneOverGates | Ending::Ran => 0,
             Ending::Refused => 1,
             Ending::Misused => 2,
         }
@@ -64,17 +70,24 @@ pub(crate) fn run<R: Threads + Wait + Sync, I: Read, W: Write, E: Write>(
     match command.try_get_matches_from(words) {
         Ok(matches) => match matches.subcommand_matches("run") {
             Some(run) => Ok(run_threads(rt, alloc, run, writer, errors, watched)),
+            None if is_over_gates(&matches) => {
+                Ok(run_replay_gates(alloc, reader, writer, errors))
+            }
             None => Ok(run_replay(alloc, reader, writer, errors)),
         },
         Err(error) => Ok(misused(&error, errors)),
     }
 }
 
-/// The command line: `replay`, and `run` with its numbers.
+/// The command line: `replay` with its flag, and `run` with its numbers.
 fn command<'a>(alloc: Global) -> Result<Command<'a>, AllocError> {
-    let replay = Command::new(alloc, "replay").about(
-        "Reads a schedule from standard input and prints each event asked for",
-    );
+    let over_gates = Arg::new(alloc, OVER_GATES)
+        .long(OVER_GATES)
+        .action(ArgAction::SetTrue)
+        .help("Replays it over the gates that threads use, in one thread");
+    let replay = Command::new(alloc, "replay")
+        .about("Reads a schedule from standard input and prints each event asked for")
+        .arg(over_gates)?;
     let run = Command::new(alloc, "run")
         .about("Runs writers, a remounter and a backup in threads, and prints what they did")
         .arg(number(
@@ -154,6 +167,14 @@ fn run_threads<R: Threads + Wait + Sync, W: Write, E: Write>(
     }
 }
 
+/// Whether a replay is asked for over the gates that threads use.
+fn is_over_gates(matches: &ArgMatches<'_>) -> bool {
+    match matches.subcommand_matches("replay") {
+        Some(replay) => replay.get_flag(OVER_GATES),
+        None => false,
+    }
+}
+
 /// Replays a schedule.
 fn run_replay<R: Read, W: Write, E: Write>(
     alloc: Global,
@@ -169,11 +190,31 @@ fn run_replay<R: Read, W: Write, E: Write>(
 {
     match replay(alloc, reader, writer) {
         Ok(()) => Ending::Done,
-        Err(fault) => {
-            let _ = writeln!(errors, "{fault}");
-            Ending::Refused
-        }
+        Err(fault) => refused(fault, errors),
     }
+}
+
+/// Replays a schedule over the gates that threads use.
+fn run_replay_gates<R: Read, W: Write, E: Write>(
+    alloc: Global,
+    reader: &mut R,
+    writer: &mut W,
+    errors: &mut E,
+) -> Ending
+    ensures { (result ≡ DoneOverGates) ⊎ (result ≡ Refused) }
+{
+    match replay_gates(alloc, reader, writer) {
+        Ok(()) => Ending::DoneOverGates,
+        Err(fault) => refused(fault, errors),
+    }
+}
+
+/// Says at which line a schedule ended, and why.
+fn refused<E: Write>(fault: ReplayFault, errors: &mut E) -> Ending
+    ensures { result ≡ Refused }
+{
+    let _ = writeln!(errors, "{fault}");
+    Ending::Refused
 }
 
 /// Says what is wrong with the command line. Help is an answer to a fault too, so that it goes where faults go; that there

@@ -5,8 +5,9 @@ ghost use Rattle.schedule_text.specs.Faults.{text_of, cause_of};
 ghost use Rattle.mntgate.specs.Limits.{IsLineNumber};
 ghost use Rattle.mntgate.specs.Replayed.{Replayed};
 
-use crate::core_replay::CoreReplay;
-use crate::core_session::no_memory;
+use crate::drivers::Over;
+use crate::line_replay::LineReplay;
+use crate::session::no_memory;
 use access_model::GateError;
 use schedule_text::Fault;
 use std::alloc::Global;
@@ -47,7 +48,33 @@ pub fn replay<R: Read, W: Write>(
     ensures replayed { Replayed (R.remaining reader.old) (R.remaining reader.new) (W.contents writer.old) (W.contents writer.new) result }
     ensures line { IfErr result (λ fault. IsLineNumber fault.line) }
 {
-    match CoreReplay::new(alloc) {
+    replay_over(alloc, Over::Core, reader, writer)
+}
+
+/// The same language and the same text, by one thread over the gates that threads use, with a task for each number, which none is
+/// joined to. A configuration is refused as `Gates::new` is, then as `Task::split` is, then as `Model::new` is.
+pub fn replay_gates<R: Read, W: Write>(
+    alloc: Global,
+    reader: &mut R,
+    writer: &mut W,
+) -> Result<(), ReplayFault>
+    ensures { IfErr result (λ fault. IsLineNumber fault.line) }
+{
+    replay_over(alloc, Over::Gates, reader, writer)
+}
+
+/// A replay over either gates. What it reads, writes and answers is known over the core.
+pub(crate) fn replay_over<R: Read, W: Write>(
+    alloc: Global,
+    over: Over,
+    reader: &mut R,
+    writer: &mut W,
+) -> Result<(), ReplayFault>
+    ensures replayed { over ≡ Over.Core →
+        Replayed (R.remaining reader.old) (R.remaining reader.new) (W.contents writer.old) (W.contents writer.new) result }
+    ensures line { IfErr result (λ fault. IsLineNumber fault.line) }
+{
+    match LineReplay::new(alloc, over) {
         Ok(mut replay) => replay.do_lines(reader, writer),
         Err(error) => Err(fault_after(0, no_memory(error))),
     }

@@ -3,24 +3,39 @@
 mod endings;
 mod fakes;
 mod freezes;
+mod hooks;
 mod levels;
+mod random;
 mod remounts;
 mod trees;
 
-use crate::replay::{ReplayFault, replay};
+use crate::drivers::Over;
+use crate::replay::{ReplayFault, replay, replay_gates, replay_over};
 use access_model::GateError;
 use fakes::{Counter, Frail, Newlines, Refusal, Slow, Watcher};
 use std::alloc::Global;
 use std::cell::Cell;
+use std::io::{ErrorKind, Read};
 use std::process::Abort;
 use std::test::Fail;
 
-/// What a schedule prints, as far as it comes, and its fault, if there is one.
-fn played(alloc: Global, schedule: &[u8]) -> Result<(Vec<u8>, Result<(), ReplayFault>), Fail> {
-    let (mut reader, mut printed) = (schedule, Vec::new(alloc));
-    let ended = replay(alloc, &mut reader, &mut printed);
+/// What a schedule prints, as far as it comes, and its fault, if there is one: over the core, and over the gates that threads use, which
+/// have to be the same.
+fn played<R: Abort + Alloc<A = Global>>(
+    rt: &R,
+    schedule: &[u8],
+) -> Result<(Vec<u8>, Result<(), ReplayFault>), Fail> {
+    let (mut reader, mut printed) = (schedule, Vec::new(rt.alloc()));
+    let ended = replay(rt.alloc(), &mut reader, &mut printed);
+    let (mut reader, mut same) = (schedule, Vec::new(rt.alloc()));
+    let same_end = replay_gates(rt.alloc(), &mut reader, &mut same);
+    assert_eq!(rt; same.as_slice(), printed.as_slice());
+    assert!(rt; same_end == ended);
     Ok((printed, ended))
 }
+
+/// Over which gates a reader or a writer of a test's own is replayed: over each.
+const EITHER: [Over; 2] = [Over::Core, Over::Gates];
 
 /// That a replay ended with the fault of this text; with none, where the text is empty.
 fn expect_end<R: Abort + Alloc<A = Global>>(
@@ -38,7 +53,7 @@ fn expect_end<R: Abort + Alloc<A = Global>>(
 
 /// That a schedule prints this and ends without a fault.
 fn prints<R: Abort + Alloc<A = Global>>(rt: &R, schedule: &str, text: &str) -> Result<(), Fail> {
-    let (printed, ended) = played(rt.alloc(), schedule.as_bytes())?;
+    let (printed, ended) = played(rt, schedule.as_bytes())?;
     assert_eq!(rt; printed.as_slice(), text.as_bytes());
     expect_end(rt, ended, "")
 }
@@ -52,7 +67,7 @@ fn print_all<R: Abort + Alloc<A = Global>>(rt: &R, schedules: &[(&str, &str)]) -
 }
 
 /// Each schedule with what it prints.
-static PRINTED: [(&str, &str); 10] = [
+static PRINTED: [(&str, &str); 11] = [
     // An access, event by event.
     (
         "config 1 1 1 2 8\n\
@@ -221,6 +236,8 @@ static PRINTED: [(&str, &str); 10] = [
          0 idle\n\
          0 idle\n",
     ),
+    // A number that is more than a byte is out of range, and no fault.
+    ("config 1 1 1 2 8\n0 want 300 0\n", "0 refused 22 Invalid\n"),
     // A second task finds the lock taken.
     (
         "config 2 1 1 2 8\n\
@@ -391,7 +408,7 @@ fn schedules_print_what_they_ask_for(rt: HostRuntime) -> Result<(), Fail> {
 #[test]
 fn malformed_schedules_end_at_their_first_fault(rt: HostRuntime) -> Result<(), Fail> {
     for (schedule, fault) in FAULTS.iter().chain(SEVERAL_FAULTS.iter()) {
-        let (printed, ended) = played(rt.alloc(), schedule.as_bytes())?;
+        let (printed, ended) = played(&rt, schedule.as_bytes())?;
         assert!(rt; printed.is_empty());
         expect_end(&rt, ended, fault)?;
     }
@@ -401,7 +418,7 @@ fn malformed_schedules_end_at_their_first_fault(rt: HostRuntime) -> Result<(), F
 #[test]
 fn what_was_printed_before_a_fault_stays(rt: HostRuntime) -> Result<(), Fail> {
     let schedule = b"config 1 1 1 2 8\n0 step\n\xff\xfe\n0 step\n";
-    let (printed, ended) = played(rt.alloc(), schedule.as_slice())?;
+    let (printed, ended) = played(&rt, schedule.as_slice())?;
     assert_eq!(rt; printed.as_slice(), b"0 idle\n".as_slice());
     expect_end(&rt, ended, "line 3: unknown command")
 }
@@ -415,7 +432,7 @@ fn a_line_has_at_most_256_bytes(rt: HostRuntime) -> Result<(), Fail> {
         let mut schedule = vec![in rt.alloc(); b'x'; bytes]?;
         schedule.insert(0, b'#')?;
         schedule.push(b'\n')?;
-        let (_, ended) = played(rt.alloc(), schedule.as_slice())?;
+        let (_, ended) = played(&rt, schedule.as_slice())?;
         expect_end(&rt, ended, fault)?;
     }
     Ok(())
@@ -425,14 +442,14 @@ fn a_line_has_at_most_256_bytes(rt: HostRuntime) -> Result<(), Fail> {
 fn a_line_that_is_too_long_is_not_cut_off(rt: HostRuntime) -> Result<(), Fail> {
     for (bytes, fault) in [(256, "line 1: cut off"), (257, "line 1: line too long")] {
         let schedule = vec![in rt.alloc(); b'x'; bytes]?;
-        let (_, ended) = played(rt.alloc(), schedule.as_slice())?;
+        let (_, ended) = played(&rt, schedule.as_slice())?;
         expect_end(&rt, ended, fault)?;
     }
     Ok(())
 }
 
-#[test]
-fn a_schedule_has_at_most_1048576_lines(rt: HostRuntime) -> Result<(), Fail> {
+/// That a schedule of as many lines as there may be has no fault, and one of more has.
+fn expect_limit<R: Abort + Alloc<A = Global>>(rt: &R, over: Over) -> Result<(), Fail> {
     let long = [b'x'; 257];
     let too_many = "line 1048577: too many lines";
     for (tail, fault) in [
@@ -447,10 +464,20 @@ fn a_schedule_has_at_most_1048576_lines(rt: HostRuntime) -> Result<(), Fail> {
             empty: 1_048_575,
             tail,
         };
-        let ended = replay(rt.alloc(), &mut reader, &mut std::io::empty());
-        expect_end(&rt, ended, fault)?;
+        let ended = replay_over(rt.alloc(), over, &mut reader, &mut std::io::empty());
+        expect_end(rt, ended, fault)?;
     }
     Ok(())
+}
+
+#[test]
+fn a_schedule_has_at_most_1048576_lines(rt: HostRuntime) -> Result<(), Fail> {
+    expect_limit(&rt, Over::Core)
+}
+
+#[test]
+fn a_schedule_over_the_gates_has_at_most_1048576_lines(rt: HostRuntime) -> Result<(), Fail> {
+    expect_limit(&rt, Over::Gates)
 }
 
 /// A schedule of eight lines, what it prints, and how many bytes its first lines print: of no line, of one, and so on.
@@ -474,42 +501,104 @@ fn begins_text<R: Abort>(rt: &R, printed: &[u8], count: usize) -> Result<(), Fai
     Ok(())
 }
 
-/// Each read in turn is interrupted once: the next one would give bytes, but none is made.
+/// That a read which fails once, after so many good ones of 7 bytes, ends the replay after the lines that were read whole: the next read
+/// would give bytes, but none is made.
+fn failed_read_ends<R: Abort + Alloc<A = Global>>(
+    rt: &R,
+    over: Over,
+    good: u32,
+    kind: ErrorKind,
+) -> Result<(), Fail> {
+    let (bytes, mut printed) = (SCHEDULE.as_bytes(), Vec::new(rt.alloc()));
+    let mut reader = Slow::new(bytes, 7, good, kind);
+    let ended = replay_over(rt.alloc(), over, &mut reader, &mut printed);
+    let read = bytes.iter().take(7 * good.min(12) as usize);
+    let lines = read.filter(|byte| **byte == b'\n').count();
+    let count = AFTER.get(lines).ok_or("too many lines")?;
+    begins_text(rt, printed.as_slice(), *count)?;
+    let line = lines as u64 + 1;
+    let fault = format!(in rt.alloc(); "line {line}: read failed")?;
+    expect_end(rt, ended, fault.as_str())
+}
+
+/// Also one that is interrupted: it isn't made again.
 #[test]
-fn an_interrupted_read_ends_the_replay(rt: HostRuntime) -> Result<(), Fail> {
-    for good in 0..12 {
-        let mut printed = Vec::new(rt.alloc());
-        let bytes = SCHEDULE.as_bytes();
-        let ended = replay(rt.alloc(), &mut Slow::new(bytes, 7, good), &mut printed);
-        let read = bytes.iter().take(7 * good as usize);
-        let lines = read.filter(|byte| **byte == b'\n').count();
-        let count = AFTER.get(lines).ok_or("too many lines")?;
-        begins_text(&rt, printed.as_slice(), *count)?;
-        let line = lines as u64 + 1;
-        let fault = format!(in rt.alloc(); "line {line}: read failed")?;
-        expect_end(&rt, ended, fault.as_str())?;
+fn each_read_fails_in_turn(rt: HostRuntime) -> Result<(), Fail> {
+    for over in EITHER {
+        for kind in [ErrorKind::Interrupted, ErrorKind::Other] {
+            for good in 0..12 {
+                failed_read_ends(&rt, over, good, kind)?;
+            }
+        }
     }
     Ok(())
 }
 
 #[test]
 fn a_byte_at_a_time_reads_and_writes_the_same(rt: HostRuntime) -> Result<(), Fail> {
-    let mut writer = Frail::new(rt.alloc(), 1, u32::MAX, Refusal::Nothing);
-    let mut reader = Slow::new(SCHEDULE.as_bytes(), 1, u32::MAX);
-    let ended = replay(rt.alloc(), &mut reader, &mut writer);
-    begins_text(&rt, writer.taken.as_slice(), TEXT.len())?;
-    expect_end(&rt, ended, "")
+    for over in EITHER {
+        let mut writer = Frail::new(rt.alloc(), 1, u32::MAX, Refusal::Nothing);
+        let mut reader = Slow::new(SCHEDULE.as_bytes(), 1, u32::MAX, ErrorKind::Other);
+        let ended = replay_over(rt.alloc(), over, &mut reader, &mut writer);
+        begins_text(&rt, writer.taken.as_slice(), TEXT.len())?;
+        expect_end(&rt, ended, "")?;
+    }
+    Ok(())
+}
+
+/// How a writer of a few bytes at a time refuses.
+const REFUSALS: [Refusal; 3] = [
+    Refusal::Error(ErrorKind::Interrupted),
+    Refusal::Error(ErrorKind::Other),
+    Refusal::Nothing,
+];
+
+/// That a write which fails after so many good ones ends the replay with this fault and these bytes written, and is the last one.
+fn failed_write_ends<R: Abort + Alloc<A = Global>, I: Read>(
+    rt: &R,
+    over: Over,
+    reader: &mut I,
+    mut writer: Frail,
+    count: usize,
+    fault: &str,
+) -> Result<(), Fail> {
+    let ended = replay_over(rt.alloc(), over, reader, &mut writer);
+    begins_text(rt, writer.taken.as_slice(), count)?;
+    assert!(rt; !writer.was_called_again);
+    expect_end(rt, ended, fault)
 }
 
 #[test]
 fn each_write_fails_in_turn(rt: HostRuntime) -> Result<(), Fail> {
-    for refusal in [Refusal::Error, Refusal::Nothing] {
-        for good in 0..14 {
-            let mut writer = Frail::new(rt.alloc(), 3, good, refusal);
-            let ended = replay(rt.alloc(), &mut SCHEDULE.as_bytes(), &mut writer);
-            begins_text(&rt, writer.taken.as_slice(), 3 * good as usize)?;
-            assert!(rt; !writer.was_called_again);
-            expect_end(&rt, ended, "line 9: write failed")?;
+    for over in EITHER {
+        for refusal in REFUSALS {
+            for good in 0..14 {
+                let writer = Frail::new(rt.alloc(), 3, good, refusal);
+                let reader = &mut SCHEDULE.as_bytes();
+                let count = 3 * good as usize;
+                failed_write_ends(&rt, over, reader, writer, count, "line 9: write failed")?;
+            }
+        }
+    }
+    Ok(())
+}
+
+/// Each line that prints is written by itself, where the bytes come one at a time: the write fails before the next line is read.
+#[test]
+fn each_write_between_reads_fails_in_turn(rt: HostRuntime) -> Result<(), Fail> {
+    let faults = [
+        (0, "line 4: write failed"),
+        (5, "line 6: write failed"),
+        (23, "line 7: write failed"),
+        (37, "line 9: write failed"),
+    ];
+    for over in EITHER {
+        for refusal in REFUSALS {
+            for (good, (count, fault)) in (0..).zip(faults.iter()) {
+                let mut reader = Slow::new(SCHEDULE.as_bytes(), 1, u32::MAX, ErrorKind::Other);
+                let writer = Frail::new(rt.alloc(), usize::MAX, good, refusal);
+                failed_write_ends(&rt, over, &mut reader, writer, *count, fault)?;
+            }
         }
     }
     Ok(())
@@ -522,47 +611,48 @@ static MODEL: &str = "model stage 0 passed 0 sb rw\nnode 0 dir 0 0 clean\n";
 /// with lines behind it that were read and aren't done.
 #[test]
 fn a_write_in_mid_stream_fails_at_its_line(rt: HostRuntime) -> Result<(), Fail> {
-    for refusal in [Refusal::Error, Refusal::Nothing] {
-        let mut schedule = Vec::new(rt.alloc());
-        schedule.extend_from_slice(b"config 1 1 1 2 8\n")?;
-        for _ in 0..3_000 {
-            schedule.extend_from_slice(b"model\n")?;
+    let mut schedule = Vec::new(rt.alloc());
+    schedule.extend_from_slice(b"config 1 1 1 2 8\n")?;
+    for _ in 0..3_000 {
+        schedule.extend_from_slice(b"model\n")?;
+    }
+    for over in EITHER {
+        for refusal in REFUSALS {
+            let mut writer = Frail::new(rt.alloc(), usize::MAX, 1, refusal);
+            let ended = replay_over(rt.alloc(), over, &mut schedule.as_slice(), &mut writer);
+            expect_end(&rt, ended, "line 2623: write failed")?;
+            assert_eq!(rt; writer.taken.len(), 65_550);
+            for model in writer.taken.as_slice().chunks(50) {
+                assert_eq!(rt; model, MODEL.as_bytes());
+            }
+            assert!(rt; !writer.was_called_again);
         }
-        let mut writer = Frail::new(rt.alloc(), usize::MAX, 1, refusal);
-        let ended = replay(rt.alloc(), &mut schedule.as_slice(), &mut writer);
-        expect_end(&rt, ended, "line 2623: write failed")?;
-        assert_eq!(rt; writer.taken.len(), 65_550);
-        for model in writer.taken.as_slice().chunks(50) {
-            assert_eq!(rt; model, MODEL.as_bytes());
-        }
-        assert!(rt; !writer.was_called_again);
     }
     Ok(())
 }
 
 #[test]
 fn what_was_printed_is_written_before_more_is_read(rt: HostRuntime) -> Result<(), Fail> {
-    let written = Cell::new(0);
-    let late = Cell::new(0);
-    let mut reader = Watcher::new(SCHEDULE.as_bytes(), &AFTER, &written, &late);
-    let ended = replay(rt.alloc(), &mut reader, &mut Counter { written: &written });
-    expect_end(&rt, ended, "")?;
-    assert_eq!(rt; late.get(), 0);
-    assert_eq!(rt; written.get(), TEXT.len());
+    for over in EITHER {
+        let written = Cell::new(0);
+        let late = Cell::new(0);
+        let mut reader = Watcher::new(SCHEDULE.as_bytes(), &AFTER, &written, &late);
+        let mut writer = Counter { written: &written };
+        let ended = replay_over(rt.alloc(), over, &mut reader, &mut writer);
+        expect_end(&rt, ended, "")?;
+        assert_eq!(rt; late.get(), 0);
+        assert_eq!(rt; written.get(), TEXT.len());
+    }
     Ok(())
 }
 
 /// Where one growth is refused, which one so ever, the schedule ends at its first line or at the line of the configuration, which are
-/// all that take memory here: `rt try --test --fail-alloc N` refuses the growth number N.
-#[test]
-fn a_refused_growth_ends_at_its_line(rt: HostRuntime) -> Result<(), Fail> {
+/// all that take memory here: `rt try --test --fail-alloc N` refuses the growth number N of each test.
+fn ends_at_its_line<R: Abort + Alloc<A = Global>>(rt: &R, over: Over) -> Result<(), Fail> {
     let written = Cell::new(0);
     let mut schedule = b"# a comment\n\nconfig 2 1 1 2 8\n0 want 0 0\n0 run\n".as_slice();
-    let ended = replay(
-        rt.alloc(),
-        &mut schedule,
-        &mut Counter { written: &written },
-    );
+    let mut writer = Counter { written: &written };
+    let ended = replay_over(rt.alloc(), over, &mut schedule, &mut writer);
     let Err(fault) = ended else {
         assert_eq!(rt; written.get(), 5);
         return Ok(());
@@ -572,4 +662,14 @@ fn a_refused_growth_ends_at_its_line(rt: HostRuntime) -> Result<(), Fail> {
     assert!(rt; fault.line == 1 || fault.line == 3);
     assert_eq!(rt; written.get(), 0);
     Ok(())
+}
+
+#[test]
+fn a_refused_growth_ends_at_its_line(rt: HostRuntime) -> Result<(), Fail> {
+    ends_at_its_line(&rt, Over::Core)
+}
+
+#[test]
+fn a_refused_growth_of_the_gates_ends_at_its_line(rt: HostRuntime) -> Result<(), Fail> {
+    ends_at_its_line(&rt, Over::Gates)
 }

@@ -96,21 +96,16 @@ fn the_numbers_of_a_run_have_their_limits(rt: HostRuntime) -> Result<(), Fail> {
 #[test]
 fn the_exit_status_says_how_it_ended(rt: HostRuntime) -> Result<(), Fail> {
     let good = "config 1 1 1 2 8\n0 step\n";
-    ends(&rt, "mntgate replay", good, 0, "")?;
-    ends(
-        &rt,
-        "mntgate replay",
-        "config 1 1 1 2 8\nfly\n",
-        1,
-        "line 2: unknown command\n",
-    )?;
-    ends(
-        &rt,
-        "mntgate replay",
-        "config 0 1 1 2 8\n",
-        1,
-        "line 1: refused 22 Invalid\n",
-    )?;
+    for line in ["mntgate replay", "mntgate replay --over-gates"] {
+        let printed = ends(&rt, line, good, 0, "")?;
+        assert_eq!(rt; printed.as_slice(), b"0 idle\n".as_slice());
+        for (schedule, fault) in [
+            ("config 1 1 1 2 8\nfly\n", "line 2: unknown command\n"),
+            ("config 0 1 1 2 8\n", "line 1: refused 22 Invalid\n"),
+        ] {
+            ends(&rt, line, schedule, 1, fault)?;
+        }
+    }
     ends(&rt, "mntgate", good, 2, "error: ")?;
     ends(
         &rt,
@@ -121,13 +116,14 @@ fn the_exit_status_says_how_it_ended(rt: HostRuntime) -> Result<(), Fail> {
     )?;
     ends(&rt, "mntgate play", good, 2, "error: ")?;
     ends(&rt, "mntgate replay twice", good, 2, "error: ")?;
+    ends(&rt, "mntgate run --over-gates", good, 2, "error: ")?;
     Ok(())
 }
 
 #[test]
 fn a_write_that_fails_is_told(rt: HostRuntime) -> Result<(), Fail> {
     let words = words_of(rt.alloc(), "mntgate replay")?;
-    let mut writer = Frail::new(rt.alloc(), 3, 1, Refusal::Error);
+    let mut writer = Frail::new(rt.alloc(), 3, 1, Refusal::Error(ErrorKind::Other));
     let mut errors = Vec::new(rt.alloc());
     let mut reader = b"config 1 1 1 2 8\n0 step\n".as_slice();
     let ending = run(

@@ -18,17 +18,23 @@ fn give(bytes: &mut &[u8], most: usize, buf: &mut [u8]) -> usize
     count
 }
 
-/// A reader of a few bytes at a time, which is interrupted once, after so many good reads: those after it are good again.
+/// A reader of a few bytes at a time, of which one read fails, after so many good ones: those after it are good again.
 #[derive(Drop)]
 pub struct Slow<'a> {
     bytes: &'a [u8],
     most: usize,
     good: u32,
+    kind: ErrorKind,
 }
 
 impl<'a> Slow<'a> {
-    pub fn new(bytes: &'a [u8], most: usize, good: u32) -> Slow<'a> {
-        Slow { bytes, most, good }
+    pub fn new(bytes: &'a [u8], most: usize, good: u32, kind: ErrorKind) -> Slow<'a> {
+        Slow {
+            bytes,
+            most,
+            good,
+            kind,
+        }
     }
 }
 
@@ -36,7 +42,7 @@ impl Read for Slow<'_> {
     fn read(&mut self, buf: &mut [u8]) -> io::Result<usize> {
         if self.good == 0 {
             self.good = u32::MAX;
-            return Err(io::Error::from(ErrorKind::Interrupted));
+            return Err(io::Error::from(self.kind));
         }
         self.good -= 1;
         Ok(give(&mut self.bytes, self.most, buf))
@@ -71,7 +77,7 @@ impl Read for Newlines<'_> {
 /// How a writer refuses: by an error, or by taking no byte.
 #[derive(Clone, Copy)]
 pub enum Refusal {
-    Error,
+    Error(ErrorKind),
     Nothing,
 }
 
@@ -106,7 +112,7 @@ impl Write for Frail {
             self.was_called_again = self.has_refused;
             self.has_refused = true;
             return match self.refusal {
-                Refusal::Error => Err(io::Error::from(ErrorKind::Interrupted)),
+                Refusal::Error(kind) => Err(io::Error::from(kind)),
                 Refusal::Nothing => Ok(0),
             };
         }

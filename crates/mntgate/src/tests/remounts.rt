@@ -64,7 +64,7 @@ static ANSWERED: [(&str, &str); 2] = [
 ];
 
 /// Remounts of which a hook fails.
-static REFUSED: [(&str, &str); 5] = [
+static REFUSED: [(&str, &str); 6] = [
     // Busy at a mount, then refused by the file system, which leaves nothing behind.
     (
         "config 2 1 2 2 8\n\
@@ -163,6 +163,18 @@ static REFUSED: [(&str, &str); 5] = [
          0 ok\n\
          model stage 0 passed 0 sb rw\n\
          node 0 dir 0 0 clean\n",
+    ),
+    // Refused by the file system, it stays read-only.
+    (
+        "config 1 1 1 2 8\n\
+         0 remount ro\n\
+         0 run\n\
+         0 remount rw\n\
+         0 run reconfigure 4\n\
+         words\n",
+        "0 ok\n\
+         0 refused hook 4\n\
+         sb 1\n",
     ),
     // The same, event by event: the hook is asked at the event that its answer decides.
     (

@@ -1,0 +1,83 @@
+-- Tasks that are split off, one after the other, take the numbers in their order, and none is refused but for memory.
+use Rattle.std.proofs.Common.{◌≡◌, ℕ, zero, suc, ◌+◌, ◌<◌, ◌≤◌, ◌≢◌, refl, ap, ◌∙◌, arith, [], ◌∷◌}
+use mathlib.Core.Logic.{dite}
+use native.Mathlib.Decide.{ℕ_discrete, dec_lt}
+use Rattle.access_model.specs.declared.errors.GateError.{GateError}
+use Rattle.access_model.specs.declared.errors.GateError.TheVariants.{Order, TooMany, NoMemory}
+use Rattle.gate_world.specs.declared.config.Config.{Config}
+use Rattle.gate_steps.specs.Rules.{first_items}
+use Rattle.gate_steps.specs.Seating.{SeatItems, times, kept_of, deal}
+use Rattle.gate_steps.proofs.Giving.{times-without, times-without_other}
+use Rattle.gate_steps.proofs.Opening.{times-deal, times-deal_below}
+use Rattle.vfs_gates.specs.Parts.{SplitOf, SplitRefused}
+use Rattle.vfs_gates.specs.TaskStates.{TaskState, IsIdle, spare_of}
+use Rattle.mntgate.specs.Splitting.{Gives}
+
+-- the numbers behind the first of so many
+later_dealt : (count k : ℕ) → 1 ≤ k → k < count → times k (spare_of (deal 0 count)) ≡ 1
+later_dealt zero k from below = absurd (omega arith)
+later_dealt (suc count) k from below = times-deal k 1 count from (omega arith)
+
+-- and none before them
+earlier_dealt : (count k : ℕ) → k < 1 → times k (spare_of (deal 0 count)) ≡ 0
+earlier_dealt zero k below = refl
+earlier_dealt (suc count) k below = times-deal_below k 1 count below
+
+-- the first task has all numbers but its own to give
+pub gives_all : (first : TaskState) (c : Config) → IsIdle first → first.items ≡ first_items c → Gives first 1 c.tasks
+gives_all first c idle all = record {
+  idle = idle;
+  later = λ (k : ℕ) from below. ap (λ (l : SeatItems). times k (spare_of l)) all ∙ later_dealt c.tasks k from below;
+  earlier = λ (k : ℕ) below. ap (λ (l : SeatItems). times k (spare_of l)) all ∙ earlier_dealt c.tasks k below;
+}
+
+-- the lowest number is the next one
+next_number : (first left other : TaskState) (from count : ℕ) → Gives first from count → from < count →
+    (s : SplitOf first left other) → s.number ≡ from
+next_number first left other from count gives below s =
+    let there = s.there in
+    let next = gives.later from (omega arith) below in
+    dite (dec_lt s.number from)
+    (λ low. let none = gives.earlier s.number low in absurd (omega (arith, none, there)))
+    (λ not_low. dite (dec_lt from s.number)
+    (λ high. let none = s.lowest from high in absurd (omega (arith, none, next)))
+    (λ not_high. omega arith))
+
+-- what a task has to give that gave a number away
+spare_left : (n : ℕ) (items : SeatItems) (k : ℕ) → k ≢ n → times k (spare_of (kept_of n items)) ≡ times k (spare_of items)
+spare_left n [] k other = refl
+spare_left n (x ∷ xs) k other = times-without_other k n xs other
+
+-- it has not that number
+spare_gone : (n : ℕ) (items : SeatItems) → times n (spare_of (kept_of n items)) ≡ 0
+spare_gone n [] = refl
+spare_gone n (x ∷ xs) = times-without n xs
+
+-- after a split the first task has the numbers behind the next to give
+pub gives_on : (first left other : TaskState) (from count : ℕ) → Gives first from count → from < count → SplitOf first left other →
+    Gives left (from + 1) count
+gives_on first left other from count gives below s =
+    let is = next_number first left other from count gives below s in
+    let kept : left.items ≡ kept_of s.number first.items = ap (λ (t : TaskState). t.items) s.kept in
+    let same = λ (k : ℕ) (ne : k ≢ s.number).
+    ap (λ (l : SeatItems). times k (spare_of l)) kept ∙ spare_left s.number first.items k ne in
+    record {
+      idle = ap (λ (t : TaskState). t.phase) s.kept ∙ gives.idle;
+      later = λ (k : ℕ) (low : from + 1 ≤ k) (high : k < count).
+          let ne : k ≢ s.number = omega arith in same k ne ∙ gives.later k (omega arith) high;
+      earlier = λ (k : ℕ) (low : k < from + 1). dite (ℕ_discrete k s.number)
+          (λ yes. ap (λ (l : SeatItems). times k (spare_of l)) kept
+          ∙ ap (λ (n : ℕ). times n (spare_of (kept_of s.number first.items))) yes ∙ spare_gone s.number first.items)
+          (λ ne. same k ne ∙ gives.earlier k (omega arith));
+    }
+
+-- while a number is left, a split is refused for memory alone
+pub refused_for_memory : (first : TaskState) (from count : ℕ) (e : GateError) → Gives first from count → from < count →
+    SplitRefused first e → e ≡ NoMemory
+refused_for_memory first from count Order gives below h = absurd (h gives.idle)
+refused_for_memory first from count TooMany gives below h =
+    let none = h.1 from in
+    let next = gives.later from (omega arith) below in
+    absurd (omega (arith, none, next))
+refused_for_memory first from count NoMemory gives below h = refl
+refused_for_memory first from count _ gives below h = absurd h

@@ -1,0 +1,11 @@
+use Rattle.std.proofs.Common.{◌≡◌, ◌++◌, ◌<◌}
+use Rattle.std.specs.List.{flat_map}
+use Rattle.access_model.specs.Histories.{end_of}
+use Rattle.mntgate.specs.Sessions.{ShowsPlay}
+use Rattle.mntgate.specs.Transcript.{Play, count_up, held_line}
+use Rattle.mntgate.proofs.session.Session.print_held_mounts.Given as goal
+
+-- what the mounts so far print
+abbrev pub invariant-loop-mount : goal.invariant-loop-mount
+invariant-loop-mount l = (p : Play) → ShowsPlay l.self p → l.task < p.config.tasks →
+    l.out.bytes.items ≡ l.initial.out.bytes.items ++ flat_map (held_line (end_of p.done) l.task) (count_up l.mount)

@@ -1,0 +1,11 @@
+use Rattle.std.proofs.Common.{◌≡◌, ◌++◌}
+use Rattle.std.specs.List.{flat_map}
+use Rattle.access_model.specs.Histories.{end_of}
+use Rattle.mntgate.specs.Sessions.{ShowsPlay}
+use Rattle.mntgate.specs.Transcript.{Play, count_up, tree_line}
+use Rattle.mntgate.proofs.session.Session.print_tree.Given as goal
+
+-- what the nodes so far print
+abbrev pub invariant-loop-node : goal.invariant-loop-node
+invariant-loop-node l = (p : Play) → ShowsPlay l.self p →
+    l.out.bytes.items ≡ l.initial.out.bytes.items ++ flat_map (tree_line (end_of p.done)) (count_up l.node)

@@ -1,0 +1,9 @@
+-- A list of words that is moved by events.
+use Rattle.std.specs.Prelude.{ℕ, List, Option, Some, None, slice_set}
+use Rattle.cpu_words.specs.Names.{place}
+use Rattle.cpu_words.specs.declared.events.Event.{Event}
+
+-- these words, each at its place, after an event, if there is one: it has left its own as it says
+abbrev pub words_after : Option Event → List ℕ → List ℕ
+words_after None words = words
+words_after (Some event) words = slice_set words (place event.word) event.left

@@ -1,0 +1,235 @@
+//! Random schedules: a replay over the gates that threads use prints what one over the core prints.
+
+use crate::tests::{expect_end, played};
+use std::io;
+use std::io::Write;
+use std::process::Abort;
+use std::test::Fail;
+
+/// What a task does, line by line, until it takes up something else. A capital letter stands for a number: T for the task's own, X for
+/// any task's, M for a mount's, C for a processor's, L for a level's, N for a node's, B for some blocks, and E for the code of a hook.
+static STORIES: [&str; 24] = [
+    "T want M C\nT run\nwords\nT drop M C\nT run\n",
+    "T trywant M C\nT step\nT step\nT run\nX drop M C\nX run\n",
+    "T want M C\nT step\nT step\nT step\nT step\nT step\nmodel\nT drop M C\nT step\n",
+    "T wantwrite M C\nT run\nT create 0 file\nT run\nT grow N B\nT run\nT dropwrite M C\nT run\ntree\n",
+    "T wantwrite M C\nT step\nT run\nT create N dir\nT step\nT step\nT run\nT move N N\nT run\nT dropwrite M C\nT run\nmodel\n",
+    "T wantwrite M C\nT run\nT grow N B\nT step\nT step\nX remove N\nX run\nT run\nT dropwrite M C\nT run\n",
+    "T wantwrite M C\nT run\nT remove N\nT run\nT create 0 file\nT run\ntree\nT dropwrite M C\nT run\n",
+    "T want M C\nT run\nT start 2 C\nT run\nT fault N\nT step\nT step\nT end 2 C\nT run\nT drop M C\nT run\ntree\n",
+    "T want M C\nT run\nT start 3 C\nT run\nT flush N\nT step\nT run\nT end 3 C\nT run\nT drop M C\nT run\n",
+    "T start L C\nT step\nT step\nT step\nT step\nT run\nT end L C\nT run\n",
+    "T trystart L C\nT run\nmodel\nT end L C\nT run\n",
+    "T change M ro\nT step\nT step\nT step\nT step\nT run\nX want M C\nX run\nT change M rw\nT run\n",
+    "T trychange M ro\nT run\nT trywant M C\nT run\nT trychange M rw\nT run\n",
+    "T remount ro\nT step\nT step\nT step\nT step\nT run\nX wantwrite M C\nX run\nT remount rw\nT run\n",
+    "T remount ro\nT run reconfigure E\nT remount ro\nT run\nT remount rw\nT step\nT step\nT step\nT step E\nT remount rw\nT run\n",
+    "T freeze\nT run\nwords\nT snapshot\nT run\nX trysnapshot\nX run\nT thaw\nT run\nT callback L\nT run\n",
+    "T freeze\nT step\nT step\nT step\nT step\nT step\nT run\nX start L C\nX run\nT thaw\nT step\nT step\nT run\nX run\n",
+    "T freeze\nT run\nT snapshot\nT step\nT step\nT step\nT run\nT thaw\nT run\nT callback 1\nT step\nT run\n",
+    "T freeze\nT run sync E\nwords\nT callback L\nT run\n",
+    "T freeze\nT run freeze E\nmodel\nT callback L\nT step E\nT run\n",
+    "T freeze\nT run\nT thaw\nT run unfreeze E\nX thaw\nX run\nwords\n",
+    "T remount ro\nT run\nT freeze\nT run\nT snapshot\nT run\nT thaw\nT run\nT remount rw\nT run\n",
+    "# a comment\n\nT run\nwords\ntree\nmodel\n",
+    "T trywant X N\nT start N M\nT create B file\nT grow E B\nT run\nT move C E\nT wantwrite E M\nT callback C\nT step\n",
+];
+
+/// What the text of all schedules has to have, so that they are worth replaying.
+static REACHED: [&str; 24] = [
+    " grant mount ",
+    " grant level ",
+    " return mount ",
+    " pass 1\n",
+    "\nstage 4\n",
+    " stage 1 stage 1\n",
+    " ok used ",
+    " ok ran\n",
+    " ok none\n",
+    " ok node ",
+    " waiting\n",
+    " idle\n",
+    " dirty\n",
+    " refused hook ",
+    " refused 2 NoEntry\n",
+    " refused 11 Again\n",
+    " refused 16 Busy\n",
+    " refused 20 NotDir\n",
+    " refused 21 IsDir\n",
+    " refused 22 Invalid\n",
+    " refused 28 NoSpace\n",
+    " refused 30 ReadOnly\n",
+    " refused 35 Order\n",
+    "\nmount0.flags 1\n",
+];
+
+/// How many schedules there are, and how many lines each has after its configuration.
+const SCHEDULES: u64 = 200;
+
+const LINES: u32 = 120;
+
+/// In how many of their texts each part has to stand.
+const ENOUGH: u32 = 3;
+
+/// Numbers that are the same for the same seed: a linear congruential generator, of which the upper half is used.
+#[derive(Clone, Copy)]
+struct Dice {
+    state: u64,
+}
+
+impl Dice {
+    /// A number from the first up to the last.
+    fn between(&mut self, first: u64, last: u64) -> u64 {
+        self.state = self
+            .state
+            .wrapping_mul(6_364_136_223_846_793_005)
+            .wrapping_add(1_442_695_040_888_963_407);
+        let sides = last.saturating_sub(first).saturating_add(1);
+        let rolled = (self.state >> 33).checked_rem(sides).unwrap_or(0);
+        first.saturating_add(rolled)
+    }
+
+    /// A number below this one; now and then one that is out of range, which may be more than a byte.
+    fn number_below(&mut self, end: u64) -> u64 {
+        match self.between(0, 59) {
+            0 => end,
+            1 => 300,
+            _ => self.between(0, end.saturating_sub(1)),
+        }
+    }
+
+    /// What a task does next.
+    fn story(&mut self) -> &'static str {
+        let last = STORIES.len() as u64 - 1;
+        let index = self.between(0, last) as usize;
+        STORIES.get(index).copied().unwrap_or("")
+    }
+}
+
+/// The numbers of a configuration.
+#[derive(Clone, Copy)]
+struct Sizes {
+    tasks: u64,
+    processors: u64,
+    mounts: u64,
+    nodes: u64,
+}
+
+impl Sizes {
+    /// 2 to 4 tasks, 1 to 3 processors, 1 to 2 mounts, and 2 to 5 nodes.
+    fn roll(dice: &mut Dice) -> Sizes {
+        Sizes {
+            tasks: dice.between(2, 4),
+            processors: dice.between(1, 3),
+            mounts: dice.between(1, 2),
+            nodes: dice.between(2, 5),
+        }
+    }
+
+    /// The number for which a letter stands; None where the letter stands for itself.
+    fn number_for(self, letter: u8, task: u64, dice: &mut Dice) -> Option<u64> {
+        match letter {
+            b'T' => Some(task),
+            b'X' => Some(dice.between(0, self.tasks.saturating_sub(1))),
+            b'M' => Some(dice.number_below(self.mounts)),
+            b'C' => Some(dice.number_below(self.processors)),
+            b'L' => Some(dice.number_below(3).saturating_add(1)),
+            b'N' => Some(dice.number_below(self.nodes)),
+            b'B' => Some(dice.between(0, 5)),
+            b'E' => Some(dice.between(1, 65_535)),
+            _ => None,
+        }
+    }
+}
+
+/// Writes a line of a story, with numbers for its letters.
+fn write_line(
+    schedule: &mut Vec<u8>,
+    line: &str,
+    task: u64,
+    sizes: Sizes,
+    dice: &mut Dice,
+) -> io::Result<()> {
+    for letter in line.as_bytes() {
+        match sizes.number_for(*letter, task, dice) {
+            Some(number) => write!(schedule, "{number}")?,
+            None => schedule.push(*letter)?,
+        }
+    }
+    schedule.push(b'\n')?;
+    Ok(())
+}
+
+/// Writes the next line of a task, and takes it from what is left of its story.
+fn write_next(
+    schedule: &mut Vec<u8>,
+    left: &mut &'static str,
+    task: u64,
+    sizes: Sizes,
+    dice: &mut Dice,
+) -> io::Result<()> {
+    if left.is_empty() {
+        *left = dice.story();
+    }
+    if let Some((line, rest)) = left.split_once('\n') {
+        *left = rest;
+        write_line(schedule, line, task, sizes, dice)?;
+    }
+    Ok(())
+}
+
+/// Writes a schedule in which each task goes through one story after the other, and which task comes next is left to the dice.
+fn write_schedule(schedule: &mut Vec<u8>, dice: &mut Dice) -> io::Result<()> {
+    let sizes = Sizes::roll(dice);
+    let (tasks, processors) = (sizes.tasks, sizes.processors);
+    let (mounts, nodes) = (sizes.mounts, sizes.nodes);
+    let capacity = dice.between(0, 12);
+    writeln!(
+        schedule,
+        "config {tasks} {processors} {mounts} {nodes} {capacity}"
+    )?;
+    let mut stories = [""; 4];
+    for _line in 0..LINES {
+        let task = dice.between(0, tasks.saturating_sub(1));
+        if let Some(left) = stories.get_mut(task as usize) {
+            write_next(schedule, left, task, sizes, dice)?;
+        }
+    }
+    Ok(())
+}
+
+/// Whether a text has these bytes somewhere.
+fn has(text: &[u8], part: &str) -> bool {
+    text.windows(part.len().max(1))
+        .any(|bytes| bytes == part.as_bytes())
+}
+
+/// Notes which parts a text has that stood in too few so far.
+fn note_parts(reached: &mut [u32; 24], text: &[u8]) {
+    for (texts, part) in reached.iter_mut().zip(REACHED.iter()) {
+        if *texts < ENOUGH && has(text, part) {
+            *texts = texts.saturating_add(1);
+        }
+    }
+}
+
+/// That each part stands in enough texts.
+fn all_reached<R: Abort>(rt: &R, reached: &[u32; 24]) {
+    for (texts, part) in reached.iter().zip(REACHED.iter()) {
+        assert!(rt; *texts == ENOUGH, "{part}");
+    }
+}
+
+#[test]
+fn random_schedules_print_the_same_over_either(rt: HostRuntime) -> Result<(), Fail> {
+    let mut reached = [0; 24];
+    for seed in 0..SCHEDULES {
+        let mut schedule = Vec::new(rt.alloc());
+        write_schedule(&mut schedule, &mut Dice { state: seed })?;
+        let (printed, ended) = played(&rt, schedule.as_slice())?;
+        expect_end(&rt, ended, "")?;
+        note_parts(&mut reached, printed.as_slice());
+    }
+    all_reached(&rt, &reached);
+    Ok(())
+}
