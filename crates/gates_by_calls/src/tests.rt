@@ -1,6 +1,7 @@
 //! Tasks of one thread at small gates.
 
 mod accesses;
+mod decisions;
 mod freezes;
 mod granted;
 mod hooks;
