@@ -1,11 +1,11 @@
 #!/usr/bin/env bash
-# Refuses each growth of memory in turn, and fails unless each call is then refused as NoMemory, changes nothing, and is done when it is made
-# again. Two parts, side by side:
+# Refuses each growth of memory in turn, and fails unless each call is then refused as NoMemory, changes nothing, and is done when it is
+# made again. Two parts, side by side:
 #   calls    the program crates/refused_memory makes the model, the core and the gates, splits tasks off and runs them in threads. It is built
 #            once, and the growth number LAST is refused; it asks for LAST - N growths of its own first, so that the growth number N of the
 #            calls is the one that is refused.
-#   replay   the test a_refused_growth_ends_at_its_line of crates/mntgate, built anew for each growth, as many side by side as there are
-#            processors, up to the first growth with which a test of a whole replay passes too: that is one past the last.
+#   replay   the tests a_refused_growth.. of crates/mntgate, built anew for each growth, as many side by side as there are processors, up to
+#            the first growth with which a test of whole replays passes too: that is one past the last.
 # Prints a line for each growth. The last line says whether all is well, and so does the status.
 set -u
 LAST=40
@@ -60,7 +60,8 @@ refuse_in_replay() {
     done
     wait "${tries[@]}"
     for ((growth = next; growth < next + at_once; growth++)); do
-      if ! grep -q "^test tests::a_refused_growth_ends_at_its_line ... ok$" "$ROOM/replay.$growth"; then
+      if ! grep -q "^test tests::a_refused_growth.* ok$" "$ROOM/replay.$growth" ||
+        grep -q "^test tests::a_refused_growth.* FAILED$" "$ROOM/replay.$growth"; then
         echo "replay, growth $growth: WRONG"
         tail -n 5 "$ROOM/replay.$growth"
         return 1
