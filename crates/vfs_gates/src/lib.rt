@@ -12,8 +12,6 @@ mod parts;
 mod rooms;
 mod runs;
 mod task;
-#[cfg(test)]
-mod tests;
 mod tree_calls;
 mod turns;
 mod waits;
