@@ -79,15 +79,20 @@ pub(crate) fn run<R: Threads + Wait + Sync, I: Read, W: Write, E: Write>(
     }
 }
 
-/// The command line: `replay` with its flag, and `run` with its numbers.
-fn command<'a>(alloc: Global) -> Result<Command<'a>, AllocError> {
+/// `replay`, with its flag.
+fn replay_command<'a>(alloc: Global) -> Result<Command<'a>, AllocError> {
     let over_gates = Arg::new(alloc, OVER_GATES)
         .long(OVER_GATES)
         .action(ArgAction::SetTrue)
         .help("Replays it over the gates that threads use, in one thread");
-    let replay = Command::new(alloc, "replay")
+    Command::new(alloc, "replay")
         .about("Reads a schedule from standard input and prints each event asked for")
-        .arg(over_gates)?;
+        .arg(over_gates)
+}
+
+/// The command line: `replay`, and `run` with its numbers.
+fn command<'a>(alloc: Global) -> Result<Command<'a>, AllocError> {
+    let replay = replay_command(alloc)?;
     let run = Command::new(alloc, "run")
         .about("Runs writers, a remounter and a backup in threads, and prints what they did")
         .arg(number(
