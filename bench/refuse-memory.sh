@@ -4,9 +4,8 @@
 #   calls    the program crates/refused_memory makes the model, the core and the gates, splits tasks off and runs them in threads. It is built
 #            once, and the growth number LAST is refused; it asks for LAST - N growths of its own first, so that the growth number N of the
 #            calls is the one that is refused.
-#   replay   the tests a_refused_growth.. of crates/mntgate, built anew for each growth, as many side by side as there are processors, up to
-#            the first growth with which a test of whole replays passes too: that is one past the last.
-# Prints a line for each growth. The last line says whether all is well, and so does the status.
+#   replays  the tests growths.. of crates/mntgate, built for each growth of four in a row: the tests are four growths apart.
+# Prints a line for each growth and for each test of a replay. The last line says whether all is well, and so does the status.
 set -u
 LAST=40
 TOP=$(cd "$(dirname "$0")/.." && pwd)
@@ -38,58 +37,41 @@ refuse_in_calls() {
     !/ done$/ { told = $0; bad = 1 }
     END {
       tell()
+      if (growth != last) { print "calls: growth " growth " is the last one tried, and not " last; bad = 1 }
       split("model core gates split run", calls)
       for (i = 1; i <= 5; i++) if (!met[calls[i]]) { print "calls: no growth of " calls[i] " was refused"; bad = 1 }
       exit bad
     }' "$ROOM/calls.out"
 }
 
-# What the tests of mntgate say where this growth is refused. Other tests fail where it strikes them.
-try_replay() {
-  cd "$TOP/crates/mntgate" && rt try --test --fail-alloc "$1" > "$ROOM/replay.$1" 2>&1
+# The ten tests of replays where this growth of each test is refused. Other tests fail where it strikes them, and it has to strike some.
+refuse_in_replays() {
+  local said="$ROOM/replay.$1"
+  (cd "$TOP/crates/mntgate" && rt try --test --fail-alloc "$1") > "$said" 2>&1
+  sed -n "s/^test tests::growths::/replays, growth $1 of a test: /p" "$said"
+  if ! grep -q '^test .* FAILED$' "$said"; then
+    echo "replays: no growth $1 was refused in any test"
+    tail -n 5 "$said"
+    return 1
+  fi
+  (($(grep -c '^test tests::growths::.* ok$' "$said") == 10))
 }
 
-refuse_in_replay() {
-  local at_once next=1 growth tries
-  at_once=$(nproc)
-  while true; do
-    tries=()
-    for ((growth = next; growth < next + at_once; growth++)); do
-      try_replay "$growth" &
-      tries+=($!)
-    done
-    wait "${tries[@]}"
-    for ((growth = next; growth < next + at_once; growth++)); do
-      if ! grep -q "^test tests::a_refused_growth.* ok$" "$ROOM/replay.$growth" ||
-        grep -q "^test tests::a_refused_growth.* FAILED$" "$ROOM/replay.$growth"; then
-        echo "replay, growth $growth: WRONG"
-        tail -n 5 "$ROOM/replay.$growth"
-        return 1
-      fi
-      if grep -q "^test tests::what_was_printed_is_written_before_more_is_read ... ok$" "$ROOM/replay.$growth"; then
-        echo "replay, growth $growth: no growth was refused"
-        return 0
-      fi
-      echo "replay, growth $growth: ended at its line"
-    done
-    next=$((next + at_once))
-    if ((next > LAST)); then
-      echo "replay: there are more growths than $LAST"
-      return 1
-    fi
-  done
-}
-
-refuse_in_calls > "$ROOM/calls" &
-calls=$!
-refuse_in_replay
-replay=$?
-wait "$calls"
-called=$?
-cat "$ROOM/calls"
-if ((replay == 0 && called == 0)); then
-  echo "each growth was refused, and all is well"
-else
+refuse_in_calls > "$ROOM/told.calls" &
+parts=($!)
+for growth in 21 22 23 24; do
+  # No more at once than there are processors.
+  while (($(jobs -rp | wc -l) >= $(nproc))); do wait -n; done
+  refuse_in_replays "$growth" > "$ROOM/told.$growth" &
+  parts+=($!)
+done
+failed=0
+for part in "${parts[@]}"; do
+  wait "$part" || failed=1
+done
+cat "$ROOM"/told.*
+if ((failed)); then
   echo "FAILED"
   exit 1
 fi
+echo "each growth was refused, and all is well"

@@ -8,7 +8,7 @@ pub mod seats;
 pub mod steps;
 
 pub use gate_world::{Accesses, Config, Op};
-pub use machine::Core;
+pub use machine::{Core, words_at_start};
 pub use schedules::every_schedule;
 pub use seats::Seat;
 pub use steps::{Progress, Step};

@@ -1,17 +1,17 @@
 -- Tasks that are split off, one after the other, take the numbers in their order, and none is refused but for memory.
-use Rattle.std.proofs.Common.{◌≡◌, ℕ, zero, suc, ◌+◌, ◌<◌, ◌≤◌, ◌≢◌, refl, ap, ◌∙◌, arith, [], ◌∷◌}
+use Rattle.std.proofs.Common.{◌≡◌, ℕ, zero, suc, ◌+◌, ◌<◌, ◌≤◌, ◌≢◌, refl, ap, ◌∙◌, arith, List, [], ◌∷◌, ◌++◌, length}
 use mathlib.Core.Logic.{dite}
 use native.Mathlib.Decide.{ℕ_discrete, dec_lt}
 use Rattle.access_model.specs.declared.errors.GateError.{GateError}
 use Rattle.access_model.specs.declared.errors.GateError.TheVariants.{Order, TooMany, NoMemory}
 use Rattle.gate_world.specs.declared.config.Config.{Config}
 use Rattle.gate_steps.specs.Rules.{first_items}
-use Rattle.gate_steps.specs.Seating.{SeatItems, times, kept_of, deal}
+use Rattle.gate_steps.specs.Seating.{SeatItems, times, kept_of, given_of, deal}
 use Rattle.gate_steps.proofs.Giving.{times-without, times-without_other}
 use Rattle.gate_steps.proofs.Opening.{times-deal, times-deal_below}
 use Rattle.vfs_gates.specs.Parts.{SplitOf, SplitRefused}
-use Rattle.vfs_gates.specs.TaskStates.{TaskState, IsIdle, spare_of}
-use Rattle.mntgate.specs.Splitting.{Gives}
+use Rattle.vfs_gates.specs.TaskStates.{TaskState, IsIdle, own_number, spare_of}
+use Rattle.mntgate.specs.Splitting.{AreNumbered, Gives}
 
 -- the numbers behind the first of so many
 later_dealt : (count k : ℕ) → 1 ≤ k → k < count → times k (spare_of (deal 0 count)) ≡ 1
@@ -23,9 +23,25 @@ earlier_dealt : (count k : ℕ) → k < 1 → times k (spare_of (deal 0 count)) 
 earlier_dealt zero k below = refl
 earlier_dealt (suc count) k below = times-deal_below k 1 count below
 
+-- the first of all numbers is 0
+own_dealt : (count : ℕ) → own_number (deal 0 count) ≡ 0
+own_dealt zero = refl
+own_dealt (suc count) = refl
+
+-- who gives a number keeps its own
+own_kept : (n : ℕ) (items : SeatItems) → own_number (kept_of n items) ≡ own_number items
+own_kept n [] = refl
+own_kept n (x ∷ xs) = refl
+
+-- who is given a number has it
+own_given : (n : ℕ) (items : SeatItems) → 1 ≤ times n (spare_of items) → own_number (given_of n items) ≡ n
+own_given n [] there = absurd (omega (arith, there))
+own_given n (x ∷ xs) there = refl
+
 -- the first task has all numbers but its own to give
 pub gives_all : (first : TaskState) (c : Config) → IsIdle first → first.items ≡ first_items c → Gives first 1 c.tasks
 gives_all first c idle all = record {
+  own = ap own_number all ∙ own_dealt c.tasks;
   idle = idle;
   later = λ (k : ℕ) from below. ap (λ (l : SeatItems). times k (spare_of l)) all ∙ later_dealt c.tasks k from below;
   earlier = λ (k : ℕ) below. ap (λ (l : SeatItems). times k (spare_of l)) all ∙ earlier_dealt c.tasks k below;
@@ -42,6 +58,19 @@ next_number first left other from count gives below s =
     (λ not_low. dite (dec_lt from s.number)
     (λ high. let none = s.lowest from high in absurd (omega (arith, none, next)))
     (λ not_high. omega arith))
+
+-- and it is the new task's
+pub has_next : (first left other : TaskState) (from count : ℕ) → Gives first from count → from < count → SplitOf first left other →
+    own_number other.items ≡ from
+has_next first left other from count gives below s =
+    ap (λ (t : TaskState). own_number t.items) s.given ∙ own_given s.number first.items s.there
+    ∙ next_number first left other from count gives below s
+
+-- one more with the next number
+pub numbered_more : (from : ℕ) (ts : List TaskState) (t : TaskState) → AreNumbered from ts → own_number t.items ≡ from + length ts →
+    AreNumbered from (ts ++ t ∷ [])
+numbered_more from [] t are is = (omega (arith, is), _)
+numbered_more from (x ∷ xs) t are is = (are.0, numbered_more (from + 1) xs t are.1 (omega (arith, is)))
 
 -- what a task has to give that gave a number away
 spare_left : (n : ℕ) (items : SeatItems) (k : ℕ) → k ≢ n → times k (spare_of (kept_of n items)) ≡ times k (spare_of items)
@@ -62,6 +91,7 @@ gives_on first left other from count gives below s =
     let same = λ (k : ℕ) (ne : k ≢ s.number).
     ap (λ (l : SeatItems). times k (spare_of l)) kept ∙ spare_left s.number first.items k ne in
     record {
+      own = ap own_number kept ∙ own_kept s.number first.items ∙ gives.own;
       idle = ap (λ (t : TaskState). t.phase) s.kept ∙ gives.idle;
       later = λ (k : ℕ) (low : from + 1 ≤ k) (high : k < count).
           let ne : k ≢ s.number = omega arith in same k ne ∙ gives.later k (omega arith) high;

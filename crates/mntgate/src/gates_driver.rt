@@ -8,16 +8,16 @@ ghost use Rattle.gate_core.specs.Answers.{asked_by, idle_step, unless_refused};
 ghost use Rattle.gate_world.specs.Configs.{IsWithin, extents_of};
 ghost use Rattle.gate_world.specs.declared.work.Phase.{Phase};
 ghost use Rattle.mntgate.specs.Noted.{words_after};
-ghost use Rattle.mntgate.specs.Splitting.{Gives};
+ghost use Rattle.mntgate.specs.Splitting.{AreNumbered, Gives};
 ghost use Rattle.vfs_gates.specs.Stepped.{Stepped};
 ghost use Rattle.vfs_gates.specs.TaskStates.{IsFrom, IsIdle, TaskState, refusal_at};
 
 use access_model::GateError;
-use cpu_words::{Event, WORDS, WordName};
+use cpu_words::{Event, WordName};
 use freeze_levels::HookKind;
-use gate_core::Step;
+use gate_core::{Step, words_at_start};
 use gate_world::{Config, Op};
-use std::alloc::{AllocError, Global};
+use std::alloc::Global;
 use vfs_gates::{Gates, Task};
 
 /// The gates with a task for each number, none of which is ever joined, and the words as the events of all steps have left them.
@@ -40,6 +40,7 @@ impl GatesDriver {
     pub(crate) fn new(alloc: Global, config: Config) -> Result<GatesDriver, GateError>
         ensures config { IfOk result (λ driver. driver.config ≡ config) }
         ensures tasks { IfOk result (λ driver. vec_len driver.tasks ≡ config.tasks) }
+        ensures numbers { IfOk result (λ driver. AreNumbered 0 driver.tasks.items) }
         ensures words { IfOk result (λ driver. AreOpening (λ place. place) words_in_all driver.words.items) }
         ensures within { OnOk result (IsWithin config) }
         ensures invalid { ¬ IsWithin config → result ≡ Err Invalid }
@@ -144,6 +145,7 @@ fn all_tasks(
     requires gives { Gives first 1 count }
     ensures from { IfOk result (λ tasks. All (λ task. IsFrom task gates.now) tasks.items) }
     ensures count { IfOk result (λ tasks. 1 ≤ count → vec_len tasks ≡ count) }
+    ensures numbers { IfOk result (λ tasks. AreNumbered 0 tasks.items) }
     ensures memory { IfErr result (λ e. e ≡ NoMemory) }
 {
     let mut tasks = Vec::new(alloc);
@@ -157,13 +159,4 @@ fn all_tasks(
         return Err(GateError::NoMemory);
     };
     Ok(tasks)
-}
-
-/// All words as they begin: 0, but for the root, which is a directory.
-fn words_at_start(alloc: Global) -> Result<Vec<u64>, AllocError>
-    ensures { IfOk result (λ words. AreOpening (λ place. place) words_in_all words.items) }
-{
-    let mut words = vec![in alloc; 0; WORDS]?;
-    words[WordName::Node(0).place()] = 2;
-    Ok(words)
 }

@@ -51,8 +51,8 @@ pub fn replay<R: Read, W: Write>(
     replay_over(alloc, Over::Core, reader, writer)
 }
 
-/// The same language and the same text, by one thread over the gates that threads use, with a task for each number, which none is
-/// joined to. A configuration is refused as `Gates::new` is, then as `Task::split` is, then as `Model::new` is.
+/// The same language and the same text, by one thread over the gates that threads use, with a task for each number; none of them is
+/// joined. A configuration is refused as `Gates::new` is, then as `Task::split` is, then as `Model::new` is.
 pub fn replay_gates<R: Read, W: Write>(
     alloc: Global,
     reader: &mut R,

@@ -3,6 +3,7 @@
 mod endings;
 mod fakes;
 mod freezes;
+mod growths;
 mod hooks;
 mod levels;
 mod random;
@@ -11,7 +12,6 @@ mod trees;
 
 use crate::drivers::Over;
 use crate::replay::{ReplayFault, replay, replay_gates, replay_over};
-use access_model::GateError;
 use fakes::{Counter, Frail, Newlines, Refusal, Slow, Watcher};
 use std::alloc::Global;
 use std::cell::Cell;
@@ -644,32 +644,4 @@ fn what_was_printed_is_written_before_more_is_read(rt: HostRuntime) -> Result<()
         assert_eq!(rt; written.get(), TEXT.len());
     }
     Ok(())
-}
-
-/// Where one growth is refused, which one so ever, the schedule ends at its first line or at the line of the configuration, which are
-/// all that take memory here: `rt try --test --fail-alloc N` refuses the growth number N of each test.
-fn ends_at_its_line<R: Abort + Alloc<A = Global>>(rt: &R, over: Over) -> Result<(), Fail> {
-    let written = Cell::new(0);
-    let mut schedule = b"# a comment\n\nconfig 2 1 1 2 8\n0 want 0 0\n0 run\n".as_slice();
-    let mut writer = Counter { written: &written };
-    let ended = replay_over(rt.alloc(), over, &mut schedule, &mut writer);
-    let Err(fault) = ended else {
-        assert_eq!(rt; written.get(), 5);
-        return Ok(());
-    };
-    assert_eq!(rt; fault.text, "refused");
-    assert_eq!(rt; fault.cause, Some(GateError::NoMemory));
-    assert!(rt; fault.line == 1 || fault.line == 3);
-    assert_eq!(rt; written.get(), 0);
-    Ok(())
-}
-
-#[test]
-fn a_refused_growth_ends_at_its_line(rt: HostRuntime) -> Result<(), Fail> {
-    ends_at_its_line(&rt, Over::Core)
-}
-
-#[test]
-fn a_refused_growth_of_the_gates_ends_at_its_line(rt: HostRuntime) -> Result<(), Fail> {
-    ends_at_its_line(&rt, Over::Gates)
 }

@@ -1,5 +1,7 @@
 //! How a call ended that takes memory.
 
+ghost use Rattle.std.specs.Prelude.{◌≡◌, ◌≢◌};
+
 use std::fmt;
 
 /// How a call ended that takes memory.
@@ -14,8 +16,14 @@ pub(crate) enum Ending {
 }
 
 impl Ending {
+    ghost use Rattle.refused_memory.specs.declared.ending.Ending.TheVariants.{Done, Wrong};
+
     /// How two calls ended, one after the other, of which at most one may have been refused.
-    pub(crate) fn and(self, other: Ending) -> Ending {
+    pub(crate) fn and(self, other: Ending) -> Ending
+        ensures first { self ≡ Done → result ≡ other }
+        ensures second { other ≡ Done → result ≡ self }
+        ensures both { self ≢ Done → other ≢ Done → result ≡ Wrong }
+    {
         match (self, other) {
             (Ending::Done, ending) | (ending, Ending::Done) => ending,
             _ => Ending::Wrong,

@@ -1,7 +1,8 @@
 //! The gates, and the tasks that are split off.
 
-ghost use Rattle.std.specs.Prelude.{IfOk};
-ghost use Rattle.vfs_gates.specs.TaskStates.{IsFrom};
+ghost use Rattle.std.specs.Prelude.{◌≡◌, ◌⊎◌, IfOk};
+ghost use Rattle.refused_memory.specs.declared.ending.Ending.TheVariants.{Wrong};
+ghost use Rattle.vfs_gates.specs.TaskStates.{IsFrom, own_number};
 
 use crate::ending::Ending;
 use crate::models::SMALL;
@@ -34,6 +35,7 @@ fn split(
     requires { IsFrom task.old gates.now }
     ensures this { IsFrom task.new gates.now }
     ensures that { IfOk result (λ that. IsFrom that.0 gates.now) }
+    ensures number { IfOk result (λ that. (own_number that.0.items ≡ number) ⊎ (that.1 ≡ Wrong)) }
 {
     let (other, ending) = match task.split(alloc, gates) {
         Ok(other) => (other, Ending::Done),

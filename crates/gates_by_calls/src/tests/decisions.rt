@@ -2,6 +2,7 @@
 
 ghost use Rattle.vfs_gates.specs.TaskStates.{IsFrom};
 
+use super::hooks::{FailsAt, Question};
 use super::small;
 use access_model::{GateError, Kind};
 use cpu_words::{Event, WordName};
@@ -132,31 +133,6 @@ fn take<R: Wait, H: FsHooks>(
     Err(GateError::Invalid)
 }
 
-/// A file system whose own part of a freeze fails so.
-#[derive(Drop)]
-struct Fails {
-    code: u16,
-}
-
-impl FsHooks for Fails {
-    fn sync(&mut self) -> Result<(), u16> {
-        Ok(())
-    }
-
-    fn freeze_fs(&mut self) -> Result<(), u16> {
-        Err(self.code)
-    }
-
-    fn unfreeze_fs(&mut self) -> Result<(), u16> {
-        Ok(())
-    }
-
-    fn reconfigure(&mut self, read_only: bool) -> Result<(), u16> {
-        let _ = read_only;
-        Ok(())
-    }
-}
-
 #[test]
 fn a_busy_remount_tells_what_was_in_the_way(rt: HostRuntime) -> Result<(), Fail> {
     let (gates, mut task) = Gates::new(rt.alloc(), small(2))?;
@@ -187,7 +163,7 @@ fn a_backup_takes_what_another_froze(rt: HostRuntime) -> Result<(), Fail> {
     assert_eq!(rt; back_up(&rt, &gates, &mut other, &mut ()), Ok(()));
     assert!(rt; other.tree().is_some());
     assert_eq!(rt; task.thaw(&rt, &gates, &mut ()), Ok(()));
-    let mut fails = Fails { code: 16 };
+    let mut fails = FailsAt::new(Question::FreezeFs, 16);
     assert_eq!(rt;
         back_up(&rt, &gates, &mut task, &mut fails),
         Err(GateError::Hook(16))

@@ -12,7 +12,7 @@ use vfs_gates::{Gates, Task};
 
 /// A question that a call asks the file system.
 #[derive(Clone, Copy, PartialEq, Eq, Debug)]
-enum Question {
+pub(super) enum Question {
     Sync,
     FreezeFs,
     UnfreezeFs,
@@ -68,13 +68,21 @@ impl Asked {
 /// A file system that fails at one question with this code. It agrees to `sync` where it fails at `freeze_fs`, and fails at any other with
 /// another code.
 #[derive(Drop)]
-struct FailsAt {
+pub(super) struct FailsAt {
     question: Question,
     code: u16,
     asked: Asked,
 }
 
 impl FailsAt {
+    pub(super) fn new(question: Question, code: u16) -> FailsAt {
+        FailsAt {
+            question,
+            code,
+            asked: Asked::NEVER,
+        }
+    }
+
     fn answer(&self, question: Question) -> Result<(), u16> {
         if question == self.question {
             return Err(self.code);
@@ -207,12 +215,7 @@ fn fails_and_is_done_again<R: Wait>(
     ensures { IsFrom task.new gates.now }
 {
     let (before, after) = standings(question);
-    let asked = Asked::NEVER;
-    let mut hooks = FailsAt {
-        question,
-        code,
-        asked,
-    };
+    let mut hooks = FailsAt::new(question, code);
     let stood = stands(task, gates, before);
     let refused = calls(task, rt, gates, question, &mut hooks);
     stood
@@ -273,12 +276,7 @@ fn asks_nothing<R: Wait>(
     requires { IsFrom task.old gates.now }
     ensures { IsFrom task.new gates.now }
 {
-    let (code, asked) = (5, Asked::NEVER);
-    let mut hooks = FailsAt {
-        question,
-        code,
-        asked,
-    };
+    let mut hooks = FailsAt::new(question, 5);
     calls(task, rt, gates, question, &mut hooks) == wanted && hooks.asked == Asked::NEVER
 }
 

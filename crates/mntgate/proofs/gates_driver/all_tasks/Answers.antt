@@ -3,7 +3,7 @@ use Rattle.std.proofs.Common.{◌∙◌, arith}
 use Rattle.std.proofs.lemmas.List.Elements.{All-push}
 use Rattle.std.proofs.lemmas.Result.{err_from_is_err_and}
 use Rattle.vfs_gates.specs.TaskStates.{IsFrom}
-use Rattle.mntgate.proofs.Splitting.{gives_on, refused_for_memory}
+use Rattle.mntgate.proofs.Splitting.{gives_on, has_next, numbered_more, refused_for_memory}
 use Rattle.mntgate.proofs.gates_driver.all_tasks.Goals as goal
 
 pub returns-in_err-other-clause-memory : goal.returns-in_err-other-clause-memory
@@ -16,9 +16,11 @@ pub loop-number-preserved : goal.loop-number-preserved
 loop-number-preserved c =
     let before = c.loop-number.invariant in
     let split = c.in_ok-other.ensures in
+    let next = has_next _ _ _ _ _ before.gives c.loop-number-test.true split.made in
     record {
       first = (c.split.ensures.table ∙ before.first.0, c.split.ensures.config ∙ before.first.1);
       others = rw c.in-Ok.ensures.items (All-push (λ task. IsFrom task c.args.gates.now) _ _ before.others split.from);
       gives = gives_on _ _ _ _ _ before.gives c.loop-number-test.true split.made;
+      numbers = rw c.in-Ok.ensures.items (numbered_more 1 _ _ before.numbers (omega (arith, next, before.count)));
       count = omega (arith, c.in-Ok.ensures.len, before.count);
     }

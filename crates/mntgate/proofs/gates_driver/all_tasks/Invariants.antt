@@ -1,7 +1,7 @@
--- The first task and those that were split off come from the gates, and there is one of each number so far; the first has the others to give.
+-- The first task and those that were split off come from the gates, which have the numbers so far in their order; the first has the others to give.
 use Rattle.std.proofs.Common.{◌≡◌, ◌+◌, All, vec_len}
 use Rattle.vfs_gates.specs.TaskStates.{IsFrom}
-use Rattle.mntgate.specs.Splitting.{Gives}
+use Rattle.mntgate.specs.Splitting.{AreNumbered, Gives}
 use Rattle.mntgate.proofs.gates_driver.all_tasks.Given as goal
 
 abbrev pub invariant-loop-number : goal.invariant-loop-number
@@ -9,5 +9,6 @@ invariant-loop-number l = record {
   first : IsFrom l.first l.gates;
   others : All (λ task. IsFrom task l.gates) l.tasks.items;
   gives : Gives l.first l._number l.fn.count;
+  numbers : AreNumbered 1 l.tasks.items;
   count : vec_len l.tasks + 1 ≡ l._number;
 }

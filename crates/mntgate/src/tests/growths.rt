@@ -1,0 +1,100 @@
+//! Schedules that meet a growth which is refused. `rt try --test --fail-alloc N` refuses the growth number N of each test, so that a test
+//! which asks for growths of its own first meets a lower one of its replay. bench/refuse-memory.sh takes 21, 22, 23 and 24 for N: with the
+//! tests below each growth of a replay is refused in one of these runs.
+
+use super::fakes::Counter;
+use crate::drivers::Over;
+use crate::replay::{ReplayFault, replay_over};
+use access_model::GateError;
+use std::alloc::Global;
+use std::cell::Cell;
+use std::process::Abort;
+use std::test::Fail;
+
+/// How a schedule ends that needs memory at its first line and at its third, and how many bytes it prints, where this growth of its replay
+/// is refused, or one of the three behind it.
+fn ended<R: Alloc<A = Global>>(
+    rt: &R,
+    over: Over,
+    lowest: u8,
+) -> (Result<(), ReplayFault>, usize) {
+    for _growth in lowest..21 {
+        let mut bytes = Vec::new(rt.alloc());
+        let _refused = bytes.push(0u8);
+    }
+    let written = Cell::new(0);
+    let mut schedule = b"# a comment\n\nconfig 2 1 1 2 8\n0 want 0 0\n0 run\n".as_slice();
+    let mut writer = Counter { written: &written };
+    let ended = replay_over(rt.alloc(), over, &mut schedule, &mut writer);
+    (ended, written.get())
+}
+
+/// That the schedule is done, or ends at a line that needs memory and prints nothing.
+fn ends_at_its_line<R: Abort + Alloc<A = Global>>(
+    rt: &R,
+    over: Over,
+    lowest: u8,
+) -> Result<(), Fail> {
+    let (ended, written) = ended(rt, over, lowest);
+    let Err(fault) = ended else {
+        assert_eq!(rt; written, 5);
+        return Ok(());
+    };
+    assert_eq!(rt; fault.text, "refused");
+    assert_eq!(rt; fault.cause, Some(GateError::NoMemory));
+    assert!(rt; fault.line == 1 || fault.line == 3);
+    assert_eq!(rt; written, 0);
+    Ok(())
+}
+
+#[test]
+fn growths_1_to_4_are_refused(rt: HostRuntime) -> Result<(), Fail> {
+    ends_at_its_line(&rt, Over::Core, 1)
+}
+
+#[test]
+fn growths_5_to_8_are_refused(rt: HostRuntime) -> Result<(), Fail> {
+    ends_at_its_line(&rt, Over::Core, 5)
+}
+
+#[test]
+fn growths_9_to_12_are_refused(rt: HostRuntime) -> Result<(), Fail> {
+    ends_at_its_line(&rt, Over::Core, 9)
+}
+
+#[test]
+fn there_is_no_growth_13(rt: HostRuntime) -> Result<(), Fail> {
+    assert_eq!(rt; ended(&rt, Over::Core, 13), (Ok(()), 5));
+    Ok(())
+}
+
+#[test]
+fn growths_1_to_4_of_the_gates_are_refused(rt: HostRuntime) -> Result<(), Fail> {
+    ends_at_its_line(&rt, Over::Gates, 1)
+}
+
+#[test]
+fn growths_5_to_8_of_the_gates_are_refused(rt: HostRuntime) -> Result<(), Fail> {
+    ends_at_its_line(&rt, Over::Gates, 5)
+}
+
+#[test]
+fn growths_9_to_12_of_the_gates_are_refused(rt: HostRuntime) -> Result<(), Fail> {
+    ends_at_its_line(&rt, Over::Gates, 9)
+}
+
+#[test]
+fn growths_13_to_16_of_the_gates_are_refused(rt: HostRuntime) -> Result<(), Fail> {
+    ends_at_its_line(&rt, Over::Gates, 13)
+}
+
+#[test]
+fn growths_17_to_20_of_the_gates_are_refused(rt: HostRuntime) -> Result<(), Fail> {
+    ends_at_its_line(&rt, Over::Gates, 17)
+}
+
+#[test]
+fn there_is_no_growth_21_of_the_gates(rt: HostRuntime) -> Result<(), Fail> {
+    assert_eq!(rt; ended(&rt, Over::Gates, 21), (Ok(()), 5));
+    Ok(())
+}
