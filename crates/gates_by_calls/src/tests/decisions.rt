@@ -133,59 +133,102 @@ fn take<R: Wait, H: FsHooks>(
     Err(GateError::Invalid)
 }
 
+/// Whether a remount is busy for the access that another task took with the second processor, each time.
+fn meets_an_access<R: Wait>(task: &mut Task, rt: &R, gates: &Gates) -> bool
+    requires { IsFrom task.old gates.now }
+    ensures { IsFrom task.new gates.now }
+{
+    shut(rt, gates, task, &mut (), 3) == Err(GateError::Busy)
+        && shut_and_see(rt, gates, task, &mut ()) == Ok(Some(WordName::MountCount(0, 1)))
+}
+
+/// Whether a remount is busy for what is frozen, and is done when that is thawed by the other task.
+fn meets_a_freeze<R: Wait>(task: &mut Task, other: &mut Task, rt: &R, gates: &Gates) -> bool
+    requires { IsFrom task.old gates.now × IsFrom other.old gates.now }
+    ensures { IsFrom task.new gates.now × IsFrom other.new gates.now }
+{
+    other.freeze(rt, gates, &mut ()).is_ok()
+        && shut_and_see(rt, gates, task, &mut ()) == Ok(Some(WordName::Stage))
+        && other.thaw(rt, gates, &mut ()).is_ok()
+        && shut(rt, gates, task, &mut (), 1).is_ok()
+}
+
 #[test]
 fn a_busy_remount_tells_what_was_in_the_way(rt: HostRuntime) -> Result<(), Fail> {
     let (gates, mut task) = Gates::new(rt.alloc(), small(2))?;
     let mut other = task.split(rt.alloc(), &gates)?;
     assert_eq!(rt; other.want(&rt, &gates, 0, 1), Ok(()));
-    assert_eq!(rt;
-        shut(&rt, &gates, &mut task, &mut (), 3),
-        Err(GateError::Busy)
-    );
-    let counted = Ok(Some(WordName::MountCount(0, 1)));
-    assert_eq!(rt; shut_and_see(&rt, &gates, &mut task, &mut ()), counted);
+    assert!(rt; meets_an_access(&mut task, &rt, &gates));
     assert_eq!(rt; other.drop_mount(&gates, 0, 0), Ok(()));
-    assert_eq!(rt; task.freeze(&rt, &gates, &mut ()), Ok(()));
-    assert_eq!(rt;
-        shut_and_see(&rt, &gates, &mut other, &mut ()),
-        Ok(Some(WordName::Stage))
-    );
-    assert_eq!(rt; task.thaw(&rt, &gates, &mut ()), Ok(()));
-    assert_eq!(rt; shut(&rt, &gates, &mut other, &mut (), 1), Ok(()));
+    assert!(rt; meets_a_freeze(&mut other, &mut task, &rt, &gates));
     Ok(())
+}
+
+/// Whether a backup takes its snapshot of what another task has frozen.
+fn backs_up_anothers<R: Wait>(task: &mut Task, other: &mut Task, rt: &R, gates: &Gates) -> bool
+    requires { IsFrom task.old gates.now × IsFrom other.old gates.now }
+    ensures { IsFrom task.new gates.now × IsFrom other.new gates.now }
+{
+    other.freeze(rt, gates, &mut ()).is_ok()
+        && back_up(rt, gates, task, &mut ()).is_ok()
+        && task.tree().is_some()
+        && other.thaw(rt, gates, &mut ()).is_ok()
+}
+
+/// Whether a backup that the file system refuses takes none, and has run the callbacks: two freezes have closed the first level since one
+/// ran there, and one has run by now.
+fn is_refused<R: Wait>(task: &mut Task, rt: &R, gates: &Gates) -> bool
+    requires { IsFrom task.old gates.now }
+    ensures { IsFrom task.new gates.now }
+{
+    let mut fails = FailsAt::new(Question::FreezeFs, 16);
+    back_up(rt, gates, task, &mut fails) == Err(GateError::Hook(16))
+        && task.tree().is_none()
+        && task.callback(rt, gates, 1) == Ok(true)
+        && task.callback(rt, gates, 1) == Ok(false)
 }
 
 #[test]
 fn a_backup_takes_what_another_froze(rt: HostRuntime) -> Result<(), Fail> {
     let (gates, mut task) = Gates::new(rt.alloc(), small(2))?;
     let mut other = task.split(rt.alloc(), &gates)?;
-    assert_eq!(rt; task.freeze(&rt, &gates, &mut ()), Ok(()));
-    assert_eq!(rt; back_up(&rt, &gates, &mut other, &mut ()), Ok(()));
-    assert!(rt; other.tree().is_some());
-    assert_eq!(rt; task.thaw(&rt, &gates, &mut ()), Ok(()));
-    let mut fails = FailsAt::new(Question::FreezeFs, 16);
-    assert_eq!(rt;
-        back_up(&rt, &gates, &mut task, &mut fails),
-        Err(GateError::Hook(16))
-    );
-    assert!(rt; task.tree().is_none());
-    // Two freezes have closed the level since a callback ran there, and one has run by now.
-    assert_eq!(rt; task.callback(&rt, &gates, 1), Ok(true));
-    assert_eq!(rt; task.callback(&rt, &gates, 1), Ok(false));
+    assert!(rt; backs_up_anothers(&mut other, &mut task, &rt, &gates));
+    assert!(rt; is_refused(&mut task, &rt, &gates));
     Ok(())
+}
+
+/// Whether a file of three blocks is made.
+fn makes_a_file<R: Wait>(task: &mut Task, rt: &R, gates: &Gates) -> bool
+    requires { IsFrom task.old gates.now }
+    ensures { IsFrom task.new gates.now }
+{
+    task.want_write(rt, gates, 0, 0).is_ok()
+        && task.create(gates, 0, Kind::File) == Ok(1)
+        && task.grow(gates, 1, 3).is_ok()
+        && task.drop_write(gates, 0, 1).is_ok()
 }
 
 #[test]
 fn a_snapshot_freezes_where_nothing_is_frozen(rt: HostRuntime) -> Result<(), Fail> {
     let (gates, mut task) = Gates::new(rt.alloc(), small(1))?;
-    assert_eq!(rt; task.want_write(&rt, &gates, 0, 0), Ok(()));
-    assert_eq!(rt; task.create(&gates, 0, Kind::File), Ok(1));
-    assert_eq!(rt; task.grow(&gates, 1, 3), Ok(()));
-    assert_eq!(rt; task.drop_write(&gates, 0, 1), Ok(()));
+    assert!(rt; makes_a_file(&mut task, &rt, &gates));
     assert_eq!(rt; task.snapshot(&rt, &gates), Err(GateError::Invalid));
     assert_eq!(rt; take(&rt, &gates, &mut task, &mut (), 2), Ok(()));
     assert_eq!(rt; task.tree().map(|tree| tree.used()), Some(3));
     Ok(())
+}
+
+/// Whether a freeze of a read-only superblock leaves all levels open to the other task, that was inside before it.
+fn stays_open<R: Wait>(task: &mut Task, other: &mut Task, rt: &R, gates: &Gates) -> bool
+    requires { IsFrom task.old gates.now × IsFrom other.old gates.now }
+    ensures { IsFrom task.new gates.now × IsFrom other.new gates.now }
+{
+    other.start(rt, gates, 2, 0).is_ok()
+        && task.freeze(rt, gates, &mut ()).is_ok()
+        && task.try_start(gates, 1, 0).is_ok()
+        && task.end(gates, 1, 0).is_ok()
+        && other.end(gates, 2, 0).is_ok()
+        && other.thaw(rt, gates, &mut ()).is_ok()
 }
 
 #[test]
@@ -193,11 +236,6 @@ fn a_freeze_of_a_read_only_superblock_closes_no_level(rt: HostRuntime) -> Result
     let (gates, mut task) = Gates::new(rt.alloc(), small(2))?;
     let mut other = task.split(rt.alloc(), &gates)?;
     assert_eq!(rt; shut(&rt, &gates, &mut task, &mut (), 1), Ok(()));
-    assert_eq!(rt; other.start(&rt, &gates, 2, 0), Ok(()));
-    assert_eq!(rt; task.freeze(&rt, &gates, &mut ()), Ok(()));
-    assert_eq!(rt; task.try_start(&gates, 1, 0), Ok(()));
-    assert_eq!(rt; task.end(&gates, 1, 0), Ok(()));
-    assert_eq!(rt; other.end(&gates, 2, 0), Ok(()));
-    assert_eq!(rt; other.thaw(&rt, &gates, &mut ()), Ok(()));
+    assert!(rt; stays_open(&mut task, &mut other, &rt, &gates));
     Ok(())
 }

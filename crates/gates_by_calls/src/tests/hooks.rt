@@ -280,28 +280,53 @@ fn asks_nothing<R: Wait>(
     calls(task, rt, gates, question, &mut hooks) == wanted && hooks.asked == Asked::NEVER
 }
 
+/// Whether a task that holds a level asks nothing for a freeze, a thaw and a remount.
+fn asks_nothing_inside<R: Wait>(task: &mut Task, rt: &R, gates: &Gates) -> bool
+    requires { IsFrom task.old gates.now }
+    ensures { IsFrom task.new gates.now }
+{
+    let order = Err(GateError::Order);
+    task.try_start(gates, 1, 0).is_ok()
+        && asks_nothing(task, rt, gates, Question::Sync, order)
+        && asks_nothing(task, rt, gates, Question::UnfreezeFs, order)
+        && asks_nothing(task, rt, gates, Question::ToReadOnly, order)
+        && task.end(gates, 1, 0).is_ok()
+}
+
+/// Whether a call asks nothing that is busy: a remount while an access is held, a freeze and a remount while all is frozen.
+fn asks_nothing_where_busy<R: Wait>(task: &mut Task, rt: &R, gates: &Gates) -> bool
+    requires { IsFrom task.old gates.now }
+    ensures { IsFrom task.new gates.now }
+{
+    let busy = Err(GateError::Busy);
+    task.try_want(gates, 0, 0).is_ok()
+        && asks_nothing(task, rt, gates, Question::ToReadOnly, busy)
+        && task.drop_mount(gates, 0, 0).is_ok()
+        && task.freeze(rt, gates, &mut ()).is_ok()
+        && asks_nothing(task, rt, gates, Question::Sync, busy)
+        && asks_nothing(task, rt, gates, Question::ToReadOnly, busy)
+        && task.thaw(rt, gates, &mut ()).is_ok()
+}
+
+/// Whether a read-only superblock is frozen and thawed, and remounted as it is, with no question.
+fn asks_nothing_read_only<R: Wait>(task: &mut Task, rt: &R, gates: &Gates) -> bool
+    requires { IsFrom task.old gates.now }
+    ensures { IsFrom task.new gates.now }
+{
+    task.remount_sb(rt, gates, true, &mut ()).is_ok()
+        && asks_nothing(task, rt, gates, Question::ToReadOnly, Ok(()))
+        && asks_nothing(task, rt, gates, Question::FreezeFs, Ok(()))
+        && asks_nothing(task, rt, gates, Question::UnfreezeFs, Ok(()))
+}
+
 #[test]
 fn a_call_that_needs_no_answer_asks_nothing(rt: HostRuntime) -> Result<(), Fail> {
     let (gates, mut task) = Gates::new(rt.alloc(), small(1))?;
-    let (order, busy) = (Err(GateError::Order), Err(GateError::Busy));
     let invalid = Err(GateError::Invalid);
     assert!(rt; asks_nothing(&mut task, &rt, &gates, Question::UnfreezeFs, invalid));
     assert!(rt; asks_nothing(&mut task, &rt, &gates, Question::ToWritable, Ok(())));
-    assert_eq!(rt; task.try_start(&gates, 1, 0), Ok(()));
-    assert!(rt; asks_nothing(&mut task, &rt, &gates, Question::Sync, order));
-    assert!(rt; asks_nothing(&mut task, &rt, &gates, Question::UnfreezeFs, order));
-    assert!(rt; asks_nothing(&mut task, &rt, &gates, Question::ToReadOnly, order));
-    assert_eq!(rt; task.end(&gates, 1, 0), Ok(()));
-    assert_eq!(rt; task.try_want(&gates, 0, 0), Ok(()));
-    assert!(rt; asks_nothing(&mut task, &rt, &gates, Question::ToReadOnly, busy));
-    assert_eq!(rt; task.drop_mount(&gates, 0, 0), Ok(()));
-    assert_eq!(rt; task.freeze(&rt, &gates, &mut ()), Ok(()));
-    assert!(rt; asks_nothing(&mut task, &rt, &gates, Question::Sync, busy));
-    assert!(rt; asks_nothing(&mut task, &rt, &gates, Question::ToReadOnly, busy));
-    assert_eq!(rt; task.thaw(&rt, &gates, &mut ()), Ok(()));
-    assert_eq!(rt; task.remount_sb(&rt, &gates, true, &mut ()), Ok(()));
-    assert!(rt; asks_nothing(&mut task, &rt, &gates, Question::ToReadOnly, Ok(())));
-    assert!(rt; asks_nothing(&mut task, &rt, &gates, Question::FreezeFs, Ok(())));
-    assert!(rt; asks_nothing(&mut task, &rt, &gates, Question::UnfreezeFs, Ok(())));
+    assert!(rt; asks_nothing_inside(&mut task, &rt, &gates));
+    assert!(rt; asks_nothing_where_busy(&mut task, &rt, &gates));
+    assert!(rt; asks_nothing_read_only(&mut task, &rt, &gates));
     Ok(())
 }

@@ -26,6 +26,21 @@ fn stay_open(gates: Gates, task: Task, change: Result<(), GateError>) -> bool
         && task.try_change_mount(&gates, 0, true) == change
 }
 
+/// Whether a change of the first mount is busy, each time, while others may want there, and the second mount can be shut.
+fn meets_a_lost_access(task: &mut Task, gates: &Gates) -> bool
+    requires { IsFrom task.old gates.now }
+    ensures { IsFrom task.new gates.now }
+{
+    let busy = Err(GateError::Busy);
+    task.try_change_mount(gates, 0, true) == busy
+        && task.try_change_mount(gates, 0, true) == busy
+        && task.try_want(gates, 0, 0).is_ok()
+        && task.drop_mount(gates, 0, 0).is_ok()
+        && task.try_change_mount(gates, 0, true) == busy
+        && task.try_change_mount(gates, 1, true).is_ok()
+        && task.try_want(gates, 1, 0) == Err(GateError::ReadOnly)
+}
+
 #[test]
 fn a_lost_access_keeps_its_mount_busy(rt: HostRuntime) -> Result<(), Fail> {
     let config = Config {
@@ -36,15 +51,8 @@ fn a_lost_access_keeps_its_mount_busy(rt: HostRuntime) -> Result<(), Fail> {
     let mut lost = task.split(rt.alloc(), &gates)?;
     assert_eq!(rt; lost.try_want(&gates, 0, 1), Ok(()));
     drop(lost);
-    let busy = Err(GateError::Busy);
-    assert_eq!(rt; task.try_change_mount(&gates, 0, true), busy);
-    assert_eq!(rt; task.try_change_mount(&gates, 0, true), busy);
-    assert_eq!(rt; task.try_want(&gates, 0, 0), Ok(()));
-    assert_eq!(rt; task.drop_mount(&gates, 0, 0), Ok(()));
-    assert_eq!(rt; task.try_change_mount(&gates, 0, true), busy);
-    assert_eq!(rt; task.try_change_mount(&gates, 1, true), Ok(()));
-    assert_eq!(rt; task.try_want(&gates, 1, 0), Err(GateError::ReadOnly));
-    assert!(rt; stay_open(gates, task, busy));
+    assert!(rt; meets_a_lost_access(&mut task, &gates));
+    assert!(rt; stay_open(gates, task, Err(GateError::Busy)));
     Ok(())
 }
 
@@ -94,34 +102,49 @@ fn lose_owner(
     Ok((gates, task))
 }
 
+/// Whether changes of each mount and snapshots would wait, while others may want.
+fn meets_a_lost_owner(task: &mut Task, gates: &Gates) -> bool
+    requires { IsFrom task.old gates.now }
+    ensures { IsFrom task.new gates.now }
+{
+    let again = Err(GateError::Again);
+    task.try_change_mount(gates, 0, true) == again
+        && task.try_change_mount(gates, 0, false) == again
+        && task.try_change_mount(gates, 1, true) == again
+        && task.try_snapshot(gates) == again
+        && task.try_want(gates, 0, 0).is_ok()
+        && task.drop_mount(gates, 0, 1).is_ok()
+        && task.try_snapshot(gates) == again
+}
+
 #[test]
 fn a_lost_owner_keeps_umount(rt: HostRuntime) -> Result<(), Fail> {
     let lock = Touch::Cas { expect: 0, put: 2 };
     let (gates, mut task) = lose_owner(rt.alloc(), 1, lock, WordName::Umount)?;
-    let again = Err(GateError::Again);
-    assert_eq!(rt; task.try_change_mount(&gates, 0, true), again);
-    assert_eq!(rt; task.try_change_mount(&gates, 0, false), again);
-    assert_eq!(rt; task.try_change_mount(&gates, 1, true), again);
-    assert_eq!(rt; task.try_snapshot(&gates), again);
-    assert_eq!(rt; task.try_want(&gates, 0, 0), Ok(()));
-    assert_eq!(rt; task.drop_mount(&gates, 0, 1), Ok(()));
-    assert_eq!(rt; task.try_snapshot(&gates), again);
-    assert!(rt; stay_open(gates, task, again));
+    assert!(rt; meets_a_lost_owner(&mut task, &gates));
+    assert!(rt; stay_open(gates, task, Err(GateError::Again)));
     Ok(())
+}
+
+/// Whether wants of the first mount would wait, and those of the second don't, nor starts.
+fn meets_a_lost_hold(task: &mut Task, gates: &Gates) -> bool
+    requires { IsFrom task.old gates.now }
+    ensures { IsFrom task.new gates.now }
+{
+    task.try_want(gates, 0, 0) == Err(GateError::Again)
+        && task.holds_mount(0) == 0
+        && task.try_want(gates, 1, 0).is_ok()
+        && task.drop_mount(gates, 1, 1).is_ok()
+        && task.try_start(gates, 1, 0).is_ok()
+        && task.end(gates, 1, 1).is_ok()
 }
 
 #[test]
 fn a_lost_owner_keeps_hold(rt: HostRuntime) -> Result<(), Fail> {
     let hold = WordName::MountFlags(0);
     let (gates, mut task) = lose_owner(rt.alloc(), 4, Touch::Or(2), hold)?;
-    let again = Err(GateError::Again);
-    assert_eq!(rt; task.try_want(&gates, 0, 0), again);
-    assert_eq!(rt; task.holds_mount(0), 0);
-    assert_eq!(rt; task.try_want(&gates, 1, 0), Ok(()));
-    assert_eq!(rt; task.drop_mount(&gates, 1, 1), Ok(()));
-    assert_eq!(rt; task.try_start(&gates, 1, 0), Ok(()));
-    assert_eq!(rt; task.end(&gates, 1, 1), Ok(()));
-    assert!(rt; stay_open(gates, task, again));
+    assert!(rt; meets_a_lost_hold(&mut task, &gates));
+    assert!(rt; stay_open(gates, task, Err(GateError::Again)));
     Ok(())
 }
 

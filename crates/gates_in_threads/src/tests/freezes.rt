@@ -2,7 +2,7 @@
 
 ghost use Rattle.vfs_gates.specs.TaskStates.{IsFrom};
 
-use super::small;
+use super::{count_nobody, join_and_close, join_both_and_close, small};
 use access_model::{Gate, GateError};
 use cpu_words::WordName;
 use freeze_levels::FsHooks;
@@ -119,15 +119,13 @@ fn a_freeze_comes_after_two_threads(rt: HostRuntime) -> Result<(), Fail> {
     assert!(rt; one && two);
     assert_eq!(rt; task.freeze(&rt, &gates, &mut ()), Ok(()));
     assert_eq!(rt; task.try_snapshot(&gates), Ok(()));
-    let Err((error, gates, mut task)) = gates.close(task) else {
+    let Err((GateError::Order, gates, task)) = gates.close(task) else {
         panic!(rt; "closed before the join")
     };
-    assert_eq!(rt; error, GateError::Order);
-    assert!(rt; task.join(&gates, other).is_ok());
-    let Ok(closed) = gates.close(task) else {
+    let Some(closed) = join_and_close(gates, task, other) else {
         panic!(rt; "not closed")
     };
-    assert_eq!(rt; closed.gate_sum(Gate::Level(1)), Some(0));
+    assert!(rt; count_nobody(&closed, &[Gate::Level(1)]));
     assert_eq!(rt; closed.word(WordName::Stage), Some(4));
     Ok(())
 }
@@ -309,13 +307,10 @@ fn nobody_is_inside_while_it_is_frozen(rt: HostRuntime) -> Result<(), Fail> {
     assert_eq!(rt; (done, wrong, met), (FREEZES, 0, 0));
     assert_eq!(rt; (called, first, second), (1000, 5000, 5000));
     assert!(rt; task.join(&gates, one).is_ok());
-    assert!(rt; task.join(&gates, two).is_ok());
-    assert!(rt; task.join(&gates, caller).is_ok());
-    let Ok(closed) = gates.close(task) else {
+    let Some(closed) = join_both_and_close(gates, task, two, caller) else {
         panic!(rt; "not closed")
     };
-    let sums = [1, 2, 3].map(|level| closed.gate_sum(Gate::Level(level)));
-    assert_eq!(rt; sums, [Some(0), Some(0), Some(0)]);
+    assert!(rt; count_nobody(&closed, &[Gate::Level(1), Gate::Level(2), Gate::Level(3)]));
     assert_eq!(rt; closed.word(WordName::Stage), Some(0));
     Ok(())
 }

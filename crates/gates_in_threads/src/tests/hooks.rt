@@ -3,7 +3,7 @@
 ghost use Rattle.vfs_gates.specs.TaskStates.{IsFrom};
 
 use super::mounts::both_want;
-use super::small;
+use super::{count_nobody, join_both_and_close, small};
 use access_model::{Gate, GateError};
 use cpu_words::WordName;
 use freeze_levels::FsHooks;
@@ -88,15 +88,23 @@ fn all_answer<R: Wait>(
     same
 }
 
+/// Whether a mount is shut by a remount, and open before it and after the remount back.
+fn shuts_and_opens<R: Wait>(task: &mut Task, rt: &R, gates: &Gates) -> bool
+    requires { IsFrom task.old gates.now }
+    ensures { IsFrom task.new gates.now }
+{
+    task.want(rt, gates, 0, 0).is_ok()
+        && task.drop_mount(gates, 0, 0).is_ok()
+        && task.remount_sb(rt, gates, true, &mut ()).is_ok()
+        && task.try_want(gates, 0, 0) == Err(GateError::ReadOnly)
+        && task.remount_sb(rt, gates, false, &mut ()).is_ok()
+        && task.want(rt, gates, 0, 0).is_ok()
+}
+
 #[test]
 fn a_remount_shuts_and_opens_the_mounts(rt: HostRuntime) -> Result<(), Fail> {
     let (gates, mut task) = Gates::new(rt.alloc(), small(1))?;
-    assert_eq!(rt; task.want(&rt, &gates, 0, 0), Ok(()));
-    assert_eq!(rt; task.drop_mount(&gates, 0, 0), Ok(()));
-    assert_eq!(rt; task.remount_sb(&rt, &gates, true, &mut ()), Ok(()));
-    assert_eq!(rt; task.try_want(&gates, 0, 0), Err(GateError::ReadOnly));
-    assert_eq!(rt; task.remount_sb(&rt, &gates, false, &mut ()), Ok(()));
-    assert_eq!(rt; task.want(&rt, &gates, 0, 0), Ok(()));
+    assert!(rt; shuts_and_opens(&mut task, &rt, &gates));
     Ok(())
 }
 
@@ -233,14 +241,11 @@ fn a_remount_keeps_its_own_thread_out(rt: HostRuntime) -> Result<(), Fail> {
     );
     assert_eq!(rt; (done, wrong, bad, worse), (50, 0, 0, 0));
     assert_eq!(rt; task.remount_sb(&rt, &gates, false, &mut ()), Ok(()));
-    assert!(rt; task.join(&gates, one).is_ok());
-    assert!(rt; task.join(&gates, two).is_ok());
-    let Ok(closed) = gates.close(task) else {
+    let Some(closed) = join_both_and_close(gates, task, one, two) else {
         panic!(rt; "not closed")
     };
-    let sums = [0, 1, 2].map(|mount| closed.gate_sum(Gate::Mount(mount)));
-    assert_eq!(rt; sums, [Some(0), Some(0), Some(0)]);
-    let superblock = [WordName::SbFlags, WordName::Remount].map(|word| closed.word(word));
-    assert_eq!(rt; superblock, [Some(0), Some(0)]);
+    assert!(rt; count_nobody(&closed, &[Gate::Mount(0), Gate::Mount(1), Gate::Mount(2)]));
+    assert_eq!(rt; closed.word(WordName::SbFlags), Some(0));
+    assert_eq!(rt; closed.word(WordName::Remount), Some(0));
     Ok(())
 }

@@ -2,7 +2,7 @@
 
 ghost use Rattle.vfs_gates.specs.TaskStates.{IsFrom};
 
-use super::small;
+use super::{count_nobody, join_and_close, small};
 use access_model::Gate;
 use cpu_words::WordName;
 use std::sync::Wait;
@@ -55,20 +55,17 @@ fn two_threads_start_and_end(rt: HostRuntime) -> Result<(), Fail> {
         || rounds(task, &rt, &gates, 0, 1000),
         || rounds(other, &rt, &gates, 1, 1000),
     );
-    let ((mut task, three), (other, four)) = thread::join(
+    let ((task, three), (other, four)) = thread::join(
         &rt,
         || writes(task, &rt, &gates, 0, 1000),
         || writes(other, &rt, &gates, 1, 1000),
     );
     assert_eq!(rt; (one, two, three, four), (1000, 1000, 1000, 1000));
-    assert!(rt; task.join(&gates, other).is_ok());
-    let Ok(closed) = gates.close(task) else {
+    let Some(closed) = join_and_close(gates, task, other) else {
         panic!(rt; "not closed")
     };
-    assert_eq!(rt; closed.gate_sum(Gate::Level(1)), Some(0));
-    assert_eq!(rt; closed.gate_sum(Gate::Level(2)), Some(0));
-    assert_eq!(rt; closed.gate_sum(Gate::Level(3)), Some(0));
-    assert_eq!(rt; closed.gate_sum(Gate::Mount(0)), Some(0));
+    let levels = [Gate::Level(1), Gate::Level(2), Gate::Level(3)];
+    assert!(rt; count_nobody(&closed, &levels) && count_nobody(&closed, &[Gate::Mount(0)]));
     assert_eq!(rt; closed.word(WordName::Section(0)), Some(8000));
     Ok(())
 }

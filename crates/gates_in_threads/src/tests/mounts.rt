@@ -2,7 +2,7 @@
 
 ghost use Rattle.vfs_gates.specs.TaskStates.{IsFrom};
 
-use super::small;
+use super::{count_nobody, join_and_close, join_both_and_close, small};
 use access_model::{Gate, GateError};
 use cpu_words::WordName;
 use std::sync::Wait;
@@ -108,15 +108,13 @@ fn two_threads_want_and_drop(rt: HostRuntime) -> Result<(), Fail> {
         || rounds(other, &gates, 1, 1000),
     );
     assert_eq!(rt; (one, two), (1000, 1000));
-    let Err((error, gates, mut task)) = gates.close(task) else {
+    let Err((GateError::Order, gates, task)) = gates.close(task) else {
         panic!(rt; "closed without the other")
     };
-    assert_eq!(rt; error, GateError::Order);
-    assert!(rt; task.join(&gates, other).is_ok());
-    let Ok(closed) = gates.close(task) else {
+    let Some(closed) = join_and_close(gates, task, other) else {
         panic!(rt; "not closed")
     };
-    assert_eq!(rt; closed.gate_sum(Gate::Mount(0)), Some(0));
+    assert!(rt; count_nobody(&closed, &[Gate::Mount(0)]));
     Ok(())
 }
 
@@ -125,18 +123,16 @@ fn a_change_keeps_its_own_thread_out(rt: HostRuntime) -> Result<(), Fail> {
     let (gates, mut task) = Gates::new(rt.alloc(), small(3))?;
     let one = task.split(rt.alloc(), &gates)?;
     let two = task.split(rt.alloc(), &gates)?;
-    let ((mut task, done, wrong), ((one, bad), (two, worse))) = thread::join(
+    let ((task, done, wrong), ((one, bad), (two, worse))) = thread::join(
         &rt,
         || to_and_fro(task, &gates, 50),
         || both_want(one, two, &rt, &gates, 1),
     );
     assert_eq!(rt; (done, wrong, bad, worse), (50, 0, 0, 0));
-    assert!(rt; task.join(&gates, one).is_ok());
-    assert!(rt; task.join(&gates, two).is_ok());
-    let Ok(closed) = gates.close(task) else {
+    let Some(closed) = join_both_and_close(gates, task, one, two) else {
         panic!(rt; "not closed")
     };
-    assert_eq!(rt; closed.gate_sum(Gate::Mount(0)), Some(0));
+    assert!(rt; count_nobody(&closed, &[Gate::Mount(0)]));
     assert_eq!(rt; closed.word(WordName::MountFlags(0)), Some(0));
     Ok(())
 }
