@@ -13,11 +13,7 @@ use std::test::Fail;
 
 /// How a schedule ends that needs memory at its first line and at its third, and how many bytes it prints, where this growth of its replay
 /// is refused, or one of the three behind it.
-fn ended<R: Alloc<A = Global>>(
-    rt: &R,
-    over: Over,
-    lowest: u8,
-) -> (Result<(), ReplayFault>, usize) {
+fn ended<R: Alloc<A = Global>>(rt: &R, over: Over, lowest: u8) -> (Result<(), ReplayFault>, usize) {
     for _growth in lowest..21 {
         let mut bytes = Vec::new(rt.alloc());
         let _refused = bytes.push(0u8);
