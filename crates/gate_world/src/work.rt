@@ -253,6 +253,39 @@ impl UnderWay for WritePhase {
     }
 }
 
+impl UnderWay for Remount {
+    ghost use Rattle.gate_world.specs.declared.work.Phase.TheVariants.{Remounts};
+
+    ghost as_phase = { λ remount. Remounts remount };
+
+    #[inline(always)]
+    fn phase(self) -> Phase {
+        Phase::Remounts(self)
+    }
+
+    #[inline(always)]
+    fn after(self, found: u64, hook: Result<(), u16>) -> (Next<Remount>, Option<Action>) {
+        self.after(found, hook)
+    }
+}
+
+impl UnderWay for Callback {
+    ghost use Rattle.gate_world.specs.declared.work.Phase.TheVariants.{Callbacks};
+
+    ghost as_phase = { λ callback. Callbacks callback };
+
+    #[inline(always)]
+    fn phase(self) -> Phase {
+        Phase::Callbacks(self)
+    }
+
+    #[inline(always)]
+    fn after(self, found: u64, hook: Result<(), u16>) -> (Next<Callback>, Option<Action>) {
+        let _ = hook;
+        self.after(found)
+    }
+}
+
 impl UnderWay for Freeze {
     ghost use Rattle.gate_world.specs.declared.work.Phase.TheVariants.{Freezes};
 

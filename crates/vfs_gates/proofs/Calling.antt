@@ -25,6 +25,7 @@ use Rattle.vfs_gates.specs.Turns.{kept_at, IsTied, StayTied}
 use Rattle.vfs_gates.specs.Runs.{Goes, Went, Called}
 use Rattle.vfs_gates.specs.declared.task.Task.TheInside.{Inside}
 use Rattle.vfs_gates.proofs.Admitting.{admitted_by, first_so, first_by}
+use Rattle.vfs_gates.proofs.Onward.{goes_where}
 use Rattle.vfs_gates.proofs.Running.{starts}
 
 -- what was not refused has no refusal
@@ -47,13 +48,6 @@ stands_at as_phase next x (inr is) = ap (λ n. phase_after (map_next as_phase n)
 pub done_at : {A : Type 0} (as_phase : A → Phase) (next : Next A) (answer : Result Reply GateError) → next ≡ Done answer →
     map_next as_phase next ≡ Done answer
 done_at as_phase next answer is = ap (λ n. map_next as_phase n) is
-
--- where a phase comes next, the operation goes on
-goes_where : (op : Op) (start now : TaskState) (next : Next Phase) (phase : Phase) → phase_after next ≡ Some phase →
-    Went op start next now → Goes op start now
-goes_where op start now (Go q) phase is went = went
-goes_where op start now (Wait q) phase is went = went
-goes_where op start now (Done answer) phase is went = absurd (let f : ⊥ = cc in f)
 
 -- A call of an operation that was admitted: the task's fields, its state before the call, the configuration as the gates name it, and the
 -- first phase of the operation.

@@ -6,6 +6,7 @@ pub mod Closing
 pub mod Ending
 pub mod Running
 pub mod Admitting
+pub mod Onward
 pub mod Calling
 pub mod Rooming
 pub mod Seeing

@@ -4,6 +4,7 @@
 
 mod calls;
 mod closed;
+mod ends;
 mod gates;
 pub mod laws;
 mod lines;

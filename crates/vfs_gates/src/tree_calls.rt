@@ -1,14 +1,20 @@
 //! Calls at the tree behind the gates, and snapshots of it. All but one wait for nobody.
 
 ghost use Rattle.std.specs.Prelude.{◌≡◌, true, false};
+ghost use Rattle.gated_tree.specs.declared.marks.MarkStep.TheVariants.{LoadsFile};
+ghost use Rattle.gated_tree.specs.declared.phases.TreePhase.TheVariants.{Mark as Marks};
 ghost use Rattle.vfs_gates.specs.Runs.{told_as, node_of};
 
 use crate::calls::outcome;
+use crate::ends::go_to_end;
 use crate::gates::Gates;
 use crate::task::Task;
 use access_model::{GateError, Kind, Reply};
 use gate_world::Op;
-use gated_tree::{Grow, GrowStep};
+use gated_tree::{
+    Create, CreateStep, Grow, GrowStep, Mark, MarkStep, MoveStep, MoveTo, Remove, RemoveStep,
+    TreePhase,
+};
 use std::sync::Wait;
 
 /// Why a create was refused, or the node that it took.
@@ -22,20 +28,56 @@ fn node(answer: Result<Reply, GateError>) -> Result<u8, GateError>
     }
 }
 
+/// The first phase of a fault or a flush: a file is to get its dirty mark, or to lose it.
+fn mark(file: u8, dirty: bool) -> TreePhase
+    ensures { result ≡ Marks (record { file = file; dirty = dirty; step = LoadsFile }) }
+{
+    TreePhase::Mark(Mark {
+        file,
+        dirty,
+        step: MarkStep::LoadsFile,
+    })
+}
+
 impl Task {
+    ghost use Rattle.gate_world.specs.Beginnings.{first_phase};
     ghost use Rattle.gate_world.specs.Traces.{most_events};
+    ghost use Rattle.gate_world.specs.declared.work.Phase.TheVariants.{Trees};
+    ghost use Rattle.vfs_gates.specs.Room.{is_of_snapshot};
     ghost use Rattle.gate_world.specs.declared.operations.Op.TheVariants.{Create as CreateOp, Remove as RemoveOp, Grow as GrowOp, MoveTo as MoveToOp, Fault as FaultOp, Flush as FlushOp, Snapshot as SnapshotOp};
-    ghost use Rattle.vfs_gates.specs.TaskStates.{IsFrom};
+    ghost use Rattle.vfs_gates.specs.TaskStates.{IsFrom, own_number};
     ghost use Rattle.vfs_gates.specs.Runs.{IsBounded, Performs, Replies, the_reply};
 
-    /// Begins an operation that has a most number of events and asks no hook, and does its events until it replies.
-    fn call(&mut self, gates: &Gates, op: Op) -> Result<Reply, GateError>
+    /// Begins a call at the tree that has this first phase and a most number of events, and does its events until it replies.
+    #[inline(always)]
+    fn call(&mut self, gates: &Gates, op: Op, first: TreePhase) -> Result<Reply, GateError>
+        requires from { IsFrom self.old gates.now }
+        requires first { Trees first ≡ first_phase self.old.config (own_number self.old.items) op }
+        requires other { is_of_snapshot (Trees first) ≡ false }
+        requires tries { IsBounded (most_events self.old.config op) }
+        ensures { Replies the_reply op self.old self.new result }
+    {
+        self.admit(op)?;
+        go_to_end(gates, &mut self.seat, &mut self.kept.accesses, op, first)
+    }
+
+    /// Begins a snapshot that waits for nobody, and does its events until it replies. Each is noted, as the task keeps what it loads.
+    fn take(&mut self, gates: &Gates, op: Op) -> Result<Reply, GateError>
         requires from { IsFrom self.old gates.now }
         requires tries { IsBounded (most_events self.old.config op) }
         ensures { Replies the_reply op self.old self.new result }
     {
         self.begin(op)?;
         self.finish(gates, Ok(()))
+    }
+
+    /// Begins a snapshot, and does its events, each of which is noted, until it replies, however long it has to wait.
+    fn take_waiting<R: Wait>(&mut self, rt: &R, gates: &Gates, op: Op) -> Result<Reply, GateError>
+        requires { IsFrom self.old gates.now }
+        ensures { Replies the_reply op self.old self.new result }
+    {
+        self.begin(op)?;
+        self.finish_waiting(rt, gates)
     }
 
     /// `vfs_create`, `vfs_mkdir`: makes an empty, clean file or directory in a directory, and tells the number of its node. NoEntry where
@@ -45,7 +87,13 @@ impl Task {
         requires { IsFrom self.old gates.now }
         ensures { Replies node_of (CreateOp dir kind) self.old self.new result }
     {
-        node(self.call(gates, Op::Create { dir, kind }))
+        let create = TreePhase::Create(Create {
+            dir,
+            kind,
+            nodes: self.config.nodes,
+            step: CreateStep::LoadsDirectory,
+        });
+        node(self.call(gates, Op::Create { dir, kind }, create))
     }
 
     /// `vfs_unlink`: frees a file's node, and gives its blocks back. NoEntry where the node is free, IsDir where it is a directory; Again
@@ -54,7 +102,11 @@ impl Task {
         requires { IsFrom self.old gates.now }
         ensures { Performs (RemoveOp file) self.old self.new result }
     {
-        outcome(self.call(gates, Op::Remove { file }))
+        let remove = TreePhase::Remove(Remove {
+            file,
+            step: RemoveStep::LoadsFile,
+        });
+        outcome(self.call(gates, Op::Remove { file }, remove))
     }
 
     /// `vfs_write` past a file's end: makes it larger by so many blocks, and dirty. NoEntry and IsDir as `remove`; NoSpace where there is
@@ -79,7 +131,12 @@ impl Task {
         requires { IsFrom self.old gates.now }
         ensures { Performs (MoveToOp file dir) self.old self.new result }
     {
-        outcome(self.call(gates, Op::MoveTo { file, dir }))
+        let moving = TreePhase::MoveTo(MoveTo {
+            file,
+            dir,
+            step: MoveStep::LoadsFile,
+        });
+        outcome(self.call(gates, Op::MoveTo { file, dir }, moving))
     }
 
     /// `page_mkwrite`: makes a file dirty. NoEntry, IsDir and Again as `remove`. Order, where the task is not inside level 2 with an access
@@ -88,7 +145,7 @@ impl Task {
         requires { IsFrom self.old gates.now }
         ensures { Performs (FaultOp file) self.old self.new result }
     {
-        outcome(self.call(gates, Op::Fault { file }))
+        outcome(self.call(gates, Op::Fault { file }, mark(file, true)))
     }
 
     /// A write-back: makes a file clean. NoEntry, IsDir and Again as `remove`. Order, where the task is not inside level 3, and Invalid as
@@ -97,7 +154,7 @@ impl Task {
         requires { IsFrom self.old gates.now }
         ensures { Performs (FlushOp file) self.old self.new result }
     {
-        outcome(self.call(gates, Op::Flush { file }))
+        outcome(self.call(gates, Op::Flush { file }, mark(file, false)))
     }
 
     /// A snapshot of the tree that doesn't wait, which `tree` shows from then on. Again where another task has `umount`, Invalid where the
@@ -106,7 +163,7 @@ impl Task {
         requires { IsFrom self.old gates.now }
         ensures { Performs (SnapshotOp false) self.old self.new result }
     {
-        outcome(self.call(gates, Op::Snapshot { wait: false }))
+        outcome(self.take(gates, Op::Snapshot { wait: false }))
     }
 
     /// The same, which waits for `umount`: Invalid where the file system is not frozen. Order, where the task is inside a level, as `begin`.
@@ -114,7 +171,6 @@ impl Task {
         requires { IsFrom self.old gates.now }
         ensures { Performs (SnapshotOp true) self.old self.new result }
     {
-        let op = Op::Snapshot { wait: true };
-        outcome(self.perform_waiting(rt, gates, op, &mut (), false))
+        outcome(self.take_waiting(rt, gates, Op::Snapshot { wait: true }))
     }
 }

@@ -6,16 +6,17 @@ ghost use Rattle.vfs_gates.specs.TaskStates.{TaskState};
 ghost use Rattle.vfs_gates.specs.Runs.{told_as, ran_of, Goes};
 
 use crate::calls::outcome;
+use crate::ends::wait_to_end;
 use crate::gates::Gates;
 use crate::lines::InLine;
 use crate::task::Task;
 use access_model::{GateError, Next, Reply};
 use crossbeam_utils::Backoff;
-use freeze_levels::FsHooks;
+use freeze_levels::{Freeze, FreezeStep, FsHooks, Thaw, ThawStep};
 use gate_core::Progress;
-use gate_world::Op;
-use mount_counts::{Want, WantStep};
-use percpu_rwsem::{DownRead, DownReadStep};
+use gate_world::{Op, UnderWay};
+use mount_counts::{Remount, RemountStep, Want, WantStep};
+use percpu_rwsem::{Callback, CallbackStep, DownRead, DownReadStep, Transition};
 use std::sync::Wait;
 use write_access::WritePhase;
 
@@ -42,37 +43,25 @@ fn ran(answer: Result<Reply, GateError>) -> Result<bool, GateError>
 
 impl Task {
     ghost use Rattle.gate_world.specs.Beginnings.{first_phase};
-    ghost use Rattle.gate_world.specs.declared.operations.Op.TheVariants.{Want as WantOp, ChangeMount, RemountSb, Start, WantWrite, Callback, Freeze, Thaw};
+    ghost use Rattle.gate_world.specs.declared.operations.Op.TheVariants.{Want as WantOp, ChangeMount, RemountSb, Start, WantWrite, Callback as CallbackOp, Freeze as FreezeOp, Thaw as ThawOp};
     ghost use Rattle.vfs_gates.specs.Room.{is_of_snapshot};
     ghost use Rattle.vfs_gates.specs.TaskStates.{IsFrom, own_number};
     ghost use Rattle.vfs_gates.specs.Runs.{the_reply, Called, Replies, Performs};
 
-    /// What the hook answers whose answer the next step reads; Ok where it reads none. A remount asks for read-only or writable.
-    fn ask<H: FsHooks>(&self, hooks: &mut H, read_only: bool) -> Result<(), u16> {
-        match self.wants_hook() {
-            Some(kind) => kind.ask(hooks, read_only),
-            None => Ok(()),
-        }
-    }
-
-    /// Does the events of the operation that has begun until it replies, however long it has to wait. A hook of the file system is asked
-    /// once, before the step that reads its answer.
+    /// Does the events of the operation that has begun and asks no hook until it replies, however long it has to wait.
     #[cold]
     #[inline(never)]
-    fn finish_waiting<R: Wait, H: FsHooks>(
+    pub(crate) fn finish_waiting<R: Wait>(
         &mut self,
         rt: &R,
         gates: &Gates,
-        hooks: &mut H,
-        read_only: bool,
     ) -> Result<Reply, GateError>
         requires { IsFrom self.old gates.now }
         ensures { (op : OpType) (start : TaskState) → Goes op start self.old → Called op start self.new result }
     {
         let backoff = Backoff::new();
         for _ in rt.forever() {
-            let hook = self.ask(hooks, read_only);
-            let step = self.step(gates, hook);
+            let step = self.step(gates, Ok(()));
             if let Progress::Done(answer) = step.progress {
                 return answer;
             }
@@ -81,20 +70,35 @@ impl Task {
         unreachable!()
     }
 
-    /// Begins an operation, and does its events until it replies, however long it has to wait, with the hooks of the file system.
-    pub(crate) fn perform_waiting<R: Wait, H: FsHooks>(
+    /// Begins an operation that has this first phase, and does its events until it replies, however long it has to wait, with the hooks of
+    /// the file system.
+    #[inline(always)]
+    fn perform_waiting<R: Wait, H: FsHooks, P: UnderWay>(
         &mut self,
         rt: &R,
         gates: &Gates,
         op: Op,
+        first: P,
         hooks: &mut H,
         read_only: bool,
     ) -> Result<Reply, GateError>
-        requires { IsFrom self.old gates.now }
+        requires from { IsFrom self.old gates.now }
+        requires first { P.as_phase first ≡ first_phase self.old.config (own_number self.old.items) op }
+        requires other { is_of_snapshot (P.as_phase first) ≡ false }
         ensures { Replies the_reply op self.old self.new result }
     {
-        self.begin(op)?;
-        self.finish_waiting(rt, gates, hooks, read_only)
+        self.admit(op)?;
+        let accesses = &mut self.kept.accesses;
+        wait_to_end(
+            rt,
+            gates,
+            &mut self.seat,
+            accesses,
+            op,
+            first,
+            hooks,
+            read_only,
+        )
     }
 
     /// Begins an operation that has this first phase and asks no hook, and does its events in a line. Where one of them finds something
@@ -118,7 +122,7 @@ impl Task {
             Next::Done(answer) => outcome(answer),
             Next::Go(under_way) | Next::Wait(under_way) => {
                 self.kept.phase = Some(under_way.phase());
-                outcome(self.finish_waiting(rt, gates, &mut (), false))
+                outcome(self.finish_waiting(rt, gates))
             }
         }
     }
@@ -200,10 +204,14 @@ impl Task {
     #[tactic(auto, using(crate::proofs::Running::was_told))]
     pub fn callback<R: Wait>(&mut self, rt: &R, gates: &Gates, level: u8) -> Result<bool, GateError>
         requires { IsFrom self.old gates.now }
-        ensures { Replies ran_of (Callback level) self.old self.new result }
+        ensures { Replies ran_of (CallbackOp level) self.old self.new result }
     {
-        let callback = Op::Callback { level };
-        ran(self.perform_waiting(rt, gates, callback, &mut (), false))
+        let callback = Callback {
+            level,
+            tasks: self.config.tasks,
+            step: CallbackStep::Claims(Transition::Loads),
+        };
+        ran(self.perform_waiting(rt, gates, Op::Callback { level }, callback, &mut (), false))
     }
 
     /// `mnt_make_readonly`, or its undoing. While another task has `umount` it waits. Busy where writers are counted at the mount.
@@ -244,8 +252,16 @@ impl Task {
         requires { IsFrom self.old gates.now }
         ensures { Performs (RemountSb read_only) self.old self.new result }
     {
-        let remount = Op::RemountSb { read_only };
-        outcome(self.perform_waiting(rt, gates, remount, hooks, read_only))
+        let remount = Remount {
+            read_only,
+            task: self.number(),
+            processors: self.config.processors,
+            mounts: self.config.mounts,
+            nodes: self.config.nodes,
+            step: RemountStep::Locks,
+        };
+        let op = Op::RemountSb { read_only };
+        outcome(self.perform_waiting(rt, gates, op, remount, hooks, read_only))
     }
 
     /// `freeze_super`: closes the three freeze levels, one after the other, waiting at each for who is inside, and freezes the file system.
@@ -262,9 +278,16 @@ impl Task {
         hooks: &mut H,
     ) -> Result<(), GateError>
         requires { IsFrom self.old gates.now }
-        ensures { Performs Freeze self.old self.new result }
+        ensures { Performs FreezeOp self.old self.new result }
     {
-        outcome(self.perform_waiting(rt, gates, Op::Freeze, hooks, false))
+        let freeze = Freeze {
+            task: self.number(),
+            tasks: self.config.tasks,
+            processors: self.config.processors,
+            nodes: self.config.nodes,
+            step: FreezeStep::Locks,
+        };
+        outcome(self.perform_waiting(rt, gates, Op::Freeze, freeze, hooks, false))
     }
 
     /// `thaw_super`: thaws a file system that any task has frozen, and reopens its levels, the highest first. While another task has
@@ -278,8 +301,12 @@ impl Task {
         hooks: &mut H,
     ) -> Result<(), GateError>
         requires { IsFrom self.old gates.now }
-        ensures { Performs Thaw self.old self.new result }
+        ensures { Performs ThawOp self.old self.new result }
     {
-        outcome(self.perform_waiting(rt, gates, Op::Thaw, hooks, false))
+        let thaw = Thaw {
+            task: self.number(),
+            step: ThawStep::Locks,
+        };
+        outcome(self.perform_waiting(rt, gates, Op::Thaw, thaw, hooks, false))
     }
 }

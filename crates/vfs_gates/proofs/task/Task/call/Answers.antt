@@ -1,25 +1,56 @@
--- a call: its beginning and its events
-use Rattle.std.proofs.Common.{sym}
+-- a call at the tree: its beginning, its events, and what the task shows then
+use Rattle.std.proofs.Common.{refl, sym, ◌∙◌}
 use Rattle.std.proofs.lemmas.Result.{err_from_is_err_and}
+use Rattle.access_model.specs.declared.replies.Next.TheVariants.{Done}
+use Rattle.gate_world.specs.declared.work.Phase.TheVariants.{Trees}
 use Rattle.vfs_gates.specs.Runs.{the_reply}
-use Rattle.vfs_gates.proofs.Running.{starts, was_refused, was_done, told_whole}
+use Rattle.vfs_gates.proofs.Admitting.{refused_by}
+use Rattle.vfs_gates.proofs.Calling.{Call, Left, call_with, is_tied, has_begun, ties_done, ended_at}
+use Rattle.vfs_gates.proofs.Rooming.{room_done}
+use Rattle.vfs_gates.proofs.Running.{was_refused, was_done, told_whole}
 use Rattle.vfs_gates.proofs.task.Task.call.Goals as goal
+use Rattle.vfs_gates.proofs.task.Task.call.Goals.{After-go_to_end}
 
-pub finish-requires-clause-trying : goal.finish-requires-clause-trying
-finish-requires-clause-trying c = record {
-  op = c.args.op;
-  start = c.args.self.now;
-  goes = starts c.args.op c.args.self.now c.begin.new.self c.in_ok-begin.ensures.begun;
-  tries = c.requires.tries;
+-- the call, and what its events have left
+abbrev call : After-go_to_end → Call
+call c =
+    call_with c.args.op c.self.inside c.args.gates.now.config c.args.self.now c.self.view_is c.requires.from.1 c.self.invariant.0
+    c.in_ok-admit.field-0 c.in_ok-admit.ensures (Trees c.args.first) c.requires.first
+
+abbrev left : (c : After-go_to_end) → Left (call c)
+left c = record {
+  next = Done c.go_to_end.result;
+  accesses = c.go_to_end.new.accesses;
+  items = c.go_to_end.new.seat.me.0;
+  table = c.go_to_end.new.seat.table_id;
+  tied = c.go_to_end.ensures.tied;
+  went = c.go_to_end.ensures.called (call c).op (call c).start (has_begun (call c));
 }
+
+pub go_to_end-requires-clause-tied : goal.go_to_end-requires-clause-tied
+go_to_end-requires-clause-tied c =
+    is_tied (call_with c.args.op c.self.inside c.args.gates.now.config c.args.self.now c.self.view_is c.requires.from.1 c.self.invariant.0
+    c.in_ok-admit.field-0 c.in_ok-admit.ensures (Trees c.args.first) c.requires.first)
+
+pub go_to_end-requires-clause-trying : goal.go_to_end-requires-clause-trying
+go_to_end-requires-clause-trying c =
+    let call = call_with c.args.op c.self.inside c.args.gates.now.config c.args.self.now c.self.view_is c.requires.from.1 c.self.invariant.0
+    c.in_ok-admit.field-0 c.in_ok-admit.ensures (Trees c.args.first) c.requires.first in
+    record { op = call.op; start = call.start; goes = has_begun call; tries = c.requires.tries }
+
+pub invariant_of-self : goal.invariant_of-self
+invariant_of-self c = (
+  ties_done (call c) (left c) c.go_to_end.result refl,
+  c.go_to_end.ensures.slots ∙ c.self.invariant.1,
+  room_done (call c) _ c.requires.other c.self.invariant.2 (left c) c.go_to_end.result refl,
+)
 
 pub returns : goal.returns
 returns c =
-    was_done the_reply c.args.op c.args.self.now c.finish.new.self c.finish.result c.finish.result (sym (told_whole c.finish.result))
-    c.in_ok-begin.ensures.answer
-    (c.finish.ensures c.args.op c.args.self.now (starts c.args.op c.args.self.now c.begin.new.self c.in_ok-begin.ensures.begun))
+    was_done the_reply (call c).op (call c).start _ c.go_to_end.result c.go_to_end.result (sym (told_whole c.go_to_end.result))
+    (call c).admitted (ended_at (call c) (left c) c.go_to_end.result refl)
 
-pub returns-in_err-begin : goal.returns-in_err-begin
-returns-in_err-begin c = let p = err_from_is_err_and c.from_residual.result c.from_residual.ensures.1 in
-    rw (p.1, p.2) (was_refused the_reply c.args.op c.args.self.now c.begin.new.self c.in_err-begin.field-0.0
-    c.in_err-begin.ensures.answer c.in_err-begin.ensures.refused)
+pub returns-in_err-admit : goal.returns-in_err-admit
+returns-in_err-admit c = let p = err_from_is_err_and c.from_residual.result c.from_residual.ensures.1 in
+    rw (p.1, p.2) (was_refused the_reply c.args.op c.args.self.now c.args.self.now c.in_err-admit.field-0.0
+    (refused_by c.args.op c.args.self.now c.in_err-admit.field-0.0 c.in_err-admit.ensures) refl)

@@ -8,7 +8,7 @@ loop-init g c = record { next = tt; finite = tt; table = refl; config = refl; go
 
 pub returns-in-Done : goal.returns-in-Done
 returns-in-Done g c op start goes = let now = c.loop in
-    ends_there op start now.self c.step-step.new.self c.step-step.result c.ask-hook.result (now.invariant.goes op start goes)
+    ends_there op start now.self c.step-step.new.self c.step-step.result _ (now.invariant.goes op start goes)
     c.step-step.ensures.event (subst IsWithin (sym c.requires.1 ∙ goes.config) c.args.gates.now.within) c.in-Done.answer c.in-Done.is
 
 pub loop-preserved : goal.loop-preserved
@@ -17,7 +17,7 @@ loop-preserved g c = let now = c.loop in record {
   finite = tt;
   table = c.step-step.ensures.table ∙ now.invariant.table;
   config = c.step-step.ensures.config ∙ now.invariant.config;
-  goes = λ op start goes. goes_further op start now.self c.step-step.new.self c.step-step.result c.ask-hook.result
+  goes = λ op start goes. goes_further op start now.self c.step-step.new.self c.step-step.result _
       (now.invariant.goes op start goes) c.step-step.ensures.event c.in_default.not-Done;
 }
 

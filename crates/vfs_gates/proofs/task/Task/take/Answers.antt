@@ -1,0 +1,25 @@
+-- a snapshot: its beginning and its events
+use Rattle.std.proofs.Common.{sym}
+use Rattle.std.proofs.lemmas.Result.{err_from_is_err_and}
+use Rattle.vfs_gates.specs.Runs.{the_reply}
+use Rattle.vfs_gates.proofs.Running.{starts, was_refused, was_done, told_whole}
+use Rattle.vfs_gates.proofs.task.Task.take.Goals as goal
+
+pub finish-requires-clause-trying : goal.finish-requires-clause-trying
+finish-requires-clause-trying c = record {
+  op = c.args.op;
+  start = c.args.self.now;
+  goes = starts c.args.op c.args.self.now c.begin.new.self c.in_ok-begin.ensures.begun;
+  tries = c.requires.tries;
+}
+
+pub returns : goal.returns
+returns c =
+    was_done the_reply c.args.op c.args.self.now c.finish.new.self c.finish.result c.finish.result (sym (told_whole c.finish.result))
+    c.in_ok-begin.ensures.answer
+    (c.finish.ensures c.args.op c.args.self.now (starts c.args.op c.args.self.now c.begin.new.self c.in_ok-begin.ensures.begun))
+
+pub returns-in_err-begin : goal.returns-in_err-begin
+returns-in_err-begin c = let p = err_from_is_err_and c.from_residual.result c.from_residual.ensures.1 in
+    rw (p.1, p.2) (was_refused the_reply c.args.op c.args.self.now c.begin.new.self c.in_err-begin.field-0.0
+    c.in_err-begin.ensures.answer c.in_err-begin.ensures.refused)

@@ -1,0 +1,105 @@
+//! Operations done to their end, event after event, each in the form of its own kind, with nothing written down in between.
+
+ghost use Rattle.std.specs.Prelude.{◌≡◌, Some, None};
+ghost use Rattle.gate_world.specs.declared.operations.Op.{Op as OpType};
+ghost use Rattle.vfs_gates.specs.TaskStates.{TaskState, task_state};
+ghost use Rattle.vfs_gates.specs.Turns.{IsTied, StayTied};
+ghost use Rattle.vfs_gates.specs.Runs.{Called, Goes, IsTrying};
+
+use crate::gates::Gates;
+use crate::task::Seat;
+use crate::turns::{Turn, do_event, go_on};
+use access_model::{GateError, Next, Reply};
+use crossbeam_utils::Backoff;
+use freeze_levels::FsHooks;
+use gate_world::{Accesses, Op, UnderWay};
+use std::sync::Wait;
+
+/// What the hook answers whose answer the next event reads; Ok where it reads none. A remount asks for read-only or writable.
+#[inline(always)]
+fn ask<P: UnderWay, H: FsHooks>(under_way: P, hooks: &mut H, read_only: bool) -> Result<(), u16> {
+    match under_way.phase().wants_hook() {
+        Some(kind) => kind.ask(hooks, read_only),
+        None => Ok(()),
+    }
+}
+
+/// Does the events of an operation that has a most number of them and asks no hook, from its first to its reply.
+#[inline(never)]
+pub(crate) fn go_to_end<P: UnderWay>(
+    gates: &Gates,
+    seat: &mut Seat,
+    accesses: &mut Accesses,
+    op: Op,
+    first: P,
+) -> Result<Reply, GateError>
+    requires table { seat.old.table_id ≡ gates.now.table.shared.table_id }
+    requires tied { IsTied gates.now.config (Some op) (Some (P.as_phase first)) accesses.old seat.old.me.0 }
+    requires trying { IsTrying (task_state seat.old.table_id gates.now.config (Some op) (Some (P.as_phase first)) seat.old.me.0) }
+    ensures table { seat.new.table_id ≡ seat.old.table_id }
+    ensures slots { seat.new.me.1 ≡ seat.old.me.1 }
+    ensures tied { StayTied gates.now.config (Some op) (Some (P.as_phase first)) accesses.old seat.old.me.0
+        None accesses.new seat.new.me.0 }
+    ensures called { (of : OpType) (start : TaskState) →
+        Goes of start (task_state seat.old.table_id gates.now.config (Some op) (Some (P.as_phase first)) seat.old.me.0) →
+        Called of start (task_state seat.new.table_id gates.now.config None None seat.new.me.0) result }
+{
+    let mut begins = Some(op);
+    let mut under_way = first;
+    loop {
+        let Turn {
+            event: _,
+            action: _,
+            next,
+        } = do_event(gates, seat, accesses, begins, under_way, Ok(()));
+        begins = None;
+        under_way = match next {
+            Next::Done(answer) => return answer,
+            Next::Go(further) | Next::Wait(further) => further,
+        };
+    }
+}
+
+/// Does the events of an operation from its first to its reply, however long it has to wait. A hook of the file system is asked once,
+/// before the event that reads its answer. Where an event found what the operation waits for, it waits a little, and the longer the more
+/// often one did: soon the processor is left to others each time, since who is waited for may need it. A wait may take several events
+/// before it looks again, so none of these makes the pauses short again.
+#[inline(never)]
+pub(crate) fn wait_to_end<R: Wait, H: FsHooks, P: UnderWay>(
+    rt: &R,
+    gates: &Gates,
+    seat: &mut Seat,
+    accesses: &mut Accesses,
+    op: Op,
+    first: P,
+    hooks: &mut H,
+    read_only: bool,
+) -> Result<Reply, GateError>
+    requires table { seat.old.table_id ≡ gates.now.table.shared.table_id }
+    requires tied { IsTied gates.now.config (Some op) (Some (P.as_phase first)) accesses.old seat.old.me.0 }
+    ensures table { seat.new.table_id ≡ seat.old.table_id }
+    ensures slots { seat.new.me.1 ≡ seat.old.me.1 }
+    ensures tied { StayTied gates.now.config (Some op) (Some (P.as_phase first)) accesses.old seat.old.me.0
+        None accesses.new seat.new.me.0 }
+    ensures called { (of : OpType) (start : TaskState) →
+        Goes of start (task_state seat.old.table_id gates.now.config (Some op) (Some (P.as_phase first)) seat.old.me.0) →
+        Called of start (task_state seat.new.table_id gates.now.config None None seat.new.me.0) result }
+{
+    let backoff = Backoff::new();
+    let mut begins = Some(op);
+    let mut under_way = first;
+    for _ in rt.forever() {
+        let hook = ask(under_way, hooks, read_only);
+        let next = go_on(gates, seat, accesses, begins, under_way, hook);
+        begins = None;
+        under_way = match next {
+            Next::Done(answer) => return answer,
+            Next::Go(further) => further,
+            Next::Wait(further) => {
+                backoff.snooze();
+                further
+            }
+        };
+    }
+    unreachable!()
+}
