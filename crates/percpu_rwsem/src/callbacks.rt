@@ -91,6 +91,7 @@ impl Callback {
     }
 
     /// What comes after the event, which found this. No event of a callback adds an action.
+    #[inline(always)]
     pub fn after(self, found: u64) -> (Next<Callback>, Option<Action>)
         ensures { result ≡ callback_after self self.step found }
     {

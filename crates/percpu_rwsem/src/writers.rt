@@ -98,6 +98,7 @@ impl DownWriteStep {
 
 impl DownWrite {
     /// The word and the touch of the next event.
+    #[inline(always)]
     pub fn next(self) -> (WordName, Touch)
         ensures { result ≡ down_write_next self self.step }
     {
@@ -159,6 +160,7 @@ impl DownWrite {
     }
 
     /// What comes after the event, which found this, and the action that the event adds.
+    #[inline(always)]
     pub fn after(self, found: u64) -> (Next<DownWrite>, Option<Action>)
         ensures { result ≡ down_write_after self self.step found }
     {

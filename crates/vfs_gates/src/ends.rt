@@ -1,27 +1,91 @@
 //! Operations done to their end, event after event, each in the form of its own kind, with nothing written down in between.
 
 ghost use Rattle.std.specs.Prelude.{◌≡◌, Some, None};
+ghost use Rattle.access_model.specs.Replies.{map_next};
+ghost use Rattle.gate_world.specs.Views.{phase_after};
 ghost use Rattle.gate_world.specs.declared.operations.Op.{Op as OpType};
 ghost use Rattle.vfs_gates.specs.TaskStates.{TaskState, task_state};
 ghost use Rattle.vfs_gates.specs.Turns.{IsTied, StayTied};
-ghost use Rattle.vfs_gates.specs.Runs.{Called, Goes, IsTrying};
+ghost use Rattle.vfs_gates.specs.Runs.{Called, Goes, IsTrying, Went};
 
 use crate::gates::Gates;
 use crate::task::Seat;
 use crate::turns::{Turn, do_event, go_on};
 use access_model::{GateError, Next, Reply};
 use crossbeam_utils::Backoff;
-use freeze_levels::FsHooks;
+use freeze_levels::{Freeze, FreezeStep, FsHooks, Thaw};
 use gate_world::{Accesses, Op, UnderWay};
+use mount_counts::{Remount, RemountStep};
+use percpu_rwsem::{Callback, CallbackStep, DownWriteStep};
 use std::sync::Wait;
 
-/// What the hook answers whose answer the next event reads; Ok where it reads none. A remount asks for read-only or writable.
+/// An operation that may have to wait, in a form of its own.
+pub(crate) trait Waiting: UnderWay {
+    /// Whether the next event is one of a row of loads, and asks no hook. There may be hundreds of them, so the compiler is to know what
+    /// they are.
+    fn is_in_row(&self) -> bool;
+}
+
+impl Waiting for Freeze {
+    #[inline(always)]
+    fn is_in_row(&self) -> bool {
+        matches!(self.step, FreezeStep::Closes(write) if matches!(write.step, DownWriteStep::Sums(_)))
+    }
+}
+
+impl Waiting for Thaw {
+    #[inline(always)]
+    fn is_in_row(&self) -> bool {
+        false
+    }
+}
+
+impl Waiting for Remount {
+    #[inline(always)]
+    fn is_in_row(&self) -> bool {
+        matches!(self.step, RemountStep::Sums { .. })
+    }
+}
+
+impl Waiting for Callback {
+    #[inline(always)]
+    fn is_in_row(&self) -> bool {
+        matches!(self.step, CallbackStep::AwaitsSections(_))
+    }
+}
+
+/// The next event of an operation: what comes after it. Where it reads what a hook answers, the hook is asked; a remount asks for read-only
+/// or writable.
 #[inline(always)]
-fn ask<P: UnderWay, H: FsHooks>(under_way: P, hooks: &mut H, read_only: bool) -> Result<(), u16> {
-    match under_way.phase().wants_hook() {
+fn go_on_asking<P: Waiting, H: FsHooks>(
+    gates: &Gates,
+    seat: &mut Seat,
+    accesses: &mut Accesses,
+    begins: Option<Op>,
+    under_way: P,
+    hooks: &mut H,
+    read_only: bool,
+) -> Next<P>
+    requires table { seat.old.table_id ≡ gates.now.table.shared.table_id }
+    requires tied { IsTied gates.now.config begins (Some (P.as_phase under_way)) accesses.old seat.old.me.0 }
+    ensures table { seat.new.table_id ≡ seat.old.table_id }
+    ensures slots { seat.new.me.1 ≡ seat.old.me.1 }
+    ensures tied { StayTied gates.now.config begins (Some (P.as_phase under_way)) accesses.old seat.old.me.0
+        (phase_after (map_next P.as_phase result)) accesses.new seat.new.me.0 }
+    ensures still { IsTied gates.now.config None (phase_after (map_next P.as_phase result)) accesses.new seat.new.me.0 }
+    ensures went { (op : OpType) (start : TaskState) →
+        Goes op start (task_state seat.old.table_id gates.now.config begins (Some (P.as_phase under_way)) seat.old.me.0) →
+        Went op start (map_next P.as_phase result)
+        (task_state seat.new.table_id gates.now.config None (phase_after (map_next P.as_phase result)) seat.new.me.0) }
+{
+    if under_way.is_in_row() {
+        return go_on(gates, seat, accesses, begins, under_way, Ok(()));
+    }
+    let hook = match under_way.phase().wants_hook() {
         Some(kind) => kind.ask(hooks, read_only),
         None => Ok(()),
-    }
+    };
+    go_on(gates, seat, accesses, begins, under_way, hook)
 }
 
 /// Does the events of an operation that has a most number of them and asks no hook, from its first to its reply.
@@ -65,7 +129,7 @@ pub(crate) fn go_to_end<P: UnderWay>(
 /// often one did: soon the processor is left to others each time, since who is waited for may need it. A wait may take several events
 /// before it looks again, so none of these makes the pauses short again.
 #[inline(never)]
-pub(crate) fn wait_to_end<R: Wait, H: FsHooks, P: UnderWay>(
+pub(crate) fn wait_to_end<R: Wait, H: FsHooks, P: Waiting>(
     rt: &R,
     gates: &Gates,
     seat: &mut Seat,
@@ -89,8 +153,7 @@ pub(crate) fn wait_to_end<R: Wait, H: FsHooks, P: UnderWay>(
     let mut begins = Some(op);
     let mut under_way = first;
     for _ in rt.forever() {
-        let hook = ask(under_way, hooks, read_only);
-        let next = go_on(gates, seat, accesses, begins, under_way, hook);
+        let next = go_on_asking(gates, seat, accesses, begins, under_way, hooks, read_only);
         begins = None;
         under_way = match next {
             Next::Done(answer) => return answer,

@@ -6,7 +6,7 @@ ghost use Rattle.vfs_gates.specs.TaskStates.{TaskState};
 ghost use Rattle.vfs_gates.specs.Runs.{told_as, ran_of, Goes};
 
 use crate::calls::outcome;
-use crate::ends::wait_to_end;
+use crate::ends::{Waiting, wait_to_end};
 use crate::gates::Gates;
 use crate::lines::InLine;
 use crate::task::Task;
@@ -14,7 +14,7 @@ use access_model::{GateError, Next, Reply};
 use crossbeam_utils::Backoff;
 use freeze_levels::{Freeze, FreezeStep, FsHooks, Thaw, ThawStep};
 use gate_core::Progress;
-use gate_world::{Op, UnderWay};
+use gate_world::Op;
 use mount_counts::{Remount, RemountStep, Want, WantStep};
 use percpu_rwsem::{Callback, CallbackStep, DownRead, DownReadStep, Transition};
 use std::sync::Wait;
@@ -73,7 +73,7 @@ impl Task {
     /// Begins an operation that has this first phase, and does its events until it replies, however long it has to wait, with the hooks of
     /// the file system.
     #[inline(always)]
-    fn perform_waiting<R: Wait, H: FsHooks, P: UnderWay>(
+    fn perform_waiting<R: Wait, H: FsHooks, P: Waiting>(
         &mut self,
         rt: &R,
         gates: &Gates,
