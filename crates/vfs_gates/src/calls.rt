@@ -44,21 +44,16 @@ impl Task {
         op.begin(self.config, self.number, under_way, &self.kept.accesses)
     }
 
-    /// Does the events of the operation that has begun, which has a most number of them, until it replies. Where one reads a hook of the
-    /// file system, the hook answers this.
+    /// Does the events of the operation that has begun, which has a most number of them and asks no hook, until it replies.
     #[cold]
     #[inline(never)]
-    pub(crate) fn finish(
-        &mut self,
-        gates: &Gates,
-        hook: Result<(), u16>,
-    ) -> Result<Reply, GateError>
+    pub(crate) fn finish(&mut self, gates: &Gates) -> Result<Reply, GateError>
         requires from { IsFrom self.old gates.now }
         requires trying { IsTrying self.old }
         ensures { (op : OpType) (start : TaskState) → Goes op start self.old → Called op start self.new result }
     {
         loop {
-            let step = self.step(gates, hook);
+            let step = self.step(gates, Ok(()));
             if let Progress::Done(answer) = step.progress {
                 return answer;
             }
@@ -86,7 +81,7 @@ impl Task {
             Next::Done(answer) => outcome(answer),
             Next::Go(under_way) | Next::Wait(under_way) => {
                 self.kept.phase = Some(under_way.phase());
-                outcome(self.finish(gates, Ok(())))
+                outcome(self.finish(gates))
             }
         }
     }

@@ -68,7 +68,7 @@ impl Task {
         ensures { Replies the_reply op self.old self.new result }
     {
         self.begin(op)?;
-        self.finish(gates, Ok(()))
+        self.finish(gates)
     }
 
     /// Begins a snapshot, and does its events, each of which is noted, until it replies, however long it has to wait.

@@ -11,12 +11,12 @@ step-step-requires c = let now = c.loop-answer in (now.invariant.table ∙ c.req
 
 pub returns-in-Done : goal.returns-in-Done
 returns-in-Done c op start goes = let now = c.loop-answer in let here = now.invariant.goes op start goes in
-    ends_there op start now.self c.step-step.new.self c.step-step.result c.args.hook here c.step-step.ensures.event
+    ends_there op start now.self c.step-step.new.self c.step-step.result _ here c.step-step.ensures.event
     (subst IsWithin (sym c.requires.from.1 ∙ goes.config) c.args.gates.now.within) c.in-Done.answer c.in-Done.is
 
 pub loop-answer-smaller : goal.loop-answer-smaller
 loop-answer-smaller c = let now = c.loop-answer in let trying = now.invariant.trying in
-    falls trying.op trying.start now.self c.step-step.new.self c.step-step.result c.args.hook trying.goes c.step-step.ensures.event
+    falls trying.op trying.start now.self c.step-step.new.self c.step-step.result _ trying.goes c.step-step.ensures.event
     (subst IsWithin (sym c.requires.from.1 ∙ (sym now.invariant.config ∙ trying.goes.config)) c.args.gates.now.within) trying.tries
     c.in_default.not-Done
 
@@ -27,10 +27,10 @@ loop-answer-preserved c = let now = c.loop-answer in let trying = now.invariant.
   trying = record {
     op = trying.op;
     start = trying.start;
-    goes = goes_further trying.op trying.start now.self c.step-step.new.self c.step-step.result c.args.hook trying.goes
+    goes = goes_further trying.op trying.start now.self c.step-step.new.self c.step-step.result _ trying.goes
         c.step-step.ensures.event c.in_default.not-Done;
     tries = trying.tries;
   };
-  goes = λ op start goes. goes_further op start now.self c.step-step.new.self c.step-step.result c.args.hook
+  goes = λ op start goes. goes_further op start now.self c.step-step.new.self c.step-step.result _
       (now.invariant.goes op start goes) c.step-step.ensures.event c.in_default.not-Done;
 }
