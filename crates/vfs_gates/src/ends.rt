@@ -21,9 +21,13 @@ use std::sync::Wait;
 
 /// An operation that may have to wait, in a form of its own.
 pub(crate) trait Waiting: UnderWay {
-    /// Whether the next event is one of a row of loads, and asks no hook. There may be hundreds of them, so the compiler is to know what
-    /// they are.
-    fn is_in_row(&self) -> bool;
+    ghost use Rattle.std.specs.Prelude.{◌≡◌, IsTrue, None};
+    ghost use Rattle.gate_world.specs.Work.{hook_of};
+
+    /// Whether the next event is one of a row of loads, none of which reads what a hook answers. There may be hundreds of them, so the
+    /// compiler is to know what they are.
+    fn is_in_row(&self) -> bool
+        ensures { IsTrue result → hook_of (Self.as_phase self.now) ≡ None };
 }
 
 impl Waiting for Freeze {

@@ -4,7 +4,8 @@ ghost use Rattle.vfs_gates.specs.TaskStates.{IsFrom};
 
 use super::hooks::{FailsAt, Question};
 use super::small;
-use access_model::{GateError, Kind};
+use super::trees::makes_a_file;
+use access_model::GateError;
 use cpu_words::{Event, WordName};
 use crossbeam_utils::Backoff;
 use freeze_levels::FsHooks;
@@ -195,17 +196,6 @@ fn a_backup_takes_what_another_froze(rt: HostRuntime) -> Result<(), Fail> {
     assert!(rt; backs_up_anothers(&mut other, &mut task, &rt, &gates));
     assert!(rt; is_refused(&mut task, &rt, &gates));
     Ok(())
-}
-
-/// Whether a file of three blocks is made.
-fn makes_a_file<R: Wait>(task: &mut Task, rt: &R, gates: &Gates) -> bool
-    requires { IsFrom task.old gates.now }
-    ensures { IsFrom task.new gates.now }
-{
-    task.want_write(rt, gates, 0, 0).is_ok()
-        && task.create(gates, 0, Kind::File) == Ok(1)
-        && task.grow(gates, 1, 3).is_ok()
-        && task.drop_write(gates, 0, 1).is_ok()
 }
 
 #[test]

@@ -97,7 +97,7 @@ fn files_come_and_go(rt: HostRuntime) -> Result<(), Fail> {
 }
 
 /// Whether a file of three blocks is made, which is node 1.
-fn makes_a_file<R: Wait>(task: &mut Task, rt: &R, gates: &Gates) -> bool
+pub(super) fn makes_a_file<R: Wait>(task: &mut Task, rt: &R, gates: &Gates) -> bool
     requires { IsFrom task.old gates.now }
     ensures { IsFrom task.new gates.now }
 {
