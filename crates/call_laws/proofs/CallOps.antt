@@ -15,12 +15,12 @@ use Rattle.gate_world.specs.declared.operations.Op.TheVariants.{
 }
 use Rattle.gate_world.specs.Traces.{most_events}
 use Rattle.gate_frames.proofs.Keeps.{by_bool, none_agree, IsSmall, OpKeeps}
-use Rattle.tree_traces.proofs.Creates.{create_tells, create_short}
-use Rattle.tree_traces.proofs.Removes.{remove_tells, remove_short}
-use Rattle.tree_traces.proofs.Grows.{grow_tells, grow_short}
-use Rattle.tree_traces.proofs.Moves.{move_tells, move_short}
-use Rattle.tree_traces.proofs.Marks.{fault_tells, fault_short, flush_tells, flush_short}
-use Rattle.tree_traces.proofs.Snapshots.{snapshot_tells, snapshot_short}
+use Rattle.gate_frames.proofs.CreateTraces.{create_tells, create_short}
+use Rattle.gate_frames.proofs.RemoveTraces.{remove_tells, remove_short}
+use Rattle.gate_frames.proofs.GrowTraces.{grow_tells, grow_short}
+use Rattle.gate_frames.proofs.MoveTraces.{move_tells, move_short}
+use Rattle.gate_frames.proofs.MarkTraces.{fault_tells, fault_short, flush_tells, flush_short}
+use Rattle.gate_frames.proofs.SnapshotTraces.{snapshot_tells, snapshot_short}
 use Rattle.call_laws.proofs.TreeFits.{writer_agrees, faulter_agrees}
 
 -- what is true of both is true of each

@@ -19,9 +19,9 @@ use Rattle.gate_world.specs.Moments.{CompletesNow}
 use Rattle.gate_world.specs.Rules.{IsGood, StepKeeps}
 use Rattle.gate_world.specs.Worlds.{World}
 use Rattle.gate_frames.proofs.Snapshots.{completes_none}
-use Rattle.tree_frames.proofs.NodeEvents.{tree_step}
-use Rattle.snapshot_laws.proofs.SnapshotEvents.{snapshot_step}
-use Rattle.snapshot_laws.proofs.Completes.{snapshot_completes_now}
+use Rattle.gate_frames.proofs.NodeEvents.{tree_step}
+use Rattle.call_laws.proofs.SnapshotEvents.{snapshot_step}
+use Rattle.call_laws.proofs.Completes.{snapshot_completes_now}
 
 module _ (c : Config) (within : IsWithin c) (w : World) (good : IsGood c w) (t : ℕ) (lt : t < c.tasks) (hook : HookAnswer) where
   -- each event at the tree keeps the rule

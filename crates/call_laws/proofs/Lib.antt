@@ -1,3 +1,7 @@
+pub mod Frozen
+pub mod Noted
+pub mod Completes
+pub mod SnapshotEvents
 pub mod TreeWords
 pub mod TreeFits
 pub mod TreeRuns

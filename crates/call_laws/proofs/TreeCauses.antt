@@ -7,7 +7,7 @@ use Rattle.access_model.specs.declared.errors.GateError.TheVariants.{Invalid}
 use Rattle.access_model.specs.declared.replies.Next.{Next}
 use Rattle.access_model.specs.declared.replies.Next.TheVariants.{Done, Go, Wait}
 use Rattle.access_model.specs.Replies.{map_next}
-use Rattle.cause_laws.proofs.Moments.{look_skips, look_stands}
+use Rattle.gate_frames.proofs.Moments.{look_skips, look_stands}
 use Rattle.cpu_words.specs.Hooks.{HookAnswer}
 use Rattle.gated_tree.specs.declared.snapshots.Snapshot.{Snapshot}
 use Rattle.gated_tree.specs.declared.snapshots.SnapshotStep.{SnapshotStep}

@@ -18,8 +18,8 @@ use Rattle.gate_core.specs.declared.seats.Seat.{Seat}
 use Rattle.gate_core.specs.Seats.{mounts_in, levels_in}
 use Rattle.gate_core.specs.Memory.{Memory, Shows, IsSound, no_seat, seat_of}
 use Rattle.gate_core.specs.Answers.{unless_refused, begin_answer}
-use Rattle.schedule_laws.proofs.Beginnings.{refusal_agree, may_begin, first_fits, ok_means, err_means}
-use Rattle.schedule_laws.proofs.Runs.{run_more}
+use Rattle.gate_core.proofs.Beginnings.{refusal_agree, may_begin, first_fits, ok_means, err_means}
+use Rattle.gate_core.proofs.Runs.{run_more}
 use Rattle.gate_core.proofs.Each.{seat_cases}
 
 module _ (memory : Memory) (sound : IsSound memory) (t : ℕ) (lt : t < memory.config.tasks)

@@ -1,3 +1,14 @@
+pub mod Layers
+pub mod Beginnings
+pub mod Phases
+pub mod Entries
+pub mod Schedule
+pub mod Lists
+pub mod Snapshots
+pub mod Rests
+pub mod Whole
+pub mod Runs
+pub mod LevelRuns
 pub mod Each
 pub mod Stepping
 pub mod Beginning

@@ -35,8 +35,8 @@ use Rattle.gate_world.specs.Fits.{ActionFits, mounts_by, levels_by}
 use Rattle.cpu_words.proofs.Places.{written}
 use Rattle.gate_frames.proofs.Accesses.{mounts_of_after, levels_of_after, long_after, wide_after, mounts_same, levels_same}
 use Rattle.gate_frames.proofs.Places.{are_few}
-use Rattle.schedule_laws.proofs.Phases.{word_there, word_placed, action_fits, fits_after, fits_agree}
-use Rattle.schedule_laws.proofs.Runs.{run_more}
+use Rattle.gate_core.proofs.Phases.{word_there, word_placed, action_fits, fits_after, fits_agree}
+use Rattle.gate_core.proofs.Runs.{run_more}
 use Rattle.gate_core.proofs.Each.{seat_cases}
 
 module _ (memory : Memory) (sound : IsSound memory) (t : ℕ) (lt : t < memory.config.tasks) (phase : Phase)

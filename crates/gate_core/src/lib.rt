@@ -2,6 +2,7 @@
 //! and `step`.
 #![tactic(auto)]
 
+pub mod laws;
 pub mod machine;
 pub mod schedules;
 pub mod seats;

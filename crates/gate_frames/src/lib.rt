@@ -1,5 +1,9 @@
-//! What an event leaves alone. It has no code: its function states a law.
+//! What an event leaves alone, how a task stands with the levels and the tree, and what a trace tells: what the laws of all operations
+//! have in common. It has no code: its functions state laws.
 #![tactic(auto)]
+
+pub mod traces;
+pub mod tree_traces;
 
 ghost use Rattle.std.specs.Prelude.{◌≡◌, ◌<◌, ℕ, Option};
 ghost use Rattle.gate_world.specs.declared.config.Config.{Config};

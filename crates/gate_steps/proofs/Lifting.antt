@@ -32,17 +32,17 @@ use Rattle.moment_laws.specs.Moments.{HaveDone}
 use Rattle.gate_world.specs.Fits.{Fits}
 use Rattle.gate_world.specs.Rules.{IsGood, Moves, StepKeeps}
 use Rattle.gate_frames.proofs.Snapshots.{others_apart}
-use Rattle.snapshot_laws.proofs.Frozen.{frozen_whole}
-use Rattle.schedule_laws.proofs.Layers.{phase_keeps}
-use Rattle.schedule_laws.proofs.Beginnings.{may_begin}
-use Rattle.schedule_laws.proofs.Schedule.{begun_keeps, legal_more}
+use Rattle.call_laws.proofs.Frozen.{frozen_whole}
+use Rattle.gate_core.proofs.Layers.{phase_keeps}
+use Rattle.gate_core.proofs.Beginnings.{may_begin}
+use Rattle.gate_core.proofs.Schedule.{begun_keeps, legal_more}
 use Rattle.gate_world.specs.Rules.{Fitting}
-use Rattle.schedule_laws.proofs.Lists.{beside_lists, begin_lists}
-use Rattle.schedule_laws.proofs.Snapshots.{beside_moments, begin_moments}
+use Rattle.gate_core.proofs.Lists.{beside_lists, begin_lists}
+use Rattle.gate_core.proofs.Snapshots.{beside_moments, begin_moments}
 use Rattle.gate_world.specs.Courses.{MayHold}
 use Rattle.gate_frames.proofs.MayHolds.{events_may_be}
 use Rattle.gate_steps.proofs.Stores.{held_found, no_store}
-use Rattle.schedule_laws.proofs.Phases.{word_there}
+use Rattle.gate_core.proofs.Phases.{word_there}
 use Rattle.gate_steps.specs.declared.seating.Numbered.{Numbered}
 use Rattle.gate_steps.specs.Seating.{SeatItems, HaveViews, MayStep, Acts, entered, world_entered, done_by, items_after, happened}
 use Rattle.gate_steps.specs.Histories.{HasHistory}

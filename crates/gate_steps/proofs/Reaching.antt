@@ -16,7 +16,7 @@ use Rattle.gate_world.specs.Work.{next_of, after_of}
 use Rattle.gate_world.specs.Views.{phase_after, actions_after, begun_view, view_after, view_after_beside}
 use Rattle.gate_world.specs.Beginnings.{first_phase, refusal, view_refusal}
 use Rattle.gate_world.specs.Worlds.{World, Begins, Steps, after_begin, value_at, found_at, words_after, after_step, after_step_beside, run, opening}
-use Rattle.schedule_laws.proofs.Runs.{run_more}
+use Rattle.gate_core.proofs.Runs.{run_more}
 use Rattle.gate_steps.specs.Seating.{renewed}
 use Rattle.gate_steps.specs.Rules.{IsLike, IsReached}
 

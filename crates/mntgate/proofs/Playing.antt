@@ -14,7 +14,7 @@ use Rattle.gate_world.specs.Worlds.{World, Entry, Steps, happens, run, history, 
 use Rattle.gate_world.specs.Shown.{shown}
 use Rattle.gate_core.specs.Answers.{step_answer, phase_step, idle_step}
 use Rattle.gate_core.specs.declared.steps.Step.{Step}
-use Rattle.schedule_laws.proofs.Whole.{whole_run, whole_moves}
+use Rattle.gate_core.proofs.Whole.{whole_run, whole_moves}
 use Rattle.mntgate.specs.Transcript.{Play, played}
 use Rattle.mntgate.specs.Reached.{IsReached}
 

@@ -11,7 +11,7 @@ use Rattle.gate_world.specs.Views.{held_at, holds_level}
 use Rattle.gate_core.specs.declared.seats.Seat.{Seat}
 use Rattle.gate_core.specs.Answers.{unless_refused}
 use Rattle.gate_core.specs.Seats.{mounts_in, levels_in}
-use Rattle.schedule_laws.proofs.Beginnings.{refusal_agree, ok_means, err_means}
+use Rattle.gate_core.proofs.Beginnings.{refusal_agree, ok_means, err_means}
 use Rattle.gate_steps.specs.Seating.{SeatItems}
 use Rattle.vfs_gates.specs.TaskStates.{TaskState, task_state, own_number, own_view, refusal_at, beginning_at}
 use Rattle.vfs_gates.specs.declared.task.Task.TheInside.{Inside}

@@ -15,7 +15,7 @@ use Rattle.gate_world.specs.Fits.{Fits}
 use Rattle.gate_core.specs.declared.seats.Seat.{Seat}
 use Rattle.gate_world.specs.declared.accesses.Accesses.{Accesses}
 use Rattle.gate_core.specs.Answers.{unless_refused}
-use Rattle.schedule_laws.proofs.Beginnings.{MayBegin, may_begin, first_fits}
+use Rattle.gate_core.proofs.Beginnings.{MayBegin, may_begin, first_fits}
 use Rattle.gate_steps.specs.declared.seating.Numbered.{Numbered}
 use Rattle.gate_steps.specs.Seating.{SeatItems}
 use Rattle.atomic_table.specs.Seated.{TableId}

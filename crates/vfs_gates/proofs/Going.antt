@@ -26,7 +26,7 @@ use Rattle.gate_core.specs.Answers.{progress_of, phase_step}
 use Rattle.gate_world.specs.Fits.{ActionFits}
 use Rattle.gate_world.specs.Accesses.{accesses_after}
 use Rattle.gate_world.specs.Fits.{mounts_by, levels_by}
-use Rattle.schedule_laws.proofs.Phases.{action_fits, fits_after, fits_agree}
+use Rattle.gate_core.proofs.Phases.{action_fits, fits_after, fits_agree}
 use Rattle.gate_frames.proofs.Accesses.{mounts_of_after, levels_of_after, long_after, wide_after, mounts_same, levels_same}
 use Rattle.gate_steps.specs.declared.seating.Numbered.{Numbered}
 use Rattle.gate_steps.specs.Seating.{SeatItems, numbered, entered, done_by, items_after, IsMove}

@@ -21,7 +21,7 @@ use Rattle.gate_world.specs.Beginnings.{first_phase}
 use Rattle.gate_world.specs.Courses.{Course, course_with, course_after, course_of, IsEventOf, IsNext, IsTrace, MayHold}
 use Rattle.gate_world.specs.Traces.{Tells, most_events, IsShort}
 use Rattle.gate_frames.proofs.Keeps.{most_events_of_all, IsSmall}
-use Rattle.schedule_laws.proofs.Layers.{op_keeps}
+use Rattle.gate_core.proofs.Layers.{op_keeps}
 use Rattle.gate_core.specs.declared.steps.Progress.TheVariants.{Done as Ended}
 use Rattle.gate_core.specs.declared.steps.Step.{Step}
 use Rattle.gate_core.specs.Answers.{progress_of, unless_refused}

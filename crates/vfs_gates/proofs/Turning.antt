@@ -19,7 +19,7 @@ use Rattle.gate_world.specs.Work.{next_of, after_of}
 use Rattle.gate_world.specs.declared.accesses.Accesses.{Accesses}
 use Rattle.gate_core.specs.Answers.{progress_of}
 use Rattle.gate_world.specs.Accesses.{accesses_after}
-use Rattle.schedule_laws.proofs.Phases.{word_placed}
+use Rattle.gate_core.proofs.Phases.{word_placed}
 use Rattle.gate_steps.specs.Seating.{SeatItems, Acts, items_after, IsMove}
 use Rattle.atomic_table.specs.Seated.{TableId}
 use Rattle.gate_world.specs.Configs.{IsWithin}

@@ -1,6 +1,6 @@
 -- Each clause is a lemma on whole schedules.
-use Rattle.schedule_laws.proofs.Whole.{whole_rule, whole_run, whole_moves, whole_nobody, whole_causes, whole_waits, whole_sums, whole_idle, whole_rests, whole_freezes, whole_trees, whole_operations}
-use Rattle.schedule_laws.proofs.LevelRuns.{whole_levels}
+use Rattle.gate_core.proofs.Whole.{whole_rule, whole_run, whole_moves, whole_nobody, whole_causes, whole_waits, whole_sums, whole_idle, whole_rests, whole_freezes, whole_trees, whole_operations}
+use Rattle.gate_core.proofs.LevelRuns.{whole_levels}
 use Rattle.gate_core.proofs.schedules.every_schedule.Goals as goal
 
 pub returns-clause-moves : goal.returns-clause-moves

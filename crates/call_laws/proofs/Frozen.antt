@@ -1,0 +1,104 @@
+-- Where the file system is frozen nobody has charged anything, so the tree is sound and clean. It is sound, too, where nobody is at work.
+use Rattle.std.proofs.Common.{◌≡◌, ℕ, ◌<◌, Bool, refl, sym, subst, arith}
+use Rattle.std.specs.Prelude.{Option, Some, None, List, true}
+use Rattle.gated_tree.specs.Calls.{snapshot_role, mark_role}
+use Rattle.gated_tree.specs.Roles.{HasNoCharge}
+use Rattle.gated_tree.specs.declared.marks.Mark.{Mark}
+use Rattle.gated_tree.specs.declared.marks.MarkStep.{MarkStep}
+use Rattle.gated_tree.specs.declared.marks.MarkStep.TheVariants.{LoadsFile as LoadsFileToMark, MarksFile}
+use Rattle.gated_tree.specs.declared.phases.TreePhase.TheVariants.{
+  Snapshot as Snapshots,
+  Create as Creates,
+  Remove as Removes,
+  Grow as Grows,
+  MoveTo as Moves,
+  Mark as TreeMarks,
+  ClearMarks as TreeClears,
+}
+use Rattle.gated_tree.specs.declared.snapshots.SnapshotStep.{SnapshotStep}
+use Rattle.gated_tree.specs.declared.snapshots.SnapshotStep.TheVariants.{Locks, LoadsStage, LoadsUsed, LoadsNode, LoadsKids, Releases}
+use Rattle.mount_counts.specs.declared.remounts.RemountStep.{RemountStep}
+use Rattle.mount_counts.specs.declared.remounts.RemountStep.TheVariants.{ClearsHold, ClearsMark, SetsReadOnly}
+use Rattle.freeze_levels.specs.declared.freezes.FreezeStep.{FreezeStep}
+use Rattle.freeze_levels.specs.declared.freezes.FreezeStep.TheVariants.{Cleans, SetsFs}
+use Rattle.gate_world.specs.declared.config.Config.{Config}
+use Rattle.gate_world.specs.declared.views.Traced.{Traced}
+use Rattle.gate_world.specs.declared.work.Phase.{Phase}
+use Rattle.gate_world.specs.declared.work.Phase.TheVariants.{Remounts, Freezes, Trees}
+use Rattle.gate_world.specs.Configs.{IsWithin}
+use Rattle.gate_world.specs.Fits.{Fits}
+use Rattle.gate_world.specs.Headline.{TreeIsSound, FrozenTreeIsWhole}
+use Rattle.gate_world.specs.Operations.{is_writer}
+use Rattle.gate_world.specs.Rules.{IsGood, Tree, Fitting}
+use Rattle.gate_world.specs.Snapshots.{values_noted}
+use Rattle.gate_world.specs.Trees.{tree_bounds, tree_of, tree_role_of, tree_roles, remount_tree_role, freeze_tree_role}
+use Rattle.gate_world.specs.Views.{held_at, holds_level}
+use Rattle.gate_world.specs.Worlds.{World}
+use Rattle.gate_frames.proofs.Trees.{sealed_frozen}
+use Rattle.tree_laws.proofs.Clearings.{exact}
+use Rattle.gate_frames.proofs.TreeHolders.{writer_not_frozen}
+
+-- a snapshot charges nothing
+pub snapshot_charges_none : (nodes : ℕ) (values : ℕ → ℕ) (s : SnapshotStep) → HasNoCharge (snapshot_role nodes values s)
+snapshot_charges_none nodes values Locks = record { blocks = refl; children = λ d. refl }
+snapshot_charges_none nodes values LoadsStage = record { blocks = refl; children = λ d. refl }
+snapshot_charges_none nodes values LoadsUsed = record { blocks = refl; children = λ d. refl }
+snapshot_charges_none nodes values (LoadsNode n) = record { blocks = refl; children = λ d. refl }
+snapshot_charges_none nodes values (LoadsKids n) = record { blocks = refl; children = λ d. refl }
+snapshot_charges_none nodes values (Releases answer) = record { blocks = refl; children = λ d. refl }
+
+-- nor does a page fault or a write-back
+mark_charges_none : (x : Mark) (s : MarkStep) → HasNoCharge (mark_role x s)
+mark_charges_none x LoadsFileToMark = record { blocks = refl; children = λ d. refl }
+mark_charges_none x (MarksFile file) = record { blocks = refl; children = λ d. refl }
+
+-- nor a remount
+remount_charges_none : (nodes : ℕ) (s : RemountStep) → HasNoCharge (remount_tree_role nodes s)
+remount_charges_none nodes (ClearsHold held) = record { blocks = refl; children = λ d. refl }
+remount_charges_none nodes (ClearsMark n) = record { blocks = refl; children = λ d. refl }
+remount_charges_none nodes SetsReadOnly = record { blocks = refl; children = λ d. refl }
+remount_charges_none nodes s = record { blocks = refl; children = λ d. refl }
+
+-- nor a freeze
+freeze_charges_none : (nodes : ℕ) (s : FreezeStep) → HasNoCharge (freeze_tree_role nodes s)
+freeze_charges_none nodes (Cleans marks) = record { blocks = refl; children = λ d. refl }
+freeze_charges_none nodes SetsFs = record { blocks = refl; children = λ d. refl }
+freeze_charges_none nodes s = record { blocks = refl; children = λ d. refl }
+
+-- so only a writer has charged anything
+phase_charges_none : (c : Config) (trace : List Traced) (t : ℕ) (held : ℕ → ℕ) (levels : ℕ → Bool) (p : Option Phase) →
+    Fits c t held levels p → (is_writer c held levels ≡ true → ⊥) → HasNoCharge (tree_role_of trace p)
+phase_charges_none c trace t held levels (Some (Remounts x)) fits none = remount_charges_none x.nodes x.step
+phase_charges_none c trace t held levels (Some (Freezes x)) fits none = freeze_charges_none x.nodes x.step
+phase_charges_none c trace t held levels (Some (Trees (Creates x))) fits none = absurd (none fits.1)
+phase_charges_none c trace t held levels (Some (Trees (Removes x))) fits none = absurd (none fits.1)
+phase_charges_none c trace t held levels (Some (Trees (Grows x))) fits none = absurd (none fits.1)
+phase_charges_none c trace t held levels (Some (Trees (Moves x))) fits none = absurd (none fits.1)
+phase_charges_none c trace t held levels (Some (Trees (TreeMarks x))) fits none = mark_charges_none x x.step
+phase_charges_none c trace t held levels (Some (Trees (Snapshots x))) fits none =
+    snapshot_charges_none x.nodes (values_noted x.nodes trace) x.step
+phase_charges_none c trace t held levels (Some (Trees (TreeClears x))) fits none = record { blocks = refl; children = λ d. refl }
+phase_charges_none c trace t held levels p fits none = record { blocks = refl; children = λ d. refl }
+
+-- and at stage 4 nobody has
+pub frozen_quiet : (c : Config) (w : World) → IsGood c w → w.words.stage ≡ 4 → (t : ℕ) → t < c.tasks → HasNoCharge (tree_roles w t)
+frozen_quiet c w good frozen t lt =
+    phase_charges_none c (w.views t).trace t (held_at (w.views t)) (holds_level (w.views t)) (w.views t).phase (good Fitting t lt)
+    (λ writes. writer_not_frozen c w good t lt writes frozen)
+
+-- so the tree is sound and clean then
+pub frozen_whole : (c : Config) → IsWithin c → (w : World) → IsGood c w → FrozenTreeIsWhole c w
+frozen_whole c within w good frozen = (
+  exact (tree_bounds c) (tree_of w) (good Tree) (frozen_quiet c w good frozen),
+  (good Tree).clean (sealed_frozen w.words.sb w.words.stage (omega (arith, frozen))),
+)
+
+-- an idle task has charged nothing
+idle_quiet : (trace : List Traced) (p : Option Phase) → p ≡ None → HasNoCharge (tree_role_of trace p)
+idle_quiet trace p idle =
+    subst (λ q. HasNoCharge (tree_role_of trace q)) (sym idle) (record { blocks = refl; children = λ d. refl })
+
+-- so the tree is sound where no operation is under way
+pub idle_sound : (c : Config) (w : World) → IsGood c w → ((t : ℕ) → t < c.tasks → (w.views t).phase ≡ None) → TreeIsSound c w
+idle_sound c w good idle =
+    exact (tree_bounds c) (tree_of w) (good Tree) (λ t lt. idle_quiet (w.views t).trace (w.views t).phase (idle t lt))

@@ -1,2 +1,0 @@
-pub mod Moments
-pub mod SumCauses

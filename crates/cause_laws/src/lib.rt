@@ -1,2 +1,0 @@
-//! Moments of a schedule, of which the causes of refusals speak. It has no code.
-#![tactic(auto)]

@@ -1,0 +1,107 @@
+-- Each entry, and so each schedule, keeps what is said of the causes of refusals.
+use Rattle.std.proofs.Common.{◌≡◌, ℕ, ◌<◌, refl, sym, ap, subst, inl, inr}
+use Rattle.std.specs.Prelude.{nat_lt, Option, Some, None, List, [], ◌∷◌}
+use Rattle.std.proofs.lemmas.Bool.{ltb-true, cases_Bool}
+use Rattle.std.proofs.lemmas.Bool.Decides.{eqb_tells}
+use Rattle.finite_sums.proofs.Totals.{update_at, update_off}
+use Rattle.access_model.specs.declared.errors.GateError.{GateError}
+use Rattle.cpu_words.specs.Hooks.{HookAnswer}
+use Rattle.gate_world.specs.declared.config.Config.{Config}
+use Rattle.gate_world.specs.declared.operations.Op.{Op}
+use Rattle.gate_world.specs.declared.work.Phase.{Phase}
+use Rattle.gate_world.specs.declared.views.View.{View}
+use Rattle.gate_world.specs.Views.{held_at, holds_level, begun_view, view_after}
+use Rattle.gate_world.specs.Fits.{Fits}
+use Rattle.gate_world.specs.Beginnings.{first_phase, view_refusal}
+use Rattle.gate_world.specs.Worlds.{World, Entry, Begins, Steps, after_begin, begin_of, after_step, step_of, value_at, happens, run}
+use Rattle.gate_world.specs.Rules.{IsGood, Fitting}
+use Rattle.gate_world.specs.Causes.{trail, HasCause}
+use Rattle.gate_frames.proofs.Keeps.{IsQuiet}
+use Rattle.gate_world.specs.KeptCauses.{CauseOf, Causes}
+use Rattle.gate_core.proofs.Layers.{phase_keeps, op_keeps}
+
+module _ (c : Config) (w : World) (earlier : List World) (good : IsGood c w) (holds : Causes c w earlier) where
+  -- a task that another entry leaves alone
+  module _ (next : World) (after : IsGood c next) (t : ℕ) (lt : t < c.tasks) (quiet : IsQuiet c w next) where
+    kept : (p : Option Phase) → Fits c t (held_at (w.views t)) (holds_level (w.views t)) p → (next.views t).phase ≡ p →
+        (w.views t).phase ≡ p → CauseOf c t w earlier p → CauseOf c t next (w ∷ earlier) p
+    kept None f e was h = tt
+    kept (Some phase) f e was h = (phase_keeps c phase).stays w next earlier after t f e was quiet h
+
+    pub alone : next.views t ≡ w.views t → CauseOf c t next (w ∷ earlier) (next.views t).phase
+    alone same = kept (next.views t).phase
+        (subst (λ (v : View). Fits c t (held_at (w.views t)) (holds_level (w.views t)) v.phase) (sym same) (good Fitting t lt)) refl
+        (ap (λ (v : View). v.phase) (sym same))
+        (subst (λ (v : View). CauseOf c t w earlier v.phase) (sym same) (holds t lt))
+
+  same_causes : Causes c w (w ∷ earlier)
+  same_causes t lt = alone w good t lt (record { mounts = λ m a b. refl; levels = λ i a b. refl }) refl
+
+  step_causes : (u : ℕ) → u < c.tasks → (hook : HookAnswer) (p : Option Phase) → (w.views u).phase ≡ p → IsGood c (step_of w u hook p) →
+      Causes c (step_of w u hook p) (w ∷ earlier)
+  step_causes u lu hook None e after t lt = same_causes t lt
+  step_causes u lu hook (Some phase) e after t lt =
+      let next : World = after_step w u phase hook in
+      let v : View = view_after (w.views u) phase (value_at w.words phase hook) hook in
+      elim (eqb_tells t u) [
+        | inl h ↦
+            let is : next.views u ≡ v = update_at w.views u v in
+            let there : CauseOf c u next (w ∷ earlier) (next.views u).phase =
+            subst (CauseOf c u next (w ∷ earlier)) (sym (ap (λ (x : View). x.phase) is))
+            ((phase_keeps c phase).causes w earlier good u lu hook e after (ap (λ (x : View). x.phase) is)
+            (subst (CauseOf c u w earlier) e (holds u lu))) in
+            subst (λ y. CauseOf c y next (w ∷ earlier) (next.views y).phase) (sym h.1) there
+        | inr h ↦ alone next after t lt (record {
+          mounts = λ m a b. (phase_keeps c phase).quiet w good u lu hook m e a b;
+          levels = λ i a b. (phase_keeps c phase).level_quiet w good u lu hook i e a b;
+        }) (update_off w.views u v t h.1)
+      ]
+
+  first_causes : (u : ℕ) (op : Op) (next : World) → CauseOf c u next (w ∷ earlier) (Some (first_phase c u op))
+  first_causes u op next = (op_keeps c op).cause u next (w ∷ earlier)
+
+  begin_causes : (u : ℕ) (op : Op) (r : Option GateError) → IsGood c (begin_of c w u op r) → Causes c (begin_of c w u op r) (w ∷ earlier)
+  begin_causes u op (Some refused) after t lt = same_causes t lt
+  begin_causes u op None after t lt =
+      let next : World = after_begin c w u op in
+      let v : View = begun_view (w.views u) op (first_phase c u op) in
+      elim (eqb_tells t u) [
+        | inl h ↦
+            let is : next.views u ≡ v = update_at w.views u v in
+            let there : CauseOf c u next (w ∷ earlier) (next.views u).phase =
+            subst (CauseOf c u next (w ∷ earlier)) (sym (ap (λ (x : View). x.phase) is)) (first_causes u op next) in
+            subst (λ y. CauseOf c y next (w ∷ earlier) (next.views y).phase) (sym h.1) there
+        | inr h ↦ alone next after t lt (record { mounts = λ m a b. refl; levels = λ i a b. refl }) (update_off w.views u v t h.1)
+      ]
+
+  pub happens_causes : (e : Entry) → IsGood c (happens c w e) → Causes c (happens c w e) (w ∷ earlier)
+  happens_causes (Begins t op) after =
+      elim (cases_Bool (nat_lt t c.tasks)) [
+        | inl h ↦ rw h (begin_causes t op (view_refusal c (w.views t) op) (rw h at after))
+        | inr h ↦ rw h same_causes
+      ]
+  happens_causes (Steps t hook) after =
+      elim (cases_Bool (nat_lt t c.tasks)) [
+        | inl h ↦ rw h (step_causes t (ltb-true t c.tasks h) hook (w.views t).phase refl (rw h at after))
+        | inr h ↦ rw h same_causes
+      ]
+
+-- along a schedule whose entries keep the rule
+module _ (c : Config) (keeps : (w : World) → IsGood c w → (e : Entry) → IsGood c (happens c w e)) where
+  pub record TrailHolds (w : World) (earlier : List World) (es : List Entry) : Type 0 where
+    pub rest : List World
+    pub is : trail c earlier w es ≡ run c w es ∷ rest
+    pub causes : Causes c (run c w es) rest
+
+  pub trail_holds : (es : List Entry) (w : World) (earlier : List World) → IsGood c w → Causes c w earlier → TrailHolds w earlier es
+  trail_holds [] w earlier good h = record { rest = earlier; is = refl; causes = h }
+  trail_holds (e ∷ es) w earlier good h =
+      let t : TrailHolds (happens c w e) (w ∷ earlier) es = trail_holds es (happens c w e) (w ∷ earlier) (keeps w good e)
+      (happens_causes c w earlier good h e (keeps w good e)) in
+      record { rest = t.rest; is = t.is; causes = t.causes }
+
+-- what a phase's cause says at its refusal
+pub cause_tells : (c : Config) (t : ℕ) (w : World) (earlier : List World) (p : Option Phase) →
+    Fits c t (held_at (w.views t)) (holds_level (w.views t)) p → CauseOf c t w earlier p → HasCause c t (w ∷ earlier) p
+cause_tells c t w earlier None fits h = tt
+cause_tells c t w earlier (Some phase) fits h = (phase_keeps c phase).tells t w earlier fits h

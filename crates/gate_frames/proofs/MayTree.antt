@@ -1,0 +1,282 @@
+-- What a call at the tree may do: nobody else is in its way, and the model gives it leave.
+use Rattle.std.proofs.Common.{◌≡◌, ℕ, ◌<◌, ◌≤◌, inl, inr, refl, arith, Bool, true, false, subst, leb-true}
+use Rattle.std.proofs.lemmas.Bool.{cases_Bool}
+use Rattle.std.specs.Prelude.{◌==◌, Option, Some, None, List, if◌then◌else◌, nat_le}
+use Rattle.finite_sums.proofs.Totals.{total_at, total_none}
+use Rattle.access_model.specs.declared.actions.Action.{Action}
+use Rattle.access_model.specs.Actions.{IsWriter}
+use Rattle.cpu_words.specs.Hooks.{HookAnswer}
+use Rattle.gated_tree.specs.declared.changes.Create.{Create}
+use Rattle.gated_tree.specs.declared.changes.CreateStep.{CreateStep}
+use Rattle.gated_tree.specs.declared.changes.CreateStep.TheVariants.{LoadsDirectory, LoadsNode, ChargesChild, TakesNode, RefundsChild}
+use Rattle.gated_tree.specs.declared.changes.Remove.{Remove}
+use Rattle.gated_tree.specs.declared.changes.RemoveStep.{RemoveStep}
+use Rattle.gated_tree.specs.declared.changes.RemoveStep.TheVariants.{LoadsFile as LoadsFileToRemove, FreesNode, RefundsBlocks as RefundsItsBlocks, RefundsChild as RefundsItsChild}
+use Rattle.gated_tree.specs.declared.changes.MoveTo.{MoveTo}
+use Rattle.gated_tree.specs.declared.changes.MoveStep.{MoveStep}
+use Rattle.gated_tree.specs.declared.changes.MoveStep.TheVariants.{LoadsFile as LoadsFileToMove, LoadsDirectory as LoadsTarget, ChargesChild as ChargesTarget, MovesFile, RefundsChild as RefundsOne}
+use Rattle.gated_tree.specs.declared.growth.Grow.{Grow}
+use Rattle.gated_tree.specs.declared.growth.GrowStep.{GrowStep}
+use Rattle.gated_tree.specs.declared.growth.GrowStep.TheVariants.{LoadsFile as LoadsFileToGrow, LoadsUsed, ChargesBlocks, GrowsFile, RefundsBlocks}
+use Rattle.gated_tree.specs.declared.marks.Mark.{Mark}
+use Rattle.gated_tree.specs.declared.marks.MarkStep.{MarkStep}
+use Rattle.gated_tree.specs.declared.marks.MarkStep.TheVariants.{LoadsFile as LoadsFileToMark, MarksFile}
+use Rattle.gated_tree.specs.declared.snapshots.Snapshot.{Snapshot}
+use Rattle.gated_tree.specs.declared.snapshots.SnapshotStep.{SnapshotStep}
+use Rattle.gated_tree.specs.declared.snapshots.SnapshotStep.TheVariants.{Locks, LoadsStage, LoadsUsed as LoadsUsedWord, LoadsNode as LoadsNodeWord, LoadsKids, Releases}
+use Rattle.gated_tree.specs.declared.phases.TreePhase.{TreePhase}
+use Rattle.gated_tree.specs.declared.phases.TreePhase.TheVariants.{Create as Creates, Remove as Removes, Grow as Grows, MoveTo as Moves, Mark as Marks, Snapshot as Snapshots, ClearMarks as Clears}
+use Rattle.gated_tree.specs.Phases.{after, create_after, remove_after, grow_after, move_after, mark_after, mark_done, snapshot_after}
+use Rattle.gated_tree.specs.Calls.{phase_role, create_role, remove_role, grow_role, move_role, mark_role, snapshot_role}
+use Rattle.gated_tree.specs.Roles.{cleared, sealed_by, MayDirty, NobodyReads}
+use Rattle.tree_laws.specs.Events.{HasLeave, MayClean}
+use Rattle.tree_laws.specs.Steps.{MayStep, MayMark}
+use Rattle.mount_counts.specs.declared.remounts.RemountStep.{RemountStep}
+use Rattle.mount_counts.specs.declared.remounts.RemountStep.TheVariants.{ClearsHold, ClearsMark, SetsReadOnly}
+use Rattle.freeze_levels.specs.declared.freezes.FreezeStep.{FreezeStep}
+use Rattle.freeze_levels.specs.declared.freezes.FreezeStep.TheVariants.{Cleans, SetsFs}
+use Rattle.stage_laws.specs.Roles.{passed_by}
+use Rattle.gate_world.specs.declared.config.Config.{Config}
+use Rattle.gate_world.specs.declared.views.Traced.{Traced}
+use Rattle.gate_world.specs.declared.work.Phase.{Phase}
+use Rattle.gate_world.specs.declared.work.Phase.TheVariants.{Remounts, Freezes, Trees}
+use Rattle.gate_world.specs.Configs.{model_limits}
+use Rattle.gate_world.specs.Fits.{Fits, PhaseFits, TreeAccess}
+use Rattle.gate_world.specs.Operations.{is_writer, is_faulter, may_mark, some_mount}
+use Rattle.gate_world.specs.Remounts.{remount_sets}
+use Rattle.gate_world.specs.Rules.{IsGood, Fitting, Owner, remounts}
+use Rattle.gate_world.specs.Shown.{shown}
+use Rattle.gate_world.specs.Stages.{stage_role_of, freeze_stage_role}
+use Rattle.gate_world.specs.Trees.{tree_bounds, tree_of, tree_role_of, tree_roles, remount_tree_role, freeze_tree_role, nodes_noted}
+use Rattle.gate_world.specs.Snapshots.{values_noted}
+use Rattle.gate_world.specs.Views.{held_at, holds_level}
+use Rattle.gate_world.specs.Worlds.{World}
+use Rattle.gate_frames.proofs.Trees.{nobody_reads, sealed_frozen}
+use Rattle.gate_frames.proofs.TreeHolders.{IsOpen, both_true, mount_there, writer_apart}
+use Rattle.std.proofs.lemmas.Bool.Decides.{eqb_tells}
+use Rattle.gated_tree.specs.Nodes.{word_of}
+
+-- a writable superblock below stage 3 isn't sealed
+pub open_unsealed : (sb stage : ℕ) → sb ≡ 0 → stage < 3 → sealed_by sb stage ≡ 0
+open_unsealed sb stage writable low =
+    elim (cases_Bool (nat_le 3 stage)) [
+      | inl h ↦ absurd (omega (arith, low, leb-true 3 stage h))
+      | inr h ↦ rw (writable, h) refl
+    ]
+
+-- a remount that hasn't set `remount` clears no mark
+remount_clears : (nodes : ℕ) (s : RemountStep) → remount_sets s ≡ 0 → cleared (remount_tree_role nodes s) ≡ 0
+remount_clears nodes (ClearsHold held) h = absurd (omega (arith, h))
+remount_clears nodes (ClearsMark n) h = absurd (omega (arith, h))
+remount_clears nodes SetsReadOnly h = absurd (omega (arith, h))
+remount_clears nodes s h = refl
+
+-- nor does a freeze that hasn't passed level 2
+freeze_clears : (nodes : ℕ) (s : FreezeStep) → passed_by (freeze_stage_role nodes s) < 2 → cleared (freeze_tree_role nodes s) ≡ 0
+freeze_clears nodes (Cleans marks) h = absurd (omega (arith, h))
+freeze_clears nodes SetsFs h = absurd (omega (arith, h))
+freeze_clears nodes s h = refl
+
+-- nor a call at the tree
+create_clears : (x : Create) (s : CreateStep) → cleared (create_role x s) ≡ 0
+create_clears x LoadsDirectory = refl
+create_clears x (LoadsNode n) = refl
+create_clears x (ChargesChild n) = refl
+create_clears x (TakesNode n) = refl
+create_clears x RefundsChild = refl
+
+remove_clears : (x : Remove) (s : RemoveStep) → cleared (remove_role x s) ≡ 0
+remove_clears x LoadsFileToRemove = refl
+remove_clears x (FreesNode file) = refl
+remove_clears x (RefundsItsBlocks file) = refl
+remove_clears x (RefundsItsChild file) = refl
+
+grow_clears : (x : Grow) (s : GrowStep) → cleared (grow_role x s) ≡ 0
+grow_clears x LoadsFileToGrow = refl
+grow_clears x (LoadsUsed file) = refl
+grow_clears x (ChargesBlocks file used) = refl
+grow_clears x (GrowsFile file) = refl
+grow_clears x RefundsBlocks = refl
+
+move_clears : (x : MoveTo) (s : MoveStep) → cleared (move_role x s) ≡ 0
+move_clears x LoadsFileToMove = refl
+move_clears x (LoadsTarget file) = refl
+move_clears x (ChargesTarget file) = refl
+move_clears x (MovesFile file) = refl
+move_clears x (RefundsOne dir answer) = refl
+
+mark_clears : (x : Mark) (s : MarkStep) → cleared (mark_role x s) ≡ 0
+mark_clears x LoadsFileToMark = refl
+mark_clears x (MarksFile file) = refl
+
+snapshot_clears : (nodes : ℕ) (values : ℕ → ℕ) (s : SnapshotStep) → cleared (snapshot_role nodes values s) ≡ 0
+snapshot_clears nodes values Locks = refl
+snapshot_clears nodes values LoadsStage = refl
+snapshot_clears nodes values LoadsUsedWord = refl
+snapshot_clears nodes values (LoadsNodeWord n) = refl
+snapshot_clears nodes values (LoadsKids n) = refl
+snapshot_clears nodes values (Releases answer) = refl
+
+-- a clearing on its own there is not
+tree_clears : (c : Config) (held : ℕ → ℕ) (levels : ℕ → Bool) (values : ℕ → ℕ) (x : TreePhase) → TreeAccess c held levels x →
+    cleared (phase_role values x) ≡ 0
+tree_clears c held levels values (Creates x) may = create_clears x x.step
+tree_clears c held levels values (Removes x) may = remove_clears x x.step
+tree_clears c held levels values (Grows x) may = grow_clears x x.step
+tree_clears c held levels values (Moves x) may = move_clears x x.step
+tree_clears c held levels values (Marks x) may = mark_clears x x.step
+tree_clears c held levels values (Snapshots x) may = snapshot_clears x.nodes values x.step
+tree_clears c held levels values (Clears x) may = absurd may
+
+-- so nothing that a task is at clears a mark, where no remount is beginning and the task hasn't passed level 2
+phase_clears : (c : Config) (t : ℕ) (held : ℕ → ℕ) (levels : ℕ → Bool) (trace : List Traced) (p : Option Phase) → Fits c t held levels p →
+    remounts p ≡ 0 → passed_by (stage_role_of p) < 2 → cleared (tree_role_of trace p) ≡ 0
+phase_clears c t held levels trace (Some (Remounts x)) fits unset unpassed = remount_clears x.nodes x.step unset
+phase_clears c t held levels trace (Some (Freezes x)) fits unset unpassed = freeze_clears x.nodes x.step unpassed
+phase_clears c t held levels trace (Some (Trees x)) fits unset unpassed =
+    tree_clears c held levels (values_noted (nodes_noted x) trace) x fits.1
+phase_clears c t held levels trace p fits unset unpassed = refl
+
+module _ (c : Config) (w : World) (good : IsGood c w) where
+  -- where nobody has shut the levels and mounts, a file may get dirty
+  pub may_dirty : (i : ℕ) → i ≤ 2 → IsOpen w c.tasks i → MayDirty (tree_bounds c) (tree_of w)
+  may_dirty i low way = record {
+    unsealed = open_unsealed w.words.sb w.words.stage way.writable way.unfrozen;
+    nobody_clears = total_none c.tasks (λ y. cleared (tree_roles w y)) (λ y ly.
+        phase_clears c y (held_at (w.views y)) (holds_level (w.views y)) (w.views y).trace (w.views y).phase (good Fitting y ly)
+        (omega (arith, way.unset, (good Owner).remounting, total_at c.tasks y (λ z. remounts (w.views z).phase) ly))
+        (omega (arith, low, way.unpassed y ly)));
+  }
+
+  -- and no snapshot has loaded a word
+  pub open_unread : (i : ℕ) → IsOpen w c.tasks i → NobodyReads (tree_bounds c) (tree_of w)
+  open_unread i way = nobody_reads c w good (λ e. omega (arith, e, way.unfrozen))
+
+  -- a mark may be cleared at any moment: at stage 4 there is none
+  pub may_clean : MayClean (tree_bounds c) (tree_of w)
+  may_clean = elim (eqb_tells w.words.stage 4) [
+    | inl q ↦ inl (sealed_frozen w.words.sb w.words.stage (omega (arith, q.1)))
+    | inr q ↦ inr (nobody_reads c w good q.1)
+  ]
+
+  module _ (t : ℕ) (lt : t < c.tasks) where
+    -- what a writer comes through is open
+    pub writer_open : is_writer c (held_at (w.views t)) (holds_level (w.views t)) ≡ true → IsOpen w c.tasks 1
+    writer_open writes =
+        let both : (holds_level (w.views t) 1 ≡ true) × (some_mount c.mounts (held_at (w.views t)) ≡ true) = both_true _ _ writes in
+        writer_apart c w good t lt 1 (inl refl) both.0 both.1
+
+    -- and what a page fault comes through
+    pub faulter_open : is_faulter c (held_at (w.views t)) (holds_level (w.views t)) ≡ true → IsOpen w c.tasks 2
+    faulter_open faults =
+        let both : (holds_level (w.views t) 2 ≡ true) × (some_mount c.mounts (held_at (w.views t)) ≡ true) = both_true _ _ faults in
+        writer_apart c w good t lt 2 (inr refl) both.0 both.1
+
+    -- nobody is in the way of a page fault or a write-back
+    may_mark_now : (dirty : Bool) → may_mark dirty c (held_at (w.views t)) (holds_level (w.views t)) ≡ true →
+        MayMark dirty (tree_bounds c) (tree_of w)
+    may_mark_now true may =
+        let way : IsOpen w c.tasks 2 = faulter_open may in
+        (open_unread 2 way, may_dirty 2 (omega arith) way)
+    may_mark_now false may = may_clean
+
+    -- nor of any call
+    pub may_go : (x : TreePhase) → TreeAccess c (held_at (w.views t)) (holds_level (w.views t)) x →
+        MayStep (tree_bounds c) (tree_of w) x
+    may_go (Creates x) may = open_unread 1 (writer_open may)
+    may_go (Removes x) may = open_unread 1 (writer_open may)
+    may_go (Grows x) may = (open_unread 1 (writer_open may), may_dirty 1 (omega arith) (writer_open may))
+    may_go (Moves x) may = open_unread 1 (writer_open may)
+    may_go (Marks x) may = may_mark_now x.dirty may
+    may_go (Snapshots x) may = tt
+    may_go (Clears x) may = absurd may
+
+    -- what a call at the tree says of its numbers and of its task's accesses
+    pub call_fits : (x : TreePhase) → (w.views t).phase ≡ Some (Trees x) →
+        PhaseFits c t (held_at (w.views t)) (holds_level (w.views t)) (Trees x)
+    call_fits x e = subst (Fits c t (held_at (w.views t)) (holds_level (w.views t))) e (good Fitting t lt)
+
+    -- so nobody is in the way of the call that the task is at
+    pub may_step : (x : TreePhase) → (w.views t).phase ≡ Some (Trees x) → MayStep (tree_bounds c) (tree_of w) x
+    may_step x e = may_go x (call_fits x e).1
+
+    -- the model gives leave to an action, if there is one
+    abbrev pub LeaveFor : Option Action → Type 0
+    LeaveFor None = Unit {0}
+    LeaveFor (Some action) = HasLeave (model_limits c) (shown c w) t action
+
+    -- where it is the one that there is
+    leave_if : (b : Bool) (action : Action) → HasLeave (model_limits c) (shown c w) t action →
+        LeaveFor (if b then Some action else None)
+    leave_if true action leave = leave
+    leave_if false action leave = tt
+
+    -- a writer is one in the shown model
+    writer_shown : is_writer c (held_at (w.views t)) (holds_level (w.views t)) ≡ true → IsWriter (model_limits c) (shown c w) t
+    writer_shown writes =
+        let both : (holds_level (w.views t) 1 ≡ true) × (some_mount c.mounts (held_at (w.views t)) ≡ true) = both_true _ _ writes in
+        (both.0, mount_there c.mounts (held_at (w.views t)) both.1)
+
+    -- and so has leave for each call's action
+    create_leave : (x : Create) (s : CreateStep) (found : ℕ) → IsWriter (model_limits c) (shown c w) t → LeaveFor (create_after x s found).1
+    create_leave x LoadsDirectory found leave = tt
+    create_leave x (LoadsNode n) found leave = tt
+    create_leave x (ChargesChild n) found leave = tt
+    create_leave x (TakesNode n) found leave = leave_if (found == 0) _ leave
+    create_leave x RefundsChild found leave = tt
+
+    remove_leave : (x : Remove) (s : RemoveStep) (found : ℕ) → IsWriter (model_limits c) (shown c w) t → LeaveFor (remove_after x s found).1
+    remove_leave x LoadsFileToRemove found leave = tt
+    remove_leave x (FreesNode file) found leave = leave_if (found == word_of file) _ leave
+    remove_leave x (RefundsItsBlocks file) found leave = tt
+    remove_leave x (RefundsItsChild file) found leave = tt
+
+    grow_leave : (x : Grow) (s : GrowStep) (found : ℕ) → IsWriter (model_limits c) (shown c w) t → LeaveFor (grow_after x s found).1
+    grow_leave x LoadsFileToGrow found leave = tt
+    grow_leave x (LoadsUsed file) found leave = tt
+    grow_leave x (ChargesBlocks file used) found leave = tt
+    grow_leave x (GrowsFile file) found leave = leave_if (found == word_of file) _ leave
+    grow_leave x RefundsBlocks found leave = tt
+
+    move_leave : (x : MoveTo) (s : MoveStep) (found : ℕ) → IsWriter (model_limits c) (shown c w) t → LeaveFor (move_after x s found).1
+    move_leave x LoadsFileToMove found leave = tt
+    move_leave x (LoadsTarget file) found leave = tt
+    move_leave x (ChargesTarget file) found leave = tt
+    move_leave x (MovesFile file) found leave = leave_if (found == word_of file) _ leave
+    move_leave x (RefundsOne dir answer) found leave = tt
+
+    -- a page fault has leave inside level 2, with an access at some mount; a write-back inside level 3
+    mark_leave_now : (dirty : Bool) (file : ℕ) → may_mark dirty c (held_at (w.views t)) (holds_level (w.views t)) ≡ true →
+        HasLeave (model_limits c) (shown c w) t (mark_done dirty file)
+    mark_leave_now true file may =
+        let both : (holds_level (w.views t) 2 ≡ true) × (some_mount c.mounts (held_at (w.views t)) ≡ true) = both_true _ _ may in
+        (both.0, mount_there c.mounts (held_at (w.views t)) both.1)
+    mark_leave_now false file may = inl may
+
+    mark_leave : (x : Mark) (s : MarkStep) (found : ℕ) → may_mark x.dirty c (held_at (w.views t)) (holds_level (w.views t)) ≡ true →
+        LeaveFor (mark_after x s found).1
+    mark_leave x LoadsFileToMark found may = tt
+    mark_leave x (MarksFile file) found may = leave_if (found == word_of file) _ (mark_leave_now x.dirty x.file may)
+
+    snapshot_leave : (x : Snapshot) (s : SnapshotStep) (found : ℕ) → LeaveFor (snapshot_after x s found).1
+    snapshot_leave x Locks found = tt
+    snapshot_leave x LoadsStage found = tt
+    snapshot_leave x LoadsUsedWord found = tt
+    snapshot_leave x (LoadsNodeWord n) found = tt
+    snapshot_leave x (LoadsKids n) found = tt
+    snapshot_leave x (Releases answer) found = tt
+
+    -- each call has leave for the action of its next event
+    pub call_leave : (x : TreePhase) (found : ℕ) (hook : HookAnswer) → TreeAccess c (held_at (w.views t)) (holds_level (w.views t)) x →
+        LeaveFor (after x found hook).1
+    call_leave (Creates x) found hook may = create_leave x x.step found (writer_shown may)
+    call_leave (Removes x) found hook may = remove_leave x x.step found (writer_shown may)
+    call_leave (Grows x) found hook may = grow_leave x x.step found (writer_shown may)
+    call_leave (Moves x) found hook may = move_leave x x.step found (writer_shown may)
+    call_leave (Marks x) found hook may = mark_leave x x.step found may
+    call_leave (Snapshots x) found hook may = snapshot_leave x x.step found
+    call_leave (Clears x) found hook may = absurd may
+
+    -- so has the one that the task is at
+    pub leave : (x : TreePhase) (found : ℕ) (hook : HookAnswer) → (w.views t).phase ≡ Some (Trees x) → LeaveFor (after x found hook).1
+    leave x found hook e = call_leave x found hook (call_fits x e).1

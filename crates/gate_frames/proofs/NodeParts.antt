@@ -1,0 +1,615 @@
+-- An event of a call at the tree: it leaves the mounts, the levels and the sections alone, and all of the shown model but the tree. A
+-- snapshot is such a call, too.
+use Rattle.std.proofs.Common.{◌≡◌, ℕ, ◌<◌, ◌⊎◌, ◌∙◌, inl, inr, refl, sym, ap, Bool, true, false, true≢false, subst}
+use Rattle.std.specs.Prelude.{◌==◌, ◌||◌, Option, Some, None, Result, Ok, Err, if◌then◌else◌}
+use Rattle.finite_sums.specs.Sums.{update}
+use Rattle.finite_sums.proofs.Totals.{each_updated, update_same}
+use Rattle.access_model.specs.declared.actions.Action.{Action}
+use Rattle.access_model.specs.declared.errors.GateError.{GateError}
+use Rattle.access_model.specs.declared.replies.Next.{Next}
+use Rattle.access_model.specs.declared.replies.Next.TheVariants.{Go, Wait, Done}
+use Rattle.access_model.specs.Replies.{map_next}
+use Rattle.cpu_words.specs.declared.names.WordName.{WordName}
+use Rattle.cpu_words.specs.declared.names.WordName.TheVariants.{Umount, MountCount, LevelCount, Used, Node, Kids}
+use Rattle.cpu_words.specs.declared.events.Touch.{Touch}
+use Rattle.cpu_words.specs.declared.events.Touch.TheVariants.{Load}
+use Rattle.cpu_words.specs.Hooks.{HookAnswer}
+use Rattle.cpu_words.specs.Touches.{left}
+use Rattle.cpu_words.specs.Words.{Words, read, put}
+use Rattle.gated_tree.specs.declared.changes.Create.{Create}
+use Rattle.gated_tree.specs.declared.changes.CreateStep.{CreateStep}
+use Rattle.gated_tree.specs.declared.changes.CreateStep.TheVariants.{LoadsDirectory, LoadsNode, ChargesChild, TakesNode, RefundsChild}
+use Rattle.gated_tree.specs.declared.changes.Remove.{Remove}
+use Rattle.gated_tree.specs.declared.changes.RemoveStep.{RemoveStep}
+use Rattle.gated_tree.specs.declared.changes.RemoveStep.TheVariants.{LoadsFile as LoadsFileToRemove, FreesNode, RefundsBlocks as RefundsItsBlocks, RefundsChild as RefundsItsChild}
+use Rattle.gated_tree.specs.declared.changes.MoveTo.{MoveTo}
+use Rattle.gated_tree.specs.declared.changes.MoveStep.{MoveStep}
+use Rattle.gated_tree.specs.declared.changes.MoveStep.TheVariants.{LoadsFile as LoadsFileToMove, LoadsDirectory as LoadsTarget, ChargesChild as ChargesTarget, MovesFile, RefundsChild as RefundsOne}
+use Rattle.gated_tree.specs.declared.growth.Grow.{Grow}
+use Rattle.gated_tree.specs.declared.growth.GrowStep.{GrowStep}
+use Rattle.gated_tree.specs.declared.growth.GrowStep.TheVariants.{LoadsFile as LoadsFileToGrow, LoadsUsed, ChargesBlocks, GrowsFile, RefundsBlocks}
+use Rattle.gated_tree.specs.declared.marks.Mark.{Mark}
+use Rattle.gated_tree.specs.declared.marks.MarkStep.{MarkStep}
+use Rattle.gated_tree.specs.declared.marks.MarkStep.TheVariants.{LoadsFile as LoadsFileToMark, MarksFile}
+use Rattle.gated_tree.specs.declared.marks.ClearMarks.{ClearMarks}
+use Rattle.gated_tree.specs.declared.snapshots.Snapshot.{Snapshot}
+use Rattle.gated_tree.specs.declared.snapshots.SnapshotStep.{SnapshotStep}
+use Rattle.gated_tree.specs.declared.snapshots.SnapshotStep.TheVariants.{Locks, LoadsStage, LoadsUsed as LoadsUsedWord, LoadsNode as LoadsNodeWord, LoadsKids, Releases}
+use Rattle.gated_tree.specs.declared.phases.TreePhase.{TreePhase}
+use Rattle.gated_tree.specs.declared.phases.TreePhase.TheVariants.{Create as Creates, Remove as Removes, Grow as Grows, MoveTo as Moves, Mark as Marks, Snapshot as Snapshots, ClearMarks as Clears}
+use Rattle.gated_tree.specs.Nodes.{word_of, node_shown, file_in, dirty_in}
+use Rattle.gated_tree.specs.Phases.{next, after, after_look, create_next, create_after, remove_next, remove_after, grow_next, grow_after, move_next, move_after, mark_next, mark_after, mark_done, at_mark, snapshot_next, snapshot_after, clear_after}
+use Rattle.gated_tree.specs.Calls.{phase_role, role_after, TreePhaseFits, NextFits}
+use Rattle.gated_tree.specs.Roles.{Role, TreeHolds, sealed_by}
+use Rattle.mount_counts.specs.Roles.{Out, ro_bit}
+use Rattle.stage_laws.specs.Roles.{sums, is_full}
+use Rattle.tree_laws.specs.Events.{MovesBy}
+use Rattle.tree_laws.specs.Steps.{Notes, StepKeeps, tree_in}
+use Rattle.tree_laws.proofs.Allowed.{may_do, tree_alone}
+use Rattle.tree_laws.proofs.Fitting.{fits_after}
+use Rattle.tree_laws.proofs.Phases.{each_phase}
+use Rattle.gate_world.specs.declared.config.Config.{Config}
+use Rattle.gate_world.specs.declared.views.View.{View}
+use Rattle.gate_world.specs.declared.work.Phase.{Phase}
+use Rattle.gate_world.specs.declared.work.Phase.TheVariants.{Trees}
+use Rattle.gate_world.specs.Configs.{IsWithin, model_limits}
+use Rattle.gate_world.specs.Fits.{Fits, TreeAccess, mounts_by, levels_by}
+use Rattle.gate_world.specs.Found.{is_load}
+use Rattle.gate_world.specs.Levels.{is_frozen_whole, level_added_after, level_taken_after, level_added_by, level_taken_by}
+use Rattle.gate_world.specs.Rules.{IsGood, Holds, Part, AtMount, AtLevel, SyncAt, Sections, Fitting, Tree, ViewFits, SameView, SameWords, role_of, remounts, Moves as ModelMoves}
+use Rattle.gate_world.specs.Shown.{shown, closing}
+use Rattle.gate_world.specs.Stages.{tree_stage_role, snapshot_stage_role}
+use Rattle.gate_world.specs.Trees.{tree_bounds, tree_roles, tree_role_of, nodes_noted, is_sealed}
+use Rattle.gate_world.specs.Snapshots.{values_noted}
+use Rattle.gate_world.specs.Views.{held_at, holds_level, added_after, taken_after, added_by, taken_by, phase_after, view_after}
+use Rattle.gate_world.specs.Worlds.{World, after_step, words_after, value_at, found_at}
+use Rattle.gate_frames.proofs.Accesses.{mounts_of_after, levels_of_after}
+use Rattle.gate_frames.proofs.Frames.{IsOffLevels, added_load, taken_load, view_as, level_view_as, left_alone, shown_as}
+use Rattle.gate_frames.proofs.Keeps.{by_bool}
+use Rattle.gate_frames.proofs.MountEvents.{level_added_load, level_taken_load}
+use Rattle.gate_frames.proofs.Trees.{tree_within, tree_holds}
+use Rattle.gate_frames.proofs.Words.{load_same}
+use Rattle.gate_frames.proofs.MayTree.{LeaveFor, call_fits, leave, may_step}
+use Rattle.access_model.specs.declared.replies.Reply.TheVariants.{Unit as UnitReply}
+use Rattle.access_model.specs.declared.errors.GateError.TheVariants.{Again}
+
+-- the words of the tree
+abbrev pub is_node_word : WordName → Bool
+is_node_word Used = true
+is_node_word (Node n) = true
+is_node_word (Kids d) = true
+is_node_word word = false
+
+-- the words that calls at the tree write: those, and a snapshot `umount`
+abbrev pub is_call_word : WordName → Bool
+is_call_word Umount = true
+is_call_word Used = true
+is_call_word (Node n) = true
+is_call_word (Kids d) = true
+is_call_word word = false
+
+-- the first are among the second
+node_call : (word : WordName) → is_node_word word ≡ true → is_call_word word ≡ true
+node_call Used h = refl
+node_call (Node n) h = refl
+node_call (Kids d) h = refl
+node_call word h = absurd (true≢false (sym h))
+
+-- each event of a call but a snapshot is on a word of the tree
+create_word : (x : Create) (s : CreateStep) → is_node_word (create_next x s).0 ≡ true
+create_word x LoadsDirectory = refl
+create_word x (LoadsNode n) = refl
+create_word x (ChargesChild n) = refl
+create_word x (TakesNode n) = refl
+create_word x RefundsChild = refl
+
+remove_word : (x : Remove) (s : RemoveStep) → is_node_word (remove_next x s).0 ≡ true
+remove_word x LoadsFileToRemove = refl
+remove_word x (FreesNode file) = refl
+remove_word x (RefundsItsBlocks file) = refl
+remove_word x (RefundsItsChild file) = refl
+
+grow_word : (x : Grow) (s : GrowStep) → is_node_word (grow_next x s).0 ≡ true
+grow_word x LoadsFileToGrow = refl
+grow_word x (LoadsUsed file) = refl
+grow_word x (ChargesBlocks file used) = refl
+grow_word x (GrowsFile file) = refl
+grow_word x RefundsBlocks = refl
+
+move_word : (x : MoveTo) (s : MoveStep) → is_node_word (move_next x s).0 ≡ true
+move_word x LoadsFileToMove = refl
+move_word x (LoadsTarget file) = refl
+move_word x (ChargesTarget file) = refl
+move_word x (MovesFile file) = refl
+move_word x (RefundsOne dir answer) = refl
+
+mark_word : (x : Mark) (s : MarkStep) → is_node_word (mark_next x s).0 ≡ true
+mark_word x LoadsFileToMark = refl
+mark_word x (MarksFile file) = refl
+
+-- the call is a snapshot
+abbrev pub is_snapshot : TreePhase → Bool
+is_snapshot (Snapshots x) = true
+is_snapshot x = false
+
+-- so it is of each such call
+pub node_word : (x : TreePhase) (hook : HookAnswer) → is_snapshot x ≡ false → is_node_word (next x hook).0 ≡ true
+node_word (Creates x) hook other = create_word x x.step
+node_word (Removes x) hook other = remove_word x x.step
+node_word (Grows x) hook other = grow_word x x.step
+node_word (Moves x) hook other = move_word x x.step
+node_word (Marks x) hook other = mark_word x x.step
+node_word (Snapshots x) hook other = absurd (true≢false other)
+node_word (Clears x) hook other = refl
+
+-- the event of this touch on this word is a load, or the word is one that calls write
+abbrev pub IsCallTouch : WordName × Touch → Type 0
+IsCallTouch x = (is_load x.1 ≡ true) ⊎ (is_call_word x.0 ≡ true)
+
+-- a snapshot loads, or touches `umount`
+snapshot_touch : (x : Snapshot) (s : SnapshotStep) → IsCallTouch (snapshot_next x s)
+snapshot_touch x Locks = inr refl
+snapshot_touch x LoadsStage = inl refl
+snapshot_touch x LoadsUsedWord = inl refl
+snapshot_touch x (LoadsNodeWord n) = inl refl
+snapshot_touch x (LoadsKids n) = inl refl
+snapshot_touch x (Releases answer) = inr refl
+
+-- each event of a call is one
+pub call_touch : (x : TreePhase) (hook : HookAnswer) → IsCallTouch (next x hook)
+call_touch (Snapshots x) hook = snapshot_touch x x.step
+call_touch x hook = inr (node_call (next x hook).0 (node_word x hook refl))
+
+-- the words that no call at the tree writes are as they were
+pub record IsBesideTree (old new : Words) : Type 0 where
+  pub stage_same : new.stage ≡ old.stage
+  pub sb_same : new.sb ≡ old.sb
+  pub remount_same : new.remount ≡ old.remount
+  pub flags_same : new.flags ≡ old.flags
+  pub count_same : new.count ≡ old.count
+  pub block_same : new.block ≡ old.block
+  pub sync_same : new.sync ≡ old.sync
+  pub level_same : new.level ≡ old.level
+  pub section_same : new.section ≡ old.section
+
+-- where nothing is written, all words are
+same_beside : (w : Words) → IsBesideTree w w
+same_beside w = record {
+  stage_same = refl;
+  sb_same = refl;
+  remount_same = refl;
+  flags_same = refl;
+  count_same = refl;
+  block_same = refl;
+  sync_same = refl;
+  level_same = refl;
+  section_same = refl;
+}
+
+-- where such a word is written
+write_beside : (w : Words) (word : WordName) (n : ℕ) → is_call_word word ≡ true → IsBesideTree w (put w word n)
+write_beside w Umount n h = record {
+  stage_same = refl;
+  sb_same = refl;
+  remount_same = refl;
+  flags_same = refl;
+  count_same = refl;
+  block_same = refl;
+  sync_same = refl;
+  level_same = refl;
+  section_same = refl;
+}
+write_beside w Used n h = record {
+  stage_same = refl;
+  sb_same = refl;
+  remount_same = refl;
+  flags_same = refl;
+  count_same = refl;
+  block_same = refl;
+  sync_same = refl;
+  level_same = refl;
+  section_same = refl;
+}
+write_beside w (Node x) n h = record {
+  stage_same = refl;
+  sb_same = refl;
+  remount_same = refl;
+  flags_same = refl;
+  count_same = refl;
+  block_same = refl;
+  sync_same = refl;
+  level_same = refl;
+  section_same = refl;
+}
+write_beside w (Kids d) n h = record {
+  stage_same = refl;
+  sb_same = refl;
+  remount_same = refl;
+  flags_same = refl;
+  count_same = refl;
+  block_same = refl;
+  sync_same = refl;
+  level_same = refl;
+  section_same = refl;
+}
+write_beside w word n h = absurd (true≢false (sym h))
+
+-- and where a word is loaded
+load_beside : (w : Words) (word : WordName) (touch : Touch) → is_load touch ≡ true → IsBesideTree w (put w word (left touch (read w word)))
+load_beside w word Load h = subst (IsBesideTree w) (sym (load_same w word)) (same_beside w)
+load_beside w word touch h = absurd (true≢false (sym h))
+
+-- so they are after each event of a call
+pub call_beside : (w : Words) (x : TreePhase) (hook : HookAnswer) → IsBesideTree w (words_after w (Trees x) hook)
+call_beside w x hook =
+    elim (call_touch x hook) [
+      | inl h ↦ load_beside w (next x hook).0 (next x hook).1 h
+      | inr h ↦ write_beside w (next x hook).0 (left (next x hook).1 (read w (next x hook).0)) h
+    ]
+
+-- and the file system is frozen as a whole, and the tree sealed, as before
+pub whole_beside : (old new : Words) → IsBesideTree old new → is_frozen_whole new ≡ is_frozen_whole old
+whole_beside old new same = λ j. is_full (same.stage_same j) (same.sb_same j)
+
+pub sealed_beside : (old new : Words) → IsBesideTree old new → is_sealed new ≡ is_sealed old
+sealed_beside old new same = λ j. sealed_by (same.sb_same j) (same.stage_same j)
+
+-- a write of such a word counts at no mount and at no level
+added_call : (word : WordName) (touch : Touch) (added : ℕ → ℕ → ℕ) → is_call_word word ≡ true → added_after word touch added ≡ added
+added_call (MountCount m p) touch added h = absurd (true≢false (sym h))
+added_call word touch added h = refl
+
+taken_call : (word : WordName) (touch : Touch) (taken : ℕ → ℕ → ℕ) → is_call_word word ≡ true → taken_after word touch taken ≡ taken
+taken_call (MountCount m p) touch taken h = absurd (true≢false (sym h))
+taken_call word touch taken h = refl
+
+level_added_call : (word : WordName) (touch : Touch) (added : ℕ → ℕ → ℕ) → is_call_word word ≡ true →
+    level_added_after word touch added ≡ added
+level_added_call (LevelCount i p) touch added h = absurd (true≢false (sym h))
+level_added_call word touch added h = refl
+
+level_taken_call : (word : WordName) (touch : Touch) (taken : ℕ → ℕ → ℕ) → is_call_word word ≡ true →
+    level_taken_after word touch taken ≡ taken
+level_taken_call (LevelCount i p) touch taken h = absurd (true≢false (sym h))
+level_taken_call word touch taken h = refl
+
+-- nor does a load
+added_loaded : (word : WordName) (touch : Touch) (added : ℕ → ℕ → ℕ) → is_load touch ≡ true → added_after word touch added ≡ added
+added_loaded word Load added h = added_load word added
+added_loaded word touch added h = absurd (true≢false (sym h))
+
+taken_loaded : (word : WordName) (touch : Touch) (taken : ℕ → ℕ → ℕ) → is_load touch ≡ true → taken_after word touch taken ≡ taken
+taken_loaded word Load taken h = taken_load word taken
+taken_loaded word touch taken h = absurd (true≢false (sym h))
+
+-- so no event of a call counts anywhere
+record CountsNowhere (x : WordName × Touch) : Type 0 where
+  added : (a : ℕ → ℕ → ℕ) → added_after x.0 x.1 a ≡ a
+  taken : (a : ℕ → ℕ → ℕ) → taken_after x.0 x.1 a ≡ a
+  level_added : (a : ℕ → ℕ → ℕ) → level_added_after x.0 x.1 a ≡ a
+  level_taken : (a : ℕ → ℕ → ℕ) → level_taken_after x.0 x.1 a ≡ a
+
+-- each such touch counts nowhere
+counts_nowhere : (x : WordName × Touch) → IsCallTouch x → CountsNowhere x
+counts_nowhere x touches = elim touches [
+  | inl h ↦ record {
+    added = λ a. added_loaded x.0 x.1 a h;
+    taken = λ a. taken_loaded x.0 x.1 a h;
+    level_added = λ a. level_added_load x.0 x.1 a h;
+    level_taken = λ a. level_taken_load x.0 x.1 a h;
+  }
+  | inr h ↦ record {
+    added = λ a. added_call x.0 x.1 a h;
+    taken = λ a. taken_call x.0 x.1 a h;
+    level_added = λ a. level_added_call x.0 x.1 a h;
+    level_taken = λ a. level_taken_call x.0 x.1 a h;
+  }
+]
+
+-- an action, if there is one, leaves its task's accesses
+pub record LeavesAccesses (action : Option Action) : Type 0 where
+  pub mounts : (held : ℕ → ℕ) → mounts_by action held ≡ held
+  pub levels : (held : ℕ → Bool) → levels_by action held ≡ held
+
+-- where there is none
+leaves_none : LeavesAccesses None
+leaves_none = record { mounts = λ held. refl; levels = λ held. refl }
+
+-- where there is one that does, or none
+leaves_if : (b : Bool) (action : Action) → LeavesAccesses (Some action) → LeavesAccesses (if b then Some action else None)
+leaves_if true action h = h
+leaves_if false action h = leaves_none
+
+create_leaves : (x : Create) (s : CreateStep) (found : ℕ) → LeavesAccesses (create_after x s found).1
+create_leaves x LoadsDirectory found = leaves_none
+create_leaves x (LoadsNode n) found = leaves_none
+create_leaves x (ChargesChild n) found = leaves_none
+create_leaves x (TakesNode n) found = leaves_if (found == 0) _ (record { mounts = λ held. refl; levels = λ held. refl })
+create_leaves x RefundsChild found = leaves_none
+
+remove_leaves : (x : Remove) (s : RemoveStep) (found : ℕ) → LeavesAccesses (remove_after x s found).1
+remove_leaves x LoadsFileToRemove found = leaves_none
+remove_leaves x (FreesNode file) found = leaves_if (found == word_of file) _ (record { mounts = λ held. refl; levels = λ held. refl })
+remove_leaves x (RefundsItsBlocks file) found = leaves_none
+remove_leaves x (RefundsItsChild file) found = leaves_none
+
+grow_leaves : (x : Grow) (s : GrowStep) (found : ℕ) → LeavesAccesses (grow_after x s found).1
+grow_leaves x LoadsFileToGrow found = leaves_none
+grow_leaves x (LoadsUsed file) found = leaves_none
+grow_leaves x (ChargesBlocks file used) found = leaves_none
+grow_leaves x (GrowsFile file) found = leaves_if (found == word_of file) _ (record { mounts = λ held. refl; levels = λ held. refl })
+grow_leaves x RefundsBlocks found = leaves_none
+
+move_leaves : (x : MoveTo) (s : MoveStep) (found : ℕ) → LeavesAccesses (move_after x s found).1
+move_leaves x LoadsFileToMove found = leaves_none
+move_leaves x (LoadsTarget file) found = leaves_none
+move_leaves x (ChargesTarget file) found = leaves_none
+move_leaves x (MovesFile file) found = leaves_if (found == word_of file) _ (record { mounts = λ held. refl; levels = λ held. refl })
+move_leaves x (RefundsOne dir answer) found = leaves_none
+
+done_leaves : (dirty : Bool) (file : ℕ) → LeavesAccesses (Some (mark_done dirty file))
+done_leaves true file = record { mounts = λ held. refl; levels = λ held. refl }
+done_leaves false file = record { mounts = λ held. refl; levels = λ held. refl }
+
+mark_leaves : (x : Mark) (s : MarkStep) (found : ℕ) → LeavesAccesses (mark_after x s found).1
+mark_leaves x LoadsFileToMark found = leaves_none
+mark_leaves x (MarksFile file) found = leaves_if (found == word_of file) _ (done_leaves x.dirty x.file)
+
+snapshot_leaves : (x : Snapshot) (s : SnapshotStep) (found : ℕ) → LeavesAccesses (snapshot_after x s found).1
+snapshot_leaves x Locks found = leaves_none
+snapshot_leaves x LoadsStage found = leaves_none
+snapshot_leaves x LoadsUsedWord found = leaves_none
+snapshot_leaves x (LoadsNodeWord n) found = leaves_none
+snapshot_leaves x (LoadsKids n) found = leaves_none
+snapshot_leaves x (Releases answer) found = leaves_none
+
+clear_leaves : (x : ClearMarks) (found : ℕ) → LeavesAccesses (clear_after x found).1
+clear_leaves x found = leaves_if (dirty_in found == 1) _ (record { mounts = λ held. refl; levels = λ held. refl })
+
+-- so does the action of each event of a call
+pub call_leaves : (x : TreePhase) (found : ℕ) (hook : HookAnswer) → LeavesAccesses (after x found hook).1
+call_leaves (Creates x) found hook = create_leaves x x.step found
+call_leaves (Removes x) found hook = remove_leaves x x.step found
+call_leaves (Grows x) found hook = grow_leaves x x.step found
+call_leaves (Moves x) found hook = move_leaves x x.step found
+call_leaves (Marks x) found hook = mark_leaves x x.step found
+call_leaves (Snapshots x) found hook = snapshot_leaves x x.step found
+call_leaves (Clears x) found hook = clear_leaves x found
+
+module _ (c : Config) (held : ℕ → ℕ) (levels : ℕ → Bool) where
+  -- what comes after an event is a call at which its task may be
+  abbrev pub AccessAfter : Next TreePhase → Type 0
+  AccessAfter (Go x) = TreeAccess c held levels x
+  AccessAfter (Wait x) = TreeAccess c held levels x
+  AccessAfter (Done answer) = Unit {0}
+
+  -- a phase of the same call
+  comes_with : {P : Type 0} (to : P → TreePhase) → ((y : P) → TreeAccess c held levels (to y)) → (n : Next P) → AccessAfter (map_next to n)
+  comes_with to may (Go y) = may y
+  comes_with to may (Wait y) = may y
+  comes_with to may (Done answer) = tt
+
+  -- after a look at a file
+  looked_with : {A : Type 0} (again : Mark) (from : A → Mark) → TreeAccess c held levels (Marks again) →
+      ((a : A) → TreeAccess c held levels (Marks (from a))) → (r : Option (Result A GateError)) →
+      AccessAfter (map_next Marks (after_look again from r))
+  looked_with again from may more None = may
+  looked_with again from may more (Some (Ok a)) = more a
+  looked_with again from may more (Some (Err refusal)) = tt
+
+  -- after an event of a page fault or a write-back
+  mark_access : (x : Mark) (s : MarkStep) (found : ℕ) → TreeAccess c held levels (Marks x) →
+      AccessAfter (map_next Marks (mark_after x s found).0)
+  mark_access x LoadsFileToMark found may =
+      looked_with (at_mark x LoadsFileToMark) (λ file. at_mark x (MarksFile file)) may (λ file. may) (file_in found)
+  mark_access x (MarksFile file) found may =
+      by_bool (found == word_of file) (λ b. AccessAfter (map_next Marks (if b then Done (Ok UnitReply) else Done (Err Again)))) tt tt
+
+  -- a call keeps its task's accesses
+  pub access_after : (x : TreePhase) (found : ℕ) (hook : HookAnswer) → TreeAccess c held levels x → AccessAfter (after x found hook).0
+  access_after (Creates x) found hook may = comes_with Creates (λ y. may) (create_after x x.step found).0
+  access_after (Removes x) found hook may = comes_with Removes (λ y. may) (remove_after x x.step found).0
+  access_after (Grows x) found hook may = comes_with Grows (λ y. may) (grow_after x x.step found).0
+  access_after (Moves x) found hook may = comes_with Moves (λ y. may) (move_after x x.step found).0
+  access_after (Marks x) found hook may = mark_access x x.step found may
+  access_after (Snapshots x) found hook may = comes_with Snapshots (λ y. may) (snapshot_after x x.step found).0
+  access_after (Clears x) found hook may = absurd may
+
+  -- so what comes after it fits
+  next_fits : (t : ℕ) (n : Next TreePhase) → NextFits (tree_bounds c) t n → AccessAfter n →
+      Fits c t held levels (phase_after (map_next Trees n))
+  next_fits t (Go x) fits may = (fits, may)
+  next_fits t (Wait x) fits may = (fits, may)
+  next_fits t (Done answer) fits may = tt
+
+  pub call_goes_on : IsWithin c → (t : ℕ) (x : TreePhase) (found : ℕ) (hook : HookAnswer) →
+      TreePhaseFits (tree_bounds c) t x × TreeAccess c held levels x →
+      Fits c t held levels (phase_after (map_next Trees (after x found hook).0))
+  call_goes_on within t x found hook fits =
+      next_fits t (after x found hook).0 (fits_after (tree_bounds c) (tree_within c within) t x found hook fits.0)
+      (access_after x found hook fits.1)
+
+  -- and its task's accesses are the same
+  pub call_goes : IsWithin c → (t : ℕ) (x : TreePhase) (found : ℕ) (hook : HookAnswer) →
+      TreePhaseFits (tree_bounds c) t x × TreeAccess c held levels x →
+      Fits c t (mounts_by (after x found hook).1 held) (levels_by (after x found hook).1 levels)
+      (phase_after (map_next Trees (after x found hook).0))
+  call_goes within t x found hook fits =
+      let leaves : LeavesAccesses (after x found hook).1 = call_leaves x found hook in
+      subst (λ k. Fits c t k (levels_by (after x found hook).1 levels) (phase_after (map_next Trees (after x found hook).0)))
+      (sym (leaves.mounts held))
+      (subst (λ k. Fits c t held k (phase_after (map_next Trees (after x found hook).0))) (sym (leaves.levels levels))
+      (call_goes_on within t x found hook fits))
+
+-- a phase that is at no mount, no level and no section, and closes no level
+pub record IsOffGates (p : Option Phase) : Type 0 where
+  pub out_of_mounts : (m : ℕ) → role_of m p ≡ Out
+  pub off_levels : IsOffLevels p
+  pub closing_none : (i : ℕ) → closing i p ≡ 0
+  pub remounts_none : remounts p ≡ 0
+
+-- no operation is under way
+idle_off : IsOffGates None
+idle_off = record {
+  out_of_mounts = λ m. refl;
+  off_levels = record { counts_not = λ i. refl; apart = λ i. refl; outside = refl };
+  closing_none = λ i. refl;
+  remounts_none = refl;
+}
+
+-- a snapshot closes no level
+snapshot_closing : (i : ℕ) (s : SnapshotStep) → sums i (snapshot_stage_role s) ≡ 0
+snapshot_closing i Locks = refl
+snapshot_closing i LoadsStage = refl
+snapshot_closing i LoadsUsedWord = refl
+snapshot_closing i (LoadsNodeWord n) = refl
+snapshot_closing i (LoadsKids n) = refl
+snapshot_closing i (Releases answer) = refl
+
+-- nor does another call
+tree_closing : (i : ℕ) (x : TreePhase) → sums i (tree_stage_role x) ≡ 0
+tree_closing i (Snapshots x) = snapshot_closing i x.step
+tree_closing i x = refl
+
+-- a call at the tree is one
+pub call_off : (x : TreePhase) → IsOffGates (Some (Trees x))
+call_off x = record {
+  out_of_mounts = λ m. refl;
+  off_levels = record { counts_not = λ i. refl; apart = λ i. refl; outside = refl };
+  closing_none = λ i. tree_closing i x;
+  remounts_none = refl;
+}
+
+-- and what comes after it
+pub next_off : (n : Next TreePhase) → IsOffGates (phase_after (map_next Trees n))
+next_off (Go x) = call_off x
+next_off (Wait x) = call_off x
+next_off (Done answer) = idle_off
+
+-- the parts that no event of a call touches
+abbrev pub is_gate_part : Part → Bool
+is_gate_part (AtMount m) = true
+is_gate_part (AtLevel i) = true
+is_gate_part (SyncAt i) = true
+is_gate_part Sections = true
+is_gate_part part = false
+
+-- what they read of the words
+gate_words : (part : Part) → is_gate_part part ≡ true → (old new : Words) → IsBesideTree old new → SameWords old new part
+gate_words (AtMount m) h old new same = (ap (λ f. f m) same.flags_same, same.remount_same, same.sb_same, ap (λ f. f m) same.count_same)
+gate_words (AtLevel i) h old new same = (ap (λ f. f i) same.block_same, ap (λ f. f i) same.level_same, whole_beside old new same)
+gate_words (SyncAt i) h old new same =
+    (ap (λ f. f i) same.sync_same, ap (λ f. f i) same.block_same, same.section_same, whole_beside old new same)
+gate_words Sections h old new same = same.section_same
+gate_words part h old new same = absurd (true≢false (sym h))
+
+module _ (c : Config) (w : World) (good : IsGood c w) (t : ℕ) (lt : t < c.tasks) (x : TreePhase) (hook : HookAnswer)
+    (e : (w.views t).phase ≡ Some (Trees x)) where
+  -- the words and the task's view after its next event, what the event finds, what comes after it, and its action
+  abbrev pub call_words : Words
+  call_words = words_after w.words (Trees x) hook
+
+  abbrev pub call_view : View
+  call_view = view_after (w.views t) (Trees x) (value_at w.words (Trees x) hook) hook
+
+  abbrev pub call_found : ℕ
+  call_found = found_at w.words (Trees x) hook
+
+  abbrev pub call_next : Next TreePhase
+  call_next = (after x call_found hook).0
+
+  abbrev pub call_action : Option Action
+  call_action = (after x call_found hook).1
+
+  -- it holds what it held
+  pub held_still : held_at call_view ≡ held_at (w.views t)
+  held_still = mounts_of_after call_action (w.views t).actions ∙ (call_leaves x call_found hook).mounts (held_at (w.views t))
+
+  pub levels_still : holds_level call_view ≡ holds_level (w.views t)
+  levels_still = levels_of_after call_action (w.views t).actions ∙ (call_leaves x call_found hook).levels (holds_level (w.views t))
+
+  -- what was at no gate is at none
+  was_off : IsOffGates (w.views t).phase
+  was_off = subst IsOffGates (sym e) (call_off x)
+
+  now_off : IsOffGates call_view.phase
+  now_off = next_off call_next
+
+  -- what the parts of mounts, levels and sections read of the task's view is the same
+  gate_view : (part : Part) → is_gate_part part ≡ true → SameView (w.views t) call_view part
+  gate_view (AtMount m) h =
+      let none : CountsNowhere (next x hook) = counts_nowhere (next x hook) (call_touch x hook) in
+      view_as (ap (λ f. f m) held_still) (ap (λ f. f m) (none.added (added_by (w.views t).events)))
+      (ap (λ f. f m) (none.taken (taken_by (w.views t).events))) (now_off.out_of_mounts m ∙ sym (was_off.out_of_mounts m))
+  gate_view (AtLevel i) h =
+      let none : CountsNowhere (next x hook) = counts_nowhere (next x hook) (call_touch x hook) in
+      level_view_as (ap (λ (f : ℕ → Bool). if f i then 1 else 0) levels_still)
+      (ap (λ f. f i) (none.level_added (level_added_by (w.views t).events)))
+      (ap (λ f. f i) (none.level_taken (level_taken_by (w.views t).events)))
+      (now_off.off_levels.counts_not i ∙ sym (was_off.off_levels.counts_not i))
+  gate_view (SyncAt i) h = now_off.off_levels.apart i ∙ sym (was_off.off_levels.apart i)
+  gate_view Sections h = now_off.off_levels.outside ∙ sym was_off.off_levels.outside
+  gate_view part h = absurd (true≢false (sym h))
+
+  -- so the event leaves them alone
+  pub gate_parts : (part : Part) → is_gate_part part ≡ true → Holds c (after_step w t (Trees x) hook) part
+  gate_parts part h =
+      left_alone c w t lt part call_words call_view (gate_words part h w.words call_words (call_beside w.words x hook)) (gate_view part h)
+      (good part)
+
+  -- what comes after the event fits its task's accesses
+  pub call_fitting : IsWithin c → Holds c (after_step w t (Trees x) hook) Fitting
+  call_fitting within y ly =
+      each_updated (λ z (u : View). ViewFits c z u) w.views t call_view y
+      (subst (λ k. Fits c t k (holds_level call_view) call_view.phase) (sym held_still)
+      (subst (λ k. Fits c t (held_at (w.views t)) k call_view.phase) (sym levels_still)
+      (call_goes_on c (held_at (w.views t)) (holds_level (w.views t)) within t x call_found hook (call_fits c w good t lt x e))))
+      (λ ne. good Fitting y ly)
+
+  -- the shown model is as it was but for the tree
+  pub call_shown : shown c (after_step w t (Trees x) hook) ≡ record (shown c w) { tree = λ n. node_shown (call_words.node n) }
+  call_shown =
+      let same : IsBesideTree w.words call_words = call_beside w.words x hook in
+      shown_as c w t lt call_words call_view same.block_same (λ i. now_off.closing_none i ∙ sym (was_off.closing_none i)) ∙
+      (λ j. record (shown c w) {
+        mounts = (ap (update (λ y. held_at (w.views y)) t) held_still ∙ update_same (λ y. held_at (w.views y)) t) j;
+        levels = (ap (update (λ y. holds_level (w.views y)) t) levels_still ∙ update_same (λ y. holds_level (w.views y)) t) j;
+        mount_ro = λ m. ro_bit (same.flags_same j m) == 1;
+        sb_ro = same.remount_same j == 1 || same.sb_same j == 1;
+        stage = same.stage_same j;
+        tree = λ n. node_shown (call_words.node n);
+      })
+
+  -- so where the nodes that are shown move by the event's action, the model does
+  shown_moves : (action : Option Action) → LeaveFor c w good t lt action →
+      MovesBy (tree_bounds c) w.words.node call_words.node action →
+      ModelMoves c (shown c w) t action (shown c (after_step w t (Trees x) hook))
+  shown_moves None leave moves = call_shown ∙ (λ j. record (shown c w) { tree = moves j })
+  shown_moves (Some action) leave moves = (
+    (lt, may_do (model_limits c) (shown c w) t action leave moves.allowed),
+    call_shown ∙ (λ j. record (shown c w) { tree = moves.effect j }) ∙ sym (tree_alone (model_limits c) (shown c w) t action leave),
+  )
+
+  -- what the tree's own law says of the event, where a snapshot has noted this after it
+  abbrev pub TreeKeeps : Type 0
+  TreeKeeps =
+      Holds c (after_step w t (Trees x) hook) Tree × MovesBy (tree_bounds c) w.words.node call_words.node call_action
+
+  pub call_keeps : IsWithin c → (noted : ℕ → ℕ) → Notes x (values_noted (nodes_noted x) (w.views t).trace) noted call_found →
+      role_after (phase_role noted) call_next ≡ tree_role_of call_view.trace call_view.phase → TreeKeeps
+  call_keeps within noted notes role =
+      let kept : StepKeeps (tree_bounds c) (is_sealed w.words) w.words (tree_roles w) t x noted hook =
+      each_phase (tree_bounds c) (tree_within c within) (is_sealed w.words) w.words (tree_roles w) (good Tree) t lt x
+      (values_noted (nodes_noted x) (w.views t).trace) noted hook (ap (tree_role_of (w.views t).trace) e) (call_fits c w good t lt x e).0
+      (may_step c w good t lt x e) notes in
+      let now_roles : ℕ → Role = update (tree_roles w) t (tree_role_of call_view.trace call_view.phase) in (
+        tree_holds c w good t lt call_words call_view
+            (subst (λ s. TreeHolds (tree_bounds c) (tree_in s call_words now_roles))
+            (sym (sealed_beside w.words call_words (call_beside w.words x hook)))
+            (subst (λ r. TreeHolds (tree_bounds c) (tree_in (is_sealed w.words) call_words (update (tree_roles w) t r))) role kept.0)),
+        kept.1,
+      )
+
+  -- so the shown model moves by the event's action
+  pub call_moves : TreeKeeps → ModelMoves c (shown c w) t call_action (shown c (after_step w t (Trees x) hook))
+  call_moves kept = shown_moves call_action (leave c w good t lt x call_found hook e) kept.1

@@ -1,0 +1,334 @@
+-- What an event of a freeze or a thaw may leave: each part of the rule, and the shown model.
+use Rattle.cpu_words.specs.Sums.{sum_taking}
+use Rattle.access_model.specs.States.{Limits}
+use Rattle.percpu_rwsem.specs.Graces.{looked}
+use Rattle.gated_tree.specs.Nodes.{node_shown}
+use Rattle.gate_world.specs.Configs.{model_limits}
+use Rattle.percpu_rwsem.specs.SyncWords.{is_passed, on_enter, on_callback, unpack}
+use Rattle.percpu_rwsem.specs.Transitions.{transition_after}
+use Rattle.cpu_words.specs.declared.sums.Taken.TheVariants.{More as MoreWords, Total}
+use Rattle.gate_frames.proofs.Keeps.{by_bool}
+use Rattle.percpu_rwsem.specs.declared.grace.GraceNext.TheVariants.{More as MoreSections, Wait as WaitsFor, Ended}
+use Rattle.gate_frames.proofs.Frames.{left_alone, view_as}
+use Rattle.cpu_words.specs.declared.sums.Taken.{Taken}
+use Rattle.percpu_rwsem.specs.declared.sync_word.SyncWord.{SyncWord}
+use Rattle.percpu_rwsem.specs.declared.grace.GraceNext.{GraceNext}
+use Rattle.cpu_words.specs.Touches.{found_by, event_of}
+use Rattle.access_model.specs.declared.replies.Reply.TheVariants.{Unit as UnitReply}
+use Rattle.std.proofs.lemmas.Bool.{cases_Bool, lt-ltb}
+use Rattle.stage_laws.specs.Shown.{state_after, ShowsStages, AsksOthers}
+use Rattle.finite_sums.proofs.Totals.{each_updated}
+use Rattle.gate_frames.proofs.Standing.{LevelsHold}
+use Rattle.std.proofs.lemmas.Bool.Decides.{eqb_tells}
+use Rattle.gate_world.specs.Found.{is_load}
+use Rattle.gate_frames.proofs.Standing.{left_world}
+use Rattle.gate_frames.proofs.MountEvents.{is_known_part, known_is}
+use Rattle.finite_sums.specs.Sums.{update}
+use Rattle.freeze_levels.specs.Thaws.{thaw_next, thaw_after}
+use Rattle.gate_world.specs.Fits.{FreezeFits}
+use Rattle.freeze_levels.specs.Freezes.{freeze_next, level_closed, freeze_after, after_closing}
+use Rattle.percpu_rwsem.specs.Writers.{sum_begun, at_down_write, down_write_next, up_write_next, down_write_after, sections_awaited, passed_awaited, down_write_summed, enter_step, callback_step}
+use Rattle.gate_frames.proofs.Known.{IsOwnersWork, known_after}
+use Rattle.gate_world.specs.Shown.{shown, stage_roles}
+use Rattle.gate_frames.proofs.Stages.{stages_after, stage_action, shown_by, IsStageEvent, stages_in, stage_effect}
+use Rattle.access_model.specs.Replies.{map_next}
+use Rattle.mount_counts.specs.Roles.{Out}
+use Rattle.freeze_levels.specs.declared.thaws.ThawStep.{ThawStep}
+use Rattle.freeze_levels.specs.declared.freezes.FreezeStep.{FreezeStep}
+use Rattle.gate_world.specs.Stages.{reopening_role, freeze_stage_role, thaw_stage_role, stage_role_of}
+use Rattle.gate_world.specs.Owners.{is_owned, takes_lock}
+use Rattle.percpu_rwsem.specs.declared.writers.DownWriteStep.{DownWriteStep}
+use Rattle.cpu_words.specs.Hooks.{HookAnswer}
+use Rattle.access_model.specs.declared.actions.Action.{Action}
+use Rattle.access_model.specs.declared.actions.NodeInfo.{NodeInfo}
+use Rattle.gate_world.specs.Views.{phase_after, held_at, holds_level, added_by, taken_by}
+use Rattle.gate_world.specs.declared.work.Phase.TheVariants.{Freezes, Thaws}
+use Rattle.gate_world.specs.Rules.{Stages, Fitting, Known, Tree, AtMount, Sections, role_of, IsGood, OwnerHolds, Part, Moves, owns, remounts, StepKeeps, Holds, ViewFits, AtLevel, SyncAt, Owner}
+use Rattle.gate_world.specs.Worlds.{World, value_at, after_step, phase_action}
+use Rattle.percpu_rwsem.specs.declared.writers.UpWriteStep.{UpWriteStep}
+use Rattle.percpu_rwsem.specs.declared.writers.UpWrite.{UpWrite}
+use Rattle.percpu_rwsem.specs.declared.writers.DownWrite.{DownWrite}
+use Rattle.gate_world.specs.declared.config.Config.{Config}
+use Rattle.access_model.specs.States.{State}
+use Rattle.gate_world.specs.declared.views.View.{View}
+use Rattle.cpu_words.specs.Words.{Words}
+use Rattle.access_model.specs.declared.replies.Next.{Next}
+use Rattle.freeze_levels.specs.declared.thaws.Thaw.{Thaw}
+use Rattle.freeze_levels.specs.declared.freezes.Freeze.{Freeze}
+use Rattle.gate_world.specs.declared.work.Phase.{Phase}
+use Rattle.std.proofs.Common.{◌≡◌, ℕ, ◌<◌, ◌≤◌, true, false, refl, sym, ap, ◌∙◌, subst, inl, inr, arith, true≢false, ◌⊎◌, nat_lt}
+use Rattle.std.specs.Prelude.{if◌then◌else◌, ◌==◌, Option, Some, None, Ok}
+use Rattle.freeze_levels.specs.declared.freezes.FreezeStep.TheVariants.{Locks as FreezeLocks, Closes, LocksAgain, Reopens as FreezeReopens}
+use Rattle.freeze_levels.specs.declared.thaws.ThawStep.TheVariants.{Locks as ThawLocks, Reopens as ThawReopens}
+use Rattle.percpu_rwsem.specs.declared.writers.DownWriteStep.TheVariants.{Enters, AwaitsSections, CallsBack, AwaitsPassed, SetsBlock, Sums}
+use Rattle.percpu_rwsem.specs.declared.writers.UpWriteStep.TheVariants.{ClearsBlock, Exits}
+use Rattle.percpu_rwsem.specs.declared.transitions.Transition.TheVariants.{Loads, Exchanges}
+use Rattle.access_model.specs.declared.replies.Next.TheVariants.{Go, Wait, Done}
+use Rattle.stage_laws.specs.Roles.{owns as stage_owns, bit}
+use Rattle.stage_laws.specs.Events.{StageEvent, action_of as stage_action_of}
+
+-- A phase of a freeze or a thaw, or none: it has no role at a mount, and `remount` not set.
+pub record IsWriter (p : Option Phase) : Type 0 where
+  pub out_of_mounts : (m : ℕ) → role_of m p ≡ Out
+  pub remounts_none : remounts p ≡ 0
+
+-- no operation is under way
+pub idle_writes : IsWriter None
+idle_writes = record { out_of_mounts = λ m. refl; remounts_none = refl }
+
+-- a freeze
+pub freezes_write : (x : Freeze) → IsWriter (Some (Freezes x))
+freezes_write x = record { out_of_mounts = λ m. refl; remounts_none = refl }
+
+-- a thaw, too
+pub thaws_write : (x : Thaw) → IsWriter (Some (Thaws x))
+thaws_write x = record { out_of_mounts = λ m. refl; remounts_none = refl }
+
+-- what comes after an event of a freeze
+pub freeze_comes : (n : Next Freeze) → IsWriter (phase_after (map_next Freezes n))
+freeze_comes (Go x) = freezes_write x
+freeze_comes (Wait x) = freezes_write x
+freeze_comes (Done answer) = idle_writes
+
+-- and after one of a thaw
+pub thaw_comes : (n : Next Thaw) → IsWriter (phase_after (map_next Thaws n))
+thaw_comes (Go x) = thaws_write x
+thaw_comes (Wait x) = thaws_write x
+thaw_comes (Done answer) = idle_writes
+
+-- the words that no freeze and no thaw writes are as they were
+pub record IsBeside (old new : Words) : Type 0 where
+  pub flags_same : new.flags ≡ old.flags
+  pub count_same : new.count ≡ old.count
+  pub remount_same : new.remount ≡ old.remount
+  pub sb_same : new.sb ≡ old.sb
+
+-- the view counts what it counted at mounts, and holds what it held
+pub record SameAtMounts (old new : View) : Type 0 where
+  pub held_same : held_at new ≡ held_at old
+  pub levels_same : holds_level new ≡ holds_level old
+  pub added_same : added_by new.events ≡ added_by old.events
+  pub taken_same : taken_by new.events ≡ taken_by old.events
+
+-- what a state shows of the accesses, the mounts and the tree: these accesses and mounts, and this tree
+pub record LeavesRest (old new : State) (tree : ℕ → Option NodeInfo) : Type 0 where
+  pub mounts_same : new.mounts ≡ old.mounts
+  pub levels_same : new.levels ≡ old.levels
+  pub ro_same : new.mount_ro ≡ old.mount_ro
+  pub tree_same : new.tree ≡ tree
+
+-- what an action, if there is one, asks of other parts than the stage
+abbrev pub AsksWhere : Limits → State → Option Action → Type 0
+AsksWhere l s None = Unit {0}
+AsksWhere l s (Some a) = AsksOthers l s a
+
+module _ (c : Config) (w : World) (good : IsGood c w) (t : ℕ) (lt : t < c.tasks) (ws : Words) (v : View) (action : Option Action)
+    (kind : StageEvent) where
+  -- All that is to be known of an event of a freeze or a thaw: what it leaves of the words and of its task's view, which event of the
+  -- stage it is, and what it adds.
+  pub record WriterEvent : Type 0 where
+    pub words : IsBeside w.words ws
+    pub counts : SameAtMounts (w.views t) v
+    pub was : IsWriter (w.views t).phase
+    pub now : IsWriter v.phase
+    pub owner : OwnerHolds c.tasks ws.umount ws.remount (λ y. (update w.views t v y).phase)
+    pub levels : LevelsHold c (left_world w t ws v)
+    pub tree : Holds c (left_world w t ws v) Tree
+    pub fits : ViewFits c t v
+    pub happens : IsStageEvent c w good t lt ws v kind
+    pub adds : stage_action_of kind (stages_in w) ≡ action
+    pub asks : AsksWhere (model_limits c) (shown c w) action
+    pub rest : LeavesRest (shown c w) (state_after (shown c w) t action) (λ n. node_shown (ws.node n))
+
+  -- each part but what the owner knows
+  abbrev pub PartsHold : Type 0
+  PartsHold = (part : Part) → is_known_part part ≡ false → Holds c (left_world w t ws v) part
+
+  -- so each part holds after it
+  pub writer_parts : WriterEvent → PartsHold
+  writer_parts h Owner k = h.owner
+  writer_parts h Stages k = stages_after c w good t lt ws v kind h.happens
+  writer_parts h Fitting k = λ y ly. each_updated (λ z (u : View). ViewFits c z u) w.views t v y h.fits (λ ne. good Fitting y ly)
+  writer_parts h Known k = absurd (true≢false k)
+  writer_parts h Tree k = h.tree
+  writer_parts h (AtMount m) k =
+      left_alone c w t lt (AtMount m) ws v
+      (ap (λ f. f m) h.words.flags_same, h.words.remount_same, h.words.sb_same, ap (λ f. f m) h.words.count_same)
+      (view_as (ap (λ f. f m) h.counts.held_same) (ap (λ f. f m) h.counts.added_same) (ap (λ f. f m) h.counts.taken_same)
+      (h.now.out_of_mounts m ∙ sym (h.was.out_of_mounts m))) (good (AtMount m))
+  writer_parts h (AtLevel i) k = h.levels.0 i
+  writer_parts h (SyncAt i) k = h.levels.1 i
+  writer_parts h Sections k = h.levels.2
+
+  -- and the shown model is what its action makes of it
+  effect_shown : WriterEvent → shown c (left_world w t ws v) ≡ state_after (shown c w) t action
+  effect_shown h =
+      shown_by c w good t lt ws v h.words.flags_same h.counts.held_same h.counts.levels_same (state_after (shown c w) t action)
+      (subst (λ a. ShowsStages c.tasks ws.stage ws.sb ws.remount ws.block (update (stage_roles w) t (stage_role_of v.phase))
+      (state_after (shown c w) t a)) h.adds (stage_effect c w good t lt ws v kind h.happens))
+      h.rest.mounts_same h.rest.levels_same h.rest.ro_same h.rest.tree_same
+
+-- the shown model moves by the action
+writer_moves : (c : Config) (w : World) (good : IsGood c w) (t : ℕ) (lt : t < c.tasks) (ws : Words) (v : View) (action : Option Action)
+    (kind : StageEvent) → WriterEvent c w good t lt ws v action kind → Moves c (shown c w) t action (shown c (left_world w t ws v))
+writer_moves c w good t lt ws v None kind h = effect_shown c w good t lt ws v None kind h
+writer_moves c w good t lt ws v (Some a) kind h =
+    (stage_action c w good t lt ws v kind h.happens a h.adds h.asks, effect_shown c w good t lt ws v (Some a) kind h)
+
+-- the law of an event: each part but what the owner knows, and the shown model
+abbrev pub WriterLaw : Config → World → ℕ → Words → View → Option Action → Type 0
+WriterLaw c w t ws v action =
+    ((part : Part) → is_known_part part ≡ false → Holds c (left_world w t ws v) part) ×
+    Moves c (shown c w) t action (shown c (left_world w t ws v))
+
+-- so it is of such an event
+pub writer_law : (c : Config) (w : World) (good : IsGood c w) (t : ℕ) (lt : t < c.tasks) (ws : Words) (v : View) (action : Option Action)
+    (kind : StageEvent) → WriterEvent c w good t lt ws v action kind → WriterLaw c w t ws v action
+writer_law c w good t lt ws v action kind h =
+    (writer_parts c w good t lt ws v action kind h, writer_moves c w good t lt ws v action kind h)
+
+-- the law of the next event of a phase, as this
+abbrev pub WriterKeeps : Config → World → ℕ → HookAnswer → Phase → Type 0
+WriterKeeps c w t hook phase =
+    ((part : Part) → is_known_part part ≡ false → Holds c (after_step w t phase hook) part) ×
+    Moves c (shown c w) t (phase_action w hook (Some phase)) (shown c (after_step w t phase hook))
+
+-- what the owner knows moves with its trace
+pub whole_writer : (c : Config) (w : World) (t : ℕ) → t < c.tasks → IsGood c w → (hook : HookAnswer) (phase : Phase) →
+    (w.views t).phase ≡ Some phase → IsOwnersWork w phase hook → WriterKeeps c w t hook phase → StepKeeps c w t hook phase
+whole_writer c w t lt good hook phase e work keeps = (
+  λ part. elim (cases_Bool (is_known_part part)) [
+    | inl h ↦ subst (Holds c (after_step w t phase hook)) (sym (known_is part h)) (known_after c w t phase hook good lt e work)
+    | inr h ↦ keeps.0 part h
+  ],
+  keeps.1,
+)
+
+-- What comes after an event of a down-write is the same one with another step, or it is done.
+module _ (d : DownWrite) (P : Next DownWrite → Type 0) (go : (s : DownWriteStep) → P (Go (at_down_write d s)))
+    (wait : (s : DownWriteStep) → P (Wait (at_down_write d s))) (done : P (Done (Ok UnitReply))) where
+  -- after a load of a section word
+  sections_come : (n : GraceNext) → P (sections_awaited d n)
+  sections_come (MoreSections grace) = go (AwaitsSections grace)
+  sections_come (WaitsFor grace) = wait (AwaitsSections grace)
+  sections_come Ended = go (CallsBack Loads)
+
+  -- after a load of the sync word
+  passed_comes : (o : Option SyncWord) → P (passed_awaited d o)
+  passed_comes None = go AwaitsPassed
+  passed_comes (Some word) =
+      by_bool (is_passed word.state) (λ b. P (if b then Go (at_down_write d SetsBlock) else Wait (at_down_write d AwaitsPassed)))
+      (go SetsBlock) (wait AwaitsPassed)
+
+  -- after a load of a count
+  summed_comes : (n : Taken) → P (down_write_summed d n).0
+  summed_comes (MoreWords sum) = go (Sums sum)
+  summed_comes (Total total) =
+      by_bool (total == 0) (λ b. P (if b then Done (Ok UnitReply) else Wait (at_down_write d sum_begun))) done (wait sum_begun)
+
+  -- after each event
+  pub down_write_comes : (s : DownWriteStep) (found : ℕ) → P (down_write_after d s found).0
+  down_write_comes (Enters transition) found = go (enter_step d.tasks (transition_after on_enter transition found))
+  down_write_comes (AwaitsSections grace) found = sections_come (looked grace found)
+  down_write_comes (CallsBack transition) found = go (callback_step (transition_after on_callback transition found))
+  down_write_comes AwaitsPassed found = passed_comes (unpack found)
+  down_write_comes SetsBlock found =
+      by_bool (found == 0) (λ b. P (if b then Go (at_down_write d sum_begun) else Wait (at_down_write d SetsBlock)))
+      (go sum_begun) (wait SetsBlock)
+  down_write_comes (Sums sum) found = summed_comes (sum_taking sum found d.processors)
+
+-- a down-write changes no word that only the owner changes
+down_write_off : (d : DownWrite) (s : DownWriteStep) → is_owned (down_write_next d s).0 ≡ false
+down_write_off d (Enters Loads) = refl
+down_write_off d (Enters (Exchanges from to)) = refl
+down_write_off d (AwaitsSections grace) = refl
+down_write_off d (CallsBack Loads) = refl
+down_write_off d (CallsBack (Exchanges from to)) = refl
+down_write_off d AwaitsPassed = refl
+down_write_off d SetsBlock = refl
+down_write_off d (Sums sum) = refl
+
+-- nor does an up-write
+up_write_off : (u : UpWrite) (s : UpWriteStep) → is_owned (up_write_next u s).0 ≡ false
+up_write_off u ClearsBlock = refl
+up_write_off u (Exits Loads) = refl
+up_write_off u (Exits (Exchanges from to)) = refl
+
+-- who reopens levels owns `umount`
+pub reopening_owns : (level : ℕ) (s : UpWriteStep) → stage_owns (reopening_role level s) ≡ 1
+reopening_owns level ClearsBlock = refl
+reopening_owns level (Exits transition) = refl
+
+-- a freeze changes an owned word as the owner
+freeze_changes : (x : Freeze) (s : FreezeStep) (hook : HookAnswer) → is_owned (freeze_next x s hook).0 ≡ true →
+    (is_load (freeze_next x s hook).1 ≡ true) ⊎ (stage_owns (freeze_stage_role x.nodes s) ≡ 1)
+freeze_changes x FreezeLocks hook h = absurd (true≢false (sym h))
+freeze_changes x (Closes d) hook h = absurd (true≢false (sym h ∙ down_write_off d d.step))
+freeze_changes x LocksAgain hook h = absurd (true≢false (sym h))
+freeze_changes x (FreezeReopens u code) hook h = inr (reopening_owns u.level u.step)
+freeze_changes x s hook h = inr refl
+
+-- a level that is closed is closed by the owner as before, but for level 1, after which `umount` is to be taken again
+closed_comes : (x : Freeze) (level : ℕ) → 1 ≤ level → stage_owns (freeze_stage_role x.nodes (level_closed level x.nodes)) ≡ 1 →
+    bit (nat_lt 1 level) ≡ 1
+closed_comes x level low h =
+    elim (eqb_tells level 1) [
+      | inl q ↦ absurd (omega (arith, rw q.0 at h))
+      | inr q ↦ rw (lt-ltb 1 level (omega (arith, low, q.1))) refl
+    ]
+
+-- and comes to own `umount` by taking it
+freeze_comes_to : (c : Config) (x : Freeze) (s : FreezeStep) (hook : HookAnswer) (value : ℕ) → FreezeFits c s →
+    owns (phase_after (map_next Freezes (freeze_after x s (found_by (freeze_next x s hook).1 value) hook).0)) ≡ 1 →
+    (stage_owns (freeze_stage_role x.nodes s) ≡ 1) ⊎ (takes_lock (event_of (freeze_next x s hook).0 (freeze_next x s hook).1 value) ≡ true)
+freeze_comes_to c x FreezeLocks hook value f h =
+    elim (cases_Bool (value == 0)) [
+      | inl z ↦ inr z
+      | inr z ↦ absurd (omega (arith, rw z at h))
+    ]
+freeze_comes_to c x LocksAgain hook value f h =
+    elim (cases_Bool (value == 0)) [
+      | inl z ↦ inr z
+      | inr z ↦ absurd (omega (arith, rw z at h))
+    ]
+freeze_comes_to c x (Closes d) hook value f h =
+    let found : ℕ = found_by (down_write_next d d.step).1 value in
+    let own : bit (nat_lt 1 d.level) ≡ 1 =
+    down_write_comes d (λ n. owns (phase_after (map_next Freezes (after_closing x d.level n))) ≡ 1 → bit (nat_lt 1 d.level) ≡ 1)
+    (λ s q. q) (λ s q. q) (closed_comes x d.level f.0) d.step found h in
+    inl own
+freeze_comes_to c x (FreezeReopens u code) hook value f h = inl (reopening_owns u.level u.step)
+freeze_comes_to c x s hook value f h = inl refl
+
+-- so it does an owner's work
+pub freeze_work : (c : Config) (w : World) (x : Freeze) (hook : HookAnswer) → FreezeFits c x.step → IsOwnersWork w (Freezes x) hook
+freeze_work c w x hook f = record {
+  changes = freeze_changes x x.step hook;
+  comes_to_own = freeze_comes_to c x x.step hook (value_at w.words (Freezes x) hook) f;
+}
+
+-- a thaw changes an owned word as the owner
+thaw_changes : (x : Thaw) (s : ThawStep) (hook : HookAnswer) → is_owned (thaw_next x s hook).0 ≡ true →
+    (is_load (thaw_next x s hook).1 ≡ true) ⊎ (stage_owns (thaw_stage_role s) ≡ 1)
+thaw_changes x ThawLocks hook h = absurd (true≢false (sym h))
+thaw_changes x (ThawReopens u) hook h = inr (reopening_owns u.level u.step)
+thaw_changes x s hook h = inr refl
+
+-- and comes to own `umount` by taking it
+thaw_comes_to : (x : Thaw) (s : ThawStep) (hook : HookAnswer) (value : ℕ) →
+    owns (phase_after (map_next Thaws (thaw_after x s (found_by (thaw_next x s hook).1 value) hook).0)) ≡ 1 →
+    (stage_owns (thaw_stage_role s) ≡ 1) ⊎ (takes_lock (event_of (thaw_next x s hook).0 (thaw_next x s hook).1 value) ≡ true)
+thaw_comes_to x ThawLocks hook value h =
+    elim (cases_Bool (value == 0)) [
+      | inl z ↦ inr z
+      | inr z ↦ absurd (omega (arith, rw z at h))
+    ]
+thaw_comes_to x (ThawReopens u) hook value h = inl (reopening_owns u.level u.step)
+thaw_comes_to x s hook value h = inl refl
+
+-- so it does an owner's work
+pub thaw_work : (w : World) (x : Thaw) (hook : HookAnswer) → IsOwnersWork w (Thaws x) hook
+thaw_work w x hook = record {
+  changes = thaw_changes x x.step hook;
+  comes_to_own = thaw_comes_to x x.step hook (value_at w.words (Thaws x) hook);
+}

@@ -1,0 +1,147 @@
+-- Events of a freeze or a thaw that leave the words of the levels: on `umount`, loads by the owner, and stores of the stage.
+use Rattle.std.proofs.Common.{◌≡◌, ℕ, ◌<◌, refl, sym, ap, ◌∙◌, subst, inl, inr, arith}
+use Rattle.std.proofs.lemmas.Bool.Decides.{eqb_tells}
+use Rattle.std.specs.Prelude.{Option, Some, None}
+use Rattle.finite_sums.specs.Sums.{update}
+use Rattle.finite_sums.proofs.Totals.{update_same}
+use Rattle.access_model.specs.Actions.{after_action}
+use Rattle.access_model.specs.declared.actions.Action.TheVariants.{Stage as StageAction}
+use Rattle.cpu_words.specs.Words.{Words}
+use Rattle.gated_tree.specs.Nodes.{dirty_in}
+use Rattle.stage_laws.specs.Roles.{StageRole}
+use Rattle.stage_laws.specs.Events.{playing, StageEvent, Stays, action_of as stage_action_of}
+use Rattle.gate_world.specs.declared.config.Config.{Config}
+use Rattle.gate_world.specs.declared.views.View.{View}
+use Rattle.gate_world.specs.Levels.{Stand, is_frozen_whole}
+use Rattle.gate_world.specs.Shown.{shown, stage_roles}
+use Rattle.gate_world.specs.Stages.{stage_role_of}
+use Rattle.gate_world.specs.Rules.{IsGood, OwnerHolds, Holds, ViewFits, Stages, Tree}
+use Rattle.gate_world.specs.Trees.{tree_bounds, tree_of, tree_role_of, tree_roles}
+use Rattle.gate_world.specs.Configs.{IsWithin}
+use Rattle.gated_tree.specs.Roles.{TreeState, sealed_by}
+use Rattle.tree_laws.specs.Events.{Event, Opens}
+use Rattle.gate_frames.proofs.Trees.{sealed_read_only, tree_then, tree_after}
+use Rattle.gate_world.specs.Worlds.{World}
+use Rattle.gate_frames.proofs.Frames.{SameLevelCounts, left_alone}
+use Rattle.gate_frames.proofs.Stages.{IsStageEvent, stages_in}
+use Rattle.gate_frames.proofs.Standing.{Stands, LevelsHold, left_world}
+use Rattle.gate_frames.proofs.StandRoles.{levels_stay}
+use Rattle.gate_frames.proofs.WriterParts.{IsWriter, SameAtMounts, LeavesRest, WriterLaw, writer_law}
+
+-- the words that tell the stage are as they were
+pub record SameStageWords (old new : Words) : Type 0 where
+  pub stage_same : new.stage ≡ old.stage
+  pub sb_same : new.sb ≡ old.sb
+  pub remount_same : new.remount ≡ old.remount
+  pub block_same : new.block ≡ old.block
+  pub node_same : new.node ≡ old.node
+
+module _ (c : Config) (w : World) (good : IsGood c w) (t : ℕ) (lt : t < c.tasks) where
+  -- an event that is about other words
+  pub stays_there : (ws : Words) (v : View) → SameStageWords w.words ws → stage_role_of v.phase ≡ stage_role_of (w.views t).phase →
+      IsStageEvent c w good t lt ws v Stays
+  stays_there ws v words same = λ j. record {
+    stage = words.stage_same j;
+    sb = words.sb_same j;
+    remount = words.remount_same j;
+    block = words.block_same j;
+    dirty = λ n. dirty_in (words.node_same j n);
+    at = (ap (update (stage_roles w) t) same ∙ update_same (stage_roles w) t) j;
+  }
+
+  -- who plays the role that it had is where it was
+  pub still_plays : {r : StageRole} → r ≡ stage_role_of (w.views t).phase → playing (stages_in w) t r ≡ stages_in w
+  still_plays same = λ j. record (stages_in w) { at = (ap (update (stage_roles w) t) same ∙ update_same (stage_roles w) t) j }
+
+  -- no action leaves the accesses, the mounts and the tree
+  pub none_leaves : LeavesRest (shown c w) (shown c w) (shown c w).tree
+  none_leaves = record { mounts_same = refl; levels_same = refl; ro_same = refl; tree_same = refl }
+
+  -- nor does the store of a stage touch them
+  pub stage_leaves : (n : ℕ) → LeavesRest (shown c w) (after_action (shown c w) t (StageAction n)) (shown c w).tree
+  stage_leaves n = record { mounts_same = refl; levels_same = refl; ro_same = refl; tree_same = refl }
+
+  -- a store of the stage leaves the levels, where the file system is frozen as a whole or not as before
+  pub stored_levels : (v : View) → SameLevelCounts (w.views t) v → (n : ℕ) (stand : Option Stand) →
+      is_frozen_whole (record w.words { stage = n }) ≡ is_frozen_whole w.words → Stands (w.views t).phase stand →
+      Stands v.phase stand → LevelsHold c (left_world w t (record w.words { stage = n }) v)
+  stored_levels v levels n stand whole before after =
+      levels_stay c w good t lt (record w.words { stage = n }) v stand
+      (record { block_same = refl; level_same = refl; sync_same = refl; section_same = refl; whole_same = whole }) levels before after
+
+  -- nor the tree, where it is sealed or not as before, and the task does there what it did
+  pub stored_tree : (v : View) → tree_role_of v.trace v.phase ≡ tree_role_of (w.views t).trace (w.views t).phase → (n : ℕ) →
+      sealed_by w.words.sb n ≡ sealed_by w.words.sb w.words.stage → Holds c (left_world w t (record w.words { stage = n }) v) Tree
+  stored_tree v same n sealed =
+      left_alone c w t lt Tree (record w.words { stage = n }) v (refl, refl, refl, sealed) same (good Tree)
+
+  -- a store of stage 0 opens it, where the superblock's flag isn't set
+  pub opened_tree : IsWithin c → (v : View) → tree_role_of v.trace v.phase ≡ tree_role_of (w.views t).trace (w.views t).phase →
+      Holds c (left_world w t (record w.words { stage = 0 }) v) Tree
+  opened_tree within v same =
+      elim (eqb_tells w.words.sb 0) [
+        | inl q ↦
+            let unsealed : sealed_by w.words.sb 0 ≡ 0 = rw q.1 refl in
+            let after : ◌≡◌ {A = TreeState} (tree_then c w good t lt (record w.words { stage = 0 }) v)
+            (record (tree_of w) { sealed = 0 }) =
+            λ j. record (tree_of w) {
+              sealed = unsealed j;
+              at = (ap (update (tree_roles w) t) same ∙ update_same (tree_roles w) t) j;
+            } in
+            tree_after c w good t lt (record w.words { stage = 0 }) v within None
+            (subst (λ s. Event (tree_bounds c) (tree_of w) t s None) (sym after) Opens)
+        | inr q ↦
+            let set : w.words.sb ≡ 1 = omega (arith, q.1, (good Stages).superblock) in
+            stored_tree v same 0 (sealed_read_only w.words.sb 0 set ∙ sym (sealed_read_only w.words.sb w.words.stage set))
+      ]
+
+  module _ (v : View) (was : IsWriter (w.views t).phase) (now : IsWriter v.phase) (mounts : SameAtMounts (w.views t) v)
+      (levels : SameLevelCounts (w.views t) v) (fits : ViewFits c t v) where
+    -- an event that leaves all words but `umount`, and what its task has to do with the levels and the tree
+    pub writer_beside : (n : ℕ) (stand : Option Stand) (kind : StageEvent) →
+        OwnerHolds c.tasks n w.words.remount (λ y. (update w.views t v y).phase) →
+        Stands (w.views t).phase stand → Stands v.phase stand →
+        tree_role_of v.trace v.phase ≡ tree_role_of (w.views t).trace (w.views t).phase →
+        IsStageEvent c w good t lt (record w.words { umount = n }) v kind → stage_action_of kind (stages_in w) ≡ None →
+        WriterLaw c w t (record w.words { umount = n }) v None
+    writer_beside n stand kind owner before after same happens adds =
+        writer_law c w good t lt (record w.words { umount = n }) v None kind (record {
+          words = record { flags_same = refl; count_same = refl; remount_same = refl; sb_same = refl };
+          counts = mounts;
+          was = was;
+          now = now;
+          owner = owner;
+          levels = levels_stay c w good t lt (record w.words { umount = n }) v stand
+              (record { block_same = refl; level_same = refl; sync_same = refl; section_same = refl; whole_same = refl }) levels before
+              after;
+          tree = left_alone c w t lt Tree (record w.words { umount = n }) v (refl, refl, refl, refl) same (good Tree);
+          fits = fits;
+          happens = happens;
+          adds = adds;
+          asks = tt;
+          rest = none_leaves;
+        })
+
+    -- a store of the stage by the owner
+    pub writer_stores : (n : ℕ) (kind : StageEvent) →
+        OwnerHolds c.tasks w.words.umount w.words.remount (λ y. (update w.views t v y).phase) →
+        LevelsHold c (left_world w t (record w.words { stage = n }) v) →
+        Holds c (left_world w t (record w.words { stage = n }) v) Tree →
+        IsStageEvent c w good t lt (record w.words { stage = n }) v kind →
+        stage_action_of kind (stages_in w) ≡ Some (StageAction n) →
+        WriterLaw c w t (record w.words { stage = n }) v (Some (StageAction n))
+    writer_stores n kind owner hold tree happens adds =
+        writer_law c w good t lt (record w.words { stage = n }) v (Some (StageAction n)) kind (record {
+          words = record { flags_same = refl; count_same = refl; remount_same = refl; sb_same = refl };
+          counts = mounts;
+          was = was;
+          now = now;
+          owner = owner;
+          levels = hold;
+          tree = tree;
+          fits = fits;
+          happens = happens;
+          adds = adds;
+          asks = tt;
+          rest = stage_leaves n;
+        })

@@ -1,0 +1,268 @@
+-- Events of a down-write and of an up-write: the words that they leave, the counts, and what they add.
+use Rattle.std.proofs.Common.{◌≡◌, ℕ, ◌<◌, refl, sym, ◌∙◌, subst}
+use Rattle.std.specs.Prelude.{Ok, ◌==◌, if◌then◌else◌, Option, Some, None}
+use Rattle.access_model.specs.States.{State}
+use Rattle.access_model.specs.declared.actions.Action.{Action}
+use Rattle.access_model.specs.declared.actions.Action.TheVariants.{Pass, Reopen}
+use Rattle.access_model.specs.Actions.{after_action}
+use Rattle.cpu_words.specs.Sums.{sum_taking}
+use Rattle.cpu_words.specs.declared.sums.Taken.{Taken}
+use Rattle.cpu_words.specs.declared.sums.Taken.TheVariants.{More as MoreWords, Total}
+use Rattle.cpu_words.specs.Touches.{left}
+use Rattle.cpu_words.specs.Words.{Words, read, put}
+use Rattle.percpu_rwsem.specs.declared.transitions.Transition.TheVariants.{Loads, Exchanges}
+use Rattle.percpu_rwsem.specs.declared.writers.DownWrite.{DownWrite}
+use Rattle.percpu_rwsem.specs.declared.writers.DownWriteStep.{DownWriteStep}
+use Rattle.percpu_rwsem.specs.declared.writers.DownWriteStep.TheVariants.{Enters, AwaitsSections, CallsBack, AwaitsPassed, SetsBlock, Sums}
+use Rattle.percpu_rwsem.specs.declared.writers.UpWrite.{UpWrite}
+use Rattle.percpu_rwsem.specs.declared.writers.UpWriteStep.{UpWriteStep}
+use Rattle.percpu_rwsem.specs.declared.writers.UpWriteStep.TheVariants.{ClearsBlock, Exits}
+use Rattle.access_model.specs.declared.replies.Next.{Next}
+use Rattle.access_model.specs.declared.replies.Next.TheVariants.{Go, Done}
+use Rattle.access_model.specs.declared.replies.Reply.TheVariants.{Unit as UnitReply}
+use Rattle.percpu_rwsem.specs.declared.transitions.TransitionNext.{TransitionNext}
+use Rattle.percpu_rwsem.specs.declared.transitions.TransitionNext.TheVariants.{More, Undefined, Made}
+use Rattle.percpu_rwsem.specs.SyncWords.{on_exit}
+use Rattle.percpu_rwsem.specs.Transitions.{transition_after}
+use Rattle.percpu_rwsem.specs.Writers.{exit_made, down_write_next, down_write_after, down_write_summed, up_write_next, up_write_after}
+use Rattle.stage_laws.specs.Events.{StageEvent, action_of as stage_action_of}
+use Rattle.stage_laws.specs.Shown.{state_after}
+use Rattle.gated_tree.specs.Nodes.{node_shown}
+use Rattle.gate_world.specs.declared.config.Config.{Config}
+use Rattle.gate_world.specs.declared.views.View.{View}
+use Rattle.gate_world.specs.Configs.{IsWithin, model_limits}
+use Rattle.gate_world.specs.Levels.{level_added_after, level_taken_after}
+use Rattle.gate_world.specs.Rules.{IsGood, Holds, ViewFits, Tree, owns}
+use Rattle.gate_world.specs.Trees.{tree_bounds, tree_of, tree_role_of, tree_roles}
+use Rattle.gated_tree.specs.Roles.{Out, Clearing, sealed_by}
+use Rattle.tree_laws.specs.Events.{Event, turned, BeginsClearing}
+use Rattle.gate_frames.proofs.Trees.{tree_then, tree_after}
+use Rattle.finite_sums.specs.Sums.{update}
+use Rattle.gate_world.specs.Shown.{shown}
+use Rattle.gate_world.specs.Views.{added_after, taken_after}
+use Rattle.gate_world.specs.Worlds.{World}
+use Rattle.gate_frames.proofs.Frames.{left_alone}
+use Rattle.gate_frames.proofs.Keeps.{by_bool}
+use Rattle.gate_frames.proofs.Stages.{IsStageEvent, stages_in}
+use Rattle.gate_frames.proofs.Standing.{LevelsHold, left_world}
+use Rattle.gate_frames.proofs.WriterParts.{IsBeside, IsWriter, SameAtMounts, LeavesRest, AsksWhere, WriterLaw, writer_law}
+use Rattle.gate_frames.proofs.WriterOwner.{owner_stays}
+
+-- each word that is no level's own is as it was
+pub record IsAtLevels (old new : Words) : Type 0 where
+  pub beside : IsBeside old new
+  pub umount_same : new.umount ≡ old.umount
+  pub stage_same : new.stage ≡ old.stage
+  pub node_same : new.node ≡ old.node
+  pub used_same : new.used ≡ old.used
+  pub kids_same : new.kids ≡ old.kids
+
+-- a down-write writes words of levels alone
+pub down_write_words : (w : Words) (d : DownWrite) (s : DownWriteStep) →
+    IsAtLevels w (put w (down_write_next d s).0 (left (down_write_next d s).1 (read w (down_write_next d s).0)))
+down_write_words w d (Enters Loads) = record {
+  beside = record { flags_same = refl; count_same = refl; remount_same = refl; sb_same = refl };
+  umount_same = refl;
+  stage_same = refl;
+  node_same = refl;
+  used_same = refl;
+  kids_same = refl;
+}
+down_write_words w d (Enters (Exchanges from to)) = record {
+  beside = record { flags_same = refl; count_same = refl; remount_same = refl; sb_same = refl };
+  umount_same = refl;
+  stage_same = refl;
+  node_same = refl;
+  used_same = refl;
+  kids_same = refl;
+}
+down_write_words w d (AwaitsSections grace) = record {
+  beside = record { flags_same = refl; count_same = refl; remount_same = refl; sb_same = refl };
+  umount_same = refl;
+  stage_same = refl;
+  node_same = refl;
+  used_same = refl;
+  kids_same = refl;
+}
+down_write_words w d (CallsBack Loads) = record {
+  beside = record { flags_same = refl; count_same = refl; remount_same = refl; sb_same = refl };
+  umount_same = refl;
+  stage_same = refl;
+  node_same = refl;
+  used_same = refl;
+  kids_same = refl;
+}
+down_write_words w d (CallsBack (Exchanges from to)) = record {
+  beside = record { flags_same = refl; count_same = refl; remount_same = refl; sb_same = refl };
+  umount_same = refl;
+  stage_same = refl;
+  node_same = refl;
+  used_same = refl;
+  kids_same = refl;
+}
+down_write_words w d AwaitsPassed = record {
+  beside = record { flags_same = refl; count_same = refl; remount_same = refl; sb_same = refl };
+  umount_same = refl;
+  stage_same = refl;
+  node_same = refl;
+  used_same = refl;
+  kids_same = refl;
+}
+down_write_words w d SetsBlock = record {
+  beside = record { flags_same = refl; count_same = refl; remount_same = refl; sb_same = refl };
+  umount_same = refl;
+  stage_same = refl;
+  node_same = refl;
+  used_same = refl;
+  kids_same = refl;
+}
+down_write_words w d (Sums sum) = record {
+  beside = record { flags_same = refl; count_same = refl; remount_same = refl; sb_same = refl };
+  umount_same = refl;
+  stage_same = refl;
+  node_same = refl;
+  used_same = refl;
+  kids_same = refl;
+}
+
+-- and an up-write
+pub up_write_words : (w : Words) (u : UpWrite) (s : UpWriteStep) →
+    IsAtLevels w (put w (up_write_next u s).0 (left (up_write_next u s).1 (read w (up_write_next u s).0)))
+up_write_words w u ClearsBlock = record {
+  beside = record { flags_same = refl; count_same = refl; remount_same = refl; sb_same = refl };
+  umount_same = refl;
+  stage_same = refl;
+  node_same = refl;
+  used_same = refl;
+  kids_same = refl;
+}
+up_write_words w u (Exits Loads) = record {
+  beside = record { flags_same = refl; count_same = refl; remount_same = refl; sb_same = refl };
+  umount_same = refl;
+  stage_same = refl;
+  node_same = refl;
+  used_same = refl;
+  kids_same = refl;
+}
+up_write_words w u (Exits (Exchanges from to)) = record {
+  beside = record { flags_same = refl; count_same = refl; remount_same = refl; sb_same = refl };
+  umount_same = refl;
+  stage_same = refl;
+  node_same = refl;
+  used_same = refl;
+  kids_same = refl;
+}
+
+-- a down-write counts nothing, at mounts or at levels
+pub down_write_counts_none : (d : DownWrite) (s : DownWriteStep) (f : ℕ → ℕ → ℕ) →
+    (added_after (down_write_next d s).0 (down_write_next d s).1 f ≡ f) ×
+    (taken_after (down_write_next d s).0 (down_write_next d s).1 f ≡ f) ×
+    (level_added_after (down_write_next d s).0 (down_write_next d s).1 f ≡ f) ×
+    (level_taken_after (down_write_next d s).0 (down_write_next d s).1 f ≡ f)
+down_write_counts_none d (Enters Loads) f = (refl, refl, refl, refl)
+down_write_counts_none d (Enters (Exchanges from to)) f = (refl, refl, refl, refl)
+down_write_counts_none d (AwaitsSections grace) f = (refl, refl, refl, refl)
+down_write_counts_none d (CallsBack Loads) f = (refl, refl, refl, refl)
+down_write_counts_none d (CallsBack (Exchanges from to)) f = (refl, refl, refl, refl)
+down_write_counts_none d AwaitsPassed f = (refl, refl, refl, refl)
+down_write_counts_none d SetsBlock f = (refl, refl, refl, refl)
+down_write_counts_none d (Sums sum) f = (refl, refl, refl, refl)
+
+-- nor does an up-write
+pub up_write_counts_none : (u : UpWrite) (s : UpWriteStep) (f : ℕ → ℕ → ℕ) →
+    (added_after (up_write_next u s).0 (up_write_next u s).1 f ≡ f) × (taken_after (up_write_next u s).0 (up_write_next u s).1 f ≡ f) ×
+    (level_added_after (up_write_next u s).0 (up_write_next u s).1 f ≡ f) ×
+    (level_taken_after (up_write_next u s).0 (up_write_next u s).1 f ≡ f)
+up_write_counts_none u ClearsBlock f = (refl, refl, refl, refl)
+up_write_counts_none u (Exits Loads) f = (refl, refl, refl, refl)
+up_write_counts_none u (Exits (Exchanges from to)) f = (refl, refl, refl, refl)
+
+-- What an event of a down-write adds: nothing, or that its level is passed.
+module _ (d : DownWrite) (P : Option Action → Type 0) (none : P None) (pass : P (Some (Pass d.level))) where
+  -- a load of a count
+  summed_adds : (n : Taken) → P (down_write_summed d n).1
+  summed_adds (MoreWords sum) = none
+  summed_adds (Total total) = by_bool (total == 0) (λ b. P (if b then Some (Pass d.level) else None)) pass none
+
+  -- each event
+  pub down_write_adds : (s : DownWriteStep) (found : ℕ) → P (down_write_after d s found).1
+  down_write_adds (Sums sum) found = summed_adds (sum_taking sum found d.processors)
+  down_write_adds s found = none
+
+-- and what one of an up-write adds: nothing, or that its level is reopened
+pub up_write_adds : (u : UpWrite) (P : Option Action → Type 0) → P None → P (Some (Reopen u.level)) → (s : UpWriteStep) (found : ℕ) →
+    P (up_write_after u s found).1
+up_write_adds u P none opens ClearsBlock found = opens
+up_write_adds u P none opens (Exits transition) found = none
+
+-- What comes after an event of an up-write is the same one, past its store, or it is done.
+module _ (u : UpWrite) (P : Next UpWrite → Type 0) (go : (s : UpWriteStep) → P (Go (record u { step = s })))
+    (done : P (Done (Ok UnitReply))) where
+  -- after one of its transition
+  exit_comes : (n : TransitionNext) → P (exit_made u n)
+  exit_comes (More transition) = go (Exits transition)
+  exit_comes Undefined = go (Exits Loads)
+  exit_comes (Made state) = done
+
+  -- after each event
+  pub up_write_comes : (s : UpWriteStep) (found : ℕ) → P (up_write_after u s found).0
+  up_write_comes ClearsBlock found = go (Exits Loads)
+  up_write_comes (Exits transition) found = exit_comes (transition_after on_exit transition found)
+
+-- a level that is passed leaves the accesses, the mounts and the tree
+pub pass_leaves : (s : State) (t i : ℕ) → LeavesRest s (after_action s t (Pass i)) s.tree
+pass_leaves s t i = record { mounts_same = refl; levels_same = refl; ro_same = refl; tree_same = refl }
+
+-- so does one that is reopened
+pub reopen_leaves : (s : State) (t i : ℕ) → LeavesRest s (after_action s t (Reopen i)) s.tree
+reopen_leaves s t i = record { mounts_same = refl; levels_same = refl; ro_same = refl; tree_same = refl }
+
+-- the tree is left, where its task does there what it did
+pub tree_beside : (c : Config) (w : World) → IsGood c w → (t : ℕ) → t < c.tasks → (ws : Words) (v : View) → IsAtLevels w.words ws →
+    tree_role_of v.trace v.phase ≡ tree_role_of (w.views t).trace (w.views t).phase → Holds c (left_world w t ws v) Tree
+tree_beside c w good t lt ws v words same =
+    left_alone c w t lt Tree ws v
+    (words.used_same, words.node_same, words.kids_same, (λ j. sealed_by (words.beside.sb_same j) (words.stage_same j))) same (good Tree)
+
+-- and where a clearing of marks begins
+pub tree_begins : (c : Config) (w : World) → IsGood c w → (t : ℕ) → t < c.tasks → (ws : Words) (v : View) → IsWithin c →
+    IsAtLevels w.words ws → tree_role_of (w.views t).trace (w.views t).phase ≡ Out → tree_role_of v.trace v.phase ≡ Clearing 1 →
+    Holds c (left_world w t ws v) Tree
+tree_begins c w good t lt ws v within words was now =
+    let same : tree_then c w good t lt ws v ≡ turned (tree_of w) t (Clearing 1) =
+    λ j. record {
+      sealed = sealed_by (words.beside.sb_same j) (words.stage_same j);
+      used = words.used_same j;
+      node = words.node_same j;
+      kids = words.kids_same j;
+      at = update (tree_roles w) t (now j);
+    } in
+    tree_after c w good t lt ws v within None (subst (λ s. Event (tree_bounds c) (tree_of w) t s None) (sym same) (BeginsClearing was))
+
+-- the law of an event of a freeze or a thaw on a word of a level, which leaves who owns `umount`
+pub writer_at_level : (c : Config) (w : World) (good : IsGood c w) (t : ℕ) (lt : t < c.tasks) (ws : Words) (v : View)
+    (action : Option Action) (kind : StageEvent) → IsWriter (w.views t).phase → IsWriter v.phase → IsAtLevels w.words ws →
+    SameAtMounts (w.views t) v → ViewFits c t v → owns v.phase ≡ owns (w.views t).phase → LevelsHold c (left_world w t ws v) →
+    Holds c (left_world w t ws v) Tree → IsStageEvent c w good t lt ws v kind → stage_action_of kind (stages_in w) ≡ action →
+    AsksWhere (model_limits c) (shown c w) action →
+    LeavesRest (shown c w) (state_after (shown c w) t action) (shown c w).tree → WriterLaw c w t ws v action
+writer_at_level c w good t lt ws v action kind was now words mounts fits own levels tree happens adds asks rest =
+    writer_law c w good t lt ws v action kind (record {
+      words = words.beside;
+      counts = mounts;
+      was = was;
+      now = now;
+      owner = owner_stays c w good t lt v was now ws words.umount_same words.beside.remount_same own;
+      levels = levels;
+      tree = tree;
+      fits = fits;
+      happens = happens;
+      adds = adds;
+      asks = asks;
+      rest = record {
+        mounts_same = rest.mounts_same;
+        levels_same = rest.levels_same;
+        ro_same = rest.ro_same;
+        tree_same = rest.tree_same ∙ sym (λ j n. node_shown (words.node_same j n));
+      };
+    })

@@ -1,0 +1,360 @@
+-- The causes of a freeze's refusal and of the sums of its levels, along a schedule.
+use Rattle.std.proofs.Common.{◌≡◌, ℕ, suc, ◌+◌, ◌-◌, ◌%◌, ◌<◌, ◌≤◌, true, false, refl, sym, ap, ◌∙◌, inl, inr, arith, add-one, true≢false}
+use Rattle.std.specs.Prelude.{nat_lt, Option, Some, None, Ok, Err, List, [], ◌∷◌, ◌==◌, not}
+use Rattle.std.proofs.lemmas.Bool.{ltb-false, ne_eqb, cases_Bool}
+use Rattle.std.proofs.lemmas.Bool.Decides.{eqb_tells}
+use Rattle.access_model.specs.declared.errors.GateError.TheVariants.{Busy}
+use Rattle.access_model.specs.declared.replies.Next.{Next}
+use Rattle.access_model.specs.declared.replies.Next.TheVariants.{Go, Wait, Done}
+use Rattle.access_model.specs.Replies.{map_next}
+use Rattle.cpu_words.specs.Hooks.{HookAnswer}
+use Rattle.cpu_words.specs.Sums.{lead, ahead}
+use Rattle.cpu_words.specs.Touches.{left, wrap_add}
+use Rattle.cpu_words.specs.Words.{Words, read, put}
+use Rattle.cpu_words.specs.declared.names.WordName.TheVariants.{LevelCount}
+use Rattle.cpu_words.specs.declared.sums.Sum.{Sum}
+use Rattle.finite_sums.specs.Sums.{total}
+use Rattle.gate_counts.proofs.Events.{words_sum}
+use Rattle.gate_counts.proofs.Numbers.{ahead_none, ahead_step, ahead_past}
+use Rattle.gated_tree.specs.Phases.{clear_after}
+use Rattle.gated_tree.specs.declared.marks.ClearMarks.{ClearMarks}
+use Rattle.percpu_rwsem.specs.Graces.{looked}
+use Rattle.percpu_rwsem.specs.SyncWords.{unpack, is_passed, on_enter, on_callback}
+use Rattle.percpu_rwsem.specs.Transitions.{transition_after}
+use Rattle.percpu_rwsem.specs.Writers.{down_write_next, down_write_after, at_down_write, enter_step, callback_step, sections_awaited, passed_awaited, up_write_next, up_write_after}
+use Rattle.percpu_rwsem.specs.declared.grace.GraceNext.{GraceNext}
+use Rattle.percpu_rwsem.specs.declared.grace.GraceNext.TheVariants.{More as MoreSections, Wait as WaitsFor, Ended}
+use Rattle.percpu_rwsem.specs.declared.sync_word.GpState.TheVariants.{Idle, Enter, Passed, Exit, Replay}
+use Rattle.percpu_rwsem.specs.declared.sync_word.SyncWord.{SyncWord}
+use Rattle.percpu_rwsem.specs.declared.transitions.Transition.TheVariants.{Loads, Exchanges}
+use Rattle.percpu_rwsem.specs.declared.transitions.TransitionNext.{TransitionNext}
+use Rattle.percpu_rwsem.specs.declared.transitions.TransitionNext.TheVariants.{More, Undefined, Made}
+use Rattle.percpu_rwsem.specs.declared.writers.DownWrite.{DownWrite}
+use Rattle.percpu_rwsem.specs.declared.writers.DownWriteStep.{DownWriteStep}
+use Rattle.percpu_rwsem.specs.declared.writers.DownWriteStep.TheVariants.{Enters, AwaitsSections, CallsBack, AwaitsPassed, SetsBlock, Sums}
+use Rattle.percpu_rwsem.specs.declared.writers.UpWrite.{UpWrite}
+use Rattle.percpu_rwsem.specs.declared.writers.UpWriteStep.{UpWriteStep}
+use Rattle.percpu_rwsem.specs.declared.writers.UpWriteStep.TheVariants.{ClearsBlock, Exits}
+use Rattle.freeze_levels.specs.Freezes.{at_freeze, level_closed, after_closing, after_clearing, freeze_fails, after_reopening}
+use Rattle.freeze_levels.specs.declared.freezes.Freeze.{Freeze}
+use Rattle.freeze_levels.specs.declared.freezes.FreezeStep.{FreezeStep}
+use Rattle.freeze_levels.specs.declared.freezes.FreezeStep.TheVariants.{
+  Locks,
+  LoadsStage,
+  LoadsSuperblock,
+  CompletesReadOnly,
+  SetsWrite,
+  Unlocks,
+  Closes,
+  LocksAgain,
+  SetsPageFault,
+  Cleans,
+  SetsFs,
+  SetsComplete,
+  Reopens,
+  Releases,
+}
+use Rattle.gate_world.specs.Causes.{all_inside, was_inside, words_read, moments_of_sum, looks_at_stage, was_frozen, FreezeHasCause}
+use Rattle.gate_world.specs.Fits.{DownWriteStepFits, FreezeFits}
+use Rattle.gate_world.specs.KeptCauses.{DownWriteCause, FreezeCause, CauseOf}
+use Rattle.gate_world.specs.Rules.{IsGood, AtLevel, LevelHoldsIn}
+use Rattle.gate_world.specs.Views.{phase_after}
+use Rattle.gate_world.specs.Work.{after_of}
+use Rattle.gate_world.specs.Worlds.{World, found_at, after_step}
+use Rattle.gate_world.specs.declared.config.Config.{Config}
+use Rattle.gate_world.specs.declared.work.Phase.{Phase}
+use Rattle.gate_world.specs.declared.work.Phase.TheVariants.{Freezes}
+use Rattle.gate_frames.proofs.Keeps.{IsQuiet}
+use Rattle.gate_frames.proofs.Words.{load_same}
+use Rattle.gate_frames.proofs.Moments.{look_skips, look_stands, sum_begins, sum_goes}
+
+-- these words have the counts of those, at the mounts and at the levels
+abbrev SameCounts : Words → Words → Type 0
+SameCounts w ws = (ws.count ≡ w.count) × (ws.level ≡ w.level)
+
+-- an event of a down-write leaves them
+down_write_counts : (w : Words) (d : DownWrite) (s : DownWriteStep) →
+    SameCounts w (put w (down_write_next d s).0 (left (down_write_next d s).1 (read w (down_write_next d s).0)))
+down_write_counts w d (Enters Loads) = (refl, refl)
+down_write_counts w d (Enters (Exchanges from to)) = (refl, refl)
+down_write_counts w d (AwaitsSections grace) = (refl, refl)
+down_write_counts w d (CallsBack Loads) = (refl, refl)
+down_write_counts w d (CallsBack (Exchanges from to)) = (refl, refl)
+down_write_counts w d AwaitsPassed = (refl, refl)
+down_write_counts w d SetsBlock = (refl, refl)
+down_write_counts w d (Sums sum) = (refl, ap (λ (ws : Words). ws.level) (load_same w (LevelCount d.level sum.words)))
+
+-- one of an up-write
+up_write_counts : (w : Words) (u : UpWrite) (s : UpWriteStep) →
+    SameCounts w (put w (up_write_next u s).0 (left (up_write_next u s).1 (read w (up_write_next u s).0)))
+up_write_counts w u ClearsBlock = (refl, refl)
+up_write_counts w u (Exits Loads) = (refl, refl)
+up_write_counts w u (Exits (Exchanges from to)) = (refl, refl)
+
+-- so an event of a freeze leaves the counts
+pub freeze_counts : (w : World) (t : ℕ) (x : Freeze) (hook : HookAnswer) (s : FreezeStep) →
+    SameCounts w.words (after_step w t (Freezes (at_freeze x s)) hook).words
+freeze_counts w t x hook Locks = (refl, refl)
+freeze_counts w t x hook LoadsStage = (refl, refl)
+freeze_counts w t x hook LoadsSuperblock = (refl, refl)
+freeze_counts w t x hook CompletesReadOnly = (refl, refl)
+freeze_counts w t x hook SetsWrite = (refl, refl)
+freeze_counts w t x hook Unlocks = (refl, refl)
+freeze_counts w t x hook (Closes d) = down_write_counts w.words d d.step
+freeze_counts w t x hook LocksAgain = (refl, refl)
+freeze_counts w t x hook SetsPageFault = (refl, refl)
+freeze_counts w t x hook (Cleans marks) = (refl, refl)
+freeze_counts w t x (Ok answer) SetsFs = (refl, refl)
+freeze_counts w t x (Err code) SetsFs = (refl, refl)
+freeze_counts w t x (Ok answer) SetsComplete = (refl, refl)
+freeze_counts w t x (Err code) SetsComplete = (refl, refl)
+freeze_counts w t x hook (Reopens u code) = up_write_counts w.words u u.step
+freeze_counts w t x hook (Releases answer) = (refl, refl)
+
+-- where nothing is counted at a level, a sum that begins leads by 0
+fresh_level : (c : Config) (w : World) → IsGood c w → (i : ℕ) → 1 ≤ i → i ≤ 3 → all_inside c i w ≡ 0 →
+    lead c.processors (w.words.level i) 0 0 ≡ 0
+fresh_level c w good i one three none =
+    let g : LevelHoldsIn c w i = good (AtLevel i) one three in
+    let s : total c.processors (w.words.level i) % 18446744073709551616 ≡ all_inside c i w % 18446744073709551616 =
+    words_sum g.gate.counts in
+    let a : ahead c.processors (w.words.level i) 0 ≡ total c.processors (w.words.level i) =
+    ahead_none c.processors (w.words.level i) in
+    omega (arith, s, a, none)
+
+-- nothing was counted at the level in any of these worlds
+none_inside : (c : Config) (i : ℕ) (w : World) (earlier : List World) → was_inside c i (w ∷ earlier) ≡ false →
+    (all_inside c i w ≡ 0) × (was_inside c i earlier ≡ false)
+none_inside c i w earlier h =
+    elim (cases_Bool (nat_lt 0 (all_inside c i w))) [
+      | inl a ↦ absurd (true≢false (rw a at h))
+      | inr a ↦ (omega (arith, ltb-false 0 (all_inside c i w) a), rw a at h)
+    ]
+
+module _ (c : Config) (t i : ℕ) where
+  -- in this world and the earlier ones
+  module _ (w : World) (earlier : List World) where
+    -- a sum of a level that begins has its cause
+    level_starts : IsGood c w → 1 ≤ i → i ≤ 3 → words_read (w.views t).phase ≡ Some 0 →
+        DownWriteCause c t w earlier i (Sums record { words = 0; total = 0 })
+    level_starts good one three e = (
+      λ z. refl,
+      λ none. fresh_level c w good i one three
+          (none_inside c i w [] (sym (ap (was_inside c i) (sum_begins t w earlier e)) ∙ none)).0,
+    )
+
+    -- where nothing was counted while a sum was read so far, nothing is counted now, and nothing was before
+    none_so_far : (k : ℕ) → words_read (w.views t).phase ≡ Some k → (k ≡ 0 → ⊥) →
+        was_inside c i (moments_of_sum t (w ∷ earlier)) ≡ false →
+        (all_inside c i w ≡ 0) × (was_inside c i (moments_of_sum t earlier) ≡ false)
+    none_so_far k e ne none =
+        none_inside c i w (moments_of_sum t earlier) (sym (ap (was_inside c i) (sum_goes t w earlier k e ne)) ∙ none)
+
+  -- where the last word makes a sum other than 0, something was counted at its level
+  pub level_ends : (w : World) (earlier : List World) (sum : Sum) → DownWriteCause c t w earlier i (Sums sum) →
+      sum.words < c.processors → suc sum.words ≡ c.processors → (wrap_add sum.total (w.words.level i sum.words) ≡ 0 → ⊥) →
+      was_inside c i (moments_of_sum t (w ∷ earlier)) ≡ true
+  level_ends w earlier sum h there last busy =
+      let past : ahead c.processors (w.words.level i) (suc sum.words) ≡ 0 =
+      ahead_past c.processors (suc sum.words) (w.words.level i) (omega (arith, last)) in
+      elim (cases_Bool (was_inside c i (moments_of_sum t (w ∷ earlier)))) [
+        | inl then_inside ↦ then_inside
+        | inr none ↦ absurd (busy (omega (arith, h.1 none, ahead_step c.processors sum.words (w.words.level i) there, past)))
+      ]
+
+  -- in this world, the next one and the earlier ones, with a sum whose cause is known
+  module _ (w next : World) (earlier : List World) (sum : Sum) (h : DownWriteCause c t w earlier i (Sums sum)) where
+    -- the cause of a sum stays while others step
+    level_stays : IsGood c next → 1 ≤ i → i ≤ 3 → words_read (next.views t).phase ≡ Some sum.words →
+        words_read (w.views t).phase ≡ Some sum.words →
+        (all_inside c i w ≡ 0 → all_inside c i next ≡ 0 → next.words.level i ≡ w.words.level i) →
+        DownWriteCause c t next (w ∷ earlier) i (Sums sum)
+    level_stays good one three e was quiet = (
+      h.0,
+      λ none.
+          elim (eqb_tells sum.words 0) [
+            | inl z ↦ (λ j. lead c.processors (next.words.level i) (z.1 j) (h.0 z.1 j)) ∙
+                (level_starts next (w ∷ earlier) good one three (e ∙ ap Some z.1)).1 none
+            | inr z ↦
+                let now : (all_inside c i next ≡ 0) × (was_inside c i (moments_of_sum t (w ∷ earlier)) ≡ false) =
+                none_so_far next (w ∷ earlier) sum.words e z.1 none in
+                let before : (all_inside c i w ≡ 0) × (was_inside c i (moments_of_sum t earlier) ≡ false) =
+                none_so_far w earlier sum.words was z.1 now.1 in
+                ap (λ f. lead c.processors f sum.words sum.total) (quiet before.0 now.0) ∙ h.1 now.1
+          ],
+    )
+
+    -- a sum that takes a word more has its cause
+    level_takes : sum.words < c.processors → next.words.level i ≡ w.words.level i →
+        words_read (next.views t).phase ≡ Some (sum.words + 1) →
+        DownWriteCause c t next (w ∷ earlier) i
+        (Sums record { words = sum.words + 1; total = wrap_add sum.total (w.words.level i sum.words) })
+    level_takes there same e = (
+      λ z. absurd (omega (arith, z)),
+      λ none.
+          let now : (all_inside c i next ≡ 0) × (was_inside c i (moments_of_sum t (w ∷ earlier)) ≡ false) =
+          none_so_far next (w ∷ earlier) (sum.words + 1) e (λ z. omega (arith, z)) none in
+          let found : ℕ = w.words.level i sum.words in
+          let on : lead c.processors (w.words.level i) (suc sum.words) (wrap_add sum.total found) ≡ 0 =
+          omega (arith, h.1 now.1, ahead_step c.processors sum.words (w.words.level i) there) in
+          (λ j. lead c.processors (same j) (add-one sum.words j) (wrap_add sum.total found)) ∙ on,
+    )
+
+-- a task whose view another entry leaves alone
+module _ (c : Config) (t : ℕ) (w next : World) (earlier : List World) (good : IsGood c next) (x : Freeze) where
+  -- the cause of each step of a closing stays
+  closing_stays : (d : DownWrite) (s : DownWriteStep) → 1 ≤ d.level → d.level ≤ 3 →
+      (next.views t).phase ≡ Some (Freezes (at_freeze x (Closes (at_down_write d s)))) →
+      (w.views t).phase ≡ Some (Freezes (at_freeze x (Closes (at_down_write d s)))) → IsQuiet c w next →
+      DownWriteCause c t w earlier d.level s → DownWriteCause c t next (w ∷ earlier) d.level s
+  closing_stays d (Sums sum) one three e was quiet h =
+      level_stays c t d.level w next earlier sum h good one three (ap words_read e) (ap words_read was) (quiet.levels d.level)
+  closing_stays d (Enters transition) one three e was quiet h = tt
+  closing_stays d (AwaitsSections grace) one three e was quiet h = tt
+  closing_stays d (CallsBack transition) one three e was quiet h = tt
+  closing_stays d AwaitsPassed one three e was quiet h = tt
+  closing_stays d SetsBlock one three e was quiet h = tt
+
+  -- so does the cause of each step of a freeze
+  pub freeze_stays : (s : FreezeStep) → FreezeFits c s → (next.views t).phase ≡ Some (Freezes (at_freeze x s)) →
+      (w.views t).phase ≡ Some (Freezes (at_freeze x s)) → IsQuiet c w next → FreezeCause c t w earlier s →
+      FreezeCause c t next (w ∷ earlier) s
+  freeze_stays (Closes d) f e was quiet h = closing_stays d d.step f.0 f.1 e was quiet h
+  freeze_stays (Releases answer) f e was quiet h =
+      λ r. ap (was_frozen c) (look_skips t next (w ∷ earlier) (ap looks_at_stage e)) ∙ h r
+  freeze_stays s f e was quiet h = tt
+
+-- the task that steps: what its next phase says, in the world after the event
+module _ (c : Config) (t : ℕ) (w next : World) (earlier : List World) (after : IsGood c next) (x : Freeze) where
+  -- what comes after an event has its cause, where it is what the task is at in the next world
+  abbrev Own : Next Freeze → Type 0
+  Own n = (next.views t).phase ≡ phase_after (map_next Freezes n) →
+      CauseOf c t next (w ∷ earlier) (phase_after (map_next Freezes n))
+
+  -- a level is closed
+  closed_own : (level : ℕ) → Own (Go (at_freeze x (level_closed level x.nodes)))
+  closed_own level e =
+      elim (cases_Bool (level == 1)) [
+        | inl h ↦ rw h tt
+        | inr h ↦ elim (cases_Bool (level == 2)) [ inl k ↦ rw (h, k) tt | inr k ↦ rw (h, k) tt ]
+      ]
+
+  -- a hook has failed: a freeze that the file system refused is not refused as busy
+  fails_own : (level code : ℕ) → Own (Go (at_freeze x (freeze_fails level code)))
+  fails_own level code e = elim (cases_Bool (level == 0)) [ inl h ↦ rw h (λ r. absurd (cc)) | inr h ↦ rw h tt ]
+
+  module _ (d : DownWrite) where
+    -- after an event of the enter
+    enter_own : (n : TransitionNext) → Own (after_closing x d.level (Go (at_down_write d (enter_step d.tasks n))))
+    enter_own (More transition) e = tt
+    enter_own Undefined e = tt
+    enter_own (Made Idle) e = tt
+    enter_own (Made Enter) e = tt
+    enter_own (Made Passed) e = tt
+    enter_own (Made Exit) e = tt
+    enter_own (Made Replay) e = tt
+
+    -- of the transition after its grace period
+    callback_own : (n : TransitionNext) → Own (after_closing x d.level (Go (at_down_write d (callback_step n))))
+    callback_own (More transition) e = tt
+    callback_own Undefined e = tt
+    callback_own (Made state) e = tt
+
+    -- after a load of a section word
+    sections_own : (n : GraceNext) → Own (after_closing x d.level (sections_awaited d n))
+    sections_own (MoreSections grace) e = tt
+    sections_own (WaitsFor grace) e = tt
+    sections_own Ended e = tt
+
+    -- and of the sync word
+    passed_own : (o : Option SyncWord) → Own (after_closing x d.level (passed_awaited d o))
+    passed_own None e = tt
+    passed_own (Some word) e = elim (cases_Bool (is_passed word.state)) [ inl h ↦ rw h tt | inr h ↦ rw h tt ]
+
+    -- after the swap of `block` a sum begins, or the swap is done again
+    block_own : (found : ℕ) → 1 ≤ d.level → d.level ≤ 3 → Own (after_closing x d.level (down_write_after d SetsBlock found).0)
+    block_own found one three e =
+        elim (cases_Bool (found == 0)) [
+          | inl h ↦ rw h (level_starts c t d.level next (w ∷ earlier) after one three (ap words_read (rw h at e)))
+          | inr h ↦ rw h tt
+        ]
+
+    -- a sum with one word more: it goes on, the level is closed, or a new sum begins
+    sum_own : (sum : Sum) → 1 ≤ d.level → d.level ≤ 3 → sum.words < c.processors →
+        next.words.level d.level ≡ w.words.level d.level → DownWriteCause c t w earlier d.level (Sums sum) →
+        Own (after_closing x d.level (down_write_after d (Sums sum) (w.words.level d.level sum.words)).0)
+    sum_own sum one three there same h e =
+        elim (cases_Bool (nat_lt (sum.words + 1) d.processors)) [
+          | inl more ↦ rw more (level_takes c t d.level w next earlier sum h there same (ap words_read (rw more at e)))
+          | inr less ↦ elim (cases_Bool (wrap_add sum.total (w.words.level d.level sum.words) == 0)) [
+            | inl z ↦ rw (less, z) (closed_own d.level (rw (less, z) at e))
+            | inr z ↦
+                rw (less, z) (level_starts c t d.level next (w ∷ earlier) after one three (ap words_read (rw (less, z) at e)))
+          ]
+        ]
+
+    -- so it is after each event of the closing of a level
+    closing_own : (hook : HookAnswer) (s : DownWriteStep) → 1 ≤ d.level → d.level ≤ 3 → DownWriteStepFits c s →
+        next.words.level ≡ w.words.level → DownWriteCause c t w earlier d.level s →
+        Own (after_closing x d.level
+        (down_write_after d s (found_at w.words (Freezes (at_freeze x (Closes (at_down_write d s)))) hook)).0)
+    closing_own hook (Enters transition) one three f same h e =
+        enter_own (transition_after on_enter transition
+        (found_at w.words (Freezes (at_freeze x (Closes (at_down_write d (Enters transition))))) hook)) e
+    closing_own hook (AwaitsSections grace) one three f same h e = sections_own (looked grace (w.words.section grace.task)) e
+    closing_own hook (CallsBack transition) one three f same h e =
+        callback_own (transition_after on_callback transition
+        (found_at w.words (Freezes (at_freeze x (Closes (at_down_write d (CallsBack transition))))) hook)) e
+    closing_own hook AwaitsPassed one three f same h e = passed_own (unpack (w.words.sync d.level)) e
+    closing_own hook SetsBlock one three f same h e = block_own (w.words.block d.level) one three e
+    closing_own hook (Sums sum) one three f same h e = sum_own sum one three f (ap (λ g. g d.level) same) h e
+
+  -- after an event of the reopening of a level
+  reopening_own : (level code : ℕ) (n : Next UpWrite) → Own (after_reopening x level code n)
+  reopening_own level code (Go u) e = tt
+  reopening_own level code (Wait u) e = tt
+  reopening_own level code (Done answer) e = fails_own (level - 1) code e
+
+  -- and of the clearing of the marks
+  clearing_own : (n : Next ClearMarks) → Own (after_clearing x n)
+  clearing_own (Go marks) e = tt
+  clearing_own (Wait marks) e = tt
+  clearing_own (Done answer) e = tt
+
+  -- where the stage was found other than 0, it was so when the freeze looked
+  stage_own : (w.views t).phase ≡ Some (Freezes (at_freeze x LoadsStage)) → (w.words.stage ≡ 0 → ⊥) →
+      Own (Go (at_freeze x (Releases (Err Busy))))
+  stage_own e frozen e' r =
+      ap (was_frozen c) (look_skips t next (w ∷ earlier) (ap looks_at_stage e') ∙ look_stands t w earlier (ap looks_at_stage e)) ∙
+      ap not (ne_eqb w.words.stage 0 frozen)
+
+  -- what comes after an event has its cause
+  pub freeze_own : (hook : HookAnswer) (s : FreezeStep) → FreezeFits c s → (w.views t).phase ≡ Some (Freezes (at_freeze x s)) →
+      next.words.level ≡ w.words.level → FreezeCause c t w earlier s →
+      let comes : Option Phase =
+      phase_after (after_of (Freezes (at_freeze x s)) (found_at w.words (Freezes (at_freeze x s)) hook) hook).0 in
+      (next.views t).phase ≡ comes → CauseOf c t next (w ∷ earlier) comes
+  freeze_own hook Locks f e same h e' = elim (eqb_tells w.words.umount 0) [ inl z ↦ rw z.0 tt | inr z ↦ rw z.0 tt ]
+  freeze_own hook LoadsStage f e same h e' =
+      elim (eqb_tells w.words.stage 0) [ inl z ↦ rw z.0 tt | inr z ↦ rw z.0 (stage_own e z.1 (rw z.0 at e')) ]
+  freeze_own hook LoadsSuperblock f e same h e' = elim (eqb_tells w.words.sb 0) [ inl z ↦ rw z.0 tt | inr z ↦ rw z.0 tt ]
+  freeze_own hook CompletesReadOnly f e same h e' = λ r. absurd (cc)
+  freeze_own hook SetsWrite f e same h e' = tt
+  freeze_own hook Unlocks f e same h e' = tt
+  freeze_own hook (Closes d) f e same h e' = closing_own d hook d.step f.0 f.1 f.4 same h e'
+  freeze_own hook LocksAgain f e same h e' = elim (eqb_tells w.words.umount 0) [ inl z ↦ rw z.0 tt | inr z ↦ rw z.0 tt ]
+  freeze_own hook SetsPageFault f e same h e' = tt
+  freeze_own hook (Cleans marks) f e same h e' = clearing_own (clear_after marks (w.words.node marks.node)).0 e'
+  freeze_own (Ok answer) SetsFs f e same h e' = tt
+  freeze_own (Err code) SetsFs f e same h e' = fails_own 2 code e'
+  freeze_own (Ok answer) SetsComplete f e same h e' = λ r. absurd (cc)
+  freeze_own (Err code) SetsComplete f e same h e' = fails_own 3 code e'
+  freeze_own hook (Reopens u code) f e same h e' =
+      reopening_own u.level code (up_write_after u u.step (found_at w.words (Freezes (at_freeze x (Reopens u code))) hook)).0 e'
+  freeze_own hook (Releases answer) f e same h e' = tt
+
+-- the cause that is kept of a freeze says what is to be told
+pub freeze_cause_tells : (c : Config) (t : ℕ) (w : World) (earlier : List World) (s : FreezeStep) → FreezeCause c t w earlier s →
+    FreezeHasCause c t (w ∷ earlier) s
+freeze_cause_tells c t w earlier (Releases answer) h = h
+freeze_cause_tells c t w earlier s h = tt

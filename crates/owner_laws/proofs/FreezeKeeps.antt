@@ -1,0 +1,66 @@
+-- All that is proved of a freeze, from the law of its events and from what its trace tells.
+use Rattle.std.proofs.Common.{◌≡◌, ℕ, ◌<◌, ap, refl, subst}
+use Rattle.std.specs.Prelude.{Some}
+use Rattle.freeze_levels.specs.declared.freezes.Freeze.{Freeze}
+use Rattle.gate_world.specs.Fits.{Fits, PhaseFits}
+use Rattle.gate_world.specs.Rules.{IsGood, Fitting}
+use Rattle.gate_world.specs.Views.{held_at, holds_level}
+use Rattle.gate_world.specs.Worlds.{World, after_step}
+use Rattle.gate_world.specs.declared.config.Config.{Config}
+use Rattle.gate_world.specs.declared.operations.Op.TheVariants.{Freeze as FreezeOp}
+use Rattle.gate_world.specs.declared.work.Phase.TheVariants.{Freezes}
+use Rattle.gate_frames.proofs.Keeps.{none_agree, word_among, PhaseKeeps, OpKeeps}
+use Rattle.gate_frames.proofs.Snapshots.{completes_none}
+use Rattle.owner_laws.proofs.FreezeFits.{freeze_word, freeze_acts, freeze_goes}
+use Rattle.owner_laws.proofs.FreezeCauses.{freeze_counts, freeze_stays, freeze_own, freeze_cause_tells}
+use Rattle.owner_laws.proofs.FreezeWaits.{freeze_waits}
+use Rattle.owner_laws.proofs.FreezeEvents.{freeze_keeps}
+use Rattle.owner_laws.proofs.FreezeRuns.{freeze_runs}
+use Rattle.owner_laws.proofs.FreezeTraces.{freeze_tells, freeze_short, freeze_restores}
+
+-- what a freeze says of its task's accesses, in a good world
+fits_here : (c : Config) (x : Freeze) (w : World) → IsGood c w → (t : ℕ) → t < c.tasks → (w.views t).phase ≡ Some (Freezes x) →
+    PhaseFits c t (held_at (w.views t)) (holds_level (w.views t)) (Freezes x)
+fits_here c x w good t lt e = subst (Fits c t (held_at (w.views t)) (holds_level (w.views t))) e (good Fitting t lt)
+
+-- of each of its phases
+pub freeze_phase : (c : Config) (x : Freeze) → PhaseKeeps c (Freezes x)
+freeze_phase c x = record {
+  step = λ within w good t lt hook e. freeze_keeps c within w good t lt hook x e;
+  runs = λ within w good t lt hook e. freeze_runs c within w good t lt hook x e;
+  completes = λ within w good t lt hook e. completes_none c w t hook (Freezes x) (λ trace found. refl);
+  word = λ within n le t lt held levels hook f. word_among c within n le _ (freeze_word c x x.step hook f.5);
+  acts = λ within t held levels found hook f. freeze_acts x x.step held found hook;
+  goes = λ within t held levels found hook f. freeze_goes c within t held levels x x.step found hook f;
+  agrees = λ t f g h k mounts levels fits.
+      (fits.0, fits.1, fits.2, fits.3, rw (← none_agree c t f g h k mounts levels) fits.4, fits.5);
+  quiet = λ w good t lt hook m e before after. ap (λ f. f m) (freeze_counts w t x hook x.step).0;
+  level_quiet = λ w good t lt hook i e before after. ap (λ f. f i) (freeze_counts w t x hook x.step).1;
+  stays = λ w next earlier after t f e was quiet h. freeze_stays c t w next earlier after x x.step f.5 e was quiet h;
+  causes = λ w earlier good t lt hook e after is h.
+      freeze_own c t w (after_step w t (Freezes x) hook) earlier after x hook x.step (fits_here c x w good t lt e).5 e
+      (freeze_counts w t x hook x.step).1 h is;
+  waits = λ within w earlier good t lt hook e cause.
+      freeze_waits c w earlier good t lt x hook x.step e (fits_here c x w good t lt e).5 cause;
+  tells = λ t w earlier fits h. freeze_cause_tells c t w earlier x.step h;
+}
+
+-- of its beginning and its trace
+pub freeze_op : (c : Config) → OpKeeps c FreezeOp
+freeze_op c = record {
+  fits = λ t held levels there order room. (refl, refl, refl, refl, order, tt);
+  no_role = λ t y. refl;
+  steady = λ t. record { owns_same = refl; remounts_same = refl; closing_same = λ i. refl };
+  aside = λ t. refl;
+  counts_not = λ t i. refl;
+  apart = λ t i. refl;
+  outside = λ t. refl;
+  off_tree = λ t trace. refl;
+  cause = λ t w earlier. tt;
+  order_agrees = λ f g h k mounts levels there. none_agree c 0 f g h k mounts levels;
+  room_agrees = λ f g mounts there. refl;
+  restores = λ refusal trace before order. freeze_restores refusal trace before;
+  tells = freeze_tells c;
+  short = freeze_short c;
+  most_small = λ within. tt;
+}

@@ -1,0 +1,390 @@
+-- The events of a freeze on `umount`, the stage and the superblock's flag, and its clearing of marks.
+use Rattle.std.proofs.Common.{◌≡◌, ℕ, ◌+◌, ◌<◌, refl, sym, ap, ◌∙◌, subst, inl, inr, arith}
+use Rattle.std.proofs.lemmas.Bool.{ne_eqb}
+use Rattle.std.proofs.lemmas.Bool.Decides.{eqb_tells}
+use Rattle.finite_sums.specs.Sums.{update}
+use Rattle.stage_laws.specs.Events.{Happens, playing}
+use Rattle.std.specs.Prelude.{◌∷◌, Option, Some, None, Ok, Err, Result}
+use Rattle.freeze_levels.specs.declared.freezes.Freeze.{Freeze}
+use Rattle.freeze_levels.specs.declared.freezes.FreezeStep.{FreezeStep}
+use Rattle.freeze_levels.specs.declared.freezes.FreezeStep.TheVariants.{Locks, LoadsStage, LoadsSuperblock, CompletesReadOnly, SetsWrite, Unlocks, LocksAgain, SetsPageFault, SetsFs, SetsComplete, Releases}
+use Rattle.freeze_levels.specs.Freezes.{at_freeze, freeze_closes, freeze_fails}
+use Rattle.access_model.specs.declared.actions.Action.{Action}
+use Rattle.access_model.specs.declared.actions.Action.TheVariants.{Stage as StageAction}
+use Rattle.access_model.specs.declared.errors.GateError.{GateError}
+use Rattle.access_model.specs.declared.errors.GateError.TheVariants.{Busy}
+use Rattle.access_model.specs.declared.replies.Reply.{Reply}
+use Rattle.access_model.specs.declared.replies.Reply.TheVariants.{Unit as UnitReply}
+use Rattle.access_model.specs.declared.replies.Next.TheVariants.{Go, Done}
+use Rattle.cpu_words.specs.declared.names.WordName.{WordName}
+use Rattle.cpu_words.specs.declared.names.WordName.TheVariants.{Umount, Stage as StageWord, SbFlags}
+use Rattle.cpu_words.specs.declared.events.Touch.{Touch}
+use Rattle.cpu_words.specs.declared.events.Touch.TheVariants.{Load, Store, Cas}
+use Rattle.cpu_words.specs.Words.{Words}
+use Rattle.cpu_words.specs.declared.events.Event.{Event}
+use Rattle.cpu_words.specs.Hooks.{HookAnswer}
+use Rattle.stage_laws.specs.Roles.{StageRole, Before, HasPassed, Owning, owns as stage_owns, is_full, KnowsStage}
+use Rattle.stage_laws.specs.Events.{StageEvent, Begins, Advances, Syncs, Completes, Fails, FreezesAtOnce, LetsGo, Stays, LoadsSb, Locks as LocksStage, LocksAgain as LocksStageAgain, LoadsStage as FindsStage, Releases as ReleasesStage, action_of as stage_action_of}
+use Rattle.gate_world.specs.declared.config.Config.{Config}
+use Rattle.gate_world.specs.declared.views.View.{View}
+use Rattle.gate_world.specs.declared.work.Phase.TheVariants.{Freezes}
+use Rattle.gate_world.specs.Configs.{IsWithin}
+use Rattle.gate_world.specs.Fits.{Fits, PhaseFits, FreezeFits}
+use Rattle.gate_world.specs.Levels.{Stand, closed_to, freeze_stand}
+use Rattle.gate_world.specs.Rules.{IsGood, Holds, Fitting, Stages, Tree, owns, OwnerHolds}
+use Rattle.gate_world.specs.Trees.{tree_bounds, tree_of, tree_role_of, tree_roles, freeze_tree_role}
+use Rattle.gated_tree.specs.Roles.{Out as OffTree, TreeState, HasNoCharge, sealed_by}
+use Rattle.tree_laws.specs.Events.{Event as TreeEvent, turned, Leaves, Seals}
+use Rattle.gate_frames.proofs.Trees.{sealed_frozen, tree_then, tree_after}
+use Rattle.gate_world.specs.Stages.{freeze_stage_role, stage_role_of}
+use Rattle.gate_world.specs.Views.{held_at, holds_level, view_with}
+use Rattle.gate_world.specs.Worlds.{World}
+use Rattle.gate_frames.proofs.Frames.{SameLevelCounts}
+use Rattle.gate_frames.proofs.Stages.{IsStageEvent, stages_in, nobody_owns}
+use Rattle.gate_frames.proofs.Standing.{Stands, LevelsHold, left_world}
+use Rattle.gate_frames.proofs.StandRoles.{closing_first, closing_next}
+use Rattle.gate_frames.proofs.WholeLevels.{freezes_all}
+use Rattle.gate_frames.proofs.WriterParts.{IsWriter, SameAtMounts, WriterKeeps, WriterLaw, freezes_write, idle_writes}
+use Rattle.gate_frames.proofs.WriterOwner.{owner_stays, lock_taken, lock_given}
+use Rattle.gate_frames.proofs.WriterStages.{stays_there, writer_beside, writer_stores, stored_levels, stored_tree, opened_tree}
+
+-- how a freeze stands with the levels
+pub freeze_stands : (x : Freeze) → Stands (Some (Freezes x)) (freeze_stand x.step)
+freeze_stands x = record { counts = λ i one three. refl; syncs = λ i one three. refl; outside = refl }
+
+-- an idle task stands nowhere
+pub idle_stands : Stands None None
+idle_stands = record { counts = λ i one three. refl; syncs = λ i one three. refl; outside = refl }
+
+-- of stages that aren't 4 none is frozen as a whole
+not_whole : (a b sb : ℕ) → (a ≡ 4 → ⊥) → (b ≡ 4 → ⊥) → is_full a sb ≡ is_full b sb
+not_whole a b sb na nb = rw (ne_eqb a 4 na, ne_eqb b 4 nb) refl
+
+module _ (c : Config) (lim : IsWithin c) (w : World) (good : IsGood c w) (t : ℕ) (lt : t < c.tasks) (x : Freeze) where
+  -- the task is at this step
+  abbrev pub IsHere : FreezeStep → Type 0
+  IsHere s = (w.views t).phase ≡ Some (Freezes (at_freeze x s))
+
+  -- the law of its event
+  abbrev pub Keeps : HookAnswer → FreezeStep → Type 0
+  Keeps hook s = WriterKeeps c w t hook (Freezes (at_freeze x s))
+
+  -- the step fits its task's accesses
+  abbrev pub FitsHere : FreezeStep → Type 0
+  FitsHere s = PhaseFits c t (held_at (w.views t)) (holds_level (w.views t)) (Freezes (at_freeze x s))
+
+  -- so it does in a good world
+  pub here_fits : (s : FreezeStep) → IsHere s → FitsHere s
+  here_fits s e = subst (Fits c t (held_at (w.views t)) (holds_level (w.views t))) e (good Fitting t lt)
+
+  -- what it relies on of the stage is so
+  pub here_knows : (s : FreezeStep) → IsHere s → KnowsStage w.words.stage w.words.sb (freeze_stage_role x.nodes s)
+  here_knows s e = subst (λ p. KnowsStage w.words.stage w.words.sb (stage_role_of p)) e ((good Stages).knows t lt)
+
+  -- it stands so with the levels
+  pub here_stands : (s : FreezeStep) → IsHere s → Stands (w.views t).phase (freeze_stand s)
+  here_stands s e = subst (λ p. Stands p (freeze_stand s)) (sym e) (freeze_stands (at_freeze x s))
+
+  -- it does so at the tree
+  pub here_tree : (s : FreezeStep) → IsHere s → tree_roles w t ≡ freeze_tree_role x.nodes s
+  here_tree s e = ap (tree_role_of (w.views t).trace) e
+
+  -- it has no role at a mount
+  pub here_writes : (s : FreezeStep) → IsHere s → IsWriter (w.views t).phase
+  here_writes s e = subst IsWriter (sym e) (freezes_write (at_freeze x s))
+
+  -- another step that fits
+  pub goes_to : (s s' : FreezeStep) → IsHere s → FreezeFits c s' → FitsHere s'
+  goes_to s s' e fit = let f : FitsHere s = here_fits s e in (f.0, f.1, f.2, f.3, f.4, fit)
+
+  -- the view after an event of this word and touch, after which this step comes
+  abbrev pub view_at : WordName × Touch → ℕ → HookAnswer → FreezeStep → Option Action → View
+  view_at n value hook s action = view_with (w.views t) n value hook (Go (Freezes (at_freeze x s)), action)
+
+  -- a store of the stage, after which this step comes
+  stores : (hook : HookAnswer) (s s' : FreezeStep) (e : IsHere s) (n : ℕ) (kind : StageEvent) →
+      stage_owns (freeze_stage_role x.nodes s) ≡ 1 → stage_owns (freeze_stage_role x.nodes s') ≡ 1 → FreezeFits c s' →
+      let v : View = view_at (StageWord, Store n) w.words.stage hook s' (Some (StageAction n)) in
+      let ws : Words = record w.words { stage = n } in
+      LevelsHold c (left_world w t ws v) → Holds c (left_world w t ws v) Tree → IsStageEvent c w good t lt ws v kind →
+      stage_action_of kind (stages_in w) ≡ Some (StageAction n) → WriterLaw c w t ws v (Some (StageAction n))
+  stores hook s s' e n kind o o' fit levels tree happens adds =
+      let v : View = view_at (StageWord, Store n) w.words.stage hook s' (Some (StageAction n)) in
+      let now : IsWriter v.phase = freezes_write (at_freeze x s') in
+      writer_stores c w good t lt v (here_writes s e) now
+      (record { held_same = refl; levels_same = refl; added_same = refl; taken_same = refl })
+      (record { held_same = refl; added_same = refl; taken_same = refl })
+      (goes_to s s' e fit) n kind
+      (owner_stays c w good t lt v (here_writes s e) now w.words refl refl (o' ∙ sym (ap owns e ∙ o)))
+      levels tree happens adds
+
+  -- which leaves the levels, where the file system is frozen as a whole or not as before
+  kept_levels : (hook : HookAnswer) (s s' : FreezeStep) (e : IsHere s) (n : ℕ) (stand : Option Stand) →
+      is_full n w.words.sb ≡ is_full w.words.stage w.words.sb → freeze_stand s ≡ stand → Stands (Some (Freezes (at_freeze x s'))) stand →
+      let v : View = view_at (StageWord, Store n) w.words.stage hook s' (Some (StageAction n)) in
+      LevelsHold c (left_world w t (record w.words { stage = n }) v)
+  kept_levels hook s s' e n stand whole before after =
+      let v : View = view_at (StageWord, Store n) w.words.stage hook s' (Some (StageAction n)) in
+      stored_levels c w good t lt v (record { held_same = refl; added_same = refl; taken_same = refl }) n stand whole
+      (subst (Stands (w.views t).phase) before (here_stands s e)) after
+
+  -- and the tree, where it is sealed or not as before, and the freeze does there what it did
+  kept_tree : (hook : HookAnswer) (s s' : FreezeStep) (e : IsHere s) (n : ℕ) → freeze_tree_role x.nodes s' ≡ freeze_tree_role x.nodes s →
+      sealed_by w.words.sb n ≡ sealed_by w.words.sb w.words.stage →
+      let v : View = view_at (StageWord, Store n) w.words.stage hook s' (Some (StageAction n)) in
+      Holds c (left_world w t (record w.words { stage = n }) v) Tree
+  kept_tree hook s s' e n same sealed =
+      stored_tree c w good t lt (view_at (StageWord, Store n) w.words.stage hook s' (Some (StageAction n))) (same ∙ sym (here_tree s e)) n
+      sealed
+
+  -- a store of stage 3, with no mark left, seals the tree
+  sealed_tree : (v : View) → IsHere SetsFs → tree_role_of v.trace v.phase ≡ OffTree →
+      Holds c (left_world w t (record w.words { stage = 3 }) v) Tree
+  sealed_tree v e now =
+      let f : FitsHere SetsFs = here_fits SetsFs e in
+      let after : ◌≡◌ {A = TreeState} (tree_then c w good t lt (record w.words { stage = 3 }) v)
+      (record (turned (tree_of w) t OffTree) { sealed = 1 }) =
+      λ j. record (tree_of w) { sealed = sealed_frozen w.words.sb 3 (omega arith) j; at = update (tree_roles w) t (now j) } in
+      tree_after c w good t lt (record w.words { stage = 3 }) v lim None
+      (subst (λ s. TreeEvent (tree_bounds c) (tree_of w) t s None) (sym after) (Seals x.nodes (omega (arith, f.3)) (here_tree SetsFs e)))
+
+  -- one of stage 0 in its place leaves it as it was
+  left_tree : (v : View) → IsHere SetsFs → tree_role_of v.trace v.phase ≡ OffTree →
+      Holds c (left_world w t (record w.words { stage = 0 }) v) Tree
+  left_tree v e now =
+      let k : w.words.stage ≡ 2 = here_knows SetsFs e in
+      let sealed : sealed_by w.words.sb 0 ≡ sealed_by w.words.sb w.words.stage = rw k refl in
+      let after : tree_then c w good t lt (record w.words { stage = 0 }) v ≡ turned (tree_of w) t OffTree =
+      λ j. record (tree_of w) { sealed = sealed j; at = update (tree_roles w) t (now j) } in
+      tree_after c w good t lt (record w.words { stage = 0 }) v lim None
+      (subst (λ s. TreeEvent (tree_bounds c) (tree_of w) t s None) (sym after)
+      (Leaves (subst HasNoCharge (sym (here_tree SetsFs e)) (record { blocks = refl; children = λ d. refl }))))
+
+  -- the superblock is read-only: stores stage 4 at once
+  pub completes_read_only : (hook : HookAnswer) → IsHere CompletesReadOnly → Keeps hook CompletesReadOnly
+  completes_read_only hook e =
+      let k : (w.words.stage ≡ 0) × (w.words.sb ≡ 1) = here_knows CompletesReadOnly e in
+      let s' : FreezeStep = Releases (Ok UnitReply) in
+      stores hook CompletesReadOnly s' e 4 FreezesAtOnce refl refl tt
+      (kept_levels hook CompletesReadOnly s' e 4 None (rw (k.0, k.1) refl) refl (freeze_stands (at_freeze x s')))
+      (kept_tree hook CompletesReadOnly s' e 4 refl (rw k.1 refl))
+      (ap stage_role_of e, refl) refl
+
+  -- stores stage 1
+  pub sets_write : (hook : HookAnswer) → IsHere SetsWrite → Keeps hook SetsWrite
+  sets_write hook e =
+      let k : (w.words.stage ≡ 0) × (w.words.sb ≡ 0) = here_knows SetsWrite e in
+      stores hook SetsWrite Unlocks e 1 Begins refl refl tt
+      (kept_levels hook SetsWrite Unlocks e 1 None (rw k.0 refl) refl (freeze_stands (at_freeze x Unlocks)))
+      (kept_tree hook SetsWrite Unlocks e 1 refl (rw k.0 refl))
+      (ap stage_role_of e, refl) refl
+
+  -- stores stage 2, and begins to close level 2
+  pub sets_page_fault : (hook : HookAnswer) → IsHere SetsPageFault → Keeps hook SetsPageFault
+  sets_page_fault hook e =
+      let f : FitsHere SetsPageFault = here_fits SetsPageFault e in
+      let k : w.words.stage ≡ 1 = here_knows SetsPageFault e in
+      let s' : FreezeStep = freeze_closes x 2 in
+      stores hook SetsPageFault s' e 2 (Advances 0) refl refl (omega arith, omega arith, f.1, f.2, tt, tt)
+      (kept_levels hook SetsPageFault s' e 2 (Some (closed_to 1)) (rw k refl) refl
+      (closing_next (Some (Freezes (at_freeze x s'))) 1 x.tasks x.processors (omega arith) (freeze_stands (at_freeze x s'))))
+      (kept_tree hook SetsPageFault s' e 2 refl (rw k refl))
+      (ap stage_role_of e, refl) refl
+
+  -- the file system has answered: stores stage 3, and begins to close level 3, or stores stage 0, and begins to reopen level 2
+  pub sets_fs : (hook : HookAnswer) → IsHere SetsFs → Keeps hook SetsFs
+  sets_fs (Ok answer) e =
+      let f : FitsHere SetsFs = here_fits SetsFs e in
+      let k : w.words.stage ≡ 2 = here_knows SetsFs e in
+      let s' : FreezeStep = freeze_closes x 3 in
+      stores (Ok answer) SetsFs s' e 3 (Syncs x.nodes) refl refl (omega arith, omega arith, f.1, f.2, tt, tt)
+      (kept_levels (Ok answer) SetsFs s' e 3 (Some (closed_to 2)) (rw k refl) refl
+      (closing_next (Some (Freezes (at_freeze x s'))) 2 x.tasks x.processors (omega arith) (freeze_stands (at_freeze x s'))))
+      (sealed_tree (view_at (StageWord, Store 3) w.words.stage (Ok answer) s' (Some (StageAction 3))) e refl)
+      (ap stage_role_of e, omega (arith, f.3), refl) refl
+  sets_fs (Err code) e =
+      let k : w.words.stage ≡ 2 = here_knows SetsFs e in
+      let s' : FreezeStep = freeze_fails 2 code in
+      stores (Err code) SetsFs s' e 0 (Fails 2 x.nodes) refl refl (omega arith, omega arith, tt)
+      (kept_levels (Err code) SetsFs s' e 0 (Some (closed_to 2)) (rw k refl) refl (freeze_stands (at_freeze x s')))
+      (left_tree (view_at (StageWord, Store 0) w.words.stage (Err code) s' (Some (StageAction 0))) e refl)
+      (ap stage_role_of e, omega arith, refl) refl
+
+  -- the same for stage 4, with which the closed levels are no task's own, or stage 0, after which level 3 is to be reopened
+  pub sets_complete : (hook : HookAnswer) → IsHere SetsComplete → Keeps hook SetsComplete
+  sets_complete (Ok answer) e =
+      let k : w.words.stage ≡ 3 = here_knows SetsComplete e in
+      let s' : FreezeStep = Releases (Ok UnitReply) in
+      let v : View = view_at (StageWord, Store 4) w.words.stage (Ok answer) s' (Some (StageAction 4)) in
+      let sb : w.words.sb ≡ 0 = (good Stages).writable (rw k refl) in
+      stores (Ok answer) SetsComplete s' e 4 (Completes 0) refl refl tt
+      (freezes_all c lim w good t lt (record w.words { stage = 4 }) v
+      (record { block_same = refl; level_same = refl; sync_same = refl; section_same = refl })
+      (record { held_same = refl; added_same = refl; taken_same = refl }) (here_stands SetsComplete e) (freeze_stands (at_freeze x s'))
+      (rw sb refl))
+      (kept_tree (Ok answer) SetsComplete s' e 4 refl
+      (sealed_frozen w.words.sb 4 (omega arith) ∙ sym (sealed_frozen w.words.sb w.words.stage (omega (arith, k)))))
+      (ap stage_role_of e, refl) refl
+  sets_complete (Err code) e =
+      let k : w.words.stage ≡ 3 = here_knows SetsComplete e in
+      let s' : FreezeStep = freeze_fails 3 code in
+      stores (Err code) SetsComplete s' e 0 (Fails 3 0) refl refl (omega arith, omega arith, tt)
+      (kept_levels (Err code) SetsComplete s' e 0 (Some (closed_to 3)) (rw k refl) refl (freeze_stands (at_freeze x s')))
+      (opened_tree c w good t lt lim (view_at (StageWord, Store 0) w.words.stage (Err code) s' (Some (StageAction 0)))
+      (sym (here_tree SetsComplete e)))
+      (ap stage_role_of e, omega arith, refl) refl
+
+  -- an event that leaves all words but `umount`, after which this step comes
+  beside : (s s' : FreezeStep) (e : IsHere s) (n value : ℕ) (word : WordName) (touch : Touch) (hook : HookAnswer) (stand : Option Stand)
+      (kind : StageEvent) →
+      let v : View = view_at (word, touch) value hook s' None in
+      SameAtMounts (w.views t) v → SameLevelCounts (w.views t) v → FreezeFits c s' →
+      OwnerHolds c.tasks n w.words.remount (λ y. (update w.views t v y).phase) →
+      freeze_stand s ≡ stand → Stands (Some (Freezes (at_freeze x s'))) stand → freeze_tree_role x.nodes s' ≡ freeze_tree_role x.nodes s →
+      IsStageEvent c w good t lt (record w.words { umount = n }) v kind → stage_action_of kind (stages_in w) ≡ None →
+      WriterLaw c w t (record w.words { umount = n }) v None
+  beside s s' e n value word touch hook stand kind mounts levels fit owner before after same happens adds =
+      writer_beside c w good t lt (view_at (word, touch) value hook s' None) (here_writes s e)
+      (freezes_write (at_freeze x s')) mounts levels
+      (goes_to s s' e fit) n stand kind owner
+      (subst (Stands (w.views t).phase) before (here_stands s e)) after (same ∙ sym (here_tree s e)) happens adds
+
+  -- the view after the lock was tried, which left this in `umount`, with this step to come
+  abbrev tried : HookAnswer → ℕ → FreezeStep → View
+  tried hook n s =
+      let event : Event = record { word = Umount; touch = Cas 0 (x.task + 1); found = w.words.umount; left = n } in
+      record (w.views t) {
+        phase = Some (Freezes (at_freeze x s));
+        events = event ∷ (w.views t).events;
+        trace = record { event = event; hook = hook } ∷ (w.views t).trace;
+      }
+
+  -- the lock is tried, and this step comes
+  tries : (s s' : FreezeStep) (e : IsHere s) (n : ℕ) (hook : HookAnswer) (stand : Option Stand) (kind : StageEvent) →
+      let v : View = tried hook n s' in
+      FreezeFits c s' → OwnerHolds c.tasks n w.words.remount (λ y. (update w.views t v y).phase) →
+      freeze_stand s ≡ stand → freeze_stand s' ≡ stand → freeze_tree_role x.nodes s' ≡ freeze_tree_role x.nodes s →
+      IsStageEvent c w good t lt (record w.words { umount = n }) v kind → stage_action_of kind (stages_in w) ≡ None →
+      WriterLaw c w t (record w.words { umount = n }) v None
+  tries s s' e n hook stand kind fit owner before after same happens adds =
+      writer_beside c w good t lt (tried hook n s') (here_writes s e) (freezes_write (at_freeze x s'))
+      (record { held_same = refl; levels_same = refl; added_same = refl; taken_same = refl })
+      (record { held_same = refl; added_same = refl; taken_same = refl }) (goes_to s s' e fit) n stand kind owner
+      (subst (Stands (w.views t).phase) before (here_stands s e))
+      (subst (Stands (Some (Freezes (at_freeze x s')))) after (freeze_stands (at_freeze x s'))) (same ∙ sym (here_tree s e)) happens adds
+
+  -- in vain: the same step comes again
+  tries_again : (s : FreezeStep) (e : IsHere s) (hook : HookAnswer) → FreezeFits c s →
+      WriterLaw c w t w.words (tried hook w.words.umount s) None
+  tries_again s e hook fit =
+      let v : View = tried hook w.words.umount s in
+      tries s s e w.words.umount hook (freeze_stand s) Stays fit
+      (owner_stays c w good t lt v (here_writes s e) (freezes_write (at_freeze x s)) w.words refl refl (sym (ap owns e))) refl refl refl
+      (stays_there c w good t lt w.words v
+      (record { stage_same = refl; sb_same = refl; remount_same = refl; block_same = refl; node_same = refl })
+      (sym (ap stage_role_of e))) refl
+
+  -- takes `umount` where it is free
+  pub locks : (hook : HookAnswer) → IsHere Locks → Keeps hook Locks
+  locks hook e =
+      let f : FitsHere Locks = here_fits Locks e in
+      elim (eqb_tells w.words.umount 0) [
+        | inl h ↦ rw h.0 (
+            let v : View = tried hook (x.task + 1) LoadsStage in
+            tries Locks LoadsStage e (x.task + 1) hook None LocksStage tt
+            (lock_taken c w good t lt v (here_writes Locks e) (freezes_write (at_freeze x LoadsStage)) (x.task + 1) h.1
+            (omega (arith, f.0)) refl)
+            refl refl refl (ap stage_role_of e, nobody_owns c w good h.1, refl) refl)
+        | inr h ↦ rw h.0 (tries_again Locks e hook tt)
+      ]
+
+  -- takes it again, with level 1 closed
+  pub locks_again : (hook : HookAnswer) → IsHere LocksAgain → Keeps hook LocksAgain
+  locks_again hook e =
+      let f : FitsHere LocksAgain = here_fits LocksAgain e in
+      elim (eqb_tells w.words.umount 0) [
+        | inl h ↦ rw h.0 (
+            let v : View = tried hook (x.task + 1) SetsPageFault in
+            tries LocksAgain SetsPageFault e (x.task + 1) hook (Some (closed_to 1)) (LocksStageAgain 1 (HasPassed 0)) tt
+            (lock_taken c w good t lt v (here_writes LocksAgain e) (freezes_write (at_freeze x SetsPageFault)) (x.task + 1) h.1
+            (omega (arith, f.0)) refl)
+            refl refl refl (ap stage_role_of e, nobody_owns c w good h.1, refl) refl)
+        | inr h ↦ rw h.0 (tries_again LocksAgain e hook tt)
+      ]
+
+  -- gives `umount` back, with stage 1 stored, and begins to close level 1
+  pub unlocks : (hook : HookAnswer) → IsHere Unlocks → Keeps hook Unlocks
+  unlocks hook e =
+      let f : FitsHere Unlocks = here_fits Unlocks e in
+      let s' : FreezeStep = freeze_closes x 1 in
+      let v : View = view_at (Umount, Store 0) w.words.umount hook s' None in
+      beside Unlocks s' e 0 w.words.umount Umount (Store 0) hook None (LetsGo 1 Before)
+      (record { held_same = refl; levels_same = refl; added_same = refl; taken_same = refl })
+      (record { held_same = refl; added_same = refl; taken_same = refl }) (omega arith, omega arith, f.1, f.2, tt, tt)
+      (lock_given c w good t lt v (here_writes Unlocks e) (freezes_write (at_freeze x s')) (ap owns e) refl)
+      refl (closing_first (Some (Freezes (at_freeze x s'))) x.tasks x.processors (freeze_stands (at_freeze x s')))
+      refl (ap stage_role_of e, refl) refl
+
+  -- gives it back at the end
+  pub releases : (hook : HookAnswer) (answer : Result Reply GateError) → IsHere (Releases answer) → Keeps hook (Releases answer)
+  releases hook answer e =
+      let s : FreezeStep = Releases answer in
+      let v : View = view_with (w.views t) (Umount, Store 0) w.words.umount hook (Done answer, None) in
+      writer_beside c w good t lt v (here_writes s e) idle_writes
+      (record { held_same = refl; levels_same = refl; added_same = refl; taken_same = refl })
+      (record { held_same = refl; added_same = refl; taken_same = refl }) tt 0 None (ReleasesStage None None)
+      (lock_given c w good t lt v (here_writes s e) idle_writes (ap owns e) refl)
+      (here_stands s e) idle_stands (sym (here_tree s e)) (ap stage_role_of e, refl) refl
+
+  -- a load by the owner, after which this step comes
+  loads : (hook : HookAnswer) (word : WordName) (value : ℕ) (s s' : FreezeStep) (e : IsHere s) (kind : StageEvent) →
+      let v : View = view_at (word, Load) value hook s' None in
+      stage_owns (freeze_stage_role x.nodes s) ≡ 1 → stage_owns (freeze_stage_role x.nodes s') ≡ 1 →
+      freeze_stand s ≡ None → freeze_stand s' ≡ None → freeze_tree_role x.nodes s' ≡ freeze_tree_role x.nodes s →
+      FreezeFits c s' → SameAtMounts (w.views t) v → SameLevelCounts (w.views t) v →
+      IsStageEvent c w good t lt w.words v kind → stage_action_of kind (stages_in w) ≡ None → WriterLaw c w t w.words v None
+  loads hook word value s s' e kind o o' before after same fit mounts levels happens adds =
+      let v : View = view_at (word, Load) value hook s' None in
+      beside s s' e w.words.umount value word Load hook None kind mounts levels fit
+      (owner_stays c w good t lt v (here_writes s e) (freezes_write (at_freeze x s')) w.words refl refl (o' ∙ sym (ap owns e ∙ o)))
+      before (subst (Stands (Some (Freezes (at_freeze x s')))) after (freeze_stands (at_freeze x s'))) same happens adds
+
+  -- an owner that found a word so relies on it
+  finds : (s : FreezeStep) (e : IsHere s) (v : View) (kind : StageEvent) → (found value : ℕ) → found ≡ value → (role : ℕ → StageRole) →
+      Happens c.tasks c.nodes t (stages_in w) (playing (stages_in w) t (role found)) kind →
+      stage_role_of v.phase ≡ role value → IsStageEvent c w good t lt w.words v kind
+  finds s e v kind found value same role h is =
+      subst (λ r. Happens c.tasks c.nodes t (stages_in w) (playing (stages_in w) t r) kind) (ap role same ∙ sym is) h
+
+  -- loads the stage
+  pub loads_stage : (hook : HookAnswer) → IsHere LoadsStage → Keeps hook LoadsStage
+  loads_stage hook e =
+      elim (eqb_tells w.words.stage 0) [
+        | inl h ↦ rw h.0 (loads hook StageWord w.words.stage LoadsStage LoadsSuperblock e (FindsStage None None) refl refl refl refl refl tt
+            (record { held_same = refl; levels_same = refl; added_same = refl; taken_same = refl })
+            (record { held_same = refl; added_same = refl; taken_same = refl })
+            (finds LoadsStage e (view_at (StageWord, Load) w.words.stage hook LoadsSuperblock None) (FindsStage None None) w.words.stage 0
+            h.1 (λ n. Owning (Some n) None) (ap stage_role_of e, refl) refl) refl)
+        | inr h ↦ rw h.0 (loads hook StageWord w.words.stage LoadsStage (Releases (Err Busy)) e Stays refl refl refl refl refl tt
+            (record { held_same = refl; levels_same = refl; added_same = refl; taken_same = refl })
+            (record { held_same = refl; added_same = refl; taken_same = refl })
+            (stays_there c w good t lt w.words (view_at (StageWord, Load) w.words.stage hook (Releases (Err Busy)) None)
+            (record { stage_same = refl; sb_same = refl; remount_same = refl; block_same = refl; node_same = refl })
+            (sym (ap stage_role_of e))) refl)
+      ]
+
+  -- loads the superblock's flag
+  pub loads_superblock : (hook : HookAnswer) → IsHere LoadsSuperblock → Keeps hook LoadsSuperblock
+  loads_superblock hook e =
+      elim (eqb_tells w.words.sb 0) [
+        | inl h ↦ rw h.0 (loads hook SbFlags w.words.sb LoadsSuperblock SetsWrite e (LoadsSb (Some 0) None) refl refl refl refl refl tt
+            (record { held_same = refl; levels_same = refl; added_same = refl; taken_same = refl })
+            (record { held_same = refl; added_same = refl; taken_same = refl })
+            (finds LoadsSuperblock e (view_at (SbFlags, Load) w.words.sb hook SetsWrite None) (LoadsSb (Some 0) None) w.words.sb 0 h.1
+            (λ n. Owning (Some 0) (Some n)) (ap stage_role_of e, refl) refl) refl)
+        | inr h ↦ rw h.0 (loads hook SbFlags w.words.sb LoadsSuperblock CompletesReadOnly e (LoadsSb (Some 0) None) refl refl refl refl refl
+            tt (record { held_same = refl; levels_same = refl; added_same = refl; taken_same = refl })
+            (record { held_same = refl; added_same = refl; taken_same = refl })
+            (finds LoadsSuperblock e (view_at (SbFlags, Load) w.words.sb hook CompletesReadOnly None) (LoadsSb (Some 0) None) w.words.sb
+            1 (omega (arith, h.1, (good Stages).superblock)) (λ n. Owning (Some 0) (Some n)) (ap stage_role_of e, refl) refl) refl)
+      ]

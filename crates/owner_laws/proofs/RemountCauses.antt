@@ -1,0 +1,197 @@
+-- The causes of a remount's refusals, along a schedule.
+use Rattle.access_model.specs.declared.errors.GateError.TheVariants.{Busy, Hook}
+use Rattle.access_model.specs.declared.errors.GateError.{GateError}
+use Rattle.access_model.specs.declared.replies.Reply.TheVariants.{Unit as UnitReply}
+use Rattle.access_model.specs.declared.replies.Reply.{Reply}
+use Rattle.gate_frames.proofs.Moments.{look_skips, look_stands}
+use Rattle.gate_frames.proofs.SumCauses.{counted_stays, sum_starts, sum_stays, sum_takes, sum_ends}
+use Rattle.cpu_words.specs.Hooks.{HookAnswer}
+use Rattle.cpu_words.specs.Touches.{wrap_add}
+use Rattle.cpu_words.specs.Words.{Words}
+use Rattle.cpu_words.specs.declared.names.WordName.TheVariants.{MountCount}
+use Rattle.cpu_words.specs.declared.sums.Sum.{Sum}
+use Rattle.gate_frames.proofs.Keeps.{by_bool}
+use Rattle.gate_frames.proofs.Words.{load_same}
+use Rattle.gate_world.specs.Causes.{all_counted, words_read, looks_at_stage, was_frozen, SomeWasCounted}
+use Rattle.gate_world.specs.KeptCauses.{ChangeCause, RemountAnswerCause, RemountCause, CauseOf}
+use Rattle.gate_world.specs.Remounts.{RemountFits}
+use Rattle.gate_world.specs.Rules.{IsGood}
+use Rattle.gate_world.specs.Views.{phase_after}
+use Rattle.gate_world.specs.Work.{after_of}
+use Rattle.gate_world.specs.Worlds.{World, found_at, after_step}
+use Rattle.gate_world.specs.declared.config.Config.{Config}
+use Rattle.gate_world.specs.declared.work.Phase.TheVariants.{Remounts}
+use Rattle.gate_world.specs.declared.work.Phase.{Phase}
+use Rattle.mount_counts.specs.Phases.{has_flag}
+use Rattle.mount_counts.specs.Remounts.{at_remount, remount_from, past_mount, let_go, give_up, remount_summed, past_node}
+use Rattle.mount_counts.specs.Sets.{with_mount, without_lowest}
+use Rattle.mount_counts.specs.declared.phases.ChangeStep.TheVariants.{Sums as SumsOne}
+use Rattle.mount_counts.specs.declared.remounts.Remount.{Remount}
+use Rattle.mount_counts.specs.declared.remounts.RemountStep.TheVariants.{Locks, LoadsStage, LoadsSuperblock, SetsWritable, LoadsFlags, SetsHold, Sums, SetsRemount, ClearsHold, GivesUp, ClearsMark, SetsReadOnly, ClearsRemount, Releases}
+use Rattle.mount_counts.specs.declared.remounts.RemountStep.{RemountStep}
+use Rattle.mount_counts.specs.declared.sets.MountSet.{MountSet}
+use Rattle.std.proofs.Common.{◌≡◌, ℕ, suc, ◌+◌, ◌<◌, Bool, true, false, refl, ap, ◌∙◌, inl, inr, arith}
+use Rattle.std.proofs.lemmas.Bool.Decides.{eqb_tells}
+use Rattle.std.proofs.lemmas.Bool.{ltb-false, ne_eqb, cases_Bool}
+use Rattle.std.specs.Prelude.{nat_lt, Option, Some, None, Result, Ok, Err, List, ◌∷◌, ◌==◌, not, if◌then◌else◌}
+
+module _ (w : World) (t : ℕ) (x : Remount) where
+  -- an event of a remount leaves the counts
+  pub remount_counts : (hook : HookAnswer) (s : RemountStep) →
+      (after_step w t (Remounts (at_remount x s)) hook).words.count ≡ w.words.count
+  remount_counts hook Locks = refl
+  remount_counts hook LoadsStage = refl
+  remount_counts hook LoadsSuperblock = refl
+  remount_counts (Ok answer) SetsWritable = refl
+  remount_counts (Err code) SetsWritable = refl
+  remount_counts hook (LoadsFlags m held) = refl
+  remount_counts hook (SetsHold m held) = refl
+  remount_counts hook (Sums m held sum) = ap (λ (ws : Words). ws.count) (load_same w.words (MountCount m sum.words))
+  remount_counts hook (SetsRemount held) = refl
+  remount_counts hook (ClearsHold held) = refl
+  remount_counts hook (GivesUp m held) = refl
+  remount_counts hook (ClearsMark n) = refl
+  remount_counts (Ok answer) SetsReadOnly = refl
+  remount_counts (Err code) SetsReadOnly = refl
+  remount_counts hook ClearsRemount = refl
+  remount_counts hook (Releases answer) = refl
+
+  -- and the levels
+  pub remount_levels : (hook : HookAnswer) (s : RemountStep) →
+      (after_step w t (Remounts (at_remount x s)) hook).words.level ≡ w.words.level
+  remount_levels hook Locks = refl
+  remount_levels hook LoadsStage = refl
+  remount_levels hook LoadsSuperblock = refl
+  remount_levels (Ok answer) SetsWritable = refl
+  remount_levels (Err code) SetsWritable = refl
+  remount_levels hook (LoadsFlags m held) = refl
+  remount_levels hook (SetsHold m held) = refl
+  remount_levels hook (Sums m held sum) = ap (λ (ws : Words). ws.level) (load_same w.words (MountCount m sum.words))
+  remount_levels hook (SetsRemount held) = refl
+  remount_levels hook (ClearsHold held) = refl
+  remount_levels hook (GivesUp m held) = refl
+  remount_levels hook (ClearsMark n) = refl
+  remount_levels (Ok answer) SetsReadOnly = refl
+  remount_levels (Err code) SetsReadOnly = refl
+  remount_levels hook ClearsRemount = refl
+  remount_levels hook (Releases answer) = refl
+
+-- where no word of a sum is to be loaded, what was counted at some mount stays so
+some_stays : (c : Config) (t : ℕ) (w : World) (earlier : List World) → words_read (w.views t).phase ≡ None → SomeWasCounted c t earlier →
+    SomeWasCounted c t (w ∷ earlier)
+some_stays c t w earlier e h = (h.0, h.1, counted_stays c t h.0 w earlier e h.2)
+
+-- a task whose view another entry leaves alone
+module _ (c : Config) (t : ℕ) (w next : World) (earlier : List World) (good : IsGood c next) (x : Remount) where
+  -- the cause of an answer stays
+  answer_stays : (answer : Result Reply GateError) → (next.views t).phase ≡ Some (Remounts (at_remount x (Releases answer))) →
+      RemountAnswerCause c t w earlier answer → RemountAnswerCause c t next (w ∷ earlier) answer
+  answer_stays answer e h r =
+      elim (h r) [
+        | inl frozen ↦ inl (ap (was_frozen c) (look_skips t next (w ∷ earlier) (ap looks_at_stage e)) ∙ frozen)
+        | inr busy ↦ inr (some_stays c t next (w ∷ earlier) (ap words_read e) busy)
+      ]
+
+  -- so does the cause of each step
+  pub remount_stays : (s : RemountStep) → RemountFits c s → (next.views t).phase ≡ Some (Remounts (at_remount x s)) →
+      (w.views t).phase ≡ Some (Remounts (at_remount x s)) →
+      ((m : ℕ) → all_counted c m w ≡ 0 → all_counted c m next ≡ 0 → next.words.count m ≡ w.words.count m) → RemountCause c t w earlier s →
+      RemountCause c t next (w ∷ earlier) s
+  remount_stays (Sums m held sum) f e was quiet h =
+      sum_stays c t m w next earlier sum h good f.0 (ap words_read e) (ap words_read was) (quiet m)
+  remount_stays (GivesUp m held) f e was quiet h = some_stays c t next (w ∷ earlier) (ap words_read e) h
+  remount_stays (Releases answer) f e was quiet h = answer_stays answer e h
+  remount_stays s f e was quiet h = tt
+
+-- the task that steps: what its next phase says, in the world after the event
+module _ (c : Config) (t : ℕ) (w next : World) (earlier : List World) (after : IsGood c next) (x : Remount) where
+  -- what a step says there
+  abbrev CauseAfter : RemountStep → Type 0
+  CauseAfter s = RemountCause c t next (w ∷ earlier) s
+
+  -- a remount that is done is not refused as busy
+  done_own : CauseAfter (Releases (Ok UnitReply))
+  done_own r = absurd (cc)
+
+  -- nor is one that the file system refused
+  hook_own : (code : ℕ) → CauseAfter (Releases (Err (Hook code)))
+  hook_own code r = absurd (cc)
+
+  -- nor is one whose state was found
+  from_own : (wanted found : Bool) → CauseAfter (remount_from wanted found)
+  from_own true true = done_own
+  from_own true false = tt
+  from_own false true = tt
+  from_own false false = done_own
+
+  -- a step to another mount, to a mark or to a hold to be cleared says nothing
+  past_mount_own : (m : ℕ) (held : MountSet) → CauseAfter (past_mount x.mounts m held)
+  past_mount_own m held =
+      by_bool (nat_lt (m + 1) x.mounts) (λ b. CauseAfter (if b then LoadsFlags (m + 1) held else SetsRemount held)) tt tt
+
+  let_go_own : (held : MountSet) → CauseAfter (let_go held)
+  let_go_own held = by_bool (held.bits == 0) (λ b. CauseAfter (if b then ClearsMark 1 else ClearsHold held)) tt tt
+
+  past_node_own : (n : ℕ) → CauseAfter (past_node x.nodes n)
+  past_node_own n = by_bool (nat_lt (n + 1) x.nodes) (λ b. CauseAfter (if b then ClearsMark (n + 1) else SetsReadOnly)) tt tt
+
+  -- a remount that gives up loads no word of a sum, so what was counted stays so
+  give_up_own : (m : ℕ) (held : MountSet) → (next.views t).phase ≡ Some (Remounts (at_remount x (give_up m held))) →
+      SomeWasCounted c t (w ∷ earlier) → CauseAfter (give_up m held)
+  give_up_own m held e h =
+      elim (eqb_tells held.bits 0) [
+        | inl z ↦ rw z.0 (λ r. inr (some_stays c t next (w ∷ earlier) (ap words_read (rw z.0 at e)) h))
+        | inr z ↦ rw z.0 (some_stays c t next (w ∷ earlier) (ap words_read (rw z.0 at e)) h)
+      ]
+
+  -- a sum with one word more: it goes on, the loop does, or the remount gives up
+  sum_own : (m : ℕ) (held : MountSet) (sum : Sum) → m < c.mounts → sum.words < c.processors → x.processors ≡ c.processors →
+      next.words.count m ≡ w.words.count m → ChangeCause c t w earlier m (SumsOne sum) →
+      (next.views t).phase ≡ Some (Remounts (at_remount x (remount_summed x m held sum (w.words.count m sum.words)))) →
+      CauseAfter (remount_summed x m held sum (w.words.count m sum.words))
+  sum_own m held sum lm there sp same h e =
+      let k : ℕ = sum.words in
+      let total : ℕ = wrap_add sum.total (w.words.count m k) in
+      let now : MountSet = with_mount held m in
+      elim (cases_Bool (nat_lt (k + 1) x.processors)) [
+        | inl more ↦ rw more (sum_takes c t m w next earlier sum h there same (ap words_read (rw more at e)))
+        | inr less ↦
+            elim (eqb_tells total 0) [
+              | inl z ↦ rw (less, z.0) (past_mount_own m now)
+              | inr z ↦
+                  let last : suc k ≡ c.processors = omega (arith, there, ltb-false (k + 1) x.processors less, sp) in
+                  rw (less, z.0) (give_up_own m now (rw (less, z.0) at e) (m, lm, sum_ends c t m w next earlier sum h there last z.1))
+            ]
+      ]
+
+  -- where the stage was found other than 0, it was so when the remount looked
+  stage_own : (w.views t).phase ≡ Some (Remounts (at_remount x LoadsStage)) → (w.words.stage ≡ 0 → ⊥) →
+      (next.views t).phase ≡ Some (Remounts (at_remount x (Releases (Err Busy)))) → CauseAfter (Releases (Err Busy))
+  stage_own e frozen e' r =
+      inl (ap (was_frozen c) (look_skips t next (w ∷ earlier) (ap looks_at_stage e') ∙ look_stands t w earlier (ap looks_at_stage e)) ∙
+      ap not (ne_eqb w.words.stage 0 frozen))
+
+  -- what comes after an event has its cause
+  pub remount_own : (hook : HookAnswer) (s : RemountStep) → x.processors ≡ c.processors → RemountFits c s →
+      (w.views t).phase ≡ Some (Remounts (at_remount x s)) → next.words.count ≡ w.words.count → RemountCause c t w earlier s →
+      let comes : Option Phase =
+      phase_after (after_of (Remounts (at_remount x s)) (found_at w.words (Remounts (at_remount x s)) hook) hook).0 in
+      (next.views t).phase ≡ comes → CauseOf c t next (w ∷ earlier) comes
+  remount_own hook Locks sp f e same h e' = elim (eqb_tells w.words.umount 0) [ inl z ↦ rw z.0 tt | inr z ↦ rw z.0 tt ]
+  remount_own hook LoadsStage sp f e same h e' =
+      elim (eqb_tells w.words.stage 0) [ inl z ↦ rw z.0 tt | inr z ↦ rw z.0 (stage_own e z.1 (rw z.0 at e')) ]
+  remount_own hook LoadsSuperblock sp f e same h e' = from_own x.read_only (not (w.words.sb == 0))
+  remount_own (Ok answer) SetsWritable sp f e same h e' = done_own
+  remount_own (Err code) SetsWritable sp f e same h e' = tt
+  remount_own hook (LoadsFlags m held) sp f e same h e' =
+      elim (cases_Bool (has_flag (w.words.flags m) 1)) [ inl z ↦ rw z (past_mount_own m held) | inr z ↦ rw z tt ]
+  remount_own hook (SetsHold m held) sp f e same h e' = sum_starts c t m next (w ∷ earlier) after f.0 (ap words_read e')
+  remount_own hook (Sums m held sum) sp f e same h e' = sum_own m held sum f.0 f.2 sp (ap (λ g. g m) same) h e'
+  remount_own hook (SetsRemount held) sp f e same h e' = let_go_own held
+  remount_own hook (ClearsHold held) sp f e same h e' = let_go_own (without_lowest held)
+  remount_own hook (GivesUp m held) sp f e same h e' = give_up_own m (without_lowest held) e' h
+  remount_own hook (ClearsMark n) sp f e same h e' = past_node_own n
+  remount_own (Ok answer) SetsReadOnly sp f e same h e' = tt
+  remount_own (Err code) SetsReadOnly sp f e same h e' = hook_own code
+  remount_own hook ClearsRemount sp f e same h e' = done_own
+  remount_own hook (Releases answer) sp f e same h e' = tt

@@ -1,0 +1,123 @@
+-- The causes of a thaw's refusals, along a schedule, and the counts, which a thaw leaves.
+use Rattle.std.proofs.Common.{◌≡◌, ℕ, refl, ap, ◌∙◌, inl, inr}
+use Rattle.std.proofs.lemmas.Bool.{ne_eqb}
+use Rattle.std.proofs.lemmas.Bool.Decides.{eqb_tells}
+use Rattle.std.specs.Prelude.{Option, Some, Ok, Err, List, ◌∷◌, ◌-◌, not}
+use Rattle.access_model.specs.declared.errors.GateError.TheVariants.{Invalid}
+use Rattle.access_model.specs.declared.replies.Reply.TheVariants.{Unit as UnitReply}
+use Rattle.access_model.specs.Replies.{map_next}
+use Rattle.gate_frames.proofs.Moments.{look_skips, look_stands}
+use Rattle.cpu_words.specs.Hooks.{HookAnswer}
+use Rattle.percpu_rwsem.specs.declared.transitions.Transition.TheVariants.{Loads, Exchanges}
+use Rattle.percpu_rwsem.specs.declared.transitions.TransitionNext.{TransitionNext}
+use Rattle.percpu_rwsem.specs.declared.transitions.TransitionNext.TheVariants.{More, Undefined, Made}
+use Rattle.percpu_rwsem.specs.declared.writers.UpWrite.{UpWrite}
+use Rattle.percpu_rwsem.specs.declared.writers.UpWriteStep.{UpWriteStep}
+use Rattle.percpu_rwsem.specs.declared.writers.UpWriteStep.TheVariants.{ClearsBlock, Exits}
+use Rattle.percpu_rwsem.specs.SyncWords.{on_exit}
+use Rattle.percpu_rwsem.specs.Transitions.{transition_after}
+use Rattle.percpu_rwsem.specs.Writers.{exit_made, up_write_after}
+use Rattle.freeze_levels.specs.declared.thaws.Thaw.{Thaw}
+use Rattle.freeze_levels.specs.declared.thaws.ThawStep.{ThawStep}
+use Rattle.freeze_levels.specs.declared.thaws.ThawStep.TheVariants.{
+  Locks,
+  LoadsStage,
+  LoadsSuperblock,
+  UnfreezesReadOnly,
+  SetsUnfrozen,
+  Reopens,
+  Releases,
+}
+use Rattle.freeze_levels.specs.Thaws.{at_thaw, thaw_opens, after_opening}
+use Rattle.gate_world.specs.declared.config.Config.{Config}
+use Rattle.gate_world.specs.declared.work.Phase.{Phase}
+use Rattle.gate_world.specs.declared.work.Phase.TheVariants.{Thaws}
+use Rattle.gate_world.specs.Causes.{looks_at_stage, was_incomplete, ThawHasCause}
+use Rattle.gate_world.specs.KeptCauses.{ThawCause, CauseOf}
+use Rattle.gate_world.specs.Views.{phase_after}
+use Rattle.gate_world.specs.Work.{after_of}
+use Rattle.gate_world.specs.Worlds.{World, found_at, after_step}
+
+module _ (w : World) (t : ℕ) (x : Thaw) (hook : HookAnswer) where
+  -- an event of a level's reopening leaves the counts of mounts and of levels
+  reopening_counts : (level : ℕ) (s : UpWriteStep) →
+      let next : World = after_step w t (Thaws (at_thaw x (Reopens (record { level = level; step = s })))) hook in
+      (next.words.count ≡ w.words.count) × (next.words.level ≡ w.words.level)
+  reopening_counts level ClearsBlock = (refl, refl)
+  reopening_counts level (Exits Loads) = (refl, refl)
+  reopening_counts level (Exits (Exchanges from to)) = (refl, refl)
+
+-- so does each event of a thaw
+pub thaw_counts : (w : World) (t : ℕ) (x : Thaw) (hook : HookAnswer) (s : ThawStep) →
+    let next : World = after_step w t (Thaws (at_thaw x s)) hook in
+    (next.words.count ≡ w.words.count) × (next.words.level ≡ w.words.level)
+thaw_counts w t x hook Locks = (refl, refl)
+thaw_counts w t x hook LoadsStage = (refl, refl)
+thaw_counts w t x hook LoadsSuperblock = (refl, refl)
+thaw_counts w t x hook UnfreezesReadOnly = (refl, refl)
+thaw_counts w t x (Ok answer) SetsUnfrozen = (refl, refl)
+thaw_counts w t x (Err code) SetsUnfrozen = (refl, refl)
+thaw_counts w t x hook (Reopens u) = reopening_counts w t x hook u.level u.step
+thaw_counts w t x hook (Releases answer) = (refl, refl)
+
+-- a task whose view another entry leaves alone: the cause of each step stays
+pub thaw_stays : (c : Config) (t : ℕ) (w next : World) (earlier : List World) (x : Thaw) (s : ThawStep) →
+    (next.views t).phase ≡ Some (Thaws (at_thaw x s)) → ThawCause c t w earlier s → ThawCause c t next (w ∷ earlier) s
+thaw_stays c t w next earlier x (Releases answer) e h =
+    λ r. ap (was_incomplete c) (look_skips t next (w ∷ earlier) (ap looks_at_stage e)) ∙ h r
+thaw_stays c t w next earlier x s e h = tt
+
+-- the cause that is kept is the one that is told
+pub thaw_told : (c : Config) (t : ℕ) (w : World) (earlier : List World) (s : ThawStep) → ThawCause c t w earlier s →
+    ThawHasCause c t (w ∷ earlier) s
+thaw_told c t w earlier (Releases answer) h = h
+thaw_told c t w earlier s h = tt
+
+-- the task that steps: what its next phase says, in the world after the event
+module _ (c : Config) (t : ℕ) (w next : World) (earlier : List World) (x : Thaw) where
+  -- what a step says there
+  abbrev CauseAfter : ThawStep → Type 0
+  CauseAfter s = ThawCause c t next (w ∷ earlier) s
+
+  -- a thaw that is done is not refused
+  done_own : CauseAfter (Releases (Ok UnitReply))
+  done_own r = absurd (cc)
+
+  -- nor is one that has a level to reopen
+  opens_own : (level : ℕ) → CauseAfter (thaw_opens level)
+  opens_own level = elim (eqb_tells level 0) [ inl z ↦ rw z.0 done_own | inr z ↦ rw z.0 tt ]
+
+  -- nor does an event of an up-write's transition say anything
+  exit_own : (level : ℕ) (u : UpWrite) (n : TransitionNext) →
+      CauseOf c t next (w ∷ earlier) (phase_after (map_next Thaws (after_opening x level (exit_made u n))))
+  exit_own level u (More transition) = tt
+  exit_own level u Undefined = tt
+  exit_own level u (Made state) = opens_own (level - 1)
+
+  -- or any other of its events
+  reopening_own : (u : UpWrite) (s : UpWriteStep) (found : ℕ) →
+      CauseOf c t next (w ∷ earlier) (phase_after (map_next Thaws (after_opening x u.level (up_write_after u s found).0)))
+  reopening_own u ClearsBlock found = tt
+  reopening_own u (Exits transition) found = exit_own u.level u (transition_after on_exit transition found)
+
+  -- where the stage was found other than 4, it was so when the thaw looked
+  stage_own : (w.views t).phase ≡ Some (Thaws (at_thaw x LoadsStage)) → (w.words.stage ≡ 4 → ⊥) →
+      (next.views t).phase ≡ Some (Thaws (at_thaw x (Releases (Err Invalid)))) → CauseAfter (Releases (Err Invalid))
+  stage_own e other e' r =
+      ap (was_incomplete c) (look_skips t next (w ∷ earlier) (ap looks_at_stage e') ∙ look_stands t w earlier (ap looks_at_stage e)) ∙
+      ap not (ne_eqb w.words.stage 4 other)
+
+  -- what comes after an event has its cause
+  pub thaw_own : (hook : HookAnswer) (s : ThawStep) → (w.views t).phase ≡ Some (Thaws (at_thaw x s)) →
+      let comes : Option Phase =
+      phase_after (after_of (Thaws (at_thaw x s)) (found_at w.words (Thaws (at_thaw x s)) hook) hook).0 in
+      (next.views t).phase ≡ comes → CauseOf c t next (w ∷ earlier) comes
+  thaw_own hook Locks e e' = elim (eqb_tells w.words.umount 0) [ inl z ↦ rw z.0 tt | inr z ↦ rw z.0 tt ]
+  thaw_own hook LoadsStage e e' =
+      elim (eqb_tells w.words.stage 4) [ inl z ↦ rw z.0 tt | inr z ↦ rw z.0 (stage_own e z.1 (rw z.0 at e')) ]
+  thaw_own hook LoadsSuperblock e e' = elim (eqb_tells w.words.sb 0) [ inl z ↦ rw z.0 tt | inr z ↦ rw z.0 tt ]
+  thaw_own hook UnfreezesReadOnly e e' = done_own
+  thaw_own (Ok answer) SetsUnfrozen e e' = tt
+  thaw_own (Err code) SetsUnfrozen e e' = tt
+  thaw_own hook (Reopens u) e e' = reopening_own u u.step (found_at w.words (Thaws (at_thaw x (Reopens u))) hook)
+  thaw_own hook (Releases answer) e e' = tt

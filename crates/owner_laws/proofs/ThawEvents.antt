@@ -1,0 +1,546 @@
+-- The law of each event of a thaw.
+use Rattle.std.proofs.Common.{refl, ◌∙◌, inr, ℕ, arith, ◌≤◌, ◌≡◌, subst, suc, ◌-◌, ◌<◌, zero, sym, inl, ap, ◌+◌}
+use Rattle.std.proofs.lemmas.Bool.{ne_eqb}
+use Rattle.std.proofs.lemmas.Bool.Decides.{eqb_tells}
+use Rattle.std.specs.Prelude.{if◌then◌else◌, List, Option, Some, None, ◌==◌, Result, Ok, ◌∷◌, Err}
+use Rattle.finite_sums.specs.Sums.{update}
+use Rattle.access_model.specs.Histories.{mounts_of, levels_of}
+use Rattle.access_model.specs.Replies.{map_next}
+use Rattle.access_model.specs.declared.actions.Action.{Action}
+use Rattle.access_model.specs.declared.actions.Action.TheVariants.{Stage as StageAction}
+use Rattle.access_model.specs.declared.errors.GateError.{GateError}
+use Rattle.access_model.specs.declared.errors.GateError.TheVariants.{Invalid, Hook}
+use Rattle.access_model.specs.declared.replies.Next.{Next}
+use Rattle.access_model.specs.declared.replies.Next.TheVariants.{Go, Wait, Done}
+use Rattle.access_model.specs.declared.replies.Reply.{Reply}
+use Rattle.access_model.specs.declared.replies.Reply.TheVariants.{Unit as UnitReply}
+use Rattle.cpu_words.specs.Hooks.{HookAnswer}
+use Rattle.cpu_words.specs.Touches.{found_by, left}
+use Rattle.cpu_words.specs.Words.{Words, read, put}
+use Rattle.cpu_words.specs.declared.events.Event.{Event}
+use Rattle.cpu_words.specs.declared.events.Touch.{Touch}
+use Rattle.cpu_words.specs.declared.events.Touch.TheVariants.{Store, Cas, Load}
+use Rattle.cpu_words.specs.declared.names.WordName.{WordName}
+use Rattle.cpu_words.specs.declared.names.WordName.TheVariants.{Stage, Umount, SbFlags}
+use Rattle.gated_tree.specs.Nodes.{dirty_in}
+use Rattle.percpu_rwsem.specs.SyncWords.{on_exit}
+use Rattle.percpu_rwsem.specs.Transitions.{transition_after}
+use Rattle.percpu_rwsem.specs.Writers.{exit_made, up_write_next, up_write_after}
+use Rattle.percpu_rwsem.specs.declared.transitions.Transition.{Transition}
+use Rattle.percpu_rwsem.specs.declared.transitions.Transition.TheVariants.{Exchanges, Loads}
+use Rattle.percpu_rwsem.specs.declared.transitions.TransitionNext.{TransitionNext}
+use Rattle.percpu_rwsem.specs.declared.transitions.TransitionNext.TheVariants.{More, Made, Undefined}
+use Rattle.percpu_rwsem.specs.declared.writers.UpWrite.{UpWrite}
+use Rattle.percpu_rwsem.specs.declared.writers.UpWriteStep.{UpWriteStep}
+use Rattle.percpu_rwsem.specs.declared.writers.UpWriteStep.TheVariants.{ClearsBlock, Exits}
+use Rattle.freeze_levels.specs.Levels.{reopening}
+use Rattle.freeze_levels.specs.Thaws.{at_thaw, thaw_opens, after_opening}
+use Rattle.freeze_levels.specs.declared.thaws.Thaw.{Thaw}
+use Rattle.freeze_levels.specs.declared.thaws.ThawStep.{ThawStep}
+use Rattle.freeze_levels.specs.declared.thaws.ThawStep.TheVariants.{
+  Locks,
+  LoadsStage,
+  LoadsSuperblock,
+  UnfreezesReadOnly,
+  SetsUnfrozen,
+  Reopens,
+  Releases,
+}
+use Rattle.stage_laws.specs.Events.{
+  StageEvent,
+  IsAlike,
+  Locks as LocksStage,
+  Releases as ReleasesStage,
+  Thaws as StoresThaw,
+  ThawsAtOnce,
+  ClearsBlock as ClearsBlockOf,
+  Recalls,
+  Stays,
+  playing,
+  action_of as stage_action_of,
+}
+use Rattle.stage_laws.specs.Roles.{StageRole, Owning, Reopening, KnowsStage, CleanBelow, clean_by, is_full, owns as stage_owns}
+use Rattle.stage_laws.specs.Shown.{state_after}
+use Rattle.gate_world.specs.Configs.{IsWithin, model_limits}
+use Rattle.gate_world.specs.Fits.{mounts_by, levels_by, PhaseFits, ThawFits, Fits}
+use Rattle.gate_world.specs.Levels.{
+  is_frozen_whole,
+  level_added_after,
+  level_taken_after,
+  thaw_stand,
+  level_added_by,
+  level_taken_by,
+  closed_to,
+}
+use Rattle.gate_world.specs.Rules.{owns, IsGood, Stages, StepKeeps, OwnerHolds, ViewFits, marks_of, Fitting}
+use Rattle.gate_world.specs.Shown.{stage_roles, shown}
+use Rattle.gate_world.specs.Stages.{thaw_stage_role, stage_role_of}
+use Rattle.gate_world.specs.Views.{
+  actions_after,
+  added_after,
+  taken_after,
+  phase_after,
+  held_at,
+  holds_level,
+  view_with,
+  added_by,
+  taken_by,
+}
+use Rattle.gate_world.specs.Worlds.{World}
+use Rattle.gate_world.specs.Trees.{tree_role_of}
+use Rattle.gate_world.specs.declared.views.Traced.{Traced}
+use Rattle.gated_tree.specs.Roles.{Out as OffTree}
+use Rattle.gate_world.specs.declared.config.Config.{Config}
+use Rattle.gate_world.specs.declared.views.View.{View}
+use Rattle.gate_world.specs.declared.work.Phase.TheVariants.{Thaws}
+use Rattle.gate_frames.proofs.Frames.{added_load, taken_load}
+use Rattle.gate_frames.proofs.Keeps.{by_bool}
+use Rattle.gate_frames.proofs.MountEvents.{level_added_load, level_taken_load}
+use Rattle.gate_frames.proofs.Stages.{stages_in, IsStageEvent, nobody_owns}
+use Rattle.gate_frames.proofs.Standing.{Stands, still_closed, stand_after_opening, LevelsHold, left_world}
+use Rattle.gate_frames.proofs.UpLevels.{up_write_levels}
+use Rattle.gate_frames.proofs.WholeLevels.{thaws_all}
+use Rattle.gate_frames.proofs.WriterOwner.{lock_given, lock_taken, owner_stays}
+use Rattle.gate_frames.proofs.WriterParts.{
+  AsksWhere,
+  IsWriter,
+  WriterLaw,
+  thaw_work,
+  idle_writes,
+  LeavesRest,
+  WriterKeeps,
+  reopening_owns,
+  thaws_write,
+  thaw_comes,
+  whole_writer,
+}
+use Rattle.gate_frames.proofs.WriterStages.{opened_tree, writer_beside, writer_stores, stored_levels, stays_there, none_leaves, SameStageWords}
+use Rattle.gate_frames.proofs.WriterWords.{tree_beside, writer_at_level, up_write_words, up_write_counts_none, up_write_adds, reopen_leaves}
+use Rattle.owner_laws.proofs.ThawFits.{thaw_goes}
+
+-- owners that rely on one thing or another are alike
+owners_alike : (stage sb stage' sb' : Option ℕ) → IsAlike (Owning stage sb) (Owning stage' sb')
+owners_alike stage sb stage' sb' =
+    record { owns_same = refl; freezes_same = refl; remounts_same = refl; closed_same = refl; passed_same = refl }
+
+-- a role is like itself
+alike_same : (r : StageRole) → IsAlike r r
+alike_same r = record { owns_same = refl; freezes_same = refl; remounts_same = refl; closed_same = refl; passed_same = refl }
+
+-- no node is below the first
+none_below : (dirty : ℕ → ℕ) → CleanBelow 0 dirty
+none_below dirty n below = absurd (omega (arith, below))
+
+-- a thaw stands with the levels as its step does
+pub thaw_stands : (x : Thaw) → Stands (Some (Thaws x)) (thaw_stand x.step)
+thaw_stands x = record { counts = λ i one three. refl; syncs = λ i one three. refl; outside = refl }
+
+-- and no operation with none
+pub idle_stands : Stands None None
+idle_stands = record { counts = λ i one three. refl; syncs = λ i one three. refl; outside = refl }
+
+-- What comes after an event of a level's reopening.
+module _ (x : Thaw) where
+  -- with the levels up to one still closed
+  opens_stand : (level : ℕ) → Stands (Some (Thaws (at_thaw x (thaw_opens level)))) (still_closed level)
+  opens_stand level =
+      by_bool (level == 0)
+      (λ b. Stands (Some (Thaws (at_thaw x (if b then Releases (Ok UnitReply) else Reopens (reopening level)))))
+      (if b then None else Some (closed_to level)))
+      (thaw_stands (at_thaw x (Releases (Ok UnitReply)))) (thaw_stands (at_thaw x (Reopens (reopening level))))
+
+  -- it stands so with the levels
+  pub opening_stands : (level : ℕ) (n : Next UpWrite) →
+      Stands (phase_after (map_next Thaws (after_opening x level n))) (stand_after_opening level n)
+  opening_stands level (Go u) = thaw_stands (at_thaw x (Reopens u))
+  opening_stands level (Wait u) = thaw_stands (at_thaw x (Reopens u))
+  opening_stands level (Done answer) = opens_stand (level - 1)
+
+  -- it owns `umount`, with the levels up to one still closed
+  opens_own : (level : ℕ) → stage_owns (thaw_stage_role (thaw_opens level)) ≡ 1
+  opens_own level =
+      by_bool (level == 0) (λ b. stage_owns (thaw_stage_role (if b then Releases (Ok UnitReply) else Reopens (reopening level))) ≡ 1)
+      refl refl
+
+  -- and after each event
+  opening_owns : (level : ℕ) (n : Next UpWrite) → owns (phase_after (map_next Thaws (after_opening x level n))) ≡ 1
+  opening_owns level (Go u) = reopening_owns u.level u.step
+  opening_owns level (Wait u) = reopening_owns u.level u.step
+  opening_owns level (Done answer) = opens_own (level - 1)
+
+-- a thaw does nothing at the tree, whatever comes after an event of it
+tree_comes : (trace : List Traced) (n : Next Thaw) → tree_role_of trace (phase_after (map_next Thaws n)) ≡ OffTree
+tree_comes trace (Go x) = refl
+tree_comes trace (Wait x) = refl
+tree_comes trace (Done answer) = refl
+
+-- a role that is like this one, relies on what is so, and has cleared nodes that are clean
+abbrev GoesOn : StageRole → ℕ → ℕ → (ℕ → ℕ) → StageRole → Type 0
+GoesOn old stage sb dirty r = IsAlike old r × KnowsStage stage sb r × CleanBelow (clean_by r) dirty
+
+-- with these levels still closed at stage 0, it goes on to the next of them, or to its release
+opens_on : (level stage sb : ℕ) (dirty : ℕ → ℕ) → level ≤ 3 → stage ≡ 0 →
+    GoesOn (Reopening level) stage sb dirty (thaw_stage_role (thaw_opens level))
+opens_on zero stage sb dirty l3 z = (
+  record { owns_same = refl; freezes_same = refl; remounts_same = refl; closed_same = refl; passed_same = refl },
+  (tt, tt),
+  none_below dirty,
+)
+opens_on (suc n) stage sb dirty l3 z =
+    rw (ne_eqb (suc n) 0 (λ q. omega (arith, q))) (alike_same (Reopening (suc n)), (z, l3), none_below dirty)
+
+-- so it does after an event of the exchange of a level that is open
+exit_on : (x : Thaw) (level : ℕ) (s : UpWriteStep) (n : TransitionNext) (stage sb : ℕ) (dirty : ℕ → ℕ) → level ≤ 3 → stage ≡ 0 →
+    GoesOn (Reopening (level - 1)) stage sb dirty
+    (stage_role_of (phase_after (map_next Thaws (after_opening x level (exit_made (record { level = level; step = s }) n)))))
+exit_on x level s (More transition) stage sb dirty l3 z = (alike_same (Reopening (level - 1)), (z, omega (arith, l3)), none_below dirty)
+exit_on x level s Undefined stage sb dirty l3 z = (alike_same (Reopening (level - 1)), (z, omega (arith, l3)), none_below dirty)
+exit_on x level s (Made state) stage sb dirty l3 z = opens_on (level - 1) stage sb dirty (omega (arith, l3)) z
+
+module _ (c : Config) (lim : IsWithin c) (w : World) (good : IsGood c w) (t : ℕ) (lt : t < c.tasks) (x : Thaw) where
+  -- the task is at this step of the thaw
+  abbrev pub IsHere : ThawStep → Type 0
+  IsHere s = (w.views t).phase ≡ Some (Thaws (at_thaw x s))
+
+  -- the law of its event
+  abbrev Keeps : HookAnswer → ThawStep → Type 0
+  Keeps hook s = WriterKeeps c w t hook (Thaws (at_thaw x s))
+
+  -- this step fits the task's accesses
+  abbrev pub FitsHere : ThawStep → Type 0
+  FitsHere s = PhaseFits c t (held_at (w.views t)) (holds_level (w.views t)) (Thaws (at_thaw x s))
+
+  -- as the one does at which it is
+  pub here_fits : (s : ThawStep) → IsHere s → FitsHere s
+  here_fits s e = subst (Fits c t (held_at (w.views t)) (holds_level (w.views t))) e (good Fitting t lt)
+
+  -- and another step that fits
+  goes_to : (s s' : ThawStep) → IsHere s → ThawFits s' → FitsHere s'
+  goes_to s s' e fit = let f : FitsHere s = here_fits s e in (f.0, f.1, fit)
+
+  -- what it relies on is so
+  pub here_knows : (s : ThawStep) → IsHere s → KnowsStage w.words.stage w.words.sb (thaw_stage_role s)
+  here_knows s e = subst (λ p. KnowsStage w.words.stage w.words.sb (stage_role_of p)) e ((good Stages).knows t lt)
+
+  -- it stands with the levels as its step does
+  pub here_stands : (s : ThawStep) → IsHere s → Stands (w.views t).phase (thaw_stand s)
+  here_stands s e = subst (λ p. Stands p (thaw_stand s)) (sym e) (thaw_stands (at_thaw x s))
+
+  -- it does nothing at the tree
+  here_off_tree : (s : ThawStep) → IsHere s → tree_role_of (w.views t).trace (w.views t).phase ≡ OffTree
+  here_off_tree s e = ap (tree_role_of (w.views t).trace) e
+
+  -- it has no role at a mount
+  here_writes : (s : ThawStep) → IsHere s → IsWriter (w.views t).phase
+  here_writes s e = subst IsWriter (sym e) (thaws_write (at_thaw x s))
+
+  -- the view after an event of this word and touch, after which this step comes
+  abbrev view_at : WordName × Touch → ℕ → HookAnswer → ThawStep → Option Action → View
+  view_at event value hook s action = view_with (w.views t) event value hook (Go (Thaws (at_thaw x s)), action)
+
+  -- a load by the owner, which goes on relying on this
+  load_law : (hook : HookAnswer) (name : WordName) (value : ℕ) (s s' : ThawStep) (e : IsHere s) → thaw_stand s ≡ None →
+      thaw_stand s' ≡ None → (stage sb stage' sb' : Option ℕ) → thaw_stage_role s ≡ Owning stage sb →
+      thaw_stage_role s' ≡ Owning stage' sb' → ThawFits s' → KnowsStage w.words.stage w.words.sb (Owning stage' sb') →
+      WriterLaw c w t w.words (view_at (name, Load) value hook s' None) None
+  load_law hook name value s s' e none none' stage sb stage' sb' role role' fit knows =
+      let v : View = view_at (name, Load) value hook s' None in
+      let now : IsWriter v.phase = thaws_write (at_thaw x s') in
+      writer_beside c w good t lt v (here_writes s e) now
+      (record {
+        held_same = refl;
+        levels_same = refl;
+        added_same = added_load name (added_by (w.views t).events);
+        taken_same = taken_load name (taken_by (w.views t).events);
+      })
+      (record {
+        held_same = refl;
+        added_same = level_added_load name Load (level_added_by (w.views t).events) refl;
+        taken_same = level_taken_load name Load (level_taken_by (w.views t).events) refl;
+      })
+      (goes_to s s' e fit) w.words.umount None (Recalls (Owning stage sb) (Owning stage' sb'))
+      (owner_stays c w good t lt v (here_writes s e) now w.words refl refl (ap stage_owns role' ∙ sym (ap owns e ∙ ap stage_owns role)))
+      (subst (Stands (w.views t).phase) none (here_stands s e))
+      (subst (Stands (Some (Thaws (at_thaw x s')))) none' (thaw_stands (at_thaw x s'))) (sym (here_off_tree s e)) (
+        ap stage_role_of e ∙ role,
+        owners_alike stage sb stage' sb',
+        knows,
+        none_below (marks_of w.words),
+        ap (playing (stages_in w) t) role',
+      )
+      refl
+
+  -- the owner's store of stage 0, by what it leaves of the levels and by its kind
+  store_law : (hook : HookAnswer) (s s' : ThawStep) (e : IsHere s) (kind : StageEvent) → stage_owns (thaw_stage_role s) ≡ 1 →
+      stage_owns (thaw_stage_role s') ≡ 1 → ThawFits s' →
+      let v : View = view_at (Stage, Store 0) w.words.stage hook s' (Some (StageAction 0)) in
+      let ws : Words = record w.words { stage = 0 } in
+      LevelsHold c (left_world w t ws v) → IsStageEvent c w good t lt ws v kind →
+      stage_action_of kind (stages_in w) ≡ Some (StageAction 0) → WriterLaw c w t ws v (Some (StageAction 0))
+  store_law hook s s' e kind own own' fit levels happens adds =
+      let v : View = view_at (Stage, Store 0) w.words.stage hook s' (Some (StageAction 0)) in
+      let now : IsWriter v.phase = thaws_write (at_thaw x s') in
+      writer_stores c w good t lt v (here_writes s e) now
+      (record { held_same = refl; levels_same = refl; added_same = refl; taken_same = refl })
+      (record { held_same = refl; added_same = refl; taken_same = refl })
+      (goes_to s s' e fit) 0 kind
+      (owner_stays c w good t lt v (here_writes s e) now w.words refl refl (own' ∙ sym (ap owns e ∙ own)))
+      levels (opened_tree c w good t lt lim v (sym (here_off_tree s e))) happens adds
+
+  -- gives `umount` back; meets: the next owner takes it
+  gives_back : (hook : HookAnswer) (s : ThawStep) (e : IsHere s) → thaw_stand s ≡ None → (answer : Result Reply GateError)
+      (stage sb : Option ℕ) → thaw_stage_role s ≡ Owning stage sb →
+      let v : View = view_with (w.views t) (Umount, Store 0) w.words.umount hook (Done answer, None) in
+      WriterLaw c w t (record w.words { umount = 0 }) v None
+  gives_back hook s e none answer stage sb role =
+      let v : View = view_with (w.views t) (Umount, Store 0) w.words.umount hook (Done answer, None) in
+      writer_beside c w good t lt v (here_writes s e) idle_writes
+      (record { held_same = refl; levels_same = refl; added_same = refl; taken_same = refl })
+      (record { held_same = refl; added_same = refl; taken_same = refl })
+      tt 0 None (ReleasesStage stage sb)
+      (lock_given c w good t lt v (here_writes s e) idle_writes (ap owns e ∙ ap stage_owns role) refl)
+      (subst (Stands (w.views t).phase) none (here_stands s e)) idle_stands (sym (here_off_tree s e)) (ap stage_role_of e ∙ role, refl)
+      refl
+
+  -- the view after the lock was tried, which left this in `umount`
+  abbrev tried : HookAnswer → ℕ → ThawStep → View
+  tried hook n s =
+      let event : Event = record { word = Umount; touch = Cas 0 (x.task + 1); found = w.words.umount; left = n } in
+      record (w.views t) {
+        phase = Some (Thaws (at_thaw x s));
+        events = event ∷ (w.views t).events;
+        trace = record { event = event; hook = hook } ∷ (w.views t).trace;
+      }
+
+  -- a try of the lock, which leaves this in `umount`, and after which this step comes
+  try_law : (hook : HookAnswer) (e : IsHere Locks) (n : ℕ) (s : ThawStep) → thaw_stand s ≡ None → ThawFits s → (kind : StageEvent) →
+      OwnerHolds c.tasks n w.words.remount (λ y. (update w.views t (tried hook n s) y).phase) →
+      IsStageEvent c w good t lt (record w.words { umount = n }) (tried hook n s) kind → stage_action_of kind (stages_in w) ≡ None →
+      WriterLaw c w t (record w.words { umount = n }) (tried hook n s) None
+  try_law hook e n s none fit kind owner happens adds =
+      writer_beside c w good t lt (tried hook n s) (here_writes Locks e) (thaws_write (at_thaw x s))
+      (record { held_same = refl; levels_same = refl; added_same = refl; taken_same = refl })
+      (record { held_same = refl; added_same = refl; taken_same = refl })
+      (goes_to Locks s e fit) n None kind owner (here_stands Locks e)
+      (subst (Stands (Some (Thaws (at_thaw x s)))) none (thaw_stands (at_thaw x s))) (sym (here_off_tree Locks e)) happens adds
+
+  -- takes `umount` where it is free; meets: its owner gives it back last
+  locks : (hook : HookAnswer) → IsHere Locks → Keeps hook Locks
+  locks hook e =
+      elim (eqb_tells w.words.umount 0) [
+        | inl h ↦ rw h.0 (
+            let n : ℕ = x.task + 1 in
+            let mine : n ≡ suc t = omega (arith, (here_fits Locks e).0) in
+            try_law hook e n LoadsStage refl tt LocksStage
+            (lock_taken c w good t lt (tried hook n LoadsStage) (here_writes Locks e) (thaws_write (at_thaw x LoadsStage)) n h.1 mine refl)
+            (ap stage_role_of e, nobody_owns c w good h.1, refl) refl)
+        | inr h ↦ rw h.0 (
+            let n : ℕ = w.words.umount in
+            try_law hook e n Locks refl tt Stays
+            (owner_stays c w good t lt (tried hook n Locks) (here_writes Locks e) (thaws_write (at_thaw x Locks)) w.words refl refl
+            (sym (ap owns e)))
+            (stays_there c w good t lt w.words (tried hook n Locks)
+            (record { stage_same = refl; sb_same = refl; remount_same = refl; block_same = refl; node_same = refl })
+            (sym (ap stage_role_of e))) refl)
+      ]
+
+  -- loads the stage, which has to be 4; meets: whoever changes it owns `umount`
+  loads_stage : (hook : HookAnswer) → IsHere LoadsStage → Keeps hook LoadsStage
+  loads_stage hook e =
+      elim (eqb_tells w.words.stage 4) [
+        | inl h ↦ rw h.0 (load_law hook Stage w.words.stage LoadsStage LoadsSuperblock e refl refl None None (Some 4) None refl refl tt
+            (h.1, tt))
+        | inr h ↦ rw h.0 (load_law hook Stage w.words.stage LoadsStage (Releases (Err Invalid)) e refl refl None None None None refl refl tt
+            (tt, tt))
+      ]
+
+  -- loads the superblock's flag: 0, or else 1
+  loads_superblock : (hook : HookAnswer) → IsHere LoadsSuperblock → Keeps hook LoadsSuperblock
+  loads_superblock hook e =
+      let s : ThawStep = LoadsSuperblock in
+      let k : (w.words.stage ≡ 4) × Unit {0} = here_knows s e in
+      elim (eqb_tells w.words.sb 0) [
+        | inl h ↦ rw h.0 (load_law hook SbFlags w.words.sb s SetsUnfrozen e refl refl (Some 4) None (Some 4) (Some 0) refl refl tt
+            (k.0, h.1))
+        | inr h ↦ rw h.0 (load_law hook SbFlags w.words.sb s UnfreezesReadOnly e refl refl (Some 4) None (Some 4) (Some 1) refl refl tt
+            (k.0, omega (arith, h.1, (good Stages).superblock)))
+      ]
+
+  -- a read-only superblock is thawed at once: its freeze closed no level
+  unfreezes_read_only : (hook : HookAnswer) → IsHere UnfreezesReadOnly → Keeps hook UnfreezesReadOnly
+  unfreezes_read_only hook e =
+      let k : (w.words.stage ≡ 4) × (w.words.sb ≡ 1) = here_knows UnfreezesReadOnly e in
+      let s' : ThawStep = Releases (Ok UnitReply) in
+      let v : View = view_at (Stage, Store 0) w.words.stage hook s' (Some (StageAction 0)) in
+      let whole : is_full 0 w.words.sb ≡ is_full w.words.stage w.words.sb = rw (k.0, k.1) refl in
+      store_law hook UnfreezesReadOnly s' e ThawsAtOnce refl refl tt
+      (stored_levels c w good t lt v (record { held_same = refl; added_same = refl; taken_same = refl }) 0 None whole
+      (here_stands UnfreezesReadOnly e) (thaw_stands (at_thaw x s')))
+      (ap stage_role_of e, refl) refl
+
+  -- stores stage 0 of a writable superblock, with all levels closed as the thaw's own from here on, or gives `umount` back, where
+  -- the file system refused
+  sets_unfrozen : (hook : HookAnswer) → IsHere SetsUnfrozen → Keeps hook SetsUnfrozen
+  sets_unfrozen (Ok answer) e =
+      let k : (w.words.stage ≡ 4) × (w.words.sb ≡ 0) = here_knows SetsUnfrozen e in
+      let s' : ThawStep = Reopens (reopening 3) in
+      let v : View = view_at (Stage, Store 0) w.words.stage (Ok answer) s' (Some (StageAction 0)) in
+      let frozen : is_frozen_whole w.words ≡ 1 = rw (k.0, k.1) refl in
+      store_law (Ok answer) SetsUnfrozen s' e StoresThaw refl refl (omega arith, omega arith, tt)
+      (thaws_all c lim w good t lt (record w.words { stage = 0 }) v
+      (record { block_same = refl; level_same = refl; sync_same = refl; section_same = refl })
+      (record { held_same = refl; added_same = refl; taken_same = refl }) (here_stands SetsUnfrozen e) (thaw_stands (at_thaw x s'))
+      frozen refl)
+      (ap stage_role_of e, refl) refl
+  sets_unfrozen (Err code) e = gives_back (Err code) SetsUnfrozen e refl (Err (Hook code)) (Some 4) (Some 0) refl
+
+  -- gives `umount` back with its answer
+  releases : (hook : HookAnswer) (answer : Result Reply GateError) → IsHere (Releases answer) → Keeps hook (Releases answer)
+  releases hook answer e = gives_back hook (Releases answer) e refl answer None None refl
+
+  -- What an event of a level's reopening finds and leaves.
+  module _ (hook : HookAnswer) (u : UpWrite) where
+    -- its word and its touch
+    abbrev event_here : WordName × Touch
+    event_here = up_write_next u u.step
+
+    -- what it finds
+    abbrev found_here : ℕ
+    found_here = found_by event_here.1 (read w.words event_here.0)
+
+    -- what comes after it
+    abbrev next_here : Next UpWrite × Option Action
+    next_here = up_write_after u u.step found_here
+
+    -- the words after it
+    abbrev words_here : Words
+    words_here = put w.words event_here.0 (left event_here.1 (read w.words event_here.0))
+
+    -- and the task's view
+    abbrev view_here : View
+    view_here =
+        view_with (w.views t) event_here (read w.words event_here.0) hook
+        (map_next Thaws (after_opening x u.level next_here.0), next_here.1)
+
+    -- it leaves the task's accesses at the mounts
+    held_here : held_at view_here ≡ held_at (w.views t)
+    held_here =
+        up_write_adds u (λ a. mounts_of (actions_after a (w.views t).actions) ≡ held_at (w.views t)) refl refl u.step found_here
+
+    -- and at the levels
+    levels_here : holds_level view_here ≡ holds_level (w.views t)
+    levels_here =
+        up_write_adds u (λ a. levels_of (actions_after a (w.views t).actions) ≡ holds_level (w.views t)) refl refl u.step found_here
+
+    -- what comes after it fits them
+    fits_here : FitsHere (Reopens u) → ViewFits c t view_here
+    fits_here f =
+        subst (λ h. Fits c t h (holds_level view_here) view_here.phase)
+        (up_write_adds u (λ a. mounts_by a (held_at (w.views t)) ≡ mounts_of (actions_after a (w.views t).actions)) refl refl u.step
+        found_here)
+        (subst (λ h. Fits c t (mounts_by next_here.1 (held_at (w.views t))) h view_here.phase)
+        (up_write_adds u (λ a. levels_by a (holds_level (w.views t)) ≡ levels_of (actions_after a (w.views t).actions)) refl refl u.step
+        found_here)
+        (thaw_goes c t (held_at (w.views t)) (holds_level (w.views t)) x (Reopens u) found_here hook f))
+
+    -- the law of it, by what it is of the stage
+    reopens_law : (e : IsHere (Reopens u)) (kind : StageEvent) → IsStageEvent c w good t lt words_here view_here kind →
+        stage_action_of kind (stages_in w) ≡ next_here.1 → WriterLaw c w t words_here view_here next_here.1
+    reopens_law e kind happens adds =
+        let f : FitsHere (Reopens u) = here_fits (Reopens u) e in
+        let none : (g : ℕ → ℕ → ℕ) → (added_after event_here.0 event_here.1 g ≡ g) × (taken_after event_here.0 event_here.1 g ≡ g) ×
+        (level_added_after event_here.0 event_here.1 g ≡ g) × (level_taken_after event_here.0 event_here.1 g ≡ g) =
+        up_write_counts_none u u.step in
+        writer_at_level c w good t lt words_here view_here next_here.1 kind (here_writes (Reopens u) e)
+        (thaw_comes (after_opening x u.level next_here.0)) (up_write_words w.words u u.step)
+        (record {
+          held_same = held_here;
+          levels_same = levels_here;
+          added_same = (none (added_by (w.views t).events)).0;
+          taken_same = (none (taken_by (w.views t).events)).1;
+        })
+        (fits_here f)
+        (opening_owns x u.level next_here.0 ∙ sym (ap owns e ∙ reopening_owns u.level u.step))
+        (up_write_levels c lim w good t lt u view_here
+        (record {
+          held_same = levels_here;
+          added_same = (none (level_added_by (w.views t).events)).2;
+          taken_same = (none (level_taken_by (w.views t).events)).3;
+        })
+        f.2 (here_stands (Reopens u) e) (opening_stands x u.level next_here.0))
+        (tree_beside c w good t lt words_here view_here (up_write_words w.words u u.step)
+        (tree_comes view_here.trace (after_opening x u.level next_here.0) ∙ sym (here_off_tree (Reopens u) e)))
+        happens adds
+        (up_write_adds u (AsksWhere (model_limits c) (shown c w)) tt tt u.step found_here)
+        (up_write_adds u (λ a. LeavesRest (shown c w) (state_after (shown c w) t a) (shown c w).tree)
+        (none_leaves c w good t lt) (reopen_leaves (shown c w) t u.level) u.step found_here)
+
+    -- where the level is open and it leaves the words of the stage, the thaw goes on to the next level or to its release
+    leaves_law : (e : IsHere (Reopens u)) → thaw_stage_role (Reopens u) ≡ Reopening (u.level - 1) → None ≡ next_here.1 →
+        GoesOn (Reopening (u.level - 1)) w.words.stage w.words.sb (marks_of w.words) (stage_role_of view_here.phase) →
+        SameStageWords w.words words_here → WriterLaw c w t words_here view_here next_here.1
+    leaves_law e role none on same =
+        reopens_law e (Recalls (Reopening (u.level - 1)) (stage_role_of view_here.phase)) (
+          ap stage_role_of e ∙ role,
+          on.0,
+          on.1,
+          on.2,
+          λ j. record {
+            stage = same.stage_same j;
+            sb = same.sb_same j;
+            remount = same.remount_same j;
+            block = same.block_same j;
+            dirty = λ n. dirty_in (same.node_same j n);
+            at = update (stage_roles w) t (stage_role_of view_here.phase);
+          },
+        ) none
+
+  -- opens a level; meets: who seeks its grant finds its `block` clear
+  clears_block : (hook : HookAnswer) (level : ℕ) → IsHere (Reopens (record { level = level; step = ClearsBlock })) →
+      Keeps hook (Reopens (record { level = level; step = ClearsBlock }))
+  clears_block hook zero e = absurd (omega (arith, (here_fits (Reopens (record { level = zero; step = ClearsBlock })) e).2.0))
+  clears_block hook (suc below) e =
+      let down : suc below - 1 ≡ below = omega arith in
+      reopens_law hook (record { level = suc below; step = ClearsBlock }) e (ClearsBlockOf below) (
+        ap stage_role_of e,
+        ap (λ k. playing (record (stages_in w) { block = update w.words.block (suc below) 0 }) t (Reopening k)) down,
+      ) refl
+
+  -- leaves its rcu_sync; meets: the next writer enters it
+  exits : (hook : HookAnswer) (level : ℕ) (transition : Transition) →
+      IsHere (Reopens (record { level = level; step = Exits transition })) →
+      Keeps hook (Reopens (record { level = level; step = Exits transition }))
+  exits hook level Loads e =
+      let u : UpWrite = record { level = level; step = Exits Loads } in
+      leaves_law hook u e refl refl
+      (exit_on x level u.step (transition_after on_exit Loads (w.words.sync level)) w.words.stage w.words.sb (marks_of w.words)
+      (here_fits (Reopens u) e).2.1 (here_knows (Reopens u) e).0)
+      (record { stage_same = refl; sb_same = refl; remount_same = refl; block_same = refl; node_same = refl })
+  exits hook level (Exchanges from to) e =
+      let u : UpWrite = record { level = level; step = Exits (Exchanges from to) } in
+      leaves_law hook u e refl refl
+      (exit_on x level u.step (transition_after on_exit (Exchanges from to) (w.words.sync level)) w.words.stage w.words.sb
+      (marks_of w.words) (here_fits (Reopens u) e).2.1 (here_knows (Reopens u) e).0)
+      (record { stage_same = refl; sb_same = refl; remount_same = refl; block_same = refl; node_same = refl })
+
+  -- each event of a level's reopening
+  reopening_event : (hook : HookAnswer) (level : ℕ) (s : UpWriteStep) → IsHere (Reopens (record { level = level; step = s })) →
+      Keeps hook (Reopens (record { level = level; step = s }))
+  reopening_event hook level ClearsBlock e = clears_block hook level e
+  reopening_event hook level (Exits transition) e = exits hook level transition e
+
+  -- each of them
+  thaw_event : (hook : HookAnswer) (s : ThawStep) → IsHere s → Keeps hook s
+  thaw_event hook Locks e = locks hook e
+  thaw_event hook LoadsStage e = loads_stage hook e
+  thaw_event hook LoadsSuperblock e = loads_superblock hook e
+  thaw_event hook UnfreezesReadOnly e = unfreezes_read_only hook e
+  thaw_event hook SetsUnfrozen e = sets_unfrozen hook e
+  thaw_event hook (Reopens u) e = reopening_event hook u.level u.step e
+  thaw_event hook (Releases answer) e = releases hook answer e
+
+-- each event of a thaw keeps the rule, and moves the shown model by its action
+pub thaw_keeps : (c : Config) → IsWithin c → (w : World) → IsGood c w → (t : ℕ) → t < c.tasks → (hook : HookAnswer) (x : Thaw) →
+    (w.views t).phase ≡ Some (Thaws x) → StepKeeps c w t hook (Thaws x)
+thaw_keeps c lim w good t lt hook x e =
+    whole_writer c w t lt good hook (Thaws x) e (thaw_work w x hook) (thaw_event c lim w good t lt x hook x.step e)

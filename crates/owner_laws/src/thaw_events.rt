@@ -1,0 +1,17 @@
+//! The laws of a thaw: each event keeps the rule, and moves the shown model by its action or not at all. It has no code: its function
+//! states a law.
+
+ghost use Rattle.std.specs.Prelude.{◌≡◌, ℕ, ◌<◌, Some};
+ghost use Rattle.cpu_words.specs.Hooks.{HookAnswer};
+ghost use Rattle.freeze_levels.specs.declared.thaws.Thaw.{Thaw};
+ghost use Rattle.gate_world.specs.declared.config.Config.{Config};
+ghost use Rattle.gate_world.specs.declared.work.Phase.TheVariants.{Thaws};
+ghost use Rattle.gate_world.specs.Configs.{IsWithin};
+ghost use Rattle.gate_world.specs.Worlds.{World};
+ghost use Rattle.gate_world.specs.Rules.{IsGood, StepKeeps};
+
+/// Each event of a thaw keeps the rule. Does nothing: its contract is the law.
+pub fn each_event_of_a_thaw_keeps_the_rule()
+    ensures { (c : Config) → IsWithin c → (w : World) → IsGood c w → (t : ℕ) → t < c.tasks → (hook : HookAnswer) → (x : Thaw) →
+        (w.views t).phase ≡ Some (Thaws x) → StepKeeps c w t hook (Thaws x) }
+{}

@@ -1,6 +1,0 @@
-use Rattle.read_laws.proofs.EndEvents.{end_keeps}
-use Rattle.read_laws.proofs.the_event_of_an_up_read_keeps_the_rule.Goals as goal
-
--- an end has one event
-pub returns : goal.returns
-returns g = λ c lim w good t lt hook u e. end_keeps c lim w good t lt hook u e

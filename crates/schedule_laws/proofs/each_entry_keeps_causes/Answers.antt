@@ -1,5 +1,0 @@
-use Rattle.schedule_laws.proofs.Entries.{happens_causes}
-use Rattle.schedule_laws.proofs.each_entry_keeps_causes.Goals as goal
-
-pub returns : goal.returns
-returns c = happens_causes

@@ -1,4 +1,0 @@
-pub mod Frozen
-pub mod Noted
-pub mod Completes
-pub mod SnapshotEvents

@@ -1,3 +1,0 @@
-pub mod Says
-pub mod Traced
-pub mod Cleans

@@ -1,4 +1,0 @@
-pub mod Holders
-pub mod MayTree
-pub mod NodeParts
-pub mod NodeEvents

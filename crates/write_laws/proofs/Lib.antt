@@ -1,5 +1,0 @@
-pub mod Alikes
-pub mod WriteSteps
-pub mod WriteTraces
-pub mod WriteCauses
-pub mod WriteKeeps

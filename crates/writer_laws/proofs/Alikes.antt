@@ -1,0 +1,91 @@
+-- Each phase of a write access is alike to the phase of its gate, before an event and after it; and what fits then, and what is said of
+-- causes and of waits.
+use Rattle.std.proofs.Common.{◌≡◌, ℕ, ◌<◌, Bool, true, refl, ap, ◌∙◌, subst}
+use Rattle.std.specs.Prelude.{Option, Some, None, Ok, Err, List}
+use Rattle.access_model.specs.declared.replies.Next.{Next}
+use Rattle.access_model.specs.declared.replies.Next.TheVariants.{Go, Wait, Done}
+use Rattle.access_model.specs.Replies.{map_next}
+use Rattle.mount_counts.specs.declared.phases.MountPhase.TheVariants.{Want as Wants}
+use Rattle.mount_counts.specs.declared.phases.Want.{Want}
+use Rattle.percpu_rwsem.specs.declared.readers.DownRead.{DownRead}
+use Rattle.write_access.specs.declared.phases.WritePhase.{WritePhase}
+use Rattle.write_access.specs.declared.phases.WritePhase.TheVariants.{Takes, Wants as WriteWants, GivesBack, Drops, Ends}
+use Rattle.write_access.specs.Phases.{then_wants, then_gives_back}
+use Rattle.gate_world.specs.declared.config.Config.{Config}
+use Rattle.gate_world.specs.declared.work.Phase.{Phase}
+use Rattle.gate_world.specs.declared.work.Phase.TheVariants.{Mounts, DownReads, Writes}
+use Rattle.gate_world.specs.Views.{phase_after}
+use Rattle.gate_world.specs.Work.{plain}
+use Rattle.gate_world.specs.Fits.{Fits}
+use Rattle.gate_world.specs.Alike.{IsAlike}
+use Rattle.gate_world.specs.Trees.{tree_role_of}
+use Rattle.gate_world.specs.declared.views.Traced.{Traced}
+use Rattle.gate_world.specs.Rules.{owns, remounts, role_of}
+use Rattle.gate_world.specs.Stages.{stage_role_of}
+use Rattle.stage_laws.specs.Roles.{sums}
+use Rattle.gate_world.specs.Levels.{level_role_of, sync_role_of, inside}
+use Rattle.gate_frames.proofs.Loads.{role_none}
+use Rattle.writer_laws.proofs.ReadFits.{ReadGoes}
+
+-- phases of which all that is read is the same
+alike_as : {p q : Option Phase} → owns q ≡ owns p → remounts q ≡ remounts p → stage_role_of q ≡ stage_role_of p →
+    ((i : ℕ) → level_role_of i q ≡ level_role_of i p) → ((i : ℕ) → sync_role_of i q ≡ sync_role_of i p) → inside q ≡ inside p →
+    ((trace : List Traced) → tree_role_of trace q ≡ tree_role_of trace p) → ((m : ℕ) → role_of m q ≡ role_of m p) → IsAlike p q
+alike_as o r d l s i a m = record {
+  steady = record { owns_same = o; remounts_same = r; closing_same = λ j. ap (sums j) d };
+  stage_same = d;
+  level_same = l;
+  sync_same = s;
+  inside_same = i;
+  tree_same = a;
+  role_same = m;
+}
+
+-- each phase is alike to the one of its gate
+pub alike_plain : (x : WritePhase) → IsAlike (Some (Writes x)) (Some (plain x))
+alike_plain (Takes m r) = alike_as refl refl refl (λ i. refl) (λ i. refl) refl (λ a. refl) (λ y. refl)
+alike_plain (WriteWants x) = alike_as refl refl refl (λ i. refl) (λ i. refl) refl (λ a. refl) (λ y. refl)
+alike_plain (GivesBack m p refusal) = alike_as refl refl refl (λ i. refl) (λ i. refl) refl (λ a. refl) (λ y. refl)
+alike_plain (Drops m p) = alike_as refl refl refl (λ i. refl) (λ i. refl) refl (λ a. refl) (λ y. refl)
+alike_plain (Ends p) = alike_as refl refl refl (λ i. refl) (λ i. refl) refl (λ a. refl) (λ y. refl)
+
+-- what comes after an event at level 1 is alike to what comes in its own operation: the want that follows has no role yet
+pub alike_takes : (m p : ℕ) (n : Next DownRead) →
+    IsAlike (phase_after (map_next DownReads n)) (phase_after (map_next Writes (then_wants m p n)))
+alike_takes m p (Go r) = alike_as refl refl refl (λ i. refl) (λ i. refl) refl (λ a. refl) (λ y. refl)
+alike_takes m p (Wait r) = alike_as refl refl refl (λ i. refl) (λ i. refl) refl (λ a. refl) (λ y. refl)
+alike_takes m p (Done (Ok reply)) = alike_as refl refl refl (λ i. refl) (λ i. refl) refl (λ a. refl) (λ y. role_none y m)
+alike_takes m p (Done (Err refusal)) = alike_as refl refl refl (λ i. refl) (λ i. refl) refl (λ a. refl) (λ y. refl)
+
+-- and so is what comes after an event at the mount: an end of level 1 has no role
+pub alike_wants : (m p : ℕ) (n : Next Want) →
+    IsAlike (phase_after (map_next Mounts (map_next Wants n))) (phase_after (map_next Writes (then_gives_back m p n)))
+alike_wants m p (Go x) = alike_as refl refl refl (λ i. refl) (λ i. refl) refl (λ a. refl) (λ y. refl)
+alike_wants m p (Wait x) = alike_as refl refl refl (λ i. refl) (λ i. refl) refl (λ a. refl) (λ y. refl)
+alike_wants m p (Done (Ok reply)) = alike_as refl refl refl (λ i. refl) (λ i. refl) refl (λ a. refl) (λ y. refl)
+alike_wants m p (Done (Err refusal)) = alike_as refl refl refl (λ i. refl) (λ i. refl) refl (λ a. refl) (λ y. refl)
+
+-- the end that follows a drop is alike to nothing
+pub alike_ends : (p : ℕ) → IsAlike None (Some (Writes (Ends p)))
+alike_ends p = alike_as refl refl refl (λ i. refl) (λ i. refl) refl (λ a. refl) (λ y. refl)
+
+-- and nothing to nothing
+pub alike_none : IsAlike None None
+alike_none = alike_as refl refl refl (λ i. refl) (λ i. refl) refl (λ a. refl) (λ y. refl)
+
+module _ (c : Config) (t : ℕ) (held : ℕ → ℕ) (levels : ℕ → Bool) (m p : ℕ) (there : m < c.mounts) (cpu : p < c.processors) where
+  -- level 1 is taken with room for the mount's access, which is wanted with the level held
+  pub takes_goes : (i : ℕ) (n : Next DownRead) → i ≡ 1 → held m < 1024 → ReadGoes c t i p levels n →
+      Fits c t held levels (phase_after (map_next Writes (then_wants m p n)))
+  takes_goes i (Go r) one room h = (h.0, h.1 ∙ one, there, room)
+  takes_goes i (Wait r) one room h = (h.0, h.1 ∙ one, there, room)
+  takes_goes i (Done (Ok reply)) one room h = ((there, cpu, room), subst (λ j. levels j ≡ true) one h)
+  takes_goes i (Done (Err refusal)) one room h = tt
+
+  -- the level is held while the mount is wanted, and where it is left
+  pub wants_goes : (n : Next Want) → levels 1 ≡ true → Fits c t held levels (phase_after (map_next Mounts (map_next Wants n))) →
+      Fits c t held levels (phase_after (map_next Writes (then_gives_back m p n)))
+  wants_goes (Go x) one h = (h, one)
+  wants_goes (Wait x) one h = (h, one)
+  wants_goes (Done (Ok reply)) one h = tt
+  wants_goes (Done (Err refusal)) one h = (there, cpu, one)

@@ -1,0 +1,105 @@
+-- All that is proved of a callback.
+use Rattle.access_model.specs.declared.replies.Next.TheVariants.{Go, Wait, Done}
+use Rattle.access_model.specs.declared.actions.Action.{Action}
+use Rattle.access_model.specs.Replies.{map_next}
+use Rattle.gate_world.specs.KeptCauses.{CauseOf}
+use Rattle.access_model.specs.declared.replies.Next.{Next}
+use Rattle.percpu_rwsem.specs.Callbacks.{at_callback, callback_after}
+use Rattle.cpu_words.specs.Hooks.{HookAnswer}
+use Rattle.std.proofs.Common.{◌≡◌, ℕ, refl, ap, subst, ◌≤◌, sym}
+use Rattle.std.specs.Prelude.{Some, List, ◌==◌, Option, ◌∷◌}
+use Rattle.percpu_rwsem.specs.declared.callbacks.Callback.{Callback}
+use Rattle.percpu_rwsem.specs.declared.callbacks.CallbackStep.{CallbackStep}
+use Rattle.percpu_rwsem.specs.declared.callbacks.CallbackStep.TheVariants.{Claims, AwaitsSections, CallsBack}
+use Rattle.percpu_rwsem.specs.declared.transitions.Transition.TheVariants.{Loads, Exchanges}
+use Rattle.level_laws.specs.Roles.{Out as IsApart}
+use Rattle.gate_world.specs.declared.config.Config.{Config}
+use Rattle.gate_world.specs.declared.operations.Op.TheVariants.{Callback as CallbackOp}
+use Rattle.gate_world.specs.declared.work.Phase.TheVariants.{Callbacks}
+use Rattle.gate_world.specs.Fits.{Fits, ActionFits, mounts_by, levels_by}
+use Rattle.gate_world.specs.Levels.{sync_role_if}
+use Rattle.gate_world.specs.Rules.{Fitting}
+use Rattle.gate_world.specs.Views.{held_at, holds_level, phase_after}
+use Rattle.gate_world.specs.Worlds.{World, after_step, found_at}
+use Rattle.gate_frames.proofs.Keeps.{by_bool, word_among, PhaseKeeps, OpKeeps}
+use Rattle.gate_frames.proofs.Snapshots.{completes_none}
+use Rattle.gate_frames.proofs.Says.{tells, is_short}
+use Rattle.writer_laws.proofs.ReadFits.{level_there, callback_there, callback_goes, callback_acts_none}
+use Rattle.writer_laws.proofs.CallbackEvents.{callback_keeps}
+use Rattle.writer_laws.proofs.ReadWaits.{callback_waits}
+use Rattle.writer_laws.proofs.ReadRuns.{callback_runs}
+use Rattle.writer_laws.proofs.CallbackTraces.{CallbackAt, callback_kept}
+
+-- no event of a callback touches a mount's count
+callback_counts : (w : World) (t : ℕ) (hook : HookAnswer) (b : Callback) (s : CallbackStep) →
+    (after_step w t (Callbacks (at_callback b s)) hook).words.count ≡ w.words.count
+callback_counts w t hook b (Claims Loads) = refl
+callback_counts w t hook b (Claims (Exchanges from to)) = refl
+callback_counts w t hook b (AwaitsSections grace) = refl
+callback_counts w t hook b (CallsBack Loads) = refl
+callback_counts w t hook b (CallsBack (Exchanges from to)) = refl
+
+-- nor a level's
+callback_levels : (w : World) (t : ℕ) (hook : HookAnswer) (b : Callback) (s : CallbackStep) →
+    (after_step w t (Callbacks (at_callback b s)) hook).words.level ≡ w.words.level
+callback_levels w t hook b (Claims Loads) = refl
+callback_levels w t hook b (Claims (Exchanges from to)) = refl
+callback_levels w t hook b (AwaitsSections grace) = refl
+callback_levels w t hook b (CallsBack Loads) = refl
+callback_levels w t hook b (CallsBack (Exchanges from to)) = refl
+
+-- and what comes after it has no cause
+callback_cause : (c : Config) (t : ℕ) (w : World) (earlier : List World) (n : Next Callback) →
+    CauseOf c t w earlier (phase_after (map_next Callbacks n))
+callback_cause c t w earlier (Go x) = tt
+callback_cause c t w earlier (Wait x) = tt
+callback_cause c t w earlier (Done answer) = tt
+
+-- of each of its phases
+pub callback_phase : (c : Config) (b : Callback) → PhaseKeeps c (Callbacks b)
+callback_phase c b = record {
+  step = λ within w good t lt hook e. callback_keeps c within w good t lt hook b e;
+  runs = λ within w good t lt hook e i one three. callback_runs c w good t lt hook b e i;
+  completes = λ within w good t lt hook e. completes_none c w t hook (Callbacks b) (λ trace found. refl);
+  word = λ within n le t lt held levels hook f. word_among c within n le _ (callback_there c b b.step f.0 f.1 f.3);
+  acts = λ within t held levels found hook f.
+      subst (ActionFits held) (sym (callback_acts_none b b.step found)) tt;
+  goes = λ within t held levels found hook f.
+      subst (λ (a : Option Action). Fits c t (mounts_by a held) (levels_by a levels)
+      (phase_after (map_next Callbacks (callback_after b b.step found).0)))
+      (sym (callback_acts_none b b.step found)) (callback_goes c within t held levels b b.step found f);
+  agrees = λ t f g h k mounts levels fits. fits;
+  quiet = λ w good t lt hook m e before after. ap (λ f. f m) (callback_counts w t hook b b.step);
+  level_quiet = λ w good t lt hook i e before after. ap (λ f. f i) (callback_levels w t hook b b.step);
+  stays = λ w next earlier good t f e was quiet h. tt;
+  causes = λ w earlier good t lt hook e after is h.
+      callback_cause c t (after_step w t (Callbacks b) hook) (w ∷ earlier)
+      (callback_after b b.step (found_at w.words (Callbacks b) hook)).0;
+  waits = λ within w earlier good t lt hook e cause.
+      let f : Fits c t (held_at (w.views t)) (holds_level (w.views t)) (Some (Callbacks b)) =
+      subst (Fits c t (held_at (w.views t)) (holds_level (w.views t))) e (good Fitting t lt) in
+      callback_waits c w earlier t good b hook b.step e f.3;
+  tells = λ t w earlier fits h. tt;
+}
+
+-- of its beginning and its trace
+pub callback_op : (c : Config) (i : ℕ) → OpKeeps c (CallbackOp i)
+callback_op c i = record {
+  fits = λ t held levels there order room.
+      let l : (1 ≤ i) × (i ≤ 3) = level_there i there in
+      (l.0, l.1, refl, tt, tt);
+  no_role = λ t y. refl;
+  steady = λ t. record { owns_same = refl; remounts_same = refl; closing_same = λ j. refl };
+  aside = λ t. refl;
+  counts_not = λ t j. refl;
+  apart = λ t j. by_bool (j == i) (λ b. sync_role_if b IsApart ≡ IsApart) refl refl;
+  outside = λ t. refl;
+  off_tree = λ t trace. refl;
+  cause = λ t w earlier. tt;
+  order_agrees = λ f g h k mounts levels there. refl;
+  room_agrees = λ f g mounts there. refl;
+  restores = λ refusal trace before order. (refl, refl);
+  tells = λ within t trace h. tells (CallbackAt i c.tasks) c t (CallbackOp i) (callback_kept c t i) trace h;
+  short = λ within t trace h. is_short (CallbackAt i c.tasks) c t (CallbackOp i) (callback_kept c t i) trace h;
+  most_small = λ within. tt;
+}

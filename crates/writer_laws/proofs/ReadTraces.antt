@@ -1,0 +1,174 @@
+-- Traces of a start and of an end. What is said of a down-read is said of it alone, so that an operation that goes through one as a part of
+-- its own has it too.
+use Rattle.std.proofs.Common.{◌≡◌, ℕ, ◌≤◌, Bool, true, false, refl, sym, ap, subst, inl, inr, arith}
+use Rattle.std.specs.Prelude.{◌==◌, Option, Some, None, Ok, Err, List, [], ◌∷◌, length}
+use Rattle.std.proofs.lemmas.Bool.{eq-eqb, cases_Bool}
+use Rattle.access_model.specs.declared.actions.Action.{Action}
+use Rattle.access_model.specs.declared.actions.Action.TheVariants.{Grant, Return}
+use Rattle.access_model.specs.declared.actions.Gate.TheVariants.{Level}
+use Rattle.access_model.specs.declared.errors.GateError.TheVariants.{Again}
+use Rattle.access_model.specs.declared.replies.Next.{Next}
+use Rattle.access_model.specs.declared.replies.Next.TheVariants.{Go, Wait, Done}
+use Rattle.access_model.specs.Replies.{map_next}
+use Rattle.cpu_words.specs.Hooks.{HookAnswer}
+use Rattle.cpu_words.specs.Touches.{event_of, found_by}
+use Rattle.percpu_rwsem.specs.declared.sync_word.GpState.{GpState}
+use Rattle.percpu_rwsem.specs.declared.sync_word.GpState.TheVariants.{Idle, Enter, Passed, Exit, Replay}
+use Rattle.percpu_rwsem.specs.declared.sync_word.SyncWord.{SyncWord}
+use Rattle.percpu_rwsem.specs.declared.readers.DownRead.{DownRead}
+use Rattle.percpu_rwsem.specs.declared.readers.DownReadStep.{DownReadStep}
+use Rattle.percpu_rwsem.specs.declared.readers.DownReadStep.TheVariants.{EntersSection, LoadsSync, CountsUpFast, CountsUpSlow, LoadsBlock, CountsDown, LeavesAdmitted, LeavesBlocked}
+use Rattle.percpu_rwsem.specs.SyncWords.{unpack}
+use Rattle.percpu_rwsem.specs.Readers.{down_read_next, down_read_after, step_in, step_found}
+use Rattle.gate_world.specs.declared.config.Config.{Config}
+use Rattle.gate_world.specs.declared.operations.Op.TheVariants.{Start, End}
+use Rattle.gate_world.specs.declared.work.Phase.{Phase}
+use Rattle.gate_world.specs.declared.work.Phase.TheVariants.{DownReads, UpReads}
+use Rattle.gate_world.specs.declared.views.Traced.{Traced}
+use Rattle.gate_world.specs.Found.{newest, finds_closed, backed_off, left_closed, found_closed}
+use Rattle.gate_world.specs.Views.{with_hook, actions_after}
+use Rattle.gate_world.specs.Traces.{most_events, IsShort}
+use Rattle.gate_frames.proofs.Says.{Says, SaysAfter, Kept}
+
+-- a down-read of this level, processor, task and wait, at a step
+abbrev pub read_at : ℕ → ℕ → ℕ → Bool → DownReadStep → DownRead
+read_at i p t wait s = record { level = i; cpu = p; task = t; wait = wait; step = s }
+
+-- how many events a down-read that waits for nobody has done before a step, at most
+abbrev pub events_before : DownReadStep → ℕ
+events_before EntersSection = 0
+events_before LoadsSync = 1
+events_before CountsUpFast = 2
+events_before CountsUpSlow = 2
+events_before LoadsBlock = 3
+events_before CountsDown = 4
+events_before LeavesAdmitted = 4
+events_before LeavesBlocked = 5
+
+-- it has added its grant before it leaves its section with it, and nothing before any other step
+abbrev pub read_added : ℕ → DownReadStep → List Action
+read_added i LeavesAdmitted = Grant (Level i) ∷ []
+read_added i s = []
+
+-- one that takes its count back has just found the level closed, and one that leaves its section blocked has just taken it back
+abbrev pub HasFound : ℕ → DownReadStep → List Traced → Type 0
+HasFound i CountsDown trace = (newest (finds_closed i) trace ≡ true) × (found_closed i trace ≡ true)
+HasFound i LeavesBlocked trace = (backed_off i trace ≡ true) × (found_closed i trace ≡ true)
+HasFound i s trace = Unit {0}
+
+-- what the trace says at a step
+abbrev pub ReadSays : ℕ → Bool → DownReadStep → List Traced → List Action → Type 0
+ReadSays i wait s trace added = (added ≡ read_added i s) × (wait ≡ false → length trace ≤ events_before s) × HasFound i s trace
+
+-- What the trace says by what comes after an event of a down-read, whatever operation it stands in: the next step's, where it waits that it
+-- left the level closed, where it ends well its grant, and where it is refused that it found the level closed and doesn't wait.
+abbrev pub ReadNext : ℕ → ℕ → ℕ → Bool → List Traced → List Action → Next DownRead → Type 0
+ReadNext i p t wait trace added (Go r) = (s : DownReadStep) × (r ≡ read_at i p t wait s) × ReadSays i wait s trace added
+ReadNext i p t wait trace added (Wait r) =
+    ((s : DownReadStep) × (r ≡ read_at i p t wait s) × ReadSays i wait s trace added) × (wait ≡ true) × (left_closed i trace ≡ true)
+ReadNext i p t wait trace added (Done (Ok reply)) = (added ≡ Grant (Level i) ∷ []) × (wait ≡ false → length trace ≤ 6)
+ReadNext i p t wait trace added (Done (Err Again)) =
+    (added ≡ []) × ((wait ≡ false) × (found_closed i trace ≡ true)) × (wait ≡ false → length trace ≤ 6)
+ReadNext i p t wait trace added (Done (Err refusal)) = ⊥
+
+-- what holds of both additions holds of the one that a state leads to
+by_state : (P : DownReadStep → Type 0) → P CountsUpFast → P CountsUpSlow → (state : GpState) → P (step_in state)
+by_state P fast slow Idle = fast
+by_state P fast slow Enter = slow
+by_state P fast slow Passed = slow
+by_state P fast slow Exit = slow
+by_state P fast slow Replay = slow
+
+-- and of the one that a sync word leads to
+pub by_word : (P : DownReadStep → Type 0) → P CountsUpFast → P CountsUpSlow → (word : Option SyncWord) → P (step_found word)
+by_word P fast slow None = slow
+by_word P fast slow (Some word) = by_state P fast slow word.state
+
+module _ (i p t : ℕ) (value : ℕ) (hook : HookAnswer) (earlier : List Traced) (added : List Action) where
+  -- what the trace says after the event of a step
+  abbrev pub After : Bool → DownReadStep → Type 0
+  After wait s =
+      let r : DownRead = read_at i p t wait s in
+      let found : ℕ = found_by (down_read_next r s).1 value in
+      ReadNext i p t wait (with_hook (event_of (down_read_next r s).0 (down_read_next r s).1 value) hook ∷ earlier)
+      (actions_after (down_read_after r s found).1 added) (down_read_after r s found).0
+
+  -- it left its section, blocked
+  blocked : (wait : Bool) → ReadSays i wait LeavesBlocked earlier added → After wait LeavesBlocked
+  blocked true h = ((EntersSection, refl, (h.0, λ q. absurd (cc), tt)), refl, h.2.0)
+  blocked false h = (h.0, (refl, h.2.1), λ q. omega (arith, h.1 q))
+
+  -- each event of a down-read keeps what its trace says
+  pub read_event : (wait : Bool) (s : DownReadStep) → ReadSays i wait s earlier added → After wait s
+  read_event wait EntersSection h = (LoadsSync, refl, (h.0, λ q. omega (arith, h.1 q), tt))
+  read_event wait LoadsSync h =
+      by_word (λ s. ReadNext i p t wait
+      (with_hook (event_of (down_read_next (read_at i p t wait LoadsSync) LoadsSync).0
+      (down_read_next (read_at i p t wait LoadsSync) LoadsSync).1 value) hook ∷ earlier)
+      added (Go (read_at i p t wait s)))
+      (CountsUpFast, refl, (h.0, λ q. omega (arith, h.1 q), tt)) (CountsUpSlow, refl, (h.0, λ q. omega (arith, h.1 q), tt)) (unpack value)
+  read_event wait CountsUpFast h = (LeavesAdmitted, refl, (ap (λ l. Grant (Level i) ∷ l) h.0, λ q. omega (arith, h.1 q), tt))
+  read_event wait CountsUpSlow h = (LoadsBlock, refl, (h.0, λ q. omega (arith, h.1 q), tt))
+  read_event wait LoadsBlock h =
+      elim (cases_Bool (value == 0)) [
+        | inl f ↦ rw f (LeavesAdmitted, refl, (ap (λ l. Grant (Level i) ∷ l) h.0, λ q. omega (arith, h.1 q), tt))
+        | inr f ↦ rw f (CountsDown, refl, (h.0, λ q. omega (arith, h.1 q), (rw (eq-eqb i i refl, f) refl, rw (eq-eqb i i refl, f) refl)))
+      ]
+  read_event wait CountsDown h = (LeavesBlocked, refl, (h.0, λ q. omega (arith, h.1 q), (rw (eq-eqb i i refl) h.2.0, h.2.1)))
+  read_event wait LeavesAdmitted h = (h.0, λ q. omega (arith, h.1 q))
+  read_event wait LeavesBlocked h = blocked wait h
+
+-- what a start's trace says at a phase
+abbrev pub StartAt : ℕ → ℕ → ℕ → Bool → List Traced → Phase → List Action → Type 0
+StartAt i p t wait trace phase added = (s : DownReadStep) × (phase ≡ DownReads (read_at i p t wait s)) × ReadSays i wait s trace added
+
+-- a short trace of a start
+start_short : (c : Config) (i p : ℕ) (wait : Bool) (trace : List Traced) → (wait ≡ false → length trace ≤ 6) →
+    IsShort (most_events c (Start i p wait)) trace
+start_short c i p true trace h = tt
+start_short c i p false trace h = h refl
+
+-- a step comes after at most six events
+within_six : (s : DownReadStep) (n : ℕ) → n ≤ events_before s → n ≤ 6
+within_six EntersSection n h = omega arith
+within_six s n h = omega arith
+
+-- what is said of a down-read is said of a start, by what comes next
+start_says : (c : Config) (i p t : ℕ) (wait : Bool) (e : Traced) (earlier : List Traced) (added : List Action) (n : Next DownRead) →
+    ReadNext i p t wait (e ∷ earlier) added n →
+    Says (StartAt i p t wait) c (Start i p wait) (e ∷ earlier) (map_next DownReads n) added
+start_says c i p t wait e earlier added (Go r) h = (h.0, ap DownReads h.1, h.2)
+start_says c i p t wait e earlier added (Wait r) h = ((h.0.0, ap DownReads h.0.1, h.0.2), (h.1, h.2))
+start_says c i p t wait e earlier added (Done (Ok reply)) h = ((h.0, tt), start_short c i p wait (e ∷ earlier) h.1)
+start_says c i p t wait e earlier added (Done (Err Again)) h = ((h.0, h.1), start_short c i p wait (e ∷ earlier) h.2)
+start_says c i p t wait e earlier added (Done (Err refusal)) h = absurd h
+
+-- so it is kept along every trace of a start
+pub start_kept : (c : Config) (t i p : ℕ) (wait : Bool) → Kept (StartAt i p t wait) c t (Start i p wait)
+start_kept c t i p wait = record {
+  first = (EntersSection, refl, (refl, λ q. omega arith, tt));
+  more = λ phase value hook earlier added here.
+      subst (λ (x : Phase). SaysAfter (StartAt i p t wait) c (Start i p wait) x value hook earlier added) (sym here.1)
+      (
+      let r : DownRead = read_at i p t wait here.0 in
+      let found : ℕ = found_by (down_read_next r here.0).1 value in
+      start_says c i p t wait (with_hook (event_of (down_read_next r here.0).0 (down_read_next r here.0).1 value) hook) earlier
+      (actions_after (down_read_after r here.0 found).1 added) (down_read_after r here.0 found).0
+      (read_event i p t value hook earlier added wait here.0 here.2)
+      );
+  short = λ trace phase added here. start_short c i p wait trace (λ q. within_six here.0 (length trace) (here.2.1 q));
+}
+
+-- what an end's trace says at a phase
+abbrev pub EndAt : ℕ → ℕ → List Traced → Phase → List Action → Type 0
+EndAt i p trace phase added = (phase ≡ UpReads (record { level = i; cpu = p })) × (trace ≡ []) × (added ≡ [])
+
+-- its one event is its last
+pub end_kept : (c : Config) (t i p : ℕ) → Kept (EndAt i p) c t (End i p)
+end_kept c t i p = record {
+  first = (refl, refl, refl);
+  more = λ phase value hook earlier added here.
+      subst (λ (x : Phase). SaysAfter (EndAt i p) c (End i p) x value hook earlier added) (sym here.0)
+      ((ap (λ (l : List Action). Return (Level i) ∷ l) here.2, tt), omega (arith, ap length here.1));
+  short = λ trace phase added here. omega (arith, ap length here.1);
+}

@@ -1,0 +1,179 @@
+-- The causes of a want's refusals, along a schedule, whether the want is an operation of its own or stands in a longer one.
+use Rattle.access_model.specs.declared.errors.GateError.TheVariants.{Again, ReadOnly}
+use Rattle.access_model.specs.declared.errors.GateError.{GateError}
+use Rattle.cpu_words.specs.Hooks.{HookAnswer}
+use Rattle.finite_sums.proofs.Totals.{update_at, update_off}
+use Rattle.gate_frames.proofs.Frames.{role_on}
+use Rattle.gate_frames.proofs.Loads.{fits_now}
+use Rattle.gate_world.specs.Causes.{all_counted, asks, want_asks, was_read_only}
+use Rattle.gate_world.specs.Rules.{IsGood, Owner, Stages, AtMount, role_of}
+use Rattle.gate_world.specs.Views.{held_at, view_after, phase_after}
+use Rattle.gate_world.specs.Worlds.{World, after_step}
+use Rattle.gate_world.specs.declared.config.Config.{Config}
+use Rattle.gate_world.specs.declared.views.View.{View}
+use Rattle.gate_world.specs.declared.work.Phase.TheVariants.{Mounts}
+use Rattle.mount_counts.specs.Phases.{has_flag, want_next, want_after, hold_found}
+use Rattle.mount_counts.specs.declared.phases.Want.{Want}
+use Rattle.mount_counts.specs.declared.phases.MountPhase.TheVariants.{Want as Wants}
+use Rattle.access_model.specs.declared.replies.Next.{Next}
+use Rattle.access_model.specs.declared.replies.Next.TheVariants.{Go, Wait, Done}
+use Rattle.access_model.specs.Replies.{map_next}
+use Rattle.cpu_words.specs.Touches.{found_by}
+use Rattle.cpu_words.specs.Words.{read}
+use Rattle.mount_counts.specs.Roles.{Asking, BackingOff, sought, ro_bit}
+use Rattle.mount_counts.specs.declared.phases.MountPhase.TheVariants.{Drop as Drops}
+use Rattle.mount_counts.specs.declared.phases.MountPhase.{MountPhase}
+use Rattle.mount_counts.specs.declared.phases.WantStep.TheVariants.{CountsUp, LoadsHold, LoadsRemount, LoadsReadOnly, LoadsSuperblock, CountsDown}
+use Rattle.mount_counts.specs.declared.phases.WantStep.{WantStep}
+use Rattle.mount_laws.proofs.Bits.{read_only_set}
+use Rattle.std.proofs.Common.{◌≡◌, ℕ, ◌<◌, Bool, true, false, refl, sym, subst, ap, ◌∙◌, inl, inr, arith}
+use Rattle.std.proofs.lemmas.Bool.Decides.{eqb_tells}
+use Rattle.std.proofs.lemmas.Bool.{eq-eqb, cases_Bool}
+use Rattle.std.specs.Prelude.{Some, Ok, Err, List, ◌∷◌, ◌==◌}
+use Rattle.gate_frames.proofs.Moments.{one_counted, or_true, question_skips, question_stands}
+use Rattle.gate_world.specs.KeptCauses.{WantCause, CauseOf}
+use Rattle.writer_laws.proofs.WantLoads.{want}
+
+module _ (c : Config) (w : World) (good : IsGood c w) (t : ℕ) (lt : t < c.tasks) (hook : HookAnswer) (m : ℕ) where
+  -- where nothing is counted at the mount before the event of a phase and after it, the event leaves the mount's counts
+  abbrev IsQuiet : MountPhase → Type 0
+  IsQuiet phase = (w.views t).phase ≡ Some (Mounts phase) → all_counted c m w ≡ 0 →
+      all_counted c m (after_step w t (Mounts phase) hook) ≡ 0 →
+      (after_step w t (Mounts phase) hook).words.count m ≡ w.words.count m
+
+  -- a want that has added is counted there
+  quiet_add : (n p : ℕ) (wait : Bool) → IsQuiet (want n p wait CountsUp)
+  quiet_add n p wait e before after =
+      elim (eqb_tells m n) [
+        | inl h ↦
+            let next : World = after_step w t (Mounts (want n p wait CountsUp)) hook in
+            let v : View = view_after (w.views t) (Mounts (want n p wait CountsUp)) (w.words.count n p) hook in
+            let is : next.views t ≡ v = update_at w.views t v in
+            let r : role_of m v.phase ≡ Asking p = ap (λ y. role_of y v.phase) h.1 ∙ role_on n (Asking p) in
+            let s : sought (role_of m (next.views t).phase) ≡ 1 = ap (λ (u : View). sought (role_of m u.phase)) is ∙ ap sought r in
+            absurd (omega (arith, after, s, one_counted c m t next lt))
+        | inr h ↦ update_off w.words.count n _ m h.1
+      ]
+
+  -- and so is one that has not yet taken its count back
+  quiet_back : (n p : ℕ) (wait : Bool) (refusal : GateError) → IsQuiet (want n p wait (CountsDown refusal))
+  quiet_back n p wait refusal e before after =
+      elim (eqb_tells m n) [
+        | inl h ↦
+            let r : role_of m (w.views t).phase ≡ BackingOff p = ap (λ y. role_of y (w.views t).phase) h.1 ∙
+            (ap (role_of n) e ∙ role_on n (BackingOff p)) in
+            absurd (omega (arith, before, ap sought r, one_counted c m t w lt))
+        | inr h ↦ update_off w.words.count n _ m h.1
+      ]
+
+  -- and who holds an access that it is to give back
+  pub quiet_drop : (n p : ℕ) → IsQuiet (Drops n p)
+  quiet_drop n p e before after =
+      elim (eqb_tells m n) [
+        | inl h ↦
+            let f : (n < c.mounts) × (p < c.processors) × (0 < held_at (w.views t) n) = fits_now c w good t lt (Drops n p) e in
+            absurd (omega (arith, before, f.2, ap (held_at (w.views t)) h.1, one_counted c m t w lt))
+        | inr h ↦ update_off w.words.count n _ m h.1
+      ]
+
+  -- so it is of each step of a want
+  pub quiet_want : (n p : ℕ) (wait : Bool) (s : WantStep) → IsQuiet (want n p wait s)
+  quiet_want n p wait CountsUp e before after = quiet_add n p wait e before after
+  quiet_want n p wait LoadsHold e before after = refl
+  quiet_want n p wait LoadsRemount e before after = refl
+  quiet_want n p wait LoadsReadOnly e before after = refl
+  quiet_want n p wait LoadsSuperblock e before after = refl
+  quiet_want n p wait (CountsDown refusal) e before after = quiet_back n p wait refusal e before after
+
+-- a task whose next event is that of a want's step, in its own operation or in a longer one, and which another entry leaves alone
+module _ (c : Config) (t : ℕ) (w next : World) (earlier : List World) where
+  -- keeps the cause of a refusal that is to come
+  pub want_kept : (m : ℕ) (s : WantStep) → asks (next.views t).phase ≡ want_asks s → WantCause c t w earlier m s →
+      WantCause c t next (w ∷ earlier) m s
+  want_kept m CountsUp e h = tt
+  want_kept m LoadsHold e h = tt
+  want_kept m LoadsRemount e h = tt
+  want_kept m LoadsReadOnly e h = tt
+  want_kept m LoadsSuperblock e h = tt
+  want_kept m (CountsDown refusal) e h = λ r. ap (was_read_only c m) (question_skips t next (w ∷ earlier) e) ∙ h r
+
+-- whether what comes after an event of a want asks the read-only question
+abbrev pub next_asks : Next Want → Bool
+next_asks (Go x) = want_asks x.step
+next_asks (Wait x) = want_asks x.step
+next_asks (Done answer) = false
+
+-- it is what a want's own operation is at
+pub next_asked : (n : Next Want) → asks (phase_after (map_next Mounts (map_next Wants n))) ≡ next_asks n
+next_asked (Go x) = refl
+next_asked (Wait x) = refl
+next_asked (Done answer) = refl
+
+module _ (c : Config) (t : ℕ) (w : World) (earlier : List World) (m : ℕ) where
+  -- what comes after an event of a want has its cause, and so has its refusal, where it ends with one
+  abbrev pub NextCause : Next Want → Type 0
+  NextCause (Go x) = (x.mount ≡ m) × WantCause c t w earlier m x.step
+  NextCause (Wait x) = (x.mount ≡ m) × WantCause c t w earlier m x.step
+  NextCause (Done (Ok reply)) = Unit {0}
+  NextCause (Done (Err refusal)) = WantCause c t w earlier m (CountsDown refusal)
+
+  -- of a want's own operation
+  pub next_cause : (n : Next Want) → NextCause n → CauseOf c t w earlier (phase_after (map_next Mounts (map_next Wants n)))
+  next_cause (Go x) h = subst (λ y. WantCause c t w earlier y x.step) (sym h.0) h.1
+  next_cause (Wait x) h = subst (λ y. WantCause c t w earlier y x.step) (sym h.0) h.1
+  next_cause (Done answer) h = tt
+
+-- the task that steps: what comes after its event says, in the world after the event
+module _ (c : Config) (t : ℕ) (lt : t < c.tasks) (w next : World) (earlier : List World) (good : IsGood c w) where
+  -- the question was asked in the world before the event, and not again
+  asked : (m : ℕ) → asks (w.views t).phase ≡ true → asks (next.views t).phase ≡ false → was_read_only c m (Some w) ≡ true →
+      WantCause c t next (w ∷ earlier) m (CountsDown ReadOnly)
+  asked m a e h = λ r. ap (was_read_only c m) (question_skips t next (w ∷ earlier) e ∙ question_stands t w earlier a) ∙ h
+
+  -- a refusal for another reason needs no such cause
+  other_refusal : {A : Type 0} → Again ≡ ReadOnly → A
+  other_refusal h = cc
+
+  -- nor does a want that found HOLD
+  hold_own : (x : Want) (b : Bool) → NextCause c t next (w ∷ earlier) x.mount (hold_found x b)
+  hold_own x true = (refl, tt)
+  hold_own x false = (refl, λ r. other_refusal r)
+
+  -- what comes after an event of a want has its cause, whatever operation the want stands in
+  pub want_own : (x : Want) (s : WantStep) → x.mount < c.mounts → asks (w.views t).phase ≡ want_asks s →
+      let found : ℕ = found_by (want_next x s).1 (read w.words (want_next x s).0) in
+      asks (next.views t).phase ≡ next_asks (want_after x s found).0 → WantCause c t w earlier x.mount s →
+      NextCause c t next (w ∷ earlier) x.mount (want_after x s found).0
+  want_own x CountsUp lm e e' h = (refl, tt)
+  want_own x LoadsHold lm e e' h =
+      elim (cases_Bool (has_flag (w.words.flags x.mount) 2)) [ inl f ↦ rw f (hold_own x x.wait) | inr f ↦ rw f (refl, tt) ]
+  want_own x LoadsRemount lm e e' h =
+      elim (eqb_tells w.words.remount 0) [
+        | inl f ↦ rw f.0 (refl, tt)
+        | inr f ↦
+            let one : w.words.remount ≡ 1 = omega (arith, f.1, (good Owner).bit) in
+            rw f.0 (
+              refl,
+              asked x.mount e (rw f.0 at e')
+                  (rw (eq-eqb w.words.remount 1 one, or_true (ro_bit (w.words.flags x.mount) == 1)) refl),
+            )
+      ]
+  want_own x LoadsReadOnly lm e e' h =
+      elim (cases_Bool (has_flag (w.words.flags x.mount) 1)) [
+        | inl f ↦
+            let set : ro_bit (w.words.flags x.mount) ≡ 1 = read_only_set (w.words.flags x.mount) (good (AtMount x.mount) lm).bits f in
+            rw f (refl, asked x.mount e (rw f at e') (rw (eq-eqb (ro_bit (w.words.flags x.mount)) 1 set) refl))
+        | inr f ↦ rw f (refl, tt)
+      ]
+  want_own x LoadsSuperblock lm e e' h =
+      elim (eqb_tells w.words.sb 0) [
+        | inl f ↦ rw f.0 tt
+        | inr f ↦
+            let one : w.words.sb ≡ 1 = omega (arith, f.1, (good Stages).superblock) in
+            rw f.0 (
+              refl,
+              asked x.mount e (rw f.0 at e')
+                  (rw (eq-eqb w.words.sb 1 one, or_true (w.words.remount == 1), or_true (ro_bit (w.words.flags x.mount) == 1)) refl),
+            )
+      ]
+  want_own x (CountsDown refusal) lm e e' h = λ r. ap (was_read_only c x.mount) (question_skips t next (w ∷ earlier) e') ∙ h r
