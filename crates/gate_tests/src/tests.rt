@@ -1,0 +1,70 @@
+//! Tasks at small gates.
+
+ghost use Rattle.vfs_gates.specs.TaskStates.{IsFrom};
+
+mod calls;
+mod decisions;
+mod granted;
+mod hooks;
+mod lost;
+mod steps;
+mod threads;
+
+use access_model::GateError;
+use freeze_levels::FsHooks;
+use gate_world::Config;
+use std::sync::Wait;
+use vfs_gates::{Gates, Task};
+
+/// So many tasks at one mount, with two processors and one node beside the root.
+fn small(tasks: u8) -> Config {
+    Config {
+        tasks,
+        processors: 2,
+        mounts: 1,
+        nodes: 2,
+        capacity: 8,
+    }
+}
+
+/// A freeze of a file system.
+fn freeze<R: Wait, H: FsHooks>(
+    task: &mut Task,
+    rt: &R,
+    gates: &Gates,
+    hooks: &mut H,
+) -> Result<(), GateError>
+    requires { IsFrom task.old gates.now }
+    ensures { IsFrom task.new gates.now }
+{
+    task.freeze(rt, gates, hooks)
+}
+
+/// A thaw of a file system.
+fn thaw<R: Wait, H: FsHooks>(
+    task: &mut Task,
+    rt: &R,
+    gates: &Gates,
+    hooks: &mut H,
+) -> Result<(), GateError>
+    requires { IsFrom task.old gates.now }
+    ensures { IsFrom task.new gates.now }
+{
+    task.thaw(rt, gates, hooks)
+}
+
+/// Whether a task freezes a file system that agrees.
+fn freezes<R: Wait>(task: &mut Task, rt: &R, gates: &Gates) -> bool
+    requires { IsFrom task.old gates.now }
+    ensures { IsFrom task.new gates.now }
+{
+    freeze(task, rt, gates, &mut ()).is_ok()
+}
+
+/// Whether a task thaws a file system that agrees.
+fn thaws<R: Wait>(task: &mut Task, rt: &R, gates: &Gates) -> bool
+    requires { IsFrom task.old gates.now }
+    ensures { IsFrom task.new gates.now }
+{
+    thaw(task, rt, gates, &mut ()).is_ok()
+}

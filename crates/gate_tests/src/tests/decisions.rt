@@ -1,0 +1,207 @@
+//! What docs/REFUSALS.md advises: a remount script that is busy, a backup whose freeze is refused, a snapshot that finds nothing frozen.
+
+ghost use Rattle.vfs_gates.specs.TaskStates.{IsFrom};
+
+use super::hooks::{FailsAt, Question};
+use super::{freezes, small, thaws};
+use access_model::GateError;
+use cpu_words::{Event, WordName};
+use crossbeam_utils::Backoff;
+use freeze_levels::FsHooks;
+use gate_core::Progress;
+use gate_world::Op;
+use std::sync::Wait;
+use std::test::Fail;
+use vfs_gates::{Gates, Task};
+
+/// Remounts read-only, so often while it is busy.
+fn shut<R: Wait, H: FsHooks>(
+    rt: &R,
+    gates: &Gates,
+    task: &mut Task,
+    hooks: &mut H,
+    tries: u32,
+) -> Result<(), GateError>
+    requires { IsFrom task.old gates.now }
+    ensures { IsFrom task.new gates.now }
+{
+    let backoff = Backoff::new();
+    for _try in 0..tries {
+        match task.remount_sb(rt, gates, true, hooks) {
+            Err(GateError::Busy) => backoff.snooze(),
+            answer => return answer,
+        }
+    }
+    Err(GateError::Busy)
+}
+
+/// Remounts read-only by steps. Where it is busy, the word that it looked at last: the stage, or the last count of a mount.
+fn shut_and_see<R: Wait, H: FsHooks>(
+    rt: &R,
+    gates: &Gates,
+    task: &mut Task,
+    hooks: &mut H,
+) -> Result<Option<WordName>, GateError>
+    requires { IsFrom task.old gates.now }
+    ensures { IsFrom task.new gates.now }
+{
+    task.begin(Op::RemountSb { read_only: true })?;
+    let backoff = Backoff::new();
+    let mut seen = None;
+    for _ in rt.forever() {
+        let hook = match task.wants_hook() {
+            Some(kind) => kind.ask(hooks, true),
+            None => Ok(()),
+        };
+        let step = task.step(gates, hook);
+        if let Some(
+            Event {
+                word: WordName::Stage | WordName::MountCount(_, _),
+                ..
+            },
+        ) = step.event
+        {
+            seen = step.event.map(|event| event.word);
+        }
+        match step.progress {
+            Progress::Done(Err(GateError::Busy)) => return Ok(seen),
+            Progress::Done(Ok(_)) => return Ok(None),
+            Progress::Done(Err(refusal)) => return Err(refusal),
+            Progress::Waiting => backoff.snooze(),
+            Progress::Going | Progress::Idle => {}
+        }
+    }
+    unreachable!()
+}
+
+/// Takes a snapshot of a freeze of its own, or of another's.
+fn back_up<R: Wait, H: FsHooks>(
+    rt: &R,
+    gates: &Gates,
+    task: &mut Task,
+    hooks: &mut H,
+) -> Result<(), GateError>
+    requires { IsFrom task.old gates.now }
+    ensures { IsFrom task.new gates.now }
+{
+    match task.freeze(rt, gates, hooks) {
+        Ok(()) => {
+            let taken = task.snapshot(rt, gates);
+            task.thaw(rt, gates, hooks)?;
+            taken
+        }
+        Err(GateError::Busy) => task.try_snapshot(gates),
+        Err(GateError::Hook(code)) => {
+            for level in 1..=3 {
+                task.callback(rt, gates, level)?;
+            }
+            Err(GateError::Hook(code))
+        }
+        Err(refusal) => Err(refusal),
+    }
+}
+
+/// Takes a snapshot, so often while another task thaws in between.
+fn take<R: Wait, H: FsHooks>(
+    rt: &R,
+    gates: &Gates,
+    task: &mut Task,
+    hooks: &mut H,
+    tries: u32,
+) -> Result<(), GateError>
+    requires { IsFrom task.old gates.now }
+    ensures { IsFrom task.new gates.now }
+{
+    let backoff = Backoff::new();
+    for _try in 0..tries {
+        let frozen = task.freeze(rt, gates, hooks);
+        if let Err(GateError::Hook(_) | GateError::Order) = frozen {
+            return frozen;
+        }
+        let taken = task.snapshot(rt, gates);
+        if frozen.is_ok() {
+            match task.thaw(rt, gates, hooks) {
+                Ok(()) | Err(GateError::Invalid) => {}
+                refused => return refused,
+            }
+        }
+        match taken {
+            Err(GateError::Invalid) => backoff.snooze(),
+            answer => return answer,
+        }
+    }
+    Err(GateError::Invalid)
+}
+
+/// Whether a remount is busy for the access that another task took with the second processor, each time.
+fn meets_an_access<R: Wait>(task: &mut Task, rt: &R, gates: &Gates) -> bool
+    requires { IsFrom task.old gates.now }
+    ensures { IsFrom task.new gates.now }
+{
+    shut(rt, gates, task, &mut (), 3) == Err(GateError::Busy)
+        && shut_and_see(rt, gates, task, &mut ()) == Ok(Some(WordName::MountCount(0, 1)))
+}
+
+/// Whether a remount is busy for what is frozen, and is done when that is thawed by the other task.
+fn meets_a_freeze<R: Wait>(task: &mut Task, other: &mut Task, rt: &R, gates: &Gates) -> bool
+    requires { IsFrom task.old gates.now × IsFrom other.old gates.now }
+    ensures { IsFrom task.new gates.now × IsFrom other.new gates.now }
+{
+    freezes(other, rt, gates)
+        && shut_and_see(rt, gates, task, &mut ()) == Ok(Some(WordName::Stage))
+        && thaws(other, rt, gates)
+        && shut(rt, gates, task, &mut (), 1).is_ok()
+}
+
+#[test]
+fn a_busy_remount_tells_what_was_in_the_way(rt: HostRuntime) -> Result<(), Fail> {
+    let (gates, mut task) = Gates::new(rt.alloc(), small(2))?;
+    let mut other = task.split(rt.alloc(), &gates)?;
+    assert_eq!(rt; other.want(&rt, &gates, 0, 1), Ok(()));
+    assert!(rt; meets_an_access(&mut task, &rt, &gates));
+    assert_eq!(rt; other.drop_mount(&gates, 0, 0), Ok(()));
+    assert!(rt; meets_a_freeze(&mut other, &mut task, &rt, &gates));
+    Ok(())
+}
+
+/// Whether a backup takes its snapshot of what another task has frozen.
+fn backs_up_anothers<R: Wait>(task: &mut Task, other: &mut Task, rt: &R, gates: &Gates) -> bool
+    requires { IsFrom task.old gates.now × IsFrom other.old gates.now }
+    ensures { IsFrom task.new gates.now × IsFrom other.new gates.now }
+{
+    freezes(other, rt, gates)
+        && back_up(rt, gates, task, &mut ()).is_ok()
+        && task.tree().is_some()
+        && thaws(other, rt, gates)
+}
+
+/// Whether a backup that the file system refuses takes none, and has run the callbacks: two freezes have closed the first level since one
+/// ran there, and one has run by now.
+fn is_refused<R: Wait>(task: &mut Task, rt: &R, gates: &Gates) -> bool
+    requires { IsFrom task.old gates.now }
+    ensures { IsFrom task.new gates.now }
+{
+    let mut fails = FailsAt::new(Question::FreezeFs, 16);
+    back_up(rt, gates, task, &mut fails) == Err(GateError::Hook(16))
+        && task.tree().is_none()
+        && task.callback(rt, gates, 1) == Ok(true)
+        && task.callback(rt, gates, 1) == Ok(false)
+}
+
+#[test]
+fn a_backup_takes_what_another_froze(rt: HostRuntime) -> Result<(), Fail> {
+    let (gates, mut task) = Gates::new(rt.alloc(), small(2))?;
+    let mut other = task.split(rt.alloc(), &gates)?;
+    assert!(rt; backs_up_anothers(&mut other, &mut task, &rt, &gates));
+    assert!(rt; is_refused(&mut task, &rt, &gates));
+    Ok(())
+}
+
+#[test]
+fn a_snapshot_freezes_where_nothing_is_frozen(rt: HostRuntime) -> Result<(), Fail> {
+    let (gates, mut task) = Gates::new(rt.alloc(), small(1))?;
+    assert_eq!(rt; task.snapshot(&rt, &gates), Err(GateError::Invalid));
+    assert_eq!(rt; take(&rt, &gates, &mut task, &mut (), 2), Ok(()));
+    assert!(rt; task.tree().is_some());
+    Ok(())
+}

@@ -1,6 +1,0 @@
-use Rattle.std.proofs.Common.{◌≤◌}
-use Rattle.vfs_gates.specs.TaskStates.{IsFrom}
-use Rattle.gates_in_threads.proofs.tests.freezes.visits.Given as goal
-
-abbrev pub invariant-loop-round : goal.invariant-loop-round
-invariant-loop-round g l = IsFrom l.task l.gates × (l.done ≤ l._round)

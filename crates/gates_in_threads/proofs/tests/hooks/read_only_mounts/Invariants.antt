@@ -1,5 +1,0 @@
-use Rattle.vfs_gates.specs.TaskStates.{IsFrom}
-use Rattle.gates_in_threads.proofs.tests.hooks.read_only_mounts.Given as goal
-
-abbrev pub invariant-loop-mount : goal.invariant-loop-mount
-invariant-loop-mount l = IsFrom l.task l.gates
