@@ -4,7 +4,7 @@
 #   calls    the program crates/refused_memory makes the model, the core and the gates, splits tasks off and runs them in threads. It is built
 #            once, and the growth number LAST is refused; it asks for LAST - N growths of its own first, so that the growth number N of the
 #            calls is the one that is refused.
-#   replays  the tests growths.. of crates/mntgate, built for each growth of four in a row: the tests are four growths apart.
+#   replays  the tests growths.. of crates/mntgate, built for each growth of two in a row: the tests are two growths apart.
 # Prints a line for each growth and for each test of a replay. The last line says whether all is well, and so does the status.
 set -u
 LAST=40
@@ -44,7 +44,7 @@ refuse_in_calls() {
     }' "$ROOM/calls.out"
 }
 
-# The ten tests of replays where this growth of each test is refused. Other tests fail where it strikes them, and it has to strike some.
+# The eighteen tests of replays where this growth of each test is refused. Other tests fail where it strikes them, and it has to strike some.
 refuse_in_replays() {
   local said="$ROOM/replay.$1"
   (cd "$TOP/crates/mntgate" && rt try --test --fail-alloc "$1") > "$said" 2>&1
@@ -54,12 +54,12 @@ refuse_in_replays() {
     tail -n 5 "$said"
     return 1
   fi
-  (($(grep -c '^test tests::growths::.* ok$' "$said") == 10))
+  (($(grep -c '^test tests::growths::.* ok$' "$said") == 18))
 }
 
 refuse_in_calls > "$ROOM/told.calls" &
 parts=($!)
-for growth in 21 22 23 24; do
+for growth in 21 22; do
   # No more at once than there are processors.
   while (($(jobs -rp | wc -l) >= $(nproc))); do wait -n; done
   refuse_in_replays "$growth" > "$ROOM/told.$growth" &

@@ -4,7 +4,6 @@ mod endings;
 mod fakes;
 mod freezes;
 mod growths;
-mod hooks;
 mod levels;
 mod random;
 mod remounts;
@@ -67,336 +66,110 @@ fn print_all<R: Abort + Alloc<A = Global>>(rt: &R, schedules: &[(&str, &str)]) -
 }
 
 /// Each schedule with what it prints.
-static PRINTED: [(&str, &str); 11] = [
+static PRINTED: [(&str, &str); 10] = [
     // An access, event by event.
     (
-        "config 1 1 1 2 8\n\
-         0 want 0 0\n\
-         0 step\n\
-         0 step\n\
-         0 step\n\
-         0 step\n\
-         0 step\n\
-         0 drop 0 0\n\
-         0 step\n",
-        "0 add mount0.cpu0 0 1\n\
-         0 load mount0.flags 0 0\n\
-         0 load remount 0 0\n\
-         0 load mount0.flags 0 0\n\
-         0 load sb 0 0 grant mount 0\n\
-         0 ok\n\
-         0 sub mount0.cpu0 1 0 return mount 0\n\
-         0 ok\n",
+        "config 1 1 1 2 8\n0 want 0 0\n0 step\n0 step\n0 step\n0 step\n0 step\n0 drop 0 0\n0 step\n",
+        "0 add mount0.cpu0 0 1\n0 load mount0.flags 0 0\n0 load remount 0 0\n0 load mount0.flags 0 0\n\
+         0 load sb 0 0 grant mount 0\n0 ok\n0 sub mount0.cpu0 1 0 return mount 0\n0 ok\n",
     ),
     // A change to read-only, event by event.
     (
-        "config 1 1 1 2 8\n\
-         0 change 0 ro\n\
-         0 step\n\
-         0 step\n\
-         0 step\n\
-         0 step\n\
-         0 step\n\
-         0 step\n\
-         0 step\n\
-         0 step\n",
-        "0 cas umount 0 1\n\
-         0 load mount0.flags 0 0\n\
-         0 load sb 0 0\n\
-         0 or mount0.flags 0 2\n\
-         0 load mount0.cpu0 0 0\n\
-         0 or mount0.flags 2 3 mount 0 ro\n\
-         0 and mount0.flags 3 1\n\
-         0 store umount 0\n\
-         0 ok\n",
+        "config 1 1 1 2 8\n0 change 0 ro\n0 step\n0 step\n0 step\n0 step\n0 step\n0 step\n0 step\n0 step\n",
+        "0 cas umount 0 1\n0 load mount0.flags 0 0\n0 load sb 0 0\n0 or mount0.flags 0 2\n0 load mount0.cpu0 0 0\n\
+         0 or mount0.flags 2 3 mount 0 ro\n0 and mount0.flags 3 1\n0 store umount 0\n0 ok\n",
     ),
     // A change against a holder.
     (
-        "config 2 1 1 2 8\n\
-         0 want 0 0\n\
-         0 run\n\
-         1 change 0 ro\n\
-         1 run\n\
-         words\n\
-         1 want 0 0\n\
-         1 run\n",
-        "0 ok\n\
-         1 refused 16 Busy\n\
-         mount0.cpu0 1\n\
-         1 ok\n",
+        "config 2 1 1 2 8\n0 want 0 0\n0 run\n1 change 0 ro\n1 run\nwords\n1 want 0 0\n1 run\n",
+        "0 ok\n1 refused 16 Busy\nmount0.cpu0 1\n1 ok\n",
     ),
     // An access given back on another processor.
     (
-        "config 1 2 1 2 8\n\
-         0 want 0 0\n\
-         0 run\n\
-         0 drop 0 1\n\
-         0 run\n\
-         words\n\
-         0 change 0 ro\n\
-         0 run\n",
-        "0 ok\n\
-         0 ok\n\
-         mount0.cpu0 1\n\
-         mount0.cpu1 18446744073709551615\n\
-         0 ok\n",
+        "config 1 2 1 2 8\n0 want 0 0\n0 run\n0 drop 0 1\n0 run\nwords\n0 change 0 ro\n0 run\n",
+        "0 ok\n0 ok\nmount0.cpu0 1\nmount0.cpu1 18446744073709551615\n0 ok\n",
     ),
     // A try form backs off on its own processor.
     (
-        "config 3 2 1 2 8\n\
-         0 want 0 1\n\
-         0 run\n\
-         1 change 0 ro\n\
-         1 step\n\
-         1 step\n\
-         1 step\n\
-         1 step\n\
-         1 step\n\
-         2 trywant 0 0\n\
-         2 run\n\
-         1 step\n\
-         1 run\n",
-        "0 ok\n\
-         1 cas umount 0 2\n\
-         1 load mount0.flags 0 0\n\
-         1 load sb 0 0\n\
-         1 or mount0.flags 0 2\n\
-         1 load mount0.cpu0 0 0\n\
-         2 refused 11 Again\n\
-         1 load mount0.cpu1 1 1\n\
-         1 refused 16 Busy\n",
+        "config 3 2 1 2 8\n0 want 0 1\n0 run\n1 change 0 ro\n1 step\n1 step\n1 step\n1 step\n1 step\n2 trywant 0 0\n2 run\n\
+         1 step\n1 run\n",
+        "0 ok\n1 cas umount 0 2\n1 load mount0.flags 0 0\n1 load sb 0 0\n1 or mount0.flags 0 2\n1 load mount0.cpu0 0 0\n\
+         2 refused 11 Again\n1 load mount0.cpu1 1 1\n1 refused 16 Busy\n",
     ),
     // A waiting form is counted while it waits.
     (
-        "config 2 1 1 2 8\n\
-         0 change 0 ro\n\
-         0 step\n\
-         0 step\n\
-         0 step\n\
-         0 step\n\
-         1 want 0 0\n\
-         1 step\n\
-         1 step\n\
-         0 run\n\
-         1 run\n",
-        "0 cas umount 0 1\n\
-         0 load mount0.flags 0 0\n\
-         0 load sb 0 0\n\
-         0 or mount0.flags 0 2\n\
-         1 add mount0.cpu0 0 1\n\
-         1 load mount0.flags 2 2 waiting\n\
-         0 refused 16 Busy\n\
-         1 ok\n",
+        "config 2 1 1 2 8\n0 change 0 ro\n0 step\n0 step\n0 step\n0 step\n1 want 0 0\n1 step\n1 step\n0 run\n1 run\n",
+        "0 cas umount 0 1\n0 load mount0.flags 0 0\n0 load sb 0 0\n0 or mount0.flags 0 2\n1 add mount0.cpu0 0 1\n\
+         1 load mount0.flags 2 2 waiting\n0 refused 16 Busy\n1 ok\n",
     ),
     // A change that finds its state, a refused access, the model, and the way back.
     (
-        "config 1 1 1 2 8\n\
-         0 change 0 ro\n\
-         0 run\n\
-         0 change 0 ro\n\
-         0 step\n\
-         0 step\n\
-         0 step\n\
-         0 want 0 0\n\
-         0 run\n\
-         model\n\
-         0 change 0 rw\n\
-         0 step\n\
-         0 step\n\
-         0 step\n\
-         0 step\n",
-        "0 ok\n\
-         0 cas umount 0 1\n\
-         0 load mount0.flags 1 1\n\
-         0 store umount 0\n\
-         0 ok\n\
-         0 refused 30 ReadOnly\n\
-         model stage 0 passed 0 sb rw\n\
-         mount 0 ro\n\
-         node 0 dir 0 0 clean\n\
-         0 cas umount 0 1\n\
-         0 load mount0.flags 1 1\n\
-         0 and mount0.flags 1 0 mount 0 rw\n\
-         0 store umount 0\n\
-         0 ok\n",
+        "config 1 1 1 2 8\n0 change 0 ro\n0 run\n0 change 0 ro\n0 step\n0 step\n0 step\n0 want 0 0\n0 run\nmodel\n0 change 0 rw\n\
+         0 step\n0 step\n0 step\n0 step\n",
+        "0 ok\n0 cas umount 0 1\n0 load mount0.flags 1 1\n0 store umount 0\n0 ok\n0 refused 30 ReadOnly\n\
+         model stage 0 passed 0 sb rw\nmount 0 ro\nnode 0 dir 0 0 clean\n0 cas umount 0 1\n0 load mount0.flags 1 1\n\
+         0 and mount0.flags 1 0 mount 0 rw\n0 store umount 0\n0 ok\n",
     ),
     // Refused beginnings, and an idle task.
     (
-        "config 1 1 8 2 8\n\
-         0 want 8 0\n\
-         0 want 0 1\n\
-         0 drop 0 0\n\
-         0 want 300 0\n\
-         0 step\n\
-         0 run\n",
-        "0 refused 22 Invalid\n\
-         0 refused 22 Invalid\n\
-         0 refused 35 Order\n\
-         0 refused 22 Invalid\n\
-         0 idle\n\
-         0 idle\n",
+        "config 1 1 8 2 8\n0 want 8 0\n0 want 0 1\n0 drop 0 0\n0 want 300 0\n0 step\n0 run\n",
+        "0 refused 22 Invalid\n0 refused 22 Invalid\n0 refused 35 Order\n0 refused 22 Invalid\n0 idle\n0 idle\n",
     ),
-    // A number that is more than a byte is out of range, and no fault.
-    ("config 1 1 1 2 8\n0 want 300 0\n", "0 refused 22 Invalid\n"),
     // A second task finds the lock taken.
     (
-        "config 2 1 1 2 8\n\
-         0 change 0 ro\n\
-         0 step\n\
-         1 change 0 rw\n\
-         1 run\n\
-         1 change 0 rw\n\
-         words\n",
-        "0 cas umount 0 1\n\
-         1 waiting\n\
-         1 refused 35 Order\n\
-         umount 1\n",
+        "config 2 1 1 2 8\n0 change 0 ro\n0 step\n1 change 0 rw\n1 run\n1 change 0 rw\nwords\n",
+        "0 cas umount 0 1\n1 waiting\n1 refused 35 Order\numount 1\n",
     ),
     // Accesses in the model; a hook that isn't asked makes no difference.
     (
-        "config 2 1 2 2 8\n\
-         1 want 1 0\n\
-         1 run freeze 65535\n\
-         model\n\
-         # a comment\n\
-         \n\
-         1 drop 1 0\n\
-         1 step 7\n",
-        "1 ok\n\
-         model stage 0 passed 0 sb rw\n\
-         task 1 mount 1 1\n\
-         node 0 dir 0 0 clean\n\
-         1 sub mount1.cpu0 1 0 return mount 1\n\
-         1 ok\n",
+        "config 2 1 2 2 8\n1 want 1 0\n1 run freeze 65535\nmodel\n# a comment\n\n1 drop 1 0\n1 step 7\n",
+        "1 ok\nmodel stage 0 passed 0 sb rw\ntask 1 mount 1 1\nnode 0 dir 0 0 clean\n1 sub mount1.cpu0 1 0 return mount 1\n1 ok\n",
     ),
 ];
 
-/// Each schedule with the fault at which it ends.
-static FAULTS: [(&str, &str); 50] = [
+/// Each schedule with the fault at which it ends: the first one of its last line, in the order of docs/SCHEDULES.md.
+static FAULTS: [(&str, &str); 15] = [
     ("", "line 1: config expected"),
     ("config 1 1 1 2 8\n0 wa", "line 2: cut off"),
     ("config 0 1 1 2 8\n", "line 1: refused 22 Invalid"),
-    ("config 1 1 1 2 8\n1 step\n", "line 2: no such task"),
     ("# x\n", "line 2: config expected"),
     ("words\n", "line 1: config expected"),
     ("config 1 1 1 2\n", "line 1: wrong number of words"),
     ("config 1 1 1 2 8 \n", "line 1: wrong number of words"),
     ("config 1 x 1 2 y\n", "line 1: bad number"),
     ("# x", "line 1: cut off"),
-    (
-        "config 1 1 1 2 8\nconfig 1 1 1 2 8\n",
-        "line 2: config twice",
-    ),
-    ("config 1 1 1 2 8\nfly\n", "line 2: unknown command"),
-    ("config 1 1 1 2 8\n0 fly\n", "line 2: unknown command"),
-    ("config 1 1 1 2 8\ntrees\n", "line 2: unknown command"),
-    ("config 1 1 1 2 8\n0 tree\n", "line 2: unknown command"),
-    (
-        "config 1 1 1 2 8\ntree 0\n",
-        "line 2: wrong number of words",
-    ),
-    (
-        "config 1 1 1 2 8\n0 create 0\n",
-        "line 2: wrong number of words",
-    ),
-    (
-        "config 1 1 1 2 8\n0 snapshot 1\n",
-        "line 2: wrong number of words",
-    ),
-    ("config 1 1 1 2 8\n0 create x fifo\n", "line 2: bad number"),
-    ("config 1 1 1 2 8\n0 create 0 fifo\n", "line 2: bad word"),
-    ("config 1 1 1 2 8\n0 grow 1 x\n", "line 2: bad number"),
-    ("config 1 1 1 2 8\n0 freezes\n", "line 2: unknown command"),
-    ("config 1 1 1 2 8\n 0 step\n", "line 2: unknown command"),
-    ("config 1 1 1 2 8\n0  step\n", "line 2: unknown command"),
-    ("config 1 1 1 2 8\n0\n", "line 2: wrong number of words"),
-    (
-        "config 1 1 1 2 8\n0 want 0\n",
-        "line 2: wrong number of words",
-    ),
-    (
-        "config 1 1 1 2 8\nwords x\n",
-        "line 2: wrong number of words",
-    ),
-    ("config 1 1 1 2 8\n9 want x 0\n", "line 2: no such task"),
-    ("config 1 1 1 2 8\n256 want 0 0\n", "line 2: no such task"),
-    ("config 1 1 1 2 8\n0 want x 0\n", "line 2: bad number"),
-    (
-        "config 1 1 1 2 8\n0 want 99999999999 0\n",
-        "line 2: bad number",
-    ),
-    (
-        "config 1 1 1 2 8\n0 want 4294967296 0\n",
-        "line 2: bad number",
-    ),
-    ("config 1 1 1 2 8\n0 change x up\n", "line 2: bad number"),
-    ("config 1 1 1 2 8\n0 step 0\n", "line 2: bad number"),
-    ("config 1 1 1 2 8\n0 step 65536\n", "line 2: bad number"),
-    ("config 1 1 1 2 8\n0 change 0 up\n", "line 2: bad word"),
-    ("config 1 1 1 2 8\n0 run write 5\n", "line 2: bad word"),
-    (
-        "config 1 1 1 2 8\n0 remount\n",
-        "line 2: wrong number of words",
-    ),
-    (
-        "config 1 1 1 2 8\n0 run sync\n",
-        "line 2: wrong number of words",
-    ),
-    (
-        "config 1 1 1 2 8\n0 step 1 1\n",
-        "line 2: wrong number of words",
-    ),
-    ("config 1 1 1 2 8\n0 remount up\n", "line 2: bad word"),
-    (
-        "config 1 1 1 2 8\n0 trystart 1 0 0\n",
-        "line 2: wrong number of words",
-    ),
-    (
-        "config 1 1 1 2 8\n0 callback\n",
-        "line 2: wrong number of words",
-    ),
-    ("config 1 1 1 2 8\n0 callback x\n", "line 2: bad number"),
-    (
-        "config 1 1 1 2 8\n0 freeze x\n",
-        "line 2: wrong number of words",
-    ),
-    (
-        "config 1 1 1 2 8\n0 thaw 1\n",
-        "line 2: wrong number of words",
-    ),
-    ("config 1 1 1 2 8\n0 end 1 x\n", "line 2: bad number"),
-    ("config 1 1 1 2 8\n0 dropwrite x 0\n", "line 2: bad number"),
-    ("config 1 1 1 2 8\n0 run sync 0\n", "line 2: bad number"),
-    (
-        "config 1 1 1 2 8\n0 run unfreeze 65536\n",
-        "line 2: bad number",
-    ),
-];
-
-/// Schedules whose last line has several faults, each with the first of them in the order of docs/SCHEDULES.md.
-static SEVERAL_FAULTS: [(&str, &str); 17] = [
     ("words", "line 1: cut off"),
     ("config 1 1 1 2 8\n9 fly", "line 2: cut off"),
     ("fly x\n", "line 1: config expected"),
     ("0 want\n", "line 1: config expected"),
     ("config x 1 1 2\n", "line 1: wrong number of words"),
     ("config 0 x 1 2 8\n", "line 1: bad number"),
-    ("config 1 1 1 2 8\nconfig x\n", "line 2: config twice"),
-    ("config 1 1 1 2 8\nfly 0 x\n", "line 2: unknown command"),
-    ("config 1 1 1 2 8\n9 fly x\n", "line 2: unknown command"),
-    ("config 1 1 1 2 8\n9\n", "line 2: wrong number of words"),
+];
+
+/// The faults of a second line after a configuration for one task, each with the lines that have it, also as the first of several.
+static SECOND_LINES: [(&str, &str); 6] = [
+    ("config twice", "config 1 1 1 2 8\nconfig x\n"),
     (
-        "config 1 1 1 2 8\n9 want x\n",
-        "line 2: wrong number of words",
+        "unknown command",
+        "fly\n0 fly\n 0 step\n0  step\nfly 0 x\n9 fly x\n",
     ),
-    ("config 1 1 1 2 8\n9 change x up\n", "line 2: no such task"),
-    ("config 1 1 1 2 8\n9 run write x\n", "line 2: no such task"),
-    ("config 1 1 1 2 8\n0 run write x\n", "line 2: bad word"),
-    ("config 1 1 1 2 8\n0 run sync x\n", "line 2: bad number"),
-    ("config 1 1 1 2 8\n9 remount up\n", "line 2: no such task"),
     (
-        "config 1 1 1 2 8\n9 remount up x\n",
-        "line 2: wrong number of words",
+        "wrong number of words",
+        "tree 0\n0 create 0\n0 snapshot 1\n0\n0 want 0\nwords x\n0 remount\n0 run sync\n0 step 1 1\n0 trystart 1 0 0\n\
+         0 callback\n0 freeze x\n0 thaw 1\n9\n9 want x\n9 remount up x\n",
+    ),
+    (
+        "no such task",
+        "1 step\n9 want x 0\n256 want 0 0\n9 change x up\n9 run write x\n9 remount up\n",
+    ),
+    (
+        "bad number",
+        "0 create x fifo\n0 grow 1 x\n0 want x 0\n0 want 99999999999 0\n0 want 4294967296 0\n0 change x up\n0 step 0\n\
+         0 step 65536\n0 callback x\n0 end 1 x\n0 dropwrite x 0\n0 run sync 0\n0 run unfreeze 65536\n0 run sync x\n",
+    ),
+    (
+        "bad word",
+        "0 create 0 fifo\n0 change 0 up\n0 run write 5\n0 remount up\n0 run write x\n",
     ),
 ];
 
@@ -405,12 +178,24 @@ fn schedules_print_what_they_ask_for(rt: HostRuntime) -> Result<(), Fail> {
     print_all(&rt, PRINTED.as_slice())
 }
 
+/// That a schedule prints nothing and ends with this fault.
+fn faults<R: Abort + Alloc<A = Global>>(rt: &R, schedule: &str, fault: &str) -> Result<(), Fail> {
+    let (printed, ended) = played(rt, schedule.as_bytes())?;
+    assert!(rt; printed.is_empty());
+    expect_end(rt, ended, fault)
+}
+
 #[test]
 fn malformed_schedules_end_at_their_first_fault(rt: HostRuntime) -> Result<(), Fail> {
-    for (schedule, fault) in FAULTS.iter().chain(SEVERAL_FAULTS.iter()) {
-        let (printed, ended) = played(&rt, schedule.as_bytes())?;
-        assert!(rt; printed.is_empty());
-        expect_end(&rt, ended, fault)?;
+    for (schedule, fault) in FAULTS.iter() {
+        faults(&rt, schedule, fault)?;
+    }
+    for (fault, lines) in SECOND_LINES.iter() {
+        let fault = format!(in rt.alloc(); "line 2: {fault}")?;
+        for line in lines.lines() {
+            let schedule = format!(in rt.alloc(); "config 1 1 1 2 8\n{line}\n")?;
+            faults(&rt, schedule.as_str(), fault.as_str())?;
+        }
     }
     Ok(())
 }
@@ -448,36 +233,33 @@ fn a_line_that_is_too_long_is_not_cut_off(rt: HostRuntime) -> Result<(), Fail> {
     Ok(())
 }
 
-/// That a schedule of as many lines as there may be has no fault, and one of more has.
-fn expect_limit<R: Abort + Alloc<A = Global>>(rt: &R, over: Over) -> Result<(), Fail> {
-    let long = [b'x'; 257];
-    let too_many = "line 1048577: too many lines";
-    for (tail, fault) in [
-        (b"".as_slice(), ""),
-        (b"\n".as_slice(), too_many),
-        (b"config".as_slice(), too_many),
-        (long.as_slice(), too_many),
-    ] {
-        let head = b"config 1 1 1 2 8\n".as_slice();
-        let mut reader = Newlines {
-            head,
-            empty: 1_048_575,
-            tail,
-        };
-        let ended = replay_over(rt.alloc(), over, &mut reader, &mut std::io::empty());
-        expect_end(rt, ended, fault)?;
-    }
-    Ok(())
+/// That a schedule of as many lines as there may be, and then these bytes, ends with this fault.
+fn expect_limit<R: Abort + Alloc<A = Global>>(
+    rt: &R,
+    over: Over,
+    tail: &[u8],
+    fault: &str,
+) -> Result<(), Fail> {
+    let mut reader = Newlines {
+        head: b"config 1 1 1 2 8\n".as_slice(),
+        empty: 1_048_575,
+        tail,
+    };
+    let ended = replay_over(rt.alloc(), over, &mut reader, &mut std::io::empty());
+    expect_end(rt, ended, fault)
 }
 
+#[test]
+fn a_schedule_may_have_1048576_lines(rt: HostRuntime) -> Result<(), Fail> {
+    expect_limit(&rt, Over::Core, b"".as_slice(), "")
+}
+
+/// Also of a line that is cut off, or too long.
 #[test]
 fn a_schedule_has_at_most_1048576_lines(rt: HostRuntime) -> Result<(), Fail> {
-    expect_limit(&rt, Over::Core)
-}
-
-#[test]
-fn a_schedule_over_the_gates_has_at_most_1048576_lines(rt: HostRuntime) -> Result<(), Fail> {
-    expect_limit(&rt, Over::Gates)
+    let too_many = "line 1048577: too many lines";
+    expect_limit(&rt, Over::Core, b"config".as_slice(), too_many)?;
+    expect_limit(&rt, Over::Gates, [b'x'; 257].as_slice(), too_many)
 }
 
 /// A schedule of eight lines, what it prints, and how many bytes its first lines print: of no line, of one, and so on.

@@ -1,6 +1,6 @@
 //! Schedules that meet a growth which is refused. `rt try --test --fail-alloc N` refuses the growth number N of each test, so that a test
-//! which asks for growths of its own first meets a lower one of its replay. bench/refuse-memory.sh takes 21, 22, 23 and 24 for N: with the
-//! tests below each growth of a replay is refused in one of these runs.
+//! which asks for growths of its own first meets a lower one of its replay. bench/refuse-memory.sh takes 21 and 22 for N: with the tests
+//! below each growth of a replay is refused in one of these builds.
 
 use super::fakes::Counter;
 use crate::drivers::Over;
@@ -12,7 +12,7 @@ use std::process::Abort;
 use std::test::Fail;
 
 /// How a schedule ends that needs memory at its first line and at its third, and how many bytes it prints, where this growth of its replay
-/// is refused, or one of the three behind it.
+/// is refused, or the one behind it.
 fn ended<R: Alloc<A = Global>>(rt: &R, over: Over, lowest: u8) -> (Result<(), ReplayFault>, usize) {
     for _growth in lowest..21 {
         let mut bytes = Vec::new(rt.alloc());
@@ -44,18 +44,33 @@ fn ends_at_its_line<R: Abort + Alloc<A = Global>>(
 }
 
 #[test]
-fn growths_1_to_4_are_refused(rt: HostRuntime) -> Result<(), Fail> {
+fn growths_1_and_2_are_refused(rt: HostRuntime) -> Result<(), Fail> {
     ends_at_its_line(&rt, Over::Core, 1)
 }
 
 #[test]
-fn growths_5_to_8_are_refused(rt: HostRuntime) -> Result<(), Fail> {
+fn growths_3_and_4_are_refused(rt: HostRuntime) -> Result<(), Fail> {
+    ends_at_its_line(&rt, Over::Core, 3)
+}
+
+#[test]
+fn growths_5_and_6_are_refused(rt: HostRuntime) -> Result<(), Fail> {
     ends_at_its_line(&rt, Over::Core, 5)
 }
 
 #[test]
-fn growths_9_to_12_are_refused(rt: HostRuntime) -> Result<(), Fail> {
+fn growths_7_and_8_are_refused(rt: HostRuntime) -> Result<(), Fail> {
+    ends_at_its_line(&rt, Over::Core, 7)
+}
+
+#[test]
+fn growths_9_and_10_are_refused(rt: HostRuntime) -> Result<(), Fail> {
     ends_at_its_line(&rt, Over::Core, 9)
+}
+
+#[test]
+fn growths_11_and_12_are_refused(rt: HostRuntime) -> Result<(), Fail> {
+    ends_at_its_line(&rt, Over::Core, 11)
 }
 
 #[test]
@@ -65,28 +80,53 @@ fn there_is_no_growth_13(rt: HostRuntime) -> Result<(), Fail> {
 }
 
 #[test]
-fn growths_1_to_4_of_the_gates_are_refused(rt: HostRuntime) -> Result<(), Fail> {
+fn growths_1_and_2_of_the_gates_are_refused(rt: HostRuntime) -> Result<(), Fail> {
     ends_at_its_line(&rt, Over::Gates, 1)
 }
 
 #[test]
-fn growths_5_to_8_of_the_gates_are_refused(rt: HostRuntime) -> Result<(), Fail> {
+fn growths_3_and_4_of_the_gates_are_refused(rt: HostRuntime) -> Result<(), Fail> {
+    ends_at_its_line(&rt, Over::Gates, 3)
+}
+
+#[test]
+fn growths_5_and_6_of_the_gates_are_refused(rt: HostRuntime) -> Result<(), Fail> {
     ends_at_its_line(&rt, Over::Gates, 5)
 }
 
 #[test]
-fn growths_9_to_12_of_the_gates_are_refused(rt: HostRuntime) -> Result<(), Fail> {
+fn growths_7_and_8_of_the_gates_are_refused(rt: HostRuntime) -> Result<(), Fail> {
+    ends_at_its_line(&rt, Over::Gates, 7)
+}
+
+#[test]
+fn growths_9_and_10_of_the_gates_are_refused(rt: HostRuntime) -> Result<(), Fail> {
     ends_at_its_line(&rt, Over::Gates, 9)
 }
 
 #[test]
-fn growths_13_to_16_of_the_gates_are_refused(rt: HostRuntime) -> Result<(), Fail> {
+fn growths_11_and_12_of_the_gates_are_refused(rt: HostRuntime) -> Result<(), Fail> {
+    ends_at_its_line(&rt, Over::Gates, 11)
+}
+
+#[test]
+fn growths_13_and_14_of_the_gates_are_refused(rt: HostRuntime) -> Result<(), Fail> {
     ends_at_its_line(&rt, Over::Gates, 13)
 }
 
 #[test]
-fn growths_17_to_20_of_the_gates_are_refused(rt: HostRuntime) -> Result<(), Fail> {
+fn growths_15_and_16_of_the_gates_are_refused(rt: HostRuntime) -> Result<(), Fail> {
+    ends_at_its_line(&rt, Over::Gates, 15)
+}
+
+#[test]
+fn growths_17_and_18_of_the_gates_are_refused(rt: HostRuntime) -> Result<(), Fail> {
     ends_at_its_line(&rt, Over::Gates, 17)
+}
+
+#[test]
+fn growths_19_and_20_of_the_gates_are_refused(rt: HostRuntime) -> Result<(), Fail> {
+    ends_at_its_line(&rt, Over::Gates, 19)
 }
 
 #[test]
