@@ -1,19 +1,17 @@
-//! Sums, touches and places, with values from arithmetic by hand.
+//! Touches, sums and packed words, with values from arithmetic by hand.
 
+use access_model::Kind;
+use bitflags::Flags;
 use cpu_words::{Event, Sum, Taken, Touch, WORDS, WordName};
+use gated_tree::NodeWord;
+use mount_counts::MountFlags;
+use percpu_rwsem::SyncWord;
 
 /// 2^64 less 1.
 const LAST: u64 = 18446744073709551615;
 
 #[test]
-fn a_sum_wraps_to_zero(rt: HostRuntime) {
-    let one = Sum { words: 1, total: 1 };
-    assert_eq!(rt; Sum::start().take(1, 2), Taken::More(one));
-    assert_eq!(rt; one.take(LAST, 2), Taken::Total(0));
-}
-
-#[test]
-fn a_sum_of_three_goes_on_twice(rt: HostRuntime) {
+fn a_sum_of_three_wraps(rt: HostRuntime) {
     let one = Sum { words: 1, total: 5 };
     let two = Sum { words: 2, total: 4 };
     assert_eq!(rt; Sum::start().take(5, 3), Taken::More(one));
@@ -55,6 +53,62 @@ fn a_store_finds_what_it_wrote(rt: HostRuntime) {
 }
 
 #[test]
-fn the_last_word_lies_last(rt: HostRuntime) {
+fn words_and_flags_have_their_places(rt: HostRuntime) {
     assert_eq!(rt; WordName::LevelCount(3, 63).place(), WORDS - 1);
+    let bits = (MountFlags::READONLY.bits(), MountFlags::HOLD.bits());
+    assert_eq!(rt; bits, (1, 2));
+}
+
+#[test]
+fn transitions_of_packed_words(rt: HostRuntime) {
+    let exit = |word| SyncWord::unpack(word)
+        .and_then(SyncWord::on_exit)
+        .map(SyncWord::pack);
+    let claim = |word| SyncWord::unpack(word)
+        .and_then(SyncWord::on_claim)
+        .map(SyncWord::pack);
+    let enter = |word| SyncWord::unpack(word)
+        .and_then(SyncWord::on_enter)
+        .map(SyncWord::pack);
+    let callback = |word| SyncWord::unpack(word)
+        .and_then(SyncWord::on_callback)
+        .map(SyncWord::pack);
+    let exits = [258, 267, 0].map(exit);
+    let claims = [3, 0, 258].map(claim);
+    let callbacks = [12, 11, 267, 0, 3].map(callback);
+    assert!(rt; exits == [Some(3), Some(12), None]);
+    assert!(rt; claims == [Some(11), None, None] && enter(11) == Some(267));
+    assert!(rt; callbacks == [Some(3), Some(0), Some(258), None, None]);
+}
+
+#[test]
+fn numbers_that_are_no_word(rt: HostRuntime) {
+    for number in [5, 16, 8, 256, 1, 2, 10, 16777216, LAST] {
+        assert_eq!(rt; SyncWord::unpack(number), None, "{number}");
+    }
+    for number in [3, 4, 9, 129, 256, 16385, 2147483649, 4294967296] {
+        assert_eq!(rt; NodeWord::unpack(number), None, "{number}");
+    }
+}
+
+#[test]
+fn node_words_have_their_fields_in_place(rt: HostRuntime) {
+    let file = NodeWord {
+        kind: Some(Kind::File),
+        dirty: true,
+        parent: 63,
+        size: 10,
+    };
+    let free = NodeWord {
+        kind: None,
+        dirty: false,
+        parent: 0,
+        size: 0,
+    };
+    for (node, word) in [(file, 42949672965 + 63 * 256), (free, 0)] {
+        assert!(rt;
+            node.pack() == word && NodeWord::unpack(word) == Some(node),
+            "{word}"
+        );
+    }
 }
