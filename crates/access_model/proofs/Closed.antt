@@ -6,7 +6,7 @@ use Rattle.std.proofs.lemmas.Bool.Decides.{eqb_tells}
 use Rattle.finite_sums.specs.Sums.{update}
 use Rattle.finite_sums.proofs.Totals.{update_off, each_updated}
 use Rattle.access_model.specs.declared.actions.Action.{Action}
-use Rattle.access_model.specs.declared.actions.Action.TheVariants.{Grant, Return, MountRo, MountRw, SbRo, SbRw, Stage, Pass, Reopen, Create, Remove, Grow, MoveTo, Dirty, Clean}
+use Rattle.access_model.specs.declared.actions.Action.TheVariants.{Grant, Return, MountRo, MountRw, SbRo, SbRw, Stage, Hold, Leave, Pass, Reopen, Create, Remove, Grow, MoveTo, Dirty, Clean}
 use Rattle.access_model.specs.declared.actions.Gate.TheVariants.{Mount, Level}
 use Rattle.access_model.specs.declared.actions.NodeInfo.{NodeInfo}
 use Rattle.std.specs.Prelude.{Option}
@@ -138,6 +138,8 @@ module _ (l : Limits) (s : State) (t : ℕ) (k : NobodyHoldsClosed l s) where
     stage = k.stage;
   }
   step (Stage n) may = record { mounts = k.mounts; levels = k.levels; counts = k.counts; passed = k.passed; stage = to_stage l s n may }
+  step (Hold h) may = record { mounts = k.mounts; levels = k.levels; counts = k.counts; passed = k.passed; stage = k.stage }
+  step (Leave h) may = record { mounts = k.mounts; levels = k.levels; counts = k.counts; passed = k.passed; stage = k.stage }
   step (Pass i) may = record {
     mounts = k.mounts;
     levels = λ x j lx low high. elim (eqb_tells j i) [

@@ -3,3 +3,4 @@ pub mod Changes
 pub mod Closed
 pub mod Lists
 pub mod Mapped
+pub mod Held

@@ -4,7 +4,7 @@ use Rattle.std.specs.Prelude.{cond, List, [], ◌∷◌}
 use Rattle.std.proofs.lemmas.Bool.Decides.{eqb_tells}
 use Rattle.finite_sums.proofs.Totals.{update_at, update_off}
 use Rattle.access_model.specs.declared.actions.Action.{Action}
-use Rattle.access_model.specs.declared.actions.Action.TheVariants.{Grant, Return, MountRo, MountRw, SbRo, SbRw, Stage, Pass, Reopen, Create, Remove, Grow, MoveTo, Dirty, Clean}
+use Rattle.access_model.specs.declared.actions.Action.TheVariants.{Grant, Return, MountRo, MountRw, SbRo, SbRw, Stage, Hold, Leave, Pass, Reopen, Create, Remove, Grow, MoveTo, Dirty, Clean}
 use Rattle.access_model.specs.States.{State}
 use Rattle.access_model.specs.Actions.{after_action, mounts_after, levels_after}
 use Rattle.access_model.specs.Histories.{Done, end_of, own_part, mounts_of, levels_of}
@@ -19,6 +19,8 @@ mounts_own s t (MountRw m) = refl
 mounts_own s t SbRo = refl
 mounts_own s t SbRw = refl
 mounts_own s t (Stage n) = refl
+mounts_own s t (Hold h) = refl
+mounts_own s t (Leave h) = refl
 mounts_own s t (Pass i) = refl
 mounts_own s t (Reopen i) = refl
 mounts_own s t (Create n d kind) = refl
@@ -37,6 +39,8 @@ levels_own s t (MountRw m) = refl
 levels_own s t SbRo = refl
 levels_own s t SbRw = refl
 levels_own s t (Stage n) = refl
+levels_own s t (Hold h) = refl
+levels_own s t (Leave h) = refl
 levels_own s t (Pass i) = refl
 levels_own s t (Reopen i) = refl
 levels_own s t (Create n d kind) = refl
@@ -55,6 +59,8 @@ mounts_others s t x (MountRw m) ne = refl
 mounts_others s t x SbRo ne = refl
 mounts_others s t x SbRw ne = refl
 mounts_others s t x (Stage n) ne = refl
+mounts_others s t x (Hold h) ne = refl
+mounts_others s t x (Leave h) ne = refl
 mounts_others s t x (Pass i) ne = refl
 mounts_others s t x (Reopen i) ne = refl
 mounts_others s t x (Create n d kind) ne = refl
@@ -73,6 +79,8 @@ levels_others s t x (MountRw m) ne = refl
 levels_others s t x SbRo ne = refl
 levels_others s t x SbRw ne = refl
 levels_others s t x (Stage n) ne = refl
+levels_others s t x (Hold h) ne = refl
+levels_others s t x (Leave h) ne = refl
 levels_others s t x (Pass i) ne = refl
 levels_others s t x (Reopen i) ne = refl
 levels_others s t x (Create n d kind) ne = refl

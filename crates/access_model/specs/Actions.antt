@@ -2,9 +2,10 @@
 use Rattle.std.specs.Prelude.{◌≡◌, ℕ, zero, suc, ◌+◌, ◌-◌, ◌<◌, ◌≤◌, ◌⊎◌, Bool, true, false, Option, Some, None, option_map}
 use Rattle.finite_sums.specs.Sums.{update}
 use Rattle.access_model.specs.declared.actions.Action.{Action}
-use Rattle.access_model.specs.declared.actions.Action.TheVariants.{Grant, Return, MountRo, MountRw, SbRo, SbRw, Stage, Pass, Reopen, Create, Remove, Grow, MoveTo, Dirty, Clean}
+use Rattle.access_model.specs.declared.actions.Action.TheVariants.{Grant, Return, MountRo, MountRw, SbRo, SbRw, Stage, Hold, Leave, Pass, Reopen, Create, Remove, Grow, MoveTo, Dirty, Clean}
 use Rattle.access_model.specs.declared.actions.Gate.TheVariants.{Mount, Level}
 use Rattle.access_model.specs.declared.actions.NodeInfo.{NodeInfo}
+use Rattle.access_model.specs.Holders.{held_by, with_holder, is_unheld}
 use Rattle.access_model.specs.States.{Limits, State, IsLevel, NobodyHolds, IsFile, IsDirectory, used_blocks, IsClean}
 
 -- the task holds an access at some mount
@@ -16,9 +17,9 @@ abbrev pub IsWriter : Limits → State → ℕ → Type 0
 IsWriter l s t = (s.levels t 1 ≡ true) × HoldsSomeMount l s t
 
 -- A freeze may go to this stage: up one at a time, each where the level before is closed, and to 3 and 4 only with no file dirty; from 0
--- to 4 at once where the superblock is read-only; and back to 0 from 2, 3 or 4.
+-- to 4 at once where the superblock is read-only; and back to 0 from 2 or 3, or from 4 where no freeze is held.
 abbrev pub MayStage : Limits → State → ℕ → Type 0
-MayStage l s zero = ((s.stage ≡ 2) × (s.passed ≡ 2)) ⊎ (((s.stage ≡ 3) × (s.passed ≡ 3)) ⊎ (s.stage ≡ 4))
+MayStage l s zero = ((s.stage ≡ 2) × (s.passed ≡ 2)) ⊎ (((s.stage ≡ 3) × (s.passed ≡ 3)) ⊎ ((s.stage ≡ 4) × (is_unheld s.holders ≡ true)))
 MayStage l s (suc zero) = (s.stage ≡ 0) × (s.passed ≡ 0) × (s.sb_ro ≡ false)
 MayStage l s (suc (suc zero)) = (s.stage ≡ 1) × (s.passed ≡ 1)
 MayStage l s (suc (suc (suc zero))) = (s.stage ≡ 2) × (s.passed ≡ 2) × IsClean l s
@@ -37,6 +38,8 @@ MayDo l s t (MountRw m) = m < l.mounts
 MayDo l s t SbRo = (s.stage ≡ 0) × ((m : ℕ) → m < l.mounts → NobodyHolds l s (Mount m))
 MayDo l s t SbRw = s.stage ≡ 0
 MayDo l s t (Stage n) = MayStage l s n
+MayDo l s t (Hold h) = (s.stage ≡ 4) × (held_by s.holders h ≡ false)
+MayDo l s t (Leave h) = (s.stage ≡ 4) × (held_by s.holders h ≡ true)
 MayDo l s t (Pass i) = IsLevel i × (s.stage ≡ i) × (s.passed + 1 ≡ i) × NobodyHolds l s (Level i)
 MayDo l s t (Reopen i) = IsLevel i × (s.stage ≡ 0) × (s.passed ≡ i)
 MayDo l s t (Create n d kind) = IsWriter l s t × (n < l.nodes) × (d < l.nodes) × (s.tree n ≡ None) × IsDirectory (s.tree d)
@@ -61,6 +64,8 @@ mounts_after (MountRw m) held = held
 mounts_after SbRo held = held
 mounts_after SbRw held = held
 mounts_after (Stage n) held = held
+mounts_after (Hold h) held = held
+mounts_after (Leave h) held = held
 mounts_after (Pass i) held = held
 mounts_after (Reopen i) held = held
 mounts_after (Create n d kind) held = held
@@ -81,6 +86,8 @@ levels_after (MountRw m) held = held
 levels_after SbRo held = held
 levels_after SbRw held = held
 levels_after (Stage n) held = held
+levels_after (Hold h) held = held
+levels_after (Leave h) held = held
 levels_after (Pass i) held = held
 levels_after (Reopen i) held = held
 levels_after (Create n d kind) held = held
@@ -117,6 +124,8 @@ tree_after (MountRw m) tree = tree
 tree_after SbRo tree = tree
 tree_after SbRw tree = tree
 tree_after (Stage n) tree = tree
+tree_after (Hold h) tree = tree
+tree_after (Leave h) tree = tree
 tree_after (Pass i) tree = tree
 tree_after (Reopen i) tree = tree
 
@@ -135,6 +144,8 @@ after_action s t (MountRw m) = record s { mount_ro = update s.mount_ro m false }
 after_action s t SbRo = record s { sb_ro = true }
 after_action s t SbRw = record s { sb_ro = false }
 after_action s t (Stage n) = record s { stage = n }
+after_action s t (Hold h) = record s { holders = with_holder h true s.holders }
+after_action s t (Leave h) = record s { holders = with_holder h false s.holders }
 after_action s t (Pass i) = record s { passed = i }
 after_action s t (Reopen i) = record s { passed = i - 1 }
 after_action s t (Create n d kind) = record s { tree = tree_after (Create n d kind) s.tree }

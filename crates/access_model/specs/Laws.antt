@@ -1,6 +1,11 @@
 -- Laws of whole histories.
 use Rattle.std.specs.Prelude.{◌≡◌, ℕ, ◌<◌, ◌≤◌, ◌⊎◌, true, false, List}
+use Rattle.access_model.specs.declared.actions.Action.{Action}
+use Rattle.access_model.specs.declared.actions.Action.TheVariants.{Leave}
+use Rattle.access_model.specs.declared.actions.Holder.{Holder}
+use Rattle.access_model.specs.Holders.{held_by}
 use Rattle.access_model.specs.States.{Limits, State}
+use Rattle.access_model.specs.Actions.{IsAllowed, after_action}
 use Rattle.access_model.specs.Histories.{Done, end_of, own_part, mounts_of, levels_of}
 
 -- writes through the mount are refused, by its own flag or the superblock's
@@ -19,3 +24,13 @@ pub record NobodyHoldsClosed (l : Limits) (s : State) : Type 0 where
 pub record FollowsOwnList (history : List Done) (t : ℕ) : Type 0 where
   pub mounts : (m : ℕ) → (end_of history).mounts t m ≡ mounts_of (own_part t history) m
   pub levels : (i : ℕ) → (end_of history).levels t i ≡ levels_of (own_part t history) i
+
+-- all is frozen, and this one holds a freeze
+abbrev pub IsFrozenFor : State → Holder → Type 0
+IsFrozenFor s h = (s.stage ≡ 4) × (held_by s.holders h ≡ true)
+
+-- What this one has frozen stays so until it leaves: any other action, whoever does it, leaves all frozen, held by this one, and no level open
+-- that was closed.
+abbrev pub StaysFrozen : Limits → State → ℕ → Action → Holder → Type 0
+StaysFrozen l s t a h = IsAllowed l s t a → IsFrozenFor s h → (a ≡ Leave h → ⊥) →
+    IsFrozenFor (after_action s t a) h × ((after_action s t a).passed ≡ s.passed)

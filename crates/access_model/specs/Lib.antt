@@ -1,5 +1,6 @@
 pub mod Errors
 pub mod Replies
+pub mod Holders
 pub mod States
 pub mod Actions
 pub mod Histories

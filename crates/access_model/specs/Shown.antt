@@ -49,6 +49,7 @@ standing_of model = record {
     mount_ro = flags_of model.mount_ro;
     sb_ro = model.sb_ro;
     stage = model.stage;
+    holders = model.holders;
     passed = model.passed;
     tree = tree_of model.nodes.items;
   };

@@ -3,8 +3,10 @@ use Rattle.std.specs.Prelude.{◌≡◌, ℕ, ◌<◌, ◌≤◌, Bool, false, O
 use Rattle.finite_sums.specs.Sums.{update, total}
 use Rattle.access_model.specs.declared.actions.Gate.{Gate}
 use Rattle.access_model.specs.declared.actions.Gate.TheVariants.{Mount, Level}
+use Rattle.access_model.specs.declared.actions.Holders.{Holders}
 use Rattle.access_model.specs.declared.actions.Kind.TheVariants.{File, Dir}
 use Rattle.access_model.specs.declared.actions.NodeInfo.{NodeInfo}
+use Rattle.access_model.specs.Holders.{nobody}
 
 -- how many tasks, mounts and nodes there are, and how many blocks all files may have together
 pub record Limits : Type 0 where
@@ -24,6 +26,8 @@ pub record State : Type 0 where
   pub sb_ro : Bool
   -- SB_UNFROZEN 0 to SB_FREEZE_COMPLETE 4
   pub stage : ℕ
+  -- who holds a freeze
+  pub holders : Holders
   -- the levels 1 to `passed` have been closed by a freeze and not yet opened again
   pub passed : ℕ
   -- the nodes that are not free
@@ -41,6 +45,7 @@ opening_state = record {
   mount_ro = λ m. false;
   sb_ro = false;
   stage = 0;
+  holders = nobody;
   passed = 0;
   tree = update (λ n. None) 0 (Some root);
 }

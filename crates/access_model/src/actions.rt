@@ -1,4 +1,7 @@
-//! Gates, nodes and the actions of the model.
+//! Gates, nodes, holders of a freeze and the actions of the model.
+
+ghost use Rattle.std.specs.Prelude.{◌≡◌, true, false};
+ghost use Rattle.access_model.specs.Holders.{nobody, held_by, with_holder, is_unheld};
 
 /// Where writers are counted: the mount of a number from 0 (the writer count of `struct mount`), or the freeze level 1, 2
 /// or 3 (one semaphore of `sb_writers`: writes, page faults, internal work).
@@ -25,6 +28,83 @@ pub struct NodeInfo {
     pub dirty: bool,
 }
 
+/// Who may hold a freeze: the kernel, as for a suspend, or user space, as for a backup. The superblock stays frozen until neither does.
+#[derive(Clone, Copy, PartialEq, Eq, Debug)]
+pub enum Holder {
+    Kernel,
+    User,
+}
+
+/// Which holders hold a freeze.
+#[derive(Clone, Copy, PartialEq, Eq, Debug)]
+pub struct Holders {
+    pub kernel: bool,
+    pub user: bool,
+}
+
+impl Holders {
+    /// No freeze is held.
+    #[inline(always)]
+    pub fn none() -> Holders
+        ensures { result ≡ nobody }
+    {
+        Holders {
+            kernel: false,
+            user: false,
+        }
+    }
+
+    /// Whether this one holds a freeze.
+    #[inline(always)]
+    pub fn has(self, holder: Holder) -> bool
+        ensures { result ≡ held_by self holder }
+    {
+        match holder {
+            Holder::Kernel => self.kernel,
+            Holder::User => self.user,
+        }
+    }
+
+    /// The same, where this one holds a freeze.
+    #[inline(always)]
+    pub fn with(self, holder: Holder) -> Holders
+        ensures { result ≡ with_holder holder true self }
+    {
+        match holder {
+            Holder::Kernel => Holders {
+                kernel: true,
+                ..self
+            },
+            Holder::User => Holders { user: true, ..self },
+        }
+    }
+
+    /// The same, where this one holds none.
+    #[inline(always)]
+    pub fn without(self, holder: Holder) -> Holders
+        ensures { result ≡ with_holder holder false self }
+    {
+        match holder {
+            Holder::Kernel => Holders {
+                kernel: false,
+                ..self
+            },
+            Holder::User => Holders {
+                user: false,
+                ..self
+            },
+        }
+    }
+
+    /// Whether no freeze is held.
+    #[inline(always)]
+    pub fn is_none(self) -> bool
+        ensures { result ≡ is_unheld self }
+    {
+        !self.kernel && !self.user
+    }
+}
+
 /// A step of the model, done by one task.
 #[derive(Clone, Copy, PartialEq, Eq, Debug)]
 pub enum Action {
@@ -42,6 +122,10 @@ pub enum Action {
     SbRw,
     /// The stage of the freeze, `s_writers.frozen`, becomes 0 to 4 (`SB_UNFROZEN` to `SB_FREEZE_COMPLETE`).
     Stage(u8),
+    /// A holder's freeze begins to stand, at stage 4.
+    Hold(Holder),
+    /// A holder's freeze is given back, at stage 4.
+    Leave(Holder),
     /// A freeze has closed level 1, 2 or 3, and nobody is inside, as when `sb_wait_write` returns.
     Pass(u8),
     /// A level that was passed is open again.

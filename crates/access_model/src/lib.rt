@@ -9,7 +9,7 @@ pub mod laws;
 pub mod model;
 pub mod replies;
 
-pub use actions::{Action, Gate, Kind, NodeInfo};
+pub use actions::{Action, Gate, Holder, Holders, Kind, NodeInfo};
 pub use errors::GateError;
 pub use model::Model;
 pub use replies::{Next, Reply};

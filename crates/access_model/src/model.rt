@@ -6,7 +6,7 @@ ghost use Rattle.access_model.specs.States.{IsLevel, size_of};
 ghost use Rattle.access_model.specs.Actions.{grown, moved, marked};
 ghost use Rattle.access_model.specs.Limits.{AreLimits};
 
-use crate::actions::{Action, Gate, Kind, NodeInfo};
+use crate::actions::{Action, Gate, Holder, Holders, Kind, NodeInfo};
 use crate::errors::GateError;
 use std::alloc::Global;
 
@@ -96,6 +96,7 @@ pub struct Model {
     mount_ro: [bool; 8],
     sb_ro: bool,
     stage: u8,
+    holders: Holders,
     passed: u8,
     nodes: Vec<Option<NodeInfo>>,
     ghost some_tasks: { 1 ≤ tasks },
@@ -109,6 +110,7 @@ pub struct Model {
 impl Model {
     ghost use Rattle.std.specs.Prelude.{◌⊎◌, true, false, IsOk, IfOk, IfErr, OnOk, OnErr};
     ghost use Rattle.access_model.specs.declared.actions.Gate.TheVariants.{Mount, Level};
+    ghost use Rattle.access_model.specs.Holders.{held_by};
     ghost use Rattle.access_model.specs.States.{NobodyHolds, IsClean, IsFile, IsDirectory, used_blocks};
     ghost use Rattle.access_model.specs.declared.errors.GateError.TheVariants.{Invalid, NoMemory};
     ghost use Rattle.access_model.specs.declared.actions.Action.TheVariants.{Grant, Return};
@@ -154,6 +156,7 @@ impl Model {
             mount_ro: [false; 8],
             sb_ro: false,
             stage: 0,
+            holders: Holders::none(),
             passed: 0,
             nodes: tree,
         })
@@ -169,12 +172,14 @@ impl Model {
         }
         match *action {
             Action::Grant(gate) => self.may_grant(task, gate),
-            Action::Return(gate) => self.holds(task, gate),
+            Action::Return(gate) => self.has_access(task, gate),
             Action::MountRo(mount) => mount < self.mounts && self.is_mount_free(mount),
             Action::MountRw(mount) => mount < self.mounts,
             Action::SbRo => self.stage == 0 && self.is_every_mount_free(),
             Action::SbRw => self.stage == 0,
             Action::Stage(stage) => self.may_stage(stage),
+            Action::Hold(holder) => self.stage == 4 && !self.holders.has(holder),
+            Action::Leave(holder) => self.stage == 4 && self.holders.has(holder),
             Action::Pass(level) => self.may_pass(level),
             Action::Reopen(level) => { is_level(level) && self.stage == 0 && self.passed == level }
             Action::Create { node, dir, .. } => {
@@ -252,6 +257,13 @@ impl Model {
         self.stage
     }
 
+    /// Whether the kernel or user space holds a freeze: nothing is thawed until neither does.
+    pub fn holds(&self, holder: Holder) -> bool
+        ensures { result ≡ held_by (state_of self.now).holders holder }
+    {
+        self.holders.has(holder)
+    }
+
     /// How many levels, from level 1 on, a freeze has closed and not yet opened again: 0 to 3.
     pub fn passed(&self) -> u8
         ensures { result ≡ (state_of self.now).passed }
@@ -284,6 +296,8 @@ impl Model {
             Action::SbRo => self.sb_ro = true,
             Action::SbRw => self.sb_ro = false,
             Action::Stage(stage) => self.stage = stage,
+            Action::Hold(holder) => self.holders = self.holders.with(holder),
+            Action::Leave(holder) => self.holders = self.holders.without(holder),
             Action::Pass(level) => self.passed = level,
             Action::Reopen(level) => self.passed = level - 1,
             Action::Create { node, dir, kind } => {
@@ -398,7 +412,7 @@ impl Model {
     }
 
     /// Whether a task holds an access at a gate.
-    fn holds(&self, task: u8, gate: Gate) -> bool
+    fn has_access(&self, task: u8, gate: Gate) -> bool
         requires { task < (limits_of self.now).tasks }
         ensures { IsTrue result ↔ MayDo (limits_of self.now) (state_of self.now) task (Return gate) }
     {
@@ -417,7 +431,7 @@ impl Model {
         ensures { IsTrue result ↔ MayStage (limits_of self.now) (state_of self.now) stage }
     {
         match stage {
-            0 => self.is_at(2) || self.is_at(3) || self.stage == 4,
+            0 => { self.is_at(2) || self.is_at(3) || (self.stage == 4 && self.holders.is_none()) }
             1 => self.is_at(0) && !self.sb_ro,
             2 => self.is_at(1),
             3 => self.is_at(2) && self.is_clean(),

@@ -31,6 +31,8 @@ use Rattle.tree_laws.proofs.Phases.{each_phase}
 use Rattle.tree_laws.specs.Steps.{words_left, StepKeeps as TreeStepKeeps}
 use Rattle.stage_laws.specs.Events.{Locks as LocksStage, Releases as ReleasesStage, Recalls, IsAlike, playing, Stages as StageMoment}
 use Rattle.stage_laws.specs.Roles.{StageRole, Aside, Owning, KnowsStage, clean_by, is_full, sums, owns as stage_owns}
+use Rattle.holder_laws.specs.Roles.{Apart}
+use Rattle.gate_world.specs.Holders.{holder_role_of}
 use Rattle.gate_world.specs.declared.config.Config.{Config}
 use Rattle.gate_world.specs.declared.views.View.{View}
 use Rattle.gate_world.specs.declared.views.Traced.{Traced}
@@ -46,6 +48,7 @@ use Rattle.gate_world.specs.Rules.{
   Part,
   Owner,
   Stages,
+  Holding,
   Fitting,
   Known,
   Tree,
@@ -103,6 +106,7 @@ use Rattle.call_laws.proofs.Noted.{notes_step}
 -- all words but `umount` are as they were
 record IsBeside (old new : Words) : Type 0 where
   stage_same : new.stage ≡ old.stage
+  holders_same : new.holders ≡ old.holders
   sb_same : new.sb ≡ old.sb
   remount_same : new.remount ≡ old.remount
   flags_same : new.flags ≡ old.flags
@@ -117,6 +121,7 @@ record IsBeside (old new : Words) : Type 0 where
 umount_beside : (w : Words) (n : ℕ) → IsBeside w (record w { umount = n })
 umount_beside w n = record {
   stage_same = refl;
+  holders_same = refl;
   sb_same = refl;
   remount_same = refl;
   flags_same = refl;
@@ -523,6 +528,11 @@ module _ (c : Config) (within : IsWithin c) (w : World) (good : IsGood c w) (t :
   parts_hold : (part : Part) → is_known_part part ≡ false → Holds c world_now part
   parts_hold Owner k = owner_law c within w good t lt hook x x.step e fits_now.0.0
   parts_hold Stages k = stage_law c within w good t lt hook x x.step e
+  parts_hold Holding k =
+      let beside : IsBeside w.words words_now = event_beside w.words x x.step in
+      left_alone c w t lt Holding words_now view_now (beside.stage_same, beside.holders_same)
+      (snapshot_comes x (λ n. holder_role_of (later n) ≡ Apart) (λ s. refl) refl (λ answer. refl) x.step
+      (found_here c within w good t lt hook x x.step) ∙ sym (ap holder_role_of e)) (good Holding)
   parts_hold Fitting k = λ y ly. each_updated (λ z (u : View). ViewFits c z u) w.views t view_now y fits_then (λ ne. good Fitting y ly)
   parts_hold Known k = absurd (true≢false k)
   parts_hold Tree k = tree_law
@@ -543,7 +553,7 @@ module _ (c : Config) (within : IsWithin c) (w : World) (good : IsGood c w) (t :
   shown_now =
       let beside : IsBeside w.words words_now = event_beside w.words x x.step in
       shown_still c w t lt words_now view_now beside.block_same beside.flags_same beside.remount_same beside.sb_same beside.stage_same
-      beside.node_same
+      beside.holders_same beside.node_same
       (λ i. snapshot_comes x (λ n. closing i (later n) ≡ 0) (step_sums i) refl (λ answer. refl) x.step
       (found_here c within w good t lt hook x x.step) ∙ sym (ap (closing i) e ∙ step_sums i x.step))
       (held_here c within w good t lt hook x x.step) (levels_here c within w good t lt hook x x.step)

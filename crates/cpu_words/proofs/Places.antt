@@ -5,7 +5,7 @@ use Rattle.std.proofs.Math.ListN.{length-set}
 use Rattle.std.proofs.lemmas.List.{length-replicate}
 use Rattle.std.proofs.lemmas.Bool.Decides.{eqb_tells}
 use Rattle.cpu_words.specs.declared.names.WordName.{WordName}
-use Rattle.cpu_words.specs.declared.names.WordName.TheVariants.{Umount, Stage, SbFlags, Remount, MountFlags, MountCount, Block, Sync, LevelCount, Section, Used, Node, Kids}
+use Rattle.cpu_words.specs.declared.names.WordName.TheVariants.{Umount, Stage, Holders, SbFlags, Remount, MountFlags, MountCount, Block, Sync, LevelCount, Section, Used, Node, Kids}
 use Rattle.cpu_words.specs.Names.{Extents, IsWord, place, words_in_all}
 use Rattle.cpu_words.specs.Words.{Words, put, opening_words}
 use Rattle.cpu_words.specs.Lists.{AreFew, ListShows, AreOpening}
@@ -22,6 +22,7 @@ module _ (e : Extents) (few : AreFew e) where
   pub place_small : (name : WordName) → IsWord e name → place name < words_in_all
   place_small Umount there = omega arith
   place_small Stage there = omega arith
+  place_small Holders there = omega arith
   place_small SbFlags there = omega arith
   place_small Remount there = omega arith
   place_small (MountFlags m) there = omega arith
@@ -40,6 +41,8 @@ module _ (e : Extents) (few : AreFew e) where
   same_name Umount other here there same = absurd (omega arith)
   same_name Stage Stage here there same = refl
   same_name Stage other here there same = absurd (omega arith)
+  same_name Holders Holders here there same = refl
+  same_name Holders other here there same = absurd (omega arith)
   same_name SbFlags SbFlags here there same = refl
   same_name SbFlags other here there same = absurd (omega arith)
   same_name Remount Remount here there same = refl

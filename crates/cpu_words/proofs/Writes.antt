@@ -4,13 +4,14 @@ use Rattle.std.proofs.lemmas.Bool.Decides.{eqb_tells}
 use Rattle.finite_sums.specs.Sums.{update}
 use Rattle.finite_sums.proofs.Totals.{update_at, update_off}
 use Rattle.cpu_words.specs.declared.names.WordName.{WordName}
-use Rattle.cpu_words.specs.declared.names.WordName.TheVariants.{Umount, Stage, SbFlags, Remount, MountFlags, MountCount, Block, Sync, LevelCount, Section, Used, Node, Kids}
+use Rattle.cpu_words.specs.declared.names.WordName.TheVariants.{Umount, Stage, Holders, SbFlags, Remount, MountFlags, MountCount, Block, Sync, LevelCount, Section, Used, Node, Kids}
 use Rattle.cpu_words.specs.Words.{Words, read, put}
 
 -- after a write of a word it has what was written
 pub read_put_same : (w : Words) (name : WordName) (v : ℕ) → read (put w name v) name ≡ v
 read_put_same w Umount v = refl
 read_put_same w Stage v = refl
+read_put_same w Holders v = refl
 read_put_same w SbFlags v = refl
 read_put_same w Remount v = refl
 read_put_same w (MountFlags m) v = update_at w.flags m v
@@ -40,6 +41,8 @@ module _ (w : Words) (v : ℕ) where
   read_put_other Umount other ne = refl
   read_put_other Stage Stage ne = absurd (ne refl)
   read_put_other Stage other ne = refl
+  read_put_other Holders Holders ne = absurd (ne refl)
+  read_put_other Holders other ne = refl
   read_put_other SbFlags SbFlags ne = absurd (ne refl)
   read_put_other SbFlags other ne = refl
   read_put_other Remount Remount ne = absurd (ne refl)
@@ -68,6 +71,7 @@ abbrev pub no_words : Words
 no_words = record {
   umount = 0;
   stage = 0;
+  holders = 0;
   sb = 0;
   remount = 0;
   flags = λ m. 0;
@@ -85,6 +89,7 @@ no_words = record {
 pub read_no_words : (name : WordName) → read no_words name ≡ 0
 read_no_words Umount = refl
 read_no_words Stage = refl
+read_no_words Holders = refl
 read_no_words SbFlags = refl
 read_no_words Remount = refl
 read_no_words (MountFlags m) = refl

@@ -1,7 +1,7 @@
 -- The words that a configuration has, and where each lies.
 use Rattle.std.specs.Prelude.{ℕ, ◌+◌, ◌-◌, ◌*◌, ◌<◌, ◌≤◌}
 use Rattle.cpu_words.specs.declared.names.WordName.{WordName}
-use Rattle.cpu_words.specs.declared.names.WordName.TheVariants.{Umount, Stage, SbFlags, Remount, MountFlags, MountCount, Block, Sync, LevelCount, Section, Used, Node, Kids}
+use Rattle.cpu_words.specs.declared.names.WordName.TheVariants.{Umount, Stage, Holders, SbFlags, Remount, MountFlags, MountCount, Block, Sync, LevelCount, Section, Used, Node, Kids}
 
 -- how many of each there are
 pub record Extents : Type 0 where
@@ -18,6 +18,7 @@ largest = record { tasks = 64; processors = 64; mounts = 8; nodes = 64 }
 abbrev pub IsWord : Extents → WordName → Type 0
 IsWord e Umount = Unit {0}
 IsWord e Stage = Unit {0}
+IsWord e Holders = Unit {0}
 IsWord e SbFlags = Unit {0}
 IsWord e Remount = Unit {0}
 IsWord e (MountFlags m) = m < e.mounts
@@ -42,9 +43,13 @@ umount_place = 0
 abbrev pub stage_place : ℕ
 stage_place = umount_place + 1
 
+-- the place of the holders of a freeze
+abbrev pub holders_place : ℕ
+holders_place = stage_place + 1
+
 -- the place of the superblock's flags
 abbrev pub sb_flags_place : ℕ
-sb_flags_place = stage_place + 1
+sb_flags_place = holders_place + 1
 
 -- the place of the word that says that a remount is under way
 abbrev pub remount_place : ℕ
@@ -102,6 +107,7 @@ stride = 16
 abbrev pub place : WordName → ℕ
 place Umount = umount_place
 place Stage = stage_place
+place Holders = holders_place
 place SbFlags = sb_flags_place
 place Remount = remount_place
 place (MountFlags m) = mount_flags_base + m

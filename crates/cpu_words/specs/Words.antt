@@ -2,12 +2,13 @@
 use Rattle.std.specs.Prelude.{ℕ}
 use Rattle.finite_sums.specs.Sums.{update}
 use Rattle.cpu_words.specs.declared.names.WordName.{WordName}
-use Rattle.cpu_words.specs.declared.names.WordName.TheVariants.{Umount, Stage, SbFlags, Remount, MountFlags, MountCount, Block, Sync, LevelCount, Section, Used, Node, Kids}
+use Rattle.cpu_words.specs.declared.names.WordName.TheVariants.{Umount, Stage, Holders, SbFlags, Remount, MountFlags, MountCount, Block, Sync, LevelCount, Section, Used, Node, Kids}
 
 -- the values of all words, by what they belong to; of a number that there is not, any value
 pub record Words : Type 0 where
   pub umount : ℕ
   pub stage : ℕ
+  pub holders : ℕ
   pub sb : ℕ
   pub remount : ℕ
   -- of a mount; of a mount and a processor
@@ -28,6 +29,7 @@ pub record Words : Type 0 where
 abbrev pub read : Words → WordName → ℕ
 read w Umount = w.umount
 read w Stage = w.stage
+read w Holders = w.holders
 read w SbFlags = w.sb
 read w Remount = w.remount
 read w (MountFlags m) = w.flags m
@@ -44,6 +46,7 @@ read w (Kids n) = w.kids n
 abbrev pub put : Words → WordName → ℕ → Words
 put w Umount v = record w { umount = v }
 put w Stage v = record w { stage = v }
+put w Holders v = record w { holders = v }
 put w SbFlags v = record w { sb = v }
 put w Remount v = record w { remount = v }
 put w (MountFlags m) v = record w { flags = update w.flags m v }
@@ -61,6 +64,7 @@ abbrev pub opening_words : Words
 opening_words = record {
   umount = 0;
   stage = 0;
+  holders = 0;
   sb = 0;
   remount = 0;
   flags = λ m. 0;

@@ -19,7 +19,9 @@ const UMOUNT: usize = 0;
 
 const STAGE: usize = UMOUNT + 1;
 
-const SB_FLAGS: usize = STAGE + 1;
+const HOLDERS: usize = STAGE + 1;
+
+const SB_FLAGS: usize = HOLDERS + 1;
 
 const REMOUNT: usize = SB_FLAGS + 1;
 
@@ -54,6 +56,8 @@ pub enum WordName {
     Umount,
     /// `s_writers.frozen`: SB_UNFROZEN 0 to SB_FREEZE_COMPLETE 4.
     Stage,
+    /// Who holds a freeze: the kernel 1, user space 2.
+    Holders,
     /// SB_RDONLY of `s_flags`: 0 or 1.
     SbFlags,
     /// `s_readonly_remount`: 0 or 1.
@@ -88,6 +92,7 @@ impl WordName {
         match self {
             WordName::Umount => UMOUNT,
             WordName::Stage => STAGE,
+            WordName::Holders => HOLDERS,
             WordName::SbFlags => SB_FLAGS,
             WordName::Remount => REMOUNT,
             WordName::MountFlags(mount) => MOUNT_FLAGS + mount as usize,

@@ -1,14 +1,16 @@
 -- The order of events of a freeze of the superblock: which word an event touches and how, and what comes after it. Two events are decided
 -- by the answer of the file system.
-use Rattle.std.specs.Prelude.{ℕ, ◌+◌, ◌-◌, ◌==◌, if◌then◌else◌, Option, Some, None, Ok, Err}
+use Rattle.std.specs.Prelude.{ℕ, ◌+◌, ◌-◌, ◌==◌, if◌then◌else◌, true, Option, Some, None, Ok, Err}
 use Rattle.access_model.specs.declared.actions.Action.{Action}
-use Rattle.access_model.specs.declared.actions.Action.TheVariants.{Stage as StageAction}
+use Rattle.access_model.specs.declared.actions.Action.TheVariants.{Stage as StageAction, Hold}
+use Rattle.access_model.specs.declared.actions.Holders.{Holders}
 use Rattle.access_model.specs.declared.errors.GateError.TheVariants.{Busy, Hook}
 use Rattle.access_model.specs.declared.replies.Next.{Next}
 use Rattle.access_model.specs.declared.replies.Next.TheVariants.{Go, Wait, Done}
 use Rattle.access_model.specs.declared.replies.Reply.TheVariants.{Unit as UnitReply}
+use Rattle.access_model.specs.Holders.{nobody, held_by, with_holder}
 use Rattle.cpu_words.specs.declared.names.WordName.{WordName}
-use Rattle.cpu_words.specs.declared.names.WordName.TheVariants.{Umount, Stage, SbFlags}
+use Rattle.cpu_words.specs.declared.names.WordName.TheVariants.{Umount, Stage, Holders as HoldersWord, SbFlags}
 use Rattle.cpu_words.specs.declared.events.Touch.{Touch}
 use Rattle.cpu_words.specs.declared.events.Touch.TheVariants.{Load, Store, Cas}
 use Rattle.cpu_words.specs.Hooks.{HookAnswer}
@@ -24,6 +26,8 @@ use Rattle.freeze_levels.specs.declared.freezes.FreezeStep.{FreezeStep}
 use Rattle.freeze_levels.specs.declared.freezes.FreezeStep.TheVariants.{
   Locks,
   LoadsStage,
+  LoadsHolders,
+  Holds,
   LoadsSuperblock,
   CompletesReadOnly,
   SetsWrite,
@@ -37,6 +41,7 @@ use Rattle.freeze_levels.specs.declared.freezes.FreezeStep.TheVariants.{
   Reopens,
   Releases,
 }
+use Rattle.freeze_levels.specs.Holders.{word_of, holders_in}
 use Rattle.freeze_levels.specs.Levels.{closing, reopening}
 
 -- the hook whose answer a step reads
@@ -46,10 +51,13 @@ freeze_hook SetsComplete = Some FreezeFs
 freeze_hook step = None
 
 -- freeze: under `umount` store stage 1, and give it back while level 1 is closed; under `umount` again store stage 2, close level 2 and
--- clear the dirty marks; store 3 and close level 3; store 4. Where a hook fails, store 0 and reopen the levels that are closed
+-- clear the dirty marks; store 3 and close level 3; store 4, and its holder. Where a hook fails, store 0 and reopen the levels that are
+-- closed. Where all is frozen already, store its holder beside the others
 abbrev pub freeze_next : Freeze → FreezeStep → HookAnswer → WordName × Touch
 freeze_next x Locks hook = (Umount, Cas 0 (x.task + 1))
 freeze_next x LoadsStage hook = (Stage, Load)
+freeze_next x LoadsHolders hook = (HoldersWord, Load)
+freeze_next x (Holds beside) hook = (HoldersWord, Store (word_of (with_holder x.holder true beside)))
 freeze_next x LoadsSuperblock hook = (SbFlags, Load)
 freeze_next x CompletesReadOnly hook = (Stage, Store 4)
 freeze_next x SetsWrite hook = (Stage, Store 1)
@@ -118,21 +126,33 @@ freeze_synced x (Err code) = stage_stored x 0 (freeze_fails 2 code)
 
 -- stage 4 was stored, or 0 where `freeze_fs` failed: all levels are closed
 abbrev pub freeze_completed : Freeze → HookAnswer → Next Freeze × Option Action
-freeze_completed x (Ok answer) = stage_stored x 4 (Releases (Ok UnitReply))
+freeze_completed x (Ok answer) = stage_stored x 4 (Holds nobody)
 freeze_completed x (Err code) = stage_stored x 0 (freeze_fails 3 code)
+
+-- who holds a freeze was loaded, with all frozen: where its own holder does, it is refused
+abbrev pub found_holders : Freeze → Holders → FreezeStep
+found_holders x held = if held_by held x.holder then Releases (Err Busy) else Holds held
+
+-- its holder was stored
+abbrev pub held_now : Freeze → Next Freeze × Option Action
+held_now x = (Go (at_freeze x (Releases (Ok UnitReply))), Some (Hold x.holder))
 
 -- what comes after each event of a freeze, in its own phases
 abbrev pub freeze_after : Freeze → FreezeStep → ℕ → HookAnswer → Next Freeze × Option Action
 freeze_after x Locks found hook = (freeze_locked x Locks found LoadsStage, None)
 freeze_after x LoadsStage found hook = (
-  if found == 0 then Go (at_freeze x LoadsSuperblock) else Go (at_freeze x (Releases (Err Busy))),
+  if found == 0 then Go (at_freeze x LoadsSuperblock) else
+      if found == 4 then Go (at_freeze x LoadsHolders) else
+      Go (at_freeze x (Releases (Err Busy))),
   None,
 )
+freeze_after x LoadsHolders found hook = (Go (at_freeze x (found_holders x (holders_in found))), None)
+freeze_after x (Holds beside) found hook = held_now x
 freeze_after x LoadsSuperblock found hook = (
   if found == 0 then Go (at_freeze x SetsWrite) else Go (at_freeze x CompletesReadOnly),
   None,
 )
-freeze_after x CompletesReadOnly found hook = stage_stored x 4 (Releases (Ok UnitReply))
+freeze_after x CompletesReadOnly found hook = stage_stored x 4 (Holds nobody)
 freeze_after x SetsWrite found hook = stage_stored x 1 Unlocks
 freeze_after x Unlocks found hook = (Go (at_freeze x (freeze_closes x 1)), None)
 freeze_after x (Closes d) found hook =

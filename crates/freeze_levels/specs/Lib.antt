@@ -1,3 +1,4 @@
+pub mod Holders
 pub mod Levels
 pub mod Freezes
 pub mod Thaws

@@ -10,6 +10,8 @@ ghost use Rattle.freeze_levels.specs.Freezes.{
   freeze_locked,
   freeze_closes,
   freeze_synced,
+  found_holders,
+  held_now,
   freeze_completed,
   stage_stored,
   level_closed,
@@ -19,9 +21,10 @@ ghost use Rattle.freeze_levels.specs.Freezes.{
   after_reopening,
 };
 
+use crate::holders::{pack, unpack};
 use crate::hooks::HookKind;
 use crate::levels::{closing, reopening};
-use access_model::{Action, GateError, Next, Reply};
+use access_model::{Action, GateError, Holder, Holders, Next, Reply};
 use cpu_words::{Touch, WordName};
 use gated_tree::ClearMarks;
 use percpu_rwsem::{DownWrite, UpWrite};
@@ -31,8 +34,12 @@ use percpu_rwsem::{DownWrite, UpWrite};
 pub enum FreezeStep {
     /// Takes `umount` where it is free.
     Locks,
-    /// Loads the stage, for SB_UNFROZEN.
+    /// Loads the stage, for SB_UNFROZEN, or for SB_FREEZE_COMPLETE.
     LoadsStage,
+    /// Loads who holds a freeze: all is frozen already.
+    LoadsHolders,
+    /// Stores its holder beside these.
+    Holds(Holders),
     /// Loads the superblock's flag.
     LoadsSuperblock,
     /// Stores SB_FREEZE_COMPLETE at once: the superblock is read-only.
@@ -59,13 +66,14 @@ pub enum FreezeStep {
     Releases(Result<Reply, GateError>),
 }
 
-/// A freeze of the superblock under way, by a task, among so many tasks, processors and nodes.
+/// A freeze of the superblock under way, for a holder, by a task, among so many tasks, processors and nodes.
 #[derive(Clone, Copy, PartialEq, Eq, Debug)]
 pub struct Freeze {
     pub task: u8,
     pub tasks: u8,
     pub processors: u8,
     pub nodes: u8,
+    pub holder: Holder,
     pub step: FreezeStep,
 }
 
@@ -93,6 +101,11 @@ impl Freeze {
                 (WordName::Umount, Touch::Cas { expect: 0, put })
             }
             FreezeStep::LoadsStage => (WordName::Stage, Touch::Load),
+            FreezeStep::LoadsHolders => (WordName::Holders, Touch::Load),
+            FreezeStep::Holds(beside) => {
+                let word = pack(beside.with(self.holder));
+                (WordName::Holders, Touch::Store(word))
+            }
             FreezeStep::LoadsSuperblock => (WordName::SbFlags, Touch::Load),
             FreezeStep::CompletesReadOnly => (WordName::Stage, Touch::Store(4)),
             FreezeStep::SetsWrite => (WordName::Stage, Touch::Store(1)),
@@ -187,12 +200,31 @@ impl Freeze {
         }
     }
 
+    /// What comes after a look at who holds a freeze: where its holder does, another one is refused.
+    fn found_holders(self, held: Holders) -> FreezeStep
+        ensures { result ≡ found_holders self held }
+    {
+        if held.has(self.holder) {
+            FreezeStep::Releases(Err(GateError::Busy))
+        } else {
+            FreezeStep::Holds(held)
+        }
+    }
+
+    /// What comes after the store of its holder.
+    fn held_now(self) -> (Next<Freeze>, Option<Action>)
+        ensures { result ≡ held_now self }
+    {
+        let done = FreezeStep::Releases(Ok(Reply::Unit));
+        (Next::Go(self.at(done)), Some(Action::Hold(self.holder)))
+    }
+
     /// What comes after the store that `freeze_fs` decides.
     fn completed(self, hook: Result<(), u16>) -> (Next<Freeze>, Option<Action>)
         ensures { result ≡ freeze_completed self hook }
     {
         match hook {
-            Ok(()) => self.stored(4, FreezeStep::Releases(Ok(Reply::Unit))),
+            Ok(()) => self.stored(4, FreezeStep::Holds(Holders::none())),
             Err(code) => self.stored(0, failing(3, code)),
         }
     }
@@ -202,7 +234,6 @@ impl Freeze {
     pub fn after(self, found: u64, hook: Result<(), u16>) -> (Next<Freeze>, Option<Action>)
         ensures { result ≡ freeze_after self self.step found hook }
     {
-        let done = FreezeStep::Releases(Ok(Reply::Unit));
         let busy = FreezeStep::Releases(Err(GateError::Busy));
         let step = match self.step {
             FreezeStep::Locks => return (self.locked(found, FreezeStep::LoadsStage), None),
@@ -210,11 +241,17 @@ impl Freeze {
                 return (self.locked(found, FreezeStep::SetsPageFault), None);
             }
             FreezeStep::LoadsStage if found == 0 => FreezeStep::LoadsSuperblock,
+            FreezeStep::LoadsStage if found == 4 => FreezeStep::LoadsHolders,
             FreezeStep::LoadsStage => busy,
+            FreezeStep::LoadsHolders => self.found_holders(unpack(found)),
+            FreezeStep::Holds(_) => return self.held_now(),
             FreezeStep::LoadsSuperblock if found == 0 => FreezeStep::SetsWrite,
             FreezeStep::LoadsSuperblock => FreezeStep::CompletesReadOnly,
             FreezeStep::Unlocks => self.closes(1),
-            FreezeStep::CompletesReadOnly => return self.stored(4, done),
+            FreezeStep::CompletesReadOnly => return self.stored(
+                4,
+                FreezeStep::Holds(Holders::none()),
+            ),
             FreezeStep::SetsWrite => return self.stored(1, FreezeStep::Unlocks),
             FreezeStep::SetsPageFault => return self.stored(2, self.closes(2)),
             FreezeStep::SetsFs => return self.synced(hook),

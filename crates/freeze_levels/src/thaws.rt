@@ -8,12 +8,15 @@ ghost use Rattle.freeze_levels.specs.Thaws.{
   at_thaw,
   thaw_opens,
   thawed,
+  thaw_finds,
+  thaw_leaves,
   after_opening,
 };
 
+use crate::holders::{pack, unpack};
 use crate::hooks::HookKind;
 use crate::levels::reopening;
-use access_model::{Action, GateError, Next, Reply};
+use access_model::{Action, GateError, Holder, Holders, Next, Reply};
 use cpu_words::{Touch, WordName};
 use percpu_rwsem::UpWrite;
 
@@ -24,11 +27,19 @@ pub enum ThawStep {
     Locks,
     /// Loads the stage, for SB_FREEZE_COMPLETE.
     LoadsStage,
+    /// Loads who holds a freeze.
+    LoadsHolders,
+    /// Stores these without its holder: others hold a freeze.
+    Leaves(Holders),
     /// Loads the superblock's flag.
     LoadsSuperblock,
+    /// Stores that nobody holds a freeze: the superblock is read-only.
+    LeavesReadOnly,
     /// Stores SB_UNFROZEN: the superblock is read-only, so its freeze closed no level.
     UnfreezesReadOnly,
-    /// Stores SB_UNFROZEN, or gives `umount` back, as the file system answers `unfreeze_fs`.
+    /// Stores that nobody holds a freeze, or gives `umount` back, as the file system answers `unfreeze_fs`.
+    LeavesLast,
+    /// Stores SB_UNFROZEN.
     SetsUnfrozen,
     /// Reopens a level (`sb_freeze_unlock`).
     Reopens(UpWrite),
@@ -36,10 +47,11 @@ pub enum ThawStep {
     Releases(Result<Reply, GateError>),
 }
 
-/// A thaw of the superblock under way, by a task, which need not be the one that froze it.
+/// A thaw of the superblock under way, for a holder, by a task, which need not be the one that froze it.
 #[derive(Clone, Copy, PartialEq, Eq, Debug)]
 pub struct Thaw {
     pub task: u8,
+    pub holder: Holder,
     pub step: ThawStep,
 }
 
@@ -49,7 +61,7 @@ impl Thaw {
         ensures { result ≡ thaw_hook self.step }
     {
         match self.step {
-            ThawStep::SetsUnfrozen => Some(HookKind::UnfreezeFs),
+            ThawStep::LeavesLast => Some(HookKind::UnfreezeFs),
             _ => None,
         }
     }
@@ -66,12 +78,20 @@ impl Thaw {
                 (WordName::Umount, Touch::Cas { expect: 0, put })
             }
             ThawStep::LoadsStage => (WordName::Stage, Touch::Load),
+            ThawStep::LoadsHolders => (WordName::Holders, Touch::Load),
+            ThawStep::Leaves(held) => {
+                let word = pack(held.without(self.holder));
+                (WordName::Holders, Touch::Store(word))
+            }
             ThawStep::LoadsSuperblock => (WordName::SbFlags, Touch::Load),
-            ThawStep::UnfreezesReadOnly => (WordName::Stage, Touch::Store(0)),
-            ThawStep::SetsUnfrozen => match hook {
-                Ok(()) => (WordName::Stage, Touch::Store(0)),
+            ThawStep::LeavesReadOnly => (WordName::Holders, Touch::Store(0)),
+            ThawStep::LeavesLast => match hook {
+                Ok(()) => (WordName::Holders, Touch::Store(0)),
                 Err(_) => (WordName::Umount, Touch::Store(0)),
             },
+            ThawStep::UnfreezesReadOnly | ThawStep::SetsUnfrozen => {
+                (WordName::Stage, Touch::Store(0))
+            }
             ThawStep::Reopens(write) => write.next(),
             ThawStep::Releases(_) => (WordName::Umount, Touch::Store(0)),
         }
@@ -84,12 +104,32 @@ impl Thaw {
         Thaw { step, ..self }
     }
 
+    /// What comes after a look at who holds a freeze: it is refused where its holder holds none, and thaws only where no other does.
+    fn finds(self, held: Holders) -> ThawStep
+        ensures { result ≡ thaw_finds self held }
+    {
+        if !held.has(self.holder) {
+            ThawStep::Releases(Err(GateError::Invalid))
+        } else if held.without(self.holder).is_none() {
+            ThawStep::LoadsSuperblock
+        } else {
+            ThawStep::Leaves(held)
+        }
+    }
+
+    /// What comes after a store without its holder: this step.
+    fn leaves(self, step: ThawStep) -> (Next<Thaw>, Option<Action>)
+        ensures { result ≡ thaw_leaves self step }
+    {
+        (Next::Go(self.at(step)), Some(Action::Leave(self.holder)))
+    }
+
     /// What comes after the store that `unfreeze_fs` decides.
     fn thawed(self, hook: Result<(), u16>) -> (Next<Thaw>, Option<Action>)
         ensures { result ≡ thawed self hook }
     {
         match hook {
-            Ok(()) => (Next::Go(self.at(opening(3))), Some(Action::Stage(0))),
+            Ok(()) => self.leaves(ThawStep::SetsUnfrozen),
             Err(code) => (Next::Done(Err(GateError::Hook(code))), None),
         }
     }
@@ -114,14 +154,20 @@ impl Thaw {
         let step = match self.step {
             ThawStep::Locks if found == 0 => ThawStep::LoadsStage,
             ThawStep::Locks => return (Next::Wait(self), None),
-            ThawStep::LoadsStage if found == 4 => ThawStep::LoadsSuperblock,
+            ThawStep::LoadsStage if found == 4 => ThawStep::LoadsHolders,
             ThawStep::LoadsStage => ThawStep::Releases(Err(GateError::Invalid)),
-            ThawStep::LoadsSuperblock if found == 0 => ThawStep::SetsUnfrozen,
-            ThawStep::LoadsSuperblock => ThawStep::UnfreezesReadOnly,
+            ThawStep::LoadsHolders => self.finds(unpack(found)),
+            ThawStep::Leaves(_) => return self.leaves(done),
+            ThawStep::LoadsSuperblock if found == 0 => ThawStep::LeavesLast,
+            ThawStep::LoadsSuperblock => ThawStep::LeavesReadOnly,
+            ThawStep::LeavesReadOnly => return self.leaves(ThawStep::UnfreezesReadOnly),
+            ThawStep::LeavesLast => return self.thawed(hook),
             ThawStep::UnfreezesReadOnly => {
                 return (Next::Go(self.at(done)), Some(Action::Stage(0)));
             }
-            ThawStep::SetsUnfrozen => return self.thawed(hook),
+            ThawStep::SetsUnfrozen => {
+                return (Next::Go(self.at(opening(3))), Some(Action::Stage(0)));
+            }
             ThawStep::Reopens(write) => {
                 let (next, action) = write.after(found);
                 return (self.after_opening(write.level, next), action);

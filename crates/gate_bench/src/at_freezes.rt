@@ -3,6 +3,7 @@
 ghost use Rattle.std.specs.Prelude.{◌≡◌};
 ghost use Rattle.vfs_gates.specs.TaskStates.{IsFrom};
 
+use access_model::Holder;
 use anyhow::{Result, bail};
 use gate_world::Config;
 use std::alloc::Global;
@@ -24,7 +25,9 @@ fn freeze_and_thaw<R: Wait>(task: &mut Task, rt: &R, gates: &Gates, callbacks: C
     requires { IsFrom task.old gates.now }
     ensures { IsFrom task.new gates.now }
 {
-    if task.freeze(rt, gates, &mut ()).is_err() || task.thaw(rt, gates, &mut ()).is_err() {
+    if task.freeze(rt, gates, Holder::User, &mut ()).is_err()
+        || task.thaw(rt, gates, Holder::User, &mut ()).is_err()
+    {
         return false;
     }
     match callbacks {

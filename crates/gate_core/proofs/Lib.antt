@@ -6,6 +6,7 @@ pub mod Schedule
 pub mod Lists
 pub mod Snapshots
 pub mod Rests
+pub mod Between
 pub mod Whole
 pub mod Runs
 pub mod LevelRuns

@@ -11,10 +11,14 @@ use Rattle.mount_laws.proofs.Bits.{hold_unset}
 use Rattle.gate_world.specs.declared.config.Config.{Config}
 use Rattle.gate_world.specs.Worlds.{World}
 use Rattle.gate_world.specs.Rules.{owns, remounts, role_of, IsGood, Owner, AtMount, SyncHoldsIn, SyncAt, Sections}
-use Rattle.gate_world.specs.Headline.{IsAtRest, IsUntaken}
+use Rattle.gate_world.specs.Headline.{IsAtRest, IsUntaken, HeldWhereFrozen}
 use Rattle.gate_world.specs.Shown.{stage_roles}
 use Rattle.gate_world.specs.Stages.{stage_role_of}
-use Rattle.gate_world.specs.Rules.{Stages}
+use Rattle.gate_world.specs.Holders.{holder_role_of}
+use Rattle.gate_world.specs.Rules.{Stages, Holding}
+use Rattle.holder_laws.specs.Roles.{between}
+use Rattle.holder_laws.proofs.HolderLaws.{held_exactly}
+use Rattle.gate_frames.proofs.Holders.{holders_at}
 use Rattle.stage_laws.specs.Roles.{freezes, under_way}
 use Rattle.stage_laws.proofs.Facts.{way_is, other_zero}
 use Rattle.stage_laws.proofs.Whole.{freeze_is_under_way}
@@ -72,6 +76,12 @@ module _ (c : Config) (w : World) (good : IsGood c w) (idle : (t : ℕ) → t < 
         | inr z ↦ inr (omega (arith, z.1, none, way, (good Stages).freezing, (good Stages).stages))
       ]
 
+  -- nobody is between two stores, of the stage and of the holders
+  held : HeldWhereFrozen w
+  held =
+      let exactly = held_exactly c.tasks (holders_at w) (good Holding) in
+      (λ some. (exactly.0 some).0, λ four. exactly.1 four (λ t lt. ap (λ p. between (holder_role_of p)) (idle t lt)))
+
   -- so nothing is left
   pub at_rest : IsAtRest c w
   at_rest = record {
@@ -82,6 +92,7 @@ module _ (c : Config) (w : World) (good : IsGood c w) (idle : (t : ℕ) → t < 
     levels_open = no_closed;
     callbacks_free = no_callback;
     stage_settled = settled;
+    holders_settled = held;
     tree_sound = idle_sound c w good idle;
   }
 

@@ -1,11 +1,12 @@
 -- Worked schedules, by computing, on two processors and one mount.
 use Rattle.std.proofs.Common.{◌≡◌, ℕ, true, List, [], ◌∷◌, ◌++◌, refl, false}
 use Rattle.std.specs.Prelude.{Ok, Err, replicate}
-use Rattle.access_model.specs.declared.actions.Action.TheVariants.{Grant, Return, MountRo, Stage, Pass, Reopen}
+use Rattle.access_model.specs.declared.actions.Action.TheVariants.{Hold, Leave, Grant, Return, MountRo, Stage, Pass, Reopen}
 use Rattle.access_model.specs.declared.actions.Gate.TheVariants.{Mount, Level}
 use Rattle.access_model.specs.declared.replies.Reply.TheVariants.{Ran}
 use Rattle.access_model.specs.declared.errors.GateError.TheVariants.{Again, Busy, ReadOnly, Invalid, Hook}
 use Rattle.gate_world.specs.declared.config.Config.{Config}
+use Rattle.access_model.specs.declared.actions.Holder.TheVariants.{Kernel, User}
 use Rattle.gate_world.specs.declared.operations.Op.TheVariants.{Want, DropMount, ChangeMount, Start, WantWrite, DropWrite, Callback, Freeze, Thaw}
 use Rattle.gate_world.specs.Worlds.{Entry, Begins, Steps, run, history, opening}
 use Rattle.gate_core.specs.declared.steps.Progress.TheVariants.{Done, Idle}
@@ -109,13 +110,13 @@ calls = Begins 2 (Callback 3) ∷ []
 calls_none : (step_answer small (run small opening calls) 2 (Ok tt)).progress ≡ Done (Ok (Ran false))
 calls_none = refl
 
--- a freeze: five events under the lock, ten at each level, two and two between them, and two at the end
+-- a freeze: five events under the lock, ten at each level, two and two between them, and three at the end
 abbrev freezes : List Entry
-freezes = Begins 0 Freeze ∷ steps 41 0
+freezes = Begins 0 (Freeze User) ∷ steps 42 0
 
 -- it closes the levels one after the other
 freezes_history : history small opening [] freezes ≡
-    (0, Stage 4) ∷ ((0, Pass 3) ∷ ((0, Stage 3) ∷ ((0, Pass 2) ∷ ((0, Stage 2) ∷ ((0, Pass 1) ∷ ((0, Stage 1) ∷ []))))))
+    (0, Hold User) ∷ ((0, Stage 4) ∷ ((0, Pass 3) ∷ ((0, Stage 3) ∷ ((0, Pass 2) ∷ ((0, Stage 2) ∷ ((0, Pass 1) ∷ ((0, Stage 1) ∷ [])))))))
 freezes_history = refl
 
 -- which are closed at its end, with one writer in each that is past its grace period
@@ -126,7 +127,7 @@ freezes_passed : (run small opening freezes).words.sync 3 ≡ 258
 freezes_passed = refl
 
 -- a second freeze is busy
-freezes_twice : (step_answer small (run small opening (freezes ++ (Begins 1 Freeze ∷ steps 2 1))) 1 (Ok tt)).progress ≡ Done (Err Busy)
+freezes_twice : (step_answer small (run small opening (freezes ++ (Begins 1 (Freeze User) ∷ steps 3 1))) 1 (Ok tt)).progress ≡ Done (Err Busy)
 freezes_twice = refl
 
 -- and a start that doesn't wait is refused, by the last of its six events
@@ -135,29 +136,74 @@ freezes_out = refl
 
 -- another task's thaw opens them again, the highest first
 abbrev thaws : List Entry
-thaws = freezes ++ (Begins 1 Thaw ∷ steps 14 1)
+thaws = freezes ++ (Begins 1 (Thaw User) ∷ steps 16 1)
 
 thaws_history : history small opening [] thaws ≡
-    (1, Reopen 1) ∷ ((1, Reopen 2) ∷ ((1, Reopen 3) ∷ ((1, Stage 0) ∷ history small opening [] freezes)))
+    (1, Reopen 1) ∷ ((1, Reopen 2) ∷ ((1, Reopen 3) ∷ ((1, Stage 0) ∷ ((1, Leave User) ∷ history small opening [] freezes))))
 thaws_history = refl
 
 -- each with a callback queued
 thaws_queued : (run small opening thaws).words.sync 1 ≡ 3
 thaws_queued = refl
 
+-- the kernel freezes, and user space joins it, by five events: the lock, two loads, the store and the release
+abbrev kernel_freezes : List Entry
+kernel_freezes = Begins 0 (Freeze Kernel) ∷ steps 42 0
+
+abbrev joins : List Entry
+joins = kernel_freezes ++ (Begins 1 (Freeze User) ∷ steps 5 1)
+
+joins_history : history small opening [] joins ≡ (1, Hold User) ∷ history small opening [] kernel_freezes
+joins_history = refl
+
+-- both hold a freeze then
+joins_both : (run small opening joins).words.holders ≡ 3
+joins_both = refl
+
+-- and a second one for one of them is busy
+joins_twice : (step_answer small (run small opening (joins ++ (Begins 1 (Freeze User) ∷ steps 3 1))) 1 (Ok tt)).progress ≡ Done (Err Busy)
+joins_twice = refl
+
+-- the kernel's is given back, and all stays frozen
+abbrev leaves : List Entry
+leaves = joins ++ (Begins 0 (Thaw Kernel) ∷ steps 5 0)
+
+leaves_history : history small opening [] leaves ≡ (0, Leave Kernel) ∷ history small opening [] joins
+leaves_history = refl
+
+leaves_one : (run small opening leaves).words.holders ≡ 2
+leaves_one = refl
+
+leaves_frozen : (run small opening leaves).words.stage ≡ 4
+leaves_frozen = refl
+
+-- it can't be given back twice
+leaves_twice : (step_answer small (run small opening (leaves ++ (Begins 0 (Thaw Kernel) ∷ steps 3 0))) 0 (Ok tt)).progress ≡ Done (Err Invalid)
+leaves_twice = refl
+
+-- a third task gives user space's back: nobody holds one then, and all is thawed
+abbrev leaves_all : List Entry
+leaves_all = leaves ++ (Begins 2 (Thaw User) ∷ steps 16 2)
+
+leaves_nobody : (run small opening leaves_all).words.holders ≡ 0
+leaves_nobody = refl
+
+leaves_queued : (run small opening leaves_all).words.sync 3 ≡ 3
+leaves_queued = refl
+
 -- a thaw of what isn't frozen is invalid
-thaws_nothing : (step_answer small (run small opening (Begins 1 Thaw ∷ steps 2 1)) 1 (Ok tt)).progress ≡ Done (Err Invalid)
+thaws_nothing : (step_answer small (run small opening (Begins 1 (Thaw User) ∷ steps 2 1)) 1 (Ok tt)).progress ≡ Done (Err Invalid)
 thaws_nothing = refl
 
 -- a freeze whose file system can't be synced opens the two levels that it had closed
 abbrev fails : List Entry
-fails = Begins 0 Freeze ∷ steps 28 0 ++ (Steps 0 (Err 5) ∷ steps 7 0)
+fails = Begins 0 (Freeze User) ∷ steps 28 0 ++ (Steps 0 (Err 5) ∷ steps 7 0)
 
 fails_history : history small opening [] fails ≡
     (0, Reopen 1) ∷ ((0, Reopen 2) ∷ ((0, Stage 0) ∷ ((0, Pass 2) ∷ ((0, Stage 2) ∷ ((0, Pass 1) ∷ ((0, Stage 1) ∷ []))))))
 fails_history = refl
 
 -- and was refused with the file system's code
-fails_ends : (step_answer small (run small opening (Begins 0 Freeze ∷ steps 28 0 ++ (Steps 0 (Err 5) ∷ steps 6 0))) 0 (Ok tt)).progress ≡
+fails_ends : (step_answer small (run small opening (Begins 0 (Freeze User) ∷ steps 28 0 ++ (Steps 0 (Err 5) ∷ steps 6 0))) 0 (Ok tt)).progress ≡
     Done (Err (Hook 5))
 fails_ends = refl

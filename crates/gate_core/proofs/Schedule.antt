@@ -1,4 +1,8 @@
 -- Every schedule keeps the rule, and its actions are one run of the access model.
+use Rattle.holder_laws.specs.Roles.{Apart}
+use Rattle.holder_laws.proofs.HolderLaws.{opens as holders_open}
+use Rattle.gate_world.specs.Holders.{holder_role_of}
+use Rattle.gate_world.specs.declared.operations.Op.TheVariants.{Want, DropMount, ChangeMount, RemountSb, Start, End, WantWrite, DropWrite, Callback, Freeze, Thaw, Create, Remove, Grow, MoveTo, Fault, Flush, Snapshot}
 use Rattle.gate_world.specs.Owners.{KnowsWords}
 use Rattle.std.proofs.Common.{◌≡◌, ℕ, ◌*◌, ◌%◌, ◌<◌, ◌≤◌, Bool, true, false, refl, sym, ap, ◌∙◌, subst, inl, inr, arith, true≢false}
 use Rattle.std.specs.Prelude.{nat_lt, ◌&&◌, is_some, Option, Some, None, List, [], ◌∷◌}
@@ -28,7 +32,7 @@ use Rattle.gate_world.specs.Worlds.{World, Entry, Begins, Steps, after_begin, be
 use Rattle.gate_world.specs.Shown.{shown}
 use Rattle.gate_counts.specs.Gates.{below, counted as counted_of}
 use Rattle.gate_counts.specs.Levels.{level_as_gate, processor_of as level_processor}
-use Rattle.gate_world.specs.Rules.{role_of, at_mount, MountHoldsIn, LevelHoldsIn, IsSteady, ViewFits, Part, Owner, Stages, Fitting, AtMount, Holds, IsGood, Moves, owns, Known, Tree, AtLevel, SyncAt, Sections}
+use Rattle.gate_world.specs.Rules.{role_of, at_mount, MountHoldsIn, LevelHoldsIn, IsSteady, ViewFits, Part, Owner, Stages, Holding, Fitting, AtMount, Holds, IsGood, Moves, owns, Known, Tree, AtLevel, SyncAt, Sections}
 use Rattle.gate_world.specs.Headline.{SumsHold, IdleSumsHold}
 use Rattle.gate_core.proofs.Layers.{phase_keeps, op_keeps}
 use Rattle.gate_core.proofs.Beginnings.{MayBegin, may_begin, first_fits}
@@ -54,6 +58,27 @@ idle_is (Some phase) h = absurd (true≢false h)
 abbrev pub MayBeginAt : Config → View → Op → Type 0
 MayBeginAt c v op = MayBegin c (is_some v.phase) (held_at v) (holds_level v) op
 
+-- no operation begins with the holders
+pub begins_apart : (c : Config) (t : ℕ) (op : Op) → holder_role_of (Some (first_phase c t op)) ≡ Apart
+begins_apart c t (Want m p wait) = refl
+begins_apart c t (DropMount m p) = refl
+begins_apart c t (ChangeMount m read_only wait) = refl
+begins_apart c t (RemountSb read_only) = refl
+begins_apart c t (Start i p wait) = refl
+begins_apart c t (End i p) = refl
+begins_apart c t (WantWrite m p) = refl
+begins_apart c t (DropWrite m p) = refl
+begins_apart c t (Callback i) = refl
+begins_apart c t (Freeze holder) = refl
+begins_apart c t (Thaw holder) = refl
+begins_apart c t (Create d kind) = refl
+begins_apart c t (Remove file) = refl
+begins_apart c t (Grow file blocks) = refl
+begins_apart c t (MoveTo file d) = refl
+begins_apart c t (Fault file) = refl
+begins_apart c t (Flush file) = refl
+begins_apart c t (Snapshot wait) = refl
+
 module _ (c : Config) (lim : IsWithin c) (w : World) (good : IsGood c w) (t : ℕ) (lt : t < c.tasks) where
   pub step_keeps : (hook : HookAnswer) (p : Option Phase) → (w.views t).phase ≡ p →
       IsGood c (step_of w t hook p) × Moves c (shown c w) t (phase_action w hook p) (shown c (step_of w t hook p))
@@ -73,6 +98,9 @@ module _ (c : Config) (lim : IsWithin c) (w : World) (good : IsGood c w) (t : �
   begun_good op h Stages =
       left_alone c w t lt Stages w.words (begun_view (w.views t) op (first_phase c t op)) (refl, refl, refl, refl)
       ((op_keeps c op).aside t ∙ sym (ap stage_role_of (idle_is (w.views t).phase h.idle))) (good Stages)
+  begun_good op h Holding =
+      left_alone c w t lt Holding w.words (begun_view (w.views t) op (first_phase c t op)) (refl, refl)
+      (begins_apart c t op ∙ sym (ap holder_role_of (idle_is (w.views t).phase h.idle))) (good Holding)
   begun_good op h Tree =
       left_alone c w t lt Tree w.words (begun_view (w.views t) op (first_phase c t op)) (refl, refl, refl, refl)
       ((op_keeps c op).off_tree t [] ∙ sym (ap (tree_role_of (w.views t).trace) (idle_is (w.views t).phase h.idle))) (good Tree)
@@ -98,7 +126,7 @@ module _ (c : Config) (lim : IsWithin c) (w : World) (good : IsGood c w) (t : �
   pub begun_keeps : (op : Op) → MayBeginAt c (w.views t) op → IsGood c (after_begin c w t op) × (shown c (after_begin c w t op) ≡ shown c w)
   begun_keeps op h = (
     begun_good op h,
-    shown_still c w t lt w.words (begun_view (w.views t) op (first_phase c t op)) refl refl refl refl refl refl
+    shown_still c w t lt w.words (begun_view (w.views t) op (first_phase c t op)) refl refl refl refl refl refl refl
         (steady (idle_is (w.views t).phase h.idle) ((op_keeps c op).steady t)).closing_same refl refl,
   )
 
@@ -158,6 +186,7 @@ module _ (c : Config) (lim : IsWithin c) where
     remounting = sym (zeros c.tasks);
   }
   opening_good Stages = (stages_open c.tasks c.nodes).stages
+  opening_good Holding = holders_open c.tasks
   opening_good Tree = opening_holds (tree_bounds c) (tree_within c lim)
   opening_good Known = λ t lt o. absurd (omega (arith, o))
   opening_good Fitting = λ t lt. tt

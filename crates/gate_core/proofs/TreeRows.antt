@@ -1,11 +1,12 @@
 -- Worked schedules of calls at the tree, by computing, on two processors and one mount.
 use Rattle.std.proofs.Common.{◌≡◌, ◌+◌, ◌*◌, true, List, [], ◌∷◌, ◌++◌, refl}
 use Rattle.std.specs.Prelude.{Ok, Err, Some}
-use Rattle.access_model.specs.declared.actions.Action.TheVariants.{Grant, Return, Stage, Pass, Create as CreateAction, Grow as GrowAction, Clean}
+use Rattle.access_model.specs.declared.actions.Action.TheVariants.{Hold, Grant, Return, Stage, Pass, Create as CreateAction, Grow as GrowAction, Clean}
 use Rattle.access_model.specs.declared.actions.Gate.TheVariants.{Mount, Level}
 use Rattle.access_model.specs.declared.actions.Kind.TheVariants.{File}
 use Rattle.access_model.specs.declared.replies.Reply.TheVariants.{Node as NodeReply, Tree as TreeReply}
 use Rattle.access_model.specs.declared.errors.GateError.TheVariants.{NoSpace, NotDir, Invalid}
+use Rattle.access_model.specs.declared.actions.Holder.TheVariants.{User}
 use Rattle.gate_world.specs.declared.operations.Op.TheVariants.{WantWrite, DropWrite, Freeze, Create, Grow, Snapshot}
 use Rattle.gate_world.specs.Worlds.{Entry, Begins, run, history, opening}
 use Rattle.gate_core.specs.declared.steps.Progress.TheVariants.{Done}
@@ -66,11 +67,11 @@ grows_out = refl
 
 -- a freeze once the writer has left: it cleans the file on its way
 abbrev freezes : List Entry
-freezes = grows ++ (Begins 0 (DropWrite 0 0) ∷ steps 2 0) ++ (Begins 1 Freeze ∷ steps 42 1)
+freezes = grows ++ (Begins 0 (DropWrite 0 0) ∷ steps 2 0) ++ (Begins 1 (Freeze User) ∷ steps 43 1)
 
 freezes_history : history small opening [] freezes ≡
-    (1, Stage 4) ∷ ((1, Pass 3) ∷ ((1, Stage 3) ∷ ((1, Clean 1) ∷ ((1, Pass 2) ∷ ((1, Stage 2) ∷ ((1, Pass 1) ∷ ((1, Stage 1) ∷
-    ((0, Return (Level 1)) ∷ ((0, Return (Mount 0)) ∷ history small opening [] grows)))))))))
+    (1, Hold User) ∷ ((1, Stage 4) ∷ ((1, Pass 3) ∷ ((1, Stage 3) ∷ ((1, Clean 1) ∷ ((1, Pass 2) ∷ ((1, Stage 2) ∷ ((1, Pass 1) ∷ ((1, Stage 1) ∷
+    ((0, Return (Level 1)) ∷ ((0, Return (Mount 0)) ∷ history small opening [] grows))))))))))
 freezes_history = refl
 
 -- a snapshot then, up to the load of the last word

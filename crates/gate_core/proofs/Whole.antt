@@ -12,7 +12,7 @@ use Rattle.gate_world.specs.declared.config.Config.{Config}
 use Rattle.gate_world.specs.Configs.{IsWithin, model_limits}
 use Rattle.gate_world.specs.Worlds.{World, Entry, opening, happens, run}
 use Rattle.gate_world.specs.Rules.{IsGood, Fitting}
-use Rattle.gate_world.specs.Headline.{world_after, actions_so_far, MovesTheModel, IsOneRun, NobodyIsInside, SumsHold, IdleSumsHold, NothingIsLeft, FreezeIsUnderWay, FrozenTreeIsWhole, ViewTells, OperationsAreKept}
+use Rattle.gate_world.specs.Headline.{world_after, actions_so_far, MovesTheModel, IsOneRun, NobodyIsInside, SumsHold, IdleSumsHold, NothingIsLeft, FreezeIsUnderWay, HoldersAreTold, FrozenTreeIsWhole, ViewTells, OperationsAreKept}
 use Rattle.gate_world.specs.Courses.{course_of, IsTraced, FollowsOrder, AllTraced}
 use Rattle.gate_world.specs.Traces.{Tells, actions_of}
 use Rattle.gate_world.specs.declared.operations.Op.{Op}
@@ -34,6 +34,7 @@ use Rattle.gate_core.proofs.Schedule.{opening_good, opening_shown, happens_keeps
 use Rattle.gate_core.proofs.Lists.{run_lists}
 use Rattle.gate_core.proofs.Snapshots.{run_moments}
 use Rattle.gate_core.proofs.Rests.{at_rest, a_freeze_is_under_way}
+use Rattle.gate_core.proofs.Between.{AllTold, entry_told, opening_told, holders_told}
 
 module _ (c : Config) (lim : IsWithin c) where
   pub whole_rule : (es : List Entry) → IsGood c (world_after c es)
@@ -75,6 +76,16 @@ module _ (c : Config) (lim : IsWithin c) where
 
   pub whole_freezes : (es : List Entry) → FreezeIsUnderWay c (world_after c es)
   whole_freezes es = a_freeze_is_under_way c (world_after c es) (whole_rule es)
+
+  -- each task's role says of its two stores what its trace says
+  run_told : (es : List Entry) (w : World) → IsGood c w → AllTold w → AllTold (run c w es)
+  run_told [] w good told = told
+  run_told (e ∷ es) w good told =
+      let after : IsGood c (happens c w e) = (happens_keeps c lim w good e).0 in
+      run_told es (happens c w e) after (entry_told c w e good after told)
+
+  pub whole_holders : (es : List Entry) → HoldersAreTold c (world_after c es)
+  whole_holders es = holders_told c (world_after c es) (whole_rule es) (run_told es opening (opening_good c lim) opening_told)
 
   pub whole_trees : (es : List Entry) → FrozenTreeIsWhole c (world_after c es)
   whole_trees es = frozen_whole c lim (world_after c es) (whole_rule es)

@@ -5,7 +5,7 @@ ghost use Rattle.gate_world.specs.declared.config.Config.{Config};
 ghost use Rattle.gate_world.specs.Configs.{IsWithin};
 ghost use Rattle.gate_world.specs.Worlds.{Entry};
 ghost use Rattle.gate_world.specs.Rules.{IsGood};
-ghost use Rattle.gate_world.specs.Headline.{world_after, MovesTheModel, IsOneRun, NobodyIsInside, SumsHold, IdleSumsHold, NothingIsLeft, FreezeIsUnderWay, FrozenTreeIsWhole, OperationsAreKept};
+ghost use Rattle.gate_world.specs.Headline.{world_after, MovesTheModel, IsOneRun, NobodyIsInside, SumsHold, IdleSumsHold, NothingIsLeft, FreezeIsUnderWay, HoldersAreTold, FrozenTreeIsWhole, OperationsAreKept};
 ghost use Rattle.gate_world.specs.Causes.{RefusalsHaveCauses};
 ghost use Rattle.gate_world.specs.LevelRuns.{LevelsAreRuns};
 ghost use Rattle.gate_world.specs.Waits.{EachWaitHasCulprit};
@@ -23,8 +23,12 @@ ghost use Rattle.gate_world.specs.Waits.{EachWaitHasCulprit};
 ///   accesses held.
 /// - `rests`: nothing is left behind: with no operation under way, `umount` is free, no remount is under way, no mount has HOLD set, no
 ///   read-side section is under way, a level is closed only where the file system is frozen as a whole, no callback is taken, no
-///   freeze is half done: the stage is SB_UNFROZEN or SB_FREEZE_COMPLETE; and the tree is sound, as below.
+///   freeze is half done: the stage is SB_UNFROZEN or SB_FREEZE_COMPLETE, and the kernel or user space holds a freeze exactly at the latter; and
+///   the tree is sound, as below.
 /// - `freezes`: at the stages in between, one freeze is under way, and the stage is the one that it stored last.
+/// - `holders`: the kernel or user space holds a freeze exactly at SB_FREEZE_COMPLETE, but between a freeze's store of that stage and its store
+///   of its holder, and between a thaw's store that nobody holds one and its store of SB_UNFROZEN; the word says who holds one in the shown
+///   model; and whoever has loaded or stored it has it so until it gives `umount` back.
 /// - `trees`: at SB_FREEZE_COMPLETE the tree is sound and clean, whatever is under way: the blocks charged are those of all files, the
 ///   children charged to each node are those that it has, each parent is a directory, and no file is dirty.
 /// - `levels`: what a schedule makes of each freeze level is a run of it, so its grace periods are kept: a writer that is past one had a whole
@@ -35,7 +39,8 @@ ghost use Rattle.gate_world.specs.Waits.{EachWaitHasCulprit};
 ///   that waits for nobody has few events.
 /// - `causes`: a change is refused as busy only where something was counted at that mount in some world from the load of its sum's
 ///   first word to the load of its last, and so a remount, at some mount, or where the stage was not 0 when it looked; a freeze is busy only
-///   where it wasn't, and a thaw or a snapshot invalid only where it wasn't 4; a want is refused as read-only only where the shown model had
+///   where another was under way, or its holder held one, when it last looked, a thaw invalid only where all wasn't frozen, or its holder held
+///   none, and a snapshot only where all wasn't frozen; a want is refused as read-only only where the shown model had
 ///   that mount read-only at one of its loads; a start that doesn't wait is refused only where another task had the level closed, or the file
 ///   system was frozen as a whole, in the world in which it last looked; another call at the tree is refused for a node, as one that is free,
 ///   a file or a directory, only where the shown model has that node so in the world of the load that it is refused with.
@@ -45,7 +50,7 @@ ghost use Rattle.gate_world.specs.Waits.{EachWaitHasCulprit};
 ///   that it closes, in some world from the load of its sum's first word to the load of its last; a drop, an end and the other calls at the
 ///   tree never wait.
 /// - `rule`: the rule of words and views, from which the rest follows: counts, holdings, the owner's words, the stage, the tree and its
-///   marks, mounts, levels, sections.
+///   marks, mounts, levels, sections, who holds a freeze.
 ///
 /// It takes nothing, does nothing and answers nothing: its contract is the theorem. `Core` is bound to the same worlds by `Shows`.
 pub fn every_schedule()
@@ -56,6 +61,7 @@ pub fn every_schedule()
     ensures idle { (c : Config) → IsWithin c → (entries : List Entry) → IdleSumsHold c (world_after c entries) }
     ensures rests { (c : Config) → IsWithin c → (entries : List Entry) → NothingIsLeft c (world_after c entries) }
     ensures freezes { (c : Config) → IsWithin c → (entries : List Entry) → FreezeIsUnderWay c (world_after c entries) }
+    ensures holders { (c : Config) → IsWithin c → (entries : List Entry) → HoldersAreTold c (world_after c entries) }
     ensures trees { (c : Config) → IsWithin c → (entries : List Entry) → FrozenTreeIsWhole c (world_after c entries) }
     ensures levels { (c : Config) → IsWithin c → (entries : List Entry) → LevelsAreRuns c entries }
     ensures operations { (c : Config) → IsWithin c → (entries : List Entry) (t : ℕ) → OperationsAreKept c entries t }

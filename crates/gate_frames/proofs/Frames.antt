@@ -6,7 +6,7 @@ use Rattle.std.proofs.lemmas.Bool.Decides.{eqb_tells}
 use Rattle.finite_sums.specs.Sums.{update, total}
 use Rattle.finite_sums.proofs.Totals.{each_updated, total_updated, update_map, update_same}
 use Rattle.cpu_words.specs.declared.names.WordName.{WordName}
-use Rattle.cpu_words.specs.declared.names.WordName.TheVariants.{Umount, Stage, SbFlags, Remount, MountFlags, MountCount, Block, Sync, LevelCount, Section, Used, Node, Kids}
+use Rattle.cpu_words.specs.declared.names.WordName.TheVariants.{Umount, Stage, Holders, SbFlags, Remount, MountFlags, MountCount, Block, Sync, LevelCount, Section, Used, Node, Kids}
 use Rattle.cpu_words.specs.declared.events.Touch.TheVariants.{Load}
 use Rattle.cpu_words.specs.Words.{Words}
 use Rattle.mount_counts.specs.Roles.{Role, Out, MountView, ro_bit, MountHolds}
@@ -15,9 +15,9 @@ use Rattle.gate_world.specs.declared.views.View.{View}
 use Rattle.gate_world.specs.declared.work.Phase.{Phase}
 use Rattle.gate_world.specs.Views.{held_at, holds_level, added_after, taken_after}
 use Rattle.gate_world.specs.Worlds.{World}
-use Rattle.gate_world.specs.Shown.{shown, closing, is_passed, stage_roles}
+use Rattle.gate_world.specs.Shown.{shown, closing, is_passed, stage_roles, holder_roles}
 use Rattle.gate_world.specs.Fits.{Fits}
-use Rattle.gate_world.specs.Rules.{role_if, at_mount, owns, remounts, IsSteady, OwnerHolds, ViewFits, Part, Owner, Stages, Fitting, AtMount, Holds, SameWords, SameView, GatesHold, IsGood, Known, Tree, AtLevel, SyncAt, Sections}
+use Rattle.gate_world.specs.Rules.{role_if, at_mount, owns, remounts, IsSteady, OwnerHolds, ViewFits, Part, Owner, Stages, Holding, Fitting, AtMount, Holds, SameWords, SameView, GatesHold, IsGood, Known, Tree, AtLevel, SyncAt, Sections}
 use Rattle.gate_world.specs.Owners.{KnowsWords}
 use Rattle.gate_frames.proofs.Known.{known_same}
 use Rattle.gated_tree.specs.Nodes.{node_shown}
@@ -25,6 +25,9 @@ use Rattle.gated_tree.specs.Roles.{Role as TreeRole, TreeState, TreeHolds}
 use Rattle.gate_world.specs.Trees.{tree_bounds, tree_role_of, tree_roles}
 use Rattle.stage_laws.specs.Roles.{StageRole, StagesHold}
 use Rattle.gate_world.specs.Stages.{stage_role_of}
+use Rattle.freeze_levels.specs.Holders.{holders_in}
+use Rattle.holder_laws.specs.Roles.{HolderRole, HoldersHold}
+use Rattle.gate_world.specs.Holders.{holder_role_of}
 use Rattle.gate_counts.specs.Levels.{Out as CountsNot, LevelView, LevelRole, LevelHolds}
 use Rattle.level_laws.specs.Roles.{Out as IsApart, SyncRole, SyncNumberHolds}
 use Rattle.gate_world.specs.Levels.{inside, at_level, level_role_of, is_frozen_whole, level_added_by, sync_role_of, level_taken_by}
@@ -33,6 +36,7 @@ use Rattle.gate_world.specs.Levels.{inside, at_level, level_role_of, is_frozen_w
 pub added_load : (name : WordName) (added : ℕ → ℕ → ℕ) → added_after name Load added ≡ added
 added_load Umount added = refl
 added_load Stage added = refl
+added_load Holders added = refl
 added_load SbFlags added = refl
 added_load Remount added = refl
 added_load (MountFlags m) added = refl
@@ -48,6 +52,7 @@ added_load (Kids n) added = refl
 pub taken_load : (name : WordName) (taken : ℕ → ℕ → ℕ) → taken_after name Load taken ≡ taken
 taken_load Umount taken = refl
 taken_load Stage taken = refl
+taken_load Holders taken = refl
 taken_load SbFlags taken = refl
 taken_load Remount taken = refl
 taken_load (MountFlags m) taken = refl
@@ -79,6 +84,10 @@ holds_as {tasks} {processors} ef er es ec ea h = subst (λ X. X) (sym (λ i. Mou
 pub stages_as : {tasks s s' f f' r r' : ℕ} {b b' : ℕ → ℕ} {at at' : ℕ → StageRole} → s ≡ s' → f ≡ f' → r ≡ r' → b ≡ b' → at ≡ at' →
     StagesHold tasks s' f' r' b' at' → StagesHold tasks s f r b at
 stages_as {tasks} es ef er eb ea h = subst (λ X. X) (sym (λ i. StagesHold tasks (es i) (ef i) (er i) (eb i) (ea i))) h
+
+pub holders_as : {tasks s s' h h' : ℕ} {at at' : ℕ → HolderRole} → s ≡ s' → h ≡ h' → at ≡ at' → HoldersHold tasks s' h' at' →
+    HoldersHold tasks s h at
+holders_as {tasks} es eh ea h = subst (λ X. X) (sym (λ i. HoldersHold tasks (es i) (eh i) (ea i))) h
 
 -- a tree with the same words and roles
 pub tree_as : {s s' u u' : ℕ} {n n' k k' : ℕ → ℕ} {at at' : ℕ → TreeRole} → s ≡ s' → u ≡ u' → n ≡ n' → k ≡ k' → at ≡ at' →
@@ -122,6 +131,7 @@ module _ (c : Config) (w : World) (t : ℕ) (lt : t < c.tasks) where
         mount_ro = λ m. ro_bit (ws.flags m) == 1;
         sb_ro = ws.remount == 1 || ws.sb == 1;
         stage = ws.stage;
+        holders = holders_in ws.holders;
         tree = λ n. node_shown (ws.node n);
       }
   shown_as ws v eb ec = λ j. record {
@@ -130,6 +140,7 @@ module _ (c : Config) (w : World) (t : ℕ) (lt : t < c.tasks) where
     mount_ro = λ m. ro_bit (ws.flags m) == 1;
     sb_ro = ws.remount == 1 || ws.sb == 1;
     stage = ws.stage;
+    holders = holders_in ws.holders;
     passed = passed_same ws v 1 (ap (λ f. f 1) eb) (ec 1) j + (passed_same ws v 2 (ap (λ f. f 2) eb) (ec 2) j + passed_same ws v 3
         (ap (λ f. f 3) eb) (ec 3) j);
     tree = λ n. node_shown (ws.node n);
@@ -137,11 +148,11 @@ module _ (c : Config) (w : World) (t : ℕ) (lt : t < c.tasks) where
 
   -- a view with the same actions shows the same accesses
   pub shown_still : (ws : Words) (v : View) → ws.block ≡ w.words.block → ws.flags ≡ w.words.flags → ws.remount ≡ w.words.remount →
-      ws.sb ≡ w.words.sb → ws.stage ≡ w.words.stage → ws.node ≡ w.words.node →
+      ws.sb ≡ w.words.sb → ws.stage ≡ w.words.stage → ws.holders ≡ w.words.holders → ws.node ≡ w.words.node →
       ((i : ℕ) → closing i v.phase ≡ closing i (w.views t).phase) → held_at v ≡ held_at (w.views t) →
       holds_level v ≡ holds_level (w.views t) →
       shown c (record { words = ws; views = update w.views t v }) ≡ shown c w
-  shown_still ws v eb ef er es eg en ec eh el =
+  shown_still ws v eb ef er es eg eo en ec eh el =
       shown_as ws v eb ec ∙
       (λ j. record (shown c w) {
         mounts = (ap (update (λ x. held_at (w.views x)) t) eh ∙ update_same (λ x. held_at (w.views x)) t) j;
@@ -149,6 +160,7 @@ module _ (c : Config) (w : World) (t : ℕ) (lt : t < c.tasks) where
         mount_ro = λ m. ro_bit (ef j m) == 1;
         sb_ro = er j == 1 || es j == 1;
         stage = eg j;
+        holders = holders_in (eo j);
         tree = λ n. node_shown (en j n);
       })
 
@@ -157,6 +169,12 @@ module _ (c : Config) (w : World) (t : ℕ) (lt : t < c.tasks) where
       ◌≡◌ {A = ℕ → StageRole} (λ x. stage_role_of (update w.views t v x).phase) (stage_roles w)
   stage_roles_left v seen =
       update_map (λ (u : View). stage_role_of u.phase) w.views t v ∙ ap (update (stage_roles w) t) seen ∙ update_same (stage_roles w) t
+
+  -- what each task is doing with those who hold a freeze, likewise
+  pub holder_roles_left : (v : View) → holder_role_of v.phase ≡ holder_role_of (w.views t).phase →
+      ◌≡◌ {A = ℕ → HolderRole} (λ x. holder_role_of (update w.views t v x).phase) (holder_roles w)
+  holder_roles_left v seen =
+      update_map (λ (u : View). holder_role_of u.phase) w.views t v ∙ ap (update (holder_roles w) t) seen ∙ update_same (holder_roles w) t
 
   -- what each task is doing at the tree, likewise
   pub tree_roles_left : (v : View) → tree_role_of v.trace v.phase ≡ tree_role_of (w.views t).trace (w.views t).phase →
@@ -178,6 +196,7 @@ module _ (c : Config) (w : World) (t : ℕ) (lt : t < c.tasks) where
     remounting = omega (arith, same.1, h.remounting, seen.1, total_updated (λ (u : View). remounts u.phase) c.tasks t w.views v lt);
   }
   left_alone Stages ws v same seen h = stages_as same.0 same.1 same.2 same.3 (stage_roles_left v seen) h
+  left_alone Holding ws v same seen h = holders_as same.0 same.1 (holder_roles_left v seen) h
   left_alone Fitting ws v same seen h = λ x lx.
       each_updated (λ y (u : View). ViewFits c y u) w.views t v x
       (subst (λ (p : Option Phase). Fits c t (held_at v) (holds_level v) p) (sym seen.2)

@@ -6,7 +6,7 @@ use Rattle.freeze_levels.specs.declared.freezes.FreezeStep.{FreezeStep}
 use Rattle.freeze_levels.specs.declared.freezes.FreezeStep.TheVariants.{SetsFs, SetsComplete}
 use Rattle.freeze_levels.specs.declared.thaws.Thaw.{Thaw}
 use Rattle.freeze_levels.specs.declared.thaws.ThawStep.{ThawStep}
-use Rattle.freeze_levels.specs.declared.thaws.ThawStep.TheVariants.{SetsUnfrozen}
+use Rattle.freeze_levels.specs.declared.thaws.ThawStep.TheVariants.{LeavesLast}
 use Rattle.freeze_levels.specs.Freezes.{freeze_hook, freeze_next, freeze_after}
 use Rattle.freeze_levels.specs.Thaws.{thaw_hook, thaw_next, thaw_after}
 use Rattle.gate_world.specs.declared.work.Phase.{Phase}
@@ -43,7 +43,7 @@ freeze_ignores x s h a b found = (refl, refl)
 
 thaw_ignores : (x : Thaw) (s : ThawStep) → thaw_hook s ≡ None → (a b : HookAnswer) (found : ℕ) →
     (thaw_next x s a ≡ thaw_next x s b) × (thaw_after x s found a ≡ thaw_after x s found b)
-thaw_ignores x SetsUnfrozen h a b found = absurd (true≢false (ap is_some h))
+thaw_ignores x LeavesLast h a b found = absurd (true≢false (ap is_some h))
 thaw_ignores x s h a b found = (refl, refl)
 
 tree_ignores : (x : TreePhase) (a b : HookAnswer) (found : ℕ) → (tree_next x a ≡ tree_next x b) × (tree_after x found a ≡ tree_after x found b)

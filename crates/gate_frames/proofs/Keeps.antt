@@ -1,5 +1,5 @@
 -- What the crate of an operation proves of it: of each of its phases, and of its beginning and its trace.
-use Rattle.cpu_words.specs.declared.names.WordName.TheVariants.{MountFlags, MountCount, Block, Sync, LevelCount, Section, Node, Kids, Umount, Stage, SbFlags, Remount, Used}
+use Rattle.cpu_words.specs.declared.names.WordName.TheVariants.{MountFlags, MountCount, Block, Sync, LevelCount, Section, Node, Kids, Umount, Stage, Holders, SbFlags, Remount, Used}
 use Rattle.cpu_words.specs.declared.names.WordName.{WordName}
 use Rattle.access_model.specs.Histories.{mounts_of, levels_of}
 use Rattle.gate_world.specs.Traces.{actions_of}
@@ -54,6 +54,7 @@ pub word_among : (c : Config) → IsWithin c → (n : ℕ) → c.tasks ≤ n →
     IsWord (extents_among n c) name
 word_among c within n le Umount h = h
 word_among c within n le Stage h = h
+word_among c within n le Holders h = h
 word_among c within n le SbFlags h = h
 word_among c within n le Remount h = h
 word_among c within n le (MountFlags m) h = h

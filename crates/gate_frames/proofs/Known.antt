@@ -6,7 +6,7 @@ use Rattle.gate_world.specs.Rules.{Holds, IsGood, Known, Owner, owns}
 use Rattle.cpu_words.specs.Hooks.{HookAnswer}
 use Rattle.std.specs.Prelude.{List, None, Some, false, is_some, ◌∷◌, []}
 use Rattle.cpu_words.specs.declared.events.Touch.TheVariants.{Load}
-use Rattle.cpu_words.specs.declared.names.WordName.TheVariants.{MountFlags, Remount, SbFlags, Stage}
+use Rattle.cpu_words.specs.declared.names.WordName.TheVariants.{Holders, MountFlags, Remount, SbFlags, Stage}
 use Rattle.gate_world.specs.declared.work.Phase.{Phase}
 use Rattle.cpu_words.specs.declared.events.Touch.{Touch}
 use Rattle.gate_world.specs.declared.views.Traced.{Traced}
@@ -31,6 +31,7 @@ none_is_none x h = absurd (true≢false (ap is_some (sym h)))
 -- of two words that are the same owned word each is owned
 pub owned_first : (word other : WordName) → is_owned_word word other ≡ true → is_owned word ≡ true
 owned_first Stage other h = refl
+owned_first Holders other h = refl
 owned_first SbFlags other h = refl
 owned_first Remount other h = refl
 owned_first (MountFlags m) other h = refl
@@ -38,6 +39,7 @@ owned_first word other h = absurd (true≢false (sym h))
 
 pub owned_second : (word other : WordName) → is_owned_word word other ≡ true → is_owned other ≡ true
 owned_second Stage Stage h = refl
+owned_second Holders Holders h = refl
 owned_second SbFlags SbFlags h = refl
 owned_second Remount Remount h = refl
 owned_second (MountFlags m) (MountFlags n) h = refl
@@ -46,6 +48,7 @@ owned_second word other h = absurd (true≢false (sym h))
 -- a write of an owned word leaves its value there
 put_owned : (w : Words) (word other : WordName) (value : ℕ) → is_owned_word word other ≡ true → read (put w other value) word ≡ value
 put_owned w Stage Stage value h = refl
+put_owned w Holders Holders value h = refl
 put_owned w SbFlags SbFlags value h = refl
 put_owned w Remount Remount value h = refl
 put_owned w (MountFlags m) (MountFlags n) value h = rw (h, update) refl
@@ -56,6 +59,8 @@ put_other : (w : Words) (word other : WordName) (value : ℕ) → is_owned word 
     read (put w other value) word ≡ read w word
 put_other w Stage Stage value h k = absurd (true≢false k)
 put_other w Stage other value h k = refl
+put_other w Holders Holders value h k = absurd (true≢false k)
+put_other w Holders other value h k = refl
 put_other w SbFlags SbFlags value h k = absurd (true≢false k)
 put_other w SbFlags other value h k = refl
 put_other w Remount Remount value h k = absurd (true≢false k)
@@ -83,16 +88,19 @@ known_owned word (e ∷ earlier) value h =
     ]
 
 -- owned words that are as they were
-read_same : (old new : Words) → (new.stage ≡ old.stage) × (new.sb ≡ old.sb) × (new.remount ≡ old.remount) × (new.flags ≡ old.flags) →
+read_same : (old new : Words) → (new.stage ≡ old.stage) × (new.sb ≡ old.sb) × (new.remount ≡ old.remount) × (new.flags ≡ old.flags) ×
+    (new.holders ≡ old.holders) →
     (word : WordName) → is_owned word ≡ true → read new word ≡ read old word
 read_same old new same Stage h = same.0
+read_same old new same Holders h = same.4
 read_same old new same SbFlags h = same.1
 read_same old new same Remount h = same.2
 read_same old new same (MountFlags m) h = ap (λ f. f m) same.3
 read_same old new same word h = absurd (true≢false (sym h))
 
 -- are known as they were
-pub known_same : (old new : Words) → (new.stage ≡ old.stage) × (new.sb ≡ old.sb) × (new.remount ≡ old.remount) × (new.flags ≡ old.flags) →
+pub known_same : (old new : Words) → (new.stage ≡ old.stage) × (new.sb ≡ old.sb) × (new.remount ≡ old.remount) × (new.flags ≡ old.flags) ×
+    (new.holders ≡ old.holders) →
     (trace : List Traced) → KnowsWords old trace → KnowsWords new trace
 known_same old new same trace h word value k = read_same old new same word (known_owned word trace value k) ∙ h word value k
 

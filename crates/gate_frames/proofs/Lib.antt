@@ -12,6 +12,7 @@ pub mod Places
 pub mod Hooks
 pub mod Trees
 pub mod Stages
+pub mod Holders
 pub mod MayHolds
 pub mod LevelSteps
 pub mod MountRuns
@@ -22,6 +23,7 @@ pub mod Traced
 pub mod Cleans
 pub mod Stands
 pub mod LevelWorlds
+pub mod Cases
 pub mod Standing
 pub mod StandRoles
 pub mod WholeLevels

@@ -11,8 +11,8 @@ use Rattle.percpu_rwsem.specs.declared.callbacks.CallbackStep.TheVariants.{Claim
 use Rattle.percpu_rwsem.specs.declared.writers.DownWriteStep.TheVariants.{Enters, AwaitsSections as WAwaitsSections, CallsBack as WCallsBack, AwaitsPassed, SetsBlock, Sums as WSums}
 use Rattle.percpu_rwsem.specs.declared.writers.UpWriteStep.TheVariants.{ClearsBlock, Exits}
 use Rattle.write_access.specs.declared.phases.WritePhase.TheVariants.{Takes, Wants as WWants, GivesBack, Drops as WDrops, Ends}
-use Rattle.freeze_levels.specs.declared.freezes.FreezeStep.TheVariants.{Locks as FLocks, LoadsStage as FLoadsStage, LoadsSuperblock as FLoadsSuperblock, CompletesReadOnly, SetsWrite, Unlocks, Closes, LocksAgain, SetsPageFault, Cleans, SetsFs, SetsComplete, Reopens as FReopens, Releases as FReleases}
-use Rattle.freeze_levels.specs.declared.thaws.ThawStep.TheVariants.{Locks as TLocks, LoadsStage as TLoadsStage, LoadsSuperblock as TLoadsSuperblock, UnfreezesReadOnly, SetsUnfrozen, Reopens as TReopens, Releases as TReleases}
+use Rattle.freeze_levels.specs.declared.freezes.FreezeStep.TheVariants.{Locks as FLocks, LoadsStage as FLoadsStage, LoadsHolders as FLoadsHolders, Holds, LoadsSuperblock as FLoadsSuperblock, CompletesReadOnly, SetsWrite, Unlocks, Closes, LocksAgain, SetsPageFault, Cleans, SetsFs, SetsComplete, Reopens as FReopens, Releases as FReleases}
+use Rattle.freeze_levels.specs.declared.thaws.ThawStep.TheVariants.{Locks as TLocks, LoadsStage as TLoadsStage, LoadsHolders as TLoadsHolders, Leaves, LoadsSuperblock as TLoadsSuperblock, LeavesReadOnly, UnfreezesReadOnly, LeavesLast, SetsUnfrozen, Reopens as TReopens, Releases as TReleases}
 use Rattle.gated_tree.specs.declared.changes.CreateStep.TheVariants.{LoadsDirectory, LoadsNode, ChargesChild, TakesNode, RefundsChild}
 use Rattle.gated_tree.specs.declared.changes.RemoveStep.TheVariants.{LoadsFile as LoadsFileToRemove, FreesNode, RefundsBlocks as RefundsItsBlocks, RefundsChild as RefundsItsChild}
 use Rattle.gated_tree.specs.declared.growth.GrowStep.TheVariants.{LoadsFile as LoadsFileToGrow, LoadsUsed, ChargesBlocks, GrowsFile, RefundsBlocks}
@@ -162,9 +162,11 @@ module _ (c : Config) where
   write_word (WDrops m p) = tt
   write_word (Ends p) = tt
 
-  freeze_word : (x : Freeze) (s : FreezeStep) (hook : HookAnswer) → FreezeFits c s → IsOfTree c (freeze_next x s hook).0
+  freeze_word : (x : Freeze) (s : FreezeStep) (hook : HookAnswer) → FreezeFits c x.holder s → IsOfTree c (freeze_next x s hook).0
   freeze_word x FLocks hook fits = tt
   freeze_word x FLoadsStage hook fits = tt
+  freeze_word x FLoadsHolders hook fits = tt
+  freeze_word x (Holds beside) hook fits = tt
   freeze_word x FLoadsSuperblock hook fits = tt
   freeze_word x CompletesReadOnly hook fits = tt
   freeze_word x SetsWrite hook fits = tt
@@ -183,10 +185,14 @@ module _ (c : Config) where
   thaw_word : (x : Thaw) (s : ThawStep) (hook : HookAnswer) → IsOfTree c (thaw_next x s hook).0
   thaw_word x TLocks hook = tt
   thaw_word x TLoadsStage hook = tt
+  thaw_word x TLoadsHolders hook = tt
+  thaw_word x (Leaves held) hook = tt
   thaw_word x TLoadsSuperblock hook = tt
+  thaw_word x LeavesReadOnly hook = tt
   thaw_word x UnfreezesReadOnly hook = tt
-  thaw_word x SetsUnfrozen (Ok answer) = tt
-  thaw_word x SetsUnfrozen (Err code) = tt
+  thaw_word x LeavesLast (Ok answer) = tt
+  thaw_word x LeavesLast (Err code) = tt
+  thaw_word x SetsUnfrozen hook = tt
   thaw_word x (TReopens u) hook = up_write_word u u.step
   thaw_word x (TReleases answer) hook = tt
 

@@ -1,6 +1,6 @@
 -- What the events of want, drop and change touch: the rest of the rule stays.
 use Rattle.gate_frames.proofs.Frames.{left_alone, level_view_as}
-use Rattle.gate_world.specs.Rules.{AtMount, Fitting, Holds, IsGood, Known, Owner, Part, SameView, SameWords, Stages, StepKeeps, at_gates, change_owns, owns, GateStepKeeps, Tree, AtLevel, SyncAt, Sections}
+use Rattle.gate_world.specs.Rules.{AtMount, Fitting, Holds, IsGood, Known, Owner, Part, SameView, SameWords, Stages, Holding, StepKeeps, at_gates, change_owns, owns, GateStepKeeps, Tree, AtLevel, SyncAt, Sections}
 use Rattle.std.proofs.Common.{Bool, arith, inl, inr, refl, sym, true, true≢false, ◌≡◌, ◌<◌, ◌⊎◌, subst, ℕ, ◌∙◌, ap, List}
 use Rattle.mount_counts.specs.declared.phases.Change.{Change}
 use Rattle.mount_counts.specs.declared.phases.ChangeStep.{ChangeStep}
@@ -12,7 +12,7 @@ use Rattle.cpu_words.specs.Hooks.{HookAnswer}
 use Rattle.gate_frames.proofs.Known.{IsOwnersWork, known_after}
 use Rattle.cpu_words.specs.declared.events.Touch.TheVariants.{Load}
 use Rattle.mount_counts.specs.declared.phases.ChangeStep.TheVariants.{LoadsSuperblock as LoadsSb, Locks, Sums}
-use Rattle.cpu_words.specs.declared.names.WordName.TheVariants.{MountCount, MountFlags, Stage, Umount, Node, SbFlags, Block, LevelCount, Sync, Section, Remount, Kids, Used}
+use Rattle.cpu_words.specs.declared.names.WordName.TheVariants.{MountCount, MountFlags, Stage, Holders, Umount, Node, SbFlags, Block, LevelCount, Sync, Section, Remount, Kids, Used}
 use Rattle.mount_counts.specs.declared.phases.MountPhase.{MountPhase}
 use Rattle.gate_world.specs.declared.work.Phase.TheVariants.{Mounts}
 use Rattle.access_model.specs.declared.replies.Next.{Next}
@@ -34,6 +34,8 @@ use Rattle.access_model.specs.Replies.{map_next}
 use Rattle.gate_world.specs.Views.{phase_after, view_after, actions_after}
 use Rattle.gate_world.specs.Stages.{stage_role_of}
 use Rattle.stage_laws.specs.Roles.{Aside}
+use Rattle.holder_laws.specs.Roles.{Apart}
+use Rattle.gate_world.specs.Holders.{holder_role_of}
 use Rattle.gate_counts.specs.Levels.{Out as CountsNot}
 use Rattle.level_laws.specs.Roles.{Out as IsApart}
 use Rattle.gate_world.specs.Levels.{inside, at_level, level_added_after, level_taken_after, level_role_of, sync_role_of, level_added_by, level_taken_by}
@@ -84,8 +86,9 @@ known_is part h = absurd (true≢false (sym h))
 same_words : (w : Words) (part : Part) → SameWords w w part
 same_words w Owner = (refl, refl)
 same_words w Stages = (refl, refl, refl, refl)
+same_words w Holding = (refl, refl)
 same_words w Fitting = tt
-same_words w Known = (refl, refl, refl, refl)
+same_words w Known = (refl, refl, refl, refl, refl)
 same_words w Tree = (refl, refl, refl, refl)
 same_words w (AtMount m) = (refl, refl, refl, refl)
 same_words w (AtLevel i) = (refl, refl, refl)
@@ -98,7 +101,7 @@ pub load_unread : (w : Words) (word : WordName) (touch : Touch) (part : Part) �
 load_unread w word Load part h = subst (λ (ws : Words). SameWords w ws part) (sym (load_same w word)) (same_words w part)
 load_unread w word touch part h = absurd (true≢false (sym h))
 
--- and the words of want, drop and change are none that the parts of the stage, the marks, the nodes and the levels read
+-- and the words of want, drop and change are none that the parts of the stage, the holders, the marks, the nodes and the levels read
 unread : (part : Part) → at_gates part ≡ false → is_known_part part ≡ false → (word : WordName) → is_gate_word word ≡ true →
     (w : Words) (n : ℕ) → SameWords w (put w word n) part
 unread Stages h k Stage q w n = absurd (true≢false (sym q))
@@ -106,6 +109,9 @@ unread Stages h k SbFlags q w n = absurd (true≢false (sym q))
 unread Stages h k Remount q w n = absurd (true≢false (sym q))
 unread Stages h k (Block i) q w n = absurd (true≢false (sym q))
 unread Stages h k word q w n = (refl, refl, refl, refl)
+unread Holding h k Stage q w n = absurd (true≢false (sym q))
+unread Holding h k Holders q w n = absurd (true≢false (sym q))
+unread Holding h k word q w n = (refl, refl)
 unread Known h k word q w n = absurd (true≢false k)
 unread (AtLevel j) h k Stage q w n = absurd (true≢false (sym q))
 unread (AtLevel j) h k SbFlags q w n = absurd (true≢false (sym q))
@@ -131,6 +137,7 @@ unread part h k word q w n = absurd (true≢false h)
 -- what the parts that an event of want, drop or change doesn't touch read of its task's view is the same
 record IsUnseen (old new : View) : Type 0 where
   stage_same : stage_role_of new.phase ≡ stage_role_of old.phase
+  holder_same : holder_role_of new.phase ≡ holder_role_of old.phase
   tree_same : tree_role_of new.trace new.phase ≡ tree_role_of old.trace old.phase
   level_same : (i : ℕ) → at_level i new ≡ at_level i old
   sync_same : (i : ℕ) → sync_role_of i new.phase ≡ sync_role_of i old.phase
@@ -139,6 +146,7 @@ record IsUnseen (old new : View) : Type 0 where
 -- so they read the same
 unseen : (part : Part) → at_gates part ≡ false → is_known_part part ≡ false → (old new : View) → IsUnseen old new → SameView old new part
 unseen Stages h k old new same = same.stage_same
+unseen Holding h k old new same = same.holder_same
 unseen Known h k old new same = absurd (true≢false k)
 unseen Tree h k old new same = same.tree_same
 unseen (AtLevel i) h k old new same = same.level_same i
@@ -175,6 +183,12 @@ mounts_aside : (next : Next MountPhase) → stage_role_of (phase_after (map_next
 mounts_aside (Go x) = refl
 mounts_aside (Wait x) = refl
 mounts_aside (Done answer) = refl
+
+-- nor with those who hold a freeze
+mounts_part : (next : Next MountPhase) → holder_role_of (phase_after (map_next Mounts next)) ≡ Apart
+mounts_part (Go x) = refl
+mounts_part (Wait x) = refl
+mounts_part (Done answer) = refl
 
 -- what comes after an event of a want owns nothing
 want_owns : (next : Next Want) → owns (phase_after (map_next Mounts (map_next Wants next))) ≡ 0
@@ -278,6 +292,7 @@ mounts_unseen v x value hook e =
     ] in
     record {
       stage_same = mounts_aside (after x found hook).0 ∙ sym (ap stage_role_of e);
+      holder_same = mounts_part (after x found hook).0 ∙ sym (ap holder_role_of e);
       tree_same = mounts_off_tree (view_after v (Mounts x) value hook).trace (after x found hook).0 ∙ sym (ap (tree_role_of v.trace) e);
       level_same = λ i. level_view_as
           (ap (λ (f : ℕ → Bool). if f i then 1 else 0) (mounts_levels x found hook v.actions))

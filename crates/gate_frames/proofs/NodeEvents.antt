@@ -20,7 +20,7 @@ use Rattle.gate_world.specs.declared.work.Phase.{Phase}
 use Rattle.gate_world.specs.declared.work.Phase.TheVariants.{Trees}
 use Rattle.gate_world.specs.Configs.{IsWithin}
 use Rattle.gate_world.specs.Owners.{is_owned}
-use Rattle.gate_world.specs.Rules.{IsGood, Holds, Part, Owner, Stages, Fitting, Known, Tree, AtMount, AtLevel, SyncAt, Sections, StepKeeps, owns, remounts}
+use Rattle.gate_world.specs.Rules.{IsGood, Holds, Part, Owner, Stages, Holding, Fitting, Known, Tree, AtMount, AtLevel, SyncAt, Sections, StepKeeps, owns, remounts}
 use Rattle.gate_world.specs.Snapshots.{values_noted}
 use Rattle.gate_world.specs.Stages.{stage_role_of}
 use Rattle.gate_world.specs.Trees.{tree_role_of, nodes_noted}
@@ -145,6 +145,7 @@ module _ (c : Config) (within : IsWithin c) (w : World) (good : IsGood c w) (t :
   each_part Stages =
       left_alone c w t lt Stages (call_words c w good t lt x hook e) (call_view c w good t lt x hook e)
       (beside.stage_same, beside.sb_same, beside.remount_same, beside.block_same) (now_plain.aside ∙ sym was_plain.aside) (good Stages)
+  each_part Holding = gate_parts c w good t lt x hook e Holding refl
   each_part Fitting = call_fitting c w good t lt x hook e within
   each_part Known = known_after c w t (Trees x) hook good lt e plain_work
   each_part Tree = tree_kept.0

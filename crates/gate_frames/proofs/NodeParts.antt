@@ -48,6 +48,9 @@ use Rattle.tree_laws.specs.Steps.{Notes, StepKeeps, tree_in}
 use Rattle.tree_laws.proofs.Allowed.{may_do, tree_alone}
 use Rattle.tree_laws.proofs.Fitting.{fits_after}
 use Rattle.tree_laws.proofs.Phases.{each_phase}
+use Rattle.holder_laws.specs.Roles.{Apart}
+use Rattle.gate_world.specs.Holders.{holder_role_of}
+use Rattle.freeze_levels.specs.Holders.{holders_in}
 use Rattle.gate_world.specs.declared.config.Config.{Config}
 use Rattle.gate_world.specs.declared.views.View.{View}
 use Rattle.gate_world.specs.declared.work.Phase.{Phase}
@@ -56,7 +59,7 @@ use Rattle.gate_world.specs.Configs.{IsWithin, model_limits}
 use Rattle.gate_world.specs.Fits.{Fits, TreeAccess, mounts_by, levels_by}
 use Rattle.gate_world.specs.Found.{is_load}
 use Rattle.gate_world.specs.Levels.{is_frozen_whole, level_added_after, level_taken_after, level_added_by, level_taken_by}
-use Rattle.gate_world.specs.Rules.{IsGood, Holds, Part, AtMount, AtLevel, SyncAt, Sections, Fitting, Tree, ViewFits, SameView, SameWords, role_of, remounts, Moves as ModelMoves}
+use Rattle.gate_world.specs.Rules.{IsGood, Holds, Part, Holding, AtMount, AtLevel, SyncAt, Sections, Fitting, Tree, ViewFits, SameView, SameWords, role_of, remounts, Moves as ModelMoves}
 use Rattle.gate_world.specs.Shown.{shown, closing}
 use Rattle.gate_world.specs.Stages.{tree_stage_role, snapshot_stage_role}
 use Rattle.gate_world.specs.Trees.{tree_bounds, tree_roles, tree_role_of, nodes_noted, is_sealed}
@@ -163,6 +166,7 @@ call_touch x hook = inr (node_call (next x hook).0 (node_word x hook refl))
 -- the words that no call at the tree writes are as they were
 pub record IsBesideTree (old new : Words) : Type 0 where
   pub stage_same : new.stage ≡ old.stage
+  pub holders_same : new.holders ≡ old.holders
   pub sb_same : new.sb ≡ old.sb
   pub remount_same : new.remount ≡ old.remount
   pub flags_same : new.flags ≡ old.flags
@@ -176,6 +180,7 @@ pub record IsBesideTree (old new : Words) : Type 0 where
 same_beside : (w : Words) → IsBesideTree w w
 same_beside w = record {
   stage_same = refl;
+  holders_same = refl;
   sb_same = refl;
   remount_same = refl;
   flags_same = refl;
@@ -190,6 +195,7 @@ same_beside w = record {
 write_beside : (w : Words) (word : WordName) (n : ℕ) → is_call_word word ≡ true → IsBesideTree w (put w word n)
 write_beside w Umount n h = record {
   stage_same = refl;
+  holders_same = refl;
   sb_same = refl;
   remount_same = refl;
   flags_same = refl;
@@ -201,6 +207,7 @@ write_beside w Umount n h = record {
 }
 write_beside w Used n h = record {
   stage_same = refl;
+  holders_same = refl;
   sb_same = refl;
   remount_same = refl;
   flags_same = refl;
@@ -212,6 +219,7 @@ write_beside w Used n h = record {
 }
 write_beside w (Node x) n h = record {
   stage_same = refl;
+  holders_same = refl;
   sb_same = refl;
   remount_same = refl;
   flags_same = refl;
@@ -223,6 +231,7 @@ write_beside w (Node x) n h = record {
 }
 write_beside w (Kids d) n h = record {
   stage_same = refl;
+  holders_same = refl;
   sb_same = refl;
   remount_same = refl;
   flags_same = refl;
@@ -447,6 +456,7 @@ pub record IsOffGates (p : Option Phase) : Type 0 where
   pub off_levels : IsOffLevels p
   pub closing_none : (i : ℕ) → closing i p ≡ 0
   pub remounts_none : remounts p ≡ 0
+  pub unheld : holder_role_of p ≡ Apart
 
 -- no operation is under way
 idle_off : IsOffGates None
@@ -455,6 +465,7 @@ idle_off = record {
   off_levels = record { counts_not = λ i. refl; apart = λ i. refl; outside = refl };
   closing_none = λ i. refl;
   remounts_none = refl;
+  unheld = refl;
 }
 
 -- a snapshot closes no level
@@ -478,6 +489,7 @@ call_off x = record {
   off_levels = record { counts_not = λ i. refl; apart = λ i. refl; outside = refl };
   closing_none = λ i. tree_closing i x;
   remounts_none = refl;
+  unheld = refl;
 }
 
 -- and what comes after it
@@ -488,6 +500,7 @@ next_off (Done answer) = idle_off
 
 -- the parts that no event of a call touches
 abbrev pub is_gate_part : Part → Bool
+is_gate_part Holding = true
 is_gate_part (AtMount m) = true
 is_gate_part (AtLevel i) = true
 is_gate_part (SyncAt i) = true
@@ -496,6 +509,7 @@ is_gate_part part = false
 
 -- what they read of the words
 gate_words : (part : Part) → is_gate_part part ≡ true → (old new : Words) → IsBesideTree old new → SameWords old new part
+gate_words Holding h old new same = (same.stage_same, same.holders_same)
 gate_words (AtMount m) h old new same = (ap (λ f. f m) same.flags_same, same.remount_same, same.sb_same, ap (λ f. f m) same.count_same)
 gate_words (AtLevel i) h old new same = (ap (λ f. f i) same.block_same, ap (λ f. f i) same.level_same, whole_beside old new same)
 gate_words (SyncAt i) h old new same =
@@ -537,6 +551,7 @@ module _ (c : Config) (w : World) (good : IsGood c w) (t : ℕ) (lt : t < c.task
 
   -- what the parts of mounts, levels and sections read of the task's view is the same
   gate_view : (part : Part) → is_gate_part part ≡ true → SameView (w.views t) call_view part
+  gate_view Holding h = now_off.unheld ∙ sym was_off.unheld
   gate_view (AtMount m) h =
       let none : CountsNowhere (next x hook) = counts_nowhere (next x hook) (call_touch x hook) in
       view_as (ap (λ f. f m) held_still) (ap (λ f. f m) (none.added (added_by (w.views t).events)))
@@ -577,6 +592,7 @@ module _ (c : Config) (w : World) (good : IsGood c w) (t : ℕ) (lt : t < c.task
         mount_ro = λ m. ro_bit (same.flags_same j m) == 1;
         sb_ro = same.remount_same j == 1 || same.sb_same j == 1;
         stage = same.stage_same j;
+        holders = holders_in (same.holders_same j);
         tree = λ n. node_shown (call_words.node n);
       })
 

@@ -274,7 +274,7 @@ module _ (c : Config) (w : World) (good : IsGood c w) (t : ℕ) (lt : t < c.task
         gates_after c w t lt good 0 ws v refl refl owner fits (λ y ne. (refl, refl, same y))
             (λ lm. holds_as refl refl refl refl
             (ap (update (λ x. at_mount 0 (w.views x)) t) (same 0) ∙ update_same (λ x. at_mount 0 (w.views x)) t) (good (AtMount 0) lm)),
-        shown_still c w t lt ws v refl refl refl refl refl refl close held levels,
+        shown_still c w t lt ws v refl refl refl refl refl refl refl close held levels,
       )
 
   -- an owner's event on the flags of a mount

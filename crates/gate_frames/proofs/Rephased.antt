@@ -20,7 +20,7 @@ use Rattle.gate_world.specs.Views.{held_at, holds_level, phase_after, actions_af
 use Rattle.gate_world.specs.Fits.{Fits, mounts_by, levels_by}
 use Rattle.gate_world.specs.Worlds.{World}
 use Rattle.gate_world.specs.Shown.{shown}
-use Rattle.gate_world.specs.Rules.{ViewFits, Part, Owner, Stages, Fitting, Known, AtMount, Holds, IsGood, Moves, Tree, AtLevel, SyncAt, Sections}
+use Rattle.gate_world.specs.Rules.{ViewFits, Part, Owner, Stages, Holding, Fitting, Known, AtMount, Holds, IsGood, Moves, Tree, AtLevel, SyncAt, Sections}
 use Rattle.gate_world.specs.Alike.{IsAlike, at_phase, rephased}
 use Rattle.gate_frames.proofs.Frames.{view_as, shown_still, left_alone, level_view_as}
 
@@ -44,10 +44,12 @@ module _ (c : Config) (w : World) (t : ℕ) (lt : t < c.tasks) (q : Option Phase
       (good Owner)
   rephased_part fits good Stages =
       left_alone c w t lt Stages w.words (at_phase (w.views t) q) (refl, refl, refl, refl) same.stage_same (good Stages)
+  rephased_part fits good Holding =
+      left_alone c w t lt Holding w.words (at_phase (w.views t) q) (refl, refl) same.holder_same (good Holding)
   rephased_part fits good Fitting = λ x lx.
       each_updated (λ y (u : View). ViewFits c y u) w.views t (at_phase (w.views t) q) x fits (λ ne. good Fitting x lx)
   rephased_part fits good Known =
-      left_alone c w t lt Known w.words (at_phase (w.views t) q) (refl, refl, refl, refl) (same.steady.owns_same, refl) (good Known)
+      left_alone c w t lt Known w.words (at_phase (w.views t) q) (refl, refl, refl, refl, refl) (same.steady.owns_same, refl) (good Known)
   rephased_part fits good Tree =
       left_alone c w t lt Tree w.words (at_phase (w.views t) q) (refl, refl, refl, refl) (same.tree_same (w.views t).trace) (good Tree)
   rephased_part fits good (AtMount m) =
@@ -67,7 +69,7 @@ module _ (c : Config) (w : World) (t : ℕ) (lt : t < c.tasks) (q : Option Phase
 
   -- and the shown model is the same
   pub rephased_shown : shown c (rephased w t q) ≡ shown c w
-  rephased_shown = shown_still c w t lt w.words (at_phase (w.views t) q) refl refl refl refl refl refl same.steady.closing_same refl refl
+  rephased_shown = shown_still c w t lt w.words (at_phase (w.views t) q) refl refl refl refl refl refl refl same.steady.closing_same refl refl
 
 -- the accesses after an action more
 mounts_more : (a : Option Action) (actions : List Action) → mounts_of (actions_after a actions) ≡ mounts_by a (mounts_of actions)

@@ -18,7 +18,7 @@ use Rattle.gate_world.specs.Views.{view_with, view_after, view_after_beside}
 use Rattle.gate_world.specs.Worlds.{World, value_at, found_at, words_after, after_step, after_step_beside}
 use Rattle.gate_world.specs.Shown.{shown}
 use Rattle.gate_world.specs.Moments.{CompletesNow}
-use Rattle.gate_world.specs.Rules.{Part, Owner, Stages, Fitting, Known, AtMount, Holds, IsGood, Tree, AtLevel, SyncAt, Sections}
+use Rattle.gate_world.specs.Rules.{Part, Owner, Stages, Holding, Fitting, Known, AtMount, Holds, IsGood, Tree, AtLevel, SyncAt, Sections}
 
 -- a view, and a world, without their snapshots
 abbrev bare_view : View → View
@@ -31,6 +31,7 @@ bare w = record { words = w.words; views = λ t. bare_view (w.views t) }
 bare_part : (c : Config) (w : World) (part : Part) → Holds c (bare w) part ≡ Holds c w part
 bare_part c w Owner = refl
 bare_part c w Stages = refl
+bare_part c w Holding = refl
 bare_part c w Fitting = refl
 bare_part c w Known = refl
 bare_part c w Tree = refl

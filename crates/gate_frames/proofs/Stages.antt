@@ -21,6 +21,7 @@ use Rattle.gate_world.specs.declared.config.Config.{Config}
 use Rattle.gate_world.specs.declared.views.View.{View}
 use Rattle.gate_world.specs.declared.work.Phase.{Phase}
 use Rattle.gate_world.specs.declared.work.Phase.TheVariants.{Mounts, Remounts, DownReads, UpReads, Callbacks, Writes, Freezes, Thaws, Trees}
+use Rattle.freeze_levels.specs.Holders.{holders_in}
 use Rattle.gate_world.specs.Configs.{model_limits}
 use Rattle.gate_world.specs.Remounts.{remount_owns}
 use Rattle.gate_world.specs.Rules.{owns, IsGood, Holds, Owner, Stages, marks_of}
@@ -139,12 +140,12 @@ module _ (c : Config) (w : World) (good : IsGood c w) where
           (record { right = stages_right; there = lt; happens = happens }) (shown c w) stages_shown.stages
 
     -- The shown model after an event of a task that holds what it held at the mounts and the levels, and that leaves the flags of the
-    -- mounts: it is a state that shows the stage then, and the nodes, and is else as it was.
+    -- mounts: it is a state that shows the stage then, who holds a freeze, and the nodes, and is else as it was.
     pub shown_by : ws.flags ≡ w.words.flags → held_at v ≡ held_at (w.views t) → holds_level v ≡ holds_level (w.views t) → (s : State) →
         ShowsStages c.tasks ws.stage ws.sb ws.remount ws.block (update (stage_roles w) t (stage_role_of v.phase)) s →
         s.mounts ≡ (shown c w).mounts → s.levels ≡ (shown c w).levels → s.mount_ro ≡ (shown c w).mount_ro →
-        s.tree ≡ (λ n. node_shown (ws.node n)) → shown c (record { words = ws; views = update w.views t v }) ≡ s
-    shown_by flags held levels s shows em el ef et = λ j. record {
+        s.holders ≡ holders_in ws.holders → s.tree ≡ (λ n. node_shown (ws.node n)) → shown c (record { words = ws; views = update w.views t v }) ≡ s
+    shown_by flags held levels s shows em el ef eo et = λ j. record {
       mounts = (update_map held_at w.views t v ∙ ap (update (λ x. held_at (w.views x)) t) held ∙
           update_same (λ x. held_at (w.views x)) t ∙ sym em) j;
       levels = (update_map holds_level w.views t v ∙ ap (update (λ x. holds_level (w.views x)) t) levels ∙
@@ -152,6 +153,7 @@ module _ (c : Config) (w : World) (good : IsGood c w) where
       mount_ro = (ap {B = ℕ → Bool} (λ (f : ℕ → ℕ) m. ro_bit (f m) == 1) flags ∙ sym ef) j;
       sb_ro = sym shows.sb_same j;
       stage = sym shows.stage_same j;
+      holders = sym eo j;
       passed = (ap (passed_shown c.tasks ws.block) (update_map (λ (u : View). stage_role_of u.phase) w.views t v) ∙
           sym shows.passed_same) j;
       tree = sym et j;

@@ -9,6 +9,7 @@ use Rattle.access_model.specs.declared.actions.Action.{Action}
 use Rattle.cpu_words.specs.Words.{Words}
 use Rattle.mount_counts.specs.declared.remounts.RemountStep.{RemountStep}
 use Rattle.mount_counts.specs.declared.remounts.RemountStep.TheVariants.{ClearsHold, ClearsMark, SetsReadOnly, ClearsRemount}
+use Rattle.access_model.specs.declared.actions.Holder.{Holder}
 use Rattle.freeze_levels.specs.declared.freezes.FreezeStep.{FreezeStep}
 use Rattle.freeze_levels.specs.declared.freezes.FreezeStep.TheVariants.{Closes, Cleans, SetsFs, Reopens as FreezeReopens}
 use Rattle.gated_tree.specs.Nodes.{dirty_in, kind_in, node_shown}
@@ -182,13 +183,13 @@ module _ (c : Config) (w : World) (good : IsGood c w) where
   remount_clean nodes s t lt same fits is knows = none_clean
 
   -- those that a freeze has cleared
-  freeze_clean : (nodes : ℕ) (s : FreezeStep) (t : ℕ) → t < c.tasks → nodes ≡ c.nodes → FreezeFits c s →
+  freeze_clean : (nodes : ℕ) (holder : Holder) (s : FreezeStep) (t : ℕ) → t < c.tasks → nodes ≡ c.nodes → FreezeFits c holder s →
       tree_roles w t ≡ freeze_tree_role nodes s → CleanBelow (clean_by (freeze_stage_role nodes s)) (marks_of w.words)
-  freeze_clean nodes (Closes d) t lt same fits is = closing_clean d.level d.step (nat_lt 1 d.level)
-  freeze_clean nodes (Cleans marks) t lt same fits is = cleared_clean marks.node (omega (arith, fits.2)) t lt is
-  freeze_clean nodes SetsFs t lt same fits is = cleared_clean nodes (omega (arith, same)) t lt is
-  freeze_clean nodes (FreezeReopens u code) t lt same fits is = reopening_clean u.level u.step
-  freeze_clean nodes s t lt same fits is = none_clean
+  freeze_clean nodes holder (Closes d) t lt same fits is = closing_clean d.level d.step (nat_lt 1 d.level)
+  freeze_clean nodes holder (Cleans marks) t lt same fits is = cleared_clean marks.node (omega (arith, fits.2)) t lt is
+  freeze_clean nodes holder SetsFs t lt same fits is = cleared_clean nodes (omega (arith, same)) t lt is
+  freeze_clean nodes holder (FreezeReopens u code) t lt same fits is = reopening_clean u.level u.step
+  freeze_clean nodes holder s t lt same fits is = none_clean
 
   thaw_clean : (s : ThawStep) → CleanBelow (clean_by (thaw_stage_role s)) (marks_of w.words)
   thaw_clean (ThawReopens u) = reopening_clean u.level u.step
@@ -215,7 +216,7 @@ module _ (c : Config) (w : World) (good : IsGood c w) where
   phase_clean t lt (Some (Freezes x)) is =
       let fits : PhaseFits c t (held_at (w.views t)) (holds_level (w.views t)) (Freezes x) =
       subst (Fits c t (held_at (w.views t)) (holds_level (w.views t))) is (good Fitting t lt) in
-      freeze_clean x.nodes x.step t lt fits.3 fits.5 (ap (tree_role_of (w.views t).trace) is)
+      freeze_clean x.nodes x.holder x.step t lt fits.3 fits.5 (ap (tree_role_of (w.views t).trace) is)
   phase_clean t lt (Some (Thaws x)) is = thaw_clean x.step
   phase_clean t lt (Some (Trees x)) is = tree_clean x
 

@@ -3,13 +3,14 @@ use Rattle.std.proofs.Common.{◌≡◌, refl, ap, ◌∙◌}
 use Rattle.finite_sums.specs.Sums.{update}
 use Rattle.finite_sums.proofs.Totals.{update_same}
 use Rattle.cpu_words.specs.declared.names.WordName.{WordName}
-use Rattle.cpu_words.specs.declared.names.WordName.TheVariants.{Umount, Stage, SbFlags, Remount, MountFlags, MountCount, Block, Sync, LevelCount, Section, Used, Node, Kids}
+use Rattle.cpu_words.specs.declared.names.WordName.TheVariants.{Umount, Stage, Holders, SbFlags, Remount, MountFlags, MountCount, Block, Sync, LevelCount, Section, Used, Node, Kids}
 use Rattle.cpu_words.specs.Words.{Words, read, put}
 
 -- a load leaves the words
 pub load_same : (w : Words) (name : WordName) → put w name (read w name) ≡ w
 load_same w Umount = refl
 load_same w Stage = refl
+load_same w Holders = refl
 load_same w SbFlags = refl
 load_same w Remount = refl
 load_same w (MountFlags m) = λ j. record w { flags = update_same w.flags m j }

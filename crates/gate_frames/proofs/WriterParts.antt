@@ -41,9 +41,11 @@ use Rattle.percpu_rwsem.specs.declared.writers.DownWriteStep.{DownWriteStep}
 use Rattle.cpu_words.specs.Hooks.{HookAnswer}
 use Rattle.access_model.specs.declared.actions.Action.{Action}
 use Rattle.access_model.specs.declared.actions.NodeInfo.{NodeInfo}
+use Rattle.access_model.specs.declared.actions.Holders.{Holders}
+use Rattle.freeze_levels.specs.Holders.{holders_in}
 use Rattle.gate_world.specs.Views.{phase_after, held_at, holds_level, added_by, taken_by}
 use Rattle.gate_world.specs.declared.work.Phase.TheVariants.{Freezes, Thaws}
-use Rattle.gate_world.specs.Rules.{Stages, Fitting, Known, Tree, AtMount, Sections, role_of, IsGood, OwnerHolds, Part, Moves, owns, remounts, StepKeeps, Holds, ViewFits, AtLevel, SyncAt, Owner}
+use Rattle.gate_world.specs.Rules.{Stages, Holding, Fitting, Known, Tree, AtMount, Sections, role_of, IsGood, OwnerHolds, Part, Moves, owns, remounts, StepKeeps, Holds, ViewFits, AtLevel, SyncAt, Owner}
 use Rattle.gate_world.specs.Worlds.{World, value_at, after_step, phase_action}
 use Rattle.percpu_rwsem.specs.declared.writers.UpWriteStep.{UpWriteStep}
 use Rattle.percpu_rwsem.specs.declared.writers.UpWrite.{UpWrite}
@@ -110,12 +112,13 @@ pub record SameAtMounts (old new : View) : Type 0 where
   pub added_same : added_by new.events ≡ added_by old.events
   pub taken_same : taken_by new.events ≡ taken_by old.events
 
--- what a state shows of the accesses, the mounts and the tree: these accesses and mounts, and this tree
-pub record LeavesRest (old new : State) (tree : ℕ → Option NodeInfo) : Type 0 where
+-- what a state shows of the accesses, the mounts, the tree and the holders: these accesses and mounts, this tree and these holders
+pub record LeavesRest (old new : State) (tree : ℕ → Option NodeInfo) (held : Holders) : Type 0 where
   pub mounts_same : new.mounts ≡ old.mounts
   pub levels_same : new.levels ≡ old.levels
   pub ro_same : new.mount_ro ≡ old.mount_ro
   pub tree_same : new.tree ≡ tree
+  pub holders_same : new.holders ≡ held
 
 -- what an action, if there is one, asks of other parts than the stage
 abbrev pub AsksWhere : Limits → State → Option Action → Type 0
@@ -135,10 +138,11 @@ module _ (c : Config) (w : World) (good : IsGood c w) (t : ℕ) (lt : t < c.task
     pub levels : LevelsHold c (left_world w t ws v)
     pub tree : Holds c (left_world w t ws v) Tree
     pub fits : ViewFits c t v
+    pub holding : Holds c (left_world w t ws v) Holding
     pub happens : IsStageEvent c w good t lt ws v kind
     pub adds : stage_action_of kind (stages_in w) ≡ action
     pub asks : AsksWhere (model_limits c) (shown c w) action
-    pub rest : LeavesRest (shown c w) (state_after (shown c w) t action) (λ n. node_shown (ws.node n))
+    pub rest : LeavesRest (shown c w) (state_after (shown c w) t action) (λ n. node_shown (ws.node n)) (holders_in ws.holders)
 
   -- each part but what the owner knows
   abbrev pub PartsHold : Type 0
@@ -148,6 +152,7 @@ module _ (c : Config) (w : World) (good : IsGood c w) (t : ℕ) (lt : t < c.task
   pub writer_parts : WriterEvent → PartsHold
   writer_parts h Owner k = h.owner
   writer_parts h Stages k = stages_after c w good t lt ws v kind h.happens
+  writer_parts h Holding k = h.holding
   writer_parts h Fitting k = λ y ly. each_updated (λ z (u : View). ViewFits c z u) w.views t v y h.fits (λ ne. good Fitting y ly)
   writer_parts h Known k = absurd (true≢false k)
   writer_parts h Tree k = h.tree
@@ -166,7 +171,7 @@ module _ (c : Config) (w : World) (good : IsGood c w) (t : ℕ) (lt : t < c.task
       shown_by c w good t lt ws v h.words.flags_same h.counts.held_same h.counts.levels_same (state_after (shown c w) t action)
       (subst (λ a. ShowsStages c.tasks ws.stage ws.sb ws.remount ws.block (update (stage_roles w) t (stage_role_of v.phase))
       (state_after (shown c w) t a)) h.adds (stage_effect c w good t lt ws v kind h.happens))
-      h.rest.mounts_same h.rest.levels_same h.rest.ro_same h.rest.tree_same
+      h.rest.mounts_same h.rest.levels_same h.rest.ro_same h.rest.holders_same h.rest.tree_same
 
 -- the shown model moves by the action
 writer_moves : (c : Config) (w : World) (good : IsGood c w) (t : ℕ) (lt : t < c.tasks) (ws : Words) (v : View) (action : Option Action)
@@ -278,7 +283,7 @@ closed_comes x level low h =
     ]
 
 -- and comes to own `umount` by taking it
-freeze_comes_to : (c : Config) (x : Freeze) (s : FreezeStep) (hook : HookAnswer) (value : ℕ) → FreezeFits c s →
+freeze_comes_to : (c : Config) (x : Freeze) (s : FreezeStep) (hook : HookAnswer) (value : ℕ) → FreezeFits c x.holder s →
     owns (phase_after (map_next Freezes (freeze_after x s (found_by (freeze_next x s hook).1 value) hook).0)) ≡ 1 →
     (stage_owns (freeze_stage_role x.nodes s) ≡ 1) ⊎ (takes_lock (event_of (freeze_next x s hook).0 (freeze_next x s hook).1 value) ≡ true)
 freeze_comes_to c x FreezeLocks hook value f h =
@@ -301,7 +306,7 @@ freeze_comes_to c x (FreezeReopens u code) hook value f h = inl (reopening_owns 
 freeze_comes_to c x s hook value f h = inl refl
 
 -- so it does an owner's work
-pub freeze_work : (c : Config) (w : World) (x : Freeze) (hook : HookAnswer) → FreezeFits c x.step → IsOwnersWork w (Freezes x) hook
+pub freeze_work : (c : Config) (w : World) (x : Freeze) (hook : HookAnswer) → FreezeFits c x.holder x.step → IsOwnersWork w (Freezes x) hook
 freeze_work c w x hook f = record {
   changes = freeze_changes x x.step hook;
   comes_to_own = freeze_comes_to c x x.step hook (value_at w.words (Freezes x) hook) f;

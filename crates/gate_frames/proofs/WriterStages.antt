@@ -5,7 +5,9 @@ use Rattle.std.specs.Prelude.{Option, Some, None}
 use Rattle.finite_sums.specs.Sums.{update}
 use Rattle.finite_sums.proofs.Totals.{update_same}
 use Rattle.access_model.specs.Actions.{after_action}
+use Rattle.access_model.specs.declared.actions.Action.{Action}
 use Rattle.access_model.specs.declared.actions.Action.TheVariants.{Stage as StageAction}
+use Rattle.freeze_levels.specs.Holders.{holders_in}
 use Rattle.cpu_words.specs.Words.{Words}
 use Rattle.gated_tree.specs.Nodes.{dirty_in}
 use Rattle.stage_laws.specs.Roles.{StageRole}
@@ -15,9 +17,9 @@ use Rattle.gate_world.specs.declared.views.View.{View}
 use Rattle.gate_world.specs.Levels.{Stand, is_frozen_whole}
 use Rattle.gate_world.specs.Shown.{shown, stage_roles}
 use Rattle.gate_world.specs.Stages.{stage_role_of}
-use Rattle.gate_world.specs.Rules.{IsGood, OwnerHolds, Holds, ViewFits, Stages, Tree}
+use Rattle.gate_world.specs.Rules.{IsGood, OwnerHolds, Holds, ViewFits, Stages, Holding, Tree}
 use Rattle.gate_world.specs.Trees.{tree_bounds, tree_of, tree_role_of, tree_roles}
-use Rattle.gate_world.specs.Configs.{IsWithin}
+use Rattle.gate_world.specs.Configs.{IsWithin, model_limits}
 use Rattle.gated_tree.specs.Roles.{TreeState, sealed_by}
 use Rattle.tree_laws.specs.Events.{Event, Opens}
 use Rattle.gate_frames.proofs.Trees.{sealed_read_only, tree_then, tree_after}
@@ -26,7 +28,7 @@ use Rattle.gate_frames.proofs.Frames.{SameLevelCounts, left_alone}
 use Rattle.gate_frames.proofs.Stages.{IsStageEvent, stages_in}
 use Rattle.gate_frames.proofs.Standing.{Stands, LevelsHold, left_world}
 use Rattle.gate_frames.proofs.StandRoles.{levels_stay}
-use Rattle.gate_frames.proofs.WriterParts.{IsWriter, SameAtMounts, LeavesRest, WriterLaw, writer_law}
+use Rattle.gate_frames.proofs.WriterParts.{IsWriter, SameAtMounts, LeavesRest, AsksWhere, WriterLaw, writer_law}
 
 -- the words that tell the stage are as they were
 pub record SameStageWords (old new : Words) : Type 0 where
@@ -54,12 +56,12 @@ module _ (c : Config) (w : World) (good : IsGood c w) (t : ℕ) (lt : t < c.task
   still_plays same = λ j. record (stages_in w) { at = (ap (update (stage_roles w) t) same ∙ update_same (stage_roles w) t) j }
 
   -- no action leaves the accesses, the mounts and the tree
-  pub none_leaves : LeavesRest (shown c w) (shown c w) (shown c w).tree
-  none_leaves = record { mounts_same = refl; levels_same = refl; ro_same = refl; tree_same = refl }
+  pub none_leaves : LeavesRest (shown c w) (shown c w) (shown c w).tree (shown c w).holders
+  none_leaves = record { mounts_same = refl; levels_same = refl; ro_same = refl; tree_same = refl; holders_same = refl }
 
   -- nor does the store of a stage touch them
-  pub stage_leaves : (n : ℕ) → LeavesRest (shown c w) (after_action (shown c w) t (StageAction n)) (shown c w).tree
-  stage_leaves n = record { mounts_same = refl; levels_same = refl; ro_same = refl; tree_same = refl }
+  pub stage_leaves : (n : ℕ) → LeavesRest (shown c w) (after_action (shown c w) t (StageAction n)) (shown c w).tree (shown c w).holders
+  stage_leaves n = record { mounts_same = refl; levels_same = refl; ro_same = refl; tree_same = refl; holders_same = refl }
 
   -- a store of the stage leaves the levels, where the file system is frozen as a whole or not as before
   pub stored_levels : (v : View) → SameLevelCounts (w.views t) v → (n : ℕ) (stand : Option Stand) →
@@ -103,8 +105,9 @@ module _ (c : Config) (w : World) (good : IsGood c w) (t : ℕ) (lt : t < c.task
         Stands (w.views t).phase stand → Stands v.phase stand →
         tree_role_of v.trace v.phase ≡ tree_role_of (w.views t).trace (w.views t).phase →
         IsStageEvent c w good t lt (record w.words { umount = n }) v kind → stage_action_of kind (stages_in w) ≡ None →
+        Holds c (left_world w t (record w.words { umount = n }) v) Holding →
         WriterLaw c w t (record w.words { umount = n }) v None
-    writer_beside n stand kind owner before after same happens adds =
+    writer_beside n stand kind owner before after same happens adds holding =
         writer_law c w good t lt (record w.words { umount = n }) v None kind (record {
           words = record { flags_same = refl; count_same = refl; remount_same = refl; sb_same = refl };
           counts = mounts;
@@ -116,6 +119,7 @@ module _ (c : Config) (w : World) (good : IsGood c w) (t : ℕ) (lt : t < c.task
               after;
           tree = left_alone c w t lt Tree (record w.words { umount = n }) v (refl, refl, refl, refl) same (good Tree);
           fits = fits;
+          holding = holding;
           happens = happens;
           adds = adds;
           asks = tt;
@@ -129,8 +133,10 @@ module _ (c : Config) (w : World) (good : IsGood c w) (t : ℕ) (lt : t < c.task
         Holds c (left_world w t (record w.words { stage = n }) v) Tree →
         IsStageEvent c w good t lt (record w.words { stage = n }) v kind →
         stage_action_of kind (stages_in w) ≡ Some (StageAction n) →
+        AsksWhere (model_limits c) (shown c w) (Some (StageAction n)) →
+        Holds c (left_world w t (record w.words { stage = n }) v) Holding →
         WriterLaw c w t (record w.words { stage = n }) v (Some (StageAction n))
-    writer_stores n kind owner hold tree happens adds =
+    writer_stores n kind owner hold tree happens adds asks holding =
         writer_law c w good t lt (record w.words { stage = n }) v (Some (StageAction n)) kind (record {
           words = record { flags_same = refl; count_same = refl; remount_same = refl; sb_same = refl };
           counts = mounts;
@@ -140,8 +146,39 @@ module _ (c : Config) (w : World) (good : IsGood c w) (t : ℕ) (lt : t < c.task
           levels = hold;
           tree = tree;
           fits = fits;
+          holding = holding;
           happens = happens;
           adds = adds;
-          asks = tt;
+          asks = asks;
           rest = stage_leaves n;
+        })
+
+    -- a store of the holders by the owner, which has to do with the levels and the tree what it had
+    pub writer_holds : (n : ℕ) (action : Action) (stand : Option Stand) (kind : StageEvent) →
+        OwnerHolds c.tasks w.words.umount w.words.remount (λ y. (update w.views t v y).phase) →
+        Stands (w.views t).phase stand → Stands v.phase stand →
+        tree_role_of v.trace v.phase ≡ tree_role_of (w.views t).trace (w.views t).phase →
+        IsStageEvent c w good t lt (record w.words { holders = n }) v kind →
+        stage_action_of kind (stages_in w) ≡ Some action →
+        AsksWhere (model_limits c) (shown c w) (Some action) →
+        LeavesRest (shown c w) (after_action (shown c w) t action) (shown c w).tree (holders_in n) →
+        Holds c (left_world w t (record w.words { holders = n }) v) Holding →
+        WriterLaw c w t (record w.words { holders = n }) v (Some action)
+    writer_holds n action stand kind owner before after same happens adds asks rest holding =
+        writer_law c w good t lt (record w.words { holders = n }) v (Some action) kind (record {
+          words = record { flags_same = refl; count_same = refl; remount_same = refl; sb_same = refl };
+          counts = mounts;
+          was = was;
+          now = now;
+          owner = owner;
+          levels = levels_stay c w good t lt (record w.words { holders = n }) v stand
+              (record { block_same = refl; level_same = refl; sync_same = refl; section_same = refl; whole_same = refl }) levels before
+              after;
+          tree = left_alone c w t lt Tree (record w.words { holders = n }) v (refl, refl, refl, refl) same (good Tree);
+          fits = fits;
+          holding = holding;
+          happens = happens;
+          adds = adds;
+          asks = asks;
+          rest = rest;
         })

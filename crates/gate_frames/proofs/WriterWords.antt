@@ -1,5 +1,5 @@
 -- Events of a down-write and of an up-write: the words that they leave, the counts, and what they add.
-use Rattle.std.proofs.Common.{◌≡◌, ℕ, ◌<◌, refl, sym, ◌∙◌, subst}
+use Rattle.std.proofs.Common.{ap, ◌≡◌, ℕ, ◌<◌, refl, sym, ◌∙◌, subst}
 use Rattle.std.specs.Prelude.{Ok, ◌==◌, if◌then◌else◌, Option, Some, None}
 use Rattle.access_model.specs.States.{State}
 use Rattle.access_model.specs.declared.actions.Action.{Action}
@@ -44,6 +44,9 @@ use Rattle.gate_world.specs.Worlds.{World}
 use Rattle.gate_frames.proofs.Frames.{left_alone}
 use Rattle.gate_frames.proofs.Keeps.{by_bool}
 use Rattle.gate_frames.proofs.Stages.{IsStageEvent, stages_in}
+use Rattle.freeze_levels.specs.Holders.{holders_in}
+use Rattle.gate_world.specs.Holders.{holder_role_of}
+use Rattle.gate_frames.proofs.Holders.{holders_stay}
 use Rattle.gate_frames.proofs.Standing.{LevelsHold, left_world}
 use Rattle.gate_frames.proofs.WriterParts.{IsBeside, IsWriter, SameAtMounts, LeavesRest, AsksWhere, WriterLaw, writer_law}
 use Rattle.gate_frames.proofs.WriterOwner.{owner_stays}
@@ -53,6 +56,7 @@ pub record IsAtLevels (old new : Words) : Type 0 where
   pub beside : IsBeside old new
   pub umount_same : new.umount ≡ old.umount
   pub stage_same : new.stage ≡ old.stage
+  pub holders_same : new.holders ≡ old.holders
   pub node_same : new.node ≡ old.node
   pub used_same : new.used ≡ old.used
   pub kids_same : new.kids ≡ old.kids
@@ -64,6 +68,7 @@ down_write_words w d (Enters Loads) = record {
   beside = record { flags_same = refl; count_same = refl; remount_same = refl; sb_same = refl };
   umount_same = refl;
   stage_same = refl;
+  holders_same = refl;
   node_same = refl;
   used_same = refl;
   kids_same = refl;
@@ -72,6 +77,7 @@ down_write_words w d (Enters (Exchanges from to)) = record {
   beside = record { flags_same = refl; count_same = refl; remount_same = refl; sb_same = refl };
   umount_same = refl;
   stage_same = refl;
+  holders_same = refl;
   node_same = refl;
   used_same = refl;
   kids_same = refl;
@@ -80,6 +86,7 @@ down_write_words w d (AwaitsSections grace) = record {
   beside = record { flags_same = refl; count_same = refl; remount_same = refl; sb_same = refl };
   umount_same = refl;
   stage_same = refl;
+  holders_same = refl;
   node_same = refl;
   used_same = refl;
   kids_same = refl;
@@ -88,6 +95,7 @@ down_write_words w d (CallsBack Loads) = record {
   beside = record { flags_same = refl; count_same = refl; remount_same = refl; sb_same = refl };
   umount_same = refl;
   stage_same = refl;
+  holders_same = refl;
   node_same = refl;
   used_same = refl;
   kids_same = refl;
@@ -96,6 +104,7 @@ down_write_words w d (CallsBack (Exchanges from to)) = record {
   beside = record { flags_same = refl; count_same = refl; remount_same = refl; sb_same = refl };
   umount_same = refl;
   stage_same = refl;
+  holders_same = refl;
   node_same = refl;
   used_same = refl;
   kids_same = refl;
@@ -104,6 +113,7 @@ down_write_words w d AwaitsPassed = record {
   beside = record { flags_same = refl; count_same = refl; remount_same = refl; sb_same = refl };
   umount_same = refl;
   stage_same = refl;
+  holders_same = refl;
   node_same = refl;
   used_same = refl;
   kids_same = refl;
@@ -112,6 +122,7 @@ down_write_words w d SetsBlock = record {
   beside = record { flags_same = refl; count_same = refl; remount_same = refl; sb_same = refl };
   umount_same = refl;
   stage_same = refl;
+  holders_same = refl;
   node_same = refl;
   used_same = refl;
   kids_same = refl;
@@ -120,6 +131,7 @@ down_write_words w d (Sums sum) = record {
   beside = record { flags_same = refl; count_same = refl; remount_same = refl; sb_same = refl };
   umount_same = refl;
   stage_same = refl;
+  holders_same = refl;
   node_same = refl;
   used_same = refl;
   kids_same = refl;
@@ -132,6 +144,7 @@ up_write_words w u ClearsBlock = record {
   beside = record { flags_same = refl; count_same = refl; remount_same = refl; sb_same = refl };
   umount_same = refl;
   stage_same = refl;
+  holders_same = refl;
   node_same = refl;
   used_same = refl;
   kids_same = refl;
@@ -140,6 +153,7 @@ up_write_words w u (Exits Loads) = record {
   beside = record { flags_same = refl; count_same = refl; remount_same = refl; sb_same = refl };
   umount_same = refl;
   stage_same = refl;
+  holders_same = refl;
   node_same = refl;
   used_same = refl;
   kids_same = refl;
@@ -148,6 +162,7 @@ up_write_words w u (Exits (Exchanges from to)) = record {
   beside = record { flags_same = refl; count_same = refl; remount_same = refl; sb_same = refl };
   umount_same = refl;
   stage_same = refl;
+  holders_same = refl;
   node_same = refl;
   used_same = refl;
   kids_same = refl;
@@ -210,12 +225,12 @@ module _ (u : UpWrite) (P : Next UpWrite → Type 0) (go : (s : UpWriteStep) →
   up_write_comes (Exits transition) found = exit_comes (transition_after on_exit transition found)
 
 -- a level that is passed leaves the accesses, the mounts and the tree
-pub pass_leaves : (s : State) (t i : ℕ) → LeavesRest s (after_action s t (Pass i)) s.tree
-pass_leaves s t i = record { mounts_same = refl; levels_same = refl; ro_same = refl; tree_same = refl }
+pub pass_leaves : (s : State) (t i : ℕ) → LeavesRest s (after_action s t (Pass i)) s.tree s.holders
+pass_leaves s t i = record { mounts_same = refl; levels_same = refl; ro_same = refl; tree_same = refl; holders_same = refl }
 
 -- so does one that is reopened
-pub reopen_leaves : (s : State) (t i : ℕ) → LeavesRest s (after_action s t (Reopen i)) s.tree
-reopen_leaves s t i = record { mounts_same = refl; levels_same = refl; ro_same = refl; tree_same = refl }
+pub reopen_leaves : (s : State) (t i : ℕ) → LeavesRest s (after_action s t (Reopen i)) s.tree s.holders
+reopen_leaves s t i = record { mounts_same = refl; levels_same = refl; ro_same = refl; tree_same = refl; holders_same = refl }
 
 -- the tree is left, where its task does there what it did
 pub tree_beside : (c : Config) (w : World) → IsGood c w → (t : ℕ) → t < c.tasks → (ws : Words) (v : View) → IsAtLevels w.words ws →
@@ -245,8 +260,9 @@ pub writer_at_level : (c : Config) (w : World) (good : IsGood c w) (t : ℕ) (lt
     SameAtMounts (w.views t) v → ViewFits c t v → owns v.phase ≡ owns (w.views t).phase → LevelsHold c (left_world w t ws v) →
     Holds c (left_world w t ws v) Tree → IsStageEvent c w good t lt ws v kind → stage_action_of kind (stages_in w) ≡ action →
     AsksWhere (model_limits c) (shown c w) action →
-    LeavesRest (shown c w) (state_after (shown c w) t action) (shown c w).tree → WriterLaw c w t ws v action
-writer_at_level c w good t lt ws v action kind was now words mounts fits own levels tree happens adds asks rest =
+    LeavesRest (shown c w) (state_after (shown c w) t action) (shown c w).tree (shown c w).holders →
+    holder_role_of v.phase ≡ holder_role_of (w.views t).phase → WriterLaw c w t ws v action
+writer_at_level c w good t lt ws v action kind was now words mounts fits own levels tree happens adds asks rest holder =
     writer_law c w good t lt ws v action kind (record {
       words = words.beside;
       counts = mounts;
@@ -256,6 +272,7 @@ writer_at_level c w good t lt ws v action kind was now words mounts fits own lev
       levels = levels;
       tree = tree;
       fits = fits;
+      holding = holders_stay c w good t lt ws v words.stage_same words.holders_same holder;
       happens = happens;
       adds = adds;
       asks = asks;
@@ -264,5 +281,6 @@ writer_at_level c w good t lt ws v action kind was now words mounts fits own lev
         levels_same = rest.levels_same;
         ro_same = rest.ro_same;
         tree_same = rest.tree_same ∙ sym (λ j n. node_shown (words.node_same j n));
+        holders_same = rest.holders_same ∙ sym (ap holders_in words.holders_same);
       };
     })

@@ -11,8 +11,8 @@ use Rattle.percpu_rwsem.specs.declared.callbacks.CallbackStep.TheVariants.{Claim
 use Rattle.percpu_rwsem.specs.declared.writers.DownWriteStep.TheVariants.{Enters, AwaitsSections as WAwaitsSections, CallsBack as WCallsBack, AwaitsPassed, SetsBlock, Sums as WSums}
 use Rattle.percpu_rwsem.specs.declared.writers.UpWriteStep.TheVariants.{ClearsBlock, Exits}
 use Rattle.write_access.specs.declared.phases.WritePhase.TheVariants.{Takes, Wants as WWants, GivesBack, Drops as WDrops, Ends}
-use Rattle.freeze_levels.specs.declared.freezes.FreezeStep.TheVariants.{Locks as FLocks, LoadsStage as FLoadsStage, LoadsSuperblock as FLoadsSuperblock, CompletesReadOnly, SetsWrite, Unlocks, Closes, LocksAgain, SetsPageFault, Cleans, SetsFs, SetsComplete, Reopens as FReopens, Releases as FReleases}
-use Rattle.freeze_levels.specs.declared.thaws.ThawStep.TheVariants.{Locks as TLocks, LoadsStage as TLoadsStage, LoadsSuperblock as TLoadsSuperblock, UnfreezesReadOnly, SetsUnfrozen, Reopens as TReopens, Releases as TReleases}
+use Rattle.freeze_levels.specs.declared.freezes.FreezeStep.TheVariants.{Locks as FLocks, LoadsStage as FLoadsStage, LoadsHolders as FLoadsHolders, Holds, LoadsSuperblock as FLoadsSuperblock, CompletesReadOnly, SetsWrite, Unlocks, Closes, LocksAgain, SetsPageFault, Cleans, SetsFs, SetsComplete, Reopens as FReopens, Releases as FReleases}
+use Rattle.freeze_levels.specs.declared.thaws.ThawStep.TheVariants.{Locks as TLocks, LoadsStage as TLoadsStage, LoadsHolders as TLoadsHolders, Leaves, LoadsSuperblock as TLoadsSuperblock, LeavesReadOnly, UnfreezesReadOnly, LeavesLast, SetsUnfrozen, Reopens as TReopens, Releases as TReleases}
 use Rattle.gated_tree.specs.declared.changes.CreateStep.TheVariants.{LoadsDirectory, LoadsNode, ChargesChild, TakesNode, RefundsChild}
 use Rattle.gated_tree.specs.declared.changes.RemoveStep.TheVariants.{LoadsFile as LoadsFileToRemove, FreesNode, RefundsBlocks as RefundsItsBlocks, RefundsChild as RefundsItsChild}
 use Rattle.gated_tree.specs.declared.growth.GrowStep.TheVariants.{LoadsFile as LoadsFileToGrow, LoadsUsed, ChargesBlocks, GrowsFile, RefundsBlocks}
@@ -24,7 +24,7 @@ use Rattle.gate_world.specs.declared.work.Phase.TheVariants.{Mounts, Remounts, D
 use Rattle.gated_tree.specs.Phases.{next as tree_next, remove_next, grow_next, move_next, mark_next, create_next, snapshot_next}
 use Rattle.write_access.specs.Phases.{next as write_next}
 use Rattle.gate_world.specs.Rules.{Tree}
-use Rattle.cpu_words.specs.declared.names.WordName.TheVariants.{Umount, Stage, SbFlags, Remount as RemountWord, MountFlags, MountCount, Block, Sync, LevelCount, Section, Used, Node, Kids}
+use Rattle.cpu_words.specs.declared.names.WordName.TheVariants.{Umount, Stage, Holders, SbFlags, Remount as RemountWord, MountFlags, MountCount, Block, Sync, LevelCount, Section, Used, Node, Kids}
 use Rattle.cpu_words.specs.declared.events.Touch.{Touch}
 use Rattle.cpu_words.specs.declared.events.Touch.TheVariants.{Load, Store, Add, Sub, Or, And, Swap, Cas}
 use Rattle.cpu_words.specs.Touches.{found_by}
@@ -159,6 +159,8 @@ write_word (Ends p) = tt
 freeze_word : (x : Freeze) (s : FreezeStep) (hook : HookAnswer) → IsNoStore (freeze_next x s hook)
 freeze_word x FLocks hook = tt
 freeze_word x FLoadsStage hook = tt
+freeze_word x FLoadsHolders hook = tt
+freeze_word x (Holds beside) hook = tt
 freeze_word x FLoadsSuperblock hook = tt
 freeze_word x CompletesReadOnly hook = tt
 freeze_word x SetsWrite hook = tt
@@ -177,10 +179,14 @@ freeze_word x (FReleases answer) hook = tt
 thaw_word : (x : Thaw) (s : ThawStep) (hook : HookAnswer) → IsNoStore (thaw_next x s hook)
 thaw_word x TLocks hook = tt
 thaw_word x TLoadsStage hook = tt
+thaw_word x TLoadsHolders hook = tt
+thaw_word x (Leaves held) hook = tt
 thaw_word x TLoadsSuperblock hook = tt
+thaw_word x LeavesReadOnly hook = tt
 thaw_word x UnfreezesReadOnly hook = tt
-thaw_word x SetsUnfrozen (Ok answer) = tt
-thaw_word x SetsUnfrozen (Err code) = tt
+thaw_word x LeavesLast (Ok answer) = tt
+thaw_word x LeavesLast (Err code) = tt
+thaw_word x SetsUnfrozen hook = tt
 thaw_word x (TReopens u) hook = up_write_word u u.step
 thaw_word x (TReleases answer) hook = tt
 
@@ -259,6 +265,7 @@ held_found (Node n) (Swap new) value none may = may
 held_found (Node n) (Cas expect put) value none may = may
 held_found Umount touch value none may = tt
 held_found Stage touch value none may = tt
+held_found Holders touch value none may = tt
 held_found SbFlags touch value none may = tt
 held_found RemountWord touch value none may = tt
 held_found (MountFlags m) touch value none may = tt

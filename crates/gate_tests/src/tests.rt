@@ -5,12 +5,13 @@ ghost use Rattle.vfs_gates.specs.TaskStates.{IsFrom};
 mod calls;
 mod decisions;
 mod granted;
+mod holders;
 mod hooks;
 mod lost;
 mod steps;
 mod threads;
 
-use access_model::GateError;
+use access_model::{GateError, Holder};
 use freeze_levels::FsHooks;
 use gate_world::Config;
 use std::sync::Wait;
@@ -27,7 +28,7 @@ fn small(tasks: u8) -> Config {
     }
 }
 
-/// A freeze of a file system.
+/// A freeze of a file system, which user space holds.
 fn freeze<R: Wait, H: FsHooks>(
     task: &mut Task,
     rt: &R,
@@ -37,10 +38,10 @@ fn freeze<R: Wait, H: FsHooks>(
     requires { IsFrom task.old gates.now }
     ensures { IsFrom task.new gates.now }
 {
-    task.freeze(rt, gates, hooks)
+    task.freeze(rt, gates, Holder::User, hooks)
 }
 
-/// A thaw of a file system.
+/// A thaw of what user space holds.
 fn thaw<R: Wait, H: FsHooks>(
     task: &mut Task,
     rt: &R,
@@ -50,7 +51,7 @@ fn thaw<R: Wait, H: FsHooks>(
     requires { IsFrom task.old gates.now }
     ensures { IsFrom task.new gates.now }
 {
-    task.thaw(rt, gates, hooks)
+    task.thaw(rt, gates, Holder::User, hooks)
 }
 
 /// Whether a task freezes a file system that agrees.

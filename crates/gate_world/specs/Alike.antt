@@ -7,6 +7,7 @@ use Rattle.gate_world.specs.declared.work.Phase.{Phase}
 use Rattle.gate_world.specs.declared.views.View.{View}
 use Rattle.gate_world.specs.Rules.{role_of, IsSteady}
 use Rattle.gate_world.specs.Stages.{stage_role_of}
+use Rattle.gate_world.specs.Holders.{holder_role_of}
 use Rattle.gate_world.specs.Worlds.{World}
 use Rattle.gate_world.specs.Levels.{level_role_of, sync_role_of, inside}
 use Rattle.gate_world.specs.declared.views.Traced.{Traced}
@@ -16,6 +17,7 @@ use Rattle.gate_world.specs.Trees.{tree_role_of}
 pub record IsAlike (p q : Option Phase) : Type 0 where
   pub steady : IsSteady p q
   pub stage_same : stage_role_of q ≡ stage_role_of p
+  pub holder_same : holder_role_of q ≡ holder_role_of p
   pub level_same : (i : ℕ) → level_role_of i q ≡ level_role_of i p
   pub sync_same : (i : ℕ) → sync_role_of i q ≡ sync_role_of i p
   pub inside_same : inside q ≡ inside p

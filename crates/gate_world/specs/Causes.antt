@@ -1,5 +1,5 @@
 -- Moments of a schedule: what stood in the world when a refusal's cause was read.
-use Rattle.std.specs.Prelude.{◌≡◌, ℕ, ◌<◌, ◌==◌, ◌||◌, ◌⊎◌, not, nat_lt, Bool, true, false, if◌then◌else◌, Option, Some, None, Err, List, [], ◌∷◌}
+use Rattle.std.specs.Prelude.{◌≡◌, ℕ, ◌<◌, ◌==◌, ◌&&◌, ◌||◌, ◌⊎◌, not, nat_lt, Bool, true, false, if◌then◌else◌, Option, Some, None, Err, List, [], ◌∷◌}
 use Rattle.finite_sums.specs.Sums.{total}
 use Rattle.access_model.specs.declared.errors.GateError.TheVariants.{Busy, ReadOnly, Invalid, NoEntry, NotDir, IsDir}
 use Rattle.mount_counts.specs.declared.phases.MountPhase.TheVariants.{Want as Wants, Drop as Drops, Change as Changes}
@@ -21,9 +21,11 @@ use Rattle.write_access.specs.declared.phases.WritePhase.TheVariants.{Takes, Wan
 use Rattle.percpu_rwsem.specs.declared.writers.DownWriteStep.{DownWriteStep}
 use Rattle.percpu_rwsem.specs.declared.writers.DownWriteStep.TheVariants.{Sums as SumsLevel}
 use Rattle.freeze_levels.specs.declared.freezes.FreezeStep.{FreezeStep}
-use Rattle.freeze_levels.specs.declared.freezes.FreezeStep.TheVariants.{LoadsStage as FreezeLoadsStage, Closes, Releases as FreezeReleases}
+use Rattle.freeze_levels.specs.declared.freezes.FreezeStep.TheVariants.{LoadsStage as FreezeLoadsStage, LoadsHolders as FreezeLoadsHolders, Closes, Releases as FreezeReleases}
 use Rattle.freeze_levels.specs.declared.thaws.ThawStep.{ThawStep}
-use Rattle.freeze_levels.specs.declared.thaws.ThawStep.TheVariants.{LoadsStage as ThawLoadsStage, Releases as ThawReleases}
+use Rattle.freeze_levels.specs.declared.thaws.ThawStep.TheVariants.{LoadsStage as ThawLoadsStage, LoadsHolders as ThawLoadsHolders, Releases as ThawReleases}
+use Rattle.access_model.specs.declared.actions.Holder.{Holder}
+use Rattle.access_model.specs.Holders.{held_by}
 use Rattle.gate_counts.specs.Gates.{counted as counted_of}
 use Rattle.gate_counts.specs.Levels.{level_as_gate}
 use Rattle.gate_world.specs.Levels.{sync_role_of, is_frozen_whole, at_level}
@@ -98,14 +100,16 @@ abbrev pub step_looks : RemountStep → Bool
 step_looks LoadsStage = true
 step_looks step = false
 
--- the same of a freeze
+-- the same of a freeze, which looks at who holds one, too
 abbrev pub freeze_looks : FreezeStep → Bool
 freeze_looks FreezeLoadsStage = true
+freeze_looks FreezeLoadsHolders = true
 freeze_looks step = false
 
 -- and of a thaw
 abbrev pub thaw_looks : ThawStep → Bool
 thaw_looks ThawLoadsStage = true
+thaw_looks ThawLoadsHolders = true
 thaw_looks step = false
 
 -- and of a snapshot
@@ -125,7 +129,7 @@ looks_at_stage (Some (Thaws x)) = thaw_looks x.step
 looks_at_stage (Some (Trees phase)) = tree_looks phase
 looks_at_stage phase = false
 
--- the world in which a task last looked at the stage
+-- the world in which a task last looked at the stage, or at who holds a freeze
 abbrev pub last_look : ℕ → List World → Option World
 last_look t [] = None
 last_look t (w ∷ earlier) = if looks_at_stage (w.views t).phase then Some w else last_look t earlier
@@ -139,6 +143,17 @@ was_frozen c (Some w) = not ((shown c w).stage == 0)
 abbrev pub was_incomplete : Config → Option World → Bool
 was_incomplete c None = false
 was_incomplete c (Some w) = not ((shown c w).stage == 4)
+
+-- it had a freeze under way there, or one that is held for this holder
+abbrev pub was_busy : Config → Holder → Option World → Bool
+was_busy c holder None = false
+was_busy c holder (Some w) =
+    not ((shown c w).stage == 0) && (not ((shown c w).stage == 4) || held_by (shown c w).holders holder)
+
+-- it had a stage other than 4 there, or none that is held for this holder
+abbrev pub was_unheld : Config → Holder → Option World → Bool
+was_unheld c holder None = false
+was_unheld c holder (Some w) = not ((shown c w).stage == 4) || not (held_by (shown c w).holders holder)
 
 -- the next event of a down-read is its load of `block`
 abbrev pub read_asks : DownReadStep → Bool
@@ -235,14 +250,14 @@ WriteHasCause c t worlds (WriteWants x) = x.step ≡ CountsDown ReadOnly → was
 WriteHasCause c t worlds (GivesBack m p refusal) = refusal ≡ ReadOnly → was_read_only c m (last_question t worlds) ≡ true
 WriteHasCause c t worlds x = Unit {0}
 
--- the same of a freeze that is refused as busy, and of a thaw that is refused as invalid: the stage was so when it looked
-abbrev pub FreezeHasCause : Config → ℕ → List World → FreezeStep → Type 0
-FreezeHasCause c t worlds (FreezeReleases answer) = answer ≡ Err Busy → was_frozen c (last_look t worlds) ≡ true
-FreezeHasCause c t worlds step = Unit {0}
+-- the same of a freeze that is refused as busy, and of a thaw that is refused as invalid: the stage, or who holds one, was so when it looked
+abbrev pub FreezeHasCause : Config → ℕ → List World → Holder → FreezeStep → Type 0
+FreezeHasCause c t worlds holder (FreezeReleases answer) = answer ≡ Err Busy → was_busy c holder (last_look t worlds) ≡ true
+FreezeHasCause c t worlds holder step = Unit {0}
 
-abbrev pub ThawHasCause : Config → ℕ → List World → ThawStep → Type 0
-ThawHasCause c t worlds (ThawReleases answer) = answer ≡ Err Invalid → was_incomplete c (last_look t worlds) ≡ true
-ThawHasCause c t worlds step = Unit {0}
+abbrev pub ThawHasCause : Config → ℕ → List World → Holder → ThawStep → Type 0
+ThawHasCause c t worlds holder (ThawReleases answer) = answer ≡ Err Invalid → was_unheld c holder (last_look t worlds) ≡ true
+ThawHasCause c t worlds holder step = Unit {0}
 
 -- the node that the next event of a call at the tree loads to see of which kind it is
 abbrev pub create_sees : Create → CreateStep → Option ℕ
@@ -311,8 +326,10 @@ TreeHasCause c t worlds phase = NodeHadCause c worlds phase
 
 -- A task whose next event is the one with which it is refused: as read-only, and the mount was so when the task last asked; as busy, and
 -- something was counted at the mount, for a remount at some mount, in some world from the load of its sum's first word to the load of its
--- last, or, for a remount or a freeze, the stage was not 0 when it looked; as invalid, for a thaw, and the stage was not 4 then; again, or with which it waits, for a level, and the level was closed when
--- the task last asked; as a node that is free, a file or a directory, and the node is so. Each kind of phase has a row of its own, so that a new one says its causes.
+-- last, or, for a remount, the stage was not 0 when it looked, or, for a freeze, another was under way or held for its holder when it last
+-- looked; as invalid, and the stage was not 4 when it last looked, or, for a thaw, none was held for its holder; again, or with which it
+-- waits, for a level, and the level was closed when the task last asked; as a node that is free, a file or a directory, and the node is so.
+-- Each kind of phase has a row of its own, so that a new one says its causes.
 abbrev pub HasCause : Config → ℕ → List World → Option Phase → Type 0
 HasCause c t worlds None = Unit {0}
 HasCause c t worlds (Some (Mounts (Wants x))) = x.step ≡ CountsDown ReadOnly → was_read_only c x.mount (last_question t worlds) ≡ true
@@ -324,8 +341,8 @@ HasCause c t worlds (Some (DownReads r)) = r.step ≡ LeavesBlocked → WasClose
 HasCause c t worlds (Some (UpReads u)) = Unit {0}
 HasCause c t worlds (Some (Callbacks b)) = Unit {0}
 HasCause c t worlds (Some (Writes x)) = WriteHasCause c t worlds x
-HasCause c t worlds (Some (Freezes x)) = FreezeHasCause c t worlds x.step
-HasCause c t worlds (Some (Thaws x)) = ThawHasCause c t worlds x.step
+HasCause c t worlds (Some (Freezes x)) = FreezeHasCause c t worlds x.holder x.step
+HasCause c t worlds (Some (Thaws x)) = ThawHasCause c t worlds x.holder x.step
 HasCause c t worlds (Some (Trees phase)) = TreeHasCause c t worlds phase
 
 -- so it is of every task, after a schedule

@@ -1,6 +1,6 @@
 -- What a phase says of its numbers and of its task's own accesses: they are accesses with which its operation may begin, as its own
 -- actions have changed them since.
-use Rattle.std.specs.Prelude.{◌≡◌, ℕ, ◌<◌, ◌≤◌, Bool, true, Option, Some, None}
+use Rattle.std.specs.Prelude.{◌≡◌, ℕ, ◌<◌, ◌≤◌, Bool, true, false, Option, Some, None}
 use Rattle.mount_counts.specs.declared.phases.MountPhase.{MountPhase}
 use Rattle.mount_counts.specs.declared.phases.MountPhase.TheVariants.{Want, Drop, Change}
 use Rattle.mount_counts.specs.declared.phases.ChangeStep.{ChangeStep}
@@ -8,6 +8,8 @@ use Rattle.mount_counts.specs.declared.phases.ChangeStep.TheVariants.{Sums}
 use Rattle.access_model.specs.declared.actions.Action.{Action}
 use Rattle.access_model.specs.declared.actions.Action.TheVariants.{Grant, Return}
 use Rattle.access_model.specs.declared.actions.Gate.TheVariants.{Mount, Level}
+use Rattle.access_model.specs.declared.actions.Holder.{Holder}
+use Rattle.access_model.specs.Holders.{held_by, with_holder, is_unheld}
 use Rattle.access_model.specs.Actions.{mounts_after, levels_after}
 use Rattle.gate_world.specs.declared.config.Config.{Config}
 use Rattle.gate_world.specs.declared.work.Phase.{Phase}
@@ -22,9 +24,9 @@ use Rattle.percpu_rwsem.specs.declared.writers.DownWriteStep.{DownWriteStep}
 use Rattle.percpu_rwsem.specs.declared.writers.DownWriteStep.TheVariants.{AwaitsSections as AwaitsReaders, Sums as SumsLevel}
 use Rattle.percpu_rwsem.specs.declared.writers.UpWrite.{UpWrite}
 use Rattle.freeze_levels.specs.declared.freezes.FreezeStep.{FreezeStep}
-use Rattle.freeze_levels.specs.declared.freezes.FreezeStep.TheVariants.{Closes, Cleans, Reopens as FreezeReopens}
+use Rattle.freeze_levels.specs.declared.freezes.FreezeStep.TheVariants.{Holds, Closes, Cleans, Reopens as FreezeReopens}
 use Rattle.freeze_levels.specs.declared.thaws.ThawStep.{ThawStep}
-use Rattle.freeze_levels.specs.declared.thaws.ThawStep.TheVariants.{Reopens as ThawReopens}
+use Rattle.freeze_levels.specs.declared.thaws.ThawStep.TheVariants.{Leaves, Reopens as ThawReopens}
 use Rattle.level_laws.specs.Operations.{KnowsCallback, KnowsDownWrite, KnowsUpWrite}
 use Rattle.write_access.specs.declared.phases.WritePhase.{WritePhase}
 use Rattle.write_access.specs.declared.phases.WritePhase.TheVariants.{Takes, Wants as WriteWants, GivesBack, Drops as WriteDrops, Ends}
@@ -77,17 +79,19 @@ DownWriteFits c d = (1 ≤ d.level) × (d.level ≤ 3) × (d.tasks ≡ c.tasks) 
 abbrev pub UpWriteFits : UpWrite → Type 0
 UpWriteFits u = (1 ≤ u.level) × (u.level ≤ 3) × KnowsUpWrite u.step
 
--- a freeze clears the marks of nodes but the root
-abbrev pub FreezeFits : Config → FreezeStep → Type 0
-FreezeFits c (Closes d) = DownWriteFits c d
-FreezeFits c (Cleans marks) = (marks.nodes ≡ c.nodes) × (1 ≤ marks.node) × (marks.node < c.nodes)
-FreezeFits c (FreezeReopens u code) = UpWriteFits u
-FreezeFits c step = Unit {0}
+-- a freeze stores its holder beside others, and clears the marks of nodes but the root
+abbrev pub FreezeFits : Config → Holder → FreezeStep → Type 0
+FreezeFits c holder (Holds beside) = held_by beside holder ≡ false
+FreezeFits c holder (Closes d) = DownWriteFits c d
+FreezeFits c holder (Cleans marks) = (marks.nodes ≡ c.nodes) × (1 ≤ marks.node) × (marks.node < c.nodes)
+FreezeFits c holder (FreezeReopens u code) = UpWriteFits u
+FreezeFits c holder step = Unit {0}
 
--- a thaw's numbers are those of its levels
-abbrev pub ThawFits : ThawStep → Type 0
-ThawFits (ThawReopens u) = UpWriteFits u
-ThawFits step = Unit {0}
+-- a thaw leaves others where its own holder is one of several, and its numbers are those of its levels
+abbrev pub ThawFits : Holder → ThawStep → Type 0
+ThawFits holder (Leaves held) = (held_by held holder ≡ true) × (is_unheld (with_holder holder false held) ≡ false)
+ThawFits holder (ThawReopens u) = UpWriteFits u
+ThawFits holder step = Unit {0}
 
 -- a write access is at level 1, has room for an access at its mount until it has one, and holds the level once it is inside
 abbrev pub WriteFits : Config → ℕ → (ℕ → ℕ) → (ℕ → Bool) → WritePhase → Type 0
@@ -118,8 +122,8 @@ PhaseFits c t held levels (Callbacks b) = (1 ≤ b.level) × (b.level ≤ 3) × 
     KnowsCallback b.step
 PhaseFits c t held levels (Writes x) = WriteFits c t held levels x
 PhaseFits c t held levels (Freezes x) = (x.task ≡ t) × (x.tasks ≡ c.tasks) × (x.processors ≡ c.processors) × (x.nodes ≡ c.nodes) ×
-    (holds_none levels ≡ true) × FreezeFits c x.step
-PhaseFits c t held levels (Thaws x) = (x.task ≡ t) × (holds_none levels ≡ true) × ThawFits x.step
+    (holds_none levels ≡ true) × FreezeFits c x.holder x.step
+PhaseFits c t held levels (Thaws x) = (x.task ≡ t) × (holds_none levels ≡ true) × ThawFits x.holder x.step
 PhaseFits c t held levels (Trees phase) = TreePhaseFits (tree_bounds c) t phase × TreeAccess c held levels phase
 
 -- the same of what a task is at; nothing is asked where no operation is under way

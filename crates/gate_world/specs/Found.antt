@@ -1,13 +1,16 @@
 -- What the events of a trace have found.
 use Rattle.std.specs.Prelude.{◌≡◌, ◌≢◌, ℕ, zero, suc, ◌%◌, ◌==◌, not, ◌&&◌, ◌||◌, Bool, true, false, if◌then◌else◌, ◌⊎◌, Option, Some, None, is_some, List, [], ◌∷◌, sum_by}
 use Rattle.cpu_words.specs.declared.names.WordName.{WordName}
-use Rattle.cpu_words.specs.declared.names.WordName.TheVariants.{Umount, Stage, SbFlags, Remount, MountFlags, MountCount, Block, Sync, LevelCount, Section, Node}
+use Rattle.cpu_words.specs.declared.names.WordName.TheVariants.{Umount, Stage, Holders, SbFlags, Remount, MountFlags, MountCount, Block, Sync, LevelCount, Section, Node}
 use Rattle.cpu_words.specs.declared.events.Touch.{Touch}
 use Rattle.cpu_words.specs.declared.events.Touch.TheVariants.{Load, Store, Add, Sub, And, Cas, Swap}
 use Rattle.cpu_words.specs.declared.events.Event.{Event}
 use Rattle.cpu_words.specs.Hooks.{HookAnswer}
 use Rattle.access_model.specs.declared.actions.Action.{Action}
 use Rattle.access_model.specs.declared.actions.Action.TheVariants.{Clean}
+use Rattle.access_model.specs.declared.actions.Holder.{Holder}
+use Rattle.access_model.specs.Holders.{held_by, with_holder, is_unheld}
+use Rattle.freeze_levels.specs.Holders.{holders_in}
 use Rattle.mount_counts.specs.Phases.{has_flag}
 use Rattle.percpu_rwsem.specs.declared.sync_word.SyncWord.{SyncWord}
 use Rattle.cpu_words.specs.Touches.{wrap_add}
@@ -130,6 +133,51 @@ says_incomplete word found = false
 -- some load found one
 abbrev pub found_incomplete : List Traced → Bool
 found_incomplete trace = some_event (λ e. is_load e.touch && says_incomplete e.word e.found) trace
+
+-- the load found that everything is frozen, which is stage 4
+abbrev pub says_complete : WordName → ℕ → Bool
+says_complete Stage found = found == 4
+says_complete word found = false
+
+-- some load found that
+abbrev pub found_complete : List Traced → Bool
+found_complete trace = some_event (λ e. is_load e.touch && says_complete e.word e.found) trace
+
+-- the load found a freeze under way, which is stage 1 to 3
+abbrev pub says_moving : WordName → ℕ → Bool
+says_moving Stage found = not (found == 0) && not (found == 4)
+says_moving word found = false
+
+-- some load found one
+abbrev pub found_moving : List Traced → Bool
+found_moving trace = some_event (λ e. is_load e.touch && says_moving e.word e.found) trace
+
+-- the load found that this one holds a freeze
+abbrev pub says_held : Holder → WordName → ℕ → Bool
+says_held holder Holders found = held_by (holders_in found) holder
+says_held holder word found = false
+
+-- some load found that
+abbrev pub found_held : Holder → List Traced → Bool
+found_held holder trace = some_event (λ e. is_load e.touch && says_held holder e.word e.found) trace
+
+-- the load found that this one holds none
+abbrev pub says_unheld : Holder → WordName → ℕ → Bool
+says_unheld holder Holders found = not (held_by (holders_in found) holder)
+says_unheld holder word found = false
+
+-- some load found that
+abbrev pub found_unheld : Holder → List Traced → Bool
+found_unheld holder trace = some_event (λ e. is_load e.touch && says_unheld holder e.word e.found) trace
+
+-- the load found that another than this one holds a freeze
+abbrev pub says_shared : Holder → WordName → ℕ → Bool
+says_shared holder Holders found = not (is_unheld (with_holder holder false (holders_in found)))
+says_shared holder word found = false
+
+-- some load found that
+abbrev pub found_shared : Holder → List Traced → Bool
+found_shared holder trace = some_event (λ e. is_load e.touch && says_shared holder e.word e.found) trace
 
 -- the event stores this stage
 abbrev pub stores_stage : ℕ → WordName → Touch → Bool

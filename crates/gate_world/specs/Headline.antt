@@ -1,5 +1,5 @@
 -- The headline: what holds of every schedule.
-use Rattle.std.specs.Prelude.{◌≡◌, ℕ, ◌%◌, ◌<◌, ◌≤◌, ◌⊎◌, Bool, false, if◌then◌else◌, Option, Some, None, Err, List, []}
+use Rattle.std.specs.Prelude.{◌≡◌, ℕ, ◌%◌, ◌<◌, ◌≤◌, ◌==◌, ◌⊎◌, Bool, false, if◌then◌else◌, Option, Some, None, Err, List, []}
 use Rattle.finite_sums.specs.Sums.{total}
 use Rattle.access_model.specs.Histories.{Done, end_of, IsLegal, IsMerge}
 use Rattle.access_model.specs.Laws.{NobodyHoldsClosed}
@@ -19,9 +19,19 @@ use Rattle.gate_world.specs.Levels.{at_level, is_frozen_whole}
 use Rattle.gate_world.specs.Views.{held_at, holds_level, HoldsAsBefore}
 use Rattle.gate_world.specs.Worlds.{World, Entry, happens, action_of, task_of, run, opening, history}
 use Rattle.stage_laws.specs.Roles.{Place, Freezing, freezes}
+use Rattle.freeze_levels.specs.Holders.{word_of}
+use Rattle.cpu_words.specs.declared.names.WordName.{WordName}
+use Rattle.cpu_words.specs.declared.names.WordName.TheVariants.{Holders}
+use Rattle.cpu_words.specs.declared.events.Touch.{Touch}
+use Rattle.cpu_words.specs.declared.events.Touch.TheVariants.{Store}
+use Rattle.gate_world.specs.declared.work.Phase.{Phase}
+use Rattle.gate_world.specs.declared.work.Phase.TheVariants.{Freezes, Thaws}
+use Rattle.gate_world.specs.declared.views.Traced.{Traced}
+use Rattle.gate_world.specs.Found.{stores_stage, newest}
+use Rattle.gate_world.specs.Owners.{last_left}
 use Rattle.gate_world.specs.Shown.{shown, stage_roles}
 use Rattle.gate_world.specs.Moments.{AllHaveMoments}
-use Rattle.gate_world.specs.Rules.{at_mount, Moves}
+use Rattle.gate_world.specs.Rules.{at_mount, owns, Moves}
 use Rattle.gate_world.specs.Courses.{course_of, IsTraced}
 use Rattle.gate_world.specs.Traces.{Tells, IsShort, most_events}
 use Rattle.gated_tree.specs.Trees.{IsSound, IsClean}
@@ -83,9 +93,41 @@ TreeIsClean c w = IsClean c.nodes (shown c w).tree
 abbrev pub FrozenTreeIsWhole : Config → World → Type 0
 FrozenTreeIsWhole c w = w.words.stage ≡ 4 → TreeIsSound c w × TreeIsClean c w
 
+-- the event stores that nobody holds a freeze
+abbrev pub stores_nobody : WordName → Touch → Bool
+stores_nobody Holders (Store value) = value == 0
+stores_nobody word touch = false
+
+-- A freeze that has just stored stage 4, and not yet its holder, or a thaw that has just stored that nobody holds a freeze, and not yet
+-- stage 0: these are two events, one right after the other.
+abbrev pub is_between : Option Phase → List Traced → Bool
+is_between (Some (Freezes x)) trace = newest (λ e. stores_stage 4 e.word e.touch) trace
+is_between (Some (Thaws x)) trace = newest (λ e. stores_nobody e.word e.touch) trace
+is_between phase trace = false
+
+-- nobody is between two such stores
+abbrev pub NobodyIsBetween : Config → World → Type 0
+NobodyIsBetween c w = (t : ℕ) → t < c.tasks → is_between (w.views t).phase (w.views t).trace ≡ false
+
+-- Who holds a freeze, and the stage: they tell of each other, but between two stores of one freeze or thaw.
+pub record HoldersAreTold (c : Config) (w : World) : Type 0 where
+  -- where some freeze is held all is frozen, and nobody is between two stores
+  pub held_where_frozen : (w.words.holders ≡ 0 → ⊥) → (w.words.stage ≡ 4) × NobodyIsBetween c w
+  -- where all is frozen, and nobody is between two stores, some freeze is held
+  pub frozen_where_held : w.words.stage ≡ 4 → NobodyIsBetween c w → w.words.holders ≡ 0 → ⊥
+  -- the word says who holds one in the shown model, and no more
+  pub as_shown : w.words.holders ≡ word_of (shown c w).holders
+  -- the owner of `umount` has the word as it last found or left it, up to its release
+  pub as_found : (t : ℕ) → t < c.tasks → owns (w.views t).phase ≡ 1 → (value : ℕ) → last_left Holders (w.views t).trace ≡ Some value →
+      w.words.holders ≡ value
+
+-- some freeze is held exactly where all is frozen
+abbrev pub HeldWhereFrozen : World → Type 0
+HeldWhereFrozen w = ((w.words.holders ≡ 0 → ⊥) → w.words.stage ≡ 4) × (w.words.stage ≡ 4 → w.words.holders ≡ 0 → ⊥)
+
 -- No lock, no remount and no hold stands: `umount` is free, `remount` is clear, and so is HOLD, which is 2, at each mount. No section is
--- under way, a level is closed only where the file system is frozen as a whole, no callback is taken, no freeze is half done, and
--- the tree is sound.
+-- under way, a level is closed only where the file system is frozen as a whole, no callback is taken, no freeze is half done, some
+-- freeze is held exactly where all is frozen, and the tree is sound.
 pub record IsAtRest (c : Config) (w : World) : Type 0 where
   pub umount_free : w.words.umount ≡ 0
   pub remount_clear : w.words.remount ≡ 0
@@ -94,6 +136,7 @@ pub record IsAtRest (c : Config) (w : World) : Type 0 where
   pub levels_open : (i : ℕ) → 1 ≤ i → i ≤ 3 → w.words.block i ≡ is_frozen_whole w.words
   pub callbacks_free : (i : ℕ) → 1 ≤ i → i ≤ 3 → IsUntaken (unpack (w.words.sync i))
   pub stage_settled : (w.words.stage ≡ 0) ⊎ (w.words.stage ≡ 4)
+  pub holders_settled : HeldWhereFrozen w
   pub tree_sound : TreeIsSound c w
 
 -- nothing is left behind: with no operation under way, none of them stands

@@ -20,12 +20,13 @@ use Rattle.write_access.specs.declared.phases.WritePhase.{WritePhase}
 use Rattle.write_access.specs.declared.phases.WritePhase.TheVariants.{Takes, Wants as WriteWants, GivesBack}
 use Rattle.percpu_rwsem.specs.declared.writers.DownWriteStep.{DownWriteStep}
 use Rattle.percpu_rwsem.specs.declared.writers.DownWriteStep.TheVariants.{Sums as SumsLevel}
+use Rattle.access_model.specs.declared.actions.Holder.{Holder}
 use Rattle.freeze_levels.specs.declared.freezes.FreezeStep.{FreezeStep}
 use Rattle.freeze_levels.specs.declared.freezes.FreezeStep.TheVariants.{Closes, Releases as FreezeReleases}
 use Rattle.freeze_levels.specs.declared.thaws.ThawStep.{ThawStep}
 use Rattle.freeze_levels.specs.declared.thaws.ThawStep.TheVariants.{Releases as ThawReleases}
 use Rattle.gate_world.specs.Worlds.{World}
-use Rattle.gate_world.specs.Causes.{last_question, was_read_only, last_look, was_frozen, was_incomplete, moments_of_sum, was_inside, was_counted, SomeWasCounted, last_asked, WasClosed}
+use Rattle.gate_world.specs.Causes.{last_question, was_read_only, last_look, was_frozen, was_busy, was_unheld, was_incomplete, moments_of_sum, was_inside, was_counted, SomeWasCounted, last_asked, WasClosed}
 use Rattle.gated_tree.specs.declared.phases.TreePhase.{TreePhase}
 use Rattle.gated_tree.specs.declared.phases.TreePhase.TheVariants.{Snapshot as Snapshots}
 use Rattle.gated_tree.specs.declared.snapshots.SnapshotStep.{SnapshotStep}
@@ -82,16 +83,16 @@ module _ (c : Config) (t : ℕ) (w : World) (earlier : List World) where
       (was_inside c i (moments_of_sum t (w ∷ earlier)) ≡ false → lead c.processors (w.words.level i) sum.words sum.total ≡ 0)
   DownWriteCause i step = Unit {0}
 
-  -- a freeze: its sum is as its down-write's, and where it is busy, the stage was not 0 when it looked
-  abbrev pub FreezeCause : FreezeStep → Type 0
-  FreezeCause (Closes d) = DownWriteCause d.level d.step
-  FreezeCause (FreezeReleases answer) = answer ≡ Err Busy → was_frozen c (last_look t (w ∷ earlier)) ≡ true
-  FreezeCause step = Unit {0}
+  -- a freeze: its sum is as its down-write's, and where it is busy, a freeze was under way or held for its holder when it looked
+  abbrev pub FreezeCause : Holder → FreezeStep → Type 0
+  FreezeCause holder (Closes d) = DownWriteCause d.level d.step
+  FreezeCause holder (FreezeReleases answer) = answer ≡ Err Busy → was_busy c holder (last_look t (w ∷ earlier)) ≡ true
+  FreezeCause holder step = Unit {0}
 
-  -- a thaw that is invalid: the stage was not 4 when it looked
-  abbrev pub ThawCause : ThawStep → Type 0
-  ThawCause (ThawReleases answer) = answer ≡ Err Invalid → was_incomplete c (last_look t (w ∷ earlier)) ≡ true
-  ThawCause step = Unit {0}
+  -- a thaw that is invalid: the stage was not 4, or no freeze held for its holder, when it looked
+  abbrev pub ThawCause : Holder → ThawStep → Type 0
+  ThawCause holder (ThawReleases answer) = answer ≡ Err Invalid → was_unheld c holder (last_look t (w ∷ earlier)) ≡ true
+  ThawCause holder step = Unit {0}
 
   -- a snapshot that is invalid, likewise
   abbrev pub SnapshotCause : SnapshotStep → Type 0
@@ -110,8 +111,8 @@ module _ (c : Config) (t : ℕ) (w : World) (earlier : List World) where
   CauseOf (Some (Remounts x)) = RemountCause x.step
   CauseOf (Some (DownReads r)) = ReadCause r.level r.step
   CauseOf (Some (Writes x)) = WriteCause x
-  CauseOf (Some (Freezes x)) = FreezeCause x.step
-  CauseOf (Some (Thaws x)) = ThawCause x.step
+  CauseOf (Some (Freezes x)) = FreezeCause x.holder x.step
+  CauseOf (Some (Thaws x)) = ThawCause x.holder x.step
   CauseOf (Some (Trees phase)) = TreeCause phase
   CauseOf phase = Unit {0}
 

@@ -2,6 +2,7 @@ pub mod Configs
 pub mod Work
 pub mod Remounts
 pub mod Stages
+pub mod Holders
 pub mod Found
 pub mod Snapshots
 pub mod Views

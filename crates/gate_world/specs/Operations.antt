@@ -1,7 +1,8 @@
 -- One row for each operation: all that is said of it apart from its events.
 use Rattle.std.specs.Prelude.{◌≡◌, ◌≢◌, ◌⊎◌, ℕ, zero, suc, ◌+◌, ◌*◌, ◌<◌, Bool, true, false, not, ◌&&◌, ◌||◌, nat_lt, if◌then◌else◌, Option, Some, None, Result, Ok, Err, List, [], ◌∷◌, ◌++◌}
 use Rattle.access_model.specs.declared.actions.Action.{Action}
-use Rattle.access_model.specs.declared.actions.Action.TheVariants.{Grant, Return, MountRo, MountRw, SbRo, SbRw, Stage as StageAction, Pass, Reopen, Create as CreateAction, Remove as RemoveAction, Grow as GrowAction, MoveTo as MoveToAction}
+use Rattle.access_model.specs.declared.actions.Action.TheVariants.{Grant, Return, MountRo, MountRw, SbRo, SbRw, Stage as StageAction, Hold, Leave, Pass, Reopen, Create as CreateAction, Remove as RemoveAction, Grow as GrowAction, MoveTo as MoveToAction}
+use Rattle.access_model.specs.declared.actions.Holder.{Holder}
 use Rattle.access_model.specs.declared.actions.Gate.TheVariants.{Mount, Level}
 use Rattle.access_model.specs.declared.errors.GateError.{GateError}
 use Rattle.access_model.specs.declared.errors.GateError.TheVariants.{Again, Busy, ReadOnly, Invalid, Hook}
@@ -66,6 +67,11 @@ use Rattle.gate_world.specs.Found.{
   finds_none_queued,
   transitions_made,
   found_incomplete,
+  found_complete,
+  found_moving,
+  found_held,
+  found_unheld,
+  found_shared,
   stored_stage,
   finds_readers,
   FoundInside,
@@ -350,64 +356,78 @@ two_levels_closed trace = cleans trace ++ (Pass 2 ∷ (StageAction 2 ∷ (Pass 1
 abbrev pub all_levels_closed : List Traced → List Action
 all_levels_closed trace = Pass 3 ∷ (StageAction 3 ∷ two_levels_closed trace)
 
--- A freeze has added all this and stage 4, or stage 4 alone where it found the superblock read-only. Where the file system failed, stage 0
--- stands in its place, and the levels that it had closed are reopened, the highest first: two, where it could not be synced, and all
--- three, where stage 3 was stored. It has added nothing where it is busy.
-abbrev pub freeze_adds : Result Reply GateError → List Traced → List Action
-freeze_adds (Ok reply) trace = StageAction 4 ∷ (if found_sealed trace then [] else all_levels_closed trace)
-freeze_adds (Err (Hook code)) trace =
+-- A freeze has added all this, stage 4 and its holder; stage 4 and its holder, where it found the superblock read-only; its holder alone,
+-- where it found all frozen. Where the file system failed, stage 0 stands in their place, and the levels that it had closed are reopened,
+-- the highest first: two, where it could not be synced, and all three, where stage 3 was stored. It has added nothing where it is busy.
+abbrev pub freeze_adds : Holder → Result Reply GateError → List Traced → List Action
+freeze_adds holder (Ok reply) trace =
+    Hold holder ∷ (
+    if found_complete trace then [] else StageAction 4 ∷ (if found_sealed trace then [] else all_levels_closed trace)
+    )
+freeze_adds holder (Err (Hook code)) trace =
     Reopen 1 ∷ (Reopen 2 ∷ (
     if stored_stage 3 trace
     then Reopen 3 ∷ (StageAction 0 ∷ all_levels_closed trace)
     else StageAction 0 ∷ two_levels_closed trace
     ))
-freeze_adds (Err refusal) trace = []
+freeze_adds holder (Err refusal) trace = []
 
--- a freeze is refused as busy where it found a stage other than 0, and by the file system where that answered so at the store of stage 0
-abbrev freeze_honest : GateError → List Traced → Type 0
-freeze_honest Busy trace = found_frozen trace ≡ true
-freeze_honest (Hook code) trace = ReadAnswer Stage (Err code) trace
-freeze_honest refusal trace = ⊥
+-- a freeze is refused as busy where it found another one under way, or its holder among those who hold one, and by the file system where
+-- that answered so at the store of stage 0
+abbrev freeze_honest : Holder → GateError → List Traced → Type 0
+freeze_honest holder Busy trace = (found_moving trace ≡ true) ⊎ (found_held holder trace ≡ true)
+freeze_honest holder (Hook code) trace = ReadAnswer Stage (Err code) trace
+freeze_honest holder refusal trace = ⊥
 
 -- it waits where it found `umount` taken, readers or a writer at the level that it closes, or all counts of a level with a sum other than 0
-abbrev freeze_row : OpRow
-freeze_row = record {
-  first = λ c t. Freezes (record { task = t; tasks = c.tasks; processors = c.processors; nodes = c.nodes; step = FreezeLocks });
+abbrev freeze_row : Holder → OpRow
+freeze_row holder = record {
+  first = λ c t. Freezes (record {
+    task = t;
+    tasks = c.tasks;
+    processors = c.processors;
+    nodes = c.nodes;
+    holder = holder;
+    step = FreezeLocks;
+  });
   in_range = λ c. true;
   in_order = λ c held levels. holds_none levels;
   within_room = λ held. true;
   waits = true;
   most_events = λ c. None;
-  actions = λ answer trace. freeze_adds answer trace;
-  IsHonest = λ c refusal trace. freeze_honest refusal trace;
+  actions = λ answer trace. freeze_adds holder answer trace;
+  IsHonest = λ c refusal trace. freeze_honest holder refusal trace;
   IsTold = λ reply trace. Unit {0};
   MayWait = λ c trace. (newest finds_taken trace ≡ true) ⊎ ((newest finds_readers trace ≡ true) ⊎ FoundInside c.processors trace);
 }
 
--- A thaw has added stage 0 and the levels reopened, the highest first, or stage 0 alone where it found the superblock read-only; nothing,
--- where it is refused.
-abbrev pub thaw_adds : Result Reply GateError → List Traced → List Action
-thaw_adds (Ok reply) trace =
-    if found_sealed trace then StageAction 0 ∷ [] else Reopen 1 ∷ (Reopen 2 ∷ (Reopen 3 ∷ (StageAction 0 ∷ [])))
-thaw_adds (Err refusal) trace = []
+-- A thaw has added that its holder left, stage 0 and the levels reopened, the highest first; that and stage 0, where it found the superblock
+-- read-only; that alone, where it found another holder beside its own; nothing, where it is refused.
+abbrev pub thaw_adds : Holder → Result Reply GateError → List Traced → List Action
+thaw_adds holder (Ok reply) trace =
+    if found_shared holder trace then Leave holder ∷ [] else
+    if found_sealed trace then StageAction 0 ∷ (Leave holder ∷ []) else
+    Reopen 1 ∷ (Reopen 2 ∷ (Reopen 3 ∷ (StageAction 0 ∷ (Leave holder ∷ []))))
+thaw_adds holder (Err refusal) trace = []
 
--- a thaw is refused as invalid where it found a stage other than 4, and by the file system where that answered so at the release
-abbrev thaw_honest : GateError → List Traced → Type 0
-thaw_honest Invalid trace = found_incomplete trace ≡ true
-thaw_honest (Hook code) trace = ReadAnswer Umount (Err code) trace
-thaw_honest refusal trace = ⊥
+-- a thaw is refused as invalid where it found a stage other than 4, or that its holder holds no freeze, and by the file system where that
+-- answered so at the release
+abbrev thaw_honest : Holder → GateError → List Traced → Type 0
+thaw_honest holder Invalid trace = (found_incomplete trace ≡ true) ⊎ (found_unheld holder trace ≡ true)
+thaw_honest holder (Hook code) trace = ReadAnswer Umount (Err code) trace
+thaw_honest holder refusal trace = ⊥
 
 -- it waits where it has found `umount` taken, and nothing else
-abbrev thaw_row : OpRow
-thaw_row = record {
-  first = λ c t. Thaws (record { task = t; step = ThawLocks });
+abbrev thaw_row : Holder → OpRow
+thaw_row holder = record {
+  first = λ c t. Thaws (record { task = t; holder = holder; step = ThawLocks });
   in_range = λ c. true;
   in_order = λ c held levels. holds_none levels;
   within_room = λ held. true;
   waits = true;
   most_events = λ c. None;
-  actions = λ answer trace. thaw_adds answer trace;
-  IsHonest = λ c refusal trace. thaw_honest refusal trace;
+  actions = λ answer trace. thaw_adds holder answer trace;
+  IsHonest = λ c refusal trace. thaw_honest holder refusal trace;
   IsTold = λ reply trace. Unit {0};
   MayWait = λ c trace. each_event finds_taken trace ≡ true;
 }
@@ -552,8 +572,8 @@ row (End i p) = end_row i p
 row (WantWrite m p) = want_write_row m p
 row (DropWrite m p) = drop_write_row m p
 row (Callback i) = callback_row i
-row FreezeOp = freeze_row
-row ThawOp = thaw_row
+row (FreezeOp holder) = freeze_row holder
+row (ThawOp holder) = thaw_row holder
 row (CreateOp d kind) = create_row d kind
 row (RemoveOp file) = file_row file (Removes (first_remove file)) is_writer 4 (RemoveAction file)
 row (GrowOp file blocks) = grow_row file blocks

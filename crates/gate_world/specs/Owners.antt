@@ -1,15 +1,16 @@
 -- What the owner of `umount` knows: each word that only an owner changes is as it last found or left it.
 use Rattle.std.specs.Prelude.{◌≡◌, ℕ, ◌==◌, ◌&&◌, Bool, true, false, if◌then◌else◌, Option, Some, None, List, [], ◌∷◌}
 use Rattle.cpu_words.specs.declared.names.WordName.{WordName}
-use Rattle.cpu_words.specs.declared.names.WordName.TheVariants.{Umount, Stage, SbFlags, Remount, MountFlags}
+use Rattle.cpu_words.specs.declared.names.WordName.TheVariants.{Umount, Stage, Holders, SbFlags, Remount, MountFlags}
 use Rattle.cpu_words.specs.declared.events.Event.{Event}
 use Rattle.cpu_words.specs.Words.{Words, read}
 use Rattle.gate_world.specs.declared.views.Traced.{Traced}
 use Rattle.gate_world.specs.Found.{is_cas}
 
--- the words that only the owner of `umount` changes: the stage, the superblock's flags, `remount`, each mount's flags
+-- the words that only the owner of `umount` changes: the stage, the holders, the superblock's flags, `remount`, each mount's flags
 abbrev pub is_owned : WordName → Bool
 is_owned Stage = true
+is_owned Holders = true
 is_owned SbFlags = true
 is_owned Remount = true
 is_owned (MountFlags m) = true
@@ -18,6 +19,7 @@ is_owned word = false
 -- they are the same, and one of these words
 abbrev pub is_owned_word : WordName → WordName → Bool
 is_owned_word Stage Stage = true
+is_owned_word Holders Holders = true
 is_owned_word SbFlags SbFlags = true
 is_owned_word Remount Remount = true
 is_owned_word (MountFlags m) (MountFlags n) = m == n

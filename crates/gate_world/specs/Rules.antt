@@ -31,9 +31,11 @@ use Rattle.gate_world.specs.Fits.{Fits}
 use Rattle.gate_world.specs.Remounts.{remount_role, remount_owns, remount_sets}
 use Rattle.gate_world.specs.Stages.{freeze_stage_role, thaw_stage_role, tree_stage_role, stage_role_of}
 use Rattle.stage_laws.specs.Roles.{owns as stage_owns, StagesHold}
+use Rattle.holder_laws.specs.Roles.{HoldersHold}
+use Rattle.gate_world.specs.Holders.{holder_role_of}
 use Rattle.gate_world.specs.Owners.{KnowsWords}
 use Rattle.gate_world.specs.Worlds.{World, after_step, phase_action}
-use Rattle.gate_world.specs.Shown.{shown, closing, stage_roles}
+use Rattle.gate_world.specs.Shown.{shown, closing, stage_roles, holder_roles}
 
 -- what a step of a want is doing at its mount, on this processor
 abbrev pub want_role : ℕ → WantStep → Role
@@ -151,6 +153,8 @@ pub data Part : Type 0 where
   Owner : Part
   -- how far a freeze has come, and the superblock's flags
   Stages : Part
+  -- who holds a freeze
+  Holding : Part
   -- each phase and its task's accesses
   Fitting : Part
   -- what the owner of `umount` has found or left is still there
@@ -190,6 +194,7 @@ marks_of words n = dirty_in (words.node n)
 abbrev pub Holds : Config → World → Part → Type 0
 Holds c w Owner = OwnerHolds c.tasks w.words.umount w.words.remount (λ t. (w.views t).phase)
 Holds c w Stages = StagesHold c.tasks w.words.stage w.words.sb w.words.remount w.words.block (stage_roles w)
+Holds c w Holding = HoldersHold c.tasks w.words.stage w.words.holders (holder_roles w)
 Holds c w Fitting = (t : ℕ) → t < c.tasks → ViewFits c t (w.views t)
 Holds c w Known = (t : ℕ) → t < c.tasks → owns (w.views t).phase ≡ 1 → KnowsWords w.words (w.views t).trace
 Holds c w Tree = TreeHolds (tree_bounds c) (tree_of w)
@@ -202,8 +207,10 @@ Holds c w Sections = SectionsAreOdd c.tasks w.words.section (λ t. (w.views t).p
 abbrev pub SameWords : Words → Words → Part → Type 0
 SameWords old new Owner = (new.umount ≡ old.umount) × (new.remount ≡ old.remount)
 SameWords old new Stages = (new.stage ≡ old.stage) × (new.sb ≡ old.sb) × (new.remount ≡ old.remount) × (new.block ≡ old.block)
+SameWords old new Holding = (new.stage ≡ old.stage) × (new.holders ≡ old.holders)
 SameWords old new Fitting = Unit {0}
-SameWords old new Known = (new.stage ≡ old.stage) × (new.sb ≡ old.sb) × (new.remount ≡ old.remount) × (new.flags ≡ old.flags)
+SameWords old new Known =
+    (new.stage ≡ old.stage) × (new.sb ≡ old.sb) × (new.remount ≡ old.remount) × (new.flags ≡ old.flags) × (new.holders ≡ old.holders)
 SameWords old new Tree = (new.used ≡ old.used) × (new.node ≡ old.node) × (new.kids ≡ old.kids) × (is_sealed new ≡ is_sealed old)
 SameWords old new (AtMount m) = (new.flags m ≡ old.flags m) × (new.remount ≡ old.remount) × (new.sb ≡ old.sb) × (new.count m ≡ old.count m)
 SameWords old new (AtLevel i) = (new.block i ≡ old.block i) × (new.level i ≡ old.level i) × (is_frozen_whole new ≡ is_frozen_whole old)
@@ -216,6 +223,7 @@ SameWords old new Sections = new.section ≡ old.section
 abbrev pub SameView : View → View → Part → Type 0
 SameView old new Owner = (owns new.phase ≡ owns old.phase) × (remounts new.phase ≡ remounts old.phase)
 SameView old new Stages = stage_role_of new.phase ≡ stage_role_of old.phase
+SameView old new Holding = holder_role_of new.phase ≡ holder_role_of old.phase
 SameView old new Fitting = (held_at new ≡ held_at old) × (holds_level new ≡ holds_level old) × (new.phase ≡ old.phase)
 SameView old new Known = (owns new.phase ≡ owns old.phase) × (new.trace ≡ old.trace)
 SameView old new Tree = tree_role_of new.trace new.phase ≡ tree_role_of old.trace old.phase

@@ -3,12 +3,15 @@ use Rattle.std.specs.Prelude.{ℕ, ◌||◌, ◌==◌, Option}
 use Rattle.access_model.specs.States.{State}
 use Rattle.mount_counts.specs.Roles.{ro_bit}
 use Rattle.gated_tree.specs.Nodes.{node_shown}
+use Rattle.freeze_levels.specs.Holders.{holders_in}
 use Rattle.gate_world.specs.declared.config.Config.{Config}
 use Rattle.gate_world.specs.declared.work.Phase.{Phase}
 use Rattle.gate_world.specs.Views.{held_at, holds_level}
 use Rattle.stage_laws.specs.Roles.{StageRole, sums}
 use Rattle.stage_laws.specs.Shown.{is_passed as passed_at_level, passed_shown}
 use Rattle.gate_world.specs.Stages.{stage_role_of}
+use Rattle.holder_laws.specs.Roles.{HolderRole}
+use Rattle.gate_world.specs.Holders.{holder_role_of}
 use Rattle.gate_world.specs.Worlds.{World}
 
 -- 1 while a phase has a level's `block` set and its sum has not been 0
@@ -18,6 +21,10 @@ closing i p = sums i (stage_role_of p)
 -- what each task is doing with the stage
 abbrev pub stage_roles : World → ℕ → StageRole
 stage_roles w t = stage_role_of (w.views t).phase
+
+-- what each task is doing with those who hold a freeze
+abbrev pub holder_roles : World → ℕ → HolderRole
+holder_roles w t = holder_role_of (w.views t).phase
 
 -- 1 where a level's `block` is set and no task is still closing it
 abbrev pub is_passed : Config → World → ℕ → ℕ
@@ -31,6 +38,7 @@ shown c w = record {
   mount_ro = λ m. ro_bit (w.words.flags m) == 1;
   sb_ro = w.words.remount == 1 || w.words.sb == 1;
   stage = w.words.stage;
+  holders = holders_in w.words.holders;
   passed = passed_shown c.tasks w.words.block (stage_roles w);
   tree = λ n. node_shown (w.words.node n);
 }

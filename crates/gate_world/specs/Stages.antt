@@ -20,6 +20,8 @@ use Rattle.freeze_levels.specs.declared.freezes.FreezeStep.{FreezeStep}
 use Rattle.freeze_levels.specs.declared.freezes.FreezeStep.TheVariants.{
   Locks as FreezeLocks,
   LoadsStage as FreezeLoadsStage,
+  LoadsHolders as FreezeLoadsHolders,
+  Holds,
   LoadsSuperblock as FreezeLoadsSuperblock,
   CompletesReadOnly,
   SetsWrite,
@@ -37,8 +39,12 @@ use Rattle.freeze_levels.specs.declared.thaws.ThawStep.{ThawStep}
 use Rattle.freeze_levels.specs.declared.thaws.ThawStep.TheVariants.{
   Locks as ThawLocks,
   LoadsStage as ThawLoadsStage,
+  LoadsHolders as ThawLoadsHolders,
+  Leaves,
   LoadsSuperblock as ThawLoadsSuperblock,
+  LeavesReadOnly,
   UnfreezesReadOnly,
+  LeavesLast,
   SetsUnfrozen,
   Reopens as ThawReopens,
   Releases as ThawReleases,
@@ -79,6 +85,8 @@ reopening_role level (Exits transition) = Reopening (level - 1)
 abbrev pub freeze_stage_role : ℕ → FreezeStep → StageRole
 freeze_stage_role nodes FreezeLocks = Aside
 freeze_stage_role nodes FreezeLoadsStage = Owning None None
+freeze_stage_role nodes FreezeLoadsHolders = Owning (Some 4) None
+freeze_stage_role nodes (Holds beside) = Owning (Some 4) None
 freeze_stage_role nodes FreezeLoadsSuperblock = Owning (Some 0) None
 freeze_stage_role nodes CompletesReadOnly = Owning (Some 0) (Some 1)
 freeze_stage_role nodes SetsWrite = Owning (Some 0) (Some 0)
@@ -96,7 +104,11 @@ freeze_stage_role nodes (FreezeReleases answer) = Owning None None
 abbrev pub thaw_stage_role : ThawStep → StageRole
 thaw_stage_role ThawLocks = Aside
 thaw_stage_role ThawLoadsStage = Owning None None
+thaw_stage_role ThawLoadsHolders = Owning (Some 4) None
+thaw_stage_role (Leaves held) = Owning (Some 4) None
 thaw_stage_role ThawLoadsSuperblock = Owning (Some 4) None
+thaw_stage_role LeavesReadOnly = Owning (Some 4) (Some 1)
+thaw_stage_role LeavesLast = Owning (Some 4) (Some 0)
 thaw_stage_role UnfreezesReadOnly = Owning (Some 4) (Some 1)
 thaw_stage_role SetsUnfrozen = Owning (Some 4) (Some 0)
 thaw_stage_role (ThawReopens u) = reopening_role u.level u.step

@@ -10,7 +10,7 @@ use crate::accesses::Accesses;
 use crate::config::Config;
 use crate::operations::Op;
 use crate::work::Phase;
-use access_model::{GateError, Kind};
+use access_model::{GateError, Holder, Kind};
 use freeze_levels::{Freeze, FreezeStep, Thaw, ThawStep};
 use gated_tree::{
     Create, CreateStep, Grow, GrowStep, Mark, MarkStep, MoveStep, MoveTo, Remove, RemoveStep,
@@ -53,8 +53,8 @@ impl Op {
             Op::WantWrite { mount, cpu } => begin_want_write(config, task, held, mount, cpu),
             Op::DropWrite { mount, cpu } => begin_drop_write(config, held, mount, cpu),
             Op::Callback { level } => begin_callback(config, level),
-            Op::Freeze => begin_freeze(config, task, held),
-            Op::Thaw => begin_thaw(config, task, held),
+            Op::Freeze { holder } => begin_freeze(config, task, held, holder),
+            Op::Thaw { holder } => begin_thaw(config, task, held, holder),
             Op::Create { dir, kind } => begin_create(config, held, dir, kind),
             Op::Remove { file } => begin_remove(config, held, file),
             Op::Grow { file, blocks } => begin_grow(config, held, file, blocks),
@@ -269,8 +269,13 @@ fn begin_callback(config: Config, level: u8) -> Result<Phase, GateError>
 }
 
 /// A freeze is not begun inside a level, which it would wait for.
-fn begin_freeze(config: Config, task: u8, held: &Accesses) -> Result<Phase, GateError>
-    ensures { result ≡ beginning config task false (mounts_held held.now) (levels_held held.now) FreezeOp }
+fn begin_freeze(
+    config: Config,
+    task: u8,
+    held: &Accesses,
+    holder: Holder,
+) -> Result<Phase, GateError>
+    ensures { result ≡ beginning config task false (mounts_held held.now) (levels_held held.now) (FreezeOp holder) }
 {
     if !held.is_in_no_level() {
         Err(GateError::Order)
@@ -280,14 +285,15 @@ fn begin_freeze(config: Config, task: u8, held: &Accesses) -> Result<Phase, Gate
             tasks: config.tasks,
             processors: config.processors,
             nodes: config.nodes,
+            holder,
             step: FreezeStep::Locks,
         }))
     }
 }
 
 /// Nor is a thaw.
-fn begin_thaw(config: Config, task: u8, held: &Accesses) -> Result<Phase, GateError>
-    ensures { result ≡ beginning config task false (mounts_held held.now) (levels_held held.now) ThawOp }
+fn begin_thaw(config: Config, task: u8, held: &Accesses, holder: Holder) -> Result<Phase, GateError>
+    ensures { result ≡ beginning config task false (mounts_held held.now) (levels_held held.now) (ThawOp holder) }
 {
     let _ = config;
     if !held.is_in_no_level() {
@@ -295,6 +301,7 @@ fn begin_thaw(config: Config, task: u8, held: &Accesses) -> Result<Phase, GateEr
     } else {
         Ok(Phase::Thaws(Thaw {
             task,
+            holder,
             step: ThawStep::Locks,
         }))
     }

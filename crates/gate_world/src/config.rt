@@ -42,6 +42,7 @@ impl Config {
         match name {
             WordName::Umount
             | WordName::Stage
+            | WordName::Holders
             | WordName::SbFlags
             | WordName::Remount
             | WordName::Used => true,

@@ -1,6 +1,6 @@
 //! The operations that a task may begin.
 
-use access_model::Kind;
+use access_model::{Holder, Kind};
 
 /// An operation. `wait` chooses the form that looks again and again; the try form answers Again in its place.
 #[derive(Clone, Copy, PartialEq, Eq, Debug)]
@@ -53,10 +53,15 @@ pub enum Op {
         level: u8,
     },
     /// `freeze_super`: closes the levels one after the other, and freezes the file system. It waits for `umount`, and for who is
-    /// inside a level.
-    Freeze,
-    /// `thaw_super`: thaws a frozen file system and reopens its levels, whoever froze it. It waits for `umount`.
-    Thaw,
+    /// inside a level. Where all is frozen already for another holder, it is held for this one, too.
+    Freeze {
+        holder: Holder,
+    },
+    /// `thaw_super`: gives a holder's freeze back, whoever froze; where no other is held, it thaws a frozen file system and reopens its
+    /// levels. It waits for `umount`.
+    Thaw {
+        holder: Holder,
+    },
     /// `vfs_create`, `vfs_mkdir`: makes a file or a directory in a directory, in the first free node.
     Create {
         dir: u8,

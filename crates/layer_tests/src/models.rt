@@ -1,6 +1,6 @@
 //! The model by its calls, and the printed names and numbers of refusals.
 
-use access_model::{Action, Gate, GateError, Kind, Model};
+use access_model::{Action, Gate, GateError, Holder, Kind, Model};
 use std::test::Fail;
 
 /// Whether a model does all these actions of a task.
@@ -34,7 +34,8 @@ fn fills_a_file(model: &mut Model) -> bool {
         && model.held_level(0, 1)
 }
 
-/// Whether a freeze waits for the writer at level 1 and for its file, and is thawed up to level 3.
+/// Whether a freeze waits for the writer at level 1 and for its file, is held by both holders, and is thawed up to level 3 once neither holds
+/// one.
 fn freezes(model: &mut Model) -> bool {
     let leave = [Action::Return(Gate::Level(1))];
     let close = [Action::Pass(1), Action::Stage(2), Action::Pass(2)];
@@ -43,6 +44,12 @@ fn freezes(model: &mut Model) -> bool {
         Action::Stage(3),
         Action::Pass(3),
         Action::Stage(4),
+        Action::Hold(Holder::Kernel),
+        Action::Hold(Holder::User),
+        Action::Leave(Holder::Kernel),
+    ];
+    let thaw = [
+        Action::Leave(Holder::User),
         Action::Stage(0),
         Action::Reopen(3),
     ];
@@ -52,6 +59,10 @@ fn freezes(model: &mut Model) -> bool {
         && does_all(model, 1, &close)
         && !model.allows(1, &Action::Stage(3))
         && does_all(model, 1, &finish)
+        && model.holds(Holder::User)
+        && !model.holds(Holder::Kernel)
+        && !model.allows(1, &Action::Stage(0))
+        && does_all(model, 1, &thaw)
         && (model.stage(), model.passed()) == (0, 2)
 }
 

@@ -11,7 +11,7 @@ use Rattle.schedule_text.specs.declared.commands.Verb.{Verb}
 use Rattle.schedule_text.specs.declared.commands.Verb.TheVariants.{Want, TryWant, Drop, Start, TryStart, End, WantWrite, DropWrite, Change, TryChange, Remount, Callback, Freeze, Thaw, Create, Remove, Grow, Move, Fault as FaultVerb, Flush, Snapshot, TrySnapshot, Step, Run}
 use Rattle.schedule_text.specs.declared.faults.Fault.{Fault}
 use Rattle.schedule_text.specs.declared.faults.Fault.TheVariants.{ConfigExpected, ConfigTwice, UnknownCommand, WrongNumberOfWords, NoSuchTask, BadNumber, BadWord, ReadFailed, WriteFailed, Refused}
-use Rattle.schedule_text.specs.Parsing.{◌>>=◌, expect, number_at, byte_at, code_at, hook_at, read_only_at, want_of, drop_of, start_of, end_of, want_write_of, drop_write_of, change_of, remount_of, callback_of, kind_at, create_of, remove_of, grow_of, move_of, fault_of, flush_of, step_of, run_of, arguments_of, task_line, alone, command_line, config_of, config_line, line_for, parsed, task_of}
+use Rattle.schedule_text.specs.Parsing.{◌>>=◌, expect, number_at, byte_at, code_at, hook_at, holder_at, holder_given, read_only_at, want_of, drop_of, start_of, end_of, want_write_of, drop_write_of, change_of, remount_of, callback_of, freeze_of, thaw_of, kind_at, create_of, remove_of, grow_of, move_of, fault_of, flush_of, step_of, run_of, arguments_of, task_line, alone, command_line, config_of, config_line, line_for, parsed, task_of}
 use Rattle.schedule_text.specs.Words.{first_word, after_word, word_count}
 use Rattle.schedule_text.specs.Commands.{verb_of, takes}
 use Rattle.schedule_text.specs.Numbers.{is_digits}
@@ -144,6 +144,26 @@ callback_own : (rest : List ℕ) → FailsByOwn (callback_of rest)
 unfolding callback_of
 callback_own rest = then_own _ _ (byte_own rest) (λ (i : ℕ). ok_own _)
 
+-- who holds a freeze
+holder_own : (text : List ℕ) → FailsByOwn (holder_at text)
+unfolding holder_at
+holder_own text = or_own _ BadWord refl
+
+-- the same, where it may be left out
+given_own : (rest : List ℕ) (words : ℕ) → FailsByOwn (holder_given rest words)
+unfolding holder_given
+given_own rest words = if_own _ _ _ (ok_own _) (holder_own rest)
+
+-- the argument of a freeze
+freeze_own : (rest : List ℕ) (words : ℕ) → FailsByOwn (freeze_of rest words)
+unfolding freeze_of
+freeze_own rest words = then_own _ _ (given_own rest words) (λ _. ok_own _)
+
+-- the argument of a thaw
+thaw_own : (rest : List ℕ) (words : ℕ) → FailsByOwn (thaw_of rest words)
+unfolding thaw_of
+thaw_own rest words = then_own _ _ (given_own rest words) (λ _. ok_own _)
+
 -- the kind of a node
 kind_own : (text : List ℕ) → FailsByOwn (kind_at text)
 unfolding kind_at
@@ -204,8 +224,8 @@ arguments_own Change rest words = change_own rest true
 arguments_own TryChange rest words = change_own rest false
 arguments_own Remount rest words = remount_own rest
 arguments_own Callback rest words = callback_own rest
-arguments_own Freeze rest words = ok_own _
-arguments_own Thaw rest words = ok_own _
+arguments_own Freeze rest words = freeze_own rest words
+arguments_own Thaw rest words = thaw_own rest words
 arguments_own Create rest words = create_own rest
 arguments_own Remove rest words = remove_own rest
 arguments_own Grow rest words = grow_own rest

@@ -4,7 +4,7 @@ use Rattle.std.specs.List.{flat_map}
 use Rattle.std.proofs.lemmas.List.{flat_map_more}
 use Rattle.std.proofs.lemmas.List.Folds.{flat_map-map}
 use Rattle.cpu_words.specs.declared.names.WordName.{WordName}
-use Rattle.cpu_words.specs.declared.names.WordName.TheVariants.{Umount, Stage, SbFlags, Remount, Used}
+use Rattle.cpu_words.specs.declared.names.WordName.TheVariants.{Umount, Stage, Holders, SbFlags, Remount, Used}
 use Rattle.mntgate.specs.Transcript.{Play, count_up, nonzero_line, mount_part, level_part, section_line, node_word_line, kids_line, tree_words_text, words_text}
 
 -- the texts of one number more
@@ -50,31 +50,31 @@ two_and_counts f g first second old mid more new i n a b h e =
     let rest = f second ++ flat_map f (map g (count_up n)) in
     one_and_counts f g second mid more new i n b h e ∙ ap (λ (l : List ℕ). l ++ rest) a ∙ assoc old (f first) rest
 
--- nine texts, one behind the other, as `words` prints them
-nine : (o a b c d e f g h i : List ℕ) →
-    ((((((((o ++ a) ++ b) ++ c) ++ d) ++ e) ++ f) ++ g) ++ h) ++ i
-    ≡ o ++ ((((a ++ (b ++ (c ++ (d ++ [])))) ++ e) ++ (f ++ (g ++ (h ++ [])))) ++ i)
-nine o a b c d e f g h i = simp (append_assoc, append-nil)
+-- ten texts, one behind the other, as `words` prints them
+ten : (o a b c d e f g h i j : List ℕ) →
+    (((((((((o ++ a) ++ b) ++ c) ++ d) ++ e) ++ f) ++ g) ++ h) ++ i) ++ j
+    ≡ o ++ ((((a ++ (b ++ (c ++ (d ++ (e ++ []))))) ++ f) ++ (g ++ (h ++ (i ++ [])))) ++ j)
+ten o a b c d e f g h i j = simp (append_assoc, append-nil)
 
--- nine texts that are printed in turn
-joined : (i h g f e d c b a o : List ℕ) (ti th tg tf te td tc tb ta : List ℕ) →
+-- ten texts that are printed in turn
+joined : (j i h g f e d c b a o : List ℕ) (tj ti th tg tf te td tc tb ta : List ℕ) → j ≡ i ++ tj →
     i ≡ h ++ ti → h ≡ g ++ th → g ≡ f ++ tg → f ≡ e ++ tf → e ≡ d ++ te → d ≡ c ++ td → c ≡ b ++ tc → b ≡ a ++ tb → a ≡ o ++ ta →
-    i ≡ ((((((((o ++ ta) ++ tb) ++ tc) ++ td) ++ te) ++ tf) ++ tg) ++ th) ++ ti
-joined i h g f e d c b a o ti th tg tf te td tc tb ta ei eh eg ef ee ed ec eb ea = cc
+    j ≡ (((((((((o ++ ta) ++ tb) ++ tc) ++ td) ++ te) ++ tf) ++ tg) ++ th) ++ ti) ++ tj
+joined j i h g f e d c b a o tj ti th tg tf te td tc tb ta ej ei eh eg ef ee ed ec eb ea = cc
 
--- what `words` prints: four words, the mounts, three levels and the sections
-pub all_words : (p : Play) (o a b c d e f g h i : List ℕ) → a ≡ o ++ nonzero_line p.world Umount → b ≡ a ++ nonzero_line p.world Stage →
-    c ≡ b ++ nonzero_line p.world SbFlags → d ≡ c ++ nonzero_line p.world Remount →
-    e ≡ d ++ flat_map (mount_part p) (count_up p.config.mounts) → f ≡ e ++ level_part p 1 → g ≡ f ++ level_part p 2 →
-    h ≡ g ++ level_part p 3 → i ≡ h ++ flat_map (section_line p) (count_up p.config.tasks) → i ≡ o ++ words_text p
+-- what `words` prints: five words, the mounts, three levels and the sections
+pub all_words : (p : Play) (o a b c d e f g h i j : List ℕ) → a ≡ o ++ nonzero_line p.world Umount → b ≡ a ++ nonzero_line p.world Stage →
+    c ≡ b ++ nonzero_line p.world Holders → d ≡ c ++ nonzero_line p.world SbFlags → e ≡ d ++ nonzero_line p.world Remount →
+    f ≡ e ++ flat_map (mount_part p) (count_up p.config.mounts) → g ≡ f ++ level_part p 1 → h ≡ g ++ level_part p 2 →
+    i ≡ h ++ level_part p 3 → j ≡ i ++ flat_map (section_line p) (count_up p.config.tasks) → j ≡ o ++ words_text p
 unfolding words_text
-all_words p o a b c d e f g h i ea eb ec ed ee ef eg eh ei =
+all_words p o a b c d e f g h i j ea eb ec ed ee ef eg eh ei ej =
     let line = nonzero_line p.world in
     let mounts = flat_map (mount_part p) (count_up p.config.mounts) in
     let sections = flat_map (section_line p) (count_up p.config.tasks) in
-    let t = nine o (line Umount) (line Stage) (line SbFlags) (line Remount) mounts (level_part p 1) (level_part p 2) (level_part p 3)
-    sections in
-    joined i h g f e d c b a o _ _ _ _ _ _ _ _ _ ei eh eg ef ee ed ec eb ea ∙ t
+    let t = ten o (line Umount) (line Stage) (line Holders) (line SbFlags) (line Remount) mounts (level_part p 1) (level_part p 2)
+    (level_part p 3) sections in
+    joined j i h g f e d c b a o _ _ _ _ _ _ _ _ _ _ ej ei eh eg ef ee ed ec eb ea ∙ t
 
 -- what `tree` prints: the blocks charged, the nodes and the children
 pub all_tree_words : (p : Play) (o a b c : List ℕ) → a ≡ o ++ nonzero_line p.world Used →

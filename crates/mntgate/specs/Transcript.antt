@@ -2,6 +2,9 @@
 -- same worlds, moved by the same entries.
 use Rattle.std.specs.Prelude.{ℕ, zero, suc, ◌+◌, ◌==◌, Bool, true, false, if◌then◌else◌, Option, Some, None, Result, Ok, Err, List, [], ◌∷◌, ◌++◌, map, take, drop}
 use Rattle.std.specs.List.{flat_map}
+use Rattle.access_model.specs.Holders.{held_by}
+use Rattle.access_model.specs.declared.actions.Holder.{Holder}
+use Rattle.access_model.specs.declared.actions.Holder.TheVariants.{Kernel, User}
 use Rattle.access_model.specs.declared.actions.NodeInfo.{NodeInfo}
 use Rattle.access_model.specs.declared.errors.GateError.{GateError}
 use Rattle.access_model.specs.declared.errors.GateError.TheVariants.{Invalid}
@@ -9,7 +12,7 @@ use Rattle.access_model.specs.States.{State}
 use Rattle.access_model.specs.Histories.{Done, end_of}
 use Rattle.cpu_words.specs.Hooks.{HookAnswer}
 use Rattle.cpu_words.specs.declared.names.WordName.{WordName}
-use Rattle.cpu_words.specs.declared.names.WordName.TheVariants.{Umount, Stage, SbFlags, Remount, MountFlags, MountCount, Block, Sync, LevelCount, Section, Used, Node, Kids}
+use Rattle.cpu_words.specs.declared.names.WordName.TheVariants.{Umount, Stage, Holders, SbFlags, Remount, MountFlags, MountCount, Block, Sync, LevelCount, Section, Used, Node, Kids}
 use Rattle.cpu_words.specs.Words.{read}
 use Rattle.gate_world.specs.declared.config.Config.{Config}
 use Rattle.gate_world.specs.Worlds.{World, Entry, Begins, Steps, happens, action_of, task_of, with_action, opening}
@@ -29,7 +32,7 @@ use Rattle.schedule_text.specs.declared.lines.Front.TheVariants.{Line as WholeLi
 use Rattle.schedule_text.specs.Commands.{failing_answer}
 use Rattle.schedule_text.specs.Lines.{front_of}
 use Rattle.schedule_text.specs.Parsing.{parsed}
-use Rattle.schedule_text.specs.Printing.{word_line, refused_line, model_line, read_only_mount_line, held_mount_line, held_level_line, node_line}
+use Rattle.schedule_text.specs.Printing.{word_line, refused_line, model_line, holder_line, read_only_mount_line, held_mount_line, held_level_line, node_line}
 use Rattle.mntgate.specs.Printing.{step_text, ended_text}
 use Rattle.mntgate.specs.Limits.{is_config}
 
@@ -87,7 +90,7 @@ section_line p t = nonzero_line p.world (Section t)
 -- `words`: each word from `umount` to the last section that isn't 0
 unfoldable pub words_text : Play → List ℕ
 words_text p =
-    words_of p (Umount ∷ Stage ∷ SbFlags ∷ Remount ∷ []) ++ flat_map (mount_part p) (count_up p.config.mounts) ++
+    words_of p (Umount ∷ Stage ∷ Holders ∷ SbFlags ∷ Remount ∷ []) ++ flat_map (mount_part p) (count_up p.config.mounts) ++
     flat_map (level_part p) (1 ∷ 2 ∷ 3 ∷ []) ++ flat_map (section_line p) (count_up p.config.tasks)
 
 -- what is printed of a node's word, and of the children charged to it
@@ -101,6 +104,19 @@ kids_line p n = nonzero_line p.world (Kids n)
 unfoldable pub tree_words_text : Play → List ℕ
 tree_words_text p =
     nonzero_line p.world Used ++ flat_map (node_word_line p) (count_up p.config.nodes) ++ flat_map (kids_line p) (count_up p.config.nodes)
+
+-- that one holds a freeze, who may
+abbrev pub when_held : Bool → Holder → List ℕ
+when_held true h = holder_line h
+when_held false h = []
+
+-- the same of a state
+abbrev pub freeze_line : State → Holder → List ℕ
+freeze_line s h = when_held (held_by s.holders h) h
+
+-- who holds a freeze
+abbrev pub freezes_text : State → List ℕ
+freezes_text s = freeze_line s Kernel ++ freeze_line s User
 
 -- that a mount is read-only, where it is
 abbrev pub when_read_only : Bool → ℕ → List ℕ
@@ -137,11 +153,11 @@ closed_line s m = when_read_only (s.mount_ro m) m
 abbrev pub tree_line : State → ℕ → List ℕ
 tree_line s n = node_text (s.tree n) n
 
--- a state: its first line, its read-only mounts, what its tasks hold, and its tree
+-- a state: its first line, who holds a freeze, its read-only mounts, what its tasks hold, and its tree
 abbrev pub state_text : Config → State → List ℕ
 state_text c s =
-    model_line s.stage s.passed s.sb_ro ++ flat_map (closed_line s) (count_up c.mounts) ++ flat_map (task_text c s) (count_up c.tasks) ++
-    flat_map (tree_line s) (count_up c.nodes)
+    model_line s.stage s.passed s.sb_ro ++ freezes_text s ++ flat_map (closed_line s) (count_up c.mounts) ++
+    flat_map (task_text c s) (count_up c.tasks) ++ flat_map (tree_line s) (count_up c.nodes)
 
 -- `model`: the state after all actions so far
 unfoldable pub model_text : Play → List ℕ

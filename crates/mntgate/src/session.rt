@@ -6,7 +6,7 @@ ghost use Rattle.access_model.specs.declared.errors.GateError.TheVariants.{Inval
 
 use crate::drivers::{Driver, Over};
 use crate::printing::{print_ended, print_step};
-use access_model::{GateError, Model};
+use access_model::{GateError, Holder, Model};
 use cpu_words::WordName;
 use gate_core::{Progress, Step};
 use gate_world::{Config, Op};
@@ -43,7 +43,7 @@ impl Session {
     ghost use Rattle.gate_world.specs.Worlds.{Begins, Steps};
     ghost use Rattle.mntgate.specs.Limits.{is_config};
     ghost use Rattle.mntgate.specs.Sessions.{ShowsPlay};
-    ghost use Rattle.mntgate.specs.Transcript.{Play, opening_play, played, used_now, begin_text, hook_answer, run_of, command_outcome, request_outcome, nonzero_line, words_text, mount_part, level_part, section_line, node_word_line, kids_line, tree_words_text, count_up, model_text, closed_line, task_text, tree_line, held_line, level_line};
+    ghost use Rattle.mntgate.specs.Transcript.{Play, opening_play, played, used_now, begin_text, hook_answer, run_of, command_outcome, request_outcome, nonzero_line, words_text, mount_part, level_part, section_line, node_word_line, kids_line, tree_words_text, count_up, model_text, freezes_text, freeze_line, closed_line, task_text, tree_line, held_line, level_line};
     ghost use Rattle.access_model.specs.Histories.{end_of};
     ghost use Rattle.cpu_words.specs.Names.{IsWord};
     ghost use Rattle.gate_world.specs.Configs.{extents_of};
@@ -191,6 +191,7 @@ impl Session {
     {
         self.print_word(WordName::Umount, out)?;
         self.print_word(WordName::Stage, out)?;
+        self.print_word(WordName::Holders, out)?;
         self.print_word(WordName::SbFlags, out)?;
         self.print_word(WordName::Remount, out)?;
         self.print_words_of_mounts(out)?;
@@ -291,9 +292,30 @@ impl Session {
     {
         let (stage, passed) = (self.model.stage(), self.model.passed());
         out.model_line(stage, passed, self.model.sb_ro())?;
+        self.print_freezes(out)?;
         self.print_closed_mounts(out)?;
         self.print_holders(out)?;
         self.print_tree(out)
+    }
+
+    /// Prints who holds a freeze.
+    fn print_freezes(&self, out: &mut Output) -> Result<(), AllocError>
+        ensures { (p : Play) → ShowsPlay self.now p →
+            OnOk result (out.new.bytes.items ≡ out.old.bytes.items ++ freezes_text (end_of p.done)) }
+    {
+        self.print_freeze(Holder::Kernel, out)?;
+        self.print_freeze(Holder::User, out)
+    }
+
+    fn print_freeze(&self, holder: Holder, out: &mut Output) -> Result<(), AllocError>
+        ensures { (p : Play) → ShowsPlay self.now p →
+            OnOk result (out.new.bytes.items ≡ out.old.bytes.items ++ freeze_line (end_of p.done) holder) }
+    {
+        if self.model.holds(holder) {
+            out.holder_line(holder)
+        } else {
+            Ok(())
+        }
     }
 
     /// Prints the mounts that are read-only.

@@ -156,7 +156,7 @@ static SECOND_LINES: [(&str, &str); 6] = [
     (
         "wrong number of words",
         "tree 0\n0 create 0\n0 snapshot 1\n0\n0 want 0\nwords x\n0 remount\n0 run sync\n0 step 1 1\n0 trystart 1 0 0\n\
-         0 callback\n0 freeze x\n0 thaw 1\n9\n9 want x\n9 remount up x\n",
+         0 callback\n0 freeze user x\n0 thaw 1 2\n9\n9 want x\n9 remount up x\n",
     ),
     (
         "no such task",
@@ -169,7 +169,7 @@ static SECOND_LINES: [(&str, &str); 6] = [
     ),
     (
         "bad word",
-        "0 create 0 fifo\n0 change 0 up\n0 run write 5\n0 remount up\n0 run write x\n",
+        "0 create 0 fifo\n0 change 0 up\n0 run write 5\n0 remount up\n0 run write x\n0 freeze x\n0 thaw 1\n",
     ),
 ];
 

@@ -4,7 +4,7 @@ use Rattle.std.specs.Prelude.{Option, Some, None, option_map, List, [], ◌∷�
 use Rattle.std.proofs.lemmas.Bool.{false≢true}
 use Rattle.finite_sums.proofs.Totals.{each_updated}
 use Rattle.access_model.specs.declared.actions.Action.{Action}
-use Rattle.access_model.specs.declared.actions.Action.TheVariants.{Grant, Return, MountRo, MountRw, SbRo, SbRw, Stage, Pass, Reopen, Create, Remove, Grow, MoveTo, Dirty, Clean}
+use Rattle.access_model.specs.declared.actions.Action.TheVariants.{Grant, Return, MountRo, MountRw, SbRo, SbRw, Stage, Hold, Leave, Pass, Reopen, Create, Remove, Grow, MoveTo, Dirty, Clean}
 use Rattle.access_model.specs.declared.actions.NodeInfo.{NodeInfo}
 use Rattle.access_model.specs.States.{Limits, State, is_dirty, IsClean}
 use Rattle.access_model.specs.Actions.{MayDo, HoldsSomeMount, marked, after_action}
@@ -55,6 +55,8 @@ module _ (l : Limits) (s : State) (t : ℕ) (lt : t < l.tasks) (nobody : NobodyH
     clean = λ e. may.0;
   }
   step (Stage (suc (suc (suc (suc (suc n)))))) may = absurd may
+  step (Hold h) may = record { shut = sealed.shut; clean = sealed.clean }
+  step (Leave h) may = record { shut = sealed.shut; clean = sealed.clean }
   step (Pass i) may = let is = may.1 in let three = may.0.1 in record { shut = λ e. absurd (omega arith); clean = sealed.clean }
   step (Reopen i) may = let is = may.1 in record { shut = λ e. absurd (omega arith); clean = sealed.clean }
   step (Create n d kind) may = changes 1 (omega arith) (omega arith) may.0.0 may.0.1 _

@@ -30,7 +30,7 @@ clean_tree (suc (suc n)) lt = absurd (omega arith)
 -- the whole is legal
 its_legal : IsLegal two_tasks thawed
 its_legal = (
-  (omega arith, inr (inr refl)),
+  (omega arith, inr (inr (refl, refl))),
   (
     (omega arith, ((omega arith, omega arith), omega arith, λ j low high. refl)),
     ((omega arith, (clean_tree, inr (refl, refl, refl))), ((omega arith, (refl, λ m lm t lt. refl)), tt)),

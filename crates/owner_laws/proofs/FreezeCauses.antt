@@ -1,6 +1,6 @@
 -- The causes of a freeze's refusal and of the sums of its levels, along a schedule.
 use Rattle.std.proofs.Common.{◌≡◌, ℕ, suc, ◌+◌, ◌-◌, ◌%◌, ◌<◌, ◌≤◌, true, false, refl, sym, ap, ◌∙◌, inl, inr, arith, add-one, true≢false}
-use Rattle.std.specs.Prelude.{nat_lt, Option, Some, None, Ok, Err, List, [], ◌∷◌, ◌==◌, not}
+use Rattle.std.specs.Prelude.{nat_lt, Option, Some, None, Ok, Err, List, [], ◌∷◌, ◌==◌, ◌&&◌, ◌||◌, not}
 use Rattle.std.proofs.lemmas.Bool.{ltb-false, ne_eqb, cases_Bool}
 use Rattle.std.proofs.lemmas.Bool.Decides.{eqb_tells}
 use Rattle.access_model.specs.declared.errors.GateError.TheVariants.{Busy}
@@ -38,7 +38,13 @@ use Rattle.percpu_rwsem.specs.declared.writers.UpWriteStep.TheVariants.{ClearsBl
 use Rattle.freeze_levels.specs.Freezes.{at_freeze, level_closed, after_closing, after_clearing, freeze_fails, after_reopening}
 use Rattle.freeze_levels.specs.declared.freezes.Freeze.{Freeze}
 use Rattle.freeze_levels.specs.declared.freezes.FreezeStep.{FreezeStep}
+use Rattle.access_model.specs.declared.actions.Holder.{Holder}
+use Rattle.access_model.specs.Holders.{held_by}
+use Rattle.freeze_levels.specs.Holders.{holders_in}
+use Rattle.owner_laws.proofs.FreezeFits.{found_cases}
 use Rattle.freeze_levels.specs.declared.freezes.FreezeStep.TheVariants.{
+  LoadsHolders,
+  Holds,
   Locks,
   LoadsStage,
   LoadsSuperblock,
@@ -54,7 +60,7 @@ use Rattle.freeze_levels.specs.declared.freezes.FreezeStep.TheVariants.{
   Reopens,
   Releases,
 }
-use Rattle.gate_world.specs.Causes.{all_inside, was_inside, words_read, moments_of_sum, looks_at_stage, was_frozen, FreezeHasCause}
+use Rattle.gate_world.specs.Causes.{all_inside, was_inside, words_read, moments_of_sum, looks_at_stage, was_busy, FreezeHasCause}
 use Rattle.gate_world.specs.Fits.{DownWriteStepFits, FreezeFits}
 use Rattle.gate_world.specs.KeptCauses.{DownWriteCause, FreezeCause, CauseOf}
 use Rattle.gate_world.specs.Rules.{IsGood, AtLevel, LevelHoldsIn}
@@ -96,6 +102,8 @@ pub freeze_counts : (w : World) (t : ℕ) (x : Freeze) (hook : HookAnswer) (s : 
     SameCounts w.words (after_step w t (Freezes (at_freeze x s)) hook).words
 freeze_counts w t x hook Locks = (refl, refl)
 freeze_counts w t x hook LoadsStage = (refl, refl)
+freeze_counts w t x hook LoadsHolders = (refl, refl)
+freeze_counts w t x hook (Holds beside) = (refl, refl)
 freeze_counts w t x hook LoadsSuperblock = (refl, refl)
 freeze_counts w t x hook CompletesReadOnly = (refl, refl)
 freeze_counts w t x hook SetsWrite = (refl, refl)
@@ -216,12 +224,12 @@ module _ (c : Config) (t : ℕ) (w next : World) (earlier : List World) (good : 
   closing_stays d SetsBlock one three e was quiet h = tt
 
   -- so does the cause of each step of a freeze
-  pub freeze_stays : (s : FreezeStep) → FreezeFits c s → (next.views t).phase ≡ Some (Freezes (at_freeze x s)) →
-      (w.views t).phase ≡ Some (Freezes (at_freeze x s)) → IsQuiet c w next → FreezeCause c t w earlier s →
-      FreezeCause c t next (w ∷ earlier) s
+  pub freeze_stays : (s : FreezeStep) → FreezeFits c x.holder s → (next.views t).phase ≡ Some (Freezes (at_freeze x s)) →
+      (w.views t).phase ≡ Some (Freezes (at_freeze x s)) → IsQuiet c w next → FreezeCause c t w earlier x.holder s →
+      FreezeCause c t next (w ∷ earlier) x.holder s
   freeze_stays (Closes d) f e was quiet h = closing_stays d d.step f.0 f.1 e was quiet h
   freeze_stays (Releases answer) f e was quiet h =
-      λ r. ap (was_frozen c) (look_skips t next (w ∷ earlier) (ap looks_at_stage e)) ∙ h r
+      λ r. ap (was_busy c x.holder) (look_skips t next (w ∷ earlier) (ap looks_at_stage e)) ∙ h r
   freeze_stays s f e was quiet h = tt
 
 -- the task that steps: what its next phase says, in the world after the event
@@ -321,40 +329,58 @@ module _ (c : Config) (t : ℕ) (w next : World) (earlier : List World) (after :
   clearing_own (Wait marks) e = tt
   clearing_own (Done answer) e = tt
 
-  -- where the stage was found other than 0, it was so when the freeze looked
-  stage_own : (w.views t).phase ≡ Some (Freezes (at_freeze x LoadsStage)) → (w.words.stage ≡ 0 → ⊥) →
+  -- where a freeze was found under way, it was so when the freeze looked
+  stage_own : (w.views t).phase ≡ Some (Freezes (at_freeze x LoadsStage)) → (w.words.stage ≡ 0 → ⊥) → (w.words.stage ≡ 4 → ⊥) →
       Own (Go (at_freeze x (Releases (Err Busy))))
-  stage_own e frozen e' r =
-      ap (was_frozen c) (look_skips t next (w ∷ earlier) (ap looks_at_stage e') ∙ look_stands t w earlier (ap looks_at_stage e)) ∙
-      ap not (ne_eqb w.words.stage 0 frozen)
+  stage_own e started unfinished e' r =
+      ap (was_busy c x.holder) (look_skips t next (w ∷ earlier) (ap looks_at_stage e') ∙ look_stands t w earlier (ap looks_at_stage e)) ∙
+      (λ j. not (ne_eqb w.words.stage 0 started j) &&
+      (not (ne_eqb w.words.stage 4 unfinished j) || held_by (holders_in w.words.holders) x.holder))
+
+  -- and where its holder was found to hold one, it was so, at stage 4
+  holder_own : (w.views t).phase ≡ Some (Freezes (at_freeze x LoadsHolders)) → w.words.stage ≡ 4 →
+      held_by (holders_in w.words.holders) x.holder ≡ true → Own (Go (at_freeze x (Releases (Err Busy))))
+  holder_own e four own e' r =
+      ap (was_busy c x.holder) (look_skips t next (w ∷ earlier) (ap looks_at_stage e') ∙ look_stands t w earlier (ap looks_at_stage e)) ∙
+      (λ j. not (four j == 0) && (not (four j == 4) || own j))
 
   -- what comes after an event has its cause
-  pub freeze_own : (hook : HookAnswer) (s : FreezeStep) → FreezeFits c s → (w.views t).phase ≡ Some (Freezes (at_freeze x s)) →
-      next.words.level ≡ w.words.level → FreezeCause c t w earlier s →
+  pub freeze_own : (hook : HookAnswer) (s : FreezeStep) → FreezeFits c x.holder s → (s ≡ LoadsHolders → w.words.stage ≡ 4) →
+      (w.views t).phase ≡ Some (Freezes (at_freeze x s)) → next.words.level ≡ w.words.level → FreezeCause c t w earlier x.holder s →
       let comes : Option Phase =
       phase_after (after_of (Freezes (at_freeze x s)) (found_at w.words (Freezes (at_freeze x s)) hook) hook).0 in
       (next.views t).phase ≡ comes → CauseOf c t next (w ∷ earlier) comes
-  freeze_own hook Locks f e same h e' = elim (eqb_tells w.words.umount 0) [ inl z ↦ rw z.0 tt | inr z ↦ rw z.0 tt ]
-  freeze_own hook LoadsStage f e same h e' =
-      elim (eqb_tells w.words.stage 0) [ inl z ↦ rw z.0 tt | inr z ↦ rw z.0 (stage_own e z.1 (rw z.0 at e')) ]
-  freeze_own hook LoadsSuperblock f e same h e' = elim (eqb_tells w.words.sb 0) [ inl z ↦ rw z.0 tt | inr z ↦ rw z.0 tt ]
-  freeze_own hook CompletesReadOnly f e same h e' = λ r. absurd (cc)
-  freeze_own hook SetsWrite f e same h e' = tt
-  freeze_own hook Unlocks f e same h e' = tt
-  freeze_own hook (Closes d) f e same h e' = closing_own d hook d.step f.0 f.1 f.4 same h e'
-  freeze_own hook LocksAgain f e same h e' = elim (eqb_tells w.words.umount 0) [ inl z ↦ rw z.0 tt | inr z ↦ rw z.0 tt ]
-  freeze_own hook SetsPageFault f e same h e' = tt
-  freeze_own hook (Cleans marks) f e same h e' = clearing_own (clear_after marks (w.words.node marks.node)).0 e'
-  freeze_own (Ok answer) SetsFs f e same h e' = tt
-  freeze_own (Err code) SetsFs f e same h e' = fails_own 2 code e'
-  freeze_own (Ok answer) SetsComplete f e same h e' = λ r. absurd (cc)
-  freeze_own (Err code) SetsComplete f e same h e' = fails_own 3 code e'
-  freeze_own hook (Reopens u code) f e same h e' =
+  freeze_own hook Locks f four e same h e' = elim (eqb_tells w.words.umount 0) [ inl z ↦ rw z.0 tt | inr z ↦ rw z.0 tt ]
+  freeze_own hook LoadsStage f four e same h e' =
+      elim (eqb_tells w.words.stage 0) [
+        | inl z ↦ rw z.0 tt
+        | inr z ↦ elim (eqb_tells w.words.stage 4) [
+          | inl q ↦ rw (z.0, q.0) tt
+          | inr q ↦ rw (z.0, q.0) (stage_own e z.1 q.1 (rw (z.0, q.0) at e'))
+        ]
+      ]
+  freeze_own hook LoadsHolders f four e same h e' =
+      found_cases x (holders_in w.words.holders) (λ s. (next.views t).phase ≡ Some (Freezes (at_freeze x s)) →
+      CauseOf c t next (w ∷ earlier) (Some (Freezes (at_freeze x s)))) (λ own. holder_own e (four refl) own) (λ other is. tt) e'
+  freeze_own hook (Holds beside) f four e same h e' = λ r. absurd (cc)
+  freeze_own hook LoadsSuperblock f four e same h e' = elim (eqb_tells w.words.sb 0) [ inl z ↦ rw z.0 tt | inr z ↦ rw z.0 tt ]
+  freeze_own hook CompletesReadOnly f four e same h e' = tt
+  freeze_own hook SetsWrite f four e same h e' = tt
+  freeze_own hook Unlocks f four e same h e' = tt
+  freeze_own hook (Closes d) f four e same h e' = closing_own d hook d.step f.0 f.1 f.4 same h e'
+  freeze_own hook LocksAgain f four e same h e' = elim (eqb_tells w.words.umount 0) [ inl z ↦ rw z.0 tt | inr z ↦ rw z.0 tt ]
+  freeze_own hook SetsPageFault f four e same h e' = tt
+  freeze_own hook (Cleans marks) f four e same h e' = clearing_own (clear_after marks (w.words.node marks.node)).0 e'
+  freeze_own (Ok answer) SetsFs f four e same h e' = tt
+  freeze_own (Err code) SetsFs f four e same h e' = fails_own 2 code e'
+  freeze_own (Ok answer) SetsComplete f four e same h e' = tt
+  freeze_own (Err code) SetsComplete f four e same h e' = fails_own 3 code e'
+  freeze_own hook (Reopens u code) f four e same h e' =
       reopening_own u.level code (up_write_after u u.step (found_at w.words (Freezes (at_freeze x (Reopens u code))) hook)).0 e'
-  freeze_own hook (Releases answer) f e same h e' = tt
+  freeze_own hook (Releases answer) f four e same h e' = tt
 
 -- the cause that is kept of a freeze says what is to be told
-pub freeze_cause_tells : (c : Config) (t : ℕ) (w : World) (earlier : List World) (s : FreezeStep) → FreezeCause c t w earlier s →
-    FreezeHasCause c t (w ∷ earlier) s
-freeze_cause_tells c t w earlier (Releases answer) h = h
-freeze_cause_tells c t w earlier s h = tt
+pub freeze_cause_tells : (c : Config) (t : ℕ) (w : World) (earlier : List World) (holder : Holder) (s : FreezeStep) →
+    FreezeCause c t w earlier holder s → FreezeHasCause c t (w ∷ earlier) holder s
+freeze_cause_tells c t w earlier holder (Releases answer) h = h
+freeze_cause_tells c t w earlier holder s h = tt

@@ -60,6 +60,8 @@ use Rattle.gated_tree.proofs.ClearedMarks.{directory_clean}
 use Rattle.gate_frames.proofs.Keeps.{by_bool}
 use Rattle.gate_frames.proofs.Trees.{shown_clean}
 use Rattle.gate_frames.proofs.Stages.{IsStageEvent, stages_in}
+use Rattle.holder_laws.specs.Roles.{Apart}
+use Rattle.gate_world.specs.Holders.{freeze_holder_role, holder_role_of}
 use Rattle.gate_frames.proofs.Standing.{Stands, LevelsHold, left_world, stand_after_closing}
 use Rattle.gate_frames.proofs.DownLevels.{down_write_levels, passes_finds_nobody, swap_finds_clear, entered_by_nobody}
 use Rattle.gate_frames.proofs.WriterParts.{LeavesRest, AsksWhere, WriterLaw, freeze_comes, down_write_comes}
@@ -150,6 +152,14 @@ swapped_role x d false h = absurd (true≢false (sym h))
 abbrev sum_kind : DownWrite → Taken → StageEvent
 sum_kind d (MoreWords sum) = Stays
 sum_kind d (Total total) = if total == 0 then Passes d.level (clean_from d.level) (nat_lt 1 d.level) else Stays
+
+-- what comes after a level is closed has nothing to do with the holders
+closed_apart : (level nodes : ℕ) → freeze_holder_role (level_closed level nodes) ≡ Apart
+closed_apart level nodes =
+    elim (eqb_tells level 1) [
+      | inl h ↦ rw h.0 refl
+      | inr h ↦ elim (eqb_tells level 2) [ inl k ↦ rw (h.0, k.0) refl | inr k ↦ rw (h.0, k.0) refl ]
+    ]
 
 module _ (c : Config) (lim : IsWithin c) (w : World) (good : IsGood c w) (t : ℕ) (lt : t < c.tasks) (x : Freeze) (hook : HookAnswer) where
   -- the root is clean
@@ -287,8 +297,10 @@ module _ (c : Config) (lim : IsWithin c) (w : World) (good : IsGood c w) (t : �
           taken_same = (down_write_counts_none d d.step (taken_by (w.views t).events)).1;
         })
         fits_then (owns_then ∙ sym (ap owns e)) levels_then tree_left happens adds asks
-        (down_write_adds d (λ a. LeavesRest (shown c w) (state_after (shown c w) t a) (shown c w).tree) (none_leaves c w good t lt)
-        (pass_leaves (shown c w) t d.level) d.step found_here)
+        (down_write_adds d (λ a. LeavesRest (shown c w) (state_after (shown c w) t a) (shown c w).tree (shown c w).holders)
+        (none_leaves c w good t lt) (pass_leaves (shown c w) t d.level) d.step found_here)
+        (down_write_comes d (λ n. holder_role_of (phase_after (map_next Freezes (after_closing x d.level n))) ≡ Apart) (λ s. refl) (λ s. refl)
+        (closed_apart d.level x.nodes) d.step found_here ∙ sym (ap holder_role_of e))
 
     -- an event about other words than the stage's, after which it is at the same place
     closing_stays : (words_then.block ≡ w.words.block) → (p : Place) → place_of d.step ≡ p → IsAtPlace d p next_here →

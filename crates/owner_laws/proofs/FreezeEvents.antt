@@ -26,7 +26,7 @@ use Rattle.gate_world.specs.Trees.{tree_bounds, tree_of, tree_role_of, freeze_tr
 use Rattle.gate_frames.proofs.Trees.{tree_after, nobody_reads}
 use Rattle.freeze_levels.specs.declared.freezes.Freeze.{Freeze}
 use Rattle.freeze_levels.specs.declared.freezes.FreezeStep.{FreezeStep}
-use Rattle.freeze_levels.specs.declared.freezes.FreezeStep.TheVariants.{Locks, LoadsStage, LoadsSuperblock, CompletesReadOnly, SetsWrite, Unlocks, Closes, LocksAgain, SetsPageFault, Cleans, SetsFs, SetsComplete, Reopens, Releases}
+use Rattle.freeze_levels.specs.declared.freezes.FreezeStep.TheVariants.{Locks, LoadsStage, LoadsHolders, Holds as StoresHolder, LoadsSuperblock, CompletesReadOnly, SetsWrite, Unlocks, Closes, LocksAgain, SetsPageFault, Cleans, SetsFs, SetsComplete, Reopens, Releases}
 use Rattle.freeze_levels.specs.Freezes.{at_freeze, after_reopening, freeze_fails}
 use Rattle.freeze_levels.specs.Levels.{reopening}
 use Rattle.access_model.specs.declared.errors.GateError.TheVariants.{Hook}
@@ -55,6 +55,9 @@ use Rattle.gate_world.specs.Stages.{freeze_stage_role, stage_role_of}
 use Rattle.gate_world.specs.Views.{held_at, holds_level, phase_after, actions_after, view_with, added_by, taken_by}
 use Rattle.gate_world.specs.Worlds.{World}
 use Rattle.gate_frames.proofs.Stages.{IsStageEvent, stages_in}
+use Rattle.holder_laws.specs.Roles.{Apart}
+use Rattle.gate_world.specs.Holders.{freeze_holder_role, holder_role_of}
+use Rattle.gate_frames.proofs.Holders.{holders_stay}
 use Rattle.gate_frames.proofs.Standing.{Stands, LevelsHold, left_world, stand_after_opening, still_closed}
 use Rattle.gate_frames.proofs.StandRoles.{levels_stay}
 use Rattle.gate_frames.proofs.UpLevels.{up_write_levels}
@@ -63,7 +66,7 @@ use Rattle.gate_frames.proofs.WriterOwner.{owner_stays}
 use Rattle.gate_frames.proofs.WriterStages.{still_plays, none_leaves}
 use Rattle.gate_frames.proofs.WriterWords.{tree_beside, up_write_comes, up_write_words, up_write_counts_none, up_write_adds, reopen_leaves, writer_at_level}
 use Rattle.owner_laws.proofs.FreezeFits.{freeze_goes}
-use Rattle.owner_laws.proofs.FreezeStages.{freeze_stands, IsHere, Keeps, FitsHere, here_fits, here_knows, here_stands, here_tree, here_writes, goes_to, view_at, locks, loads_stage, loads_superblock, completes_read_only, sets_write, unlocks, locks_again, sets_page_fault, sets_fs, sets_complete, releases}
+use Rattle.owner_laws.proofs.FreezeStages.{loads_holders, holds, freeze_stands, IsHere, Keeps, FitsHere, here_fits, here_knows, here_stands, here_tree, here_writes, goes_to, view_at, locks, loads_stage, loads_superblock, completes_read_only, sets_write, unlocks, locks_again, sets_page_fault, sets_fs, sets_complete, releases}
 use Rattle.owner_laws.proofs.FreezeCloses.{closes}
 
 -- what a freeze that failed does with the stage, with these levels still to be reopened
@@ -82,6 +85,10 @@ fails_stands x level code =
 fails_tree : (x : Freeze) (level code : ℕ) → freeze_tree_role x.nodes (freeze_fails level code) ≡ OffTree
 fails_tree x level code = elim (eqb_tells level 0) [ inl q ↦ rw q.0 refl | inr q ↦ rw q.0 refl ]
 
+-- nor with the holders
+fails_apart : (level code : ℕ) → freeze_holder_role (freeze_fails level code) ≡ Apart
+fails_apart level code = elim (eqb_tells level 0) [ inl q ↦ rw q.0 refl | inr q ↦ rw q.0 refl ]
+
 -- the event of the stage that comes with the last event of a transition: after that of level 1 the owner relies on nothing
 abbrev fails_kind : ℕ → StageEvent
 fails_kind level = if level == 0 then Recalls (Reopening level) (Owning None None) else Stays
@@ -94,10 +101,10 @@ exit_kind level (Made state) = fails_kind level
 
 module _ (c : Config) (lim : IsWithin c) (w : World) (good : IsGood c w) (t : ℕ) (lt : t < c.tasks) (x : Freeze) (hook : HookAnswer) where
   -- the clearing of a node's mark, after which this step comes
-  module _ (marks : ClearMarks) (e : IsHere c lim w good t lt x (Cleans marks)) (s : FreezeStep) (fit : FreezeFits c s)
+  module _ (marks : ClearMarks) (e : IsHere c lim w good t lt x (Cleans marks)) (s : FreezeStep) (fit : FreezeFits c x.holder s)
       (role : freeze_stage_role x.nodes s ≡ Freezing 2 (HasPassed (suc marks.node)) true)
       (past : freeze_tree_role x.nodes s ≡ Clearing (suc marks.node))
-      (stand : freeze_stand s ≡ Some (closed_to 2)) where
+      (stand : freeze_stand s ≡ Some (closed_to 2)) (holder : freeze_holder_role s ≡ Apart) where
     -- the node's word
     abbrev node_word : ℕ
     node_word = w.words.node marks.node
@@ -143,7 +150,7 @@ module _ (c : Config) (lim : IsWithin c) (w : World) (good : IsGood c w) (t : �
     -- so it keeps the rule
     node_law : (action : Option Action) → SameAtMounts (w.views t) (cleared_view action) → ViewFits c t (cleared_view action) →
         cleaned marks.node (dirty_in node_word) ≡ action → AsksWhere (model_limits c) (shown c w) action →
-        LeavesRest (shown c w) (state_after (shown c w) t action) (λ n. node_shown (cleared_words.node n)) →
+        LeavesRest (shown c w) (state_after (shown c w) t action) (λ n. node_shown (cleared_words.node n)) (shown c w).holders →
         Event (tree_bounds c) (tree_of w) t cleared_tree action →
         WriterLaw c w t cleared_words (cleared_view action) action
     node_law action mounts fits adds asks rest event =
@@ -163,6 +170,7 @@ module _ (c : Config) (lim : IsWithin c) (w : World) (good : IsGood c w) (t : �
               (subst (Stands (Some (Freezes (at_freeze x s)))) stand (freeze_stands (at_freeze x s)));
           tree = tree_cleared action event;
           fits = fits;
+          holding = holders_stay c w good t lt cleared_words v refl refl (holder ∙ sym (ap holder_role_of e));
           happens = mark_happens action;
           adds = adds;
           asks = asks;
@@ -187,6 +195,7 @@ module _ (c : Config) (lim : IsWithin c) (w : World) (good : IsGood c w) (t : �
           ro_same = refl;
           tree_same = sym (update_map node_shown w.words.node marks.node (without_mark node_word) ∙
               ap (update (λ n. node_shown (w.words.node n)) marks.node) after.1);
+          holders_same = refl;
         })
         (Clears marks.node (inr (nobody_reads c w good not_frozen)) (here_tree c lim w good t lt x (Cleans marks) e) f.5.2 set)
 
@@ -203,6 +212,7 @@ module _ (c : Config) (lim : IsWithin c) (w : World) (good : IsGood c w) (t : �
           tree_same = sym ((λ j n. node_shown (update w.words.node marks.node
               (clean_stays node_word node_there clean j) n)) ∙
               (λ j n. node_shown (update_same w.words.node marks.node j n)));
+          holders_same = refl;
         })
         (Passes marks.node (here_tree c lim w good t lt x (Cleans marks) e) f.5.2 clean)
 
@@ -217,18 +227,18 @@ module _ (c : Config) (lim : IsWithin c) (w : World) (good : IsGood c w) (t : �
       let further : freeze_tree_role x.nodes more ≡ Clearing (suc marks.node) = ap Clearing (omega arith) in
       elim (cases_Bool (nat_lt (marks.node + 1) marks.nodes)) [
         | inl h ↦
-            let fit : FreezeFits c more = (f.5.0, omega arith, omega (arith, f.5.0, ltb-true (marks.node + 1) marks.nodes h)) in
+            let fit : FreezeFits c x.holder more = (f.5.0, omega arith, omega (arith, f.5.0, ltb-true (marks.node + 1) marks.nodes h)) in
             elim (eqb_tells (dirty_in word) 1) [
-              | inl k ↦ rw (h, k.0) (clears_set marks e more fit next further refl k.1)
-              | inr k ↦ rw (h, k.0) (clears_clean marks e more fit next further refl (omega (arith, k.1)))
+              | inl k ↦ rw (h, k.0) (clears_set marks e more fit next further refl refl k.1)
+              | inr k ↦ rw (h, k.0) (clears_clean marks e more fit next further refl refl (omega (arith, k.1)))
             ]
         | inr h ↦
             let all : x.nodes ≡ suc marks.node = omega (arith, f.3, f.5.0, f.5.2, ltb-false (marks.node + 1) marks.nodes h) in
             let last : freeze_stage_role x.nodes SetsFs ≡ Freezing 2 (HasPassed (suc marks.node)) true =
             ap (λ n. Freezing 2 (HasPassed n) true) all in
             elim (eqb_tells (dirty_in word) 1) [
-              | inl k ↦ rw (h, k.0) (clears_set marks e SetsFs tt last (ap Clearing all) refl k.1)
-              | inr k ↦ rw (h, k.0) (clears_clean marks e SetsFs tt last (ap Clearing all) refl (omega (arith, k.1)))
+              | inl k ↦ rw (h, k.0) (clears_set marks e SetsFs tt last (ap Clearing all) refl refl k.1)
+              | inr k ↦ rw (h, k.0) (clears_clean marks e SetsFs tt last (ap Clearing all) refl refl (omega (arith, k.1)))
             ]
       ]
 
@@ -324,8 +334,10 @@ module _ (c : Config) (lim : IsWithin c) (w : World) (good : IsGood c w) (t : �
         })
         fits_then (owns_then ∙ sym (ap owns e ∙ reopening_owns u.level u.step)) levels_then tree_left happens adds
         (up_write_adds u (λ a. AsksWhere (model_limits c) (shown c w) a) tt tt u.step found_here)
-        (up_write_adds u (λ a. LeavesRest (shown c w) (state_after (shown c w) t a) (shown c w).tree) (none_leaves c w good t lt)
-        (reopen_leaves (shown c w) t u.level) u.step found_here)
+        (up_write_adds u (λ a. LeavesRest (shown c w) (state_after (shown c w) t a) (shown c w).tree (shown c w).holders)
+        (none_leaves c w good t lt) (reopen_leaves (shown c w) t u.level) u.step found_here)
+        (up_write_comes u (λ n. holder_role_of (phase_after (map_next Freezes (after_reopening x u.level code n))) ≡ Apart) (λ s. refl)
+        (fails_apart (u.level - 1) code) u.step found_here ∙ sym (ap holder_role_of e))
 
   -- its store opens the level
   clears_block : (u : UpWrite) (code : ℕ) → IsHere c lim w good t lt x (Reopens (record u { step = ClearsBlock }) code) →
@@ -394,6 +406,8 @@ freeze_event : (c : Config) (lim : IsWithin c) (w : World) (good : IsGood c w) (
     (s : FreezeStep) → IsHere c lim w good t lt x s → Keeps c lim w good t lt x hook s
 freeze_event c lim w good t lt x hook Locks e = locks c lim w good t lt x hook e
 freeze_event c lim w good t lt x hook LoadsStage e = loads_stage c lim w good t lt x hook e
+freeze_event c lim w good t lt x hook LoadsHolders e = loads_holders c lim w good t lt x hook e
+freeze_event c lim w good t lt x hook (StoresHolder beside) e = holds c lim w good t lt x hook beside e
 freeze_event c lim w good t lt x hook LoadsSuperblock e = loads_superblock c lim w good t lt x hook e
 freeze_event c lim w good t lt x hook CompletesReadOnly e = completes_read_only c lim w good t lt x hook e
 freeze_event c lim w good t lt x hook SetsWrite e = sets_write c lim w good t lt x hook e

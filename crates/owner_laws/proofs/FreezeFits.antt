@@ -35,6 +35,7 @@ use Rattle.percpu_rwsem.specs.declared.writers.UpWrite.{UpWrite}
 use Rattle.percpu_rwsem.specs.declared.writers.UpWriteStep.{UpWriteStep}
 use Rattle.percpu_rwsem.specs.declared.writers.UpWriteStep.TheVariants.{ClearsBlock, Exits}
 use Rattle.freeze_levels.specs.Freezes.{
+  found_holders,
   freeze_next,
   freeze_after,
   at_freeze,
@@ -48,7 +49,15 @@ use Rattle.freeze_levels.specs.Freezes.{
 }
 use Rattle.freeze_levels.specs.declared.freezes.Freeze.{Freeze}
 use Rattle.freeze_levels.specs.declared.freezes.FreezeStep.{FreezeStep}
+use Rattle.access_model.specs.declared.actions.Holder.{Holder}
+use Rattle.access_model.specs.declared.actions.Holders.{Holders}
+use Rattle.access_model.specs.Holders.{nobody, held_by}
+use Rattle.freeze_levels.specs.Holders.{holders_in}
+use Rattle.holder_laws.proofs.Words.{none_held}
+use Rattle.gate_frames.proofs.Cases.{both}
 use Rattle.freeze_levels.specs.declared.freezes.FreezeStep.TheVariants.{
+  LoadsHolders,
+  Holds,
   Locks,
   LoadsStage,
   LoadsSuperblock,
@@ -104,10 +113,12 @@ up_write_word c u (Exits Loads) l1 l3 = (l1, l3)
 up_write_word c u (Exits (Exchanges from to)) l1 l3 = (l1, l3)
 
 -- so it is of each event of a freeze
-pub freeze_word : (c : Config) (x : Freeze) (s : FreezeStep) (hook : HookAnswer) → FreezeFits c s →
+pub freeze_word : (c : Config) (x : Freeze) (s : FreezeStep) (hook : HookAnswer) → FreezeFits c x.holder s →
     IsWord (extents_of c) (freeze_next x s hook).0
 freeze_word c x Locks hook f = tt
 freeze_word c x LoadsStage hook f = tt
+freeze_word c x LoadsHolders hook f = tt
+freeze_word c x (Holds beside) hook f = tt
 freeze_word c x LoadsSuperblock hook f = tt
 freeze_word c x CompletesReadOnly hook f = tt
 freeze_word c x SetsWrite hook f = tt
@@ -122,6 +133,11 @@ freeze_word c x SetsComplete (Ok answer) f = tt
 freeze_word c x SetsComplete (Err code) f = tt
 freeze_word c x (Reopens u code) hook f = up_write_word c u u.step f.0 f.1
 freeze_word c x (Releases answer) hook f = tt
+
+-- What comes after a look at who holds a freeze: a refusal, where its own holder does, or else the store with it.
+pub found_cases : (x : Freeze) (held : Holders) (P : FreezeStep → Type 0) → (held_by held x.holder ≡ true → P (Releases (Err Busy))) →
+    (held_by held x.holder ≡ false → P (Holds held)) → P (found_holders x held)
+found_cases x held P own other = both (held_by held x.holder) (λ b. P (if b then Releases (Err Busy) else Holds held)) own other
 
 -- an action that moves no access: with it a task holds what it held
 abbrev MovesNone : Option Action → Type 0
@@ -158,6 +174,8 @@ up_write_moves u (Exits transition) found held levels = (tt, refl, refl)
 freeze_moves : (x : Freeze) (s : FreezeStep) (found : ℕ) (hook : HookAnswer) → MovesNone (freeze_after x s found hook).1
 freeze_moves x Locks found hook held levels = (tt, refl, refl)
 freeze_moves x LoadsStage found hook held levels = (tt, refl, refl)
+freeze_moves x LoadsHolders found hook held levels = (tt, refl, refl)
+freeze_moves x (Holds beside) found hook held levels = (tt, refl, refl)
 freeze_moves x LoadsSuperblock found hook held levels = (tt, refl, refl)
 freeze_moves x CompletesReadOnly found hook held levels = (tt, refl, refl)
 freeze_moves x SetsWrite found hook held levels = (tt, refl, refl)
@@ -297,12 +315,12 @@ module _ (c : Config) (within : IsWithin c) where
 
   -- a level whose closing begins
   closes_fits : (x : Freeze) (level : ℕ) → x.tasks ≡ c.tasks → x.processors ≡ c.processors → 1 ≤ level → level ≤ 3 →
-      FreezeFits c (freeze_closes x level)
+      FreezeFits c x.holder (freeze_closes x level)
   closes_fits x level all processors l1 l3 = (l1, l3, all, processors, tt, tt)
 
   -- what comes after a level is closed
-  closed_fits : (level nodes : ℕ) → nodes ≡ c.nodes → FreezeFits c (level_closed level nodes)
-  closed_fits level nodes same =
+  closed_fits : (holder : Holder) (level nodes : ℕ) → nodes ≡ c.nodes → FreezeFits c holder (level_closed level nodes)
+  closed_fits holder level nodes same =
       elim (cases_Bool (level == 1)) [
         | inl h ↦ rw h tt
         | inr h ↦ elim (cases_Bool (level == 2)) [
@@ -312,8 +330,8 @@ module _ (c : Config) (within : IsWithin c) where
       ]
 
   -- the levels that are still to be reopened
-  fails_fits : (level code : ℕ) → level ≤ 3 → FreezeFits c (freeze_fails level code)
-  fails_fits level code l3 =
+  fails_fits : (holder : Holder) (level code : ℕ) → level ≤ 3 → FreezeFits c holder (freeze_fails level code)
+  fails_fits holder level code l3 =
       elim (eqb_tells level 0) [ inl h ↦ rw h.0 tt | inr h ↦ rw h.0 (omega (arith, h.1), l3, tt) ]
 
   module _ (t : ℕ) (held : ℕ → ℕ) (levels : ℕ → Bool) (x : Freeze) (task : x.task ≡ t) (all : x.tasks ≡ c.tasks)
@@ -323,21 +341,21 @@ module _ (c : Config) (within : IsWithin c) where
     NextFits next = Fits c t held levels (phase_after (map_next Freezes next))
 
     -- a step that fits
-    goes_to : (s : FreezeStep) → FreezeFits c s → NextFits (Go (at_freeze x s))
+    goes_to : (s : FreezeStep) → FreezeFits c x.holder s → NextFits (Go (at_freeze x s))
     goes_to s f = (task, all, processors, nodes, none, f)
 
     -- what comes after an event of the closing of a level
     closing_fits : (level : ℕ) (n : Next DownWrite) → HoldsOfNext (DownWriteFits c) n → NextFits (after_closing x level n)
     closing_fits level (Go d) h = goes_to (Closes d) h
     closing_fits level (Wait d) h = goes_to (Closes d) h
-    closing_fits level (Done answer) h = goes_to (level_closed level x.nodes) (closed_fits level x.nodes nodes)
+    closing_fits level (Done answer) h = goes_to (level_closed level x.nodes) (closed_fits x.holder level x.nodes nodes)
 
     -- of its reopening
     reopening_fits : (level code : ℕ) → level ≤ 3 → (n : Next UpWrite) → HoldsOfNext UpWriteFits n →
         NextFits (after_reopening x level code n)
     reopening_fits level code l3 (Go u) h = goes_to (Reopens u code) h
     reopening_fits level code l3 (Wait u) h = goes_to (Reopens u code) h
-    reopening_fits level code l3 (Done answer) h = goes_to (freeze_fails (level - 1) code) (fails_fits (level - 1) code (omega (arith, l3)))
+    reopening_fits level code l3 (Done answer) h = goes_to (freeze_fails (level - 1) code) (fails_fits x.holder (level - 1) code (omega (arith, l3)))
 
     -- of the clearing of the marks
     clearing_fits : (marks : ClearMarks) (found : ℕ) → marks.nodes ≡ c.nodes → NextFits (after_clearing x (clear_after marks found).0)
@@ -349,18 +367,28 @@ module _ (c : Config) (within : IsWithin c) where
         ]
 
     -- where the lock is tried for
-    locked_fits : (again s : FreezeStep) (found : ℕ) → FreezeFits c again → FreezeFits c s → NextFits (freeze_locked x again found s)
+    locked_fits : (again s : FreezeStep) (found : ℕ) → FreezeFits c x.holder again → FreezeFits c x.holder s → NextFits (freeze_locked x again found s)
     locked_fits again s found f g =
         by_bool (found == 0) (λ b. NextFits (if b then Go (at_freeze x s) else Wait (at_freeze x again))) (goes_to s g) (goes_to again f)
 
     -- so it is after each event of a freeze
-    next_fits : (s : FreezeStep) (found : ℕ) (hook : HookAnswer) → FreezeFits c s → NextFits (freeze_after x s found hook).0
+    next_fits : (s : FreezeStep) (found : ℕ) (hook : HookAnswer) → FreezeFits c x.holder s → NextFits (freeze_after x s found hook).0
     next_fits Locks found hook f = locked_fits Locks LoadsStage found tt tt
     next_fits LoadsStage found hook f =
-        elim (cases_Bool (found == 0)) [ inl h ↦ rw h (goes_to LoadsSuperblock tt) | inr h ↦ rw h (goes_to (Releases (Err Busy)) tt) ]
+        elim (cases_Bool (found == 0)) [
+          | inl h ↦ rw h (goes_to LoadsSuperblock tt)
+          | inr h ↦ elim (cases_Bool (found == 4)) [
+            | inl k ↦ rw (h, k) (goes_to LoadsHolders tt)
+            | inr k ↦ rw (h, k) (goes_to (Releases (Err Busy)) tt)
+          ]
+        ]
+    next_fits LoadsHolders found hook f =
+        found_cases x (holders_in found) (λ s. NextFits (Go (at_freeze x s))) (λ own. goes_to (Releases (Err Busy)) tt)
+        (λ other. goes_to (Holds (holders_in found)) other)
+    next_fits (Holds beside) found hook f = goes_to (Releases (Ok UnitReply)) tt
     next_fits LoadsSuperblock found hook f =
         elim (cases_Bool (found == 0)) [ inl h ↦ rw h (goes_to SetsWrite tt) | inr h ↦ rw h (goes_to CompletesReadOnly tt) ]
-    next_fits CompletesReadOnly found hook f = goes_to (Releases (Ok UnitReply)) tt
+    next_fits CompletesReadOnly found hook f = goes_to (Holds nobody) (none_held x.holder)
     next_fits SetsWrite found hook f = goes_to Unlocks tt
     next_fits Unlocks found hook f = goes_to (freeze_closes x 1) (closes_fits x 1 all processors (omega arith) (omega arith))
     next_fits (Closes d) found hook f =
@@ -369,9 +397,9 @@ module _ (c : Config) (within : IsWithin c) where
     next_fits SetsPageFault found hook f = goes_to (freeze_closes x 2) (closes_fits x 2 all processors (omega arith) (omega arith))
     next_fits (Cleans marks) found hook f = clearing_fits marks found f.0
     next_fits SetsFs found (Ok answer) f = goes_to (freeze_closes x 3) (closes_fits x 3 all processors (omega arith) (omega arith))
-    next_fits SetsFs found (Err code) f = goes_to (freeze_fails 2 code) (fails_fits 2 code (omega arith))
-    next_fits SetsComplete found (Ok answer) f = goes_to (Releases (Ok UnitReply)) tt
-    next_fits SetsComplete found (Err code) f = goes_to (freeze_fails 3 code) (fails_fits 3 code (omega arith))
+    next_fits SetsFs found (Err code) f = goes_to (freeze_fails 2 code) (fails_fits x.holder 2 code (omega arith))
+    next_fits SetsComplete found (Ok answer) f = goes_to (Holds nobody) (none_held x.holder)
+    next_fits SetsComplete found (Err code) f = goes_to (freeze_fails 3 code) (fails_fits x.holder 3 code (omega arith))
     next_fits (Reopens u code) found hook f =
         reopening_fits u.level code f.1 (up_write_after u u.step found).0 (up_write_goes u u.step found f.0 f.1 f.2)
     next_fits (Releases answer) found hook f = tt

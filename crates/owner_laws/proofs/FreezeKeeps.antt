@@ -3,7 +3,7 @@ use Rattle.std.proofs.Common.{◌≡◌, ℕ, ◌<◌, ap, refl, subst}
 use Rattle.std.specs.Prelude.{Some}
 use Rattle.freeze_levels.specs.declared.freezes.Freeze.{Freeze}
 use Rattle.gate_world.specs.Fits.{Fits, PhaseFits}
-use Rattle.gate_world.specs.Rules.{IsGood, Fitting}
+use Rattle.gate_world.specs.Rules.{IsGood, Fitting, Stages}
 use Rattle.gate_world.specs.Views.{held_at, holds_level}
 use Rattle.gate_world.specs.Worlds.{World, after_step}
 use Rattle.gate_world.specs.declared.config.Config.{Config}
@@ -11,6 +11,10 @@ use Rattle.gate_world.specs.declared.operations.Op.TheVariants.{Freeze as Freeze
 use Rattle.gate_world.specs.declared.work.Phase.TheVariants.{Freezes}
 use Rattle.gate_frames.proofs.Keeps.{none_agree, word_among, PhaseKeeps, OpKeeps}
 use Rattle.gate_frames.proofs.Snapshots.{completes_none}
+use Rattle.access_model.specs.declared.actions.Holder.{Holder}
+use Rattle.freeze_levels.specs.declared.freezes.FreezeStep.TheVariants.{LoadsHolders}
+use Rattle.stage_laws.specs.Roles.{KnowsStage}
+use Rattle.gate_world.specs.Stages.{freeze_stage_role, stage_role_of}
 use Rattle.owner_laws.proofs.FreezeFits.{freeze_word, freeze_acts, freeze_goes}
 use Rattle.owner_laws.proofs.FreezeCauses.{freeze_counts, freeze_stays, freeze_own, freeze_cause_tells}
 use Rattle.owner_laws.proofs.FreezeWaits.{freeze_waits}
@@ -22,6 +26,13 @@ use Rattle.owner_laws.proofs.FreezeTraces.{freeze_tells, freeze_short, freeze_re
 fits_here : (c : Config) (x : Freeze) (w : World) → IsGood c w → (t : ℕ) → t < c.tasks → (w.views t).phase ≡ Some (Freezes x) →
     PhaseFits c t (held_at (w.views t)) (holds_level (w.views t)) (Freezes x)
 fits_here c x w good t lt e = subst (Fits c t (held_at (w.views t)) (holds_level (w.views t))) e (good Fitting t lt)
+
+-- a freeze that is to load who holds one is at stage 4
+stage_here : (c : Config) (x : Freeze) (w : World) → IsGood c w → (t : ℕ) → t < c.tasks → (w.views t).phase ≡ Some (Freezes x) →
+    x.step ≡ LoadsHolders → w.words.stage ≡ 4
+stage_here c x w good t lt e is =
+    (subst (λ s. KnowsStage w.words.stage w.words.sb (freeze_stage_role x.nodes s)) is
+    (subst (λ p. KnowsStage w.words.stage w.words.sb (stage_role_of p)) e ((good Stages).knows t lt))).0
 
 -- of each of its phases
 pub freeze_phase : (c : Config) (x : Freeze) → PhaseKeeps c (Freezes x)
@@ -38,16 +49,17 @@ freeze_phase c x = record {
   level_quiet = λ w good t lt hook i e before after. ap (λ f. f i) (freeze_counts w t x hook x.step).1;
   stays = λ w next earlier after t f e was quiet h. freeze_stays c t w next earlier after x x.step f.5 e was quiet h;
   causes = λ w earlier good t lt hook e after is h.
-      freeze_own c t w (after_step w t (Freezes x) hook) earlier after x hook x.step (fits_here c x w good t lt e).5 e
+      freeze_own c t w (after_step w t (Freezes x) hook) earlier after x hook x.step (fits_here c x w good t lt e).5
+      (λ is_load. (stage_here c x w good t lt e is_load)) e
       (freeze_counts w t x hook x.step).1 h is;
   waits = λ within w earlier good t lt hook e cause.
       freeze_waits c w earlier good t lt x hook x.step e (fits_here c x w good t lt e).5 cause;
-  tells = λ t w earlier fits h. freeze_cause_tells c t w earlier x.step h;
+  tells = λ t w earlier fits h. freeze_cause_tells c t w earlier x.holder x.step h;
 }
 
 -- of its beginning and its trace
-pub freeze_op : (c : Config) → OpKeeps c FreezeOp
-freeze_op c = record {
+pub freeze_op : (c : Config) (holder : Holder) → OpKeeps c (FreezeOp holder)
+freeze_op c holder = record {
   fits = λ t held levels there order room. (refl, refl, refl, refl, order, tt);
   no_role = λ t y. refl;
   steady = λ t. record { owns_same = refl; remounts_same = refl; closing_same = λ i. refl };
@@ -59,8 +71,8 @@ freeze_op c = record {
   cause = λ t w earlier. tt;
   order_agrees = λ f g h k mounts levels there. none_agree c 0 f g h k mounts levels;
   room_agrees = λ f g mounts there. refl;
-  restores = λ refusal trace before order. freeze_restores refusal trace before;
-  tells = freeze_tells c;
-  short = freeze_short c;
+  restores = λ refusal trace before order. freeze_restores holder refusal trace before;
+  tells = freeze_tells c holder;
+  short = freeze_short c holder;
   most_small = λ within. tt;
 }

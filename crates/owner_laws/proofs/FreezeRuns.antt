@@ -12,7 +12,10 @@ use Rattle.gated_tree.specs.Phases.{clears_at}
 use Rattle.gated_tree.specs.declared.marks.ClearMarks.{ClearMarks}
 use Rattle.freeze_levels.specs.declared.freezes.Freeze.{Freeze}
 use Rattle.freeze_levels.specs.declared.freezes.FreezeStep.{FreezeStep}
-use Rattle.freeze_levels.specs.declared.freezes.FreezeStep.TheVariants.{Locks, LoadsStage, LoadsSuperblock, CompletesReadOnly, SetsWrite, Unlocks, Closes, LocksAgain, SetsPageFault, Cleans, SetsFs, SetsComplete, Reopens, Releases}
+use Rattle.access_model.specs.Holders.{nobody}
+use Rattle.freeze_levels.specs.Holders.{holders_in}
+use Rattle.owner_laws.proofs.FreezeFits.{found_cases}
+use Rattle.freeze_levels.specs.declared.freezes.FreezeStep.TheVariants.{Locks, LoadsStage, LoadsHolders, Holds, LoadsSuperblock, CompletesReadOnly, SetsWrite, Unlocks, Closes, LocksAgain, SetsPageFault, Cleans, SetsFs, SetsComplete, Reopens, Releases}
 use Rattle.freeze_levels.specs.Freezes.{at_freeze, freeze_closes, freeze_fails, freeze_after, freeze_locked, after_clearing}
 use Rattle.stage_laws.specs.Roles.{has_position}
 use Rattle.gate_world.specs.declared.config.Config.{Config}
@@ -99,7 +102,7 @@ module _ (c : Config) (lim : IsWithin c) (w : World) (good : IsGood c w) (t : �
       freezes_runs c lim w good t lt (words_then (Ok answer) SetsComplete) (view_after (w.views t) phase w.words.stage (Ok answer))
       (record { block_same = refl; level_same = refl; sync_same = refl; section_same = refl })
       (here_stands c lim w good t lt x SetsComplete e)
-      (freeze_stands (at_freeze x (Releases (Ok UnitReply)))) (rw sb refl)
+      (freeze_stands (at_freeze x (Holds nobody))) (rw sb refl)
   sets_complete (Err code) e =
       let k : w.words.stage ≡ 3 = here_knows c lim w good t lt x SetsComplete e in
       leaves (Err code) SetsComplete (Some (closed_to 3))
@@ -117,8 +120,23 @@ module _ (c : Config) (lim : IsWithin c) (w : World) (good : IsGood c w) (t : �
       leaves hook LoadsStage None
       (record { block_same = refl; level_same = refl; sync_same = refl; section_same = refl; whole_same = refl })
       (here_stands c lim w good t lt x LoadsStage e)
-      (found_stands x LoadsSuperblock (Releases (Err Busy)) w.words.stage None (freeze_stands (at_freeze x LoadsSuperblock))
-      (freeze_stands (at_freeze x (Releases (Err Busy)))))
+      (by_bool (w.words.stage == 0)
+      (λ b. Stands (phase_after (map_next Freezes (if b then Go (at_freeze x LoadsSuperblock) else
+      if w.words.stage == 4 then Go (at_freeze x LoadsHolders) else Go (at_freeze x (Releases (Err Busy)))))) None)
+      (freeze_stands (at_freeze x LoadsSuperblock))
+      (by_bool (w.words.stage == 4)
+      (λ b. Stands (phase_after (map_next Freezes (if b then Go (at_freeze x LoadsHolders) else Go (at_freeze x (Releases (Err Busy)))))) None)
+      (freeze_stands (at_freeze x LoadsHolders)) (freeze_stands (at_freeze x (Releases (Err Busy))))))
+  freeze_run hook LoadsHolders e =
+      leaves hook LoadsHolders None
+      (record { block_same = refl; level_same = refl; sync_same = refl; section_same = refl; whole_same = refl })
+      (here_stands c lim w good t lt x LoadsHolders e)
+      (found_cases x (holders_in w.words.holders) (λ s. Stands (Some (Freezes (at_freeze x s))) None)
+      (λ own. freeze_stands (at_freeze x (Releases (Err Busy)))) (λ other. freeze_stands (at_freeze x (Holds (holders_in w.words.holders)))))
+  freeze_run hook (Holds beside) e =
+      leaves hook (Holds beside) None
+      (record { block_same = refl; level_same = refl; sync_same = refl; section_same = refl; whole_same = refl })
+      (here_stands c lim w good t lt x (Holds beside) e) (freeze_stands (at_freeze x (Releases (Ok UnitReply))))
   freeze_run hook LoadsSuperblock e =
       leaves hook LoadsSuperblock None
       (record { block_same = refl; level_same = refl; sync_same = refl; section_same = refl; whole_same = refl })
@@ -129,7 +147,7 @@ module _ (c : Config) (lim : IsWithin c) (w : World) (good : IsGood c w) (t : �
       let k : (w.words.stage ≡ 0) × (w.words.sb ≡ 1) = here_knows c lim w good t lt x CompletesReadOnly e in
       leaves hook CompletesReadOnly None
       (record { block_same = refl; level_same = refl; sync_same = refl; section_same = refl; whole_same = rw (k.0, k.1) refl })
-      (here_stands c lim w good t lt x CompletesReadOnly e) (freeze_stands (at_freeze x (Releases (Ok UnitReply))))
+      (here_stands c lim w good t lt x CompletesReadOnly e) (freeze_stands (at_freeze x (Holds nobody)))
   freeze_run hook SetsWrite e =
       let k : (w.words.stage ≡ 0) × (w.words.sb ≡ 0) = here_knows c lim w good t lt x SetsWrite e in
       leaves hook SetsWrite None

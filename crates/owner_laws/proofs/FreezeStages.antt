@@ -2,36 +2,36 @@
 use Rattle.std.proofs.Common.{◌≡◌, ℕ, ◌+◌, ◌<◌, refl, sym, ap, ◌∙◌, subst, inl, inr, arith}
 use Rattle.std.proofs.lemmas.Bool.{ne_eqb}
 use Rattle.std.proofs.lemmas.Bool.Decides.{eqb_tells}
-use Rattle.finite_sums.specs.Sums.{update}
+use Rattle.finite_sums.specs.Sums.{update, total}
 use Rattle.stage_laws.specs.Events.{Happens, playing}
-use Rattle.std.specs.Prelude.{◌∷◌, Option, Some, None, Ok, Err, Result}
+use Rattle.std.specs.Prelude.{◌∷◌, if◌then◌else◌, true, false, Option, Some, None, Ok, Err, Result}
 use Rattle.freeze_levels.specs.declared.freezes.Freeze.{Freeze}
 use Rattle.freeze_levels.specs.declared.freezes.FreezeStep.{FreezeStep}
-use Rattle.freeze_levels.specs.declared.freezes.FreezeStep.TheVariants.{Locks, LoadsStage, LoadsSuperblock, CompletesReadOnly, SetsWrite, Unlocks, LocksAgain, SetsPageFault, SetsFs, SetsComplete, Releases}
+use Rattle.freeze_levels.specs.declared.freezes.FreezeStep.TheVariants.{Locks, LoadsStage, LoadsHolders, Holds as StoresHolder, LoadsSuperblock, CompletesReadOnly, SetsWrite, Unlocks, LocksAgain, SetsPageFault, SetsFs, SetsComplete, Releases}
 use Rattle.freeze_levels.specs.Freezes.{at_freeze, freeze_closes, freeze_fails}
 use Rattle.access_model.specs.declared.actions.Action.{Action}
-use Rattle.access_model.specs.declared.actions.Action.TheVariants.{Stage as StageAction}
+use Rattle.access_model.specs.declared.actions.Action.TheVariants.{Stage as StageAction, Hold}
 use Rattle.access_model.specs.declared.errors.GateError.{GateError}
 use Rattle.access_model.specs.declared.errors.GateError.TheVariants.{Busy}
 use Rattle.access_model.specs.declared.replies.Reply.{Reply}
 use Rattle.access_model.specs.declared.replies.Reply.TheVariants.{Unit as UnitReply}
 use Rattle.access_model.specs.declared.replies.Next.TheVariants.{Go, Done}
 use Rattle.cpu_words.specs.declared.names.WordName.{WordName}
-use Rattle.cpu_words.specs.declared.names.WordName.TheVariants.{Umount, Stage as StageWord, SbFlags}
+use Rattle.cpu_words.specs.declared.names.WordName.TheVariants.{Umount, Stage as StageWord, Holders as HoldersWord, SbFlags}
 use Rattle.cpu_words.specs.declared.events.Touch.{Touch}
 use Rattle.cpu_words.specs.declared.events.Touch.TheVariants.{Load, Store, Cas}
 use Rattle.cpu_words.specs.Words.{Words}
 use Rattle.cpu_words.specs.declared.events.Event.{Event}
 use Rattle.cpu_words.specs.Hooks.{HookAnswer}
 use Rattle.stage_laws.specs.Roles.{StageRole, Before, HasPassed, Owning, owns as stage_owns, is_full, KnowsStage}
-use Rattle.stage_laws.specs.Events.{StageEvent, Begins, Advances, Syncs, Completes, Fails, FreezesAtOnce, LetsGo, Stays, LoadsSb, Locks as LocksStage, LocksAgain as LocksStageAgain, LoadsStage as FindsStage, Releases as ReleasesStage, action_of as stage_action_of}
+use Rattle.stage_laws.specs.Events.{StageEvent, HoldsOne, Recalls, IsAlike, Begins, Advances, Syncs, Completes, Fails, FreezesAtOnce, LetsGo, Stays, LoadsSb, Locks as LocksStage, LocksAgain as LocksStageAgain, LoadsStage as FindsStage, Releases as ReleasesStage, action_of as stage_action_of}
 use Rattle.gate_world.specs.declared.config.Config.{Config}
 use Rattle.gate_world.specs.declared.views.View.{View}
 use Rattle.gate_world.specs.declared.work.Phase.TheVariants.{Freezes}
-use Rattle.gate_world.specs.Configs.{IsWithin}
+use Rattle.gate_world.specs.Configs.{IsWithin, model_limits}
 use Rattle.gate_world.specs.Fits.{Fits, PhaseFits, FreezeFits}
 use Rattle.gate_world.specs.Levels.{Stand, closed_to, freeze_stand}
-use Rattle.gate_world.specs.Rules.{IsGood, Holds, Fitting, Stages, Tree, owns, OwnerHolds}
+use Rattle.gate_world.specs.Rules.{IsGood, Holds, Holding, Fitting, Stages, Tree, owns, OwnerHolds}
 use Rattle.gate_world.specs.Trees.{tree_bounds, tree_of, tree_role_of, tree_roles, freeze_tree_role}
 use Rattle.gated_tree.specs.Roles.{Out as OffTree, TreeState, HasNoCharge, sealed_by}
 use Rattle.tree_laws.specs.Events.{Event as TreeEvent, turned, Leaves, Seals}
@@ -41,12 +41,29 @@ use Rattle.gate_world.specs.Views.{held_at, holds_level, view_with}
 use Rattle.gate_world.specs.Worlds.{World}
 use Rattle.gate_frames.proofs.Frames.{SameLevelCounts}
 use Rattle.gate_frames.proofs.Stages.{IsStageEvent, stages_in, nobody_owns}
+use Rattle.access_model.specs.declared.actions.Holders.{Holders}
+use Rattle.access_model.specs.Holders.{nobody, held_by, with_holder, is_unheld}
+use Rattle.freeze_levels.specs.Holders.{word_of, holders_in}
+use Rattle.holder_laws.specs.Roles.{HolderRole, Apart, Found, Fills, between, minds}
+use Rattle.holder_laws.specs.Events.{Finds, Freezes as FreezesHolders, HoldsFirst, Joins}
+use Rattle.holder_laws.proofs.HolderLaws.{roles_tell, finds_some}
+use Rattle.holder_laws.proofs.Words.{unpack_pack, none_held, is_nobody}
+use Rattle.gate_world.specs.Holders.{freeze_holder_role, holder_role_of}
+use Rattle.gate_world.specs.Shown.{shown, holder_roles}
+use Rattle.gate_frames.proofs.Holders.{holders_at, holders_stay, holders_move, holders_after, nobody_minds}
+use Rattle.gate_frames.proofs.Cases.{both}
+use Rattle.owner_laws.proofs.FreezeFits.{found_cases}
 use Rattle.gate_frames.proofs.Standing.{Stands, LevelsHold, left_world}
 use Rattle.gate_frames.proofs.StandRoles.{closing_first, closing_next}
 use Rattle.gate_frames.proofs.WholeLevels.{freezes_all}
-use Rattle.gate_frames.proofs.WriterParts.{IsWriter, SameAtMounts, WriterKeeps, WriterLaw, freezes_write, idle_writes}
+use Rattle.gate_frames.proofs.WriterParts.{IsWriter, AsksWhere, SameAtMounts, WriterKeeps, WriterLaw, freezes_write, idle_writes}
 use Rattle.gate_frames.proofs.WriterOwner.{owner_stays, lock_taken, lock_given}
-use Rattle.gate_frames.proofs.WriterStages.{stays_there, writer_beside, writer_stores, stored_levels, stored_tree, opened_tree}
+use Rattle.gate_frames.proofs.WriterStages.{stays_there, writer_holds, writer_beside, writer_stores, stored_levels, stored_tree, opened_tree}
+
+-- owners that rely on one thing or another are alike
+owners_alike : (stage sb stage' sb' : Option ℕ) → IsAlike (Owning stage sb) (Owning stage' sb')
+owners_alike stage sb stage' sb' =
+    record { owns_same = refl; freezes_same = refl; remounts_same = refl; closed_same = refl; passed_same = refl }
 
 -- how a freeze stands with the levels
 pub freeze_stands : (x : Freeze) → Stands (Some (Freezes x)) (freeze_stand x.step)
@@ -94,7 +111,7 @@ module _ (c : Config) (lim : IsWithin c) (w : World) (good : IsGood c w) (t : �
   here_writes s e = subst IsWriter (sym e) (freezes_write (at_freeze x s))
 
   -- another step that fits
-  pub goes_to : (s s' : FreezeStep) → IsHere s → FreezeFits c s' → FitsHere s'
+  pub goes_to : (s s' : FreezeStep) → IsHere s → FreezeFits c x.holder s' → FitsHere s'
   goes_to s s' e fit = let f : FitsHere s = here_fits s e in (f.0, f.1, f.2, f.3, f.4, fit)
 
   -- the view after an event of this word and touch, after which this step comes
@@ -103,12 +120,13 @@ module _ (c : Config) (lim : IsWithin c) (w : World) (good : IsGood c w) (t : �
 
   -- a store of the stage, after which this step comes
   stores : (hook : HookAnswer) (s s' : FreezeStep) (e : IsHere s) (n : ℕ) (kind : StageEvent) →
-      stage_owns (freeze_stage_role x.nodes s) ≡ 1 → stage_owns (freeze_stage_role x.nodes s') ≡ 1 → FreezeFits c s' →
+      stage_owns (freeze_stage_role x.nodes s) ≡ 1 → stage_owns (freeze_stage_role x.nodes s') ≡ 1 → FreezeFits c x.holder s' →
       let v : View = view_at (StageWord, Store n) w.words.stage hook s' (Some (StageAction n)) in
       let ws : Words = record w.words { stage = n } in
       LevelsHold c (left_world w t ws v) → Holds c (left_world w t ws v) Tree → IsStageEvent c w good t lt ws v kind →
-      stage_action_of kind (stages_in w) ≡ Some (StageAction n) → WriterLaw c w t ws v (Some (StageAction n))
-  stores hook s s' e n kind o o' fit levels tree happens adds =
+      stage_action_of kind (stages_in w) ≡ Some (StageAction n) → AsksWhere (model_limits c) (shown c w) (Some (StageAction n)) →
+      Holds c (left_world w t ws v) Holding → WriterLaw c w t ws v (Some (StageAction n))
+  stores hook s s' e n kind o o' fit levels tree happens adds asks holding =
       let v : View = view_at (StageWord, Store n) w.words.stage hook s' (Some (StageAction n)) in
       let now : IsWriter v.phase = freezes_write (at_freeze x s') in
       writer_stores c w good t lt v (here_writes s e) now
@@ -116,7 +134,28 @@ module _ (c : Config) (lim : IsWithin c) (w : World) (good : IsGood c w) (t : �
       (record { held_same = refl; added_same = refl; taken_same = refl })
       (goes_to s s' e fit) n kind
       (owner_stays c w good t lt v (here_writes s e) now w.words refl refl (o' ∙ sym (ap owns e ∙ o)))
-      levels tree happens adds
+      levels tree happens adds asks holding
+
+  -- among stages that aren't 4, it leaves the holders
+  moved : (hook : HookAnswer) (s s' : FreezeStep) (e : IsHere s) (n : ℕ) → freeze_holder_role s ≡ Apart → freeze_holder_role s' ≡ Apart →
+      (w.words.stage ≡ 4 → ⊥) → (n ≡ 4 → ⊥) →
+      let v : View = view_at (StageWord, Store n) w.words.stage hook s' (Some (StageAction n)) in
+      Holds c (left_world w t (record w.words { stage = n }) v) Holding
+  moved hook s s' e n role role' off off' =
+      holders_move c w good t lt (record w.words { stage = n })
+      (view_at (StageWord, Store n) w.words.stage hook s' (Some (StageAction n))) off off' refl
+      (role' ∙ sym (ap holder_role_of e ∙ role))
+
+  -- and with stage 4 the freeze is to store its holder
+  completed : (hook : HookAnswer) (s : FreezeStep) (e : IsHere s) → freeze_holder_role s ≡ Apart →
+      stage_owns (freeze_stage_role x.nodes s) ≡ 1 → (w.words.stage ≡ 4 → ⊥) →
+      let v : View = view_at (StageWord, Store 4) w.words.stage hook (StoresHolder nobody) (Some (StageAction 4)) in
+      Holds c (left_world w t (record w.words { stage = 4 }) v) Holding
+  completed hook s e role own off =
+      let here : holder_role_of (w.views t).phase ≡ Apart = ap holder_role_of e ∙ role in
+      holders_after c w good t lt (record w.words { stage = 4 })
+      (view_at (StageWord, Store 4) w.words.stage hook (StoresHolder nobody) (Some (StageAction 4))) FreezesHolders
+      (here, off, nobody_minds c w good t lt (ap owns e ∙ own) (ap minds here), refl)
 
   -- which leaves the levels, where the file system is frozen as a whole or not as before
   kept_levels : (hook : HookAnswer) (s s' : FreezeStep) (e : IsHere s) (n : ℕ) (stand : Option Stand) →
@@ -164,11 +203,11 @@ module _ (c : Config) (lim : IsWithin c) (w : World) (good : IsGood c w) (t : �
   pub completes_read_only : (hook : HookAnswer) → IsHere CompletesReadOnly → Keeps hook CompletesReadOnly
   completes_read_only hook e =
       let k : (w.words.stage ≡ 0) × (w.words.sb ≡ 1) = here_knows CompletesReadOnly e in
-      let s' : FreezeStep = Releases (Ok UnitReply) in
-      stores hook CompletesReadOnly s' e 4 FreezesAtOnce refl refl tt
+      let s' : FreezeStep = StoresHolder nobody in
+      stores hook CompletesReadOnly s' e 4 FreezesAtOnce refl refl (none_held x.holder)
       (kept_levels hook CompletesReadOnly s' e 4 None (rw (k.0, k.1) refl) refl (freeze_stands (at_freeze x s')))
       (kept_tree hook CompletesReadOnly s' e 4 refl (rw k.1 refl))
-      (ap stage_role_of e, refl) refl
+      (ap stage_role_of e, refl) refl tt (completed hook CompletesReadOnly e refl refl (λ four. omega (arith, k.0, four)))
 
   -- stores stage 1
   pub sets_write : (hook : HookAnswer) → IsHere SetsWrite → Keeps hook SetsWrite
@@ -177,7 +216,8 @@ module _ (c : Config) (lim : IsWithin c) (w : World) (good : IsGood c w) (t : �
       stores hook SetsWrite Unlocks e 1 Begins refl refl tt
       (kept_levels hook SetsWrite Unlocks e 1 None (rw k.0 refl) refl (freeze_stands (at_freeze x Unlocks)))
       (kept_tree hook SetsWrite Unlocks e 1 refl (rw k.0 refl))
-      (ap stage_role_of e, refl) refl
+      (ap stage_role_of e, refl) refl tt
+      (moved hook SetsWrite Unlocks e 1 refl refl (λ four. omega (arith, k.0, four)) (λ four. omega (arith, four)))
 
   -- stores stage 2, and begins to close level 2
   pub sets_page_fault : (hook : HookAnswer) → IsHere SetsPageFault → Keeps hook SetsPageFault
@@ -189,7 +229,8 @@ module _ (c : Config) (lim : IsWithin c) (w : World) (good : IsGood c w) (t : �
       (kept_levels hook SetsPageFault s' e 2 (Some (closed_to 1)) (rw k refl) refl
       (closing_next (Some (Freezes (at_freeze x s'))) 1 x.tasks x.processors (omega arith) (freeze_stands (at_freeze x s'))))
       (kept_tree hook SetsPageFault s' e 2 refl (rw k refl))
-      (ap stage_role_of e, refl) refl
+      (ap stage_role_of e, refl) refl tt
+      (moved hook SetsPageFault s' e 2 refl refl (λ four. omega (arith, k, four)) (λ four. omega (arith, four)))
 
   -- the file system has answered: stores stage 3, and begins to close level 3, or stores stage 0, and begins to reopen level 2
   pub sets_fs : (hook : HookAnswer) → IsHere SetsFs → Keeps hook SetsFs
@@ -201,30 +242,32 @@ module _ (c : Config) (lim : IsWithin c) (w : World) (good : IsGood c w) (t : �
       (kept_levels (Ok answer) SetsFs s' e 3 (Some (closed_to 2)) (rw k refl) refl
       (closing_next (Some (Freezes (at_freeze x s'))) 2 x.tasks x.processors (omega arith) (freeze_stands (at_freeze x s'))))
       (sealed_tree (view_at (StageWord, Store 3) w.words.stage (Ok answer) s' (Some (StageAction 3))) e refl)
-      (ap stage_role_of e, omega (arith, f.3), refl) refl
+      (ap stage_role_of e, omega (arith, f.3), refl) refl tt
+      (moved (Ok answer) SetsFs s' e 3 refl refl (λ four. omega (arith, k, four)) (λ four. omega (arith, four)))
   sets_fs (Err code) e =
       let k : w.words.stage ≡ 2 = here_knows SetsFs e in
       let s' : FreezeStep = freeze_fails 2 code in
       stores (Err code) SetsFs s' e 0 (Fails 2 x.nodes) refl refl (omega arith, omega arith, tt)
       (kept_levels (Err code) SetsFs s' e 0 (Some (closed_to 2)) (rw k refl) refl (freeze_stands (at_freeze x s')))
       (left_tree (view_at (StageWord, Store 0) w.words.stage (Err code) s' (Some (StageAction 0))) e refl)
-      (ap stage_role_of e, omega arith, refl) refl
+      (ap stage_role_of e, omega arith, refl) refl (λ four. absurd (omega (arith, k, four)))
+      (moved (Err code) SetsFs s' e 0 refl refl (λ four. omega (arith, k, four)) (λ four. omega (arith, four)))
 
   -- the same for stage 4, with which the closed levels are no task's own, or stage 0, after which level 3 is to be reopened
   pub sets_complete : (hook : HookAnswer) → IsHere SetsComplete → Keeps hook SetsComplete
   sets_complete (Ok answer) e =
       let k : w.words.stage ≡ 3 = here_knows SetsComplete e in
-      let s' : FreezeStep = Releases (Ok UnitReply) in
+      let s' : FreezeStep = StoresHolder nobody in
       let v : View = view_at (StageWord, Store 4) w.words.stage (Ok answer) s' (Some (StageAction 4)) in
       let sb : w.words.sb ≡ 0 = (good Stages).writable (rw k refl) in
-      stores (Ok answer) SetsComplete s' e 4 (Completes 0) refl refl tt
+      stores (Ok answer) SetsComplete s' e 4 (Completes 0) refl refl (none_held x.holder)
       (freezes_all c lim w good t lt (record w.words { stage = 4 }) v
       (record { block_same = refl; level_same = refl; sync_same = refl; section_same = refl })
       (record { held_same = refl; added_same = refl; taken_same = refl }) (here_stands SetsComplete e) (freeze_stands (at_freeze x s'))
       (rw sb refl))
       (kept_tree (Ok answer) SetsComplete s' e 4 refl
       (sealed_frozen w.words.sb 4 (omega arith) ∙ sym (sealed_frozen w.words.sb w.words.stage (omega (arith, k)))))
-      (ap stage_role_of e, refl) refl
+      (ap stage_role_of e, refl) refl tt (completed (Ok answer) SetsComplete e refl refl (λ four. omega (arith, k, four)))
   sets_complete (Err code) e =
       let k : w.words.stage ≡ 3 = here_knows SetsComplete e in
       let s' : FreezeStep = freeze_fails 3 code in
@@ -232,22 +275,24 @@ module _ (c : Config) (lim : IsWithin c) (w : World) (good : IsGood c w) (t : �
       (kept_levels (Err code) SetsComplete s' e 0 (Some (closed_to 3)) (rw k refl) refl (freeze_stands (at_freeze x s')))
       (opened_tree c w good t lt lim (view_at (StageWord, Store 0) w.words.stage (Err code) s' (Some (StageAction 0)))
       (sym (here_tree SetsComplete e)))
-      (ap stage_role_of e, omega arith, refl) refl
+      (ap stage_role_of e, omega arith, refl) refl (λ four. absurd (omega (arith, k, four)))
+      (moved (Err code) SetsComplete s' e 0 refl refl (λ four. omega (arith, k, four)) (λ four. omega (arith, four)))
 
   -- an event that leaves all words but `umount`, after which this step comes
   beside : (s s' : FreezeStep) (e : IsHere s) (n value : ℕ) (word : WordName) (touch : Touch) (hook : HookAnswer) (stand : Option Stand)
       (kind : StageEvent) →
       let v : View = view_at (word, touch) value hook s' None in
-      SameAtMounts (w.views t) v → SameLevelCounts (w.views t) v → FreezeFits c s' →
+      SameAtMounts (w.views t) v → SameLevelCounts (w.views t) v → FreezeFits c x.holder s' →
       OwnerHolds c.tasks n w.words.remount (λ y. (update w.views t v y).phase) →
       freeze_stand s ≡ stand → Stands (Some (Freezes (at_freeze x s'))) stand → freeze_tree_role x.nodes s' ≡ freeze_tree_role x.nodes s →
       IsStageEvent c w good t lt (record w.words { umount = n }) v kind → stage_action_of kind (stages_in w) ≡ None →
+      Holds c (left_world w t (record w.words { umount = n }) v) Holding →
       WriterLaw c w t (record w.words { umount = n }) v None
-  beside s s' e n value word touch hook stand kind mounts levels fit owner before after same happens adds =
+  beside s s' e n value word touch hook stand kind mounts levels fit owner before after same happens adds holding =
       writer_beside c w good t lt (view_at (word, touch) value hook s' None) (here_writes s e)
       (freezes_write (at_freeze x s')) mounts levels
       (goes_to s s' e fit) n stand kind owner
-      (subst (Stands (w.views t).phase) before (here_stands s e)) after (same ∙ sym (here_tree s e)) happens adds
+      (subst (Stands (w.views t).phase) before (here_stands s e)) after (same ∙ sym (here_tree s e)) happens adds holding
 
   -- the view after the lock was tried, which left this in `umount`, with this step to come
   abbrev tried : HookAnswer → ℕ → FreezeStep → View
@@ -262,19 +307,20 @@ module _ (c : Config) (lim : IsWithin c) (w : World) (good : IsGood c w) (t : �
   -- the lock is tried, and this step comes
   tries : (s s' : FreezeStep) (e : IsHere s) (n : ℕ) (hook : HookAnswer) (stand : Option Stand) (kind : StageEvent) →
       let v : View = tried hook n s' in
-      FreezeFits c s' → OwnerHolds c.tasks n w.words.remount (λ y. (update w.views t v y).phase) →
+      FreezeFits c x.holder s' → OwnerHolds c.tasks n w.words.remount (λ y. (update w.views t v y).phase) →
       freeze_stand s ≡ stand → freeze_stand s' ≡ stand → freeze_tree_role x.nodes s' ≡ freeze_tree_role x.nodes s →
       IsStageEvent c w good t lt (record w.words { umount = n }) v kind → stage_action_of kind (stages_in w) ≡ None →
-      WriterLaw c w t (record w.words { umount = n }) v None
-  tries s s' e n hook stand kind fit owner before after same happens adds =
+      freeze_holder_role s' ≡ freeze_holder_role s → WriterLaw c w t (record w.words { umount = n }) v None
+  tries s s' e n hook stand kind fit owner before after same happens adds holder =
       writer_beside c w good t lt (tried hook n s') (here_writes s e) (freezes_write (at_freeze x s'))
       (record { held_same = refl; levels_same = refl; added_same = refl; taken_same = refl })
       (record { held_same = refl; added_same = refl; taken_same = refl }) (goes_to s s' e fit) n stand kind owner
       (subst (Stands (w.views t).phase) before (here_stands s e))
       (subst (Stands (Some (Freezes (at_freeze x s')))) after (freeze_stands (at_freeze x s'))) (same ∙ sym (here_tree s e)) happens adds
+      (holders_stay c w good t lt (record w.words { umount = n }) (tried hook n s') refl refl (holder ∙ sym (ap holder_role_of e)))
 
   -- in vain: the same step comes again
-  tries_again : (s : FreezeStep) (e : IsHere s) (hook : HookAnswer) → FreezeFits c s →
+  tries_again : (s : FreezeStep) (e : IsHere s) (hook : HookAnswer) → FreezeFits c x.holder s →
       WriterLaw c w t w.words (tried hook w.words.umount s) None
   tries_again s e hook fit =
       let v : View = tried hook w.words.umount s in
@@ -282,7 +328,7 @@ module _ (c : Config) (lim : IsWithin c) (w : World) (good : IsGood c w) (t : �
       (owner_stays c w good t lt v (here_writes s e) (freezes_write (at_freeze x s)) w.words refl refl (sym (ap owns e))) refl refl refl
       (stays_there c w good t lt w.words v
       (record { stage_same = refl; sb_same = refl; remount_same = refl; block_same = refl; node_same = refl })
-      (sym (ap stage_role_of e))) refl
+      (sym (ap stage_role_of e))) refl refl
 
   -- takes `umount` where it is free
   pub locks : (hook : HookAnswer) → IsHere Locks → Keeps hook Locks
@@ -294,7 +340,7 @@ module _ (c : Config) (lim : IsWithin c) (w : World) (good : IsGood c w) (t : �
             tries Locks LoadsStage e (x.task + 1) hook None LocksStage tt
             (lock_taken c w good t lt v (here_writes Locks e) (freezes_write (at_freeze x LoadsStage)) (x.task + 1) h.1
             (omega (arith, f.0)) refl)
-            refl refl refl (ap stage_role_of e, nobody_owns c w good h.1, refl) refl)
+            refl refl refl (ap stage_role_of e, nobody_owns c w good h.1, refl) refl refl)
         | inr h ↦ rw h.0 (tries_again Locks e hook tt)
       ]
 
@@ -308,7 +354,7 @@ module _ (c : Config) (lim : IsWithin c) (w : World) (good : IsGood c w) (t : �
             tries LocksAgain SetsPageFault e (x.task + 1) hook (Some (closed_to 1)) (LocksStageAgain 1 (HasPassed 0)) tt
             (lock_taken c w good t lt v (here_writes LocksAgain e) (freezes_write (at_freeze x SetsPageFault)) (x.task + 1) h.1
             (omega (arith, f.0)) refl)
-            refl refl refl (ap stage_role_of e, nobody_owns c w good h.1, refl) refl)
+            refl refl refl (ap stage_role_of e, nobody_owns c w good h.1, refl) refl refl)
         | inr h ↦ rw h.0 (tries_again LocksAgain e hook tt)
       ]
 
@@ -324,6 +370,7 @@ module _ (c : Config) (lim : IsWithin c) (w : World) (good : IsGood c w) (t : �
       (lock_given c w good t lt v (here_writes Unlocks e) (freezes_write (at_freeze x s')) (ap owns e) refl)
       refl (closing_first (Some (Freezes (at_freeze x s'))) x.tasks x.processors (freeze_stands (at_freeze x s')))
       refl (ap stage_role_of e, refl) refl
+      (holders_stay c w good t lt (record w.words { umount = 0 }) v refl refl (sym (ap holder_role_of e)))
 
   -- gives it back at the end
   pub releases : (hook : HookAnswer) (answer : Result Reply GateError) → IsHere (Releases answer) → Keeps hook (Releases answer)
@@ -335,19 +382,27 @@ module _ (c : Config) (lim : IsWithin c) (w : World) (good : IsGood c w) (t : �
       (record { held_same = refl; added_same = refl; taken_same = refl }) tt 0 None (ReleasesStage None None)
       (lock_given c w good t lt v (here_writes s e) idle_writes (ap owns e) refl)
       (here_stands s e) idle_stands (sym (here_tree s e)) (ap stage_role_of e, refl) refl
+      (holders_stay c w good t lt (record w.words { umount = 0 }) v refl refl (sym (ap holder_role_of e)))
 
   -- a load by the owner, after which this step comes
   loads : (hook : HookAnswer) (word : WordName) (value : ℕ) (s s' : FreezeStep) (e : IsHere s) (kind : StageEvent) →
       let v : View = view_at (word, Load) value hook s' None in
       stage_owns (freeze_stage_role x.nodes s) ≡ 1 → stage_owns (freeze_stage_role x.nodes s') ≡ 1 →
       freeze_stand s ≡ None → freeze_stand s' ≡ None → freeze_tree_role x.nodes s' ≡ freeze_tree_role x.nodes s →
-      FreezeFits c s' → SameAtMounts (w.views t) v → SameLevelCounts (w.views t) v →
-      IsStageEvent c w good t lt w.words v kind → stage_action_of kind (stages_in w) ≡ None → WriterLaw c w t w.words v None
-  loads hook word value s s' e kind o o' before after same fit mounts levels happens adds =
+      FreezeFits c x.holder s' → SameAtMounts (w.views t) v → SameLevelCounts (w.views t) v →
+      IsStageEvent c w good t lt w.words v kind → stage_action_of kind (stages_in w) ≡ None →
+      Holds c (left_world w t w.words v) Holding → WriterLaw c w t w.words v None
+  loads hook word value s s' e kind o o' before after same fit mounts levels happens adds holding =
       let v : View = view_at (word, Load) value hook s' None in
       beside s s' e w.words.umount value word Load hook None kind mounts levels fit
       (owner_stays c w good t lt v (here_writes s e) (freezes_write (at_freeze x s')) w.words refl refl (o' ∙ sym (ap owns e ∙ o)))
-      before (subst (Stands (Some (Freezes (at_freeze x s')))) after (freeze_stands (at_freeze x s'))) same happens adds
+      before (subst (Stands (Some (Freezes (at_freeze x s')))) after (freeze_stands (at_freeze x s'))) same happens adds holding
+
+  -- after which it has to do with the holders what it had
+  still : (s s' : FreezeStep) → IsHere s → (word : WordName) (value : ℕ) (hook : HookAnswer) →
+      freeze_holder_role s' ≡ freeze_holder_role s → Holds c (left_world w t w.words (view_at (word, Load) value hook s' None)) Holding
+  still s s' e word value hook same =
+      holders_stay c w good t lt w.words (view_at (word, Load) value hook s' None) refl refl (same ∙ sym (ap holder_role_of e))
 
   -- an owner that found a word so relies on it
   finds : (s : FreezeStep) (e : IsHere s) (v : View) (kind : StageEvent) → (found value : ℕ) → found ≡ value → (role : ℕ → StageRole) →
@@ -364,14 +419,110 @@ module _ (c : Config) (lim : IsWithin c) (w : World) (good : IsGood c w) (t : �
             (record { held_same = refl; levels_same = refl; added_same = refl; taken_same = refl })
             (record { held_same = refl; added_same = refl; taken_same = refl })
             (finds LoadsStage e (view_at (StageWord, Load) w.words.stage hook LoadsSuperblock None) (FindsStage None None) w.words.stage 0
-            h.1 (λ n. Owning (Some n) None) (ap stage_role_of e, refl) refl) refl)
-        | inr h ↦ rw h.0 (loads hook StageWord w.words.stage LoadsStage (Releases (Err Busy)) e Stays refl refl refl refl refl tt
-            (record { held_same = refl; levels_same = refl; added_same = refl; taken_same = refl })
-            (record { held_same = refl; added_same = refl; taken_same = refl })
-            (stays_there c w good t lt w.words (view_at (StageWord, Load) w.words.stage hook (Releases (Err Busy)) None)
-            (record { stage_same = refl; sb_same = refl; remount_same = refl; block_same = refl; node_same = refl })
-            (sym (ap stage_role_of e))) refl)
+            h.1 (λ n. Owning (Some n) None) (ap stage_role_of e, refl) refl) refl
+            (still LoadsStage LoadsSuperblock e StageWord w.words.stage hook refl))
+        | inr h ↦ elim (eqb_tells w.words.stage 4) [
+          | inl k ↦ rw (h.0, k.0) (loads hook StageWord w.words.stage LoadsStage LoadsHolders e (FindsStage None None) refl refl refl refl
+              refl tt
+              (record { held_same = refl; levels_same = refl; added_same = refl; taken_same = refl })
+              (record { held_same = refl; added_same = refl; taken_same = refl })
+              (finds LoadsStage e (view_at (StageWord, Load) w.words.stage hook LoadsHolders None) (FindsStage None None) w.words.stage 4
+              k.1 (λ n. Owning (Some n) None) (ap stage_role_of e, refl) refl) refl
+              (still LoadsStage LoadsHolders e StageWord w.words.stage hook refl))
+          | inr k ↦ rw (h.0, k.0) (loads hook StageWord w.words.stage LoadsStage (Releases (Err Busy)) e Stays refl refl refl refl refl tt
+              (record { held_same = refl; levels_same = refl; added_same = refl; taken_same = refl })
+              (record { held_same = refl; added_same = refl; taken_same = refl })
+              (stays_there c w good t lt w.words (view_at (StageWord, Load) w.words.stage hook (Releases (Err Busy)) None)
+              (record { stage_same = refl; sb_same = refl; remount_same = refl; block_same = refl; node_same = refl })
+              (sym (ap stage_role_of e))) refl (still LoadsStage (Releases (Err Busy)) e StageWord w.words.stage hook refl))
+        ]
       ]
+
+  -- loads who holds a freeze; meets: whoever changes it owns `umount`
+  pub loads_holders : (hook : HookAnswer) → IsHere LoadsHolders → Keeps hook LoadsHolders
+  loads_holders hook e =
+      let k : (w.words.stage ≡ 4) × Unit {0} = here_knows LoadsHolders e in
+      let held : Holders = holders_in w.words.holders in
+      let none : total c.tasks (λ y. minds (holder_roles w y)) ≡ 0 =
+      nobody_minds c w good t lt (ap owns e) (ap (λ p. minds (holder_role_of p)) e) in
+      let some : is_unheld held ≡ false = finds_some c.tasks (holders_at w) (good Holding) t lt k.0 none in
+      found_cases x held (λ s'. WriterLaw c w t w.words (view_at (HoldersWord, Load) w.words.holders hook s' None) None)
+      (λ own. loads hook HoldersWord w.words.holders LoadsHolders (Releases (Err Busy)) e (Recalls (Owning (Some 4) None) (Owning None None))
+      refl refl refl refl refl tt
+      (record { held_same = refl; levels_same = refl; added_same = refl; taken_same = refl })
+      (record { held_same = refl; added_same = refl; taken_same = refl })
+      (ap stage_role_of e, owners_alike (Some 4) None None None, (tt, tt), (λ m l. absurd (omega (arith, l))), refl) refl
+      (still LoadsHolders (Releases (Err Busy)) e HoldersWord w.words.holders hook refl))
+      (λ other. loads hook HoldersWord w.words.holders LoadsHolders (StoresHolder held) e Stays refl refl refl refl refl other
+      (record { held_same = refl; levels_same = refl; added_same = refl; taken_same = refl })
+      (record { held_same = refl; added_same = refl; taken_same = refl })
+      (stays_there c w good t lt w.words (view_at (HoldersWord, Load) w.words.holders hook (StoresHolder held) None)
+      (record { stage_same = refl; sb_same = refl; remount_same = refl; block_same = refl; node_same = refl })
+      (sym (ap stage_role_of e))) refl
+      (holders_after c w good t lt w.words (view_at (HoldersWord, Load) w.words.holders hook (StoresHolder held) None) Finds (
+        ap holder_role_of e,
+        k.0,
+        none,
+        λ j. record {
+          stage = w.words.stage;
+          holders = w.words.holders;
+          at = update (holder_roles w) t (if some j then Fills else Found held);
+        },
+      )))
+
+  -- the owner's store of its holder beside these
+  hold_law : (hook : HookAnswer) (beside : Holders) (e : IsHere (StoresHolder beside)) → holders_in w.words.holders ≡ beside →
+      let n : ℕ = word_of (with_holder x.holder true beside) in
+      let v : View = view_at (HoldersWord, Store n) w.words.holders hook (Releases (Ok UnitReply)) (Some (Hold x.holder)) in
+      Holds c (left_world w t (record w.words { holders = n }) v) Holding → Keeps hook (StoresHolder beside)
+  hold_law hook beside e is holding =
+      let n : ℕ = word_of (with_holder x.holder true beside) in
+      let s' : FreezeStep = Releases (Ok UnitReply) in
+      let v : View = view_at (HoldersWord, Store n) w.words.holders hook s' (Some (Hold x.holder)) in
+      let now : IsWriter v.phase = freezes_write (at_freeze x s') in
+      let f : FitsHere (StoresHolder beside) = here_fits (StoresHolder beside) e in
+      writer_holds c w good t lt v (here_writes (StoresHolder beside) e) now
+      (record { held_same = refl; levels_same = refl; added_same = refl; taken_same = refl })
+      (record { held_same = refl; added_same = refl; taken_same = refl })
+      (goes_to (StoresHolder beside) s' e tt) n (Hold x.holder) None (HoldsOne x.holder None (Owning None None))
+      (owner_stays c w good t lt v (here_writes (StoresHolder beside) e) now w.words refl refl (sym (ap owns e)))
+      (here_stands (StoresHolder beside) e) (freeze_stands (at_freeze x s')) (sym (here_tree (StoresHolder beside) e))
+      (ap stage_role_of e, owners_alike (Some 4) None None None, (tt, tt), (λ m l. absurd (omega (arith, l))), refl)
+      refl (ap (λ k. held_by k x.holder) is ∙ f.5)
+      (record {
+        mounts_same = refl;
+        levels_same = refl;
+        ro_same = refl;
+        tree_same = refl;
+        holders_same = ap (with_holder x.holder true) is ∙ sym (unpack_pack (with_holder x.holder true beside));
+      })
+      holding
+
+  -- stores its holder: right after stage 4, or beside others
+  pub holds : (hook : HookAnswer) (beside : Holders) → IsHere (StoresHolder beside) → Keeps hook (StoresHolder beside)
+  holds hook beside e =
+      let n : ℕ = word_of (with_holder x.holder true beside) in
+      let v : View = view_at (HoldersWord, Store n) w.words.holders hook (Releases (Ok UnitReply)) (Some (Hold x.holder)) in
+      let roles = roles_tell c.tasks t (holders_at w) (good Holding) lt in
+      both (is_unheld beside) (λ b. Keeps hook (StoresHolder beside))
+      (λ none.
+      let role : holder_role_of (w.views t).phase ≡ Fills =
+      ap holder_role_of e ∙ ap {B = HolderRole} (λ b. if b then Fills else Found beside) none in
+      let empty : w.words.holders ≡ 0 = (roles.0 (ap between role)).0 in
+      hold_law hook beside e (ap holders_in empty ∙ sym (is_nobody beside none))
+      (holders_after c w good t lt (record w.words { holders = n }) v (HoldsFirst x.holder) (
+        role,
+        λ j. record {
+          stage = w.words.stage;
+          holders = word_of (with_holder x.holder true (is_nobody beside none j));
+          at = update (holder_roles w) t Apart;
+        },
+      )))
+      (λ some.
+      let role : holder_role_of (w.views t).phase ≡ Found beside =
+      ap holder_role_of e ∙ ap {B = HolderRole} (λ b. if b then Fills else Found beside) some in
+      hold_law hook beside e (roles.1 beside role).0
+      (holders_after c w good t lt (record w.words { holders = n }) v (Joins x.holder beside) (role, refl)))
 
   -- loads the superblock's flag
   pub loads_superblock : (hook : HookAnswer) → IsHere LoadsSuperblock → Keeps hook LoadsSuperblock
@@ -381,10 +532,12 @@ module _ (c : Config) (lim : IsWithin c) (w : World) (good : IsGood c w) (t : �
             (record { held_same = refl; levels_same = refl; added_same = refl; taken_same = refl })
             (record { held_same = refl; added_same = refl; taken_same = refl })
             (finds LoadsSuperblock e (view_at (SbFlags, Load) w.words.sb hook SetsWrite None) (LoadsSb (Some 0) None) w.words.sb 0 h.1
-            (λ n. Owning (Some 0) (Some n)) (ap stage_role_of e, refl) refl) refl)
+            (λ n. Owning (Some 0) (Some n)) (ap stage_role_of e, refl) refl) refl
+            (still LoadsSuperblock SetsWrite e SbFlags w.words.sb hook refl))
         | inr h ↦ rw h.0 (loads hook SbFlags w.words.sb LoadsSuperblock CompletesReadOnly e (LoadsSb (Some 0) None) refl refl refl refl refl
             tt (record { held_same = refl; levels_same = refl; added_same = refl; taken_same = refl })
             (record { held_same = refl; added_same = refl; taken_same = refl })
             (finds LoadsSuperblock e (view_at (SbFlags, Load) w.words.sb hook CompletesReadOnly None) (LoadsSb (Some 0) None) w.words.sb
-            1 (omega (arith, h.1, (good Stages).superblock)) (λ n. Owning (Some 0) (Some n)) (ap stage_role_of e, refl) refl) refl)
+            1 (omega (arith, h.1, (good Stages).superblock)) (λ n. Owning (Some 0) (Some n)) (ap stage_role_of e, refl) refl) refl
+            (still LoadsSuperblock CompletesReadOnly e SbFlags w.words.sb hook refl))
       ]

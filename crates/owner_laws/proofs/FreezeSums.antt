@@ -36,7 +36,7 @@ use Rattle.percpu_rwsem.specs.Writers.{
 use Rattle.gate_world.specs.declared.config.Config.{Config}
 use Rattle.gate_world.specs.declared.views.Traced.{Traced}
 use Rattle.gate_world.specs.Configs.{IsWithin}
-use Rattle.gate_world.specs.Found.{found_sealed, stored_stage, cleans, newest, finds_readers, IsLevelSum, sum_of_newest, FoundInside}
+use Rattle.gate_world.specs.Found.{found_sealed, found_complete, stored_stage, cleans, newest, finds_readers, IsLevelSum, sum_of_newest, FoundInside}
 use Rattle.gate_world.specs.Views.{with_hook}
 
 -- the closing of this level, among the tasks and processors of a configuration, at a step
@@ -67,7 +67,8 @@ ClosingNext c i trace (Done answer) action = action ≡ Some (Pass i)
 -- the trace has found the superblock's flag, stored stage 3 and cleared marks as an earlier one had
 abbrev pub Leaves : List Traced → List Traced → Type 0
 Leaves trace earlier =
-    (found_sealed trace ≡ found_sealed earlier) × (stored_stage 3 trace ≡ stored_stage 3 earlier) × (cleans trace ≡ cleans earlier)
+    (found_sealed trace ≡ found_sealed earlier) × (stored_stage 3 trace ≡ stored_stage 3 earlier) × (cleans trace ≡ cleans earlier) ×
+    (found_complete trace ≡ found_complete earlier)
 
 module _ (c : Config) (lim : IsWithin c) (i value : ℕ) (hook : HookAnswer) (earlier : List Traced) where
   -- the trace after the event of a step
@@ -81,14 +82,14 @@ module _ (c : Config) (lim : IsWithin c) (i value : ℕ) (hook : HookAnswer) (ea
 
   -- each event of the closing of a level leaves what was found, stored and cleared
   pub closing_leaves : (s : DownWriteStep) → Leaves (closing_trace s) earlier
-  closing_leaves (Enters Loads) = (refl, refl, refl)
-  closing_leaves (Enters (Exchanges from to)) = (refl, refl, refl)
-  closing_leaves (AwaitsSections grace) = (refl, refl, refl)
-  closing_leaves (CallsBack Loads) = (refl, refl, refl)
-  closing_leaves (CallsBack (Exchanges from to)) = (refl, refl, refl)
-  closing_leaves AwaitsPassed = (refl, refl, refl)
-  closing_leaves SetsBlock = (refl, refl, refl)
-  closing_leaves (Sums sum) = (refl, refl, refl)
+  closing_leaves (Enters Loads) = (refl, refl, refl, refl)
+  closing_leaves (Enters (Exchanges from to)) = (refl, refl, refl, refl)
+  closing_leaves (AwaitsSections grace) = (refl, refl, refl, refl)
+  closing_leaves (CallsBack Loads) = (refl, refl, refl, refl)
+  closing_leaves (CallsBack (Exchanges from to)) = (refl, refl, refl, refl)
+  closing_leaves AwaitsPassed = (refl, refl, refl, refl)
+  closing_leaves SetsBlock = (refl, refl, refl, refl)
+  closing_leaves (Sums sum) = (refl, refl, refl, refl)
 
   -- what the trace says after the event of a step
   abbrev AfterClosing : DownWriteStep → Type 0

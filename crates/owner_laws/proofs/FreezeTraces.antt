@@ -1,11 +1,11 @@
 -- Traces of a freeze of the superblock.
 use Rattle.std.proofs.Common.{◌≡◌, ℕ, zero, suc, ◌+◌, ◌-◌, Bool, true, false, refl, sym, ap, ◌∙◌, subst, inl, inr, arith}
-use Rattle.std.specs.Prelude.{◌==◌, nat_lt, if◌then◌else◌, Option, Result, Ok, Err, List, [], ◌∷◌, ◌++◌, bit_and}
+use Rattle.std.specs.Prelude.{◌==◌, ◌||◌, nat_lt, if◌then◌else◌, Option, Result, Ok, Err, List, [], ◌∷◌, ◌++◌, bit_and}
 use Rattle.std.proofs.lemmas.Bool.{eq-eqb, ne_eqb, cases_Bool}
 use Rattle.std.proofs.lemmas.Bool.Decides.{eqb_tells}
 use Rattle.std.proofs.lemmas.Nat.Bits.{and_pow}
 use Rattle.access_model.specs.declared.actions.Action.{Action}
-use Rattle.access_model.specs.declared.actions.Action.TheVariants.{Clean, Pass, Reopen, Stage as StageAction}
+use Rattle.access_model.specs.declared.actions.Action.TheVariants.{Clean, Pass, Reopen, Stage as StageAction, Hold}
 use Rattle.access_model.specs.declared.errors.GateError.{GateError}
 use Rattle.access_model.specs.declared.errors.GateError.TheVariants.{Busy, Hook}
 use Rattle.access_model.specs.declared.replies.Next.{Next}
@@ -38,6 +38,8 @@ use Rattle.percpu_rwsem.specs.Writers.{down_write_after, exit_made}
 use Rattle.freeze_levels.specs.declared.freezes.Freeze.{Freeze}
 use Rattle.freeze_levels.specs.declared.freezes.FreezeStep.{FreezeStep}
 use Rattle.freeze_levels.specs.declared.freezes.FreezeStep.TheVariants.{
+  LoadsHolders,
+  Holds,
   Locks,
   LoadsStage,
   LoadsSuperblock,
@@ -61,7 +63,7 @@ use Rattle.gate_world.specs.declared.work.Phase.TheVariants.{Freezes}
 use Rattle.gate_world.specs.declared.views.Traced.{Traced}
 use Rattle.gate_world.specs.Configs.{IsWithin}
 use Rattle.gate_world.specs.Courses.{IsTrace, course_of}
-use Rattle.gate_world.specs.Found.{found_sealed, stored_stage, cleans, ReadAnswer}
+use Rattle.gate_world.specs.Found.{found_sealed, found_complete, found_held, stored_stage, cleans, ReadAnswer}
 use Rattle.gate_world.specs.Operations.{two_levels_closed, all_levels_closed}
 use Rattle.gate_world.specs.Traces.{actions_of, IsHonestAnswer, Tells, IsShort, most_events}
 use Rattle.gate_world.specs.Views.{actions_after, with_hook}
@@ -77,18 +79,30 @@ use Rattle.owner_laws.proofs.FreezeSums.{
   closing_leaves,
   closing_event,
 }
+use Rattle.access_model.specs.declared.actions.Holder.{Holder}
+use Rattle.access_model.specs.Holders.{nobody}
+use Rattle.freeze_levels.specs.Holders.{holders_in}
+use Rattle.owner_laws.proofs.FreezeFits.{found_cases}
 
 -- a freeze of the superblock by a task, at this step
-abbrev pub freeze_of : Config → ℕ → FreezeStep → Freeze
-freeze_of c t step = record { task = t; tasks = c.tasks; processors = c.processors; nodes = c.nodes; step = step }
+abbrev pub freeze_of : Config → ℕ → Holder → FreezeStep → Freeze
+freeze_of c t holder step = record {
+  task = t;
+  tasks = c.tasks;
+  processors = c.processors;
+  nodes = c.nodes;
+  holder = holder;
+  step = step;
+}
 
 -- the same as a phase
-abbrev pub freeze_at : Config → ℕ → FreezeStep → Phase
-freeze_at c t step = Freezes (freeze_of c t step)
+abbrev pub freeze_at : Config → ℕ → Holder → FreezeStep → Phase
+freeze_at c t holder step = Freezes (freeze_of c t holder step)
 
--- these actions are added, the superblock wasn't found read-only, and stage 3 is stored or not
+-- these actions are added, the superblock wasn't found read-only nor frozen, and stage 3 is stored or not
 abbrev HasAdded : List Action → Bool → List Traced → List Action → Type 0
-HasAdded done third trace added = (added ≡ done) × (found_sealed trace ≡ false) × (stored_stage 3 trace ≡ third)
+HasAdded done third trace added =
+    (added ≡ done) × ((found_sealed trace ≡ false) × (found_complete trace ≡ false)) × (stored_stage 3 trace ≡ third)
 
 -- these actions are added before stage 3 is stored or any mark is cleared
 abbrev HasBegun : List Action → List Traced → List Action → Type 0
@@ -123,8 +137,12 @@ IsReopening (suc i) (Exits transition) trace added = AreLeft i trace added
 IsReopening zero s trace added = ⊥
 
 -- what is answered is told already
-abbrev Answers : Config → Result Reply GateError → List Traced → List Action → Type 0
-Answers c answer trace added = (added ≡ actions_of FreezeOp answer trace) × IsHonestAnswer c FreezeOp answer trace
+-- what is added where all is frozen: nothing, where it was found so; or stage 4, with the levels closed of a writable superblock
+abbrev frozen_adds : List Traced → List Action
+frozen_adds trace = if found_complete trace then [] else StageAction 4 ∷ (if found_sealed trace then [] else all_levels_closed trace)
+
+abbrev Answers : Config → Holder → Result Reply GateError → List Traced → List Action → Type 0
+Answers c holder answer trace added = (added ≡ actions_of (FreezeOp holder) answer trace) × IsHonestAnswer c (FreezeOp holder) answer trace
 
 -- a level is closed, and the trace says what it is to say at that step
 abbrev ClosesSay : Config → DownWrite → List Traced → List Action → Type 0
@@ -137,25 +155,27 @@ ReopensSay u code trace added =
     (i : ℕ) × (s : UpWriteStep) × (u ≡ record { level = i; step = s }) × IsReopening i s trace added × ReadAnswer Stage (Err code) trace
 
 -- what a trace says at a step: what was found, stored, cleared and added
-abbrev StepSays : Config → FreezeStep → List Traced → List Action → Type 0
-StepSays c Locks trace added = HasBegun [] trace added
-StepSays c LoadsStage trace added = HasBegun [] trace added
-StepSays c LoadsSuperblock trace added = HasBegun [] trace added
-StepSays c CompletesReadOnly trace added = (added ≡ []) × (found_sealed trace ≡ true)
-StepSays c SetsWrite trace added = HasBegun [] trace added
-StepSays c Unlocks trace added = HasBegun (StageAction 1 ∷ []) trace added
-StepSays c (Closes d) trace added = ClosesSay c d trace added
-StepSays c LocksAgain trace added = HasBegun (Pass 1 ∷ (StageAction 1 ∷ [])) trace added
-StepSays c SetsPageFault trace added = HasBegun (Pass 1 ∷ (StageAction 1 ∷ [])) trace added
-StepSays c (Cleans marks) trace added = HasAdded (two_levels_closed trace) false trace added
-StepSays c SetsFs trace added = HasAdded (two_levels_closed trace) false trace added
-StepSays c SetsComplete trace added = HasAdded (all_levels_closed trace) true trace added
-StepSays c (Reopens u code) trace added = ReopensSay u code trace added
-StepSays c (Releases answer) trace added = Answers c answer trace added
+abbrev StepSays : Config → Holder → FreezeStep → List Traced → List Action → Type 0
+StepSays c holder Locks trace added = HasBegun [] trace added
+StepSays c holder LoadsStage trace added = HasBegun [] trace added
+StepSays c holder LoadsHolders trace added = (added ≡ []) × (found_complete trace ≡ true)
+StepSays c holder (Holds beside) trace added = added ≡ frozen_adds trace
+StepSays c holder LoadsSuperblock trace added = HasBegun [] trace added
+StepSays c holder CompletesReadOnly trace added = (added ≡ []) × (found_sealed trace ≡ true) × (found_complete trace ≡ false)
+StepSays c holder SetsWrite trace added = HasBegun [] trace added
+StepSays c holder Unlocks trace added = HasBegun (StageAction 1 ∷ []) trace added
+StepSays c holder (Closes d) trace added = ClosesSay c d trace added
+StepSays c holder LocksAgain trace added = HasBegun (Pass 1 ∷ (StageAction 1 ∷ [])) trace added
+StepSays c holder SetsPageFault trace added = HasBegun (Pass 1 ∷ (StageAction 1 ∷ [])) trace added
+StepSays c holder (Cleans marks) trace added = HasAdded (two_levels_closed trace) false trace added
+StepSays c holder SetsFs trace added = HasAdded (two_levels_closed trace) false trace added
+StepSays c holder SetsComplete trace added = HasAdded (all_levels_closed trace) true trace added
+StepSays c holder (Reopens u code) trace added = ReopensSay u code trace added
+StepSays c holder (Releases answer) trace added = Answers c holder answer trace added
 
 -- what a freeze's trace says at a phase
-abbrev pub FreezeAt : Config → ℕ → List Traced → Phase → List Action → Type 0
-FreezeAt c t trace phase added = (step : FreezeStep) × (phase ≡ freeze_at c t step) × StepSays c step trace added
+abbrev pub FreezeAt : Config → ℕ → Holder → List Traced → Phase → List Action → Type 0
+FreezeAt c t holder trace phase added = (step : FreezeStep) × (phase ≡ freeze_at c t holder step) × StepSays c holder step trace added
 
 -- the mark of a node's word is its dirty bit
 mark_bit : (word : ℕ) → (dirty_in word == 1) ≡ has_flag word 4
@@ -169,67 +189,67 @@ mark_bit word =
 closing_stays : (i : ℕ) (trace earlier : List Traced) (added : List Action) → Leaves trace earlier → IsClosing i earlier added →
     IsClosing i trace added
 closing_stays zero trace earlier added l h = absurd h
-closing_stays (suc zero) trace earlier added l h = ((h.0.0, l.0 ∙ h.0.1, l.1 ∙ h.0.2), l.2 ∙ h.1)
-closing_stays (suc (suc zero)) trace earlier added l h = ((h.0.0, l.0 ∙ h.0.1, l.1 ∙ h.0.2), l.2 ∙ h.1)
+closing_stays (suc zero) trace earlier added l h = ((h.0.0, (l.0 ∙ h.0.1.0, l.3 ∙ h.0.1.1), l.1 ∙ h.0.2), l.2 ∙ h.1)
+closing_stays (suc (suc zero)) trace earlier added l h = ((h.0.0, (l.0 ∙ h.0.1.0, l.3 ∙ h.0.1.1), l.1 ∙ h.0.2), l.2 ∙ h.1)
 closing_stays (suc (suc (suc zero))) trace earlier added l h = (
   h.0 ∙ ap (λ (marks : List Action). StageAction 3 ∷ (marks ++ (Pass 2 ∷ (StageAction 2 ∷ (Pass 1 ∷ (StageAction 1 ∷ [])))))) (sym l.2),
-  l.0 ∙ h.1,
+  (l.0 ∙ h.1.0, l.3 ∙ h.1.1),
   l.1 ∙ h.2,
 )
 closing_stays (suc (suc (suc (suc i)))) trace earlier added l h = absurd h
 
 -- a level is passed, and the next step of the freeze comes
-level_passed : (c : Config) (i : ℕ) (trace : List Traced) (added : List Action) → IsClosing i trace added →
-    StepSays c (level_closed i c.nodes) trace (Pass i ∷ added)
-level_passed c zero trace added h = absurd h
-level_passed c (suc zero) trace added h = ((ap (λ (l : List Action). Pass 1 ∷ l) h.0.0, h.0.1, h.0.2), h.1)
-level_passed c (suc (suc zero)) trace added h = (rw h.1 (ap (λ (l : List Action). Pass 2 ∷ l) h.0.0), h.0.1, h.0.2)
-level_passed c (suc (suc (suc zero))) trace added h = (ap (λ (l : List Action). Pass 3 ∷ l) h.0, h.1, h.2)
-level_passed c (suc (suc (suc (suc i)))) trace added h = absurd h
+level_passed : (c : Config) (holder : Holder) (i : ℕ) (trace : List Traced) (added : List Action) → IsClosing i trace added →
+    StepSays c holder (level_closed i c.nodes) trace (Pass i ∷ added)
+level_passed c holder zero trace added h = absurd h
+level_passed c holder (suc zero) trace added h = ((ap (λ (l : List Action). Pass 1 ∷ l) h.0.0, h.0.1, h.0.2), h.1)
+level_passed c holder (suc (suc zero)) trace added h = (rw h.1 (ap (λ (l : List Action). Pass 2 ∷ l) h.0.0), h.0.1, h.0.2)
+level_passed c holder (suc (suc (suc zero))) trace added h = (ap (λ (l : List Action). Pass 3 ∷ l) h.0, h.1, h.2)
+level_passed c holder (suc (suc (suc (suc i)))) trace added h = absurd h
 
 -- what is said of the closing of a level is said of a freeze, by what comes next
-closing_says : (c : Config) (t i : ℕ) (s : DownWriteStep) (e : Traced) (earlier : List Traced) (added : List Action) (n : Next DownWrite)
+closing_says : (c : Config) (t : ℕ) (holder : Holder) (i : ℕ) (s : DownWriteStep) (e : Traced) (earlier : List Traced) (added : List Action) (n : Next DownWrite)
     (action : Option Action) → IsClosing i (e ∷ earlier) added → ClosingNext c i (e ∷ earlier) n action →
-    Says (FreezeAt c t) c FreezeOp (e ∷ earlier)
-    (map_next Freezes (after_closing (freeze_of c t (Closes (closing_at c i s))) i n)) (actions_after action added)
-closing_says c t i s e earlier added (Go d) action level h =
+    Says (FreezeAt c t holder) c (FreezeOp holder) (e ∷ earlier)
+    (map_next Freezes (after_closing (freeze_of c t holder (Closes (closing_at c i s))) i n)) (actions_after action added)
+closing_says c t holder i s e earlier added (Go d) action level h =
     rw h.1 (Closes d, refl, (i, h.0.0, h.0.1, level, h.0.2))
-closing_says c t i s e earlier added (Wait d) action level h =
+closing_says c t holder i s e earlier added (Wait d) action level h =
     rw h.1 ((Closes d, refl, (i, h.0.0, h.0.1, level, h.0.2)), inr h.2)
-closing_says c t i s e earlier added (Done answer) action level h =
-    rw h (level_closed i c.nodes, refl, level_passed c i (e ∷ earlier) added level)
+closing_says c t holder i s e earlier added (Done answer) action level h =
+    rw h (level_closed i c.nodes, refl, level_passed c holder i (e ∷ earlier) added level)
 
 -- where no level is left closed, the failed freeze gives `umount` back, and else it reopens the highest
-fails_says : (c : Config) (i code : ℕ) (trace : List Traced) (added : List Action) → AreLeft i trace added →
-    ReadAnswer Stage (Err code) trace → StepSays c (freeze_fails i code) trace added
-fails_says c zero code trace added h said = (h, said)
-fails_says c (suc zero) code trace added h said = (1, ClearsBlock, refl, h, said)
-fails_says c (suc (suc zero)) code trace added h said = (2, ClearsBlock, refl, h, said)
-fails_says c (suc (suc (suc zero))) code trace added h said = (3, ClearsBlock, refl, h, said)
-fails_says c (suc (suc (suc (suc i)))) code trace added h said = absurd h
+fails_says : (c : Config) (holder : Holder) (i code : ℕ) (trace : List Traced) (added : List Action) → AreLeft i trace added →
+    ReadAnswer Stage (Err code) trace → StepSays c holder (freeze_fails i code) trace added
+fails_says c holder zero code trace added h said = (h, said)
+fails_says c holder (suc zero) code trace added h said = (1, ClearsBlock, refl, h, said)
+fails_says c holder (suc (suc zero)) code trace added h said = (2, ClearsBlock, refl, h, said)
+fails_says c holder (suc (suc (suc zero))) code trace added h said = (3, ClearsBlock, refl, h, said)
+fails_says c holder (suc (suc (suc (suc i)))) code trace added h said = absurd h
 
 -- the number below the next one
 below_next : (i : ℕ) → suc i - 1 ≡ i
 below_next i = omega arith
 
 -- an event that gives `umount` back leaves what is told
-lock_leaves : (c : Config) (answer : Result Reply GateError) (value : ℕ) (hook : HookAnswer) (earlier : List Traced)
-    (added : List Action) → Answers c answer earlier added →
-    Answers c answer (with_hook (event_of Umount (Store 0) value) hook ∷ earlier) added
-lock_leaves c (Err (Hook code)) value hook earlier added h = (h.0, inr h.1)
-lock_leaves c answer value hook earlier added h = h
+lock_leaves : (c : Config) (holder : Holder) (answer : Result Reply GateError) (value : ℕ) (hook : HookAnswer) (earlier : List Traced)
+    (added : List Action) → Answers c holder answer earlier added →
+    Answers c holder answer (with_hook (event_of Umount (Store 0) value) hook ∷ earlier) added
+lock_leaves c holder (Err (Hook code)) value hook earlier added h = (h.0, inr h.1)
+lock_leaves c holder answer value hook earlier added h = h
 
-module _ (c : Config) (lim : IsWithin c) (t value : ℕ) (earlier : List Traced) (added : List Action) where
+module _ (c : Config) (lim : IsWithin c) (t : ℕ) (holder : Holder) (value : ℕ) (earlier : List Traced) (added : List Action) where
   -- the trace after the event of a step
   abbrev longer : HookAnswer → FreezeStep → List Traced
-  longer hook step = with_hook (event_at (freeze_at c t step) value hook) hook ∷ earlier
+  longer hook step = with_hook (event_at (freeze_at c t holder step) value hook) hook ∷ earlier
 
   -- what the trace says after the event of a step
   abbrev After : HookAnswer → FreezeStep → Type 0
-  After hook step = SaysAfter (FreezeAt c t) c FreezeOp (freeze_at c t step) value hook earlier added
+  After hook step = SaysAfter (FreezeAt c t holder) c (FreezeOp holder) (freeze_at c t holder step) value hook earlier added
 
   -- `umount` is tried
-  locks : (hook : HookAnswer) → StepSays c Locks earlier added → After hook Locks
+  locks : (hook : HookAnswer) → StepSays c holder Locks earlier added → After hook Locks
   locks hook h =
       elim (cases_Bool (value == 0)) [
         | inl f ↦ rw f (LoadsStage, refl, h)
@@ -237,7 +257,7 @@ module _ (c : Config) (lim : IsWithin c) (t value : ℕ) (earlier : List Traced)
       ]
 
   -- and again, with level 1 closed
-  locks_again : (hook : HookAnswer) → StepSays c LocksAgain earlier added → After hook LocksAgain
+  locks_again : (hook : HookAnswer) → StepSays c holder LocksAgain earlier added → After hook LocksAgain
   locks_again hook h =
       elim (cases_Bool (value == 0)) [
         | inl f ↦ rw f (SetsPageFault, refl, h)
@@ -245,19 +265,34 @@ module _ (c : Config) (lim : IsWithin c) (t value : ℕ) (earlier : List Traced)
       ]
 
   -- the stage is found 0, or not
-  loads_stage : (hook : HookAnswer) → StepSays c LoadsStage earlier added → After hook LoadsStage
+  loads_stage : (hook : HookAnswer) → StepSays c holder LoadsStage earlier added → After hook LoadsStage
   loads_stage hook h =
-      elim (cases_Bool (value == 0)) [
-        | inl f ↦ rw f (LoadsSuperblock, refl, h)
-        | inr f ↦ rw f (Releases (Err Busy), refl, (h.0.0, rw f refl))
+      elim (eqb_tells value 0) [
+        | inl f ↦ rw f.0 (
+          LoadsSuperblock,
+          refl,
+          ((h.0.0, (h.0.1.0, ap (λ v. (v == 4) || found_complete earlier) f.1 ∙ h.0.1.1), h.0.2), h.1),
+        )
+        | inr f ↦ elim (eqb_tells value 4) [
+          | inl g ↦ rw (f.0, g.0) (LoadsHolders, refl, (h.0.0, rw g.0 refl))
+          | inr g ↦ rw (f.0, g.0) (Releases (Err Busy), refl, (h.0.0, inl (rw (f.0, g.0) refl)))
+        ]
       ]
 
+  -- its holder is found to hold a freeze, or not
+  loads_holders : (hook : HookAnswer) → StepSays c holder LoadsHolders earlier added → After hook LoadsHolders
+  loads_holders hook h =
+      found_cases (freeze_of c t holder LoadsHolders) (holders_in value)
+      (λ s. FreezeAt c t holder (longer hook LoadsHolders) (freeze_at c t holder s) added)
+      (λ own. (Releases (Err Busy), refl, (h.0, inr (ap (λ b. b || found_held holder earlier) own))))
+      (λ other. (Holds (holders_in value), refl, rw h.1 h.0))
+
   -- the superblock's flag is found clear, or set
-  loads_superblock : (hook : HookAnswer) → StepSays c LoadsSuperblock earlier added → After hook LoadsSuperblock
+  loads_superblock : (hook : HookAnswer) → StepSays c holder LoadsSuperblock earlier added → After hook LoadsSuperblock
   loads_superblock hook h =
       elim (cases_Bool (value == 0)) [
-        | inl f ↦ rw f (SetsWrite, refl, ((h.0.0, rw f h.0.1, h.0.2), h.1))
-        | inr f ↦ rw f (CompletesReadOnly, refl, (h.0.0, rw f refl))
+        | inl f ↦ rw f (SetsWrite, refl, ((h.0.0, (rw f h.0.1.0, h.0.1.1), h.0.2), h.1))
+        | inr f ↦ rw f (CompletesReadOnly, refl, (h.0.0, rw f refl, h.0.1.1))
       ]
 
   -- an event of the closing of a level
@@ -268,7 +303,7 @@ module _ (c : Config) (lim : IsWithin c) (t value : ℕ) (earlier : List Traced)
       subst (λ (x : DownWrite). After hook (Closes x)) (sym h.2) (
       let closing : DownWrite = closing_at c i s in
       let found : ℕ = closing_found c lim i value hook earlier s in
-      closing_says c t i s (with_hook (event_at (freeze_at c t (Closes closing)) value hook) hook) earlier added
+      closing_says c t holder i s (with_hook (event_at (freeze_at c t holder (Closes closing)) value hook) hook) earlier added
       (down_write_after closing s found).0 (down_write_after closing s found).1
       (closing_stays i (closing_trace c lim i value hook earlier s) earlier added (closing_leaves c lim i value hook earlier s) h.3)
       (closing_event c lim i value hook earlier s h.4)
@@ -277,8 +312,8 @@ module _ (c : Config) (lim : IsWithin c) (t value : ℕ) (earlier : List Traced)
   -- another node comes, or the marks are cleared
   node_says : (marks : ClearMarks) (trace : List Traced) (actions : List Action) →
       HasAdded (two_levels_closed trace) false trace actions →
-      Says (FreezeAt c t) c FreezeOp trace
-      (map_next Freezes (after_clearing (freeze_of c t (Cleans marks)) (clears_at marks (node_after marks.node marks.nodes)))) actions
+      Says (FreezeAt c t holder) c (FreezeOp holder) trace
+      (map_next Freezes (after_clearing (freeze_of c t holder (Cleans marks)) (clears_at marks (node_after marks.node marks.nodes)))) actions
   node_says marks trace actions h =
       elim (cases_Bool (nat_lt (marks.node + 1) marks.nodes)) [
         | inl f ↦ rw f (Cleans (record marks { node = marks.node + 1 }), refl, h)
@@ -286,7 +321,7 @@ module _ (c : Config) (lim : IsWithin c) (t value : ℕ) (earlier : List Traced)
       ]
 
   -- a mark was found set, or clear
-  clears : (hook : HookAnswer) (marks : ClearMarks) → StepSays c (Cleans marks) earlier added → After hook (Cleans marks)
+  clears : (hook : HookAnswer) (marks : ClearMarks) → StepSays c holder (Cleans marks) earlier added → After hook (Cleans marks)
   clears hook marks h =
       let trace : List Traced = longer hook (Cleans marks) in
       elim (cases_Bool (has_flag value 4)) [
@@ -298,7 +333,7 @@ module _ (c : Config) (lim : IsWithin c) (t value : ℕ) (earlier : List Traced)
       ]
 
   -- the file system has answered `sync`: stage 3 is stored, or 0
-  sets_fs : (hook : HookAnswer) → StepSays c SetsFs earlier added → After hook SetsFs
+  sets_fs : (hook : HookAnswer) → StepSays c holder SetsFs earlier added → After hook SetsFs
   sets_fs (Ok answer) h = (
     Closes (closing_at c 3 (Enters Loads)),
     refl,
@@ -307,36 +342,32 @@ module _ (c : Config) (lim : IsWithin c) (t value : ℕ) (earlier : List Traced)
   sets_fs (Err code) h = (
     freeze_fails 2 code,
     refl,
-    fails_says c 2 code (longer (Err code) SetsFs) (StageAction 0 ∷ added)
+    fails_says c holder 2 code (longer (Err code) SetsFs) (StageAction 0 ∷ added)
         (rw h.2 (ap (λ (l : List Action). StageAction 0 ∷ l) h.0)) (inl (refl, refl, refl)),
   )
 
   -- the file system has answered `freeze_fs`: stage 4 is stored, or 0
-  sets_complete : (hook : HookAnswer) → StepSays c SetsComplete earlier added → After hook SetsComplete
-  sets_complete (Ok answer) h = (
-    Releases (Ok UnitReply),
-    refl,
-    (rw h.1 (ap (λ (l : List Action). StageAction 4 ∷ l) h.0), tt),
-  )
+  sets_complete : (hook : HookAnswer) → StepSays c holder SetsComplete earlier added → After hook SetsComplete
+  sets_complete (Ok answer) h = (Holds nobody, refl, rw (h.1.1, h.1.0) (ap (λ (l : List Action). StageAction 4 ∷ l) h.0))
   sets_complete (Err code) h = (
     freeze_fails 3 code,
     refl,
-    fails_says c 3 code (longer (Err code) SetsComplete) (StageAction 0 ∷ added)
+    fails_says c holder 3 code (longer (Err code) SetsComplete) (StageAction 0 ∷ added)
         (ap (λ (l : List Action). StageAction 0 ∷ l) h.0, h.2) (inl (refl, refl, refl)),
   )
 
   -- a level is being left, or it is left and the level below it comes
   leaves_on : (i code : ℕ) (from : Transition) (trace : List Traced) (n : TransitionNext) → AreLeft i trace added →
       ReadAnswer Stage (Err code) trace →
-      Says (FreezeAt c t) c FreezeOp trace
-      (map_next Freezes (after_reopening (freeze_of c t (Reopens (record { level = suc i; step = Exits from }) code)) (suc i) code
+      Says (FreezeAt c t holder) c (FreezeOp holder) trace
+      (map_next Freezes (after_reopening (freeze_of c t holder (Reopens (record { level = suc i; step = Exits from }) code)) (suc i) code
       (exit_made (record { level = suc i; step = Exits from }) n)))
       added
   leaves_on i code from trace (More transition) h said =
       (Reopens (record { level = suc i; step = Exits transition }) code, refl, (suc i, Exits transition, refl, h, said))
   leaves_on i code from trace Undefined h said =
       (Reopens (record { level = suc i; step = Exits Loads }) code, refl, (suc i, Exits Loads, refl, h, said))
-  leaves_on i code from trace (Made state) h said = rw (below_next i) (freeze_fails i code, refl, fails_says c i code trace added h said)
+  leaves_on i code from trace (Made state) h said = rw (below_next i) (freeze_fails i code, refl, fails_says c holder i code trace added h said)
 
   -- an event on a level's words leaves what is left
   still_left : (hook : HookAnswer) (i n : ℕ) (transition : Transition) → AreLeft n earlier added →
@@ -374,15 +405,13 @@ module _ (c : Config) (lim : IsWithin c) (t value : ℕ) (earlier : List Traced)
   )
 
   -- each event of a freeze keeps what its trace says
-  freeze_event : (hook : HookAnswer) (step : FreezeStep) → StepSays c step earlier added → After hook step
+  freeze_event : (hook : HookAnswer) (step : FreezeStep) → StepSays c holder step earlier added → After hook step
   freeze_event hook Locks h = locks hook h
   freeze_event hook LoadsStage h = loads_stage hook h
   freeze_event hook LoadsSuperblock h = loads_superblock hook h
-  freeze_event hook CompletesReadOnly h = (
-    Releases (Ok UnitReply),
-    refl,
-    (rw h.1 (ap (λ (l : List Action). StageAction 4 ∷ l) h.0), tt),
-  )
+  freeze_event hook LoadsHolders h = loads_holders hook h
+  freeze_event hook (Holds beside) h = (Releases (Ok UnitReply), refl, (ap (λ (l : List Action). Hold holder ∷ l) h, tt))
+  freeze_event hook CompletesReadOnly h = (Holds nobody, refl, rw (h.2, h.1) (ap (λ (l : List Action). StageAction 4 ∷ l) h.0))
   freeze_event hook SetsWrite h = (Unlocks, refl, ((ap (λ (l : List Action). StageAction 1 ∷ l) h.0.0, h.0.1, h.0.2), h.1))
   freeze_event hook Unlocks h = (Closes (closing_at c 1 (Enters Loads)), refl, (1, Enters Loads, refl, h, tt))
   freeze_event hook (Closes d) h = closes hook d h
@@ -397,39 +426,39 @@ module _ (c : Config) (lim : IsWithin c) (t value : ℕ) (earlier : List Traced)
   freeze_event hook SetsComplete h = sets_complete hook h
   freeze_event hook (Reopens u code) h =
       subst (λ (x : UpWrite). After hook (Reopens x code)) (sym h.2) (reopening_event hook code h.0 h.1 h.3 h.4)
-  freeze_event hook (Releases answer) h = (lock_leaves c answer value hook earlier added h, tt)
+  freeze_event hook (Releases answer) h = (lock_leaves c holder answer value hook earlier added h, tt)
 
 -- so it is kept along every trace of a freeze
-pub freeze_kept : (c : Config) → IsWithin c → (t : ℕ) → Kept (FreezeAt c t) c t FreezeOp
-freeze_kept c lim t = record {
-  first = (Locks, refl, ((refl, refl, refl), refl));
+pub freeze_kept : (c : Config) → IsWithin c → (t : ℕ) (holder : Holder) → Kept (FreezeAt c t holder) c t (FreezeOp holder)
+freeze_kept c lim t holder = record {
+  first = (Locks, refl, ((refl, (refl, refl), refl), refl));
   more = λ phase value hook earlier added here.
-      subst (λ (x : Phase). SaysAfter (FreezeAt c t) c FreezeOp x value hook earlier added) (sym here.1)
-      (freeze_event c lim t value earlier added hook here.0 here.2);
+      subst (λ (x : Phase). SaysAfter (FreezeAt c t holder) c (FreezeOp holder) x value hook earlier added) (sym here.1)
+      (freeze_event c lim t holder value earlier added hook here.0 here.2);
   short = λ trace phase added here. tt;
 }
 
 -- every trace of a freeze tells what is to be told
-pub freeze_tells : (c : Config) → IsWithin c → (t : ℕ) (trace : List Traced) → IsTrace c t FreezeOp trace →
-    Tells c FreezeOp trace (course_of c t FreezeOp trace).comes (course_of c t FreezeOp trace).added
-freeze_tells c lim t trace h = tells (FreezeAt c t) c t FreezeOp (freeze_kept c lim t) trace h
+pub freeze_tells : (c : Config) (holder : Holder) → IsWithin c → (t : ℕ) (trace : List Traced) → IsTrace c t (FreezeOp holder) trace →
+    Tells c (FreezeOp holder) trace (course_of c t (FreezeOp holder) trace).comes (course_of c t (FreezeOp holder) trace).added
+freeze_tells c holder lim t trace h = tells (FreezeAt c t holder) c t (FreezeOp holder) (freeze_kept c lim t holder) trace h
 
 -- and is as short as it is to be
-pub freeze_short : (c : Config) → IsWithin c → (t : ℕ) (trace : List Traced) → IsTrace c t FreezeOp trace →
-    IsShort (most_events c FreezeOp) trace
-freeze_short c lim t trace h = is_short (FreezeAt c t) c t FreezeOp (freeze_kept c lim t) trace h
+pub freeze_short : (c : Config) (holder : Holder) → IsWithin c → (t : ℕ) (trace : List Traced) → IsTrace c t (FreezeOp holder) trace →
+    IsShort (most_events c (FreezeOp holder)) trace
+freeze_short c holder lim t trace h = is_short (FreezeAt c t holder) c t (FreezeOp holder) (freeze_kept c lim t holder) trace h
 
 -- what a freeze has added whose file system has failed leaves each access and each level as it was
-failed_leaves : (code : ℕ) (trace : List Traced) (before : List Action) →
-    LeaveAccesses (actions_of FreezeOp (Err (Hook code)) trace) before
-failed_leaves code trace before =
+failed_leaves : (holder : Holder) (code : ℕ) (trace : List Traced) (before : List Action) →
+    LeaveAccesses (actions_of (FreezeOp holder) (Err (Hook code)) trace) before
+failed_leaves holder code trace before =
     let closed : LeaveAccesses (two_levels_closed trace) before =
     cleans_leave trace (Pass 2 ∷ (StageAction 2 ∷ (Pass 1 ∷ (StageAction 1 ∷ [])))) before (refl, refl) in
     elim (cases_Bool (stored_stage 3 trace)) [ inl f ↦ rw f closed | inr f ↦ rw f closed ]
 
 -- so does what a freeze has added where it is refused
-pub freeze_restores : (refusal : GateError) (trace : List Traced) (before : List Action) →
-    (mounts_of (actions_of FreezeOp (Err refusal) trace ++ before) ≡ mounts_of before) ×
-    (levels_of (actions_of FreezeOp (Err refusal) trace ++ before) ≡ levels_of before)
-freeze_restores (Hook code) trace before = failed_leaves code trace before
-freeze_restores refusal trace before = (refl, refl)
+pub freeze_restores : (holder : Holder) (refusal : GateError) (trace : List Traced) (before : List Action) →
+    (mounts_of (actions_of (FreezeOp holder) (Err refusal) trace ++ before) ≡ mounts_of before) ×
+    (levels_of (actions_of (FreezeOp holder) (Err refusal) trace ++ before) ≡ levels_of before)
+freeze_restores holder (Hook code) trace before = failed_leaves holder code trace before
+freeze_restores holder refusal trace before = (refl, refl)

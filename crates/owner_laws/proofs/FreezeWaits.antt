@@ -30,6 +30,8 @@ use Rattle.freeze_levels.specs.Freezes.{at_freeze, after_closing, after_clearing
 use Rattle.freeze_levels.specs.declared.freezes.Freeze.{Freeze}
 use Rattle.freeze_levels.specs.declared.freezes.FreezeStep.{FreezeStep}
 use Rattle.freeze_levels.specs.declared.freezes.FreezeStep.TheVariants.{
+  LoadsHolders,
+  Holds,
   Locks,
   LoadsStage,
   LoadsSuperblock,
@@ -188,8 +190,8 @@ module _ (c : Config) (w : World) (earlier : List World) (good : IsGood c w) (t 
   clearing_waits s marks found = elim (cases_Bool (nat_lt (marks.node + 1) marks.nodes)) [ inl h ↦ rw h tt | inr h ↦ rw h tt ]
 
   -- each step of a freeze
-  pub freeze_waits : (hook : HookAnswer) (s : FreezeStep) → (w.views t).phase ≡ Some (Freezes (at_freeze x s)) → FreezeFits c s →
-      FreezeCause c t w earlier s →
+  pub freeze_waits : (hook : HookAnswer) (s : FreezeStep) → (w.views t).phase ≡ Some (Freezes (at_freeze x s)) → FreezeFits c x.holder s →
+      FreezeCause c t w earlier x.holder s →
       WaitsForAnother c w earlier t (Freezes (at_freeze x s))
       (after_of (Freezes (at_freeze x s)) (found_at w.words (Freezes (at_freeze x s)) hook) hook).0
   freeze_waits hook Locks e f h =
@@ -197,7 +199,13 @@ module _ (c : Config) (w : World) (earlier : List World) (good : IsGood c w) (t 
         | inl k ↦ rw k.0 tt
         | inr k ↦ rw k.0 (umount_taken c w good t lt (Freezes (at_freeze x Locks)) (λ y own. own) k.1 (ap owns e))
       ]
-  freeze_waits hook LoadsStage e f h = elim (eqb_tells w.words.stage 0) [ inl k ↦ rw k.0 tt | inr k ↦ rw k.0 tt ]
+  freeze_waits hook LoadsStage e f h =
+      elim (eqb_tells w.words.stage 0) [
+        | inl k ↦ rw k.0 tt
+        | inr k ↦ elim (eqb_tells w.words.stage 4) [ inl z ↦ rw (k.0, z.0) tt | inr z ↦ rw (k.0, z.0) tt ]
+      ]
+  freeze_waits hook LoadsHolders e f h = tt
+  freeze_waits hook (Holds beside) e f h = tt
   freeze_waits hook LoadsSuperblock e f h = elim (eqb_tells w.words.sb 0) [ inl k ↦ rw k.0 tt | inr k ↦ rw k.0 tt ]
   freeze_waits hook CompletesReadOnly e f h = tt
   freeze_waits hook SetsWrite e f h = tt

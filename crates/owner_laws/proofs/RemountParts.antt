@@ -1,7 +1,11 @@
 -- What an event of a remount may leave: each part of the rule, and the shown model.
 use Rattle.mount_counts.specs.declared.remounts.RemountStep.TheVariants.{Locks}
 use Rattle.mount_counts.specs.declared.remounts.Remount.{Remount}
-use Rattle.gate_world.specs.Rules.{Owner, Stages, Tree, Fitting, Known, AtMount, IsGood, owns, Part, StepKeeps, role_of, ViewFits, at_mount, Holds, IsSteady, OwnerHolds, remounts, Moves, AtLevel, SyncAt, Sections, marks_of}
+use Rattle.freeze_levels.specs.Holders.{holders_in}
+use Rattle.holder_laws.specs.Roles.{Apart}
+use Rattle.gate_world.specs.Holders.{holder_role_of}
+use Rattle.gate_frames.proofs.Holders.{holders_stay}
+use Rattle.gate_world.specs.Rules.{Owner, Stages, Holding, Tree, Fitting, Known, AtMount, IsGood, owns, Part, StepKeeps, role_of, ViewFits, at_mount, Holds, IsSteady, OwnerHolds, remounts, Moves, AtLevel, SyncAt, Sections, marks_of}
 use Rattle.gate_world.specs.Fits.{Fits, PhaseFits}
 use Rattle.std.proofs.Common.{refl, sym, ap, subst, inl, inr, true, false, arith, true≢false, ℕ, ◌<◌, ◌≡◌, Some, ◌⊎◌, Bool, ◌==◌, ◌||◌, ◌∙◌, None, Option}
 use Rattle.mount_counts.specs.declared.remounts.RemountStep.{RemountStep}
@@ -223,32 +227,34 @@ module _ (c : Config) (w : World) (good : IsGood c w) (t : ℕ) (lt : t < c.task
   -- each part after an event, from what it says of each mount, of the stage and of the tree
   pub each_part : (ws : Words) (v : View) → SameCounts v → SameLevelWords w.words ws → IsOffLevels v.phase →
       ws.count ≡ w.words.count → TreeIsRight ws v →
-      OwnerHolds c.tasks ws.umount ws.remount (λ y. (update w.views t v y).phase) → StageHolds ws v → ViewFits c t v →
+      OwnerHolds c.tasks ws.umount ws.remount (λ y. (update w.views t v y).phase) → StageHolds ws v →
+      Holds c (record { words = ws; views = update w.views t v }) Holding → ViewFits c t v →
       ((m : ℕ) → m < c.mounts → Mount m (ws.flags m) ws.remount ws.sb (role_of m v.phase)) → PartsHold ws v
-  each_part ws v same levels off ec tree owner stage fits own Owner k = owner
-  each_part ws v same levels off ec tree owner stage fits own Stages k = stage
-  each_part ws v same levels off ec tree owner stage fits own Fitting k = λ y ly.
+  each_part ws v same levels off ec tree owner stage holding fits own Owner k = owner
+  each_part ws v same levels off ec tree owner stage holding fits own Stages k = stage
+  each_part ws v same levels off ec tree owner stage holding fits own Holding k = holding
+  each_part ws v same levels off ec tree owner stage holding fits own Fitting k = λ y ly.
       each_updated (λ z (u : View). ViewFits c z u) w.views t v y fits (λ ne. good Fitting y ly)
-  each_part ws v same levels off ec tree owner stage fits own Known k = absurd (true≢false k)
-  each_part ws v same levels off ec tree owner stage fits own Tree k = tree
-  each_part ws v same levels off ec tree owner stage fits own (AtMount m) k = λ lm.
+  each_part ws v same levels off ec tree owner stage holding fits own Known k = absurd (true≢false k)
+  each_part ws v same levels off ec tree owner stage holding fits own Tree k = tree
+  each_part ws v same levels off ec tree owner stage holding fits own (AtMount m) k = λ lm.
       holds_as refl refl refl (ap (λ f. f m) ec)
       (update_map (at_mount m) w.views t v ∙ ap (update (λ y. at_mount m (w.views y)) t)
       (view_as (ap (λ g. g m) same.0) (ap (λ g. g m) same.2) (ap (λ g. g m) same.3) refl)) (own m lm)
-  each_part ws v same levels off ec tree owner stage fits own (AtLevel i) k =
+  each_part ws v same levels off ec tree owner stage holding fits own (AtLevel i) k =
       level_left c w t lt good ws v levels (at_levels v same) off_now off i
-  each_part ws v same levels off ec tree owner stage fits own (SyncAt i) k =
+  each_part ws v same levels off ec tree owner stage holding fits own (SyncAt i) k =
       sync_left c w t lt good ws v levels (at_levels v same) off_now off i
-  each_part ws v same levels off ec tree owner stage fits own Sections k =
+  each_part ws v same levels off ec tree owner stage holding fits own Sections k =
       sections_left c w t lt good ws v levels (at_levels v same) off_now off
 
   -- the shown model after it: the superblock's flag alone may change
   pub seal_shown : (ws : Words) (v : View) (b : Bool) → ws.block ≡ w.words.block →
       ◌≡◌ {A = ℕ → Bool} (λ m. ro_bit (ws.flags m) == 1) (λ m. ro_bit (w.words.flags m) == 1) → ws.stage ≡ w.words.stage →
-      ws.node ≡ w.words.node → ((i : ℕ) → closing i v.phase ≡ closing i (w.views t).phase) → SameCounts v →
+      ws.holders ≡ w.words.holders → ws.node ≡ w.words.node → ((i : ℕ) → closing i v.phase ≡ closing i (w.views t).phase) → SameCounts v →
       (ws.remount == 1 || ws.sb == 1) ≡ b →
       shown c (record { words = ws; views = update w.views t v }) ≡ record (shown c w) { sb_ro = b }
-  seal_shown ws v b eb ef es en ec same h =
+  seal_shown ws v b eb ef es eo en ec same h =
       shown_as c w t lt ws v eb ec ∙
       (λ j. record (shown c w) {
         mounts = (ap (update (λ y. held_at (w.views y)) t) same.0 ∙ update_same (λ y. held_at (w.views y)) t) j;
@@ -256,6 +262,7 @@ module _ (c : Config) (w : World) (good : IsGood c w) (t : ℕ) (lt : t < c.task
         mount_ro = ef j;
         sb_ro = h j;
         stage = es j;
+        holders = holders_in (eo j);
         tree = λ n. node_shown (en j n);
       })
 
@@ -264,6 +271,11 @@ module _ (c : Config) (w : World) (good : IsGood c w) (t : ℕ) (lt : t < c.task
     -- the phase that comes is off the levels
     off_then : IsOffLevels v.phase
     off_then = subst IsOffLevels (sym is) (record { counts_not = λ i. refl; apart = λ i. refl; outside = refl })
+
+    -- it has nothing to do with the holders, as before
+    holding_then : (ws : Words) → ws.stage ≡ w.words.stage → ws.holders ≡ w.words.holders →
+        Holds c (record { words = ws; views = update w.views t v }) Holding
+    holding_then ws es eh = holders_stay c w good t lt ws v es eh (ap holder_role_of is ∙ sym (ap holder_role_of e))
 
     -- it closes no level, as before
     closes_same : (i : ℕ) → closing i v.phase ≡ closing i (w.views t).phase
@@ -289,9 +301,10 @@ module _ (c : Config) (w : World) (good : IsGood c w) (t : ℕ) (lt : t < c.task
         let still : IsSteady (w.views t).phase v.phase = steady_to stays.0 stays.1 in (
           each_part w.words v same
               (record { block_same = refl; level_same = refl; sync_same = refl; section_same = refl; whole_same = refl }) off_then
-              refl (tree_stays w.words v refl refl refl refl (tree_now ∙ stays.2)) (owner_same c w t lt good v still) stage fits
+              refl (tree_stays w.words v refl refl refl refl (tree_now ∙ stays.2)) (owner_same c w t lt good v still) stage
+              (holding_then w.words refl refl) fits
               (λ m lm. subst (Mount m (w.words.flags m) w.words.remount w.words.sb) (sym (ap (role_of m) is)) (own m lm)),
-          shown_still c w t lt w.words v refl refl refl refl refl refl still.closing_same same.0 same.1,
+          shown_still c w t lt w.words v refl refl refl refl refl refl refl still.closing_same same.0 same.1,
         )
 
     -- an event on the flags of one mount, which leaves READONLY
@@ -308,7 +321,7 @@ module _ (c : Config) (w : World) (good : IsGood c w) (t : ℕ) (lt : t < c.task
           each_part ws v same
               (record { block_same = refl; level_same = refl; sync_same = refl; section_same = refl; whole_same = refl }) off_then
               refl (tree_stays ws v refl refl refl refl (tree_now ∙ stays.2)) (owner_same c w t lt good v still)
-              (goes_on (update w.words.flags at f) s' v is on) fits
+              (goes_on (update w.words.flags at f) s' v is on) (holding_then ws refl refl) fits
               (λ m lm. subst (Mount m (update w.words.flags at f m) w.words.remount w.words.sb) (sym (ap (role_of m) is))
               (elim (eqb_tells m at) [
                 | inl q ↦ subst (λ y. Mount y (update w.words.flags at f y) w.words.remount w.words.sb (remount_role y s')) (sym q.1)
@@ -321,7 +334,7 @@ module _ (c : Config) (w : World) (good : IsGood c w) (t : ℕ) (lt : t < c.task
               (update_map (λ y. ro_bit y == 1) w.words.flags at f ∙
               ap (update (λ m. ro_bit (w.words.flags m) == 1) at) (ap (λ y. y == 1) ro) ∙
               update_same (λ m. ro_bit (w.words.flags m) == 1) at)
-              refl refl still.closing_same same refl,
+              refl refl refl still.closing_same same refl,
         )
 
     -- a store of `remount` or of the superblock's flags
@@ -337,9 +350,9 @@ module _ (c : Config) (w : World) (good : IsGood c w) (t : ℕ) (lt : t < c.task
           each_part ws v same
               (record { block_same = refl; level_same = refl; sync_same = refl; section_same = refl; whole_same = whole }) off_then
               refl tree (remount_stored c w good t lt set v (ap owns e ∙ o) (ap owns is ∙ stays.0) (ap remounts is ∙ stays.1))
-              stage fits
+              stage (holding_then ws refl refl) fits
               (λ m lm. subst (Mount m (w.words.flags m) set sealing) (sym (ap (role_of m) is)) (own m lm)),
-          seal_shown ws v b refl refl refl refl closes_same same shows,
+          seal_shown ws v b refl refl refl refl refl closes_same same shows,
         )
 
     -- an event on the word of a node, of a remount that has no role at a mount before and after it
@@ -355,7 +368,7 @@ module _ (c : Config) (w : World) (good : IsGood c w) (t : ℕ) (lt : t < c.task
         let still : IsSteady (w.views t).phase v.phase = steady_to stays.0 stays.1 in (
           each_part ws v same
               (record { block_same = refl; level_same = refl; sync_same = refl; section_same = refl; whole_same = refl }) off_then
-              refl tree (owner_same c w t lt good v still) stage fits
+              refl tree (owner_same c w t lt good v still) stage (holding_then ws refl refl) fits
               (λ m lm. subst (Mount m (w.words.flags m) w.words.remount w.words.sb) (sym (ap (role_of m) is))
               (mount_stays m lm (remount_role m s') (roles m))),
           shown_as c w t lt ws v refl still.closing_same ∙
@@ -395,14 +408,15 @@ module _ (c : Config) (w : World) (good : IsGood c w) (t : ℕ) (lt : t < c.task
       OwnerHolds c.tasks n w.words.remount (λ y. (update w.views t v y).phase) →
       StageHolds (record w.words { umount = n }) v → IsOffLevels v.phase →
       ((m : ℕ) → role_of m v.phase ≡ remount_role m s) → tree_role_of v.trace v.phase ≡ remount_tree_role x.nodes s →
-      ((i : ℕ) → closing i v.phase ≡ 0) →
+      ((i : ℕ) → closing i v.phase ≡ 0) → holder_role_of v.phase ≡ Apart →
       let ws : Words = record w.words { umount = n } in
       PartsHold ws v × (shown c (record { words = ws; views = update w.views t v }) ≡ shown c w)
-  umount_changes n v same fits owner stage off role tree close =
+  umount_changes n v same fits owner stage off role tree close apart =
       let ws : Words = record w.words { umount = n } in (
         each_part ws v same (record { block_same = refl; level_same = refl; sync_same = refl; section_same = refl; whole_same = refl }) off
-            refl (tree_stays ws v refl refl refl refl tree) owner stage fits
+            refl (tree_stays ws v refl refl refl refl tree) owner stage
+            (holders_stay c w good t lt ws v refl refl (apart ∙ sym (ap holder_role_of e))) fits
             (λ m lm. mount_stays m lm (role_of m v.phase) (role m)),
-        shown_still c w t lt ws v refl refl refl refl refl refl
+        shown_still c w t lt ws v refl refl refl refl refl refl refl
             (λ i. close i ∙ (sym (remount_closes_none i x.nodes s) ∙ sym (ap (closing i) e))) same.0 same.1,
       )

@@ -2,7 +2,7 @@
 use Rattle.std.proofs.Common.{◌≡◌, ℕ, refl, ap, ◌∙◌, inl, inr}
 use Rattle.std.proofs.lemmas.Bool.{ne_eqb}
 use Rattle.std.proofs.lemmas.Bool.Decides.{eqb_tells}
-use Rattle.std.specs.Prelude.{Option, Some, Ok, Err, List, ◌∷◌, ◌-◌, not}
+use Rattle.std.specs.Prelude.{Option, Some, Ok, Err, List, ◌∷◌, ◌-◌, ◌==◌, ◌||◌, not, Bool, true, false}
 use Rattle.access_model.specs.declared.errors.GateError.TheVariants.{Invalid}
 use Rattle.access_model.specs.declared.replies.Reply.TheVariants.{Unit as UnitReply}
 use Rattle.access_model.specs.Replies.{map_next}
@@ -22,17 +22,25 @@ use Rattle.freeze_levels.specs.declared.thaws.ThawStep.{ThawStep}
 use Rattle.freeze_levels.specs.declared.thaws.ThawStep.TheVariants.{
   Locks,
   LoadsStage,
+  LoadsHolders,
+  Leaves,
   LoadsSuperblock,
+  LeavesReadOnly,
   UnfreezesReadOnly,
+  LeavesLast,
   SetsUnfrozen,
   Reopens,
   Releases,
 }
 use Rattle.freeze_levels.specs.Thaws.{at_thaw, thaw_opens, after_opening}
+use Rattle.access_model.specs.declared.actions.Holder.{Holder}
+use Rattle.access_model.specs.Holders.{held_by}
+use Rattle.freeze_levels.specs.Holders.{holders_in}
+use Rattle.owner_laws.proofs.ThawFits.{finds_cases}
 use Rattle.gate_world.specs.declared.config.Config.{Config}
 use Rattle.gate_world.specs.declared.work.Phase.{Phase}
 use Rattle.gate_world.specs.declared.work.Phase.TheVariants.{Thaws}
-use Rattle.gate_world.specs.Causes.{looks_at_stage, was_incomplete, ThawHasCause}
+use Rattle.gate_world.specs.Causes.{looks_at_stage, was_unheld, ThawHasCause}
 use Rattle.gate_world.specs.KeptCauses.{ThawCause, CauseOf}
 use Rattle.gate_world.specs.Views.{phase_after}
 use Rattle.gate_world.specs.Work.{after_of}
@@ -53,31 +61,40 @@ pub thaw_counts : (w : World) (t : ℕ) (x : Thaw) (hook : HookAnswer) (s : Thaw
     (next.words.count ≡ w.words.count) × (next.words.level ≡ w.words.level)
 thaw_counts w t x hook Locks = (refl, refl)
 thaw_counts w t x hook LoadsStage = (refl, refl)
+thaw_counts w t x hook LoadsHolders = (refl, refl)
+thaw_counts w t x hook (Leaves held) = (refl, refl)
 thaw_counts w t x hook LoadsSuperblock = (refl, refl)
+thaw_counts w t x hook LeavesReadOnly = (refl, refl)
 thaw_counts w t x hook UnfreezesReadOnly = (refl, refl)
-thaw_counts w t x (Ok answer) SetsUnfrozen = (refl, refl)
-thaw_counts w t x (Err code) SetsUnfrozen = (refl, refl)
+thaw_counts w t x (Ok answer) LeavesLast = (refl, refl)
+thaw_counts w t x (Err code) LeavesLast = (refl, refl)
+thaw_counts w t x hook SetsUnfrozen = (refl, refl)
 thaw_counts w t x hook (Reopens u) = reopening_counts w t x hook u.level u.step
 thaw_counts w t x hook (Releases answer) = (refl, refl)
 
 -- a task whose view another entry leaves alone: the cause of each step stays
 pub thaw_stays : (c : Config) (t : ℕ) (w next : World) (earlier : List World) (x : Thaw) (s : ThawStep) →
-    (next.views t).phase ≡ Some (Thaws (at_thaw x s)) → ThawCause c t w earlier s → ThawCause c t next (w ∷ earlier) s
+    (next.views t).phase ≡ Some (Thaws (at_thaw x s)) → ThawCause c t w earlier x.holder s → ThawCause c t next (w ∷ earlier) x.holder s
 thaw_stays c t w next earlier x (Releases answer) e h =
-    λ r. ap (was_incomplete c) (look_skips t next (w ∷ earlier) (ap looks_at_stage e)) ∙ h r
+    λ r. ap (was_unheld c x.holder) (look_skips t next (w ∷ earlier) (ap looks_at_stage e)) ∙ h r
 thaw_stays c t w next earlier x s e h = tt
 
 -- the cause that is kept is the one that is told
-pub thaw_told : (c : Config) (t : ℕ) (w : World) (earlier : List World) (s : ThawStep) → ThawCause c t w earlier s →
-    ThawHasCause c t (w ∷ earlier) s
-thaw_told c t w earlier (Releases answer) h = h
-thaw_told c t w earlier s h = tt
+pub thaw_told : (c : Config) (t : ℕ) (w : World) (earlier : List World) (holder : Holder) (s : ThawStep) → ThawCause c t w earlier holder s →
+    ThawHasCause c t (w ∷ earlier) holder s
+thaw_told c t w earlier holder (Releases answer) h = h
+thaw_told c t w earlier holder s h = tt
+
+-- what is or is true is true
+or_true : (b : Bool) → b || true ≡ true
+or_true true = refl
+or_true false = refl
 
 -- the task that steps: what its next phase says, in the world after the event
 module _ (c : Config) (t : ℕ) (w next : World) (earlier : List World) (x : Thaw) where
   -- what a step says there
   abbrev CauseAfter : ThawStep → Type 0
-  CauseAfter s = ThawCause c t next (w ∷ earlier) s
+  CauseAfter s = ThawCause c t next (w ∷ earlier) x.holder s
 
   -- a thaw that is done is not refused
   done_own : CauseAfter (Releases (Ok UnitReply))
@@ -104,8 +121,15 @@ module _ (c : Config) (t : ℕ) (w next : World) (earlier : List World) (x : Tha
   stage_own : (w.views t).phase ≡ Some (Thaws (at_thaw x LoadsStage)) → (w.words.stage ≡ 4 → ⊥) →
       (next.views t).phase ≡ Some (Thaws (at_thaw x (Releases (Err Invalid)))) → CauseAfter (Releases (Err Invalid))
   stage_own e other e' r =
-      ap (was_incomplete c) (look_skips t next (w ∷ earlier) (ap looks_at_stage e') ∙ look_stands t w earlier (ap looks_at_stage e)) ∙
-      ap not (ne_eqb w.words.stage 4 other)
+      ap (was_unheld c x.holder) (look_skips t next (w ∷ earlier) (ap looks_at_stage e') ∙ look_stands t w earlier (ap looks_at_stage e)) ∙
+      ap (λ b. not b || not (held_by (holders_in w.words.holders) x.holder)) (ne_eqb w.words.stage 4 other)
+
+  -- where its holder was found to hold none, it was so then
+  holder_own : (w.views t).phase ≡ Some (Thaws (at_thaw x LoadsHolders)) → held_by (holders_in w.words.holders) x.holder ≡ false →
+      (next.views t).phase ≡ Some (Thaws (at_thaw x (Releases (Err Invalid)))) → CauseAfter (Releases (Err Invalid))
+  holder_own e other e' r =
+      ap (was_unheld c x.holder) (look_skips t next (w ∷ earlier) (ap looks_at_stage e') ∙ look_stands t w earlier (ap looks_at_stage e)) ∙
+      ap (λ b. not (w.words.stage == 4) || not b) other ∙ or_true (not (w.words.stage == 4))
 
   -- what comes after an event has its cause
   pub thaw_own : (hook : HookAnswer) (s : ThawStep) → (w.views t).phase ≡ Some (Thaws (at_thaw x s)) →
@@ -115,9 +139,15 @@ module _ (c : Config) (t : ℕ) (w next : World) (earlier : List World) (x : Tha
   thaw_own hook Locks e e' = elim (eqb_tells w.words.umount 0) [ inl z ↦ rw z.0 tt | inr z ↦ rw z.0 tt ]
   thaw_own hook LoadsStage e e' =
       elim (eqb_tells w.words.stage 4) [ inl z ↦ rw z.0 tt | inr z ↦ rw z.0 (stage_own e z.1 (rw z.0 at e')) ]
+  thaw_own hook LoadsHolders e e' =
+      finds_cases x (holders_in w.words.holders) (λ s. (next.views t).phase ≡ Some (Thaws (at_thaw x s)) →
+      CauseOf c t next (w ∷ earlier) (Some (Thaws (at_thaw x s)))) (λ other. holder_own e other) (λ own alone is. tt) (λ own shared is. tt) e'
+  thaw_own hook (Leaves held) e e' = done_own
   thaw_own hook LoadsSuperblock e e' = elim (eqb_tells w.words.sb 0) [ inl z ↦ rw z.0 tt | inr z ↦ rw z.0 tt ]
+  thaw_own hook LeavesReadOnly e e' = tt
   thaw_own hook UnfreezesReadOnly e e' = done_own
-  thaw_own (Ok answer) SetsUnfrozen e e' = tt
-  thaw_own (Err code) SetsUnfrozen e e' = tt
+  thaw_own (Ok answer) LeavesLast e e' = tt
+  thaw_own (Err code) LeavesLast e e' = tt
+  thaw_own hook SetsUnfrozen e e' = tt
   thaw_own hook (Reopens u) e e' = reopening_own u u.step (found_at w.words (Thaws (at_thaw x (Reopens u))) hook)
   thaw_own hook (Releases answer) e e' = tt

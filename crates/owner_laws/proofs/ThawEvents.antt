@@ -2,12 +2,12 @@
 use Rattle.std.proofs.Common.{refl, ◌∙◌, inr, ℕ, arith, ◌≤◌, ◌≡◌, subst, suc, ◌-◌, ◌<◌, zero, sym, inl, ap, ◌+◌}
 use Rattle.std.proofs.lemmas.Bool.{ne_eqb}
 use Rattle.std.proofs.lemmas.Bool.Decides.{eqb_tells}
-use Rattle.std.specs.Prelude.{if◌then◌else◌, List, Option, Some, None, ◌==◌, Result, Ok, ◌∷◌, Err}
-use Rattle.finite_sums.specs.Sums.{update}
+use Rattle.std.specs.Prelude.{if◌then◌else◌, true, false, List, Option, Some, None, ◌==◌, Result, Ok, ◌∷◌, Err}
+use Rattle.finite_sums.specs.Sums.{update, total}
 use Rattle.access_model.specs.Histories.{mounts_of, levels_of}
 use Rattle.access_model.specs.Replies.{map_next}
 use Rattle.access_model.specs.declared.actions.Action.{Action}
-use Rattle.access_model.specs.declared.actions.Action.TheVariants.{Stage as StageAction}
+use Rattle.access_model.specs.declared.actions.Action.TheVariants.{Stage as StageAction, Leave}
 use Rattle.access_model.specs.declared.errors.GateError.{GateError}
 use Rattle.access_model.specs.declared.errors.GateError.TheVariants.{Invalid, Hook}
 use Rattle.access_model.specs.declared.replies.Next.{Next}
@@ -21,7 +21,7 @@ use Rattle.cpu_words.specs.declared.events.Event.{Event}
 use Rattle.cpu_words.specs.declared.events.Touch.{Touch}
 use Rattle.cpu_words.specs.declared.events.Touch.TheVariants.{Store, Cas, Load}
 use Rattle.cpu_words.specs.declared.names.WordName.{WordName}
-use Rattle.cpu_words.specs.declared.names.WordName.TheVariants.{Stage, Umount, SbFlags}
+use Rattle.cpu_words.specs.declared.names.WordName.TheVariants.{Stage, Holders as HoldersWord, Umount, SbFlags}
 use Rattle.gated_tree.specs.Nodes.{dirty_in}
 use Rattle.percpu_rwsem.specs.SyncWords.{on_exit}
 use Rattle.percpu_rwsem.specs.Transitions.{transition_after}
@@ -40,8 +40,12 @@ use Rattle.freeze_levels.specs.declared.thaws.ThawStep.{ThawStep}
 use Rattle.freeze_levels.specs.declared.thaws.ThawStep.TheVariants.{
   Locks,
   LoadsStage,
+  LoadsHolders,
+  Leaves,
   LoadsSuperblock,
+  LeavesReadOnly,
   UnfreezesReadOnly,
+  LeavesLast,
   SetsUnfrozen,
   Reopens,
   Releases,
@@ -49,6 +53,7 @@ use Rattle.freeze_levels.specs.declared.thaws.ThawStep.TheVariants.{
 use Rattle.stage_laws.specs.Events.{
   StageEvent,
   IsAlike,
+  LeavesOne,
   Locks as LocksStage,
   Releases as ReleasesStage,
   Thaws as StoresThaw,
@@ -72,7 +77,7 @@ use Rattle.gate_world.specs.Levels.{
   level_taken_by,
   closed_to,
 }
-use Rattle.gate_world.specs.Rules.{owns, IsGood, Stages, StepKeeps, OwnerHolds, ViewFits, marks_of, Fitting}
+use Rattle.gate_world.specs.Rules.{owns, IsGood, Stages, Holds, Holding, StepKeeps, OwnerHolds, ViewFits, marks_of, Fitting}
 use Rattle.gate_world.specs.Shown.{stage_roles, shown}
 use Rattle.gate_world.specs.Stages.{thaw_stage_role, stage_role_of}
 use Rattle.gate_world.specs.Views.{
@@ -116,7 +121,18 @@ use Rattle.gate_frames.proofs.WriterParts.{
 }
 use Rattle.gate_frames.proofs.WriterStages.{opened_tree, writer_beside, writer_stores, stored_levels, stays_there, none_leaves, SameStageWords}
 use Rattle.gate_frames.proofs.WriterWords.{tree_beside, writer_at_level, up_write_words, up_write_counts_none, up_write_adds, reopen_leaves}
-use Rattle.owner_laws.proofs.ThawFits.{thaw_goes}
+use Rattle.gate_frames.proofs.WriterStages.{writer_holds}
+use Rattle.access_model.specs.declared.actions.Holders.{Holders}
+use Rattle.access_model.specs.Holders.{nobody, held_by, with_holder, is_unheld}
+use Rattle.freeze_levels.specs.Holders.{word_of, holders_in}
+use Rattle.holder_laws.specs.Roles.{Apart, Found, Empties, between, minds}
+use Rattle.holder_laws.specs.Events.{Finds, LetsGo as LetsHoldersGo, Leaves as LeavesOthers, LeavesLast as LeavesNobody, Thaws as ThawsHolders}
+use Rattle.holder_laws.proofs.HolderLaws.{roles_tell}
+use Rattle.holder_laws.proofs.Words.{unpack_pack, holds_alone, holds_own, leaves_none}
+use Rattle.gate_world.specs.Holders.{thaw_holder_role, holder_role_of}
+use Rattle.gate_world.specs.Shown.{holder_roles}
+use Rattle.gate_frames.proofs.Holders.{holders_at, holders_stay, holders_after, nobody_minds}
+use Rattle.owner_laws.proofs.ThawFits.{thaw_goes, finds_cases}
 
 -- owners that rely on one thing or another are alike
 owners_alike : (stage sb stage' sb' : Option ℕ) → IsAlike (Owning stage sb) (Owning stage' sb')
@@ -168,6 +184,14 @@ module _ (x : Thaw) where
   opening_owns level (Wait u) = reopening_owns u.level u.step
   opening_owns level (Done answer) = opens_own (level - 1)
 
+-- a level's reopening has nothing to do with the holders, nor what comes after it
+opening_apart : (x : Thaw) (level : ℕ) (n : Next UpWrite) → holder_role_of (phase_after (map_next Thaws (after_opening x level n))) ≡ Apart
+opening_apart x level (Go u) = refl
+opening_apart x level (Wait u) = refl
+opening_apart x level (Done answer) =
+    by_bool (level - 1 == 0)
+    (λ b. thaw_holder_role x.holder (if b then Releases (Ok UnitReply) else Reopens (reopening (level - 1))) ≡ Apart) refl refl
+
 -- a thaw does nothing at the tree, whatever comes after an event of it
 tree_comes : (trace : List Traced) (n : Next Thaw) → tree_role_of trace (phase_after (map_next Thaws n)) ≡ OffTree
 tree_comes trace (Go x) = refl
@@ -215,7 +239,7 @@ module _ (c : Config) (lim : IsWithin c) (w : World) (good : IsGood c w) (t : �
   here_fits s e = subst (Fits c t (held_at (w.views t)) (holds_level (w.views t))) e (good Fitting t lt)
 
   -- and another step that fits
-  goes_to : (s s' : ThawStep) → IsHere s → ThawFits s' → FitsHere s'
+  goes_to : (s s' : ThawStep) → IsHere s → ThawFits x.holder s' → FitsHere s'
   goes_to s s' e fit = let f : FitsHere s = here_fits s e in (f.0, f.1, fit)
 
   -- what it relies on is so
@@ -241,9 +265,10 @@ module _ (c : Config) (lim : IsWithin c) (w : World) (good : IsGood c w) (t : �
   -- a load by the owner, which goes on relying on this
   load_law : (hook : HookAnswer) (name : WordName) (value : ℕ) (s s' : ThawStep) (e : IsHere s) → thaw_stand s ≡ None →
       thaw_stand s' ≡ None → (stage sb stage' sb' : Option ℕ) → thaw_stage_role s ≡ Owning stage sb →
-      thaw_stage_role s' ≡ Owning stage' sb' → ThawFits s' → KnowsStage w.words.stage w.words.sb (Owning stage' sb') →
+      thaw_stage_role s' ≡ Owning stage' sb' → ThawFits x.holder s' → KnowsStage w.words.stage w.words.sb (Owning stage' sb') →
+      Holds c (left_world w t w.words (view_at (name, Load) value hook s' None)) Holding →
       WriterLaw c w t w.words (view_at (name, Load) value hook s' None) None
-  load_law hook name value s s' e none none' stage sb stage' sb' role role' fit knows =
+  load_law hook name value s s' e none none' stage sb stage' sb' role role' fit knows holding =
       let v : View = view_at (name, Load) value hook s' None in
       let now : IsWriter v.phase = thaws_write (at_thaw x s') in
       writer_beside c w good t lt v (here_writes s e) now
@@ -268,16 +293,31 @@ module _ (c : Config) (lim : IsWithin c) (w : World) (good : IsGood c w) (t : �
         none_below (marks_of w.words),
         ap (playing (stages_in w) t) role',
       )
-      refl
+      refl holding
+
+  -- a load after which it has to do with the holders what it had
+  still : (s s' : ThawStep) → IsHere s → (name : WordName) (value : ℕ) (hook : HookAnswer) →
+      thaw_holder_role x.holder s' ≡ holder_role_of (w.views t).phase →
+      Holds c (left_world w t w.words (view_at (name, Load) value hook s' None)) Holding
+  still s s' e name value hook same = holders_stay c w good t lt w.words (view_at (name, Load) value hook s' None) refl refl same
+
+  -- where it has stored that nobody holds a freeze, nobody does
+  emptied : (s : ThawStep) → IsHere s → thaw_holder_role x.holder s ≡ Empties → w.words.holders ≡ 0
+  emptied s e role = ((roles_tell c.tasks t (holders_at w) (good Holding) lt).0 (ap between (ap holder_role_of e ∙ role))).0
+
+  -- and where it has found some who hold one, they do
+  found : (s : ThawStep) → IsHere s → (held : Holders) → thaw_holder_role x.holder s ≡ Found held → holders_in w.words.holders ≡ held
+  found s e held role = ((roles_tell c.tasks t (holders_at w) (good Holding) lt).1 held (ap holder_role_of e ∙ role)).0
 
   -- the owner's store of stage 0, by what it leaves of the levels and by its kind
   store_law : (hook : HookAnswer) (s s' : ThawStep) (e : IsHere s) (kind : StageEvent) → stage_owns (thaw_stage_role s) ≡ 1 →
-      stage_owns (thaw_stage_role s') ≡ 1 → ThawFits s' →
+      stage_owns (thaw_stage_role s') ≡ 1 → ThawFits x.holder s' → thaw_holder_role x.holder s ≡ Empties →
+      thaw_holder_role x.holder s' ≡ Apart →
       let v : View = view_at (Stage, Store 0) w.words.stage hook s' (Some (StageAction 0)) in
       let ws : Words = record w.words { stage = 0 } in
       LevelsHold c (left_world w t ws v) → IsStageEvent c w good t lt ws v kind →
       stage_action_of kind (stages_in w) ≡ Some (StageAction 0) → WriterLaw c w t ws v (Some (StageAction 0))
-  store_law hook s s' e kind own own' fit levels happens adds =
+  store_law hook s s' e kind own own' fit empties apart levels happens adds =
       let v : View = view_at (Stage, Store 0) w.words.stage hook s' (Some (StageAction 0)) in
       let now : IsWriter v.phase = thaws_write (at_thaw x s') in
       writer_stores c w good t lt v (here_writes s e) now
@@ -286,13 +326,22 @@ module _ (c : Config) (lim : IsWithin c) (w : World) (good : IsGood c w) (t : �
       (goes_to s s' e fit) 0 kind
       (owner_stays c w good t lt v (here_writes s e) now w.words refl refl (own' ∙ sym (ap owns e ∙ own)))
       levels (opened_tree c w good t lt lim v (sym (here_off_tree s e))) happens adds
+      (λ four. ap (λ k. is_unheld (holders_in k)) (emptied s e empties))
+      (holders_after c w good t lt (record w.words { stage = 0 }) v ThawsHolders (
+        ap holder_role_of e ∙ empties,
+        λ j. record {
+          stage = 0;
+          holders = w.words.holders;
+          at = update (holder_roles w) t (apart j);
+        },
+      ))
 
   -- gives `umount` back; meets: the next owner takes it
   gives_back : (hook : HookAnswer) (s : ThawStep) (e : IsHere s) → thaw_stand s ≡ None → (answer : Result Reply GateError)
       (stage sb : Option ℕ) → thaw_stage_role s ≡ Owning stage sb →
       let v : View = view_with (w.views t) (Umount, Store 0) w.words.umount hook (Done answer, None) in
-      WriterLaw c w t (record w.words { umount = 0 }) v None
-  gives_back hook s e none answer stage sb role =
+      Holds c (left_world w t (record w.words { umount = 0 }) v) Holding → WriterLaw c w t (record w.words { umount = 0 }) v None
+  gives_back hook s e none answer stage sb role holding =
       let v : View = view_with (w.views t) (Umount, Store 0) w.words.umount hook (Done answer, None) in
       writer_beside c w good t lt v (here_writes s e) idle_writes
       (record { held_same = refl; levels_same = refl; added_same = refl; taken_same = refl })
@@ -300,7 +349,7 @@ module _ (c : Config) (lim : IsWithin c) (w : World) (good : IsGood c w) (t : �
       tt 0 None (ReleasesStage stage sb)
       (lock_given c w good t lt v (here_writes s e) idle_writes (ap owns e ∙ ap stage_owns role) refl)
       (subst (Stands (w.views t).phase) none (here_stands s e)) idle_stands (sym (here_off_tree s e)) (ap stage_role_of e ∙ role, refl)
-      refl
+      refl holding
 
   -- the view after the lock was tried, which left this in `umount`
   abbrev tried : HookAnswer → ℕ → ThawStep → View
@@ -313,16 +362,18 @@ module _ (c : Config) (lim : IsWithin c) (w : World) (good : IsGood c w) (t : �
       }
 
   -- a try of the lock, which leaves this in `umount`, and after which this step comes
-  try_law : (hook : HookAnswer) (e : IsHere Locks) (n : ℕ) (s : ThawStep) → thaw_stand s ≡ None → ThawFits s → (kind : StageEvent) →
+  try_law : (hook : HookAnswer) (e : IsHere Locks) (n : ℕ) (s : ThawStep) → thaw_stand s ≡ None → ThawFits x.holder s →
+      thaw_holder_role x.holder s ≡ Apart → (kind : StageEvent) →
       OwnerHolds c.tasks n w.words.remount (λ y. (update w.views t (tried hook n s) y).phase) →
       IsStageEvent c w good t lt (record w.words { umount = n }) (tried hook n s) kind → stage_action_of kind (stages_in w) ≡ None →
       WriterLaw c w t (record w.words { umount = n }) (tried hook n s) None
-  try_law hook e n s none fit kind owner happens adds =
+  try_law hook e n s none fit apart kind owner happens adds =
       writer_beside c w good t lt (tried hook n s) (here_writes Locks e) (thaws_write (at_thaw x s))
       (record { held_same = refl; levels_same = refl; added_same = refl; taken_same = refl })
       (record { held_same = refl; added_same = refl; taken_same = refl })
       (goes_to Locks s e fit) n None kind owner (here_stands Locks e)
       (subst (Stands (Some (Thaws (at_thaw x s)))) none (thaw_stands (at_thaw x s))) (sym (here_off_tree Locks e)) happens adds
+      (holders_stay c w good t lt (record w.words { umount = n }) (tried hook n s) refl refl (apart ∙ sym (ap holder_role_of e)))
 
   -- takes `umount` where it is free; meets: its owner gives it back last
   locks : (hook : HookAnswer) → IsHere Locks → Keeps hook Locks
@@ -331,12 +382,12 @@ module _ (c : Config) (lim : IsWithin c) (w : World) (good : IsGood c w) (t : �
         | inl h ↦ rw h.0 (
             let n : ℕ = x.task + 1 in
             let mine : n ≡ suc t = omega (arith, (here_fits Locks e).0) in
-            try_law hook e n LoadsStage refl tt LocksStage
+            try_law hook e n LoadsStage refl tt refl LocksStage
             (lock_taken c w good t lt (tried hook n LoadsStage) (here_writes Locks e) (thaws_write (at_thaw x LoadsStage)) n h.1 mine refl)
             (ap stage_role_of e, nobody_owns c w good h.1, refl) refl)
         | inr h ↦ rw h.0 (
             let n : ℕ = w.words.umount in
-            try_law hook e n Locks refl tt Stays
+            try_law hook e n Locks refl tt refl Stays
             (owner_stays c w good t lt (tried hook n Locks) (here_writes Locks e) (thaws_write (at_thaw x Locks)) w.words refl refl
             (sym (ap owns e)))
             (stays_there c w good t lt w.words (tried hook n Locks)
@@ -348,11 +399,37 @@ module _ (c : Config) (lim : IsWithin c) (w : World) (good : IsGood c w) (t : �
   loads_stage : (hook : HookAnswer) → IsHere LoadsStage → Keeps hook LoadsStage
   loads_stage hook e =
       elim (eqb_tells w.words.stage 4) [
-        | inl h ↦ rw h.0 (load_law hook Stage w.words.stage LoadsStage LoadsSuperblock e refl refl None None (Some 4) None refl refl tt
-            (h.1, tt))
+        | inl h ↦ rw h.0 (load_law hook Stage w.words.stage LoadsStage LoadsHolders e refl refl None None (Some 4) None refl refl tt
+            (h.1, tt) (still LoadsStage LoadsHolders e Stage w.words.stage hook (sym (ap holder_role_of e))))
         | inr h ↦ rw h.0 (load_law hook Stage w.words.stage LoadsStage (Releases (Err Invalid)) e refl refl None None None None refl refl tt
-            (tt, tt))
+            (tt, tt) (still LoadsStage (Releases (Err Invalid)) e Stage w.words.stage hook (sym (ap holder_role_of e))))
       ]
+
+  -- loads who holds a freeze; meets: whoever changes it owns `umount`
+  loads_holders : (hook : HookAnswer) → IsHere LoadsHolders → Keeps hook LoadsHolders
+  loads_holders hook e =
+      let s : ThawStep = LoadsHolders in
+      let k : (w.words.stage ≡ 4) × Unit {0} = here_knows s e in
+      let held : Holders = holders_in w.words.holders in
+      let none : total c.tasks (λ y. minds (holder_roles w y)) ≡ 0 =
+      nobody_minds c w good t lt (ap owns e) (ap (λ p. minds (holder_role_of p)) e) in
+      finds_cases x held (λ s'. WriterLaw c w t w.words (view_at (HoldersWord, Load) w.words.holders hook s' None) None)
+      (λ other. load_law hook HoldersWord w.words.holders s (Releases (Err Invalid)) e refl refl (Some 4) None None None refl refl tt
+      (tt, tt) (still s (Releases (Err Invalid)) e HoldersWord w.words.holders hook (sym (ap holder_role_of e))))
+      (λ own alone. load_law hook HoldersWord w.words.holders s LoadsSuperblock e refl refl (Some 4) None (Some 4) None refl refl tt
+      (k.0, tt) (holders_after c w good t lt w.words (view_at (HoldersWord, Load) w.words.holders hook LoadsSuperblock None) Finds (
+        ap holder_role_of e,
+        k.0,
+        none,
+        λ j. record {
+          stage = w.words.stage;
+          holders = w.words.holders;
+          at = update (holder_roles w) t (Found (sym (holds_alone x.holder held own alone) j));
+        },
+      )))
+      (λ own shared. load_law hook HoldersWord w.words.holders s (Leaves held) e refl refl (Some 4) None (Some 4) None refl refl
+      (own, shared) (k.0, tt) (holders_after c w good t lt w.words (view_at (HoldersWord, Load) w.words.holders hook (Leaves held) None)
+      Finds (ap holder_role_of e, k.0, none, refl)))
 
   -- loads the superblock's flag: 0, or else 1
   loads_superblock : (hook : HookAnswer) → IsHere LoadsSuperblock → Keeps hook LoadsSuperblock
@@ -360,11 +437,83 @@ module _ (c : Config) (lim : IsWithin c) (w : World) (good : IsGood c w) (t : �
       let s : ThawStep = LoadsSuperblock in
       let k : (w.words.stage ≡ 4) × Unit {0} = here_knows s e in
       elim (eqb_tells w.words.sb 0) [
-        | inl h ↦ rw h.0 (load_law hook SbFlags w.words.sb s SetsUnfrozen e refl refl (Some 4) None (Some 4) (Some 0) refl refl tt
-            (k.0, h.1))
-        | inr h ↦ rw h.0 (load_law hook SbFlags w.words.sb s UnfreezesReadOnly e refl refl (Some 4) None (Some 4) (Some 1) refl refl tt
-            (k.0, omega (arith, h.1, (good Stages).superblock)))
+        | inl h ↦ rw h.0 (load_law hook SbFlags w.words.sb s LeavesLast e refl refl (Some 4) None (Some 4) (Some 0) refl refl tt
+            (k.0, h.1) (still s LeavesLast e SbFlags w.words.sb hook (sym (ap holder_role_of e))))
+        | inr h ↦ rw h.0 (load_law hook SbFlags w.words.sb s LeavesReadOnly e refl refl (Some 4) None (Some 4) (Some 1) refl refl tt
+            (k.0, omega (arith, h.1, (good Stages).superblock))
+            (still s LeavesReadOnly e SbFlags w.words.sb hook (sym (ap holder_role_of e))))
       ]
+
+  -- the owner's store without its holder
+  leave_law : (hook : HookAnswer) (s s' : ThawStep) (e : IsHere s) (held : Holders) (n : ℕ) (sb : Option ℕ) →
+      thaw_holder_role x.holder s ≡ Found held → held_by held x.holder ≡ true → holders_in n ≡ with_holder x.holder false held →
+      thaw_stand s ≡ None → thaw_stand s' ≡ None → thaw_stage_role s ≡ Owning (Some 4) sb → (stage' sb' : Option ℕ) →
+      thaw_stage_role s' ≡ Owning stage' sb' → KnowsStage w.words.stage w.words.sb (Owning stage' sb') → ThawFits x.holder s' →
+      let v : View = view_at (HoldersWord, Store n) w.words.holders hook s' (Some (Leave x.holder)) in
+      Holds c (left_world w t (record w.words { holders = n }) v) Holding →
+      WriterLaw c w t (record w.words { holders = n }) v (Some (Leave x.holder))
+  leave_law hook s s' e held n sb finds own packed none none' role stage' sb' role' knows fit holding =
+      let v : View = view_at (HoldersWord, Store n) w.words.holders hook s' (Some (Leave x.holder)) in
+      let now : IsWriter v.phase = thaws_write (at_thaw x s') in
+      let is : holders_in w.words.holders ≡ held = found s e held finds in
+      writer_holds c w good t lt v (here_writes s e) now
+      (record { held_same = refl; levels_same = refl; added_same = refl; taken_same = refl })
+      (record { held_same = refl; added_same = refl; taken_same = refl })
+      (goes_to s s' e fit) n (Leave x.holder) None (LeavesOne x.holder sb (Owning stage' sb'))
+      (owner_stays c w good t lt v (here_writes s e) now w.words refl refl (ap stage_owns role' ∙ sym (ap owns e ∙ ap stage_owns role)))
+      (subst (Stands (w.views t).phase) none (here_stands s e))
+      (subst (Stands (Some (Thaws (at_thaw x s')))) none' (thaw_stands (at_thaw x s'))) (sym (here_off_tree s e)) (
+        ap stage_role_of e ∙ role,
+        owners_alike (Some 4) sb stage' sb',
+        knows,
+        none_below (marks_of w.words),
+        ap (playing (stages_in w) t) role',
+      )
+      refl (ap (λ k. held_by k x.holder) is ∙ own)
+      (record {
+        mounts_same = refl;
+        levels_same = refl;
+        ro_same = refl;
+        tree_same = refl;
+        holders_same = ap (with_holder x.holder false) is ∙ sym packed;
+      })
+      holding
+
+  -- others still hold a freeze
+  leaves_others : (hook : HookAnswer) (held : Holders) → IsHere (Leaves held) → Keeps hook (Leaves held)
+  leaves_others hook held e =
+      let rest : Holders = with_holder x.holder false held in
+      let f : FitsHere (Leaves held) = here_fits (Leaves held) e in
+      leave_law hook (Leaves held) (Releases (Ok UnitReply)) e held (word_of rest) None refl f.2.0 (unpack_pack rest) refl refl refl None
+      None refl (tt, tt) tt
+      (holders_after c w good t lt (record w.words { holders = word_of rest })
+      (view_at (HoldersWord, Store (word_of rest)) w.words.holders hook (Releases (Ok UnitReply)) (Some (Leave x.holder)))
+      (LeavesOthers x.holder held) (ap holder_role_of e, f.2.1, refl))
+
+  -- nobody holds one any more, of a read-only superblock
+  leaves_read_only : (hook : HookAnswer) → IsHere LeavesReadOnly → Keeps hook LeavesReadOnly
+  leaves_read_only hook e =
+      let held : Holders = with_holder x.holder true nobody in
+      leave_law hook LeavesReadOnly UnfreezesReadOnly e held 0 (Some 1) refl (holds_own x.holder) (sym (leaves_none x.holder)) refl refl refl
+      (Some 4) (Some 1) refl (here_knows LeavesReadOnly e) tt
+      (holders_after c w good t lt (record w.words { holders = 0 })
+      (view_at (HoldersWord, Store 0) w.words.holders hook UnfreezesReadOnly (Some (Leave x.holder)))
+      (LeavesNobody held) (ap holder_role_of e, refl))
+
+  -- and of a writable one, where the file system thaws; or it gives `umount` back
+  leaves_last : (hook : HookAnswer) → IsHere LeavesLast → Keeps hook LeavesLast
+  leaves_last (Ok answer) e =
+      let held : Holders = with_holder x.holder true nobody in
+      leave_law (Ok answer) LeavesLast SetsUnfrozen e held 0 (Some 0) refl (holds_own x.holder) (sym (leaves_none x.holder)) refl refl refl
+      (Some 4) (Some 0) refl (here_knows LeavesLast e) tt
+      (holders_after c w good t lt (record w.words { holders = 0 })
+      (view_at (HoldersWord, Store 0) w.words.holders (Ok answer) SetsUnfrozen (Some (Leave x.holder)))
+      (LeavesNobody held) (ap holder_role_of e, refl))
+  leaves_last (Err code) e =
+      gives_back (Err code) LeavesLast e refl (Err (Hook code)) (Some 4) (Some 0) refl
+      (holders_after c w good t lt (record w.words { umount = 0 })
+      (view_with (w.views t) (Umount, Store 0) w.words.umount (Err code) (Done (Err (Hook code)), None))
+      (LetsHoldersGo (with_holder x.holder true nobody)) (ap holder_role_of e, refl))
 
   -- a read-only superblock is thawed at once: its freeze closed no level
   unfreezes_read_only : (hook : HookAnswer) → IsHere UnfreezesReadOnly → Keeps hook UnfreezesReadOnly
@@ -373,30 +522,31 @@ module _ (c : Config) (lim : IsWithin c) (w : World) (good : IsGood c w) (t : �
       let s' : ThawStep = Releases (Ok UnitReply) in
       let v : View = view_at (Stage, Store 0) w.words.stage hook s' (Some (StageAction 0)) in
       let whole : is_full 0 w.words.sb ≡ is_full w.words.stage w.words.sb = rw (k.0, k.1) refl in
-      store_law hook UnfreezesReadOnly s' e ThawsAtOnce refl refl tt
+      store_law hook UnfreezesReadOnly s' e ThawsAtOnce refl refl tt refl refl
       (stored_levels c w good t lt v (record { held_same = refl; added_same = refl; taken_same = refl }) 0 None whole
       (here_stands UnfreezesReadOnly e) (thaw_stands (at_thaw x s')))
       (ap stage_role_of e, refl) refl
 
-  -- stores stage 0 of a writable superblock, with all levels closed as the thaw's own from here on, or gives `umount` back, where
-  -- the file system refused
+  -- stores stage 0 of a writable superblock, with all levels closed as the thaw's own from here on
   sets_unfrozen : (hook : HookAnswer) → IsHere SetsUnfrozen → Keeps hook SetsUnfrozen
-  sets_unfrozen (Ok answer) e =
+  sets_unfrozen hook e =
       let k : (w.words.stage ≡ 4) × (w.words.sb ≡ 0) = here_knows SetsUnfrozen e in
       let s' : ThawStep = Reopens (reopening 3) in
-      let v : View = view_at (Stage, Store 0) w.words.stage (Ok answer) s' (Some (StageAction 0)) in
+      let v : View = view_at (Stage, Store 0) w.words.stage hook s' (Some (StageAction 0)) in
       let frozen : is_frozen_whole w.words ≡ 1 = rw (k.0, k.1) refl in
-      store_law (Ok answer) SetsUnfrozen s' e StoresThaw refl refl (omega arith, omega arith, tt)
+      store_law hook SetsUnfrozen s' e StoresThaw refl refl (omega arith, omega arith, tt) refl refl
       (thaws_all c lim w good t lt (record w.words { stage = 0 }) v
       (record { block_same = refl; level_same = refl; sync_same = refl; section_same = refl })
       (record { held_same = refl; added_same = refl; taken_same = refl }) (here_stands SetsUnfrozen e) (thaw_stands (at_thaw x s'))
       frozen refl)
       (ap stage_role_of e, refl) refl
-  sets_unfrozen (Err code) e = gives_back (Err code) SetsUnfrozen e refl (Err (Hook code)) (Some 4) (Some 0) refl
 
   -- gives `umount` back with its answer
   releases : (hook : HookAnswer) (answer : Result Reply GateError) → IsHere (Releases answer) → Keeps hook (Releases answer)
-  releases hook answer e = gives_back hook (Releases answer) e refl answer None None refl
+  releases hook answer e =
+      gives_back hook (Releases answer) e refl answer None None refl
+      (holders_stay c w good t lt (record w.words { umount = 0 })
+      (view_with (w.views t) (Umount, Store 0) w.words.umount hook (Done answer, None)) refl refl (sym (ap holder_role_of e)))
 
   -- What an event of a level's reopening finds and leaves.
   module _ (hook : HookAnswer) (u : UpWrite) where
@@ -472,8 +622,9 @@ module _ (c : Config) (lim : IsWithin c) (w : World) (good : IsGood c w) (t : �
         (tree_comes view_here.trace (after_opening x u.level next_here.0) ∙ sym (here_off_tree (Reopens u) e)))
         happens adds
         (up_write_adds u (AsksWhere (model_limits c) (shown c w)) tt tt u.step found_here)
-        (up_write_adds u (λ a. LeavesRest (shown c w) (state_after (shown c w) t a) (shown c w).tree)
+        (up_write_adds u (λ a. LeavesRest (shown c w) (state_after (shown c w) t a) (shown c w).tree (shown c w).holders)
         (none_leaves c w good t lt) (reopen_leaves (shown c w) t u.level) u.step found_here)
+        (opening_apart x u.level next_here.0 ∙ sym (ap holder_role_of e))
 
     -- where the level is open and it leaves the words of the stage, the thaw goes on to the next level or to its release
     leaves_law : (e : IsHere (Reopens u)) → thaw_stage_role (Reopens u) ≡ Reopening (u.level - 1) → None ≡ next_here.1 →
@@ -533,7 +684,11 @@ module _ (c : Config) (lim : IsWithin c) (w : World) (good : IsGood c w) (t : �
   thaw_event : (hook : HookAnswer) (s : ThawStep) → IsHere s → Keeps hook s
   thaw_event hook Locks e = locks hook e
   thaw_event hook LoadsStage e = loads_stage hook e
+  thaw_event hook LoadsHolders e = loads_holders hook e
+  thaw_event hook (Leaves held) e = leaves_others hook held e
   thaw_event hook LoadsSuperblock e = loads_superblock hook e
+  thaw_event hook LeavesReadOnly e = leaves_read_only hook e
+  thaw_event hook LeavesLast e = leaves_last hook e
   thaw_event hook UnfreezesReadOnly e = unfreezes_read_only hook e
   thaw_event hook SetsUnfrozen e = sets_unfrozen hook e
   thaw_event hook (Reopens u) e = reopening_event hook u.level u.step e

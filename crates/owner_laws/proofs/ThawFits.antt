@@ -1,5 +1,5 @@
 -- What fits after an event of a thaw.
-use Rattle.std.proofs.Common.{◌≡◌, ℕ, ◌≤◌, true, arith, inl, inr}
+use Rattle.std.proofs.Common.{refl, false, ◌≡◌, ℕ, ◌≤◌, true, arith, inl, inr}
 use Rattle.std.specs.Prelude.{◌-◌, ◌==◌, if◌then◌else◌, Bool, Ok, Err}
 use Rattle.std.proofs.lemmas.Bool.Decides.{eqb_tells}
 use Rattle.access_model.specs.declared.errors.GateError.TheVariants.{Invalid}
@@ -26,13 +26,21 @@ use Rattle.freeze_levels.specs.declared.thaws.ThawStep.{ThawStep}
 use Rattle.freeze_levels.specs.declared.thaws.ThawStep.TheVariants.{
   Locks,
   LoadsStage,
+  LoadsHolders,
+  Leaves,
   LoadsSuperblock,
+  LeavesReadOnly,
   UnfreezesReadOnly,
+  LeavesLast,
   SetsUnfrozen,
   Reopens,
   Releases,
 }
-use Rattle.freeze_levels.specs.Thaws.{thaw_next, thaw_after, at_thaw, thaw_opens, after_opening}
+use Rattle.access_model.specs.declared.actions.Holder.{Holder}
+use Rattle.access_model.specs.declared.actions.Holders.{Holders}
+use Rattle.access_model.specs.Holders.{held_by, with_holder, is_unheld}
+use Rattle.freeze_levels.specs.Holders.{holders_in}
+use Rattle.freeze_levels.specs.Thaws.{thaw_next, thaw_after, at_thaw, thaw_opens, thaw_finds, after_opening}
 use Rattle.gate_world.specs.declared.config.Config.{Config}
 use Rattle.gate_world.specs.declared.work.Phase.TheVariants.{Thaws}
 use Rattle.gate_world.specs.Configs.{extents_of}
@@ -41,6 +49,23 @@ use Rattle.gate_world.specs.Operations.{holds_none}
 use Rattle.gate_world.specs.Fits.{UpWriteFits, ThawFits, PhaseFits, Fits, ActionFits, mounts_by, levels_by}
 use Rattle.gate_frames.proofs.Keeps.{by_bool}
 
+-- what holds in both cases, as the test is, holds
+pub both : (b : Bool) (P : Bool → Type 0) → (b ≡ true → P true) → (b ≡ false → P false) → P b
+both true P first second = first refl
+both false P first second = second refl
+
+-- What comes after a look at who holds a freeze: a refusal, where its own holder doesn't; the superblock's flag, where it alone does; or
+-- else the store without it.
+pub finds_cases : (x : Thaw) (held : Holders) (P : ThawStep → Type 0) →
+    (held_by held x.holder ≡ false → P (Releases (Err Invalid))) →
+    (held_by held x.holder ≡ true → is_unheld (with_holder x.holder false held) ≡ true → P LoadsSuperblock) →
+    (held_by held x.holder ≡ true → is_unheld (with_holder x.holder false held) ≡ false → P (Leaves held)) → P (thaw_finds x held)
+finds_cases x held P refused alone shared =
+    both (held_by held x.holder)
+    (λ b. P (if b then (if is_unheld (with_holder x.holder false held) then LoadsSuperblock else Leaves held) else Releases (Err Invalid)))
+    (λ own. both (is_unheld (with_holder x.holder false held)) (λ b. P (if b then LoadsSuperblock else Leaves held)) (alone own) (shared own))
+    refused
+
 -- the word of each event of an up-write is there
 up_write_there : (c : Config) (u : UpWrite) (s : UpWriteStep) → 1 ≤ u.level → u.level ≤ 3 → IsWord (extents_of c) (up_write_next u s).0
 up_write_there c u ClearsBlock l1 l3 = (l1, l3)
@@ -48,13 +73,17 @@ up_write_there c u (Exits Loads) l1 l3 = (l1, l3)
 up_write_there c u (Exits (Exchanges from to)) l1 l3 = (l1, l3)
 
 -- the word of each event of a thaw is there
-pub thaw_there : (c : Config) (x : Thaw) (s : ThawStep) (hook : HookAnswer) → ThawFits s → IsWord (extents_of c) (thaw_next x s hook).0
+pub thaw_there : (c : Config) (x : Thaw) (s : ThawStep) (hook : HookAnswer) → ThawFits x.holder s → IsWord (extents_of c) (thaw_next x s hook).0
 thaw_there c x Locks hook f = tt
 thaw_there c x LoadsStage hook f = tt
+thaw_there c x LoadsHolders hook f = tt
+thaw_there c x (Leaves held) hook f = tt
 thaw_there c x LoadsSuperblock hook f = tt
+thaw_there c x LeavesReadOnly hook f = tt
 thaw_there c x UnfreezesReadOnly hook f = tt
-thaw_there c x SetsUnfrozen (Ok answer) f = tt
-thaw_there c x SetsUnfrozen (Err code) f = tt
+thaw_there c x LeavesLast (Ok answer) f = tt
+thaw_there c x LeavesLast (Err code) f = tt
+thaw_there c x SetsUnfrozen hook f = tt
 thaw_there c x (Reopens u) hook f = up_write_there c u u.step f.0 f.1
 thaw_there c x (Releases answer) hook f = tt
 
@@ -66,14 +95,14 @@ reopening_acts held x level (Exits transition) found hook = tt
 
 -- the action of each event of a thaw can be done
 pub thaw_acts : (held : ℕ → ℕ) (x : Thaw) (s : ThawStep) (found : ℕ) (hook : HookAnswer) → ActionFits held (thaw_after x s found hook).1
-thaw_acts held x SetsUnfrozen found (Ok answer) = tt
-thaw_acts held x SetsUnfrozen found (Err code) = tt
+thaw_acts held x LeavesLast found (Ok answer) = tt
+thaw_acts held x LeavesLast found (Err code) = tt
 thaw_acts held x (Reopens u) found hook = reopening_acts held x u.level u.step found hook
 thaw_acts held x s found hook = tt
 
 -- a level is still to be reopened, or no more
-opens_fit : (level : ℕ) → level ≤ 3 → ThawFits (thaw_opens level)
-opens_fit level l3 = elim (eqb_tells level 0) [ inl z ↦ rw z.0 tt | inr z ↦ rw z.0 (omega (arith, z.1), l3, tt) ]
+opens_fit : (holder : Holder) (level : ℕ) → level ≤ 3 → ThawFits holder (thaw_opens level)
+opens_fit holder level l3 = elim (eqb_tells level 0) [ inl z ↦ rw z.0 tt | inr z ↦ rw z.0 (omega (arith, z.1), l3, tt) ]
 
 module _ (c : Config) (t : ℕ) (held : ℕ → ℕ) (levels : ℕ → Bool) (x : Thaw) (same : x.task ≡ t) (none : holds_none levels ≡ true) where
   -- what comes after an event fits
@@ -85,7 +114,7 @@ module _ (c : Config) (t : ℕ) (held : ℕ → ℕ) (levels : ℕ → Bool) (x 
       NextFits (after_opening x level (exit_made (record { level = level; step = s }) n))
   exit_fits level found leaves s (More transition) l1 l3 shows = (same, none, (l1, l3, shows.1))
   exit_fits level found leaves s Undefined l1 l3 shows = (same, none, (l1, l3, tt))
-  exit_fits level found leaves s (Made state) l1 l3 shows = (same, none, opens_fit (level - 1) (omega (arith, l3)))
+  exit_fits level found leaves s (Made state) l1 l3 shows = (same, none, opens_fit x.holder (level - 1) (omega (arith, l3)))
 
   -- so it is after an event of its transition
   exit_goes : (level : ℕ) (transition : Transition) (found : ℕ) → 1 ≤ level → level ≤ 3 → KnowsWords on_exit transition →
@@ -108,19 +137,25 @@ module _ (c : Config) (t : ℕ) (held : ℕ → ℕ) (levels : ℕ → Bool) (x 
   reopening_goes level (Exits transition) found hook f = exit_goes level transition found f.0 f.1 f.2
 
   -- and at each step
-  step_goes : (s : ThawStep) (found : ℕ) (hook : HookAnswer) → ThawFits s → GoesOn s found hook
+  step_goes : (s : ThawStep) (found : ℕ) (hook : HookAnswer) → ThawFits x.holder s → GoesOn s found hook
   step_goes Locks found hook f =
       by_bool (found == 0) (λ b. NextFits (if b then Go (at_thaw x LoadsStage) else Wait (at_thaw x Locks)))
       (same, none, tt) (same, none, tt)
   step_goes LoadsStage found hook f =
-      by_bool (found == 4) (λ b. NextFits (if b then Go (at_thaw x LoadsSuperblock) else Go (at_thaw x (Releases (Err Invalid)))))
+      by_bool (found == 4) (λ b. NextFits (if b then Go (at_thaw x LoadsHolders) else Go (at_thaw x (Releases (Err Invalid)))))
       (same, none, tt) (same, none, tt)
+  step_goes LoadsHolders found hook f =
+      finds_cases x (holders_in found) (λ s. NextFits (Go (at_thaw x s))) (λ other. (same, none, tt)) (λ own alone. (same, none, tt))
+      (λ own shared. (same, none, (own, shared)))
+  step_goes (Leaves held) found hook f = (same, none, tt)
   step_goes LoadsSuperblock found hook f =
-      by_bool (found == 0) (λ b. NextFits (if b then Go (at_thaw x SetsUnfrozen) else Go (at_thaw x UnfreezesReadOnly)))
+      by_bool (found == 0) (λ b. NextFits (if b then Go (at_thaw x LeavesLast) else Go (at_thaw x LeavesReadOnly)))
       (same, none, tt) (same, none, tt)
+  step_goes LeavesReadOnly found hook f = (same, none, tt)
   step_goes UnfreezesReadOnly found hook f = (same, none, tt)
-  step_goes SetsUnfrozen found (Ok answer) f = (same, none, (omega arith, omega arith, tt))
-  step_goes SetsUnfrozen found (Err code) f = tt
+  step_goes LeavesLast found (Ok answer) f = (same, none, tt)
+  step_goes LeavesLast found (Err code) f = tt
+  step_goes SetsUnfrozen found hook f = (same, none, (omega arith, omega arith, tt))
   step_goes (Reopens u) found hook f = reopening_goes u.level u.step found hook f
   step_goes (Releases answer) found hook f = tt
 

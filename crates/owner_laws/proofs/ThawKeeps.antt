@@ -12,6 +12,7 @@ use Rattle.owner_laws.proofs.ThawEvents.{thaw_keeps}
 use Rattle.owner_laws.proofs.ThawRuns.{thaw_runs}
 use Rattle.owner_laws.proofs.ThawFits.{thaw_there, thaw_acts, thaw_goes}
 use Rattle.owner_laws.proofs.ThawCauses.{thaw_counts, thaw_stays, thaw_told, thaw_own}
+use Rattle.access_model.specs.declared.actions.Holder.{Holder}
 use Rattle.owner_laws.proofs.ThawWaits.{thaw_waits}
 use Rattle.owner_laws.proofs.ThawTraces.{ThawAt, thaw_kept, thaw_restores}
 
@@ -30,12 +31,12 @@ thaw_phase c x = record {
   stays = λ w next earlier after t f e was quiet h. thaw_stays c t w next earlier x x.step e h;
   causes = λ w earlier good t lt hook e after is h. thaw_own c t w (after_step w t (Thaws x) hook) earlier x hook x.step e is;
   waits = λ lim w earlier good t lt hook e cause. thaw_waits c w earlier t good lt x hook x.step e;
-  tells = λ t w earlier fits h. thaw_told c t w earlier x.step h;
+  tells = λ t w earlier fits h. thaw_told c t w earlier x.holder x.step h;
 }
 
 -- of its beginning and its trace
-pub thaw_op : (c : Config) → OpKeeps c ThawOp
-thaw_op c = record {
+pub thaw_op : (c : Config) (holder : Holder) → OpKeeps c (ThawOp holder)
+thaw_op c holder = record {
   fits = λ t held levels there order room. (refl, order, tt);
   no_role = λ t y. refl;
   steady = λ t. record { owns_same = refl; remounts_same = refl; closing_same = λ i. refl };
@@ -47,8 +48,8 @@ thaw_op c = record {
   cause = λ t w earlier. tt;
   order_agrees = λ f g h k mounts levels there. none_agree c 0 f g h k mounts levels;
   room_agrees = λ f g mounts there. refl;
-  restores = λ refusal trace before order. thaw_restores refusal trace before;
-  tells = λ lim t trace h. tells (ThawAt c t) c t ThawOp (thaw_kept c t) trace h;
-  short = λ lim t trace h. is_short (ThawAt c t) c t ThawOp (thaw_kept c t) trace h;
+  restores = λ refusal trace before order. thaw_restores holder refusal trace before;
+  tells = λ lim t trace h. tells (ThawAt c t holder) c t (ThawOp holder) (thaw_kept c t holder) trace h;
+  short = λ lim t trace h. is_short (ThawAt c t holder) c t (ThawOp holder) (thaw_kept c t holder) trace h;
   most_small = λ lim. tt;
 }

@@ -13,7 +13,7 @@ use Rattle.freeze_levels.specs.Levels.{reopening}
 use Rattle.freeze_levels.specs.Thaws.{at_thaw, thaw_after}
 use Rattle.freeze_levels.specs.declared.thaws.Thaw.{Thaw}
 use Rattle.freeze_levels.specs.declared.thaws.ThawStep.{ThawStep}
-use Rattle.freeze_levels.specs.declared.thaws.ThawStep.TheVariants.{Locks, LoadsStage, LoadsSuperblock, UnfreezesReadOnly, SetsUnfrozen, Reopens, Releases}
+use Rattle.freeze_levels.specs.declared.thaws.ThawStep.TheVariants.{Locks, LoadsStage, LoadsHolders, Leaves, LoadsSuperblock, LeavesReadOnly, UnfreezesReadOnly, LeavesLast, SetsUnfrozen, Reopens, Releases}
 use Rattle.gate_world.specs.declared.config.Config.{Config}
 use Rattle.gate_world.specs.declared.work.Phase.{Phase}
 use Rattle.gate_world.specs.declared.work.Phase.TheVariants.{Thaws}
@@ -23,6 +23,8 @@ use Rattle.gate_world.specs.Rules.{IsGood}
 use Rattle.gate_world.specs.Views.{phase_after, view_after}
 use Rattle.gate_world.specs.Worlds.{World, after_step, words_after, found_at, value_at}
 use Rattle.gate_frames.proofs.Frames.{SameLevelWords}
+use Rattle.freeze_levels.specs.Holders.{holders_in}
+use Rattle.owner_laws.proofs.ThawFits.{finds_cases}
 use Rattle.gate_frames.proofs.Keeps.{by_bool}
 use Rattle.gate_frames.proofs.Standing.{Stands, LevelsRun}
 use Rattle.gate_frames.proofs.WholeLevels.{thaws_runs}
@@ -45,19 +47,26 @@ module _ (c : Config) (lim : IsWithin c) (w : World) (good : IsGood c w) (t : �
       levels_stay_runs c w t lt (words_then hook s)
       (view_after (w.views t) (Thaws (at_thaw x s)) (value_at w.words (Thaws (at_thaw x s)) hook) hook) None words was now
 
-  -- stage 0 is stored, with which the thaw takes all levels over, or `umount` is given back, where the file system refused
+  -- stage 0 is stored, with which the thaw takes all levels over
   sets_unfrozen : (hook : HookAnswer) → IsHere c lim w good t lt x SetsUnfrozen → Runs hook SetsUnfrozen
-  sets_unfrozen (Ok answer) e =
+  sets_unfrozen hook e =
       let k : (w.words.stage ≡ 4) × (w.words.sb ≡ 0) = here_knows c lim w good t lt x SetsUnfrozen e in
       let frozen : is_frozen_whole w.words ≡ 1 = rw (k.0, k.1) refl in
       let phase : Phase = Thaws (at_thaw x SetsUnfrozen) in
-      thaws_runs c lim w good t lt (words_then (Ok answer) SetsUnfrozen) (view_after (w.views t) phase w.words.stage (Ok answer))
+      thaws_runs c lim w good t lt (words_then hook SetsUnfrozen) (view_after (w.views t) phase w.words.stage hook)
       (record { block_same = refl; level_same = refl; sync_same = refl; section_same = refl })
       (here_stands c lim w good t lt x SetsUnfrozen e) (thaw_stands (at_thaw x (Reopens (reopening 3)))) frozen refl
-  sets_unfrozen (Err code) e =
-      leaves (Err code) SetsUnfrozen
+
+  -- it is stored that nobody holds a freeze, or `umount` is given back, where the file system refused
+  leaves_last : (hook : HookAnswer) → IsHere c lim w good t lt x LeavesLast → Runs hook LeavesLast
+  leaves_last (Ok answer) e =
+      leaves (Ok answer) LeavesLast
       (record { block_same = refl; level_same = refl; sync_same = refl; section_same = refl; whole_same = refl })
-      (here_stands c lim w good t lt x SetsUnfrozen e) idle_stands
+      (here_stands c lim w good t lt x LeavesLast e) (thaw_stands (at_thaw x SetsUnfrozen))
+  leaves_last (Err code) e =
+      leaves (Err code) LeavesLast
+      (record { block_same = refl; level_same = refl; sync_same = refl; section_same = refl; whole_same = refl })
+      (here_stands c lim w good t lt x LeavesLast e) idle_stands
 
   -- each event
   thaw_run : (hook : HookAnswer) (s : ThawStep) → IsHere c lim w good t lt x s → Runs hook s
@@ -74,15 +83,31 @@ module _ (c : Config) (lim : IsWithin c) (w : World) (good : IsGood c w) (t : �
       (here_stands c lim w good t lt x LoadsStage e)
       (by_bool (w.words.stage == 4)
       (λ b. Stands (phase_after (map_next Thaws
-      (if b then Go (at_thaw x LoadsSuperblock) else Go (at_thaw x (Releases (Err Invalid)))))) None)
-      (thaw_stands (at_thaw x LoadsSuperblock)) (thaw_stands (at_thaw x (Releases (Err Invalid)))))
+      (if b then Go (at_thaw x LoadsHolders) else Go (at_thaw x (Releases (Err Invalid)))))) None)
+      (thaw_stands (at_thaw x LoadsHolders)) (thaw_stands (at_thaw x (Releases (Err Invalid)))))
+  thaw_run hook LoadsHolders e =
+      leaves hook LoadsHolders
+      (record { block_same = refl; level_same = refl; sync_same = refl; section_same = refl; whole_same = refl })
+      (here_stands c lim w good t lt x LoadsHolders e)
+      (finds_cases x (holders_in w.words.holders) (λ s. Stands (Some (Thaws (at_thaw x s))) None)
+      (λ other. thaw_stands (at_thaw x (Releases (Err Invalid)))) (λ own alone. thaw_stands (at_thaw x LoadsSuperblock))
+      (λ own shared. thaw_stands (at_thaw x (Leaves (holders_in w.words.holders)))))
+  thaw_run hook (Leaves held) e =
+      leaves hook (Leaves held)
+      (record { block_same = refl; level_same = refl; sync_same = refl; section_same = refl; whole_same = refl })
+      (here_stands c lim w good t lt x (Leaves held) e) (thaw_stands (at_thaw x (Releases (Ok UnitReply))))
+  thaw_run hook LeavesReadOnly e =
+      leaves hook LeavesReadOnly
+      (record { block_same = refl; level_same = refl; sync_same = refl; section_same = refl; whole_same = refl })
+      (here_stands c lim w good t lt x LeavesReadOnly e) (thaw_stands (at_thaw x UnfreezesReadOnly))
+  thaw_run hook LeavesLast e = leaves_last hook e
   thaw_run hook LoadsSuperblock e =
       leaves hook LoadsSuperblock
       (record { block_same = refl; level_same = refl; sync_same = refl; section_same = refl; whole_same = refl })
       (here_stands c lim w good t lt x LoadsSuperblock e)
       (by_bool (w.words.sb == 0)
-      (λ b. Stands (phase_after (map_next Thaws (if b then Go (at_thaw x SetsUnfrozen) else Go (at_thaw x UnfreezesReadOnly)))) None)
-      (thaw_stands (at_thaw x SetsUnfrozen)) (thaw_stands (at_thaw x UnfreezesReadOnly)))
+      (λ b. Stands (phase_after (map_next Thaws (if b then Go (at_thaw x LeavesLast) else Go (at_thaw x LeavesReadOnly)))) None)
+      (thaw_stands (at_thaw x LeavesLast)) (thaw_stands (at_thaw x LeavesReadOnly)))
   thaw_run hook UnfreezesReadOnly e =
       let k : (w.words.stage ≡ 4) × (w.words.sb ≡ 1) = here_knows c lim w good t lt x UnfreezesReadOnly e in
       leaves hook UnfreezesReadOnly

@@ -17,8 +17,12 @@ use Rattle.freeze_levels.specs.declared.thaws.ThawStep.{ThawStep}
 use Rattle.freeze_levels.specs.declared.thaws.ThawStep.TheVariants.{
   Locks,
   LoadsStage,
+  LoadsHolders,
+  Leaves,
   LoadsSuperblock,
+  LeavesReadOnly,
   UnfreezesReadOnly,
+  LeavesLast,
   SetsUnfrozen,
   Reopens,
   Releases,
@@ -58,10 +62,14 @@ module _ (c : Config) (w : World) (earlier : List World) (t : ℕ) where
           | inr h ↦ rw h.0 (umount_taken c w good t lt (Thaws (at_thaw x Locks)) (λ y own. own) h.1 (ap owns e))
         ]
     thaw_waits hook LoadsStage e = elim (eqb_tells w.words.stage 4) [ inl h ↦ rw h.0 tt | inr h ↦ rw h.0 tt ]
+    thaw_waits hook LoadsHolders e = tt
+    thaw_waits hook (Leaves held) e = tt
     thaw_waits hook LoadsSuperblock e = elim (eqb_tells w.words.sb 0) [ inl h ↦ rw h.0 tt | inr h ↦ rw h.0 tt ]
+    thaw_waits hook LeavesReadOnly e = tt
     thaw_waits hook UnfreezesReadOnly e = tt
-    thaw_waits (Ok answer) SetsUnfrozen e = tt
-    thaw_waits (Err code) SetsUnfrozen e = tt
+    thaw_waits (Ok answer) LeavesLast e = tt
+    thaw_waits (Err code) LeavesLast e = tt
+    thaw_waits hook SetsUnfrozen e = tt
     thaw_waits hook (Reopens u) e =
         reopening_waits (Thaws (at_thaw x (Reopens u))) (at_thaw x (Reopens u)) u u.step
         (found_at w.words (Thaws (at_thaw x (Reopens u))) hook)

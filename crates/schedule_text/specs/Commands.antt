@@ -1,5 +1,7 @@
 -- Words that name verbs, hooks and kinds of nodes, and what a hook answers that a schedule lets fail.
 use Rattle.std.specs.Prelude.{ℕ, Bool, true, false, ◌==◌, ◌||◌, if◌then◌else◌, List, codes, Option, Some, None, Ok, Err, bytes_eq}
+use Rattle.access_model.specs.declared.actions.Holder.{Holder}
+use Rattle.access_model.specs.declared.actions.Holder.TheVariants.{Kernel, User}
 use Rattle.access_model.specs.declared.actions.Kind.{Kind}
 use Rattle.access_model.specs.declared.actions.Kind.TheVariants.{File, Dir}
 use Rattle.cpu_words.specs.Hooks.{HookAnswer}
@@ -51,8 +53,8 @@ takes Change words = words == 4
 takes TryChange words = words == 4
 takes Remount words = words == 3
 takes Callback words = words == 3
-takes Freeze words = words == 2
-takes Thaw words = words == 2
+takes Freeze words = words == 2 || words == 3
+takes Thaw words = words == 2 || words == 3
 takes Create words = words == 4
 takes Remove words = words == 3
 takes Grow words = words == 4
@@ -77,6 +79,12 @@ unfoldable pub kind_named : List ℕ → Option Kind
 kind_named word =
     if bytes_eq word (codes "file") then Some File else
     if bytes_eq word (codes "dir") then Some Dir else None
+
+-- the holder that a word names
+unfoldable pub holder_named : List ℕ → Option Holder
+holder_named word =
+    if bytes_eq word (codes "kernel") then Some Kernel else
+    if bytes_eq word (codes "user") then Some User else None
 
 -- whether two hooks are one
 abbrev pub is_hook : HookKind → HookKind → Bool

@@ -2,6 +2,8 @@
 use Rattle.std.specs.Prelude.{ℕ, Bool, true, false, not, ◌==◌, nat_lt, if◌then◌else◌, List, [], ◌∷◌, codes, bytes_eq, Option, Some, None, Result, Ok, Err, ok_or}
 use Rattle.freeze_levels.specs.declared.hooks.HookKind.{HookKind}
 use Rattle.gate_world.specs.declared.config.Config.{Config}
+use Rattle.access_model.specs.declared.actions.Holder.{Holder}
+use Rattle.access_model.specs.declared.actions.Holder.TheVariants.{User}
 use Rattle.access_model.specs.declared.actions.Kind.{Kind}
 use Rattle.gate_world.specs.declared.operations.Op.TheVariants.{Want as WantOp, DropMount, Start as StartOp, End as EndOp, WantWrite as WantWriteOp, DropWrite as DropWriteOp, ChangeMount, RemountSb, Callback as CallbackOp, Freeze as FreezeOp, Thaw as ThawOp, Create as CreateOp, Remove as RemoveOp, Grow as GrowOp, MoveTo as MoveToOp, Fault as FaultOp, Flush as FlushOp, Snapshot as SnapshotOp}
 use Rattle.schedule_text.specs.declared.commands.Line.{Line}
@@ -16,7 +18,7 @@ use Rattle.schedule_text.specs.declared.faults.Fault.{Fault}
 use Rattle.schedule_text.specs.declared.faults.Fault.TheVariants.{ConfigExpected, ConfigTwice, UnknownCommand, WrongNumberOfWords, NoSuchTask, BadNumber, BadWord}
 use Rattle.schedule_text.specs.Numbers.{is_digits, number_of, byte_of, code_of}
 use Rattle.schedule_text.specs.Words.{first_word, after_word, word_count}
-use Rattle.schedule_text.specs.Commands.{verb_of, takes, hook_named, kind_named}
+use Rattle.schedule_text.specs.Commands.{verb_of, takes, hook_named, kind_named, holder_named}
 
 -- one after the other, up to the first fault
 infixl 10 ◌>>=◌
@@ -136,6 +138,26 @@ callback_of rest = do
 unfoldable pub kind_at : List ℕ → Result Kind Fault
 kind_at text = ok_or (kind_named (first_word text)) BadWord
 
+-- the holder that comes first
+unfoldable pub holder_at : List ℕ → Result Holder Fault
+holder_at text = ok_or (holder_named (first_word text)) BadWord
+
+-- the same on a line of so many words, which may leave it out: then it is user space
+unfoldable pub holder_given : List ℕ → ℕ → Result Holder Fault
+holder_given rest words = if words == 2 then Ok User else holder_at rest
+
+-- the argument of `freeze`: a holder
+unfoldable pub freeze_of : List ℕ → ℕ → Result TaskCommand Fault
+freeze_of rest words = do
+  holder ← holder_given rest words
+  Ok (Begin (FreezeOp holder))
+
+-- and of `thaw`
+unfoldable pub thaw_of : List ℕ → ℕ → Result TaskCommand Fault
+thaw_of rest words = do
+  holder ← holder_given rest words
+  Ok (Begin (ThawOp holder))
+
 -- the arguments of `create`: a directory, and `file` or `dir`
 unfoldable pub create_of : List ℕ → Result TaskCommand Fault
 create_of rest = do
@@ -202,8 +224,8 @@ arguments_of Change rest words = change_of rest true
 arguments_of TryChange rest words = change_of rest false
 arguments_of Remount rest words = remount_of rest
 arguments_of Callback rest words = callback_of rest
-arguments_of Freeze rest words = Ok (Begin FreezeOp)
-arguments_of Thaw rest words = Ok (Begin ThawOp)
+arguments_of Freeze rest words = freeze_of rest words
+arguments_of Thaw rest words = thaw_of rest words
 arguments_of Create rest words = create_of rest
 arguments_of Remove rest words = remove_of rest
 arguments_of Grow rest words = grow_of rest

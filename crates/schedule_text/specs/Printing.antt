@@ -2,7 +2,9 @@
 use Rattle.std.specs.Prelude.{ℕ, Bool, true, false, List, [], ◌++◌, codes, decimal, Option, Some, None, Result, Ok, Err}
 use Rattle.access_model.specs.Errors.{number_of, name_of}
 use Rattle.access_model.specs.declared.actions.Action.{Action}
-use Rattle.access_model.specs.declared.actions.Action.TheVariants.{Grant, Return, MountRo, MountRw, SbRo, SbRw, Stage, Pass, Reopen, Create, Remove, Grow, MoveTo, Dirty, Clean}
+use Rattle.access_model.specs.declared.actions.Action.TheVariants.{Grant, Return, MountRo, MountRw, SbRo, SbRw, Stage, Hold, Leave, Pass, Reopen, Create, Remove, Grow, MoveTo, Dirty, Clean}
+use Rattle.access_model.specs.declared.actions.Holder.{Holder}
+use Rattle.access_model.specs.declared.actions.Holder.TheVariants.{Kernel, User}
 use Rattle.access_model.specs.declared.actions.Gate.{Gate}
 use Rattle.access_model.specs.declared.actions.Gate.TheVariants.{Mount, Level}
 use Rattle.access_model.specs.declared.actions.Kind.{Kind}
@@ -16,7 +18,7 @@ use Rattle.cpu_words.specs.declared.events.Event.{Event}
 use Rattle.cpu_words.specs.declared.events.Touch.{Touch}
 use Rattle.cpu_words.specs.declared.events.Touch.TheVariants.{Load, Store, Add, Sub, Or, And, Swap, Cas}
 use Rattle.cpu_words.specs.declared.names.WordName.{WordName}
-use Rattle.cpu_words.specs.declared.names.WordName.TheVariants.{Umount, Stage as StageWord, SbFlags, Remount, MountFlags, MountCount, Block, Sync, LevelCount, Section, Used, Node, Kids}
+use Rattle.cpu_words.specs.declared.names.WordName.TheVariants.{Umount, Stage as StageWord, Holders as HoldersWord, SbFlags, Remount, MountFlags, MountCount, Block, Sync, LevelCount, Section, Used, Node, Kids}
 
 -- a text and a number right after it
 abbrev pub numbered : List ℕ → ℕ → List ℕ
@@ -30,6 +32,7 @@ count_name gate number cpu = numbered gate number ++ numbered (codes ".cpu") cpu
 unfoldable pub word_text : WordName → List ℕ
 word_text Umount = codes "umount"
 word_text StageWord = codes "stage"
+word_text HoldersWord = codes "holders"
 word_text SbFlags = codes "sb"
 word_text Remount = codes "remount"
 word_text (MountFlags mount) = numbered (codes "mount") mount ++ codes ".flags"
@@ -81,6 +84,19 @@ kind_name Dir = codes " dir"
 abbrev pub pair_text : List ℕ → ℕ → ℕ → List ℕ
 pair_text name node second = numbered name node ++ numbered (codes " ") second
 
+-- who holds a freeze, with a space before it
+abbrev pub holder_name : Holder → List ℕ
+holder_name Kernel = codes " kernel"
+holder_name User = codes " user"
+
+-- what is done to a freeze, and for whom
+abbrev pub held_text : List ℕ → Holder → List ℕ
+held_text done holder = done ++ holder_name holder
+
+-- one who holds a freeze, on a line of its own
+unfoldable pub holder_line : Holder → List ℕ
+holder_line holder = held_text (codes "holder") holder ++ codes "\n"
+
 -- an action of the model
 unfoldable pub action_text : Action → List ℕ
 action_text (Grant gate) = codes "grant " ++ gate_text gate
@@ -90,6 +106,8 @@ action_text (MountRw mount) = numbered (codes "mount ") mount ++ codes " rw"
 action_text SbRo = codes "sb ro"
 action_text SbRw = codes "sb rw"
 action_text (Stage stage) = numbered (codes "stage ") stage
+action_text (Hold holder) = held_text (codes "hold") holder
+action_text (Leave holder) = held_text (codes "leave") holder
 action_text (Pass level) = numbered (codes "pass ") level
 action_text (Reopen level) = numbered (codes "reopen ") level
 action_text (Create node dir kind) = pair_text (codes "create ") node dir ++ kind_name kind

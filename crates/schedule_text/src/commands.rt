@@ -1,9 +1,9 @@
 //! What a line asks for.
 
 ghost use Rattle.std.specs.Prelude.{◌≡◌};
-ghost use Rattle.schedule_text.specs.Commands.{hook_named, kind_named};
+ghost use Rattle.schedule_text.specs.Commands.{holder_named, hook_named, kind_named};
 
-use access_model::Kind;
+use access_model::{Holder, Kind};
 use freeze_levels::HookKind;
 use gate_world::{Config, Op};
 
@@ -151,8 +151,8 @@ impl Verb {
             Verb::Create | Verb::Grow | Verb::Move => words == 4,
             Verb::Remount | Verb::Callback => words == 3,
             Verb::Remove | Verb::Fault | Verb::Flush => words == 3,
-            Verb::Freeze | Verb::Thaw | Verb::Snapshot | Verb::TrySnapshot => words == 2,
-            Verb::Step => words == 2 || words == 3,
+            Verb::Snapshot | Verb::TrySnapshot => words == 2,
+            Verb::Freeze | Verb::Thaw | Verb::Step => words == 2 || words == 3,
             Verb::Run => words == 2 || words == 4,
         }
     }
@@ -185,6 +185,20 @@ pub fn hook_named(word: &[u8]) -> Option<HookKind>
         Some(HookKind::UnfreezeFs)
     } else if word == b"reconfigure".as_slice() {
         Some(HookKind::Reconfigure)
+    } else {
+        None
+    }
+}
+
+/// The holder that a word names: the kernel or user space.
+#[tactic(auto, unfolding(crate::specs::Commands::holder_named))]
+pub fn holder_named(word: &[u8]) -> Option<Holder>
+    ensures { result ≡ holder_named word.now }
+{
+    if word == b"kernel".as_slice() {
+        Some(Holder::Kernel)
+    } else if word == b"user".as_slice() {
+        Some(Holder::User)
     } else {
         None
     }

@@ -1,11 +1,11 @@
 //! How words, events, actions and replies are printed.
 
 ghost use Rattle.std.specs.Prelude.{◌≡◌, ◌++◌, codes, OnOk};
-ghost use Rattle.schedule_text.specs.Printing.{count_name, word_text, word_line, kind_text, event_text, event_line, gate_text, pair_text, action_text, kind_name, reply_text, refusal_text, answer_line, refused_line, idle_line, waiting_line, model_line, read_only_mount_line, held_mount_line, held_level_line, node_line, numbered};
+ghost use Rattle.schedule_text.specs.Printing.{count_name, word_text, word_line, kind_text, event_text, event_line, gate_text, pair_text, held_text, holder_line, action_text, kind_name, reply_text, refusal_text, answer_line, refused_line, idle_line, waiting_line, model_line, read_only_mount_line, held_mount_line, held_level_line, node_line, numbered};
 ghost use Rattle.access_model.specs.declared.actions.Action.TheVariants.{Create};
 
 use crate::output::Output;
-use access_model::{Action, Gate, GateError, Kind, NodeInfo, Reply};
+use access_model::{Action, Gate, GateError, Holder, Kind, NodeInfo, Reply};
 use cpu_words::{Event, Touch, WordName};
 use std::alloc::AllocError;
 
@@ -18,6 +18,7 @@ impl Output {
         match name {
             WordName::Umount => self.text(b"umount"),
             WordName::Stage => self.text(b"stage"),
+            WordName::Holders => self.text(b"holders"),
             WordName::SbFlags => self.text(b"sb"),
             WordName::Remount => self.text(b"remount"),
             WordName::MountFlags(mount) => {
@@ -88,6 +89,26 @@ impl Output {
         }
     }
 
+    /// What is done to a freeze, and for whom.
+    fn held(&mut self, done: &[u8], holder: Holder) -> Result<(), AllocError>
+        ensures { OnOk result (self.new.bytes.items ≡ self.old.bytes.items ++ held_text done.now holder) }
+    {
+        self.text(done)?;
+        self.text(match holder {
+            Holder::Kernel => b" kernel",
+            Holder::User => b" user",
+        })
+    }
+
+    /// One who holds a freeze, on a line of its own.
+    #[tactic(auto, unfolding(crate::specs::Printing::holder_line))]
+    pub fn holder_line(&mut self, holder: Holder) -> Result<(), AllocError>
+        ensures { OnOk result (self.new.bytes.items ≡ self.old.bytes.items ++ holder_line holder) }
+    {
+        self.held(b"holder", holder)?;
+        self.text(b"\n")
+    }
+
     /// An action of the model, as `grant mount 0`.
     #[tactic(auto, unfolding(crate::specs::Printing::action_text))]
     pub fn action(&mut self, action: Action) -> Result<(), AllocError>
@@ -101,6 +122,8 @@ impl Output {
             Action::SbRo => self.text(b"sb ro"),
             Action::SbRw => self.text(b"sb rw"),
             Action::Stage(stage) => self.numbered(b"stage ", u64::from(stage)),
+            Action::Hold(holder) => self.held(b"hold", holder),
+            Action::Leave(holder) => self.held(b"leave", holder),
             Action::Pass(level) => self.numbered(b"pass ", u64::from(level)),
             Action::Reopen(level) => self.numbered(b"reopen ", u64::from(level)),
             Action::Create { node, dir, kind } => self.created(node, dir, kind),

@@ -1,13 +1,15 @@
 //! From a line to what it asks for.
 
 ghost use Rattle.std.specs.Prelude.{◌≡◌};
-ghost use Rattle.schedule_text.specs.Parsing.{parsed, is_skipped, config_line, config_of, command_line, alone, task_line, task_of, arguments_of, want_of, drop_of, start_of, end_of, want_write_of, drop_write_of, change_of, remount_of, callback_of, create_of, remove_of, grow_of, move_of, fault_of, flush_of, step_of, run_of, number_at, byte_at, code_at, hook_at, kind_at, read_only_at, read_only_of};
+ghost use Rattle.schedule_text.specs.Parsing.{parsed, is_skipped, config_line, config_of, command_line, alone, task_line, task_of, arguments_of, want_of, drop_of, start_of, end_of, want_write_of, drop_write_of, change_of, remount_of, callback_of, freeze_of, thaw_of, create_of, remove_of, grow_of, move_of, fault_of, flush_of, step_of, run_of, number_at, byte_at, code_at, hook_at, holder_at, holder_given, kind_at, read_only_at, read_only_of};
 
-use crate::commands::{HookFailure, Line, Request, TaskCommand, Verb, hook_named, kind_named};
+use crate::commands::{
+    HookFailure, Line, Request, TaskCommand, Verb, holder_named, hook_named, kind_named,
+};
 use crate::faults::Fault;
 use crate::numbers::{byte_of, code_of, is_digits, number_of};
 use crate::words::{after_word, first_word, word_count};
-use access_model::Kind;
+use access_model::{Holder, Kind};
 use freeze_levels::HookKind;
 use gate_world::{Config, Op};
 
@@ -152,8 +154,8 @@ fn arguments_of(verb: Verb, rest: &[u8], words: usize) -> Result<TaskCommand, Fa
         Verb::TryChange => change_of(rest, false),
         Verb::Remount => remount_of(rest),
         Verb::Callback => callback_of(rest),
-        Verb::Freeze => Ok(TaskCommand::Begin(Op::Freeze)),
-        Verb::Thaw => Ok(TaskCommand::Begin(Op::Thaw)),
+        Verb::Freeze => freeze_of(rest, words),
+        Verb::Thaw => thaw_of(rest, words),
         Verb::Create => create_of(rest),
         Verb::Remove => remove_of(rest),
         Verb::Grow => grow_of(rest),
@@ -262,6 +264,22 @@ fn callback_of(rest: &[u8]) -> Result<TaskCommand, Fault>
     Ok(TaskCommand::Begin(Op::Callback { level }))
 }
 
+#[tactic(auto, unfolding(crate::specs::Parsing::freeze_of))]
+fn freeze_of(rest: &[u8], words: usize) -> Result<TaskCommand, Fault>
+    ensures { result ≡ freeze_of rest.now words }
+{
+    let holder = holder_given(rest, words)?;
+    Ok(TaskCommand::Begin(Op::Freeze { holder }))
+}
+
+#[tactic(auto, unfolding(crate::specs::Parsing::thaw_of))]
+fn thaw_of(rest: &[u8], words: usize) -> Result<TaskCommand, Fault>
+    ensures { result ≡ thaw_of rest.now words }
+{
+    let holder = holder_given(rest, words)?;
+    Ok(TaskCommand::Begin(Op::Thaw { holder }))
+}
+
 #[tactic(auto, unfolding(crate::specs::Parsing::create_of))]
 fn create_of(rest: &[u8]) -> Result<TaskCommand, Fault>
     ensures { result ≡ create_of rest.now }
@@ -362,6 +380,26 @@ fn hook_at(text: &[u8]) -> Result<HookKind, Fault>
     ensures { result ≡ hook_at text.now }
 {
     hook_named(first_word(text)).ok_or(Fault::BadWord)
+}
+
+/// The holder that comes first.
+#[tactic(auto, unfolding(crate::specs::Parsing::holder_at))]
+fn holder_at(text: &[u8]) -> Result<Holder, Fault>
+    ensures { result ≡ holder_at text.now }
+{
+    holder_named(first_word(text)).ok_or(Fault::BadWord)
+}
+
+/// The same on a line of so many words, which may leave it out: then it is user space.
+#[tactic(auto, unfolding(crate::specs::Parsing::holder_given))]
+fn holder_given(rest: &[u8], words: usize) -> Result<Holder, Fault>
+    ensures { result ≡ holder_given rest.now words }
+{
+    if words == 2 {
+        Ok(Holder::User)
+    } else {
+        holder_at(rest)
+    }
 }
 
 /// The kind of node that comes first.

@@ -7,12 +7,12 @@ use Rattle.std.specs.Prelude.{◌==◌, Bool, true, false, Option, Some, None}
 use Rattle.std.proofs.lemmas.Bool.Decides.{eqb_tells}
 use Rattle.std.proofs.lemmas.Option.{none-some}
 use Rattle.access_model.specs.declared.actions.Action.{Action}
-use Rattle.access_model.specs.declared.actions.Action.TheVariants.{SbRo, Pass, Clean}
+use Rattle.access_model.specs.declared.actions.Action.TheVariants.{SbRo, Stage, Hold, Leave, Pass, Clean}
 use Rattle.access_model.specs.States.{Limits, State, IsClean}
 use Rattle.access_model.specs.Actions.{MayDo}
 use Rattle.stage_laws.specs.Roles.{StageRole, Owning, Remounting, Freezing, Reopening, CleanBelow, Closing, HasPassed, KnowsStage, has_position, owns, passed_by, remounts}
 use Rattle.stage_laws.specs.Shown.{AsksOthers}
-use Rattle.stage_laws.specs.Events.{Stages, Holds, Shows, StageEvent, Happens, action_of, cleaned, Advances, Begins, CancelsRemount, ClearsBlock, ClearsMark, ClearsMarkReadOnly, Completes, Fails, FreezesAtOnce, Passes, SetsRemount, SetsWritable, Syncs, Thaws, ThawsAtOnce}
+use Rattle.stage_laws.specs.Events.{Stages, Holds, Shows, StageEvent, Happens, action_of, cleaned, Advances, Begins, CancelsRemount, ClearsBlock, ClearsMark, ClearsMarkReadOnly, Completes, Fails, FreezesAtOnce, HoldsOne, LeavesOne, Passes, SetsRemount, SetsWritable, Syncs, Thaws, ThawsAtOnce}
 
 -- the action that there is, or else this one
 abbrev action_or : Action → Option Action → Action
@@ -107,9 +107,16 @@ module _ (l : Limits) (x : Stages) (h : Holds l.tasks l.nodes x) (t : ℕ) (lt :
               (rw k.1 refl),
         ),
       )
-  may Thaws x' (e, p) action a asks = subst (MayDo l s t) (some_inj a) (inr (inr (at_stage 4 (relies (Owning (Some 4) (Some 0)) e).0)))
-  may ThawsAtOnce x' (e, p) action a asks = subst (MayDo l s t) (some_inj a)
-      (inr (inr (at_stage 4 (relies (Owning (Some 4) (Some 1)) e).0)))
+  may (HoldsOne holder sb new) x' (e, alike, k, c, p) action a asks =
+      may_be (Hold holder) action a asks (λ ask. (at_stage 4 (relies (Owning (Some 4) sb) e).0, ask))
+  may (LeavesOne holder sb new) x' (e, alike, k, c, p) action a asks =
+      may_be (Leave holder) action a asks (λ ask. (at_stage 4 (relies (Owning (Some 4) sb) e).0, ask))
+  may Thaws x' (e, p) action a asks =
+      let four : s.stage ≡ 4 = at_stage 4 (relies (Owning (Some 4) (Some 0)) e).0 in
+      may_be (Stage 0) action a asks (λ ask. inr (inr (four, ask four)))
+  may ThawsAtOnce x' (e, p) action a asks =
+      let four : s.stage ≡ 4 = at_stage 4 (relies (Owning (Some 4) (Some 1)) e).0 in
+      may_be (Stage 0) action a asks (λ ask. inr (inr (four, ask four)))
   may (Passes level clean owner) x' (e, c, p) action a asks =
       let k : x.stage ≡ level = relies (Freezing level Closing owner) e in
       let b : _ = freeze_bound l.tasks x h.stages t lt (Freezing level Closing owner) e refl in

@@ -5,7 +5,7 @@ use Rattle.std.proofs.Common.{◌≡◌, ℕ, suc, ◌<◌, ◌≤◌, refl, sym
 use Rattle.std.specs.Prelude.{true, false, Some, None}
 use Rattle.finite_sums.specs.Sums.{update}
 use Rattle.stage_laws.specs.Roles.{StageRole, Aside, Owning, Remounting, Freezing, Reopening, CleanBelow, MarksHold, clean_by, clean_at, Closing, HasPassed, Before}
-use Rattle.stage_laws.specs.Events.{Stages, Holds, StageEvent, Happens, LocksAgain, Releases, LetsGo, LoadsStage, LoadsSb, Advances, Syncs, Completes, Fails, SetsBlock, Passes, ClearsBlock, SetsRemount, Begins, CancelsRemount, ClearsMark, ClearsMarkReadOnly, ClearsRemount, FreezesAtOnce, Locks, MarksNode, Recalls, ReleasesOpen, SetsReadOnly, SetsWritable, Stays, Thaws, ThawsAtOnce, WashesNode}
+use Rattle.stage_laws.specs.Events.{Stages, Holds, StageEvent, Happens, LocksAgain, Releases, LetsGo, LoadsStage, LoadsSb, Advances, Syncs, Completes, Fails, SetsBlock, Passes, ClearsBlock, SetsRemount, Begins, CancelsRemount, ClearsMark, ClearsMarkReadOnly, ClearsRemount, FreezesAtOnce, HoldsOne, LeavesOne, Locks, MarksNode, Recalls, ReleasesOpen, SetsReadOnly, SetsWritable, Stays, Thaws, ThawsAtOnce, WashesNode}
 
 module _ (tasks nodes : ℕ) (x : Stages) (h : Holds tasks nodes x) (t : ℕ) (lt : t < tasks) where
   -- nothing is clean below node 0
@@ -101,7 +101,7 @@ module _ (tasks nodes : ℕ) (x : Stages) (h : Holds tasks nodes x) (t : ℕ) (l
   }
   after_kind (Completes clean) x' (e, p) = subst (Holds tasks nodes) (sym p) record {
     stages = completes tasks x h.stages t lt clean e;
-    marks = same_marks 4 x.sb (Owning None None)
+    marks = same_marks 4 x.sb (Owning (Some 4) None)
         (λ s. h.marks.frozen (omega (arith, relied_on tasks x h.stages t lt (Freezing 3 (HasPassed clean) true) e))) h.marks.read_only
         (none x.dirty);
   }
@@ -111,8 +111,18 @@ module _ (tasks nodes : ℕ) (x : Stages) (h : Holds tasks nodes x) (t : ℕ) (l
   }
   after_kind FreezesAtOnce x' (e, p) = subst (Holds tasks nodes) (sym p) record {
     stages = freezes_at_once tasks x h.stages t lt e;
-    marks = same_marks 4 x.sb (Owning None None)
+    marks = same_marks 4 x.sb (Owning (Some 4) None)
         (λ s. h.marks.read_only (relied_on tasks x h.stages t lt (Owning (Some 0) (Some 1)) e).1) h.marks.read_only (none x.dirty);
+  }
+  after_kind (HoldsOne holder sb new) x' (e, a, k, c, p) = subst (Holds tasks nodes) (sym p) record {
+    stages = turns tasks x h.stages t lt (Owning (Some 4) sb) new e (omega (arith, h.stages.alone, a.owns_same)) a.freezes_same
+        a.remounts_same a.closed_same k;
+    marks = quiet new c;
+  }
+  after_kind (LeavesOne holder sb new) x' (e, a, k, c, p) = subst (Holds tasks nodes) (sym p) record {
+    stages = turns tasks x h.stages t lt (Owning (Some 4) sb) new e (omega (arith, h.stages.alone, a.owns_same)) a.freezes_same
+        a.remounts_same a.closed_same k;
+    marks = quiet new c;
   }
   after_kind Thaws x' (e, p) = subst (Holds tasks nodes) (sym p) record {
     stages = thaws tasks x h.stages t lt e;

@@ -11,7 +11,7 @@ use Rattle.access_model.specs.declared.actions.Action.TheVariants.{SbRo, SbRw, S
 use Rattle.access_model.specs.States.{State}
 use Rattle.stage_laws.specs.Roles.{StageRole, Aside, Owning, Remounting, Freezing, Reopening, StagesHold, Before, Closing, HasPassed, KnowsStage, has_position, is_full, passed_by}
 use Rattle.stage_laws.specs.Shown.{ShowsStages, state_after}
-use Rattle.stage_laws.specs.Events.{Stages, Holds, StageEvent, Happens, action_of, cleaned, playing, Advances, Begins, CancelsRemount, ClearsBlock, ClearsMark, ClearsMarkReadOnly, ClearsRemount, Completes, Fails, FreezesAtOnce, LetsGo, LoadsSb, LoadsStage, Locks, LocksAgain, MarksNode, Passes, Recalls, Releases, ReleasesOpen, SetsBlock, SetsReadOnly, SetsRemount, SetsWritable, Stays, Syncs, Thaws, ThawsAtOnce, WashesNode}
+use Rattle.stage_laws.specs.Events.{Stages, Holds, StageEvent, Happens, action_of, cleaned, playing, Advances, Begins, CancelsRemount, ClearsBlock, ClearsMark, ClearsMarkReadOnly, ClearsRemount, Completes, Fails, FreezesAtOnce, HoldsOne, LeavesOne, LetsGo, LoadsSb, LoadsStage, Locks, LocksAgain, MarksNode, Passes, Recalls, Releases, ReleasesOpen, SetsBlock, SetsReadOnly, SetsRemount, SetsWritable, Stays, Syncs, Thaws, ThawsAtOnce, WashesNode}
 
 -- a state shows a moment
 abbrev pub ShowsAt : ℕ → Stages → State → Type 0
@@ -114,7 +114,7 @@ module _ (tasks nodes : ℕ) (x : Stages) (h : Holds tasks nodes x) (t : ℕ) (l
   effect (Completes clean) x' (e, p) =
       let k : x.stage ≡ 3 = relies (Freezing 3 (HasPassed clean) true) e in
       let b : _ = freeze_bound tasks x h.stages t lt (Freezing 3 (HasPassed clean) true) e refl in
-      shown_at (Completes clean) x' _ p (stage_shown 4 (Freezing 3 (HasPassed clean) true) (Owning None None) e
+      shown_at (Completes clean) x' _ p (stage_shown 4 (Freezing 3 (HasPassed clean) true) (Owning (Some 4) None) e
       (completes tasks x h.stages t lt clean e)
       (omega (arith, k, b, ways tasks x h.stages t lt, full_is 4 x.sb (omega arith) h.stages.superblock)))
   effect (Fails stage clean) x' (e, low, p) =
@@ -123,9 +123,15 @@ module _ (tasks nodes : ℕ) (x : Stages) (h : Holds tasks nodes x) (t : ℕ) (l
       (fails tasks x h.stages t lt stage clean e) (omega (arith, b, ways tasks x h.stages t lt)))
   effect FreezesAtOnce x' (e, p) =
       let k : (x.stage ≡ 0) × (x.sb ≡ 1) = relies (Owning (Some 0) (Some 1)) e in
-      shown_at FreezesAtOnce x' _ p (stage_shown 4 (Owning (Some 0) (Some 1)) (Owning None None) e
+      shown_at FreezesAtOnce x' _ p (stage_shown 4 (Owning (Some 0) (Some 1)) (Owning (Some 4) None) e
       (freezes_at_once tasks x h.stages t lt e)
       (omega (arith, k, ways tasks x h.stages t lt, full_is 4 x.sb (omega arith) h.stages.superblock)))
+  effect (HoldsOne holder sb new) x' (e, a, k, c, p) =
+      let q : ShowsAt tasks x' s = turned (HoldsOne holder sb new) x' (Owning (Some 4) sb) new e p (e, a, k, c, refl) a.passed_same in
+      record { stage_same = q.stage_same; passed_same = q.passed_same; sb_same = q.sb_same }
+  effect (LeavesOne holder sb new) x' (e, a, k, c, p) =
+      let q : ShowsAt tasks x' s = turned (LeavesOne holder sb new) x' (Owning (Some 4) sb) new e p (e, a, k, c, refl) a.passed_same in
+      record { stage_same = q.stage_same; passed_same = q.passed_same; sb_same = q.sb_same }
   effect Thaws x' (e, p) =
       let k : (x.stage ≡ 4) × (x.sb ≡ 0) = relies (Owning (Some 4) (Some 0)) e in
       shown_at Thaws x' _ p (stage_shown 0 (Owning (Some 4) (Some 0)) (Reopening 3) e (thaws tasks x h.stages t lt e)

@@ -141,12 +141,12 @@ module _ (tasks : ℕ) (x : Stages) (good : StagesHold tasks x.stage x.sb x.remo
 
   -- it is complete
   pub completes : (clean : ℕ) → x.at t ≡ Freezing 3 (HasPassed clean) true →
-      StagesAt (playing (record x { stage = 4 }) t (Owning None None))
+      StagesAt (playing (record x { stage = 4 }) t (Owning (Some 4) None))
   completes clean e =
       let k : x.stage ≡ 3 = relied_on (Freezing 3 (HasPassed clean) true) e in
       let b : _ = freeze_bound (Freezing 3 (HasPassed clean) true) e refl in
-      stores 4 (Freezing 3 (HasPassed clean) true) (Owning None None) e refl refl refl (omega arith) (sym b.0) refl
-      (λ h. b.3) (tt, tt)
+      stores 4 (Freezing 3 (HasPassed clean) true) (Owning (Some 4) None) e refl refl refl (omega arith) (sym b.0) refl
+      (λ h. b.3) (refl, tt)
       (λ i l h. omega (arith, ways, k, b.3, up_to_le i 3 h, up_to_off i 0 (omega (arith, l)), full_is 4 x.sb (omega arith) good.superblock))
 
   -- it failed at its stage
@@ -158,11 +158,11 @@ module _ (tasks : ℕ) (x : Stages) (good : StagesHold tasks x.stage x.sb x.remo
       (λ h. b.3) (refl, omega (arith, k, b)) (λ i l h. omega (arith, ways, b, full_is 0 x.sb (omega arith) good.superblock))
 
   -- a freeze of a read-only superblock
-  pub freezes_at_once : x.at t ≡ Owning (Some 0) (Some 1) → StagesAt (playing (record x { stage = 4 }) t (Owning None None))
+  pub freezes_at_once : x.at t ≡ Owning (Some 0) (Some 1) → StagesAt (playing (record x { stage = 4 }) t (Owning (Some 4) None))
   freezes_at_once e =
       let k : (x.stage ≡ 0) × (x.sb ≡ 1) = relied_on (Owning (Some 0) (Some 1)) e in
-      stores 4 (Owning (Some 0) (Some 1)) (Owning None None) e refl refl refl (omega arith) (omega (arith, k, ways)) refl
-      (λ w. absurd (omega (arith, w))) (tt, tt) (λ i l h. omega (arith, k, ways, full_is 4 x.sb (omega arith) good.superblock))
+      stores 4 (Owning (Some 0) (Some 1)) (Owning (Some 4) None) e refl refl refl (omega arith) (omega (arith, k, ways)) refl
+      (λ w. absurd (omega (arith, w))) (refl, tt) (λ i l h. omega (arith, k, ways, full_is 4 x.sb (omega arith) good.superblock))
 
   -- a thaw
   pub thaws : x.at t ≡ Owning (Some 4) (Some 0) → StagesAt (playing (record x { stage = 0 }) t (Reopening 3))

@@ -1,9 +1,10 @@
 -- Whole operations, event by event: what one event leaves is what the next one asks for.
 use Rattle.std.proofs.Common.{◌≡◌, ℕ, refl, arith, suc, zero}
-use Rattle.std.specs.Prelude.{true, false, Some, None, List}
+use Rattle.std.specs.Prelude.{true, false, Option, Some, None, List}
 use Rattle.access_model.specs.declared.actions.Action.{Action}
-use Rattle.stage_laws.specs.Roles.{Before, HasPassed, CleanBelow}
-use Rattle.stage_laws.specs.Events.{Stages, StageEvent, Happens, action_of, Advances, Begins, ClearsBlock, ClearsMark, Completes, LetsGo, LoadsSb, LoadsStage, Locks, LocksAgain, MarksNode, Passes, Releases, ReleasesOpen, SetsBlock, Syncs, Thaws}
+use Rattle.access_model.specs.declared.actions.Holder.TheVariants.{User}
+use Rattle.stage_laws.specs.Roles.{Before, HasPassed, CleanBelow, Owning}
+use Rattle.stage_laws.specs.Events.{Stages, IsAlike, StageEvent, Happens, action_of, Advances, Begins, ClearsBlock, ClearsMark, Completes, HoldsOne, LeavesOne, LetsGo, LoadsSb, LoadsStage, Locks, LocksAgain, MarksNode, Passes, Releases, ReleasesOpen, SetsBlock, Syncs, Thaws}
 use Rattle.stage_laws.specs.Laws.{with_one, StageRun, Ends, Goes, FreezeAndThawHappen}
 
 -- one event, and the rest of a run of one task and two nodes
@@ -15,6 +16,10 @@ goes kind happens rest = Goes _ _ _ _ kind happens rest
 root_clean : (dirty : ℕ → ℕ) → dirty 0 ≡ 0 → CleanBelow 1 dirty
 root_clean dirty e zero lt = e
 root_clean dirty e (suc n) lt = absurd (omega (arith, lt))
+
+-- owners that rely on one thing or another are alike
+owners_alike : {stage sb stage' sb' : Option ℕ} → IsAlike (Owning stage sb) (Owning stage' sb')
+owners_alike = record { owns_same = refl; freezes_same = refl; remounts_same = refl; closed_same = refl; passed_same = refl }
 
 -- a freeze, and a thaw
 pub freeze_and_thaw_happen : FreezeAndThawHappen
@@ -42,13 +47,16 @@ freeze_and_thaw_happen = (
       goes (SetsBlock 3 true) (refl, refl) (
       goes (Passes 3 0 true) (refl, (λ m lt. absurd (omega (arith, lt))), refl) (
       goes (Completes 0) (refl, refl) (
-      goes (Releases None None) (refl, refl) (Ends _)))))))))))))))))),
+      goes (HoldsOne User None (Owning None None)) (refl, owners_alike, (tt, tt), (λ m lt. absurd (omega (arith, lt))), refl) (
+      goes (Releases None None) (refl, refl) (Ends _))))))))))))))))))),
   goes Locks (refl, refl, refl) (
       goes (LoadsStage None None) (refl, refl) (
       goes (LoadsSb (Some 4) None) (refl, refl) (
+      goes (LeavesOne User (Some 0) (Owning (Some 4) (Some 0)))
+      (refl, owners_alike, (refl, refl), (λ m lt. absurd (omega (arith, lt))), refl) (
       goes Thaws (refl, refl) (
       goes (ClearsBlock 2) (refl, refl) (
       goes (ClearsBlock 1) (refl, refl) (
       goes (ClearsBlock 0) (refl, refl) (
-      goes ReleasesOpen (refl, refl) (Ends _)))))))),
+      goes ReleasesOpen (refl, refl) (Ends _))))))))),
 )

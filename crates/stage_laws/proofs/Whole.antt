@@ -10,7 +10,7 @@ use Rattle.std.specs.Prelude.{◌⊎◌, Bool, true, Option, Some}
 use Rattle.std.proofs.lemmas.Bool.Decides.{eqb_tells}
 use Rattle.finite_sums.proofs.Totals.{total_none, total_zero, total_at, HasPlace, total_place}
 use Rattle.stage_laws.specs.Roles.{StageRole, Aside, Owning, Remounting, Freezing, HasPassed, KnowsStage, Place, closes, freezes, has_position, is_full, remounts}
-use Rattle.stage_laws.specs.Events.{Stages, Holds, StageEvent, Happens, Advances, Begins, CancelsRemount, ClearsBlock, ClearsMark, ClearsMarkReadOnly, ClearsRemount, Completes, Fails, FreezesAtOnce, LetsGo, LoadsSb, LoadsStage, Locks, LocksAgain, MarksNode, Passes, Recalls, Releases, ReleasesOpen, SetsBlock, SetsReadOnly, SetsRemount, SetsWritable, Stays, Syncs, Thaws, ThawsAtOnce, WashesNode}
+use Rattle.stage_laws.specs.Events.{Stages, Holds, StageEvent, Happens, Advances, Begins, CancelsRemount, ClearsBlock, ClearsMark, ClearsMarkReadOnly, ClearsRemount, Completes, Fails, FreezesAtOnce, HoldsOne, LeavesOne, LetsGo, LoadsSb, LoadsStage, Locks, LocksAgain, MarksNode, Passes, Recalls, Releases, ReleasesOpen, SetsBlock, SetsReadOnly, SetsRemount, SetsWritable, Stays, Syncs, Thaws, ThawsAtOnce, WashesNode}
 use Rattle.stage_laws.specs.Laws.{opening, EventsKeep, ActionsAreAllowed, ActionsHaveTheirEffect, FreezeIsUnderWay, FreezeKeepsOthersOut, FrozenAsAWhole, OnlyTheFreezeMovesTheStage, OpenElsewhere, PositionsAreAlone, PositionsTellTheLevels, LevelsPassInOrder, NobodyAtStageFour}
 
 -- everything holds where nothing is frozen and nobody has begun anything
@@ -172,6 +172,8 @@ module _ (tasks nodes : ℕ) (x : Stages) (h : Holds tasks nodes x) (t : ℕ) (l
   stage_stays (MarksNode node mark) x' (l, r, b, p) = ap (λ y. y.stage) p
   stage_stays (WashesNode node) x' p = ap (λ y. y.stage) p
   stage_stays (Recalls old new) x' (e, a, k, c, p) = ap (λ y. y.stage) p
+  stage_stays (HoldsOne holder sb new) x' (e, a, k, c, p) = ap (λ y. y.stage) p
+  stage_stays (LeavesOne holder sb new) x' (e, a, k, c, p) = ap (λ y. y.stage) p
   stage_stays Stays x' p = ap (λ y. y.stage) p
 
 -- only the freeze under way moves the stage

@@ -2,7 +2,8 @@
 use Rattle.std.specs.Prelude.{◌≡◌, ℕ, zero, suc, ◌<◌, ◌≤◌, Bool, true, false, Option, Some, None}
 use Rattle.finite_sums.specs.Sums.{update, total}
 use Rattle.access_model.specs.declared.actions.Action.{Action}
-use Rattle.access_model.specs.declared.actions.Action.TheVariants.{SbRo, SbRw, Stage, Pass, Reopen, Clean}
+use Rattle.access_model.specs.declared.actions.Action.TheVariants.{SbRo, SbRw, Stage, Hold, Leave, Pass, Reopen, Clean}
+use Rattle.access_model.specs.declared.actions.Holder.{Holder}
 use Rattle.access_model.specs.States.{Limits, State}
 use Rattle.stage_laws.specs.Roles.{Place, Before, Closing, HasPassed, StageRole, Aside, Owning, Remounting, Freezing, Reopening, owns, freezes, remounts, closed_by, passed_by, clean_by, KnowsStage, StagesHold, CleanBelow, MarksHold}
 use Rattle.stage_laws.specs.Shown.{passed_shown, ShowsStages, ShowsMarks}
@@ -54,6 +55,9 @@ pub data StageEvent : Type 0 where
   Fails : (stage clean : ℕ) → StageEvent
   -- a freeze of a read-only superblock, at once
   FreezesAtOnce : StageEvent
+  -- an owner's store of the holders with one more, or with one less, at stage 4; it goes on relying on something
+  HoldsOne : (holder : Holder) (sb : Option ℕ) (new : StageRole) → StageEvent
+  LeavesOne : (holder : Holder) (sb : Option ℕ) (new : StageRole) → StageEvent
   -- a thaw's store of 0, of a writable superblock, and of a read-only one
   Thaws : StageEvent
   ThawsAtOnce : StageEvent
@@ -103,11 +107,17 @@ Happens tasks nodes t x x' (Advances clean) =
 Happens tasks nodes t x x' (Syncs clean) =
     (x.at t ≡ Freezing 2 (HasPassed clean) true) × (nodes ≤ clean) × (x' ≡ playing (record x { stage = 3 }) t (Freezing 3 Before true))
 Happens tasks nodes t x x' (Completes clean) =
-    (x.at t ≡ Freezing 3 (HasPassed clean) true) × (x' ≡ playing (record x { stage = 4 }) t (Owning None None))
+    (x.at t ≡ Freezing 3 (HasPassed clean) true) × (x' ≡ playing (record x { stage = 4 }) t (Owning (Some 4) None))
 Happens tasks nodes t x x' (Fails stage clean) =
     (x.at t ≡ Freezing stage (HasPassed clean) true) × (2 ≤ stage) × (x' ≡ playing (record x { stage = 0 }) t (Reopening stage))
 Happens tasks nodes t x x' FreezesAtOnce =
-    (x.at t ≡ Owning (Some 0) (Some 1)) × (x' ≡ playing (record x { stage = 4 }) t (Owning None None))
+    (x.at t ≡ Owning (Some 0) (Some 1)) × (x' ≡ playing (record x { stage = 4 }) t (Owning (Some 4) None))
+Happens tasks nodes t x x' (HoldsOne holder sb new) =
+    (x.at t ≡ Owning (Some 4) sb) × IsAlike (Owning (Some 4) sb) new × KnowsStage x.stage x.sb new × CleanBelow (clean_by new) x.dirty ×
+    (x' ≡ playing x t new)
+Happens tasks nodes t x x' (LeavesOne holder sb new) =
+    (x.at t ≡ Owning (Some 4) sb) × IsAlike (Owning (Some 4) sb) new × KnowsStage x.stage x.sb new × CleanBelow (clean_by new) x.dirty ×
+    (x' ≡ playing x t new)
 Happens tasks nodes t x x' Thaws = (x.at t ≡ Owning (Some 4) (Some 0)) × (x' ≡ playing (record x { stage = 0 }) t (Reopening 3))
 Happens tasks nodes t x x' ThawsAtOnce =
     (x.at t ≡ Owning (Some 4) (Some 1)) × (x' ≡ playing (record x { stage = 0 }) t (Owning None None))
@@ -152,6 +162,8 @@ action_of (Syncs clean) x = Some (Stage 3)
 action_of (Completes clean) x = Some (Stage 4)
 action_of (Fails stage clean) x = Some (Stage 0)
 action_of FreezesAtOnce x = Some (Stage 4)
+action_of (HoldsOne holder sb new) x = Some (Hold holder)
+action_of (LeavesOne holder sb new) x = Some (Leave holder)
 action_of Thaws x = Some (Stage 0)
 action_of ThawsAtOnce x = Some (Stage 0)
 action_of (Passes level clean owner) x = Some (Pass level)

@@ -1,7 +1,8 @@
 -- The laws of the stage.
 use Rattle.std.proofs.Common.{Bool}
 use Rattle.std.specs.Prelude.{◌≡◌, ℕ, ◌<◌, ◌≤◌, Option, Some, None, List, [], ◌∷◌}
-use Rattle.access_model.specs.declared.actions.Action.TheVariants.{Stage, Pass, Reopen, Clean}
+use Rattle.access_model.specs.declared.actions.Action.TheVariants.{Stage, Hold, Leave, Pass, Reopen, Clean}
+use Rattle.access_model.specs.declared.actions.Holder.TheVariants.{User}
 use Rattle.access_model.specs.declared.actions.Action.{Action}
 use Rattle.access_model.specs.States.{Limits, State}
 use Rattle.access_model.specs.Actions.{IsAllowed}
@@ -100,5 +101,5 @@ pub data StageRun (tasks nodes : ℕ) : Stages → List Action → Stages → Ty
 abbrev pub FreezeAndThawHappen : Type 0
 FreezeAndThawHappen =
     (frozen : Stages) × (thawed : Stages) × (frozen.stage ≡ 4) × (frozen.at 0 ≡ Aside) × (thawed.stage ≡ 0) × (thawed.at 0 ≡ Aside) ×
-    StageRun 1 2 opening (Stage 1 ∷ Pass 1 ∷ Stage 2 ∷ Pass 2 ∷ Clean 1 ∷ Stage 3 ∷ Pass 3 ∷ Stage 4 ∷ []) frozen ×
-    StageRun 1 2 frozen (Stage 0 ∷ Reopen 3 ∷ Reopen 2 ∷ Reopen 1 ∷ []) thawed
+    StageRun 1 2 opening (Stage 1 ∷ Pass 1 ∷ Stage 2 ∷ Pass 2 ∷ Clean 1 ∷ Stage 3 ∷ Pass 3 ∷ Stage 4 ∷ Hold User ∷ []) frozen ×
+    StageRun 1 2 frozen (Leave User ∷ Stage 0 ∷ Reopen 3 ∷ Reopen 2 ∷ Reopen 1 ∷ []) thawed

@@ -13,7 +13,7 @@ use Rattle.access_model.specs.declared.replies.Reply.TheVariants.{Unit as UnitRe
 use Rattle.access_model.specs.declared.replies.Next.{Next}
 use Rattle.access_model.specs.declared.replies.Next.TheVariants.{Go, Done}
 use Rattle.cpu_words.specs.declared.names.WordName.{WordName}
-use Rattle.cpu_words.specs.declared.names.WordName.TheVariants.{Umount, Stage, SbFlags, Remount, MountFlags, MountCount, Block, Sync, LevelCount, Section, Used, Node, Kids}
+use Rattle.cpu_words.specs.declared.names.WordName.TheVariants.{Umount, Stage, Holders, SbFlags, Remount, MountFlags, MountCount, Block, Sync, LevelCount, Section, Used, Node, Kids}
 use Rattle.cpu_words.specs.declared.events.Touch.{Touch}
 use Rattle.cpu_words.specs.declared.events.Touch.TheVariants.{Load, Cas}
 use Rattle.cpu_words.specs.Words.{Words, read, put}
@@ -48,6 +48,7 @@ same_tree sealed w at (Node n) = λ j. record (tree_in sealed w at) { node = upd
 same_tree sealed w at (Kids n) = λ j. record (tree_in sealed w at) { kids = update_same w.kids n j }
 same_tree sealed w at Umount = refl
 same_tree sealed w at Stage = refl
+same_tree sealed w at Holders = refl
 same_tree sealed w at SbFlags = refl
 same_tree sealed w at Remount = refl
 same_tree sealed w at (MountFlags m) = refl

@@ -10,7 +10,7 @@ use crate::ends::{Waiting, wait_to_end};
 use crate::gates::Gates;
 use crate::lines::InLine;
 use crate::task::Task;
-use access_model::{GateError, Next, Reply};
+use access_model::{GateError, Holder, Next, Reply};
 use crossbeam_utils::Backoff;
 use freeze_levels::{Freeze, FreezeStep, FsHooks, Thaw, ThawStep};
 use gate_core::Progress;
@@ -265,7 +265,8 @@ impl Task {
     }
 
     /// `freeze_super`: closes the three freeze levels, one after the other, waiting at each for who is inside, and freezes the file system.
-    /// While another task has `umount` it waits. Busy where the stage isn't SB_UNFROZEN. `FsHooks::sync` is asked once, with levels 1 and 2
+    /// While another task has `umount` it waits. Busy where another freeze is under way, or its holder holds one
+    /// already; where all is frozen for the other holder, it is held for this one, too, at once. `FsHooks::sync` is asked once, with levels 1 and 2
     /// closed and the dirty marks cleared, and `FsHooks::freeze_fs` once, with all levels closed; a superblock that is read-only is frozen at
     /// once, with no level closed and no hook asked. Hook where one fails, and then the levels are open and the file system is as it was, but
     /// for the dirty marks. Order, where the task is inside a level, as `begin`. After an Ok nobody is inside a level that was closed, nor
@@ -275,38 +276,45 @@ impl Task {
         &mut self,
         rt: &R,
         gates: &Gates,
+        holder: Holder,
         hooks: &mut H,
     ) -> Result<(), GateError>
         requires { IsFrom self.old gates.now }
-        ensures { Performs FreezeOp self.old self.new result }
+        ensures { Performs (FreezeOp holder) self.old self.new result }
     {
         let freeze = Freeze {
             task: self.number(),
             tasks: self.config.tasks,
             processors: self.config.processors,
             nodes: self.config.nodes,
+            holder,
             step: FreezeStep::Locks,
         };
-        outcome(self.perform_waiting(rt, gates, Op::Freeze, freeze, hooks, false))
+        let op = Op::Freeze { holder };
+        outcome(self.perform_waiting(rt, gates, op, freeze, hooks, false))
     }
 
-    /// `thaw_super`: thaws a file system that any task has frozen, and reopens its levels, the highest first. While another task has
-    /// `umount` it waits. Invalid where the stage isn't SB_FREEZE_COMPLETE. `FsHooks::unfreeze_fs` is asked once, unless the superblock is
+    /// `thaw_super`: gives a holder's freeze back, whichever task froze; where no other is held, it thaws the file system, and reopens its
+    /// levels, the highest first. While another task has `umount` it waits. Invalid where the stage isn't SB_FREEZE_COMPLETE, or this holder
+    /// holds no freeze. `FsHooks::unfreeze_fs` is asked once, unless the superblock is
     /// read-only; Hook where it fails, and then all stays frozen. Order, where the task is inside a level, as `begin`.
     #[tactic(auto, using(crate::proofs::Running::was_told))]
     pub fn thaw<R: Wait, H: FsHooks>(
         &mut self,
         rt: &R,
         gates: &Gates,
+        holder: Holder,
         hooks: &mut H,
     ) -> Result<(), GateError>
         requires { IsFrom self.old gates.now }
-        ensures { Performs ThawOp self.old self.new result }
+        ensures { Performs (ThawOp holder) self.old self.new result }
     {
         let thaw = Thaw {
             task: self.number(),
+            holder,
             step: ThawStep::Locks,
         };
-        outcome(self.perform_waiting(rt, gates, Op::Thaw, thaw, hooks, false))
+        let op = Op::Thaw { holder };
+        outcome(self.perform_waiting(rt, gates, op, thaw, hooks, false))
     }
 }

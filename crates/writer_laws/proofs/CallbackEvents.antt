@@ -68,6 +68,7 @@ beside w sections syncs = record {
   remount_same = refl;
   sb_same = refl;
   stage_same = refl;
+  holders_same = refl;
   flags_same = refl;
   count_same = refl;
   used_same = refl;
@@ -148,6 +149,7 @@ after_at_levels (Go x) = record {
   aside = refl;
   out_of_mounts = λ m. refl;
   off_tree = λ trace. refl;
+  unheld = refl;
 }
 after_at_levels (Wait x) = record {
   owns_none = refl;
@@ -155,6 +157,7 @@ after_at_levels (Wait x) = record {
   aside = refl;
   out_of_mounts = λ m. refl;
   off_tree = λ trace. refl;
+  unheld = refl;
 }
 after_at_levels (Done answer) = record {
   owns_none = refl;
@@ -162,6 +165,7 @@ after_at_levels (Done answer) = record {
   aside = refl;
   out_of_mounts = λ m. refl;
   off_tree = λ trace. refl;
+  unheld = refl;
 }
 
 -- it counts at no level

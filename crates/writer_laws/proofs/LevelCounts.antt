@@ -99,6 +99,7 @@ module _ (c : Config) (lim : IsWithin c) (w : World) (good : IsGood c w) (t : â„
     remount_same = refl;
     sb_same = refl;
     stage_same = refl;
+    holders_same = refl;
     flags_same = refl;
     count_same = refl;
     used_same = refl;
@@ -114,6 +115,7 @@ module _ (c : Config) (lim : IsWithin c) (w : World) (good : IsGood c w) (t : â„
     remount_same = refl;
     sb_same = refl;
     stage_same = refl;
+    holders_same = refl;
     flags_same = refl;
     count_same = refl;
     used_same = refl;

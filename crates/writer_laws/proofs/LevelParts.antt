@@ -2,6 +2,9 @@
 use Rattle.gate_frames.proofs.Known.{known_same}
 use Rattle.gated_tree.specs.Nodes.{node_shown}
 use Rattle.gated_tree.specs.Roles.{Out as OffTree, sealed_by}
+use Rattle.holder_laws.specs.Roles.{Apart}
+use Rattle.gate_world.specs.Holders.{holder_role_of}
+use Rattle.freeze_levels.specs.Holders.{holders_in}
 use Rattle.gate_world.specs.Trees.{is_sealed, tree_role_of}
 use Rattle.gate_world.specs.declared.views.Traced.{Traced}
 use Rattle.gate_world.specs.Owners.{KnowsWords}
@@ -17,7 +20,7 @@ use Rattle.gate_world.specs.declared.work.Phase.TheVariants.{UpReads, DownReads}
 use Rattle.percpu_rwsem.specs.declared.readers.DownRead.{DownRead}
 use Rattle.gate_world.specs.Levels.{is_frozen_whole, sync_role_of, inside, at_level}
 use Rattle.gate_world.specs.Views.{held_at, added_by, phase_after, taken_by, holds_level}
-use Rattle.gate_world.specs.Rules.{owns, remounts, IsGood, Holds, ViewFits, Owner, Known, AtMount, AtLevel, role_of, SyncAt, Sections, Stages, Fitting, Tree}
+use Rattle.gate_world.specs.Rules.{owns, remounts, IsGood, Holds, ViewFits, Owner, Known, AtMount, AtLevel, role_of, SyncAt, Sections, Stages, Holding, Fitting, Tree}
 use Rattle.gate_world.specs.Stages.{stage_role_of}
 use Rattle.stage_laws.specs.Roles.{Aside, sums}
 use Rattle.gate_world.specs.declared.config.Config.{Config}
@@ -35,6 +38,7 @@ pub record IsBeside (old new : Words) : Type 0 where
   pub remount_same : new.remount ≡ old.remount
   pub sb_same : new.sb ≡ old.sb
   pub stage_same : new.stage ≡ old.stage
+  pub holders_same : new.holders ≡ old.holders
   pub flags_same : new.flags ≡ old.flags
   pub count_same : new.count ≡ old.count
   pub used_same : new.used ≡ old.used
@@ -50,6 +54,7 @@ pub record IsAtLevels (p : Option Phase) : Type 0 where
   pub aside : stage_role_of p ≡ Aside
   pub out_of_mounts : (m : ℕ) → role_of m p ≡ Out
   pub off_tree : (trace : List Traced) → tree_role_of trace p ≡ OffTree
+  pub unheld : holder_role_of p ≡ Apart
 
 -- a view's accesses at mounts, and what it added to their words and took away, are as they were
 pub record SameAtMounts (old new : View) : Type 0 where
@@ -73,6 +78,7 @@ reads_at_levels (Go r) = record {
   aside = refl;
   out_of_mounts = λ m. refl;
   off_tree = λ trace. refl;
+  unheld = refl;
 }
 reads_at_levels (Wait r) = record {
   owns_none = refl;
@@ -80,6 +86,7 @@ reads_at_levels (Wait r) = record {
   aside = refl;
   out_of_mounts = λ m. refl;
   off_tree = λ trace. refl;
+  unheld = refl;
 }
 reads_at_levels (Done answer) = record {
   owns_none = refl;
@@ -87,6 +94,7 @@ reads_at_levels (Done answer) = record {
   aside = refl;
   out_of_mounts = λ m. refl;
   off_tree = λ trace. refl;
+  unheld = refl;
 }
 
 -- so is an up-read
@@ -97,6 +105,7 @@ end_at_levels u = record {
   aside = refl;
   out_of_mounts = λ m. refl;
   off_tree = λ trace. refl;
+  unheld = refl;
 }
 
 module _ (c : Config) (w : World) (good : IsGood c w) (t : ℕ) (lt : t < c.tasks) (ws : Words) (v : View) (words : IsBeside w.words ws)
@@ -116,7 +125,7 @@ module _ (c : Config) (w : World) (good : IsGood c w) (t : ℕ) (lt : t < c.task
   known_left x lx =
       each_updated (λ y (u : View). owns u.phase ≡ 1 → KnowsWords ws u.trace) w.views t v x
       (λ o. absurd (omega (arith, o, now.owns_none)))
-      (λ ne o. known_same w.words ws (words.stage_same, words.sb_same, words.remount_same, words.flags_same) (w.views x).trace
+      (λ ne o. known_same w.words ws (words.stage_same, words.sb_same, words.remount_same, words.flags_same, words.holders_same) (w.views x).trace
       (good Known x lx o))
 
   -- each mount
@@ -140,6 +149,8 @@ module _ (c : Config) (w : World) (good : IsGood c w) (t : ℕ) (lt : t < c.task
   level_parts mounts fits levels syncs sections Stages =
       left_alone c w t lt Stages ws v (words.stage_same, words.sb_same, words.remount_same, words.block_same)
       (now.aside ∙ sym was.aside) (good Stages)
+  level_parts mounts fits levels syncs sections Holding =
+      left_alone c w t lt Holding ws v (words.stage_same, words.holders_same) (now.unheld ∙ sym was.unheld) (good Holding)
   level_parts mounts fits levels syncs sections Fitting = λ x lx.
       each_updated (λ y (u : View). ViewFits c y u) w.views t v x fits (λ ne. good Fitting x lx)
   level_parts mounts fits levels syncs sections Known = known_left
@@ -167,6 +178,7 @@ module _ (c : Config) (w : World) (good : IsGood c w) (t : ℕ) (lt : t < c.task
         mount_ro = λ m. ro_bit (words.flags_same j m) == 1;
         sb_ro = words.remount_same j == 1 || words.sb_same j == 1;
         stage = words.stage_same j;
+        holders = holders_in (words.holders_same j);
         tree = λ n. node_shown (words.node_same j n);
       })
 

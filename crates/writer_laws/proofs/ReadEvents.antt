@@ -174,6 +174,7 @@ module _ (c : Config) (lim : IsWithin c) (w : World) (good : IsGood c w) (t : â„
     remount_same = refl;
     sb_same = refl;
     stage_same = refl;
+    holders_same = refl;
     flags_same = refl;
     count_same = refl;
     used_same = refl;
@@ -239,6 +240,7 @@ module _ (c : Config) (lim : IsWithin c) (w : World) (good : IsGood c w) (t : â„
         remount_same = refl;
         sb_same = refl;
         stage_same = refl;
+        holders_same = refl;
         flags_same = refl;
         count_same = refl;
         used_same = refl;
@@ -338,6 +340,7 @@ module _ (c : Config) (lim : IsWithin c) (w : World) (good : IsGood c w) (t : â„
     remount_same = refl;
     sb_same = refl;
     stage_same = refl;
+    holders_same = refl;
     flags_same = refl;
     count_same = refl;
     used_same = refl;

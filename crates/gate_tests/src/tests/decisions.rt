@@ -4,7 +4,7 @@ ghost use Rattle.vfs_gates.specs.TaskStates.{IsFrom};
 
 use super::hooks::{FailsAt, Question};
 use super::{freezes, small, thaws};
-use access_model::GateError;
+use access_model::{GateError, Holder};
 use cpu_words::{Event, WordName};
 use crossbeam_utils::Backoff;
 use freeze_levels::FsHooks;
@@ -84,10 +84,10 @@ fn back_up<R: Wait, H: FsHooks>(
     requires { IsFrom task.old gates.now }
     ensures { IsFrom task.new gates.now }
 {
-    match task.freeze(rt, gates, hooks) {
+    match task.freeze(rt, gates, Holder::User, hooks) {
         Ok(()) => {
             let taken = task.snapshot(rt, gates);
-            task.thaw(rt, gates, hooks)?;
+            task.thaw(rt, gates, Holder::User, hooks)?;
             taken
         }
         Err(GateError::Busy) => task.try_snapshot(gates),
@@ -114,13 +114,13 @@ fn take<R: Wait, H: FsHooks>(
 {
     let backoff = Backoff::new();
     for _try in 0..tries {
-        let frozen = task.freeze(rt, gates, hooks);
+        let frozen = task.freeze(rt, gates, Holder::User, hooks);
         if let Err(GateError::Hook(_) | GateError::Order) = frozen {
             return frozen;
         }
         let taken = task.snapshot(rt, gates);
         if frozen.is_ok() {
-            match task.thaw(rt, gates, hooks) {
+            match task.thaw(rt, gates, Holder::User, hooks) {
                 Ok(()) | Err(GateError::Invalid) => {}
                 refused => return refused,
             }

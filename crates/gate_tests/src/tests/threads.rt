@@ -3,6 +3,7 @@
 ghost use Rattle.vfs_gates.specs.TaskStates.{IsFrom};
 
 mod freezes;
+mod holders;
 mod mounts;
 mod remounts;
 mod runs;

@@ -8,7 +8,7 @@ use std::test::Fail;
 
 /// What a task does, line by line, until it takes up something else. A capital letter stands for a number: T for the task's own, X for
 /// any task's, M for a mount's, C for a processor's, L for a level's, N for a node's, B for some blocks, and E for the code of a hook.
-static STORIES: [&str; 24] = [
+static STORIES: [&str; 26] = [
     "T want M C\nT run\nwords\nT drop M C\nT run\n",
     "T trywant M C\nT step\nT step\nT run\nX drop M C\nX run\n",
     "T want M C\nT step\nT step\nT step\nT step\nT step\nmodel\nT drop M C\nT step\n",
@@ -31,18 +31,22 @@ static STORIES: [&str; 24] = [
     "T freeze\nT run freeze E\nmodel\nT callback L\nT step E\nT run\n",
     "T freeze\nT run\nT thaw\nT run unfreeze E\nX thaw\nX run\nwords\n",
     "T remount ro\nT run\nT freeze\nT run\nT snapshot\nT run\nT thaw\nT run\nT remount rw\nT run\n",
+    "T freeze kernel\nT run\nX freeze user\nX step\nX step\nX run\nmodel\nT thaw kernel\nT run\nX thaw user\nX run\nwords\n",
+    "T freeze user\nT run\nT freeze kernel\nT run\nwords\nmodel\nT thaw user\nT step\nT step\nT run\nX thaw kernel\nX run unfreeze E\nmodel\nX thaw kernel\nX run\n",
     "# a comment\n\nT run\nwords\ntree\nmodel\n",
     "T trywant X N\nT start N M\nT create B file\nT grow E B\nT run\nT move C E\nT wantwrite E M\nT callback C\nT step\n",
 ];
 
 /// What the text of all schedules has to have, so that they are worth replaying.
-static REACHED: [&str; 24] = [
+static REACHED: [&str; 26] = [
     " grant mount ",
     " grant level ",
     " return mount ",
     " pass 1\n",
     "\nstage 4\n",
     " stage 1 stage 1\n",
+    "\nholders 3\n",
+    "\nholder kernel\nholder user\n",
     " ok used ",
     " ok ran\n",
     " ok none\n",

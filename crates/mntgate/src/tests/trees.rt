@@ -10,7 +10,7 @@ static TREES: [(&str, &str); 13] = [
     (
         "config 2 1 1 2 8\n0 trysnapshot\n0 run\n0 remount ro\n0 run\n0 freeze\n0 run\n0 snapshot\n0 run\nmodel\n1 thaw\n1 run\n\
          1 remount rw\n1 run\n1 want 0 0\n1 run\n",
-        "0 refused 22 Invalid\n0 ok\n0 ok\n0 ok used 0\nmodel stage 4 passed 0 sb ro\nnode 0 dir 0 0 clean\n1 ok\n1 ok\n1 ok\n",
+        "0 refused 22 Invalid\n0 ok\n0 ok\n0 ok used 0\nmodel stage 4 passed 0 sb ro\nholder user\nnode 0 dir 0 0 clean\n1 ok\n1 ok\n1 ok\n",
     ),
     // There is one free node, and room for ten blocks.
     (

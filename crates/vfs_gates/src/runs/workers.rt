@@ -8,7 +8,7 @@ ghost use Rattle.vfs_gates.specs.TaskStates.{IsFrom, own_view};
 use super::{Meeting, Plan};
 use crate::gates::Gates;
 use crate::task::Task;
-use access_model::{GateError, Kind};
+use access_model::{GateError, Holder, Kind};
 use crossbeam_utils::Backoff;
 use std::sync::Wait;
 
@@ -173,10 +173,10 @@ pub(crate) fn back_up<R: Wait, M: Meeting>(
     let mut frozen = 0;
     let mut snapshots = 0;
     for freeze in 0..plan.freezes {
-        task.freeze(rt, gates, &mut ())?;
+        task.freeze(rt, gates, Holder::User, &mut ())?;
         let is_whole = take_snapshot(rt, gates, task);
         meeting.frozen(freeze);
-        task.thaw(rt, gates, &mut ())?;
+        task.thaw(rt, gates, Holder::User, &mut ())?;
         snapshots += u32::from(is_whole?);
         for level in 1..=3 {
             task.callback(rt, gates, level)?;

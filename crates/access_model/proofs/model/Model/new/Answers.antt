@@ -22,5 +22,5 @@ returns-clause-opens c =
     let alone = ap (λ xs. tree_of (set xs 0 (Some root))) tree ∙ root_alone c.args.nodes some in
     λ i. record {
       limits = record { tasks = c.args.tasks; mounts = c.args.mounts; nodes = nodes i; capacity = c.args.capacity };
-      state = record { mounts = held i; levels = inside i; mount_ro = no_flag i; sb_ro = false; stage = 0; passed = 0; tree = alone i };
+      state = record { mounts = held i; levels = inside i; mount_ro = no_flag i; sb_ro = false; stage = 0; holders = c.none.ensures i; passed = 0; tree = alone i };
     }
