@@ -1,14 +1,16 @@
-//! What `gate_bench` is compared with: the same pairs by hand, over padded atomics with sequentially consistent steps, and with no
-//! proof. A pair is a want and a drop of a mount, a start and an end of level 1, or a taking and a return of write access, which is
+//! What `gate_bench` is compared with: the same by hand, over padded atomics with sequentially consistent steps, and with no proof. It
+//! takes the words that `gate_bench` takes, and prints nanoseconds as it does; `bench/by-turns.py` builds it and measures both by turns.
+//! A pair is a want and a drop of a mount, a start and an end of level 1, or a taking and a return of write access, which is
 //! both. Each thread is a task of its own, at a processor of its own. Freezes and thaws are one task's, among so many tasks and processors. A
 //! round is what a writer does in a run (`mntgate run`): it takes write access, makes its file larger by one block, and gives the access
 //! back on another processor, while one more thread makes the mount read-only and writable again.
 //!
-//!     rustc -O -o /tmp/by-hand bench/by-hand.rs && /tmp/by-hand
+//!     rustc -O -o /tmp/by-hand bench/by-hand.rs && /tmp/by-hand mount 4 1000000
 
 use std::sync::atomic::{AtomicU64, Ordering::SeqCst};
 use std::thread;
-use std::time::Instant;
+use std::time::{Duration, Instant};
+use std::{env, process};
 
 /// Words from one word to the next, so that each has cache lines of its own.
 const APART: usize = 16;
@@ -29,15 +31,8 @@ const REPLAY: u64 = 4;
 const TAKEN: u64 = 8;
 const COUNTED: u64 = 256;
 
-/// Pairs of each thread.
-const PAIRS: u32 = 20_000_000;
-
-/// Freezes and thaws in one measurement.
-const FREEZES: u32 = 200_000;
-
-/// Rounds of each writer in one run, and runs in one measurement.
+/// Rounds of each writer in one run.
 const ROUNDS: u32 = 10_000;
-const RUNS: u32 = 50;
 
 /// A node's word: the kind in bits 0 and 1, the dirty mark, and the size from bit 32 on.
 const FILE: u64 = 1;
@@ -305,13 +300,13 @@ enum Pair {
     WriteAccess,
 }
 
-fn take_and_give(words: &Words, number: usize, pair: Pair) -> Result<(), Refusal> {
+fn take_and_give(words: &Words, number: usize, pair: Pair, pairs: u32) -> Result<(), Refusal> {
     let mut task = Task {
         number,
         mounts: [0; 8],
         levels: [false; 4],
     };
-    for _ in 0..PAIRS {
+    for _ in 0..pairs {
         match pair {
             Pair::Mount => {
                 try_want(words, &mut task, 0, number)?;
@@ -423,7 +418,7 @@ fn remount(words: &Words, processors: usize) {
 
 /// One run: a remounter, and all other tasks but the first write.
 fn run(tasks: usize) {
-    let words = Words((0..APART * 915).map(|_| AtomicU64::new(0)).collect());
+    let words = words();
     let capacity = (tasks as u64 - 2) * u64::from(ROUNDS);
     for file in 1..tasks - 1 {
         words.node(file).store(FILE, SeqCst);
@@ -438,51 +433,64 @@ fn run(tasks: usize) {
     assert_eq!(words.used().load(SeqCst), capacity);
 }
 
-fn measure_runs() {
-    for tasks in [4, 8, 16] {
-        let start = Instant::now();
-        for _ in 0..RUNS {
-            run(tasks);
+/// The words of the gates, all at 0.
+fn words() -> Words {
+    Words((0..APART * 915).map(|_| AtomicU64::new(0)).collect())
+}
+
+fn measure_pairs(pair: Pair, threads: usize, pairs: u32) -> Duration {
+    let words = &words();
+    let start = Instant::now();
+    thread::scope(|scope| {
+        for number in 0..threads {
+            scope.spawn(move || take_and_give(words, number, pair, pairs).expect("no call is refused"));
         }
-        let rounds = (tasks - 2) as f64 * f64::from(ROUNDS) * f64::from(RUNS);
-        let rate = rounds / start.elapsed().as_secs_f64() / 1e3;
-        println!("run by hand {tasks} tasks {rate:.0} thousand rounds a second");
+    });
+    start.elapsed()
+}
+
+fn measure_freezes(runs_callbacks: bool, size: usize, rounds: u32) -> Duration {
+    let (words, node) = (words(), AtomicU64::new(0));
+    let start = Instant::now();
+    for _ in 0..rounds {
+        assert!(freeze(&words, &node, size) && thaw(&words));
+        if runs_callbacks {
+            (1..=3).for_each(|level| callback(&words, level, size));
+        }
+    }
+    start.elapsed()
+}
+
+fn measure_runs(tasks: usize, runs: u32) -> Duration {
+    let start = Instant::now();
+    for _ in 0..runs {
+        run(tasks);
+    }
+    start.elapsed()
+}
+
+/// How long what is asked for takes; None for words that say nothing.
+fn measure(asked: &[String]) -> Option<Duration> {
+    let [what, size, count] = asked else {
+        return None;
+    };
+    let (size, count) = (size.parse().ok()?, count.parse().ok()?);
+    match what.as_str() {
+        "mount" => Some(measure_pairs(Pair::Mount, size, count)),
+        "level" => Some(measure_pairs(Pair::Level, size, count)),
+        "write-access" => Some(measure_pairs(Pair::WriteAccess, size, count)),
+        "freeze" => Some(measure_freezes(false, size, count)),
+        "freeze-and-callbacks" => Some(measure_freezes(true, size, count)),
+        "run" if size > 2 => Some(measure_runs(size, count)),
+        _ => None,
     }
 }
 
 fn main() {
-    let words = Words((0..APART * 915).map(|_| AtomicU64::new(0)).collect());
-    for threads in [1, 2, 4] {
-        for (name, pair) in [
-            ("mount", Pair::Mount),
-            ("level", Pair::Level),
-            ("write access", Pair::WriteAccess),
-        ] {
-            let start = Instant::now();
-            thread::scope(|scope| {
-                for number in 0..threads {
-                    let words = &words;
-                    scope.spawn(move || take_and_give(words, number, pair).expect("no call is refused"));
-                }
-            });
-            let pairs = threads as f64 * f64::from(PAIRS);
-            let rate = pairs / start.elapsed().as_secs_f64() / 1e6;
-            println!("{name} by hand {threads} threads {rate:.1} million pairs a second");
-        }
-    }
-    let node = AtomicU64::new(0);
-    for size in [1, 8, 64] {
-        for (name, runs_callbacks) in [("freeze and thaw", false), ("freeze, thaw and callbacks", true)] {
-            let start = Instant::now();
-            for _ in 0..FREEZES {
-                assert!(freeze(&words, &node, size) && thaw(&words));
-                if runs_callbacks {
-                    (1..=3).for_each(|level| callback(&words, level, size));
-                }
-            }
-            let micros = start.elapsed().as_secs_f64() * 1e6 / f64::from(FREEZES);
-            println!("{name} by hand {size} tasks and processors {micros:.1} microseconds");
-        }
-    }
-    measure_runs();
+    let asked: Vec<String> = env::args().skip(1).collect();
+    let Some(took) = measure(&asked) else {
+        eprintln!("usage: by-hand mount|level|write-access|freeze|freeze-and-callbacks|run SIZE COUNT");
+        process::exit(2);
+    };
+    println!("{}", took.as_nanos());
 }

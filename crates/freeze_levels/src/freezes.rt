@@ -79,6 +79,7 @@ pub struct Freeze {
 
 impl Freeze {
     /// The hook whose answer the next event reads.
+    #[inline(always)]
     pub fn wants_hook(self) -> Option<HookKind>
         ensures { result ≡ freeze_hook self.step }
     {
@@ -126,6 +127,7 @@ impl Freeze {
     }
 
     /// The same freeze, with this step to come.
+    #[inline(always)]
     fn at(self, step: FreezeStep) -> Freeze
         ensures { result ≡ at_freeze self step }
     {
@@ -133,6 +135,7 @@ impl Freeze {
     }
 
     /// What comes after a try to take `umount`: this step, where it was free, and else another try.
+    #[inline(always)]
     fn locked(self, found: u64, step: FreezeStep) -> Next<Freeze>
         ensures { result ≡ freeze_locked self self.step found step }
     {
@@ -144,6 +147,7 @@ impl Freeze {
     }
 
     /// The closing of a level that begins.
+    #[inline(always)]
     fn closes(self, level: u8) -> FreezeStep
         ensures { result ≡ freeze_closes self level }
     {
@@ -151,6 +155,7 @@ impl Freeze {
     }
 
     /// What comes after an event of the closing of a level.
+    #[inline(always)]
     fn after_closing(self, level: u8, next: Next<DownWrite>) -> Next<Freeze>
         ensures { result ≡ after_closing self level next }
     {
@@ -162,6 +167,7 @@ impl Freeze {
     }
 
     /// What comes after the clearing of a node's mark.
+    #[inline(always)]
     fn after_clearing(self, next: Next<ClearMarks>) -> Next<Freeze>
         ensures { result ≡ after_clearing self next }
     {
@@ -173,6 +179,7 @@ impl Freeze {
     }
 
     /// What comes after an event of the reopening of a level.
+    #[inline(always)]
     fn after_reopening(self, level: u8, code: u16, next: Next<UpWrite>) -> Next<Freeze>
         ensures { result ≡ after_reopening self level code next }
     {
@@ -184,6 +191,7 @@ impl Freeze {
     }
 
     /// What comes after a store of this stage: this step, and the action of the stage.
+    #[inline(always)]
     fn stored(self, stage: u8, step: FreezeStep) -> (Next<Freeze>, Option<Action>)
         ensures { result ≡ stage_stored self stage step }
     {
@@ -191,6 +199,7 @@ impl Freeze {
     }
 
     /// What comes after the store that `sync` decides.
+    #[inline(always)]
     fn synced(self, hook: Result<(), u16>) -> (Next<Freeze>, Option<Action>)
         ensures { result ≡ freeze_synced self hook }
     {
@@ -220,6 +229,7 @@ impl Freeze {
     }
 
     /// What comes after the store that `freeze_fs` decides.
+    #[inline(always)]
     fn completed(self, hook: Result<(), u16>) -> (Next<Freeze>, Option<Action>)
         ensures { result ≡ freeze_completed self hook }
     {
@@ -276,6 +286,7 @@ impl Freeze {
 
 /// What comes after the closing of a level, among so many nodes: level 1 is closed with `umount` given back, level 2 before the marks
 /// are cleared, and level 3 before the file system's own part.
+#[inline(always)]
 fn closed(level: u8, nodes: u8) -> FreezeStep
     ensures { result ≡ level_closed level nodes }
 {
@@ -287,6 +298,7 @@ fn closed(level: u8, nodes: u8) -> FreezeStep
 }
 
 /// What comes where a hook failed with this code and the levels up to this one are still to be reopened, the highest first.
+#[inline(always)]
 fn failing(level: u8, code: u16) -> FreezeStep
     ensures { result ≡ freeze_fails level code }
 {

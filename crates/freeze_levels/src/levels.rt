@@ -6,6 +6,7 @@ ghost use Rattle.freeze_levels.specs.Levels.{closing, reopening};
 use percpu_rwsem::{DownWrite, DownWriteStep, Transition, UpWrite, UpWriteStep};
 
 /// The down-write of a level that begins, among so many tasks and processors.
+#[inline(always)]
 pub(crate) fn closing(level: u8, tasks: u8, processors: u8) -> DownWrite
     ensures { result ≡ closing level tasks processors }
 {
@@ -18,6 +19,7 @@ pub(crate) fn closing(level: u8, tasks: u8, processors: u8) -> DownWrite
 }
 
 /// The up-write of a level that begins.
+#[inline(always)]
 pub(crate) fn reopening(level: u8) -> UpWrite
     ensures { result ≡ reopening level }
 {

@@ -57,6 +57,7 @@ pub struct Thaw {
 
 impl Thaw {
     /// The hook whose answer the next event reads.
+    #[inline(always)]
     pub fn wants_hook(self) -> Option<HookKind>
         ensures { result ≡ thaw_hook self.step }
     {
@@ -98,6 +99,7 @@ impl Thaw {
     }
 
     /// The same thaw, with this step to come.
+    #[inline(always)]
     fn at(self, step: ThawStep) -> Thaw
         ensures { result ≡ at_thaw self step }
     {
@@ -125,6 +127,7 @@ impl Thaw {
     }
 
     /// What comes after the store that `unfreeze_fs` decides.
+    #[inline(always)]
     fn thawed(self, hook: Result<(), u16>) -> (Next<Thaw>, Option<Action>)
         ensures { result ≡ thawed self hook }
     {
@@ -135,6 +138,7 @@ impl Thaw {
     }
 
     /// What comes after an event of the reopening of a level.
+    #[inline(always)]
     fn after_opening(self, level: u8, next: Next<UpWrite>) -> Next<Thaw>
         ensures { result ≡ after_opening self level next }
     {
@@ -179,6 +183,7 @@ impl Thaw {
 }
 
 /// What comes where the levels up to this one are still to be reopened, the highest first.
+#[inline(always)]
 fn opening(level: u8) -> ThawStep
     ensures { result ≡ thaw_opens level }
 {

@@ -9,7 +9,7 @@ use std::time::{Duration, Instant};
 use vfs_gates::run_with;
 
 /// Rounds of each writer in one run.
-pub(crate) const ROUNDS: u32 = 10_000;
+const ROUNDS: u32 = 10_000;
 
 /// How long so many runs take, of so many tasks and as many processors, with no freeze.
 pub(crate) fn measure<R: Threads + Wait + Clock + Sync>(

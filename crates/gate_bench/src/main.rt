@@ -1,107 +1,99 @@
-//! Measures how many pairs of a taking and a return threads do in a second: at the gates, of an access at a mount, of a place inside
-//! a level and of write access, each thread at a processor of its own; at one count word that all threads share; and at a read lock. Then
-//! how long a freeze and a thaw take, among how many tasks and processors, and how many rounds the writers of whole runs do in a second. With no argument it measures nothing and prints nothing.
+//! Measures the gates: how long so many rounds of one thing take. It prints the nanoseconds, a number on a line of its own. `bench/by-turns.py`
+//! runs it and what it is compared with by turns, and prints a table.
 #![tactic(auto)]
 
 mod at_freezes;
 mod at_gates;
 mod at_others;
 mod at_runs;
-mod rates;
 
-use anyhow::Result;
+use anyhow::{Result, bail};
 use at_freezes::Callbacks;
 use at_gates::Pair;
-use rates::{Subject, print_rate, print_run, print_time};
-use std::alloc::Global;
+use clap::builder::ValueParser;
+use clap::{Arg, ArgMatches, Command};
+use std::alloc::{AllocError, Global};
+use std::process::ExitCode;
 use std::rt::Clock;
 use std::sync::Wait;
 use std::thread::Threads;
+use std::time::Duration;
 
-/// The argument that asks for measurements.
-const MEASURE: &str = "measure";
-
-/// The pairs of each thread in one measurement, where no argument says how many.
-const PAIRS: u32 = 1_000_000;
-
-/// How many threads there are in each measurement.
-const THREADS: [u8; 3] = [1, 2, 4];
-
-/// How many tasks and processors there are where freezes are measured.
-const SIZES: [u8; 3] = [1, 8, 64];
-
-/// How many pairs there are for each freeze that is measured.
-const PAIRS_A_FREEZE: u32 = 100;
-
-/// How many tasks there are where runs are measured, two of which don't write.
-const RUN_TASKS: [u8; 3] = [4, 8, 16];
-
-/// How many pairs there are for each run that is measured.
-const PAIRS_A_RUN: u32 = 400_000;
-
-/// What is measured, in this order.
-const SUBJECTS: [Subject; 5] = [
-    Subject::Gates(Pair::Mount),
-    Subject::Gates(Pair::Level),
-    Subject::Gates(Pair::WriteAccess),
-    Subject::SharedWord,
-    Subject::ReadLock,
+/// What can be measured.
+const SUBJECTS: [&str; 8] = [
+    "mount",
+    "level",
+    "write-access",
+    "shared-word",
+    "read-lock",
+    "freeze",
+    "freeze-and-callbacks",
+    "run",
 ];
 
-fn main(rt: HostRuntime) -> Result<()> {
-    let words: Vec<String> = std::env::args(&rt)?.collect(rt.alloc())?;
-    let Some(asked) = words.get(1) else {
-        return Ok(());
-    };
-    if asked.as_str() != MEASURE {
-        return Ok(());
+fn main(rt: HostRuntime) -> Result<ExitCode> {
+    let alloc = rt.alloc();
+    let words: Vec<String> = std::env::args(&rt)?.collect(alloc)?;
+    let subjects = SUBJECTS;
+    let command = command(alloc, subjects.as_slice())?;
+    match command.try_get_matches_from(words.as_slice()) {
+        Ok(matches) => {
+            let took = measure(&rt, alloc, &matches)?;
+            println!(rt; "{}", took.as_nanos())?;
+            Ok(ExitCode::SUCCESS)
+        }
+        Err(error) => {
+            error.print(&rt)?;
+            Ok(ExitCode::from(error.exit_code() as u8))
+        }
     }
-    let pairs = match words.get(2) {
-        Some(text) => text.as_str().parse::<u32>()?,
-        None => PAIRS,
-    };
-    for threads in THREADS {
-        measure(&rt, rt.alloc(), threads, pairs)?;
-    }
-    for size in SIZES {
-        measure_freezes(&rt, rt.alloc(), size, pairs / PAIRS_A_FREEZE)?;
-    }
-    for tasks in RUN_TASKS {
-        let runs = pairs / PAIRS_A_RUN;
-        let took = at_runs::measure(&rt, rt.alloc(), tasks, runs)?;
-        print_run(&rt, tasks, runs, took)?;
-    }
-    Ok(())
 }
 
-/// Measures and prints each subject with so many threads.
-fn measure<R: Threads + Wait + Clock + Print + Sync>(
-    rt: &R,
-    alloc: Global,
-    threads: u8,
-    pairs: u32,
-) -> Result<()> {
-    for subject in SUBJECTS {
-        let took = match subject {
-            Subject::Gates(pair) => at_gates::measure(rt, alloc, pair, threads, pairs)?,
-            Subject::SharedWord => at_others::measure_word(rt, alloc, threads, pairs)?,
-            Subject::ReadLock => at_others::measure_lock(rt, alloc, threads, pairs)?,
-        };
-        print_rate(rt, subject, threads, pairs, took)?;
-    }
-    Ok(())
+/// The command line: what is measured, among how many, and how often.
+fn command<'a>(alloc: Global, subjects: &'a [&'a str]) -> Result<Command<'a>, AllocError> {
+    let subject = Arg::new(alloc, "WHAT")
+        .required(true)
+        .value_parser(subjects)
+        .help("Pairs of a taken and a returned access, freezes each with its thaw, or runs");
+    let size = Arg::new(alloc, "SIZE")
+        .required(true)
+        .value_parser(ValueParser::unsigned(1, 64))
+        .help("Threads of the pairs, or tasks and processors: 1 to 64, and at least 3 for runs");
+    let count = Arg::new(alloc, "COUNT")
+        .required(true)
+        .value_parser(ValueParser::unsigned(1, 4_294_967_295))
+        .help("How many pairs each thread does, or freezes, or runs");
+    Command::new(alloc, "gate_bench")
+        .bin_name("gate_bench")?
+        .about("Measures the gates, and prints nanoseconds")
+        .arg(subject)?
+        .arg(size)?
+        .arg(count)
 }
 
-/// Measures and prints freezes and thaws among so many tasks and processors, without the callbacks of the levels and with them.
-fn measure_freezes<R: Wait + Clock + Print>(
+/// Measures what a command line that was understood asks for.
+fn measure<R: Threads + Wait + Clock + Sync>(
     rt: &R,
     alloc: Global,
-    size: u8,
-    rounds: u32,
-) -> Result<()> {
-    for callbacks in [Callbacks::None, Callbacks::AfterEachThaw] {
-        let took = at_freezes::measure(rt, alloc, size, callbacks, rounds)?;
-        print_time(rt, callbacks, size, rounds, took)?;
+    asked: &ArgMatches<'_>,
+) -> Result<Duration> {
+    let (Some(subject), Some(size), Some(count)) = (
+        asked.get_str("WHAT"),
+        asked.get_one::<u8>("SIZE"),
+        asked.get_one::<u32>("COUNT"),
+    ) else {
+        bail!("the command line has no such words");
+    };
+    match subject {
+        "mount" => at_gates::measure(rt, alloc, Pair::Mount, size, count),
+        "level" => at_gates::measure(rt, alloc, Pair::Level, size, count),
+        "write-access" => at_gates::measure(rt, alloc, Pair::WriteAccess, size, count),
+        "shared-word" => at_others::measure_word(rt, alloc, size, count),
+        "read-lock" => at_others::measure_lock(rt, alloc, size, count),
+        "freeze" => at_freezes::measure(rt, alloc, size, Callbacks::None, count),
+        "freeze-and-callbacks" => {
+            at_freezes::measure(rt, alloc, size, Callbacks::AfterEachThaw, count)
+        }
+        _ => at_runs::measure(rt, alloc, size, count),
     }
-    Ok(())
 }

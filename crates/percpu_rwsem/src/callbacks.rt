@@ -30,6 +30,7 @@ pub struct Callback {
 
 impl Callback {
     /// The word and the touch of the next event.
+    #[inline(always)]
     pub fn next(self) -> (WordName, Touch)
         ensures { result ≡ callback_next self self.step }
     {
@@ -42,6 +43,7 @@ impl Callback {
     }
 
     /// The same callback, with this step to come.
+    #[inline(always)]
     fn at(self, step: CallbackStep) -> Callback
         ensures { result ≡ at_callback self step }
     {
@@ -49,6 +51,7 @@ impl Callback {
     }
 
     /// What comes after an event of the claim: where none is queued, no callback ran.
+    #[inline(always)]
     fn after_claim(self, next: TransitionNext) -> Next<Callback>
         ensures { result ≡ claimed self next }
     {
@@ -65,6 +68,7 @@ impl Callback {
     }
 
     /// What comes after a load of a section word.
+    #[inline(always)]
     fn after_look(self, next: GraceNext) -> Next<Callback>
         ensures { result ≡ callback_looked self next }
     {
@@ -76,6 +80,7 @@ impl Callback {
     }
 
     /// What comes after an event of the callback's own transition.
+    #[inline(always)]
     fn after_callback(self, next: TransitionNext) -> Next<Callback>
         ensures { result ≡ called_back self next }
     {

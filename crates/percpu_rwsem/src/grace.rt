@@ -25,6 +25,7 @@ pub enum GraceNext {
 
 impl Grace {
     /// A grace period among so many tasks (1 to 64: the caller's condition) before its first load (`synchronize_rcu`).
+    #[inline(always)]
     pub fn start(tasks: u8) -> Grace
         ensures { result ≡ started tasks }
     {
@@ -37,6 +38,7 @@ impl Grace {
 
     /// What the value found in the section word leads to. A task whose word is even is in no section, and one whose word is another than
     /// the odd value first found has ended that section: both are passed.
+    #[inline(always)]
     pub fn look(self, found: u64) -> GraceNext
         ensures { result ≡ looked self found }
     {

@@ -55,6 +55,10 @@ impl DownReadStep {
     fn after_sync(found: u64) -> DownReadStep
         ensures { result ≡ step_found (unpack found) }
     {
+        // GP_IDLE has one number alone, so that the usual case needs no look at the parts of the word.
+        if found == 0 {
+            return DownReadStep::CountsUpFast;
+        }
         match SyncWord::unpack(found) {
             Some(word) if word.state == GpState::Idle => DownReadStep::CountsUpFast,
             _ => DownReadStep::CountsUpSlow,

@@ -36,6 +36,7 @@ pub struct SyncWord {
 
 impl GpState {
     /// The kernel's number of the state.
+    #[inline(always)]
     fn number(self) -> u64
         ensures { result ≡ state_number self }
     {
@@ -49,6 +50,7 @@ impl GpState {
     }
 
     /// The state of that number.
+    #[inline(always)]
     fn of_number(number: u64) -> Option<GpState>
         ensures { result ≡ state_of number }
     {
@@ -66,6 +68,7 @@ impl GpState {
 impl SyncWord {
     /// Whether there may be such a word: nobody has entered GP_IDLE, somebody GP_ENTER and GP_PASSED, and a callback is taken only
     /// where one was queued.
+    #[inline(always)]
     pub fn is_lawful(self) -> bool
         ensures { result ≡ is_lawful self.state self.taken self.count }
     {
@@ -78,6 +81,7 @@ impl SyncWord {
 
     /// The word as the number that it is in memory: the state, 8 where the callback is taken, and 256 for each writer. A lawful
     /// word is found again in its number.
+    #[inline(always)]
     pub fn pack(self) -> u64
         ensures number { result ≡ pack self }
         ensures found_again { IsLawful self → unpack result ≡ Some self }
@@ -87,6 +91,7 @@ impl SyncWord {
 
     /// What a number says, which is a lawful word and has just this number. None where a bit from 4 to 7 or above 23 is set, where the
     /// state is above 4, or where there may be no such word.
+    #[inline(always)]
     pub fn unpack(number: u64) -> Option<SyncWord>
         ensures word { result ≡ unpack number }
         ensures same { IfSome result (λ w. pack w ≡ number) }
@@ -104,6 +109,7 @@ impl SyncWord {
 
     /// A writer enters (`rcu_sync_enter`): GP_IDLE becomes GP_ENTER. None where 65,535 have entered. It leaves a lawful word lawful, as
     /// the other three do.
+    #[inline(always)]
     pub fn on_enter(self) -> Option<SyncWord>
         ensures word { result ≡ on_enter self }
         ensures lawful { IsLawful self → IfSome result IsLawful }
@@ -122,6 +128,7 @@ impl SyncWord {
 
     /// A writer leaves (`rcu_sync_exit`): the last one queues a callback, or another one after the one that is under way. None where
     /// nobody has entered, and in GP_IDLE and GP_ENTER.
+    #[inline(always)]
     pub fn on_exit(self) -> Option<SyncWord>
         ensures word { result ≡ on_exit self }
         ensures lawful { IsLawful self → IfSome result IsLawful }
@@ -141,6 +148,7 @@ impl SyncWord {
     }
 
     /// A task takes the callback that is queued (`call_rcu` in `rcu_sync_call`). None where none is.
+    #[inline(always)]
     pub fn on_claim(self) -> Option<SyncWord>
         ensures word { result ≡ on_claim self }
         ensures lawful { IsLawful self → IfSome result IsLawful }
@@ -157,6 +165,7 @@ impl SyncWord {
     /// A grace period has ended (`rcu_sync_func`), that of the writer that found GP_IDLE or that of a callback that is taken: GP_PASSED
     /// where a writer is in; else GP_REPLAY queues the other callback, and GP_ENTER and GP_EXIT become GP_IDLE. None where neither
     /// waits.
+    #[inline(always)]
     pub fn on_callback(self) -> Option<SyncWord>
         ensures word { result ≡ on_callback self }
         ensures lawful { IsLawful self → IfSome result IsLawful }

@@ -29,6 +29,7 @@ pub enum TransitionNext {
 
 impl Transition {
     /// The word and the touch of the next event, at a level.
+    #[inline(always)]
     pub fn next(self, level: u8) -> (WordName, Touch)
         ensures { result ≡ transition_next level self }
     {
@@ -44,6 +45,7 @@ impl Transition {
 
     /// What comes after the event, which found this, of the transition that `on` makes. A number that is no word is loaded again, and
     /// so is one that another task changed before the exchange.
+    #[inline(always)]
     pub fn after<F: FnOnce(SyncWord) -> Option<SyncWord>>(self, found: u64, on: F) -> TransitionNext
         requires { F.IsAlwaysCallable on }
         ensures { (makes : SyncWordType → Option SyncWordType) →

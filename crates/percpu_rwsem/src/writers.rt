@@ -68,6 +68,7 @@ pub struct UpWrite {
 
 impl DownWriteStep {
     /// What comes after an event of the enter, among so many tasks.
+    #[inline(always)]
     fn after_enter(next: TransitionNext, tasks: u8) -> DownWriteStep
         ensures { result ≡ enter_step tasks next }
     {
@@ -85,6 +86,7 @@ impl DownWriteStep {
     }
 
     /// What comes after an event of the transition that ends the grace period.
+    #[inline(always)]
     fn after_callback(next: TransitionNext) -> DownWriteStep
         ensures { result ≡ callback_step next }
     {
@@ -116,6 +118,7 @@ impl DownWrite {
     }
 
     /// The same down-write, with this step to come.
+    #[inline(always)]
     fn at(self, step: DownWriteStep) -> DownWrite
         ensures { result ≡ at_down_write self step }
     {
@@ -123,6 +126,7 @@ impl DownWrite {
     }
 
     /// What comes after a load of a section word.
+    #[inline(always)]
     fn after_look(self, next: GraceNext) -> Next<DownWrite>
         ensures { result ≡ sections_awaited self next }
     {
@@ -134,6 +138,7 @@ impl DownWrite {
     }
 
     /// What comes after a load for GP_PASSED. A number that is no word is loaded again.
+    #[inline(always)]
     fn after_sync(self, found: u64) -> Next<DownWrite>
         ensures { result ≡ passed_awaited self (unpack found) }
     {
@@ -149,6 +154,7 @@ impl DownWrite {
     }
 
     /// What comes after one word more of the sum, which begins anew where somebody was counted.
+    #[inline(always)]
     fn after_sum(self, taken: Taken) -> (Next<DownWrite>, Option<Action>)
         ensures { result ≡ down_write_summed self taken }
     {
@@ -187,6 +193,7 @@ impl DownWrite {
 
 impl UpWrite {
     /// The word and the touch of the next event.
+    #[inline(always)]
     pub fn next(self) -> (WordName, Touch)
         ensures { result ≡ up_write_next self self.step }
     {
@@ -197,6 +204,7 @@ impl UpWrite {
     }
 
     /// The same up-write, with this event of its transition to come.
+    #[inline(always)]
     fn at(self, transition: Transition) -> Next<UpWrite>
         ensures { result ≡ Go (at_up_write self transition) }
     {
@@ -207,6 +215,7 @@ impl UpWrite {
     }
 
     /// What comes after the event, which found this, and the action that the event adds.
+    #[inline(always)]
     pub fn after(self, found: u64) -> (Next<UpWrite>, Option<Action>)
         ensures { result ≡ up_write_after self self.step found }
     {

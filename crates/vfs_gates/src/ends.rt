@@ -9,6 +9,7 @@ ghost use Rattle.vfs_gates.specs.Turns.{IsTied, StayTied};
 ghost use Rattle.vfs_gates.specs.Runs.{Called, Goes, IsTrying, Went};
 
 use crate::gates::Gates;
+use crate::lines::go_on_if;
 use crate::task::Seat;
 use crate::turns::{Turn, do_event, go_on};
 use access_model::{GateError, Next, Reply};
@@ -19,42 +20,64 @@ use mount_counts::{Remount, RemountStep};
 use percpu_rwsem::{Callback, CallbackStep, DownWriteStep};
 use std::sync::Wait;
 
+/// Loads in the longest row: one for each task, or for each processor.
+const LONGEST_ROW: u8 = 64;
+
+/// A row of loads of one kind, which follow each other.
+#[derive(Clone, Copy, PartialEq, Eq, Debug)]
+pub(crate) enum Row {
+    /// Loads of section words, one task's after the other.
+    Sections,
+    /// Loads of count words, one processor's after the other.
+    Counts,
+}
+
 /// An operation that may have to wait, in a form of its own.
 pub(crate) trait Waiting: UnderWay {
     ghost use Rattle.std.specs.Prelude.{◌≡◌, IsTrue, None};
     ghost use Rattle.gate_world.specs.Work.{hook_of};
 
-    /// Whether the next event is one of a row of loads, none of which reads what a hook answers. There may be hundreds of them, so the
-    /// compiler is to know what they are.
-    fn is_in_row(&self) -> bool
+    /// Whether the next event is one of that row, none of which reads what a hook answers. There may be hundreds of them, so the compiler is
+    /// to know what they are.
+    fn is_in_row(&self, row: Row) -> bool
         ensures { IsTrue result → hook_of (Self.as_phase self.now) ≡ None };
 }
 
 impl Waiting for Freeze {
     #[inline(always)]
-    fn is_in_row(&self) -> bool {
-        matches!(self.step, FreezeStep::Closes(write) if matches!(write.step, DownWriteStep::Sums(_)))
+    fn is_in_row(&self, row: Row) -> bool {
+        match row {
+            Row::Sections => matches!(
+                self.step,
+                FreezeStep::Closes(write) if matches!(write.step, DownWriteStep::AwaitsSections(_))
+            ),
+            Row::Counts => matches!(
+                self.step,
+                FreezeStep::Closes(write) if matches!(write.step, DownWriteStep::Sums(_))
+            ),
+        }
     }
 }
 
 impl Waiting for Thaw {
     #[inline(always)]
-    fn is_in_row(&self) -> bool {
+    fn is_in_row(&self, row: Row) -> bool {
+        let _ = row;
         false
     }
 }
 
 impl Waiting for Remount {
     #[inline(always)]
-    fn is_in_row(&self) -> bool {
-        matches!(self.step, RemountStep::Sums { .. })
+    fn is_in_row(&self, row: Row) -> bool {
+        row == Row::Counts && matches!(self.step, RemountStep::Sums { .. })
     }
 }
 
 impl Waiting for Callback {
     #[inline(always)]
-    fn is_in_row(&self) -> bool {
-        matches!(self.step, CallbackStep::AwaitsSections(_))
+    fn is_in_row(&self, row: Row) -> bool {
+        row == Row::Sections && matches!(self.step, CallbackStep::AwaitsSections(_))
     }
 }
 
@@ -82,14 +105,44 @@ fn go_on_asking<P: Waiting, H: FsHooks>(
         Went op start (map_next P.as_phase result)
         (task_state seat.new.table_id gates.now.config None (phase_after (map_next P.as_phase result)) seat.new.me.0) }
 {
-    if under_way.is_in_row() {
-        return go_on(gates, seat, accesses, begins, under_way, Ok(()));
-    }
     let hook = match under_way.phase().wants_hook() {
         Some(kind) => kind.ask(hooks, read_only),
         None => Ok(()),
     };
     go_on(gates, seat, accesses, begins, under_way, hook)
+}
+
+/// The loads of a row that come next, one after the other, and nothing where none does. What comes after the last of them. It is told the
+/// kind of the row, so that the compiler makes a loop of its own of each.
+#[inline(always)]
+fn go_along_row<P: Waiting>(
+    gates: &Gates,
+    seat: &mut Seat,
+    accesses: &mut Accesses,
+    mut next: Next<P>,
+    row: Row,
+) -> Next<P>
+    requires table { seat.old.table_id ≡ gates.now.table.shared.table_id }
+    requires tied { IsTied gates.now.config None (phase_after (map_next P.as_phase next)) accesses.old seat.old.me.0 }
+    ensures table { seat.new.table_id ≡ seat.old.table_id }
+    ensures slots { seat.new.me.1 ≡ seat.old.me.1 }
+    ensures tied { StayTied gates.now.config None (phase_after (map_next P.as_phase next)) accesses.old seat.old.me.0
+        (phase_after (map_next P.as_phase result)) accesses.new seat.new.me.0 }
+    ensures still { IsTied gates.now.config None (phase_after (map_next P.as_phase result)) accesses.new seat.new.me.0 }
+    ensures went { (op : OpType) (start : TaskState) →
+        Went op start (map_next P.as_phase next)
+        (task_state seat.old.table_id gates.now.config None (phase_after (map_next P.as_phase next)) seat.old.me.0) →
+        Went op start (map_next P.as_phase result)
+        (task_state seat.new.table_id gates.now.config None (phase_after (map_next P.as_phase result)) seat.new.me.0) }
+{
+    for _load in 0..LONGEST_ROW {
+        let goes_on = matches!(next, Next::Go(under_way) if under_way.is_in_row(row));
+        if !goes_on {
+            return next;
+        }
+        next = go_on_if(gates, seat, accesses, next, goes_on);
+    }
+    next
 }
 
 /// Does the events of an operation that has a most number of them and asks no hook, from its first to its reply.
@@ -158,6 +211,8 @@ pub(crate) fn wait_to_end<R: Wait, H: FsHooks, P: Waiting>(
     let mut under_way = first;
     for _ in rt.forever() {
         let next = go_on_asking(gates, seat, accesses, begins, under_way, hooks, read_only);
+        let next = go_along_row(gates, seat, accesses, next, Row::Sections);
+        let next = go_along_row(gates, seat, accesses, next, Row::Counts);
         begins = None;
         under_way = match next {
             Next::Done(answer) => return answer,

@@ -55,7 +55,7 @@ pub(crate) trait InLine: UnderWay {
 
 /// The event that comes next, where the line goes on with it; else nothing. What comes after it.
 #[inline(always)]
-fn go_on_if<P: UnderWay>(
+pub(crate) fn go_on_if<P: UnderWay>(
     gates: &Gates,
     seat: &mut Seat,
     accesses: &mut Accesses,
