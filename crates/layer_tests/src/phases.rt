@@ -1,6 +1,6 @@
 //! Phases driven by hand, one of each layer: each event, with the value that it finds, and what comes after it.
 
-use access_model::{Action, Gate, GateError, Kind, Next, Reply};
+use access_model::{Action, Gate, GateError, Holder, Kind, Next, Reply};
 use cpu_words::{Touch, WordName};
 use freeze_levels::{Freeze, FreezeStep, FsHooks, HookKind, Thaw, ThawStep};
 use gated_tree::{Create, CreateStep, TreePhase};
@@ -158,6 +158,7 @@ const UNLOCK: Expected = (WordName::Umount, Touch::Store(0), 0, None);
 #[test]
 fn a_read_only_superblock_is_frozen_at_once(rt: HostRuntime) {
     let freeze = Freeze {
+        holder: Holder::Kernel,
         task: 1,
         tasks: 2,
         processors: 2,
@@ -167,19 +168,23 @@ fn a_read_only_superblock_is_frozen_at_once(rt: HostRuntime) {
     let [lock, stage, flag] = begins(0, 1);
     let frozen = Some(Action::Stage(4));
     let stored = (WordName::Stage, Touch::Store(4), 4, frozen);
-    let events = [lock, stage, flag, stored, UNLOCK];
+    let held = Some(Action::Hold(Holder::Kernel));
+    let holds = (WordName::Holders, Touch::Store(1), 1, held);
+    let events = [lock, stage, flag, stored, holds, UNLOCK];
     assert!(rt; end_of(freeze, &events) == Some(Next::Done(Ok(Reply::Unit))));
 }
 
 #[test]
 fn a_failed_unfreeze_fs_leaves_all_frozen(rt: HostRuntime) {
     let thaw = Thaw {
+        holder: Holder::User,
         task: 1,
         step: ThawStep::Locks,
     };
     let [lock, stage, flag] = begins(4, 0);
+    let holders = look(WordName::Holders, 2);
     let refused = Some(Next::Done(Err(GateError::Hook(7))));
-    assert!(rt; end_of(thaw, &[lock, stage, flag, UNLOCK]) == refused);
+    assert!(rt; end_of(thaw, &[lock, stage, holders, flag, UNLOCK]) == refused);
 }
 
 /// A file system of which each hook fails with a code of its own.
