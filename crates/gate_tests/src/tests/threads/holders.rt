@@ -1,8 +1,9 @@
-//! Two holders of a freeze, each in a thread, beside writers, a remounter and one who takes snapshots.
+//! Two holders of a freeze, each in a thread, beside a writer, and one who remounts, takes snapshots and writes.
 
 ghost use Rattle.vfs_gates.specs.TaskStates.{IsFrom};
 
 use super::super::small;
+use super::join_both_and_close;
 use access_model::{GateError, Holder, Kind};
 use cpu_words::WordName;
 use gate_world::Config;
@@ -20,7 +21,7 @@ const NODES: u8 = 6;
 /// How often each holder freezes.
 const FREEZES: u16 = 100;
 
-/// How often a writer asks for write access, and how often the remounter and the one who takes snapshots act.
+/// How often a writer asks for write access, and how often the superblock is remounted and a snapshot taken beside it.
 const ROUNDS: u16 = 1000;
 
 /// What a snapshot shows of the tree.
@@ -172,33 +173,36 @@ fn writes<R: Wait>(
     (task, wrong)
 }
 
-/// Makes the superblock read-only and writable in turn, unless a writer or a freeze is in the way. Says how often something was wrong.
-fn remounts<R: Wait>(mut task: Task, rt: &R, gates: &Gates) -> (Task, u16)
+/// Makes the superblock read-only or writable, unless a writer or a freeze is in the way. Says whether all was well.
+fn remount<R: Wait>(task: &mut Task, rt: &R, gates: &Gates, read_only: bool) -> bool
+    requires { IsFrom task.old gates.now }
+    ensures { IsFrom task.new gates.now }
+{
+    let remounted = task.remount_sb(rt, gates, read_only, &mut ());
+    matches!(remounted, Ok(()) | Err(GateError::Busy))
+}
+
+/// Takes a snapshot, whoever has frozen. Says whether it was refused as not frozen, or is sound and clean.
+fn copy<R: Wait>(task: &mut Task, rt: &R, gates: &Gates) -> bool
+    requires { IsFrom task.old gates.now }
+    ensures { IsFrom task.new gates.now }
+{
+    match task.snapshot(rt, gates) {
+        Ok(()) => task.tree().is_some_and(|tree| show(tree).is_some()),
+        Err(refusal) => refusal == GateError::Invalid,
+    }
+}
+
+/// Remounts, takes a snapshot and writes, so often in turn, and says how often something was wrong.
+fn works<R: Wait>(mut task: Task, rt: &R, gates: &Gates, writers: &AtomicU64) -> (Task, u16)
     requires { IsFrom task gates.now }
     ensures { IsFrom result.0 gates.now }
 {
     let mut wrong = 0u16;
     for round in 0..ROUNDS {
-        match task.remount_sb(rt, gates, round % 2 == 0, &mut ()) {
-            Ok(()) | Err(GateError::Busy) => {}
-            Err(_) => wrong = wrong.saturating_add(1),
-        }
-        thread::yield_now();
-    }
-    (task, wrong)
-}
-
-/// Takes snapshots, whoever has frozen. Says how often one was neither refused as not frozen nor sound and clean.
-fn snapshots<R: Wait>(mut task: Task, rt: &R, gates: &Gates) -> (Task, u16)
-    requires { IsFrom task gates.now }
-    ensures { IsFrom result.0 gates.now }
-{
-    let mut wrong = 0u16;
-    for _round in 0..ROUNDS {
-        let is_well = match task.snapshot(rt, gates) {
-            Ok(()) => task.tree().is_some_and(|tree| show(tree).is_some()),
-            Err(refusal) => refusal == GateError::Invalid,
-        };
+        let is_well = remount(&mut task, rt, gates, round % 2 == 0)
+            && copy(&mut task, rt, gates)
+            && write(&mut task, rt, gates, 1, 1, writers);
         if !is_well {
             wrong = wrong.saturating_add(1);
         }
@@ -215,10 +219,8 @@ fn both_hold<R: Wait + Threads + Sync>(
     gates: &Gates,
     writers: &AtomicU64,
 ) -> ((Task, u16, u16), (Task, u16, u16))
-    requires one { IsFrom one gates.now }
-    requires two { IsFrom two gates.now }
-    ensures one { IsFrom result.0.0 gates.now }
-    ensures two { IsFrom result.1.0 gates.now }
+    requires { IsFrom one gates.now × IsFrom two gates.now }
+    ensures { IsFrom result.0.0 gates.now × IsFrom result.1.0 gates.now }
 {
     thread::join(
         rt,
@@ -227,64 +229,21 @@ fn both_hold<R: Wait + Threads + Sync>(
     )
 }
 
-/// Two tasks write, each in a thread.
-fn both_write<R: Wait + Threads + Sync>(
+/// One task writes, and one remounts, takes snapshots and writes, each in a thread.
+fn both_work<R: Wait + Threads + Sync>(
     one: Task,
     two: Task,
     rt: &R,
     gates: &Gates,
     writers: &AtomicU64,
 ) -> ((Task, u16), (Task, u16))
-    requires one { IsFrom one gates.now }
-    requires two { IsFrom two gates.now }
-    ensures one { IsFrom result.0.0 gates.now }
-    ensures two { IsFrom result.1.0 gates.now }
+    requires { IsFrom one gates.now × IsFrom two gates.now }
+    ensures { IsFrom result.0.0 gates.now × IsFrom result.1.0 gates.now }
 {
     thread::join(
         rt,
         || writes(one, rt, gates, 0, writers),
-        || writes(two, rt, gates, 1, writers),
-    )
-}
-
-/// One remounts and one takes snapshots, each in a thread.
-fn remounts_and_snapshots<R: Wait + Threads + Sync>(
-    one: Task,
-    two: Task,
-    rt: &R,
-    gates: &Gates,
-) -> ((Task, u16), (Task, u16))
-    requires one { IsFrom one gates.now }
-    requires two { IsFrom two gates.now }
-    ensures one { IsFrom result.0.0 gates.now }
-    ensures two { IsFrom result.1.0 gates.now }
-{
-    thread::join(
-        rt,
-        || remounts(one, rt, gates),
-        || snapshots(two, rt, gates),
-    )
-}
-
-/// Both writers, the remounter and the one who takes snapshots.
-fn others<R: Wait + Threads + Sync>(
-    writing: (Task, Task),
-    watching: (Task, Task),
-    rt: &R,
-    gates: &Gates,
-    writers: &AtomicU64,
-) -> (((Task, u16), (Task, u16)), ((Task, u16), (Task, u16)))
-    requires writing { IsFrom writing.0 gates.now × IsFrom writing.1 gates.now }
-    requires watching { IsFrom watching.0 gates.now × IsFrom watching.1 gates.now }
-    ensures writing { IsFrom result.0.0.0 gates.now × IsFrom result.0.1.0 gates.now }
-    ensures watching { IsFrom result.1.0.0 gates.now × IsFrom result.1.1.0 gates.now }
-{
-    let (one, two) = writing;
-    let (three, four) = watching;
-    thread::join(
-        rt,
-        || both_write(one, two, rt, gates, writers),
-        || remounts_and_snapshots(three, four, rt, gates),
+        || works(two, rt, gates, writers),
     )
 }
 
@@ -293,47 +252,35 @@ fn join_all_and_close(
     gates: Gates,
     mut task: Task,
     one: Task,
-    writing: (Task, Task),
-    watching: (Task, Task),
+    two: Task,
+    three: Task,
 ) -> Option<Closed>
-    requires own { IsFrom task gates × IsFrom one gates }
-    requires writing { IsFrom writing.0 gates × IsFrom writing.1 gates }
-    requires watching { IsFrom watching.0 gates × IsFrom watching.1 gates }
+    requires { IsFrom task gates × IsFrom one gates × IsFrom two gates × IsFrom three gates }
 {
-    let (two, three) = writing;
-    let (four, five) = watching;
     task.join(&gates, one).ok()?;
-    task.join(&gates, two).ok()?;
-    task.join(&gates, three).ok()?;
-    task.join(&gates, four).ok()?;
-    task.join(&gates, five).ok()?;
-    gates.close(task).ok()
+    join_both_and_close(gates, task, two, three)
 }
 
 #[test]
 fn no_snapshot_is_of_an_open_file_system(rt: HostRuntime) -> Result<(), Fail> {
     let config = Config {
         nodes: NODES,
-        ..small(6)
+        ..small(4)
     };
     let (gates, mut task) = Gates::new(rt.alloc(), config)?;
     let one = task.split(rt.alloc(), &gates)?;
     let two = task.split(rt.alloc(), &gates)?;
     let three = task.split(rt.alloc(), &gates)?;
-    let four = task.split(rt.alloc(), &gates)?;
-    let five = task.split(rt.alloc(), &gates)?;
     let writers = AtomicU64::new(0);
     let writers = &writers;
-    let (((task, kernel, bad), (one, user, worse)), (written, watched)) = thread::join(
+    let (((task, kernel, bad), (one, user, worse)), ((two, first), (three, second))) = thread::join(
         &rt,
         || both_hold(task, one, &rt, &gates, writers),
-        || others((two, three), (four, five), &rt, &gates, writers),
+        || both_work(two, three, &rt, &gates, writers),
     );
-    let ((two, first), (three, second)) = written;
-    let ((four, third), (five, fourth)) = watched;
     assert_eq!(rt; (kernel, bad, user, worse), (FREEZES, 0, FREEZES, 0));
-    assert_eq!(rt; (first, second, third, fourth), (0, 0, 0, 0));
-    let Some(closed) = join_all_and_close(gates, task, one, (two, three), (four, five)) else {
+    assert_eq!(rt; (first, second), (0, 0));
+    let Some(closed) = join_all_and_close(gates, task, one, two, three) else {
         panic!(rt; "not closed")
     };
     assert_eq!(rt; closed.word(WordName::Holders), Some(0));
