@@ -25,8 +25,8 @@ use Rattle.gate_world.specs.declared.work.Phase.{Phase}
 use Rattle.gate_world.specs.Views.{opening_view}
 use Rattle.gate_world.specs.Courses.{course_of}
 use Rattle.gate_world.specs.Traces.{actions_of, IsHonestAnswer}
-use Rattle.gate_steps.specs.Rules.{first_items}
-use Rattle.gate_steps.specs.Seating.{SeatItems, view_in, deal, kept_of, given_of}
+use Rattle.vfs_gates.specs.Rules.{first_items}
+use Rattle.vfs_gates.specs.Seating.{SeatItems, view_in, deal, kept_of, given_of}
 use Rattle.vfs_gates.specs.TaskStates.{TaskState, task_state, own_number, own_view, refusal_at, Empty}
 use Rattle.vfs_gates.specs.Parts.{SplitOf}
 use Rattle.vfs_gates.specs.Runs.{ran_items, IsNextMove, AreMoves, told_as, unit_of, Called, Performs}

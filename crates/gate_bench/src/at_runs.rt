@@ -1,12 +1,12 @@
 //! Whole runs: writers and a remounter in threads.
 
 use anyhow::Result;
+use gate_runs::run_with;
 use std::alloc::Global;
 use std::rt::Clock;
 use std::sync::Wait;
 use std::thread::Threads;
 use std::time::{Duration, Instant};
-use vfs_gates::run_with;
 
 /// Rounds of each writer in one run.
 const ROUNDS: u32 = 10_000;

@@ -5,10 +5,10 @@ use native.Mathlib.Decide.{ℕ_discrete, dec_lt}
 use Rattle.access_model.specs.declared.errors.GateError.{GateError}
 use Rattle.access_model.specs.declared.errors.GateError.TheVariants.{Order, TooMany, NoMemory}
 use Rattle.gate_world.specs.declared.config.Config.{Config}
-use Rattle.gate_steps.specs.Rules.{first_items}
-use Rattle.gate_steps.specs.Seating.{SeatItems, times, kept_of, given_of, deal}
-use Rattle.gate_steps.proofs.Giving.{times-without, times-without_other}
-use Rattle.gate_steps.proofs.Opening.{times-deal, times-deal_below}
+use Rattle.vfs_gates.specs.Rules.{first_items}
+use Rattle.vfs_gates.specs.Seating.{SeatItems, times, kept_of, given_of, deal}
+use Rattle.vfs_gates.proofs.Giving.{times-without, times-without_other}
+use Rattle.vfs_gates.proofs.Opening.{times-deal, times-deal_below}
 use Rattle.vfs_gates.specs.Parts.{SplitOf, SplitRefused}
 use Rattle.vfs_gates.specs.TaskStates.{TaskState, IsIdle, own_number, spare_of}
 use Rattle.mntgate.specs.Splitting.{AreNumbered, Gives}

@@ -1,6 +1,6 @@
 -- What the first task of some gates has to give while tasks are split off, one after the other.
 use Rattle.std.specs.Prelude.{◌≡◌, ℕ, ◌+◌, ◌<◌, ◌≤◌, List, [], ◌∷◌}
-use Rattle.gate_steps.specs.Seating.{times}
+use Rattle.vfs_gates.specs.Seating.{times}
 use Rattle.vfs_gates.specs.TaskStates.{TaskState, IsIdle, own_number, spare_of}
 
 -- these have the numbers from this one on, each the next

@@ -1,18 +1,18 @@
 //! Runs of writers, a remounter and a backup in threads, from the command line.
 
 ghost use Rattle.std.specs.Prelude.{◌≡◌, ◌⊎◌};
-ghost use Rattle.vfs_gates.specs.Plans.{MayRun};
+ghost use Rattle.gate_runs.specs.Plans.{MayRun};
 ghost use Rattle.mntgate.specs.declared.program.Ending.TheVariants.{Ran, Refused};
 
 use crate::program::Ending;
 use crate::writing::write_out;
 use access_model::GateError;
+use gate_runs::{Meeting, run_with};
 use std::alloc::Global;
 use std::io::{Stderr, Write};
 use std::sync::Wait;
 use std::sync::atomic::{AtomicU32, AtomicU64, Ordering};
 use std::thread::Threads;
-use vfs_gates::{Meeting, run_with};
 
 /// What a run is asked for.
 #[derive(Clone, Copy, PartialEq, Eq, Debug)]

@@ -2,11 +2,11 @@
 
 use crate::ending::Ending;
 use access_model::GateError;
+use gate_runs::{Meeting, run_with};
 use std::alloc::Global;
 use std::sync::Wait;
 use std::sync::atomic::{AtomicU32, Ordering};
 use std::thread::Threads;
-use vfs_gates::{Meeting, run_with};
 
 /// Counts the rounds of writers.
 #[derive(Drop)]

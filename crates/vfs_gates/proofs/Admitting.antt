@@ -15,7 +15,7 @@ use Rattle.gate_core.proofs.Beginnings.{refusal_agree, ok_means, err_means}
 use Rattle.gate_steps.specs.Seating.{SeatItems}
 use Rattle.vfs_gates.specs.TaskStates.{TaskState, task_state, own_number, own_view, refusal_at, beginning_at}
 use Rattle.vfs_gates.specs.declared.task.Task.TheInside.{Inside}
-use Rattle.vfs_gates.specs.Ties.{Ties}
+use Rattle.call_events.specs.Ties.{Ties}
 
 module _ (number : ℕ) (c : Config) (begins : Option Op) (kept : Seat) (flags : List Bool) where
   -- the configuration of a task is within its limits

@@ -1,15 +1,14 @@
 -- A call that begins an operation and does its events on what the task keeps, and what it writes down at the end.
-use Rattle.std.proofs.Common.{◌≡◌, ℕ, Bool, false, List, [], ◌∷◌, refl, sym, ap, ◌∙◌, subst, ◌⊎◌, inl, inr}
+use Rattle.std.proofs.Common.{◌≡◌, ℕ, Bool, false, List, [], ◌∷◌, refl, sym, ap, ◌∙◌, subst}
 use Rattle.std.specs.Prelude.{Option, Some, None, Result, Ok, Err, is_some}
 use Rattle.access_model.specs.declared.errors.GateError.{GateError}
 use Rattle.access_model.specs.declared.replies.Next.{Next}
-use Rattle.access_model.specs.declared.replies.Next.TheVariants.{Go, Wait, Done}
+use Rattle.access_model.specs.declared.replies.Next.TheVariants.{Done}
 use Rattle.access_model.specs.declared.replies.Reply.{Reply}
 use Rattle.gate_world.specs.declared.config.Config.{Config}
 use Rattle.gate_world.specs.declared.operations.Op.{Op}
 use Rattle.gate_world.specs.declared.work.Phase.{Phase}
 use Rattle.gate_world.specs.Views.{held_at, holds_level, phase_after}
-use Rattle.access_model.specs.Replies.{map_next}
 use Rattle.gate_world.specs.Beginnings.{first_phase, refusal}
 use Rattle.gate_world.specs.Fits.{Fits}
 use Rattle.gate_core.specs.declared.seats.Seat.{Seat}
@@ -20,13 +19,13 @@ use Rattle.gate_steps.specs.declared.seating.Numbered.{Numbered}
 use Rattle.gate_steps.specs.Seating.{SeatItems}
 use Rattle.atomic_table.specs.Seated.{TableId}
 use Rattle.vfs_gates.specs.TaskStates.{TaskState, task_state, own_number, own_view, refusal_at, beginning_at}
-use Rattle.vfs_gates.specs.Ties.{PhaseOk, OwnTies, Ties}
-use Rattle.vfs_gates.specs.Turns.{kept_at, IsTied, StayTied}
-use Rattle.vfs_gates.specs.Runs.{Goes, Went, Called}
+use Rattle.call_events.specs.Ties.{PhaseOk, OwnTies, Ties}
+use Rattle.call_events.specs.Turns.{kept_at, IsTied, StayTied}
+use Rattle.call_events.specs.Runs.{Goes, Went, Called}
 use Rattle.vfs_gates.specs.declared.task.Task.TheInside.{Inside}
 use Rattle.vfs_gates.proofs.Admitting.{admitted_by, first_so, first_by}
-use Rattle.vfs_gates.proofs.Onward.{goes_where}
-use Rattle.vfs_gates.proofs.Running.{starts}
+use Rattle.call_events.proofs.Onward.{goes_where}
+use Rattle.call_events.proofs.Running.{starts}
 
 -- what was not refused has no refusal
 not_refused : (o : Option GateError) → Ok tt ≡ unless_refused o → o ≡ None
@@ -37,17 +36,6 @@ not_refused (Some refusal) is = absurd (let f : ◌≡◌ {A = Result (Unit {0})
 none_of : (o : Option Phase) → is_some o ≡ false → o ≡ None
 none_of None is = refl
 none_of (Some phase) is = absurd (cc)
-
--- the phase that the operation stands at, where it goes on
-pub stands_at : {A : Type 0} (as_phase : A → Phase) (next : Next A) (x : A) → (next ≡ Go x) ⊎ (next ≡ Wait x) →
-    phase_after (map_next as_phase next) ≡ Some (as_phase x)
-stands_at as_phase next x (inl is) = ap (λ n. phase_after (map_next as_phase n)) is
-stands_at as_phase next x (inr is) = ap (λ n. phase_after (map_next as_phase n)) is
-
--- and what comes next, where it replied
-pub done_at : {A : Type 0} (as_phase : A → Phase) (next : Next A) (answer : Result Reply GateError) → next ≡ Done answer →
-    map_next as_phase next ≡ Done answer
-done_at as_phase next answer is = ap (λ n. map_next as_phase n) is
 
 -- A call of an operation that was admitted: the task's fields, its state before the call, the configuration as the gates name it, and the
 -- first phase of the operation.

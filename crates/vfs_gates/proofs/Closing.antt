@@ -10,7 +10,7 @@ use Rattle.gate_steps.specs.Seating.{SeatItems, numbered, times, view_in, deal}
 use Rattle.gate_steps.proofs.Opening.{times-deal}
 use Rattle.gate_steps.specs.Tables.{IsClosing}
 use Rattle.gate_steps.proofs.Giving.{view_in-at, view_in-is}
-use Rattle.vfs_gates.specs.Ties.{IsStill, AllRest}
+use Rattle.call_events.specs.Ties.{IsStill, AllRest}
 use Rattle.vfs_gates.specs.Ended.{EndedWith, HasOpeningWords}
 use Rattle.vfs_gates.proofs.Parting.{rest-at}
 

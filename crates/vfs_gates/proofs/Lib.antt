@@ -1,12 +1,10 @@
+pub use Rattle.gate_steps.proofs.Giving
+pub use Rattle.gate_steps.proofs.Opening
 pub mod FlagSteps
-pub mod Going
-pub mod Turning
 pub mod Parting
 pub mod Closing
 pub mod Ending
-pub mod Running
 pub mod Admitting
-pub mod Onward
 pub mod Calling
 pub mod Rooming
 pub mod Seeing

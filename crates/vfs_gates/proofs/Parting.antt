@@ -19,7 +19,7 @@ use Rattle.gate_steps.proofs.Dealing.{one_if-same, one_if-other, times-append}
 use Rattle.gate_steps.proofs.Giving.{view_in-at, times-without, times-without_other}
 use Rattle.gate_steps.proofs.Opening.{times-deal_below, times-deal_above, times-deal}
 use Rattle.vfs_gates.specs.TaskStates.{Empty, IsNothing, own_view}
-use Rattle.vfs_gates.specs.Ties.{PhaseOk, IsStill, AllRest, Keeps, OwnTies, Ties}
+use Rattle.call_events.specs.Ties.{PhaseOk, IsStill, AllRest, Keeps, OwnTies, Ties}
 use Rattle.vfs_gates.proofs.FlagSteps.{IsSet, false_true}
 
 -- an idle seat has no access at a mount

@@ -34,10 +34,10 @@ use Rattle.gate_world.specs.Courses.{course_after, course_of}
 use Rattle.vfs_gates.specs.declared.rooms.Rooms.{Rooms}
 use Rattle.vfs_gates.specs.Room.{HasSnapshotRoom, LastTells, NextTells, RoomTells, is_of_snapshot, last_in, trace_so_far}
 use Rattle.vfs_gates.specs.TaskStates.{TaskState, own_number, own_view, task_state}
-use Rattle.vfs_gates.specs.Runs.{Called, Goes, completed_by, items_at, ran_items, ran_snapshot}
-use Rattle.vfs_gates.specs.Stepped.{Stepped}
-use Rattle.vfs_gates.specs.Ties.{Ties}
-use Rattle.vfs_gates.specs.Turns.{step_was}
+use Rattle.call_events.specs.Runs.{Called, Goes, completed_by, items_at, ran_items, ran_snapshot}
+use Rattle.call_events.specs.Stepped.{Stepped}
+use Rattle.call_events.specs.Ties.{Ties}
+use Rattle.call_events.specs.Turns.{step_was}
 use Rattle.vfs_gates.proofs.Calling.{Call, Left, ended_at, goes_at, idle, own_is}
 
 -- what comes next is none

@@ -19,7 +19,7 @@ use Rattle.gate_world.specs.Courses.{course_of}
 use Rattle.gate_steps.specs.Seating.{SeatItems, HaveHistory, done_by}
 use Rattle.vfs_gates.specs.TaskStates.{TaskState, own_number, own_view, spare_of}
 use Rattle.vfs_gates.specs.Seen.{IsOfAMoment}
-use Rattle.vfs_gates.specs.Runs.{completed_by, ran_snapshot, ran_items, Called}
+use Rattle.call_events.specs.Runs.{completed_by, ran_snapshot, ran_items, Called}
 
 -- in any history of a task's numbers
 pub saw_a_moment : (c : Config) (items : SeatItems) (all : HaveHistory c items) (s : Snapshot) → 1 ≤ length items →

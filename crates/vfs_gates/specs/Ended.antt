@@ -11,7 +11,7 @@ use Rattle.gate_steps.specs.Histories.{HasHistory}
 use Rattle.gate_steps.specs.Seating.{SeatItems, HaveViews, times}
 use Rattle.gate_steps.specs.Rules.{TableShows, Ruled}
 use Rattle.vfs_gates.specs.TaskStates.{TaskState, IsIdle, HoldsNothing}
-use Rattle.vfs_gates.specs.Ties.{IsStill}
+use Rattle.call_events.specs.Ties.{IsStill}
 
 -- the task rests, and each number is its own or its to give
 abbrev pub HasAll : TaskState → Type 0

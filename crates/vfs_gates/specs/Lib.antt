@@ -1,11 +1,12 @@
+pub use Rattle.gate_steps.specs.Rules
+pub use Rattle.gate_steps.specs.Seating
 pub mod Room
 pub mod TaskStates
-pub mod Ties
-pub mod Stepped
-pub mod Turns
+pub use Rattle.call_events.specs.Ties
+pub use Rattle.call_events.specs.Stepped
+pub use Rattle.call_events.specs.Turns
 pub mod Parts
 pub mod Sums
 pub mod Ended
 pub mod Seen
-pub mod Runs
-pub mod Plans
+pub use Rattle.call_events.specs.Runs

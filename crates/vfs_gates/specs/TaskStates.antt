@@ -1,71 +1,8 @@
--- What callers know of a task.
-use Rattle.std.specs.Prelude.{◌≡◌, ℕ, ◌<◌, ◌≤◌, false, Option, None, is_some, Result, slice_index, slice_index_or, [], ◌∷◌}
-use Rattle.atomic_table.specs.Seated.{TableId}
-use Rattle.access_model.specs.declared.errors.GateError.{GateError}
-use Rattle.gate_world.specs.declared.config.Config.{Config}
-use Rattle.gate_world.specs.declared.operations.Op.{Op}
-use Rattle.gate_world.specs.declared.work.Phase.{Phase}
-use Rattle.gate_world.specs.declared.views.View.{View}
-use Rattle.gate_world.specs.Views.{opening_view, held_at, holds_level}
-use Rattle.gate_world.specs.Beginnings.{refusal, beginning}
-use Rattle.gate_world.specs.declared.accesses.Accesses.{Accesses}
-use Rattle.gate_steps.specs.Seating.{SeatItems}
+-- What callers know of a task, and of the gates that it came from.
+use Rattle.std.specs.Prelude.{◌≡◌}
 use Rattle.vfs_gates.specs.declared.gates.Gates.{Gates}
-
--- the table, the configuration, the operation that has begun and has had no event, the phase of the operation under way, and the
--- numbers with their views, its own first
-pub record TaskState : Type 0 where
-  pub table : TableId
-  pub config : Config
-  pub begins : Option Op
-  pub phase : Option Phase
-  pub items : SeatItems
-
--- of these parts
-abbrev pub task_state : TableId → Config → Option Op → Option Phase → SeatItems → TaskState
-task_state t c b p l = record { table = t; config = c; begins = b; phase = p; items = l }
+pub use Rattle.call_events.specs.TaskStates.{TaskState, task_state, own_number, own_view, spare_of, IsIdle, Empty, HoldsNothing, IsNothing, refusal_at, beginning_at}
 
 -- the task came from these gates
 abbrev pub IsFrom : TaskState → Gates → Type 0
-IsFrom s g = (s.table ≡ g.table.shared.table_id) × (s.config ≡ g.config)
-
--- its own number
-abbrev pub own_number : SeatItems → ℕ
-own_number [] = 0
-own_number (x ∷ xs) = x.number
-
--- and its view
-abbrev pub own_view : SeatItems → View
-own_view [] = opening_view
-own_view (x ∷ xs) = x.view
-
--- the numbers that it has to give
-abbrev pub spare_of : SeatItems → SeatItems
-spare_of [] = []
-spare_of (x ∷ xs) = xs
-
--- no operation is under way
-abbrev pub IsIdle : TaskState → Type 0
-IsIdle s = s.phase ≡ None
-
--- nothing is held at any mount or level that there is
-abbrev pub Empty : Config → View → Type 0
-Empty c v = ((m : ℕ) → m < c.mounts → held_at v m ≡ 0) × ((i : ℕ) → 1 ≤ i → i ≤ 3 → holds_level v i ≡ false)
-
--- its own number holds nothing
-abbrev pub HoldsNothing : TaskState → Type 0
-HoldsNothing s = Empty s.config (own_view s.items)
-
--- no access at so many mounts, nor at a level
-abbrev pub IsNothing : Accesses → ℕ → Type 0
-IsNothing a mounts = ((m : ℕ) → m < mounts → slice_index a.mounts m ≡ 0) ×
-    ((i : ℕ) → 1 ≤ i → i ≤ 3 → slice_index_or a.levels i false ≡ false)
-
--- why the operation can't begin, the first reason in the stated order
-abbrev pub refusal_at : Op → TaskState → Option GateError
-refusal_at op s = refusal s.config (is_some s.phase) (held_at (own_view s.items)) (holds_level (own_view s.items)) op
-
--- what its beginning answers: the first phase, or the refusal
-abbrev pub beginning_at : Op → TaskState → Result Phase GateError
-beginning_at op s =
-    beginning s.config (own_number s.items) (is_some s.phase) (held_at (own_view s.items)) (holds_level (own_view s.items)) op
+IsFrom s g = (s.table ≡ g.words.table.shared.table_id) × (s.config ≡ g.words.config)

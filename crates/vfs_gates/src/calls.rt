@@ -3,12 +3,12 @@
 ghost use Rattle.std.specs.Prelude.{◌≡◌, false};
 ghost use Rattle.gate_world.specs.declared.operations.Op.{Op as OpType};
 ghost use Rattle.vfs_gates.specs.TaskStates.{TaskState};
-ghost use Rattle.vfs_gates.specs.Runs.{told_as, unit_of, Goes};
+ghost use Rattle.call_events.specs.Runs.{told_as, unit_of, Goes};
 
 use crate::gates::Gates;
-use crate::lines::InLine;
 use crate::task::Task;
 use access_model::{GateError, Next, Reply};
+use call_events::InLine;
 use gate_core::Progress;
 use gate_world::{Op, Phase};
 use mount_counts::{Change, ChangeStep, MountPhase, Want, WantStep};
@@ -33,7 +33,7 @@ impl Task {
     ghost use Rattle.mount_counts.specs.declared.phases.MountPhase.TheVariants.{Change as Changes};
     ghost use Rattle.vfs_gates.specs.Room.{is_of_snapshot};
     ghost use Rattle.vfs_gates.specs.TaskStates.{IsFrom, beginning_at, own_number};
-    ghost use Rattle.vfs_gates.specs.Runs.{Called, IsBounded, IsTrying, Performs};
+    ghost use Rattle.call_events.specs.Runs.{Called, IsBounded, IsTrying, Performs};
 
     /// The first phase of the operation, or why it can't begin.
     #[inline(always)]
@@ -77,7 +77,7 @@ impl Task {
     {
         self.admit(op)?;
         let accesses = &mut self.kept.accesses;
-        match first.go_in_line(gates, &mut self.seat, accesses, Some(op)) {
+        match first.go_in_line(&gates.words, &mut self.seat, accesses, Some(op)) {
             Next::Done(answer) => outcome(answer),
             Next::Go(under_way) | Next::Wait(under_way) => {
                 self.kept.phase = Some(under_way.phase());

@@ -2,25 +2,21 @@
 
 ghost use Rattle.std.specs.Prelude.{◌≡◌, ◌*◌, ◌+◌, ◌-◌, IfOk, IfErr, OnOk, OnErr, None};
 ghost use Rattle.gate_world.specs.Configs.{IsWithin};
-ghost use Rattle.gate_steps.specs.Rules.{table_length, first_items};
+ghost use Rattle.gate_steps.specs.Rules.{first_items};
 
 use crate::closed::Closed;
 use crate::rooms::Rooms;
 use crate::task::Task;
 use access_model::GateError;
-use gate_steps::{GateTable, close, open};
+use call_events::GateWords;
+use gate_steps::{close, open};
 use gate_world::Config;
 use std::alloc::Global;
 
 /// All words of the gates, which threads share by reference.
 #[derive(Drop)]
 pub struct Gates {
-    pub(crate) table: GateTable,
-    pub(crate) config: Config,
-    ghost key: { table.shared.key ≡ config },
-    ghost words: { table.shared.table_id.words ≡ table_length },
-    ghost no_slots: { table.shared.table_id.slots ≡ 0 },
-    ghost within: { IsWithin config },
+    pub(crate) words: GateWords,
 }
 
 impl Gates {
@@ -32,7 +28,7 @@ impl Gates {
     /// configuration is out of its limits; NoMemory where a growth was refused.
     pub fn new(alloc: Global, config: Config) -> Result<(Gates, Task), GateError>
         ensures made { IfOk result
-            (λ r. (r.0.config ≡ config) × (r.1 ≡ task_state r.0.table.shared.table_id config None None (first_items config))) }
+            (λ r. (r.0.words.config ≡ config) × (r.1 ≡ task_state r.0.words.table.shared.table_id config None None (first_items config))) }
         ensures words { IfOk result (λ r. HasOpeningWords config r.1.items) }
         ensures within { OnOk result (IsWithin config) }
         ensures invalid { ¬ IsWithin config → result ≡ Err Invalid }
@@ -47,20 +43,22 @@ impl Gates {
         let Ok((table, seat)) = open(alloc, &config) else {
             return Err(GateError::NoMemory);
         };
-        Ok((Gates { table, config }, Task::first(config, seat, rooms)))
+        let words = GateWords { table, config };
+        Ok((Gates { words }, Task::first(config, seat, rooms)))
     }
 
     /// The words as they were at the end, where this task is the only one left: all other numbers are its to give. Order, with both
     /// given back as they were, unless the task is idle, holds nothing and has all other numbers.
     pub fn close(self, task: Task) -> Result<Closed, (GateError, Gates, Task)>
         requires { IsFrom task self }
-        ensures closed { IfOk result (λ c. HasAll task × (c.config ≡ self.config) × EndedWith c.config c.words task.items) }
+        ensures closed { IfOk result (λ c. HasAll task × (c.config ≡ self.words.config) × EndedWith c.config c.words task.items) }
         ensures refused { IfErr result (λ e. (e.0 ≡ Order) × (e.1 ≡ self) × (e.2 ≡ task) × ¬ HasAll task) }
     {
         if !task.has_all() {
             return Err((GateError::Order, self, task));
         }
-        let Gates { table, config } = self;
+        let Gates { words } = self;
+        let GateWords { table, config } = words;
         Ok(Closed {
             config,
             closed: close(table, task.into_seat()),

@@ -10,7 +10,7 @@ ghost use Rattle.gated_tree.specs.declared.trees.TreeWords.{TreeWords};
 ghost use Rattle.gate_world.specs.Courses.{course_of};
 ghost use Rattle.gate_steps.specs.Seating.{done_by};
 ghost use Rattle.vfs_gates.specs.TaskStates.{TaskState, own_number, own_view, spare_of};
-ghost use Rattle.vfs_gates.specs.Runs.{completed_by, Called};
+ghost use Rattle.call_events.specs.Runs.{completed_by, Called};
 ghost use Rattle.gate_world.specs.declared.config.Config.{Config};
 ghost use Rattle.vfs_gates.specs.Ended.{Ended, LeavesSoundTree};
 ghost use Rattle.vfs_gates.specs.Seen.{HasTaken, IsOfAMoment};

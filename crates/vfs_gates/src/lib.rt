@@ -4,20 +4,15 @@
 
 mod calls;
 mod closed;
-mod ends;
 mod gates;
 pub mod laws;
-mod lines;
 mod numbers;
 mod parts;
 mod rooms;
-mod runs;
 mod task;
 mod tree_calls;
-mod turns;
 mod waits;
 
 pub use closed::Closed;
 pub use gates::Gates;
-pub use runs::{Meeting, Totals, run_with};
 pub use task::Task;

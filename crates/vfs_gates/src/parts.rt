@@ -36,7 +36,7 @@ impl Task {
         let Ok(rooms) = Rooms::new(alloc, self.config.nodes) else {
             return Err(GateError::NoMemory);
         };
-        let seat = give(&gates.table.shared, &mut self.seat, number);
+        let seat = give(&gates.words.table.shared, &mut self.seat, number);
         self.spare[number as usize] = false;
         Ok(Task {
             number,
@@ -73,7 +73,7 @@ impl Task {
             rooms: _,
             seat,
         } = other;
-        take_back(&gates.table.shared, &mut self.seat, seat);
+        take_back(&gates.words.table.shared, &mut self.seat, seat);
         add_all(&mut self.spare, &spare);
         self.spare[number as usize] = true;
         Ok(())

@@ -9,18 +9,14 @@ ghost use Rattle.gate_steps.specs.Rules.{first_items};
 use crate::gates::Gates;
 use crate::numbers::{Numbers, are_all, others_of};
 use crate::rooms::Rooms;
-use crate::turns::{Turn, do_event};
 use access_model::GateError;
+use call_events::{Seat, Turn, do_event};
 use freeze_levels::HookKind;
 use gate_core::seats::Seat as Kept;
 use gate_core::{Progress, Step};
-use gate_steps::Items;
 use gate_world::{Accesses, Config, Op};
 use gated_tree::Tree;
 use std::marker::Model;
-
-/// The seat of a task at the table.
-pub(crate) type Seat = atomic_table::Seat<(), Items>;
 
 /// A task: a token that one thread owns at a time. It has a number of its own, with which it acts, and the numbers that it may
 /// still give to others. Contracts see its table, its configuration, the operation that it has begun until its first event, the
@@ -57,7 +53,7 @@ impl Model for Task {
     ghost use Rattle.std.specs.Prelude.{◌≡◌, []};
     ghost use Rattle.vfs_gates.specs.TaskStates.{TaskState, task_state};
     ghost use Rattle.vfs_gates.specs.Room.{RoomTells};
-    ghost use Rattle.vfs_gates.specs.Ties.{Ties};
+    ghost use Rattle.call_events.specs.Ties.{Ties};
 
     ghost Value = { TaskState };
 
@@ -73,9 +69,9 @@ impl Task {
     ghost use Rattle.gate_world.specs.Beginnings.{first_phase as the_first_phase};
     ghost use Rattle.gate_world.specs.Views.{held_at, holds_level as has_level};
     ghost use Rattle.vfs_gates.specs.TaskStates.{task_state, IsFrom, own_number, own_view, refusal_at, IsIdle, HoldsNothing};
-    ghost use Rattle.vfs_gates.specs.Stepped.{Stepped};
+    ghost use Rattle.call_events.specs.Stepped.{Stepped};
     ghost use Rattle.vfs_gates.specs.Ended.{HasAll};
-    ghost use Rattle.vfs_gates.specs.Ties.{AllRest};
+    ghost use Rattle.call_events.specs.Ties.{AllRest};
     ghost use Rattle.gate_world.specs.declared.views.Snapshot.{Snapshot};
     ghost use Rattle.gated_tree.specs.Trees.{words_of};
 
@@ -185,7 +181,7 @@ impl Task {
             event,
             action,
             next,
-        } = do_event(gates, &mut self.seat, accesses, begins, phase, hook);
+        } = do_event(&gates.words, &mut self.seat, accesses, begins, phase, hook);
         self.rooms.follow(phase, event);
         let (progress, phase) = Progress::of(next);
         self.begins = None;

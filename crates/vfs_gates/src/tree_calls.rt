@@ -3,13 +3,13 @@
 ghost use Rattle.std.specs.Prelude.{◌≡◌, true, false};
 ghost use Rattle.gated_tree.specs.declared.marks.MarkStep.TheVariants.{LoadsFile};
 ghost use Rattle.gated_tree.specs.declared.phases.TreePhase.TheVariants.{Mark as Marks};
-ghost use Rattle.vfs_gates.specs.Runs.{told_as, node_of};
+ghost use Rattle.call_events.specs.Runs.{told_as, node_of};
 
 use crate::calls::outcome;
-use crate::ends::go_to_end;
 use crate::gates::Gates;
 use crate::task::Task;
 use access_model::{GateError, Kind, Reply};
+use call_events::go_to_end;
 use gate_world::Op;
 use gated_tree::{
     Create, CreateStep, Grow, GrowStep, Mark, MarkStep, MoveStep, MoveTo, Remove, RemoveStep,
@@ -46,7 +46,7 @@ impl Task {
     ghost use Rattle.vfs_gates.specs.Room.{is_of_snapshot};
     ghost use Rattle.gate_world.specs.declared.operations.Op.TheVariants.{Create as CreateOp, Remove as RemoveOp, Grow as GrowOp, MoveTo as MoveToOp, Fault as FaultOp, Flush as FlushOp, Snapshot as SnapshotOp};
     ghost use Rattle.vfs_gates.specs.TaskStates.{IsFrom, own_number};
-    ghost use Rattle.vfs_gates.specs.Runs.{IsBounded, Performs, Replies, the_reply};
+    ghost use Rattle.call_events.specs.Runs.{IsBounded, Performs, Replies, the_reply};
 
     /// Begins a call at the tree that has this first phase and a most number of events, and does its events until it replies.
     #[inline(always)]
@@ -58,7 +58,13 @@ impl Task {
         ensures { Replies the_reply op self.old self.new result }
     {
         self.admit(op)?;
-        go_to_end(gates, &mut self.seat, &mut self.kept.accesses, op, first)
+        go_to_end(
+            &gates.words,
+            &mut self.seat,
+            &mut self.kept.accesses,
+            op,
+            first,
+        )
     }
 
     /// Begins a snapshot that waits for nobody, and does its events until it replies. Each is noted, as the task keeps what it loads.

@@ -3,14 +3,13 @@
 ghost use Rattle.std.specs.Prelude.{◌≡◌, true, false};
 ghost use Rattle.gate_world.specs.declared.operations.Op.{Op as OpType};
 ghost use Rattle.vfs_gates.specs.TaskStates.{TaskState};
-ghost use Rattle.vfs_gates.specs.Runs.{told_as, ran_of, Goes};
+ghost use Rattle.call_events.specs.Runs.{told_as, ran_of, Goes};
 
 use crate::calls::outcome;
-use crate::ends::{Waiting, wait_to_end};
 use crate::gates::Gates;
-use crate::lines::InLine;
 use crate::task::Task;
 use access_model::{GateError, Holder, Next, Reply};
+use call_events::{InLine, Waiting, wait_to_end};
 use crossbeam_utils::Backoff;
 use freeze_levels::{Freeze, FreezeStep, FsHooks, Thaw, ThawStep};
 use gate_core::Progress;
@@ -46,7 +45,7 @@ impl Task {
     ghost use Rattle.gate_world.specs.declared.operations.Op.TheVariants.{Want as WantOp, ChangeMount, RemountSb, Start, WantWrite, Callback as CallbackOp, Freeze as FreezeOp, Thaw as ThawOp};
     ghost use Rattle.vfs_gates.specs.Room.{is_of_snapshot};
     ghost use Rattle.vfs_gates.specs.TaskStates.{IsFrom, own_number};
-    ghost use Rattle.vfs_gates.specs.Runs.{the_reply, Called, Replies, Performs};
+    ghost use Rattle.call_events.specs.Runs.{the_reply, Called, Replies, Performs};
 
     /// Does the events of the operation that has begun and asks no hook until it replies, however long it has to wait.
     #[cold]
@@ -91,7 +90,7 @@ impl Task {
         let accesses = &mut self.kept.accesses;
         wait_to_end(
             rt,
-            gates,
+            &gates.words,
             &mut self.seat,
             accesses,
             op,
@@ -118,7 +117,7 @@ impl Task {
     {
         self.admit(op)?;
         let accesses = &mut self.kept.accesses;
-        match first.go_in_line(gates, &mut self.seat, accesses, Some(op)) {
+        match first.go_in_line(&gates.words, &mut self.seat, accesses, Some(op)) {
             Next::Done(answer) => outcome(answer),
             Next::Go(under_way) | Next::Wait(under_way) => {
                 self.kept.phase = Some(under_way.phase());
@@ -201,7 +200,7 @@ impl Task {
     /// `rcu_sync_func`, with the wait of `call_rcu` before it: runs the callback that the `rcu_sync` of a level, 1 to 3, has queued, after
     /// each section of a reader that was under way has ended, for which it waits. Answers whether one ran: false where none was
     /// queued. It is never refused once it has begun: Invalid, and Order where an operation is under way, as `begin`.
-    #[tactic(auto, using(crate::proofs::Running::was_told))]
+    #[tactic(auto, using(call_events::proofs::Running::was_told))]
     pub fn callback<R: Wait>(&mut self, rt: &R, gates: &Gates, level: u8) -> Result<bool, GateError>
         requires { IsFrom self.old gates.now }
         ensures { Replies ran_of (CallbackOp level) self.old self.new result }
@@ -241,7 +240,7 @@ impl Task {
     /// superblock isn't as it is asked for: to read-only with nobody inside, dirty marks cleared and no new writer let in. Hook where
     /// it fails, and then the superblock is as it was, but for the dirty marks. Order, where the task is inside a level, as `begin`.
     /// After an Ok the superblock is as it was asked for, until another remount.
-    #[tactic(auto, using(crate::proofs::Running::was_told))]
+    #[tactic(auto, using(call_events::proofs::Running::was_told))]
     pub fn remount_sb<R: Wait, H: FsHooks>(
         &mut self,
         rt: &R,
@@ -271,7 +270,7 @@ impl Task {
     /// once, with no level closed and no hook asked. Hook where one fails, and then the levels are open and the file system is as it was, but
     /// for the dirty marks. Order, where the task is inside a level, as `begin`. After an Ok nobody is inside a level that was closed, nor
     /// comes inside, until a thaw.
-    #[tactic(auto, using(crate::proofs::Running::was_told))]
+    #[tactic(auto, using(call_events::proofs::Running::was_told))]
     pub fn freeze<R: Wait, H: FsHooks>(
         &mut self,
         rt: &R,
@@ -298,7 +297,7 @@ impl Task {
     /// levels, the highest first. While another task has `umount` it waits. Invalid where the stage isn't SB_FREEZE_COMPLETE, or this holder
     /// holds no freeze. `FsHooks::unfreeze_fs` is asked once, unless the superblock is
     /// read-only; Hook where it fails, and then all stays frozen. Order, where the task is inside a level, as `begin`.
-    #[tactic(auto, using(crate::proofs::Running::was_told))]
+    #[tactic(auto, using(call_events::proofs::Running::was_told))]
     pub fn thaw<R: Wait, H: FsHooks>(
         &mut self,
         rt: &R,

@@ -1,11 +1,11 @@
 //! Runs: what they count, and that their tasks run at the same time.
 
 use cpu_words::WordName;
+use gate_runs::{Meeting, Totals, run_with};
 use gated_tree::NodeWord;
 use std::sync::atomic::{AtomicBool, AtomicU32, Ordering};
 use std::test::Fail;
 use std::thread;
-use vfs_gates::{Meeting, Totals, run_with};
 
 /// Counts what it is told of.
 #[derive(Drop)]

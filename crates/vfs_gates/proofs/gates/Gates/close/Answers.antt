@@ -4,16 +4,16 @@ use Rattle.std.specs.Slots.{slots_items}
 use Rattle.gate_world.specs.declared.config.Config.{Config}
 use Rattle.gate_steps.specs.Seating.{SeatItems, times}
 use Rattle.gate_steps.specs.Tables.{IsClosing}
-use Rattle.vfs_gates.specs.Ties.{AllRest}
+use Rattle.call_events.specs.Ties.{AllRest}
 use Rattle.vfs_gates.specs.Ended.{EndedWith}
 use Rattle.vfs_gates.proofs.Closing.{ended}
 use Rattle.vfs_gates.proofs.gates.Gates.close.Goals as goal
 use Rattle.vfs_gates.proofs.gates.Gates.close.Goals.{After-close}
 
 -- what the words and the task's numbers say of each other
-ends : (c : After-close) → EndedWith c.args.self.config (slots_items c.close.result.words) c.args.task.items
+ends : (c : After-close) → EndedWith c.args.self.words.config (slots_items c.close.result.words) c.args.task.items
 ends c =
-    let config = c.args.self.config in
+    let config = c.args.self.words.config in
     let seat = c.into_seat.result in
     let has = c.if-not-has_all.ensures.0 refl in
     let all : (n : ℕ) → n < config.tasks → 1 ≤ times n seat.me.0 =
@@ -21,15 +21,15 @@ ends c =
     (has.2 n (subst (λ (k : Config). n < k.tasks) (sym c.requires.1) lt)) in
     subst (EndedWith config (slots_items c.close.result.words)) c.into_seat.ensures.items
     (ended config seat.me.0 (slots_items c.close.result.words)
-    (subst (λ (k : Config). IsClosing k (slots_items c.close.result.words) seat.me.0) c.args.self.key c.close.ensures.closing)
+    (subst (λ (k : Config). IsClosing k (slots_items c.close.result.words) seat.me.0) c.args.self.words.key c.close.ensures.closing)
     (subst (λ (k : Config). AllRest k seat.me.0) c.requires.1 (c.into_seat.ensures.rested (has.0, has.1))) all)
 
 pub invariant_of-result : goal.invariant_of-result
 invariant_of-result c = (
-  c.args.self.within,
+  c.args.self.words.within,
   c.close.ensures.full.0,
-  c.close.ensures.counts.0 ∙ c.args.self.words,
-  c.close.ensures.counts.1 ∙ c.args.self.no_slots,
+  c.close.ensures.counts.0 ∙ c.args.self.words.words,
+  c.close.ensures.counts.1 ∙ c.args.self.words.no_slots,
   (ends (goal.at.invariant_of-result c).After-close).ended,
 )
 

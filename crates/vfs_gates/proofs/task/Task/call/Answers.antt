@@ -3,18 +3,18 @@ use Rattle.std.proofs.Common.{refl, sym, ◌∙◌}
 use Rattle.std.proofs.lemmas.Result.{err_from_is_err_and}
 use Rattle.access_model.specs.declared.replies.Next.TheVariants.{Done}
 use Rattle.gate_world.specs.declared.work.Phase.TheVariants.{Trees}
-use Rattle.vfs_gates.specs.Runs.{the_reply}
+use Rattle.call_events.specs.Runs.{the_reply}
 use Rattle.vfs_gates.proofs.Admitting.{refused_by}
 use Rattle.vfs_gates.proofs.Calling.{Call, Left, call_with, is_tied, has_begun, ties_done, ended_at}
 use Rattle.vfs_gates.proofs.Rooming.{room_done}
-use Rattle.vfs_gates.proofs.Running.{was_refused, was_done, told_whole}
+use Rattle.call_events.proofs.Running.{was_refused, was_done, told_whole}
 use Rattle.vfs_gates.proofs.task.Task.call.Goals as goal
 use Rattle.vfs_gates.proofs.task.Task.call.Goals.{After-go_to_end}
 
 -- the call, and what its events have left
 abbrev call : After-go_to_end → Call
 call c =
-    call_with c.args.op c.self.inside c.args.gates.now.config c.args.self.now c.self.view_is c.requires.from.1 c.self.invariant.0
+    call_with c.args.op c.self.inside c.args.gates.now.words.config c.args.self.now c.self.view_is c.requires.from.1 c.self.invariant.0
     c.in_ok-admit.field-0 c.in_ok-admit.ensures (Trees c.args.first) c.requires.first
 
 abbrev left : (c : After-go_to_end) → Left (call c)
@@ -29,12 +29,12 @@ left c = record {
 
 pub go_to_end-requires-clause-tied : goal.go_to_end-requires-clause-tied
 go_to_end-requires-clause-tied c =
-    is_tied (call_with c.args.op c.self.inside c.args.gates.now.config c.args.self.now c.self.view_is c.requires.from.1 c.self.invariant.0
+    is_tied (call_with c.args.op c.self.inside c.args.gates.now.words.config c.args.self.now c.self.view_is c.requires.from.1 c.self.invariant.0
     c.in_ok-admit.field-0 c.in_ok-admit.ensures (Trees c.args.first) c.requires.first)
 
 pub go_to_end-requires-clause-trying : goal.go_to_end-requires-clause-trying
 go_to_end-requires-clause-trying c =
-    let call = call_with c.args.op c.self.inside c.args.gates.now.config c.args.self.now c.self.view_is c.requires.from.1 c.self.invariant.0
+    let call = call_with c.args.op c.self.inside c.args.gates.now.words.config c.args.self.now c.self.view_is c.requires.from.1 c.self.invariant.0
     c.in_ok-admit.field-0 c.in_ok-admit.ensures (Trees c.args.first) c.requires.first in
     record { op = call.op; start = call.start; goes = has_begun call; tries = c.requires.tries }
 

@@ -1,6 +1,6 @@
 use Rattle.std.proofs.Common.{refl, sym, subst, ◌∙◌}
 use Rattle.gate_world.specs.Configs.{IsWithin}
-use Rattle.vfs_gates.proofs.Running.{goes_further, ends_there, falls}
+use Rattle.call_events.proofs.Running.{goes_further, ends_there, falls}
 use Rattle.vfs_gates.proofs.task.Task.finish.Goals as goal
 
 pub loop-answer-init : goal.loop-answer-init
@@ -12,12 +12,12 @@ step-step-requires c = let now = c.loop-answer in (now.invariant.table ∙ c.req
 pub returns-in-Done : goal.returns-in-Done
 returns-in-Done c op start goes = let now = c.loop-answer in let here = now.invariant.goes op start goes in
     ends_there op start now.self c.step-step.new.self c.step-step.result _ here c.step-step.ensures.event
-    (subst IsWithin (sym c.requires.from.1 ∙ goes.config) c.args.gates.now.within) c.in-Done.answer c.in-Done.is
+    (subst IsWithin (sym c.requires.from.1 ∙ goes.config) c.args.gates.now.words.within) c.in-Done.answer c.in-Done.is
 
 pub loop-answer-smaller : goal.loop-answer-smaller
 loop-answer-smaller c = let now = c.loop-answer in let trying = now.invariant.trying in
     falls trying.op trying.start now.self c.step-step.new.self c.step-step.result _ trying.goes c.step-step.ensures.event
-    (subst IsWithin (sym c.requires.from.1 ∙ (sym now.invariant.config ∙ trying.goes.config)) c.args.gates.now.within) trying.tries
+    (subst IsWithin (sym c.requires.from.1 ∙ (sym now.invariant.config ∙ trying.goes.config)) c.args.gates.now.words.within) trying.tries
     c.in_default.not-Done
 
 pub loop-answer-preserved : goal.loop-answer-preserved

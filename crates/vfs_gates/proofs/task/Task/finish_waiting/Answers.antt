@@ -1,6 +1,6 @@
 use Rattle.std.proofs.Common.{refl, sym, subst, ◌∙◌}
 use Rattle.gate_world.specs.Configs.{IsWithin}
-use Rattle.vfs_gates.proofs.Running.{goes_further, ends_there}
+use Rattle.call_events.proofs.Running.{goes_further, ends_there}
 use Rattle.vfs_gates.proofs.task.Task.finish_waiting.Goals as goal
 
 pub loop-init : goal.loop-init
@@ -9,7 +9,7 @@ loop-init g c = record { next = tt; finite = tt; table = refl; config = refl; go
 pub returns-in-Done : goal.returns-in-Done
 returns-in-Done g c op start goes = let now = c.loop in
     ends_there op start now.self c.step-step.new.self c.step-step.result _ (now.invariant.goes op start goes)
-    c.step-step.ensures.event (subst IsWithin (sym c.requires.1 ∙ goes.config) c.args.gates.now.within) c.in-Done.answer c.in-Done.is
+    c.step-step.ensures.event (subst IsWithin (sym c.requires.1 ∙ goes.config) c.args.gates.now.words.within) c.in-Done.answer c.in-Done.is
 
 pub loop-preserved : goal.loop-preserved
 loop-preserved g c = let now = c.loop in record {

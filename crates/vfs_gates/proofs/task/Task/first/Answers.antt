@@ -1,6 +1,6 @@
 use Rattle.std.proofs.Common.{ap, sym, subst, ◌∙◌, None}
 use Rattle.gate_steps.specs.Seating.{SeatItems}
-use Rattle.vfs_gates.specs.Ties.{Ties}
+use Rattle.call_events.specs.Ties.{Ties}
 use Rattle.vfs_gates.proofs.Parting.{first_ties}
 use Rattle.gate_core.specs.declared.seats.Seat.{Seat}
 use Rattle.vfs_gates.specs.TaskStates.{own_view}

@@ -2,7 +2,7 @@ use Rattle.std.proofs.Common.{◌≡◌, set, true, length, arith, refl, sym, ap
 use Rattle.gate_world.specs.declared.config.Config.{Config}
 use Rattle.gate_steps.specs.Seating.{SeatItems}
 use Rattle.vfs_gates.specs.TaskStates.{TaskState, Empty, own_view}
-use Rattle.vfs_gates.specs.Ties.{Ties}
+use Rattle.call_events.specs.Ties.{Ties}
 use Rattle.vfs_gates.proofs.Parting.{join_self, below}
 use Rattle.vfs_gates.proofs.Rooming.{joined_view, room_same}
 use Rattle.vfs_gates.proofs.task.Task.join.Goals as goal

@@ -4,10 +4,11 @@ use Rattle.std.specs.Prelude.{Some}
 use Rattle.gate_world.specs.declared.work.Phase.{Phase}
 use Rattle.access_model.specs.Replies.{map_next}
 use Rattle.std.proofs.lemmas.Result.{err_from_is_err_and}
-use Rattle.vfs_gates.specs.Runs.{unit_of}
+use Rattle.call_events.specs.Runs.{unit_of}
 use Rattle.vfs_gates.proofs.Admitting.{refused_by}
-use Rattle.vfs_gates.proofs.Calling.{Call, Left, call_with, is_tied, has_begun, ties_at, ties_done, goes_at, ended_at, stands_at, done_at}
-use Rattle.vfs_gates.proofs.Running.{was_refused, was_done}
+use Rattle.vfs_gates.proofs.Calling.{Call, Left, call_with, is_tied, has_begun, ties_at, ties_done, goes_at, ended_at}
+use Rattle.call_events.proofs.Onward.{stands_at, done_at}
+use Rattle.call_events.proofs.Running.{was_refused, was_done}
 use Rattle.vfs_gates.proofs.task.Task.perform.Goals as goal
 use Rattle.vfs_gates.proofs.task.Task.perform.Goals.{After-go_in_line}
 use Rattle.vfs_gates.proofs.Rooming.{room_at, room_done}
@@ -15,7 +16,7 @@ use Rattle.vfs_gates.proofs.Rooming.{room_at, room_done}
 -- the call, and what its line has left
 abbrev call : (g : _) → After-go_in_line g → Call
 call g c =
-    call_with c.args.op c.self.inside c.args.gates.now.config c.args.self.now c.self.view_is c.requires.from.1 c.self.invariant.0
+    call_with c.args.op c.self.inside c.args.gates.now.words.config c.args.self.now c.self.view_is c.requires.from.1 c.self.invariant.0
     c.in_ok-admit.field-0 c.in_ok-admit.ensures (g.P.UnderWay.as_phase c.args.first) c.requires.first
 
 abbrev left : (g : _) (c : After-go_in_line g) → Left (call g c)
@@ -30,7 +31,7 @@ left g c = record {
 
 pub go_in_line-requires-clause-tied : goal.go_in_line-requires-clause-tied
 go_in_line-requires-clause-tied g c =
-    is_tied (call_with c.args.op c.self.inside c.args.gates.now.config c.args.self.now c.self.view_is c.requires.from.1 c.self.invariant.0
+    is_tied (call_with c.args.op c.self.inside c.args.gates.now.words.config c.args.self.now c.self.view_is c.requires.from.1 c.self.invariant.0
     c.in_ok-admit.field-0 c.in_ok-admit.ensures (g.P.UnderWay.as_phase c.args.first) c.requires.first)
 
 pub invariant_of-self : goal.invariant_of-self

@@ -2,18 +2,18 @@
 use Rattle.std.proofs.Common.{refl, sym, ◌∙◌}
 use Rattle.std.proofs.lemmas.Result.{err_from_is_err_and}
 use Rattle.access_model.specs.declared.replies.Next.TheVariants.{Done}
-use Rattle.vfs_gates.specs.Runs.{the_reply}
+use Rattle.call_events.specs.Runs.{the_reply}
 use Rattle.vfs_gates.proofs.Admitting.{refused_by}
 use Rattle.vfs_gates.proofs.Calling.{Call, Left, call_with, is_tied, has_begun, ties_done, ended_at}
 use Rattle.vfs_gates.proofs.Rooming.{room_done}
-use Rattle.vfs_gates.proofs.Running.{was_refused, was_done, told_whole}
+use Rattle.call_events.proofs.Running.{was_refused, was_done, told_whole}
 use Rattle.vfs_gates.proofs.task.Task.perform_waiting.Goals as goal
 use Rattle.vfs_gates.proofs.task.Task.perform_waiting.Goals.{After-wait_to_end}
 
 -- the call, and what its events have left
 abbrev call : (g : _) → After-wait_to_end g → Call
 call g c =
-    call_with c.args.op c.self.inside c.args.gates.now.config c.args.self.now c.self.view_is c.requires.from.1 c.self.invariant.0
+    call_with c.args.op c.self.inside c.args.gates.now.words.config c.args.self.now c.self.view_is c.requires.from.1 c.self.invariant.0
     c.in_ok-admit.field-0 c.in_ok-admit.ensures (g.P.UnderWay.as_phase c.args.first) c.requires.first
 
 abbrev left : (g : _) (c : After-wait_to_end g) → Left (call g c)
@@ -28,7 +28,7 @@ left g c = record {
 
 pub wait_to_end-requires-clause-tied : goal.wait_to_end-requires-clause-tied
 wait_to_end-requires-clause-tied g c =
-    is_tied (call_with c.args.op c.self.inside c.args.gates.now.config c.args.self.now c.self.view_is c.requires.from.1 c.self.invariant.0
+    is_tied (call_with c.args.op c.self.inside c.args.gates.now.words.config c.args.self.now c.self.view_is c.requires.from.1 c.self.invariant.0
     c.in_ok-admit.field-0 c.in_ok-admit.ensures (g.P.UnderWay.as_phase c.args.first) c.requires.first)
 
 pub invariant_of-self : goal.invariant_of-self

@@ -1,6 +1,6 @@
 use Rattle.std.proofs.Common.{◌≡◌, ℕ, length, set, false, arith, sym, ap, ◌∙◌, subst, None}
 use Rattle.gate_steps.specs.Seating.{SeatItems}
-use Rattle.vfs_gates.specs.Ties.{Ties}
+use Rattle.call_events.specs.Ties.{Ties}
 use Rattle.vfs_gates.proofs.Parting.{split_self, split_new}
 use Rattle.gate_core.specs.declared.seats.Seat.{Seat}
 use Rattle.vfs_gates.specs.TaskStates.{own_view}

@@ -6,8 +6,8 @@ use Rattle.gate_world.specs.declared.work.Phase.{Phase}
 use Rattle.gate_world.specs.Views.{phase_after}
 use Rattle.gate_core.specs.Answers.{progress_of}
 use Rattle.vfs_gates.specs.TaskStates.{TaskState, task_state}
-use Rattle.vfs_gates.specs.Turns.{kept_at}
-use Rattle.vfs_gates.proofs.Turning.{tied_at, stepped_there}
+use Rattle.call_events.specs.Turns.{kept_at}
+use Rattle.call_events.proofs.Turning.{tied_at, stepped_there}
 use Rattle.access_model.proofs.Mapped.{map_next_same}
 use Rattle.access_model.specs.Replies.{map_next}
 use Rattle.vfs_gates.specs.Room.{RoomTells}
@@ -17,7 +17,7 @@ use Rattle.vfs_gates.proofs.task.Task.step.Goals as goal
 pub do_event-action-requires-clause-tied : goal.do_event-action-requires-clause-tied
 do_event-action-requires-clause-tied c =
     let t = c.self.inside in
-    let same : t.config ≡ c.args.gates.now.config = ap (λ (s : TaskState). s.config) c.self.view_is ∙ c.requires.1 in
+    let same : t.config ≡ c.args.gates.now.words.config = ap (λ (s : TaskState). s.config) c.self.view_is ∙ c.requires.1 in
     record {
       number = t.number;
       flags = t.spare;
@@ -28,7 +28,7 @@ do_event-action-requires-clause-tied c =
 pub invariant_of-self : goal.invariant_of-self
 invariant_of-self c =
     let t = c.self.inside in
-    let same : t.config ≡ c.args.gates.now.config = ap (λ (s : TaskState). s.config) c.self.view_is ∙ c.requires.1 in
+    let same : t.config ≡ c.args.gates.now.words.config = ap (λ (s : TaskState). s.config) c.self.view_is ∙ c.requires.1 in
     let next : Next Phase = c.do_event-action.result.next in
     let stands = ap (λ (n : Next Phase). phase_after n) (map_next_same next) ∙ sym (ap (λ p. p.1) c.of-progress.ensures) in
     let tied = c.do_event-action.ensures.tied t.number t.spare
@@ -39,7 +39,7 @@ invariant_of-self c =
       subst (λ (o : Option Phase). RoomTells t.config.nodes c.follow.new.self None o c.do_event-action.new.seat.me.0)
           stands
           (stepped_room t.config.nodes t.rooms c.follow.new.self t.begins c.in-Some.phase c.args.hook t.seat.table_id
-          c.do_event-action.new.seat.table_id c.args.gates.now.config t.seat.me.0 c.do_event-action.new.seat.me.0
+          c.do_event-action.new.seat.table_id c.args.gates.now.words.config t.seat.me.0 c.do_event-action.new.seat.me.0
           c.do_event-action.result.event c.do_event-action.result.action (map_next (λ phase. phase) next) t.number
           (kept_at (Some c.in-Some.phase) t.kept.accesses) t.spare
           (tied_at t.number t.begins t.spare t.seat.me.0 t.kept (Some c.in-Some.phase) c.self.invariant.0 same c.in-Some.is)
@@ -51,7 +51,7 @@ invariant_of-self c =
 pub returns-clause-event : goal.returns-clause-event
 returns-clause-event c =
     let t = c.self.inside in
-    let same : t.config ≡ c.args.gates.now.config = ap (λ (s : TaskState). s.config) c.self.view_is ∙ c.requires.1 in
+    let same : t.config ≡ c.args.gates.now.words.config = ap (λ (s : TaskState). s.config) c.self.view_is ∙ c.requires.1 in
     let next : Next Phase = c.do_event-action.result.next in
     let stands = ap (λ (n : Next Phase). phase_after n) (map_next_same next) ∙ sym (ap (λ p. p.1) c.of-progress.ensures) in
     let told = ap (λ (n : Next Phase). progress_of n) (map_next_same next) ∙ sym (ap (λ p. p.0) c.of-progress.ensures) in

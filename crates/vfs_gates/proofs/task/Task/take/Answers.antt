@@ -1,8 +1,8 @@
 -- a snapshot: its beginning and its events
 use Rattle.std.proofs.Common.{sym}
 use Rattle.std.proofs.lemmas.Result.{err_from_is_err_and}
-use Rattle.vfs_gates.specs.Runs.{the_reply}
-use Rattle.vfs_gates.proofs.Running.{starts, was_refused, was_done, told_whole}
+use Rattle.call_events.specs.Runs.{the_reply}
+use Rattle.call_events.proofs.Running.{starts, was_refused, was_done, told_whole}
 use Rattle.vfs_gates.proofs.task.Task.take.Goals as goal
 
 pub finish-requires-clause-trying : goal.finish-requires-clause-trying

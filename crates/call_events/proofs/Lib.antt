@@ -1,0 +1,4 @@
+pub mod Going
+pub mod Turning
+pub mod Running
+pub mod Onward

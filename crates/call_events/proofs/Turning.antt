@@ -1,0 +1,139 @@
+-- One event apart from the task: what it leaves of the fields, and which step it was.
+use Rattle.std.proofs.Common.{◌≡◌, ℕ, ◌<◌, Bool, List, [], ◌∷◌, refl, sym, ap, ◌∙◌, subst, arith}
+use Rattle.std.specs.Prelude.{Option, Some, None, slice_index}
+use Rattle.access_model.specs.declared.actions.Action.{Action}
+use Rattle.access_model.specs.declared.replies.Next.{Next}
+use Rattle.cpu_words.specs.declared.names.WordName.{WordName}
+use Rattle.cpu_words.specs.declared.events.Touch.{Touch}
+use Rattle.cpu_words.specs.declared.events.Event.{Event}
+use Rattle.cpu_words.specs.Hooks.{HookAnswer}
+use Rattle.cpu_words.specs.Names.{place, words_in_all}
+use Rattle.cpu_words.specs.Touches.{event_of}
+use Rattle.gate_world.specs.declared.config.Config.{Config}
+use Rattle.gate_world.specs.declared.operations.Op.{Op}
+use Rattle.gate_world.specs.declared.work.Phase.{Phase}
+use Rattle.gate_world.specs.Fits.{ActionFits}
+use Rattle.gate_world.specs.Views.{held_at, holds_level, phase_after}
+use Rattle.gate_core.specs.declared.seats.Seat.{Seat}
+use Rattle.gate_world.specs.Work.{next_of, after_of}
+use Rattle.gate_world.specs.declared.accesses.Accesses.{Accesses}
+use Rattle.gate_core.specs.Answers.{progress_of}
+use Rattle.gate_world.specs.Accesses.{accesses_after}
+use Rattle.gate_core.proofs.Phases.{word_placed}
+use Rattle.gate_steps.specs.Seating.{SeatItems, Acts, items_after, IsMove}
+use Rattle.atomic_table.specs.Seated.{TableId}
+use Rattle.gate_world.specs.Configs.{IsWithin}
+use Rattle.gate_core.specs.declared.steps.Step.{Step}
+use Rattle.call_events.specs.Runs.{Goes, Went}
+use Rattle.call_events.specs.TaskStates.{TaskState, task_state}
+use Rattle.call_events.specs.Stepped.{Stepped}
+use Rattle.call_events.specs.Ties.{Ties}
+use Rattle.call_events.specs.Turns.{kept_at, IsTied, step_was}
+use Rattle.call_events.proofs.Going.{may_add, ties_left, stepped_here}
+use Rattle.call_events.proofs.Running.{went_on}
+
+-- before the event: the word is one of the table's, and the number may do the event
+module _ (number : ℕ) (c : Config) (begins : Option Op) (phase : Phase) (accesses : Accesses) (flags : List Bool) (hook : HookAnswer) where
+  -- the word of the event is one of the table's
+  word_inside : (l : SeatItems) → Ties number c begins (kept_at (Some phase) accesses) flags l → place (next_of phase hook).0 < words_in_all
+  word_inside [] t = absurd t
+  word_inside (x ∷ xs) t =
+      word_placed c t.within x.number (held_at x.view) (holds_level x.view) (omega (arith, t.below, t.same_number)) phase hook t.fits
+
+  -- the own number may do the event
+  may_act : (l : SeatItems) → Ties number c begins (kept_at (Some phase) accesses) flags l → Acts c begins phase l
+  may_act [] t = absurd t
+  may_act (x ∷ xs) t = t.may
+
+-- the same of the phase that the code was told, and of the configuration as the table names it
+module _ (c key : Config) (same_key : key ≡ c) (begins : Option Op) (phase told : Phase) (told_is : told ≡ phase) (accesses : Accesses)
+    (items : SeatItems)
+    (tied : IsTied c begins (Some phase) accesses items) (hook : HookAnswer) where
+  -- the word is inside
+  pub inside_so : place (next_of told hook).0 < words_in_all
+  inside_so =
+      subst (λ (p : Phase). place (next_of p hook).0 < words_in_all) (sym told_is)
+      (word_inside tied.number c begins phase accesses tied.flags hook items tied.ties)
+
+  -- the number may act
+  pub acts_so : Acts key begins told items
+  acts_so =
+      let P : Config × Phase → Type 0 = λ z. Acts z.0 begins z.1 items in
+      subst P (λ i. (sym same_key i, sym told_is i)) (may_act tied.number c begins phase accesses tied.flags hook items tied.ties)
+
+  -- what the event adds can be done on the accesses
+  pub adds_so : (next : WordName × Touch) → next ≡ next_of told hook → (found : ℕ) (event : Event) → event ≡ event_of next.0 next.1 found →
+      (done : Next Phase × Option Action) → done ≡ after_of phase event.found hook → ActionFits (slice_index accesses.mounts) done.1
+  adds_so next next_is found event event_is done done_is =
+      may_add tied.number c begins (kept_at (Some phase) accesses) tied.flags phase refl hook items tied.ties
+      next (next_is ∙ ap (λ (p : Phase). next_of p hook) told_is) found event event_is done done_is
+
+-- of the values that the code has, where the phase that it was told is this one
+module _ (c key : Config) (same_key : key ≡ c) (begins : Option Op) (phase told : Phase) (told_is : told ≡ phase)
+    (accesses accesses_left : Accesses) (hook : HookAnswer) (items left : SeatItems)
+    (next : WordName × Touch) (next_is : next ≡ next_of told hook) (found : ℕ) (event : Event)
+    (event_is : event ≡ event_of next.0 next.1 found)
+    (done : Next Phase × Option Action) (done_is : done ≡ after_of phase event.found hook)
+    (accesses_is : accesses_left ≡ accesses_after accesses done.1) (left_is : left ≡ items_after begins told hook found items) where
+  -- the word and touch of the phase
+  next_here : next ≡ next_of phase hook
+  next_here = next_is ∙ ap (λ (p : Phase). next_of p hook) told_is
+
+  -- the numbers that the event leaves
+  left_here : left ≡ items_after begins phase hook found items
+  left_here = left_is ∙ ap (λ (p : Phase). items_after begins p hook found items) told_is
+
+  -- the fields stay tied
+  pub stay_tied : (number : ℕ) (flags : List Bool) → Ties number c begins (kept_at (Some phase) accesses) flags items →
+      Ties number c None (kept_at (phase_after done.0) accesses_left) flags left
+  stay_tied number flags ties =
+      ties_left number c begins (kept_at (Some phase) accesses) flags phase refl hook items ties next next_here found event event_is done
+      done_is
+      (progress_of done.0, phase_after done.0) refl accesses_left accesses_is left left_here
+
+  -- the event was a step
+  pub stepped_so : (number : ℕ) (flags : List Bool) → Ties number c begins (kept_at (Some phase) accesses) flags items →
+      IsMove key begins told hook items found → (table before : TableId) → table ≡ before →
+      Stepped phase hook (task_state before c begins (Some phase) items) (step_was event done.1 done.0)
+      (task_state table c None (phase_after done.0) left)
+  stepped_so number flags ties moves table before same =
+      let here : IsMove c begins phase hook items found = subst (λ (k : Config). IsMove k begins phase hook items found) same_key
+      (subst (λ (p : Phase). IsMove key begins p hook items found) told_is moves) in
+      stepped_here number c begins (kept_at (Some phase) accesses) flags phase refl hook items ties next next_here found event event_is done
+      done_is
+      (progress_of done.0, phase_after done.0) refl accesses_left accesses_is left left_here
+      table before (task_state before c begins (Some phase) items) same refl here phase refl
+
+-- and what comes after it tells whether the operation goes on
+pub went_so : (c : Config) → IsWithin c → (op : Op) (start : TaskState) (event : Event) (action : Option Action) (next : Next Phase)
+    (hook : HookAnswer)
+    {table left_table : TableId} {begins : Option Op} {phase : Phase} {items left : SeatItems} →
+    Goes op start (task_state table c begins (Some phase) items) →
+    Stepped phase hook (task_state table c begins (Some phase) items) (step_was event action next)
+    (task_state left_table c None (phase_after next) left) →
+    Went op start next (task_state left_table c None (phase_after next) left)
+went_so c within op start event action next hook {table} {left_table} {begins} {phase} {items} {left} goes after_step =
+    let now : TaskState = task_state table c begins (Some phase) items in
+    let after : TaskState = task_state left_table c None (phase_after next) left in
+    let step : Step = step_was event action next in
+    went_on op start now after step hook goes
+    (λ p is. subst (λ (q : Phase). Stepped q hook now step after) (let same : phase ≡ p = cc in same) after_step)
+    (subst IsWithin goes.config within) next refl
+
+-- a task's fields, said with another name of the config and of the phase
+pub tied_at : (number : ℕ) {c d : Config} (begins : Option Op) (flags : List Bool) (items : SeatItems) (kept : Seat)
+    (phase : Option Phase) → Ties number c begins kept flags items → c ≡ d → kept.phase ≡ phase →
+    Ties number d begins (kept_at phase kept.accesses) flags items
+tied_at number {c} {d} begins flags items kept phase ties same is =
+    let P : Config × Option Phase → Type 0 = λ z. Ties number z.0 begins (kept_at z.1 kept.accesses) flags items in
+    subst P (λ i. (same i, is i)) ties
+
+-- a step, said with other names of what it was
+pub stepped_there : {phase : Phase} {hook : HookAnswer} {old old_now left left_now : TaskState} {done done_now : Step} →
+    Stepped phase hook old done left → old ≡ old_now → done ≡ done_now → left ≡ left_now → old.phase ≡ Some phase →
+    (p : Phase) → old_now.phase ≡ Some p → Stepped p hook old_now done_now left_now
+stepped_there {phase} {hook} {old} {old_now} {left} {left_now} {done} {done_now} after_step same_old same_done same_left is p at =
+    let other : Some phase ≡ Some p = sym is ∙ (ap (λ (s : TaskState). s.phase) same_old ∙ at) in
+    let same : phase ≡ p = cc in
+    let P : Phase × TaskState × Step × TaskState → Type 0 = λ z. Stepped z.0 hook z.1 z.2 z.3 in
+    subst P (λ i. (same i, same_old i, same_done i, same_left i)) after_step

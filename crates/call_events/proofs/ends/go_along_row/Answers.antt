@@ -1,0 +1,12 @@
+-- each load of the row goes on from what the one before it left
+use Rattle.std.proofs.Common.{◌∙◌}
+use Rattle.call_events.proofs.ends.go_along_row.Goals as goal
+
+pub loop-load-preserved : goal.loop-load-preserved
+loop-load-preserved g c = let now = c.loop-load.invariant in record {
+  table = c.go_on_if-next.ensures.table ∙ now.table;
+  slots = c.go_on_if-next.ensures.slots ∙ now.slots;
+  tied = λ number flags ties. c.go_on_if-next.ensures.tied number flags (now.tied number flags ties);
+  still = c.go_on_if-next.ensures.still;
+  went = λ op start went. c.go_on_if-next.ensures.went op start (now.went op start went);
+}

@@ -1,0 +1,20 @@
+-- a taking and a return go on as what they are
+use Rattle.std.proofs.Common.{subst}
+use Rattle.std.specs.Prelude.{Some}
+use Rattle.gate_world.specs.declared.work.Phase.TheVariants.{Writes}
+use Rattle.write_access.specs.declared.phases.WritePhase.{WritePhase}
+use Rattle.call_events.specs.Ties.{Ties}
+use Rattle.call_events.specs.Turns.{kept_at}
+use Rattle.call_events.proofs.lines.WritePhaseInLine.go_in_line.Goals as goal
+
+pub returns-in-Takes-clause-tied : goal.returns-in-Takes-clause-tied
+returns-in-Takes-clause-tied c number flags ties =
+    c.take_in_line.ensures.tied number flags
+    (subst (λ (p : WritePhase). Ties number c.args.gates.now.config c.args.begins (kept_at (Some (Writes p)) c.args.accesses.now) flags
+    c.args.seat.now.me.0) c.in-Takes.is ties)
+
+pub returns-in-Drops-clause-tied : goal.returns-in-Drops-clause-tied
+returns-in-Drops-clause-tied c number flags ties =
+    c.give_in_line.ensures.tied number flags
+    (subst (λ (p : WritePhase). Ties number c.args.gates.now.config c.args.begins (kept_at (Some (Writes p)) c.args.accesses.now) flags
+    c.args.seat.now.me.0) c.in-Drops.is ties)

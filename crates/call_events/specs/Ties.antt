@@ -1,0 +1,56 @@
+-- The fields of a task are what its seat at the table knows.
+use Rattle.std.specs.Prelude.{◌≡◌, ℕ, ◌<◌, ◌≤◌, Bool, true, false, Option, Some, None, List, [], ◌∷◌, length, slice_index_or}
+use Rattle.gate_world.specs.declared.config.Config.{Config}
+use Rattle.gate_world.specs.declared.operations.Op.{Op}
+use Rattle.gate_world.specs.declared.work.Phase.{Phase}
+use Rattle.gate_world.specs.declared.views.View.{View}
+use Rattle.gate_world.specs.Configs.{IsWithin}
+use Rattle.gate_world.specs.Views.{held_at, holds_level}
+use Rattle.gate_world.specs.Fits.{Fits}
+use Rattle.gate_core.specs.declared.seats.Seat.{Seat}
+use Rattle.gate_core.specs.Seats.{mounts_in, levels_in}
+use Rattle.gate_steps.specs.declared.seating.Numbered.{Numbered}
+use Rattle.gate_steps.specs.Seating.{SeatItems, MayStep, times}
+use Rattle.call_events.specs.TaskStates.{Empty}
+
+-- the view stands where the task does: no operation is under way in either, or the task may do the event of its phase
+abbrev pub PhaseOk : Config → Option Op → Option Phase → Numbered → Type 0
+PhaseOk c begins None x = (begins ≡ None) × (x.view.phase ≡ None)
+PhaseOk c begins (Some phase) x = MayStep c begins phase x
+
+-- a view that is idle and holds nothing
+abbrev pub IsStill : Config → View → Type 0
+IsStill c v = (v.phase ≡ None) × Empty c v
+
+-- all are
+abbrev pub AllRest : Config → SeatItems → Type 0
+AllRest c [] = Unit {0}
+AllRest c (x ∷ xs) = IsStill c x.view × AllRest c xs
+
+-- the flags mark just the numbers that stand here
+abbrev pub Marks : List Bool → SeatItems → Type 0
+Marks flags items = (n : ℕ) → (slice_index_or flags n false ≡ true → 1 ≤ times n items) ×
+    (1 ≤ times n items → slice_index_or flags n false ≡ true)
+
+-- what is kept of accesses is what the view's actions leave
+pub record Keeps (c : Config) (kept : Seat) (v : View) : Type 0 where
+  pub long : length kept.accesses.mounts ≡ 8
+  pub wide : length kept.accesses.levels ≡ 4
+  pub mounts : (m : ℕ) → m < c.mounts → mounts_in kept m ≡ held_at v m
+  pub levels : (i : ℕ) → 1 ≤ i → i ≤ 3 → levels_in kept i ≡ holds_level v i
+
+pub record OwnTies (number : ℕ) (c : Config) (begins : Option Op) (kept : Seat) (flags : List Bool) (x : Numbered) (xs : SeatItems) : Type 0
+  where
+    pub within : IsWithin c
+    pub same_number : x.number ≡ number
+    pub below : number < 64
+    pub may : PhaseOk c begins kept.phase x
+    pub fits : Fits c x.number (held_at x.view) (holds_level x.view) kept.phase
+    pub keeps : Keeps c kept x.view
+    pub rest : AllRest c xs
+    pub marks : Marks flags xs
+
+-- the fields are tied to the numbers of the seat, its own first
+abbrev pub Ties : ℕ → Config → Option Op → Seat → List Bool → SeatItems → Type 0
+Ties number c begins kept flags [] = ⊥
+Ties number c begins kept flags (x ∷ xs) = OwnTies number c begins kept flags x xs

@@ -1,0 +1,226 @@
+//! Operations done to their end, event after event, each in the form of its own kind, with nothing written down in between.
+
+ghost use Rattle.std.specs.Prelude.{◌≡◌, Some, None};
+ghost use Rattle.access_model.specs.Replies.{map_next};
+ghost use Rattle.gate_world.specs.Views.{phase_after};
+ghost use Rattle.gate_world.specs.declared.operations.Op.{Op as OpType};
+ghost use Rattle.call_events.specs.TaskStates.{TaskState, task_state};
+ghost use Rattle.call_events.specs.Turns.{IsTied, StayTied};
+ghost use Rattle.call_events.specs.Runs.{Called, Goes, IsTrying, Went};
+
+use crate::lines::go_on_if;
+use crate::turns::{Turn, do_event, go_on};
+use crate::words::{GateWords, Seat};
+use access_model::{GateError, Next, Reply};
+use crossbeam_utils::Backoff;
+use freeze_levels::{Freeze, FreezeStep, FsHooks, Thaw};
+use gate_world::{Accesses, Op, UnderWay};
+use mount_counts::{Remount, RemountStep};
+use percpu_rwsem::{Callback, CallbackStep, DownWriteStep};
+use std::sync::Wait;
+
+/// Loads in the longest row: one for each task, or for each processor.
+const LONGEST_ROW: u8 = 64;
+
+/// A row of loads of one kind, which follow each other.
+#[derive(Clone, Copy, PartialEq, Eq, Debug)]
+pub enum Row {
+    /// Loads of section words, one task's after the other.
+    Sections,
+    /// Loads of count words, one processor's after the other.
+    Counts,
+}
+
+/// An operation that may have to wait, in a form of its own.
+pub trait Waiting: UnderWay {
+    ghost use Rattle.std.specs.Prelude.{◌≡◌, IsTrue, None};
+    ghost use Rattle.gate_world.specs.Work.{hook_of};
+
+    /// Whether the next event is one of that row, none of which reads what a hook answers. There may be hundreds of them, so the compiler is
+    /// to know what they are.
+    fn is_in_row(&self, row: Row) -> bool
+        ensures { IsTrue result → hook_of (Self.as_phase self.now) ≡ None };
+}
+
+impl Waiting for Freeze {
+    #[inline(always)]
+    fn is_in_row(&self, row: Row) -> bool {
+        match row {
+            Row::Sections => matches!(
+                self.step,
+                FreezeStep::Closes(write) if matches!(write.step, DownWriteStep::AwaitsSections(_))
+            ),
+            Row::Counts => matches!(
+                self.step,
+                FreezeStep::Closes(write) if matches!(write.step, DownWriteStep::Sums(_))
+            ),
+        }
+    }
+}
+
+impl Waiting for Thaw {
+    #[inline(always)]
+    fn is_in_row(&self, row: Row) -> bool {
+        let _ = row;
+        false
+    }
+}
+
+impl Waiting for Remount {
+    #[inline(always)]
+    fn is_in_row(&self, row: Row) -> bool {
+        row == Row::Counts && matches!(self.step, RemountStep::Sums { .. })
+    }
+}
+
+impl Waiting for Callback {
+    #[inline(always)]
+    fn is_in_row(&self, row: Row) -> bool {
+        row == Row::Sections && matches!(self.step, CallbackStep::AwaitsSections(_))
+    }
+}
+
+/// The next event of an operation: what comes after it. Where it reads what a hook answers, the hook is asked; a remount asks for read-only
+/// or writable.
+#[inline(always)]
+fn go_on_asking<P: Waiting, H: FsHooks>(
+    gates: &GateWords,
+    seat: &mut Seat,
+    accesses: &mut Accesses,
+    begins: Option<Op>,
+    under_way: P,
+    hooks: &mut H,
+    read_only: bool,
+) -> Next<P>
+    requires table { seat.old.table_id ≡ gates.now.table.shared.table_id }
+    requires tied { IsTied gates.now.config begins (Some (P.as_phase under_way)) accesses.old seat.old.me.0 }
+    ensures table { seat.new.table_id ≡ seat.old.table_id }
+    ensures slots { seat.new.me.1 ≡ seat.old.me.1 }
+    ensures tied { StayTied gates.now.config begins (Some (P.as_phase under_way)) accesses.old seat.old.me.0
+        (phase_after (map_next P.as_phase result)) accesses.new seat.new.me.0 }
+    ensures still { IsTied gates.now.config None (phase_after (map_next P.as_phase result)) accesses.new seat.new.me.0 }
+    ensures went { (op : OpType) (start : TaskState) →
+        Goes op start (task_state seat.old.table_id gates.now.config begins (Some (P.as_phase under_way)) seat.old.me.0) →
+        Went op start (map_next P.as_phase result)
+        (task_state seat.new.table_id gates.now.config None (phase_after (map_next P.as_phase result)) seat.new.me.0) }
+{
+    let hook = match under_way.phase().wants_hook() {
+        Some(kind) => kind.ask(hooks, read_only),
+        None => Ok(()),
+    };
+    go_on(gates, seat, accesses, begins, under_way, hook)
+}
+
+/// The loads of a row that come next, one after the other, and nothing where none does. What comes after the last of them. It is told the
+/// kind of the row, so that the compiler makes a loop of its own of each.
+#[inline(always)]
+fn go_along_row<P: Waiting>(
+    gates: &GateWords,
+    seat: &mut Seat,
+    accesses: &mut Accesses,
+    mut next: Next<P>,
+    row: Row,
+) -> Next<P>
+    requires table { seat.old.table_id ≡ gates.now.table.shared.table_id }
+    requires tied { IsTied gates.now.config None (phase_after (map_next P.as_phase next)) accesses.old seat.old.me.0 }
+    ensures table { seat.new.table_id ≡ seat.old.table_id }
+    ensures slots { seat.new.me.1 ≡ seat.old.me.1 }
+    ensures tied { StayTied gates.now.config None (phase_after (map_next P.as_phase next)) accesses.old seat.old.me.0
+        (phase_after (map_next P.as_phase result)) accesses.new seat.new.me.0 }
+    ensures still { IsTied gates.now.config None (phase_after (map_next P.as_phase result)) accesses.new seat.new.me.0 }
+    ensures went { (op : OpType) (start : TaskState) →
+        Went op start (map_next P.as_phase next)
+        (task_state seat.old.table_id gates.now.config None (phase_after (map_next P.as_phase next)) seat.old.me.0) →
+        Went op start (map_next P.as_phase result)
+        (task_state seat.new.table_id gates.now.config None (phase_after (map_next P.as_phase result)) seat.new.me.0) }
+{
+    for _load in 0..LONGEST_ROW {
+        let goes_on = matches!(next, Next::Go(under_way) if under_way.is_in_row(row));
+        if !goes_on {
+            return next;
+        }
+        next = go_on_if(gates, seat, accesses, next, goes_on);
+    }
+    next
+}
+
+/// Does the events of an operation that has a most number of them and asks no hook, from its first to its reply.
+#[inline(never)]
+pub fn go_to_end<P: UnderWay>(
+    gates: &GateWords,
+    seat: &mut Seat,
+    accesses: &mut Accesses,
+    op: Op,
+    first: P,
+) -> Result<Reply, GateError>
+    requires table { seat.old.table_id ≡ gates.now.table.shared.table_id }
+    requires tied { IsTied gates.now.config (Some op) (Some (P.as_phase first)) accesses.old seat.old.me.0 }
+    requires trying { IsTrying (task_state seat.old.table_id gates.now.config (Some op) (Some (P.as_phase first)) seat.old.me.0) }
+    ensures table { seat.new.table_id ≡ seat.old.table_id }
+    ensures slots { seat.new.me.1 ≡ seat.old.me.1 }
+    ensures tied { StayTied gates.now.config (Some op) (Some (P.as_phase first)) accesses.old seat.old.me.0
+        None accesses.new seat.new.me.0 }
+    ensures called { (of : OpType) (start : TaskState) →
+        Goes of start (task_state seat.old.table_id gates.now.config (Some op) (Some (P.as_phase first)) seat.old.me.0) →
+        Called of start (task_state seat.new.table_id gates.now.config None None seat.new.me.0) result }
+{
+    let mut begins = Some(op);
+    let mut under_way = first;
+    loop {
+        let Turn {
+            event: _,
+            action: _,
+            next,
+        } = do_event(gates, seat, accesses, begins, under_way, Ok(()));
+        begins = None;
+        under_way = match next {
+            Next::Done(answer) => return answer,
+            Next::Go(further) | Next::Wait(further) => further,
+        };
+    }
+}
+
+/// Does the events of an operation from its first to its reply, however long it has to wait. A hook of the file system is asked once,
+/// before the event that reads its answer. Where an event found what the operation waits for, it waits a little, and the longer the more
+/// often one did: soon the processor is left to others each time, since who is waited for may need it. A wait may take several events
+/// before it looks again, so none of these makes the pauses short again.
+#[inline(never)]
+pub fn wait_to_end<R: Wait, H: FsHooks, P: Waiting>(
+    rt: &R,
+    gates: &GateWords,
+    seat: &mut Seat,
+    accesses: &mut Accesses,
+    op: Op,
+    first: P,
+    hooks: &mut H,
+    read_only: bool,
+) -> Result<Reply, GateError>
+    requires table { seat.old.table_id ≡ gates.now.table.shared.table_id }
+    requires tied { IsTied gates.now.config (Some op) (Some (P.as_phase first)) accesses.old seat.old.me.0 }
+    ensures table { seat.new.table_id ≡ seat.old.table_id }
+    ensures slots { seat.new.me.1 ≡ seat.old.me.1 }
+    ensures tied { StayTied gates.now.config (Some op) (Some (P.as_phase first)) accesses.old seat.old.me.0
+        None accesses.new seat.new.me.0 }
+    ensures called { (of : OpType) (start : TaskState) →
+        Goes of start (task_state seat.old.table_id gates.now.config (Some op) (Some (P.as_phase first)) seat.old.me.0) →
+        Called of start (task_state seat.new.table_id gates.now.config None None seat.new.me.0) result }
+{
+    let backoff = Backoff::new();
+    let mut begins = Some(op);
+    let mut under_way = first;
+    for _ in rt.forever() {
+        let next = go_on_asking(gates, seat, accesses, begins, under_way, hooks, read_only);
+        let next = go_along_row(gates, seat, accesses, next, Row::Sections);
+        let next = go_along_row(gates, seat, accesses, next, Row::Counts);
+        begins = None;
+        under_way = match next {
+            Next::Done(answer) => return answer,
+            Next::Go(further) => further,
+            Next::Wait(further) => {
+                backoff.snooze();
+                further
+            }
+        };
+    }
+    unreachable!()
+}

@@ -1,0 +1,13 @@
+//! What a call does, event by event, on the table of atomic words and apart from the task that calls: one event, the usual events of an
+//! operation in a line, and the events up to its reply. What is said of a task's calls, and of one event of it, is defined here.
+#![tactic(auto)]
+
+mod ends;
+mod lines;
+mod turns;
+mod words;
+
+pub use ends::{Row, Waiting, go_to_end, wait_to_end};
+pub use lines::InLine;
+pub use turns::{Turn, do_event};
+pub use words::{GateWords, Seat};

@@ -1,0 +1,147 @@
+//! The events of a change of a mount, in a line: its beginning, the sum of the mount's counts, its end.
+
+ghost use Rattle.std.specs.Prelude.{◌≡◌, Some, None};
+ghost use Rattle.gate_world.specs.Views.{phase_after};
+ghost use Rattle.gate_world.specs.declared.operations.Op.{Op as OpType};
+ghost use Rattle.gate_world.specs.declared.work.Phase.TheVariants.{Mounts};
+ghost use Rattle.mount_counts.specs.declared.phases.MountPhase.TheVariants.{Change as Changes};
+ghost use Rattle.call_events.specs.TaskStates.{TaskState, task_state};
+ghost use Rattle.call_events.specs.Turns.{IsTied, StayTied, of_change};
+ghost use Rattle.call_events.specs.Runs.{Goes, Went};
+
+use super::{InLine, go_on_if};
+use crate::turns::go_on;
+use crate::words::{GateWords, Seat};
+use access_model::Next;
+use gate_world::{Accesses, Op};
+use mount_counts::{Change, ChangeStep};
+
+/// Whether a change goes on with this step.
+#[inline(always)]
+fn changes_by(next: Next<Change>, step: ChangeStep) -> bool {
+    matches!(next, Next::Go(change) if change.step == step)
+}
+
+/// Whether a change goes on with a word of its sum.
+#[inline(always)]
+fn adds_a_count(next: Next<Change>) -> bool {
+    matches!(next, Next::Go(change) if matches!(change.step, ChangeStep::Sums(_)))
+}
+
+/// Whether a change goes on with letting writers in again.
+#[inline(always)]
+fn clears_hold(next: Next<Change>) -> bool {
+    matches!(next, Next::Go(change) if matches!(change.step, ChangeStep::ClearsHold(_)))
+}
+
+/// Whether a change goes on with giving `umount` back.
+#[inline(always)]
+fn releases(next: Next<Change>) -> bool {
+    matches!(next, Next::Go(change) if matches!(change.step, ChangeStep::Releases(_)))
+}
+
+/// The events up to the one that holds writers off, or up to what stands in its way. What comes after the last of them.
+#[inline]
+fn begin_change(
+    gates: &GateWords,
+    seat: &mut Seat,
+    accesses: &mut Accesses,
+    begins: Option<Op>,
+    change: Change,
+) -> Next<Change>
+    requires table { seat.old.table_id ≡ gates.now.table.shared.table_id }
+    requires tied { IsTied gates.now.config begins (Some (Mounts (Changes change))) accesses.old seat.old.me.0 }
+    ensures table { seat.new.table_id ≡ seat.old.table_id }
+    ensures slots { seat.new.me.1 ≡ seat.old.me.1 }
+    ensures tied { StayTied gates.now.config begins (Some (Mounts (Changes change))) accesses.old seat.old.me.0
+        (phase_after (of_change result)) accesses.new seat.new.me.0 }
+    ensures still { IsTied gates.now.config None (phase_after (of_change result)) accesses.new seat.new.me.0 }
+    ensures went { (op : OpType) (start : TaskState) →
+        Goes op start (task_state seat.old.table_id gates.now.config begins (Some (Mounts (Changes change))) seat.old.me.0) →
+        Went op start (of_change result)
+        (task_state seat.new.table_id gates.now.config None (phase_after (of_change result)) seat.new.me.0) }
+{
+    let next = go_on(gates, seat, accesses, begins, change, Ok(()));
+    let goes_on = changes_by(next, ChangeStep::LoadsFlags);
+    let next = go_on_if(gates, seat, accesses, next, goes_on);
+    let goes_on = changes_by(next, ChangeStep::LoadsSuperblock);
+    let next = go_on_if(gates, seat, accesses, next, goes_on);
+    let goes_on = changes_by(next, ChangeStep::SetsHold);
+    go_on_if(gates, seat, accesses, next, goes_on)
+}
+
+/// The loads of the mount's counts, one word of so many after the other. What comes after the last of them.
+#[inline]
+fn add_counts(
+    gates: &GateWords,
+    seat: &mut Seat,
+    accesses: &mut Accesses,
+    mut next: Next<Change>,
+    processors: u8,
+) -> Next<Change>
+    requires table { seat.old.table_id ≡ gates.now.table.shared.table_id }
+    requires tied { IsTied gates.now.config None (phase_after (of_change next)) accesses.old seat.old.me.0 }
+    ensures table { seat.new.table_id ≡ seat.old.table_id }
+    ensures slots { seat.new.me.1 ≡ seat.old.me.1 }
+    ensures tied { StayTied gates.now.config None (phase_after (of_change next)) accesses.old seat.old.me.0
+        (phase_after (of_change result)) accesses.new seat.new.me.0 }
+    ensures still { IsTied gates.now.config None (phase_after (of_change result)) accesses.new seat.new.me.0 }
+    ensures went { (op : OpType) (start : TaskState) →
+        Went op start (of_change next)
+        (task_state seat.old.table_id gates.now.config None (phase_after (of_change next)) seat.old.me.0) →
+        Went op start (of_change result)
+        (task_state seat.new.table_id gates.now.config None (phase_after (of_change result)) seat.new.me.0) }
+{
+    for _cpu in 0..processors {
+        let goes_on = adds_a_count(next);
+        next = go_on_if(gates, seat, accesses, next, goes_on);
+    }
+    next
+}
+
+/// The events after the sum: the mount is shut, where it was 0, and writers are let in again; or the mount is opened. Then `umount` is
+/// given back. What comes after the last of them.
+#[inline]
+fn end_change(
+    gates: &GateWords,
+    seat: &mut Seat,
+    accesses: &mut Accesses,
+    next: Next<Change>,
+) -> Next<Change>
+    requires table { seat.old.table_id ≡ gates.now.table.shared.table_id }
+    requires tied { IsTied gates.now.config None (phase_after (of_change next)) accesses.old seat.old.me.0 }
+    ensures table { seat.new.table_id ≡ seat.old.table_id }
+    ensures slots { seat.new.me.1 ≡ seat.old.me.1 }
+    ensures tied { StayTied gates.now.config None (phase_after (of_change next)) accesses.old seat.old.me.0
+        (phase_after (of_change result)) accesses.new seat.new.me.0 }
+    ensures went { (op : OpType) (start : TaskState) →
+        Went op start (of_change next)
+        (task_state seat.old.table_id gates.now.config None (phase_after (of_change next)) seat.old.me.0) →
+        Went op start (of_change result)
+        (task_state seat.new.table_id gates.now.config None (phase_after (of_change result)) seat.new.me.0) }
+{
+    let goes_on = changes_by(next, ChangeStep::SetsReadOnly);
+    let next = go_on_if(gates, seat, accesses, next, goes_on);
+    let goes_on = clears_hold(next);
+    let next = go_on_if(gates, seat, accesses, next, goes_on);
+    let goes_on = changes_by(next, ChangeStep::ClearsReadOnly);
+    let next = go_on_if(gates, seat, accesses, next, goes_on);
+    let goes_on = releases(next);
+    go_on_if(gates, seat, accesses, next, goes_on)
+}
+
+impl InLine for Change {
+    #[inline(always)]
+    fn go_in_line(
+        self,
+        gates: &GateWords,
+        seat: &mut Seat,
+        accesses: &mut Accesses,
+        begins: Option<Op>,
+    ) -> Next<Change> {
+        let processors = self.processors;
+        let next = begin_change(gates, seat, accesses, begins, self);
+        let next = add_counts(gates, seat, accesses, next, processors);
+        end_change(gates, seat, accesses, next)
+    }
+}

@@ -1,0 +1,77 @@
+//! The events of a grow of a file, in a line.
+
+ghost use Rattle.std.specs.Prelude.{◌≡◌, Some, None};
+ghost use Rattle.gate_world.specs.Views.{phase_after};
+ghost use Rattle.gate_world.specs.declared.operations.Op.{Op as OpType};
+ghost use Rattle.gate_world.specs.declared.work.Phase.TheVariants.{Trees};
+ghost use Rattle.gated_tree.specs.declared.phases.TreePhase.TheVariants.{Grow as Grows};
+ghost use Rattle.call_events.specs.TaskStates.{TaskState, task_state};
+ghost use Rattle.call_events.specs.Turns.{IsTied, StayTied, of_grow};
+ghost use Rattle.call_events.specs.Runs.{Goes, Went};
+
+use super::{InLine, go_on_if};
+use crate::turns::go_on;
+use crate::words::{GateWords, Seat};
+use access_model::Next;
+use gate_world::{Accesses, Op};
+use gated_tree::{Grow, GrowStep};
+
+/// Whether a grow goes on with the blocks that are charged.
+#[inline(always)]
+fn loads_used(next: Next<Grow>) -> bool {
+    matches!(next, Next::Go(grow) if matches!(grow.step, GrowStep::LoadsUsed(_)))
+}
+
+/// Whether a grow goes on with charging its own.
+#[inline(always)]
+fn charges_blocks(next: Next<Grow>) -> bool {
+    matches!(next, Next::Go(grow) if matches!(grow.step, GrowStep::ChargesBlocks { .. }))
+}
+
+/// Whether a grow goes on with its file.
+#[inline(always)]
+fn grows_file(next: Next<Grow>) -> bool {
+    matches!(next, Next::Go(grow) if matches!(grow.step, GrowStep::GrowsFile(_)))
+}
+
+/// The four events of a grow that nobody is before. What comes after the last of them.
+#[inline]
+fn grow_in_line(
+    gates: &GateWords,
+    seat: &mut Seat,
+    accesses: &mut Accesses,
+    begins: Option<Op>,
+    grow: Grow,
+) -> Next<Grow>
+    requires table { seat.old.table_id ≡ gates.now.table.shared.table_id }
+    requires tied { IsTied gates.now.config begins (Some (Trees (Grows grow))) accesses.old seat.old.me.0 }
+    ensures table { seat.new.table_id ≡ seat.old.table_id }
+    ensures slots { seat.new.me.1 ≡ seat.old.me.1 }
+    ensures tied { StayTied gates.now.config begins (Some (Trees (Grows grow))) accesses.old seat.old.me.0
+        (phase_after (of_grow result)) accesses.new seat.new.me.0 }
+    ensures went { (op : OpType) (start : TaskState) →
+        Goes op start (task_state seat.old.table_id gates.now.config begins (Some (Trees (Grows grow))) seat.old.me.0) →
+        Went op start (of_grow result)
+        (task_state seat.new.table_id gates.now.config None (phase_after (of_grow result)) seat.new.me.0) }
+{
+    let next = go_on(gates, seat, accesses, begins, grow, Ok(()));
+    let goes_on = loads_used(next);
+    let next = go_on_if(gates, seat, accesses, next, goes_on);
+    let goes_on = charges_blocks(next);
+    let next = go_on_if(gates, seat, accesses, next, goes_on);
+    let goes_on = grows_file(next);
+    go_on_if(gates, seat, accesses, next, goes_on)
+}
+
+impl InLine for Grow {
+    #[inline(always)]
+    fn go_in_line(
+        self,
+        gates: &GateWords,
+        seat: &mut Seat,
+        accesses: &mut Accesses,
+        begins: Option<Op>,
+    ) -> Next<Grow> {
+        grow_in_line(gates, seat, accesses, begins, self)
+    }
+}

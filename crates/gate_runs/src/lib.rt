@@ -1,0 +1,7 @@
+//! Runs over the gates: writers, a remounter and a backup, each in a thread of its own, and what a run tells of its gates once they are
+//! closed. It needs public calls alone, and stands in a crate of its own so that what needs no runs does not wait for their proof.
+#![tactic(auto)]
+
+mod runs;
+
+pub use runs::{Meeting, Totals, run_with};

@@ -1,0 +1,163 @@
+//! A run: writers, a remounter and a backup, each in a thread of its own.
+
+ghost use Rattle.std.specs.Prelude.{◌≡◌, ◌≤◌, ◌-◌, ◌*◌, ◌↔◌, IfErr, IfOk, IsTrue, OnOk};
+ghost use Rattle.access_model.specs.declared.errors.GateError.TheVariants.{Invalid};
+ghost use Rattle.vfs_gates.specs.TaskStates.{IsFrom};
+ghost use Rattle.gate_runs.specs.Plans.{MayRun, TellsRun, run_config};
+
+mod threads;
+mod workers;
+
+use access_model::{Gate, GateError};
+use cpu_words::WordName;
+use gate_world::Config;
+use std::alloc::Global;
+use std::sync::Wait;
+use std::thread::Threads;
+use threads::in_threads;
+use vfs_gates::{Closed, Gates};
+use workers::{FIRST_WRITER, MOUNT, create_files};
+
+/// What is done at a run beside its calls, for tests that look on and programs that tell how far it is. A call of it has the gates as
+/// they stand at that moment.
+pub trait Meeting {
+    /// Called by each writer in each round (the number of its task, 2 to 63, and the round, from 0), while it holds write access.
+    fn holding(&self, task: u8, round: u32);
+
+    /// Called by the backup at each freeze (from 0), while all is frozen. Does nothing unless it is written.
+    fn frozen(&self, _freeze: u32) {}
+}
+
+/// A meeting at which nothing is done.
+impl Meeting for () {
+    fn holding(&self, _task: u8, _round: u32) {}
+}
+
+/// What a run has done.
+#[derive(Clone, Copy, PartialEq, Eq, Debug)]
+pub struct Totals {
+    /// The blocks that all files have in the end.
+    pub grown: u64,
+    /// How often the file system was frozen and thawed.
+    pub frozen: u64,
+    /// How many snapshots were sound and clean.
+    pub snapshots: u64,
+    /// How often the mount was made read-only, or was busy, and then writable.
+    pub remounts: u64,
+    /// The wrapping sum of all count words in the end: the accesses that were never given back.
+    pub held: u64,
+}
+
+/// What a run is asked for, within its limits.
+#[derive(Clone, Copy)]
+pub(crate) struct Plan {
+    tasks: u8,
+    processors: u8,
+    rounds: u32,
+    freezes: u32,
+    ghost within: { MayRun tasks processors rounds freezes },
+}
+
+impl Plan {
+    /// Invalid where a number is out of its limits.
+    fn new(tasks: u8, processors: u8, rounds: u32, freezes: u32) -> Result<Plan, GateError>
+        ensures asked { IfOk result
+            (λ p. (p.tasks ≡ tasks) × (p.processors ≡ processors) × (p.rounds ≡ rounds) × (p.freezes ≡ freezes)) }
+        ensures within { OnOk result (MayRun tasks processors rounds freezes) }
+        ensures refused { IfErr result (λ e. (e ≡ Invalid) × ¬ MayRun tasks processors rounds freezes) }
+    {
+        if (3..=64).contains(&tasks)
+            && (1..=64).contains(&processors)
+            && (1..=10_000).contains(&rounds)
+            && freezes <= 1_000
+        {
+            Ok(Plan {
+                tasks,
+                processors,
+                rounds,
+                freezes,
+            })
+        } else {
+            Err(GateError::Invalid)
+        }
+    }
+
+    /// How many of its tasks write.
+    fn writers(self) -> u8
+        ensures { result ≡ self.tasks - 2 }
+    {
+        self.tasks - FIRST_WRITER
+    }
+
+    /// One mount, a file for each writer beside the root, and room for a block of each writer in each round.
+    fn config(self) -> Config
+        ensures { result ≡ run_config self.tasks self.processors self.rounds }
+    {
+        Config {
+            tasks: self.tasks,
+            processors: self.processors,
+            mounts: 1,
+            nodes: self.tasks - 1,
+            capacity: u32::from(self.writers()) * self.rounds,
+        }
+    }
+
+    /// The processor on which a writer, the first being 0, begins a round. It goes on to the next in each.
+    fn processor(self, writer: u8, round: u32) -> u8
+        requires { round ≤ 10000 }
+    {
+        ((u32::from(writer) + round) % u32::from(self.processors)) as u8
+    }
+}
+
+/// The wrapping sum of all count words: what is held.
+fn held_in(closed: &Closed) -> u64
+    ensures { result ≡ 0 }
+{
+    let mut held = 0u64;
+    for gate in [
+        Gate::Mount(MOUNT),
+        Gate::Level(1),
+        Gate::Level(2),
+        Gate::Level(3),
+    ] {
+        held = held.wrapping_add(closed.gate_sum(gate).unwrap_or(0));
+    }
+    held
+}
+
+/// Runs so many tasks (3 to 64), each in a thread of its own, at one mount with so many processors (1 to 64), and closes the gates.
+/// The first one freezes the file system so often (at most 1,000), takes a snapshot, thaws, and calls back what the three levels have
+/// queued. The second, for so many rounds (1 to 10,000), makes the mount read-only, unless it is busy, and then writable. Each other one
+/// has a file, and in each round takes write access, again while the mount is read-only, makes its file larger by one block, again
+/// while others were before it, meets, and gives the access back on another processor.
+///
+/// Invalid where a number is out of its limits. NoMemory where a growth was refused or a thread couldn't be started: those that were
+/// started have ended then. Any other refusal is the first one that a task met which the run doesn't expect, and ends it too.
+pub fn run_with<R: Threads + Wait + Sync, M: Meeting + Sync>(
+    rt: &R,
+    alloc: Global,
+    tasks: u8,
+    processors: u8,
+    rounds: u32,
+    freezes: u32,
+    meeting: &M,
+) -> Result<(Totals, Closed), GateError>
+    ensures within { OnOk result (MayRun tasks processors rounds freezes) }
+    ensures invalid { ¬ MayRun tasks processors rounds freezes → result ≡ Err Invalid }
+    ensures tells { IfOk result (λ r. TellsRun tasks processors rounds freezes r.0 r.1) }
+{
+    let plan = Plan::new(tasks, processors, rounds, freezes)?;
+    let (gates, mut task) = Gates::new(alloc, plan.config())?;
+    create_files(rt, &gates, plan, &mut task)?;
+    let (task, copies, remounts) = in_threads(rt, alloc, &gates, plan, meeting, task)?;
+    let closed = gates.close(task).map_err(|(refusal, _, _)| refusal)?;
+    let totals = Totals {
+        grown: closed.word(WordName::Used).unwrap_or(0),
+        frozen: u64::from(copies.frozen),
+        snapshots: u64::from(copies.snapshots),
+        remounts: u64::from(remounts),
+        held: held_in(&closed),
+    };
+    Ok((totals, closed))
+}

@@ -1,6 +1,0 @@
--- No gate so far has anything left.
-use Rattle.std.proofs.Common.{◌≡◌}
-use Rattle.vfs_gates.proofs.runs.held_in.Given as goal
-
-abbrev pub invariant-loop-gate : goal.invariant-loop-gate
-invariant-loop-gate l = l.held ≡ 0
