@@ -1,3 +1,11 @@
+pub use Rattle.gate_core.proofs.Beginnings
+pub use Rattle.gate_core.proofs.Rests
+pub use Rattle.gate_core.proofs.Schedule
+pub use Rattle.gate_core.proofs.Snapshots
+pub use Rattle.gate_frames.proofs.Keeps
+pub use Rattle.gate_steps.proofs.Dealing
+pub use Rattle.gate_steps.proofs.Giving
+pub use Rattle.gate_steps.proofs.Opening
 pub mod Going
 pub mod Turning
 pub mod Running

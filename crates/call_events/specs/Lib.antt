@@ -1,3 +1,12 @@
+pub use Rattle.gate_core.specs.Answers
+pub use Rattle.gate_core.specs.Seats
+pub use Rattle.gate_core.specs.declared.seats.Seat
+pub use Rattle.gate_core.specs.declared.steps.Step
+pub use Rattle.gate_steps.specs.Histories
+pub use Rattle.gate_steps.specs.Rules
+pub use Rattle.gate_steps.specs.Seating
+pub use Rattle.gate_steps.specs.Tables
+pub use Rattle.gate_steps.specs.declared.seating.Numbered
 pub mod TaskStates
 pub mod Ties
 pub mod Stepped

@@ -8,11 +8,11 @@ use Rattle.gate_world.specs.declared.work.Phase.{Phase}
 use Rattle.gate_world.specs.Beginnings.{first_phase, refusal, or_refusal, beginning}
 use Rattle.gate_world.specs.Configs.{IsWithin}
 use Rattle.gate_world.specs.Views.{held_at, holds_level}
-use Rattle.gate_core.specs.declared.seats.Seat.{Seat}
-use Rattle.gate_core.specs.Answers.{unless_refused}
-use Rattle.gate_core.specs.Seats.{mounts_in, levels_in}
-use Rattle.gate_core.proofs.Beginnings.{refusal_agree, ok_means, err_means}
-use Rattle.gate_steps.specs.Seating.{SeatItems}
+use Rattle.call_events.specs.Seat.{Seat}
+use Rattle.call_events.specs.Answers.{unless_refused}
+use Rattle.call_events.specs.Seats.{mounts_in, levels_in}
+use Rattle.call_events.proofs.Beginnings.{refusal_agree, ok_means, err_means}
+use Rattle.call_events.specs.Seating.{SeatItems}
 use Rattle.vfs_gates.specs.TaskStates.{TaskState, task_state, own_number, own_view, refusal_at, beginning_at}
 use Rattle.vfs_gates.specs.declared.task.Task.TheInside.{Inside}
 use Rattle.call_events.specs.Ties.{Ties}

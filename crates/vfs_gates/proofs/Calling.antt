@@ -11,12 +11,12 @@ use Rattle.gate_world.specs.declared.work.Phase.{Phase}
 use Rattle.gate_world.specs.Views.{held_at, holds_level, phase_after}
 use Rattle.gate_world.specs.Beginnings.{first_phase, refusal}
 use Rattle.gate_world.specs.Fits.{Fits}
-use Rattle.gate_core.specs.declared.seats.Seat.{Seat}
+use Rattle.call_events.specs.Seat.{Seat}
 use Rattle.gate_world.specs.declared.accesses.Accesses.{Accesses}
-use Rattle.gate_core.specs.Answers.{unless_refused}
-use Rattle.gate_core.proofs.Beginnings.{MayBegin, may_begin, first_fits}
-use Rattle.gate_steps.specs.declared.seating.Numbered.{Numbered}
-use Rattle.gate_steps.specs.Seating.{SeatItems}
+use Rattle.call_events.specs.Answers.{unless_refused}
+use Rattle.call_events.proofs.Beginnings.{MayBegin, may_begin, first_fits}
+use Rattle.call_events.specs.Numbered.{Numbered}
+use Rattle.call_events.specs.Seating.{SeatItems}
 use Rattle.atomic_table.specs.Seated.{TableId}
 use Rattle.vfs_gates.specs.TaskStates.{TaskState, task_state, own_number, own_view, refusal_at, beginning_at}
 use Rattle.call_events.specs.Ties.{PhaseOk, OwnTies, Ties}

@@ -9,9 +9,9 @@ use Rattle.mount_counts.specs.Roles.{hold_bit}
 use Rattle.gate_world.specs.declared.config.Config.{Config}
 use Rattle.gated_tree.specs.Nodes.{node_shown}
 use Rattle.gate_world.specs.Shown.{shown}
-use Rattle.gate_core.proofs.Snapshots.{sound_as}
-use Rattle.gate_core.proofs.Schedule.{idle_sums}
-use Rattle.gate_core.proofs.Rests.{at_rest, no_hold as hold_is_clear}
+use Rattle.call_events.proofs.Snapshots.{sound_as}
+use Rattle.call_events.proofs.Schedule.{idle_sums}
+use Rattle.call_events.proofs.Rests.{at_rest, no_hold as hold_is_clear}
 use Rattle.vfs_gates.specs.Ended.{Ended, LeavesSoundTree}
 
 module _ (c : Config) (ws : List ℕ) (e : Ended c ws) where

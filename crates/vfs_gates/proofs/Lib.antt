@@ -1,5 +1,5 @@
-pub use Rattle.gate_steps.proofs.Giving
-pub use Rattle.gate_steps.proofs.Opening
+pub use Rattle.call_events.proofs.Giving
+pub use Rattle.call_events.proofs.Opening
 pub mod FlagSteps
 pub mod Parting
 pub mod Closing

@@ -11,13 +11,13 @@ use Rattle.gate_world.specs.declared.operations.Op.{Op}
 use Rattle.gate_world.specs.declared.views.View.{View}
 use Rattle.gate_world.specs.Configs.{IsWithin}
 use Rattle.gate_world.specs.Views.{opening_view}
-use Rattle.gate_core.specs.declared.seats.Seat.{Seat}
-use Rattle.gate_core.specs.Seats.{idle_seat}
-use Rattle.gate_steps.specs.declared.seating.Numbered.{Numbered}
-use Rattle.gate_steps.specs.Seating.{SeatItems, numbered, one_if, times, without, view_in, renewed, kept_of, given_of, deal}
-use Rattle.gate_steps.proofs.Dealing.{one_if-same, one_if-other, times-append}
-use Rattle.gate_steps.proofs.Giving.{view_in-at, times-without, times-without_other}
-use Rattle.gate_steps.proofs.Opening.{times-deal_below, times-deal_above, times-deal}
+use Rattle.call_events.specs.Seat.{Seat}
+use Rattle.call_events.specs.Seats.{idle_seat}
+use Rattle.call_events.specs.Numbered.{Numbered}
+use Rattle.call_events.specs.Seating.{SeatItems, numbered, one_if, times, without, view_in, renewed, kept_of, given_of, deal}
+use Rattle.call_events.proofs.Dealing.{one_if-same, one_if-other, times-append}
+use Rattle.call_events.proofs.Giving.{view_in-at, times-without, times-without_other}
+use Rattle.call_events.proofs.Opening.{times-deal_below, times-deal_above, times-deal}
 use Rattle.vfs_gates.specs.TaskStates.{Empty, IsNothing, own_view}
 use Rattle.call_events.specs.Ties.{PhaseOk, IsStill, AllRest, Keeps, OwnTies, Ties}
 use Rattle.vfs_gates.proofs.FlagSteps.{IsSet, false_true}

@@ -20,10 +20,10 @@ use Rattle.gate_world.specs.Beginnings.{first_phase}
 use Rattle.gate_world.specs.Snapshots.{completes, last_snapshot}
 use Rattle.gate_world.specs.Views.{phase_after}
 use Rattle.gate_world.specs.Work.{after_of, next_of}
-use Rattle.gate_steps.specs.Seating.{SeatItems, deal, done_by, given_of, items_after, kept_of}
-use Rattle.gate_steps.specs.Rules.{first_items}
-use Rattle.gate_core.specs.declared.seats.Seat.{Seat}
-use Rattle.gate_core.specs.declared.steps.Step.{Step}
+use Rattle.call_events.specs.Seating.{SeatItems, deal, done_by, given_of, items_after, kept_of}
+use Rattle.call_events.specs.Rules.{first_items}
+use Rattle.call_events.specs.Seat.{Seat}
+use Rattle.call_events.specs.Step.{Step}
 use Rattle.atomic_table.specs.Seated.{TableId}
 use Rattle.access_model.specs.declared.actions.Action.{Action}
 use Rattle.access_model.specs.declared.errors.GateError.{GateError}

@@ -1,5 +1,5 @@
-pub use Rattle.gate_steps.specs.Rules
-pub use Rattle.gate_steps.specs.Seating
+pub use Rattle.call_events.specs.Rules
+pub use Rattle.call_events.specs.Seating
 pub mod Room
 pub mod TaskStates
 pub use Rattle.call_events.specs.Ties

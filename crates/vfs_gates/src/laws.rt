@@ -8,7 +8,7 @@ ghost use Rattle.gate_world.specs.declared.views.Snapshot.{Snapshot};
 ghost use Rattle.gate_world.specs.declared.views.Traced.{Traced};
 ghost use Rattle.gated_tree.specs.declared.trees.TreeWords.{TreeWords};
 ghost use Rattle.gate_world.specs.Courses.{course_of};
-ghost use Rattle.gate_steps.specs.Seating.{done_by};
+ghost use Rattle.call_events.specs.Seating.{done_by};
 ghost use Rattle.vfs_gates.specs.TaskStates.{TaskState, own_number, own_view, spare_of};
 ghost use Rattle.call_events.specs.Runs.{completed_by, Called};
 ghost use Rattle.gate_world.specs.declared.config.Config.{Config};

@@ -8,8 +8,7 @@ use crate::numbers::{add_all, lowest, none};
 use crate::rooms::Rooms;
 use crate::task::Task;
 use access_model::GateError;
-use gate_core::seats::Seat as Kept;
-use gate_steps::{give, take_back};
+use call_events::{Kept, give, take_back};
 use std::alloc::Global;
 
 impl Task {

@@ -4,16 +4,14 @@ ghost use Rattle.std.specs.Prelude.{◌≡◌, ◌≤◌, ◌<◌, ◌↔◌, Is
 ghost use Rattle.gate_world.specs.Configs.{IsWithin};
 ghost use Rattle.gate_world.specs.declared.work.Phase.{Phase as PhaseType};
 ghost use Rattle.vfs_gates.specs.TaskStates.{IsNothing};
-ghost use Rattle.gate_steps.specs.Rules.{first_items};
+ghost use Rattle.call_events.specs.Rules.{first_items};
 
 use crate::gates::Gates;
 use crate::numbers::{Numbers, are_all, others_of};
 use crate::rooms::Rooms;
 use access_model::GateError;
-use call_events::{Seat, Turn, do_event};
+use call_events::{Kept, Progress, Seat, Step, Turn, do_event};
 use freeze_levels::HookKind;
-use gate_core::seats::Seat as Kept;
-use gate_core::{Progress, Step};
 use gate_world::{Accesses, Config, Op};
 use gated_tree::Tree;
 use std::marker::Model;
@@ -65,7 +63,7 @@ impl Model for Task {
 
 impl Task {
     ghost use Rattle.vfs_gates.specs.Room.{HasSnapshotRoom};
-    ghost use Rattle.gate_core.specs.Answers.{idle_step, unless_refused, asked_by};
+    ghost use Rattle.call_events.specs.Answers.{idle_step, unless_refused, asked_by};
     ghost use Rattle.gate_world.specs.Beginnings.{first_phase as the_first_phase};
     ghost use Rattle.gate_world.specs.Views.{held_at, holds_level as has_level};
     ghost use Rattle.vfs_gates.specs.TaskStates.{task_state, IsFrom, own_number, own_view, refusal_at, IsIdle, HoldsNothing};

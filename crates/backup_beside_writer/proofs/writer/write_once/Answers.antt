@@ -7,7 +7,7 @@ use Rattle.backup_beside_writer.proofs.writer.write_once.Goals as goal
 
 pub returns-clause-refused : goal.returns-clause-refused
 returns-clause-refused g c =
-    let within = c.args.gates.now.within in
+    let within = c.args.gates.now.words.within in
     let mount : 0 < c.args.task.now.config.mounts = subst (λ d. 0 < d.mounts) (sym c.requires.from.1) within.some_mount in
     let cpu : 0 < c.args.task.now.config.processors = subst (λ d. 0 < d.processors) (sym c.requires.from.1) within.some_processor in
     let done = is_dropped c.args.task.now c.want.new.self 0 0 c.requires.rests mount cpu c.in_ok-want.ensures _ _ c.drop_mount.ensures in

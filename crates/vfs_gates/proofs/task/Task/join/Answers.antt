@@ -1,6 +1,6 @@
 use Rattle.std.proofs.Common.{◌≡◌, set, true, length, arith, refl, sym, ap, ◌∙◌, subst, None}
 use Rattle.gate_world.specs.declared.config.Config.{Config}
-use Rattle.gate_steps.specs.Seating.{SeatItems}
+use Rattle.call_events.specs.Seating.{SeatItems}
 use Rattle.vfs_gates.specs.TaskStates.{TaskState, Empty, own_view}
 use Rattle.call_events.specs.Ties.{Ties}
 use Rattle.vfs_gates.proofs.Parting.{join_self, below}

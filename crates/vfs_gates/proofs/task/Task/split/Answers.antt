@@ -1,8 +1,8 @@
 use Rattle.std.proofs.Common.{◌≡◌, ℕ, length, set, false, arith, sym, ap, ◌∙◌, subst, None}
-use Rattle.gate_steps.specs.Seating.{SeatItems}
+use Rattle.call_events.specs.Seating.{SeatItems}
 use Rattle.call_events.specs.Ties.{Ties}
 use Rattle.vfs_gates.proofs.Parting.{split_self, split_new}
-use Rattle.gate_core.specs.declared.seats.Seat.{Seat}
+use Rattle.call_events.specs.Seat.{Seat}
 use Rattle.vfs_gates.specs.TaskStates.{own_view}
 use Rattle.vfs_gates.proofs.Rooming.{given_unseen, kept_view, room_new, room_same}
 use Rattle.vfs_gates.proofs.task.Task.split.Goals as goal

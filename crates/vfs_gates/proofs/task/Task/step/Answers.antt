@@ -4,7 +4,7 @@ use Rattle.std.specs.Prelude.{Option, Some, None}
 use Rattle.access_model.specs.declared.replies.Next.{Next}
 use Rattle.gate_world.specs.declared.work.Phase.{Phase}
 use Rattle.gate_world.specs.Views.{phase_after}
-use Rattle.gate_core.specs.Answers.{progress_of}
+use Rattle.call_events.specs.Answers.{progress_of}
 use Rattle.vfs_gates.specs.TaskStates.{TaskState, task_state}
 use Rattle.call_events.specs.Turns.{kept_at}
 use Rattle.call_events.proofs.Turning.{tied_at, stepped_there}
