@@ -1,7 +1,8 @@
 //! Exit statuses, and what is told of a fault.
 
-use crate::program::{run, unreadable};
-use crate::tests::fakes::{Frail, Refusal};
+use crate::program::run;
+use endings::unreadable;
+use replay_cases::fakes::{Frail, Refusal};
 use std::alloc::{AllocError, Global};
 use std::io;
 use std::io::ErrorKind;

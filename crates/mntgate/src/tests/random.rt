@@ -1,10 +1,14 @@
 //! Random schedules: a replay over the gates that threads use prints what one over the core prints.
 
-use crate::tests::{expect_end, played};
+use crate::gates_driver::GatesDriver;
+use replays::Core;
+use replay_cases::rows::{expect_end, played};
+use std::alloc::Global;
 use std::io;
 use std::io::Write;
 use std::process::Abort;
 use std::test::Fail;
+use replays::ReplayFault;
 
 /// What a task does, line by line, until it takes up something else. A capital letter stands for a number: T for the task's own, X for
 /// any task's, M for a mount's, C for a processor's, L for a level's, N for a node's, B for some blocks, and E for the code of a hook.
@@ -224,13 +228,25 @@ fn all_reached<R: Abort>(rt: &R, reached: &[u32; 24]) {
     }
 }
 
+/// What a schedule prints, and its fault, if there is one: over the core, and over the gates that threads use, which have to be the same.
+fn played_over_either<R: Abort + Alloc<A = Global>>(
+    rt: &R,
+    schedule: &[u8],
+) -> Result<(Vec<u8>, Result<(), ReplayFault>), Fail> {
+    let (printed, ended) = played::<Core, R>(rt, schedule)?;
+    let (same, same_end) = played::<GatesDriver, R>(rt, schedule)?;
+    assert_eq!(rt; same.as_slice(), printed.as_slice());
+    assert!(rt; same_end == ended);
+    Ok((printed, ended))
+}
+
 #[test]
 fn random_schedules_print_the_same_over_either(rt: HostRuntime) -> Result<(), Fail> {
     let mut reached = [0; 24];
     for seed in 0..SCHEDULES {
         let mut schedule = Vec::new(rt.alloc());
         write_schedule(&mut schedule, &mut Dice { state: seed })?;
-        let (printed, ended) = played(&rt, schedule.as_slice())?;
+        let (printed, ended) = played_over_either(&rt, schedule.as_slice())?;
         expect_end(&rt, ended, "")?;
         note_parts(&mut reached, printed.as_slice());
     }
