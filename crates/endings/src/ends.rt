@@ -4,9 +4,9 @@ ghost use Rattle.std.specs.Prelude.{◌≡◌, ◌⊎◌};
 ghost use Rattle.endings.specs.declared.ends.Ending.TheVariants.{Done, DoneOverGates, Ran, Refused, Misused};
 
 use access_model::GateError;
+use schedule_bytes::ReplayFault;
 use std::io;
 use std::io::Write;
-use schedule_bytes::ReplayFault;
 
 /// How the program ends.
 #[derive(Clone, Copy, PartialEq, Eq, Debug)]

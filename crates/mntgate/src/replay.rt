@@ -5,9 +5,9 @@ ghost use Rattle.transcripts.specs.Limits.{IsLineNumber};
 
 use crate::gates_driver::GatesDriver;
 use replays::replay::replay_over;
+use schedule_bytes::ReplayFault;
 use std::alloc::Global;
 use std::io::{Read, Write};
-use schedule_bytes::ReplayFault;
 
 /// The same language and the same text, by one thread over the gates that threads use, with a task for each number; none of them is
 /// joined. A configuration is refused as `Gates::new` is, then as `Task::split` is, then as `Model::new` is.

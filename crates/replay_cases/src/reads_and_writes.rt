@@ -2,8 +2,8 @@
 
 use crate::fakes::{Counter, Frail, Newlines, Refusal, Slow, Watcher};
 use crate::rows::expect_end;
-use replays::replay::replay_over;
 use replays::Driver;
+use replays::replay::replay_over;
 use std::alloc::Global;
 use std::cell::Cell;
 use std::io::{ErrorKind, Read};
@@ -26,12 +26,16 @@ fn expect_limit<D: Driver, R: Abort + Alloc<A = Global>>(
 }
 
 /// As many lines as there may be.
-pub fn a_schedule_may_have_1048576_lines<D: Driver, R: Abort + Alloc<A = Global>>(rt: &R) -> Result<(), Fail> {
+pub fn a_schedule_may_have_1048576_lines<D: Driver, R: Abort + Alloc<A = Global>>(
+    rt: &R,
+) -> Result<(), Fail> {
     expect_limit::<D, R>(rt, b"".as_slice(), "")
 }
 
 /// Also of a line that is cut off, or too long.
-pub fn a_schedule_has_at_most_1048576_lines<D: Driver, R: Abort + Alloc<A = Global>>(rt: &R) -> Result<(), Fail> {
+pub fn a_schedule_has_at_most_1048576_lines<D: Driver, R: Abort + Alloc<A = Global>>(
+    rt: &R,
+) -> Result<(), Fail> {
     let too_many = "line 1048577: too many lines";
     expect_limit::<D, R>(rt, b"config".as_slice(), too_many)?;
     expect_limit::<D, R>(rt, [b'x'; 257].as_slice(), too_many)
@@ -78,7 +82,9 @@ fn failed_read_ends<D: Driver, R: Abort + Alloc<A = Global>>(
 }
 
 /// Also one that is interrupted: it isn't made again.
-pub fn each_read_fails_in_turn<D: Driver, R: Abort + Alloc<A = Global>>(rt: &R) -> Result<(), Fail> {
+pub fn each_read_fails_in_turn<D: Driver, R: Abort + Alloc<A = Global>>(
+    rt: &R,
+) -> Result<(), Fail> {
     for kind in [ErrorKind::Interrupted, ErrorKind::Other] {
         for good in 0..12 {
             failed_read_ends::<D, R>(rt, good, kind)?;
@@ -88,7 +94,9 @@ pub fn each_read_fails_in_turn<D: Driver, R: Abort + Alloc<A = Global>>(rt: &R) 
 }
 
 /// Reads and writes of one byte each.
-pub fn a_byte_at_a_time_reads_and_writes_the_same<D: Driver, R: Abort + Alloc<A = Global>>(rt: &R) -> Result<(), Fail> {
+pub fn a_byte_at_a_time_reads_and_writes_the_same<D: Driver, R: Abort + Alloc<A = Global>>(
+    rt: &R,
+) -> Result<(), Fail> {
     let mut writer = Frail::new(rt.alloc(), 1, u32::MAX, Refusal::Nothing);
     let mut reader = Slow::new(SCHEDULE.as_bytes(), 1, u32::MAX, ErrorKind::Other);
     let ended = replay_over::<D, _, _>(rt.alloc(), &mut reader, &mut writer);
@@ -119,7 +127,9 @@ fn failed_write_ends<D: Driver, R: Abort + Alloc<A = Global>, I: Read>(
 }
 
 /// Each write that fails is the last one.
-pub fn each_write_fails_in_turn<D: Driver, R: Abort + Alloc<A = Global>>(rt: &R) -> Result<(), Fail> {
+pub fn each_write_fails_in_turn<D: Driver, R: Abort + Alloc<A = Global>>(
+    rt: &R,
+) -> Result<(), Fail> {
     for refusal in REFUSALS {
         for good in 0..14 {
             let writer = Frail::new(rt.alloc(), 3, good, refusal);
@@ -132,7 +142,9 @@ pub fn each_write_fails_in_turn<D: Driver, R: Abort + Alloc<A = Global>>(rt: &R)
 }
 
 /// Each line that prints is written by itself, where the bytes come one at a time: the write fails before the next line is read.
-pub fn each_write_between_reads_fails_in_turn<D: Driver, R: Abort + Alloc<A = Global>>(rt: &R) -> Result<(), Fail> {
+pub fn each_write_between_reads_fails_in_turn<D: Driver, R: Abort + Alloc<A = Global>>(
+    rt: &R,
+) -> Result<(), Fail> {
     let faults = [
         (0, "line 4: write failed"),
         (5, "line 6: write failed"),
@@ -154,7 +166,9 @@ static MODEL: &str = "model stage 0 passed 0 sb rw\nnode 0 dir 0 0 clean\n";
 
 /// The first 1,311 models are written as a block, at line 1,312, and so are the next, at line 2,623: there the write fails,
 /// with lines behind it that were read and aren't done.
-pub fn a_write_in_mid_stream_fails_at_its_line<D: Driver, R: Abort + Alloc<A = Global>>(rt: &R) -> Result<(), Fail> {
+pub fn a_write_in_mid_stream_fails_at_its_line<D: Driver, R: Abort + Alloc<A = Global>>(
+    rt: &R,
+) -> Result<(), Fail> {
     let mut schedule = Vec::new(rt.alloc());
     schedule.extend_from_slice(b"config 1 1 1 2 8\n")?;
     for _ in 0..3_000 {
@@ -174,7 +188,9 @@ pub fn a_write_in_mid_stream_fails_at_its_line<D: Driver, R: Abort + Alloc<A = G
 }
 
 /// Nothing that was printed is held back by a read.
-pub fn what_was_printed_is_written_before_more_is_read<D: Driver, R: Abort + Alloc<A = Global>>(rt: &R) -> Result<(), Fail> {
+pub fn what_was_printed_is_written_before_more_is_read<D: Driver, R: Abort + Alloc<A = Global>>(
+    rt: &R,
+) -> Result<(), Fail> {
     let written = Cell::new(0);
     let late = Cell::new(0);
     let mut reader = Watcher::new(SCHEDULE.as_bytes(), &AFTER, &written, &late);

@@ -2,11 +2,10 @@
 
 use crate::{freezes, levels, remounts, trees};
 use replays::replay::replay_over;
-use replays::Driver;
+use replays::{Driver, ReplayFault};
 use std::alloc::Global;
 use std::process::Abort;
 use std::test::Fail;
-use replays::ReplayFault;
 
 /// What a schedule prints, as far as it comes, and its fault, if there is one.
 pub fn played<D: Driver, R: Abort + Alloc<A = Global>>(
@@ -33,14 +32,21 @@ pub fn expect_end<R: Abort + Alloc<A = Global>>(
 }
 
 /// That a schedule prints this and ends without a fault.
-fn prints<D: Driver, R: Abort + Alloc<A = Global>>(rt: &R, schedule: &str, text: &str) -> Result<(), Fail> {
+fn prints<D: Driver, R: Abort + Alloc<A = Global>>(
+    rt: &R,
+    schedule: &str,
+    text: &str,
+) -> Result<(), Fail> {
     let (printed, ended) = played::<D, R>(rt, schedule.as_bytes())?;
     assert_eq!(rt; printed.as_slice(), text.as_bytes());
     expect_end(rt, ended, "")
 }
 
 /// That each schedule prints what stands beside it, and ends without a fault.
-fn print_all<D: Driver, R: Abort + Alloc<A = Global>>(rt: &R, schedules: &[(&str, &str)]) -> Result<(), Fail> {
+fn print_all<D: Driver, R: Abort + Alloc<A = Global>>(
+    rt: &R,
+    schedules: &[(&str, &str)],
+) -> Result<(), Fail> {
     for (schedule, text) in schedules.iter() {
         prints::<D, R>(rt, schedule, text)?;
     }
@@ -156,49 +162,69 @@ static SECOND_LINES: [(&str, &str); 6] = [
 ];
 
 /// Accesses and changes.
-pub fn schedules_print_what_they_ask_for<D: Driver, R: Abort + Alloc<A = Global>>(rt: &R) -> Result<(), Fail> {
+pub fn schedules_print_what_they_ask_for<D: Driver, R: Abort + Alloc<A = Global>>(
+    rt: &R,
+) -> Result<(), Fail> {
     print_all::<D, R>(rt, PRINTED.as_slice())
 }
 
 /// Levels.
-pub fn levels_are_entered_and_left<D: Driver, R: Abort + Alloc<A = Global>>(rt: &R) -> Result<(), Fail> {
+pub fn levels_are_entered_and_left<D: Driver, R: Abort + Alloc<A = Global>>(
+    rt: &R,
+) -> Result<(), Fail> {
     print_all::<D, R>(rt, levels::LEVELS.as_slice())
 }
 
 /// Write access.
-pub fn write_access_takes_a_level_and_a_mount<D: Driver, R: Abort + Alloc<A = Global>>(rt: &R) -> Result<(), Fail> {
+pub fn write_access_takes_a_level_and_a_mount<D: Driver, R: Abort + Alloc<A = Global>>(
+    rt: &R,
+) -> Result<(), Fail> {
     print_all::<D, R>(rt, levels::WRITES.as_slice())
 }
 
 /// Remounts.
-pub fn remounts_print_their_events<D: Driver, R: Abort + Alloc<A = Global>>(rt: &R) -> Result<(), Fail> {
+pub fn remounts_print_their_events<D: Driver, R: Abort + Alloc<A = Global>>(
+    rt: &R,
+) -> Result<(), Fail> {
     print_all::<D, R>(rt, remounts::ANSWERED.as_slice())
 }
 
 /// Hooks of a remount that fail.
-pub fn a_hook_that_fails_refuses_its_remount<D: Driver, R: Abort + Alloc<A = Global>>(rt: &R) -> Result<(), Fail> {
+pub fn a_hook_that_fails_refuses_its_remount<D: Driver, R: Abort + Alloc<A = Global>>(
+    rt: &R,
+) -> Result<(), Fail> {
     print_all::<D, R>(rt, remounts::REFUSED.as_slice())
 }
 
 /// Calls at the tree.
-pub fn calls_at_the_tree_print_what_they_do<D: Driver, R: Abort + Alloc<A = Global>>(rt: &R) -> Result<(), Fail> {
+pub fn calls_at_the_tree_print_what_they_do<D: Driver, R: Abort + Alloc<A = Global>>(
+    rt: &R,
+) -> Result<(), Fail> {
     print_all::<D, R>(rt, trees::TREES.as_slice())
 }
 
 /// Freezes and thaws.
-pub fn freezes_and_thaws_print_what_they_do<D: Driver, R: Abort + Alloc<A = Global>>(rt: &R) -> Result<(), Fail> {
+pub fn freezes_and_thaws_print_what_they_do<D: Driver, R: Abort + Alloc<A = Global>>(
+    rt: &R,
+) -> Result<(), Fail> {
     print_all::<D, R>(rt, freezes::FREEZES.as_slice())
 }
 
 /// That a schedule prints nothing and ends with this fault.
-fn faults<D: Driver, R: Abort + Alloc<A = Global>>(rt: &R, schedule: &str, fault: &str) -> Result<(), Fail> {
+fn faults<D: Driver, R: Abort + Alloc<A = Global>>(
+    rt: &R,
+    schedule: &str,
+    fault: &str,
+) -> Result<(), Fail> {
     let (printed, ended) = played::<D, R>(rt, schedule.as_bytes())?;
     assert!(rt; printed.is_empty());
     expect_end(rt, ended, fault)
 }
 
 /// Schedules that have a fault, which print nothing.
-pub fn malformed_schedules_end_at_their_first_fault<D: Driver, R: Abort + Alloc<A = Global>>(rt: &R) -> Result<(), Fail> {
+pub fn malformed_schedules_end_at_their_first_fault<D: Driver, R: Abort + Alloc<A = Global>>(
+    rt: &R,
+) -> Result<(), Fail> {
     for (schedule, fault) in FAULTS.iter() {
         faults::<D, R>(rt, schedule, fault)?;
     }
@@ -213,7 +239,9 @@ pub fn malformed_schedules_end_at_their_first_fault<D: Driver, R: Abort + Alloc<
 }
 
 /// A fault behind a line that prints.
-pub fn what_was_printed_before_a_fault_stays<D: Driver, R: Abort + Alloc<A = Global>>(rt: &R) -> Result<(), Fail> {
+pub fn what_was_printed_before_a_fault_stays<D: Driver, R: Abort + Alloc<A = Global>>(
+    rt: &R,
+) -> Result<(), Fail> {
     let schedule = b"config 1 1 1 2 8\n0 step\n\xff\xfe\n0 step\n";
     let (printed, ended) = played::<D, R>(rt, schedule.as_slice())?;
     assert_eq!(rt; printed.as_slice(), b"0 idle\n".as_slice());
@@ -221,7 +249,9 @@ pub fn what_was_printed_before_a_fault_stays<D: Driver, R: Abort + Alloc<A = Glo
 }
 
 /// Lines of as many bytes as there may be, and of one more.
-pub fn a_line_has_at_most_256_bytes<D: Driver, R: Abort + Alloc<A = Global>>(rt: &R) -> Result<(), Fail> {
+pub fn a_line_has_at_most_256_bytes<D: Driver, R: Abort + Alloc<A = Global>>(
+    rt: &R,
+) -> Result<(), Fail> {
     for (bytes, fault) in [
         (255, "line 2: config expected"),
         (256, "line 1: line too long"),
@@ -236,7 +266,9 @@ pub fn a_line_has_at_most_256_bytes<D: Driver, R: Abort + Alloc<A = Global>>(rt:
 }
 
 /// The same at the end of the input.
-pub fn a_line_that_is_too_long_is_not_cut_off<D: Driver, R: Abort + Alloc<A = Global>>(rt: &R) -> Result<(), Fail> {
+pub fn a_line_that_is_too_long_is_not_cut_off<D: Driver, R: Abort + Alloc<A = Global>>(
+    rt: &R,
+) -> Result<(), Fail> {
     for (bytes, fault) in [(256, "line 1: cut off"), (257, "line 1: line too long")] {
         let schedule = vec![in rt.alloc(); b'x'; bytes]?;
         let (_, ended) = played::<D, R>(rt, schedule.as_slice())?;

@@ -16,12 +16,11 @@ ghost use Rattle.transcripts.specs.Replaying.{Stops};
 ghost use Rattle.transcripts.specs.Transcript.{Play, line_effect, tasks_of};
 ghost use Rattle.schedule_bytes.specs.Writing.{AppendsPart};
 
-use schedule_bytes::{Input, write_out};
+use schedule_bytes::{Input, ReplayFault, fault_after, write_out};
 use schedule_text::{Fault, Front, LINE_BYTES, LINES, Line, Output, Request, parse};
 use std::alloc::{AllocError, Global};
-use transcripts::{Driver, Session, no_memory};
 use std::io::{Read, Write};
-use schedule_bytes::{ReplayFault, fault_after};
+use transcripts::{Driver, Session, no_memory};
 
 /// From so many printed bytes on they are written out.
 const FULL: usize = 65_536;

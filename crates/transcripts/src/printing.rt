@@ -9,12 +9,7 @@ use std::alloc::AllocError;
 
 /// The event, and then the reply where there is one; or that the task is idle. `used` is the blocks charged now.
 #[tactic(auto, unfolding(crate::specs::Printing::step_text))]
-pub fn print_step(
-    out: &mut Output,
-    task: u8,
-    step: Step,
-    used: u64,
-) -> Result<(), AllocError>
+pub fn print_step(out: &mut Output, task: u8, step: Step, used: u64) -> Result<(), AllocError>
     ensures { OnOk result (out.new.bytes.items ≡ out.old.bytes.items ++ step_text task step used) }
 {
     match step.event {

@@ -4,15 +4,13 @@
 
 use crate::gates_driver::GatesDriver;
 use access_model::GateError;
-use replays::Core;
 use replay_cases::fakes::Counter;
 use replays::replay::replay_over;
-use replays::Driver;
+use replays::{Core, Driver, ReplayFault};
 use std::alloc::Global;
 use std::cell::Cell;
 use std::process::Abort;
 use std::test::Fail;
-use replays::ReplayFault;
 
 /// How a schedule ends that needs memory at its first line and at its third, and how many bytes it prints, where this growth of its replay
 /// is refused, or the one behind it.

@@ -1,14 +1,13 @@
 //! Random schedules: a replay over the gates that threads use prints what one over the core prints.
 
 use crate::gates_driver::GatesDriver;
-use replays::Core;
 use replay_cases::rows::{expect_end, played};
+use replays::{Core, ReplayFault};
 use std::alloc::Global;
 use std::io;
 use std::io::Write;
 use std::process::Abort;
 use std::test::Fail;
-use replays::ReplayFault;
 
 /// What a task does, line by line, until it takes up something else. A capital letter stands for a number: T for the task's own, X for
 /// any task's, M for a mount's, C for a processor's, L for a level's, N for a node's, B for some blocks, and E for the code of a hook.
