@@ -2,7 +2,7 @@
 
 ghost use Rattle.std.specs.Prelude.{◌≡◌, ◌⊎◌, IfOk, Ok, Err};
 ghost use Rattle.transcripts.specs.Replayed.{Replayed};
-ghost use Rattle.endings.specs.declared.ends.Ending.TheVariants.{Done, DoneOverGates, Ran, Refused, Misused};
+ghost use Rattle.endings.specs.declared.ends.Ending.TheVariants.{Done, DoneOverGates, Ran, Refused};
 ghost use Rattle.schedule_bytes.specs.declared.replay_faults.ReplayFault.{ReplayFault};
 
 use crate::replay::replay_gates;

@@ -17,7 +17,7 @@ ghost use Rattle.transcripts.specs.Transcript.{Play, line_effect, tasks_of};
 ghost use Rattle.schedule_bytes.specs.Writing.{AppendsPart};
 
 use schedule_bytes::{Input, ReplayFault, fault_after, write_out};
-use schedule_text::{Fault, Front, LINE_BYTES, LINES, Line, Output, Request, parse};
+use schedule_text::{Fault, Front, LINES, Line, Output, Request, parse};
 use std::alloc::{AllocError, Global};
 use std::io::{Read, Write};
 use transcripts::{Driver, Session, no_memory};
