@@ -1,10 +1,1 @@
-pub mod Blocks
-pub mod Playing
-pub mod Showing
-pub mod Texts
 pub mod Splitting
-pub mod Running
-pub mod Fronts
-pub mod Faults
-pub mod Unrolled
-pub mod Replaying

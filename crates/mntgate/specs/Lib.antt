@@ -1,14 +1,2 @@
-pub mod Limits
-pub mod Writing
-pub mod Printing
-pub mod Reading
-pub mod Pending
-pub mod Transcript
-pub mod Reached
 pub mod Noted
 pub mod Splitting
-pub mod Drivers
-pub mod Sessions
-pub mod Replayed
-pub mod Replaying
-pub mod LineReplays

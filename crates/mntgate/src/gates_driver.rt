@@ -17,6 +17,7 @@ use cpu_words::{Event, WordName};
 use freeze_levels::HookKind;
 use gate_core::{Step, words_at_start};
 use gate_world::{Config, Op};
+use replays::Driver;
 use std::alloc::Global;
 use vfs_gates::{Gates, Task};
 
@@ -131,6 +132,37 @@ impl GatesDriver {
         } else {
             None
         }
+    }
+}
+
+/// Nothing is said here of which world they show: what one task finds there was so at that moment, and that no other thread moves them is
+/// known to whoever made them, and to no contract. So what is proved of the text of a schedule is proved of a replay over the core; that a
+/// replay over these gates prints the same is tested.
+impl Driver for GatesDriver {
+    ghost use Rattle.std.specs.Prelude.{false};
+
+    ghost is_known = { false };
+
+    ghost shows = { λ _ _ _. ⊥ };
+
+    fn new(alloc: Global, config: Config) -> Result<GatesDriver, GateError> {
+        GatesDriver::new(alloc, config)
+    }
+
+    fn begin(&mut self, task: u8, op: Op) -> Result<(), GateError> {
+        self.begin(task, op)
+    }
+
+    fn step(&mut self, task: u8, hook: Result<(), u16>) -> Step {
+        self.step(task, hook)
+    }
+
+    fn wants_hook(&self, task: u8) -> Option<HookKind> {
+        self.wants_hook(task)
+    }
+
+    fn word(&self, name: WordName) -> Option<u64> {
+        self.word(name)
     }
 }
 

@@ -1,20 +1,15 @@
 //! The program: write gates of a mounted file system, driven from the command line.
 #![tactic(auto)]
 
-mod drivers;
 mod gates_driver;
-mod input;
-mod line_replay;
-mod printing;
 mod program;
 mod replay;
 mod runs;
-mod session;
 #[cfg(test)]
 mod tests;
-mod writing;
 
 use anyhow::Result;
+use endings::unreadable;
 use std::io::IsTerminal;
 use std::process::ExitCode;
 
@@ -39,7 +34,7 @@ fn main(rt: HostRuntime) -> Result<ExitCode> {
                 watched,
             )?
         }
-        Err(error) => program::unreadable(&error, &mut errors),
+        Err(error) => unreadable(&error, &mut errors),
     };
     Ok(ExitCode::from(ending.status()))
 }

@@ -1,27 +1,19 @@
 //! Runs of writers, a remounter and a backup in threads, from the command line.
 
 ghost use Rattle.std.specs.Prelude.{◌≡◌, ◌⊎◌};
+ghost use Rattle.endings.specs.declared.ends.Ending.TheVariants.{Ran, Refused};
 ghost use Rattle.gate_runs.specs.Plans.{MayRun};
-ghost use Rattle.mntgate.specs.declared.program.Ending.TheVariants.{Ran, Refused};
 
-use crate::program::Ending;
-use crate::writing::write_out;
 use access_model::GateError;
+use command_line::Numbers;
+use endings::{Ending, refused};
 use gate_runs::{Meeting, run_with};
+use schedule_bytes::write_out;
 use std::alloc::Global;
 use std::io::{Stderr, Write};
 use std::sync::Wait;
 use std::sync::atomic::{AtomicU32, AtomicU64, Ordering};
 use std::thread::Threads;
-
-/// What a run is asked for.
-#[derive(Clone, Copy, PartialEq, Eq, Debug)]
-pub(crate) struct Asked {
-    pub(crate) tasks: u8,
-    pub(crate) processors: u8,
-    pub(crate) rounds: u32,
-    pub(crate) freezes: u32,
-}
 
 /// How often a run tells how far it is.
 const TIMES: u64 = 20;
@@ -29,14 +21,14 @@ const TIMES: u64 = 20;
 /// Tells a person now and then how far a run is: the rounds of all writers, and the freezes.
 #[derive(Drop)]
 pub(crate) struct Progress {
-    asked: Asked,
+    asked: Numbers,
     rounds: AtomicU64,
     freezes: AtomicU32,
     errors: Stderr,
 }
 
 impl Progress {
-    pub(crate) fn new(asked: Asked, errors: Stderr) -> Progress {
+    pub(crate) fn new(asked: Numbers, errors: Stderr) -> Progress {
         Progress {
             asked,
             rounds: AtomicU64::new(0),
@@ -79,20 +71,12 @@ impl Meeting for Progress {
     }
 }
 
-/// Says why a run ended.
-fn refused<E: Write>(refusal: GateError, errors: &mut E) -> Ending
-    ensures { result ≡ Refused }
-{
-    let _ = writeln!(errors, "refused {} {}", refusal.number(), refusal.name());
-    Ending::Refused
-}
-
 /// Runs what is asked for, and writes what it counted in five lines. A refusal is told on the writer of faults, and so is a write that
 /// fails.
 pub(crate) fn run<R: Threads + Wait + Sync, M: Meeting + Sync, W: Write, E: Write>(
     rt: &R,
     alloc: Global,
-    asked: Asked,
+    asked: Numbers,
     meeting: &M,
     writer: &mut W,
     errors: &mut E,
@@ -100,7 +84,7 @@ pub(crate) fn run<R: Threads + Wait + Sync, M: Meeting + Sync, W: Write, E: Writ
     ensures ends { (result ≡ Ran) ⊎ (result ≡ Refused) }
     ensures within { result ≡ Ran → MayRun asked.tasks asked.processors asked.rounds asked.freezes }
 {
-    let Asked {
+    let Numbers {
         tasks,
         processors,
         rounds,

@@ -2,10 +2,11 @@
 //! which asks for growths of its own first meets a lower one of its replay. bench/refuse-memory.sh takes 21 and 22 for N: with the tests
 //! below each growth of a replay is refused in one of these builds.
 
-use super::fakes::Counter;
-use crate::drivers::Over;
-use crate::replay::{ReplayFault, replay_over};
+use crate::gates_driver::GatesDriver;
 use access_model::GateError;
+use replay_cases::fakes::Counter;
+use replays::replay::replay_over;
+use replays::{Core, Driver, ReplayFault};
 use std::alloc::Global;
 use std::cell::Cell;
 use std::process::Abort;
@@ -13,7 +14,7 @@ use std::test::Fail;
 
 /// How a schedule ends that needs memory at its first line and at its third, and how many bytes it prints, where this growth of its replay
 /// is refused, or the one behind it.
-fn ended<R: Alloc<A = Global>>(rt: &R, over: Over, lowest: u8) -> (Result<(), ReplayFault>, usize) {
+fn ended<D: Driver, R: Alloc<A = Global>>(rt: &R, lowest: u8) -> (Result<(), ReplayFault>, usize) {
     for _growth in lowest..21 {
         let mut bytes = Vec::new(rt.alloc());
         let _refused = bytes.push(0u8);
@@ -21,17 +22,16 @@ fn ended<R: Alloc<A = Global>>(rt: &R, over: Over, lowest: u8) -> (Result<(), Re
     let written = Cell::new(0);
     let mut schedule = b"# a comment\n\nconfig 2 1 1 2 8\n0 want 0 0\n0 run\n".as_slice();
     let mut writer = Counter { written: &written };
-    let ended = replay_over(rt.alloc(), over, &mut schedule, &mut writer);
+    let ended = replay_over::<D, _, _>(rt.alloc(), &mut schedule, &mut writer);
     (ended, written.get())
 }
 
 /// That the schedule is done, or ends at a line that needs memory and prints nothing.
-fn ends_at_its_line<R: Abort + Alloc<A = Global>>(
+fn ends_at_its_line<D: Driver, R: Abort + Alloc<A = Global>>(
     rt: &R,
-    over: Over,
     lowest: u8,
 ) -> Result<(), Fail> {
-    let (ended, written) = ended(rt, over, lowest);
+    let (ended, written) = ended::<D, R>(rt, lowest);
     let Err(fault) = ended else {
         assert_eq!(rt; written, 5);
         return Ok(());
@@ -45,92 +45,92 @@ fn ends_at_its_line<R: Abort + Alloc<A = Global>>(
 
 #[test]
 fn growths_1_and_2_are_refused(rt: HostRuntime) -> Result<(), Fail> {
-    ends_at_its_line(&rt, Over::Core, 1)
+    ends_at_its_line::<Core, _>(&rt, 1)
 }
 
 #[test]
 fn growths_3_and_4_are_refused(rt: HostRuntime) -> Result<(), Fail> {
-    ends_at_its_line(&rt, Over::Core, 3)
+    ends_at_its_line::<Core, _>(&rt, 3)
 }
 
 #[test]
 fn growths_5_and_6_are_refused(rt: HostRuntime) -> Result<(), Fail> {
-    ends_at_its_line(&rt, Over::Core, 5)
+    ends_at_its_line::<Core, _>(&rt, 5)
 }
 
 #[test]
 fn growths_7_and_8_are_refused(rt: HostRuntime) -> Result<(), Fail> {
-    ends_at_its_line(&rt, Over::Core, 7)
+    ends_at_its_line::<Core, _>(&rt, 7)
 }
 
 #[test]
 fn growths_9_and_10_are_refused(rt: HostRuntime) -> Result<(), Fail> {
-    ends_at_its_line(&rt, Over::Core, 9)
+    ends_at_its_line::<Core, _>(&rt, 9)
 }
 
 #[test]
 fn growths_11_and_12_are_refused(rt: HostRuntime) -> Result<(), Fail> {
-    ends_at_its_line(&rt, Over::Core, 11)
+    ends_at_its_line::<Core, _>(&rt, 11)
 }
 
 #[test]
 fn there_is_no_growth_13(rt: HostRuntime) -> Result<(), Fail> {
-    assert_eq!(rt; ended(&rt, Over::Core, 13), (Ok(()), 5));
+    assert_eq!(rt; ended::<Core, _>(&rt, 13), (Ok(()), 5));
     Ok(())
 }
 
 #[test]
 fn growths_1_and_2_of_the_gates_are_refused(rt: HostRuntime) -> Result<(), Fail> {
-    ends_at_its_line(&rt, Over::Gates, 1)
+    ends_at_its_line::<GatesDriver, _>(&rt, 1)
 }
 
 #[test]
 fn growths_3_and_4_of_the_gates_are_refused(rt: HostRuntime) -> Result<(), Fail> {
-    ends_at_its_line(&rt, Over::Gates, 3)
+    ends_at_its_line::<GatesDriver, _>(&rt, 3)
 }
 
 #[test]
 fn growths_5_and_6_of_the_gates_are_refused(rt: HostRuntime) -> Result<(), Fail> {
-    ends_at_its_line(&rt, Over::Gates, 5)
+    ends_at_its_line::<GatesDriver, _>(&rt, 5)
 }
 
 #[test]
 fn growths_7_and_8_of_the_gates_are_refused(rt: HostRuntime) -> Result<(), Fail> {
-    ends_at_its_line(&rt, Over::Gates, 7)
+    ends_at_its_line::<GatesDriver, _>(&rt, 7)
 }
 
 #[test]
 fn growths_9_and_10_of_the_gates_are_refused(rt: HostRuntime) -> Result<(), Fail> {
-    ends_at_its_line(&rt, Over::Gates, 9)
+    ends_at_its_line::<GatesDriver, _>(&rt, 9)
 }
 
 #[test]
 fn growths_11_and_12_of_the_gates_are_refused(rt: HostRuntime) -> Result<(), Fail> {
-    ends_at_its_line(&rt, Over::Gates, 11)
+    ends_at_its_line::<GatesDriver, _>(&rt, 11)
 }
 
 #[test]
 fn growths_13_and_14_of_the_gates_are_refused(rt: HostRuntime) -> Result<(), Fail> {
-    ends_at_its_line(&rt, Over::Gates, 13)
+    ends_at_its_line::<GatesDriver, _>(&rt, 13)
 }
 
 #[test]
 fn growths_15_and_16_of_the_gates_are_refused(rt: HostRuntime) -> Result<(), Fail> {
-    ends_at_its_line(&rt, Over::Gates, 15)
+    ends_at_its_line::<GatesDriver, _>(&rt, 15)
 }
 
 #[test]
 fn growths_17_and_18_of_the_gates_are_refused(rt: HostRuntime) -> Result<(), Fail> {
-    ends_at_its_line(&rt, Over::Gates, 17)
+    ends_at_its_line::<GatesDriver, _>(&rt, 17)
 }
 
 #[test]
 fn growths_19_and_20_of_the_gates_are_refused(rt: HostRuntime) -> Result<(), Fail> {
-    ends_at_its_line(&rt, Over::Gates, 19)
+    ends_at_its_line::<GatesDriver, _>(&rt, 19)
 }
 
 #[test]
 fn there_is_no_growth_21_of_the_gates(rt: HostRuntime) -> Result<(), Fail> {
-    assert_eq!(rt; ended(&rt, Over::Gates, 21), (Ok(()), 5));
+    assert_eq!(rt; ended::<GatesDriver, _>(&rt, 21), (Ok(()), 5));
     Ok(())
 }

@@ -1,6 +1,9 @@
 //! Random schedules: a replay over the gates that threads use prints what one over the core prints.
 
-use crate::tests::{expect_end, played};
+use crate::gates_driver::GatesDriver;
+use replay_cases::rows::{expect_end, played};
+use replays::{Core, ReplayFault};
+use std::alloc::Global;
 use std::io;
 use std::io::Write;
 use std::process::Abort;
@@ -224,13 +227,25 @@ fn all_reached<R: Abort>(rt: &R, reached: &[u32; 24]) {
     }
 }
 
+/// What a schedule prints, and its fault, if there is one: over the core, and over the gates that threads use, which have to be the same.
+fn played_over_either<R: Abort + Alloc<A = Global>>(
+    rt: &R,
+    schedule: &[u8],
+) -> Result<(Vec<u8>, Result<(), ReplayFault>), Fail> {
+    let (printed, ended) = played::<Core, R>(rt, schedule)?;
+    let (same, same_end) = played::<GatesDriver, R>(rt, schedule)?;
+    assert_eq!(rt; same.as_slice(), printed.as_slice());
+    assert!(rt; same_end == ended);
+    Ok((printed, ended))
+}
+
 #[test]
 fn random_schedules_print_the_same_over_either(rt: HostRuntime) -> Result<(), Fail> {
     let mut reached = [0; 24];
     for seed in 0..SCHEDULES {
         let mut schedule = Vec::new(rt.alloc());
         write_schedule(&mut schedule, &mut Dice { state: seed })?;
-        let (printed, ended) = played(&rt, schedule.as_slice())?;
+        let (printed, ended) = played_over_either(&rt, schedule.as_slice())?;
         expect_end(&rt, ended, "")?;
         note_parts(&mut reached, printed.as_slice());
     }

@@ -1,0 +1,6 @@
+//! The command line of the program: from its words to what they ask for.
+#![tactic(auto)]
+
+pub mod words;
+
+pub use words::{Asked, Numbers, read_words};

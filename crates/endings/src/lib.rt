@@ -1,0 +1,6 @@
+//! How the program ends: its exit statuses, and what it tells of a fault on the writer of faults.
+#![tactic(auto)]
+
+pub mod ends;
+
+pub use ends::{Ending, fault_told, refused, unreadable};

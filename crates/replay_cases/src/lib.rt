@@ -1,0 +1,13 @@
+//! What a replay does with schedules whose printed text and faults are known, and with readers and writers that fail: functions over
+//! whatever gates, each of which a test here calls over the core, and one of `mntgate` over the gates that threads use.
+#![tactic(auto)]
+
+pub mod fakes;
+mod freezes;
+mod levels;
+pub mod reads_and_writes;
+mod remounts;
+pub mod rows;
+#[cfg(test)]
+mod tests;
+mod trees;

@@ -1,0 +1,100 @@
+//! Each case over the core.
+
+use crate::{reads_and_writes, rows};
+use replays::Core;
+use std::test::Fail;
+
+#[test]
+fn schedules_print_what_they_ask_for(rt: HostRuntime) -> Result<(), Fail> {
+    rows::schedules_print_what_they_ask_for::<Core, _>(&rt)
+}
+
+#[test]
+fn levels_are_entered_and_left(rt: HostRuntime) -> Result<(), Fail> {
+    rows::levels_are_entered_and_left::<Core, _>(&rt)
+}
+
+#[test]
+fn write_access_takes_a_level_and_a_mount(rt: HostRuntime) -> Result<(), Fail> {
+    rows::write_access_takes_a_level_and_a_mount::<Core, _>(&rt)
+}
+
+#[test]
+fn remounts_print_their_events(rt: HostRuntime) -> Result<(), Fail> {
+    rows::remounts_print_their_events::<Core, _>(&rt)
+}
+
+#[test]
+fn a_hook_that_fails_refuses_its_remount(rt: HostRuntime) -> Result<(), Fail> {
+    rows::a_hook_that_fails_refuses_its_remount::<Core, _>(&rt)
+}
+
+#[test]
+fn calls_at_the_tree_print_what_they_do(rt: HostRuntime) -> Result<(), Fail> {
+    rows::calls_at_the_tree_print_what_they_do::<Core, _>(&rt)
+}
+
+#[test]
+fn freezes_and_thaws_print_what_they_do(rt: HostRuntime) -> Result<(), Fail> {
+    rows::freezes_and_thaws_print_what_they_do::<Core, _>(&rt)
+}
+
+#[test]
+fn malformed_schedules_end_at_their_first_fault(rt: HostRuntime) -> Result<(), Fail> {
+    rows::malformed_schedules_end_at_their_first_fault::<Core, _>(&rt)
+}
+
+#[test]
+fn what_was_printed_before_a_fault_stays(rt: HostRuntime) -> Result<(), Fail> {
+    rows::what_was_printed_before_a_fault_stays::<Core, _>(&rt)
+}
+
+#[test]
+fn a_line_has_at_most_256_bytes(rt: HostRuntime) -> Result<(), Fail> {
+    rows::a_line_has_at_most_256_bytes::<Core, _>(&rt)
+}
+
+#[test]
+fn a_line_that_is_too_long_is_not_cut_off(rt: HostRuntime) -> Result<(), Fail> {
+    rows::a_line_that_is_too_long_is_not_cut_off::<Core, _>(&rt)
+}
+
+#[test]
+fn a_schedule_may_have_1048576_lines(rt: HostRuntime) -> Result<(), Fail> {
+    reads_and_writes::a_schedule_may_have_1048576_lines::<Core, _>(&rt)
+}
+
+#[test]
+fn a_schedule_has_at_most_1048576_lines(rt: HostRuntime) -> Result<(), Fail> {
+    reads_and_writes::a_schedule_has_at_most_1048576_lines::<Core, _>(&rt)
+}
+
+#[test]
+fn each_read_fails_in_turn(rt: HostRuntime) -> Result<(), Fail> {
+    reads_and_writes::each_read_fails_in_turn::<Core, _>(&rt)
+}
+
+#[test]
+fn a_byte_at_a_time_reads_and_writes_the_same(rt: HostRuntime) -> Result<(), Fail> {
+    reads_and_writes::a_byte_at_a_time_reads_and_writes_the_same::<Core, _>(&rt)
+}
+
+#[test]
+fn each_write_fails_in_turn(rt: HostRuntime) -> Result<(), Fail> {
+    reads_and_writes::each_write_fails_in_turn::<Core, _>(&rt)
+}
+
+#[test]
+fn each_write_between_reads_fails_in_turn(rt: HostRuntime) -> Result<(), Fail> {
+    reads_and_writes::each_write_between_reads_fails_in_turn::<Core, _>(&rt)
+}
+
+#[test]
+fn a_write_in_mid_stream_fails_at_its_line(rt: HostRuntime) -> Result<(), Fail> {
+    reads_and_writes::a_write_in_mid_stream_fails_at_its_line::<Core, _>(&rt)
+}
+
+#[test]
+fn what_was_printed_is_written_before_more_is_read(rt: HostRuntime) -> Result<(), Fail> {
+    reads_and_writes::what_was_printed_is_written_before_more_is_read::<Core, _>(&rt)
+}

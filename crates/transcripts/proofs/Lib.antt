@@ -1,0 +1,7 @@
+pub mod Playing
+pub mod Showing
+pub mod Texts
+pub mod Running
+pub mod Faults
+pub mod Unrolled
+pub mod Replaying

@@ -1,0 +1,8 @@
+pub mod Limits
+pub mod Printing
+pub mod Transcript
+pub mod Reached
+pub mod Drivers
+pub mod Sessions
+pub mod Replayed
+pub mod Replaying

@@ -1,0 +1,12 @@
+-- Plays that some schedule leads to.
+use Rattle.std.specs.Prelude.{◌≡◌, List, []}
+use Rattle.gate_world.specs.Configs.{IsWithin}
+use Rattle.gate_world.specs.Worlds.{Entry, run, history, opening}
+use Rattle.transcripts.specs.Transcript.{Play}
+
+-- some schedule leads to this play
+pub record IsReached (p : Play) : Type 0 where
+  pub within : IsWithin p.config
+  pub entries : List Entry
+  pub world : p.world ≡ run p.config opening entries
+  pub done : p.done ≡ history p.config opening [] entries

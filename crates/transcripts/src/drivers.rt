@@ -1,0 +1,83 @@
+//! What moves the gates of a schedule.
+
+use access_model::GateError;
+use cpu_words::WordName;
+use freeze_levels::HookKind;
+use gate_core::{Core, Step};
+use gate_world::{Config, Op};
+use std::alloc::Global;
+
+/// The gates of a schedule, with all their tasks: all tasks on plain words, or gates of a crate that stands on this one.
+pub trait Driver: Drop {
+    ghost use Rattle.std.specs.Prelude.{◌≡◌, true, Bool, Some, Err, IfOk, IfErr, OnOk};
+    ghost use Rattle.access_model.specs.declared.errors.GateError.TheVariants.{Invalid, NoMemory};
+    ghost use Rattle.cpu_words.specs.Names.{IsWord};
+    ghost use Rattle.cpu_words.specs.Words.{read};
+    ghost use Rattle.gate_core.specs.Answers.{begin_answer, step_answer, wanted_hook};
+    ghost use Rattle.gate_world.specs.Configs.{IsWithin, extents_of};
+    ghost use Rattle.gate_world.specs.Worlds.{World, Begins, Steps, happens, opening};
+    ghost use Rattle.gate_world.specs.declared.config.Config.{Config as ConfigType};
+
+    /// Whether it is known which world they show once they are made.
+    ghost is_known: { Bool };
+
+    /// They are of this configuration and show this world.
+    ghost shows: { Self → ConfigType → World → Type 0 };
+
+    /// All words as they begin, and every task idle with nothing held. Invalid where a number of the configuration is out of its
+    /// limits; NoMemory where a growth was refused.
+    fn new(alloc: Global, config: Config) -> Result<Self, GateError>
+        ensures opens { is_known ≡ true → IfOk result (λ driver. shows driver config opening) }
+        ensures within { OnOk result (IsWithin config) }
+        ensures invalid { ¬ IsWithin config → result ≡ Err Invalid }
+        ensures memory { IsWithin config → IfErr result (λ e. e ≡ NoMemory) };
+
+    /// Begins an operation of a task. Refused, and then nothing is changed, as `Core::begin` says.
+    fn begin(&mut self, task: u8, op: Op) -> Result<(), GateError>
+        ensures answer { (c : ConfigType) (w : World) → shows self.old c w → result ≡ begin_answer c w task op }
+        ensures shows { (c : ConfigType) (w : World) → shows self.old c w → shows self.new c (happens c w (Begins task op)) };
+
+    /// Does the next event of a task's operation, where a hook of the file system answers this; none of an idle task.
+    fn step(&mut self, task: u8, hook: Result<(), u16>) -> Step
+        ensures answer { (c : ConfigType) (w : World) → shows self.old c w → result ≡ step_answer c w task hook }
+        ensures shows { (c : ConfigType) (w : World) → shows self.old c w → shows self.new c (happens c w (Steps task hook)) };
+
+    /// The hook whose answer a task's next step reads; None where that is the same whatever a hook answers.
+    fn wants_hook(&self, task: u8) -> Option<HookKind>
+        ensures { (c : ConfigType) (w : World) → shows self.now c w → result ≡ wanted_hook c w task };
+
+    /// The value of a word; None where the configuration has no such word.
+    fn word(&self, name: WordName) -> Option<u64>
+        ensures { (c : ConfigType) (w : World) → shows self.now c w → IsWord (extents_of c) name →
+            result ≡ Some (read w.words name) };
+}
+
+/// All tasks on plain words.
+impl Driver for Core {
+    ghost use Rattle.std.specs.Prelude.{true};
+    ghost use Rattle.transcripts.specs.Drivers.{core_shows};
+
+    ghost is_known = { true };
+
+    ghost shows = { core_shows };
+
+    fn new(alloc: Global, config: Config) -> Result<Core, GateError> {
+        Core::new(alloc, config)
+    }
+
+    fn begin(&mut self, task: u8, op: Op) -> Result<(), GateError> {
+        self.begin(task, op)
+    }
+
+    fn step(&mut self, task: u8, hook: Result<(), u16>) -> Step {
+        self.step(task, hook)
+    }
+
+    fn wants_hook(&self, task: u8) -> Option<HookKind> {
+        self.wants_hook(task)
+    }
+
+    fn word(&self, name: WordName) -> Option<u64> {
+        self.word(name)
+    }
+}

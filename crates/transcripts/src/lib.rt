@@ -1,0 +1,12 @@
+//! What a replay prints: the bytes that the lines of a schedule print, and the fault at which it ends, as a definition over the worlds of
+//! the headline; what holds of a replay under way, whichever program makes it; and the session that prints it: the gates of a schedule,
+//! whichever they are, and the model beside them.
+#![tactic(auto)]
+
+pub mod drivers;
+pub mod printing;
+pub mod session;
+
+pub use drivers::Driver;
+pub use gate_core::Core;
+pub use session::{Session, no_memory};

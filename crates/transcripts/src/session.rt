@@ -1,0 +1,394 @@
+//! What a schedule drives: the gates, and the model beside them.
+
+ghost use Rattle.std.specs.Prelude.{◌≡◌, ◌≤◌, ◌<◌, ◌++◌, true, false, IsOk, IfOk, IfErr, OnOk};
+ghost use Rattle.schedule_text.specs.declared.faults.Fault.TheVariants.{Refused};
+ghost use Rattle.access_model.specs.declared.errors.GateError.TheVariants.{Invalid, NoMemory};
+
+use crate::drivers::Driver;
+use crate::printing::{print_ended, print_step};
+use access_model::{GateError, Holder, Model};
+use cpu_words::WordName;
+use gate_core::{Progress, Step};
+use gate_world::{Config, Op};
+use schedule_text::{Fault, HookFailure, Output, Request, TaskCommand};
+use std::alloc::{AllocError, Global};
+
+/// How many events a line `run` does at most.
+pub const EVENTS: u16 = 1_000;
+
+/// The gates, moved event by event, and the model, moved by the actions that the events add.
+#[derive(Drop)]
+pub struct Session<D> {
+    config: Config,
+    driver: D,
+    model: Model,
+}
+
+/// How far a `run` came: how many events it did, and how the operation stands after the last one.
+#[derive(Clone, Copy)]
+pub struct Ran {
+    pub events: u16,
+    pub progress: Progress,
+}
+
+/// A growth that was refused.
+pub fn no_memory(_error: AllocError) -> Fault
+    ensures { result ≡ Refused NoMemory }
+{
+    Fault::Refused(GateError::NoMemory)
+}
+
+impl<D: Driver> Session<D> {
+    ghost use Rattle.gate_core.specs.Answers.{begin_answer, step_answer};
+    ghost use Rattle.gate_world.specs.Worlds.{Begins, Steps};
+    ghost use Rattle.transcripts.specs.Limits.{is_config};
+    ghost use Rattle.transcripts.specs.Sessions.{ShowsPlay};
+    ghost use Rattle.transcripts.specs.Transcript.{Play, opening_play, played, used_now, begin_text, hook_answer, run_of, command_outcome, request_outcome, nonzero_line, words_text, mount_part, level_part, section_line, node_word_line, kids_line, tree_words_text, count_up, model_text, freezes_text, freeze_line, closed_line, task_text, tree_line, held_line, level_line};
+    ghost use Rattle.access_model.specs.Histories.{end_of};
+    ghost use Rattle.cpu_words.specs.Names.{IsWord};
+    ghost use Rattle.gate_world.specs.Configs.{extents_of};
+    ghost use Rattle.std.specs.List.{flat_map};
+
+    /// All tasks idle, and the model as it opens.
+    pub fn new(alloc: Global, config: Config) -> Result<Session<D>, Fault>
+        ensures opens { D.is_known ≡ true → IfOk result (λ session. ShowsPlay D.shows session (opening_play config)) }
+        ensures within { OnOk result (is_config config ≡ true) }
+        ensures invalid { is_config config ≡ false → result ≡ Err (Refused Invalid) }
+        ensures memory { is_config config ≡ true → IfErr result (λ fault. fault ≡ Refused NoMemory) }
+    {
+        let driver = D::new(alloc, config).map_err(Fault::Refused)?;
+        let (tasks, mounts, nodes) = (config.tasks, config.mounts, config.nodes);
+        let model = Model::new(alloc, tasks, mounts, nodes, config.capacity).map_err(
+            Fault::Refused,
+        )?;
+        Ok(Session {
+            config,
+            driver,
+            model,
+        })
+    }
+
+    /// How many tasks there are.
+    pub fn tasks(&self) -> u8
+        ensures { (p : Play) → ShowsPlay D.shows self.now p → result ≡ p.config.tasks }
+    {
+        self.config.tasks
+    }
+
+    /// Does what is asked, and prints what it is to print.
+    pub fn do_request(&mut self, request: Request, out: &mut Output) -> Result<(), Fault>
+        ensures prints { (p : Play) → ShowsPlay D.shows self.old p →
+            OnOk result (out.new.bytes.items ≡ out.old.bytes.items ++ (request_outcome p request).printed) }
+        ensures shows { (p : Play) → ShowsPlay D.shows self.old p → OnOk result (ShowsPlay D.shows self.new (request_outcome p request).play) }
+        ensures memory { (p : Play) → ShowsPlay D.shows self.old p → IfErr result (λ fault. fault ≡ Refused NoMemory) }
+    {
+        match request {
+            Request::Words => self.print_words(out).map_err(no_memory),
+            Request::Tree => self.print_tree_words(out).map_err(no_memory),
+            Request::Model => self.print_model(out).map_err(no_memory),
+            Request::Task { task, command } => self.do_command(task, command, out),
+        }
+    }
+
+    /// Does what a line asks of a task, and prints what it is to print.
+    pub fn do_command(
+        &mut self,
+        task: u8,
+        command: TaskCommand,
+        out: &mut Output,
+    ) -> Result<(), Fault>
+        ensures prints { (p : Play) → ShowsPlay D.shows self.old p →
+            OnOk result (out.new.bytes.items ≡ out.old.bytes.items ++ (command_outcome p task command).printed) }
+        ensures shows { (p : Play) → ShowsPlay D.shows self.old p → OnOk result (ShowsPlay D.shows self.new (command_outcome p task command).play) }
+        ensures memory { (p : Play) → ShowsPlay D.shows self.old p → IfErr result (λ fault. fault ≡ Refused NoMemory) }
+    {
+        match command {
+            TaskCommand::Begin(op) => self.begin(task, op, out),
+            TaskCommand::Step { hook } => {
+                let step = self.step(task, hook)?;
+                print_step(out, task, step, self.used()).map_err(no_memory)
+            }
+            TaskCommand::Run { failure } => {
+                let ran = self.run(task, failure)?;
+                print_ended(out, task, ran.progress, self.used()).map_err(no_memory)
+            }
+        }
+    }
+
+    fn begin(&mut self, task: u8, op: Op, out: &mut Output) -> Result<(), Fault>
+        ensures prints { (p : Play) → ShowsPlay D.shows self.old p →
+            OnOk result (out.new.bytes.items ≡ out.old.bytes.items ++ begin_text task (begin_answer p.config p.world task op)) }
+        ensures shows { (p : Play) → ShowsPlay D.shows self.old p → ShowsPlay D.shows self.new (played p (Begins task op)) }
+        ensures memory { IfErr result (λ fault. fault ≡ Refused NoMemory) }
+    {
+        match self.driver.begin(task, op) {
+            Ok(()) => Ok(()),
+            Err(refusal) => out.refused_line(task, refusal).map_err(no_memory),
+        }
+    }
+
+    /// Does one event, and the action that it adds.
+    fn step(&mut self, task: u8, hook: Result<(), u16>) -> Result<Step, Fault>
+        ensures answer { (p : Play) → ShowsPlay D.shows self.old p → result ≡ Ok (step_answer p.config p.world task hook) }
+        ensures shows { (p : Play) → ShowsPlay D.shows self.old p → ShowsPlay D.shows self.new (played p (Steps task hook)) }
+    {
+        let step = self.driver.step(task, hook);
+        if let Some(action) = step.action {
+            self.model.apply(task, &action).map_err(Fault::Refused)?;
+        }
+        Ok(step)
+    }
+
+    /// Goes on to the reply, or to the first event that finds that the task has to wait, or to the last event that one line
+    /// may do. A hook may fail; all others answer Ok.
+    fn run(&mut self, task: u8, failure: Option<HookFailure>) -> Result<Ran, Fault>
+        ensures few { IfOk result (λ ran. ran.events ≤ 1000) }
+        ensures done { (p : Play) → ShowsPlay D.shows self.old p → IsOk result }
+        ensures progress { (p : Play) → ShowsPlay D.shows self.old p → IfOk result (λ ran. ran.progress ≡ (run_of p task failure).0) }
+        ensures shows { (p : Play) → ShowsPlay D.shows self.old p → ShowsPlay D.shows self.new (run_of p task failure).1 }
+    {
+        for events in 0..EVENTS {
+            let hook = self.hook_answer(task, failure);
+            let progress = self.step(task, hook)?.progress;
+            match progress {
+                Progress::Going => {}
+                Progress::Idle => return Ok(Ran { events, progress }),
+                Progress::Waiting | Progress::Done(_) => {
+                    return Ok(Ran {
+                        events: events + 1,
+                        progress,
+                    });
+                }
+            }
+        }
+        Ok(Ran {
+            events: EVENTS,
+            progress: Progress::Going,
+        })
+    }
+
+    /// What the hook answers that the next event of a task asks, where one may fail and all others answer Ok.
+    fn hook_answer(&self, task: u8, failure: Option<HookFailure>) -> Result<(), u16>
+        ensures { (p : Play) → ShowsPlay D.shows self.now p → result ≡ hook_answer p task failure }
+    {
+        match failure {
+            Some(failure) => failure.answer(self.driver.wants_hook(task)),
+            None => Ok(()),
+        }
+    }
+
+    /// The blocks charged.
+    fn used(&self) -> u64
+        ensures { (p : Play) → ShowsPlay D.shows self.now p → result ≡ used_now p }
+    {
+        self.driver.word(WordName::Used).unwrap_or(0)
+    }
+
+    /// Prints the words that aren't 0, up to the last section.
+    #[tactic(auto, unfolding(crate::specs::Transcript::words_text))]
+    pub fn print_words(&self, out: &mut Output) -> Result<(), AllocError>
+        ensures { (p : Play) → ShowsPlay D.shows self.now p → OnOk result (out.new.bytes.items ≡ out.old.bytes.items ++ words_text p) }
+    {
+        self.print_word(WordName::Umount, out)?;
+        self.print_word(WordName::Stage, out)?;
+        self.print_word(WordName::Holders, out)?;
+        self.print_word(WordName::SbFlags, out)?;
+        self.print_word(WordName::Remount, out)?;
+        self.print_words_of_mounts(out)?;
+        self.print_level_words(1, out)?;
+        self.print_level_words(2, out)?;
+        self.print_level_words(3, out)?;
+        self.print_sections(out)
+    }
+
+    fn print_words_of_mounts(&self, out: &mut Output) -> Result<(), AllocError>
+        ensures { (p : Play) → ShowsPlay D.shows self.now p →
+            OnOk result (out.new.bytes.items ≡ out.old.bytes.items ++ flat_map (mount_part p) (count_up p.config.mounts)) }
+    {
+        for mount in 0..self.config.mounts {
+            self.print_mount_words(mount, out)?;
+        }
+        Ok(())
+    }
+
+    fn print_mount_words(&self, mount: u8, out: &mut Output) -> Result<(), AllocError>
+        ensures { (p : Play) → ShowsPlay D.shows self.now p → mount < p.config.mounts →
+            OnOk result (out.new.bytes.items ≡ out.old.bytes.items ++ mount_part p mount) }
+    {
+        self.print_word(WordName::MountFlags(mount), out)?;
+        for cpu in 0..self.config.processors {
+            self.print_word(WordName::MountCount(mount, cpu), out)?;
+        }
+        Ok(())
+    }
+
+    fn print_level_words(&self, level: u8, out: &mut Output) -> Result<(), AllocError>
+        ensures { (p : Play) → ShowsPlay D.shows self.now p → 1 ≤ level → level ≤ 3 →
+            OnOk result (out.new.bytes.items ≡ out.old.bytes.items ++ level_part p level) }
+    {
+        self.print_word(WordName::Block(level), out)?;
+        self.print_word(WordName::Sync(level), out)?;
+        for cpu in 0..self.config.processors {
+            self.print_word(WordName::LevelCount(level, cpu), out)?;
+        }
+        Ok(())
+    }
+
+    fn print_sections(&self, out: &mut Output) -> Result<(), AllocError>
+        ensures { (p : Play) → ShowsPlay D.shows self.now p →
+            OnOk result (out.new.bytes.items ≡ out.old.bytes.items ++ flat_map (section_line p) (count_up p.config.tasks)) }
+    {
+        for task in 0..self.config.tasks {
+            self.print_word(WordName::Section(task), out)?;
+        }
+        Ok(())
+    }
+
+    /// Prints the words of the tree that aren't 0.
+    #[tactic(auto, unfolding(crate::specs::Transcript::tree_words_text))]
+    pub fn print_tree_words(&self, out: &mut Output) -> Result<(), AllocError>
+        ensures { (p : Play) → ShowsPlay D.shows self.now p → OnOk result (out.new.bytes.items ≡ out.old.bytes.items ++ tree_words_text p) }
+    {
+        self.print_word(WordName::Used, out)?;
+        self.print_node_words(out)?;
+        self.print_kids(out)
+    }
+
+    fn print_node_words(&self, out: &mut Output) -> Result<(), AllocError>
+        ensures { (p : Play) → ShowsPlay D.shows self.now p →
+            OnOk result (out.new.bytes.items ≡ out.old.bytes.items ++ flat_map (node_word_line p) (count_up p.config.nodes)) }
+    {
+        for node in 0..self.config.nodes {
+            self.print_word(WordName::Node(node), out)?;
+        }
+        Ok(())
+    }
+
+    fn print_kids(&self, out: &mut Output) -> Result<(), AllocError>
+        ensures { (p : Play) → ShowsPlay D.shows self.now p →
+            OnOk result (out.new.bytes.items ≡ out.old.bytes.items ++ flat_map (kids_line p) (count_up p.config.nodes)) }
+    {
+        for node in 0..self.config.nodes {
+            self.print_word(WordName::Kids(node), out)?;
+        }
+        Ok(())
+    }
+
+    /// Prints a word where it isn't 0.
+    fn print_word(&self, name: WordName, out: &mut Output) -> Result<(), AllocError>
+        ensures { (p : Play) → ShowsPlay D.shows self.now p → IsWord (extents_of p.config) name →
+            OnOk result (out.new.bytes.items ≡ out.old.bytes.items ++ nonzero_line p.world name) }
+    {
+        match self.driver.word(name) {
+            None | Some(0) => Ok(()),
+            Some(value) => out.word_line(name, value),
+        }
+    }
+
+    /// Prints the model.
+    #[tactic(auto, unfolding(crate::specs::Transcript::model_text))]
+    pub fn print_model(&self, out: &mut Output) -> Result<(), AllocError>
+        ensures { (p : Play) → ShowsPlay D.shows self.now p → OnOk result (out.new.bytes.items ≡ out.old.bytes.items ++ model_text p) }
+    {
+        let (stage, passed) = (self.model.stage(), self.model.passed());
+        out.model_line(stage, passed, self.model.sb_ro())?;
+        self.print_freezes(out)?;
+        self.print_closed_mounts(out)?;
+        self.print_holders(out)?;
+        self.print_tree(out)
+    }
+
+    /// Prints who holds a freeze.
+    fn print_freezes(&self, out: &mut Output) -> Result<(), AllocError>
+        ensures { (p : Play) → ShowsPlay D.shows self.now p →
+            OnOk result (out.new.bytes.items ≡ out.old.bytes.items ++ freezes_text (end_of p.done)) }
+    {
+        self.print_freeze(Holder::Kernel, out)?;
+        self.print_freeze(Holder::User, out)
+    }
+
+    fn print_freeze(&self, holder: Holder, out: &mut Output) -> Result<(), AllocError>
+        ensures { (p : Play) → ShowsPlay D.shows self.now p →
+            OnOk result (out.new.bytes.items ≡ out.old.bytes.items ++ freeze_line (end_of p.done) holder) }
+    {
+        if self.model.holds(holder) {
+            out.holder_line(holder)
+        } else {
+            Ok(())
+        }
+    }
+
+    /// Prints the mounts that are read-only.
+    fn print_closed_mounts(&self, out: &mut Output) -> Result<(), AllocError>
+        ensures { (p : Play) → ShowsPlay D.shows self.now p →
+            OnOk result (out.new.bytes.items ≡ out.old.bytes.items ++ flat_map (closed_line (end_of p.done)) (count_up p.config.mounts)) }
+    {
+        for mount in 0..self.config.mounts {
+            if self.model.mount_ro(mount) {
+                out.read_only_mount_line(mount)?;
+            }
+        }
+        Ok(())
+    }
+
+    /// Prints what the tasks hold.
+    fn print_holders(&self, out: &mut Output) -> Result<(), AllocError>
+        ensures { (p : Play) → ShowsPlay D.shows self.now p →
+            OnOk result (out.new.bytes.items
+            ≡ out.old.bytes.items ++ flat_map (task_text p.config (end_of p.done)) (count_up p.config.tasks)) }
+    {
+        for task in 0..self.config.tasks {
+            self.print_held(task, out)?;
+        }
+        Ok(())
+    }
+
+    /// Prints the nodes that are not free.
+    fn print_tree(&self, out: &mut Output) -> Result<(), AllocError>
+        ensures { (p : Play) → ShowsPlay D.shows self.now p →
+            OnOk result (out.new.bytes.items ≡ out.old.bytes.items ++ flat_map (tree_line (end_of p.done)) (count_up p.config.nodes)) }
+    {
+        for node in 0..self.config.nodes {
+            if let Some(info) = self.model.tree(node) {
+                out.node_line(node, info)?;
+            }
+        }
+        Ok(())
+    }
+
+    /// Prints what a task holds.
+    fn print_held(&self, task: u8, out: &mut Output) -> Result<(), AllocError>
+        ensures { (p : Play) → ShowsPlay D.shows self.now p → task < p.config.tasks →
+            OnOk result (out.new.bytes.items ≡ out.old.bytes.items ++ task_text p.config (end_of p.done) task) }
+    {
+        self.print_held_mounts(task, out)?;
+        self.print_held_level(task, 1, out)?;
+        self.print_held_level(task, 2, out)?;
+        self.print_held_level(task, 3, out)
+    }
+
+    fn print_held_mounts(&self, task: u8, out: &mut Output) -> Result<(), AllocError>
+        ensures { (p : Play) → ShowsPlay D.shows self.now p → task < p.config.tasks →
+            OnOk result (out.new.bytes.items
+            ≡ out.old.bytes.items ++ flat_map (held_line (end_of p.done) task) (count_up p.config.mounts)) }
+    {
+        for mount in 0..self.config.mounts {
+            let count = self.model.held_mount(task, mount);
+            if count > 0 {
+                out.held_mount_line(task, mount, count)?;
+            }
+        }
+        Ok(())
+    }
+
+    fn print_held_level(&self, task: u8, level: u8, out: &mut Output) -> Result<(), AllocError>
+        ensures { (p : Play) → ShowsPlay D.shows self.now p → task < p.config.tasks → 1 ≤ level → level ≤ 3 →
+            OnOk result (out.new.bytes.items ≡ out.old.bytes.items ++ level_line (end_of p.done) task level) }
+    {
+        if self.model.held_level(task, level) {
+            out.held_level_line(task, level)
+        } else {
+            Ok(())
+        }
+    }
+}
