@@ -6,7 +6,7 @@ use Rattle.std.proofs.lemmas.Bool.Decides.{eqb_tells}
 use Rattle.finite_sums.specs.Sums.{update}
 use Rattle.finite_sums.proofs.Totals.{update_off, each_updated}
 use Rattle.access_model.specs.declared.actions.Action.{Action}
-use Rattle.access_model.specs.declared.actions.Action.TheVariants.{Grant, Return, MountRo, MountRw, SbRo, SbRw, Stage, Hold, Leave, Pass, Reopen, Create, Remove, Grow, MoveTo, Dirty, Clean}
+use Rattle.access_model.specs.declared.actions.Action.TheVariants.{Grant, Return, MountRo, MountRw, SbRo, SbRw, Stage, Hold, Leave, Pass, Reopen, Create, Remove, Grow, MoveTo, Dirty, Clean, Open, Close}
 use Rattle.access_model.specs.declared.actions.Gate.TheVariants.{Mount, Level}
 use Rattle.access_model.specs.declared.actions.NodeInfo.{NodeInfo}
 use Rattle.std.specs.Prelude.{Option}
@@ -67,6 +67,10 @@ module _ (l : Limits) (s : State) (t : ℕ) (k : NobodyHoldsClosed l s) where
   -- the tree has no part in it
   same_tree : (tree : ℕ → Option NodeInfo) → NobodyHoldsClosed l (record s { tree = tree })
   same_tree tree = record { mounts = k.mounts; levels = k.levels; counts = k.counts; passed = k.passed; stage = k.stage }
+
+  -- nor have the open files
+  same_files : (opens : ℕ → ℕ → Bool) (tree : ℕ → Option NodeInfo) → NobodyHoldsClosed l (record s { opens = opens; tree = tree })
+  same_files opens tree = record { mounts = k.mounts; levels = k.levels; counts = k.counts; passed = k.passed; stage = k.stage }
 
   -- an action that the task may do leaves nobody holding what is closed
   pub step : (a : Action) → MayDo l s t a → NobodyHoldsClosed l (after_action s t a)
@@ -163,6 +167,8 @@ module _ (l : Limits) (s : State) (t : ℕ) (k : NobodyHoldsClosed l s) where
   step (MoveTo n d) may = same_tree _
   step (Dirty n) may = same_tree _
   step (Clean n) may = same_tree _
+  step (Open n) may = same_files _ _
+  step (Close n) may = same_files _ _
 
 -- after a legal history nobody holds what is closed
 pub closed : (l : Limits) (h : List Done) → IsLegal l h → NobodyHoldsClosed l (end_of h)

@@ -2,7 +2,7 @@
 use Rattle.std.proofs.Common.{◌≡◌, ℕ, zero, suc, Bool, true, false, refl, ap, inl, inr, arith}
 use Rattle.std.proofs.lemmas.Bool.{false≢true}
 use Rattle.access_model.specs.declared.actions.Action.{Action}
-use Rattle.access_model.specs.declared.actions.Action.TheVariants.{Grant, Return, MountRo, MountRw, SbRo, SbRw, Stage, Hold, Leave, Pass, Reopen, Create, Remove, Grow, MoveTo, Dirty, Clean}
+use Rattle.access_model.specs.declared.actions.Action.TheVariants.{Grant, Return, MountRo, MountRw, SbRo, SbRw, Stage, Hold, Leave, Pass, Reopen, Create, Remove, Grow, MoveTo, Dirty, Clean, Open, Close}
 use Rattle.access_model.specs.declared.actions.Holder.{Holder}
 use Rattle.access_model.specs.declared.actions.Holder.TheVariants.{Kernel, User}
 use Rattle.access_model.specs.declared.actions.Holders.{Holders}
@@ -69,6 +69,8 @@ module _ (l : Limits) (s : State) (t : ℕ) (h : Holder) (frozen : IsFrozenFor s
   left (MoveTo n d) may ne = (frozen, refl)
   left (Dirty n) may ne = (frozen, refl)
   left (Clean n) may ne = (frozen, refl)
+  left (Open n) may ne = (frozen, refl)
+  left (Close n) may ne = (frozen, refl)
 
 pub stays_frozen : (l : Limits) (s : State) (t : ℕ) (a : Action) (h : Holder) → StaysFrozen l s t a h
 stays_frozen l s t a h allowed frozen ne = left l s t h frozen a allowed.1 ne

@@ -4,10 +4,10 @@ use Rattle.std.specs.Prelude.{cond, List, [], ◌∷◌}
 use Rattle.std.proofs.lemmas.Bool.Decides.{eqb_tells}
 use Rattle.finite_sums.proofs.Totals.{update_at, update_off}
 use Rattle.access_model.specs.declared.actions.Action.{Action}
-use Rattle.access_model.specs.declared.actions.Action.TheVariants.{Grant, Return, MountRo, MountRw, SbRo, SbRw, Stage, Hold, Leave, Pass, Reopen, Create, Remove, Grow, MoveTo, Dirty, Clean}
+use Rattle.access_model.specs.declared.actions.Action.TheVariants.{Grant, Return, MountRo, MountRw, SbRo, SbRw, Stage, Hold, Leave, Pass, Reopen, Create, Remove, Grow, MoveTo, Dirty, Clean, Open, Close}
 use Rattle.access_model.specs.States.{State}
-use Rattle.access_model.specs.Actions.{after_action, mounts_after, levels_after}
-use Rattle.access_model.specs.Histories.{Done, end_of, own_part, mounts_of, levels_of}
+use Rattle.access_model.specs.Actions.{after_action, mounts_after, levels_after, opens_after}
+use Rattle.access_model.specs.Histories.{Done, end_of, own_part, mounts_of, levels_of, opens_of}
 use Rattle.access_model.specs.Laws.{FollowsOwnList}
 
 -- an action leaves its own task's accesses as `mounts_after` says
@@ -29,6 +29,8 @@ mounts_own s t (Grow n blocks) = refl
 mounts_own s t (MoveTo n d) = refl
 mounts_own s t (Dirty n) = refl
 mounts_own s t (Clean n) = refl
+mounts_own s t (Open n) = refl
+mounts_own s t (Close n) = refl
 
 -- an action leaves its own task's levels as `levels_after` says
 levels_own : (s : State) (t : ℕ) (a : Action) → (after_action s t a).levels t ≡ levels_after a (s.levels t)
@@ -49,6 +51,8 @@ levels_own s t (Grow n blocks) = refl
 levels_own s t (MoveTo n d) = refl
 levels_own s t (Dirty n) = refl
 levels_own s t (Clean n) = refl
+levels_own s t (Open n) = refl
+levels_own s t (Close n) = refl
 
 -- an action leaves the accesses of every other task
 mounts_others : (s : State) (t x : ℕ) (a : Action) → (x ≡ t → ⊥) → (after_action s t a).mounts x ≡ s.mounts x
@@ -69,6 +73,8 @@ mounts_others s t x (Grow n blocks) ne = refl
 mounts_others s t x (MoveTo n d) ne = refl
 mounts_others s t x (Dirty n) ne = refl
 mounts_others s t x (Clean n) ne = refl
+mounts_others s t x (Open n) ne = refl
+mounts_others s t x (Close n) ne = refl
 
 -- an action leaves the levels of every other task
 levels_others : (s : State) (t x : ℕ) (a : Action) → (x ≡ t → ⊥) → (after_action s t a).levels x ≡ s.levels x
@@ -89,6 +95,52 @@ levels_others s t x (Grow n blocks) ne = refl
 levels_others s t x (MoveTo n d) ne = refl
 levels_others s t x (Dirty n) ne = refl
 levels_others s t x (Clean n) ne = refl
+levels_others s t x (Open n) ne = refl
+levels_others s t x (Close n) ne = refl
+
+-- an action leaves its own task's open files as `opens_after` says
+opens_own : (s : State) (t : ℕ) (a : Action) → (after_action s t a).opens t ≡ opens_after a (s.opens t)
+opens_own s t (Grant gate) = refl
+opens_own s t (Return gate) = refl
+opens_own s t (MountRo m) = refl
+opens_own s t (MountRw m) = refl
+opens_own s t SbRo = refl
+opens_own s t SbRw = refl
+opens_own s t (Stage n) = refl
+opens_own s t (Hold h) = refl
+opens_own s t (Leave h) = refl
+opens_own s t (Pass i) = refl
+opens_own s t (Reopen i) = refl
+opens_own s t (Create n d kind) = refl
+opens_own s t (Remove n) = refl
+opens_own s t (Grow n blocks) = refl
+opens_own s t (MoveTo n d) = refl
+opens_own s t (Dirty n) = refl
+opens_own s t (Clean n) = refl
+opens_own s t (Open n) = update_at s.opens t _
+opens_own s t (Close n) = update_at s.opens t _
+
+-- an action leaves the open files of every other task
+opens_others : (s : State) (t x : ℕ) (a : Action) → (x ≡ t → ⊥) → (after_action s t a).opens x ≡ s.opens x
+opens_others s t x (Grant gate) ne = refl
+opens_others s t x (Return gate) ne = refl
+opens_others s t x (MountRo m) ne = refl
+opens_others s t x (MountRw m) ne = refl
+opens_others s t x SbRo ne = refl
+opens_others s t x SbRw ne = refl
+opens_others s t x (Stage n) ne = refl
+opens_others s t x (Hold h) ne = refl
+opens_others s t x (Leave h) ne = refl
+opens_others s t x (Pass i) ne = refl
+opens_others s t x (Reopen i) ne = refl
+opens_others s t x (Create n d kind) ne = refl
+opens_others s t x (Remove n) ne = refl
+opens_others s t x (Grow n blocks) ne = refl
+opens_others s t x (MoveTo n d) ne = refl
+opens_others s t x (Dirty n) ne = refl
+opens_others s t x (Clean n) ne = refl
+opens_others s t x (Open n) ne = update_off s.opens t _ x ne
+opens_others s t x (Close n) ne = update_off s.opens t _ x ne
 
 -- a task's accesses after a history are what its own part leaves
 mounts_follow : (h : List Done) (t : ℕ) → (end_of h).mounts t ≡ mounts_of (own_part t h)
@@ -112,6 +164,17 @@ levels_follow (a ∷ earlier) t =
       | inr h ↦ rw (h.0, cond) (levels_others (end_of earlier) a.0 t a.1 (λ e. h.1 (sym e)) ∙ levels_follow earlier t)
     ]
 
--- both, as the law says it
+-- a task's open files after a history are what its own part leaves
+opens_follow : (h : List Done) (t : ℕ) → (end_of h).opens t ≡ opens_of (own_part t h)
+opens_follow [] t = refl
+opens_follow (a ∷ earlier) t =
+    elim (eqb_tells a.0 t) [
+      | inl h ↦ rw (h.0, cond) (subst
+          (λ y. (after_action (end_of earlier) a.0 a.1).opens y ≡ opens_after a.1 (opens_of (own_part t earlier))) h.1
+          (opens_own (end_of earlier) a.0 a.1 ∙ ap (opens_after a.1) (ap (end_of earlier).opens h.1 ∙ opens_follow earlier t)))
+      | inr h ↦ rw (h.0, cond) (opens_others (end_of earlier) a.0 t a.1 (λ e. h.1 (sym e)) ∙ opens_follow earlier t)
+    ]
+
+-- all, as the law says it
 pub follows : (h : List Done) (t : ℕ) → FollowsOwnList h t
-follows h t = record { mounts = λ m. ap (λ f. f m) (mounts_follow h t); levels = λ i. ap (λ f. f i) (levels_follow h t) }
+follows h t = record { mounts = λ m. ap (λ f. f m) (mounts_follow h t); levels = λ i. ap (λ f. f i) (levels_follow h t); opens = λ n. ap (λ f. f n) (opens_follow h t) }

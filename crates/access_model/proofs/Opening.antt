@@ -6,7 +6,7 @@ use Rattle.finite_sums.specs.Sums.{update}
 use Rattle.finite_sums.proofs.Totals.{update_off}
 use Rattle.access_model.specs.declared.model.Accesses.{Accesses}
 use Rattle.access_model.specs.States.{root}
-use Rattle.access_model.specs.Shown.{nothing, held_of, inside_of, flags_of, tree_of}
+use Rattle.access_model.specs.Shown.{nothing, held_of, inside_of, opens_of, flags_of, tree_of}
 
 -- a list of one value has it everywhere, and past the end it is the default
 all_one : {A : Type 0} (n i : ℕ) (d : A) → get_or (replicate n d) i d ≡ d
@@ -22,7 +22,7 @@ each_of_one P (suc n) (suc i) x d here there = each_of_one P n i x d here there
 
 -- a new task's accesses: none
 abbrev pub no_access : Accesses
-no_access = record { mounts = replicate 8 0; levels = replicate 4 false }
+no_access = record { mounts = replicate 8 0; levels = replicate 4 false; files = replicate 64 false }
 
 -- tasks with no access hold nothing at any mount
 pub nothing_held : (n : ℕ) → held_of (replicate n no_access) ≡ (λ t m. 0)
@@ -32,6 +32,11 @@ nothing_held n = fun_ext (λ t. fun_ext (λ m. each_of_one (λ a. get_or a.mount
 pub nobody_inside : (n : ℕ) → inside_of (replicate n no_access) ≡ (λ t i. false)
 nobody_inside n =
     fun_ext (λ t. fun_ext (λ i. each_of_one (λ a. get_or a.levels i false ≡ false) n t no_access nothing (all_one 4 i false) refl))
+
+-- and have no file open
+pub nothing_open : (n : ℕ) → opens_of (replicate n no_access) ≡ (λ t f. false)
+nothing_open n =
+    fun_ext (λ t. fun_ext (λ f. each_of_one (λ a. get_or a.files f false ≡ false) n t no_access nothing (all_one 64 f false) refl))
 
 -- no mount has its flag
 pub no_flag : flags_of (replicate 8 false) ≡ (λ m. false)

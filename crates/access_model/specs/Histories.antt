@@ -2,7 +2,7 @@
 use Rattle.std.specs.Prelude.{◌≡◌, ℕ, ◌==◌, Bool, false, List, [], ◌∷◌, if◌then◌else◌}
 use Rattle.access_model.specs.declared.actions.Action.{Action}
 use Rattle.access_model.specs.States.{Limits, State, opening_state}
-use Rattle.access_model.specs.Actions.{IsAllowed, after_action, mounts_after, levels_after}
+use Rattle.access_model.specs.Actions.{IsAllowed, after_action, mounts_after, levels_after, opens_after}
 
 -- an action with the number of its task
 abbrev pub Done : Type 0
@@ -36,3 +36,8 @@ mounts_of (a ∷ earlier) = mounts_after a (mounts_of earlier)
 abbrev pub levels_of : List Action → ℕ → Bool
 levels_of [] = λ i. false
 levels_of (a ∷ earlier) = levels_after a (levels_of earlier)
+
+-- whether a task's own list leaves it with a file open
+abbrev pub opens_of : List Action → ℕ → Bool
+opens_of [] = λ n. false
+opens_of (a ∷ earlier) = opens_after a (opens_of earlier)

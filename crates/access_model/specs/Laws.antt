@@ -6,7 +6,7 @@ use Rattle.access_model.specs.declared.actions.Holder.{Holder}
 use Rattle.access_model.specs.Holders.{held_by}
 use Rattle.access_model.specs.States.{Limits, State}
 use Rattle.access_model.specs.Actions.{IsAllowed, after_action}
-use Rattle.access_model.specs.Histories.{Done, end_of, own_part, mounts_of, levels_of}
+use Rattle.access_model.specs.Histories.{Done, end_of, own_part, mounts_of, levels_of, opens_of}
 
 -- writes through the mount are refused, by its own flag or the superblock's
 abbrev pub IsReadOnly : State → ℕ → Type 0
@@ -24,6 +24,7 @@ pub record NobodyHoldsClosed (l : Limits) (s : State) : Type 0 where
 pub record FollowsOwnList (history : List Done) (t : ℕ) : Type 0 where
   pub mounts : (m : ℕ) → (end_of history).mounts t m ≡ mounts_of (own_part t history) m
   pub levels : (i : ℕ) → (end_of history).levels t i ≡ levels_of (own_part t history) i
+  pub opens : (n : ℕ) → (end_of history).opens t n ≡ opens_of (own_part t history) n
 
 -- all is frozen, and this one holds a freeze
 abbrev pub IsFrozenFor : State → Holder → Type 0

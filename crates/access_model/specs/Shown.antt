@@ -9,9 +9,9 @@ use Rattle.access_model.specs.declared.model.Model.{Model}
 use Rattle.access_model.specs.States.{Limits, State, Standing, opening_state}
 use Rattle.access_model.specs.Actions.{after_action}
 
--- no access at any mount or level
+-- no access at any mount or level, and no file open
 abbrev pub nothing : Accesses
-nothing = record { mounts = []; levels = [] }
+nothing = record { mounts = []; levels = []; files = [] }
 
 -- one more access fits
 abbrev pub HasRoom : Accesses → Gate → Type 0
@@ -31,6 +31,10 @@ held_of accesses t = slice_index (slice_index_or accesses t nothing).mounts
 abbrev pub inside_of : List Accesses → ℕ → ℕ → Bool
 inside_of accesses t i = slice_index_or (slice_index_or accesses t nothing).levels i false
 
+-- whether a task has a file open
+abbrev pub opens_of : List Accesses → ℕ → ℕ → Bool
+opens_of accesses t n = slice_index_or (slice_index_or accesses t nothing).files n false
+
 -- the mounts' read-only flags, false where there is no such mount
 abbrev pub flags_of : List Bool → ℕ → Bool
 flags_of flags m = slice_index_or flags m false
@@ -46,6 +50,7 @@ standing_of model = record {
   state = record {
     mounts = held_of model.accesses.items;
     levels = inside_of model.accesses.items;
+    opens = opens_of model.accesses.items;
     mount_ro = flags_of model.mount_ro;
     sb_ro = model.sb_ro;
     stage = model.stage;

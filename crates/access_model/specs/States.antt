@@ -1,5 +1,5 @@
 -- The state of the access model.
-use Rattle.std.specs.Prelude.{◌≡◌, ℕ, ◌<◌, ◌≤◌, Bool, false, Option, Some, None}
+use Rattle.std.specs.Prelude.{◌≡◌, ℕ, ◌<◌, ◌≤◌, Bool, true, false, Option, Some, None}
 use Rattle.finite_sums.specs.Sums.{update, total}
 use Rattle.access_model.specs.declared.actions.Gate.{Gate}
 use Rattle.access_model.specs.declared.actions.Gate.TheVariants.{Mount, Level}
@@ -21,6 +21,8 @@ pub record State : Type 0 where
   pub mounts : ℕ → ℕ → ℕ
   -- whether a task holds a level
   pub levels : ℕ → ℕ → Bool
+  -- whether a task has a file open
+  pub opens : ℕ → ℕ → Bool
   -- a mount's own read-only flag, and the superblock's
   pub mount_ro : ℕ → Bool
   pub sb_ro : Bool
@@ -35,13 +37,14 @@ pub record State : Type 0 where
 
 -- the root: a directory, its own parent
 abbrev pub root : NodeInfo
-root = record { kind = Dir; parent = 0; size = 0; dirty = false }
+root = record { kind = Dir; parent = 0; size = 0; dirty = false; removed = false }
 
 -- nothing is held, no flag is set, nothing is frozen, and there is the root alone
 abbrev pub opening_state : State
 opening_state = record {
   mounts = λ t m. 0;
   levels = λ t i. false;
+  opens = λ t n. false;
   mount_ro = λ m. false;
   sb_ro = false;
   stage = 0;
@@ -74,6 +77,16 @@ abbrev pub IsFile : Option NodeInfo → Type 0
 IsFile None = ⊥
 IsFile (Some node) = node.kind ≡ File
 
+-- whether there is a node, and it is a file that was removed while somebody had it open
+abbrev pub is_removed : Option NodeInfo → Bool
+is_removed None = false
+is_removed (Some node) = node.removed
+
+-- there is a node, and it is a file that wasn't removed
+abbrev pub IsLinkedFile : Option NodeInfo → Type 0
+IsLinkedFile None = ⊥
+IsLinkedFile (Some node) = (node.kind ≡ File) × (node.removed ≡ false)
+
 -- there is a node, and it is a directory
 abbrev pub IsDirectory : Option NodeInfo → Type 0
 IsDirectory None = ⊥
@@ -82,6 +95,23 @@ IsDirectory (Some node) = node.kind ≡ Dir
 -- the blocks of all files
 abbrev pub used_blocks : Limits → State → ℕ
 used_blocks l s = total l.nodes (λ n. size_of (s.tree n))
+
+-- 1 for true, 0 for false
+abbrev pub one_if : Bool → ℕ
+one_if true = 1
+one_if false = 0
+
+-- the most tasks that a model may have
+unfoldable pub most_tasks : ℕ
+most_tasks = 64
+
+-- how many tasks have each file open, of the tasks that a model may have
+abbrev pub openers : (ℕ → ℕ → Bool) → ℕ → ℕ
+openers opens n = total most_tasks (λ t. one_if (opens t n))
+
+-- no file is removed
+abbrev pub NoneRemoved : Limits → State → Type 0
+NoneRemoved l s = (n : ℕ) → n < l.nodes → is_removed (s.tree n) ≡ false
 
 -- no node is dirty
 abbrev pub IsClean : Limits → State → Type 0

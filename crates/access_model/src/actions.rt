@@ -19,13 +19,15 @@ pub enum Kind {
 }
 
 /// A node of the tree: its parent's number (0 to 63; the root's is its own, 0), its size in blocks, and whether it was
-/// changed since it was last written back.
+/// changed since it was last written back. A file may be removed while tasks have it open: it keeps its node and its blocks until the
+/// last of them closes it.
 #[derive(Clone, Copy, PartialEq, Eq, Debug)]
 pub struct NodeInfo {
     pub kind: Kind,
     pub parent: u8,
     pub size: u32,
     pub dirty: bool,
+    pub removed: bool,
 }
 
 /// Who may hold a freeze: the kernel, as for a suspend, or user space, as for a backup. The superblock stays frozen until neither does.
@@ -132,7 +134,7 @@ pub enum Action {
     Reopen(u8),
     /// A free node becomes an empty file or a directory.
     Create { node: u8, dir: u8, kind: Kind },
-    /// A file's node becomes free.
+    /// A file's node becomes free; where some task has the file open, it is removed in name alone, and clean.
     Remove(u8),
     /// A file gets larger by this many blocks, and dirty.
     Grow { node: u8, blocks: u32 },
@@ -142,4 +144,8 @@ pub enum Action {
     Dirty(u8),
     /// A file becomes clean, as it is written back.
     Clean(u8),
+    /// The task opens a file.
+    Open(u8),
+    /// The task closes a file. Where it was removed and nobody else has it open, its node becomes free.
+    Close(u8),
 }

@@ -3,7 +3,7 @@
 
 ghost use Rattle.std.specs.Prelude.{◌≡◌, ℕ, ◌≤◌, ◌<◌, ◌+◌, ◌^◌, ◌↔◌, IsTrue, option_map, vec_len};
 ghost use Rattle.access_model.specs.States.{IsLevel, size_of};
-ghost use Rattle.access_model.specs.Actions.{grown, moved, marked};
+ghost use Rattle.access_model.specs.Actions.{grown, moved, marked, after_remove, after_close};
 ghost use Rattle.access_model.specs.Limits.{AreLimits};
 
 use crate::actions::{Action, Gate, Holder, Holders, Kind, NodeInfo};
@@ -13,17 +13,19 @@ use std::alloc::Global;
 /// How many accesses a task may hold at one mount.
 const MAX_ACCESSES: u16 = 1024;
 
-/// What one task holds: its accesses at each mount, and whether it is inside each freeze level. Levels count from 1, so
-/// entry 0 stays false.
+/// What one task holds: its accesses at each mount, whether it is inside each freeze level, and which files it has open. Levels count
+/// from 1, so entry 0 stays false.
 #[derive(Clone, Copy)]
 struct Accesses {
     mounts: [u16; 8],
     levels: [bool; 4],
+    files: [bool; 64],
 }
 
 impl Accesses {
     ghost use Rattle.std.specs.Prelude.{false, slice_index, slice_index_or};
     ghost use Rattle.access_model.specs.declared.actions.Action.TheVariants.{Grant, Return};
+    ghost use Rattle.finite_sums.specs.Sums.{update};
     ghost use Rattle.access_model.specs.Actions.{mounts_after, levels_after};
     ghost use Rattle.access_model.specs.Shown.{HasRoom, HasAccess};
 
@@ -33,6 +35,7 @@ impl Accesses {
         ensures mounts { slice_index self.new.mounts ≡ mounts_after (Grant gate) (slice_index self.old.mounts) }
         ensures levels { (λ i. slice_index_or self.new.levels i false) ≡
             levels_after (Grant gate) (λ i. slice_index_or self.old.levels i false) }
+        ensures files { self.new.files ≡ self.old.files }
     {
         match gate {
             Gate::Mount(mount) => self.mounts[mount as usize] += 1,
@@ -46,11 +49,22 @@ impl Accesses {
         ensures mounts { slice_index self.new.mounts ≡ mounts_after (Return gate) (slice_index self.old.mounts) }
         ensures levels { (λ i. slice_index_or self.new.levels i false) ≡
             levels_after (Return gate) (λ i. slice_index_or self.old.levels i false) }
+        ensures files { self.new.files ≡ self.old.files }
     {
         match gate {
             Gate::Mount(mount) => self.mounts[mount as usize] -= 1,
             Gate::Level(level) => self.levels[level as usize] = false,
         }
+    }
+
+    /// Notes that a file is open, or that it isn't.
+    fn set_open(&mut self, node: u8, is_open: bool)
+        requires { node < 64 }
+        ensures mounts { self.new.mounts ≡ self.old.mounts }
+        ensures levels { self.new.levels ≡ self.old.levels }
+        ensures files { (λ n. slice_index_or self.new.files n false) ≡ update (λ n. slice_index_or self.old.files n false) node is_open }
+    {
+        self.files[node as usize] = is_open;
     }
 }
 
@@ -71,6 +85,27 @@ fn move_to(node: &mut Option<NodeInfo>, dir: u8)
 {
     if let Some(info) = node {
         info.parent = dir;
+    }
+}
+
+/// A file is removed, which so many tasks have open.
+fn unlink(node: &mut Option<NodeInfo>, openers: u64)
+    ensures { node.new ≡ after_remove openers node.old }
+{
+    if openers == 0 {
+        *node = None;
+    } else if let Some(info) = node {
+        info.dirty = false;
+        info.removed = true;
+    }
+}
+
+/// A file is closed by one of so many tasks that have it open.
+fn close(node: &mut Option<NodeInfo>, openers: u64)
+    ensures { node.new ≡ after_close openers node.old }
+{
+    if openers == 1 && matches!(node, Some(info) if info.removed) {
+        *node = None;
     }
 }
 
@@ -111,7 +146,7 @@ impl Model {
     ghost use Rattle.std.specs.Prelude.{◌⊎◌, true, false, IsOk, IfOk, IfErr, OnOk, OnErr};
     ghost use Rattle.access_model.specs.declared.actions.Gate.TheVariants.{Mount, Level};
     ghost use Rattle.access_model.specs.Holders.{held_by};
-    ghost use Rattle.access_model.specs.States.{NobodyHolds, IsClean, IsFile, IsDirectory, used_blocks};
+    ghost use Rattle.access_model.specs.States.{NobodyHolds, IsClean, IsFile, IsDirectory, used_blocks, IsLinkedFile, NoneRemoved, is_removed, openers};
     ghost use Rattle.access_model.specs.declared.errors.GateError.TheVariants.{Invalid, NoMemory};
     ghost use Rattle.access_model.specs.declared.actions.Action.TheVariants.{Grant, Return};
     ghost use Rattle.access_model.specs.Actions.{IsWriter, HoldsSomeMount, MayStage, MayDo, IsAllowed};
@@ -140,6 +175,7 @@ impl Model {
         let nothing = Accesses {
             mounts: [0; 8],
             levels: [false; 4],
+            files: [false; 64],
         };
         let mut tree = vec![in alloc; None; nodes as usize]?;
         tree[0] = Some(NodeInfo {
@@ -147,6 +183,7 @@ impl Model {
             parent: 0,
             size: 0,
             dirty: false,
+            removed: false,
         });
         Ok(Model {
             tasks,
@@ -175,7 +212,7 @@ impl Model {
             Action::Return(gate) => self.has_access(task, gate),
             Action::MountRo(mount) => mount < self.mounts && self.is_mount_free(mount),
             Action::MountRw(mount) => mount < self.mounts,
-            Action::SbRo => self.stage == 0 && self.is_every_mount_free(),
+            Action::SbRo => self.stage == 0 && self.is_every_mount_free() && self.is_none_removed(),
             Action::SbRw => self.stage == 0,
             Action::Stage(stage) => self.may_stage(stage),
             Action::Hold(holder) => self.stage == 4 && !self.holders.has(holder),
@@ -185,15 +222,17 @@ impl Model {
             Action::Create { node, dir, .. } => {
                 self.is_writer(task) && self.is_free(node) && self.is_directory(dir)
             }
-            Action::Remove(node) => self.is_writer(task) && self.is_file(node),
+            Action::Remove(node) => self.is_writer(task) && self.is_linked(node),
             Action::Grow { node, blocks } => {
-                self.is_writer(task) && self.is_file(node) && self.has_room(blocks)
+                self.is_writer(task) && self.is_linked(node) && self.has_room(blocks)
             }
             Action::MoveTo { node, dir } => {
-                self.is_writer(task) && self.is_file(node) && self.is_directory(dir)
+                self.is_writer(task) && self.is_linked(node) && self.is_directory(dir)
             }
-            Action::Dirty(node) => self.may_dirty(task) && self.is_file(node),
+            Action::Dirty(node) => self.may_dirty(task) && self.is_linked(node),
             Action::Clean(node) => self.may_clean(task) && self.is_file(node),
+            Action::Open(node) => self.is_linked(node) && !self.has_file(task, node),
+            Action::Close(node) => self.has_file(task, node) && self.may_close(task, node),
         }
     }
 
@@ -235,6 +274,17 @@ impl Model {
         task < self.tasks && is_level(level) && self.accesses[task as usize].levels[level as usize]
     }
 
+    /// Whether a task has a file open. False where there is no such task or node.
+    pub fn has_open(&self, task: u8, node: u8) -> bool
+        ensures open { task < (limits_of self.now).tasks → node < (limits_of self.now).nodes →
+            result ≡ (state_of self.now).opens task node }
+        ensures out_of_range { ((limits_of self.now).tasks ≤ task) ⊎ ((limits_of self.now).nodes ≤ node) → result ≡ false }
+    {
+        task < self.tasks
+            && (node as usize) < self.nodes.len()
+            && self.accesses[task as usize].files[node as usize]
+    }
+
     /// A mount's own read-only flag (`MNT_READONLY`), whatever the superblock's is; false where there is no such mount.
     pub fn mount_ro(&self, mount: u8) -> bool
         ensures flag { mount < (limits_of self.now).mounts → result ≡ (state_of self.now).mount_ro mount }
@@ -271,7 +321,7 @@ impl Model {
         self.passed
     }
 
-    /// A node of the tree, with its kind, parent, size and dirty mark; None where it is free or there is none of that number.
+    /// A node of the tree, with its kind, parent, size, dirty mark and removed mark; None where it is free or there is none of that number.
     pub fn tree(&self, node: u8) -> Option<NodeInfo>
         ensures node { node < (limits_of self.now).nodes → result ≡ (state_of self.now).tree node }
         ensures out_of_range { (limits_of self.now).nodes ≤ node → result ≡ None }
@@ -306,13 +356,23 @@ impl Model {
                     parent: dir,
                     size: 0,
                     dirty: false,
+                    removed: false,
                 });
             }
-            Action::Remove(node) => self.nodes[node as usize] = None,
+            Action::Remove(node) => {
+                let openers = self.openers(node);
+                unlink(&mut self.nodes[node as usize], openers);
+            }
             Action::Grow { node, blocks } => grow(&mut self.nodes[node as usize], blocks),
             Action::MoveTo { node, dir } => move_to(&mut self.nodes[node as usize], dir),
             Action::Dirty(node) => mark(&mut self.nodes[node as usize], true),
             Action::Clean(node) => mark(&mut self.nodes[node as usize], false),
+            Action::Open(node) => self.accesses[task as usize].set_open(node, true),
+            Action::Close(node) => {
+                let openers = self.openers(node);
+                self.accesses[task as usize].set_open(node, false);
+                close(&mut self.nodes[node as usize], openers);
+            }
         }
     }
 
@@ -365,6 +425,53 @@ impl Model {
         self.nodes
             .iter()
             .all(|node| !matches!(node, Some(info) if info.dirty))
+    }
+
+    /// Whether no file is removed.
+    fn is_none_removed(&self) -> bool
+        ensures { IsTrue result ↔ NoneRemoved (limits_of self.now) (state_of self.now) }
+    {
+        self.nodes
+            .iter()
+            .all(|node| !matches!(node, Some(info) if info.removed))
+    }
+
+    /// Whether a file is removed.
+    fn is_removed(&self, node: u8) -> bool
+        requires { node < (limits_of self.now).nodes }
+        ensures { result ≡ is_removed ((state_of self.now).tree node) }
+    {
+        matches!(self.tree(node), Some(info) if info.removed)
+    }
+
+    /// Whether there is a node of this number, and a task has it open.
+    fn has_file(&self, task: u8, node: u8) -> bool
+        requires { task < (limits_of self.now).tasks }
+        ensures { IsTrue result ↔ ((node < (limits_of self.now).nodes) × ((state_of self.now).opens task node ≡ true)) }
+    {
+        (node as usize) < self.nodes.len() && self.accesses[task as usize].files[node as usize]
+    }
+
+    /// How many tasks have a file open.
+    fn openers(&self, node: u8) -> u64
+        requires { node < (limits_of self.now).nodes }
+        ensures { result ≡ openers (state_of self.now).opens node }
+    {
+        let mut openers: u64 = 0;
+        for held in &self.accesses {
+            openers += u64::from(held.files[node as usize]);
+        }
+        openers
+    }
+
+    /// Whether a task that has a file open may close it: where it was removed and nobody else has it open, inside level 3 alone.
+    fn may_close(&self, task: u8, node: u8) -> bool
+        requires task { task < (limits_of self.now).tasks }
+        requires node { node < (limits_of self.now).nodes }
+        ensures { IsTrue result ↔ (is_removed ((state_of self.now).tree node) ≡ true →
+            openers (state_of self.now).opens node ≡ 1 → (state_of self.now).levels task 3 ≡ true) }
+    {
+        !self.is_removed(node) || self.openers(node) != 1 || self.accesses[task as usize].levels[3]
     }
 
     /// The blocks of all files.
@@ -499,6 +606,16 @@ impl Model {
     {
         match self.tree(node) {
             Some(info) => info.kind == Kind::File,
+            None => false,
+        }
+    }
+
+    /// Whether a node is a file that wasn't removed.
+    fn is_linked(&self, node: u8) -> bool
+        ensures { IsTrue result ↔ ((node < (limits_of self.now).nodes) × IsLinkedFile ((state_of self.now).tree node)) }
+    {
+        match self.tree(node) {
+            Some(info) => info.kind == Kind::File && !info.removed,
             None => false,
         }
     }

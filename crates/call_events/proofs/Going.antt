@@ -13,7 +13,7 @@ use Rattle.gate_world.specs.declared.config.Config.{Config}
 use Rattle.gate_world.specs.declared.operations.Op.{Op}
 use Rattle.gate_world.specs.declared.work.Phase.{Phase}
 use Rattle.gate_world.specs.declared.views.View.{View}
-use Rattle.gate_world.specs.Views.{held_at, holds_level, phase_after, view_after_beside}
+use Rattle.gate_world.specs.Views.{held_at, holds_level, has_open, phase_after, view_after_beside}
 use Rattle.gate_world.specs.Work.{next_of, after_of}
 use Rattle.gate_world.specs.Worlds.{World, value_at, found_at}
 use Rattle.gate_world.specs.Fits.{PhaseFits, Fits}
@@ -25,9 +25,9 @@ use Rattle.gate_core.specs.declared.steps.Step.{Step}
 use Rattle.gate_core.specs.Answers.{progress_of, phase_step}
 use Rattle.gate_world.specs.Fits.{ActionFits}
 use Rattle.gate_world.specs.Accesses.{accesses_after}
-use Rattle.gate_world.specs.Fits.{mounts_by, levels_by}
+use Rattle.gate_world.specs.Fits.{mounts_by, levels_by, opens_by}
 use Rattle.gate_core.proofs.Phases.{action_fits, fits_after, fits_agree}
-use Rattle.gate_frames.proofs.Accesses.{mounts_of_after, levels_of_after, long_after, wide_after, mounts_same, levels_same}
+use Rattle.gate_frames.proofs.Accesses.{mounts_of_after, levels_of_after, opens_of_after, long_after, wide_after, deep_after, mounts_same, levels_same, files_same}
 use Rattle.gate_steps.specs.declared.seating.Numbered.{Numbered}
 use Rattle.gate_steps.specs.Seating.{SeatItems, numbered, entered, done_by, items_after, IsMove}
 use Rattle.atomic_table.specs.Seated.{TableId}
@@ -90,6 +90,11 @@ module _ (number : ℕ) (c : Config) (begins : Option Op) (kept : Seat) (flags :
     levels_seen = levels_of_after done.1 v.actions ∙ ap (λ (l : List Action). levels_by done.1
         (holds_level (record x.view { actions = l }))) (entered_actions x.view begins phase)
 
+    -- and its open files
+    opens_seen : has_open seen ≡ opens_by done.1 (has_open x.view)
+    opens_seen = opens_of_after done.1 v.actions ∙ ap (λ (l : List Action). opens_by done.1
+        (has_open (record x.view { actions = l }))) (entered_actions x.view begins phase)
+
     -- the fields and the own view agree after the event
     ties_after : OwnTies number c None kept_after flags (numbered x.number seen) xs
     ties_after = record {
@@ -105,10 +110,13 @@ module _ (number : ℕ) (c : Config) (begins : Option Op) (kept : Seat) (flags :
       keeps = record {
         long = long_after kept.accesses done.1 ∙ ties.keeps.long;
         wide = wide_after kept.accesses done.1 ∙ ties.keeps.wide;
+        deep = deep_after kept.accesses done.1 ∙ ties.keeps.deep;
         mounts = λ m lt. mounts_same kept.accesses ties.keeps.long ties.keeps.wide c.mounts (held_at x.view) done.1 acts_kept
             ties.keeps.mounts m lt ∙ ap (λ f. f m) (sym held_seen);
         levels = λ i one three. levels_same kept.accesses ties.keeps.long ties.keeps.wide (holds_level x.view) done.1 acts_kept
             ties.keeps.levels i one three ∙ ap (λ f. f i) (sym levels_seen);
+        files = λ n. files_same kept.accesses ties.keeps.deep (has_open x.view) done.1 acts_kept ties.keeps.files n ∙
+            ap (λ f. f n) (sym opens_seen);
       };
       rest = ties.rest;
       marks = ties.marks;

@@ -18,7 +18,7 @@ use Rattle.gate_world.specs.Snapshots.{completes, last_snapshot}
 use Rattle.gate_world.specs.Views.{phase_after, actions_after, view_after_beside, with_hook}
 use Rattle.gate_world.specs.Work.{next_of, after_of}
 use Rattle.gate_world.specs.Beginnings.{first_phase}
-use Rattle.gate_world.specs.Courses.{Course, course_with, course_after, course_of, IsEventOf, IsNext, IsTrace, MayHold}
+use Rattle.gate_world.specs.Courses.{Course, course_with, course_after, course_of, IsEventOf, IsNext, IsTrace, MayFind}
 use Rattle.gate_world.specs.Traces.{Tells, most_events, IsShort}
 use Rattle.gate_frames.proofs.Keeps.{most_events_of_all, IsSmall}
 use Rattle.gate_core.proofs.Layers.{op_keeps}
@@ -63,7 +63,7 @@ move_is c op items earlier e (Done a) p is h = absurd (let f : ⊥ = cc in f)
 
 -- what an event found is what its word may hold
 move_holds : (c : Config) (begins : Option Op) (p : Phase) (hook : HookAnswer) (items : SeatItems) (found : ℕ) →
-    IsMove c begins p hook items found → MayHold (next_of p hook).0 found
+    IsMove c begins p hook items found → MayFind p (next_of p hook).0 found
 move_holds c begins p hook [] found move = absurd move
 move_holds c begins p hook (x ∷ xs) found move = move.holds
 

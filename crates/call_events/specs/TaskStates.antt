@@ -6,7 +6,7 @@ use Rattle.gate_world.specs.declared.config.Config.{Config}
 use Rattle.gate_world.specs.declared.operations.Op.{Op}
 use Rattle.gate_world.specs.declared.work.Phase.{Phase}
 use Rattle.gate_world.specs.declared.views.View.{View}
-use Rattle.gate_world.specs.Views.{opening_view, held_at, holds_level}
+use Rattle.gate_world.specs.Views.{opening_view, held_at, holds_level, has_open}
 use Rattle.gate_world.specs.Beginnings.{refusal, beginning}
 use Rattle.gate_world.specs.declared.accesses.Accesses.{Accesses}
 use Rattle.gate_steps.specs.Seating.{SeatItems}
@@ -43,24 +43,26 @@ spare_of (x ∷ xs) = xs
 abbrev pub IsIdle : TaskState → Type 0
 IsIdle s = s.phase ≡ None
 
--- nothing is held at any mount or level that there is
+-- nothing is held at any mount or level that there is, and no file is open
 abbrev pub Empty : Config → View → Type 0
-Empty c v = ((m : ℕ) → m < c.mounts → held_at v m ≡ 0) × ((i : ℕ) → 1 ≤ i → i ≤ 3 → holds_level v i ≡ false)
+Empty c v = ((m : ℕ) → m < c.mounts → held_at v m ≡ 0) × ((i : ℕ) → 1 ≤ i → i ≤ 3 → holds_level v i ≡ false) ×
+    ((n : ℕ) → has_open v n ≡ false)
 
 -- its own number holds nothing
 abbrev pub HoldsNothing : TaskState → Type 0
 HoldsNothing s = Empty s.config (own_view s.items)
 
--- no access at so many mounts, nor at a level
+-- no access at so many mounts, nor at a level, and no file open
 abbrev pub IsNothing : Accesses → ℕ → Type 0
 IsNothing a mounts = ((m : ℕ) → m < mounts → slice_index a.mounts m ≡ 0) ×
-    ((i : ℕ) → 1 ≤ i → i ≤ 3 → slice_index_or a.levels i false ≡ false)
+    ((i : ℕ) → 1 ≤ i → i ≤ 3 → slice_index_or a.levels i false ≡ false) ×
+    ((n : ℕ) → n < 64 → slice_index_or a.files n false ≡ false)
 
 -- why the operation can't begin, the first reason in the stated order
 abbrev pub refusal_at : Op → TaskState → Option GateError
-refusal_at op s = refusal s.config (is_some s.phase) (held_at (own_view s.items)) (holds_level (own_view s.items)) op
+refusal_at op s = refusal s.config (is_some s.phase) (held_at (own_view s.items)) (holds_level (own_view s.items)) (has_open (own_view s.items)) op
 
 -- what its beginning answers: the first phase, or the refusal
 abbrev pub beginning_at : Op → TaskState → Result Phase GateError
 beginning_at op s =
-    beginning s.config (own_number s.items) (is_some s.phase) (held_at (own_view s.items)) (holds_level (own_view s.items)) op
+    beginning s.config (own_number s.items) (is_some s.phase) (held_at (own_view s.items)) (holds_level (own_view s.items)) (has_open (own_view s.items)) op

@@ -1,4 +1,6 @@
 -- All that is proved of the beginnings and the traces of the operations at the tree.
+use Rattle.std.proofs.Common.{not, sym}
+use Rattle.gate_frames.proofs.OpenTraces.{open_tells, open_short}
 use Rattle.std.proofs.Common.{◌≡◌, ℕ, Bool, true, arith, refl}
 use Rattle.std.proofs.lemmas.Bool.{ltb-true}
 use Rattle.std.specs.Prelude.{nat_lt, ◌&&◌, false}
@@ -11,6 +13,7 @@ use Rattle.gate_world.specs.declared.operations.Op.TheVariants.{
   MoveTo as MoveToOp,
   Fault as FaultOp,
   Flush as FlushOp,
+  Open as OpenOp,
   Snapshot as SnapshotOp,
 }
 use Rattle.gate_world.specs.Traces.{most_events}
@@ -28,6 +31,11 @@ both_true : (a b : Bool) → (a && b) ≡ true → (a ≡ true) × (b ≡ true)
 both_true true b e = (refl, e)
 both_true false b e = absurd cc
 
+-- what isn't true is false
+not_false : (b : Bool) → not b ≡ true → b ≡ false
+not_false true e = sym e
+not_false false e = refl
+
 -- of a create
 pub create_keeps : (c : Config) (d : ℕ) (kind : Kind) → OpKeeps c (CreateOp d kind)
 create_keeps c d kind = record {
@@ -42,7 +50,8 @@ create_keeps c d kind = record {
   cause = λ t w earlier. tt;
   order_agrees = λ f g h k mounts levels there. writer_agrees c f g h k mounts levels;
   room_agrees = λ f g mounts there. refl;
-  restores = λ refusal trace before order. (refl, refl);
+  restores = λ refusal trace before order. (refl, refl, refl);
+  file = λ t files own closed. tt;
   tells = λ within t trace h. create_tells d kind c within t trace h;
   short = λ within t trace h. create_short d kind c within t trace h;
   most_small = λ within. omega (arith, within.nodes);
@@ -62,7 +71,8 @@ remove_keeps c file = record {
   cause = λ t w earlier. tt;
   order_agrees = λ f g h k mounts levels there. writer_agrees c f g h k mounts levels;
   room_agrees = λ f g mounts there. refl;
-  restores = λ refusal trace before order. (refl, refl);
+  restores = λ refusal trace before order. (refl, refl, refl);
+  file = λ t files own closed. tt;
   tells = λ within t trace h. remove_tells file c within t trace h;
   short = λ within t trace h. remove_short file c within t trace h;
   most_small = λ within. omega arith;
@@ -84,7 +94,8 @@ grow_keeps c file blocks = record {
   cause = λ t w earlier. tt;
   order_agrees = λ f g h k mounts levels there. writer_agrees c f g h k mounts levels;
   room_agrees = λ f g mounts there. refl;
-  restores = λ refusal trace before order. (refl, refl);
+  restores = λ refusal trace before order. (refl, refl, refl);
+  file = λ t files own closed. tt;
   tells = λ within t trace h. grow_tells file blocks c within t trace h;
   short = λ within t trace h. grow_short file blocks c within t trace h;
   most_small = λ within. omega arith;
@@ -106,7 +117,8 @@ move_keeps c file dir = record {
   cause = λ t w earlier. tt;
   order_agrees = λ f g h k mounts levels there. writer_agrees c f g h k mounts levels;
   room_agrees = λ f g mounts there. refl;
-  restores = λ refusal trace before order. (refl, refl);
+  restores = λ refusal trace before order. (refl, refl, refl);
+  file = λ t files own closed. tt;
   tells = λ within t trace h. move_tells file dir c within t trace h;
   short = λ within t trace h. move_short file dir c within t trace h;
   most_small = λ within. omega arith;
@@ -126,7 +138,8 @@ fault_keeps c file = record {
   cause = λ t w earlier. tt;
   order_agrees = λ f g h k mounts levels there. faulter_agrees c f g h k mounts levels;
   room_agrees = λ f g mounts there. refl;
-  restores = λ refusal trace before order. (refl, refl);
+  restores = λ refusal trace before order. (refl, refl, refl);
+  file = λ t files own closed. tt;
   tells = λ within t trace h. fault_tells file c within t trace h;
   short = λ within t trace h. fault_short file c within t trace h;
   most_small = λ within. omega arith;
@@ -146,9 +159,31 @@ flush_keeps c file = record {
   cause = λ t w earlier. tt;
   order_agrees = λ f g h k mounts levels there. levels 3 (omega arith) (omega arith);
   room_agrees = λ f g mounts there. refl;
-  restores = λ refusal trace before order. (refl, refl);
+  restores = λ refusal trace before order. (refl, refl, refl);
+  file = λ t files own closed. tt;
   tells = λ within t trace h. flush_tells file c within t trace h;
   short = λ within t trace h. flush_short file c within t trace h;
+  most_small = λ within. omega arith;
+}
+
+-- of an open
+pub open_keeps : (c : Config) (file : ℕ) → OpKeeps c (OpenOp file)
+open_keeps c file = record {
+  fits = λ t held levels there order room. ((ltb-true file c.nodes there, tt), tt);
+  no_role = λ t y. refl;
+  steady = λ t. record { owns_same = refl; remounts_same = refl; closing_same = λ i. refl };
+  aside = λ t. refl;
+  counts_not = λ t i. refl;
+  apart = λ t i. refl;
+  outside = λ t. refl;
+  off_tree = λ t trace. refl;
+  cause = λ t w earlier. tt;
+  order_agrees = λ f g h k mounts levels there. refl;
+  room_agrees = λ f g mounts there. refl;
+  restores = λ refusal trace before order. (refl, refl, refl);
+  file = λ t files own closed. not_false (files file) closed;
+  tells = λ within t trace h. open_tells file c within t trace h;
+  short = λ within t trace h. open_short file c within t trace h;
   most_small = λ within. omega arith;
 }
 
@@ -166,7 +201,8 @@ snapshot_keeps c wait = record {
   cause = λ t w earlier. tt;
   order_agrees = λ f g h k mounts levels there. none_agree c 0 f g h k mounts levels;
   room_agrees = λ f g mounts there. refl;
-  restores = λ refusal trace before order. (refl, refl);
+  restores = λ refusal trace before order. (refl, refl, refl);
+  file = λ t files own closed. tt;
   tells = λ within t trace h. snapshot_tells wait c within t trace h;
   short = λ within t trace h. snapshot_short wait c within t trace h;
   most_small = λ within. by_bool wait (λ b. IsSmall (most_events c (SnapshotOp b))) tt (omega (arith, within.nodes));

@@ -9,6 +9,7 @@ use Rattle.gated_tree.specs.declared.phases.TreePhase.TheVariants.{
   Grow as Grows,
   MoveTo as Moves,
   Mark as TreeMarks,
+  OpenFile as OpensOne,
   Snapshot as Snapshots,
   ClearMarks as TreeClears,
 }
@@ -31,6 +32,7 @@ module _ (c : Config) (within : IsWithin c) (w : World) (good : IsGood c w) (t :
   call_step (Grows x) e = tree_step c within w good t lt hook (Grows x) refl e
   call_step (Moves x) e = tree_step c within w good t lt hook (Moves x) refl e
   call_step (TreeMarks x) e = tree_step c within w good t lt hook (TreeMarks x) refl e
+  call_step (OpensOne x) e = tree_step c within w good t lt hook (OpensOne x) refl e
   call_step (Snapshots x) e = snapshot_step c within w good t lt hook x e
   call_step (TreeClears x) e = tree_step c within w good t lt hook (TreeClears x) refl e
 
@@ -41,5 +43,6 @@ module _ (c : Config) (within : IsWithin c) (w : World) (good : IsGood c w) (t :
   call_completes (Grows x) e = completes_none c w t hook (Trees (Grows x)) (λ trace found. refl)
   call_completes (Moves x) e = completes_none c w t hook (Trees (Moves x)) (λ trace found. refl)
   call_completes (TreeMarks x) e = completes_none c w t hook (Trees (TreeMarks x)) (λ trace found. refl)
+  call_completes (OpensOne x) e = completes_none c w t hook (Trees (OpensOne x)) (λ trace found. refl)
   call_completes (Snapshots x) e = snapshot_completes_now c within w good t lt hook x e
   call_completes (TreeClears x) e = completes_none c w t hook (Trees (TreeClears x)) (λ trace found. refl)

@@ -5,7 +5,7 @@ use Rattle.std.proofs.lemmas.Bool.{lt-ltb, le-ltb, cases_lt}
 use Rattle.cpu_words.specs.Hooks.{HookAnswer}
 use Rattle.cpu_words.specs.declared.names.WordName.TheVariants.{Kids}
 use Rattle.gated_tree.specs.Phases.{at_snapshot}
-use Rattle.gated_tree.specs.Roles.{RoleHolds, tree_word}
+use Rattle.gated_tree.specs.Roles.{RoleHolds, tree_word, seen_as}
 use Rattle.gated_tree.specs.Trees.{loaded}
 use Rattle.gated_tree.specs.declared.phases.TreePhase.TheVariants.{Snapshot as Snapshots}
 use Rattle.gated_tree.specs.declared.snapshots.Snapshot.{Snapshot}
@@ -46,9 +46,10 @@ module _ (c : Config) (w : World) (good : IsGood c w) (t : ℕ) (lt : t < c.task
 
   -- each word that it loaded before is still what it was
   here_reads : (i : ℕ) → i < suc (x.nodes + n) →
-      values_noted x.nodes (w.views t).trace i ≡ tree_word c.nodes w.words.used w.words.node w.words.kids i
+      seen_as c.nodes i (values_noted x.nodes (w.views t).trace i) ≡
+      seen_as c.nodes i (tree_word c.nodes w.words.used w.words.node w.words.kids i)
   here_reads =
-      subst (λ p. RoleHolds (tree_bounds c) w.words.used w.words.node w.words.kids (tree_role_of (w.views t).trace p)) e
+      subst (λ p. RoleHolds (tree_bounds c) w.words.used w.words.removed w.words.node w.words.kids (tree_role_of (w.views t).trace p)) e
       ((good Tree).roles t lt)
 
   -- it relies on stage 4
@@ -65,7 +66,8 @@ module _ (c : Config) (w : World) (good : IsGood c w) (t : ℕ) (lt : t < c.task
       let are : AreWords x.nodes here_loaded w.words.used w.words.node w.words.kids =
       last_load x.nodes n words w.words.used w.words.node w.words.kids long (omega (arith, same, below)) last
       (subst (λ m. (i : ℕ) → i < suc (x.nodes + n) →
-      values_noted x.nodes (w.views t).trace i ≡ tree_word m w.words.used w.words.node w.words.kids i) (sym same) here_reads) in
+      seen_as m i (values_noted x.nodes (w.views t).trace i) ≡ seen_as m i (tree_word m w.words.used w.words.node w.words.kids i)) (sym same)
+      here_reads) in
       record {
         frozen = here_knows.0;
         whole = (loaded_long x.nodes words (Kids n) (w.words.kids n) long).0 ∙ same;

@@ -1,4 +1,8 @@
 -- A call at the tree that its next event refuses for what a node is: the event loads that node, and the shown model has it so.
+use Rattle.std.proofs.Common.{inl, inr}
+use Rattle.gated_tree.specs.declared.opens.OpenFile.{OpenFile}
+use Rattle.gated_tree.specs.declared.opens.OpenStep.{OpenStep}
+use Rattle.gated_tree.specs.declared.opens.OpenStep.TheVariants.{LoadsFile as LoadsFileToOpen, OpensFile}
 use Rattle.std.proofs.Common.{◌≡◌, ℕ, refl, sym, ap, ◌∙◌, subst, true≢false}
 use Rattle.std.specs.Prelude.{
   Some,
@@ -36,6 +40,9 @@ use Rattle.gated_tree.specs.declared.changes.RemoveStep.{RemoveStep}
 use Rattle.gated_tree.specs.declared.changes.RemoveStep.TheVariants.{
   LoadsFile as LoadsFileToRemove,
   FreesNode,
+  CountsRemoved,
+  MarksRemoved,
+  RefundsRemoved,
   RefundsBlocks as RefundsItsBlocks,
   RefundsChild as RefundsItsChild,
 }
@@ -68,6 +75,7 @@ use Rattle.gated_tree.specs.declared.phases.TreePhase.TheVariants.{
   Grow as Grows,
   MoveTo as Moves,
   Mark as TreeMarks,
+  OpenFile as OpensOne,
   Snapshot as Snapshots,
   ClearMarks as TreeClears,
 }
@@ -96,6 +104,8 @@ use Rattle.gated_tree.specs.Phases.{
   grow_after,
   move_after,
   mark_after,
+  open_after,
+  at_open,
   clear_after,
   after_look,
   at_create,
@@ -122,18 +132,23 @@ some_is a b e = cc
 refused_is : (a b : GateError) (r : Result NodeWord GateError) → r ≡ Err a → r ≡ Err b → a ≡ b
 refused_is a b r e f = cc
 
--- a node that a call refuses to take for a file is free, or a directory
-file_refused : (node : NodeWord) (kind : Option Kind) (refusal : GateError) → as_file node kind ≡ Err refusal →
-    TellsOf (info_of (record node { kind = kind })) refusal
-file_refused node None refusal e = subst (TellsOf None) (refused_is NoEntry refusal (Err NoEntry) refl e) refl
-file_refused node (Some File) refusal e = absurd cc
-file_refused node (Some Dir) refusal e =
-    subst (TellsOf (info_of (record node { kind = Some Dir }))) (refused_is IsDir refusal (Err IsDir) refl e) refl
+-- a node that a call refuses to take for a file is free or removed, or a directory
+file_refused : (node : NodeWord) (removed : Bool) (kind : Option Kind) (refusal : GateError) → as_file node removed kind ≡ Err refusal →
+    TellsOf (info_of (record node { kind = kind; removed = removed })) refusal
+file_refused node true None refusal e = subst (TellsOf None) (refused_is NoEntry refusal (Err NoEntry) refl e) (inl refl)
+file_refused node false None refusal e = subst (TellsOf None) (refused_is NoEntry refusal (Err NoEntry) refl e) (inl refl)
+file_refused node true (Some File) refusal e =
+    subst (TellsOf (info_of (record node { kind = Some File; removed = true }))) (refused_is NoEntry refusal (Err NoEntry) refl e) (inr refl)
+file_refused node false (Some File) refusal e = absurd cc
+file_refused node true (Some Dir) refusal e =
+    subst (TellsOf (info_of (record node { kind = Some Dir; removed = true }))) (refused_is IsDir refusal (Err IsDir) refl e) refl
+file_refused node false (Some Dir) refusal e =
+    subst (TellsOf (info_of (record node { kind = Some Dir; removed = false }))) (refused_is IsDir refusal (Err IsDir) refl e) refl
 
 -- one that it refuses to take for a directory is free, or a file
 directory_refused : (node : NodeWord) (kind : Option Kind) (refusal : GateError) → as_directory node kind ≡ Err refusal →
     TellsOf (info_of (record node { kind = kind })) refusal
-directory_refused node None refusal e = subst (TellsOf None) (refused_is NoEntry refusal (Err NoEntry) refl e) refl
+directory_refused node None refusal e = subst (TellsOf None) (refused_is NoEntry refusal (Err NoEntry) refl e) (inl refl)
 directory_refused node (Some File) refusal e =
     subst (TellsOf (info_of (record node { kind = Some File }))) (refused_is NotDir refusal (Err NotDir) refl e) refl
 directory_refused node (Some Dir) refusal e = absurd cc
@@ -144,11 +159,18 @@ refused_unless : (look : NodeWord → Option Kind → Result NodeWord GateError)
 refused_unless look true node refusal e = absurd cc
 refused_unless look false node refusal e = some_is _ _ e
 
+file_unless : (stray : Bool) (node : NodeWord) (refusal : GateError) →
+    option_map (λ n. as_file n n.removed n.kind) (if stray then None else Some node) ≡ Some (Err refusal) →
+    as_file node node.removed node.kind ≡ Err refusal
+file_unless true node refusal e = absurd cc
+file_unless false node refusal e = some_is _ _ e
+
 -- so a word that is refused as a file shows the node so
 file_tells : (word : ℕ) (refusal : GateError) → file_in word ≡ Some (Err refusal) → TellsOf (node_shown word) refusal
 file_tells word refusal e =
     subst (λ entry. TellsOf entry refusal) (fields_shown word)
-    (file_refused (node_of word) (kind_of (kind_in word)) refusal (refused_unless as_file (is_stray word) (node_of word) refusal e))
+    (file_refused (node_of word) (node_of word).removed (kind_of (kind_in word)) refusal
+    (file_unless (is_stray word) (node_of word) refusal e))
 
 -- and one that is refused as a directory
 directory_tells : (word : ℕ) (refusal : GateError) → directory_in word ≡ Some (Err refusal) → TellsOf (node_shown word) refusal
@@ -238,6 +260,13 @@ module _ (c : Config) (w : World) where
   remove_node x (FreesNode file) hook refusal e is =
       not_of_node Removes (remove_after (at_remove x (FreesNode file)) (FreesNode file) (w.words.node x.file)).0
       (either (w.words.node x.file == word_of file) _ _ tt refl) refusal e is
+  remove_node x (CountsRemoved file) hook refusal e is =
+      not_of_node Removes (remove_after (at_remove x (CountsRemoved file)) (CountsRemoved file) w.words.removed).0 tt refusal e is
+  remove_node x (MarksRemoved file) hook refusal e is =
+      not_of_node Removes (remove_after (at_remove x (MarksRemoved file)) (MarksRemoved file) (w.words.node x.file)).0
+      (either (w.words.node x.file == word_of file) _ _ tt tt) refusal e is
+  remove_node x RefundsRemoved hook refusal e is =
+      not_of_node Removes (remove_after (at_remove x RefundsRemoved) RefundsRemoved w.words.removed).0 refl refusal e is
   remove_node x (RefundsItsBlocks file) hook refusal e is =
       not_of_node Removes (remove_after (at_remove x (RefundsItsBlocks file)) (RefundsItsBlocks file) w.words.used).0 tt
       refusal e is
@@ -301,6 +330,18 @@ module _ (c : Config) (w : World) where
       not_of_node TreeMarks (mark_after (at_mark x (MarksFile file)) (MarksFile file) (w.words.node x.file)).0
       (either (w.words.node x.file == word_of file) _ _ tt refl) refusal e is
 
+  -- an open, where it looks at its file
+  open_node : (x : OpenFile) (s : OpenStep) → NodeHasCause c w (OpensOne (at_open x s))
+  open_node x LoadsFileToOpen hook refusal e is = (
+    x.file,
+    refl,
+    file_tells (w.words.node x.file) refusal
+        (look_refused OpensOne _ _ (file_in (w.words.node x.file)) refusal e),
+  )
+  open_node x (OpensFile file) hook refusal e is =
+      not_of_node OpensOne (open_after (at_open x (OpensFile file)) (OpensFile file) (w.words.node x.file)).0
+      (either (w.words.node x.file == word_of file) _ _ tt refl) refusal e is
+
   -- a clearing of marks is not
   clear_node : (x : ClearMarks) → NodeHasCause c w (TreeClears x)
   clear_node x hook refusal e is =
@@ -314,5 +355,6 @@ tree_told c t w earlier held levels (Removes x) fits h = remove_node c w x x.ste
 tree_told c t w earlier held levels (Grows x) fits h = grow_node c w x x.step
 tree_told c t w earlier held levels (Moves x) fits h = move_node c w x x.step fits.0.2
 tree_told c t w earlier held levels (TreeMarks x) fits h = mark_node c w x x.step
+tree_told c t w earlier held levels (OpensOne x) fits h = open_node c w x x.step
 tree_told c t w earlier held levels (Snapshots x) fits h = snapshot_told c t w earlier x.step h
 tree_told c t w earlier held levels (TreeClears x) fits h = clear_node c w x

@@ -33,8 +33,9 @@ use Rattle.cpu_words.specs.Hooks.{HookAnswer}
 use Rattle.cpu_words.specs.Touches.{event_of, found_by}
 use Rattle.gated_tree.specs.Calls.{SnapshotStepFits}
 use Rattle.gated_tree.specs.Phases.{snapshot_next}
-use Rattle.gated_tree.specs.Roles.{Bounds, tree_word}
-use Rattle.gated_tree.specs.Trees.{loaded}
+use Rattle.gated_tree.specs.Nodes.{node_shown}
+use Rattle.gated_tree.specs.Roles.{Bounds, tree_word, seen_as}
+use Rattle.gated_tree.specs.Trees.{loaded, node_at}
 use Rattle.gated_tree.specs.declared.snapshots.Snapshot.{Snapshot}
 use Rattle.gated_tree.specs.declared.snapshots.SnapshotStep.{SnapshotStep}
 use Rattle.gated_tree.specs.declared.snapshots.SnapshotStep.TheVariants.{LoadsUsed, LoadsNode, LoadsKids}
@@ -122,28 +123,30 @@ notes_step c x (LoadsKids n) same fits trace value hook =
     notes_kids x.nodes n (loads_noted x.nodes trace) value (noted_long x.nodes trace) (omega (arith, fits, same))
 notes_step c x s same fits trace value hook = tt
 
--- these are the words of a tree of so many nodes
+-- these are the words of a tree of so many nodes, but for how many tasks have files open
 abbrev pub AreWords : ℕ → TreeWords → ℕ → (ℕ → ℕ) → (ℕ → ℕ) → Type 0
 AreWords nodes words used node kids =
-    (used ≡ words.used) × ((n : ℕ) → n < nodes → node n ≡ slice_index words.nodes n) ×
+    (used ≡ words.used) × ((n : ℕ) → n < nodes → node_shown (node n) ≡ node_at words n) ×
     ((n : ℕ) → n < nodes → kids n ≡ slice_index words.kids n)
 
 -- so it is where all values are those of the tree
 are_words : (nodes : ℕ) (words : TreeWords) (used : ℕ) (node kids : ℕ → ℕ) →
-    ((i : ℕ) → i < suc (nodes + nodes) → values_of nodes words i ≡ tree_word nodes used node kids i) → AreWords nodes words used node kids
+    ((i : ℕ) → i < suc (nodes + nodes) → seen_as nodes i (values_of nodes words i) ≡ seen_as nodes i (tree_word nodes used node kids i)) →
+    AreWords nodes words used node kids
 are_words nodes words used node kids all = (
-  sym (all 0 (omega arith)),
-  λ n ln. sym (rw (lt-ltb n nodes ln) at (all (suc n) (omega (arith, ln)))),
+  sym (ap (λ x. x.1) (all 0 (omega arith))),
+  λ n ln. sym (ap (λ x. x.0) (rw (lt-ltb n nodes ln) at (all (suc n) (omega (arith, ln))))),
   λ n ln.
       let back : nodes + n - nodes ≡ n = omega arith in
       let value : slice_index words.kids (nodes + n - nodes) ≡ kids (nodes + n - nodes) =
-      rw (le-ltb (nodes + n) nodes (omega arith)) at (all (suc (nodes + n)) (omega (arith, ln))) in
+      ap (λ x. x.1) (rw (le-ltb (nodes + n) nodes (omega arith)) at (all (suc (nodes + n)) (omega (arith, ln)))) in
       sym (subst (λ m. slice_index words.kids m ≡ kids m) back value),
 )
 
 -- a snapshot that loads the children of its last node, where the values before are those of the tree, has loaded the tree
 pub last_load : (nodes n : ℕ) (words : TreeWords) (used : ℕ) (node kids : ℕ → ℕ) → IsLong nodes words → n < nodes → nodes ≤ n + 1 →
-    ((i : ℕ) → i < suc (nodes + n) → values_of nodes words i ≡ tree_word nodes used node kids i) →
+    ((i : ℕ) → i < suc (nodes + n) →
+    seen_as nodes i (values_of nodes words i) ≡ seen_as nodes i (tree_word nodes used node kids i)) →
     AreWords nodes (loaded words (Kids n) (kids n)) used node kids
 last_load nodes n words used node kids long ln last before =
     let notes = notes_kids nodes n words (kids n) long ln in
@@ -152,8 +155,9 @@ last_load nodes n words used node kids long ln last before =
     let here : kids n ≡ tree_word nodes used node kids (suc (nodes + n)) =
     rw (le-ltb (nodes + n) nodes (omega arith)) (ap kids (sym back)) in
     are_words nodes after used node kids (λ i l. elim (eqb_tells i (suc (nodes + n))) [
-      | inl q ↦ subst (λ j. values_of nodes after j ≡ tree_word nodes used node kids j) (sym q.1) (notes.0 ∙ here)
+      | inl q ↦ ap (seen_as nodes i)
+          (subst (λ j. values_of nodes after j ≡ tree_word nodes used node kids j) (sym q.1) (notes.0 ∙ here))
       | inr q ↦
           let lower : i < suc (nodes + n) = omega (arith, q.1, l, last, ln) in
-          notes.1 i lower ∙ before i lower
+          ap (seen_as nodes i) (notes.1 i lower) ∙ before i lower
     ])

@@ -1,11 +1,12 @@
 -- The law of each event of a snapshot.
+use Rattle.gate_world.specs.Fits.{file_of}
 use Rattle.std.proofs.Common.{◌≡◌, ℕ, suc, ◌<◌, Bool, true, false, List, refl, sym, ap, ◌∙◌, subst, inl, inr, arith, true≢false, ◌⊎◌}
 use Rattle.std.specs.Prelude.{◌==◌, if◌then◌else◌, Option, Some, None, is_some, Result, Err}
 use Rattle.std.proofs.lemmas.Bool.{cases_Bool}
 use Rattle.std.proofs.lemmas.Bool.Decides.{eqb_tells}
 use Rattle.finite_sums.specs.Sums.{update}
 use Rattle.finite_sums.proofs.Totals.{each_updated}
-use Rattle.access_model.specs.Histories.{mounts_of, levels_of}
+use Rattle.access_model.specs.Histories.{mounts_of, levels_of, opens_of}
 use Rattle.access_model.specs.Replies.{map_next}
 use Rattle.access_model.specs.declared.errors.GateError.{GateError}
 use Rattle.access_model.specs.declared.errors.GateError.TheVariants.{Invalid}
@@ -20,7 +21,7 @@ use Rattle.cpu_words.specs.Words.{Words, read, put}
 use Rattle.gated_tree.specs.Calls.{phase_role, role_after, NextFits}
 use Rattle.gated_tree.specs.Nodes.{dirty_in, unpacked, node_after}
 use Rattle.gated_tree.specs.Phases.{snapshot_next, snapshot_after, at_snapshot, snapshot_locked_out, node_step, kids_step}
-use Rattle.gated_tree.specs.Roles.{TreeHolds, TreeState, sealed_by}
+use Rattle.gated_tree.specs.Roles.{TreeHolds, TreeState, sealed_by, bare_by}
 use Rattle.gated_tree.specs.declared.phases.TreePhase.TheVariants.{Snapshot as Snapshots}
 use Rattle.gated_tree.specs.declared.snapshots.Snapshot.{Snapshot}
 use Rattle.gated_tree.specs.declared.snapshots.SnapshotStep.{SnapshotStep}
@@ -45,6 +46,7 @@ use Rattle.gate_world.specs.Levels.{level_added_after, level_taken_after, level_
 use Rattle.gate_world.specs.Operations.{holds_none}
 use Rattle.gate_world.specs.Owners.{is_owned, takes_lock}
 use Rattle.gate_world.specs.Rules.{
+  Files,
   Part,
   Owner,
   Stages,
@@ -69,7 +71,7 @@ use Rattle.gate_world.specs.Rules.{
 use Rattle.gate_world.specs.Shown.{shown, closing, stage_roles}
 use Rattle.gate_world.specs.Snapshots.{values_noted}
 use Rattle.gate_world.specs.Stages.{stage_role_of, snapshot_stage_role}
-use Rattle.gate_world.specs.Trees.{tree_bounds, tree_roles, tree_role_of, is_sealed}
+use Rattle.gate_world.specs.Trees.{tree_bounds, tree_roles, tree_role_of, is_sealed, is_bare_at}
 use Rattle.gate_world.specs.Views.{
   held_at,
   holds_level,
@@ -80,6 +82,7 @@ use Rattle.gate_world.specs.Views.{
   taken_by,
   phase_after,
   view_with,
+  has_open,
 }
 use Rattle.gate_world.specs.Worlds.{World, after_step}
 use Rattle.gate_frames.proofs.Frames.{
@@ -301,6 +304,10 @@ module _ (c : Config) (within : IsWithin c) (w : World) (good : IsGood c w) (t :
   levels_here : (s : SnapshotStep) → holds_level (view_here s) ≡ holds_level (w.views t)
   levels_here s = ap (λ a. levels_of (actions_after a (w.views t).actions)) (adds_none x s (found_here s))
 
+  -- and its open files
+  opens_here : (s : SnapshotStep) → has_open (view_here s) ≡ has_open (w.views t)
+  opens_here s = ap (λ a. opens_of (actions_after a (w.views t).actions)) (adds_none x s (found_here s))
+
   -- the stage then, where the task plays this role
   moment_here : (s : SnapshotStep) (r : StageRole) → stage_role_of (view_here s).phase ≡ r →
       ◌≡◌ {A = StageMoment} (record {
@@ -469,20 +476,24 @@ module _ (c : Config) (within : IsWithin c) (w : World) (good : IsGood c w) (t :
       let value : ℕ = read w.words (snapshot_next x x.step).0 in
       let found : ℕ = found_here c within w good t lt hook x x.step in
       let beside : IsBeside w.words words_now = event_beside w.words x x.step in
-      let kept : TreeStepKeeps (tree_bounds c) (is_sealed w.words) w.words (tree_roles w) t (Snapshots x) noted hook =
-      each_phase (tree_bounds c) (tree_within c within) (is_sealed w.words) w.words (tree_roles w) (good Tree) t lt (Snapshots x) values
+      let kept : TreeStepKeeps (tree_bounds c) (is_sealed w.words) (is_bare_at w.words) w.words (tree_roles w) t (Snapshots x) noted hook =
+      each_phase (tree_bounds c) (tree_within c within) (is_sealed w.words) (is_bare_at w.words) w.words (tree_roles w) (good Tree) t lt (Snapshots x) values
       noted hook (ap (tree_role_of (w.views t).trace) e) fits_now.0 tt
       (notes_step (tree_bounds c) x x.step fits_now.0.1 fits_now.0.2 (w.views t).trace value hook) in
       let same : ◌≡◌ {A = TreeState} (record {
         sealed = is_sealed w.words;
+        bare = is_bare_at w.words;
         used = words_now.used;
+        removed = words_now.removed;
         node = words_now.node;
         kids = words_now.kids;
         at = update (tree_roles w) t (role_after (phase_role noted) (map_next Snapshots (snapshot_after x x.step found).0));
       }) (tree_then c w good t lt words_now view_now) =
       λ j. record {
         sealed = sealed_by (sym beside.sb_same j) (sym beside.stage_same j);
+        bare = bare_by (sym beside.remount_same j) (sym beside.sb_same j);
         used = words_now.used;
+        removed = words_now.removed;
         node = words_now.node;
         kids = words_now.kids;
         at = update (tree_roles w) t (later_role x x.step found view_now.trace j);
@@ -536,6 +547,12 @@ module _ (c : Config) (within : IsWithin c) (w : World) (good : IsGood c w) (t :
   parts_hold Fitting k = λ y ly. each_updated (λ z (u : View). ViewFits c z u) w.views t view_now y fits_then (λ ne. good Fitting y ly)
   parts_hold Known k = absurd (true≢false k)
   parts_hold Tree k = tree_law
+  parts_hold Files k =
+      left_alone c w t lt Files words_now view_now (event_beside w.words x x.step).node_same (
+        opens_here c within w good t lt hook x x.step,
+        snapshot_comes x (λ n. file_of (later n) ≡ None) (λ s. refl) refl (λ answer. refl) x.step
+            (found_here c within w good t lt hook x x.step) ∙ sym (ap file_of e),
+      ) (good Files)
   parts_hold (AtMount m) k =
       let beside : IsBeside w.words words_now = event_beside w.words x x.step in
       left_alone c w t lt (AtMount m) words_now view_now
@@ -557,6 +574,7 @@ module _ (c : Config) (within : IsWithin c) (w : World) (good : IsGood c w) (t :
       (λ i. snapshot_comes x (λ n. closing i (later n) ≡ 0) (step_sums i) refl (λ answer. refl) x.step
       (found_here c within w good t lt hook x x.step) ∙ sym (ap (closing i) e ∙ step_sums i x.step))
       (held_here c within w good t lt hook x x.step) (levels_here c within w good t lt hook x x.step)
+      (opens_here c within w good t lt hook x x.step)
 
   -- it does an owner's work
   owners_work : IsOwnersWork w (Trees (Snapshots x)) hook

@@ -26,6 +26,7 @@ use Rattle.gated_tree.specs.declared.phases.TreePhase.TheVariants.{
   Grow as Grows,
   MoveTo as Moves,
   Mark as TreeMarks,
+  OpenFile as OpensOne,
   Snapshot as Snapshots,
   ClearMarks as TreeClears,
 }
@@ -36,6 +37,7 @@ use Rattle.gated_tree.specs.Phases.{
   grow_after,
   move_after,
   mark_after,
+  open_after,
   snapshot_locked_out,
   clear_after,
   at_snapshot,
@@ -135,5 +137,6 @@ module _ (c : Config) (t : ℕ) (w next : World) (earlier : List World) where
   tree_own hook (Grows x) e e' = no_cause Grows (λ p. tt) (grow_after x x.step (found_at w.words (Trees (Grows x)) hook)).0
   tree_own hook (Moves x) e e' = no_cause Moves (λ p. tt) (move_after x x.step (found_at w.words (Trees (Moves x)) hook)).0
   tree_own hook (TreeMarks x) e e' = no_cause TreeMarks (λ p. tt) (mark_after x x.step (found_at w.words (Trees (TreeMarks x)) hook)).0
+  tree_own hook (OpensOne x) e e' = no_cause OpensOne (λ p. tt) (open_after x x.step (found_at w.words (Trees (OpensOne x)) hook)).0
   tree_own hook (Snapshots x) e e' = snapshot_own hook x x.step e e'
   tree_own hook (TreeClears x) e e' = no_cause TreeClears (λ p. tt) (clear_after x (found_at w.words (Trees (TreeClears x)) hook)).0

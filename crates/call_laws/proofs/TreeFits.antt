@@ -1,4 +1,7 @@
 -- What fits after an event of a call at the tree: the same accesses, and numbers that are in range.
+use Rattle.gated_tree.specs.declared.opens.OpenFile.{OpenFile}
+use Rattle.gated_tree.specs.declared.opens.OpenStep.{OpenStep}
+use Rattle.gated_tree.specs.declared.opens.OpenStep.TheVariants.{LoadsFile as LoadsFileToOpen, OpensFile}
 use Rattle.std.proofs.Common.{◌≡◌, ℕ, suc, ◌<◌, ◌≤◌, Bool, true, false, refl, sym, ap, ◌∙◌, arith, subst, zero}
 use Rattle.std.specs.Prelude.{Option, Some, None, Ok, Err, Result, if◌then◌else◌, ◌==◌, ◌||◌, nat_lt}
 use Rattle.access_model.specs.declared.replies.Next.{Next}
@@ -14,6 +17,9 @@ use Rattle.gated_tree.specs.declared.changes.RemoveStep.{RemoveStep}
 use Rattle.gated_tree.specs.declared.changes.RemoveStep.TheVariants.{
   LoadsFile as LoadsFileToRemove,
   FreesNode,
+  CountsRemoved,
+  MarksRemoved,
+  RefundsRemoved,
   RefundsBlocks as RefundsItsBlocks,
   RefundsChild as RefundsItsChild,
 }
@@ -55,6 +61,7 @@ use Rattle.gated_tree.specs.declared.phases.TreePhase.TheVariants.{
   Grow as Grows,
   MoveTo as Moves,
   Mark as TreeMarks,
+  OpenFile as OpensOne,
   Snapshot as Snapshots,
   ClearMarks as TreeClears,
 }
@@ -64,6 +71,7 @@ use Rattle.gated_tree.specs.Phases.{
   grow_after,
   move_after,
   mark_after,
+  open_after,
   mark_done,
   snapshot_after,
   after as tree_after,
@@ -76,7 +84,7 @@ use Rattle.gate_world.specs.declared.config.Config.{Config}
 use Rattle.gate_world.specs.Fits.{ActionFits, mounts_by, TreeAccess, PhaseFits, levels_by, Fits}
 use Rattle.gate_world.specs.Operations.{some_mount, may_mark, is_writer, is_faulter}
 use Rattle.access_model.specs.declared.replies.Reply.TheVariants.{Unit as UnitReply}
-use Rattle.gated_tree.specs.Calls.{NextFits}
+use Rattle.gated_tree.specs.Calls.{NextFits, TreePhaseFits}
 use Rattle.gate_world.specs.Work.{after_of}
 use Rattle.gate_world.specs.Configs.{IsWithin}
 use Rattle.access_model.specs.declared.errors.GateError.{GateError}
@@ -93,6 +101,7 @@ use Rattle.access_model.specs.declared.actions.Action.TheVariants.{
   Remove as RemoveAction,
   Grow as GrowAction,
   MoveTo as MoveToAction,
+  Open as OpenAction,
 }
 use Rattle.gate_frames.proofs.Trees.{tree_within}
 
@@ -132,6 +141,11 @@ remove_action x LoadsFileToRemove found = none_leaves
 remove_action x (FreesNode file) found =
     if_leaves (found == word_of file) (Some (RemoveAction x.file))
     (record { can = λ held. tt; mounts = λ held. refl; levels = λ held. refl })
+remove_action x (CountsRemoved file) found = none_leaves
+remove_action x (MarksRemoved file) found =
+    if_leaves (found == word_of file) (Some (RemoveAction x.file))
+    (record { can = λ held. tt; mounts = λ held. refl; levels = λ held. refl })
+remove_action x RefundsRemoved found = none_leaves
 remove_action x (RefundsItsBlocks file) found = none_leaves
 remove_action x (RefundsItsChild file) found = none_leaves
 
@@ -161,6 +175,13 @@ mark_action x LoadsFileToMark found = none_leaves
 mark_action x (MarksFile file) found =
     if_leaves (found == word_of file) (Some (mark_done x.dirty x.file)) (mark_done_leaves x.dirty x.file)
 
+-- of an open, whose file is one of those that a task may have open
+open_action : (x : OpenFile) (s : OpenStep) (found : ℕ) → x.file < 64 → LeavesAccesses (open_after x s found).1
+open_action x LoadsFileToOpen found small = none_leaves
+open_action x (OpensFile file) found small =
+    if_leaves (found == word_of file) (Some (OpenAction x.file))
+    (record { can = λ held. small; mounts = λ held. refl; levels = λ held. refl })
+
 -- a snapshot has no action
 snapshot_action : (x : Snapshot) (s : SnapshotStep) (found : ℕ) → LeavesAccesses (snapshot_after x s found).1
 snapshot_action x Locks found = none_leaves
@@ -170,15 +191,25 @@ snapshot_action x (LoadsNodeWord node) found = none_leaves
 snapshot_action x (LoadsKids node) found = none_leaves
 snapshot_action x (Releases answer) found = none_leaves
 
+-- the file of an open is below 64
+abbrev OpensSmall : TreePhase → Type 0
+OpensSmall (OpensOne x) = x.file < 64
+OpensSmall x = Unit {0}
+
+opens_small : (c : Config) → IsWithin c → (t : ℕ) (x : TreePhase) → TreePhaseFits (tree_bounds c) t x → OpensSmall x
+opens_small c within t (OpensOne x) fits = omega (arith, within.nodes, fits.0)
+opens_small c within t x fits = tt
+
 -- so it is of each event at the tree
-pub tree_action : (x : TreePhase) (found : ℕ) (hook : HookAnswer) → LeavesAccesses (tree_after x found hook).1
-tree_action (Creates x) found hook = create_action x x.step found
-tree_action (Removes x) found hook = remove_action x x.step found
-tree_action (Grows x) found hook = grow_action x x.step found
-tree_action (Moves x) found hook = move_action x x.step found
-tree_action (TreeMarks x) found hook = mark_action x x.step found
-tree_action (Snapshots x) found hook = snapshot_action x x.step found
-tree_action (TreeClears x) found hook =
+pub tree_action : (x : TreePhase) (found : ℕ) (hook : HookAnswer) → OpensSmall x → LeavesAccesses (tree_after x found hook).1
+tree_action (Creates x) found hook small = create_action x x.step found
+tree_action (Removes x) found hook small = remove_action x x.step found
+tree_action (Grows x) found hook small = grow_action x x.step found
+tree_action (Moves x) found hook small = move_action x x.step found
+tree_action (TreeMarks x) found hook small = mark_action x x.step found
+tree_action (OpensOne x) found hook small = open_action x x.step found small
+tree_action (Snapshots x) found hook small = snapshot_action x x.step found
+tree_action (TreeClears x) found hook small =
     if_leaves (dirty_in found == 1) (Some (Clean x.node)) (record { can = λ held. tt; mounts = λ held. refl; levels = λ held. refl })
 
 module _ (c : Config) (held : ℕ → ℕ) (levels : ℕ → Bool) where
@@ -219,6 +250,7 @@ module _ (c : Config) (held : ℕ → ℕ) (levels : ℕ → Bool) where
   next_access (Grows x) found hook may = same_access Grows (λ p. may) (grow_after x x.step found).0
   next_access (Moves x) found hook may = same_access Moves (λ p. may) (move_after x x.step found).0
   next_access (TreeMarks x) found hook may = mark_access x x.step found may
+  next_access (OpensOne x) found hook may = same_access OpensOne (λ p. tt) (open_after x x.step found).0
   next_access (Snapshots x) found hook may = same_access Snapshots (λ p. may) (snapshot_after x x.step found).0
   next_access (TreeClears x) found hook may = absurd may
 
@@ -230,8 +262,9 @@ module _ (c : Config) (held : ℕ → ℕ) (levels : ℕ → Bool) where
   next_fits t (Done answer) fits may = tt
 
 -- the action of each event at the tree can be done
-pub tree_acts : (held : ℕ → ℕ) (x : TreePhase) (found : ℕ) (hook : HookAnswer) → ActionFits held (after_of (Trees x) found hook).1
-tree_acts held x found hook = (tree_action x found hook).can held
+pub tree_acts : (c : Config) → IsWithin c → (t : ℕ) (held : ℕ → ℕ) (levels : ℕ → Bool) (x : TreePhase) (found : ℕ) (hook : HookAnswer) →
+    PhaseFits c t held levels (Trees x) → ActionFits held (after_of (Trees x) found hook).1
+tree_acts c within t held levels x found hook f = (tree_action x found hook (opens_small c within t x f.0)).can held
 
 -- what comes after it fits
 pub tree_goes : (c : Config) → IsWithin c → (t : ℕ) (held : ℕ → ℕ) (levels : ℕ → Bool) (x : TreePhase) (found : ℕ) (hook : HookAnswer) →
@@ -243,8 +276,8 @@ tree_goes c within t held levels x found hook f =
     let fits : Fits c t held levels comes =
     next_fits c held levels t (tree_after x found hook).0
     (fits_after (tree_bounds c) (tree_within c within) t x found hook f.0) (next_access c held levels x found hook f.1) in
-    subst (λ g. Fits c t g (levels_by (tree_after x found hook).1 levels) comes) (sym ((tree_action x found hook).mounts held))
-    (subst (λ k. Fits c t held k comes) (sym ((tree_action x found hook).levels levels)) fits)
+    subst (λ g. Fits c t g (levels_by (tree_after x found hook).1 levels) comes) (sym ((tree_action x found hook (opens_small c within t x f.0)).mounts held))
+    (subst (λ k. Fits c t held k comes) (sym ((tree_action x found hook (opens_small c within t x f.0)).levels levels)) fits)
 
 -- accesses that agree at each mount agree whether there is one
 some_agree : (f g : ℕ → ℕ) (n mounts : ℕ) → n ≤ mounts → ((m : ℕ) → m < mounts → f m ≡ g m) → some_mount n f ≡ some_mount n g
@@ -273,6 +306,7 @@ module _ (c : Config) (f g : ℕ → ℕ) (h k : ℕ → Bool) (mounts : (m : �
   access_agrees (TreeMarks x) may = sym (mark_agrees x.dirty) ∙ may
   access_agrees (Snapshots x) may = sym (none_agree c 0 f g h k mounts levels) ∙ may
   access_agrees (TreeClears x) may = may
+  access_agrees (OpensOne x) may = tt
   access_agrees (Creates x) may = sym writer_agrees ∙ may
   access_agrees (Removes x) may = sym writer_agrees ∙ may
   access_agrees (Grows x) may = sym writer_agrees ∙ may

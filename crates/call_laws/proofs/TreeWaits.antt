@@ -1,4 +1,7 @@
 -- Of the calls at the tree only a snapshot waits, and only where another task has `umount`.
+use Rattle.gated_tree.specs.declared.opens.OpenFile.{OpenFile}
+use Rattle.gated_tree.specs.declared.opens.OpenStep.{OpenStep}
+use Rattle.gated_tree.specs.declared.opens.OpenStep.TheVariants.{LoadsFile as LoadsFileToOpen, OpensFile}
 use Rattle.std.proofs.Common.{◌≡◌, ℕ, ◌<◌, ap, inl, inr}
 use Rattle.std.specs.Prelude.{Some, None, Ok, Err, List, Option, Result, ◌==◌, if◌then◌else◌, Bool, true, false, is_some, nat_lt, ◌+◌}
 use Rattle.std.proofs.lemmas.Bool.Decides.{eqb_tells}
@@ -16,6 +19,9 @@ use Rattle.gated_tree.specs.declared.changes.RemoveStep.{RemoveStep}
 use Rattle.gated_tree.specs.declared.changes.RemoveStep.TheVariants.{
   LoadsFile as LoadsFileToRemove,
   FreesNode,
+  CountsRemoved,
+  MarksRemoved,
+  RefundsRemoved,
   RefundsBlocks as RefundsItsBlocks,
   RefundsChild as RefundsItsChild,
 }
@@ -58,6 +64,7 @@ use Rattle.gated_tree.specs.declared.phases.TreePhase.TheVariants.{
   Grow as Grows,
   MoveTo as Moves,
   Mark as TreeMarks,
+  OpenFile as OpensOne,
   Snapshot as Snapshots,
   ClearMarks as TreeClears,
 }
@@ -71,6 +78,7 @@ use Rattle.gated_tree.specs.Phases.{
   grow_after,
   move_after,
   mark_after,
+  open_after,
   snapshot_locked_out,
   snapshot_after,
   clear_after,
@@ -128,6 +136,9 @@ create_goes_on x RefundsChild found = tt
 remove_goes_on : (x : Remove) (s : RemoveStep) (found : ℕ) → GoesOn (remove_after x s found).0
 remove_goes_on x LoadsFileToRemove found = look_goes _ _ (file_in found)
 remove_goes_on x (FreesNode file) found = either (found == word_of file) _ _ tt tt
+remove_goes_on x (CountsRemoved file) found = tt
+remove_goes_on x (MarksRemoved file) found = either (found == word_of file) _ _ tt tt
+remove_goes_on x RefundsRemoved found = tt
 remove_goes_on x (RefundsItsBlocks file) found = tt
 remove_goes_on x (RefundsItsChild file) found = tt
 
@@ -152,6 +163,11 @@ move_goes_on x (RefundsOne dir answer) found = tt
 mark_goes_on : (x : Mark) (s : MarkStep) (found : ℕ) → GoesOn (mark_after x s found).0
 mark_goes_on x LoadsFileToMark found = look_goes _ _ (file_in found)
 mark_goes_on x (MarksFile file) found = either (found == word_of file) _ _ tt tt
+
+-- nor an open
+open_goes_on : (x : OpenFile) (s : OpenStep) (found : ℕ) → GoesOn (open_after x s found).0
+open_goes_on x LoadsFileToOpen found = look_goes _ _ (file_in found)
+open_goes_on x (OpensFile file) found = either (found == word_of file) _ _ tt tt
 
 -- nor a clearing of marks
 clear_goes_on : (x : ClearMarks) (o : Option ℕ) → GoesOn (clears_at x o)
@@ -214,6 +230,9 @@ module _ (c : Config) (w : World) (earlier : List World) (t : ℕ) where
     tree_waits hook (TreeMarks x) e =
         let found : ℕ = found_at w.words (Trees (TreeMarks x)) hook in
         no_wait TreeMarks (Trees (TreeMarks x)) (mark_after x x.step found).0 (mark_goes_on x x.step found)
+    tree_waits hook (OpensOne x) e =
+        let found : ℕ = found_at w.words (Trees (OpensOne x)) hook in
+        no_wait OpensOne (Trees (OpensOne x)) (open_after x x.step found).0 (open_goes_on x x.step found)
     tree_waits hook (Snapshots x) e = snapshot_waits hook x x.step e
     tree_waits hook (TreeClears x) e =
         let found : ℕ = found_at w.words (Trees (TreeClears x)) hook in

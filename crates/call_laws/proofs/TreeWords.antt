@@ -1,4 +1,8 @@
 -- The words of the events of the calls at the tree: each is one that is kept, and none is a count, or a word of a level.
+use Rattle.gated_tree.specs.declared.opens.OpenFile.{OpenFile}
+use Rattle.gated_tree.specs.declared.opens.OpenStep.{OpenStep}
+use Rattle.gated_tree.specs.declared.opens.OpenStep.TheVariants.{LoadsFile as LoadsFileToOpen, OpensFile}
+use Rattle.cpu_words.specs.declared.names.WordName.TheVariants.{Removed}
 use Rattle.std.proofs.Common.{◌≡◌, ℕ, ◌<◌, refl, arith}
 use Rattle.cpu_words.specs.Hooks.{HookAnswer}
 use Rattle.cpu_words.specs.Names.{IsWord}
@@ -13,6 +17,9 @@ use Rattle.gated_tree.specs.declared.changes.RemoveStep.{RemoveStep}
 use Rattle.gated_tree.specs.declared.changes.RemoveStep.TheVariants.{
   LoadsFile as LoadsFileToRemove,
   FreesNode,
+  CountsRemoved,
+  MarksRemoved,
+  RefundsRemoved,
   RefundsBlocks as RefundsItsBlocks,
   RefundsChild as RefundsItsChild,
 }
@@ -54,6 +61,7 @@ use Rattle.gated_tree.specs.declared.phases.TreePhase.TheVariants.{
   Grow as Grows,
   MoveTo as Moves,
   Mark as TreeMarks,
+  OpenFile as OpensOne,
   Snapshot as Snapshots,
   ClearMarks as TreeClears,
 }
@@ -64,6 +72,7 @@ use Rattle.gated_tree.specs.Phases.{
   grow_next,
   move_next,
   mark_next,
+  open_next,
   snapshot_next,
   next as tree_next,
   at_snapshot,
@@ -93,6 +102,9 @@ module _ (c : Config) (within : IsWithin c) (n t : ℕ) where
   remove_there : (x : Remove) (s : RemoveStep) → x.file < c.nodes → RemoveStepFits s → IsWord (extents_among n c) (remove_next x s).0
   remove_there x LoadsFileToRemove d f = kept x.file d
   remove_there x (FreesNode file) d f = kept x.file d
+  remove_there x (CountsRemoved file) d f = tt
+  remove_there x (MarksRemoved file) d f = kept x.file d
+  remove_there x RefundsRemoved d f = tt
   remove_there x (RefundsItsBlocks file) d f = tt
   remove_there x (RefundsItsChild file) d f = f
 
@@ -118,6 +130,11 @@ module _ (c : Config) (within : IsWithin c) (n t : ℕ) where
   mark_there x LoadsFileToMark d = kept x.file d
   mark_there x (MarksFile file) d = kept x.file d
 
+  -- of an open
+  open_there : (x : OpenFile) (s : OpenStep) → x.file < c.nodes → IsWord (extents_among n c) (open_next x s).0
+  open_there x LoadsFileToOpen d = kept x.file d
+  open_there x (OpensFile file) d = kept x.file d
+
   -- of a snapshot
   snapshot_there : (x : Snapshot) (s : SnapshotStep) → SnapshotStepFits (tree_bounds c) s →
       IsWord (extents_among n c) (snapshot_next x s).0
@@ -135,6 +152,7 @@ module _ (c : Config) (within : IsWithin c) (n t : ℕ) where
   tree_there (Grows x) hook f = grow_there x x.step f.0
   tree_there (Moves x) hook f = move_there x x.step f.0 f.1 f.2
   tree_there (TreeMarks x) hook f = mark_there x x.step f
+  tree_there (OpensOne x) hook f = open_there x x.step f.0
   tree_there (Snapshots x) hook f = snapshot_there x x.step f.2
   tree_there (TreeClears x) hook f = kept x.node f.0
 
@@ -148,6 +166,7 @@ pub record SameLevels (old new : Words) : Type 0 where
 abbrev IsApartWord : WordName → Type 0
 IsApartWord Umount = Unit {0}
 IsApartWord Used = Unit {0}
+IsApartWord Removed = Unit {0}
 IsApartWord (Node n) = Unit {0}
 IsApartWord (Kids n) = Unit {0}
 IsApartWord name = ⊥
@@ -156,6 +175,7 @@ IsApartWord name = ⊥
 put_apart : (w : Words) (name : WordName) (value : ℕ) → IsApartWord name → SameLevels w (put w name value)
 put_apart w Umount value h = record { at_levels = λ i. (refl, refl, refl, refl); counts = refl; level_counts = refl }
 put_apart w Used value h = record { at_levels = λ i. (refl, refl, refl, refl); counts = refl; level_counts = refl }
+put_apart w Removed value h = record { at_levels = λ i. (refl, refl, refl, refl); counts = refl; level_counts = refl }
 put_apart w (Node n) value h = record { at_levels = λ i. (refl, refl, refl, refl); counts = refl; level_counts = refl }
 put_apart w (Kids n) value h = record { at_levels = λ i. (refl, refl, refl, refl); counts = refl; level_counts = refl }
 put_apart w name value h = absurd h
@@ -172,6 +192,9 @@ create_apart x RefundsChild = tt
 remove_apart : (x : Remove) (s : RemoveStep) → IsApartWord (remove_next x s).0
 remove_apart x LoadsFileToRemove = tt
 remove_apart x (FreesNode file) = tt
+remove_apart x (CountsRemoved file) = tt
+remove_apart x (MarksRemoved file) = tt
+remove_apart x RefundsRemoved = tt
 remove_apart x (RefundsItsBlocks file) = tt
 remove_apart x (RefundsItsChild file) = tt
 
@@ -195,6 +218,11 @@ move_apart x (RefundsOne dir answer) = tt
 mark_apart : (x : Mark) (s : MarkStep) → IsApartWord (mark_next x s).0
 mark_apart x LoadsFileToMark = tt
 mark_apart x (MarksFile file) = tt
+
+-- of an open
+open_apart : (x : OpenFile) (s : OpenStep) → IsApartWord (open_next x s).0
+open_apart x LoadsFileToOpen = tt
+open_apart x (OpensFile file) = tt
 
 module _ (w : Words) (hook : HookAnswer) where
   -- what an event of a phase leaves of the words
@@ -221,5 +249,6 @@ module _ (w : Words) (hook : HookAnswer) where
   tree_leaves (Grows x) = word_leaves (Grows x) (grow_apart x x.step)
   tree_leaves (Moves x) = word_leaves (Moves x) (move_apart x x.step)
   tree_leaves (TreeMarks x) = word_leaves (TreeMarks x) (mark_apart x x.step)
+  tree_leaves (OpensOne x) = word_leaves (OpensOne x) (open_apart x x.step)
   tree_leaves (Snapshots x) = snapshot_leaves x x.step
   tree_leaves (TreeClears x) = word_leaves (TreeClears x) tt

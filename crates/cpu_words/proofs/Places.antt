@@ -5,7 +5,7 @@ use Rattle.std.proofs.Math.ListN.{length-set}
 use Rattle.std.proofs.lemmas.List.{length-replicate}
 use Rattle.std.proofs.lemmas.Bool.Decides.{eqb_tells}
 use Rattle.cpu_words.specs.declared.names.WordName.{WordName}
-use Rattle.cpu_words.specs.declared.names.WordName.TheVariants.{Umount, Stage, Holders, SbFlags, Remount, MountFlags, MountCount, Block, Sync, LevelCount, Section, Used, Node, Kids}
+use Rattle.cpu_words.specs.declared.names.WordName.TheVariants.{Umount, Stage, Holders, SbFlags, Remount, MountFlags, MountCount, Block, Sync, LevelCount, Section, Used, Node, Kids, Removed}
 use Rattle.cpu_words.specs.Names.{Extents, IsWord, place, words_in_all}
 use Rattle.cpu_words.specs.Words.{Words, put, opening_words}
 use Rattle.cpu_words.specs.Lists.{AreFew, ListShows, AreOpening}
@@ -25,6 +25,7 @@ module _ (e : Extents) (few : AreFew e) where
   place_small Holders there = omega arith
   place_small SbFlags there = omega arith
   place_small Remount there = omega arith
+  place_small Removed there = omega arith
   place_small (MountFlags m) there = omega arith
   place_small (MountCount m p) there = omega arith
   place_small (Block i) there = omega arith
@@ -47,6 +48,8 @@ module _ (e : Extents) (few : AreFew e) where
   same_name SbFlags other here there same = absurd (omega arith)
   same_name Remount Remount here there same = refl
   same_name Remount other here there same = absurd (omega arith)
+  same_name Removed Removed here there same = refl
+  same_name Removed other here there same = absurd (omega arith)
   same_name (MountFlags m) (MountFlags k) here there same = ap MountFlags (omega arith)
   same_name (MountFlags m) other here there same = absurd (omega arith)
   same_name (MountCount m p) (MountCount k q) here there same =

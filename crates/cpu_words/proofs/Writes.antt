@@ -4,7 +4,7 @@ use Rattle.std.proofs.lemmas.Bool.Decides.{eqb_tells}
 use Rattle.finite_sums.specs.Sums.{update}
 use Rattle.finite_sums.proofs.Totals.{update_at, update_off}
 use Rattle.cpu_words.specs.declared.names.WordName.{WordName}
-use Rattle.cpu_words.specs.declared.names.WordName.TheVariants.{Umount, Stage, Holders, SbFlags, Remount, MountFlags, MountCount, Block, Sync, LevelCount, Section, Used, Node, Kids}
+use Rattle.cpu_words.specs.declared.names.WordName.TheVariants.{Umount, Stage, Holders, SbFlags, Remount, MountFlags, MountCount, Block, Sync, LevelCount, Section, Used, Node, Kids, Removed}
 use Rattle.cpu_words.specs.Words.{Words, read, put}
 
 -- after a write of a word it has what was written
@@ -14,6 +14,7 @@ read_put_same w Stage v = refl
 read_put_same w Holders v = refl
 read_put_same w SbFlags v = refl
 read_put_same w Remount v = refl
+read_put_same w Removed v = refl
 read_put_same w (MountFlags m) v = update_at w.flags m v
 read_put_same w (MountCount m p) v = ap (λ f. f p) (update_at w.count m (update (w.count m) p v)) ∙ update_at (w.count m) p v
 read_put_same w (Block i) v = update_at w.block i v
@@ -47,6 +48,8 @@ module _ (w : Words) (v : ℕ) where
   read_put_other SbFlags other ne = refl
   read_put_other Remount Remount ne = absurd (ne refl)
   read_put_other Remount other ne = refl
+  read_put_other Removed Removed ne = absurd (ne refl)
+  read_put_other Removed other ne = refl
   read_put_other (MountFlags m) (MountFlags k) ne = update_off w.flags m v k (λ e. ne (ap MountFlags e))
   read_put_other (MountFlags m) other ne = refl
   read_put_other (MountCount m p) (MountCount k q) ne = row_other w.count m p k q (λ e d. ne (λ z. MountCount (e z) (d z)))
@@ -74,6 +77,7 @@ no_words = record {
   holders = 0;
   sb = 0;
   remount = 0;
+  removed = 0;
   flags = λ m. 0;
   count = λ m p. 0;
   block = λ i. 0;
@@ -92,6 +96,7 @@ read_no_words Stage = refl
 read_no_words Holders = refl
 read_no_words SbFlags = refl
 read_no_words Remount = refl
+read_no_words Removed = refl
 read_no_words (MountFlags m) = refl
 read_no_words (MountCount m p) = refl
 read_no_words (Block i) = refl

@@ -1,7 +1,7 @@
 -- The words that a configuration has, and where each lies.
 use Rattle.std.specs.Prelude.{ℕ, ◌+◌, ◌-◌, ◌*◌, ◌<◌, ◌≤◌}
 use Rattle.cpu_words.specs.declared.names.WordName.{WordName}
-use Rattle.cpu_words.specs.declared.names.WordName.TheVariants.{Umount, Stage, Holders, SbFlags, Remount, MountFlags, MountCount, Block, Sync, LevelCount, Section, Used, Node, Kids}
+use Rattle.cpu_words.specs.declared.names.WordName.TheVariants.{Umount, Stage, Holders, SbFlags, Remount, MountFlags, MountCount, Block, Sync, LevelCount, Section, Used, Node, Kids, Removed}
 
 -- how many of each there are
 pub record Extents : Type 0 where
@@ -21,6 +21,7 @@ IsWord e Stage = Unit {0}
 IsWord e Holders = Unit {0}
 IsWord e SbFlags = Unit {0}
 IsWord e Remount = Unit {0}
+IsWord e Removed = Unit {0}
 IsWord e (MountFlags m) = m < e.mounts
 IsWord e (MountCount m p) = (m < e.mounts) × (p < e.processors)
 IsWord e (Block i) = (1 ≤ i) × (i ≤ 3)
@@ -55,9 +56,13 @@ sb_flags_place = holders_place + 1
 abbrev pub remount_place : ℕ
 remount_place = sb_flags_place + 1
 
+-- the place of the count of removed files that are still open
+abbrev pub removed_place : ℕ
+removed_place = remount_place + 1
+
 -- the mounts' flags, one word a mount
 abbrev pub mount_flags_base : ℕ
-mount_flags_base = remount_place + 1
+mount_flags_base = removed_place + 1
 
 -- `block` of the levels 1 to 3
 abbrev pub block_base : ℕ
@@ -110,6 +115,7 @@ place Stage = stage_place
 place Holders = holders_place
 place SbFlags = sb_flags_place
 place Remount = remount_place
+place Removed = removed_place
 place (MountFlags m) = mount_flags_base + m
 place (MountCount m p) = mount_count_base + row_length * m + p
 place (Block i) = block_base + i

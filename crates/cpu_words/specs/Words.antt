@@ -2,7 +2,7 @@
 use Rattle.std.specs.Prelude.{ℕ}
 use Rattle.finite_sums.specs.Sums.{update}
 use Rattle.cpu_words.specs.declared.names.WordName.{WordName}
-use Rattle.cpu_words.specs.declared.names.WordName.TheVariants.{Umount, Stage, Holders, SbFlags, Remount, MountFlags, MountCount, Block, Sync, LevelCount, Section, Used, Node, Kids}
+use Rattle.cpu_words.specs.declared.names.WordName.TheVariants.{Umount, Stage, Holders, SbFlags, Remount, MountFlags, MountCount, Block, Sync, LevelCount, Section, Used, Node, Kids, Removed}
 
 -- the values of all words, by what they belong to; of a number that there is not, any value
 pub record Words : Type 0 where
@@ -11,6 +11,7 @@ pub record Words : Type 0 where
   pub holders : ℕ
   pub sb : ℕ
   pub remount : ℕ
+  pub removed : ℕ
   -- of a mount; of a mount and a processor
   pub flags : ℕ → ℕ
   pub count : ℕ → ℕ → ℕ
@@ -32,6 +33,7 @@ read w Stage = w.stage
 read w Holders = w.holders
 read w SbFlags = w.sb
 read w Remount = w.remount
+read w Removed = w.removed
 read w (MountFlags m) = w.flags m
 read w (MountCount m p) = w.count m p
 read w (Block i) = w.block i
@@ -49,6 +51,7 @@ put w Stage v = record w { stage = v }
 put w Holders v = record w { holders = v }
 put w SbFlags v = record w { sb = v }
 put w Remount v = record w { remount = v }
+put w Removed v = record w { removed = v }
 put w (MountFlags m) v = record w { flags = update w.flags m v }
 put w (MountCount m p) v = record w { count = update w.count m (update (w.count m) p v) }
 put w (Block i) v = record w { block = update w.block i v }
@@ -67,6 +70,7 @@ opening_words = record {
   holders = 0;
   sb = 0;
   remount = 0;
+  removed = 0;
   flags = λ m. 0;
   count = λ m p. 0;
   block = λ i. 0;

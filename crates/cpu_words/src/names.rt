@@ -25,7 +25,9 @@ const SB_FLAGS: usize = HOLDERS + 1;
 
 const REMOUNT: usize = SB_FLAGS + 1;
 
-const MOUNT_FLAGS: usize = REMOUNT + 1;
+const REMOVED: usize = REMOUNT + 1;
+
+const MOUNT_FLAGS: usize = REMOVED + 1;
 
 const BLOCK: usize = MOUNT_FLAGS + MOUNTS - 1;
 
@@ -62,6 +64,8 @@ pub enum WordName {
     SbFlags,
     /// `s_readonly_remount`: 0 or 1.
     Remount,
+    /// `s_remove_count`: how many removed files still are open.
+    Removed,
     /// `mnt_flags` of a mount (0 to 7): READONLY 1 and HOLD 2.
     MountFlags(u8),
     /// `mnt_writers` of a mount on a processor (0 to 63).
@@ -95,6 +99,7 @@ impl WordName {
             WordName::Holders => HOLDERS,
             WordName::SbFlags => SB_FLAGS,
             WordName::Remount => REMOUNT,
+            WordName::Removed => REMOVED,
             WordName::MountFlags(mount) => MOUNT_FLAGS + mount as usize,
             WordName::Block(level) => BLOCK + level as usize,
             WordName::Sync(level) => SYNC + level as usize,

@@ -10,12 +10,12 @@ use Rattle.access_model.specs.declared.errors.GateError.{GateError}
 use Rattle.gate_world.specs.declared.operations.Op.{Op}
 use Rattle.gate_world.specs.declared.work.Phase.{Phase}
 use Rattle.gate_world.specs.declared.views.View.{View}
-use Rattle.gate_world.specs.Views.{held_at, holds_level, begun_view}
+use Rattle.gate_world.specs.Views.{held_at, holds_level, has_open, begun_view}
 use Rattle.gate_world.specs.Beginnings.{first_phase, refusal, beginning}
 use Rattle.gate_world.specs.Worlds.{World, Begins, begin_refusal, happens, run, opening}
 use Rattle.gate_world.specs.Fits.{Fits}
 use Rattle.gate_core.specs.declared.seats.Seat.{Seat}
-use Rattle.gate_core.specs.Seats.{mounts_in, levels_in}
+use Rattle.gate_core.specs.Seats.{mounts_in, levels_in, files_in}
 use Rattle.gate_core.specs.Memory.{Memory, Shows, IsSound, no_seat, seat_of}
 use Rattle.gate_core.specs.Answers.{unless_refused, begin_answer}
 use Rattle.gate_core.proofs.Beginnings.{refusal_agree, may_begin, first_fits, ok_means, err_means}
@@ -31,11 +31,11 @@ module _ (memory : Memory) (sound : IsSound memory) (t : ℕ) (lt : t < memory.c
 
   -- why the task can't begin the operation
   abbrev seat_refusal : Option GateError
-  seat_refusal = refusal memory.config under_way (mounts_in seat) (levels_in seat) op
+  seat_refusal = refusal memory.config under_way (mounts_in seat) (levels_in seat) (files_in seat) op
 
   -- what its beginning answers
   abbrev seat_beginning : Result Phase GateError
-  seat_beginning = beginning memory.config t under_way (mounts_in seat) (levels_in seat) op
+  seat_beginning = beginning memory.config t under_way (mounts_in seat) (levels_in seat) (files_in seat) op
 
   module _ (w : World) (shows : Shows memory w) where
     -- what the seat has is what the view has: its phase
@@ -50,14 +50,18 @@ module _ (memory : Memory) (sound : IsSound memory) (t : ℕ) (lt : t < memory.c
     levels_same : (i : ℕ) → 1 ≤ i → i ≤ 3 → levels_in seat i ≡ holds_level (w.views t) i
     levels_same i one three = ap (λ (s : Seat). levels_in s i) (sym same_seat) ∙ shows.levels t i lt one three
 
+    -- and its open files
+    files_same : (n : ℕ) → files_in seat n ≡ has_open (w.views t) n
+    files_same n = ap (λ (s : Seat). files_in s n) (sym same_seat) ∙ shows.files t n lt
+
     -- so the operation is refused as in the world
     pub refusal_same : begin_refusal memory.config w t op ≡ seat_refusal
     refusal_same =
         rw (lt-ltb t memory.config.tasks lt)
-        (sym (ap (λ b. refusal memory.config b (mounts_in seat) (levels_in seat) op)
+        (sym (ap (λ b. refusal memory.config b (mounts_in seat) (levels_in seat) (files_in seat) op)
         (under_way_is ∙ ap (λ (p : Option Phase). is_some p) phase_same) ∙
         refusal_agree memory.config (mounts_in seat) (held_at (w.views t)) (levels_in seat) (holds_level (w.views t))
-        mounts_same levels_same (is_some (w.views t).phase) op))
+        (files_in seat) (has_open (w.views t)) mounts_same levels_same files_same (is_some (w.views t).phase) op))
 
   module _ (refused : GateError) (answered : ◌≡◌ {A = Result Phase GateError} (Err refused) seat_beginning) where
     -- the refusal that the code answered
@@ -115,14 +119,18 @@ module _ (memory : Memory) (sound : IsSound memory) (t : ℕ) (lt : t < memory.c
               (λ y s. y < memory.config.tasks → levels_in s i ≡ holds_level (update w.views t view y) i) x
               (λ l. levels_same w shows i one three ∙ ap (λ (v : View). holds_level v i) (sym (update_at w.views t view)))
               (λ ne l. shows.levels x i l one three ∙ ap (λ (v : View). holds_level v i) (sym (update_off w.views t view x ne))) lx;
+          files = λ x n lx. seat_cases memory.seats t seat_after some_seat
+              (λ y s. y < memory.config.tasks → files_in s n ≡ has_open (update w.views t view y) n) x
+              (λ l. files_same w shows n ∙ ap (λ (v : View). has_open v n) (sym (update_at w.views t view)))
+              (λ ne l. shows.files x n l ∙ ap (λ (v : View). has_open v n) (sym (update_off w.views t view x ne))) lx;
         })
 
     -- the first phase fits what the task holds
     seat_fits : Fits memory.config t (mounts_in seat) (levels_in seat) (Some phase)
     seat_fits =
         subst (λ p. Fits memory.config t (mounts_in seat) (levels_in seat) (Some p)) (sym phase_is)
-        (first_fits memory.config t under_way (mounts_in seat) (levels_in seat) op
-        (may_begin memory.config under_way (mounts_in seat) (levels_in seat) op none_refused))
+        (first_fits memory.config t under_way (mounts_in seat) (levels_in seat) (files_in seat) op
+        (may_begin memory.config under_way (mounts_in seat) (levels_in seat) (files_in seat) op none_refused))
 
     -- the memory after a beginning is sound
     pub begin_sound : IsSound memory_after
@@ -134,6 +142,8 @@ module _ (memory : Memory) (sound : IsSound memory) (t : ℕ) (lt : t < memory.c
           (λ l. ap (λ (s : Seat). length s.accesses.mounts) (sym same_seat) ∙ sound.mounts t lt) (λ ne l. sound.mounts x l) lx;
       levels = λ x lx. seat_cases memory.seats t seat_after some_seat (λ y s. y < memory.config.tasks → length s.accesses.levels ≡ 4) x
           (λ l. ap (λ (s : Seat). length s.accesses.levels) (sym same_seat) ∙ sound.levels t lt) (λ ne l. sound.levels x l) lx;
+      files = λ x lx. seat_cases memory.seats t seat_after some_seat (λ y s. y < memory.config.tasks → length s.accesses.files ≡ 64) x
+          (λ l. ap (λ (s : Seat). length s.accesses.files) (sym same_seat) ∙ sound.files t lt) (λ ne l. sound.files x l) lx;
       fits = λ x lx. seat_cases memory.seats t seat_after some_seat
           (λ y s. y < memory.config.tasks → Fits memory.config y (mounts_in s) (levels_in s) s.phase) x
           (λ l. seat_fits) (λ ne l. sound.fits x l) lx;

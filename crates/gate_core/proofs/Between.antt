@@ -41,7 +41,7 @@ use Rattle.gate_world.specs.declared.operations.Op.{Op}
 use Rattle.gate_world.specs.declared.views.View.{View}
 use Rattle.gate_world.specs.declared.views.Traced.{Traced}
 use Rattle.gate_world.specs.declared.work.Phase.{Phase}
-use Rattle.gate_world.specs.declared.work.Phase.TheVariants.{Mounts, Remounts, DownReads, UpReads, Callbacks, Writes, Freezes, Thaws, Trees}
+use Rattle.gate_world.specs.declared.work.Phase.TheVariants.{Mounts, Remounts, DownReads, UpReads, Callbacks, Writes, Freezes, Thaws, Trees, Closes}
 use Rattle.gate_world.specs.Beginnings.{first_phase}
 use Rattle.gate_world.specs.Fits.{Fits}
 use Rattle.gate_world.specs.Found.{stores_stage}
@@ -211,6 +211,7 @@ module _ (c : Config) (w : World) (good : IsGood c w) (t : ℕ) (lt : t < c.task
   phase_told (Freezes x) hook e after = freeze_told x x.step hook e after
   phase_told (Thaws x) hook e after = thaw_told x x.step hook e after
   phase_told (Trees phase) hook e after = quiet Trees (λ x trace. refl) _ _
+  phase_told (Closes phase) hook e after = quiet Closes (λ x trace. refl) _ _
 
   step_told : (hook : HookAnswer) (p : Option Phase) → (w.views t).phase ≡ p → IsGood c (step_of w t hook p) → AllTold w →
       AllTold (step_of w t hook p)
@@ -230,6 +231,7 @@ none_yet (Writes x) = refl
 none_yet (Freezes x) = refl
 none_yet (Thaws x) = refl
 none_yet (Trees phase) = refl
+none_yet (Closes phase) = refl
 
 begin_told : (c : Config) (w : World) (t : ℕ) (op : Op) (refused : Option GateError) → AllTold w → AllTold (begin_of c w t op refused)
 begin_told c w t op (Some refused) told x = told x

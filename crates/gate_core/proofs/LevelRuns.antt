@@ -17,7 +17,7 @@ use Rattle.gate_world.specs.Beginnings.{first_phase, view_refusal}
 use Rattle.gate_world.specs.LevelRuns.{level_in, level_after, IsLevelRun, GracesAreKept, LevelsAreRuns}
 use Rattle.gate_world.specs.Levels.{inside, sync_role_of}
 use Rattle.gate_world.specs.Rules.{IsGood}
-use Rattle.gate_world.specs.Views.{begun_view, held_at, holds_level}
+use Rattle.gate_world.specs.Views.{begun_view, held_at, holds_level, has_open}
 use Rattle.gate_world.specs.Worlds.{World, Entry, Begins, Steps, begin_of, step_of, happens, run, opening}
 use Rattle.gate_frames.proofs.LevelSteps.{level_stays, level_kept}
 use Rattle.gate_frames.proofs.LevelWorlds.{level_right}
@@ -37,7 +37,7 @@ module _ (c : Config) (lim : IsWithin c) (i : ℕ) (one : 1 ≤ i) (three : i �
   begins w t op (Some refused) e = still w w refl
   begins w t op None e =
       let idle : (w.views t).phase ≡ None = idle_is (w.views t).phase
-      (may_begin c (is_some (w.views t).phase) (held_at (w.views t)) (holds_level (w.views t)) op e).idle in
+      (may_begin c (is_some (w.views t).phase) (held_at (w.views t)) (holds_level (w.views t)) (has_open (w.views t)) op e).idle in
       still w (begin_of c w t op None)
       (level_kept w t i w.words (begun_view (w.views t) op (first_phase c t op)) refl refl refl refl
       ((op_keeps c op).outside t ∙ sym (ap inside idle)) ((op_keeps c op).apart t i ∙ sym (ap (sync_role_of i) idle)))

@@ -1,5 +1,5 @@
 -- The memory as it begins shows the opening.
-use Rattle.std.proofs.Common.{◌≡◌, ℕ, ◌<◌, false, List, [], length, refl, arith, subst, sym}
+use Rattle.std.proofs.Common.{◌≡◌, ℕ, zero, suc, ◌<◌, false, List, [], length, refl, arith, subst, sym}
 use Rattle.std.proofs.lemmas.List.{length-replicate, get_or-replicate}
 use Rattle.std.specs.Prelude.{None, slice_index_or, replicate}
 use Rattle.cpu_words.specs.Names.{words_in_all}
@@ -11,8 +11,14 @@ use Rattle.gate_world.specs.Worlds.{opening}
 use Rattle.gate_world.specs.Fits.{Fits}
 use Rattle.gate_frames.proofs.Places.{are_few}
 use Rattle.gate_core.specs.declared.seats.Seat.{Seat}
-use Rattle.gate_core.specs.Seats.{idle_seat, mounts_in, levels_in}
+use Rattle.gate_core.specs.Seats.{idle_seat, mounts_in, levels_in, files_in}
 use Rattle.gate_core.specs.Memory.{Memory, Shows, IsSound, no_seat}
+
+-- a list of one value has it at each place, and past its end where it is the default
+one_value : {A : Type 0} (n i : ℕ) (x : A) → slice_index_or (replicate n x) i x ≡ x
+one_value zero i x = refl
+one_value (suc n) zero x = refl
+one_value (suc n) (suc i) x = one_value n i x
 
 module _ (c : Config) (within : IsWithin c) (words : List ℕ) (opens : AreOpening (λ place. place) words_in_all words) where
   abbrev memory : Memory
@@ -30,6 +36,10 @@ module _ (c : Config) (within : IsWithin c) (words : List ℕ) (opens : AreOpeni
   no_level : (i : ℕ) → i < 4 → levels_in idle_seat i ≡ false
   no_level i l = get_or-replicate 4 i false false l
 
+  -- and has no file open
+  no_file : (n : ℕ) → files_in idle_seat n ≡ false
+  no_file n = one_value 64 n false
+
   -- the memory shows the opening
   pub opening_shown : Shows memory opening
   opening_shown = record {
@@ -39,6 +49,7 @@ module _ (c : Config) (within : IsWithin c) (words : List ℕ) (opens : AreOpeni
     phases = λ t lt. at_seat (λ (s : Seat). s.phase ≡ None) refl t lt;
     mounts = λ t m lt lm. at_seat (λ (s : Seat). mounts_in s m ≡ 0) (zero_held m (omega (arith, within.mounts))) t lt;
     levels = λ t i lt one three. at_seat (λ (s : Seat). levels_in s i ≡ false) (no_level i (omega arith)) t lt;
+    files = λ t n lt. at_seat (λ (s : Seat). files_in s n ≡ false) (no_file n) t lt;
   }
 
   -- and is sound
@@ -49,6 +60,7 @@ module _ (c : Config) (within : IsWithin c) (words : List ℕ) (opens : AreOpeni
     seats = length-replicate c.tasks idle_seat;
     mounts = at_seat (λ (s : Seat). length s.accesses.mounts ≡ 8) (length-replicate {A = ℕ} 8 0);
     levels = at_seat (λ (s : Seat). length s.accesses.levels ≡ 4) (length-replicate 4 false);
+    files = at_seat (λ (s : Seat). length s.accesses.files ≡ 64) (length-replicate 64 false);
     fits = λ t lt. at_seat (λ (s : Seat). Fits c t (mounts_in s) (levels_in s) s.phase) tt t lt;
     reached = ([], opening_shown);
   }

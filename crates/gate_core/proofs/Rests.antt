@@ -10,9 +10,12 @@ use Rattle.mount_counts.specs.Roles.{has_hold, hold_bit}
 use Rattle.mount_laws.proofs.Bits.{hold_unset}
 use Rattle.gate_world.specs.declared.config.Config.{Config}
 use Rattle.gate_world.specs.Worlds.{World}
-use Rattle.gate_world.specs.Rules.{owns, remounts, role_of, IsGood, Owner, AtMount, SyncHoldsIn, SyncAt, Sections}
+use Rattle.gate_world.specs.Rules.{owns, remounts, role_of, IsGood, Owner, Tree, AtMount, SyncHoldsIn, SyncAt, Sections}
 use Rattle.gate_world.specs.Headline.{IsAtRest, IsUntaken, HeldWhereFrozen}
-use Rattle.gate_world.specs.Shown.{stage_roles}
+use Rattle.access_model.specs.States.{is_removed, one_if}
+use Rattle.gated_tree.specs.Roles.{removal}
+use Rattle.gate_world.specs.Trees.{tree_role_of}
+use Rattle.gate_world.specs.Shown.{shown, stage_roles}
 use Rattle.gate_world.specs.Stages.{stage_role_of}
 use Rattle.gate_world.specs.Holders.{holder_role_of}
 use Rattle.gate_world.specs.Rules.{Stages, Holding}
@@ -82,6 +85,13 @@ module _ (c : Config) (w : World) (good : IsGood c w) (idle : (t : ℕ) → t < 
       let exactly = held_exactly c.tasks (holders_at w) (good Holding) in
       (λ some. (exactly.0 some).0, λ four. exactly.1 four (λ t lt. ap (λ p. between (holder_role_of p)) (idle t lt)))
 
+  -- nobody has counted a removed file that there isn't, or not yet counted out one that there is no more
+  removals : w.words.removed ≡ total c.nodes (λ n. one_if (is_removed ((shown c w).tree n)))
+  removals =
+      let none : total c.tasks (λ t. removal (tree_role_of (w.views t).trace (w.views t).phase)) ≡ 0 =
+      total_none c.tasks _ (λ t lt. ap (λ p. removal (tree_role_of (w.views t).trace p)) (idle t lt)) in
+      omega (arith, none, (good Tree).removals)
+
   -- so nothing is left
   pub at_rest : IsAtRest c w
   at_rest = record {
@@ -94,6 +104,7 @@ module _ (c : Config) (w : World) (good : IsGood c w) (idle : (t : ℕ) → t < 
     stage_settled = settled;
     holders_settled = held;
     tree_sound = idle_sound c w good idle;
+    removals_counted = removals;
   }
 
 -- no two freezes are

@@ -2,7 +2,7 @@
 use Rattle.holder_laws.specs.Roles.{Apart}
 use Rattle.holder_laws.proofs.HolderLaws.{opens as holders_open}
 use Rattle.gate_world.specs.Holders.{holder_role_of}
-use Rattle.gate_world.specs.declared.operations.Op.TheVariants.{Want, DropMount, ChangeMount, RemountSb, Start, End, WantWrite, DropWrite, Callback, Freeze, Thaw, Create, Remove, Grow, MoveTo, Fault, Flush, Snapshot}
+use Rattle.gate_world.specs.declared.operations.Op.TheVariants.{Want, DropMount, ChangeMount, RemountSb, Start, End, WantWrite, DropWrite, Callback, Freeze, Thaw, Create, Remove, Grow, MoveTo, Fault, Flush, Snapshot, Open, Close}
 use Rattle.gate_world.specs.Owners.{KnowsWords}
 use Rattle.std.proofs.Common.{◌≡◌, ℕ, ◌*◌, ◌%◌, ◌<◌, ◌≤◌, Bool, true, false, refl, sym, ap, ◌∙◌, subst, inl, inr, arith, true≢false}
 use Rattle.std.specs.Prelude.{nat_lt, ◌&&◌, is_some, Option, Some, None, List, [], ◌∷◌}
@@ -14,7 +14,7 @@ use Rattle.finite_sums.proofs.Totals.{each_updated, total_same, total_none, tota
 use Rattle.access_model.specs.declared.actions.Action.{Action}
 use Rattle.access_model.specs.declared.errors.GateError.{GateError}
 use Rattle.access_model.specs.Histories.{Done, end_of, IsLegal}
-use Rattle.access_model.specs.States.{State, opening_state}
+use Rattle.access_model.specs.States.{State, opening_state, openers, most_tasks, one_if}
 use Rattle.access_model.specs.Actions.{IsAllowed, after_action}
 use Rattle.cpu_words.specs.Hooks.{HookAnswer}
 use Rattle.mount_counts.specs.Roles.{processor_of, counted, sought, mount_shut}
@@ -26,17 +26,19 @@ use Rattle.gate_world.specs.declared.operations.Op.{Op}
 use Rattle.gate_world.specs.declared.work.Phase.{Phase}
 use Rattle.gate_world.specs.declared.views.View.{View}
 use Rattle.gate_world.specs.Configs.{IsWithin, model_limits}
-use Rattle.gate_world.specs.Views.{held_at, holds_level, begun_view}
+use Rattle.gate_world.specs.Views.{held_at, holds_level, has_open, begun_view}
 use Rattle.gate_world.specs.Beginnings.{first_phase, view_refusal}
 use Rattle.gate_world.specs.Worlds.{World, Entry, Begins, Steps, after_begin, begin_of, step_of, happens, phase_action, action_of, task_of, with_action, run, opening, history}
 use Rattle.gate_world.specs.Shown.{shown}
 use Rattle.gate_counts.specs.Gates.{below, counted as counted_of}
 use Rattle.gate_counts.specs.Levels.{level_as_gate, processor_of as level_processor}
-use Rattle.gate_world.specs.Rules.{role_of, at_mount, MountHoldsIn, LevelHoldsIn, IsSteady, ViewFits, Part, Owner, Stages, Holding, Fitting, AtMount, Holds, IsGood, Moves, owns, Known, Tree, AtLevel, SyncAt, Sections}
+use Rattle.gate_world.specs.Rules.{role_of, at_mount, MountHoldsIn, LevelHoldsIn, IsSteady, ViewFits, Part, Owner, Stages, Holding, Fitting, AtMount, Holds, IsGood, Moves, owns, Known, Tree, Files, AtLevel, SyncAt, Sections}
+use Rattle.gate_world.specs.Fits.{HasFile, file_of}
+use Rattle.gated_tree.specs.Nodes.{opens_in}
 use Rattle.gate_world.specs.Headline.{SumsHold, IdleSumsHold}
 use Rattle.gate_core.proofs.Layers.{phase_keeps, op_keeps}
 use Rattle.gate_core.proofs.Beginnings.{MayBegin, may_begin, first_fits}
-use Rattle.gate_frames.proofs.Frames.{view_as, left_alone, shown_still, level_view_as}
+use Rattle.gate_frames.proofs.Frames.{view_as, left_alone, opens_left, shown_still, level_view_as}
 use Rattle.gate_frames.proofs.Trees.{tree_within}
 use Rattle.gate_frames.proofs.Loads.{steady}
 use Rattle.tree_laws.proofs.Each.{opening_holds}
@@ -56,7 +58,7 @@ idle_is (Some phase) h = absurd (true≢false h)
 
 -- a task with this view may begin the operation
 abbrev pub MayBeginAt : Config → View → Op → Type 0
-MayBeginAt c v op = MayBegin c (is_some v.phase) (held_at v) (holds_level v) op
+MayBeginAt c v op = MayBegin c (is_some v.phase) (held_at v) (holds_level v) (has_open v) op
 
 -- no operation begins with the holders
 pub begins_apart : (c : Config) (t : ℕ) (op : Op) → holder_role_of (Some (first_phase c t op)) ≡ Apart
@@ -78,6 +80,8 @@ begins_apart c t (MoveTo file d) = refl
 begins_apart c t (Fault file) = refl
 begins_apart c t (Flush file) = refl
 begins_apart c t (Snapshot wait) = refl
+begins_apart c t (Open file) = refl
+begins_apart c t (Close file cpu wait) = refl
 
 module _ (c : Config) (lim : IsWithin c) (w : World) (good : IsGood c w) (t : ℕ) (lt : t < c.tasks) where
   pub step_keeps : (hook : HookAnswer) (p : Option Phase) → (w.views t).phase ≡ p →
@@ -89,7 +93,7 @@ module _ (c : Config) (lim : IsWithin c) (w : World) (good : IsGood c w) (t : �
   begun_good : (op : Op) → MayBeginAt c (w.views t) op → (part : Part) → Holds c (after_begin c w t op) part
   begun_good op h Fitting = λ x lx. each_updated (λ y (u : View). ViewFits c y u) w.views t
       (begun_view (w.views t) op (first_phase c t op)) x (first_fits c t (is_some (w.views t).phase) (held_at (w.views t))
-      (holds_level (w.views t)) op h) (λ ne. good Fitting x lx)
+      (holds_level (w.views t)) (has_open (w.views t)) op h) (λ ne. good Fitting x lx)
   begun_good op h Owner =
       let same : IsSteady (w.views t).phase (Some (first_phase c t op)) =
       steady (idle_is (w.views t).phase h.idle) ((op_keeps c op).steady t) in
@@ -102,8 +106,14 @@ module _ (c : Config) (lim : IsWithin c) (w : World) (good : IsGood c w) (t : �
       left_alone c w t lt Holding w.words (begun_view (w.views t) op (first_phase c t op)) (refl, refl)
       (begins_apart c t op ∙ sym (ap holder_role_of (idle_is (w.views t).phase h.idle))) (good Holding)
   begun_good op h Tree =
-      left_alone c w t lt Tree w.words (begun_view (w.views t) op (first_phase c t op)) (refl, refl, refl, refl)
+      left_alone c w t lt Tree w.words (begun_view (w.views t) op (first_phase c t op)) (refl, refl, refl, refl, refl, refl)
       ((op_keeps c op).off_tree t [] ∙ sym (ap (tree_role_of (w.views t).trace) (idle_is (w.views t).phase h.idle))) (good Tree)
+  begun_good op h Files = record {
+    counted = λ n ln. (good Files).counted n ln ∙ sym (ap (λ f. openers f n) (opens_left c w t lt (begun_view (w.views t) op (first_phase c t op)) refl));
+    own = λ y ly. each_updated (λ z (u : View). HasFile (has_open u) (file_of u.phase)) w.views t
+        (begun_view (w.views t) op (first_phase c t op)) y ((op_keeps c op).file t (has_open (w.views t)) h.of_open h.of_closed)
+        (λ ne. (good Files).own y ly);
+  }
   begun_good op h Known = λ x lx.
       each_updated (λ y (u : View). owns u.phase ≡ 1 → KnowsWords w.words u.trace) w.views t
       (begun_view (w.views t) op (first_phase c t op)) x
@@ -127,14 +137,14 @@ module _ (c : Config) (lim : IsWithin c) (w : World) (good : IsGood c w) (t : �
   begun_keeps op h = (
     begun_good op h,
     shown_still c w t lt w.words (begun_view (w.views t) op (first_phase c t op)) refl refl refl refl refl refl refl
-        (steady (idle_is (w.views t).phase h.idle) ((op_keeps c op).steady t)).closing_same refl refl,
+        (steady (idle_is (w.views t).phase h.idle) ((op_keeps c op).steady t)).closing_same refl refl refl,
   )
 
 module _ (c : Config) (lim : IsWithin c) where
   begin_keeps : (w : World) → IsGood c w → (t : ℕ) (op : Op) → t < c.tasks → (r : Option GateError) → view_refusal c (w.views t) op ≡ r →
       IsGood c (begin_of c w t op r) × (shown c (begin_of c w t op r) ≡ shown c w)
   begin_keeps w good t op lt None e = begun_keeps c lim w good t lt op
-      (may_begin c (is_some (w.views t).phase) (held_at (w.views t)) (holds_level (w.views t)) op e)
+      (may_begin c (is_some (w.views t).phase) (held_at (w.views t)) (holds_level (w.views t)) (has_open (w.views t)) op e)
   begin_keeps w good t op lt (Some refused) e = (good, refl)
 
   -- each entry keeps the rule, and moves the shown model by its action
@@ -176,6 +186,12 @@ module _ (c : Config) (lim : IsWithin c) where
   zeros : (n : ℕ) → total n (λ x. 0) ≡ 0
   zeros n = total_none n (λ x. 0) (λ x lx. refl)
 
+  -- nobody has a file open
+  none_open : (n : ℕ) → opens_in (opening.words.node n) ≡ openers (λ t. has_open (opening.views t)) n
+  none_open n =
+      let nobody : openers (λ t. has_open (opening.views t)) n ≡ 0 = total_none most_tasks (λ t. one_if false) (λ t lt. refl) in
+      elim (eqb_tells n 0) [ inl h ↦ rw (h.0, update) (sym nobody) | inr h ↦ rw (h.0, update) (sym nobody) ]
+
   pub opening_good : (part : Part) → Holds c opening part
   opening_good Owner = record {
     locked = λ t lt h. absurd (omega arith);
@@ -188,6 +204,7 @@ module _ (c : Config) (lim : IsWithin c) where
   opening_good Stages = (stages_open c.tasks c.nodes).stages
   opening_good Holding = holders_open c.tasks
   opening_good Tree = opening_holds (tree_bounds c) (tree_within c lim)
+  opening_good Files = record { counted = λ n ln. none_open n; own = λ t lt. tt }
   opening_good Known = λ t lt o. absurd (omega (arith, o))
   opening_good Fitting = λ t lt. tt
   opening_good (AtLevel i) = λ l1 l3. record { known = omega arith; gate = gate_begins c.tasks c.processors (λ j. 0 ≡ 1) }

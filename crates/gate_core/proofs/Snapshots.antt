@@ -11,7 +11,6 @@ use Rattle.access_model.specs.Histories.{Done, end_of, IsLegal, own_part, IsMerg
 use Rattle.moment_laws.specs.Moments.{HaveDone}
 use Rattle.moment_laws.proofs.Moments.{is_now, stays}
 use Rattle.cpu_words.specs.Hooks.{HookAnswer}
-use Rattle.gated_tree.specs.Nodes.{node_shown}
 use Rattle.gated_tree.specs.Trees.{node_at, is_child, HasDirectory, IsSound, IsClean, LoadedSound, LoadedClean}
 use Rattle.gate_world.specs.declared.config.Config.{Config}
 use Rattle.gate_world.specs.declared.operations.Op.{Op}
@@ -69,7 +68,7 @@ module _ (c : Config) where
   -- where what was loaded are the present words of a frozen tree, that is sound and clean
   module _ (w : World) (tree : FrozenTreeIsWhole c w) (loaded : TreeWords) (present : IsPresentTree c w.words loaded) where
     loaded_same : (n : ℕ) → n < c.nodes → (shown c w).tree n ≡ node_at loaded n
-    loaded_same n lt = ap node_shown (present.nodes n lt)
+    loaded_same n lt = present.nodes n lt
 
     loaded_sound : LoadedSound loaded
     loaded_sound =

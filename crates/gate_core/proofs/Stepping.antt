@@ -19,7 +19,7 @@ use Rattle.gate_world.specs.declared.config.Config.{Config}
 use Rattle.gate_world.specs.declared.work.Phase.{Phase}
 use Rattle.gate_world.specs.declared.views.View.{View}
 use Rattle.gate_world.specs.Configs.{extents_kept}
-use Rattle.gate_world.specs.Views.{held_at, holds_level, phase_after, view_after}
+use Rattle.gate_world.specs.Views.{held_at, holds_level, has_open, phase_after, view_after}
 use Rattle.gate_world.specs.Work.{next_of, after_of}
 use Rattle.gate_world.specs.Worlds.{World, Steps, after_step, happens, run, opening}
 use Rattle.gate_world.specs.Fits.{PhaseFits, Fits}
@@ -28,12 +28,12 @@ use Rattle.gate_world.specs.declared.accesses.Accesses.{Accesses}
 use Rattle.gate_world.specs.Accesses.{mounts_held, accesses_after}
 use Rattle.gate_core.specs.declared.steps.Progress.{Progress}
 use Rattle.gate_core.specs.declared.steps.Step.{Step}
-use Rattle.gate_core.specs.Seats.{mounts_in, levels_in}
+use Rattle.gate_core.specs.Seats.{mounts_in, levels_in, files_in}
 use Rattle.gate_core.specs.Memory.{Memory, Shows, IsSound, no_seat, seat_of}
 use Rattle.gate_core.specs.Answers.{progress_of, step_answer}
-use Rattle.gate_world.specs.Fits.{ActionFits, mounts_by, levels_by}
+use Rattle.gate_world.specs.Fits.{ActionFits, mounts_by, levels_by, opens_by}
 use Rattle.cpu_words.proofs.Places.{written}
-use Rattle.gate_frames.proofs.Accesses.{mounts_of_after, levels_of_after, long_after, wide_after, mounts_same, levels_same}
+use Rattle.gate_frames.proofs.Accesses.{mounts_of_after, levels_of_after, opens_of_after, long_after, wide_after, deep_after, mounts_same, levels_same, files_same}
 use Rattle.gate_frames.proofs.Places.{are_few}
 use Rattle.gate_core.proofs.Phases.{word_there, word_placed, action_fits, fits_after, fits_agree}
 use Rattle.gate_core.proofs.Runs.{run_more}
@@ -136,6 +136,13 @@ module _ (memory : Memory) (sound : IsSound memory) (t : ℕ) (lt : t < memory.c
         (ap (λ (d : Next Phase × Option Action). levels_by d.1 (holds_level (w.views t)) i) done_same ∙
         ap (λ f. f i) (sym (levels_of_after (done_at (read w.words name)).1 (w.views t).actions)))
 
+    -- and of each file
+    files_shown : (n : ℕ) → files_in seat_after n ≡ has_open view n
+    files_shown n =
+        files_same held (sound.files t lt) (has_open (w.views t)) done.1 acts (λ i. shows.files t i lt) n ∙
+        (ap (λ (d : Next Phase × Option Action). opens_by d.1 (has_open (w.views t)) n) done_same ∙
+        ap (λ f. f n) (sym (opens_of_after (done_at (read w.words name)).1 (w.views t).actions)))
+
     -- the words after the event
     words_after_shown : (n : WordName) → IsWord (extents_kept config) n →
         slice_index memory_after.words (place n) ≡ read (after_step w t phase hook).words n
@@ -161,6 +168,10 @@ module _ (memory : Memory) (sound : IsSound memory) (t : ℕ) (lt : t < memory.c
           (λ y s. y < config.tasks → levels_in s i ≡ holds_level (update w.views t view y) i) x
           (λ l. levels_shown i one three ∙ ap (λ (v : View). holds_level v i) (sym (update_at w.views t view)))
           (λ ne l. shows.levels x i l one three ∙ ap (λ (v : View). holds_level v i) (sym (update_off w.views t view x ne))) lx;
+      files = λ x n lx. seat_cases memory.seats t seat_after some_seat
+          (λ y s. y < config.tasks → files_in s n ≡ has_open (update w.views t view y) n) x
+          (λ l. files_shown n ∙ ap (λ (v : View). has_open v n) (sym (update_at w.views t view)))
+          (λ ne l. shows.files x n l ∙ ap (λ (v : View). has_open v n) (sym (update_off w.views t view x ne))) lx;
     }
 
     -- which is what the entry makes of the world
@@ -185,6 +196,8 @@ module _ (memory : Memory) (sound : IsSound memory) (t : ℕ) (lt : t < memory.c
         (λ l. long_after held done.1 ∙ sound.mounts t lt) (λ ne l. sound.mounts x l) lx;
     levels = λ x lx. seat_cases memory.seats t seat_after some_seat (λ y s. y < config.tasks → length s.accesses.levels ≡ 4) x
         (λ l. wide_after held done.1 ∙ sound.levels t lt) (λ ne l. sound.levels x l) lx;
+    files = λ x lx. seat_cases memory.seats t seat_after some_seat (λ y s. y < config.tasks → length s.accesses.files ≡ 64) x
+        (λ l. deep_after held done.1 ∙ sound.files t lt) (λ ne l. sound.files x l) lx;
     fits = λ x lx. seat_cases memory.seats t seat_after some_seat
         (λ y s. y < config.tasks → Fits config y (mounts_in s) (levels_in s) s.phase) x
         (λ l. seat_fits) (λ ne l. sound.fits x l) lx;

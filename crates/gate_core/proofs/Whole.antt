@@ -1,7 +1,7 @@
 -- What holds of every schedule from the opening on.
 use Rattle.gate_world.specs.KeptCauses.{CauseOf}
 use Rattle.gate_core.proofs.Beginnings.{may_begin}
-use Rattle.access_model.specs.Histories.{mounts_of, levels_of}
+use Rattle.access_model.specs.Histories.{mounts_of, levels_of, opens_of}
 use Rattle.gate_world.specs.Views.{HoldsAsBefore}
 use Rattle.std.proofs.Common.{◌≡◌, ℕ, refl, sym, subst, ◌∙◌, ap}
 use Rattle.std.specs.Prelude.{Option, Some, None, Err, List, [], ◌∷◌, ◌++◌, false}
@@ -110,9 +110,10 @@ module _ (c : Config) (lim : IsWithin c) where
       HoldsAsBefore v
   holds_as_before t v op refusal h is =
       let k : (mounts_of (actions_of op (Err refusal) v.trace ++ v.before) ≡ mounts_of v.before) ×
-      (levels_of (actions_of op (Err refusal) v.trace ++ v.before) ≡ levels_of v.before) =
-      (op_keeps c op).restores refusal v.trace v.before (may_begin c false (mounts_of v.before) (levels_of v.before) op h.begins).order in
-      (ap mounts_of is ∙ k.0, ap levels_of is ∙ k.1)
+      (levels_of (actions_of op (Err refusal) v.trace ++ v.before) ≡ levels_of v.before) ×
+      (opens_of (actions_of op (Err refusal) v.trace ++ v.before) ≡ opens_of v.before) =
+      (op_keeps c op).restores refusal v.trace v.before (may_begin c false (mounts_of v.before) (levels_of v.before) (opens_of v.before) op h.begins).order in
+      (ap mounts_of is ∙ k.0, ap levels_of is ∙ k.1, ap opens_of is ∙ k.2)
 
   op_tells : (t : ℕ) (v : View) (op : Option Op) → IsTraced c t v op → ViewTells c t v op
   op_tells t v None h = tt
@@ -131,7 +132,7 @@ module _ (c : Config) (lim : IsWithin c) where
   run_traced : (es : List Entry) (w : World) → IsGood c w → AllTraced c w → AllTraced c (run c w es)
   run_traced [] w good h = h
   run_traced (e ∷ es) w good h =
-      run_traced es (happens c w e) (happens_keeps c lim w good e).0 (entry_keeps c w e (events_may_be c w good) h)
+      run_traced es (happens c w e) (happens_keeps c lim w good e).0 (entry_keeps c w e (events_may_be c lim w good) h)
 
   pub whole_operations : (es : List Entry) (t : ℕ) → OperationsAreKept c es t
   whole_operations es t =

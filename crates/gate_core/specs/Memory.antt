@@ -5,11 +5,11 @@ use Rattle.cpu_words.specs.Names.{IsWord, place, words_in_all}
 use Rattle.cpu_words.specs.Words.{read}
 use Rattle.gate_world.specs.declared.config.Config.{Config}
 use Rattle.gate_world.specs.Configs.{IsWithin, extents_kept}
-use Rattle.gate_world.specs.Views.{held_at, holds_level}
+use Rattle.gate_world.specs.Views.{held_at, holds_level, has_open}
 use Rattle.gate_world.specs.Worlds.{World, Entry, run, opening}
 use Rattle.gate_world.specs.Fits.{Fits}
 use Rattle.gate_core.specs.declared.seats.Seat.{Seat}
-use Rattle.gate_core.specs.Seats.{mounts_in, levels_in}
+use Rattle.gate_core.specs.Seats.{mounts_in, levels_in, files_in}
 
 -- the fields of the core
 pub record Memory : Type 0 where
@@ -19,7 +19,7 @@ pub record Memory : Type 0 where
 
 -- past the end of the seats there is no task
 abbrev pub no_seat : Seat
-no_seat = record { phase = None; accesses = record { mounts = []; levels = [] } }
+no_seat = record { phase = None; accesses = record { mounts = []; levels = []; files = [] } }
 
 -- the seat of a task
 abbrev pub seat_of : Memory → ℕ → Seat
@@ -32,6 +32,7 @@ pub record Shows (memory : Memory) (w : World) : Type 0 where
   pub phases : (t : ℕ) → t < memory.config.tasks → (seat_of memory t).phase ≡ (w.views t).phase
   pub mounts : (t m : ℕ) → t < memory.config.tasks → m < memory.config.mounts → mounts_in (seat_of memory t) m ≡ held_at (w.views t) m
   pub levels : (t i : ℕ) → t < memory.config.tasks → 1 ≤ i → i ≤ 3 → levels_in (seat_of memory t) i ≡ holds_level (w.views t) i
+  pub files : (t n : ℕ) → t < memory.config.tasks → files_in (seat_of memory t) n ≡ has_open (w.views t) n
 
 -- The lists have their lengths, each phase fits its task, and the memory is what some schedule makes of the opening.
 pub record IsSound (memory : Memory) : Type 0 where
@@ -40,6 +41,7 @@ pub record IsSound (memory : Memory) : Type 0 where
   pub seats : length memory.seats ≡ memory.config.tasks
   pub mounts : (t : ℕ) → t < memory.config.tasks → length (seat_of memory t).accesses.mounts ≡ 8
   pub levels : (t : ℕ) → t < memory.config.tasks → length (seat_of memory t).accesses.levels ≡ 4
+  pub files : (t : ℕ) → t < memory.config.tasks → length (seat_of memory t).accesses.files ≡ 64
   pub fits : (t : ℕ) → t < memory.config.tasks →
       Fits memory.config t (mounts_in (seat_of memory t)) (levels_in (seat_of memory t)) (seat_of memory t).phase
   pub reached : (entries : List Entry) × Shows memory (run memory.config opening entries)

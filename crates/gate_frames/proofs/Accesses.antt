@@ -6,13 +6,13 @@ use Rattle.std.proofs.lemmas.Bool.Decides.{eqb_tells}
 use Rattle.finite_sums.specs.Sums.{update}
 use Rattle.finite_sums.proofs.Totals.{update_at, update_off}
 use Rattle.access_model.specs.declared.actions.Action.{Action}
-use Rattle.access_model.specs.declared.actions.Action.TheVariants.{Grant, Return}
+use Rattle.access_model.specs.declared.actions.Action.TheVariants.{Grant, Return, Open, Close}
 use Rattle.access_model.specs.declared.actions.Gate.TheVariants.{Mount, Level}
-use Rattle.access_model.specs.Histories.{mounts_of, levels_of}
+use Rattle.access_model.specs.Histories.{mounts_of, levels_of, opens_of}
 use Rattle.gate_world.specs.declared.accesses.Accesses.{Accesses}
-use Rattle.gate_world.specs.Accesses.{mounts_held, levels_held, accesses_after}
+use Rattle.gate_world.specs.Accesses.{mounts_held, levels_held, accesses_after, files_held}
 use Rattle.gate_world.specs.Views.{actions_after}
-use Rattle.gate_world.specs.Fits.{ActionFits, mounts_by, levels_by}
+use Rattle.gate_world.specs.Fits.{ActionFits, mounts_by, levels_by, opens_by}
 
 -- what a list of actions leaves, with one action more
 pub mounts_of_after : (a : Option Action) (actions : List Action) → mounts_of (actions_after a actions) ≡ mounts_by a (mounts_of actions)
@@ -23,6 +23,11 @@ mounts_of_after (Some a) actions = refl
 pub levels_of_after : (a : Option Action) (actions : List Action) → levels_of (actions_after a actions) ≡ levels_by a (levels_of actions)
 levels_of_after None actions = refl
 levels_of_after (Some a) actions = refl
+
+-- and of the open files
+pub opens_of_after : (a : Option Action) (actions : List Action) → opens_of (actions_after a actions) ≡ opens_by a (opens_of actions)
+opens_of_after None actions = refl
+opens_of_after (Some a) actions = refl
 
 -- an action keeps the length of the mounts' list
 pub long_after : (held : Accesses) (a : Option Action) → length (accesses_after held a).mounts ≡ length held.mounts
@@ -37,6 +42,38 @@ wide_after held None = refl
 wide_after held (Some (Grant (Level i))) = length-set held.levels i true
 wide_after held (Some (Return (Level i))) = length-set held.levels i false
 wide_after held (Some a) = refl
+
+-- and that of the open files'
+pub deep_after : (held : Accesses) (a : Option Action) → length (accesses_after held a).files ≡ length held.files
+deep_after held None = refl
+deep_after held (Some (Grant (Mount m))) = refl
+deep_after held (Some (Grant (Level i))) = refl
+deep_after held (Some (Return (Mount m))) = refl
+deep_after held (Some (Return (Level i))) = refl
+deep_after held (Some (Open n)) = length-set held.files n true
+deep_after held (Some (Close n)) = length-set held.files n false
+deep_after held (Some a) = refl
+
+-- what an action leaves of each open file agrees, where what it finds does
+module _ (held : Accesses) (deep : length held.files ≡ 64) where
+  file_set : (seen : ℕ → Bool) (n : ℕ) (v : Bool) → n < 64 → (i : ℕ) → files_held held i ≡ seen i →
+      slice_index_or (slice_set held.files n v) i false ≡ update seen n v i
+  file_set seen n v lt i h =
+      elim (eqb_tells i n) [
+        | inl e ↦ rw (e.1, update_at seen n v) (get_or-set_same held.files n v false (omega (arith, lt, deep)))
+        | inr e ↦ get_or-set_other held.files n i v false e.1 ∙ (h ∙ sym (update_off seen n v i e.1))
+      ]
+
+  pub files_same : (seen : ℕ → Bool) (a : Option Action) → ActionFits (mounts_held held) a →
+      ((i : ℕ) → files_held held i ≡ seen i) → (i : ℕ) → files_held (accesses_after held a) i ≡ opens_by a seen i
+  files_same seen None f h i = h i
+  files_same seen (Some (Grant (Mount m))) f h i = h i
+  files_same seen (Some (Grant (Level j))) f h i = h i
+  files_same seen (Some (Return (Mount m))) f h i = h i
+  files_same seen (Some (Return (Level j))) f h i = h i
+  files_same seen (Some (Open n)) f h i = file_set seen n true f i (h i)
+  files_same seen (Some (Close n)) f h i = file_set seen n false f i (h i)
+  files_same seen (Some a) f h i = h i
 
 module _ (held : Accesses) (long : length held.mounts ≡ 8) (wide : length held.levels ≡ 4) where
   -- what an action leaves at each mount agrees, where what it finds does

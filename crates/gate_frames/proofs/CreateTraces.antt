@@ -15,7 +15,7 @@ use Rattle.gate_world.specs.declared.work.Phase.{Phase}
 use Rattle.gate_world.specs.declared.work.Phase.TheVariants.{Trees}
 use Rattle.gate_world.specs.declared.views.Traced.{Traced}
 use Rattle.gate_world.specs.Configs.{IsWithin}
-use Rattle.gate_world.specs.Courses.{IsTrace, MayHold, course_of}
+use Rattle.gate_world.specs.Courses.{IsTrace, MayHold, MayFind, course_of}
 use Rattle.gate_world.specs.Found.{SeenIn}
 use Rattle.gate_world.specs.Operations.{first_create}
 use Rattle.gate_world.specs.Traces.{actions_of, IsHonest, IsShort, IsTold, Tells, most_events}
@@ -144,7 +144,7 @@ module _ (c : Config) (d : ℕ) (kind : Kind) where
         let s : CreateStep = here.0 in
         let x : Phase = Trees (Creates (create_of s)) in
         let e : Traced = with_hook (event_at x value hook) hook in
-        subst (λ (p : Phase). MayHold (next_of p hook).0 value → SaysAfter CreateAt c (CreateOp d kind) p value hook earlier added)
+        subst (λ (p : Phase). MayFind p (next_of p hook).0 value → SaysAfter CreateAt c (CreateOp d kind) p value hook earlier added)
         (sym here.1)
         (λ holds.
         call_says Create CreateStep Creates create_of Knows so_far (IsThere c) (events_before c) (c.nodes + 3) false c (CreateOp d kind)

@@ -62,7 +62,8 @@ use Rattle.gate_world.specs.Rules.{Stages, IsGood, Holds, AtLevel}
 use Rattle.gate_world.specs.Stages.{stage_role_of, freeze_stage_role, thaw_stage_role, reopening_role}
 use Rattle.gate_world.specs.Levels.{sync_role_if, freeze_stand, thaw_stand, Stand, stand_count, stand_sync, closed_to, down_count_role, sync_role_of, at_level, is_frozen_whole, level_role_of}
 use Rattle.gate_world.specs.declared.work.Phase.{Phase}
-use Rattle.gate_world.specs.declared.work.Phase.TheVariants.{Mounts, Remounts, DownReads, UpReads, Callbacks, Writes, Freezes, Thaws, Trees}
+use Rattle.gate_world.specs.declared.work.Phase.TheVariants.{Mounts, Remounts, DownReads, UpReads, Callbacks, Writes, Freezes, Thaws, Trees, Closes}
+use Rattle.file_closes.specs.declared.phases.ClosePhase.TheVariants.{LoadsFile, LowersCount, Enters as EntersLevel, FreesNode, RefundsBlocks, Uncounts, Leaves}
 use Rattle.gate_world.specs.declared.config.Config.{Config}
 use Rattle.gate_world.specs.declared.views.View.{View}
 use Rattle.gate_world.specs.Configs.{IsWithin}
@@ -552,6 +553,13 @@ entered_position i (Some (Writes (Ends p))) = omega arith
 entered_position i (Some (Freezes x)) = freeze_enters i x.nodes x.step
 entered_position i (Some (Thaws x)) = thaw_enters i x.step
 entered_position i (Some (Trees x)) = omega arith
+entered_position i (Some (Closes (LoadsFile x))) = omega arith
+entered_position i (Some (Closes (LowersCount x node))) = omega arith
+entered_position i (Some (Closes (EntersLevel f node r))) = omega (arith, read_enters (i == r.level) r.step)
+entered_position i (Some (Closes (FreesNode f p node))) = omega arith
+entered_position i (Some (Closes (RefundsBlocks p blocks))) = omega arith
+entered_position i (Some (Closes (Uncounts p))) = omega arith
+entered_position i (Some (Closes (Leaves p))) = omega arith
 
 -- where a task with a position has not entered a level, nobody has, and the file system isn't frozen as a whole
 pub entered_by_nobody : (c : Config) (w : World) → IsGood c w → (t : ℕ) → t < c.tasks →

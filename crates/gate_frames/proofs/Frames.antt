@@ -6,21 +6,22 @@ use Rattle.std.proofs.lemmas.Bool.Decides.{eqb_tells}
 use Rattle.finite_sums.specs.Sums.{update, total}
 use Rattle.finite_sums.proofs.Totals.{each_updated, total_updated, update_map, update_same}
 use Rattle.cpu_words.specs.declared.names.WordName.{WordName}
-use Rattle.cpu_words.specs.declared.names.WordName.TheVariants.{Umount, Stage, Holders, SbFlags, Remount, MountFlags, MountCount, Block, Sync, LevelCount, Section, Used, Node, Kids}
+use Rattle.cpu_words.specs.declared.names.WordName.TheVariants.{Umount, Stage, Holders, SbFlags, Remount, MountFlags, MountCount, Block, Sync, LevelCount, Section, Used, Node, Kids, Removed}
 use Rattle.cpu_words.specs.declared.events.Touch.TheVariants.{Load}
 use Rattle.cpu_words.specs.Words.{Words}
 use Rattle.mount_counts.specs.Roles.{Role, Out, MountView, ro_bit, MountHolds}
+use Rattle.access_model.specs.States.{openers}
 use Rattle.gate_world.specs.declared.config.Config.{Config}
 use Rattle.gate_world.specs.declared.views.View.{View}
 use Rattle.gate_world.specs.declared.work.Phase.{Phase}
-use Rattle.gate_world.specs.Views.{held_at, holds_level, added_after, taken_after}
+use Rattle.gate_world.specs.Views.{held_at, holds_level, added_after, taken_after, has_open}
 use Rattle.gate_world.specs.Worlds.{World}
 use Rattle.gate_world.specs.Shown.{shown, closing, is_passed, stage_roles, holder_roles}
-use Rattle.gate_world.specs.Fits.{Fits}
-use Rattle.gate_world.specs.Rules.{role_if, at_mount, owns, remounts, IsSteady, OwnerHolds, ViewFits, Part, Owner, Stages, Holding, Fitting, AtMount, Holds, SameWords, SameView, GatesHold, IsGood, Known, Tree, AtLevel, SyncAt, Sections}
+use Rattle.gate_world.specs.Fits.{Fits, HasFile, file_of}
+use Rattle.gate_world.specs.Rules.{role_if, at_mount, owns, remounts, IsSteady, OwnerHolds, ViewFits, Part, Owner, Stages, Holding, Fitting, AtMount, Holds, SameWords, SameView, GatesHold, IsGood, Known, Tree, AtLevel, SyncAt, Sections, Files}
 use Rattle.gate_world.specs.Owners.{KnowsWords}
 use Rattle.gate_frames.proofs.Known.{known_same}
-use Rattle.gated_tree.specs.Nodes.{node_shown}
+use Rattle.gated_tree.specs.Nodes.{node_shown, opens_in}
 use Rattle.gated_tree.specs.Roles.{Role as TreeRole, TreeState, TreeHolds}
 use Rattle.gate_world.specs.Trees.{tree_bounds, tree_role_of, tree_roles}
 use Rattle.stage_laws.specs.Roles.{StageRole, StagesHold}
@@ -39,6 +40,7 @@ added_load Stage added = refl
 added_load Holders added = refl
 added_load SbFlags added = refl
 added_load Remount added = refl
+added_load Removed added = refl
 added_load (MountFlags m) added = refl
 added_load (MountCount m p) added = refl
 added_load (Block i) added = refl
@@ -55,6 +57,7 @@ taken_load Stage taken = refl
 taken_load Holders taken = refl
 taken_load SbFlags taken = refl
 taken_load Remount taken = refl
+taken_load Removed taken = refl
 taken_load (MountFlags m) taken = refl
 taken_load (MountCount m p) taken = refl
 taken_load (Block i) taken = refl
@@ -90,10 +93,12 @@ pub holders_as : {tasks s s' h h' : ℕ} {at at' : ℕ → HolderRole} → s ≡
 holders_as {tasks} es eh ea h = subst (λ X. X) (sym (λ i. HoldersHold tasks (es i) (eh i) (ea i))) h
 
 -- a tree with the same words and roles
-pub tree_as : {s s' u u' : ℕ} {n n' k k' : ℕ → ℕ} {at at' : ℕ → TreeRole} → s ≡ s' → u ≡ u' → n ≡ n' → k ≡ k' → at ≡ at' →
-    ◌≡◌ {A = TreeState} (record { sealed = s; used = u; node = n; kids = k; at = at })
-    (record { sealed = s'; used = u'; node = n'; kids = k'; at = at' })
-tree_as es eu en ek ea = λ i. record { sealed = es i; used = eu i; node = en i; kids = ek i; at = ea i }
+pub tree_as : {s s' b b' u u' r r' : ℕ} {n n' k k' : ℕ → ℕ} {at at' : ℕ → TreeRole} → s ≡ s' → b ≡ b' → u ≡ u' → r ≡ r' → n ≡ n' → k ≡ k' →
+    at ≡ at' →
+    ◌≡◌ {A = TreeState} (record { sealed = s; bare = b; used = u; removed = r; node = n; kids = k; at = at })
+    (record { sealed = s'; bare = b'; used = u'; removed = r'; node = n'; kids = k'; at = at' })
+tree_as es eb eu er en ek ea =
+    λ i. record { sealed = es i; bare = eb i; used = eu i; removed = er i; node = en i; kids = ek i; at = ea i }
 
 -- a view of a level with the same accesses, net additions and role
 pub level_view_as : {h h' : ℕ} {a a' k k' : ℕ → ℕ} {r r' : LevelRole} → h ≡ h' → a ≡ a' → k ≡ k' → r ≡ r' →
@@ -128,6 +133,7 @@ module _ (c : Config) (w : World) (t : ℕ) (lt : t < c.tasks) where
       record (shown c w) {
         mounts = update (λ x. held_at (w.views x)) t (held_at v);
         levels = update (λ x. holds_level (w.views x)) t (holds_level v);
+        opens = update (λ x. has_open (w.views x)) t (has_open v);
         mount_ro = λ m. ro_bit (ws.flags m) == 1;
         sb_ro = ws.remount == 1 || ws.sb == 1;
         stage = ws.stage;
@@ -137,6 +143,7 @@ module _ (c : Config) (w : World) (t : ℕ) (lt : t < c.tasks) where
   shown_as ws v eb ec = λ j. record {
     mounts = update_map held_at w.views t v j;
     levels = update_map holds_level w.views t v j;
+    opens = update_map has_open w.views t v j;
     mount_ro = λ m. ro_bit (ws.flags m) == 1;
     sb_ro = ws.remount == 1 || ws.sb == 1;
     stage = ws.stage;
@@ -150,17 +157,18 @@ module _ (c : Config) (w : World) (t : ℕ) (lt : t < c.tasks) where
   pub shown_still : (ws : Words) (v : View) → ws.block ≡ w.words.block → ws.flags ≡ w.words.flags → ws.remount ≡ w.words.remount →
       ws.sb ≡ w.words.sb → ws.stage ≡ w.words.stage → ws.holders ≡ w.words.holders → ws.node ≡ w.words.node →
       ((i : ℕ) → closing i v.phase ≡ closing i (w.views t).phase) → held_at v ≡ held_at (w.views t) →
-      holds_level v ≡ holds_level (w.views t) →
+      holds_level v ≡ holds_level (w.views t) → has_open v ≡ has_open (w.views t) →
       shown c (record { words = ws; views = update w.views t v }) ≡ shown c w
-  shown_still ws v eb ef er es eg eo en ec eh el =
+  shown_still ws v eb ef er es eg ew en ec eh el eo =
       shown_as ws v eb ec ∙
       (λ j. record (shown c w) {
         mounts = (ap (update (λ x. held_at (w.views x)) t) eh ∙ update_same (λ x. held_at (w.views x)) t) j;
         levels = (ap (update (λ x. holds_level (w.views x)) t) el ∙ update_same (λ x. holds_level (w.views x)) t) j;
+        opens = (ap (update (λ x. has_open (w.views x)) t) eo ∙ update_same (λ x. has_open (w.views x)) t) j;
         mount_ro = λ m. ro_bit (ef j m) == 1;
         sb_ro = er j == 1 || es j == 1;
         stage = eg j;
-        holders = holders_in (eo j);
+        holders = holders_in (ew j);
         tree = λ n. node_shown (en j n);
       })
 
@@ -182,6 +190,12 @@ module _ (c : Config) (w : World) (t : ℕ) (lt : t < c.tasks) where
   tree_roles_left v seen =
       update_map (λ (u : View). tree_role_of u.trace u.phase) w.views t v ∙ ap (update (tree_roles w) t) seen ∙
       update_same (tree_roles w) t
+
+  -- which files each task has open, likewise
+  pub opens_left : (v : View) → has_open v ≡ has_open (w.views t) →
+      ◌≡◌ {A = ℕ → ℕ → Bool} (λ x. has_open (update w.views t v x)) (λ x. has_open (w.views x))
+  opens_left v seen =
+      update_map has_open w.views t v ∙ ap (update (λ x. has_open (w.views x)) t) seen ∙ update_same (λ x. has_open (w.views x)) t
 
   -- each part of the rule where an event leaves what it reads
   pub left_alone : (part : Part) (ws : Words) (v : View) → SameWords w.words ws part → SameView (w.views t) v part → Holds c w part →
@@ -207,7 +221,13 @@ module _ (c : Config) (w : World) (t : ℕ) (lt : t < c.tasks) where
       (λ o. subst (KnowsWords ws) (sym seen.1) (known_same w.words ws same (w.views t).trace (h t lt (sym seen.0 ∙ o))))
       (λ ne o. known_same w.words ws same (w.views x).trace (h x lx o))
   left_alone Tree ws v same seen h =
-      subst (TreeHolds (tree_bounds c)) (sym (tree_as same.3 same.0 same.1 same.2 (tree_roles_left v seen))) h
+      subst (TreeHolds (tree_bounds c)) (sym (tree_as same.4 same.5 same.0 same.1 same.2 same.3 (tree_roles_left v seen))) h
+  left_alone Files ws v same seen h = record {
+    counted = λ n ln. ap (λ f. opens_in (f n)) same ∙ h.counted n ln ∙ sym (ap (λ f. openers f n) (opens_left v seen.0));
+    own = λ x lx. each_updated (λ y (u : View). HasFile (has_open u) (file_of u.phase)) w.views t v x
+        (subst (HasFile (has_open v)) (sym seen.1) (subst (λ f. HasFile f (file_of (w.views t).phase)) (sym seen.0) (h.own t lt)))
+        (λ ne. h.own x lx);
+  }
   left_alone (AtMount m) ws v same seen h = λ lm.
       holds_as same.0 same.1 same.2 same.3 (update_map (at_mount m) w.views t v ∙
       (ap (update (λ x. at_mount m (w.views x)) t) seen ∙ update_same (λ x. at_mount m (w.views x)) t)) (h lm)

@@ -14,7 +14,7 @@ use Rattle.gate_world.specs.declared.work.Phase.{Phase}
 use Rattle.gate_world.specs.declared.work.Phase.TheVariants.{Trees}
 use Rattle.gate_world.specs.declared.views.Traced.{Traced}
 use Rattle.gate_world.specs.Configs.{IsWithin}
-use Rattle.gate_world.specs.Courses.{IsTrace, MayHold, course_of}
+use Rattle.gate_world.specs.Courses.{IsTrace, MayHold, MayFind, course_of}
 use Rattle.gate_world.specs.Found.{SeenIn}
 use Rattle.gate_world.specs.Traces.{actions_of, IsHonest, IsShort, Tells, most_events}
 use Rattle.gate_world.specs.Views.{with_hook}
@@ -72,7 +72,7 @@ module _ (c : Config) (file blocks : ℕ) where
       Comes trace (events_before s) (grow_after (grow_of s) s (found_by (grow_next (grow_of s) s).1 value)).0
   grow_goes LoadsFile value trace may =
       looked (Comes trace 0) (grow_of LoadsFile) (λ node. grow_of (LoadsUsed node)) (file_in value)
-      (made_some (λ node. as_file node node.kind) (unpacked value) may)
+      (made_some (λ node. as_file node node.removed node.kind) (unpacked value) may)
       (λ node. (LoadsUsed node, refl, tt, λ q. omega arith)) (λ refusal q. omega arith)
   grow_goes (LoadsUsed node) value trace may = elim (cases_Bool (nat_lt c.capacity (value + blocks))) [
     | inl full ↦ rw full (λ q. omega arith)
@@ -133,7 +133,7 @@ module _ (c : Config) (file blocks : ℕ) where
         let s : GrowStep = here.0 in
         let x : Phase = Trees (Grows (grow_of s)) in
         let e : Traced = with_hook (event_at x value hook) hook in
-        subst (λ (p : Phase). MayHold (next_of p hook).0 value → SaysAfter GrowAt c (GrowOp file blocks) p value hook earlier added)
+        subst (λ (p : Phase). MayFind p (next_of p hook).0 value → SaysAfter GrowAt c (GrowOp file blocks) p value hook earlier added)
         (sym here.1)
         (λ holds.
         call_says Grow GrowStep Grows grow_of Knows so_far IsThere events_before 5 false c (GrowOp file blocks)

@@ -19,7 +19,7 @@ use Rattle.holder_laws.proofs.HolderLaws.{events_keep}
 use Rattle.gate_world.specs.declared.config.Config.{Config}
 use Rattle.gate_world.specs.declared.views.View.{View}
 use Rattle.gate_world.specs.declared.work.Phase.{Phase}
-use Rattle.gate_world.specs.declared.work.Phase.TheVariants.{Mounts, Remounts, DownReads, UpReads, Callbacks, Writes, Freezes, Thaws, Trees}
+use Rattle.gate_world.specs.declared.work.Phase.TheVariants.{Mounts, Remounts, DownReads, UpReads, Callbacks, Writes, Freezes, Thaws, Trees, Closes}
 use Rattle.gate_world.specs.Holders.{freeze_holder_role, thaw_holder_role, holder_role_of}
 use Rattle.gate_world.specs.Stages.{freeze_stage_role, thaw_stage_role}
 use Rattle.gate_world.specs.Rules.{owns, IsGood, Holds, Owner, Holding}
@@ -53,6 +53,7 @@ holder_owner (Some (Writes x)) = omega arith
 holder_owner (Some (Freezes x)) = freeze_minds x.nodes x.step
 holder_owner (Some (Thaws x)) = thaw_minds x.holder x.step
 holder_owner (Some (Trees phase)) = omega arith
+holder_owner (Some (Closes x)) = omega arith
 
 -- the holders of a world
 abbrev pub holders_at : World → HolderMoment

@@ -15,14 +15,14 @@ use Rattle.mount_counts.specs.declared.remounts.RemountStep.{RemountStep}
 use Rattle.gate_world.specs.Work.{IgnoresAnswer, remount_hook, hook_of}
 use Rattle.std.proofs.Common.{ℕ, ◌≡◌, None, ap, true≢false, is_some, refl}
 use Rattle.mount_counts.specs.Phases.{next, after}
-use Rattle.gate_world.specs.declared.work.Phase.TheVariants.{Mounts, Remounts, DownReads, UpReads, Callbacks, Writes, Freezes, Thaws, Trees}
+use Rattle.gate_world.specs.declared.work.Phase.TheVariants.{Mounts, Remounts, DownReads, UpReads, Callbacks, Writes, Freezes, Thaws, Trees, Closes}
 use Rattle.mount_counts.specs.declared.phases.MountPhase.TheVariants.{Want as Wants, Drop as Drops, Change as Changes}
 use Rattle.mount_counts.specs.Remounts.{remount_next, remount_after}
 use Rattle.access_model.specs.Replies.{map_next}
 use Rattle.mount_counts.specs.declared.remounts.RemountStep.TheVariants.{SetsWritable, SetsReadOnly}
 use Rattle.gated_tree.specs.declared.phases.TreePhase.{TreePhase}
 use Rattle.gated_tree.specs.Phases.{next as tree_next, after as tree_after}
-use Rattle.gated_tree.specs.declared.phases.TreePhase.TheVariants.{Create as Creates, Remove as Removes, Grow as Grows, MoveTo as Moves, Mark as TreeMarks, Snapshot as Snapshots, ClearMarks as TreeClears}
+use Rattle.gated_tree.specs.declared.phases.TreePhase.TheVariants.{Create as Creates, Remove as Removes, Grow as Grows, MoveTo as Moves, Mark as TreeMarks, OpenFile as OpensOne, Snapshot as Snapshots, ClearMarks as TreeClears}
 
 mount_ignores : (x : MountPhase) (a b : HookAnswer) (found : ℕ) → (next x a ≡ next x b) × (after x found a ≡ after x found b)
 mount_ignores (Wants x) a b found = (refl, refl)
@@ -52,6 +52,7 @@ tree_ignores (Removes x) a b found = (refl, refl)
 tree_ignores (Grows x) a b found = (refl, refl)
 tree_ignores (Moves x) a b found = (refl, refl)
 tree_ignores (TreeMarks x) a b found = (refl, refl)
+tree_ignores (OpensOne x) a b found = (refl, refl)
 tree_ignores (Snapshots x) a b found = (refl, refl)
 tree_ignores (TreeClears x) a b found = (refl, refl)
 
@@ -79,3 +80,4 @@ ignores (Thaws x) h a b found =
 ignores (Trees x) h a b found =
     let e : (tree_next x a ≡ tree_next x b) × (tree_after x found a ≡ tree_after x found b) = tree_ignores x a b found in
     (e.0, ap (λ y. (map_next Trees y.0, y.1)) e.1)
+ignores (Closes x) h a b found = (refl, refl)

@@ -1,7 +1,7 @@
 -- What the crate of an operation proves of it: of each of its phases, and of its beginning and its trace.
-use Rattle.cpu_words.specs.declared.names.WordName.TheVariants.{MountFlags, MountCount, Block, Sync, LevelCount, Section, Node, Kids, Umount, Stage, Holders, SbFlags, Remount, Used}
+use Rattle.cpu_words.specs.declared.names.WordName.TheVariants.{MountFlags, MountCount, Block, Sync, LevelCount, Section, Node, Kids, Umount, Stage, Holders, SbFlags, Remount, Used, Removed}
 use Rattle.cpu_words.specs.declared.names.WordName.{WordName}
-use Rattle.access_model.specs.Histories.{mounts_of, levels_of}
+use Rattle.access_model.specs.Histories.{mounts_of, levels_of, opens_of}
 use Rattle.gate_world.specs.Traces.{actions_of}
 use Rattle.std.specs.Prelude.{Err, ◌++◌}
 use Rattle.access_model.specs.declared.errors.GateError.{GateError}
@@ -17,8 +17,8 @@ use Rattle.gate_world.specs.Trees.{tree_role_of}
 use Rattle.gate_world.specs.Configs.{IsWithin, extents_of, extents_among}
 use Rattle.gate_world.specs.Views.{phase_after, held_at, holds_level}
 use Rattle.gate_world.specs.Work.{next_of, after_of}
-use Rattle.gate_world.specs.Operations.{holds_none}
-use Rattle.gate_world.specs.Fits.{PhaseFits, Fits, ActionFits, mounts_by, levels_by}
+use Rattle.gate_world.specs.Operations.{holds_none, is_of_open, is_of_closed}
+use Rattle.gate_world.specs.Fits.{PhaseFits, Fits, ActionFits, mounts_by, levels_by, HasFile, file_of}
 use Rattle.gate_world.specs.Rules.{IsGood, StepKeeps, role_of, IsSteady}
 use Rattle.mount_counts.specs.Roles.{Out}
 use Rattle.gate_world.specs.Causes.{all_counted, all_inside, HasCause}
@@ -57,6 +57,7 @@ word_among c within n le Stage h = h
 word_among c within n le Holders h = h
 word_among c within n le SbFlags h = h
 word_among c within n le Remount h = h
+word_among c within n le Removed h = h
 word_among c within n le (MountFlags m) h = h
 word_among c within n le (MountCount m p) h = h
 word_among c within n le (Block i) h = h
@@ -156,7 +157,11 @@ pub record OpKeeps (c : Config) (op : Op) : Type 0 where
   pub restores : (refusal : GateError) (trace : List Traced) (before : List Action) →
       is_in_order c (mounts_of before) (levels_of before) op ≡ true →
       (mounts_of (actions_of op (Err refusal) trace ++ before) ≡ mounts_of before) ×
-      (levels_of (actions_of op (Err refusal) trace ++ before) ≡ levels_of before)
+      (levels_of (actions_of op (Err refusal) trace ++ before) ≡ levels_of before) ×
+      (opens_of (actions_of op (Err refusal) trace ++ before) ≡ opens_of before)
+  -- its first phase relies on its file to be open, or not, only where it may begin with it so
+  pub file : (t : ℕ) (files : ℕ → Bool) → is_of_open files op ≡ true → is_of_closed files op ≡ true →
+      HasFile files (file_of (Some (first_phase c t op)))
   -- its trace tells what is to be told, and is short
   pub tells : IsWithin c → (t : ℕ) (trace : List Traced) → IsTrace c t op trace →
       Tells c op trace (course_of c t op trace).comes (course_of c t op trace).added

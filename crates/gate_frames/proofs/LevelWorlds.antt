@@ -16,6 +16,7 @@ use Rattle.percpu_rwsem.specs.declared.readers.DownReadStep.{DownReadStep}
 use Rattle.percpu_rwsem.specs.declared.readers.DownReadStep.TheVariants.{EntersSection, LoadsSync, CountsUpFast, CountsUpSlow, LoadsBlock, CountsDown, LeavesAdmitted, LeavesBlocked}
 use Rattle.percpu_rwsem.specs.declared.callbacks.CallbackStep.{CallbackStep}
 use Rattle.percpu_rwsem.specs.declared.callbacks.CallbackStep.TheVariants.{Claims, AwaitsSections, CallsBack}
+use Rattle.file_closes.specs.declared.phases.ClosePhase.TheVariants.{LoadsFile, LowersCount, Enters, FreesNode, RefundsBlocks, Uncounts, Leaves}
 use Rattle.write_access.specs.declared.phases.WritePhase.TheVariants.{Takes, Wants, GivesBack, Drops, Ends}
 use Rattle.level_laws.specs.Roles.{SyncRole, Out as IsApart, Fast, fast, closed}
 use Rattle.level_laws.specs.Events.{SyncLevel, SyncLevelHolds, SyncStep, TurnsSection}
@@ -24,7 +25,7 @@ use Rattle.level_laws.proofs.Whole.{events_keep, fast_finds_open as level_is_ope
 use Rattle.gate_world.specs.declared.config.Config.{Config}
 use Rattle.gate_world.specs.declared.views.View.{View}
 use Rattle.gate_world.specs.declared.work.Phase.{Phase}
-use Rattle.gate_world.specs.declared.work.Phase.TheVariants.{Mounts, Remounts, DownReads, UpReads, Callbacks, Writes, Freezes, Thaws, Trees}
+use Rattle.gate_world.specs.declared.work.Phase.TheVariants.{Mounts, Remounts, DownReads, UpReads, Callbacks, Writes, Freezes, Thaws, Trees, Closes}
 use Rattle.gate_world.specs.Worlds.{World}
 use Rattle.gate_world.specs.LevelRuns.{level_in}
 use Rattle.gate_world.specs.Levels.{sync_role_if, sync_role_of, inside, freeze_stand, thaw_stand}
@@ -67,6 +68,13 @@ fast_in_section i (Some (Writes (Ends p))) = omega arith
 fast_in_section i (Some (Freezes x)) = omega (arith, freeze_slow i x.step)
 fast_in_section i (Some (Thaws x)) = omega (arith, thaw_slow i x.step)
 fast_in_section i (Some (Trees phase)) = omega arith
+fast_in_section i (Some (Closes (LoadsFile x))) = omega arith
+fast_in_section i (Some (Closes (LowersCount x node))) = omega arith
+fast_in_section i (Some (Closes (Enters f node r))) = read_fast (i == r.level) r.step
+fast_in_section i (Some (Closes (FreesNode f p node))) = omega arith
+fast_in_section i (Some (Closes (RefundsBlocks p blocks))) = omega arith
+fast_in_section i (Some (Closes (Uncounts p))) = omega arith
+fast_in_section i (Some (Closes (Leaves p))) = omega arith
 
 -- no down-read has closed a level
 read_opens : (b : Bool) (s : DownReadStep) → closed (sync_role_if b (down_read_role s)) ≡ 0
@@ -103,6 +111,13 @@ closed_below i j (Some (Writes (Ends p))) one le = omega arith
 closed_below i j (Some (Freezes x)) one le = stand_below i j (freeze_stand x.step) le
 closed_below i j (Some (Thaws x)) one le = stand_below i j (thaw_stand x.step) le
 closed_below i j (Some (Trees phase)) one le = omega arith
+closed_below i j (Some (Closes (LoadsFile x))) one le = omega arith
+closed_below i j (Some (Closes (LowersCount x node))) one le = omega arith
+closed_below i j (Some (Closes (Enters f node r))) one le = omega (arith, read_opens (j == r.level) r.step)
+closed_below i j (Some (Closes (FreesNode f p node))) one le = omega arith
+closed_below i j (Some (Closes (RefundsBlocks p blocks))) one le = omega arith
+closed_below i j (Some (Closes (Uncounts p))) one le = omega arith
+closed_below i j (Some (Closes (Leaves p))) one le = omega arith
 
 -- a task's role at its own level is the one it has there
 pub sync_on : (i : ℕ) (r : SyncRole) → sync_role_if (i == i) r ≡ r

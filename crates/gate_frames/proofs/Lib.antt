@@ -45,3 +45,7 @@ pub mod GrowTraces
 pub mod MoveTraces
 pub mod MarkTraces
 pub mod SnapshotTraces
+pub mod Beside
+pub mod OpenFiles
+pub mod CloseEvents
+pub mod OpenTraces

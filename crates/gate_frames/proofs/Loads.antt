@@ -72,7 +72,7 @@ module _ (c : Config) (w : World) (good : IsGood c w) (t : ℕ) (lt : t < c.task
       (view_as refl (ap (λ f. f m) (sym ea)) (ap (λ f. f m) (sym et)) refl) (own lm)) in
       subst (λ ws. let next_world : World = record { words = ws; views = update w.views t v } in GatesHold c next_world ×
       (shown c next_world ≡ shown c w)) (sym (load_same w.words name))
-      (there, shown_still c w t lt w.words v refl refl refl refl refl refl refl same.closing_same refl refl)
+      (there, shown_still c w t lt w.words v refl refl refl refl refl refl refl same.closing_same refl refl refl)
 
   -- a load, after which the task's role is the same at each mount
   pub still_load : (name : WordName) (hook : HookAnswer) (coming : Next Phase) →

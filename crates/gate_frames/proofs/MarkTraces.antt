@@ -14,7 +14,7 @@ use Rattle.gate_world.specs.declared.work.Phase.{Phase}
 use Rattle.gate_world.specs.declared.work.Phase.TheVariants.{Trees}
 use Rattle.gate_world.specs.declared.views.Traced.{Traced}
 use Rattle.gate_world.specs.Configs.{IsWithin}
-use Rattle.gate_world.specs.Courses.{IsTrace, MayHold, course_of}
+use Rattle.gate_world.specs.Courses.{IsTrace, MayHold, MayFind, course_of}
 use Rattle.gate_world.specs.Beginnings.{first_phase}
 use Rattle.gate_world.specs.Found.{SeenIn}
 use Rattle.gate_world.specs.Traces.{actions_of, IsHonest, IsShort, IsTold, Tells, most_events}
@@ -105,7 +105,7 @@ module _ (c : Config) (file : ℕ) (dirty : Bool) where
       Comes trace (events_before s) (mark_after (mark_of s) s (found_by (mark_next (mark_of s) s).1 value)).0
   mark_goes LoadsFile value trace may =
       looked (Comes trace 0) (mark_of LoadsFile) (λ node. mark_of (MarksFile node)) (file_in value)
-      (made_some (λ node. as_file node node.kind) (unpacked value) may)
+      (made_some (λ node. as_file node node.removed node.kind) (unpacked value) may)
       (λ node. (MarksFile node, refl, tt, λ q. omega arith)) (λ refusal q. omega arith)
   mark_goes (MarksFile node) value trace may = elim (cases_Bool (value == word_of node)) [
     | inl e ↦ rw e (λ q. omega arith)
@@ -136,7 +136,7 @@ module _ (c : Config) (file : ℕ) (dirty : Bool) where
         let s : MarkStep = here.0 in
         let x : Phase = Trees (TreeMarks (mark_of s)) in
         let e : Traced = with_hook (event_at x value hook) hook in
-        subst (λ (p : Phase). MayHold (next_of p hook).0 value → SaysAfter MarkAt c (mark_op file dirty) p value hook earlier added)
+        subst (λ (p : Phase). MayFind p (next_of p hook).0 value → SaysAfter MarkAt c (mark_op file dirty) p value hook earlier added)
         (sym here.1)
         (λ holds.
         call_says Mark MarkStep TreeMarks mark_of Knows so_far IsThere events_before 2 false c (mark_op file dirty)

@@ -1,10 +1,10 @@
 -- The next event of each task is on a word that holds what it may: the word of a node of the tree is a node's.
-use Rattle.std.proofs.Common.{ℕ, ◌<◌, subst, ap, Bool}
-use Rattle.std.specs.Prelude.{Ok, Err, is_some}
+use Rattle.std.proofs.Common.{◌≡◌, ℕ, ◌<◌, ◌≤◌, ◌*◌, subst, ap, Bool, true, false, arith}
+use Rattle.std.specs.Prelude.{Ok, Err, Some, is_some}
 use Rattle.mount_counts.specs.declared.phases.MountPhase.TheVariants.{Want as MWants, Drop as MDrops, Change as MChanges}
 use Rattle.mount_counts.specs.declared.phases.WantStep.TheVariants.{CountsUp, LoadsHold, LoadsRemount, LoadsReadOnly, LoadsSuperblock, CountsDown}
 use Rattle.mount_counts.specs.declared.phases.ChangeStep.TheVariants.{Locks, LoadsFlags, LoadsSuperblock as LoadsSb, ClearsReadOnly, SetsHold, Sums, SetsReadOnly, ClearsHold, Releases}
-use Rattle.mount_counts.specs.declared.remounts.RemountStep.TheVariants.{Locks as RLocks, LoadsStage as RLoadsStage, LoadsSuperblock as RLoadsSuperblock, SetsWritable, LoadsFlags as RLoadsFlags, SetsHold as RSetsHold, Sums as RSums, SetsRemount, ClearsHold as RClearsHold, GivesUp, ClearsMark, SetsReadOnly as RSetsReadOnly, ClearsRemount, Releases as RReleases}
+use Rattle.mount_counts.specs.declared.remounts.RemountStep.TheVariants.{Locks as RLocks, LoadsStage as RLoadsStage, LoadsSuperblock as RLoadsSuperblock, SetsWritable, LoadsRemoved as RLoadsRemoved, LoadsRemovedAgain as RLoadsRemovedAgain, LeavesHolds, LoadsFlags as RLoadsFlags, SetsHold as RSetsHold, Sums as RSums, SetsRemount, ClearsHold as RClearsHold, GivesUp, ClearsMark, SetsReadOnly as RSetsReadOnly, ClearsRemount, Releases as RReleases}
 use Rattle.percpu_rwsem.specs.declared.transitions.Transition.TheVariants.{Loads, Exchanges}
 use Rattle.percpu_rwsem.specs.declared.readers.DownReadStep.TheVariants.{EntersSection, LoadsSync, CountsUpFast, CountsUpSlow, LoadsBlock, CountsDown as DCountsDown, LeavesAdmitted, LeavesBlocked}
 use Rattle.percpu_rwsem.specs.declared.callbacks.CallbackStep.TheVariants.{Claims, AwaitsSections as CAwaitsSections, CallsBack as CCallsBack}
@@ -14,19 +14,19 @@ use Rattle.write_access.specs.declared.phases.WritePhase.TheVariants.{Takes, Wan
 use Rattle.freeze_levels.specs.declared.freezes.FreezeStep.TheVariants.{Locks as FLocks, LoadsStage as FLoadsStage, LoadsHolders as FLoadsHolders, Holds, LoadsSuperblock as FLoadsSuperblock, CompletesReadOnly, SetsWrite, Unlocks, Closes, LocksAgain, SetsPageFault, Cleans, SetsFs, SetsComplete, Reopens as FReopens, Releases as FReleases}
 use Rattle.freeze_levels.specs.declared.thaws.ThawStep.TheVariants.{Locks as TLocks, LoadsStage as TLoadsStage, LoadsHolders as TLoadsHolders, Leaves, LoadsSuperblock as TLoadsSuperblock, LeavesReadOnly, UnfreezesReadOnly, LeavesLast, SetsUnfrozen, Reopens as TReopens, Releases as TReleases}
 use Rattle.gated_tree.specs.declared.changes.CreateStep.TheVariants.{LoadsDirectory, LoadsNode, ChargesChild, TakesNode, RefundsChild}
-use Rattle.gated_tree.specs.declared.changes.RemoveStep.TheVariants.{LoadsFile as LoadsFileToRemove, FreesNode, RefundsBlocks as RefundsItsBlocks, RefundsChild as RefundsItsChild}
+use Rattle.gated_tree.specs.declared.changes.RemoveStep.TheVariants.{LoadsFile as LoadsFileToRemove, FreesNode, CountsRemoved, MarksRemoved, RefundsRemoved, RefundsBlocks as RefundsItsBlocks, RefundsChild as RefundsItsChild}
 use Rattle.gated_tree.specs.declared.growth.GrowStep.TheVariants.{LoadsFile as LoadsFileToGrow, LoadsUsed, ChargesBlocks, GrowsFile, RefundsBlocks}
 use Rattle.gated_tree.specs.declared.changes.MoveStep.TheVariants.{LoadsFile as LoadsFileToMove, LoadsDirectory as LoadsTarget, ChargesChild as ChargesTarget, MovesFile, RefundsChild as RefundsOne}
 use Rattle.gated_tree.specs.declared.marks.MarkStep.TheVariants.{LoadsFile as LoadsFileToMark, MarksFile}
 use Rattle.gated_tree.specs.declared.snapshots.SnapshotStep.TheVariants.{Locks as SLocks, LoadsStage as SLoadsStage, LoadsUsed as SLoadsUsed, LoadsNode as SLoadsNode, LoadsKids as SLoadsKids, Releases as SReleases}
-use Rattle.gated_tree.specs.declared.phases.TreePhase.TheVariants.{Create as Creates, Remove as Removes, Grow as Grows, MoveTo as Moves, Mark as TreeMarks, Snapshot as Snapshots, ClearMarks as TreeClears}
-use Rattle.gate_world.specs.declared.work.Phase.TheVariants.{Mounts, Remounts, DownReads, UpReads, Callbacks, Writes, Freezes, Thaws, Trees}
-use Rattle.gated_tree.specs.Phases.{next as tree_next, remove_next, grow_next, move_next, mark_next, create_next, snapshot_next}
+use Rattle.gated_tree.specs.declared.phases.TreePhase.TheVariants.{Create as Creates, Remove as Removes, Grow as Grows, MoveTo as Moves, Mark as TreeMarks, OpenFile as OpensOne, Snapshot as Snapshots, ClearMarks as TreeClears}
+use Rattle.gate_world.specs.declared.work.Phase.TheVariants.{Mounts, Remounts, DownReads, UpReads, Callbacks, Writes, Freezes, Thaws, Trees, Closes}
+use Rattle.gated_tree.specs.Phases.{next as tree_next, remove_next, grow_next, move_next, mark_next, create_next, snapshot_next, open_next}
 use Rattle.write_access.specs.Phases.{next as write_next}
 use Rattle.gated_tree.proofs.Packing.{packed_unpacks}
-use Rattle.gate_world.specs.Rules.{IsGood, Tree, Fitting}
+use Rattle.gate_world.specs.Rules.{IsGood, Tree, Files, Fitting}
 use Rattle.cpu_words.specs.declared.names.WordName.TheVariants.{Node}
-use Rattle.gate_world.specs.Courses.{MayHold, EventsMayBe}
+use Rattle.gate_world.specs.Courses.{MayHold, MayFind, CloseMayFind, OpenMayFind, EventsMayBe}
 use Rattle.gate_world.specs.declared.config.Config.{Config}
 use Rattle.cpu_words.specs.declared.names.WordName.{WordName}
 use Rattle.mount_counts.specs.declared.phases.Want.{Want}
@@ -48,6 +48,19 @@ use Rattle.gated_tree.specs.declared.marks.Mark.{Mark}
 use Rattle.gated_tree.specs.declared.snapshots.Snapshot.{Snapshot}
 use Rattle.gated_tree.specs.declared.phases.TreePhase.{TreePhase}
 use Rattle.gate_world.specs.declared.work.Phase.{Phase}
+use Rattle.file_closes.specs.declared.phases.ClosePhase.{ClosePhase}
+use Rattle.file_closes.specs.declared.phases.ClosePhase.TheVariants.{LoadsFile as CloseLoadsFile, LowersCount, Enters as EntersLevel, FreesNode as ClosesNode, RefundsBlocks as CloseRefundsBlocks, Uncounts as CloseUncounts, Leaves as CloseLeaves}
+use Rattle.file_closes.specs.Phases.{next as close_next}
+use Rattle.gated_tree.specs.declared.opens.OpenFile.{OpenFile}
+use Rattle.gated_tree.specs.declared.opens.OpenStep.{OpenStep}
+use Rattle.gated_tree.specs.declared.opens.OpenStep.TheVariants.{LoadsFile as LoadsFileToOpen, OpensFile}
+use Rattle.finite_sums.specs.Sums.{update, total}
+use Rattle.finite_sums.proofs.Totals.{total_at, total_updated, total_bound, each_updated}
+use Rattle.access_model.specs.States.{one_if, most_tasks}
+use Rattle.access_model.proofs.Openers.{most_tasks_is, one_le}
+use Rattle.gated_tree.specs.Nodes.{unpacked, opens_in}
+use Rattle.gated_tree.specs.Roles.{RoleHolds}
+use Rattle.gate_world.specs.Configs.{IsWithin}
 use Rattle.gate_world.specs.Worlds.{World}
 use Rattle.mount_counts.specs.declared.phases.WantStep.{WantStep}
 use Rattle.mount_counts.specs.declared.phases.ChangeStep.{ChangeStep}
@@ -73,13 +86,13 @@ use Rattle.gate_world.specs.Remounts.{RemountFits}
 use Rattle.percpu_rwsem.specs.Readers.{down_read_next}
 use Rattle.percpu_rwsem.specs.Callbacks.{callback_next}
 use Rattle.percpu_rwsem.specs.Writers.{down_write_next, up_write_next}
-use Rattle.gate_world.specs.Fits.{FreezeFits, PhaseFits, Fits}
+use Rattle.gate_world.specs.Fits.{FreezeFits, PhaseFits, CloseFits, HasFile, file_of, Fits}
 use Rattle.freeze_levels.specs.Thaws.{thaw_next}
 use Rattle.gated_tree.specs.Calls.{CreateStepFits, SnapshotStepFits, TreePhaseFits}
-use Rattle.gate_world.specs.Views.{held_at, holds_level}
+use Rattle.gate_world.specs.Views.{held_at, holds_level, has_open}
 use Rattle.mount_counts.specs.Remounts.{remount_next}
 use Rattle.freeze_levels.specs.Freezes.{freeze_next}
-use Rattle.gate_world.specs.Trees.{tree_bounds}
+use Rattle.gate_world.specs.Trees.{tree_bounds, tree_role_of}
 
 -- the word of a node is that of one of the tree's
 abbrev IsOfTree : Config → WordName → Type 0
@@ -112,6 +125,9 @@ module _ (c : Config) where
   remount_word x RLoadsSuperblock hook fits = tt
   remount_word x SetsWritable (Ok answer) fits = tt
   remount_word x SetsWritable (Err code) fits = tt
+  remount_word x RLoadsRemoved hook fits = tt
+  remount_word x (RLoadsRemovedAgain held) hook fits = tt
+  remount_word x (LeavesHolds held) hook fits = tt
   remount_word x (RLoadsFlags m held) hook fits = tt
   remount_word x (RSetsHold m held) hook fits = tt
   remount_word x (RSums m held sum) hook fits = tt
@@ -206,6 +222,9 @@ module _ (c : Config) where
   remove_word : (x : Remove) (s : RemoveStep) → x.file < c.nodes → IsOfTree c (remove_next x s).0
   remove_word x LoadsFileToRemove lt = lt
   remove_word x (FreesNode file) lt = lt
+  remove_word x (CountsRemoved file) lt = tt
+  remove_word x (MarksRemoved file) lt = lt
+  remove_word x RefundsRemoved lt = tt
   remove_word x (RefundsItsBlocks file) lt = tt
   remove_word x (RefundsItsChild file) lt = tt
 
@@ -235,12 +254,26 @@ module _ (c : Config) where
   snapshot_word x (SLoadsKids n) fits = tt
   snapshot_word x (SReleases answer) fits = tt
 
+  open_word : (x : OpenFile) (s : OpenStep) → x.file < c.nodes → IsOfTree c (open_next x s).0
+  open_word x LoadsFileToOpen lt = lt
+  open_word x (OpensFile file) lt = lt
+
+  close_word : (t : ℕ) (levels : ℕ → Bool) (x : ClosePhase) → CloseFits c t levels x → IsOfTree c (close_next x).0
+  close_word t levels (CloseLoadsFile x) fits = fits.0
+  close_word t levels (LowersCount x node) fits = fits.0.0
+  close_word t levels (EntersLevel f node r) fits = read_word r r.step
+  close_word t levels (ClosesNode f p node) fits = fits.0
+  close_word t levels (CloseRefundsBlocks p blocks) fits = tt
+  close_word t levels (CloseUncounts p) fits = tt
+  close_word t levels (CloseLeaves p) fits = tt
+
   tree_word : (t : ℕ) (x : TreePhase) (hook : HookAnswer) → TreePhaseFits (tree_bounds c) t x → IsOfTree c (tree_next x hook).0
   tree_word t (Creates x) hook fits = create_word x x.step fits.0 fits.2
   tree_word t (Removes x) hook fits = remove_word x x.step fits.0
   tree_word t (Grows x) hook fits = grow_word x x.step fits.0
   tree_word t (Moves x) hook fits = move_word x x.step fits.0 fits.1
   tree_word t (TreeMarks x) hook fits = mark_word x x.step fits
+  tree_word t (OpensOne x) hook fits = open_word x x.step fits.0
   tree_word t (Snapshots x) hook fits = snapshot_word x x.step fits.2
   tree_word t (TreeClears x) hook fits = fits.0
 
@@ -258,15 +291,73 @@ module _ (c : Config) where
   phase_word t held levels (Freezes x) hook fits = freeze_word x x.step hook fits.5
   phase_word t held levels (Thaws x) hook fits = thaw_word x x.step hook
   phase_word t held levels (Trees x) hook fits = tree_word t x hook fits.0
+  phase_word t held levels (Closes x) hook fits = close_word t levels x fits
 
   -- the words of a good world hold what they may
   held_well : (w : World) → IsGood c w → (word : WordName) → IsOfTree c word → MayHold word (read w.words word)
   held_well w good (Node n) lt = ap is_some (packed_unpacks (w.words.node n) ((good Tree).words n lt).packed)
   held_well w good word lt = tt
 
+  module _ (within : IsWithin c) (w : World) (good : IsGood c w) (t : ℕ) (lt : t < c.tasks) where
+    -- a file that this task has open is open in its word, and one that it hasn't open is not open for all tasks
+    open_counted : (f : ℕ) → f < c.nodes → has_open (w.views t) f ≡ true → 1 ≤ opens_in (w.words.node f)
+    open_counted f lf own = omega (
+      arith,
+      (good Files).counted f lf,
+      total_at most_tasks t (λ x. one_if (has_open (w.views x) f)) (omega (arith, lt, within.tasks, most_tasks_is)),
+      ap one_if own,
+    )
+
+    room_counted : (f : ℕ) → f < c.nodes → has_open (w.views t) f ≡ false → opens_in (w.words.node f) < 64
+    room_counted f lf own =
+        let g : ℕ → ℕ = λ x. one_if (has_open (w.views x) f) in
+        let lm : t < most_tasks = omega (arith, lt, within.tasks, most_tasks_is) in
+        let more = total_updated (λ v. v) most_tasks t g 1 lm in
+        let few : total most_tasks (update g t 1) ≤ most_tasks * 1 =
+        total_bound most_tasks 1 (update g t 1) (λ x lx. each_updated (λ y v. v ≤ 1) g t 1 x (omega arith) (λ ne. one_le (has_open (w.views x) f))) in
+        omega (arith, (good Files).counted f lf, more, few, ap one_if own, most_tasks_is)
+
+    -- what the next event of a phase may find
+    node_packed : (f : ℕ) → f < c.nodes → is_some (unpacked (w.words.node f)) ≡ true
+    node_packed f lf = ap is_some (packed_unpacks (w.words.node f) ((good Tree).words f lf).packed)
+
+    close_finds : (x : ClosePhase) → (w.views t).phase ≡ Some (Closes x) → CloseFits c t (holds_level (w.views t)) x →
+        CloseMayFind x (read w.words (close_next x).0)
+    close_finds (CloseLoadsFile x) is fits = (
+      node_packed x.file fits.0,
+      open_counted x.file fits.0 (subst (λ p. HasFile (has_open (w.views t)) (file_of p)) is ((good Files).own t lt)),
+    )
+    close_finds (LowersCount x node) is fits = node_packed x.file fits.0.0
+    close_finds (EntersLevel f node r) is fits = tt
+    close_finds (ClosesNode f p node) is fits =
+        (subst (λ q. RoleHolds (tree_bounds c) w.words.used w.words.removed w.words.node w.words.kids (tree_role_of (w.views t).trace q)) is
+        ((good Tree).roles t lt)).1.word
+    close_finds (CloseRefundsBlocks p blocks) is fits = tt
+    close_finds (CloseUncounts p) is fits = tt
+    close_finds (CloseLeaves p) is fits = tt
+
+    open_finds : (x : OpenFile) (s : OpenStep) → has_open (w.views t) x.file ≡ false → x.file < c.nodes →
+        OpenMayFind s (read w.words (open_next x s).0)
+    open_finds x LoadsFileToOpen own lf = (node_packed x.file lf, room_counted x.file lf own)
+    open_finds x (OpensFile file) own lf = node_packed x.file lf
+
+    tree_finds : (x : TreePhase) (hook : HookAnswer) → (w.views t).phase ≡ Some (Trees x) →
+        PhaseFits c t (held_at (w.views t)) (holds_level (w.views t)) (Trees x) →
+        MayFind (Trees x) (tree_next x hook).0 (read w.words (tree_next x hook).0)
+    tree_finds (OpensOne x) hook is fits =
+        open_finds x x.step (subst (λ p. HasFile (has_open (w.views t)) (file_of p)) is ((good Files).own t lt)) fits.0.0
+    tree_finds x hook is fits = held_well w good (tree_next x hook).0 (tree_word t x hook fits.0)
+
+    finds_well : (phase : Phase) (hook : HookAnswer) → (w.views t).phase ≡ Some phase →
+        PhaseFits c t (held_at (w.views t)) (holds_level (w.views t)) phase →
+        MayFind phase (next_of phase hook).0 (read w.words (next_of phase hook).0)
+    finds_well (Closes x) hook is fits = close_finds x is fits
+    finds_well (Trees x) hook is fits = tree_finds x hook is fits
+    finds_well phase hook is fits =
+        held_well w good (next_of phase hook).0 (phase_word t (held_at (w.views t)) (holds_level (w.views t)) phase hook fits)
+
   -- so each event is on such a word
-  pub events_may_be : (w : World) → IsGood c w → EventsMayBe c w
-  events_may_be w good t lt phase hook is =
-      held_well w good (next_of phase hook).0
-      (phase_word t (held_at (w.views t)) (holds_level (w.views t)) phase hook
-      (subst (Fits c t (held_at (w.views t)) (holds_level (w.views t))) is (good Fitting t lt)))
+  pub events_may_be : IsWithin c → (w : World) → IsGood c w → EventsMayBe c w
+  events_may_be within w good t lt phase hook is =
+      finds_well within w good t lt phase hook is
+      (subst (Fits c t (held_at (w.views t)) (holds_level (w.views t))) is (good Fitting t lt))

@@ -1,5 +1,5 @@
 -- What a call at the tree may do: nobody else is in its way, and the model gives it leave.
-use Rattle.std.proofs.Common.{◌≡◌, ℕ, ◌<◌, ◌≤◌, inl, inr, refl, arith, Bool, true, false, subst, leb-true}
+use Rattle.std.proofs.Common.{ap, ◌≡◌, ℕ, ◌<◌, ◌≤◌, inl, inr, refl, arith, Bool, true, false, subst, leb-true}
 use Rattle.std.proofs.lemmas.Bool.{cases_Bool}
 use Rattle.std.specs.Prelude.{◌==◌, Option, Some, None, List, if◌then◌else◌, nat_le}
 use Rattle.finite_sums.proofs.Totals.{total_at, total_none}
@@ -11,7 +11,7 @@ use Rattle.gated_tree.specs.declared.changes.CreateStep.{CreateStep}
 use Rattle.gated_tree.specs.declared.changes.CreateStep.TheVariants.{LoadsDirectory, LoadsNode, ChargesChild, TakesNode, RefundsChild}
 use Rattle.gated_tree.specs.declared.changes.Remove.{Remove}
 use Rattle.gated_tree.specs.declared.changes.RemoveStep.{RemoveStep}
-use Rattle.gated_tree.specs.declared.changes.RemoveStep.TheVariants.{LoadsFile as LoadsFileToRemove, FreesNode, RefundsBlocks as RefundsItsBlocks, RefundsChild as RefundsItsChild}
+use Rattle.gated_tree.specs.declared.changes.RemoveStep.TheVariants.{LoadsFile as LoadsFileToRemove, FreesNode, CountsRemoved, MarksRemoved, RefundsRemoved, RefundsBlocks as RefundsItsBlocks, RefundsChild as RefundsItsChild}
 use Rattle.gated_tree.specs.declared.changes.MoveTo.{MoveTo}
 use Rattle.gated_tree.specs.declared.changes.MoveStep.{MoveStep}
 use Rattle.gated_tree.specs.declared.changes.MoveStep.TheVariants.{LoadsFile as LoadsFileToMove, LoadsDirectory as LoadsTarget, ChargesChild as ChargesTarget, MovesFile, RefundsChild as RefundsOne}
@@ -25,7 +25,7 @@ use Rattle.gated_tree.specs.declared.snapshots.Snapshot.{Snapshot}
 use Rattle.gated_tree.specs.declared.snapshots.SnapshotStep.{SnapshotStep}
 use Rattle.gated_tree.specs.declared.snapshots.SnapshotStep.TheVariants.{Locks, LoadsStage, LoadsUsed as LoadsUsedWord, LoadsNode as LoadsNodeWord, LoadsKids, Releases}
 use Rattle.gated_tree.specs.declared.phases.TreePhase.{TreePhase}
-use Rattle.gated_tree.specs.declared.phases.TreePhase.TheVariants.{Create as Creates, Remove as Removes, Grow as Grows, MoveTo as Moves, Mark as Marks, Snapshot as Snapshots, ClearMarks as Clears}
+use Rattle.gated_tree.specs.declared.phases.TreePhase.TheVariants.{OpenFile as OpensOne, Create as Creates, Remove as Removes, Grow as Grows, MoveTo as Moves, Mark as Marks, Snapshot as Snapshots, ClearMarks as Clears}
 use Rattle.gated_tree.specs.Phases.{after, create_after, remove_after, grow_after, move_after, mark_after, mark_done, snapshot_after}
 use Rattle.gated_tree.specs.Calls.{phase_role, create_role, remove_role, grow_role, move_role, mark_role, snapshot_role}
 use Rattle.gated_tree.specs.Roles.{cleared, sealed_by, MayDirty, NobodyReads}
@@ -36,10 +36,29 @@ use Rattle.mount_counts.specs.declared.remounts.RemountStep.TheVariants.{ClearsH
 use Rattle.freeze_levels.specs.declared.freezes.FreezeStep.{FreezeStep}
 use Rattle.freeze_levels.specs.declared.freezes.FreezeStep.TheVariants.{Cleans, SetsFs}
 use Rattle.stage_laws.specs.Roles.{passed_by}
+use Rattle.gated_tree.specs.declared.opens.OpenFile.{OpenFile}
+use Rattle.gated_tree.specs.declared.opens.OpenStep.{OpenStep}
+use Rattle.gated_tree.specs.declared.opens.OpenStep.TheVariants.{LoadsFile as LoadsFileToOpen, OpensFile}
+use Rattle.file_closes.specs.declared.phases.ClosePhase.{ClosePhase}
+use Rattle.file_closes.specs.declared.phases.ClosePhase.TheVariants.{LoadsFile as CloseLoadsFile, LowersCount, Enters as EntersLevel, FreesNode as ClosesNode, RefundsBlocks as CloseRefundsBlocks, Uncounts as CloseUncounts, Leaves as CloseLeaves}
+use Rattle.mount_counts.specs.declared.remounts.RemountStep.TheVariants.{SetsRemount}
+use Rattle.mount_counts.specs.Roles.{mount_as_gate, barring_of, skips}
+use Rattle.gate_counts.specs.Gates.{BarringHolds, admitted, unread}
+use Rattle.mount_counts.specs.Sets.{has_mount}
+use Rattle.gate_world.specs.Remounts.{loop_role, remount_role}
+use Rattle.gate_world.specs.Fits.{HasFile, file_of}
+use Rattle.gate_world.specs.Rules.{Files, AtMount, at_mount, role_of}
+use Rattle.gated_tree.specs.Roles.{MayRemove, is_bare, bare_by}
+use Rattle.gated_tree.specs.Calls.{open_role}
+use Rattle.gated_tree.specs.Phases.{open_after}
+use Rattle.gate_world.specs.Trees.{is_bare_at, close_tree_role}
+use Rattle.gate_world.specs.Views.{has_open}
+use Rattle.gate_frames.proofs.TreeHolders.{none_past}
+use Rattle.finite_sums.specs.Sums.{total}
 use Rattle.gate_world.specs.declared.config.Config.{Config}
 use Rattle.gate_world.specs.declared.views.Traced.{Traced}
 use Rattle.gate_world.specs.declared.work.Phase.{Phase}
-use Rattle.gate_world.specs.declared.work.Phase.TheVariants.{Remounts, Freezes, Trees}
+use Rattle.gate_world.specs.declared.work.Phase.TheVariants.{Closes, Remounts, Freezes, Trees}
 use Rattle.gate_world.specs.Configs.{model_limits}
 use Rattle.gate_world.specs.Fits.{Fits, PhaseFits, TreeAccess}
 use Rattle.gate_world.specs.Operations.{is_writer, is_faulter, may_mark, some_mount}
@@ -66,6 +85,7 @@ open_unsealed sb stage writable low =
 
 -- a remount that hasn't set `remount` clears no mark
 remount_clears : (nodes : ℕ) (s : RemountStep) → remount_sets s ≡ 0 → cleared (remount_tree_role nodes s) ≡ 0
+remount_clears nodes (SetsRemount held) h = refl
 remount_clears nodes (ClearsHold held) h = absurd (omega (arith, h))
 remount_clears nodes (ClearsMark n) h = absurd (omega (arith, h))
 remount_clears nodes SetsReadOnly h = absurd (omega (arith, h))
@@ -88,6 +108,9 @@ create_clears x RefundsChild = refl
 remove_clears : (x : Remove) (s : RemoveStep) → cleared (remove_role x s) ≡ 0
 remove_clears x LoadsFileToRemove = refl
 remove_clears x (FreesNode file) = refl
+remove_clears x (CountsRemoved file) = refl
+remove_clears x (MarksRemoved file) = refl
+remove_clears x RefundsRemoved = refl
 remove_clears x (RefundsItsBlocks file) = refl
 remove_clears x (RefundsItsChild file) = refl
 
@@ -109,6 +132,19 @@ mark_clears : (x : Mark) (s : MarkStep) → cleared (mark_role x s) ≡ 0
 mark_clears x LoadsFileToMark = refl
 mark_clears x (MarksFile file) = refl
 
+open_clears : (x : OpenFile) (s : OpenStep) → cleared (open_role x s) ≡ 0
+open_clears x LoadsFileToOpen = refl
+open_clears x (OpensFile file) = refl
+
+close_clears : (x : ClosePhase) → cleared (close_tree_role x) ≡ 0
+close_clears (CloseLoadsFile x) = refl
+close_clears (LowersCount x node) = refl
+close_clears (EntersLevel f node r) = refl
+close_clears (ClosesNode f p node) = refl
+close_clears (CloseRefundsBlocks p blocks) = refl
+close_clears (CloseUncounts p) = refl
+close_clears (CloseLeaves p) = refl
+
 snapshot_clears : (nodes : ℕ) (values : ℕ → ℕ) (s : SnapshotStep) → cleared (snapshot_role nodes values s) ≡ 0
 snapshot_clears nodes values Locks = refl
 snapshot_clears nodes values LoadsStage = refl
@@ -125,8 +161,108 @@ tree_clears c held levels values (Removes x) may = remove_clears x x.step
 tree_clears c held levels values (Grows x) may = grow_clears x x.step
 tree_clears c held levels values (Moves x) may = move_clears x x.step
 tree_clears c held levels values (Marks x) may = mark_clears x x.step
+tree_clears c held levels values (OpensOne x) may = open_clears x x.step
 tree_clears c held levels values (Snapshots x) may = snapshot_clears x.nodes values x.step
 tree_clears c held levels values (Clears x) may = absurd may
+
+-- no call at the tree is a remount that has found no removed file
+create_bares : (x : Create) (s : CreateStep) → is_bare (create_role x s) ≡ 0
+create_bares x LoadsDirectory = refl
+create_bares x (LoadsNode n) = refl
+create_bares x (ChargesChild n) = refl
+create_bares x (TakesNode n) = refl
+create_bares x RefundsChild = refl
+
+remove_bares : (x : Remove) (s : RemoveStep) → is_bare (remove_role x s) ≡ 0
+remove_bares x LoadsFileToRemove = refl
+remove_bares x (FreesNode file) = refl
+remove_bares x (CountsRemoved file) = refl
+remove_bares x (MarksRemoved file) = refl
+remove_bares x RefundsRemoved = refl
+remove_bares x (RefundsItsBlocks file) = refl
+remove_bares x (RefundsItsChild file) = refl
+
+grow_bares : (x : Grow) (s : GrowStep) → is_bare (grow_role x s) ≡ 0
+grow_bares x LoadsFileToGrow = refl
+grow_bares x (LoadsUsed file) = refl
+grow_bares x (ChargesBlocks file used) = refl
+grow_bares x (GrowsFile file) = refl
+grow_bares x RefundsBlocks = refl
+
+move_bares : (x : MoveTo) (s : MoveStep) → is_bare (move_role x s) ≡ 0
+move_bares x LoadsFileToMove = refl
+move_bares x (LoadsTarget file) = refl
+move_bares x (ChargesTarget file) = refl
+move_bares x (MovesFile file) = refl
+move_bares x (RefundsOne dir answer) = refl
+
+mark_bares : (x : Mark) (s : MarkStep) → is_bare (mark_role x s) ≡ 0
+mark_bares x LoadsFileToMark = refl
+mark_bares x (MarksFile file) = refl
+
+open_bares : (x : OpenFile) (s : OpenStep) → is_bare (open_role x s) ≡ 0
+open_bares x LoadsFileToOpen = refl
+open_bares x (OpensFile file) = refl
+
+close_bares : (x : ClosePhase) → is_bare (close_tree_role x) ≡ 0
+close_bares (CloseLoadsFile x) = refl
+close_bares (LowersCount x node) = refl
+close_bares (EntersLevel f node r) = refl
+close_bares (ClosesNode f p node) = refl
+close_bares (CloseRefundsBlocks p blocks) = refl
+close_bares (CloseUncounts p) = refl
+close_bares (CloseLeaves p) = refl
+
+snapshot_bares : (nodes : ℕ) (values : ℕ → ℕ) (s : SnapshotStep) → is_bare (snapshot_role nodes values s) ≡ 0
+snapshot_bares nodes values Locks = refl
+snapshot_bares nodes values LoadsStage = refl
+snapshot_bares nodes values LoadsUsedWord = refl
+snapshot_bares nodes values (LoadsNodeWord n) = refl
+snapshot_bares nodes values (LoadsKids n) = refl
+snapshot_bares nodes values (Releases answer) = refl
+
+tree_bares : (values : ℕ → ℕ) (x : TreePhase) → is_bare (phase_role values x) ≡ 0
+tree_bares values (Creates x) = create_bares x x.step
+tree_bares values (Removes x) = remove_bares x x.step
+tree_bares values (Grows x) = grow_bares x x.step
+tree_bares values (Moves x) = move_bares x x.step
+tree_bares values (Marks x) = mark_bares x x.step
+tree_bares values (OpensOne x) = open_bares x x.step
+tree_bares values (Snapshots x) = snapshot_bares x.nodes values x.step
+tree_bares values (Clears x) = refl
+
+-- nor is a freeze
+freeze_bares : (nodes : ℕ) (s : FreezeStep) → is_bare (freeze_tree_role nodes s) ≡ 0
+freeze_bares nodes (Cleans marks) = refl
+freeze_bares nodes SetsFs = refl
+freeze_bares nodes s = refl
+
+module _ (c : Config) (w : World) (good : IsGood c w) (t : ℕ) (lt : t < c.tasks) (m : ℕ) (lm : m < c.mounts)
+    (some : 0 < held_at (w.views t) m) (y : ℕ) (ly : y < c.tasks) where
+  -- where a task holds an access at a mount, no remount has found the mount empty, or skipped it
+  loop_shut : (b : Bool) → role_of m (w.views y).phase ≡ loop_role b true → ⊥
+  loop_shut true r =
+      let none : total c.tasks (λ x. admitted (mount_as_gate (at_mount m (w.views x)))) ≡ 0 =
+      subst (λ q. BarringHolds c.processors (w.words.count m) (total c.tasks (λ x. admitted (mount_as_gate (at_mount m (w.views x)))))
+      (λ k. total c.tasks (λ x. unread k (mount_as_gate (at_mount m (w.views x))))) (barring_of q)) r ((good (AtMount m) lm).gate.sums y ly) in
+      omega (arith, none, some, total_at c.tasks t (λ x. admitted (mount_as_gate (at_mount m (w.views x)))) lt)
+  loop_shut false r =
+      omega (arith, some, none_past c w good t lt m lm 2 ((good (AtMount m) lm).gate.open_to 2 ((good (AtMount m) lm).skipped y ly (ap skips r))))
+
+  -- so none is about to make the superblock read-only
+  remount_bares : (nodes : ℕ) (s : RemountStep) → role_of m (w.views y).phase ≡ remount_role m s → is_bare (remount_tree_role nodes s) ≡ 0
+  remount_bares nodes (SetsRemount held) r = absurd (loop_shut (has_mount held m) r)
+  remount_bares nodes (ClearsHold held) r = refl
+  remount_bares nodes (ClearsMark n) r = refl
+  remount_bares nodes SetsReadOnly r = refl
+  remount_bares nodes s r = refl
+
+  phase_bares : (p : Option Phase) → (w.views y).phase ≡ p → is_bare (tree_role_of (w.views y).trace p) ≡ 0
+  phase_bares (Some (Remounts x)) is = remount_bares x.nodes x.step (ap (role_of m) is)
+  phase_bares (Some (Freezes x)) is = freeze_bares x.nodes x.step
+  phase_bares (Some (Trees x)) is = tree_bares (values_noted (nodes_noted x) (w.views y).trace) x
+  phase_bares (Some (Closes x)) is = close_bares x
+  phase_bares p is = refl
 
 -- so nothing that a task is at clears a mark, where no remount is beginning and the task hasn't passed level 2
 phase_clears : (c : Config) (t : ℕ) (held : ℕ → ℕ) (levels : ℕ → Bool) (trace : List Traced) (p : Option Phase) → Fits c t held levels p →
@@ -135,6 +271,7 @@ phase_clears c t held levels trace (Some (Remounts x)) fits unset unpassed = rem
 phase_clears c t held levels trace (Some (Freezes x)) fits unset unpassed = freeze_clears x.nodes x.step unpassed
 phase_clears c t held levels trace (Some (Trees x)) fits unset unpassed =
     tree_clears c held levels (values_noted (nodes_noted x) trace) x fits.1
+phase_clears c t held levels trace (Some (Closes x)) fits unset unpassed = close_clears x
 phase_clears c t held levels trace p fits unset unpassed = refl
 
 module _ (c : Config) (w : World) (good : IsGood c w) where
@@ -172,6 +309,19 @@ module _ (c : Config) (w : World) (good : IsGood c w) where
         let both : (holds_level (w.views t) 2 ≡ true) × (some_mount c.mounts (held_at (w.views t)) ≡ true) = both_true _ _ faults in
         writer_apart c w good t lt 2 (inr refl) both.0 both.1
 
+    -- nor is one in the way of a writer who removes a file that is open
+    may_remove : is_writer c (held_at (w.views t)) (holds_level (w.views t)) ≡ true → MayRemove (tree_bounds c) (tree_of w)
+    may_remove writes =
+        let way : IsOpen w c.tasks 1 = writer_open writes in
+        let both : (holds_level (w.views t) 1 ≡ true) × (some_mount c.mounts (held_at (w.views t)) ≡ true) = both_true _ _ writes in
+        let m : (m : ℕ) × (m < c.mounts) × (0 < held_at (w.views t) m) = mount_there c.mounts (held_at (w.views t)) both.1 in
+        let clear : is_bare_at w.words ≡ 0 = λ j. bare_by (way.unset j) (way.writable j) in
+        record {
+          writable = λ e. omega (arith, e, clear);
+          nobody_bares = total_none c.tasks (λ y. is_bare (tree_roles w y)) (λ y ly.
+              phase_bares c w good t lt m.0 m.1 m.2 y ly (w.views y).phase refl);
+        }
+
     -- nobody is in the way of a page fault or a write-back
     may_mark_now : (dirty : Bool) → may_mark dirty c (held_at (w.views t)) (holds_level (w.views t)) ≡ true →
         MayMark dirty (tree_bounds c) (tree_of w)
@@ -184,10 +334,11 @@ module _ (c : Config) (w : World) (good : IsGood c w) where
     pub may_go : (x : TreePhase) → TreeAccess c (held_at (w.views t)) (holds_level (w.views t)) x →
         MayStep (tree_bounds c) (tree_of w) x
     may_go (Creates x) may = open_unread 1 (writer_open may)
-    may_go (Removes x) may = open_unread 1 (writer_open may)
+    may_go (Removes x) may = (open_unread 1 (writer_open may), may_remove may)
     may_go (Grows x) may = (open_unread 1 (writer_open may), may_dirty 1 (omega arith) (writer_open may))
     may_go (Moves x) may = open_unread 1 (writer_open may)
     may_go (Marks x) may = may_mark_now x.dirty may
+    may_go (OpensOne x) may = tt
     may_go (Snapshots x) may = tt
     may_go (Clears x) may = absurd may
 
@@ -228,6 +379,9 @@ module _ (c : Config) (w : World) (good : IsGood c w) where
     remove_leave : (x : Remove) (s : RemoveStep) (found : ℕ) → IsWriter (model_limits c) (shown c w) t → LeaveFor (remove_after x s found).1
     remove_leave x LoadsFileToRemove found leave = tt
     remove_leave x (FreesNode file) found leave = leave_if (found == word_of file) _ leave
+    remove_leave x (CountsRemoved file) found leave = tt
+    remove_leave x (MarksRemoved file) found leave = leave_if (found == word_of file) _ leave
+    remove_leave x RefundsRemoved found leave = tt
     remove_leave x (RefundsItsBlocks file) found leave = tt
     remove_leave x (RefundsItsChild file) found leave = tt
 
@@ -258,6 +412,11 @@ module _ (c : Config) (w : World) (good : IsGood c w) where
     mark_leave x LoadsFileToMark found may = tt
     mark_leave x (MarksFile file) found may = leave_if (found == word_of file) _ (mark_leave_now x.dirty x.file may)
 
+    -- an open has it where its task doesn't have the file open
+    open_leave : (x : OpenFile) (s : OpenStep) (found : ℕ) → has_open (w.views t) x.file ≡ false → LeaveFor (open_after x s found).1
+    open_leave x LoadsFileToOpen found own = tt
+    open_leave x (OpensFile file) found own = leave_if (found == word_of file) _ own
+
     snapshot_leave : (x : Snapshot) (s : SnapshotStep) (found : ℕ) → LeaveFor (snapshot_after x s found).1
     snapshot_leave x Locks found = tt
     snapshot_leave x LoadsStage found = tt
@@ -268,15 +427,17 @@ module _ (c : Config) (w : World) (good : IsGood c w) where
 
     -- each call has leave for the action of its next event
     pub call_leave : (x : TreePhase) (found : ℕ) (hook : HookAnswer) → TreeAccess c (held_at (w.views t)) (holds_level (w.views t)) x →
-        LeaveFor (after x found hook).1
-    call_leave (Creates x) found hook may = create_leave x x.step found (writer_shown may)
-    call_leave (Removes x) found hook may = remove_leave x x.step found (writer_shown may)
-    call_leave (Grows x) found hook may = grow_leave x x.step found (writer_shown may)
-    call_leave (Moves x) found hook may = move_leave x x.step found (writer_shown may)
-    call_leave (Marks x) found hook may = mark_leave x x.step found may
-    call_leave (Snapshots x) found hook may = snapshot_leave x x.step found
-    call_leave (Clears x) found hook may = absurd may
+        HasFile (has_open (w.views t)) (file_of (Some (Trees x))) → LeaveFor (after x found hook).1
+    call_leave (Creates x) found hook may own = create_leave x x.step found (writer_shown may)
+    call_leave (Removes x) found hook may own = remove_leave x x.step found (writer_shown may)
+    call_leave (Grows x) found hook may own = grow_leave x x.step found (writer_shown may)
+    call_leave (Moves x) found hook may own = move_leave x x.step found (writer_shown may)
+    call_leave (Marks x) found hook may own = mark_leave x x.step found may
+    call_leave (OpensOne x) found hook may own = open_leave x x.step found own
+    call_leave (Snapshots x) found hook may own = snapshot_leave x x.step found
+    call_leave (Clears x) found hook may own = absurd may
 
     -- so has the one that the task is at
     pub leave : (x : TreePhase) (found : ℕ) (hook : HookAnswer) → (w.views t).phase ≡ Some (Trees x) → LeaveFor (after x found hook).1
-    leave x found hook e = call_leave x found hook (call_fits x e).1
+    leave x found hook e =
+        call_leave x found hook (call_fits x e).1 (subst (λ p. HasFile (has_open (w.views t)) (file_of p)) e ((good Files).own t lt))

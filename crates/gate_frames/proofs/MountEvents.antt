@@ -1,10 +1,11 @@
 -- What the events of want, drop and change touch: the rest of the rule stays.
 use Rattle.gate_frames.proofs.Frames.{left_alone, level_view_as}
-use Rattle.gate_world.specs.Rules.{AtMount, Fitting, Holds, IsGood, Known, Owner, Part, SameView, SameWords, Stages, Holding, StepKeeps, at_gates, change_owns, owns, GateStepKeeps, Tree, AtLevel, SyncAt, Sections}
+use Rattle.gate_world.specs.Rules.{AtMount, Fitting, Holds, IsGood, Known, Owner, Part, SameView, SameWords, Stages, Holding, StepKeeps, at_gates, change_owns, owns, GateStepKeeps, Tree, AtLevel, SyncAt, Sections, Files}
 use Rattle.std.proofs.Common.{Bool, arith, inl, inr, refl, sym, true, true≢false, ◌≡◌, ◌<◌, ◌⊎◌, subst, ℕ, ◌∙◌, ap, List}
 use Rattle.mount_counts.specs.declared.phases.Change.{Change}
 use Rattle.mount_counts.specs.declared.phases.ChangeStep.{ChangeStep}
 use Rattle.mount_counts.specs.declared.phases.MountPhase.TheVariants.{Change as Changes, Drop as Drops, Want as Wants}
+use Rattle.gate_world.specs.Fits.{file_of}
 use Rattle.gate_world.specs.declared.config.Config.{Config}
 use Rattle.mount_counts.specs.declared.phases.WantStep.TheVariants.{CountsDown, CountsUp, LoadsSuperblock}
 use Rattle.access_model.specs.declared.replies.Next.TheVariants.{Done, Go, Wait}
@@ -12,11 +13,11 @@ use Rattle.cpu_words.specs.Hooks.{HookAnswer}
 use Rattle.gate_frames.proofs.Known.{IsOwnersWork, known_after}
 use Rattle.cpu_words.specs.declared.events.Touch.TheVariants.{Load}
 use Rattle.mount_counts.specs.declared.phases.ChangeStep.TheVariants.{LoadsSuperblock as LoadsSb, Locks, Sums}
-use Rattle.cpu_words.specs.declared.names.WordName.TheVariants.{MountCount, MountFlags, Stage, Holders, Umount, Node, SbFlags, Block, LevelCount, Sync, Section, Remount, Kids, Used}
+use Rattle.cpu_words.specs.declared.names.WordName.TheVariants.{MountCount, MountFlags, Stage, Holders, Umount, Node, SbFlags, Block, LevelCount, Sync, Section, Remount, Kids, Used, Removed}
 use Rattle.mount_counts.specs.declared.phases.MountPhase.{MountPhase}
 use Rattle.gate_world.specs.declared.work.Phase.TheVariants.{Mounts}
 use Rattle.access_model.specs.declared.replies.Next.{Next}
-use Rattle.std.specs.Prelude.{Some, false, sum, ◌==◌, if◌then◌else◌}
+use Rattle.std.specs.Prelude.{Some, false, sum, ◌==◌, if◌then◌else◌, None}
 use Rattle.cpu_words.specs.declared.events.Touch.{Touch}
 use Rattle.gate_world.specs.declared.views.View.{View}
 use Rattle.mount_counts.specs.declared.phases.Want.{Want}
@@ -31,7 +32,7 @@ use Rattle.gate_world.specs.Found.{is_load}
 use Rattle.gate_world.specs.Owners.{is_owned, takes_lock}
 use Rattle.gate_frames.proofs.Words.{load_same}
 use Rattle.access_model.specs.Replies.{map_next}
-use Rattle.gate_world.specs.Views.{phase_after, view_after, actions_after}
+use Rattle.gate_world.specs.Views.{phase_after, view_after, actions_after, has_open}
 use Rattle.gate_world.specs.Stages.{stage_role_of}
 use Rattle.stage_laws.specs.Roles.{Aside}
 use Rattle.holder_laws.specs.Roles.{Apart}
@@ -40,7 +41,7 @@ use Rattle.gate_counts.specs.Levels.{Out as CountsNot}
 use Rattle.level_laws.specs.Roles.{Out as IsApart}
 use Rattle.gate_world.specs.Levels.{inside, at_level, level_added_after, level_taken_after, level_role_of, sync_role_of, level_added_by, level_taken_by}
 use Rattle.access_model.specs.declared.actions.Action.{Action}
-use Rattle.access_model.specs.Histories.{levels_of}
+use Rattle.access_model.specs.Histories.{levels_of, opens_of}
 use Rattle.gate_world.specs.Trees.{tree_role_of}
 use Rattle.gate_world.specs.declared.views.Traced.{Traced}
 use Rattle.gated_tree.specs.Roles.{Out as OffTree}
@@ -89,7 +90,8 @@ same_words w Stages = (refl, refl, refl, refl)
 same_words w Holding = (refl, refl)
 same_words w Fitting = tt
 same_words w Known = (refl, refl, refl, refl, refl)
-same_words w Tree = (refl, refl, refl, refl)
+same_words w Tree = (refl, refl, refl, refl, refl, refl)
+same_words w Files = refl
 same_words w (AtMount m) = (refl, refl, refl, refl)
 same_words w (AtLevel i) = (refl, refl, refl)
 same_words w (SyncAt i) = (refl, refl, refl, refl)
@@ -128,10 +130,14 @@ unread Sections h k (Section t) q w n = absurd (true≢false (sym q))
 unread Sections h k word q w n = refl
 unread Tree h k Stage q w n = absurd (true≢false (sym q))
 unread Tree h k SbFlags q w n = absurd (true≢false (sym q))
+unread Tree h k Remount q w n = absurd (true≢false (sym q))
+unread Tree h k Removed q w n = absurd (true≢false (sym q))
 unread Tree h k Used q w n = absurd (true≢false (sym q))
 unread Tree h k (Node i) q w n = absurd (true≢false (sym q))
 unread Tree h k (Kids i) q w n = absurd (true≢false (sym q))
-unread Tree h k word q w n = (refl, refl, refl, refl)
+unread Tree h k word q w n = (refl, refl, refl, refl, refl, refl)
+unread Files h k (Node i) q w n = absurd (true≢false (sym q))
+unread Files h k word q w n = refl
 unread part h k word q w n = absurd (true≢false h)
 
 -- what the parts that an event of want, drop or change doesn't touch read of its task's view is the same
@@ -142,6 +148,8 @@ record IsUnseen (old new : View) : Type 0 where
   level_same : (i : ℕ) → at_level i new ≡ at_level i old
   sync_same : (i : ℕ) → sync_role_of i new.phase ≡ sync_role_of i old.phase
   inside_same : inside new.phase ≡ inside old.phase
+  open_same : has_open new ≡ has_open old
+  file_same : file_of new.phase ≡ file_of old.phase
 
 -- so they read the same
 unseen : (part : Part) → at_gates part ≡ false → is_known_part part ≡ false → (old new : View) → IsUnseen old new → SameView old new part
@@ -149,6 +157,7 @@ unseen Stages h k old new same = same.stage_same
 unseen Holding h k old new same = same.holder_same
 unseen Known h k old new same = absurd (true≢false k)
 unseen Tree h k old new same = same.tree_same
+unseen Files h k old new same = (same.open_same, same.file_same)
 unseen (AtLevel i) h k old new same = same.level_same i
 unseen (SyncAt i) h k old new same = same.sync_same i
 unseen Sections h k old new same = same.inside_same
@@ -275,6 +284,28 @@ mounts_levels (Wants x) found hook actions = want_levels x x.step found actions
 mounts_levels (Drops m p) found hook actions = refl
 mounts_levels (Changes x) found hook actions = change_levels x x.step found actions
 
+-- nor of a file
+want_opens : (x : Want) (s : WantStep) (found : ℕ) (actions : List Action) →
+    opens_of (actions_after (want_after x s found).1 actions) ≡ opens_of actions
+want_opens x LoadsSuperblock found actions = elim (cases_Bool (found == 0)) [ inl h ↦ rw h refl | inr h ↦ rw h refl ]
+want_opens x s found actions = refl
+
+change_opens : (x : Change) (s : ChangeStep) (found : ℕ) (actions : List Action) →
+    opens_of (actions_after (change_after x s found).1 actions) ≡ opens_of actions
+change_opens x Locks found actions = refl
+change_opens x s found actions = refl
+
+mounts_opens : (x : MountPhase) (found : ℕ) (hook : HookAnswer) (actions : List Action) →
+    opens_of (actions_after (after x found hook).1 actions) ≡ opens_of actions
+mounts_opens (Wants x) found hook actions = want_opens x x.step found actions
+mounts_opens (Drops m p) found hook actions = refl
+mounts_opens (Changes x) found hook actions = change_opens x x.step found actions
+
+mounts_files : (n : Next MountPhase) → file_of (phase_after (map_next Mounts n)) ≡ None
+mounts_files (Go phase) = refl
+mounts_files (Wait phase) = refl
+mounts_files (Done answer) = refl
+
 -- so their events are unseen at the levels
 mounts_unseen : (v : View) (x : MountPhase) (value : ℕ) (hook : HookAnswer) → v.phase ≡ Some (Mounts x) →
     IsUnseen v (view_after v (Mounts x) value hook)
@@ -299,6 +330,8 @@ mounts_unseen v x value hook e =
           (ap (λ f. f i) added) (ap (λ f. f i) taken) (mounts_count i (after x found hook).0 ∙ sym (ap (level_role_of i) e));
       sync_same = λ i. mounts_apart i (after x found hook).0 ∙ sym (ap (sync_role_of i) e);
       inside_same = mounts_outside (after x found hook).0 ∙ sym (ap inside e);
+      open_same = mounts_opens x found hook v.actions;
+      file_same = mounts_files (after x found hook).0 ∙ sym (ap file_of e);
     }
 
 -- what an event of want, drop or change leaves of the other parts

@@ -14,7 +14,7 @@ use Rattle.gate_world.specs.declared.work.Phase.{Phase}
 use Rattle.gate_world.specs.declared.work.Phase.TheVariants.{Trees}
 use Rattle.gate_world.specs.declared.views.Traced.{Traced}
 use Rattle.gate_world.specs.Configs.{IsWithin}
-use Rattle.gate_world.specs.Courses.{IsTrace, MayHold, course_of}
+use Rattle.gate_world.specs.Courses.{IsTrace, MayHold, MayFind, course_of}
 use Rattle.gate_world.specs.Found.{SeenIn}
 use Rattle.gate_world.specs.Traces.{actions_of, IsHonest, IsShort, Tells, most_events}
 use Rattle.gate_world.specs.Views.{with_hook}
@@ -72,7 +72,7 @@ module _ (c : Config) (file dir : ℕ) where
       Comes trace (events_before s) (move_after (move_of s) s (found_by (move_next (move_of s) s).1 value)).0
   move_goes LoadsFile value trace may =
       looked (Comes trace 0) (move_of LoadsFile) (λ node. move_of (LoadsDirectory node)) (file_in value)
-      (made_some (λ node. as_file node node.kind) (unpacked value) may)
+      (made_some (λ node. as_file node node.removed node.kind) (unpacked value) may)
       (λ node. (LoadsDirectory node, refl, tt, λ q. omega arith)) (λ refusal q. omega arith)
   move_goes (LoadsDirectory node) value trace may =
       looked (Comes trace 1) (move_of (LoadsDirectory node)) (λ found. move_of (ChargesChild node)) (directory_in value)
@@ -127,7 +127,7 @@ module _ (c : Config) (file dir : ℕ) where
         let s : MoveStep = here.0 in
         let x : Phase = Trees (Moves (move_of s)) in
         let e : Traced = with_hook (event_at x value hook) hook in
-        subst (λ (p : Phase). MayHold (next_of p hook).0 value → SaysAfter MoveAt c (MoveToOp file dir) p value hook earlier added)
+        subst (λ (p : Phase). MayFind p (next_of p hook).0 value → SaysAfter MoveAt c (MoveToOp file dir) p value hook earlier added)
         (sym here.1)
         (λ holds.
         call_says MoveTo MoveStep Moves move_of Knows so_far IsThere events_before 5 false c (MoveToOp file dir)

@@ -10,10 +10,14 @@ use Rattle.cpu_words.specs.Hooks.{HookAnswer}
 use Rattle.cpu_words.specs.Touches.{left}
 use Rattle.cpu_words.specs.Words.{Words, read, put}
 use Rattle.gated_tree.specs.declared.phases.TreePhase.{TreePhase}
-use Rattle.gated_tree.specs.declared.phases.TreePhase.TheVariants.{Create as Creates, Remove as Removes, Grow as Grows, MoveTo as Moves, Mark as Marks, Snapshot as Snapshots, ClearMarks as Clears}
+use Rattle.gated_tree.specs.declared.phases.TreePhase.TheVariants.{OpenFile as OpensOne, Create as Creates, Remove as Removes, Grow as Grows, MoveTo as Moves, Mark as Marks, Snapshot as Snapshots, ClearMarks as Clears}
 use Rattle.gated_tree.specs.Phases.{next, after, create_after, remove_after, grow_after, move_after, mark_after, clear_after}
 use Rattle.gated_tree.specs.Calls.{phase_role, role_after}
 use Rattle.tree_laws.specs.Steps.{Notes}
+use Rattle.cpu_words.specs.declared.names.WordName.TheVariants.{Removed}
+use Rattle.gated_tree.specs.Phases.{open_after}
+use Rattle.gate_world.specs.Rules.{Files}
+use Rattle.gate_frames.proofs.NodeParts.{call_files}
 use Rattle.gate_world.specs.declared.config.Config.{Config}
 use Rattle.gate_world.specs.declared.views.Traced.{Traced}
 use Rattle.gate_world.specs.declared.work.Phase.{Phase}
@@ -60,6 +64,7 @@ other_after (Removes x) found hook other = stays_other Removes (λ y. refl) (rem
 other_after (Grows x) found hook other = stays_other Grows (λ y. refl) (grow_after x x.step found).0
 other_after (Moves x) found hook other = stays_other Moves (λ y. refl) (move_after x x.step found).0
 other_after (Marks x) found hook other = stays_other Marks (λ y. refl) (mark_after x x.step found).0
+other_after (OpensOne x) found hook other = stays_other OpensOne (λ y. refl) (open_after x x.step found).0
 other_after (Snapshots x) found hook other = absurd (true≢false other)
 other_after (Clears x) found hook other = stays_other Clears (λ y. refl) (clear_after x found).0
 
@@ -87,15 +92,17 @@ notes_nothing (Snapshots x) values noted found other = absurd (true≢false othe
 notes_nothing x values noted found other = tt
 
 -- a write of a word of the tree leaves `umount`
-umount_same : (w : Words) (word : WordName) (n : ℕ) → is_node_word word ≡ true → (put w word n).umount ≡ w.umount
+pub umount_same : (w : Words) (word : WordName) (n : ℕ) → is_node_word word ≡ true → (put w word n).umount ≡ w.umount
 umount_same w Used n h = refl
+umount_same w Removed n h = refl
 umount_same w (Node x) n h = refl
 umount_same w (Kids d) n h = refl
 umount_same w word n h = absurd (true≢false (sym h))
 
 -- and is none that only the owner changes
-not_owned : (word : WordName) → is_node_word word ≡ true → is_owned word ≡ false
+pub not_owned : (word : WordName) → is_node_word word ≡ true → is_owned word ≡ false
 not_owned Used h = refl
+not_owned Removed h = refl
 not_owned (Node x) h = refl
 not_owned (Kids d) h = refl
 not_owned word h = absurd (true≢false (sym h))
@@ -149,6 +156,7 @@ module _ (c : Config) (within : IsWithin c) (w : World) (good : IsGood c w) (t :
   each_part Fitting = call_fitting c w good t lt x hook e within
   each_part Known = known_after c w t (Trees x) hook good lt e plain_work
   each_part Tree = tree_kept.0
+  each_part Files = call_files c w good t lt x hook e tree_kept.1 within
   each_part (AtMount m) = gate_parts c w good t lt x hook e (AtMount m) refl
   each_part (AtLevel i) = gate_parts c w good t lt x hook e (AtLevel i) refl
   each_part (SyncAt i) = gate_parts c w good t lt x hook e (SyncAt i) refl

@@ -1,6 +1,6 @@
 -- An event of a call at the tree: it leaves the mounts, the levels and the sections alone, and all of the shown model but the tree. A
 -- snapshot is such a call, too.
-use Rattle.std.proofs.Common.{◌≡◌, ℕ, ◌<◌, ◌⊎◌, ◌∙◌, inl, inr, refl, sym, ap, Bool, true, false, true≢false, subst}
+use Rattle.std.proofs.Common.{arith, ◌≡◌, ℕ, ◌<◌, ◌⊎◌, ◌∙◌, inl, inr, refl, sym, ap, Bool, true, false, true≢false, subst}
 use Rattle.std.specs.Prelude.{◌==◌, ◌||◌, Option, Some, None, Result, Ok, Err, if◌then◌else◌}
 use Rattle.finite_sums.specs.Sums.{update}
 use Rattle.finite_sums.proofs.Totals.{each_updated, update_same}
@@ -21,7 +21,7 @@ use Rattle.gated_tree.specs.declared.changes.CreateStep.{CreateStep}
 use Rattle.gated_tree.specs.declared.changes.CreateStep.TheVariants.{LoadsDirectory, LoadsNode, ChargesChild, TakesNode, RefundsChild}
 use Rattle.gated_tree.specs.declared.changes.Remove.{Remove}
 use Rattle.gated_tree.specs.declared.changes.RemoveStep.{RemoveStep}
-use Rattle.gated_tree.specs.declared.changes.RemoveStep.TheVariants.{LoadsFile as LoadsFileToRemove, FreesNode, RefundsBlocks as RefundsItsBlocks, RefundsChild as RefundsItsChild}
+use Rattle.gated_tree.specs.declared.changes.RemoveStep.TheVariants.{LoadsFile as LoadsFileToRemove, FreesNode, CountsRemoved, MarksRemoved, RefundsRemoved, RefundsBlocks as RefundsItsBlocks, RefundsChild as RefundsItsChild}
 use Rattle.gated_tree.specs.declared.changes.MoveTo.{MoveTo}
 use Rattle.gated_tree.specs.declared.changes.MoveStep.{MoveStep}
 use Rattle.gated_tree.specs.declared.changes.MoveStep.TheVariants.{LoadsFile as LoadsFileToMove, LoadsDirectory as LoadsTarget, ChargesChild as ChargesTarget, MovesFile, RefundsChild as RefundsOne}
@@ -36,7 +36,7 @@ use Rattle.gated_tree.specs.declared.snapshots.Snapshot.{Snapshot}
 use Rattle.gated_tree.specs.declared.snapshots.SnapshotStep.{SnapshotStep}
 use Rattle.gated_tree.specs.declared.snapshots.SnapshotStep.TheVariants.{Locks, LoadsStage, LoadsUsed as LoadsUsedWord, LoadsNode as LoadsNodeWord, LoadsKids, Releases}
 use Rattle.gated_tree.specs.declared.phases.TreePhase.{TreePhase}
-use Rattle.gated_tree.specs.declared.phases.TreePhase.TheVariants.{Create as Creates, Remove as Removes, Grow as Grows, MoveTo as Moves, Mark as Marks, Snapshot as Snapshots, ClearMarks as Clears}
+use Rattle.gated_tree.specs.declared.phases.TreePhase.TheVariants.{OpenFile as OpensOne, Create as Creates, Remove as Removes, Grow as Grows, MoveTo as Moves, Mark as Marks, Snapshot as Snapshots, ClearMarks as Clears}
 use Rattle.gated_tree.specs.Nodes.{word_of, node_shown, file_in, dirty_in}
 use Rattle.gated_tree.specs.Phases.{next, after, after_look, create_next, create_after, remove_next, remove_after, grow_next, grow_after, move_next, move_after, mark_next, mark_after, mark_done, at_mark, snapshot_next, snapshot_after, clear_after}
 use Rattle.gated_tree.specs.Calls.{phase_role, role_after, TreePhaseFits, NextFits}
@@ -51,6 +51,22 @@ use Rattle.tree_laws.proofs.Phases.{each_phase}
 use Rattle.holder_laws.specs.Roles.{Apart}
 use Rattle.gate_world.specs.Holders.{holder_role_of}
 use Rattle.freeze_levels.specs.Holders.{holders_in}
+use Rattle.gated_tree.specs.declared.opens.OpenFile.{OpenFile}
+use Rattle.gated_tree.specs.declared.opens.OpenStep.{OpenStep}
+use Rattle.gated_tree.specs.declared.opens.OpenStep.TheVariants.{LoadsFile as LoadsFileToOpen, OpensFile}
+use Rattle.cpu_words.specs.declared.names.WordName.TheVariants.{Removed}
+use Rattle.gated_tree.specs.Phases.{open_next, open_after}
+use Rattle.gated_tree.specs.Roles.{bare_by}
+use Rattle.gate_world.specs.Trees.{is_bare_at}
+use Rattle.gate_world.specs.Views.{has_open}
+use Rattle.gate_world.specs.Fits.{HasFile, file_of, opens_by}
+use Rattle.gate_world.specs.Rules.{Files}
+use Rattle.gate_frames.proofs.Accesses.{opens_of_after}
+use Rattle.tree_laws.specs.Events.{opens_shown}
+use Rattle.access_model.specs.States.{openers}
+use Rattle.access_model.proofs.Openers.{most_tasks_is}
+use Rattle.finite_sums.proofs.Totals.{update_map}
+use Rattle.gate_frames.proofs.OpenFiles.{same_counts, files_counted, file_then}
 use Rattle.gate_world.specs.declared.config.Config.{Config}
 use Rattle.gate_world.specs.declared.views.View.{View}
 use Rattle.gate_world.specs.declared.work.Phase.{Phase}
@@ -79,6 +95,7 @@ use Rattle.access_model.specs.declared.errors.GateError.TheVariants.{Again}
 -- the words of the tree
 abbrev pub is_node_word : WordName → Bool
 is_node_word Used = true
+is_node_word Removed = true
 is_node_word (Node n) = true
 is_node_word (Kids d) = true
 is_node_word word = false
@@ -87,13 +104,15 @@ is_node_word word = false
 abbrev pub is_call_word : WordName → Bool
 is_call_word Umount = true
 is_call_word Used = true
+is_call_word Removed = true
 is_call_word (Node n) = true
 is_call_word (Kids d) = true
 is_call_word word = false
 
 -- the first are among the second
-node_call : (word : WordName) → is_node_word word ≡ true → is_call_word word ≡ true
+pub node_call : (word : WordName) → is_node_word word ≡ true → is_call_word word ≡ true
 node_call Used h = refl
+node_call Removed h = refl
 node_call (Node n) h = refl
 node_call (Kids d) h = refl
 node_call word h = absurd (true≢false (sym h))
@@ -109,6 +128,9 @@ create_word x RefundsChild = refl
 remove_word : (x : Remove) (s : RemoveStep) → is_node_word (remove_next x s).0 ≡ true
 remove_word x LoadsFileToRemove = refl
 remove_word x (FreesNode file) = refl
+remove_word x (CountsRemoved file) = refl
+remove_word x (MarksRemoved file) = refl
+remove_word x RefundsRemoved = refl
 remove_word x (RefundsItsBlocks file) = refl
 remove_word x (RefundsItsChild file) = refl
 
@@ -130,6 +152,10 @@ mark_word : (x : Mark) (s : MarkStep) → is_node_word (mark_next x s).0 ≡ tru
 mark_word x LoadsFileToMark = refl
 mark_word x (MarksFile file) = refl
 
+open_word : (x : OpenFile) (s : OpenStep) → is_node_word (open_next x s).0 ≡ true
+open_word x LoadsFileToOpen = refl
+open_word x (OpensFile file) = refl
+
 -- the call is a snapshot
 abbrev pub is_snapshot : TreePhase → Bool
 is_snapshot (Snapshots x) = true
@@ -142,6 +168,7 @@ node_word (Removes x) hook other = remove_word x x.step
 node_word (Grows x) hook other = grow_word x x.step
 node_word (Moves x) hook other = move_word x x.step
 node_word (Marks x) hook other = mark_word x x.step
+node_word (OpensOne x) hook other = open_word x x.step
 node_word (Snapshots x) hook other = absurd (true≢false other)
 node_word (Clears x) hook other = refl
 
@@ -177,7 +204,7 @@ pub record IsBesideTree (old new : Words) : Type 0 where
   pub section_same : new.section ≡ old.section
 
 -- where nothing is written, all words are
-same_beside : (w : Words) → IsBesideTree w w
+pub same_beside : (w : Words) → IsBesideTree w w
 same_beside w = record {
   stage_same = refl;
   holders_same = refl;
@@ -192,7 +219,7 @@ same_beside w = record {
 }
 
 -- where such a word is written
-write_beside : (w : Words) (word : WordName) (n : ℕ) → is_call_word word ≡ true → IsBesideTree w (put w word n)
+pub write_beside : (w : Words) (word : WordName) (n : ℕ) → is_call_word word ≡ true → IsBesideTree w (put w word n)
 write_beside w Umount n h = record {
   stage_same = refl;
   holders_same = refl;
@@ -206,6 +233,18 @@ write_beside w Umount n h = record {
   section_same = refl;
 }
 write_beside w Used n h = record {
+  stage_same = refl;
+  holders_same = refl;
+  sb_same = refl;
+  remount_same = refl;
+  flags_same = refl;
+  count_same = refl;
+  block_same = refl;
+  sync_same = refl;
+  level_same = refl;
+  section_same = refl;
+}
+write_beside w Removed n h = record {
   stage_same = refl;
   holders_same = refl;
   sb_same = refl;
@@ -244,7 +283,7 @@ write_beside w (Kids d) n h = record {
 write_beside w word n h = absurd (true≢false (sym h))
 
 -- and where a word is loaded
-load_beside : (w : Words) (word : WordName) (touch : Touch) → is_load touch ≡ true → IsBesideTree w (put w word (left touch (read w word)))
+pub load_beside : (w : Words) (word : WordName) (touch : Touch) → is_load touch ≡ true → IsBesideTree w (put w word (left touch (read w word)))
 load_beside w word Load h = subst (IsBesideTree w) (sym (load_same w word)) (same_beside w)
 load_beside w word touch h = absurd (true≢false (sym h))
 
@@ -262,6 +301,9 @@ whole_beside old new same = λ j. is_full (same.stage_same j) (same.sb_same j)
 
 pub sealed_beside : (old new : Words) → IsBesideTree old new → is_sealed new ≡ is_sealed old
 sealed_beside old new same = λ j. sealed_by (same.sb_same j) (same.stage_same j)
+
+pub bare_beside : (old new : Words) → IsBesideTree old new → is_bare_at new ≡ is_bare_at old
+bare_beside old new same = λ j. bare_by (same.remount_same j) (same.sb_same j)
 
 -- a write of such a word counts at no mount and at no level
 added_call : (word : WordName) (touch : Touch) (added : ℕ → ℕ → ℕ) → is_call_word word ≡ true → added_after word touch added ≡ added
@@ -292,14 +334,14 @@ taken_loaded word Load taken h = taken_load word taken
 taken_loaded word touch taken h = absurd (true≢false (sym h))
 
 -- so no event of a call counts anywhere
-record CountsNowhere (x : WordName × Touch) : Type 0 where
-  added : (a : ℕ → ℕ → ℕ) → added_after x.0 x.1 a ≡ a
-  taken : (a : ℕ → ℕ → ℕ) → taken_after x.0 x.1 a ≡ a
-  level_added : (a : ℕ → ℕ → ℕ) → level_added_after x.0 x.1 a ≡ a
-  level_taken : (a : ℕ → ℕ → ℕ) → level_taken_after x.0 x.1 a ≡ a
+pub record CountsNowhere (x : WordName × Touch) : Type 0 where
+  pub added : (a : ℕ → ℕ → ℕ) → added_after x.0 x.1 a ≡ a
+  pub taken : (a : ℕ → ℕ → ℕ) → taken_after x.0 x.1 a ≡ a
+  pub level_added : (a : ℕ → ℕ → ℕ) → level_added_after x.0 x.1 a ≡ a
+  pub level_taken : (a : ℕ → ℕ → ℕ) → level_taken_after x.0 x.1 a ≡ a
 
 -- each such touch counts nowhere
-counts_nowhere : (x : WordName × Touch) → IsCallTouch x → CountsNowhere x
+pub counts_nowhere : (x : WordName × Touch) → IsCallTouch x → CountsNowhere x
 counts_nowhere x touches = elim touches [
   | inl h ↦ record {
     added = λ a. added_loaded x.0 x.1 a h;
@@ -321,11 +363,11 @@ pub record LeavesAccesses (action : Option Action) : Type 0 where
   pub levels : (held : ℕ → Bool) → levels_by action held ≡ held
 
 -- where there is none
-leaves_none : LeavesAccesses None
+pub leaves_none : LeavesAccesses None
 leaves_none = record { mounts = λ held. refl; levels = λ held. refl }
 
 -- where there is one that does, or none
-leaves_if : (b : Bool) (action : Action) → LeavesAccesses (Some action) → LeavesAccesses (if b then Some action else None)
+pub leaves_if : (b : Bool) (action : Action) → LeavesAccesses (Some action) → LeavesAccesses (if b then Some action else None)
 leaves_if true action h = h
 leaves_if false action h = leaves_none
 
@@ -339,6 +381,9 @@ create_leaves x RefundsChild found = leaves_none
 remove_leaves : (x : Remove) (s : RemoveStep) (found : ℕ) → LeavesAccesses (remove_after x s found).1
 remove_leaves x LoadsFileToRemove found = leaves_none
 remove_leaves x (FreesNode file) found = leaves_if (found == word_of file) _ (record { mounts = λ held. refl; levels = λ held. refl })
+remove_leaves x (CountsRemoved file) found = leaves_none
+remove_leaves x (MarksRemoved file) found = leaves_if (found == word_of file) _ (record { mounts = λ held. refl; levels = λ held. refl })
+remove_leaves x RefundsRemoved found = leaves_none
 remove_leaves x (RefundsItsBlocks file) found = leaves_none
 remove_leaves x (RefundsItsChild file) found = leaves_none
 
@@ -364,6 +409,10 @@ mark_leaves : (x : Mark) (s : MarkStep) (found : ℕ) → LeavesAccesses (mark_a
 mark_leaves x LoadsFileToMark found = leaves_none
 mark_leaves x (MarksFile file) found = leaves_if (found == word_of file) _ (done_leaves x.dirty x.file)
 
+open_leaves : (x : OpenFile) (s : OpenStep) (found : ℕ) → LeavesAccesses (open_after x s found).1
+open_leaves x LoadsFileToOpen found = leaves_none
+open_leaves x (OpensFile file) found = leaves_if (found == word_of file) _ (record { mounts = λ held. refl; levels = λ held. refl })
+
 snapshot_leaves : (x : Snapshot) (s : SnapshotStep) (found : ℕ) → LeavesAccesses (snapshot_after x s found).1
 snapshot_leaves x Locks found = leaves_none
 snapshot_leaves x LoadsStage found = leaves_none
@@ -382,6 +431,7 @@ call_leaves (Removes x) found hook = remove_leaves x x.step found
 call_leaves (Grows x) found hook = grow_leaves x x.step found
 call_leaves (Moves x) found hook = move_leaves x x.step found
 call_leaves (Marks x) found hook = mark_leaves x x.step found
+call_leaves (OpensOne x) found hook = open_leaves x x.step found
 call_leaves (Snapshots x) found hook = snapshot_leaves x x.step found
 call_leaves (Clears x) found hook = clear_leaves x found
 
@@ -421,6 +471,7 @@ module _ (c : Config) (held : ℕ → ℕ) (levels : ℕ → Bool) where
   access_after (Grows x) found hook may = comes_with Grows (λ y. may) (grow_after x x.step found).0
   access_after (Moves x) found hook may = comes_with Moves (λ y. may) (move_after x x.step found).0
   access_after (Marks x) found hook may = mark_access x x.step found may
+  access_after (OpensOne x) found hook may = comes_with OpensOne (λ y. tt) (open_after x x.step found).0
   access_after (Snapshots x) found hook may = comes_with Snapshots (λ y. may) (snapshot_after x x.step found).0
   access_after (Clears x) found hook may = absurd may
 
@@ -459,7 +510,7 @@ pub record IsOffGates (p : Option Phase) : Type 0 where
   pub unheld : holder_role_of p ≡ Apart
 
 -- no operation is under way
-idle_off : IsOffGates None
+pub idle_off : IsOffGates None
 idle_off = record {
   out_of_mounts = λ m. refl;
   off_levels = record { counts_not = λ i. refl; apart = λ i. refl; outside = refl };
@@ -508,7 +559,7 @@ is_gate_part Sections = true
 is_gate_part part = false
 
 -- what they read of the words
-gate_words : (part : Part) → is_gate_part part ≡ true → (old new : Words) → IsBesideTree old new → SameWords old new part
+pub gate_words : (part : Part) → is_gate_part part ≡ true → (old new : Words) → IsBesideTree old new → SameWords old new part
 gate_words Holding h old new same = (same.stage_same, same.holders_same)
 gate_words (AtMount m) h old new same = (ap (λ f. f m) same.flags_same, same.remount_same, same.sb_same, ap (λ f. f m) same.count_same)
 gate_words (AtLevel i) h old new same = (ap (λ f. f i) same.block_same, ap (λ f. f i) same.level_same, whole_beside old new same)
@@ -581,14 +632,22 @@ module _ (c : Config) (w : World) (good : IsGood c w) (t : ℕ) (lt : t < c.task
       (call_goes_on c (held_at (w.views t)) (holds_level (w.views t)) within t x call_found hook (call_fits c w good t lt x e))))
       (λ ne. good Fitting y ly)
 
-  -- the shown model is as it was but for the tree
-  pub call_shown : shown c (after_step w t (Trees x) hook) ≡ record (shown c w) { tree = λ n. node_shown (call_words.node n) }
+  -- which files the task has open then
+  pub opens_then : has_open call_view ≡ opens_by call_action (has_open (w.views t))
+  opens_then = opens_of_after call_action (w.views t).actions
+
+  -- the shown model is as it was but for the tree and the task's open files
+  pub call_shown : shown c (after_step w t (Trees x) hook) ≡ record (shown c w) {
+    opens = update (shown c w).opens t (opens_by call_action ((shown c w).opens t));
+    tree = λ n. node_shown (call_words.node n);
+  }
   call_shown =
       let same : IsBesideTree w.words call_words = call_beside w.words x hook in
       shown_as c w t lt call_words call_view same.block_same (λ i. now_off.closing_none i ∙ sym (was_off.closing_none i)) ∙
       (λ j. record (shown c w) {
         mounts = (ap (update (λ y. held_at (w.views y)) t) held_still ∙ update_same (λ y. held_at (w.views y)) t) j;
         levels = (ap (update (λ y. holds_level (w.views y)) t) levels_still ∙ update_same (λ y. holds_level (w.views y)) t) j;
+        opens = ap (update (λ y. has_open (w.views y)) t) opens_then j;
         mount_ro = λ m. ro_bit (same.flags_same j m) == 1;
         sb_ro = same.remount_same j == 1 || same.sb_same j == 1;
         stage = same.stage_same j;
@@ -597,14 +656,37 @@ module _ (c : Config) (w : World) (good : IsGood c w) (t : ℕ) (lt : t < c.task
       })
 
   -- so where the nodes that are shown move by the event's action, the model does
-  shown_moves : (action : Option Action) → LeaveFor c w good t lt action →
+  shown_moves : (action : Option Action) → call_action ≡ action → LeaveFor c w good t lt action →
       MovesBy (tree_bounds c) w.words.node call_words.node action →
       ModelMoves c (shown c w) t action (shown c (after_step w t (Trees x) hook))
-  shown_moves None leave moves = call_shown ∙ (λ j. record (shown c w) { tree = moves j })
-  shown_moves (Some action) leave moves = (
+  shown_moves None is leave moves =
+      call_shown ∙
+      (λ j. record (shown c w) {
+        opens = (ap (λ a. update (shown c w).opens t (opens_by a ((shown c w).opens t))) is ∙ update_same (shown c w).opens t) j;
+        tree = moves.0 j;
+      })
+  shown_moves (Some action) is leave moves = (
     (lt, may_do (model_limits c) (shown c w) t action leave moves.allowed),
-    call_shown ∙ (λ j. record (shown c w) { tree = moves.effect j }) ∙ sym (tree_alone (model_limits c) (shown c w) t action leave),
+    call_shown ∙
+        (λ j. record (shown c w) {
+          opens = ap (λ a. update (shown c w).opens t (opens_by a ((shown c w).opens t))) is j;
+          tree = (moves.effect ∙ same_counts (tree_bounds c) (opens_shown w.words.node) (openers (shown c w).opens) (shown c w).tree action
+              moves.allowed (λ n ln. (good Files).counted n ln)) j;
+        }) ∙ sym (tree_alone (model_limits c) (shown c w) t action leave),
   )
+
+  -- the files of the world then: as many tasks have each open as its word says
+  pub call_files : MovesBy (tree_bounds c) w.words.node call_words.node call_action → IsWithin c → Holds c (after_step w t (Trees x) hook) Files
+  call_files moves within = record {
+    counted = λ n ln.
+        files_counted (model_limits c) (shown c w) t (omega (arith, lt, within.tasks, most_tasks_is)) w.words.node call_words.node call_action
+        (leave c w good t lt x call_found hook e) moves (good Files).counted n ln ∙
+        sym (ap (λ f. openers f n) (update_map has_open w.views t call_view ∙ ap (update (λ y. has_open (w.views y)) t) opens_then));
+    own = λ y ly. each_updated (λ z (u : View). HasFile (has_open u) (file_of u.phase)) w.views t call_view y
+        (subst (λ f. HasFile f (file_of call_view.phase)) (sym opens_then)
+        (file_then (has_open (w.views t)) x call_found hook (subst (λ p. HasFile (has_open (w.views t)) (file_of p)) e ((good Files).own t lt))))
+        (λ ne. (good Files).own y ly);
+  }
 
   -- what the tree's own law says of the event, where a snapshot has noted this after it
   abbrev pub TreeKeeps : Type 0
@@ -614,18 +696,21 @@ module _ (c : Config) (w : World) (good : IsGood c w) (t : ℕ) (lt : t < c.task
   pub call_keeps : IsWithin c → (noted : ℕ → ℕ) → Notes x (values_noted (nodes_noted x) (w.views t).trace) noted call_found →
       role_after (phase_role noted) call_next ≡ tree_role_of call_view.trace call_view.phase → TreeKeeps
   call_keeps within noted notes role =
-      let kept : StepKeeps (tree_bounds c) (is_sealed w.words) w.words (tree_roles w) t x noted hook =
-      each_phase (tree_bounds c) (tree_within c within) (is_sealed w.words) w.words (tree_roles w) (good Tree) t lt x
+      let kept : StepKeeps (tree_bounds c) (is_sealed w.words) (is_bare_at w.words) w.words (tree_roles w) t x noted hook =
+      each_phase (tree_bounds c) (tree_within c within) (is_sealed w.words) (is_bare_at w.words) w.words (tree_roles w) (good Tree) t lt x
       (values_noted (nodes_noted x) (w.views t).trace) noted hook (ap (tree_role_of (w.views t).trace) e) (call_fits c w good t lt x e).0
       (may_step c w good t lt x e) notes in
       let now_roles : ℕ → Role = update (tree_roles w) t (tree_role_of call_view.trace call_view.phase) in (
         tree_holds c w good t lt call_words call_view
-            (subst (λ s. TreeHolds (tree_bounds c) (tree_in s call_words now_roles))
+            (subst (λ s. TreeHolds (tree_bounds c) (tree_in s (is_bare_at call_words) call_words now_roles))
             (sym (sealed_beside w.words call_words (call_beside w.words x hook)))
-            (subst (λ r. TreeHolds (tree_bounds c) (tree_in (is_sealed w.words) call_words (update (tree_roles w) t r))) role kept.0)),
+            (subst (λ b. TreeHolds (tree_bounds c) (tree_in (is_sealed w.words) b call_words now_roles))
+            (sym (bare_beside w.words call_words (call_beside w.words x hook)))
+            (subst (λ r. TreeHolds (tree_bounds c) (tree_in (is_sealed w.words) (is_bare_at w.words) call_words (update (tree_roles w) t r)))
+            role kept.0))),
         kept.1,
       )
 
   -- so the shown model moves by the event's action
   pub call_moves : TreeKeeps → ModelMoves c (shown c w) t call_action (shown c (after_step w t (Trees x) hook))
-  call_moves kept = shown_moves call_action (leave c w good t lt x call_found hook e) kept.1
+  call_moves kept = shown_moves call_action refl (leave c w good t lt x call_found hook e) kept.1

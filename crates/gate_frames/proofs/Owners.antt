@@ -17,7 +17,7 @@ use Rattle.gate_world.specs.declared.work.Phase.TheVariants.{Mounts, Remounts, W
 use Rattle.write_access.specs.declared.phases.WritePhase.{WritePhase}
 use Rattle.write_access.specs.declared.phases.WritePhase.TheVariants.{Wants as WriteWants}
 use Rattle.gate_world.specs.declared.views.View.{View}
-use Rattle.gate_world.specs.Views.{held_at, holds_level, added_by, taken_by}
+use Rattle.gate_world.specs.Views.{held_at, holds_level, added_by, taken_by, has_open}
 use Rattle.gate_world.specs.Worlds.{World}
 use Rattle.gate_world.specs.Shown.{shown, closing}
 use Rattle.gate_world.specs.Waits.{IsWaitedFor, HasCulprit}
@@ -26,7 +26,7 @@ use Rattle.gate_frames.proofs.Frames.{view_as, holds_as, MountHoldsAfter, owner_
 use Rattle.mount_counts.specs.declared.remounts.RemountStep.{RemountStep}
 use Rattle.gate_world.specs.Remounts.{loop_role, held_role, giving_role, remount_owns, summing_role, remount_role, remount_sets}
 use Rattle.cpu_words.specs.declared.sums.Sum.{Sum}
-use Rattle.mount_counts.specs.declared.remounts.RemountStep.TheVariants.{LoadsFlags as RemountLoads, SetsHold as RemountHolds, Sums as RemountSums, SetsRemount, ClearsHold as RemountClears, GivesUp, Locks as RemountLocks}
+use Rattle.mount_counts.specs.declared.remounts.RemountStep.TheVariants.{LoadsFlags as RemountLoads, SetsHold as RemountHolds, Sums as RemountSums, LoadsRemovedAgain, LeavesHolds, SetsRemount, ClearsHold as RemountClears, GivesUp, Locks as RemountLocks}
 use Rattle.mount_counts.specs.Sets.{has_mount}
 use Rattle.stage_laws.proofs.Facts.{owns_le as stage_owns_le}
 use Rattle.gate_world.specs.Stages.{freeze_stage_role, thaw_stage_role, tree_stage_role}
@@ -95,6 +95,8 @@ remount_hold m (RemountLoads at held) = loop_hold (has_mount held m) (nat_lt m a
 remount_hold m (RemountHolds at held) = loop_hold (has_mount held m) (nat_lt m at)
 remount_hold m (RemountSums at held sum) =
     summing_hold (m == at) sum (loop_role (has_mount held m) (nat_lt m at)) (loop_hold (has_mount held m) (nat_lt m at))
+remount_hold m (LoadsRemovedAgain held) = loop_hold (has_mount held m) true
+remount_hold m (LeavesHolds held) = held_hold (has_mount held m)
 remount_hold m (SetsRemount held) = loop_hold (has_mount held m) true
 remount_hold m (RemountClears held) = held_hold (has_mount held m)
 remount_hold m (GivesUp at held) = giving_hold (m == at) (has_mount held m)
@@ -262,19 +264,19 @@ module _ (c : Config) (w : World) (good : IsGood c w) (t : ℕ) (lt : t < c.task
 
   -- an event that leaves all words but `umount`, and the task's role at each mount
   pub umount_law : (n : ℕ) (v : View) → OwnerHolds c.tasks n w.words.remount (λ x. (update w.views t v x).phase) → ViewFits c t v →
-      held_at v ≡ held_at (w.views t) → holds_level v ≡ holds_level (w.views t) →
+      held_at v ≡ held_at (w.views t) → holds_level v ≡ holds_level (w.views t) → has_open v ≡ has_open (w.views t) →
       added_by v.events ≡ added_by (w.views t).events → taken_by v.events ≡ taken_by (w.views t).events →
       ((y : ℕ) → role_of y v.phase ≡ role_of y (w.views t).phase) → ((i : ℕ) → closing i v.phase ≡ closing i (w.views t).phase) →
       let next_world : World = record { words = record w.words { umount = n }; views = update w.views t v } in
       GatesHold c next_world × (shown c next_world ≡ shown c w)
-  umount_law n v owner fits held levels added taken role close =
+  umount_law n v owner fits held levels opens added taken role close =
       let ws : Words = record w.words { umount = n } in
       let same : (y : ℕ) → at_mount y v ≡ at_mount y (w.views t) =
       λ y. view_as (ap (λ g. g y) held) (ap (λ g. g y) added) (ap (λ g. g y) taken) (role y) in (
         gates_after c w t lt good 0 ws v refl refl owner fits (λ y ne. (refl, refl, same y))
             (λ lm. holds_as refl refl refl refl
             (ap (update (λ x. at_mount 0 (w.views x)) t) (same 0) ∙ update_same (λ x. at_mount 0 (w.views x)) t) (good (AtMount 0) lm)),
-        shown_still c w t lt ws v refl refl refl refl refl refl refl close held levels,
+        shown_still c w t lt ws v refl refl refl refl refl refl refl close held levels opens,
       )
 
   -- an owner's event on the flags of a mount
@@ -297,21 +299,22 @@ module _ (c : Config) (w : World) (t : ℕ) (lt : t < c.tasks) (m f : ℕ) (v : 
 
   -- the shown model then, where READONLY is so and the task has the same accesses
   pub flags_shown : (b : Bool) → IsSteady (w.views t).phase v.phase → (ro_bit f == 1) ≡ b →
-      held_at v ≡ held_at (w.views t) → holds_level v ≡ holds_level (w.views t) →
+      held_at v ≡ held_at (w.views t) → holds_level v ≡ holds_level (w.views t) → has_open v ≡ has_open (w.views t) →
       shown c flags_after ≡ record (shown c w) { mount_ro = update (λ n. ro_bit (w.words.flags n) == 1) m b }
-  flags_shown b same h eh el =
+  flags_shown b same h eh el eo =
       let ro : (λ n. ro_bit (update w.words.flags m f n) == 1) ≡ update (λ n. ro_bit (w.words.flags n) == 1) m b =
       update_map (λ x. ro_bit x == 1) w.words.flags m f ∙ ap (update (λ n. ro_bit (w.words.flags n) == 1) m) h in
       shown_as c w t lt (record w.words { flags = update w.words.flags m f }) v refl same.closing_same ∙
       (λ j. record (shown c w) {
         mounts = (ap (update (λ x. held_at (w.views x)) t) eh ∙ update_same (λ x. held_at (w.views x)) t) j;
         levels = (ap (update (λ x. holds_level (w.views x)) t) el ∙ update_same (λ x. holds_level (w.views x)) t) j;
+        opens = (ap (update (λ x. has_open (w.views x)) t) eo ∙ update_same (λ x. has_open (w.views x)) t) j;
         mount_ro = ro j;
       })
 
   -- where READONLY stays
   pub flags_show_same : IsSteady (w.views t).phase v.phase → ro_bit f ≡ ro_bit (w.words.flags m) →
-      held_at v ≡ held_at (w.views t) → holds_level v ≡ holds_level (w.views t) → shown c flags_after ≡ shown c w
-  flags_show_same same h eh el =
-      flags_shown (ro_bit (w.words.flags m) == 1) same (ap (λ x. x == 1) h) eh el ∙
+      held_at v ≡ held_at (w.views t) → holds_level v ≡ holds_level (w.views t) → has_open v ≡ has_open (w.views t) → shown c flags_after ≡ shown c w
+  flags_show_same same h eh el eo =
+      flags_shown (ro_bit (w.words.flags m) == 1) same (ap (λ x. x == 1) h) eh el eo ∙
       (λ j. record (shown c w) { mount_ro = update_same (λ n. ro_bit (w.words.flags n) == 1) m j })

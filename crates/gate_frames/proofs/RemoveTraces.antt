@@ -1,5 +1,5 @@
 -- Traces of a remove.
-use Rattle.std.proofs.Common.{◌≡◌, ℕ, ◌≤◌, Bool, false, refl, sym, subst, inl, inr, arith}
+use Rattle.std.proofs.Common.{◌≡◌, ℕ, ◌<◌, ◌≤◌, Bool, false, refl, sym, subst, inl, inr, arith}
 use Rattle.std.specs.Prelude.{◌==◌, Result, Ok, Err, List, ◌∷◌, length}
 use Rattle.std.proofs.lemmas.Bool.{cases_Bool}
 use Rattle.access_model.specs.declared.actions.Action.{Action}
@@ -14,7 +14,7 @@ use Rattle.gate_world.specs.declared.work.Phase.{Phase}
 use Rattle.gate_world.specs.declared.work.Phase.TheVariants.{Trees}
 use Rattle.gate_world.specs.declared.views.Traced.{Traced}
 use Rattle.gate_world.specs.Configs.{IsWithin}
-use Rattle.gate_world.specs.Courses.{IsTrace, MayHold, course_of}
+use Rattle.gate_world.specs.Courses.{IsTrace, MayHold, MayFind, course_of}
 use Rattle.gate_world.specs.Found.{SeenIn}
 use Rattle.gate_world.specs.Traces.{actions_of, IsShort, Tells, most_events}
 use Rattle.gate_world.specs.Views.{with_hook}
@@ -26,24 +26,32 @@ use Rattle.gate_world.specs.declared.operations.Op.TheVariants.{Remove as Remove
 use Rattle.gate_world.specs.Operations.{first_remove}
 use Rattle.gated_tree.specs.declared.changes.Remove.{Remove}
 use Rattle.gated_tree.specs.declared.changes.RemoveStep.{RemoveStep}
-use Rattle.gated_tree.specs.declared.changes.RemoveStep.TheVariants.{LoadsFile, FreesNode, RefundsBlocks, RefundsChild}
+use Rattle.gated_tree.specs.declared.changes.RemoveStep.TheVariants.{LoadsFile, FreesNode, CountsRemoved, MarksRemoved, RefundsRemoved, RefundsBlocks, RefundsChild}
 use Rattle.gated_tree.specs.declared.phases.TreePhase.TheVariants.{Remove as Removes}
+use Rattle.gated_tree.specs.declared.nodes.NodeWord.{NodeWord}
 use Rattle.gated_tree.specs.Nodes.{word_of, as_file, unpacked, file_in}
-use Rattle.gated_tree.specs.Phases.{at_remove, remove_after, remove_next}
+use Rattle.gated_tree.specs.Phases.{at_remove, removes_file, remove_after, remove_next}
 use Rattle.gated_tree.specs.Refusals.{FileHonest}
-use Rattle.tree_laws.specs.Ends.{IsReply, remove_added, where_done}
+use Rattle.tree_laws.specs.Ends.{IsReply, RemoveKnows, remove_added, where_done}
 use Rattle.tree_laws.proofs.Ends.{remove_ends}
 
 -- how many events a remove has done before a step
 abbrev events_before : RemoveStep → ℕ
 events_before LoadsFile = 0
 events_before (FreesNode file) = 1
+events_before (CountsRemoved file) = 1
+events_before (MarksRemoved file) = 2
+events_before RefundsRemoved = 3
 events_before (RefundsBlocks file) = 2
 events_before (RefundsChild file) = 3
 
+-- a remove that has loaded its file has done one event
+removes_later : (file : NodeWord) (opens : ℕ) → 0 < events_before (removes_file file opens)
+removes_later file opens = elim (cases_Bool (opens == 0)) [ inl e ↦ rw e (omega arith) | inr e ↦ rw e (omega arith) ]
+
 -- what a remove knows at its step, and what it has added
 abbrev Knows : ((Event → Bool) → Type 0) → Remove → Type 0
-Knows seen x = Unit {0}
+Knows seen x = RemoveKnows seen x x.step
 
 abbrev so_far : Remove → List Action
 so_far x = remove_added x x.step
@@ -69,13 +77,19 @@ module _ (c : Config) (file : ℕ) where
   remove_goes : (s : RemoveStep) (value : ℕ) (trace : List Traced) → MayHold (remove_next (remove_of s) s).0 value →
       Comes trace (events_before s) (remove_after (remove_of s) s (found_by (remove_next (remove_of s) s).1 value)).0
   remove_goes LoadsFile value trace may =
-      looked (Comes trace 0) (remove_of LoadsFile) (λ node. remove_of (FreesNode node)) (file_in value)
-      (made_some (λ node. as_file node node.kind) (unpacked value) may)
-      (λ node. (FreesNode node, refl, tt, λ q. omega arith)) (λ refusal q. omega arith)
+      looked (Comes trace 0) (remove_of LoadsFile) (λ node. remove_of (removes_file node node.opens)) (file_in value)
+      (made_some (λ node. as_file node node.removed node.kind) (unpacked value) may)
+      (λ node. (removes_file node node.opens, refl, tt, λ q. removes_later node node.opens)) (λ refusal q. omega arith)
   remove_goes (FreesNode node) value trace may = elim (cases_Bool (value == word_of node)) [
     | inl e ↦ rw e (RefundsBlocks node, refl, tt, λ q. omega arith)
     | inr e ↦ rw e (λ q. omega arith)
   ]
+  remove_goes (CountsRemoved node) value trace may = (MarksRemoved node, refl, tt, λ q. omega arith)
+  remove_goes (MarksRemoved node) value trace may = elim (cases_Bool (value == word_of node)) [
+    | inl e ↦ rw e (RefundsChild node, refl, tt, λ q. omega arith)
+    | inr e ↦ rw e (RefundsRemoved, refl, tt, λ q. omega arith)
+  ]
+  remove_goes RefundsRemoved value trace may = λ q. omega arith
   remove_goes (RefundsBlocks node) value trace may = (RefundsChild node, refl, tt, λ q. omega arith)
   remove_goes (RefundsChild node) value trace may = λ q. omega arith
 
@@ -100,6 +114,9 @@ module _ (c : Config) (file : ℕ) where
   remove_within : (s : RemoveStep) (trace : List Traced) → length trace ≤ events_before s → length trace ≤ 4
   remove_within LoadsFile trace h = omega (arith, h)
   remove_within (FreesNode file) trace h = omega (arith, h)
+  remove_within (CountsRemoved file) trace h = omega (arith, h)
+  remove_within (MarksRemoved file) trace h = omega (arith, h)
+  remove_within RefundsRemoved trace h = omega (arith, h)
   remove_within (RefundsBlocks file) trace h = omega (arith, h)
   remove_within (RefundsChild file) trace h = omega (arith, h)
 
@@ -111,7 +128,7 @@ module _ (c : Config) (file : ℕ) where
         let s : RemoveStep = here.0 in
         let x : Phase = Trees (Removes (remove_of s)) in
         let e : Traced = with_hook (event_at x value hook) hook in
-        subst (λ (p : Phase). MayHold (next_of p hook).0 value → SaysAfter RemoveAt c (RemoveOp file) p value hook earlier added)
+        subst (λ (p : Phase). MayFind p (next_of p hook).0 value → SaysAfter RemoveAt c (RemoveOp file) p value hook earlier added)
         (sym here.1)
         (λ holds.
         call_says Remove RemoveStep Removes remove_of Knows so_far IsThere events_before 4 false c (RemoveOp file)
@@ -119,7 +136,7 @@ module _ (c : Config) (file : ℕ) where
         (remove_answers (e ∷ earlier)) (events_before s) here.2.3
         (remove_after (remove_of s) s (found_by (remove_next (remove_of s) s).1 value)).0
         (remove_after (remove_of s) s (found_by (remove_next (remove_of s) s).1 value)).1 (remove_added (remove_of s) s) added here.2.2
-        (remove_ends (SeenIn earlier) (SeenIn (e ∷ earlier)) (remove_of s) s value (sees e earlier))
+        (remove_ends (SeenIn earlier) (SeenIn (e ∷ earlier)) (remove_of s) s value here.2.1 (sees e earlier))
         (remove_goes s value (e ∷ earlier) holds))
         may;
     short = λ trace phase added here. remove_within here.0 trace (here.2.3 refl);

@@ -20,7 +20,7 @@ use Rattle.gate_world.specs.Views.{held_at, holds_level, phase_after, actions_af
 use Rattle.gate_world.specs.Fits.{Fits, mounts_by, levels_by}
 use Rattle.gate_world.specs.Worlds.{World}
 use Rattle.gate_world.specs.Shown.{shown}
-use Rattle.gate_world.specs.Rules.{ViewFits, Part, Owner, Stages, Holding, Fitting, Known, AtMount, Holds, IsGood, Moves, Tree, AtLevel, SyncAt, Sections}
+use Rattle.gate_world.specs.Rules.{ViewFits, Part, Owner, Stages, Holding, Fitting, Known, AtMount, Holds, IsGood, Moves, Tree, AtLevel, SyncAt, Sections, Files}
 use Rattle.gate_world.specs.Alike.{IsAlike, at_phase, rephased}
 use Rattle.gate_frames.proofs.Frames.{view_as, shown_still, left_alone, level_view_as}
 
@@ -51,7 +51,9 @@ module _ (c : Config) (w : World) (t : ℕ) (lt : t < c.tasks) (q : Option Phase
   rephased_part fits good Known =
       left_alone c w t lt Known w.words (at_phase (w.views t) q) (refl, refl, refl, refl, refl) (same.steady.owns_same, refl) (good Known)
   rephased_part fits good Tree =
-      left_alone c w t lt Tree w.words (at_phase (w.views t) q) (refl, refl, refl, refl) (same.tree_same (w.views t).trace) (good Tree)
+      left_alone c w t lt Tree w.words (at_phase (w.views t) q) (refl, refl, refl, refl, refl, refl) (same.tree_same (w.views t).trace) (good Tree)
+  rephased_part fits good Files =
+      left_alone c w t lt Files w.words (at_phase (w.views t) q) refl (refl, same.file_same) (good Files)
   rephased_part fits good (AtMount m) =
       left_alone c w t lt (AtMount m) w.words (at_phase (w.views t) q) (refl, refl, refl, refl) (view_as refl refl refl (same.role_same m))
       (good (AtMount m))
@@ -69,7 +71,7 @@ module _ (c : Config) (w : World) (t : ℕ) (lt : t < c.tasks) (q : Option Phase
 
   -- and the shown model is the same
   pub rephased_shown : shown c (rephased w t q) ≡ shown c w
-  rephased_shown = shown_still c w t lt w.words (at_phase (w.views t) q) refl refl refl refl refl refl refl same.steady.closing_same refl refl
+  rephased_shown = shown_still c w t lt w.words (at_phase (w.views t) q) refl refl refl refl refl refl refl same.steady.closing_same refl refl refl
 
 -- the accesses after an action more
 mounts_more : (a : Option Action) (actions : List Action) → mounts_of (actions_after a actions) ≡ mounts_by a (mounts_of actions)

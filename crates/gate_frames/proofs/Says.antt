@@ -14,7 +14,7 @@ use Rattle.gate_world.specs.declared.views.Traced.{Traced}
 use Rattle.gate_world.specs.Work.{next_of, after_of}
 use Rattle.gate_world.specs.Views.{actions_after, with_hook}
 use Rattle.gate_world.specs.Beginnings.{first_phase}
-use Rattle.gate_world.specs.Courses.{course_after, course_of, IsEventOf, IsNext, IsTrace, MayHold}
+use Rattle.gate_world.specs.Courses.{course_after, course_of, IsEventOf, IsNext, IsTrace, MayFind}
 use Rattle.gate_world.specs.Traces.{most_events, IsShort, Tells}
 
 -- what a trace says by where its operation stands, where `At` is what it says at a phase
@@ -39,7 +39,7 @@ SaysAfter At c op phase value hook earlier added =
 pub record KeptWell (At : List Traced → Phase → List Action → Type 0) (c : Config) (t : ℕ) (op : Op) : Type 0 where
   pub first : At [] (first_phase c t op) []
   pub more : (phase : Phase) (value : ℕ) (hook : HookAnswer) (earlier : List Traced) (added : List Action) →
-      MayHold (next_of phase hook).0 value → At earlier phase added → SaysAfter At c op phase value hook earlier added
+      MayFind phase (next_of phase hook).0 value → At earlier phase added → SaysAfter At c op phase value hook earlier added
   pub short : (trace : List Traced) (phase : Phase) (added : List Action) → At trace phase added → IsShort (most_events c op) trace
 
 -- the same, where an event keeps it whatever its word held

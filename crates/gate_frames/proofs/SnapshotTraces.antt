@@ -17,7 +17,7 @@ use Rattle.gate_world.specs.declared.work.Phase.{Phase}
 use Rattle.gate_world.specs.declared.work.Phase.TheVariants.{Trees}
 use Rattle.gate_world.specs.declared.views.Traced.{Traced}
 use Rattle.gate_world.specs.Configs.{IsWithin}
-use Rattle.gate_world.specs.Courses.{IsTrace, MayHold, course_of}
+use Rattle.gate_world.specs.Courses.{IsTrace, MayHold, MayFind, course_of}
 use Rattle.gate_world.specs.Found.{SeenIn, each_event, finds_taken}
 use Rattle.gate_world.specs.Operations.{first_snapshot}
 use Rattle.gate_world.specs.Traces.{IsHonest, IsShort, Tells, most_events}
@@ -160,7 +160,7 @@ module _ (c : Config) (t : ℕ) (wait : Bool) where
         let s : SnapshotStep = here.0 in
         let x : Phase = Trees (Snapshots (snapshot_of s)) in
         let e : Traced = with_hook (event_at x value hook) hook in
-        subst (λ (p : Phase). MayHold (next_of p hook).0 value → SaysAfter SnapshotAt c (SnapshotOp wait) p value hook earlier added)
+        subst (λ (p : Phase). MayFind p (next_of p hook).0 value → SaysAfter SnapshotAt c (SnapshotOp wait) p value hook earlier added)
         (sym here.1)
         (λ holds.
         call_says Snapshot SnapshotStep Snapshots snapshot_of Knows so_far (IsThere c) (events_before c) (2 * c.nodes + 4) wait c

@@ -18,7 +18,7 @@ use Rattle.gate_world.specs.Views.{view_with, view_after, view_after_beside}
 use Rattle.gate_world.specs.Worlds.{World, value_at, found_at, words_after, after_step, after_step_beside}
 use Rattle.gate_world.specs.Shown.{shown}
 use Rattle.gate_world.specs.Moments.{CompletesNow}
-use Rattle.gate_world.specs.Rules.{Part, Owner, Stages, Holding, Fitting, Known, AtMount, Holds, IsGood, Tree, AtLevel, SyncAt, Sections}
+use Rattle.gate_world.specs.Rules.{Part, Owner, Stages, Holding, Fitting, Known, AtMount, Holds, IsGood, Tree, AtLevel, SyncAt, Sections, Files}
 
 -- a view, and a world, without their snapshots
 abbrev bare_view : View → View
@@ -35,6 +35,7 @@ bare_part c w Holding = refl
 bare_part c w Fitting = refl
 bare_part c w Known = refl
 bare_part c w Tree = refl
+bare_part c w Files = refl
 bare_part c w (AtMount m) = refl
 bare_part c w (AtLevel i) = refl
 bare_part c w (SyncAt i) = refl

@@ -20,14 +20,14 @@ use Rattle.stage_laws.proofs.Whole.{events_keep, actions_are_allowed, actions_ha
 use Rattle.gate_world.specs.declared.config.Config.{Config}
 use Rattle.gate_world.specs.declared.views.View.{View}
 use Rattle.gate_world.specs.declared.work.Phase.{Phase}
-use Rattle.gate_world.specs.declared.work.Phase.TheVariants.{Mounts, Remounts, DownReads, UpReads, Callbacks, Writes, Freezes, Thaws, Trees}
+use Rattle.gate_world.specs.declared.work.Phase.TheVariants.{Mounts, Remounts, DownReads, UpReads, Callbacks, Writes, Freezes, Thaws, Trees, Closes}
 use Rattle.freeze_levels.specs.Holders.{holders_in}
 use Rattle.gate_world.specs.Configs.{model_limits}
 use Rattle.gate_world.specs.Remounts.{remount_owns}
 use Rattle.gate_world.specs.Rules.{owns, IsGood, Holds, Owner, Stages, marks_of}
 use Rattle.gate_world.specs.Shown.{shown, stage_roles}
 use Rattle.gate_world.specs.Stages.{stage_role_of, remount_stage_role}
-use Rattle.gate_world.specs.Views.{held_at, holds_level}
+use Rattle.gate_world.specs.Views.{held_at, holds_level, has_open}
 use Rattle.gate_world.specs.Worlds.{World}
 use Rattle.gate_frames.proofs.Owners.{owns_le}
 use Rattle.gate_frames.proofs.Trees.{marks_right}
@@ -60,6 +60,7 @@ stage_owner (Some (Writes x)) = omega arith
 stage_owner (Some (Freezes x)) = omega arith
 stage_owner (Some (Thaws x)) = omega arith
 stage_owner (Some (Trees x)) = omega arith
+stage_owner (Some (Closes x)) = omega arith
 
 -- a node without a mark is shown without one
 clean_shown : (word : ℕ) → dirty_in word ≡ 0 → is_dirty (node_shown word) ≡ false
@@ -141,19 +142,22 @@ module _ (c : Config) (w : World) (good : IsGood c w) where
 
     -- The shown model after an event of a task that holds what it held at the mounts and the levels, and that leaves the flags of the
     -- mounts: it is a state that shows the stage then, who holds a freeze, and the nodes, and is else as it was.
-    pub shown_by : ws.flags ≡ w.words.flags → held_at v ≡ held_at (w.views t) → holds_level v ≡ holds_level (w.views t) → (s : State) →
+    pub shown_by : ws.flags ≡ w.words.flags → held_at v ≡ held_at (w.views t) → holds_level v ≡ holds_level (w.views t) →
+        has_open v ≡ has_open (w.views t) → (s : State) →
         ShowsStages c.tasks ws.stage ws.sb ws.remount ws.block (update (stage_roles w) t (stage_role_of v.phase)) s →
-        s.mounts ≡ (shown c w).mounts → s.levels ≡ (shown c w).levels → s.mount_ro ≡ (shown c w).mount_ro →
+        s.mounts ≡ (shown c w).mounts → s.levels ≡ (shown c w).levels → s.opens ≡ (shown c w).opens → s.mount_ro ≡ (shown c w).mount_ro →
         s.holders ≡ holders_in ws.holders → s.tree ≡ (λ n. node_shown (ws.node n)) → shown c (record { words = ws; views = update w.views t v }) ≡ s
-    shown_by flags held levels s shows em el ef eo et = λ j. record {
+    shown_by flags held levels opens s shows em el eo ef eh et = λ j. record {
       mounts = (update_map held_at w.views t v ∙ ap (update (λ x. held_at (w.views x)) t) held ∙
           update_same (λ x. held_at (w.views x)) t ∙ sym em) j;
       levels = (update_map holds_level w.views t v ∙ ap (update (λ x. holds_level (w.views x)) t) levels ∙
           update_same (λ x. holds_level (w.views x)) t ∙ sym el) j;
+      opens = (update_map has_open w.views t v ∙ ap (update (λ x. has_open (w.views x)) t) opens ∙
+          update_same (λ x. has_open (w.views x)) t ∙ sym eo) j;
       mount_ro = (ap {B = ℕ → Bool} (λ (f : ℕ → ℕ) m. ro_bit (f m) == 1) flags ∙ sym ef) j;
       sb_ro = sym shows.sb_same j;
       stage = sym shows.stage_same j;
-      holders = sym eo j;
+      holders = sym eh j;
       passed = (ap (passed_shown c.tasks ws.block) (update_map (λ (u : View). stage_role_of u.phase) w.views t v) ∙
           sym shows.passed_same) j;
       tree = sym et j;

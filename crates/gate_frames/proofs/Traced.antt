@@ -15,10 +15,10 @@ use Rattle.gate_world.specs.declared.work.Phase.{Phase}
 use Rattle.gate_world.specs.declared.views.View.{View}
 use Rattle.gate_world.specs.declared.views.Traced.{Traced}
 use Rattle.gate_world.specs.Work.{next_of, after_of}
-use Rattle.gate_world.specs.Views.{phase_after, actions_after, with_hook, view_after, begun_view, held_at, holds_level}
+use Rattle.gate_world.specs.Views.{phase_after, actions_after, with_hook, view_after, begun_view, held_at, holds_level, has_open}
 use Rattle.gate_world.specs.Beginnings.{first_phase, view_refusal, refusal}
 use Rattle.gate_world.specs.Worlds.{World, Entry, Begins, Steps, begin_refusal, begin_of, value_at, step_of, happens, opening}
-use Rattle.gate_world.specs.Courses.{course_with, course_after, course_of, IsEventOf, IsNext, IsTraced, MayHold, AllTraced, EventsMayBe}
+use Rattle.gate_world.specs.Courses.{course_with, course_after, course_of, IsEventOf, IsNext, IsTraced, MayFind, AllTraced, EventsMayBe}
 use Rattle.gate_frames.proofs.Says.{event_at}
 
 -- where an operation stands at this phase, its event is the next, and what comes after it is the course after it
@@ -40,7 +40,7 @@ newest (Some a) actions added before h = ap (λ l. a ∷ l) h
 
 -- the next event of a view that follows its operation
 step_follows : (c : Config) (t : ℕ) (v : View) (op : Option Op) (phase : Phase) (value : ℕ) (hook : HookAnswer) → v.phase ≡ Some phase →
-    MayHold (next_of phase hook).0 value → IsTraced c t v op → IsTraced c t (view_after v phase value hook) op
+    MayFind phase (next_of phase hook).0 value → IsTraced c t v op → IsTraced c t (view_after v phase value hook) op
 step_follows c t v None phase value hook e may h = absurd (cc)
 step_follows c t v (Some op) phase value hook e may h =
     let event : Traced = with_hook (event_at phase value hook) hook in
@@ -58,7 +58,7 @@ step_follows c t v (Some op) phase value hook e may h =
 
 -- why an operation can't begin, where another is under way or none is
 abbrev unless_under_way : Config → View → Op → Bool → Option GateError
-unless_under_way c v op under_way = refusal c under_way (held_at v) (holds_level v) op
+unless_under_way c v op under_way = refusal c under_way (held_at v) (holds_level v) (has_open v) op
 
 -- an operation that begins finds none under way
 idle_refusal : (c : Config) (v : View) (op : Op) (under_way : Bool) → unless_under_way c v op under_way ≡ None →

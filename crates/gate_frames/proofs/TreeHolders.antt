@@ -137,7 +137,7 @@ pub record IsOpen (w : World) (tasks i : ℕ) : Type 0 where
 
 module _ (c : Config) (w : World) (good : IsGood c w) (t : ℕ) (lt : t < c.tasks) where
   -- where something shuts a mount, the task holds no access there
-  none_past : (m : ℕ) → m < c.mounts → (k : ℕ) →
+  pub none_past : (m : ℕ) → m < c.mounts → (k : ℕ) →
       total c.tasks (λ x. past k (mount_as_gate (at_mount m (w.views x)))) ≡ 0 → held_at (w.views t) m ≡ 0
   none_past m lm k none =
       omega (arith, none, total_at c.tasks t (λ x. past k (mount_as_gate (at_mount m (w.views x)))) lt)

@@ -8,7 +8,7 @@ use Rattle.access_model.specs.States.{is_dirty, IsDirectory}
 use Rattle.access_model.specs.declared.actions.Action.{Action}
 use Rattle.cpu_words.specs.Words.{Words}
 use Rattle.mount_counts.specs.declared.remounts.RemountStep.{RemountStep}
-use Rattle.mount_counts.specs.declared.remounts.RemountStep.TheVariants.{ClearsHold, ClearsMark, SetsReadOnly, ClearsRemount}
+use Rattle.mount_counts.specs.declared.remounts.RemountStep.TheVariants.{ClearsHold, ClearsMark, SetsReadOnly, ClearsRemount, SetsRemount}
 use Rattle.access_model.specs.declared.actions.Holder.{Holder}
 use Rattle.freeze_levels.specs.declared.freezes.FreezeStep.{FreezeStep}
 use Rattle.freeze_levels.specs.declared.freezes.FreezeStep.TheVariants.{Closes, Cleans, SetsFs, Reopens as FreezeReopens}
@@ -17,17 +17,22 @@ use Rattle.gated_tree.specs.Roles.{TreeHolds, TreeState, AreWithin, RoleHolds, C
 use Rattle.tree_laws.specs.Events.{Event, MovesBy}
 use Rattle.tree_laws.proofs.Each.{each_event}
 use Rattle.stage_laws.specs.Roles.{MarksHold, CleanBelow, clean_by, KnowsStage, Freezing}
+use Rattle.file_closes.specs.declared.phases.ClosePhase.{ClosePhase}
+use Rattle.file_closes.specs.declared.phases.ClosePhase.TheVariants.{LoadsFile as CloseLoadsFile, LowersCount, Enters, FreesNode as ClosesNode, RefundsBlocks as CloseRefundsBlocks, Uncounts as CloseUncounts, Leaves as CloseLeaves}
+use Rattle.gated_tree.specs.declared.opens.OpenFile.{OpenFile}
+use Rattle.gated_tree.specs.declared.opens.OpenStep.{OpenStep}
+use Rattle.gated_tree.specs.declared.opens.OpenStep.TheVariants.{LoadsFile as LoadsFileToOpen, OpensFile}
 use Rattle.gate_world.specs.declared.config.Config.{Config}
 use Rattle.gate_world.specs.declared.views.View.{View}
 use Rattle.gate_world.specs.declared.views.Traced.{Traced}
 use Rattle.gate_world.specs.declared.work.Phase.{Phase}
-use Rattle.gate_world.specs.declared.work.Phase.TheVariants.{Mounts, Remounts, DownReads, UpReads, Callbacks, Writes, Freezes, Thaws, Trees}
+use Rattle.gate_world.specs.declared.work.Phase.TheVariants.{Mounts, Remounts, DownReads, UpReads, Callbacks, Writes, Freezes, Thaws, Trees, Closes}
 use Rattle.gate_world.specs.Configs.{IsWithin}
 use Rattle.gate_world.specs.Fits.{Fits, FreezeFits, PhaseFits}
 use Rattle.gate_world.specs.Rules.{IsGood, Holds, Tree, Stages, Fitting, marks_of}
 use Rattle.gate_world.specs.Shown.{stage_roles}
 use Rattle.gate_world.specs.Stages.{stage_role_of, remount_stage_role, freeze_stage_role, reopening_role, snapshot_stage_role, thaw_stage_role, tree_stage_role, place_of}
-use Rattle.gate_world.specs.Trees.{tree_bounds, tree_of, tree_role_of, tree_roles, is_sealed, remount_tree_role, freeze_tree_role, nodes_noted}
+use Rattle.gate_world.specs.Trees.{tree_bounds, tree_of, tree_role_of, tree_roles, is_sealed, remount_tree_role, freeze_tree_role, nodes_noted, is_bare_at, close_tree_role}
 use Rattle.gate_world.specs.Views.{held_at, holds_level}
 use Rattle.gate_world.specs.Worlds.{World}
 use Rattle.std.proofs.lemmas.Bool.{le-leb}
@@ -40,7 +45,7 @@ use Rattle.gated_tree.specs.declared.phases.TreePhase.{TreePhase}
 use Rattle.percpu_rwsem.specs.declared.writers.UpWriteStep.TheVariants.{Exits, ClearsBlock}
 use Rattle.gated_tree.specs.declared.snapshots.SnapshotStep.TheVariants.{Locks as SnapshotLocks, LoadsStage as SnapshotLoadsStage, LoadsUsed as SnapshotLoadsUsed, LoadsNode as SnapshotLoadsNode, LoadsKids as SnapshotLoadsKids, Releases as SnapshotReleases}
 use Rattle.freeze_levels.specs.declared.thaws.ThawStep.TheVariants.{Reopens as ThawReopens}
-use Rattle.gated_tree.specs.declared.phases.TreePhase.TheVariants.{Snapshot as Snapshots, Create as Creates, Remove as Removes, Grow as Grows, MoveTo as Moves, Mark as TreeMarks, ClearMarks as TreeClears}
+use Rattle.gated_tree.specs.declared.phases.TreePhase.TheVariants.{OpenFile as OpensOne, Snapshot as Snapshots, Create as Creates, Remove as Removes, Grow as Grows, MoveTo as Moves, Mark as TreeMarks, ClearMarks as TreeClears}
 use Rattle.percpu_rwsem.specs.declared.writers.DownWriteStep.TheVariants.{Sums}
 use Rattle.gated_tree.specs.declared.snapshots.Snapshot.{Snapshot}
 use Rattle.gated_tree.specs.declared.changes.Create.{Create}
@@ -49,7 +54,7 @@ use Rattle.gated_tree.specs.declared.growth.Grow.{Grow}
 use Rattle.gated_tree.specs.declared.changes.MoveTo.{MoveTo}
 use Rattle.gated_tree.specs.declared.marks.Mark.{Mark}
 use Rattle.gated_tree.specs.Roles.{words_read}
-use Rattle.gated_tree.specs.Calls.{snapshot_role, phase_role, create_role, remove_role, grow_role, move_role, mark_role}
+use Rattle.gated_tree.specs.Calls.{snapshot_role, phase_role, create_role, remove_role, grow_role, move_role, mark_role, open_role}
 use Rattle.gated_tree.specs.declared.changes.CreateStep.{CreateStep}
 use Rattle.gated_tree.specs.declared.changes.RemoveStep.{RemoveStep}
 use Rattle.gated_tree.specs.declared.growth.GrowStep.{GrowStep}
@@ -57,7 +62,7 @@ use Rattle.gated_tree.specs.declared.changes.MoveStep.{MoveStep}
 use Rattle.gated_tree.specs.declared.marks.MarkStep.{MarkStep}
 use Rattle.gate_world.specs.Snapshots.{values_noted}
 use Rattle.gated_tree.specs.declared.changes.CreateStep.TheVariants.{LoadsDirectory, LoadsNode, ChargesChild, TakesNode, RefundsChild}
-use Rattle.gated_tree.specs.declared.changes.RemoveStep.TheVariants.{LoadsFile as LoadsFileToRemove, FreesNode, RefundsBlocks as RefundsItsBlocks, RefundsChild as RefundsItsChild}
+use Rattle.gated_tree.specs.declared.changes.RemoveStep.TheVariants.{LoadsFile as LoadsFileToRemove, FreesNode, CountsRemoved, MarksRemoved, RefundsRemoved, RefundsBlocks as RefundsItsBlocks, RefundsChild as RefundsItsChild}
 use Rattle.gated_tree.specs.declared.growth.GrowStep.TheVariants.{LoadsFile as LoadsFileToGrow, LoadsUsed, ChargesBlocks, GrowsFile, RefundsBlocks}
 use Rattle.gated_tree.specs.declared.changes.MoveStep.TheVariants.{LoadsFile as LoadsFileToMove, LoadsDirectory as LoadsTarget, ChargesChild as ChargesTarget, MovesFile, RefundsChild as RefundsOne}
 use Rattle.gated_tree.specs.declared.marks.MarkStep.TheVariants.{LoadsFile as LoadsFileToMark, MarksFile}
@@ -97,7 +102,9 @@ module _ (c : Config) (w : World) (good : IsGood c w) (t : ℕ) (lt : t < c.task
   abbrev pub tree_then : TreeState
   tree_then = record {
     sealed = is_sealed ws;
+    bare = is_bare_at ws;
     used = ws.used;
+    removed = ws.removed;
     node = ws.node;
     kids = ws.kids;
     at = update (tree_roles w) t (tree_role_of v.trace v.phase);
@@ -106,7 +113,9 @@ module _ (c : Config) (w : World) (good : IsGood c w) (t : ℕ) (lt : t < c.task
   pub tree_moves : tree_of (record { words = ws; views = update w.views t v }) ≡ tree_then
   tree_moves = λ i. record {
     sealed = is_sealed ws;
+    bare = is_bare_at ws;
     used = ws.used;
+    removed = ws.removed;
     node = ws.node;
     kids = ws.kids;
     at = update_map (λ (u : View). tree_role_of u.trace u.phase) w.views t v i;
@@ -136,15 +145,15 @@ module _ (c : Config) (w : World) (good : IsGood c w) where
   -- the nodes that a role has cleared have no marks
   cleared_clean : (n : ℕ) → n ≤ c.nodes → (t : ℕ) → t < c.tasks → tree_roles w t ≡ Clearing n → CleanBelow n (marks_of w.words)
   cleared_clean n le t lt is m lm =
-      let h : RoleHolds (tree_bounds c) w.words.used w.words.node w.words.kids (Clearing n) =
-      subst (RoleHolds (tree_bounds c) w.words.used w.words.node w.words.kids) is ((good Tree).roles t lt) in
+      let h : RoleHolds (tree_bounds c) w.words.used w.words.removed w.words.node w.words.kids (Clearing n) =
+      subst (RoleHolds (tree_bounds c) w.words.used w.words.removed w.words.node w.words.kids) is ((good Tree).roles t lt) in
       shown_clean (w.words.node m) ((good Tree).words m (omega (arith, lm, le))).packed.free (h m lm)
 
   -- the root has none, once a clearing has begun
   first_clean : (t : ℕ) → t < c.tasks → tree_roles w t ≡ Clearing 1 → CleanBelow 1 (marks_of w.words)
   first_clean t lt is m lm =
-      let h : RoleHolds (tree_bounds c) w.words.used w.words.node w.words.kids (Clearing 1) =
-      subst (RoleHolds (tree_bounds c) w.words.used w.words.node w.words.kids) is ((good Tree).roles t lt) in
+      let h : RoleHolds (tree_bounds c) w.words.used w.words.removed w.words.node w.words.kids (Clearing 1) =
+      subst (RoleHolds (tree_bounds c) w.words.used w.words.removed w.words.node w.words.kids) is ((good Tree).roles t lt) in
       let zero_is : m ≡ 0 = omega (arith, lm) in
       shown_clean (w.words.node m) (λ e. absurd (root_there (subst (λ n. kind_in (w.words.node n) ≡ 0) zero_is e))) (h m lm)
 
@@ -219,6 +228,7 @@ module _ (c : Config) (w : World) (good : IsGood c w) where
       freeze_clean x.nodes x.holder x.step t lt fits.3 fits.5 (ap (tree_role_of (w.views t).trace) is)
   phase_clean t lt (Some (Thaws x)) is = thaw_clean x.step
   phase_clean t lt (Some (Trees x)) is = tree_clean x
+  phase_clean t lt (Some (Closes x)) is = none_clean
 
   -- what the laws of the stage read of the marks
   pub marks_right : MarksHold c.tasks c.nodes w.words.stage w.words.sb (marks_of w.words) (stage_roles w)
@@ -248,6 +258,9 @@ module _ (c : Config) (w : World) (good : IsGood c w) where
   remove_unread : (x : Remove) (s : RemoveStep) → words_read (remove_role x s) ≡ 0
   remove_unread x LoadsFileToRemove = refl
   remove_unread x (FreesNode file) = refl
+  remove_unread x (CountsRemoved file) = refl
+  remove_unread x (MarksRemoved file) = refl
+  remove_unread x RefundsRemoved = refl
   remove_unread x (RefundsItsBlocks file) = refl
   remove_unread x (RefundsItsChild file) = refl
 
@@ -269,6 +282,19 @@ module _ (c : Config) (w : World) (good : IsGood c w) where
   mark_unread x LoadsFileToMark = refl
   mark_unread x (MarksFile file) = refl
 
+  open_unread : (x : OpenFile) (s : OpenStep) → words_read (open_role x s) ≡ 0
+  open_unread x LoadsFileToOpen = refl
+  open_unread x (OpensFile file) = refl
+
+  close_unread : (x : ClosePhase) → words_read (close_tree_role x) ≡ 0
+  close_unread (CloseLoadsFile x) = refl
+  close_unread (LowersCount x node) = refl
+  close_unread (Enters f node r) = refl
+  close_unread (ClosesNode f p node) = refl
+  close_unread (CloseRefundsBlocks p blocks) = refl
+  close_unread (CloseUncounts p) = refl
+  close_unread (CloseLeaves p) = refl
+
   tree_unread : (x : TreePhase) (values : ℕ → ℕ) → (w.words.stage ≡ 4 → ⊥) →
       KnowsStage w.words.stage w.words.sb (tree_stage_role x) → words_read (phase_role values x) ≡ 0
   tree_unread (Creates x) values apart knows = create_unread x x.step
@@ -276,10 +302,12 @@ module _ (c : Config) (w : World) (good : IsGood c w) where
   tree_unread (Grows x) values apart knows = grow_unread x x.step
   tree_unread (Moves x) values apart knows = move_unread x x.step
   tree_unread (TreeMarks x) values apart knows = mark_unread x x.step
+  tree_unread (OpensOne x) values apart knows = open_unread x x.step
   tree_unread (Snapshots x) values apart knows = snapshot_unread x x.step values apart knows
   tree_unread (TreeClears x) values apart knows = refl
 
   remount_unread : (nodes : ℕ) (s : RemountStep) → words_read (remount_tree_role nodes s) ≡ 0
+  remount_unread nodes (SetsRemount held) = refl
   remount_unread nodes (ClearsHold held) = refl
   remount_unread nodes (ClearsMark n) = refl
   remount_unread nodes SetsReadOnly = refl
@@ -295,6 +323,7 @@ module _ (c : Config) (w : World) (good : IsGood c w) where
   phase_unread trace (Some (Remounts x)) apart knows = remount_unread x.nodes x.step
   phase_unread trace (Some (Freezes x)) apart knows = freeze_unread x.nodes x.step
   phase_unread trace (Some (Trees x)) apart knows = tree_unread x (values_noted (nodes_noted x) trace) apart knows
+  phase_unread trace (Some (Closes x)) apart knows = close_unread x
   phase_unread trace p apart knows = refl
 
   -- so nobody reads then

@@ -3,7 +3,7 @@ use Rattle.std.proofs.Common.{◌≡◌, refl, ap, ◌∙◌}
 use Rattle.finite_sums.specs.Sums.{update}
 use Rattle.finite_sums.proofs.Totals.{update_same}
 use Rattle.cpu_words.specs.declared.names.WordName.{WordName}
-use Rattle.cpu_words.specs.declared.names.WordName.TheVariants.{Umount, Stage, Holders, SbFlags, Remount, MountFlags, MountCount, Block, Sync, LevelCount, Section, Used, Node, Kids}
+use Rattle.cpu_words.specs.declared.names.WordName.TheVariants.{Umount, Stage, Holders, SbFlags, Remount, MountFlags, MountCount, Block, Sync, LevelCount, Section, Used, Node, Kids, Removed}
 use Rattle.cpu_words.specs.Words.{Words, read, put}
 
 -- a load leaves the words
@@ -13,6 +13,7 @@ load_same w Stage = refl
 load_same w Holders = refl
 load_same w SbFlags = refl
 load_same w Remount = refl
+load_same w Removed = refl
 load_same w (MountFlags m) = λ j. record w { flags = update_same w.flags m j }
 load_same w (MountCount m p) = λ j. record w {
   count = (ap (λ g. update w.count m g) (update_same (w.count m) p) ∙ update_same w.count m) j;

@@ -25,7 +25,10 @@ use Rattle.gate_frames.proofs.Standing.{left_world}
 use Rattle.gate_frames.proofs.MountEvents.{is_known_part, known_is}
 use Rattle.finite_sums.specs.Sums.{update}
 use Rattle.freeze_levels.specs.Thaws.{thaw_next, thaw_after}
-use Rattle.gate_world.specs.Fits.{FreezeFits}
+use Rattle.gate_world.specs.Fits.{FreezeFits, HasFile, file_of}
+use Rattle.gated_tree.specs.Nodes.{opens_in}
+use Rattle.access_model.specs.States.{openers}
+use Rattle.gate_frames.proofs.Frames.{opens_left}
 use Rattle.freeze_levels.specs.Freezes.{freeze_next, level_closed, freeze_after, after_closing}
 use Rattle.percpu_rwsem.specs.Writers.{sum_begun, at_down_write, down_write_next, up_write_next, down_write_after, sections_awaited, passed_awaited, down_write_summed, enter_step, callback_step}
 use Rattle.gate_frames.proofs.Known.{IsOwnersWork, known_after}
@@ -43,9 +46,9 @@ use Rattle.access_model.specs.declared.actions.Action.{Action}
 use Rattle.access_model.specs.declared.actions.NodeInfo.{NodeInfo}
 use Rattle.access_model.specs.declared.actions.Holders.{Holders}
 use Rattle.freeze_levels.specs.Holders.{holders_in}
-use Rattle.gate_world.specs.Views.{phase_after, held_at, holds_level, added_by, taken_by}
+use Rattle.gate_world.specs.Views.{phase_after, held_at, holds_level, added_by, taken_by, has_open}
 use Rattle.gate_world.specs.declared.work.Phase.TheVariants.{Freezes, Thaws}
-use Rattle.gate_world.specs.Rules.{Stages, Holding, Fitting, Known, Tree, AtMount, Sections, role_of, IsGood, OwnerHolds, Part, Moves, owns, remounts, StepKeeps, Holds, ViewFits, AtLevel, SyncAt, Owner}
+use Rattle.gate_world.specs.Rules.{Stages, Holding, Fitting, Known, Tree, AtMount, Sections, role_of, IsGood, OwnerHolds, Part, Moves, owns, remounts, StepKeeps, Holds, ViewFits, AtLevel, SyncAt, Owner, Files}
 use Rattle.gate_world.specs.Worlds.{World, value_at, after_step, phase_action}
 use Rattle.percpu_rwsem.specs.declared.writers.UpWriteStep.{UpWriteStep}
 use Rattle.percpu_rwsem.specs.declared.writers.UpWrite.{UpWrite}
@@ -73,18 +76,19 @@ use Rattle.stage_laws.specs.Events.{StageEvent, action_of as stage_action_of}
 pub record IsWriter (p : Option Phase) : Type 0 where
   pub out_of_mounts : (m : ℕ) → role_of m p ≡ Out
   pub remounts_none : remounts p ≡ 0
+  pub no_file : file_of p ≡ None
 
 -- no operation is under way
 pub idle_writes : IsWriter None
-idle_writes = record { out_of_mounts = λ m. refl; remounts_none = refl }
+idle_writes = record { out_of_mounts = λ m. refl; remounts_none = refl; no_file = refl }
 
 -- a freeze
 pub freezes_write : (x : Freeze) → IsWriter (Some (Freezes x))
-freezes_write x = record { out_of_mounts = λ m. refl; remounts_none = refl }
+freezes_write x = record { out_of_mounts = λ m. refl; remounts_none = refl; no_file = refl }
 
 -- a thaw, too
 pub thaws_write : (x : Thaw) → IsWriter (Some (Thaws x))
-thaws_write x = record { out_of_mounts = λ m. refl; remounts_none = refl }
+thaws_write x = record { out_of_mounts = λ m. refl; remounts_none = refl; no_file = refl }
 
 -- what comes after an event of a freeze
 pub freeze_comes : (n : Next Freeze) → IsWriter (phase_after (map_next Freezes n))
@@ -109,6 +113,7 @@ pub record IsBeside (old new : Words) : Type 0 where
 pub record SameAtMounts (old new : View) : Type 0 where
   pub held_same : held_at new ≡ held_at old
   pub levels_same : holds_level new ≡ holds_level old
+  pub open_same : has_open new ≡ has_open old
   pub added_same : added_by new.events ≡ added_by old.events
   pub taken_same : taken_by new.events ≡ taken_by old.events
 
@@ -116,6 +121,7 @@ pub record SameAtMounts (old new : View) : Type 0 where
 pub record LeavesRest (old new : State) (tree : ℕ → Option NodeInfo) (held : Holders) : Type 0 where
   pub mounts_same : new.mounts ≡ old.mounts
   pub levels_same : new.levels ≡ old.levels
+  pub opens_same : new.opens ≡ old.opens
   pub ro_same : new.mount_ro ≡ old.mount_ro
   pub tree_same : new.tree ≡ tree
   pub holders_same : new.holders ≡ held
@@ -137,6 +143,7 @@ module _ (c : Config) (w : World) (good : IsGood c w) (t : ℕ) (lt : t < c.task
     pub owner : OwnerHolds c.tasks ws.umount ws.remount (λ y. (update w.views t v y).phase)
     pub levels : LevelsHold c (left_world w t ws v)
     pub tree : Holds c (left_world w t ws v) Tree
+    pub opens : (n : ℕ) → opens_in (ws.node n) ≡ opens_in (w.words.node n)
     pub fits : ViewFits c t v
     pub holding : Holds c (left_world w t ws v) Holding
     pub happens : IsStageEvent c w good t lt ws v kind
@@ -156,6 +163,11 @@ module _ (c : Config) (w : World) (good : IsGood c w) (t : ℕ) (lt : t < c.task
   writer_parts h Fitting k = λ y ly. each_updated (λ z (u : View). ViewFits c z u) w.views t v y h.fits (λ ne. good Fitting y ly)
   writer_parts h Known k = absurd (true≢false k)
   writer_parts h Tree k = h.tree
+  writer_parts h Files k = record {
+    counted = λ n ln. h.opens n ∙ (good Files).counted n ln ∙ sym (ap (λ f. openers f n) (opens_left c w t lt v h.counts.open_same));
+    own = λ x lx. each_updated (λ y (u : View). HasFile (has_open u) (file_of u.phase)) w.views t v x
+        (subst (HasFile (has_open v)) (sym h.now.no_file) tt) (λ ne. (good Files).own x lx);
+  }
   writer_parts h (AtMount m) k =
       left_alone c w t lt (AtMount m) ws v
       (ap (λ f. f m) h.words.flags_same, h.words.remount_same, h.words.sb_same, ap (λ f. f m) h.words.count_same)
@@ -168,10 +180,10 @@ module _ (c : Config) (w : World) (good : IsGood c w) (t : ℕ) (lt : t < c.task
   -- and the shown model is what its action makes of it
   effect_shown : WriterEvent → shown c (left_world w t ws v) ≡ state_after (shown c w) t action
   effect_shown h =
-      shown_by c w good t lt ws v h.words.flags_same h.counts.held_same h.counts.levels_same (state_after (shown c w) t action)
+      shown_by c w good t lt ws v h.words.flags_same h.counts.held_same h.counts.levels_same h.counts.open_same (state_after (shown c w) t action)
       (subst (λ a. ShowsStages c.tasks ws.stage ws.sb ws.remount ws.block (update (stage_roles w) t (stage_role_of v.phase))
       (state_after (shown c w) t a)) h.adds (stage_effect c w good t lt ws v kind h.happens))
-      h.rest.mounts_same h.rest.levels_same h.rest.ro_same h.rest.holders_same h.rest.tree_same
+      h.rest.mounts_same h.rest.levels_same h.rest.opens_same h.rest.ro_same h.rest.holders_same h.rest.tree_same
 
 -- the shown model moves by the action
 writer_moves : (c : Config) (w : World) (good : IsGood c w) (t : ℕ) (lt : t < c.tasks) (ws : Words) (v : View) (action : Option Action)

@@ -57,11 +57,11 @@ module _ (c : Config) (w : World) (good : IsGood c w) (t : ℕ) (lt : t < c.task
 
   -- no action leaves the accesses, the mounts and the tree
   pub none_leaves : LeavesRest (shown c w) (shown c w) (shown c w).tree (shown c w).holders
-  none_leaves = record { mounts_same = refl; levels_same = refl; ro_same = refl; tree_same = refl; holders_same = refl }
+  none_leaves = record { mounts_same = refl; levels_same = refl; opens_same = refl; ro_same = refl; tree_same = refl; holders_same = refl }
 
   -- nor does the store of a stage touch them
   pub stage_leaves : (n : ℕ) → LeavesRest (shown c w) (after_action (shown c w) t (StageAction n)) (shown c w).tree (shown c w).holders
-  stage_leaves n = record { mounts_same = refl; levels_same = refl; ro_same = refl; tree_same = refl; holders_same = refl }
+  stage_leaves n = record { mounts_same = refl; levels_same = refl; opens_same = refl; ro_same = refl; tree_same = refl; holders_same = refl }
 
   -- a store of the stage leaves the levels, where the file system is frozen as a whole or not as before
   pub stored_levels : (v : View) → SameLevelCounts (w.views t) v → (n : ℕ) (stand : Option Stand) →
@@ -75,7 +75,7 @@ module _ (c : Config) (w : World) (good : IsGood c w) (t : ℕ) (lt : t < c.task
   pub stored_tree : (v : View) → tree_role_of v.trace v.phase ≡ tree_role_of (w.views t).trace (w.views t).phase → (n : ℕ) →
       sealed_by w.words.sb n ≡ sealed_by w.words.sb w.words.stage → Holds c (left_world w t (record w.words { stage = n }) v) Tree
   stored_tree v same n sealed =
-      left_alone c w t lt Tree (record w.words { stage = n }) v (refl, refl, refl, sealed) same (good Tree)
+      left_alone c w t lt Tree (record w.words { stage = n }) v (refl, refl, refl, refl, sealed, refl) same (good Tree)
 
   -- a store of stage 0 opens it, where the superblock's flag isn't set
   pub opened_tree : IsWithin c → (v : View) → tree_role_of v.trace v.phase ≡ tree_role_of (w.views t).trace (w.views t).phase →
@@ -117,7 +117,8 @@ module _ (c : Config) (w : World) (good : IsGood c w) (t : ℕ) (lt : t < c.task
           levels = levels_stay c w good t lt (record w.words { umount = n }) v stand
               (record { block_same = refl; level_same = refl; sync_same = refl; section_same = refl; whole_same = refl }) levels before
               after;
-          tree = left_alone c w t lt Tree (record w.words { umount = n }) v (refl, refl, refl, refl) same (good Tree);
+          tree = left_alone c w t lt Tree (record w.words { umount = n }) v (refl, refl, refl, refl, refl, refl) same (good Tree);
+          opens = λ n. refl;
           fits = fits;
           holding = holding;
           happens = happens;
@@ -145,6 +146,7 @@ module _ (c : Config) (w : World) (good : IsGood c w) (t : ℕ) (lt : t < c.task
           owner = owner;
           levels = hold;
           tree = tree;
+          opens = λ n. refl;
           fits = fits;
           holding = holding;
           happens = happens;
@@ -174,7 +176,8 @@ module _ (c : Config) (w : World) (good : IsGood c w) (t : ℕ) (lt : t < c.task
           levels = levels_stay c w good t lt (record w.words { holders = n }) v stand
               (record { block_same = refl; level_same = refl; sync_same = refl; section_same = refl; whole_same = refl }) levels before
               after;
-          tree = left_alone c w t lt Tree (record w.words { holders = n }) v (refl, refl, refl, refl) same (good Tree);
+          tree = left_alone c w t lt Tree (record w.words { holders = n }) v (refl, refl, refl, refl, refl, refl) same (good Tree);
+          opens = λ n. refl;
           fits = fits;
           holding = holding;
           happens = happens;

@@ -27,14 +27,14 @@ use Rattle.percpu_rwsem.specs.Transitions.{transition_after}
 use Rattle.percpu_rwsem.specs.Writers.{exit_made, down_write_next, down_write_after, down_write_summed, up_write_next, up_write_after}
 use Rattle.stage_laws.specs.Events.{StageEvent, action_of as stage_action_of}
 use Rattle.stage_laws.specs.Shown.{state_after}
-use Rattle.gated_tree.specs.Nodes.{node_shown}
+use Rattle.gated_tree.specs.Nodes.{node_shown, opens_in}
 use Rattle.gate_world.specs.declared.config.Config.{Config}
 use Rattle.gate_world.specs.declared.views.View.{View}
 use Rattle.gate_world.specs.Configs.{IsWithin, model_limits}
 use Rattle.gate_world.specs.Levels.{level_added_after, level_taken_after}
 use Rattle.gate_world.specs.Rules.{IsGood, Holds, ViewFits, Tree, owns}
 use Rattle.gate_world.specs.Trees.{tree_bounds, tree_of, tree_role_of, tree_roles}
-use Rattle.gated_tree.specs.Roles.{Out, Clearing, sealed_by}
+use Rattle.gated_tree.specs.Roles.{Out, Clearing, sealed_by, bare_by}
 use Rattle.tree_laws.specs.Events.{Event, turned, BeginsClearing}
 use Rattle.gate_frames.proofs.Trees.{tree_then, tree_after}
 use Rattle.finite_sums.specs.Sums.{update}
@@ -59,6 +59,7 @@ pub record IsAtLevels (old new : Words) : Type 0 where
   pub holders_same : new.holders ≡ old.holders
   pub node_same : new.node ≡ old.node
   pub used_same : new.used ≡ old.used
+  pub removed_same : new.removed ≡ old.removed
   pub kids_same : new.kids ≡ old.kids
 
 -- a down-write writes words of levels alone
@@ -71,6 +72,7 @@ down_write_words w d (Enters Loads) = record {
   holders_same = refl;
   node_same = refl;
   used_same = refl;
+  removed_same = refl;
   kids_same = refl;
 }
 down_write_words w d (Enters (Exchanges from to)) = record {
@@ -80,6 +82,7 @@ down_write_words w d (Enters (Exchanges from to)) = record {
   holders_same = refl;
   node_same = refl;
   used_same = refl;
+  removed_same = refl;
   kids_same = refl;
 }
 down_write_words w d (AwaitsSections grace) = record {
@@ -89,6 +92,7 @@ down_write_words w d (AwaitsSections grace) = record {
   holders_same = refl;
   node_same = refl;
   used_same = refl;
+  removed_same = refl;
   kids_same = refl;
 }
 down_write_words w d (CallsBack Loads) = record {
@@ -98,6 +102,7 @@ down_write_words w d (CallsBack Loads) = record {
   holders_same = refl;
   node_same = refl;
   used_same = refl;
+  removed_same = refl;
   kids_same = refl;
 }
 down_write_words w d (CallsBack (Exchanges from to)) = record {
@@ -107,6 +112,7 @@ down_write_words w d (CallsBack (Exchanges from to)) = record {
   holders_same = refl;
   node_same = refl;
   used_same = refl;
+  removed_same = refl;
   kids_same = refl;
 }
 down_write_words w d AwaitsPassed = record {
@@ -116,6 +122,7 @@ down_write_words w d AwaitsPassed = record {
   holders_same = refl;
   node_same = refl;
   used_same = refl;
+  removed_same = refl;
   kids_same = refl;
 }
 down_write_words w d SetsBlock = record {
@@ -125,6 +132,7 @@ down_write_words w d SetsBlock = record {
   holders_same = refl;
   node_same = refl;
   used_same = refl;
+  removed_same = refl;
   kids_same = refl;
 }
 down_write_words w d (Sums sum) = record {
@@ -134,6 +142,7 @@ down_write_words w d (Sums sum) = record {
   holders_same = refl;
   node_same = refl;
   used_same = refl;
+  removed_same = refl;
   kids_same = refl;
 }
 
@@ -147,6 +156,7 @@ up_write_words w u ClearsBlock = record {
   holders_same = refl;
   node_same = refl;
   used_same = refl;
+  removed_same = refl;
   kids_same = refl;
 }
 up_write_words w u (Exits Loads) = record {
@@ -156,6 +166,7 @@ up_write_words w u (Exits Loads) = record {
   holders_same = refl;
   node_same = refl;
   used_same = refl;
+  removed_same = refl;
   kids_same = refl;
 }
 up_write_words w u (Exits (Exchanges from to)) = record {
@@ -165,6 +176,7 @@ up_write_words w u (Exits (Exchanges from to)) = record {
   holders_same = refl;
   node_same = refl;
   used_same = refl;
+  removed_same = refl;
   kids_same = refl;
 }
 
@@ -226,18 +238,24 @@ module _ (u : UpWrite) (P : Next UpWrite → Type 0) (go : (s : UpWriteStep) →
 
 -- a level that is passed leaves the accesses, the mounts and the tree
 pub pass_leaves : (s : State) (t i : ℕ) → LeavesRest s (after_action s t (Pass i)) s.tree s.holders
-pass_leaves s t i = record { mounts_same = refl; levels_same = refl; ro_same = refl; tree_same = refl; holders_same = refl }
+pass_leaves s t i = record { mounts_same = refl; levels_same = refl; opens_same = refl; ro_same = refl; tree_same = refl; holders_same = refl }
 
 -- so does one that is reopened
 pub reopen_leaves : (s : State) (t i : ℕ) → LeavesRest s (after_action s t (Reopen i)) s.tree s.holders
-reopen_leaves s t i = record { mounts_same = refl; levels_same = refl; ro_same = refl; tree_same = refl; holders_same = refl }
+reopen_leaves s t i = record { mounts_same = refl; levels_same = refl; opens_same = refl; ro_same = refl; tree_same = refl; holders_same = refl }
 
 -- the tree is left, where its task does there what it did
 pub tree_beside : (c : Config) (w : World) → IsGood c w → (t : ℕ) → t < c.tasks → (ws : Words) (v : View) → IsAtLevels w.words ws →
     tree_role_of v.trace v.phase ≡ tree_role_of (w.views t).trace (w.views t).phase → Holds c (left_world w t ws v) Tree
 tree_beside c w good t lt ws v words same =
-    left_alone c w t lt Tree ws v
-    (words.used_same, words.node_same, words.kids_same, (λ j. sealed_by (words.beside.sb_same j) (words.stage_same j))) same (good Tree)
+    left_alone c w t lt Tree ws v (
+      words.used_same,
+      words.removed_same,
+      words.node_same,
+      words.kids_same,
+      (λ j. sealed_by (words.beside.sb_same j) (words.stage_same j)),
+      (λ j. bare_by (words.beside.remount_same j) (words.beside.sb_same j)),
+    ) same (good Tree)
 
 -- and where a clearing of marks begins
 pub tree_begins : (c : Config) (w : World) → IsGood c w → (t : ℕ) → t < c.tasks → (ws : Words) (v : View) → IsWithin c →
@@ -247,7 +265,9 @@ tree_begins c w good t lt ws v within words was now =
     let same : tree_then c w good t lt ws v ≡ turned (tree_of w) t (Clearing 1) =
     λ j. record {
       sealed = sealed_by (words.beside.sb_same j) (words.stage_same j);
+      bare = bare_by (words.beside.remount_same j) (words.beside.sb_same j);
       used = words.used_same j;
+      removed = words.removed_same j;
       node = words.node_same j;
       kids = words.kids_same j;
       at = update (tree_roles w) t (now j);
@@ -271,6 +291,7 @@ writer_at_level c w good t lt ws v action kind was now words mounts fits own lev
       owner = owner_stays c w good t lt v was now ws words.umount_same words.beside.remount_same own;
       levels = levels;
       tree = tree;
+      opens = λ n j. opens_in (words.node_same j n);
       fits = fits;
       holding = holders_stay c w good t lt ws v words.stage_same words.holders_same holder;
       happens = happens;
@@ -279,6 +300,7 @@ writer_at_level c w good t lt ws v action kind was now words mounts fits own lev
       rest = record {
         mounts_same = rest.mounts_same;
         levels_same = rest.levels_same;
+        opens_same = rest.opens_same;
         ro_same = rest.ro_same;
         tree_same = rest.tree_same ∙ sym (λ j n. node_shown (words.node_same j n));
         holders_same = rest.holders_same ∙ sym (ap holders_in words.holders_same);

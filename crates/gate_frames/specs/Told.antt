@@ -2,7 +2,7 @@
 use Rattle.std.specs.Prelude.{ℕ, List}
 use Rattle.gate_world.specs.declared.config.Config.{Config}
 use Rattle.gate_world.specs.declared.operations.Op.{Op}
-use Rattle.gate_world.specs.declared.operations.Op.TheVariants.{Create, Remove, Grow, MoveTo, Fault, Flush, Snapshot}
+use Rattle.gate_world.specs.declared.operations.Op.TheVariants.{Create, Remove, Grow, MoveTo, Fault, Flush, Open, Snapshot}
 use Rattle.gate_world.specs.declared.views.Traced.{Traced}
 use Rattle.gate_world.specs.Courses.{course_of}
 use Rattle.gate_world.specs.Traces.{IsShort, Tells, most_events}
@@ -15,6 +15,7 @@ IsAtTree (Grow file blocks) = Unit {0}
 IsAtTree (MoveTo file dir) = Unit {0}
 IsAtTree (Fault file) = Unit {0}
 IsAtTree (Flush file) = Unit {0}
+IsAtTree (Open file) = Unit {0}
 IsAtTree (Snapshot wait) = Unit {0}
 IsAtTree op = ⊥
 

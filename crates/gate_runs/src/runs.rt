@@ -1,8 +1,7 @@
 //! A run: writers, a remounter and a backup, each in a thread of its own.
 
-ghost use Rattle.std.specs.Prelude.{◌≡◌, ◌≤◌, ◌-◌, ◌*◌, ◌↔◌, IfErr, IfOk, IsTrue, OnOk};
+ghost use Rattle.std.specs.Prelude.{◌≡◌, ◌≤◌, ◌-◌, ◌*◌, IfErr, IfOk, OnOk};
 ghost use Rattle.access_model.specs.declared.errors.GateError.TheVariants.{Invalid};
-ghost use Rattle.vfs_gates.specs.TaskStates.{IsFrom};
 ghost use Rattle.gate_runs.specs.Plans.{MayRun, TellsRun, run_config};
 
 mod threads;

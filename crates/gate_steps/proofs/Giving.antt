@@ -18,7 +18,7 @@ use Rattle.gate_world.specs.declared.work.Phase.{Phase}
 use Rattle.gate_world.specs.Trees.{tree_role_of}
 use Rattle.gate_world.specs.Worlds.{World}
 use Rattle.cpu_words.specs.Words.{Words}
-use Rattle.gate_world.specs.Rules.{IsGood, Part, Owner, Fitting, AtMount, Holds, owns, Known, Stages, Holding, Tree, AtLevel, SyncAt, Sections}
+use Rattle.gate_world.specs.Rules.{IsGood, Part, Owner, Fitting, AtMount, Holds, owns, Known, Stages, Holding, Tree, Files, AtLevel, SyncAt, Sections}
 use Rattle.gate_frames.proofs.Frames.{left_alone, shown_still}
 use Rattle.gate_steps.specs.declared.seating.Numbered.{Numbered}
 use Rattle.gate_steps.specs.Seating.{SeatItems, numbered, one_if, times, times_all, HaveViews, Dealt, without, view_in, renewed, kept_of, given_of, Spares, trace_kept}
@@ -158,8 +158,9 @@ renewed_part c w good n lt Stages =
     left_alone c w n lt Stages w.words (renewed (w.views n)) (refl, refl, refl, refl) refl (good Stages)
 renewed_part c w good n lt Holding = left_alone c w n lt Holding w.words (renewed (w.views n)) (refl, refl) refl (good Holding)
 renewed_part c w good n lt Tree =
-    left_alone c w n lt Tree w.words (renewed (w.views n)) (refl, refl, refl, refl)
+    left_alone c w n lt Tree w.words (renewed (w.views n)) (refl, refl, refl, refl, refl, refl)
     (renewed_role (w.views n).phase (w.views n).trace) (good Tree)
+renewed_part c w good n lt Files = left_alone c w n lt Files w.words (renewed (w.views n)) refl (refl, refl) (good Files)
 renewed_part c w good n lt (AtLevel i) =
     left_alone c w n lt (AtLevel i) w.words (renewed (w.views n)) (refl, refl, refl) refl (good (AtLevel i))
 renewed_part c w good n lt (SyncAt i) =
@@ -177,7 +178,7 @@ renewed_history c w n lt h =
     let v : View = renewed (w.views n) in record {
       log = h.log;
       legal = h.legal;
-      end = h.end ∙ sym (shown_still c w n lt w.words v refl refl refl refl refl refl refl (λ i. refl) refl refl);
+      end = h.end ∙ sym (shown_still c w n lt w.words v refl refl refl refl refl refl refl (λ i. refl) refl refl refl);
       lists = λ x. each_updated (λ y (u : View). own_part y h.log ≡ u.actions) w.views n v x (h.lists n) (λ ne. h.lists x);
       snapshots = λ x. each_updated (λ y (u : View). HasMoment c h.log y u.snapshot) w.views n v x tt (λ ne. h.snapshots x);
     }

@@ -23,7 +23,7 @@ use Rattle.gate_world.specs.declared.views.Snapshot.{Snapshot}
 use Rattle.gate_world.specs.Configs.{IsWithin, model_limits, extents_kept}
 use Rattle.gate_world.specs.Work.{next_of, after_of}
 use Rattle.gate_world.specs.Snapshots.{completes, last_snapshot}
-use Rattle.gate_world.specs.Views.{held_at, holds_level, begun_view, view_with, view_after_beside}
+use Rattle.gate_world.specs.Views.{held_at, holds_level, has_open, begun_view, view_with, view_after_beside}
 use Rattle.gate_world.specs.Beginnings.{first_phase, view_refusal}
 use Rattle.gate_world.specs.Worlds.{World, words_after, value_at, found_at, after_step, after_step_beside, phase_action, with_action}
 use Rattle.gate_world.specs.Shown.{shown}
@@ -39,9 +39,9 @@ use Rattle.gate_core.proofs.Schedule.{begun_keeps, legal_more}
 use Rattle.gate_world.specs.Rules.{Fitting}
 use Rattle.gate_core.proofs.Lists.{beside_lists, begin_lists}
 use Rattle.gate_core.proofs.Snapshots.{beside_moments, begin_moments}
-use Rattle.gate_world.specs.Courses.{MayHold}
+use Rattle.gate_world.specs.Courses.{MayFind}
 use Rattle.gate_frames.proofs.MayHolds.{events_may_be}
-use Rattle.gate_steps.proofs.Stores.{held_found, no_store}
+use Rattle.gate_steps.proofs.Stores.{there_found}
 use Rattle.gate_core.proofs.Phases.{word_there}
 use Rattle.gate_steps.specs.declared.seating.Numbered.{Numbered}
 use Rattle.gate_steps.specs.Seating.{SeatItems, HaveViews, MayStep, Acts, entered, world_entered, done_by, items_after, happened}
@@ -119,7 +119,7 @@ enter c lim w good x lt h mine (Some op) phase may =
     let v : View = begun_view (w.views t) op (first_phase c t op) in
     let ok : view_refusal c (w.views t) op ≡ None = ap (λ u. view_refusal c u op) mine ∙ may.0 in
     let kept = begun_keeps c lim w good t lt op (may_begin c (is_some (w.views t).phase) (held_at (w.views t))
-    (holds_level (w.views t)) op ok) in
+    (holds_level (w.views t)) (has_open (w.views t)) op ok) in
     let here : update w.views t v t ≡ v = update_at w.views t v in
     record {
       good = kept.0;
@@ -221,8 +221,8 @@ lifted c slots id (x ∷ xs) carried begins phase hook acts s held len at small 
           before = good;
           mine = mine;
           found = ap (found_by touch) (held.ruled.words name there);
-          holds = held_found name touch n (no_store phase hook)
-              (subst (MayHold name) (sym value) (events_may_be c w' en.good t lt phase hook en.at_phase));
+          holds = there_found phase hook n
+              (subst (MayFind phase name) (sym value) (events_may_be c lim w' en.good t lt phase hook en.at_phase));
           after = kept.0;
           moves = subst (λ (z : Shown × Words). Moves c z.0 t (after_of phase (found_at z.1 phase hook) hook).1 (shown c after))
               (λ j. (en.shows j, en.words j)) kept.1;

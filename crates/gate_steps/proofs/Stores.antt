@@ -1,10 +1,10 @@
 -- No event stores into the word of a node, so what it finds there is what the word held.
-use Rattle.std.proofs.Common.{◌≡◌, ℕ, ◌<◌, ◌≤◌, subst, ap, arith, Bool}
-use Rattle.std.specs.Prelude.{Option, Some, None, Ok, Err}
+use Rattle.std.proofs.Common.{ℕ}
+use Rattle.std.specs.Prelude.{Ok, Err}
 use Rattle.mount_counts.specs.declared.phases.MountPhase.TheVariants.{Want as MWants, Drop as MDrops, Change as MChanges}
 use Rattle.mount_counts.specs.declared.phases.WantStep.TheVariants.{CountsUp, LoadsHold, LoadsRemount, LoadsReadOnly, LoadsSuperblock, CountsDown}
 use Rattle.mount_counts.specs.declared.phases.ChangeStep.TheVariants.{Locks, LoadsFlags, LoadsSuperblock as LoadsSb, ClearsReadOnly, SetsHold, Sums, SetsReadOnly, ClearsHold, Releases}
-use Rattle.mount_counts.specs.declared.remounts.RemountStep.TheVariants.{Locks as RLocks, LoadsStage as RLoadsStage, LoadsSuperblock as RLoadsSuperblock, SetsWritable, LoadsFlags as RLoadsFlags, SetsHold as RSetsHold, Sums as RSums, SetsRemount, ClearsHold as RClearsHold, GivesUp, ClearsMark, SetsReadOnly as RSetsReadOnly, ClearsRemount, Releases as RReleases}
+use Rattle.mount_counts.specs.declared.remounts.RemountStep.TheVariants.{Locks as RLocks, LoadsStage as RLoadsStage, LoadsSuperblock as RLoadsSuperblock, SetsWritable, LoadsFlags as RLoadsFlags, SetsHold as RSetsHold, Sums as RSums, LoadsRemoved as RLoadsRemoved, LoadsRemovedAgain as RLoadsRemovedAgain, LeavesHolds as RLeavesHolds, SetsRemount, ClearsHold as RClearsHold, GivesUp, ClearsMark, SetsReadOnly as RSetsReadOnly, ClearsRemount, Releases as RReleases}
 use Rattle.percpu_rwsem.specs.declared.transitions.Transition.TheVariants.{Loads, Exchanges}
 use Rattle.percpu_rwsem.specs.declared.readers.DownReadStep.TheVariants.{EntersSection, LoadsSync, CountsUpFast, CountsUpSlow, LoadsBlock, CountsDown as DCountsDown, LeavesAdmitted, LeavesBlocked}
 use Rattle.percpu_rwsem.specs.declared.callbacks.CallbackStep.TheVariants.{Claims, AwaitsSections as CAwaitsSections, CallsBack as CCallsBack}
@@ -14,21 +14,26 @@ use Rattle.write_access.specs.declared.phases.WritePhase.TheVariants.{Takes, Wan
 use Rattle.freeze_levels.specs.declared.freezes.FreezeStep.TheVariants.{Locks as FLocks, LoadsStage as FLoadsStage, LoadsHolders as FLoadsHolders, Holds, LoadsSuperblock as FLoadsSuperblock, CompletesReadOnly, SetsWrite, Unlocks, Closes, LocksAgain, SetsPageFault, Cleans, SetsFs, SetsComplete, Reopens as FReopens, Releases as FReleases}
 use Rattle.freeze_levels.specs.declared.thaws.ThawStep.TheVariants.{Locks as TLocks, LoadsStage as TLoadsStage, LoadsHolders as TLoadsHolders, Leaves, LoadsSuperblock as TLoadsSuperblock, LeavesReadOnly, UnfreezesReadOnly, LeavesLast, SetsUnfrozen, Reopens as TReopens, Releases as TReleases}
 use Rattle.gated_tree.specs.declared.changes.CreateStep.TheVariants.{LoadsDirectory, LoadsNode, ChargesChild, TakesNode, RefundsChild}
-use Rattle.gated_tree.specs.declared.changes.RemoveStep.TheVariants.{LoadsFile as LoadsFileToRemove, FreesNode, RefundsBlocks as RefundsItsBlocks, RefundsChild as RefundsItsChild}
+use Rattle.gated_tree.specs.declared.changes.RemoveStep.TheVariants.{LoadsFile as LoadsFileToRemove, FreesNode, CountsRemoved, MarksRemoved, RefundsRemoved, RefundsBlocks as RefundsItsBlocks, RefundsChild as RefundsItsChild}
 use Rattle.gated_tree.specs.declared.growth.GrowStep.TheVariants.{LoadsFile as LoadsFileToGrow, LoadsUsed, ChargesBlocks, GrowsFile, RefundsBlocks}
 use Rattle.gated_tree.specs.declared.changes.MoveStep.TheVariants.{LoadsFile as LoadsFileToMove, LoadsDirectory as LoadsTarget, ChargesChild as ChargesTarget, MovesFile, RefundsChild as RefundsOne}
 use Rattle.gated_tree.specs.declared.marks.MarkStep.TheVariants.{LoadsFile as LoadsFileToMark, MarksFile}
 use Rattle.gated_tree.specs.declared.snapshots.SnapshotStep.TheVariants.{Locks as SLocks, LoadsStage as SLoadsStage, LoadsUsed as SLoadsUsed, LoadsNode as SLoadsNode, LoadsKids as SLoadsKids, Releases as SReleases}
-use Rattle.gated_tree.specs.declared.phases.TreePhase.TheVariants.{Create as Creates, Remove as Removes, Grow as Grows, MoveTo as Moves, Mark as TreeMarks, Snapshot as Snapshots, ClearMarks as TreeClears}
-use Rattle.gate_world.specs.declared.work.Phase.TheVariants.{Mounts, Remounts, DownReads, UpReads, Callbacks, Writes, Freezes, Thaws, Trees}
-use Rattle.gated_tree.specs.Phases.{next as tree_next, remove_next, grow_next, move_next, mark_next, create_next, snapshot_next}
+use Rattle.gated_tree.specs.declared.phases.TreePhase.TheVariants.{Create as Creates, Remove as Removes, Grow as Grows, MoveTo as Moves, Mark as TreeMarks, OpenFile as OpensOne, Snapshot as Snapshots, ClearMarks as TreeClears}
+use Rattle.gate_world.specs.declared.work.Phase.TheVariants.{Mounts, Remounts, DownReads, UpReads, Callbacks, Writes, Freezes, Thaws, Trees, Closes}
+use Rattle.gated_tree.specs.Phases.{next as tree_next, remove_next, grow_next, move_next, mark_next, create_next, snapshot_next, open_next}
+use Rattle.file_closes.specs.Phases.{next as close_next}
 use Rattle.write_access.specs.Phases.{next as write_next}
-use Rattle.gate_world.specs.Rules.{Tree}
-use Rattle.cpu_words.specs.declared.names.WordName.TheVariants.{Umount, Stage, Holders, SbFlags, Remount as RemountWord, MountFlags, MountCount, Block, Sync, LevelCount, Section, Used, Node, Kids}
+use Rattle.cpu_words.specs.declared.names.WordName.TheVariants.{Umount, Stage, Holders, SbFlags, Remount as RemountWord, Removed as RemovedWord, MountFlags, MountCount, Block, Sync, LevelCount, Section, Used, Node, Kids}
 use Rattle.cpu_words.specs.declared.events.Touch.{Touch}
 use Rattle.cpu_words.specs.declared.events.Touch.TheVariants.{Load, Store, Add, Sub, Or, And, Swap, Cas}
 use Rattle.cpu_words.specs.Touches.{found_by}
-use Rattle.gate_world.specs.Courses.{MayHold}
+use Rattle.gate_world.specs.Courses.{MayHold, MayFind, OpenMayFind}
+use Rattle.file_closes.specs.declared.phases.ClosePhase.{ClosePhase}
+use Rattle.file_closes.specs.declared.phases.ClosePhase.TheVariants.{LoadsFile as LoadsFileToClose, LowersCount, Enters as EntersLevel, FreesNode as FreesFile, RefundsBlocks as RefundsFile, Uncounts, Leaves as LeavesLevel}
+use Rattle.gated_tree.specs.declared.opens.OpenFile.{OpenFile}
+use Rattle.gated_tree.specs.declared.opens.OpenStep.{OpenStep}
+use Rattle.gated_tree.specs.declared.opens.OpenStep.TheVariants.{LoadsFile as LoadsFileToOpen, OpensFile}
 use Rattle.cpu_words.specs.declared.names.WordName.{WordName}
 use Rattle.mount_counts.specs.declared.phases.Want.{Want}
 use Rattle.mount_counts.specs.declared.phases.Change.{Change}
@@ -49,7 +54,6 @@ use Rattle.gated_tree.specs.declared.marks.Mark.{Mark}
 use Rattle.gated_tree.specs.declared.snapshots.Snapshot.{Snapshot}
 use Rattle.gated_tree.specs.declared.phases.TreePhase.{TreePhase}
 use Rattle.gate_world.specs.declared.work.Phase.{Phase}
-use Rattle.gate_world.specs.Worlds.{World}
 use Rattle.mount_counts.specs.declared.phases.WantStep.{WantStep}
 use Rattle.mount_counts.specs.declared.phases.ChangeStep.{ChangeStep}
 use Rattle.mount_counts.specs.declared.remounts.RemountStep.{RemountStep}
@@ -106,9 +110,12 @@ remount_word x RLoadsStage hook = tt
 remount_word x RLoadsSuperblock hook = tt
 remount_word x SetsWritable (Ok answer) = tt
 remount_word x SetsWritable (Err code) = tt
+remount_word x RLoadsRemoved hook = tt
 remount_word x (RLoadsFlags m held) hook = tt
 remount_word x (RSetsHold m held) hook = tt
 remount_word x (RSums m held sum) hook = tt
+remount_word x (RLoadsRemovedAgain held) hook = tt
+remount_word x (RLeavesHolds held) hook = tt
 remount_word x (SetsRemount held) hook = tt
 remount_word x (RClearsHold held) hook = tt
 remount_word x (GivesUp m held) hook = tt
@@ -200,6 +207,9 @@ create_word x RefundsChild = tt
 remove_word : (x : Remove) (s : RemoveStep) → IsNoStore (remove_next x s)
 remove_word x LoadsFileToRemove = tt
 remove_word x (FreesNode file) = tt
+remove_word x (CountsRemoved file) = tt
+remove_word x (MarksRemoved file) = tt
+remove_word x RefundsRemoved = tt
 remove_word x (RefundsItsBlocks file) = tt
 remove_word x (RefundsItsChild file) = tt
 
@@ -221,6 +231,10 @@ mark_word : (x : Mark) (s : MarkStep) → IsNoStore (mark_next x s)
 mark_word x LoadsFileToMark = tt
 mark_word x (MarksFile file) = tt
 
+open_word : (x : OpenFile) (s : OpenStep) → IsNoStore (open_next x s)
+open_word x LoadsFileToOpen = tt
+open_word x (OpensFile file) = tt
+
 snapshot_word : (x : Snapshot) (s : SnapshotStep) → IsNoStore (snapshot_next x s)
 snapshot_word x SLocks = tt
 snapshot_word x SLoadsStage = tt
@@ -235,8 +249,18 @@ tree_word (Removes x) hook = remove_word x x.step
 tree_word (Grows x) hook = grow_word x x.step
 tree_word (Moves x) hook = move_word x x.step
 tree_word (TreeMarks x) hook = mark_word x x.step
+tree_word (OpensOne x) hook = open_word x x.step
 tree_word (Snapshots x) hook = snapshot_word x x.step
 tree_word (TreeClears x) hook = tt
+
+close_word : (x : ClosePhase) → IsNoStore (close_next x)
+close_word (LoadsFileToClose x) = tt
+close_word (LowersCount x node) = tt
+close_word (EntersLevel file node r) = read_word r r.step
+close_word (FreesFile file p node) = tt
+close_word (RefundsFile p blocks) = tt
+close_word (Uncounts p) = tt
+close_word (LeavesLevel p) = tt
 
 -- by no phase's next event
 pub no_store : (phase : Phase) (hook : HookAnswer) → IsNoStore (next_of phase hook)
@@ -251,9 +275,10 @@ no_store (Writes x) hook = write_word x
 no_store (Freezes x) hook = freeze_word x x.step hook
 no_store (Thaws x) hook = thaw_word x x.step hook
 no_store (Trees x) hook = tree_word x hook
+no_store (Closes x) hook = close_word x
 
 -- so what an event finds in a word is what the word held, where that is a node's
-pub held_found : (word : WordName) (touch : Touch) (value : ℕ) → IsNoStore (word, touch) → MayHold word value →
+held_found : (word : WordName) (touch : Touch) (value : ℕ) → IsNoStore (word, touch) → MayHold word value →
     MayHold word (found_by touch value)
 held_found (Node n) (Store new) value none may = absurd none
 held_found (Node n) Load value none may = may
@@ -268,6 +293,7 @@ held_found Stage touch value none may = tt
 held_found Holders touch value none may = tt
 held_found SbFlags touch value none may = tt
 held_found RemountWord touch value none may = tt
+held_found RemovedWord touch value none may = tt
 held_found (MountFlags m) touch value none may = tt
 held_found (MountCount m p) touch value none may = tt
 held_found (Block i) touch value none may = tt
@@ -276,3 +302,20 @@ held_found (LevelCount i p) touch value none may = tt
 held_found (Section t) touch value none may = tt
 held_found Used touch value none may = tt
 held_found (Kids n) touch value none may = tt
+
+-- the same of what a phase asks of its word
+open_found : (x : OpenFile) (s : OpenStep) (value : ℕ) → OpenMayFind s value → OpenMayFind s (found_by (open_next x s).1 value)
+open_found x LoadsFileToOpen value may = may
+open_found x (OpensFile file) value may = may
+
+pub there_found : (phase : Phase) (hook : HookAnswer) (value : ℕ) → MayFind phase (next_of phase hook).0 value →
+    MayFind phase (next_of phase hook).0 (found_by (next_of phase hook).1 value)
+there_found (Closes (LoadsFileToClose x)) hook value may = may
+there_found (Closes (LowersCount x node)) hook value may = may
+there_found (Closes (EntersLevel file node r)) hook value may = tt
+there_found (Closes (FreesFile file p node)) hook value may = may
+there_found (Closes (RefundsFile p blocks)) hook value may = tt
+there_found (Closes (Uncounts p)) hook value may = tt
+there_found (Closes (LeavesLevel p)) hook value may = tt
+there_found (Trees (OpensOne x)) hook value may = open_found x x.step value may
+there_found phase hook value may = held_found (next_of phase hook).0 (next_of phase hook).1 value (no_store phase hook) may

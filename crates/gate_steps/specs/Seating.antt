@@ -12,7 +12,7 @@ use Rattle.gate_world.specs.Views.{opening_view, begun_view, view_after_beside}
 use Rattle.gate_world.specs.Beginnings.{first_phase, view_refusal}
 use Rattle.gate_world.specs.Worlds.{World, after_begin, found_at, after_step_beside, phase_action, with_action}
 use Rattle.gate_world.specs.Work.{next_of}
-use Rattle.gate_world.specs.Courses.{MayHold}
+use Rattle.gate_world.specs.Courses.{MayFind}
 use Rattle.gate_world.specs.Shown.{shown}
 use Rattle.gate_world.specs.Rules.{IsGood, Moves}
 use Rattle.gate_steps.specs.Histories.{HasHistory}
@@ -104,7 +104,7 @@ pub record Moved (c : Config) (begins : Option Op) (phase : Phase) (hook : HookA
   pub before : IsGood c world
   pub mine : HaveViews world.views (x ∷ xs)
   pub found : n ≡ found_at world.words phase hook
-  pub holds : MayHold (next_of phase hook).0 n
+  pub holds : MayFind phase (next_of phase hook).0 n
   pub after : IsGood c (world_left c world begins phase hook x.number xs)
   pub moves : Moves c (shown c world) x.number (phase_action world hook (Some phase))
       (shown c (world_left c world begins phase hook x.number xs))

@@ -8,6 +8,7 @@ mod granted;
 mod holders;
 mod hooks;
 mod lost;
+mod opens;
 mod steps;
 mod threads;
 

@@ -1,7 +1,7 @@
 -- What a task holds at run time, and what an action leaves of it.
 use Rattle.std.specs.Prelude.{ℕ, ◌+◌, ◌-◌, Bool, true, false, Option, Some, None, slice_index, slice_index_or, slice_set, replicate}
 use Rattle.access_model.specs.declared.actions.Action.{Action}
-use Rattle.access_model.specs.declared.actions.Action.TheVariants.{Grant, Return}
+use Rattle.access_model.specs.declared.actions.Action.TheVariants.{Grant, Return, Open, Close}
 use Rattle.access_model.specs.declared.actions.Gate.TheVariants.{Mount, Level}
 use Rattle.gate_world.specs.declared.accesses.Accesses.{Accesses}
 
@@ -13,9 +13,13 @@ mounts_held held = slice_index held.mounts
 abbrev pub levels_held : Accesses → ℕ → Bool
 levels_held held i = slice_index_or held.levels i false
 
+-- which files are open
+abbrev pub files_held : Accesses → ℕ → Bool
+files_held held n = slice_index_or held.files n false
+
 -- nothing is held
 abbrev pub no_accesses : Accesses
-no_accesses = record { mounts = replicate 8 0; levels = replicate 4 false }
+no_accesses = record { mounts = replicate 8 0; levels = replicate 4 false; files = replicate 64 false }
 
 -- what an action, if there is one, leaves: a grant adds an access, a return takes one away, and any other changes nothing
 abbrev pub accesses_after : Accesses → Option Action → Accesses
@@ -24,4 +28,6 @@ accesses_after held (Some (Grant (Mount m))) = record held { mounts = slice_set 
 accesses_after held (Some (Grant (Level i))) = record held { levels = slice_set held.levels i true }
 accesses_after held (Some (Return (Mount m))) = record held { mounts = slice_set held.mounts m (slice_index held.mounts m - 1) }
 accesses_after held (Some (Return (Level i))) = record held { levels = slice_set held.levels i false }
+accesses_after held (Some (Open n)) = record held { files = slice_set held.files n true }
+accesses_after held (Some (Close n)) = record held { files = slice_set held.files n false }
 accesses_after held (Some a) = held

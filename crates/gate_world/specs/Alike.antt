@@ -12,6 +12,7 @@ use Rattle.gate_world.specs.Worlds.{World}
 use Rattle.gate_world.specs.Levels.{level_role_of, sync_role_of, inside}
 use Rattle.gate_world.specs.declared.views.Traced.{Traced}
 use Rattle.gate_world.specs.Trees.{tree_role_of}
+use Rattle.gate_world.specs.Fits.{file_of}
 
 -- all that the rule and the shown model read of a phase is the same of both, but for the accesses that it asks for
 pub record IsAlike (p q : Option Phase) : Type 0 where
@@ -22,6 +23,7 @@ pub record IsAlike (p q : Option Phase) : Type 0 where
   pub sync_same : (i : ℕ) → sync_role_of i q ≡ sync_role_of i p
   pub inside_same : inside q ≡ inside p
   pub tree_same : (trace : List Traced) → tree_role_of trace q ≡ tree_role_of trace p
+  pub file_same : file_of q ≡ file_of p
   pub role_same : (m : ℕ) → role_of m q ≡ role_of m p
 
 -- the view of a task that stands at this phase

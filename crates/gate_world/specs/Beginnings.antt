@@ -1,13 +1,13 @@
 -- Beginnings: where an operation starts, and why it can't. A beginning has no event.
-use Rattle.std.specs.Prelude.{ℕ, Bool, if◌then◌else◌, Option, Some, None, is_some, Result, Ok, Err}
+use Rattle.std.specs.Prelude.{ℕ, Bool, if◌then◌else◌, Option, Some, None, is_some, Result, Ok, Err, ◌&&◌}
 use Rattle.access_model.specs.declared.errors.GateError.{GateError}
 use Rattle.access_model.specs.declared.errors.GateError.TheVariants.{Invalid, Order, TooMany}
 use Rattle.gate_world.specs.declared.config.Config.{Config}
 use Rattle.gate_world.specs.declared.operations.Op.{Op}
 use Rattle.gate_world.specs.declared.work.Phase.{Phase}
 use Rattle.gate_world.specs.declared.views.View.{View}
-use Rattle.gate_world.specs.Operations.{row}
-use Rattle.gate_world.specs.Views.{held_at, holds_level}
+use Rattle.gate_world.specs.Operations.{row, is_of_open, is_of_closed}
+use Rattle.gate_world.specs.Views.{held_at, holds_level, has_open}
 
 -- the first phase of an operation
 abbrev pub first_phase : Config → ℕ → Op → Phase
@@ -26,17 +26,19 @@ abbrev pub is_within_room : (ℕ → ℕ) → Op → Bool
 is_within_room held op = (row op).within_room held
 
 -- Why an operation can't begin, the first in this order: another is under way; a number of it is out of range; the task holds what
--- it must not find held, or doesn't hold what it gives back; the task would hold too many accesses.
-abbrev pub refusal : Config → Bool → (ℕ → ℕ) → (ℕ → Bool) → Op → Option GateError
-refusal c under_way held levels op =
+-- it must not find held, or doesn't hold what it gives back; the task would hold too many accesses, or have a file open twice.
+abbrev pub refusal : Config → Bool → (ℕ → ℕ) → (ℕ → Bool) → (ℕ → Bool) → Op → Option GateError
+refusal c under_way held levels files op =
     if under_way then Some Order else
     if is_in_range c op then
-    (if is_in_order c held levels op then (if is_within_room held op then None else Some TooMany) else Some Order) else
+    (if is_in_order c held levels op && is_of_open files op then
+    (if is_within_room held op && is_of_closed files op then None else Some TooMany) else
+    Some Order) else
     Some Invalid
 
 -- the same, of the accesses that a view's actions leave
 abbrev pub view_refusal : Config → View → Op → Option GateError
-view_refusal c v op = refusal c (is_some v.phase) (held_at v) (holds_level v) op
+view_refusal c v op = refusal c (is_some v.phase) (held_at v) (holds_level v) (has_open v) op
 
 -- this, but the refusal where there is one
 abbrev pub or_refusal : {A : Type 0} → A → Option GateError → Result A GateError
@@ -44,5 +46,5 @@ or_refusal x None = Ok x
 or_refusal x (Some refused) = Err refused
 
 -- what a beginning answers: the operation's first phase, or why it can't begin
-abbrev pub beginning : Config → ℕ → Bool → (ℕ → ℕ) → (ℕ → Bool) → Op → Result Phase GateError
-beginning c t under_way held levels op = or_refusal (first_phase c t op) (refusal c under_way held levels op)
+abbrev pub beginning : Config → ℕ → Bool → (ℕ → ℕ) → (ℕ → Bool) → (ℕ → Bool) → Op → Result Phase GateError
+beginning c t under_way held levels files op = or_refusal (first_phase c t op) (refusal c under_way held levels files op)

@@ -8,11 +8,13 @@ use Rattle.mount_counts.specs.declared.phases.WantStep.TheVariants.{LoadsRemount
 use Rattle.mount_counts.specs.declared.phases.ChangeStep.{ChangeStep}
 use Rattle.mount_counts.specs.declared.phases.ChangeStep.TheVariants.{Sums, Releases}
 use Rattle.mount_counts.specs.declared.remounts.RemountStep.{RemountStep}
-use Rattle.mount_counts.specs.declared.remounts.RemountStep.TheVariants.{LoadsStage, Sums as RemountSums, Releases as RemountReleases}
+use Rattle.mount_counts.specs.declared.remounts.RemountStep.TheVariants.{LoadsStage, LoadsRemoved, LoadsRemovedAgain, Sums as RemountSums, Releases as RemountReleases}
 use Rattle.mount_counts.specs.Roles.{counted}
 use Rattle.gate_world.specs.declared.config.Config.{Config}
+use Rattle.file_closes.specs.declared.phases.ClosePhase.{ClosePhase}
+use Rattle.file_closes.specs.declared.phases.ClosePhase.TheVariants.{Enters}
 use Rattle.gate_world.specs.declared.work.Phase.{Phase}
-use Rattle.gate_world.specs.declared.work.Phase.TheVariants.{Mounts, Remounts, DownReads, UpReads, Callbacks, Writes, Freezes, Thaws, Trees}
+use Rattle.gate_world.specs.declared.work.Phase.TheVariants.{Mounts, Remounts, DownReads, UpReads, Callbacks, Writes, Freezes, Thaws, Trees, Closes}
 use Rattle.percpu_rwsem.specs.declared.readers.DownReadStep.{DownReadStep}
 use Rattle.percpu_rwsem.specs.declared.readers.DownReadStep.TheVariants.{LoadsBlock, LeavesBlocked}
 use Rattle.level_laws.specs.Roles.{closed}
@@ -33,7 +35,10 @@ use Rattle.gate_world.specs.Worlds.{World, Entry, happens, run, opening, found_a
 use Rattle.gate_world.specs.Shown.{shown}
 use Rattle.gate_world.specs.Rules.{at_mount}
 use Rattle.gated_tree.specs.declared.phases.TreePhase.{TreePhase}
-use Rattle.gated_tree.specs.declared.phases.TreePhase.TheVariants.{Create as Creates, Remove as Removes, Grow as Grows, MoveTo as Moves, Mark as TreeMarks, Snapshot as Snapshots}
+use Rattle.gated_tree.specs.declared.phases.TreePhase.TheVariants.{Create as Creates, Remove as Removes, Grow as Grows, MoveTo as Moves, Mark as TreeMarks, OpenFile as OpensOne, Snapshot as Snapshots}
+use Rattle.gated_tree.specs.declared.opens.OpenFile.{OpenFile}
+use Rattle.gated_tree.specs.declared.opens.OpenStep.{OpenStep}
+use Rattle.gated_tree.specs.declared.opens.OpenStep.TheVariants.{LoadsFile as LoadsFileToOpen}
 use Rattle.gated_tree.specs.declared.snapshots.SnapshotStep.{SnapshotStep}
 use Rattle.gated_tree.specs.declared.snapshots.SnapshotStep.TheVariants.{LoadsStage as SnapshotLoadsStage, Releases as SnapshotReleases}
 use Rattle.gated_tree.specs.declared.changes.Create.{Create}
@@ -52,7 +57,7 @@ use Rattle.gated_tree.specs.declared.marks.Mark.{Mark}
 use Rattle.gated_tree.specs.declared.marks.MarkStep.{MarkStep}
 use Rattle.gated_tree.specs.declared.marks.MarkStep.TheVariants.{LoadsFile as LoadsFileToMark}
 use Rattle.access_model.specs.declared.actions.NodeInfo.{NodeInfo}
-use Rattle.access_model.specs.States.{IsFile, IsDirectory}
+use Rattle.access_model.specs.States.{is_removed, IsFile, IsDirectory}
 use Rattle.access_model.specs.declared.errors.GateError.{GateError}
 use Rattle.access_model.specs.declared.replies.Next.TheVariants.{Done}
 use Rattle.cpu_words.specs.Hooks.{HookAnswer}
@@ -139,6 +144,26 @@ abbrev pub was_frozen : Config → Option World → Bool
 was_frozen c None = false
 was_frozen c (Some w) = not ((shown c w).stage == 0)
 
+-- the next event of a remount is a load of `removed`
+abbrev pub step_counts : RemountStep → Bool
+step_counts LoadsRemoved = true
+step_counts (LoadsRemovedAgain held) = true
+step_counts step = false
+
+abbrev pub looks_at_removed : Option Phase → Bool
+looks_at_removed (Some (Remounts x)) = step_counts x.step
+looks_at_removed phase = false
+
+-- the world in which a task last looked at `removed`
+abbrev pub last_removed : ℕ → List World → Option World
+last_removed t [] = None
+last_removed t (w ∷ earlier) = if looks_at_removed (w.views t).phase then Some w else last_removed t earlier
+
+-- a removed file was counted there
+abbrev pub was_removed : Option World → Bool
+was_removed None = false
+was_removed (Some w) = not (w.words.removed == 0)
+
 -- it had a stage other than 4 there
 abbrev pub was_incomplete : Config → Option World → Bool
 was_incomplete c None = false
@@ -165,10 +190,16 @@ abbrev pub write_asks_level : WritePhase → Bool
 write_asks_level (Takes m r) = read_asks r.step
 write_asks_level x = false
 
+-- the same of a close
+abbrev pub close_asks_level : ClosePhase → Bool
+close_asks_level (Enters f node r) = read_asks r.step
+close_asks_level x = false
+
 -- the same of what a task is at
 abbrev pub asks_level : Option Phase → Bool
 asks_level (Some (DownReads r)) = read_asks r.step
 asks_level (Some (Writes x)) = write_asks_level x
+asks_level (Some (Closes x)) = close_asks_level x
 asks_level phase = false
 
 -- the world in which a task last asked whether a level is closed
@@ -250,6 +281,11 @@ WriteHasCause c t worlds (WriteWants x) = x.step ≡ CountsDown ReadOnly → was
 WriteHasCause c t worlds (GivesBack m p refusal) = refusal ≡ ReadOnly → was_read_only c m (last_question t worlds) ≡ true
 WriteHasCause c t worlds x = Unit {0}
 
+-- the same of a close that waits for level 3, or is refused again there
+abbrev pub CloseHasCause : Config → ℕ → List World → ClosePhase → Type 0
+CloseHasCause c t worlds (Enters f node r) = r.step ≡ LeavesBlocked → WasClosed c t r.level (last_asked t worlds)
+CloseHasCause c t worlds x = Unit {0}
+
 -- the same of a freeze that is refused as busy, and of a thaw that is refused as invalid: the stage, or who holds one, was so when it looked
 abbrev pub FreezeHasCause : Config → ℕ → List World → Holder → FreezeStep → Type 0
 FreezeHasCause c t worlds holder (FreezeReleases answer) = answer ≡ Err Busy → was_busy c holder (last_look t worlds) ≡ true
@@ -281,17 +317,22 @@ abbrev pub mark_sees : Mark → MarkStep → Option ℕ
 mark_sees x LoadsFileToMark = Some x.file
 mark_sees x step = None
 
+abbrev pub open_sees : OpenFile → OpenStep → Option ℕ
+open_sees x LoadsFileToOpen = Some x.file
+open_sees x step = None
+
 abbrev pub tree_sees : TreePhase → Option ℕ
 tree_sees (Creates x) = create_sees x x.step
 tree_sees (Removes x) = remove_sees x x.step
 tree_sees (Grows x) = grow_sees x x.step
 tree_sees (Moves x) = move_sees x x.step
 tree_sees (TreeMarks x) = mark_sees x x.step
+tree_sees (OpensOne x) = open_sees x x.step
 tree_sees phase = None
 
--- the refusal tells what the shown model has at this node: nothing, a file, a directory
+-- the refusal tells what the shown model has at this node: nothing or a removed file, a file, a directory
 abbrev pub TellsOf : Option NodeInfo → GateError → Type 0
-TellsOf entry NoEntry = entry ≡ None
+TellsOf entry NoEntry = (entry ≡ None) ⊎ (is_removed entry ≡ true)
 TellsOf entry NotDir = IsFile entry
 TellsOf entry IsDir = IsDirectory entry
 TellsOf entry refusal = Unit {0}
@@ -336,7 +377,8 @@ HasCause c t worlds (Some (Mounts (Wants x))) = x.step ≡ CountsDown ReadOnly �
 HasCause c t worlds (Some (Mounts (Drops m p))) = Unit {0}
 HasCause c t worlds (Some (Mounts (Changes x))) = x.step ≡ Releases (Err Busy) → was_counted c x.mount (moments_of_sum t worlds) ≡ true
 HasCause c t worlds (Some (Remounts x)) =
-    x.step ≡ RemountReleases (Err Busy) → (was_frozen c (last_look t worlds) ≡ true) ⊎ SomeWasCounted c t worlds
+    x.step ≡ RemountReleases (Err Busy) →
+    (was_frozen c (last_look t worlds) ≡ true) ⊎ ((was_removed (last_removed t worlds) ≡ true) ⊎ SomeWasCounted c t worlds)
 HasCause c t worlds (Some (DownReads r)) = r.step ≡ LeavesBlocked → WasClosed c t r.level (last_asked t worlds)
 HasCause c t worlds (Some (UpReads u)) = Unit {0}
 HasCause c t worlds (Some (Callbacks b)) = Unit {0}
@@ -344,6 +386,7 @@ HasCause c t worlds (Some (Writes x)) = WriteHasCause c t worlds x
 HasCause c t worlds (Some (Freezes x)) = FreezeHasCause c t worlds x.holder x.step
 HasCause c t worlds (Some (Thaws x)) = ThawHasCause c t worlds x.holder x.step
 HasCause c t worlds (Some (Trees phase)) = TreeHasCause c t worlds phase
+HasCause c t worlds (Some (Closes phase)) = CloseHasCause c t worlds phase
 
 -- so it is of every task, after a schedule
 abbrev pub RefusalsHaveCauses : Config → List Entry → Type 0

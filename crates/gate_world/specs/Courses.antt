@@ -1,12 +1,18 @@
 -- Courses: how far an operation has come by its events, in the order of its phases. They speak of no other task.
-use Rattle.std.specs.Prelude.{◌≡◌, ℕ, false, Option, Some, None, List, [], ◌∷◌, ◌++◌, ◌<◌, is_some}
+use Rattle.std.specs.Prelude.{◌≡◌, ℕ, false, Option, Some, None, List, [], ◌∷◌, ◌++◌, ◌<◌, is_some, ◌≤◌}
 use Rattle.access_model.specs.declared.actions.Action.{Action}
 use Rattle.access_model.specs.declared.replies.Next.{Next}
-use Rattle.access_model.specs.Histories.{mounts_of, levels_of}
+use Rattle.access_model.specs.Histories.{mounts_of, levels_of, opens_of}
 use Rattle.access_model.specs.declared.replies.Next.TheVariants.{Go, Wait, Done}
 use Rattle.cpu_words.specs.Touches.{event_of}
 use Rattle.gate_world.specs.declared.config.Config.{Config}
 use Rattle.gate_world.specs.declared.operations.Op.{Op}
+use Rattle.file_closes.specs.declared.phases.ClosePhase.{ClosePhase}
+use Rattle.file_closes.specs.declared.phases.ClosePhase.TheVariants.{LoadsFile as CloseLoadsFile, LowersCount, FreesNode}
+use Rattle.gate_world.specs.declared.work.Phase.TheVariants.{Trees, Closes}
+use Rattle.gated_tree.specs.declared.phases.TreePhase.TheVariants.{OpenFile as OpensOne}
+use Rattle.gated_tree.specs.declared.opens.OpenStep.{OpenStep}
+use Rattle.gated_tree.specs.declared.opens.OpenStep.TheVariants.{LoadsFile as LoadsFileToOpen, OpensFile}
 use Rattle.gate_world.specs.declared.work.Phase.{Phase}
 use Rattle.gate_world.specs.declared.views.View.{View}
 use Rattle.gate_world.specs.declared.views.Traced.{Traced}
@@ -17,7 +23,7 @@ use Rattle.cpu_words.specs.declared.names.WordName.{WordName}
 use Rattle.gate_world.specs.Worlds.{World, value_at}
 use Rattle.cpu_words.specs.declared.names.WordName.TheVariants.{Node}
 use Rattle.cpu_words.specs.Hooks.{HookAnswer}
-use Rattle.gated_tree.specs.Nodes.{unpacked}
+use Rattle.gated_tree.specs.Nodes.{unpacked, opens_in, word_of}
 use Rattle.std.proofs.Common.{true}
 
 -- where an operation stands, and the actions that it has added, the newest first
@@ -45,10 +51,27 @@ abbrev pub MayHold : WordName → ℕ → Type 0
 MayHold (Node n) value = is_some (unpacked value) ≡ true
 MayHold word value = Unit {0}
 
+-- What the next event of a phase may find: at a close's file, that some task has it open; at that of a last close, that it is as it was
+-- loaded; at a file to open, that fewer than 64 tasks have it open.
+abbrev pub CloseMayFind : ClosePhase → ℕ → Type 0
+CloseMayFind (CloseLoadsFile x) value = (is_some (unpacked value) ≡ true) × (1 ≤ opens_in value)
+CloseMayFind (FreesNode f p node) value = value ≡ word_of node
+CloseMayFind (LowersCount x node) value = is_some (unpacked value) ≡ true
+CloseMayFind phase value = Unit {0}
+
+abbrev pub OpenMayFind : OpenStep → ℕ → Type 0
+OpenMayFind LoadsFileToOpen value = (is_some (unpacked value) ≡ true) × (opens_in value < 64)
+OpenMayFind (OpensFile file) value = is_some (unpacked value) ≡ true
+
+abbrev pub MayFind : Phase → WordName → ℕ → Type 0
+MayFind (Closes x) word value = CloseMayFind x value
+MayFind (Trees (OpensOne x)) word value = OpenMayFind x.step value
+MayFind phase word value = MayHold word value
+
 -- the event is the one of this phase, on a word that held some value which it may hold
 abbrev pub IsEventOf : Phase → Traced → Type 0
 IsEventOf phase e =
-    (value : ℕ) × (e.event ≡ event_of (next_of phase e.hook).0 (next_of phase e.hook).1 value) × MayHold (next_of phase e.hook).0 value
+    (value : ℕ) × (e.event ≡ event_of (next_of phase e.hook).0 (next_of phase e.hook).1 value) × MayFind phase (next_of phase e.hook).0 value
 
 -- the event is the one that comes next; after the end there is none
 abbrev pub IsNext : Next Phase → Traced → Type 0
@@ -67,7 +90,7 @@ pub record FollowsOrder (c : Config) (t : ℕ) (v : View) (op : Op) : Type 0 whe
   pub trace : IsTrace c t op v.trace
   pub phase : v.phase ≡ phase_after (course_of c t op v.trace).comes
   pub actions : v.actions ≡ (course_of c t op v.trace).added ++ v.before
-  pub begins : refusal c false (mounts_of v.before) (levels_of v.before) op ≡ None
+  pub begins : refusal c false (mounts_of v.before) (levels_of v.before) (opens_of v.before) op ≡ None
 
 -- the same of a view that may have no operation
 abbrev pub IsTraced : Config → ℕ → View → Option Op → Type 0
@@ -77,7 +100,7 @@ IsTraced c t v (Some op) = FollowsOrder c t v op
 -- the next event of each task is on a word that holds what it may
 abbrev pub EventsMayBe : Config → World → Type 0
 EventsMayBe c w = (t : ℕ) → t < c.tasks → (phase : Phase) (hook : HookAnswer) → (w.views t).phase ≡ Some phase →
-    MayHold (next_of phase hook).0 (value_at w.words phase hook)
+    MayFind phase (next_of phase hook).0 (value_at w.words phase hook)
 
 -- the trace of each task number is one of its operation
 abbrev pub AllTraced : Config → World → Type 0

@@ -1,19 +1,21 @@
 -- What a phase says of its numbers and of its task's own accesses: they are accesses with which its operation may begin, as its own
 -- actions have changed them since.
-use Rattle.std.specs.Prelude.{◌≡◌, ℕ, ◌<◌, ◌≤◌, Bool, true, false, Option, Some, None}
+use Rattle.std.specs.Prelude.{◌≡◌, ℕ, ◌<◌, ◌≤◌, Bool, true, false, Option, Some, None, ◌⊎◌}
 use Rattle.mount_counts.specs.declared.phases.MountPhase.{MountPhase}
 use Rattle.mount_counts.specs.declared.phases.MountPhase.TheVariants.{Want, Drop, Change}
 use Rattle.mount_counts.specs.declared.phases.ChangeStep.{ChangeStep}
 use Rattle.mount_counts.specs.declared.phases.ChangeStep.TheVariants.{Sums}
 use Rattle.access_model.specs.declared.actions.Action.{Action}
-use Rattle.access_model.specs.declared.actions.Action.TheVariants.{Grant, Return}
+use Rattle.access_model.specs.declared.actions.Action.TheVariants.{Grant, Return, Open, Close}
 use Rattle.access_model.specs.declared.actions.Gate.TheVariants.{Mount, Level}
 use Rattle.access_model.specs.declared.actions.Holder.{Holder}
 use Rattle.access_model.specs.Holders.{held_by, with_holder, is_unheld}
-use Rattle.access_model.specs.Actions.{mounts_after, levels_after}
+use Rattle.access_model.specs.Actions.{mounts_after, levels_after, opens_after}
 use Rattle.gate_world.specs.declared.config.Config.{Config}
+use Rattle.file_closes.specs.declared.phases.ClosePhase.{ClosePhase}
+use Rattle.file_closes.specs.declared.phases.ClosePhase.TheVariants.{LoadsFile as CloseLoadsFile, LowersCount, Enters, FreesNode, RefundsBlocks as CloseRefundsBlocks, Uncounts as CloseUncounts, Leaves as CloseLeaves}
 use Rattle.gate_world.specs.declared.work.Phase.{Phase}
-use Rattle.gate_world.specs.declared.work.Phase.TheVariants.{Mounts, Remounts, DownReads, UpReads, Callbacks, Writes, Freezes, Thaws, Trees}
+use Rattle.gate_world.specs.declared.work.Phase.TheVariants.{Mounts, Remounts, DownReads, UpReads, Callbacks, Writes, Freezes, Thaws, Trees, Closes}
 use Rattle.percpu_rwsem.specs.declared.readers.DownRead.{DownRead}
 use Rattle.percpu_rwsem.specs.declared.readers.DownReadStep.{DownReadStep}
 use Rattle.percpu_rwsem.specs.declared.readers.DownReadStep.TheVariants.{LeavesAdmitted}
@@ -31,7 +33,11 @@ use Rattle.level_laws.specs.Operations.{KnowsCallback, KnowsDownWrite, KnowsUpWr
 use Rattle.write_access.specs.declared.phases.WritePhase.{WritePhase}
 use Rattle.write_access.specs.declared.phases.WritePhase.TheVariants.{Takes, Wants as WriteWants, GivesBack, Drops as WriteDrops, Ends}
 use Rattle.gated_tree.specs.declared.phases.TreePhase.{TreePhase}
-use Rattle.gated_tree.specs.declared.phases.TreePhase.TheVariants.{Mark as TreeMarks, Snapshot as Snapshots, ClearMarks as TreeClears}
+use Rattle.gated_tree.specs.declared.phases.TreePhase.TheVariants.{Mark as TreeMarks, OpenFile as OpensOne, Snapshot as Snapshots, ClearMarks as TreeClears}
+use Rattle.file_closes.specs.declared.phases.Closing.{Closing}
+use Rattle.access_model.specs.declared.actions.Kind.TheVariants.{File}
+use Rattle.gated_tree.specs.declared.nodes.NodeWord.{NodeWord}
+use Rattle.gated_tree.specs.Nodes.{IsLawful}
 use Rattle.gated_tree.specs.Calls.{TreePhaseFits}
 use Rattle.gate_world.specs.Trees.{tree_bounds}
 use Rattle.gate_world.specs.Operations.{holds_none, holds_none_from, is_writer, may_mark}
@@ -105,9 +111,27 @@ WriteFits c t held levels (Ends p) = (p < c.processors) × (levels 1 ≡ true)
 -- who is inside level 3; for a snapshot, who holds no level. A clearing of marks is a part of a remount or a freeze alone.
 abbrev pub TreeAccess : Config → (ℕ → ℕ) → (ℕ → Bool) → TreePhase → Type 0
 TreeAccess c held levels (TreeMarks x) = may_mark x.dirty c held levels ≡ true
+TreeAccess c held levels (OpensOne x) = Unit {0}
 TreeAccess c held levels (Snapshots x) = holds_none levels ≡ true
 TreeAccess c held levels (TreeClears x) = ⊥
 TreeAccess c held levels phase = is_writer c held levels ≡ true
+
+-- a close is of this task, of a file in range, and holds no level 3 before it has gone inside; a file that it has loaded is one that a word
+-- can say, and it lowers a count that is some, and not the last one of a removed file
+abbrev pub ClosingFits : Config → ℕ → (ℕ → Bool) → Closing → Type 0
+ClosingFits c t levels x = (x.file < c.nodes) × (x.cpu < c.processors) × (x.task ≡ t) × (holds_none_from 3 levels ≡ true)
+
+abbrev pub MayLower : NodeWord → Type 0
+MayLower node = (node.kind ≡ Some File) × IsLawful node × (1 ≤ node.opens) × ((node.removed ≡ false) ⊎ (2 ≤ node.opens))
+
+abbrev pub CloseFits : Config → ℕ → (ℕ → Bool) → ClosePhase → Type 0
+CloseFits c t levels (CloseLoadsFile x) = ClosingFits c t levels x
+CloseFits c t levels (LowersCount x node) = ClosingFits c t levels x × MayLower node
+CloseFits c t levels (Enters f node r) = (f < c.nodes) × (r.level ≡ 3) × ReadFits c t levels r
+CloseFits c t levels (FreesNode f p node) = (f < c.nodes) × (p < c.processors) × (levels 3 ≡ true)
+CloseFits c t levels (CloseRefundsBlocks p blocks) = (p < c.processors) × (levels 3 ≡ true)
+CloseFits c t levels (CloseUncounts p) = (p < c.processors) × (levels 3 ≡ true)
+CloseFits c t levels (CloseLeaves p) = (p < c.processors) × (levels 3 ≡ true)
 
 -- The same of a phase of any layer: a remount is of this task, of these numbers, and holds no level; an up-read holds its level; a callback
 -- is of all tasks, and knows the words of an exchange that is to come; a freeze or a thaw is of this task, of these numbers, and holds no
@@ -125,6 +149,7 @@ PhaseFits c t held levels (Freezes x) = (x.task ≡ t) × (x.tasks ≡ c.tasks) 
     (holds_none levels ≡ true) × FreezeFits c x.holder x.step
 PhaseFits c t held levels (Thaws x) = (x.task ≡ t) × (holds_none levels ≡ true) × ThawFits x.holder x.step
 PhaseFits c t held levels (Trees phase) = TreePhaseFits (tree_bounds c) t phase × TreeAccess c held levels phase
+PhaseFits c t held levels (Closes phase) = CloseFits c t levels phase
 
 -- the same of what a task is at; nothing is asked where no operation is under way
 abbrev pub Fits : Config → ℕ → (ℕ → ℕ) → (ℕ → Bool) → Option Phase → Type 0
@@ -138,6 +163,8 @@ ActionFits held (Some (Grant (Mount m))) = (m < 8) × (held m < 1024)
 ActionFits held (Some (Grant (Level i))) = (1 ≤ i) × (i ≤ 3)
 ActionFits held (Some (Return (Mount m))) = (m < 8) × (0 < held m)
 ActionFits held (Some (Return (Level i))) = (1 ≤ i) × (i ≤ 3)
+ActionFits held (Some (Open n)) = n < 64
+ActionFits held (Some (Close n)) = n < 64
 ActionFits held (Some a) = Unit {0}
 
 -- what an action, if there is one, leaves of a task's accesses
@@ -149,3 +176,26 @@ mounts_by (Some a) held = mounts_after a held
 abbrev pub levels_by : Option Action → (ℕ → Bool) → ℕ → Bool
 levels_by None levels = levels
 levels_by (Some a) levels = levels_after a levels
+
+-- and of the open files
+abbrev pub opens_by : Option Action → (ℕ → Bool) → ℕ → Bool
+opens_by None files = files
+opens_by (Some a) files = opens_after a files
+
+-- the file that a phase relies on its task to have open, or not to have open
+abbrev pub close_file : ClosePhase → Option (ℕ × Bool)
+close_file (CloseLoadsFile x) = Some (x.file, true)
+close_file (LowersCount x node) = Some (x.file, true)
+close_file (Enters f node r) = Some (f, true)
+close_file (FreesNode f p node) = Some (f, true)
+close_file phase = None
+
+abbrev pub file_of : Option Phase → Option (ℕ × Bool)
+file_of (Some (Closes phase)) = close_file phase
+file_of (Some (Trees (OpensOne x))) = Some (x.file, false)
+file_of phase = None
+
+-- it is so
+abbrev pub HasFile : (ℕ → Bool) → Option (ℕ × Bool) → Type 0
+HasFile files None = Unit {0}
+HasFile files (Some file) = files file.0 ≡ file.1

@@ -1,7 +1,7 @@
 -- What the events of a trace have found.
 use Rattle.std.specs.Prelude.{◌≡◌, ◌≢◌, ℕ, zero, suc, ◌%◌, ◌==◌, not, ◌&&◌, ◌||◌, Bool, true, false, if◌then◌else◌, ◌⊎◌, Option, Some, None, is_some, List, [], ◌∷◌, sum_by}
 use Rattle.cpu_words.specs.declared.names.WordName.{WordName}
-use Rattle.cpu_words.specs.declared.names.WordName.TheVariants.{Umount, Stage, Holders, SbFlags, Remount, MountFlags, MountCount, Block, Sync, LevelCount, Section, Node}
+use Rattle.cpu_words.specs.declared.names.WordName.TheVariants.{Umount, Stage, Holders, SbFlags, Remount, MountFlags, MountCount, Block, Sync, LevelCount, Section, Node, Removed}
 use Rattle.cpu_words.specs.declared.events.Touch.{Touch}
 use Rattle.cpu_words.specs.declared.events.Touch.TheVariants.{Load, Store, Add, Sub, And, Cas, Swap}
 use Rattle.cpu_words.specs.declared.events.Event.{Event}
@@ -342,3 +342,20 @@ sum_of_newest (suc n) (e ∷ earlier) = wrap_add (sum_of_newest n earlier) e.eve
 -- the newest events are loads of a level's counts, one of each processor, and their sum isn't 0
 abbrev pub FoundInside : ℕ → List Traced → Type 0
 FoundInside processors trace = (i : ℕ) × IsLevelSum i processors trace × (sum_of_newest processors trace ≢ 0)
+
+-- a word is `removed`
+abbrev is_removed_word : WordName → Bool
+is_removed_word Removed = true
+is_removed_word word = false
+
+-- a load found a removed file that is open
+abbrev pub finds_removed : Event → Bool
+finds_removed e = is_load e.touch && (is_removed_word e.word && not (e.found == 0))
+
+-- some load did
+abbrev pub found_removed : List Traced → Bool
+found_removed trace = some_event finds_removed trace
+
+-- some event was on `removed`: of a close, that it counts one removed file less
+abbrev pub found_dropped : List Traced → Bool
+found_dropped trace = some_event (λ e. is_removed_word e.word) trace

@@ -2,6 +2,7 @@
 use Rattle.std.specs.Prelude.{◌≡◌, ℕ, ◌%◌, ◌<◌, ◌≤◌, ◌==◌, ◌⊎◌, Bool, false, if◌then◌else◌, Option, Some, None, Err, List, []}
 use Rattle.finite_sums.specs.Sums.{total}
 use Rattle.access_model.specs.Histories.{Done, end_of, IsLegal, IsMerge}
+use Rattle.access_model.specs.States.{is_removed, one_if}
 use Rattle.access_model.specs.Laws.{NobodyHoldsClosed}
 use Rattle.access_model.specs.declared.errors.GateError.{GateError}
 use Rattle.access_model.specs.declared.replies.Next.TheVariants.{Done as Ended}
@@ -137,6 +138,7 @@ pub record IsAtRest (c : Config) (w : World) : Type 0 where
   pub callbacks_free : (i : ℕ) → 1 ≤ i → i ≤ 3 → IsUntaken (unpack (w.words.sync i))
   pub stage_settled : (w.words.stage ≡ 0) ⊎ (w.words.stage ≡ 4)
   pub holders_settled : HeldWhereFrozen w
+  pub removals_counted : w.words.removed ≡ total c.nodes (λ n. one_if (is_removed ((shown c w).tree n)))
   pub tree_sound : TreeIsSound c w
 
 -- nothing is left behind: with no operation under way, none of them stands

@@ -8,7 +8,7 @@ use Rattle.freeze_levels.specs.declared.thaws.ThawStep.{ThawStep}
 use Rattle.freeze_levels.specs.declared.thaws.ThawStep.TheVariants.{Leaves, LoadsSuperblock, LeavesReadOnly, LeavesLast, UnfreezesReadOnly, SetsUnfrozen}
 use Rattle.holder_laws.specs.Roles.{HolderRole, Apart, Found, Fills, Empties}
 use Rattle.gate_world.specs.declared.work.Phase.{Phase}
-use Rattle.gate_world.specs.declared.work.Phase.TheVariants.{Mounts, Remounts, DownReads, UpReads, Callbacks, Writes, Freezes, Thaws, Trees}
+use Rattle.gate_world.specs.declared.work.Phase.TheVariants.{Mounts, Remounts, DownReads, UpReads, Callbacks, Writes, Freezes, Thaws, Trees, Closes}
 
 -- A freeze that is to store its holder: right after its store of stage 4 beside nobody, and else beside those that it has found.
 abbrev pub freeze_holder_role : FreezeStep → HolderRole
@@ -37,3 +37,4 @@ holder_role_of (Some (Writes x)) = Apart
 holder_role_of (Some (Freezes x)) = freeze_holder_role x.step
 holder_role_of (Some (Thaws x)) = thaw_holder_role x.holder x.step
 holder_role_of (Some (Trees phase)) = Apart
+holder_role_of (Some (Closes x)) = Apart

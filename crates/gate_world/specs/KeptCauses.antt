@@ -10,10 +10,12 @@ use Rattle.mount_counts.specs.declared.phases.WantStep.TheVariants.{CountsDown}
 use Rattle.mount_counts.specs.declared.phases.ChangeStep.{ChangeStep}
 use Rattle.mount_counts.specs.declared.phases.ChangeStep.TheVariants.{Sums, ClearsHold, Releases}
 use Rattle.mount_counts.specs.declared.remounts.RemountStep.{RemountStep}
-use Rattle.mount_counts.specs.declared.remounts.RemountStep.TheVariants.{Sums as RemountSums, GivesUp, Releases as RemountReleases}
+use Rattle.mount_counts.specs.declared.remounts.RemountStep.TheVariants.{LeavesHolds, Sums as RemountSums, GivesUp, Releases as RemountReleases}
 use Rattle.gate_world.specs.declared.config.Config.{Config}
+use Rattle.file_closes.specs.declared.phases.ClosePhase.{ClosePhase}
+use Rattle.file_closes.specs.declared.phases.ClosePhase.TheVariants.{Enters}
 use Rattle.gate_world.specs.declared.work.Phase.{Phase}
-use Rattle.gate_world.specs.declared.work.Phase.TheVariants.{Mounts, Remounts, DownReads, Writes, Freezes, Thaws, Trees}
+use Rattle.gate_world.specs.declared.work.Phase.TheVariants.{Mounts, Remounts, DownReads, Writes, Freezes, Thaws, Trees, Closes}
 use Rattle.percpu_rwsem.specs.declared.readers.DownReadStep.{DownReadStep}
 use Rattle.percpu_rwsem.specs.declared.readers.DownReadStep.TheVariants.{CountsDown as TakesBack, LeavesBlocked}
 use Rattle.write_access.specs.declared.phases.WritePhase.{WritePhase}
@@ -26,7 +28,7 @@ use Rattle.freeze_levels.specs.declared.freezes.FreezeStep.TheVariants.{Closes, 
 use Rattle.freeze_levels.specs.declared.thaws.ThawStep.{ThawStep}
 use Rattle.freeze_levels.specs.declared.thaws.ThawStep.TheVariants.{Releases as ThawReleases}
 use Rattle.gate_world.specs.Worlds.{World}
-use Rattle.gate_world.specs.Causes.{last_question, was_read_only, last_look, was_frozen, was_busy, was_unheld, was_incomplete, moments_of_sum, was_inside, was_counted, SomeWasCounted, last_asked, WasClosed}
+use Rattle.gate_world.specs.Causes.{last_question, was_read_only, last_look, was_frozen, was_busy, was_unheld, was_incomplete, moments_of_sum, was_inside, was_counted, SomeWasCounted, last_asked, WasClosed, was_removed, last_removed}
 use Rattle.gated_tree.specs.declared.phases.TreePhase.{TreePhase}
 use Rattle.gated_tree.specs.declared.phases.TreePhase.TheVariants.{Snapshot as Snapshots}
 use Rattle.gated_tree.specs.declared.snapshots.SnapshotStep.{SnapshotStep}
@@ -54,12 +56,15 @@ module _ (c : Config) (t : ℕ) (w : World) (earlier : List World) where
   -- an answer of Busy of a remount: the stage was not 0 when it looked, or something was counted while a sum was read
   abbrev pub RemountAnswerCause : Result Reply GateError → Type 0
   RemountAnswerCause answer =
-      answer ≡ Err Busy → (was_frozen c (last_look t (w ∷ earlier)) ≡ true) ⊎ SomeWasCounted c t (w ∷ earlier)
+      answer ≡ Err Busy →
+      (was_frozen c (last_look t (w ∷ earlier)) ≡ true) ⊎
+      ((was_removed (last_removed t (w ∷ earlier)) ≡ true) ⊎ SomeWasCounted c t (w ∷ earlier))
 
   -- a remount: its sum is as a change's, and where it gives up, something was counted
   abbrev pub RemountCause : RemountStep → Type 0
   RemountCause (RemountSums m held sum) = ChangeCause m (Sums sum)
   RemountCause (GivesUp m held) = SomeWasCounted c t (w ∷ earlier)
+  RemountCause (LeavesHolds held) = was_removed (last_removed t (w ∷ earlier)) ≡ true
   RemountCause (RemountReleases answer) = RemountAnswerCause answer
   RemountCause step = Unit {0}
 
@@ -75,6 +80,11 @@ module _ (c : Config) (t : ℕ) (w : World) (earlier : List World) where
   WriteCause (WriteWants x) = WantCause x.mount x.step
   WriteCause (GivesBack m p refusal) = WantCause m (CountsDown refusal)
   WriteCause x = Unit {0}
+
+  -- a close: as a reader of level 3
+  abbrev pub CloseCause : ClosePhase → Type 0
+  CloseCause (Enters f node r) = ReadCause r.level r.step
+  CloseCause x = Unit {0}
 
   -- a down-write: where nothing was counted at its level since its sum began, the lead is 0
   abbrev pub DownWriteCause : ℕ → DownWriteStep → Type 0
@@ -114,6 +124,7 @@ module _ (c : Config) (t : ℕ) (w : World) (earlier : List World) where
   CauseOf (Some (Freezes x)) = FreezeCause x.holder x.step
   CauseOf (Some (Thaws x)) = ThawCause x.holder x.step
   CauseOf (Some (Trees phase)) = TreeCause phase
+  CauseOf (Some (Closes x)) = CloseCause x
   CauseOf phase = Unit {0}
 
 -- and of every task

@@ -22,8 +22,10 @@ use Rattle.freeze_levels.specs.declared.thaws.ThawStep.{ThawStep}
 use Rattle.freeze_levels.specs.declared.thaws.ThawStep.TheVariants.{Reopens as ThawReopens}
 use Rattle.write_access.specs.declared.phases.WritePhase.{WritePhase}
 use Rattle.write_access.specs.declared.phases.WritePhase.TheVariants.{Takes}
+use Rattle.file_closes.specs.declared.phases.ClosePhase.{ClosePhase}
+use Rattle.file_closes.specs.declared.phases.ClosePhase.TheVariants.{Enters}
 use Rattle.gate_world.specs.declared.work.Phase.{Phase}
-use Rattle.gate_world.specs.declared.work.Phase.TheVariants.{Mounts, Remounts, DownReads, UpReads, Callbacks, Writes, Freezes, Thaws, Trees}
+use Rattle.gate_world.specs.declared.work.Phase.TheVariants.{Mounts, Remounts, DownReads, UpReads, Callbacks, Writes, Freezes, Thaws, Trees, Closes}
 use Rattle.stage_laws.specs.Roles.{is_full}
 use Rattle.gate_world.specs.declared.views.View.{View}
 use Rattle.gate_world.specs.Views.{holds_level}
@@ -68,6 +70,11 @@ read_count_role p step = CountsNot
 abbrev pub write_count_role : ℕ → WritePhase → LevelRole
 write_count_role i (Takes m r) = count_role_if (i == r.level) (read_count_role r.cpu r.step)
 write_count_role i x = CountsNot
+
+-- the same of a close, which is so at level 3 where it is a last one
+abbrev pub close_count_role : ℕ → ClosePhase → LevelRole
+close_count_role i (Enters f node r) = count_role_if (i == r.level) (read_count_role r.cpu r.step)
+close_count_role i x = CountsNot
 
 -- what a step of a down-write is doing at its level's counts
 abbrev pub down_count_role : DownWriteStep → LevelRole
@@ -140,11 +147,17 @@ level_role_of i (Some (Writes x)) = write_count_role i x
 level_role_of i (Some (Freezes x)) = stand_count i (freeze_stand x.step)
 level_role_of i (Some (Thaws x)) = stand_count i (thaw_stand x.step)
 level_role_of i (Some (Trees phase)) = CountsNot
+level_role_of i (Some (Closes phase)) = close_count_role i phase
 
 -- a write access at a level's rcu_sync
 abbrev pub write_sync_role : ℕ → WritePhase → SyncRole
 write_sync_role i (Takes m r) = sync_role_if (i == r.level) (down_read_role r.step)
 write_sync_role i x = IsApart
+
+-- and a close
+abbrev pub close_sync_role : ℕ → ClosePhase → SyncRole
+close_sync_role i (Enters f node r) = sync_role_if (i == r.level) (down_read_role r.step)
+close_sync_role i x = IsApart
 
 -- what a task is doing at a level's rcu_sync
 abbrev pub sync_role_of : ℕ → Option Phase → SyncRole
@@ -158,11 +171,17 @@ sync_role_of i (Some (Writes x)) = write_sync_role i x
 sync_role_of i (Some (Freezes x)) = stand_sync i (freeze_stand x.step)
 sync_role_of i (Some (Thaws x)) = stand_sync i (thaw_stand x.step)
 sync_role_of i (Some (Trees phase)) = IsApart
+sync_role_of i (Some (Closes phase)) = close_sync_role i phase
 
 -- 1 while a write access is inside a read-side section
 abbrev pub write_inside : WritePhase → ℕ
 write_inside (Takes m r) = down_read_inside r.step
 write_inside x = 0
+
+-- and a close
+abbrev pub close_inside : ClosePhase → ℕ
+close_inside (Enters f node r) = down_read_inside r.step
+close_inside x = 0
 
 -- the same of what a task is at
 abbrev pub inside : Option Phase → ℕ
@@ -176,6 +195,7 @@ inside (Some (Writes x)) = write_inside x
 inside (Some (Freezes x)) = 0
 inside (Some (Thaws x)) = 0
 inside (Some (Trees phase)) = 0
+inside (Some (Closes phase)) = close_inside phase
 
 -- what a level's counts read of a view
 abbrev pub at_level : ℕ → View → LevelView

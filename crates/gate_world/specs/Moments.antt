@@ -6,6 +6,7 @@ use Rattle.cpu_words.specs.Words.{Words}
 use Rattle.cpu_words.specs.Hooks.{HookAnswer}
 use Rattle.gate_world.specs.declared.config.Config.{Config}
 use Rattle.gated_tree.specs.declared.trees.TreeWords.{TreeWords}
+use Rattle.gated_tree.specs.Nodes.{node_shown}
 use Rattle.gated_tree.specs.Trees.{LoadedSound, LoadedClean, node_at}
 use Rattle.gate_world.specs.declared.views.Snapshot.{Snapshot}
 use Rattle.gate_world.specs.declared.work.Phase.{Phase}
@@ -30,12 +31,12 @@ HasMoment c log t (Some s) = IsOfMoment c log t s
 abbrev pub AllHaveMoments : Config → List Done → World → Type 0
 AllHaveMoments c log w = (t : ℕ) → HasMoment c log t (w.views t).snapshot
 
--- everything is frozen, and what was loaded are the present words of the tree, of all nodes
+-- everything is frozen, and what was loaded are the present words of the tree, of all nodes, but for how many tasks have files open
 pub record IsPresentTree (c : Config) (words : Words) (loaded : TreeWords) : Type 0 where
   pub frozen : words.stage ≡ 4
   pub whole : length loaded.nodes ≡ c.nodes
   pub used : words.used ≡ loaded.used
-  pub nodes : (n : ℕ) → n < c.nodes → words.node n ≡ slice_index loaded.nodes n
+  pub nodes : (n : ℕ) → n < c.nodes → node_shown (words.node n) ≡ node_at loaded n
   pub kids : (n : ℕ) → n < c.nodes → words.kids n ≡ slice_index loaded.kids n
 
 -- where the next event of a phase completes a snapshot, it is of the present tree

@@ -1,11 +1,11 @@
 -- One row for each operation: all that is said of it apart from its events.
 use Rattle.std.specs.Prelude.{◌≡◌, ◌≢◌, ◌⊎◌, ℕ, zero, suc, ◌+◌, ◌*◌, ◌<◌, Bool, true, false, not, ◌&&◌, ◌||◌, nat_lt, if◌then◌else◌, Option, Some, None, Result, Ok, Err, List, [], ◌∷◌, ◌++◌}
 use Rattle.access_model.specs.declared.actions.Action.{Action}
-use Rattle.access_model.specs.declared.actions.Action.TheVariants.{Grant, Return, MountRo, MountRw, SbRo, SbRw, Stage as StageAction, Hold, Leave, Pass, Reopen, Create as CreateAction, Remove as RemoveAction, Grow as GrowAction, MoveTo as MoveToAction}
+use Rattle.access_model.specs.declared.actions.Action.TheVariants.{Grant, Return, MountRo, MountRw, SbRo, SbRw, Stage as StageAction, Hold, Leave, Pass, Reopen, Create as CreateAction, Remove as RemoveAction, Grow as GrowAction, MoveTo as MoveToAction, Open as OpenAction, Close as CloseAction}
 use Rattle.access_model.specs.declared.actions.Holder.{Holder}
 use Rattle.access_model.specs.declared.actions.Gate.TheVariants.{Mount, Level}
 use Rattle.access_model.specs.declared.errors.GateError.{GateError}
-use Rattle.access_model.specs.declared.errors.GateError.TheVariants.{Again, Busy, ReadOnly, Invalid, Hook}
+use Rattle.access_model.specs.declared.errors.GateError.TheVariants.{Again, Busy, ReadOnly, Invalid, NoEntry, IsDir, Hook}
 use Rattle.access_model.specs.declared.replies.Reply.{Reply}
 use Rattle.access_model.specs.declared.replies.Reply.TheVariants.{Unit as UnitReply, Node as NodeReply, Ran, Tree as TreeReply}
 use Rattle.mount_counts.specs.declared.phases.MountPhase.TheVariants.{Want as Wants, Drop as Drops, Change as Changes}
@@ -16,7 +16,8 @@ use Rattle.cpu_words.specs.declared.names.WordName.{WordName}
 use Rattle.cpu_words.specs.declared.names.WordName.TheVariants.{Umount, Remount, Stage}
 use Rattle.gate_world.specs.declared.config.Config.{Config}
 use Rattle.gate_world.specs.declared.operations.Op.{Op}
-use Rattle.gate_world.specs.declared.operations.Op.TheVariants.{Want, DropMount, ChangeMount, RemountSb, Start, End, WantWrite, DropWrite, Callback, Freeze as FreezeOp, Thaw as ThawOp, Create as CreateOp, Remove as RemoveOp, Grow as GrowOp, MoveTo as MoveToOp, Fault as FaultOp, Flush as FlushOp, Snapshot as SnapshotOp}
+use Rattle.gate_world.specs.declared.operations.Op.TheVariants.{Want, DropMount, ChangeMount, RemountSb, Start, End, WantWrite, DropWrite, Callback, Freeze as FreezeOp, Thaw as ThawOp, Create as CreateOp, Remove as RemoveOp, Grow as GrowOp, MoveTo as MoveToOp, Fault as FaultOp, Flush as FlushOp, Open as OpenOp, Close as CloseOp, Snapshot as SnapshotOp}
+use Rattle.file_closes.specs.declared.phases.ClosePhase.TheVariants.{LoadsFile as CloseLoadsFile}
 use Rattle.gate_world.specs.declared.work.Phase.{Phase}
 use Rattle.percpu_rwsem.specs.declared.readers.DownReadStep.TheVariants.{EntersSection}
 use Rattle.percpu_rwsem.specs.declared.callbacks.CallbackStep.TheVariants.{Claims}
@@ -24,7 +25,7 @@ use Rattle.percpu_rwsem.specs.declared.transitions.Transition.TheVariants.{Loads
 use Rattle.write_access.specs.declared.phases.WritePhase.TheVariants.{Takes, Drops as WriteDrops}
 use Rattle.freeze_levels.specs.declared.freezes.FreezeStep.TheVariants.{Locks as FreezeLocks}
 use Rattle.freeze_levels.specs.declared.thaws.ThawStep.TheVariants.{Locks as ThawLocks}
-use Rattle.gate_world.specs.declared.work.Phase.TheVariants.{Mounts, Remounts, DownReads, UpReads, Callbacks, Writes, Freezes, Thaws, Trees}
+use Rattle.gate_world.specs.declared.work.Phase.TheVariants.{Mounts, Remounts, DownReads, UpReads, Callbacks, Writes, Freezes, Thaws, Trees, Closes}
 use Rattle.gate_world.specs.declared.views.Traced.{Traced}
 use Rattle.access_model.specs.declared.actions.Kind.{Kind}
 use Rattle.gated_tree.specs.declared.changes.Create.{Create}
@@ -37,12 +38,15 @@ use Rattle.gated_tree.specs.declared.growth.Grow.{Grow}
 use Rattle.gated_tree.specs.declared.growth.GrowStep.TheVariants.{LoadsFile as LoadsFileToGrow}
 use Rattle.gated_tree.specs.declared.marks.Mark.{Mark}
 use Rattle.gated_tree.specs.declared.marks.MarkStep.TheVariants.{LoadsFile as LoadsFileToMark}
+use Rattle.gated_tree.specs.declared.opens.OpenFile.{OpenFile}
+use Rattle.gated_tree.specs.declared.opens.OpenStep.TheVariants.{LoadsFile as LoadsFileToOpen}
+use Rattle.file_closes.specs.declared.phases.Closing.{Closing}
 use Rattle.gated_tree.specs.declared.snapshots.Snapshot.{Snapshot}
 use Rattle.gated_tree.specs.declared.snapshots.SnapshotStep.TheVariants.{Locks as SnapshotLocks}
 use Rattle.gated_tree.specs.declared.phases.TreePhase.{TreePhase}
-use Rattle.gated_tree.specs.declared.phases.TreePhase.TheVariants.{Create as Creates, Remove as Removes, Grow as Grows, MoveTo as Moves, Mark as TreeMarks, Snapshot as Snapshots}
+use Rattle.gated_tree.specs.declared.phases.TreePhase.TheVariants.{Create as Creates, Remove as Removes, Grow as Grows, MoveTo as Moves, Mark as TreeMarks, OpenFile as OpensOne, Snapshot as Snapshots}
 use Rattle.gated_tree.specs.Phases.{mark_done}
-use Rattle.gated_tree.specs.Refusals.{CreateHonest, FileHonest, GrowHonest, MoveHonest, SnapshotHonest}
+use Rattle.gated_tree.specs.Refusals.{CreateHonest, FileHonest, GrowHonest, MoveHonest, SnapshotHonest, finds_free, finds_directory, finds_other}
 use Rattle.gate_world.specs.Found.{
   found_read_only,
   found_hold,
@@ -50,6 +54,8 @@ use Rattle.gate_world.specs.Found.{
   found_sealed,
   SeenIn,
   found_frozen,
+  found_removed,
+  found_dropped,
   finds_hold,
   finds_taken,
   each_event,
@@ -212,10 +218,11 @@ abbrev refusing_word : Bool → WordName
 refusing_word true = Remount
 refusing_word false = Umount
 
--- a remount is refused as busy where it found a stage other than 0, or the counts of one mount with a sum other than 0, and by the file
+-- a remount is refused as busy where it found a stage other than 0, or a removed file, or the counts of one mount with a sum other than 0, and by the file
 -- system where that answered so at the event that its answer decides
 abbrev remount_honest : Config → Bool → GateError → List Traced → Type 0
-remount_honest c read_only Busy trace = (found_frozen trace ≡ true) ⊎ ((m : ℕ) × (m < c.mounts) × FoundBusy c m trace)
+remount_honest c read_only Busy trace =
+    (found_frozen trace ≡ true) ⊎ ((found_removed trace ≡ true) ⊎ ((m : ℕ) × (m < c.mounts) × FoundBusy c m trace))
 remount_honest c read_only (Hook code) trace = ReadAnswer (refusing_word read_only) (Err code) trace
 remount_honest c read_only refusal trace = ⊥
 
@@ -536,6 +543,43 @@ may_mark false c held levels = levels 3
 abbrev mark_row : Bool → ℕ → OpRow
 mark_row dirty file = file_row file (TreeMarks (first_mark dirty file)) (may_mark dirty) 2 (mark_done dirty file)
 
+-- the first phase of an open
+abbrev pub first_open : ℕ → OpenFile
+first_open file = record { file = file; step = LoadsFileToOpen }
+
+-- the first phase of a close
+abbrev pub first_close : ℕ → ℕ → ℕ → Bool → Closing
+first_close file cpu t wait = record { file = file; cpu = cpu; task = t; wait = wait }
+
+-- a close has added its action; the last one of a removed file, which counts one removed file less, has added it inside level 3
+abbrev pub close_adds : ℕ → Result Reply GateError → List Traced → List Action
+close_adds file (Ok reply) trace =
+    if found_dropped trace then Return (Level 3) ∷ (CloseAction file ∷ (Grant (Level 3) ∷ [])) else CloseAction file ∷ []
+close_adds file (Err refusal) trace = []
+
+-- it is refused where its file was free or a directory, which never happens behind the gates, or changed meanwhile, or where it found level
+-- 3 closed and doesn't wait
+abbrev close_honest : ℕ → Bool → GateError → List Traced → Type 0
+close_honest file wait NoEntry trace = SeenIn trace (finds_free file)
+close_honest file wait IsDir trace = SeenIn trace (finds_directory file)
+close_honest file wait Again trace = SeenIn trace finds_other ⊎ ((wait ≡ false) × (found_closed 3 trace ≡ true))
+close_honest file wait refusal trace = ⊥
+
+-- one that waits has found level 3 closed, taken its count back and left its section
+abbrev close_row : ℕ → ℕ → Bool → OpRow
+close_row file p wait = record {
+  first = λ c t. Closes (CloseLoadsFile (first_close file p t wait));
+  in_range = λ c. has_node file c && nat_lt p c.processors;
+  in_order = λ c held levels. holds_none_from 3 levels;
+  within_room = λ held. true;
+  waits = wait;
+  most_events = λ c. if wait then None else Some 10;
+  actions = λ answer trace. close_adds file answer trace;
+  IsHonest = λ c refusal trace. close_honest file wait refusal trace;
+  IsTold = λ reply trace. IsUnit reply;
+  MayWait = λ c trace. (wait ≡ true) × (left_closed 3 trace ≡ true);
+}
+
 -- the first phase of a snapshot
 abbrev pub first_snapshot : Config → ℕ → Bool → Snapshot
 first_snapshot c t wait = record { wait = wait; task = t; nodes = c.nodes; step = SnapshotLocks }
@@ -580,4 +624,16 @@ row (GrowOp file blocks) = grow_row file blocks
 row (MoveToOp file dir) = move_row file dir
 row (FaultOp file) = mark_row true file
 row (FlushOp file) = mark_row false file
+row (OpenOp file) = file_row file (OpensOne (first_open file)) (λ c held levels. true) 2 (OpenAction file)
+row (CloseOp file p wait) = close_row file p wait
 row (SnapshotOp wait) = snapshot_row wait
+
+-- its task has the file open that it closes
+abbrev pub is_of_open : (ℕ → Bool) → Op → Bool
+is_of_open files (CloseOp file p wait) = files file
+is_of_open files op = true
+
+-- its task doesn't have the file open that it opens
+abbrev pub is_of_closed : (ℕ → Bool) → Op → Bool
+is_of_closed files (OpenOp file) = not (files file)
+is_of_closed files op = true

@@ -3,7 +3,7 @@ use Rattle.std.specs.Prelude.{◌≡◌, ℕ, ◌<◌, ◌≤◌, ◌==◌, nat_
 use Rattle.cpu_words.specs.declared.sums.Sum.{Sum}
 use Rattle.mount_counts.specs.declared.sets.MountSet.{MountSet}
 use Rattle.mount_counts.specs.declared.remounts.RemountStep.{RemountStep}
-use Rattle.mount_counts.specs.declared.remounts.RemountStep.TheVariants.{Locks, LoadsFlags, SetsHold, Sums, SetsRemount, ClearsHold, GivesUp, ClearsMark, SetsReadOnly, ClearsRemount}
+use Rattle.mount_counts.specs.declared.remounts.RemountStep.TheVariants.{Locks, LoadsFlags, SetsHold, Sums, LoadsRemovedAgain, LeavesHolds, SetsRemount, ClearsHold, GivesUp, ClearsMark, SetsReadOnly, ClearsRemount}
 use Rattle.mount_counts.specs.Sets.{has_mount}
 use Rattle.mount_counts.specs.Roles.{Role, Out, Summing, Empty, Leaving, Skipped}
 use Rattle.gate_world.specs.declared.config.Config.{Config}
@@ -35,6 +35,8 @@ abbrev pub remount_role : ℕ → RemountStep → Role
 remount_role m (LoadsFlags at held) = loop_role (has_mount held m) (nat_lt m at)
 remount_role m (SetsHold at held) = loop_role (has_mount held m) (nat_lt m at)
 remount_role m (Sums at held sum) = summing_role (m == at) sum (loop_role (has_mount held m) (nat_lt m at))
+remount_role m (LoadsRemovedAgain held) = loop_role (has_mount held m) true
+remount_role m (LeavesHolds held) = held_role (has_mount held m)
 remount_role m (SetsRemount held) = loop_role (has_mount held m) true
 remount_role m (ClearsHold held) = held_role (has_mount held m)
 remount_role m (GivesUp at held) = giving_role (m == at) (has_mount held m)
@@ -63,6 +65,8 @@ abbrev pub RemountFits : Config → RemountStep → Type 0
 RemountFits c (LoadsFlags m held) = (m < c.mounts) × AllBelow m held
 RemountFits c (SetsHold m held) = (m < c.mounts) × AllBelow m held
 RemountFits c (Sums m held sum) = (m < c.mounts) × AllBelow m held × (sum.words < c.processors)
+RemountFits c (LoadsRemovedAgain held) = AllBelow c.mounts held
+RemountFits c (LeavesHolds held) = (0 < held.bits) × AllBelow c.mounts held
 RemountFits c (SetsRemount held) = AllBelow c.mounts held
 RemountFits c (ClearsHold held) = (0 < held.bits) × AllBelow c.mounts held
 RemountFits c (GivesUp m held) = (0 < held.bits) × AllBelow c.mounts held × (m < c.mounts)

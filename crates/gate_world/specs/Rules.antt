@@ -2,7 +2,7 @@
 use Rattle.std.specs.Prelude.{◌≡◌, ℕ, suc, ◌<◌, ◌≤◌, ◌==◌, Bool, true, false, Option, Some, None, Ok, Err}
 use Rattle.finite_sums.specs.Sums.{total}
 use Rattle.access_model.specs.declared.actions.Action.{Action}
-use Rattle.access_model.specs.States.{State}
+use Rattle.access_model.specs.States.{State, openers}
 use Rattle.access_model.specs.Actions.{IsAllowed, after_action}
 use Rattle.cpu_words.specs.Words.{Words}
 use Rattle.cpu_words.specs.Hooks.{HookAnswer}
@@ -15,19 +15,19 @@ use Rattle.mount_counts.specs.declared.phases.ChangeStep.TheVariants.{Locks, Sum
 use Rattle.mount_counts.specs.Roles.{Role, Out, Asking, Cleared, PastRemount, PastFlags, BackingOff, Summing, Empty, Leaving, MountView, MountHolds}
 use Rattle.gate_world.specs.declared.config.Config.{Config}
 use Rattle.gate_world.specs.declared.work.Phase.{Phase}
-use Rattle.gate_world.specs.declared.work.Phase.TheVariants.{Mounts, Remounts, DownReads, UpReads, Callbacks, Writes, Freezes, Thaws, Trees}
+use Rattle.gate_world.specs.declared.work.Phase.TheVariants.{Mounts, Remounts, DownReads, UpReads, Callbacks, Writes, Freezes, Thaws, Trees, Closes}
 use Rattle.write_access.specs.declared.phases.WritePhase.{WritePhase}
 use Rattle.write_access.specs.declared.phases.WritePhase.TheVariants.{Wants as WriteWants}
 use Rattle.gate_world.specs.declared.views.View.{View}
 use Rattle.gate_world.specs.Configs.{model_limits}
-use Rattle.gate_world.specs.Views.{held_at, holds_level, added_by, taken_by}
-use Rattle.gated_tree.specs.Nodes.{dirty_in}
+use Rattle.gate_world.specs.Views.{held_at, holds_level, has_open, added_by, taken_by}
+use Rattle.gated_tree.specs.Nodes.{dirty_in, opens_in}
 use Rattle.gated_tree.specs.Roles.{TreeHolds}
-use Rattle.gate_world.specs.Trees.{tree_bounds, tree_of, tree_role_of, is_sealed}
+use Rattle.gate_world.specs.Trees.{tree_bounds, tree_of, tree_role_of, is_sealed, is_bare_at}
 use Rattle.gate_counts.specs.Levels.{LevelHolds}
 use Rattle.level_laws.specs.Roles.{SyncNumberHolds}
 use Rattle.gate_world.specs.Levels.{sync_role_of, inside, at_level, is_frozen_whole, SectionsAreOdd}
-use Rattle.gate_world.specs.Fits.{Fits}
+use Rattle.gate_world.specs.Fits.{Fits, HasFile, file_of}
 use Rattle.gate_world.specs.Remounts.{remount_role, remount_owns, remount_sets}
 use Rattle.gate_world.specs.Stages.{freeze_stage_role, thaw_stage_role, tree_stage_role, stage_role_of}
 use Rattle.stage_laws.specs.Roles.{owns as stage_owns, StagesHold}
@@ -81,6 +81,7 @@ role_at m (Writes x) = write_role m x
 role_at m (Freezes x) = Out
 role_at m (Thaws x) = Out
 role_at m (Trees phase) = Out
+role_at m (Closes phase) = Out
 
 -- the role at a mount of what a task is at
 abbrev pub role_of : ℕ → Option Phase → Role
@@ -114,6 +115,7 @@ owns (Some (Writes x)) = 0
 owns (Some (Freezes x)) = stage_owns (freeze_stage_role x.nodes x.step)
 owns (Some (Thaws x)) = stage_owns (thaw_stage_role x.step)
 owns (Some (Trees phase)) = stage_owns (tree_stage_role phase)
+owns (Some (Closes phase)) = 0
 
 -- 1 while an operation has `remount` set: only a remount does
 abbrev pub remounts : Option Phase → ℕ
@@ -127,6 +129,7 @@ remounts (Some (Writes x)) = 0
 remounts (Some (Freezes x)) = 0
 remounts (Some (Thaws x)) = 0
 remounts (Some (Trees phase)) = 0
+remounts (Some (Closes phase)) = 0
 
 -- what the owner's words and the levels say of a task is the same at both phases
 pub record IsSteady (p q : Option Phase) : Type 0 where
@@ -161,6 +164,8 @@ pub data Part : Type 0 where
   Known : Part
   -- the tree: its nodes, what is charged, its dirty marks
   Tree : Part
+  -- the open files: how many tasks have each open, and what phases rely on
+  Files : Part
   -- one mount
   AtMount : (m : ℕ) → Part
   -- one freeze level: its counts
@@ -190,6 +195,11 @@ SyncHoldsIn c w i =
 abbrev pub marks_of : Words → ℕ → ℕ
 marks_of words n = dirty_in (words.node n)
 
+-- a node's word says how many tasks have its file open; and each phase's task has open, or not, what the phase relies on
+pub record FilesHold (c : Config) (node : ℕ → ℕ) (opens : ℕ → ℕ → Bool) (file : ℕ → Option (ℕ × Bool)) : Type 0 where
+  pub counted : (n : ℕ) → n < c.nodes → opens_in (node n) ≡ openers opens n
+  pub own : (t : ℕ) → t < c.tasks → HasFile (opens t) (file t)
+
 -- what a part says of a world
 abbrev pub Holds : Config → World → Part → Type 0
 Holds c w Owner = OwnerHolds c.tasks w.words.umount w.words.remount (λ t. (w.views t).phase)
@@ -198,6 +208,7 @@ Holds c w Holding = HoldersHold c.tasks w.words.stage w.words.holders (holder_ro
 Holds c w Fitting = (t : ℕ) → t < c.tasks → ViewFits c t (w.views t)
 Holds c w Known = (t : ℕ) → t < c.tasks → owns (w.views t).phase ≡ 1 → KnowsWords w.words (w.views t).trace
 Holds c w Tree = TreeHolds (tree_bounds c) (tree_of w)
+Holds c w Files = FilesHold c w.words.node (λ t. has_open (w.views t)) (λ t. file_of (w.views t).phase)
 Holds c w (AtMount m) = m < c.mounts → MountHoldsIn c w m
 Holds c w (AtLevel i) = 1 ≤ i → i ≤ 3 → LevelHoldsIn c w i
 Holds c w (SyncAt i) = 1 ≤ i → i ≤ 3 → SyncHoldsIn c w i
@@ -211,7 +222,10 @@ SameWords old new Holding = (new.stage ≡ old.stage) × (new.holders ≡ old.ho
 SameWords old new Fitting = Unit {0}
 SameWords old new Known =
     (new.stage ≡ old.stage) × (new.sb ≡ old.sb) × (new.remount ≡ old.remount) × (new.flags ≡ old.flags) × (new.holders ≡ old.holders)
-SameWords old new Tree = (new.used ≡ old.used) × (new.node ≡ old.node) × (new.kids ≡ old.kids) × (is_sealed new ≡ is_sealed old)
+SameWords old new Tree =
+    (new.used ≡ old.used) × (new.removed ≡ old.removed) × (new.node ≡ old.node) × (new.kids ≡ old.kids) × (is_sealed new ≡ is_sealed old) ×
+    (is_bare_at new ≡ is_bare_at old)
+SameWords old new Files = new.node ≡ old.node
 SameWords old new (AtMount m) = (new.flags m ≡ old.flags m) × (new.remount ≡ old.remount) × (new.sb ≡ old.sb) × (new.count m ≡ old.count m)
 SameWords old new (AtLevel i) = (new.block i ≡ old.block i) × (new.level i ≡ old.level i) × (is_frozen_whole new ≡ is_frozen_whole old)
 SameWords old new (SyncAt i) =
@@ -227,6 +241,7 @@ SameView old new Holding = holder_role_of new.phase ≡ holder_role_of old.phase
 SameView old new Fitting = (held_at new ≡ held_at old) × (holds_level new ≡ holds_level old) × (new.phase ≡ old.phase)
 SameView old new Known = (owns new.phase ≡ owns old.phase) × (new.trace ≡ old.trace)
 SameView old new Tree = tree_role_of new.trace new.phase ≡ tree_role_of old.trace old.phase
+SameView old new Files = (has_open new ≡ has_open old) × (file_of new.phase ≡ file_of old.phase)
 SameView old new (AtMount m) = at_mount m new ≡ at_mount m old
 SameView old new (AtLevel i) = at_level i new ≡ at_level i old
 SameView old new (SyncAt i) = sync_role_of i new.phase ≡ sync_role_of i old.phase

@@ -6,7 +6,7 @@ use Rattle.gated_tree.specs.Nodes.{node_shown}
 use Rattle.freeze_levels.specs.Holders.{holders_in}
 use Rattle.gate_world.specs.declared.config.Config.{Config}
 use Rattle.gate_world.specs.declared.work.Phase.{Phase}
-use Rattle.gate_world.specs.Views.{held_at, holds_level}
+use Rattle.gate_world.specs.Views.{held_at, holds_level, has_open}
 use Rattle.stage_laws.specs.Roles.{StageRole, sums}
 use Rattle.stage_laws.specs.Shown.{is_passed as passed_at_level, passed_shown}
 use Rattle.gate_world.specs.Stages.{stage_role_of}
@@ -35,6 +35,7 @@ abbrev pub shown : Config → World → State
 shown c w = record {
   mounts = λ t. held_at (w.views t);
   levels = λ t. holds_level (w.views t);
+  opens = λ t. has_open (w.views t);
   mount_ro = λ m. ro_bit (w.words.flags m) == 1;
   sb_ro = w.words.remount == 1 || w.words.sb == 1;
   stage = w.words.stage;

@@ -55,7 +55,7 @@ use Rattle.gated_tree.specs.declared.phases.TreePhase.TheVariants.{Snapshot as S
 use Rattle.gated_tree.specs.declared.snapshots.SnapshotStep.{SnapshotStep}
 use Rattle.gated_tree.specs.declared.snapshots.SnapshotStep.TheVariants.{Locks as SnapshotLocks, LoadsStage as SnapshotLoadsStage, Releases as SnapshotReleases}
 use Rattle.gate_world.specs.declared.work.Phase.{Phase}
-use Rattle.gate_world.specs.declared.work.Phase.TheVariants.{Mounts, Remounts, DownReads, UpReads, Callbacks, Writes, Freezes, Thaws, Trees}
+use Rattle.gate_world.specs.declared.work.Phase.TheVariants.{Mounts, Remounts, DownReads, UpReads, Callbacks, Writes, Freezes, Thaws, Trees, Closes}
 
 -- A remount, among so many nodes: in its loop it relies on the stage 0 and the flags 0 that it found, and with `remount` set it clears the
 -- marks from node 1 on; the root, node 0, never has one.
@@ -138,3 +138,4 @@ stage_role_of (Some (Writes x)) = Aside
 stage_role_of (Some (Freezes x)) = freeze_stage_role x.nodes x.step
 stage_role_of (Some (Thaws x)) = thaw_stage_role x.step
 stage_role_of (Some (Trees phase)) = tree_stage_role phase
+stage_role_of (Some (Closes phase)) = Aside

@@ -1,17 +1,19 @@
 -- The tree of a world: its words, and what each task is doing at them.
 use Rattle.std.specs.Prelude.{ℕ, Option, Some, None, List}
 use Rattle.mount_counts.specs.declared.remounts.RemountStep.{RemountStep}
-use Rattle.mount_counts.specs.declared.remounts.RemountStep.TheVariants.{ClearsHold, ClearsMark, SetsReadOnly}
+use Rattle.mount_counts.specs.declared.remounts.RemountStep.TheVariants.{SetsRemount, ClearsHold, ClearsMark, SetsReadOnly}
 use Rattle.freeze_levels.specs.declared.freezes.FreezeStep.{FreezeStep}
 use Rattle.freeze_levels.specs.declared.freezes.FreezeStep.TheVariants.{Cleans, SetsFs}
 use Rattle.gated_tree.specs.declared.phases.TreePhase.{TreePhase}
 use Rattle.gated_tree.specs.declared.phases.TreePhase.TheVariants.{Snapshot as Snapshots}
-use Rattle.gated_tree.specs.Roles.{Role, Out, Clearing, Bounds, TreeState, sealed_by}
+use Rattle.gated_tree.specs.Roles.{Role, Out, Freeing, Dropped, Uncounting, Bare, Clearing, Bounds, TreeState, sealed_by, bare_by}
 use Rattle.gated_tree.specs.Calls.{phase_role}
 use Rattle.cpu_words.specs.Words.{Words}
 use Rattle.gate_world.specs.declared.config.Config.{Config}
+use Rattle.file_closes.specs.declared.phases.ClosePhase.{ClosePhase}
+use Rattle.file_closes.specs.declared.phases.ClosePhase.TheVariants.{Enters, FreesNode, RefundsBlocks as CloseRefundsBlocks, Uncounts as CloseUncounts}
 use Rattle.gate_world.specs.declared.work.Phase.{Phase}
-use Rattle.gate_world.specs.declared.work.Phase.TheVariants.{Mounts, Remounts, DownReads, UpReads, Callbacks, Writes, Freezes, Thaws, Trees}
+use Rattle.gate_world.specs.declared.work.Phase.TheVariants.{Mounts, Remounts, DownReads, UpReads, Callbacks, Writes, Freezes, Thaws, Trees, Closes}
 use Rattle.gate_world.specs.declared.views.Traced.{Traced}
 use Rattle.gate_world.specs.Snapshots.{values_noted}
 use Rattle.gate_world.specs.Worlds.{World}
@@ -24,9 +26,14 @@ tree_bounds c = record { tasks = c.tasks; nodes = c.nodes; capacity = c.capacity
 abbrev pub is_sealed : Words → ℕ
 is_sealed w = sealed_by w.sb w.stage
 
--- A remount, among so many nodes: from its store of `remount` 1 on it clears the marks from node 1 on, until its store of the
+-- 1 where the superblock is read-only, by its flag or by a remount under way
+abbrev pub is_bare_at : Words → ℕ
+is_bare_at w = bare_by w.remount w.sb
+
+-- A remount, among so many nodes: it has found no removed file before its store of `remount` 1; from that store of `remount` 1 on it clears the marks from node 1 on, until its store of the
 -- superblock's flag.
 abbrev pub remount_tree_role : ℕ → RemountStep → Role
+remount_tree_role nodes (SetsRemount held) = Bare
 remount_tree_role nodes (ClearsHold held) = Clearing 1
 remount_tree_role nodes (ClearsMark n) = Clearing n
 remount_tree_role nodes SetsReadOnly = Clearing nodes
@@ -43,6 +50,14 @@ abbrev pub nodes_noted : TreePhase → ℕ
 nodes_noted (Snapshots x) = x.nodes
 nodes_noted phase = 0
 
+-- a last close: its file's word is as it was loaded until it frees the node, whose blocks and removal it then still counts
+abbrev pub close_tree_role : ClosePhase → Role
+close_tree_role (Enters f node r) = Freeing f node
+close_tree_role (FreesNode f p node) = Freeing f node
+close_tree_role (CloseRefundsBlocks p blocks) = Dropped blocks
+close_tree_role (CloseUncounts p) = Uncounting
+close_tree_role phase = Out
+
 -- what a task is doing at the tree, which after these events of its operation is at this phase
 abbrev pub tree_role_of : List Traced → Option Phase → Role
 tree_role_of trace None = Out
@@ -55,6 +70,7 @@ tree_role_of trace (Some (Writes x)) = Out
 tree_role_of trace (Some (Freezes x)) = freeze_tree_role x.nodes x.step
 tree_role_of trace (Some (Thaws x)) = Out
 tree_role_of trace (Some (Trees phase)) = phase_role (values_noted (nodes_noted phase) trace) phase
+tree_role_of trace (Some (Closes phase)) = close_tree_role phase
 
 -- what all tasks are doing at the tree
 abbrev pub tree_roles : World → ℕ → Role
@@ -64,7 +80,9 @@ tree_roles w t = tree_role_of (w.views t).trace (w.views t).phase
 abbrev pub tree_of : World → TreeState
 tree_of w = record {
   sealed = is_sealed w.words;
+  bare = is_bare_at w.words;
   used = w.words.used;
+  removed = w.words.removed;
   node = w.words.node;
   kids = w.words.kids;
   at = tree_roles w;

@@ -4,7 +4,7 @@ use Rattle.finite_sums.specs.Sums.{update}
 use Rattle.access_model.specs.declared.actions.Action.{Action}
 use Rattle.access_model.specs.declared.replies.Next.{Next}
 use Rattle.access_model.specs.declared.replies.Next.TheVariants.{Go, Wait, Done}
-use Rattle.access_model.specs.Histories.{mounts_of, levels_of}
+use Rattle.access_model.specs.Histories.{mounts_of, levels_of, opens_of}
 use Rattle.cpu_words.specs.declared.names.WordName.{WordName}
 use Rattle.cpu_words.specs.declared.names.WordName.TheVariants.{MountCount}
 use Rattle.cpu_words.specs.declared.events.Touch.{Touch}
@@ -30,6 +30,10 @@ held_at v = mounts_of v.actions
 -- the same of the levels
 abbrev pub holds_level : View → ℕ → Bool
 holds_level v = levels_of v.actions
+
+-- and of the open files
+abbrev pub has_open : View → ℕ → Bool
+has_open v = opens_of v.actions
 
 -- net additions are what was added to a mount's count word less what was taken away: each is a sum over the events
 abbrev pub added_after : WordName → Touch → (ℕ → ℕ → ℕ) → ℕ → ℕ → ℕ
@@ -92,7 +96,7 @@ view_after v phase value hook = view_after_beside [] v phase value hook
 
 -- it holds what it held when its operation began
 abbrev pub HoldsAsBefore : View → Type 0
-HoldsAsBefore v = (held_at v ≡ mounts_of v.before) × (holds_level v ≡ levels_of v.before)
+HoldsAsBefore v = (held_at v ≡ mounts_of v.before) × (holds_level v ≡ levels_of v.before) × (has_open v ≡ opens_of v.before)
 
 -- the view of a task that has begun an operation: it notes what it has done so far
 abbrev pub begun_view : View → Op → Phase → View

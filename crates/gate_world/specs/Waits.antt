@@ -7,8 +7,10 @@ use Rattle.mount_counts.specs.declared.phases.MountPhase.{MountPhase}
 use Rattle.mount_counts.specs.declared.phases.MountPhase.TheVariants.{Want as Wants, Drop as Drops, Change as Changes}
 use Rattle.mount_counts.specs.Roles.{has_hold}
 use Rattle.gate_world.specs.declared.config.Config.{Config}
+use Rattle.file_closes.specs.declared.phases.ClosePhase.{ClosePhase}
+use Rattle.file_closes.specs.declared.phases.ClosePhase.TheVariants.{Enters}
 use Rattle.gate_world.specs.declared.work.Phase.{Phase}
-use Rattle.gate_world.specs.declared.work.Phase.TheVariants.{Mounts, Remounts, DownReads, UpReads, Callbacks, Writes, Freezes, Thaws, Trees}
+use Rattle.gate_world.specs.declared.work.Phase.TheVariants.{Mounts, Remounts, DownReads, UpReads, Callbacks, Writes, Freezes, Thaws, Trees, Closes}
 use Rattle.write_access.specs.declared.phases.WritePhase.{WritePhase}
 use Rattle.write_access.specs.declared.phases.WritePhase.TheVariants.{Takes, Wants as WriteWants}
 use Rattle.percpu_rwsem.specs.declared.writers.DownWriteStep.{DownWriteStep}
@@ -60,6 +62,7 @@ IsWaitedFor w (Writes x) y = ⊥
 IsWaitedFor w (Freezes x) y = FreezeIsWaitedFor w x.step y
 IsWaitedFor w (Thaws x) y = owns (w.views y).phase ≡ 1
 IsWaitedFor w (Trees phase) y = TreeIsWaitedFor w phase y
+IsWaitedFor w (Closes phase) y = ⊥
 
 -- another task has what task t, which is at this phase, waits for
 pub record HasCulprit (c : Config) (w : World) (t : ℕ) (phase : Phase) : Type 0 where
@@ -73,6 +76,11 @@ abbrev pub WriteHasCulprit : Config → World → List World → ℕ → WritePh
 WriteHasCulprit c w earlier t (Takes m r) = WasClosed c t r.level (last_asked t (w ∷ earlier))
 WriteHasCulprit c w earlier t (WriteWants x) = HasCulprit c w t (Mounts (Wants x))
 WriteHasCulprit c w earlier t x = ⊥
+
+-- and of a close: for level 3 as a reader
+abbrev pub CloseHasCulprit : Config → World → List World → ℕ → ClosePhase → Type 0
+CloseHasCulprit c w earlier t (Enters f node r) = WasClosed c t r.level (last_asked t (w ∷ earlier))
+CloseHasCulprit c w earlier t x = ⊥
 
 -- the same of a down-write: where it sums its level's words, something was counted there in one of the worlds of its sum
 abbrev pub DownWriteHasCulprit : Config → World → List World → ℕ → Freeze → ℕ → DownWriteStep → Type 0
@@ -96,6 +104,7 @@ HasCulpritSince c w earlier t (Writes x) = WriteHasCulprit c w earlier t x
 HasCulpritSince c w earlier t (Freezes x) = FreezeHasCulprit c w earlier t x x.step
 HasCulpritSince c w earlier t (Thaws x) = HasCulprit c w t (Thaws x)
 HasCulpritSince c w earlier t (Trees phase) = HasCulprit c w t (Trees phase)
+HasCulpritSince c w earlier t (Closes phase) = CloseHasCulprit c w earlier t phase
 
 -- an event after which this comes is no wait, or its phase waits for what another task has or had
 abbrev pub WaitsForAnother : Config → World → List World → ℕ → Phase → Next Phase → Type 0

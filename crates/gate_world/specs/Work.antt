@@ -15,6 +15,7 @@ use Rattle.freeze_levels.specs.Thaws.{thaw_next, thaw_after, thaw_hook}
 use Rattle.freeze_levels.specs.declared.hooks.HookKind.{HookKind}
 use Rattle.freeze_levels.specs.declared.hooks.HookKind.TheVariants.{Reconfigure}
 use Rattle.gated_tree.specs.Phases.{next as tree_next, after as tree_after}
+use Rattle.file_closes.specs.Phases.{next as close_next, after as close_after}
 use Rattle.gate_world.specs.declared.work.Phase.{Phase}
 use Rattle.mount_counts.specs.declared.phases.MountPhase.TheVariants.{Want as PlainWant, Drop as PlainDrop}
 use Rattle.percpu_rwsem.specs.Readers.{down_read_next, down_read_after, up_read_next, up_read_after}
@@ -22,7 +23,7 @@ use Rattle.percpu_rwsem.specs.Callbacks.{callback_next, callback_after}
 use Rattle.write_access.specs.declared.phases.WritePhase.{WritePhase}
 use Rattle.write_access.specs.declared.phases.WritePhase.TheVariants.{Takes, Wants, GivesBack, Drops, Ends}
 use Rattle.write_access.specs.Phases.{next as write_next, after as write_after, leaves_on}
-use Rattle.gate_world.specs.declared.work.Phase.TheVariants.{Mounts, Remounts, DownReads, UpReads, Callbacks, Writes, Freezes, Thaws, Trees}
+use Rattle.gate_world.specs.declared.work.Phase.TheVariants.{Mounts, Remounts, DownReads, UpReads, Callbacks, Writes, Freezes, Thaws, Trees, Closes}
 
 -- the word and the touch of the next event
 abbrev pub next_of : Phase → HookAnswer → WordName × Touch
@@ -35,6 +36,7 @@ next_of (Writes x) hook = write_next x
 next_of (Freezes x) hook = freeze_next x x.step hook
 next_of (Thaws x) hook = thaw_next x x.step hook
 next_of (Trees phase) hook = tree_next phase hook
+next_of (Closes phase) hook = close_next phase
 
 -- what comes after the event that found this value, and the action that the event adds
 abbrev pub after_of : Phase → ℕ → HookAnswer → Next Phase × Option Action
@@ -47,6 +49,7 @@ after_of (Writes x) found hook = (map_next Writes (write_after x found).0, (writ
 after_of (Freezes x) found hook = (map_next Freezes (freeze_after x x.step found hook).0, (freeze_after x x.step found hook).1)
 after_of (Thaws x) found hook = (map_next Thaws (thaw_after x x.step found hook).0, (thaw_after x x.step found hook).1)
 after_of (Trees phase) found hook = (map_next Trees (tree_after phase found hook).0, (tree_after phase found hook).1)
+after_of (Closes phase) found hook = (map_next Closes (close_after phase found).0, (close_after phase found).1)
 
 -- the phase of its own gate at which a taking or a return of write access stands
 abbrev pub plain : WritePhase → Phase

@@ -7,12 +7,13 @@ ghost use Rattle.gate_world.specs.Accesses.{no_accesses, mounts_held, levels_hel
 
 use access_model::{Action, Gate};
 
-/// What a task holds: accesses at each mount, and whether it is inside each level. Levels are numbered from 1, so the first
+/// What a task holds: accesses at each mount, whether it is inside each level, and which files it has open. Levels are numbered from 1, so the first
 /// entry of these stays false.
 #[derive(Clone, Copy, PartialEq, Eq, Debug)]
 pub struct Accesses {
     pub mounts: [u16; 8],
     pub levels: [bool; 4],
+    pub files: [bool; 64],
 }
 
 impl Accesses {
@@ -23,6 +24,7 @@ impl Accesses {
         Accesses {
             mounts: [0; 8],
             levels: [false; 4],
+            files: [false; 64],
         }
     }
 
@@ -37,6 +39,8 @@ impl Accesses {
             Some(Action::Return(Gate::Mount(mount))) => self.mounts[mount as usize] -= 1,
             Some(Action::Grant(Gate::Level(level))) => self.levels[level as usize] = true,
             Some(Action::Return(Gate::Level(level))) => self.levels[level as usize] = false,
+            Some(Action::Open(file)) => self.files[file as usize] = true,
+            Some(Action::Close(file)) => self.files[file as usize] = false,
             _ => {}
         }
     }

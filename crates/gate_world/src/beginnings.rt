@@ -2,19 +2,20 @@
 
 ghost use Rattle.std.specs.Prelude.{◌≡◌, ◌≤◌, false};
 ghost use Rattle.gate_world.specs.Operations.{is_level_number, is_writer};
-ghost use Rattle.gate_world.specs.Accesses.{mounts_held, levels_held};
+ghost use Rattle.gate_world.specs.Accesses.{mounts_held, levels_held, files_held};
 ghost use Rattle.gate_world.specs.Beginnings.{beginning};
-ghost use Rattle.gate_world.specs.declared.operations.Op.TheVariants.{Want as WantOp, DropMount, ChangeMount, RemountSb, Start, End, WantWrite, DropWrite, Callback as CallbackOp, Freeze as FreezeOp, Thaw as ThawOp, Create as CreateOp, Remove as RemoveOp, Grow as GrowOp, MoveTo as MoveToOp, Fault as FaultOp, Flush as FlushOp, Snapshot as SnapshotOp};
+ghost use Rattle.gate_world.specs.declared.operations.Op.TheVariants.{Want as WantOp, DropMount, ChangeMount, RemountSb, Start, End, WantWrite, DropWrite, Callback as CallbackOp, Freeze as FreezeOp, Thaw as ThawOp, Create as CreateOp, Remove as RemoveOp, Grow as GrowOp, MoveTo as MoveToOp, Fault as FaultOp, Flush as FlushOp, Open as OpenOp, Close as CloseOp, Snapshot as SnapshotOp};
 
 use crate::accesses::Accesses;
 use crate::config::Config;
 use crate::operations::Op;
 use crate::work::Phase;
 use access_model::{GateError, Holder, Kind};
+use file_closes::{ClosePhase, Closing};
 use freeze_levels::{Freeze, FreezeStep, Thaw, ThawStep};
 use gated_tree::{
-    Create, CreateStep, Grow, GrowStep, Mark, MarkStep, MoveStep, MoveTo, Remove, RemoveStep,
-    Snapshot, SnapshotStep, TreePhase,
+    Create, CreateStep, Grow, GrowStep, Mark, MarkStep, MoveStep, MoveTo, OpenFile, OpenStep,
+    Remove, RemoveStep, Snapshot, SnapshotStep, TreePhase,
 };
 use mount_counts::{Change, ChangeStep, MountPhase, Remount, RemountStep, Want, WantStep};
 use percpu_rwsem::{Callback, CallbackStep, DownRead, DownReadStep, Transition, UpRead};
@@ -24,7 +25,7 @@ impl Op {
     /// The first phase of the operation of a task that holds these accesses, or why it can't begin, the first reason in this
     /// order. Order where an operation is under way; Invalid where a number of the operation is out of range; Order where the task
     /// holds what the operation must not find held, or doesn't hold what it gives back; TooMany where the task would get its
-    /// 1,025th access at a mount.
+    /// 1,025th access at a mount, or have a file open twice.
     #[inline(always)]
     pub fn begin(
         self,
@@ -33,8 +34,9 @@ impl Op {
         under_way: bool,
         held: &Accesses,
     ) -> Result<Phase, GateError>
-        requires { config.mounts ≤ 8 }
-        ensures { result ≡ beginning config task under_way (mounts_held held.now) (levels_held held.now) self }
+        requires mounts { config.mounts ≤ 8 }
+        requires nodes { config.nodes ≤ 64 }
+        ensures { result ≡ beginning config task under_way (mounts_held held.now) (levels_held held.now) (files_held held.now) self }
     {
         if under_way {
             return Err(GateError::Order);
@@ -61,6 +63,8 @@ impl Op {
             Op::MoveTo { file, dir } => begin_move(config, held, file, dir),
             Op::Fault { file } => begin_fault(config, held, file),
             Op::Flush { file } => begin_flush(config, held, file),
+            Op::Open { file } => begin_open(config, held, file),
+            Op::Close { file, cpu, wait } => begin_close(config, task, held, file, cpu, wait),
             Op::Snapshot { wait } => begin_snapshot(config, task, held, wait),
         }
     }
@@ -76,7 +80,7 @@ fn begin_want(
     wait: bool,
 ) -> Result<Phase, GateError>
     requires { config.mounts ≤ 8 }
-    ensures { result ≡ beginning config 0 false (mounts_held held.now) (levels_held held.now) (WantOp mount cpu wait) }
+    ensures { result ≡ beginning config 0 false (mounts_held held.now) (levels_held held.now) (files_held held.now) (WantOp mount cpu wait) }
 {
     if mount >= config.mounts || cpu >= config.processors {
         Err(GateError::Invalid)
@@ -96,7 +100,7 @@ fn begin_want(
 #[inline(always)]
 fn begin_drop(config: Config, held: &Accesses, mount: u8, cpu: u8) -> Result<Phase, GateError>
     requires { config.mounts ≤ 8 }
-    ensures { result ≡ beginning config 0 false (mounts_held held.now) (levels_held held.now) (DropMount mount cpu) }
+    ensures { result ≡ beginning config 0 false (mounts_held held.now) (levels_held held.now) (files_held held.now) (DropMount mount cpu) }
 {
     if mount >= config.mounts || cpu >= config.processors {
         Err(GateError::Invalid)
@@ -117,7 +121,7 @@ fn begin_change(
     read_only: bool,
     wait: bool,
 ) -> Result<Phase, GateError>
-    ensures { result ≡ beginning config task false (mounts_held held.now) (levels_held held.now) (ChangeMount mount read_only wait) }
+    ensures { result ≡ beginning config task false (mounts_held held.now) (levels_held held.now) (files_held held.now) (ChangeMount mount read_only wait) }
 {
     if mount >= config.mounts {
         Err(GateError::Invalid)
@@ -143,7 +147,7 @@ fn begin_remount(
     held: &Accesses,
     read_only: bool,
 ) -> Result<Phase, GateError>
-    ensures { result ≡ beginning config task false (mounts_held held.now) (levels_held held.now) (RemountSb read_only) }
+    ensures { result ≡ beginning config task false (mounts_held held.now) (levels_held held.now) (files_held held.now) (RemountSb read_only) }
 {
     if !held.is_in_no_level() {
         Err(GateError::Order)
@@ -177,7 +181,7 @@ fn begin_start(
     cpu: u8,
     wait: bool,
 ) -> Result<Phase, GateError>
-    ensures { result ≡ beginning config task false (mounts_held held.now) (levels_held held.now) (Start level cpu wait) }
+    ensures { result ≡ beginning config task false (mounts_held held.now) (levels_held held.now) (files_held held.now) (Start level cpu wait) }
 {
     if !is_level(level) || cpu >= config.processors {
         Err(GateError::Invalid)
@@ -197,7 +201,7 @@ fn begin_start(
 /// An end leaves a level that the task is inside.
 #[inline(always)]
 fn begin_end(config: Config, held: &Accesses, level: u8, cpu: u8) -> Result<Phase, GateError>
-    ensures { result ≡ beginning config 0 false (mounts_held held.now) (levels_held held.now) (End level cpu) }
+    ensures { result ≡ beginning config 0 false (mounts_held held.now) (levels_held held.now) (files_held held.now) (End level cpu) }
 {
     if !is_level(level) || cpu >= config.processors {
         Err(GateError::Invalid)
@@ -218,7 +222,7 @@ fn begin_want_write(
     cpu: u8,
 ) -> Result<Phase, GateError>
     requires { config.mounts ≤ 8 }
-    ensures { result ≡ beginning config task false (mounts_held held.now) (levels_held held.now) (WantWrite mount cpu) }
+    ensures { result ≡ beginning config task false (mounts_held held.now) (levels_held held.now) (files_held held.now) (WantWrite mount cpu) }
 {
     if mount >= config.mounts || cpu >= config.processors {
         Err(GateError::Invalid)
@@ -242,7 +246,7 @@ fn begin_want_write(
 #[inline(always)]
 fn begin_drop_write(config: Config, held: &Accesses, mount: u8, cpu: u8) -> Result<Phase, GateError>
     requires { config.mounts ≤ 8 }
-    ensures { result ≡ beginning config 0 false (mounts_held held.now) (levels_held held.now) (DropWrite mount cpu) }
+    ensures { result ≡ beginning config 0 false (mounts_held held.now) (levels_held held.now) (files_held held.now) (DropWrite mount cpu) }
 {
     if mount >= config.mounts || cpu >= config.processors {
         Err(GateError::Invalid)
@@ -255,7 +259,7 @@ fn begin_drop_write(config: Config, held: &Accesses, mount: u8, cpu: u8) -> Resu
 
 /// A callback may be run by whoever has nothing else under way.
 fn begin_callback(config: Config, level: u8) -> Result<Phase, GateError>
-    ensures { result ≡ beginning config 0 false (λ mount. 0) (λ i. false) (CallbackOp level) }
+    ensures { result ≡ beginning config 0 false (λ mount. 0) (λ i. false) (λ n. false) (CallbackOp level) }
 {
     if !is_level(level) {
         Err(GateError::Invalid)
@@ -275,7 +279,7 @@ fn begin_freeze(
     held: &Accesses,
     holder: Holder,
 ) -> Result<Phase, GateError>
-    ensures { result ≡ beginning config task false (mounts_held held.now) (levels_held held.now) (FreezeOp holder) }
+    ensures { result ≡ beginning config task false (mounts_held held.now) (levels_held held.now) (files_held held.now) (FreezeOp holder) }
 {
     if !held.is_in_no_level() {
         Err(GateError::Order)
@@ -293,7 +297,7 @@ fn begin_freeze(
 
 /// Nor is a thaw.
 fn begin_thaw(config: Config, task: u8, held: &Accesses, holder: Holder) -> Result<Phase, GateError>
-    ensures { result ≡ beginning config task false (mounts_held held.now) (levels_held held.now) (ThawOp holder) }
+    ensures { result ≡ beginning config task false (mounts_held held.now) (levels_held held.now) (files_held held.now) (ThawOp holder) }
 {
     let _ = config;
     if !held.is_in_no_level() {
@@ -318,7 +322,7 @@ fn may_write(config: Config, held: &Accesses) -> bool
 /// A create is of a writer, in a directory that there may be.
 fn begin_create(config: Config, held: &Accesses, dir: u8, kind: Kind) -> Result<Phase, GateError>
     requires { config.mounts ≤ 8 }
-    ensures { result ≡ beginning config 0 false (mounts_held held.now) (levels_held held.now) (CreateOp dir kind) }
+    ensures { result ≡ beginning config 0 false (mounts_held held.now) (levels_held held.now) (files_held held.now) (CreateOp dir kind) }
 {
     if dir >= config.nodes {
         Err(GateError::Invalid)
@@ -337,7 +341,7 @@ fn begin_create(config: Config, held: &Accesses, dir: u8, kind: Kind) -> Result<
 /// So is a remove.
 fn begin_remove(config: Config, held: &Accesses, file: u8) -> Result<Phase, GateError>
     requires { config.mounts ≤ 8 }
-    ensures { result ≡ beginning config 0 false (mounts_held held.now) (levels_held held.now) (RemoveOp file) }
+    ensures { result ≡ beginning config 0 false (mounts_held held.now) (levels_held held.now) (files_held held.now) (RemoveOp file) }
 {
     if file >= config.nodes {
         Err(GateError::Invalid)
@@ -355,7 +359,7 @@ fn begin_remove(config: Config, held: &Accesses, file: u8) -> Result<Phase, Gate
 #[inline(always)]
 fn begin_grow(config: Config, held: &Accesses, file: u8, blocks: u32) -> Result<Phase, GateError>
     requires { config.mounts ≤ 8 }
-    ensures { result ≡ beginning config 0 false (mounts_held held.now) (levels_held held.now) (GrowOp file blocks) }
+    ensures { result ≡ beginning config 0 false (mounts_held held.now) (levels_held held.now) (files_held held.now) (GrowOp file blocks) }
 {
     if file >= config.nodes || blocks == 0 {
         Err(GateError::Invalid)
@@ -374,7 +378,7 @@ fn begin_grow(config: Config, held: &Accesses, file: u8, blocks: u32) -> Result<
 /// So is a move.
 fn begin_move(config: Config, held: &Accesses, file: u8, dir: u8) -> Result<Phase, GateError>
     requires { config.mounts ≤ 8 }
-    ensures { result ≡ beginning config 0 false (mounts_held held.now) (levels_held held.now) (MoveToOp file dir) }
+    ensures { result ≡ beginning config 0 false (mounts_held held.now) (levels_held held.now) (files_held held.now) (MoveToOp file dir) }
 {
     if file >= config.nodes || dir >= config.nodes {
         Err(GateError::Invalid)
@@ -392,7 +396,7 @@ fn begin_move(config: Config, held: &Accesses, file: u8, dir: u8) -> Result<Phas
 /// A page fault is of a task inside level 2, with an access at some mount.
 fn begin_fault(config: Config, held: &Accesses, file: u8) -> Result<Phase, GateError>
     requires { config.mounts ≤ 8 }
-    ensures { result ≡ beginning config 0 false (mounts_held held.now) (levels_held held.now) (FaultOp file) }
+    ensures { result ≡ beginning config 0 false (mounts_held held.now) (levels_held held.now) (files_held held.now) (FaultOp file) }
 {
     if file >= config.nodes {
         Err(GateError::Invalid)
@@ -409,7 +413,7 @@ fn begin_fault(config: Config, held: &Accesses, file: u8) -> Result<Phase, GateE
 
 /// A write-back is of a task inside level 3.
 fn begin_flush(config: Config, held: &Accesses, file: u8) -> Result<Phase, GateError>
-    ensures { result ≡ beginning config 0 false (mounts_held held.now) (levels_held held.now) (FlushOp file) }
+    ensures { result ≡ beginning config 0 false (mounts_held held.now) (levels_held held.now) (files_held held.now) (FlushOp file) }
 {
     if file >= config.nodes {
         Err(GateError::Invalid)
@@ -424,9 +428,52 @@ fn begin_flush(config: Config, held: &Accesses, file: u8) -> Result<Phase, GateE
     }
 }
 
+/// A task opens a file once.
+fn begin_open(config: Config, held: &Accesses, file: u8) -> Result<Phase, GateError>
+    requires { config.nodes ≤ 64 }
+    ensures { result ≡ beginning config 0 false (mounts_held held.now) (levels_held held.now) (files_held held.now) (OpenOp file) }
+{
+    if file >= config.nodes {
+        Err(GateError::Invalid)
+    } else if held.files[file as usize] {
+        Err(GateError::TooMany)
+    } else {
+        Ok(Phase::Trees(TreePhase::OpenFile(OpenFile {
+            file,
+            step: OpenStep::LoadsFile,
+        })))
+    }
+}
+
+/// A close is of a file that the task has open, and not begun inside level 3, which a last close goes into.
+fn begin_close(
+    config: Config,
+    task: u8,
+    held: &Accesses,
+    file: u8,
+    cpu: u8,
+    wait: bool,
+) -> Result<Phase, GateError>
+    requires { config.nodes ≤ 64 }
+    ensures { result ≡ beginning config task false (mounts_held held.now) (levels_held held.now) (files_held held.now) (CloseOp file cpu wait) }
+{
+    if file >= config.nodes || cpu >= config.processors {
+        Err(GateError::Invalid)
+    } else if !held.is_in_none_from(3) || !held.files[file as usize] {
+        Err(GateError::Order)
+    } else {
+        Ok(Phase::Closes(ClosePhase::LoadsFile(Closing {
+            file,
+            cpu,
+            task,
+            wait,
+        })))
+    }
+}
+
 /// A snapshot is not begun inside a level.
 fn begin_snapshot(config: Config, task: u8, held: &Accesses, wait: bool) -> Result<Phase, GateError>
-    ensures { result ≡ beginning config task false (mounts_held held.now) (levels_held held.now) (SnapshotOp wait) }
+    ensures { result ≡ beginning config task false (mounts_held held.now) (levels_held held.now) (files_held held.now) (SnapshotOp wait) }
 {
     if !held.is_in_no_level() {
         Err(GateError::Order)

@@ -45,6 +45,7 @@ impl Config {
             | WordName::Holders
             | WordName::SbFlags
             | WordName::Remount
+            | WordName::Removed
             | WordName::Used => true,
             WordName::MountFlags(mount) => mount < self.mounts,
             WordName::MountCount(mount, cpu) => mount < self.mounts && cpu < self.processors,

@@ -89,6 +89,16 @@ pub enum Op {
     Flush {
         file: u8,
     },
+    /// `do_dentry_open`: opens a file, which stays until its last close, whoever removes it.
+    Open {
+        file: u8,
+    },
+    /// `__fput`: closes a file that the task has open. The last close of a removed file frees it, inside level 3, on a processor.
+    Close {
+        file: u8,
+        cpu: u8,
+        wait: bool,
+    },
     /// A snapshot of the whole tree, under `umount`, while the file system is frozen.
     Snapshot {
         wait: bool,

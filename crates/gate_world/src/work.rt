@@ -5,6 +5,7 @@ ghost use Rattle.gate_world.specs.Work.{next_of, after_of, hook_of};
 
 use access_model::{Action, Next};
 use cpu_words::{Touch, WordName};
+use file_closes::ClosePhase;
 use freeze_levels::{Freeze, HookKind, Thaw};
 use gated_tree::{Grow, TreePhase};
 use mount_counts::{Change, MountPhase, Remount, RemountStep, Want};
@@ -32,6 +33,8 @@ pub enum Phase {
     Thaws(Thaw),
     /// A call at the tree, or a snapshot of it.
     Trees(TreePhase),
+    /// A close of a file.
+    Closes(ClosePhase),
 }
 
 impl Phase {
@@ -50,6 +53,7 @@ impl Phase {
             Phase::Freezes(freeze) => freeze.next(hook),
             Phase::Thaws(thaw) => thaw.next(hook),
             Phase::Trees(phase) => phase.next(hook),
+            Phase::Closes(phase) => phase.next(),
         }
     }
 
@@ -94,6 +98,10 @@ impl Phase {
             Phase::Trees(phase) => {
                 let (next, action) = phase.after(found, hook);
                 (next.map(Phase::Trees), action)
+            }
+            Phase::Closes(phase) => {
+                let (next, action) = phase.after(found);
+                (next.map(Phase::Closes), action)
             }
         }
     }
@@ -347,6 +355,23 @@ impl UnderWay for Grow {
 
     #[inline(always)]
     fn after(self, found: u64, hook: Result<(), u16>) -> (Next<Grow>, Option<Action>) {
+        let _ = hook;
+        self.after(found)
+    }
+}
+
+impl UnderWay for ClosePhase {
+    ghost use Rattle.gate_world.specs.declared.work.Phase.TheVariants.{Closes};
+
+    ghost as_phase = { λ phase. Closes phase };
+
+    #[inline(always)]
+    fn phase(self) -> Phase {
+        Phase::Closes(self)
+    }
+
+    #[inline(always)]
+    fn after(self, found: u64, hook: Result<(), u16>) -> (Next<ClosePhase>, Option<Action>) {
         let _ = hook;
         self.after(found)
     }

@@ -7,7 +7,7 @@ use Rattle.std.proofs.lemmas.Nat.Bits.{and_pow}
 use Rattle.access_model.specs.declared.actions.Kind.TheVariants.{File, Dir}
 use Rattle.access_model.specs.Actions.{marked}
 use Rattle.access_model.specs.States.{is_dirty, IsFile, IsDirectory}
-use Rattle.gated_tree.specs.Nodes.{kind_in, dirty_in, parent_in, size_in, IsPacked, IsNode, mark_bit, word_of, node_of, node_shown, marked_node}
+use Rattle.gated_tree.specs.Nodes.{kind_in, dirty_in, removed_in, opens_in, parent_in, size_in, IsPacked, IsNode, mark_bit, word_of, node_of, node_shown, marked_node}
 use Rattle.gated_tree.proofs.Packing.{bit_back, word_returns}
 use Rattle.gated_tree.proofs.Words.{dirty_shown}
 
@@ -19,6 +19,8 @@ without_mark word = bit_and word 18446744073709551611
 pub record IsCleared (word cleared : ℕ) : Type 0 where
   pub kind : kind_in cleared ≡ kind_in word
   pub dirty : dirty_in cleared ≡ 0
+  pub removed : removed_in cleared ≡ removed_in word
+  pub opens : opens_in cleared ≡ opens_in word
   pub parent : parent_in cleared ≡ parent_in word
   pub size : size_in cleared ≡ size_in word
 
@@ -35,18 +37,32 @@ packed_below word h = omega (arith, h.size)
 
 -- a word that is less by its mark is cleared
 lesser_cleared : (word cleared : ℕ) → cleared + 4 * (word / 4 % 2) ≡ word → IsCleared word cleared
-lesser_cleared word cleared e = record { kind = omega arith; dirty = omega arith; parent = omega arith; size = omega arith }
+lesser_cleared word cleared e = record {
+  kind = omega arith;
+  dirty = omega arith;
+  removed = omega arith;
+  opens = omega arith;
+  parent = omega arith;
+  size = omega arith;
+}
 
 -- and has no more bits outside the fields
 lesser_packed : (word cleared : ℕ) → cleared + 4 * (word / 4 % 2) ≡ word → IsPacked word → IsPacked cleared
 lesser_packed word cleared e h = record {
   kind = omega (arith, e, h.kind);
   low = omega (arith, e, h.low);
+  gap = omega (arith, e, h.gap);
   high = omega (arith, e, h.high);
   size = omega (arith, e, h.size);
   free = λ z.
       let none : word ≡ 0 = h.free (omega (arith, e, z)) in
       omega (arith, e, none);
+  few = omega (arith, (lesser_cleared word cleared e).opens, h.few);
+  closed = λ dir. (lesser_cleared word cleared e).opens ∙ h.closed (sym (lesser_cleared word cleared e).kind ∙ dir);
+  marked = λ mark.
+      let c = lesser_cleared word cleared e in
+      let m = h.marked (sym c.removed ∙ mark) in
+      (c.kind ∙ m.0, c.dirty, omega (arith, c.opens, m.2));
 }
 
 -- the cleared word of a node is cleared
@@ -88,7 +104,13 @@ marked_file word h marked =
 
 -- what a file's word shows
 pub file_shown : (word : ℕ) → kind_in word ≡ 1 →
-    node_shown word ≡ Some (record { kind = File; parent = parent_in word; size = size_in word; dirty = dirty_in word == 1 })
+    node_shown word ≡ Some record {
+      kind = File;
+      parent = parent_in word;
+      size = size_in word;
+      dirty = dirty_in word == 1;
+      removed = removed_in word == 1;
+    }
 file_shown word file = rw (ne_eqb (kind_in word) 0 (λ e. absurd (omega (arith, e, file))), eq-eqb (kind_in word) 1 file) refl
 
 -- no directory is dirty
@@ -109,6 +131,6 @@ cleared_shown word h dirty =
     let clean : (dirty_in (without_mark word) == 1) ≡ false =
     ne_eqb (dirty_in (without_mark word)) 1 (λ e. absurd (omega (arith, e, c.dirty))) in (
       rw before refl,
-      after ∙ (λ j. Some (record { kind = File; parent = c.parent j; size = c.size j; dirty = clean j })) ∙
+      after ∙ (λ j. Some (record { kind = File; parent = c.parent j; size = c.size j; dirty = clean j; removed = c.removed j == 1 })) ∙
           sym (ap (option_map (marked false)) before),
     )

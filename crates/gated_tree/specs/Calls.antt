@@ -10,7 +10,7 @@ use Rattle.gated_tree.specs.declared.changes.CreateStep.{CreateStep}
 use Rattle.gated_tree.specs.declared.changes.CreateStep.TheVariants.{LoadsDirectory, LoadsNode, ChargesChild, TakesNode, RefundsChild}
 use Rattle.gated_tree.specs.declared.changes.Remove.{Remove}
 use Rattle.gated_tree.specs.declared.changes.RemoveStep.{RemoveStep}
-use Rattle.gated_tree.specs.declared.changes.RemoveStep.TheVariants.{LoadsFile as LoadsFileToRemove, FreesNode, RefundsBlocks as RefundsItsBlocks, RefundsChild as RefundsItsChild}
+use Rattle.gated_tree.specs.declared.changes.RemoveStep.TheVariants.{LoadsFile as LoadsFileToRemove, FreesNode, CountsRemoved, MarksRemoved, RefundsRemoved, RefundsBlocks as RefundsItsBlocks, RefundsChild as RefundsItsChild}
 use Rattle.gated_tree.specs.declared.changes.MoveTo.{MoveTo}
 use Rattle.gated_tree.specs.declared.changes.MoveStep.{MoveStep}
 use Rattle.gated_tree.specs.declared.changes.MoveStep.TheVariants.{LoadsFile as LoadsFileToMove, LoadsDirectory as LoadsTarget, ChargesChild as ChargesTarget, MovesFile, RefundsChild as RefundsOne}
@@ -20,11 +20,14 @@ use Rattle.gated_tree.specs.declared.growth.GrowStep.TheVariants.{LoadsFile as L
 use Rattle.gated_tree.specs.declared.marks.Mark.{Mark}
 use Rattle.gated_tree.specs.declared.marks.MarkStep.{MarkStep}
 use Rattle.gated_tree.specs.declared.marks.MarkStep.TheVariants.{LoadsFile as LoadsFileToMark, MarksFile}
+use Rattle.gated_tree.specs.declared.opens.OpenFile.{OpenFile}
+use Rattle.gated_tree.specs.declared.opens.OpenStep.{OpenStep}
+use Rattle.gated_tree.specs.declared.opens.OpenStep.TheVariants.{LoadsFile as LoadsFileToOpen, OpensFile}
 use Rattle.gated_tree.specs.declared.snapshots.SnapshotStep.{SnapshotStep}
 use Rattle.gated_tree.specs.declared.snapshots.SnapshotStep.TheVariants.{Locks, LoadsStage, LoadsUsed as LoadsUsedWord, LoadsNode as LoadsNodeWord, LoadsKids, Releases}
 use Rattle.gated_tree.specs.declared.phases.TreePhase.{TreePhase}
-use Rattle.gated_tree.specs.declared.phases.TreePhase.TheVariants.{Create as Creates, Remove as Removes, Grow as Grows, MoveTo as Moves, Mark as Marks, Snapshot as Snapshots, ClearMarks as Clears}
-use Rattle.gated_tree.specs.Roles.{Role, Out, Loaded, Found, Placing, Targets, Moving, Growing, Charged, Refunding, Freed, Returning, Clearing, Reading, Bounds}
+use Rattle.gated_tree.specs.declared.phases.TreePhase.TheVariants.{Create as Creates, Remove as Removes, Grow as Grows, MoveTo as Moves, Mark as Marks, OpenFile as OpensOne, Snapshot as Snapshots, ClearMarks as Clears}
+use Rattle.gated_tree.specs.Roles.{Role, Out, Loaded, Found, Placing, Targets, Moving, Growing, Charged, Refunding, Freed, Returning, Removing, Uncounting, Clearing, Reading, Bounds}
 
 -- a create has found its directory until it charges a child there
 abbrev pub create_role : Create → CreateStep → Role
@@ -34,10 +37,13 @@ create_role c (ChargesChild node) = Found c.dir
 create_role c (TakesNode node) = Placing c.dir
 create_role c RefundsChild = Returning c.dir
 
--- a remove that has freed its file's node still charges the file's blocks and the child
+-- a remove that has freed its file's node still charges the file's blocks and the child; one that has marked it the child
 abbrev pub remove_role : Remove → RemoveStep → Role
 remove_role r LoadsFileToRemove = Out
 remove_role r (FreesNode file) = Loaded file
+remove_role r (CountsRemoved file) = Loaded file
+remove_role r (MarksRemoved file) = Removing file
+remove_role r RefundsRemoved = Uncounting
 remove_role r (RefundsItsBlocks file) = Freed file.size file.parent
 remove_role r (RefundsItsChild file) = Returning file.parent
 
@@ -62,6 +68,11 @@ abbrev pub mark_role : Mark → MarkStep → Role
 mark_role m LoadsFileToMark = Out
 mark_role m (MarksFile file) = Loaded file
 
+-- an open charges nothing
+abbrev pub open_role : OpenFile → OpenStep → Role
+open_role o LoadsFileToOpen = Out
+open_role o (OpensFile file) = Loaded file
+
 -- a snapshot of so many nodes that has loaded these values, in their order
 abbrev pub snapshot_role : ℕ → (ℕ → ℕ) → SnapshotStep → Role
 snapshot_role nodes values Locks = Out
@@ -78,6 +89,7 @@ phase_role values (Removes r) = remove_role r r.step
 phase_role values (Grows g) = grow_role g g.step
 phase_role values (Moves m) = move_role m m.step
 phase_role values (Marks m) = mark_role m m.step
+phase_role values (OpensOne o) = open_role o o.step
 phase_role values (Snapshots s) = snapshot_role s.nodes values s.step
 phase_role values (Clears x) = Clearing x.node
 
@@ -95,10 +107,13 @@ CreateStepFits c (ChargesChild node) = node < c.nodes
 CreateStepFits c (TakesNode node) = node < c.nodes
 CreateStepFits c RefundsChild = Unit {0}
 
--- the parent of a file that a remove has loaded fits its bits
+-- the parent of a file that a remove has loaded fits its bits, and it is open where it is to be marked
 abbrev pub RemoveStepFits : RemoveStep → Type 0
 RemoveStepFits LoadsFileToRemove = Unit {0}
-RemoveStepFits (FreesNode file) = file.parent < 64
+RemoveStepFits (FreesNode file) = (file.parent < 64) × (file.opens ≡ 0)
+RemoveStepFits (CountsRemoved file) = (file.parent < 64) × (1 ≤ file.opens)
+RemoveStepFits (MarksRemoved file) = (file.parent < 64) × (1 ≤ file.opens)
+RemoveStepFits RefundsRemoved = Unit {0}
 RemoveStepFits (RefundsItsBlocks file) = file.parent < 64
 RemoveStepFits (RefundsItsChild file) = file.parent < 64
 
@@ -116,6 +131,11 @@ MoveStepFits (ChargesTarget file) = file.parent < 64
 MoveStepFits (MovesFile file) = file.parent < 64
 MoveStepFits (RefundsOne dir answer) = (dir < 64) × IsMoveAnswer answer
 
+-- fewer than 64 tasks have a file open that an open has loaded
+abbrev pub OpenStepFits : OpenStep → Type 0
+OpenStepFits LoadsFileToOpen = Unit {0}
+OpenStepFits (OpensFile file) = file.opens < 64
+
 -- a snapshot's node to come is one of the tree's
 abbrev pub SnapshotStepFits : Bounds → SnapshotStep → Type 0
 SnapshotStepFits c (LoadsNodeWord node) = node < c.nodes
@@ -129,6 +149,7 @@ TreePhaseFits c t (Removes x) = (x.file < c.nodes) × RemoveStepFits x.step
 TreePhaseFits c t (Grows x) = (x.file < c.nodes) × (1 ≤ x.blocks) × (x.capacity ≡ c.capacity)
 TreePhaseFits c t (Moves x) = (x.file < c.nodes) × (x.dir < c.nodes) × MoveStepFits x.step
 TreePhaseFits c t (Marks x) = x.file < c.nodes
+TreePhaseFits c t (OpensOne x) = (x.file < c.nodes) × OpenStepFits x.step
 TreePhaseFits c t (Snapshots x) = (x.task ≡ t) × (x.nodes ≡ c.nodes) × SnapshotStepFits c x.step
 TreePhaseFits c t (Clears x) = (x.node < c.nodes) × (x.nodes ≡ c.nodes)
 

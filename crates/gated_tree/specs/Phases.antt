@@ -1,7 +1,7 @@
 -- The orders of events of the calls at the tree: which word an event touches and how, and what comes after it.
 use Rattle.std.specs.Prelude.{ℕ, ◌+◌, ◌==◌, Bool, true, false, if◌then◌else◌, nat_lt, Option, Some, None, Result, Ok, Err, is_some}
 use Rattle.access_model.specs.declared.actions.Action.{Action}
-use Rattle.access_model.specs.declared.actions.Action.TheVariants.{Create as CreateAction, Remove as RemoveAction, Grow as GrowAction, MoveTo as MoveToAction, Dirty, Clean}
+use Rattle.access_model.specs.declared.actions.Action.TheVariants.{Create as CreateAction, Remove as RemoveAction, Grow as GrowAction, MoveTo as MoveToAction, Dirty, Clean, Open as OpenAction}
 use Rattle.access_model.specs.declared.errors.GateError.{GateError}
 use Rattle.access_model.specs.declared.errors.GateError.TheVariants.{Again, Invalid, NoSpace}
 use Rattle.access_model.specs.declared.replies.Next.{Next}
@@ -9,7 +9,7 @@ use Rattle.access_model.specs.declared.replies.Next.TheVariants.{Go, Wait, Done}
 use Rattle.access_model.specs.declared.replies.Reply.TheVariants.{Unit as UnitReply, Node as NodeReply, Tree as TreeReply}
 use Rattle.access_model.specs.Replies.{map_next}
 use Rattle.cpu_words.specs.declared.names.WordName.{WordName}
-use Rattle.cpu_words.specs.declared.names.WordName.TheVariants.{Umount, Stage, Used, Node, Kids}
+use Rattle.cpu_words.specs.declared.names.WordName.TheVariants.{Umount, Stage, Removed, Used, Node, Kids}
 use Rattle.cpu_words.specs.declared.events.Touch.{Touch}
 use Rattle.cpu_words.specs.declared.events.Touch.TheVariants.{Load, Store, Add, Sub, And, Cas}
 use Rattle.cpu_words.specs.Hooks.{HookAnswer}
@@ -18,7 +18,7 @@ use Rattle.gated_tree.specs.declared.changes.CreateStep.{CreateStep}
 use Rattle.gated_tree.specs.declared.changes.CreateStep.TheVariants.{LoadsDirectory, LoadsNode, ChargesChild, TakesNode, RefundsChild}
 use Rattle.gated_tree.specs.declared.changes.Remove.{Remove}
 use Rattle.gated_tree.specs.declared.changes.RemoveStep.{RemoveStep}
-use Rattle.gated_tree.specs.declared.changes.RemoveStep.TheVariants.{LoadsFile as LoadsFileToRemove, FreesNode, RefundsBlocks as RefundsItsBlocks, RefundsChild as RefundsItsChild}
+use Rattle.gated_tree.specs.declared.changes.RemoveStep.TheVariants.{LoadsFile as LoadsFileToRemove, FreesNode, CountsRemoved, MarksRemoved, RefundsRemoved, RefundsBlocks as RefundsItsBlocks, RefundsChild as RefundsItsChild}
 use Rattle.gated_tree.specs.declared.changes.MoveTo.{MoveTo}
 use Rattle.gated_tree.specs.declared.changes.MoveStep.{MoveStep}
 use Rattle.gated_tree.specs.declared.changes.MoveStep.TheVariants.{LoadsFile as LoadsFileToMove, LoadsDirectory as LoadsTarget, ChargesChild as ChargesTarget, MovesFile, RefundsChild as RefundsOne}
@@ -29,13 +29,16 @@ use Rattle.gated_tree.specs.declared.marks.Mark.{Mark}
 use Rattle.gated_tree.specs.declared.marks.MarkStep.{MarkStep}
 use Rattle.gated_tree.specs.declared.marks.MarkStep.TheVariants.{LoadsFile as LoadsFileToMark, MarksFile}
 use Rattle.gated_tree.specs.declared.marks.ClearMarks.{ClearMarks}
+use Rattle.gated_tree.specs.declared.opens.OpenFile.{OpenFile}
+use Rattle.gated_tree.specs.declared.opens.OpenStep.{OpenStep}
+use Rattle.gated_tree.specs.declared.opens.OpenStep.TheVariants.{LoadsFile as LoadsFileToOpen, OpensFile}
 use Rattle.gated_tree.specs.declared.snapshots.Snapshot.{Snapshot}
 use Rattle.gated_tree.specs.declared.snapshots.SnapshotStep.{SnapshotStep}
 use Rattle.gated_tree.specs.declared.snapshots.SnapshotStep.TheVariants.{Locks, LoadsStage, LoadsUsed as LoadsUsedWord, LoadsNode as LoadsNodeWord, LoadsKids, Releases}
 use Rattle.gated_tree.specs.declared.nodes.NodeWord.{NodeWord}
 use Rattle.gated_tree.specs.declared.phases.TreePhase.{TreePhase}
-use Rattle.gated_tree.specs.declared.phases.TreePhase.TheVariants.{Create as Creates, Remove as Removes, Grow as Grows, MoveTo as Moves, Mark as Marks, Snapshot as Snapshots, ClearMarks as Clears}
-use Rattle.gated_tree.specs.Nodes.{word_of, unpacked, dirty_in, new_node, grown_node, moved_node, marked_node, file_in, directory_in, node_after}
+use Rattle.gated_tree.specs.declared.phases.TreePhase.TheVariants.{Create as Creates, Remove as Removes, Grow as Grows, MoveTo as Moves, Mark as Marks, OpenFile as OpensOne, Snapshot as Snapshots, ClearMarks as Clears}
+use Rattle.gated_tree.specs.Nodes.{word_of, unpacked, dirty_in, new_node, grown_node, moved_node, marked_node, opened_node, unlinked_node, file_in, directory_in, node_after}
 
 -- What comes after a load of a node that a call needs to be of a kind: the call goes on with the node, or it is refused. A word that is
 -- no node's is loaded again, which never happens behind the gates.
@@ -85,10 +88,14 @@ create_after c (TakesNode node) found = (
 )
 create_after c RefundsChild found = (Done (Err Again), None)
 
--- Remove: free the file's node, and then subtract its blocks and the child that it was.
+-- Remove: free the file's node, and then subtract its blocks and the child that it was. Where some task has it open, count one removed file
+-- more, and mark the node; then it keeps its blocks. Where its node changed meanwhile, the count is taken back.
 abbrev pub remove_next : Remove → RemoveStep → WordName × Touch
 remove_next r LoadsFileToRemove = (Node r.file, Load)
 remove_next r (FreesNode file) = (Node r.file, Cas (word_of file) 0)
+remove_next r (CountsRemoved file) = (Removed, Add 1)
+remove_next r (MarksRemoved file) = (Node r.file, Cas (word_of file) (word_of (unlinked_node file)))
+remove_next r RefundsRemoved = (Removed, Sub 1)
 remove_next r (RefundsItsBlocks file) = (Used, Sub file.size)
 remove_next r (RefundsItsChild file) = (Kids file.parent, Sub 1)
 
@@ -96,16 +103,26 @@ remove_next r (RefundsItsChild file) = (Kids file.parent, Sub 1)
 abbrev pub at_remove : Remove → RemoveStep → Remove
 at_remove r step = record r { step = step }
 
+-- a file that no task has open is freed, another one is marked
+abbrev pub removes_file : NodeWord → ℕ → RemoveStep
+removes_file file opens = if opens == 0 then FreesNode file else CountsRemoved file
+
 -- what comes after each event of a remove
 abbrev pub remove_after : Remove → RemoveStep → ℕ → Next Remove × Option Action
 remove_after r LoadsFileToRemove found = (
-  after_look (at_remove r LoadsFileToRemove) (λ file. at_remove r (FreesNode file)) (file_in found),
+  after_look (at_remove r LoadsFileToRemove) (λ file. at_remove r (removes_file file file.opens)) (file_in found),
   None,
 )
 remove_after r (FreesNode file) found = (
   if found == word_of file then Go (at_remove r (RefundsItsBlocks file)) else Done (Err Again),
   if found == word_of file then Some (RemoveAction r.file) else None,
 )
+remove_after r (CountsRemoved file) found = (Go (at_remove r (MarksRemoved file)), None)
+remove_after r (MarksRemoved file) found = (
+  if found == word_of file then Go (at_remove r (RefundsItsChild file)) else Go (at_remove r RefundsRemoved),
+  if found == word_of file then Some (RemoveAction r.file) else None,
+)
+remove_after r RefundsRemoved found = (Done (Err Again), None)
 remove_after r (RefundsItsBlocks file) found = (Go (at_remove r (RefundsItsChild file)), None)
 remove_after r (RefundsItsChild file) found = (Done (Ok UnitReply), None)
 
@@ -190,6 +207,31 @@ mark_after m (MarksFile file) found = (
   if found == word_of file then Some (mark_done m.dirty m.file) else None,
 )
 
+-- Open: count one task more that has the file open. At a file that 64 tasks have open the load is done again, which never happens behind the
+-- gates.
+abbrev pub open_next : OpenFile → OpenStep → WordName × Touch
+open_next o LoadsFileToOpen = (Node o.file, Load)
+open_next o (OpensFile file) = (Node o.file, Cas (word_of file) (word_of (opened_node file)))
+
+-- the same open, with this step to come
+abbrev pub at_open : OpenFile → OpenStep → OpenFile
+at_open o step = record o { step = step }
+
+-- a file that so many tasks have open is opened
+abbrev pub opens_from : NodeWord → Bool → OpenStep
+opens_from file room = if room then OpensFile file else LoadsFileToOpen
+
+-- what comes after each event of an open
+abbrev pub open_after : OpenFile → OpenStep → ℕ → Next OpenFile × Option Action
+open_after o LoadsFileToOpen found = (
+  after_look (at_open o LoadsFileToOpen) (λ file. at_open o (opens_from file (nat_lt file.opens 64))) (file_in found),
+  None,
+)
+open_after o (OpensFile file) found = (
+  if found == word_of file then Done (Ok UnitReply) else Done (Err Again),
+  if found == word_of file then Some (OpenAction o.file) else None,
+)
+
 -- Snapshot: under `umount`, and at stage 4 alone, load all words of the tree.
 abbrev pub snapshot_next : Snapshot → SnapshotStep → WordName × Touch
 snapshot_next s Locks = (Umount, Cas 0 (s.task + 1))
@@ -256,6 +298,7 @@ next (Removes r) hook = remove_next r r.step
 next (Grows g) hook = grow_next g g.step
 next (Moves m) hook = move_next m m.step
 next (Marks m) hook = mark_next m m.step
+next (OpensOne o) hook = open_next o o.step
 next (Snapshots s) hook = snapshot_next s s.step
 next (Clears x) hook = clear_next x
 
@@ -266,5 +309,6 @@ after (Removes r) found hook = (map_next Removes (remove_after r r.step found).0
 after (Grows g) found hook = (map_next Grows (grow_after g g.step found).0, (grow_after g g.step found).1)
 after (Moves m) found hook = (map_next Moves (move_after m m.step found).0, (move_after m m.step found).1)
 after (Marks m) found hook = (map_next Marks (mark_after m m.step found).0, (mark_after m m.step found).1)
+after (OpensOne o) found hook = (map_next OpensOne (open_after o o.step found).0, (open_after o o.step found).1)
 after (Snapshots s) found hook = (map_next Snapshots (snapshot_after s s.step found).0, (snapshot_after s s.step found).1)
 after (Clears x) found hook = (map_next Clears (clear_after x found).0, (clear_after x found).1)

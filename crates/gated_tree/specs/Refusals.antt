@@ -1,6 +1,6 @@
 -- Why a call at the tree is refused: tests of one event, and for each call what its events must have found. `Seen test` is that some
 -- event of the call passed the test.
-use Rattle.std.specs.Prelude.{◌≡◌, ℕ, ◌+◌, ◌<◌, ◌≤◌, ◌==◌, ◌&&◌, ◌⊎◌, not, nat_lt, Bool, true, false}
+use Rattle.std.specs.Prelude.{◌≡◌, ℕ, ◌+◌, ◌<◌, ◌≤◌, ◌==◌, ◌&&◌, ◌||◌, ◌⊎◌, not, nat_lt, Bool, true, false}
 use Rattle.access_model.specs.declared.errors.GateError.{GateError}
 use Rattle.access_model.specs.declared.errors.GateError.TheVariants.{NoEntry, Again, NotDir, IsDir, Invalid, NoSpace}
 use Rattle.cpu_words.specs.declared.names.WordName.{WordName}
@@ -12,7 +12,7 @@ use Rattle.gated_tree.specs.declared.changes.Create.{Create}
 use Rattle.gated_tree.specs.declared.changes.MoveTo.{MoveTo}
 use Rattle.gated_tree.specs.declared.growth.Grow.{Grow}
 use Rattle.gated_tree.specs.declared.snapshots.Snapshot.{Snapshot}
-use Rattle.gated_tree.specs.Nodes.{kind_in, size_in}
+use Rattle.gated_tree.specs.Nodes.{kind_in, removed_in, size_in}
 
 -- the event loads this node
 abbrev pub loads_node : ℕ → WordName → Touch → Bool
@@ -47,6 +47,10 @@ is_umount word = false
 -- a load found this node free
 abbrev pub finds_free : ℕ → Event → Bool
 finds_free n e = loads_node n e.word e.touch && (e.found == 0)
+
+-- a load found there a free node, or a file that was removed
+abbrev pub finds_gone : ℕ → Event → Bool
+finds_gone n e = loads_node n e.word e.touch && (e.found == 0 || removed_in e.found == 1)
 
 -- a load found it taken
 abbrev pub finds_taken : ℕ → Event → Bool
@@ -89,16 +93,16 @@ module _ (Seen : (Event → Bool) → Type 0) where
   CreateHonest x Again = Seen finds_other
   CreateHonest x refusal = ⊥
 
-  -- a call on one file: it was free or a directory, or changed meanwhile
+  -- a call on one file: it was free, removed or a directory, or changed meanwhile
   abbrev pub FileHonest : ℕ → GateError → Type 0
-  FileHonest file NoEntry = Seen (finds_free file)
+  FileHonest file NoEntry = Seen (finds_gone file)
   FileHonest file IsDir = Seen (finds_directory file)
   FileHonest file Again = Seen finds_other
   FileHonest file refusal = ⊥
 
   -- a grow: its file so, or no room for its blocks, or its file as it was loaded would have become too large
   abbrev pub GrowHonest : Grow → GateError → Type 0
-  GrowHonest x NoEntry = Seen (finds_free x.file)
+  GrowHonest x NoEntry = Seen (finds_gone x.file)
   GrowHonest x IsDir = Seen (finds_directory x.file)
   GrowHonest x NoSpace = Seen (finds_full x.blocks x.capacity)
   GrowHonest x Again = Seen finds_other ⊎ Seen (finds_large x.file x.blocks x.capacity)
@@ -106,7 +110,7 @@ module _ (Seen : (Event → Bool) → Type 0) where
 
   -- a move: its file so, or its directory was free or a file
   abbrev pub MoveHonest : MoveTo → GateError → Type 0
-  MoveHonest x NoEntry = Seen (finds_free x.file) ⊎ Seen (finds_free x.dir)
+  MoveHonest x NoEntry = Seen (finds_gone x.file) ⊎ Seen (finds_free x.dir)
   MoveHonest x IsDir = Seen (finds_directory x.file)
   MoveHonest x NotDir = Seen (finds_file x.dir)
   MoveHonest x Again = Seen finds_other

@@ -34,12 +34,12 @@ node_at words n = node_shown (slice_index words.nodes n)
 abbrev pub is_same : ℕ → ℕ → ℕ
 is_same a b = if a == b then 1 else 0
 
--- 1 for a node that is there and has this parent
+-- 1 for a node that is there, isn't removed, and has this parent
 abbrev pub has_parent : ℕ → Option NodeInfo → ℕ
 has_parent d None = 0
-has_parent d (Some node) = is_same node.parent d
+has_parent d (Some node) = if node.removed then 0 else is_same node.parent d
 
--- 1 for a child of this directory: the root, which is its own parent, is no child
+-- 1 for a child of this directory: the root, which is its own parent, is no child, nor is a removed file
 abbrev pub is_child : ℕ → ℕ → Option NodeInfo → ℕ
 is_child d zero entry = 0
 is_child d (suc n) entry = has_parent d entry

@@ -40,13 +40,20 @@ pub enum RemoveStep {
     LoadsFile,
     /// Frees the node, where it is as it was loaded.
     FreesNode(NodeWord),
+    /// Counts one removed file more, since some task has this one open.
+    CountsRemoved(NodeWord),
+    /// Marks the file as removed, and clean, where its node is as it was loaded.
+    MarksRemoved(NodeWord),
+    /// Counts one removed file less, and is refused.
+    RefundsRemoved,
     /// Subtracts the blocks that were charged for this file.
     RefundsBlocks(NodeWord),
     /// Subtracts the child that was charged for this file.
     RefundsChild(NodeWord),
 }
 
-/// A remove of a file under way (`vfs_unlink`).
+/// A remove of a file under way (`vfs_unlink`). Where some task has the file open, it keeps its node and its blocks until its last close
+/// (`drop_nlink`, which raises `s_remove_count`).
 #[derive(Clone, Copy, PartialEq, Eq, Debug)]
 pub struct Remove {
     pub file: u8,
@@ -84,7 +91,9 @@ impl Create {
         NodeWord {
             kind: Some(self.kind),
             dirty: false,
+            removed: false,
             parent: self.dir,
+            opens: 0,
             size: 0,
         }
     }
@@ -168,6 +177,18 @@ impl Remove {
                 let put = NodeWord::FREE;
                 (WordName::Node(self.file), Touch::Cas { expect, put })
             }
+            RemoveStep::CountsRemoved(_) => (WordName::Removed, Touch::Add(1)),
+            RemoveStep::MarksRemoved(file) => {
+                let expect = file.pack();
+                let put = NodeWord {
+                    dirty: false,
+                    removed: true,
+                    ..file
+                }
+                .pack();
+                (WordName::Node(self.file), Touch::Cas { expect, put })
+            }
+            RemoveStep::RefundsRemoved => (WordName::Removed, Touch::Sub(1)),
             RemoveStep::RefundsBlocks(file) => (WordName::Used, Touch::Sub(u64::from(file.size))),
             RemoveStep::RefundsChild(file) => (WordName::Kids(file.parent), Touch::Sub(1)),
         }
@@ -187,13 +208,21 @@ impl Remove {
             RemoveStep::LoadsFile => match NodeWord::file(found) {
                 None => Next::Go(self),
                 Some(Err(refusal)) => Next::Done(Err(refusal)),
-                Some(Ok(file)) => self.at(RemoveStep::FreesNode(file)),
+                Some(Ok(file)) if file.opens == 0 => self.at(RemoveStep::FreesNode(file)),
+                Some(Ok(file)) => self.at(RemoveStep::CountsRemoved(file)),
             },
             RemoveStep::FreesNode(file) if found == file.pack() => {
                 let removed = Action::Remove(self.file);
                 return (self.at(RemoveStep::RefundsBlocks(file)), Some(removed));
             }
             RemoveStep::FreesNode(_) => Next::Done(Err(GateError::Again)),
+            RemoveStep::CountsRemoved(file) => self.at(RemoveStep::MarksRemoved(file)),
+            RemoveStep::MarksRemoved(file) if found == file.pack() => {
+                let removed = Action::Remove(self.file);
+                return (self.at(RemoveStep::RefundsChild(file)), Some(removed));
+            }
+            RemoveStep::MarksRemoved(_) => self.at(RemoveStep::RefundsRemoved),
+            RemoveStep::RefundsRemoved => Next::Done(Err(GateError::Again)),
             RemoveStep::RefundsBlocks(file) => self.at(RemoveStep::RefundsChild(file)),
             RemoveStep::RefundsChild(_) => Next::Done(Ok(Reply::Unit)),
         };

@@ -1,16 +1,19 @@
 //! A node of the tree as one word.
 
 ghost use Rattle.std.specs.Prelude.{◌≡◌, Some, IfSome};
-ghost use Rattle.gated_tree.specs.Nodes.{IsLawful, directory_in, file_in, node_after, node_of, node_shown, unpacked, word_of};
+ghost use Rattle.gated_tree.specs.Nodes.{IsLawful, any_file_in, directory_in, file_in, node_after, node_of, node_shown, unpacked, word_of};
 
 use access_model::{GateError, Kind, NodeInfo};
 
-/// What a node word says: free, a file or a directory; the dirty mark; the parent's number (0 to 63); the size in blocks.
+/// What a node word says: free, a file or a directory; the dirty mark; whether it is a file that was removed while it is open; the parent's
+/// number (0 to 63); how many tasks have it open (0 to 64); the size in blocks.
 #[derive(Clone, Copy, PartialEq, Eq, Debug)]
 pub struct NodeWord {
     pub kind: Option<Kind>,
     pub dirty: bool,
+    pub removed: bool,
     pub parent: u8,
+    pub opens: u8,
     pub size: u32,
 }
 
@@ -21,23 +24,37 @@ impl NodeWord {
     /// The bit of the dirty mark.
     pub const DIRTY: u64 = 4;
 
-    /// The word of a node: the kind in bits 0 and 1 (0 free, 1 a file, 2 a directory), the dirty mark in bit 2, the parent in bits 8
-    /// to 13, the size in bits 32 to 63. It unpacks to the node again where the parent is below 64 and a free node says nothing
-    /// else.
+    /// The word of a node: the kind in bits 0 and 1 (0 free, 1 a file, 2 a directory), the dirty mark in bit 2, the removed mark in bit
+    /// 3, the parent in bits 8 to 13, how many tasks have it open in bits 16 to 22, the size in bits 32 to 63. It unpacks to the node
+    /// again where it is lawful: each field fits its bits, a free node says nothing else, no directory is open, and what is removed is a
+    /// clean file that is open.
     #[inline]
     pub fn pack(self) -> u64
         ensures word { result ≡ word_of self }
         ensures back { IsLawful self → unpacked result ≡ Some self }
+    {
+        self.bits()
+    }
+
+    /// The fields, each in its place.
+    #[inline]
+    fn bits(self) -> u64
+        ensures { result ≡ word_of self }
     {
         let kind = match self.kind {
             None => 0,
             Some(Kind::File) => 1,
             Some(Kind::Dir) => 2,
         };
-        kind | u64::from(self.dirty) << 2 | u64::from(self.parent) << 8 | u64::from(self.size) << 32
+        kind | u64::from(self.dirty) << 2
+            | u64::from(self.removed) << 3
+            | u64::from(self.parent) << 8
+            | u64::from(self.opens) << 16
+            | u64::from(self.size) << 32
     }
 
-    /// The node of a word. None where its kind is 3, where a bit outside the fields is set, and where it is of kind 0 and isn't 0.
+    /// The node of a word. None where its kind is 3, where a bit outside the fields is set, where it is of kind 0 and isn't 0, where more
+    /// than 64 tasks have it open or some a directory, and where it has the removed mark on anything but a clean file that is open.
     /// Any other word is that of the node again.
     #[inline]
     pub fn unpack(word: u64) -> Option<NodeWord>
@@ -45,8 +62,15 @@ impl NodeWord {
         ensures back { IfSome result (λ node. IsLawful node × (word_of node ≡ word)) }
     {
         let kind = word & 3;
-        let stray = (word >> 3) & 31 != 0 || (word >> 14) & 262143 != 0;
-        if stray || kind == 3 || (kind == 0 && word != 0) {
+        let stray = (word >> 4) & 15 != 0 || (word >> 14) & 3 != 0 || (word >> 23) & 511 != 0;
+        let opens = (word >> 16) & 127;
+        let misplaced = opens > 64 || (kind == 2 && opens != 0);
+        let removed = (word >> 3) & 1 == 1;
+        let dirty = (word >> 2) & 1 == 1;
+        if stray || kind == 3 || (kind == 0 && word != 0) || misplaced {
+            return None;
+        }
+        if removed && (kind != 1 || dirty || opens == 0) {
             return None;
         }
         Some(NodeWord::fields(word))
@@ -65,7 +89,9 @@ impl NodeWord {
         NodeWord {
             kind,
             dirty: (word >> 2) & 1 == 1,
+            removed: (word >> 3) & 1 == 1,
             parent: ((word >> 8) & 63) as u8,
+            opens: ((word >> 16) & 127) as u8,
             size: (word >> 32) as u32,
         }
     }
@@ -81,6 +107,7 @@ impl NodeWord {
                 parent: node.parent,
                 size: node.size,
                 dirty: node.dirty,
+                removed: node.removed,
             }),
             None => None,
         }
@@ -90,6 +117,20 @@ impl NodeWord {
     #[inline]
     pub(crate) fn file(word: u64) -> Option<Result<NodeWord, GateError>>
         ensures { result ≡ file_in word }
+    {
+        let node = NodeWord::unpack(word)?;
+        Some(match node.kind {
+            None => Err(GateError::NoEntry),
+            Some(Kind::File) if node.removed => Err(GateError::NoEntry),
+            Some(Kind::File) => Ok(node),
+            Some(Kind::Dir) => Err(GateError::IsDir),
+        })
+    }
+
+    /// The file of a word, removed or not, or why a close refuses it; None where the word is no node's.
+    #[inline]
+    pub fn any_file(word: u64) -> Option<Result<NodeWord, GateError>>
+        ensures { result ≡ any_file_in word }
     {
         let node = NodeWord::unpack(word)?;
         Some(match node.kind {

@@ -6,6 +6,7 @@ ghost use Rattle.gated_tree.specs.Phases.{next, after};
 use crate::changes::{Create, MoveTo, Remove};
 use crate::growth::Grow;
 use crate::marks::{ClearMarks, Mark};
+use crate::opens::OpenFile;
 use crate::snapshots::Snapshot;
 use access_model::{Action, Next};
 use cpu_words::{Touch, WordName};
@@ -19,6 +20,7 @@ pub enum TreePhase {
     MoveTo(MoveTo),
     /// A page fault or a write-back.
     Mark(Mark),
+    OpenFile(OpenFile),
     Snapshot(Snapshot),
     /// The clearing of all dirty marks, which is a part of a remount and of a freeze.
     ClearMarks(ClearMarks),
@@ -37,6 +39,7 @@ impl TreePhase {
             TreePhase::Grow(grow) => grow.next(),
             TreePhase::MoveTo(moving) => moving.next(),
             TreePhase::Mark(mark) => mark.next(),
+            TreePhase::OpenFile(opening) => opening.next(),
             TreePhase::Snapshot(snapshot) => snapshot.next(),
             TreePhase::ClearMarks(clearing) => clearing.next(),
         }
@@ -67,6 +70,10 @@ impl TreePhase {
             TreePhase::Mark(mark) => {
                 let (next, action) = mark.after(found);
                 (next.map(TreePhase::Mark), action)
+            }
+            TreePhase::OpenFile(opening) => {
+                let (next, action) = opening.after(found);
+                (next.map(TreePhase::OpenFile), action)
             }
             TreePhase::Snapshot(snapshot) => {
                 let (next, action) = snapshot.after(found);

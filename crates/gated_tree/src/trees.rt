@@ -1,7 +1,7 @@
 //! The tree that a snapshot has loaded.
 #![tactic(auto, unfolding(crate::specs::Trees::words_of))]
 
-ghost use Rattle.std.specs.Prelude.{◌≡◌, ◌≤◌, ◌<◌, ◌^◌, ◌↔◌, IsTrue, IfOk, OnSome, length, slice_index, vec_len};
+ghost use Rattle.std.specs.Prelude.{◌≡◌, ◌<◌, ◌^◌, ◌↔◌, IsTrue, IfOk, OnSome, length, slice_index, vec_len};
 ghost use Rattle.access_model.specs.States.{is_dirty};
 
 use crate::nodes::NodeWord;
@@ -79,7 +79,7 @@ impl Tree {
         self.used
     }
 
-    /// A node, with its kind, parent, size and dirty mark; None where it was free or there is none of that number.
+    /// A node, with its kind, parent, size, dirty mark and removed mark; None where it was free or there is none of that number.
     pub fn node(&self, node: u8) -> Option<NodeInfo>
         ensures value { result ≡ node_at (words_of self.now) node }
         ensures there { OnSome result (node < length (words_of self.now).nodes) }
@@ -152,14 +152,14 @@ impl Tree {
         (0..self.size()).all(|node| self.has_directory(node))
     }
 
-    /// How many nodes other than the root have this parent.
+    /// How many nodes other than the root, and not removed, have this parent.
     fn children(&self, dir: u8) -> u64
         ensures { let words = words_of self.now in result ≡ children_in (length words.nodes) (node_at words) dir }
     {
         let mut children: u64 = 0;
         for node in 0..self.size() {
             match self.node(node) {
-                Some(info) if node != 0 && info.parent == dir => children += 1,
+                Some(info) if node != 0 && !info.removed && info.parent == dir => children += 1,
                 _ => {}
             }
         }

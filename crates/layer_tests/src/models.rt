@@ -1,6 +1,6 @@
 //! The model by its calls, and the printed names and numbers of refusals.
 
-use access_model::{Action, Gate, GateError, Holder, Kind, Model};
+use access_model::{Action, Gate, GateError, Holder, Kind, Model, NodeInfo};
 use std::test::Fail;
 
 /// Whether a model does all these actions of a task.
@@ -75,6 +75,87 @@ fn shuts(model: &mut Model) -> bool {
         && model.mount_ro(0)
         && !model.sb_ro()
         && !model.allows(0, &Action::Grant(Gate::Mount(0)))
+}
+
+/// Whether a file is opened by both tasks, each once, and closed by one of them.
+fn opens(model: &mut Model) -> bool {
+    let open = Action::Open(1);
+    let close = Action::Close(1);
+    let write = [
+        Action::Grant(Gate::Level(1)),
+        Action::Grant(Gate::Mount(0)),
+        Action::Create {
+            node: 1,
+            dir: 0,
+            kind: Kind::File,
+        },
+        Action::Grow { node: 1, blocks: 3 },
+    ];
+    !model.allows(0, &open)
+        && does_all(model, 0, &write)
+        && !model.allows(0, &Action::Open(0))
+        && !model.allows(0, &close)
+        && does_all(model, 0, &[open])
+        && !model.allows(0, &open)
+        && model.has_open(0, 1)
+        && !model.has_open(1, 1)
+        && does_all(model, 1, &[open, close, open])
+        && model.has_open(1, 1)
+        && !model.has_open(2, 1)
+        && !model.has_open(0, 2)
+}
+
+/// Whether a file that both have open keeps its node and its blocks as it is removed, is clean, and gets nobody else and no change.
+fn removes(model: &mut Model) -> bool {
+    let close = [Action::Close(1)];
+    let removed = NodeInfo {
+        kind: Kind::File,
+        parent: 0,
+        size: 3,
+        dirty: false,
+        removed: true,
+    };
+    let moved = Action::MoveTo { node: 1, dir: 0 };
+    let grown = Action::Grow { node: 1, blocks: 1 };
+    model
+        .tree(1)
+        .is_some_and(|file| file.dirty && !file.removed)
+        && does_all(model, 0, &[Action::Remove(1)])
+        && model.tree(1) == Some(removed)
+        && !model.allows(0, &Action::Remove(1))
+        && !model.allows(0, &moved)
+        && !model.allows(0, &grown)
+        && does_all(model, 0, &close)
+        && !model.allows(0, &Action::Open(1))
+        && model.tree(1) == Some(removed)
+}
+
+/// Whether the last close is done inside level 3 alone, and frees the node; the superblock is made read-only after it, and not before.
+fn frees(model: &mut Model) -> bool {
+    let leave = [
+        Action::Return(Gate::Mount(0)),
+        Action::Return(Gate::Level(1)),
+    ];
+    let inside = [Action::Grant(Gate::Level(3))];
+    does_all(model, 0, &leave)
+        && !model.allows(0, &Action::SbRo)
+        && model.apply(1, &Action::Close(1)) == Err(GateError::Invalid)
+        && model.has_open(1, 1)
+        && does_all(model, 1, &inside)
+        && !model.allows(0, &Action::Close(1))
+        && does_all(model, 1, &[Action::Close(1)])
+        && model.tree(1).is_none()
+        && !model.has_open(1, 1)
+        && does_all(model, 0, &[Action::SbRo])
+}
+
+#[test]
+fn a_model_frees_a_removed_file_at_its_last_close(rt: HostRuntime) -> Result<(), Fail> {
+    let mut model = Model::new(rt.alloc(), 2, 1, 2, 8)?;
+    assert!(rt; opens(&mut model));
+    assert!(rt; removes(&mut model));
+    assert!(rt; frees(&mut model));
+    Ok(())
 }
 
 #[test]

@@ -2,8 +2,9 @@
 
 use access_model::{Action, Gate, GateError, Holder, Kind, Next, Reply};
 use cpu_words::{Touch, WordName};
+use file_closes::{ClosePhase, Closing};
 use freeze_levels::{Freeze, FreezeStep, FsHooks, HookKind, Thaw, ThawStep};
-use gated_tree::{Create, CreateStep, TreePhase};
+use gated_tree::{Create, CreateStep, OpenFile, OpenStep, TreePhase};
 use mount_counts::{MountPhase, Want, WantStep};
 use percpu_rwsem::{DownRead, DownReadStep, SemPhase};
 
@@ -44,6 +45,19 @@ impl Driven for TreePhase {
 
     fn after(self, found: u64, hook: Result<(), u16>) -> (Next<TreePhase>, Option<Action>) {
         TreePhase::after(self, found, hook)
+    }
+}
+
+/// A close asks no hook.
+impl Driven for ClosePhase {
+    fn next(self, hook: Result<(), u16>) -> (WordName, Touch) {
+        let _ = hook;
+        ClosePhase::next(self)
+    }
+
+    fn after(self, found: u64, hook: Result<(), u16>) -> (Next<ClosePhase>, Option<Action>) {
+        let _ = hook;
+        ClosePhase::after(self, found)
     }
 }
 
@@ -140,6 +154,52 @@ fn a_create_looks_again_where_there_is_no_word(rt: HostRuntime) {
     });
     let stray = [look(WordName::Node(3), 3)];
     assert!(rt; end_of(create, &stray) == Some(Next::Go(create)));
+}
+
+/// No schedule has 65 tasks that open a file. 4194305 is a file that 64 have open, 4128769 one that 63 have open.
+#[test]
+fn an_open_looks_again_where_all_tasks_have_the_file_open(rt: HostRuntime) {
+    let open = TreePhase::OpenFile(OpenFile {
+        file: 3,
+        step: OpenStep::LoadsFile,
+    });
+    let full = [look(WordName::Node(3), 4194305)];
+    assert!(rt; end_of(open, &full) == Some(Next::Go(open)));
+    let last = Touch::Cas {
+        expect: 4128769,
+        put: 4194305,
+    };
+    let opened = Some(Action::Open(3));
+    let events = [
+        look(WordName::Node(3), 4194305),
+        look(WordName::Node(3), 4128769),
+        (WordName::Node(3), last, 4128769, opened),
+    ];
+    assert!(rt; end_of(open, &events) == Some(Next::Done(Ok(Reply::Unit))));
+}
+
+/// Nor is a file closed that nobody has open: 1 is one.
+#[test]
+fn a_close_looks_again_where_nobody_has_the_file_open(rt: HostRuntime) {
+    let close = ClosePhase::LoadsFile(Closing {
+        file: 3,
+        cpu: 1,
+        task: 2,
+        wait: false,
+    });
+    let none = [look(WordName::Node(3), 1)];
+    assert!(rt; end_of(close, &none) == Some(Next::Go(close)));
+    let lower = Touch::Cas {
+        expect: 65537,
+        put: 1,
+    };
+    let closed = Some(Action::Close(3));
+    let events = [
+        look(WordName::Node(3), 1),
+        look(WordName::Node(3), 65537),
+        (WordName::Node(3), lower, 65537, closed),
+    ];
+    assert!(rt; end_of(close, &events) == Some(Next::Done(Ok(Reply::Unit))));
 }
 
 /// The events by which task 1 begins a freeze or a thaw, where it finds this stage and this flag of the superblock.

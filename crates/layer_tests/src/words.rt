@@ -86,26 +86,54 @@ fn numbers_that_are_no_word(rt: HostRuntime) {
     for number in [5, 16, 8, 256, 1, 2, 10, 16777216, LAST] {
         assert_eq!(rt; SyncWord::unpack(number), None, "{number}");
     }
-    for number in [3, 4, 9, 129, 256, 16385, 2147483649, 4294967296] {
+    // A kind 3, stray bits and a free node that says something; then a mark on a free node, on a file that nobody has open, on a directory and
+    // on a dirty file; then 65 and 127 tasks that have a file open, and one that has a directory or a free node open.
+    for number in [
+        3, 4, 17, 33, 65, 129, 256, 16385, 32769, 8388609, 2147483649, 4294967296, //
+        8, 9, 10, 65546, 65549, //
+        4259841, 8323073, 4259849, 65538, 65536, 65544,
+    ] {
         assert_eq!(rt; NodeWord::unpack(number), None, "{number}");
     }
 }
 
+/// A file in the last node that may be a directory, of ten blocks, and dirty.
+const FILE: NodeWord = NodeWord {
+    kind: Some(Kind::File),
+    dirty: true,
+    removed: false,
+    parent: 63,
+    opens: 0,
+    size: 10,
+};
+
 #[test]
 fn node_words_have_their_fields_in_place(rt: HostRuntime) {
-    let file = NodeWord {
-        kind: Some(Kind::File),
-        dirty: true,
-        parent: 63,
-        size: 10,
-    };
     let free = NodeWord {
         kind: None,
         dirty: false,
+        removed: false,
         parent: 0,
+        opens: 0,
         size: 0,
     };
-    for (node, word) in [(file, 42949672965 + 63 * 256), (free, 0)] {
+    let open = NodeWord { opens: 64, ..FILE };
+    let removed = NodeWord {
+        dirty: false,
+        removed: true,
+        ..open
+    };
+    let last = NodeWord {
+        opens: 1,
+        ..removed
+    };
+    for (node, word) in [
+        (FILE, 42949689093),
+        (free, 0),
+        (open, 42953883397),
+        (removed, 42953883401),
+        (last, 42949754633),
+    ] {
         assert!(rt;
             node.pack() == word && NodeWord::unpack(word) == Some(node),
             "{word}"

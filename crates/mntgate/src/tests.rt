@@ -40,6 +40,26 @@ fn calls_at_the_tree_print_what_they_do(rt: HostRuntime) -> Result<(), Fail> {
 }
 
 #[test]
+fn files_are_opened_and_closed(rt: HostRuntime) -> Result<(), Fail> {
+    rows::files_are_opened_and_closed::<GatesDriver, _>(&rt)
+}
+
+#[test]
+fn opens_and_closes_are_refused(rt: HostRuntime) -> Result<(), Fail> {
+    rows::opens_and_closes_are_refused::<GatesDriver, _>(&rt)
+}
+
+#[test]
+fn a_removed_file_that_is_open_refuses_a_remount(rt: HostRuntime) -> Result<(), Fail> {
+    rows::a_removed_file_that_is_open_refuses_a_remount::<GatesDriver, _>(&rt)
+}
+
+#[test]
+fn a_last_close_waits_for_a_thaw(rt: HostRuntime) -> Result<(), Fail> {
+    rows::a_last_close_waits_for_a_thaw::<GatesDriver, _>(&rt)
+}
+
+#[test]
 fn freezes_and_thaws_print_what_they_do(rt: HostRuntime) -> Result<(), Fail> {
     rows::freezes_and_thaws_print_what_they_do::<GatesDriver, _>(&rt)
 }

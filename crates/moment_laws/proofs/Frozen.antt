@@ -1,13 +1,13 @@
 -- Whatever is fully frozen has no dirty node, whatever was done since.
 use Rattle.std.proofs.Common.{◌≡◌, ℕ, zero, suc, ◌<◌, ◌≤◌, ◌⊎◌, true, false, refl, sym, ap, subst, ◌∙◌, inl, inr, arith}
-use Rattle.std.specs.Prelude.{Option, Some, None, option_map, List, [], ◌∷◌}
+use Rattle.std.specs.Prelude.{Option, Some, None, option_map, ◌==◌, ◌&&◌, if◌then◌else◌, List, [], ◌∷◌}
 use Rattle.std.proofs.lemmas.Bool.{false≢true}
 use Rattle.finite_sums.proofs.Totals.{each_updated}
 use Rattle.access_model.specs.declared.actions.Action.{Action}
-use Rattle.access_model.specs.declared.actions.Action.TheVariants.{Grant, Return, MountRo, MountRw, SbRo, SbRw, Stage, Hold, Leave, Pass, Reopen, Create, Remove, Grow, MoveTo, Dirty, Clean}
+use Rattle.access_model.specs.declared.actions.Action.TheVariants.{Grant, Return, MountRo, MountRw, SbRo, SbRw, Stage, Hold, Leave, Pass, Reopen, Create, Remove, Grow, MoveTo, Dirty, Clean, Open, Close}
 use Rattle.access_model.specs.declared.actions.NodeInfo.{NodeInfo}
-use Rattle.access_model.specs.States.{Limits, State, is_dirty, IsClean}
-use Rattle.access_model.specs.Actions.{MayDo, HoldsSomeMount, marked, after_action}
+use Rattle.access_model.specs.States.{Limits, State, is_dirty, is_removed, IsClean}
+use Rattle.access_model.specs.Actions.{MayDo, HoldsSomeMount, marked, after_close, after_action}
 use Rattle.access_model.specs.Histories.{Done, end_of, IsLegal, IsMerge}
 use Rattle.access_model.specs.Laws.{NobodyHoldsClosed}
 use Rattle.access_model.proofs.Closed.{closed}
@@ -37,6 +37,13 @@ module _ (l : Limits) (s : State) (t : ℕ) (lt : t < l.tasks) (nobody : NobodyH
   cleaned : (o : Option NodeInfo) → is_dirty (option_map (marked false) o) ≡ false
   cleaned None = refl
   cleaned (Some node) = refl
+
+  -- a node that was clean before a close is so after it
+  closed_clean : (count : ℕ) (o : Option NodeInfo) → is_dirty o ≡ false → is_dirty (after_close count o) ≡ false
+  closed_clean count o clean = elim (is_removed o && (count == 1)) as (λ b. is_dirty (if b then None else o) ≡ false) [
+    | true ↦ refl
+    | false ↦ clean
+  ]
 
   -- each action leaves it so
   step : (a : Action) → MayDo l s t a → IsSealed l (after_action s t a)
@@ -68,6 +75,12 @@ module _ (l : Limits) (s : State) (t : ℕ) (lt : t < l.tasks) (nobody : NobodyH
     shut = sealed.shut;
     clean = λ e x lx. each_updated (λ y (o : Option NodeInfo). is_dirty o ≡ false) s.tree n (option_map (marked false) (s.tree n)) x
         (cleaned (s.tree n)) (λ ne. sealed.clean e x lx);
+  }
+  step (Open n) may = record { shut = sealed.shut; clean = sealed.clean }
+  step (Close n) may = record {
+    shut = sealed.shut;
+    clean = λ e x lx. each_updated (λ y (o : Option NodeInfo). is_dirty o ≡ false) s.tree n _ x
+        (closed_clean _ (s.tree n) (sealed.clean e n may.0)) (λ ne. sealed.clean e x lx);
   }
 
 -- so it is after any legal history

@@ -2,7 +2,7 @@
 use Rattle.std.proofs.Common.{◌≡◌, ℕ, zero, suc, ◌<◌, false, List, [], ◌∷◌, refl, inr, arith}
 use Rattle.access_model.specs.declared.actions.Action.TheVariants.{Grant, SbRo, Stage}
 use Rattle.access_model.specs.declared.actions.Gate.TheVariants.{Level}
-use Rattle.access_model.specs.States.{Limits, opening_state, is_dirty}
+use Rattle.access_model.specs.States.{Limits, opening_state, is_dirty, is_removed}
 use Rattle.access_model.specs.Histories.{Done, end_of, IsLegal}
 use Rattle.moment_laws.specs.Moments.{WasFrozenWith}
 use Rattle.moment_laws.proofs.Moments.{is_now, stays}
@@ -27,13 +27,19 @@ clean_tree zero lt = refl
 clean_tree (suc zero) lt = refl
 clean_tree (suc (suc n)) lt = absurd (omega arith)
 
+-- and has no removed file
+linked_tree : (n : ℕ) → n < 2 → is_removed (opening_state.tree n) ≡ false
+linked_tree zero lt = refl
+linked_tree (suc zero) lt = refl
+linked_tree (suc (suc n)) lt = absurd (omega arith)
+
 -- the whole is legal
 its_legal : IsLegal two_tasks thawed
 its_legal = (
   (omega arith, inr (inr (refl, refl))),
   (
     (omega arith, ((omega arith, omega arith), omega arith, λ j low high. refl)),
-    ((omega arith, (clean_tree, inr (refl, refl, refl))), ((omega arith, (refl, λ m lm t lt. refl)), tt)),
+    ((omega arith, (clean_tree, inr (refl, refl, refl))), ((omega arith, (refl, λ m lm t lt. refl, linked_tree)), tt)),
   ),
 )
 

@@ -8,7 +8,7 @@ use Rattle.access_model.specs.declared.replies.Next.{Next}
 use Rattle.access_model.specs.declared.replies.Next.TheVariants.{Go, Wait, Done}
 use Rattle.access_model.specs.declared.replies.Reply.TheVariants.{Unit as UnitReply}
 use Rattle.cpu_words.specs.declared.names.WordName.{WordName}
-use Rattle.cpu_words.specs.declared.names.WordName.TheVariants.{Umount, Stage, SbFlags, Remount as RemountWord, MountFlags, MountCount, Node}
+use Rattle.cpu_words.specs.declared.names.WordName.TheVariants.{Umount, Stage, SbFlags, Remount as RemountWord, Removed, MountFlags, MountCount, Node}
 use Rattle.cpu_words.specs.declared.events.Touch.{Touch}
 use Rattle.cpu_words.specs.declared.events.Touch.TheVariants.{Load, Store, Or, And, Cas}
 use Rattle.cpu_words.specs.declared.sums.Sum.{Sum}
@@ -26,9 +26,12 @@ use Rattle.mount_counts.specs.declared.remounts.RemountStep.TheVariants.{
   LoadsStage,
   LoadsSuperblock,
   SetsWritable,
+  LoadsRemoved,
   LoadsFlags,
   SetsHold,
   Sums,
+  LoadsRemovedAgain,
+  LeavesHolds,
   SetsRemount,
   ClearsHold,
   GivesUp,
@@ -38,17 +41,20 @@ use Rattle.mount_counts.specs.declared.remounts.RemountStep.TheVariants.{
   Releases,
 }
 
--- remount: under `umount`, hold and sum each mount that isn't read-only before `remount` is set; then let them go, clear the dirty marks,
--- and set the superblock's flag before `remount` is cleared
+-- remount: under `umount`, see that no file is removed, hold and sum each mount that isn't read-only, and see it again before `remount` is
+-- set; then let them go, clear the dirty marks, and set the superblock's flag before `remount` is cleared
 abbrev pub remount_next : Remount → RemountStep → HookAnswer → WordName × Touch
 remount_next x Locks hook = (Umount, Cas 0 (x.task + 1))
 remount_next x LoadsStage hook = (Stage, Load)
 remount_next x LoadsSuperblock hook = (SbFlags, Load)
 remount_next x SetsWritable (Ok answer) = (SbFlags, Store 0)
 remount_next x SetsWritable (Err code) = (Umount, Store 0)
+remount_next x LoadsRemoved hook = (Removed, Load)
 remount_next x (LoadsFlags m held) hook = (MountFlags m, Load)
 remount_next x (SetsHold m held) hook = (MountFlags m, Or 2)
 remount_next x (Sums m held sum) hook = (MountCount m sum.words, Load)
+remount_next x (LoadsRemovedAgain held) hook = (Removed, Load)
+remount_next x (LeavesHolds held) hook = (MountFlags (lowest held), And 18446744073709551613)
 remount_next x (SetsRemount held) hook = (RemountWord, Store 1)
 remount_next x (ClearsHold held) hook = (MountFlags (lowest held), And 18446744073709551613)
 remount_next x (GivesUp m held) hook = (MountFlags (lowest held), And 18446744073709551613)
@@ -65,17 +71,21 @@ at_remount x step = record x { step = step }
 -- the present state was found: asked for read-only or writable, found read-only or writable
 abbrev pub remount_from : Bool → Bool → RemountStep
 remount_from true true = Releases (Ok UnitReply)
-remount_from true false = LoadsFlags 0 no_mounts
+remount_from true false = LoadsRemoved
 remount_from false true = SetsWritable
 remount_from false false = Releases (Ok UnitReply)
 
 -- the loop over so many mounts is done with this one
 abbrev pub past_mount : ℕ → ℕ → MountSet → RemountStep
-past_mount mounts m held = if nat_lt (m + 1) mounts then LoadsFlags (m + 1) held else SetsRemount held
+past_mount mounts m held = if nat_lt (m + 1) mounts then LoadsFlags (m + 1) held else LoadsRemovedAgain held
 
 -- with `remount` set, HOLD is still to be cleared at these mounts; then the dirty marks are
 abbrev pub let_go : MountSet → RemountStep
 let_go held = if held.bits == 0 then ClearsMark 1 else ClearsHold held
+
+-- a file was found removed, and HOLD is still to be cleared at these mounts
+abbrev pub leave_holds : MountSet → RemountStep
+leave_holds held = if held.bits == 0 then Releases (Err Busy) else LeavesHolds held
 
 -- the sum of this mount was not 0, and HOLD is still to be cleared at these mounts
 abbrev pub give_up : ℕ → MountSet → RemountStep
@@ -108,12 +118,21 @@ remount_after x LoadsStage found hook = (
 remount_after x LoadsSuperblock found hook = (Go (at_remount x (remount_from x.read_only (not (found == 0)))), None)
 remount_after x SetsWritable found (Ok answer) = (Go (at_remount x (Releases (Ok UnitReply))), Some SbRw)
 remount_after x SetsWritable found (Err code) = (Done (Err (Hook code)), None)
+remount_after x LoadsRemoved found hook = (
+  if found == 0 then Go (at_remount x (LoadsFlags 0 no_mounts)) else Go (at_remount x (Releases (Err Busy))),
+  None,
+)
 remount_after x (LoadsFlags m held) found hook = (
   if has_flag found 1 then Go (at_remount x (past_mount x.mounts m held)) else Go (at_remount x (SetsHold m held)),
   None,
 )
 remount_after x (SetsHold m held) found hook = (Go (at_remount x (Sums m held record { words = 0; total = 0 })), None)
 remount_after x (Sums m held sum) found hook = (Go (at_remount x (remount_summed x m held sum found)), None)
+remount_after x (LoadsRemovedAgain held) found hook = (
+  if found == 0 then Go (at_remount x (SetsRemount held)) else Go (at_remount x (leave_holds held)),
+  None,
+)
+remount_after x (LeavesHolds held) found hook = (Go (at_remount x (leave_holds (without_lowest held))), None)
 remount_after x (SetsRemount held) found hook = (Go (at_remount x (let_go held)), Some SbRo)
 remount_after x (ClearsHold held) found hook = (Go (at_remount x (let_go (without_lowest held))), None)
 remount_after x (GivesUp m held) found hook = (Go (at_remount x (give_up m (without_lowest held))), None)

@@ -3,7 +3,7 @@
 ghost use Rattle.std.specs.Prelude.{◌≡◌};
 ghost use Rattle.access_model.specs.declared.actions.Action.TheVariants.{Clean};
 ghost use Rattle.access_model.specs.declared.replies.Next.TheVariants.{Go};
-ghost use Rattle.mount_counts.specs.Remounts.{remount_next, remount_after, remount_from, past_mount, let_go, give_up, at_remount, remount_summed, past_node, mark_cleared};
+ghost use Rattle.mount_counts.specs.Remounts.{remount_next, remount_after, remount_from, past_mount, let_go, leave_holds, give_up, at_remount, remount_summed, past_node, mark_cleared};
 
 use crate::flags::MountFlags;
 use crate::sets::MountSet;
@@ -26,13 +26,19 @@ pub enum RemountStep {
     LoadsSuperblock,
     /// Clears the superblock's flag, or gives `umount` back, as the file system answers.
     SetsWritable,
+    /// Loads how many removed files are open, before the first mount.
+    LoadsRemoved,
     /// Loads the flags of a mount, for READONLY.
     LoadsFlags { mount: u8, held: MountSet },
     /// Sets its HOLD.
     SetsHold { mount: u8, held: MountSet },
     /// Loads the next word of the sum of its writer counts.
     Sums { mount: u8, held: MountSet, sum: Sum },
-    /// Sets `remount`, with each sum 0.
+    /// Loads again how many removed files are open, with each sum 0.
+    LoadsRemovedAgain { held: MountSet },
+    /// Clears HOLD of the lowest mount that it holds, as a file was found removed.
+    LeavesHolds { held: MountSet },
+    /// Sets `remount`, with each sum 0 and no removed file open.
     SetsRemount { held: MountSet },
     /// Clears HOLD of the lowest mount that it holds, with `remount` set.
     ClearsHold { held: MountSet },
@@ -77,6 +83,9 @@ impl Remount {
                 Ok(()) => (WordName::SbFlags, Touch::Store(0)),
                 Err(_) => (WordName::Umount, Touch::Store(0)),
             },
+            RemountStep::LoadsRemoved | RemountStep::LoadsRemovedAgain { .. } => {
+                (WordName::Removed, Touch::Load)
+            }
             RemountStep::LoadsFlags { mount, .. } => (WordName::MountFlags(mount), Touch::Load),
             RemountStep::SetsHold { mount, .. } => (
                 WordName::MountFlags(mount),
@@ -86,7 +95,9 @@ impl Remount {
                 (WordName::MountCount(mount, sum.words), Touch::Load)
             }
             RemountStep::SetsRemount { .. } => (WordName::Remount, Touch::Store(1)),
-            RemountStep::ClearsHold { held } | RemountStep::GivesUp { held, .. } => (
+            RemountStep::ClearsHold { held }
+            | RemountStep::GivesUp { held, .. }
+            | RemountStep::LeavesHolds { held } => (
                 WordName::MountFlags(held.lowest()),
                 Touch::And(!MountFlags::HOLD.bits()),
             ),
@@ -105,10 +116,7 @@ impl Remount {
         ensures { result ≡ remount_from self.read_only read_only }
     {
         match (self.read_only, read_only) {
-            (true, false) => RemountStep::LoadsFlags {
-                mount: 0,
-                held: MountSet::empty(),
-            },
+            (true, false) => RemountStep::LoadsRemoved,
             (false, true) => RemountStep::SetsWritable,
             _ => RemountStep::Releases(Ok(Reply::Unit)),
         }
@@ -122,7 +130,7 @@ impl Remount {
             let mount = mount + 1;
             RemountStep::LoadsFlags { mount, held }
         } else {
-            RemountStep::SetsRemount { held }
+            RemountStep::LoadsRemovedAgain { held }
         }
     }
 
@@ -172,6 +180,11 @@ impl Remount {
                 Ok(()) => done,
                 Err(code) => return Next::Done(Err(GateError::Hook(code))),
             },
+            RemountStep::LoadsRemoved if found == 0 => RemountStep::LoadsFlags {
+                mount: 0,
+                held: MountSet::empty(),
+            },
+            RemountStep::LoadsRemoved => RemountStep::Releases(Err(GateError::Busy)),
             RemountStep::LoadsFlags { mount, held } => {
                 if flags.contains(MountFlags::READONLY) {
                     self.past(mount, held)
@@ -184,6 +197,11 @@ impl Remount {
                 RemountStep::Sums { mount, held, sum }
             }
             RemountStep::Sums { mount, held, sum } => self.summed(mount, held, sum, found),
+            RemountStep::LoadsRemovedAgain { held } if found == 0 => {
+                RemountStep::SetsRemount { held }
+            }
+            RemountStep::LoadsRemovedAgain { held } => leaving_holds(held),
+            RemountStep::LeavesHolds { held } => leaving_holds(held.without_lowest()),
             RemountStep::SetsRemount { held } => letting_go(held),
             RemountStep::ClearsHold { held } => letting_go(held.without_lowest()),
             RemountStep::GivesUp { mount, held } => giving_up(mount, held.without_lowest()),
@@ -228,6 +246,17 @@ fn letting_go(held: MountSet) -> RemountStep
         RemountStep::ClearsMark { node: 1 }
     } else {
         RemountStep::ClearsHold { held }
+    }
+}
+
+/// The same, where a file was found removed.
+fn leaving_holds(held: MountSet) -> RemountStep
+    ensures { result ≡ leave_holds held }
+{
+    if held.bits == 0 {
+        RemountStep::Releases(Err(GateError::Busy))
+    } else {
+        RemountStep::LeavesHolds { held }
     }
 }
 

@@ -89,7 +89,7 @@ module _ (c : Config) (lim : IsWithin c) (w : World) (good : IsGood c w) (t : �
         flag_step ClearsReadOnly s' word v e same refl (f.0, f.1, f.2, f.3, tt) refl refl refl
             (mount_clears_read_only g t lt (role_here ClearsReadOnly e) (no_remount c w good t lt (ap owns e) (ap remounts e))
             (λ x lx ne. no_skip c w good t lt m x lx ne (ap owns e))),
-        ((lt, f.0), flags_shown c w t lt m word v false same (ne_eqb _ 1 (λ q. omega (arith, b, q))) refl refl),
+        ((lt, f.0), flags_shown c w t lt m word v false same (ne_eqb _ 1 (λ q. omega (arith, b, q))) refl refl refl),
       )
 
   -- sets HOLD before it sums the words; meets: a task adds before it looks for HOLD
@@ -105,7 +105,7 @@ module _ (c : Config) (lim : IsWithin c) (w : World) (good : IsGood c w) (t : �
       let clear : hold_bit (w.words.flags m) ≡ 0 = no_hold c w good t lt m f.0 (ap owns e) (ap has_hold (role_here SetsHold e)) in (
         flag_step SetsHold s' word v e same refl (f.0, f.1, f.2, f.3, lim.some_processor) refl refl refl
             (mount_sets_hold g t lt lim.tasks lim.processors lim.some_processor (role_here SetsHold e) clear),
-        flags_show_same c w t lt m word v same b.1 refl refl,
+        flags_show_same c w t lt m word v same b.1 refl refl refl,
       )
 
   -- sets READONLY under HOLD, after a sum of 0; meets: READONLY is loaded after HOLD was found clear
@@ -123,7 +123,7 @@ module _ (c : Config) (lim : IsWithin c) (w : World) (good : IsGood c w) (t : �
             (mount_sets_read_only g t lt (role_here SetsReadOnly e) (no_remount c w good t lt (ap owns e) (ap remounts e))),
         (
           (lt, (f.0, λ x lx. omega (arith, none, total_at c.tasks x (λ y. admitted (at_mount m (w.views y))) lx))),
-          flags_shown c w t lt m word v true same (eq-eqb _ 1 b.1) refl refl,
+          flags_shown c w t lt m word v true same (eq-eqb _ 1 b.1) refl refl refl,
         ),
       )
 
@@ -141,7 +141,7 @@ module _ (c : Config) (lim : IsWithin c) (w : World) (good : IsGood c w) (t : �
       let same : IsSteady (w.views t).phase v.phase = as_owner (here (ClearsHold answer)) e refl refl (λ i. refl) in (
         flag_step (ClearsHold answer) s' word v e same refl (f.0, f.1, f.2, f.3, tt) refl refl refl
             (mount_clears_hold g t lt (subst SeeksNone (sym r) (to_clear answer).0) (ap has_hold r ∙ (to_clear answer).1)),
-        flags_show_same c w t lt m word v same b.1 refl refl,
+        flags_show_same c w t lt m word v same b.1 refl refl refl,
       )
 
   -- the mount after the change's role there is that of a step
@@ -188,7 +188,7 @@ module _ (c : Config) (lim : IsWithin c) (w : World) (good : IsGood c w) (t : �
   pub releases : (answer : Result Reply GateError) → IsHere (Releases answer) → GateStepKeeps c w t hook (Mounts (here (Releases answer)))
   releases answer e =
       let v : View = view_with (w.views t) (Umount, Store 0) w.words.umount hook (Done answer, None) in
-      umount_law c w good t lt 0 v (releases_umount c w good t lt v (ap owns e) refl (sym (ap remounts e))) tt refl refl refl refl
+      umount_law c w good t lt 0 v (releases_umount c w good t lt v (ap owns e) refl (sym (ap remounts e))) tt refl refl refl refl refl
       (λ y. sym (ap (role_of y) e ∙ role_none y m)) (λ i. sym (ap (closing i) e))
 
 module _ (c : Config) (w : World) (good : IsGood c w) (t : ℕ) (lt : t < c.tasks)
@@ -206,13 +206,13 @@ module _ (c : Config) (w : World) (good : IsGood c w) (t : ℕ) (lt : t < c.task
       let x : MountPhase = change m ro true task processors Locks in
       let v : View = tried w.words.umount (Some (Mounts x)) in
       rw h (umount_law c w good t lt w.words.umount v (owner_same c w t lt good v (as_owner x e refl refl (λ i. refl)))
-      (fits_here c w good t lt m ro true task processors hook Locks e) refl refl refl refl
+      (fits_here c w good t lt m ro true task processors hook Locks e) refl refl refl refl refl
       (λ y. sym (ap (role_of y) e)) (λ i. sym (ap (closing i) e)))
   lock_taken false e h =
       let x : MountPhase = change m ro false task processors Locks in
       let v : View = tried w.words.umount None in
       rw h (umount_law c w good t lt w.words.umount v (owner_same c w t lt good v (as_owner x e refl refl (λ i. refl)))
-      tt refl refl refl refl (λ y. sym (ap (role_of y) e ∙ role_none y m)) (λ i. sym (ap (closing i) e)))
+      tt refl refl refl refl refl (λ y. sym (ap (role_of y) e ∙ role_none y m)) (λ i. sym (ap (closing i) e)))
 
   -- takes `umount` where it is free; meets: its owner gives it back last
   pub locks : (wait : Bool) → IsAt c w good t lt m ro wait task processors hook Locks →
@@ -225,7 +225,7 @@ module _ (c : Config) (w : World) (good : IsGood c w) (t : ℕ) (lt : t < c.task
             let v : View = tried (task + 1) (Some (Mounts (change m ro wait task processors LoadsFlags))) in
             umount_law c w good t lt (task + 1) v
             (locks_umount c w good t lt (task + 1) v h.1 (omega (arith, f.1)) refl (sym (ap remounts e)))
-            (f.0, f.1, f.2, f.3, tt) refl refl refl refl
+            (f.0, f.1, f.2, f.3, tt) refl refl refl refl refl
             (λ y. role_none y m ∙ sym (ap (role_of y) e ∙ role_none y m)) (λ i. sym (ap (closing i) e)))
         | inr h ↦ lock_taken wait e h.0
       ]

@@ -10,7 +10,7 @@ use Rattle.access_model.specs.declared.actions.Action.TheVariants.{Pass}
 use Rattle.access_model.specs.declared.replies.Next.{Next}
 use Rattle.access_model.specs.declared.replies.Next.TheVariants.{Go, Wait, Done}
 use Rattle.access_model.specs.declared.replies.Reply.TheVariants.{Unit as UnitReply}
-use Rattle.access_model.specs.Histories.{mounts_of, levels_of}
+use Rattle.access_model.specs.Histories.{mounts_of, levels_of, opens_of}
 use Rattle.access_model.specs.Replies.{map_next}
 use Rattle.cpu_words.specs.declared.sums.Sum.{Sum}
 use Rattle.cpu_words.specs.declared.sums.Taken.{Taken}
@@ -50,7 +50,7 @@ use Rattle.gate_world.specs.Levels.{closed_to}
 use Rattle.gate_world.specs.Rules.{IsGood, Holds, Tree, owns, marks_of, ViewFits}
 use Rattle.gate_world.specs.Shown.{shown}
 use Rattle.gate_world.specs.Stages.{freeze_stage_role, stage_role_of, place_of}
-use Rattle.gate_world.specs.Views.{held_at, holds_level, phase_after, actions_after, view_with, added_by, taken_by}
+use Rattle.gate_world.specs.Views.{held_at, holds_level, phase_after, actions_after, view_with, added_by, taken_by, has_open}
 use Rattle.gate_world.specs.Levels.{level_added_by, level_taken_by}
 use Rattle.gate_world.specs.Worlds.{World}
 use Rattle.gate_world.specs.Trees.{tree_role_of, tree_roles, freeze_tree_role}
@@ -229,10 +229,12 @@ module _ (c : Config) (lim : IsWithin c) (w : World) (good : IsGood c w) (t : �
     fits_now = here_fits c lim w good t lt x (Closes d) e
 
     -- its accesses are as they were
-    accesses_stay : (held_at view_then ≡ held_at (w.views t)) × (holds_level view_then ≡ holds_level (w.views t))
+    accesses_stay : (held_at view_then ≡ held_at (w.views t)) × (holds_level view_then ≡ holds_level (w.views t)) ×
+        (has_open view_then ≡ has_open (w.views t))
     accesses_stay =
         down_write_adds d (λ a. (mounts_of (actions_after a (w.views t).actions) ≡ mounts_of (w.views t).actions) ×
-        (levels_of (actions_after a (w.views t).actions) ≡ levels_of (w.views t).actions)) (refl, refl) (refl, refl) d.step found_here
+        (levels_of (actions_after a (w.views t).actions) ≡ levels_of (w.views t).actions) ×
+        (opens_of (actions_after a (w.views t).actions) ≡ opens_of (w.views t).actions)) (refl, refl, refl) (refl, refl, refl) d.step found_here
 
     -- so what comes fits them
     fits_then : ViewFits c t view_then
@@ -293,6 +295,7 @@ module _ (c : Config) (lim : IsWithin c) (w : World) (good : IsGood c w) (t : �
         (record {
           held_same = accesses_stay.0;
           levels_same = accesses_stay.1;
+          open_same = accesses_stay.2;
           added_same = (down_write_counts_none d d.step (added_by (w.views t).events)).0;
           taken_same = (down_write_counts_none d d.step (taken_by (w.views t).events)).1;
         })

@@ -4,10 +4,10 @@ use Rattle.std.specs.Prelude.{◌==◌, if◌then◌else◌, Option, Some, None,
 use Rattle.std.proofs.lemmas.Bool.{cases_Bool, ltb-true, ltb-false}
 use Rattle.std.proofs.lemmas.Bool.Decides.{eqb_tells}
 use Rattle.finite_sums.specs.Sums.{update}
-use Rattle.finite_sums.proofs.Totals.{update_map, update_same}
+use Rattle.finite_sums.proofs.Totals.{each_updated, update_map, update_same}
 use Rattle.access_model.specs.Actions.{marked}
 use Rattle.access_model.specs.States.{IsFile}
-use Rattle.access_model.specs.Histories.{mounts_of, levels_of}
+use Rattle.access_model.specs.Histories.{mounts_of, levels_of, opens_of}
 use Rattle.access_model.specs.Replies.{map_next}
 use Rattle.access_model.specs.declared.actions.Action.{Action}
 use Rattle.access_model.specs.declared.actions.Action.TheVariants.{Clean, Reopen}
@@ -18,7 +18,7 @@ use Rattle.cpu_words.specs.Words.{Words, read, put}
 use Rattle.cpu_words.specs.declared.names.WordName.TheVariants.{Node}
 use Rattle.cpu_words.specs.declared.events.Touch.TheVariants.{And}
 use Rattle.gated_tree.specs.declared.marks.ClearMarks.{ClearMarks}
-use Rattle.gated_tree.specs.Nodes.{IsNode, dirty_in, node_shown}
+use Rattle.gated_tree.specs.Nodes.{IsNode, dirty_in, node_shown, opens_in}
 use Rattle.gated_tree.specs.Roles.{Out as OffTree, Clearing, TreeState}
 use Rattle.gated_tree.proofs.ClearedMarks.{without_mark, cleared_shown, clean_stays, clears_mark}
 use Rattle.tree_laws.specs.Events.{Event, Clears, Passes, with_node}
@@ -52,7 +52,7 @@ use Rattle.gate_world.specs.Levels.{closed_to, freeze_stand, level_added_by, lev
 use Rattle.gate_world.specs.Rules.{IsGood, Tree, owns, marks_of, ViewFits, Holds, StepKeeps}
 use Rattle.gate_world.specs.Shown.{shown, stage_roles}
 use Rattle.gate_world.specs.Stages.{freeze_stage_role, stage_role_of}
-use Rattle.gate_world.specs.Views.{held_at, holds_level, phase_after, actions_after, view_with, added_by, taken_by}
+use Rattle.gate_world.specs.Views.{held_at, holds_level, phase_after, actions_after, view_with, added_by, taken_by, has_open}
 use Rattle.gate_world.specs.Worlds.{World}
 use Rattle.gate_frames.proofs.Stages.{IsStageEvent, stages_in}
 use Rattle.holder_laws.specs.Roles.{Apart}
@@ -169,6 +169,8 @@ module _ (c : Config) (lim : IsWithin c) (w : World) (good : IsGood c w) (t : �
               (here_stands c lim w good t lt x (Cleans marks) e)
               (subst (Stands (Some (Freezes (at_freeze x s)))) stand (freeze_stands (at_freeze x s)));
           tree = tree_cleared action event;
+          opens = λ n. each_updated (λ y word. opens_in word ≡ opens_in (w.words.node y)) w.words.node marks.node
+              (without_mark node_word) n (clears_mark node_word node_there.packed).opens (λ ne. refl);
           fits = fits;
           holding = holders_stay c w good t lt cleared_words v refl refl (holder ∙ sym (ap holder_role_of e));
           happens = mark_happens action;
@@ -187,11 +189,12 @@ module _ (c : Config) (lim : IsWithin c) (w : World) (good : IsGood c w) (t : �
         let after : IsFile (node_shown node_word) ×
         (node_shown (without_mark node_word) ≡ option_map (marked false) (node_shown node_word)) =
         cleared_shown node_word node_there set in
-        node_law (Some (Clean marks.node)) (record { held_same = refl; levels_same = refl; added_same = refl; taken_same = refl })
+        node_law (Some (Clean marks.node)) (record { held_same = refl; levels_same = refl; open_same = refl; added_same = refl; taken_same = refl })
         (goes_to c lim w good t lt x (Cleans marks) s e fit) (ap (cleaned marks.node) set) (f.5.2, after.0)
         (record {
           mounts_same = refl;
           levels_same = refl;
+          opens_same = refl;
           ro_same = refl;
           tree_same = sym (update_map node_shown w.words.node marks.node (without_mark node_word) ∙
               ap (update (λ n. node_shown (w.words.node n)) marks.node) after.1);
@@ -203,11 +206,12 @@ module _ (c : Config) (lim : IsWithin c) (w : World) (good : IsGood c w) (t : �
     clears_clean : dirty_in node_word ≡ 0 → WriterLaw c w t cleared_words (cleared_view None) None
     clears_clean clean =
         let f : FitsHere c lim w good t lt x (Cleans marks) = here_fits c lim w good t lt x (Cleans marks) e in
-        node_law None (record { held_same = refl; levels_same = refl; added_same = refl; taken_same = refl })
+        node_law None (record { held_same = refl; levels_same = refl; open_same = refl; added_same = refl; taken_same = refl })
         (goes_to c lim w good t lt x (Cleans marks) s e fit) (ap (cleaned marks.node) clean) tt
         (record {
           mounts_same = refl;
           levels_same = refl;
+          opens_same = refl;
           ro_same = refl;
           tree_same = sym ((λ j n. node_shown (update w.words.node marks.node
               (clean_stays node_word node_there clean j) n)) ∙
@@ -270,10 +274,12 @@ module _ (c : Config) (lim : IsWithin c) (w : World) (good : IsGood c w) (t : �
     fits_now = here_fits c lim w good t lt x (Reopens u code) e
 
     -- its accesses are as they were
-    accesses_stay : (held_at view_then ≡ held_at (w.views t)) × (holds_level view_then ≡ holds_level (w.views t))
+    accesses_stay : (held_at view_then ≡ held_at (w.views t)) × (holds_level view_then ≡ holds_level (w.views t)) ×
+        (has_open view_then ≡ has_open (w.views t))
     accesses_stay =
         up_write_adds u (λ a. (mounts_of (actions_after a (w.views t).actions) ≡ mounts_of (w.views t).actions) ×
-        (levels_of (actions_after a (w.views t).actions) ≡ levels_of (w.views t).actions)) (refl, refl) (refl, refl) u.step found_here
+        (levels_of (actions_after a (w.views t).actions) ≡ levels_of (w.views t).actions) ×
+        (opens_of (actions_after a (w.views t).actions) ≡ opens_of (w.views t).actions)) (refl, refl, refl) (refl, refl, refl) u.step found_here
 
     -- so what comes fits them
     fits_then : ViewFits c t view_then
@@ -329,6 +335,7 @@ module _ (c : Config) (lim : IsWithin c) (w : World) (good : IsGood c w) (t : �
         (record {
           held_same = accesses_stay.0;
           levels_same = accesses_stay.1;
+          open_same = accesses_stay.2;
           added_same = (up_write_counts_none u u.step (added_by (w.views t).events)).0;
           taken_same = (up_write_counts_none u u.step (taken_by (w.views t).events)).1;
         })

@@ -72,6 +72,7 @@ freeze_op c holder = record {
   order_agrees = λ f g h k mounts levels there. none_agree c 0 f g h k mounts levels;
   room_agrees = λ f g mounts there. refl;
   restores = λ refusal trace before order. freeze_restores holder refusal trace before;
+  file = λ t files own closed. tt;
   tells = freeze_tells c holder;
   short = freeze_short c holder;
   most_small = λ within. tt;

@@ -130,7 +130,7 @@ module _ (c : Config) (lim : IsWithin c) (w : World) (good : IsGood c w) (t : �
       let v : View = view_at (StageWord, Store n) w.words.stage hook s' (Some (StageAction n)) in
       let now : IsWriter v.phase = freezes_write (at_freeze x s') in
       writer_stores c w good t lt v (here_writes s e) now
-      (record { held_same = refl; levels_same = refl; added_same = refl; taken_same = refl })
+      (record { held_same = refl; levels_same = refl; open_same = refl; added_same = refl; taken_same = refl })
       (record { held_same = refl; added_same = refl; taken_same = refl })
       (goes_to s s' e fit) n kind
       (owner_stays c w good t lt v (here_writes s e) now w.words refl refl (o' ∙ sym (ap owns e ∙ o)))
@@ -197,7 +197,7 @@ module _ (c : Config) (lim : IsWithin c) (w : World) (good : IsGood c w) (t : �
       λ j. record (tree_of w) { sealed = sealed j; at = update (tree_roles w) t (now j) } in
       tree_after c w good t lt (record w.words { stage = 0 }) v lim None
       (subst (λ s. TreeEvent (tree_bounds c) (tree_of w) t s None) (sym after)
-      (Leaves (subst HasNoCharge (sym (here_tree SetsFs e)) (record { blocks = refl; children = λ d. refl }))))
+      (Leaves (subst HasNoCharge (sym (here_tree SetsFs e)) (record { blocks = refl; removed = refl; children = λ d. refl }))))
 
   -- the superblock is read-only: stores stage 4 at once
   pub completes_read_only : (hook : HookAnswer) → IsHere CompletesReadOnly → Keeps hook CompletesReadOnly
@@ -313,7 +313,7 @@ module _ (c : Config) (lim : IsWithin c) (w : World) (good : IsGood c w) (t : �
       freeze_holder_role s' ≡ freeze_holder_role s → WriterLaw c w t (record w.words { umount = n }) v None
   tries s s' e n hook stand kind fit owner before after same happens adds holder =
       writer_beside c w good t lt (tried hook n s') (here_writes s e) (freezes_write (at_freeze x s'))
-      (record { held_same = refl; levels_same = refl; added_same = refl; taken_same = refl })
+      (record { held_same = refl; levels_same = refl; open_same = refl; added_same = refl; taken_same = refl })
       (record { held_same = refl; added_same = refl; taken_same = refl }) (goes_to s s' e fit) n stand kind owner
       (subst (Stands (w.views t).phase) before (here_stands s e))
       (subst (Stands (Some (Freezes (at_freeze x s')))) after (freeze_stands (at_freeze x s'))) (same ∙ sym (here_tree s e)) happens adds
@@ -365,7 +365,7 @@ module _ (c : Config) (lim : IsWithin c) (w : World) (good : IsGood c w) (t : �
       let s' : FreezeStep = freeze_closes x 1 in
       let v : View = view_at (Umount, Store 0) w.words.umount hook s' None in
       beside Unlocks s' e 0 w.words.umount Umount (Store 0) hook None (LetsGo 1 Before)
-      (record { held_same = refl; levels_same = refl; added_same = refl; taken_same = refl })
+      (record { held_same = refl; levels_same = refl; open_same = refl; added_same = refl; taken_same = refl })
       (record { held_same = refl; added_same = refl; taken_same = refl }) (omega arith, omega arith, f.1, f.2, tt, tt)
       (lock_given c w good t lt v (here_writes Unlocks e) (freezes_write (at_freeze x s')) (ap owns e) refl)
       refl (closing_first (Some (Freezes (at_freeze x s'))) x.tasks x.processors (freeze_stands (at_freeze x s')))
@@ -378,7 +378,7 @@ module _ (c : Config) (lim : IsWithin c) (w : World) (good : IsGood c w) (t : �
       let s : FreezeStep = Releases answer in
       let v : View = view_with (w.views t) (Umount, Store 0) w.words.umount hook (Done answer, None) in
       writer_beside c w good t lt v (here_writes s e) idle_writes
-      (record { held_same = refl; levels_same = refl; added_same = refl; taken_same = refl })
+      (record { held_same = refl; levels_same = refl; open_same = refl; added_same = refl; taken_same = refl })
       (record { held_same = refl; added_same = refl; taken_same = refl }) tt 0 None (ReleasesStage None None)
       (lock_given c w good t lt v (here_writes s e) idle_writes (ap owns e) refl)
       (here_stands s e) idle_stands (sym (here_tree s e)) (ap stage_role_of e, refl) refl
@@ -416,7 +416,7 @@ module _ (c : Config) (lim : IsWithin c) (w : World) (good : IsGood c w) (t : �
   loads_stage hook e =
       elim (eqb_tells w.words.stage 0) [
         | inl h ↦ rw h.0 (loads hook StageWord w.words.stage LoadsStage LoadsSuperblock e (FindsStage None None) refl refl refl refl refl tt
-            (record { held_same = refl; levels_same = refl; added_same = refl; taken_same = refl })
+            (record { held_same = refl; levels_same = refl; open_same = refl; added_same = refl; taken_same = refl })
             (record { held_same = refl; added_same = refl; taken_same = refl })
             (finds LoadsStage e (view_at (StageWord, Load) w.words.stage hook LoadsSuperblock None) (FindsStage None None) w.words.stage 0
             h.1 (λ n. Owning (Some n) None) (ap stage_role_of e, refl) refl) refl
@@ -424,13 +424,13 @@ module _ (c : Config) (lim : IsWithin c) (w : World) (good : IsGood c w) (t : �
         | inr h ↦ elim (eqb_tells w.words.stage 4) [
           | inl k ↦ rw (h.0, k.0) (loads hook StageWord w.words.stage LoadsStage LoadsHolders e (FindsStage None None) refl refl refl refl
               refl tt
-              (record { held_same = refl; levels_same = refl; added_same = refl; taken_same = refl })
+              (record { held_same = refl; levels_same = refl; open_same = refl; added_same = refl; taken_same = refl })
               (record { held_same = refl; added_same = refl; taken_same = refl })
               (finds LoadsStage e (view_at (StageWord, Load) w.words.stage hook LoadsHolders None) (FindsStage None None) w.words.stage 4
               k.1 (λ n. Owning (Some n) None) (ap stage_role_of e, refl) refl) refl
               (still LoadsStage LoadsHolders e StageWord w.words.stage hook refl))
           | inr k ↦ rw (h.0, k.0) (loads hook StageWord w.words.stage LoadsStage (Releases (Err Busy)) e Stays refl refl refl refl refl tt
-              (record { held_same = refl; levels_same = refl; added_same = refl; taken_same = refl })
+              (record { held_same = refl; levels_same = refl; open_same = refl; added_same = refl; taken_same = refl })
               (record { held_same = refl; added_same = refl; taken_same = refl })
               (stays_there c w good t lt w.words (view_at (StageWord, Load) w.words.stage hook (Releases (Err Busy)) None)
               (record { stage_same = refl; sb_same = refl; remount_same = refl; block_same = refl; node_same = refl })
@@ -449,12 +449,12 @@ module _ (c : Config) (lim : IsWithin c) (w : World) (good : IsGood c w) (t : �
       found_cases x held (λ s'. WriterLaw c w t w.words (view_at (HoldersWord, Load) w.words.holders hook s' None) None)
       (λ own. loads hook HoldersWord w.words.holders LoadsHolders (Releases (Err Busy)) e (Recalls (Owning (Some 4) None) (Owning None None))
       refl refl refl refl refl tt
-      (record { held_same = refl; levels_same = refl; added_same = refl; taken_same = refl })
+      (record { held_same = refl; levels_same = refl; open_same = refl; added_same = refl; taken_same = refl })
       (record { held_same = refl; added_same = refl; taken_same = refl })
       (ap stage_role_of e, owners_alike (Some 4) None None None, (tt, tt), (λ m l. absurd (omega (arith, l))), refl) refl
       (still LoadsHolders (Releases (Err Busy)) e HoldersWord w.words.holders hook refl))
       (λ other. loads hook HoldersWord w.words.holders LoadsHolders (StoresHolder held) e Stays refl refl refl refl refl other
-      (record { held_same = refl; levels_same = refl; added_same = refl; taken_same = refl })
+      (record { held_same = refl; levels_same = refl; open_same = refl; added_same = refl; taken_same = refl })
       (record { held_same = refl; added_same = refl; taken_same = refl })
       (stays_there c w good t lt w.words (view_at (HoldersWord, Load) w.words.holders hook (StoresHolder held) None)
       (record { stage_same = refl; sb_same = refl; remount_same = refl; block_same = refl; node_same = refl })
@@ -482,7 +482,7 @@ module _ (c : Config) (lim : IsWithin c) (w : World) (good : IsGood c w) (t : �
       let now : IsWriter v.phase = freezes_write (at_freeze x s') in
       let f : FitsHere (StoresHolder beside) = here_fits (StoresHolder beside) e in
       writer_holds c w good t lt v (here_writes (StoresHolder beside) e) now
-      (record { held_same = refl; levels_same = refl; added_same = refl; taken_same = refl })
+      (record { held_same = refl; levels_same = refl; open_same = refl; added_same = refl; taken_same = refl })
       (record { held_same = refl; added_same = refl; taken_same = refl })
       (goes_to (StoresHolder beside) s' e tt) n (Hold x.holder) None (HoldsOne x.holder None (Owning None None))
       (owner_stays c w good t lt v (here_writes (StoresHolder beside) e) now w.words refl refl (sym (ap owns e)))
@@ -492,6 +492,7 @@ module _ (c : Config) (lim : IsWithin c) (w : World) (good : IsGood c w) (t : �
       (record {
         mounts_same = refl;
         levels_same = refl;
+        opens_same = refl;
         ro_same = refl;
         tree_same = refl;
         holders_same = ap (with_holder x.holder true) is ∙ sym (unpack_pack (with_holder x.holder true beside));
@@ -529,13 +530,13 @@ module _ (c : Config) (lim : IsWithin c) (w : World) (good : IsGood c w) (t : �
   loads_superblock hook e =
       elim (eqb_tells w.words.sb 0) [
         | inl h ↦ rw h.0 (loads hook SbFlags w.words.sb LoadsSuperblock SetsWrite e (LoadsSb (Some 0) None) refl refl refl refl refl tt
-            (record { held_same = refl; levels_same = refl; added_same = refl; taken_same = refl })
+            (record { held_same = refl; levels_same = refl; open_same = refl; added_same = refl; taken_same = refl })
             (record { held_same = refl; added_same = refl; taken_same = refl })
             (finds LoadsSuperblock e (view_at (SbFlags, Load) w.words.sb hook SetsWrite None) (LoadsSb (Some 0) None) w.words.sb 0 h.1
             (λ n. Owning (Some 0) (Some n)) (ap stage_role_of e, refl) refl) refl
             (still LoadsSuperblock SetsWrite e SbFlags w.words.sb hook refl))
         | inr h ↦ rw h.0 (loads hook SbFlags w.words.sb LoadsSuperblock CompletesReadOnly e (LoadsSb (Some 0) None) refl refl refl refl refl
-            tt (record { held_same = refl; levels_same = refl; added_same = refl; taken_same = refl })
+            tt (record { held_same = refl; levels_same = refl; open_same = refl; added_same = refl; taken_same = refl })
             (record { held_same = refl; added_same = refl; taken_same = refl })
             (finds LoadsSuperblock e (view_at (SbFlags, Load) w.words.sb hook CompletesReadOnly None) (LoadsSb (Some 0) None) w.words.sb
             1 (omega (arith, h.1, (good Stages).superblock)) (λ n. Owning (Some 0) (Some n)) (ap stage_role_of e, refl) refl) refl

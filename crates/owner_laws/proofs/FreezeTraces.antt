@@ -13,8 +13,12 @@ use Rattle.access_model.specs.declared.replies.Next.TheVariants.{Go, Wait, Done}
 use Rattle.access_model.specs.declared.replies.Reply.{Reply}
 use Rattle.access_model.specs.declared.replies.Reply.TheVariants.{Unit as UnitReply}
 use Rattle.access_model.specs.Replies.{map_next}
-use Rattle.access_model.specs.Histories.{mounts_of, levels_of}
+use Rattle.access_model.specs.Histories.{mounts_of, levels_of, opens_of}
 use Rattle.cpu_words.specs.declared.names.WordName.TheVariants.{Umount, Stage, Block}
+use Rattle.cpu_words.specs.declared.names.WordName.{WordName}
+use Rattle.cpu_words.specs.declared.names.WordName.TheVariants.{Node}
+use Rattle.cpu_words.specs.declared.events.Touch.{Touch}
+use Rattle.cpu_words.specs.declared.events.Touch.TheVariants.{And}
 use Rattle.cpu_words.specs.declared.events.Touch.TheVariants.{Store}
 use Rattle.cpu_words.specs.Hooks.{HookAnswer}
 use Rattle.cpu_words.specs.Touches.{event_of, found_by}
@@ -63,7 +67,7 @@ use Rattle.gate_world.specs.declared.work.Phase.TheVariants.{Freezes}
 use Rattle.gate_world.specs.declared.views.Traced.{Traced}
 use Rattle.gate_world.specs.Configs.{IsWithin}
 use Rattle.gate_world.specs.Courses.{IsTrace, course_of}
-use Rattle.gate_world.specs.Found.{found_sealed, found_complete, found_held, stored_stage, cleans, ReadAnswer}
+use Rattle.gate_world.specs.Found.{found_sealed, found_complete, found_held, stored_stage, cleans, ReadAnswer, clean_found}
 use Rattle.gate_world.specs.Operations.{two_levels_closed, all_levels_closed}
 use Rattle.gate_world.specs.Traces.{actions_of, IsHonestAnswer, Tells, IsShort, most_events}
 use Rattle.gate_world.specs.Views.{actions_after, with_hook}
@@ -456,9 +460,35 @@ failed_leaves holder code trace before =
     cleans_leave trace (Pass 2 ∷ (StageAction 2 ∷ (Pass 1 ∷ (StageAction 1 ∷ [])))) before (refl, refl) in
     elim (cases_Bool (stored_stage 3 trace)) [ inl f ↦ rw f closed | inr f ↦ rw f closed ]
 
+-- nor is clearing a mark an open or a close, on top of actions that leave each open file
+clean_open : (word : WordName) (touch : Touch) (found : ℕ) (actions rest before : List Action) →
+    opens_of ((actions ++ rest) ++ before) ≡ opens_of before →
+    opens_of ((clean_found word touch found actions ++ rest) ++ before) ≡ opens_of before
+clean_open (Node n) (And mask) found actions rest before h =
+    elim (cases_Bool (has_flag found 4)) [ inl f ↦ rw f h | inr f ↦ rw f h ]
+clean_open word touch found actions rest before h = h
+
+-- so is clearing each mark of a trace
+cleans_open : (trace : List Traced) (rest before : List Action) → opens_of (rest ++ before) ≡ opens_of before →
+    opens_of ((cleans trace ++ rest) ++ before) ≡ opens_of before
+cleans_open [] rest before h = h
+cleans_open (e ∷ earlier) rest before h =
+    clean_open e.event.word e.event.touch e.event.found (cleans earlier) rest before (cleans_open earlier rest before h)
+
+-- so each open file is as it was where the file system has failed
+failed_open : (holder : Holder) (code : ℕ) (trace : List Traced) (before : List Action) →
+    opens_of (actions_of (FreezeOp holder) (Err (Hook code)) trace ++ before) ≡ opens_of before
+failed_open holder code trace before =
+    let closed : opens_of (two_levels_closed trace ++ before) ≡ opens_of before =
+    cleans_open trace (Pass 2 ∷ (StageAction 2 ∷ (Pass 1 ∷ (StageAction 1 ∷ [])))) before refl in
+    elim (cases_Bool (stored_stage 3 trace)) [ inl f ↦ rw f closed | inr f ↦ rw f closed ]
+
 -- so does what a freeze has added where it is refused
 pub freeze_restores : (holder : Holder) (refusal : GateError) (trace : List Traced) (before : List Action) →
     (mounts_of (actions_of (FreezeOp holder) (Err refusal) trace ++ before) ≡ mounts_of before) ×
-    (levels_of (actions_of (FreezeOp holder) (Err refusal) trace ++ before) ≡ levels_of before)
-freeze_restores holder (Hook code) trace before = failed_leaves holder code trace before
-freeze_restores holder refusal trace before = (refl, refl)
+    (levels_of (actions_of (FreezeOp holder) (Err refusal) trace ++ before) ≡ levels_of before) ×
+    (opens_of (actions_of (FreezeOp holder) (Err refusal) trace ++ before) ≡ opens_of before)
+freeze_restores holder (Hook code) trace before =
+    let leaves : LeaveAccesses (actions_of (FreezeOp holder) (Err (Hook code)) trace) before = failed_leaves holder code trace before in
+    (leaves.0, leaves.1, failed_open holder code trace before)
+freeze_restores holder refusal trace before = (refl, refl, refl)

@@ -12,7 +12,7 @@ use Rattle.cpu_words.specs.declared.names.WordName.TheVariants.{MountCount}
 use Rattle.cpu_words.specs.declared.sums.Sum.{Sum}
 use Rattle.gate_frames.proofs.Keeps.{by_bool}
 use Rattle.gate_frames.proofs.Words.{load_same}
-use Rattle.gate_world.specs.Causes.{all_counted, words_read, looks_at_stage, was_frozen, SomeWasCounted}
+use Rattle.gate_world.specs.Causes.{all_counted, words_read, looks_at_stage, was_frozen, SomeWasCounted, was_removed, last_removed, looks_at_removed}
 use Rattle.gate_world.specs.KeptCauses.{ChangeCause, RemountAnswerCause, RemountCause, CauseOf}
 use Rattle.gate_world.specs.Remounts.{RemountFits}
 use Rattle.gate_world.specs.Rules.{IsGood}
@@ -23,11 +23,11 @@ use Rattle.gate_world.specs.declared.config.Config.{Config}
 use Rattle.gate_world.specs.declared.work.Phase.TheVariants.{Remounts}
 use Rattle.gate_world.specs.declared.work.Phase.{Phase}
 use Rattle.mount_counts.specs.Phases.{has_flag}
-use Rattle.mount_counts.specs.Remounts.{at_remount, remount_from, past_mount, let_go, give_up, remount_summed, past_node}
+use Rattle.mount_counts.specs.Remounts.{at_remount, remount_from, past_mount, let_go, leave_holds, give_up, remount_summed, past_node}
 use Rattle.mount_counts.specs.Sets.{with_mount, without_lowest}
 use Rattle.mount_counts.specs.declared.phases.ChangeStep.TheVariants.{Sums as SumsOne}
 use Rattle.mount_counts.specs.declared.remounts.Remount.{Remount}
-use Rattle.mount_counts.specs.declared.remounts.RemountStep.TheVariants.{Locks, LoadsStage, LoadsSuperblock, SetsWritable, LoadsFlags, SetsHold, Sums, SetsRemount, ClearsHold, GivesUp, ClearsMark, SetsReadOnly, ClearsRemount, Releases}
+use Rattle.mount_counts.specs.declared.remounts.RemountStep.TheVariants.{Locks, LoadsStage, LoadsSuperblock, SetsWritable, LoadsFlags, SetsHold, Sums, LoadsRemoved, LoadsRemovedAgain, LeavesHolds, SetsRemount, ClearsHold, GivesUp, ClearsMark, SetsReadOnly, ClearsRemount, Releases}
 use Rattle.mount_counts.specs.declared.remounts.RemountStep.{RemountStep}
 use Rattle.mount_counts.specs.declared.sets.MountSet.{MountSet}
 use Rattle.std.proofs.Common.{◌≡◌, ℕ, suc, ◌+◌, ◌<◌, Bool, true, false, refl, ap, ◌∙◌, inl, inr, arith}
@@ -47,6 +47,9 @@ module _ (w : World) (t : ℕ) (x : Remount) where
   remount_counts hook (LoadsFlags m held) = refl
   remount_counts hook (SetsHold m held) = refl
   remount_counts hook (Sums m held sum) = ap (λ (ws : Words). ws.count) (load_same w.words (MountCount m sum.words))
+  remount_counts hook LoadsRemoved = refl
+  remount_counts hook (LoadsRemovedAgain held) = refl
+  remount_counts hook (LeavesHolds held) = refl
   remount_counts hook (SetsRemount held) = refl
   remount_counts hook (ClearsHold held) = refl
   remount_counts hook (GivesUp m held) = refl
@@ -67,6 +70,9 @@ module _ (w : World) (t : ℕ) (x : Remount) where
   remount_levels hook (LoadsFlags m held) = refl
   remount_levels hook (SetsHold m held) = refl
   remount_levels hook (Sums m held sum) = ap (λ (ws : Words). ws.level) (load_same w.words (MountCount m sum.words))
+  remount_levels hook LoadsRemoved = refl
+  remount_levels hook (LoadsRemovedAgain held) = refl
+  remount_levels hook (LeavesHolds held) = refl
   remount_levels hook (SetsRemount held) = refl
   remount_levels hook (ClearsHold held) = refl
   remount_levels hook (GivesUp m held) = refl
@@ -75,6 +81,15 @@ module _ (w : World) (t : ℕ) (x : Remount) where
   remount_levels (Err code) SetsReadOnly = refl
   remount_levels hook ClearsRemount = refl
   remount_levels hook (Releases answer) = refl
+
+-- a task whose next event is a load of `removed` looks at it, any other doesn't
+removed_skips : (t : ℕ) (w : World) (earlier : List World) → looks_at_removed (w.views t).phase ≡ false →
+    last_removed t (w ∷ earlier) ≡ last_removed t earlier
+removed_skips t w earlier h = rw h refl
+
+removed_stands : (t : ℕ) (w : World) (earlier : List World) → looks_at_removed (w.views t).phase ≡ true →
+    last_removed t (w ∷ earlier) ≡ Some w
+removed_stands t w earlier h = rw h refl
 
 -- where no word of a sum is to be loaded, what was counted at some mount stays so
 some_stays : (c : Config) (t : ℕ) (w : World) (earlier : List World) → words_read (w.views t).phase ≡ None → SomeWasCounted c t earlier →
@@ -89,7 +104,11 @@ module _ (c : Config) (t : ℕ) (w next : World) (earlier : List World) (good : 
   answer_stays answer e h r =
       elim (h r) [
         | inl frozen ↦ inl (ap (was_frozen c) (look_skips t next (w ∷ earlier) (ap looks_at_stage e)) ∙ frozen)
-        | inr busy ↦ inr (some_stays c t next (w ∷ earlier) (ap words_read e) busy)
+        | inr more ↦
+            elim more [
+              | inl gone ↦ inr (inl (ap was_removed (removed_skips t next (w ∷ earlier) (ap looks_at_removed e)) ∙ gone))
+              | inr busy ↦ inr (inr (some_stays c t next (w ∷ earlier) (ap words_read e) busy))
+            ]
       ]
 
   -- so does the cause of each step
@@ -100,6 +119,8 @@ module _ (c : Config) (t : ℕ) (w next : World) (earlier : List World) (good : 
   remount_stays (Sums m held sum) f e was quiet h =
       sum_stays c t m w next earlier sum h good f.0 (ap words_read e) (ap words_read was) (quiet m)
   remount_stays (GivesUp m held) f e was quiet h = some_stays c t next (w ∷ earlier) (ap words_read e) h
+  remount_stays (LeavesHolds held) f e was quiet h =
+      ap was_removed (removed_skips t next (w ∷ earlier) (ap looks_at_removed e)) ∙ h
   remount_stays (Releases answer) f e was quiet h = answer_stays answer e h
   remount_stays s f e was quiet h = tt
 
@@ -127,7 +148,7 @@ module _ (c : Config) (t : ℕ) (w next : World) (earlier : List World) (after :
   -- a step to another mount, to a mark or to a hold to be cleared says nothing
   past_mount_own : (m : ℕ) (held : MountSet) → CauseAfter (past_mount x.mounts m held)
   past_mount_own m held =
-      by_bool (nat_lt (m + 1) x.mounts) (λ b. CauseAfter (if b then LoadsFlags (m + 1) held else SetsRemount held)) tt tt
+      by_bool (nat_lt (m + 1) x.mounts) (λ b. CauseAfter (if b then LoadsFlags (m + 1) held else LoadsRemovedAgain held)) tt tt
 
   let_go_own : (held : MountSet) → CauseAfter (let_go held)
   let_go_own held = by_bool (held.bits == 0) (λ b. CauseAfter (if b then ClearsMark 1 else ClearsHold held)) tt tt
@@ -140,9 +161,25 @@ module _ (c : Config) (t : ℕ) (w next : World) (earlier : List World) (after :
       SomeWasCounted c t (w ∷ earlier) → CauseAfter (give_up m held)
   give_up_own m held e h =
       elim (eqb_tells held.bits 0) [
-        | inl z ↦ rw z.0 (λ r. inr (some_stays c t next (w ∷ earlier) (ap words_read (rw z.0 at e)) h))
+        | inl z ↦ rw z.0 (λ r. inr (inr (some_stays c t next (w ∷ earlier) (ap words_read (rw z.0 at e)) h)))
         | inr z ↦ rw z.0 (some_stays c t next (w ∷ earlier) (ap words_read (rw z.0 at e)) h)
       ]
+
+  -- nor does one that leaves its holds look at `removed` again
+  leave_holds_own : (held : MountSet) → (next.views t).phase ≡ Some (Remounts (at_remount x (leave_holds held))) →
+      was_removed (last_removed t (w ∷ earlier)) ≡ true → CauseAfter (leave_holds held)
+  leave_holds_own held e h =
+      elim (eqb_tells held.bits 0) [
+        | inl z ↦ rw z.0 (λ r. inr (inl (ap was_removed (removed_skips t next (w ∷ earlier) (ap looks_at_removed (rw z.0 at e))) ∙ h)))
+        | inr z ↦ rw z.0 (ap was_removed (removed_skips t next (w ∷ earlier) (ap looks_at_removed (rw z.0 at e))) ∙ h)
+      ]
+
+  -- where a removed file was found, there was one when the remount looked
+  removed_was : (s : RemountStep) → (w.views t).phase ≡ Some (Remounts (at_remount x s)) →
+      looks_at_removed (Some (Remounts (at_remount x s))) ≡ true → (w.words.removed ≡ 0 → ⊥) →
+      was_removed (last_removed t (w ∷ earlier)) ≡ true
+  removed_was s e looks some =
+      ap was_removed (removed_stands t w earlier (ap looks_at_removed e ∙ looks)) ∙ ap not (ne_eqb w.words.removed 0 some)
 
   -- a sum with one word more: it goes on, the loop does, or the remount gives up
   sum_own : (m : ℕ) (held : MountSet) (sum : Sum) → m < c.mounts → sum.words < c.processors → x.processors ≡ c.processors →
@@ -183,10 +220,22 @@ module _ (c : Config) (t : ℕ) (w next : World) (earlier : List World) (after :
   remount_own hook LoadsSuperblock sp f e same h e' = from_own x.read_only (not (w.words.sb == 0))
   remount_own (Ok answer) SetsWritable sp f e same h e' = done_own
   remount_own (Err code) SetsWritable sp f e same h e' = tt
+  remount_own hook LoadsRemoved sp f e same h e' =
+      elim (eqb_tells w.words.removed 0) [
+        | inl z ↦ rw z.0 tt
+        | inr z ↦ rw z.0 (λ r. inr (inl (ap was_removed (removed_skips t next (w ∷ earlier) (ap looks_at_removed (rw z.0 at e'))) ∙
+            removed_was LoadsRemoved e refl z.1)))
+      ]
   remount_own hook (LoadsFlags m held) sp f e same h e' =
       elim (cases_Bool (has_flag (w.words.flags m) 1)) [ inl z ↦ rw z (past_mount_own m held) | inr z ↦ rw z tt ]
   remount_own hook (SetsHold m held) sp f e same h e' = sum_starts c t m next (w ∷ earlier) after f.0 (ap words_read e')
   remount_own hook (Sums m held sum) sp f e same h e' = sum_own m held sum f.0 f.2 sp (ap (λ g. g m) same) h e'
+  remount_own hook (LoadsRemovedAgain held) sp f e same h e' =
+      elim (eqb_tells w.words.removed 0) [
+        | inl z ↦ rw z.0 tt
+        | inr z ↦ rw z.0 (leave_holds_own held (rw z.0 at e') (removed_was (LoadsRemovedAgain held) e refl z.1))
+      ]
+  remount_own hook (LeavesHolds held) sp f e same h e' = leave_holds_own (without_lowest held) e' h
   remount_own hook (SetsRemount held) sp f e same h e' = let_go_own held
   remount_own hook (ClearsHold held) sp f e same h e' = let_go_own (without_lowest held)
   remount_own hook (GivesUp m held) sp f e same h e' = give_up_own m (without_lowest held) e' h

@@ -1,13 +1,13 @@
 -- The other events of a remount, and all of them as one law.
-use Rattle.mount_counts.specs.declared.remounts.RemountStep.TheVariants.{Locks, LoadsStage, LoadsSuperblock, SetsWritable, LoadsFlags, SetsHold, Sums, SetsRemount, ClearsHold, GivesUp, ClearsMark, SetsReadOnly, ClearsRemount, Releases}
+use Rattle.mount_counts.specs.declared.remounts.RemountStep.TheVariants.{Locks, LoadsStage, LoadsSuperblock, SetsWritable, LoadsFlags, SetsHold, Sums, LoadsRemoved, LoadsRemovedAgain, LeavesHolds, SetsRemount, ClearsHold, GivesUp, ClearsMark, SetsReadOnly, ClearsRemount, Releases}
 use Rattle.mount_counts.specs.declared.remounts.Remount.{Remount}
-use Rattle.cpu_words.specs.declared.names.WordName.TheVariants.{Remount as RemountWord, Node, Umount, Stage, SbFlags, MountFlags}
+use Rattle.cpu_words.specs.declared.names.WordName.TheVariants.{Remount as RemountWord, Node, Umount, Stage, SbFlags, Removed, MountFlags}
 use Rattle.access_model.specs.declared.replies.Reply.TheVariants.{Unit as UnitReply}
 use Rattle.mount_laws.proofs.MountLaws.{clears_hold as mount_clears_hold, stores as mount_stores, empties, marks_empty, remounting, is_left, marks_skipped, closed, none_remounting, sealed, SeeksNone}
 use Rattle.access_model.specs.Actions.{marked as marked_as}
 use Rattle.gate_world.specs.Rules.{Owner, Stages, Tree, AtMount, IsGood, at_mount, Holds, StepKeeps, MountHoldsIn, remounts, owns, role_of, Part, marks_of}
 use Rattle.mount_counts.specs.Roles.{Out, Empty, Skipped, has_hold, admitted, ro_bit, questions_of, skips, processor_of, past_flags}
-use Rattle.owner_laws.proofs.RemountParts.{RemountKeeps, tree_was, tree_stays, tree_by, tree_where, here_fits, Mount, here_knows, here_cleared, Stays, GoesOn, StageHolds, stage_holds, owner_on, umount_changes, role_stays, role_was, whole_remount, PartsHold, flags_change, load_event, node_changes, mount_stays, stores}
+use Rattle.owner_laws.proofs.RemountParts.{RemountKeeps, tree_was, tree_stays, tree_by, tree_by_two, load_found, tree_where, here_fits, Mount, here_knows, here_cleared, Stays, GoesOn, StageHolds, stage_holds, owner_on, umount_changes, role_stays, role_was, whole_remount, PartsHold, flags_change, load_event, node_changes, mount_stays, stores}
 use Rattle.std.proofs.Common.{refl, sym, ap, subst, inl, inr, true, false, arith, true≢false, ℕ, suc, ◌<◌, Bool, ◌≡◌, Ok, Result, Some, ◌+◌, Err, nat_lt, not, ◌∷◌, le-ltb, ◌==◌, ◌∙◌, None, Option, ◌||◌, eq-eqb, ne_eqb, bit_and, option_map}
 use Rattle.gate_world.specs.declared.config.Config.{Config}
 use Rattle.gate_world.specs.Configs.{IsWithin}
@@ -18,14 +18,15 @@ use Rattle.mount_counts.specs.declared.sets.MountSet.{MountSet}
 use Rattle.gate_world.specs.Remounts.{loop_role, remount_role, AllBelow, giving_role, remount_owns, held_role, RemountFits, remount_sets}
 use Rattle.gate_world.specs.declared.work.Phase.TheVariants.{Remounts}
 use Rattle.gate_world.specs.Fits.{PhaseFits}
-use Rattle.mount_counts.specs.Remounts.{past_node, at_remount, remount_from, let_go, give_up}
+use Rattle.mount_counts.specs.Remounts.{past_node, at_remount, remount_from, let_go, leave_holds, give_up}
 use Rattle.gate_world.specs.declared.views.View.{View}
 use Rattle.cpu_words.specs.declared.names.WordName.{WordName}
 use Rattle.std.proofs.lemmas.Bool.Decides.{eqb_tells}
 use Rattle.mount_counts.specs.Sets.{has_mount, lowest, no_mounts, without_lowest}
 use Rattle.mount_laws.proofs.Sets.{none_held, lowest_held, leaves_here, leaves_there}
-use Rattle.owner_laws.proofs.RemountLoop.{loads_flags, sets_hold, sums, let_go_stays, past_node_stays, give_up_stays, let_go_stage, past_node_stage, give_up_on, let_go_on}
-use Rattle.gate_world.specs.Views.{held_at, holds_level, view_with}
+use Rattle.owner_laws.proofs.RemountLoop.{loads_flags, sets_hold, sums, let_go_stays, leave_holds_stays, past_node_stays, give_up_stays, let_go_stage, past_node_stage, give_up_on, leave_holds_on, let_go_on}
+use Rattle.gate_world.specs.Views.{held_at, holds_level, has_open, view_with}
+use Rattle.access_model.specs.States.{is_removed, one_if}
 use Rattle.finite_sums.specs.Sums.{total, update}
 use Rattle.access_model.specs.declared.replies.Reply.{Reply}
 use Rattle.cpu_words.specs.declared.events.Event.{Event}
@@ -35,17 +36,18 @@ use Rattle.gate_world.specs.Stages.{stage_role_of, remount_stage_role}
 use Rattle.stage_laws.specs.Roles.{Owning, CleanBelow, IsKnown}
 use Rattle.stage_laws.specs.Events.{playing, IsAlike, Locks as LocksStage, Releases as ReleasesStage, SetsRemount as StoresRemount, SetsReadOnly as StoresReadOnly, ClearsRemount as TakesRemount, CancelsRemount, SetsWritable as StoresWritable, ClearsMarkReadOnly}
 use Rattle.access_model.specs.declared.errors.GateError.{GateError}
-use Rattle.cpu_words.specs.declared.events.Touch.TheVariants.{Cas, Store, And}
+use Rattle.cpu_words.specs.declared.events.Touch.TheVariants.{Load, Cas, Store, And}
 use Rattle.access_model.specs.declared.errors.GateError.TheVariants.{Busy, Hook}
 use Rattle.access_model.specs.declared.replies.Next.{Next}
 use Rattle.access_model.specs.declared.replies.Next.TheVariants.{Go, Done}
 use Rattle.gated_tree.specs.Nodes.{IsNode, dirty_in, node_shown}
 use Rattle.gate_frames.proofs.Frames.{left_alone, owner_same}
 use Rattle.gate_world.specs.declared.work.Phase.{Phase}
-use Rattle.owner_laws.proofs.RemountFits.{state_fits, let_go_fits, leaves_below, past_node_fits, give_up_fits}
-use Rattle.finite_sums.proofs.Totals.{total_at, update_same, update_map}
+use Rattle.owner_laws.proofs.RemountFits.{state_fits, none_below, leave_holds_fits, let_go_fits, leaves_below, past_node_fits, give_up_fits}
+use Rattle.finite_sums.proofs.Totals.{total_at, update_same, update_map, update_at}
+use Rattle.gate_frames.proofs.Rephased.{update_twice}
 use Rattle.access_model.specs.declared.actions.Action.TheVariants.{SbRo, SbRw, Clean}
-use Rattle.owner_laws.proofs.RemountRoles.{let_go_role, give_up_role, remount_seeks, past_node_role, no_giving}
+use Rattle.owner_laws.proofs.RemountRoles.{let_go_role, leave_holds_role, give_up_role, remount_seeks, past_node_role, no_giving}
 use Rattle.gate_frames.proofs.Loads.{steady, after_load}
 use Rattle.cpu_words.specs.Words.{Words}
 use Rattle.access_model.specs.declared.actions.Action.{Action}
@@ -58,9 +60,9 @@ use Rattle.mount_counts.specs.Phases.{has_flag}
 use Rattle.std.proofs.lemmas.Nat.Bits.{and_pow}
 use Rattle.access_model.specs.States.{IsFile}
 use Rattle.gate_world.specs.Levels.{is_frozen_whole}
-use Rattle.gated_tree.specs.Roles.{Role as TreeRole, Out as OffTree, Clearing, Bounds, TreeState, sealed_by, charge, child_charge, HasNoCharge}
-use Rattle.tree_laws.specs.Events.{Event as TreeEvent, BeginsClearing, Clears, Passes, Seals, Leaves, Opens}
-use Rattle.gate_world.specs.Trees.{tree_bounds, tree_of, tree_roles, remount_tree_role}
+use Rattle.gated_tree.specs.Roles.{Role as TreeRole, Out as OffTree, Bare, Clearing, Bounds, TreeState, RoleHolds, sealed_by, charge, child_charge, removal, HasNoCharge}
+use Rattle.tree_laws.specs.Events.{Event as TreeEvent, FindsNone, GoesBare, StopsBare, BeginsClearing, Clears, Passes, Seals, Leaves, Opens, turned}
+use Rattle.gate_world.specs.Trees.{tree_bounds, tree_of, tree_roles, remount_tree_role, is_bare_at}
 use Rattle.gate_frames.proofs.Trees.{shown_clean, nobody_reads}
 
 -- at stage 0 the file system isn't frozen, whatever the superblock's flags are
@@ -89,7 +91,7 @@ sealed_writable stage z = rw z refl
 
 -- a clearing has charged nothing
 no_charge : (n : ℕ) (role : TreeRole) → role ≡ Clearing n → HasNoCharge role
-no_charge n role is = record { blocks = ap charge is; children = λ d. ap (child_charge d) is }
+no_charge n role is = record { blocks = ap charge is; removed = ap removal is; children = λ d. ap (child_charge d) is }
 
 -- the tree is opened, by a task whose role stays
 opens : (b : Bounds) (s : TreeState) (t sealed : ℕ) (role : TreeRole) → sealed ≡ 0 → s.at t ≡ role →
@@ -145,6 +147,25 @@ module _ (c : Config) (lim : IsWithin c) (w : World) (good : IsGood c w) (t : �
       subst (λ k. dirty_in (w.words.node k) ≡ 0) (sym first)
       (shown_clean (w.words.node 0) root.packed.free (directory_clean (w.words.node 0) root (good Tree).root))
 
+  -- no file is removed, as the remount has found
+  none_removed : (held : MountSet) → IsHere (SetsRemount held) → (n : ℕ) → n < c.nodes → is_removed (node_shown (w.words.node n)) ≡ false
+  none_removed held e n ln =
+      let none : w.words.removed ≡ 0 =
+      subst (RoleHolds (tree_bounds c) w.words.used w.words.removed w.words.node w.words.kids)
+      (tree_was c w good t lt x (SetsRemount held) e) ((good Tree).roles t lt) in
+      elim (cases_Bool (is_removed (node_shown (w.words.node n)))) [
+        | inl q ↦
+            let one : one_if (is_removed (node_shown (w.words.node n))) ≡ 1 = ap one_if q in
+            absurd (omega (
+              arith,
+              none,
+              (good Tree).removals,
+              total_at c.nodes n (λ k. one_if (is_removed (node_shown (w.words.node k)))) ln,
+              one,
+            ))
+        | inr q ↦ q
+      ]
+
   -- with each mount held at a sum of 0, or read-only, `remount` is set; meets: `remount` is loaded after HOLD was found clear
   pub sets_remount : (hook : HookAnswer) (held : MountSet) → IsHere (SetsRemount held) → Keeps hook (SetsRemount held)
   sets_remount hook held e =
@@ -153,17 +174,20 @@ module _ (c : Config) (lim : IsWithin c) (w : World) (good : IsGood c w) (t : �
       let k : (w.words.stage ≡ 0) × (w.words.sb ≡ 0) = here_knows c w good t lt x s e in
       let v : View = view_with (w.views t) (RemountWord, Store 1) w.words.remount hook
       (Go (Remounts (at_remount x (let_go held))), Some SbRo) in
+      let mid : TreeState = record (turned (tree_of w) t OffTree) { bare = 1 } in
       let after : PartsHold c w good t lt x s e (record w.words { remount = 1 }) v ×
       (shown c (record { words = record w.words { remount = 1 }; views = update w.views t v }) ≡ record (shown c w) { sb_ro = true }) =
-      stores c w good t lt x s e refl (let_go held) v refl (refl, refl, refl, refl, refl, refl)
+      stores c w good t lt x s e refl (let_go held) v refl (refl, refl, refl, refl, refl, refl, refl)
       (f.0, f.1, f.2, f.3, f.4, let_go_fits c lim held f.5) 1 w.words.sb true (Clearing 1) refl (let_go_stays x.nodes held)
-      (tree_by c w good t lt x s e lim (record w.words { remount = 1 }) v (Clearing 1) (let_go_stays x.nodes held).2 None
-      (BeginsClearing (tree_was c w good t lt x s e)))
+      (tree_by_two c w good t lt x s e lim (record w.words { remount = 1 }) v (Clearing 1) (let_go_stays x.nodes held).2 mid None
+      (GoesBare (tree_was c w good t lt x s e))
+      (subst (λ roles. TreeEvent (tree_bounds c) mid t (record mid { at = roles }) None)
+      (update_twice (tree_roles w) t OffTree (Clearing 1)) (BeginsClearing (update_at (tree_roles w) t OffTree))))
       (stage_holds c w good t lt x s e (record w.words { remount = 1 }) v (StoresRemount 1)
       (ap stage_role_of e, root_clean, ap (playing (record (stages_in w) { remount = 1 }) t) (let_go_stage x.nodes held))) refl
       (λ m lm. subst (Mount c w good t lt x s e m (w.words.flags m) 1 w.words.sb) (sym (let_go_role m held))
       (vacated held e m lm (has_mount held m) refl)) in
-      (after.0, ((lt, (k.0, λ m lm. vacant held e m lm (has_mount held m) refl)), after.1))
+      (after.0, ((lt, (k.0, λ m lm. vacant held e m lm (has_mount held m) refl, none_removed held e)), after.1))
 
   -- clears HOLD of the lowest mount that it holds; meets: READONLY and `remount` are loaded after HOLD was found clear
   lets_go : (hook : HookAnswer) (held : MountSet) (s s' : RemountStep) (e : IsHere s) → 0 < held.bits → AllBelow c.mounts held →
@@ -184,7 +208,7 @@ module _ (c : Config) (lim : IsWithin c) (w : World) (good : IsGood c w) (t : �
       let v : View = view_with (w.views t) (MountFlags m, And 18446744073709551613) (w.words.flags m) hook
       (Go (Remounts (at_remount x s')), None) in
       let r : role_of m (w.views t).phase ≡ remount_role m s = role_was c w good t lt x s e m in
-      flags_change c w good t lt x s e o s' v refl (refl, refl, refl, refl, refl, refl) (f.0, f.1, f.2, f.3, f.4, fit) m
+      flags_change c w good t lt x s e o s' v refl (refl, refl, refl, refl, refl, refl, refl) (f.0, f.1, f.2, f.3, f.4, fit) m
       (without_hold (w.words.flags m)) stays on (and_not_hold (w.words.flags m) g.bits).1
       (λ lm. subst (Mount c w good t lt x s e m (without_hold (w.words.flags m)) w.words.remount w.words.sb) (sym out)
       (mount_clears_hold g t lt (subst SeeksNone (sym r) (remount_seeks m s)) (ap has_hold r ∙ one)))
@@ -236,12 +260,14 @@ module _ (c : Config) (lim : IsWithin c) (w : World) (good : IsGood c w) (t : �
       let f : FitsHere s = here_fits c w good t lt x s e in
       let k : (w.words.stage ≡ 0) × (w.words.sb ≡ 0) = here_knows c w good t lt x s e in
       let set : w.words.remount ≡ 1 = remount_stands c w good t lt (ap remounts e) in
+      let bares : is_bare_at w.words ≡ is_bare_at (record w.words { sb = 1 }) = rw (eq-eqb w.words.remount 1 set) refl in
       let v : View = view_with (w.views t) (SbFlags, Store 1) w.words.sb (Ok answer) (Go (Remounts (at_remount x ClearsRemount)), None) in
-      stores c w good t lt x s e refl ClearsRemount v refl (refl, refl, refl, refl, refl, refl) (f.0, f.1, f.2, f.3, f.4, tt)
+      stores c w good t lt x s e refl ClearsRemount v refl (refl, refl, refl, refl, refl, refl, refl) (f.0, f.1, f.2, f.3, f.4, tt)
       w.words.remount 1
       (w.words.remount == 1 || w.words.sb == 1) OffTree (not_frozen w.words w.words.remount 1 k.0) (refl, sym set, refl)
       (tree_by c w good t lt x s e lim (record w.words { sb = 1 }) v OffTree refl None
-      (Seals x.nodes (omega (arith, f.3)) (tree_was c w good t lt x s e)))
+      (subst (λ b. TreeEvent (tree_bounds c) (tree_of w) t (record (turned (tree_of w) t OffTree) { sealed = 1; bare = b }) None) bares
+      (Seals x.nodes (omega (arith, f.3)) (tree_was c w good t lt x s e))))
       (stage_holds c w good t lt x s e (record w.words { sb = 1 }) v (StoresReadOnly x.nodes)
       (ap stage_role_of e, omega (arith, f.3), refl)) (rw (eq-eqb w.words.remount 1 set) refl)
       (λ m lm. mount_rests s e m lm refl w.words.remount 1 (λ q z. absurd (omega (arith, z)))
@@ -252,12 +278,15 @@ module _ (c : Config) (lim : IsWithin c) (w : World) (good : IsGood c w) (t : �
       let k : (w.words.stage ≡ 0) × (w.words.sb ≡ 0) = here_knows c w good t lt x s e in
       let s' : RemountStep = Releases (Err (Hook code)) in
       let v : View = view_with (w.views t) (RemountWord, Store 0) w.words.remount (Err code) (Go (Remounts (at_remount x s')), Some SbRw) in
+      let bares : is_bare_at (record w.words { remount = 0 }) ≡ 0 = rw (ne_eqb w.words.sb 1 (λ q. omega (arith, k.1, q))) refl in
+      let mid : TreeState = turned (tree_of w) t OffTree in
       let after : PartsHold c w good t lt x s e (record w.words { remount = 0 }) v ×
       (shown c (record { words = record w.words { remount = 0 }; views = update w.views t v }) ≡ record (shown c w) { sb_ro = false }) =
-      stores c w good t lt x s e refl s' v refl (refl, refl, refl, refl, refl, refl) (f.0, f.1, f.2, f.3, f.4, tt) 0 w.words.sb false
+      stores c w good t lt x s e refl s' v refl (refl, refl, refl, refl, refl, refl, refl) (f.0, f.1, f.2, f.3, f.4, tt) 0 w.words.sb false
       OffTree refl (refl, refl, refl)
-      (tree_by c w good t lt x s e lim (record w.words { remount = 0 }) v OffTree refl None
-      (Leaves (no_charge x.nodes (tree_roles w t) (tree_was c w good t lt x s e))))
+      (tree_by_two c w good t lt x s e lim (record w.words { remount = 0 }) v OffTree refl mid None
+      (Leaves (no_charge x.nodes (tree_roles w t) (tree_was c w good t lt x s e)))
+      (subst (λ b. TreeEvent (tree_bounds c) mid t (record mid { bare = b }) None) (sym bares) StopsBare))
       (stage_holds c w good t lt x s e (record w.words { remount = 0 }) v (CancelsRemount x.nodes) (ap stage_role_of e, refl))
       (ne_eqb w.words.sb 1 (λ q. omega (arith, k.1, q)))
       (λ m lm. mount_rests s e m lm refl 0 w.words.sb (λ q. absurd (omega (arith, q))) (sealed (good (AtMount m) lm))) in
@@ -272,9 +301,10 @@ module _ (c : Config) (lim : IsWithin c) (w : World) (good : IsGood c w) (t : �
       let set : w.words.remount ≡ 1 = remount_stands c w good t lt (ap remounts e) in
       let s' : RemountStep = Releases (Ok UnitReply) in
       let v : View = view_with (w.views t) (RemountWord, Store 0) w.words.remount hook (Go (Remounts (at_remount x s')), None) in
-      stores c w good t lt x s e refl s' v refl (refl, refl, refl, refl, refl, refl) (f.0, f.1, f.2, f.3, f.4, tt) 0 w.words.sb
+      stores c w good t lt x s e refl s' v refl (refl, refl, refl, refl, refl, refl, refl) (f.0, f.1, f.2, f.3, f.4, tt) 0 w.words.sb
       (w.words.remount == 1 || w.words.sb == 1) OffTree refl (refl, refl, refl)
-      (tree_stays c w good t lt x s e (record w.words { remount = 0 }) v refl refl refl refl refl)
+      (tree_stays c w good t lt x s e (record w.words { remount = 0 }) v refl refl refl refl refl
+      (rw (eq-eqb w.words.remount 1 set, eq-eqb w.words.sb 1 k.1) refl) refl)
       (stage_holds c w good t lt x s e (record w.words { remount = 0 }) v (TakesRemount x.nodes) (ap stage_role_of e, refl))
       (rw (eq-eqb w.words.remount 1 set, eq-eqb w.words.sb 1 k.1) refl)
       (λ m lm. mount_rests s e m lm refl 0 w.words.sb (λ q. absurd (omega (arith, q))) (sealed (good (AtMount m) lm)))
@@ -288,10 +318,10 @@ module _ (c : Config) (lim : IsWithin c) (w : World) (good : IsGood c w) (t : �
       PartsHold c w good t lt x s e ws v × (shown c (record { words = ws; views = update w.views t v }) ≡ shown c w)
   gives_back hook s e answer o r role tree stage sb owning =
       let v : View = view_with (w.views t) (Umount, Store 0) w.words.umount hook (Done answer, None) in
-      umount_changes c w good t lt x s e 0 v (refl, refl, refl, refl, refl, refl) tt
+      umount_changes c w good t lt x s e 0 v (refl, refl, refl, refl, refl, refl, refl) tt
       (releases_umount c w good t lt v (ap owns e ∙ o) refl (sym (ap remounts e ∙ r)))
       (stage_holds c w good t lt x s e (record w.words { umount = 0 }) v (ReleasesStage stage sb) (ap stage_role_of e ∙ owning, refl))
-      (record { counts_not = λ i. refl; apart = λ i. refl; outside = refl }) (λ m. sym (role m)) (sym tree) (λ i. refl) refl
+      (record { counts_not = λ i. refl; apart = λ i. refl; outside = refl }) (λ m. sym (role m)) (sym tree) (λ i. refl) refl refl
 
   pub releases : (hook : HookAnswer) (answer : Result Reply GateError) → IsHere (Releases answer) → Keeps hook (Releases answer)
   releases hook answer e = gives_back hook (Releases answer) e answer refl refl (λ m. refl) refl None None refl
@@ -305,13 +335,16 @@ module _ (c : Config) (lim : IsWithin c) (w : World) (good : IsGood c w) (t : �
       let clear : w.words.remount ≡ 1 → ⊥ = no_remount c w good t lt (ap owns e) (ap remounts e) in
       let s' : RemountStep = Releases (Ok UnitReply) in
       let v : View = view_with (w.views t) (SbFlags, Store 0) w.words.sb (Ok answer) (Go (Remounts (at_remount x s')), Some SbRw) in
+      let bares : is_bare_at (record w.words { sb = 0 }) ≡ 0 = rw (ne_eqb w.words.remount 1 clear) refl in
+      let mid : TreeState = record (tree_of w) { sealed = sealed_by 0 w.words.stage; at = update (tree_roles w) t OffTree } in
       let after : PartsHold c w good t lt x s e (record w.words { sb = 0 }) v ×
       (shown c (record { words = record w.words { sb = 0 }; views = update w.views t v }) ≡ record (shown c w) { sb_ro = false }) =
-      stores c w good t lt x s e refl s' v refl (refl, refl, refl, refl, refl, refl) (f.0, f.1, f.2, f.3, f.4, tt) w.words.remount 0 false
+      stores c w good t lt x s e refl s' v refl (refl, refl, refl, refl, refl, refl, refl) (f.0, f.1, f.2, f.3, f.4, tt) w.words.remount 0 false
       OffTree (not_frozen w.words w.words.remount 0 k.0) (refl, omega (arith, clear, (good Owner).bit), refl)
-      (tree_by c w good t lt x s e lim (record w.words { sb = 0 }) v OffTree refl None
+      (tree_by_two c w good t lt x s e lim (record w.words { sb = 0 }) v OffTree refl mid None
       (opens (tree_bounds c) (tree_of w) t (sealed_by 0 w.words.stage) OffTree (sealed_writable w.words.stage k.0)
-      (tree_was c w good t lt x s e)))
+      (tree_was c w good t lt x s e))
+      (subst (λ b. TreeEvent (tree_bounds c) mid t (record mid { bare = b }) None) (sym bares) StopsBare))
       (stage_holds c w good t lt x s e (record w.words { sb = 0 }) v (StoresWritable None) (ap stage_role_of e, refl))
       (rw (ne_eqb w.words.remount 1 clear) refl)
       (λ m lm. mount_rests s e m lm refl w.words.remount 0 (λ q z. absurd (clear q)) (λ q. absurd (omega (arith, q)))) in
@@ -339,17 +372,19 @@ module _ (c : Config) (lim : IsWithin c) (w : World) (good : IsGood c w) (t : �
       (Go (Remounts (at_remount x s')), action)) ≡ held_at (w.views t) →
       holds_level (view_with (w.views t) (Node n, And 18446744073709551611) word hook (Go (Remounts (at_remount x s')), action)) ≡
       holds_level (w.views t) →
+      has_open (view_with (w.views t) (Node n, And 18446744073709551611) word hook (Go (Remounts (at_remount x s')), action)) ≡
+      has_open (w.views t) →
       let v : View = view_with (w.views t) (Node n, And 18446744073709551611) word hook (Go (Remounts (at_remount x s')), action) in
       let ws : Words = record w.words { node = update w.words.node n (without_mark word) } in
       PartsHold c w good t lt x s e ws v × (shown c (record { words = ws; views = update w.views t v }) ≡
       record (shown c w) { tree = update (λ k. node_shown (w.words.node k)) n (node_shown (without_mark word)) }) =
-      λ action happens held levels.
+      λ action happens held levels files.
       let v : View = view_with (w.views t) (Node n, And 18446744073709551611) word hook (Go (Remounts (at_remount x s')), action) in
-      node_changes c w good t lt x s e refl s' v refl (held, levels, refl, refl, refl, refl)
+      node_changes c w good t lt x s e refl s' v refl (held, levels, refl, refl, refl, refl, files)
       (subst (λ h. PhaseFits c t h (holds_level v) (Remounts (at_remount x s'))) (sym held)
       (subst (λ h. PhaseFits c t (held_at (w.views t)) h (Remounts (at_remount x s'))) (sym levels)
       (f.0, f.1, f.2, f.3, f.4, past_node_fits c x.nodes n f.3)))
-      n (without_mark word) (Clearing (suc n)) (past_node_stays x.nodes n below)
+      n (without_mark word) (Clearing (suc n)) (past_node_stays x.nodes n below) (clears_mark word node.packed).opens
       (tree_by c w good t lt x s e lim left v (Clearing (suc n)) (past_node_stays x.nodes n below).2 action happens)
       (stage_holds c w good t lt x s e left v (ClearsMarkReadOnly 0 n) (
         ap stage_role_of e,
@@ -365,10 +400,10 @@ module _ (c : Config) (lim : IsWithin c) (w : World) (good : IsGood c w) (t : �
             let happens : TreeEvent (tree_bounds c) (tree_of w) t then (Some (Clean n)) =
             Clears n (inr (nobody_reads c w good (λ q. omega (arith, k.0, q)))) was f.5.1 marked in
             rw h (
-              (event (Some (Clean n)) happens refl refl).0,
+              (event (Some (Clean n)) happens refl refl refl).0,
               (
                 (lt, (f.5.1, after.0, inr (inr (rw (eq-eqb w.words.remount 1 set) refl)))),
-                (event (Some (Clean n)) happens refl refl).1 ∙
+                (event (Some (Clean n)) happens refl refl refl).1 ∙
                     (λ j. record (shown c w) { tree = update (λ k. node_shown (w.words.node k)) n (after.1 j) }),
               ),
             )
@@ -377,8 +412,8 @@ module _ (c : Config) (lim : IsWithin c) (w : World) (good : IsGood c w) (t : �
             let happens : TreeEvent (tree_bounds c) (tree_of w) t then None =
             Passes n was f.5.1 (mark_clear word h) in
             rw h (
-              (event None happens refl refl).0,
-              (event None happens refl refl).1 ∙
+              (event None happens refl refl refl).0,
+              (event None happens refl refl refl).1 ∙
                   (λ j. record (shown c w) {
                     tree = (ap (λ y. update (λ k. node_shown (w.words.node k)) n (node_shown y)) clean ∙
                         update_same (λ k. node_shown (w.words.node k)) n) j;
@@ -409,16 +444,16 @@ module _ (c : Config) (lim : IsWithin c) (w : World) (good : IsGood c w) (t : �
       elim (eqb_tells w.words.umount 0) [
         | inl h ↦ rw h.0 (
             let v : View = tried hook (x.task + 1) LoadsStage in
-            umount_changes c w good t lt x Locks e (x.task + 1) v (refl, refl, refl, refl, refl, refl) f
+            umount_changes c w good t lt x Locks e (x.task + 1) v (refl, refl, refl, refl, refl, refl, refl) f
             (locks_umount c w good t lt (x.task + 1) v h.1 (omega (arith, f.0)) refl (sym (ap remounts e)))
             (stage_holds c w good t lt x Locks e (record w.words { umount = x.task + 1 }) v LocksStage
             (ap stage_role_of e, nobody_owns c w good h.1, refl))
-            (record { counts_not = λ i. refl; apart = λ i. refl; outside = refl }) (λ m. refl) refl (λ i. refl) refl)
+            (record { counts_not = λ i. refl; apart = λ i. refl; outside = refl }) (λ m. refl) refl (λ i. refl) refl refl)
         | inr h ↦ rw h.0 (
             let v : View = tried hook w.words.umount Locks in
-            umount_changes c w good t lt x Locks e w.words.umount v (refl, refl, refl, refl, refl, refl) f
+            umount_changes c w good t lt x Locks e w.words.umount v (refl, refl, refl, refl, refl, refl, refl) f
             (owner_same c w t lt good v (steady e (record { owns_same = refl; remounts_same = refl; closing_same = λ i. refl })))
-            (still_aside hook e) (record { counts_not = λ i. refl; apart = λ i. refl; outside = refl }) (λ m. refl) refl (λ i. refl) refl)
+            (still_aside hook e) (record { counts_not = λ i. refl; apart = λ i. refl; outside = refl }) (λ m. refl) refl (λ i. refl) refl refl)
       ]
 
   -- a load by the owner that has no role, before and after it
@@ -459,7 +494,7 @@ module _ (c : Config) (lim : IsWithin c) (w : World) (good : IsGood c w) (t : �
   -- it holds where the state was found, as it was asked for or not
   state_stays : (ro b : Bool) → w.words.stage ≡ 0 → (b ≡ false → w.words.sb ≡ 0) → FromState (remount_from ro b)
   state_stays true true z none = ((refl, refl, refl), from_state None None tt tt, λ m. refl)
-  state_stays true false z none = ((refl, refl, refl), from_state (Some 0) (Some 0) z (none refl), begins_loop)
+  state_stays true false z none = ((refl, refl, refl), from_state (Some 0) (Some 0) z (none refl), λ m. refl)
   state_stays false true z none = ((refl, refl, refl), from_state (Some 0) None z tt, λ m. refl)
   state_stays false false z none = ((refl, refl, refl), from_state None None tt tt, λ m. refl)
 
@@ -475,15 +510,73 @@ module _ (c : Config) (lim : IsWithin c) (w : World) (good : IsGood c w) (t : �
       ] in
       still_load hook SbFlags LoadsSuperblock (remount_from x.read_only found) e refl s.0 s.1 (state_fits c lim x.read_only found) s.2
 
+  -- loads `removed` before its loop; there is none where it is 0, as far as it can tell
+  pub loads_removed : (hook : HookAnswer) → IsHere LoadsRemoved → Keeps hook LoadsRemoved
+  loads_removed hook e =
+      let k : (w.words.stage ≡ 0) × (w.words.sb ≡ 0) = here_knows c w good t lt x LoadsRemoved e in
+      elim (eqb_tells w.words.removed 0) [
+        | inl h ↦ rw h.0 (still_load hook Removed LoadsRemoved (LoadsFlags 0 no_mounts) e refl (refl, refl, refl)
+            (owner_on (Some 0) (Some 0) (Some 0) (Some 0) w.words.stage w.words.sb (marks_of w.words) k.0 k.1)
+            (lim.some_mount, none_below c 0) begins_loop)
+        | inr h ↦ rw h.0 (still_load hook Removed LoadsRemoved (Releases (Err Busy)) e refl (refl, refl, refl)
+            (owner_on (Some 0) (Some 0) None None w.words.stage w.words.sb (marks_of w.words) tt tt) tt (λ m. refl))
+      ]
+
+  -- where a file was found removed, a mount is left that isn't held
+  left_bare : (held : MountSet) (e : IsHere (LoadsRemovedAgain held)) (m : ℕ) (lm : m < c.mounts) (a : Bool) →
+      remount_role m (LoadsRemovedAgain held) ≡ loop_role a true →
+      Mount c w good t lt x (LoadsRemovedAgain held) e m (w.words.flags m) w.words.remount w.words.sb (held_role a)
+  left_bare held e m lm true is = mount_stays c w good t lt x (LoadsRemovedAgain held) e m lm Empty (sym is)
+  left_bare held e m lm false is =
+      let r : role_of m (w.views t).phase ≡ Skipped = role_was c w good t lt x (LoadsRemovedAgain held) e m ∙ is in
+      is_left (good (AtMount m) lm) t lt (ap questions_of r, ap processor_of r) (ap has_hold r)
+
+  -- loads `removed` again, with each mount held or read-only; meets: a remove counts its file before it marks it removed
+  pub loads_removed_again : (hook : HookAnswer) (held : MountSet) → IsHere (LoadsRemovedAgain held) → Keeps hook (LoadsRemovedAgain held)
+  loads_removed_again hook held e =
+      let s : RemountStep = LoadsRemovedAgain held in
+      let f : FitsHere s = here_fits c w good t lt x s e in
+      let k : (w.words.stage ≡ 0) × (w.words.sb ≡ 0) = here_knows c w good t lt x s e in
+      elim (eqb_tells w.words.removed 0) [
+        | inl h ↦
+            let v : View = view_with (w.views t) (Removed, Load) w.words.removed hook
+            (Go (Remounts (at_remount x (SetsRemount held))), None) in
+            rw h.0 (load_found c w good t lt x s e Removed hook (SetsRemount held) refl refl refl
+            (tree_by c w good t lt x s e lim w.words v Bare refl None (FindsNone (tree_was c w good t lt x s e) h.1))
+            (owner_on (Some 0) (Some 0) (Some 0) (Some 0) w.words.stage w.words.sb (marks_of w.words) k.0 k.1) f.5
+            (λ m lm. mount_stays c w good t lt x s e m lm (remount_role m (SetsRemount held)) refl))
+        | inr h ↦
+            rw h.0 (load_event c w good t lt x s e Removed hook (leave_holds held) refl (leave_holds_stays x.nodes held)
+            (leave_holds_on x.nodes w.words.stage w.words.sb (marks_of w.words) k.0 k.1 held) (leave_holds_fits c held f.5)
+            (λ m lm. subst (Mount c w good t lt x s e m (w.words.flags m) w.words.remount w.words.sb) (sym (leave_holds_role m held))
+            (left_bare held e m lm (has_mount held m) refl)))
+      ]
+
+  -- clears HOLD of the lowest mount that it holds, where a file was found removed
+  pub leaves_holds : (hook : HookAnswer) (held : MountSet) → IsHere (LeavesHolds held) → Keeps hook (LeavesHolds held)
+  leaves_holds hook held e =
+      let f : FitsHere (LeavesHolds held) = here_fits c w good t lt x (LeavesHolds held) e in
+      let k : (w.words.stage ≡ 0) × (w.words.sb ≡ 0) = here_knows c w good t lt x (LeavesHolds held) e in
+      let rest : MountSet = without_lowest held in
+      lets_go hook held (LeavesHolds held) (leave_holds rest) e f.5.0 f.5.1
+      (ap (λ a. has_hold (held_role a)) (lowest_held held f.5.0 f.5.1.0).1)
+      (leave_holds_role (lowest held) rest ∙ ap held_role (leaves_here held f.5.0 f.5.1.0))
+      (λ n ne. leave_holds_role n rest ∙ ap held_role (leaves_there held n f.5.0 f.5.1.0 ne))
+      (leave_holds_fits c rest (leaves_below c.mounts held f.5.0 f.5.1)) refl (leave_holds_stays x.nodes rest)
+      (leave_holds_on x.nodes w.words.stage w.words.sb (marks_of w.words) k.0 k.1 rest)
+
   -- each of them
   remount_event : (hook : HookAnswer) (s : RemountStep) → IsHere s → Keeps hook s
   remount_event hook Locks e = locks hook e
   remount_event hook LoadsStage e = loads_stage hook e
   remount_event hook LoadsSuperblock e = loads_superblock hook e
   remount_event hook SetsWritable e = sets_writable hook e
+  remount_event hook LoadsRemoved e = loads_removed hook e
   remount_event hook (LoadsFlags m held) e = loads_flags c lim w good t lt x hook m held e
   remount_event hook (SetsHold m held) e = sets_hold c lim w good t lt x hook m held e
   remount_event hook (Sums m held sum) e = sums c lim w good t lt x hook m held sum e
+  remount_event hook (LoadsRemovedAgain held) e = loads_removed_again hook held e
+  remount_event hook (LeavesHolds held) e = leaves_holds hook held e
   remount_event hook (SetsRemount held) e = sets_remount hook held e
   remount_event hook (ClearsHold held) e = clears_hold hook held e
   remount_event hook (GivesUp m held) e = gives_up hook m held e

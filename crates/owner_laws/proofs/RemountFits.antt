@@ -1,5 +1,5 @@
 -- What fits after an event of a remount.
-use Rattle.mount_counts.specs.declared.remounts.RemountStep.TheVariants.{Locks, LoadsStage, LoadsSuperblock, SetsWritable, LoadsFlags, SetsHold, Sums, SetsRemount, ClearsHold, GivesUp, ClearsMark, SetsReadOnly, ClearsRemount, Releases}
+use Rattle.mount_counts.specs.declared.remounts.RemountStep.TheVariants.{Locks, LoadsStage, LoadsSuperblock, SetsWritable, LoadsFlags, SetsHold, Sums, LoadsRemoved, LoadsRemovedAgain, LeavesHolds, SetsRemount, ClearsHold, GivesUp, ClearsMark, SetsReadOnly, ClearsRemount, Releases}
 use Rattle.mount_counts.specs.declared.remounts.Remount.{Remount}
 use Rattle.std.proofs.Common.{ℕ, ◌≡◌, ◌<◌, Bool, ◌+◌, arith, Option, true≢false, sym, nat_lt, inl, inr, ◌∙◌, ltb-true, if◌then◌else◌, ap, Ok, Some, Err, ◌==◌, None, not, refl, true, false}
 use Rattle.gate_world.specs.declared.config.Config.{Config}
@@ -8,7 +8,7 @@ use Rattle.gate_world.specs.Remounts.{AllBelow, RemountFits}
 use Rattle.gate_world.specs.Configs.{IsWithin, extents_of}
 use Rattle.mount_counts.specs.Sets.{no_mounts, without_lowest, with_mount, lowest, has_mount}
 use Rattle.cpu_words.specs.declared.sums.Sum.{Sum}
-use Rattle.mount_counts.specs.Remounts.{give_up, past_node, let_go, remount_from, remount_summed, past_mount, remount_after, remount_next, at_remount}
+use Rattle.mount_counts.specs.Remounts.{give_up, leave_holds, past_node, let_go, remount_from, remount_summed, past_mount, remount_after, remount_next, at_remount}
 use Rattle.mount_counts.specs.declared.remounts.RemountStep.{RemountStep}
 use Rattle.access_model.specs.declared.replies.Next.{Next}
 use Rattle.mount_laws.proofs.Sets.{leaves_within, joins_within, joins_there, none_held, leaves_here, lowest_held, leaves_there}
@@ -48,7 +48,7 @@ leaves_below m held some h = (
 )
 
 module _ (c : Config) where
-  none_below : (m : ℕ) → AllBelow m no_mounts
+  pub none_below : (m : ℕ) → AllBelow m no_mounts
   none_below m = (omega arith, λ n q. absurd (true≢false (sym q ∙ none_held no_mounts refl n)))
 
   pub past_mount_fits : (mounts m : ℕ) (held : MountSet) → mounts ≡ c.mounts → m < c.mounts → AllBelow (m + 1) held →
@@ -61,6 +61,9 @@ module _ (c : Config) where
 
   pub give_up_fits : (m : ℕ) (held : MountSet) → m < c.mounts → AllBelow c.mounts held → RemountFits c (give_up m held)
   give_up_fits m held lm h = elim (eqb_tells held.bits 0) [ inl z ↦ rw z.0 tt | inr z ↦ rw z.0 (omega (arith, z.1), h, lm) ]
+
+  pub leave_holds_fits : (held : MountSet) → AllBelow c.mounts held → RemountFits c (leave_holds held)
+  leave_holds_fits held h = elim (eqb_tells held.bits 0) [ inl z ↦ rw z.0 tt | inr z ↦ rw z.0 (omega (arith, z.1), h) ]
 
   pub past_node_fits : (nodes n : ℕ) → nodes ≡ c.nodes → RemountFits c (past_node nodes n)
   past_node_fits nodes n same =
@@ -79,7 +82,7 @@ module _ (c : Config) where
 
     pub state_fits : (wanted found : Bool) → RemountFits c (remount_from wanted found)
     state_fits true true = tt
-    state_fits true false = (lim.some_mount, none_below 0)
+    state_fits true false = tt
     state_fits false true = tt
     state_fits false false = tt
 
@@ -106,6 +109,9 @@ module _ (c : Config) where
       remount_there x (LoadsFlags m set) hook f = f.0
       remount_there x (SetsHold m set) hook f = f.0
       remount_there x (Sums m set sum) hook f = (f.0, f.2)
+      remount_there x LoadsRemoved hook f = tt
+      remount_there x (LoadsRemovedAgain set) hook f = tt
+      remount_there x (LeavesHolds set) hook f = f.1.1 (lowest set) (lowest_held set f.0 f.1.0).1
       remount_there x (SetsRemount set) hook f = tt
       remount_there x (ClearsHold set) hook f = f.1.1 (lowest set) (lowest_held set f.0 f.1.0).1
       remount_there x (GivesUp m set) hook f = f.1.1 (lowest set) (lowest_held set f.0 f.1.0).1
@@ -147,12 +153,22 @@ module _ (c : Config) where
       remount_goes x LoadsSuperblock found hook f = (f.0, f.1, f.2, f.3, f.4, state_fits x.read_only (not (found == 0)))
       remount_goes x SetsWritable found (Ok answer) f = f
       remount_goes x SetsWritable found (Err code) f = tt
+      remount_goes x LoadsRemoved found hook f =
+          by_bool (found == 0)
+          (λ b. NextFits (if b then Go (at_remount x (LoadsFlags 0 no_mounts)) else Go (at_remount x (Releases (Err Busy)))))
+          (f.0, f.1, f.2, f.3, f.4, (lim.some_mount, none_below 0)) f
       remount_goes x (LoadsFlags m set) found hook f =
           by_bool (has_flag found 1)
           (λ b. NextFits (if b then Go (at_remount x (past_mount x.mounts m set)) else Go (at_remount x (SetsHold m set))))
           (f.0, f.1, f.2, f.3, f.4, past_mount_fits x.mounts m set f.2 f.5.0 (f.5.1.0, λ n q. omega (arith, f.5.1.1 n q))) f
       remount_goes x (SetsHold m set) found hook f = (f.0, f.1, f.2, f.3, f.4, (f.5.0, f.5.1, lim.some_processor))
       remount_goes x (Sums m set sum) found hook f = (f.0, f.1, f.2, f.3, f.4, sums_fit x m set sum found f.1 f.2 f.5.0 f.5.1)
+      remount_goes x (LoadsRemovedAgain set) found hook f =
+          by_bool (found == 0)
+          (λ b. NextFits (if b then Go (at_remount x (SetsRemount set)) else Go (at_remount x (leave_holds set)))) f
+          (f.0, f.1, f.2, f.3, f.4, leave_holds_fits set f.5)
+      remount_goes x (LeavesHolds set) found hook f =
+          (f.0, f.1, f.2, f.3, f.4, leave_holds_fits (without_lowest set) (leaves_below c.mounts set f.5.0 f.5.1))
       remount_goes x (SetsRemount set) found hook f = (f.0, f.1, f.2, f.3, f.4, let_go_fits set f.5)
       remount_goes x (ClearsHold set) found hook f =
           (f.0, f.1, f.2, f.3, f.4, let_go_fits (without_lowest set) (leaves_below c.mounts set f.5.0 f.5.1))

@@ -60,6 +60,7 @@ remount_op c ro = record {
   order_agrees = λ f g h k mounts levels there. none_agree c 0 f g h k mounts levels;
   room_agrees = λ f g mounts there. refl;
   restores = λ refusal trace before order. remount_restores ro refusal trace before;
+  file = λ t files own closed. tt;
   tells = λ lim t trace h. tells (RemountAt c t ro) c t (RemountSb ro) (remount_kept c lim t ro) trace h;
   short = λ lim t trace h. is_short (RemountAt c t ro) c t (RemountSb ro) (remount_kept c lim t ro) trace h;
   most_small = λ lim. tt;

@@ -1,5 +1,5 @@
 -- Events of a remount's loop over the mounts.
-use Rattle.mount_counts.specs.declared.remounts.RemountStep.TheVariants.{LoadsFlags, SetsHold, Sums, SetsRemount, ClearsHold, GivesUp, ClearsMark, Releases}
+use Rattle.mount_counts.specs.declared.remounts.RemountStep.TheVariants.{LoadsFlags, SetsHold, Sums, LoadsRemovedAgain, LeavesHolds, ClearsHold, GivesUp, ClearsMark, Releases}
 use Rattle.mount_counts.specs.declared.remounts.Remount.{Remount}
 use Rattle.mount_laws.proofs.MountLaws.{sets_hold as mount_sets_hold, is_skipped, sums_on, sums_to_none, sums_to_some, is_left, SeeksNone}
 use Rattle.gate_world.specs.Rules.{AtMount, IsGood, MountHoldsIn, role_of, owns}
@@ -16,7 +16,7 @@ use Rattle.gate_world.specs.Rules.{marks_of}
 use Rattle.gate_world.specs.Remounts.{giving_role, loop_role, AllBelow, remount_role}
 use Rattle.gate_world.specs.Configs.{IsWithin}
 use Rattle.gate_world.specs.Worlds.{World}
-use Rattle.mount_counts.specs.Remounts.{past_mount, let_go, give_up, past_node, at_remount}
+use Rattle.mount_counts.specs.Remounts.{past_mount, let_go, leave_holds, give_up, past_node, at_remount}
 use Rattle.gate_frames.proofs.Keeps.{by_bool}
 use Rattle.cpu_words.specs.Hooks.{HookAnswer}
 use Rattle.mount_counts.specs.declared.remounts.RemountStep.{RemountStep}
@@ -43,7 +43,12 @@ use Rattle.mount_laws.proofs.Sets.{joins_here, joins_there}
 -- what stays where the loop goes on, where holds are to be cleared, and where marks are
 past_mount_stays : (nodes mounts m : ℕ) (held : MountSet) → Stays nodes (past_mount mounts m held) 0 OffTree
 past_mount_stays nodes mounts m held =
-    by_bool (nat_lt (m + 1) mounts) (λ z. Stays nodes (if z then LoadsFlags (m + 1) held else SetsRemount held) 0 OffTree)
+    by_bool (nat_lt (m + 1) mounts) (λ z. Stays nodes (if z then LoadsFlags (m + 1) held else LoadsRemovedAgain held) 0 OffTree)
+    (refl, refl, refl) (refl, refl, refl)
+
+pub leave_holds_stays : (nodes : ℕ) (held : MountSet) → Stays nodes (leave_holds held) 0 OffTree
+leave_holds_stays nodes held =
+    by_bool (held.bits == 0) (λ z. Stays nodes (if z then Releases (Err Busy) else LeavesHolds held) 0 OffTree)
     (refl, refl, refl) (refl, refl, refl)
 
 pub let_go_stays : (nodes : ℕ) (held : MountSet) → Stays nodes (let_go held) 1 (Clearing 1)
@@ -88,13 +93,19 @@ module _ (nodes stage sb : ℕ) (dirty : ℕ → ℕ) (a : stage ≡ 0) (b : sb 
   -- past a mount
   past_mount_on : (mounts m : ℕ) (held : MountSet) → GoesOn in_loop nodes (past_mount mounts m held) stage sb dirty
   past_mount_on mounts m held =
-      by_bool (nat_lt (m + 1) mounts) (λ z. GoesOn in_loop nodes (if z then LoadsFlags (m + 1) held else SetsRemount held) stage sb dirty)
+      by_bool (nat_lt (m + 1) mounts) (λ z. GoesOn in_loop nodes (if z then LoadsFlags (m + 1) held else LoadsRemovedAgain held) stage sb dirty)
       loop_on loop_on
 
   -- where it gives up
   pub give_up_on : (m : ℕ) (held : MountSet) → GoesOn in_loop nodes (give_up m held) stage sb dirty
   give_up_on m held =
       by_bool (held.bits == 0) (λ z. GoesOn in_loop nodes (if z then Releases (Err Busy) else GivesUp m held) stage sb dirty)
+      (owner_on (Some 0) (Some 0) None None stage sb dirty tt tt) loop_on
+
+  -- where a file was found removed
+  pub leave_holds_on : (held : MountSet) → GoesOn in_loop nodes (leave_holds held) stage sb dirty
+  leave_holds_on held =
+      by_bool (held.bits == 0) (λ z. GoesOn in_loop nodes (if z then Releases (Err Busy) else LeavesHolds held) stage sb dirty)
       (owner_on (Some 0) (Some 0) None None stage sb dirty tt tt) loop_on
 
   -- where holds are to be cleared under `remount`
@@ -170,7 +181,7 @@ module _ (c : Config) (lim : IsWithin c) (w : World) (good : IsGood c w) (t : �
       let clear : hold_bit (w.words.flags m) ≡ 0 = no_hold c w good t lt m f.5.0 (ap owns e) (ap has_hold was) in
       let v : View = view_with (w.views t) (MountFlags m, Or 2) (w.words.flags m) hook
       (Go (Remounts (at_remount x (Sums m held sum))), None) in
-      flags_change c w good t lt x s e refl (Sums m held sum) v refl (refl, refl, refl, refl, refl, refl)
+      flags_change c w good t lt x s e refl (Sums m held sum) v refl (refl, refl, refl, refl, refl, refl, refl)
       (f.0, f.1, f.2, f.3, f.4, (f.5.0, f.5.1, lim.some_processor)) m word (refl, refl, refl)
       (loop_on x.nodes w.words.stage w.words.sb (marks_of w.words) k.0 k.1) (or_hold (w.words.flags m) g.bits).1
       (λ lm. subst (Mount c w good t lt x s e m word w.words.remount w.words.sb)

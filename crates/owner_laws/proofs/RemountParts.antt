@@ -5,8 +5,11 @@ use Rattle.freeze_levels.specs.Holders.{holders_in}
 use Rattle.holder_laws.specs.Roles.{Apart}
 use Rattle.gate_world.specs.Holders.{holder_role_of}
 use Rattle.gate_frames.proofs.Holders.{holders_stay}
-use Rattle.gate_world.specs.Rules.{Owner, Stages, Holding, Tree, Fitting, Known, AtMount, IsGood, owns, Part, StepKeeps, role_of, ViewFits, at_mount, Holds, IsSteady, OwnerHolds, remounts, Moves, AtLevel, SyncAt, Sections, marks_of}
-use Rattle.gate_world.specs.Fits.{Fits, PhaseFits}
+use Rattle.gate_world.specs.Rules.{Owner, Stages, Holding, Tree, Fitting, Known, AtMount, IsGood, owns, Part, StepKeeps, role_of, ViewFits, at_mount, Holds, IsSteady, OwnerHolds, remounts, Moves, AtLevel, SyncAt, Sections, marks_of, Files}
+use Rattle.gate_world.specs.Fits.{Fits, PhaseFits, HasFile, file_of}
+use Rattle.access_model.specs.States.{openers}
+use Rattle.gated_tree.specs.Nodes.{opens_in}
+use Rattle.gate_frames.proofs.Frames.{opens_left}
 use Rattle.std.proofs.Common.{refl, sym, ap, subst, inl, inr, true, false, arith, true≢false, ℕ, ◌<◌, ◌≡◌, Some, ◌⊎◌, Bool, ◌==◌, ◌||◌, ◌∙◌, None, Option}
 use Rattle.mount_counts.specs.declared.remounts.RemountStep.{RemountStep}
 use Rattle.gate_world.specs.Worlds.{World, value_at, after_step, phase_action}
@@ -17,7 +20,7 @@ use Rattle.gate_frames.proofs.Known.{IsOwnersWork, known_after}
 use Rattle.gate_world.specs.declared.work.Phase.{Phase}
 use Rattle.gate_world.specs.Remounts.{remount_owns, remount_sets, remount_role, RemountFits}
 use Rattle.mount_counts.specs.Remounts.{remount_next, remount_after, at_remount}
-use Rattle.gate_world.specs.Views.{phase_after, held_at, holds_level, added_by, taken_by, view_with}
+use Rattle.gate_world.specs.Views.{phase_after, held_at, holds_level, added_by, taken_by, view_with, has_open}
 use Rattle.gate_world.specs.declared.work.Phase.TheVariants.{Remounts}
 use Rattle.gate_world.specs.Found.{is_load}
 use Rattle.access_model.specs.Replies.{map_next}
@@ -32,8 +35,9 @@ use Rattle.gated_tree.specs.Nodes.{node_shown}
 use Rattle.gated_tree.specs.Roles.{Role as TreeRole, TreeState}
 use Rattle.tree_laws.specs.Events.{Event as TreeEvent}
 use Rattle.gate_world.specs.Configs.{IsWithin}
-use Rattle.gate_world.specs.Trees.{tree_bounds, tree_of, tree_role_of, tree_roles, is_sealed, remount_tree_role}
-use Rattle.gate_frames.proofs.Trees.{marks_right, tree_after}
+use Rattle.gate_world.specs.Trees.{tree_bounds, tree_of, tree_role_of, tree_roles, is_sealed, is_bare_at, remount_tree_role}
+use Rattle.gate_frames.proofs.Trees.{marks_right, tree_after, tree_holds, tree_then, tree_within}
+use Rattle.tree_laws.proofs.Each.{each_event}
 use Rattle.access_model.specs.declared.actions.Action.{Action}
 use Rattle.gate_world.specs.Shown.{shown, closing}
 use Rattle.access_model.specs.declared.replies.Next.{Next}
@@ -164,7 +168,8 @@ module _ (c : Config) (w : World) (good : IsGood c w) (t : ℕ) (lt : t < c.task
   abbrev pub SameCounts : View → Type 0
   SameCounts v = (held_at v ≡ held_at (w.views t)) × (holds_level v ≡ holds_level (w.views t)) ×
       (added_by v.events ≡ added_by (w.views t).events) × (taken_by v.events ≡ taken_by (w.views t).events) ×
-      (level_added_by v.events ≡ level_added_by (w.views t).events) × (level_taken_by v.events ≡ level_taken_by (w.views t).events)
+      (level_added_by v.events ≡ level_added_by (w.views t).events) × (level_taken_by v.events ≡ level_taken_by (w.views t).events) ×
+      (has_open v ≡ has_open (w.views t))
 
   -- the same, as the levels read it
   at_levels : (v : View) → SameCounts v → SameLevelCounts (w.views t) v
@@ -190,16 +195,18 @@ module _ (c : Config) (w : World) (good : IsGood c w) (t : ℕ) (lt : t < c.task
   tree_was = ap (tree_role_of (w.views t).trace) e
 
   -- the tree after an event that leaves its words, of a remount that does there what it did
-  pub tree_stays : (ws : Words) (v : View) → ws.used ≡ w.words.used → ws.node ≡ w.words.node → ws.kids ≡ w.words.kids →
-      is_sealed ws ≡ is_sealed w.words → tree_role_of v.trace v.phase ≡ remount_tree_role x.nodes s → TreeIsRight ws v
-  tree_stays ws v used node kids sealed role =
-      left_alone c w t lt Tree ws v (used, node, kids, sealed) (role ∙ sym tree_was) (good Tree)
+  pub tree_stays : (ws : Words) (v : View) → ws.used ≡ w.words.used → ws.removed ≡ w.words.removed →
+      ws.node ≡ w.words.node → ws.kids ≡ w.words.kids → is_sealed ws ≡ is_sealed w.words → is_bare_at ws ≡ is_bare_at w.words → tree_role_of v.trace v.phase ≡ remount_tree_role x.nodes s → TreeIsRight ws v
+  tree_stays ws v used removed node kids sealed bare role =
+      left_alone c w t lt Tree ws v (used, removed, node, kids, sealed, bare) (role ∙ sym tree_was) (good Tree)
 
   -- the tree of these words, where it is doing this there
   abbrev pub tree_where : Words → TreeRole → TreeState
   tree_where ws role = record {
     sealed = is_sealed ws;
+    bare = is_bare_at ws;
     used = ws.used;
+    removed = ws.removed;
     node = ws.node;
     kids = ws.kids;
     at = update (tree_roles w) t role;
@@ -211,6 +218,17 @@ module _ (c : Config) (w : World) (good : IsGood c w) (t : ℕ) (lt : t < c.task
   tree_by lim ws v role now action event =
       tree_after c w good t lt ws v lim action
       (subst (λ r. TreeEvent (tree_bounds c) (tree_of w) t (tree_where ws r) action) (sym now) event)
+
+  -- the same of two events that come at once
+  pub tree_by_two : IsWithin c → (ws : Words) (v : View) (role : TreeRole) → tree_role_of v.trace v.phase ≡ role → (mid : TreeState) →
+      (action : Option Action) → TreeEvent (tree_bounds c) (tree_of w) t mid None →
+      TreeEvent (tree_bounds c) mid t (tree_where ws role) action → TreeIsRight ws v
+  tree_by_two lim ws v role now mid action first second =
+      tree_holds c w good t lt ws v
+      (each_event (tree_bounds c) (tree_within c lim) mid
+      (each_event (tree_bounds c) (tree_within c lim) (tree_of w) (good Tree) t lt mid None first).0 t lt
+      (tree_then c w good t lt ws v) action
+      (subst (λ r. TreeEvent (tree_bounds c) mid t (tree_where ws r) action) (sym now) second)).0
 
   -- the stage holds after an event of one of the kinds
   pub stage_holds : (ws : Words) (v : View) (kind : StageEvent) → IsStageEvent c w good t lt ws v kind → StageHolds ws v
@@ -226,26 +244,31 @@ module _ (c : Config) (w : World) (good : IsGood c w) (t : ℕ) (lt : t < c.task
 
   -- each part after an event, from what it says of each mount, of the stage and of the tree
   pub each_part : (ws : Words) (v : View) → SameCounts v → SameLevelWords w.words ws → IsOffLevels v.phase →
-      ws.count ≡ w.words.count → TreeIsRight ws v →
+      ws.count ≡ w.words.count → ((n : ℕ) → opens_in (ws.node n) ≡ opens_in (w.words.node n)) → file_of v.phase ≡ None → TreeIsRight ws v →
       OwnerHolds c.tasks ws.umount ws.remount (λ y. (update w.views t v y).phase) → StageHolds ws v →
       Holds c (record { words = ws; views = update w.views t v }) Holding → ViewFits c t v →
       ((m : ℕ) → m < c.mounts → Mount m (ws.flags m) ws.remount ws.sb (role_of m v.phase)) → PartsHold ws v
-  each_part ws v same levels off ec tree owner stage holding fits own Owner k = owner
-  each_part ws v same levels off ec tree owner stage holding fits own Stages k = stage
-  each_part ws v same levels off ec tree owner stage holding fits own Holding k = holding
-  each_part ws v same levels off ec tree owner stage holding fits own Fitting k = λ y ly.
+  each_part ws v same levels off ec opens none tree owner stage holding fits own Owner k = owner
+  each_part ws v same levels off ec opens none tree owner stage holding fits own Stages k = stage
+  each_part ws v same levels off ec opens none tree owner stage holding fits own Holding k = holding
+  each_part ws v same levels off ec opens none tree owner stage holding fits own Fitting k = λ y ly.
       each_updated (λ z (u : View). ViewFits c z u) w.views t v y fits (λ ne. good Fitting y ly)
-  each_part ws v same levels off ec tree owner stage holding fits own Known k = absurd (true≢false k)
-  each_part ws v same levels off ec tree owner stage holding fits own Tree k = tree
-  each_part ws v same levels off ec tree owner stage holding fits own (AtMount m) k = λ lm.
+  each_part ws v same levels off ec opens none tree owner stage holding fits own Known k = absurd (true≢false k)
+  each_part ws v same levels off ec opens none tree owner stage holding fits own Tree k = tree
+  each_part ws v same levels off ec opens none tree owner stage holding fits own Files k = record {
+    counted = λ n ln. opens n ∙ (good Files).counted n ln ∙ sym (ap (λ f. openers f n) (opens_left c w t lt v same.6));
+    own = λ y ly. each_updated (λ z (u : View). HasFile (has_open u) (file_of u.phase)) w.views t v y
+        (subst (HasFile (has_open v)) (sym none) tt) (λ ne. (good Files).own y ly);
+  }
+  each_part ws v same levels off ec opens none tree owner stage holding fits own (AtMount m) k = λ lm.
       holds_as refl refl refl (ap (λ f. f m) ec)
       (update_map (at_mount m) w.views t v ∙ ap (update (λ y. at_mount m (w.views y)) t)
       (view_as (ap (λ g. g m) same.0) (ap (λ g. g m) same.2) (ap (λ g. g m) same.3) refl)) (own m lm)
-  each_part ws v same levels off ec tree owner stage holding fits own (AtLevel i) k =
+  each_part ws v same levels off ec opens none tree owner stage holding fits own (AtLevel i) k =
       level_left c w t lt good ws v levels (at_levels v same) off_now off i
-  each_part ws v same levels off ec tree owner stage holding fits own (SyncAt i) k =
+  each_part ws v same levels off ec opens none tree owner stage holding fits own (SyncAt i) k =
       sync_left c w t lt good ws v levels (at_levels v same) off_now off i
-  each_part ws v same levels off ec tree owner stage holding fits own Sections k =
+  each_part ws v same levels off ec opens none tree owner stage holding fits own Sections k =
       sections_left c w t lt good ws v levels (at_levels v same) off_now off
 
   -- the shown model after it: the superblock's flag alone may change
@@ -259,6 +282,7 @@ module _ (c : Config) (w : World) (good : IsGood c w) (t : ℕ) (lt : t < c.task
       (λ j. record (shown c w) {
         mounts = (ap (update (λ y. held_at (w.views y)) t) same.0 ∙ update_same (λ y. held_at (w.views y)) t) j;
         levels = (ap (update (λ y. holds_level (w.views y)) t) same.1 ∙ update_same (λ y. holds_level (w.views y)) t) j;
+        opens = (ap (update (λ y. has_open (w.views y)) t) same.6 ∙ update_same (λ y. has_open (w.views y)) t) j;
         mount_ro = ef j;
         sb_ro = h j;
         stage = es j;
@@ -294,17 +318,17 @@ module _ (c : Config) (w : World) (good : IsGood c w) (t : ℕ) (lt : t < c.task
     tree_now = ap (tree_role_of v.trace) is
 
     -- a load by the owner, after which this step comes
-    pub loads : Stays x.nodes s' (remount_sets s) (remount_tree_role x.nodes s) → StageHolds w.words v →
+    pub loads : remount_owns s' ≡ 1 → remount_sets s' ≡ remount_sets s → TreeIsRight w.words v → StageHolds w.words v →
         ((m : ℕ) → m < c.mounts → Mount m (w.words.flags m) w.words.remount w.words.sb (remount_role m s')) →
         PartsHold w.words v × (shown c (record { words = w.words; views = update w.views t v }) ≡ shown c w)
-    loads stays stage own =
-        let still : IsSteady (w.views t).phase v.phase = steady_to stays.0 stays.1 in (
+    loads owning sets tree stage own =
+        let still : IsSteady (w.views t).phase v.phase = steady_to owning sets in (
           each_part w.words v same
               (record { block_same = refl; level_same = refl; sync_same = refl; section_same = refl; whole_same = refl }) off_then
-              refl (tree_stays w.words v refl refl refl refl (tree_now ∙ stays.2)) (owner_same c w t lt good v still) stage
+              refl (λ n. refl) (ap file_of is) tree (owner_same c w t lt good v still) stage
               (holding_then w.words refl refl) fits
               (λ m lm. subst (Mount m (w.words.flags m) w.words.remount w.words.sb) (sym (ap (role_of m) is)) (own m lm)),
-          shown_still c w t lt w.words v refl refl refl refl refl refl refl still.closing_same same.0 same.1,
+          shown_still c w t lt w.words v refl refl refl refl refl refl refl still.closing_same same.0 same.1 same.6,
         )
 
     -- an event on the flags of one mount, which leaves READONLY
@@ -320,7 +344,7 @@ module _ (c : Config) (w : World) (good : IsGood c w) (t : ℕ) (lt : t < c.task
         let still : IsSteady (w.views t).phase v.phase = steady_to stays.0 stays.1 in (
           each_part ws v same
               (record { block_same = refl; level_same = refl; sync_same = refl; section_same = refl; whole_same = refl }) off_then
-              refl (tree_stays ws v refl refl refl refl (tree_now ∙ stays.2)) (owner_same c w t lt good v still)
+              refl (λ n. refl) (ap file_of is) (tree_stays ws v refl refl refl refl refl refl (tree_now ∙ stays.2)) (owner_same c w t lt good v still)
               (goes_on (update w.words.flags at f) s' v is on) (holding_then ws refl refl) fits
               (λ m lm. subst (Mount m (update w.words.flags at f m) w.words.remount w.words.sb) (sym (ap (role_of m) is))
               (elim (eqb_tells m at) [
@@ -349,7 +373,7 @@ module _ (c : Config) (w : World) (good : IsGood c w) (t : ℕ) (lt : t < c.task
         let ws : Words = record w.words { remount = set; sb = sealing } in (
           each_part ws v same
               (record { block_same = refl; level_same = refl; sync_same = refl; section_same = refl; whole_same = whole }) off_then
-              refl tree (remount_stored c w good t lt set v (ap owns e ∙ o) (ap owns is ∙ stays.0) (ap remounts is ∙ stays.1))
+              refl (λ n. refl) (ap file_of is) tree (remount_stored c w good t lt set v (ap owns e ∙ o) (ap owns is ∙ stays.0) (ap remounts is ∙ stays.1))
               stage (holding_then ws refl refl) fits
               (λ m lm. subst (Mount m (w.words.flags m) set sealing) (sym (ap (role_of m) is)) (own m lm)),
           seal_shown ws v b refl refl refl refl refl closes_same same shows,
@@ -357,37 +381,41 @@ module _ (c : Config) (w : World) (good : IsGood c w) (t : ℕ) (lt : t < c.task
 
     -- an event on the word of a node, of a remount that has no role at a mount before and after it
     pub node_changes : (n f : ℕ) (role : TreeRole) → Stays x.nodes s' (remount_sets s) role →
-        TreeIsRight (record w.words { node = update w.words.node n f }) v →
+        opens_in f ≡ opens_in (w.words.node n) → TreeIsRight (record w.words { node = update w.words.node n f }) v →
         StageHolds (record w.words { node = update w.words.node n f }) v →
         ((m : ℕ) → remount_role m s' ≡ remount_role m s) →
         let ws : Words = record w.words { node = update w.words.node n f } in
         PartsHold ws v × (shown c (record { words = ws; views = update w.views t v }) ≡
         record (shown c w) { tree = update (λ k. node_shown (w.words.node k)) n (node_shown f) })
-    node_changes n f role stays tree stage roles =
+    node_changes n f role stays still_open tree stage roles =
         let ws : Words = record w.words { node = update w.words.node n f } in
+        let opens : (k : ℕ) → opens_in (ws.node k) ≡ opens_in (w.words.node k) = λ k.
+        each_updated (λ y word. opens_in word ≡ opens_in (w.words.node y)) w.words.node n f k still_open (λ ne. refl) in
         let still : IsSteady (w.views t).phase v.phase = steady_to stays.0 stays.1 in (
           each_part ws v same
               (record { block_same = refl; level_same = refl; sync_same = refl; section_same = refl; whole_same = refl }) off_then
-              refl tree (owner_same c w t lt good v still) stage (holding_then ws refl refl) fits
+              refl opens (ap file_of is) tree (owner_same c w t lt good v still) stage (holding_then ws refl refl) fits
               (λ m lm. subst (Mount m (w.words.flags m) w.words.remount w.words.sb) (sym (ap (role_of m) is))
               (mount_stays m lm (remount_role m s') (roles m))),
           shown_as c w t lt ws v refl still.closing_same ∙
               (λ j. record (shown c w) {
                 mounts = (ap (update (λ y. held_at (w.views y)) t) same.0 ∙ update_same (λ y. held_at (w.views y)) t) j;
                 levels = (ap (update (λ y. holds_level (w.views y)) t) same.1 ∙ update_same (λ y. holds_level (w.views y)) t) j;
+                opens = (ap (update (λ y. has_open (w.views y)) t) same.6 ∙ update_same (λ y. has_open (w.views y)) t) j;
                 tree = update_map node_shown w.words.node n f j;
               }),
         )
 
-  -- a load by the owner, after which this step comes, as its event
-  pub load_event : (name : WordName) (hook : HookAnswer) (s' : RemountStep) → remount_owns s ≡ 1 →
-      Stays x.nodes s' (remount_sets s) (remount_tree_role x.nodes s) →
+  -- a load by the owner with which it comes to do something else at the tree
+  pub load_found : (name : WordName) (hook : HookAnswer) (s' : RemountStep) → remount_owns s ≡ 1 → remount_owns s' ≡ 1 →
+      remount_sets s' ≡ remount_sets s →
+      TreeIsRight w.words (view_with (w.views t) (name, Load) (read w.words name) hook (Go (Remounts (at_remount x s')), None)) →
       GoesOn (remount_stage_role x.nodes s) x.nodes s' w.words.stage w.words.sb (marks_of w.words) →
       RemountFits c s' → ((m : ℕ) → m < c.mounts → Mount m (w.words.flags m) w.words.remount w.words.sb (remount_role m s')) →
       let coming : Next Phase = Go (Remounts (at_remount x s')) in
       ((part : Part) → is_known_part part ≡ false → Holds c (after_load w t name hook coming) part) ×
       (shown c (after_load w t name hook coming) ≡ shown c w)
-  load_event name hook s' o stays on fit own =
+  load_found name hook s' o owning sets tree on fit own =
       let v : View = view_with (w.views t) (name, Load) (read w.words name) hook (Go (Remounts (at_remount x s')), None) in
       let f : PhaseFits c t (held_at (w.views t)) (holds_level (w.views t)) (Remounts (at_remount x s)) = here_fits in
       subst (λ ws. let next_world : World = record { words = ws; views = update w.views t v } in
@@ -400,23 +428,36 @@ module _ (c : Config) (w : World) (good : IsGood c w) (t : ℕ) (lt : t < c.task
         taken_load name (taken_by (w.views t).events),
         level_added_load name Load (level_added_by (w.views t).events) refl,
         level_taken_load name Load (level_taken_by (w.views t).events) refl,
+        refl,
       )
-      (f.0, f.1, f.2, f.3, f.4, fit) stays (goes_on w.words.flags s' v refl on) own)
+      (f.0, f.1, f.2, f.3, f.4, fit) owning sets tree (goes_on w.words.flags s' v refl on) own)
+
+  -- a load by the owner, after which this step comes, as its event
+  pub load_event : (name : WordName) (hook : HookAnswer) (s' : RemountStep) → remount_owns s ≡ 1 →
+      Stays x.nodes s' (remount_sets s) (remount_tree_role x.nodes s) →
+      GoesOn (remount_stage_role x.nodes s) x.nodes s' w.words.stage w.words.sb (marks_of w.words) →
+      RemountFits c s' → ((m : ℕ) → m < c.mounts → Mount m (w.words.flags m) w.words.remount w.words.sb (remount_role m s')) →
+      let coming : Next Phase = Go (Remounts (at_remount x s')) in
+      ((part : Part) → is_known_part part ≡ false → Holds c (after_load w t name hook coming) part) ×
+      (shown c (after_load w t name hook coming) ≡ shown c w)
+  load_event name hook s' o stays on fit own =
+      let v : View = view_with (w.views t) (name, Load) (read w.words name) hook (Go (Remounts (at_remount x s')), None) in
+      load_found name hook s' o stays.0 stays.1 (tree_stays w.words v refl refl refl refl refl refl stays.2) on fit own
 
   -- an event on `umount`, of a task that has no role at a mount before and after it, and does at the tree what it did
   pub umount_changes : (n : ℕ) (v : View) → SameCounts v → ViewFits c t v →
       OwnerHolds c.tasks n w.words.remount (λ y. (update w.views t v y).phase) →
       StageHolds (record w.words { umount = n }) v → IsOffLevels v.phase →
       ((m : ℕ) → role_of m v.phase ≡ remount_role m s) → tree_role_of v.trace v.phase ≡ remount_tree_role x.nodes s →
-      ((i : ℕ) → closing i v.phase ≡ 0) → holder_role_of v.phase ≡ Apart →
+      ((i : ℕ) → closing i v.phase ≡ 0) → holder_role_of v.phase ≡ Apart → file_of v.phase ≡ None →
       let ws : Words = record w.words { umount = n } in
       PartsHold ws v × (shown c (record { words = ws; views = update w.views t v }) ≡ shown c w)
-  umount_changes n v same fits owner stage off role tree close apart =
+  umount_changes n v same fits owner stage off role tree close apart no_file =
       let ws : Words = record w.words { umount = n } in (
         each_part ws v same (record { block_same = refl; level_same = refl; sync_same = refl; section_same = refl; whole_same = refl }) off
-            refl (tree_stays ws v refl refl refl refl tree) owner stage
+            refl (λ n. refl) no_file (tree_stays ws v refl refl refl refl refl refl tree) owner stage
             (holders_stay c w good t lt ws v refl refl (apart ∙ sym (ap holder_role_of e))) fits
             (λ m lm. mount_stays m lm (role_of m v.phase) (role m)),
         shown_still c w t lt ws v refl refl refl refl refl refl refl
-            (λ i. close i ∙ (sym (remount_closes_none i x.nodes s) ∙ sym (ap (closing i) e))) same.0 same.1,
+            (λ i. close i ∙ (sym (remount_closes_none i x.nodes s) ∙ sym (ap (closing i) e))) same.0 same.1 same.6,
       )

@@ -1,5 +1,5 @@
 -- The roles of a remount at each mount.
-use Rattle.mount_counts.specs.declared.remounts.RemountStep.TheVariants.{LoadsFlags, SetsHold, Sums, SetsRemount, ClearsHold, GivesUp, ClearsMark, SetsReadOnly}
+use Rattle.mount_counts.specs.declared.remounts.RemountStep.TheVariants.{LoadsFlags, SetsHold, Sums, LoadsRemovedAgain, LeavesHolds, SetsRemount, ClearsHold, GivesUp, ClearsMark, SetsReadOnly}
 use Rattle.mount_counts.specs.Roles.{Out, Summing, Role}
 use Rattle.std.proofs.Common.{Bool, ℕ, nat_lt, ◌≡◌, ◌+◌, false, ◌<◌, ◌==◌, true, arith, inl, eq-eqb, ne_eqb, if◌then◌else◌, ◌∙◌, inr, sym, ltb-true, ap, ltb-false, refl}
 use Rattle.mount_laws.proofs.MountLaws.{SeeksNone}
@@ -8,7 +8,7 @@ use Rattle.mount_counts.specs.declared.remounts.RemountStep.{RemountStep}
 use Rattle.mount_counts.specs.declared.sets.MountSet.{MountSet}
 use Rattle.gate_world.specs.Remounts.{giving_role, remount_role, loop_role, held_role, summing_role}
 use Rattle.mount_counts.specs.Sets.{has_mount}
-use Rattle.mount_counts.specs.Remounts.{let_go, give_up, past_node, past_mount}
+use Rattle.mount_counts.specs.Remounts.{let_go, leave_holds, give_up, past_node, past_mount}
 use mathlib.Core.Bool.{true}
 use Rattle.std.proofs.lemmas.Bool.{cases_Bool}
 use Rattle.std.proofs.lemmas.Bool.Decides.{eqb_tells, nat_tests}
@@ -40,6 +40,8 @@ remount_seeks m (LoadsFlags at held) = loop_seeks (has_mount held m) (nat_lt m a
 remount_seeks m (SetsHold at held) = loop_seeks (has_mount held m) (nat_lt m at)
 remount_seeks m (Sums at held sum) =
     summing_seeks (m == at) sum (loop_role (has_mount held m) (nat_lt m at)) (loop_seeks (has_mount held m) (nat_lt m at))
+remount_seeks m (LoadsRemovedAgain held) = loop_seeks (has_mount held m) true
+remount_seeks m (LeavesHolds held) = held_seeks (has_mount held m)
 remount_seeks m (SetsRemount held) = loop_seeks (has_mount held m) true
 remount_seeks m (ClearsHold held) = held_seeks (has_mount held m)
 remount_seeks m (GivesUp at held) = giving_seeks (m == at) (has_mount held m)
@@ -80,6 +82,13 @@ past_mount_role mounts at held m lm =
 -- where no mount is held, none is to be let go
 pub let_go_role : (m : ℕ) (held : MountSet) → remount_role m (let_go held) ≡ held_role (has_mount held m)
 let_go_role m held =
+    elim (eqb_tells held.bits 0) [
+      | inl z ↦ rw z.0 (sym (ap held_role (none_held held z.1 m)))
+      | inr z ↦ rw z.0 refl
+    ]
+
+pub leave_holds_role : (m : ℕ) (held : MountSet) → remount_role m (leave_holds held) ≡ held_role (has_mount held m)
+leave_holds_role m held =
     elim (eqb_tells held.bits 0) [
       | inl z ↦ rw z.0 (sym (ap held_role (none_held held z.1 m)))
       | inr z ↦ rw z.0 refl

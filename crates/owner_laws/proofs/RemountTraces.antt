@@ -10,15 +10,17 @@ use Rattle.access_model.specs.declared.errors.GateError.{GateError}
 use Rattle.access_model.specs.declared.errors.GateError.TheVariants.{Busy, Hook}
 use Rattle.access_model.specs.declared.replies.Reply.{Reply}
 use Rattle.access_model.specs.declared.replies.Reply.TheVariants.{Unit as UnitReply}
-use Rattle.access_model.specs.Histories.{mounts_of, levels_of}
-use Rattle.cpu_words.specs.declared.names.WordName.TheVariants.{Umount}
-use Rattle.cpu_words.specs.declared.events.Touch.TheVariants.{Store}
+use Rattle.access_model.specs.Histories.{mounts_of, levels_of, opens_of}
+use Rattle.cpu_words.specs.declared.names.WordName.{WordName}
+use Rattle.cpu_words.specs.declared.names.WordName.TheVariants.{Umount, Node}
+use Rattle.cpu_words.specs.declared.events.Touch.{Touch}
+use Rattle.cpu_words.specs.declared.events.Touch.TheVariants.{And, Store}
 use Rattle.cpu_words.specs.declared.sums.Sum.{Sum}
 use Rattle.cpu_words.specs.Hooks.{HookAnswer}
 use Rattle.cpu_words.specs.Touches.{wrap_add, event_of}
 use Rattle.mount_counts.specs.Phases.{has_flag}
-use Rattle.mount_counts.specs.Sets.{with_mount, without_lowest}
-use Rattle.mount_counts.specs.Remounts.{remount_from, past_mount, let_go, give_up, past_node}
+use Rattle.mount_counts.specs.Sets.{no_mounts, with_mount, without_lowest}
+use Rattle.mount_counts.specs.Remounts.{remount_from, past_mount, let_go, leave_holds, give_up, past_node}
 use Rattle.mount_counts.specs.declared.sets.MountSet.{MountSet}
 use Rattle.mount_counts.specs.declared.remounts.RemountStep.{RemountStep}
 use Rattle.mount_counts.specs.declared.remounts.RemountStep.TheVariants.{
@@ -29,6 +31,9 @@ use Rattle.mount_counts.specs.declared.remounts.RemountStep.TheVariants.{
   LoadsFlags,
   SetsHold,
   Sums,
+  LoadsRemoved,
+  LoadsRemovedAgain,
+  LeavesHolds,
   SetsRemount,
   ClearsHold,
   GivesUp,
@@ -44,10 +49,10 @@ use Rattle.gate_world.specs.declared.work.Phase.TheVariants.{Remounts}
 use Rattle.gate_world.specs.declared.views.Traced.{Traced}
 use Rattle.gate_world.specs.Views.{with_hook}
 use Rattle.gate_world.specs.Configs.{IsWithin}
-use Rattle.gate_world.specs.Found.{found_sealed, counts_loaded, sum_loaded, IsEachCount, each_event, finds_taken, cleans}
+use Rattle.gate_world.specs.Found.{found_sealed, counts_loaded, sum_loaded, IsEachCount, each_event, finds_taken, cleans, clean_found}
 use Rattle.gate_world.specs.Traces.{actions_of, IsHonestAnswer}
 use Rattle.gate_frames.proofs.Keeps.{by_bool}
-use Rattle.gate_frames.proofs.Cleans.{cleans_leave}
+use Rattle.gate_frames.proofs.Cleans.{cleans_leave, LeaveAccesses}
 use Rattle.gate_frames.proofs.Says.{SaysAfter, Kept, event_at}
 
 -- a remount of the superblock by a task, at this step
@@ -92,9 +97,12 @@ StepSays c ro Locks trace added = (each_event finds_taken trace ≡ true) × Fou
 StepSays c ro LoadsStage trace added = FoundNothing trace added
 StepSays c ro LoadsSuperblock trace added = FoundNothing trace added
 StepSays c ro SetsWritable trace added = (added ≡ []) × (ro ≡ false) × (found_sealed trace ≡ true)
+StepSays c ro LoadsRemoved trace added = IsOnItsWay ro trace added × ((m : ℕ) → counts_loaded m trace ≡ [])
 StepSays c ro (LoadsFlags m held) trace added = IsOnItsWay ro trace added × (m < c.mounts) × NoneLoaded m trace
 StepSays c ro (SetsHold m held) trace added = IsOnItsWay ro trace added × (m < c.mounts) × NoneLoaded m trace
 StepSays c ro (Sums m held sum) trace added = IsOnItsWay ro trace added × (m < c.mounts) × NoneLoaded (m + 1) trace × IsSumOf c m sum trace
+StepSays c ro (LoadsRemovedAgain held) trace added = IsOnItsWay ro trace added
+StepSays c ro (LeavesHolds held) trace added = Answers c ro (Err Busy) trace added
 StepSays c ro (SetsRemount held) trace added = IsOnItsWay ro trace added
 StepSays c ro (ClearsHold held) trace added = HasSealed ro trace added
 StepSays c ro (GivesUp m held) trace added = Answers c ro (Err Busy) trace added
@@ -131,12 +139,12 @@ lock_leaves c true answer value hook earlier added h = h
 lock_leaves c false answer value hook earlier added h = h
 
 -- the state was found, as it was asked for or not
-state_found : (c : Config) (ro b : Bool) (trace : List Traced) (added : List Action) → 0 < c.mounts → added ≡ [] → found_sealed trace ≡ b →
+state_found : (c : Config) (ro b : Bool) (trace : List Traced) (added : List Action) → added ≡ [] → found_sealed trace ≡ b →
     cleans trace ≡ [] → ((m : ℕ) → counts_loaded m trace ≡ []) → StepSays c ro (remount_from ro b) trace added
-state_found c true true trace added some none e clean loads = (rw e none, tt)
-state_found c true false trace added some none e clean loads = ((none, refl, e, clean), some, λ n q. loads n)
-state_found c false true trace added some none e clean loads = (none, refl, e)
-state_found c false false trace added some none e clean loads = (rw e none, tt)
+state_found c true true trace added none e clean loads = (rw e none, tt)
+state_found c true false trace added none e clean loads = ((none, refl, e, clean), loads)
+state_found c false true trace added none e clean loads = (none, refl, e)
+state_found c false false trace added none e clean loads = (rw e none, tt)
 
 -- the loop goes on, or is done
 past_says : (c : Config) (ro : Bool) (m : ℕ) (held : MountSet) (trace : List Traced) (added : List Action) → IsOnItsWay ro trace added →
@@ -158,6 +166,12 @@ give_up_says : (c : Config) (ro : Bool) (m : ℕ) (held : MountSet) (trace : Lis
     Answers c ro (Err Busy) trace added → StepSays c ro (give_up m held) trace added
 give_up_says c ro m held trace added h =
     by_bool (held.bits == 0) (λ b. StepSays c ro (if b then Releases (Err Busy) else GivesUp m held) trace added) h h
+
+-- the same where a file was found removed
+leave_holds_says : (c : Config) (ro : Bool) (held : MountSet) (trace : List Traced) (added : List Action) →
+    Answers c ro (Err Busy) trace added → StepSays c ro (leave_holds held) trace added
+leave_holds_says c ro held trace added h =
+    by_bool (held.bits == 0) (λ b. StepSays c ro (if b then Releases (Err Busy) else LeavesHolds held) trace added) h h
 
 -- a mark is still to be cleared, or no more
 past_node_says : (c : Config) (ro : Bool) (n : ℕ) (trace : List Traced) (added : List Action) → HasSealed ro trace added →
@@ -195,7 +209,7 @@ module _ (c : Config) (lim : IsWithin c) (t : ℕ) (ro : Bool) (value : ℕ) (ea
   loads_superblock hook h = (
     remount_from ro (not (value == 0)),
     refl,
-    state_found c ro (not (value == 0)) (longer hook LoadsSuperblock) added lim.some_mount h.0 (rw h.1 (or_false (not (value == 0))))
+    state_found c ro (not (value == 0)) (longer hook LoadsSuperblock) added h.0 (rw h.1 (or_false (not (value == 0))))
         h.2 h.3,
   )
 
@@ -203,6 +217,32 @@ module _ (c : Config) (lim : IsWithin c) (t : ℕ) (ro : Bool) (value : ℕ) (ea
   sets_writable : (hook : HookAnswer) → StepSays c ro SetsWritable earlier added → After hook SetsWritable
   sets_writable (Ok answer) h = (Releases (Ok UnitReply), refl, (rw (h.1, h.2) (ap (λ (l : List Action). SbRw ∷ l) h.0), tt))
   sets_writable (Err code) h = ((rw h.1 h.0, rw h.1 (inl (refl, refl, refl))), tt)
+
+  -- no file is found removed, or one is
+  loads_removed : (hook : HookAnswer) → StepSays c ro LoadsRemoved earlier added → After hook LoadsRemoved
+  loads_removed hook h =
+      elim (cases_Bool (value == 0)) [
+        | inl f ↦ rw f (LoadsFlags 0 no_mounts, refl, (h.0, lim.some_mount, λ n q. h.1 n))
+        | inr f ↦ rw f (
+          Releases (Err Busy),
+          refl,
+          (h.0.0 ∙ sym (busy_adds ro (longer hook LoadsRemoved)), inr (inl (rw f refl))),
+        )
+      ]
+
+  -- the same with each mount held or read-only
+  loads_removed_again : (hook : HookAnswer) (held : MountSet) → StepSays c ro (LoadsRemovedAgain held) earlier added →
+      After hook (LoadsRemovedAgain held)
+  loads_removed_again hook held h =
+      elim (cases_Bool (value == 0)) [
+        | inl f ↦ rw f (SetsRemount held, refl, h)
+        | inr f ↦ rw f (
+          leave_holds held,
+          refl,
+          leave_holds_says c ro held (longer hook (LoadsRemovedAgain held)) added
+              (h.0 ∙ sym (busy_adds ro (longer hook (LoadsRemovedAgain held))), inr (inl (rw f refl))),
+        )
+      ]
 
   -- a mount is found read-only, or writable
   loads_flags : (hook : HookAnswer) (m : ℕ) (held : MountSet) → StepSays c ro (LoadsFlags m held) earlier added →
@@ -262,7 +302,7 @@ module _ (c : Config) (lim : IsWithin c) (t : ℕ) (ro : Bool) (value : ℕ) (ea
                 refl,
                 give_up_says c ro m (with_mount held m) trace added (
                   h.0.0 ∙ sym (busy_adds ro trace),
-                  inr (m, h.1, (subst (λ n. IsEachCount n (counts_loaded m trace)) last now.0, λ q. z.1 (now.1 ∙ q))),
+                  inr (inr (m, h.1, (subst (λ n. IsEachCount n (counts_loaded m trace)) last now.0, λ q. z.1 (now.1 ∙ q)))),
                 ),
               )
             ]
@@ -309,9 +349,17 @@ module _ (c : Config) (lim : IsWithin c) (t : ℕ) (ro : Bool) (value : ℕ) (ea
   remount_event hook LoadsStage h = loads_stage hook h
   remount_event hook LoadsSuperblock h = loads_superblock hook h
   remount_event hook SetsWritable h = sets_writable hook h
+  remount_event hook LoadsRemoved h = loads_removed hook h
   remount_event hook (LoadsFlags m held) h = loads_flags hook m held h
   remount_event hook (SetsHold m held) h = sets_hold hook m held h
   remount_event hook (Sums m held sum) h = sums hook m held sum h
+  remount_event hook (LoadsRemovedAgain held) h = loads_removed_again hook held h
+  remount_event hook (LeavesHolds held) h = (
+    leave_holds (without_lowest held),
+    refl,
+    leave_holds_says c ro (without_lowest held) (longer hook (LeavesHolds held)) added
+        (h.0 ∙ busy_adds ro earlier ∙ sym (busy_adds ro (longer hook (LeavesHolds held))), h.1),
+  )
   remount_event hook (SetsRemount held) h = sets_remount hook held h
   remount_event hook (ClearsHold held) h = (
     let_go (without_lowest held),
@@ -339,10 +387,29 @@ remount_kept c lim t ro = record {
   short = λ trace phase added here. tt;
 }
 
+-- clearing a mark is no open and no close, on top of actions that leave each open file
+clean_open : (word : WordName) (touch : Touch) (found : ℕ) (actions rest before : List Action) →
+    opens_of ((actions ++ rest) ++ before) ≡ opens_of before →
+    opens_of ((clean_found word touch found actions ++ rest) ++ before) ≡ opens_of before
+clean_open (Node n) (And mask) found actions rest before h =
+    elim (cases_Bool (has_flag found 4)) [ inl f ↦ rw f h | inr f ↦ rw f h ]
+clean_open word touch found actions rest before h = h
+
+-- so is clearing each mark of a trace
+cleans_open : (trace : List Traced) (rest before : List Action) → opens_of (rest ++ before) ≡ opens_of before →
+    opens_of ((cleans trace ++ rest) ++ before) ≡ opens_of before
+cleans_open [] rest before h = h
+cleans_open (e ∷ earlier) rest before h =
+    clean_open e.event.word e.event.touch e.event.found (cleans earlier) rest before (cleans_open earlier rest before h)
+
 -- so does what a remount has added where it is refused
 pub remount_restores : (ro : Bool) (refusal : GateError) (trace : List Traced) (before : List Action) →
     (mounts_of (actions_of (RemountSb ro) (Err refusal) trace ++ before) ≡ mounts_of before) ×
-    (levels_of (actions_of (RemountSb ro) (Err refusal) trace ++ before) ≡ levels_of before)
-remount_restores true (Hook code) trace before = cleans_leave trace (SbRo ∷ []) before (refl, refl)
-remount_restores true refusal trace before = (refl, refl)
-remount_restores false refusal trace before = (refl, refl)
+    (levels_of (actions_of (RemountSb ro) (Err refusal) trace ++ before) ≡ levels_of before) ×
+    (opens_of (actions_of (RemountSb ro) (Err refusal) trace ++ before) ≡ opens_of before)
+remount_restores true (Hook code) trace before =
+    let leaves : LeaveAccesses (actions_of (RemountSb true) (Err (Hook code)) trace) before =
+    cleans_leave trace (SbRo ∷ []) before (refl, refl) in
+    (leaves.0, leaves.1, cleans_open trace (SbRo ∷ []) before refl)
+remount_restores true refusal trace before = (refl, refl, refl)
+remount_restores false refusal trace before = (refl, refl, refl)

@@ -7,7 +7,7 @@ use Rattle.cpu_words.specs.Hooks.{HookAnswer}
 use Rattle.mount_counts.specs.Phases.{has_flag}
 use Rattle.mount_counts.specs.Remounts.{at_remount}
 use Rattle.mount_counts.specs.declared.remounts.Remount.{Remount}
-use Rattle.mount_counts.specs.declared.remounts.RemountStep.TheVariants.{Locks, LoadsStage, LoadsSuperblock, SetsWritable, LoadsFlags, SetsHold, Sums, SetsRemount, ClearsHold, GivesUp, ClearsMark, SetsReadOnly, ClearsRemount, Releases}
+use Rattle.mount_counts.specs.declared.remounts.RemountStep.TheVariants.{Locks, LoadsStage, LoadsSuperblock, SetsWritable, LoadsFlags, SetsHold, Sums, LoadsRemoved, LoadsRemovedAgain, LeavesHolds, SetsRemount, ClearsHold, GivesUp, ClearsMark, SetsReadOnly, ClearsRemount, Releases}
 use Rattle.mount_counts.specs.declared.remounts.RemountStep.{RemountStep}
 use Rattle.gate_world.specs.declared.config.Config.{Config}
 use Rattle.gate_world.specs.declared.work.Phase.TheVariants.{Remounts}
@@ -34,6 +34,9 @@ module _ (c : Config) (w : World) (earlier : List World) (good : IsGood c w) (t 
   remount_waits hook (LoadsFlags m held) e = elim (cases_Bool (has_flag (w.words.flags m) 1)) [ inl h ↦ rw h tt | inr h ↦ rw h tt ]
   remount_waits hook (SetsHold m held) e = tt
   remount_waits hook (Sums m held sum) e = tt
+  remount_waits hook LoadsRemoved e = elim (eqb_tells w.words.removed 0) [ inl h ↦ rw h.0 tt | inr h ↦ rw h.0 tt ]
+  remount_waits hook (LoadsRemovedAgain held) e = elim (eqb_tells w.words.removed 0) [ inl h ↦ rw h.0 tt | inr h ↦ rw h.0 tt ]
+  remount_waits hook (LeavesHolds held) e = tt
   remount_waits hook (SetsRemount held) e = tt
   remount_waits hook (ClearsHold held) e = tt
   remount_waits hook (GivesUp m held) e = tt

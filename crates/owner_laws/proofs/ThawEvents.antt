@@ -4,7 +4,8 @@ use Rattle.std.proofs.lemmas.Bool.{ne_eqb}
 use Rattle.std.proofs.lemmas.Bool.Decides.{eqb_tells}
 use Rattle.std.specs.Prelude.{if◌then◌else◌, true, false, List, Option, Some, None, ◌==◌, Result, Ok, ◌∷◌, Err}
 use Rattle.finite_sums.specs.Sums.{update, total}
-use Rattle.access_model.specs.Histories.{mounts_of, levels_of}
+use Rattle.access_model.specs.Histories.{mounts_of, levels_of, opens_of}
+use Rattle.gate_world.specs.Views.{has_open}
 use Rattle.access_model.specs.Replies.{map_next}
 use Rattle.access_model.specs.declared.actions.Action.{Action}
 use Rattle.access_model.specs.declared.actions.Action.TheVariants.{Stage as StageAction, Leave}
@@ -275,6 +276,7 @@ module _ (c : Config) (lim : IsWithin c) (w : World) (good : IsGood c w) (t : �
       (record {
         held_same = refl;
         levels_same = refl;
+        open_same = refl;
         added_same = added_load name (added_by (w.views t).events);
         taken_same = taken_load name (taken_by (w.views t).events);
       })
@@ -321,7 +323,7 @@ module _ (c : Config) (lim : IsWithin c) (w : World) (good : IsGood c w) (t : �
       let v : View = view_at (Stage, Store 0) w.words.stage hook s' (Some (StageAction 0)) in
       let now : IsWriter v.phase = thaws_write (at_thaw x s') in
       writer_stores c w good t lt v (here_writes s e) now
-      (record { held_same = refl; levels_same = refl; added_same = refl; taken_same = refl })
+      (record { held_same = refl; levels_same = refl; open_same = refl; added_same = refl; taken_same = refl })
       (record { held_same = refl; added_same = refl; taken_same = refl })
       (goes_to s s' e fit) 0 kind
       (owner_stays c w good t lt v (here_writes s e) now w.words refl refl (own' ∙ sym (ap owns e ∙ own)))
@@ -344,7 +346,7 @@ module _ (c : Config) (lim : IsWithin c) (w : World) (good : IsGood c w) (t : �
   gives_back hook s e none answer stage sb role holding =
       let v : View = view_with (w.views t) (Umount, Store 0) w.words.umount hook (Done answer, None) in
       writer_beside c w good t lt v (here_writes s e) idle_writes
-      (record { held_same = refl; levels_same = refl; added_same = refl; taken_same = refl })
+      (record { held_same = refl; levels_same = refl; open_same = refl; added_same = refl; taken_same = refl })
       (record { held_same = refl; added_same = refl; taken_same = refl })
       tt 0 None (ReleasesStage stage sb)
       (lock_given c w good t lt v (here_writes s e) idle_writes (ap owns e ∙ ap stage_owns role) refl)
@@ -369,7 +371,7 @@ module _ (c : Config) (lim : IsWithin c) (w : World) (good : IsGood c w) (t : �
       WriterLaw c w t (record w.words { umount = n }) (tried hook n s) None
   try_law hook e n s none fit apart kind owner happens adds =
       writer_beside c w good t lt (tried hook n s) (here_writes Locks e) (thaws_write (at_thaw x s))
-      (record { held_same = refl; levels_same = refl; added_same = refl; taken_same = refl })
+      (record { held_same = refl; levels_same = refl; open_same = refl; added_same = refl; taken_same = refl })
       (record { held_same = refl; added_same = refl; taken_same = refl })
       (goes_to Locks s e fit) n None kind owner (here_stands Locks e)
       (subst (Stands (Some (Thaws (at_thaw x s)))) none (thaw_stands (at_thaw x s))) (sym (here_off_tree Locks e)) happens adds
@@ -457,7 +459,7 @@ module _ (c : Config) (lim : IsWithin c) (w : World) (good : IsGood c w) (t : �
       let now : IsWriter v.phase = thaws_write (at_thaw x s') in
       let is : holders_in w.words.holders ≡ held = found s e held finds in
       writer_holds c w good t lt v (here_writes s e) now
-      (record { held_same = refl; levels_same = refl; added_same = refl; taken_same = refl })
+      (record { held_same = refl; levels_same = refl; open_same = refl; added_same = refl; taken_same = refl })
       (record { held_same = refl; added_same = refl; taken_same = refl })
       (goes_to s s' e fit) n (Leave x.holder) None (LeavesOne x.holder sb (Owning stage' sb'))
       (owner_stays c w good t lt v (here_writes s e) now w.words refl refl (ap stage_owns role' ∙ sym (ap owns e ∙ ap stage_owns role)))
@@ -473,6 +475,7 @@ module _ (c : Config) (lim : IsWithin c) (w : World) (good : IsGood c w) (t : �
       (record {
         mounts_same = refl;
         levels_same = refl;
+        opens_same = refl;
         ro_same = refl;
         tree_same = refl;
         holders_same = ap (with_holder x.holder false) is ∙ sym packed;
@@ -582,6 +585,11 @@ module _ (c : Config) (lim : IsWithin c) (w : World) (good : IsGood c w) (t : �
     levels_here =
         up_write_adds u (λ a. levels_of (actions_after a (w.views t).actions) ≡ holds_level (w.views t)) refl refl u.step found_here
 
+    -- and each open file
+    opened_here : has_open view_here ≡ has_open (w.views t)
+    opened_here =
+        up_write_adds u (λ a. opens_of (actions_after a (w.views t).actions) ≡ has_open (w.views t)) refl refl u.step found_here
+
     -- what comes after it fits them
     fits_here : FitsHere (Reopens u) → ViewFits c t view_here
     fits_here f =
@@ -606,6 +614,7 @@ module _ (c : Config) (lim : IsWithin c) (w : World) (good : IsGood c w) (t : �
         (record {
           held_same = held_here;
           levels_same = levels_here;
+          open_same = opened_here;
           added_same = (none (added_by (w.views t).events)).0;
           taken_same = (none (taken_by (w.views t).events)).1;
         })

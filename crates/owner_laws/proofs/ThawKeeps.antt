@@ -49,6 +49,7 @@ thaw_op c holder = record {
   order_agrees = λ f g h k mounts levels there. none_agree c 0 f g h k mounts levels;
   room_agrees = λ f g mounts there. refl;
   restores = λ refusal trace before order. thaw_restores holder refusal trace before;
+  file = λ t files own closed. tt;
   tells = λ lim t trace h. tells (ThawAt c t holder) c t (ThawOp holder) (thaw_kept c t holder) trace h;
   short = λ lim t trace h. is_short (ThawAt c t holder) c t (ThawOp holder) (thaw_kept c t holder) trace h;
   most_small = λ lim. tt;

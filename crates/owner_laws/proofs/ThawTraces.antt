@@ -9,7 +9,7 @@ use Rattle.access_model.specs.declared.errors.GateError.{GateError}
 use Rattle.access_model.specs.declared.errors.GateError.TheVariants.{Invalid, Hook}
 use Rattle.access_model.specs.declared.replies.Reply.{Reply}
 use Rattle.access_model.specs.declared.replies.Reply.TheVariants.{Unit as UnitReply}
-use Rattle.access_model.specs.Histories.{mounts_of, levels_of}
+use Rattle.access_model.specs.Histories.{mounts_of, levels_of, opens_of}
 use Rattle.access_model.specs.Replies.{map_next}
 use Rattle.cpu_words.specs.declared.names.WordName.TheVariants.{Umount}
 use Rattle.cpu_words.specs.declared.events.Touch.TheVariants.{Store}
@@ -227,5 +227,6 @@ thaw_kept c t holder = record {
 -- a thaw that is refused leaves each access and each level as it was
 pub thaw_restores : (holder : Holder) (refusal : GateError) (trace : List Traced) (before : List Action) →
     (mounts_of (actions_of (ThawOp holder) (Err refusal) trace ++ before) ≡ mounts_of before) ×
-    (levels_of (actions_of (ThawOp holder) (Err refusal) trace ++ before) ≡ levels_of before)
-thaw_restores holder refusal trace before = (refl, refl)
+    (levels_of (actions_of (ThawOp holder) (Err refusal) trace ++ before) ≡ levels_of before) ×
+    (opens_of (actions_of (ThawOp holder) (Err refusal) trace ++ before) ≡ opens_of before)
+thaw_restores holder refusal trace before = (refl, refl, refl)

@@ -5,6 +5,7 @@
 pub mod fakes;
 mod freezes;
 mod levels;
+mod opens;
 pub mod reads_and_writes;
 mod remounts;
 pub mod rows;

@@ -1,6 +1,6 @@
 //! Schedules whose printed text and faults are known.
 
-use crate::{freezes, levels, remounts, trees};
+use crate::{freezes, levels, opens, remounts, trees};
 use replays::replay::replay_over;
 use replays::{Driver, ReplayFault};
 use std::alloc::Global;
@@ -151,21 +151,25 @@ static SECOND_LINES: [(&str, &str); 6] = [
     ("config twice", "config 1 1 1 2 8\nconfig x\n"),
     (
         "unknown command",
-        "fly\n0 fly\n 0 step\n0  step\nfly 0 x\n9 fly x\n",
+        "fly\n0 fly\n 0 step\n0  step\nfly 0 x\n9 fly x\nopen 0 1\n0 opens 1\n0 Close 0 0\n0 try close 0 0\n",
     ),
     (
         "wrong number of words",
         "tree 0\n0 create 0\n0 snapshot 1\n0\n0 want 0\nwords x\n0 remount\n0 run sync\n0 step 1 1\n0 trystart 1 0 0\n\
-         0 callback\n0 freeze user x\n0 thaw 1 2\n9\n9 want x\n9 remount up x\n",
+         0 callback\n0 freeze user x\n0 thaw 1 2\n9\n9 want x\n9 remount up x\n0 open\n0 open 1 0\n0 open x 0\n0 close 1\n\
+         0 close 1 0 0\n0 tryclose\n0 tryclose x\n9 close x\n0 tryclose 1 0 \n",
     ),
     (
         "no such task",
-        "1 step\n9 want x 0\n256 want 0 0\n9 change x up\n9 run write x\n9 remount up\n",
+        "1 step\n9 want x 0\n256 want 0 0\n9 change x up\n9 run write x\n9 remount up\n1 open 0\n9 open x\n\
+         9 close x y\n256 tryclose x 0\n",
     ),
     (
         "bad number",
         "0 create x fifo\n0 grow 1 x\n0 want x 0\n0 want 99999999999 0\n0 want 4294967296 0\n0 change x up\n0 step 0\n\
-         0 step 65536\n0 callback x\n0 end 1 x\n0 dropwrite x 0\n0 run sync 0\n0 run unfreeze 65536\n0 run sync x\n",
+         0 step 65536\n0 callback x\n0 end 1 x\n0 dropwrite x 0\n0 run sync 0\n0 run unfreeze 65536\n0 run sync x\n\
+         0 open x\n0 open 4294967296\n0 open \n0 close x 0\n0 close 1 x\n0 close x y\n0 tryclose 1 -1\n0 tryclose 01234567890 0\n\
+         0 tryclose  0\n",
     ),
     (
         "bad word",
@@ -209,6 +213,28 @@ pub fn calls_at_the_tree_print_what_they_do<D: Driver, R: Alloc<A = Global>>(
     rt: &R,
 ) -> Result<(), Fail> {
     print_all::<D, R>(rt, trees::TREES.as_slice())
+}
+
+/// Opens and closes.
+pub fn files_are_opened_and_closed<D: Driver, R: Alloc<A = Global>>(rt: &R) -> Result<(), Fail> {
+    print_all::<D, R>(rt, opens::OPENS.as_slice())
+}
+
+/// Opens and closes that can't be, and files that another call has changed.
+pub fn opens_and_closes_are_refused<D: Driver, R: Alloc<A = Global>>(rt: &R) -> Result<(), Fail> {
+    print_all::<D, R>(rt, opens::REFUSED.as_slice())
+}
+
+/// Remounts beside files that are open.
+pub fn a_removed_file_that_is_open_refuses_a_remount<D: Driver, R: Alloc<A = Global>>(
+    rt: &R,
+) -> Result<(), Fail> {
+    print_all::<D, R>(rt, opens::BESIDE_REMOUNTS.as_slice())
+}
+
+/// Freezes beside files that are open.
+pub fn a_last_close_waits_for_a_thaw<D: Driver, R: Alloc<A = Global>>(rt: &R) -> Result<(), Fail> {
+    print_all::<D, R>(rt, opens::BESIDE_FREEZES.as_slice())
 }
 
 /// Freezes and thaws.

@@ -9,7 +9,7 @@ use Rattle.freeze_levels.specs.declared.hooks.HookKind.{HookKind}
 use Rattle.freeze_levels.specs.declared.hooks.HookKind.TheVariants.{Sync, FreezeFs, UnfreezeFs, Reconfigure}
 use Rattle.schedule_text.specs.declared.commands.HookFailure.{HookFailure}
 use Rattle.schedule_text.specs.declared.commands.Verb.{Verb}
-use Rattle.schedule_text.specs.declared.commands.Verb.TheVariants.{Want, TryWant, Drop, Start, TryStart, End, WantWrite, DropWrite, Change, TryChange, Remount, Callback, Freeze, Thaw, Create, Remove, Grow, Move, Fault, Flush, Snapshot, TrySnapshot, Step, Run}
+use Rattle.schedule_text.specs.declared.commands.Verb.TheVariants.{Want, TryWant, Drop, Start, TryStart, End, WantWrite, DropWrite, Change, TryChange, Remount, Callback, Freeze, Thaw, Create, Remove, Grow, Move, Fault, Flush, Open, Close, TryClose, Snapshot, TrySnapshot, Step, Run}
 
 -- the verb that a word names
 unfoldable pub verb_of : List ℕ → Option Verb
@@ -34,6 +34,9 @@ verb_of word =
     if bytes_eq word (codes "move") then Some Move else
     if bytes_eq word (codes "fault") then Some Fault else
     if bytes_eq word (codes "flush") then Some Flush else
+    if bytes_eq word (codes "open") then Some Open else
+    if bytes_eq word (codes "close") then Some Close else
+    if bytes_eq word (codes "tryclose") then Some TryClose else
     if bytes_eq word (codes "snapshot") then Some Snapshot else
     if bytes_eq word (codes "trysnapshot") then Some TrySnapshot else
     if bytes_eq word (codes "step") then Some Step else
@@ -61,6 +64,9 @@ takes Grow words = words == 4
 takes Move words = words == 4
 takes Fault words = words == 3
 takes Flush words = words == 3
+takes Open words = words == 3
+takes Close words = words == 4
+takes TryClose words = words == 4
 takes Snapshot words = words == 2
 takes TrySnapshot words = words == 2
 takes Step words = words == 2 || words == 3

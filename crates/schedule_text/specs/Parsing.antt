@@ -5,7 +5,7 @@ use Rattle.gate_world.specs.declared.config.Config.{Config}
 use Rattle.access_model.specs.declared.actions.Holder.{Holder}
 use Rattle.access_model.specs.declared.actions.Holder.TheVariants.{User}
 use Rattle.access_model.specs.declared.actions.Kind.{Kind}
-use Rattle.gate_world.specs.declared.operations.Op.TheVariants.{Want as WantOp, DropMount, Start as StartOp, End as EndOp, WantWrite as WantWriteOp, DropWrite as DropWriteOp, ChangeMount, RemountSb, Callback as CallbackOp, Freeze as FreezeOp, Thaw as ThawOp, Create as CreateOp, Remove as RemoveOp, Grow as GrowOp, MoveTo as MoveToOp, Fault as FaultOp, Flush as FlushOp, Snapshot as SnapshotOp}
+use Rattle.gate_world.specs.declared.operations.Op.TheVariants.{Want as WantOp, DropMount, Start as StartOp, End as EndOp, WantWrite as WantWriteOp, DropWrite as DropWriteOp, ChangeMount, RemountSb, Callback as CallbackOp, Freeze as FreezeOp, Thaw as ThawOp, Create as CreateOp, Remove as RemoveOp, Grow as GrowOp, MoveTo as MoveToOp, Fault as FaultOp, Flush as FlushOp, Open as OpenOp, Close as CloseOp, Snapshot as SnapshotOp}
 use Rattle.schedule_text.specs.declared.commands.Line.{Line}
 use Rattle.schedule_text.specs.declared.commands.Line.TheVariants.{Skipped, Config as ConfigLine, Request as RequestLine}
 use Rattle.schedule_text.specs.declared.commands.Request.{Request}
@@ -13,7 +13,7 @@ use Rattle.schedule_text.specs.declared.commands.Request.TheVariants.{Words, Tre
 use Rattle.schedule_text.specs.declared.commands.TaskCommand.{TaskCommand}
 use Rattle.schedule_text.specs.declared.commands.TaskCommand.TheVariants.{Begin, Step as StepCommand, Run as RunCommand}
 use Rattle.schedule_text.specs.declared.commands.Verb.{Verb}
-use Rattle.schedule_text.specs.declared.commands.Verb.TheVariants.{Want, TryWant, Drop, Start, TryStart, End, WantWrite, DropWrite, Change, TryChange, Remount, Callback, Freeze, Thaw, Create, Remove, Grow, Move, Fault as FaultVerb, Flush, Snapshot, TrySnapshot, Step, Run}
+use Rattle.schedule_text.specs.declared.commands.Verb.TheVariants.{Want, TryWant, Drop, Start, TryStart, End, WantWrite, DropWrite, Change, TryChange, Remount, Callback, Freeze, Thaw, Create, Remove, Grow, Move, Fault as FaultVerb, Flush, Open, Close, TryClose, Snapshot, TrySnapshot, Step, Run}
 use Rattle.schedule_text.specs.declared.faults.Fault.{Fault}
 use Rattle.schedule_text.specs.declared.faults.Fault.TheVariants.{ConfigExpected, ConfigTwice, UnknownCommand, WrongNumberOfWords, NoSuchTask, BadNumber, BadWord}
 use Rattle.schedule_text.specs.Numbers.{is_digits, number_of, byte_of, code_of}
@@ -197,6 +197,19 @@ flush_of rest = do
   file ← byte_at rest
   Ok (Begin (FlushOp file))
 
+-- the argument of `open`: a file
+unfoldable pub open_of : List ℕ → Result TaskCommand Fault
+open_of rest = do
+  file ← byte_at rest
+  Ok (Begin (OpenOp file))
+
+-- the arguments of `close` and `tryclose`: a file and a processor
+unfoldable pub close_of : List ℕ → Bool → Result TaskCommand Fault
+close_of rest wait = do
+  file ← byte_at rest
+  cpu ← byte_at (after_word rest)
+  Ok (Begin (CloseOp file cpu wait))
+
 -- the argument of `step`, where there is one: the code by which a hook fails
 unfoldable pub step_of : List ℕ → Result TaskCommand Fault
 step_of rest = do
@@ -232,6 +245,9 @@ arguments_of Grow rest words = grow_of rest
 arguments_of Move rest words = move_of rest
 arguments_of FaultVerb rest words = fault_of rest
 arguments_of Flush rest words = flush_of rest
+arguments_of Open rest words = open_of rest
+arguments_of Close rest words = close_of rest true
+arguments_of TryClose rest words = close_of rest false
 arguments_of Snapshot rest words = Ok (Begin (SnapshotOp true))
 arguments_of TrySnapshot rest words = Ok (Begin (SnapshotOp false))
 arguments_of Step rest words = if words == 2 then Ok (StepCommand (Ok tt)) else step_of rest

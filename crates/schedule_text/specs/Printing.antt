@@ -2,7 +2,7 @@
 use Rattle.std.specs.Prelude.{ℕ, Bool, true, false, List, [], ◌++◌, codes, decimal, Option, Some, None, Result, Ok, Err}
 use Rattle.access_model.specs.Errors.{number_of, name_of}
 use Rattle.access_model.specs.declared.actions.Action.{Action}
-use Rattle.access_model.specs.declared.actions.Action.TheVariants.{Grant, Return, MountRo, MountRw, SbRo, SbRw, Stage, Hold, Leave, Pass, Reopen, Create, Remove, Grow, MoveTo, Dirty, Clean}
+use Rattle.access_model.specs.declared.actions.Action.TheVariants.{Grant, Return, MountRo, MountRw, SbRo, SbRw, Stage, Hold, Leave, Pass, Reopen, Create, Remove, Grow, MoveTo, Dirty, Clean, Open, Close}
 use Rattle.access_model.specs.declared.actions.Holder.{Holder}
 use Rattle.access_model.specs.declared.actions.Holder.TheVariants.{Kernel, User}
 use Rattle.access_model.specs.declared.actions.Gate.{Gate}
@@ -18,7 +18,7 @@ use Rattle.cpu_words.specs.declared.events.Event.{Event}
 use Rattle.cpu_words.specs.declared.events.Touch.{Touch}
 use Rattle.cpu_words.specs.declared.events.Touch.TheVariants.{Load, Store, Add, Sub, Or, And, Swap, Cas}
 use Rattle.cpu_words.specs.declared.names.WordName.{WordName}
-use Rattle.cpu_words.specs.declared.names.WordName.TheVariants.{Umount, Stage as StageWord, Holders as HoldersWord, SbFlags, Remount, MountFlags, MountCount, Block, Sync, LevelCount, Section, Used, Node, Kids}
+use Rattle.cpu_words.specs.declared.names.WordName.TheVariants.{Umount, Stage as StageWord, Holders as HoldersWord, SbFlags, Remount, Removed, MountFlags, MountCount, Block, Sync, LevelCount, Section, Used, Node, Kids}
 
 -- a text and a number right after it
 abbrev pub numbered : List ℕ → ℕ → List ℕ
@@ -35,6 +35,7 @@ word_text StageWord = codes "stage"
 word_text HoldersWord = codes "holders"
 word_text SbFlags = codes "sb"
 word_text Remount = codes "remount"
+word_text Removed = codes "removed"
 word_text (MountFlags mount) = numbered (codes "mount") mount ++ codes ".flags"
 word_text (MountCount mount cpu) = count_name (codes "mount") mount cpu
 word_text (Block level) = numbered (codes "block") level
@@ -116,6 +117,8 @@ action_text (Grow node blocks) = pair_text (codes "grow ") node blocks
 action_text (MoveTo node dir) = pair_text (codes "move ") node dir
 action_text (Dirty node) = numbered (codes "dirty ") node
 action_text (Clean node) = numbered (codes "clean ") node
+action_text (Open node) = numbered (codes "open ") node
+action_text (Close node) = numbered (codes "close ") node
 
 -- the action that an event added, after a space
 abbrev pub added_text : Option Action → List ℕ
@@ -201,13 +204,22 @@ held_mount_line task mount count =
 unfoldable pub held_level_line : ℕ → ℕ → List ℕ
 held_level_line task level = numbered (codes "task ") task ++ numbered (codes " level ") level ++ codes "\n"
 
+-- that a task has a file open
+unfoldable pub open_file_line : ℕ → ℕ → List ℕ
+open_file_line task file = numbered (codes "task ") task ++ numbered (codes " open ") file ++ codes "\n"
+
 -- whether a node is dirty
 abbrev pub mark_text : Bool → List ℕ
-mark_text true = codes " dirty\n"
-mark_text false = codes " clean\n"
+mark_text true = codes " dirty"
+mark_text false = codes " clean"
+
+-- whether a file is removed, at the end of its line
+abbrev pub removed_text : Bool → List ℕ
+removed_text true = codes " removed\n"
+removed_text false = codes "\n"
 
 -- a node of the tree
 unfoldable pub node_line : ℕ → NodeInfo → List ℕ
 node_line node info =
     numbered (codes "node ") node ++ kind_name info.kind ++ numbered (codes " ") info.parent ++ numbered (codes " ") info.size ++
-    mark_text info.dirty
+    mark_text info.dirty ++ removed_text info.removed

@@ -72,6 +72,9 @@ pub enum Verb {
     Move,
     Fault,
     Flush,
+    Open,
+    Close,
+    TryClose,
     Snapshot,
     TrySnapshot,
     Step,
@@ -126,6 +129,12 @@ impl Verb {
             Some(Verb::Fault)
         } else if word == b"flush".as_slice() {
             Some(Verb::Flush)
+        } else if word == b"open".as_slice() {
+            Some(Verb::Open)
+        } else if word == b"close".as_slice() {
+            Some(Verb::Close)
+        } else if word == b"tryclose".as_slice() {
+            Some(Verb::TryClose)
         } else if word == b"snapshot".as_slice() {
             Some(Verb::Snapshot)
         } else if word == b"trysnapshot".as_slice() {
@@ -148,9 +157,9 @@ impl Verb {
                 words == 4
             }
             Verb::WantWrite | Verb::DropWrite | Verb::Change | Verb::TryChange => words == 4,
-            Verb::Create | Verb::Grow | Verb::Move => words == 4,
+            Verb::Create | Verb::Grow | Verb::Move | Verb::Close | Verb::TryClose => words == 4,
             Verb::Remount | Verb::Callback => words == 3,
-            Verb::Remove | Verb::Fault | Verb::Flush => words == 3,
+            Verb::Remove | Verb::Fault | Verb::Flush | Verb::Open => words == 3,
             Verb::Snapshot | Verb::TrySnapshot => words == 2,
             Verb::Freeze | Verb::Thaw | Verb::Step => words == 2 || words == 3,
             Verb::Run => words == 2 || words == 4,

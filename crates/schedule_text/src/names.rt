@@ -1,7 +1,7 @@
 //! How words, events, actions and replies are printed.
 
 ghost use Rattle.std.specs.Prelude.{◌≡◌, ◌++◌, codes, OnOk};
-ghost use Rattle.schedule_text.specs.Printing.{count_name, word_text, word_line, kind_text, event_text, event_line, gate_text, pair_text, held_text, holder_line, action_text, kind_name, reply_text, refusal_text, answer_line, refused_line, idle_line, waiting_line, model_line, read_only_mount_line, held_mount_line, held_level_line, node_line, numbered};
+ghost use Rattle.schedule_text.specs.Printing.{count_name, word_text, word_line, kind_text, event_text, event_line, gate_text, pair_text, held_text, holder_line, action_text, kind_name, reply_text, refusal_text, answer_line, refused_line, idle_line, waiting_line, model_line, read_only_mount_line, held_mount_line, held_level_line, open_file_line, node_line, numbered};
 ghost use Rattle.access_model.specs.declared.actions.Action.TheVariants.{Create};
 
 use crate::output::Output;
@@ -21,6 +21,7 @@ impl Output {
             WordName::Holders => self.text(b"holders"),
             WordName::SbFlags => self.text(b"sb"),
             WordName::Remount => self.text(b"remount"),
+            WordName::Removed => self.text(b"removed"),
             WordName::MountFlags(mount) => {
                 self.numbered(b"mount", u64::from(mount))?;
                 self.text(b".flags")
@@ -132,6 +133,8 @@ impl Output {
             Action::MoveTo { node, dir } => self.pair(b"move ", node, u64::from(dir)),
             Action::Dirty(node) => self.numbered(b"dirty ", u64::from(node)),
             Action::Clean(node) => self.numbered(b"clean ", u64::from(node)),
+            Action::Open(node) => self.numbered(b"open ", u64::from(node)),
+            Action::Close(node) => self.numbered(b"close ", u64::from(node)),
         }
     }
 
@@ -279,7 +282,17 @@ impl Output {
         self.text(b"\n")
     }
 
-    /// A node: `node N file|dir PARENT SIZE clean|dirty`.
+    /// That a task has a file open.
+    #[tactic(auto, unfolding(crate::specs::Printing::open_file_line))]
+    pub fn open_file_line(&mut self, task: u8, file: u8) -> Result<(), AllocError>
+        ensures { OnOk result (self.new.bytes.items ≡ self.old.bytes.items ++ open_file_line task file) }
+    {
+        self.numbered(b"task ", u64::from(task))?;
+        self.numbered(b" open ", u64::from(file))?;
+        self.text(b"\n")
+    }
+
+    /// A node: `node N file|dir PARENT SIZE clean|dirty`, and `removed` where it is a file that was removed while open.
     #[tactic(auto, unfolding(crate::specs::Printing::node_line))]
     pub fn node_line(&mut self, node: u8, info: NodeInfo) -> Result<(), AllocError>
         ensures { OnOk result (self.new.bytes.items ≡ self.old.bytes.items ++ node_line node info) }
@@ -288,7 +301,8 @@ impl Output {
         self.text(kind_name(info.kind))?;
         self.numbered(b" ", u64::from(info.parent))?;
         self.numbered(b" ", u64::from(info.size))?;
-        self.text(if info.dirty { b" dirty\n" } else { b" clean\n" })
+        self.text(if info.dirty { b" dirty" } else { b" clean" })?;
+        self.text(if info.removed { b" removed\n" } else { b"\n" })
     }
 }
 

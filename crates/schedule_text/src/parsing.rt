@@ -1,7 +1,7 @@
 //! From a line to what it asks for.
 
 ghost use Rattle.std.specs.Prelude.{◌≡◌};
-ghost use Rattle.schedule_text.specs.Parsing.{parsed, is_skipped, config_line, config_of, command_line, alone, task_line, task_of, arguments_of, want_of, drop_of, start_of, end_of, want_write_of, drop_write_of, change_of, remount_of, callback_of, freeze_of, thaw_of, create_of, remove_of, grow_of, move_of, fault_of, flush_of, step_of, run_of, number_at, byte_at, code_at, hook_at, holder_at, holder_given, kind_at, read_only_at, read_only_of};
+ghost use Rattle.schedule_text.specs.Parsing.{parsed, is_skipped, config_line, config_of, command_line, alone, task_line, task_of, arguments_of, want_of, drop_of, start_of, end_of, want_write_of, drop_write_of, change_of, remount_of, callback_of, freeze_of, thaw_of, create_of, remove_of, grow_of, move_of, fault_of, flush_of, open_of, close_of, step_of, run_of, number_at, byte_at, code_at, hook_at, holder_at, holder_given, kind_at, read_only_at, read_only_of};
 
 use crate::commands::{
     HookFailure, Line, Request, TaskCommand, Verb, holder_named, hook_named, kind_named,
@@ -162,6 +162,9 @@ fn arguments_of(verb: Verb, rest: &[u8], words: usize) -> Result<TaskCommand, Fa
         Verb::Move => move_of(rest),
         Verb::Fault => fault_of(rest),
         Verb::Flush => flush_of(rest),
+        Verb::Open => open_of(rest),
+        Verb::Close => close_of(rest, true),
+        Verb::TryClose => close_of(rest, false),
         Verb::Snapshot => Ok(TaskCommand::Begin(Op::Snapshot { wait: true })),
         Verb::TrySnapshot => Ok(TaskCommand::Begin(Op::Snapshot { wait: false })),
         Verb::Step => {
@@ -329,6 +332,23 @@ fn flush_of(rest: &[u8]) -> Result<TaskCommand, Fault>
 {
     let file = byte_at(rest)?;
     Ok(TaskCommand::Begin(Op::Flush { file }))
+}
+
+#[tactic(auto, unfolding(crate::specs::Parsing::open_of))]
+fn open_of(rest: &[u8]) -> Result<TaskCommand, Fault>
+    ensures { result ≡ open_of rest.now }
+{
+    let file = byte_at(rest)?;
+    Ok(TaskCommand::Begin(Op::Open { file }))
+}
+
+#[tactic(auto, unfolding(crate::specs::Parsing::close_of))]
+fn close_of(rest: &[u8], wait: bool) -> Result<TaskCommand, Fault>
+    ensures { result ≡ close_of rest.now wait }
+{
+    let file = byte_at(rest)?;
+    let cpu = byte_at(after_word(rest))?;
+    Ok(TaskCommand::Begin(Op::Close { file, cpu, wait }))
 }
 
 #[tactic(auto, unfolding(crate::specs::Parsing::step_of))]

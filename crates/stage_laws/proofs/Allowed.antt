@@ -126,7 +126,7 @@ module _ (l : Limits) (x : Stages) (h : Holds l.tasks l.nodes x) (t : ℕ) (lt :
       let k : (x.stage ≡ 0) × (suc below ≤ 3) = relies (Reopening (suc below)) e in
       subst (MayDo l s t) (some_inj a) (omega (arith, k.1), at_stage 0 k.0, own_levels (Reopening (suc below)) e refl)
   may (SetsRemount clean) x' (e, c, p) action a asks =
-      may_be SbRo action a asks (λ ask. (at_stage 0 (relies (Owning (Some 0) (Some 0)) e).0, ask))
+      may_be SbRo action a asks (λ ask. (at_stage 0 (relies (Owning (Some 0) (Some 0)) e).0, ask.0, ask.1))
   may (CancelsRemount clean) x' (e, p) action a asks = subst (MayDo l s t) (some_inj a) (at_stage 0 (relies (Remounting 0 clean) e).0)
   may (SetsWritable sb) x' (e, p) action a asks = subst (MayDo l s t) (some_inj a) (at_stage 0 (relies (Owning (Some 0) sb) e).0)
   may (ClearsMark node) x' (e, p) action a asks =

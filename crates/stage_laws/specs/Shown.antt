@@ -5,7 +5,7 @@ use Rattle.access_model.specs.declared.actions.Action.{Action}
 use Rattle.access_model.specs.declared.actions.Action.TheVariants.{SbRo, Stage, Hold, Leave, Pass, Clean}
 use Rattle.access_model.specs.declared.actions.Gate.TheVariants.{Mount, Level}
 use Rattle.access_model.specs.Holders.{held_by, is_unheld}
-use Rattle.access_model.specs.States.{Limits, State, NobodyHolds, IsFile, is_dirty}
+use Rattle.access_model.specs.States.{Limits, State, NobodyHolds, IsFile, is_dirty, NoneRemoved}
 use Rattle.access_model.specs.Actions.{after_action}
 use Rattle.stage_laws.specs.Roles.{StageRole, sums}
 
@@ -27,10 +27,10 @@ pub record ShowsStages (tasks stage sb remount : ℕ) (block : ℕ → ℕ) (at 
 abbrev pub ShowsMarks : ℕ → (ℕ → ℕ) → State → Type 0
 ShowsMarks nodes dirty s = (n : ℕ) → n < nodes → dirty n ≡ 0 → is_dirty (s.tree n) ≡ false
 
--- What an action asks of other parts: nobody holds a mount; where all is frozen, no freeze is held; this one holds no freeze, or
+-- What an action asks of other parts: nobody holds a mount, and no file is removed; where all is frozen, no freeze is held; this one holds no freeze, or
 -- holds one; nobody holds the level, whose sum was 0; the node is a file.
 abbrev pub AsksOthers : Limits → State → Action → Type 0
-AsksOthers l s SbRo = (m : ℕ) → m < l.mounts → NobodyHolds l s (Mount m)
+AsksOthers l s SbRo = ((m : ℕ) → m < l.mounts → NobodyHolds l s (Mount m)) × NoneRemoved l s
 AsksOthers l s (Stage zero) = s.stage ≡ 4 → is_unheld s.holders ≡ true
 AsksOthers l s (Hold holder) = held_by s.holders holder ≡ false
 AsksOthers l s (Leave holder) = held_by s.holders holder ≡ true

@@ -8,10 +8,10 @@ use Rattle.schedule_text.specs.declared.commands.Request.{Request}
 use Rattle.schedule_text.specs.declared.commands.Request.TheVariants.{Words, Tree, Model, Task}
 use Rattle.schedule_text.specs.declared.commands.TaskCommand.{TaskCommand}
 use Rattle.schedule_text.specs.declared.commands.Verb.{Verb}
-use Rattle.schedule_text.specs.declared.commands.Verb.TheVariants.{Want, TryWant, Drop, Start, TryStart, End, WantWrite, DropWrite, Change, TryChange, Remount, Callback, Freeze, Thaw, Create, Remove, Grow, Move, Fault as FaultVerb, Flush, Snapshot, TrySnapshot, Step, Run}
+use Rattle.schedule_text.specs.declared.commands.Verb.TheVariants.{Want, TryWant, Drop, Start, TryStart, End, WantWrite, DropWrite, Change, TryChange, Remount, Callback, Freeze, Thaw, Create, Remove, Grow, Move, Fault as FaultVerb, Flush, Open, Close, TryClose, Snapshot, TrySnapshot, Step, Run}
 use Rattle.schedule_text.specs.declared.faults.Fault.{Fault}
 use Rattle.schedule_text.specs.declared.faults.Fault.TheVariants.{ConfigExpected, ConfigTwice, UnknownCommand, WrongNumberOfWords, NoSuchTask, BadNumber, BadWord, ReadFailed, WriteFailed, Refused}
-use Rattle.schedule_text.specs.Parsing.{◌>>=◌, expect, number_at, byte_at, code_at, hook_at, holder_at, holder_given, read_only_at, want_of, drop_of, start_of, end_of, want_write_of, drop_write_of, change_of, remount_of, callback_of, freeze_of, thaw_of, kind_at, create_of, remove_of, grow_of, move_of, fault_of, flush_of, step_of, run_of, arguments_of, task_line, alone, command_line, config_of, config_line, line_for, parsed, task_of}
+use Rattle.schedule_text.specs.Parsing.{◌>>=◌, expect, number_at, byte_at, code_at, hook_at, holder_at, holder_given, read_only_at, want_of, drop_of, start_of, end_of, want_write_of, drop_write_of, change_of, remount_of, callback_of, freeze_of, thaw_of, kind_at, create_of, remove_of, grow_of, move_of, fault_of, flush_of, open_of, close_of, step_of, run_of, arguments_of, task_line, alone, command_line, config_of, config_line, line_for, parsed, task_of}
 use Rattle.schedule_text.specs.Words.{first_word, after_word, word_count}
 use Rattle.schedule_text.specs.Commands.{verb_of, takes}
 use Rattle.schedule_text.specs.Numbers.{is_digits}
@@ -199,6 +199,16 @@ flush_own : (rest : List ℕ) → FailsByOwn (flush_of rest)
 unfolding flush_of
 flush_own rest = then_own _ _ (byte_own rest) (λ (n : ℕ). ok_own _)
 
+-- the argument of an opening
+open_own : (rest : List ℕ) → FailsByOwn (open_of rest)
+unfolding open_of
+open_own rest = then_own _ _ (byte_own rest) (λ (n : ℕ). ok_own _)
+
+-- the arguments of a closing
+close_own : (rest : List ℕ) (wait : Bool) → FailsByOwn (close_of rest wait)
+unfolding close_of
+close_own rest wait = then_own _ _ (byte_own rest) (λ (n : ℕ). then_own _ _ (byte_own (after_word rest)) (λ (p : ℕ). ok_own _))
+
 -- the argument of a step
 step_own : (rest : List ℕ) → FailsByOwn (step_of rest)
 unfolding step_of
@@ -232,6 +242,9 @@ arguments_own Grow rest words = grow_own rest
 arguments_own Move rest words = move_own rest
 arguments_own FaultVerb rest words = page_fault_own rest
 arguments_own Flush rest words = flush_own rest
+arguments_own Open rest words = open_own rest
+arguments_own Close rest words = close_own rest true
+arguments_own TryClose rest words = close_own rest false
 arguments_own Snapshot rest words = ok_own _
 arguments_own TrySnapshot rest words = ok_own _
 arguments_own Step rest words = if_own _ _ _ (ok_own _) (step_own rest)

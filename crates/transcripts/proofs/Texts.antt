@@ -4,7 +4,7 @@ use Rattle.std.specs.List.{flat_map}
 use Rattle.std.proofs.lemmas.List.{flat_map_more}
 use Rattle.std.proofs.lemmas.List.Folds.{flat_map-map}
 use Rattle.cpu_words.specs.declared.names.WordName.{WordName}
-use Rattle.cpu_words.specs.declared.names.WordName.TheVariants.{Umount, Stage, Holders, SbFlags, Remount, Used}
+use Rattle.cpu_words.specs.declared.names.WordName.TheVariants.{Umount, Stage, Holders, SbFlags, Remount, Removed, Used}
 use Rattle.transcripts.specs.Transcript.{Play, count_up, nonzero_line, mount_part, level_part, section_line, node_word_line, kids_line, tree_words_text, words_text}
 
 -- the texts of one number more
@@ -50,31 +50,32 @@ two_and_counts f g first second old mid more new i n a b h e =
     let rest = f second ++ flat_map f (map g (count_up n)) in
     one_and_counts f g second mid more new i n b h e ∙ ap (λ (l : List ℕ). l ++ rest) a ∙ assoc old (f first) rest
 
--- ten texts, one behind the other, as `words` prints them
-ten : (o a b c d e f g h i j : List ℕ) →
-    (((((((((o ++ a) ++ b) ++ c) ++ d) ++ e) ++ f) ++ g) ++ h) ++ i) ++ j
-    ≡ o ++ ((((a ++ (b ++ (c ++ (d ++ (e ++ []))))) ++ f) ++ (g ++ (h ++ (i ++ [])))) ++ j)
-ten o a b c d e f g h i j = simp (append_assoc, append-nil)
+-- eleven texts, one behind the other, as `words` prints them
+eleven : (o a b c d e f g h i j k : List ℕ) →
+    ((((((((((o ++ a) ++ b) ++ c) ++ d) ++ e) ++ f) ++ g) ++ h) ++ i) ++ j) ++ k
+    ≡ o ++ ((((a ++ (b ++ (c ++ (d ++ (e ++ (f ++ [])))))) ++ g) ++ (h ++ (i ++ (j ++ [])))) ++ k)
+eleven o a b c d e f g h i j k = simp (append_assoc, append-nil)
 
--- ten texts that are printed in turn
-joined : (j i h g f e d c b a o : List ℕ) (tj ti th tg tf te td tc tb ta : List ℕ) → j ≡ i ++ tj →
+-- eleven texts that are printed in turn
+joined : (k j i h g f e d c b a o : List ℕ) (tk tj ti th tg tf te td tc tb ta : List ℕ) → k ≡ j ++ tk → j ≡ i ++ tj →
     i ≡ h ++ ti → h ≡ g ++ th → g ≡ f ++ tg → f ≡ e ++ tf → e ≡ d ++ te → d ≡ c ++ td → c ≡ b ++ tc → b ≡ a ++ tb → a ≡ o ++ ta →
-    j ≡ (((((((((o ++ ta) ++ tb) ++ tc) ++ td) ++ te) ++ tf) ++ tg) ++ th) ++ ti) ++ tj
-joined j i h g f e d c b a o tj ti th tg tf te td tc tb ta ej ei eh eg ef ee ed ec eb ea = cc
+    k ≡ ((((((((((o ++ ta) ++ tb) ++ tc) ++ td) ++ te) ++ tf) ++ tg) ++ th) ++ ti) ++ tj) ++ tk
+joined k j i h g f e d c b a o tk tj ti th tg tf te td tc tb ta ek ej ei eh eg ef ee ed ec eb ea = cc
 
--- what `words` prints: five words, the mounts, three levels and the sections
-pub all_words : (p : Play) (o a b c d e f g h i j : List ℕ) → a ≡ o ++ nonzero_line p.world Umount → b ≡ a ++ nonzero_line p.world Stage →
+-- what `words` prints: six words, the mounts, three levels and the sections
+pub all_words : (p : Play) (o a b c d e f g h i j k : List ℕ) → a ≡ o ++ nonzero_line p.world Umount → b ≡ a ++ nonzero_line p.world Stage →
     c ≡ b ++ nonzero_line p.world Holders → d ≡ c ++ nonzero_line p.world SbFlags → e ≡ d ++ nonzero_line p.world Remount →
-    f ≡ e ++ flat_map (mount_part p) (count_up p.config.mounts) → g ≡ f ++ level_part p 1 → h ≡ g ++ level_part p 2 →
-    i ≡ h ++ level_part p 3 → j ≡ i ++ flat_map (section_line p) (count_up p.config.tasks) → j ≡ o ++ words_text p
+    f ≡ e ++ nonzero_line p.world Removed → g ≡ f ++ flat_map (mount_part p) (count_up p.config.mounts) → h ≡ g ++ level_part p 1 →
+    i ≡ h ++ level_part p 2 → j ≡ i ++ level_part p 3 → k ≡ j ++ flat_map (section_line p) (count_up p.config.tasks) →
+    k ≡ o ++ words_text p
 unfolding words_text
-all_words p o a b c d e f g h i j ea eb ec ed ee ef eg eh ei ej =
+all_words p o a b c d e f g h i j k ea eb ec ed ee ef eg eh ei ej ek =
     let line = nonzero_line p.world in
     let mounts = flat_map (mount_part p) (count_up p.config.mounts) in
     let sections = flat_map (section_line p) (count_up p.config.tasks) in
-    let t = ten o (line Umount) (line Stage) (line Holders) (line SbFlags) (line Remount) mounts (level_part p 1) (level_part p 2)
-    (level_part p 3) sections in
-    joined j i h g f e d c b a o _ _ _ _ _ _ _ _ _ _ ej ei eh eg ef ee ed ec eb ea ∙ t
+    let t = eleven o (line Umount) (line Stage) (line Holders) (line SbFlags) (line Remount) (line Removed) mounts (level_part p 1)
+    (level_part p 2) (level_part p 3) sections in
+    joined k j i h g f e d c b a o _ _ _ _ _ _ _ _ _ _ _ ek ej ei eh eg ef ee ed ec eb ea ∙ t
 
 -- what `tree` prints: the blocks charged, the nodes and the children
 pub all_tree_words : (p : Play) (o a b c : List ℕ) → a ≡ o ++ nonzero_line p.world Used →

@@ -12,7 +12,7 @@ use Rattle.access_model.specs.States.{State}
 use Rattle.access_model.specs.Histories.{Done, end_of}
 use Rattle.cpu_words.specs.Hooks.{HookAnswer}
 use Rattle.cpu_words.specs.declared.names.WordName.{WordName}
-use Rattle.cpu_words.specs.declared.names.WordName.TheVariants.{Umount, Stage, Holders, SbFlags, Remount, MountFlags, MountCount, Block, Sync, LevelCount, Section, Used, Node, Kids}
+use Rattle.cpu_words.specs.declared.names.WordName.TheVariants.{Umount, Stage, Holders, SbFlags, Remount, Removed, MountFlags, MountCount, Block, Sync, LevelCount, Section, Used, Node, Kids}
 use Rattle.cpu_words.specs.Words.{read}
 use Rattle.gate_world.specs.declared.config.Config.{Config}
 use Rattle.gate_world.specs.Worlds.{World, Entry, Begins, Steps, happens, action_of, task_of, with_action, opening}
@@ -32,7 +32,7 @@ use Rattle.schedule_text.specs.declared.lines.Front.TheVariants.{Line as WholeLi
 use Rattle.schedule_text.specs.Commands.{failing_answer}
 use Rattle.schedule_text.specs.Lines.{front_of}
 use Rattle.schedule_text.specs.Parsing.{parsed}
-use Rattle.schedule_text.specs.Printing.{word_line, refused_line, model_line, holder_line, read_only_mount_line, held_mount_line, held_level_line, node_line}
+use Rattle.schedule_text.specs.Printing.{word_line, refused_line, model_line, holder_line, read_only_mount_line, held_mount_line, held_level_line, open_file_line, node_line}
 use Rattle.transcripts.specs.Printing.{step_text, ended_text}
 use Rattle.transcripts.specs.Limits.{is_config}
 
@@ -90,7 +90,7 @@ section_line p t = nonzero_line p.world (Section t)
 -- `words`: each word from `umount` to the last section that isn't 0
 unfoldable pub words_text : Play → List ℕ
 words_text p =
-    words_of p (Umount ∷ Stage ∷ Holders ∷ SbFlags ∷ Remount ∷ []) ++ flat_map (mount_part p) (count_up p.config.mounts) ++
+    words_of p (Umount ∷ Stage ∷ Holders ∷ SbFlags ∷ Remount ∷ Removed ∷ []) ++ flat_map (mount_part p) (count_up p.config.mounts) ++
     flat_map (level_part p) (1 ∷ 2 ∷ 3 ∷ []) ++ flat_map (section_line p) (count_up p.config.tasks)
 
 -- what is printed of a node's word, and of the children charged to it
@@ -136,6 +136,15 @@ inside_line false t i = []
 abbrev pub level_line : State → ℕ → ℕ → List ℕ
 level_line s t i = inside_line (s.levels t i) t i
 
+-- that a task has a file open, where it has
+abbrev pub when_open : Bool → ℕ → ℕ → List ℕ
+when_open true t n = open_file_line t n
+when_open false t n = []
+
+-- the same of a state
+abbrev pub open_line : State → ℕ → ℕ → List ℕ
+open_line s t n = when_open (s.opens t n) t n
+
 -- a node, where it is not free
 abbrev pub node_text : Option NodeInfo → ℕ → List ℕ
 node_text None n = []
@@ -143,7 +152,8 @@ node_text (Some info) n = node_line n info
 
 -- what a task holds
 abbrev pub task_text : Config → State → ℕ → List ℕ
-task_text c s t = flat_map (held_line s t) (count_up c.mounts) ++ flat_map (level_line s t) (1 ∷ 2 ∷ 3 ∷ [])
+task_text c s t =
+    flat_map (held_line s t) (count_up c.mounts) ++ flat_map (level_line s t) (1 ∷ 2 ∷ 3 ∷ []) ++ flat_map (open_line s t) (count_up c.nodes)
 
 -- that a mount of a state is read-only, where it is
 abbrev pub closed_line : State → ℕ → List ℕ

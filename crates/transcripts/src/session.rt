@@ -43,7 +43,7 @@ impl<D: Driver> Session<D> {
     ghost use Rattle.gate_world.specs.Worlds.{Begins, Steps};
     ghost use Rattle.transcripts.specs.Limits.{is_config};
     ghost use Rattle.transcripts.specs.Sessions.{ShowsPlay};
-    ghost use Rattle.transcripts.specs.Transcript.{Play, opening_play, played, used_now, begin_text, hook_answer, run_of, command_outcome, request_outcome, nonzero_line, words_text, mount_part, level_part, section_line, node_word_line, kids_line, tree_words_text, count_up, model_text, freezes_text, freeze_line, closed_line, task_text, tree_line, held_line, level_line};
+    ghost use Rattle.transcripts.specs.Transcript.{Play, opening_play, played, used_now, begin_text, hook_answer, run_of, command_outcome, request_outcome, nonzero_line, words_text, mount_part, level_part, section_line, node_word_line, kids_line, tree_words_text, count_up, model_text, freezes_text, freeze_line, closed_line, task_text, tree_line, held_line, level_line, open_line};
     ghost use Rattle.access_model.specs.Histories.{end_of};
     ghost use Rattle.cpu_words.specs.Names.{IsWord};
     ghost use Rattle.gate_world.specs.Configs.{extents_of};
@@ -194,6 +194,7 @@ impl<D: Driver> Session<D> {
         self.print_word(WordName::Holders, out)?;
         self.print_word(WordName::SbFlags, out)?;
         self.print_word(WordName::Remount, out)?;
+        self.print_word(WordName::Removed, out)?;
         self.print_words_of_mounts(out)?;
         self.print_level_words(1, out)?;
         self.print_level_words(2, out)?;
@@ -364,7 +365,8 @@ impl<D: Driver> Session<D> {
         self.print_held_mounts(task, out)?;
         self.print_held_level(task, 1, out)?;
         self.print_held_level(task, 2, out)?;
-        self.print_held_level(task, 3, out)
+        self.print_held_level(task, 3, out)?;
+        self.print_open_files(task, out)
     }
 
     fn print_held_mounts(&self, task: u8, out: &mut Output) -> Result<(), AllocError>
@@ -376,6 +378,19 @@ impl<D: Driver> Session<D> {
             let count = self.model.held_mount(task, mount);
             if count > 0 {
                 out.held_mount_line(task, mount, count)?;
+            }
+        }
+        Ok(())
+    }
+
+    fn print_open_files(&self, task: u8, out: &mut Output) -> Result<(), AllocError>
+        ensures { (p : Play) → ShowsPlay D.shows self.now p → task < p.config.tasks →
+            OnOk result (out.new.bytes.items
+            ≡ out.old.bytes.items ++ flat_map (open_line (end_of p.done) task) (count_up p.config.nodes)) }
+    {
+        for node in 0..self.config.nodes {
+            if self.model.has_open(task, node) {
+                out.open_file_line(task, node)?;
             }
         }
         Ok(())

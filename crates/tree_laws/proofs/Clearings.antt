@@ -9,13 +9,13 @@ use Rattle.access_model.specs.declared.actions.Action.TheVariants.{Clean}
 use Rattle.access_model.specs.declared.actions.NodeInfo.{NodeInfo}
 use Rattle.access_model.specs.States.{size_of, is_dirty, IsDirectory}
 use Rattle.gated_tree.specs.declared.nodes.NodeWord.{NodeWord}
-use Rattle.gated_tree.specs.Nodes.{dirty_in, kind_in, kind_of, word_of, node_of, node_shown, marked_node}
+use Rattle.gated_tree.specs.Nodes.{dirty_in, removed_in, kind_in, kind_of, word_of, node_of, node_shown, marked_node}
 use Rattle.gated_tree.specs.Trees.{is_child, HasDirectory, IsSound, IsClean}
-use Rattle.gated_tree.specs.Roles.{Out, Clearing, Reading, Bounds, TreeState, AreWithin, charge, child_charge, tree_word, IsFileNode, HasParent, TreeHolds}
+use Rattle.gated_tree.specs.Roles.{Out, Clearing, Reading, Bounds, TreeState, AreWithin, charge, child_charge, removal, tree_word, seen_as, IsFileNode, HasParent, TreeHolds}
 use Rattle.gated_tree.proofs.Packing.{word_returns}
 use Rattle.gated_tree.proofs.Words.{dirty_shown}
 use Rattle.gated_tree.proofs.ClearedMarks.{clean_stays, cleared_is, marked_file, file_shown, directory_clean}
-use Rattle.tree_laws.specs.Events.{turned, with_node, cleared_word, tree_shown, TreeDoes, MayClean, IsQuiet}
+use Rattle.tree_laws.specs.Events.{turned, with_node, cleared_word, tree_shown, opens_shown, TreeDoes, MovesBy, MayClean, IsQuiet}
 use Rattle.tree_laws.proofs.Laws.{role_says, moves}
 use Rattle.tree_laws.proofs.Changes.{file_shows, unmarks}
 
@@ -41,6 +41,8 @@ module _ (c : Bounds) (s : TreeState) (good : TreeHolds c s) where
     blocks = good.blocks;
     room = good.room;
     children = good.children;
+    removals = good.removals;
+    none = good.none;
     roles = good.roles;
     clean = λ e. clean;
   }
@@ -54,8 +56,40 @@ module _ (c : Bounds) (s : TreeState) (good : TreeHolds c s) where
     blocks = good.blocks;
     room = good.room;
     children = good.children;
+    removals = good.removals;
+    none = good.none;
     roles = good.roles;
     clean = λ e. absurd (omega (arith, e));
+  }
+
+  -- the superblock is read-only where no file is removed
+  pub goes_bare : s.removed ≡ 0 → TreeHolds c (record s { bare = 1 })
+  goes_bare none = record {
+    words = good.words;
+    root = good.root;
+    parents = good.parents;
+    blocks = good.blocks;
+    room = good.room;
+    children = good.children;
+    removals = good.removals;
+    none = λ e. none;
+    roles = good.roles;
+    clean = good.clean;
+  }
+
+  -- and may be writable again at any time
+  pub stops_bare : TreeHolds c (record s { bare = 0 })
+  stops_bare = record {
+    words = good.words;
+    root = good.root;
+    parents = good.parents;
+    blocks = good.blocks;
+    room = good.room;
+    children = good.children;
+    removals = good.removals;
+    none = λ e. absurd (omega (arith, e));
+    roles = good.roles;
+    clean = good.clean;
   }
 
   module _ (t : ℕ) (lt : t < c.tasks) where
@@ -64,7 +98,7 @@ module _ (c : Bounds) (s : TreeState) (good : TreeHolds c s) where
     clearing_begins within is =
         let root : is_dirty (node_shown (s.node 0)) ≡ false =
         directory_clean (s.node 0) (good.words 0 (omega (arith, within.some_node))) good.root in
-        moves c s good t lt (Clearing 1) (sym (ap charge is)) (λ d. sym (ap (child_charge d) is))
+        moves c s good t lt (Clearing 1) (sym (ap charge is)) (sym (ap removal is)) (λ d. sym (ap (child_charge d) is))
         (λ n l.
         let first : 0 ≡ n = omega (arith, l) in
         subst (λ x. is_dirty (node_shown (s.node x)) ≡ false) first root)
@@ -79,21 +113,24 @@ module _ (c : Bounds) (s : TreeState) (good : TreeHolds c s) where
         let one : kind_in (s.node n) ≡ 1 = marked_file (s.node n) (good.words n ln) marked in
         let back = word_returns (s.node n) (good.words n ln).packed in
         let parent = subst (HasParent c.nodes s.node) (file_shown (s.node n) one) (good.parents n ln) in
-        let h : IsFileNode c.nodes file = record { kind = ap kind_of one; parent = parent.0 } in
+        let linked : file.removed ≡ false = ne_eqb (removed_in (s.node n)) 1 (λ e.
+        let m = (good.words n ln).packed.marked e in
+        absurd (omega (arith, marked, m.1))) in
+        let h : IsFileNode c.nodes file = record { kind = ap kind_of one; parent = parent.0; opens = back.0.few; linked = linked } in
         let clean : is_dirty (node_shown (word_of (marked_node false file))) ≡ false =
-        ap is_dirty (file_shows (marked_node false file) h.kind (omega (arith, h.parent, within.nodes))) in
+        ap is_dirty (file_shows (marked_node false file) h.kind (omega (arith, h.parent, within.nodes)) h.opens) in
         let now : (x : ℕ) → x < suc n → is_dirty (node_shown (update s.node n (word_of (marked_node false file)) x)) ≡ false =
         λ x. each_updated (λ y w. y < suc n → is_dirty (node_shown w) ≡ false) s.node n (word_of (marked_node false file)) x
         (λ l. clean) (λ ne l. before x (omega (arith, l, ne))) in
         subst (λ w. TreeHolds c (with_node s n w t (Clearing (suc n))) × TreeDoes c s.node (update s.node n w) (Clean n))
         (sym (cleared_is (s.node n) (good.words n ln).packed))
-        (unmarks c s good t lt file n (Clearing (suc n)) within h may (sym (ap charge is)) (λ d. sym (ap (child_charge d) is)) ln
+        (unmarks c s good t lt file n (Clearing (suc n)) within h may (sym (ap charge is)) (sym (ap removal is)) (λ d. sym (ap (child_charge d) is)) ln
         (sym back.1) now)
 
     -- a clearing comes to a node that isn't marked, whose word stays
     pub passes : (n : ℕ) → s.at t ≡ Clearing n → n < c.nodes → dirty_in (s.node n) ≡ 0 →
         TreeHolds c (with_node s n (cleared_word (s.node n)) t (Clearing (suc n))) ×
-        (tree_shown (update s.node n (cleared_word (s.node n))) ≡ tree_shown s.node)
+        MovesBy c s.node (update s.node n (cleared_word (s.node n))) None
     passes n is ln none =
         let before : (x : ℕ) → x < n → is_dirty (node_shown (s.node x)) ≡ false = role_says c s good t lt (Clearing n) is in
         let here : is_dirty (node_shown (s.node n)) ≡ false =
@@ -106,8 +143,8 @@ module _ (c : Bounds) (s : TreeState) (good : TreeHolds c s) where
         let still : update s.node n (cleared_word (s.node n)) ≡ s.node =
         ap (update s.node n) (clean_stays (s.node n) (good.words n ln) none) ∙ update_same s.node n in (
           subst (λ f. TreeHolds c (record (turned s t (Clearing (suc n))) { node = f })) (sym still)
-              (moves c s good t lt (Clearing (suc n)) (sym (ap charge is)) (λ d. sym (ap (child_charge d) is)) now),
-          ap tree_shown still,
+              (moves c s good t lt (Clearing (suc n)) (sym (ap charge is)) (sym (ap removal is)) (λ d. sym (ap (child_charge d) is)) now),
+          (ap tree_shown still, ap opens_shown still),
         )
 
     -- a clearing is over: every node is clean
@@ -117,32 +154,33 @@ module _ (c : Bounds) (s : TreeState) (good : TreeHolds c s) where
     -- a snapshot begins
     pub snapshot_begins : (values : ℕ → ℕ) → s.at t ≡ Out → TreeHolds c (turned s t (Reading 0 values))
     snapshot_begins values is =
-        moves c s good t lt (Reading 0 values) (sym (ap charge is)) (λ d. sym (ap (child_charge d) is)) (λ i l. absurd (omega (arith, l)))
+        moves c s good t lt (Reading 0 values) (sym (ap charge is)) (sym (ap removal is)) (λ d. sym (ap (child_charge d) is)) (λ i l. absurd (omega (arith, l)))
 
     -- and loads its next word
-    pub snapshot_loads : (k : ℕ) (values next : ℕ → ℕ) → s.at t ≡ Reading k values → next k ≡ tree_word c.nodes s.used s.node s.kids k →
+    pub snapshot_loads : (k : ℕ) (values next : ℕ → ℕ) → s.at t ≡ Reading k values → seen_as c.nodes k (next k) ≡ seen_as c.nodes k (tree_word c.nodes s.used s.node s.kids k) →
         ((i : ℕ) → i < k → next i ≡ values i) → TreeHolds c (turned s t (Reading (suc k) next))
     snapshot_loads k values next is word earlier =
-        let before : (i : ℕ) → i < k → values i ≡ tree_word c.nodes s.used s.node s.kids i =
+        let before : (i : ℕ) → i < k → seen_as c.nodes i (values i) ≡ seen_as c.nodes i (tree_word c.nodes s.used s.node s.kids i) =
         role_says c s good t lt (Reading k values) is in
-        moves c s good t lt (Reading (suc k) next) (sym (ap charge is)) (λ d. sym (ap (child_charge d) is))
+        moves c s good t lt (Reading (suc k) next) (sym (ap charge is)) (sym (ap removal is)) (λ d. sym (ap (child_charge d) is))
         (λ i l. elim (eqb_tells i k) [
-          | inl e ↦ subst (λ x. next x ≡ tree_word c.nodes s.used s.node s.kids x) (sym e.1) word
-          | inr e ↦ earlier i (omega (arith, l, e.1)) ∙ before i (omega (arith, l, e.1))
+          | inl e ↦ subst (λ x. seen_as c.nodes x (next x) ≡ seen_as c.nodes x (tree_word c.nodes s.used s.node s.kids x)) (sym e.1) word
+          | inr e ↦ ap (seen_as c.nodes i) (earlier i (omega (arith, l, e.1))) ∙ before i (omega (arith, l, e.1))
         ])
 
-    -- what a whole snapshot has loaded are the words of the tree
+    -- what a whole snapshot has loaded are the words of the tree, but for who has files open
     pub snapshot_is : (k : ℕ) (values : ℕ → ℕ) → s.at t ≡ Reading k values → c.nodes + c.nodes < k →
-        (values 0 ≡ s.used) × ((n : ℕ) → n < c.nodes → values (suc n) ≡ s.node n) ×
+        (values 0 ≡ s.used) × ((n : ℕ) → n < c.nodes → node_shown (values (suc n)) ≡ node_shown (s.node n)) ×
         ((d : ℕ) → d < c.nodes → values (suc (c.nodes + d)) ≡ s.kids d)
     snapshot_is k values is whole =
-        let says : (i : ℕ) → i < k → values i ≡ tree_word c.nodes s.used s.node s.kids i =
+        let says : (i : ℕ) → i < k → seen_as c.nodes i (values i) ≡ seen_as c.nodes i (tree_word c.nodes s.used s.node s.kids i) =
         role_says c s good t lt (Reading k values) is in (
-          says 0 (omega (arith, whole)),
-          λ n ln. rw (lt-ltb n c.nodes ln) at (says (suc n) (omega (arith, whole, ln))),
+          ap (λ x. x.1) (says 0 (omega (arith, whole))),
+          λ n ln. ap (λ x. x.0) (rw (lt-ltb n c.nodes ln) at (says (suc n) (omega (arith, whole, ln)))),
           λ d ld.
               let back : c.nodes + d - c.nodes ≡ d = omega arith in
-              (rw (le-ltb (c.nodes + d) c.nodes (omega arith)) at (says (suc (c.nodes + d)) (omega (arith, whole, ld)))) ∙ ap s.kids back,
+              ap (λ x. x.1) (rw (le-ltb (c.nodes + d) c.nodes (omega arith)) at (says (suc (c.nodes + d)) (omega (arith, whole, ld)))) ∙
+              ap s.kids back,
         )
 
   -- where nobody has charged anything, the counts are exact
@@ -160,7 +198,7 @@ module _ (c : Bounds) (s : TreeState) (good : TreeHolds c s) where
       IsClean c.nodes (tree_shown (λ n. values (suc n)))
   snapshot_exact t lt k values is whole sealed none =
       let w = snapshot_is t lt k values is whole in
-      let shows : (n : ℕ) → n < c.nodes → node_shown (values (suc n)) ≡ node_shown (s.node n) = λ n ln. ap node_shown (w.1 n ln) in
+      let shows : (n : ℕ) → n < c.nodes → node_shown (values (suc n)) ≡ node_shown (s.node n) = w.1 in
       let exactly : IsSound c.nodes s.used (tree_shown s.node) s.kids = exact none in
       let parents : (entry : Option NodeInfo) → HasDirectory c.nodes (tree_shown s.node) entry →
       HasDirectory c.nodes (tree_shown (λ n. values (suc n))) entry =

@@ -4,7 +4,7 @@ use Rattle.std.specs.Prelude.{◌==◌, ◌&&◌, Option, Some, None, Result, Ok
 use Rattle.std.proofs.lemmas.Bool.{cases_Bool, cases_lt, eq-eqb, ne_eqb, lt-ltb, le-ltb}
 use Rattle.std.proofs.lemmas.Bool.Decides.{eqb_tells}
 use Rattle.access_model.specs.declared.actions.Action.{Action}
-use Rattle.access_model.specs.declared.actions.Action.TheVariants.{Remove as RemoveAction, MoveTo as MoveToAction, Grow as GrowAction}
+use Rattle.access_model.specs.declared.actions.Action.TheVariants.{Remove as RemoveAction, MoveTo as MoveToAction, Grow as GrowAction, Open as OpenAction}
 use Rattle.access_model.specs.declared.errors.GateError.{GateError}
 use Rattle.access_model.specs.declared.errors.GateError.TheVariants.{Again, Invalid}
 use Rattle.access_model.specs.declared.replies.Next.TheVariants.{Done}
@@ -18,7 +18,7 @@ use Rattle.gated_tree.specs.declared.changes.CreateStep.{CreateStep}
 use Rattle.gated_tree.specs.declared.changes.CreateStep.TheVariants.{LoadsDirectory, LoadsNode, ChargesChild, TakesNode, RefundsChild}
 use Rattle.gated_tree.specs.declared.changes.Remove.{Remove}
 use Rattle.gated_tree.specs.declared.changes.RemoveStep.{RemoveStep}
-use Rattle.gated_tree.specs.declared.changes.RemoveStep.TheVariants.{LoadsFile as LoadsFileToRemove, FreesNode, RefundsBlocks as RefundsItsBlocks, RefundsChild as RefundsItsChild}
+use Rattle.gated_tree.specs.declared.changes.RemoveStep.TheVariants.{LoadsFile as LoadsFileToRemove, FreesNode, CountsRemoved, MarksRemoved, RefundsRemoved, RefundsBlocks as RefundsItsBlocks, RefundsChild as RefundsItsChild}
 use Rattle.gated_tree.specs.declared.changes.MoveTo.{MoveTo}
 use Rattle.gated_tree.specs.declared.changes.MoveStep.{MoveStep}
 use Rattle.gated_tree.specs.declared.changes.MoveStep.TheVariants.{LoadsFile as LoadsFileToMove, LoadsDirectory as LoadsTarget, ChargesChild as ChargesTarget, MovesFile, RefundsChild as RefundsOne}
@@ -28,14 +28,17 @@ use Rattle.gated_tree.specs.declared.growth.GrowStep.TheVariants.{LoadsFile as L
 use Rattle.gated_tree.specs.declared.marks.Mark.{Mark}
 use Rattle.gated_tree.specs.declared.marks.MarkStep.{MarkStep}
 use Rattle.gated_tree.specs.declared.marks.MarkStep.TheVariants.{LoadsFile as LoadsFileToMark, MarksFile}
+use Rattle.gated_tree.specs.declared.opens.OpenFile.{OpenFile}
+use Rattle.gated_tree.specs.declared.opens.OpenStep.{OpenStep}
+use Rattle.gated_tree.specs.declared.opens.OpenStep.TheVariants.{LoadsFile as LoadsFileToOpen, OpensFile}
 use Rattle.gated_tree.specs.declared.snapshots.Snapshot.{Snapshot}
 use Rattle.gated_tree.specs.declared.snapshots.SnapshotStep.{SnapshotStep}
 use Rattle.gated_tree.specs.declared.snapshots.SnapshotStep.TheVariants.{Locks, LoadsStage, LoadsUsed as LoadsUsedWord, LoadsNode as LoadsNodeWord, LoadsKids, Releases}
 use Rattle.gated_tree.specs.Nodes.{kind_in, word_of, unpacked, file_in, directory_in, node_after}
-use Rattle.gated_tree.specs.Phases.{after_look, create_next, create_looked, at_create, remove_next, at_remove, grow_next, at_grow, move_next, at_move, mark_next, mark_done, at_mark, snapshot_next, snapshot_locked_out, node_step, kids_step}
-use Rattle.gated_tree.specs.Refusals.{CreateHonest, FileHonest, GrowHonest, MoveHonest, SnapshotHonest, finds_free, finds_taken, finds_file, finds_directory, finds_large, finds_full, finds_other, finds_owner, finds_thawed}
+use Rattle.gated_tree.specs.Phases.{after_look, create_next, create_looked, at_create, remove_next, removes_file, at_remove, grow_next, at_grow, move_next, at_move, mark_next, mark_done, at_mark, open_next, at_open, opens_from, snapshot_next, snapshot_locked_out, node_step, kids_step}
+use Rattle.gated_tree.specs.Refusals.{CreateHonest, FileHonest, GrowHonest, MoveHonest, SnapshotHonest, finds_free, finds_gone, finds_taken, finds_file, finds_directory, finds_large, finds_full, finds_other, finds_owner, finds_thawed}
 use Rattle.gated_tree.proofs.Refused.{file_refused, directory_refused, taken_some, size_loaded}
-use Rattle.tree_laws.specs.Ends.{where_done, remove_added, move_added, create_adds, IsReply, IsNodeReply, CreateKnows, GrowKnows, MoveAnswers, MoveKnows, SnapshotAnswers, SnapshotKnows, EndsWell, SeesMore, CreateEnds, RemoveEnds, GrowEnds, MoveEnds, MarkEnds, SnapshotEnds}
+use Rattle.tree_laws.specs.Ends.{where_done, remove_added, move_added, create_adds, IsReply, IsNodeReply, CreateKnows, RemoveKnows, GrowKnows, MoveAnswers, MoveKnows, SnapshotAnswers, SnapshotKnows, EndsWell, SeesMore, CreateEnds, RemoveEnds, GrowEnds, MoveEnds, MarkEnds, OpenEnds, SnapshotEnds}
 
 -- two tests that are passed
 both : (a b : Bool) → a ≡ true → b ≡ true → (a && b) ≡ true
@@ -108,31 +111,47 @@ module _ (Seen More : (Event → Bool) → Type 0) where
   ]
   create_ends x RefundsChild value knows sees = (sees.earlier finds_other knows, refl)
 
+  -- a remove that is to free its file, or to mark it
+  removes_end : (x : Remove) (file : NodeWord) (opens : ℕ) →
+      RemoveKnows More x (removes_file file opens) × ([] ≡ remove_added x (removes_file file opens))
+  removes_end x file opens = elim (eqb_tells opens 0) [
+    | inl e ↦ rw e.0 (tt, refl)
+    | inr e ↦ rw e.0 (tt, refl)
+  ]
+
   -- each event of a remove
-  pub remove_ends : (x : Remove) (step : RemoveStep) (value : ℕ) →
+  pub remove_ends : (x : Remove) (step : RemoveStep) (value : ℕ) → RemoveKnows Seen x step →
       SeesMore Seen More (event_of (remove_next x step).0 (remove_next x step).1 value) →
       RemoveEnds More x step (found_by (remove_next x step).1 value)
-  remove_ends x LoadsFileToRemove value sees =
-      look_ends (λ (y : Remove). Unit {0}) (λ y. remove_added y y.step) (IsReply UnitReply) (FileHonest More x.file)
-      (where_done (RemoveAction x.file)) (at_remove x LoadsFileToRemove) (λ file. at_remove x (FreesNode file)) [] (file_in value)
+  remove_ends x LoadsFileToRemove value knows sees =
+      look_ends (λ (y : Remove). RemoveKnows More y y.step) (λ y. remove_added y y.step) (IsReply UnitReply) (FileHonest More x.file)
+      (where_done (RemoveAction x.file)) (at_remove x LoadsFileToRemove) (λ file. at_remove x (removes_file file file.opens)) [] (file_in value)
       (tt, refl)
-      (λ file e. (tt, refl))
+      (λ file e. removes_end x file file.opens)
       (λ refusal e. (
         elim (file_refused value refusal e) [
-          | inl h ↦ subst (FileHonest More x.file) (sym h.0) (sees.now (finds_free x.file) (both _ _ (here x.file) (eq-eqb value 0 h.1)))
+          | inl h ↦ subst (FileHonest More x.file) (sym h.0) (sees.now (finds_gone x.file) (both _ _ (here x.file) h.1))
           | inr h ↦ subst (FileHonest More x.file) (sym h.0)
               (sees.now (finds_directory x.file) (both _ _ (here x.file) (eq-eqb (kind_in value) 2 h.1)))
         ],
         refl,
       ))
-  remove_ends x (FreesNode file) value sees = elim (eqb_tells value (word_of file)) [
+  remove_ends x (FreesNode file) value knows sees = elim (eqb_tells value (word_of file)) [
     | inl e ↦ rw e.0 (tt, refl)
     | inr e ↦
         let other : More finds_other = sees.now finds_other (missed (value == word_of file) e.0) in
         rw e.0 (other, refl)
   ]
-  remove_ends x (RefundsItsBlocks file) value sees = (tt, refl)
-  remove_ends x (RefundsItsChild file) value sees = (refl, refl)
+  remove_ends x (CountsRemoved file) value knows sees = (tt, refl)
+  remove_ends x (MarksRemoved file) value knows sees = elim (eqb_tells value (word_of file)) [
+    | inl e ↦ rw e.0 (tt, refl)
+    | inr e ↦
+        let other : More finds_other = sees.now finds_other (missed (value == word_of file) e.0) in
+        rw e.0 (other, refl)
+  ]
+  remove_ends x RefundsRemoved value knows sees = (sees.earlier finds_other knows, refl)
+  remove_ends x (RefundsItsBlocks file) value knows sees = (tt, refl)
+  remove_ends x (RefundsItsChild file) value knows sees = (refl, refl)
 
   -- each event of a grow
   pub grow_ends : (x : Grow) (step : GrowStep) (value : ℕ) → GrowKnows Seen x step →
@@ -149,7 +168,7 @@ module _ (Seen More : (Event → Bool) → Type 0) where
       ))
       (λ refusal e. (
         elim (file_refused value refusal e) [
-          | inl h ↦ subst (GrowHonest More x) (sym h.0) (sees.now (finds_free x.file) (both _ _ (here x.file) (eq-eqb value 0 h.1)))
+          | inl h ↦ subst (GrowHonest More x) (sym h.0) (sees.now (finds_gone x.file) (both _ _ (here x.file) h.1))
           | inr h ↦ subst (GrowHonest More x) (sym h.0)
               (sees.now (finds_directory x.file) (both _ _ (here x.file) (eq-eqb (kind_in value) 2 h.1)))
         ],
@@ -199,7 +218,7 @@ module _ (Seen More : (Event → Bool) → Type 0) where
       (λ file e. (tt, refl))
       (λ refusal e. (
         elim (file_refused value refusal e) [
-          | inl h ↦ subst (MoveHonest More x) (sym h.0) (inl (sees.now (finds_free x.file) (both _ _ (here x.file) (eq-eqb value 0 h.1))))
+          | inl h ↦ subst (MoveHonest More x) (sym h.0) (inl (sees.now (finds_gone x.file) (both _ _ (here x.file) h.1)))
           | inr h ↦ subst (MoveHonest More x) (sym h.0)
               (sees.now (finds_directory x.file) (both _ _ (here x.file) (eq-eqb (kind_in value) 2 h.1)))
         ],
@@ -234,13 +253,36 @@ module _ (Seen More : (Event → Bool) → Type 0) where
       (at_mark x LoadsFileToMark) (λ file. at_mark x (MarksFile file)) [] (file_in value) (tt, refl) (λ file e. (tt, refl))
       (λ refusal e. (
         elim (file_refused value refusal e) [
-          | inl h ↦ subst (FileHonest More x.file) (sym h.0) (sees.now (finds_free x.file) (both _ _ (here x.file) (eq-eqb value 0 h.1)))
+          | inl h ↦ subst (FileHonest More x.file) (sym h.0) (sees.now (finds_gone x.file) (both _ _ (here x.file) h.1))
           | inr h ↦ subst (FileHonest More x.file) (sym h.0)
               (sees.now (finds_directory x.file) (both _ _ (here x.file) (eq-eqb (kind_in value) 2 h.1)))
         ],
         refl,
       ))
   mark_ends x (MarksFile file) value sees = elim (eqb_tells value (word_of file)) [
+    | inl e ↦ rw e.0 (refl, refl)
+    | inr e ↦
+        let other : More finds_other = sees.now finds_other (missed (value == word_of file) e.0) in
+        rw e.0 (other, refl)
+  ]
+
+  -- each event of an open
+  pub open_ends : (x : OpenFile) (step : OpenStep) (value : ℕ) →
+      SeesMore Seen More (event_of (open_next x step).0 (open_next x step).1 value) →
+      OpenEnds More x step (found_by (open_next x step).1 value)
+  open_ends x LoadsFileToOpen value sees =
+      look_ends (λ (y : OpenFile). Unit {0}) (λ y. []) (IsReply UnitReply) (FileHonest More x.file) (where_done (OpenAction x.file))
+      (at_open x LoadsFileToOpen) (λ file. at_open x (opens_from file (nat_lt file.opens 64))) [] (file_in value) (tt, refl)
+      (λ file e. (tt, refl))
+      (λ refusal e. (
+        elim (file_refused value refusal e) [
+          | inl h ↦ subst (FileHonest More x.file) (sym h.0) (sees.now (finds_gone x.file) (both _ _ (here x.file) h.1))
+          | inr h ↦ subst (FileHonest More x.file) (sym h.0)
+              (sees.now (finds_directory x.file) (both _ _ (here x.file) (eq-eqb (kind_in value) 2 h.1)))
+        ],
+        refl,
+      ))
+  open_ends x (OpensFile file) value sees = elim (eqb_tells value (word_of file)) [
     | inl e ↦ rw e.0 (refl, refl)
     | inr e ↦
         let other : More finds_other = sees.now finds_other (missed (value == word_of file) e.0) in

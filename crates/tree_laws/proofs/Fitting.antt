@@ -1,7 +1,8 @@
 -- The numbers of a phase stay in range, and each word of its events is there.
-use Rattle.std.proofs.Common.{◌≡◌, ℕ, Bool, true, false, ◌+◌, ◌<◌, refl, inl, inr, arith}
+use Rattle.std.proofs.Common.{◌≡◌, ℕ, Bool, true, false, ◌+◌, ◌<◌, refl, sym, ◌∙◌, inl, inr, arith}
 use Rattle.std.specs.Prelude.{◌==◌, Option, Some, None, Result, Ok, Err, is_some, nat_lt, if◌then◌else◌}
 use Rattle.std.proofs.lemmas.Bool.{cases_lt, lt-ltb, le-ltb}
+use Rattle.std.proofs.lemmas.Bool.Decides.{eqb_tells}
 use Rattle.access_model.specs.declared.errors.GateError.{GateError}
 use Rattle.access_model.specs.declared.replies.Next.{Next}
 use Rattle.access_model.specs.declared.replies.Next.TheVariants.{Go}
@@ -13,7 +14,7 @@ use Rattle.gated_tree.specs.declared.changes.CreateStep.{CreateStep}
 use Rattle.gated_tree.specs.declared.changes.CreateStep.TheVariants.{LoadsDirectory, LoadsNode, ChargesChild, TakesNode, RefundsChild}
 use Rattle.gated_tree.specs.declared.changes.Remove.{Remove}
 use Rattle.gated_tree.specs.declared.changes.RemoveStep.{RemoveStep}
-use Rattle.gated_tree.specs.declared.changes.RemoveStep.TheVariants.{LoadsFile as LoadsFileToRemove, FreesNode, RefundsBlocks as RefundsItsBlocks, RefundsChild as RefundsItsChild}
+use Rattle.gated_tree.specs.declared.changes.RemoveStep.TheVariants.{LoadsFile as LoadsFileToRemove, FreesNode, CountsRemoved, MarksRemoved, RefundsRemoved, RefundsBlocks as RefundsItsBlocks, RefundsChild as RefundsItsChild}
 use Rattle.gated_tree.specs.declared.changes.MoveTo.{MoveTo}
 use Rattle.gated_tree.specs.declared.changes.MoveStep.{MoveStep}
 use Rattle.gated_tree.specs.declared.changes.MoveStep.TheVariants.{LoadsFile as LoadsFileToMove, LoadsDirectory as LoadsTarget, ChargesChild as ChargesTarget, MovesFile, RefundsChild as RefundsOne}
@@ -24,14 +25,17 @@ use Rattle.gated_tree.specs.declared.marks.Mark.{Mark}
 use Rattle.gated_tree.specs.declared.marks.MarkStep.{MarkStep}
 use Rattle.gated_tree.specs.declared.marks.MarkStep.TheVariants.{LoadsFile as LoadsFileToMark, MarksFile}
 use Rattle.gated_tree.specs.declared.marks.ClearMarks.{ClearMarks}
+use Rattle.gated_tree.specs.declared.opens.OpenFile.{OpenFile}
+use Rattle.gated_tree.specs.declared.opens.OpenStep.{OpenStep}
+use Rattle.gated_tree.specs.declared.opens.OpenStep.TheVariants.{LoadsFile as LoadsFileToOpen, OpensFile}
 use Rattle.gated_tree.specs.declared.snapshots.Snapshot.{Snapshot}
 use Rattle.gated_tree.specs.declared.snapshots.SnapshotStep.{SnapshotStep}
 use Rattle.gated_tree.specs.declared.snapshots.SnapshotStep.TheVariants.{Locks, LoadsStage, LoadsUsed as LoadsUsedWord, LoadsNode as LoadsNodeWord, LoadsKids, Releases}
 use Rattle.gated_tree.specs.declared.phases.TreePhase.{TreePhase}
-use Rattle.gated_tree.specs.declared.phases.TreePhase.TheVariants.{Create as Creates, Remove as Removes, Grow as Grows, MoveTo as Moves, Mark as Marks, Snapshot as Snapshots, ClearMarks as Clears}
+use Rattle.gated_tree.specs.declared.phases.TreePhase.TheVariants.{Create as Creates, Remove as Removes, Grow as Grows, MoveTo as Moves, Mark as Marks, OpenFile as OpensOne, Snapshot as Snapshots, ClearMarks as Clears}
 use Rattle.gated_tree.specs.Nodes.{word_of, unpacked, file_in, directory_in, node_after}
-use Rattle.gated_tree.specs.Phases.{after_look, after, create_looked, create_past, create_after, at_create, remove_after, at_remove, grow_after, at_grow, move_after, at_move, mark_after, at_mark, snapshot_after, snapshot_locked_out, node_step, kids_step, clear_after}
-use Rattle.gated_tree.specs.Calls.{CreateStepFits, RemoveStepFits, MoveStepFits, SnapshotStepFits, TreePhaseFits, NextFits}
+use Rattle.gated_tree.specs.Phases.{after_look, after, create_looked, create_past, create_after, at_create, remove_after, removes_file, at_remove, grow_after, at_grow, move_after, at_move, mark_after, at_mark, open_after, at_open, opens_from, snapshot_after, snapshot_locked_out, node_step, kids_step, clear_after}
+use Rattle.gated_tree.specs.Calls.{CreateStepFits, RemoveStepFits, MoveStepFits, OpenStepFits, SnapshotStepFits, TreePhaseFits, NextFits}
 use Rattle.gated_tree.specs.Roles.{Bounds, AreWithin}
 use Rattle.gated_tree.proofs.Words.{file_narrow}
 
@@ -74,12 +78,22 @@ module _ (c : Bounds) (within : AreWithin c) (t : ℕ) where
   create_fits x (TakesNode node) found d same fits = either Creates (found == 0) _ _ tt (d, same, tt)
   create_fits x RefundsChild found d same fits = tt
 
+  -- a remove that is to free its file, or to mark it
+  removes_fits : (file : NodeWord) (opens : ℕ) → opens ≡ file.opens → file.parent < 64 → RemoveStepFits (removes_file file opens)
+  removes_fits file opens same narrow = elim (eqb_tells opens 0) [
+    | inl e ↦ rw e.0 (narrow, sym same ∙ e.1)
+    | inr e ↦ rw e.0 (narrow, omega (arith, same, e.1))
+  ]
+
   remove_fits : (x : Remove) (step : RemoveStep) (found : ℕ) → x.file < c.nodes → RemoveStepFits step →
       NextFits c t (map_next Removes (remove_after x step found).0)
   remove_fits x LoadsFileToRemove found n fits =
-      looked_fits Removes (at_remove x LoadsFileToRemove) (λ file. at_remove x (FreesNode file)) (file_in found) (n, tt)
-      (λ file e. (n, file_narrow found file e))
-  remove_fits x (FreesNode file) found n fits = either Removes (found == word_of file) _ _ (n, fits) tt
+      looked_fits Removes (at_remove x LoadsFileToRemove) (λ file. at_remove x (removes_file file file.opens)) (file_in found) (n, tt)
+      (λ file e. (n, removes_fits file file.opens refl (file_narrow found file e)))
+  remove_fits x (FreesNode file) found n fits = either Removes (found == word_of file) _ _ (n, fits.0) tt
+  remove_fits x (CountsRemoved file) found n fits = (n, fits)
+  remove_fits x (MarksRemoved file) found n fits = either Removes (found == word_of file) _ _ (n, fits.0) (n, tt)
+  remove_fits x RefundsRemoved found n fits = tt
   remove_fits x (RefundsItsBlocks file) found n fits = (n, fits)
   remove_fits x (RefundsItsChild file) found n fits = tt
 
@@ -109,6 +123,19 @@ module _ (c : Bounds) (within : AreWithin c) (t : ℕ) where
   mark_fits x LoadsFileToMark found n =
       looked_fits Marks (at_mark x LoadsFileToMark) (λ file. at_mark x (MarksFile file)) (file_in found) n (λ file e. n)
   mark_fits x (MarksFile file) found n = either Marks (found == word_of file) _ _ tt tt
+
+  -- an open that found its file
+  opens_fits : (file : NodeWord) → OpenStepFits (opens_from file (nat_lt file.opens 64))
+  opens_fits file = elim (cases_lt file.opens 64) [
+    | inl l ↦ rw (lt-ltb file.opens 64 l) l
+    | inr l ↦ rw (le-ltb file.opens 64 l) tt
+  ]
+
+  open_fits : (x : OpenFile) (step : OpenStep) (found : ℕ) → x.file < c.nodes → NextFits c t (map_next OpensOne (open_after x step found).0)
+  open_fits x LoadsFileToOpen found n =
+      looked_fits OpensOne (at_open x LoadsFileToOpen) (λ file. at_open x (opens_from file (nat_lt file.opens 64))) (file_in found) (n, tt)
+      (λ file e. (n, opens_fits file))
+  open_fits x (OpensFile file) found n = either OpensOne (found == word_of file) _ _ tt tt
 
   -- a snapshot that finds `umount` taken
   locked_out_fits : (x : Snapshot) (wait : Bool) → x.task ≡ t → x.nodes ≡ c.nodes →
@@ -152,5 +179,6 @@ module _ (c : Bounds) (within : AreWithin c) (t : ℕ) where
   fits_after (Grows x) found hook fits = grow_fits x x.step found fits
   fits_after (Moves x) found hook fits = move_fits x x.step found fits.0 fits.1 fits.2
   fits_after (Marks x) found hook fits = mark_fits x x.step found fits
+  fits_after (OpensOne x) found hook fits = open_fits x x.step found fits.0
   fits_after (Snapshots x) found hook fits = snapshot_fits x x.step found fits.0 fits.1 fits.2
   fits_after (Clears x) found hook fits = clear_fits x found fits.1

@@ -17,7 +17,7 @@ made = new_node File 0
 
 -- the root
 abbrev top : NodeWord
-top = record { kind = Some Dir; dirty = false; parent = 0; size = 0 }
+top = record { kind = Some Dir; dirty = false; removed = false; parent = 0; opens = 0; size = 0 }
 
 pub sample : (s : TreeState) × Comes small s × (s.used ≡ 3) × (s.kids 0 ≡ 1) × (s.node 1 ≡ word_of (grown_node 3 made))
 sample =

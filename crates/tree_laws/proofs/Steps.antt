@@ -1,6 +1,6 @@
 -- Each event of each call is an event of the tree.
 use Rattle.std.proofs.Common.{◌≡◌, ℕ, Bool, true, false, ◌+◌, ◌<◌, ◌≤◌, refl, sym, ap, ◌∙◌, subst, inl, inr, arith}
-use Rattle.std.specs.Prelude.{◌==◌, Option, Some, None, Result, Ok, Err, is_some, if◌then◌else◌}
+use Rattle.std.specs.Prelude.{◌==◌, Option, Some, None, Result, Ok, Err, is_some, nat_lt, if◌then◌else◌}
 use Rattle.std.proofs.lemmas.Bool.{cases_lt, lt-ltb, le-ltb}
 use Rattle.std.proofs.lemmas.Bool.Decides.{eqb_tells}
 use Rattle.finite_sums.specs.Sums.{update}
@@ -13,7 +13,7 @@ use Rattle.access_model.specs.declared.replies.Reply.TheVariants.{Unit as UnitRe
 use Rattle.access_model.specs.declared.replies.Next.{Next}
 use Rattle.access_model.specs.declared.replies.Next.TheVariants.{Go, Done}
 use Rattle.cpu_words.specs.declared.names.WordName.{WordName}
-use Rattle.cpu_words.specs.declared.names.WordName.TheVariants.{Umount, Stage, Holders, SbFlags, Remount, MountFlags, MountCount, Block, Sync, LevelCount, Section, Used, Node, Kids}
+use Rattle.cpu_words.specs.declared.names.WordName.TheVariants.{Umount, Stage, Holders, SbFlags, Remount, MountFlags, MountCount, Block, Sync, LevelCount, Section, Used, Node, Kids, Removed}
 use Rattle.cpu_words.specs.declared.events.Touch.{Touch}
 use Rattle.cpu_words.specs.declared.events.Touch.TheVariants.{Load, Cas}
 use Rattle.cpu_words.specs.Words.{Words, read, put}
@@ -23,7 +23,7 @@ use Rattle.gated_tree.specs.declared.changes.CreateStep.{CreateStep}
 use Rattle.gated_tree.specs.declared.changes.CreateStep.TheVariants.{LoadsDirectory, LoadsNode, ChargesChild, TakesNode, RefundsChild}
 use Rattle.gated_tree.specs.declared.changes.Remove.{Remove}
 use Rattle.gated_tree.specs.declared.changes.RemoveStep.{RemoveStep}
-use Rattle.gated_tree.specs.declared.changes.RemoveStep.TheVariants.{LoadsFile as LoadsFileToRemove, FreesNode, RefundsBlocks as RefundsItsBlocks, RefundsChild as RefundsItsChild}
+use Rattle.gated_tree.specs.declared.changes.RemoveStep.TheVariants.{LoadsFile as LoadsFileToRemove, FreesNode, CountsRemoved, MarksRemoved, RefundsRemoved, RefundsBlocks as RefundsItsBlocks, RefundsChild as RefundsItsChild}
 use Rattle.gated_tree.specs.declared.changes.MoveTo.{MoveTo}
 use Rattle.gated_tree.specs.declared.changes.MoveStep.{MoveStep}
 use Rattle.gated_tree.specs.declared.changes.MoveStep.TheVariants.{LoadsFile as LoadsFileToMove, LoadsDirectory as LoadsTarget, ChargesChild as ChargesTarget, MovesFile, RefundsChild as RefundsOne}
@@ -33,48 +33,52 @@ use Rattle.gated_tree.specs.declared.growth.GrowStep.TheVariants.{LoadsFile as L
 use Rattle.gated_tree.specs.declared.marks.Mark.{Mark}
 use Rattle.gated_tree.specs.declared.marks.MarkStep.{MarkStep}
 use Rattle.gated_tree.specs.declared.marks.MarkStep.TheVariants.{LoadsFile as LoadsFileToMark, MarksFile}
+use Rattle.gated_tree.specs.declared.opens.OpenFile.{OpenFile}
+use Rattle.gated_tree.specs.declared.opens.OpenStep.{OpenStep}
+use Rattle.gated_tree.specs.declared.opens.OpenStep.TheVariants.{LoadsFile as LoadsFileToOpen, OpensFile}
 use Rattle.gated_tree.specs.Nodes.{word_of, unpacked, file_in, directory_in, node_after, marked_node}
-use Rattle.gated_tree.specs.Phases.{after_look, create_next, create_looked, create_looks_at, create_past, create_after, at_create, remove_next, remove_after, at_remove, grow_next, grow_from, grow_after, at_grow, move_next, move_after, at_move, mark_next, mark_done, mark_after, at_mark}
-use Rattle.gated_tree.specs.Calls.{create_role, remove_role, grow_role, move_role, mark_role, role_after, CreateStepFits}
-use Rattle.gated_tree.specs.Roles.{Role, Out, Loaded, Found, Growing, Charged, Refunding, Returning, Bounds, TreeState, AreWithin, TreeHolds, NobodyReads, MayDirty, HasNoCharge}
-use Rattle.tree_laws.specs.Events.{Event, tree_shown, turned, RefundsBlocks as TakesBack, FreesBlocks, CreateAdds, MoveAdds, SubtractsChild, Creates, Removes, Grows, Moves, Dirties, Flushes}
+use Rattle.gated_tree.specs.Phases.{after_look, create_next, create_looked, create_looks_at, create_past, create_after, at_create, remove_next, remove_after, removes_file, at_remove, grow_next, grow_from, grow_after, at_grow, move_next, move_after, at_move, mark_next, mark_done, mark_after, at_mark, open_next, open_after, at_open, opens_from}
+use Rattle.gated_tree.specs.Calls.{create_role, remove_role, grow_role, move_role, mark_role, open_role, role_after, CreateStepFits, RemoveStepFits, OpenStepFits}
+use Rattle.gated_tree.specs.Roles.{Role, Out, Loaded, Found, Growing, Charged, Refunding, Returning, Uncounting, Bounds, TreeState, AreWithin, TreeHolds, NobodyReads, MayDirty, MayRemove, HasNoCharge}
+use Rattle.tree_laws.specs.Events.{Event, tree_shown, opens_shown, turned, MarksRemoved as MarksOne, OpensFile as OpensIt, CountsRemoval, Uncounts, RefundsBlocks as TakesBack, FreesBlocks, CreateAdds, MoveAdds, SubtractsChild, Creates, Removes, Grows, Moves, Dirties, Flushes}
 use Rattle.tree_laws.specs.Steps.{tree_in, words_left, found_at, EventKeeps, MayMark}
-use Rattle.tree_laws.proofs.Counts.{looks, leaves, finds_directory, finds_file, finds_target, finds_room, create_fails, move_fails, grow_fails, charges_blocks}
+use Rattle.tree_laws.proofs.Counts.{looks, leaves, finds_directory, finds_file, finds_target, finds_room, create_fails, remove_fails, move_fails, grow_fails, charges_blocks}
 use Rattle.tree_laws.proofs.Each.{each_event}
 
 -- a write of what is there leaves the tree
-same_tree : (sealed : ℕ) (w : Words) (at : ℕ → Role) (name : WordName) → tree_in sealed (put w name (read w name)) at ≡ tree_in sealed w at
-same_tree sealed w at (Node n) = λ j. record (tree_in sealed w at) { node = update_same w.node n j }
-same_tree sealed w at (Kids n) = λ j. record (tree_in sealed w at) { kids = update_same w.kids n j }
-same_tree sealed w at Umount = refl
-same_tree sealed w at Stage = refl
-same_tree sealed w at Holders = refl
-same_tree sealed w at SbFlags = refl
-same_tree sealed w at Remount = refl
-same_tree sealed w at (MountFlags m) = refl
-same_tree sealed w at (MountCount m p) = refl
-same_tree sealed w at (Block i) = refl
-same_tree sealed w at (Sync i) = refl
-same_tree sealed w at (LevelCount i p) = refl
-same_tree sealed w at (Section x) = refl
-same_tree sealed w at Used = refl
+same_tree : (sealed bare : ℕ) (w : Words) (at : ℕ → Role) (name : WordName) → tree_in sealed bare (put w name (read w name)) at ≡ tree_in sealed bare w at
+same_tree sealed bare w at (Node n) = λ j. record (tree_in sealed bare w at) { node = update_same w.node n j }
+same_tree sealed bare w at (Kids n) = λ j. record (tree_in sealed bare w at) { kids = update_same w.kids n j }
+same_tree sealed bare w at Umount = refl
+same_tree sealed bare w at Stage = refl
+same_tree sealed bare w at Holders = refl
+same_tree sealed bare w at SbFlags = refl
+same_tree sealed bare w at Remount = refl
+same_tree sealed bare w at Removed = refl
+same_tree sealed bare w at (MountFlags m) = refl
+same_tree sealed bare w at (MountCount m p) = refl
+same_tree sealed bare w at (Block i) = refl
+same_tree sealed bare w at (Sync i) = refl
+same_tree sealed bare w at (LevelCount i p) = refl
+same_tree sealed bare w at (Section x) = refl
+same_tree sealed bare w at Used = refl
 
-module _ (c : Bounds) (within : AreWithin c) (sealed : ℕ) (w : Words) (at : ℕ → Role) (good : TreeHolds c (tree_in sealed w at))
+module _ (c : Bounds) (within : AreWithin c) (sealed bare : ℕ) (w : Words) (at : ℕ → Role) (good : TreeHolds c (tree_in sealed bare w at))
     (t : ℕ) (lt : t < c.tasks) where
   -- the tree before the event
   abbrev here : TreeState
-  here = tree_in sealed w at
+  here = tree_in sealed bare w at
 
   -- a load, or any event that leaves the word as it was, where only the task's role changes
-  pub leaves_word : (name : WordName) (role : Role) → TreeHolds c (turned here t role) → EventKeeps c sealed w at t (name, Load) role None
+  pub leaves_word : (name : WordName) (role : Role) → TreeHolds c (turned here t role) → EventKeeps c sealed bare w at t (name, Load) role None
   leaves_word name role h = (
-    subst (TreeHolds c) (sym (same_tree sealed w (update at t role) name)) h,
-    ap (λ s. tree_shown s.node) (same_tree sealed w at name),
+    subst (TreeHolds c) (sym (same_tree sealed bare w (update at t role) name)) h,
+    (ap (λ s. tree_shown s.node) (same_tree sealed bare w at name), ap (λ s. opens_shown s.node) (same_tree sealed bare w at name)),
   )
 
   -- an event of the tree, among all words
   pub as_event : (event : WordName × Touch) (role : Role) (action : Option Action) →
-      Event c here t (tree_in sealed (words_left w event) (update at t role)) action → EventKeeps c sealed w at t event role action
+      Event c here t (tree_in sealed bare (words_left w event) (update at t role)) action → EventKeeps c sealed bare w at t event role action
   as_event event role action e = each_event c within here good t lt _ action e
 
   -- a task at a role that charges nothing
@@ -95,13 +99,13 @@ module _ (c : Bounds) (within : AreWithin c) (sealed : ℕ) (w : Words) (at : �
 
   -- nothing is charged
   out_free : HasNoCharge Out
-  out_free = record { blocks = refl; children = λ d. refl }
+  out_free = record { blocks = refl; removed = refl; children = λ d. refl }
 
   loaded_free : (file : NodeWord) → HasNoCharge (Loaded file)
-  loaded_free file = record { blocks = refl; children = λ d. refl }
+  loaded_free file = record { blocks = refl; removed = refl; children = λ d. refl }
 
   found_free : (d : ℕ) → HasNoCharge (Found d)
-  found_free d = record { blocks = refl; children = λ e. refl }
+  found_free d = record { blocks = refl; removed = refl; children = λ e. refl }
 
   -- a create that looks at the next node, or at none
   looks_on : (x : Create) → at t ≡ Found x.dir → (node : Option ℕ) →
@@ -125,7 +129,7 @@ module _ (c : Bounds) (within : AreWithin c) (sealed : ℕ) (w : Words) (at : �
   -- each event of a create
   pub create_step : (x : Create) (step : CreateStep) → x.dir < c.nodes → CreateStepFits c step → NobodyReads c here →
       at t ≡ create_role x step →
-      EventKeeps c sealed w at t (create_next x step)
+      EventKeeps c sealed bare w at t (create_next x step)
       (role_after (λ y. create_role y y.step) (create_after x step (found_at w (create_next x step))).0)
       (create_after x step (found_at w (create_next x step))).1
   create_step x LoadsDirectory ld fits quiet is =
@@ -141,22 +145,35 @@ module _ (c : Bounds) (within : AreWithin c) (sealed : ℕ) (w : Words) (at : �
   ]
   create_step x RefundsChild ld fits quiet is = as_event (create_next x RefundsChild) _ _ (SubtractsChild x.dir quiet is)
 
+  -- a remove that is to free its file, or to mark it
+  removes_role : (x : Remove) (file : NodeWord) (opens : ℕ) → remove_role x (removes_file file opens) ≡ Loaded file
+  removes_role x file opens = elim (eqb_tells opens 0) [ inl e ↦ rw e.0 refl | inr e ↦ rw e.0 refl ]
+
   -- each event of a remove
-  pub remove_step : (x : Remove) (step : RemoveStep) → x.file < c.nodes → NobodyReads c here → at t ≡ remove_role x step →
-      EventKeeps c sealed w at t (remove_next x step)
+  pub remove_step : (x : Remove) (step : RemoveStep) → x.file < c.nodes → RemoveStepFits step → NobodyReads c here → MayRemove c here →
+      at t ≡ remove_role x step →
+      EventKeeps c sealed bare w at t (remove_next x step)
       (role_after (λ y. remove_role y y.step) (remove_after x step (found_at w (remove_next x step))).0)
       (remove_after x step (found_at w (remove_next x step))).1
-  remove_step x LoadsFileToRemove ln quiet is =
+  remove_step x LoadsFileToRemove ln fits quiet may is =
       leaves_word (Node x.file) _
-      (looked (λ y. remove_role y y.step) (at_remove x LoadsFileToRemove) (λ file. at_remove x (FreesNode file)) is out_free
-      (file_in (w.node x.file)) (λ file e. finds_file c here good t lt x.file file within is ln e))
-  remove_step x (FreesNode file) ln quiet is = elim (eqb_tells (w.node x.file) (word_of file)) [
-    | inl e ↦ rw e.0 (each_event c within here good t lt _ _ (Removes file x.file quiet is ln e.1))
+      (looked (λ y. remove_role y y.step) (at_remove x LoadsFileToRemove) (λ file. at_remove x (removes_file file file.opens)) is out_free
+      (file_in (w.node x.file)) (λ file e. subst (λ r. TreeHolds c (turned here t r)) (sym (removes_role x file file.opens))
+      (finds_file c here good t lt x.file file within is ln e)))
+  remove_step x (FreesNode file) ln fits quiet may is = elim (eqb_tells (w.node x.file) (word_of file)) [
+    | inl e ↦ rw e.0 (each_event c within here good t lt _ _ (Removes file x.file quiet is ln e.1 fits.1))
     | inr e ↦ rw e.0 (leaves_word (Node x.file) Out (ends_free (Loaded file) is (loaded_free file)))
   ]
-  remove_step x (RefundsItsBlocks file) ln quiet is =
+  remove_step x (CountsRemoved file) ln fits quiet may is =
+      as_event (remove_next x (CountsRemoved file)) _ _ (CountsRemoval file may is fits.1)
+  remove_step x (MarksRemoved file) ln fits quiet may is = elim (eqb_tells (w.node x.file) (word_of file)) [
+    | inl e ↦ rw e.0 (each_event c within here good t lt _ _ (MarksOne file x.file quiet is ln e.1))
+    | inr e ↦ rw e.0 (leaves_word (Node x.file) Uncounting (remove_fails c here good t lt file is))
+  ]
+  remove_step x RefundsRemoved ln fits quiet may is = as_event (remove_next x RefundsRemoved) _ _ (Uncounts is)
+  remove_step x (RefundsItsBlocks file) ln fits quiet may is =
       as_event (remove_next x (RefundsItsBlocks file)) _ _ (FreesBlocks file.size file.parent quiet is)
-  remove_step x (RefundsItsChild file) ln quiet is =
+  remove_step x (RefundsItsChild file) ln fits quiet may is =
       as_event (remove_next x (RefundsItsChild file)) _ _ (SubtractsChild file.parent quiet is)
 
   -- so many blocks were found charged
@@ -175,7 +192,7 @@ module _ (c : Bounds) (within : AreWithin c) (sealed : ℕ) (w : Words) (at : �
   pub grow_step : (x : Grow) (step : GrowStep) → x.file < c.nodes → 1 ≤ x.blocks → x.capacity ≡ c.capacity → NobodyReads c here →
       MayDirty c here →
       at t ≡ grow_role x step →
-      EventKeeps c sealed w at t (grow_next x step)
+      EventKeeps c sealed bare w at t (grow_next x step)
       (role_after (λ y. grow_role y y.step) (grow_after x step (found_at w (grow_next x step))).0)
       (grow_after x step (found_at w (grow_next x step))).1
   grow_step x LoadsFileToGrow ln some same quiet may is =
@@ -187,9 +204,9 @@ module _ (c : Bounds) (within : AreWithin c) (sealed : ℕ) (w : Words) (at : �
     | inl e ↦ rw e.0 (
       subst (λ u. TreeHolds c (record (turned here t (Charged file x.blocks)) { used = u + x.blocks })) e.1
           (charges_blocks c here good t lt file x.blocks quiet (is ∙ ap (Growing file x.blocks) (sym e.1))),
-      refl,
+      (refl, refl),
     )
-    | inr e ↦ rw e.0 (leaves_word Used Out (ends_free (Growing file x.blocks used) is (record { blocks = refl; children = λ d. refl })))
+    | inr e ↦ rw e.0 (leaves_word Used Out (ends_free (Growing file x.blocks used) is (record { blocks = refl; removed = refl; children = λ d. refl })))
   ]
   grow_step x (GrowsFile file) ln some same quiet may is = elim (eqb_tells (w.node x.file) (word_of file)) [
     | inl e ↦ rw e.0 (each_event c within here good t lt _ _ (Grows file x.blocks x.file quiet may is ln e.1))
@@ -199,7 +216,7 @@ module _ (c : Bounds) (within : AreWithin c) (sealed : ℕ) (w : Words) (at : �
 
   -- each event of a move
   pub move_step : (x : MoveTo) (step : MoveStep) → x.file < c.nodes → x.dir < c.nodes → NobodyReads c here → at t ≡ move_role x step →
-      EventKeeps c sealed w at t (move_next x step)
+      EventKeeps c sealed bare w at t (move_next x step)
       (role_after (λ y. move_role y y.step) (move_after x step (found_at w (move_next x step))).0)
       (move_after x step (found_at w (move_next x step))).1
   move_step x LoadsFileToMove ln ld quiet is =
@@ -219,7 +236,7 @@ module _ (c : Bounds) (within : AreWithin c) (sealed : ℕ) (w : Words) (at : �
 
   -- the compare-exchange of a page fault or a write-back
   marks_file : (n : ℕ) (file : NodeWord) (dirty : Bool) → n < c.nodes → MayMark dirty c here → at t ≡ Loaded file →
-      EventKeeps c sealed w at t (Node n, Cas (word_of file) (word_of (marked_node dirty file)))
+      EventKeeps c sealed bare w at t (Node n, Cas (word_of file) (word_of (marked_node dirty file)))
       (role_after (λ (y : Mark). mark_role y y.step) (if w.node n == word_of file then Done (Ok UnitReply) else Done (Err Again)))
       (if w.node n == word_of file then Some (mark_done dirty n) else None)
   marks_file n file true ln may is = elim (eqb_tells (w.node n) (word_of file)) [
@@ -233,7 +250,7 @@ module _ (c : Bounds) (within : AreWithin c) (sealed : ℕ) (w : Words) (at : �
 
   -- each event of a page fault or a write-back
   pub mark_step : (x : Mark) (step : MarkStep) → x.file < c.nodes → MayMark x.dirty c here → at t ≡ mark_role x step →
-      EventKeeps c sealed w at t (mark_next x step)
+      EventKeeps c sealed bare w at t (mark_next x step)
       (role_after (λ y. mark_role y y.step) (mark_after x step (found_at w (mark_next x step))).0)
       (mark_after x step (found_at w (mark_next x step))).1
   mark_step x LoadsFileToMark ln may is =
@@ -241,3 +258,24 @@ module _ (c : Bounds) (within : AreWithin c) (sealed : ℕ) (w : Words) (at : �
       (looked (λ y. mark_role y y.step) (at_mark x LoadsFileToMark) (λ file. at_mark x (MarksFile file)) is out_free
       (file_in (w.node x.file)) (λ file e. finds_file c here good t lt x.file file within is ln e))
   mark_step x (MarksFile file) ln may is = marks_file x.file file x.dirty ln may is
+
+  -- an open that found its file, or that loads it again
+  opens_role : (x : OpenFile) (file : NodeWord) (room : Bool) → at t ≡ Out → TreeHolds c (turned here t (Loaded file)) →
+      TreeHolds c (turned here t (open_role x (opens_from file room)))
+  opens_role x file true is found = found
+  opens_role x file false is found = stays_at Out is
+
+  -- each event of an open
+  pub open_step : (x : OpenFile) (step : OpenStep) → x.file < c.nodes → OpenStepFits step → at t ≡ open_role x step →
+      EventKeeps c sealed bare w at t (open_next x step)
+      (role_after (λ y. open_role y y.step) (open_after x step (found_at w (open_next x step))).0)
+      (open_after x step (found_at w (open_next x step))).1
+  open_step x LoadsFileToOpen ln fits is =
+      leaves_word (Node x.file) _
+      (looked (λ y. open_role y y.step) (at_open x LoadsFileToOpen) (λ file. at_open x (opens_from file (nat_lt file.opens 64))) is out_free
+      (file_in (w.node x.file)) (λ file e. opens_role x file (nat_lt file.opens 64) is
+      (finds_file c here good t lt x.file file within is ln e)))
+  open_step x (OpensFile file) ln fits is = elim (eqb_tells (w.node x.file) (word_of file)) [
+    | inl e ↦ rw e.0 (each_event c within here good t lt _ _ (OpensIt file x.file is ln e.1 fits))
+    | inr e ↦ rw e.0 (leaves_word (Node x.file) Out (ends_free (Loaded file) is (loaded_free file)))
+  ]

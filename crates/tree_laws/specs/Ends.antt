@@ -1,7 +1,7 @@
 -- What the events of a call have found, as far as it has come: so each refusal has its cause among them, and an answer its actions.
 use Rattle.std.specs.Prelude.{◌≡◌, ℕ, ◌+◌, ◌<◌, ◌≤◌, nat_lt, Bool, true, Option, Some, None, Result, Ok, Err, List, [], ◌∷◌}
 use Rattle.access_model.specs.declared.actions.Action.{Action}
-use Rattle.access_model.specs.declared.actions.Action.TheVariants.{Create as CreateAction, Remove as RemoveAction, Grow as GrowAction, MoveTo as MoveToAction}
+use Rattle.access_model.specs.declared.actions.Action.TheVariants.{Create as CreateAction, Remove as RemoveAction, Grow as GrowAction, MoveTo as MoveToAction, Open as OpenAction}
 use Rattle.access_model.specs.declared.errors.GateError.{GateError}
 use Rattle.access_model.specs.declared.errors.GateError.TheVariants.{Again, Invalid}
 use Rattle.access_model.specs.declared.replies.Next.{Next}
@@ -14,7 +14,7 @@ use Rattle.gated_tree.specs.declared.changes.CreateStep.{CreateStep}
 use Rattle.gated_tree.specs.declared.changes.CreateStep.TheVariants.{LoadsNode, RefundsChild}
 use Rattle.gated_tree.specs.declared.changes.Remove.{Remove}
 use Rattle.gated_tree.specs.declared.changes.RemoveStep.{RemoveStep}
-use Rattle.gated_tree.specs.declared.changes.RemoveStep.TheVariants.{LoadsFile as LoadsFileToRemove, FreesNode, RefundsBlocks as RefundsItsBlocks, RefundsChild as RefundsItsChild}
+use Rattle.gated_tree.specs.declared.changes.RemoveStep.TheVariants.{LoadsFile as LoadsFileToRemove, FreesNode, CountsRemoved, MarksRemoved, RefundsRemoved, RefundsBlocks as RefundsItsBlocks, RefundsChild as RefundsItsChild}
 use Rattle.gated_tree.specs.declared.changes.MoveTo.{MoveTo}
 use Rattle.gated_tree.specs.declared.changes.MoveStep.{MoveStep}
 use Rattle.gated_tree.specs.declared.changes.MoveStep.TheVariants.{RefundsChild as RefundsOne}
@@ -23,10 +23,12 @@ use Rattle.gated_tree.specs.declared.growth.GrowStep.{GrowStep}
 use Rattle.gated_tree.specs.declared.growth.GrowStep.TheVariants.{LoadsUsed, RefundsBlocks}
 use Rattle.gated_tree.specs.declared.marks.Mark.{Mark}
 use Rattle.gated_tree.specs.declared.marks.MarkStep.{MarkStep}
+use Rattle.gated_tree.specs.declared.opens.OpenFile.{OpenFile}
+use Rattle.gated_tree.specs.declared.opens.OpenStep.{OpenStep}
 use Rattle.gated_tree.specs.declared.snapshots.Snapshot.{Snapshot}
 use Rattle.gated_tree.specs.declared.snapshots.SnapshotStep.{SnapshotStep}
 use Rattle.gated_tree.specs.declared.snapshots.SnapshotStep.TheVariants.{Releases}
-use Rattle.gated_tree.specs.Phases.{create_after, remove_after, grow_after, move_after, mark_after, mark_done, snapshot_after}
+use Rattle.gated_tree.specs.Phases.{create_after, remove_after, grow_after, move_after, mark_after, mark_done, open_after, snapshot_after}
 use Rattle.gated_tree.specs.Refusals.{CreateHonest, FileHonest, GrowHonest, MoveHonest, SnapshotHonest, finds_taken, finds_other, finds_large, finds_thawed}
 
 -- an action, if there is one, on top of the earlier ones
@@ -43,6 +45,9 @@ where_done action (Err refusal) = []
 abbrev pub remove_added : Remove → RemoveStep → List Action
 remove_added x LoadsFileToRemove = []
 remove_added x (FreesNode file) = []
+remove_added x (CountsRemoved file) = []
+remove_added x (MarksRemoved file) = []
+remove_added x RefundsRemoved = []
 remove_added x (RefundsItsBlocks file) = RemoveAction x.file ∷ []
 remove_added x (RefundsItsChild file) = RemoveAction x.file ∷ []
 
@@ -65,6 +70,11 @@ IsNodeReply (NodeReply node) = Unit {0}
 IsNodeReply reply = ⊥
 
 module _ (Seen : (Event → Bool) → Type 0) where
+  -- a remove that is to take its count back has failed
+  abbrev pub RemoveKnows : Remove → RemoveStep → Type 0
+  RemoveKnows x RefundsRemoved = Seen finds_other
+  RemoveKnows x step = Unit {0}
+
   -- a create has found the nodes below the next one taken, and one that is to subtract its child has failed
   abbrev pub CreateKnows : Create → CreateStep → Type 0
   CreateKnows x (LoadsNode node) = (n : ℕ) → 1 ≤ n → n < node → Seen (finds_taken n)
@@ -125,7 +135,7 @@ module _ (More : (Event → Bool) → Type 0) where
   -- of a remove: its file is removed
   abbrev pub RemoveEnds : Remove → RemoveStep → ℕ → Type 0
   RemoveEnds x step found =
-      EndsWell (λ (y : Remove). Unit {0}) (λ y. remove_added y y.step) (IsReply UnitReply) (FileHonest More x.file)
+      EndsWell (λ (y : Remove). RemoveKnows More y y.step) (λ y. remove_added y y.step) (IsReply UnitReply) (FileHonest More x.file)
       (where_done (RemoveAction x.file)) (remove_after x step found).0 (with_action (remove_after x step found).1 (remove_added x step))
 
   -- of a grow: its file has grown
@@ -145,6 +155,12 @@ module _ (More : (Event → Bool) → Type 0) where
   MarkEnds x step found =
       EndsWell (λ (y : Mark). Unit {0}) (λ y. []) (IsReply UnitReply) (FileHonest More x.file) (where_done (mark_done x.dirty x.file))
       (mark_after x step found).0 (with_action (mark_after x step found).1 [])
+
+  -- of an open: its file is open
+  abbrev pub OpenEnds : OpenFile → OpenStep → ℕ → Type 0
+  OpenEnds x step found =
+      EndsWell (λ (y : OpenFile). Unit {0}) (λ y. []) (IsReply UnitReply) (FileHonest More x.file) (where_done (OpenAction x.file))
+      (open_after x step found).0 (with_action (open_after x step found).1 [])
 
   -- of a snapshot: it has added nothing
   abbrev pub SnapshotEnds : Snapshot → SnapshotStep → ℕ → Type 0

@@ -1,16 +1,17 @@
 -- The events at the tree: what a task finds and does there, the tree that it leaves, and its action.
-use Rattle.std.specs.Prelude.{◌≡◌, ℕ, suc, ◌+◌, ◌<◌, ◌≤◌, ◌⊎◌, true, false, Option, Some, None, Ok, bit_and}
+use Rattle.std.specs.Prelude.{◌≡◌, ℕ, suc, ◌+◌, ◌-◌, ◌<◌, ◌≤◌, ◌⊎◌, true, false, Option, Some, None, Ok, bit_and}
 use Rattle.finite_sums.specs.Sums.{update, total}
 use Rattle.access_model.specs.declared.actions.Kind.{Kind}
+use Rattle.access_model.specs.declared.actions.Kind.TheVariants.{File}
 use Rattle.access_model.specs.declared.actions.NodeInfo.{NodeInfo}
 use Rattle.access_model.specs.declared.actions.Action.{Action}
-use Rattle.access_model.specs.declared.actions.Action.TheVariants.{Create, Remove, Grow, MoveTo, Dirty, Clean}
-use Rattle.access_model.specs.States.{Limits, State, size_of, IsFile, IsDirectory}
-use Rattle.access_model.specs.Actions.{HoldsSomeMount, IsWriter, MayDo, after_action, tree_after}
+use Rattle.access_model.specs.declared.actions.Action.TheVariants.{Create, Remove, Grow, MoveTo, Dirty, Clean, Open, Close}
+use Rattle.access_model.specs.States.{Limits, State, size_of, is_removed, IsFile, IsLinkedFile, IsDirectory, openers}
+use Rattle.access_model.specs.Actions.{HoldsSomeMount, IsWriter, MayDo, opens_after, after_action, tree_after}
 use Rattle.cpu_words.specs.Touches.{wrap_add, wrap_sub}
 use Rattle.gated_tree.specs.declared.nodes.NodeWord.{NodeWord}
-use Rattle.gated_tree.specs.Nodes.{dirty_in, word_of, node_shown, new_node, grown_node, moved_node, marked_node, file_in, directory_in}
-use Rattle.gated_tree.specs.Roles.{Role, Out, Loaded, Found, Placing, Targets, Moving, Growing, Charged, Refunding, Freed, Returning, Clearing, Reading, Bounds, TreeState, tree_word, NobodyReads, MayDirty, HasNoCharge}
+use Rattle.gated_tree.specs.Nodes.{dirty_in, opens_in, word_of, node_shown, IsLawful, new_node, grown_node, moved_node, marked_node, opened_node, closed_node, unlinked_node, file_in, any_file_in, directory_in}
+use Rattle.gated_tree.specs.Roles.{Role, Out, Loaded, Found, Placing, Targets, Moving, Growing, Charged, Refunding, Freed, Returning, Removing, Freeing, Dropped, Uncounting, Bare, Clearing, Reading, Bounds, TreeState, tree_word, NobodyReads, MayDirty, MayRemove, NobodyElseFrees, HasNoCharge}
 
 -- the same tree, with another role of task t
 abbrev pub turned : TreeState → ℕ → Role → TreeState
@@ -23,6 +24,10 @@ with_used s used t r = record s { used = used; at = update s.at t r }
 -- the same, with one child more or less charged to a directory
 abbrev pub with_kids : TreeState → ℕ → ℕ → ℕ → Role → TreeState
 with_kids s d kids t r = record s { kids = update s.kids d kids; at = update s.at t r }
+
+-- the same, with another value of `removed`
+abbrev pub with_removed : TreeState → ℕ → ℕ → Role → TreeState
+with_removed s removed t r = record s { removed = removed; at = update s.at t r }
 
 -- the same, with another word of one node
 abbrev pub with_node : TreeState → ℕ → ℕ → ℕ → Role → TreeState
@@ -53,12 +58,18 @@ pub data Event (c : Bounds) (s : TreeState) (t : ℕ) : TreeState → Option Act
   Leaves : HasNoCharge (s.at t) → Event c s t (turned s t Out) None
   CreateFails : (d : ℕ) → s.at t ≡ Placing d → Event c s t (turned s t (Returning d)) None
   MoveFails : (file : NodeWord) (d : ℕ) → s.at t ≡ Moving file d → Event c s t (turned s t (Returning d)) None
+  RemoveFails : (file : NodeWord) → s.at t ≡ Removing file → Event c s t (turned s t Uncounting) None
   GrowFails : (file : NodeWord) (b : ℕ) → s.at t ≡ Charged file b → Event c s t (turned s t (Refunding b)) None
   -- events of `used`: a grow charges its blocks, or subtracts them again; a remove subtracts its file's
   ChargesBlocks : (file : NodeWord) (b : ℕ) → NobodyReads c s → s.at t ≡ Growing file b s.used →
       Event c s t (with_used s (s.used + b) t (Charged file b)) None
   RefundsBlocks : (b : ℕ) → NobodyReads c s → s.at t ≡ Refunding b → Event c s t (with_used s (wrap_sub s.used b) t Out) None
   FreesBlocks : (b d : ℕ) → NobodyReads c s → s.at t ≡ Freed b d → Event c s t (with_used s (wrap_sub s.used b) t (Returning d)) None
+  DropsBlocks : (b : ℕ) → NobodyReads c s → s.at t ≡ Dropped b → Event c s t (with_used s (wrap_sub s.used b) t Uncounting) None
+  -- events of `removed`: a remove counts its file, which is open; a failed one, and a last close, take that back
+  CountsRemoval : (file : NodeWord) → MayRemove c s → s.at t ≡ Loaded file → 1 ≤ file.opens →
+      Event c s t (with_removed s (wrap_add s.removed 1) t (Removing file)) None
+  Uncounts : s.at t ≡ Uncounting → Event c s t (with_removed s (wrap_sub s.removed 1) t Out) None
   -- events of the children that are charged
   CreateAdds : (d : ℕ) → NobodyReads c s → s.at t ≡ Found d → Event c s t (with_kids s d (wrap_add (s.kids d) 1) t (Placing d)) None
   MoveAdds : (file : NodeWord) (d : ℕ) → NobodyReads c s → s.at t ≡ Targets file d →
@@ -67,8 +78,10 @@ pub data Event (c : Bounds) (s : TreeState) (t : ℕ) : TreeState → Option Act
   -- compare-exchanges of a node that found what was loaded, each with its action
   Creates : (n d : ℕ) (kind : Kind) → NobodyReads c s → s.at t ≡ Placing d → n < c.nodes → s.node n ≡ 0 →
       Event c s t (with_node s n (word_of (new_node kind d)) t Out) (Some (Create n d kind))
-  Removes : (file : NodeWord) (n : ℕ) → NobodyReads c s → s.at t ≡ Loaded file → n < c.nodes → s.node n ≡ word_of file →
+  Removes : (file : NodeWord) (n : ℕ) → NobodyReads c s → s.at t ≡ Loaded file → n < c.nodes → s.node n ≡ word_of file → file.opens ≡ 0 →
       Event c s t (with_node s n 0 t (Freed file.size file.parent)) (Some (Remove n))
+  MarksRemoved : (file : NodeWord) (n : ℕ) → NobodyReads c s → s.at t ≡ Removing file → n < c.nodes → s.node n ≡ word_of file →
+      Event c s t (with_node s n (word_of (unlinked_node file)) t (Returning file.parent)) (Some (Remove n))
   Grows : (file : NodeWord) (b n : ℕ) → NobodyReads c s → MayDirty c s → s.at t ≡ Charged file b → n < c.nodes → s.node n ≡ word_of file →
       Event c s t (with_node s n (word_of (grown_node b file)) t Out) (Some (Grow n b))
   Moves : (file : NodeWord) (d n : ℕ) → NobodyReads c s → s.at t ≡ Moving file d → n < c.nodes → s.node n ≡ word_of file →
@@ -77,6 +90,23 @@ pub data Event (c : Bounds) (s : TreeState) (t : ℕ) : TreeState → Option Act
       Event c s t (with_node s n (word_of (marked_node true file)) t Out) (Some (Dirty n))
   Flushes : (file : NodeWord) (n : ℕ) → MayClean c s → s.at t ≡ Loaded file → n < c.nodes → s.node n ≡ word_of file →
       Event c s t (with_node s n (word_of (marked_node false file)) t Out) (Some (Clean n))
+  -- an open, and a close of a file that stays
+  OpensFile : (file : NodeWord) (n : ℕ) → s.at t ≡ Loaded file → n < c.nodes → s.node n ≡ word_of file → file.opens < 64 →
+      Event c s t (with_node s n (word_of (opened_node file)) t Out) (Some (Open n))
+  ClosesFile : (file : NodeWord) (n : ℕ) → s.at t ≡ Out → n < c.nodes → s.node n ≡ word_of file → file.kind ≡ Some File → IsLawful file →
+      1 ≤ file.opens →
+      (file.removed ≡ false) ⊎ (2 ≤ file.opens) →
+      Event c s t (with_node s n (word_of (closed_node file)) t Out) (Some (Close n))
+  -- a last close: it finds a removed file that nobody else has open, and frees it
+  FindsLast : (file : NodeWord) (n : ℕ) → s.at t ≡ Out → n < c.nodes → any_file_in (s.node n) ≡ Some (Ok file) → file.removed ≡ true →
+      file.opens ≡ 1 →
+      Event c s t (turned s t (Freeing n file)) None
+  FreesFile : (file : NodeWord) (n : ℕ) → NobodyReads c s → NobodyElseFrees c s t n → s.at t ≡ Freeing n file →
+      Event c s t (with_node s n 0 t (Dropped file.size)) (Some (Close n))
+  -- a remount finds no removed file, and then the superblock is read-only; it is writable again
+  FindsNone : s.at t ≡ Out → s.removed ≡ 0 → Event c s t (turned s t Bare) None
+  GoesBare : s.at t ≡ Bare → Event c s t (record (turned s t Out) { bare = 1 }) None
+  StopsBare : Event c s t (record s { bare = 0 }) None
   -- a clearing: it begins; it comes to a node that is marked, or to one that isn't; it ends with the store that seals the tree. The tree
   -- is opened again.
   BeginsClearing : s.at t ≡ Out → Event c s t (turned s t (Clearing 1)) None
@@ -95,31 +125,44 @@ pub data Event (c : Bounds) (s : TreeState) (t : ℕ) : TreeState → Option Act
 abbrev pub tree_shown : (ℕ → ℕ) → ℕ → Option NodeInfo
 tree_shown node = λ n. node_shown (node n)
 
+-- how many tasks have each node open, as node words say
+abbrev pub opens_shown : (ℕ → ℕ) → ℕ → ℕ
+opens_shown node = λ n. opens_in (node n)
+
+-- what an action leaves of how many tasks have each node open
+abbrev pub counts_after : Action → (ℕ → ℕ) → ℕ → ℕ
+counts_after (Open n) counts = update counts n (counts n + 1)
+counts_after (Close n) counts = update counts n (counts n - 1)
+counts_after action counts = counts
+
 -- The model allows the action, as far as the tree is concerned: there is the node and the directory, the node is free or a file, the
 -- blocks are within the capacity.
 abbrev pub TreeAllows : Bounds → (ℕ → Option NodeInfo) → Action → Type 0
 TreeAllows c tree (Create n d kind) = (n < c.nodes) × (d < c.nodes) × (tree n ≡ None) × IsDirectory (tree d)
-TreeAllows c tree (Remove n) = (n < c.nodes) × IsFile (tree n)
+TreeAllows c tree (Remove n) = (n < c.nodes) × IsLinkedFile (tree n)
 TreeAllows c tree (Grow n blocks) =
-    (n < c.nodes) × IsFile (tree n) × (0 < blocks) × (total c.nodes (λ x. size_of (tree x)) + blocks ≤ c.capacity)
-TreeAllows c tree (MoveTo n d) = (n < c.nodes) × (d < c.nodes) × IsFile (tree n) × IsDirectory (tree d)
-TreeAllows c tree (Dirty n) = (n < c.nodes) × IsFile (tree n)
+    (n < c.nodes) × IsLinkedFile (tree n) × (0 < blocks) × (total c.nodes (λ x. size_of (tree x)) + blocks ≤ c.capacity)
+TreeAllows c tree (MoveTo n d) = (n < c.nodes) × (d < c.nodes) × IsLinkedFile (tree n) × IsDirectory (tree d)
+TreeAllows c tree (Dirty n) = (n < c.nodes) × IsLinkedFile (tree n)
 TreeAllows c tree (Clean n) = (n < c.nodes) × IsFile (tree n)
+TreeAllows c tree (Open n) = (n < c.nodes) × IsLinkedFile (tree n)
+TreeAllows c tree (Close n) = n < c.nodes
 TreeAllows c tree _ = ⊥
 
 -- the shown tree does this action: it is allowed, and what is shown afterwards is its effect
 pub record TreeDoes (c : Bounds) (node after : ℕ → ℕ) (action : Action) : Type 0 where
   pub allowed : TreeAllows c (tree_shown node) action
-  pub effect : tree_shown after ≡ tree_after action (tree_shown node)
+  pub effect : tree_shown after ≡ tree_after action (opens_shown node) (tree_shown node)
+  pub opens : opens_shown after ≡ counts_after action (opens_shown node)
 
 -- the shown tree moves by the action, or not at all
 abbrev pub MovesBy : Bounds → (ℕ → ℕ) → (ℕ → ℕ) → Option Action → Type 0
-MovesBy c node after None = tree_shown after ≡ tree_shown node
+MovesBy c node after None = (tree_shown after ≡ tree_shown node) × (opens_shown after ≡ opens_shown node)
 MovesBy c node after (Some action) = TreeDoes c node after action
 
 -- the tree as it begins: the root alone
 abbrev pub opening_tree : TreeState
-opening_tree = record { sealed = 0; used = 0; node = update (λ n. 0) 0 2; kids = λ d. 0; at = λ t. Out }
+opening_tree = record { sealed = 0; bare = 0; used = 0; removed = 0; node = update (λ n. 0) 0 2; kids = λ d. 0; at = λ t. Out }
 
 -- trees that come from the opening by events, one after another
 pub data Comes (c : Bounds) : TreeState → Type 0 where
@@ -138,12 +181,18 @@ HasLeave l s t (Grow n blocks) = IsWriter l s t
 HasLeave l s t (MoveTo n d) = IsWriter l s t
 HasLeave l s t (Dirty n) = (s.levels t 2 ≡ true) × HoldsSomeMount l s t
 HasLeave l s t (Clean n) = (s.levels t 3 ≡ true) ⊎ ((s.passed ≡ 2) ⊎ (s.sb_ro ≡ true))
+HasLeave l s t (Open n) = s.opens t n ≡ false
+HasLeave l s t (Close n) =
+    (s.opens t n ≡ true) × (is_removed (s.tree n) ≡ true → openers s.opens n ≡ 1 → s.levels t 3 ≡ true)
 HasLeave l s t _ = ⊥
 
 -- the model's numbers of tasks, nodes and blocks
 abbrev pub bounds_of : Limits → Bounds
 bounds_of l = record { tasks = l.tasks; nodes = l.nodes; capacity = l.capacity }
 
--- the model allows an action of a task, and its effect is on the tree alone
+-- the model allows an action of a task, and its effect is on the tree and on the task's own open files alone
 abbrev pub ModelDoes : Limits → State → ℕ → Action → Type 0
-ModelDoes l s t action = MayDo l s t action × (after_action s t action ≡ record s { tree = tree_after action s.tree })
+ModelDoes l s t action = MayDo l s t action × (after_action s t action ≡ record s {
+  opens = update s.opens t (opens_after action (s.opens t));
+  tree = tree_after action (openers s.opens) s.tree;
+})

@@ -10,15 +10,23 @@ use Rattle.cpu_words.specs.Words.{Words, read, put}
 use Rattle.gated_tree.specs.declared.snapshots.SnapshotStep.{SnapshotStep}
 use Rattle.gated_tree.specs.declared.snapshots.SnapshotStep.TheVariants.{LoadsUsed, LoadsNode, LoadsKids}
 use Rattle.gated_tree.specs.declared.phases.TreePhase.{TreePhase}
-use Rattle.gated_tree.specs.declared.phases.TreePhase.TheVariants.{Create as Creates, Remove as Removes, Grow as Grows, MoveTo as Moves, Mark as Marks, Snapshot as Snapshots, ClearMarks as Clears}
+use Rattle.gated_tree.specs.declared.phases.TreePhase.TheVariants.{Create as Creates, Remove as Removes, Grow as Grows, MoveTo as Moves, Mark as Marks, OpenFile as OpensOne, Snapshot as Snapshots, ClearMarks as Clears}
 use Rattle.gated_tree.specs.Phases.{next, after}
 use Rattle.gated_tree.specs.Calls.{phase_role, role_after}
-use Rattle.gated_tree.specs.Roles.{Role, Bounds, TreeState, TreeHolds, NobodyReads, MayDirty}
+use Rattle.gated_tree.specs.Roles.{Role, Bounds, TreeState, TreeHolds, NobodyReads, MayDirty, MayRemove}
 use Rattle.tree_laws.specs.Events.{MayClean, MovesBy}
 
 -- the tree among all words, with the roles of all tasks
-abbrev pub tree_in : ℕ → Words → (ℕ → Role) → TreeState
-tree_in sealed w at = record { sealed = sealed; used = w.used; node = w.node; kids = w.kids; at = at }
+abbrev pub tree_in : ℕ → ℕ → Words → (ℕ → Role) → TreeState
+tree_in sealed bare w at = record {
+  sealed = sealed;
+  bare = bare;
+  used = w.used;
+  removed = w.removed;
+  node = w.node;
+  kids = w.kids;
+  at = at;
+}
 
 -- the words that an event leaves
 abbrev pub words_left : Words → WordName × Touch → Words
@@ -30,9 +38,9 @@ found_at w event = found_by event.1 (read w event.0)
 
 -- The event of task t leaves a tree of which the same holds, with its task at this role, and moves the shown tree by this action or not
 -- at all.
-abbrev pub EventKeeps : Bounds → ℕ → Words → (ℕ → Role) → ℕ → WordName × Touch → Role → Option Action → Type 0
-EventKeeps c sealed w at t event role action =
-    TreeHolds c (tree_in sealed (words_left w event) (update at t role)) × MovesBy c w.node (words_left w event).node action
+abbrev pub EventKeeps : Bounds → ℕ → ℕ → Words → (ℕ → Role) → ℕ → WordName × Touch → Role → Option Action → Type 0
+EventKeeps c sealed bare w at t event role action =
+    TreeHolds c (tree_in sealed bare (words_left w event) (update at t role)) × MovesBy c w.node (words_left w event).node action
 
 -- to set a mark: no snapshot has loaded a word, the tree needn't be clean, and nobody is clearing it; to clear one, less
 abbrev pub MayMark : Bool → Bounds → TreeState → Type 0
@@ -42,10 +50,11 @@ MayMark false c s = MayClean c s
 -- what an event of a phase asks of the other tasks
 abbrev pub MayStep : Bounds → TreeState → TreePhase → Type 0
 MayStep c s (Creates x) = NobodyReads c s
-MayStep c s (Removes x) = NobodyReads c s
+MayStep c s (Removes x) = NobodyReads c s × MayRemove c s
 MayStep c s (Grows x) = NobodyReads c s × MayDirty c s
 MayStep c s (Moves x) = NobodyReads c s
 MayStep c s (Marks x) = MayMark x.dirty c s
+MayStep c s (OpensOne x) = Unit {0}
 MayStep c s (Snapshots x) = Unit {0}
 MayStep c s (Clears x) = MayClean c s
 
@@ -67,7 +76,7 @@ Notes phase values noted found = Unit {0}
 
 -- The next event of task t, which is at this phase, keeps what holds of the tree, and is its action or changes nothing that is shown. A
 -- snapshot has loaded `values` before it, and `noted` after it.
-abbrev pub StepKeeps : Bounds → ℕ → Words → (ℕ → Role) → ℕ → TreePhase → (ℕ → ℕ) → HookAnswer → Type 0
-StepKeeps c sealed w at t phase noted hook =
-    EventKeeps c sealed w at t (next phase hook) (role_after (phase_role noted) (after phase (found_at w (next phase hook)) hook).0)
+abbrev pub StepKeeps : Bounds → ℕ → ℕ → Words → (ℕ → Role) → ℕ → TreePhase → (ℕ → ℕ) → HookAnswer → Type 0
+StepKeeps c sealed bare w at t phase noted hook =
+    EventKeeps c sealed bare w at t (next phase hook) (role_after (phase_role noted) (after phase (found_at w (next phase hook)) hook).0)
     (after phase (found_at w (next phase hook)) hook).1

@@ -20,16 +20,18 @@ ghost use Rattle.gated_tree.specs.declared.growth.Grow.{Grow};
 ghost use Rattle.gated_tree.specs.declared.growth.GrowStep.{GrowStep};
 ghost use Rattle.gated_tree.specs.declared.marks.Mark.{Mark};
 ghost use Rattle.gated_tree.specs.declared.marks.MarkStep.{MarkStep};
+ghost use Rattle.gated_tree.specs.declared.opens.OpenFile.{OpenFile};
+ghost use Rattle.gated_tree.specs.declared.opens.OpenStep.{OpenStep};
 ghost use Rattle.gated_tree.specs.declared.snapshots.Snapshot.{Snapshot};
 ghost use Rattle.gated_tree.specs.declared.snapshots.SnapshotStep.{SnapshotStep};
 ghost use Rattle.gated_tree.specs.declared.phases.TreePhase.{TreePhase};
 ghost use Rattle.gated_tree.specs.Nodes.{IsNode};
-ghost use Rattle.gated_tree.specs.Phases.{after, create_next, grow_next, mark_next, move_next, next, remove_next, snapshot_next};
+ghost use Rattle.gated_tree.specs.Phases.{after, create_next, grow_next, mark_next, move_next, next, open_next, remove_next, snapshot_next};
 ghost use Rattle.gated_tree.specs.Calls.{NextFits, TreePhaseFits, phase_role};
 ghost use Rattle.gated_tree.specs.Roles.{AreWithin, Bounds, Reading, Role, TreeHolds, TreeState};
 ghost use Rattle.gated_tree.specs.Trees.{IsClean, IsSound};
 ghost use Rattle.tree_laws.specs.Events.{Comes, Event, HasLeave, IsQuiet, ModelDoes, MovesBy, TreeAllows, bounds_of, tree_shown};
-ghost use Rattle.tree_laws.specs.Ends.{CreateEnds, CreateKnows, GrowEnds, GrowKnows, MarkEnds, MoveEnds, MoveKnows, Passed, RemoveEnds, SeesMore, SnapshotEnds, SnapshotKnows};
+ghost use Rattle.tree_laws.specs.Ends.{CreateEnds, CreateKnows, GrowEnds, GrowKnows, MarkEnds, MoveEnds, MoveKnows, OpenEnds, Passed, RemoveEnds, RemoveKnows, SeesMore, SnapshotEnds, SnapshotKnows};
 ghost use Rattle.tree_laws.specs.Steps.{MayStep, Notes, StepKeeps, found_at, tree_in};
 
 /// Each event keeps what holds of the tree. Where it adds an action, the shown tree allows that and moves by just its effect; else the
@@ -67,11 +69,11 @@ pub fn the_model_allows_what_the_tree_allows()
 /// Each event of each call at the tree, among all words, keeps what holds of the tree. Where it adds an action, the shown tree allows that
 /// and moves by just its effect; else the shown tree stays. The word of the event is there. Does nothing: its contract is the law.
 pub fn each_call_keeps_the_tree()
-    ensures events { (c : Bounds) → AreWithin c → (sealed : ℕ) (w : Words) (at : ℕ → Role) → TreeHolds c (tree_in sealed w at) →
+    ensures events { (c : Bounds) → AreWithin c → (sealed bare : ℕ) (w : Words) (at : ℕ → Role) → TreeHolds c (tree_in sealed bare w at) →
         (t : ℕ) → t < c.tasks → (phase : TreePhase) (values noted : ℕ → ℕ) (hook : HookAnswer) → at t ≡ phase_role values phase →
-        TreePhaseFits c t phase → MayStep c (tree_in sealed w at) phase → Notes phase values noted (found_at w (next phase hook)) →
-        StepKeeps c sealed w at t phase noted hook }
-    ensures words { (c : Bounds) → AreWithin c → (sealed : ℕ) (w : Words) (at : ℕ → Role) → TreeHolds c (tree_in sealed w at) →
+        TreePhaseFits c t phase → MayStep c (tree_in sealed bare w at) phase → Notes phase values noted (found_at w (next phase hook)) →
+        StepKeeps c sealed bare w at t phase noted hook }
+    ensures words { (c : Bounds) → AreWithin c → (sealed bare : ℕ) (w : Words) (at : ℕ → Role) → TreeHolds c (tree_in sealed bare w at) →
         (t : ℕ) → t < c.tasks → (e : Extents) → e.nodes ≡ c.nodes → (phase : TreePhase) (values : ℕ → ℕ) (hook : HookAnswer) →
         at t ≡ phase_role values phase → TreePhaseFits c t phase → IsWord e (next phase hook).0 }
 {}
@@ -91,6 +93,7 @@ pub fn each_call_ends_honestly()
         SeesMore (Passed seen) (Passed more) (event_of (create_next x step).0 (create_next x step).1 value) →
         CreateEnds (Passed more) x step (found_by (create_next x step).1 value) }
     ensures remove { (seen more : (WordEvent → Bool) → Bool) (x : Remove) (step : RemoveStep) (value : ℕ) →
+        RemoveKnows (Passed seen) x step →
         SeesMore (Passed seen) (Passed more) (event_of (remove_next x step).0 (remove_next x step).1 value) →
         RemoveEnds (Passed more) x step (found_by (remove_next x step).1 value) }
     ensures grow { (seen more : (WordEvent → Bool) → Bool) (x : Grow) (step : GrowStep) (value : ℕ) → GrowKnows (Passed seen) x step →
@@ -102,6 +105,9 @@ pub fn each_call_ends_honestly()
     ensures mark { (seen more : (WordEvent → Bool) → Bool) (x : Mark) (step : MarkStep) (value : ℕ) →
         SeesMore (Passed seen) (Passed more) (event_of (mark_next x step).0 (mark_next x step).1 value) →
         MarkEnds (Passed more) x step (found_by (mark_next x step).1 value) }
+    ensures open_file { (seen more : (WordEvent → Bool) → Bool) (x : OpenFile) (step : OpenStep) (value : ℕ) →
+        SeesMore (Passed seen) (Passed more) (event_of (open_next x step).0 (open_next x step).1 value) →
+        OpenEnds (Passed more) x step (found_by (open_next x step).1 value) }
     ensures snapshot { (seen more : (WordEvent → Bool) → Bool) (x : Snapshot) (step : SnapshotStep) (value : ℕ) →
         SnapshotKnows (Passed seen) x step →
         SeesMore (Passed seen) (Passed more) (event_of (snapshot_next x step).0 (snapshot_next x step).1 value) →

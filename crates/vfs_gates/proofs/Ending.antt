@@ -1,18 +1,41 @@
 -- The words of gates that are closed.
-use Rattle.std.proofs.Common.{◌≡◌, ℕ, ◌*◌, ◌%◌, ◌<◌, List, ap, sym, ◌∙◌, arith, ◌≤◌, Bool}
+use Rattle.std.proofs.Common.{◌≡◌, ℕ, ◌*◌, ◌%◌, ◌<◌, List, [], ◌∷◌, refl, inl, inr, ap, sym, ◌∙◌, arith, ◌≤◌, Bool, false, ne_eqb}
 use Rattle.std.specs.Prelude.{if◌then◌else◌, None, slice_index}
 use Rattle.finite_sums.specs.Sums.{total}
 use Rattle.finite_sums.proofs.Totals.{total_same, total_none}
-use Rattle.cpu_words.specs.declared.names.WordName.TheVariants.{Umount, Remount, MountFlags, MountCount, Section, LevelCount, Used, Node, Kids}
+use Rattle.cpu_words.specs.declared.names.WordName.TheVariants.{Umount, Remount, Removed, MountFlags, MountCount, Section, LevelCount, Used, Node, Kids}
 use Rattle.cpu_words.specs.Names.{place}
 use Rattle.mount_counts.specs.Roles.{hold_bit}
 use Rattle.gate_world.specs.declared.config.Config.{Config}
-use Rattle.gated_tree.specs.Nodes.{node_shown}
+use Rattle.access_model.specs.declared.actions.Action.{Action}
+use Rattle.access_model.specs.Histories.{Done, IsLegal, own_part, opens_of}
+use Rattle.access_model.specs.States.{Limits, is_removed, one_if, openers, most_tasks}
+use Rattle.gated_tree.specs.Nodes.{IsPacked, node_shown, opens_in, removed_in}
+use Rattle.gated_tree.proofs.Words.{removed_shown}
+use Rattle.gate_world.specs.Configs.{model_limits}
+use Rattle.gate_world.specs.Views.{has_open}
+use Rattle.gate_world.specs.Rules.{Tree, Files}
+use Rattle.std.proofs.lemmas.Bool.{cases_lt}
+use Rattle.std.proofs.lemmas.Bool.Decides.{eqb_tells}
 use Rattle.gate_world.specs.Shown.{shown}
 use Rattle.call_events.proofs.Snapshots.{sound_as}
 use Rattle.call_events.proofs.Schedule.{idle_sums}
 use Rattle.call_events.proofs.Rests.{at_rest, no_hold as hold_is_clear}
 use Rattle.vfs_gates.specs.Ended.{Ended, LeavesSoundTree}
+
+-- a number past the last task's has done nothing
+outside : (l : Limits) (t : ℕ) → l.tasks ≤ t → (log : List Done) → IsLegal l log → own_part t log ≡ []
+outside l t past [] legal = refl
+outside l t past (a ∷ earlier) legal =
+    rw (ne_eqb a.0 t (λ e. absurd (omega (arith, legal.0.0, past, e)))) (outside l t past earlier legal.1)
+
+-- a file that no task has open isn't removed
+unopened : (word : ℕ) → IsPacked word → opens_in word ≡ 0 → is_removed (node_shown word) ≡ false
+unopened word packed none =
+    removed_shown word packed ∙ elim (eqb_tells (removed_in word) 1) [
+      | inl e ↦ absurd (let some = (packed.marked e.1).2 in omega (arith, some, none))
+      | inr e ↦ e.0
+    ]
 
 module _ (c : Config) (ws : List ℕ) (e : Ended c ws) where
   idle : (t : ℕ) → t < c.tasks → (e.world.views t).phase ≡ None
@@ -25,6 +48,22 @@ module _ (c : Config) (ws : List ℕ) (e : Ended c ws) where
   -- no remount is under way
   pub no_remount : slice_index ws (16 * place Remount) ≡ 0
   no_remount = e.ruled.words Remount tt ∙ (at_rest c e.world e.ruled.good idle).remount_clear
+
+  -- nobody has a file open
+  nothing_open : (t n : ℕ) → has_open (e.world.views t) n ≡ false
+  nothing_open t n =
+      elim (cases_lt t c.tasks) [
+        | inl lt ↦ (e.still t lt).1.2 n
+        | inr past ↦ ap (λ (l : List Action). opens_of l n) (sym (e.history.lists t) ∙ outside (model_limits c) t past e.history.log e.history.legal)
+      ]
+
+  -- so none is removed
+  pub none_removed : slice_index ws (16 * place Removed) ≡ 0
+  none_removed =
+      let good = e.ruled.good in
+      e.ruled.words Removed tt ∙ ((at_rest c e.world good idle).removals_counted ∙ total_none c.nodes _ (λ n ln.
+      let none : openers (λ t. has_open (e.world.views t)) n ≡ 0 = total_none most_tasks _ (λ t lt. ap one_if (nothing_open t n)) in
+      ap one_if (unopened (e.world.words.node n) ((good Tree).words n ln).packed ((good Files).counted n ln ∙ none))))
 
   -- no mount has HOLD set
   pub no_hold : (m : ℕ) → m < c.mounts → slice_index ws (16 * place (MountFlags m)) < 2

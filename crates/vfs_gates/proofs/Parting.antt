@@ -1,7 +1,8 @@
 -- A task's fields are what its seat knows, after a split and a join, and of the first task.
 use Rattle.std.proofs.Common.{◌≡◌, ℕ, zero, suc, ◌<◌, ◌≤◌, ◌⊎◌, ◌↔◌, Bool, true, false, cond, eqb, List, [], ◌∷◌, ◌++◌, length, get_or, set, replicate, sym, refl, ap, ◌∙◌, subst, inl, inr, ⊎_elim, arith, get_or-set_same, get_or-set_other}
 use Rattle.std.specs.Prelude.{Option, None}
-use Rattle.std.proofs.lemmas.List.{get_or-replicate}
+use Rattle.std.proofs.lemmas.Bool.{cases_lt}
+use Rattle.std.proofs.lemmas.List.{get_or-replicate, get_or_past}
 use mathlib.Core.Logic.{dite}
 use mathlib.Core.Option.{some, some-injective, some-ne-none}
 use native.Mathlib.Decide.{ℕ_discrete, dec_lt}
@@ -18,7 +19,7 @@ use Rattle.call_events.specs.Seating.{SeatItems, numbered, one_if, times, withou
 use Rattle.call_events.proofs.Dealing.{one_if-same, one_if-other, times-append}
 use Rattle.call_events.proofs.Giving.{view_in-at, times-without, times-without_other}
 use Rattle.call_events.proofs.Opening.{times-deal_below, times-deal_above, times-deal}
-use Rattle.vfs_gates.specs.TaskStates.{Empty, IsNothing, own_view}
+use Rattle.vfs_gates.specs.TaskStates.{spare_of, Empty, IsNothing, own_view}
 use Rattle.call_events.specs.Ties.{PhaseOk, IsStill, AllRest, Keeps, OwnTies, Ties}
 use Rattle.vfs_gates.proofs.FlagSteps.{IsSet, false_true}
 
@@ -29,6 +30,11 @@ idle_mount m lt = get_or-replicate 8 m 0 0 lt
 -- nor at a level
 idle_level : (i : ℕ) → i ≤ 3 → get_or (replicate 4 false) i false ≡ false
 idle_level i le = get_or-replicate 4 i false false (omega arith)
+
+-- a list of 64 that is false everywhere has nothing past its end either
+no_file : (files : List Bool) → length files ≡ 64 → ((n : ℕ) → n < 64 → get_or files n false ≡ false) → (n : ℕ) → get_or files n false ≡ false
+no_file files deep none n =
+    elim (cases_lt n 64) [ inl lt ↦ none n lt | inr past ↦ get_or_past files n false (omega (arith, deep, past)) ]
 
 module _ (c : Config) where
   -- where all rest, each does
@@ -51,7 +57,7 @@ module _ (c : Config) where
   -- numbers that were dealt rest
   rest-deal : (from k : ℕ) → AllRest c (deal from k)
   rest-deal from zero = tt
-  rest-deal from (suc k) = ((refl, ((λ m lt. refl), (λ i one three. refl))), rest-deal (suc from) k)
+  rest-deal from (suc k) = ((refl, ((λ m lt. refl), (λ i one three. refl), (λ n. refl))), rest-deal (suc from) k)
 
   -- a view that holds nothing has what an idle seat keeps
   idle_keeps : (v : View) → Empty c v → c.mounts ≤ 8 → Keeps c idle_seat v
@@ -60,6 +66,8 @@ module _ (c : Config) where
     wide = refl;
     mounts = λ m lt. idle_mount m (omega arith) ∙ sym (e.0 m lt);
     levels = λ i one three. idle_level i three ∙ sym (e.1 i one three);
+    deep = refl;
+    files = λ n. no_file (replicate 64 false) refl (λ i lt. get_or-replicate 64 i false false lt) n ∙ sym (e.2 n);
   }
 
   -- the own view of a task that rests is still
@@ -68,7 +76,27 @@ module _ (c : Config) where
   still-own number begins kept flags x xs t idle e = let may : PhaseOk c begins None x = subst (λ o. PhaseOk c begins o x) idle t.may in
       (may.1, e)
 
+-- what isn't one or more is none
+no_more : (m : ℕ) → (1 ≤ m → ⊥) → m ≡ 0
+no_more zero none = refl
+no_more (suc m) none = absurd (none (omega arith))
+
 module _ (number : ℕ) (c : Config) (begins : Option Op) (kept : Seat) (flags : List Bool) where
+  -- the lowest number that is marked is the lowest that there is to give
+  pub lowest_there : (l : SeatItems) (n : ℕ) → Ties number c begins kept flags l → IsSet flags n →
+      ((k : ℕ) → k < n → get_or flags k false ≡ false) →
+      (1 ≤ times n (spare_of l)) × ((k : ℕ) → k < n → times k (spare_of l) ≡ 0)
+  lowest_there [] n t on low = absurd t
+  lowest_there (x ∷ xs) n t on low = (
+    (t.marks n).0 on,
+    λ k lt. no_more (times k xs) (λ some. false_true (sym (low k lt) ∙ (t.marks k).1 some)),
+  )
+
+  -- a task that is idle has begun nothing
+  pub none_begun : (l : SeatItems) → Ties number c begins kept flags l → kept.phase ≡ None → begins ≡ None
+  none_begun [] t idle = absurd t
+  none_begun (x ∷ xs) t idle = let may : PhaseOk c begins None x = subst (λ o. PhaseOk c begins o x) idle t.may in may.0
+
   -- the giver is tied without the number
   pub split_self : (l : SeatItems) (n : ℕ) → Ties number c begins kept flags l → n < length flags →
       Ties number c begins kept (set flags n false) (kept_of n l)
@@ -120,8 +148,8 @@ module _ (number : ℕ) (c : Config) (begins : Option Op) (kept : Seat) (flags :
   pub holds_same : (l : SeatItems) → Ties number c begins kept flags l → IsNothing kept.accesses c.mounts ↔ Empty c (own_view l)
   holds_same [] t = absurd t
   holds_same (x ∷ xs) t = (
-    (λ h. ((λ m lt. sym (t.keeps.mounts m lt) ∙ h.0 m lt), (λ i one three. sym (t.keeps.levels i one three) ∙ h.1 i one three))),
-    (λ h. ((λ m lt. t.keeps.mounts m lt ∙ h.0 m lt), (λ i one three. t.keeps.levels i one three ∙ h.1 i one three))),
+    (λ h. ((λ m lt. sym (t.keeps.mounts m lt) ∙ h.0 m lt), (λ i one three. sym (t.keeps.levels i one three) ∙ h.1 i one three), (λ n. sym (t.keeps.files n) ∙ no_file kept.accesses.files t.keeps.deep h.2 n))),
+    (λ h. ((λ m lt. t.keeps.mounts m lt ∙ h.0 m lt), (λ i one three. t.keeps.levels i one three ∙ h.1 i one three), (λ n ln. t.keeps.files n ∙ h.2 n))),
   )
 
   -- what a task that rests knows rests
@@ -181,7 +209,7 @@ first_ties c idle (suc n) flags within still some_there few set_are = subst (λ 
       below = omega arith;
       may = (refl, refl);
       fits = tt;
-      keeps = idle_keeps c opening_view ((λ m lt. refl), (λ i one three. refl)) within.mounts;
+      keeps = idle_keeps c opening_view ((λ m lt. refl), (λ i one three. refl), (λ n. refl)) within.mounts;
       rest = rest-deal c 1 n;
       marks = λ k. (
         (λ s. let p = (set_are k).0 s in let a = p.0 in let b = p.1 in let t = times-deal k 1 n (omega arith) (omega arith) in omega arith),

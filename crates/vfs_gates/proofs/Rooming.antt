@@ -8,13 +8,13 @@ use Rattle.cpu_words.specs.Hooks.{HookAnswer}
 use Rattle.cpu_words.specs.Touches.{event_of}
 use Rattle.cpu_words.specs.declared.events.Event.{Event}
 use Rattle.gated_tree.specs.declared.phases.TreePhase.{TreePhase}
-use Rattle.gated_tree.specs.declared.phases.TreePhase.TheVariants.{Create as Creates, Remove as Removes, Grow as Grows, MoveTo as Moves, Mark as TreeMarks, Snapshot as Snapshots, ClearMarks as TreeClears}
+use Rattle.gated_tree.specs.declared.phases.TreePhase.TheVariants.{Create as Creates, Remove as Removes, Grow as Grows, MoveTo as Moves, Mark as TreeMarks, OpenFile as OpensOne, Snapshot as Snapshots, ClearMarks as TreeClears}
 use Rattle.gated_tree.specs.declared.trees.TreeWords.{TreeWords}
 use Rattle.percpu_rwsem.specs.Readers.{up_read_after}
 use Rattle.gate_world.specs.declared.config.Config.{Config}
 use Rattle.gate_world.specs.declared.operations.Op.{Op}
 use Rattle.gate_world.specs.declared.work.Phase.{Phase}
-use Rattle.gate_world.specs.declared.work.Phase.TheVariants.{Mounts, Remounts, DownReads, UpReads, Callbacks, Writes, Freezes, Thaws, Trees}
+use Rattle.gate_world.specs.declared.work.Phase.TheVariants.{Mounts, Remounts, DownReads, UpReads, Callbacks, Writes, Freezes, Thaws, Trees, Closes}
 use Rattle.gate_world.specs.declared.views.Traced.{Traced}
 use Rattle.gate_world.specs.Beginnings.{first_phase}
 use Rattle.gate_world.specs.Snapshots.{completes, last_snapshot}
@@ -74,8 +74,10 @@ goes_on_other (Trees (Removes x)) found hook h = other_call Removes (λ p. refl)
 goes_on_other (Trees (Grows x)) found hook h = other_call Grows (λ p. refl) _
 goes_on_other (Trees (Moves x)) found hook h = other_call Moves (λ p. refl) _
 goes_on_other (Trees (TreeMarks x)) found hook h = other_call TreeMarks (λ p. refl) _
+goes_on_other (Trees (OpensOne x)) found hook h = other_call OpensOne (λ p. refl) _
 goes_on_other (Trees (Snapshots x)) found hook h = absurd (true≢false h)
 goes_on_other (Trees (TreeClears x)) found hook h = other_call TreeClears (λ p. refl) _
+goes_on_other (Closes x) found hook h = other_next Closes (λ p. refl) _
 
 -- its room has nothing to tell of what it has loaded
 pub other_tells : (r : Rooms) (trace : List Traced) (phase : Phase) → is_of_snapshot phase ≡ false → NextTells r trace (Some phase)
@@ -92,8 +94,10 @@ other_tells r trace (Trees (Removes x)) h = tt
 other_tells r trace (Trees (Grows x)) h = tt
 other_tells r trace (Trees (Moves x)) h = tt
 other_tells r trace (Trees (TreeMarks x)) h = tt
+other_tells r trace (Trees (OpensOne x)) h = tt
 other_tells r trace (Trees (Snapshots x)) h = absurd (true≢false h)
 other_tells r trace (Trees (TreeClears x)) h = tt
+other_tells r trace (Closes x) h = tt
 
 pub next_tells : (r : Rooms) (trace : List Traced) (n : Next Phase) → NextIsOther n → NextTells r trace (phase_after n)
 next_tells r trace (Go phase) h = other_tells r trace phase h
@@ -115,8 +119,10 @@ other_completes (Trees (Removes x)) trace found h = refl
 other_completes (Trees (Grows x)) trace found h = refl
 other_completes (Trees (Moves x)) trace found h = refl
 other_completes (Trees (TreeMarks x)) trace found h = refl
+other_completes (Trees (OpensOne x)) trace found h = refl
 other_completes (Trees (Snapshots x)) trace found h = absurd (true≢false h)
 other_completes (Trees (TreeClears x)) trace found h = refl
+other_completes (Closes x) trace found h = refl
 
 -- an operation that is no snapshot, as far as it has come
 completed_other : (n : Next Phase) (earlier : List Traced) (e : Traced) → NextIsOther n → completed_by n earlier e ≡ None

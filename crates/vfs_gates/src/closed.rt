@@ -1,6 +1,6 @@
 //! Gates that no thread shares any more.
 
-ghost use Rattle.std.specs.Prelude.{◌≡◌, ◌*◌, ◌+◌, ◌%◌, ◌<◌, ◌≤◌, ◌↔◌, ℕ, IsTrue, IfSome, slice_index};
+ghost use Rattle.std.specs.Prelude.{◌≡◌, ◌*◌, ◌%◌, ◌<◌, ◌≤◌, ℕ, IfSome, slice_index};
 ghost use Rattle.finite_sums.specs.Sums.{total};
 ghost use Rattle.cpu_words.specs.Names.{IsWord, place};
 ghost use Rattle.gate_world.specs.Configs.{extents_of};
@@ -53,7 +53,7 @@ fn count_of(gate: Gate, cpu: u8) -> WordName
 
 impl Closed {
     ghost use Rattle.access_model.specs.declared.actions.Gate.TheVariants.{Mount, Level};
-    ghost use Rattle.cpu_words.specs.declared.names.WordName.TheVariants.{Umount, Remount, MountFlags, Section};
+    ghost use Rattle.cpu_words.specs.declared.names.WordName.TheVariants.{Umount, Remount, Removed, MountFlags, Section};
 
     /// The value of a word; None where there is no such word.
     pub fn word(&self, name: WordName) -> Option<u64>
@@ -62,6 +62,8 @@ impl Closed {
         // Nobody has `umount`, no remount is under way, no mount holds writers off, and no read-side section is under way.
         ensures umount { name ≡ Umount → result ≡ Some 0 }
         ensures remount { name ≡ Remount → result ≡ Some 0 }
+        // No file is removed: who has none open has closed each.
+        ensures removed { name ≡ Removed → result ≡ Some 0 }
         ensures hold { (m : ℕ) → name ≡ MountFlags m → IfSome result (λ flags. flags < 2) }
         ensures sections { (t : ℕ) → name ≡ Section t → IfSome result (λ word. word % 2 ≡ 0) }
     {

@@ -1,6 +1,6 @@
 //! The gates: the words that all threads share, made and closed.
 
-ghost use Rattle.std.specs.Prelude.{◌≡◌, ◌*◌, ◌+◌, ◌-◌, IfOk, IfErr, OnOk, OnErr, None};
+ghost use Rattle.std.specs.Prelude.{◌≡◌, ◌-◌, IfOk, IfErr, OnOk, None};
 ghost use Rattle.gate_world.specs.Configs.{IsWithin};
 ghost use Rattle.call_events.specs.Rules.{first_items};
 

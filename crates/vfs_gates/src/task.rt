@@ -1,6 +1,6 @@
 //! A task: the right to do the events of one number.
 
-ghost use Rattle.std.specs.Prelude.{◌≡◌, ◌≤◌, ◌<◌, ◌↔◌, IsTrue, Some, None, OnOk, OnErr, option_map, [], false, length};
+ghost use Rattle.std.specs.Prelude.{◌≡◌, ◌≤◌, ◌<◌, ◌↔◌, ℕ, slice_index_or, IsTrue, Some, None, OnOk, OnErr, option_map, [], false, length};
 ghost use Rattle.gate_world.specs.Configs.{IsWithin};
 ghost use Rattle.gate_world.specs.declared.work.Phase.{Phase as PhaseType};
 ghost use Rattle.vfs_gates.specs.TaskStates.{IsNothing};
@@ -24,6 +24,7 @@ use std::marker::Model;
 /// the words stays there for good. At rest that is nothing more, and the gates work on. No refusal tells others of it; they meet:
 ///
 /// - an access at a mount, or a want past its addition: each change of that mount to read-only, and each remount to read-only, is `Busy`;
+/// - an open file: once it is removed, each remount to read-only is `Busy`, and its node and its blocks aren't given back;
 /// - a level, or a start that is counted there: a freeze waits there, with the levels up to it closed, so that starts of these wait;
 /// - an operation that owns `umount`: `try_change_mount` and `try_snapshot` are `Again`, and a change, a remount, a freeze, a thaw and a
 ///   snapshot wait. Where it has HOLD set at a mount, wants there wait, too, and where it has `remount` set, wants are `ReadOnly`;
@@ -65,7 +66,7 @@ impl Task {
     ghost use Rattle.vfs_gates.specs.Room.{HasSnapshotRoom};
     ghost use Rattle.call_events.specs.Answers.{idle_step, unless_refused, asked_by};
     ghost use Rattle.gate_world.specs.Beginnings.{first_phase as the_first_phase};
-    ghost use Rattle.gate_world.specs.Views.{held_at, holds_level as has_level};
+    ghost use Rattle.gate_world.specs.Views.{held_at, holds_level as has_level, has_open as opens_file};
     ghost use Rattle.vfs_gates.specs.TaskStates.{task_state, IsFrom, own_number, own_view, refusal_at, IsIdle, HoldsNothing};
     ghost use Rattle.call_events.specs.Stepped.{Stepped};
     ghost use Rattle.vfs_gates.specs.Ended.{HasAll};
@@ -125,6 +126,14 @@ impl Task {
         (1..=3).contains(&level) && self.kept.accesses.levels[level as usize]
     }
 
+    /// Whether the task has a file open; false where there is no such node.
+    pub fn has_open(&self, node: u8) -> bool
+        ensures there { node < self.now.config.nodes → result ≡ opens_file (own_view self.now.items) node }
+        ensures not_there { self.now.config.nodes ≤ node → result ≡ false }
+    {
+        node < self.config.nodes && self.kept.accesses.files[node as usize]
+    }
+
     /// The last snapshot that the task has taken; None before its first. What it shows is the tree of one moment at which all was frozen,
     /// sound and clean.
     pub fn tree(&self) -> Option<&Tree>
@@ -136,7 +145,7 @@ impl Task {
 
     /// Begins an operation; it has no event, and changes no word. Refused, and then nothing is changed: Order where an operation is
     /// under way; Invalid where a number of the operation is out of range; Order where the task holds what the operation must not
-    /// find held, or doesn't hold what it gives back; TooMany where the task would get its 1,025th access at a mount.
+    /// find held, or doesn't hold what it gives back; TooMany where the task would get its 1,025th access at a mount, or have a file open twice.
     pub fn begin(&mut self, op: Op) -> Result<(), GateError>
         ensures table { self.new.table ≡ self.old.table }
         ensures config { self.new.config ≡ self.old.config }
@@ -223,7 +232,7 @@ impl Task {
     }
 }
 
-/// Whether there is no access at any of so many mounts, nor at a level.
+/// Whether there is no access at any of so many mounts, nor at a level, and no file is open.
 fn holds_nothing(accesses: &Accesses, mounts: u8) -> bool
     requires { mounts ≤ 8 }
     ensures { IsTrue result ↔ IsNothing accesses.now mounts }
@@ -233,5 +242,20 @@ fn holds_nothing(accesses: &Accesses, mounts: u8) -> bool
             return false;
         }
     }
-    !accesses.levels[1] && !accesses.levels[2] && !accesses.levels[3]
+    has_none_open(&accesses.files)
+        && !accesses.levels[1]
+        && !accesses.levels[2]
+        && !accesses.levels[3]
+}
+
+/// Whether none of these files is open.
+fn has_none_open(files: &[bool; 64]) -> bool
+    ensures { IsTrue result ↔ ((n : ℕ) → n < 64 → slice_index_or files.now n false ≡ false) }
+{
+    for file in 0..64usize {
+        if files[file] {
+            return false;
+        }
+    }
+    true
 }

@@ -12,8 +12,8 @@ use access_model::{GateError, Kind, Reply};
 use call_events::go_to_end;
 use gate_world::Op;
 use gated_tree::{
-    Create, CreateStep, Grow, GrowStep, Mark, MarkStep, MoveStep, MoveTo, Remove, RemoveStep,
-    TreePhase,
+    Create, CreateStep, Grow, GrowStep, Mark, MarkStep, MoveStep, MoveTo, OpenFile, OpenStep,
+    Remove, RemoveStep, TreePhase,
 };
 use std::sync::Wait;
 
@@ -44,7 +44,7 @@ impl Task {
     ghost use Rattle.gate_world.specs.Traces.{most_events};
     ghost use Rattle.gate_world.specs.declared.work.Phase.TheVariants.{Trees};
     ghost use Rattle.vfs_gates.specs.Room.{is_of_snapshot};
-    ghost use Rattle.gate_world.specs.declared.operations.Op.TheVariants.{Create as CreateOp, Remove as RemoveOp, Grow as GrowOp, MoveTo as MoveToOp, Fault as FaultOp, Flush as FlushOp, Snapshot as SnapshotOp};
+    ghost use Rattle.gate_world.specs.declared.operations.Op.TheVariants.{Create as CreateOp, Remove as RemoveOp, Grow as GrowOp, MoveTo as MoveToOp, Fault as FaultOp, Flush as FlushOp, Snapshot as SnapshotOp, Open as OpenOp, Close as CloseOp};
     ghost use Rattle.vfs_gates.specs.TaskStates.{IsFrom, own_number};
     ghost use Rattle.call_events.specs.Runs.{IsBounded, Performs, Replies, the_reply};
 
@@ -67,8 +67,9 @@ impl Task {
         )
     }
 
-    /// Begins a snapshot that waits for nobody, and does its events until it replies. Each is noted, as the task keeps what it loads.
-    fn take(&mut self, gates: &Gates, op: Op) -> Result<Reply, GateError>
+    /// Begins an operation that waits for nobody, and does its events until it replies, each of which is noted: a task keeps what its
+    /// snapshot loads.
+    fn run(&mut self, gates: &Gates, op: Op) -> Result<Reply, GateError>
         requires from { IsFrom self.old gates.now }
         requires tries { IsBounded (most_events self.old.config op) }
         ensures { Replies the_reply op self.old self.new result }
@@ -77,8 +78,8 @@ impl Task {
         self.finish(gates)
     }
 
-    /// Begins a snapshot, and does its events, each of which is noted, until it replies, however long it has to wait.
-    fn take_waiting<R: Wait>(&mut self, rt: &R, gates: &Gates, op: Op) -> Result<Reply, GateError>
+    /// Begins an operation, and does its events, each of which is noted, until it replies, however long it has to wait.
+    fn run_waiting<R: Wait>(&mut self, rt: &R, gates: &Gates, op: Op) -> Result<Reply, GateError>
         requires { IsFrom self.old gates.now }
         ensures { Replies the_reply op self.old self.new result }
     {
@@ -102,7 +103,8 @@ impl Task {
         node(self.call(gates, Op::Create { dir, kind }, create))
     }
 
-    /// `vfs_unlink`: frees a file's node, and gives its blocks back. NoEntry where the node is free, IsDir where it is a directory; Again
+    /// `vfs_unlink`: frees a file's node, and gives its blocks back; where some task has the file open, it has its node and its blocks until
+    /// its last close. NoEntry where the node is free or its file was removed before, IsDir where it is a directory; Again
     /// where it changed meanwhile: then nothing is changed. Order, as `create`, and Invalid as `begin`.
     pub fn remove(&mut self, gates: &Gates, file: u8) -> Result<(), GateError>
         requires { IsFrom self.old gates.now }
@@ -163,13 +165,55 @@ impl Task {
         outcome(self.call(gates, Op::Flush { file }, mark(file, false)))
     }
 
+    /// `do_dentry_open`: opens a file, which is there until its last close, also where it is removed meanwhile. A task opens a file once.
+    /// NoEntry and IsDir as `remove`, Again where the file changed meanwhile: then nothing is changed. TooMany where the task has it open,
+    /// and Invalid as `begin`. No level and no mount is asked for.
+    pub fn open_file(&mut self, gates: &Gates, file: u8) -> Result<(), GateError>
+        requires { IsFrom self.old gates.now }
+        ensures { Performs (OpenOp file) self.old self.new result }
+    {
+        let first = TreePhase::OpenFile(OpenFile {
+            file,
+            step: OpenStep::LoadsFile,
+        });
+        outcome(self.call(gates, Op::Open { file }, first))
+    }
+
+    /// `__fput` that doesn't wait: closes a file that the task has open. The last close of a removed file frees it inside level 3, where
+    /// it is counted on a processor, and gives its blocks back. Again where a freeze closes level 3 then, or where the file changed
+    /// meanwhile: then the file is open as before. Order, where the task doesn't have the file open or is inside level 3, and Invalid as
+    /// `begin`.
+    pub fn try_close_file(&mut self, gates: &Gates, file: u8, cpu: u8) -> Result<(), GateError>
+        requires { IsFrom self.old gates.now }
+        ensures { Performs (CloseOp file cpu false) self.old self.new result }
+    {
+        let wait = false;
+        outcome(self.run(gates, Op::Close { file, cpu, wait }))
+    }
+
+    /// The same, which waits while a freeze closes level 3: Again only where the file changed meanwhile. Order and Invalid as
+    /// `try_close_file`.
+    pub fn close_file<R: Wait>(
+        &mut self,
+        rt: &R,
+        gates: &Gates,
+        file: u8,
+        cpu: u8,
+    ) -> Result<(), GateError>
+        requires { IsFrom self.old gates.now }
+        ensures { Performs (CloseOp file cpu true) self.old self.new result }
+    {
+        let wait = true;
+        outcome(self.run_waiting(rt, gates, Op::Close { file, cpu, wait }))
+    }
+
     /// A snapshot of the tree that doesn't wait, which `tree` shows from then on. Again where another task has `umount`, Invalid where the
     /// file system is not frozen; then the last snapshot stays. Order, where the task is inside a level, as `begin`.
     pub fn try_snapshot(&mut self, gates: &Gates) -> Result<(), GateError>
         requires { IsFrom self.old gates.now }
         ensures { Performs (SnapshotOp false) self.old self.new result }
     {
-        outcome(self.take(gates, Op::Snapshot { wait: false }))
+        outcome(self.run(gates, Op::Snapshot { wait: false }))
     }
 
     /// The same, which waits for `umount`: Invalid where the file system is not frozen. Order, where the task is inside a level, as `begin`.
@@ -177,6 +221,6 @@ impl Task {
         requires { IsFrom self.old gates.now }
         ensures { Performs (SnapshotOp true) self.old self.new result }
     {
-        outcome(self.take_waiting(rt, gates, Op::Snapshot { wait: true }))
+        outcome(self.run_waiting(rt, gates, Op::Snapshot { wait: true }))
     }
 }

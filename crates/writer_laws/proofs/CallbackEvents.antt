@@ -7,7 +7,7 @@ use Rattle.finite_sums.specs.Sums.{update}
 use Rattle.finite_sums.proofs.Totals.{update_same}
 use Rattle.access_model.specs.declared.replies.Next.{Next}
 use Rattle.access_model.specs.declared.replies.Next.TheVariants.{Go, Wait, Done}
-use Rattle.access_model.specs.Histories.{mounts_of, levels_of}
+use Rattle.access_model.specs.Histories.{mounts_of, levels_of, opens_of}
 use Rattle.access_model.specs.Replies.{map_next}
 use Rattle.cpu_words.specs.declared.names.WordName.{WordName}
 use Rattle.cpu_words.specs.declared.events.Touch.{Touch}
@@ -72,6 +72,7 @@ beside w sections syncs = record {
   flags_same = refl;
   count_same = refl;
   used_same = refl;
+  removed_same = refl;
   node_same = refl;
   kids_same = refl;
   block_same = refl;
@@ -150,6 +151,7 @@ after_at_levels (Go x) = record {
   out_of_mounts = λ m. refl;
   off_tree = λ trace. refl;
   unheld = refl;
+  no_file = refl;
 }
 after_at_levels (Wait x) = record {
   owns_none = refl;
@@ -158,6 +160,7 @@ after_at_levels (Wait x) = record {
   out_of_mounts = λ m. refl;
   off_tree = λ trace. refl;
   unheld = refl;
+  no_file = refl;
 }
 after_at_levels (Done answer) = record {
   owns_none = refl;
@@ -166,6 +169,7 @@ after_at_levels (Done answer) = record {
   out_of_mounts = λ m. refl;
   off_tree = λ trace. refl;
   unheld = refl;
+  no_file = refl;
 }
 
 -- it counts at no level
@@ -366,6 +370,7 @@ module _ (c : Config) (w : World) (good : IsGood c w) (t : ℕ) (lt : t < c.task
     held_same = ap mounts_of same_actions;
     added_same = added_same b (added_by (w.views t).events) s;
     taken_same = taken_same b (taken_by (w.views t).events) s;
+    open_same = ap opens_of same_actions;
   }
 
   -- nor at the counts of a level

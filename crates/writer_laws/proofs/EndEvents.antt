@@ -57,7 +57,7 @@ module _ (c : Config) (lim : IsWithin c) (w : World) (good : IsGood c w) (t : â„
 
   -- the mounts are left alone
   end_mounts : SameAtMounts (w.views t) end_view
-  end_mounts = record { held_same = refl; added_same = refl; taken_same = refl }
+  end_mounts = record { held_same = refl; added_same = refl; taken_same = refl; open_same = refl }
 
   -- so are the counts of other levels
   end_elsewhere : SameElsewhere u.level (w.views t) end_view

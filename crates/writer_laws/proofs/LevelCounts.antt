@@ -103,6 +103,7 @@ module _ (c : Config) (lim : IsWithin c) (w : World) (good : IsGood c w) (t : â„
     flags_same = refl;
     count_same = refl;
     used_same = refl;
+    removed_same = refl;
     node_same = refl;
     kids_same = refl;
     block_same = refl;
@@ -119,6 +120,7 @@ module _ (c : Config) (lim : IsWithin c) (w : World) (good : IsGood c w) (t : â„
     flags_same = refl;
     count_same = refl;
     used_same = refl;
+    removed_same = refl;
     node_same = refl;
     kids_same = refl;
     block_same = refl;

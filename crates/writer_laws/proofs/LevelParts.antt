@@ -1,11 +1,11 @@
 -- What an event at a freeze level leaves alone, where it leaves the word `block` of each.
 use Rattle.gate_frames.proofs.Known.{known_same}
 use Rattle.gated_tree.specs.Nodes.{node_shown}
-use Rattle.gated_tree.specs.Roles.{Out as OffTree, sealed_by}
+use Rattle.gated_tree.specs.Roles.{Out as OffTree, sealed_by, bare_by}
 use Rattle.holder_laws.specs.Roles.{Apart}
 use Rattle.gate_world.specs.Holders.{holder_role_of}
 use Rattle.freeze_levels.specs.Holders.{holders_in}
-use Rattle.gate_world.specs.Trees.{is_sealed, tree_role_of}
+use Rattle.gate_world.specs.Trees.{is_sealed, tree_role_of, is_bare_at}
 use Rattle.gate_world.specs.declared.views.Traced.{Traced}
 use Rattle.gate_world.specs.Owners.{KnowsWords}
 use Rattle.mount_counts.specs.Roles.{ro_bit, Out}
@@ -19,9 +19,10 @@ use Rattle.gate_world.specs.Worlds.{World}
 use Rattle.gate_world.specs.declared.work.Phase.TheVariants.{UpReads, DownReads}
 use Rattle.percpu_rwsem.specs.declared.readers.DownRead.{DownRead}
 use Rattle.gate_world.specs.Levels.{is_frozen_whole, sync_role_of, inside, at_level}
-use Rattle.gate_world.specs.Views.{held_at, added_by, phase_after, taken_by, holds_level}
-use Rattle.gate_world.specs.Rules.{owns, remounts, IsGood, Holds, ViewFits, Owner, Known, AtMount, AtLevel, role_of, SyncAt, Sections, Stages, Holding, Fitting, Tree}
+use Rattle.gate_world.specs.Views.{held_at, added_by, phase_after, taken_by, holds_level, has_open}
+use Rattle.gate_world.specs.Rules.{owns, remounts, IsGood, Holds, ViewFits, Owner, Known, AtMount, AtLevel, role_of, SyncAt, Sections, Stages, Holding, Fitting, Tree, Files}
 use Rattle.gate_world.specs.Stages.{stage_role_of}
+use Rattle.gate_world.specs.Fits.{file_of}
 use Rattle.stage_laws.specs.Roles.{Aside, sums}
 use Rattle.gate_world.specs.declared.config.Config.{Config}
 use Rattle.percpu_rwsem.specs.declared.readers.UpRead.{UpRead}
@@ -30,7 +31,7 @@ use Rattle.gate_world.specs.declared.views.View.{View}
 use Rattle.gate_world.specs.declared.work.Phase.{Phase}
 use Rattle.cpu_words.specs.Words.{Words}
 use Rattle.std.proofs.Common.{◌≡◌, ℕ, ◌<◌, refl, sym, ap, ◌∙◌, arith}
-use Rattle.std.specs.Prelude.{◌==◌, ◌&&◌, ◌||◌, if◌then◌else◌, Option, Some, List}
+use Rattle.std.specs.Prelude.{◌==◌, ◌&&◌, ◌||◌, if◌then◌else◌, Option, Some, None, List}
 
 -- the words that are no level's own are as they were, and so is `block`
 pub record IsBeside (old new : Words) : Type 0 where
@@ -42,6 +43,7 @@ pub record IsBeside (old new : Words) : Type 0 where
   pub flags_same : new.flags ≡ old.flags
   pub count_same : new.count ≡ old.count
   pub used_same : new.used ≡ old.used
+  pub removed_same : new.removed ≡ old.removed
   pub node_same : new.node ≡ old.node
   pub kids_same : new.kids ≡ old.kids
   pub block_same : new.block ≡ old.block
@@ -55,12 +57,14 @@ pub record IsAtLevels (p : Option Phase) : Type 0 where
   pub out_of_mounts : (m : ℕ) → role_of m p ≡ Out
   pub off_tree : (trace : List Traced) → tree_role_of trace p ≡ OffTree
   pub unheld : holder_role_of p ≡ Apart
+  pub no_file : file_of p ≡ None
 
 -- a view's accesses at mounts, and what it added to their words and took away, are as they were
 pub record SameAtMounts (old new : View) : Type 0 where
   pub held_same : held_at new ≡ held_at old
   pub added_same : added_by new.events ≡ added_by old.events
   pub taken_same : taken_by new.events ≡ taken_by old.events
+  pub open_same : has_open new ≡ has_open old
 
 -- frozen or not as before
 pub whole_same : (old new : Words) → IsBeside old new → is_frozen_whole new ≡ is_frozen_whole old
@@ -69,6 +73,10 @@ whole_same old new words = λ k. if words.stage_same k == 4 && words.sb_same k =
 -- sealed or not as before
 sealed_same : (old new : Words) → IsBeside old new → is_sealed new ≡ is_sealed old
 sealed_same old new words = λ k. sealed_by (words.sb_same k) (words.stage_same k)
+
+-- read-only or not as before
+bare_same : (old new : Words) → IsBeside old new → is_bare_at new ≡ is_bare_at old
+bare_same old new words = λ k. bare_by (words.remount_same k) (words.sb_same k)
 
 -- what is there after a down-read's event is at levels alone
 pub reads_at_levels : (next : Next DownRead) → IsAtLevels (phase_after (map_next DownReads next))
@@ -79,6 +87,7 @@ reads_at_levels (Go r) = record {
   out_of_mounts = λ m. refl;
   off_tree = λ trace. refl;
   unheld = refl;
+  no_file = refl;
 }
 reads_at_levels (Wait r) = record {
   owns_none = refl;
@@ -87,6 +96,7 @@ reads_at_levels (Wait r) = record {
   out_of_mounts = λ m. refl;
   off_tree = λ trace. refl;
   unheld = refl;
+  no_file = refl;
 }
 reads_at_levels (Done answer) = record {
   owns_none = refl;
@@ -95,6 +105,7 @@ reads_at_levels (Done answer) = record {
   out_of_mounts = λ m. refl;
   off_tree = λ trace. refl;
   unheld = refl;
+  no_file = refl;
 }
 
 -- so is an up-read
@@ -106,6 +117,7 @@ end_at_levels u = record {
   out_of_mounts = λ m. refl;
   off_tree = λ trace. refl;
   unheld = refl;
+  no_file = refl;
 }
 
 module _ (c : Config) (w : World) (good : IsGood c w) (t : ℕ) (lt : t < c.tasks) (ws : Words) (v : View) (words : IsBeside w.words ws)
@@ -139,8 +151,19 @@ module _ (c : Config) (w : World) (good : IsGood c w) (t : ℕ) (lt : t < c.task
   -- the tree
   tree_left : Holds c then_world Tree
   tree_left =
-      left_alone c w t lt Tree ws v (words.used_same, words.node_same, words.kids_same, sealed_same w.words ws words)
+      left_alone c w t lt Tree ws v (
+        words.used_same,
+        words.removed_same,
+        words.node_same,
+        words.kids_same,
+        sealed_same w.words ws words,
+        bare_same w.words ws words,
+      )
       (now.off_tree v.trace ∙ sym (was.off_tree (w.views t).trace)) (good Tree)
+
+  -- the open files
+  files_left : SameAtMounts (w.views t) v → Holds c then_world Files
+  files_left mounts = left_alone c w t lt Files ws v words.node_same (mounts.open_same, now.no_file ∙ sym was.no_file) (good Files)
 
   -- all parts, from those of the levels
   pub level_parts : SameAtMounts (w.views t) v → ViewFits c t v → ((i : ℕ) → Holds c then_world (AtLevel i)) →
@@ -155,6 +178,7 @@ module _ (c : Config) (w : World) (good : IsGood c w) (t : ℕ) (lt : t < c.task
       each_updated (λ y (u : View). ViewFits c y u) w.views t v x fits (λ ne. good Fitting x lx)
   level_parts mounts fits levels syncs sections Known = known_left
   level_parts mounts fits levels syncs sections Tree = tree_left
+  level_parts mounts fits levels syncs sections Files = files_left mounts
   level_parts mounts fits levels syncs sections (AtMount m) = mount_left mounts m
   level_parts mounts fits levels syncs sections (AtLevel i) = levels i
   level_parts mounts fits levels syncs sections (SyncAt i) = syncs i
@@ -175,6 +199,7 @@ module _ (c : Config) (w : World) (good : IsGood c w) (t : ℕ) (lt : t < c.task
       (λ j. record (shown c w) {
         mounts = update (λ x. held_at (w.views x)) t (mounts.held_same j);
         levels = update (λ x. holds_level (w.views x)) t (holds_level v);
+        opens = (ap (update (λ x. has_open (w.views x)) t) mounts.open_same ∙ update_same (λ x. has_open (w.views x)) t) j;
         mount_ro = λ m. ro_bit (words.flags_same j m) == 1;
         sb_ro = words.remount_same j == 1 || words.sb_same j == 1;
         stage = words.stage_same j;

@@ -31,7 +31,7 @@ use Rattle.writer_laws.proofs.LevelCounts.{count_none, count_on, count_off, Same
 use Rattle.gate_world.specs.declared.work.Phase.TheVariants.{DownReads}
 use Rattle.access_model.specs.Replies.{map_next}
 use Rattle.percpu_rwsem.specs.declared.sync_word.GpState.TheVariants.{Idle, Enter, Passed, Exit, Replay}
-use Rattle.gate_world.specs.Views.{phase_after, holds_level, held_at, view_with}
+use Rattle.gate_world.specs.Views.{phase_after, holds_level, held_at, view_with, has_open}
 use Rattle.gate_world.specs.Fits.{ReadFits, ReadStepFits, Fits}
 use Rattle.gate_world.specs.Levels.{read_count_role, level_role_of, sync_role_of, count_role_if, at_level}
 use Rattle.percpu_rwsem.specs.declared.readers.DownRead.{DownRead}
@@ -178,6 +178,7 @@ module _ (c : Config) (lim : IsWithin c) (w : World) (good : IsGood c w) (t : �
     flags_same = refl;
     count_same = refl;
     used_same = refl;
+    removed_same = refl;
     node_same = refl;
     kids_same = refl;
     block_same = refl;
@@ -196,7 +197,7 @@ module _ (c : Config) (lim : IsWithin c) (w : World) (good : IsGood c w) (t : �
       LevelsHold c (record { words = section_words; views = update w.views t (section_view n) }) → SectionKeeps n
   turns s n e counts no_count fits levels =
       let v : View = section_view n in
-      let mounts : SameAtMounts (w.views t) v = record { held_same = refl; added_same = refl; taken_same = refl } in (
+      let mounts : SameAtMounts (w.views t) v = record { held_same = refl; added_same = refl; taken_same = refl; open_same = refl } in (
         level_parts c w good t lt section_words v section_beside (at_levels s e) (reads_at_levels n) mounts fits
             (counts_left_at c w good t lt section_words v section_beside (at_levels s e) (reads_at_levels n) refl
             (λ j. level_view_as refl refl refl (no_count j ∙ sym (counts_nowhere s e counts j))))
@@ -244,11 +245,12 @@ module _ (c : Config) (lim : IsWithin c) (w : World) (good : IsGood c w) (t : �
         flags_same = refl;
         count_same = refl;
         used_same = refl;
+        removed_same = refl;
         node_same = refl;
         kids_same = refl;
         block_same = refl;
       } in
-      let mounts : SameAtMounts (w.views t) v = record { held_same = refl; added_same = refl; taken_same = refl } in (
+      let mounts : SameAtMounts (w.views t) v = record { held_same = refl; added_same = refl; taken_same = refl; open_same = refl } in (
         level_parts c w good t lt ws v beside (at_levels LoadsSync e) (reads_at_levels n) mounts
             (f.0, f.1, f.2, f.3, path.fits_still i (holds_level (w.views t)) f.4)
             (counts_left_at c w good t lt ws v beside (at_levels LoadsSync e) (reads_at_levels n) refl
@@ -283,7 +285,7 @@ module _ (c : Config) (lim : IsWithin c) (w : World) (good : IsGood c w) (t : �
       let v : View = then_view (LevelCount i r.cpu, Add 1) (n, None) in
       let ws : Words = words_up c lim w good t lt i r.cpu f.2 hook (map_next DownReads n, None) in
       let beside : IsBeside w.words ws = up_beside c lim w good t lt i r.cpu f.2 hook (map_next DownReads n, None) in
-      let mounts : SameAtMounts (w.views t) v = record { held_same = refl; added_same = refl; taken_same = refl } in (
+      let mounts : SameAtMounts (w.views t) v = record { held_same = refl; added_same = refl; taken_same = refl; open_same = refl } in (
         level_parts c w good t lt ws v beside (at_levels CountsUpSlow e) (reads_at_levels n) mounts f
             (seeks c lim w good t lt i r.cpu f.2 hook (map_next DownReads n, None) (counts_here CountsUpSlow e)
             (counts_here LoadsBlock refl) refl (same_elsewhere CountsUpSlow LoadsBlock e v refl refl))
@@ -300,7 +302,7 @@ module _ (c : Config) (lim : IsWithin c) (w : World) (good : IsGood c w) (t : �
       let v : View = then_view (LevelCount i r.cpu, Sub 1) (n, None) in
       let ws : Words = words_down c lim w good t lt i r.cpu f.2 hook (map_next DownReads n, None) in
       let beside : IsBeside w.words ws = down_beside c lim w good t lt i r.cpu f.2 hook (map_next DownReads n, None) in
-      let mounts : SameAtMounts (w.views t) v = record { held_same = refl; added_same = refl; taken_same = refl } in (
+      let mounts : SameAtMounts (w.views t) v = record { held_same = refl; added_same = refl; taken_same = refl; open_same = refl } in (
         level_parts c w good t lt ws v beside (at_levels CountsDown e) (reads_at_levels n) mounts f
             (backs_off c lim w good t lt i r.cpu f.2 hook (map_next DownReads n, None) (counts_here CountsDown e)
             (counts_here LeavesBlocked refl) refl (same_elsewhere CountsDown LeavesBlocked e v refl refl))
@@ -319,7 +321,7 @@ module _ (c : Config) (lim : IsWithin c) (w : World) (good : IsGood c w) (t : �
       let v : View = then_view (LevelCount i r.cpu, Add 1) (n, a) in
       let ws : Words = words_up c lim w good t lt i r.cpu f.2 hook (map_next DownReads n, a) in
       let beside : IsBeside w.words ws = up_beside c lim w good t lt i r.cpu f.2 hook (map_next DownReads n, a) in
-      let mounts : SameAtMounts (w.views t) v = record { held_same = refl; added_same = refl; taken_same = refl } in (
+      let mounts : SameAtMounts (w.views t) v = record { held_same = refl; added_same = refl; taken_same = refl; open_same = refl } in (
         level_parts c w good t lt ws v beside (at_levels CountsUpFast e) (reads_at_levels n) mounts
             (f.0, f.1, f.2, f.3, update_at (holds_level (w.views t)) i true)
             (enters_fast c lim w good t lt i r.cpu f.2 hook (map_next DownReads n, a) clear (counts_here CountsUpFast e)
@@ -344,6 +346,7 @@ module _ (c : Config) (lim : IsWithin c) (w : World) (good : IsGood c w) (t : �
     flags_same = refl;
     count_same = refl;
     used_same = refl;
+    removed_same = refl;
     node_same = refl;
     kids_same = refl;
     block_same = update_same w.words.block r.level;
@@ -352,18 +355,18 @@ module _ (c : Config) (lim : IsWithin c) (w : World) (good : IsGood c w) (t : �
   -- the world after it, from what it leaves of the counts of the task's own level
   block_law : (s' : DownReadStep) (a : Option Action) → IsAt LoadsBlock →
       let v : View = then_view (Block r.level, Load) (Go (at_down_read r s'), a) in
-      held_at v ≡ held_at (w.views t) → ReadStepFits r.level (holds_level v) s' → SameElsewhere r.level (w.views t) v →
+      held_at v ≡ held_at (w.views t) → has_open v ≡ has_open (w.views t) → ReadStepFits r.level (holds_level v) s' → SameElsewhere r.level (w.views t) v →
       (1 ≤ r.level → r.level ≤ 3 → LevelHoldsAfter c w good t lt r.level (w.words.level r.level)
       (record (at_level r.level (w.views t)) { held = held_bit (holds_level v r.level); role = read_count_role r.cpu s' })) →
       LevelsHold c (record { words = block_words; views = update w.views t v }) →
       IsGood c (record { words = block_words; views = update w.views t v })
-  block_law s' a e held fits same own levels =
+  block_law s' a e held opened fits same own levels =
       let i : ℕ = r.level in
       let f : FitsHere LoadsBlock = fits_here LoadsBlock e in
       let n : Next DownRead = Go (at_down_read r s') in
       let v : View = then_view (Block i, Load) (n, a) in
       level_parts c w good t lt block_words v block_beside (at_levels LoadsBlock e) (reads_at_levels n)
-      (record { held_same = held; added_same = refl; taken_same = refl }) (f.0, f.1, f.2, f.3, fits)
+      (record { held_same = held; added_same = refl; taken_same = refl; open_same = opened }) (f.0, f.1, f.2, f.3, fits)
       (level_follows c w good t lt i block_words v block_beside (w.words.level i)
       (record (at_level i (w.views t)) { held = held_bit (holds_level v i); role = read_count_role r.cpu s' }) refl
       (level_view_as refl refl refl (counts_here s' refl)) own
@@ -382,7 +385,7 @@ module _ (c : Config) (lim : IsWithin c) (w : World) (good : IsGood c w) (t : �
       let v : View = then_view (Block i, Load) (n, Some (Grant (Level i))) in
       let none : holds_level (w.views t) i ≡ false = none_from (holds_level (w.views t)) i i f.4 f.0 (omega arith) f.1 in
       let now : holds_level v i ≡ true = update_at (holds_level (w.views t)) i true in (
-        block_law LeavesAdmitted (Some (Grant (Level i))) e refl now (granted_elsewhere LoadsBlock LeavesAdmitted e v refl refl)
+        block_law LeavesAdmitted (Some (Grant (Level i))) e refl refl now (granted_elsewhere LoadsBlock LeavesAdmitted e v refl refl)
             (λ l1 l3. subst (λ h. LevelHoldsAfter c w good t lt i (w.words.level i)
             (record (at_level i (w.views t)) { held = h; role = CountsNot }))
             (sym (ap held_bit now ∙ sym (ap (λ b. held_bit b + 1) none)))
@@ -391,7 +394,7 @@ module _ (c : Config) (lim : IsWithin c) (w : World) (good : IsGood c w) (t : �
         (
           may_grant LoadsBlock e f.4 clear,
           level_shown c w good t lt block_words v block_beside (at_levels LoadsBlock e) (reads_at_levels n)
-              (record { held_same = refl; added_same = refl; taken_same = refl }),
+              (record { held_same = refl; added_same = refl; taken_same = refl; open_same = refl }),
         ),
       )
 
@@ -405,10 +408,10 @@ module _ (c : Config) (lim : IsWithin c) (w : World) (good : IsGood c w) (t : �
       let f : FitsHere LoadsBlock = fits_here LoadsBlock e in
       let n : Next DownRead = Go (at_down_read r CountsDown) in
       let v : View = then_view (Block i, Load) (n, None) in (
-        block_law CountsDown None e refl f.4 (same_elsewhere LoadsBlock CountsDown e v refl refl)
+        block_law CountsDown None e refl refl f.4 (same_elsewhere LoadsBlock CountsDown e v refl refl)
             (λ l1 l3. is_refused (good (AtLevel i) l1 l3) t lt r.cpu (counts_here LoadsBlock e)) levels,
         level_still c w good t lt block_words v block_beside (at_levels LoadsBlock e) (reads_at_levels n)
-            (record { held_same = refl; added_same = refl; taken_same = refl }) refl,
+            (record { held_same = refl; added_same = refl; taken_same = refl; open_same = refl }) refl,
       )
 
   -- a load of `block`

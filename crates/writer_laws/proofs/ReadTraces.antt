@@ -1,7 +1,7 @@
 -- Traces of a start and of an end. What is said of a down-read is said of it alone, so that an operation that goes through one as a part of
--- its own has it too.
+-- its own has it too, after so many events of its own.
 use Rattle.std.proofs.Common.{◌≡◌, ℕ, ◌≤◌, Bool, true, false, refl, sym, ap, subst, inl, inr, arith}
-use Rattle.std.specs.Prelude.{◌==◌, Option, Some, None, Ok, Err, List, [], ◌∷◌, length}
+use Rattle.std.specs.Prelude.{◌+◌, ◌==◌, Option, Some, None, Ok, Err, List, [], ◌∷◌, length}
 use Rattle.std.proofs.lemmas.Bool.{eq-eqb, cases_Bool}
 use Rattle.access_model.specs.declared.actions.Action.{Action}
 use Rattle.access_model.specs.declared.actions.Action.TheVariants.{Grant, Return}
@@ -56,20 +56,21 @@ HasFound i CountsDown trace = (newest (finds_closed i) trace ≡ true) × (found
 HasFound i LeavesBlocked trace = (backed_off i trace ≡ true) × (found_closed i trace ≡ true)
 HasFound i s trace = Unit {0}
 
--- what the trace says at a step
-abbrev pub ReadSays : ℕ → Bool → DownReadStep → List Traced → List Action → Type 0
-ReadSays i wait s trace added = (added ≡ read_added i s) × (wait ≡ false → length trace ≤ events_before s) × HasFound i s trace
+-- what the trace says at a step, where the down-read came after so many events
+abbrev pub ReadSays : ℕ → ℕ → Bool → DownReadStep → List Traced → List Action → Type 0
+ReadSays base i wait s trace added =
+    (added ≡ read_added i s) × (wait ≡ false → length trace ≤ base + events_before s) × HasFound i s trace
 
 -- What the trace says by what comes after an event of a down-read, whatever operation it stands in: the next step's, where it waits that it
 -- left the level closed, where it ends well its grant, and where it is refused that it found the level closed and doesn't wait.
-abbrev pub ReadNext : ℕ → ℕ → ℕ → Bool → List Traced → List Action → Next DownRead → Type 0
-ReadNext i p t wait trace added (Go r) = (s : DownReadStep) × (r ≡ read_at i p t wait s) × ReadSays i wait s trace added
-ReadNext i p t wait trace added (Wait r) =
-    ((s : DownReadStep) × (r ≡ read_at i p t wait s) × ReadSays i wait s trace added) × (wait ≡ true) × (left_closed i trace ≡ true)
-ReadNext i p t wait trace added (Done (Ok reply)) = (added ≡ Grant (Level i) ∷ []) × (wait ≡ false → length trace ≤ 6)
-ReadNext i p t wait trace added (Done (Err Again)) =
-    (added ≡ []) × ((wait ≡ false) × (found_closed i trace ≡ true)) × (wait ≡ false → length trace ≤ 6)
-ReadNext i p t wait trace added (Done (Err refusal)) = ⊥
+abbrev pub ReadNext : ℕ → ℕ → ℕ → ℕ → Bool → List Traced → List Action → Next DownRead → Type 0
+ReadNext base i p t wait trace added (Go r) = (s : DownReadStep) × (r ≡ read_at i p t wait s) × ReadSays base i wait s trace added
+ReadNext base i p t wait trace added (Wait r) =
+    ((s : DownReadStep) × (r ≡ read_at i p t wait s) × ReadSays base i wait s trace added) × (wait ≡ true) × (left_closed i trace ≡ true)
+ReadNext base i p t wait trace added (Done (Ok reply)) = (added ≡ Grant (Level i) ∷ []) × (wait ≡ false → length trace ≤ base + 5)
+ReadNext base i p t wait trace added (Done (Err Again)) =
+    (added ≡ []) × ((wait ≡ false) × (found_closed i trace ≡ true)) × (wait ≡ false → length trace ≤ base + 6)
+ReadNext base i p t wait trace added (Done (Err refusal)) = ⊥
 
 -- what holds of both additions holds of the one that a state leads to
 by_state : (P : DownReadStep → Type 0) → P CountsUpFast → P CountsUpSlow → (state : GpState) → P (step_in state)
@@ -84,25 +85,25 @@ pub by_word : (P : DownReadStep → Type 0) → P CountsUpFast → P CountsUpSlo
 by_word P fast slow None = slow
 by_word P fast slow (Some word) = by_state P fast slow word.state
 
-module _ (i p t : ℕ) (value : ℕ) (hook : HookAnswer) (earlier : List Traced) (added : List Action) where
+module _ (base i p t : ℕ) (value : ℕ) (hook : HookAnswer) (earlier : List Traced) (added : List Action) where
   -- what the trace says after the event of a step
   abbrev pub After : Bool → DownReadStep → Type 0
   After wait s =
       let r : DownRead = read_at i p t wait s in
       let found : ℕ = found_by (down_read_next r s).1 value in
-      ReadNext i p t wait (with_hook (event_of (down_read_next r s).0 (down_read_next r s).1 value) hook ∷ earlier)
+      ReadNext base i p t wait (with_hook (event_of (down_read_next r s).0 (down_read_next r s).1 value) hook ∷ earlier)
       (actions_after (down_read_after r s found).1 added) (down_read_after r s found).0
 
   -- it left its section, blocked
-  blocked : (wait : Bool) → ReadSays i wait LeavesBlocked earlier added → After wait LeavesBlocked
+  blocked : (wait : Bool) → ReadSays base i wait LeavesBlocked earlier added → After wait LeavesBlocked
   blocked true h = ((EntersSection, refl, (h.0, λ q. absurd (cc), tt)), refl, h.2.0)
   blocked false h = (h.0, (refl, h.2.1), λ q. omega (arith, h.1 q))
 
   -- each event of a down-read keeps what its trace says
-  pub read_event : (wait : Bool) (s : DownReadStep) → ReadSays i wait s earlier added → After wait s
+  pub read_event : (wait : Bool) (s : DownReadStep) → ReadSays base i wait s earlier added → After wait s
   read_event wait EntersSection h = (LoadsSync, refl, (h.0, λ q. omega (arith, h.1 q), tt))
   read_event wait LoadsSync h =
-      by_word (λ s. ReadNext i p t wait
+      by_word (λ s. ReadNext base i p t wait
       (with_hook (event_of (down_read_next (read_at i p t wait LoadsSync) LoadsSync).0
       (down_read_next (read_at i p t wait LoadsSync) LoadsSync).1 value) hook ∷ earlier)
       added (Go (read_at i p t wait s)))
@@ -120,7 +121,7 @@ module _ (i p t : ℕ) (value : ℕ) (hook : HookAnswer) (earlier : List Traced)
 
 -- what a start's trace says at a phase
 abbrev pub StartAt : ℕ → ℕ → ℕ → Bool → List Traced → Phase → List Action → Type 0
-StartAt i p t wait trace phase added = (s : DownReadStep) × (phase ≡ DownReads (read_at i p t wait s)) × ReadSays i wait s trace added
+StartAt i p t wait trace phase added = (s : DownReadStep) × (phase ≡ DownReads (read_at i p t wait s)) × ReadSays 0 i wait s trace added
 
 -- a short trace of a start
 start_short : (c : Config) (i p : ℕ) (wait : Bool) (trace : List Traced) → (wait ≡ false → length trace ≤ 6) →
@@ -129,17 +130,18 @@ start_short c i p true trace h = tt
 start_short c i p false trace h = h refl
 
 -- a step comes after at most six events
-within_six : (s : DownReadStep) (n : ℕ) → n ≤ events_before s → n ≤ 6
+within_six : (s : DownReadStep) (n : ℕ) → n ≤ 0 + events_before s → n ≤ 6
 within_six EntersSection n h = omega arith
 within_six s n h = omega arith
 
 -- what is said of a down-read is said of a start, by what comes next
 start_says : (c : Config) (i p t : ℕ) (wait : Bool) (e : Traced) (earlier : List Traced) (added : List Action) (n : Next DownRead) →
-    ReadNext i p t wait (e ∷ earlier) added n →
+    ReadNext 0 i p t wait (e ∷ earlier) added n →
     Says (StartAt i p t wait) c (Start i p wait) (e ∷ earlier) (map_next DownReads n) added
 start_says c i p t wait e earlier added (Go r) h = (h.0, ap DownReads h.1, h.2)
 start_says c i p t wait e earlier added (Wait r) h = ((h.0.0, ap DownReads h.0.1, h.0.2), (h.1, h.2))
-start_says c i p t wait e earlier added (Done (Ok reply)) h = ((h.0, tt), start_short c i p wait (e ∷ earlier) h.1)
+start_says c i p t wait e earlier added (Done (Ok reply)) h =
+    ((h.0, tt), start_short c i p wait (e ∷ earlier) (λ q. omega (arith, h.1 q)))
 start_says c i p t wait e earlier added (Done (Err Again)) h = ((h.0, h.1), start_short c i p wait (e ∷ earlier) h.2)
 start_says c i p t wait e earlier added (Done (Err refusal)) h = absurd h
 
@@ -154,7 +156,7 @@ start_kept c t i p wait = record {
       let found : ℕ = found_by (down_read_next r here.0).1 value in
       start_says c i p t wait (with_hook (event_of (down_read_next r here.0).0 (down_read_next r here.0).1 value) hook) earlier
       (actions_after (down_read_after r here.0 found).1 added) (down_read_after r here.0 found).0
-      (read_event i p t value hook earlier added wait here.0 here.2)
+      (read_event 0 i p t value hook earlier added wait here.0 here.2)
       );
   short = λ trace phase added here. start_short c i p wait trace (λ q. within_six here.0 (length trace) (here.2.1 q));
 }

@@ -2,7 +2,9 @@
 use Rattle.std.proofs.Common.{◌≡◌, ℕ, ◌+◌, ◌-◌, ◌<◌, Bool, refl, sym, ap, ◌∙◌, arith}
 use Rattle.std.specs.Prelude.{Option, Some, None, Result, Ok, Err}
 use Rattle.finite_sums.specs.Sums.{update}
-use Rattle.finite_sums.proofs.Totals.{update_at, update_off}
+use Rattle.access_model.specs.Actions.{after_action}
+use Rattle.gate_world.specs.Shown.{shown}
+use Rattle.finite_sums.proofs.Totals.{update_at, update_off, update_same}
 use Rattle.access_model.specs.declared.actions.Action.{Action}
 use Rattle.access_model.specs.declared.actions.Action.TheVariants.{Return}
 use Rattle.access_model.specs.declared.actions.Gate.TheVariants.{Mount}
@@ -23,7 +25,7 @@ use Rattle.gate_world.specs.declared.config.Config.{Config}
 use Rattle.gate_world.specs.declared.work.Phase.TheVariants.{Mounts}
 use Rattle.gate_world.specs.declared.views.View.{View}
 use Rattle.gate_world.specs.Configs.{IsWithin}
-use Rattle.gate_world.specs.Views.{held_at, added_by, taken_by, view_with}
+use Rattle.gate_world.specs.Views.{held_at, added_by, taken_by, view_with, has_open}
 use Rattle.gate_world.specs.Worlds.{World}
 use Rattle.gate_world.specs.Rules.{role_of, at_mount, IsSteady, IsGood, GateStepKeeps, AtMount, GatesHold}
 use Rattle.gate_frames.proofs.Frames.{role_on, role_off, view_as, holds_as, MountHoldsAfter, owner_same, gates_after, shown_as, shown_still}
@@ -52,7 +54,7 @@ module _ (c : Config) (lim : IsWithin c) (w : World) (good : IsGood c w) (t : �
             (ap (update (λ x. at_mount m (w.views x)) t)
             (view_as refl (update_at (added_by (w.views t).events) m net) refl (role_on m (Asking p))))
             (adds (good (AtMount m) lm) t lt lim.tasks lim.processors p f.1 (want_here m p wait CountsUp e))),
-        shown_still c w t lt ws v refl refl refl refl refl refl refl same.closing_same refl refl,
+        shown_still c w t lt ws v refl refl refl refl refl refl refl same.closing_same refl refl refl,
       )
 
   module _ (m p : ℕ) (hook : HookAnswer) where
@@ -95,7 +97,7 @@ module _ (c : Config) (lim : IsWithin c) (w : World) (good : IsGood c w) (t : �
         let same : IsSteady (w.views t).phase None = as_owner (want m p wait (CountsDown refusal)) e refl refl (λ i. refl) in (
           take_law (held_at (w.views t) m) (Err refusal) None (want_off m p wait (CountsDown refusal) e) same refl (λ y ne. refl)
               (backs_off (good (AtMount m) f.0) t lt lim.tasks lim.processors p f.1 (want_here m p wait (CountsDown refusal) e)),
-          shown_still c w t lt words_less (done (Err refusal) None) refl refl refl refl refl refl refl same.closing_same refl refl,
+          shown_still c w t lt words_less (done (Err refusal) None) refl refl refl refl refl refl refl same.closing_same refl refl refl,
         )
 
     -- gives an access back, on any processor; meets: a sum reads each word once
@@ -107,5 +109,9 @@ module _ (c : Config) (lim : IsWithin c) (w : World) (good : IsGood c w) (t : �
           take_law fewer (Ok UnitReply) (Some (Return (Mount m))) (λ y ne. ap (role_of y) e) same
               (update_at (held_at (w.views t)) m fewer) (update_off (held_at (w.views t)) m fewer)
               (returns (good (AtMount m) f.0) t lt lim.tasks lim.processors p f.1 fewer (ap (role_of m) e) (omega (arith, f.2))),
-          ((lt, (f.0, f.2)), shown_as c w t lt words_less (done (Ok UnitReply) (Some (Return (Mount m)))) refl same.closing_same),
+          (
+            (lt, (f.0, f.2)),
+            shown_as c w t lt words_less (done (Ok UnitReply) (Some (Return (Mount m)))) refl same.closing_same ∙
+                (λ j. record (after_action (shown c w) t (Return (Mount m))) { opens = update_same (λ x. has_open (w.views x)) t j }),
+          ),
         )

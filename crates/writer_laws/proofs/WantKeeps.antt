@@ -101,7 +101,8 @@ want_op c m p wait = record {
   order_agrees = λ f g h k mounts levels there. refl;
   room_agrees = λ f g mounts there. ap (λ y. nat_lt y 1024) (mounts m
       (ltb-true m c.mounts (both (nat_lt m c.mounts) (nat_lt p c.processors) there).0));
-  restores = λ refusal trace before order. (refl, refl);
+  restores = λ refusal trace before order. (refl, refl, refl);
+  file = λ t files own closed. tt;
   tells = λ lim t trace h. tells (WantAt c m p wait) c t (WantOp m p wait) (want_traced c t m p wait) trace h;
   short = λ lim t trace h. is_short (WantAt c m p wait) c t (WantOp m p wait) (want_traced c t m p wait) trace h;
   most_small = λ lim. by_bool wait (λ w. IsSmall (most_events c (WantOp m p w))) tt (omega arith);
@@ -124,7 +125,8 @@ drop_op c m p = record {
   order_agrees = λ f g h k mounts levels there. ap (nat_lt 0) (mounts m
       (ltb-true m c.mounts (both (nat_lt m c.mounts) (nat_lt p c.processors) there).0));
   room_agrees = λ f g mounts there. refl;
-  restores = λ refusal trace before order. (refl, refl);
+  restores = λ refusal trace before order. (refl, refl, refl);
+  file = λ t files own closed. tt;
   tells = λ lim t trace h. tells (DropAt m p) c t (DropMount m p) (drop_kept c t m p) trace h;
   short = λ lim t trace h. is_short (DropAt m p) c t (DropMount m p) (drop_kept c t m p) trace h;
   most_small = λ lim. omega arith;

@@ -4,7 +4,8 @@ use Rattle.std.specs.Prelude.{◌⊎◌, Option, Some, None, Ok}
 use Rattle.std.proofs.lemmas.Bool.{ne_eqb, cases_Bool}
 use Rattle.std.proofs.lemmas.Bool.Decides.{eqb_tells}
 use Rattle.finite_sums.specs.Sums.{update}
-use Rattle.finite_sums.proofs.Totals.{update_at, update_off, total_at}
+use Rattle.access_model.specs.Actions.{after_action}
+use Rattle.finite_sums.proofs.Totals.{update_at, update_off, update_same, total_at}
 use Rattle.access_model.specs.declared.actions.Action.TheVariants.{Grant}
 use Rattle.access_model.specs.declared.actions.Gate.TheVariants.{Mount}
 use Rattle.access_model.specs.declared.errors.GateError.{GateError}
@@ -28,7 +29,7 @@ use Rattle.gate_world.specs.declared.config.Config.{Config}
 use Rattle.gate_world.specs.declared.work.Phase.{Phase}
 use Rattle.gate_world.specs.declared.work.Phase.TheVariants.{Mounts}
 use Rattle.gate_world.specs.declared.views.View.{View}
-use Rattle.gate_world.specs.Views.{held_at, holds_level, phase_after, view_with}
+use Rattle.gate_world.specs.Views.{held_at, holds_level, phase_after, view_with, has_open}
 use Rattle.gate_world.specs.Fits.{Fits}
 use Rattle.gate_world.specs.Worlds.{World}
 use Rattle.gate_world.specs.Shown.{shown, closing}
@@ -176,6 +177,13 @@ module _ (c : Config) (w : World) (good : IsGood c w) (t : ℕ) (lt : t < c.task
             (ap (update (λ x. at_mount m (w.views x)) t) (view_as (update_at (held_at (w.views t)) m more) refl refl refl))
             (is_granted (mount_here c w good t lt m p wait hook LoadsSuperblock e) t lt p
             (want_here m p wait LoadsSuperblock e) h.1 f.2)) in
-            rw h.0 (there, ((lt, (f.0, r.0, r.1, f.2)), shown_as c w t lt w.words v refl same.closing_same))
+            rw h.0 (
+              there,
+              (
+                (lt, (f.0, r.0, r.1, f.2)),
+                shown_as c w t lt w.words v refl same.closing_same ∙
+                    (λ j. record (after_action (shown c w) t (Grant (Mount m))) { opens = update_same (λ x. has_open (w.views x)) t j }),
+              ),
+            )
         | inr h ↦ rw h.0 (want_refused c w good t lt m p wait hook SbFlags LoadsSuperblock ReadOnly e refl (inr (refl, refl)))
       ]

@@ -304,7 +304,8 @@ want_write_op c m p = record {
   restores = λ refusal trace before order.
       let none : (not (levels_of before 1) ≡ true) × ((not (levels_of before 2) && not (levels_of before 3)) ≡ true) =
       both (not (levels_of before 1)) (not (levels_of before 2) && not (levels_of before 3)) order in
-      (refl, level_restored (levels_of before) (is_false (levels_of before 1) none.0));
+      (refl, level_restored (levels_of before) (is_false (levels_of before 1) none.0), refl);
+  file = λ t files own closed. tt;
   tells = λ lim t trace h. tells (WriteAt c m p t) c t (WantWrite m p) (write_kept c t m p) trace h;
   short = λ lim t trace h. is_short (WriteAt c m p t) c t (WantWrite m p) (write_kept c t m p) trace h;
   most_small = λ lim. tt;
@@ -327,7 +328,8 @@ drop_write_op c m p = record {
   cause = λ t w earlier. tt;
   order_agrees = λ f g h k mounts levels there. rw (levels 1 (omega arith) (omega arith), mounts m (in_mount c m p there).0) refl;
   room_agrees = λ f g mounts there. refl;
-  restores = λ refusal trace before order. (refl, refl);
+  restores = λ refusal trace before order. (refl, refl, refl);
+  file = λ t files own closed. tt;
   tells = λ lim t trace h. tells (DropAt m p) c t (DropWrite m p) (drop_kept c t m p) trace h;
   short = λ lim t trace h. is_short (DropAt m p) c t (DropWrite m p) (drop_kept c t m p) trace h;
   most_small = λ lim. omega arith;

@@ -40,7 +40,7 @@ level_taken = Grant (Level 1) ∷ []
 -- What a trace says, by the gate at which a taking stands: what the gate's own operation says, on top of what was added and done before it.
 -- Where the level is to be left, the mount's refusal has its cause.
 abbrev WriteSays : Config → ℕ → ℕ → ℕ → WritePhase → List Traced → List Action → Type 0
-WriteSays c m p t (Takes n r) trace added = (n ≡ m) × ((s : DownReadStep) × (r ≡ read_at 1 p t true s) × ReadSays 1 true s trace added)
+WriteSays c m p t (Takes n r) trace added = (n ≡ m) × ((s : DownReadStep) × (r ≡ read_at 1 p t true s) × ReadSays 0 1 true s trace added)
 WriteSays c m p t (Wants x) trace added =
     (below : List Traced) × (s : WantStep) × (x ≡ want_at m p true s) × WantSays c m p true level_taken below s trace added
 WriteSays c m p t (GivesBack n q refusal) trace added = (added ≡ level_taken) × IsHonest c (WantWrite m p) refusal trace
@@ -53,7 +53,7 @@ WriteAt c m p t trace phase added = (x : WritePhase) × (phase ≡ Writes x) × 
 
 module _ (c : Config) (m p t : ℕ) (e : Traced) (earlier : List Traced) (added : List Action) where
   -- what the trace says after an event at level 1
-  taken_says : (n : Next DownRead) → ReadNext 1 p t true (e ∷ earlier) added n →
+  taken_says : (n : Next DownRead) → ReadNext 0 1 p t true (e ∷ earlier) added n →
       Says (WriteAt c m p t) c (WantWrite m p) (e ∷ earlier) (map_next Writes (then_wants m p n)) added
   taken_says (Go r) h = (Takes m r, refl, (refl, h))
   taken_says (Wait r) h = ((Takes m r, refl, (refl, h.0)), inl h.2)
@@ -83,13 +83,13 @@ module _ (c : Config) (m p t : ℕ) (value : ℕ) (hook : HookAnswer) (earlier :
   After x = SaysAfter (WriteAt c m p t) c (WantWrite m p) (Writes x) value hook earlier added
 
   -- an event at level 1
-  takes_event : (s : DownReadStep) → ReadSays 1 true s earlier added → After (Takes m (read_at 1 p t true s))
+  takes_event : (s : DownReadStep) → ReadSays 0 1 true s earlier added → After (Takes m (read_at 1 p t true s))
   takes_event s h =
       let r : DownRead = read_at 1 p t true s in
       let found : ℕ = found_by (down_read_next r s).1 value in
       taken_says c m p t (with_hook (event_of (down_read_next r s).0 (down_read_next r s).1 value) hook) earlier
       (actions_after (down_read_after r s found).1 added) (down_read_after r s found).0
-      (read_event 1 p t value hook earlier added true s h)
+      (read_event 0 1 p t value hook earlier added true s h)
 
   -- an event at the mount
   wants_event : (below : List Traced) (s : WantStep) → WantSays c m p true level_taken below s earlier added →

@@ -35,7 +35,8 @@ fn shut<R: Wait, H: FsHooks>(
     Err(GateError::Busy)
 }
 
-/// Remounts read-only by steps. Where it is busy, the word that it looked at last: the stage, or the last count of a mount.
+/// Remounts read-only by steps. Where it is busy, the word that it looked at last: the stage, the count of removed files, or the last count of
+/// a mount.
 fn shut_and_see<R: Wait, H: FsHooks>(
     rt: &R,
     gates: &Gates,
@@ -56,7 +57,7 @@ fn shut_and_see<R: Wait, H: FsHooks>(
         let step = task.step(gates, hook);
         if let Some(
             Event {
-                word: WordName::Stage | WordName::MountCount(_, _),
+                word: WordName::Stage | WordName::Removed | WordName::MountCount(_, _),
                 ..
             },
         ) = step.event

@@ -66,7 +66,7 @@ fn is_refused(core: &mut Core) -> bool {
     core.begin(0, remount).is_ok()
         && core.begin(0, remount) == Err(GateError::Order)
         && core.begin(2, remount) == Err(GateError::Invalid)
-        && goes(core, 10)
+        && goes(core, 12)
         && core.wants_hook(0) == Some(HookKind::Reconfigure)
         && core.wants_hook(2).is_none()
         && core.step(0, Err(5)).progress == Progress::Going

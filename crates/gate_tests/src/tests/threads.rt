@@ -5,6 +5,7 @@ ghost use Rattle.vfs_gates.specs.TaskStates.{IsFrom};
 mod freezes;
 mod holders;
 mod mounts;
+mod opens;
 mod remounts;
 mod runs;
 mod trees;

@@ -11,7 +11,7 @@ use std::test::Fail;
 
 /// What a task does, line by line, until it takes up something else. A capital letter stands for a number: T for the task's own, X for
 /// any task's, M for a mount's, C for a processor's, L for a level's, N for a node's, B for some blocks, and E for the code of a hook.
-static STORIES: [&str; 26] = [
+static STORIES: [&str; 31] = [
     "T want M C\nT run\nwords\nT drop M C\nT run\n",
     "T trywant M C\nT step\nT step\nT run\nX drop M C\nX run\n",
     "T want M C\nT step\nT step\nT step\nT step\nT step\nmodel\nT drop M C\nT step\n",
@@ -36,12 +36,20 @@ static STORIES: [&str; 26] = [
     "T remount ro\nT run\nT freeze\nT run\nT snapshot\nT run\nT thaw\nT run\nT remount rw\nT run\n",
     "T freeze kernel\nT run\nX freeze user\nX step\nX step\nX run\nmodel\nT thaw kernel\nT run\nX thaw user\nX run\nwords\n",
     "T freeze user\nT run\nT freeze kernel\nT run\nwords\nmodel\nT thaw user\nT step\nT step\nT run\nX thaw kernel\nX run unfreeze E\nmodel\nX thaw kernel\nX run\n",
+    "T wantwrite M C\nT run\nT create 0 file\nT run\nT create 1 dir\nT run\nT open N\nT step\nT step\nT run\nmodel\nT close N C\nT step\nT run\nT dropwrite M C\nT run\n",
+    "T wantwrite M C\nT run\nT create 0 file\nT run\nT grow 1 B\nT run\nT open 1\nT run\nT move 1 1\nT run\nT remove 1\nT step\nT step\nT step\nT step\nT run\nwords\nmodel\nT dropwrite M C\nT run\nT tryclose 1 C\nT step\nT step\nT step\nT step\nT step\nT step\nT step\nT step\nT step\nT step\nT run\nT close 1 C\nT run\ntree\n",
+    "T open 1\nT run\nX open 1\nX step\nX wantwrite M C\nX run\nX remove 1\nX run\nX dropwrite M C\nX run\nmodel\nT remount ro\nT step\nT step\nT step\nT step\nT step\nT run\nT close 1 C\nT run\nT remount rw\nT run\n",
+    "T open 1\nT run\nT open 1\nT freeze\nT run\nX tryclose 1 C\nX run\nT close 1 C\nT step\nT step\nT step\nT run\nX thaw\nX run\nT run\nX run\nwords\n",
+    "X open N\nX run\nX close N C\nX step\nX step\nX tryclose N C\nX run\n",
     "# a comment\n\nT run\nwords\ntree\nmodel\n",
     "T trywant X N\nT start N M\nT create B file\nT grow E B\nT run\nT move C E\nT wantwrite E M\nT callback C\nT step\n",
 ];
 
+/// How many parts the text of all schedules has to have.
+const PARTS: usize = 35;
+
 /// What the text of all schedules has to have, so that they are worth replaying.
-static REACHED: [&str; 26] = [
+static REACHED: [&str; PARTS] = [
     " grant mount ",
     " grant level ",
     " return mount ",
@@ -68,6 +76,15 @@ static REACHED: [&str; 26] = [
     " refused 30 ReadOnly\n",
     " refused 35 Order\n",
     "\nmount0.flags 1\n",
+    " open 1\n",
+    "\ntask 1 open 1\n",
+    " close 1\n",
+    "\nremoved 1\n",
+    " clean removed\n",
+    " add removed 0 1\n",
+    " sub removed 1 0\n",
+    " load removed 1 1\n",
+    " refused 24 TooMany\n",
 ];
 
 /// How many schedules there are, and how many lines each has after its configuration.
@@ -212,7 +229,7 @@ fn has(text: &[u8], part: &str) -> bool {
 }
 
 /// Notes which parts a text has that stood in too few so far.
-fn note_parts(reached: &mut [u32; 24], text: &[u8]) {
+fn note_parts(reached: &mut [u32; PARTS], text: &[u8]) {
     for (texts, part) in reached.iter_mut().zip(REACHED.iter()) {
         if *texts < ENOUGH && has(text, part) {
             *texts = texts.saturating_add(1);
@@ -221,7 +238,7 @@ fn note_parts(reached: &mut [u32; 24], text: &[u8]) {
 }
 
 /// That each part stands in enough texts.
-fn all_reached<R: Abort>(rt: &R, reached: &[u32; 24]) {
+fn all_reached<R: Abort>(rt: &R, reached: &[u32; PARTS]) {
     for (texts, part) in reached.iter().zip(REACHED.iter()) {
         assert!(rt; *texts == ENOUGH, "{part}");
     }
@@ -241,7 +258,7 @@ fn played_over_either<R: Abort + Alloc<A = Global>>(
 
 #[test]
 fn random_schedules_print_the_same_over_either(rt: HostRuntime) -> Result<(), Fail> {
-    let mut reached = [0; 24];
+    let mut reached = [0; PARTS];
     for seed in 0..SCHEDULES {
         let mut schedule = Vec::new(rt.alloc());
         write_schedule(&mut schedule, &mut Dice { state: seed })?;

@@ -1,6 +1,6 @@
 -- each is a lemma
 use Rattle.tree_laws.specs.Ends.{Passed}
-use Rattle.tree_laws.proofs.Ends.{create_ends, remove_ends, grow_ends, move_ends, mark_ends, snapshot_ends}
+use Rattle.tree_laws.proofs.Ends.{create_ends, remove_ends, grow_ends, move_ends, mark_ends, open_ends, snapshot_ends}
 use Rattle.tree_laws.proofs.each_call_ends_honestly.Goals as goal
 
 pub returns-clause-create : goal.returns-clause-create
@@ -17,6 +17,9 @@ returns-clause-move_to c = λ seen more. move_ends (Passed seen) (Passed more)
 
 pub returns-clause-mark : goal.returns-clause-mark
 returns-clause-mark c = λ seen more. mark_ends (Passed seen) (Passed more)
+
+pub returns-clause-open_file : goal.returns-clause-open_file
+returns-clause-open_file c = λ seen more. open_ends (Passed seen) (Passed more)
 
 pub returns-clause-snapshot : goal.returns-clause-snapshot
 returns-clause-snapshot c = λ seen more. snapshot_ends (Passed seen) (Passed more)

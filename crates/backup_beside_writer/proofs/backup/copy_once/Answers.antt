@@ -1,8 +1,7 @@
 -- Each change of a copy leaves a task that rests, and is refused only as busy.
-use Rattle.std.proofs.Common.{rules, ◌≡◌, ◌<◌, true, false, sym, ap, ◌∙◌, subst}
-use Rattle.std.specs.Prelude.{IfErr, Err}
+use Rattle.std.proofs.Common.{rules, ◌≡◌, ◌<◌, true, false, sym, subst}
+use Rattle.std.specs.Prelude.{IfErr}
 use Rattle.access_model.specs.declared.errors.GateError.TheVariants.{Busy}
-use Rattle.backup_beside_writer.specs.Rests.{Rests}
 use Rattle.backup_beside_writer.proofs.Calls.{change_rests, change_refused}
 use Rattle.backup_beside_writer.proofs.backup.copy_once.Goals as goal
 

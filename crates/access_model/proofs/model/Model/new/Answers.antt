@@ -4,8 +4,8 @@ use Rattle.std.proofs.lemmas.Grind.{common_steps}
 use Rattle.std.proofs.Math.ListN.{set}
 use Rattle.std.specs.Prelude.{false, None, Some}
 use Rattle.access_model.specs.States.{root}
-use Rattle.access_model.specs.Shown.{held_of, inside_of, tree_of, standing_of}
-use Rattle.access_model.proofs.Opening.{no_access, nothing_held, nobody_inside, no_flag, root_alone}
+use Rattle.access_model.specs.Shown.{held_of, inside_of, opens_of, tree_of, standing_of}
+use Rattle.access_model.proofs.Opening.{no_access, nothing_held, nobody_inside, nothing_open, no_flag, root_alone}
 use Rattle.access_model.proofs.model.Model.new.Goals as goal
 
 pub returns-clause-opens : goal.returns-clause-opens
@@ -19,8 +19,9 @@ returns-clause-opens c =
     let some : 0 < c.args.nodes = grind (arith, common_steps) in
     let held = ap held_of accesses ∙ nothing_held c.args.tasks in
     let inside = ap inside_of accesses ∙ nobody_inside c.args.tasks in
+    let open_files = ap opens_of accesses ∙ nothing_open c.args.tasks in
     let alone = ap (λ xs. tree_of (set xs 0 (Some root))) tree ∙ root_alone c.args.nodes some in
     λ i. record {
       limits = record { tasks = c.args.tasks; mounts = c.args.mounts; nodes = nodes i; capacity = c.args.capacity };
-      state = record { mounts = held i; levels = inside i; mount_ro = no_flag i; sb_ro = false; stage = 0; holders = c.none.ensures i; passed = 0; tree = alone i };
+      state = record { mounts = held i; levels = inside i; opens = open_files i; mount_ro = no_flag i; sb_ro = false; stage = 0; holders = c.none.ensures i; passed = 0; tree = alone i };
     }

@@ -18,9 +18,10 @@ returns g c p h =
     IfOk-weaker c.print_sections.result
     (λ _. new ≡ before ++ flat_map (section_line p) (count_up p.config.tasks))
     (λ _. new ≡ old ++ words_text p)
-    (λ _ last. all_words p _ _ _ _ _ _ _ _ _ _ _
+    (λ _ last. all_words p _ _ _ _ _ _ _ _ _ _ _ _
     (c.in_ok-print_word.ensures p h tt) (c.in_ok-print_word-2.ensures p h tt)
     (c.in_ok-print_word-3.ensures p h tt) (c.in_ok-print_word-4.ensures p h tt) (c.in_ok-print_word-5.ensures p h tt)
+    (c.in_ok-print_word-6.ensures p h tt)
     (c.in_ok-print_words_of_mounts.ensures p h) (c.in_ok-print_level_words.ensures p h a d)
     (c.in_ok-print_level_words-2.ensures p h b e) (c.in_ok-print_level_words-3.ensures p h d f) last)
     (c.print_sections.ensures p h)

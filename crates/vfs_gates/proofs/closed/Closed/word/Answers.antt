@@ -4,7 +4,7 @@ use Rattle.std.specs.Slots.{slots_items}
 use Rattle.cpu_words.specs.declared.names.WordName.{WordName}
 use Rattle.cpu_words.specs.Names.{IsWord, place}
 use Rattle.gate_world.specs.Configs.{extents_of}
-use Rattle.vfs_gates.proofs.Ending.{umount_free, no_remount, no_hold, no_section}
+use Rattle.vfs_gates.proofs.Ending.{umount_free, no_remount, none_removed, no_hold, no_section}
 use Rattle.vfs_gates.proofs.closed.Closed.word.Goals as goal
 
 pub returns-then-has_word-clause-umount : goal.returns-then-has_word-clause-umount
@@ -16,6 +16,11 @@ pub returns-then-has_word-clause-remount : goal.returns-then-has_word-clause-rem
 returns-then-has_word-clause-remount c is = let w = c.self.inside in let ws = slots_items w.closed.words in
     ap (λ (v : ℕ). Some v)
     (c.word_of.ensures ∙ (ap (λ (n : WordName). slice_index ws (16 * place n)) is ∙ no_remount w.config ws c.self.invariant.4))
+
+pub returns-then-has_word-clause-removed : goal.returns-then-has_word-clause-removed
+returns-then-has_word-clause-removed c is = let w = c.self.inside in let ws = slots_items w.closed.words in
+    ap (λ (v : ℕ). Some v)
+    (c.word_of.ensures ∙ (ap (λ (n : WordName). slice_index ws (16 * place n)) is ∙ none_removed w.config ws c.self.invariant.4))
 
 pub returns-then-has_word-clause-hold : goal.returns-then-has_word-clause-hold
 returns-then-has_word-clause-hold c m is = let w = c.self.inside in let ws = slots_items w.closed.words in

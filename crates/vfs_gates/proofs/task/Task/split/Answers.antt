@@ -1,9 +1,10 @@
-use Rattle.std.proofs.Common.{◌≡◌, ℕ, length, set, false, arith, sym, ap, ◌∙◌, subst, None}
+use Rattle.std.proofs.Common.{◌≡◌, ℕ, refl, length, set, false, arith, sym, ap, ◌∙◌, subst, None}
 use Rattle.call_events.specs.Seating.{SeatItems}
 use Rattle.call_events.specs.Ties.{Ties}
-use Rattle.vfs_gates.proofs.Parting.{split_self, split_new}
+use Rattle.vfs_gates.proofs.Parting.{split_self, split_new, lowest_there, none_begun}
 use Rattle.call_events.specs.Seat.{Seat}
-use Rattle.vfs_gates.specs.TaskStates.{own_view}
+use Rattle.vfs_gates.specs.TaskStates.{TaskState, task_state, own_view}
+use Rattle.vfs_gates.specs.Parts.{SplitOf}
 use Rattle.vfs_gates.proofs.Rooming.{given_unseen, kept_view, room_new, room_same}
 use Rattle.vfs_gates.proofs.task.Task.split.Goals as goal
 
@@ -28,3 +29,26 @@ invariant_of-self c = let old = c.self.inside in let n : ℕ = c.in-Some.number 
       room_same old.config.nodes old.rooms old.begins old.kept.phase old.seat.me.0 c.give-seat.new.seat.me.0
           (ap (λ z. own_view z.0) kept ∙ kept_view n old.seat.me.0) c.self.invariant.2,
     )
+
+pub returns-clause-made : goal.returns-clause-made
+returns-clause-made c =
+    let old = c.self.inside in
+    let n : ℕ = c.in-Some.number in
+    let low = c.in-Some.ensures.some in
+    let ties = c.self.invariant.0 in
+    let idle : old.kept.phase ≡ None = ap (λ (s : TaskState). s.phase) c.self.view_is ∙ c.if-not-is_idle.ensures.0 refl in
+    let spares = lowest_there old.number old.config old.begins old.kept old.spare old.seat.me.0 n ties low.1 low.2 in
+    let begun = none_begun old.number old.config old.begins old.kept old.spare old.seat.me.0 ties idle in
+    let given = c.give-seat.ensures in
+    subst (λ (s : TaskState). SplitOf s
+    (task_state c.give-seat.new.seat.table_id old.config old.begins old.kept.phase c.give-seat.new.seat.me.0)
+    (task_state c.give-seat.result.table_id old.config None c.idle.result.phase c.give-seat.result.me.0)) c.self.view_is
+    (record {
+      number = n;
+      idle = idle;
+      there = spares.0;
+      lowest = spares.1;
+      kept = λ i. task_state (given.table.0 i) old.config old.begins old.kept.phase (given.kept i).0;
+      given = λ i. task_state (given.table.1 i) old.config (sym begun i) ((ap (λ (k : Seat). k.phase) c.idle.ensures ∙ sym idle) i)
+          (given.given i).0;
+    })

@@ -3,7 +3,7 @@ use Rattle.std.proofs.Common.{sym}
 use Rattle.std.proofs.lemmas.Result.{err_from_is_err_and}
 use Rattle.call_events.specs.Runs.{the_reply}
 use Rattle.call_events.proofs.Running.{starts, was_refused, was_done, told_whole}
-use Rattle.vfs_gates.proofs.task.Task.take_waiting.Goals as goal
+use Rattle.vfs_gates.proofs.task.Task.run_waiting.Goals as goal
 
 pub returns : goal.returns
 returns g c =

@@ -1,9 +1,9 @@
--- a snapshot: its beginning and its events
+-- its beginning and its events
 use Rattle.std.proofs.Common.{sym}
 use Rattle.std.proofs.lemmas.Result.{err_from_is_err_and}
 use Rattle.call_events.specs.Runs.{the_reply}
 use Rattle.call_events.proofs.Running.{starts, was_refused, was_done, told_whole}
-use Rattle.vfs_gates.proofs.task.Task.take.Goals as goal
+use Rattle.vfs_gates.proofs.task.Task.run.Goals as goal
 
 pub finish-requires-clause-trying : goal.finish-requires-clause-trying
 finish-requires-clause-trying c = record {

@@ -1,0 +1,174 @@
+-- All that is proved of a close, from what is proved of its events at the tree and at level 3.
+use Rattle.std.proofs.Common.{◌≡◌, ℕ, ◌<◌, ◌≤◌, ◌∙◌, refl, ap, inl, inr}
+use Rattle.std.proofs.lemmas.Bool.{cases_Bool}
+use Rattle.std.specs.Prelude.{◌==◌, Some, Ok, List, ◌∷◌}
+use Rattle.access_model.specs.Replies.{map_next}
+use Rattle.access_model.specs.declared.replies.Next.{Next}
+use Rattle.access_model.specs.declared.replies.Next.TheVariants.{Done}
+use Rattle.access_model.specs.declared.replies.Reply.TheVariants.{Unit as UnitReply}
+use Rattle.cpu_words.specs.Hooks.{HookAnswer}
+use Rattle.gated_tree.specs.Nodes.{any_file_in, word_of}
+use Rattle.level_laws.specs.Events.{SyncStep}
+use Rattle.level_laws.specs.Roles.{closed}
+use Rattle.percpu_rwsem.specs.declared.readers.DownRead.{DownRead}
+use Rattle.percpu_rwsem.specs.Readers.{down_read_after}
+use Rattle.file_closes.specs.declared.phases.ClosePhase.{ClosePhase}
+use Rattle.file_closes.specs.declared.phases.ClosePhase.TheVariants.{LoadsFile, LowersCount, Enters, FreesNode, RefundsBlocks, Uncounts, Leaves}
+use Rattle.file_closes.specs.Phases.{after, then_frees, leaves_on}
+use Rattle.gate_world.specs.declared.config.Config.{Config}
+use Rattle.gate_world.specs.declared.work.Phase.{Phase}
+use Rattle.gate_world.specs.declared.work.Phase.TheVariants.{Closes, DownReads, UpReads}
+use Rattle.gate_world.specs.Alike.{rephased}
+use Rattle.gate_world.specs.Causes.{all_inside, asks_level, HasCause}
+use Rattle.gate_world.specs.Configs.{IsWithin}
+use Rattle.gate_world.specs.Fits.{CloseFits}
+use Rattle.gate_world.specs.KeptCauses.{CauseOf}
+use Rattle.gate_world.specs.LevelRuns.{level_in}
+use Rattle.gate_world.specs.Levels.{sync_role_of}
+use Rattle.gate_world.specs.Rules.{IsGood, StepKeeps}
+use Rattle.gate_world.specs.Views.{holds_level, phase_after}
+use Rattle.gate_world.specs.Waits.{WaitsForAnother}
+use Rattle.gate_world.specs.Worlds.{World, after_step, found_at}
+use Rattle.gate_frames.proofs.Beside.{IsBeside}
+use Rattle.gate_frames.proofs.Keeps.{PhaseKeeps}
+use Rattle.gate_frames.proofs.Snapshots.{completes_none}
+use Rattle.writer_laws.proofs.ReadCauses.{read_stays, read_own, read_not_closed, read_tells}
+use Rattle.writer_laws.proofs.ReadKeeps.{read_counts, read_phase, end_phase}
+use Rattle.writer_laws.proofs.ReadWaits.{read_waits}
+use Rattle.close_laws.proofs.CloseCauses.{enters_asks, enters_cause, enters_waits, looked_cause, looked_waits}
+use Rattle.close_laws.proofs.CloseFits.{close_goes, close_there, close_acts, close_agrees}
+use Rattle.close_laws.proofs.CloseParts.{loads_file, lowers_count, frees_node, refunds_blocks, uncounts, tree_run, tree_counts}
+use Rattle.close_laws.proofs.CloseSteps.{close_fits_now, enters_level, leaves_level, beside_reads, beside_ends, beside_runs, beside_level_quiet, beside_enters, beside_none}
+
+-- each event keeps the rule, and moves the shown model by its action or not at all
+pub close_keeps : (c : Config) → IsWithin c → (w : World) → IsGood c w → (t : ℕ) → t < c.tasks → (hook : HookAnswer) → (x : ClosePhase) →
+    (w.views t).phase ≡ Some (Closes x) → StepKeeps c w t hook (Closes x)
+close_keeps c lim w good t lt hook (LoadsFile x) e = loads_file c lim w good t lt hook x e
+close_keeps c lim w good t lt hook (LowersCount x node) e = lowers_count c lim w good t lt hook x node e
+close_keeps c lim w good t lt hook (Enters file node r) e = enters_level c lim w good t lt hook file node r e
+close_keeps c lim w good t lt hook (FreesNode file p node) e = frees_node c lim w good t lt hook file p node e
+close_keeps c lim w good t lt hook (RefundsBlocks p blocks) e = refunds_blocks c lim w good t lt hook p blocks e
+close_keeps c lim w good t lt hook (Uncounts p) e = uncounts c lim w good t lt hook p e
+close_keeps c lim w good t lt hook (Leaves p) e = leaves_level c lim w good t lt hook p e
+
+-- each event is one of each level's kinds of event
+close_runs : (c : Config) → IsWithin c → (w : World) → IsGood c w → (t : ℕ) → t < c.tasks → (hook : HookAnswer) → (x : ClosePhase) →
+    (w.views t).phase ≡ Some (Closes x) → (i : ℕ) → 1 ≤ i → i ≤ 3 →
+    SyncStep c.tasks (level_in w i) (level_in (after_step w t (Closes x) hook) i)
+close_runs c lim w good t lt hook (LoadsFile x) e i one three = tree_run c w t lt hook (LoadsFile x) refl e i
+close_runs c lim w good t lt hook (LowersCount x node) e i one three = tree_run c w t lt hook (LowersCount x node) refl e i
+close_runs c lim w good t lt hook (Enters file node r) e i one three =
+    let b : IsBeside (w.views t).phase (Some (DownReads r)) × IsGood c (rephased w t (Some (DownReads r))) =
+    beside_reads c w good t lt file node r e in
+    let n : Next DownRead = (down_read_after r r.step (found_at w.words (DownReads r) hook)).0 in
+    beside_runs c w t lt hook (DownReads r) b.0 b.1 (map_next Closes (then_frees file node r.cpu n)) (beside_enters file r.cpu node n) i
+    (λ g at. (read_phase c r).runs lim (rephased w t (Some (DownReads r))) g t lt hook at i one three)
+close_runs c lim w good t lt hook (FreesNode file p node) e i one three = tree_run c w t lt hook (FreesNode file p node) refl e i
+close_runs c lim w good t lt hook (RefundsBlocks p blocks) e i one three = tree_run c w t lt hook (RefundsBlocks p blocks) refl e i
+close_runs c lim w good t lt hook (Uncounts p) e i one three = tree_run c w t lt hook (Uncounts p) refl e i
+close_runs c lim w good t lt hook (Leaves p) e i one three =
+    let q : Phase = UpReads (leaves_on p) in
+    let b : IsBeside (w.views t).phase (Some q) × IsGood c (rephased w t (Some q)) = beside_ends c w good t lt p e in
+    beside_runs c w t lt hook q b.0 b.1 (Done (Ok UnitReply)) beside_none i
+    (λ g at. (end_phase c (leaves_on p)).runs lim (rephased w t (Some q)) g t lt hook at i one three)
+
+-- it leaves the counts of the mounts
+close_counts : (w : World) (t : ℕ) (hook : HookAnswer) (x : ClosePhase) → (after_step w t (Closes x) hook).words.count ≡ w.words.count
+close_counts w t hook (LoadsFile x) = (tree_counts w hook (LoadsFile x) refl).count_same
+close_counts w t hook (LowersCount x node) = refl
+close_counts w t hook (Enters file node r) = read_counts w t hook r r.step
+close_counts w t hook (FreesNode file p node) = refl
+close_counts w t hook (RefundsBlocks p blocks) = refl
+close_counts w t hook (Uncounts p) = refl
+close_counts w t hook (Leaves p) = refl
+
+-- and those of a level, where nobody is counted there before and after it
+close_level_quiet : (c : Config) (w : World) → IsGood c w → (t : ℕ) → t < c.tasks → (hook : HookAnswer) (i : ℕ) (x : ClosePhase) →
+    (w.views t).phase ≡ Some (Closes x) → all_inside c i w ≡ 0 → all_inside c i (after_step w t (Closes x) hook) ≡ 0 →
+    (after_step w t (Closes x) hook).words.level i ≡ w.words.level i
+close_level_quiet c w good t lt hook i (LoadsFile x) e before after = refl
+close_level_quiet c w good t lt hook i (LowersCount x node) e before after = refl
+close_level_quiet c w good t lt hook i (Enters file node r) e before after =
+    let b : IsBeside (w.views t).phase (Some (DownReads r)) × IsGood c (rephased w t (Some (DownReads r))) =
+    beside_reads c w good t lt file node r e in
+    let n : Next DownRead = (down_read_after r r.step (found_at w.words (DownReads r) hook)).0 in
+    beside_level_quiet c w t lt hook (DownReads r) b.0 b.1 (map_next Closes (then_frees file node r.cpu n)) (beside_enters file r.cpu node n) i
+    (λ g at. (read_phase c r).level_quiet (rephased w t (Some (DownReads r))) g t lt hook i at) before after
+close_level_quiet c w good t lt hook i (FreesNode file p node) e before after = refl
+close_level_quiet c w good t lt hook i (RefundsBlocks p blocks) e before after = refl
+close_level_quiet c w good t lt hook i (Uncounts p) e before after = refl
+close_level_quiet c w good t lt hook i (Leaves p) e before after =
+    let q : Phase = UpReads (leaves_on p) in
+    let b : IsBeside (w.views t).phase (Some q) × IsGood c (rephased w t (Some q)) = beside_ends c w good t lt p e in
+    beside_level_quiet c w t lt hook q b.0 b.1 (Done (Ok UnitReply)) beside_none i
+    (λ g at. (end_phase c (leaves_on p)).level_quiet (rephased w t (Some q)) g t lt hook i at) before after
+
+-- its cause stays while others step
+close_stays : (c : Config) (t : ℕ) (w next : World) (earlier : List World) (x : ClosePhase) → (next.views t).phase ≡ Some (Closes x) →
+    CauseOf c t w earlier (Some (Closes x)) → CauseOf c t next (w ∷ earlier) (Some (Closes x))
+close_stays c t w next earlier (Enters file node r) e h = read_stays c t w next earlier r.level r.step (ap asks_level e) h
+close_stays c t w next earlier x e h = tt
+
+-- and what comes after its event has its cause
+close_causes : (c : Config) → (w : World) (earlier : List World) → IsGood c w → (t : ℕ) (hook : HookAnswer) (x : ClosePhase) →
+    CloseFits c t (holds_level (w.views t)) x → (w.views t).phase ≡ Some (Closes x) →
+    let comes : Next ClosePhase = (after x (found_at w.words (Closes x) hook)).0 in
+    ((after_step w t (Closes x) hook).views t).phase ≡ phase_after (map_next Closes comes) → CauseOf c t w earlier (Some (Closes x)) →
+    CauseOf c t (after_step w t (Closes x) hook) (w ∷ earlier) (phase_after (map_next Closes comes))
+close_causes c w earlier good t hook (LoadsFile x) f e is h =
+    looked_cause c t (after_step w t (Closes (LoadsFile x)) hook) (w ∷ earlier) x
+    (any_file_in (found_at w.words (Closes (LoadsFile x)) hook))
+close_causes c w earlier good t hook (LowersCount x node) f e is h =
+    elim (cases_Bool (w.words.node x.file == word_of node)) [ inl z ↦ rw z tt | inr z ↦ rw z tt ]
+close_causes c w earlier good t hook (Enters file node r) f e is h =
+    let next : World = after_step w t (Closes (Enters file node r)) hook in
+    let n : Next DownRead = (down_read_after r r.step (found_at w.words (DownReads r) hook)).0 in
+    enters_cause c t w next earlier file r.cpu node n
+    (read_own c t w next earlier good r f.2.0 f.2.1 hook r.step (ap asks_level e)
+    (ap (λ q. closed (sync_role_of r.level q)) e ∙ read_not_closed r.level r.level r.step) h
+    (enters_asks c t w next earlier file r.cpu node n is))
+close_causes c w earlier good t hook (FreesNode file p node) f e is h =
+    elim (cases_Bool (w.words.node file == word_of node)) [ inl z ↦ rw z tt | inr z ↦ rw z tt ]
+close_causes c w earlier good t hook (RefundsBlocks p blocks) f e is h = tt
+close_causes c w earlier good t hook (Uncounts p) f e is h = tt
+close_causes c w earlier good t hook (Leaves p) f e is h = tt
+
+-- it waits at level 3 alone
+close_waits : (c : Config) (w : World) (earlier : List World) (t : ℕ) (hook : HookAnswer) (x : ClosePhase) →
+    CauseOf c t w earlier (Some (Closes x)) →
+    WaitsForAnother c w earlier t (Closes x) (map_next Closes (after x (found_at w.words (Closes x) hook)).0)
+close_waits c w earlier t hook (LoadsFile x) h = looked_waits c t w earlier x (any_file_in (found_at w.words (Closes (LoadsFile x)) hook))
+close_waits c w earlier t hook (LowersCount x node) h =
+    elim (cases_Bool (w.words.node x.file == word_of node)) [ inl z ↦ rw z tt | inr z ↦ rw z tt ]
+close_waits c w earlier t hook (Enters file node r) h =
+    enters_waits c t w earlier file r.cpu node r (down_read_after r r.step (found_at w.words (DownReads r) hook)).0
+    (read_waits c w earlier t r r.step (found_at w.words (DownReads r) hook) h)
+close_waits c w earlier t hook (FreesNode file p node) h =
+    elim (cases_Bool (w.words.node file == word_of node)) [ inl z ↦ rw z tt | inr z ↦ rw z tt ]
+close_waits c w earlier t hook (RefundsBlocks p blocks) h = tt
+close_waits c w earlier t hook (Uncounts p) h = tt
+close_waits c w earlier t hook (Leaves p) h = tt
+
+-- and tells what is to be told
+close_tells : (c : Config) (t : ℕ) (w : World) (earlier : List World) (x : ClosePhase) → CauseOf c t w earlier (Some (Closes x)) →
+    HasCause c t (w ∷ earlier) (Some (Closes x))
+close_tells c t w earlier (Enters file node r) h = λ e. read_tells c t w earlier r.level r.step h e
+close_tells c t w earlier x h = tt
+
+-- what is proved of each phase
+pub close_phase : (c : Config) (x : ClosePhase) → PhaseKeeps c (Closes x)
+close_phase c x = record {
+  step = λ lim w good t lt hook e. close_keeps c lim w good t lt hook x e;
+  runs = λ lim w good t lt hook e i one three. close_runs c lim w good t lt hook x e i one three;
+  completes = λ lim w good t lt hook e. completes_none c w t hook (Closes x) (λ trace found. refl);
+  word = λ lim n le t lt held levels hook f. close_there c lim n le t lt held levels hook x f;
+  acts = λ lim t held levels found hook f. close_acts c lim t held levels x found f;
+  goes = λ lim t held levels found hook f. close_goes c t held levels x found f;
+  agrees = λ t f g h k mounts levels fits. close_agrees c t f g h k mounts levels x fits;
+  quiet = λ w good t lt hook m e before after. ap (λ f. f m) (close_counts w t hook x);
+  level_quiet = λ w good t lt hook i e before after. close_level_quiet c w good t lt hook i x e before after;
+  stays = λ w next earlier good t f e was quiet h. close_stays c t w next earlier x e h;
+  causes = λ w earlier good t lt hook e after is h. close_causes c w earlier good t hook x (close_fits_now c w good t lt hook x e) e is h;
+  waits = λ lim w earlier good t lt hook e cause. close_waits c w earlier t hook x cause;
+  tells = λ t w earlier fits h. close_tells c t w earlier x h;
+}

@@ -1,0 +1,333 @@
+-- The events of a close at level 3: the law of each is that of the level's own event, but for the tree and the open files, which the event
+-- leaves alone.
+use Rattle.std.proofs.Common.{◌≡◌, ℕ, ◌<◌, ◌⊎◌, Bool, true, refl, sym, ap, ◌∙◌, subst, inl, inr, arith}
+use Rattle.std.specs.Prelude.{◌==◌, Option, Some, None, Ok, Err, List}
+use Rattle.std.proofs.lemmas.Bool.{cases_Bool}
+use Rattle.std.proofs.Math.Path.{fun_ext}
+use Rattle.finite_sums.specs.Sums.{update, total}
+use Rattle.finite_sums.proofs.Totals.{each_updated, update_at}
+use Rattle.access_model.specs.declared.actions.Action.{Action}
+use Rattle.access_model.specs.declared.replies.Next.{Next}
+use Rattle.access_model.specs.declared.replies.Next.TheVariants.{Go, Wait, Done}
+use Rattle.access_model.specs.declared.replies.Reply.TheVariants.{Unit as UnitReply}
+use Rattle.access_model.specs.Replies.{map_next}
+use Rattle.access_model.specs.States.{openers}
+use Rattle.cpu_words.specs.Hooks.{HookAnswer}
+use Rattle.cpu_words.specs.Words.{Words, read}
+use Rattle.gated_tree.specs.declared.nodes.NodeWord.{NodeWord}
+use Rattle.gated_tree.specs.Nodes.{opens_in}
+use Rattle.gated_tree.specs.Roles.{Out as OffTree, Freeing, TreeHolds, charge, removal, child_charge}
+use Rattle.gate_counts.specs.Gates.{counted as counted_of}
+use Rattle.gate_counts.specs.Levels.{LevelView, level_as_gate}
+use Rattle.level_laws.specs.Events.{SyncStep}
+use Rattle.percpu_rwsem.specs.declared.readers.DownRead.{DownRead}
+use Rattle.percpu_rwsem.specs.declared.readers.DownReadStep.{DownReadStep}
+use Rattle.percpu_rwsem.specs.declared.readers.DownReadStep.TheVariants.{EntersSection, LoadsSync, CountsUpFast, CountsUpSlow, LoadsBlock, CountsDown, LeavesAdmitted, LeavesBlocked}
+use Rattle.percpu_rwsem.specs.Readers.{at_down_read, down_read_after}
+use Rattle.file_closes.specs.declared.phases.ClosePhase.{ClosePhase}
+use Rattle.file_closes.specs.declared.phases.ClosePhase.TheVariants.{Enters, Leaves}
+use Rattle.file_closes.specs.Phases.{then_frees, leaves_on}
+use Rattle.gate_world.specs.declared.config.Config.{Config}
+use Rattle.gate_world.specs.declared.views.View.{View}
+use Rattle.gate_world.specs.declared.views.Traced.{Traced}
+use Rattle.gate_world.specs.declared.work.Phase.{Phase}
+use Rattle.gate_world.specs.declared.work.Phase.TheVariants.{Closes, DownReads, UpReads}
+use Rattle.gate_world.specs.Alike.{at_phase, rephased}
+use Rattle.gate_world.specs.Causes.{all_inside}
+use Rattle.gate_world.specs.Configs.{IsWithin}
+use Rattle.gate_world.specs.Fits.{Fits, CloseFits, HasFile, file_of, mounts_by, levels_by, opens_by}
+use Rattle.gate_world.specs.LevelRuns.{level_in}
+use Rattle.gate_world.specs.Levels.{at_level, level_role_of, sync_role_of, inside}
+use Rattle.gate_world.specs.Rules.{IsGood, Holds, Fitting, Tree, Files, SameWords, StepKeeps, owns, remounts, role_of, Moves}
+use Rattle.gate_world.specs.Shown.{shown}
+use Rattle.gate_world.specs.Holders.{holder_role_of}
+use Rattle.gate_world.specs.Stages.{stage_role_of}
+use Rattle.gate_world.specs.Trees.{tree_bounds, tree_of, tree_roles, tree_role_of}
+use Rattle.gate_world.specs.Views.{held_at, holds_level, has_open, phase_after, view_with}
+use Rattle.gate_world.specs.Work.{next_of, after_of}
+use Rattle.gate_world.specs.Worlds.{World, found_at, words_after}
+use Rattle.stage_laws.specs.Roles.{sums}
+use Rattle.gate_frames.proofs.Accesses.{opens_of_after}
+use Rattle.gate_frames.proofs.Beside.{IsBeside, beside_of, made_keeps_beside, beside_good}
+use Rattle.gate_frames.proofs.Frames.{left_alone, level_view_as, opens_left}
+use Rattle.gate_frames.proofs.LevelSteps.{level_kept}
+use Rattle.gate_frames.proofs.Rephased.{made, made_again}
+use Rattle.gate_frames.proofs.Trees.{tree_holds}
+use Rattle.tree_laws.proofs.Counts.{leaves}
+use Rattle.writer_laws.proofs.ReadKeeps.{read_phase, end_phase}
+use Rattle.close_laws.proofs.CloseFits.{enters_fits}
+
+-- phases of which all but the tree and the open files read the same
+beside_as : {p q : Option Phase} → owns q ≡ owns p → remounts q ≡ remounts p → stage_role_of q ≡ stage_role_of p →
+    ((i : ℕ) → level_role_of i q ≡ level_role_of i p) → ((i : ℕ) → sync_role_of i q ≡ sync_role_of i p) → inside q ≡ inside p →
+    ((m : ℕ) → role_of m q ≡ role_of m p) → holder_role_of q ≡ holder_role_of p → IsBeside p q
+beside_as o r d l s i m h = record {
+  steady = record { owns_same = o; remounts_same = r; closing_same = λ j. ap (sums j) d };
+  stage_same = d;
+  holder_same = h;
+  level_same = l;
+  sync_same = s;
+  inside_same = i;
+  role_same = m;
+}
+
+-- what comes after an event at level 3 is beside what comes in its own operation
+pub beside_enters : (file p : ℕ) (node : NodeWord) (n : Next DownRead) →
+    IsBeside (phase_after (map_next DownReads n)) (phase_after (map_next Closes (then_frees file node p n)))
+beside_enters file p node (Go r) = beside_as refl refl refl (λ i. refl) (λ i. refl) refl (λ m. refl) refl
+beside_enters file p node (Wait r) = beside_as refl refl refl (λ i. refl) (λ i. refl) refl (λ m. refl) refl
+beside_enters file p node (Done (Ok reply)) = beside_as refl refl refl (λ i. refl) (λ i. refl) refl (λ m. refl) refl
+beside_enters file p node (Done (Err refusal)) = beside_as refl refl refl (λ i. refl) (λ i. refl) refl (λ m. refl) refl
+
+-- and nothing beside nothing
+pub beside_none : IsBeside None None
+beside_none = beside_as refl refl refl (λ i. refl) (λ i. refl) refl (λ m. refl) refl
+
+-- no event of a down-read touches a word of the tree
+read_tree : (w : Words) (r : DownRead) (s : DownReadStep) (hook : HookAnswer) → SameWords w (words_after w (DownReads (at_down_read r s)) hook) Tree
+read_tree w r EntersSection hook = (refl, refl, refl, refl, refl, refl)
+read_tree w r LoadsSync hook = (refl, refl, refl, refl, refl, refl)
+read_tree w r CountsUpFast hook = (refl, refl, refl, refl, refl, refl)
+read_tree w r CountsUpSlow hook = (refl, refl, refl, refl, refl, refl)
+read_tree w r LoadsBlock hook = (refl, refl, refl, refl, refl, refl)
+read_tree w r CountsDown hook = (refl, refl, refl, refl, refl, refl)
+read_tree w r LeavesAdmitted hook = (refl, refl, refl, refl, refl, refl)
+read_tree w r LeavesBlocked hook = (refl, refl, refl, refl, refl, refl)
+
+-- nor opens or closes a file
+read_opens : (files : ℕ → Bool) (r : DownRead) (s : DownReadStep) (found : ℕ) → opens_by (down_read_after r s found).1 files ≡ files
+read_opens files r EntersSection found = refl
+read_opens files r LoadsSync found = refl
+read_opens files r CountsUpFast found = refl
+read_opens files r CountsUpSlow found = refl
+read_opens files r LoadsBlock found = elim (cases_Bool (found == 0)) [ inl h ↦ rw h refl | inr h ↦ rw h refl ]
+read_opens files r CountsDown found = refl
+read_opens files r LeavesAdmitted found = refl
+read_opens files r LeavesBlocked found = refl
+
+-- a close that is to free a node stays so, or it ends
+then_role : (file p : ℕ) (node : NodeWord) (n : Next DownRead) (trace : List Traced) →
+    (tree_role_of trace (phase_after (map_next Closes (then_frees file node p n))) ≡ Freeing file node) ⊎
+    (tree_role_of trace (phase_after (map_next Closes (then_frees file node p n))) ≡ OffTree)
+then_role file p node (Go r) trace = inl refl
+then_role file p node (Wait r) trace = inl refl
+then_role file p node (Done (Ok reply)) trace = inl refl
+then_role file p node (Done (Err refusal)) trace = inr refl
+
+-- and its task has its file open
+then_has : (files : ℕ → Bool) (file p : ℕ) (node : NodeWord) (n : Next DownRead) → files file ≡ true →
+    HasFile files (file_of (phase_after (map_next Closes (then_frees file node p n))))
+then_has files file p node (Go r) own = own
+then_has files file p node (Wait r) own = own
+then_has files file p node (Done (Ok reply)) own = own
+then_has files file p node (Done (Err refusal)) own = tt
+
+module _ (c : Config) (w : World) (good : IsGood c w) (t : ℕ) (lt : t < c.tasks) where
+  -- the open files, where no event has opened or closed one
+  files_still : (ws : Words) (v : View) → ws.node ≡ w.words.node → has_open v ≡ has_open (w.views t) → HasFile (has_open v) (file_of v.phase) →
+      Holds c (record { words = ws; views = update w.views t v }) Files
+  files_still ws v node same own = record {
+    counted = λ n ln. ap (λ f. opens_in (f n)) node ∙ (good Files).counted n ln ∙
+        sym (ap (λ f. openers f n) (opens_left c w t lt v same));
+    own = λ y ly. each_updated (λ z (u : View). HasFile (has_open u) (file_of u.phase)) w.views t v y own (λ ne. (good Files).own y ly);
+  }
+
+  -- the tree, where a task that was to free a node stands at a phase that isn't
+  tree_left : (file : ℕ) (node : NodeWord) → tree_roles w t ≡ Freeing file node → (ws : Words) (v : View) →
+      SameWords w.words ws Tree → tree_role_of v.trace v.phase ≡ OffTree → Holds c (record { words = ws; views = update w.views t v }) Tree
+  tree_left file node is ws v same out =
+      tree_holds c w good t lt ws v
+      (subst (TreeHolds (tree_bounds c))
+      (sym (λ i. record {
+        sealed = same.4 i;
+        bare = same.5 i;
+        used = same.0 i;
+        removed = same.1 i;
+        node = same.2 i;
+        kids = same.3 i;
+        at = update (tree_roles w) t (out i);
+      }))
+      (leaves (tree_bounds c) (tree_of w) (good Tree) t lt
+      (record { blocks = ap charge is; removed = ap removal is; children = λ d. ap (child_charge d) is })))
+
+  module _ (hook : HookAnswer) (q : Phase) (before : IsBeside (w.views t).phase (Some q))
+      (fits : Fits c t (held_at (w.views t)) (holds_level (w.views t)) (Some q)) (tree : Holds c (rephased w t (Some q)) Tree)
+      (files : Holds c (rephased w t (Some q)) Files) where
+    -- what comes after the level's event in its own operation, and the action that it adds
+    abbrev plain_after : Next Phase
+    plain_after = (after_of q (found_at w.words q hook) hook).0
+
+    abbrev plain_action : Option Action
+    plain_action = (after_of q (found_at w.words q hook) hook).1
+
+    -- the same event in a world with these words, after which this comes
+    abbrev made_in : World → Next Phase → World
+    made_in first coming = made first t (next_of q hook) hook coming plain_action
+
+    -- the task stands at the level's phase
+    abbrev first_world : World
+    first_world = rephased w t (Some q)
+
+    first_good : IsGood c first_world
+    first_good = beside_good c w t lt (Some q) before fits good tree files
+
+    first_phase : (first_world.views t).phase ≡ Some q
+    first_phase = ap (λ (u : View). u.phase) (update_at w.views t (at_phase (w.views t) (Some q)))
+
+    -- where the rule holds of that world, the law of the level's event is the law of the event after which the longer operation goes on
+    abbrev PlainLaw : Type 0
+    PlainLaw = IsGood c first_world → (first_world.views t).phase ≡ Some q →
+        IsGood c (made_in first_world plain_after) ×
+        Moves c (shown c first_world) t plain_action (shown c (made_in first_world plain_after))
+
+    beside_step : PlainLaw → (coming : Next Phase) → IsBeside (phase_after plain_after) (phase_after coming) →
+        Fits c t (mounts_by plain_action (held_at (w.views t))) (levels_by plain_action (holds_level (w.views t))) (phase_after coming) →
+        Holds c (made_in w coming) Tree → Holds c (made_in w coming) Files →
+        IsGood c (made_in w coming) × Moves c (shown c w) t plain_action (shown c (made_in w coming))
+    beside_step law coming after fit tree_then files_then =
+        made_keeps_beside c w t lt (Some q) (next_of q hook) hook plain_after coming plain_action good before fits tree files law after fit
+        tree_then files_then
+
+-- with a phase that is beside, as much is counted at each level
+pub beside_inside : (c : Config) (w : World) (t : ℕ) (q : Option Phase) → IsBeside (w.views t).phase q → (i : ℕ) →
+    all_inside c i (rephased w t q) ≡ all_inside c i w
+beside_inside c w t q same i =
+    let there : at_level i (at_phase (w.views t) q) ≡ at_level i (w.views t) = level_view_as refl refl refl (same.level_same i) in
+    ap (total c.tasks) (fun_ext (λ x. each_updated
+    (λ y (u : View). counted_of (level_as_gate (at_level i u)) ≡ counted_of (level_as_gate (at_level i (w.views y)))) w.views t
+    (at_phase (w.views t) q) x (ap (λ (l : LevelView). counted_of (level_as_gate l)) there) (λ ne. refl)))
+
+-- and each level is the same
+pub beside_level : (w : World) (t : ℕ) (q : Option Phase) → IsBeside (w.views t).phase q → (i : ℕ) →
+    level_in (rephased w t q) i ≡ level_in w i
+beside_level w t q same i =
+    level_kept w t i w.words (at_phase (w.views t) q) refl refl refl refl same.inside_same (same.sync_same i)
+
+-- its phase fits its accesses
+pub close_fits_now : (c : Config) (w : World) → IsGood c w → (t : ℕ) → t < c.tasks → (hook : HookAnswer) (x : ClosePhase) →
+    (w.views t).phase ≡ Some (Closes x) → CloseFits c t (holds_level (w.views t)) x
+close_fits_now c w good t lt hook x e = subst (Fits c t (held_at (w.views t)) (holds_level (w.views t))) e (good Fitting t lt)
+
+module _ (c : Config) (lim : IsWithin c) (w : World) (good : IsGood c w) (t : ℕ) (lt : t < c.tasks) (hook : HookAnswer) where
+  -- an event at level 3, with the node to be freed
+  pub enters_level : (file : ℕ) (node : NodeWord) (r : DownRead) → (w.views t).phase ≡ Some (Closes (Enters file node r)) →
+      StepKeeps c w t hook (Closes (Enters file node r))
+  enters_level file node r e =
+      let f : CloseFits c t (holds_level (w.views t)) (Enters file node r) = close_fits_now c w good t lt hook (Enters file node r) e in
+      let own : has_open (w.views t) file ≡ true = subst (λ p. HasFile (has_open (w.views t)) (file_of p)) e ((good Files).own t lt) in
+      let is : tree_roles w t ≡ Freeing file node = ap (tree_role_of (w.views t).trace) e in
+      let found : ℕ = found_at w.words (DownReads r) hook in
+      let n : Next DownRead = (down_read_after r r.step found).0 in
+      let coming : Next Phase = map_next Closes (then_frees file node r.cpu n) in
+      let ws : Words = words_after w.words (DownReads r) hook in
+      let v : View = view_with (w.views t) (next_of (DownReads r) hook) (read w.words (next_of (DownReads r) hook).0) hook
+      (coming, (down_read_after r r.step found).1) in
+      let opens : has_open v ≡ has_open (w.views t) =
+      opens_of_after (down_read_after r r.step found).1 (w.views t).actions ∙ read_opens (has_open (w.views t)) r r.step found in
+      let before : IsBeside (w.views t).phase (Some (DownReads r)) =
+      beside_of e (beside_as refl refl refl (λ i. refl) (λ i. refl) refl (λ m. refl) refl) in
+      let same : SameWords w.words ws Tree = read_tree w.words r r.step hook in
+      beside_step c w good t lt hook (DownReads r) before f.2
+      (tree_left c w good t lt file node is w.words (at_phase (w.views t) (Some (DownReads r))) (refl, refl, refl, refl, refl, refl) refl)
+      (files_still c w good t lt w.words (at_phase (w.views t) (Some (DownReads r))) refl refl tt)
+      (λ g at. (read_phase c r).step lim (rephased w t (Some (DownReads r))) g t lt hook at) coming (beside_enters file r.cpu node n)
+      (enters_fits c t (held_at (w.views t)) (holds_level (w.views t)) file node r found f)
+      (elim (then_role file r.cpu node n v.trace) [
+        | inl stays ↦ left_alone c w t lt Tree ws v same (stays ∙ sym is) (good Tree)
+        | inr out ↦ tree_left c w good t lt file node is ws v same out
+      ])
+      (files_still c w good t lt ws v same.2 opens (then_has (has_open v) file r.cpu node n (ap (λ g. g file) opens ∙ own)))
+
+  -- it leaves level 3
+  pub leaves_level : (p : ℕ) → (w.views t).phase ≡ Some (Closes (Leaves p)) → StepKeeps c w t hook (Closes (Leaves p))
+  leaves_level p e =
+      let f : CloseFits c t (holds_level (w.views t)) (Leaves p) = close_fits_now c w good t lt hook (Leaves p) e in
+      let q : Phase = UpReads (leaves_on p) in
+      let found : ℕ = found_at w.words q hook in
+      let ws : Words = words_after w.words q hook in
+      let coming : Next Phase = Done (Ok UnitReply) in
+      let v : View = view_with (w.views t) (next_of q hook) (read w.words (next_of q hook).0) hook
+      (coming, (after_of q found hook).1) in
+      let is : tree_roles w t ≡ OffTree = ap (tree_role_of (w.views t).trace) e in
+      let before : IsBeside (w.views t).phase (Some q) = beside_of e (beside_as refl refl refl (λ i. refl) (λ i. refl) refl (λ m. refl) refl) in
+      beside_step c w good t lt hook q before (omega arith, omega arith, f.0, f.1)
+      (left_alone c w t lt Tree w.words (at_phase (w.views t) (Some q)) (refl, refl, refl, refl, refl, refl) (sym is) (good Tree))
+      (files_still c w good t lt w.words (at_phase (w.views t) (Some q)) refl refl tt)
+      (λ g at. (end_phase c (leaves_on p)).step lim (rephased w t (Some q)) g t lt hook at) coming beside_none tt
+      (left_alone c w t lt Tree ws v (refl, refl, refl, refl, refl, refl) (sym is) (good Tree))
+      (files_still c w good t lt ws v refl refl tt)
+
+-- an event at level 3 of a task that stands at the level's phase, and after which another phase comes that is beside the level's own
+module _ (c : Config) (w : World) (t : ℕ) (lt : t < c.tasks) (hook : HookAnswer) (q : Phase)
+    (before : IsBeside (w.views t).phase (Some q)) (good : IsGood c (rephased w t (Some q))) (coming : Next Phase)
+    (after : IsBeside (phase_after (after_of q (found_at w.words q hook) hook).0) (phase_after coming)) where
+  -- what comes after the event in its own operation, and its action
+  abbrev own_next : Next Phase
+  own_next = (after_of q (found_at w.words q hook) hook).0
+
+  abbrev own_action : Option Action
+  own_action = (after_of q (found_at w.words q hook) hook).1
+
+  abbrev then_in : World → Next Phase → World
+  then_in first next = made first t (next_of q hook) hook next own_action
+
+  -- it stands at the level's phase there
+  stands_there : ((rephased w t (Some q)).views t).phase ≡ Some q
+  stands_there = ap (λ (u : View). u.phase) (update_at w.views t (at_phase (w.views t) (Some q)))
+
+  there_after : IsBeside ((then_in (rephased w t (Some q)) own_next).views t).phase (phase_after coming)
+  there_after =
+      beside_of (ap (λ (u : View). u.phase) (update_at (rephased w t (Some q)).views t _)) after
+
+  -- so the event is the same kind of event of each level
+  pub beside_runs : (i : ℕ) → (IsGood c (rephased w t (Some q)) → ((rephased w t (Some q)).views t).phase ≡ Some q →
+      SyncStep c.tasks (level_in (rephased w t (Some q)) i) (level_in (then_in (rephased w t (Some q)) own_next) i)) →
+      SyncStep c.tasks (level_in w i) (level_in (then_in w coming) i)
+  beside_runs i runs =
+      let there : World = then_in (rephased w t (Some q)) own_next in
+      let same : level_in there i ≡ level_in (then_in w coming) i =
+      sym (beside_level there t (phase_after coming) there_after i) ∙
+      ap (λ y. level_in y i) (made_again c w t lt (Some q) (next_of q hook) hook own_next coming own_action) in
+      subst (λ l. SyncStep c.tasks l (level_in (then_in w coming) i)) (beside_level w t (Some q) before i)
+      (subst (SyncStep c.tasks (level_in (rephased w t (Some q)) i)) same (runs good stands_there))
+
+  -- and where nothing is counted at a level before it and after it, it leaves the counts
+  pub beside_level_quiet : (i : ℕ) → (IsGood c (rephased w t (Some q)) → ((rephased w t (Some q)).views t).phase ≡ Some q →
+      all_inside c i (rephased w t (Some q)) ≡ 0 → all_inside c i (then_in (rephased w t (Some q)) own_next) ≡ 0 →
+      (then_in w own_next).words.level i ≡ w.words.level i) → all_inside c i w ≡ 0 → all_inside c i (then_in w coming) ≡ 0 →
+      (then_in w own_next).words.level i ≡ w.words.level i
+  beside_level_quiet i quiet a b =
+      let there : World = then_in (rephased w t (Some q)) own_next in
+      quiet good stands_there (beside_inside c w t (Some q) before i ∙ a)
+      (sym (beside_inside c there t (phase_after coming) there_after i) ∙
+      ap (all_inside c i) (made_again c w t lt (Some q) (next_of q hook) hook own_next coming own_action) ∙ b)
+
+-- the worlds in which a close at level 3 stands at the level's phase: the rule holds there
+module _ (c : Config) (w : World) (good : IsGood c w) (t : ℕ) (lt : t < c.tasks) where
+  pub beside_reads : (file : ℕ) (node : NodeWord) (r : DownRead) → (w.views t).phase ≡ Some (Closes (Enters file node r)) →
+      IsBeside (w.views t).phase (Some (DownReads r)) × IsGood c (rephased w t (Some (DownReads r)))
+  beside_reads file node r e =
+      let f : CloseFits c t (holds_level (w.views t)) (Enters file node r) =
+      subst (Fits c t (held_at (w.views t)) (holds_level (w.views t))) e (good Fitting t lt) in
+      let is : tree_roles w t ≡ Freeing file node = ap (tree_role_of (w.views t).trace) e in
+      let before : IsBeside (w.views t).phase (Some (DownReads r)) =
+      beside_of e (beside_as refl refl refl (λ i. refl) (λ i. refl) refl (λ m. refl) refl) in (
+        before,
+        beside_good c w t lt (Some (DownReads r)) before f.2 good
+            (tree_left c w good t lt file node is w.words (at_phase (w.views t) (Some (DownReads r))) (refl, refl, refl, refl, refl, refl) refl)
+            (files_still c w good t lt w.words (at_phase (w.views t) (Some (DownReads r))) refl refl tt),
+      )
+
+  pub beside_ends : (p : ℕ) → (w.views t).phase ≡ Some (Closes (Leaves p)) →
+      IsBeside (w.views t).phase (Some (UpReads (leaves_on p))) × IsGood c (rephased w t (Some (UpReads (leaves_on p))))
+  beside_ends p e =
+      let f : CloseFits c t (holds_level (w.views t)) (Leaves p) =
+      subst (Fits c t (held_at (w.views t)) (holds_level (w.views t))) e (good Fitting t lt) in
+      let is : tree_roles w t ≡ OffTree = ap (tree_role_of (w.views t).trace) e in
+      let q : Phase = UpReads (leaves_on p) in
+      let before : IsBeside (w.views t).phase (Some q) = beside_of e (beside_as refl refl refl (λ i. refl) (λ i. refl) refl (λ m. refl) refl) in (
+        before,
+        beside_good c w t lt (Some q) before (omega arith, omega arith, f.0, f.1) good
+            (left_alone c w t lt Tree w.words (at_phase (w.views t) (Some q)) (refl, refl, refl, refl, refl, refl) (sym is) (good Tree))
+            (files_still c w good t lt w.words (at_phase (w.views t) (Some q)) refl refl tt),
+      )

@@ -1,0 +1,115 @@
+-- An operation that stands at a phase of another one, and relies on something at the tree meanwhile, as a last close does inside level 3:
+-- the law of the other's event is the law of its event, but for the tree and the open files, which the event leaves alone.
+use Rattle.std.proofs.Common.{◌≡◌, ℕ, ◌<◌, refl, sym, ap, ◌∙◌, subst}
+use Rattle.std.specs.Prelude.{Option}
+use Rattle.finite_sums.proofs.Totals.{update_at, each_updated}
+use Rattle.access_model.specs.declared.actions.Action.{Action}
+use Rattle.access_model.specs.declared.replies.Next.{Next}
+use Rattle.cpu_words.specs.declared.names.WordName.{WordName}
+use Rattle.cpu_words.specs.declared.events.Touch.{Touch}
+use Rattle.cpu_words.specs.Words.{read}
+use Rattle.cpu_words.specs.Hooks.{HookAnswer}
+use Rattle.gate_world.specs.declared.config.Config.{Config}
+use Rattle.gate_world.specs.declared.work.Phase.{Phase}
+use Rattle.gate_world.specs.declared.views.View.{View}
+use Rattle.gate_world.specs.Views.{held_at, holds_level, phase_after, view_with}
+use Rattle.gate_world.specs.Fits.{Fits, mounts_by, levels_by}
+use Rattle.gate_world.specs.Worlds.{World}
+use Rattle.gate_world.specs.Shown.{shown}
+use Rattle.gate_world.specs.Stages.{stage_role_of}
+use Rattle.gate_world.specs.Holders.{holder_role_of}
+use Rattle.gate_world.specs.Levels.{level_role_of, sync_role_of, inside}
+use Rattle.gate_world.specs.Rules.{ViewFits, Part, Owner, Stages, Holding, Fitting, Known, AtMount, Holds, IsGood, IsSteady, Moves, Tree, Files, AtLevel, SyncAt, Sections, role_of}
+use Rattle.gate_world.specs.Alike.{at_phase, rephased}
+use Rattle.gate_frames.proofs.Frames.{view_as, shown_still, left_alone, level_view_as}
+use Rattle.gate_frames.proofs.Rephased.{made, made_again}
+use Rattle.gate_frames.proofs.Accesses.{mounts_of_after, levels_of_after}
+
+-- all that the rule and the shown model read of a phase is the same of both, but for what it does at the tree, the file that it relies on and
+-- the accesses that it asks for
+pub record IsBeside (p q : Option Phase) : Type 0 where
+  pub steady : IsSteady p q
+  pub stage_same : stage_role_of q ≡ stage_role_of p
+  pub holder_same : holder_role_of q ≡ holder_role_of p
+  pub level_same : (i : ℕ) → level_role_of i q ≡ level_role_of i p
+  pub sync_same : (i : ℕ) → sync_role_of i q ≡ sync_role_of i p
+  pub inside_same : inside q ≡ inside p
+  pub role_same : (m : ℕ) → role_of m q ≡ role_of m p
+
+-- what is beside a phase is beside the same phase
+pub beside_of : {p q r : Option Phase} → p ≡ q → IsBeside q r → IsBeside p r
+beside_of {p} {q} {r} e h = subst (λ x. IsBeside x r) (sym e) h
+
+module _ (c : Config) (w : World) (t : ℕ) (lt : t < c.tasks) (q : Option Phase) (same : IsBeside (w.views t).phase q) where
+  -- each part of the rule holds with the other phase, where the tree and the open files do
+  beside_part : Fits c t (held_at (w.views t)) (holds_level (w.views t)) q → IsGood c w → Holds c (rephased w t q) Tree →
+      Holds c (rephased w t q) Files → (part : Part) → Holds c (rephased w t q) part
+  beside_part fits good tree files Owner =
+      left_alone c w t lt Owner w.words (at_phase (w.views t) q) (refl, refl) (same.steady.owns_same, same.steady.remounts_same)
+      (good Owner)
+  beside_part fits good tree files Stages =
+      left_alone c w t lt Stages w.words (at_phase (w.views t) q) (refl, refl, refl, refl) same.stage_same (good Stages)
+  beside_part fits good tree files Holding =
+      left_alone c w t lt Holding w.words (at_phase (w.views t) q) (refl, refl) same.holder_same (good Holding)
+  beside_part fits good tree files Fitting = λ x lx.
+      each_updated (λ y (u : View). ViewFits c y u) w.views t (at_phase (w.views t) q) x fits (λ ne. good Fitting x lx)
+  beside_part fits good tree files Known =
+      left_alone c w t lt Known w.words (at_phase (w.views t) q) (refl, refl, refl, refl, refl) (same.steady.owns_same, refl) (good Known)
+  beside_part fits good tree files Tree = tree
+  beside_part fits good tree files Files = files
+  beside_part fits good tree files (AtMount m) =
+      left_alone c w t lt (AtMount m) w.words (at_phase (w.views t) q) (refl, refl, refl, refl) (view_as refl refl refl (same.role_same m))
+      (good (AtMount m))
+  beside_part fits good tree files (AtLevel i) =
+      left_alone c w t lt (AtLevel i) w.words (at_phase (w.views t) q) (refl, refl, refl) (level_view_as refl refl refl (same.level_same i))
+      (good (AtLevel i))
+  beside_part fits good tree files (SyncAt i) =
+      left_alone c w t lt (SyncAt i) w.words (at_phase (w.views t) q) (refl, refl, refl, refl) (same.sync_same i) (good (SyncAt i))
+  beside_part fits good tree files Sections =
+      left_alone c w t lt Sections w.words (at_phase (w.views t) q) refl same.inside_same (good Sections)
+
+  pub beside_good : Fits c t (held_at (w.views t)) (holds_level (w.views t)) q → IsGood c w → Holds c (rephased w t q) Tree →
+      Holds c (rephased w t q) Files → IsGood c (rephased w t q)
+  beside_good fits good tree files = beside_part fits good tree files
+
+  -- and the shown model is the same
+  pub beside_shown : shown c (rephased w t q) ≡ shown c w
+  beside_shown = shown_still c w t lt w.words (at_phase (w.views t) q) refl refl refl refl refl refl refl same.steady.closing_same refl refl refl
+
+-- an event of a task that stands at one phase, and of the same task at another phase that is beside it
+module _ (c : Config) (w : World) (t : ℕ) (lt : t < c.tasks) (p : Option Phase) (n : WordName × Touch) (hook : HookAnswer)
+    (a b : Next Phase) (action : Option Action) where
+  -- what the law of the first says of the rule and of the shown model, it says of the second, where the tree and the open files hold with the
+  -- first phase before the event, and with the second's after it
+  pub made_keeps_beside : IsGood c w → IsBeside (w.views t).phase p → Fits c t (held_at (w.views t)) (holds_level (w.views t)) p →
+      Holds c (rephased w t p) Tree → Holds c (rephased w t p) Files →
+      (IsGood c (rephased w t p) → ((rephased w t p).views t).phase ≡ p →
+      IsGood c (made (rephased w t p) t n hook a action) ×
+      Moves c (shown c (rephased w t p)) t action (shown c (made (rephased w t p) t n hook a action))) →
+      IsBeside (phase_after a) (phase_after b) →
+      Fits c t (mounts_by action (held_at (w.views t))) (levels_by action (holds_level (w.views t))) (phase_after b) →
+      Holds c (made w t n hook b action) Tree → Holds c (made w t n hook b action) Files →
+      IsGood c (made w t n hook b action) × Moves c (shown c w) t action (shown c (made w t n hook b action))
+  made_keeps_beside good before fits tree files law after fits_after tree_then files_then =
+      let v : View = at_phase (w.views t) p in
+      let u : View = view_with v n (read w.words n.0) hook (a, action) in
+      let first : World = rephased w t p in
+      let there : World = made first t n hook a action in
+      let again : rephased there t (phase_after b) ≡ made w t n hook b action = made_again c w t lt p n hook a b action in
+      let l : IsGood c there × Moves c (shown c first) t action (shown c there) =
+      law (beside_good c w t lt p before fits good tree files) (ap (λ (x : View). x.phase) (update_at w.views t v)) in
+      let is : there.views t ≡ u = update_at first.views t _ ∙ ap (λ x. view_with x n (read w.words n.0) hook (a, action))
+      (update_at w.views t v) in
+      let same : IsBeside (there.views t).phase (phase_after b) = beside_of (ap (λ (x : View). x.phase) is) after in
+      let fit : Fits c t (held_at u) (holds_level u) (phase_after b) =
+      subst (λ k. Fits c t (held_at u) k (phase_after b)) (sym (levels_of_after action (w.views t).actions))
+      (subst (λ h. Fits c t h (levels_by action (holds_level (w.views t))) (phase_after b))
+      (sym (mounts_of_after action (w.views t).actions)) fits_after) in
+      let fit_there : Fits c t (held_at (there.views t)) (holds_level (there.views t)) (phase_after b) =
+      subst (λ (x : View). Fits c t (held_at x) (holds_level x) (phase_after b)) (sym is) fit in (
+        subst (λ x. IsGood c x) again (beside_good c there t lt (phase_after b) same fit_there l.0
+            (subst (λ x. Holds c x Tree) (sym again) tree_then) (subst (λ x. Holds c x Files) (sym again) files_then)),
+        subst (λ s. Moves c s t action (shown c (made w t n hook b action))) (beside_shown c w t lt p before)
+            (subst (λ s. Moves c (shown c first) t action s) (sym (beside_shown c there t lt (phase_after b) same) ∙
+            ap (shown c) again) l.1),
+      )

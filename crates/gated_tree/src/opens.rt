@@ -1,0 +1,75 @@
+//! The call that opens a file.
+
+ghost use Rattle.std.specs.Prelude.{◌≡◌};
+ghost use Rattle.gated_tree.specs.Nodes.{opened_node};
+ghost use Rattle.gated_tree.specs.Phases.{open_next, open_after};
+
+use crate::nodes::NodeWord;
+use access_model::{Action, GateError, Next, Reply};
+use cpu_words::{Touch, WordName};
+
+/// The most tasks that may have one file open.
+const MOST_OPENS: u8 = 64;
+
+/// What the next event of an open is.
+#[derive(Clone, Copy, PartialEq, Eq, Debug)]
+pub enum OpenStep {
+    /// Loads the file's node.
+    LoadsFile,
+    /// Counts one task more that has the file open, where its node is this, as it was loaded.
+    OpensFile(NodeWord),
+}
+
+/// An open of a file under way (`do_dentry_open`).
+#[derive(Clone, Copy, PartialEq, Eq, Debug)]
+pub struct OpenFile {
+    pub file: u8,
+    pub step: OpenStep,
+}
+
+/// The file with one task more that has it open.
+fn opened(file: NodeWord) -> NodeWord
+    ensures { result ≡ opened_node file }
+{
+    NodeWord {
+        opens: file.opens.wrapping_add(1),
+        ..file
+    }
+}
+
+impl OpenFile {
+    pub(crate) fn next(self) -> (WordName, Touch)
+        ensures { result ≡ open_next self self.step }
+    {
+        let touch = match self.step {
+            OpenStep::LoadsFile => Touch::Load,
+            OpenStep::OpensFile(file) => {
+                let expect = file.pack();
+                let put = opened(file).pack();
+                Touch::Cas { expect, put }
+            }
+        };
+        (WordName::Node(self.file), touch)
+    }
+
+    pub(crate) fn after(self, found: u64) -> (Next<OpenFile>, Option<Action>)
+        ensures { result ≡ open_after self self.step found }
+    {
+        let next = match self.step {
+            OpenStep::LoadsFile => match NodeWord::file(found) {
+                None => Next::Go(self),
+                Some(Err(refusal)) => Next::Done(Err(refusal)),
+                Some(Ok(file)) if file.opens < MOST_OPENS => {
+                    let step = OpenStep::OpensFile(file);
+                    Next::Go(OpenFile { step, ..self })
+                }
+                Some(Ok(_)) => Next::Go(self),
+            },
+            OpenStep::OpensFile(file) if found == file.pack() => {
+                return (Next::Done(Ok(Reply::Unit)), Some(Action::Open(self.file)));
+            }
+            OpenStep::OpensFile(_) => Next::Done(Err(GateError::Again)),
+        };
+        (next, None)
+    }
+}
