@@ -3,19 +3,21 @@ use Rattle.std.proofs.lemmas.Bool.{cases_Bool}
 use Rattle.gate_world.specs.Found.{found_read_only}
 use Rattle.access_model.specs.declared.errors.GateError.TheVariants.{Busy, Again}
 use Rattle.std.specs.Prelude.{IfErr}
-use Rattle.std.proofs.Common.{true≢false, Bool, inl, inr, ◌≡◌, ℕ, zero, suc, ◌+◌, ◌<◌, true, false, cond, eqb, List, [], ◌∷◌, ◌++◌, refl, sym, ap, ◌∙◌, subst, arith}
+use Rattle.std.proofs.Common.{true≢false, Bool, inl, inr, ◌≡◌, ℕ, zero, suc, ◌+◌, ◌-◌, ◌<◌, true, false, cond, eqb, List, [], ◌∷◌, ◌++◌, refl, sym, ap, ◌∙◌, subst, arith}
 use Rattle.std.specs.Prelude.{None, Result, Ok, Err}
 use Rattle.std.proofs.lemmas.Bool.{lt-ltb}
-use Rattle.finite_sums.proofs.Totals.{update_at}
+use Rattle.finite_sums.proofs.Totals.{update_at, update_off}
+use Rattle.finite_sums.specs.Sums.{update}
+use Rattle.std.proofs.lemmas.Bool.Decides.{eqb_tells}
 use Rattle.atomic_table.specs.Seated.{TableId}
 use Rattle.access_model.specs.declared.actions.Action.{Action}
-use Rattle.access_model.specs.declared.actions.Action.TheVariants.{Grant}
+use Rattle.access_model.specs.declared.actions.Action.TheVariants.{Grant, Return}
 use Rattle.access_model.specs.declared.actions.Gate.TheVariants.{Mount}
 use Rattle.access_model.specs.declared.errors.GateError.{GateError}
 use Rattle.access_model.specs.declared.replies.Next.{Next}
 use Rattle.access_model.specs.declared.replies.Next.TheVariants.{Go, Wait, Done}
 use Rattle.access_model.specs.declared.replies.Reply.{Reply}
-use Rattle.access_model.specs.Histories.{mounts_of, levels_of}
+use Rattle.access_model.specs.Histories.{mounts_of, levels_of, opens_of}
 use Rattle.gate_world.specs.declared.config.Config.{Config}
 use Rattle.gate_world.specs.declared.operations.Op.{Op}
 use Rattle.gate_world.specs.declared.operations.Op.TheVariants.{Want, DropMount, ChangeMount}
@@ -38,7 +40,11 @@ own_actions s = (own_view s.items).actions
 
 -- a view with no action holds nothing
 empty_of : (c : Config) (v : View) → v.actions ≡ [] → Empty c v
-empty_of c v none = ((λ m lt. ap (λ l. mounts_of l m) none), (λ i one three. ap (λ l. levels_of l i) none))
+empty_of c v none = (
+  (λ m lt. ap (λ l. mounts_of l m) none),
+  (λ i one three. ap (λ l. levels_of l i) none),
+  (λ n. ap (λ l. opens_of l n) none),
+)
 
 -- a number that was dealt has done nothing
 in_dealt : (n from k : ℕ) → view_in n (deal from k) ≡ opening_view
@@ -110,6 +116,25 @@ dropped :
 dropped c m p trace (Ok reply) honest = refl
 dropped c m p trace (Err refusal) honest = absurd honest
 
+-- so it has added its return
+given_back :
+    (c : Config) (m p : ℕ) (trace : List Traced) (answer : Result Reply GateError) → IsHonestAnswer c (DropMount m p) answer trace →
+    actions_of (DropMount m p) answer trace ≡ Return (Mount m) ∷ []
+given_back c m p trace (Ok reply) honest = refl
+given_back c m p trace (Err refusal) honest = absurd honest
+
+-- one access more, and then one less
+one_more_less : (f : ℕ → ℕ) (m y : ℕ) →
+    update (update f m (f m + 1)) m (update f m (f m + 1) m - 1) y ≡ f y
+one_more_less f m y =
+    elim (eqb_tells y m) [
+      | inl e ↦
+          let back : f m + 1 - 1 ≡ f m = omega arith in
+          subst (λ z. update (update f m (f m + 1)) m (update f m (f m + 1) m - 1) z ≡ f z) (sym e.1)
+          (update_at (update f m (f m + 1)) m _ ∙ (ap (λ k. k - 1) (update_at f m (f m + 1)) ∙ back))
+      | inr e ↦ update_off (update f m (f m + 1)) m _ y e.1 ∙ update_off f m (f m + 1) y e.1
+    ]
+
 module _ (old there : TaskState) (m p : ℕ) (rests : Rests old) (mount : m < old.config.mounts) (cpu : p < old.config.processors) where
   -- a want of a task that rests begins
   want_begins : refusal_at (Want m p true) old ≡ None
@@ -141,16 +166,35 @@ module _ (old there : TaskState) (m p : ℕ) (rests : Rests old) (mount : m < ol
     is_dropped left outcome drops =
         let done = drops.done drop_begins in done.1 ∙ dropped there.config m p done.2.trace done.0 done.2.honest
 
--- a change of a mount gives and takes no access
+    -- and after it the task rests again
+    pub drop_rests : (left : TaskState) (outcome : Result (Unit {0}) GateError) → Performs (DropMount m p) there left outcome → Rests left
+    drop_rests left outcome drops =
+        let done = drops.done drop_begins in
+        let grown : own_actions there ≡ Grant (Mount m) ∷ own_actions old =
+        called _ old there _ call.2 ∙ ap (λ l. l ++ own_actions old) (granted m p call.2.trace call.0 call.1) in
+        let acts : own_actions left ≡ Return (Mount m) ∷ (Grant (Mount m) ∷ own_actions old) =
+        called _ there left _ done.2 ∙
+        (λ j. given_back there.config m p done.2.trace done.0 done.2.honest j ++ grown j) in (
+          ap (λ (s : TaskState). s.phase) done.2.after,
+          (
+            (λ y ly. ap (λ l. mounts_of l y) acts ∙
+                (one_more_less (mounts_of (own_actions old)) m y ∙ rests.1.0 y (subst (λ d. y < d.mounts) (drops.config ∙ wants.config) ly))),
+            (λ i one three. ap (λ l. levels_of l i) acts ∙ rests.1.1 i one three),
+            (λ n. ap (λ l. opens_of l n) acts ∙ rests.1.2 n),
+          ),
+        )
+
+-- a change of a mount gives and takes no access, and neither opens nor closes a file
 changes_no_access :
     (m : ℕ) (ro : Bool) (answer : Result Reply GateError) (trace : List Traced) (l : List Action) →
     (mounts_of (actions_of (ChangeMount m ro true) answer trace ++ l) ≡ mounts_of l) ×
-    (levels_of (actions_of (ChangeMount m ro true) answer trace ++ l) ≡ levels_of l)
-changes_no_access m ro (Err refusal) trace l = (refl, refl)
+    (levels_of (actions_of (ChangeMount m ro true) answer trace ++ l) ≡ levels_of l) ×
+    (opens_of (actions_of (ChangeMount m ro true) answer trace ++ l) ≡ opens_of l)
+changes_no_access m ro (Err refusal) trace l = (refl, refl, refl)
 changes_no_access m true (Ok reply) trace l =
-    elim (cases_Bool (found_read_only m trace)) [ inl f ↦ rw f (refl, refl) | inr f ↦ rw f (refl, refl) ]
+    elim (cases_Bool (found_read_only m trace)) [ inl f ↦ rw f (refl, refl, refl) | inr f ↦ rw f (refl, refl, refl) ]
 changes_no_access m false (Ok reply) trace l =
-    elim (cases_Bool (found_read_only m trace)) [ inl f ↦ rw f (refl, refl) | inr f ↦ rw f (refl, refl) ]
+    elim (cases_Bool (found_read_only m trace)) [ inl f ↦ rw f (refl, refl, refl) | inr f ↦ rw f (refl, refl, refl) ]
 
 -- one that waits is refused only as busy
 busy_alone :
@@ -189,6 +233,7 @@ module _ (old left : TaskState) (m : ℕ) (ro : Bool) (outcome : Result (Unit {0
         (
           (λ y ly. ap (λ l. mounts_of l y) acts ∙ (ap (λ f. f y) same.0 ∙ rests.1.0 y (subst (λ d. y < d.mounts) does.config ly))),
           (λ i one three. ap (λ l. levels_of l i) acts ∙ (ap (λ f. f i) same.1 ∙ rests.1.1 i one three)),
+          (λ n. ap (λ l. opens_of l n) acts ∙ (ap (λ f. f n) same.2 ∙ rests.1.2 n)),
         ),
       )
 
