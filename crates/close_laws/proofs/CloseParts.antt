@@ -93,17 +93,53 @@ close_leaves (Leaves p) h found = absurd (true≢false (sym h))
 
 -- a close that is at no level's counts
 off_close : (x : ClosePhase) → is_at_tree x ≡ true → IsOffGates (Some (Closes x))
-off_close (LoadsFile x) h = record { out_of_mounts = λ m. refl; off_levels = record { counts_not = λ i. refl; apart = λ i. refl; outside = refl }; closing_none = λ i. refl; remounts_none = refl; unheld = refl }
-off_close (LowersCount x node) h = record { out_of_mounts = λ m. refl; off_levels = record { counts_not = λ i. refl; apart = λ i. refl; outside = refl }; closing_none = λ i. refl; remounts_none = refl; unheld = refl }
-off_close (FreesNode file p node) h = record { out_of_mounts = λ m. refl; off_levels = record { counts_not = λ i. refl; apart = λ i. refl; outside = refl }; closing_none = λ i. refl; remounts_none = refl; unheld = refl }
-off_close (RefundsBlocks p blocks) h = record { out_of_mounts = λ m. refl; off_levels = record { counts_not = λ i. refl; apart = λ i. refl; outside = refl }; closing_none = λ i. refl; remounts_none = refl; unheld = refl }
-off_close (Uncounts p) h = record { out_of_mounts = λ m. refl; off_levels = record { counts_not = λ i. refl; apart = λ i. refl; outside = refl }; closing_none = λ i. refl; remounts_none = refl; unheld = refl }
+off_close (LoadsFile x) h = record {
+  out_of_mounts = λ m. refl;
+  off_levels = record { counts_not = λ i. refl; apart = λ i. refl; outside = refl };
+  closing_none = λ i. refl;
+  remounts_none = refl;
+  unheld = refl;
+}
+off_close (LowersCount x node) h = record {
+  out_of_mounts = λ m. refl;
+  off_levels = record { counts_not = λ i. refl; apart = λ i. refl; outside = refl };
+  closing_none = λ i. refl;
+  remounts_none = refl;
+  unheld = refl;
+}
+off_close (FreesNode file p node) h = record {
+  out_of_mounts = λ m. refl;
+  off_levels = record { counts_not = λ i. refl; apart = λ i. refl; outside = refl };
+  closing_none = λ i. refl;
+  remounts_none = refl;
+  unheld = refl;
+}
+off_close (RefundsBlocks p blocks) h = record {
+  out_of_mounts = λ m. refl;
+  off_levels = record { counts_not = λ i. refl; apart = λ i. refl; outside = refl };
+  closing_none = λ i. refl;
+  remounts_none = refl;
+  unheld = refl;
+}
+off_close (Uncounts p) h = record {
+  out_of_mounts = λ m. refl;
+  off_levels = record { counts_not = λ i. refl; apart = λ i. refl; outside = refl };
+  closing_none = λ i. refl;
+  remounts_none = refl;
+  unheld = refl;
+}
 off_close (Enters file node r) h = absurd (true≢false (sym h))
 off_close (Leaves p) h = absurd (true≢false (sym h))
 
 -- one that leaves level 3, or is to enter it, has no role there
 off_leaves : (p : ℕ) → IsOffGates (Some (Closes (Leaves p)))
-off_leaves p = record { out_of_mounts = λ m. refl; off_levels = record { counts_not = λ i. refl; apart = λ i. refl; outside = refl }; closing_none = λ i. refl; remounts_none = refl; unheld = refl }
+off_leaves p = record {
+  out_of_mounts = λ m. refl;
+  off_levels = record { counts_not = λ i. refl; apart = λ i. refl; outside = refl };
+  closing_none = λ i. refl;
+  remounts_none = refl;
+  unheld = refl;
+}
 
 off_enters : (x : Closing) (file : NodeWord) → IsOffGates (Some (Closes (enters x file)))
 off_enters x file = record {
