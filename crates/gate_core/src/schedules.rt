@@ -49,8 +49,6 @@ ghost use Rattle.gate_world.specs.Waits.{EachWaitHasCulprit};
 ///   was closed when it last looked, as above; a freeze waits as a remount and as a callback do, and where something was counted at the level
 ///   that it closes, in some world from the load of its sum's first word to the load of its last; a drop, an end and the other calls at the
 ///   tree never wait.
-/// - `rule`: the rule of words and views, from which the rest follows: counts, holdings, the owner's words, the stage, the tree and its
-///   marks, mounts, levels, sections, who holds a freeze.
 ///
 /// It takes nothing, does nothing and answers nothing: its contract is the theorem. `Core` is bound to the same worlds by `Shows`.
 pub fn every_schedule()
@@ -67,5 +65,11 @@ pub fn every_schedule()
     ensures operations { (c : Config) → IsWithin c → (entries : List Entry) (t : ℕ) → OperationsAreKept c entries t }
     ensures causes { (c : Config) → IsWithin c → (entries : List Entry) → RefusalsHaveCauses c entries }
     ensures waits { (c : Config) → IsWithin c → (entries : List Entry) → EachWaitHasCulprit c entries }
+{}
+
+/// The rule from which the headline follows, in every world of every schedule, as above: counts, holdings, the owner's words, the stage, the
+/// tree and its marks, mounts, levels, sections, who holds a freeze, open files. It is told apart, since who relies on the headline needn't
+/// read it: it speaks of what each phase has found and is about to do.
+pub fn every_schedule_keeps_the_rule()
     ensures rule { (c : Config) → IsWithin c → (entries : List Entry) → IsGood c (world_after c entries) }
 {}

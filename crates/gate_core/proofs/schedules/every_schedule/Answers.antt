@@ -1,5 +1,5 @@
 -- Each clause is a lemma on whole schedules.
-use Rattle.gate_core.proofs.Whole.{whole_rule, whole_run, whole_moves, whole_nobody, whole_causes, whole_waits, whole_sums, whole_idle, whole_rests, whole_freezes, whole_holders, whole_trees, whole_operations}
+use Rattle.gate_core.proofs.Whole.{whole_run, whole_moves, whole_nobody, whole_causes, whole_waits, whole_sums, whole_idle, whole_rests, whole_freezes, whole_holders, whole_trees, whole_operations}
 use Rattle.gate_core.proofs.LevelRuns.{whole_levels}
 use Rattle.gate_core.proofs.schedules.every_schedule.Goals as goal
 
@@ -41,6 +41,3 @@ returns-clause-causes c = whole_causes
 
 pub returns-clause-waits : goal.returns-clause-waits
 returns-clause-waits c = whole_waits
-
-pub returns-clause-rule : goal.returns-clause-rule
-returns-clause-rule c = whole_rule
