@@ -16,3 +16,4 @@ pub mod Beginning
 pub mod Opening
 pub mod Rows
 pub mod TreeRows
+pub mod CauseRows

@@ -37,8 +37,9 @@ ghost use Rattle.gate_world.specs.Waits.{EachWaitHasCulprit};
 /// - `operations`: each task's events follow the order of its operation; one that replied has added exactly its stated actions, a
 ///   refusal has its cause among its events and leaves what the task held, waiting is reported only where it may be, and an operation
 ///   that waits for nobody has few events.
-/// - `causes`: a change is refused as busy only where something was counted at that mount in some world from the load of its sum's
-///   first word to the load of its last, and so a remount, at some mount, or where the stage was not 0 when it looked; a freeze is busy only
+/// - `causes`: always in a world since the operation began: a change is refused as busy only where something was counted at that mount in
+///   some world from the load of its sum's first word to the load of its last, and so a remount, at the mount of its last sum, or where the
+///   stage was not 0 when it looked; a freeze is busy only
 ///   where another was under way, or its holder held one, when it last looked, a thaw invalid only where all wasn't frozen, or its holder held
 ///   none, and a snapshot only where all wasn't frozen; a want is refused as read-only only where the shown model had
 ///   that mount read-only at one of its loads; a start that doesn't wait is refused only where another task had the level closed, or the file
