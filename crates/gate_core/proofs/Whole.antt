@@ -12,7 +12,7 @@ use Rattle.gate_world.specs.declared.config.Config.{Config}
 use Rattle.gate_world.specs.Configs.{IsWithin, model_limits}
 use Rattle.gate_world.specs.Worlds.{World, Entry, opening, happens, run}
 use Rattle.gate_world.specs.Rules.{IsGood, Fitting}
-use Rattle.gate_world.specs.Headline.{world_after, actions_so_far, MovesTheModel, IsOneRun, NobodyIsInside, SumsHold, IdleSumsHold, NothingIsLeft, FreezeIsUnderWay, HoldersAreTold, FrozenTreeIsWhole, ViewTells, OperationsAreKept}
+use Rattle.gate_world.specs.Headline.{world_after, actions_so_far, MovesTheModel, IsOneRun, NobodyIsInside, SumsHold, IdleSumsHold, NothingIsLeft, FreezeIsUnderWay, HoldersAreTold, FrozenTreeIsWhole, SnapshotsStand, ViewTells, OperationsAreKept}
 use Rattle.gate_world.specs.Courses.{course_of, IsTraced, FollowsOrder, AllTraced}
 use Rattle.gate_world.specs.Traces.{Tells, actions_of}
 use Rattle.gate_world.specs.declared.operations.Op.{Op}
@@ -33,6 +33,7 @@ use Rattle.gate_core.proofs.Entries.{TrailHolds, trail_holds, cause_tells, begun
 use Rattle.gate_core.proofs.Schedule.{opening_good, opening_shown, happens_keeps, run_keeps, gate_sums, idle_sums}
 use Rattle.gate_core.proofs.Lists.{run_lists}
 use Rattle.gate_core.proofs.Snapshots.{run_moments}
+use Rattle.gate_core.proofs.Standing.{snapshots_stand}
 use Rattle.gate_core.proofs.Rests.{at_rest, a_freeze_is_under_way}
 use Rattle.gate_core.proofs.Between.{AllTold, entry_told, opening_told, holders_told}
 
@@ -89,6 +90,9 @@ module _ (c : Config) (lim : IsWithin c) where
 
   pub whole_trees : (es : List Entry) → FrozenTreeIsWhole c (world_after c es)
   whole_trees es = frozen_whole c lim (world_after c es) (whole_rule es)
+
+  pub whole_snapshots : (es : List Entry) → SnapshotsStand c (world_after c es)
+  whole_snapshots es = snapshots_stand c (world_after c es) (whole_rule es)
 
   pub whole_waits : (es : List Entry) → EachWaitHasCulprit c es
   whole_waits es t phase again hook lt at e =

@@ -5,7 +5,7 @@ ghost use Rattle.gate_world.specs.declared.config.Config.{Config};
 ghost use Rattle.gate_world.specs.Configs.{IsWithin};
 ghost use Rattle.gate_world.specs.Worlds.{Entry};
 ghost use Rattle.gate_world.specs.Rules.{IsGood};
-ghost use Rattle.gate_world.specs.Headline.{world_after, MovesTheModel, IsOneRun, NobodyIsInside, SumsHold, IdleSumsHold, NothingIsLeft, FreezeIsUnderWay, HoldersAreTold, FrozenTreeIsWhole, OperationsAreKept};
+ghost use Rattle.gate_world.specs.Headline.{world_after, MovesTheModel, IsOneRun, NobodyIsInside, SumsHold, IdleSumsHold, NothingIsLeft, FreezeIsUnderWay, HoldersAreTold, FrozenTreeIsWhole, SnapshotsStand, OperationsAreKept};
 ghost use Rattle.gate_world.specs.Causes.{RefusalsHaveCauses};
 ghost use Rattle.gate_world.specs.LevelRuns.{LevelsAreRuns};
 ghost use Rattle.gate_world.specs.Waits.{EachWaitHasCulprit};
@@ -31,6 +31,8 @@ ghost use Rattle.gate_world.specs.Waits.{EachWaitHasCulprit};
 ///   model; and whoever has loaded or stored it has it so until it gives `umount` back.
 /// - `trees`: at SB_FREEZE_COMPLETE the tree is sound and clean, whatever is under way: the blocks charged are those of all files, the
 ///   children charged to each node are those that it has, each parent is a directory, and no file is dirty.
+/// - `snapshots`: from its load of that stage to its release a snapshot stands in a frozen tree: the stage stays, and each word of the tree
+///   that it has loaded is still what it was, but for how many tasks have files open.
 /// - `levels`: what a schedule makes of each freeze level is a run of it, so its grace periods are kept: a writer that is past one had a whole
 ///   one since it entered, from there on nobody is on the level's fast path until its state has been GP_IDLE again, and it becomes so only
 ///   from GP_EXIT, by a callback, with a whole grace period after its claim.
@@ -62,6 +64,7 @@ pub fn every_schedule()
     ensures freezes { (c : Config) → IsWithin c → (entries : List Entry) → FreezeIsUnderWay c (world_after c entries) }
     ensures holders { (c : Config) → IsWithin c → (entries : List Entry) → HoldersAreTold c (world_after c entries) }
     ensures trees { (c : Config) → IsWithin c → (entries : List Entry) → FrozenTreeIsWhole c (world_after c entries) }
+    ensures snapshots { (c : Config) → IsWithin c → (entries : List Entry) → SnapshotsStand c (world_after c entries) }
     ensures levels { (c : Config) → IsWithin c → (entries : List Entry) → LevelsAreRuns c entries }
     ensures operations { (c : Config) → IsWithin c → (entries : List Entry) (t : ℕ) → OperationsAreKept c entries t }
     ensures causes { (c : Config) → IsWithin c → (entries : List Entry) → RefusalsHaveCauses c entries }

@@ -1,5 +1,5 @@
 -- Each clause is a lemma on whole schedules.
-use Rattle.gate_core.proofs.Whole.{whole_run, whole_moves, whole_nobody, whole_causes, whole_waits, whole_sums, whole_idle, whole_rests, whole_freezes, whole_holders, whole_trees, whole_operations}
+use Rattle.gate_core.proofs.Whole.{whole_run, whole_moves, whole_nobody, whole_causes, whole_waits, whole_sums, whole_idle, whole_rests, whole_freezes, whole_holders, whole_trees, whole_snapshots, whole_operations}
 use Rattle.gate_core.proofs.LevelRuns.{whole_levels}
 use Rattle.gate_core.proofs.schedules.every_schedule.Goals as goal
 
@@ -29,6 +29,9 @@ returns-clause-holders c = whole_holders
 
 pub returns-clause-trees : goal.returns-clause-trees
 returns-clause-trees c = whole_trees
+
+pub returns-clause-snapshots : goal.returns-clause-snapshots
+returns-clause-snapshots c = whole_snapshots
 
 pub returns-clause-levels : goal.returns-clause-levels
 returns-clause-levels c = whole_levels
