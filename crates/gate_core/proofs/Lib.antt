@@ -10,6 +10,7 @@ pub mod Between
 pub mod Whole
 pub mod Runs
 pub mod LevelRuns
+pub mod Deadlocks
 pub mod Each
 pub mod Stepping
 pub mod Beginning

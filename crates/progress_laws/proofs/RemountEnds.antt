@@ -123,7 +123,8 @@ module _ (w : Words) (p mounts nodes : ℕ) where
   give_free : (m : ℕ) (held : MountSet) → RemountIsFree w (give_up m held)
   give_free m held = elim (eqb_tells held.bits 0) [ inl h ↦ rw h.0 tt | inr h ↦ rw h.0 tt ]
 
-module _ (c : Config) (lim : IsWithin c) (w after : Words) (x : Remount) (processors : x.processors ≡ c.processors) (mounts : x.mounts ≡ c.mounts) (nodes : x.nodes ≡ c.nodes) where
+module _ (c : Config) (lim : IsWithin c) (w after : Words) (x : Remount) (processors : x.processors ≡ c.processors)
+    (mounts : x.mounts ≡ c.mounts) (nodes : x.nodes ≡ c.nodes) where
   abbrev RemountFalls : RemountStep → HookAnswer → ℕ → Type 0
   RemountFalls s hook found =
       Falls (λ (y : Remount). remount_rank y.processors y.mounts y.nodes y.step) (λ (y : Remount). RemountIsFree after y.step)

@@ -342,7 +342,10 @@ module _ (c : Config) (lim : IsWithin c)
           elim (remount_either w.words x.step) [
             | inl free ↦ goes (Remounts x) at free
             | inr n ↦ elim (lock_taken t lt (Remounts x) at (ap remount_owns n.1)
-                (λ v good' at' free one. reaches v good' (Remounts x) at' (subst (RemountIsFree v.words) (sym n.1) free)) n.0) [ inl h ↦ inl h | inr kept ↦ inr (subst (RemountIsKept c w) (sym n.1) kept) ]
+                (λ v good' at' free one. reaches v good' (Remounts x) at' (subst (RemountIsFree v.words) (sym n.1) free)) n.0) [
+                  | inl h ↦ inl h
+                  | inr kept ↦ inr (subst (RemountIsKept c w) (sym n.1) kept)
+                ]
           ]
       task_goes (DownReads r) at f =
           elim (read_either (w.words.block r.level) r.wait r.step (good (AtLevel r.level) f.0 f.1).known) [
@@ -394,7 +397,10 @@ module _ (c : Config) (lim : IsWithin c)
           elim (thaw_either w.words x.step) [
             | inl free ↦ goes (Thaws x) at free
             | inr n ↦ elim (lock_taken t lt (Thaws x) at (ap (λ s. stage_owns (thaw_stage_role s)) n.1)
-                (λ v good' at' free one. reaches v good' (Thaws x) at' (subst (ThawIsFree v.words) (sym n.1) free)) n.0) [ inl h ↦ inl h | inr kept ↦ inr (subst (ThawIsKept c w) (sym n.1) kept) ]
+                (λ v good' at' free one. reaches v good' (Thaws x) at' (subst (ThawIsFree v.words) (sym n.1) free)) n.0) [
+                  | inl h ↦ inl h
+                  | inr kept ↦ inr (subst (ThawIsKept c w) (sym n.1) kept)
+                ]
           ]
       task_goes (Trees (Creates x)) at f = goes (Trees (Creates x)) at tt
       task_goes (Trees (Removes x)) at f = goes (Trees (Removes x)) at tt
