@@ -11,6 +11,7 @@ pub mod Standing
 pub mod Whole
 pub mod Runs
 pub mod LevelRuns
+pub mod Deadlocks
 pub mod Each
 pub mod Stepping
 pub mod Beginning

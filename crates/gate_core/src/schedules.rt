@@ -9,6 +9,8 @@ ghost use Rattle.gate_world.specs.Headline.{world_after, MovesTheModel, IsOneRun
 ghost use Rattle.gate_world.specs.Causes.{RefusalsHaveCauses};
 ghost use Rattle.gate_world.specs.LevelRuns.{LevelsAreRuns};
 ghost use Rattle.gate_world.specs.Waits.{EachWaitHasCulprit};
+ghost use Rattle.progress_laws.specs.Progress.{NobodyIsDeadlocked, RepliesOrIsFrozen};
+ghost use Rattle.progress_laws.specs.Ranks.{most_events_to_reply};
 
 /// The headline. For every configuration within the limits, and every schedule: any list of beginnings, refused ones included, and of
 /// steps with any hook answers, of any tasks, with any numbers in their types' ranges.
@@ -52,6 +54,12 @@ ghost use Rattle.gate_world.specs.Waits.{EachWaitHasCulprit};
 ///   was closed when it last looked, as above; a freeze waits as a remount and as a callback do, and where something was counted at the level
 ///   that it closes, in some world from the load of its sum's first word to the load of its last; a drop, an end and the other calls at the
 ///   tree never wait.
+/// - `progress`: nobody is deadlocked: a bounded number of events of tasks under way, which somebody picks one by one, lead to a reply of one
+///   of them, whatever the hooks answer; or each operation under way is kept: a start or a last close that waits and isn't admitted yet, by its
+///   closed level; a freeze, by an idle task that holds a level which it has to pass yet; and who waits for `umount`, by such a freeze that
+///   owns it to its end. It says what is possible, and no more: what may starve is in docs/PROVED.md.
+/// - `replies`: so, with an operation under way, a reply is at most so many events away, or the file system is frozen as a whole, or an idle
+///   task keeps a freeze that is under way.
 ///
 /// It takes nothing, does nothing and answers nothing: its contract is the theorem. `Core` is bound to the same worlds by `Shows`.
 pub fn every_schedule()
@@ -69,6 +77,8 @@ pub fn every_schedule()
     ensures operations { (c : Config) → IsWithin c → (entries : List Entry) (t : ℕ) → OperationsAreKept c entries t }
     ensures causes { (c : Config) → IsWithin c → (entries : List Entry) → RefusalsHaveCauses c entries }
     ensures waits { (c : Config) → IsWithin c → (entries : List Entry) → EachWaitHasCulprit c entries }
+    ensures progress { (c : Config) → IsWithin c → (entries : List Entry) → NobodyIsDeadlocked c (most_events_to_reply c) entries }
+    ensures replies { (c : Config) → IsWithin c → (entries : List Entry) → RepliesOrIsFrozen c (most_events_to_reply c) entries }
 {}
 
 /// The rule from which the headline follows, in every world of every schedule, as above: counts, holdings, the owner's words, the stage, the

@@ -1,0 +1,23 @@
+-- Of every schedule: a reply is near, or each operation under way is kept.
+use Rattle.std.specs.Prelude.{List}
+use Rattle.gate_world.specs.declared.config.Config.{Config}
+use Rattle.gate_world.specs.Configs.{IsWithin}
+use Rattle.gate_world.specs.Headline.{world_after}
+use Rattle.gate_world.specs.Worlds.{Entry}
+use Rattle.progress_laws.specs.Progress.{EventsKeepRule, NobodyIsDeadlocked, RepliesOrIsFrozen}
+use Rattle.progress_laws.specs.Ranks.{most_events_to_reply}
+use Rattle.progress_laws.proofs.Layers.{phase_ends}
+use Rattle.progress_laws.proofs.Whole.{world_goes}
+use Rattle.progress_laws.proofs.Plain.{world_replies}
+use Rattle.gate_core.proofs.Layers.{phase_keeps}
+use Rattle.gate_core.proofs.Whole.{whole_rule}
+
+module _ (c : Config) (lim : IsWithin c) where
+  events_keep_rule : EventsKeepRule c
+  events_keep_rule w good t lt hook phase at = ((phase_keeps c phase).step lim w good t lt hook at).0
+
+  pub whole_progress : (es : List Entry) → NobodyIsDeadlocked c (most_events_to_reply c) es
+  whole_progress es = world_goes c lim events_keep_rule (phase_ends c) (world_after c es) (whole_rule c lim es)
+
+  pub whole_replies : (es : List Entry) → RepliesOrIsFrozen c (most_events_to_reply c) es
+  whole_replies es = world_replies c lim events_keep_rule (world_after c es) (whole_rule c lim es)

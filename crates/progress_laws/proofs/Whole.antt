@@ -1,0 +1,458 @@
+-- Each operation under way is kept, or a reply is near.
+use Rattle.std.proofs.Common.{◌≡◌, ℕ, ◌+◌, ◌<◌, ◌≤◌, Bool, true, false, refl, sym, ap, ◌∙◌, subst, inl, inr, arith, true≢false}
+use Rattle.std.specs.Prelude.{◌⊎◌, ◌==◌, nat_lt, Option, Some, None}
+use Rattle.finite_sums.proofs.Totals.{update_off}
+use Rattle.freeze_levels.specs.Freezes.{at_freeze}
+use Rattle.gate_world.specs.declared.views.View.{View}
+use Rattle.std.proofs.lemmas.Bool.{cases_Bool, cases_lt, le-ltb, ne_eqb}
+use Rattle.std.proofs.lemmas.Bool.Decides.{eqb_tells}
+use Rattle.cpu_words.specs.Hooks.{HookAnswer}
+use Rattle.cpu_words.specs.Words.{Words}
+use Rattle.mount_counts.specs.declared.phases.MountPhase.TheVariants.{Want as Wants, Drop as Drops, Change as Changes}
+use Rattle.mount_counts.specs.declared.phases.ChangeStep.{ChangeStep}
+use Rattle.mount_counts.specs.declared.phases.ChangeStep.TheVariants.{Locks as ChangeLocks}
+use Rattle.mount_counts.specs.declared.remounts.RemountStep.{RemountStep}
+use Rattle.mount_counts.specs.declared.remounts.RemountStep.TheVariants.{Locks as RemountLocks}
+use Rattle.freeze_levels.specs.declared.freezes.Freeze.{Freeze}
+use Rattle.freeze_levels.specs.declared.freezes.FreezeStep.{FreezeStep}
+use Rattle.freeze_levels.specs.declared.freezes.FreezeStep.TheVariants.{
+  Locks as FreezeLocks,
+  LoadsStage,
+  LoadsHolders,
+  Holds,
+  LoadsSuperblock,
+  CompletesReadOnly,
+  SetsWrite,
+  Unlocks,
+  Closes,
+  LocksAgain,
+  SetsPageFault,
+  Cleans,
+  SetsFs,
+  SetsComplete,
+  Reopens,
+  Releases,
+}
+use Rattle.freeze_levels.specs.declared.thaws.ThawStep.{ThawStep}
+use Rattle.freeze_levels.specs.declared.thaws.ThawStep.TheVariants.{Locks as ThawLocks}
+use Rattle.gated_tree.specs.declared.snapshots.SnapshotStep.{SnapshotStep}
+use Rattle.gated_tree.specs.declared.snapshots.SnapshotStep.TheVariants.{Locks as SnapshotLocks}
+use Rattle.gated_tree.specs.declared.phases.TreePhase.TheVariants.{Create as Creates, Remove as Removes, Grow as Grows, MoveTo as Moves, Mark as TreeMarks, OpenFile as OpensOne, Snapshot as Snapshots, ClearMarks as TreeClears}
+use Rattle.percpu_rwsem.specs.declared.readers.DownReadStep.{DownReadStep}
+use Rattle.stage_laws.specs.Roles.{bit, owns as stage_owns, KnowsStage}
+use Rattle.write_access.specs.declared.phases.WritePhase.TheVariants.{Takes, Wants as WriteWants, GivesBack, Drops as WriteDrops, Ends}
+use Rattle.file_closes.specs.declared.phases.ClosePhase.TheVariants.{LoadsFile as CloseLoadsFile, LowersCount, Enters as EntersLevel, FreesNode as ClosesNode, RefundsBlocks as CloseRefundsBlocks, Uncounts as CloseUncounts, Leaves as CloseLeaves}
+use Rattle.gate_world.specs.declared.config.Config.{Config}
+use Rattle.gate_world.specs.declared.work.Phase.{Phase}
+use Rattle.gate_world.specs.declared.work.Phase.TheVariants.{Mounts, Remounts, DownReads, UpReads, Callbacks, Writes, Freezes, Thaws, Trees, Closes as FileCloses}
+use Rattle.gate_world.specs.Configs.{IsWithin}
+use Rattle.gate_world.specs.Fits.{PhaseFits}
+use Rattle.gate_world.specs.Remounts.{remount_owns}
+use Rattle.gate_world.specs.Rules.{IsGood, Stages, AtLevel, owns, change_owns}
+use Rattle.gate_world.specs.Stages.{freeze_stage_role, thaw_stage_role, snapshot_stage_role, stage_role_of}
+use Rattle.gate_world.specs.Views.{held_at, holds_level, phase_after, view_after}
+use Rattle.gate_world.specs.Work.{after_of}
+use Rattle.gate_world.specs.Worlds.{World, after_step, value_at, found_at}
+use Rattle.progress_laws.specs.Progress.{
+  EventsKeepRule,
+  ReplyWithin,
+  is_admitted,
+  is_last_close,
+  is_first_lock,
+  begins_freeze,
+  next_level,
+  IsKept,
+  KeptIfFreeze,
+  LockIsKept,
+  ChangeIsKept,
+  RemountIsKept,
+  ThawIsKept,
+  SnapshotIsKept,
+  FreezeIsKept,
+  IsKeptAt,
+  Progresses,
+}
+use Rattle.progress_laws.specs.Ranks.{most_alone, most_settled}
+use Rattle.progress_laws.specs.Ways.{IsFree, PhaseEnds, ChangeIsFree, RemountIsFree, ThawIsFree, SnapshotIsFree}
+use Rattle.progress_laws.proofs.Falls.{stands_after, no_further, near_by}
+use Rattle.progress_laws.proofs.Movers.{owner_free, HasOwner, has_owner, fits_at, free_goes, want_goes}
+use Rattle.progress_laws.proofs.Freezing.{search_below, not_none, IdleApart, kept_or_apart, FirstFree, freeze_goes, callback_goes}
+
+-- a lock is free, or not, and then the task stands before it
+change_either : (w : Words) (s : ChangeStep) (wait : Bool) →
+    ChangeIsFree w s wait ⊎ ((wait ≡ true) × (w.umount ≡ 0 → ⊥) × (s ≡ ChangeLocks))
+change_either w ChangeLocks wait =
+    elim (eqb_tells w.umount 0) [
+      | inl z ↦ inl (λ e. z.1)
+      | inr z ↦ elim (cases_Bool wait) [ inl e ↦ inr (e, z.1, refl) | inr e ↦ inl (λ q. absurd (true≢false (sym q ∙ e))) ]
+    ]
+change_either w s wait = inl tt
+
+snapshot_either : (w : Words) (s : SnapshotStep) (wait : Bool) →
+    SnapshotIsFree w s wait ⊎ ((wait ≡ true) × (w.umount ≡ 0 → ⊥) × (s ≡ SnapshotLocks))
+snapshot_either w SnapshotLocks wait =
+    elim (eqb_tells w.umount 0) [
+      | inl z ↦ inl (λ e. z.1)
+      | inr z ↦ elim (cases_Bool wait) [ inl e ↦ inr (e, z.1, refl) | inr e ↦ inl (λ q. absurd (true≢false (sym q ∙ e))) ]
+    ]
+snapshot_either w s wait = inl tt
+
+remount_either : (w : Words) (s : RemountStep) → RemountIsFree w s ⊎ ((w.umount ≡ 0 → ⊥) × (s ≡ RemountLocks))
+remount_either w RemountLocks = elim (eqb_tells w.umount 0) [ inl z ↦ inl z.1 | inr z ↦ inr (z.1, refl) ]
+remount_either w s = inl tt
+
+thaw_either : (w : Words) (s : ThawStep) → ThawIsFree w s ⊎ ((w.umount ≡ 0 → ⊥) × (s ≡ ThawLocks))
+thaw_either w ThawLocks = elim (eqb_tells w.umount 0) [ inl z ↦ inl z.1 | inr z ↦ inr (z.1, refl) ]
+thaw_either w s = inl tt
+
+first_either : (w : Words) (s : FreezeStep) → FirstFree w s ⊎ ((w.umount ≡ 0 → ⊥) × (s ≡ FreezeLocks))
+first_either w FreezeLocks = elim (eqb_tells w.umount 0) [ inl z ↦ inl z.1 | inr z ↦ inr (z.1, refl) ]
+first_either w s = inl tt
+
+-- a start that waits finds its level open, or closed
+read_either : (block : ℕ) (wait : Bool) (s : DownReadStep) → block ≤ 1 → (wait ≡ true → is_admitted s ≡ false → block ≡ 0) ⊎
+    ((wait ≡ true) × (is_admitted s ≡ false) × (block ≡ 1))
+read_either block false s le = inl (λ q a. absurd (true≢false (sym q)))
+read_either block true s le =
+    elim (cases_Bool (is_admitted s)) [
+      | inl a ↦ inl (λ q b. absurd (true≢false (sym a ∙ b)))
+      | inr a ↦ elim (eqb_tells block 0) [ inl z ↦ inl (λ q b. z.1) | inr z ↦ inr (refl, a, omega (arith, z.1, le)) ]
+    ]
+
+-- so does a close that is to be a last one
+last_either : (block : ℕ) (wait last : Bool) → block ≤ 1 → (wait ≡ true → last ≡ true → block ≡ 0) ⊎
+    ((wait ≡ true) × (last ≡ true) × (block ≡ 1))
+last_either block false last le = inl (λ q a. absurd (true≢false (sym q)))
+last_either block true false le = inl (λ q a. absurd (true≢false (sym a)))
+last_either block true true le =
+    elim (eqb_tells block 0) [ inl z ↦ inl (λ q a. z.1) | inr z ↦ inr (refl, refl, omega (arith, z.1, le)) ]
+
+-- a freeze that owns `umount` is past its first lock
+first_owned : (w : Words) (nodes : ℕ) (s : FreezeStep) → stage_owns (freeze_stage_role nodes s) ≡ 1 → FirstFree w s
+first_owned w nodes FreezeLocks h = absurd (omega (arith, h))
+first_owned w nodes s h = tt
+
+-- a freeze is at its first lock, or kept where an idle task keeps it
+first_or_kept : (c : Config) (w : World) (s : FreezeStep) → (s ≡ FreezeLocks) ⊎ (IsKept c w s → FreezeIsKept c w s)
+first_or_kept c w FreezeLocks = inl refl
+first_or_kept c w s = inr (λ k. k)
+
+first_is : (s : FreezeStep) → is_first_lock s ≡ true → s ≡ FreezeLocks
+first_is FreezeLocks h = refl
+first_is s h = absurd (true≢false (sym h))
+
+-- who is at a first lock
+first_at : (p : Option Phase) → begins_freeze p ≡ true → (y : Freeze) × (p ≡ Some (Freezes (at_freeze y FreezeLocks)))
+first_at None h = absurd (true≢false (sym h))
+first_at (Some (Freezes x)) h = (x, ap (λ s. Some (Freezes (at_freeze x s))) (first_is x.step h))
+first_at (Some (Mounts phase)) h = absurd (true≢false (sym h))
+first_at (Some (Remounts x)) h = absurd (true≢false (sym h))
+first_at (Some (DownReads r)) h = absurd (true≢false (sym h))
+first_at (Some (UpReads u)) h = absurd (true≢false (sym h))
+first_at (Some (Callbacks b)) h = absurd (true≢false (sym h))
+first_at (Some (Writes x)) h = absurd (true≢false (sym h))
+first_at (Some (Thaws x)) h = absurd (true≢false (sym h))
+first_at (Some (Trees x)) h = absurd (true≢false (sym h))
+first_at (Some (FileCloses x)) h = absurd (true≢false (sym h))
+
+-- where a freeze at its first lock has a level to pass, the stage is 0 and the superblock writable
+first_finds : (w : Words) (i : ℕ) → next_level w FreezeLocks ≤ i → i ≤ 3 → ((w.stage == 0) ≡ true) × ((w.sb == 0) ≡ true)
+first_finds w i low high =
+    elim (cases_Bool (w.stage == 0)) [
+      | inl z ↦ elim (cases_Bool (w.sb == 0)) [
+        | inl b ↦ (z, b)
+        | inr b ↦ let l : 4 ≤ i = rw (z, b) at low in absurd (omega (arith, l, high))
+      ]
+      | inr z ↦ let l : 4 ≤ i = rw z at low in absurd (omega (arith, l, high))
+    ]
+
+-- the phase that there is, or this one
+abbrev or_phase : Phase → Option Phase → Phase
+or_phase other None = other
+or_phase other (Some phase) = phase
+
+module _ (c : Config) (lim : IsWithin c)
+    (keeps : EventsKeepRule c)
+    (ends : (phase : Phase) → PhaseEnds c phase) where
+  module _ (t : ℕ) (phase : Phase) where
+    -- a task that has its reply, or another one, once `umount` is free with a freeze at stage 1
+    abbrev Waits : Type 0
+    Waits = (v : World) → IsGood c v → (v.views t).phase ≡ Some phase → v.words.umount ≡ 0 → v.words.stage ≡ 1 → ReplyWithin c (most_settled c) v
+
+    module _ (waits : Waits) (u : ℕ) (lu : u < c.tasks) (ne : t ≡ u → ⊥) (y : Freeze) where
+      -- an event of the owner leaves the view of the task that waits
+      others : (v : World) (q : Phase) (hook : HookAnswer) → (v.views t).phase ≡ Some phase → ((after_step v u q hook).views t).phase ≡ Some phase
+      others v q hook at = ap (λ (a : View). a.phase) (update_off v.views u (view_after (v.views u) q (value_at v.words q hook) hook) t ne) ∙ at
+
+      -- a freeze that is to close level 1 releases `umount` first
+      unlocks_goes : (v : World) → IsGood c v → (v.views u).phase ≡ Some (Freezes (at_freeze y Unlocks)) → (v.views t).phase ≡ Some phase →
+          ReplyWithin c (most_settled c + 1) v
+      unlocks_goes v good at mine =
+          let known : KnowsStage v.words.stage v.words.sb (stage_role_of (Some (Freezes (at_freeze y Unlocks)))) =
+          subst (λ p. KnowsStage v.words.stage v.words.sb (stage_role_of p)) at ((good Stages).knows u lu) in
+          near_by c (most_settled c) (most_settled c + 1) (omega arith) v u lu (Freezes (at_freeze y Unlocks)) at (λ hook.
+          inr (waits (after_step v u (Freezes (at_freeze y Unlocks)) hook) (keeps v good u lu hook (Freezes (at_freeze y Unlocks)) at)
+          (others v (Freezes (at_freeze y Unlocks)) hook mine) refl known))
+
+      sets_goes : (v : World) → IsGood c v → (v.views u).phase ≡ Some (Freezes (at_freeze y SetsWrite)) → (v.views t).phase ≡ Some phase →
+          ReplyWithin c (most_settled c + 2) v
+      sets_goes v good at mine =
+          near_by c (most_settled c + 1) (most_settled c + 2) (omega arith) v u lu (Freezes (at_freeze y SetsWrite)) at (λ hook.
+          inr (unlocks_goes (after_step v u (Freezes (at_freeze y SetsWrite)) hook)
+          (keeps v good u lu hook (Freezes (at_freeze y SetsWrite)) at)
+          (stands_after c v u lu hook (Freezes (at_freeze y SetsWrite)) at) (others v (Freezes (at_freeze y SetsWrite)) hook mine)))
+
+      superblock_goes : (v : World) → IsGood c v → (v.views u).phase ≡ Some (Freezes (at_freeze y LoadsSuperblock)) →
+          (v.views t).phase ≡ Some phase → (v.words.sb == 0) ≡ true → ReplyWithin c (most_settled c + 3) v
+      superblock_goes v good at mine z =
+          near_by c (most_settled c + 2) (most_settled c + 3) (omega arith) v u lu (Freezes (at_freeze y LoadsSuperblock)) at (λ hook.
+          let q : Phase = Freezes (at_freeze y LoadsSuperblock) in
+          let n : phase_after (after_of q (found_at v.words q hook) hook).0 ≡ Some (Freezes (at_freeze y SetsWrite)) = rw z refl in
+          inr (sets_goes (after_step v u (Freezes (at_freeze y LoadsSuperblock)) hook)
+          (keeps v good u lu hook (Freezes (at_freeze y LoadsSuperblock)) at)
+          (stands_after c v u lu hook (Freezes (at_freeze y LoadsSuperblock)) at ∙ n)
+          (others v (Freezes (at_freeze y LoadsSuperblock)) hook mine)))
+
+      stage_goes : (v : World) → IsGood c v → (v.views u).phase ≡ Some (Freezes (at_freeze y LoadsStage)) →
+          (v.views t).phase ≡ Some phase → (v.words.stage == 0) ≡ true → (v.words.sb == 0) ≡ true → ReplyWithin c (most_settled c + 4) v
+      stage_goes v good at mine z b =
+          near_by c (most_settled c + 3) (most_settled c + 4) (omega arith) v u lu (Freezes (at_freeze y LoadsStage)) at (λ hook.
+          let q : Phase = Freezes (at_freeze y LoadsStage) in
+          let n : phase_after (after_of q (found_at v.words q hook) hook).0 ≡ Some (Freezes (at_freeze y LoadsSuperblock)) = rw z refl in
+          inr (superblock_goes (after_step v u (Freezes (at_freeze y LoadsStage)) hook)
+          (keeps v good u lu hook (Freezes (at_freeze y LoadsStage)) at)
+          (stands_after c v u lu hook (Freezes (at_freeze y LoadsStage)) at ∙ n)
+          (others v (Freezes (at_freeze y LoadsStage)) hook mine) b))
+
+      -- and one that takes it before
+      begins_goes : (v : World) → IsGood c v → (v.views u).phase ≡ Some (Freezes (at_freeze y FreezeLocks)) →
+          (v.views t).phase ≡ Some phase → v.words.umount ≡ 0 → (v.words.stage == 0) ≡ true → (v.words.sb == 0) ≡ true → ReplyWithin c (most_settled c + 5) v
+      begins_goes v good at mine free z b =
+          near_by c (most_settled c + 4) (most_settled c + 5) (omega arith) v u lu (Freezes (at_freeze y FreezeLocks)) at (λ hook.
+          let q : Phase = Freezes (at_freeze y FreezeLocks) in
+          let n : phase_after (after_of q (found_at v.words q hook) hook).0 ≡ Some (Freezes (at_freeze y LoadsStage)) = rw free refl in
+          inr (stage_goes (after_step v u (Freezes (at_freeze y FreezeLocks)) hook)
+          (keeps v good u lu hook (Freezes (at_freeze y FreezeLocks)) at)
+          (stands_after c v u lu hook (Freezes (at_freeze y FreezeLocks)) at ∙ n)
+          (others v (Freezes (at_freeze y FreezeLocks)) hook mine) z b))
+
+      -- so a freeze that owns `umount` with level 1 still to be passed
+      release_goes : (s : FreezeStep) (v : World) → IsGood c v → (v.views u).phase ≡ Some (Freezes (at_freeze y s)) →
+          (v.views t).phase ≡ Some phase → stage_owns (freeze_stage_role y.nodes s) ≡ 1 → next_level v.words s < 2 → ReplyWithin c (most_settled c + 4) v
+      release_goes FreezeLocks v good at mine own low = absurd (omega (arith, own))
+      release_goes LoadsStage v good at mine own low =
+          elim (cases_Bool (v.words.stage == 0)) [
+            | inl z ↦ elim (cases_Bool (v.words.sb == 0)) [
+              | inl b ↦ stage_goes v good at mine z b
+              | inr b ↦ let l : 4 < 2 = rw (z, b) at low in absurd (omega (arith, l))
+            ]
+            | inr z ↦ let l : 4 < 2 = rw z at low in absurd (omega (arith, l))
+          ]
+      release_goes LoadsSuperblock v good at mine own low =
+          elim (cases_Bool (v.words.sb == 0)) [
+            | inl b ↦ no_further c (most_settled c + 3) (most_settled c + 4) v (omega arith) (superblock_goes v good at mine b)
+            | inr b ↦ let l : 4 < 2 = rw b at low in absurd (omega (arith, l))
+          ]
+      release_goes LoadsHolders v good at mine own low = absurd (omega (arith, low))
+      release_goes (Holds beside) v good at mine own low = absurd (omega (arith, low))
+      release_goes CompletesReadOnly v good at mine own low = absurd (omega (arith, low))
+      release_goes SetsWrite v good at mine own low = no_further c (most_settled c + 2) (most_settled c + 4) v (omega arith) (sets_goes v good at mine)
+      release_goes Unlocks v good at mine own low = no_further c (most_settled c + 1) (most_settled c + 4) v (omega arith) (unlocks_goes v good at mine)
+      release_goes (Closes d) v good at mine own low =
+          let first : nat_lt 1 d.level ≡ false = le-ltb 1 d.level (omega (arith, low)) in
+          absurd (omega (arith, own, ap bit first))
+      release_goes LocksAgain v good at mine own low = absurd (omega (arith, own))
+      release_goes SetsPageFault v good at mine own low = absurd (omega (arith, low))
+      release_goes (Cleans marks) v good at mine own low = absurd (omega (arith, low))
+      release_goes SetsFs v good at mine own low = absurd (omega (arith, low))
+      release_goes SetsComplete v good at mine own low = absurd (omega (arith, low))
+      release_goes (Reopens r code) v good at mine own low = absurd (omega (arith, low))
+      release_goes (Releases answer) v good at mine own low = absurd (omega (arith, low))
+
+  module _ (w : World) (good : IsGood c w) where
+    near : ReplyWithin c (most_alone c) w → ReplyWithin c (most_settled c + 5) w
+    near = no_further c (most_alone c) (most_settled c + 5) w (omega arith)
+
+    nearly : ReplyWithin c (most_settled c) w → ReplyWithin c (most_settled c + 5) w
+    nearly = no_further c (most_settled c) (most_settled c + 5) w (omega arith)
+
+    lastly : ReplyWithin c (most_settled c + 4) w → ReplyWithin c (most_settled c + 5) w
+    lastly = no_further c (most_settled c + 4) (most_settled c + 5) w (omega arith)
+
+    -- where `umount` is taken, its owner has its reply, or is a freeze that releases it, or one that is kept
+    lock_taken : (t : ℕ) → t < c.tasks → (phase : Phase) → (w.views t).phase ≡ Some phase → owns (Some phase) ≡ 0 →
+        Waits t phase → (w.words.umount ≡ 0 → ⊥) → ReplyWithin c (most_settled c + 5) w ⊎ LockIsKept c w
+    lock_taken t lt phase at none waits taken =
+        let u : HasOwner c w = has_owner c w good taken in
+        elim (owner_free c w.words u.phase u.owner) [
+          | inl free ↦ inl (near (free_goes c lim keeps ends w good u.task u.there u.phase u.at free))
+          | inr y ↦
+              let there : (w.views u.task).phase ≡ Some (Freezes y.0) = u.at ∙ ap Some y.1 in
+              let own : owns (w.views u.task).phase ≡ 1 = ap owns u.at ∙ u.owner in
+              let ne : t ≡ u.task → ⊥ = λ e. omega (arith, own, ap (λ a. owns (w.views a).phase) e, ap owns at, none) in
+              elim (kept_or_apart c w y.0.step) [
+                | inr apart ↦ inl (nearly (freeze_goes c lim keeps ends w good u.task u.there y.0 there apart
+                    (first_owned w.words y.0.nodes y.0.step (sym (ap owns there) ∙ own))))
+                | inl kept ↦ elim (cases_lt (next_level w.words y.0.step) 2) [
+                  | inr past ↦ inr (u.task, u.there, own, subst (KeptIfFreeze c w) (sym there) (past, kept))
+                  | inl low ↦ inl (lastly (release_goes t phase waits u.task u.there ne y.0 y.0.step w good there at
+                      (sym (ap owns there) ∙ own) low))
+                ]
+              ]
+        ]
+
+    module _ (t : ℕ) (lt : t < c.tasks) where
+      -- a task whose way is free
+      goes : (phase : Phase) → (w.views t).phase ≡ Some phase → IsFree c w.words phase → ReplyWithin c (most_settled c + 5) w ⊎ IsKeptAt c w phase
+      goes phase at free = inl (near (free_goes c lim keeps ends w good t lt phase at free))
+
+      -- the same in another world
+      reaches : (v : World) → IsGood c v → (q : Phase) → (v.views t).phase ≡ Some q → IsFree c v.words q → ReplyWithin c (most_settled c) v
+      reaches v good' q at free = no_further c (most_alone c) (most_settled c) v (omega arith) (free_goes c lim keeps ends v good' t lt q at free)
+
+      -- at stage 1 a freeze at its first lock has no level to pass
+      apart_at_one : (v : World) → v.words.stage ≡ 1 → IdleApart c v FreezeLocks
+      apart_at_one v one i low high =
+          let q : (v.words.stage == 0) ≡ false = ne_eqb v.words.stage 0 (λ z. omega (arith, z, one)) in
+          let l : 4 ≤ i = rw q at low in absurd (omega (arith, l, high))
+
+      -- so it has a reply near there
+      freeze_waits : (x : Freeze) → x.step ≡ FreezeLocks → Waits t (Freezes x)
+      freeze_waits x e v good' at free one =
+          freeze_goes c lim keeps ends v good' t lt x at (subst (IdleApart c v) (sym e) (apart_at_one v one))
+          (subst (FirstFree v.words) (sym e) free)
+
+      -- the operation of each task: a reply is near, or it is kept
+      task_goes : (phase : Phase) → (w.views t).phase ≡ Some phase →
+          PhaseFits c t (held_at (w.views t)) (holds_level (w.views t)) phase → ReplyWithin c (most_settled c + 5) w ⊎ IsKeptAt c w phase
+      task_goes (Mounts (Wants x)) at f =
+          inl (near (want_goes c lim keeps ends w good t lt (Mounts (Wants x)) at refl x.mount f.0 (λ clear. clear)))
+      task_goes (Mounts (Drops m p)) at f = goes (Mounts (Drops m p)) at tt
+      task_goes (Mounts (Changes x)) at f =
+          elim (change_either w.words x.step x.wait) [
+            | inl free ↦ goes (Mounts (Changes x)) at free
+            | inr n ↦ elim (lock_taken t lt (Mounts (Changes x)) at (ap change_owns n.2)
+                (λ v good' at' free one. reaches v good' (Mounts (Changes x)) at'
+                (subst (λ s. ChangeIsFree v.words s x.wait) (sym n.2) (λ e. free))) n.1) [
+                  | inl h ↦ inl h
+                  | inr kept ↦ inr (subst (λ s. ChangeIsKept c w s x.wait) (sym n.2) (n.0, kept))
+                ]
+          ]
+      task_goes (Remounts x) at f =
+          elim (remount_either w.words x.step) [
+            | inl free ↦ goes (Remounts x) at free
+            | inr n ↦ elim (lock_taken t lt (Remounts x) at (ap remount_owns n.1)
+                (λ v good' at' free one. reaches v good' (Remounts x) at' (subst (RemountIsFree v.words) (sym n.1) free)) n.0) [
+                  | inl h ↦ inl h
+                  | inr kept ↦ inr (subst (RemountIsKept c w) (sym n.1) kept)
+                ]
+          ]
+      task_goes (DownReads r) at f =
+          elim (read_either (w.words.block r.level) r.wait r.step (good (AtLevel r.level) f.0 f.1).known) [
+            | inl free ↦ goes (DownReads r) at free
+            | inr kept ↦ inr kept
+          ]
+      task_goes (UpReads u) at f = goes (UpReads u) at tt
+      task_goes (Callbacks b) at f = inl (nearly (callback_goes c lim keeps ends w good t lt b at))
+      task_goes (Writes (Takes m r)) at f =
+          elim (read_either (w.words.block r.level) r.wait r.step (good (AtLevel r.level) f.0.0 f.0.1).known) [
+            | inl free ↦ inl (near
+                (want_goes c lim keeps ends w good t lt (Writes (Takes m r)) at refl m f.2 (λ clear. (free, clear))))
+            | inr kept ↦ inr kept
+          ]
+      task_goes (Writes (WriteWants x)) at f =
+          inl (near (want_goes c lim keeps ends w good t lt (Writes (WriteWants x)) at refl x.mount f.0.0 (λ clear. clear)))
+      task_goes (Writes (GivesBack m p refusal)) at f = goes (Writes (GivesBack m p refusal)) at tt
+      task_goes (Writes (WriteDrops m p)) at f = goes (Writes (WriteDrops m p)) at tt
+      task_goes (Writes (Ends p)) at f = goes (Writes (Ends p)) at tt
+      task_goes (Freezes x) at f =
+          elim (first_either w.words x.step) [
+            | inl first ↦ elim (kept_or_apart c w x.step) [
+              | inl kept ↦ elim (first_or_kept c w x.step) [
+                | inr is ↦ inr (is kept)
+                | inl e ↦
+                    let k : IsKept c w FreezeLocks = subst (IsKept c w) e kept in
+                    let free : w.words.umount ≡ 0 = subst (FirstFree w.words) e first in
+                    elim (search_below c.tasks (λ y. (y ≡ t → ⊥) × (begins_freeze (w.views y).phase ≡ true))
+                    (λ y. begins_freeze (w.views y).phase ≡ true → y ≡ t)
+                    (λ y ly. elim (cases_Bool (begins_freeze (w.views y).phase)) [
+                      | inl f ↦ elim (eqb_tells y t) [ inl q ↦ inr (λ g. q.1) | inr q ↦ inl (q.1, f) ]
+                      | inr f ↦ inr (λ g. absurd (true≢false (sym g ∙ f)))
+                    ])) [
+                      | inr only ↦ inr (subst (FreezeIsKept c w) (sym e)
+                          (inr (free, λ y z ly lz fy fz. only y ly fy ∙ sym (only z lz fz), k)))
+                      | inl s ↦
+                          let p : (y : Freeze) × ((w.views s.0).phase ≡ Some (Freezes (at_freeze y FreezeLocks))) =
+                          first_at (w.views s.0).phase s.2.1 in
+                          let facts : ((w.words.stage == 0) ≡ true) × ((w.words.sb == 0) ≡ true) = first_finds w.words k.0 k.1 k.2 in
+                          inl (begins_goes t (Freezes x) (freeze_waits x e) s.0 s.1 (λ q. s.2.0 (sym q)) p.0 w good p.1 at free facts.0 facts.1)
+                    ]
+              ]
+              | inr apart ↦ inl (nearly (freeze_goes c lim keeps ends w good t lt x at apart first))
+            ]
+            | inr n ↦ elim (lock_taken t lt (Freezes x) at (ap (λ s. stage_owns (freeze_stage_role x.nodes s)) n.1)
+                (freeze_waits x n.1) n.0) [ inl h ↦ inl h | inr kept ↦ inr (subst (FreezeIsKept c w) (sym n.1) (inl kept)) ]
+          ]
+      task_goes (Thaws x) at f =
+          elim (thaw_either w.words x.step) [
+            | inl free ↦ goes (Thaws x) at free
+            | inr n ↦ elim (lock_taken t lt (Thaws x) at (ap (λ s. stage_owns (thaw_stage_role s)) n.1)
+                (λ v good' at' free one. reaches v good' (Thaws x) at' (subst (ThawIsFree v.words) (sym n.1) free)) n.0) [
+                  | inl h ↦ inl h
+                  | inr kept ↦ inr (subst (ThawIsKept c w) (sym n.1) kept)
+                ]
+          ]
+      task_goes (Trees (Creates x)) at f = goes (Trees (Creates x)) at tt
+      task_goes (Trees (Removes x)) at f = goes (Trees (Removes x)) at tt
+      task_goes (Trees (Grows x)) at f = goes (Trees (Grows x)) at tt
+      task_goes (Trees (Moves x)) at f = goes (Trees (Moves x)) at tt
+      task_goes (Trees (TreeMarks x)) at f = goes (Trees (TreeMarks x)) at tt
+      task_goes (Trees (OpensOne x)) at f = goes (Trees (OpensOne x)) at tt
+      task_goes (Trees (Snapshots x)) at f =
+          elim (snapshot_either w.words x.step x.wait) [
+            | inl free ↦ goes (Trees (Snapshots x)) at free
+            | inr n ↦ elim (lock_taken t lt (Trees (Snapshots x)) at (ap (λ s. stage_owns (snapshot_stage_role s)) n.2)
+                (λ v good' at' free one. reaches v good' (Trees (Snapshots x)) at'
+                (subst (λ s. SnapshotIsFree v.words s x.wait) (sym n.2) (λ e. free))) n.1) [
+                  | inl h ↦ inl h
+                  | inr kept ↦ inr (subst (λ s. SnapshotIsKept c w s x.wait) (sym n.2) (n.0, kept))
+                ]
+          ]
+      task_goes (Trees (TreeClears x)) at f = absurd f.1
+      task_goes (FileCloses (CloseLoadsFile x)) at f =
+          elim (last_either (w.words.block 3) x.wait (is_last_close (w.words.node x.file)) (good (AtLevel 3) (omega arith) (omega arith)).known) [
+            | inl free ↦ goes (FileCloses (CloseLoadsFile x)) at free
+            | inr kept ↦ inr kept
+          ]
+      task_goes (FileCloses (LowersCount x node)) at f = goes (FileCloses (LowersCount x node)) at tt
+      task_goes (FileCloses (EntersLevel n node r)) at f =
+          elim (read_either (w.words.block r.level) r.wait r.step (good (AtLevel r.level) f.2.0 f.2.1).known) [
+            | inl free ↦ goes (FileCloses (EntersLevel n node r)) at free
+            | inr kept ↦ inr kept
+          ]
+      task_goes (FileCloses (ClosesNode n p node)) at f = goes (FileCloses (ClosesNode n p node)) at tt
+      task_goes (FileCloses (CloseRefundsBlocks p blocks)) at f = goes (FileCloses (CloseRefundsBlocks p blocks)) at tt
+      task_goes (FileCloses (CloseUncounts p)) at f = goes (FileCloses (CloseUncounts p)) at tt
+      task_goes (FileCloses (CloseLeaves p)) at f = goes (FileCloses (CloseLeaves p)) at tt
+
+      -- whatever it is at
+      view_goes : (p : Option Phase) → (w.views t).phase ≡ p →
+          ReplyWithin c (most_settled c + 5) w ⊎ ((phase : Phase) → (w.views t).phase ≡ Some phase → IsKeptAt c w phase)
+      view_goes None at = inr (λ phase e. absurd (not_none phase (sym e ∙ at)))
+      view_goes (Some q) at =
+          elim (task_goes q at (fits_at c w good t lt q at)) [
+            | inl h ↦ inl h
+            | inr kept ↦ inr (λ phase e.
+                let same : q ≡ phase = ap (or_phase q) (sym at ∙ e) in
+                subst (IsKeptAt c w) same kept)
+          ]
+
+    -- So a reply is near, or each operation under way is kept.
+    pub world_goes : Progresses c (most_settled c + 5) w
+    world_goes =
+        elim (search_below c.tasks (λ t. ReplyWithin c (most_settled c + 5) w)
+        (λ t. (phase : Phase) → (w.views t).phase ≡ Some phase → IsKeptAt c w phase)
+        (λ t lt. view_goes t lt (w.views t).phase refl)) [
+          | inl h ↦ inl h.2
+          | inr kept ↦ inr kept
+        ]
