@@ -4,11 +4,12 @@ use Rattle.gate_world.specs.declared.config.Config.{Config}
 use Rattle.gate_world.specs.Configs.{IsWithin}
 use Rattle.gate_world.specs.Headline.{world_after}
 use Rattle.gate_world.specs.Worlds.{Entry}
-use Rattle.progress_laws.specs.Progress.{EventsKeepRule, NobodyIsDeadlocked, RepliesOrIsFrozen}
+use Rattle.progress_laws.specs.Progress.{EventsKeepRule, EventsMoveModel, KeptStaysKept, NobodyIsDeadlocked, RepliesOrIsFrozen}
 use Rattle.progress_laws.specs.Ranks.{most_events_to_reply}
 use Rattle.progress_laws.proofs.Layers.{phase_ends}
 use Rattle.progress_laws.proofs.Whole.{world_goes}
 use Rattle.progress_laws.proofs.Plain.{world_replies}
+use Rattle.progress_laws.proofs.KeptStays.{kept_stays}
 use Rattle.gate_core.proofs.Layers.{phase_keeps}
 use Rattle.gate_core.proofs.Whole.{whole_rule}
 
@@ -21,3 +22,9 @@ module _ (c : Config) (lim : IsWithin c) where
 
   pub whole_replies : (es : List Entry) → RepliesOrIsFrozen c (most_events_to_reply c) es
   whole_replies es = world_replies c lim events_keep_rule (world_after c es) (whole_rule c lim es)
+
+  events_move_model : EventsMoveModel c
+  events_move_model w good t lt hook phase at = ((phase_keeps c phase).step lim w good t lt hook at).1
+
+  pub whole_kept : (es : List Entry) → KeptStaysKept c es
+  whole_kept es = kept_stays c events_move_model (world_after c es) (whole_rule c lim es)

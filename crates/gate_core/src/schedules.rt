@@ -9,7 +9,7 @@ ghost use Rattle.gate_world.specs.Headline.{world_after, MovesTheModel, IsOneRun
 ghost use Rattle.gate_world.specs.Causes.{RefusalsHaveCauses};
 ghost use Rattle.gate_world.specs.LevelRuns.{LevelsAreRuns};
 ghost use Rattle.gate_world.specs.Waits.{EachWaitHasCulprit};
-ghost use Rattle.progress_laws.specs.Progress.{NobodyIsDeadlocked, RepliesOrIsFrozen};
+ghost use Rattle.progress_laws.specs.Progress.{KeptStaysKept, NobodyIsDeadlocked, RepliesOrIsFrozen};
 ghost use Rattle.progress_laws.specs.Ranks.{most_events_to_reply};
 
 /// The headline. For every configuration within the limits, and every schedule: any list of beginnings, refused ones included, and of
@@ -60,6 +60,8 @@ ghost use Rattle.progress_laws.specs.Ranks.{most_events_to_reply};
 ///   owns it to its end. It says what is possible, and no more: what may starve is in docs/PROVED.md.
 /// - `replies`: so, with an operation under way, a reply is at most so many events away, or the file system is frozen as a whole, or an idle
 ///   task keeps a freeze that is under way.
+/// - `kept_stays`: and that is exact: where each operation under way is kept, no event of one of them is a reply, and all stay kept, as long as
+///   no hook fails.
 ///
 /// It takes nothing, does nothing and answers nothing: its contract is the theorem. `Core` is bound to the same worlds by `Shows`.
 pub fn every_schedule()
@@ -79,6 +81,7 @@ pub fn every_schedule()
     ensures waits { (c : Config) → IsWithin c → (entries : List Entry) → EachWaitHasCulprit c entries }
     ensures progress { (c : Config) → IsWithin c → (entries : List Entry) → NobodyIsDeadlocked c (most_events_to_reply c) entries }
     ensures replies { (c : Config) → IsWithin c → (entries : List Entry) → RepliesOrIsFrozen c (most_events_to_reply c) entries }
+    ensures kept_stays { (c : Config) → IsWithin c → (entries : List Entry) → KeptStaysKept c entries }
 {}
 
 /// The rule from which the headline follows, in every world of every schedule, as above: counts, holdings, the owner's words, the stage, the

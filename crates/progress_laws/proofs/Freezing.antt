@@ -185,7 +185,7 @@ next_some c holder w (Closes d) f = f.0
 next_some c holder w s f = omega arith
 
 -- the levels that a freeze has to pass are the same with the same stage and superblock
-next_same : (w next : Words) (s : FreezeStep) → next.stage ≡ w.stage → next.sb ≡ w.sb → next_level next s ≡ next_level w s
+pub next_same : (w next : Words) (s : FreezeStep) → next.stage ≡ w.stage → next.sb ≡ w.sb → next_level next s ≡ next_level w s
 next_same w next Locks e f = rw (e, f) refl
 next_same w next LoadsStage e f = rw (e, f) refl
 next_same w next LoadsSuperblock e f = rw f refl

@@ -136,7 +136,7 @@ pub record StaysBeside (w next : Words) : Type 0 where
   pub stage_same : next.stage ≡ w.stage
   pub sb_same : next.sb ≡ w.sb
 
-read_beside : (w : Words) (r : DownRead) (s : DownReadStep) → StaysBeside w (after_event w (down_read_next r s))
+pub read_beside : (w : Words) (r : DownRead) (s : DownReadStep) → StaysBeside w (after_event w (down_read_next r s))
 read_beside w r EntersSection = record { umount_same = refl; stage_same = refl; sb_same = refl }
 read_beside w r LoadsSync = record { umount_same = refl; stage_same = refl; sb_same = refl }
 read_beside w r CountsUpFast = record { umount_same = refl; stage_same = refl; sb_same = refl }

@@ -16,3 +16,6 @@ pub mod Movers
 pub mod Freezing
 pub mod Whole
 pub mod Plain
+pub mod KeptStarts
+pub mod KeptCloses
+pub mod KeptStays

@@ -137,7 +137,7 @@ first_or_kept : (c : Config) (w : World) (s : FreezeStep) → (s ≡ FreezeLocks
 first_or_kept c w FreezeLocks = inl refl
 first_or_kept c w s = inr (λ k. k)
 
-first_is : (s : FreezeStep) → is_first_lock s ≡ true → s ≡ FreezeLocks
+pub first_is : (s : FreezeStep) → is_first_lock s ≡ true → s ≡ FreezeLocks
 first_is FreezeLocks h = refl
 first_is s h = absurd (true≢false (sym h))
 
@@ -156,7 +156,7 @@ first_at (Some (Trees x)) h = absurd (true≢false (sym h))
 first_at (Some (FileCloses x)) h = absurd (true≢false (sym h))
 
 -- where a freeze at its first lock has a level to pass, the stage is 0 and the superblock writable
-first_finds : (w : Words) (i : ℕ) → next_level w FreezeLocks ≤ i → i ≤ 3 → ((w.stage == 0) ≡ true) × ((w.sb == 0) ≡ true)
+pub first_finds : (w : Words) (i : ℕ) → next_level w FreezeLocks ≤ i → i ≤ 3 → ((w.stage == 0) ≡ true) × ((w.sb == 0) ≡ true)
 first_finds w i low high =
     elim (cases_Bool (w.stage == 0)) [
       | inl z ↦ elim (cases_Bool (w.sb == 0)) [
@@ -167,7 +167,7 @@ first_finds w i low high =
     ]
 
 -- the phase that there is, or this one
-abbrev or_phase : Phase → Option Phase → Phase
+abbrev pub or_phase : Phase → Option Phase → Phase
 or_phase other None = other
 or_phase other (Some phase) = phase
 

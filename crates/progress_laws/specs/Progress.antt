@@ -1,6 +1,6 @@
 -- Progress: from each world in which an operation is under way a reply is near, or each task under way stands before a level that is kept
 -- closed, or kept from being passed, by what no task under way can change.
-use Rattle.std.specs.Prelude.{◌≡◌, ℕ, zero, suc, ◌<◌, ◌≤◌, ◌⊎◌, ◌==◌, ◌&&◌, if◌then◌else◌, Bool, true, false, Option, Some, None, List}
+use Rattle.std.specs.Prelude.{◌≡◌, ℕ, zero, suc, ◌<◌, ◌≤◌, ◌⊎◌, ◌==◌, ◌&&◌, if◌then◌else◌, Bool, true, false, Option, Some, None, Ok, List}
 use Rattle.cpu_words.specs.Words.{Words}
 use Rattle.cpu_words.specs.Hooks.{HookAnswer}
 use Rattle.mount_counts.specs.declared.phases.MountPhase.{MountPhase}
@@ -48,8 +48,10 @@ use Rattle.gate_world.specs.declared.work.Phase.{Phase}
 use Rattle.gate_world.specs.declared.work.Phase.TheVariants.{Mounts, Remounts, DownReads, UpReads, Callbacks, Writes, Freezes, Thaws, Trees, Closes as FileCloses}
 use Rattle.gate_world.specs.Levels.{is_frozen_whole}
 use Rattle.gate_world.specs.Views.{holds_level}
-use Rattle.gate_world.specs.Rules.{IsGood, owns}
-use Rattle.gate_world.specs.Worlds.{World, Entry, Steps, happens, after_step}
+use Rattle.gate_world.specs.Work.{hook_of}
+use Rattle.gate_world.specs.Rules.{IsGood, Moves, owns}
+use Rattle.gate_world.specs.Shown.{shown}
+use Rattle.gate_world.specs.Worlds.{World, Entry, Steps, happens, after_step, phase_action}
 use Rattle.gate_world.specs.Headline.{world_after}
 
 -- a task has an operation under way
@@ -189,9 +191,23 @@ IsKeptAt c w (Thaws x) = ThawIsKept c w x.step
 IsKeptAt c w (Trees phase) = TreeIsKept c w phase
 IsKeptAt c w (FileCloses phase) = CloseIsKept w phase
 
+-- each operation under way is kept
+abbrev pub AllAreKept : Config → World → Type 0
+AllAreKept c w = (t : ℕ) → t < c.tasks → (phase : Phase) → (w.views t).phase ≡ Some phase → IsKeptAt c w phase
+
 -- A reply is near, or each operation under way is kept.
 abbrev pub Progresses : Config → ℕ → World → Type 0
-Progresses c n w = ReplyWithin c n w ⊎ ((t : ℕ) → t < c.tasks → (phase : Phase) → (w.views t).phase ≡ Some phase → IsKeptAt c w phase)
+Progresses c n w = ReplyWithin c n w ⊎ AllAreKept c w
+
+-- the hook that the next event of a phase asks, if it asks one, agrees
+abbrev pub IsAgreed : Phase → HookAnswer → Type 0
+IsAgreed phase hook = (hook_of phase ≡ None) ⊎ (hook ≡ Ok tt)
+
+-- The converse: where each operation under way is kept, no event of one of them is a reply, and all stay kept. So they are until an idle
+-- task gives its level back, another operation begins, or a hook fails.
+abbrev pub KeptStays : Config → World → Type 0
+KeptStays c w = AllAreKept c w → (t : ℕ) → t < c.tasks → (phase : Phase) → (w.views t).phase ≡ Some phase → (hook : HookAnswer) →
+    IsAgreed phase hook → (HasReply (happens c w (Steps t hook)) t → ⊥) × AllAreKept c (happens c w (Steps t hook))
 
 -- a freeze is under way, and an idle task holds a level that it has to pass yet
 abbrev pub AFreezeIsKept : Config → World → Type 0
@@ -208,9 +224,17 @@ abbrev pub EventsKeepRule : Config → Type 0
 EventsKeepRule c = (w : World) → IsGood c w → (t : ℕ) → t < c.tasks → (hook : HookAnswer) → (phase : Phase) →
     (w.views t).phase ≡ Some phase → IsGood c (after_step w t phase hook)
 
--- the two of a schedule
+-- that of its converse: it moves the shown model by its action
+abbrev pub EventsMoveModel : Config → Type 0
+EventsMoveModel c = (w : World) → IsGood c w → (t : ℕ) → t < c.tasks → (hook : HookAnswer) → (phase : Phase) →
+    (w.views t).phase ≡ Some phase → Moves c (shown c w) t (phase_action w hook (Some phase)) (shown c (after_step w t phase hook))
+
+-- the three of a schedule
 abbrev pub NobodyIsDeadlocked : Config → ℕ → List Entry → Type 0
 NobodyIsDeadlocked c n entries = Progresses c n (world_after c entries)
 
 abbrev pub RepliesOrIsFrozen : Config → ℕ → List Entry → Type 0
 RepliesOrIsFrozen c n entries = ReplyOrFrozen c n (world_after c entries)
+
+abbrev pub KeptStaysKept : Config → List Entry → Type 0
+KeptStaysKept c entries = KeptStays c (world_after c entries)

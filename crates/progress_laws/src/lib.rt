@@ -7,7 +7,7 @@ ghost use Rattle.gate_world.specs.declared.work.Phase.{Phase};
 ghost use Rattle.gate_world.specs.Configs.{IsWithin};
 ghost use Rattle.gate_world.specs.Rules.{IsGood};
 ghost use Rattle.gate_world.specs.Worlds.{World};
-ghost use Rattle.progress_laws.specs.Progress.{EventsKeepRule, Progresses, ReplyOrFrozen};
+ghost use Rattle.progress_laws.specs.Progress.{EventsKeepRule, EventsMoveModel, KeptStays, Progresses, ReplyOrFrozen};
 ghost use Rattle.progress_laws.specs.Ranks.{most_events_to_reply};
 ghost use Rattle.progress_laws.specs.Ways.{PhaseEnds};
 
@@ -28,4 +28,10 @@ pub fn each_event_comes_nearer_to_the_reply()
 pub fn nobody_is_deadlocked()
     ensures progress { (c : Config) → IsWithin c → EventsKeepRule c → (w : World) → IsGood c w → Progresses c (most_events_to_reply c) w }
     ensures replies { (c : Config) → IsWithin c → EventsKeepRule c → (w : World) → IsGood c w → ReplyOrFrozen c (most_events_to_reply c) w }
+{}
+
+/// The converse, so that what is kept is just that: where each operation under way is kept, no event of one of them is a reply, and all stay
+/// kept, as long as no hook fails. It takes nothing, does nothing and answers nothing: its contract is the theorem.
+pub fn what_is_kept_stays_so()
+    ensures { (c : Config) → EventsMoveModel c → (w : World) → IsGood c w → KeptStays c w }
 {}

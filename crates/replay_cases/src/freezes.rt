@@ -1,7 +1,7 @@
 //! Freezes and thaws: their waits, their refusals, and what they leave.
 
 /// Schedules of freezes and thaws among readers, remounts and each other.
-pub(crate) static FREEZES: [(&str, &str); 13] = [
+pub(crate) static FREEZES: [(&str, &str); 18] = [
     // A reader on the fast path goes on beside a freeze, which waits for its section and then for its count.
     (
         "config 2 1 1 2 8\n1 start 1 0\n1 step\n1 step\n0 freeze\n0 step\n0 step\n0 step\n0 step\n0 step\n0 step\n0 step\n\
@@ -115,5 +115,36 @@ pub(crate) static FREEZES: [(&str, &str); 13] = [
          0 thaw kernel\n0 run\n2 snapshot\n2 run\n0 thaw kernel\n0 run\n2 thaw user\n2 run\nwords\n",
         "0 ok\n1 cas umount 0 2\n1 load stage 4 4\n1 load holders 1 1\n1 store holders 3 hold user\n1 store umount 0\n1 ok\n\
          1 refused 16 Busy\n0 ok\n2 ok used 0\n0 refused 22 Invalid\n2 ok\nsync1 3\nsync2 3\nsync3 3\n",
+    ),
+    // An idle task keeps a freeze: it waits at each run, until that task gives its level back.
+    (
+        "config 2 1 1 2 8\n0 start 1 0\n0 run\n1 freeze\n1 run\n1 run\nwords\n0 end 1 0\n0 run\n1 run\n",
+        "0 ok\n1 waiting\n1 waiting\nstage 1\nblock1 1\nsync1 258\nlevel1.cpu0 1\nsection0 2\n0 ok\n1 ok\n",
+    ),
+    // A file system that is frozen as a whole keeps a start: it waits at each run, until a thaw.
+    (
+        "config 2 1 1 2 8\n0 freeze\n0 run\n1 start 1 0\n1 run\n1 run\n0 thaw\n0 run\n1 run\n",
+        "0 ok\n1 waiting\n1 waiting\n0 ok\n1 ok\n",
+    ),
+    // A freeze that is kept past level 1 has `umount`, and keeps who waits for it.
+    (
+        "config 3 1 1 2 8\n0 start 2 0\n0 run\n1 freeze\n1 run\n2 change 0 ro\n2 run\n1 run\n2 run\nwords\n0 end 2 0\n\
+         0 run\n1 run\n2 run\n",
+        "0 ok\n1 waiting\n2 waiting\n1 waiting\n2 waiting\numount 2\nstage 2\nblock1 1\nsync1 258\nblock2 1\nsync2 258\n\
+         level2.cpu0 1\nsection0 2\n0 ok\n1 ok\n2 ok\n",
+    ),
+    // A start may starve behind ever new freezes: this goes round, though the start could go on between any thaw and the next freeze.
+    (
+        "config 2 1 1 2 8\n0 freeze\n0 run\n1 start 1 0\n1 run\n0 thaw\n0 run\n0 freeze\n0 run\n1 run\n0 thaw\n0 run\n\
+         0 freeze\n0 run\n1 run\n0 thaw\n0 run\n1 run\n",
+        "0 ok\n1 waiting\n0 ok\n0 ok\n1 waiting\n0 ok\n0 ok\n1 waiting\n0 ok\n1 ok\n",
+    ),
+    // A freeze may starve where readers keep changing its sum: this goes round, though nobody gets inside the level.
+    (
+        "config 2 1 1 2 8\n1 start 1 0\n1 run\n0 freeze\n0 run\n1 end 1 0\n1 run\n1 trystart 1 0\n1 step\n1 step\n1 step\n\
+         0 run\n1 run\n1 trystart 1 0\n1 step\n1 step\n1 step\n0 run\n1 run\n0 run\n",
+        "1 ok\n0 waiting\n1 ok\n1 add section1 2 3\n1 load sync1 258 258\n1 add level1.cpu0 0 1\n0 waiting\n\
+         1 refused 11 Again\n1 add section1 4 5\n1 load sync1 258 258\n1 add level1.cpu0 0 1\n0 waiting\n\
+         1 refused 11 Again\n0 ok\n",
     ),
 ];

@@ -66,7 +66,7 @@ fn print_all<D: Driver, R: Alloc<A = Global>>(
 }
 
 /// Each schedule with what it prints.
-static PRINTED: [(&str, &str); 10] = [
+static PRINTED: [(&str, &str); 11] = [
     // An access, event by event.
     (
         "config 1 1 1 2 8\n0 want 0 0\n0 step\n0 step\n0 step\n0 step\n0 step\n0 drop 0 0\n0 step\n",
@@ -124,6 +124,14 @@ static PRINTED: [(&str, &str); 10] = [
     (
         "config 2 1 2 2 8\n1 want 1 0\n1 run freeze 65535\nmodel\n# a comment\n\n1 drop 1 0\n1 step 7\n",
         "1 ok\nmodel stage 0 passed 0 sb rw\ntask 1 mount 1 1\nnode 0 dir 0 0 clean\n1 sub mount1.cpu0 1 0 return mount 1\n1 ok\n",
+    ),
+    // A want may starve behind ever new changes, each of which it makes Busy: this goes round.
+    (
+        "config 2 1 1 2 8\n0 want 0 0\n0 step\n1 change 0 ro\n1 step\n1 step\n1 step\n1 step\n0 run\nwords\n1 run\n\
+         1 change 0 ro\n1 step\n1 step\n1 step\n1 step\n0 run\nwords\n1 run\n0 run\n",
+        "0 add mount0.cpu0 0 1\n1 cas umount 0 2\n1 load mount0.flags 0 0\n1 load sb 0 0\n1 or mount0.flags 0 2\n0 waiting\n\
+         umount 2\nmount0.flags 2\nmount0.cpu0 1\n1 refused 16 Busy\n1 cas umount 0 2\n1 load mount0.flags 0 0\n\
+         1 load sb 0 0\n1 or mount0.flags 0 2\n0 waiting\numount 2\nmount0.flags 2\nmount0.cpu0 1\n1 refused 16 Busy\n0 ok\n",
     ),
 ];
 
