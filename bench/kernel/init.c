@@ -12,6 +12,7 @@
  *   touch M                 utimensat of a path at mount M
  *   write M                 a write to the file that the task has open at M
  *   begin M, end            the same, held up in the middle by its buffer's page until 'end': it answers 'inside', and 'end' as a write
+ *   remove M                makes a file at mount M, opens it for reading, and removes it; release closes it
  *   bind M ro|rw            remount of the mount, by MS_REMOUNT and MS_BIND; setattr M ro|rw by mount_setattr
  *   remount ro|rw           the superblock, by fsconfig; spare ro|rw by mount with MS_REMOUNT at a mount that no other call uses
  *   freeze, thaw            FIFREEZE, FITHAW
@@ -46,9 +47,11 @@
 
 enum { TASKS = 4, MOUNTS = 3, PAGE = 4096, CALLS = 4, OPENS = 64, ROWS = 256, LINE = 256 };
 
-enum verb { OPEN, CLOSE, TOUCH, WRITE, BEGIN, BIND, SETATTR, REMOUNT, SPARE, FREEZE, THAW };
+enum verb { OPEN, CLOSE, TOUCH, WRITE, BEGIN, REMOVE, BIND, SETATTR, REMOUNT, SPARE, RELEASE, FREEZE, THAW };
 
-static const char *const verbs[] = {"open", "close", "touch", "write", "begin", "bind", "setattr", "remount", "spare", "freeze", "thaw"};
+/* The verbs' words, in their order: up to setattr they have a mount. */
+static const char *const verbs[] = {"open",    "close",   "touch", "write",   "begin",  "remove", "bind",
+                                    "setattr", "remount", "spare", "release", "freeze", "thaw"};
 
 struct call {
     enum verb verb;
@@ -67,11 +70,16 @@ struct task {
     atomic_int racing, asked, taken, done;
     int opened[MOUNTS][OPENS];
     int opens[MOUNTS];
+    int removed;
     char *page;
 };
 
 static struct task tasks[TASKS];
 static int root, faults, line_out, processors;
+
+/* In a race: how many tasks there are, and how many have ended, which only wakes who looks. */
+static int racers;
+static atomic_int ended;
 static char written[PAGE] __attribute__((aligned(PAGE)));
 
 static void say(const char *form, ...) {
@@ -125,6 +133,21 @@ static int touch(int mount) {
     return result(utimensat(AT_FDCWD, path, NULL, 0));
 }
 
+static int remove_open(struct task *task, int mount) {
+    char path[LINE];
+    snprintf(path, sizeof path, "/m%d/removed%d", mount, task->number);
+    int file = open(path, O_RDONLY | O_CREAT | O_CLOEXEC, 0644);
+    if (file < 0) return errno;
+    task->removed = file;
+    return result(unlink(path));
+}
+
+static int release(struct task *task) {
+    int file = task->removed;
+    task->removed = 0;
+    return result(close(file));
+}
+
 static int bind_mount(int mount, int read_only) {
     char path[LINE];
     snprintf(path, sizeof path, "/m%d", mount);
@@ -160,6 +183,8 @@ static int perform(struct task *task, const struct call *call) {
     case TOUCH: return touch(call->mount);
     case WRITE: return write_file(task, call->mount, written);
     case BEGIN: return write_file(task, call->mount, task->page);
+    case REMOVE: return remove_open(task, call->mount);
+    case RELEASE: return release(task);
     case BIND: return bind_mount(call->mount, call->read_only);
     case SETATTR: return set_attribute(call->mount, call->read_only);
     case REMOUNT: return remount(call->read_only);
@@ -170,6 +195,14 @@ static int perform(struct task *task, const struct call *call) {
     return ENOSYS;
 }
 
+static void wake(atomic_int *word) { syscall(SYS_futex, word, 1 /* FUTEX_WAKE */, 1, NULL, NULL, 0); }
+
+/* Sleeps while the word has this value, and for so many microseconds at most; without end where they are 0. */
+static void sleep_at(atomic_int *word, int value, long most) {
+    struct timespec end = {0, most * 1000};
+    syscall(SYS_futex, word, 0 /* FUTEX_WAIT */, value, most ? &end : NULL, NULL, 0);
+}
+
 /* The calls of a task, one list after the other. In a race it spins for the begin of the round, and then for its delay. */
 static void *run_task(void *given) {
     struct task *task = given;
@@ -177,7 +210,7 @@ static void *run_task(void *given) {
     for (int seen = 0;; seen++) {
         while (atomic_load(&task->asked) == seen) {
             if (atomic_load(&task->racing)) sched_yield();
-            else syscall(SYS_futex, &task->asked, 0 /* FUTEX_WAIT */, seen, NULL, NULL, 0);
+            else sleep_at(&task->asked, seen, 0);
         }
         for (volatile long spin = task->delay; spin > 0; spin--) {}
         for (int i = 0; i < task->count; i++) {
@@ -185,6 +218,7 @@ static void *run_task(void *given) {
             atomic_fetch_add(&task->done, 1);
         }
         atomic_store(&task->taken, seen + 1);
+        if (atomic_fetch_add(&ended, 1) + 1 == racers) wake(&ended);
     }
     return NULL;
 }
@@ -192,7 +226,7 @@ static void *run_task(void *given) {
 static void ask(struct task *task) {
     atomic_store(&task->done, 0);
     atomic_fetch_add(&task->asked, 1);
-    syscall(SYS_futex, &task->asked, 1 /* FUTEX_WAKE */, 1, NULL, NULL, 0);
+    wake(&task->asked);
 }
 
 static int is_idle(struct task *task) { return atomic_load(&task->taken) == atomic_load(&task->asked); }
@@ -359,9 +393,11 @@ static void restore(void) {
         sched_yield();
     }
     while (ioctl(root, FITHAW, 0) == 0) {}
-    for (int i = 0; i < TASKS; i++)
+    for (int i = 0; i < TASKS; i++) {
         for (int mount = 0; mount < MOUNTS; mount++)
             while (tasks[i].opens[mount]) close_file(&tasks[i], mount);
+        if (tasks[i].removed) release(&tasks[i]);
+    }
     if (is_read_only())
         need(remount(0) == 0 && bind_mount(0, 0) == 0 && bind_mount(1, 0) == 0 && bind_mount(2, 0) == 0, "all writable again");
 }
@@ -409,18 +445,20 @@ static void race(char *words) {
             need(tasks[count].count < CALLS && read_call(call, &tasks[count].calls[tasks[count].count++]), "a race's call");
     }
     memset(rows, 0, sizeof rows);
+    racers = count;
     for (int i = 0; i < count; i++) {
         atomic_store(&tasks[i].racing, 1);
-        syscall(SYS_futex, &tasks[i].asked, 1 /* FUTEX_WAKE */, 1, NULL, NULL, 0);
+        wake(&tasks[i].asked);
     }
     long round = 0;
     for (; round < rounds && now() < end; round++) {
         struct look before = {-1, 0, 0};
         for (int i = 0; i < count; i++) tasks[i].delay = draw_delay(&seed);
         for (int i = 0; i < count; i++) atomic_store(&tasks[i].done, 0);
+        atomic_store(&ended, 0);
         for (int i = 0; i < count; i++) atomic_fetch_add(&tasks[i].asked, 1);
-        for (long looks = 0; looks < 200 && !are_idle(count); looks++) sched_yield();
-        while (!are_idle(count) && !is_quiet(count, &before)) sched_yield();
+        for (int seen = atomic_load(&ended); !are_idle(count) && !is_quiet(count, &before); seen = atomic_load(&ended))
+            sleep_at(&ended, seen, 1000);
         read_answers(count, text);
         count_row(rows, text);
         restore();

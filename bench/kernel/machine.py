@@ -5,6 +5,7 @@ import re
 import select
 import shutil
 import subprocess
+import sys
 import time
 
 HERE = os.path.dirname(os.path.realpath(__file__))
@@ -29,8 +30,6 @@ class Failed(Exception):
 
 def say(text):
     """A line on standard error, where all that is no result goes."""
-    import sys
-
     print(f"compare: {text}", file=sys.stderr, flush=True)
 
 
@@ -178,8 +177,8 @@ def accelerator():
 class Guest:
     """A guest that runs. Each line that it is sent and each that it answers is kept in `log`."""
 
-    def __init__(self, kernel, guest, processors):
-        self.log = []
+    def __init__(self, kernel, guest, processors, log):
+        self.log = log
         self.rest = b""
         self.said = f"{OUT}/kernel-{processors}.log"
         words = [find("qemu-system-x86_64"), "-accel", accelerator(), "-cpu", "max", "-smp", str(processors), "-m", "320", "-nodefaults",
@@ -202,7 +201,7 @@ class Guest:
             self.rest += some
         line, self.rest = self.rest.split(b"\n", 1)
         text = line.decode(errors="replace").strip("\r\0")
-        self.log.append(f"< {text}")
+        self.log.append(f"guest< {text}")
         return text
 
     def last_words(self):
@@ -219,7 +218,7 @@ class Guest:
 
     def send(self, line):
         """Sends a line."""
-        self.log.append(f"> {line}")
+        self.log.append(f"guest> {line}")
         self.qemu.stdin.write(line.encode() + b"\n")
         self.qemu.stdin.flush()
 

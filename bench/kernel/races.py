@@ -86,8 +86,9 @@ def table(race, seen, allowed):
     return lines, len(others)
 
 
-def compare(options, program, guest, wrong):
+def compare(options, program, guest):
     """Races on this guest. Hands out how many outcomes aren't allowed."""
+    wrong = int(os.environ.get("COMPARE_WRONG", "0"))
     differing = 0
     for number, path in enumerate(sorted(glob.glob(f"{machine.HERE}/races/*.race")), 1):
         race = Race(path)

@@ -7,7 +7,7 @@ import subprocess
 TASKS = 4
 MOUNTS = 3
 # The last task only tells where the answers to a question end. Each call is counted on processor 0 or 1.
-CONFIG = f"config {TASKS + 1} 2 {MOUNTS} 2 8"
+CONFIG = f"config {TASKS + 1} 2 {MOUNTS} 8 8"
 END = f"{TASKS} run"
 
 # The names of refusals that both sides give, by errno.
@@ -15,7 +15,7 @@ NAMES = {11: "Again", 12: "NoMemory", 16: "Busy", 22: "Invalid", 30: "ReadOnly"}
 
 # How often each call is drawn, beside the others that are possible.
 WEIGHTS = {"open": 8, "close": 5, "touch": 5, "write": 4, "begin": 3, "end": 5, "bind": 3, "setattr": 3, "remount": 3, "spare": 2, "freeze": 5,
-           "thaw": 5}
+           "thaw": 5, "remove": 2, "release": 3}
 
 
 class Unreadable(Exception):
@@ -46,17 +46,20 @@ def read_model(lines):
 
 
 class Replay:
-    """A replay that is under way. `lines` are those that it was given."""
+    """A replay that is under way. `lines` are those that it was given; with what it printed they are also kept in `log`."""
 
-    def __init__(self, program):
+    def __init__(self, program, log):
         self.process = subprocess.Popen([*program, "replay"], stdin=subprocess.PIPE, stdout=subprocess.PIPE, text=True)
+        self.log = log
         self.lines = []
         self.steps = {}
+        self.nodes = {}
         self.ask(CONFIG)
 
     def ask(self, *lines):
         """Gives it these lines, and hands out what it prints for them."""
         self.lines += lines
+        self.log += [f"replay> {line}" for line in lines]
         self.process.stdin.write("".join(f"{line}\n" for line in (*lines, END)))
         self.process.stdin.flush()
         printed = []
@@ -64,6 +67,7 @@ class Replay:
             if line == f"{TASKS} idle\n":
                 return printed
             printed.append(line.rstrip("\n"))
+            self.log.append(f"replay< {printed[-1]}")
         raise Unreadable(f"the replay ended after {printed}")
 
     def do(self, task, words):
@@ -73,17 +77,19 @@ class Replay:
         steps = self.steps[task]
         while steps:
             call = steps[0]
-            begins = [] if call is None else [f"{task} {call}"]
+            begins = [] if call is None else [f"{task} {call.format(node=self.nodes.get(task))}"]
             printed = self.ask(*begins, f"{task} run")
-            found = re.fullmatch(rf"{task} (ok|waiting|refused .*)", printed[0])
+            found = re.fullmatch(rf"{task} (ok|ok node (\d)|waiting|refused .*)", printed[0])
             if not found:
                 raise Unreadable(f"the replay answered {printed}")
             if found[1] == "waiting":
                 steps[0] = None
                 return "waits"
-            if found[1] != "ok":
+            if found[1].startswith("refused"):
                 del self.steps[task]
                 return found[1]
+            if found[2]:
+                self.nodes[task] = found[2]
             steps.pop(0)
         return "ok"
 
@@ -111,15 +117,20 @@ def calls_of(words, cpu):
         return [f"change {rest[0]} {rest[1]}"]
     mount = rest[0] if rest else None
     return {"open": [f"want {mount} {cpu}"], "close": [f"drop {mount} {cpu}"], "touch": [f"wantwrite {mount} {cpu}", f"dropwrite {mount} {1 - cpu}"],
-            "write": [f"start 1 {cpu}", f"end 1 {1 - cpu}"], "begin": [f"start 1 {cpu}"], "end": [f"end 1 {cpu}"]}[verb]
+            "write": [f"start 1 {cpu}", f"end 1 {1 - cpu}"], "begin": [f"start 1 {cpu}"], "end": [f"end 1 {cpu}"],
+            "remove": [f"wantwrite {mount} {cpu}", "create 0 file", "open {node}", "remove {node}", f"dropwrite {mount} {cpu}"],
+            "release": [f"close {{node}} {cpu}"]}[verb]
 
 
 class Drawn:
-    """What a schedule has come to: what tasks have open, who waits in what, and who is inside a write that is held up."""
+    """A schedule that is drawn by a seed, and what it has come to: what tasks have open, who waits in what, and who is inside a write that is
+    held up."""
 
-    def __init__(self, draw):
-        self.draw = draw
+    def __init__(self, seed):
+        self.draw = random.Random(seed)
+        self.left = self.draw.randint(8, 18)
         self.opens = {task: [] for task in range(TASKS)}
+        self.removed = set()
         self.waits = {}
         self.inside = set()
         self.flags = f"rw:{','.join(['rw'] * MOUNTS)}"
@@ -135,15 +146,17 @@ class Drawn:
         choices = [[verb, mount] for verb in ("open", "touch")] + [["freeze"], ["thaw"]]
         choices += [[verb, draw.choice(["ro", "rw"])] for verb in ("remount", "spare")]
         choices += [[verb, mount, draw.choice(ways)] for verb in ("bind", "setattr")]
+        choices.append(["release"] if task in self.removed else ["remove", mount])
         if self.opens[task]:
             choices += [[verb, str(draw.choice(self.opens[task]))] for verb in ("close", "write", "begin")]
         return choices
 
     def next(self):
-        """A task and its call."""
+        """A task and its call; None where enough were drawn, or no more than one task doesn't wait, and so has to let the others go on."""
         free = [task for task in range(TASKS) if task not in self.waits]
-        if not free:
+        if self.left <= 0 or len(free) < 2:
             return None
+        self.left -= 1
         task = self.draw.choice(free)
         choices = self.choices(task)
         return task, self.draw.choices(choices, [WEIGHTS[words[0]] for words in choices])[0]
@@ -157,6 +170,8 @@ class Drawn:
         for task in range(TASKS):
             if self.opens[task]:
                 return task, ["close", str(self.opens[task][-1])]
+            if task in self.removed:
+                return task, ["release"]
         if self.flags.startswith("ro"):
             return 0, ["remount", "rw"]
         mounts = self.flags.split(":")[1].split(",")
@@ -172,6 +187,10 @@ class Drawn:
             self.opens[task].append(int(words[1]))
         elif words[0] == "close":
             self.opens[task].remove(int(words[1]))
+        elif words[0] == "remove" and answer == "ok":
+            self.removed.add(task)
+        elif words[0] == "release":
+            self.removed.remove(task)
         elif words[0] == "begin":
             self.inside.add(task)
         elif words[0] == "end":
@@ -197,11 +216,9 @@ class Answer:
         return f"{self.call}: {self.ours[0]}"
 
 
-def run(number, seed, replay, guest, spoil):
-    """Draws the schedule of this number, and does it on both sides. Hands out its answers, up to the first one that differs. `spoil` sees, and
-    may change, each line of the guest."""
-    drawn = Drawn(random.Random(f"{seed} {number}"))
-    length = drawn.draw.randint(8, 18)
+def run(drawn, replay, guest, spoil):
+    """Does a schedule on both sides. Hands out its answers, up to the first one that differs. `spoil` sees, and may change, each line of the
+    guest."""
     answers = []
 
     def do(task, words):
@@ -219,8 +236,7 @@ def run(number, seed, replay, guest, spoil):
         return not answers[-1].differs()
 
     while True:
-        step = drawn.next() if len(answers) < length else None
-        step = step or drawn.next_of_end()
+        step = drawn.next() or drawn.next_of_end()
         if step is None or not do(*step):
             return answers
         for task in sorted(drawn.waits):
