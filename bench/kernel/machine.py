@@ -167,8 +167,10 @@ def make_ready(package):
     return f"{folder}/boot/{kernel}", build_guest(folder)
 
 
-def accelerator():
+def accelerator(emulate):
     """What qemu runs the guest by: the processor, where it can, and else an emulation with a thread for each of its processors."""
+    if emulate:
+        return "tcg,thread=multi"
     with open("/proc/cpuinfo", encoding="utf-8") as info:
         can = re.search(r"^flags\b.*\b(vmx|svm)\b", info.read(), re.MULTILINE)
     return "kvm" if can and os.access("/dev/kvm", os.R_OK | os.W_OK) else "tcg,thread=multi"
@@ -177,11 +179,11 @@ def accelerator():
 class Guest:
     """A guest that runs. Each line that it is sent and each that it answers is kept in `log`."""
 
-    def __init__(self, kernel, guest, processors, log):
+    def __init__(self, kernel, guest, processors, by, log):
         self.log = log
         self.rest = b""
         self.said = f"{OUT}/kernel-{processors}.log"
-        words = [find("qemu-system-x86_64"), "-accel", accelerator(), "-cpu", "max", "-smp", str(processors), "-m", "320", "-nodefaults",
+        words = [find("qemu-system-x86_64"), "-accel", by, "-cpu", "max", "-smp", str(processors), "-m", "320", "-nodefaults",
                  "-display", "none", "-no-reboot", "-kernel", kernel, "-initrd", guest,
                  "-append", "console=ttyS0 loglevel=5 panic=-1 rcupdate.rcu_expedited=1 rdinit=/init",
                  "-serial", f"file:{self.said}", "-serial", "stdio"]

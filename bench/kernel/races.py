@@ -99,7 +99,7 @@ def compare(options, program, guest):
             lines.append(guest.receive(options.seconds + machine.ANSWER))
         seen, rounds = read_race(lines, race.calls)
         if number == wrong:
-            seen = {told if count else told.replace("0 ok", "0 refused 11 Again"): seen[told] for count, told in enumerate(seen)}
+            seen = {told if count else told.replace(" ok", " refused 11 Again", 1): seen[told] for count, told in enumerate(seen)}
         rows, others = table(race, seen, allowed)
         print(f"{race.name}, {rounds} rounds on {guest.processors} processors, beside {source}: {race.about}")
         print("\n".join(rows), flush=True)
