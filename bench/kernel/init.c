@@ -1,0 +1,580 @@
+/* The guest's init: makes mounts of one ext4 on a RAM disk, does what it reads from the second serial line, and answers on it.
+ *
+ *   hello                   version TEXT                      /proc/version
+ *   T CALL                  T ok | T errno N | T inside | T waits FUNCTION, and the flags behind it
+ *   race ROUNDS SECONDS SEED CALL[,CALL..] ..                 seen COUNT ANSWERS, for each row of answers; then raced ROUNDS
+ *   restore                 restored: nothing is under way, frozen, open or read-only
+ *   off                     the guest ends
+ *
+ * T is a task, 0 to 3: a thread of its own. A call is one of
+ *
+ *   open M, close M         open for writing of a file at mount M (0 to 2), and its close
+ *   touch M                 utimensat of a path at mount M
+ *   write M                 a write to the file that the task has open at M
+ *   begin M, end            the same, held up in the middle by its buffer's page until 'end': it answers 'inside', and 'end' as a write
+ *   remove M                makes a file at mount M, opens it for reading, and removes it; release closes it
+ *   bind M ro|rw            remount of the mount, by MS_REMOUNT and MS_BIND; setattr M ro|rw by mount_setattr
+ *   remount ro|rw           the superblock, by fsconfig; spare ro|rw by mount with MS_REMOUNT at a mount that no other call uses
+ *   freeze, thaw            FIFREEZE, FITHAW
+ *   look                    whether what the task waited in is done now
+ *
+ * The flags are those of /proc/self/mountinfo: the superblock's, then each mount's own, as 'rw:rw,ro,rw'. In a race a call's words are
+ * joined by '.', as bind.0.ro. Its answers stand for each task in order, and for each of its calls: 0, an errno, or w where it waits. */
+#define _GNU_SOURCE
+#include <errno.h>
+#include <fcntl.h>
+#include <linux/fs.h>
+#include <linux/mount.h>
+#include <linux/userfaultfd.h>
+#include <poll.h>
+#include <pthread.h>
+#include <sched.h>
+#include <stdarg.h>
+#include <stdatomic.h>
+#include <stdio.h>
+#include <stdlib.h>
+#include <string.h>
+#include <sys/ioctl.h>
+#include <sys/mman.h>
+#include <sys/mount.h>
+#include <sys/reboot.h>
+#include <sys/stat.h>
+#include <sys/statvfs.h>
+#include <sys/syscall.h>
+#include <termios.h>
+#include <time.h>
+#include <unistd.h>
+
+enum { TASKS = 4, MOUNTS = 3, PAGE = 4096, CALLS = 4, OPENS = 64, ROWS = 256, LINE = 256 };
+
+enum verb { OPEN, CLOSE, TOUCH, WRITE, BEGIN, REMOVE, BIND, SETATTR, REMOUNT, SPARE, RELEASE, FREEZE, THAW };
+
+/* The verbs' words, in their order: up to setattr they have a mount. */
+static const char *const verbs[] = {"open",    "close",   "touch", "write",   "begin",  "remove", "bind",
+                                    "setattr", "remount", "spare", "release", "freeze", "thaw"};
+
+struct call {
+    enum verb verb;
+    int mount;
+    int read_only;
+};
+
+/* A task: what it is to do, what it has answered, and what it has open. `done` counts the calls that it has ended. */
+struct task {
+    int number;
+    pid_t thread;
+    struct call calls[CALLS];
+    int answers[CALLS];
+    int count;
+    long delay;
+    atomic_int racing, asked, taken, done;
+    int opened[MOUNTS][OPENS];
+    int opens[MOUNTS];
+    int removed;
+    char *page;
+};
+
+static struct task tasks[TASKS];
+static int root, faults, line_out, processors;
+
+/* In a race: how many tasks there are, and how many have ended, which only wakes who looks. */
+static int racers;
+static atomic_int ended;
+static char written[PAGE] __attribute__((aligned(PAGE)));
+
+static void say(const char *form, ...) {
+    char text[1024];
+    va_list words;
+    va_start(words, form);
+    int size = vsnprintf(text, sizeof text, form, words);
+    va_end(words);
+    for (int sent = 0; sent < size;) {
+        ssize_t some = write(line_out, text + sent, size - sent);
+        if (some > 0) sent += some;
+    }
+}
+
+/* Ends the guest, and says what failed. */
+static void need(int holds, const char *what) {
+    if (holds) return;
+    if (line_out) say("failed %s: errno %d\n", what, errno);
+    dprintf(2, "init: %s: errno %d\n", what, errno);
+    sync();
+    reboot(RB_POWER_OFF);
+    for (;;) pause();
+}
+
+static int result(long answer) { return answer < 0 ? errno : 0; }
+
+static int open_file(struct task *task, int mount) {
+    char path[LINE];
+    snprintf(path, sizeof path, "/m%d/file%d", mount, task->number);
+    int file = open(path, O_WRONLY | O_CLOEXEC);
+    if (file < 0) return errno;
+    if (task->opens[mount] == OPENS) return close(file), EMFILE;
+    task->opened[mount][task->opens[mount]++] = file;
+    return 0;
+}
+
+static int close_file(struct task *task, int mount) {
+    if (task->opens[mount] == 0) return EBADF;
+    return result(close(task->opened[mount][--task->opens[mount]]));
+}
+
+static int write_file(struct task *task, int mount, const char *from) {
+    enum { BYTES = 512 };
+    if (task->opens[mount] == 0) return EBADF;
+    return result(pwrite(task->opened[mount][task->opens[mount] - 1], from, BYTES, 0));
+}
+
+static int touch(int mount) {
+    char path[LINE];
+    snprintf(path, sizeof path, "/m%d/touched", mount);
+    return result(utimensat(AT_FDCWD, path, NULL, 0));
+}
+
+static int remove_open(struct task *task, int mount) {
+    char path[LINE];
+    snprintf(path, sizeof path, "/m%d/removed%d", mount, task->number);
+    int file = open(path, O_RDONLY | O_CREAT | O_CLOEXEC, 0644);
+    if (file < 0) return errno;
+    task->removed = file;
+    return result(unlink(path));
+}
+
+static int release(struct task *task) {
+    int file = task->removed;
+    task->removed = 0;
+    return result(close(file));
+}
+
+static int bind_mount(int mount, int read_only) {
+    char path[LINE];
+    snprintf(path, sizeof path, "/m%d", mount);
+    return result(syscall(SYS_mount, NULL, path, NULL, MS_REMOUNT | MS_BIND | (read_only ? MS_RDONLY : 0), NULL));
+}
+
+static int set_attribute(int mount, int read_only) {
+    char path[LINE];
+    snprintf(path, sizeof path, "/m%d", mount);
+    struct mount_attr wanted = {0};
+    if (read_only) wanted.attr_set = MOUNT_ATTR_RDONLY;
+    else wanted.attr_clr = MOUNT_ATTR_RDONLY;
+    return result(syscall(SYS_mount_setattr, AT_FDCWD, path, 0, &wanted, sizeof wanted));
+}
+
+static int remount(int read_only) {
+    int context = syscall(SYS_fspick, AT_FDCWD, "/m0", FSPICK_CLOEXEC);
+    if (context < 0) return errno;
+    int failed = result(syscall(SYS_fsconfig, context, FSCONFIG_SET_FLAG, read_only ? "ro" : "rw", NULL, 0));
+    if (failed == 0) failed = result(syscall(SYS_fsconfig, context, FSCONFIG_CMD_RECONFIGURE, NULL, NULL, 0));
+    close(context);
+    return failed;
+}
+
+static int remount_spare(int read_only) {
+    return result(syscall(SYS_mount, NULL, "/spare", NULL, MS_REMOUNT | (read_only ? MS_RDONLY : 0), NULL));
+}
+
+static int perform(struct task *task, const struct call *call) {
+    switch (call->verb) {
+    case OPEN: return open_file(task, call->mount);
+    case CLOSE: return close_file(task, call->mount);
+    case TOUCH: return touch(call->mount);
+    case WRITE: return write_file(task, call->mount, written);
+    case BEGIN: return write_file(task, call->mount, task->page);
+    case REMOVE: return remove_open(task, call->mount);
+    case RELEASE: return release(task);
+    case BIND: return bind_mount(call->mount, call->read_only);
+    case SETATTR: return set_attribute(call->mount, call->read_only);
+    case REMOUNT: return remount(call->read_only);
+    case SPARE: return remount_spare(call->read_only);
+    case FREEZE: return result(ioctl(root, FIFREEZE, 0));
+    case THAW: return result(ioctl(root, FITHAW, 0));
+    }
+    return ENOSYS;
+}
+
+static void wake(atomic_int *word) { syscall(SYS_futex, word, 1 /* FUTEX_WAKE */, 1, NULL, NULL, 0); }
+
+/* Sleeps while the word has this value, and for so many microseconds at most; without end where they are 0. */
+static void sleep_at(atomic_int *word, int value, long most) {
+    struct timespec end = {0, most * 1000};
+    syscall(SYS_futex, word, 0 /* FUTEX_WAIT */, value, most ? &end : NULL, NULL, 0);
+}
+
+/* The calls of a task, one list after the other. In a race it spins for the begin of the round, and then for its delay. */
+static void *run_task(void *given) {
+    struct task *task = given;
+    task->thread = syscall(SYS_gettid);
+    for (int seen = 0;; seen++) {
+        while (atomic_load(&task->asked) == seen) {
+            if (atomic_load(&task->racing)) sched_yield();
+            else sleep_at(&task->asked, seen, 0);
+        }
+        for (volatile long spin = task->delay; spin > 0; spin--) {}
+        for (int i = 0; i < task->count; i++) {
+            task->answers[i] = perform(task, &task->calls[i]);
+            atomic_fetch_add(&task->done, 1);
+        }
+        atomic_store(&task->taken, seen + 1);
+        if (atomic_fetch_add(&ended, 1) + 1 == racers) wake(&ended);
+    }
+    return NULL;
+}
+
+static void ask(struct task *task) {
+    atomic_store(&task->done, 0);
+    atomic_fetch_add(&task->asked, 1);
+    wake(&task->asked);
+}
+
+static int is_idle(struct task *task) { return atomic_load(&task->taken) == atomic_load(&task->asked); }
+
+/* Those in which a call waits for another task. /proc has no functions of locks, but their callers: percpu_rwsem_wait is a reader's of a
+ * level, freeze_super a freeze's for a level's readers or for s_umount, and all others those of s_umount. */
+static const char *const waits[] = {"percpu_rwsem_wait", "freeze_super", "thaw_super", "path_mount", "__do_sys_fsconfig", "vfs_fsconfig_locked"};
+
+/* Which of these a thread sleeps in; NULL where it runs, or sleeps for another reason. */
+static const char *where_asleep(struct task *task) {
+    char path[LINE], name[LINE];
+    snprintf(path, sizeof path, "/proc/self/task/%d/wchan", task->thread);
+    int file = open(path, O_RDONLY | O_CLOEXEC);
+    ssize_t size = file < 0 ? 0 : read(file, name, sizeof name - 1);
+    if (file >= 0) close(file);
+    name[size > 0 ? size : 0] = 0;
+    for (int i = 0; i < (int)(sizeof waits / sizeof *waits); i++)
+        if (strcmp(name, waits[i]) == 0) return waits[i];
+    return NULL;
+}
+
+static long now(void) {
+    struct timespec time;
+    clock_gettime(CLOCK_MONOTONIC, &time);
+    return time.tv_sec * 1000000 + time.tv_nsec / 1000;
+}
+
+/* Waits until the task's call is done (0), or it sleeps in a function of the kernel in which it waits for another task (1), or a page of its
+ * buffer is missing (2). All others rest or sleep, so a reader of a level sleeps for good; who else sleeps may do so for a thread of the
+ * kernel's, and has to for 20 ms. */
+static int settle(struct task *task, const char **name) {
+    long since = 0;
+    while (!is_idle(task)) {
+        struct pollfd fault = {faults, POLLIN, 0};
+        struct uffd_msg message;
+        if (poll(&fault, 1, 0) == 1 && read(faults, &message, sizeof message) == sizeof message) return 2;
+        *name = where_asleep(task);
+        if (*name == NULL) since = 0;
+        else if (*name == waits[0]) return 1;
+        else if (since == 0) since = now();
+        else if (now() - since > 20000) return 1;
+        if (since) usleep(1000);
+        else sched_yield();
+    }
+    return 0;
+}
+
+/* The flags of the superblock and of each mount, as /proc/self/mountinfo shows them. */
+static void flags(char *text) {
+    char line[1024], at[LINE], own[LINE], super[LINE];
+    char mounts[MOUNTS][3] = {"??", "??", "??"}, all[3] = "??";
+    FILE *list = fopen("/proc/self/mountinfo", "re");
+    need(list != NULL, "mountinfo");
+    while (fgets(line, sizeof line, list)) {
+        char *dash = strstr(line, " - ");
+        if (dash == NULL || sscanf(line, "%*s %*s %*s %*s %255s %255s", at, own) != 2) continue;
+        if (at[0] != '/' || at[1] != 'm' || at[2] < '0' || at[2] >= '0' + MOUNTS) continue;
+        if (sscanf(dash, " - %*s %*s %255s", super) != 1) continue;
+        memcpy(mounts[at[2] - '0'], own, 2);
+        memcpy(all, super, 2);
+    }
+    fclose(list);
+    sprintf(text, "%s:%s,%s,%s", all, mounts[0], mounts[1], mounts[2]);
+}
+
+static void answer(struct task *task) {
+    char state[LINE];
+    const char *name;
+    int settled = settle(task, &name);
+    flags(state);
+    if (settled == 1) say("%d waits %s %s\n", task->number, name, state);
+    else if (settled == 2) say("%d inside %s\n", task->number, state);
+    else if (task->answers[0] == 0) say("%d ok %s\n", task->number, state);
+    else say("%d errno %d %s\n", task->number, task->answers[0], state);
+}
+
+/* Reads a call's words, which are separated by spaces or dots; false where they are none. */
+static int read_call(char *words, struct call *call) {
+    char *rest = NULL;
+    char *verb = strtok_r(words, " .", &rest);
+    for (int i = 0; verb && i < (int)(sizeof verbs / sizeof *verbs); i++) {
+        if (strcmp(verb, verbs[i])) continue;
+        call->verb = i;
+        call->mount = 0;
+        if (i <= SETATTR) {
+            char *mount = strtok_r(NULL, " .", &rest);
+            if (mount == NULL || mount[0] < '0' || mount[0] >= '0' + MOUNTS) return 0;
+            call->mount = mount[0] - '0';
+        }
+        char *way = strtok_r(NULL, " .", &rest);
+        call->read_only = way != NULL && strcmp(way, "ro") == 0;
+        return 1;
+    }
+    return 0;
+}
+
+/* Gives the missing page of a write that is held up. */
+static void give_page(struct task *task) {
+    struct uffdio_copy copy = {(unsigned long)task->page, (unsigned long)written, PAGE, 0, 0};
+    ioctl(faults, UFFDIO_COPY, &copy);
+}
+
+/* Begins a call of a task, or looks at the one that it has under way. */
+static void do_line(char *line) {
+    struct task *task = &tasks[(line[0] - '0') & 3];
+    char *words = line + 2;
+    if (strcmp(words, "look") == 0) return answer(task);
+    if (strcmp(words, "end") == 0) return give_page(task), answer(task);
+    need(is_idle(task) && read_call(words, &task->calls[0]), "a call that can be done");
+    if (task->calls[0].verb == BEGIN) madvise(task->page, PAGE, MADV_DONTNEED);
+    task->count = 1;
+    task->delay = 0;
+    ask(task);
+    answer(task);
+}
+
+static int are_idle(int count) {
+    int idle = 1;
+    for (int i = 0; i < count; i++) idle = idle && is_idle(&tasks[i]);
+    return idle;
+}
+
+/* What a look at the tasks of a race found: how many are not done, how many of these wait for a level, and since when that is so. */
+struct look {
+    int waiting, readers;
+    long since;
+};
+
+/* Whether each task of a race is done, or waits for another for good. A reader of a level that was asleep in two looks, with all others done
+ * before the second, is woken by nobody any more. Where a freeze or a remount is left as well, all have to sleep for 50 ms, since what it waits
+ * for may be a thread of the kernel's. */
+static int is_quiet(int count, struct look *before) {
+    struct look look = {0, 0, before->since};
+    for (int i = 0; i < count; i++) {
+        if (is_idle(&tasks[i])) continue;
+        const char *name = where_asleep(&tasks[i]);
+        if (name == NULL) return *before = (struct look){-1, 0, 0}, 0;
+        look.waiting++;
+        look.readers += name == waits[0];
+    }
+    int same = look.waiting == before->waiting;
+    if (!same || look.since == 0) look.since = now();
+    *before = look;
+    return look.waiting == 0 || (same && (look.readers == look.waiting || now() - look.since > 50000));
+}
+
+/* Whether a mount or the superblock is read-only. */
+static int is_read_only(void) {
+    struct statvfs found;
+    for (int i = 0; i < MOUNTS; i++) {
+        const char path[] = {'/', 'm', '0' + i, 0};
+        need(statvfs(path, &found) == 0, "statvfs");
+        if (found.f_flag & ST_RDONLY) return 1;
+    }
+    return 0;
+}
+
+/* Makes all as it was: nothing frozen, nothing open, nothing read-only. */
+static void restore(void) {
+    while (!are_idle(TASKS)) {
+        for (int i = 0; i < TASKS; i++)
+            if (!is_idle(&tasks[i])) give_page(&tasks[i]);
+        ioctl(root, FITHAW, 0);
+        sched_yield();
+    }
+    while (ioctl(root, FITHAW, 0) == 0) {}
+    for (int i = 0; i < TASKS; i++) {
+        for (int mount = 0; mount < MOUNTS; mount++)
+            while (tasks[i].opens[mount]) close_file(&tasks[i], mount);
+        if (tasks[i].removed) release(&tasks[i]);
+    }
+    if (is_read_only())
+        need(remount(0) == 0 && bind_mount(0, 0) == 0 && bind_mount(1, 0) == 0 && bind_mount(2, 0) == 0, "all writable again");
+}
+
+struct row {
+    char answers[LINE];
+    long seen;
+};
+
+static void count_row(struct row *rows, const char *answers) {
+    for (int i = 0; i < ROWS; i++) {
+        if (rows[i].seen == 0) strcpy(rows[i].answers, answers);
+        if (strcmp(rows[i].answers, answers)) continue;
+        rows[i].seen++;
+        return;
+    }
+}
+
+static void read_answers(int count, char *text) {
+    *text = 0;
+    for (int i = 0; i < count; i++) {
+        int done = atomic_load(&tasks[i].done);
+        for (int j = 0; j < tasks[i].count; j++) {
+            text += sprintf(text, "%s", j ? "," : i ? " " : "");
+            text += j < done ? sprintf(text, "%d", tasks[i].answers[j]) : sprintf(text, "w");
+        }
+    }
+}
+
+/* A delay of loops that do nothing: of any order of magnitude, so that calls overlap in each of their parts. */
+static long draw_delay(unsigned *seed) {
+    int bits = rand_r(seed) % 20;
+    return bits < 4 ? 0 : rand_r(seed) & ((1L << bits) - 1);
+}
+
+static void race(char *words) {
+    static struct row rows[ROWS];
+    char *rest = NULL, *inner = NULL, text[LINE];
+    long rounds = atol(strtok_r(words, " ", &rest)), end = now() + atol(strtok_r(NULL, " ", &rest)) * 1000000;
+    unsigned seed = atoi(strtok_r(NULL, " ", &rest));
+    int count = 0;
+    for (char *list; count < TASKS && (list = strtok_r(NULL, " ", &rest)); count++) {
+        tasks[count].count = 0;
+        for (char *call = strtok_r(list, ",", &inner); call; call = strtok_r(NULL, ",", &inner))
+            need(tasks[count].count < CALLS && read_call(call, &tasks[count].calls[tasks[count].count++]), "a race's call");
+    }
+    memset(rows, 0, sizeof rows);
+    racers = count;
+    for (int i = 0; i < count; i++) {
+        atomic_store(&tasks[i].racing, 1);
+        wake(&tasks[i].asked);
+    }
+    long round = 0;
+    for (; round < rounds && now() < end; round++) {
+        struct look before = {-1, 0, 0};
+        for (int i = 0; i < count; i++) tasks[i].delay = draw_delay(&seed);
+        for (int i = 0; i < count; i++) atomic_store(&tasks[i].done, 0);
+        atomic_store(&ended, 0);
+        for (int i = 0; i < count; i++) atomic_fetch_add(&tasks[i].asked, 1);
+        for (int seen = atomic_load(&ended); !are_idle(count) && !is_quiet(count, &before); seen = atomic_load(&ended))
+            sleep_at(&ended, seen, 1000);
+        read_answers(count, text);
+        count_row(rows, text);
+        restore();
+    }
+    for (int i = 0; i < count; i++) atomic_store(&tasks[i].racing, 0);
+    for (int i = 0; i < ROWS && rows[i].seen; i++) say("seen %ld %s\n", rows[i].seen, rows[i].answers);
+    say("raced %ld\n", round);
+}
+
+/* Loads the modules that /modules lists, in its order. */
+static void load_modules(void) {
+    char path[LINE];
+    FILE *list = fopen("/modules", "re");
+    need(list != NULL, "/modules");
+    while (fscanf(list, "%255s", path) == 1) {
+        int file = open(path, O_RDONLY | O_CLOEXEC);
+        need(file >= 0 && syscall(SYS_finit_module, file, strstr(path, "brd") ? "rd_nr=1 rd_size=16384" : "", 0) == 0, path);
+        close(file);
+    }
+    fclose(list);
+}
+
+static void fill_disk(void) {
+    static char block[1 << 16];
+    ssize_t size;
+    int from = open("/disk.ext4", O_RDONLY | O_CLOEXEC), to = open("/dev/ram0", O_WRONLY | O_CLOEXEC);
+    need(from >= 0 && to >= 0, "the disk");
+    while ((size = read(from, block, sizeof block)) > 0) need(write(to, block, size) == size, "a block of the disk");
+    close(from);
+    need(close(to) == 0, "the disk's end");
+}
+
+/* Mounts /m0 to /m2 and /spare, and makes the files. A file that stays open keeps its name in the dentry cache: an open for writing of
+ * another one takes level 1 for a moment. */
+static void make_mounts(void) {
+    char path[LINE];
+    for (int i = 0; i < MOUNTS; i++) {
+        snprintf(path, sizeof path, "/m%d", i);
+        mkdir(path, 0755);
+        if (i == 0) need(mount("/dev/ram0", "/m0", "ext4", 0, "") == 0, "the mount");
+        else need(mount("/m0", path, NULL, MS_BIND, NULL) == 0, "a mount more");
+    }
+    mkdir("/spare", 0755);
+    need(mount("/m0", "/spare", NULL, MS_BIND, NULL) == 0, "the spare mount");
+    for (int i = 0; i <= TASKS; i++) {
+        if (i < TASKS) snprintf(path, sizeof path, "/m0/file%d", i);
+        else strcpy(path, "/m0/touched");
+        int file = open(path, O_WRONLY | O_CREAT | O_CLOEXEC, 0644);
+        need(write(file, path, PAGE / 16) > 0 && fsync(file) == 0 && close(file) == 0, "a file");
+        need(open(path, O_RDONLY | O_CLOEXEC) >= 0, "a file that stays open");
+    }
+    root = open("/m0", O_RDONLY | O_CLOEXEC);
+    need(root >= 0, "the root");
+}
+
+/* A page for each task that is missing until it is given, and faults that say so. */
+static void make_pages(void) {
+    struct uffdio_api api = {UFFD_API, 0, 0};
+    faults = syscall(SYS_userfaultfd, O_CLOEXEC | O_NONBLOCK);
+    need(faults >= 0 && ioctl(faults, UFFDIO_API, &api) == 0, "userfaultfd");
+    for (int i = 0; i < TASKS; i++) {
+        tasks[i].page = mmap(NULL, PAGE, PROT_READ | PROT_WRITE, MAP_PRIVATE | MAP_ANONYMOUS, -1, 0);
+        struct uffdio_register range = {{(unsigned long)tasks[i].page, PAGE}, UFFDIO_REGISTER_MODE_MISSING, 0};
+        need(tasks[i].page != MAP_FAILED && ioctl(faults, UFFDIO_REGISTER, &range) == 0, "a missing page");
+    }
+}
+
+static void make_tasks(void) {
+    for (int i = 0; i < TASKS; i++) {
+        pthread_t thread;
+        tasks[i].number = i;
+        need(pthread_create(&thread, NULL, run_task, &tasks[i]) == 0, "a thread");
+        while (*(volatile pid_t *)&tasks[i].thread == 0) usleep(100);
+        cpu_set_t one;
+        CPU_ZERO(&one);
+        CPU_SET(i % processors, &one);
+        need(pthread_setaffinity_np(thread, sizeof one, &one) == 0, "a processor");
+    }
+}
+
+static void hello(void) {
+    char text[LINE] = "";
+    int file = open("/proc/version", O_RDONLY | O_CLOEXEC);
+    need(read(file, text, sizeof text - 1) > 0, "the version");
+    close(file);
+    say("processors %d\nversion %s", processors, text);
+}
+
+int main(void) {
+    char line[1024];
+    mkdir("/dev", 0755);
+    mkdir("/proc", 0755);
+    need(mount("dev", "/dev", "devtmpfs", 0, NULL) == 0 && mount("proc", "/proc", "proc", 0, NULL) == 0, "/dev and /proc");
+    int console = open("/dev/ttyS1", O_RDWR | O_NOCTTY | O_CLOEXEC);
+    struct termios raw;
+    need(console >= 0 && tcgetattr(console, &raw) == 0, "/dev/ttyS1");
+    cfmakeraw(&raw);
+    cfsetspeed(&raw, B115200);
+    need(tcsetattr(console, TCSANOW, &raw) == 0, "the line's speed");
+    line_out = console;
+    processors = sysconf(_SC_NPROCESSORS_ONLN);
+    load_modules();
+    fill_disk();
+    make_mounts();
+    make_pages();
+    make_tasks();
+    say("ready\n");
+    FILE *lines = fdopen(dup(console), "r");
+    while (lines && fgets(line, sizeof line, lines)) {
+        line[strcspn(line, "\r\n")] = 0;
+        if (strcmp(line, "hello") == 0) hello();
+        else if (strncmp(line, "race ", 5) == 0) race(line + 5);
+        else if (strcmp(line, "restore") == 0) restore(), say("restored\n");
+        else if (strcmp(line, "off") == 0) break;
+        else do_line(line);
+    }
+    reboot(RB_POWER_OFF);
+    return 0;
+}

@@ -1,0 +1,135 @@
+#!/usr/bin/env -S python3 -B
+"""Tests how a comparison reads answers, on what both sides were asked and answered once (recorded.log): no kernel runs, and no mntgate."""
+
+import os
+import re
+import unittest
+
+import races
+import schedules
+
+with open(f"{os.path.dirname(os.path.realpath(__file__))}/recorded.log", encoding="utf-8") as record:
+    LOG = record.read().splitlines()
+
+
+def schedules_of(log):
+    """The recorded lines of each schedule."""
+    begins = [place for place, line in enumerate(log) if line.startswith("replay> config")]
+    return [log[begin:end] for begin, end in zip(begins, [*begins[1:], len(log)])]
+
+
+class Recorded(schedules.Drawn):
+    """A schedule that has the recorded calls."""
+
+    def __init__(self, log):
+        super().__init__("")
+        self.calls = [line.split(" ")[1:] for line in log if re.match(r"guest> \d (?!look)", line)]
+
+    def next(self):
+        """The next recorded call."""
+        words = self.calls.pop(0) if self.calls else None
+        return words and (int(words[0]), words[1:])
+
+    def next_of_end(self):
+        """Nothing: a recorded schedule ends with its last call."""
+        return None
+
+
+class Sides(schedules.Replay):
+    """Both sides of a recorded schedule: each answers as it did, where it is asked what it was asked. Itself it is the replay."""
+
+    def __init__(self, log):
+        self.log, self.place = log, 0
+        self.lines, self.steps, self.nodes = [], {}, {}
+        self.ask(schedules.CONFIG)
+
+    def answers(self, side, lines):
+        """The answers that follow these lines."""
+        for line in lines:
+            if self.log[self.place] != f"{side}> {line}":
+                raise schedules.Unreadable(f"'{line}' was asked, and not '{self.log[self.place]}'")
+            self.place += 1
+        begin = self.place
+        while self.place < len(self.log) and self.log[self.place].startswith(f"{side}< "):
+            self.place += 1
+        return [line.split("< ", 1)[1] for line in self.log[begin : self.place]]
+
+    def ask(self, *lines):
+        """What the replay printed for these lines."""
+        self.lines += lines
+        return self.answers("replay", lines)
+
+
+class Guest:
+    """The guest's side."""
+
+    def __init__(self, sides):
+        self.sides = sides
+
+    def ask(self, line):
+        """The recorded answer."""
+        return self.sides.answers("guest", [line])[0]
+
+
+class Readings(unittest.TestCase):
+    """What is read of answers."""
+
+    def run_recorded(self, log, spoil=lambda line: line):
+        """The answers of a recorded schedule."""
+        sides = Sides(log)
+        return schedules.run(Recorded(log), sides, Guest(sides), spoil)
+
+    def test_recorded_schedules_agree(self):
+        told = set()
+        for log in schedules_of(LOG):
+            answers = self.run_recorded(log)
+            self.assertFalse(any(answer.differs() for answer in answers))
+            self.assertEqual(len(answers), sum(line.startswith("guest< ") for line in log))
+            told |= {answer.ours[0] for answer in answers}
+        self.assertEqual(told, {"ok", "waits", "inside", "refused 16 Busy", "refused 22 Invalid", "refused 30 ReadOnly"})
+
+    def test_each_wrong_answer_differs(self):
+        log = schedules_of(LOG)[0]
+        for wrong in range(sum(line.startswith("guest< ") for line in log)):
+            count = iter(range(len(log)))
+            answers = self.run_recorded(log, lambda line: f"{line[0]} errno 5 {line[-11:]}" if next(count) == wrong else line)
+            self.assertEqual([answer.differs() for answer in answers], [False] * wrong + [True])
+
+    def test_a_wrong_flag_differs(self):
+        answers = self.run_recorded(schedules_of(LOG)[0], lambda line: line[:-2] + "ro")
+        self.assertTrue(answers[-1].differs())
+
+    def test_a_schedule_that_differs_is_one_for_replay(self):
+        log = schedules_of(LOG)[0]
+        sides = Sides(log)
+        answers = schedules.run(Recorded(log), sides, Guest(sides), lambda line: line[:-2] + "ro")
+        told = schedules.as_schedule(sides, answers[-1])
+        self.assertEqual(told[0], schedules.CONFIG)
+        self.assertTrue(told[-1].startswith("# "))
+        self.assertEqual([line for line in log if line == f"replay> {told[-3]}"][:1], [f"replay> {told[-3]}"])
+
+    def test_what_is_no_answer(self):
+        for line in ("", "0 ok", "9 ok rw:rw,rw,rw x", "0 errno rw:rw,rw,rw", "0 ok rw:rw,rw"):
+            self.assertRaises(schedules.Unreadable, schedules.read_kernel, line)
+        self.assertRaises(schedules.Unreadable, schedules.read_model, ["model stage 5x"])
+
+    def test_races(self):
+        calls = ["freeze", "touch.0", "remount.ro"]
+        seen, rounds = races.read_race(["seen 2 0 30 0", "seen 3 0 w 16", "raced 5"], calls)
+        self.assertEqual(rounds, 5)
+        self.assertEqual(seen, {"0 ok; 1 refused 30 ReadOnly; 1 refused 35 Order; 2 ok": 2, "0 ok; 1 waits; 2 refused 16 Busy": 3})
+        self.assertRaises(schedules.Unreadable, races.read_race, ["seen 2 0 30 0", "raced 5"], calls)
+        self.assertRaises(schedules.Unreadable, races.read_race, ["seen 5 0 30 0"], calls)
+        self.assertRaises(schedules.Unreadable, races.read_race, ["seen 5 0 30", "raced 5"], calls)
+
+    def test_outcomes_that_are_not_allowed(self):
+        allowed = races.read_outcomes("9 states, 2 outcomes\n0 ok\n0 waits\n")
+        race = type("Race", (), {"name": "a"})
+        lines, others = races.table(race, {"0 ok": 4, "0 refused 16 Busy": 1}, allowed)
+        self.assertEqual((others, lines[0].split(), lines[1].split()[0]), (1, ["4", "0", "ok"], "never"))
+        self.assertIn("NOT AMONG", lines[2])
+        self.assertRaises(schedules.Unreadable, races.read_outcomes, "9 states, 3 outcomes\n0 ok\n0 waits\n")
+
+
+if __name__ == "__main__":
+    unittest.main()
