@@ -10,3 +10,8 @@ pub mod Going
 pub mod Turning
 pub mod Running
 pub mod Onward
+pub mod Asking
+pub mod Asked
+pub mod FreezeAsks
+pub mod ThawAsks
+pub mod RemountAsks

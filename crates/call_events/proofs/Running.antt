@@ -28,6 +28,7 @@ use Rattle.gate_core.specs.Answers.{progress_of, unless_refused}
 use Rattle.gate_steps.specs.Seating.{SeatItems, numbered, HaveHistory, entered, done_by, items_after, world_left, IsMove}
 use Rattle.call_events.specs.TaskStates.{TaskState, own_number, own_view, refusal_at}
 use Rattle.call_events.specs.Stepped.{Stepped}
+use Rattle.call_events.specs.Asking.{Ask, asks_of, asks_with, call_at, next_call, GoesWith, WentWith}
 use Rattle.call_events.specs.Runs.{events_onto, completed_by, ran_snapshot, ran_view, ran_items, begins_at, items_at, IsMoveOf, IsNextMove, AreMoves, IsBounded, told_as, the_reply, Goes, Went, Called, Replies}
 
 -- the numbers of a task whose own number has begun the operation
@@ -81,6 +82,12 @@ completed_is (Go q) p earlier e is = ap (λ r. completes r earlier e.event.found
 completed_is (Wait q) p earlier e is = ap (λ r. completes r earlier e.event.found) (let f : q ≡ p = cc in f)
 completed_is (Done a) p earlier e is = absurd (let f : ⊥ = cc in f)
 
+-- the hook that the event of this phase reads
+call_is : (s : Next Phase) (p : Phase) → phase_after s ≡ Some p → next_call s ≡ call_at p
+call_is (Go q) p is = ap call_at (let f : q ≡ p = cc in f)
+call_is (Wait q) p is = ap call_at (let f : q ≡ p = cc in f)
+call_is (Done a) p is = absurd (let f : ⊥ = cc in f)
+
 -- the course after it
 course_is : (s : Next Phase) (p : Phase) (added : List Action) (e : Traced) → phase_after s ≡ Some p → course_after s added e ≡
     course_with added (after_of p e.event.found e.hook)
@@ -129,7 +136,7 @@ refused_none e o is at =
     no
 
 -- an admitted one has none
-admitted_some : (o : Option GateError) (r : GateError) → Ok tt ≡ unless_refused o → o ≡ Some r → ⊥
+pub admitted_some : (o : Option GateError) (r : GateError) → Ok tt ≡ unless_refused o → o ≡ Some r → ⊥
 admitted_some o r is at =
     let both : ◌≡◌ {A = Result (Unit {0}) GateError} (Ok tt) (Err r) = is ∙ ap unless_refused at in
     let no : ⊥ = cc in
@@ -159,23 +166,33 @@ ran_so_far op start now goes =
     λ i. entered_items (goes.begins i) (goes.phase i) (goes.items i) in
     same ∙ entered_at start.config op goes.trace start.items
 
--- as it begins
+-- as it begins, with no hook asked
+pub starts_asking_none : (op : Op) (start now : TaskState) → now ≡ record start {
+  begins = Some op;
+  phase =
+      Some (first_phase start.config (own_number start.items) op);
+} → GoesWith [] op start now
+starts_asking_none op start now is = subst (GoesWith [] op start) (sym is) (
+  record {
+    trace = [];
+    table = refl;
+    config = refl;
+    follows = tt;
+    phase = refl;
+    going = (first_phase start.config (own_number start.items) op, refl);
+    begins = refl;
+    items = refl;
+    moves = tt;
+  },
+  refl,
+)
+
 pub starts : (op : Op) (start now : TaskState) → now ≡ record start {
   begins = Some op;
   phase =
       Some (first_phase start.config (own_number start.items) op);
 } → Goes op start now
-starts op start now is = subst (Goes op start) (sym is) (record {
-  trace = [];
-  table = refl;
-  config = refl;
-  follows = tt;
-  phase = refl;
-  going = (first_phase start.config (own_number start.items) op, refl);
-  begins = refl;
-  items = refl;
-  moves = tt;
-})
+starts op start now is = (starts_asking_none op start now is).0
 
 -- one step of it, where a hook of the file system answers this
 module _ (op : Op) (start now left : TaskState) (step : Step) (h : HookAnswer) (goes : Goes op start now)
@@ -296,41 +313,72 @@ module _ (op : Op) (start now left : TaskState) (step : Step) (h : HookAnswer) (
       subst (λ d. HaveHistory d left.items) goes.config
       (subst (HaveHistory now.config) (ap (λ (s : TaskState). s.items) (sym did.new)) history)
 
-  -- where it does not reply, it goes on
-  pub goes_further : ((a : Result Reply GateError) → step.progress ≡ Ended a → ⊥) → Goes op start left
-  goes_further not = record {
-    trace = trace;
-    table = table_then;
-    config = config_then;
-    follows = follows_after;
-    phase = phase_then;
-    going =
-        let g = goes_on after.0 (λ a is. not a (progress_then ∙ is)) in
-        (g.0, ap (λ (s : TaskState). s.phase) did.new ∙ g.1);
-    begins = begins_then;
-    items = items_then;
-    moves = moves_then;
-  }
+  -- where it does not reply, it goes on, with this event more
+  goes_with_it : ((a : Result Reply GateError) → step.progress ≡ Ended a → ⊥) → (goes : Goes op start left) × (goes.trace ≡ trace)
+  goes_with_it not = (
+    record {
+      trace = trace;
+      table = table_then;
+      config = config_then;
+      follows = follows_after;
+      phase = phase_then;
+      going =
+          let g = goes_on after.0 (λ a is. not a (progress_then ∙ is)) in
+          (g.0, ap (λ (s : TaskState). s.phase) did.new ∙ g.1);
+      begins = begins_then;
+      items = items_then;
+      moves = moves_then;
+    },
+    refl,
+  )
 
-  -- where it replies, it was done whole
-  pub ends_there : IsWithin c → (a : Result Reply GateError) → step.progress ≡ Ended a → Called op start left a
-  ends_there within a is =
+  pub goes_further : ((a : Result Reply GateError) → step.progress ≡ Ended a → ⊥) → Goes op start left
+  goes_further not = (goes_with_it not).0
+
+  -- where it replies, it was done whole, with this event more
+  ends_with_it : IsWithin c → (a : Result Reply GateError) → step.progress ≡ Ended a →
+      (called : Called op start left a) × (called.trace ≡ trace)
+  ends_with_it within a is =
       let last : after.0 ≡ Done a = done_is after.0 a (sym progress_then ∙ is) in
       let ends : (course_of c n op trace).comes ≡ Done a = ap (λ (o : Course). o.comes) course_here ∙ last in
       let tells : Tells c op trace (Done a) (course_of c n op trace).added =
       subst (λ s. Tells c op trace s (course_of c n op trace).added) ends ((op_keeps c op).tells within n trace follows_after) in
-      let idle : left.phase ≡ None = phase_then ∙ ap (λ s. phase_after s) ends in
-      record {
-        trace = trace;
-        follows = follows_after;
-        ends = ends;
-        after = λ i. record { table = table_then i; config = config_then i; begins = begins_then i; phase = idle i; items = items_then i };
-        moves = moves_then;
-        added = tells.0;
-        honest = tells.1;
-        short = (op_keeps c op).short within n trace follows_after;
-        history = history_then;
-      }
+      let idle : left.phase ≡ None = phase_then ∙ ap (λ s. phase_after s) ends in (
+        record {
+          trace = trace;
+          follows = follows_after;
+          ends = ends;
+          after = λ i. record { table = table_then i; config = config_then i; begins = begins_then i; phase = idle i; items = items_then i };
+          moves = moves_then;
+          added = tells.0;
+          honest = tells.1;
+          short = (op_keeps c op).short within n trace follows_after;
+          history = history_then;
+        },
+        refl,
+      )
+
+  pub ends_there : IsWithin c → (a : Result Reply GateError) → step.progress ≡ Ended a → Called op start left a
+  ends_there within a is = (ends_with_it within a is).0
+
+  -- the hooks that it has asked then
+  asks_then : (asks : List Ask) → asks_of c op start.items goes.trace ≡ asks →
+      asks_of c op start.items trace ≡ asks_with (call_at p) now.items h asks
+  asks_then asks is = λ i.
+      asks_with (call_is (course_of c n op goes.trace).comes p stands_there i) (sym goes.items i) h (is i)
+
+  -- so it went, by what comes after the event
+  pub went_asking : (asks : List Ask) → asks_of c op start.items goes.trace ≡ asks → IsWithin c → (next : Next Phase) →
+      step.progress ≡ progress_of next → WentWith (asks_with (call_at p) now.items h asks) op start next left
+  went_asking asks is within (Go q) at =
+      let g = goes_with_it (λ a ended. absurd (let f : ⊥ = cc in f)) in
+      (g.0, ap (asks_of c op start.items) g.1 ∙ asks_then asks is)
+  went_asking asks is within (Wait q) at =
+      let g = goes_with_it (λ a ended. absurd (let f : ⊥ = cc in f)) in
+      (g.0, ap (asks_of c op start.items) g.1 ∙ asks_then asks is)
+  went_asking asks is within (Done a) at =
+      let g = ends_with_it within a at in
+      (g.0, ap (asks_of c op start.items) g.1 ∙ asks_then asks is)
 
   -- and its trace has one event more
   grown : (begins : Option Op) (o : Option Phase) (l : SeatItems) → o ≡ Some p → IsMove now.config begins p h l found →
@@ -400,7 +448,7 @@ was_refused {A} read op old left e is same = record {
 }
 
 -- and one that isn't
-pub was_done : {A : Type 0} (read : Reply → A) (op : Op) (old left : TaskState) (answer : Result Reply GateError)
+abbrev pub was_done : {A : Type 0} (read : Reply → A) (op : Op) (old left : TaskState) (answer : Result Reply GateError)
     (outcome : Result A GateError) →
     outcome ≡ told_as read answer → Ok tt ≡ unless_refused (refusal_at op old) → Called op old left answer →
     Replies read op old left outcome
@@ -417,13 +465,13 @@ told_whole (Ok reply) = refl
 told_whole (Err refusal) = refl
 
 -- what is told of an answer that was told whole
-told_twice : {A : Type 0} (read : Reply → A) (answer : Result Reply GateError) → told_as read (told_as the_reply answer) ≡
+pub told_twice : {A : Type 0} (read : Reply → A) (answer : Result Reply GateError) → told_as read (told_as the_reply answer) ≡
     told_as read answer
 told_twice read (Ok reply) = refl
 told_twice read (Err refusal) = refl
 
 -- a call that tells of another's answer what it reads of replies
-pub was_told : {A : Type 0} (read : Reply → A) (op : Op) (old left : TaskState) (answer : Result Reply GateError)
+abbrev pub was_told : {A : Type 0} (read : Reply → A) (op : Op) (old left : TaskState) (answer : Result Reply GateError)
     (outcome : Result A GateError) →
     Replies the_reply op old left answer → outcome ≡ told_as read answer → Replies read op old left outcome
 was_told read op old left answer outcome replies told = record {

@@ -30,7 +30,8 @@ use Rattle.call_events.specs.Stepped.{Stepped}
 use Rattle.call_events.specs.Ties.{Ties}
 use Rattle.call_events.specs.Turns.{kept_at, IsTied, step_was}
 use Rattle.call_events.proofs.Going.{may_add, ties_left, stepped_here}
-use Rattle.call_events.proofs.Running.{went_on}
+use Rattle.call_events.specs.Asking.{Ask, asks_with, call_at, GoesWith, WentWith}
+use Rattle.call_events.proofs.Running.{went_on, went_asking}
 
 -- before the event: the word is one of the table's, and the number may do the event
 module _ (number : ℕ) (c : Config) (begins : Option Op) (phase : Phase) (accesses : Accesses) (flags : List Bool) (hook : HookAnswer) where
@@ -119,6 +120,24 @@ went_so c within op start event action next hook {table} {left_table} {begins} {
     went_on op start now after step hook goes
     (λ p is. subst (λ (q : Phase). Stepped q hook now step after) (let same : phase ≡ p = cc in same) after_step)
     (subst IsWithin goes.config within) next refl
+
+-- and which hooks it has asked
+pub went_with_so : (c : Config) → IsWithin c → (op : Op) (start : TaskState) (event : Event) (action : Option Action) (next : Next Phase)
+    (hook : HookAnswer) (asks : List Ask)
+    {table left_table : TableId} {begins : Option Op} {phase : Phase} {items left : SeatItems} →
+    GoesWith asks op start (task_state table c begins (Some phase) items) →
+    Stepped phase hook (task_state table c begins (Some phase) items) (step_was event action next)
+    (task_state left_table c None (phase_after next) left) →
+    WentWith (asks_with (call_at phase) items hook asks) op start next (task_state left_table c None (phase_after next) left)
+went_with_so c within op start event action next hook asks {table} {left_table} {begins} {phase} {items} {left} goes after_step =
+    let now : TaskState = task_state table c begins (Some phase) items in
+    let after : TaskState = task_state left_table c None (phase_after next) left in
+    let step : Step = step_was event action next in
+    let same : goes.0.going.0 ≡ phase = let at : Some phase ≡ Some goes.0.going.0 = goes.0.going.1 in cc in
+    subst (λ (p : Phase). WentWith (asks_with (call_at p) items hook asks) op start next after) same
+    (went_asking op start now after step hook goes.0
+    (λ p is. subst (λ (q : Phase). Stepped q hook now step after) (let other : phase ≡ p = cc in other) after_step)
+    asks goes.1 (subst IsWithin goes.0.config within) next refl)
 
 -- a task's fields, said with another name of the config and of the phase
 pub tied_at : (number : ℕ) {c d : Config} (begins : Option Op) (flags : List Bool) (items : SeatItems) (kept : Seat)

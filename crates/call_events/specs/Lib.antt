@@ -12,3 +12,5 @@ pub mod Ties
 pub mod Stepped
 pub mod Turns
 pub mod Runs
+pub mod Asking
+pub mod Asked

@@ -1,19 +1,21 @@
 //! Operations done to their end, event after event, each in the form of its own kind, with nothing written down in between.
 
-ghost use Rattle.std.specs.Prelude.{◌≡◌, Some, None};
+ghost use Rattle.std.specs.Prelude.{◌≡◌, Some, None, List, IfSome};
 ghost use Rattle.access_model.specs.Replies.{map_next};
+ghost use Rattle.access_model.specs.declared.replies.Next.TheVariants.{Go};
 ghost use Rattle.gate_world.specs.Views.{phase_after};
 ghost use Rattle.gate_world.specs.declared.operations.Op.{Op as OpType};
 ghost use Rattle.call_events.specs.TaskStates.{TaskState, task_state};
 ghost use Rattle.call_events.specs.Turns.{IsTied, StayTied};
-ghost use Rattle.call_events.specs.Runs.{Called, Goes, IsTrying, Went};
+ghost use Rattle.call_events.specs.Runs.{Called, Goes, IsTrying};
+ghost use Rattle.call_events.specs.Asking.{Ask, call_at, CalledAsking, GoesAsking, WentAsking, WentWith};
 
-use crate::lines::go_on_if;
+use crate::hooks::TimedHooks;
 use crate::turns::{Turn, do_event, go_on};
 use crate::words::{GateWords, Seat};
 use access_model::{GateError, Next, Reply};
 use crossbeam_utils::Backoff;
-use freeze_levels::{Freeze, FreezeStep, FsHooks, Thaw};
+use freeze_levels::{Freeze, FreezeStep, HookCall, Thaw, ThawStep};
 use gate_world::{Accesses, Op, UnderWay};
 use mount_counts::{Remount, RemountStep};
 use percpu_rwsem::{Callback, CallbackStep, DownWriteStep};
@@ -34,15 +36,28 @@ pub enum Row {
 /// An operation that may have to wait, in a form of its own.
 pub trait Waiting: UnderWay {
     ghost use Rattle.std.specs.Prelude.{◌≡◌, IsTrue, None};
-    ghost use Rattle.gate_world.specs.Work.{hook_of};
+    ghost use Rattle.call_events.specs.Asking.{call_at};
+
+    /// The hook whose answer the next event reads, with what it is asked.
+    fn asks(&self) -> Option<HookCall>
+        ensures { result ≡ call_at (Self.as_phase self.now) };
 
     /// Whether the next event is one of that row, none of which reads what a hook answers. There may be hundreds of them, so the compiler is
     /// to know what they are.
     fn is_in_row(&self, row: Row) -> bool
-        ensures { IsTrue result → hook_of (Self.as_phase self.now) ≡ None };
+        ensures { IsTrue result → call_at (Self.as_phase self.now) ≡ None };
 }
 
 impl Waiting for Freeze {
+    #[inline(always)]
+    fn asks(&self) -> Option<HookCall> {
+        match self.step {
+            FreezeStep::SetsFs => Some(HookCall::Sync),
+            FreezeStep::SetsComplete => Some(HookCall::FreezeFs),
+            _ => None,
+        }
+    }
+
     #[inline(always)]
     fn is_in_row(&self, row: Row) -> bool {
         match row {
@@ -60,6 +75,14 @@ impl Waiting for Freeze {
 
 impl Waiting for Thaw {
     #[inline(always)]
+    fn asks(&self) -> Option<HookCall> {
+        match self.step {
+            ThawStep::LeavesLast => Some(HookCall::UnfreezeFs),
+            _ => None,
+        }
+    }
+
+    #[inline(always)]
     fn is_in_row(&self, row: Row) -> bool {
         let _ = row;
         false
@@ -68,6 +91,17 @@ impl Waiting for Thaw {
 
 impl Waiting for Remount {
     #[inline(always)]
+    fn asks(&self) -> Option<HookCall> {
+        let read_only = self.read_only;
+        match self.step {
+            RemountStep::SetsWritable | RemountStep::SetsReadOnly => {
+                Some(HookCall::Reconfigure { read_only })
+            }
+            _ => None,
+        }
+    }
+
+    #[inline(always)]
     fn is_in_row(&self, row: Row) -> bool {
         row == Row::Counts && matches!(self.step, RemountStep::Sums { .. })
     }
@@ -75,22 +109,25 @@ impl Waiting for Remount {
 
 impl Waiting for Callback {
     #[inline(always)]
+    fn asks(&self) -> Option<HookCall> {
+        None
+    }
+
+    #[inline(always)]
     fn is_in_row(&self, row: Row) -> bool {
         row == Row::Sections && matches!(self.step, CallbackStep::AwaitsSections(_))
     }
 }
 
-/// The next event of an operation: what comes after it. Where it reads what a hook answers, the hook is asked; a remount asks for read-only
-/// or writable.
+/// The next event of an operation: what comes after it. Where it reads what a hook answers, that hook is asked right before it.
 #[inline(always)]
-fn go_on_asking<P: Waiting, H: FsHooks>(
+fn go_on_asking<P: Waiting, H: TimedHooks>(
     gates: &GateWords,
     seat: &mut Seat,
     accesses: &mut Accesses,
     begins: Option<Op>,
     under_way: P,
     hooks: &mut H,
-    read_only: bool,
 ) -> Next<P>
     requires table { seat.old.table_id ≡ gates.now.table.shared.table_id }
     requires tied { IsTied gates.now.config begins (Some (P.as_phase under_way)) accesses.old seat.old.me.0 }
@@ -99,16 +136,28 @@ fn go_on_asking<P: Waiting, H: FsHooks>(
     ensures tied { StayTied gates.now.config begins (Some (P.as_phase under_way)) accesses.old seat.old.me.0
         (phase_after (map_next P.as_phase result)) accesses.new seat.new.me.0 }
     ensures still { IsTied gates.now.config None (phase_after (map_next P.as_phase result)) accesses.new seat.new.me.0 }
-    ensures went { (op : OpType) (start : TaskState) →
-        Goes op start (task_state seat.old.table_id gates.now.config begins (Some (P.as_phase under_way)) seat.old.me.0) →
-        Went op start (map_next P.as_phase result)
-        (task_state seat.new.table_id gates.now.config None (phase_after (map_next P.as_phase result)) seat.new.me.0) }
+    ensures asked { (op : OpType) (start : TaskState) (before : H) →
+        GoesAsking H.answers op start before
+        (task_state seat.old.table_id gates.now.config begins (Some (P.as_phase under_way)) seat.old.me.0) hooks.old →
+        WentAsking H.answers op start before (map_next P.as_phase result)
+        (task_state seat.new.table_id gates.now.config None (phase_after (map_next P.as_phase result)) seat.new.me.0) hooks.new }
 {
-    let hook = match under_way.phase().wants_hook() {
-        Some(kind) => kind.ask(hooks, read_only),
+    let hook = match under_way.asks() {
+        Some(call) => hooks.ask(call, seat),
         None => Ok(()),
     };
     go_on(gates, seat, accesses, begins, under_way, hook)
+}
+
+/// The operation, where it goes on with a load of that row.
+#[inline(always)]
+fn load_of_row<P: Waiting>(next: Next<P>, row: Row) -> Option<P>
+    ensures { IfSome result (λ under_way. (next ≡ Go under_way) × (call_at (P.as_phase under_way) ≡ None)) }
+{
+    match next {
+        Next::Go(under_way) if under_way.is_in_row(row) => Some(under_way),
+        _ => None,
+    }
 }
 
 /// The loads of a row that come next, one after the other, and nothing where none does. What comes after the last of them. It is told the
@@ -128,18 +177,17 @@ fn go_along_row<P: Waiting>(
     ensures tied { StayTied gates.now.config None (phase_after (map_next P.as_phase next)) accesses.old seat.old.me.0
         (phase_after (map_next P.as_phase result)) accesses.new seat.new.me.0 }
     ensures still { IsTied gates.now.config None (phase_after (map_next P.as_phase result)) accesses.new seat.new.me.0 }
-    ensures went { (op : OpType) (start : TaskState) →
-        Went op start (map_next P.as_phase next)
+    ensures went { (op : OpType) (start : TaskState) (asks : List Ask) →
+        WentWith asks op start (map_next P.as_phase next)
         (task_state seat.old.table_id gates.now.config None (phase_after (map_next P.as_phase next)) seat.old.me.0) →
-        Went op start (map_next P.as_phase result)
+        WentWith asks op start (map_next P.as_phase result)
         (task_state seat.new.table_id gates.now.config None (phase_after (map_next P.as_phase result)) seat.new.me.0) }
 {
     for _load in 0..LONGEST_ROW {
-        let goes_on = matches!(next, Next::Go(under_way) if under_way.is_in_row(row));
-        if !goes_on {
+        let Some(under_way) = load_of_row(next, row) else {
             return next;
-        }
-        next = go_on_if(gates, seat, accesses, next, goes_on);
+        };
+        next = go_on(gates, seat, accesses, None, under_way, Ok(()));
     }
     next
 }
@@ -181,11 +229,11 @@ pub fn go_to_end<P: UnderWay>(
 }
 
 /// Does the events of an operation from its first to its reply, however long it has to wait. A hook of the file system is asked once,
-/// before the event that reads its answer. Where an event found what the operation waits for, it waits a little, and the longer the more
+/// right before the event that reads its answer. Where an event found what the operation waits for, it waits a little, and the longer the more
 /// often one did: soon the processor is left to others each time, since who is waited for may need it. A wait may take several events
 /// before it looks again, so none of these makes the pauses short again.
 #[inline(never)]
-pub fn wait_to_end<R: Wait, H: FsHooks, P: Waiting>(
+pub fn wait_to_end<R: Wait, H: TimedHooks, P: Waiting>(
     rt: &R,
     gates: &GateWords,
     seat: &mut Seat,
@@ -193,7 +241,6 @@ pub fn wait_to_end<R: Wait, H: FsHooks, P: Waiting>(
     op: Op,
     first: P,
     hooks: &mut H,
-    read_only: bool,
 ) -> Result<Reply, GateError>
     requires table { seat.old.table_id ≡ gates.now.table.shared.table_id }
     requires tied { IsTied gates.now.config (Some op) (Some (P.as_phase first)) accesses.old seat.old.me.0 }
@@ -201,15 +248,16 @@ pub fn wait_to_end<R: Wait, H: FsHooks, P: Waiting>(
     ensures slots { seat.new.me.1 ≡ seat.old.me.1 }
     ensures tied { StayTied gates.now.config (Some op) (Some (P.as_phase first)) accesses.old seat.old.me.0
         None accesses.new seat.new.me.0 }
-    ensures called { (of : OpType) (start : TaskState) →
-        Goes of start (task_state seat.old.table_id gates.now.config (Some op) (Some (P.as_phase first)) seat.old.me.0) →
-        Called of start (task_state seat.new.table_id gates.now.config None None seat.new.me.0) result }
+    ensures called { (of : OpType) (start : TaskState) (before : H) →
+        GoesAsking H.answers of start before
+        (task_state seat.old.table_id gates.now.config (Some op) (Some (P.as_phase first)) seat.old.me.0) hooks.old →
+        CalledAsking H.answers of start before (task_state seat.new.table_id gates.now.config None None seat.new.me.0) result hooks.new }
 {
     let backoff = Backoff::new();
     let mut begins = Some(op);
     let mut under_way = first;
     for _ in rt.forever() {
-        let next = go_on_asking(gates, seat, accesses, begins, under_way, hooks, read_only);
+        let next = go_on_asking(gates, seat, accesses, begins, under_way, hooks);
         let next = go_along_row(gates, seat, accesses, next, Row::Sections);
         let next = go_along_row(gates, seat, accesses, next, Row::Counts);
         begins = None;

@@ -4,6 +4,8 @@
 #![tactic(auto)]
 
 mod ends;
+mod hooks;
+pub mod laws;
 mod lines;
 mod turns;
 mod words;
@@ -12,6 +14,7 @@ pub use ends::{Row, Waiting, go_to_end, wait_to_end};
 pub use gate_core::seats::Seat as Kept;
 pub use gate_core::{Progress, Step};
 pub use gate_steps::{Closed, Happens, close, give, index_of, open, take_back, word_of};
+pub use hooks::TimedHooks;
 pub use lines::InLine;
 pub use turns::{Turn, do_event};
 pub use words::{GateWords, Seat};

@@ -13,7 +13,7 @@ pub mod levels;
 pub mod thaws;
 
 pub use freezes::{Freeze, FreezeStep};
-pub use hooks::{FsHooks, HookKind};
+pub use hooks::{FsHooks, HookCall, HookKind};
 pub use thaws::{Thaw, ThawStep};
 
 /// An event of a freeze or a thaw that reads no hook's answer is the same whatever a hook answers, and so is what comes after it. Does

@@ -3,7 +3,7 @@
 use access_model::{Action, Gate, GateError, Holder, Kind, Next, Reply};
 use cpu_words::{Touch, WordName};
 use file_closes::{ClosePhase, Closing};
-use freeze_levels::{Freeze, FreezeStep, FsHooks, HookKind, Thaw, ThawStep};
+use freeze_levels::{Freeze, FreezeStep, FsHooks, HookCall, Thaw, ThawStep};
 use gated_tree::{Create, CreateStep, OpenFile, OpenStep, TreePhase};
 use mount_counts::{MountPhase, Want, WantStep};
 use percpu_rwsem::{DownRead, DownReadStep, SemPhase};
@@ -270,14 +270,14 @@ impl FsHooks for Failing {
 }
 
 #[test]
-fn each_kind_asks_its_own_hook(rt: HostRuntime) {
-    for (kind, read_only, code) in [
-        (HookKind::Sync, true, 1),
-        (HookKind::FreezeFs, true, 2),
-        (HookKind::UnfreezeFs, true, 3),
-        (HookKind::Reconfigure, true, 4),
-        (HookKind::Reconfigure, false, 5),
+fn each_call_asks_its_own_hook(rt: HostRuntime) {
+    for (call, code) in [
+        (HookCall::Sync, 1),
+        (HookCall::FreezeFs, 2),
+        (HookCall::UnfreezeFs, 3),
+        (HookCall::Reconfigure { read_only: true }, 4),
+        (HookCall::Reconfigure { read_only: false }, 5),
     ] {
-        assert_eq!(rt; kind.ask(&mut Failing, read_only), Err(code));
+        assert_eq!(rt; call.ask(&mut Failing), Err(code));
     }
 }

@@ -25,7 +25,10 @@ use Rattle.call_events.specs.Runs.{Goes, Went, Called}
 use Rattle.vfs_gates.specs.declared.task.Task.TheInside.{Inside}
 use Rattle.vfs_gates.proofs.Admitting.{admitted_by, first_so, first_by}
 use Rattle.call_events.proofs.Onward.{goes_where}
-use Rattle.call_events.proofs.Running.{starts}
+use Rattle.call_events.specs.Asking.{GoesWith, CalledAsking}
+use Rattle.call_events.proofs.Running.{starts_asking_none}
+use Rattle.cpu_words.specs.Hooks.{HookAnswer}
+use Rattle.freeze_levels.specs.declared.hooks.HookCall.{HookCall}
 
 -- what was not refused has no refusal
 not_refused : (o : Option GateError) → Ok tt ≡ unless_refused o → o ≡ None
@@ -225,11 +228,14 @@ module _ (call : Call) where
   pub is_tied : IsTied call.gates (Some op) (Some call.first) kept.accesses (items_of call)
   is_tied = record { number = number; flags = flags; ties = after_begin }
 
-  -- the operation goes on from there
-  pub has_begun : Goes op call.start (task_state call.task.seat.table_id call.gates (Some op) (Some call.first) (items_of call))
-  has_begun =
-      starts op call.start (task_state call.task.seat.table_id call.gates (Some op) (Some call.first) (items_of call))
+  -- the operation goes on from there, with no hook asked
+  pub has_asked_none : GoesWith [] op call.start (task_state call.task.seat.table_id call.gates (Some op) (Some call.first) (items_of call))
+  has_asked_none =
+      starts_asking_none op call.start (task_state call.task.seat.table_id call.gates (Some op) (Some call.first) (items_of call))
       ((λ i. task_state call.task.seat.table_id (sym same i) (Some op) (Some call.first) (items_of call)) ∙ begun_state)
+
+  pub has_begun : Goes op call.start (task_state call.task.seat.table_id call.gates (Some op) (Some call.first) (items_of call))
+  has_begun = has_asked_none.0
 
   -- after the last event, as it is written down
   module _ (left : Left call) where
@@ -264,3 +270,13 @@ module _ (call : Call) where
         let stands : phase_after left.next ≡ kept.phase = ap (λ (n : Next Phase). phase_after n) is ∙ sym idle in
         subst (λ (s : TaskState). Called op call.start s answer) (there_at kept.phase stands)
         (subst (λ (n : Next Phase). Went op call.start n found) is left.went)
+
+    -- with the hooks that it has asked
+    pub ended_asking : {H : Type 0} (answers : HookCall → SeatItems → H → HookAnswer → H → Type 0) (before hooks : H)
+        (answer : Result Reply GateError) → left.next ≡ Done answer →
+        CalledAsking answers op call.start before (task_state left.table call.gates None None left.items) answer hooks →
+        CalledAsking answers op call.start before (task_state left.table c call.task.begins kept.phase left.items) answer hooks
+    ended_asking answers before hooks answer is called =
+        let at : task_state left.table call.gates None None left.items ≡ task_state left.table c call.task.begins kept.phase left.items =
+        λ i. task_state left.table (sym same i) (sym not_begun i) (sym idle i) left.items in
+        subst (λ s. CalledAsking answers op call.start before s answer hooks) at called

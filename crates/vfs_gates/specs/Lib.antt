@@ -10,3 +10,4 @@ pub mod Sums
 pub mod Ended
 pub mod Seen
 pub use Rattle.call_events.specs.Runs
+pub use Rattle.call_events.specs.Asking

@@ -13,6 +13,7 @@ mod task;
 mod tree_calls;
 mod waits;
 
+pub use call_events::{Seat, TimedHooks};
 pub use closed::Closed;
 pub use gates::Gates;
 pub use task::Task;

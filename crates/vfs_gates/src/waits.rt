@@ -9,9 +9,9 @@ use crate::calls::outcome;
 use crate::gates::Gates;
 use crate::task::Task;
 use access_model::{GateError, Holder, Next, Reply};
-use call_events::{InLine, Progress, Waiting, wait_to_end};
+use call_events::{InLine, Progress, TimedHooks, Waiting, wait_to_end};
 use crossbeam_utils::Backoff;
-use freeze_levels::{Freeze, FreezeStep, FsHooks, Thaw, ThawStep};
+use freeze_levels::{Freeze, FreezeStep, Thaw, ThawStep};
 use gate_world::Op;
 use mount_counts::{Remount, RemountStep, Want, WantStep};
 use percpu_rwsem::{Callback, CallbackStep, DownRead, DownReadStep, Transition};
@@ -45,6 +45,7 @@ impl Task {
     ghost use Rattle.vfs_gates.specs.Room.{is_of_snapshot};
     ghost use Rattle.vfs_gates.specs.TaskStates.{IsFrom, own_number};
     ghost use Rattle.call_events.specs.Runs.{the_reply, Called, Replies, Performs};
+    ghost use Rattle.call_events.specs.Asking.{PerformsAsking, RepliesAsking};
 
     /// Does the events of the operation that has begun and asks no hook until it replies, however long it has to wait.
     #[cold]
@@ -71,32 +72,22 @@ impl Task {
     /// Begins an operation that has this first phase, and does its events until it replies, however long it has to wait, with the hooks of
     /// the file system.
     #[inline(always)]
-    fn perform_waiting<R: Wait, H: FsHooks, P: Waiting>(
+    fn perform_waiting<R: Wait, H: TimedHooks, P: Waiting>(
         &mut self,
         rt: &R,
         gates: &Gates,
         op: Op,
         first: P,
         hooks: &mut H,
-        read_only: bool,
     ) -> Result<Reply, GateError>
         requires from { IsFrom self.old gates.now }
         requires first { P.as_phase first ≡ first_phase self.old.config (own_number self.old.items) op }
         requires other { is_of_snapshot (P.as_phase first) ≡ false }
-        ensures { Replies the_reply op self.old self.new result }
+        ensures { RepliesAsking H.answers the_reply op self.old self.new result hooks.old hooks.new }
     {
         self.admit(op)?;
         let accesses = &mut self.kept.accesses;
-        wait_to_end(
-            rt,
-            &gates.words,
-            &mut self.seat,
-            accesses,
-            op,
-            first,
-            hooks,
-            read_only,
-        )
+        wait_to_end(rt, &gates.words, &mut self.seat, accesses, op, first, hooks)
     }
 
     /// Begins an operation that has this first phase and asks no hook, and does its events in a line. Where one of them finds something
@@ -209,7 +200,7 @@ impl Task {
             tasks: self.config.tasks,
             step: CallbackStep::Claims(Transition::Loads),
         };
-        ran(self.perform_waiting(rt, gates, Op::Callback { level }, callback, &mut (), false))
+        ran(self.perform_waiting(rt, gates, Op::Callback { level }, callback, &mut ()))
     }
 
     /// `mnt_make_readonly`, or its undoing. While another task has `umount` it waits. Busy where writers are counted at the mount.
@@ -239,8 +230,7 @@ impl Task {
     /// superblock isn't as it is asked for: to read-only with nobody inside, dirty marks cleared and no new writer let in. Hook where
     /// it fails, and then the superblock is as it was, but for the dirty marks. Order, where the task is inside a level, as `begin`.
     /// After an Ok the superblock is as it was asked for, until another remount.
-    #[tactic(auto, using(call_events::proofs::Running::was_told))]
-    pub fn remount_sb<R: Wait, H: FsHooks>(
+    pub fn remount_sb<R: Wait, H: TimedHooks>(
         &mut self,
         rt: &R,
         gates: &Gates,
@@ -248,7 +238,7 @@ impl Task {
         hooks: &mut H,
     ) -> Result<(), GateError>
         requires { IsFrom self.old gates.now }
-        ensures { Performs (RemountSb read_only) self.old self.new result }
+        ensures { PerformsAsking H.answers (RemountSb read_only) self.old self.new result hooks.old hooks.new }
     {
         let remount = Remount {
             read_only,
@@ -259,7 +249,7 @@ impl Task {
             step: RemountStep::Locks,
         };
         let op = Op::RemountSb { read_only };
-        outcome(self.perform_waiting(rt, gates, op, remount, hooks, read_only))
+        outcome(self.perform_waiting(rt, gates, op, remount, hooks))
     }
 
     /// `freeze_super`: closes the three freeze levels, one after the other, waiting at each for who is inside, and freezes the file system.
@@ -269,8 +259,7 @@ impl Task {
     /// once, with no level closed and no hook asked. Hook where one fails, and then the levels are open and the file system is as it was, but
     /// for the dirty marks. Order, where the task is inside a level, as `begin`. After an Ok nobody is inside a level that was closed, nor
     /// comes inside, until a thaw.
-    #[tactic(auto, using(call_events::proofs::Running::was_told))]
-    pub fn freeze<R: Wait, H: FsHooks>(
+    pub fn freeze<R: Wait, H: TimedHooks>(
         &mut self,
         rt: &R,
         gates: &Gates,
@@ -278,7 +267,7 @@ impl Task {
         hooks: &mut H,
     ) -> Result<(), GateError>
         requires { IsFrom self.old gates.now }
-        ensures { Performs (FreezeOp holder) self.old self.new result }
+        ensures { PerformsAsking H.answers (FreezeOp holder) self.old self.new result hooks.old hooks.new }
     {
         let freeze = Freeze {
             task: self.number(),
@@ -289,15 +278,14 @@ impl Task {
             step: FreezeStep::Locks,
         };
         let op = Op::Freeze { holder };
-        outcome(self.perform_waiting(rt, gates, op, freeze, hooks, false))
+        outcome(self.perform_waiting(rt, gates, op, freeze, hooks))
     }
 
     /// `thaw_super`: gives a holder's freeze back, whichever task froze; where no other is held, it thaws the file system, and reopens its
     /// levels, the highest first. While another task has `umount` it waits. Invalid where the stage isn't SB_FREEZE_COMPLETE, or this holder
     /// holds no freeze. `FsHooks::unfreeze_fs` is asked once, unless the superblock is
     /// read-only; Hook where it fails, and then all stays frozen. Order, where the task is inside a level, as `begin`.
-    #[tactic(auto, using(call_events::proofs::Running::was_told))]
-    pub fn thaw<R: Wait, H: FsHooks>(
+    pub fn thaw<R: Wait, H: TimedHooks>(
         &mut self,
         rt: &R,
         gates: &Gates,
@@ -305,7 +293,7 @@ impl Task {
         hooks: &mut H,
     ) -> Result<(), GateError>
         requires { IsFrom self.old gates.now }
-        ensures { Performs (ThawOp holder) self.old self.new result }
+        ensures { PerformsAsking H.answers (ThawOp holder) self.old self.new result hooks.old hooks.new }
     {
         let thaw = Thaw {
             task: self.number(),
@@ -313,6 +301,6 @@ impl Task {
             step: ThawStep::Locks,
         };
         let op = Op::Thaw { holder };
-        outcome(self.perform_waiting(rt, gates, op, thaw, hooks, false))
+        outcome(self.perform_waiting(rt, gates, op, thaw, hooks))
     }
 }

@@ -1,5 +1,6 @@
 -- each event goes on from what the one before it left
-use Rattle.std.proofs.Common.{refl, ◌∙◌}
+use Rattle.std.proofs.Common.{refl, sym, ◌∙◌, subst}
+use Rattle.call_events.specs.Asking.{WereAsked}
 use Rattle.call_events.proofs.ends.wait_to_end.Goals as goal
 
 pub loop-init : goal.loop-init
@@ -10,7 +11,7 @@ loop-init g c = record {
   slots = refl;
   tied = c.requires.tied;
   stay = λ number flags ties. ties;
-  goes = λ of start goes. goes;
+  goes = λ of start before goes. goes;
 }
 
 pub loop-preserved-in-Go : goal.loop-preserved-in-Go
@@ -26,7 +27,9 @@ loop-preserved-in-Go g c =
       slots = left.slots ∙ (sections.slots ∙ (asked.slots ∙ now.slots));
       tied = left.still;
       stay = λ number flags ties. left.tied number flags (sections.tied number flags (asked.tied number flags (now.stay number flags ties)));
-      goes = λ of start goes. left.went of start (sections.went of start (asked.went of start (now.goes of start goes)));
+      goes = λ of start before goes.
+          let went = asked.asked of start before (now.goes of start before goes) in
+          (went.0, left.went of start went.0 (sections.went of start went.0 went.1), went.2);
     }
 
 pub loop-preserved : goal.loop-preserved
@@ -42,7 +45,9 @@ loop-preserved g c =
       slots = left.slots ∙ (sections.slots ∙ (asked.slots ∙ now.slots));
       tied = left.still;
       stay = λ number flags ties. left.tied number flags (sections.tied number flags (asked.tied number flags (now.stay number flags ties)));
-      goes = λ of start goes. left.went of start (sections.went of start (asked.went of start (now.goes of start goes)));
+      goes = λ of start before goes.
+          let went = asked.asked of start before (now.goes of start before goes) in
+          (went.0, left.went of start went.0 (sections.went of start went.0 went.1), went.2);
     }
 
 pub returns-in-Done-clause-tied : goal.returns-in-Done-clause-tied
@@ -52,6 +57,7 @@ returns-in-Done-clause-tied g c number flags ties =
     (c.go_on_asking-next.ensures.tied number flags (c.loop.invariant.stay number flags ties)))
 
 pub returns-in-Done-clause-called : goal.returns-in-Done-clause-called
-returns-in-Done-clause-called g c of start goes =
-    c.in-Done.ensures.went of start
-    (c.go_along_row-next.ensures.went of start (c.go_on_asking-next.ensures.went of start (c.loop.invariant.goes of start goes)))
+returns-in-Done-clause-called g c of start before goes =
+    let went = c.go_on_asking-next.ensures.asked of start before (c.loop.invariant.goes of start before goes) in
+    let called = c.in-Done.ensures.went of start went.0 (c.go_along_row-next.ensures.went of start went.0 went.1) in
+    (called.0, subst (λ asks. WereAsked g.H.TimedHooks.answers asks before c.go_on_asking-next.new.hooks) (sym called.1) went.2)

@@ -1,12 +1,16 @@
 -- a call that does its events until it replies: its beginning, the events, and what the task shows then
-use Rattle.std.proofs.Common.{refl, sym, ◌∙◌}
+use Rattle.std.proofs.Common.{refl, sym, ◌∙◌, []}
+use Rattle.std.specs.Prelude.{None}
 use Rattle.std.proofs.lemmas.Result.{err_from_is_err_and}
 use Rattle.access_model.specs.declared.replies.Next.TheVariants.{Done}
 use Rattle.call_events.specs.Runs.{the_reply}
 use Rattle.vfs_gates.proofs.Admitting.{refused_by}
-use Rattle.vfs_gates.proofs.Calling.{Call, Left, call_with, is_tied, has_begun, ties_done, ended_at}
+use Rattle.vfs_gates.proofs.Calling.{Call, Left, call_with, is_tied, has_asked_none, ties_done, ended_asking}
 use Rattle.vfs_gates.proofs.Rooming.{room_done}
-use Rattle.call_events.proofs.Running.{was_refused, was_done, told_whole}
+use Rattle.call_events.specs.Asking.{CalledAsking}
+use Rattle.call_events.proofs.Asking.{was_refused_asking, was_done_asking}
+use Rattle.call_events.proofs.Running.{told_whole}
+use Rattle.vfs_gates.specs.TaskStates.{task_state}
 use Rattle.vfs_gates.proofs.task.Task.perform_waiting.Goals as goal
 use Rattle.vfs_gates.proofs.task.Task.perform_waiting.Goals.{After-wait_to_end}
 
@@ -16,6 +20,13 @@ call g c =
     call_with c.args.op c.self.inside c.args.gates.now.words.config c.args.self.now c.self.view_is c.requires.from.1 c.self.invariant.0
     c.in_ok-admit.field-0 c.in_ok-admit.ensures (g.P.UnderWay.as_phase c.args.first) c.requires.first
 
+-- done whole, it has asked the hooks that its events read
+asking : (g : _) (c : After-wait_to_end g) →
+    CalledAsking g.H.TimedHooks.answers (call g c).op (call g c).start c.args.hooks.now
+    (task_state c.wait_to_end.new.seat.table_id c.args.gates.now.words.config None None c.wait_to_end.new.seat.me.0) c.wait_to_end.result
+    c.wait_to_end.new.hooks
+asking g c = c.wait_to_end.ensures.called (call g c).op (call g c).start c.args.hooks.now ([], has_asked_none (call g c), refl)
+
 abbrev left : (g : _) (c : After-wait_to_end g) → Left (call g c)
 left g c = record {
   next = Done c.wait_to_end.result;
@@ -23,7 +34,7 @@ left g c = record {
   items = c.wait_to_end.new.seat.me.0;
   table = c.wait_to_end.new.seat.table_id;
   tied = c.wait_to_end.ensures.tied;
-  went = c.wait_to_end.ensures.called (call g c).op (call g c).start (has_begun (call g c));
+  went = (asking g c).0;
 }
 
 pub wait_to_end-requires-clause-tied : goal.wait_to_end-requires-clause-tied
@@ -40,10 +51,11 @@ invariant_of-self g c = (
 
 pub returns : goal.returns
 returns g c =
-    was_done the_reply (call g c).op (call g c).start _ c.wait_to_end.result c.wait_to_end.result (sym (told_whole c.wait_to_end.result))
-    (call g c).admitted (ended_at (call g c) (left g c) c.wait_to_end.result refl)
+    was_done_asking g.H.TimedHooks.answers the_reply (call g c).op (call g c).start _ c.wait_to_end.result c.wait_to_end.result
+    (sym (told_whole c.wait_to_end.result)) (call g c).admitted c.args.hooks.now c.wait_to_end.new.hooks
+    (ended_asking (call g c) (left g c) g.H.TimedHooks.answers c.args.hooks.now c.wait_to_end.new.hooks c.wait_to_end.result refl (asking g c))
 
 pub returns-in_err-admit : goal.returns-in_err-admit
 returns-in_err-admit g c = let p = err_from_is_err_and c.from_residual.result c.from_residual.ensures.1 in
-    rw (p.1, p.2) (was_refused the_reply c.args.op c.args.self.now c.args.self.now c.in_err-admit.field-0.0
-    (refused_by c.args.op c.args.self.now c.in_err-admit.field-0.0 c.in_err-admit.ensures) refl)
+    rw (p.1, p.2) (was_refused_asking g.H.TimedHooks.answers the_reply c.args.op c.args.self.now c.args.self.now c.in_err-admit.field-0.0
+    (refused_by c.args.op c.args.self.now c.in_err-admit.field-0.0 c.in_err-admit.ensures) refl c.args.hooks.now)
