@@ -40,12 +40,7 @@ not_false false e = refl
 pub create_keeps : (c : Config) (d : ℕ) (kind : Kind) → OpKeeps c (CreateOp d kind)
 create_keeps c d kind = record {
   fits = λ t held levels there order room. ((ltb-true d c.nodes there, refl, tt), order);
-  no_role = λ t y. refl;
-  steady = λ t. record { owns_same = refl; remounts_same = refl; closing_same = λ i. refl };
-  aside = λ t. refl;
-  counts_not = λ t i. refl;
-  apart = λ t i. refl;
-  outside = λ t. refl;
+  starts_idle = λ t. assumption;
   off_tree = λ t trace. refl;
   cause = λ t w earlier. tt;
   order_agrees = λ f g h k mounts levels there. writer_agrees c f g h k mounts levels;
@@ -61,12 +56,7 @@ create_keeps c d kind = record {
 pub remove_keeps : (c : Config) (file : ℕ) → OpKeeps c (RemoveOp file)
 remove_keeps c file = record {
   fits = λ t held levels there order room. ((ltb-true file c.nodes there, tt), order);
-  no_role = λ t y. refl;
-  steady = λ t. record { owns_same = refl; remounts_same = refl; closing_same = λ i. refl };
-  aside = λ t. refl;
-  counts_not = λ t i. refl;
-  apart = λ t i. refl;
-  outside = λ t. refl;
+  starts_idle = λ t. assumption;
   off_tree = λ t trace. refl;
   cause = λ t w earlier. tt;
   order_agrees = λ f g h k mounts levels there. writer_agrees c f g h k mounts levels;
@@ -84,12 +74,7 @@ grow_keeps c file blocks = record {
   fits = λ t held levels there order room.
       let both : (nat_lt file c.nodes ≡ true) × (nat_lt 0 blocks ≡ true) = both_true (nat_lt file c.nodes) (nat_lt 0 blocks) there in
       ((ltb-true file c.nodes both.0, ltb-true 0 blocks both.1, refl), order);
-  no_role = λ t y. refl;
-  steady = λ t. record { owns_same = refl; remounts_same = refl; closing_same = λ i. refl };
-  aside = λ t. refl;
-  counts_not = λ t i. refl;
-  apart = λ t i. refl;
-  outside = λ t. refl;
+  starts_idle = λ t. assumption;
   off_tree = λ t trace. refl;
   cause = λ t w earlier. tt;
   order_agrees = λ f g h k mounts levels there. writer_agrees c f g h k mounts levels;
@@ -107,12 +92,7 @@ move_keeps c file dir = record {
   fits = λ t held levels there order room.
       let both : (nat_lt file c.nodes ≡ true) × (nat_lt dir c.nodes ≡ true) = both_true (nat_lt file c.nodes) (nat_lt dir c.nodes) there in
       ((ltb-true file c.nodes both.0, ltb-true dir c.nodes both.1, tt), order);
-  no_role = λ t y. refl;
-  steady = λ t. record { owns_same = refl; remounts_same = refl; closing_same = λ i. refl };
-  aside = λ t. refl;
-  counts_not = λ t i. refl;
-  apart = λ t i. refl;
-  outside = λ t. refl;
+  starts_idle = λ t. assumption;
   off_tree = λ t trace. refl;
   cause = λ t w earlier. tt;
   order_agrees = λ f g h k mounts levels there. writer_agrees c f g h k mounts levels;
@@ -128,12 +108,7 @@ move_keeps c file dir = record {
 pub fault_keeps : (c : Config) (file : ℕ) → OpKeeps c (FaultOp file)
 fault_keeps c file = record {
   fits = λ t held levels there order room. (ltb-true file c.nodes there, order);
-  no_role = λ t y. refl;
-  steady = λ t. record { owns_same = refl; remounts_same = refl; closing_same = λ i. refl };
-  aside = λ t. refl;
-  counts_not = λ t i. refl;
-  apart = λ t i. refl;
-  outside = λ t. refl;
+  starts_idle = λ t. assumption;
   off_tree = λ t trace. refl;
   cause = λ t w earlier. tt;
   order_agrees = λ f g h k mounts levels there. faulter_agrees c f g h k mounts levels;
@@ -149,12 +124,7 @@ fault_keeps c file = record {
 pub flush_keeps : (c : Config) (file : ℕ) → OpKeeps c (FlushOp file)
 flush_keeps c file = record {
   fits = λ t held levels there order room. (ltb-true file c.nodes there, order);
-  no_role = λ t y. refl;
-  steady = λ t. record { owns_same = refl; remounts_same = refl; closing_same = λ i. refl };
-  aside = λ t. refl;
-  counts_not = λ t i. refl;
-  apart = λ t i. refl;
-  outside = λ t. refl;
+  starts_idle = λ t. assumption;
   off_tree = λ t trace. refl;
   cause = λ t w earlier. tt;
   order_agrees = λ f g h k mounts levels there. levels 3 (omega arith) (omega arith);
@@ -170,12 +140,7 @@ flush_keeps c file = record {
 pub open_keeps : (c : Config) (file : ℕ) → OpKeeps c (OpenOp file)
 open_keeps c file = record {
   fits = λ t held levels there order room. ((ltb-true file c.nodes there, tt), tt);
-  no_role = λ t y. refl;
-  steady = λ t. record { owns_same = refl; remounts_same = refl; closing_same = λ i. refl };
-  aside = λ t. refl;
-  counts_not = λ t i. refl;
-  apart = λ t i. refl;
-  outside = λ t. refl;
+  starts_idle = λ t. assumption;
   off_tree = λ t trace. refl;
   cause = λ t w earlier. tt;
   order_agrees = λ f g h k mounts levels there. refl;
@@ -191,12 +156,7 @@ open_keeps c file = record {
 pub snapshot_keeps : (c : Config) (wait : Bool) → OpKeeps c (SnapshotOp wait)
 snapshot_keeps c wait = record {
   fits = λ t held levels there order room. ((refl, refl, tt), order);
-  no_role = λ t y. refl;
-  steady = λ t. record { owns_same = refl; remounts_same = refl; closing_same = λ i. refl };
-  aside = λ t. refl;
-  counts_not = λ t i. refl;
-  apart = λ t i. refl;
-  outside = λ t. refl;
+  starts_idle = λ t. assumption;
   off_tree = λ t trace. refl;
   cause = λ t w earlier. tt;
   order_agrees = λ f g h k mounts levels there. none_agree c 0 f g h k mounts levels;

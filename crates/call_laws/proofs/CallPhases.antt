@@ -1,5 +1,4 @@
 -- All that is proved of each event of a call at the tree.
-use Rattle.std.proofs.Common.{ap}
 use Rattle.gated_tree.specs.declared.phases.TreePhase.{TreePhase}
 use Rattle.gate_world.specs.declared.config.Config.{Config}
 use Rattle.gate_world.specs.declared.work.Phase.TheVariants.{Trees}
@@ -7,7 +6,7 @@ use Rattle.gate_world.specs.Views.{held_at, holds_level}
 use Rattle.gate_world.specs.Worlds.{after_step}
 use Rattle.gate_frames.proofs.Keeps.{PhaseKeeps}
 use Rattle.call_laws.proofs.CallSteps.{call_step, call_completes}
-use Rattle.call_laws.proofs.TreeWords.{tree_there, tree_leaves}
+use Rattle.call_laws.proofs.TreeWords.{tree_there}
 use Rattle.call_laws.proofs.TreeFits.{tree_acts, tree_goes, tree_agrees}
 use Rattle.call_laws.proofs.TreeRuns.{tree_runs}
 use Rattle.call_laws.proofs.TreeCauses.{tree_stays, tree_own}
@@ -20,12 +19,10 @@ tree_phase_keeps c x = record {
   step = λ within w good t lt hook e. call_step c within w good t lt hook x e;
   runs = λ within w good t lt hook e i one three. tree_runs c.tasks w t lt hook x e i;
   completes = λ within w good t lt hook e. call_completes c within w good t lt hook x e;
-  word = λ within n le t lt held levels hook f. tree_there c within n t x hook f.0;
+  word = λ n le t lt held levels hook f. tree_there c n t x hook f.0;
   acts = λ within t held levels found hook f. tree_acts c within t held levels x found hook f;
   goes = λ within t held levels found hook f. tree_goes c within t held levels x found hook f;
   agrees = λ t f g h k mounts levels fits. tree_agrees c f g h k mounts levels t x fits;
-  quiet = λ w good t lt hook m e before after. ap (λ f. f m) (tree_leaves w.words hook x).counts;
-  level_quiet = λ w good t lt hook i e before after. ap (λ f. f i) (tree_leaves w.words hook x).level_counts;
   stays = λ w next earlier good t fits e was quiet h. tree_stays c t w next earlier x e h;
   causes = λ w earlier good t lt hook e after is h. tree_own c t w (after_step w t (Trees x) hook) earlier hook x e is;
   waits = λ within w earlier good t lt hook e cause. tree_waits c w earlier t good lt hook x e;

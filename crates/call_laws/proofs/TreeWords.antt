@@ -3,7 +3,7 @@ use Rattle.gated_tree.specs.declared.opens.OpenFile.{OpenFile}
 use Rattle.gated_tree.specs.declared.opens.OpenStep.{OpenStep}
 use Rattle.gated_tree.specs.declared.opens.OpenStep.TheVariants.{LoadsFile as LoadsFileToOpen, OpensFile}
 use Rattle.cpu_words.specs.declared.names.WordName.TheVariants.{Removed}
-use Rattle.std.proofs.Common.{◌≡◌, ℕ, ◌<◌, refl, arith}
+use Rattle.std.proofs.Common.{ℕ, ◌<◌, refl, arith, ◌+◌, ◌-◌}
 use Rattle.cpu_words.specs.Hooks.{HookAnswer}
 use Rattle.cpu_words.specs.Names.{IsWord}
 use Rattle.cpu_words.specs.Words.{Words, put}
@@ -78,75 +78,79 @@ use Rattle.gated_tree.specs.Phases.{
   at_snapshot,
 }
 use Rattle.gate_world.specs.declared.config.Config.{Config}
-use Rattle.gate_world.specs.Configs.{IsWithin, extents_among}
+use Rattle.gate_frames.proofs.Keeps.{extents_touched}
 use Rattle.gate_world.specs.Rules.{SameWords, SyncAt}
 use Rattle.gate_world.specs.Worlds.{words_after}
 use Rattle.gate_world.specs.Trees.{tree_bounds}
 use Rattle.gate_world.specs.declared.work.Phase.TheVariants.{Trees}
 
-module _ (c : Config) (within : IsWithin c) (n t : ℕ) where
-  -- a node of the tree is one that is kept
-  kept : (m : ℕ) → m < c.nodes → m < 64
-  kept m lm = omega (arith, within.nodes, lm)
+module _ (c : Config) (n t : ℕ) where
+  -- a node of the tree is one of those touched
+  touched : (m : ℕ) → m < c.nodes → m < 64 + (c.nodes - 64)
+  touched m lm = omega (arith, lm)
 
-  -- the word of each event of a create is kept
+  -- and so is one that a node's word names
+  named : (m : ℕ) → m < 64 → m < 64 + (c.nodes - 64)
+  named m lm = omega (arith, lm)
+
+  -- the word of each event of a create is one
   create_there : (x : Create) (s : CreateStep) → x.dir < c.nodes → CreateStepFits (tree_bounds c) s →
-      IsWord (extents_among n c) (create_next x s).0
-  create_there x LoadsDirectory d f = kept x.dir d
-  create_there x (LoadsNode node) d f = kept node f
-  create_there x (ChargesChild node) d f = kept x.dir d
-  create_there x (TakesNode node) d f = kept node f
-  create_there x RefundsChild d f = kept x.dir d
+      IsWord (extents_touched n c) (create_next x s).0
+  create_there x LoadsDirectory d f = touched x.dir d
+  create_there x (LoadsNode node) d f = touched node f
+  create_there x (ChargesChild node) d f = touched x.dir d
+  create_there x (TakesNode node) d f = touched node f
+  create_there x RefundsChild d f = touched x.dir d
 
   -- of a remove
-  remove_there : (x : Remove) (s : RemoveStep) → x.file < c.nodes → RemoveStepFits s → IsWord (extents_among n c) (remove_next x s).0
-  remove_there x LoadsFileToRemove d f = kept x.file d
-  remove_there x (FreesNode file) d f = kept x.file d
+  remove_there : (x : Remove) (s : RemoveStep) → x.file < c.nodes → RemoveStepFits s → IsWord (extents_touched n c) (remove_next x s).0
+  remove_there x LoadsFileToRemove d f = touched x.file d
+  remove_there x (FreesNode file) d f = touched x.file d
   remove_there x (CountsRemoved file) d f = tt
-  remove_there x (MarksRemoved file) d f = kept x.file d
+  remove_there x (MarksRemoved file) d f = touched x.file d
   remove_there x RefundsRemoved d f = tt
   remove_there x (RefundsItsBlocks file) d f = tt
-  remove_there x (RefundsItsChild file) d f = f
+  remove_there x (RefundsItsChild file) d f = named file.parent f
 
   -- of a grow
-  grow_there : (x : Grow) (s : GrowStep) → x.file < c.nodes → IsWord (extents_among n c) (grow_next x s).0
-  grow_there x LoadsFileToGrow d = kept x.file d
+  grow_there : (x : Grow) (s : GrowStep) → x.file < c.nodes → IsWord (extents_touched n c) (grow_next x s).0
+  grow_there x LoadsFileToGrow d = touched x.file d
   grow_there x (LoadsUsed file) d = tt
   grow_there x (ChargesBlocks file used) d = tt
-  grow_there x (GrowsFile file) d = kept x.file d
+  grow_there x (GrowsFile file) d = touched x.file d
   grow_there x RefundsBlocks d = tt
 
   -- of a move
   move_there : (x : MoveTo) (s : MoveStep) → x.file < c.nodes → x.dir < c.nodes → MoveStepFits s →
-      IsWord (extents_among n c) (move_next x s).0
-  move_there x LoadsFileToMove l d f = kept x.file l
-  move_there x (LoadsTarget file) l d f = kept x.dir d
-  move_there x (ChargesTarget file) l d f = kept x.dir d
-  move_there x (MovesFile file) l d f = kept x.file l
-  move_there x (RefundsOne dir answer) l d f = f.0
+      IsWord (extents_touched n c) (move_next x s).0
+  move_there x LoadsFileToMove l d f = touched x.file l
+  move_there x (LoadsTarget file) l d f = touched x.dir d
+  move_there x (ChargesTarget file) l d f = touched x.dir d
+  move_there x (MovesFile file) l d f = touched x.file l
+  move_there x (RefundsOne dir answer) l d f = named dir f.0
 
   -- of a page fault and a write-back
-  mark_there : (x : Mark) (s : MarkStep) → x.file < c.nodes → IsWord (extents_among n c) (mark_next x s).0
-  mark_there x LoadsFileToMark d = kept x.file d
-  mark_there x (MarksFile file) d = kept x.file d
+  mark_there : (x : Mark) (s : MarkStep) → x.file < c.nodes → IsWord (extents_touched n c) (mark_next x s).0
+  mark_there x LoadsFileToMark d = touched x.file d
+  mark_there x (MarksFile file) d = touched x.file d
 
   -- of an open
-  open_there : (x : OpenFile) (s : OpenStep) → x.file < c.nodes → IsWord (extents_among n c) (open_next x s).0
-  open_there x LoadsFileToOpen d = kept x.file d
-  open_there x (OpensFile file) d = kept x.file d
+  open_there : (x : OpenFile) (s : OpenStep) → x.file < c.nodes → IsWord (extents_touched n c) (open_next x s).0
+  open_there x LoadsFileToOpen d = touched x.file d
+  open_there x (OpensFile file) d = touched x.file d
 
   -- of a snapshot
   snapshot_there : (x : Snapshot) (s : SnapshotStep) → SnapshotStepFits (tree_bounds c) s →
-      IsWord (extents_among n c) (snapshot_next x s).0
+      IsWord (extents_touched n c) (snapshot_next x s).0
   snapshot_there x Locks f = tt
   snapshot_there x LoadsStage f = tt
   snapshot_there x LoadsUsedWord f = tt
-  snapshot_there x (LoadsNodeWord node) f = kept node f
-  snapshot_there x (LoadsKids node) f = kept node f
+  snapshot_there x (LoadsNodeWord node) f = touched node f
+  snapshot_there x (LoadsKids node) f = touched node f
   snapshot_there x (Releases answer) f = tt
 
-  -- so the word of each event at the tree is kept
-  pub tree_there : (x : TreePhase) (hook : HookAnswer) → TreePhaseFits (tree_bounds c) t x → IsWord (extents_among n c) (tree_next x hook).0
+  -- so the word of each event at the tree is one
+  pub tree_there : (x : TreePhase) (hook : HookAnswer) → TreePhaseFits (tree_bounds c) t x → IsWord (extents_touched n c) (tree_next x hook).0
   tree_there (Creates x) hook f = create_there x x.step f.0 f.2
   tree_there (Removes x) hook f = remove_there x x.step f.0 f.1
   tree_there (Grows x) hook f = grow_there x x.step f.0
@@ -154,13 +158,11 @@ module _ (c : Config) (within : IsWithin c) (n t : ℕ) where
   tree_there (TreeMarks x) hook f = mark_there x x.step f
   tree_there (OpensOne x) hook f = open_there x x.step f.0
   tree_there (Snapshots x) hook f = snapshot_there x x.step f.2
-  tree_there (TreeClears x) hook f = kept x.node f.0
+  tree_there (TreeClears x) hook f = touched x.node f.0
 
 -- words of which each level's are as they were, and so are the counts of mounts and levels
 pub record SameLevels (old new : Words) : Type 0 where
   pub at_levels : (i : ℕ) → SameWords old new (SyncAt i)
-  pub counts : new.count ≡ old.count
-  pub level_counts : new.level ≡ old.level
 
 -- a word of the tree, or `umount`: no level reads it, and it is no count
 abbrev IsApartWord : WordName → Type 0
@@ -173,11 +175,11 @@ IsApartWord name = ⊥
 
 -- so a write of it leaves the levels and the counts
 put_apart : (w : Words) (name : WordName) (value : ℕ) → IsApartWord name → SameLevels w (put w name value)
-put_apart w Umount value h = record { at_levels = λ i. (refl, refl, refl, refl); counts = refl; level_counts = refl }
-put_apart w Used value h = record { at_levels = λ i. (refl, refl, refl, refl); counts = refl; level_counts = refl }
-put_apart w Removed value h = record { at_levels = λ i. (refl, refl, refl, refl); counts = refl; level_counts = refl }
-put_apart w (Node n) value h = record { at_levels = λ i. (refl, refl, refl, refl); counts = refl; level_counts = refl }
-put_apart w (Kids n) value h = record { at_levels = λ i. (refl, refl, refl, refl); counts = refl; level_counts = refl }
+put_apart w Umount value h = record { at_levels = λ i. (refl, refl, refl, refl) }
+put_apart w Used value h = record { at_levels = λ i. (refl, refl, refl, refl) }
+put_apart w Removed value h = record { at_levels = λ i. (refl, refl, refl, refl) }
+put_apart w (Node n) value h = record { at_levels = λ i. (refl, refl, refl, refl) }
+put_apart w (Kids n) value h = record { at_levels = λ i. (refl, refl, refl, refl) }
 put_apart w name value h = absurd h
 
 -- each event of a create is on such a word
@@ -236,7 +238,7 @@ module _ (w : Words) (hook : HookAnswer) where
   -- a snapshot also loads the stage
   snapshot_leaves : (x : Snapshot) (s : SnapshotStep) → Leaves (Snapshots (at_snapshot x s))
   snapshot_leaves x Locks = word_leaves (Snapshots (at_snapshot x Locks)) tt
-  snapshot_leaves x LoadsStage = record { at_levels = λ i. (refl, refl, refl, refl); counts = refl; level_counts = refl }
+  snapshot_leaves x LoadsStage = record { at_levels = λ i. (refl, refl, refl, refl) }
   snapshot_leaves x LoadsUsedWord = word_leaves (Snapshots (at_snapshot x LoadsUsedWord)) tt
   snapshot_leaves x (LoadsNodeWord node) = word_leaves (Snapshots (at_snapshot x (LoadsNodeWord node))) tt
   snapshot_leaves x (LoadsKids node) = word_leaves (Snapshots (at_snapshot x (LoadsKids node))) tt

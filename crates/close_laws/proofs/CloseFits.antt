@@ -23,10 +23,10 @@ use Rattle.file_closes.specs.declared.phases.ClosePhase.TheVariants.{LoadsFile, 
 use Rattle.file_closes.specs.Phases.{next, after, closed_from, then_frees, leaves_on}
 use Rattle.gate_world.specs.declared.config.Config.{Config}
 use Rattle.gate_world.specs.declared.work.Phase.TheVariants.{Closes}
-use Rattle.gate_world.specs.Configs.{IsWithin, extents_among}
+use Rattle.gate_world.specs.Configs.{IsWithin}
 use Rattle.gate_world.specs.Fits.{Fits, CloseFits, ClosingFits, ActionFits, mounts_by, levels_by}
 use Rattle.gate_world.specs.Views.{phase_after}
-use Rattle.gate_frames.proofs.Keeps.{by_bool}
+use Rattle.gate_frames.proofs.Keeps.{by_bool, extents_touched}
 use Rattle.writer_laws.proofs.ReadFits.{ReadGoes, read_mounts, read_goes, none_from_agree, read_acts}
 use Rattle.writer_laws.proofs.ReadKeeps.{read_phase, end_phase}
 
@@ -138,16 +138,16 @@ close_goes c t held levels (Uncounts p) found f = f
 close_goes c t held levels (Leaves p) found f = tt
 
 -- the word of each event is there
-pub close_there : (c : Config) → IsWithin c → (n : ℕ) → c.tasks ≤ n → (t : ℕ) → t < n → (held : ℕ → ℕ) (levels : ℕ → Bool) (hook : HookAnswer)
-    (x : ClosePhase) → CloseFits c t levels x → IsWord (extents_among n c) (next x).0
-close_there c lim n le t lt held levels hook (LoadsFile x) f = omega (arith, f.0, lim.nodes)
-close_there c lim n le t lt held levels hook (LowersCount x node) f = omega (arith, f.0.0, lim.nodes)
-close_there c lim n le t lt held levels hook (Enters file node r) f = (read_phase c r).word lim n le t lt held levels hook f.2
-close_there c lim n le t lt held levels hook (FreesNode file p node) f = omega (arith, f.0, lim.nodes)
-close_there c lim n le t lt held levels hook (RefundsBlocks p blocks) f = tt
-close_there c lim n le t lt held levels hook (Uncounts p) f = tt
-close_there c lim n le t lt held levels hook (Leaves p) f =
-    (end_phase c (leaves_on p)).word lim n le t lt held levels hook (omega arith, omega arith, f.0, f.1)
+pub close_there : (c : Config) (n : ℕ) → c.tasks ≤ n → (t : ℕ) → t < n → (held : ℕ → ℕ) (levels : ℕ → Bool) (hook : HookAnswer)
+    (x : ClosePhase) → CloseFits c t levels x → IsWord (extents_touched n c) (next x).0
+close_there c n le t lt held levels hook (LoadsFile x) f = omega (arith, f.0)
+close_there c n le t lt held levels hook (LowersCount x node) f = omega (arith, f.0.0)
+close_there c n le t lt held levels hook (Enters file node r) f = (read_phase c r).word n le t lt held levels hook f.2
+close_there c n le t lt held levels hook (FreesNode file p node) f = omega (arith, f.0)
+close_there c n le t lt held levels hook (RefundsBlocks p blocks) f = tt
+close_there c n le t lt held levels hook (Uncounts p) f = tt
+close_there c n le t lt held levels hook (Leaves p) f =
+    (end_phase c (leaves_on p)).word n le t lt held levels hook (omega arith, omega arith, f.0, f.1)
 
 -- and its action can be done
 pub close_acts : (c : Config) → IsWithin c → (t : ℕ) (held : ℕ → ℕ) (levels : ℕ → Bool) (x : ClosePhase) (found : ℕ) →

@@ -19,7 +19,7 @@ use Rattle.gate_world.specs.declared.config.Config.{Config}
 use Rattle.gate_world.specs.declared.work.Phase.{Phase}
 use Rattle.gate_world.specs.declared.work.Phase.TheVariants.{Closes, DownReads, UpReads}
 use Rattle.gate_world.specs.Alike.{rephased}
-use Rattle.gate_world.specs.Causes.{all_inside, asks_level, HasCause}
+use Rattle.gate_world.specs.Causes.{asks_level, HasCause}
 use Rattle.gate_world.specs.Configs.{IsWithin}
 use Rattle.gate_world.specs.Fits.{CloseFits}
 use Rattle.gate_world.specs.KeptCauses.{CauseOf}
@@ -29,16 +29,16 @@ use Rattle.gate_world.specs.Rules.{IsGood, StepKeeps}
 use Rattle.gate_world.specs.Views.{holds_level, phase_after}
 use Rattle.gate_world.specs.Waits.{WaitsForAnother}
 use Rattle.gate_world.specs.Worlds.{World, after_step, found_at}
-use Rattle.gate_frames.proofs.Beside.{IsBeside}
+use Rattle.gate_world.specs.Alike.{IsBeside}
 use Rattle.gate_frames.proofs.Keeps.{PhaseKeeps}
 use Rattle.gate_frames.proofs.Snapshots.{completes_none}
 use Rattle.writer_laws.proofs.ReadCauses.{read_stays, read_own, read_not_closed, read_tells}
-use Rattle.writer_laws.proofs.ReadKeeps.{read_counts, read_phase, end_phase}
+use Rattle.writer_laws.proofs.ReadKeeps.{read_phase, end_phase}
 use Rattle.writer_laws.proofs.ReadWaits.{read_waits}
 use Rattle.close_laws.proofs.CloseCauses.{enters_asks, enters_cause, enters_waits, looked_cause, looked_waits}
 use Rattle.close_laws.proofs.CloseFits.{close_goes, close_there, close_acts, close_agrees}
-use Rattle.close_laws.proofs.CloseParts.{loads_file, lowers_count, frees_node, refunds_blocks, uncounts, tree_run, tree_counts}
-use Rattle.close_laws.proofs.CloseSteps.{close_fits_now, enters_level, leaves_level, beside_reads, beside_ends, beside_runs, beside_level_quiet, beside_enters, beside_none}
+use Rattle.close_laws.proofs.CloseParts.{loads_file, lowers_count, frees_node, refunds_blocks, uncounts, tree_run}
+use Rattle.close_laws.proofs.CloseSteps.{close_fits_now, enters_level, leaves_level, beside_reads, beside_ends, beside_runs, beside_enters, beside_none}
 
 -- each event keeps the rule, and moves the shown model by its action or not at all
 pub close_keeps : (c : Config) → IsWithin c → (w : World) → IsGood c w → (t : ℕ) → t < c.tasks → (hook : HookAnswer) → (x : ClosePhase) →
@@ -71,37 +71,6 @@ close_runs c lim w good t lt hook (Leaves p) e i one three =
     let b : IsBeside (w.views t).phase (Some q) × IsGood c (rephased w t (Some q)) = beside_ends c w good t lt p e in
     beside_runs c w t lt hook q b.0 b.1 (Done (Ok UnitReply)) beside_none i
     (λ g at. (end_phase c (leaves_on p)).runs lim (rephased w t (Some q)) g t lt hook at i one three)
-
--- it leaves the counts of the mounts
-close_counts : (w : World) (t : ℕ) (hook : HookAnswer) (x : ClosePhase) → (after_step w t (Closes x) hook).words.count ≡ w.words.count
-close_counts w t hook (LoadsFile x) = (tree_counts w hook (LoadsFile x) refl).count_same
-close_counts w t hook (LowersCount x node) = refl
-close_counts w t hook (Enters file node r) = read_counts w t hook r r.step
-close_counts w t hook (FreesNode file p node) = refl
-close_counts w t hook (RefundsBlocks p blocks) = refl
-close_counts w t hook (Uncounts p) = refl
-close_counts w t hook (Leaves p) = refl
-
--- and those of a level, where nobody is counted there before and after it
-close_level_quiet : (c : Config) (w : World) → IsGood c w → (t : ℕ) → t < c.tasks → (hook : HookAnswer) (i : ℕ) (x : ClosePhase) →
-    (w.views t).phase ≡ Some (Closes x) → all_inside c i w ≡ 0 → all_inside c i (after_step w t (Closes x) hook) ≡ 0 →
-    (after_step w t (Closes x) hook).words.level i ≡ w.words.level i
-close_level_quiet c w good t lt hook i (LoadsFile x) e before after = refl
-close_level_quiet c w good t lt hook i (LowersCount x node) e before after = refl
-close_level_quiet c w good t lt hook i (Enters file node r) e before after =
-    let b : IsBeside (w.views t).phase (Some (DownReads r)) × IsGood c (rephased w t (Some (DownReads r))) =
-    beside_reads c w good t lt file node r e in
-    let n : Next DownRead = (down_read_after r r.step (found_at w.words (DownReads r) hook)).0 in
-    beside_level_quiet c w t lt hook (DownReads r) b.0 b.1 (map_next Closes (then_frees file node r.cpu n)) (beside_enters file r.cpu node n) i
-    (λ g at. (read_phase c r).level_quiet (rephased w t (Some (DownReads r))) g t lt hook i at) before after
-close_level_quiet c w good t lt hook i (FreesNode file p node) e before after = refl
-close_level_quiet c w good t lt hook i (RefundsBlocks p blocks) e before after = refl
-close_level_quiet c w good t lt hook i (Uncounts p) e before after = refl
-close_level_quiet c w good t lt hook i (Leaves p) e before after =
-    let q : Phase = UpReads (leaves_on p) in
-    let b : IsBeside (w.views t).phase (Some q) × IsGood c (rephased w t (Some q)) = beside_ends c w good t lt p e in
-    beside_level_quiet c w t lt hook q b.0 b.1 (Done (Ok UnitReply)) beside_none i
-    (λ g at. (end_phase c (leaves_on p)).level_quiet (rephased w t (Some q)) g t lt hook i at) before after
 
 -- its cause stays while others step
 close_stays : (c : Config) (t : ℕ) (w next : World) (earlier : List World) (x : ClosePhase) → (next.views t).phase ≡ Some (Closes x) →
@@ -161,12 +130,10 @@ close_phase c x = record {
   step = λ lim w good t lt hook e. close_keeps c lim w good t lt hook x e;
   runs = λ lim w good t lt hook e i one three. close_runs c lim w good t lt hook x e i one three;
   completes = λ lim w good t lt hook e. completes_none c w t hook (Closes x) (λ trace found. refl);
-  word = λ lim n le t lt held levels hook f. close_there c lim n le t lt held levels hook x f;
+  word = λ n le t lt held levels hook f. close_there c n le t lt held levels hook x f;
   acts = λ lim t held levels found hook f. close_acts c lim t held levels x found f;
   goes = λ lim t held levels found hook f. close_goes c t held levels x found f;
   agrees = λ t f g h k mounts levels fits. close_agrees c t f g h k mounts levels x fits;
-  quiet = λ w good t lt hook m e before after. ap (λ f. f m) (close_counts w t hook x);
-  level_quiet = λ w good t lt hook i e before after. close_level_quiet c w good t lt hook i x e before after;
   stays = λ w next earlier good t f e was quiet h. close_stays c t w next earlier x e h;
   causes = λ w earlier good t lt hook e after is h. close_causes c w earlier good t hook x (close_fits_now c w good t lt hook x e) e is h;
   waits = λ lim w earlier good t lt hook e cause. close_waits c w earlier t hook x cause;

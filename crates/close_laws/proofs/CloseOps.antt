@@ -21,12 +21,7 @@ close_op_from c file p wait tells short = record {
       let at : (nat_lt file c.nodes ≡ true) × (nat_lt p c.processors ≡ true) =
       both_true (nat_lt file c.nodes) (nat_lt p c.processors) there in
       (ltb-true file c.nodes at.0, ltb-true p c.processors at.1, refl, order);
-  no_role = λ t y. refl;
-  steady = λ t. record { owns_same = refl; remounts_same = refl; closing_same = λ j. refl };
-  aside = λ t. refl;
-  counts_not = λ t j. refl;
-  apart = λ t j. refl;
-  outside = λ t. refl;
+  starts_idle = λ t. assumption;
   off_tree = λ t trace. refl;
   cause = λ t w earlier. tt;
   order_agrees = λ f g h k mounts levels there. none_from_agree h k levels 3;

@@ -3,8 +3,7 @@
 use Rattle.std.proofs.Common.{◌≡◌, ℕ, ◌<◌, ◌⊎◌, Bool, true, refl, sym, ap, ◌∙◌, subst, inl, inr, arith}
 use Rattle.std.specs.Prelude.{◌==◌, Option, Some, None, Ok, Err, List}
 use Rattle.std.proofs.lemmas.Bool.{cases_Bool}
-use Rattle.std.proofs.Math.Path.{fun_ext}
-use Rattle.finite_sums.specs.Sums.{update, total}
+use Rattle.finite_sums.specs.Sums.{update}
 use Rattle.finite_sums.proofs.Totals.{each_updated, update_at}
 use Rattle.access_model.specs.declared.actions.Action.{Action}
 use Rattle.access_model.specs.declared.replies.Next.{Next}
@@ -17,8 +16,6 @@ use Rattle.cpu_words.specs.Words.{Words, read}
 use Rattle.gated_tree.specs.declared.nodes.NodeWord.{NodeWord}
 use Rattle.gated_tree.specs.Nodes.{opens_in}
 use Rattle.gated_tree.specs.Roles.{Out as OffTree, Freeing, TreeHolds, charge, removal, child_charge}
-use Rattle.gate_counts.specs.Gates.{counted as counted_of}
-use Rattle.gate_counts.specs.Levels.{LevelView, level_as_gate}
 use Rattle.level_laws.specs.Events.{SyncStep}
 use Rattle.percpu_rwsem.specs.declared.readers.DownRead.{DownRead}
 use Rattle.percpu_rwsem.specs.declared.readers.DownReadStep.{DownReadStep}
@@ -32,56 +29,35 @@ use Rattle.gate_world.specs.declared.views.View.{View}
 use Rattle.gate_world.specs.declared.views.Traced.{Traced}
 use Rattle.gate_world.specs.declared.work.Phase.{Phase}
 use Rattle.gate_world.specs.declared.work.Phase.TheVariants.{Closes, DownReads, UpReads}
-use Rattle.gate_world.specs.Alike.{at_phase, rephased}
-use Rattle.gate_world.specs.Causes.{all_inside}
+use Rattle.gate_world.specs.Alike.{IsBeside, at_phase, rephased}
 use Rattle.gate_world.specs.Configs.{IsWithin}
 use Rattle.gate_world.specs.Fits.{Fits, CloseFits, HasFile, file_of, mounts_by, levels_by, opens_by}
 use Rattle.gate_world.specs.LevelRuns.{level_in}
-use Rattle.gate_world.specs.Levels.{at_level, level_role_of, sync_role_of, inside}
-use Rattle.gate_world.specs.Rules.{IsGood, Holds, Fitting, Tree, Files, SameWords, StepKeeps, owns, remounts, role_of, Moves}
+use Rattle.gate_world.specs.Rules.{IsGood, Holds, Fitting, Tree, Files, SameWords, StepKeeps, Moves}
 use Rattle.gate_world.specs.Shown.{shown}
-use Rattle.gate_world.specs.Holders.{holder_role_of}
-use Rattle.gate_world.specs.Stages.{stage_role_of}
 use Rattle.gate_world.specs.Trees.{tree_bounds, tree_of, tree_roles, tree_role_of}
 use Rattle.gate_world.specs.Views.{held_at, holds_level, has_open, phase_after, view_with}
 use Rattle.gate_world.specs.Work.{next_of, after_of}
 use Rattle.gate_world.specs.Worlds.{World, found_at, words_after}
-use Rattle.stage_laws.specs.Roles.{sums}
 use Rattle.gate_frames.proofs.Accesses.{opens_of_after}
-use Rattle.gate_frames.proofs.Beside.{IsBeside, beside_of, made_keeps_beside, beside_good}
-use Rattle.gate_frames.proofs.Frames.{left_alone, level_view_as, opens_left}
-use Rattle.gate_frames.proofs.LevelSteps.{level_kept}
-use Rattle.gate_frames.proofs.Rephased.{made, made_again}
+use Rattle.gate_frames.proofs.Beside.{beside_of, made, made_keeps_beside, made_runs_beside, beside_good}
+use Rattle.gate_frames.proofs.Frames.{left_alone, opens_left}
 use Rattle.gate_frames.proofs.Trees.{tree_holds}
 use Rattle.tree_laws.proofs.Counts.{leaves}
 use Rattle.writer_laws.proofs.ReadKeeps.{read_phase, end_phase}
 use Rattle.close_laws.proofs.CloseFits.{enters_fits}
 
--- phases of which all but the tree and the open files read the same
-beside_as : {p q : Option Phase} → owns q ≡ owns p → remounts q ≡ remounts p → stage_role_of q ≡ stage_role_of p →
-    ((i : ℕ) → level_role_of i q ≡ level_role_of i p) → ((i : ℕ) → sync_role_of i q ≡ sync_role_of i p) → inside q ≡ inside p →
-    ((m : ℕ) → role_of m q ≡ role_of m p) → holder_role_of q ≡ holder_role_of p → IsBeside p q
-beside_as o r d l s i m h = record {
-  steady = record { owns_same = o; remounts_same = r; closing_same = λ j. ap (sums j) d };
-  stage_same = d;
-  holder_same = h;
-  level_same = l;
-  sync_same = s;
-  inside_same = i;
-  role_same = m;
-}
-
 -- what comes after an event at level 3 is beside what comes in its own operation
 pub beside_enters : (file p : ℕ) (node : NodeWord) (n : Next DownRead) →
     IsBeside (phase_after (map_next DownReads n)) (phase_after (map_next Closes (then_frees file node p n)))
-beside_enters file p node (Go r) = beside_as refl refl refl (λ i. refl) (λ i. refl) refl (λ m. refl) refl
-beside_enters file p node (Wait r) = beside_as refl refl refl (λ i. refl) (λ i. refl) refl (λ m. refl) refl
-beside_enters file p node (Done (Ok reply)) = beside_as refl refl refl (λ i. refl) (λ i. refl) refl (λ m. refl) refl
-beside_enters file p node (Done (Err refusal)) = beside_as refl refl refl (λ i. refl) (λ i. refl) refl (λ m. refl) refl
+beside_enters file p node (Go r) = assumption
+beside_enters file p node (Wait r) = assumption
+beside_enters file p node (Done (Ok reply)) = assumption
+beside_enters file p node (Done (Err refusal)) = assumption
 
 -- and nothing beside nothing
 pub beside_none : IsBeside None None
-beside_none = beside_as refl refl refl (λ i. refl) (λ i. refl) refl (λ m. refl) refl
+beside_none = assumption
 
 -- no event of a down-read touches a word of the tree
 read_tree : (w : Words) (r : DownRead) (s : DownReadStep) (hook : HookAnswer) → SameWords w (words_after w (DownReads (at_down_read r s)) hook) Tree
@@ -188,21 +164,6 @@ module _ (c : Config) (w : World) (good : IsGood c w) (t : ℕ) (lt : t < c.task
         made_keeps_beside c w t lt (Some q) (next_of q hook) hook plain_after coming plain_action good before fits tree files law after fit
         tree_then files_then
 
--- with a phase that is beside, as much is counted at each level
-pub beside_inside : (c : Config) (w : World) (t : ℕ) (q : Option Phase) → IsBeside (w.views t).phase q → (i : ℕ) →
-    all_inside c i (rephased w t q) ≡ all_inside c i w
-beside_inside c w t q same i =
-    let there : at_level i (at_phase (w.views t) q) ≡ at_level i (w.views t) = level_view_as refl refl refl (same.level_same i) in
-    ap (total c.tasks) (fun_ext (λ x. each_updated
-    (λ y (u : View). counted_of (level_as_gate (at_level i u)) ≡ counted_of (level_as_gate (at_level i (w.views y)))) w.views t
-    (at_phase (w.views t) q) x (ap (λ (l : LevelView). counted_of (level_as_gate l)) there) (λ ne. refl)))
-
--- and each level is the same
-pub beside_level : (w : World) (t : ℕ) (q : Option Phase) → IsBeside (w.views t).phase q → (i : ℕ) →
-    level_in (rephased w t q) i ≡ level_in w i
-beside_level w t q same i =
-    level_kept w t i w.words (at_phase (w.views t) q) refl refl refl refl same.inside_same (same.sync_same i)
-
 -- its phase fits its accesses
 pub close_fits_now : (c : Config) (w : World) → IsGood c w → (t : ℕ) → t < c.tasks → (hook : HookAnswer) (x : ClosePhase) →
     (w.views t).phase ≡ Some (Closes x) → CloseFits c t (holds_level (w.views t)) x
@@ -225,7 +186,7 @@ module _ (c : Config) (lim : IsWithin c) (w : World) (good : IsGood c w) (t : �
       let opens : has_open v ≡ has_open (w.views t) =
       opens_of_after (down_read_after r r.step found).1 (w.views t).actions ∙ read_opens (has_open (w.views t)) r r.step found in
       let before : IsBeside (w.views t).phase (Some (DownReads r)) =
-      beside_of e (beside_as refl refl refl (λ i. refl) (λ i. refl) refl (λ m. refl) refl) in
+      beside_of e assumption in
       let same : SameWords w.words ws Tree = read_tree w.words r r.step hook in
       beside_step c w good t lt hook (DownReads r) before f.2
       (tree_left c w good t lt file node is w.words (at_phase (w.views t) (Some (DownReads r))) (refl, refl, refl, refl, refl, refl) refl)
@@ -249,7 +210,7 @@ module _ (c : Config) (lim : IsWithin c) (w : World) (good : IsGood c w) (t : �
       let v : View = view_with (w.views t) (next_of q hook) (read w.words (next_of q hook).0) hook
       (coming, (after_of q found hook).1) in
       let is : tree_roles w t ≡ OffTree = ap (tree_role_of (w.views t).trace) e in
-      let before : IsBeside (w.views t).phase (Some q) = beside_of e (beside_as refl refl refl (λ i. refl) (λ i. refl) refl (λ m. refl) refl) in
+      let before : IsBeside (w.views t).phase (Some q) = beside_of e assumption in
       beside_step c w good t lt hook q before (omega arith, omega arith, f.0, f.1)
       (left_alone c w t lt Tree w.words (at_phase (w.views t) (Some q)) (refl, refl, refl, refl, refl, refl) (sym is) (good Tree))
       (files_still c w good t lt w.words (at_phase (w.views t) (Some q)) refl refl tt)
@@ -275,32 +236,12 @@ module _ (c : Config) (w : World) (t : ℕ) (lt : t < c.tasks) (hook : HookAnswe
   stands_there : ((rephased w t (Some q)).views t).phase ≡ Some q
   stands_there = ap (λ (u : View). u.phase) (update_at w.views t (at_phase (w.views t) (Some q)))
 
-  there_after : IsBeside ((then_in (rephased w t (Some q)) own_next).views t).phase (phase_after coming)
-  there_after =
-      beside_of (ap (λ (u : View). u.phase) (update_at (rephased w t (Some q)).views t _)) after
-
   -- so the event is the same kind of event of each level
   pub beside_runs : (i : ℕ) → (IsGood c (rephased w t (Some q)) → ((rephased w t (Some q)).views t).phase ≡ Some q →
       SyncStep c.tasks (level_in (rephased w t (Some q)) i) (level_in (then_in (rephased w t (Some q)) own_next) i)) →
       SyncStep c.tasks (level_in w i) (level_in (then_in w coming) i)
   beside_runs i runs =
-      let there : World = then_in (rephased w t (Some q)) own_next in
-      let same : level_in there i ≡ level_in (then_in w coming) i =
-      sym (beside_level there t (phase_after coming) there_after i) ∙
-      ap (λ y. level_in y i) (made_again c w t lt (Some q) (next_of q hook) hook own_next coming own_action) in
-      subst (λ l. SyncStep c.tasks l (level_in (then_in w coming) i)) (beside_level w t (Some q) before i)
-      (subst (SyncStep c.tasks (level_in (rephased w t (Some q)) i)) same (runs good stands_there))
-
-  -- and where nothing is counted at a level before it and after it, it leaves the counts
-  pub beside_level_quiet : (i : ℕ) → (IsGood c (rephased w t (Some q)) → ((rephased w t (Some q)).views t).phase ≡ Some q →
-      all_inside c i (rephased w t (Some q)) ≡ 0 → all_inside c i (then_in (rephased w t (Some q)) own_next) ≡ 0 →
-      (then_in w own_next).words.level i ≡ w.words.level i) → all_inside c i w ≡ 0 → all_inside c i (then_in w coming) ≡ 0 →
-      (then_in w own_next).words.level i ≡ w.words.level i
-  beside_level_quiet i quiet a b =
-      let there : World = then_in (rephased w t (Some q)) own_next in
-      quiet good stands_there (beside_inside c w t (Some q) before i ∙ a)
-      (sym (beside_inside c there t (phase_after coming) there_after i) ∙
-      ap (all_inside c i) (made_again c w t lt (Some q) (next_of q hook) hook own_next coming own_action) ∙ b)
+      made_runs_beside c w t lt (Some q) (next_of q hook) hook own_next coming own_action i before (runs good stands_there) after
 
 -- the worlds in which a close at level 3 stands at the level's phase: the rule holds there
 module _ (c : Config) (w : World) (good : IsGood c w) (t : ℕ) (lt : t < c.tasks) where
@@ -311,7 +252,7 @@ module _ (c : Config) (w : World) (good : IsGood c w) (t : ℕ) (lt : t < c.task
       subst (Fits c t (held_at (w.views t)) (holds_level (w.views t))) e (good Fitting t lt) in
       let is : tree_roles w t ≡ Freeing file node = ap (tree_role_of (w.views t).trace) e in
       let before : IsBeside (w.views t).phase (Some (DownReads r)) =
-      beside_of e (beside_as refl refl refl (λ i. refl) (λ i. refl) refl (λ m. refl) refl) in (
+      beside_of e assumption in (
         before,
         beside_good c w t lt (Some (DownReads r)) before f.2 good
             (tree_left c w good t lt file node is w.words (at_phase (w.views t) (Some (DownReads r))) (refl, refl, refl, refl, refl, refl) refl)
@@ -325,7 +266,7 @@ module _ (c : Config) (w : World) (good : IsGood c w) (t : ℕ) (lt : t < c.task
       subst (Fits c t (held_at (w.views t)) (holds_level (w.views t))) e (good Fitting t lt) in
       let is : tree_roles w t ≡ OffTree = ap (tree_role_of (w.views t).trace) e in
       let q : Phase = UpReads (leaves_on p) in
-      let before : IsBeside (w.views t).phase (Some q) = beside_of e (beside_as refl refl refl (λ i. refl) (λ i. refl) refl (λ m. refl) refl) in (
+      let before : IsBeside (w.views t).phase (Some q) = beside_of e assumption in (
         before,
         beside_good c w t lt (Some q) before (omega arith, omega arith, f.0, f.1) good
             (left_alone c w t lt Tree w.words (at_phase (w.views t) (Some q)) (refl, refl, refl, refl, refl, refl) (sym is) (good Tree))

@@ -53,7 +53,7 @@ use Rattle.gate_world.specs.Work.{next_of, after_of}
 use Rattle.gate_world.specs.Worlds.{World, Entry, Begins, Steps, after_step, begin_refusal, begin_of, step_of, happens, opening, value_at, found_at, words_after}
 use Rattle.cpu_words.specs.declared.names.WordName.TheVariants.{Holders}
 use Rattle.gate_frames.proofs.Holders.{holders_at}
-use Rattle.gate_core.proofs.Schedule.{begins_apart}
+use Rattle.gate_core.proofs.Layers.{op_keeps}
 
 -- 1 for what is so
 abbrev bit : Bool → ℕ
@@ -237,7 +237,7 @@ begin_told : (c : Config) (w : World) (t : ℕ) (op : Op) (refused : Option Gate
 begin_told c w t op (Some refused) told x = told x
 begin_told c w t op None told x =
     each_updated (λ y (v : View). IsTold v.phase v.trace) w.views t (begun_view (w.views t) op (first_phase c t op)) x
-    (ap between (begins_apart c t op) ∙ ap bit (sym (none_yet (first_phase c t op)))) (λ ne. told x)
+    (ap between ((op_keeps c op).starts_idle t).holder_same ∙ ap bit (sym (none_yet (first_phase c t op)))) (λ ne. told x)
 
 -- each entry keeps it
 pub entry_told : (c : Config) (w : World) (e : Entry) → IsGood c w → IsGood c (happens c w e) → AllTold w → AllTold (happens c w e)

@@ -1,5 +1,5 @@
 -- Each entry, and so each schedule, keeps what is said of the causes of refusals.
-use Rattle.std.proofs.Common.{◌≡◌, ℕ, ◌<◌, refl, sym, ap, subst, inl, inr}
+use Rattle.std.proofs.Common.{◌≡◌, ℕ, ◌<◌, refl, sym, ap, subst, inl, inr, arith}
 use Rattle.std.specs.Prelude.{nat_lt, Option, Some, None, List, [], ◌∷◌}
 use Rattle.std.proofs.lemmas.Bool.{ltb-true, cases_Bool}
 use Rattle.std.proofs.lemmas.Bool.Decides.{eqb_tells}
@@ -16,7 +16,11 @@ use Rattle.gate_world.specs.Beginnings.{first_phase, view_refusal}
 use Rattle.gate_world.specs.Worlds.{World, Entry, Begins, Steps, after_begin, begin_of, after_step, step_of, value_at, happens, run}
 use Rattle.gate_world.specs.Rules.{IsGood, Fitting}
 use Rattle.gate_world.specs.Causes.{trail, since_begun, HasCause}
-use Rattle.gate_frames.proofs.Keeps.{IsQuiet}
+use Rattle.gate_frames.proofs.Keeps.{IsQuiet, extents_touched}
+use Rattle.gate_frames.proofs.Quiet.{write_quiet}
+use Rattle.gate_world.specs.Work.{next_of}
+use Rattle.cpu_words.specs.Names.{IsWord}
+use Rattle.cpu_words.specs.Touches.{left}
 use Rattle.gate_world.specs.KeptCauses.{CauseOf, Causes}
 use Rattle.gate_core.proofs.Layers.{phase_keeps, op_keeps}
 
@@ -60,10 +64,14 @@ module _ (c : Config) (w : World) (earlier : List World) (good : IsGood c w) (ho
             let there : CauseOf c u next (since_begun u (w ∷ earlier)) (next.views u).phase =
             subst (λ (ws : List World). CauseOf c u next ws (next.views u).phase) (sym (begun_on u w earlier phase e)) own in
             subst (λ y. CauseOf c y next (since_begun y (w ∷ earlier)) (next.views y).phase) (sym h.1) there
-        | inr h ↦ alone next after t lt (record {
-          mounts = λ m a b. (phase_keeps c phase).quiet w good u lu hook m e a b;
-          levels = λ i a b. (phase_keeps c phase).level_quiet w good u lu hook i e a b;
-        }) (update_off w.views u v t h.1)
+        | inr h ↦
+            let fits : Fits c u (held_at (w.views u)) (holds_level (w.views u)) (Some phase) =
+            subst (Fits c u (held_at (w.views u)) (holds_level (w.views u))) e (good Fitting u lu) in
+            let there : IsWord (extents_touched c.tasks c) (next_of phase hook).0 =
+            (phase_keeps c phase).word c.tasks (omega arith) u lu (held_at (w.views u)) (holds_level (w.views u)) hook fits in
+            alone next after t lt
+            (write_quiet c w good next.views (left (next_of phase hook).1 (value_at w.words phase hook)) (next_of phase hook).0 there after)
+            (update_off w.views u v t h.1)
       ]
 
   first_causes : (u : ℕ) (op : Op) (next : World) → CauseOf c u next (since_begun u (w ∷ earlier)) (Some (first_phase c u op))

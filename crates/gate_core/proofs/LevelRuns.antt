@@ -40,7 +40,8 @@ module _ (c : Config) (lim : IsWithin c) (i : ℕ) (one : 1 ≤ i) (three : i �
       (may_begin c (is_some (w.views t).phase) (held_at (w.views t)) (holds_level (w.views t)) (has_open (w.views t)) op e).idle in
       still w (begin_of c w t op None)
       (level_kept w t i w.words (begun_view (w.views t) op (first_phase c t op)) refl refl refl refl
-      ((op_keeps c op).outside t ∙ sym (ap inside idle)) ((op_keeps c op).apart t i ∙ sym (ap (sync_role_of i) idle)))
+      (((op_keeps c op).starts_idle t).inside_same ∙ sym (ap inside idle))
+      (((op_keeps c op).starts_idle t).sync_same i ∙ sym (ap (sync_role_of i) idle)))
 
   -- an event is a step of its task
   steps : (w : World) → IsGood c w → (t : ℕ) → t < c.tasks → (hook : HookAnswer) (p : Option Phase) → (w.views t).phase ≡ p →

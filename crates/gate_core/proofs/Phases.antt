@@ -11,6 +11,7 @@ use Rattle.gate_world.specs.Configs.{IsWithin, extents_kept, extents_among}
 use Rattle.gate_world.specs.Views.{phase_after}
 use Rattle.gate_world.specs.Work.{next_of, after_of}
 use Rattle.gate_world.specs.Fits.{PhaseFits, Fits, ActionFits, mounts_by, levels_by}
+use Rattle.gate_frames.proofs.Keeps.{word_kept}
 use Rattle.gate_frames.proofs.Places.{few_among}
 use Rattle.gate_core.proofs.Layers.{phase_keeps}
 
@@ -18,14 +19,14 @@ module _ (c : Config) (within : IsWithin c) (t : ℕ) (held : ℕ → ℕ) (leve
   -- the word of its next event is there
   pub word_there : t < c.tasks → (phase : Phase) (hook : HookAnswer) → PhaseFits c t held levels phase →
       IsWord (extents_kept c) (next_of phase hook).0
-  word_there lt phase hook f = (phase_keeps c phase).word within c.tasks (omega arith) t lt held levels hook f
+  word_there lt phase hook f = word_kept c within c.tasks _ ((phase_keeps c phase).word c.tasks (omega arith) t lt held levels hook f)
 
   -- and has a place, whatever number within the limits the task has
   pub word_placed : t < 64 → (phase : Phase) (hook : HookAnswer) → PhaseFits c t held levels phase →
       place (next_of phase hook).0 < words_in_all
   word_placed lt phase hook f =
       place_small (extents_among 64 c) (few_among c within) (next_of phase hook).0
-      ((phase_keeps c phase).word within 64 within.tasks t lt held levels hook f)
+      (word_kept c within 64 _ ((phase_keeps c phase).word 64 within.tasks t lt held levels hook f))
 
   -- the action of the event can be done
   pub action_fits : (phase : Phase) (found : ℕ) (hook : HookAnswer) → PhaseFits c t held levels phase →

@@ -1,8 +1,5 @@
 -- Every schedule keeps the rule, and its actions are one run of the access model.
-use Rattle.holder_laws.specs.Roles.{Apart}
 use Rattle.holder_laws.proofs.HolderLaws.{opens as holders_open}
-use Rattle.gate_world.specs.Holders.{holder_role_of}
-use Rattle.gate_world.specs.declared.operations.Op.TheVariants.{Want, DropMount, ChangeMount, RemountSb, Start, End, WantWrite, DropWrite, Callback, Freeze, Thaw, Create, Remove, Grow, MoveTo, Fault, Flush, Snapshot, Open, Close}
 use Rattle.gate_world.specs.Owners.{KnowsWords}
 use Rattle.std.proofs.Common.{◌≡◌, ℕ, ◌*◌, ◌%◌, ◌<◌, ◌≤◌, Bool, true, false, refl, sym, ap, ◌∙◌, subst, inl, inr, arith, true≢false}
 use Rattle.std.specs.Prelude.{nat_lt, ◌&&◌, is_some, Option, Some, None, List, [], ◌∷◌}
@@ -32,7 +29,7 @@ use Rattle.gate_world.specs.Worlds.{World, Entry, Begins, Steps, after_begin, be
 use Rattle.gate_world.specs.Shown.{shown}
 use Rattle.gate_counts.specs.Gates.{below, counted as counted_of}
 use Rattle.gate_counts.specs.Levels.{level_as_gate, processor_of as level_processor}
-use Rattle.gate_world.specs.Rules.{role_of, at_mount, MountHoldsIn, LevelHoldsIn, IsSteady, ViewFits, Part, Owner, Stages, Holding, Fitting, AtMount, Holds, IsGood, Moves, owns, Known, Tree, Files, AtLevel, SyncAt, Sections}
+use Rattle.gate_world.specs.Rules.{role_of, at_mount, MountHoldsIn, LevelHoldsIn, ViewFits, Part, Owner, Stages, Holding, Fitting, AtMount, Holds, IsGood, Moves, owns, Known, Tree, Files, AtLevel, SyncAt, Sections}
 use Rattle.gate_world.specs.Fits.{HasFile, file_of}
 use Rattle.gated_tree.specs.Nodes.{opens_in}
 use Rattle.gate_world.specs.Headline.{SumsHold, IdleSumsHold}
@@ -40,12 +37,12 @@ use Rattle.gate_core.proofs.Layers.{phase_keeps, op_keeps}
 use Rattle.gate_core.proofs.Beginnings.{MayBegin, may_begin, first_fits}
 use Rattle.gate_frames.proofs.Frames.{view_as, left_alone, opens_left, shown_still, level_view_as}
 use Rattle.gate_frames.proofs.Trees.{tree_within}
-use Rattle.gate_frames.proofs.Loads.{steady}
+use Rattle.gate_frames.proofs.Beside.{beside_of}
+use Rattle.gate_world.specs.Alike.{IsBeside}
 use Rattle.tree_laws.proofs.Each.{opening_holds}
-use Rattle.gate_world.specs.Levels.{inside, at_level, level_role_of, sync_role_of}
+use Rattle.gate_world.specs.Levels.{at_level, level_role_of}
 use Rattle.level_laws.proofs.Whole.{opening_is_right}
 use Rattle.stage_laws.proofs.Whole.{opening_is_right as stages_open}
-use Rattle.gate_world.specs.Stages.{stage_role_of}
 use Rattle.gate_world.specs.Trees.{tree_bounds, tree_role_of}
 
 pub both : (a b : Bool) → (a && b) ≡ true → (a ≡ true) × (b ≡ true)
@@ -60,51 +57,30 @@ idle_is (Some phase) h = absurd (true≢false h)
 abbrev pub MayBeginAt : Config → View → Op → Type 0
 MayBeginAt c v op = MayBegin c (is_some v.phase) (held_at v) (holds_level v) (has_open v) op
 
--- no operation begins with the holders
-pub begins_apart : (c : Config) (t : ℕ) (op : Op) → holder_role_of (Some (first_phase c t op)) ≡ Apart
-begins_apart c t (Want m p wait) = refl
-begins_apart c t (DropMount m p) = refl
-begins_apart c t (ChangeMount m read_only wait) = refl
-begins_apart c t (RemountSb read_only) = refl
-begins_apart c t (Start i p wait) = refl
-begins_apart c t (End i p) = refl
-begins_apart c t (WantWrite m p) = refl
-begins_apart c t (DropWrite m p) = refl
-begins_apart c t (Callback i) = refl
-begins_apart c t (Freeze holder) = refl
-begins_apart c t (Thaw holder) = refl
-begins_apart c t (Create d kind) = refl
-begins_apart c t (Remove file) = refl
-begins_apart c t (Grow file blocks) = refl
-begins_apart c t (MoveTo file d) = refl
-begins_apart c t (Fault file) = refl
-begins_apart c t (Flush file) = refl
-begins_apart c t (Snapshot wait) = refl
-begins_apart c t (Open file) = refl
-begins_apart c t (Close file cpu wait) = refl
-
 module _ (c : Config) (lim : IsWithin c) (w : World) (good : IsGood c w) (t : ℕ) (lt : t < c.tasks) where
   pub step_keeps : (hook : HookAnswer) (p : Option Phase) → (w.views t).phase ≡ p →
       IsGood c (step_of w t hook p) × Moves c (shown c w) t (phase_action w hook p) (shown c (step_of w t hook p))
   step_keeps hook None e = (good, refl)
   step_keeps hook (Some phase) e = (phase_keeps c phase).step lim w good t lt hook e
 
-  -- a beginning leaves each part of the rule but that of its own phase
+  -- an operation that begins stands as its idle task did
+  begins_beside : (op : Op) → MayBeginAt c (w.views t) op → IsBeside (w.views t).phase (Some (first_phase c t op))
+  begins_beside op h = beside_of (idle_is (w.views t).phase h.idle) ((op_keeps c op).starts_idle t)
+
+  -- so a beginning leaves each part of the rule but that of its own phase
   begun_good : (op : Op) → MayBeginAt c (w.views t) op → (part : Part) → Holds c (after_begin c w t op) part
   begun_good op h Fitting = λ x lx. each_updated (λ y (u : View). ViewFits c y u) w.views t
       (begun_view (w.views t) op (first_phase c t op)) x (first_fits c t (is_some (w.views t).phase) (held_at (w.views t))
       (holds_level (w.views t)) (has_open (w.views t)) op h) (λ ne. good Fitting x lx)
   begun_good op h Owner =
-      let same : IsSteady (w.views t).phase (Some (first_phase c t op)) =
-      steady (idle_is (w.views t).phase h.idle) ((op_keeps c op).steady t) in
-      left_alone c w t lt Owner w.words (begun_view (w.views t) op (first_phase c t op)) (refl, refl) (same.owns_same, same.remounts_same)
-      (good Owner)
+      left_alone c w t lt Owner w.words (begun_view (w.views t) op (first_phase c t op)) (refl, refl)
+      ((begins_beside op h).steady.owns_same, (begins_beside op h).steady.remounts_same) (good Owner)
   begun_good op h Stages =
       left_alone c w t lt Stages w.words (begun_view (w.views t) op (first_phase c t op)) (refl, refl, refl, refl)
-      ((op_keeps c op).aside t ∙ sym (ap stage_role_of (idle_is (w.views t).phase h.idle))) (good Stages)
+      (begins_beside op h).stage_same (good Stages)
   begun_good op h Holding =
-      left_alone c w t lt Holding w.words (begun_view (w.views t) op (first_phase c t op)) (refl, refl)
-      (begins_apart c t op ∙ sym (ap holder_role_of (idle_is (w.views t).phase h.idle))) (good Holding)
+      left_alone c w t lt Holding w.words (begun_view (w.views t) op (first_phase c t op)) (refl, refl) (begins_beside op h).holder_same
+      (good Holding)
   begun_good op h Tree =
       left_alone c w t lt Tree w.words (begun_view (w.views t) op (first_phase c t op)) (refl, refl, refl, refl, refl, refl)
       ((op_keeps c op).off_tree t [] ∙ sym (ap (tree_role_of (w.views t).trace) (idle_is (w.views t).phase h.idle))) (good Tree)
@@ -120,24 +96,22 @@ module _ (c : Config) (lim : IsWithin c) (w : World) (good : IsGood c w) (t : �
       (λ o word value k. absurd (true≢false (ap is_some (sym k)))) (λ ne. good Known x lx)
   begun_good op h (AtLevel i) =
       left_alone c w t lt (AtLevel i) w.words (begun_view (w.views t) op (first_phase c t op)) (refl, refl, refl)
-      (level_view_as refl refl refl ((op_keeps c op).counts_not t i ∙ sym (ap (level_role_of i) (idle_is (w.views t).phase h.idle))))
-      (good (AtLevel i))
+      (level_view_as refl refl refl ((begins_beside op h).level_same i)) (good (AtLevel i))
   begun_good op h (SyncAt i) =
       left_alone c w t lt (SyncAt i) w.words (begun_view (w.views t) op (first_phase c t op)) (refl, refl, refl, refl)
-      ((op_keeps c op).apart t i ∙ sym (ap (sync_role_of i) (idle_is (w.views t).phase h.idle))) (good (SyncAt i))
+      ((begins_beside op h).sync_same i) (good (SyncAt i))
   begun_good op h Sections =
-      left_alone c w t lt Sections w.words (begun_view (w.views t) op (first_phase c t op)) refl
-      ((op_keeps c op).outside t ∙ sym (ap inside (idle_is (w.views t).phase h.idle))) (good Sections)
+      left_alone c w t lt Sections w.words (begun_view (w.views t) op (first_phase c t op)) refl (begins_beside op h).inside_same
+      (good Sections)
   begun_good op h (AtMount m) =
       left_alone c w t lt (AtMount m) w.words (begun_view (w.views t) op (first_phase c t op)) (refl, refl, refl, refl)
-      (view_as refl refl refl ((op_keeps c op).no_role t m ∙ sym (ap (role_of m) (idle_is (w.views t).phase h.idle))))
-      (good (AtMount m))
+      (view_as refl refl refl ((begins_beside op h).role_same m)) (good (AtMount m))
 
   pub begun_keeps : (op : Op) → MayBeginAt c (w.views t) op → IsGood c (after_begin c w t op) × (shown c (after_begin c w t op) ≡ shown c w)
   begun_keeps op h = (
     begun_good op h,
     shown_still c w t lt w.words (begun_view (w.views t) op (first_phase c t op)) refl refl refl refl refl refl refl
-        (steady (idle_is (w.views t).phase h.idle) ((op_keeps c op).steady t)).closing_same refl refl refl,
+        (begins_beside op h).steady.closing_same refl refl refl,
   )
 
 module _ (c : Config) (lim : IsWithin c) where

@@ -1,13 +1,17 @@
 -- An operation that stands at a phase of another one, and relies on something at the tree meanwhile, as a last close does inside level 3:
 -- the law of the other's event is the law of its event, but for the tree and the open files, which the event leaves alone.
-use Rattle.std.proofs.Common.{◌≡◌, ℕ, ◌<◌, refl, sym, ap, ◌∙◌, subst}
+use Rattle.std.proofs.Common.{◌≡◌, ℕ, ◌<◌, refl, sym, ap, ◌∙◌, subst, inl, inr}
 use Rattle.std.specs.Prelude.{Option}
-use Rattle.finite_sums.proofs.Totals.{update_at, each_updated}
+use Rattle.std.proofs.Math.Path.{fun_ext}
+use Rattle.std.proofs.lemmas.Bool.Decides.{eqb_tells}
+use Rattle.finite_sums.specs.Sums.{update}
+use Rattle.finite_sums.proofs.Totals.{update_at, update_off, each_updated}
 use Rattle.access_model.specs.declared.actions.Action.{Action}
 use Rattle.access_model.specs.declared.replies.Next.{Next}
 use Rattle.cpu_words.specs.declared.names.WordName.{WordName}
 use Rattle.cpu_words.specs.declared.events.Touch.{Touch}
-use Rattle.cpu_words.specs.Words.{read}
+use Rattle.cpu_words.specs.Touches.{left}
+use Rattle.cpu_words.specs.Words.{read, put}
 use Rattle.cpu_words.specs.Hooks.{HookAnswer}
 use Rattle.gate_world.specs.declared.config.Config.{Config}
 use Rattle.gate_world.specs.declared.work.Phase.{Phase}
@@ -16,25 +20,13 @@ use Rattle.gate_world.specs.Views.{held_at, holds_level, phase_after, view_with}
 use Rattle.gate_world.specs.Fits.{Fits, mounts_by, levels_by}
 use Rattle.gate_world.specs.Worlds.{World}
 use Rattle.gate_world.specs.Shown.{shown}
-use Rattle.gate_world.specs.Stages.{stage_role_of}
-use Rattle.gate_world.specs.Holders.{holder_role_of}
-use Rattle.gate_world.specs.Levels.{level_role_of, sync_role_of, inside}
-use Rattle.gate_world.specs.Rules.{ViewFits, Part, Owner, Stages, Holding, Fitting, Known, AtMount, Holds, IsGood, IsSteady, Moves, Tree, Files, AtLevel, SyncAt, Sections, role_of}
-use Rattle.gate_world.specs.Alike.{at_phase, rephased}
+use Rattle.gate_world.specs.Rules.{ViewFits, Part, Owner, Stages, Holding, Fitting, Known, AtMount, Holds, IsGood, Moves, Tree, Files, AtLevel, SyncAt, Sections}
+use Rattle.gate_world.specs.Alike.{IsBeside, at_phase, rephased}
+use Rattle.gate_world.specs.LevelRuns.{level_in}
+use Rattle.level_laws.specs.Events.{SyncStep}
 use Rattle.gate_frames.proofs.Frames.{view_as, shown_still, left_alone, level_view_as}
-use Rattle.gate_frames.proofs.Rephased.{made, made_again}
+use Rattle.gate_frames.proofs.LevelSteps.{level_kept}
 use Rattle.gate_frames.proofs.Accesses.{mounts_of_after, levels_of_after}
-
--- all that the rule and the shown model read of a phase is the same of both, but for what it does at the tree, the file that it relies on and
--- the accesses that it asks for
-pub record IsBeside (p q : Option Phase) : Type 0 where
-  pub steady : IsSteady p q
-  pub stage_same : stage_role_of q ≡ stage_role_of p
-  pub holder_same : holder_role_of q ≡ holder_role_of p
-  pub level_same : (i : ℕ) → level_role_of i q ≡ level_role_of i p
-  pub sync_same : (i : ℕ) → sync_role_of i q ≡ sync_role_of i p
-  pub inside_same : inside q ≡ inside p
-  pub role_same : (m : ℕ) → role_of m q ≡ role_of m p
 
 -- what is beside a phase is beside the same phase
 pub beside_of : {p q r : Option Phase} → p ≡ q → IsBeside q r → IsBeside p r
@@ -72,14 +64,53 @@ module _ (c : Config) (w : World) (t : ℕ) (lt : t < c.tasks) (q : Option Phase
       Holds c (rephased w t q) Files → IsGood c (rephased w t q)
   beside_good fits good tree files = beside_part fits good tree files
 
-  -- and the shown model is the same
+  -- the shown model is the same
   pub beside_shown : shown c (rephased w t q) ≡ shown c w
   beside_shown = shown_still c w t lt w.words (at_phase (w.views t) q) refl refl refl refl refl refl refl same.steady.closing_same refl refl refl
+
+-- and so is each level
+pub beside_level : (w : World) (t : ℕ) (q : Option Phase) → IsBeside (w.views t).phase q → (i : ℕ) →
+    level_in (rephased w t q) i ≡ level_in w i
+beside_level w t q same i =
+    level_kept w t i w.words (at_phase (w.views t) q) refl refl refl refl same.inside_same (same.sync_same i)
+
+-- of two values put at one place the later one stands
+pub update_twice : {A : Type 0} (f : ℕ → A) (t : ℕ) (u v : A) → update (update f t u) t v ≡ update f t v
+update_twice f t u v =
+    fun_ext (λ x. elim (eqb_tells x t) [
+      | inl h ↦ rw (h.0, update)
+      | inr h ↦ update_off (update f t u) t v x h.1 ∙ (update_off f t u x h.1 ∙ sym (update_off f t v x h.1))
+    ])
+
+-- the world after an event of this word and touch, after which this comes
+abbrev pub made : World → ℕ → WordName × Touch → HookAnswer → Next Phase → Option Action → World
+made w t n hook coming action = record {
+  words = put w.words n.0 (left n.1 (read w.words n.0));
+  views = update w.views t (view_with (w.views t) n (read w.words n.0) hook (coming, action));
+}
 
 -- an event of a task that stands at one phase, and of the same task at another phase that is beside it
 module _ (c : Config) (w : World) (t : ℕ) (lt : t < c.tasks) (p : Option Phase) (n : WordName × Touch) (hook : HookAnswer)
     (a b : Next Phase) (action : Option Action) where
-  -- what the law of the first says of the rule and of the shown model, it says of the second, where the tree and the open files hold with the
+  -- the event of the first, done again at the second's phases, is the event of the second
+  pub made_again : rephased (made (rephased w t p) t n hook a action) t (phase_after b) ≡ made w t n hook b action
+  made_again =
+      let v : View = at_phase (w.views t) p in
+      let u : View = view_with v n (read w.words n.0) hook (a, action) in
+      let there : update w.views t v t ≡ v = update_at w.views t v in
+      let once : update (update w.views t v) t (view_with (update w.views t v t) n (read w.words n.0) hook (a, action)) ≡ update w.views t u
+      =
+      ap (λ x. update (update w.views t v) t (view_with x n (read w.words n.0) hook (a, action))) there ∙ update_twice w.views t v u in
+      let again : update (update w.views t u) t (at_phase (update w.views t u t) (phase_after b)) ≡ update w.views t
+      (at_phase u (phase_after b)) =
+      ap (λ x. update (update w.views t u) t (at_phase x (phase_after b))) (update_at w.views t u) ∙
+      update_twice w.views t u (at_phase u (phase_after b)) in
+      λ j. record {
+        words = put w.words n.0 (left n.1 (read w.words n.0));
+        views = (ap (λ f. update f t (at_phase (f t) (phase_after b))) once ∙ again) j;
+      }
+
+  -- so what the law of the first says of the rule and of the shown model, it says of the second, where the tree and the open files hold with the
   -- first phase before the event, and with the second's after it
   pub made_keeps_beside : IsGood c w → IsBeside (w.views t).phase p → Fits c t (held_at (w.views t)) (holds_level (w.views t)) p →
       Holds c (rephased w t p) Tree → Holds c (rephased w t p) Files →
@@ -95,7 +126,7 @@ module _ (c : Config) (w : World) (t : ℕ) (lt : t < c.tasks) (p : Option Phase
       let u : View = view_with v n (read w.words n.0) hook (a, action) in
       let first : World = rephased w t p in
       let there : World = made first t n hook a action in
-      let again : rephased there t (phase_after b) ≡ made w t n hook b action = made_again c w t lt p n hook a b action in
+      let again : rephased there t (phase_after b) ≡ made w t n hook b action = made_again in
       let l : IsGood c there × Moves c (shown c first) t action (shown c there) =
       law (beside_good c w t lt p before fits good tree files) (ap (λ (x : View). x.phase) (update_at w.views t v)) in
       let is : there.views t ≡ u = update_at first.views t _ ∙ ap (λ x. view_with x n (read w.words n.0) hook (a, action))
@@ -113,3 +144,14 @@ module _ (c : Config) (w : World) (t : ℕ) (lt : t < c.tasks) (p : Option Phase
             (subst (λ s. Moves c (shown c first) t action s) (sym (beside_shown c there t lt (phase_after b) same) ∙
             ap (shown c) again) l.1),
       )
+
+  -- and where the event of the first is one of this level's, so is that of the second
+  pub made_runs_beside : (i : ℕ) → IsBeside (w.views t).phase p →
+      SyncStep c.tasks (level_in (rephased w t p) i) (level_in (made (rephased w t p) t n hook a action) i) →
+      IsBeside (phase_after a) (phase_after b) → SyncStep c.tasks (level_in w i) (level_in (made w t n hook b action) i)
+  made_runs_beside i before runs after =
+      let there : World = made (rephased w t p) t n hook a action in
+      let is : (there.views t).phase ≡ phase_after a = ap (λ (u : View). u.phase) (update_at (rephased w t p).views t _) in
+      subst (λ l. SyncStep c.tasks l (level_in (made w t n hook b action) i)) (beside_level w t p before i)
+      (subst (SyncStep c.tasks (level_in (rephased w t p) i))
+      (sym (beside_level there t (phase_after b) (beside_of is after) i) ∙ ap (λ y. level_in y i) made_again) runs)

@@ -1,14 +1,14 @@
 -- What the crate of an operation proves of it: of each of its phases, and of its beginning and its trace.
-use Rattle.cpu_words.specs.declared.names.WordName.TheVariants.{MountFlags, MountCount, Block, Sync, LevelCount, Section, Node, Kids, Umount, Stage, Holders, SbFlags, Remount, Used, Removed}
+use Rattle.cpu_words.specs.declared.names.WordName.TheVariants.{Section, Node, Kids}
 use Rattle.cpu_words.specs.declared.names.WordName.{WordName}
 use Rattle.access_model.specs.Histories.{mounts_of, levels_of, opens_of}
 use Rattle.gate_world.specs.Traces.{actions_of}
 use Rattle.std.specs.Prelude.{Err, ◌++◌}
 use Rattle.access_model.specs.declared.errors.GateError.{GateError}
 use Rattle.access_model.specs.declared.actions.Action.{Action}
-use Rattle.std.proofs.Common.{◌≡◌, ℕ, ◌<◌, ◌≤◌, Bool, true, false, arith}
+use Rattle.std.proofs.Common.{◌≡◌, ℕ, ◌<◌, ◌≤◌, Bool, true, false, arith, ◌+◌, ◌-◌}
 use Rattle.std.specs.Prelude.{Option, Some, None, List, ◌∷◌}
-use Rattle.cpu_words.specs.Names.{IsWord}
+use Rattle.cpu_words.specs.Names.{IsWord, Extents}
 use Rattle.cpu_words.specs.Hooks.{HookAnswer}
 use Rattle.gate_world.specs.declared.config.Config.{Config}
 use Rattle.gate_world.specs.declared.work.Phase.{Phase}
@@ -19,8 +19,8 @@ use Rattle.gate_world.specs.Views.{phase_after, held_at, holds_level}
 use Rattle.gate_world.specs.Work.{next_of, after_of}
 use Rattle.gate_world.specs.Operations.{holds_none, is_of_open, is_of_closed}
 use Rattle.gate_world.specs.Fits.{PhaseFits, Fits, ActionFits, mounts_by, levels_by, HasFile, file_of}
-use Rattle.gate_world.specs.Rules.{IsGood, StepKeeps, role_of, IsSteady}
-use Rattle.mount_counts.specs.Roles.{Out}
+use Rattle.gate_world.specs.Alike.{IsBeside}
+use Rattle.gate_world.specs.Rules.{IsGood, StepKeeps}
 use Rattle.gate_world.specs.Causes.{all_counted, all_inside, HasCause}
 use Rattle.gate_world.specs.KeptCauses.{CauseOf}
 use Rattle.gate_world.specs.Waits.{WaitsForAnother}
@@ -31,11 +31,6 @@ use Rattle.gate_world.specs.declared.operations.Op.{Op}
 use Rattle.gate_world.specs.declared.views.Traced.{Traced}
 use Rattle.gate_world.specs.Courses.{course_of, IsTrace}
 use Rattle.gate_world.specs.Traces.{Tells, IsShort, most_events}
-use Rattle.gate_world.specs.Stages.{stage_role_of}
-use Rattle.stage_laws.specs.Roles.{Aside}
-use Rattle.gate_counts.specs.Levels.{Out as CountsNot}
-use Rattle.level_laws.specs.Roles.{Out as IsApart}
-use Rattle.gate_world.specs.Levels.{inside, level_role_of, sync_role_of}
 use Rattle.gate_world.specs.LevelRuns.{level_in}
 use Rattle.level_laws.specs.Events.{SyncStep}
 
@@ -49,24 +44,22 @@ module _ (c : Config) (t : ℕ) (f g : ℕ → ℕ) (h k : ℕ → Bool) (mounts
   pub none_agree : holds_none h ≡ holds_none k
   none_agree = rw (levels 1 (omega arith) (omega arith), levels 2 (omega arith) (omega arith), levels 3 (omega arith) (omega arith))
 
--- a word that is there is kept, among more tasks, too
-pub word_among : (c : Config) → IsWithin c → (n : ℕ) → c.tasks ≤ n → (name : WordName) → IsWord (extents_of c) name →
-    IsWord (extents_among n c) name
-word_among c within n le Umount h = h
-word_among c within n le Stage h = h
-word_among c within n le Holders h = h
-word_among c within n le SbFlags h = h
-word_among c within n le Remount h = h
-word_among c within n le Removed h = h
-word_among c within n le (MountFlags m) h = h
-word_among c within n le (MountCount m p) h = h
-word_among c within n le (Block i) h = h
-word_among c within n le (Sync i) h = h
-word_among c within n le (LevelCount i p) h = h
-word_among c within n le (Section t) h = omega (arith, le, h)
-word_among c within n le Used h = h
-word_among c within n le (Node m) h = omega (arith, within.nodes, h)
-word_among c within n le (Kids m) h = omega (arith, within.nodes, h)
+-- the words that events may touch, among so many tasks: those of the nodes, and those of 64 nodes, which the word of a node may name
+abbrev pub extents_touched : ℕ → Config → Extents
+extents_touched n c = record { tasks = n; processors = c.processors; mounts = c.mounts; nodes = 64 + (c.nodes - 64) }
+
+-- a word that is there is one of them
+pub word_among : (c : Config) (n : ℕ) → c.tasks ≤ n → (name : WordName) → IsWord (extents_of c) name → IsWord (extents_touched n c) name
+word_among c n le (Section t) h = omega (arith, le, h)
+word_among c n le (Node m) h = omega (arith, h)
+word_among c n le (Kids m) h = omega (arith, h)
+word_among c n le name h = h
+
+-- and within the limits they are those that are kept
+pub word_kept : (c : Config) → IsWithin c → (n : ℕ) (name : WordName) → IsWord (extents_touched n c) name → IsWord (extents_among n c) name
+word_kept c within n (Node m) h = omega (arith, within.nodes, h)
+word_kept c within n (Kids m) h = omega (arith, within.nodes, h)
+word_kept c within n name h = h
 
 -- where nothing is counted at a gate in two worlds, its counts are the same in both
 pub record IsQuiet (c : Config) (w next : World) : Type 0 where
@@ -84,9 +77,9 @@ pub record PhaseKeeps (c : Config) (phase : Phase) : Type 0 where
   -- a snapshot that its event completes is of the present tree
   pub completes : IsWithin c → (w : World) → IsGood c w → (t : ℕ) → t < c.tasks → (hook : HookAnswer) → (w.views t).phase ≡ Some phase →
       CompletesNow c w t hook phase
-  -- the word of its event is kept, among however many tasks its own number is one of
-  pub word : IsWithin c → (n : ℕ) → c.tasks ≤ n → (t : ℕ) → t < n → (held : ℕ → ℕ) (levels : ℕ → Bool) (hook : HookAnswer) →
-      PhaseFits c t held levels phase → IsWord (extents_among n c) (next_of phase hook).0
+  -- the word of its event is one of these, among however many tasks its own number is one of
+  pub word : (n : ℕ) → c.tasks ≤ n → (t : ℕ) → t < n → (held : ℕ → ℕ) (levels : ℕ → Bool) (hook : HookAnswer) →
+      PhaseFits c t held levels phase → IsWord (extents_touched n c) (next_of phase hook).0
   -- its action can be done
   pub acts : IsWithin c → (t : ℕ) (held : ℕ → ℕ) (levels : ℕ → Bool) (found : ℕ) (hook : HookAnswer) → PhaseFits c t held levels phase →
       ActionFits held (after_of phase found hook).1
@@ -97,14 +90,6 @@ pub record PhaseKeeps (c : Config) (phase : Phase) : Type 0 where
   -- it fits accesses that agree
   pub agrees : (t : ℕ) (f g : ℕ → ℕ) (h k : ℕ → Bool) → ((m : ℕ) → m < c.mounts → f m ≡ g m) → ((i : ℕ) → 1 ≤ i → i ≤ 3 → h i ≡ k i) →
       PhaseFits c t f h phase → PhaseFits c t g k phase
-  -- where nothing is counted before and after its event, it leaves the counts
-  pub quiet : (w : World) → IsGood c w → (t : ℕ) → t < c.tasks → (hook : HookAnswer) (m : ℕ) → (w.views t).phase ≡ Some phase →
-      all_counted c m w ≡ 0 → all_counted c m (after_step w t phase hook) ≡ 0 →
-      (after_step w t phase hook).words.count m ≡ w.words.count m
-  -- and at a level
-  pub level_quiet : (w : World) → IsGood c w → (t : ℕ) → t < c.tasks → (hook : HookAnswer) (i : ℕ) → (w.views t).phase ≡ Some phase →
-      all_inside c i w ≡ 0 → all_inside c i (after_step w t phase hook) ≡ 0 →
-      (after_step w t phase hook).words.level i ≡ w.words.level i
   -- its cause stays while others step
   pub stays : (w next : World) (earlier : List World) → IsGood c next → (t : ℕ) →
       Fits c t (held_at (w.views t)) (holds_level (w.views t)) (Some phase) → (next.views t).phase ≡ Some phase →
@@ -139,13 +124,8 @@ pub record OpKeeps (c : Config) (op : Op) : Type 0 where
   pub fits : (t : ℕ) (held : ℕ → ℕ) (levels : ℕ → Bool) → is_in_range c op ≡ true → is_in_order c held levels op ≡ true →
       is_within_room held op ≡ true →
       Fits c t held levels (Some (first_phase c t op))
-  -- which has no role yet at a mount, a level or the tree, does nothing with the stage, is inside no section, and has no cause
-  pub no_role : (t y : ℕ) → role_of y (Some (first_phase c t op)) ≡ Out
-  pub steady : (t : ℕ) → IsSteady None (Some (first_phase c t op))
-  pub aside : (t : ℕ) → stage_role_of (Some (first_phase c t op)) ≡ Aside
-  pub counts_not : (t i : ℕ) → level_role_of i (Some (first_phase c t op)) ≡ CountsNot
-  pub apart : (t i : ℕ) → sync_role_of i (Some (first_phase c t op)) ≡ IsApart
-  pub outside : (t : ℕ) → inside (Some (first_phase c t op)) ≡ 0
+  -- which stands as no operation does, has no role at the tree, and has no cause
+  pub starts_idle : (t : ℕ) → IsBeside None (Some (first_phase c t op))
   pub off_tree : (t : ℕ) (trace : List Traced) → tree_role_of trace (Some (first_phase c t op)) ≡ OffTree
   pub cause : (t : ℕ) (w : World) (earlier : List World) → CauseOf c t w earlier (Some (first_phase c t op))
   -- whether it may begin is the same with accesses that agree

@@ -49,3 +49,4 @@ pub mod Beside
 pub mod OpenFiles
 pub mod CloseEvents
 pub mod OpenTraces
+pub mod Quiet

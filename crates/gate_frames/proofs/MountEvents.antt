@@ -364,21 +364,3 @@ whole_step c w t lt good hook x e keeps = (
   keeps.1,
 )
 
--- a load leaves the counts of every level
-pub loads_leave_levels : (w : Words) (word : WordName) (touch : Touch) → is_load touch ≡ true → (i : ℕ) →
-    (put w word (left touch (read w word))).level i ≡ w.level i
-loads_leave_levels w word Load h i = ap (λ (ws : Words). ws.level i) (load_same w word)
-loads_leave_levels w word touch h i = absurd (true≢false (sym h))
-
--- and so does an event of want, drop or change
-level_put : (w : Words) (word : WordName) → is_gate_word word ≡ true → (n i : ℕ) → (put w word n).level i ≡ w.level i
-level_put w (LevelCount j p) q n i = absurd (true≢false (sym q))
-level_put w word q n i = refl
-
-pub mounts_quiet : (w : World) (t : ℕ) (hook : HookAnswer) (x : MountPhase) (i : ℕ) →
-    (after_step w t (Mounts x) hook).words.level i ≡ w.words.level i
-mounts_quiet w t hook x i =
-    elim (mounts_touch x hook) [
-      | inl h ↦ loads_leave_levels w.words (next x hook).0 (next x hook).1 h i
-      | inr h ↦ level_put w.words (next x hook).0 h (left (next x hook).1 (read w.words (next x hook).0)) i
-    ]

@@ -1,116 +1,50 @@
 -- An operation that stands at a phase of another one, as a part of its own: the law of the other's event is the law of its event.
-use Rattle.std.proofs.Common.{◌≡◌, ℕ, ◌<◌, refl, sym, ap, ◌∙◌, subst, inl, inr}
-use Rattle.std.specs.Prelude.{Option, Some, None, List}
-use Rattle.std.proofs.Math.Path.{fun_ext}
-use Rattle.std.proofs.lemmas.Bool.Decides.{eqb_tells}
-use Rattle.finite_sums.specs.Sums.{update}
-use Rattle.finite_sums.proofs.Totals.{update_at, update_off, each_updated}
+use Rattle.std.proofs.Common.{◌≡◌, ℕ, ◌<◌, refl, sym, ap, subst}
+use Rattle.std.specs.Prelude.{Option}
+use Rattle.finite_sums.proofs.Totals.{update_at}
 use Rattle.access_model.specs.declared.actions.Action.{Action}
 use Rattle.access_model.specs.declared.replies.Next.{Next}
-use Rattle.access_model.specs.Histories.{mounts_of, levels_of}
 use Rattle.cpu_words.specs.declared.names.WordName.{WordName}
 use Rattle.cpu_words.specs.declared.events.Touch.{Touch}
-use Rattle.cpu_words.specs.Touches.{left}
-use Rattle.cpu_words.specs.Words.{read, put}
 use Rattle.cpu_words.specs.Hooks.{HookAnswer}
 use Rattle.gate_world.specs.declared.config.Config.{Config}
 use Rattle.gate_world.specs.declared.work.Phase.{Phase}
 use Rattle.gate_world.specs.declared.views.View.{View}
-use Rattle.gate_world.specs.Views.{held_at, holds_level, phase_after, actions_after, view_with}
+use Rattle.gate_world.specs.Views.{held_at, holds_level, phase_after}
 use Rattle.gate_world.specs.Fits.{Fits, mounts_by, levels_by}
 use Rattle.gate_world.specs.Worlds.{World}
 use Rattle.gate_world.specs.Shown.{shown}
-use Rattle.gate_world.specs.Rules.{ViewFits, Part, Owner, Stages, Holding, Fitting, Known, AtMount, Holds, IsGood, Moves, Tree, AtLevel, SyncAt, Sections, Files}
+use Rattle.gate_world.specs.Rules.{Holds, IsGood, Moves, Tree, Files}
 use Rattle.gate_world.specs.Alike.{IsAlike, at_phase, rephased}
-use Rattle.gate_frames.proofs.Frames.{view_as, shown_still, left_alone, level_view_as}
+use Rattle.gate_frames.proofs.Frames.{left_alone}
+use Rattle.gate_frames.proofs.Beside.{beside_good, beside_shown, made, made_again, made_keeps_beside}
 
 -- what is alike to a phase is alike to the same phase
 pub alike_of : {p q r : Option Phase} → p ≡ q → IsAlike q r → IsAlike p r
 alike_of {p} {q} {r} e h = subst (λ x. IsAlike x r) (sym e) h
 
--- of two values put at one place the later one stands
-pub update_twice : {A : Type 0} (f : ℕ → A) (t : ℕ) (u v : A) → update (update f t u) t v ≡ update f t v
-update_twice f t u v =
-    fun_ext (λ x. elim (eqb_tells x t) [
-      | inl h ↦ rw (h.0, update)
-      | inr h ↦ update_off (update f t u) t v x h.1 ∙ (update_off f t u x h.1 ∙ sym (update_off f t v x h.1))
-    ])
-
 module _ (c : Config) (w : World) (t : ℕ) (lt : t < c.tasks) (q : Option Phase) (same : IsAlike (w.views t).phase q) where
-  -- each part of the rule holds with the other phase
-  rephased_part : Fits c t (held_at (w.views t)) (holds_level (w.views t)) q → IsGood c w → (part : Part) → Holds c (rephased w t q) part
-  rephased_part fits good Owner =
-      left_alone c w t lt Owner w.words (at_phase (w.views t) q) (refl, refl) (same.steady.owns_same, same.steady.remounts_same)
-      (good Owner)
-  rephased_part fits good Stages =
-      left_alone c w t lt Stages w.words (at_phase (w.views t) q) (refl, refl, refl, refl) same.stage_same (good Stages)
-  rephased_part fits good Holding =
-      left_alone c w t lt Holding w.words (at_phase (w.views t) q) (refl, refl) same.holder_same (good Holding)
-  rephased_part fits good Fitting = λ x lx.
-      each_updated (λ y (u : View). ViewFits c y u) w.views t (at_phase (w.views t) q) x fits (λ ne. good Fitting x lx)
-  rephased_part fits good Known =
-      left_alone c w t lt Known w.words (at_phase (w.views t) q) (refl, refl, refl, refl, refl) (same.steady.owns_same, refl) (good Known)
-  rephased_part fits good Tree =
-      left_alone c w t lt Tree w.words (at_phase (w.views t) q) (refl, refl, refl, refl, refl, refl) (same.tree_same (w.views t).trace) (good Tree)
-  rephased_part fits good Files =
-      left_alone c w t lt Files w.words (at_phase (w.views t) q) refl (refl, same.file_same) (good Files)
-  rephased_part fits good (AtMount m) =
-      left_alone c w t lt (AtMount m) w.words (at_phase (w.views t) q) (refl, refl, refl, refl) (view_as refl refl refl (same.role_same m))
-      (good (AtMount m))
-  rephased_part fits good (AtLevel i) =
-      left_alone c w t lt (AtLevel i) w.words (at_phase (w.views t) q) (refl, refl, refl) (level_view_as refl refl refl (same.level_same i))
-      (good (AtLevel i))
-  rephased_part fits good (SyncAt i) =
-      left_alone c w t lt (SyncAt i) w.words (at_phase (w.views t) q) (refl, refl, refl, refl) (same.sync_same i) (good (SyncAt i))
-  rephased_part fits good Sections =
-      left_alone c w t lt Sections w.words (at_phase (w.views t) q) refl same.inside_same (good Sections)
+  -- the tree stands with the other phase
+  rephased_tree : Holds c w Tree → Holds c (rephased w t q) Tree
+  rephased_tree h =
+      left_alone c w t lt Tree w.words (at_phase (w.views t) q) (refl, refl, refl, refl, refl, refl) (same.tree_same (w.views t).trace) h
 
-  -- so the rule does
+  -- and so do the open files
+  rephased_files : Holds c w Files → Holds c (rephased w t q) Files
+  rephased_files h = left_alone c w t lt Files w.words (at_phase (w.views t) q) refl (refl, same.file_same) h
+
+  -- so the rule holds
   pub rephased_good : Fits c t (held_at (w.views t)) (holds_level (w.views t)) q → IsGood c w → IsGood c (rephased w t q)
-  rephased_good fits good = rephased_part fits good
+  rephased_good fits good = beside_good c w t lt q same.beside fits good (rephased_tree (good Tree)) (rephased_files (good Files))
 
   -- and the shown model is the same
   pub rephased_shown : shown c (rephased w t q) ≡ shown c w
-  rephased_shown = shown_still c w t lt w.words (at_phase (w.views t) q) refl refl refl refl refl refl refl same.steady.closing_same refl refl refl
-
--- the accesses after an action more
-mounts_more : (a : Option Action) (actions : List Action) → mounts_of (actions_after a actions) ≡ mounts_by a (mounts_of actions)
-mounts_more None actions = refl
-mounts_more (Some a) actions = refl
-
-levels_more : (a : Option Action) (actions : List Action) → levels_of (actions_after a actions) ≡ levels_by a (levels_of actions)
-levels_more None actions = refl
-levels_more (Some a) actions = refl
-
--- the world after an event of this word and touch, after which this comes
-abbrev pub made : World → ℕ → WordName × Touch → HookAnswer → Next Phase → Option Action → World
-made w t n hook coming action = record {
-  words = put w.words n.0 (left n.1 (read w.words n.0));
-  views = update w.views t (view_with (w.views t) n (read w.words n.0) hook (coming, action));
-}
+  rephased_shown = beside_shown c w t lt q same.beside
 
 -- an event of a task that stands at one phase, and of the same task at another phase that is alike
 module _ (c : Config) (w : World) (t : ℕ) (lt : t < c.tasks) (p : Option Phase) (n : WordName × Touch) (hook : HookAnswer)
     (a b : Next Phase) (action : Option Action) where
-  -- the event of the first, done again at the second's phases, is the event of the second
-  pub made_again : rephased (made (rephased w t p) t n hook a action) t (phase_after b) ≡ made w t n hook b action
-  made_again =
-      let v : View = at_phase (w.views t) p in
-      let u : View = view_with v n (read w.words n.0) hook (a, action) in
-      let there : update w.views t v t ≡ v = update_at w.views t v in
-      let once : update (update w.views t v) t (view_with (update w.views t v t) n (read w.words n.0) hook (a, action)) ≡ update w.views t u
-      =
-      ap (λ x. update (update w.views t v) t (view_with x n (read w.words n.0) hook (a, action))) there ∙ update_twice w.views t v u in
-      let again : update (update w.views t u) t (at_phase (update w.views t u t) (phase_after b)) ≡ update w.views t
-      (at_phase u (phase_after b)) =
-      ap (λ x. update (update w.views t u) t (at_phase x (phase_after b))) (update_at w.views t u) ∙
-      update_twice w.views t u (at_phase u (phase_after b)) in
-      λ j. record {
-        words = put w.words n.0 (left n.1 (read w.words n.0));
-        views = (ap (λ f. update f t (at_phase (f t) (phase_after b))) once ∙ again) j;
-      }
-
-  -- so what the law of the first says of the rule and of the shown model, it says of the second
+  -- what the law of the first says of the rule and of the shown model, it says of the second
   pub made_keeps : IsGood c w → IsAlike (w.views t).phase p → Fits c t (held_at (w.views t)) (holds_level (w.views t)) p →
       (IsGood c (rephased w t p) → ((rephased w t p).views t).phase ≡ p →
       IsGood c (made (rephased w t p) t n hook a action) ×
@@ -119,23 +53,14 @@ module _ (c : Config) (w : World) (t : ℕ) (lt : t < c.tasks) (p : Option Phase
       Fits c t (mounts_by action (held_at (w.views t))) (levels_by action (holds_level (w.views t))) (phase_after b) →
       IsGood c (made w t n hook b action) × Moves c (shown c w) t action (shown c (made w t n hook b action))
   made_keeps good before fits law after fits_after =
-      let v : View = at_phase (w.views t) p in
-      let u : View = view_with v n (read w.words n.0) hook (a, action) in
       let first : World = rephased w t p in
       let there : World = made first t n hook a action in
+      let again : rephased there t (phase_after b) ≡ made w t n hook b action = made_again c w t lt p n hook a b action in
       let l : IsGood c there × Moves c (shown c first) t action (shown c there) =
-      law (rephased_good c w t lt p before fits good) (ap (λ (x : View). x.phase) (update_at w.views t v)) in
-      let is : there.views t ≡ u = update_at first.views t _ ∙ ap (λ x. view_with x n (read w.words n.0) hook (a, action))
-      (update_at w.views t v) in
-      let same : IsAlike (there.views t).phase (phase_after b) = alike_of (ap (λ (x : View). x.phase) is) after in
-      let fit : Fits c t (held_at u) (holds_level u) (phase_after b) =
-      subst (λ k. Fits c t (held_at u) k (phase_after b)) (sym (levels_more action (w.views t).actions))
-      (subst (λ h. Fits c t h (levels_by action (holds_level (w.views t))) (phase_after b))
-      (sym (mounts_more action (w.views t).actions)) fits_after) in
-      let fit_there : Fits c t (held_at (there.views t)) (holds_level (there.views t)) (phase_after b) =
-      subst (λ (x : View). Fits c t (held_at x) (holds_level x) (phase_after b)) (sym is) fit in (
-        subst (λ x. IsGood c x) made_again (rephased_good c there t lt (phase_after b) same fit_there l.0),
-        subst (λ s. Moves c s t action (shown c (made w t n hook b action))) (rephased_shown c w t lt p before)
-            (subst (λ s. Moves c (shown c first) t action s) (sym (rephased_shown c there t lt (phase_after b) same) ∙
-            ap (shown c) made_again) l.1),
-      )
+      law (rephased_good c w t lt p before fits good) (ap (λ (x : View). x.phase) (update_at w.views t (at_phase (w.views t) p))) in
+      let same : IsAlike (there.views t).phase (phase_after b) =
+      alike_of (ap (λ (x : View). x.phase) (update_at first.views t _)) after in
+      made_keeps_beside c w t lt p n hook a b action good before.beside fits (rephased_tree c w t lt p before (good Tree))
+      (rephased_files c w t lt p before (good Files)) law after.beside fits_after
+      (subst (λ x. Holds c x Tree) again (rephased_tree c there t lt (phase_after b) same (l.0 Tree)))
+      (subst (λ x. Holds c x Files) again (rephased_files c there t lt (phase_after b) same (l.0 Files)))

@@ -14,33 +14,19 @@ use Rattle.gate_world.specs.Operations.{holds_none}
 use Rattle.gate_world.specs.Rules.{IsGood}
 use Rattle.gate_world.specs.Views.{holds_level, phase_after}
 use Rattle.gate_world.specs.Work.{after_of}
-use Rattle.gate_world.specs.Worlds.{World, found_at, after_step}
+use Rattle.gate_world.specs.Worlds.{words_after, World, found_at}
 use Rattle.gate_world.specs.declared.config.Config.{Config}
 use Rattle.gate_world.specs.declared.work.Phase.TheVariants.{Mounts}
 use Rattle.mount_counts.specs.Phases.{has_flag, step_between}
 use Rattle.mount_counts.specs.declared.phases.ChangeStep.TheVariants.{Locks, LoadsFlags, LoadsSuperblock as LoadsSb, ClearsReadOnly, SetsHold, Sums, SetsReadOnly, ClearsHold, Releases}
 use Rattle.mount_counts.specs.declared.phases.ChangeStep.{ChangeStep}
-use Rattle.std.proofs.Common.{◌≡◌, ℕ, suc, ◌+◌, ◌<◌, Bool, true, false, refl, ap, inl, inr, arith}
+use Rattle.std.proofs.Common.{◌∙◌, ◌≡◌, ℕ, suc, ◌+◌, ◌<◌, Bool, true, false, ap, inl, inr, arith}
 use Rattle.std.proofs.lemmas.Bool.Decides.{eqb_tells}
 use Rattle.std.proofs.lemmas.Bool.{ltb-false, cases_Bool}
 use Rattle.std.specs.Prelude.{nat_lt, Some, List, ◌∷◌, ◌==◌, not, Ok, Err}
 use Rattle.gate_frames.proofs.SumCauses.{counted_stays, sum_starts, sum_stays, sum_takes, sum_ends}
 use Rattle.gate_world.specs.KeptCauses.{ChangeCause, CauseOf}
 use Rattle.owner_laws.proofs.ChangeLoads.{change}
-
-module _ (w : World) where
-  -- an event of a change leaves the counts
-  pub change_counts : (t : ℕ) (hook : HookAnswer) (m : ℕ) (ro wait : Bool) (task processors : ℕ) (s : ChangeStep) →
-      (after_step w t (Mounts (change m ro wait task processors s)) hook).words.count ≡ w.words.count
-  change_counts t hook m ro wait task processors Locks = refl
-  change_counts t hook m ro wait task processors LoadsFlags = refl
-  change_counts t hook m ro wait task processors LoadsSb = refl
-  change_counts t hook m ro wait task processors ClearsReadOnly = refl
-  change_counts t hook m ro wait task processors SetsHold = refl
-  change_counts t hook m ro wait task processors (Sums sum) = ap (λ (ws : Words). ws.count) (load_same w.words (MountCount m sum.words))
-  change_counts t hook m ro wait task processors SetsReadOnly = refl
-  change_counts t hook m ro wait task processors (ClearsHold answer) = refl
-  change_counts t hook m ro wait task processors (Releases answer) = refl
 
 -- a task whose view another entry leaves alone
 module _ (c : Config) (t : ℕ) (w next : World) (earlier : List World) (good : IsGood c next) where
@@ -110,7 +96,7 @@ module _ (c : Config) (t : ℕ) (lt : t < c.tasks) (w next : World) (earlier : L
   -- what comes after an event has its cause
   pub change_own : (m : ℕ) (ro wait : Bool) (task processors : ℕ) (s : ChangeStep) → m < c.mounts →
       (w.views t).phase ≡ Some (Mounts (change m ro wait task processors s)) →
-      next.words.count m ≡ w.words.count m → ChangeCause c t w earlier m s →
+      next.words ≡ words_after w.words (Mounts (change m ro wait task processors s)) hook → ChangeCause c t w earlier m s →
       (next.views t).phase ≡ phase_after (after_of (Mounts (change m ro wait task processors s))
       (found_at w.words (Mounts (change m ro wait task processors s)) hook) hook).0 →
       CauseOf c t next (w ∷ earlier) (phase_after (after_of (Mounts (change m ro wait task processors s))
@@ -122,7 +108,8 @@ module _ (c : Config) (t : ℕ) (lt : t < c.tasks) (w next : World) (earlier : L
   change_own m ro wait task processors LoadsSb lm e same h e' = between_own m ro (not (w.words.sb == 0))
   change_own m ro wait task processors ClearsReadOnly lm e same h e' = λ r. not_busy r
   change_own m ro wait task processors SetsHold lm e same h e' = sum_starts c t m next (w ∷ earlier) after lm (ap words_read e')
-  change_own m ro wait task processors (Sums sum) lm e same h e' = sum_own m ro wait task processors sum e same h e'
+  change_own m ro wait task processors (Sums sum) lm e same h e' =
+      sum_own m ro wait task processors sum e (ap (λ (ws : Words). ws.count m) (same ∙ load_same w.words (MountCount m sum.words))) h e'
   change_own m ro wait task processors SetsReadOnly lm e same h e' = λ r. not_busy r
   change_own m ro wait task processors (ClearsHold answer) lm e same h e' =
       λ r. counted_stays c t m next (w ∷ earlier) (ap words_read e') (h r)

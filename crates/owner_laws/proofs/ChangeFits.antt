@@ -21,14 +21,14 @@ use Rattle.access_model.specs.Replies.{map_next}
 use Rattle.gate_world.specs.Fits.{SumFits, MountFits, Fits, ActionFits, mounts_by, levels_by}
 use Rattle.gate_frames.proofs.Keeps.{by_bool}
 
-module _ (c : Config) (within : IsWithin c) (t : ℕ) (held : ℕ → ℕ) (levels : ℕ → Bool) where
-  pub change_there : (x : Change) (step : ChangeStep) → x.mount < c.mounts → SumFits c step → IsWord (extents_of c) (change_next x step).0
-  change_there x Locks m f = tt
-  change_there x LoadsSb m f = tt
-  change_there x (Sums sum) m f = (m, f)
-  change_there x (Releases answer) m f = tt
-  change_there x step m f = m
+pub change_there : (c : Config) (x : Change) (step : ChangeStep) → x.mount < c.mounts → SumFits c step → IsWord (extents_of c) (change_next x step).0
+change_there c x Locks m f = tt
+change_there c x LoadsSb m f = tt
+change_there c x (Sums sum) m f = (m, f)
+change_there c x (Releases answer) m f = tt
+change_there c x step m f = m
 
+module _ (c : Config) (within : IsWithin c) (t : ℕ) (held : ℕ → ℕ) (levels : ℕ → Bool) where
   pub change_acts : (x : Change) (step : ChangeStep) (found : ℕ) → ActionFits held (change_after x step found).1
   change_acts x Locks found = tt
   change_acts x step found = tt

@@ -1,5 +1,5 @@
 -- All that is proved of a change.
-use Rattle.std.proofs.Common.{ℕ, Bool, ap, arith, refl, subst}
+use Rattle.std.proofs.Common.{ℕ, Bool, arith, refl, subst}
 use Rattle.std.specs.Prelude.{Some, Err}
 use Rattle.std.proofs.lemmas.Bool.{ltb-true}
 use Rattle.access_model.specs.declared.errors.GateError.TheVariants.{Busy}
@@ -11,7 +11,6 @@ use Rattle.gate_world.specs.declared.work.Phase.TheVariants.{Mounts}
 use Rattle.gate_world.specs.Fits.{Fits}
 use Rattle.gate_frames.proofs.Keeps.{by_bool, none_agree, word_among, PhaseKeeps, IsSmall, OpKeeps}
 use Rattle.gate_frames.proofs.Loads.{role_none}
-use Rattle.gate_frames.proofs.MountEvents.{mounts_quiet}
 use Rattle.gate_frames.proofs.MountRuns.{mounts_run}
 use Rattle.gate_frames.proofs.Snapshots.{completes_none}
 use Rattle.gate_world.specs.declared.operations.Op.TheVariants.{ChangeMount}
@@ -21,7 +20,7 @@ use Rattle.gate_world.specs.KeptCauses.{ChangeCause}
 use Rattle.gate_world.specs.Worlds.{after_step}
 use Rattle.owner_laws.proofs.Each.{change_keeps}
 use Rattle.owner_laws.proofs.ChangeFits.{change_there, change_acts, change_goes}
-use Rattle.owner_laws.proofs.ChangeCauses.{change_counts, change_kept, change_own}
+use Rattle.owner_laws.proofs.ChangeCauses.{change_kept, change_own}
 use Rattle.owner_laws.proofs.ChangeWaits.{change_waits}
 use Rattle.owner_laws.proofs.ChangeTraces.{ChangeAt, change_kept as change_traced}
 use Rattle.gate_world.specs.Views.{held_at, holds_level}
@@ -32,21 +31,17 @@ change_phase c x = record {
   step = λ lim w good t lt hook e. change_keeps c lim w good t lt hook x.mount x.read_only x.wait x.task x.processors x.step e;
   runs = λ lim w good t lt hook e i l1 l3. mounts_run c.tasks w t lt hook (Changes x) e i;
   completes = λ lim w good t lt hook e. completes_none c w t hook (Mounts (Changes x)) (λ trace found. refl);
-  word = λ lim n le t lt held levels hook f. word_among c lim n le _ (change_there c lim t held levels x x.step f.0 f.4);
+  word = λ n le t lt held levels hook f. word_among c n le _ (change_there c x x.step f.0 f.4);
   acts = λ lim t held levels found hook f. change_acts c lim t held levels x x.step found;
   goes = λ lim t held levels found hook f. change_goes c lim t held levels x x.step found f;
   agrees = λ t f g h k mounts levels fits. (fits.0, fits.1, fits.2, rw (← none_agree c t f g h k mounts levels) fits.3, fits.4);
-  quiet = λ w good t lt hook m e before after.
-      ap (λ f. f m) (change_counts w t hook x.mount x.read_only x.wait x.task x.processors x.step);
-  level_quiet = λ w good t lt hook i e before after. mounts_quiet w t hook (Changes x) i;
   stays = λ w next earlier after t f e was quiet h. change_kept c t w next earlier after x.mount x.read_only x.wait x.task x.processors
       x.step f.0 e was (quiet.mounts x.mount) h;
   causes = λ w earlier good t lt hook e after is h.
       let f : Fits c t (held_at (w.views t)) (holds_level (w.views t)) (Some (Mounts (Changes x))) =
       subst (Fits c t (held_at (w.views t)) (holds_level (w.views t))) e (good Fitting t lt) in
       change_own c t lt w (after_step w t (Mounts (Changes x)) hook) earlier good after hook x.mount x.read_only x.wait x.task
-      x.processors x.step f.0 e
-      (ap (λ g. g x.mount) (change_counts w t hook x.mount x.read_only x.wait x.task x.processors x.step)) h is;
+      x.processors x.step f.0 e refl h is;
   waits = λ lim w earlier good t lt hook e cause.
       change_waits c w earlier good t lt x.mount x.read_only x.task x.processors hook x.wait x.step e;
   tells = λ t w earlier fits h e. let k : ChangeCause c t w earlier x.mount (Releases (Err Busy)) =
@@ -56,12 +51,15 @@ change_phase c x = record {
 pub change_op : (c : Config) (m : ℕ) (ro wait : Bool) → OpKeeps c (ChangeMount m ro wait)
 change_op c m ro wait = record {
   fits = λ t held levels there order room. (ltb-true m c.mounts there, refl, refl, order, tt);
-  no_role = λ t y. role_none y m;
-  steady = λ t. record { owns_same = refl; remounts_same = refl; closing_same = λ i. refl };
-  aside = λ t. refl;
-  counts_not = λ t i. refl;
-  apart = λ t i. refl;
-  outside = λ t. refl;
+  starts_idle = λ t. record {
+    steady = assumption;
+    stage_same = refl;
+    holder_same = refl;
+    level_same = λ i. refl;
+    sync_same = λ i. refl;
+    inside_same = refl;
+    role_same = λ y. role_none y m;
+  };
   off_tree = λ t trace. refl;
   cause = λ t w earlier. tt;
   order_agrees = λ f g h k mounts levels there. none_agree c 0 f g h k mounts levels;

@@ -9,8 +9,8 @@ use Rattle.access_model.specs.declared.replies.Next.TheVariants.{Go, Wait, Done}
 use Rattle.access_model.specs.Replies.{map_next}
 use Rattle.cpu_words.specs.Hooks.{HookAnswer}
 use Rattle.cpu_words.specs.Sums.{lead, ahead}
-use Rattle.cpu_words.specs.Touches.{left, wrap_add}
-use Rattle.cpu_words.specs.Words.{Words, read, put}
+use Rattle.cpu_words.specs.Touches.{wrap_add}
+use Rattle.cpu_words.specs.Words.{Words}
 use Rattle.cpu_words.specs.declared.names.WordName.TheVariants.{LevelCount}
 use Rattle.cpu_words.specs.declared.sums.Sum.{Sum}
 use Rattle.finite_sums.specs.Sums.{total}
@@ -21,20 +21,17 @@ use Rattle.gated_tree.specs.declared.marks.ClearMarks.{ClearMarks}
 use Rattle.percpu_rwsem.specs.Graces.{looked}
 use Rattle.percpu_rwsem.specs.SyncWords.{unpack, is_passed, on_enter, on_callback}
 use Rattle.percpu_rwsem.specs.Transitions.{transition_after}
-use Rattle.percpu_rwsem.specs.Writers.{down_write_next, down_write_after, at_down_write, enter_step, callback_step, sections_awaited, passed_awaited, up_write_next, up_write_after}
+use Rattle.percpu_rwsem.specs.Writers.{down_write_after, at_down_write, enter_step, callback_step, sections_awaited, passed_awaited, up_write_after}
 use Rattle.percpu_rwsem.specs.declared.grace.GraceNext.{GraceNext}
 use Rattle.percpu_rwsem.specs.declared.grace.GraceNext.TheVariants.{More as MoreSections, Wait as WaitsFor, Ended}
 use Rattle.percpu_rwsem.specs.declared.sync_word.GpState.TheVariants.{Idle, Enter, Passed, Exit, Replay}
 use Rattle.percpu_rwsem.specs.declared.sync_word.SyncWord.{SyncWord}
-use Rattle.percpu_rwsem.specs.declared.transitions.Transition.TheVariants.{Loads, Exchanges}
 use Rattle.percpu_rwsem.specs.declared.transitions.TransitionNext.{TransitionNext}
 use Rattle.percpu_rwsem.specs.declared.transitions.TransitionNext.TheVariants.{More, Undefined, Made}
 use Rattle.percpu_rwsem.specs.declared.writers.DownWrite.{DownWrite}
 use Rattle.percpu_rwsem.specs.declared.writers.DownWriteStep.{DownWriteStep}
 use Rattle.percpu_rwsem.specs.declared.writers.DownWriteStep.TheVariants.{Enters, AwaitsSections, CallsBack, AwaitsPassed, SetsBlock, Sums}
 use Rattle.percpu_rwsem.specs.declared.writers.UpWrite.{UpWrite}
-use Rattle.percpu_rwsem.specs.declared.writers.UpWriteStep.{UpWriteStep}
-use Rattle.percpu_rwsem.specs.declared.writers.UpWriteStep.TheVariants.{ClearsBlock, Exits}
 use Rattle.freeze_levels.specs.Freezes.{at_freeze, level_closed, after_closing, after_clearing, freeze_fails, after_reopening}
 use Rattle.freeze_levels.specs.declared.freezes.Freeze.{Freeze}
 use Rattle.freeze_levels.specs.declared.freezes.FreezeStep.{FreezeStep}
@@ -66,58 +63,13 @@ use Rattle.gate_world.specs.KeptCauses.{DownWriteCause, FreezeCause, CauseOf}
 use Rattle.gate_world.specs.Rules.{IsGood, AtLevel, LevelHoldsIn}
 use Rattle.gate_world.specs.Views.{phase_after}
 use Rattle.gate_world.specs.Work.{after_of}
-use Rattle.gate_world.specs.Worlds.{World, found_at, after_step}
+use Rattle.gate_world.specs.Worlds.{words_after, World, found_at}
 use Rattle.gate_world.specs.declared.config.Config.{Config}
 use Rattle.gate_world.specs.declared.work.Phase.{Phase}
 use Rattle.gate_world.specs.declared.work.Phase.TheVariants.{Freezes}
 use Rattle.gate_frames.proofs.Keeps.{IsQuiet}
 use Rattle.gate_frames.proofs.Words.{load_same}
 use Rattle.gate_frames.proofs.Moments.{look_skips, look_stands, sum_begins, sum_goes}
-
--- these words have the counts of those, at the mounts and at the levels
-abbrev SameCounts : Words → Words → Type 0
-SameCounts w ws = (ws.count ≡ w.count) × (ws.level ≡ w.level)
-
--- an event of a down-write leaves them
-down_write_counts : (w : Words) (d : DownWrite) (s : DownWriteStep) →
-    SameCounts w (put w (down_write_next d s).0 (left (down_write_next d s).1 (read w (down_write_next d s).0)))
-down_write_counts w d (Enters Loads) = (refl, refl)
-down_write_counts w d (Enters (Exchanges from to)) = (refl, refl)
-down_write_counts w d (AwaitsSections grace) = (refl, refl)
-down_write_counts w d (CallsBack Loads) = (refl, refl)
-down_write_counts w d (CallsBack (Exchanges from to)) = (refl, refl)
-down_write_counts w d AwaitsPassed = (refl, refl)
-down_write_counts w d SetsBlock = (refl, refl)
-down_write_counts w d (Sums sum) = (refl, ap (λ (ws : Words). ws.level) (load_same w (LevelCount d.level sum.words)))
-
--- one of an up-write
-up_write_counts : (w : Words) (u : UpWrite) (s : UpWriteStep) →
-    SameCounts w (put w (up_write_next u s).0 (left (up_write_next u s).1 (read w (up_write_next u s).0)))
-up_write_counts w u ClearsBlock = (refl, refl)
-up_write_counts w u (Exits Loads) = (refl, refl)
-up_write_counts w u (Exits (Exchanges from to)) = (refl, refl)
-
--- so an event of a freeze leaves the counts
-pub freeze_counts : (w : World) (t : ℕ) (x : Freeze) (hook : HookAnswer) (s : FreezeStep) →
-    SameCounts w.words (after_step w t (Freezes (at_freeze x s)) hook).words
-freeze_counts w t x hook Locks = (refl, refl)
-freeze_counts w t x hook LoadsStage = (refl, refl)
-freeze_counts w t x hook LoadsHolders = (refl, refl)
-freeze_counts w t x hook (Holds beside) = (refl, refl)
-freeze_counts w t x hook LoadsSuperblock = (refl, refl)
-freeze_counts w t x hook CompletesReadOnly = (refl, refl)
-freeze_counts w t x hook SetsWrite = (refl, refl)
-freeze_counts w t x hook Unlocks = (refl, refl)
-freeze_counts w t x hook (Closes d) = down_write_counts w.words d d.step
-freeze_counts w t x hook LocksAgain = (refl, refl)
-freeze_counts w t x hook SetsPageFault = (refl, refl)
-freeze_counts w t x hook (Cleans marks) = (refl, refl)
-freeze_counts w t x (Ok answer) SetsFs = (refl, refl)
-freeze_counts w t x (Err code) SetsFs = (refl, refl)
-freeze_counts w t x (Ok answer) SetsComplete = (refl, refl)
-freeze_counts w t x (Err code) SetsComplete = (refl, refl)
-freeze_counts w t x hook (Reopens u code) = up_write_counts w.words u u.step
-freeze_counts w t x hook (Releases answer) = (refl, refl)
 
 -- where nothing is counted at a level, a sum that begins leads by 0
 fresh_level : (c : Config) (w : World) → IsGood c w → (i : ℕ) → 1 ≤ i → i ≤ 3 → all_inside c i w ≡ 0 →
@@ -303,7 +255,7 @@ module _ (c : Config) (t : ℕ) (w next : World) (earlier : List World) (after :
 
     -- so it is after each event of the closing of a level
     closing_own : (hook : HookAnswer) (s : DownWriteStep) → 1 ≤ d.level → d.level ≤ 3 → DownWriteStepFits c s →
-        next.words.level ≡ w.words.level → DownWriteCause c t w earlier d.level s →
+        next.words ≡ words_after w.words (Freezes (at_freeze x (Closes (at_down_write d s)))) hook → DownWriteCause c t w earlier d.level s →
         Own (after_closing x d.level
         (down_write_after d s (found_at w.words (Freezes (at_freeze x (Closes (at_down_write d s)))) hook)).0)
     closing_own hook (Enters transition) one three f same h e =
@@ -315,7 +267,8 @@ module _ (c : Config) (t : ℕ) (w next : World) (earlier : List World) (after :
         (found_at w.words (Freezes (at_freeze x (Closes (at_down_write d (CallsBack transition))))) hook)) e
     closing_own hook AwaitsPassed one three f same h e = passed_own (unpack (w.words.sync d.level)) e
     closing_own hook SetsBlock one three f same h e = block_own (w.words.block d.level) one three e
-    closing_own hook (Sums sum) one three f same h e = sum_own sum one three f (ap (λ g. g d.level) same) h e
+    closing_own hook (Sums sum) one three f same h e =
+        sum_own sum one three f (ap (λ (ws : Words). ws.level d.level) (same ∙ load_same w.words (LevelCount d.level sum.words))) h e
 
   -- after an event of the reopening of a level
   reopening_own : (level code : ℕ) (n : Next UpWrite) → Own (after_reopening x level code n)
@@ -346,7 +299,8 @@ module _ (c : Config) (t : ℕ) (w next : World) (earlier : List World) (after :
 
   -- what comes after an event has its cause
   pub freeze_own : (hook : HookAnswer) (s : FreezeStep) → FreezeFits c x.holder s → (s ≡ LoadsHolders → w.words.stage ≡ 4) →
-      (w.views t).phase ≡ Some (Freezes (at_freeze x s)) → next.words.level ≡ w.words.level → FreezeCause c t w earlier x.holder s →
+      (w.views t).phase ≡ Some (Freezes (at_freeze x s)) → next.words ≡ words_after w.words (Freezes (at_freeze x s)) hook →
+      FreezeCause c t w earlier x.holder s →
       let comes : Option Phase =
       phase_after (after_of (Freezes (at_freeze x s)) (found_at w.words (Freezes (at_freeze x s)) hook) hook).0 in
       (next.views t).phase ≡ comes → CauseOf c t next (w ∷ earlier) comes

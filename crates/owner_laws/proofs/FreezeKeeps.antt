@@ -1,5 +1,5 @@
 -- All that is proved of a freeze, from the law of its events and from what its trace tells.
-use Rattle.std.proofs.Common.{◌≡◌, ℕ, ◌<◌, ap, refl, subst}
+use Rattle.std.proofs.Common.{◌≡◌, ℕ, ◌<◌, refl, subst}
 use Rattle.std.specs.Prelude.{Some}
 use Rattle.freeze_levels.specs.declared.freezes.Freeze.{Freeze}
 use Rattle.gate_world.specs.Fits.{Fits, PhaseFits}
@@ -16,7 +16,7 @@ use Rattle.freeze_levels.specs.declared.freezes.FreezeStep.TheVariants.{LoadsHol
 use Rattle.stage_laws.specs.Roles.{KnowsStage}
 use Rattle.gate_world.specs.Stages.{freeze_stage_role, stage_role_of}
 use Rattle.owner_laws.proofs.FreezeFits.{freeze_word, freeze_acts, freeze_goes}
-use Rattle.owner_laws.proofs.FreezeCauses.{freeze_counts, freeze_stays, freeze_own, freeze_cause_tells}
+use Rattle.owner_laws.proofs.FreezeCauses.{freeze_stays, freeze_own, freeze_cause_tells}
 use Rattle.owner_laws.proofs.FreezeWaits.{freeze_waits}
 use Rattle.owner_laws.proofs.FreezeEvents.{freeze_keeps}
 use Rattle.owner_laws.proofs.FreezeRuns.{freeze_runs}
@@ -40,18 +40,15 @@ freeze_phase c x = record {
   step = λ within w good t lt hook e. freeze_keeps c within w good t lt hook x e;
   runs = λ within w good t lt hook e. freeze_runs c within w good t lt hook x e;
   completes = λ within w good t lt hook e. completes_none c w t hook (Freezes x) (λ trace found. refl);
-  word = λ within n le t lt held levels hook f. word_among c within n le _ (freeze_word c x x.step hook f.5);
+  word = λ n le t lt held levels hook f. word_among c n le _ (freeze_word c x x.step hook f.5);
   acts = λ within t held levels found hook f. freeze_acts x x.step held found hook;
   goes = λ within t held levels found hook f. freeze_goes c within t held levels x x.step found hook f;
   agrees = λ t f g h k mounts levels fits.
       (fits.0, fits.1, fits.2, fits.3, rw (← none_agree c t f g h k mounts levels) fits.4, fits.5);
-  quiet = λ w good t lt hook m e before after. ap (λ f. f m) (freeze_counts w t x hook x.step).0;
-  level_quiet = λ w good t lt hook i e before after. ap (λ f. f i) (freeze_counts w t x hook x.step).1;
   stays = λ w next earlier after t f e was quiet h. freeze_stays c t w next earlier after x x.step f.5 e was quiet h;
   causes = λ w earlier good t lt hook e after is h.
       freeze_own c t w (after_step w t (Freezes x) hook) earlier after x hook x.step (fits_here c x w good t lt e).5
-      (λ is_load. (stage_here c x w good t lt e is_load)) e
-      (freeze_counts w t x hook x.step).1 h is;
+      (λ is_load. (stage_here c x w good t lt e is_load)) e refl h is;
   waits = λ within w earlier good t lt hook e cause.
       freeze_waits c w earlier good t lt x hook x.step e (fits_here c x w good t lt e).5 cause;
   tells = λ t w earlier fits h. freeze_cause_tells c t w earlier x.holder x.step h;
@@ -61,12 +58,7 @@ freeze_phase c x = record {
 pub freeze_op : (c : Config) (holder : Holder) → OpKeeps c (FreezeOp holder)
 freeze_op c holder = record {
   fits = λ t held levels there order room. (refl, refl, refl, refl, order, tt);
-  no_role = λ t y. refl;
-  steady = λ t. record { owns_same = refl; remounts_same = refl; closing_same = λ i. refl };
-  aside = λ t. refl;
-  counts_not = λ t i. refl;
-  apart = λ t i. refl;
-  outside = λ t. refl;
+  starts_idle = λ t. assumption;
   off_tree = λ t trace. refl;
   cause = λ t w earlier. tt;
   order_agrees = λ f g h k mounts levels there. none_agree c 0 f g h k mounts levels;

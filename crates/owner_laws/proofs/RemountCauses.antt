@@ -18,7 +18,7 @@ use Rattle.gate_world.specs.Remounts.{RemountFits}
 use Rattle.gate_world.specs.Rules.{IsGood}
 use Rattle.gate_world.specs.Views.{phase_after}
 use Rattle.gate_world.specs.Work.{after_of}
-use Rattle.gate_world.specs.Worlds.{World, found_at, after_step}
+use Rattle.gate_world.specs.Worlds.{words_after, World, found_at}
 use Rattle.gate_world.specs.declared.config.Config.{Config}
 use Rattle.gate_world.specs.declared.work.Phase.TheVariants.{Remounts}
 use Rattle.gate_world.specs.declared.work.Phase.{Phase}
@@ -34,53 +34,6 @@ use Rattle.std.proofs.Common.{◌≡◌, ℕ, suc, ◌+◌, ◌<◌, Bool, true,
 use Rattle.std.proofs.lemmas.Bool.Decides.{eqb_tells}
 use Rattle.std.proofs.lemmas.Bool.{ltb-false, ne_eqb, cases_Bool}
 use Rattle.std.specs.Prelude.{nat_lt, Option, Some, None, Result, Ok, Err, List, ◌∷◌, ◌==◌, not, if◌then◌else◌}
-
-module _ (w : World) (t : ℕ) (x : Remount) where
-  -- an event of a remount leaves the counts
-  pub remount_counts : (hook : HookAnswer) (s : RemountStep) →
-      (after_step w t (Remounts (at_remount x s)) hook).words.count ≡ w.words.count
-  remount_counts hook Locks = refl
-  remount_counts hook LoadsStage = refl
-  remount_counts hook LoadsSuperblock = refl
-  remount_counts (Ok answer) SetsWritable = refl
-  remount_counts (Err code) SetsWritable = refl
-  remount_counts hook (LoadsFlags m held) = refl
-  remount_counts hook (SetsHold m held) = refl
-  remount_counts hook (Sums m held sum) = ap (λ (ws : Words). ws.count) (load_same w.words (MountCount m sum.words))
-  remount_counts hook LoadsRemoved = refl
-  remount_counts hook (LoadsRemovedAgain held) = refl
-  remount_counts hook (LeavesHolds held) = refl
-  remount_counts hook (SetsRemount held) = refl
-  remount_counts hook (ClearsHold held) = refl
-  remount_counts hook (GivesUp m held) = refl
-  remount_counts hook (ClearsMark n) = refl
-  remount_counts (Ok answer) SetsReadOnly = refl
-  remount_counts (Err code) SetsReadOnly = refl
-  remount_counts hook ClearsRemount = refl
-  remount_counts hook (Releases answer) = refl
-
-  -- and the levels
-  pub remount_levels : (hook : HookAnswer) (s : RemountStep) →
-      (after_step w t (Remounts (at_remount x s)) hook).words.level ≡ w.words.level
-  remount_levels hook Locks = refl
-  remount_levels hook LoadsStage = refl
-  remount_levels hook LoadsSuperblock = refl
-  remount_levels (Ok answer) SetsWritable = refl
-  remount_levels (Err code) SetsWritable = refl
-  remount_levels hook (LoadsFlags m held) = refl
-  remount_levels hook (SetsHold m held) = refl
-  remount_levels hook (Sums m held sum) = ap (λ (ws : Words). ws.level) (load_same w.words (MountCount m sum.words))
-  remount_levels hook LoadsRemoved = refl
-  remount_levels hook (LoadsRemovedAgain held) = refl
-  remount_levels hook (LeavesHolds held) = refl
-  remount_levels hook (SetsRemount held) = refl
-  remount_levels hook (ClearsHold held) = refl
-  remount_levels hook (GivesUp m held) = refl
-  remount_levels hook (ClearsMark n) = refl
-  remount_levels (Ok answer) SetsReadOnly = refl
-  remount_levels (Err code) SetsReadOnly = refl
-  remount_levels hook ClearsRemount = refl
-  remount_levels hook (Releases answer) = refl
 
 -- a task whose next event is a load of `removed` looks at it, any other doesn't
 removed_skips : (t : ℕ) (w : World) (earlier : List World) → looks_at_removed (w.views t).phase ≡ false →
@@ -230,7 +183,8 @@ module _ (c : Config) (t : ℕ) (w next : World) (earlier : List World) (after :
 
   -- what comes after an event has its cause
   pub remount_own : (hook : HookAnswer) (s : RemountStep) → x.processors ≡ c.processors → RemountFits c s →
-      (w.views t).phase ≡ Some (Remounts (at_remount x s)) → next.words.count ≡ w.words.count → RemountCause c t w earlier s →
+      (w.views t).phase ≡ Some (Remounts (at_remount x s)) → next.words ≡ words_after w.words (Remounts (at_remount x s)) hook →
+      RemountCause c t w earlier s →
       let comes : Option Phase =
       phase_after (after_of (Remounts (at_remount x s)) (found_at w.words (Remounts (at_remount x s)) hook) hook).0 in
       (next.views t).phase ≡ comes → CauseOf c t next (w ∷ earlier) comes
@@ -252,7 +206,8 @@ module _ (c : Config) (t : ℕ) (w next : World) (earlier : List World) (after :
     sum_starts c t m next (w ∷ earlier) after f.0 (ap words_read e'),
     of_mount_begins t m next (w ∷ earlier) (ap words_read e') (ap mount_summed e'),
   )
-  remount_own hook (Sums m held sum) sp f e same h e' = sum_own m held sum f.0 f.2 sp (ap (λ g. g m) same) h e'
+  remount_own hook (Sums m held sum) sp f e same h e' =
+      sum_own m held sum f.0 f.2 sp (ap (λ (ws : Words). ws.count m) (same ∙ load_same w.words (MountCount m sum.words))) h e'
   remount_own hook (LoadsRemovedAgain held) sp f e same h e' =
       elim (eqb_tells w.words.removed 0) [
         | inl z ↦ rw z.0 tt

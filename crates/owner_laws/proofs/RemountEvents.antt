@@ -45,7 +45,7 @@ use Rattle.gate_frames.proofs.Frames.{left_alone, owner_same}
 use Rattle.gate_world.specs.declared.work.Phase.{Phase}
 use Rattle.owner_laws.proofs.RemountFits.{state_fits, none_below, leave_holds_fits, let_go_fits, leaves_below, past_node_fits, give_up_fits}
 use Rattle.finite_sums.proofs.Totals.{total_at, update_same, update_map, update_at}
-use Rattle.gate_frames.proofs.Rephased.{update_twice}
+use Rattle.gate_frames.proofs.Beside.{update_twice}
 use Rattle.access_model.specs.declared.actions.Action.TheVariants.{SbRo, SbRw, Clean}
 use Rattle.owner_laws.proofs.RemountRoles.{let_go_role, leave_holds_role, give_up_role, remount_seeks, past_node_role, no_giving}
 use Rattle.gate_frames.proofs.Loads.{steady, after_load}

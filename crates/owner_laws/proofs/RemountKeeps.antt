@@ -1,5 +1,5 @@
 -- All that is proved of a remount.
-use Rattle.std.proofs.Common.{Bool, ap, refl, subst}
+use Rattle.std.proofs.Common.{Bool, refl, subst}
 use Rattle.std.specs.Prelude.{Some, Err}
 use Rattle.access_model.specs.declared.errors.GateError.TheVariants.{Busy}
 use Rattle.mount_counts.specs.declared.remounts.Remount.{Remount}
@@ -18,7 +18,7 @@ use Rattle.gate_frames.proofs.Says.{tells, is_short}
 use Rattle.owner_laws.proofs.RemountEvents.{remount_keeps}
 use Rattle.owner_laws.proofs.RemountRuns.{remount_runs}
 use Rattle.owner_laws.proofs.RemountFits.{remount_there, remount_acts, remount_goes}
-use Rattle.owner_laws.proofs.RemountCauses.{remount_counts, remount_levels, remount_stays, remount_own}
+use Rattle.owner_laws.proofs.RemountCauses.{remount_stays, remount_own}
 use Rattle.owner_laws.proofs.RemountWaits.{remount_waits}
 use Rattle.owner_laws.proofs.RemountTraces.{RemountAt, remount_kept, remount_restores}
 
@@ -28,18 +28,16 @@ remount_phase c x = record {
   step = λ lim w good t lt hook e. remount_keeps c lim w good t lt hook x e;
   runs = λ lim w good t lt hook e i l1 l3. remount_runs c w good t lt hook x e i;
   completes = λ lim w good t lt hook e. completes_none c w t hook (Remounts x) (λ trace found. refl);
-  word = λ lim n le t lt held levels hook f. word_among c lim n le _ (remount_there c lim t held levels x x.step hook f.5);
+  word = λ n le t lt held levels hook f. word_among c n le _ (remount_there c x x.step hook f.5);
   acts = λ lim t held levels found hook f. remount_acts c lim t held levels x x.step found hook;
   goes = λ lim t held levels found hook f. remount_goes c lim t held levels x x.step found hook f;
   agrees = λ t f g h k mounts levels fits.
       (fits.0, fits.1, fits.2, fits.3, rw (← none_agree c t f g h k mounts levels) fits.4, fits.5);
-  quiet = λ w good t lt hook m e before after. ap (λ f. f m) (remount_counts w t x hook x.step);
-  level_quiet = λ w good t lt hook i e before after. ap (λ f. f i) (remount_levels w t x hook x.step);
   stays = λ w next earlier after t f e was quiet h. remount_stays c t w next earlier after x x.step f.5 e was quiet.mounts h;
   causes = λ w earlier good t lt hook e after is h.
       let f : Fits c t (held_at (w.views t)) (holds_level (w.views t)) (Some (Remounts x)) =
       subst (Fits c t (held_at (w.views t)) (holds_level (w.views t))) e (good Fitting t lt) in
-      remount_own c t w (after_step w t (Remounts x) hook) earlier after x hook x.step f.1 f.5 e (remount_counts w t x hook x.step) h is;
+      remount_own c t w (after_step w t (Remounts x) hook) earlier after x hook x.step f.1 f.5 e refl h is;
   waits = λ lim w earlier good t lt hook e cause. remount_waits c w earlier good t lt x hook x.step e;
   tells = λ t w earlier fits h e. let k : RemountCause c t w earlier (Releases (Err Busy)) =
       subst (RemountCause c t w earlier) e h in k refl;
@@ -49,12 +47,7 @@ remount_phase c x = record {
 pub remount_op : (c : Config) (ro : Bool) → OpKeeps c (RemountSb ro)
 remount_op c ro = record {
   fits = λ t held levels there order room. (refl, refl, refl, refl, order, tt);
-  no_role = λ t y. refl;
-  steady = λ t. record { owns_same = refl; remounts_same = refl; closing_same = λ i. refl };
-  aside = λ t. refl;
-  counts_not = λ t i. refl;
-  apart = λ t i. refl;
-  outside = λ t. refl;
+  starts_idle = λ t. assumption;
   off_tree = λ t trace. refl;
   cause = λ t w earlier. tt;
   order_agrees = λ f g h k mounts levels there. none_agree c 0 f g h k mounts levels;

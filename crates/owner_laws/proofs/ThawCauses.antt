@@ -8,7 +8,6 @@ use Rattle.access_model.specs.declared.replies.Reply.TheVariants.{Unit as UnitRe
 use Rattle.access_model.specs.Replies.{map_next}
 use Rattle.gate_frames.proofs.Moments.{look_skips, look_stands}
 use Rattle.cpu_words.specs.Hooks.{HookAnswer}
-use Rattle.percpu_rwsem.specs.declared.transitions.Transition.TheVariants.{Loads, Exchanges}
 use Rattle.percpu_rwsem.specs.declared.transitions.TransitionNext.{TransitionNext}
 use Rattle.percpu_rwsem.specs.declared.transitions.TransitionNext.TheVariants.{More, Undefined, Made}
 use Rattle.percpu_rwsem.specs.declared.writers.UpWrite.{UpWrite}
@@ -44,33 +43,7 @@ use Rattle.gate_world.specs.Causes.{looks_at_stage, was_unheld, ThawHasCause}
 use Rattle.gate_world.specs.KeptCauses.{ThawCause, CauseOf}
 use Rattle.gate_world.specs.Views.{phase_after}
 use Rattle.gate_world.specs.Work.{after_of}
-use Rattle.gate_world.specs.Worlds.{World, found_at, after_step}
-
-module _ (w : World) (t : ℕ) (x : Thaw) (hook : HookAnswer) where
-  -- an event of a level's reopening leaves the counts of mounts and of levels
-  reopening_counts : (level : ℕ) (s : UpWriteStep) →
-      let next : World = after_step w t (Thaws (at_thaw x (Reopens (record { level = level; step = s })))) hook in
-      (next.words.count ≡ w.words.count) × (next.words.level ≡ w.words.level)
-  reopening_counts level ClearsBlock = (refl, refl)
-  reopening_counts level (Exits Loads) = (refl, refl)
-  reopening_counts level (Exits (Exchanges from to)) = (refl, refl)
-
--- so does each event of a thaw
-pub thaw_counts : (w : World) (t : ℕ) (x : Thaw) (hook : HookAnswer) (s : ThawStep) →
-    let next : World = after_step w t (Thaws (at_thaw x s)) hook in
-    (next.words.count ≡ w.words.count) × (next.words.level ≡ w.words.level)
-thaw_counts w t x hook Locks = (refl, refl)
-thaw_counts w t x hook LoadsStage = (refl, refl)
-thaw_counts w t x hook LoadsHolders = (refl, refl)
-thaw_counts w t x hook (Leaves held) = (refl, refl)
-thaw_counts w t x hook LoadsSuperblock = (refl, refl)
-thaw_counts w t x hook LeavesReadOnly = (refl, refl)
-thaw_counts w t x hook UnfreezesReadOnly = (refl, refl)
-thaw_counts w t x (Ok answer) LeavesLast = (refl, refl)
-thaw_counts w t x (Err code) LeavesLast = (refl, refl)
-thaw_counts w t x hook SetsUnfrozen = (refl, refl)
-thaw_counts w t x hook (Reopens u) = reopening_counts w t x hook u.level u.step
-thaw_counts w t x hook (Releases answer) = (refl, refl)
+use Rattle.gate_world.specs.Worlds.{World, found_at}
 
 -- a task whose view another entry leaves alone: the cause of each step stays
 pub thaw_stays : (c : Config) (t : ℕ) (w next : World) (earlier : List World) (x : Thaw) (s : ThawStep) →

@@ -1,5 +1,5 @@
 -- All that is proved of a thaw.
-use Rattle.std.proofs.Common.{ap, refl}
+use Rattle.std.proofs.Common.{refl}
 use Rattle.freeze_levels.specs.declared.thaws.Thaw.{Thaw}
 use Rattle.gate_world.specs.declared.config.Config.{Config}
 use Rattle.gate_world.specs.declared.operations.Op.TheVariants.{Thaw as ThawOp}
@@ -11,7 +11,7 @@ use Rattle.gate_frames.proofs.Says.{tells, is_short}
 use Rattle.owner_laws.proofs.ThawEvents.{thaw_keeps}
 use Rattle.owner_laws.proofs.ThawRuns.{thaw_runs}
 use Rattle.owner_laws.proofs.ThawFits.{thaw_there, thaw_acts, thaw_goes}
-use Rattle.owner_laws.proofs.ThawCauses.{thaw_counts, thaw_stays, thaw_told, thaw_own}
+use Rattle.owner_laws.proofs.ThawCauses.{thaw_stays, thaw_told, thaw_own}
 use Rattle.access_model.specs.declared.actions.Holder.{Holder}
 use Rattle.owner_laws.proofs.ThawWaits.{thaw_waits}
 use Rattle.owner_laws.proofs.ThawTraces.{ThawAt, thaw_kept, thaw_restores}
@@ -22,12 +22,10 @@ thaw_phase c x = record {
   step = λ lim w good t lt hook e. thaw_keeps c lim w good t lt hook x e;
   runs = λ lim w good t lt hook e. thaw_runs c lim w good t lt hook x e;
   completes = λ lim w good t lt hook e. completes_none c w t hook (Thaws x) (λ trace found. refl);
-  word = λ lim n le t lt held levels hook f. word_among c lim n le _ (thaw_there c x x.step hook f.2);
+  word = λ n le t lt held levels hook f. word_among c n le _ (thaw_there c x x.step hook f.2);
   acts = λ lim t held levels found hook f. thaw_acts held x x.step found hook;
   goes = λ lim t held levels found hook f. thaw_goes c t held levels x x.step found hook f;
   agrees = λ t f g h k mounts levels fits. (fits.0, rw (← none_agree c t f g h k mounts levels) fits.1, fits.2);
-  quiet = λ w good t lt hook m e before after. ap (λ f. f m) (thaw_counts w t x hook x.step).0;
-  level_quiet = λ w good t lt hook i e before after. ap (λ f. f i) (thaw_counts w t x hook x.step).1;
   stays = λ w next earlier after t f e was quiet h. thaw_stays c t w next earlier x x.step e h;
   causes = λ w earlier good t lt hook e after is h. thaw_own c t w (after_step w t (Thaws x) hook) earlier x hook x.step e is;
   waits = λ lim w earlier good t lt hook e cause. thaw_waits c w earlier t good lt x hook x.step e;
@@ -38,12 +36,7 @@ thaw_phase c x = record {
 pub thaw_op : (c : Config) (holder : Holder) → OpKeeps c (ThawOp holder)
 thaw_op c holder = record {
   fits = λ t held levels there order room. (refl, order, tt);
-  no_role = λ t y. refl;
-  steady = λ t. record { owns_same = refl; remounts_same = refl; closing_same = λ i. refl };
-  aside = λ t. refl;
-  counts_not = λ t i. refl;
-  apart = λ t i. refl;
-  outside = λ t. refl;
+  starts_idle = λ t. assumption;
   off_tree = λ t trace. refl;
   cause = λ t w earlier. tt;
   order_agrees = λ f g h k mounts levels there. none_agree c 0 f g h k mounts levels;

@@ -1,7 +1,7 @@
 -- Each phase of a write access is alike to the phase of its gate, before an event and after it; and what fits then, and what is said of
 -- causes and of waits.
-use Rattle.std.proofs.Common.{◌≡◌, ℕ, ◌<◌, Bool, true, refl, ap, ◌∙◌, subst}
-use Rattle.std.specs.Prelude.{Option, Some, None, Ok, Err, List}
+use Rattle.std.proofs.Common.{◌≡◌, ℕ, ◌<◌, Bool, true, refl, ◌∙◌, subst}
+use Rattle.std.specs.Prelude.{Some, None, Ok, Err}
 use Rattle.access_model.specs.declared.replies.Next.{Next}
 use Rattle.access_model.specs.declared.replies.Next.TheVariants.{Go, Wait, Done}
 use Rattle.access_model.specs.Replies.{map_next}
@@ -11,72 +11,58 @@ use Rattle.percpu_rwsem.specs.declared.readers.DownRead.{DownRead}
 use Rattle.write_access.specs.declared.phases.WritePhase.{WritePhase}
 use Rattle.write_access.specs.declared.phases.WritePhase.TheVariants.{Takes, Wants as WriteWants, GivesBack, Drops, Ends}
 use Rattle.write_access.specs.Phases.{then_wants, then_gives_back}
-use Rattle.gate_world.specs.Holders.{holder_role_of}
 use Rattle.gate_world.specs.declared.config.Config.{Config}
-use Rattle.gate_world.specs.declared.work.Phase.{Phase}
 use Rattle.gate_world.specs.declared.work.Phase.TheVariants.{Mounts, DownReads, Writes}
 use Rattle.gate_world.specs.Views.{phase_after}
 use Rattle.gate_world.specs.Work.{plain}
 use Rattle.gate_world.specs.Fits.{Fits}
 use Rattle.gate_world.specs.Alike.{IsAlike}
-use Rattle.gate_world.specs.Trees.{tree_role_of}
-use Rattle.gate_world.specs.declared.views.Traced.{Traced}
-use Rattle.gate_world.specs.Rules.{owns, remounts, role_of}
-use Rattle.gate_world.specs.Stages.{stage_role_of}
-use Rattle.gate_world.specs.Fits.{file_of}
-use Rattle.stage_laws.specs.Roles.{sums}
-use Rattle.gate_world.specs.Levels.{level_role_of, sync_role_of, inside}
 use Rattle.gate_frames.proofs.Loads.{role_none}
 use Rattle.writer_laws.proofs.ReadFits.{ReadGoes}
 
--- phases of which all that is read is the same
-alike_as : {p q : Option Phase} → owns q ≡ owns p → remounts q ≡ remounts p → stage_role_of q ≡ stage_role_of p →
-    ((i : ℕ) → level_role_of i q ≡ level_role_of i p) → ((i : ℕ) → sync_role_of i q ≡ sync_role_of i p) → inside q ≡ inside p →
-    ((trace : List Traced) → tree_role_of trace q ≡ tree_role_of trace p) → file_of q ≡ file_of p → ((m : ℕ) → role_of m q ≡ role_of m p) →
-    holder_role_of q ≡ holder_role_of p → IsAlike p q
-alike_as o r d l s i a f m h = record {
-  steady = record { owns_same = o; remounts_same = r; closing_same = λ j. ap (sums j) d };
-  stage_same = d;
-  holder_same = h;
-  level_same = l;
-  sync_same = s;
-  inside_same = i;
-  tree_same = a;
-  file_same = f;
-  role_same = m;
-}
-
 -- each phase is alike to the one of its gate
 pub alike_plain : (x : WritePhase) → IsAlike (Some (Writes x)) (Some (plain x))
-alike_plain (Takes m r) = alike_as refl refl refl (λ i. refl) (λ i. refl) refl (λ a. refl) refl (λ y. refl) refl
-alike_plain (WriteWants x) = alike_as refl refl refl (λ i. refl) (λ i. refl) refl (λ a. refl) refl (λ y. refl) refl
-alike_plain (GivesBack m p refusal) = alike_as refl refl refl (λ i. refl) (λ i. refl) refl (λ a. refl) refl (λ y. refl) refl
-alike_plain (Drops m p) = alike_as refl refl refl (λ i. refl) (λ i. refl) refl (λ a. refl) refl (λ y. refl) refl
-alike_plain (Ends p) = alike_as refl refl refl (λ i. refl) (λ i. refl) refl (λ a. refl) refl (λ y. refl) refl
+alike_plain (Takes m r) = assumption
+alike_plain (WriteWants x) = assumption
+alike_plain (GivesBack m p refusal) = assumption
+alike_plain (Drops m p) = assumption
+alike_plain (Ends p) = assumption
 
 -- what comes after an event at level 1 is alike to what comes in its own operation: the want that follows has no role yet
 pub alike_takes : (m p : ℕ) (n : Next DownRead) →
     IsAlike (phase_after (map_next DownReads n)) (phase_after (map_next Writes (then_wants m p n)))
-alike_takes m p (Go r) = alike_as refl refl refl (λ i. refl) (λ i. refl) refl (λ a. refl) refl (λ y. refl) refl
-alike_takes m p (Wait r) = alike_as refl refl refl (λ i. refl) (λ i. refl) refl (λ a. refl) refl (λ y. refl) refl
-alike_takes m p (Done (Ok reply)) = alike_as refl refl refl (λ i. refl) (λ i. refl) refl (λ a. refl) refl (λ y. role_none y m) refl
-alike_takes m p (Done (Err refusal)) = alike_as refl refl refl (λ i. refl) (λ i. refl) refl (λ a. refl) refl (λ y. refl) refl
+alike_takes m p (Go r) = assumption
+alike_takes m p (Wait r) = assumption
+alike_takes m p (Done (Ok reply)) = record {
+  beside = record {
+    steady = assumption;
+    stage_same = refl;
+    holder_same = refl;
+    level_same = λ i. refl;
+    sync_same = λ i. refl;
+    inside_same = refl;
+    role_same = λ y. role_none y m;
+  };
+  tree_same = λ trace. refl;
+  file_same = refl;
+}
+alike_takes m p (Done (Err refusal)) = assumption
 
 -- and so is what comes after an event at the mount: an end of level 1 has no role
 pub alike_wants : (m p : ℕ) (n : Next Want) →
     IsAlike (phase_after (map_next Mounts (map_next Wants n))) (phase_after (map_next Writes (then_gives_back m p n)))
-alike_wants m p (Go x) = alike_as refl refl refl (λ i. refl) (λ i. refl) refl (λ a. refl) refl (λ y. refl) refl
-alike_wants m p (Wait x) = alike_as refl refl refl (λ i. refl) (λ i. refl) refl (λ a. refl) refl (λ y. refl) refl
-alike_wants m p (Done (Ok reply)) = alike_as refl refl refl (λ i. refl) (λ i. refl) refl (λ a. refl) refl (λ y. refl) refl
-alike_wants m p (Done (Err refusal)) = alike_as refl refl refl (λ i. refl) (λ i. refl) refl (λ a. refl) refl (λ y. refl) refl
+alike_wants m p (Go x) = assumption
+alike_wants m p (Wait x) = assumption
+alike_wants m p (Done (Ok reply)) = assumption
+alike_wants m p (Done (Err refusal)) = assumption
 
 -- the end that follows a drop is alike to nothing
 pub alike_ends : (p : ℕ) → IsAlike None (Some (Writes (Ends p)))
-alike_ends p = alike_as refl refl refl (λ i. refl) (λ i. refl) refl (λ a. refl) refl (λ y. refl) refl
+alike_ends p = assumption
 
 -- and nothing to nothing
 pub alike_none : IsAlike None None
-alike_none = alike_as refl refl refl (λ i. refl) (λ i. refl) refl (λ a. refl) refl (λ y. refl) refl
+alike_none = assumption
 
 module _ (c : Config) (t : ℕ) (held : ℕ → ℕ) (levels : ℕ → Bool) (m p : ℕ) (there : m < c.mounts) (cpu : p < c.processors) where
   -- level 1 is taken with room for the mount's access, which is wanted with the level held

@@ -4,14 +4,10 @@ use Rattle.access_model.specs.declared.actions.Action.{Action}
 use Rattle.access_model.specs.Replies.{map_next}
 use Rattle.gate_world.specs.KeptCauses.{CauseOf}
 use Rattle.access_model.specs.declared.replies.Next.{Next}
-use Rattle.percpu_rwsem.specs.Callbacks.{at_callback, callback_after}
-use Rattle.cpu_words.specs.Hooks.{HookAnswer}
-use Rattle.std.proofs.Common.{◌≡◌, ℕ, refl, ap, subst, ◌≤◌, sym}
+use Rattle.percpu_rwsem.specs.Callbacks.{callback_after}
+use Rattle.std.proofs.Common.{◌≡◌, ℕ, refl, subst, ◌≤◌, sym}
 use Rattle.std.specs.Prelude.{Some, List, ◌==◌, Option, ◌∷◌}
 use Rattle.percpu_rwsem.specs.declared.callbacks.Callback.{Callback}
-use Rattle.percpu_rwsem.specs.declared.callbacks.CallbackStep.{CallbackStep}
-use Rattle.percpu_rwsem.specs.declared.callbacks.CallbackStep.TheVariants.{Claims, AwaitsSections, CallsBack}
-use Rattle.percpu_rwsem.specs.declared.transitions.Transition.TheVariants.{Loads, Exchanges}
 use Rattle.level_laws.specs.Roles.{Out as IsApart}
 use Rattle.gate_world.specs.declared.config.Config.{Config}
 use Rattle.gate_world.specs.declared.operations.Op.TheVariants.{Callback as CallbackOp}
@@ -30,25 +26,7 @@ use Rattle.writer_laws.proofs.ReadWaits.{callback_waits}
 use Rattle.writer_laws.proofs.ReadRuns.{callback_runs}
 use Rattle.writer_laws.proofs.CallbackTraces.{CallbackAt, callback_kept}
 
--- no event of a callback touches a mount's count
-callback_counts : (w : World) (t : ℕ) (hook : HookAnswer) (b : Callback) (s : CallbackStep) →
-    (after_step w t (Callbacks (at_callback b s)) hook).words.count ≡ w.words.count
-callback_counts w t hook b (Claims Loads) = refl
-callback_counts w t hook b (Claims (Exchanges from to)) = refl
-callback_counts w t hook b (AwaitsSections grace) = refl
-callback_counts w t hook b (CallsBack Loads) = refl
-callback_counts w t hook b (CallsBack (Exchanges from to)) = refl
-
--- nor a level's
-callback_levels : (w : World) (t : ℕ) (hook : HookAnswer) (b : Callback) (s : CallbackStep) →
-    (after_step w t (Callbacks (at_callback b s)) hook).words.level ≡ w.words.level
-callback_levels w t hook b (Claims Loads) = refl
-callback_levels w t hook b (Claims (Exchanges from to)) = refl
-callback_levels w t hook b (AwaitsSections grace) = refl
-callback_levels w t hook b (CallsBack Loads) = refl
-callback_levels w t hook b (CallsBack (Exchanges from to)) = refl
-
--- and what comes after it has no cause
+-- what comes after an event of a callback has no cause
 callback_cause : (c : Config) (t : ℕ) (w : World) (earlier : List World) (n : Next Callback) →
     CauseOf c t w earlier (phase_after (map_next Callbacks n))
 callback_cause c t w earlier (Go x) = tt
@@ -61,7 +39,7 @@ callback_phase c b = record {
   step = λ within w good t lt hook e. callback_keeps c within w good t lt hook b e;
   runs = λ within w good t lt hook e i one three. callback_runs c w good t lt hook b e i;
   completes = λ within w good t lt hook e. completes_none c w t hook (Callbacks b) (λ trace found. refl);
-  word = λ within n le t lt held levels hook f. word_among c within n le _ (callback_there c b b.step f.0 f.1 f.3);
+  word = λ n le t lt held levels hook f. word_among c n le _ (callback_there c b b.step f.0 f.1 f.3);
   acts = λ within t held levels found hook f.
       subst (ActionFits held) (sym (callback_acts_none b b.step found)) tt;
   goes = λ within t held levels found hook f.
@@ -69,8 +47,6 @@ callback_phase c b = record {
       (phase_after (map_next Callbacks (callback_after b b.step found).0)))
       (sym (callback_acts_none b b.step found)) (callback_goes c within t held levels b b.step found f);
   agrees = λ t f g h k mounts levels fits. fits;
-  quiet = λ w good t lt hook m e before after. ap (λ f. f m) (callback_counts w t hook b b.step);
-  level_quiet = λ w good t lt hook i e before after. ap (λ f. f i) (callback_levels w t hook b b.step);
   stays = λ w next earlier good t f e was quiet h. tt;
   causes = λ w earlier good t lt hook e after is h.
       callback_cause c t (after_step w t (Callbacks b) hook) (w ∷ earlier)
@@ -88,12 +64,15 @@ callback_op c i = record {
   fits = λ t held levels there order room.
       let l : (1 ≤ i) × (i ≤ 3) = level_there i there in
       (l.0, l.1, refl, tt, tt);
-  no_role = λ t y. refl;
-  steady = λ t. record { owns_same = refl; remounts_same = refl; closing_same = λ j. refl };
-  aside = λ t. refl;
-  counts_not = λ t j. refl;
-  apart = λ t j. by_bool (j == i) (λ b. sync_role_if b IsApart ≡ IsApart) refl refl;
-  outside = λ t. refl;
+  starts_idle = λ t. record {
+    steady = assumption;
+    stage_same = refl;
+    holder_same = refl;
+    level_same = λ j. refl;
+    sync_same = λ j. by_bool (j == i) (λ b. sync_role_if b IsApart ≡ IsApart) refl refl;
+    inside_same = refl;
+    role_same = λ y. refl;
+  };
   off_tree = λ t trace. refl;
   cause = λ t w earlier. tt;
   order_agrees = λ f g h k mounts levels there. refl;

@@ -9,7 +9,6 @@ pub mod WantKeeps
 pub mod ReadLevels
 pub mod LevelParts
 pub mod LevelCounts
-pub mod LevelQuiet
 pub mod CallbackEvents
 pub mod ReadEvents
 pub mod EndEvents

@@ -1,13 +1,10 @@
 -- All that is proved of a start and of an end.
-use Rattle.std.proofs.Common.{◌≡◌, ℕ, ◌<◌, Bool, true, refl, sym, ap, subst, ◌∙◌, arith, ◌≤◌}
+use Rattle.std.proofs.Common.{◌≡◌, ℕ, ◌<◌, Bool, true, refl, sym, ap, subst, ◌∙◌, arith, ◌≤◌, ◌+◌, ◌-◌}
 use Rattle.std.specs.Prelude.{nat_lt, Some, ◌&&◌, ◌==◌}
 use Rattle.std.proofs.lemmas.Bool.{ltb-true}
-use Rattle.cpu_words.specs.Hooks.{HookAnswer}
 use Rattle.percpu_rwsem.specs.declared.readers.DownRead.{DownRead}
 use Rattle.percpu_rwsem.specs.declared.readers.UpRead.{UpRead}
-use Rattle.percpu_rwsem.specs.declared.readers.DownReadStep.{DownReadStep}
-use Rattle.percpu_rwsem.specs.declared.readers.DownReadStep.TheVariants.{EntersSection}
-use Rattle.percpu_rwsem.specs.Readers.{down_read_after, at_down_read}
+use Rattle.percpu_rwsem.specs.Readers.{down_read_after}
 use Rattle.gate_counts.specs.Levels.{Out as CountsNot}
 use Rattle.level_laws.specs.Roles.{Out as IsApart, closed}
 use Rattle.gate_world.specs.declared.config.Config.{Config}
@@ -25,7 +22,6 @@ use Rattle.gate_frames.proofs.Keeps.{by_bool, PhaseKeeps, IsSmall, OpKeeps}
 use Rattle.gate_frames.proofs.Snapshots.{completes_none}
 use Rattle.gate_frames.proofs.Says.{tells, is_short}
 use Rattle.writer_laws.proofs.EndEvents.{end_keeps}
-use Rattle.writer_laws.proofs.LevelQuiet.{quiet_read, quiet_end}
 use Rattle.writer_laws.proofs.ReadEvents.{read_keeps}
 use Rattle.writer_laws.proofs.ReadFits.{both_true, level_there, none_from_agree, read_step_agrees, read_there, read_acts, read_goes, read_fits}
 use Rattle.writer_laws.proofs.ReadCauses.{read_not_closed, read_stays, read_own, asks_next, next_cause, read_tells}
@@ -33,19 +29,13 @@ use Rattle.writer_laws.proofs.ReadWaits.{read_waits, start_waits}
 use Rattle.writer_laws.proofs.ReadRuns.{read_runs, end_runs}
 use Rattle.writer_laws.proofs.ReadTraces.{StartAt, EndAt, start_kept, end_kept}
 
--- no event of a down-read touches a mount's count
-pub read_counts : (w : World) (t : ℕ) (hook : HookAnswer) (r : DownRead) (s : DownReadStep) →
-    (after_step w t (DownReads (at_down_read r s)) hook).words.count ≡ w.words.count
-read_counts w t hook r EntersSection = refl
-read_counts w t hook r s = refl
-
 -- of each phase of a start
 pub read_phase : (c : Config) (r : DownRead) → PhaseKeeps c (DownReads r)
 read_phase c r = record {
   step = λ within w good t lt hook e. read_keeps c within w good t lt hook r e;
   runs = λ within w good t lt hook e i one three. read_runs c w good t lt hook r e i;
   completes = λ within w good t lt hook e. completes_none c w t hook (DownReads r) (λ trace found. refl);
-  word = λ within n le t lt held levels hook f. read_there (record c { tasks = n; nodes = 64 }) t lt r r.step f.0 f.1 f.2 f.3;
+  word = λ n le t lt held levels hook f. read_there (record c { tasks = n; nodes = 64 + (c.nodes - 64) }) t lt r r.step f.0 f.1 f.2 f.3;
   acts = λ within t held levels found hook f. read_acts held r r.step found f.0 f.1;
   goes = λ within t held levels found hook f.
       read_fits c t r.level r.cpu (mounts_by (down_read_after r r.step found).1 held)
@@ -53,8 +43,6 @@ read_phase c r = record {
       (read_goes c t r f.0 f.1 f.2 f.3 levels r.step found f.4);
   agrees = λ t f g h k mounts levels fits.
       (fits.0, fits.1, fits.2, fits.3, read_step_agrees h k levels r.level r.step fits.0 fits.1 fits.4);
-  quiet = λ w good t lt hook m e before after. ap (λ f. f m) (read_counts w t hook r r.step);
-  level_quiet = λ w good t lt hook i e. quiet_read c w good t lt hook i r r.step e;
   stays = λ w next earlier good t f e was quiet h. read_stays c t w next earlier r.level r.step (ap asks_level e) h;
   causes = λ w earlier good t lt hook e after is h.
       let f : Fits c t (held_at (w.views t)) (holds_level (w.views t)) (Some (DownReads r)) =
@@ -76,12 +64,10 @@ end_phase c u = record {
   step = λ within w good t lt hook e. end_keeps c within w good t lt hook u e;
   runs = λ within w good t lt hook e i one three. end_runs c w t lt hook u e i;
   completes = λ within w good t lt hook e. completes_none c w t hook (UpReads u) (λ trace found. refl);
-  word = λ within n le t lt held levels hook f. (f.0, f.1, f.2);
+  word = λ n le t lt held levels hook f. (f.0, f.1, f.2);
   acts = λ within t held levels found hook f. (f.0, f.1);
   goes = λ within t held levels found hook f. tt;
   agrees = λ t f g h k mounts levels fits. (fits.0, fits.1, fits.2, sym (levels u.level fits.0 fits.1) ∙ fits.3);
-  quiet = λ w good t lt hook m e before after. refl;
-  level_quiet = λ w good t lt hook i e. quiet_end c w good t lt hook i u e;
   stays = λ w next earlier good t f e was quiet h. tt;
   causes = λ w earlier good t lt hook e after is h. tt;
   waits = λ within w earlier good t lt hook e cause. tt;
@@ -102,12 +88,15 @@ start_op c i p wait = record {
   fits = λ t held levels there order room.
       let l : (1 ≤ i) × (i ≤ 3) × (p < c.processors) = in_level c i p there in
       (l.0, l.1, l.2, refl, order);
-  no_role = λ t y. refl;
-  steady = λ t. record { owns_same = refl; remounts_same = refl; closing_same = λ j. refl };
-  aside = λ t. refl;
-  counts_not = λ t j. by_bool (j == i) (λ b. count_role_if b CountsNot ≡ CountsNot) refl refl;
-  apart = λ t j. by_bool (j == i) (λ b. sync_role_if b IsApart ≡ IsApart) refl refl;
-  outside = λ t. refl;
+  starts_idle = λ t. record {
+    steady = assumption;
+    stage_same = refl;
+    holder_same = refl;
+    level_same = λ j. by_bool (j == i) (λ b. count_role_if b CountsNot ≡ CountsNot) refl refl;
+    sync_same = λ j. by_bool (j == i) (λ b. sync_role_if b IsApart ≡ IsApart) refl refl;
+    inside_same = refl;
+    role_same = λ y. refl;
+  };
   off_tree = λ t trace. refl;
   cause = λ t w earlier. tt;
   order_agrees = λ f g h k mounts levels there. none_from_agree h k levels i;
@@ -125,12 +114,7 @@ end_op c i p = record {
   fits = λ t held levels there order room.
       let l : (1 ≤ i) × (i ≤ 3) × (p < c.processors) = in_level c i p there in
       (l.0, l.1, l.2, order);
-  no_role = λ t y. refl;
-  steady = λ t. record { owns_same = refl; remounts_same = refl; closing_same = λ j. refl };
-  aside = λ t. refl;
-  counts_not = λ t j. refl;
-  apart = λ t j. refl;
-  outside = λ t. refl;
+  starts_idle = λ t. assumption;
   off_tree = λ t trace. refl;
   cause = λ t w earlier. tt;
   order_agrees = λ f g h k mounts levels there. levels i (in_level c i p there).0 (in_level c i p there).1;

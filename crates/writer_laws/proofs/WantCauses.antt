@@ -1,16 +1,10 @@
 -- The causes of a want's refusals, along a schedule, whether the want is an operation of its own or stands in a longer one.
 use Rattle.access_model.specs.declared.errors.GateError.TheVariants.{Again, ReadOnly}
-use Rattle.access_model.specs.declared.errors.GateError.{GateError}
-use Rattle.cpu_words.specs.Hooks.{HookAnswer}
-use Rattle.finite_sums.proofs.Totals.{update_at, update_off}
-use Rattle.gate_frames.proofs.Frames.{role_on}
-use Rattle.gate_frames.proofs.Loads.{fits_now}
-use Rattle.gate_world.specs.Causes.{all_counted, asks, want_asks, was_read_only}
-use Rattle.gate_world.specs.Rules.{IsGood, Owner, Stages, AtMount, role_of}
-use Rattle.gate_world.specs.Views.{held_at, view_after, phase_after}
-use Rattle.gate_world.specs.Worlds.{World, after_step}
+use Rattle.gate_world.specs.Causes.{asks, want_asks, was_read_only}
+use Rattle.gate_world.specs.Rules.{IsGood, Owner, Stages, AtMount}
+use Rattle.gate_world.specs.Views.{phase_after}
+use Rattle.gate_world.specs.Worlds.{World}
 use Rattle.gate_world.specs.declared.config.Config.{Config}
-use Rattle.gate_world.specs.declared.views.View.{View}
 use Rattle.gate_world.specs.declared.work.Phase.TheVariants.{Mounts}
 use Rattle.mount_counts.specs.Phases.{has_flag, want_next, want_after, hold_found}
 use Rattle.mount_counts.specs.declared.phases.Want.{Want}
@@ -20,9 +14,7 @@ use Rattle.access_model.specs.declared.replies.Next.TheVariants.{Go, Wait, Done}
 use Rattle.access_model.specs.Replies.{map_next}
 use Rattle.cpu_words.specs.Touches.{found_by}
 use Rattle.cpu_words.specs.Words.{read}
-use Rattle.mount_counts.specs.Roles.{Asking, BackingOff, sought, ro_bit}
-use Rattle.mount_counts.specs.declared.phases.MountPhase.TheVariants.{Drop as Drops}
-use Rattle.mount_counts.specs.declared.phases.MountPhase.{MountPhase}
+use Rattle.mount_counts.specs.Roles.{ro_bit}
 use Rattle.mount_counts.specs.declared.phases.WantStep.TheVariants.{CountsUp, LoadsHold, LoadsRemount, LoadsReadOnly, LoadsSuperblock, CountsDown}
 use Rattle.mount_counts.specs.declared.phases.WantStep.{WantStep}
 use Rattle.mount_laws.proofs.Bits.{read_only_set}
@@ -30,60 +22,8 @@ use Rattle.std.proofs.Common.{◌≡◌, ℕ, ◌<◌, Bool, true, false, refl, 
 use Rattle.std.proofs.lemmas.Bool.Decides.{eqb_tells}
 use Rattle.std.proofs.lemmas.Bool.{eq-eqb, cases_Bool}
 use Rattle.std.specs.Prelude.{Some, Ok, Err, List, ◌∷◌, ◌==◌}
-use Rattle.gate_frames.proofs.Moments.{one_counted, or_true, question_skips, question_stands}
+use Rattle.gate_frames.proofs.Moments.{or_true, question_skips, question_stands}
 use Rattle.gate_world.specs.KeptCauses.{WantCause, CauseOf}
-use Rattle.writer_laws.proofs.WantLoads.{want}
-
-module _ (c : Config) (w : World) (good : IsGood c w) (t : ℕ) (lt : t < c.tasks) (hook : HookAnswer) (m : ℕ) where
-  -- where nothing is counted at the mount before the event of a phase and after it, the event leaves the mount's counts
-  abbrev IsQuiet : MountPhase → Type 0
-  IsQuiet phase = (w.views t).phase ≡ Some (Mounts phase) → all_counted c m w ≡ 0 →
-      all_counted c m (after_step w t (Mounts phase) hook) ≡ 0 →
-      (after_step w t (Mounts phase) hook).words.count m ≡ w.words.count m
-
-  -- a want that has added is counted there
-  quiet_add : (n p : ℕ) (wait : Bool) → IsQuiet (want n p wait CountsUp)
-  quiet_add n p wait e before after =
-      elim (eqb_tells m n) [
-        | inl h ↦
-            let next : World = after_step w t (Mounts (want n p wait CountsUp)) hook in
-            let v : View = view_after (w.views t) (Mounts (want n p wait CountsUp)) (w.words.count n p) hook in
-            let is : next.views t ≡ v = update_at w.views t v in
-            let r : role_of m v.phase ≡ Asking p = ap (λ y. role_of y v.phase) h.1 ∙ role_on n (Asking p) in
-            let s : sought (role_of m (next.views t).phase) ≡ 1 = ap (λ (u : View). sought (role_of m u.phase)) is ∙ ap sought r in
-            absurd (omega (arith, after, s, one_counted c m t next lt))
-        | inr h ↦ update_off w.words.count n _ m h.1
-      ]
-
-  -- and so is one that has not yet taken its count back
-  quiet_back : (n p : ℕ) (wait : Bool) (refusal : GateError) → IsQuiet (want n p wait (CountsDown refusal))
-  quiet_back n p wait refusal e before after =
-      elim (eqb_tells m n) [
-        | inl h ↦
-            let r : role_of m (w.views t).phase ≡ BackingOff p = ap (λ y. role_of y (w.views t).phase) h.1 ∙
-            (ap (role_of n) e ∙ role_on n (BackingOff p)) in
-            absurd (omega (arith, before, ap sought r, one_counted c m t w lt))
-        | inr h ↦ update_off w.words.count n _ m h.1
-      ]
-
-  -- and who holds an access that it is to give back
-  pub quiet_drop : (n p : ℕ) → IsQuiet (Drops n p)
-  quiet_drop n p e before after =
-      elim (eqb_tells m n) [
-        | inl h ↦
-            let f : (n < c.mounts) × (p < c.processors) × (0 < held_at (w.views t) n) = fits_now c w good t lt (Drops n p) e in
-            absurd (omega (arith, before, f.2, ap (held_at (w.views t)) h.1, one_counted c m t w lt))
-        | inr h ↦ update_off w.words.count n _ m h.1
-      ]
-
-  -- so it is of each step of a want
-  pub quiet_want : (n p : ℕ) (wait : Bool) (s : WantStep) → IsQuiet (want n p wait s)
-  quiet_want n p wait CountsUp e before after = quiet_add n p wait e before after
-  quiet_want n p wait LoadsHold e before after = refl
-  quiet_want n p wait LoadsRemount e before after = refl
-  quiet_want n p wait LoadsReadOnly e before after = refl
-  quiet_want n p wait LoadsSuperblock e before after = refl
-  quiet_want n p wait (CountsDown refusal) e before after = quiet_back n p wait refusal e before after
 
 -- a task whose next event is that of a want's step, in its own operation or in a longer one, and which another entry leaves alone
 module _ (c : Config) (t : ℕ) (w next : World) (earlier : List World) where

@@ -21,16 +21,16 @@ use Rattle.access_model.specs.Replies.{map_next}
 use Rattle.gate_world.specs.Fits.{MountFits, Fits, ActionFits, mounts_by, levels_by}
 use Rattle.gate_frames.proofs.Keeps.{by_bool}
 
-module _ (c : Config) (within : IsWithin c) (t : ℕ) (held : ℕ → ℕ) (levels : ℕ → Bool) where
-  -- the word of each event of a want is there
-  pub want_there : (w : Want) (step : WantStep) → w.mount < c.mounts → w.cpu < c.processors → IsWord (extents_of c) (want_next w step).0
-  want_there w CountsUp m p = (m, p)
-  want_there w LoadsHold m p = m
-  want_there w LoadsRemount m p = tt
-  want_there w LoadsReadOnly m p = m
-  want_there w LoadsSuperblock m p = tt
-  want_there w (CountsDown refusal) m p = (m, p)
+-- the word of each event of a want is there
+pub want_there : (c : Config) (w : Want) (step : WantStep) → w.mount < c.mounts → w.cpu < c.processors → IsWord (extents_of c) (want_next w step).0
+want_there c w CountsUp m p = (m, p)
+want_there c w LoadsHold m p = m
+want_there c w LoadsRemount m p = tt
+want_there c w LoadsReadOnly m p = m
+want_there c w LoadsSuperblock m p = tt
+want_there c w (CountsDown refusal) m p = (m, p)
 
+module _ (c : Config) (within : IsWithin c) (t : ℕ) (held : ℕ → ℕ) (levels : ℕ → Bool) where
   -- its action can be done
   pub want_acts : (w : Want) (step : WantStep) (found : ℕ) → w.mount < 8 → held w.mount < 1024 → ActionFits held (want_after w step found).1
   want_acts w LoadsSuperblock found m room = by_bool (found == 0) (λ b. ActionFits held (if b then Some (Grant (Mount w.mount)) else None))

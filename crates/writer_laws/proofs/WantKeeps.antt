@@ -11,7 +11,6 @@ use Rattle.gate_world.specs.declared.work.Phase.TheVariants.{Mounts}
 use Rattle.gate_world.specs.Fits.{Fits}
 use Rattle.gate_frames.proofs.Keeps.{by_bool, PhaseKeeps, IsSmall, OpKeeps, word_among}
 use Rattle.gate_frames.proofs.Loads.{role_none}
-use Rattle.gate_frames.proofs.MountEvents.{mounts_quiet}
 use Rattle.gate_frames.proofs.MountRuns.{mounts_run}
 use Rattle.gate_frames.proofs.Snapshots.{completes_none}
 use Rattle.gate_world.specs.declared.operations.Op.TheVariants.{Want as WantOp, DropMount}
@@ -24,7 +23,7 @@ use Rattle.mount_counts.specs.Phases.{want_after}
 use Rattle.access_model.specs.declared.replies.Next.{Next}
 use Rattle.writer_laws.proofs.Wants.{want_keeps, drop_keeps}
 use Rattle.writer_laws.proofs.WantFits.{want_there, want_acts, want_goes}
-use Rattle.writer_laws.proofs.WantCauses.{quiet_want, quiet_drop, want_kept, want_own, next_cause, next_asked}
+use Rattle.writer_laws.proofs.WantCauses.{want_kept, want_own, next_cause, next_asked}
 use Rattle.writer_laws.proofs.WantWaits.{want_waits, next_waits}
 use Rattle.writer_laws.proofs.WantLoads.{want_here}
 use Rattle.writer_laws.proofs.WantTraces.{WantAt, DropAt, want_kept as want_traced, drop_kept}
@@ -43,12 +42,10 @@ want_phase c x = record {
   step = λ lim w good t lt hook e. want_keeps c lim w good t lt hook x.mount x.cpu x.wait x.step e;
   runs = λ lim w good t lt hook e i l1 l3. mounts_run c.tasks w t lt hook (Wants x) e i;
   completes = λ lim w good t lt hook e. completes_none c w t hook (Mounts (Wants x)) (λ trace found. refl);
-  word = λ lim n le t lt held levels hook f. word_among c lim n le _ (want_there c lim t held levels x x.step f.0 f.1);
+  word = λ n le t lt held levels hook f. word_among c n le _ (want_there c x x.step f.0 f.1);
   acts = λ lim t held levels found hook f. want_acts c lim t held levels x x.step found (omega (arith, f.0, lim.mounts)) f.2;
   goes = λ lim t held levels found hook f. want_goes c lim t held levels x x.step found f;
   agrees = λ t f g h k mounts levels fits. (fits.0, fits.1, omega (arith, fits.2, mounts x.mount fits.0));
-  quiet = λ w good t lt hook m e. quiet_want c w good t lt hook m x.mount x.cpu x.wait x.step e;
-  level_quiet = λ w good t lt hook i e before after. mounts_quiet w t hook (Wants x) i;
   stays = λ w next earlier after t f e was quiet h. want_kept c t w next earlier x.mount x.step (ap asks e) h;
   causes = λ w earlier good t lt hook e after is h.
       let f : Fits c t (held_at (w.views t)) (holds_level (w.views t)) (Some (Mounts (Wants x))) =
@@ -72,12 +69,10 @@ drop_phase c m p = record {
   step = λ lim w good t lt hook e. drop_keeps c lim w good t lt hook m p e;
   runs = λ lim w good t lt hook e i l1 l3. mounts_run c.tasks w t lt hook (Drops m p) e i;
   completes = λ lim w good t lt hook e. completes_none c w t hook (Mounts (Drops m p)) (λ trace found. refl);
-  word = λ lim n le t lt held levels hook f. (f.0, f.1);
+  word = λ n le t lt held levels hook f. (f.0, f.1);
   acts = λ lim t held levels found hook f. (omega (arith, f.0, lim.mounts), f.2);
   goes = λ lim t held levels found hook f. tt;
   agrees = λ t f g h k mounts levels fits. (fits.0, fits.1, omega (arith, fits.2, mounts m fits.0));
-  quiet = λ w good t lt hook n e. quiet_drop c w good t lt hook n m p e;
-  level_quiet = λ w good t lt hook i e before after. mounts_quiet w t hook (Drops m p) i;
   stays = λ w next earlier after t f e was quiet h. tt;
   causes = λ w earlier good t lt hook e after is h. tt;
   waits = λ lim w earlier good t lt hook e cause. tt;
@@ -90,12 +85,15 @@ want_op c m p wait = record {
   fits = λ t held levels there order room.
       let at : (nat_lt m c.mounts ≡ true) × (nat_lt p c.processors ≡ true) = both (nat_lt m c.mounts) (nat_lt p c.processors) there in
       (ltb-true m c.mounts at.0, ltb-true p c.processors at.1, ltb-true (held m) 1024 room);
-  no_role = λ t y. role_none y m;
-  steady = λ t. record { owns_same = refl; remounts_same = refl; closing_same = λ i. refl };
-  aside = λ t. refl;
-  counts_not = λ t i. refl;
-  apart = λ t i. refl;
-  outside = λ t. refl;
+  starts_idle = λ t. record {
+    steady = assumption;
+    stage_same = refl;
+    holder_same = refl;
+    level_same = λ i. refl;
+    sync_same = λ i. refl;
+    inside_same = refl;
+    role_same = λ y. role_none y m;
+  };
   off_tree = λ t trace. refl;
   cause = λ t w earlier. tt;
   order_agrees = λ f g h k mounts levels there. refl;
@@ -114,12 +112,7 @@ drop_op c m p = record {
   fits = λ t held levels there order room.
       let at : (nat_lt m c.mounts ≡ true) × (nat_lt p c.processors ≡ true) = both (nat_lt m c.mounts) (nat_lt p c.processors) there in
       (ltb-true m c.mounts at.0, ltb-true p c.processors at.1, ltb-true 0 (held m) order);
-  no_role = λ t y. refl;
-  steady = λ t. record { owns_same = refl; remounts_same = refl; closing_same = λ i. refl };
-  aside = λ t. refl;
-  counts_not = λ t i. refl;
-  apart = λ t i. refl;
-  outside = λ t. refl;
+  starts_idle = λ t. assumption;
   off_tree = λ t trace. refl;
   cause = λ t w earlier. tt;
   order_agrees = λ f g h k mounts levels there. ap (nat_lt 0) (mounts m

@@ -38,20 +38,19 @@ use Rattle.gate_world.specs.Worlds.{World, after_step, found_at}
 use Rattle.gate_world.specs.Rules.{IsGood, StepKeeps, role_of}
 use Rattle.gate_frames.proofs.Frames.{role_on}
 use Rattle.gate_frames.proofs.Keeps.{by_bool, PhaseKeeps, OpKeeps, none_agree}
-use Rattle.gate_frames.proofs.MountEvents.{mounts_quiet}
-use Rattle.gate_frames.proofs.Rephased.{update_twice}
+use Rattle.gate_frames.proofs.Beside.{update_twice}
 use Rattle.gate_frames.proofs.Snapshots.{completes_none}
 use Rattle.gate_frames.proofs.Says.{tells, is_short}
 use Rattle.writer_laws.proofs.ReadFits.{read_mounts, read_goes}
 use Rattle.writer_laws.proofs.ReadCauses.{read_stays, read_own, read_not_closed, read_tells}
 use Rattle.writer_laws.proofs.ReadWaits.{read_waits}
-use Rattle.writer_laws.proofs.ReadKeeps.{read_counts, read_phase, end_phase}
+use Rattle.writer_laws.proofs.ReadKeeps.{read_phase, end_phase}
 use Rattle.writer_laws.proofs.WantFits.{want_leaves}
 use Rattle.writer_laws.proofs.WantCauses.{want_kept, want_own}
 use Rattle.writer_laws.proofs.WantWaits.{want_waits}
 use Rattle.writer_laws.proofs.WantKeeps.{both, want_phase, drop_phase}
 use Rattle.writer_laws.proofs.Alikes.{alike_takes, alike_wants, alike_ends, alike_none, takes_goes, wants_goes}
-use Rattle.writer_laws.proofs.WriteSteps.{write_fits_now, write_step, write_quiet, write_level_quiet, write_runs, first_world}
+use Rattle.writer_laws.proofs.WriteSteps.{write_fits_now, write_step, write_runs, first_world}
 use Rattle.writer_laws.proofs.WriteCauses.{takes_asks, takes_cause, takes_waits, wants_asked, wants_cause, wants_waits}
 use Rattle.writer_laws.proofs.WriteTraces.{WriteAt, DropAt, write_kept, drop_kept}
 
@@ -139,16 +138,11 @@ takes_phase c m r = record {
   step = λ lim w good t lt hook e. write_keeps c lim w good t lt hook (Takes m r) e;
   runs = λ lim w good t lt hook e i one three. write_phase_runs c lim w good t lt hook (Takes m r) e i one three;
   completes = λ lim w good t lt hook e. completes_none c w t hook (Writes (Takes m r)) (λ trace found. refl);
-  word = λ lim n le t lt held levels hook f. (read_phase c r).word lim n le t lt held levels hook f.0;
+  word = λ n le t lt held levels hook f. (read_phase c r).word n le t lt held levels hook f.0;
   acts = λ lim t held levels found hook f. (read_phase c r).acts lim t held levels found hook f.0;
   goes = λ lim t held levels found hook f. takes_fits c t held levels m r found f;
   agrees = λ t f g h k mounts levels fits.
       ((read_phase c r).agrees t f g h k mounts levels fits.0, fits.1, fits.2, omega (arith, fits.3, mounts m fits.2));
-  quiet = λ w good t lt hook n e before after. ap (λ f. f n) (read_counts w t hook r r.step);
-  level_quiet = λ w good t lt hook i e before after.
-      let coming : Next DownRead = (down_read_after r r.step (found_at w.words (DownReads r) hook)).0 in
-      write_level_quiet c w good t lt hook (Takes m r) e (map_next Writes (then_wants m r.cpu coming)) (alike_takes m r.cpu coming) i
-      (λ g at. (read_phase c r).level_quiet (first_world c w good t lt hook (Takes m r) e) g t lt hook i at) before after;
   stays = λ w next earlier good t f e was quiet h. read_stays c t w next earlier r.level r.step (ap asks_level e) h;
   causes = λ w earlier good t lt hook e after is h.
       let f : WriteFits c t (held_at (w.views t)) (holds_level (w.views t)) (Takes m r) =
@@ -171,17 +165,11 @@ wants_phase c x = record {
   step = λ lim w good t lt hook e. write_keeps c lim w good t lt hook (Wants x) e;
   runs = λ lim w good t lt hook e i one three. write_phase_runs c lim w good t lt hook (Wants x) e i one three;
   completes = λ lim w good t lt hook e. completes_none c w t hook (Writes (Wants x)) (λ trace found. refl);
-  word = λ lim n le t lt held levels hook f. (want_phase c x).word lim n le t lt held levels hook f.0;
+  word = λ n le t lt held levels hook f. (want_phase c x).word n le t lt held levels hook f.0;
   acts = λ lim t held levels found hook f. (want_phase c x).acts lim t held levels found hook f.0;
   goes = λ lim t held levels found hook f. wants_fits c lim t held levels x found hook f;
   agrees = λ t f g h k mounts levels fits.
       ((want_phase c x).agrees t f g h k mounts levels fits.0, sym (levels 1 (omega arith) (omega arith)) ∙ fits.1);
-  quiet = λ w good t lt hook n e before after.
-      let coming : Next Want = (want_after x x.step (found_at w.words (Mounts (PlainWant x)) hook)).0 in
-      write_quiet c w good t lt hook (Wants x) e (map_next Writes (then_gives_back x.mount x.cpu coming))
-      (alike_wants x.mount x.cpu coming) n
-      (λ g at. (want_phase c x).quiet (first_world c w good t lt hook (Wants x) e) g t lt hook n at) before after;
-  level_quiet = λ w good t lt hook i e before after. mounts_quiet w t hook (PlainWant x) i;
   stays = λ w next earlier good t f e was quiet h. want_kept c t w next earlier x.mount x.step (ap asks e) h;
   causes = λ w earlier good t lt hook e after is h.
       let f : WriteFits c t (held_at (w.views t)) (holds_level (w.views t)) (Wants x) = write_fits_now c w good t lt hook (Wants x) e in
@@ -204,16 +192,11 @@ gives_back_phase c m p refusal = record {
   step = λ lim w good t lt hook e. write_keeps c lim w good t lt hook (GivesBack m p refusal) e;
   runs = λ lim w good t lt hook e i one three. write_phase_runs c lim w good t lt hook (GivesBack m p refusal) e i one three;
   completes = λ lim w good t lt hook e. completes_none c w t hook (Writes (GivesBack m p refusal)) (λ trace found. refl);
-  word = λ lim n le t lt held levels hook f.
-      (end_phase c (leaves_on p)).word lim n le t lt held levels hook (omega arith, omega arith, f.1, f.2);
+  word = λ n le t lt held levels hook f.
+      (end_phase c (leaves_on p)).word n le t lt held levels hook (omega arith, omega arith, f.1, f.2);
   acts = λ lim t held levels found hook f. (omega arith, omega arith);
   goes = λ lim t held levels found hook f. tt;
   agrees = λ t f g h k mounts levels fits. (fits.0, fits.1, sym (levels 1 (omega arith) (omega arith)) ∙ fits.2);
-  quiet = λ w good t lt hook n e before after. refl;
-  level_quiet = λ w good t lt hook i e before after.
-      write_level_quiet c w good t lt hook (GivesBack m p refusal) e (Done (Err refusal)) alike_none i
-      (λ g at.
-      (end_phase c (leaves_on p)).level_quiet (first_world c w good t lt hook (GivesBack m p refusal) e) g t lt hook i at) before after;
   stays = λ w next earlier good t f e was quiet h. want_kept c t w next earlier m (CountsDown refusal) (ap asks e) h;
   causes = λ w earlier good t lt hook e after is h. tt;
   waits = λ lim w earlier good t lt hook e cause. tt;
@@ -226,15 +209,11 @@ drops_phase c m p = record {
   step = λ lim w good t lt hook e. write_keeps c lim w good t lt hook (Drops m p) e;
   runs = λ lim w good t lt hook e i one three. write_phase_runs c lim w good t lt hook (Drops m p) e i one three;
   completes = λ lim w good t lt hook e. completes_none c w t hook (Writes (Drops m p)) (λ trace found. refl);
-  word = λ lim n le t lt held levels hook f. (drop_phase c m p).word lim n le t lt held levels hook f.0;
+  word = λ n le t lt held levels hook f. (drop_phase c m p).word n le t lt held levels hook f.0;
   acts = λ lim t held levels found hook f. (drop_phase c m p).acts lim t held levels found hook f.0;
   goes = λ lim t held levels found hook f. (f.0.1, f.1);
   agrees = λ t f g h k mounts levels fits.
       ((drop_phase c m p).agrees t f g h k mounts levels fits.0, sym (levels 1 (omega arith) (omega arith)) ∙ fits.1);
-  quiet = λ w good t lt hook n e before after.
-      write_quiet c w good t lt hook (Drops m p) e (Go (Writes (Ends p))) (alike_ends p) n
-      (λ g at. (drop_phase c m p).quiet (first_world c w good t lt hook (Drops m p) e) g t lt hook n at) before after;
-  level_quiet = λ w good t lt hook i e before after. refl;
   stays = λ w next earlier good t f e was quiet h. tt;
   causes = λ w earlier good t lt hook e after is h. tt;
   waits = λ lim w earlier good t lt hook e cause. tt;
@@ -247,15 +226,11 @@ ends_phase c p = record {
   step = λ lim w good t lt hook e. write_keeps c lim w good t lt hook (Ends p) e;
   runs = λ lim w good t lt hook e i one three. write_phase_runs c lim w good t lt hook (Ends p) e i one three;
   completes = λ lim w good t lt hook e. completes_none c w t hook (Writes (Ends p)) (λ trace found. refl);
-  word = λ lim n le t lt held levels hook f.
-      (end_phase c (leaves_on p)).word lim n le t lt held levels hook (omega arith, omega arith, f.0, f.1);
+  word = λ n le t lt held levels hook f.
+      (end_phase c (leaves_on p)).word n le t lt held levels hook (omega arith, omega arith, f.0, f.1);
   acts = λ lim t held levels found hook f. (omega arith, omega arith);
   goes = λ lim t held levels found hook f. tt;
   agrees = λ t f g h k mounts levels fits. (fits.0, sym (levels 1 (omega arith) (omega arith)) ∙ fits.1);
-  quiet = λ w good t lt hook n e before after. refl;
-  level_quiet = λ w good t lt hook i e before after.
-      write_level_quiet c w good t lt hook (Ends p) e (Done (Ok UnitReply)) alike_none i
-      (λ g at. (end_phase c (leaves_on p)).level_quiet (first_world c w good t lt hook (Ends p) e) g t lt hook i at) before after;
   stays = λ w next earlier good t f e was quiet h. tt;
   causes = λ w earlier good t lt hook e after is h. tt;
   waits = λ lim w earlier good t lt hook e cause. tt;
@@ -291,12 +266,15 @@ want_write_op c m p = record {
   fits = λ t held levels there order room.
       let at : (m < c.mounts) × (p < c.processors) = in_mount c m p there in
       ((omega arith, omega arith, at.1, refl, order), refl, at.0, ltb-true (held m) 1024 room);
-  no_role = λ t y. refl;
-  steady = λ t. record { owns_same = refl; remounts_same = refl; closing_same = λ j. refl };
-  aside = λ t. refl;
-  counts_not = λ t j. by_bool (j == 1) (λ b. count_role_if b CountsNot ≡ CountsNot) refl refl;
-  apart = λ t j. by_bool (j == 1) (λ b. sync_role_if b IsApart ≡ IsApart) refl refl;
-  outside = λ t. refl;
+  starts_idle = λ t. record {
+    steady = assumption;
+    stage_same = refl;
+    holder_same = refl;
+    level_same = λ j. by_bool (j == 1) (λ b. count_role_if b CountsNot ≡ CountsNot) refl refl;
+    sync_same = λ j. by_bool (j == 1) (λ b. sync_role_if b IsApart ≡ IsApart) refl refl;
+    inside_same = refl;
+    role_same = λ y. refl;
+  };
   off_tree = λ t trace. refl;
   cause = λ t w earlier. tt;
   order_agrees = λ f g h k mounts levels there. none_agree c 0 f g h k mounts levels;
@@ -318,12 +296,7 @@ drop_write_op c m p = record {
       let at : (m < c.mounts) × (p < c.processors) = in_mount c m p there in
       let o : (levels 1 ≡ true) × (nat_lt 0 (held m) ≡ true) = both (levels 1) (nat_lt 0 (held m)) order in
       ((at.0, at.1, ltb-true 0 (held m) o.1), o.0);
-  no_role = λ t y. refl;
-  steady = λ t. record { owns_same = refl; remounts_same = refl; closing_same = λ j. refl };
-  aside = λ t. refl;
-  counts_not = λ t j. refl;
-  apart = λ t j. refl;
-  outside = λ t. refl;
+  starts_idle = λ t. assumption;
   off_tree = λ t trace. refl;
   cause = λ t w earlier. tt;
   order_agrees = λ f g h k mounts levels there. rw (levels 1 (omega arith) (omega arith), mounts m (in_mount c m p there).0) refl;
