@@ -6,6 +6,7 @@ import select
 import shutil
 import subprocess
 import sys
+import tarfile
 import time
 
 HERE = os.path.dirname(os.path.realpath(__file__))
@@ -18,6 +19,7 @@ PROGRAMS = {"qemu-system-x86_64": "qemu-system-x86", "gcc": "gcc", "mkfs.ext4": 
 # The guest's modules. Which others each needs it says itself; that ext4 needs a driver for crc32c, it doesn't.
 MODULES = ["crc32c_generic", "brd", "ext4"]
 DISK = 12 << 20
+NEEDED = re.compile(r"\./(boot/vmlinuz-|lib/modules/[^/]+/kernel/(fs|lib|crypto|drivers/block)/)")
 
 # Seconds that the guest may take to come up, and for one answer.
 BOOT = 180
@@ -89,13 +91,21 @@ def fetch_image():
 
 
 def unpack(package):
-    """The package's files, as a folder."""
+    """What is needed of the package's files, as a folder."""
     folder = f"{OUT}/{os.path.basename(package)[:-4]}"
-    if not os.path.exists(f"{folder}/whole"):
-        shutil.rmtree(folder, ignore_errors=True)
-        os.makedirs(folder)
-        run(["dpkg-deb", "--extract", package, folder], "the kernel's package")
-        open(f"{folder}/whole", "w", encoding="utf-8").close()
+    if os.path.exists(f"{folder}/whole"):
+        return folder
+    shutil.rmtree(folder, ignore_errors=True)
+    os.makedirs(folder)
+    try:
+        with subprocess.Popen(["dpkg-deb", "--fsys-tarfile", package], stdout=subprocess.PIPE) as reader:
+            with tarfile.open(fileobj=reader.stdout, mode="r|") as files:
+                for file in files:
+                    if file.isfile() and NEEDED.match(file.name):
+                        files.extract(file, folder)
+    except tarfile.TarError as cause:
+        raise Failed(f"the kernel's package {package} can't be read: {cause}") from cause
+    open(f"{folder}/whole", "w", encoding="utf-8").close()
     return folder
 
 
