@@ -1,4 +1,7 @@
 -- All that is proved of each event of a call at the tree.
+use Rattle.gate_world.specs.Rules.{Fitting}
+use Rattle.gate_world.specs.Fits.{Fits}
+use Rattle.std.proofs.Common.{subst}
 use Rattle.gated_tree.specs.declared.phases.TreePhase.{TreePhase}
 use Rattle.gate_world.specs.declared.config.Config.{Config}
 use Rattle.gate_world.specs.declared.work.Phase.TheVariants.{Trees}
@@ -11,7 +14,6 @@ use Rattle.call_laws.proofs.TreeFits.{tree_acts, tree_goes, tree_agrees}
 use Rattle.call_laws.proofs.TreeRuns.{tree_runs}
 use Rattle.call_laws.proofs.TreeCauses.{tree_stays, tree_own}
 use Rattle.call_laws.proofs.TreeWaits.{tree_waits}
-use Rattle.call_laws.proofs.NodeCauses.{tree_told}
 
 -- of each phase of a call at the tree
 pub tree_phase_keeps : (c : Config) (x : TreePhase) → PhaseKeeps c (Trees x)
@@ -25,6 +27,6 @@ tree_phase_keeps c x = record {
   agrees = λ t f g h k mounts levels fits. tree_agrees c f g h k mounts levels t x fits;
   stays = λ w next earlier good t fits e was quiet h. tree_stays c t w next earlier x e h;
   causes = λ w earlier good t lt hook e after is h. tree_own c t w (after_step w t (Trees x) hook) earlier hook x e is;
-  waits = λ within w earlier good t lt hook e cause. tree_waits c w earlier t good lt hook x e;
-  tells = λ t w earlier fits h. tree_told c t w earlier (held_at (w.views t)) (holds_level (w.views t)) x fits h;
+  reasons = λ within w earlier good t lt hook e cause.
+      tree_waits c w earlier t good lt hook x e (subst (Fits c t (held_at (w.views t)) (holds_level (w.views t))) e (good Fitting t lt)) cause;
 }

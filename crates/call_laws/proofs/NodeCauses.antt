@@ -1,4 +1,7 @@
 -- A call at the tree that its next event refuses for what a node is: the event loads that node, and the shown model has it so.
+use Rattle.gate_world.specs.Shown.{shown}
+use Rattle.gate_world.specs.Work.{after_of}
+use Rattle.cpu_words.specs.Hooks.{HookAnswer}
 use Rattle.std.proofs.Common.{inl, inr}
 use Rattle.gated_tree.specs.declared.opens.OpenFile.{OpenFile}
 use Rattle.gated_tree.specs.declared.opens.OpenStep.{OpenStep}
@@ -69,16 +72,7 @@ use Rattle.gated_tree.specs.declared.marks.MarkStep.{MarkStep}
 use Rattle.gated_tree.specs.declared.marks.MarkStep.TheVariants.{LoadsFile as LoadsFileToMark, MarksFile}
 use Rattle.gated_tree.specs.declared.marks.ClearMarks.{ClearMarks}
 use Rattle.gated_tree.specs.declared.phases.TreePhase.{TreePhase}
-use Rattle.gated_tree.specs.declared.phases.TreePhase.TheVariants.{
-  Create as Creates,
-  Remove as Removes,
-  Grow as Grows,
-  MoveTo as Moves,
-  Mark as TreeMarks,
-  OpenFile as OpensOne,
-  Snapshot as Snapshots,
-  ClearMarks as TreeClears,
-}
+use Rattle.gated_tree.specs.declared.phases.TreePhase.TheVariants.{Create as Creates, Remove as Removes, Grow as Grows, MoveTo as Moves, Mark as TreeMarks, OpenFile as OpensOne, ClearMarks as TreeClears}
 use Rattle.gated_tree.specs.Nodes.{
   word_of,
   unpacked,
@@ -118,11 +112,8 @@ use Rattle.gated_tree.specs.Phases.{
 use Rattle.gated_tree.proofs.Packing.{fields_shown}
 use Rattle.gate_world.specs.declared.config.Config.{Config}
 use Rattle.gate_world.specs.declared.work.Phase.TheVariants.{Trees}
-use Rattle.gate_world.specs.Causes.{TellsOf, is_of_node, NodeHasCause, TreeHasCause}
-use Rattle.gate_world.specs.Fits.{PhaseFits}
-use Rattle.gate_world.specs.KeptCauses.{TreeCause}
-use Rattle.gate_world.specs.Worlds.{World}
-use Rattle.call_laws.proofs.TreeCauses.{snapshot_told}
+use Rattle.gate_world.specs.Causes.{TellsOf, CallRefused, tree_sees}
+use Rattle.gate_world.specs.Worlds.{World, found_at}
 
 -- what is there is what it is
 some_is : {A : Type 0} (a b : A) → Some a ≡ Some b → a ≡ b
@@ -186,6 +177,28 @@ look_refused to again from None refusal e = absurd cc
 look_refused to again from (Some (Ok a)) refusal e = absurd cc
 look_refused to again from (Some (Err other)) refusal e = cc
 
+-- a refusal that tells what a node is
+abbrev pub is_of_node : GateError → Bool
+is_of_node NoEntry = true
+is_of_node NotDir = true
+is_of_node IsDir = true
+is_of_node refusal = false
+
+-- A call at the tree that its next event refuses so loads a node with that event, and the shown model has the node so.
+abbrev pub NodeHasCause : Config → World → TreePhase → Type 0
+NodeHasCause c w phase = (hook : HookAnswer) (refusal : GateError) →
+    (after_of (Trees phase) (found_at w.words (Trees phase) hook) hook).0 ≡ Done (Err refusal) → is_of_node refusal ≡ true →
+    (n : ℕ) × (tree_sees phase ≡ Some n) × TellsOf ((shown c w).tree n) refusal
+
+-- so it is of a refusal, whatever it tells
+pub call_refused : (c : Config) (w : World) (earlier : List World) (phase : TreePhase) (refusal : GateError) →
+    (is_of_node refusal ≡ true → (n : ℕ) × (tree_sees phase ≡ Some n) × TellsOf ((shown c w).tree n) refusal) →
+    CallRefused c (w ∷ earlier) phase refusal
+call_refused c w earlier phase NoEntry h = h refl
+call_refused c w earlier phase NotDir h = h refl
+call_refused c w earlier phase IsDir h = h refl
+call_refused c w earlier phase refusal h = tt
+
 -- an end that is no refusal for what a node is
 abbrev NotOfNode : {P : Type 0} → Next P → Type 0
 NotOfNode (Go p) = Unit {0}
@@ -232,7 +245,7 @@ clears_not x (Some node) = tt
 
 module _ (c : Config) (w : World) where
   -- a create is refused so where it looks at its directory
-  create_node : (x : Create) (s : CreateStep) → NodeHasCause c w (Creates (at_create x s))
+  pub create_node : (x : Create) (s : CreateStep) → NodeHasCause c w (Creates (at_create x s))
   create_node x LoadsDirectory hook refusal e is = (
     x.dir,
     refl,
@@ -250,7 +263,7 @@ module _ (c : Config) (w : World) where
       not_of_node Creates (create_after (at_create x RefundsChild) RefundsChild (w.words.kids x.dir)).0 refl refusal e is
 
   -- a remove, where it looks at its file
-  remove_node : (x : Remove) (s : RemoveStep) → NodeHasCause c w (Removes (at_remove x s))
+  pub remove_node : (x : Remove) (s : RemoveStep) → NodeHasCause c w (Removes (at_remove x s))
   remove_node x LoadsFileToRemove hook refusal e is = (
     x.file,
     refl,
@@ -275,7 +288,7 @@ module _ (c : Config) (w : World) where
       (remove_after (at_remove x (RefundsItsChild file)) (RefundsItsChild file) (w.words.kids file.parent)).0 tt refusal e is
 
   -- a grow likewise
-  grow_node : (x : Grow) (s : GrowStep) → NodeHasCause c w (Grows (at_grow x s))
+  pub grow_node : (x : Grow) (s : GrowStep) → NodeHasCause c w (Grows (at_grow x s))
   grow_node x LoadsFileToGrow hook refusal e is = (
     x.file,
     refl,
@@ -296,7 +309,7 @@ module _ (c : Config) (w : World) where
       not_of_node Grows (grow_after (at_grow x RefundsBlocks) RefundsBlocks w.words.used).0 refl refusal e is
 
   -- a move, where it looks at its file or at its directory
-  move_node : (x : MoveTo) (s : MoveStep) → MoveStepFits s → NodeHasCause c w (Moves (at_move x s))
+  pub move_node : (x : MoveTo) (s : MoveStep) → MoveStepFits s → NodeHasCause c w (Moves (at_move x s))
   move_node x LoadsFileToMove fits hook refusal e is = (
     x.file,
     refl,
@@ -319,7 +332,7 @@ module _ (c : Config) (w : World) where
       (answer_not answer fits.1) refusal e is
 
   -- a page fault or a write-back, where it looks at its file
-  mark_node : (x : Mark) (s : MarkStep) → NodeHasCause c w (TreeMarks (at_mark x s))
+  pub mark_node : (x : Mark) (s : MarkStep) → NodeHasCause c w (TreeMarks (at_mark x s))
   mark_node x LoadsFileToMark hook refusal e is = (
     x.file,
     refl,
@@ -331,7 +344,7 @@ module _ (c : Config) (w : World) where
       (either (w.words.node x.file == word_of file) _ _ tt refl) refusal e is
 
   -- an open, where it looks at its file
-  open_node : (x : OpenFile) (s : OpenStep) → NodeHasCause c w (OpensOne (at_open x s))
+  pub open_node : (x : OpenFile) (s : OpenStep) → NodeHasCause c w (OpensOne (at_open x s))
   open_node x LoadsFileToOpen hook refusal e is = (
     x.file,
     refl,
@@ -343,18 +356,6 @@ module _ (c : Config) (w : World) where
       (either (w.words.node x.file == word_of file) _ _ tt refl) refusal e is
 
   -- a clearing of marks is not
-  clear_node : (x : ClearMarks) → NodeHasCause c w (TreeClears x)
+  pub clear_node : (x : ClearMarks) → NodeHasCause c w (TreeClears x)
   clear_node x hook refusal e is =
       not_of_node TreeClears (clear_after x (w.words.node x.node)).0 (clears_not x (node_after x.node x.nodes)) refusal e is
-
--- the cause of a call at the tree that fits is told
-pub tree_told : (c : Config) (t : ℕ) (w : World) (earlier : List World) (held : ℕ → ℕ) (levels : ℕ → Bool) (x : TreePhase) →
-    PhaseFits c t held levels (Trees x) → TreeCause c t w earlier x → TreeHasCause c t (w ∷ earlier) x
-tree_told c t w earlier held levels (Creates x) fits h = create_node c w x x.step
-tree_told c t w earlier held levels (Removes x) fits h = remove_node c w x x.step
-tree_told c t w earlier held levels (Grows x) fits h = grow_node c w x x.step
-tree_told c t w earlier held levels (Moves x) fits h = move_node c w x x.step fits.0.2
-tree_told c t w earlier held levels (TreeMarks x) fits h = mark_node c w x x.step
-tree_told c t w earlier held levels (OpensOne x) fits h = open_node c w x x.step
-tree_told c t w earlier held levels (Snapshots x) fits h = snapshot_told c t w earlier x.step h
-tree_told c t w earlier held levels (TreeClears x) fits h = clear_node c w x

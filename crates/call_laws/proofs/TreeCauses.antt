@@ -3,7 +3,7 @@ use Rattle.std.proofs.Common.{◌≡◌, ℕ, ap, ◌∙◌, inl, inr}
 use Rattle.std.proofs.lemmas.Bool.{ne_eqb}
 use Rattle.std.proofs.lemmas.Bool.Decides.{eqb_tells}
 use Rattle.std.specs.Prelude.{Option, Some, None, Err, List, ◌∷◌, not, Bool, true, false, if◌then◌else◌, is_some, ◌==◌}
-use Rattle.access_model.specs.declared.errors.GateError.TheVariants.{Invalid}
+use Rattle.access_model.specs.declared.errors.GateError.TheVariants.{Invalid, Again}
 use Rattle.access_model.specs.declared.replies.Next.{Next}
 use Rattle.access_model.specs.declared.replies.Next.TheVariants.{Done, Go, Wait}
 use Rattle.access_model.specs.Replies.{map_next}
@@ -47,7 +47,7 @@ use Rattle.gated_tree.specs.Phases.{
 use Rattle.gate_world.specs.declared.config.Config.{Config}
 use Rattle.gate_world.specs.declared.work.Phase.{Phase}
 use Rattle.gate_world.specs.declared.work.Phase.TheVariants.{Trees}
-use Rattle.gate_world.specs.Causes.{looks_at_stage, was_incomplete, SnapshotHasCause}
+use Rattle.gate_world.specs.Causes.{looks_at_stage, was_incomplete}
 use Rattle.gate_world.specs.KeptCauses.{SnapshotCause, TreeCause, CauseOf}
 use Rattle.gate_world.specs.Views.{phase_after}
 use Rattle.gate_world.specs.Work.{after_of}
@@ -57,8 +57,9 @@ use Rattle.gate_world.specs.Worlds.{World, found_at}
 snapshot_stays : (c : Config) (t : ℕ) (w next : World) (earlier : List World) (x : Snapshot) (s : SnapshotStep) →
     (next.views t).phase ≡ Some (Trees (Snapshots (at_snapshot x s))) → SnapshotCause c t w earlier s →
     SnapshotCause c t next (w ∷ earlier) s
-snapshot_stays c t w next earlier x (Releases answer) e h =
-    λ r. ap (was_incomplete c) (look_skips t next (w ∷ earlier) (ap looks_at_stage e)) ∙ h r
+snapshot_stays c t w next earlier x (Releases (Err Invalid)) e h =
+    ap (was_incomplete c) (look_skips t next (w ∷ earlier) (ap looks_at_stage e)) ∙ h
+snapshot_stays c t w next earlier x (Releases (Err Again)) e h = absurd h
 snapshot_stays c t w next earlier x s e h = tt
 
 -- so it is of each call at the tree
@@ -66,12 +67,6 @@ pub tree_stays : (c : Config) (t : ℕ) (w next : World) (earlier : List World) 
     (next.views t).phase ≡ Some (Trees x) → TreeCause c t w earlier x → TreeCause c t next (w ∷ earlier) x
 tree_stays c t w next earlier (Snapshots x) e h = snapshot_stays c t w next earlier x x.step e h
 tree_stays c t w next earlier x e h = tt
-
--- the cause of a snapshot that is kept is the one that is told
-pub snapshot_told : (c : Config) (t : ℕ) (w : World) (earlier : List World) (s : SnapshotStep) → SnapshotCause c t w earlier s →
-    SnapshotHasCause c t (w ∷ earlier) s
-snapshot_told c t w earlier (Releases answer) h = h
-snapshot_told c t w earlier s h = tt
 
 -- the task that steps: what its next phase says, in the world after the event
 module _ (c : Config) (t : ℕ) (w next : World) (earlier : List World) where
@@ -104,13 +99,13 @@ module _ (c : Config) (t : ℕ) (w next : World) (earlier : List World) where
   -- a snapshot that is done is not refused
   kids_own : (x : Snapshot) (o : Option ℕ) → CauseAfter (Go (at_snapshot x (kids_step o)))
   kids_own x (Some node) = tt
-  kids_own x None = λ r. absurd cc
+  kids_own x None = tt
 
   -- where the stage was found other than 4, it was so when the snapshot looked
   stage_own : (x : Snapshot) → (w.views t).phase ≡ Some (Trees (Snapshots (at_snapshot x LoadsStage))) → (w.words.stage ≡ 4 → ⊥) →
       (next.views t).phase ≡ Some (Trees (Snapshots (at_snapshot x (Releases (Err Invalid))))) →
       SnapshotCause c t next (w ∷ earlier) (Releases (Err Invalid))
-  stage_own x e other e' r =
+  stage_own x e other e' =
       ap (was_incomplete c) (look_skips t next (w ∷ earlier) (ap looks_at_stage e') ∙ look_stands t w earlier (ap looks_at_stage e)) ∙
       ap not (ne_eqb w.words.stage 4 other)
 

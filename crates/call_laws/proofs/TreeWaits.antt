@@ -1,9 +1,16 @@
--- Of the calls at the tree only a snapshot waits, and only where another task has `umount`.
+-- Of the calls at the tree only a snapshot waits, and only where another task has `umount`; each is refused only for its cause.
+use Rattle.call_laws.proofs.NodeCauses.{is_of_node, call_refused, create_node, remove_node, grow_node, move_node, mark_node, open_node, clear_node}
+use Rattle.access_model.specs.declared.errors.GateError.TheVariants.{Again, Invalid}
+use Rattle.gate_world.specs.Shown.{shown}
+use Rattle.gate_world.specs.Views.{held_at, holds_level}
+use Rattle.gate_world.specs.Fits.{PhaseFits}
+use Rattle.gate_world.specs.KeptCauses.{SnapshotCause, TreeCause}
+use Rattle.gate_world.specs.Causes.{CallRefused, TreeRefused, IsTaken, TellsOf, tree_sees}
 use Rattle.gated_tree.specs.declared.opens.OpenFile.{OpenFile}
 use Rattle.gated_tree.specs.declared.opens.OpenStep.{OpenStep}
 use Rattle.gated_tree.specs.declared.opens.OpenStep.TheVariants.{LoadsFile as LoadsFileToOpen, OpensFile}
-use Rattle.std.proofs.Common.{◌≡◌, ℕ, ◌<◌, ap, inl, inr}
-use Rattle.std.specs.Prelude.{Some, None, Ok, Err, List, Option, Result, ◌==◌, if◌then◌else◌, Bool, true, false, is_some, nat_lt, ◌+◌}
+use Rattle.std.proofs.Common.{◌≡◌, ℕ, ◌<◌, ap, inl, inr, refl}
+use Rattle.std.specs.Prelude.{Some, None, Ok, Err, List, Option, Result, ◌==◌, if◌then◌else◌, Bool, true, false, is_some, nat_lt, ◌+◌, ◌∷◌}
 use Rattle.std.proofs.lemmas.Bool.Decides.{eqb_tells}
 use Rattle.access_model.specs.Replies.{map_next}
 use Rattle.access_model.specs.declared.replies.Next.{Next}
@@ -69,31 +76,13 @@ use Rattle.gated_tree.specs.declared.phases.TreePhase.TheVariants.{
   ClearMarks as TreeClears,
 }
 use Rattle.gated_tree.specs.Nodes.{word_of, unpacked, file_in, directory_in, node_after}
-use Rattle.gated_tree.specs.Phases.{
-  create_after,
-  create_past,
-  create_looks_at,
-  create_looked,
-  remove_after,
-  grow_after,
-  move_after,
-  mark_after,
-  open_after,
-  snapshot_locked_out,
-  snapshot_after,
-  clear_after,
-  after_look,
-  at_create,
-  at_snapshot,
-  clears_at,
-}
+use Rattle.gated_tree.specs.Phases.{create_after, create_past, create_looks_at, create_looked, remove_after, grow_after, move_after, mark_after, open_after, snapshot_locked_out, clear_after, after_look, at_create, at_snapshot, clears_at, node_step}
 use Rattle.gate_world.specs.declared.config.Config.{Config}
-use Rattle.gate_world.specs.declared.work.Phase.{Phase}
 use Rattle.gate_world.specs.declared.work.Phase.TheVariants.{Trees}
 use Rattle.gate_world.specs.Work.{after_of}
 use Rattle.gate_world.specs.Worlds.{World, found_at}
 use Rattle.gate_world.specs.Rules.{owns, IsGood}
-use Rattle.gate_world.specs.Waits.{WaitsForAnother}
+use Rattle.gate_world.specs.Waits.{HasReason, HasCulprit}
 use Rattle.gate_frames.proofs.Owners.{umount_taken}
 
 -- what comes is no wait
@@ -175,65 +164,76 @@ clear_goes_on x None = tt
 clear_goes_on x (Some node) = tt
 
 module _ (c : Config) (w : World) (earlier : List World) (t : ℕ) where
-  -- what is no wait waits for nobody
-  no_wait : {P : Type 0} (to : P → TreePhase) (phase : Phase) (n : Next P) → GoesOn n →
-      WaitsForAnother c w earlier t phase (map_next Trees (map_next to n))
-  no_wait to phase (Go p) h = tt
-  no_wait to phase (Wait p) h = absurd h
-  no_wait to phase (Done answer) h = tt
+  -- what is no wait waits for nobody, and a refusal of a call that is no snapshot has its cause at its own event
+  no_wait : {P : Type 0} (to : P → TreePhase) (x : TreePhase) (n : Next P) → GoesOn n →
+      ((refusal : GateError) → CallRefused c (w ∷ earlier) x refusal → TreeRefused c t (w ∷ earlier) x refusal) →
+      ((refusal : GateError) → map_next Trees (map_next to n) ≡ Done (Err refusal) → is_of_node refusal ≡ true →
+      (m : ℕ) × (tree_sees x ≡ Some m) × TellsOf ((shown c w).tree m) refusal) →
+      HasReason c w earlier t (Trees x) (map_next Trees (map_next to n))
+  no_wait to x (Go p) h call node = tt
+  no_wait to x (Wait p) h call node = absurd h
+  no_wait to x (Done (Ok reply)) h call node = tt
+  no_wait to x (Done (Err refusal)) h call node = call refusal (call_refused c w earlier x refusal (node refusal refl))
+
+  -- what of a snapshot comes next goes on
+  goes_on : (x : Snapshot) (b : Bool) (s s' : SnapshotStep) →
+      HasReason c w earlier t (Trees (Snapshots x)) (map_next Trees (map_next Snapshots (if b then Go (at_snapshot x s) else Go (at_snapshot x s'))))
+  goes_on x true s s' = tt
+  goes_on x false s s' = tt
 
   -- a snapshot that finds `umount` taken waits for who has it, or is refused
-  locked_out_waits : (x : Snapshot) (phase : Phase) (wait : Bool) → WaitsForAnother c w earlier t phase (Wait phase) →
-      WaitsForAnother c w earlier t phase (map_next Trees (map_next Snapshots (snapshot_locked_out x wait)))
-  locked_out_waits x phase true h = h
-  locked_out_waits x phase false h = tt
+  locked_out_waits : (x : Snapshot) (wait : Bool) → HasCulprit c w t (Trees (Snapshots x)) → IsTaken c t (w ∷ earlier) →
+      HasReason c w earlier t (Trees (Snapshots x)) (map_next Trees (map_next Snapshots (snapshot_locked_out x wait)))
+  locked_out_waits x true h taken = h
+  locked_out_waits x false h taken = taken
 
   module _ (good : IsGood c w) (lt : t < c.tasks) where
     -- each event of a snapshot
     snapshot_waits : (hook : HookAnswer) (x : Snapshot) (s : SnapshotStep) →
-        (w.views t).phase ≡ Some (Trees (Snapshots (at_snapshot x s))) →
-        WaitsForAnother c w earlier t (Trees (Snapshots (at_snapshot x s)))
+        (w.views t).phase ≡ Some (Trees (Snapshots (at_snapshot x s))) → SnapshotCause c t w earlier s →
+        HasReason c w earlier t (Trees (Snapshots (at_snapshot x s)))
         (after_of (Trees (Snapshots (at_snapshot x s))) (found_at w.words (Trees (Snapshots (at_snapshot x s))) hook) hook).0
-    snapshot_waits hook x Locks e =
+    snapshot_waits hook x Locks e cause =
         elim (eqb_tells w.words.umount 0) [
           | inl h ↦ rw h.0 tt
-          | inr h ↦ rw h.0 (locked_out_waits (at_snapshot x Locks) (Trees (Snapshots (at_snapshot x Locks))) x.wait
-              (umount_taken c w good t lt (Trees (Snapshots (at_snapshot x Locks))) (λ y own. own) h.1 (ap owns e)))
+          | inr h ↦
+              let who = umount_taken c w good t lt (Trees (Snapshots (at_snapshot x Locks))) (λ y own. own) h.1 (ap owns e) in
+              rw h.0 (locked_out_waits (at_snapshot x Locks) x.wait who (who.task, who.there, who.other, who.stands))
         ]
-    snapshot_waits hook x LoadsStage e =
-        no_wait Snapshots (Trees (Snapshots (at_snapshot x LoadsStage)))
-        (snapshot_after (at_snapshot x LoadsStage) LoadsStage w.words.stage).0
-        (either (w.words.stage == 4) _ _ tt tt)
-    snapshot_waits hook x LoadsUsedWord e = tt
-    snapshot_waits hook x (LoadsNodeWord node) e =
-        no_wait Snapshots (Trees (Snapshots (at_snapshot x (LoadsNodeWord node))))
-        (snapshot_after (at_snapshot x (LoadsNodeWord node)) (LoadsNodeWord node) (w.words.node node)).0
-        (either (is_some (unpacked (w.words.node node))) _ _ tt tt)
-    snapshot_waits hook x (LoadsKids node) e = tt
-    snapshot_waits hook x (Releases answer) e = tt
+    snapshot_waits hook x LoadsStage e cause =
+        goes_on (at_snapshot x LoadsStage) (w.words.stage == 4) LoadsUsedWord (Releases (Err Invalid))
+    snapshot_waits hook x LoadsUsedWord e cause = tt
+    snapshot_waits hook x (LoadsNodeWord node) e cause =
+        goes_on (at_snapshot x (LoadsNodeWord node)) (is_some (unpacked (w.words.node node))) (node_step (node_after node x.nodes))
+        (LoadsNodeWord node)
+    snapshot_waits hook x (LoadsKids node) e cause = tt
+    snapshot_waits hook x (Releases (Ok reply)) e cause = tt
+    snapshot_waits hook x (Releases (Err Again)) e cause = absurd cause
+    snapshot_waits hook x (Releases (Err refusal)) e cause = cause
 
     -- so it is of each event at the tree
     pub tree_waits : (hook : HookAnswer) (x : TreePhase) → (w.views t).phase ≡ Some (Trees x) →
-        WaitsForAnother c w earlier t (Trees x) (after_of (Trees x) (found_at w.words (Trees x) hook) hook).0
-    tree_waits hook (Creates x) e =
+        PhaseFits c t (held_at (w.views t)) (holds_level (w.views t)) (Trees x) → TreeCause c t w earlier x →
+        HasReason c w earlier t (Trees x) (after_of (Trees x) (found_at w.words (Trees x) hook) hook).0
+    tree_waits hook (Creates x) e fits cause =
         let found : ℕ = found_at w.words (Trees (Creates x)) hook in
-        no_wait Creates (Trees (Creates x)) (create_after x x.step found).0 (create_goes_on x x.step found)
-    tree_waits hook (Removes x) e =
+        no_wait Creates (Creates x) (create_after x x.step found).0 (create_goes_on x x.step found) (λ refusal h. h) (create_node c w x x.step hook)
+    tree_waits hook (Removes x) e fits cause =
         let found : ℕ = found_at w.words (Trees (Removes x)) hook in
-        no_wait Removes (Trees (Removes x)) (remove_after x x.step found).0 (remove_goes_on x x.step found)
-    tree_waits hook (Grows x) e =
+        no_wait Removes (Removes x) (remove_after x x.step found).0 (remove_goes_on x x.step found) (λ refusal h. h) (remove_node c w x x.step hook)
+    tree_waits hook (Grows x) e fits cause =
         let found : ℕ = found_at w.words (Trees (Grows x)) hook in
-        no_wait Grows (Trees (Grows x)) (grow_after x x.step found).0 (grow_goes_on x x.step found)
-    tree_waits hook (Moves x) e =
+        no_wait Grows (Grows x) (grow_after x x.step found).0 (grow_goes_on x x.step found) (λ refusal h. h) (grow_node c w x x.step hook)
+    tree_waits hook (Moves x) e fits cause =
         let found : ℕ = found_at w.words (Trees (Moves x)) hook in
-        no_wait Moves (Trees (Moves x)) (move_after x x.step found).0 (move_goes_on x x.step found)
-    tree_waits hook (TreeMarks x) e =
+        no_wait Moves (Moves x) (move_after x x.step found).0 (move_goes_on x x.step found) (λ refusal h. h) (move_node c w x x.step fits.0.2 hook)
+    tree_waits hook (TreeMarks x) e fits cause =
         let found : ℕ = found_at w.words (Trees (TreeMarks x)) hook in
-        no_wait TreeMarks (Trees (TreeMarks x)) (mark_after x x.step found).0 (mark_goes_on x x.step found)
-    tree_waits hook (OpensOne x) e =
+        no_wait TreeMarks (TreeMarks x) (mark_after x x.step found).0 (mark_goes_on x x.step found) (λ refusal h. h) (mark_node c w x x.step hook)
+    tree_waits hook (OpensOne x) e fits cause =
         let found : ℕ = found_at w.words (Trees (OpensOne x)) hook in
-        no_wait OpensOne (Trees (OpensOne x)) (open_after x x.step found).0 (open_goes_on x x.step found)
-    tree_waits hook (Snapshots x) e = snapshot_waits hook x x.step e
-    tree_waits hook (TreeClears x) e =
+        no_wait OpensOne (OpensOne x) (open_after x x.step found).0 (open_goes_on x x.step found) (λ refusal h. h) (open_node c w x x.step hook)
+    tree_waits hook (Snapshots x) e fits cause = snapshot_waits hook x x.step e cause
+    tree_waits hook (TreeClears x) e fits cause =
         let found : ℕ = found_at w.words (Trees (TreeClears x)) hook in
-        no_wait TreeClears (Trees (TreeClears x)) (clear_after x found).0 (clear_goes_on x (node_after x.node x.nodes))
+        no_wait TreeClears (TreeClears x) (clear_after x found).0 (clear_goes_on x (node_after x.node x.nodes)) (λ refusal h. h) (clear_node c w x hook)

@@ -17,10 +17,10 @@ use Rattle.gate_world.specs.declared.work.Phase.TheVariants.{Closes}
 use Rattle.gate_world.specs.Views.{phase_after}
 use Rattle.gate_world.specs.Causes.{asks_level, last_asked, WasClosed}
 use Rattle.gate_world.specs.KeptCauses.{CauseOf}
-use Rattle.gate_world.specs.Waits.{WaitsForAnother}
+use Rattle.gate_world.specs.Waits.{HasReason}
 use Rattle.gate_world.specs.Worlds.{World}
 use Rattle.writer_laws.proofs.ReadCauses.{AsksNext, HasNextCause}
-use Rattle.writer_laws.proofs.ReadWaits.{WhereItWaits}
+use Rattle.writer_laws.proofs.ReadWaits.{WhereRefused, read_refused}
 
 module _ (c : Config) (t : ℕ) (w next : World) (earlier : List World) (file p : ℕ) (node : NodeWord) where
   -- after an event at level 3 the task asks where a down-read does
@@ -39,14 +39,14 @@ module _ (c : Config) (t : ℕ) (w next : World) (earlier : List World) (file p 
   enters_cause (Done (Err refusal)) h = tt
 
 module _ (c : Config) (t : ℕ) (w : World) (earlier : List World) where
-  -- a wait at level 3 is one for who closed it
+  -- a wait at level 3 is one for who closed it, and so is a refusal
   pub enters_waits : (file p : ℕ) (node : NodeWord) (r : DownRead) (n : Next DownRead) →
-      WhereItWaits (WasClosed c t r.level (last_asked t (w ∷ earlier))) n →
-      WaitsForAnother c w earlier t (Closes (Enters file node r)) (map_next Closes (then_frees file node p n))
+      WhereRefused (WasClosed c t r.level (last_asked t (w ∷ earlier))) n →
+      HasReason c w earlier t (Closes (Enters file node r)) (map_next Closes (then_frees file node p n))
   enters_waits file p node r (Go x) h = tt
   enters_waits file p node r (Wait x) h = h
   enters_waits file p node r (Done (Ok reply)) h = tt
-  enters_waits file p node r (Done (Err refusal)) h = tt
+  enters_waits file p node r (Done (Err refusal)) h = read_refused c t (w ∷ earlier) r.level refusal h
 
   -- what comes after its file was found has no cause yet
   found_cause : (x : Closing) (file : NodeWord) → CauseOf c t w earlier (Some (Closes (closed_from x file)))
@@ -64,7 +64,7 @@ module _ (c : Config) (t : ℕ) (w : World) (earlier : List World) where
 
   -- nor is it a wait
   pub looked_waits : (x : Closing) (r : Option (Result NodeWord GateError)) →
-      WaitsForAnother c w earlier t (Closes (LoadsFile x)) (map_next Closes (after_look (LoadsFile x) (closed_from x) r))
+      HasReason c w earlier t (Closes (LoadsFile x)) (map_next Closes (after_look (LoadsFile x) (closed_from x) r))
   looked_waits x None = tt
   looked_waits x (Some (Ok file)) = tt
   looked_waits x (Some (Err refusal)) = tt

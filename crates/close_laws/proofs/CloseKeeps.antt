@@ -19,7 +19,7 @@ use Rattle.gate_world.specs.declared.config.Config.{Config}
 use Rattle.gate_world.specs.declared.work.Phase.{Phase}
 use Rattle.gate_world.specs.declared.work.Phase.TheVariants.{Closes, DownReads, UpReads}
 use Rattle.gate_world.specs.Alike.{rephased}
-use Rattle.gate_world.specs.Causes.{asks_level, HasCause}
+use Rattle.gate_world.specs.Causes.{asks_level}
 use Rattle.gate_world.specs.Configs.{IsWithin}
 use Rattle.gate_world.specs.Fits.{CloseFits}
 use Rattle.gate_world.specs.KeptCauses.{CauseOf}
@@ -27,12 +27,12 @@ use Rattle.gate_world.specs.LevelRuns.{level_in}
 use Rattle.gate_world.specs.Levels.{sync_role_of}
 use Rattle.gate_world.specs.Rules.{IsGood, StepKeeps}
 use Rattle.gate_world.specs.Views.{holds_level, phase_after}
-use Rattle.gate_world.specs.Waits.{WaitsForAnother}
+use Rattle.gate_world.specs.Waits.{HasReason}
 use Rattle.gate_world.specs.Worlds.{World, after_step, found_at}
 use Rattle.gate_world.specs.Alike.{IsBeside}
 use Rattle.gate_frames.proofs.Keeps.{PhaseKeeps}
 use Rattle.gate_frames.proofs.Snapshots.{completes_none}
-use Rattle.writer_laws.proofs.ReadCauses.{read_stays, read_own, read_not_closed, read_tells}
+use Rattle.writer_laws.proofs.ReadCauses.{read_stays, read_own, read_not_closed}
 use Rattle.writer_laws.proofs.ReadKeeps.{read_phase, end_phase}
 use Rattle.writer_laws.proofs.ReadWaits.{read_waits}
 use Rattle.close_laws.proofs.CloseCauses.{enters_asks, enters_cause, enters_waits, looked_cause, looked_waits}
@@ -105,7 +105,7 @@ close_causes c w earlier good t hook (Leaves p) f e is h = tt
 -- it waits at level 3 alone
 close_waits : (c : Config) (w : World) (earlier : List World) (t : ℕ) (hook : HookAnswer) (x : ClosePhase) →
     CauseOf c t w earlier (Some (Closes x)) →
-    WaitsForAnother c w earlier t (Closes x) (map_next Closes (after x (found_at w.words (Closes x) hook)).0)
+    HasReason c w earlier t (Closes x) (map_next Closes (after x (found_at w.words (Closes x) hook)).0)
 close_waits c w earlier t hook (LoadsFile x) h = looked_waits c t w earlier x (any_file_in (found_at w.words (Closes (LoadsFile x)) hook))
 close_waits c w earlier t hook (LowersCount x node) h =
     elim (cases_Bool (w.words.node x.file == word_of node)) [ inl z ↦ rw z tt | inr z ↦ rw z tt ]
@@ -117,12 +117,6 @@ close_waits c w earlier t hook (FreesNode file p node) h =
 close_waits c w earlier t hook (RefundsBlocks p blocks) h = tt
 close_waits c w earlier t hook (Uncounts p) h = tt
 close_waits c w earlier t hook (Leaves p) h = tt
-
--- and tells what is to be told
-close_tells : (c : Config) (t : ℕ) (w : World) (earlier : List World) (x : ClosePhase) → CauseOf c t w earlier (Some (Closes x)) →
-    HasCause c t (w ∷ earlier) (Some (Closes x))
-close_tells c t w earlier (Enters file node r) h = λ e. read_tells c t w earlier r.level r.step h e
-close_tells c t w earlier x h = tt
 
 -- what is proved of each phase
 pub close_phase : (c : Config) (x : ClosePhase) → PhaseKeeps c (Closes x)
@@ -136,6 +130,5 @@ close_phase c x = record {
   agrees = λ t f g h k mounts levels fits. close_agrees c t f g h k mounts levels x fits;
   stays = λ w next earlier good t f e was quiet h. close_stays c t w next earlier x e h;
   causes = λ w earlier good t lt hook e after is h. close_causes c w earlier good t hook x (close_fits_now c w good t lt hook x e) e is h;
-  waits = λ lim w earlier good t lt hook e cause. close_waits c w earlier t hook x cause;
-  tells = λ t w earlier fits h. close_tells c t w earlier x h;
+  reasons = λ lim w earlier good t lt hook e cause. close_waits c w earlier t hook x cause;
 }

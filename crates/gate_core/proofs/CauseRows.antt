@@ -1,8 +1,8 @@
 -- Worked schedules of refusals and their causes, by computing: in which worlds a cause may lie.
-use Rattle.std.proofs.Common.{◌≡◌, ℕ, true, List, [], ◌++◌, refl, arith}
+use Rattle.std.proofs.Common.{◌≡◌, true, false, List, [], ◌++◌, refl, arith}
 use Rattle.std.specs.Prelude.{Ok, Err, ◌∷◌, length}
-use Rattle.access_model.specs.declared.errors.GateError.TheVariants.{Busy}
-use Rattle.gate_world.specs.Causes.{trail_of, since_begun, moments_of_sum, was_counted, SomeWasCounted}
+use Rattle.access_model.specs.declared.errors.GateError.TheVariants.{Again, Busy}
+use Rattle.gate_world.specs.Causes.{trail_of, since_begun, last_question, moments_of_sum, was_counted, SomeWasCounted, WantRefused, ChangeRefused}
 use Rattle.gate_world.specs.declared.operations.Op.TheVariants.{Want, ChangeMount, RemountSb}
 use Rattle.gate_world.specs.Worlds.{Entry, Begins, run, opening}
 use Rattle.gate_core.specs.declared.steps.Progress.TheVariants.{Done}
@@ -36,3 +36,24 @@ begins_none = refl
 -- since it began there was one world
 begins_since : length (since_begun 1 (trail_of small begins)) ≡ 1
 begins_since = refl
+
+-- a want that doesn't wait, up to its last step, while a change has HOLD set: it is refused again
+abbrev wants : List Entry
+wants = Begins 0 (ChangeMount 0 true true) ∷ steps 4 0 ++ (Begins 1 (Want 0 1 false) ∷ steps 2 1)
+
+wants_ends : (step_answer small (run small opening wants) 1 (Ok tt)).progress ≡ Done (Err Again)
+wants_ends = refl
+
+-- for the task that had it set when the want asked
+wants_cause : WantRefused small 1 0 (last_question 1 (since_begun 1 (trail_of small wants))) Again
+wants_cause = (0, omega arith, (λ same. omega (arith, same)), refl)
+
+-- a change that doesn't wait is, by its first step, for the task that owns `umount`
+abbrev changes : List Entry
+changes = Begins 0 (ChangeMount 0 true true) ∷ steps 1 0 ++ (Begins 1 (ChangeMount 0 false false) ∷ [])
+
+changes_ends : (step_answer small (run small opening changes) 1 (Ok tt)).progress ≡ Done (Err Again)
+changes_ends = refl
+
+changes_cause : ChangeRefused small 1 (since_begun 1 (trail_of small changes)) 0 Again
+changes_cause = (0, omega arith, (λ same. omega (arith, same)), refl)

@@ -15,7 +15,7 @@ use Rattle.gate_world.specs.Fits.{Fits}
 use Rattle.gate_world.specs.Beginnings.{first_phase, view_refusal}
 use Rattle.gate_world.specs.Worlds.{World, Entry, Begins, Steps, after_begin, begin_of, after_step, step_of, value_at, happens, run}
 use Rattle.gate_world.specs.Rules.{IsGood, Fitting}
-use Rattle.gate_world.specs.Causes.{trail, since_begun, HasCause}
+use Rattle.gate_world.specs.Causes.{trail, since_begun}
 use Rattle.gate_frames.proofs.Keeps.{IsQuiet, extents_touched}
 use Rattle.gate_frames.proofs.Quiet.{write_quiet}
 use Rattle.gate_world.specs.Work.{next_of}
@@ -116,12 +116,3 @@ module _ (c : Config) (keeps : (w : World) → IsGood c w → (e : Entry) → Is
       let t : TrailHolds (happens c w e) (w ∷ earlier) es = trail_holds es (happens c w e) (w ∷ earlier) (keeps w good e)
       (happens_causes c w earlier good h e (keeps w good e)) in
       record { rest = t.rest; is = t.is; causes = t.causes }
-
--- what a phase's cause says at its refusal
-pub cause_tells : (c : Config) (t : ℕ) (w : World) (earlier : List World) (p : Option Phase) → (w.views t).phase ≡ p →
-    Fits c t (held_at (w.views t)) (holds_level (w.views t)) p → CauseOf c t w (since_begun t earlier) p →
-    HasCause c t (since_begun t (w ∷ earlier)) p
-cause_tells c t w earlier None e fits h = tt
-cause_tells c t w earlier (Some phase) e fits h =
-    subst (λ (ws : List World). HasCause c t ws (Some phase)) (sym (begun_on t w earlier phase e))
-    ((phase_keeps c phase).tells t w (since_begun t earlier) fits h)

@@ -1,9 +1,8 @@
 -- A snapshot under way stands in a frozen tree, from its load of stage 4 to its release.
-use Rattle.std.proofs.Common.{◌≡◌, ℕ, ◌<◌, true, false, ap, ◌∙◌, subst, sym, true≢false}
-use Rattle.std.specs.Prelude.{Option, Some, None, Ok, Err, is_some}
+use Rattle.std.proofs.Common.{◌≡◌, ℕ, ap, subst, sym, true≢false}
+use Rattle.std.specs.Prelude.{Some, Ok, Err, is_some}
 use Rattle.gated_tree.specs.Calls.{words_loaded, reading}
 use Rattle.gated_tree.specs.Roles.{RoleHolds}
-use Rattle.gated_tree.specs.declared.snapshots.Snapshot.{Snapshot}
 use Rattle.gated_tree.specs.declared.snapshots.SnapshotStep.{SnapshotStep}
 use Rattle.gated_tree.specs.declared.snapshots.SnapshotStep.TheVariants.{Locks, LoadsStage, LoadsUsed, LoadsNode, LoadsKids, Releases}
 use Rattle.gate_world.specs.declared.config.Config.{Config}

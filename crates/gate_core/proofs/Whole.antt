@@ -1,17 +1,19 @@
 -- What holds of every schedule from the opening on.
+use Rattle.cpu_words.specs.Hooks.{HookAnswer}
+use Rattle.gate_world.specs.Work.{after_of}
 use Rattle.gate_world.specs.KeptCauses.{CauseOf}
 use Rattle.gate_core.proofs.Beginnings.{may_begin}
 use Rattle.access_model.specs.Histories.{mounts_of, levels_of, opens_of}
 use Rattle.gate_world.specs.Views.{HoldsAsBefore}
-use Rattle.std.proofs.Common.{◌≡◌, ℕ, refl, sym, subst, ◌∙◌, ap}
+use Rattle.std.proofs.Common.{◌≡◌, ℕ, refl, sym, subst, ◌∙◌, ap, ◌<◌}
 use Rattle.std.specs.Prelude.{Option, Some, None, Err, List, [], ◌∷◌, ◌++◌, false}
 use Rattle.access_model.specs.States.{State}
 use Rattle.access_model.specs.Laws.{NobodyHoldsClosed}
 use Rattle.access_model.proofs.Closed.{closed}
 use Rattle.gate_world.specs.declared.config.Config.{Config}
 use Rattle.gate_world.specs.Configs.{IsWithin, model_limits}
-use Rattle.gate_world.specs.Worlds.{World, Entry, opening, happens, run}
-use Rattle.gate_world.specs.Rules.{IsGood, Fitting}
+use Rattle.gate_world.specs.Worlds.{World, Entry, opening, happens, run, found_at}
+use Rattle.gate_world.specs.Rules.{IsGood}
 use Rattle.gate_world.specs.Headline.{world_after, actions_so_far, MovesTheModel, IsOneRun, NobodyIsInside, SumsHold, IdleSumsHold, NothingIsLeft, FreezeIsUnderWay, HoldersAreTold, FrozenTreeIsWhole, SnapshotsStand, ViewTells, OperationsAreKept}
 use Rattle.gate_world.specs.Courses.{course_of, IsTraced, FollowsOrder, AllTraced}
 use Rattle.gate_world.specs.Traces.{Tells, actions_of}
@@ -27,9 +29,9 @@ use Rattle.gate_core.proofs.Layers.{phase_keeps, op_keeps}
 use Rattle.gate_frames.proofs.Traced.{opening_traced, entry_keeps}
 use Rattle.gate_frames.proofs.MayHolds.{events_may_be}
 use Rattle.call_laws.proofs.Frozen.{frozen_whole}
-use Rattle.gate_world.specs.Waits.{WaitsForAnother, EachWaitHasCulprit, HasCulpritAmong}
-use Rattle.gate_world.specs.Causes.{since_begun, HasCause, RefusalsHaveCauses}
-use Rattle.gate_core.proofs.Entries.{TrailHolds, trail_holds, cause_tells, begun_on}
+use Rattle.gate_world.specs.Waits.{HasReason, EachWaitHasCulprit, HasCulpritAmong}
+use Rattle.gate_world.specs.Causes.{since_begun, HasCause, RefusalsHaveCauses, trail_of}
+use Rattle.gate_core.proofs.Entries.{TrailHolds, trail_holds, begun_on}
 use Rattle.gate_core.proofs.Schedule.{opening_good, opening_shown, happens_keeps, run_keeps, gate_sums, idle_sums}
 use Rattle.gate_core.proofs.Lists.{run_lists}
 use Rattle.gate_core.proofs.Snapshots.{run_moments}
@@ -59,13 +61,6 @@ module _ (c : Config) (lim : IsWithin c) where
   whole_trail : (es : List Entry) → TrailHolds c (λ w good e. (happens_keeps c lim w good e).0) opening [] es
   whole_trail es = trail_holds c (λ w good e. (happens_keeps c lim w good e).0) es opening [] (opening_good c lim) (λ x lx. tt)
 
-  pub whole_causes : (es : List Entry) → RefusalsHaveCauses c es
-  whole_causes es t lt =
-      let h : TrailHolds c (λ w good e. (happens_keeps c lim w good e).0) opening [] es = whole_trail es in
-      subst (λ (ws : List World). HasCause c t (since_begun t ws) ((world_after c es).views t).phase) (sym h.is)
-      (cause_tells c t (world_after c es) h.rest ((world_after c es).views t).phase refl (whole_rule es Fitting t lt)
-      (h.causes t lt))
-
   pub whole_sums : (es : List Entry) → SumsHold c (world_after c es)
   whole_sums es = gate_sums c lim (world_after c es) (whole_rule es)
 
@@ -94,15 +89,30 @@ module _ (c : Config) (lim : IsWithin c) where
   pub whole_snapshots : (es : List Entry) → SnapshotsStand c (world_after c es)
   whole_snapshots es = snapshots_stand c (world_after c es) (whole_rule es)
 
+  -- what comes after the next event of a task has its reason, among the worlds since the task began its operation
+  reason_told : (es : List Entry) (t : ℕ) (phase : Phase) (hook : HookAnswer) → t < c.tasks → ((world_after c es).views t).phase ≡ Some phase →
+      (since : List World) × (since_begun t (trail_of c es) ≡ world_after c es ∷ since) ×
+      HasReason c (world_after c es) since t phase (after_of phase (found_at (world_after c es).words phase hook) hook).0
+  reason_told es t phase hook lt at =
+      let h : TrailHolds c (λ w good e. (happens_keeps c lim w good e).0) opening [] es = whole_trail es in
+      let since : List World = since_begun t h.rest in (
+        since,
+        ap (since_begun t) h.is ∙ begun_on t (world_after c es) h.rest phase at,
+        (phase_keeps c phase).reasons lim (world_after c es) since (whole_rule es) t lt hook at
+            (subst (CauseOf c t (world_after c es) since) at (h.causes t lt)),
+      )
+
+  pub whole_causes : (es : List Entry) → RefusalsHaveCauses c es
+  whole_causes es t phase hook refusal lt at e =
+      let h = reason_told es t phase hook lt at in
+      subst (λ (ws : List World). HasCause c t ws phase refusal) (sym h.1)
+      (subst (λ (s : Next Phase). HasReason c (world_after c es) h.0 t phase s) e h.2)
+
   pub whole_waits : (es : List Entry) → EachWaitHasCulprit c es
   whole_waits es t phase again hook lt at e =
-      let h : TrailHolds c (λ w good e. (happens_keeps c lim w good e).0) opening [] es = whole_trail es in
-      let since : List World = since_begun t h.rest in
-      let cause : CauseOf c t (world_after c es) since (Some phase) = subst (CauseOf c t (world_after c es) since) at (h.causes t lt) in
-      subst (λ (ws : List World). HasCulpritAmong c ws t phase)
-      (sym (ap (since_begun t) h.is ∙ begun_on t (world_after c es) h.rest phase at))
-      (subst (λ (s : Next Phase). WaitsForAnother c (world_after c es) since t phase s) e
-      ((phase_keeps c phase).waits lim (world_after c es) since (whole_rule es) t lt hook at cause))
+      let h = reason_told es t phase hook lt at in
+      subst (λ (ws : List World). HasCulpritAmong c ws t phase) (sym h.1)
+      (subst (λ (s : Next Phase). HasReason c (world_after c es) h.0 t phase s) e h.2)
 
   -- an operation that was refused has added what its refusals add
   refused_adds : (op : Op) (trace : List Traced) (comes : Next Phase) (added : List Action) (refusal : GateError) →

@@ -41,14 +41,15 @@ ghost use Rattle.progress_laws.specs.Ranks.{most_events_to_reply};
 /// - `operations`: each task's events follow the order of its operation; one that replied has added exactly its stated actions, a
 ///   refusal has its cause among its events and leaves what the task held, waiting is reported only where it may be, and an operation
 ///   that waits for nobody has few events.
-/// - `causes`: always in a world since the operation began: a change is refused as busy only where something was counted at that mount in
-///   some world from the load of its sum's first word to the load of its last, and so a remount, at the mount of its last sum, or where the
-///   stage was not 0 when it looked; a freeze is busy only
-///   where another was under way, or its holder held one, when it last looked, a thaw invalid only where all wasn't frozen, or its holder held
-///   none, and a snapshot only where all wasn't frozen; a want is refused as read-only only where the shown model had
-///   that mount read-only at one of its loads; a start that doesn't wait is refused only where another task had the level closed, or the file
-///   system was frozen as a whole, in the world in which it last looked; another call at the tree is refused for a node, as one that is free,
-///   a file or a directory, only where the shown model has that node so in the world of the load that it is refused with.
+/// - `causes`: whatever event ends an operation with a refusal, and always in a world since the operation began: a change is refused as
+///   busy only where something was counted at that mount in some world from the load of its sum's first word to the load of its last, and so
+///   a remount, at the mount of its last sum, or where the stage was not 0 when it looked; a freeze is busy only where another was under way,
+///   or its holder held one, when it last looked, a thaw invalid only where all wasn't frozen, or its holder held none, and a snapshot only
+///   where all wasn't frozen; a want is refused as read-only only where the shown model had that mount read-only at one of its loads; of
+///   those that don't wait, a want is refused again only where another task had HOLD set at that mount when it last asked, a change and a
+///   snapshot only where another task has `umount`, and a start only where another task had the level closed, or the file system was frozen
+///   as a whole, in the world in which it last looked; another call at the tree is refused for a node, as one that is free, a file or a
+///   directory, only where the shown model has that node so in the world of the load that it is refused with.
 /// - `waits`: every wait has a culprit: a want waits only where another task has HOLD set at its mount, a change, a remount, a thaw and a
 ///   snapshot only where another task has `umount`, a callback only where another task is inside a section, and a start only where the level
 ///   was closed when it last looked, as above; a freeze waits as a remount and as a callback do, and where something was counted at the level

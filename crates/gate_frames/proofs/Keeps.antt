@@ -21,9 +21,9 @@ use Rattle.gate_world.specs.Operations.{holds_none, is_of_open, is_of_closed}
 use Rattle.gate_world.specs.Fits.{PhaseFits, Fits, ActionFits, mounts_by, levels_by, HasFile, file_of}
 use Rattle.gate_world.specs.Alike.{IsBeside}
 use Rattle.gate_world.specs.Rules.{IsGood, StepKeeps}
-use Rattle.gate_world.specs.Causes.{all_counted, all_inside, HasCause}
+use Rattle.gate_world.specs.Causes.{all_counted, all_inside}
 use Rattle.gate_world.specs.KeptCauses.{CauseOf}
-use Rattle.gate_world.specs.Waits.{WaitsForAnother}
+use Rattle.gate_world.specs.Waits.{HasReason}
 use Rattle.gate_world.specs.Beginnings.{first_phase, is_in_range, is_in_order, is_within_room}
 use Rattle.gate_world.specs.Worlds.{World, after_step, found_at}
 use Rattle.gate_world.specs.Moments.{CompletesNow}
@@ -101,13 +101,10 @@ pub record PhaseKeeps (c : Config) (phase : Phase) : Type 0 where
       ((after_step w t phase hook).views t).phase ≡ phase_after (after_of phase (found_at w.words phase hook) hook).0 →
       CauseOf c t w earlier (Some phase) →
       CauseOf c t (after_step w t phase hook) (w ∷ earlier) (phase_after (after_of phase (found_at w.words phase hook) hook).0)
-  -- where its event is a wait, another task has what it waits for, or had it when that was found
-  pub waits : IsWithin c → (w : World) (earlier : List World) → IsGood c w → (t : ℕ) → t < c.tasks → (hook : HookAnswer) →
+  -- where its event is a wait, another task has what it waits for, or had it when that was found; where it is a refusal, that has its cause
+  pub reasons : IsWithin c → (w : World) (earlier : List World) → IsGood c w → (t : ℕ) → t < c.tasks → (hook : HookAnswer) →
       (w.views t).phase ≡ Some phase → CauseOf c t w earlier (Some phase) →
-      WaitsForAnother c w earlier t phase (after_of phase (found_at w.words phase hook) hook).0
-  -- where it fits its task's accesses, its cause says what is to be told
-  pub tells : (t : ℕ) (w : World) (earlier : List World) → Fits c t (held_at (w.views t)) (holds_level (w.views t)) (Some phase) →
-      CauseOf c t w earlier (Some phase) → HasCause c t (w ∷ earlier) (Some phase)
+      HasReason c w earlier t phase (after_of phase (found_at w.words phase hook) hook).0
 
 -- the most events of any operation that has a most number of them
 abbrev pub most_events_of_all : ℕ

@@ -1,31 +1,31 @@
 -- Moments of a schedule: what stood in the world when a refusal's cause was read.
 use Rattle.std.specs.Prelude.{◌≡◌, ℕ, ◌<◌, ◌==◌, ◌&&◌, ◌||◌, ◌⊎◌, not, nat_lt, Bool, true, false, if◌then◌else◌, Option, Some, None, is_some, Err, List, [], ◌∷◌}
 use Rattle.finite_sums.specs.Sums.{total}
-use Rattle.access_model.specs.declared.errors.GateError.TheVariants.{Busy, ReadOnly, Invalid, NoEntry, NotDir, IsDir}
+use Rattle.access_model.specs.declared.errors.GateError.TheVariants.{Again, Busy, ReadOnly, Invalid, NoEntry, NotDir, IsDir}
 use Rattle.mount_counts.specs.declared.phases.MountPhase.TheVariants.{Want as Wants, Drop as Drops, Change as Changes}
 use Rattle.mount_counts.specs.declared.phases.WantStep.{WantStep}
-use Rattle.mount_counts.specs.declared.phases.WantStep.TheVariants.{LoadsRemount, LoadsReadOnly, LoadsSuperblock, CountsDown}
+use Rattle.mount_counts.specs.declared.phases.WantStep.TheVariants.{LoadsHold, LoadsRemount, LoadsReadOnly, LoadsSuperblock}
 use Rattle.mount_counts.specs.declared.phases.ChangeStep.{ChangeStep}
-use Rattle.mount_counts.specs.declared.phases.ChangeStep.TheVariants.{Sums, Releases}
+use Rattle.mount_counts.specs.declared.phases.ChangeStep.TheVariants.{Sums}
 use Rattle.mount_counts.specs.declared.remounts.RemountStep.{RemountStep}
-use Rattle.mount_counts.specs.declared.remounts.RemountStep.TheVariants.{LoadsStage, LoadsRemoved, LoadsRemovedAgain, Sums as RemountSums, Releases as RemountReleases}
-use Rattle.mount_counts.specs.Roles.{counted}
+use Rattle.mount_counts.specs.declared.remounts.RemountStep.TheVariants.{LoadsStage, LoadsRemoved, LoadsRemovedAgain, Sums as RemountSums}
+use Rattle.mount_counts.specs.Roles.{counted, has_hold}
 use Rattle.gate_world.specs.declared.config.Config.{Config}
 use Rattle.file_closes.specs.declared.phases.ClosePhase.{ClosePhase}
 use Rattle.file_closes.specs.declared.phases.ClosePhase.TheVariants.{Enters}
 use Rattle.gate_world.specs.declared.work.Phase.{Phase}
 use Rattle.gate_world.specs.declared.work.Phase.TheVariants.{Mounts, Remounts, DownReads, UpReads, Callbacks, Writes, Freezes, Thaws, Trees, Closes}
 use Rattle.percpu_rwsem.specs.declared.readers.DownReadStep.{DownReadStep}
-use Rattle.percpu_rwsem.specs.declared.readers.DownReadStep.TheVariants.{LoadsBlock, LeavesBlocked}
+use Rattle.percpu_rwsem.specs.declared.readers.DownReadStep.TheVariants.{LoadsBlock}
 use Rattle.level_laws.specs.Roles.{closed}
 use Rattle.write_access.specs.declared.phases.WritePhase.{WritePhase}
 use Rattle.write_access.specs.declared.phases.WritePhase.TheVariants.{Takes, Wants as WriteWants, GivesBack}
 use Rattle.percpu_rwsem.specs.declared.writers.DownWriteStep.{DownWriteStep}
 use Rattle.percpu_rwsem.specs.declared.writers.DownWriteStep.TheVariants.{Sums as SumsLevel}
 use Rattle.freeze_levels.specs.declared.freezes.FreezeStep.{FreezeStep}
-use Rattle.freeze_levels.specs.declared.freezes.FreezeStep.TheVariants.{LoadsStage as FreezeLoadsStage, LoadsHolders as FreezeLoadsHolders, Closes, Releases as FreezeReleases}
+use Rattle.freeze_levels.specs.declared.freezes.FreezeStep.TheVariants.{LoadsStage as FreezeLoadsStage, LoadsHolders as FreezeLoadsHolders, Closes}
 use Rattle.freeze_levels.specs.declared.thaws.ThawStep.{ThawStep}
-use Rattle.freeze_levels.specs.declared.thaws.ThawStep.TheVariants.{LoadsStage as ThawLoadsStage, LoadsHolders as ThawLoadsHolders, Releases as ThawReleases}
+use Rattle.freeze_levels.specs.declared.thaws.ThawStep.TheVariants.{LoadsStage as ThawLoadsStage, LoadsHolders as ThawLoadsHolders}
 use Rattle.access_model.specs.declared.actions.Holder.{Holder}
 use Rattle.access_model.specs.Holders.{held_by}
 use Rattle.gate_counts.specs.Gates.{counted as counted_of}
@@ -33,14 +33,14 @@ use Rattle.gate_counts.specs.Levels.{level_as_gate}
 use Rattle.gate_world.specs.Levels.{sync_role_of, is_frozen_whole, at_level}
 use Rattle.gate_world.specs.Worlds.{World, Entry, happens, run, opening, found_at}
 use Rattle.gate_world.specs.Shown.{shown}
-use Rattle.gate_world.specs.Rules.{at_mount}
+use Rattle.gate_world.specs.Rules.{at_mount, role_of, owns}
 use Rattle.gated_tree.specs.declared.phases.TreePhase.{TreePhase}
 use Rattle.gated_tree.specs.declared.phases.TreePhase.TheVariants.{Create as Creates, Remove as Removes, Grow as Grows, MoveTo as Moves, Mark as TreeMarks, OpenFile as OpensOne, Snapshot as Snapshots}
 use Rattle.gated_tree.specs.declared.opens.OpenFile.{OpenFile}
 use Rattle.gated_tree.specs.declared.opens.OpenStep.{OpenStep}
 use Rattle.gated_tree.specs.declared.opens.OpenStep.TheVariants.{LoadsFile as LoadsFileToOpen}
 use Rattle.gated_tree.specs.declared.snapshots.SnapshotStep.{SnapshotStep}
-use Rattle.gated_tree.specs.declared.snapshots.SnapshotStep.TheVariants.{LoadsStage as SnapshotLoadsStage, Releases as SnapshotReleases}
+use Rattle.gated_tree.specs.declared.snapshots.SnapshotStep.TheVariants.{LoadsStage as SnapshotLoadsStage}
 use Rattle.gated_tree.specs.declared.changes.Create.{Create}
 use Rattle.gated_tree.specs.declared.changes.CreateStep.{CreateStep}
 use Rattle.gated_tree.specs.declared.changes.CreateStep.TheVariants.{LoadsDirectory}
@@ -77,8 +77,9 @@ abbrev pub since_begun : ℕ → List World → List World
 since_begun t [] = []
 since_begun t (w ∷ earlier) = if is_some (w.views t).phase then w ∷ since_begun t earlier else []
 
--- the next event of a want is a load of the read-only question
+-- the next event of a want is one of its questions: whether HOLD is set, and whether the mount is read-only
 abbrev pub want_asks : WantStep → Bool
+want_asks LoadsHold = true
 want_asks LoadsRemount = true
 want_asks LoadsReadOnly = true
 want_asks LoadsSuperblock = true
@@ -89,21 +90,35 @@ abbrev pub write_asks : WritePhase → Bool
 write_asks (WriteWants x) = want_asks x.step
 write_asks x = false
 
--- the next event of what a task is at is a load of the read-only question
+-- the same of what a task is at
 abbrev pub asks : Option Phase → Bool
 asks (Some (Mounts (Wants x))) = want_asks x.step
 asks (Some (Writes x)) = write_asks x
 asks phase = false
 
--- the world in which a task last asked whether a mount is read-only
+-- the newest of these worlds in which a task is at such a phase
+abbrev pub last_where : (Option Phase → Bool) → ℕ → List World → Option World
+last_where is t [] = None
+last_where is t (w ∷ earlier) = if is (w.views t).phase then Some w else last_where is t earlier
+
+-- the world in which a task last asked about a mount
 abbrev pub last_question : ℕ → List World → Option World
-last_question t [] = None
-last_question t (w ∷ earlier) = if asks (w.views t).phase then Some w else last_question t earlier
+last_question t worlds = last_where asks t worlds
 
 -- the shown model had the mount read-only there
 abbrev pub was_read_only : Config → ℕ → Option World → Bool
 was_read_only c m None = false
 was_read_only c m (Some w) = (shown c w).mount_ro m || (shown c w).sb_ro
+
+-- another task had HOLD set at the mount there
+abbrev pub WasHeld : Config → ℕ → ℕ → Option World → Type 0
+WasHeld c t m None = ⊥
+WasHeld c t m (Some w) = (y : ℕ) × (y < c.tasks) × (y ≡ t → ⊥) × (has_hold (role_of m (w.views y).phase) ≡ 1)
+
+-- another task owns `umount` in the newest of these worlds
+abbrev pub IsTaken : Config → ℕ → List World → Type 0
+IsTaken c t [] = ⊥
+IsTaken c t (w ∷ earlier) = (y : ℕ) × (y < c.tasks) × (y ≡ t → ⊥) × (owns (w.views y).phase ≡ 1)
 
 -- the next event of a remount is its load of the stage
 abbrev pub step_looks : RemountStep → Bool
@@ -141,8 +156,7 @@ looks_at_stage phase = false
 
 -- the world in which a task last looked at the stage, or at who holds a freeze
 abbrev pub last_look : ℕ → List World → Option World
-last_look t [] = None
-last_look t (w ∷ earlier) = if looks_at_stage (w.views t).phase then Some w else last_look t earlier
+last_look t worlds = last_where looks_at_stage t worlds
 
 -- the shown model had a stage other than 0 there
 abbrev pub was_frozen : Config → Option World → Bool
@@ -161,8 +175,7 @@ looks_at_removed phase = false
 
 -- the world in which a task last looked at `removed`
 abbrev pub last_removed : ℕ → List World → Option World
-last_removed t [] = None
-last_removed t (w ∷ earlier) = if looks_at_removed (w.views t).phase then Some w else last_removed t earlier
+last_removed t worlds = last_where looks_at_removed t worlds
 
 -- a removed file was counted there
 abbrev pub was_removed : Option World → Bool
@@ -209,8 +222,7 @@ asks_level phase = false
 
 -- the world in which a task last asked whether a level is closed
 abbrev pub last_asked : ℕ → List World → Option World
-last_asked t [] = None
-last_asked t (w ∷ earlier) = if asks_level (w.views t).phase then Some w else last_asked t earlier
+last_asked t worlds = last_where asks_level t worlds
 
 -- the level was closed for the task there: the file system was frozen as a whole, or another task had closed the level
 abbrev pub WasClosed : Config → ℕ → ℕ → Option World → Type 0
@@ -294,27 +306,6 @@ abbrev pub SomeWasCounted : Config → ℕ → List World → Type 0
 SomeWasCounted c t worlds =
     (m : ℕ) × (m < c.mounts) × AreOfMount t m (moments_of_sum t worlds) × (was_counted c m (moments_of_sum t worlds) ≡ true)
 
--- the same of a write access that is refused as read-only, or waits for level 1
-abbrev pub WriteHasCause : Config → ℕ → List World → WritePhase → Type 0
-WriteHasCause c t worlds (Takes m r) = r.step ≡ LeavesBlocked → WasClosed c t r.level (last_asked t worlds)
-WriteHasCause c t worlds (WriteWants x) = x.step ≡ CountsDown ReadOnly → was_read_only c x.mount (last_question t worlds) ≡ true
-WriteHasCause c t worlds (GivesBack m p refusal) = refusal ≡ ReadOnly → was_read_only c m (last_question t worlds) ≡ true
-WriteHasCause c t worlds x = Unit {0}
-
--- the same of a close that waits for level 3, or is refused again there
-abbrev pub CloseHasCause : Config → ℕ → List World → ClosePhase → Type 0
-CloseHasCause c t worlds (Enters f node r) = r.step ≡ LeavesBlocked → WasClosed c t r.level (last_asked t worlds)
-CloseHasCause c t worlds x = Unit {0}
-
--- the same of a freeze that is refused as busy, and of a thaw that is refused as invalid: the stage, or who holds one, was so when it looked
-abbrev pub FreezeHasCause : Config → ℕ → List World → Holder → FreezeStep → Type 0
-FreezeHasCause c t worlds holder (FreezeReleases answer) = answer ≡ Err Busy → was_busy c holder (last_look t worlds) ≡ true
-FreezeHasCause c t worlds holder step = Unit {0}
-
-abbrev pub ThawHasCause : Config → ℕ → List World → Holder → ThawStep → Type 0
-ThawHasCause c t worlds holder (ThawReleases answer) = answer ≡ Err Invalid → was_unheld c holder (last_look t worlds) ≡ true
-ThawHasCause c t worlds holder step = Unit {0}
-
 -- the node that the next event of a call at the tree loads to see of which kind it is
 abbrev pub create_sees : Create → CreateStep → Option ℕ
 create_sees x LoadsDirectory = Some x.dir
@@ -357,58 +348,94 @@ TellsOf entry NotDir = IsFile entry
 TellsOf entry IsDir = IsDirectory entry
 TellsOf entry refusal = Unit {0}
 
--- a refusal that tells what a node is: the event that brings it is a load of that node
-abbrev pub is_of_node : GateError → Bool
-is_of_node NoEntry = true
-is_of_node NotDir = true
-is_of_node IsDir = true
-is_of_node refusal = false
+-- What a refusal says that an event brings in the newest of these worlds, by what its task is at there. A kind of phase has rows of its own,
+-- by the refusal, so that a new one says its causes.
 
--- A call at the tree that its next event refuses so loads a node with that event, and the shown model has the node so.
-abbrev pub NodeHasCause : Config → World → TreePhase → Type 0
-NodeHasCause c w phase = (hook : HookAnswer) (refusal : GateError) →
-    (after_of (Trees phase) (found_at w.words (Trees phase) hook) hook).0 ≡ Done (Err refusal) → is_of_node refusal ≡ true →
-    (n : ℕ) × (tree_sees phase ≡ Some n) × TellsOf ((shown c w).tree n) refusal
+-- a want: as read-only, and the mount was so when it last asked; again, and another task had HOLD set at the mount then
+abbrev pub WantRefused : Config → ℕ → ℕ → Option World → GateError → Type 0
+WantRefused c t m asked ReadOnly = was_read_only c m asked ≡ true
+WantRefused c t m asked Again = WasHeld c t m asked
+WantRefused c t m asked refusal = Unit {0}
 
--- the same in the newest of these worlds
-abbrev pub NodeHadCause : Config → List World → TreePhase → Type 0
-NodeHadCause c [] phase = ⊥
-NodeHadCause c (w ∷ earlier) phase = NodeHasCause c w phase
+-- a change: as busy, and something was counted at the mount while it loaded its sum; again, and another task owns `umount`
+abbrev pub ChangeRefused : Config → ℕ → List World → ℕ → GateError → Type 0
+ChangeRefused c t worlds m Busy = was_counted c m (moments_of_sum t worlds) ≡ true
+ChangeRefused c t worlds m Again = IsTaken c t worlds
+ChangeRefused c t worlds m refusal = Unit {0}
 
--- a snapshot that is refused as invalid: the stage was not 4 when it looked
-abbrev pub SnapshotHasCause : Config → ℕ → List World → SnapshotStep → Type 0
-SnapshotHasCause c t worlds (SnapshotReleases answer) = answer ≡ Err Invalid → was_incomplete c (last_look t worlds) ≡ true
-SnapshotHasCause c t worlds step = Unit {0}
-
--- the same of a call at the tree
-abbrev pub TreeHasCause : Config → ℕ → List World → TreePhase → Type 0
-TreeHasCause c t worlds (Snapshots x) = SnapshotHasCause c t worlds x.step
-TreeHasCause c t worlds phase = NodeHadCause c worlds phase
-
--- A task whose next event is the one with which it is refused: as read-only, and the mount was so when the task last asked; as busy, and
--- something was counted at the mount, for a remount at some mount, in some world from the load of its sum's first word to the load of its
--- last, or, for a remount, the stage was not 0 when it looked, or, for a freeze, another was under way or held for its holder when it last
--- looked; as invalid, and the stage was not 4 when it last looked, or, for a thaw, none was held for its holder; again, or with which it
--- waits, for a level, and the level was closed when the task last asked; as a node that is free, a file or a directory, and the node is so.
--- Each kind of phase has a row of its own, so that a new one says its causes.
-abbrev pub HasCause : Config → ℕ → List World → Option Phase → Type 0
-HasCause c t worlds None = Unit {0}
-HasCause c t worlds (Some (Mounts (Wants x))) = x.step ≡ CountsDown ReadOnly → was_read_only c x.mount (last_question t worlds) ≡ true
-HasCause c t worlds (Some (Mounts (Drops m p))) = Unit {0}
-HasCause c t worlds (Some (Mounts (Changes x))) = x.step ≡ Releases (Err Busy) → was_counted c x.mount (moments_of_sum t worlds) ≡ true
-HasCause c t worlds (Some (Remounts x)) =
-    x.step ≡ RemountReleases (Err Busy) →
+-- a remount: as busy, and the stage was not 0, or a removed file was counted, when it looked, or something while it loaded its sum
+abbrev pub RemountRefused : Config → ℕ → List World → GateError → Type 0
+RemountRefused c t worlds Busy =
     (was_frozen c (last_look t worlds) ≡ true) ⊎ ((was_removed (last_removed t worlds) ≡ true) ⊎ SomeWasCounted c t worlds)
-HasCause c t worlds (Some (DownReads r)) = r.step ≡ LeavesBlocked → WasClosed c t r.level (last_asked t worlds)
-HasCause c t worlds (Some (UpReads u)) = Unit {0}
-HasCause c t worlds (Some (Callbacks b)) = Unit {0}
-HasCause c t worlds (Some (Writes x)) = WriteHasCause c t worlds x
-HasCause c t worlds (Some (Freezes x)) = FreezeHasCause c t worlds x.holder x.step
-HasCause c t worlds (Some (Thaws x)) = ThawHasCause c t worlds x.holder x.step
-HasCause c t worlds (Some (Trees phase)) = TreeHasCause c t worlds phase
-HasCause c t worlds (Some (Closes phase)) = CloseHasCause c t worlds phase
+RemountRefused c t worlds refusal = Unit {0}
 
--- so it is of every task, after a schedule, among the worlds since it began its operation
+-- a start, and what goes inside a level as one: again, and the level was closed when it last asked
+abbrev pub ReadRefused : Config → ℕ → List World → ℕ → GateError → Type 0
+ReadRefused c t worlds i Again = WasClosed c t i (last_asked t worlds)
+ReadRefused c t worlds i refusal = Unit {0}
+
+-- a write access: as its start at level 1; and as its want, where it leaves the level that it has given back
+abbrev pub WriteRefused : Config → ℕ → List World → WritePhase → GateError → Type 0
+WriteRefused c t worlds (Takes m r) refusal = ReadRefused c t worlds r.level refusal
+WriteRefused c t worlds (GivesBack m p answer) refusal = WantRefused c t m (last_question t worlds) refusal
+WriteRefused c t worlds x refusal = Unit {0}
+
+-- a close: as its start at level 3
+abbrev pub CloseRefused : Config → ℕ → List World → ClosePhase → GateError → Type 0
+CloseRefused c t worlds (Enters f node r) refusal = ReadRefused c t worlds r.level refusal
+CloseRefused c t worlds x refusal = Unit {0}
+
+-- a freeze: as busy, and another was under way, or one held for its holder, when it last looked
+abbrev pub FreezeRefused : Config → ℕ → List World → Holder → GateError → Type 0
+FreezeRefused c t worlds holder Busy = was_busy c holder (last_look t worlds) ≡ true
+FreezeRefused c t worlds holder refusal = Unit {0}
+
+-- a thaw: as invalid, and the stage was not 4, or none held for its holder, when it last looked
+abbrev pub ThawRefused : Config → ℕ → List World → Holder → GateError → Type 0
+ThawRefused c t worlds holder Invalid = was_unheld c holder (last_look t worlds) ≡ true
+ThawRefused c t worlds holder refusal = Unit {0}
+
+-- a snapshot: as invalid, and the stage was not 4 when it looked; again, and another task owns `umount`
+abbrev pub SnapshotRefused : Config → ℕ → List World → GateError → Type 0
+SnapshotRefused c t worlds Invalid = was_incomplete c (last_look t worlds) ≡ true
+SnapshotRefused c t worlds Again = IsTaken c t worlds
+SnapshotRefused c t worlds refusal = Unit {0}
+
+-- another call at the tree: as a node that is free or removed, a file or a directory, and the event loads a node that the shown model has so
+abbrev pub NodeRefused : Config → List World → TreePhase → GateError → Type 0
+NodeRefused c [] phase refusal = ⊥
+NodeRefused c (w ∷ earlier) phase refusal = (n : ℕ) × (tree_sees phase ≡ Some n) × TellsOf ((shown c w).tree n) refusal
+
+abbrev pub CallRefused : Config → List World → TreePhase → GateError → Type 0
+CallRefused c worlds phase NoEntry = NodeRefused c worlds phase NoEntry
+CallRefused c worlds phase NotDir = NodeRefused c worlds phase NotDir
+CallRefused c worlds phase IsDir = NodeRefused c worlds phase IsDir
+CallRefused c worlds phase refusal = Unit {0}
+
+abbrev pub TreeRefused : Config → ℕ → List World → TreePhase → GateError → Type 0
+TreeRefused c t worlds (Snapshots x) refusal = SnapshotRefused c t worlds refusal
+TreeRefused c t worlds phase refusal = CallRefused c worlds phase refusal
+
+-- so of each phase
+abbrev pub HasCause : Config → ℕ → List World → Phase → GateError → Type 0
+HasCause c t worlds (Mounts (Wants x)) refusal = WantRefused c t x.mount (last_question t worlds) refusal
+HasCause c t worlds (Mounts (Drops m p)) refusal = Unit {0}
+HasCause c t worlds (Mounts (Changes x)) refusal = ChangeRefused c t worlds x.mount refusal
+HasCause c t worlds (Remounts x) refusal = RemountRefused c t worlds refusal
+HasCause c t worlds (DownReads r) refusal = ReadRefused c t worlds r.level refusal
+HasCause c t worlds (UpReads u) refusal = Unit {0}
+HasCause c t worlds (Callbacks b) refusal = Unit {0}
+HasCause c t worlds (Writes x) refusal = WriteRefused c t worlds x refusal
+HasCause c t worlds (Freezes x) refusal = FreezeRefused c t worlds x.holder refusal
+HasCause c t worlds (Thaws x) refusal = ThawRefused c t worlds x.holder refusal
+HasCause c t worlds (Trees phase) refusal = TreeRefused c t worlds phase refusal
+HasCause c t worlds (Closes phase) refusal = CloseRefused c t worlds phase refusal
+
+-- Every refusal has its cause: after any schedule, where the next event of a task ends its operation with a refusal, whatever its phase, that
+-- has its cause among the worlds since the task began the operation.
 abbrev pub RefusalsHaveCauses : Config → List Entry → Type 0
 RefusalsHaveCauses c entries =
-    (t : ℕ) → t < c.tasks → HasCause c t (since_begun t (trail_of c entries)) ((run c opening entries).views t).phase
+    (t : ℕ) (phase : Phase) (hook : HookAnswer) (refusal : GateError) → t < c.tasks →
+    ((run c opening entries).views t).phase ≡ Some phase →
+    (after_of phase (found_at (run c opening entries).words phase hook) hook).0 ≡ Done (Err refusal) →
+    HasCause c t (since_begun t (trail_of c entries)) phase refusal

@@ -1,7 +1,7 @@
 -- What is kept along a schedule about the causes of refusals.
-use Rattle.std.specs.Prelude.{◌≡◌, ◌⊎◌, ℕ, ◌<◌, true, false, Option, Some, Result, Err, List, ◌∷◌}
+use Rattle.std.specs.Prelude.{◌≡◌, ◌⊎◌, ℕ, ◌<◌, true, false, Option, Some, Result, Ok, Err, List, ◌∷◌}
 use Rattle.access_model.specs.declared.errors.GateError.{GateError}
-use Rattle.access_model.specs.declared.errors.GateError.TheVariants.{Busy, ReadOnly, Invalid}
+use Rattle.access_model.specs.declared.errors.GateError.TheVariants.{Again, Busy, Invalid}
 use Rattle.access_model.specs.declared.replies.Reply.{Reply}
 use Rattle.cpu_words.specs.Sums.{lead}
 use Rattle.mount_counts.specs.declared.phases.MountPhase.TheVariants.{Want as Wants, Change as Changes}
@@ -28,21 +28,23 @@ use Rattle.freeze_levels.specs.declared.freezes.FreezeStep.TheVariants.{Closes, 
 use Rattle.freeze_levels.specs.declared.thaws.ThawStep.{ThawStep}
 use Rattle.freeze_levels.specs.declared.thaws.ThawStep.TheVariants.{Releases as ThawReleases}
 use Rattle.gate_world.specs.Worlds.{World}
-use Rattle.gate_world.specs.Causes.{since_begun, AreOfMount, last_question, was_read_only, last_look, was_frozen, was_busy, was_unheld, was_incomplete, moments_of_sum, was_inside, was_counted, SomeWasCounted, last_asked, WasClosed, was_removed, last_removed}
+use Rattle.gate_world.specs.Causes.{since_begun, AreOfMount, WantRefused, ChangeRefused, SnapshotRefused, last_question, last_look, was_frozen, was_busy, was_unheld, moments_of_sum, was_inside, was_counted, SomeWasCounted, last_asked, WasClosed, was_removed, last_removed}
 use Rattle.gated_tree.specs.declared.phases.TreePhase.{TreePhase}
 use Rattle.gated_tree.specs.declared.phases.TreePhase.TheVariants.{Snapshot as Snapshots}
 use Rattle.gated_tree.specs.declared.snapshots.SnapshotStep.{SnapshotStep}
 use Rattle.gated_tree.specs.declared.snapshots.SnapshotStep.TheVariants.{Releases as SnapshotReleases}
 
 module _ (c : Config) (t : ℕ) (w : World) (earlier : List World) where
-  -- a want that is to be refused as read-only: the mount was so when it last asked
+  -- a want that is to be refused: as it is then
   abbrev pub WantCause : ℕ → WantStep → Type 0
-  WantCause m (CountsDown refusal) = refusal ≡ ReadOnly → was_read_only c m (last_question t (w ∷ earlier)) ≡ true
+  WantCause m (CountsDown refusal) = WantRefused c t m (last_question t (w ∷ earlier)) refusal
   WantCause m step = Unit {0}
 
-  -- an answer of Busy: something was counted while the sum was read
+  -- an answer: where it is Busy, something was counted while the sum was read, and Again is none
   abbrev pub AnswerCause : ℕ → Result Reply GateError → Type 0
-  AnswerCause m answer = answer ≡ Err Busy → was_counted c m (moments_of_sum t (w ∷ earlier)) ≡ true
+  AnswerCause m (Ok reply) = Unit {0}
+  AnswerCause m (Err Again) = ⊥
+  AnswerCause m (Err refusal) = ChangeRefused c t (w ∷ earlier) m refusal
 
   -- a sum under way: where nothing was counted so far, its lead is 0
   abbrev pub ChangeCause : ℕ → ChangeStep → Type 0
@@ -104,9 +106,10 @@ module _ (c : Config) (t : ℕ) (w : World) (earlier : List World) where
   ThawCause holder (ThawReleases answer) = answer ≡ Err Invalid → was_unheld c holder (last_look t (w ∷ earlier)) ≡ true
   ThawCause holder step = Unit {0}
 
-  -- a snapshot that is invalid, likewise
+  -- a snapshot that is invalid, likewise; past its lock it isn't refused again
   abbrev pub SnapshotCause : SnapshotStep → Type 0
-  SnapshotCause (SnapshotReleases answer) = answer ≡ Err Invalid → was_incomplete c (last_look t (w ∷ earlier)) ≡ true
+  SnapshotCause (SnapshotReleases (Err Again)) = ⊥
+  SnapshotCause (SnapshotReleases (Err refusal)) = SnapshotRefused c t (w ∷ earlier) refusal
   SnapshotCause step = Unit {0}
 
   -- another call at the tree has its cause at the event itself

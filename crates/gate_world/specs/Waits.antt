@@ -1,5 +1,5 @@
 -- Waits: where an event reports that its operation waits, another task has what it waits for.
-use Rattle.std.specs.Prelude.{◌≡◌, ℕ, ◌<◌, true, Some, List, [], ◌∷◌}
+use Rattle.std.specs.Prelude.{◌≡◌, ℕ, ◌<◌, true, Some, Ok, Err, List, [], ◌∷◌}
 use Rattle.access_model.specs.declared.replies.Next.{Next}
 use Rattle.access_model.specs.declared.replies.Next.TheVariants.{Go, Wait, Done}
 use Rattle.cpu_words.specs.Hooks.{HookAnswer}
@@ -19,7 +19,7 @@ use Rattle.freeze_levels.specs.declared.freezes.Freeze.{Freeze}
 use Rattle.freeze_levels.specs.declared.freezes.FreezeStep.{FreezeStep}
 use Rattle.freeze_levels.specs.declared.freezes.FreezeStep.TheVariants.{Locks, LocksAgain, Closes}
 use Rattle.gate_world.specs.Levels.{inside}
-use Rattle.gate_world.specs.Causes.{trail_of, since_begun, last_asked, WasClosed, moments_of_sum, was_inside}
+use Rattle.gate_world.specs.Causes.{trail_of, since_begun, HasCause, last_asked, WasClosed, moments_of_sum, was_inside}
 use Rattle.gate_world.specs.Work.{after_of}
 use Rattle.gate_world.specs.Worlds.{World, Entry, found_at}
 use Rattle.gate_world.specs.Rules.{role_of, owns}
@@ -106,11 +106,13 @@ HasCulpritSince c w earlier t (Thaws x) = HasCulprit c w t (Thaws x)
 HasCulpritSince c w earlier t (Trees phase) = HasCulprit c w t (Trees phase)
 HasCulpritSince c w earlier t (Closes phase) = CloseHasCulprit c w earlier t phase
 
--- an event after which this comes is no wait, or its phase waits for what another task has or had
-abbrev pub WaitsForAnother : Config → World → List World → ℕ → Phase → Next Phase → Type 0
-WaitsForAnother c w earlier t phase (Go next) = Unit {0}
-WaitsForAnother c w earlier t phase (Wait next) = HasCulpritSince c w earlier t phase
-WaitsForAnother c w earlier t phase (Done answer) = Unit {0}
+-- an event after which this comes has its reason: where it is a wait, its phase waits for what another task has or had; where it is a
+-- refusal, that has its cause
+abbrev pub HasReason : Config → World → List World → ℕ → Phase → Next Phase → Type 0
+HasReason c w earlier t phase (Go next) = Unit {0}
+HasReason c w earlier t phase (Wait next) = HasCulpritSince c w earlier t phase
+HasReason c w earlier t phase (Done (Ok reply)) = Unit {0}
+HasReason c w earlier t phase (Done (Err refusal)) = HasCause c t (w ∷ earlier) phase refusal
 
 -- the same of the worlds of a schedule, the newest first
 abbrev pub HasCulpritAmong : Config → List World → ℕ → Phase → Type 0

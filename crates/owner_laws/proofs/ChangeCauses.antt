@@ -1,7 +1,8 @@
 -- The causes of a change's refusals, along a schedule.
+use Rattle.access_model.specs.declared.errors.GateError.{GateError}
+use Rattle.access_model.specs.declared.replies.Reply.{Reply}
 use Rattle.gate_frames.proofs.Words.{load_same}
-use Rattle.access_model.specs.declared.errors.GateError.TheVariants.{Busy}
-use Rattle.access_model.specs.declared.replies.Reply.TheVariants.{Unit as UnitReply}
+use Rattle.access_model.specs.declared.errors.GateError.TheVariants.{Busy, Again}
 use Rattle.cpu_words.specs.Hooks.{HookAnswer}
 use Rattle.cpu_words.specs.Touches.{wrap_add}
 use Rattle.cpu_words.specs.Words.{Words}
@@ -23,12 +24,21 @@ use Rattle.mount_counts.specs.declared.phases.ChangeStep.{ChangeStep}
 use Rattle.std.proofs.Common.{◌∙◌, ◌≡◌, ℕ, suc, ◌+◌, ◌<◌, Bool, true, false, ap, inl, inr, arith}
 use Rattle.std.proofs.lemmas.Bool.Decides.{eqb_tells}
 use Rattle.std.proofs.lemmas.Bool.{ltb-false, cases_Bool}
-use Rattle.std.specs.Prelude.{nat_lt, Some, List, ◌∷◌, ◌==◌, not, Ok, Err}
+use Rattle.std.specs.Prelude.{nat_lt, Some, List, ◌∷◌, ◌==◌, not, Ok, Err, Result, None}
 use Rattle.gate_frames.proofs.SumCauses.{counted_stays, sum_starts, sum_stays, sum_takes, sum_ends}
-use Rattle.gate_world.specs.KeptCauses.{ChangeCause, CauseOf}
+use Rattle.gate_world.specs.KeptCauses.{ChangeCause, CauseOf, AnswerCause}
 use Rattle.owner_laws.proofs.ChangeLoads.{change}
 
 -- a task whose view another entry leaves alone
+module _ (c : Config) (t : ℕ) (w next : World) (earlier : List World) where
+  -- the cause of an answer stays where no word of a sum is to be loaded
+  answer_stays : (m : ℕ) (answer : Result Reply GateError) → words_read (next.views t).phase ≡ None → AnswerCause c t w earlier m answer →
+      AnswerCause c t next (w ∷ earlier) m answer
+  answer_stays m (Ok reply) e h = tt
+  answer_stays m (Err Busy) e h = counted_stays c t m next (w ∷ earlier) e h
+  answer_stays m (Err Again) e h = absurd h
+  answer_stays m (Err refusal) e h = tt
+
 module _ (c : Config) (t : ℕ) (w next : World) (earlier : List World) (good : IsGood c next) where
   -- the cause of each step stays
   pub change_kept : (m : ℕ) (ro wait : Bool) (task processors : ℕ) (s : ChangeStep) → m < c.mounts →
@@ -45,23 +55,19 @@ module _ (c : Config) (t : ℕ) (w next : World) (earlier : List World) (good : 
       sum_stays c t m w next earlier sum h good lm (ap words_read e) (ap words_read was) quiet
   change_kept m ro wait task processors SetsReadOnly lm e was quiet h = tt
   change_kept m ro wait task processors (ClearsHold answer) lm e was quiet h =
-      λ r. counted_stays c t m next (w ∷ earlier) (ap words_read e) (h r)
+      answer_stays c t w next earlier m answer (ap words_read e) h
   change_kept m ro wait task processors (Releases answer) lm e was quiet h =
-      λ r. counted_stays c t m next (w ∷ earlier) (ap words_read e) (h r)
+      answer_stays c t w next earlier m answer (ap words_read e) h
 
 -- the task that steps: what its next phase says, in the world after the event
 module _ (c : Config) (t : ℕ) (lt : t < c.tasks) (w next : World) (earlier : List World) (good : IsGood c w) (after : IsGood c next)
     (hook : HookAnswer) where
-  -- a change that is done is not refused
-  not_busy : {A : Type 0} → Ok UnitReply ≡ Err Busy → A
-  not_busy h = cc
-
-  -- nor is one whose state was found
+  -- a change whose state was found is not refused
   between_own : (m : ℕ) (ro b : Bool) → ChangeCause c t next (w ∷ earlier) m (step_between ro b)
-  between_own m true true = λ r. not_busy r
+  between_own m true true = tt
   between_own m true false = tt
   between_own m false true = tt
-  between_own m false false = λ r. not_busy r
+  between_own m false false = tt
 
   -- a sum with one word more: it goes on, it was 0, or somebody was counted
   sum_own : (m : ℕ) (ro wait : Bool) (task processors : ℕ) (sum : Sum) →
@@ -88,7 +94,7 @@ module _ (c : Config) (t : ℕ) (lt : t < c.tasks) (w next : World) (earlier : L
                   let e2 : (next.views t).phase ≡ Some (Mounts (change m ro wait task processors (ClearsHold (Err Busy)))) =
                   rw (less, z.0) at e' in
                   let last : suc k ≡ c.processors = omega (arith, f.4, ltb-false (k + 1) processors less, f.2) in
-                  rw (less, z.0) (λ r. counted_stays c t m next (w ∷ earlier) (ap words_read e2)
+                  rw (less, z.0) (counted_stays c t m next (w ∷ earlier) (ap words_read e2)
                   (sum_ends c t m w next earlier sum h f.4 last z.1))
             ]
       ]
@@ -106,11 +112,11 @@ module _ (c : Config) (t : ℕ) (lt : t < c.tasks) (w next : World) (earlier : L
   change_own m ro wait task processors LoadsFlags lm e same h e' =
       elim (cases_Bool (has_flag (w.words.flags m) 1)) [ inl z ↦ rw z (between_own m ro true) | inr z ↦ rw z tt ]
   change_own m ro wait task processors LoadsSb lm e same h e' = between_own m ro (not (w.words.sb == 0))
-  change_own m ro wait task processors ClearsReadOnly lm e same h e' = λ r. not_busy r
+  change_own m ro wait task processors ClearsReadOnly lm e same h e' = tt
   change_own m ro wait task processors SetsHold lm e same h e' = sum_starts c t m next (w ∷ earlier) after lm (ap words_read e')
   change_own m ro wait task processors (Sums sum) lm e same h e' =
       sum_own m ro wait task processors sum e (ap (λ (ws : Words). ws.count m) (same ∙ load_same w.words (MountCount m sum.words))) h e'
-  change_own m ro wait task processors SetsReadOnly lm e same h e' = λ r. not_busy r
+  change_own m ro wait task processors SetsReadOnly lm e same h e' = tt
   change_own m ro wait task processors (ClearsHold answer) lm e same h e' =
-      λ r. counted_stays c t m next (w ∷ earlier) (ap words_read e') (h r)
+      answer_stays c t w next earlier m answer (ap words_read e') h
   change_own m ro wait task processors (Releases answer) lm e same h e' = tt

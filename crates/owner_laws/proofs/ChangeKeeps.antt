@@ -1,11 +1,9 @@
 -- All that is proved of a change.
 use Rattle.std.proofs.Common.{ℕ, Bool, arith, refl, subst}
-use Rattle.std.specs.Prelude.{Some, Err}
+use Rattle.std.specs.Prelude.{Some}
 use Rattle.std.proofs.lemmas.Bool.{ltb-true}
-use Rattle.access_model.specs.declared.errors.GateError.TheVariants.{Busy}
 use Rattle.mount_counts.specs.declared.phases.MountPhase.TheVariants.{Change as Changes}
 use Rattle.mount_counts.specs.declared.phases.Change.{Change}
-use Rattle.mount_counts.specs.declared.phases.ChangeStep.TheVariants.{Releases}
 use Rattle.gate_world.specs.declared.config.Config.{Config}
 use Rattle.gate_world.specs.declared.work.Phase.TheVariants.{Mounts}
 use Rattle.gate_world.specs.Fits.{Fits}
@@ -16,7 +14,6 @@ use Rattle.gate_frames.proofs.Snapshots.{completes_none}
 use Rattle.gate_world.specs.declared.operations.Op.TheVariants.{ChangeMount}
 use Rattle.gate_world.specs.Traces.{most_events}
 use Rattle.gate_frames.proofs.Says.{tells, is_short}
-use Rattle.gate_world.specs.KeptCauses.{ChangeCause}
 use Rattle.gate_world.specs.Worlds.{after_step}
 use Rattle.owner_laws.proofs.Each.{change_keeps}
 use Rattle.owner_laws.proofs.ChangeFits.{change_there, change_acts, change_goes}
@@ -42,10 +39,8 @@ change_phase c x = record {
       subst (Fits c t (held_at (w.views t)) (holds_level (w.views t))) e (good Fitting t lt) in
       change_own c t lt w (after_step w t (Mounts (Changes x)) hook) earlier good after hook x.mount x.read_only x.wait x.task
       x.processors x.step f.0 e refl h is;
-  waits = λ lim w earlier good t lt hook e cause.
-      change_waits c w earlier good t lt x.mount x.read_only x.task x.processors hook x.wait x.step e;
-  tells = λ t w earlier fits h e. let k : ChangeCause c t w earlier x.mount (Releases (Err Busy)) =
-      subst (ChangeCause c t w earlier x.mount) e h in k refl;
+  reasons = λ lim w earlier good t lt hook e cause.
+      change_waits c w earlier good t lt x.mount x.read_only x.task x.processors hook x.wait x.step e cause;
 }
 
 pub change_op : (c : Config) (m : ℕ) (ro wait : Bool) → OpKeeps c (ChangeMount m ro wait)

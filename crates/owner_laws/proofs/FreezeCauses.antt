@@ -35,7 +35,6 @@ use Rattle.percpu_rwsem.specs.declared.writers.UpWrite.{UpWrite}
 use Rattle.freeze_levels.specs.Freezes.{at_freeze, level_closed, after_closing, after_clearing, freeze_fails, after_reopening}
 use Rattle.freeze_levels.specs.declared.freezes.Freeze.{Freeze}
 use Rattle.freeze_levels.specs.declared.freezes.FreezeStep.{FreezeStep}
-use Rattle.access_model.specs.declared.actions.Holder.{Holder}
 use Rattle.access_model.specs.Holders.{held_by}
 use Rattle.freeze_levels.specs.Holders.{holders_in}
 use Rattle.owner_laws.proofs.FreezeFits.{found_cases}
@@ -57,7 +56,7 @@ use Rattle.freeze_levels.specs.declared.freezes.FreezeStep.TheVariants.{
   Reopens,
   Releases,
 }
-use Rattle.gate_world.specs.Causes.{all_inside, was_inside, words_read, moments_of_sum, looks_at_stage, was_busy, FreezeHasCause}
+use Rattle.gate_world.specs.Causes.{all_inside, was_inside, words_read, moments_of_sum, looks_at_stage, was_busy}
 use Rattle.gate_world.specs.Fits.{DownWriteStepFits, FreezeFits}
 use Rattle.gate_world.specs.KeptCauses.{DownWriteCause, FreezeCause, CauseOf}
 use Rattle.gate_world.specs.Rules.{IsGood, AtLevel, LevelHoldsIn}
@@ -332,9 +331,3 @@ module _ (c : Config) (t : ℕ) (w next : World) (earlier : List World) (after :
   freeze_own hook (Reopens u code) f four e same h e' =
       reopening_own u.level code (up_write_after u u.step (found_at w.words (Freezes (at_freeze x (Reopens u code))) hook)).0 e'
   freeze_own hook (Releases answer) f four e same h e' = tt
-
--- the cause that is kept of a freeze says what is to be told
-pub freeze_cause_tells : (c : Config) (t : ℕ) (w : World) (earlier : List World) (holder : Holder) (s : FreezeStep) →
-    FreezeCause c t w earlier holder s → FreezeHasCause c t (w ∷ earlier) holder s
-freeze_cause_tells c t w earlier holder (Releases answer) h = h
-freeze_cause_tells c t w earlier holder s h = tt

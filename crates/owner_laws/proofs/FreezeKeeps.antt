@@ -16,7 +16,7 @@ use Rattle.freeze_levels.specs.declared.freezes.FreezeStep.TheVariants.{LoadsHol
 use Rattle.stage_laws.specs.Roles.{KnowsStage}
 use Rattle.gate_world.specs.Stages.{freeze_stage_role, stage_role_of}
 use Rattle.owner_laws.proofs.FreezeFits.{freeze_word, freeze_acts, freeze_goes}
-use Rattle.owner_laws.proofs.FreezeCauses.{freeze_stays, freeze_own, freeze_cause_tells}
+use Rattle.owner_laws.proofs.FreezeCauses.{freeze_stays, freeze_own}
 use Rattle.owner_laws.proofs.FreezeWaits.{freeze_waits}
 use Rattle.owner_laws.proofs.FreezeEvents.{freeze_keeps}
 use Rattle.owner_laws.proofs.FreezeRuns.{freeze_runs}
@@ -49,9 +49,8 @@ freeze_phase c x = record {
   causes = λ w earlier good t lt hook e after is h.
       freeze_own c t w (after_step w t (Freezes x) hook) earlier after x hook x.step (fits_here c x w good t lt e).5
       (λ is_load. (stage_here c x w good t lt e is_load)) e refl h is;
-  waits = λ within w earlier good t lt hook e cause.
+  reasons = λ within w earlier good t lt hook e cause.
       freeze_waits c w earlier good t lt x hook x.step e (fits_here c x w good t lt e).5 cause;
-  tells = λ t w earlier fits h. freeze_cause_tells c t w earlier x.holder x.step h;
 }
 
 -- of its beginning and its trace

@@ -1,5 +1,6 @@
 -- A freeze waits only where another task has `umount`, where one is inside a read-side section, or where something was counted at the level
--- that it closes.
+-- that it closes, and is refused only for its cause.
+use Rattle.access_model.specs.declared.errors.GateError.TheVariants.{Busy}
 use Rattle.std.proofs.Common.{◌≡◌, ℕ, ◌+◌, ◌%◌, ◌<◌, ◌≤◌, true, refl, sym, ap, ◌∙◌, inl, inr, arith}
 use Rattle.std.specs.Prelude.{nat_lt, Some, Ok, Err, List, ◌⊎◌}
 use Rattle.std.proofs.lemmas.Bool.{cases_Bool, ltb-false, eq-eqb}
@@ -58,7 +59,7 @@ use Rattle.gate_world.specs.Fits.{DownWriteStepFits, FreezeFits}
 use Rattle.gate_world.specs.KeptCauses.{DownWriteCause, FreezeCause}
 use Rattle.gate_world.specs.Levels.{inside, sync_role_of}
 use Rattle.gate_world.specs.Rules.{owns, IsGood, Sections}
-use Rattle.gate_world.specs.Waits.{HasCulprit, WaitsForAnother}
+use Rattle.gate_world.specs.Waits.{HasCulprit, HasReason}
 use Rattle.gate_world.specs.Work.{after_of}
 use Rattle.gate_world.specs.Worlds.{World, found_at}
 use Rattle.gate_world.specs.declared.config.Config.{Config}
@@ -90,7 +91,7 @@ closing_role x d s = rw (eq-eqb d.level d.level refl) refl
 module _ (c : Config) (w : World) (earlier : List World) (good : IsGood c w) (t : ℕ) (lt : t < c.tasks) (x : Freeze) where
   -- what is said of the wait of a freeze that is at this step
   abbrev Waits : FreezeStep → Next Freeze → Type 0
-  Waits s n = WaitsForAnother c w earlier t (Freezes (at_freeze x s)) (map_next Freezes n)
+  Waits s n = HasReason c w earlier t (Freezes (at_freeze x s)) (map_next Freezes n)
 
   module _ (d : DownWrite) (one : 1 ≤ d.level) (three : d.level ≤ 3) where
     -- the passing of a task is no wait
@@ -192,7 +193,7 @@ module _ (c : Config) (w : World) (earlier : List World) (good : IsGood c w) (t 
   -- each step of a freeze
   pub freeze_waits : (hook : HookAnswer) (s : FreezeStep) → (w.views t).phase ≡ Some (Freezes (at_freeze x s)) → FreezeFits c x.holder s →
       FreezeCause c t w earlier x.holder s →
-      WaitsForAnother c w earlier t (Freezes (at_freeze x s))
+      HasReason c w earlier t (Freezes (at_freeze x s))
       (after_of (Freezes (at_freeze x s)) (found_at w.words (Freezes (at_freeze x s)) hook) hook).0
   freeze_waits hook Locks e f h =
       elim (eqb_tells w.words.umount 0) [
@@ -224,4 +225,6 @@ module _ (c : Config) (w : World) (earlier : List World) (good : IsGood c w) (t 
   freeze_waits (Err code) SetsComplete e f h = tt
   freeze_waits hook (Reopens u code) e f h =
       reopening_waits (Reopens u code) u u.step u.level code (found_at w.words (Freezes (at_freeze x (Reopens u code))) hook)
-  freeze_waits hook (Releases answer) e f h = tt
+  freeze_waits hook (Releases (Ok reply)) e f h = tt
+  freeze_waits hook (Releases (Err Busy)) e f h = h refl
+  freeze_waits hook (Releases (Err refusal)) e f h = tt

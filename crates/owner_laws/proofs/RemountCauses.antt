@@ -13,7 +13,7 @@ use Rattle.cpu_words.specs.declared.sums.Sum.{Sum}
 use Rattle.gate_frames.proofs.Keeps.{by_bool}
 use Rattle.gate_frames.proofs.Words.{load_same}
 use Rattle.gate_world.specs.Causes.{all_counted, words_read, mount_summed, moments_of_sum, AreOfMount, looks_at_stage, was_frozen, SomeWasCounted, was_removed, last_removed, looks_at_removed}
-use Rattle.gate_world.specs.KeptCauses.{ChangeCause, RemountAnswerCause, RemountCause, CauseOf}
+use Rattle.gate_world.specs.KeptCauses.{RemountAnswerCause, RemountCause, CauseOf}
 use Rattle.gate_world.specs.Remounts.{RemountFits}
 use Rattle.gate_world.specs.Rules.{IsGood}
 use Rattle.gate_world.specs.Views.{phase_after}
@@ -25,7 +25,6 @@ use Rattle.gate_world.specs.declared.work.Phase.{Phase}
 use Rattle.mount_counts.specs.Phases.{has_flag}
 use Rattle.mount_counts.specs.Remounts.{at_remount, remount_from, past_mount, let_go, leave_holds, give_up, remount_summed, past_node}
 use Rattle.mount_counts.specs.Sets.{with_mount, without_lowest}
-use Rattle.mount_counts.specs.declared.phases.ChangeStep.TheVariants.{Sums as SumsOne}
 use Rattle.mount_counts.specs.declared.remounts.Remount.{Remount}
 use Rattle.mount_counts.specs.declared.remounts.RemountStep.TheVariants.{Locks, LoadsStage, LoadsSuperblock, SetsWritable, LoadsFlags, SetsHold, Sums, LoadsRemoved, LoadsRemovedAgain, LeavesHolds, SetsRemount, ClearsHold, GivesUp, ClearsMark, SetsReadOnly, ClearsRemount, Releases}
 use Rattle.mount_counts.specs.declared.remounts.RemountStep.{RemountStep}

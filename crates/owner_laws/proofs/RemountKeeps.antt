@@ -1,14 +1,11 @@
 -- All that is proved of a remount.
 use Rattle.std.proofs.Common.{Bool, refl, subst}
-use Rattle.std.specs.Prelude.{Some, Err}
-use Rattle.access_model.specs.declared.errors.GateError.TheVariants.{Busy}
+use Rattle.std.specs.Prelude.{Some}
 use Rattle.mount_counts.specs.declared.remounts.Remount.{Remount}
-use Rattle.mount_counts.specs.declared.remounts.RemountStep.TheVariants.{Releases}
 use Rattle.gate_world.specs.declared.config.Config.{Config}
 use Rattle.gate_world.specs.declared.operations.Op.TheVariants.{RemountSb}
 use Rattle.gate_world.specs.declared.work.Phase.TheVariants.{Remounts}
 use Rattle.gate_world.specs.Fits.{Fits}
-use Rattle.gate_world.specs.KeptCauses.{RemountCause}
 use Rattle.gate_world.specs.Rules.{Fitting}
 use Rattle.gate_world.specs.Views.{held_at, holds_level}
 use Rattle.gate_world.specs.Worlds.{after_step}
@@ -38,9 +35,7 @@ remount_phase c x = record {
       let f : Fits c t (held_at (w.views t)) (holds_level (w.views t)) (Some (Remounts x)) =
       subst (Fits c t (held_at (w.views t)) (holds_level (w.views t))) e (good Fitting t lt) in
       remount_own c t w (after_step w t (Remounts x) hook) earlier after x hook x.step f.1 f.5 e refl h is;
-  waits = λ lim w earlier good t lt hook e cause. remount_waits c w earlier good t lt x hook x.step e;
-  tells = λ t w earlier fits h e. let k : RemountCause c t w earlier (Releases (Err Busy)) =
-      subst (RemountCause c t w earlier) e h in k refl;
+  reasons = λ lim w earlier good t lt hook e cause. remount_waits c w earlier good t lt x hook x.step e cause;
 }
 
 -- of its beginning and its trace

@@ -32,14 +32,13 @@ use Rattle.freeze_levels.specs.declared.thaws.ThawStep.TheVariants.{
   Releases,
 }
 use Rattle.freeze_levels.specs.Thaws.{at_thaw, thaw_opens, after_opening}
-use Rattle.access_model.specs.declared.actions.Holder.{Holder}
 use Rattle.access_model.specs.Holders.{held_by}
 use Rattle.freeze_levels.specs.Holders.{holders_in}
 use Rattle.owner_laws.proofs.ThawFits.{finds_cases}
 use Rattle.gate_world.specs.declared.config.Config.{Config}
 use Rattle.gate_world.specs.declared.work.Phase.{Phase}
 use Rattle.gate_world.specs.declared.work.Phase.TheVariants.{Thaws}
-use Rattle.gate_world.specs.Causes.{looks_at_stage, was_unheld, ThawHasCause}
+use Rattle.gate_world.specs.Causes.{looks_at_stage, was_unheld}
 use Rattle.gate_world.specs.KeptCauses.{ThawCause, CauseOf}
 use Rattle.gate_world.specs.Views.{phase_after}
 use Rattle.gate_world.specs.Work.{after_of}
@@ -51,12 +50,6 @@ pub thaw_stays : (c : Config) (t : ℕ) (w next : World) (earlier : List World) 
 thaw_stays c t w next earlier x (Releases answer) e h =
     λ r. ap (was_unheld c x.holder) (look_skips t next (w ∷ earlier) (ap looks_at_stage e)) ∙ h r
 thaw_stays c t w next earlier x s e h = tt
-
--- the cause that is kept is the one that is told
-pub thaw_told : (c : Config) (t : ℕ) (w : World) (earlier : List World) (holder : Holder) (s : ThawStep) → ThawCause c t w earlier holder s →
-    ThawHasCause c t (w ∷ earlier) holder s
-thaw_told c t w earlier holder (Releases answer) h = h
-thaw_told c t w earlier holder s h = tt
 
 -- what is or is true is true
 or_true : (b : Bool) → b || true ≡ true

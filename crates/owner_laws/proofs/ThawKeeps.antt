@@ -11,7 +11,7 @@ use Rattle.gate_frames.proofs.Says.{tells, is_short}
 use Rattle.owner_laws.proofs.ThawEvents.{thaw_keeps}
 use Rattle.owner_laws.proofs.ThawRuns.{thaw_runs}
 use Rattle.owner_laws.proofs.ThawFits.{thaw_there, thaw_acts, thaw_goes}
-use Rattle.owner_laws.proofs.ThawCauses.{thaw_stays, thaw_told, thaw_own}
+use Rattle.owner_laws.proofs.ThawCauses.{thaw_stays, thaw_own}
 use Rattle.access_model.specs.declared.actions.Holder.{Holder}
 use Rattle.owner_laws.proofs.ThawWaits.{thaw_waits}
 use Rattle.owner_laws.proofs.ThawTraces.{ThawAt, thaw_kept, thaw_restores}
@@ -28,8 +28,7 @@ thaw_phase c x = record {
   agrees = λ t f g h k mounts levels fits. (fits.0, rw (← none_agree c t f g h k mounts levels) fits.1, fits.2);
   stays = λ w next earlier after t f e was quiet h. thaw_stays c t w next earlier x x.step e h;
   causes = λ w earlier good t lt hook e after is h. thaw_own c t w (after_step w t (Thaws x) hook) earlier x hook x.step e is;
-  waits = λ lim w earlier good t lt hook e cause. thaw_waits c w earlier t good lt x hook x.step e;
-  tells = λ t w earlier fits h. thaw_told c t w earlier x.holder x.step h;
+  reasons = λ lim w earlier good t lt hook e cause. thaw_waits c w earlier t good lt x hook x.step e cause;
 }
 
 -- of its beginning and its trace

@@ -51,11 +51,10 @@ callback_phase c b = record {
   causes = λ w earlier good t lt hook e after is h.
       callback_cause c t (after_step w t (Callbacks b) hook) (w ∷ earlier)
       (callback_after b b.step (found_at w.words (Callbacks b) hook)).0;
-  waits = λ within w earlier good t lt hook e cause.
+  reasons = λ within w earlier good t lt hook e cause.
       let f : Fits c t (held_at (w.views t)) (holds_level (w.views t)) (Some (Callbacks b)) =
       subst (Fits c t (held_at (w.views t)) (holds_level (w.views t))) e (good Fitting t lt) in
       callback_waits c w earlier t good b hook b.step e f.3;
-  tells = λ t w earlier fits h. tt;
 }
 
 -- of its beginning and its trace

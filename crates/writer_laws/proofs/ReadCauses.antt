@@ -152,8 +152,3 @@ module _ (c : Config) (t : ℕ) (w next : World) (earlier : List World) where
   next_cause (Go r) h = h
   next_cause (Wait r) h = h
   next_cause (Done answer) h = tt
-
--- the cause of a refusal or a wait says what is to be told
-pub read_tells : (c : Config) (t : ℕ) (w : World) (earlier : List World) (i : ℕ) (s : DownReadStep) → ReadCause c t w earlier i s →
-    s ≡ LeavesBlocked → WasClosed c t i (last_asked t (w ∷ earlier))
-read_tells c t w earlier i s h e = let k : ReadCause c t w earlier i LeavesBlocked = subst (ReadCause c t w earlier i) e h in k

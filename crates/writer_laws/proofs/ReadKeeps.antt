@@ -24,7 +24,7 @@ use Rattle.gate_frames.proofs.Says.{tells, is_short}
 use Rattle.writer_laws.proofs.EndEvents.{end_keeps}
 use Rattle.writer_laws.proofs.ReadEvents.{read_keeps}
 use Rattle.writer_laws.proofs.ReadFits.{both_true, level_there, none_from_agree, read_step_agrees, read_there, read_acts, read_goes, read_fits}
-use Rattle.writer_laws.proofs.ReadCauses.{read_not_closed, read_stays, read_own, asks_next, next_cause, read_tells}
+use Rattle.writer_laws.proofs.ReadCauses.{read_not_closed, read_stays, read_own, asks_next, next_cause}
 use Rattle.writer_laws.proofs.ReadWaits.{read_waits, start_waits}
 use Rattle.writer_laws.proofs.ReadRuns.{read_runs, end_runs}
 use Rattle.writer_laws.proofs.ReadTraces.{StartAt, EndAt, start_kept, end_kept}
@@ -52,10 +52,9 @@ read_phase c r = record {
       (read_own c t w next earlier good r f.0 f.1 hook r.step (ap asks_level e)
       (ap (λ p. closed (sync_role_of r.level p)) e ∙ read_not_closed r.level r.level r.step) h
       (asks_next c t w next earlier (down_read_after r r.step (found_at w.words (DownReads r) hook)).0 is));
-  waits = λ within w earlier good t lt hook e cause.
+  reasons = λ within w earlier good t lt hook e cause.
       start_waits c w earlier t r (down_read_after r r.step (found_at w.words (DownReads r) hook)).0
       (read_waits c w earlier t r r.step (found_at w.words (DownReads r) hook) cause);
-  tells = λ t w earlier fits h e. read_tells c t w earlier r.level r.step h e;
 }
 
 -- of the one phase of an end
@@ -70,8 +69,7 @@ end_phase c u = record {
   agrees = λ t f g h k mounts levels fits. (fits.0, fits.1, fits.2, sym (levels u.level fits.0 fits.1) ∙ fits.3);
   stays = λ w next earlier good t f e was quiet h. tt;
   causes = λ w earlier good t lt hook e after is h. tt;
-  waits = λ within w earlier good t lt hook e cause. tt;
-  tells = λ t w earlier fits h. tt;
+  reasons = λ within w earlier good t lt hook e cause. tt;
 }
 
 -- a level and a processor that are in range

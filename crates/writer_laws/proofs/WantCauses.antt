@@ -1,9 +1,15 @@
 -- The causes of a want's refusals, along a schedule, whether the want is an operation of its own or stands in a longer one.
+use Rattle.gate_frames.proofs.Owners.{who_holds}
 use Rattle.access_model.specs.declared.errors.GateError.TheVariants.{Again, ReadOnly}
-use Rattle.gate_world.specs.Causes.{asks, want_asks, was_read_only}
-use Rattle.gate_world.specs.Rules.{IsGood, Owner, Stages, AtMount}
-use Rattle.gate_world.specs.Views.{phase_after}
-use Rattle.gate_world.specs.Worlds.{World}
+use Rattle.access_model.specs.declared.errors.GateError.{GateError}
+use Rattle.cpu_words.specs.Hooks.{HookAnswer}
+use Rattle.finite_sums.proofs.Totals.{update_at, update_off}
+use Rattle.gate_frames.proofs.Frames.{role_on}
+use Rattle.gate_frames.proofs.Loads.{fits_now}
+use Rattle.gate_world.specs.Causes.{all_counted, asks, want_asks, WantRefused, WasHeld}
+use Rattle.gate_world.specs.Rules.{IsGood, Owner, Stages, AtMount, role_of, want_role}
+use Rattle.gate_world.specs.Views.{held_at, view_after, phase_after}
+use Rattle.gate_world.specs.Worlds.{World, after_step}
 use Rattle.gate_world.specs.declared.config.Config.{Config}
 use Rattle.gate_world.specs.declared.work.Phase.TheVariants.{Mounts}
 use Rattle.mount_counts.specs.Phases.{has_flag, want_next, want_after, hold_found}
@@ -14,10 +20,12 @@ use Rattle.access_model.specs.declared.replies.Next.TheVariants.{Go, Wait, Done}
 use Rattle.access_model.specs.Replies.{map_next}
 use Rattle.cpu_words.specs.Touches.{found_by}
 use Rattle.cpu_words.specs.Words.{read}
-use Rattle.mount_counts.specs.Roles.{ro_bit}
+use Rattle.mount_counts.specs.Roles.{Asking, BackingOff, sought, ro_bit, has_hold}
+use Rattle.mount_counts.specs.declared.phases.MountPhase.TheVariants.{Drop as Drops}
+use Rattle.mount_counts.specs.declared.phases.MountPhase.{MountPhase}
 use Rattle.mount_counts.specs.declared.phases.WantStep.TheVariants.{CountsUp, LoadsHold, LoadsRemount, LoadsReadOnly, LoadsSuperblock, CountsDown}
 use Rattle.mount_counts.specs.declared.phases.WantStep.{WantStep}
-use Rattle.mount_laws.proofs.Bits.{read_only_set}
+use Rattle.mount_laws.proofs.Bits.{read_only_set, hold_set}
 use Rattle.std.proofs.Common.{◌≡◌, ℕ, ◌<◌, Bool, true, false, refl, sym, subst, ap, ◌∙◌, inl, inr, arith}
 use Rattle.std.proofs.lemmas.Bool.Decides.{eqb_tells}
 use Rattle.std.proofs.lemmas.Bool.{eq-eqb, cases_Bool}
@@ -35,7 +43,7 @@ module _ (c : Config) (t : ℕ) (w next : World) (earlier : List World) where
   want_kept m LoadsRemount e h = tt
   want_kept m LoadsReadOnly e h = tt
   want_kept m LoadsSuperblock e h = tt
-  want_kept m (CountsDown refusal) e h = λ r. ap (was_read_only c m) (question_skips t next (w ∷ earlier) e) ∙ h r
+  want_kept m (CountsDown refusal) e h = subst (λ q. WantRefused c t m q refusal) (sym (question_skips t next (w ∷ earlier) e)) h
 
 -- whether what comes after an event of a want asks the read-only question
 abbrev pub next_asks : Next Want → Bool
@@ -66,54 +74,60 @@ module _ (c : Config) (t : ℕ) (w : World) (earlier : List World) (m : ℕ) whe
 -- the task that steps: what comes after its event says, in the world after the event
 module _ (c : Config) (t : ℕ) (lt : t < c.tasks) (w next : World) (earlier : List World) (good : IsGood c w) where
   -- the question was asked in the world before the event, and not again
-  asked : (m : ℕ) → asks (w.views t).phase ≡ true → asks (next.views t).phase ≡ false → was_read_only c m (Some w) ≡ true →
-      WantCause c t next (w ∷ earlier) m (CountsDown ReadOnly)
-  asked m a e h = λ r. ap (was_read_only c m) (question_skips t next (w ∷ earlier) e ∙ question_stands t w earlier a) ∙ h
+  asked : (m : ℕ) (refusal : GateError) → asks (w.views t).phase ≡ true → asks (next.views t).phase ≡ false →
+      WantRefused c t m (Some w) refusal → WantCause c t next (w ∷ earlier) m (CountsDown refusal)
+  asked m refusal a e h =
+      subst (λ q. WantRefused c t m q refusal) (sym (question_skips t next (w ∷ earlier) e ∙ question_stands t w earlier a)) h
 
-  -- a refusal for another reason needs no such cause
-  other_refusal : {A : Type 0} → Again ≡ ReadOnly → A
-  other_refusal h = cc
-
-  -- nor does a want that found HOLD
-  hold_own : (x : Want) (b : Bool) → NextCause c t next (w ∷ earlier) x.mount (hold_found x b)
-  hold_own x true = (refl, tt)
-  hold_own x false = (refl, λ r. other_refusal r)
+  -- a want that found HOLD set asks again, or is refused: another task had it set
+  hold_own : (x : Want) (b : Bool) → asks (w.views t).phase ≡ true → asks (next.views t).phase ≡ next_asks (hold_found x b) →
+      WasHeld c t x.mount (Some w) → NextCause c t next (w ∷ earlier) x.mount (hold_found x b)
+  hold_own x true a e held = (refl, tt)
+  hold_own x false a e held = (refl, asked x.mount Again a e held)
 
   -- what comes after an event of a want has its cause, whatever operation the want stands in
   pub want_own : (x : Want) (s : WantStep) → x.mount < c.mounts → asks (w.views t).phase ≡ want_asks s →
+      role_of x.mount (w.views t).phase ≡ want_role x.cpu s →
       let found : ℕ = found_by (want_next x s).1 (read w.words (want_next x s).0) in
       asks (next.views t).phase ≡ next_asks (want_after x s found).0 → WantCause c t w earlier x.mount s →
       NextCause c t next (w ∷ earlier) x.mount (want_after x s found).0
-  want_own x CountsUp lm e e' h = (refl, tt)
-  want_own x LoadsHold lm e e' h =
-      elim (cases_Bool (has_flag (w.words.flags x.mount) 2)) [ inl f ↦ rw f (hold_own x x.wait) | inr f ↦ rw f (refl, tt) ]
-  want_own x LoadsRemount lm e e' h =
+  want_own x CountsUp lm e is e' h = (refl, tt)
+  want_own x LoadsHold lm e is e' h =
+      elim (cases_Bool (has_flag (w.words.flags x.mount) 2)) [
+        | inl f ↦
+            let held : WasHeld c t x.mount (Some w) =
+            who_holds c w good t lt x.mount lm (hold_set (w.words.flags x.mount) (good (AtMount x.mount) lm).bits f) (ap has_hold is) in
+            rw f (hold_own x x.wait e (rw f at e') held)
+        | inr f ↦ rw f (refl, tt)
+      ]
+  want_own x LoadsRemount lm e is e' h =
       elim (eqb_tells w.words.remount 0) [
         | inl f ↦ rw f.0 (refl, tt)
         | inr f ↦
             let one : w.words.remount ≡ 1 = omega (arith, f.1, (good Owner).bit) in
             rw f.0 (
               refl,
-              asked x.mount e (rw f.0 at e')
+              asked x.mount ReadOnly e (rw f.0 at e')
                   (rw (eq-eqb w.words.remount 1 one, or_true (ro_bit (w.words.flags x.mount) == 1)) refl),
             )
       ]
-  want_own x LoadsReadOnly lm e e' h =
+  want_own x LoadsReadOnly lm e is e' h =
       elim (cases_Bool (has_flag (w.words.flags x.mount) 1)) [
         | inl f ↦
             let set : ro_bit (w.words.flags x.mount) ≡ 1 = read_only_set (w.words.flags x.mount) (good (AtMount x.mount) lm).bits f in
-            rw f (refl, asked x.mount e (rw f at e') (rw (eq-eqb (ro_bit (w.words.flags x.mount)) 1 set) refl))
+            rw f (refl, asked x.mount ReadOnly e (rw f at e') (rw (eq-eqb (ro_bit (w.words.flags x.mount)) 1 set) refl))
         | inr f ↦ rw f (refl, tt)
       ]
-  want_own x LoadsSuperblock lm e e' h =
+  want_own x LoadsSuperblock lm e is e' h =
       elim (eqb_tells w.words.sb 0) [
         | inl f ↦ rw f.0 tt
         | inr f ↦
             let one : w.words.sb ≡ 1 = omega (arith, f.1, (good Stages).superblock) in
             rw f.0 (
               refl,
-              asked x.mount e (rw f.0 at e')
+              asked x.mount ReadOnly e (rw f.0 at e')
                   (rw (eq-eqb w.words.sb 1 one, or_true (w.words.remount == 1), or_true (ro_bit (w.words.flags x.mount) == 1)) refl),
             )
       ]
-  want_own x (CountsDown refusal) lm e e' h = λ r. ap (was_read_only c x.mount) (question_skips t next (w ∷ earlier) e') ∙ h r
+  want_own x (CountsDown refusal) lm e is e' h =
+      subst (λ q. WantRefused c t x.mount q refusal) (sym (question_skips t next (w ∷ earlier) e')) h

@@ -2,10 +2,8 @@
 use Rattle.std.proofs.Common.{◌≡◌, ℕ, Bool, true, false, arith, ap, ◌∙◌, refl, subst}
 use Rattle.std.specs.Prelude.{nat_lt, Some, ◌&&◌, ◌∷◌}
 use Rattle.std.proofs.lemmas.Bool.{ltb-true}
-use Rattle.access_model.specs.declared.errors.GateError.TheVariants.{ReadOnly}
 use Rattle.mount_counts.specs.declared.phases.MountPhase.TheVariants.{Want as Wants, Drop as Drops}
 use Rattle.mount_counts.specs.declared.phases.Want.{Want}
-use Rattle.mount_counts.specs.declared.phases.WantStep.TheVariants.{CountsDown}
 use Rattle.gate_world.specs.declared.config.Config.{Config}
 use Rattle.gate_world.specs.declared.work.Phase.TheVariants.{Mounts}
 use Rattle.gate_world.specs.Fits.{Fits}
@@ -16,7 +14,6 @@ use Rattle.gate_frames.proofs.Snapshots.{completes_none}
 use Rattle.gate_world.specs.declared.operations.Op.TheVariants.{Want as WantOp, DropMount}
 use Rattle.gate_world.specs.Traces.{most_events}
 use Rattle.gate_frames.proofs.Says.{tells, is_short}
-use Rattle.gate_world.specs.KeptCauses.{WantCause}
 use Rattle.gate_world.specs.Worlds.{World, after_step, found_at}
 use Rattle.gate_world.specs.Causes.{asks}
 use Rattle.mount_counts.specs.Phases.{want_after}
@@ -53,14 +50,12 @@ want_phase c x = record {
       let next : World = after_step w t (Mounts (Wants x)) hook in
       let coming : Next Want = (want_after x x.step (found_at w.words (Mounts (Wants x)) hook)).0 in
       next_cause c t next (w ∷ earlier) x.mount coming
-      (want_own c t lt w next earlier good x x.step f.0 (ap asks e) (ap asks is ∙ next_asked coming) h);
-  waits = λ lim w earlier good t lt hook e cause.
+      (want_own c t lt w next earlier good x x.step f.0 (ap asks e) (want_here x.mount x.cpu x.wait x.step e) (ap asks is ∙ next_asked coming) h);
+  reasons = λ lim w earlier good t lt hook e cause.
       let f : Fits c t (held_at (w.views t)) (holds_level (w.views t)) (Some (Mounts (Wants x))) =
       subst (Fits c t (held_at (w.views t)) (holds_level (w.views t))) e (good Fitting t lt) in
-      next_waits c w good t lt x earlier (want_after x x.step (found_at w.words (Mounts (Wants x)) hook)).0
-      (want_waits c w good t lt x x.step f.0 (want_here x.mount x.cpu x.wait x.step e));
-  tells = λ t w earlier fits h e. let k : WantCause c t w earlier x.mount (CountsDown ReadOnly) =
-      subst (WantCause c t w earlier x.mount) e h in k refl;
+      next_waits c w earlier good t lt x (want_after x x.step (found_at w.words (Mounts (Wants x)) hook)).0
+      (want_waits c w earlier good t lt x x.step f.0 (want_here x.mount x.cpu x.wait x.step e) cause);
 }
 
 -- of the one phase of a drop
@@ -75,8 +70,7 @@ drop_phase c m p = record {
   agrees = λ t f g h k mounts levels fits. (fits.0, fits.1, omega (arith, fits.2, mounts m fits.0));
   stays = λ w next earlier after t f e was quiet h. tt;
   causes = λ w earlier good t lt hook e after is h. tt;
-  waits = λ lim w earlier good t lt hook e cause. tt;
-  tells = λ t w earlier fits h. tt;
+  reasons = λ lim w earlier good t lt hook e cause. tt;
 }
 
 -- of a want

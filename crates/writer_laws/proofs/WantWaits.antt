@@ -1,5 +1,7 @@
--- A want waits only where another task has HOLD set at its mount, whether it is an operation of its own or stands in a longer one.
-use Rattle.std.specs.Prelude.{List}
+-- A want waits only where another task has HOLD set at its mount, and is refused only for its cause, whether it is an operation of its own or stands in a longer one.
+use Rattle.gate_world.specs.KeptCauses.{WantCause}
+use Rattle.gate_world.specs.Causes.{WantRefused, last_question}
+use Rattle.std.specs.Prelude.{List, Ok, Err, ◌∷◌}
 use Rattle.std.proofs.Common.{◌≡◌, ℕ, ◌<◌, Bool, true, false, ap, inl, inr}
 use Rattle.std.proofs.lemmas.Bool.{cases_Bool}
 use Rattle.std.proofs.lemmas.Bool.Decides.{eqb_tells}
@@ -19,15 +21,16 @@ use Rattle.gate_world.specs.declared.config.Config.{Config}
 use Rattle.gate_world.specs.declared.work.Phase.TheVariants.{Mounts}
 use Rattle.gate_world.specs.Worlds.{World}
 use Rattle.gate_world.specs.Rules.{role_of, want_role, IsGood, AtMount}
-use Rattle.gate_world.specs.Waits.{HasCulprit, WaitsForAnother}
+use Rattle.gate_world.specs.Waits.{HasCulprit, HasReason}
 use Rattle.gate_frames.proofs.Owners.{who_holds}
 
-module _ (c : Config) (w : World) (good : IsGood c w) (t : ℕ) (lt : t < c.tasks) (x : Want) where
-  -- where this comes after an event of the want, it is no wait, or another task has HOLD set
+module _ (c : Config) (w : World) (earlier : List World) (good : IsGood c w) (t : ℕ) (lt : t < c.tasks) (x : Want) where
+  -- where this comes after an event of the want, it is no wait, or another task has HOLD set; a refusal has its cause
   abbrev pub NextWaits : Next Want → Type 0
   NextWaits (Go y) = Unit {0}
   NextWaits (Wait y) = HasCulprit c w t (Mounts (Wants x))
-  NextWaits (Done answer) = Unit {0}
+  NextWaits (Done (Ok reply)) = Unit {0}
+  NextWaits (Done (Err refusal)) = WantRefused c t x.mount (last_question t (w ∷ earlier)) refusal
 
   -- HOLD was found set, and this task has not set it
   holder : x.mount < c.mounts → has_hold (role_of x.mount (w.views t).phase) ≡ 0 → has_flag (w.words.flags x.mount) 2 ≡ true →
@@ -45,21 +48,22 @@ module _ (c : Config) (w : World) (good : IsGood c w) (t : ℕ) (lt : t < c.task
 
   -- each step of a want
   pub want_waits : (s : WantStep) → x.mount < c.mounts → role_of x.mount (w.views t).phase ≡ want_role x.cpu s →
-      NextWaits (want_after x s (found_by (want_next x s).1 (read w.words (want_next x s).0))).0
-  want_waits CountsUp there e = tt
-  want_waits LoadsHold there e =
+      WantCause c t w earlier x.mount s → NextWaits (want_after x s (found_by (want_next x s).1 (read w.words (want_next x s).0))).0
+  want_waits CountsUp there e cause = tt
+  want_waits LoadsHold there e cause =
       elim (cases_Bool (has_flag (w.words.flags x.mount) 2)) [
         | inl h ↦ rw h (hold_waits x.wait there (ap has_hold e) h)
         | inr h ↦ rw h tt
       ]
-  want_waits LoadsRemount there e = elim (eqb_tells w.words.remount 0) [ inl h ↦ rw h.0 tt | inr h ↦ rw h.0 tt ]
-  want_waits LoadsReadOnly there e = elim (cases_Bool (has_flag (w.words.flags x.mount) 1)) [ inl h ↦ rw h tt | inr h ↦ rw h tt ]
-  want_waits LoadsSuperblock there e = elim (eqb_tells w.words.sb 0) [ inl h ↦ rw h.0 tt | inr h ↦ rw h.0 tt ]
-  want_waits (CountsDown refusal) there e = tt
+  want_waits LoadsRemount there e cause = elim (eqb_tells w.words.remount 0) [ inl h ↦ rw h.0 tt | inr h ↦ rw h.0 tt ]
+  want_waits LoadsReadOnly there e cause = elim (cases_Bool (has_flag (w.words.flags x.mount) 1)) [ inl h ↦ rw h tt | inr h ↦ rw h tt ]
+  want_waits LoadsSuperblock there e cause = elim (eqb_tells w.words.sb 0) [ inl h ↦ rw h.0 tt | inr h ↦ rw h.0 tt ]
+  want_waits (CountsDown refusal) there e cause = cause
 
   -- so it is of a want's own operation
-  pub next_waits : (earlier : List World) (n : Next Want) → NextWaits n →
-      WaitsForAnother c w earlier t (Mounts (Wants x)) (map_next Mounts (map_next Wants n))
-  next_waits earlier (Go y) h = tt
-  next_waits earlier (Wait y) h = h
-  next_waits earlier (Done answer) h = tt
+  pub next_waits : (n : Next Want) → NextWaits n →
+      HasReason c w earlier t (Mounts (Wants x)) (map_next Mounts (map_next Wants n))
+  next_waits (Go y) h = tt
+  next_waits (Wait y) h = h
+  next_waits (Done (Ok reply)) h = tt
+  next_waits (Done (Err refusal)) h = h

@@ -13,11 +13,11 @@ use Rattle.gate_world.specs.declared.work.Phase.TheVariants.{Writes}
 use Rattle.gate_world.specs.Views.{phase_after}
 use Rattle.gate_world.specs.Causes.{asks, asks_level, last_asked, WasClosed}
 use Rattle.gate_world.specs.KeptCauses.{WantCause, CauseOf}
-use Rattle.gate_world.specs.Waits.{WaitsForAnother}
+use Rattle.gate_world.specs.Waits.{HasReason}
 use Rattle.gate_world.specs.Worlds.{World}
 use Rattle.gate_world.specs.Rules.{IsGood}
 use Rattle.writer_laws.proofs.ReadCauses.{AsksNext, HasNextCause}
-use Rattle.writer_laws.proofs.ReadWaits.{WhereItWaits}
+use Rattle.writer_laws.proofs.ReadWaits.{WhereRefused, read_refused}
 use Rattle.writer_laws.proofs.WantCauses.{next_asks, NextCause}
 use Rattle.writer_laws.proofs.WantWaits.{NextWaits}
 
@@ -53,17 +53,17 @@ module _ (c : Config) (t : ℕ) (w : World) (earlier : List World) (m p : ℕ) w
   wants_cause (Done (Ok reply)) h = tt
   wants_cause (Done (Err refusal)) h = h
 
-  -- a wait at level 1 is one for who closed it
-  pub takes_waits : (r : DownRead) (n : Next DownRead) → WhereItWaits (WasClosed c t r.level (last_asked t (w ∷ earlier))) n →
-      WaitsForAnother c w earlier t (Writes (Takes m r)) (map_next Writes (then_wants m p n))
+  -- a wait at level 1 is one for who closed it, and so is a refusal
+  pub takes_waits : (r : DownRead) (n : Next DownRead) → WhereRefused (WasClosed c t r.level (last_asked t (w ∷ earlier))) n →
+      HasReason c w earlier t (Writes (Takes m r)) (map_next Writes (then_wants m p n))
   takes_waits r (Go x) h = tt
   takes_waits r (Wait x) h = h
   takes_waits r (Done (Ok reply)) h = tt
-  takes_waits r (Done (Err refusal)) h = tt
+  takes_waits r (Done (Err refusal)) h = read_refused c t (w ∷ earlier) r.level refusal h
 
   -- a wait at the mount is one for who has HOLD set
-  pub wants_waits : (good : IsGood c w) (lt : t < c.tasks) (x : Want) (n : Next Want) → NextWaits c w good t lt x n →
-      WaitsForAnother c w earlier t (Writes (Wants x)) (map_next Writes (then_gives_back m p n))
+  pub wants_waits : (good : IsGood c w) (lt : t < c.tasks) (x : Want) (n : Next Want) → NextWaits c w earlier good t lt x n →
+      HasReason c w earlier t (Writes (Wants x)) (map_next Writes (then_gives_back m p n))
   wants_waits good lt x (Go y) h = tt
   wants_waits good lt x (Wait y) h = h
   wants_waits good lt x (Done (Ok reply)) h = tt

@@ -5,7 +5,6 @@ use Rattle.std.proofs.lemmas.Bool.{ltb-true}
 use Rattle.finite_sums.specs.Sums.{update}
 use Rattle.finite_sums.proofs.Totals.{update_same}
 use Rattle.access_model.specs.declared.errors.GateError.{GateError}
-use Rattle.access_model.specs.declared.errors.GateError.TheVariants.{ReadOnly}
 use Rattle.access_model.specs.declared.replies.Next.{Next}
 use Rattle.access_model.specs.declared.replies.Next.TheVariants.{Go, Done}
 use Rattle.access_model.specs.declared.replies.Reply.TheVariants.{Unit as UnitReply}
@@ -31,7 +30,6 @@ use Rattle.gate_world.specs.Configs.{IsWithin}
 use Rattle.gate_world.specs.Views.{held_at, holds_level, phase_after}
 use Rattle.gate_world.specs.Fits.{WriteFits, Fits, mounts_by, levels_by}
 use Rattle.gate_world.specs.Causes.{asks, asks_level}
-use Rattle.gate_world.specs.KeptCauses.{WantCause}
 use Rattle.gate_world.specs.Levels.{sync_role_of, sync_role_if, count_role_if}
 use Rattle.gate_world.specs.LevelRuns.{level_in}
 use Rattle.gate_world.specs.Worlds.{World, after_step, found_at}
@@ -42,7 +40,7 @@ use Rattle.gate_frames.proofs.Beside.{update_twice}
 use Rattle.gate_frames.proofs.Snapshots.{completes_none}
 use Rattle.gate_frames.proofs.Says.{tells, is_short}
 use Rattle.writer_laws.proofs.ReadFits.{read_mounts, read_goes}
-use Rattle.writer_laws.proofs.ReadCauses.{read_stays, read_own, read_not_closed, read_tells}
+use Rattle.writer_laws.proofs.ReadCauses.{read_stays, read_own, read_not_closed}
 use Rattle.writer_laws.proofs.ReadWaits.{read_waits}
 use Rattle.writer_laws.proofs.ReadKeeps.{read_phase, end_phase}
 use Rattle.writer_laws.proofs.WantFits.{want_leaves}
@@ -153,10 +151,9 @@ takes_phase c m r = record {
       (read_own c t w next earlier good r f.0.0 f.0.1 hook r.step (ap asks_level e)
       (ap (λ q. closed (sync_role_of r.level q)) e ∙ read_not_closed r.level r.level r.step) h
       (takes_asks c t w next earlier m r.cpu n is));
-  waits = λ lim w earlier good t lt hook e cause.
+  reasons = λ lim w earlier good t lt hook e cause.
       takes_waits c t w earlier m r.cpu r (down_read_after r r.step (found_at w.words (DownReads r) hook)).0
       (read_waits c w earlier t r r.step (found_at w.words (DownReads r) hook) cause);
-  tells = λ t w earlier fits h e. read_tells c t w earlier r.level r.step h e;
 }
 
 -- what is proved of a phase at the mount
@@ -176,14 +173,12 @@ wants_phase c x = record {
       let next : World = after_step w t (Writes (Wants x)) hook in
       let n : Next Want = (want_after x x.step (found_at w.words (Mounts (PlainWant x)) hook)).0 in
       wants_cause c t next (w ∷ earlier) x.mount x.cpu n
-      (want_own c t lt w next earlier good x x.step f.0.0 (ap asks e)
+      (want_own c t lt w next earlier good x x.step f.0.0 (ap asks e) (ap (role_of x.mount) e ∙ role_on x.mount _)
       (ap asks is ∙ wants_asked c t next earlier x.mount x.cpu n) h);
-  waits = λ lim w earlier good t lt hook e cause.
+  reasons = λ lim w earlier good t lt hook e cause.
       let f : WriteFits c t (held_at (w.views t)) (holds_level (w.views t)) (Wants x) = write_fits_now c w good t lt hook (Wants x) e in
       wants_waits c t w earlier x.mount x.cpu good lt x (want_after x x.step (found_at w.words (Mounts (PlainWant x)) hook)).0
-      (want_waits c w good t lt x x.step f.0.0 (ap (role_of x.mount) e ∙ role_on x.mount _));
-  tells = λ t w earlier fits h e. let k : WantCause c t w earlier x.mount (CountsDown ReadOnly) =
-      subst (WantCause c t w earlier x.mount) e h in k refl;
+      (want_waits c w earlier good t lt x x.step f.0.0 (ap (role_of x.mount) e ∙ role_on x.mount _) cause);
 }
 
 -- what is proved of a phase that leaves the level, as the mount was refused
@@ -199,8 +194,7 @@ gives_back_phase c m p refusal = record {
   agrees = λ t f g h k mounts levels fits. (fits.0, fits.1, sym (levels 1 (omega arith) (omega arith)) ∙ fits.2);
   stays = λ w next earlier good t f e was quiet h. want_kept c t w next earlier m (CountsDown refusal) (ap asks e) h;
   causes = λ w earlier good t lt hook e after is h. tt;
-  waits = λ lim w earlier good t lt hook e cause. tt;
-  tells = λ t w earlier fits h. h;
+  reasons = λ lim w earlier good t lt hook e cause. cause;
 }
 
 -- what is proved of a phase that gives the mount back
@@ -216,8 +210,7 @@ drops_phase c m p = record {
       ((drop_phase c m p).agrees t f g h k mounts levels fits.0, sym (levels 1 (omega arith) (omega arith)) ∙ fits.1);
   stays = λ w next earlier good t f e was quiet h. tt;
   causes = λ w earlier good t lt hook e after is h. tt;
-  waits = λ lim w earlier good t lt hook e cause. tt;
-  tells = λ t w earlier fits h. tt;
+  reasons = λ lim w earlier good t lt hook e cause. tt;
 }
 
 -- what is proved of a phase that leaves the level last
@@ -233,8 +226,7 @@ ends_phase c p = record {
   agrees = λ t f g h k mounts levels fits. (fits.0, sym (levels 1 (omega arith) (omega arith)) ∙ fits.1);
   stays = λ w next earlier good t f e was quiet h. tt;
   causes = λ w earlier good t lt hook e after is h. tt;
-  waits = λ lim w earlier good t lt hook e cause. tt;
-  tells = λ t w earlier fits h. tt;
+  reasons = λ lim w earlier good t lt hook e cause. tt;
 }
 
 -- each phase
