@@ -15,3 +15,4 @@ pub mod Asked
 pub mod FreezeAsks
 pub mod ThawAsks
 pub mod RemountAsks
+pub mod Refused

@@ -1,11 +1,13 @@
 -- An operation, event after event, from its beginning to its reply.
 use Rattle.std.proofs.Common.{◌≡◌, ℕ, ◌+◌, ◌-◌, ◌<◌, ◌≤◌, List, [], ◌∷◌, ◌++◌, length, refl, sym, ap, ◌∙◌, subst, arith}
-use Rattle.std.specs.Prelude.{Option, Some, None, Result, Ok, Err}
+use Rattle.std.specs.Prelude.{true, false, Option, Some, None, Result, Ok, Err, IfOk, is_some}
 use Rattle.access_model.specs.declared.actions.Action.{Action}
 use Rattle.access_model.specs.declared.errors.GateError.{GateError}
 use Rattle.access_model.specs.declared.replies.Next.{Next}
 use Rattle.access_model.specs.declared.replies.Next.TheVariants.{Go, Wait, Done}
 use Rattle.access_model.specs.declared.replies.Reply.{Reply}
+use Rattle.access_model.specs.declared.replies.Reply.TheVariants.{Ran}
+use Rattle.gate_world.specs.declared.operations.Op.TheVariants.{Callback}
 use Rattle.cpu_words.specs.Hooks.{HookAnswer}
 use Rattle.cpu_words.specs.Touches.{found_by, event_of}
 use Rattle.gate_world.specs.declared.config.Config.{Config}
@@ -19,7 +21,7 @@ use Rattle.gate_world.specs.Views.{phase_after, actions_after, view_after_beside
 use Rattle.gate_world.specs.Work.{next_of, after_of}
 use Rattle.gate_world.specs.Beginnings.{first_phase}
 use Rattle.gate_world.specs.Courses.{Course, course_with, course_after, course_of, IsEventOf, IsNext, IsTrace, MayFind}
-use Rattle.gate_world.specs.Traces.{Tells, most_events, IsShort}
+use Rattle.gate_world.specs.Traces.{actions_of, Tells, IsHonestAnswer, IsTold, most_events, IsShort, MayWait}
 use Rattle.gate_frames.proofs.Keeps.{most_events_of_all, IsSmall}
 use Rattle.gate_core.proofs.Layers.{op_keeps}
 use Rattle.gate_core.specs.declared.steps.Progress.TheVariants.{Done as Ended}
@@ -29,7 +31,11 @@ use Rattle.gate_steps.specs.Seating.{SeatItems, numbered, HaveHistory, entered, 
 use Rattle.call_events.specs.TaskStates.{TaskState, own_number, own_view, refusal_at}
 use Rattle.call_events.specs.Stepped.{Stepped}
 use Rattle.call_events.specs.Asking.{Ask, asks_of, asks_with, call_at, next_call, GoesWith, WentWith}
-use Rattle.call_events.specs.Runs.{events_onto, completed_by, ran_snapshot, ran_view, ran_items, begins_at, items_at, IsMoveOf, IsNextMove, AreMoves, IsBounded, told_as, the_reply, Goes, Went, Called, Replies}
+use Rattle.call_events.specs.Refused.{IsUnchanged, IsUnchangedBy, IsHonestWait}
+use Rattle.call_events.proofs.Refused.{is_unchanged, waits_honestly}
+use Rattle.gate_core.proofs.Beginnings.{may_begin}
+use Rattle.gate_world.specs.Views.{held_at, holds_level, has_open}
+use Rattle.call_events.specs.Runs.{events_onto, completed_by, ran_snapshot, ran_view, ran_items, begins_at, items_at, IsMoveOf, IsNextMove, AreMoves, IsBounded, IsRanReply, told_as, the_reply, Goes, Went, Told, Called, Replies}
 
 -- the numbers of a task whose own number has begun the operation
 abbrev pub entered_items : Option Op → Option Phase → SeatItems → SeatItems
@@ -135,6 +141,11 @@ refused_none e o is at =
     let no : ⊥ = cc in
     no
 
+-- what was not refused has no refusal
+pub not_refused : (o : Option GateError) → Ok tt ≡ unless_refused o → o ≡ None
+not_refused None is = refl
+not_refused (Some refusal) is = absurd (let f : ◌≡◌ {A = Result (Unit {0}) GateError} (Ok tt) (Err refusal) = is in let g : ⊥ = cc in g)
+
 -- an admitted one has none
 pub admitted_some : (o : Option GateError) (r : GateError) → Ok tt ≡ unless_refused o → o ≡ Some r → ⊥
 admitted_some o r is at =
@@ -167,14 +178,15 @@ ran_so_far op start now goes =
     same ∙ entered_at start.config op goes.trace start.items
 
 -- as it begins, with no hook asked
-pub starts_asking_none : (op : Op) (start now : TaskState) → now ≡ record start {
+pub starts_asking_none : (op : Op) (start now : TaskState) → Ok tt ≡ unless_refused (refusal_at op start) → now ≡ record start {
   begins = Some op;
   phase =
       Some (first_phase start.config (own_number start.items) op);
 } → GoesWith [] op start now
-starts_asking_none op start now is = subst (GoesWith [] op start) (sym is) (
+starts_asking_none op start now admitted is = subst (GoesWith [] op start) (sym is) (
   record {
     trace = [];
+    admitted = not_refused (refusal_at op start) admitted;
     table = refl;
     config = refl;
     follows = tt;
@@ -187,12 +199,12 @@ starts_asking_none op start now is = subst (GoesWith [] op start) (sym is) (
   refl,
 )
 
-pub starts : (op : Op) (start now : TaskState) → now ≡ record start {
+pub starts : (op : Op) (start now : TaskState) → Ok tt ≡ unless_refused (refusal_at op start) → now ≡ record start {
   begins = Some op;
   phase =
       Some (first_phase start.config (own_number start.items) op);
 } → Goes op start now
-starts op start now is = (starts_asking_none op start now is).0
+starts op start now admitted is = (starts_asking_none op start now admitted is).0
 
 -- one step of it, where a hook of the file system answers this
 module _ (op : Op) (start now left : TaskState) (step : Step) (h : HookAnswer) (goes : Goes op start now)
@@ -318,6 +330,7 @@ module _ (op : Op) (start now left : TaskState) (step : Step) (h : HookAnswer) (
   goes_with_it not = (
     record {
       trace = trace;
+      admitted = goes.admitted;
       table = table_then;
       config = config_then;
       follows = follows_after;
@@ -334,6 +347,16 @@ module _ (op : Op) (start now left : TaskState) (step : Step) (h : HookAnswer) (
 
   pub goes_further : ((a : Result Reply GateError) → step.progress ≡ Ended a → ⊥) → Goes op start left
   goes_further not = (goes_with_it not).0
+
+  -- a refusal leaves all unchanged
+  unchanged_then : (a : Result Reply GateError) → (course_of c n op trace).added ≡ actions_of op a trace →
+      IsUnchangedBy a (course_of c n op trace).added (own_view start.items) (own_view left.items)
+  unchanged_then (Ok reply) is = tt
+  unchanged_then (Err refusal) is =
+      subst (λ l. IsUnchanged (course_of c n op trace).added (own_view start.items) (own_view l)) (sym items_then)
+      (is_unchanged c op refusal trace start.items
+      (may_begin c (is_some start.phase) (held_at (own_view start.items)) (holds_level (own_view start.items)) (has_open (own_view start.items)) op
+      goes.admitted).order is)
 
   -- where it replies, it was done whole, with this event more
   ends_with_it : IsWithin c → (a : Result Reply GateError) → step.progress ≡ Ended a →
@@ -352,6 +375,8 @@ module _ (op : Op) (start now left : TaskState) (step : Step) (h : HookAnswer) (
           moves = moves_then;
           added = tells.0;
           honest = tells.1;
+          unchanged = unchanged_then a tells.0;
+          waits = waits_honestly c n op within trace follows_after;
           short = (op_keeps c op).short within n trace follows_after;
           history = history_then;
         },
@@ -360,6 +385,19 @@ module _ (op : Op) (start now left : TaskState) (step : Step) (h : HookAnswer) (
 
   pub ends_there : IsWithin c → (a : Result Reply GateError) → step.progress ≡ Ended a → Called op start left a
   ends_there within a is = (ends_with_it within a is).0
+
+  -- so a step tells how it stands
+  by_next : IsWithin c → (next : Next Phase) → after.0 ≡ next → Told op start (progress_of next) left
+  by_next within (Go q) is = goes_further (λ a ended. absurd (let told = progress_then ∙ ap progress_of is in let f : ⊥ = cc in f))
+  by_next within (Wait q) is =
+      let g = goes_with_it (λ a ended. absurd (let told = progress_then ∙ ap progress_of is in let f : ⊥ = cc in f)) in
+      let comes : (course_of c n op trace).comes ≡ Wait q = ap (λ (o : Course). o.comes) course_here ∙ is in
+      let waits : IsHonestWait c op trace (course_of c n op trace).comes = (waits_honestly c n op within trace follows_after).0 in
+      (g.0, subst (MayWait c op) (sym g.1) (subst (IsHonestWait c op trace) comes waits))
+  by_next within (Done a) is = ends_there within a (progress_then ∙ ap progress_of is)
+
+  pub told_then : IsWithin c → Told op start step.progress left
+  told_then within = subst (λ p. Told op start p left) (sym progress_then) (by_next within after.0 refl)
 
   -- the hooks that it has asked then
   asks_then : (asks : List Ask) → asks_of c op start.items goes.trace ≡ asks →
@@ -480,3 +518,29 @@ was_told read op old left answer outcome replies told = record {
   refused = λ r at. (told ∙ ap (told_as read) (replies.refused r at).0, (replies.refused r at).1);
   done = λ at. let done = replies.done at in (done.0, told ∙ (ap (told_as read) done.1 ∙ told_twice read done.0), done.2);
 }
+
+-- a whole reply is one that its operation gives
+reply_told : (P : Reply → Type 0) (c : Config) (op : Op) (events : List Traced) →
+    ((reply : Reply) → IsTold op reply events → P reply) → (answer : Result Reply GateError) → IsHonestAnswer c op answer events →
+    IfOk (told_as the_reply answer) P
+reply_told P c op events says (Ok reply) honest = says reply honest
+reply_told P c op events says (Err refusal) honest = tt
+
+reply_at : (P : Reply → Type 0) (op : Op) (old left : TaskState) (outcome : Result Reply GateError) →
+    ((reply : Reply) (events : List Traced) → IsTold op reply events → P reply) → Replies the_reply op old left outcome →
+    (o : Option GateError) → refusal_at op old ≡ o → IfOk outcome P
+reply_at P op old left outcome says replies (Some r) at = subst (λ x. IfOk x P) (sym (replies.refused r at).0) tt
+reply_at P op old left outcome says replies None at =
+    let done = replies.done at in
+    subst (λ x. IfOk x P) (sym done.1)
+    (reply_told P old.config op done.2.trace (λ reply told. says reply done.2.trace told) done.0 done.2.honest)
+
+pub reply_is : (P : Reply → Type 0) (op : Op) (old left : TaskState) (outcome : Result Reply GateError) →
+    ((reply : Reply) (events : List Traced) → IsTold op reply events → P reply) → Replies the_reply op old left outcome → IfOk outcome P
+reply_is P op old left outcome says replies = reply_at P op old left outcome says replies (refusal_at op old) refl
+
+-- a callback's
+pub ran_told : (level : ℕ) (reply : Reply) (events : List Traced) → IsTold (Callback level) reply events → IsRanReply reply
+ran_told level (Ran true) events told = tt
+ran_told level (Ran false) events told = tt
+ran_told level reply events told = absurd told

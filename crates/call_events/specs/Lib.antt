@@ -11,6 +11,7 @@ pub mod TaskStates
 pub mod Ties
 pub mod Stepped
 pub mod Turns
+pub mod Refused
 pub mod Runs
 pub mod Asking
 pub mod Asked

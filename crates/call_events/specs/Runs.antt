@@ -18,9 +18,12 @@ use Rattle.gate_world.specs.Snapshots.{completes, last_snapshot}
 use Rattle.gate_world.specs.Views.{phase_after, with_hook}
 use Rattle.gate_world.specs.Work.{next_of}
 use Rattle.gate_world.specs.Courses.{course_of, IsTrace}
-use Rattle.gate_world.specs.Traces.{actions_of, IsHonestAnswer, most_events, IsShort}
+use Rattle.gate_world.specs.Traces.{actions_of, IsHonestAnswer, most_events, IsShort, MayWait}
 use Rattle.gate_steps.specs.Seating.{SeatItems, numbered, HaveHistory, done_by, IsMove}
-use Rattle.call_events.specs.TaskStates.{TaskState, own_number, refusal_at}
+use Rattle.gate_core.specs.declared.steps.Progress.{Progress}
+use Rattle.gate_core.specs.declared.steps.Progress.TheVariants.{Idle, Going, Waiting, Done as Ended}
+use Rattle.call_events.specs.Refused.{IsUnchangedBy, WaitsHonestly}
+use Rattle.call_events.specs.TaskStates.{TaskState, own_number, own_view, refusal_at}
 
 -- the events of a trace before earlier ones, the newest first
 abbrev pub events_onto : List Traced → List Event → List Event
@@ -115,10 +118,15 @@ abbrev pub ran_of : Reply → Bool
 ran_of (Ran ran) = ran
 ran_of reply = false
 
+-- what a callback replies: whether one ran
+abbrev pub IsRanReply : Reply → Type 0
+IsRanReply (Ran ran) = Unit {0}
+IsRanReply reply = ⊥
+
 -- One whole operation. Its events are a trace of it that ends in this answer. The own view has done just these events and their
 -- actions, and nothing else of the task changed. Each event was a move in a world that the rule holds of. So it has added exactly the
--- operation's actions, a refusal has its cause in the trace, and where the operation has a most number of events, they are no more. What
--- it leaves has one history, in which each last snapshot has its moment.
+-- operation's actions, a refusal has its cause in the trace and leaves all unchanged, it waits only where it may, and where the operation has
+-- a most number of events, they are no more. What it leaves has one history, in which each last snapshot has its moment.
 pub record Called (op : Op) (old left : TaskState) (answer : Result Reply GateError) : Type 0 where
   pub trace : List Traced
   pub follows : IsTrace old.config (own_number old.items) op trace
@@ -127,6 +135,8 @@ pub record Called (op : Op) (old left : TaskState) (answer : Result Reply GateEr
   pub moves : AreMoves old.config op old.items trace
   pub added : (course_of old.config (own_number old.items) op trace).added ≡ actions_of op answer trace
   pub honest : IsHonestAnswer old.config op answer trace
+  pub unchanged : IsUnchangedBy answer (course_of old.config (own_number old.items) op trace).added (own_view old.items) (own_view left.items)
+  pub waits : WaitsHonestly old.config (own_number old.items) op trace
   pub short : IsShort (most_events old.config op) trace
   pub history : HaveHistory old.config left.items
 
@@ -144,6 +154,7 @@ Performs op old left outcome = Replies unit_of op old left outcome
 -- an operation under way, after these events
 pub record Goes (op : Op) (start now : TaskState) : Type 0 where
   pub trace : List Traced
+  pub admitted : refusal_at op start ≡ None
   pub table : now.table ≡ start.table
   pub config : now.config ≡ start.config
   pub follows : IsTrace start.config (own_number start.items) op trace
@@ -158,6 +169,13 @@ abbrev pub Went : Op → TaskState → Next Phase → TaskState → Type 0
 Went op start (Go phase) now = Goes op start now
 Went op start (Wait phase) now = Goes op start now
 Went op start (Done answer) now = Called op start now answer
+
+-- The same as a step tells it: the operation goes on, or waits for others where it may, or was done whole.
+abbrev pub Told : Op → TaskState → Progress → TaskState → Type 0
+Told op start Idle now = ⊥
+Told op start Going now = Goes op start now
+Told op start Waiting now = (goes : Goes op start now) × MayWait start.config op goes.trace
+Told op start (Ended answer) now = Called op start now answer
 
 -- some operation that has a most number of events is under way here
 pub record IsTrying (now : TaskState) : Type 0 where

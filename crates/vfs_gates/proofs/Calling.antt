@@ -26,14 +26,9 @@ use Rattle.vfs_gates.specs.declared.task.Task.TheInside.{Inside}
 use Rattle.vfs_gates.proofs.Admitting.{admitted_by, first_so, first_by}
 use Rattle.call_events.proofs.Onward.{goes_where}
 use Rattle.call_events.specs.Asking.{GoesWith, CalledAsking}
-use Rattle.call_events.proofs.Running.{starts_asking_none}
+use Rattle.call_events.proofs.Running.{not_refused, starts_asking_none}
 use Rattle.cpu_words.specs.Hooks.{HookAnswer}
 use Rattle.freeze_levels.specs.declared.hooks.HookCall.{HookCall}
-
--- what was not refused has no refusal
-not_refused : (o : Option GateError) → Ok tt ≡ unless_refused o → o ≡ None
-not_refused None is = refl
-not_refused (Some refusal) is = absurd (let f : ◌≡◌ {A = Result (Unit {0}) GateError} (Ok tt) (Err refusal) = is in let g : ⊥ = cc in g)
 
 -- an option that has nothing in it
 none_of : (o : Option Phase) → is_some o ≡ false → o ≡ None
@@ -231,7 +226,7 @@ module _ (call : Call) where
   -- the operation goes on from there, with no hook asked
   pub has_asked_none : GoesWith [] op call.start (task_state call.task.seat.table_id call.gates (Some op) (Some call.first) (items_of call))
   has_asked_none =
-      starts_asking_none op call.start (task_state call.task.seat.table_id call.gates (Some op) (Some call.first) (items_of call))
+      starts_asking_none op call.start (task_state call.task.seat.table_id call.gates (Some op) (Some call.first) (items_of call)) call.admitted
       ((λ i. task_state call.task.seat.table_id (sym same i) (Some op) (Some call.first) (items_of call)) ∙ begun_state)
 
   pub has_begun : Goes op call.start (task_state call.task.seat.table_id call.gates (Some op) (Some call.first) (items_of call))

@@ -2,8 +2,9 @@
 
 ghost use Rattle.std.specs.Prelude.{◌≡◌, ◌≤◌, ◌<◌, ◌↔◌, ℕ, slice_index_or, IsTrue, Some, None, OnOk, OnErr, option_map, [], false, length};
 ghost use Rattle.gate_world.specs.Configs.{IsWithin};
+ghost use Rattle.gate_world.specs.declared.operations.Op.{Op as OpType};
 ghost use Rattle.gate_world.specs.declared.work.Phase.{Phase as PhaseType};
-ghost use Rattle.vfs_gates.specs.TaskStates.{IsNothing};
+ghost use Rattle.vfs_gates.specs.TaskStates.{TaskState, IsNothing};
 ghost use Rattle.call_events.specs.Rules.{first_items};
 
 use crate::gates::Gates;
@@ -69,6 +70,7 @@ impl Task {
     ghost use Rattle.gate_world.specs.Views.{held_at, holds_level as has_level, has_open as opens_file};
     ghost use Rattle.vfs_gates.specs.TaskStates.{task_state, IsFrom, own_number, own_view, refusal_at, IsIdle, HoldsNothing};
     ghost use Rattle.call_events.specs.Stepped.{Stepped};
+    ghost use Rattle.call_events.specs.Runs.{Goes, Told};
     ghost use Rattle.vfs_gates.specs.Ended.{HasAll};
     ghost use Rattle.call_events.specs.Ties.{AllRest};
     ghost use Rattle.gate_world.specs.declared.views.Snapshot.{Snapshot};
@@ -155,6 +157,8 @@ impl Task {
           phase = Some (the_first_phase self.old.config (own_number self.old.items) op);
         }) }
         ensures refused { OnErr result (self.new ≡ self.old) }
+        // From here on each step says how far the operation has come, and the last one what it was as a whole (`step`, clause `told`).
+        ensures goes { OnOk result (Goes op self.old self.new) }
     {
         let phase = self.admit(op)?;
         self.rooms.begin(op);
@@ -178,6 +182,8 @@ impl Task {
         ensures config { self.new.config ≡ self.old.config }
         ensures idle { IsIdle self.old → (self.new ≡ self.old) × (result ≡ idle_step) }
         ensures event { (phase : PhaseType) → self.old.phase ≡ Some phase → Stepped phase hook self.old result self.new }
+        // An operation that has begun so goes on, says that it waits only where it may, or was done whole.
+        ensures told { (op : OpType) (start : TaskState) → Goes op start self.old → Told op start result.progress self.new }
     {
         let Some(phase) = self.kept.phase else {
             return Step::idle();

@@ -1,6 +1,7 @@
 //! Calls at the tree behind the gates, and snapshots of it. All but one wait for nobody.
 
-ghost use Rattle.std.specs.Prelude.{◌≡◌, true, false};
+ghost use Rattle.std.specs.Prelude.{◌≡◌, true, false, IfOk};
+ghost use Rattle.gate_world.specs.Operations.{IsNodeReply};
 ghost use Rattle.gated_tree.specs.declared.marks.MarkStep.TheVariants.{LoadsFile};
 ghost use Rattle.gated_tree.specs.declared.phases.TreePhase.TheVariants.{Mark as Marks};
 ghost use Rattle.call_events.specs.Runs.{told_as, node_of};
@@ -19,11 +20,12 @@ use std::sync::Wait;
 
 /// Why a create was refused, or the node that it took.
 fn node(answer: Result<Reply, GateError>) -> Result<u8, GateError>
+    requires { IfOk answer IsNodeReply }
     ensures { result ≡ told_as node_of answer }
 {
     match answer {
         Ok(Reply::Node(node)) => Ok(node),
-        Ok(_) => Ok(0),
+        Ok(_) => unreachable!(),
         Err(refusal) => Err(refusal),
     }
 }

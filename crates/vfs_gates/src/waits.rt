@@ -1,9 +1,9 @@
 //! Calls that may wait for other tasks.
 
-ghost use Rattle.std.specs.Prelude.{◌≡◌, true, false};
+ghost use Rattle.std.specs.Prelude.{◌≡◌, true, false, IfOk};
 ghost use Rattle.gate_world.specs.declared.operations.Op.{Op as OpType};
 ghost use Rattle.vfs_gates.specs.TaskStates.{TaskState};
-ghost use Rattle.call_events.specs.Runs.{told_as, ran_of, Goes};
+ghost use Rattle.call_events.specs.Runs.{told_as, ran_of, IsRanReply, Goes};
 
 use crate::calls::outcome;
 use crate::gates::Gates;
@@ -30,11 +30,12 @@ fn pause(backoff: &Backoff, progress: Progress) {
 
 /// Why the operation was refused, or whether a callback ran.
 fn ran(answer: Result<Reply, GateError>) -> Result<bool, GateError>
+    requires { IfOk answer IsRanReply }
     ensures { result ≡ told_as ran_of answer }
 {
     match answer {
         Ok(Reply::Ran(ran)) => Ok(ran),
-        Ok(_) => Ok(false),
+        Ok(_) => unreachable!(),
         Err(refusal) => Err(refusal),
     }
 }

@@ -2,6 +2,7 @@
 use Rattle.std.proofs.Common.{refl, sym, ap}
 use Rattle.std.proofs.lemmas.Result.{err_from_is_err_and}
 use Rattle.vfs_gates.specs.TaskStates.{TaskState}
+use Rattle.call_events.proofs.Running.{starts}
 use Rattle.vfs_gates.proofs.Admitting.{admitted_by, refused_by}
 use Rattle.vfs_gates.proofs.Calling.{Call, admitted_call, begun, begun_state}
 use Rattle.vfs_gates.proofs.task.Task.begin.Goals as goal
@@ -14,6 +15,9 @@ returns-in_err-phase-clause-answer c = let p = err_from_is_err_and c.from_residu
 
 pub returns-in_err-phase-clause-begun : goal.returns-in_err-phase-clause-begun
 returns-in_err-phase-clause-begun c = let p = err_from_is_err_and c.from_residual.result c.from_residual.ensures.1 in rw p.1 tt
+
+pub returns-in_err-phase-clause-goes : goal.returns-in_err-phase-clause-goes
+returns-in_err-phase-clause-goes c = let p = err_from_is_err_and c.from_residual.result c.from_residual.ensures.1 in rw p.1 tt
 
 pub returns-in_err-phase-clause-refused : goal.returns-in_err-phase-clause-refused
 returns-in_err-phase-clause-refused c = let p = err_from_is_err_and c.from_residual.result c.from_residual.ensures.1 in rw p.1 refl
@@ -38,3 +42,8 @@ returns-clause-answer c = admitted_by c.args.op c.args.self.now c.in_ok-phase.ph
 
 pub returns-clause-begun : goal.returns-clause-begun
 returns-clause-begun c = begun_state (call (goal.at.returns-clause-begun c).In_ok-phase)
+
+pub returns-clause-goes : goal.returns-clause-goes
+returns-clause-goes c =
+    starts c.args.op c.args.self.now _ (admitted_by c.args.op c.args.self.now c.in_ok-phase.phase c.in_ok-phase.ensures)
+    (begun_state (call (goal.at.returns-clause-goes c).In_ok-phase))

@@ -2,14 +2,14 @@
 use Rattle.std.proofs.Common.{sym}
 use Rattle.std.proofs.lemmas.Result.{err_from_is_err_and}
 use Rattle.call_events.specs.Runs.{the_reply}
-use Rattle.call_events.proofs.Running.{starts, was_refused, was_done, told_whole}
+use Rattle.call_events.proofs.Running.{was_refused, was_done, told_whole}
 use Rattle.vfs_gates.proofs.task.Task.run_waiting.Goals as goal
 
 pub returns : goal.returns
 returns g c =
     was_done the_reply c.args.op c.args.self.now c.finish_waiting.new.self c.finish_waiting.result c.finish_waiting.result
     (sym (told_whole c.finish_waiting.result)) c.in_ok-begin.ensures.answer
-    (c.finish_waiting.ensures c.args.op c.args.self.now (starts c.args.op c.args.self.now c.begin.new.self c.in_ok-begin.ensures.begun))
+    (c.finish_waiting.ensures c.args.op c.args.self.now c.in_ok-begin.ensures.goes)
 
 pub returns-in_err-begin : goal.returns-in_err-begin
 returns-in_err-begin g c = let p = err_from_is_err_and c.from_residual.result c.from_residual.ensures.1 in

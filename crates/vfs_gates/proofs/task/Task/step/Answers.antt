@@ -7,7 +7,9 @@ use Rattle.gate_world.specs.Views.{phase_after}
 use Rattle.call_events.specs.Answers.{progress_of}
 use Rattle.vfs_gates.specs.TaskStates.{TaskState, task_state}
 use Rattle.call_events.specs.Turns.{kept_at}
+use Rattle.call_events.proofs.Running.{told_then}
 use Rattle.call_events.proofs.Turning.{tied_at, stepped_there}
+use Rattle.gate_world.specs.Configs.{IsWithin}
 use Rattle.access_model.proofs.Mapped.{map_next_same}
 use Rattle.access_model.specs.Replies.{map_next}
 use Rattle.vfs_gates.specs.Room.{RoomTells}
@@ -71,4 +73,14 @@ returns-in_default-clause-event c phase at =
 pub returns-clause-idle : goal.returns-clause-idle
 returns-clause-idle c idle =
     let both : None ≡ Some c.in-Some.phase = sym idle ∙ (sym (ap (λ (s : TaskState). s.phase) c.self.view_is) ∙ c.in-Some.is) in
+    absurd (let no : ⊥ = cc in no)
+
+pub returns-clause-told : goal.returns-clause-told
+returns-clause-told c op start goes =
+    told_then op start c.args.self.now _ _ c.args.hook goes (returns-clause-event c)
+    (subst IsWithin (sym c.requires.1 ∙ goes.config) c.args.gates.now.words.within)
+
+pub returns-in_default-clause-told : goal.returns-in_default-clause-told
+returns-in_default-clause-told c op start goes =
+    let both : None ≡ Some goes.going.0 = sym c.in_default.is ∙ (ap (λ (s : TaskState). s.phase) c.self.view_is ∙ goes.going.1) in
     absurd (let no : ⊥ = cc in no)
