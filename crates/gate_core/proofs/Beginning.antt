@@ -35,11 +35,11 @@ module _ (memory : Memory) (sound : IsSound memory) (t : ℕ) (lt : t < memory.c
   seat_refusal = refusal memory.config under_way (mounts_in seat) (levels_in seat) (files_in seat) op
 
   -- what its beginning answers
-  abbrev seat_beginning : Result Phase GateError
+  abbrev pub seat_beginning : Result Phase GateError
   seat_beginning = beginning memory.config t under_way (mounts_in seat) (levels_in seat) (files_in seat) op
 
   -- which is what is said of the memory
-  refusal_told : refusal_in memory t op ≡ seat_refusal
+  pub refusal_told : refusal_in memory t op ≡ seat_refusal
   refusal_told =
       rw (lt-ltb t memory.config.tasks lt)
       (ap (λ (s : Seat). refusal memory.config (is_some s.phase) (mounts_in s) (levels_in s) (files_in s) op) same_seat ∙
