@@ -18,6 +18,7 @@ use Rattle.gate_core.specs.declared.seats.Seat.{Seat}
 use Rattle.gate_core.specs.Seats.{mounts_in, levels_in, files_in}
 use Rattle.gate_core.specs.Memory.{Memory, Shows, IsSound, no_seat, seat_of}
 use Rattle.gate_core.specs.Answers.{unless_refused, begin_answer}
+use Rattle.gate_core.specs.Moves.{refusal_in, begun_of, begun}
 use Rattle.gate_core.proofs.Beginnings.{refusal_agree, may_begin, first_fits, ok_means, err_means}
 use Rattle.gate_core.proofs.Runs.{run_more}
 use Rattle.gate_core.proofs.Each.{seat_cases}
@@ -34,8 +35,15 @@ module _ (memory : Memory) (sound : IsSound memory) (t : ℕ) (lt : t < memory.c
   seat_refusal = refusal memory.config under_way (mounts_in seat) (levels_in seat) (files_in seat) op
 
   -- what its beginning answers
-  abbrev seat_beginning : Result Phase GateError
+  abbrev pub seat_beginning : Result Phase GateError
   seat_beginning = beginning memory.config t under_way (mounts_in seat) (levels_in seat) (files_in seat) op
+
+  -- which is what is said of the memory
+  pub refusal_told : refusal_in memory t op ≡ seat_refusal
+  refusal_told =
+      rw (lt-ltb t memory.config.tasks lt)
+      (ap (λ (s : Seat). refusal memory.config (is_some s.phase) (mounts_in s) (levels_in s) (files_in s) op) same_seat ∙
+      ap (λ b. refusal memory.config b (mounts_in seat) (levels_in seat) (files_in seat) op) (sym under_way_is))
 
   module _ (w : World) (shows : Shows memory w) where
     -- what the seat has is what the view has: its phase
@@ -77,6 +85,14 @@ module _ (memory : Memory) (sound : IsSound memory) (t : ℕ) (lt : t < memory.c
         ◌≡◌ {A = Result (Unit {0}) GateError} (Err refused) (begin_answer memory.config w t op)
     refused_answer w shows = sym (ap unless_refused (refusal_same w shows ∙ refused_is))
 
+    -- which is said of the memory
+    pub refused_told : ◌≡◌ {A = Result (Unit {0}) GateError} (Err refused) (unless_refused (refusal_in memory t op))
+    refused_told = sym (ap unless_refused (refusal_told ∙ refused_is))
+
+    -- as is that it stays
+    pub refused_begun : memory ≡ begun memory t op
+    refused_begun = sym (ap (begun_of memory t op) (refusal_told ∙ refused_is))
+
   module _ (phase : Phase) (answered : ◌≡◌ {A = Result Phase GateError} (Ok phase) seat_beginning) where
     -- there was no refusal
     none_refused : seat_refusal ≡ None
@@ -92,6 +108,16 @@ module _ (memory : Memory) (sound : IsSound memory) (t : ℕ) (lt : t < memory.c
 
     abbrev memory_after : Memory
     memory_after = record { config = memory.config; words = memory.words; seats = slice_set memory.seats t seat_after }
+
+    -- which is what is said of the memory
+    pub begin_told : ◌≡◌ {A = Result (Unit {0}) GateError} (Ok tt) (unless_refused (refusal_in memory t op))
+    begin_told = sym (ap unless_refused (refusal_told ∙ none_refused))
+
+    pub begin_begun : memory_after ≡ begun memory t op
+    begin_begun =
+        ap (λ (s : Seat). record { config = memory.config; words = memory.words; seats = slice_set memory.seats t s })
+        (λ i. record { phase = Some (phase_is i); accesses = (sym same_seat i).accesses }) ∙
+        sym (ap (begun_of memory t op) (refusal_told ∙ none_refused))
 
     -- there is such a seat
     some_seat : t < length memory.seats

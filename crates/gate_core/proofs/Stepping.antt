@@ -31,6 +31,7 @@ use Rattle.gate_core.specs.declared.steps.Step.{Step}
 use Rattle.gate_core.specs.Seats.{mounts_in, levels_in, files_in}
 use Rattle.gate_core.specs.Memory.{Memory, Shows, IsSound, no_seat, seat_of}
 use Rattle.gate_core.specs.Answers.{progress_of, step_answer}
+use Rattle.gate_core.specs.Moves.{phase_in, stepped_of, stepped, progress_by, progress_in}
 use Rattle.gate_world.specs.Fits.{ActionFits, mounts_by, levels_by, opens_by}
 use Rattle.cpu_words.proofs.Places.{written}
 use Rattle.gate_frames.proofs.Accesses.{mounts_of_after, levels_of_after, opens_of_after, long_after, wide_after, deep_after, mounts_same, levels_same, files_same}
@@ -281,6 +282,19 @@ module _ (memory : Memory) (sound : IsSound memory) (t : ℕ) (lt : t < memory.c
             words = slice_set memory.words (same_at i) (same_event i).left;
             seats = slice_set memory.seats t (record { phase = come i; accesses = kept i });
           }
+
+      -- the task's phase, as it is said of the memory
+      told_phase : phase_in memory t ≡ Some phase
+      told_phase = rw (lt-ltb t memory.config.tasks lt) its_phase
+
+      -- and what is said of it after the event
+      pub stepped_after : left_memory ≡ stepped memory t hook
+      stepped_after = same_memory ∙ sym (ap (stepped_of memory t hook) told_phase)
+
+      pub progress_after : progress.0 ≡ progress_in memory t hook
+      progress_after =
+          ap (λ (p : Progress × Option Phase). p.0) progress_is ∙ ap (λ (d : Next Phase × Option Action). progress_of d.0) same_done ∙
+          sym (ap (progress_by memory hook) told_phase)
 
       -- so it is sound
       pub sound_after : IsSound left_memory

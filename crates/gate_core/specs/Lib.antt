@@ -1,3 +1,4 @@
 pub mod Seats
 pub mod Memory
 pub mod Answers
+pub mod Moves
