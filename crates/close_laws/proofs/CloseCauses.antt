@@ -43,10 +43,9 @@ module _ (c : Config) (t : ℕ) (w : World) (earlier : List World) where
   pub enters_waits : (file p : ℕ) (node : NodeWord) (r : DownRead) (n : Next DownRead) →
       WhereItWaits (WasClosed c t r.level (last_asked t (w ∷ earlier))) n →
       WaitsForAnother c w earlier t (Closes (Enters file node r)) (map_next Closes (then_frees file node p n))
-  enters_waits file p node r (Go x) h = tt
   enters_waits file p node r (Wait x) h = h
   enters_waits file p node r (Done (Ok reply)) h = tt
-  enters_waits file p node r (Done (Err refusal)) h = tt
+  enters_waits file p node r other h = tt
 
   -- what comes after its file was found has no cause yet
   found_cause : (x : Closing) (file : NodeWord) → CauseOf c t w earlier (Some (Closes (closed_from x file)))

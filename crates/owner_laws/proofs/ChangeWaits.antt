@@ -5,7 +5,7 @@ use Rattle.std.proofs.lemmas.Bool.{cases_Bool}
 use Rattle.std.proofs.lemmas.Bool.Decides.{eqb_tells}
 use Rattle.cpu_words.specs.Hooks.{HookAnswer}
 use Rattle.mount_counts.specs.declared.phases.ChangeStep.{ChangeStep}
-use Rattle.mount_counts.specs.declared.phases.ChangeStep.TheVariants.{Locks, LoadsFlags, LoadsSuperblock as LoadsSb, ClearsReadOnly, SetsHold, Sums, SetsReadOnly, ClearsHold, Releases}
+use Rattle.mount_counts.specs.declared.phases.ChangeStep.TheVariants.{Locks, LoadsFlags}
 use Rattle.mount_counts.specs.Phases.{has_flag}
 use Rattle.gate_world.specs.declared.config.Config.{Config}
 use Rattle.gate_world.specs.declared.work.Phase.TheVariants.{Mounts}
@@ -30,10 +30,4 @@ module _ (c : Config) (w : World) (earlier : List World) (good : IsGood c w) (t 
       ]
   change_waits false Locks e = elim (eqb_tells w.words.umount 0) [ inl h ↦ rw h.0 tt | inr h ↦ rw h.0 tt ]
   change_waits wait LoadsFlags e = elim (cases_Bool (has_flag (w.words.flags m) 1)) [ inl h ↦ rw h tt | inr h ↦ rw h tt ]
-  change_waits wait LoadsSb e = tt
-  change_waits wait ClearsReadOnly e = tt
-  change_waits wait SetsHold e = tt
-  change_waits wait (Sums sum) e = tt
-  change_waits wait SetsReadOnly e = tt
-  change_waits wait (ClearsHold answer) e = tt
-  change_waits wait (Releases answer) e = tt
+  change_waits wait other e = tt

@@ -7,7 +7,7 @@ use Rattle.cpu_words.specs.Hooks.{HookAnswer}
 use Rattle.mount_counts.specs.Phases.{has_flag}
 use Rattle.mount_counts.specs.Remounts.{at_remount}
 use Rattle.mount_counts.specs.declared.remounts.Remount.{Remount}
-use Rattle.mount_counts.specs.declared.remounts.RemountStep.TheVariants.{Locks, LoadsStage, LoadsSuperblock, SetsWritable, LoadsFlags, SetsHold, Sums, LoadsRemoved, LoadsRemovedAgain, LeavesHolds, SetsRemount, ClearsHold, GivesUp, ClearsMark, SetsReadOnly, ClearsRemount, Releases}
+use Rattle.mount_counts.specs.declared.remounts.RemountStep.TheVariants.{Locks, LoadsStage, SetsWritable, LoadsFlags, LoadsRemoved, LoadsRemovedAgain, SetsReadOnly}
 use Rattle.mount_counts.specs.declared.remounts.RemountStep.{RemountStep}
 use Rattle.gate_world.specs.declared.config.Config.{Config}
 use Rattle.gate_world.specs.declared.work.Phase.TheVariants.{Remounts}
@@ -28,20 +28,11 @@ module _ (c : Config) (w : World) (earlier : List World) (good : IsGood c w) (t 
         | inr h ↦ rw h.0 (umount_taken c w good t lt (Remounts (at_remount x Locks)) (λ y own. own) h.1 (ap owns e))
       ]
   remount_waits hook LoadsStage e = elim (eqb_tells w.words.stage 0) [ inl h ↦ rw h.0 tt | inr h ↦ rw h.0 tt ]
-  remount_waits hook LoadsSuperblock e = tt
   remount_waits (Ok answer) SetsWritable e = tt
   remount_waits (Err code) SetsWritable e = tt
   remount_waits hook (LoadsFlags m held) e = elim (cases_Bool (has_flag (w.words.flags m) 1)) [ inl h ↦ rw h tt | inr h ↦ rw h tt ]
-  remount_waits hook (SetsHold m held) e = tt
-  remount_waits hook (Sums m held sum) e = tt
   remount_waits hook LoadsRemoved e = elim (eqb_tells w.words.removed 0) [ inl h ↦ rw h.0 tt | inr h ↦ rw h.0 tt ]
   remount_waits hook (LoadsRemovedAgain held) e = elim (eqb_tells w.words.removed 0) [ inl h ↦ rw h.0 tt | inr h ↦ rw h.0 tt ]
-  remount_waits hook (LeavesHolds held) e = tt
-  remount_waits hook (SetsRemount held) e = tt
-  remount_waits hook (ClearsHold held) e = tt
-  remount_waits hook (GivesUp m held) e = tt
-  remount_waits hook (ClearsMark n) e = tt
   remount_waits (Ok answer) SetsReadOnly e = tt
   remount_waits (Err code) SetsReadOnly e = tt
-  remount_waits hook ClearsRemount e = tt
-  remount_waits hook (Releases answer) e = tt
+  remount_waits hook other e = tt

@@ -5,7 +5,7 @@ use Rattle.std.proofs.lemmas.Bool.Decides.{eqb_tells}
 use Rattle.access_model.specs.Replies.{map_next}
 use Rattle.cpu_words.specs.Hooks.{HookAnswer}
 use Rattle.percpu_rwsem.specs.declared.transitions.TransitionNext.{TransitionNext}
-use Rattle.percpu_rwsem.specs.declared.transitions.TransitionNext.TheVariants.{More, Undefined, Made}
+use Rattle.percpu_rwsem.specs.declared.transitions.TransitionNext.TheVariants.{More}
 use Rattle.percpu_rwsem.specs.declared.writers.UpWrite.{UpWrite}
 use Rattle.percpu_rwsem.specs.declared.writers.UpWriteStep.{UpWriteStep}
 use Rattle.percpu_rwsem.specs.declared.writers.UpWriteStep.TheVariants.{ClearsBlock, Exits}
@@ -14,19 +14,7 @@ use Rattle.percpu_rwsem.specs.Transitions.{transition_after}
 use Rattle.percpu_rwsem.specs.Writers.{exit_made, up_write_after}
 use Rattle.freeze_levels.specs.declared.thaws.Thaw.{Thaw}
 use Rattle.freeze_levels.specs.declared.thaws.ThawStep.{ThawStep}
-use Rattle.freeze_levels.specs.declared.thaws.ThawStep.TheVariants.{
-  Locks,
-  LoadsStage,
-  LoadsHolders,
-  Leaves,
-  LoadsSuperblock,
-  LeavesReadOnly,
-  UnfreezesReadOnly,
-  LeavesLast,
-  SetsUnfrozen,
-  Reopens,
-  Releases,
-}
+use Rattle.freeze_levels.specs.declared.thaws.ThawStep.TheVariants.{Locks, LoadsStage, LoadsSuperblock, LeavesLast, Reopens}
 use Rattle.freeze_levels.specs.Thaws.{at_thaw, after_opening}
 use Rattle.gate_world.specs.declared.config.Config.{Config}
 use Rattle.gate_world.specs.declared.work.Phase.{Phase}
@@ -42,8 +30,7 @@ module _ (c : Config) (w : World) (earlier : List World) (t : ℕ) where
   exit_waits : (phase : Phase) (x : Thaw) (level : ℕ) (u : UpWrite) (n : TransitionNext) →
       WaitsForAnother c w earlier t phase (map_next Thaws (after_opening x level (exit_made u n)))
   exit_waits phase x level u (More transition) = tt
-  exit_waits phase x level u Undefined = tt
-  exit_waits phase x level u (Made state) = tt
+  exit_waits phase x level u other = tt
 
   -- so an up-write doesn't wait
   reopening_waits : (phase : Phase) (x : Thaw) (u : UpWrite) (s : UpWriteStep) (found : ℕ) →
@@ -62,15 +49,10 @@ module _ (c : Config) (w : World) (earlier : List World) (t : ℕ) where
           | inr h ↦ rw h.0 (umount_taken c w good t lt (Thaws (at_thaw x Locks)) (λ y own. own) h.1 (ap owns e))
         ]
     thaw_waits hook LoadsStage e = elim (eqb_tells w.words.stage 4) [ inl h ↦ rw h.0 tt | inr h ↦ rw h.0 tt ]
-    thaw_waits hook LoadsHolders e = tt
-    thaw_waits hook (Leaves held) e = tt
     thaw_waits hook LoadsSuperblock e = elim (eqb_tells w.words.sb 0) [ inl h ↦ rw h.0 tt | inr h ↦ rw h.0 tt ]
-    thaw_waits hook LeavesReadOnly e = tt
-    thaw_waits hook UnfreezesReadOnly e = tt
     thaw_waits (Ok answer) LeavesLast e = tt
     thaw_waits (Err code) LeavesLast e = tt
-    thaw_waits hook SetsUnfrozen e = tt
     thaw_waits hook (Reopens u) e =
         reopening_waits (Thaws (at_thaw x (Reopens u))) (at_thaw x (Reopens u)) u u.step
         (found_at w.words (Thaws (at_thaw x (Reopens u))) hook)
-    thaw_waits hook (Releases answer) e = tt
+    thaw_waits hook other e = tt

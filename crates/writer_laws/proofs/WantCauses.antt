@@ -30,12 +30,8 @@ module _ (c : Config) (t : ℕ) (w next : World) (earlier : List World) where
   -- keeps the cause of a refusal that is to come
   pub want_kept : (m : ℕ) (s : WantStep) → asks (next.views t).phase ≡ want_asks s → WantCause c t w earlier m s →
       WantCause c t next (w ∷ earlier) m s
-  want_kept m CountsUp e h = tt
-  want_kept m LoadsHold e h = tt
-  want_kept m LoadsRemount e h = tt
-  want_kept m LoadsReadOnly e h = tt
-  want_kept m LoadsSuperblock e h = tt
   want_kept m (CountsDown refusal) e h = λ r. ap (was_read_only c m) (question_skips t next (w ∷ earlier) e) ∙ h r
+  want_kept m other e h = tt
 
 -- whether what comes after an event of a want asks the read-only question
 abbrev pub next_asks : Next Want → Bool
@@ -46,8 +42,7 @@ next_asks (Done answer) = false
 -- it is what a want's own operation is at
 pub next_asked : (n : Next Want) → asks (phase_after (map_next Mounts (map_next Wants n))) ≡ next_asks n
 next_asked (Go x) = refl
-next_asked (Wait x) = refl
-next_asked (Done answer) = refl
+next_asked other = refl
 
 module _ (c : Config) (t : ℕ) (w : World) (earlier : List World) (m : ℕ) where
   -- what comes after an event of a want has its cause, and so has its refusal, where it ends with one

@@ -41,9 +41,8 @@ module _ (c : Config) (t : ℕ) (w : World) (earlier : List World) (m p : ℕ) w
   -- after an event at the mount the task asks where a want does
   pub wants_asked : (n : Next Want) → asks (phase_after (map_next Writes (then_gives_back m p n))) ≡ next_asks n
   wants_asked (Go x) = refl
-  wants_asked (Wait x) = refl
   wants_asked (Done (Ok reply)) = refl
-  wants_asked (Done (Err refusal)) = refl
+  wants_asked other = refl
 
   -- and what comes then has its cause, which the mount's refusal has while the level is left
   pub wants_cause : (n : Next Want) → NextCause c t w earlier m n →
@@ -56,15 +55,13 @@ module _ (c : Config) (t : ℕ) (w : World) (earlier : List World) (m p : ℕ) w
   -- a wait at level 1 is one for who closed it
   pub takes_waits : (r : DownRead) (n : Next DownRead) → WhereItWaits (WasClosed c t r.level (last_asked t (w ∷ earlier))) n →
       WaitsForAnother c w earlier t (Writes (Takes m r)) (map_next Writes (then_wants m p n))
-  takes_waits r (Go x) h = tt
   takes_waits r (Wait x) h = h
   takes_waits r (Done (Ok reply)) h = tt
-  takes_waits r (Done (Err refusal)) h = tt
+  takes_waits r other h = tt
 
   -- a wait at the mount is one for who has HOLD set
   pub wants_waits : (good : IsGood c w) (lt : t < c.tasks) (x : Want) (n : Next Want) → NextWaits c w good t lt x n →
       WaitsForAnother c w earlier t (Writes (Wants x)) (map_next Writes (then_gives_back m p n))
-  wants_waits good lt x (Go y) h = tt
   wants_waits good lt x (Wait y) h = h
   wants_waits good lt x (Done (Ok reply)) h = tt
-  wants_waits good lt x (Done (Err refusal)) h = tt
+  wants_waits good lt x other h = tt
