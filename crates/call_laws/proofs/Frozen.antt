@@ -16,7 +16,7 @@ use Rattle.gated_tree.specs.declared.phases.TreePhase.TheVariants.{
   ClearMarks as TreeClears,
 }
 use Rattle.gated_tree.specs.declared.snapshots.SnapshotStep.{SnapshotStep}
-use Rattle.gated_tree.specs.declared.snapshots.SnapshotStep.TheVariants.{Locks, LoadsStage, LoadsUsed, LoadsNode, LoadsKids, Releases}
+use Rattle.gated_tree.specs.declared.snapshots.SnapshotStep.TheVariants.{Locks}
 use Rattle.mount_counts.specs.declared.remounts.RemountStep.{RemountStep}
 use Rattle.mount_counts.specs.declared.remounts.RemountStep.TheVariants.{ClearsHold, ClearsMark, SetsReadOnly}
 use Rattle.freeze_levels.specs.declared.freezes.FreezeStep.{FreezeStep}
@@ -25,7 +25,7 @@ use Rattle.gated_tree.specs.declared.opens.OpenFile.{OpenFile}
 use Rattle.gated_tree.specs.declared.opens.OpenStep.{OpenStep}
 use Rattle.gated_tree.specs.declared.opens.OpenStep.TheVariants.{LoadsFile as LoadsFileToOpen, OpensFile}
 use Rattle.file_closes.specs.declared.phases.ClosePhase.{ClosePhase}
-use Rattle.file_closes.specs.declared.phases.ClosePhase.TheVariants.{LoadsFile as CloseLoadsFile, LowersCount, Enters as EntersLevel, FreesNode as ClosesNode, RefundsBlocks as CloseRefundsBlocks, Uncounts as CloseUncounts, Leaves as CloseLeaves}
+use Rattle.file_closes.specs.declared.phases.ClosePhase.TheVariants.{RefundsBlocks as CloseRefundsBlocks, Uncounts as CloseUncounts}
 use Rattle.mount_counts.specs.declared.remounts.RemountStep.TheVariants.{SetsRemount}
 use Rattle.gated_tree.specs.Calls.{open_role}
 use Rattle.gated_tree.specs.Roles.{removal}
@@ -88,13 +88,9 @@ open_charges_none x (OpensFile file) = record { blocks = refl; removed = refl; c
 -- a close has, inside level 3, once it has freed its node: while it counts a removed file
 close_charges_none : (c : Config) (t : ℕ) (levels : ℕ → Bool) (x : ClosePhase) → CloseFits c t levels x →
     (levels 3 ≡ true → removal (close_tree_role x) ≡ 1 → ⊥) → HasNoCharge (close_tree_role x)
-close_charges_none c t levels (CloseLoadsFile x) fits shut = record { blocks = refl; removed = refl; children = λ d. refl }
-close_charges_none c t levels (LowersCount x node) fits shut = record { blocks = refl; removed = refl; children = λ d. refl }
-close_charges_none c t levels (EntersLevel f node r) fits shut = record { blocks = refl; removed = refl; children = λ d. refl }
-close_charges_none c t levels (ClosesNode f p node) fits shut = record { blocks = refl; removed = refl; children = λ d. refl }
 close_charges_none c t levels (CloseRefundsBlocks p blocks) fits shut = absurd (shut fits.1 refl)
 close_charges_none c t levels (CloseUncounts p) fits shut = absurd (shut fits.1 refl)
-close_charges_none c t levels (CloseLeaves p) fits shut = record { blocks = refl; removed = refl; children = λ d. refl }
+close_charges_none c t levels other fits shut = record { blocks = refl; removed = refl; children = λ d. refl }
 
 -- so only a writer, or a close inside level 3, has charged anything
 phase_charges_none : (c : Config) (trace : List Traced) (t : ℕ) (held : ℕ → ℕ) (levels : ℕ → Bool) (p : Option Phase) →

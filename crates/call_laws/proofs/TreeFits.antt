@@ -11,49 +11,22 @@ use Rattle.cpu_words.specs.Hooks.{HookAnswer}
 use Rattle.gated_tree.specs.declared.nodes.NodeWord.{NodeWord}
 use Rattle.gated_tree.specs.declared.changes.Create.{Create}
 use Rattle.gated_tree.specs.declared.changes.CreateStep.{CreateStep}
-use Rattle.gated_tree.specs.declared.changes.CreateStep.TheVariants.{LoadsDirectory, LoadsNode, ChargesChild, TakesNode, RefundsChild}
+use Rattle.gated_tree.specs.declared.changes.CreateStep.TheVariants.{TakesNode}
 use Rattle.gated_tree.specs.declared.changes.Remove.{Remove}
 use Rattle.gated_tree.specs.declared.changes.RemoveStep.{RemoveStep}
-use Rattle.gated_tree.specs.declared.changes.RemoveStep.TheVariants.{
-  LoadsFile as LoadsFileToRemove,
-  FreesNode,
-  CountsRemoved,
-  MarksRemoved,
-  RefundsRemoved,
-  RefundsBlocks as RefundsItsBlocks,
-  RefundsChild as RefundsItsChild,
-}
+use Rattle.gated_tree.specs.declared.changes.RemoveStep.TheVariants.{FreesNode, MarksRemoved}
 use Rattle.gated_tree.specs.declared.changes.MoveTo.{MoveTo}
 use Rattle.gated_tree.specs.declared.changes.MoveStep.{MoveStep}
-use Rattle.gated_tree.specs.declared.changes.MoveStep.TheVariants.{
-  LoadsFile as LoadsFileToMove,
-  LoadsDirectory as LoadsTarget,
-  ChargesChild as ChargesTarget,
-  MovesFile,
-  RefundsChild as RefundsOne,
-}
+use Rattle.gated_tree.specs.declared.changes.MoveStep.TheVariants.{MovesFile}
 use Rattle.gated_tree.specs.declared.growth.Grow.{Grow}
 use Rattle.gated_tree.specs.declared.growth.GrowStep.{GrowStep}
-use Rattle.gated_tree.specs.declared.growth.GrowStep.TheVariants.{
-  LoadsFile as LoadsFileToGrow,
-  LoadsUsed,
-  ChargesBlocks,
-  GrowsFile,
-  RefundsBlocks,
-}
+use Rattle.gated_tree.specs.declared.growth.GrowStep.TheVariants.{GrowsFile}
 use Rattle.gated_tree.specs.declared.marks.Mark.{Mark}
 use Rattle.gated_tree.specs.declared.marks.MarkStep.{MarkStep}
 use Rattle.gated_tree.specs.declared.marks.MarkStep.TheVariants.{LoadsFile as LoadsFileToMark, MarksFile}
 use Rattle.gated_tree.specs.declared.snapshots.Snapshot.{Snapshot}
 use Rattle.gated_tree.specs.declared.snapshots.SnapshotStep.{SnapshotStep}
-use Rattle.gated_tree.specs.declared.snapshots.SnapshotStep.TheVariants.{
-  Locks,
-  LoadsStage,
-  LoadsUsed as LoadsUsedWord,
-  LoadsNode as LoadsNodeWord,
-  LoadsKids,
-  Releases,
-}
+use Rattle.gated_tree.specs.declared.snapshots.SnapshotStep.TheVariants.{Locks}
 use Rattle.gated_tree.specs.declared.phases.TreePhase.{TreePhase}
 use Rattle.gated_tree.specs.declared.phases.TreePhase.TheVariants.{
   Create as Creates,
@@ -127,47 +100,34 @@ mark_done_leaves false file = record { can = λ held. tt; mounts = λ held. refl
 
 -- so it is of each event of a create
 create_action : (x : Create) (s : CreateStep) (found : ℕ) → LeavesAccesses (create_after x s found).1
-create_action x LoadsDirectory found = none_leaves
-create_action x (LoadsNode node) found = none_leaves
-create_action x (ChargesChild node) found = none_leaves
 create_action x (TakesNode node) found =
     if_leaves (found == 0) (Some (CreateAction node x.dir x.kind))
     (record { can = λ held. tt; mounts = λ held. refl; levels = λ held. refl })
-create_action x RefundsChild found = none_leaves
+create_action x other found = none_leaves
 
 -- of a remove
 remove_action : (x : Remove) (s : RemoveStep) (found : ℕ) → LeavesAccesses (remove_after x s found).1
-remove_action x LoadsFileToRemove found = none_leaves
 remove_action x (FreesNode file) found =
     if_leaves (found == word_of file) (Some (RemoveAction x.file))
     (record { can = λ held. tt; mounts = λ held. refl; levels = λ held. refl })
-remove_action x (CountsRemoved file) found = none_leaves
 remove_action x (MarksRemoved file) found =
     if_leaves (found == word_of file) (Some (RemoveAction x.file))
     (record { can = λ held. tt; mounts = λ held. refl; levels = λ held. refl })
-remove_action x RefundsRemoved found = none_leaves
-remove_action x (RefundsItsBlocks file) found = none_leaves
-remove_action x (RefundsItsChild file) found = none_leaves
+remove_action x other found = none_leaves
 
 -- of a grow
 grow_action : (x : Grow) (s : GrowStep) (found : ℕ) → LeavesAccesses (grow_after x s found).1
-grow_action x LoadsFileToGrow found = none_leaves
-grow_action x (LoadsUsed file) found = none_leaves
-grow_action x (ChargesBlocks file used) found = none_leaves
 grow_action x (GrowsFile file) found =
     if_leaves (found == word_of file) (Some (GrowAction x.file x.blocks))
     (record { can = λ held. tt; mounts = λ held. refl; levels = λ held. refl })
-grow_action x RefundsBlocks found = none_leaves
+grow_action x other found = none_leaves
 
 -- of a move
 move_action : (x : MoveTo) (s : MoveStep) (found : ℕ) → LeavesAccesses (move_after x s found).1
-move_action x LoadsFileToMove found = none_leaves
-move_action x (LoadsTarget file) found = none_leaves
-move_action x (ChargesTarget file) found = none_leaves
 move_action x (MovesFile file) found =
     if_leaves (found == word_of file) (Some (MoveToAction x.file x.dir))
     (record { can = λ held. tt; mounts = λ held. refl; levels = λ held. refl })
-move_action x (RefundsOne dir answer) found = none_leaves
+move_action x other found = none_leaves
 
 -- of a page fault or a write-back
 mark_action : (x : Mark) (s : MarkStep) (found : ℕ) → LeavesAccesses (mark_after x s found).1
@@ -185,11 +145,7 @@ open_action x (OpensFile file) found small =
 -- a snapshot has no action
 snapshot_action : (x : Snapshot) (s : SnapshotStep) (found : ℕ) → LeavesAccesses (snapshot_after x s found).1
 snapshot_action x Locks found = none_leaves
-snapshot_action x LoadsStage found = none_leaves
-snapshot_action x LoadsUsedWord found = none_leaves
-snapshot_action x (LoadsNodeWord node) found = none_leaves
-snapshot_action x (LoadsKids node) found = none_leaves
-snapshot_action x (Releases answer) found = none_leaves
+snapshot_action x other found = none_leaves
 
 -- the file of an open is below 64
 abbrev OpensSmall : TreePhase → Type 0
@@ -307,10 +263,7 @@ module _ (c : Config) (f g : ℕ → ℕ) (h k : ℕ → Bool) (mounts : (m : �
   access_agrees (Snapshots x) may = sym (none_agree c 0 f g h k mounts levels) ∙ may
   access_agrees (TreeClears x) may = may
   access_agrees (OpensOne x) may = tt
-  access_agrees (Creates x) may = sym writer_agrees ∙ may
-  access_agrees (Removes x) may = sym writer_agrees ∙ may
-  access_agrees (Grows x) may = sym writer_agrees ∙ may
-  access_agrees (Moves x) may = sym writer_agrees ∙ may
+  access_agrees other may = sym writer_agrees ∙ may
 
   -- and it fits accesses that agree
   pub tree_agrees : (t : ℕ) (x : TreePhase) → PhaseFits c t f h (Trees x) → PhaseFits c t g k (Trees x)

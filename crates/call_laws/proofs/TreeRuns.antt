@@ -3,7 +3,7 @@ use Rattle.std.proofs.Common.{◌≡◌, ℕ, ◌<◌, refl}
 use Rattle.std.specs.Prelude.{Some}
 use Rattle.access_model.specs.Replies.{map_next}
 use Rattle.access_model.specs.declared.replies.Next.{Next}
-use Rattle.access_model.specs.declared.replies.Next.TheVariants.{Done, Go, Wait}
+use Rattle.access_model.specs.declared.replies.Next.TheVariants.{Go}
 use Rattle.cpu_words.specs.Hooks.{HookAnswer}
 use Rattle.gated_tree.specs.declared.phases.TreePhase.{TreePhase}
 use Rattle.gated_tree.specs.Phases.{after as tree_after}
@@ -20,14 +20,12 @@ use Rattle.call_laws.proofs.TreeWords.{tree_leaves}
 -- what comes after an event at the tree is inside no section
 tree_outside : (next : Next TreePhase) → inside (phase_after (map_next Trees next)) ≡ 0
 tree_outside (Go x) = refl
-tree_outside (Wait x) = refl
-tree_outside (Done answer) = refl
+tree_outside other = refl
 
 -- and has no part in a level
 tree_apart : (i : ℕ) (next : Next TreePhase) → sync_role_of i (phase_after (map_next Trees next)) ≡ IsApart
 tree_apart i (Go x) = refl
-tree_apart i (Wait x) = refl
-tree_apart i (Done answer) = refl
+tree_apart i other = refl
 
 -- so each level stays at the event
 pub tree_runs : (tasks : ℕ) (w : World) (t : ℕ) → t < tasks → (hook : HookAnswer) (x : TreePhase) →

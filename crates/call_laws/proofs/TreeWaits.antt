@@ -23,15 +23,7 @@ use Rattle.gated_tree.specs.declared.changes.CreateStep.{CreateStep}
 use Rattle.gated_tree.specs.declared.changes.CreateStep.TheVariants.{LoadsDirectory, LoadsNode, ChargesChild, TakesNode, RefundsChild}
 use Rattle.gated_tree.specs.declared.changes.Remove.{Remove}
 use Rattle.gated_tree.specs.declared.changes.RemoveStep.{RemoveStep}
-use Rattle.gated_tree.specs.declared.changes.RemoveStep.TheVariants.{
-  LoadsFile as LoadsFileToRemove,
-  FreesNode,
-  CountsRemoved,
-  MarksRemoved,
-  RefundsRemoved,
-  RefundsBlocks as RefundsItsBlocks,
-  RefundsChild as RefundsItsChild,
-}
+use Rattle.gated_tree.specs.declared.changes.RemoveStep.TheVariants.{LoadsFile as LoadsFileToRemove, FreesNode, MarksRemoved}
 use Rattle.gated_tree.specs.declared.changes.MoveTo.{MoveTo}
 use Rattle.gated_tree.specs.declared.changes.MoveStep.{MoveStep}
 use Rattle.gated_tree.specs.declared.changes.MoveStep.TheVariants.{
@@ -56,14 +48,7 @@ use Rattle.gated_tree.specs.declared.marks.MarkStep.TheVariants.{LoadsFile as Lo
 use Rattle.gated_tree.specs.declared.marks.ClearMarks.{ClearMarks}
 use Rattle.gated_tree.specs.declared.snapshots.Snapshot.{Snapshot}
 use Rattle.gated_tree.specs.declared.snapshots.SnapshotStep.{SnapshotStep}
-use Rattle.gated_tree.specs.declared.snapshots.SnapshotStep.TheVariants.{
-  Locks,
-  LoadsStage,
-  LoadsUsed as LoadsUsedWord,
-  LoadsNode as LoadsNodeWord,
-  LoadsKids,
-  Releases,
-}
+use Rattle.gated_tree.specs.declared.snapshots.SnapshotStep.TheVariants.{Locks, LoadsStage, LoadsNode as LoadsNodeWord}
 use Rattle.gated_tree.specs.declared.phases.TreePhase.{TreePhase}
 use Rattle.gated_tree.specs.declared.phases.TreePhase.TheVariants.{
   Create as Creates,
@@ -125,11 +110,8 @@ create_goes_on x RefundsChild found = tt
 remove_goes_on : (x : Remove) (s : RemoveStep) (found : ℕ) → GoesOn (remove_after x s found).0
 remove_goes_on x LoadsFileToRemove found = look_goes _ _ (file_in found)
 remove_goes_on x (FreesNode file) found = either (found == word_of file) _ _ tt tt
-remove_goes_on x (CountsRemoved file) found = tt
 remove_goes_on x (MarksRemoved file) found = either (found == word_of file) _ _ tt tt
-remove_goes_on x RefundsRemoved found = tt
-remove_goes_on x (RefundsItsBlocks file) found = tt
-remove_goes_on x (RefundsItsChild file) found = tt
+remove_goes_on x other found = tt
 
 -- nor a grow
 grow_goes_on : (x : Grow) (s : GrowStep) (found : ℕ) → GoesOn (grow_after x s found).0

@@ -11,18 +11,10 @@ use Rattle.cpu_words.specs.declared.names.WordName.{WordName}
 use Rattle.cpu_words.specs.declared.names.WordName.TheVariants.{Umount, Used, Node, Kids}
 use Rattle.gated_tree.specs.declared.changes.Create.{Create}
 use Rattle.gated_tree.specs.declared.changes.CreateStep.{CreateStep}
-use Rattle.gated_tree.specs.declared.changes.CreateStep.TheVariants.{LoadsDirectory, LoadsNode, ChargesChild, TakesNode, RefundsChild}
+use Rattle.gated_tree.specs.declared.changes.CreateStep.TheVariants.{LoadsDirectory, LoadsNode, TakesNode}
 use Rattle.gated_tree.specs.declared.changes.Remove.{Remove}
 use Rattle.gated_tree.specs.declared.changes.RemoveStep.{RemoveStep}
-use Rattle.gated_tree.specs.declared.changes.RemoveStep.TheVariants.{
-  LoadsFile as LoadsFileToRemove,
-  FreesNode,
-  CountsRemoved,
-  MarksRemoved,
-  RefundsRemoved,
-  RefundsBlocks as RefundsItsBlocks,
-  RefundsChild as RefundsItsChild,
-}
+use Rattle.gated_tree.specs.declared.changes.RemoveStep.TheVariants.{LoadsFile as LoadsFileToRemove, FreesNode, MarksRemoved, RefundsChild as RefundsItsChild}
 use Rattle.gated_tree.specs.declared.changes.MoveTo.{MoveTo}
 use Rattle.gated_tree.specs.declared.changes.MoveStep.{MoveStep}
 use Rattle.gated_tree.specs.declared.changes.MoveStep.TheVariants.{
@@ -34,13 +26,7 @@ use Rattle.gated_tree.specs.declared.changes.MoveStep.TheVariants.{
 }
 use Rattle.gated_tree.specs.declared.growth.Grow.{Grow}
 use Rattle.gated_tree.specs.declared.growth.GrowStep.{GrowStep}
-use Rattle.gated_tree.specs.declared.growth.GrowStep.TheVariants.{
-  LoadsFile as LoadsFileToGrow,
-  LoadsUsed,
-  ChargesBlocks,
-  GrowsFile,
-  RefundsBlocks,
-}
+use Rattle.gated_tree.specs.declared.growth.GrowStep.TheVariants.{LoadsFile as LoadsFileToGrow, GrowsFile}
 use Rattle.gated_tree.specs.declared.marks.Mark.{Mark}
 use Rattle.gated_tree.specs.declared.marks.MarkStep.{MarkStep}
 use Rattle.gated_tree.specs.declared.marks.MarkStep.TheVariants.{LoadsFile as LoadsFileToMark, MarksFile}
@@ -96,29 +82,23 @@ module _ (c : Config) (n t : ℕ) where
   -- the word of each event of a create is one
   create_there : (x : Create) (s : CreateStep) → x.dir < c.nodes → CreateStepFits (tree_bounds c) s →
       IsWord (extents_touched n c) (create_next x s).0
-  create_there x LoadsDirectory d f = touched x.dir d
   create_there x (LoadsNode node) d f = touched node f
-  create_there x (ChargesChild node) d f = touched x.dir d
   create_there x (TakesNode node) d f = touched node f
-  create_there x RefundsChild d f = touched x.dir d
+  create_there x other d f = touched x.dir d
 
   -- of a remove
   remove_there : (x : Remove) (s : RemoveStep) → x.file < c.nodes → RemoveStepFits s → IsWord (extents_touched n c) (remove_next x s).0
   remove_there x LoadsFileToRemove d f = touched x.file d
   remove_there x (FreesNode file) d f = touched x.file d
-  remove_there x (CountsRemoved file) d f = tt
   remove_there x (MarksRemoved file) d f = touched x.file d
-  remove_there x RefundsRemoved d f = tt
-  remove_there x (RefundsItsBlocks file) d f = tt
   remove_there x (RefundsItsChild file) d f = named file.parent f
+  remove_there x other d f = tt
 
   -- of a grow
   grow_there : (x : Grow) (s : GrowStep) → x.file < c.nodes → IsWord (extents_touched n c) (grow_next x s).0
   grow_there x LoadsFileToGrow d = touched x.file d
-  grow_there x (LoadsUsed file) d = tt
-  grow_there x (ChargesBlocks file used) d = tt
   grow_there x (GrowsFile file) d = touched x.file d
-  grow_there x RefundsBlocks d = tt
+  grow_there x other d = tt
 
   -- of a move
   move_there : (x : MoveTo) (s : MoveStep) → x.file < c.nodes → x.dir < c.nodes → MoveStepFits s →
@@ -142,12 +122,9 @@ module _ (c : Config) (n t : ℕ) where
   -- of a snapshot
   snapshot_there : (x : Snapshot) (s : SnapshotStep) → SnapshotStepFits (tree_bounds c) s →
       IsWord (extents_touched n c) (snapshot_next x s).0
-  snapshot_there x Locks f = tt
-  snapshot_there x LoadsStage f = tt
-  snapshot_there x LoadsUsedWord f = tt
   snapshot_there x (LoadsNodeWord node) f = touched node f
   snapshot_there x (LoadsKids node) f = touched node f
-  snapshot_there x (Releases answer) f = tt
+  snapshot_there x other f = tt
 
   -- so the word of each event at the tree is one
   pub tree_there : (x : TreePhase) (hook : HookAnswer) → TreePhaseFits (tree_bounds c) t x → IsWord (extents_touched n c) (tree_next x hook).0
@@ -185,36 +162,22 @@ put_apart w name value h = absurd h
 -- each event of a create is on such a word
 create_apart : (x : Create) (s : CreateStep) → IsApartWord (create_next x s).0
 create_apart x LoadsDirectory = tt
-create_apart x (LoadsNode node) = tt
-create_apart x (ChargesChild node) = tt
-create_apart x (TakesNode node) = tt
-create_apart x RefundsChild = tt
+create_apart x other = tt
 
 -- of a remove
 remove_apart : (x : Remove) (s : RemoveStep) → IsApartWord (remove_next x s).0
 remove_apart x LoadsFileToRemove = tt
-remove_apart x (FreesNode file) = tt
-remove_apart x (CountsRemoved file) = tt
-remove_apart x (MarksRemoved file) = tt
-remove_apart x RefundsRemoved = tt
-remove_apart x (RefundsItsBlocks file) = tt
-remove_apart x (RefundsItsChild file) = tt
+remove_apart x other = tt
 
 -- of a grow
 grow_apart : (x : Grow) (s : GrowStep) → IsApartWord (grow_next x s).0
 grow_apart x LoadsFileToGrow = tt
-grow_apart x (LoadsUsed file) = tt
-grow_apart x (ChargesBlocks file used) = tt
-grow_apart x (GrowsFile file) = tt
-grow_apart x RefundsBlocks = tt
+grow_apart x other = tt
 
 -- of a move
 move_apart : (x : MoveTo) (s : MoveStep) → IsApartWord (move_next x s).0
 move_apart x LoadsFileToMove = tt
-move_apart x (LoadsTarget file) = tt
-move_apart x (ChargesTarget file) = tt
-move_apart x (MovesFile file) = tt
-move_apart x (RefundsOne dir answer) = tt
+move_apart x other = tt
 
 -- of a page fault and a write-back
 mark_apart : (x : Mark) (s : MarkStep) → IsApartWord (mark_next x s).0

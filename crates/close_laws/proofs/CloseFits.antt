@@ -152,7 +152,6 @@ close_there c n le t lt held levels hook (Leaves p) f =
 -- and its action can be done
 pub close_acts : (c : Config) → IsWithin c → (t : ℕ) (held : ℕ → ℕ) (levels : ℕ → Bool) (x : ClosePhase) (found : ℕ) →
     CloseFits c t levels x → ActionFits held (after x found).1
-close_acts c lim t held levels (LoadsFile x) found f = tt
 close_acts c lim t held levels (LowersCount x node) found f =
     by_bool (found == word_of node) (λ b. ActionFits held (if b then Some (CloseAction x.file) else None)) (omega (arith, f.0.0, lim.nodes)) tt
 close_acts c lim t held levels (Enters file node r) found f = read_acts held r r.step found f.2.0 f.2.1
@@ -161,6 +160,7 @@ close_acts c lim t held levels (FreesNode file p node) found f =
 close_acts c lim t held levels (RefundsBlocks p blocks) found f = tt
 close_acts c lim t held levels (Uncounts p) found f = tt
 close_acts c lim t held levels (Leaves p) found f = (omega arith, omega arith)
+close_acts c lim t held levels other found f = tt
 
 -- it fits levels that agree
 pub close_agrees : (c : Config) (t : ℕ) (f g : ℕ → ℕ) (h k : ℕ → Bool) → ((m : ℕ) → m < c.mounts → f m ≡ g m) →
@@ -173,6 +173,4 @@ close_agrees c t f g h k mounts levels (Enters file node r) fits =
     (fits.0, fits.1, (read_phase c r).agrees t f g h k mounts levels fits.2)
 close_agrees c t f g h k mounts levels (FreesNode file p node) fits =
     (fits.0, fits.1, sym (levels 3 (omega arith) (omega arith)) ∙ fits.2)
-close_agrees c t f g h k mounts levels (RefundsBlocks p blocks) fits = (fits.0, sym (levels 3 (omega arith) (omega arith)) ∙ fits.1)
-close_agrees c t f g h k mounts levels (Uncounts p) fits = (fits.0, sym (levels 3 (omega arith) (omega arith)) ∙ fits.1)
-close_agrees c t f g h k mounts levels (Leaves p) fits = (fits.0, sym (levels 3 (omega arith) (omega arith)) ∙ fits.1)
+close_agrees c t f g h k mounts levels other fits = (fits.0, sym (levels 3 (omega arith) (omega arith)) ∙ fits.1)

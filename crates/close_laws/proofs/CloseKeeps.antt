@@ -98,9 +98,7 @@ close_causes c w earlier good t hook (Enters file node r) f e is h =
     (enters_asks c t w next earlier file r.cpu node n is))
 close_causes c w earlier good t hook (FreesNode file p node) f e is h =
     elim (cases_Bool (w.words.node file == word_of node)) [ inl z ↦ rw z tt | inr z ↦ rw z tt ]
-close_causes c w earlier good t hook (RefundsBlocks p blocks) f e is h = tt
-close_causes c w earlier good t hook (Uncounts p) f e is h = tt
-close_causes c w earlier good t hook (Leaves p) f e is h = tt
+close_causes c w earlier good t hook other f e is h = tt
 
 -- it waits at level 3 alone
 close_waits : (c : Config) (w : World) (earlier : List World) (t : ℕ) (hook : HookAnswer) (x : ClosePhase) →
@@ -114,9 +112,7 @@ close_waits c w earlier t hook (Enters file node r) h =
     (read_waits c w earlier t r r.step (found_at w.words (DownReads r) hook) h)
 close_waits c w earlier t hook (FreesNode file p node) h =
     elim (cases_Bool (w.words.node file == word_of node)) [ inl z ↦ rw z tt | inr z ↦ rw z tt ]
-close_waits c w earlier t hook (RefundsBlocks p blocks) h = tt
-close_waits c w earlier t hook (Uncounts p) h = tt
-close_waits c w earlier t hook (Leaves p) h = tt
+close_waits c w earlier t hook other h = tt
 
 -- what is proved of each phase
 pub close_phase : (c : Config) (x : ClosePhase) → PhaseKeeps c (Closes x)

@@ -10,7 +10,7 @@ use Rattle.access_model.specs.declared.actions.Action.{Action}
 use Rattle.access_model.specs.declared.actions.Action.TheVariants.{Close as CloseAction}
 use Rattle.access_model.specs.declared.errors.GateError.{GateError}
 use Rattle.access_model.specs.declared.replies.Next.{Next}
-use Rattle.access_model.specs.declared.replies.Next.TheVariants.{Go, Wait, Done}
+use Rattle.access_model.specs.declared.replies.Next.TheVariants.{Go}
 use Rattle.access_model.specs.Replies.{map_next}
 use Rattle.access_model.specs.States.{openers, is_removed}
 use Rattle.access_model.proofs.Openers.{most_tasks_is}
@@ -71,75 +71,29 @@ is_at_tree x = true
 
 -- each is on a word of the tree
 close_word : (x : ClosePhase) → is_at_tree x ≡ true → is_node_word (next x).0 ≡ true
-close_word (LoadsFile x) h = refl
-close_word (LowersCount x node) h = refl
-close_word (FreesNode file p node) h = refl
-close_word (RefundsBlocks p blocks) h = refl
-close_word (Uncounts p) h = refl
 close_word (Enters file node r) h = absurd (true≢false (sym h))
 close_word (Leaves p) h = absurd (true≢false (sym h))
+close_word other h = refl
 
 -- its action leaves its task's accesses
 close_leaves : (x : ClosePhase) → is_at_tree x ≡ true → (found : ℕ) → LeavesAccesses (after x found).1
-close_leaves (LoadsFile x) h found = leaves_none
 close_leaves (LowersCount x node) h found =
     leaves_if (found == word_of node) _ (record { mounts = λ held. refl; levels = λ held. refl })
 close_leaves (FreesNode file p node) h found =
     leaves_if (found == word_of node) _ (record { mounts = λ held. refl; levels = λ held. refl })
-close_leaves (RefundsBlocks p blocks) h found = leaves_none
-close_leaves (Uncounts p) h found = leaves_none
 close_leaves (Enters file node r) h found = absurd (true≢false (sym h))
 close_leaves (Leaves p) h found = absurd (true≢false (sym h))
+close_leaves other h found = leaves_none
 
 -- a close that is at no level's counts
 off_close : (x : ClosePhase) → is_at_tree x ≡ true → IsOffGates (Some (Closes x))
-off_close (LoadsFile x) h = record {
-  out_of_mounts = λ m. refl;
-  off_levels = record { counts_not = λ i. refl; apart = λ i. refl; outside = refl };
-  closing_none = λ i. refl;
-  remounts_none = refl;
-  unheld = refl;
-}
-off_close (LowersCount x node) h = record {
-  out_of_mounts = λ m. refl;
-  off_levels = record { counts_not = λ i. refl; apart = λ i. refl; outside = refl };
-  closing_none = λ i. refl;
-  remounts_none = refl;
-  unheld = refl;
-}
-off_close (FreesNode file p node) h = record {
-  out_of_mounts = λ m. refl;
-  off_levels = record { counts_not = λ i. refl; apart = λ i. refl; outside = refl };
-  closing_none = λ i. refl;
-  remounts_none = refl;
-  unheld = refl;
-}
-off_close (RefundsBlocks p blocks) h = record {
-  out_of_mounts = λ m. refl;
-  off_levels = record { counts_not = λ i. refl; apart = λ i. refl; outside = refl };
-  closing_none = λ i. refl;
-  remounts_none = refl;
-  unheld = refl;
-}
-off_close (Uncounts p) h = record {
-  out_of_mounts = λ m. refl;
-  off_levels = record { counts_not = λ i. refl; apart = λ i. refl; outside = refl };
-  closing_none = λ i. refl;
-  remounts_none = refl;
-  unheld = refl;
-}
 off_close (Enters file node r) h = absurd (true≢false (sym h))
 off_close (Leaves p) h = absurd (true≢false (sym h))
+off_close other h = assumption
 
 -- one that leaves level 3, or is to enter it, has no role there
 off_leaves : (p : ℕ) → IsOffGates (Some (Closes (Leaves p)))
-off_leaves p = record {
-  out_of_mounts = λ m. refl;
-  off_levels = record { counts_not = λ i. refl; apart = λ i. refl; outside = refl };
-  closing_none = λ i. refl;
-  remounts_none = refl;
-  unheld = refl;
-}
+off_leaves p = assumption
 
 off_enters : (x : Closing) (file : NodeWord) → IsOffGates (Some (Closes (enters x file)))
 off_enters x file = record {
@@ -186,14 +140,12 @@ off_next (Leaves p) h found = absurd (true≢false (sym h))
 -- a close has to do with no stage and owns nothing, and so has what comes after one
 plain_next : (n : Next ClosePhase) → (stage_role_of (phase_after (map_next Closes n)) ≡ Aside) × (owns (phase_after (map_next Closes n)) ≡ 0)
 plain_next (Go x) = (refl, refl)
-plain_next (Wait x) = (refl, refl)
-plain_next (Done answer) = (refl, refl)
+plain_next other = (refl, refl)
 
 -- its role at the tree is that of its phase
 role_comes : (n : Next ClosePhase) (trace : List Traced) → role_after close_tree_role n ≡ tree_role_of trace (phase_after (map_next Closes n))
 role_comes (Go x) trace = refl
-role_comes (Wait x) trace = refl
-role_comes (Done answer) trace = refl
+role_comes other trace = refl
 
 -- its task has its file open until it has closed it
 found_has : (files : ℕ → Bool) (x : Closing) (file : NodeWord) → files x.file ≡ true → HasFile files (file_of (Some (Closes (closed_from x file))))

@@ -7,7 +7,7 @@ use Rattle.finite_sums.specs.Sums.{update}
 use Rattle.finite_sums.proofs.Totals.{each_updated, update_at}
 use Rattle.access_model.specs.declared.actions.Action.{Action}
 use Rattle.access_model.specs.declared.replies.Next.{Next}
-use Rattle.access_model.specs.declared.replies.Next.TheVariants.{Go, Wait, Done}
+use Rattle.access_model.specs.declared.replies.Next.TheVariants.{Go, Done}
 use Rattle.access_model.specs.declared.replies.Reply.TheVariants.{Unit as UnitReply}
 use Rattle.access_model.specs.Replies.{map_next}
 use Rattle.access_model.specs.States.{openers}
@@ -19,7 +19,7 @@ use Rattle.gated_tree.specs.Roles.{Out as OffTree, Freeing, TreeHolds, charge, r
 use Rattle.level_laws.specs.Events.{SyncStep}
 use Rattle.percpu_rwsem.specs.declared.readers.DownRead.{DownRead}
 use Rattle.percpu_rwsem.specs.declared.readers.DownReadStep.{DownReadStep}
-use Rattle.percpu_rwsem.specs.declared.readers.DownReadStep.TheVariants.{EntersSection, LoadsSync, CountsUpFast, CountsUpSlow, LoadsBlock, CountsDown, LeavesAdmitted, LeavesBlocked}
+use Rattle.percpu_rwsem.specs.declared.readers.DownReadStep.TheVariants.{EntersSection, LoadsBlock}
 use Rattle.percpu_rwsem.specs.Readers.{at_down_read, down_read_after}
 use Rattle.file_closes.specs.declared.phases.ClosePhase.{ClosePhase}
 use Rattle.file_closes.specs.declared.phases.ClosePhase.TheVariants.{Enters, Leaves}
@@ -51,9 +51,8 @@ use Rattle.close_laws.proofs.CloseFits.{enters_fits}
 pub beside_enters : (file p : ℕ) (node : NodeWord) (n : Next DownRead) →
     IsBeside (phase_after (map_next DownReads n)) (phase_after (map_next Closes (then_frees file node p n)))
 beside_enters file p node (Go r) = assumption
-beside_enters file p node (Wait r) = assumption
 beside_enters file p node (Done (Ok reply)) = assumption
-beside_enters file p node (Done (Err refusal)) = assumption
+beside_enters file p node other = assumption
 
 -- and nothing beside nothing
 pub beside_none : IsBeside None None
@@ -62,41 +61,25 @@ beside_none = assumption
 -- no event of a down-read touches a word of the tree
 read_tree : (w : Words) (r : DownRead) (s : DownReadStep) (hook : HookAnswer) → SameWords w (words_after w (DownReads (at_down_read r s)) hook) Tree
 read_tree w r EntersSection hook = (refl, refl, refl, refl, refl, refl)
-read_tree w r LoadsSync hook = (refl, refl, refl, refl, refl, refl)
-read_tree w r CountsUpFast hook = (refl, refl, refl, refl, refl, refl)
-read_tree w r CountsUpSlow hook = (refl, refl, refl, refl, refl, refl)
-read_tree w r LoadsBlock hook = (refl, refl, refl, refl, refl, refl)
-read_tree w r CountsDown hook = (refl, refl, refl, refl, refl, refl)
-read_tree w r LeavesAdmitted hook = (refl, refl, refl, refl, refl, refl)
-read_tree w r LeavesBlocked hook = (refl, refl, refl, refl, refl, refl)
+read_tree w r other hook = (refl, refl, refl, refl, refl, refl)
 
 -- nor opens or closes a file
 read_opens : (files : ℕ → Bool) (r : DownRead) (s : DownReadStep) (found : ℕ) → opens_by (down_read_after r s found).1 files ≡ files
-read_opens files r EntersSection found = refl
-read_opens files r LoadsSync found = refl
-read_opens files r CountsUpFast found = refl
-read_opens files r CountsUpSlow found = refl
 read_opens files r LoadsBlock found = elim (cases_Bool (found == 0)) [ inl h ↦ rw h refl | inr h ↦ rw h refl ]
-read_opens files r CountsDown found = refl
-read_opens files r LeavesAdmitted found = refl
-read_opens files r LeavesBlocked found = refl
+read_opens files r other found = refl
 
 -- a close that is to free a node stays so, or it ends
 then_role : (file p : ℕ) (node : NodeWord) (n : Next DownRead) (trace : List Traced) →
     (tree_role_of trace (phase_after (map_next Closes (then_frees file node p n))) ≡ Freeing file node) ⊎
     (tree_role_of trace (phase_after (map_next Closes (then_frees file node p n))) ≡ OffTree)
-then_role file p node (Go r) trace = inl refl
-then_role file p node (Wait r) trace = inl refl
-then_role file p node (Done (Ok reply)) trace = inl refl
 then_role file p node (Done (Err refusal)) trace = inr refl
+then_role file p node other trace = inl refl
 
 -- and its task has its file open
 then_has : (files : ℕ → Bool) (file p : ℕ) (node : NodeWord) (n : Next DownRead) → files file ≡ true →
     HasFile files (file_of (phase_after (map_next Closes (then_frees file node p n))))
-then_has files file p node (Go r) own = own
-then_has files file p node (Wait r) own = own
-then_has files file p node (Done (Ok reply)) own = own
 then_has files file p node (Done (Err refusal)) own = tt
+then_has files file p node other own = own
 
 module _ (c : Config) (w : World) (good : IsGood c w) (t : ℕ) (lt : t < c.tasks) where
   -- the open files, where no event has opened or closed one

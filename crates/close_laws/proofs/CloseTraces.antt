@@ -19,7 +19,7 @@ use Rattle.gated_tree.specs.Phases.{after_look}
 use Rattle.gated_tree.proofs.Refused.{any_file_refused}
 use Rattle.percpu_rwsem.specs.declared.readers.DownRead.{DownRead}
 use Rattle.percpu_rwsem.specs.declared.readers.DownReadStep.{DownReadStep}
-use Rattle.percpu_rwsem.specs.declared.readers.DownReadStep.TheVariants.{EntersSection, LoadsSync, CountsUpFast, CountsUpSlow, LoadsBlock, CountsDown, LeavesAdmitted, LeavesBlocked}
+use Rattle.percpu_rwsem.specs.declared.readers.DownReadStep.TheVariants.{EntersSection}
 use Rattle.percpu_rwsem.specs.Readers.{down_read_next, down_read_after}
 use Rattle.file_closes.specs.declared.phases.ClosePhase.{ClosePhase}
 use Rattle.file_closes.specs.declared.phases.ClosePhase.TheVariants.{LoadsFile, LowersCount, Enters, FreesNode, RefundsBlocks, Uncounts, Leaves}
@@ -46,13 +46,7 @@ use Rattle.close_laws.proofs.CloseOps.{close_op_from}
 read_dropped : (r : DownRead) (s : DownReadStep) (value : ℕ) (hook : HookAnswer) (earlier : List Traced) →
     found_dropped (with_hook (event_of (down_read_next r s).0 (down_read_next r s).1 value) hook ∷ earlier) ≡ found_dropped earlier
 read_dropped r EntersSection value hook earlier = refl
-read_dropped r LoadsSync value hook earlier = refl
-read_dropped r CountsUpFast value hook earlier = refl
-read_dropped r CountsUpSlow value hook earlier = refl
-read_dropped r LoadsBlock value hook earlier = refl
-read_dropped r CountsDown value hook earlier = refl
-read_dropped r LeavesAdmitted value hook earlier = refl
-read_dropped r LeavesBlocked value hook earlier = refl
+read_dropped r other value hook earlier = refl
 
 -- a down-read comes to a step after at most five events
 within_five : (s : DownReadStep) → events_before s ≤ 5
@@ -102,9 +96,7 @@ says_short c file p t wait (LoadsFile x) trace added h q = omega (arith, ap leng
 says_short c file p t wait (LowersCount x node) trace added h q = omega (arith, h.1.2 q)
 says_short c file p t wait (Enters f node r) trace added h q = omega (arith, h.1.2.1 q, within_five h.1.0)
 says_short c file p t wait (FreesNode f r node) trace added h q = omega (arith, h.1.2 q)
-says_short c file p t wait (RefundsBlocks r blocks) trace added h q = omega (arith, h.2 q)
-says_short c file p t wait (Uncounts r) trace added h q = omega (arith, h.2 q)
-says_short c file p t wait (Leaves r) trace added h q = omega (arith, h.2 q)
+says_short c file p t wait other trace added h q = omega (arith, h.2 q)
 
 module _ (c : Config) (file p t : ℕ) (wait : Bool) where
   -- what a trace says by what comes

@@ -18,7 +18,7 @@ use Rattle.percpu_rwsem.specs.declared.transitions.Transition.{Transition}
 use Rattle.percpu_rwsem.specs.declared.transitions.Transition.TheVariants.{Loads, Exchanges}
 use Rattle.percpu_rwsem.specs.declared.writers.DownWrite.{DownWrite}
 use Rattle.percpu_rwsem.specs.declared.writers.DownWriteStep.{DownWriteStep}
-use Rattle.percpu_rwsem.specs.declared.writers.DownWriteStep.TheVariants.{Enters, AwaitsSections, CallsBack, AwaitsPassed, SetsBlock, Sums}
+use Rattle.percpu_rwsem.specs.declared.writers.DownWriteStep.TheVariants.{Enters, CallsBack}
 use Rattle.percpu_rwsem.specs.declared.writers.UpWrite.{UpWrite}
 use Rattle.percpu_rwsem.specs.declared.writers.UpWriteStep.{UpWriteStep}
 use Rattle.percpu_rwsem.specs.declared.writers.UpWriteStep.TheVariants.{ClearsBlock, Exits}
@@ -26,10 +26,10 @@ use Rattle.percpu_rwsem.specs.Transitions.{transition_next}
 use Rattle.percpu_rwsem.specs.Writers.{down_write_next, up_write_next}
 use Rattle.freeze_levels.specs.declared.freezes.Freeze.{Freeze}
 use Rattle.freeze_levels.specs.declared.freezes.FreezeStep.{FreezeStep}
-use Rattle.freeze_levels.specs.declared.freezes.FreezeStep.TheVariants.{Locks, LoadsStage, LoadsHolders, Holds as StoresHolder, LoadsSuperblock, CompletesReadOnly, SetsWrite, Unlocks, Closes, LocksAgain, SetsPageFault, Cleans, SetsFs, SetsComplete, Reopens, Releases}
+use Rattle.freeze_levels.specs.declared.freezes.FreezeStep.TheVariants.{Locks, LoadsStage, LoadsHolders, LoadsSuperblock, Closes, LocksAgain, Cleans, SetsFs, SetsComplete, Reopens}
 use Rattle.freeze_levels.specs.declared.thaws.Thaw.{Thaw}
 use Rattle.freeze_levels.specs.declared.thaws.ThawStep.{ThawStep}
-use Rattle.freeze_levels.specs.declared.thaws.ThawStep.TheVariants.{Locks as ThawLocks, LoadsStage as ThawLoadsStage, LoadsHolders as ThawLoadsHolders, Leaves as StoresOthers, LoadsSuperblock as ThawLoadsSuperblock, LeavesReadOnly, UnfreezesReadOnly, LeavesLast, SetsUnfrozen, Reopens as ThawReopens, Releases as ThawReleases}
+use Rattle.freeze_levels.specs.declared.thaws.ThawStep.TheVariants.{Locks as ThawLocks, LoadsStage as ThawLoadsStage, LoadsHolders as ThawLoadsHolders, Leaves as StoresOthers, LoadsSuperblock as ThawLoadsSuperblock, LeavesLast, Reopens as ThawReopens}
 use Rattle.freeze_levels.specs.Freezes.{freeze_next, freeze_after}
 use Rattle.freeze_levels.specs.Holders.{word_of}
 use Rattle.freeze_levels.specs.Thaws.{thaw_next, thaw_after}
@@ -86,11 +86,8 @@ transition_spares w level (Exchanges from to) = (refl, refl, refl, refl)
 
 down_write_spares : (w : Words) (d : DownWrite) (s : DownWriteStep) → Spares w (down_write_next d s)
 down_write_spares w d (Enters transition) = transition_spares w d.level transition
-down_write_spares w d (AwaitsSections grace) = (refl, refl, refl, refl)
 down_write_spares w d (CallsBack transition) = transition_spares w d.level transition
-down_write_spares w d AwaitsPassed = (refl, refl, refl, refl)
-down_write_spares w d SetsBlock = (refl, refl, refl, refl)
-down_write_spares w d (Sums sum) = (refl, refl, refl, refl)
+down_write_spares w d other = (refl, refl, refl, refl)
 
 up_write_spares : (w : Words) (u : UpWrite) (s : UpWriteStep) → Spares w (up_write_next u s)
 up_write_spares w u ClearsBlock = (refl, refl, refl, refl)
@@ -160,15 +157,10 @@ module _ (c : Config) (w : World) (good : IsGood c w) (t : ℕ) (lt : t < c.task
   freeze_told x Locks hook e after = freeze_spares (record x { step = Locks }) hook e after (refl, refl, refl, refl) refl
   freeze_told x LoadsStage hook e after = freeze_spares (record x { step = LoadsStage }) hook e after (refl, refl, refl, refl) refl
   freeze_told x LoadsHolders hook e after = freeze_spares (record x { step = LoadsHolders }) hook e after (refl, refl, refl, refl) refl
-  freeze_told x (StoresHolder beside) hook e after = refl
   freeze_told x LoadsSuperblock hook e after = freeze_spares (record x { step = LoadsSuperblock }) hook e after (refl, refl, refl, refl) refl
-  freeze_told x CompletesReadOnly hook e after = refl
-  freeze_told x SetsWrite hook e after = refl
-  freeze_told x Unlocks hook e after = refl
   freeze_told x (Closes d) hook e after =
       freeze_spares (record x { step = Closes d }) hook e after (down_write_spares w.words d d.step) refl
   freeze_told x LocksAgain hook e after = freeze_spares (record x { step = LocksAgain }) hook e after (refl, refl, refl, refl) refl
-  freeze_told x SetsPageFault hook e after = refl
   freeze_told x (Cleans marks) hook e after = freeze_spares (record x { step = Cleans marks }) hook e after (refl, refl, refl, refl) refl
   freeze_told x SetsFs (Ok answer) e after = refl
   freeze_told x SetsFs (Err code) e after = refl
@@ -176,7 +168,7 @@ module _ (c : Config) (w : World) (good : IsGood c w) (t : ℕ) (lt : t < c.task
   freeze_told x SetsComplete (Err code) e after = refl
   freeze_told x (Reopens u code) hook e after =
       freeze_spares (record x { step = Reopens u code }) hook e after (up_write_spares w.words u u.step) refl
-  freeze_told x (Releases answer) hook e after = refl
+  freeze_told x other hook e after = refl
 
   -- and of a thaw: who leaves others stores that these hold a freeze
   thaw_told : (x : Thaw) (s : ThawStep) (hook : HookAnswer) → (w.views t).phase ≡ Some (Thaws (record x { step = s })) →
@@ -190,14 +182,11 @@ module _ (c : Config) (w : World) (good : IsGood c w) (t : ℕ) (lt : t < c.task
       ap bit (sym (not_nobody (word_of others) (held_word others fits.2.1)))
   thaw_told x ThawLoadsSuperblock hook e after =
       thaw_spares (record x { step = ThawLoadsSuperblock }) hook e after (refl, refl, refl, refl) refl
-  thaw_told x LeavesReadOnly hook e after = refl
-  thaw_told x UnfreezesReadOnly hook e after = refl
   thaw_told x LeavesLast (Ok answer) e after = refl
   thaw_told x LeavesLast (Err code) e after = refl
-  thaw_told x SetsUnfrozen hook e after = refl
   thaw_told x (ThawReopens u) hook e after =
       thaw_spares (record x { step = ThawReopens u }) hook e after (up_write_spares w.words u u.step) refl
-  thaw_told x (ThawReleases answer) hook e after = refl
+  thaw_told x other hook e after = refl
 
   -- so of each phase
   phase_told : (phase : Phase) (hook : HookAnswer) → (w.views t).phase ≡ Some phase → IsGood c (after_step w t phase hook) →
@@ -223,15 +212,7 @@ module _ (c : Config) (w : World) (good : IsGood c w) (t : ℕ) (lt : t < c.task
 -- nothing has happened in an operation that begins
 none_yet : (phase : Phase) → is_between (Some phase) [] ≡ false
 none_yet (Mounts phase) = refl
-none_yet (Remounts x) = refl
-none_yet (DownReads r) = refl
-none_yet (UpReads u) = refl
-none_yet (Callbacks b) = refl
-none_yet (Writes x) = refl
-none_yet (Freezes x) = refl
-none_yet (Thaws x) = refl
-none_yet (Trees phase) = refl
-none_yet (Closes phase) = refl
+none_yet other = refl
 
 begin_told : (c : Config) (w : World) (t : ℕ) (op : Op) (refused : Option GateError) → AllTold w → AllTold (begin_of c w t op refused)
 begin_told c w t op (Some refused) told x = told x

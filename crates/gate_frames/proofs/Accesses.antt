@@ -45,14 +45,11 @@ wide_after held (Some a) = refl
 
 -- and that of the open files'
 pub deep_after : (held : Accesses) (a : Option Action) → length (accesses_after held a).files ≡ length held.files
-deep_after held None = refl
 deep_after held (Some (Grant (Mount m))) = refl
-deep_after held (Some (Grant (Level i))) = refl
 deep_after held (Some (Return (Mount m))) = refl
-deep_after held (Some (Return (Level i))) = refl
 deep_after held (Some (Open n)) = length-set held.files n true
 deep_after held (Some (Close n)) = length-set held.files n false
-deep_after held (Some a) = refl
+deep_after held other = refl
 
 -- what an action leaves of each open file agrees, where what it finds does
 module _ (held : Accesses) (deep : length held.files ≡ 64) where
@@ -66,14 +63,11 @@ module _ (held : Accesses) (deep : length held.files ≡ 64) where
 
   pub files_same : (seen : ℕ → Bool) (a : Option Action) → ActionFits (mounts_held held) a →
       ((i : ℕ) → files_held held i ≡ seen i) → (i : ℕ) → files_held (accesses_after held a) i ≡ opens_by a seen i
-  files_same seen None f h i = h i
   files_same seen (Some (Grant (Mount m))) f h i = h i
-  files_same seen (Some (Grant (Level j))) f h i = h i
   files_same seen (Some (Return (Mount m))) f h i = h i
-  files_same seen (Some (Return (Level j))) f h i = h i
   files_same seen (Some (Open n)) f h i = file_set seen n true f i (h i)
   files_same seen (Some (Close n)) f h i = file_set seen n false f i (h i)
-  files_same seen (Some a) f h i = h i
+  files_same seen other f h i = h i
 
 module _ (held : Accesses) (long : length held.mounts ≡ 8) (wide : length held.levels ≡ 4) where
   -- what an action leaves at each mount agrees, where what it finds does

@@ -23,7 +23,7 @@ use Rattle.tree_laws.proofs.Each.{each_event}
 use Rattle.tree_laws.proofs.Steps.{leaves_word, as_event, stays_at}
 use Rattle.file_closes.specs.declared.phases.Closing.{Closing}
 use Rattle.file_closes.specs.declared.phases.ClosePhase.{ClosePhase}
-use Rattle.file_closes.specs.declared.phases.ClosePhase.TheVariants.{LoadsFile as CloseLoadsFile, LowersCount, Enters as EntersLevel, FreesNode as ClosesNode, RefundsBlocks as CloseRefundsBlocks, Uncounts as CloseUncounts, Leaves as CloseLeaves}
+use Rattle.file_closes.specs.declared.phases.ClosePhase.TheVariants.{LoadsFile as CloseLoadsFile, LowersCount, Enters as EntersLevel, FreesNode as ClosesNode, RefundsBlocks as CloseRefundsBlocks, Uncounts as CloseUncounts}
 use Rattle.file_closes.specs.Phases.{next, after, enters, closed_from}
 use Rattle.gate_world.specs.declared.config.Config.{Config}
 use Rattle.gate_world.specs.declared.work.Phase.{Phase}
@@ -41,21 +41,21 @@ use Rattle.gate_frames.proofs.TreeHolders.{level_thawed}
 use Rattle.std.specs.Prelude.{List}
 use Rattle.gated_tree.specs.declared.changes.Create.{Create}
 use Rattle.gated_tree.specs.declared.changes.CreateStep.{CreateStep}
-use Rattle.gated_tree.specs.declared.changes.CreateStep.TheVariants.{LoadsDirectory, LoadsNode, ChargesChild, TakesNode, RefundsChild}
+use Rattle.gated_tree.specs.declared.changes.CreateStep.TheVariants.{LoadsDirectory}
 use Rattle.gated_tree.specs.declared.changes.Remove.{Remove}
 use Rattle.gated_tree.specs.declared.changes.RemoveStep.{RemoveStep}
-use Rattle.gated_tree.specs.declared.changes.RemoveStep.TheVariants.{LoadsFile as LoadsFileToRemove, FreesNode, CountsRemoved, MarksRemoved, RefundsRemoved, RefundsBlocks as RefundsItsBlocks, RefundsChild as RefundsItsChild}
+use Rattle.gated_tree.specs.declared.changes.RemoveStep.TheVariants.{LoadsFile as LoadsFileToRemove}
 use Rattle.gated_tree.specs.declared.changes.MoveTo.{MoveTo}
 use Rattle.gated_tree.specs.declared.changes.MoveStep.{MoveStep}
-use Rattle.gated_tree.specs.declared.changes.MoveStep.TheVariants.{LoadsFile as LoadsFileToMove, LoadsDirectory as LoadsTarget, ChargesChild as ChargesTarget, MovesFile, RefundsChild as RefundsOne}
+use Rattle.gated_tree.specs.declared.changes.MoveStep.TheVariants.{LoadsFile as LoadsFileToMove}
 use Rattle.gated_tree.specs.declared.growth.Grow.{Grow}
 use Rattle.gated_tree.specs.declared.growth.GrowStep.{GrowStep}
-use Rattle.gated_tree.specs.declared.growth.GrowStep.TheVariants.{LoadsFile as LoadsFileToGrow, LoadsUsed, ChargesBlocks, GrowsFile, RefundsBlocks}
+use Rattle.gated_tree.specs.declared.growth.GrowStep.TheVariants.{LoadsFile as LoadsFileToGrow}
 use Rattle.gated_tree.specs.declared.marks.Mark.{Mark}
 use Rattle.gated_tree.specs.declared.marks.MarkStep.{MarkStep}
 use Rattle.gated_tree.specs.declared.marks.MarkStep.TheVariants.{LoadsFile as LoadsFileToMark, MarksFile}
 use Rattle.gated_tree.specs.declared.snapshots.SnapshotStep.{SnapshotStep}
-use Rattle.gated_tree.specs.declared.snapshots.SnapshotStep.TheVariants.{Locks, LoadsStage, LoadsUsed as LoadsUsedWord, LoadsNode as LoadsNodeWord, LoadsKids, Releases}
+use Rattle.gated_tree.specs.declared.snapshots.SnapshotStep.TheVariants.{Locks}
 use Rattle.gated_tree.specs.declared.phases.TreePhase.{TreePhase}
 use Rattle.gated_tree.specs.declared.phases.TreePhase.TheVariants.{OpenFile as OpensOne, Create as Creates, Remove as Removes, Grow as Grows, MoveTo as Moves, Mark as Marks, Snapshot as Snapshots, ClearMarks as Clears}
 use Rattle.mount_counts.specs.declared.remounts.RemountStep.{RemountStep}
@@ -143,33 +143,19 @@ module _ (n : ℕ) where
 
   create_frees : (x : Create) (s : CreateStep) → frees n (create_role x s) ≡ 0
   create_frees x LoadsDirectory = refl
-  create_frees x (LoadsNode n) = refl
-  create_frees x (ChargesChild n) = refl
-  create_frees x (TakesNode n) = refl
-  create_frees x RefundsChild = refl
+  create_frees x other = refl
 
   remove_frees : (x : Remove) (s : RemoveStep) → frees n (remove_role x s) ≡ 0
   remove_frees x LoadsFileToRemove = refl
-  remove_frees x (FreesNode file) = refl
-  remove_frees x (CountsRemoved file) = refl
-  remove_frees x (MarksRemoved file) = refl
-  remove_frees x RefundsRemoved = refl
-  remove_frees x (RefundsItsBlocks file) = refl
-  remove_frees x (RefundsItsChild file) = refl
+  remove_frees x other = refl
 
   grow_frees : (x : Grow) (s : GrowStep) → frees n (grow_role x s) ≡ 0
   grow_frees x LoadsFileToGrow = refl
-  grow_frees x (LoadsUsed file) = refl
-  grow_frees x (ChargesBlocks file used) = refl
-  grow_frees x (GrowsFile file) = refl
-  grow_frees x RefundsBlocks = refl
+  grow_frees x other = refl
 
   move_frees : (x : MoveTo) (s : MoveStep) → frees n (move_role x s) ≡ 0
   move_frees x LoadsFileToMove = refl
-  move_frees x (LoadsTarget file) = refl
-  move_frees x (ChargesTarget file) = refl
-  move_frees x (MovesFile file) = refl
-  move_frees x (RefundsOne dir answer) = refl
+  move_frees x other = refl
 
   mark_frees : (x : Mark) (s : MarkStep) → frees n (mark_role x s) ≡ 0
   mark_frees x LoadsFileToMark = refl
@@ -213,11 +199,7 @@ module _ (n : ℕ) where
   close_file_is : (x : ClosePhase) → frees n (close_tree_role x) ≡ 1 → file_of (Some (Closes x)) ≡ Some (n, true)
   close_file_is (EntersLevel f node r) e = ap (λ m. Some (m, true)) (same_is f node e)
   close_file_is (ClosesNode f p node) e = ap (λ m. Some (m, true)) (same_is f node e)
-  close_file_is (CloseLoadsFile x) e = absurd (omega (arith, e))
-  close_file_is (LowersCount x node) e = absurd (omega (arith, e))
-  close_file_is (CloseRefundsBlocks p blocks) e = absurd (omega (arith, e))
-  close_file_is (CloseUncounts p) e = absurd (omega (arith, e))
-  close_file_is (CloseLeaves p) e = absurd (omega (arith, e))
+  close_file_is other e = absurd (omega (arith, e))
 
   freer_file : (trace : List Traced) (p : Option Phase) → frees n (tree_role_of trace p) ≡ 1 → file_of p ≡ Some (n, true)
   freer_file trace (Some (Remounts x)) e = absurd (omega (arith, e, remount_frees x.nodes x.step))

@@ -1,6 +1,6 @@
 -- Traces of a create.
 use Rattle.std.proofs.Common.{◌≡◌, ℕ, ◌+◌, ◌<◌, ◌≤◌, Bool, true, false, refl, sym, subst, inl, inr, arith}
-use Rattle.std.specs.Prelude.{◌==◌, Option, Some, None, Result, Ok, Err, List, [], ◌∷◌, length, is_some}
+use Rattle.std.specs.Prelude.{◌==◌, Option, Some, None, Result, Ok, List, [], ◌∷◌, length, is_some}
 use Rattle.std.proofs.lemmas.Bool.{cases_Bool, cases_lt, lt-ltb, le-ltb}
 use Rattle.access_model.specs.declared.actions.Action.{Action}
 use Rattle.access_model.specs.declared.errors.GateError.{GateError}
@@ -116,8 +116,7 @@ module _ (c : Config) (d : ℕ) (kind : Kind) where
   create_actions : (s : CreateStep) (trace : List Traced) (answer : Result Reply GateError) →
       create_adds (create_of s) answer ≡ actions_of (CreateOp d kind) answer trace
   create_actions s trace (Ok (NodeReply n)) = refl
-  create_actions s trace (Ok reply) = refl
-  create_actions s trace (Err refusal) = refl
+  create_actions s trace other = refl
 
   -- a step comes after at most that many events
   create_within : (s : CreateStep) (trace : List Traced) → IsThere c trace s → length trace ≤ events_before c s →

@@ -28,7 +28,7 @@ use Rattle.percpu_rwsem.specs.declared.writers.UpWriteStep.TheVariants.{ClearsBl
 use Rattle.percpu_rwsem.specs.declared.grace.GraceNext.{GraceNext}
 use Rattle.percpu_rwsem.specs.declared.grace.GraceNext.TheVariants.{More as MoreSections, Wait as WaitsFor, Ended}
 use Rattle.percpu_rwsem.specs.declared.sync_word.GpState.{GpState}
-use Rattle.percpu_rwsem.specs.declared.sync_word.GpState.TheVariants.{Idle, Enter, Passed, Exit, Replay}
+use Rattle.percpu_rwsem.specs.declared.sync_word.GpState.TheVariants.{Idle, Passed, Exit, Replay}
 use Rattle.percpu_rwsem.specs.declared.sync_word.SyncWord.{SyncWord}
 use Rattle.percpu_rwsem.specs.declared.transitions.Transition.TheVariants.{Loads, Exchanges}
 use Rattle.percpu_rwsem.specs.declared.transitions.TransitionNext.{TransitionNext}
@@ -44,7 +44,7 @@ use Rattle.freeze_levels.specs.declared.freezes.FreezeStep.{FreezeStep}
 use Rattle.freeze_levels.specs.declared.freezes.FreezeStep.TheVariants.{Closes, LocksAgain, SetsPageFault, Cleans, SetsFs, SetsComplete, Reopens as FreezeReopens}
 use Rattle.freeze_levels.specs.declared.thaws.ThawStep.{ThawStep}
 use Rattle.freeze_levels.specs.declared.thaws.ThawStep.TheVariants.{Reopens as ThawReopens}
-use Rattle.write_access.specs.declared.phases.WritePhase.TheVariants.{Takes, Wants as WriteWants, GivesBack, Drops as WriteDrops, Ends}
+use Rattle.write_access.specs.declared.phases.WritePhase.TheVariants.{Takes}
 use Rattle.gate_counts.specs.Levels.{LevelRole, LevelView, LevelHolds, Out as CountsNot, Summing, Passed as CountsPassed}
 use Rattle.gate_counts.proofs.LevelLaws.{swaps, sums_on, passes, sums_anew, none_passed}
 use Rattle.stage_laws.specs.Roles.{has_position}
@@ -62,8 +62,8 @@ use Rattle.gate_world.specs.Rules.{Stages, IsGood, Holds, AtLevel}
 use Rattle.gate_world.specs.Stages.{stage_role_of, freeze_stage_role, thaw_stage_role, reopening_role}
 use Rattle.gate_world.specs.Levels.{sync_role_if, freeze_stand, thaw_stand, Stand, stand_count, stand_sync, closed_to, down_count_role, sync_role_of, at_level, is_frozen_whole, level_role_of}
 use Rattle.gate_world.specs.declared.work.Phase.{Phase}
-use Rattle.gate_world.specs.declared.work.Phase.TheVariants.{Mounts, Remounts, DownReads, UpReads, Callbacks, Writes, Freezes, Thaws, Trees, Closes}
-use Rattle.file_closes.specs.declared.phases.ClosePhase.TheVariants.{LoadsFile, LowersCount, Enters as EntersLevel, FreesNode, RefundsBlocks, Uncounts, Leaves}
+use Rattle.gate_world.specs.declared.work.Phase.TheVariants.{DownReads, Callbacks, Writes, Freezes, Thaws, Closes}
+use Rattle.file_closes.specs.declared.phases.ClosePhase.TheVariants.{Enters as EntersLevel}
 use Rattle.gate_world.specs.declared.config.Config.{Config}
 use Rattle.gate_world.specs.declared.views.View.{View}
 use Rattle.gate_world.specs.Configs.{IsWithin}
@@ -79,26 +79,18 @@ use Rattle.gate_frames.proofs.StandRoles.{count_at, sync_at, SayBeside, beside_e
 -- each event of a down-write is one of its level, and changes no section word
 pub down_write_event : (d : DownWrite) (s : DownWriteStep) → IsEventAt d.level (down_write_next d s).0 (down_write_next d s).1
 down_write_event d (Enters Loads) = refl
-down_write_event d (Enters (Exchanges from to)) = refl
 down_write_event d (AwaitsSections g) = tt
 down_write_event d (CallsBack Loads) = refl
-down_write_event d (CallsBack (Exchanges from to)) = refl
-down_write_event d AwaitsPassed = refl
-down_write_event d SetsBlock = refl
-down_write_event d (Sums sum) = refl
+down_write_event d other = refl
 
 -- it leaves the counts
 pub down_write_counts : (w : Words) (d : DownWrite) (s : DownWriteStep) →
     (put w (down_write_next d s).0 (left (down_write_next d s).1 (read w (down_write_next d s).0))).level ≡ w.level
 down_write_counts w d (Enters Loads) = refl
-down_write_counts w d (Enters (Exchanges from to)) = refl
-down_write_counts w d (AwaitsSections g) = refl
 down_write_counts w d (CallsBack Loads) = refl
-down_write_counts w d (CallsBack (Exchanges from to)) = refl
-down_write_counts w d AwaitsPassed = refl
-down_write_counts w d SetsBlock = refl
 down_write_counts w d (Sums sum) =
     ap (update w.level d.level) (update_same (w.level d.level) sum.words) ∙ update_same w.level d.level
+down_write_counts w d other = refl
 
 -- what comes after an event is at this level
 abbrev AtTheLevel : ℕ → Next DownWrite → Type 0
@@ -107,8 +99,7 @@ AtTheLevel level n = HoldsOfNext (λ (x : DownWrite). x.level ≡ level) n
 -- a down-write stays at its level
 grace_level : (d : DownWrite) (n : GraceNext) → AtTheLevel d.level (sections_awaited d n)
 grace_level d (MoreSections g) = refl
-grace_level d (WaitsFor g) = refl
-grace_level d Ended = refl
+grace_level d other = refl
 
 -- one that loads for GP_PASSED does
 state_level : (d : DownWrite) (b : Bool) →
@@ -167,10 +158,7 @@ counts_as d s = count_at d.level (closing_stand (at_down_write d s)) refl
 -- before its swap it has no part in the counts
 entered_counts : (tasks : ℕ) (s : GpState) → down_count_role (entered_from tasks s) ≡ CountsNot
 entered_counts tasks Idle = refl
-entered_counts tasks Enter = refl
-entered_counts tasks Passed = refl
-entered_counts tasks Exit = refl
-entered_counts tasks Replay = refl
+entered_counts tasks other = refl
 
 -- nor has it while it enters
 enter_counts : (tasks : ℕ) (n : TransitionNext) → down_count_role (enter_step tasks n) ≡ CountsNot
@@ -181,8 +169,7 @@ enter_counts tasks (Made state) = entered_counts tasks state
 -- or ends its grace period
 call_counts : (n : TransitionNext) → down_count_role (callback_step n) ≡ CountsNot
 call_counts (More x) = refl
-call_counts Undefined = refl
-call_counts (Made state) = refl
+call_counts other = refl
 
 -- or is in it
 grace_counts : (d : DownWrite) (n : GraceNext) →
@@ -343,11 +330,7 @@ module _ (c : Config) (lim : IsWithin c) (w : World) (good : IsGood c w) (t : �
         (down_write_after d s (found_closing s)).1 ≡ Some (Pass j) →
         total c.tasks (λ x. if holds_level (w.views x) d.level then 1 else 0) ≡ 0
     passes_nobody (Sums sum) fits was j e = summed_nobody sum fits was j e
-    passes_nobody (Enters x) fits was j e = absurd (none-some (Pass j) e)
-    passes_nobody (AwaitsSections g) fits was j e = absurd (none-some (Pass j) e)
-    passes_nobody (CallsBack x) fits was j e = absurd (none-some (Pass j) e)
-    passes_nobody AwaitsPassed fits was j e = absurd (none-some (Pass j) e)
-    passes_nobody SetsBlock fits was j e = absurd (none-some (Pass j) e)
+    passes_nobody other fits was j e = absurd (none-some (Pass j) e)
 
     -- a load for GP_PASSED finds it
     pub awaits_passed_passes : 1 ≤ d.level → d.level ≤ 3 → Stands (w.views t).phase (Some (closing_stand (at_down_write d AwaitsPassed))) →
@@ -539,27 +522,13 @@ thaw_enters i s = omega arith
 
 -- so whoever has entered a level has a position
 pub entered_position : (i : ℕ) (p : Option Phase) → entered (sync_role_of i p) ≤ has_position (stage_role_of p)
-entered_position i None = omega arith
-entered_position i (Some (Mounts phase)) = omega arith
-entered_position i (Some (Remounts x)) = omega arith
 entered_position i (Some (DownReads r)) = omega (arith, read_enters (i == r.level) r.step)
-entered_position i (Some (UpReads u)) = omega arith
 entered_position i (Some (Callbacks b)) = omega (arith, callback_enters (i == b.level) b.step)
 entered_position i (Some (Writes (Takes m r))) = omega (arith, read_enters (i == r.level) r.step)
-entered_position i (Some (Writes (WriteWants x))) = omega arith
-entered_position i (Some (Writes (GivesBack m p refusal))) = omega arith
-entered_position i (Some (Writes (WriteDrops m p))) = omega arith
-entered_position i (Some (Writes (Ends p))) = omega arith
 entered_position i (Some (Freezes x)) = freeze_enters i x.nodes x.step
 entered_position i (Some (Thaws x)) = thaw_enters i x.step
-entered_position i (Some (Trees x)) = omega arith
-entered_position i (Some (Closes (LoadsFile x))) = omega arith
-entered_position i (Some (Closes (LowersCount x node))) = omega arith
 entered_position i (Some (Closes (EntersLevel f node r))) = omega (arith, read_enters (i == r.level) r.step)
-entered_position i (Some (Closes (FreesNode f p node))) = omega arith
-entered_position i (Some (Closes (RefundsBlocks p blocks))) = omega arith
-entered_position i (Some (Closes (Uncounts p))) = omega arith
-entered_position i (Some (Closes (Leaves p))) = omega arith
+entered_position i other = omega arith
 
 -- where a task with a position has not entered a level, nobody has, and the file system isn't frozen as a whole
 pub entered_by_nobody : (c : Config) (w : World) → IsGood c w → (t : ℕ) → t < c.tasks →

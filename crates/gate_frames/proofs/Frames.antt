@@ -6,7 +6,7 @@ use Rattle.std.proofs.lemmas.Bool.Decides.{eqb_tells}
 use Rattle.finite_sums.specs.Sums.{update, total}
 use Rattle.finite_sums.proofs.Totals.{each_updated, total_updated, update_map, update_same}
 use Rattle.cpu_words.specs.declared.names.WordName.{WordName}
-use Rattle.cpu_words.specs.declared.names.WordName.TheVariants.{Umount, Stage, Holders, SbFlags, Remount, MountFlags, MountCount, Block, Sync, LevelCount, Section, Used, Node, Kids, Removed}
+use Rattle.cpu_words.specs.declared.names.WordName.TheVariants.{Umount}
 use Rattle.cpu_words.specs.declared.events.Touch.TheVariants.{Load}
 use Rattle.cpu_words.specs.Words.{Words}
 use Rattle.mount_counts.specs.Roles.{Role, Out, MountView, ro_bit, MountHolds}
@@ -36,37 +36,11 @@ use Rattle.gate_world.specs.Levels.{inside, at_level, level_role_of, is_frozen_w
 -- a load counts nowhere
 pub added_load : (name : WordName) (added : ℕ → ℕ → ℕ) → added_after name Load added ≡ added
 added_load Umount added = refl
-added_load Stage added = refl
-added_load Holders added = refl
-added_load SbFlags added = refl
-added_load Remount added = refl
-added_load Removed added = refl
-added_load (MountFlags m) added = refl
-added_load (MountCount m p) added = refl
-added_load (Block i) added = refl
-added_load (Sync i) added = refl
-added_load (LevelCount i p) added = refl
-added_load (Section u) added = refl
-added_load Used added = refl
-added_load (Node n) added = refl
-added_load (Kids n) added = refl
+added_load other added = refl
 
 pub taken_load : (name : WordName) (taken : ℕ → ℕ → ℕ) → taken_after name Load taken ≡ taken
 taken_load Umount taken = refl
-taken_load Stage taken = refl
-taken_load Holders taken = refl
-taken_load SbFlags taken = refl
-taken_load Remount taken = refl
-taken_load Removed taken = refl
-taken_load (MountFlags m) taken = refl
-taken_load (MountCount m p) taken = refl
-taken_load (Block i) taken = refl
-taken_load (Sync i) taken = refl
-taken_load (LevelCount i p) taken = refl
-taken_load (Section u) taken = refl
-taken_load Used taken = refl
-taken_load (Node n) taken = refl
-taken_load (Kids n) taken = refl
+taken_load other taken = refl
 
 pub role_on : (m : ℕ) (r : Role) → role_if (m == m) r ≡ r
 role_on m r = rw (eq-eqb m m refl)

@@ -120,10 +120,7 @@ module _ (c : Config) (file blocks : ℕ) where
   -- a step comes after at most that many events
   grow_within : (s : GrowStep) (trace : List Traced) → length trace ≤ events_before s → length trace ≤ 5
   grow_within LoadsFile trace h = omega (arith, h)
-  grow_within (LoadsUsed file) trace h = omega (arith, h)
-  grow_within (ChargesBlocks file used) trace h = omega (arith, h)
-  grow_within (GrowsFile file) trace h = omega (arith, h)
-  grow_within RefundsBlocks trace h = omega (arith, h)
+  grow_within other trace h = omega (arith, h)
 
   -- and keeps it along
   grow_kept : (t : ℕ) → KeptWell GrowAt c t (GrowOp file blocks)

@@ -1,6 +1,6 @@
 -- Who holds a freeze, as the laws of the holders have it: what holds of it in a world, and what an event of a task leaves of it.
 use Rattle.std.proofs.Common.{◌≡◌, ℕ, ◌<◌, ◌≤◌, sym, ap, ◌∙◌, subst, inl, inr, arith}
-use Rattle.std.specs.Prelude.{Option, Some, None}
+use Rattle.std.specs.Prelude.{Option, Some}
 use Rattle.std.proofs.lemmas.Bool.Decides.{eqb_tells}
 use Rattle.std.proofs.lemmas.Bool.{cases_Bool}
 use Rattle.finite_sums.specs.Sums.{update, total}
@@ -19,7 +19,7 @@ use Rattle.holder_laws.proofs.HolderLaws.{events_keep}
 use Rattle.gate_world.specs.declared.config.Config.{Config}
 use Rattle.gate_world.specs.declared.views.View.{View}
 use Rattle.gate_world.specs.declared.work.Phase.{Phase}
-use Rattle.gate_world.specs.declared.work.Phase.TheVariants.{Mounts, Remounts, DownReads, UpReads, Callbacks, Writes, Freezes, Thaws, Trees, Closes}
+use Rattle.gate_world.specs.declared.work.Phase.TheVariants.{Freezes, Thaws}
 use Rattle.gate_world.specs.Holders.{freeze_holder_role, thaw_holder_role, holder_role_of}
 use Rattle.gate_world.specs.Stages.{freeze_stage_role, thaw_stage_role}
 use Rattle.gate_world.specs.Rules.{owns, IsGood, Holds, Owner, Holding}
@@ -43,17 +43,9 @@ thaw_minds holder SetsUnfrozen = omega arith
 thaw_minds holder s = omega arith
 
 pub holder_owner : (p : Option Phase) → minds (holder_role_of p) ≤ owns p
-holder_owner None = omega arith
-holder_owner (Some (Mounts phase)) = omega arith
-holder_owner (Some (Remounts x)) = omega arith
-holder_owner (Some (DownReads r)) = omega arith
-holder_owner (Some (UpReads u)) = omega arith
-holder_owner (Some (Callbacks b)) = omega arith
-holder_owner (Some (Writes x)) = omega arith
 holder_owner (Some (Freezes x)) = freeze_minds x.nodes x.step
 holder_owner (Some (Thaws x)) = thaw_minds x.holder x.step
-holder_owner (Some (Trees phase)) = omega arith
-holder_owner (Some (Closes x)) = omega arith
+holder_owner other = omega arith
 
 -- the holders of a world
 abbrev pub holders_at : World → HolderMoment

@@ -15,19 +15,18 @@ use Rattle.mount_counts.specs.declared.remounts.RemountStep.{RemountStep}
 use Rattle.gate_world.specs.Work.{IgnoresAnswer, remount_hook, hook_of}
 use Rattle.std.proofs.Common.{ℕ, ◌≡◌, None, ap, true≢false, is_some, refl}
 use Rattle.mount_counts.specs.Phases.{next, after}
-use Rattle.gate_world.specs.declared.work.Phase.TheVariants.{Mounts, Remounts, DownReads, UpReads, Callbacks, Writes, Freezes, Thaws, Trees, Closes}
-use Rattle.mount_counts.specs.declared.phases.MountPhase.TheVariants.{Want as Wants, Drop as Drops, Change as Changes}
+use Rattle.gate_world.specs.declared.work.Phase.TheVariants.{Mounts, Remounts, Freezes, Thaws, Trees}
+use Rattle.mount_counts.specs.declared.phases.MountPhase.TheVariants.{Want as Wants}
 use Rattle.mount_counts.specs.Remounts.{remount_next, remount_after}
 use Rattle.access_model.specs.Replies.{map_next}
 use Rattle.mount_counts.specs.declared.remounts.RemountStep.TheVariants.{SetsWritable, SetsReadOnly}
 use Rattle.gated_tree.specs.declared.phases.TreePhase.{TreePhase}
 use Rattle.gated_tree.specs.Phases.{next as tree_next, after as tree_after}
-use Rattle.gated_tree.specs.declared.phases.TreePhase.TheVariants.{Create as Creates, Remove as Removes, Grow as Grows, MoveTo as Moves, Mark as TreeMarks, OpenFile as OpensOne, Snapshot as Snapshots, ClearMarks as TreeClears}
+use Rattle.gated_tree.specs.declared.phases.TreePhase.TheVariants.{Create as Creates}
 
 mount_ignores : (x : MountPhase) (a b : HookAnswer) (found : ℕ) → (next x a ≡ next x b) × (after x found a ≡ after x found b)
 mount_ignores (Wants x) a b found = (refl, refl)
-mount_ignores (Drops m p) a b found = (refl, refl)
-mount_ignores (Changes x) a b found = (refl, refl)
+mount_ignores other a b found = (refl, refl)
 
 remount_ignores : (x : Remount) (s : RemountStep) → remount_hook s ≡ None → (a b : HookAnswer) (found : ℕ) →
     (remount_next x s a ≡ remount_next x s b) × (remount_after x s found a ≡ remount_after x s found b)
@@ -48,13 +47,7 @@ thaw_ignores x s h a b found = (refl, refl)
 
 tree_ignores : (x : TreePhase) (a b : HookAnswer) (found : ℕ) → (tree_next x a ≡ tree_next x b) × (tree_after x found a ≡ tree_after x found b)
 tree_ignores (Creates x) a b found = (refl, refl)
-tree_ignores (Removes x) a b found = (refl, refl)
-tree_ignores (Grows x) a b found = (refl, refl)
-tree_ignores (Moves x) a b found = (refl, refl)
-tree_ignores (TreeMarks x) a b found = (refl, refl)
-tree_ignores (OpensOne x) a b found = (refl, refl)
-tree_ignores (Snapshots x) a b found = (refl, refl)
-tree_ignores (TreeClears x) a b found = (refl, refl)
+tree_ignores other a b found = (refl, refl)
 
 -- each phase
 pub ignores : (phase : Phase) → IgnoresAnswer phase (hook_of phase)
@@ -65,10 +58,6 @@ ignores (Remounts x) h a b found =
     let e : (remount_next x x.step a ≡ remount_next x x.step b) × (remount_after x x.step found a ≡ remount_after x x.step found b) =
     remount_ignores x x.step h a b found in
     (e.0, ap (λ y. (map_next Remounts y.0, y.1)) e.1)
-ignores (DownReads r) h a b found = (refl, refl)
-ignores (UpReads u) h a b found = (refl, refl)
-ignores (Callbacks x) h a b found = (refl, refl)
-ignores (Writes x) h a b found = (refl, refl)
 ignores (Freezes x) h a b found =
     let e : (freeze_next x x.step a ≡ freeze_next x x.step b) × (freeze_after x x.step found a ≡ freeze_after x x.step found b) =
     freeze_ignores x x.step h a b found in
@@ -80,4 +69,4 @@ ignores (Thaws x) h a b found =
 ignores (Trees x) h a b found =
     let e : (tree_next x a ≡ tree_next x b) × (tree_after x found a ≡ tree_after x found b) = tree_ignores x a b found in
     (e.0, ap (λ y. (map_next Trees y.0, y.1)) e.1)
-ignores (Closes x) h a b found = (refl, refl)
+ignores other h a b found = (refl, refl)

@@ -2,7 +2,7 @@
 use Rattle.stage_laws.specs.Roles.{sums}
 use Rattle.gate_frames.proofs.Stands.{freeze_slow, stand_below, thaw_slow}
 use Rattle.std.proofs.Common.{◌≡◌, ℕ, zero, suc, ◌-◌, ◌<◌, ◌≤◌, refl, sym, ap, ◌∙◌, subst, arith}
-use Rattle.std.specs.Prelude.{Option, Some, None, Bool, true, false, ◌==◌, ◌&&◌, if◌then◌else◌}
+use Rattle.std.specs.Prelude.{Option, Some, Bool, true, false, ◌==◌, ◌&&◌, if◌then◌else◌}
 use Rattle.std.proofs.lemmas.Bool.{eq-eqb, ne_eqb}
 use Rattle.finite_sums.specs.Sums.{update, total}
 use Rattle.finite_sums.proofs.Totals.{total_le, update_map, update_same, update_at, update_off}
@@ -16,8 +16,8 @@ use Rattle.percpu_rwsem.specs.declared.readers.DownReadStep.{DownReadStep}
 use Rattle.percpu_rwsem.specs.declared.readers.DownReadStep.TheVariants.{EntersSection, LoadsSync, CountsUpFast, CountsUpSlow, LoadsBlock, CountsDown, LeavesAdmitted, LeavesBlocked}
 use Rattle.percpu_rwsem.specs.declared.callbacks.CallbackStep.{CallbackStep}
 use Rattle.percpu_rwsem.specs.declared.callbacks.CallbackStep.TheVariants.{Claims, AwaitsSections, CallsBack}
-use Rattle.file_closes.specs.declared.phases.ClosePhase.TheVariants.{LoadsFile, LowersCount, Enters, FreesNode, RefundsBlocks, Uncounts, Leaves}
-use Rattle.write_access.specs.declared.phases.WritePhase.TheVariants.{Takes, Wants, GivesBack, Drops, Ends}
+use Rattle.file_closes.specs.declared.phases.ClosePhase.TheVariants.{Enters}
+use Rattle.write_access.specs.declared.phases.WritePhase.TheVariants.{Takes}
 use Rattle.level_laws.specs.Roles.{SyncRole, Out as IsApart, Fast, fast, closed}
 use Rattle.level_laws.specs.Events.{SyncLevel, SyncLevelHolds, SyncStep, TurnsSection}
 use Rattle.level_laws.specs.Operations.{down_read_role, callback_role, down_read_inside, put_at, value_at, left_by}
@@ -25,7 +25,7 @@ use Rattle.level_laws.proofs.Whole.{events_keep, fast_finds_open as level_is_ope
 use Rattle.gate_world.specs.declared.config.Config.{Config}
 use Rattle.gate_world.specs.declared.views.View.{View}
 use Rattle.gate_world.specs.declared.work.Phase.{Phase}
-use Rattle.gate_world.specs.declared.work.Phase.TheVariants.{Mounts, Remounts, DownReads, UpReads, Callbacks, Writes, Freezes, Thaws, Trees, Closes}
+use Rattle.gate_world.specs.declared.work.Phase.TheVariants.{DownReads, Callbacks, Writes, Freezes, Thaws, Closes}
 use Rattle.gate_world.specs.Worlds.{World}
 use Rattle.gate_world.specs.LevelRuns.{level_in}
 use Rattle.gate_world.specs.Levels.{sync_role_if, sync_role_of, inside, freeze_stand, thaw_stand}
@@ -54,27 +54,13 @@ callback_slow false s = refl
 
 -- whoever is on the fast path is inside a section
 pub fast_in_section : (i : ℕ) (p : Option Phase) → fast (sync_role_of i p) ≤ inside p
-fast_in_section i None = omega arith
-fast_in_section i (Some (Mounts phase)) = omega arith
-fast_in_section i (Some (Remounts x)) = omega arith
 fast_in_section i (Some (DownReads r)) = read_fast (i == r.level) r.step
-fast_in_section i (Some (UpReads u)) = omega arith
 fast_in_section i (Some (Callbacks b)) = omega (arith, callback_slow (i == b.level) b.step)
 fast_in_section i (Some (Writes (Takes m r))) = read_fast (i == r.level) r.step
-fast_in_section i (Some (Writes (Wants x))) = omega arith
-fast_in_section i (Some (Writes (GivesBack m p refusal))) = omega arith
-fast_in_section i (Some (Writes (Drops m p))) = omega arith
-fast_in_section i (Some (Writes (Ends p))) = omega arith
 fast_in_section i (Some (Freezes x)) = omega (arith, freeze_slow i x.step)
 fast_in_section i (Some (Thaws x)) = omega (arith, thaw_slow i x.step)
-fast_in_section i (Some (Trees phase)) = omega arith
-fast_in_section i (Some (Closes (LoadsFile x))) = omega arith
-fast_in_section i (Some (Closes (LowersCount x node))) = omega arith
 fast_in_section i (Some (Closes (Enters f node r))) = read_fast (i == r.level) r.step
-fast_in_section i (Some (Closes (FreesNode f p node))) = omega arith
-fast_in_section i (Some (Closes (RefundsBlocks p blocks))) = omega arith
-fast_in_section i (Some (Closes (Uncounts p))) = omega arith
-fast_in_section i (Some (Closes (Leaves p))) = omega arith
+fast_in_section i other = omega arith
 
 -- no down-read has closed a level
 read_opens : (b : Bool) (s : DownReadStep) → closed (sync_role_if b (down_read_role s)) ≡ 0
@@ -97,27 +83,13 @@ callback_opens false s = refl
 
 -- who has closed a level has closed each one below it
 pub closed_below : (i j : ℕ) (p : Option Phase) → 1 ≤ i → i ≤ j → closed (sync_role_of j p) ≤ closed (sync_role_of i p)
-closed_below i j None one le = omega arith
-closed_below i j (Some (Mounts phase)) one le = omega arith
-closed_below i j (Some (Remounts x)) one le = omega arith
 closed_below i j (Some (DownReads r)) one le = omega (arith, read_opens (j == r.level) r.step)
-closed_below i j (Some (UpReads u)) one le = omega arith
 closed_below i j (Some (Callbacks b)) one le = omega (arith, callback_opens (j == b.level) b.step)
 closed_below i j (Some (Writes (Takes m r))) one le = omega (arith, read_opens (j == r.level) r.step)
-closed_below i j (Some (Writes (Wants x))) one le = omega arith
-closed_below i j (Some (Writes (GivesBack m p refusal))) one le = omega arith
-closed_below i j (Some (Writes (Drops m p))) one le = omega arith
-closed_below i j (Some (Writes (Ends p))) one le = omega arith
 closed_below i j (Some (Freezes x)) one le = stand_below i j (freeze_stand x.step) le
 closed_below i j (Some (Thaws x)) one le = stand_below i j (thaw_stand x.step) le
-closed_below i j (Some (Trees phase)) one le = omega arith
-closed_below i j (Some (Closes (LoadsFile x))) one le = omega arith
-closed_below i j (Some (Closes (LowersCount x node))) one le = omega arith
 closed_below i j (Some (Closes (Enters f node r))) one le = omega (arith, read_opens (j == r.level) r.step)
-closed_below i j (Some (Closes (FreesNode f p node))) one le = omega arith
-closed_below i j (Some (Closes (RefundsBlocks p blocks))) one le = omega arith
-closed_below i j (Some (Closes (Uncounts p))) one le = omega arith
-closed_below i j (Some (Closes (Leaves p))) one le = omega arith
+closed_below i j other one le = omega arith
 
 -- a task's role at its own level is the one it has there
 pub sync_on : (i : ℕ) (r : SyncRole) → sync_role_if (i == i) r ≡ r

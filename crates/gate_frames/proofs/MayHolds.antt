@@ -2,23 +2,23 @@
 use Rattle.std.proofs.Common.{◌≡◌, ℕ, ◌<◌, ◌≤◌, ◌*◌, subst, ap, Bool, true, false, arith}
 use Rattle.std.specs.Prelude.{Ok, Err, Some, is_some}
 use Rattle.mount_counts.specs.declared.phases.MountPhase.TheVariants.{Want as MWants, Drop as MDrops, Change as MChanges}
-use Rattle.mount_counts.specs.declared.phases.WantStep.TheVariants.{CountsUp, LoadsHold, LoadsRemount, LoadsReadOnly, LoadsSuperblock, CountsDown}
-use Rattle.mount_counts.specs.declared.phases.ChangeStep.TheVariants.{Locks, LoadsFlags, LoadsSuperblock as LoadsSb, ClearsReadOnly, SetsHold, Sums, SetsReadOnly, ClearsHold, Releases}
-use Rattle.mount_counts.specs.declared.remounts.RemountStep.TheVariants.{Locks as RLocks, LoadsStage as RLoadsStage, LoadsSuperblock as RLoadsSuperblock, SetsWritable, LoadsRemoved as RLoadsRemoved, LoadsRemovedAgain as RLoadsRemovedAgain, LeavesHolds, LoadsFlags as RLoadsFlags, SetsHold as RSetsHold, Sums as RSums, SetsRemount, ClearsHold as RClearsHold, GivesUp, ClearsMark, SetsReadOnly as RSetsReadOnly, ClearsRemount, Releases as RReleases}
+use Rattle.mount_counts.specs.declared.phases.WantStep.TheVariants.{CountsUp}
+use Rattle.mount_counts.specs.declared.phases.ChangeStep.TheVariants.{Locks}
+use Rattle.mount_counts.specs.declared.remounts.RemountStep.TheVariants.{SetsWritable, ClearsMark, SetsReadOnly as RSetsReadOnly}
 use Rattle.percpu_rwsem.specs.declared.transitions.Transition.TheVariants.{Loads, Exchanges}
-use Rattle.percpu_rwsem.specs.declared.readers.DownReadStep.TheVariants.{EntersSection, LoadsSync, CountsUpFast, CountsUpSlow, LoadsBlock, CountsDown as DCountsDown, LeavesAdmitted, LeavesBlocked}
+use Rattle.percpu_rwsem.specs.declared.readers.DownReadStep.TheVariants.{EntersSection}
 use Rattle.percpu_rwsem.specs.declared.callbacks.CallbackStep.TheVariants.{Claims, AwaitsSections as CAwaitsSections, CallsBack as CCallsBack}
-use Rattle.percpu_rwsem.specs.declared.writers.DownWriteStep.TheVariants.{Enters, AwaitsSections as WAwaitsSections, CallsBack as WCallsBack, AwaitsPassed, SetsBlock, Sums as WSums}
+use Rattle.percpu_rwsem.specs.declared.writers.DownWriteStep.TheVariants.{Enters, CallsBack as WCallsBack}
 use Rattle.percpu_rwsem.specs.declared.writers.UpWriteStep.TheVariants.{ClearsBlock, Exits}
-use Rattle.write_access.specs.declared.phases.WritePhase.TheVariants.{Takes, Wants as WWants, GivesBack, Drops as WDrops, Ends}
-use Rattle.freeze_levels.specs.declared.freezes.FreezeStep.TheVariants.{Locks as FLocks, LoadsStage as FLoadsStage, LoadsHolders as FLoadsHolders, Holds, LoadsSuperblock as FLoadsSuperblock, CompletesReadOnly, SetsWrite, Unlocks, Closes, LocksAgain, SetsPageFault, Cleans, SetsFs, SetsComplete, Reopens as FReopens, Releases as FReleases}
-use Rattle.freeze_levels.specs.declared.thaws.ThawStep.TheVariants.{Locks as TLocks, LoadsStage as TLoadsStage, LoadsHolders as TLoadsHolders, Leaves, LoadsSuperblock as TLoadsSuperblock, LeavesReadOnly, UnfreezesReadOnly, LeavesLast, SetsUnfrozen, Reopens as TReopens, Releases as TReleases}
+use Rattle.write_access.specs.declared.phases.WritePhase.TheVariants.{Takes, Wants as WWants}
+use Rattle.freeze_levels.specs.declared.freezes.FreezeStep.TheVariants.{Closes, Cleans, SetsFs, SetsComplete, Reopens as FReopens}
+use Rattle.freeze_levels.specs.declared.thaws.ThawStep.TheVariants.{LeavesLast, Reopens as TReopens}
 use Rattle.gated_tree.specs.declared.changes.CreateStep.TheVariants.{LoadsDirectory, LoadsNode, ChargesChild, TakesNode, RefundsChild}
-use Rattle.gated_tree.specs.declared.changes.RemoveStep.TheVariants.{LoadsFile as LoadsFileToRemove, FreesNode, CountsRemoved, MarksRemoved, RefundsRemoved, RefundsBlocks as RefundsItsBlocks, RefundsChild as RefundsItsChild}
-use Rattle.gated_tree.specs.declared.growth.GrowStep.TheVariants.{LoadsFile as LoadsFileToGrow, LoadsUsed, ChargesBlocks, GrowsFile, RefundsBlocks}
+use Rattle.gated_tree.specs.declared.changes.RemoveStep.TheVariants.{LoadsFile as LoadsFileToRemove, FreesNode, MarksRemoved}
+use Rattle.gated_tree.specs.declared.growth.GrowStep.TheVariants.{LoadsFile as LoadsFileToGrow, GrowsFile}
 use Rattle.gated_tree.specs.declared.changes.MoveStep.TheVariants.{LoadsFile as LoadsFileToMove, LoadsDirectory as LoadsTarget, ChargesChild as ChargesTarget, MovesFile, RefundsChild as RefundsOne}
 use Rattle.gated_tree.specs.declared.marks.MarkStep.TheVariants.{LoadsFile as LoadsFileToMark, MarksFile}
-use Rattle.gated_tree.specs.declared.snapshots.SnapshotStep.TheVariants.{Locks as SLocks, LoadsStage as SLoadsStage, LoadsUsed as SLoadsUsed, LoadsNode as SLoadsNode, LoadsKids as SLoadsKids, Releases as SReleases}
+use Rattle.gated_tree.specs.declared.snapshots.SnapshotStep.TheVariants.{LoadsNode as SLoadsNode}
 use Rattle.gated_tree.specs.declared.phases.TreePhase.TheVariants.{Create as Creates, Remove as Removes, Grow as Grows, MoveTo as Moves, Mark as TreeMarks, OpenFile as OpensOne, Snapshot as Snapshots, ClearMarks as TreeClears}
 use Rattle.gate_world.specs.declared.work.Phase.TheVariants.{Mounts, Remounts, DownReads, UpReads, Callbacks, Writes, Freezes, Thaws, Trees, Closes}
 use Rattle.gated_tree.specs.Phases.{next as tree_next, remove_next, grow_next, move_next, mark_next, create_next, snapshot_next, open_next}
@@ -49,7 +49,7 @@ use Rattle.gated_tree.specs.declared.snapshots.Snapshot.{Snapshot}
 use Rattle.gated_tree.specs.declared.phases.TreePhase.{TreePhase}
 use Rattle.gate_world.specs.declared.work.Phase.{Phase}
 use Rattle.file_closes.specs.declared.phases.ClosePhase.{ClosePhase}
-use Rattle.file_closes.specs.declared.phases.ClosePhase.TheVariants.{LoadsFile as CloseLoadsFile, LowersCount, Enters as EntersLevel, FreesNode as ClosesNode, RefundsBlocks as CloseRefundsBlocks, Uncounts as CloseUncounts, Leaves as CloseLeaves}
+use Rattle.file_closes.specs.declared.phases.ClosePhase.TheVariants.{LoadsFile as CloseLoadsFile, LowersCount, Enters as EntersLevel, FreesNode as ClosesNode}
 use Rattle.file_closes.specs.Phases.{next as close_next}
 use Rattle.gated_tree.specs.declared.opens.OpenFile.{OpenFile}
 use Rattle.gated_tree.specs.declared.opens.OpenStep.{OpenStep}
@@ -102,43 +102,19 @@ IsOfTree c word = Unit {0}
 module _ (c : Config) where
   want_word : (x : Want) (s : WantStep) → IsOfTree c (want_next x s).0
   want_word x CountsUp = tt
-  want_word x LoadsHold = tt
-  want_word x LoadsRemount = tt
-  want_word x LoadsReadOnly = tt
-  want_word x LoadsSuperblock = tt
-  want_word x (CountsDown refusal) = tt
+  want_word x other = tt
 
   change_word : (x : Change) (s : ChangeStep) → IsOfTree c (change_next x s).0
   change_word x Locks = tt
-  change_word x LoadsFlags = tt
-  change_word x LoadsSb = tt
-  change_word x ClearsReadOnly = tt
-  change_word x SetsHold = tt
-  change_word x (Sums sum) = tt
-  change_word x SetsReadOnly = tt
-  change_word x (ClearsHold answer) = tt
-  change_word x (Releases answer) = tt
+  change_word x other = tt
 
   remount_word : (x : Remount) (s : RemountStep) (hook : HookAnswer) → RemountFits c s → IsOfTree c (remount_next x s hook).0
-  remount_word x RLocks hook fits = tt
-  remount_word x RLoadsStage hook fits = tt
-  remount_word x RLoadsSuperblock hook fits = tt
   remount_word x SetsWritable (Ok answer) fits = tt
   remount_word x SetsWritable (Err code) fits = tt
-  remount_word x RLoadsRemoved hook fits = tt
-  remount_word x (RLoadsRemovedAgain held) hook fits = tt
-  remount_word x (LeavesHolds held) hook fits = tt
-  remount_word x (RLoadsFlags m held) hook fits = tt
-  remount_word x (RSetsHold m held) hook fits = tt
-  remount_word x (RSums m held sum) hook fits = tt
-  remount_word x (SetsRemount held) hook fits = tt
-  remount_word x (RClearsHold held) hook fits = tt
-  remount_word x (GivesUp m held) hook fits = tt
   remount_word x (ClearsMark n) hook fits = fits.1
   remount_word x RSetsReadOnly (Ok answer) fits = tt
   remount_word x RSetsReadOnly (Err code) fits = tt
-  remount_word x ClearsRemount hook fits = tt
-  remount_word x (RReleases answer) hook fits = tt
+  remount_word x other hook fits = tt
 
   transition_word : (level : ℕ) (x : Transition) → IsOfTree c (transition_next level x).0
   transition_word level Loads = tt
@@ -146,13 +122,7 @@ module _ (c : Config) where
 
   read_word : (x : DownRead) (s : DownReadStep) → IsOfTree c (down_read_next x s).0
   read_word x EntersSection = tt
-  read_word x LoadsSync = tt
-  read_word x CountsUpFast = tt
-  read_word x CountsUpSlow = tt
-  read_word x LoadsBlock = tt
-  read_word x DCountsDown = tt
-  read_word x LeavesAdmitted = tt
-  read_word x LeavesBlocked = tt
+  read_word x other = tt
 
   callback_word : (x : Callback) (s : CallbackStep) → IsOfTree c (callback_next x s).0
   callback_word x (Claims transition) = transition_word x.level transition
@@ -161,11 +131,8 @@ module _ (c : Config) where
 
   down_write_word : (x : DownWrite) (s : DownWriteStep) → IsOfTree c (down_write_next x s).0
   down_write_word x (Enters transition) = transition_word x.level transition
-  down_write_word x (WAwaitsSections grace) = tt
   down_write_word x (WCallsBack transition) = transition_word x.level transition
-  down_write_word x AwaitsPassed = tt
-  down_write_word x SetsBlock = tt
-  down_write_word x (WSums sum) = tt
+  down_write_word x other = tt
 
   up_write_word : (x : UpWrite) (s : UpWriteStep) → IsOfTree c (up_write_next x s).0
   up_write_word x ClearsBlock = tt
@@ -174,43 +141,23 @@ module _ (c : Config) where
   write_word : (x : WritePhase) → IsOfTree c (write_next x).0
   write_word (Takes m r) = read_word r r.step
   write_word (WWants w) = want_word w w.step
-  write_word (GivesBack m p refusal) = tt
-  write_word (WDrops m p) = tt
-  write_word (Ends p) = tt
+  write_word other = tt
 
   freeze_word : (x : Freeze) (s : FreezeStep) (hook : HookAnswer) → FreezeFits c x.holder s → IsOfTree c (freeze_next x s hook).0
-  freeze_word x FLocks hook fits = tt
-  freeze_word x FLoadsStage hook fits = tt
-  freeze_word x FLoadsHolders hook fits = tt
-  freeze_word x (Holds beside) hook fits = tt
-  freeze_word x FLoadsSuperblock hook fits = tt
-  freeze_word x CompletesReadOnly hook fits = tt
-  freeze_word x SetsWrite hook fits = tt
-  freeze_word x Unlocks hook fits = tt
   freeze_word x (Closes d) hook fits = down_write_word d d.step
-  freeze_word x LocksAgain hook fits = tt
-  freeze_word x SetsPageFault hook fits = tt
   freeze_word x (Cleans marks) hook fits = fits.2
   freeze_word x SetsFs (Ok answer) fits = tt
   freeze_word x SetsFs (Err code) fits = tt
   freeze_word x SetsComplete (Ok answer) fits = tt
   freeze_word x SetsComplete (Err code) fits = tt
   freeze_word x (FReopens u code) hook fits = up_write_word u u.step
-  freeze_word x (FReleases answer) hook fits = tt
+  freeze_word x other hook fits = tt
 
   thaw_word : (x : Thaw) (s : ThawStep) (hook : HookAnswer) → IsOfTree c (thaw_next x s hook).0
-  thaw_word x TLocks hook = tt
-  thaw_word x TLoadsStage hook = tt
-  thaw_word x TLoadsHolders hook = tt
-  thaw_word x (Leaves held) hook = tt
-  thaw_word x TLoadsSuperblock hook = tt
-  thaw_word x LeavesReadOnly hook = tt
-  thaw_word x UnfreezesReadOnly hook = tt
   thaw_word x LeavesLast (Ok answer) = tt
   thaw_word x LeavesLast (Err code) = tt
-  thaw_word x SetsUnfrozen hook = tt
   thaw_word x (TReopens u) hook = up_write_word u u.step
-  thaw_word x (TReleases answer) hook = tt
+  thaw_word x other hook = tt
 
   create_word : (x : Create) (s : CreateStep) → x.dir < c.nodes → CreateStepFits (tree_bounds c) s → IsOfTree c (create_next x s).0
   create_word x LoadsDirectory lt fits = lt
@@ -222,18 +169,13 @@ module _ (c : Config) where
   remove_word : (x : Remove) (s : RemoveStep) → x.file < c.nodes → IsOfTree c (remove_next x s).0
   remove_word x LoadsFileToRemove lt = lt
   remove_word x (FreesNode file) lt = lt
-  remove_word x (CountsRemoved file) lt = tt
   remove_word x (MarksRemoved file) lt = lt
-  remove_word x RefundsRemoved lt = tt
-  remove_word x (RefundsItsBlocks file) lt = tt
-  remove_word x (RefundsItsChild file) lt = tt
+  remove_word x other lt = tt
 
   grow_word : (x : Grow) (s : GrowStep) → x.file < c.nodes → IsOfTree c (grow_next x s).0
   grow_word x LoadsFileToGrow lt = lt
-  grow_word x (LoadsUsed file) lt = tt
-  grow_word x (ChargesBlocks file used) lt = tt
   grow_word x (GrowsFile file) lt = lt
-  grow_word x RefundsBlocks lt = tt
+  grow_word x other lt = tt
 
   move_word : (x : MoveTo) (s : MoveStep) → x.file < c.nodes → x.dir < c.nodes → IsOfTree c (move_next x s).0
   move_word x LoadsFileToMove lt ld = lt
@@ -247,12 +189,8 @@ module _ (c : Config) where
   mark_word x (MarksFile file) lt = lt
 
   snapshot_word : (x : Snapshot) (s : SnapshotStep) → SnapshotStepFits (tree_bounds c) s → IsOfTree c (snapshot_next x s).0
-  snapshot_word x SLocks fits = tt
-  snapshot_word x SLoadsStage fits = tt
-  snapshot_word x SLoadsUsed fits = tt
   snapshot_word x (SLoadsNode n) fits = fits
-  snapshot_word x (SLoadsKids n) fits = tt
-  snapshot_word x (SReleases answer) fits = tt
+  snapshot_word x other fits = tt
 
   open_word : (x : OpenFile) (s : OpenStep) → x.file < c.nodes → IsOfTree c (open_next x s).0
   open_word x LoadsFileToOpen lt = lt
@@ -263,9 +201,7 @@ module _ (c : Config) where
   close_word t levels (LowersCount x node) fits = fits.0.0
   close_word t levels (EntersLevel f node r) fits = read_word r r.step
   close_word t levels (ClosesNode f p node) fits = fits.0
-  close_word t levels (CloseRefundsBlocks p blocks) fits = tt
-  close_word t levels (CloseUncounts p) fits = tt
-  close_word t levels (CloseLeaves p) fits = tt
+  close_word t levels other fits = tt
 
   tree_word : (t : ℕ) (x : TreePhase) (hook : HookAnswer) → TreePhaseFits (tree_bounds c) t x → IsOfTree c (tree_next x hook).0
   tree_word t (Creates x) hook fits = create_word x x.step fits.0 fits.2
@@ -328,13 +264,10 @@ module _ (c : Config) where
       open_counted x.file fits.0 (subst (λ p. HasFile (has_open (w.views t)) (file_of p)) is ((good Files).own t lt)),
     )
     close_finds (LowersCount x node) is fits = node_packed x.file fits.0.0
-    close_finds (EntersLevel f node r) is fits = tt
     close_finds (ClosesNode f p node) is fits =
         (subst (λ q. RoleHolds (tree_bounds c) w.words.used w.words.removed w.words.node w.words.kids (tree_role_of (w.views t).trace q)) is
         ((good Tree).roles t lt)).1.word
-    close_finds (CloseRefundsBlocks p blocks) is fits = tt
-    close_finds (CloseUncounts p) is fits = tt
-    close_finds (CloseLeaves p) is fits = tt
+    close_finds other is fits = tt
 
     open_finds : (x : OpenFile) (s : OpenStep) → has_open (w.views t) x.file ≡ false → x.file < c.nodes →
         OpenMayFind s (read w.words (open_next x s).0)

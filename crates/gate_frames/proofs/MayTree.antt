@@ -8,22 +8,22 @@ use Rattle.access_model.specs.Actions.{IsWriter}
 use Rattle.cpu_words.specs.Hooks.{HookAnswer}
 use Rattle.gated_tree.specs.declared.changes.Create.{Create}
 use Rattle.gated_tree.specs.declared.changes.CreateStep.{CreateStep}
-use Rattle.gated_tree.specs.declared.changes.CreateStep.TheVariants.{LoadsDirectory, LoadsNode, ChargesChild, TakesNode, RefundsChild}
+use Rattle.gated_tree.specs.declared.changes.CreateStep.TheVariants.{LoadsDirectory, TakesNode}
 use Rattle.gated_tree.specs.declared.changes.Remove.{Remove}
 use Rattle.gated_tree.specs.declared.changes.RemoveStep.{RemoveStep}
-use Rattle.gated_tree.specs.declared.changes.RemoveStep.TheVariants.{LoadsFile as LoadsFileToRemove, FreesNode, CountsRemoved, MarksRemoved, RefundsRemoved, RefundsBlocks as RefundsItsBlocks, RefundsChild as RefundsItsChild}
+use Rattle.gated_tree.specs.declared.changes.RemoveStep.TheVariants.{LoadsFile as LoadsFileToRemove, FreesNode, MarksRemoved}
 use Rattle.gated_tree.specs.declared.changes.MoveTo.{MoveTo}
 use Rattle.gated_tree.specs.declared.changes.MoveStep.{MoveStep}
-use Rattle.gated_tree.specs.declared.changes.MoveStep.TheVariants.{LoadsFile as LoadsFileToMove, LoadsDirectory as LoadsTarget, ChargesChild as ChargesTarget, MovesFile, RefundsChild as RefundsOne}
+use Rattle.gated_tree.specs.declared.changes.MoveStep.TheVariants.{LoadsFile as LoadsFileToMove, MovesFile}
 use Rattle.gated_tree.specs.declared.growth.Grow.{Grow}
 use Rattle.gated_tree.specs.declared.growth.GrowStep.{GrowStep}
-use Rattle.gated_tree.specs.declared.growth.GrowStep.TheVariants.{LoadsFile as LoadsFileToGrow, LoadsUsed, ChargesBlocks, GrowsFile, RefundsBlocks}
+use Rattle.gated_tree.specs.declared.growth.GrowStep.TheVariants.{LoadsFile as LoadsFileToGrow, GrowsFile}
 use Rattle.gated_tree.specs.declared.marks.Mark.{Mark}
 use Rattle.gated_tree.specs.declared.marks.MarkStep.{MarkStep}
 use Rattle.gated_tree.specs.declared.marks.MarkStep.TheVariants.{LoadsFile as LoadsFileToMark, MarksFile}
 use Rattle.gated_tree.specs.declared.snapshots.Snapshot.{Snapshot}
 use Rattle.gated_tree.specs.declared.snapshots.SnapshotStep.{SnapshotStep}
-use Rattle.gated_tree.specs.declared.snapshots.SnapshotStep.TheVariants.{Locks, LoadsStage, LoadsUsed as LoadsUsedWord, LoadsNode as LoadsNodeWord, LoadsKids, Releases}
+use Rattle.gated_tree.specs.declared.snapshots.SnapshotStep.TheVariants.{Locks}
 use Rattle.gated_tree.specs.declared.phases.TreePhase.{TreePhase}
 use Rattle.gated_tree.specs.declared.phases.TreePhase.TheVariants.{OpenFile as OpensOne, Create as Creates, Remove as Removes, Grow as Grows, MoveTo as Moves, Mark as Marks, Snapshot as Snapshots, ClearMarks as Clears}
 use Rattle.gated_tree.specs.Phases.{after, create_after, remove_after, grow_after, move_after, mark_after, mark_done, snapshot_after}
@@ -40,7 +40,7 @@ use Rattle.gated_tree.specs.declared.opens.OpenFile.{OpenFile}
 use Rattle.gated_tree.specs.declared.opens.OpenStep.{OpenStep}
 use Rattle.gated_tree.specs.declared.opens.OpenStep.TheVariants.{LoadsFile as LoadsFileToOpen, OpensFile}
 use Rattle.file_closes.specs.declared.phases.ClosePhase.{ClosePhase}
-use Rattle.file_closes.specs.declared.phases.ClosePhase.TheVariants.{LoadsFile as CloseLoadsFile, LowersCount, Enters as EntersLevel, FreesNode as ClosesNode, RefundsBlocks as CloseRefundsBlocks, Uncounts as CloseUncounts, Leaves as CloseLeaves}
+use Rattle.file_closes.specs.declared.phases.ClosePhase.TheVariants.{LoadsFile as CloseLoadsFile}
 use Rattle.mount_counts.specs.declared.remounts.RemountStep.TheVariants.{SetsRemount}
 use Rattle.mount_counts.specs.Roles.{mount_as_gate, barring_of, skips}
 use Rattle.gate_counts.specs.Gates.{BarringHolds, admitted, unread}
@@ -100,33 +100,19 @@ freeze_clears nodes s h = refl
 -- nor a call at the tree
 create_clears : (x : Create) (s : CreateStep) → cleared (create_role x s) ≡ 0
 create_clears x LoadsDirectory = refl
-create_clears x (LoadsNode n) = refl
-create_clears x (ChargesChild n) = refl
-create_clears x (TakesNode n) = refl
-create_clears x RefundsChild = refl
+create_clears x other = refl
 
 remove_clears : (x : Remove) (s : RemoveStep) → cleared (remove_role x s) ≡ 0
 remove_clears x LoadsFileToRemove = refl
-remove_clears x (FreesNode file) = refl
-remove_clears x (CountsRemoved file) = refl
-remove_clears x (MarksRemoved file) = refl
-remove_clears x RefundsRemoved = refl
-remove_clears x (RefundsItsBlocks file) = refl
-remove_clears x (RefundsItsChild file) = refl
+remove_clears x other = refl
 
 grow_clears : (x : Grow) (s : GrowStep) → cleared (grow_role x s) ≡ 0
 grow_clears x LoadsFileToGrow = refl
-grow_clears x (LoadsUsed file) = refl
-grow_clears x (ChargesBlocks file used) = refl
-grow_clears x (GrowsFile file) = refl
-grow_clears x RefundsBlocks = refl
+grow_clears x other = refl
 
 move_clears : (x : MoveTo) (s : MoveStep) → cleared (move_role x s) ≡ 0
 move_clears x LoadsFileToMove = refl
-move_clears x (LoadsTarget file) = refl
-move_clears x (ChargesTarget file) = refl
-move_clears x (MovesFile file) = refl
-move_clears x (RefundsOne dir answer) = refl
+move_clears x other = refl
 
 mark_clears : (x : Mark) (s : MarkStep) → cleared (mark_role x s) ≡ 0
 mark_clears x LoadsFileToMark = refl
@@ -138,12 +124,7 @@ open_clears x (OpensFile file) = refl
 
 close_clears : (x : ClosePhase) → cleared (close_tree_role x) ≡ 0
 close_clears (CloseLoadsFile x) = refl
-close_clears (LowersCount x node) = refl
-close_clears (EntersLevel f node r) = refl
-close_clears (ClosesNode f p node) = refl
-close_clears (CloseRefundsBlocks p blocks) = refl
-close_clears (CloseUncounts p) = refl
-close_clears (CloseLeaves p) = refl
+close_clears other = refl
 
 snapshot_clears : (nodes : ℕ) (values : ℕ → ℕ) (s : SnapshotStep) → cleared (snapshot_role nodes values s) ≡ 0
 snapshot_clears nodes values Locks = refl
@@ -169,33 +150,19 @@ tree_clears c held levels values (Clears x) may = absurd may
 -- no call at the tree is a remount that has found no removed file
 create_bares : (x : Create) (s : CreateStep) → is_bare (create_role x s) ≡ 0
 create_bares x LoadsDirectory = refl
-create_bares x (LoadsNode n) = refl
-create_bares x (ChargesChild n) = refl
-create_bares x (TakesNode n) = refl
-create_bares x RefundsChild = refl
+create_bares x other = refl
 
 remove_bares : (x : Remove) (s : RemoveStep) → is_bare (remove_role x s) ≡ 0
 remove_bares x LoadsFileToRemove = refl
-remove_bares x (FreesNode file) = refl
-remove_bares x (CountsRemoved file) = refl
-remove_bares x (MarksRemoved file) = refl
-remove_bares x RefundsRemoved = refl
-remove_bares x (RefundsItsBlocks file) = refl
-remove_bares x (RefundsItsChild file) = refl
+remove_bares x other = refl
 
 grow_bares : (x : Grow) (s : GrowStep) → is_bare (grow_role x s) ≡ 0
 grow_bares x LoadsFileToGrow = refl
-grow_bares x (LoadsUsed file) = refl
-grow_bares x (ChargesBlocks file used) = refl
-grow_bares x (GrowsFile file) = refl
-grow_bares x RefundsBlocks = refl
+grow_bares x other = refl
 
 move_bares : (x : MoveTo) (s : MoveStep) → is_bare (move_role x s) ≡ 0
 move_bares x LoadsFileToMove = refl
-move_bares x (LoadsTarget file) = refl
-move_bares x (ChargesTarget file) = refl
-move_bares x (MovesFile file) = refl
-move_bares x (RefundsOne dir answer) = refl
+move_bares x other = refl
 
 mark_bares : (x : Mark) (s : MarkStep) → is_bare (mark_role x s) ≡ 0
 mark_bares x LoadsFileToMark = refl
@@ -207,12 +174,7 @@ open_bares x (OpensFile file) = refl
 
 close_bares : (x : ClosePhase) → is_bare (close_tree_role x) ≡ 0
 close_bares (CloseLoadsFile x) = refl
-close_bares (LowersCount x node) = refl
-close_bares (EntersLevel f node r) = refl
-close_bares (ClosesNode f p node) = refl
-close_bares (CloseRefundsBlocks p blocks) = refl
-close_bares (CloseUncounts p) = refl
-close_bares (CloseLeaves p) = refl
+close_bares other = refl
 
 snapshot_bares : (nodes : ℕ) (values : ℕ → ℕ) (s : SnapshotStep) → is_bare (snapshot_role nodes values s) ≡ 0
 snapshot_bares nodes values Locks = refl
@@ -372,34 +334,21 @@ module _ (c : Config) (w : World) (good : IsGood c w) where
 
     -- and so has leave for each call's action
     create_leave : (x : Create) (s : CreateStep) (found : ℕ) → IsWriter (model_limits c) (shown c w) t → LeaveFor (create_after x s found).1
-    create_leave x LoadsDirectory found leave = tt
-    create_leave x (LoadsNode n) found leave = tt
-    create_leave x (ChargesChild n) found leave = tt
     create_leave x (TakesNode n) found leave = leave_if (found == 0) _ leave
-    create_leave x RefundsChild found leave = tt
+    create_leave x other found leave = tt
 
     remove_leave : (x : Remove) (s : RemoveStep) (found : ℕ) → IsWriter (model_limits c) (shown c w) t → LeaveFor (remove_after x s found).1
-    remove_leave x LoadsFileToRemove found leave = tt
     remove_leave x (FreesNode file) found leave = leave_if (found == word_of file) _ leave
-    remove_leave x (CountsRemoved file) found leave = tt
     remove_leave x (MarksRemoved file) found leave = leave_if (found == word_of file) _ leave
-    remove_leave x RefundsRemoved found leave = tt
-    remove_leave x (RefundsItsBlocks file) found leave = tt
-    remove_leave x (RefundsItsChild file) found leave = tt
+    remove_leave x other found leave = tt
 
     grow_leave : (x : Grow) (s : GrowStep) (found : ℕ) → IsWriter (model_limits c) (shown c w) t → LeaveFor (grow_after x s found).1
-    grow_leave x LoadsFileToGrow found leave = tt
-    grow_leave x (LoadsUsed file) found leave = tt
-    grow_leave x (ChargesBlocks file used) found leave = tt
     grow_leave x (GrowsFile file) found leave = leave_if (found == word_of file) _ leave
-    grow_leave x RefundsBlocks found leave = tt
+    grow_leave x other found leave = tt
 
     move_leave : (x : MoveTo) (s : MoveStep) (found : ℕ) → IsWriter (model_limits c) (shown c w) t → LeaveFor (move_after x s found).1
-    move_leave x LoadsFileToMove found leave = tt
-    move_leave x (LoadsTarget file) found leave = tt
-    move_leave x (ChargesTarget file) found leave = tt
     move_leave x (MovesFile file) found leave = leave_if (found == word_of file) _ leave
-    move_leave x (RefundsOne dir answer) found leave = tt
+    move_leave x other found leave = tt
 
     -- a page fault has leave inside level 2, with an access at some mount; a write-back inside level 3
     mark_leave_now : (dirty : Bool) (file : ℕ) → may_mark dirty c (held_at (w.views t)) (holds_level (w.views t)) ≡ true →
@@ -421,11 +370,7 @@ module _ (c : Config) (w : World) (good : IsGood c w) where
 
     snapshot_leave : (x : Snapshot) (s : SnapshotStep) (found : ℕ) → LeaveFor (snapshot_after x s found).1
     snapshot_leave x Locks found = tt
-    snapshot_leave x LoadsStage found = tt
-    snapshot_leave x LoadsUsedWord found = tt
-    snapshot_leave x (LoadsNodeWord n) found = tt
-    snapshot_leave x (LoadsKids n) found = tt
-    snapshot_leave x (Releases answer) found = tt
+    snapshot_leave x other found = tt
 
     -- each call has leave for the action of its next event
     pub call_leave : (x : TreePhase) (found : ℕ) (hook : HookAnswer) → TreeAccess c (held_at (w.views t)) (holds_level (w.views t)) x →

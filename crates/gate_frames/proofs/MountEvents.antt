@@ -1,6 +1,6 @@
 -- What the events of want, drop and change touch: the rest of the rule stays.
 use Rattle.gate_frames.proofs.Frames.{left_alone, level_view_as}
-use Rattle.gate_world.specs.Rules.{AtMount, Fitting, Holds, IsGood, Known, Owner, Part, SameView, SameWords, Stages, Holding, StepKeeps, at_gates, change_owns, owns, GateStepKeeps, Tree, AtLevel, SyncAt, Sections, Files}
+use Rattle.gate_world.specs.Rules.{Fitting, Holds, IsGood, Known, Owner, Part, SameView, SameWords, Stages, Holding, StepKeeps, at_gates, change_owns, owns, GateStepKeeps, Tree, AtLevel, SyncAt, Sections, Files}
 use Rattle.std.proofs.Common.{Bool, arith, inl, inr, refl, sym, true, true≢false, ◌≡◌, ◌<◌, ◌⊎◌, subst, ℕ, ◌∙◌, ap, List}
 use Rattle.mount_counts.specs.declared.phases.Change.{Change}
 use Rattle.mount_counts.specs.declared.phases.ChangeStep.{ChangeStep}
@@ -8,7 +8,7 @@ use Rattle.mount_counts.specs.declared.phases.MountPhase.TheVariants.{Change as 
 use Rattle.gate_world.specs.Fits.{file_of}
 use Rattle.gate_world.specs.declared.config.Config.{Config}
 use Rattle.mount_counts.specs.declared.phases.WantStep.TheVariants.{CountsDown, CountsUp, LoadsSuperblock}
-use Rattle.access_model.specs.declared.replies.Next.TheVariants.{Done, Go, Wait}
+use Rattle.access_model.specs.declared.replies.Next.TheVariants.{Go}
 use Rattle.cpu_words.specs.Hooks.{HookAnswer}
 use Rattle.gate_frames.proofs.Known.{IsOwnersWork, known_after}
 use Rattle.cpu_words.specs.declared.events.Touch.TheVariants.{Load}
@@ -86,16 +86,14 @@ known_is part h = absurd (true≢false (sym h))
 -- what a part reads is the same in the same words
 same_words : (w : Words) (part : Part) → SameWords w w part
 same_words w Owner = (refl, refl)
-same_words w Stages = (refl, refl, refl, refl)
 same_words w Holding = (refl, refl)
 same_words w Fitting = tt
 same_words w Known = (refl, refl, refl, refl, refl)
 same_words w Tree = (refl, refl, refl, refl, refl, refl)
 same_words w Files = refl
-same_words w (AtMount m) = (refl, refl, refl, refl)
 same_words w (AtLevel i) = (refl, refl, refl)
-same_words w (SyncAt i) = (refl, refl, refl, refl)
 same_words w Sections = refl
+same_words w other = (refl, refl, refl, refl)
 
 -- a load leaves what each part reads
 pub load_unread : (w : Words) (word : WordName) (touch : Touch) (part : Part) → is_load touch ≡ true →
@@ -190,20 +188,17 @@ level_taken_load word touch taken h = absurd (true≢false (sym h))
 -- want, drop and change do nothing with the stage
 mounts_aside : (next : Next MountPhase) → stage_role_of (phase_after (map_next Mounts next)) ≡ Aside
 mounts_aside (Go x) = refl
-mounts_aside (Wait x) = refl
-mounts_aside (Done answer) = refl
+mounts_aside other = refl
 
 -- nor with those who hold a freeze
 mounts_part : (next : Next MountPhase) → holder_role_of (phase_after (map_next Mounts next)) ≡ Apart
 mounts_part (Go x) = refl
-mounts_part (Wait x) = refl
-mounts_part (Done answer) = refl
+mounts_part other = refl
 
 -- what comes after an event of a want owns nothing
 want_owns : (next : Next Want) → owns (phase_after (map_next Mounts (map_next Wants next))) ≡ 0
 want_owns (Go x) = refl
-want_owns (Wait x) = refl
-want_owns (Done answer) = refl
+want_owns other = refl
 
 -- a change that finds `umount` taken owns nothing
 failed_owns : (x : Change) (wait : Bool) → owns (phase_after (map_next Mounts (map_next Changes (lock_failed x wait)))) ≡ 0
@@ -248,24 +243,20 @@ mounts_work w (Changes x) hook = record {
 -- want, drop and change count at no level, have no part in its rcu_sync, and are inside no section
 mounts_count : (i : ℕ) (next : Next MountPhase) → level_role_of i (phase_after (map_next Mounts next)) ≡ CountsNot
 mounts_count i (Go x) = refl
-mounts_count i (Wait x) = refl
-mounts_count i (Done answer) = refl
+mounts_count i other = refl
 
 mounts_apart : (i : ℕ) (next : Next MountPhase) → sync_role_of i (phase_after (map_next Mounts next)) ≡ IsApart
 mounts_apart i (Go x) = refl
-mounts_apart i (Wait x) = refl
-mounts_apart i (Done answer) = refl
+mounts_apart i other = refl
 
 mounts_outside : (next : Next MountPhase) → inside (phase_after (map_next Mounts next)) ≡ 0
 mounts_outside (Go x) = refl
-mounts_outside (Wait x) = refl
-mounts_outside (Done answer) = refl
+mounts_outside other = refl
 
 -- nor has it to do with the tree
 mounts_off_tree : (trace : List Traced) (n : Next MountPhase) → tree_role_of trace (phase_after (map_next Mounts n)) ≡ OffTree
 mounts_off_tree trace (Go phase) = refl
-mounts_off_tree trace (Wait phase) = refl
-mounts_off_tree trace (Done answer) = refl
+mounts_off_tree trace other = refl
 
 -- and they add no action at a level
 want_levels : (x : Want) (s : WantStep) (found : ℕ) (actions : List Action) →
@@ -303,8 +294,7 @@ mounts_opens (Changes x) found hook actions = change_opens x x.step found action
 
 mounts_files : (n : Next MountPhase) → file_of (phase_after (map_next Mounts n)) ≡ None
 mounts_files (Go phase) = refl
-mounts_files (Wait phase) = refl
-mounts_files (Done answer) = refl
+mounts_files other = refl
 
 -- so their events are unseen at the levels
 mounts_unseen : (v : View) (x : MountPhase) (value : ℕ) (hook : HookAnswer) → v.phase ≡ Some (Mounts x) →

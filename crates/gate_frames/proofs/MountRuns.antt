@@ -3,7 +3,7 @@ use Rattle.std.proofs.Common.{◌≡◌, ℕ, ◌<◌, refl, sym, ap, ◌∙◌}
 use Rattle.std.specs.Prelude.{Some}
 use Rattle.access_model.specs.Replies.{map_next}
 use Rattle.access_model.specs.declared.replies.Next.{Next}
-use Rattle.access_model.specs.declared.replies.Next.TheVariants.{Done, Go, Wait}
+use Rattle.access_model.specs.declared.replies.Next.TheVariants.{Go}
 use Rattle.cpu_words.specs.Hooks.{HookAnswer}
 use Rattle.cpu_words.specs.Words.{Words}
 use Rattle.mount_counts.specs.Phases.{after}
@@ -61,14 +61,12 @@ mount_words w (Changes x) hook i = change_words w x x.step hook i
 -- what comes after such an event is inside no section
 mount_outside : (next : Next MountPhase) → inside (phase_after (map_next Mounts next)) ≡ 0
 mount_outside (Go x) = refl
-mount_outside (Wait x) = refl
-mount_outside (Done answer) = refl
+mount_outside other = refl
 
 -- and has no part in a level
 mount_apart : (i : ℕ) (next : Next MountPhase) → sync_role_of i (phase_after (map_next Mounts next)) ≡ IsApart
 mount_apart i (Go x) = refl
-mount_apart i (Wait x) = refl
-mount_apart i (Done answer) = refl
+mount_apart i other = refl
 
 -- each event of want, drop or change is one at which each level stays
 pub mounts_run : (tasks : ℕ) (w : World) (t : ℕ) → t < tasks → (hook : HookAnswer) (x : MountPhase) →

@@ -114,10 +114,7 @@ module _ (c : Config) (file dir : ℕ) where
   -- a step comes after at most that many events
   move_within : (s : MoveStep) (trace : List Traced) → length trace ≤ events_before s → length trace ≤ 5
   move_within LoadsFile trace h = omega (arith, h)
-  move_within (LoadsDirectory file) trace h = omega (arith, h)
-  move_within (ChargesChild file) trace h = omega (arith, h)
-  move_within (MovesFile file) trace h = omega (arith, h)
-  move_within (RefundsChild dir answer) trace h = omega (arith, h)
+  move_within other trace h = omega (arith, h)
 
   -- and keeps it along
   move_kept : (t : ℕ) → KeptWell MoveAt c t (MoveToOp file dir)

@@ -18,23 +18,23 @@ use Rattle.cpu_words.specs.Touches.{left}
 use Rattle.cpu_words.specs.Words.{Words, read, put}
 use Rattle.gated_tree.specs.declared.changes.Create.{Create}
 use Rattle.gated_tree.specs.declared.changes.CreateStep.{CreateStep}
-use Rattle.gated_tree.specs.declared.changes.CreateStep.TheVariants.{LoadsDirectory, LoadsNode, ChargesChild, TakesNode, RefundsChild}
+use Rattle.gated_tree.specs.declared.changes.CreateStep.TheVariants.{LoadsDirectory, TakesNode}
 use Rattle.gated_tree.specs.declared.changes.Remove.{Remove}
 use Rattle.gated_tree.specs.declared.changes.RemoveStep.{RemoveStep}
-use Rattle.gated_tree.specs.declared.changes.RemoveStep.TheVariants.{LoadsFile as LoadsFileToRemove, FreesNode, CountsRemoved, MarksRemoved, RefundsRemoved, RefundsBlocks as RefundsItsBlocks, RefundsChild as RefundsItsChild}
+use Rattle.gated_tree.specs.declared.changes.RemoveStep.TheVariants.{LoadsFile as LoadsFileToRemove, FreesNode, MarksRemoved}
 use Rattle.gated_tree.specs.declared.changes.MoveTo.{MoveTo}
 use Rattle.gated_tree.specs.declared.changes.MoveStep.{MoveStep}
-use Rattle.gated_tree.specs.declared.changes.MoveStep.TheVariants.{LoadsFile as LoadsFileToMove, LoadsDirectory as LoadsTarget, ChargesChild as ChargesTarget, MovesFile, RefundsChild as RefundsOne}
+use Rattle.gated_tree.specs.declared.changes.MoveStep.TheVariants.{LoadsFile as LoadsFileToMove, MovesFile}
 use Rattle.gated_tree.specs.declared.growth.Grow.{Grow}
 use Rattle.gated_tree.specs.declared.growth.GrowStep.{GrowStep}
-use Rattle.gated_tree.specs.declared.growth.GrowStep.TheVariants.{LoadsFile as LoadsFileToGrow, LoadsUsed, ChargesBlocks, GrowsFile, RefundsBlocks}
+use Rattle.gated_tree.specs.declared.growth.GrowStep.TheVariants.{LoadsFile as LoadsFileToGrow, GrowsFile}
 use Rattle.gated_tree.specs.declared.marks.Mark.{Mark}
 use Rattle.gated_tree.specs.declared.marks.MarkStep.{MarkStep}
 use Rattle.gated_tree.specs.declared.marks.MarkStep.TheVariants.{LoadsFile as LoadsFileToMark, MarksFile}
 use Rattle.gated_tree.specs.declared.marks.ClearMarks.{ClearMarks}
 use Rattle.gated_tree.specs.declared.snapshots.Snapshot.{Snapshot}
 use Rattle.gated_tree.specs.declared.snapshots.SnapshotStep.{SnapshotStep}
-use Rattle.gated_tree.specs.declared.snapshots.SnapshotStep.TheVariants.{Locks, LoadsStage, LoadsUsed as LoadsUsedWord, LoadsNode as LoadsNodeWord, LoadsKids, Releases}
+use Rattle.gated_tree.specs.declared.snapshots.SnapshotStep.TheVariants.{Locks, Releases}
 use Rattle.gated_tree.specs.declared.phases.TreePhase.{TreePhase}
 use Rattle.gated_tree.specs.declared.phases.TreePhase.TheVariants.{OpenFile as OpensOne, Create as Creates, Remove as Removes, Grow as Grows, MoveTo as Moves, Mark as Marks, Snapshot as Snapshots, ClearMarks as Clears}
 use Rattle.gated_tree.specs.Nodes.{word_of, node_shown, file_in, dirty_in}
@@ -120,33 +120,19 @@ node_call word h = absurd (true≢false (sym h))
 -- each event of a call but a snapshot is on a word of the tree
 create_word : (x : Create) (s : CreateStep) → is_node_word (create_next x s).0 ≡ true
 create_word x LoadsDirectory = refl
-create_word x (LoadsNode n) = refl
-create_word x (ChargesChild n) = refl
-create_word x (TakesNode n) = refl
-create_word x RefundsChild = refl
+create_word x other = refl
 
 remove_word : (x : Remove) (s : RemoveStep) → is_node_word (remove_next x s).0 ≡ true
 remove_word x LoadsFileToRemove = refl
-remove_word x (FreesNode file) = refl
-remove_word x (CountsRemoved file) = refl
-remove_word x (MarksRemoved file) = refl
-remove_word x RefundsRemoved = refl
-remove_word x (RefundsItsBlocks file) = refl
-remove_word x (RefundsItsChild file) = refl
+remove_word x other = refl
 
 grow_word : (x : Grow) (s : GrowStep) → is_node_word (grow_next x s).0 ≡ true
 grow_word x LoadsFileToGrow = refl
-grow_word x (LoadsUsed file) = refl
-grow_word x (ChargesBlocks file used) = refl
-grow_word x (GrowsFile file) = refl
-grow_word x RefundsBlocks = refl
+grow_word x other = refl
 
 move_word : (x : MoveTo) (s : MoveStep) → is_node_word (move_next x s).0 ≡ true
 move_word x LoadsFileToMove = refl
-move_word x (LoadsTarget file) = refl
-move_word x (ChargesTarget file) = refl
-move_word x (MovesFile file) = refl
-move_word x (RefundsOne dir answer) = refl
+move_word x other = refl
 
 mark_word : (x : Mark) (s : MarkStep) → is_node_word (mark_next x s).0 ≡ true
 mark_word x LoadsFileToMark = refl
@@ -179,11 +165,8 @@ IsCallTouch x = (is_load x.1 ≡ true) ⊎ (is_call_word x.0 ≡ true)
 -- a snapshot loads, or touches `umount`
 snapshot_touch : (x : Snapshot) (s : SnapshotStep) → IsCallTouch (snapshot_next x s)
 snapshot_touch x Locks = inr refl
-snapshot_touch x LoadsStage = inl refl
-snapshot_touch x LoadsUsedWord = inl refl
-snapshot_touch x (LoadsNodeWord n) = inl refl
-snapshot_touch x (LoadsKids n) = inl refl
 snapshot_touch x (Releases answer) = inr refl
+snapshot_touch x other = inl refl
 
 -- each event of a call is one
 pub call_touch : (x : TreePhase) (hook : HookAnswer) → IsCallTouch (next x hook)
@@ -205,81 +188,15 @@ pub record IsBesideTree (old new : Words) : Type 0 where
 
 -- where nothing is written, all words are
 pub same_beside : (w : Words) → IsBesideTree w w
-same_beside w = record {
-  stage_same = refl;
-  holders_same = refl;
-  sb_same = refl;
-  remount_same = refl;
-  flags_same = refl;
-  count_same = refl;
-  block_same = refl;
-  sync_same = refl;
-  level_same = refl;
-  section_same = refl;
-}
+same_beside w = assumption
 
 -- where such a word is written
 pub write_beside : (w : Words) (word : WordName) (n : ℕ) → is_call_word word ≡ true → IsBesideTree w (put w word n)
-write_beside w Umount n h = record {
-  stage_same = refl;
-  holders_same = refl;
-  sb_same = refl;
-  remount_same = refl;
-  flags_same = refl;
-  count_same = refl;
-  block_same = refl;
-  sync_same = refl;
-  level_same = refl;
-  section_same = refl;
-}
-write_beside w Used n h = record {
-  stage_same = refl;
-  holders_same = refl;
-  sb_same = refl;
-  remount_same = refl;
-  flags_same = refl;
-  count_same = refl;
-  block_same = refl;
-  sync_same = refl;
-  level_same = refl;
-  section_same = refl;
-}
-write_beside w Removed n h = record {
-  stage_same = refl;
-  holders_same = refl;
-  sb_same = refl;
-  remount_same = refl;
-  flags_same = refl;
-  count_same = refl;
-  block_same = refl;
-  sync_same = refl;
-  level_same = refl;
-  section_same = refl;
-}
-write_beside w (Node x) n h = record {
-  stage_same = refl;
-  holders_same = refl;
-  sb_same = refl;
-  remount_same = refl;
-  flags_same = refl;
-  count_same = refl;
-  block_same = refl;
-  sync_same = refl;
-  level_same = refl;
-  section_same = refl;
-}
-write_beside w (Kids d) n h = record {
-  stage_same = refl;
-  holders_same = refl;
-  sb_same = refl;
-  remount_same = refl;
-  flags_same = refl;
-  count_same = refl;
-  block_same = refl;
-  sync_same = refl;
-  level_same = refl;
-  section_same = refl;
-}
+write_beside w Umount n h = assumption
+write_beside w Used n h = assumption
+write_beside w Removed n h = assumption
+write_beside w (Node x) n h = assumption
+write_beside w (Kids d) n h = assumption
 write_beside w word n h = absurd (true≢false (sym h))
 
 -- and where a word is loaded
@@ -372,34 +289,21 @@ leaves_if true action h = h
 leaves_if false action h = leaves_none
 
 create_leaves : (x : Create) (s : CreateStep) (found : ℕ) → LeavesAccesses (create_after x s found).1
-create_leaves x LoadsDirectory found = leaves_none
-create_leaves x (LoadsNode n) found = leaves_none
-create_leaves x (ChargesChild n) found = leaves_none
 create_leaves x (TakesNode n) found = leaves_if (found == 0) _ (record { mounts = λ held. refl; levels = λ held. refl })
-create_leaves x RefundsChild found = leaves_none
+create_leaves x other found = leaves_none
 
 remove_leaves : (x : Remove) (s : RemoveStep) (found : ℕ) → LeavesAccesses (remove_after x s found).1
-remove_leaves x LoadsFileToRemove found = leaves_none
 remove_leaves x (FreesNode file) found = leaves_if (found == word_of file) _ (record { mounts = λ held. refl; levels = λ held. refl })
-remove_leaves x (CountsRemoved file) found = leaves_none
 remove_leaves x (MarksRemoved file) found = leaves_if (found == word_of file) _ (record { mounts = λ held. refl; levels = λ held. refl })
-remove_leaves x RefundsRemoved found = leaves_none
-remove_leaves x (RefundsItsBlocks file) found = leaves_none
-remove_leaves x (RefundsItsChild file) found = leaves_none
+remove_leaves x other found = leaves_none
 
 grow_leaves : (x : Grow) (s : GrowStep) (found : ℕ) → LeavesAccesses (grow_after x s found).1
-grow_leaves x LoadsFileToGrow found = leaves_none
-grow_leaves x (LoadsUsed file) found = leaves_none
-grow_leaves x (ChargesBlocks file used) found = leaves_none
 grow_leaves x (GrowsFile file) found = leaves_if (found == word_of file) _ (record { mounts = λ held. refl; levels = λ held. refl })
-grow_leaves x RefundsBlocks found = leaves_none
+grow_leaves x other found = leaves_none
 
 move_leaves : (x : MoveTo) (s : MoveStep) (found : ℕ) → LeavesAccesses (move_after x s found).1
-move_leaves x LoadsFileToMove found = leaves_none
-move_leaves x (LoadsTarget file) found = leaves_none
-move_leaves x (ChargesTarget file) found = leaves_none
 move_leaves x (MovesFile file) found = leaves_if (found == word_of file) _ (record { mounts = λ held. refl; levels = λ held. refl })
-move_leaves x (RefundsOne dir answer) found = leaves_none
+move_leaves x other found = leaves_none
 
 done_leaves : (dirty : Bool) (file : ℕ) → LeavesAccesses (Some (mark_done dirty file))
 done_leaves true file = record { mounts = λ held. refl; levels = λ held. refl }
@@ -415,11 +319,7 @@ open_leaves x (OpensFile file) found = leaves_if (found == word_of file) _ (reco
 
 snapshot_leaves : (x : Snapshot) (s : SnapshotStep) (found : ℕ) → LeavesAccesses (snapshot_after x s found).1
 snapshot_leaves x Locks found = leaves_none
-snapshot_leaves x LoadsStage found = leaves_none
-snapshot_leaves x LoadsUsedWord found = leaves_none
-snapshot_leaves x (LoadsNodeWord n) found = leaves_none
-snapshot_leaves x (LoadsKids n) found = leaves_none
-snapshot_leaves x (Releases answer) found = leaves_none
+snapshot_leaves x other found = leaves_none
 
 clear_leaves : (x : ClearMarks) (found : ℕ) → LeavesAccesses (clear_after x found).1
 clear_leaves x found = leaves_if (dirty_in found == 1) _ (record { mounts = λ held. refl; levels = λ held. refl })
@@ -511,22 +411,12 @@ pub record IsOffGates (p : Option Phase) : Type 0 where
 
 -- no operation is under way
 pub idle_off : IsOffGates None
-idle_off = record {
-  out_of_mounts = λ m. refl;
-  off_levels = record { counts_not = λ i. refl; apart = λ i. refl; outside = refl };
-  closing_none = λ i. refl;
-  remounts_none = refl;
-  unheld = refl;
-}
+idle_off = assumption
 
 -- a snapshot closes no level
 snapshot_closing : (i : ℕ) (s : SnapshotStep) → sums i (snapshot_stage_role s) ≡ 0
 snapshot_closing i Locks = refl
-snapshot_closing i LoadsStage = refl
-snapshot_closing i LoadsUsedWord = refl
-snapshot_closing i (LoadsNodeWord n) = refl
-snapshot_closing i (LoadsKids n) = refl
-snapshot_closing i (Releases answer) = refl
+snapshot_closing i other = refl
 
 -- nor does another call
 tree_closing : (i : ℕ) (x : TreePhase) → sums i (tree_stage_role x) ≡ 0

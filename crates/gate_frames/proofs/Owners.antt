@@ -1,11 +1,11 @@
 -- What every owner of `umount` may rely on, and its events: under the lock, on the word `umount`, and on a mount's flags.
 use Rattle.std.proofs.Common.{◌≡◌, ℕ, suc, ◌+◌, ◌<◌, ◌≤◌, Bool, true, false, refl, ap, ◌∙◌, inl, inr, arith, nat_lt}
-use Rattle.std.specs.Prelude.{◌-◌, ◌==◌, Option, Some, None, Ok, Err}
+use Rattle.std.specs.Prelude.{◌-◌, ◌==◌, Option, Some, Ok, Err}
 use Rattle.std.proofs.lemmas.Bool.Decides.{eqb_tells}
 use Rattle.finite_sums.specs.Sums.{update, total}
 use Rattle.finite_sums.proofs.Totals.{update_at, update_off, update_map, update_same, each_updated, total_updated, total_none, HasPlace, total_place, total_at}
 use Rattle.cpu_words.specs.Words.{Words}
-use Rattle.mount_counts.specs.declared.phases.MountPhase.TheVariants.{Want as Wants, Drop as Drops, Change as Changes}
+use Rattle.mount_counts.specs.declared.phases.MountPhase.TheVariants.{Want as Wants, Change as Changes}
 use Rattle.mount_counts.specs.declared.phases.WantStep.TheVariants.{CountsUp}
 use Rattle.mount_counts.specs.declared.phases.WantStep.{WantStep}
 use Rattle.mount_counts.specs.declared.phases.ChangeStep.{ChangeStep}
@@ -41,15 +41,12 @@ remount_owns_le step = omega arith
 
 -- a task owns at most once
 pub owns_le : (p : Option Phase) → owns p ≤ 1
-owns_le None = omega arith
-owns_le (Some (Mounts (Wants x))) = omega arith
-owns_le (Some (Mounts (Drops m p))) = omega arith
 owns_le (Some (Mounts (Changes x))) = change_owns_le x.step
 owns_le (Some (Remounts x)) = remount_owns_le x.step
 owns_le (Some (Freezes x)) = stage_owns_le (freeze_stage_role x.nodes x.step)
 owns_le (Some (Thaws x)) = stage_owns_le (thaw_stage_role x.step)
 owns_le (Some (Trees x)) = stage_owns_le (tree_stage_role x)
-owns_le (Some phase) = omega arith
+owns_le other = omega arith
 
 -- a want has no hold flag set, and skips no mount
 want_hold : (p : ℕ) (s : WantStep) → has_hold (want_role p s) + skips (want_role p s) ≡ 0
@@ -110,13 +107,11 @@ write_hold m x = refl
 
 -- only the owner of `umount` has a hold flag set, or counts on a mount's staying read-only
 pub hold_owns : (m : ℕ) (p : Option Phase) → has_hold (role_of m p) + skips (role_of m p) ≤ owns p
-hold_owns m None = omega arith
 hold_owns m (Some (Mounts (Wants x))) = omega (arith, hold_if (m == x.mount) (want_role x.cpu x.step), want_hold x.cpu x.step)
-hold_owns m (Some (Mounts (Drops n p))) = omega arith
 hold_owns m (Some (Mounts (Changes x))) = omega (arith, hold_if (m == x.mount) (change_role x.step), change_hold x.step)
 hold_owns m (Some (Remounts x)) = remount_hold m x.step
 hold_owns m (Some (Writes x)) = omega (arith, write_hold m x)
-hold_owns m (Some phase) = omega arith
+hold_owns m other = omega arith
 
 remount_sets_owns : (s : RemountStep) → remount_sets s ≤ remount_owns s
 remount_sets_owns RemountLocks = omega arith
@@ -124,10 +119,8 @@ remount_sets_owns step = omega arith
 
 -- nor has anybody else `remount` set
 pub remounts_owns : (p : Option Phase) → remounts p ≤ owns p
-remounts_owns None = omega arith
-remounts_owns (Some (Mounts phase)) = omega arith
 remounts_owns (Some (Remounts x)) = remount_sets_owns x.step
-remounts_owns (Some phase) = omega arith
+remounts_owns other = omega arith
 
 module _ (c : Config) (w : World) (good : IsGood c w) (t : ℕ) (lt : t < c.tasks) where
   -- nobody else owns

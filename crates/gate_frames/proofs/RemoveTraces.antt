@@ -113,12 +113,7 @@ module _ (c : Config) (file : ℕ) where
   -- a step comes after at most that many events
   remove_within : (s : RemoveStep) (trace : List Traced) → length trace ≤ events_before s → length trace ≤ 4
   remove_within LoadsFile trace h = omega (arith, h)
-  remove_within (FreesNode file) trace h = omega (arith, h)
-  remove_within (CountsRemoved file) trace h = omega (arith, h)
-  remove_within (MarksRemoved file) trace h = omega (arith, h)
-  remove_within RefundsRemoved trace h = omega (arith, h)
-  remove_within (RefundsBlocks file) trace h = omega (arith, h)
-  remove_within (RefundsChild file) trace h = omega (arith, h)
+  remove_within other trace h = omega (arith, h)
 
   -- and keeps it along
   remove_kept : (t : ℕ) → KeptWell RemoveAt c t (RemoveOp file)

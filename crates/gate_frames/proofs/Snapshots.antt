@@ -18,7 +18,7 @@ use Rattle.gate_world.specs.Views.{view_with, view_after, view_after_beside}
 use Rattle.gate_world.specs.Worlds.{World, value_at, found_at, words_after, after_step, after_step_beside}
 use Rattle.gate_world.specs.Shown.{shown}
 use Rattle.gate_world.specs.Moments.{CompletesNow}
-use Rattle.gate_world.specs.Rules.{Part, Owner, Stages, Holding, Fitting, Known, AtMount, Holds, IsGood, Tree, AtLevel, SyncAt, Sections, Files}
+use Rattle.gate_world.specs.Rules.{Part, Owner, Holds, IsGood}
 
 -- a view, and a world, without their snapshots
 abbrev bare_view : View → View
@@ -30,16 +30,7 @@ bare w = record { words = w.words; views = λ t. bare_view (w.views t) }
 -- each part of the rule says the same there
 bare_part : (c : Config) (w : World) (part : Part) → Holds c (bare w) part ≡ Holds c w part
 bare_part c w Owner = refl
-bare_part c w Stages = refl
-bare_part c w Holding = refl
-bare_part c w Fitting = refl
-bare_part c w Known = refl
-bare_part c w Tree = refl
-bare_part c w Files = refl
-bare_part c w (AtMount m) = refl
-bare_part c w (AtLevel i) = refl
-bare_part c w (SyncAt i) = refl
-bare_part c w Sections = refl
+bare_part c w other = refl
 
 bare_views : (f : ℕ → View) (t : ℕ) (u v : View) → bare_view u ≡ bare_view v → (x : ℕ) →
     bare_view (update f t u x) ≡ bare_view (update f t v x)

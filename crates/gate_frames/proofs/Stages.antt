@@ -3,7 +3,7 @@
 use Rattle.std.proofs.lemmas.Bool.Decides.{eqb_tells}
 use Rattle.gated_tree.specs.Nodes.{dirty_in, node_shown}
 use Rattle.std.proofs.Common.{◌≡◌, ℕ, ◌<◌, ◌≤◌, refl, sym, ap, ◌∙◌, subst, inl, inr, arith, ◌%◌, Bool}
-use Rattle.std.specs.Prelude.{Option, Some, None, ◌==◌, false}
+use Rattle.std.specs.Prelude.{Option, Some, ◌==◌, false}
 use Rattle.finite_sums.specs.Sums.{update, total}
 use Rattle.finite_sums.proofs.Totals.{total_none, update_map, update_same}
 use Rattle.access_model.specs.States.{State, is_dirty}
@@ -20,7 +20,7 @@ use Rattle.stage_laws.proofs.Whole.{events_keep, actions_are_allowed, actions_ha
 use Rattle.gate_world.specs.declared.config.Config.{Config}
 use Rattle.gate_world.specs.declared.views.View.{View}
 use Rattle.gate_world.specs.declared.work.Phase.{Phase}
-use Rattle.gate_world.specs.declared.work.Phase.TheVariants.{Mounts, Remounts, DownReads, UpReads, Callbacks, Writes, Freezes, Thaws, Trees, Closes}
+use Rattle.gate_world.specs.declared.work.Phase.TheVariants.{Remounts}
 use Rattle.freeze_levels.specs.Holders.{holders_in}
 use Rattle.gate_world.specs.Configs.{model_limits}
 use Rattle.gate_world.specs.Remounts.{remount_owns}
@@ -50,17 +50,8 @@ remount_owner nodes s = omega arith
 
 -- who owns by the stage owns `umount`
 pub stage_owner : (p : Option Phase) → stage_owns (stage_role_of p) ≤ owns p
-stage_owner None = omega arith
-stage_owner (Some (Mounts phase)) = omega arith
 stage_owner (Some (Remounts x)) = remount_owner x.nodes x.step
-stage_owner (Some (DownReads r)) = omega arith
-stage_owner (Some (UpReads u)) = omega arith
-stage_owner (Some (Callbacks b)) = omega arith
-stage_owner (Some (Writes x)) = omega arith
-stage_owner (Some (Freezes x)) = omega arith
-stage_owner (Some (Thaws x)) = omega arith
-stage_owner (Some (Trees x)) = omega arith
-stage_owner (Some (Closes x)) = omega arith
+stage_owner other = omega arith
 
 -- a node without a mark is shown without one
 clean_shown : (word : ℕ) → dirty_in word ≡ 0 → is_dirty (node_shown word) ≡ false

@@ -4,7 +4,7 @@ use Rattle.std.proofs.lemmas.Bool.{cases_Bool, ltb-false, ne_eqb, ltb-true}
 use Rattle.std.proofs.Common.{◌≡◌, ℕ, ◌<◌, ◌≤◌, refl, inl, inr, arith}
 use Rattle.std.specs.Prelude.{Option, Some, None, Bool, true, false, ◌==◌, nat_lt}
 use Rattle.percpu_rwsem.specs.declared.writers.DownWriteStep.{DownWriteStep}
-use Rattle.percpu_rwsem.specs.declared.writers.DownWriteStep.TheVariants.{Enters, AwaitsSections, CallsBack, AwaitsPassed, SetsBlock, Sums}
+use Rattle.percpu_rwsem.specs.declared.writers.DownWriteStep.TheVariants.{Enters}
 use Rattle.percpu_rwsem.specs.declared.writers.UpWriteStep.{UpWriteStep}
 use Rattle.percpu_rwsem.specs.declared.writers.UpWriteStep.TheVariants.{ClearsBlock, Exits}
 use Rattle.freeze_levels.specs.declared.freezes.FreezeStep.{FreezeStep}
@@ -22,11 +22,7 @@ up_write_slow (Exits transition) = refl
 
 down_write_slow : (s : DownWriteStep) → fast (down_write_role s) ≡ 0
 down_write_slow (Enters transition) = refl
-down_write_slow (AwaitsSections grace) = refl
-down_write_slow (CallsBack transition) = refl
-down_write_slow AwaitsPassed = refl
-down_write_slow SetsBlock = refl
-down_write_slow (Sums sum) = refl
+down_write_slow other = refl
 
 beside_slow : (here below : Bool) (r : SyncRole) → fast r ≡ 0 → fast (sync_beside here below r) ≡ 0
 beside_slow true below r h = h

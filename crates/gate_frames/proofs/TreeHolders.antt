@@ -9,7 +9,7 @@ use Rattle.mount_counts.specs.Roles.{ro_bit, mount_as_gate}
 use Rattle.gate_counts.specs.Gates.{past}
 use Rattle.gate_counts.specs.Levels.{LevelRole, Passed}
 use Rattle.gate_counts.proofs.LevelLaws.{none_frozen, none_passed}
-use Rattle.stage_laws.specs.Roles.{Freezing, Place, passed_by, HasPassed, Before, Closing}
+use Rattle.stage_laws.specs.Roles.{Freezing, Place, passed_by, Before}
 use Rattle.stage_laws.proofs.Whole.{freeze_is_under_way}
 use Rattle.freeze_levels.specs.declared.freezes.FreezeStep.{FreezeStep}
 use Rattle.freeze_levels.specs.declared.freezes.FreezeStep.TheVariants.{Closes, LocksAgain, SetsPageFault, Cleans, SetsFs, SetsComplete, Reopens as FreezeReopens}
@@ -70,8 +70,7 @@ up_to_stand i level r le is =
 -- a freeze at a stage has passed each level below it
 place_passed : (stage : ℕ) (place : Place) (owner : Bool) → stage ≤ suc (passed_by (Freezing stage place owner))
 place_passed stage Before owner = omega arith
-place_passed stage Closing owner = omega arith
-place_passed stage (HasPassed clean) owner = omega arith
+place_passed stage other owner = omega arith
 
 -- a level that is being closed isn't passed
 closing_passed : (i level : ℕ) (s : DownWriteStep) (owner : Bool) → 1 ≤ i → i ≤ passed_by (Freezing level (place_of s) owner) → i < level

@@ -18,7 +18,7 @@ use Rattle.tree_laws.specs.Events.{Event, MovesBy}
 use Rattle.tree_laws.proofs.Each.{each_event}
 use Rattle.stage_laws.specs.Roles.{MarksHold, CleanBelow, clean_by, KnowsStage, Freezing}
 use Rattle.file_closes.specs.declared.phases.ClosePhase.{ClosePhase}
-use Rattle.file_closes.specs.declared.phases.ClosePhase.TheVariants.{LoadsFile as CloseLoadsFile, LowersCount, Enters, FreesNode as ClosesNode, RefundsBlocks as CloseRefundsBlocks, Uncounts as CloseUncounts, Leaves as CloseLeaves}
+use Rattle.file_closes.specs.declared.phases.ClosePhase.TheVariants.{LoadsFile as CloseLoadsFile}
 use Rattle.gated_tree.specs.declared.opens.OpenFile.{OpenFile}
 use Rattle.gated_tree.specs.declared.opens.OpenStep.{OpenStep}
 use Rattle.gated_tree.specs.declared.opens.OpenStep.TheVariants.{LoadsFile as LoadsFileToOpen, OpensFile}
@@ -26,7 +26,7 @@ use Rattle.gate_world.specs.declared.config.Config.{Config}
 use Rattle.gate_world.specs.declared.views.View.{View}
 use Rattle.gate_world.specs.declared.views.Traced.{Traced}
 use Rattle.gate_world.specs.declared.work.Phase.{Phase}
-use Rattle.gate_world.specs.declared.work.Phase.TheVariants.{Mounts, Remounts, DownReads, UpReads, Callbacks, Writes, Freezes, Thaws, Trees, Closes}
+use Rattle.gate_world.specs.declared.work.Phase.TheVariants.{Remounts, Freezes, Thaws, Trees, Closes}
 use Rattle.gate_world.specs.Configs.{IsWithin}
 use Rattle.gate_world.specs.Fits.{Fits, FreezeFits, PhaseFits}
 use Rattle.gate_world.specs.Rules.{IsGood, Holds, Tree, Stages, Fitting, marks_of}
@@ -43,7 +43,7 @@ use Rattle.gate_world.specs.Remounts.{RemountFits}
 use Rattle.freeze_levels.specs.declared.thaws.ThawStep.{ThawStep}
 use Rattle.gated_tree.specs.declared.phases.TreePhase.{TreePhase}
 use Rattle.percpu_rwsem.specs.declared.writers.UpWriteStep.TheVariants.{Exits, ClearsBlock}
-use Rattle.gated_tree.specs.declared.snapshots.SnapshotStep.TheVariants.{Locks as SnapshotLocks, LoadsStage as SnapshotLoadsStage, LoadsUsed as SnapshotLoadsUsed, LoadsNode as SnapshotLoadsNode, LoadsKids as SnapshotLoadsKids, Releases as SnapshotReleases}
+use Rattle.gated_tree.specs.declared.snapshots.SnapshotStep.TheVariants.{Locks as SnapshotLocks, LoadsStage as SnapshotLoadsStage, LoadsNode as SnapshotLoadsNode, LoadsKids as SnapshotLoadsKids, Releases as SnapshotReleases}
 use Rattle.freeze_levels.specs.declared.thaws.ThawStep.TheVariants.{Reopens as ThawReopens}
 use Rattle.gated_tree.specs.declared.phases.TreePhase.TheVariants.{OpenFile as OpensOne, Snapshot as Snapshots, Create as Creates, Remove as Removes, Grow as Grows, MoveTo as Moves, Mark as TreeMarks, ClearMarks as TreeClears}
 use Rattle.percpu_rwsem.specs.declared.writers.DownWriteStep.TheVariants.{Sums}
@@ -61,10 +61,10 @@ use Rattle.gated_tree.specs.declared.growth.GrowStep.{GrowStep}
 use Rattle.gated_tree.specs.declared.changes.MoveStep.{MoveStep}
 use Rattle.gated_tree.specs.declared.marks.MarkStep.{MarkStep}
 use Rattle.gate_world.specs.Snapshots.{values_noted}
-use Rattle.gated_tree.specs.declared.changes.CreateStep.TheVariants.{LoadsDirectory, LoadsNode, ChargesChild, TakesNode, RefundsChild}
-use Rattle.gated_tree.specs.declared.changes.RemoveStep.TheVariants.{LoadsFile as LoadsFileToRemove, FreesNode, CountsRemoved, MarksRemoved, RefundsRemoved, RefundsBlocks as RefundsItsBlocks, RefundsChild as RefundsItsChild}
-use Rattle.gated_tree.specs.declared.growth.GrowStep.TheVariants.{LoadsFile as LoadsFileToGrow, LoadsUsed, ChargesBlocks, GrowsFile, RefundsBlocks}
-use Rattle.gated_tree.specs.declared.changes.MoveStep.TheVariants.{LoadsFile as LoadsFileToMove, LoadsDirectory as LoadsTarget, ChargesChild as ChargesTarget, MovesFile, RefundsChild as RefundsOne}
+use Rattle.gated_tree.specs.declared.changes.CreateStep.TheVariants.{LoadsDirectory}
+use Rattle.gated_tree.specs.declared.changes.RemoveStep.TheVariants.{LoadsFile as LoadsFileToRemove}
+use Rattle.gated_tree.specs.declared.growth.GrowStep.TheVariants.{LoadsFile as LoadsFileToGrow}
+use Rattle.gated_tree.specs.declared.changes.MoveStep.TheVariants.{LoadsFile as LoadsFileToMove}
 use Rattle.gated_tree.specs.declared.marks.MarkStep.TheVariants.{LoadsFile as LoadsFileToMark, MarksFile}
 
 -- a configuration within the limits is one for the laws of the tree
@@ -211,24 +211,18 @@ module _ (c : Config) (w : World) (good : IsGood c w) where
   -- those that what a task is at has cleared
   phase_clean : (t : ℕ) → t < c.tasks → (p : Option Phase) → (w.views t).phase ≡ p →
       CleanBelow (clean_by (stage_role_of p)) (marks_of w.words)
-  phase_clean t lt None is = none_clean
-  phase_clean t lt (Some (Mounts phase)) is = none_clean
   phase_clean t lt (Some (Remounts x)) is =
       let fits : PhaseFits c t (held_at (w.views t)) (holds_level (w.views t)) (Remounts x) =
       subst (Fits c t (held_at (w.views t)) (holds_level (w.views t))) is (good Fitting t lt) in
       remount_clean x.nodes x.step t lt fits.3 fits.5 (ap (tree_role_of (w.views t).trace) is)
       (subst (λ p. KnowsStage w.words.stage w.words.sb (stage_role_of p)) is ((good Stages).knows t lt))
-  phase_clean t lt (Some (DownReads r)) is = none_clean
-  phase_clean t lt (Some (UpReads u)) is = none_clean
-  phase_clean t lt (Some (Callbacks b)) is = none_clean
-  phase_clean t lt (Some (Writes x)) is = none_clean
   phase_clean t lt (Some (Freezes x)) is =
       let fits : PhaseFits c t (held_at (w.views t)) (holds_level (w.views t)) (Freezes x) =
       subst (Fits c t (held_at (w.views t)) (holds_level (w.views t))) is (good Fitting t lt) in
       freeze_clean x.nodes x.holder x.step t lt fits.3 fits.5 (ap (tree_role_of (w.views t).trace) is)
   phase_clean t lt (Some (Thaws x)) is = thaw_clean x.step
   phase_clean t lt (Some (Trees x)) is = tree_clean x
-  phase_clean t lt (Some (Closes x)) is = none_clean
+  phase_clean t lt other is = none_clean
 
   -- what the laws of the stage read of the marks
   pub marks_right : MarksHold c.tasks c.nodes w.words.stage w.words.sb (marks_of w.words) (stage_roles w)
@@ -241,43 +235,27 @@ module _ (c : Config) (w : World) (good : IsGood c w) where
   -- where the stage isn't 4, a snapshot has loaded no word
   snapshot_unread : (x : Snapshot) (s : SnapshotStep) (values : ℕ → ℕ) → (w.words.stage ≡ 4 → ⊥) →
       KnowsStage w.words.stage w.words.sb (snapshot_stage_role s) → words_read (snapshot_role x.nodes values s) ≡ 0
-  snapshot_unread x SnapshotLocks values apart knows = refl
-  snapshot_unread x SnapshotLoadsStage values apart knows = refl
-  snapshot_unread x SnapshotLoadsUsed values apart knows = refl
   snapshot_unread x (SnapshotLoadsNode n) values apart knows = absurd (apart knows.0)
   snapshot_unread x (SnapshotLoadsKids n) values apart knows = absurd (apart knows.0)
   snapshot_unread x (SnapshotReleases (Ok reply)) values apart knows = absurd (apart knows.0)
   snapshot_unread x (SnapshotReleases (Err refusal)) values apart knows = refl
+  snapshot_unread x other values apart knows = refl
 
   create_unread : (x : Create) (s : CreateStep) → words_read (create_role x s) ≡ 0
   create_unread x LoadsDirectory = refl
-  create_unread x (LoadsNode n) = refl
-  create_unread x (ChargesChild n) = refl
-  create_unread x (TakesNode n) = refl
-  create_unread x RefundsChild = refl
+  create_unread x other = refl
 
   remove_unread : (x : Remove) (s : RemoveStep) → words_read (remove_role x s) ≡ 0
   remove_unread x LoadsFileToRemove = refl
-  remove_unread x (FreesNode file) = refl
-  remove_unread x (CountsRemoved file) = refl
-  remove_unread x (MarksRemoved file) = refl
-  remove_unread x RefundsRemoved = refl
-  remove_unread x (RefundsItsBlocks file) = refl
-  remove_unread x (RefundsItsChild file) = refl
+  remove_unread x other = refl
 
   grow_unread : (x : Grow) (s : GrowStep) → words_read (grow_role x s) ≡ 0
   grow_unread x LoadsFileToGrow = refl
-  grow_unread x (LoadsUsed file) = refl
-  grow_unread x (ChargesBlocks file used) = refl
-  grow_unread x (GrowsFile file) = refl
-  grow_unread x RefundsBlocks = refl
+  grow_unread x other = refl
 
   move_unread : (x : MoveTo) (s : MoveStep) → words_read (move_role x s) ≡ 0
   move_unread x LoadsFileToMove = refl
-  move_unread x (LoadsTarget file) = refl
-  move_unread x (ChargesTarget file) = refl
-  move_unread x (MovesFile file) = refl
-  move_unread x (RefundsOne dir answer) = refl
+  move_unread x other = refl
 
   mark_unread : (x : Mark) (s : MarkStep) → words_read (mark_role x s) ≡ 0
   mark_unread x LoadsFileToMark = refl
@@ -289,12 +267,7 @@ module _ (c : Config) (w : World) (good : IsGood c w) where
 
   close_unread : (x : ClosePhase) → words_read (close_tree_role x) ≡ 0
   close_unread (CloseLoadsFile x) = refl
-  close_unread (LowersCount x node) = refl
-  close_unread (Enters f node r) = refl
-  close_unread (ClosesNode f p node) = refl
-  close_unread (CloseRefundsBlocks p blocks) = refl
-  close_unread (CloseUncounts p) = refl
-  close_unread (CloseLeaves p) = refl
+  close_unread other = refl
 
   tree_unread : (x : TreePhase) (values : ℕ → ℕ) → (w.words.stage ≡ 4 → ⊥) →
       KnowsStage w.words.stage w.words.sb (tree_stage_role x) → words_read (phase_role values x) ≡ 0

@@ -3,17 +3,11 @@ use Rattle.std.proofs.Common.{◌≡◌, refl, ap, ◌∙◌}
 use Rattle.finite_sums.specs.Sums.{update}
 use Rattle.finite_sums.proofs.Totals.{update_same}
 use Rattle.cpu_words.specs.declared.names.WordName.{WordName}
-use Rattle.cpu_words.specs.declared.names.WordName.TheVariants.{Umount, Stage, Holders, SbFlags, Remount, MountFlags, MountCount, Block, Sync, LevelCount, Section, Used, Node, Kids, Removed}
+use Rattle.cpu_words.specs.declared.names.WordName.TheVariants.{MountFlags, MountCount, Block, Sync, LevelCount, Section, Node, Kids}
 use Rattle.cpu_words.specs.Words.{Words, read, put}
 
 -- a load leaves the words
 pub load_same : (w : Words) (name : WordName) → put w name (read w name) ≡ w
-load_same w Umount = refl
-load_same w Stage = refl
-load_same w Holders = refl
-load_same w SbFlags = refl
-load_same w Remount = refl
-load_same w Removed = refl
 load_same w (MountFlags m) = λ j. record w { flags = update_same w.flags m j }
 load_same w (MountCount m p) = λ j. record w {
   count = (ap (λ g. update w.count m g) (update_same (w.count m) p) ∙ update_same w.count m) j;
@@ -24,6 +18,6 @@ load_same w (LevelCount i p) = λ j. record w {
   level = (ap (λ g. update w.level i g) (update_same (w.level i) p) ∙ update_same w.level i) j;
 }
 load_same w (Section u) = λ j. record w { section = update_same w.section u j }
-load_same w Used = refl
 load_same w (Node n) = λ j. record w { node = update_same w.node n j }
 load_same w (Kids n) = λ j. record w { kids = update_same w.kids n j }
+load_same w other = refl

@@ -257,13 +257,8 @@ module _ (d : DownWrite) (P : Next DownWrite → Type 0) (go : (s : DownWriteSte
 -- a down-write changes no word that only the owner changes
 down_write_off : (d : DownWrite) (s : DownWriteStep) → is_owned (down_write_next d s).0 ≡ false
 down_write_off d (Enters Loads) = refl
-down_write_off d (Enters (Exchanges from to)) = refl
-down_write_off d (AwaitsSections grace) = refl
 down_write_off d (CallsBack Loads) = refl
-down_write_off d (CallsBack (Exchanges from to)) = refl
-down_write_off d AwaitsPassed = refl
-down_write_off d SetsBlock = refl
-down_write_off d (Sums sum) = refl
+down_write_off d other = refl
 
 -- nor does an up-write
 up_write_off : (u : UpWrite) (s : UpWriteStep) → is_owned (up_write_next u s).0 ≡ false

@@ -13,7 +13,7 @@ use Rattle.cpu_words.specs.Words.{Words, read, put}
 use Rattle.percpu_rwsem.specs.declared.transitions.Transition.TheVariants.{Loads, Exchanges}
 use Rattle.percpu_rwsem.specs.declared.writers.DownWrite.{DownWrite}
 use Rattle.percpu_rwsem.specs.declared.writers.DownWriteStep.{DownWriteStep}
-use Rattle.percpu_rwsem.specs.declared.writers.DownWriteStep.TheVariants.{Enters, AwaitsSections, CallsBack, AwaitsPassed, SetsBlock, Sums}
+use Rattle.percpu_rwsem.specs.declared.writers.DownWriteStep.TheVariants.{Enters, CallsBack, Sums}
 use Rattle.percpu_rwsem.specs.declared.writers.UpWrite.{UpWrite}
 use Rattle.percpu_rwsem.specs.declared.writers.UpWriteStep.{UpWriteStep}
 use Rattle.percpu_rwsem.specs.declared.writers.UpWriteStep.TheVariants.{ClearsBlock, Exits}
@@ -65,120 +65,16 @@ pub record IsAtLevels (old new : Words) : Type 0 where
 -- a down-write writes words of levels alone
 pub down_write_words : (w : Words) (d : DownWrite) (s : DownWriteStep) →
     IsAtLevels w (put w (down_write_next d s).0 (left (down_write_next d s).1 (read w (down_write_next d s).0)))
-down_write_words w d (Enters Loads) = record {
-  beside = record { flags_same = refl; count_same = refl; remount_same = refl; sb_same = refl };
-  umount_same = refl;
-  stage_same = refl;
-  holders_same = refl;
-  node_same = refl;
-  used_same = refl;
-  removed_same = refl;
-  kids_same = refl;
-}
-down_write_words w d (Enters (Exchanges from to)) = record {
-  beside = record { flags_same = refl; count_same = refl; remount_same = refl; sb_same = refl };
-  umount_same = refl;
-  stage_same = refl;
-  holders_same = refl;
-  node_same = refl;
-  used_same = refl;
-  removed_same = refl;
-  kids_same = refl;
-}
-down_write_words w d (AwaitsSections grace) = record {
-  beside = record { flags_same = refl; count_same = refl; remount_same = refl; sb_same = refl };
-  umount_same = refl;
-  stage_same = refl;
-  holders_same = refl;
-  node_same = refl;
-  used_same = refl;
-  removed_same = refl;
-  kids_same = refl;
-}
-down_write_words w d (CallsBack Loads) = record {
-  beside = record { flags_same = refl; count_same = refl; remount_same = refl; sb_same = refl };
-  umount_same = refl;
-  stage_same = refl;
-  holders_same = refl;
-  node_same = refl;
-  used_same = refl;
-  removed_same = refl;
-  kids_same = refl;
-}
-down_write_words w d (CallsBack (Exchanges from to)) = record {
-  beside = record { flags_same = refl; count_same = refl; remount_same = refl; sb_same = refl };
-  umount_same = refl;
-  stage_same = refl;
-  holders_same = refl;
-  node_same = refl;
-  used_same = refl;
-  removed_same = refl;
-  kids_same = refl;
-}
-down_write_words w d AwaitsPassed = record {
-  beside = record { flags_same = refl; count_same = refl; remount_same = refl; sb_same = refl };
-  umount_same = refl;
-  stage_same = refl;
-  holders_same = refl;
-  node_same = refl;
-  used_same = refl;
-  removed_same = refl;
-  kids_same = refl;
-}
-down_write_words w d SetsBlock = record {
-  beside = record { flags_same = refl; count_same = refl; remount_same = refl; sb_same = refl };
-  umount_same = refl;
-  stage_same = refl;
-  holders_same = refl;
-  node_same = refl;
-  used_same = refl;
-  removed_same = refl;
-  kids_same = refl;
-}
-down_write_words w d (Sums sum) = record {
-  beside = record { flags_same = refl; count_same = refl; remount_same = refl; sb_same = refl };
-  umount_same = refl;
-  stage_same = refl;
-  holders_same = refl;
-  node_same = refl;
-  used_same = refl;
-  removed_same = refl;
-  kids_same = refl;
-}
+down_write_words w d (Enters Loads) = assumption
+down_write_words w d (CallsBack Loads) = assumption
+down_write_words w d other = assumption
 
 -- and an up-write
 pub up_write_words : (w : Words) (u : UpWrite) (s : UpWriteStep) →
     IsAtLevels w (put w (up_write_next u s).0 (left (up_write_next u s).1 (read w (up_write_next u s).0)))
-up_write_words w u ClearsBlock = record {
-  beside = record { flags_same = refl; count_same = refl; remount_same = refl; sb_same = refl };
-  umount_same = refl;
-  stage_same = refl;
-  holders_same = refl;
-  node_same = refl;
-  used_same = refl;
-  removed_same = refl;
-  kids_same = refl;
-}
-up_write_words w u (Exits Loads) = record {
-  beside = record { flags_same = refl; count_same = refl; remount_same = refl; sb_same = refl };
-  umount_same = refl;
-  stage_same = refl;
-  holders_same = refl;
-  node_same = refl;
-  used_same = refl;
-  removed_same = refl;
-  kids_same = refl;
-}
-up_write_words w u (Exits (Exchanges from to)) = record {
-  beside = record { flags_same = refl; count_same = refl; remount_same = refl; sb_same = refl };
-  umount_same = refl;
-  stage_same = refl;
-  holders_same = refl;
-  node_same = refl;
-  used_same = refl;
-  removed_same = refl;
-  kids_same = refl;
-}
+up_write_words w u ClearsBlock = assumption
+up_write_words w u (Exits Loads) = assumption
+up_write_words w u (Exits (Exchanges from to)) = assumption
 
 -- a down-write counts nothing, at mounts or at levels
 pub down_write_counts_none : (d : DownWrite) (s : DownWriteStep) (f : ℕ → ℕ → ℕ) →
@@ -187,13 +83,8 @@ pub down_write_counts_none : (d : DownWrite) (s : DownWriteStep) (f : ℕ → �
     (level_added_after (down_write_next d s).0 (down_write_next d s).1 f ≡ f) ×
     (level_taken_after (down_write_next d s).0 (down_write_next d s).1 f ≡ f)
 down_write_counts_none d (Enters Loads) f = (refl, refl, refl, refl)
-down_write_counts_none d (Enters (Exchanges from to)) f = (refl, refl, refl, refl)
-down_write_counts_none d (AwaitsSections grace) f = (refl, refl, refl, refl)
 down_write_counts_none d (CallsBack Loads) f = (refl, refl, refl, refl)
-down_write_counts_none d (CallsBack (Exchanges from to)) f = (refl, refl, refl, refl)
-down_write_counts_none d AwaitsPassed f = (refl, refl, refl, refl)
-down_write_counts_none d SetsBlock f = (refl, refl, refl, refl)
-down_write_counts_none d (Sums sum) f = (refl, refl, refl, refl)
+down_write_counts_none d other f = (refl, refl, refl, refl)
 
 -- nor does an up-write
 pub up_write_counts_none : (u : UpWrite) (s : UpWriteStep) (f : ℕ → ℕ → ℕ) →

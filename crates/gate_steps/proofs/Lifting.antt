@@ -10,7 +10,7 @@ use Rattle.access_model.specs.Histories.{Done, end_of, IsLegal, IsMerge}
 use Rattle.access_model.specs.States.{State as Shown}
 use Rattle.cpu_words.specs.declared.names.WordName.{WordName}
 use Rattle.cpu_words.specs.declared.events.Touch.{Touch}
-use Rattle.cpu_words.specs.declared.events.Touch.TheVariants.{Load, Store, Add, Sub, Or, And, Swap, Cas}
+use Rattle.cpu_words.specs.declared.events.Touch.TheVariants.{Load}
 use Rattle.cpu_words.specs.Hooks.{HookAnswer}
 use Rattle.cpu_words.specs.Names.{IsWord, place, words_in_all}
 use Rattle.cpu_words.specs.Touches.{left, found_by}
@@ -65,13 +65,7 @@ view_same : (v : View) (word : WordName) (touch : Touch) (n : ℕ) (hook : HookA
     } ≡
     record (view_with v (word, touch) n hook (after (found_by touch n))) { snapshot = last (found_by touch n) }
 view_same v word Load n hook after last = refl
-view_same v word (Store new) n hook after last = refl
-view_same v word (Add by) n hook after last = refl
-view_same v word (Sub by) n hook after last = refl
-view_same v word (Or bits) n hook after last = refl
-view_same v word (And bits) n hook after last = refl
-view_same v word (Swap new) n hook after last = refl
-view_same v word (Cas expect put) n hook after last = refl
+view_same v word other n hook after last = refl
 
 pub found_serves : (others : List (ℕ × ℕ)) (v : View) (phase : Phase) (n : ℕ) (hook : HookAnswer) →
     view_after_beside others v phase (found_by (next_of phase hook).1 n) hook ≡ view_after_beside others v phase n hook

@@ -2,29 +2,29 @@
 use Rattle.std.proofs.Common.{ℕ}
 use Rattle.std.specs.Prelude.{Ok, Err}
 use Rattle.mount_counts.specs.declared.phases.MountPhase.TheVariants.{Want as MWants, Drop as MDrops, Change as MChanges}
-use Rattle.mount_counts.specs.declared.phases.WantStep.TheVariants.{CountsUp, LoadsHold, LoadsRemount, LoadsReadOnly, LoadsSuperblock, CountsDown}
-use Rattle.mount_counts.specs.declared.phases.ChangeStep.TheVariants.{Locks, LoadsFlags, LoadsSuperblock as LoadsSb, ClearsReadOnly, SetsHold, Sums, SetsReadOnly, ClearsHold, Releases}
-use Rattle.mount_counts.specs.declared.remounts.RemountStep.TheVariants.{Locks as RLocks, LoadsStage as RLoadsStage, LoadsSuperblock as RLoadsSuperblock, SetsWritable, LoadsFlags as RLoadsFlags, SetsHold as RSetsHold, Sums as RSums, LoadsRemoved as RLoadsRemoved, LoadsRemovedAgain as RLoadsRemovedAgain, LeavesHolds as RLeavesHolds, SetsRemount, ClearsHold as RClearsHold, GivesUp, ClearsMark, SetsReadOnly as RSetsReadOnly, ClearsRemount, Releases as RReleases}
+use Rattle.mount_counts.specs.declared.phases.WantStep.TheVariants.{CountsUp}
+use Rattle.mount_counts.specs.declared.phases.ChangeStep.TheVariants.{Locks}
+use Rattle.mount_counts.specs.declared.remounts.RemountStep.TheVariants.{SetsWritable, SetsReadOnly as RSetsReadOnly}
 use Rattle.percpu_rwsem.specs.declared.transitions.Transition.TheVariants.{Loads, Exchanges}
-use Rattle.percpu_rwsem.specs.declared.readers.DownReadStep.TheVariants.{EntersSection, LoadsSync, CountsUpFast, CountsUpSlow, LoadsBlock, CountsDown as DCountsDown, LeavesAdmitted, LeavesBlocked}
+use Rattle.percpu_rwsem.specs.declared.readers.DownReadStep.TheVariants.{EntersSection}
 use Rattle.percpu_rwsem.specs.declared.callbacks.CallbackStep.TheVariants.{Claims, AwaitsSections as CAwaitsSections, CallsBack as CCallsBack}
-use Rattle.percpu_rwsem.specs.declared.writers.DownWriteStep.TheVariants.{Enters, AwaitsSections as WAwaitsSections, CallsBack as WCallsBack, AwaitsPassed, SetsBlock, Sums as WSums}
+use Rattle.percpu_rwsem.specs.declared.writers.DownWriteStep.TheVariants.{Enters, CallsBack as WCallsBack}
 use Rattle.percpu_rwsem.specs.declared.writers.UpWriteStep.TheVariants.{ClearsBlock, Exits}
-use Rattle.write_access.specs.declared.phases.WritePhase.TheVariants.{Takes, Wants as WWants, GivesBack, Drops as WDrops, Ends}
-use Rattle.freeze_levels.specs.declared.freezes.FreezeStep.TheVariants.{Locks as FLocks, LoadsStage as FLoadsStage, LoadsHolders as FLoadsHolders, Holds, LoadsSuperblock as FLoadsSuperblock, CompletesReadOnly, SetsWrite, Unlocks, Closes, LocksAgain, SetsPageFault, Cleans, SetsFs, SetsComplete, Reopens as FReopens, Releases as FReleases}
-use Rattle.freeze_levels.specs.declared.thaws.ThawStep.TheVariants.{Locks as TLocks, LoadsStage as TLoadsStage, LoadsHolders as TLoadsHolders, Leaves, LoadsSuperblock as TLoadsSuperblock, LeavesReadOnly, UnfreezesReadOnly, LeavesLast, SetsUnfrozen, Reopens as TReopens, Releases as TReleases}
-use Rattle.gated_tree.specs.declared.changes.CreateStep.TheVariants.{LoadsDirectory, LoadsNode, ChargesChild, TakesNode, RefundsChild}
-use Rattle.gated_tree.specs.declared.changes.RemoveStep.TheVariants.{LoadsFile as LoadsFileToRemove, FreesNode, CountsRemoved, MarksRemoved, RefundsRemoved, RefundsBlocks as RefundsItsBlocks, RefundsChild as RefundsItsChild}
-use Rattle.gated_tree.specs.declared.growth.GrowStep.TheVariants.{LoadsFile as LoadsFileToGrow, LoadsUsed, ChargesBlocks, GrowsFile, RefundsBlocks}
-use Rattle.gated_tree.specs.declared.changes.MoveStep.TheVariants.{LoadsFile as LoadsFileToMove, LoadsDirectory as LoadsTarget, ChargesChild as ChargesTarget, MovesFile, RefundsChild as RefundsOne}
+use Rattle.write_access.specs.declared.phases.WritePhase.TheVariants.{Takes, Wants as WWants}
+use Rattle.freeze_levels.specs.declared.freezes.FreezeStep.TheVariants.{Closes, SetsFs, SetsComplete, Reopens as FReopens}
+use Rattle.freeze_levels.specs.declared.thaws.ThawStep.TheVariants.{LeavesLast, Reopens as TReopens}
+use Rattle.gated_tree.specs.declared.changes.CreateStep.TheVariants.{LoadsDirectory}
+use Rattle.gated_tree.specs.declared.changes.RemoveStep.TheVariants.{LoadsFile as LoadsFileToRemove}
+use Rattle.gated_tree.specs.declared.growth.GrowStep.TheVariants.{LoadsFile as LoadsFileToGrow}
+use Rattle.gated_tree.specs.declared.changes.MoveStep.TheVariants.{LoadsFile as LoadsFileToMove}
 use Rattle.gated_tree.specs.declared.marks.MarkStep.TheVariants.{LoadsFile as LoadsFileToMark, MarksFile}
-use Rattle.gated_tree.specs.declared.snapshots.SnapshotStep.TheVariants.{Locks as SLocks, LoadsStage as SLoadsStage, LoadsUsed as SLoadsUsed, LoadsNode as SLoadsNode, LoadsKids as SLoadsKids, Releases as SReleases}
+use Rattle.gated_tree.specs.declared.snapshots.SnapshotStep.TheVariants.{Locks as SLocks}
 use Rattle.gated_tree.specs.declared.phases.TreePhase.TheVariants.{Create as Creates, Remove as Removes, Grow as Grows, MoveTo as Moves, Mark as TreeMarks, OpenFile as OpensOne, Snapshot as Snapshots, ClearMarks as TreeClears}
 use Rattle.gate_world.specs.declared.work.Phase.TheVariants.{Mounts, Remounts, DownReads, UpReads, Callbacks, Writes, Freezes, Thaws, Trees, Closes}
 use Rattle.gated_tree.specs.Phases.{next as tree_next, remove_next, grow_next, move_next, mark_next, create_next, snapshot_next, open_next}
 use Rattle.file_closes.specs.Phases.{next as close_next}
 use Rattle.write_access.specs.Phases.{next as write_next}
-use Rattle.cpu_words.specs.declared.names.WordName.TheVariants.{Umount, Stage, Holders, SbFlags, Remount as RemountWord, Removed as RemovedWord, MountFlags, MountCount, Block, Sync, LevelCount, Section, Used, Node, Kids}
+use Rattle.cpu_words.specs.declared.names.WordName.TheVariants.{Node}
 use Rattle.cpu_words.specs.declared.events.Touch.{Touch}
 use Rattle.cpu_words.specs.declared.events.Touch.TheVariants.{Load, Store, Add, Sub, Or, And, Swap, Cas}
 use Rattle.cpu_words.specs.Touches.{found_by}
@@ -87,43 +87,18 @@ IsNoStore event = Unit {0}
 
 want_word : (x : Want) (s : WantStep) → IsNoStore (want_next x s)
 want_word x CountsUp = tt
-want_word x LoadsHold = tt
-want_word x LoadsRemount = tt
-want_word x LoadsReadOnly = tt
-want_word x LoadsSuperblock = tt
-want_word x (CountsDown refusal) = tt
+want_word x other = tt
 
 change_word : (x : Change) (s : ChangeStep) → IsNoStore (change_next x s)
 change_word x Locks = tt
-change_word x LoadsFlags = tt
-change_word x LoadsSb = tt
-change_word x ClearsReadOnly = tt
-change_word x SetsHold = tt
-change_word x (Sums sum) = tt
-change_word x SetsReadOnly = tt
-change_word x (ClearsHold answer) = tt
-change_word x (Releases answer) = tt
+change_word x other = tt
 
 remount_word : (x : Remount) (s : RemountStep) (hook : HookAnswer) → IsNoStore (remount_next x s hook)
-remount_word x RLocks hook = tt
-remount_word x RLoadsStage hook = tt
-remount_word x RLoadsSuperblock hook = tt
 remount_word x SetsWritable (Ok answer) = tt
 remount_word x SetsWritable (Err code) = tt
-remount_word x RLoadsRemoved hook = tt
-remount_word x (RLoadsFlags m held) hook = tt
-remount_word x (RSetsHold m held) hook = tt
-remount_word x (RSums m held sum) hook = tt
-remount_word x (RLoadsRemovedAgain held) hook = tt
-remount_word x (RLeavesHolds held) hook = tt
-remount_word x (SetsRemount held) hook = tt
-remount_word x (RClearsHold held) hook = tt
-remount_word x (GivesUp m held) hook = tt
-remount_word x (ClearsMark n) hook = tt
 remount_word x RSetsReadOnly (Ok answer) = tt
 remount_word x RSetsReadOnly (Err code) = tt
-remount_word x ClearsRemount hook = tt
-remount_word x (RReleases answer) hook = tt
+remount_word x other hook = tt
 
 transition_word : (level : ℕ) (x : Transition) → IsNoStore (transition_next level x)
 transition_word level Loads = tt
@@ -131,13 +106,7 @@ transition_word level (Exchanges from to) = tt
 
 read_word : (x : DownRead) (s : DownReadStep) → IsNoStore (down_read_next x s)
 read_word x EntersSection = tt
-read_word x LoadsSync = tt
-read_word x CountsUpFast = tt
-read_word x CountsUpSlow = tt
-read_word x LoadsBlock = tt
-read_word x DCountsDown = tt
-read_word x LeavesAdmitted = tt
-read_word x LeavesBlocked = tt
+read_word x other = tt
 
 callback_word : (x : Callback) (s : CallbackStep) → IsNoStore (callback_next x s)
 callback_word x (Claims transition) = transition_word x.level transition
@@ -146,11 +115,8 @@ callback_word x (CCallsBack transition) = transition_word x.level transition
 
 down_write_word : (x : DownWrite) (s : DownWriteStep) → IsNoStore (down_write_next x s)
 down_write_word x (Enters transition) = transition_word x.level transition
-down_write_word x (WAwaitsSections grace) = tt
 down_write_word x (WCallsBack transition) = transition_word x.level transition
-down_write_word x AwaitsPassed = tt
-down_write_word x SetsBlock = tt
-down_write_word x (WSums sum) = tt
+down_write_word x other = tt
 
 up_write_word : (x : UpWrite) (s : UpWriteStep) → IsNoStore (up_write_next x s)
 up_write_word x ClearsBlock = tt
@@ -159,73 +125,38 @@ up_write_word x (Exits transition) = transition_word x.level transition
 write_word : (x : WritePhase) → IsNoStore (write_next x)
 write_word (Takes m r) = read_word r r.step
 write_word (WWants w) = want_word w w.step
-write_word (GivesBack m p refusal) = tt
-write_word (WDrops m p) = tt
-write_word (Ends p) = tt
+write_word other = tt
 
 freeze_word : (x : Freeze) (s : FreezeStep) (hook : HookAnswer) → IsNoStore (freeze_next x s hook)
-freeze_word x FLocks hook = tt
-freeze_word x FLoadsStage hook = tt
-freeze_word x FLoadsHolders hook = tt
-freeze_word x (Holds beside) hook = tt
-freeze_word x FLoadsSuperblock hook = tt
-freeze_word x CompletesReadOnly hook = tt
-freeze_word x SetsWrite hook = tt
-freeze_word x Unlocks hook = tt
 freeze_word x (Closes d) hook = down_write_word d d.step
-freeze_word x LocksAgain hook = tt
-freeze_word x SetsPageFault hook = tt
-freeze_word x (Cleans marks) hook = tt
 freeze_word x SetsFs (Ok answer) = tt
 freeze_word x SetsFs (Err code) = tt
 freeze_word x SetsComplete (Ok answer) = tt
 freeze_word x SetsComplete (Err code) = tt
 freeze_word x (FReopens u code) hook = up_write_word u u.step
-freeze_word x (FReleases answer) hook = tt
+freeze_word x other hook = tt
 
 thaw_word : (x : Thaw) (s : ThawStep) (hook : HookAnswer) → IsNoStore (thaw_next x s hook)
-thaw_word x TLocks hook = tt
-thaw_word x TLoadsStage hook = tt
-thaw_word x TLoadsHolders hook = tt
-thaw_word x (Leaves held) hook = tt
-thaw_word x TLoadsSuperblock hook = tt
-thaw_word x LeavesReadOnly hook = tt
-thaw_word x UnfreezesReadOnly hook = tt
 thaw_word x LeavesLast (Ok answer) = tt
 thaw_word x LeavesLast (Err code) = tt
-thaw_word x SetsUnfrozen hook = tt
 thaw_word x (TReopens u) hook = up_write_word u u.step
-thaw_word x (TReleases answer) hook = tt
+thaw_word x other hook = tt
 
 create_word : (x : Create) (s : CreateStep) → IsNoStore (create_next x s)
 create_word x LoadsDirectory = tt
-create_word x (LoadsNode n) = tt
-create_word x (ChargesChild n) = tt
-create_word x (TakesNode n) = tt
-create_word x RefundsChild = tt
+create_word x other = tt
 
 remove_word : (x : Remove) (s : RemoveStep) → IsNoStore (remove_next x s)
 remove_word x LoadsFileToRemove = tt
-remove_word x (FreesNode file) = tt
-remove_word x (CountsRemoved file) = tt
-remove_word x (MarksRemoved file) = tt
-remove_word x RefundsRemoved = tt
-remove_word x (RefundsItsBlocks file) = tt
-remove_word x (RefundsItsChild file) = tt
+remove_word x other = tt
 
 grow_word : (x : Grow) (s : GrowStep) → IsNoStore (grow_next x s)
 grow_word x LoadsFileToGrow = tt
-grow_word x (LoadsUsed file) = tt
-grow_word x (ChargesBlocks file used) = tt
-grow_word x (GrowsFile file) = tt
-grow_word x RefundsBlocks = tt
+grow_word x other = tt
 
 move_word : (x : MoveTo) (s : MoveStep) → IsNoStore (move_next x s)
 move_word x LoadsFileToMove = tt
-move_word x (LoadsTarget file) = tt
-move_word x (ChargesTarget file) = tt
-move_word x (MovesFile file) = tt
-move_word x (RefundsOne dir answer) = tt
+move_word x other = tt
 
 mark_word : (x : Mark) (s : MarkStep) → IsNoStore (mark_next x s)
 mark_word x LoadsFileToMark = tt
@@ -237,11 +168,7 @@ open_word x (OpensFile file) = tt
 
 snapshot_word : (x : Snapshot) (s : SnapshotStep) → IsNoStore (snapshot_next x s)
 snapshot_word x SLocks = tt
-snapshot_word x SLoadsStage = tt
-snapshot_word x SLoadsUsed = tt
-snapshot_word x (SLoadsNode n) = tt
-snapshot_word x (SLoadsKids n) = tt
-snapshot_word x (SReleases answer) = tt
+snapshot_word x other = tt
 
 tree_word : (x : TreePhase) (hook : HookAnswer) → IsNoStore (tree_next x hook)
 tree_word (Creates x) hook = create_word x x.step
@@ -254,13 +181,8 @@ tree_word (Snapshots x) hook = snapshot_word x x.step
 tree_word (TreeClears x) hook = tt
 
 close_word : (x : ClosePhase) → IsNoStore (close_next x)
-close_word (LoadsFileToClose x) = tt
-close_word (LowersCount x node) = tt
 close_word (EntersLevel file node r) = read_word r r.step
-close_word (FreesFile file p node) = tt
-close_word (RefundsFile p blocks) = tt
-close_word (Uncounts p) = tt
-close_word (LeavesLevel p) = tt
+close_word other = tt
 
 -- by no phase's next event
 pub no_store : (phase : Phase) (hook : HookAnswer) → IsNoStore (next_of phase hook)
@@ -288,20 +210,7 @@ held_found (Node n) (Or bits) value none may = may
 held_found (Node n) (And bits) value none may = may
 held_found (Node n) (Swap new) value none may = may
 held_found (Node n) (Cas expect put) value none may = may
-held_found Umount touch value none may = tt
-held_found Stage touch value none may = tt
-held_found Holders touch value none may = tt
-held_found SbFlags touch value none may = tt
-held_found RemountWord touch value none may = tt
-held_found RemovedWord touch value none may = tt
-held_found (MountFlags m) touch value none may = tt
-held_found (MountCount m p) touch value none may = tt
-held_found (Block i) touch value none may = tt
-held_found (Sync i) touch value none may = tt
-held_found (LevelCount i p) touch value none may = tt
-held_found (Section t) touch value none may = tt
-held_found Used touch value none may = tt
-held_found (Kids n) touch value none may = tt
+held_found other touch value none may = tt
 
 -- the same of what a phase asks of its word
 open_found : (x : OpenFile) (s : OpenStep) (value : ℕ) → OpenMayFind s value → OpenMayFind s (found_by (open_next x s).1 value)

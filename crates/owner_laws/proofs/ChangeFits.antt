@@ -12,7 +12,7 @@ use Rattle.cpu_words.specs.Touches.{wrap_add}
 use Rattle.mount_counts.specs.declared.phases.MountPhase.TheVariants.{Change as Changes}
 use Rattle.mount_counts.specs.declared.phases.Change.{Change}
 use Rattle.mount_counts.specs.declared.phases.ChangeStep.{ChangeStep}
-use Rattle.mount_counts.specs.declared.phases.ChangeStep.TheVariants.{Locks, LoadsFlags, LoadsSuperblock as LoadsSb, ClearsReadOnly, SetsHold, Sums, SetsReadOnly, ClearsHold, Releases}
+use Rattle.mount_counts.specs.declared.phases.ChangeStep.TheVariants.{Locks, LoadsFlags, LoadsSuperblock as LoadsSb, SetsHold, Sums, SetsReadOnly, ClearsHold, Releases}
 use Rattle.mount_counts.specs.Phases.{has_flag, at_change, lock_failed, step_between, change_from, change_summed, change_next, change_after, next}
 use Rattle.gate_world.specs.declared.config.Config.{Config}
 use Rattle.gate_world.specs.Configs.{IsWithin, extents_of}
@@ -61,9 +61,7 @@ module _ (c : Config) (within : IsWithin c) (t : ℕ) (held : ℕ → ℕ) (leve
       by_bool (has_flag found 1) (λ b. NextFits (if b then Go (at_change x (change_from x true)) else Go (at_change x LoadsSb)))
       (f.0, f.1, f.2, f.3, between x.read_only true) f
   change_goes x LoadsSb found f = (f.0, f.1, f.2, f.3, between x.read_only (not (found == 0)))
-  change_goes x ClearsReadOnly found f = f
   change_goes x SetsHold found f = (f.0, f.1, f.2, f.3, omega (arith, within.some_processor))
   change_goes x (Sums sum) found f = (f.0, f.1, f.2, f.3, summed x sum found f.2)
-  change_goes x SetsReadOnly found f = f
-  change_goes x (ClearsHold answer) found f = f
   change_goes x (Releases answer) found f = tt
+  change_goes x other found f = f

@@ -132,16 +132,14 @@ module _ (c : Config) (lim : IsWithin c) (t m : ℕ) (ro : Bool) (value : ℕ) (
       Answers c m ro wait answer (longer wait (ClearsHold answer)) added
   hold_leaves wait (Ok reply) h = h
   hold_leaves wait (Err Again) h = h
-  hold_leaves wait (Err Busy) h = h
-  hold_leaves wait (Err refusal) h = h
+  hold_leaves wait other h = h
 
   -- so does one that gives `umount` back
   lock_leaves : (wait : Bool) (answer : Result Reply GateError) → Answers c m ro wait answer earlier added →
       Answers c m ro wait answer (longer wait (Releases answer)) added
   lock_leaves wait (Ok reply) h = h
   lock_leaves wait (Err Again) h = h
-  lock_leaves wait (Err Busy) h = h
-  lock_leaves wait (Err refusal) h = h
+  lock_leaves wait other h = h
 
   -- `umount` was found taken
   lock_taken : (wait : Bool) → ChangeSays c m ro wait Locks earlier added → (value == 0) ≡ false → After wait Locks

@@ -23,11 +23,11 @@ use Rattle.percpu_rwsem.specs.SyncWords.{unpack, is_passed, on_enter, on_callbac
 use Rattle.percpu_rwsem.specs.Transitions.{transition_after}
 use Rattle.percpu_rwsem.specs.Writers.{down_write_after, at_down_write, enter_step, callback_step, sections_awaited, passed_awaited, up_write_after}
 use Rattle.percpu_rwsem.specs.declared.grace.GraceNext.{GraceNext}
-use Rattle.percpu_rwsem.specs.declared.grace.GraceNext.TheVariants.{More as MoreSections, Wait as WaitsFor, Ended}
-use Rattle.percpu_rwsem.specs.declared.sync_word.GpState.TheVariants.{Idle, Enter, Passed, Exit, Replay}
+use Rattle.percpu_rwsem.specs.declared.grace.GraceNext.TheVariants.{More as MoreSections}
+use Rattle.percpu_rwsem.specs.declared.sync_word.GpState.TheVariants.{Idle}
 use Rattle.percpu_rwsem.specs.declared.sync_word.SyncWord.{SyncWord}
 use Rattle.percpu_rwsem.specs.declared.transitions.TransitionNext.{TransitionNext}
-use Rattle.percpu_rwsem.specs.declared.transitions.TransitionNext.TheVariants.{More, Undefined, Made}
+use Rattle.percpu_rwsem.specs.declared.transitions.TransitionNext.TheVariants.{More, Made}
 use Rattle.percpu_rwsem.specs.declared.writers.DownWrite.{DownWrite}
 use Rattle.percpu_rwsem.specs.declared.writers.DownWriteStep.{DownWriteStep}
 use Rattle.percpu_rwsem.specs.declared.writers.DownWriteStep.TheVariants.{Enters, AwaitsSections, CallsBack, AwaitsPassed, SetsBlock, Sums}
@@ -168,11 +168,7 @@ module _ (c : Config) (t : ℕ) (w next : World) (earlier : List World) (good : 
       DownWriteCause c t w earlier d.level s → DownWriteCause c t next (w ∷ earlier) d.level s
   closing_stays d (Sums sum) one three e was quiet h =
       level_stays c t d.level w next earlier sum h good one three (ap words_read e) (ap words_read was) (quiet.levels d.level)
-  closing_stays d (Enters transition) one three e was quiet h = tt
-  closing_stays d (AwaitsSections grace) one three e was quiet h = tt
-  closing_stays d (CallsBack transition) one three e was quiet h = tt
-  closing_stays d AwaitsPassed one three e was quiet h = tt
-  closing_stays d SetsBlock one three e was quiet h = tt
+  closing_stays d other one three e was quiet h = tt
 
   -- so does the cause of each step of a freeze
   pub freeze_stays : (s : FreezeStep) → FreezeFits c x.holder s → (next.views t).phase ≡ Some (Freezes (at_freeze x s)) →
@@ -206,24 +202,18 @@ module _ (c : Config) (t : ℕ) (w next : World) (earlier : List World) (after :
     -- after an event of the enter
     enter_own : (n : TransitionNext) → Own (after_closing x d.level (Go (at_down_write d (enter_step d.tasks n))))
     enter_own (More transition) e = tt
-    enter_own Undefined e = tt
     enter_own (Made Idle) e = tt
-    enter_own (Made Enter) e = tt
-    enter_own (Made Passed) e = tt
-    enter_own (Made Exit) e = tt
-    enter_own (Made Replay) e = tt
+    enter_own other e = tt
 
     -- of the transition after its grace period
     callback_own : (n : TransitionNext) → Own (after_closing x d.level (Go (at_down_write d (callback_step n))))
     callback_own (More transition) e = tt
-    callback_own Undefined e = tt
-    callback_own (Made state) e = tt
+    callback_own other e = tt
 
     -- after a load of a section word
     sections_own : (n : GraceNext) → Own (after_closing x d.level (sections_awaited d n))
     sections_own (MoreSections grace) e = tt
-    sections_own (WaitsFor grace) e = tt
-    sections_own Ended e = tt
+    sections_own other e = tt
 
     -- and of the sync word
     passed_own : (o : Option SyncWord) → Own (after_closing x d.level (passed_awaited d o))
@@ -278,8 +268,7 @@ module _ (c : Config) (t : ℕ) (w next : World) (earlier : List World) (after :
   -- and of the clearing of the marks
   clearing_own : (n : Next ClearMarks) → Own (after_clearing x n)
   clearing_own (Go marks) e = tt
-  clearing_own (Wait marks) e = tt
-  clearing_own (Done answer) e = tt
+  clearing_own other e = tt
 
   -- where a freeze was found under way, it was so when the freeze looked
   stage_own : (w.views t).phase ≡ Some (Freezes (at_freeze x LoadsStage)) → (w.words.stage ≡ 0 → ⊥) → (w.words.stage ≡ 4 → ⊥) →
@@ -317,12 +306,8 @@ module _ (c : Config) (t : ℕ) (w next : World) (earlier : List World) (after :
       CauseOf c t next (w ∷ earlier) (Some (Freezes (at_freeze x s)))) (λ own. holder_own e (four refl) own) (λ other is. tt) e'
   freeze_own hook (Holds beside) f four e same h e' = λ r. absurd (cc)
   freeze_own hook LoadsSuperblock f four e same h e' = elim (eqb_tells w.words.sb 0) [ inl z ↦ rw z.0 tt | inr z ↦ rw z.0 tt ]
-  freeze_own hook CompletesReadOnly f four e same h e' = tt
-  freeze_own hook SetsWrite f four e same h e' = tt
-  freeze_own hook Unlocks f four e same h e' = tt
   freeze_own hook (Closes d) f four e same h e' = closing_own d hook d.step f.0 f.1 f.4 same h e'
   freeze_own hook LocksAgain f four e same h e' = elim (eqb_tells w.words.umount 0) [ inl z ↦ rw z.0 tt | inr z ↦ rw z.0 tt ]
-  freeze_own hook SetsPageFault f four e same h e' = tt
   freeze_own hook (Cleans marks) f four e same h e' = clearing_own (clear_after marks (w.words.node marks.node)).0 e'
   freeze_own (Ok answer) SetsFs f four e same h e' = tt
   freeze_own (Err code) SetsFs f four e same h e' = fails_own 2 code e'
@@ -330,4 +315,4 @@ module _ (c : Config) (t : ℕ) (w next : World) (earlier : List World) (after :
   freeze_own (Err code) SetsComplete f four e same h e' = fails_own 3 code e'
   freeze_own hook (Reopens u code) f four e same h e' =
       reopening_own u.level code (up_write_after u u.step (found_at w.words (Freezes (at_freeze x (Reopens u code))) hook)).0 e'
-  freeze_own hook (Releases answer) f four e same h e' = tt
+  freeze_own hook other f four e same h e' = tt

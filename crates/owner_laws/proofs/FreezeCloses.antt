@@ -23,12 +23,12 @@ use Rattle.freeze_levels.specs.declared.freezes.Freeze.{Freeze}
 use Rattle.freeze_levels.specs.declared.freezes.FreezeStep.TheVariants.{Closes}
 use Rattle.freeze_levels.specs.Freezes.{at_freeze, after_closing, level_closed}
 use Rattle.percpu_rwsem.specs.declared.grace.GraceNext.{GraceNext}
-use Rattle.percpu_rwsem.specs.declared.grace.GraceNext.TheVariants.{More as MoreSections, Wait as WaitsFor, Ended}
-use Rattle.percpu_rwsem.specs.declared.sync_word.GpState.TheVariants.{Idle, Enter, Passed, Exit, Replay}
+use Rattle.percpu_rwsem.specs.declared.grace.GraceNext.TheVariants.{More as MoreSections}
+use Rattle.percpu_rwsem.specs.declared.sync_word.GpState.TheVariants.{Idle}
 use Rattle.percpu_rwsem.specs.declared.sync_word.SyncWord.{SyncWord}
 use Rattle.percpu_rwsem.specs.declared.transitions.Transition.TheVariants.{Loads, Exchanges}
 use Rattle.percpu_rwsem.specs.declared.transitions.TransitionNext.{TransitionNext}
-use Rattle.percpu_rwsem.specs.declared.transitions.TransitionNext.TheVariants.{More, Undefined, Made}
+use Rattle.percpu_rwsem.specs.declared.transitions.TransitionNext.TheVariants.{More, Made}
 use Rattle.percpu_rwsem.specs.declared.writers.DownWrite.{DownWrite}
 use Rattle.percpu_rwsem.specs.declared.writers.DownWriteStep.{DownWriteStep}
 use Rattle.percpu_rwsem.specs.declared.writers.DownWriteStep.TheVariants.{Enters, AwaitsSections, CallsBack, AwaitsPassed, SetsBlock, Sums}
@@ -83,24 +83,18 @@ IsAtPlace d p (Done answer) = ⊥
 -- until its swap it is before that
 enter_place : (tasks : ℕ) (n : TransitionNext) → place_of (enter_step tasks n) ≡ Before
 enter_place tasks (More transition) = refl
-enter_place tasks Undefined = refl
 enter_place tasks (Made Idle) = refl
-enter_place tasks (Made Enter) = refl
-enter_place tasks (Made Passed) = refl
-enter_place tasks (Made Exit) = refl
-enter_place tasks (Made Replay) = refl
+enter_place tasks other = refl
 
 -- so it is past its grace period
 callback_place : (n : TransitionNext) → place_of (callback_step n) ≡ Before
 callback_place (More transition) = refl
-callback_place Undefined = refl
-callback_place (Made state) = refl
+callback_place other = refl
 
 -- in it
 sections_place : (d : DownWrite) (n : GraceNext) → IsAtPlace d Before (sections_awaited d n)
 sections_place d (MoreSections grace) = (refl, refl)
-sections_place d (WaitsFor grace) = (refl, refl)
-sections_place d Ended = (refl, refl)
+sections_place d other = (refl, refl)
 
 -- and where it waits for another writer's
 passed_place : (d : DownWrite) (o : Option SyncWord) → IsAtPlace d Before (passed_awaited d o)

@@ -23,7 +23,7 @@ use Rattle.percpu_rwsem.specs.Graces.{is_first, passed_on, looked}
 use Rattle.percpu_rwsem.specs.Transitions.{transition_after}
 use Rattle.percpu_rwsem.specs.Writers.{down_write_next, down_write_after, at_down_write, enter_step, callback_step, sections_awaited, passed_awaited, sum_begun, down_write_summed, up_write_next, up_write_after, exit_made}
 use Rattle.percpu_rwsem.specs.declared.grace.Grace.{Grace}
-use Rattle.percpu_rwsem.specs.declared.sync_word.GpState.TheVariants.{Idle, Enter, Passed, Exit, Replay}
+use Rattle.percpu_rwsem.specs.declared.sync_word.GpState.TheVariants.{Idle}
 use Rattle.percpu_rwsem.specs.declared.sync_word.SyncWord.{SyncWord}
 use Rattle.percpu_rwsem.specs.declared.transitions.Transition.TheVariants.{Loads, Exchanges}
 use Rattle.percpu_rwsem.specs.declared.transitions.TransitionNext.{TransitionNext}
@@ -98,13 +98,10 @@ use Rattle.gate_frames.proofs.Keeps.{by_bool}
 down_write_word : (c : Config) (d : DownWrite) (s : DownWriteStep) → 1 ≤ d.level → d.level ≤ 3 → DownWriteStepFits c s →
     IsWord (extents_of c) (down_write_next d s).0
 down_write_word c d (Enters Loads) l1 l3 f = (l1, l3)
-down_write_word c d (Enters (Exchanges from to)) l1 l3 f = (l1, l3)
 down_write_word c d (AwaitsSections grace) l1 l3 f = f.1
 down_write_word c d (CallsBack Loads) l1 l3 f = (l1, l3)
-down_write_word c d (CallsBack (Exchanges from to)) l1 l3 f = (l1, l3)
-down_write_word c d AwaitsPassed l1 l3 f = (l1, l3)
-down_write_word c d SetsBlock l1 l3 f = (l1, l3)
 down_write_word c d (Sums sum) l1 l3 f = (l1, l3, f)
+down_write_word c d other l1 l3 f = (l1, l3)
 
 -- and of each event of an up-write
 up_write_word : (c : Config) (u : UpWrite) (s : UpWriteStep) → 1 ≤ u.level → u.level ≤ 3 → IsWord (extents_of c) (up_write_next u s).0
@@ -115,24 +112,14 @@ up_write_word c u (Exits (Exchanges from to)) l1 l3 = (l1, l3)
 -- so it is of each event of a freeze
 pub freeze_word : (c : Config) (x : Freeze) (s : FreezeStep) (hook : HookAnswer) → FreezeFits c x.holder s →
     IsWord (extents_of c) (freeze_next x s hook).0
-freeze_word c x Locks hook f = tt
-freeze_word c x LoadsStage hook f = tt
-freeze_word c x LoadsHolders hook f = tt
-freeze_word c x (Holds beside) hook f = tt
-freeze_word c x LoadsSuperblock hook f = tt
-freeze_word c x CompletesReadOnly hook f = tt
-freeze_word c x SetsWrite hook f = tt
-freeze_word c x Unlocks hook f = tt
 freeze_word c x (Closes d) hook f = down_write_word c d d.step f.0 f.1 f.4
-freeze_word c x LocksAgain hook f = tt
-freeze_word c x SetsPageFault hook f = tt
 freeze_word c x (Cleans marks) hook f = f.2
 freeze_word c x SetsFs (Ok answer) f = tt
 freeze_word c x SetsFs (Err code) f = tt
 freeze_word c x SetsComplete (Ok answer) f = tt
 freeze_word c x SetsComplete (Err code) f = tt
 freeze_word c x (Reopens u code) hook f = up_write_word c u u.step f.0 f.1
-freeze_word c x (Releases answer) hook f = tt
+freeze_word c x other hook f = tt
 
 -- What comes after a look at who holds a freeze: a refusal, where its own holder does, or else the store with it.
 pub found_cases : (x : Freeze) (held : Holders) (P : FreezeStep → Type 0) → (held_by held x.holder ≡ true → P (Releases (Err Busy))) →
@@ -159,11 +146,7 @@ summed_moves d sum found held levels =
 -- no event of a down-write moves one
 down_write_moves : (d : DownWrite) (s : DownWriteStep) (found : ℕ) → MovesNone (down_write_after d s found).1
 down_write_moves d (Sums sum) found held levels = summed_moves d sum found held levels
-down_write_moves d (Enters transition) found held levels = (tt, refl, refl)
-down_write_moves d (AwaitsSections grace) found held levels = (tt, refl, refl)
-down_write_moves d (CallsBack transition) found held levels = (tt, refl, refl)
-down_write_moves d AwaitsPassed found held levels = (tt, refl, refl)
-down_write_moves d SetsBlock found held levels = (tt, refl, refl)
+down_write_moves d other found held levels = (tt, refl, refl)
 
 -- none of an up-write
 up_write_moves : (u : UpWrite) (s : UpWriteStep) (found : ℕ) → MovesNone (up_write_after u s found).1
@@ -172,17 +155,7 @@ up_write_moves u (Exits transition) found held levels = (tt, refl, refl)
 
 -- and none of a freeze
 freeze_moves : (x : Freeze) (s : FreezeStep) (found : ℕ) (hook : HookAnswer) → MovesNone (freeze_after x s found hook).1
-freeze_moves x Locks found hook held levels = (tt, refl, refl)
-freeze_moves x LoadsStage found hook held levels = (tt, refl, refl)
-freeze_moves x LoadsHolders found hook held levels = (tt, refl, refl)
-freeze_moves x (Holds beside) found hook held levels = (tt, refl, refl)
-freeze_moves x LoadsSuperblock found hook held levels = (tt, refl, refl)
-freeze_moves x CompletesReadOnly found hook held levels = (tt, refl, refl)
-freeze_moves x SetsWrite found hook held levels = (tt, refl, refl)
-freeze_moves x Unlocks found hook held levels = (tt, refl, refl)
 freeze_moves x (Closes d) found hook held levels = down_write_moves d d.step found held levels
-freeze_moves x LocksAgain found hook held levels = (tt, refl, refl)
-freeze_moves x SetsPageFault found hook held levels = (tt, refl, refl)
 freeze_moves x (Cleans marks) found hook held levels =
     if_moves (dirty_in found == 1) (Clean marks.node) (λ f g. (tt, refl, refl)) held levels
 freeze_moves x SetsFs found (Ok answer) held levels = (tt, refl, refl)
@@ -190,7 +163,7 @@ freeze_moves x SetsFs found (Err code) held levels = (tt, refl, refl)
 freeze_moves x SetsComplete found (Ok answer) held levels = (tt, refl, refl)
 freeze_moves x SetsComplete found (Err code) held levels = (tt, refl, refl)
 freeze_moves x (Reopens u code) found hook held levels = up_write_moves u u.step found held levels
-freeze_moves x (Releases answer) found hook held levels = (tt, refl, refl)
+freeze_moves x other found hook held levels = (tt, refl, refl)
 
 -- its action can be done
 pub freeze_acts : (x : Freeze) (s : FreezeStep) (held : ℕ → ℕ) (found : ℕ) (hook : HookAnswer) →
@@ -200,12 +173,8 @@ freeze_acts x s held found hook = (freeze_moves x s found hook held (λ i. false
 -- a writer that goes on with its enter knows the words of its exchange
 knows_enter : (tasks found v : ℕ) (n : TransitionNext) → Shows on_enter found v n → KnowsDownWrite (enter_step tasks n)
 knows_enter tasks found v (More transition) h = h.1
-knows_enter tasks found v Undefined h = tt
 knows_enter tasks found v (Made Idle) h = tt
-knows_enter tasks found v (Made Enter) h = tt
-knows_enter tasks found v (Made Passed) h = tt
-knows_enter tasks found v (Made Exit) h = tt
-knows_enter tasks found v (Made Replay) h = tt
+knows_enter tasks found v other h = tt
 
 -- with the transition after its grace period
 knows_callback : (found v : ℕ) (n : TransitionNext) → Shows on_callback found v n → KnowsDownWrite (callback_step n)
@@ -216,19 +185,13 @@ knows_callback found v (Made state) h = tt
 module _ (c : Config) (within : IsWithin c) where
   -- the step after its enter fits: a grace period that begins has all tasks before it
   enter_fits : (tasks : ℕ) → tasks ≡ c.tasks → (n : TransitionNext) → DownWriteStepFits c (enter_step tasks n)
-  enter_fits tasks same (More transition) = tt
-  enter_fits tasks same Undefined = tt
   enter_fits tasks same (Made Idle) = (same, within.some_task)
-  enter_fits tasks same (Made Enter) = tt
-  enter_fits tasks same (Made Passed) = tt
-  enter_fits tasks same (Made Exit) = tt
-  enter_fits tasks same (Made Replay) = tt
+  enter_fits tasks same other = tt
 
   -- so does the one after its own transition
   callback_fits : (n : TransitionNext) → DownWriteStepFits c (callback_step n)
   callback_fits (More transition) = tt
-  callback_fits Undefined = tt
-  callback_fits (Made state) = tt
+  callback_fits other = tt
 
   module _ (d : DownWrite) (l1 : 1 ≤ d.level) (l3 : d.level ≤ 3) (same : d.tasks ≡ c.tasks) (processors : d.processors ≡ c.processors) where
     -- what comes after an event of a down-write fits

@@ -112,14 +112,10 @@ module _ (c : Config) (lim : IsWithin c) (w : World) (good : IsGood c w) (t : �
   -- each event
   freeze_run : (hook : HookAnswer) (s : FreezeStep) → IsHere c lim w good t lt x s → Runs hook s
   freeze_run hook Locks e =
-      leaves hook Locks None
-      (record { block_same = refl; level_same = refl; sync_same = refl; section_same = refl; whole_same = refl })
-      (here_stands c lim w good t lt x Locks e)
+      leaves hook Locks None (assumption) (here_stands c lim w good t lt x Locks e)
       (locked_stands x Locks LoadsStage w.words.umount None (freeze_stands (at_freeze x Locks)) (freeze_stands (at_freeze x LoadsStage)))
   freeze_run hook LoadsStage e =
-      leaves hook LoadsStage None
-      (record { block_same = refl; level_same = refl; sync_same = refl; section_same = refl; whole_same = refl })
-      (here_stands c lim w good t lt x LoadsStage e)
+      leaves hook LoadsStage None (assumption) (here_stands c lim w good t lt x LoadsStage e)
       (by_bool (w.words.stage == 0)
       (λ b. Stands (phase_after (map_next Freezes (if b then Go (at_freeze x LoadsSuperblock) else
       if w.words.stage == 4 then Go (at_freeze x LoadsHolders) else Go (at_freeze x (Releases (Err Busy)))))) None)
@@ -128,19 +124,14 @@ module _ (c : Config) (lim : IsWithin c) (w : World) (good : IsGood c w) (t : �
       (λ b. Stands (phase_after (map_next Freezes (if b then Go (at_freeze x LoadsHolders) else Go (at_freeze x (Releases (Err Busy)))))) None)
       (freeze_stands (at_freeze x LoadsHolders)) (freeze_stands (at_freeze x (Releases (Err Busy))))))
   freeze_run hook LoadsHolders e =
-      leaves hook LoadsHolders None
-      (record { block_same = refl; level_same = refl; sync_same = refl; section_same = refl; whole_same = refl })
-      (here_stands c lim w good t lt x LoadsHolders e)
+      leaves hook LoadsHolders None (assumption) (here_stands c lim w good t lt x LoadsHolders e)
       (found_cases x (holders_in w.words.holders) (λ s. Stands (Some (Freezes (at_freeze x s))) None)
       (λ own. freeze_stands (at_freeze x (Releases (Err Busy)))) (λ other. freeze_stands (at_freeze x (Holds (holders_in w.words.holders)))))
   freeze_run hook (Holds beside) e =
-      leaves hook (Holds beside) None
-      (record { block_same = refl; level_same = refl; sync_same = refl; section_same = refl; whole_same = refl })
+      leaves hook (Holds beside) None (assumption)
       (here_stands c lim w good t lt x (Holds beside) e) (freeze_stands (at_freeze x (Releases (Ok UnitReply))))
   freeze_run hook LoadsSuperblock e =
-      leaves hook LoadsSuperblock None
-      (record { block_same = refl; level_same = refl; sync_same = refl; section_same = refl; whole_same = refl })
-      (here_stands c lim w good t lt x LoadsSuperblock e)
+      leaves hook LoadsSuperblock None (assumption) (here_stands c lim w good t lt x LoadsSuperblock e)
       (found_stands x SetsWrite CompletesReadOnly w.words.sb None (freeze_stands (at_freeze x SetsWrite))
       (freeze_stands (at_freeze x CompletesReadOnly)))
   freeze_run hook CompletesReadOnly e =
@@ -154,9 +145,7 @@ module _ (c : Config) (lim : IsWithin c) (w : World) (good : IsGood c w) (t : �
       (record { block_same = refl; level_same = refl; sync_same = refl; section_same = refl; whole_same = rw k.0 refl })
       (here_stands c lim w good t lt x SetsWrite e) (freeze_stands (at_freeze x Unlocks))
   freeze_run hook Unlocks e =
-      leaves hook Unlocks None
-      (record { block_same = refl; level_same = refl; sync_same = refl; section_same = refl; whole_same = refl })
-      (here_stands c lim w good t lt x Unlocks e)
+      leaves hook Unlocks None (assumption) (here_stands c lim w good t lt x Unlocks e)
       (closing_first (Some (Freezes (at_freeze x (freeze_closes x 1)))) x.tasks x.processors
       (freeze_stands (at_freeze x (freeze_closes x 1))))
   freeze_run hook (Closes d) e =
@@ -166,9 +155,7 @@ module _ (c : Config) (lim : IsWithin c) (w : World) (good : IsGood c w) (t : �
       (stands_closing c lim w good t lt x hook d e)
       (entered_by_nobody c w good t lt (ap (λ p. has_position (stage_role_of p)) e) d.level)
   freeze_run hook LocksAgain e =
-      leaves hook LocksAgain (Some (closed_to 1))
-      (record { block_same = refl; level_same = refl; sync_same = refl; section_same = refl; whole_same = refl })
-      (here_stands c lim w good t lt x LocksAgain e)
+      leaves hook LocksAgain (Some (closed_to 1)) (assumption) (here_stands c lim w good t lt x LocksAgain e)
       (locked_stands x LocksAgain SetsPageFault w.words.umount (Some (closed_to 1)) (freeze_stands (at_freeze x LocksAgain))
       (freeze_stands (at_freeze x SetsPageFault)))
   freeze_run hook SetsPageFault e =
@@ -179,8 +166,7 @@ module _ (c : Config) (lim : IsWithin c) (w : World) (good : IsGood c w) (t : �
       (closing_next (Some (Freezes (at_freeze x (freeze_closes x 2)))) 1 x.tasks x.processors (omega arith)
       (freeze_stands (at_freeze x (freeze_closes x 2))))
   freeze_run hook (Cleans marks) e =
-      leaves hook (Cleans marks) (Some (closed_to 2))
-      (record { block_same = refl; level_same = refl; sync_same = refl; section_same = refl; whole_same = refl })
+      leaves hook (Cleans marks) (Some (closed_to 2)) (assumption)
       (here_stands c lim w good t lt x (Cleans marks) e) (cleared_stands x marks (node_after marks.node marks.nodes))
   freeze_run hook SetsFs e = sets_fs hook e
   freeze_run hook SetsComplete e = sets_complete hook e
@@ -188,11 +174,9 @@ module _ (c : Config) (lim : IsWithin c) (w : World) (good : IsGood c w) (t : �
       let phase : Phase = Freezes (at_freeze x (Reopens u code)) in
       up_write_runs c lim w good t lt u (view_after (w.views t) phase (value_at w.words phase hook) hook)
       (here_fits c lim w good t lt x (Reopens u code) e).5 (here_stands c lim w good t lt x (Reopens u code) e)
-      (stands_reopening c lim w good t lt x hook u code e)
+      (stands_reopening x u code (found_at w.words phase hook))
   freeze_run hook (Releases answer) e =
-      leaves hook (Releases answer) None
-      (record { block_same = refl; level_same = refl; sync_same = refl; section_same = refl; whole_same = refl })
-      (here_stands c lim w good t lt x (Releases answer) e) idle_stands
+      leaves hook (Releases answer) None (assumption) (here_stands c lim w good t lt x (Releases answer) e) idle_stands
 
 -- each event of a freeze is one of each level
 pub freeze_runs : (c : Config) → IsWithin c → (w : World) → IsGood c w → (t : ℕ) → t < c.tasks → (hook : HookAnswer) (x : Freeze) →

@@ -129,9 +129,7 @@ module _ (c : Config) (lim : IsWithin c) (w : World) (good : IsGood c w) (t : �
   stores hook s s' e n kind o o' fit levels tree happens adds asks holding =
       let v : View = view_at (StageWord, Store n) w.words.stage hook s' (Some (StageAction n)) in
       let now : IsWriter v.phase = freezes_write (at_freeze x s') in
-      writer_stores c w good t lt v (here_writes s e) now
-      (record { held_same = refl; levels_same = refl; open_same = refl; added_same = refl; taken_same = refl })
-      (record { held_same = refl; added_same = refl; taken_same = refl })
+      writer_stores c w good t lt v (here_writes s e) now (assumption) (record { held_same = refl; added_same = refl; taken_same = refl })
       (goes_to s s' e fit) n kind
       (owner_stays c w good t lt v (here_writes s e) now w.words refl refl (o' ∙ sym (ap owns e ∙ o)))
       levels tree happens adds asks holding
@@ -261,8 +259,7 @@ module _ (c : Config) (lim : IsWithin c) (w : World) (good : IsGood c w) (t : �
       let v : View = view_at (StageWord, Store 4) w.words.stage (Ok answer) s' (Some (StageAction 4)) in
       let sb : w.words.sb ≡ 0 = (good Stages).writable (rw k refl) in
       stores (Ok answer) SetsComplete s' e 4 (Completes 0) refl refl (none_held x.holder)
-      (freezes_all c lim w good t lt (record w.words { stage = 4 }) v
-      (record { block_same = refl; level_same = refl; sync_same = refl; section_same = refl })
+      (freezes_all c lim w good t lt (record w.words { stage = 4 }) v (assumption)
       (record { held_same = refl; added_same = refl; taken_same = refl }) (here_stands SetsComplete e) (freeze_stands (at_freeze x s'))
       (rw sb refl))
       (kept_tree (Ok answer) SetsComplete s' e 4 refl
@@ -312,8 +309,7 @@ module _ (c : Config) (lim : IsWithin c) (w : World) (good : IsGood c w) (t : �
       IsStageEvent c w good t lt (record w.words { umount = n }) v kind → stage_action_of kind (stages_in w) ≡ None →
       freeze_holder_role s' ≡ freeze_holder_role s → WriterLaw c w t (record w.words { umount = n }) v None
   tries s s' e n hook stand kind fit owner before after same happens adds holder =
-      writer_beside c w good t lt (tried hook n s') (here_writes s e) (freezes_write (at_freeze x s'))
-      (record { held_same = refl; levels_same = refl; open_same = refl; added_same = refl; taken_same = refl })
+      writer_beside c w good t lt (tried hook n s') (here_writes s e) (freezes_write (at_freeze x s')) (assumption)
       (record { held_same = refl; added_same = refl; taken_same = refl }) (goes_to s s' e fit) n stand kind owner
       (subst (Stands (w.views t).phase) before (here_stands s e))
       (subst (Stands (Some (Freezes (at_freeze x s')))) after (freeze_stands (at_freeze x s'))) (same ∙ sym (here_tree s e)) happens adds
@@ -326,9 +322,7 @@ module _ (c : Config) (lim : IsWithin c) (w : World) (good : IsGood c w) (t : �
       let v : View = tried hook w.words.umount s in
       tries s s e w.words.umount hook (freeze_stand s) Stays fit
       (owner_stays c w good t lt v (here_writes s e) (freezes_write (at_freeze x s)) w.words refl refl (sym (ap owns e))) refl refl refl
-      (stays_there c w good t lt w.words v
-      (record { stage_same = refl; sb_same = refl; remount_same = refl; block_same = refl; node_same = refl })
-      (sym (ap stage_role_of e))) refl refl
+      (stays_there c w good t lt w.words v (assumption) (sym (ap stage_role_of e))) refl refl
 
   -- takes `umount` where it is free
   pub locks : (hook : HookAnswer) → IsHere Locks → Keeps hook Locks
@@ -364,8 +358,7 @@ module _ (c : Config) (lim : IsWithin c) (w : World) (good : IsGood c w) (t : �
       let f : FitsHere Unlocks = here_fits Unlocks e in
       let s' : FreezeStep = freeze_closes x 1 in
       let v : View = view_at (Umount, Store 0) w.words.umount hook s' None in
-      beside Unlocks s' e 0 w.words.umount Umount (Store 0) hook None (LetsGo 1 Before)
-      (record { held_same = refl; levels_same = refl; open_same = refl; added_same = refl; taken_same = refl })
+      beside Unlocks s' e 0 w.words.umount Umount (Store 0) hook None (LetsGo 1 Before) (assumption)
       (record { held_same = refl; added_same = refl; taken_same = refl }) (omega arith, omega arith, f.1, f.2, tt, tt)
       (lock_given c w good t lt v (here_writes Unlocks e) (freezes_write (at_freeze x s')) (ap owns e) refl)
       refl (closing_first (Some (Freezes (at_freeze x s'))) x.tasks x.processors (freeze_stands (at_freeze x s')))
@@ -377,8 +370,7 @@ module _ (c : Config) (lim : IsWithin c) (w : World) (good : IsGood c w) (t : �
   releases hook answer e =
       let s : FreezeStep = Releases answer in
       let v : View = view_with (w.views t) (Umount, Store 0) w.words.umount hook (Done answer, None) in
-      writer_beside c w good t lt v (here_writes s e) idle_writes
-      (record { held_same = refl; levels_same = refl; open_same = refl; added_same = refl; taken_same = refl })
+      writer_beside c w good t lt v (here_writes s e) idle_writes (assumption)
       (record { held_same = refl; added_same = refl; taken_same = refl }) tt 0 None (ReleasesStage None None)
       (lock_given c w good t lt v (here_writes s e) idle_writes (ap owns e) refl)
       (here_stands s e) idle_stands (sym (here_tree s e)) (ap stage_role_of e, refl) refl
@@ -423,17 +415,14 @@ module _ (c : Config) (lim : IsWithin c) (w : World) (good : IsGood c w) (t : �
             (still LoadsStage LoadsSuperblock e StageWord w.words.stage hook refl))
         | inr h ↦ elim (eqb_tells w.words.stage 4) [
           | inl k ↦ rw (h.0, k.0) (loads hook StageWord w.words.stage LoadsStage LoadsHolders e (FindsStage None None) refl refl refl refl
-              refl tt
-              (record { held_same = refl; levels_same = refl; open_same = refl; added_same = refl; taken_same = refl })
-              (record { held_same = refl; added_same = refl; taken_same = refl })
+              refl tt (assumption) (record { held_same = refl; added_same = refl; taken_same = refl })
               (finds LoadsStage e (view_at (StageWord, Load) w.words.stage hook LoadsHolders None) (FindsStage None None) w.words.stage 4
               k.1 (λ n. Owning (Some n) None) (ap stage_role_of e, refl) refl) refl
               (still LoadsStage LoadsHolders e StageWord w.words.stage hook refl))
           | inr k ↦ rw (h.0, k.0) (loads hook StageWord w.words.stage LoadsStage (Releases (Err Busy)) e Stays refl refl refl refl refl tt
               (record { held_same = refl; levels_same = refl; open_same = refl; added_same = refl; taken_same = refl })
               (record { held_same = refl; added_same = refl; taken_same = refl })
-              (stays_there c w good t lt w.words (view_at (StageWord, Load) w.words.stage hook (Releases (Err Busy)) None)
-              (record { stage_same = refl; sb_same = refl; remount_same = refl; block_same = refl; node_same = refl })
+              (stays_there c w good t lt w.words (view_at (StageWord, Load) w.words.stage hook (Releases (Err Busy)) None) (assumption)
               (sym (ap stage_role_of e))) refl (still LoadsStage (Releases (Err Busy)) e StageWord w.words.stage hook refl))
         ]
       ]
@@ -448,16 +437,12 @@ module _ (c : Config) (lim : IsWithin c) (w : World) (good : IsGood c w) (t : �
       let some : is_unheld held ≡ false = finds_some c.tasks (holders_at w) (good Holding) t lt k.0 none in
       found_cases x held (λ s'. WriterLaw c w t w.words (view_at (HoldersWord, Load) w.words.holders hook s' None) None)
       (λ own. loads hook HoldersWord w.words.holders LoadsHolders (Releases (Err Busy)) e (Recalls (Owning (Some 4) None) (Owning None None))
-      refl refl refl refl refl tt
-      (record { held_same = refl; levels_same = refl; open_same = refl; added_same = refl; taken_same = refl })
-      (record { held_same = refl; added_same = refl; taken_same = refl })
+      refl refl refl refl refl tt (assumption) (record { held_same = refl; added_same = refl; taken_same = refl })
       (ap stage_role_of e, owners_alike (Some 4) None None None, (tt, tt), (λ m l. absurd (omega (arith, l))), refl) refl
       (still LoadsHolders (Releases (Err Busy)) e HoldersWord w.words.holders hook refl))
-      (λ other. loads hook HoldersWord w.words.holders LoadsHolders (StoresHolder held) e Stays refl refl refl refl refl other
-      (record { held_same = refl; levels_same = refl; open_same = refl; added_same = refl; taken_same = refl })
+      (λ other. loads hook HoldersWord w.words.holders LoadsHolders (StoresHolder held) e Stays refl refl refl refl refl other (assumption)
       (record { held_same = refl; added_same = refl; taken_same = refl })
-      (stays_there c w good t lt w.words (view_at (HoldersWord, Load) w.words.holders hook (StoresHolder held) None)
-      (record { stage_same = refl; sb_same = refl; remount_same = refl; block_same = refl; node_same = refl })
+      (stays_there c w good t lt w.words (view_at (HoldersWord, Load) w.words.holders hook (StoresHolder held) None) (assumption)
       (sym (ap stage_role_of e))) refl
       (holders_after c w good t lt w.words (view_at (HoldersWord, Load) w.words.holders hook (StoresHolder held) None) Finds (
         ap holder_role_of e,
@@ -481,8 +466,7 @@ module _ (c : Config) (lim : IsWithin c) (w : World) (good : IsGood c w) (t : �
       let v : View = view_at (HoldersWord, Store n) w.words.holders hook s' (Some (Hold x.holder)) in
       let now : IsWriter v.phase = freezes_write (at_freeze x s') in
       let f : FitsHere (StoresHolder beside) = here_fits (StoresHolder beside) e in
-      writer_holds c w good t lt v (here_writes (StoresHolder beside) e) now
-      (record { held_same = refl; levels_same = refl; open_same = refl; added_same = refl; taken_same = refl })
+      writer_holds c w good t lt v (here_writes (StoresHolder beside) e) now (assumption)
       (record { held_same = refl; added_same = refl; taken_same = refl })
       (goes_to (StoresHolder beside) s' e tt) n (Hold x.holder) None (HoldsOne x.holder None (Owning None None))
       (owner_stays c w good t lt v (here_writes (StoresHolder beside) e) now w.words refl refl (sym (ap owns e)))
@@ -536,8 +520,7 @@ module _ (c : Config) (lim : IsWithin c) (w : World) (good : IsGood c w) (t : �
             (λ n. Owning (Some 0) (Some n)) (ap stage_role_of e, refl) refl) refl
             (still LoadsSuperblock SetsWrite e SbFlags w.words.sb hook refl))
         | inr h ↦ rw h.0 (loads hook SbFlags w.words.sb LoadsSuperblock CompletesReadOnly e (LoadsSb (Some 0) None) refl refl refl refl refl
-            tt (record { held_same = refl; levels_same = refl; open_same = refl; added_same = refl; taken_same = refl })
-            (record { held_same = refl; added_same = refl; taken_same = refl })
+            tt (record { held_same = refl; levels_same = refl; open_same = refl; added_same = refl; taken_same = refl }) (assumption)
             (finds LoadsSuperblock e (view_at (SbFlags, Load) w.words.sb hook CompletesReadOnly None) (LoadsSb (Some 0) None) w.words.sb
             1 (omega (arith, h.1, (good Stages).superblock)) (λ n. Owning (Some 0) (Some n)) (ap stage_role_of e, refl) refl) refl
             (still LoadsSuperblock CompletesReadOnly e SbFlags w.words.sb hook refl))

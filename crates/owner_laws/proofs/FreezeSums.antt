@@ -11,10 +11,10 @@ use Rattle.cpu_words.specs.declared.sums.Sum.{Sum}
 use Rattle.cpu_words.specs.Hooks.{HookAnswer}
 use Rattle.cpu_words.specs.Touches.{wrap_add, event_of, found_by}
 use Rattle.percpu_rwsem.specs.declared.sync_word.GpState.{GpState}
-use Rattle.percpu_rwsem.specs.declared.sync_word.GpState.TheVariants.{Idle, Enter, Passed, Exit, Replay}
+use Rattle.percpu_rwsem.specs.declared.sync_word.GpState.TheVariants.{Idle, Enter}
 use Rattle.percpu_rwsem.specs.declared.sync_word.SyncWord.{SyncWord}
 use Rattle.percpu_rwsem.specs.declared.grace.Grace.{Grace}
-use Rattle.percpu_rwsem.specs.declared.transitions.Transition.TheVariants.{Loads, Exchanges}
+use Rattle.percpu_rwsem.specs.declared.transitions.Transition.TheVariants.{Loads}
 use Rattle.percpu_rwsem.specs.declared.transitions.TransitionNext.{TransitionNext}
 use Rattle.percpu_rwsem.specs.declared.transitions.TransitionNext.TheVariants.{More, Undefined, Made}
 use Rattle.percpu_rwsem.specs.declared.writers.DownWrite.{DownWrite}
@@ -83,13 +83,8 @@ module _ (c : Config) (lim : IsWithin c) (i value : ℕ) (hook : HookAnswer) (ea
   -- each event of the closing of a level leaves what was found, stored and cleared
   pub closing_leaves : (s : DownWriteStep) → Leaves (closing_trace s) earlier
   closing_leaves (Enters Loads) = (refl, refl, refl, refl)
-  closing_leaves (Enters (Exchanges from to)) = (refl, refl, refl, refl)
-  closing_leaves (AwaitsSections grace) = (refl, refl, refl, refl)
   closing_leaves (CallsBack Loads) = (refl, refl, refl, refl)
-  closing_leaves (CallsBack (Exchanges from to)) = (refl, refl, refl, refl)
-  closing_leaves AwaitsPassed = (refl, refl, refl, refl)
-  closing_leaves SetsBlock = (refl, refl, refl, refl)
-  closing_leaves (Sums sum) = (refl, refl, refl, refl)
+  closing_leaves other = (refl, refl, refl, refl)
 
   -- what the trace says after the event of a step
   abbrev AfterClosing : DownWriteStep → Type 0
@@ -101,9 +96,7 @@ module _ (c : Config) (lim : IsWithin c) (i value : ℕ) (hook : HookAnswer) (ea
   state_goes : (trace : List Traced) (state : GpState) → ClosingGoes c i trace (closing_at c i (entered_from c.tasks state))
   state_goes trace Idle = (entered_from c.tasks Idle, refl, tt)
   state_goes trace Enter = (AwaitsPassed, refl, tt)
-  state_goes trace Passed = (SetsBlock, refl, tt)
-  state_goes trace Exit = (SetsBlock, refl, tt)
-  state_goes trace Replay = (SetsBlock, refl, tt)
+  state_goes trace other = (SetsBlock, refl, tt)
 
   -- the same after each event of the enter
   enter_goes : (trace : List Traced) (n : TransitionNext) → ClosingGoes c i trace (closing_at c i (enter_step c.tasks n))

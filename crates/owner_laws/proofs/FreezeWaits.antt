@@ -18,9 +18,9 @@ use Rattle.percpu_rwsem.specs.Transitions.{transition_after}
 use Rattle.percpu_rwsem.specs.Writers.{down_write_after, at_down_write, sections_awaited, up_write_after, exit_made}
 use Rattle.percpu_rwsem.specs.declared.grace.Grace.{Grace}
 use Rattle.percpu_rwsem.specs.declared.sync_word.GpState.{GpState}
-use Rattle.percpu_rwsem.specs.declared.sync_word.GpState.TheVariants.{Idle, Enter, Passed, Exit, Replay}
+use Rattle.percpu_rwsem.specs.declared.sync_word.GpState.TheVariants.{Passed, Exit, Replay}
 use Rattle.percpu_rwsem.specs.declared.transitions.TransitionNext.{TransitionNext}
-use Rattle.percpu_rwsem.specs.declared.transitions.TransitionNext.TheVariants.{More, Undefined, Made}
+use Rattle.percpu_rwsem.specs.declared.transitions.TransitionNext.TheVariants.{More}
 use Rattle.percpu_rwsem.specs.declared.writers.DownWrite.{DownWrite}
 use Rattle.percpu_rwsem.specs.declared.writers.DownWriteStep.{DownWriteStep}
 use Rattle.percpu_rwsem.specs.declared.writers.DownWriteStep.TheVariants.{Enters, AwaitsSections, CallsBack, AwaitsPassed, SetsBlock, Sums}
@@ -30,24 +30,7 @@ use Rattle.percpu_rwsem.specs.declared.writers.UpWriteStep.TheVariants.{ClearsBl
 use Rattle.freeze_levels.specs.Freezes.{at_freeze, after_closing, after_clearing, after_reopening}
 use Rattle.freeze_levels.specs.declared.freezes.Freeze.{Freeze}
 use Rattle.freeze_levels.specs.declared.freezes.FreezeStep.{FreezeStep}
-use Rattle.freeze_levels.specs.declared.freezes.FreezeStep.TheVariants.{
-  LoadsHolders,
-  Holds,
-  Locks,
-  LoadsStage,
-  LoadsSuperblock,
-  CompletesReadOnly,
-  SetsWrite,
-  Unlocks,
-  Closes,
-  LocksAgain,
-  SetsPageFault,
-  Cleans,
-  SetsFs,
-  SetsComplete,
-  Reopens,
-  Releases,
-}
+use Rattle.freeze_levels.specs.declared.freezes.FreezeStep.TheVariants.{Locks, LoadsStage, LoadsSuperblock, Closes, LocksAgain, Cleans, SetsFs, SetsComplete, Reopens}
 use Rattle.level_laws.specs.Changes.{state_found, state_found_in}
 use Rattle.level_laws.specs.Events.{SyncLevelHolds}
 use Rattle.level_laws.specs.Operations.{down_write_role}
@@ -71,17 +54,12 @@ use Rattle.owner_laws.proofs.FreezeCauses.{level_ends}
 queued_passed : (s : GpState) → is_queued s ≡ true → is_passed s ≡ true
 queued_passed Exit h = refl
 queued_passed Replay h = refl
-queued_passed Idle h = absurd (cc)
-queued_passed Enter h = absurd (cc)
-queued_passed Passed h = absurd (cc)
+queued_passed other h = absurd (cc)
 
 -- so is GP_PASSED
 state_passed : (s : GpState) → Some s ≡ Some Passed → is_passed s ≡ true
 state_passed Passed h = refl
-state_passed Idle h = absurd (cc)
-state_passed Enter h = absurd (cc)
-state_passed Exit h = absurd (cc)
-state_passed Replay h = absurd (cc)
+state_passed other h = absurd (cc)
 
 -- a closing has at its own level the role of its step
 closing_role : (x : Freeze) (d : DownWrite) (s : DownWriteStep) →
@@ -177,8 +155,7 @@ module _ (c : Config) (w : World) (earlier : List World) (good : IsGood c w) (t 
   exits_waits : (s : FreezeStep) (u : UpWrite) (level code : ℕ) (n : TransitionNext) →
       Waits s (after_reopening x level code (exit_made u n))
   exits_waits s u level code (More transition) = tt
-  exits_waits s u level code Undefined = tt
-  exits_waits s u level code (Made state) = tt
+  exits_waits s u level code other = tt
 
   -- so none of its reopening is
   reopening_waits : (s : FreezeStep) (u : UpWrite) (step : UpWriteStep) (level code found : ℕ) →
@@ -205,19 +182,13 @@ module _ (c : Config) (w : World) (earlier : List World) (good : IsGood c w) (t 
         | inl k ↦ rw k.0 tt
         | inr k ↦ elim (eqb_tells w.words.stage 4) [ inl z ↦ rw (k.0, z.0) tt | inr z ↦ rw (k.0, z.0) tt ]
       ]
-  freeze_waits hook LoadsHolders e f h = tt
-  freeze_waits hook (Holds beside) e f h = tt
   freeze_waits hook LoadsSuperblock e f h = elim (eqb_tells w.words.sb 0) [ inl k ↦ rw k.0 tt | inr k ↦ rw k.0 tt ]
-  freeze_waits hook CompletesReadOnly e f h = tt
-  freeze_waits hook SetsWrite e f h = tt
-  freeze_waits hook Unlocks e f h = tt
   freeze_waits hook (Closes d) e f h = closing_waits d f.0 f.1 hook d.step e f.3 f.4 h
   freeze_waits hook LocksAgain e f h =
       elim (eqb_tells w.words.umount 0) [
         | inl k ↦ rw k.0 tt
         | inr k ↦ rw k.0 (umount_taken c w good t lt (Freezes (at_freeze x LocksAgain)) (λ y own. own) k.1 (ap owns e))
       ]
-  freeze_waits hook SetsPageFault e f h = tt
   freeze_waits hook (Cleans marks) e f h = clearing_waits (Cleans marks) marks (w.words.node marks.node)
   freeze_waits (Ok answer) SetsFs e f h = tt
   freeze_waits (Err code) SetsFs e f h = tt
@@ -228,3 +199,4 @@ module _ (c : Config) (w : World) (earlier : List World) (good : IsGood c w) (t 
   freeze_waits hook (Releases (Ok reply)) e f h = tt
   freeze_waits hook (Releases (Err Busy)) e f h = h refl
   freeze_waits hook (Releases (Err refusal)) e f h = tt
+  freeze_waits hook other e f h = tt

@@ -74,25 +74,18 @@ module _ (c : Config) where
 
   pub remount_there : (x : Remount) (s : RemountStep) (hook : HookAnswer) → RemountFits c s →
       IsWord (extents_of c) (remount_next x s hook).0
-  remount_there x Locks hook f = tt
-  remount_there x LoadsStage hook f = tt
-  remount_there x LoadsSuperblock hook f = tt
   remount_there x SetsWritable (Ok answer) f = tt
   remount_there x SetsWritable (Err code) f = tt
   remount_there x (LoadsFlags m set) hook f = f.0
   remount_there x (SetsHold m set) hook f = f.0
   remount_there x (Sums m set sum) hook f = (f.0, f.2)
-  remount_there x LoadsRemoved hook f = tt
-  remount_there x (LoadsRemovedAgain set) hook f = tt
   remount_there x (LeavesHolds set) hook f = f.1.1 (lowest set) (lowest_held set f.0 f.1.0).1
-  remount_there x (SetsRemount set) hook f = tt
   remount_there x (ClearsHold set) hook f = f.1.1 (lowest set) (lowest_held set f.0 f.1.0).1
   remount_there x (GivesUp m set) hook f = f.1.1 (lowest set) (lowest_held set f.0 f.1.0).1
   remount_there x (ClearsMark n) hook f = f.1
   remount_there x SetsReadOnly (Ok answer) f = tt
   remount_there x SetsReadOnly (Err code) f = tt
-  remount_there x ClearsRemount hook f = tt
-  remount_there x (Releases answer) hook f = tt
+  remount_there x other hook f = tt
 
   module _ (lim : IsWithin c) where
     pub let_go_fits : (held : MountSet) → AllBelow c.mounts held → RemountFits c (let_go held)

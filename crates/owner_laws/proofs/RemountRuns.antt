@@ -3,7 +3,7 @@ use Rattle.std.proofs.Common.{◌≡◌, ℕ, ◌<◌, refl}
 use Rattle.std.specs.Prelude.{Some, Ok, Err}
 use Rattle.access_model.specs.Replies.{map_next}
 use Rattle.access_model.specs.declared.replies.Next.{Next}
-use Rattle.access_model.specs.declared.replies.Next.TheVariants.{Done, Go, Wait}
+use Rattle.access_model.specs.declared.replies.Next.TheVariants.{Go}
 use Rattle.cpu_words.specs.Hooks.{HookAnswer}
 use Rattle.cpu_words.specs.Words.{Words}
 use Rattle.stage_laws.specs.Roles.{KnowsStage}
@@ -37,14 +37,12 @@ remount_words w x hook s k i = (refl, refl, refl, refl)
 -- what comes after one is inside no section
 remount_outside : (next : Next Remount) → inside (phase_after (map_next Remounts next)) ≡ 0
 remount_outside (Go x) = refl
-remount_outside (Wait x) = refl
-remount_outside (Done answer) = refl
+remount_outside other = refl
 
 -- and has no part in a level
 remount_apart : (i : ℕ) (next : Next Remount) → sync_role_of i (phase_after (map_next Remounts next)) ≡ IsApart
 remount_apart i (Go x) = refl
-remount_apart i (Wait x) = refl
-remount_apart i (Done answer) = refl
+remount_apart i other = refl
 
 -- each event of a remount is one at which each level stays
 pub remount_runs : (c : Config) (w : World) → IsGood c w → (t : ℕ) → t < c.tasks → (hook : HookAnswer) (x : Remount) →

@@ -18,19 +18,7 @@ use Rattle.percpu_rwsem.specs.Transitions.{transition_after}
 use Rattle.percpu_rwsem.specs.Writers.{exit_made, up_write_after}
 use Rattle.freeze_levels.specs.declared.thaws.Thaw.{Thaw}
 use Rattle.freeze_levels.specs.declared.thaws.ThawStep.{ThawStep}
-use Rattle.freeze_levels.specs.declared.thaws.ThawStep.TheVariants.{
-  Locks,
-  LoadsStage,
-  LoadsHolders,
-  Leaves,
-  LoadsSuperblock,
-  LeavesReadOnly,
-  UnfreezesReadOnly,
-  LeavesLast,
-  SetsUnfrozen,
-  Reopens,
-  Releases,
-}
+use Rattle.freeze_levels.specs.declared.thaws.ThawStep.TheVariants.{Locks, LoadsStage, LoadsHolders, Leaves, LoadsSuperblock, UnfreezesReadOnly, LeavesLast, Reopens, Releases}
 use Rattle.freeze_levels.specs.Thaws.{at_thaw, thaw_opens, after_opening}
 use Rattle.access_model.specs.Holders.{held_by}
 use Rattle.freeze_levels.specs.Holders.{holders_in}
@@ -110,10 +98,8 @@ module _ (c : Config) (t : ℕ) (w next : World) (earlier : List World) (x : Tha
       CauseOf c t next (w ∷ earlier) (Some (Thaws (at_thaw x s)))) (λ other. holder_own e other) (λ own alone is. tt) (λ own shared is. tt) e'
   thaw_own hook (Leaves held) e e' = done_own
   thaw_own hook LoadsSuperblock e e' = elim (eqb_tells w.words.sb 0) [ inl z ↦ rw z.0 tt | inr z ↦ rw z.0 tt ]
-  thaw_own hook LeavesReadOnly e e' = tt
   thaw_own hook UnfreezesReadOnly e e' = done_own
   thaw_own (Ok answer) LeavesLast e e' = tt
   thaw_own (Err code) LeavesLast e e' = tt
-  thaw_own hook SetsUnfrozen e e' = tt
   thaw_own hook (Reopens u) e e' = reopening_own u u.step (found_at w.words (Thaws (at_thaw x (Reopens u))) hook)
-  thaw_own hook (Releases answer) e e' = tt
+  thaw_own hook other e e' = tt

@@ -196,8 +196,7 @@ opening_apart x level (Done answer) =
 -- a thaw does nothing at the tree, whatever comes after an event of it
 tree_comes : (trace : List Traced) (n : Next Thaw) → tree_role_of trace (phase_after (map_next Thaws n)) ≡ OffTree
 tree_comes trace (Go x) = refl
-tree_comes trace (Wait x) = refl
-tree_comes trace (Done answer) = refl
+tree_comes trace other = refl
 
 -- a role that is like this one, relies on what is so, and has cleared nodes that are clean
 abbrev GoesOn : StageRole → ℕ → ℕ → (ℕ → ℕ) → StageRole → Type 0
@@ -322,9 +321,7 @@ module _ (c : Config) (lim : IsWithin c) (w : World) (good : IsGood c w) (t : �
   store_law hook s s' e kind own own' fit empties apart levels happens adds =
       let v : View = view_at (Stage, Store 0) w.words.stage hook s' (Some (StageAction 0)) in
       let now : IsWriter v.phase = thaws_write (at_thaw x s') in
-      writer_stores c w good t lt v (here_writes s e) now
-      (record { held_same = refl; levels_same = refl; open_same = refl; added_same = refl; taken_same = refl })
-      (record { held_same = refl; added_same = refl; taken_same = refl })
+      writer_stores c w good t lt v (here_writes s e) now (assumption) (record { held_same = refl; added_same = refl; taken_same = refl })
       (goes_to s s' e fit) 0 kind
       (owner_stays c w good t lt v (here_writes s e) now w.words refl refl (own' ∙ sym (ap owns e ∙ own)))
       levels (opened_tree c w good t lt lim v (sym (here_off_tree s e))) happens adds
@@ -345,8 +342,7 @@ module _ (c : Config) (lim : IsWithin c) (w : World) (good : IsGood c w) (t : �
       Holds c (left_world w t (record w.words { umount = 0 }) v) Holding → WriterLaw c w t (record w.words { umount = 0 }) v None
   gives_back hook s e none answer stage sb role holding =
       let v : View = view_with (w.views t) (Umount, Store 0) w.words.umount hook (Done answer, None) in
-      writer_beside c w good t lt v (here_writes s e) idle_writes
-      (record { held_same = refl; levels_same = refl; open_same = refl; added_same = refl; taken_same = refl })
+      writer_beside c w good t lt v (here_writes s e) idle_writes (assumption)
       (record { held_same = refl; added_same = refl; taken_same = refl })
       tt 0 None (ReleasesStage stage sb)
       (lock_given c w good t lt v (here_writes s e) idle_writes (ap owns e ∙ ap stage_owns role) refl)
@@ -370,8 +366,7 @@ module _ (c : Config) (lim : IsWithin c) (w : World) (good : IsGood c w) (t : �
       IsStageEvent c w good t lt (record w.words { umount = n }) (tried hook n s) kind → stage_action_of kind (stages_in w) ≡ None →
       WriterLaw c w t (record w.words { umount = n }) (tried hook n s) None
   try_law hook e n s none fit apart kind owner happens adds =
-      writer_beside c w good t lt (tried hook n s) (here_writes Locks e) (thaws_write (at_thaw x s))
-      (record { held_same = refl; levels_same = refl; open_same = refl; added_same = refl; taken_same = refl })
+      writer_beside c w good t lt (tried hook n s) (here_writes Locks e) (thaws_write (at_thaw x s)) (assumption)
       (record { held_same = refl; added_same = refl; taken_same = refl })
       (goes_to Locks s e fit) n None kind owner (here_stands Locks e)
       (subst (Stands (Some (Thaws (at_thaw x s)))) none (thaw_stands (at_thaw x s))) (sym (here_off_tree Locks e)) happens adds
@@ -392,9 +387,7 @@ module _ (c : Config) (lim : IsWithin c) (w : World) (good : IsGood c w) (t : �
             try_law hook e n Locks refl tt refl Stays
             (owner_stays c w good t lt (tried hook n Locks) (here_writes Locks e) (thaws_write (at_thaw x Locks)) w.words refl refl
             (sym (ap owns e)))
-            (stays_there c w good t lt w.words (tried hook n Locks)
-            (record { stage_same = refl; sb_same = refl; remount_same = refl; block_same = refl; node_same = refl })
-            (sym (ap stage_role_of e))) refl)
+            (stays_there c w good t lt w.words (tried hook n Locks) (assumption) (sym (ap stage_role_of e))) refl)
       ]
 
   -- loads the stage, which has to be 4; meets: whoever changes it owns `umount`
@@ -458,9 +451,7 @@ module _ (c : Config) (lim : IsWithin c) (w : World) (good : IsGood c w) (t : �
       let v : View = view_at (HoldersWord, Store n) w.words.holders hook s' (Some (Leave x.holder)) in
       let now : IsWriter v.phase = thaws_write (at_thaw x s') in
       let is : holders_in w.words.holders ≡ held = found s e held finds in
-      writer_holds c w good t lt v (here_writes s e) now
-      (record { held_same = refl; levels_same = refl; open_same = refl; added_same = refl; taken_same = refl })
-      (record { held_same = refl; added_same = refl; taken_same = refl })
+      writer_holds c w good t lt v (here_writes s e) now (assumption) (record { held_same = refl; added_same = refl; taken_same = refl })
       (goes_to s s' e fit) n (Leave x.holder) None (LeavesOne x.holder sb (Owning stage' sb'))
       (owner_stays c w good t lt v (here_writes s e) now w.words refl refl (ap stage_owns role' ∙ sym (ap owns e ∙ ap stage_owns role)))
       (subst (Stands (w.views t).phase) none (here_stands s e))
@@ -538,8 +529,7 @@ module _ (c : Config) (lim : IsWithin c) (w : World) (good : IsGood c w) (t : �
       let v : View = view_at (Stage, Store 0) w.words.stage hook s' (Some (StageAction 0)) in
       let frozen : is_frozen_whole w.words ≡ 1 = rw (k.0, k.1) refl in
       store_law hook SetsUnfrozen s' e StoresThaw refl refl (omega arith, omega arith, tt) refl refl
-      (thaws_all c lim w good t lt (record w.words { stage = 0 }) v
-      (record { block_same = refl; level_same = refl; sync_same = refl; section_same = refl })
+      (thaws_all c lim w good t lt (record w.words { stage = 0 }) v (assumption)
       (record { held_same = refl; added_same = refl; taken_same = refl }) (here_stands SetsUnfrozen e) (thaw_stands (at_thaw x s'))
       frozen refl)
       (ap stage_role_of e, refl) refl
@@ -674,8 +664,7 @@ module _ (c : Config) (lim : IsWithin c) (w : World) (good : IsGood c w) (t : �
       let u : UpWrite = record { level = level; step = Exits Loads } in
       leaves_law hook u e refl refl
       (exit_on x level u.step (transition_after on_exit Loads (w.words.sync level)) w.words.stage w.words.sb (marks_of w.words)
-      (here_fits (Reopens u) e).2.1 (here_knows (Reopens u) e).0)
-      (record { stage_same = refl; sb_same = refl; remount_same = refl; block_same = refl; node_same = refl })
+      (here_fits (Reopens u) e).2.1 (here_knows (Reopens u) e).0) (assumption)
   exits hook level (Exchanges from to) e =
       let u : UpWrite = record { level = level; step = Exits (Exchanges from to) } in
       leaves_law hook u e refl refl

@@ -23,19 +23,7 @@ use Rattle.level_laws.specs.Exchanges.{Shows, KnowsWords}
 use Rattle.level_laws.proofs.Exchanges.{exchanges_make_transitions}
 use Rattle.freeze_levels.specs.declared.thaws.Thaw.{Thaw}
 use Rattle.freeze_levels.specs.declared.thaws.ThawStep.{ThawStep}
-use Rattle.freeze_levels.specs.declared.thaws.ThawStep.TheVariants.{
-  Locks,
-  LoadsStage,
-  LoadsHolders,
-  Leaves,
-  LoadsSuperblock,
-  LeavesReadOnly,
-  UnfreezesReadOnly,
-  LeavesLast,
-  SetsUnfrozen,
-  Reopens,
-  Releases,
-}
+use Rattle.freeze_levels.specs.declared.thaws.ThawStep.TheVariants.{Locks, LoadsStage, LoadsHolders, Leaves, LoadsSuperblock, LeavesReadOnly, LeavesLast, SetsUnfrozen, Reopens, Releases}
 use Rattle.access_model.specs.declared.actions.Holder.{Holder}
 use Rattle.access_model.specs.declared.actions.Holders.{Holders}
 use Rattle.access_model.specs.Holders.{held_by, with_holder, is_unheld}
@@ -74,18 +62,10 @@ up_write_there c u (Exits (Exchanges from to)) l1 l3 = (l1, l3)
 
 -- the word of each event of a thaw is there
 pub thaw_there : (c : Config) (x : Thaw) (s : ThawStep) (hook : HookAnswer) → ThawFits x.holder s → IsWord (extents_of c) (thaw_next x s hook).0
-thaw_there c x Locks hook f = tt
-thaw_there c x LoadsStage hook f = tt
-thaw_there c x LoadsHolders hook f = tt
-thaw_there c x (Leaves held) hook f = tt
-thaw_there c x LoadsSuperblock hook f = tt
-thaw_there c x LeavesReadOnly hook f = tt
-thaw_there c x UnfreezesReadOnly hook f = tt
 thaw_there c x LeavesLast (Ok answer) f = tt
 thaw_there c x LeavesLast (Err code) f = tt
-thaw_there c x SetsUnfrozen hook f = tt
 thaw_there c x (Reopens u) hook f = up_write_there c u u.step f.0 f.1
-thaw_there c x (Releases answer) hook f = tt
+thaw_there c x other hook f = tt
 
 -- the action of an event of a level's reopening can be done
 reopening_acts : (held : ℕ → ℕ) (x : Thaw) (level : ℕ) (s : UpWriteStep) (found : ℕ) (hook : HookAnswer) →
@@ -147,17 +127,15 @@ module _ (c : Config) (t : ℕ) (held : ℕ → ℕ) (levels : ℕ → Bool) (x 
   step_goes LoadsHolders found hook f =
       finds_cases x (holders_in found) (λ s. NextFits (Go (at_thaw x s))) (λ other. (same, none, tt)) (λ own alone. (same, none, tt))
       (λ own shared. (same, none, (own, shared)))
-  step_goes (Leaves held) found hook f = (same, none, tt)
   step_goes LoadsSuperblock found hook f =
       by_bool (found == 0) (λ b. NextFits (if b then Go (at_thaw x LeavesLast) else Go (at_thaw x LeavesReadOnly)))
       (same, none, tt) (same, none, tt)
-  step_goes LeavesReadOnly found hook f = (same, none, tt)
-  step_goes UnfreezesReadOnly found hook f = (same, none, tt)
   step_goes LeavesLast found (Ok answer) f = (same, none, tt)
   step_goes LeavesLast found (Err code) f = tt
   step_goes SetsUnfrozen found hook f = (same, none, (omega arith, omega arith, tt))
   step_goes (Reopens u) found hook f = reopening_goes u.level u.step found hook f
   step_goes (Releases answer) found hook f = tt
+  step_goes other found hook f = (same, none, tt)
 
 -- what comes after each event of a thaw fits
 pub thaw_goes : (c : Config) (t : ℕ) (held : ℕ → ℕ) (levels : ℕ → Bool) (x : Thaw) (s : ThawStep) (found : ℕ) (hook : HookAnswer) →

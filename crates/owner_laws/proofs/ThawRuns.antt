@@ -53,58 +53,42 @@ module _ (c : Config) (lim : IsWithin c) (w : World) (good : IsGood c w) (t : �
       let k : (w.words.stage ≡ 4) × (w.words.sb ≡ 0) = here_knows c lim w good t lt x SetsUnfrozen e in
       let frozen : is_frozen_whole w.words ≡ 1 = rw (k.0, k.1) refl in
       let phase : Phase = Thaws (at_thaw x SetsUnfrozen) in
-      thaws_runs c lim w good t lt (words_then hook SetsUnfrozen) (view_after (w.views t) phase w.words.stage hook)
-      (record { block_same = refl; level_same = refl; sync_same = refl; section_same = refl })
+      thaws_runs c lim w good t lt (words_then hook SetsUnfrozen) (view_after (w.views t) phase w.words.stage hook) (assumption)
       (here_stands c lim w good t lt x SetsUnfrozen e) (thaw_stands (at_thaw x (Reopens (reopening 3)))) frozen refl
 
   -- it is stored that nobody holds a freeze, or `umount` is given back, where the file system refused
   leaves_last : (hook : HookAnswer) → IsHere c lim w good t lt x LeavesLast → Runs hook LeavesLast
   leaves_last (Ok answer) e =
-      leaves (Ok answer) LeavesLast
-      (record { block_same = refl; level_same = refl; sync_same = refl; section_same = refl; whole_same = refl })
-      (here_stands c lim w good t lt x LeavesLast e) (thaw_stands (at_thaw x SetsUnfrozen))
+      leaves (Ok answer) LeavesLast (assumption) (here_stands c lim w good t lt x LeavesLast e) (thaw_stands (at_thaw x SetsUnfrozen))
   leaves_last (Err code) e =
-      leaves (Err code) LeavesLast
-      (record { block_same = refl; level_same = refl; sync_same = refl; section_same = refl; whole_same = refl })
-      (here_stands c lim w good t lt x LeavesLast e) idle_stands
+      leaves (Err code) LeavesLast (assumption) (here_stands c lim w good t lt x LeavesLast e) idle_stands
 
   -- each event
   thaw_run : (hook : HookAnswer) (s : ThawStep) → IsHere c lim w good t lt x s → Runs hook s
   thaw_run hook Locks e =
-      leaves hook Locks
-      (record { block_same = refl; level_same = refl; sync_same = refl; section_same = refl; whole_same = refl })
-      (here_stands c lim w good t lt x Locks e)
+      leaves hook Locks (assumption) (here_stands c lim w good t lt x Locks e)
       (by_bool (w.words.umount == 0)
       (λ b. Stands (phase_after (map_next Thaws (if b then Go (at_thaw x LoadsStage) else Wait (at_thaw x Locks)))) None)
       (thaw_stands (at_thaw x LoadsStage)) (thaw_stands (at_thaw x Locks)))
   thaw_run hook LoadsStage e =
-      leaves hook LoadsStage
-      (record { block_same = refl; level_same = refl; sync_same = refl; section_same = refl; whole_same = refl })
-      (here_stands c lim w good t lt x LoadsStage e)
+      leaves hook LoadsStage (assumption) (here_stands c lim w good t lt x LoadsStage e)
       (by_bool (w.words.stage == 4)
       (λ b. Stands (phase_after (map_next Thaws
       (if b then Go (at_thaw x LoadsHolders) else Go (at_thaw x (Releases (Err Invalid)))))) None)
       (thaw_stands (at_thaw x LoadsHolders)) (thaw_stands (at_thaw x (Releases (Err Invalid)))))
   thaw_run hook LoadsHolders e =
-      leaves hook LoadsHolders
-      (record { block_same = refl; level_same = refl; sync_same = refl; section_same = refl; whole_same = refl })
-      (here_stands c lim w good t lt x LoadsHolders e)
+      leaves hook LoadsHolders (assumption) (here_stands c lim w good t lt x LoadsHolders e)
       (finds_cases x (holders_in w.words.holders) (λ s. Stands (Some (Thaws (at_thaw x s))) None)
       (λ other. thaw_stands (at_thaw x (Releases (Err Invalid)))) (λ own alone. thaw_stands (at_thaw x LoadsSuperblock))
       (λ own shared. thaw_stands (at_thaw x (Leaves (holders_in w.words.holders)))))
   thaw_run hook (Leaves held) e =
-      leaves hook (Leaves held)
-      (record { block_same = refl; level_same = refl; sync_same = refl; section_same = refl; whole_same = refl })
+      leaves hook (Leaves held) (assumption)
       (here_stands c lim w good t lt x (Leaves held) e) (thaw_stands (at_thaw x (Releases (Ok UnitReply))))
   thaw_run hook LeavesReadOnly e =
-      leaves hook LeavesReadOnly
-      (record { block_same = refl; level_same = refl; sync_same = refl; section_same = refl; whole_same = refl })
-      (here_stands c lim w good t lt x LeavesReadOnly e) (thaw_stands (at_thaw x UnfreezesReadOnly))
+      leaves hook LeavesReadOnly (assumption) (here_stands c lim w good t lt x LeavesReadOnly e) (thaw_stands (at_thaw x UnfreezesReadOnly))
   thaw_run hook LeavesLast e = leaves_last hook e
   thaw_run hook LoadsSuperblock e =
-      leaves hook LoadsSuperblock
-      (record { block_same = refl; level_same = refl; sync_same = refl; section_same = refl; whole_same = refl })
-      (here_stands c lim w good t lt x LoadsSuperblock e)
+      leaves hook LoadsSuperblock (assumption) (here_stands c lim w good t lt x LoadsSuperblock e)
       (by_bool (w.words.sb == 0)
       (λ b. Stands (phase_after (map_next Thaws (if b then Go (at_thaw x LeavesLast) else Go (at_thaw x LeavesReadOnly)))) None)
       (thaw_stands (at_thaw x LeavesLast)) (thaw_stands (at_thaw x LeavesReadOnly)))
@@ -121,9 +105,7 @@ module _ (c : Config) (lim : IsWithin c) (w : World) (good : IsGood c w) (t : �
       (opening_stands x u.level
       (up_write_after u u.step (found_by (up_write_next u u.step).1 (read w.words (up_write_next u u.step).0))).0)
   thaw_run hook (Releases answer) e =
-      leaves hook (Releases answer)
-      (record { block_same = refl; level_same = refl; sync_same = refl; section_same = refl; whole_same = refl })
-      (here_stands c lim w good t lt x (Releases answer) e) idle_stands
+      leaves hook (Releases answer) (assumption) (here_stands c lim w good t lt x (Releases answer) e) idle_stands
 
 -- each event of a thaw is one of each level
 pub thaw_runs : (c : Config) → IsWithin c → (w : World) → IsGood c w → (t : ℕ) → t < c.tasks → (hook : HookAnswer) (x : Thaw) →

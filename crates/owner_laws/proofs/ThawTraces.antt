@@ -77,10 +77,8 @@ opened holder level (Exits transition) = opened_to holder (level - 1)
 -- with a level reopened, those from it up are
 opens_one : (holder : Holder) (level : ℕ) → 1 ≤ level → level ≤ 3 → Reopen level ∷ opened_to holder level ≡ opened_to holder (level - 1)
 opens_one holder zero l1 l3 = absurd (omega (arith, l1))
-opens_one holder (suc zero) l1 l3 = refl
-opens_one holder (suc (suc zero)) l1 l3 = refl
-opens_one holder (suc (suc (suc zero))) l1 l3 = refl
 opens_one holder (suc (suc (suc (suc n)))) l1 l3 = absurd (omega (arith, l3))
+opens_one holder other l1 l3 = refl
 
 -- what is answered is told already
 abbrev Answers : Config → Holder → Result Reply GateError → List Traced → List Action → Type 0

@@ -7,7 +7,7 @@ use Rattle.std.proofs.lemmas.Bool.Decides.{eqb_tells}
 use Rattle.access_model.specs.Replies.{map_next}
 use Rattle.cpu_words.specs.Hooks.{HookAnswer}
 use Rattle.percpu_rwsem.specs.declared.transitions.TransitionNext.{TransitionNext}
-use Rattle.percpu_rwsem.specs.declared.transitions.TransitionNext.TheVariants.{More, Undefined, Made}
+use Rattle.percpu_rwsem.specs.declared.transitions.TransitionNext.TheVariants.{More}
 use Rattle.percpu_rwsem.specs.declared.writers.UpWrite.{UpWrite}
 use Rattle.percpu_rwsem.specs.declared.writers.UpWriteStep.{UpWriteStep}
 use Rattle.percpu_rwsem.specs.declared.writers.UpWriteStep.TheVariants.{ClearsBlock, Exits}
@@ -16,19 +16,7 @@ use Rattle.percpu_rwsem.specs.Transitions.{transition_after}
 use Rattle.percpu_rwsem.specs.Writers.{exit_made, up_write_after}
 use Rattle.freeze_levels.specs.declared.thaws.Thaw.{Thaw}
 use Rattle.freeze_levels.specs.declared.thaws.ThawStep.{ThawStep}
-use Rattle.freeze_levels.specs.declared.thaws.ThawStep.TheVariants.{
-  Locks,
-  LoadsStage,
-  LoadsHolders,
-  Leaves,
-  LoadsSuperblock,
-  LeavesReadOnly,
-  UnfreezesReadOnly,
-  LeavesLast,
-  SetsUnfrozen,
-  Reopens,
-  Releases,
-}
+use Rattle.freeze_levels.specs.declared.thaws.ThawStep.TheVariants.{Locks, LoadsStage, LoadsSuperblock, LeavesLast, Reopens}
 use Rattle.freeze_levels.specs.Thaws.{at_thaw, after_opening}
 use Rattle.gate_world.specs.declared.config.Config.{Config}
 use Rattle.gate_world.specs.declared.work.Phase.{Phase}
@@ -44,8 +32,7 @@ module _ (c : Config) (w : World) (earlier : List World) (t : ℕ) where
   exit_waits : (phase : Phase) (x : Thaw) (level : ℕ) (u : UpWrite) (n : TransitionNext) →
       HasReason c w earlier t phase (map_next Thaws (after_opening x level (exit_made u n)))
   exit_waits phase x level u (More transition) = tt
-  exit_waits phase x level u Undefined = tt
-  exit_waits phase x level u (Made state) = tt
+  exit_waits phase x level u other = tt
 
   -- so an up-write doesn't wait
   reopening_waits : (phase : Phase) (x : Thaw) (u : UpWrite) (s : UpWriteStep) (found : ℕ) →

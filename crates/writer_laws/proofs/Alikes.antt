@@ -9,7 +9,7 @@ use Rattle.mount_counts.specs.declared.phases.MountPhase.TheVariants.{Want as Wa
 use Rattle.mount_counts.specs.declared.phases.Want.{Want}
 use Rattle.percpu_rwsem.specs.declared.readers.DownRead.{DownRead}
 use Rattle.write_access.specs.declared.phases.WritePhase.{WritePhase}
-use Rattle.write_access.specs.declared.phases.WritePhase.TheVariants.{Takes, Wants as WriteWants, GivesBack, Drops, Ends}
+use Rattle.write_access.specs.declared.phases.WritePhase.TheVariants.{Takes, Ends}
 use Rattle.write_access.specs.Phases.{then_wants, then_gives_back}
 use Rattle.gate_world.specs.declared.config.Config.{Config}
 use Rattle.gate_world.specs.declared.work.Phase.TheVariants.{Mounts, DownReads, Writes}
@@ -23,16 +23,11 @@ use Rattle.writer_laws.proofs.ReadFits.{ReadGoes}
 -- each phase is alike to the one of its gate
 pub alike_plain : (x : WritePhase) → IsAlike (Some (Writes x)) (Some (plain x))
 alike_plain (Takes m r) = assumption
-alike_plain (WriteWants x) = assumption
-alike_plain (GivesBack m p refusal) = assumption
-alike_plain (Drops m p) = assumption
-alike_plain (Ends p) = assumption
+alike_plain other = assumption
 
 -- what comes after an event at level 1 is alike to what comes in its own operation: the want that follows has no role yet
 pub alike_takes : (m p : ℕ) (n : Next DownRead) →
     IsAlike (phase_after (map_next DownReads n)) (phase_after (map_next Writes (then_wants m p n)))
-alike_takes m p (Go r) = assumption
-alike_takes m p (Wait r) = assumption
 alike_takes m p (Done (Ok reply)) = record {
   beside = record {
     steady = assumption;
@@ -46,15 +41,14 @@ alike_takes m p (Done (Ok reply)) = record {
   tree_same = λ trace. refl;
   file_same = refl;
 }
-alike_takes m p (Done (Err refusal)) = assumption
+alike_takes m p other = assumption
 
 -- and so is what comes after an event at the mount: an end of level 1 has no role
 pub alike_wants : (m p : ℕ) (n : Next Want) →
     IsAlike (phase_after (map_next Mounts (map_next Wants n))) (phase_after (map_next Writes (then_gives_back m p n)))
 alike_wants m p (Go x) = assumption
-alike_wants m p (Wait x) = assumption
 alike_wants m p (Done (Ok reply)) = assumption
-alike_wants m p (Done (Err refusal)) = assumption
+alike_wants m p other = assumption
 
 -- the end that follows a drop is alike to nothing
 pub alike_ends : (p : ℕ) → IsAlike None (Some (Writes (Ends p)))

@@ -15,7 +15,7 @@ use Rattle.cpu_words.specs.Touches.{found_by, left}
 use Rattle.cpu_words.specs.Words.{Words, read, put}
 use Rattle.cpu_words.specs.Hooks.{HookAnswer}
 use Rattle.percpu_rwsem.specs.declared.grace.Grace.{Grace}
-use Rattle.percpu_rwsem.specs.declared.transitions.Transition.TheVariants.{Loads, Exchanges}
+use Rattle.percpu_rwsem.specs.declared.transitions.Transition.TheVariants.{Loads}
 use Rattle.percpu_rwsem.specs.declared.transitions.TransitionNext.{TransitionNext}
 use Rattle.percpu_rwsem.specs.declared.transitions.TransitionNext.TheVariants.{More, Undefined, Made}
 use Rattle.percpu_rwsem.specs.declared.callbacks.Callback.{Callback}
@@ -48,141 +48,85 @@ use Rattle.writer_laws.proofs.LevelParts.{IsBeside, IsAtLevels, SameAtMounts, wh
 -- each event of a callback is one of its level that changes no section word
 pub event_of_level : (b : Callback) (s : CallbackStep) → IsEventAt b.level (callback_next b s).0 (callback_next b s).1
 event_of_level b (Claims Loads) = refl
-event_of_level b (Claims (Exchanges from to)) = refl
 event_of_level b (AwaitsSections g) = tt
 event_of_level b (CallsBack Loads) = refl
-event_of_level b (CallsBack (Exchanges from to)) = refl
+event_of_level b other = refl
 
 -- so it is on a word of the level
 pub word_of_level : (b : Callback) (s : CallbackStep) → IsOfLevel b.level (callback_next b s).0
 word_of_level b (Claims Loads) = refl
-word_of_level b (Claims (Exchanges from to)) = refl
 word_of_level b (AwaitsSections g) = tt
 word_of_level b (CallsBack Loads) = refl
-word_of_level b (CallsBack (Exchanges from to)) = refl
+word_of_level b other = refl
 
 -- words of which a section word or a sync word is another
 beside : (w : Words) (sections syncs : ℕ → ℕ) → IsBeside w (record w { section = sections; sync = syncs })
-beside w sections syncs = record {
-  umount_same = refl;
-  remount_same = refl;
-  sb_same = refl;
-  stage_same = refl;
-  holders_same = refl;
-  flags_same = refl;
-  count_same = refl;
-  used_same = refl;
-  removed_same = refl;
-  node_same = refl;
-  kids_same = refl;
-  block_same = refl;
-}
+beside w sections syncs = assumption
 
 -- it leaves the words beside the levels, and each `block`
 words_beside : (w : Words) (b : Callback) (s : CallbackStep) (n : ℕ) → IsBeside w (put w (callback_next b s).0 n)
 words_beside w b (Claims Loads) n = beside w w.section (update w.sync b.level n)
-words_beside w b (Claims (Exchanges from to)) n = beside w w.section (update w.sync b.level n)
 words_beside w b (AwaitsSections g) n = beside w (update w.section g.task n) w.sync
 words_beside w b (CallsBack Loads) n = beside w w.section (update w.sync b.level n)
-words_beside w b (CallsBack (Exchanges from to)) n = beside w w.section (update w.sync b.level n)
+words_beside w b other n = beside w w.section (update w.sync b.level n)
 
 -- and the counts of each level
 counts_same : (w : Words) (b : Callback) (s : CallbackStep) (n : ℕ) → (put w (callback_next b s).0 n).level ≡ w.level
 counts_same w b (Claims Loads) n = refl
-counts_same w b (Claims (Exchanges from to)) n = refl
-counts_same w b (AwaitsSections g) n = refl
 counts_same w b (CallsBack Loads) n = refl
-counts_same w b (CallsBack (Exchanges from to)) n = refl
+counts_same w b other n = refl
 
 -- and which tasks are inside a section
 inside_same : (l : SyncLevel) (b : Callback) (s : CallbackStep) (n : ℕ) → (put_at l (callback_next b s).0 n).inside ≡ l.inside
 inside_same l b (Claims Loads) n = refl
-inside_same l b (Claims (Exchanges from to)) n = refl
-inside_same l b (AwaitsSections g) n = refl
 inside_same l b (CallsBack Loads) n = refl
-inside_same l b (CallsBack (Exchanges from to)) n = refl
+inside_same l b other n = refl
 
 -- its event counts nowhere
 module _ (b : Callback) (counted : ℕ → ℕ → ℕ) where
   -- it adds nothing at a mount
   added_same : (s : CallbackStep) → added_after (callback_next b s).0 (callback_next b s).1 counted ≡ counted
   added_same (Claims Loads) = refl
-  added_same (Claims (Exchanges from to)) = refl
-  added_same (AwaitsSections g) = refl
   added_same (CallsBack Loads) = refl
-  added_same (CallsBack (Exchanges from to)) = refl
+  added_same other = refl
 
   -- and takes nothing there
   taken_same : (s : CallbackStep) → taken_after (callback_next b s).0 (callback_next b s).1 counted ≡ counted
   taken_same (Claims Loads) = refl
-  taken_same (Claims (Exchanges from to)) = refl
-  taken_same (AwaitsSections g) = refl
   taken_same (CallsBack Loads) = refl
-  taken_same (CallsBack (Exchanges from to)) = refl
+  taken_same other = refl
 
   -- it adds nothing at a level
   level_added_same : (s : CallbackStep) → level_added_after (callback_next b s).0 (callback_next b s).1 counted ≡ counted
   level_added_same (Claims Loads) = refl
-  level_added_same (Claims (Exchanges from to)) = refl
-  level_added_same (AwaitsSections g) = refl
   level_added_same (CallsBack Loads) = refl
-  level_added_same (CallsBack (Exchanges from to)) = refl
+  level_added_same other = refl
 
   -- and takes nothing there
   level_taken_same : (s : CallbackStep) → level_taken_after (callback_next b s).0 (callback_next b s).1 counted ≡ counted
   level_taken_same (Claims Loads) = refl
-  level_taken_same (Claims (Exchanges from to)) = refl
-  level_taken_same (AwaitsSections g) = refl
   level_taken_same (CallsBack Loads) = refl
-  level_taken_same (CallsBack (Exchanges from to)) = refl
+  level_taken_same other = refl
 
 -- it adds no action
 no_action : (b : Callback) (s : CallbackStep) (found : ℕ) → (callback_after b s found).1 ≡ None
 no_action b (Claims x) found = refl
-no_action b (AwaitsSections g) found = refl
-no_action b (CallsBack x) found = refl
+no_action b other found = refl
 
 -- what comes after an event, or nothing, is at levels alone
 after_at_levels : (n : Next Callback) → IsAtLevels (phase_after (map_next Callbacks n))
-after_at_levels (Go x) = record {
-  owns_none = refl;
-  remounts_none = refl;
-  aside = refl;
-  out_of_mounts = λ m. refl;
-  off_tree = λ trace. refl;
-  unheld = refl;
-  no_file = refl;
-}
-after_at_levels (Wait x) = record {
-  owns_none = refl;
-  remounts_none = refl;
-  aside = refl;
-  out_of_mounts = λ m. refl;
-  off_tree = λ trace. refl;
-  unheld = refl;
-  no_file = refl;
-}
-after_at_levels (Done answer) = record {
-  owns_none = refl;
-  remounts_none = refl;
-  aside = refl;
-  out_of_mounts = λ m. refl;
-  off_tree = λ trace. refl;
-  unheld = refl;
-  no_file = refl;
-}
+after_at_levels (Go x) = assumption
+after_at_levels other = assumption
 
 -- it counts at no level
 after_counts : (i : ℕ) (n : Next Callback) → level_role_of i (phase_after (map_next Callbacks n)) ≡ CountsNot
 after_counts i (Go x) = refl
-after_counts i (Wait x) = refl
-after_counts i (Done answer) = refl
+after_counts i other = refl
 
 -- and is inside no section
 after_outside : (n : Next Callback) → inside (phase_after (map_next Callbacks n)) ≡ 0
 after_outside (Go x) = refl
-after_outside (Wait x) = refl
-after_outside (Done answer) = refl
+after_outside other = refl
 
 -- what stays of a callback from event to event: its level, and that its grace period is among all tasks
 abbrev Stays : ℕ → ℕ → Callback → Type 0

@@ -1,5 +1,5 @@
 -- All that is proved of a callback.
-use Rattle.access_model.specs.declared.replies.Next.TheVariants.{Go, Wait, Done}
+use Rattle.access_model.specs.declared.replies.Next.TheVariants.{Go}
 use Rattle.access_model.specs.declared.actions.Action.{Action}
 use Rattle.access_model.specs.Replies.{map_next}
 use Rattle.gate_world.specs.KeptCauses.{CauseOf}
@@ -30,8 +30,7 @@ use Rattle.writer_laws.proofs.CallbackTraces.{CallbackAt, callback_kept}
 callback_cause : (c : Config) (t : ℕ) (w : World) (earlier : List World) (n : Next Callback) →
     CauseOf c t w earlier (phase_after (map_next Callbacks n))
 callback_cause c t w earlier (Go x) = tt
-callback_cause c t w earlier (Wait x) = tt
-callback_cause c t w earlier (Done answer) = tt
+callback_cause c t w earlier other = tt
 
 -- of each of its phases
 pub callback_phase : (c : Config) (b : Callback) → PhaseKeeps c (Callbacks b)

@@ -94,37 +94,11 @@ module _ (c : Config) (lim : IsWithin c) (w : World) (good : IsGood c w) (t : â„
 
   -- an addition leaves the words beside the level
   pub up_beside : IsBeside w.words words_up
-  up_beside = record {
-    umount_same = refl;
-    remount_same = refl;
-    sb_same = refl;
-    stage_same = refl;
-    holders_same = refl;
-    flags_same = refl;
-    count_same = refl;
-    used_same = refl;
-    removed_same = refl;
-    node_same = refl;
-    kids_same = refl;
-    block_same = refl;
-  }
+  up_beside = assumption
 
   -- so does a subtraction
   pub down_beside : IsBeside w.words words_down
-  down_beside = record {
-    umount_same = refl;
-    remount_same = refl;
-    sb_same = refl;
-    stage_same = refl;
-    holders_same = refl;
-    flags_same = refl;
-    count_same = refl;
-    used_same = refl;
-    removed_same = refl;
-    node_same = refl;
-    kids_same = refl;
-    block_same = refl;
-  }
+  down_beside = assumption
 
   -- what the level's counts are before the event
   abbrev was : LevelView

@@ -9,7 +9,7 @@ use Rattle.gate_world.specs.Trees.{is_sealed, tree_role_of, is_bare_at}
 use Rattle.gate_world.specs.declared.views.Traced.{Traced}
 use Rattle.gate_world.specs.Owners.{KnowsWords}
 use Rattle.mount_counts.specs.Roles.{ro_bit, Out}
-use Rattle.access_model.specs.declared.replies.Next.TheVariants.{Go, Wait, Done}
+use Rattle.access_model.specs.declared.replies.Next.TheVariants.{Go}
 use Rattle.finite_sums.proofs.Totals.{update_same, each_updated}
 use Rattle.gate_frames.proofs.Frames.{shown_as, left_alone, view_as}
 use Rattle.gate_world.specs.Shown.{closing, shown}
@@ -30,7 +30,7 @@ use Rattle.access_model.specs.declared.replies.Next.{Next}
 use Rattle.gate_world.specs.declared.views.View.{View}
 use Rattle.gate_world.specs.declared.work.Phase.{Phase}
 use Rattle.cpu_words.specs.Words.{Words}
-use Rattle.std.proofs.Common.{◌≡◌, ℕ, ◌<◌, refl, sym, ap, ◌∙◌, arith}
+use Rattle.std.proofs.Common.{◌≡◌, ℕ, ◌<◌, sym, ap, ◌∙◌, arith}
 use Rattle.std.specs.Prelude.{◌==◌, ◌&&◌, ◌||◌, if◌then◌else◌, Option, Some, None, List}
 
 -- the words that are no level's own are as they were, and so is `block`
@@ -80,45 +80,12 @@ bare_same old new words = λ k. bare_by (words.remount_same k) (words.sb_same k)
 
 -- what is there after a down-read's event is at levels alone
 pub reads_at_levels : (next : Next DownRead) → IsAtLevels (phase_after (map_next DownReads next))
-reads_at_levels (Go r) = record {
-  owns_none = refl;
-  remounts_none = refl;
-  aside = refl;
-  out_of_mounts = λ m. refl;
-  off_tree = λ trace. refl;
-  unheld = refl;
-  no_file = refl;
-}
-reads_at_levels (Wait r) = record {
-  owns_none = refl;
-  remounts_none = refl;
-  aside = refl;
-  out_of_mounts = λ m. refl;
-  off_tree = λ trace. refl;
-  unheld = refl;
-  no_file = refl;
-}
-reads_at_levels (Done answer) = record {
-  owns_none = refl;
-  remounts_none = refl;
-  aside = refl;
-  out_of_mounts = λ m. refl;
-  off_tree = λ trace. refl;
-  unheld = refl;
-  no_file = refl;
-}
+reads_at_levels (Go r) = assumption
+reads_at_levels other = assumption
 
 -- so is an up-read
 pub end_at_levels : (u : UpRead) → IsAtLevels (Some (UpReads u))
-end_at_levels u = record {
-  owns_none = refl;
-  remounts_none = refl;
-  aside = refl;
-  out_of_mounts = λ m. refl;
-  off_tree = λ trace. refl;
-  unheld = refl;
-  no_file = refl;
-}
+end_at_levels u = assumption
 
 module _ (c : Config) (w : World) (good : IsGood c w) (t : ℕ) (lt : t < c.tasks) (ws : Words) (v : View) (words : IsBeside w.words ws)
     (was : IsAtLevels (w.views t).phase) (now : IsAtLevels v.phase) where

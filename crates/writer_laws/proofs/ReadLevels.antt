@@ -75,19 +75,14 @@ role_elsewhere i j ne (Done answer) h = refl
 pub inside_next : (n : Next DownRead) →
     by_next (λ (x : DownRead). down_read_inside x.step) 0 n ≡ inside (phase_after (map_next DownReads n))
 inside_next (Go x) = refl
-inside_next (Wait x) = refl
-inside_next (Done answer) = refl
+inside_next other = refl
 
 -- each event of a down-read is of a word of its level
 pub word_of_level : (r : DownRead) (s : DownReadStep) → IsOfLevel r.level (down_read_next r s).0
 word_of_level r EntersSection = tt
-word_of_level r LoadsSync = refl
-word_of_level r CountsUpFast = refl
-word_of_level r CountsUpSlow = refl
-word_of_level r LoadsBlock = refl
-word_of_level r CountsDown = refl
 word_of_level r LeavesAdmitted = tt
 word_of_level r LeavesBlocked = tt
+word_of_level r other = refl
 
 -- a blocked down-read is apart from every rcu_sync
 pub blocked_apart : (r : DownRead) (b : Bool) (i : ℕ) → sync_role_of i (phase_after (map_next DownReads (left_blocked r b))) ≡ IsApart

@@ -129,14 +129,12 @@ block_inside r false = refl
 -- an event of a down-read that changes no section word leaves it inside its section
 stays_inside : (r : DownRead) (s : DownReadStep) (found : ℕ) → IsEventAt r.level (down_read_next r s).0 (down_read_next r s).1 →
     inside (phase_after (map_next DownReads (down_read_after r s found).0)) ≡ down_read_inside s
-stays_inside r EntersSection found is = absurd is
 stays_inside r LoadsSync found is = by_word (λ s. down_read_inside s ≡ 1) refl refl (unpack found)
 stays_inside r CountsUpFast found is = refl
 stays_inside r CountsUpSlow found is = refl
 stays_inside r LoadsBlock found is = block_inside r (found == 0)
 stays_inside r CountsDown found is = refl
-stays_inside r LeavesAdmitted found is = absurd is
-stays_inside r LeavesBlocked found is = absurd is
+stays_inside r other found is = absurd is
 
 module _ (c : Config) (w : World) (good : IsGood c w) (hook : HookAnswer) (r : DownRead) (lt : r.task < c.tasks) (one : 1 ≤ r.level)
     (three : r.level ≤ 3) where

@@ -11,10 +11,10 @@ use Rattle.access_model.specs.Replies.{map_next}
 use Rattle.cpu_words.specs.Hooks.{HookAnswer}
 use Rattle.percpu_rwsem.specs.declared.grace.Grace.{Grace}
 use Rattle.percpu_rwsem.specs.declared.transitions.TransitionNext.{TransitionNext}
-use Rattle.percpu_rwsem.specs.declared.transitions.TransitionNext.TheVariants.{More, Undefined, Made}
+use Rattle.percpu_rwsem.specs.declared.transitions.TransitionNext.TheVariants.{More}
 use Rattle.percpu_rwsem.specs.declared.readers.DownRead.{DownRead}
 use Rattle.percpu_rwsem.specs.declared.readers.DownReadStep.{DownReadStep}
-use Rattle.percpu_rwsem.specs.declared.readers.DownReadStep.TheVariants.{EntersSection, LoadsSync, CountsUpFast, CountsUpSlow, LoadsBlock, CountsDown, LeavesAdmitted, LeavesBlocked}
+use Rattle.percpu_rwsem.specs.declared.readers.DownReadStep.TheVariants.{LoadsSync, LoadsBlock, LeavesBlocked}
 use Rattle.percpu_rwsem.specs.declared.callbacks.Callback.{Callback}
 use Rattle.percpu_rwsem.specs.declared.callbacks.CallbackStep.{CallbackStep}
 use Rattle.percpu_rwsem.specs.declared.callbacks.CallbackStep.TheVariants.{Claims, AwaitsSections, CallsBack}
@@ -59,10 +59,9 @@ module _ (c : Config) (w : World) (earlier : List World) (t : ℕ) where
   read_waits r CountsUpFast found h = tt
   read_waits r CountsUpSlow found h = tt
   read_waits r LoadsBlock found h = elim (cases_Bool (found == 0)) [ inl f ↦ rw f tt | inr f ↦ rw f tt ]
-  read_waits r CountsDown found h = tt
-  read_waits r LeavesAdmitted found h = tt
   read_waits r LeavesBlocked found h =
       by_bool r.wait (λ b. WhereRefused (WasClosed c t r.level (last_asked t (w ∷ earlier))) (left_blocked r b)) h h
+  read_waits r other found h = tt
 
   -- so a down-read that stands alone waits for another task
   pub start_waits : (r : DownRead) (n : Next DownRead) → WhereRefused (WasClosed c t r.level (last_asked t (w ∷ earlier))) n →
@@ -80,14 +79,12 @@ module _ (c : Config) (w : World) (earlier : List World) (t : ℕ) where
     -- no event of its claim is one
     claim_waits : (s : CallbackStep) (n : TransitionNext) → Waits s (claimed b n)
     claim_waits s (More transition) = tt
-    claim_waits s Undefined = tt
-    claim_waits s (Made state) = tt
+    claim_waits s other = tt
 
     -- nor of its own transition
     call_waits : (s : CallbackStep) (n : TransitionNext) → Waits s (called_back b n)
     call_waits s (More transition) = tt
-    call_waits s Undefined = tt
-    call_waits s (Made state) = tt
+    call_waits s other = tt
 
     -- nor the passing of a task
     passed_waits : (s : CallbackStep) (g : Grace) → Waits s (callback_looked b (passed_on g))

@@ -54,8 +54,7 @@ next_asks (Done answer) = false
 -- it is what a want's own operation is at
 pub next_asked : (n : Next Want) → asks (phase_after (map_next Mounts (map_next Wants n))) ≡ next_asks n
 next_asked (Go x) = refl
-next_asked (Wait x) = refl
-next_asked (Done answer) = refl
+next_asked other = refl
 
 module _ (c : Config) (t : ℕ) (w : World) (earlier : List World) (m : ℕ) where
   -- what comes after an event of a want has its cause, and so has its refusal, where it ends with one

@@ -41,9 +41,8 @@ module _ (c : Config) (t : ℕ) (w : World) (earlier : List World) (m p : ℕ) w
   -- after an event at the mount the task asks where a want does
   pub wants_asked : (n : Next Want) → asks (phase_after (map_next Writes (then_gives_back m p n))) ≡ next_asks n
   wants_asked (Go x) = refl
-  wants_asked (Wait x) = refl
   wants_asked (Done (Ok reply)) = refl
-  wants_asked (Done (Err refusal)) = refl
+  wants_asked other = refl
 
   -- and what comes then has its cause, which the mount's refusal has while the level is left
   pub wants_cause : (n : Next Want) → NextCause c t w earlier m n →
@@ -67,4 +66,4 @@ module _ (c : Config) (t : ℕ) (w : World) (earlier : List World) (m p : ℕ) w
   wants_waits good lt x (Go y) h = tt
   wants_waits good lt x (Wait y) h = h
   wants_waits good lt x (Done (Ok reply)) h = tt
-  wants_waits good lt x (Done (Err refusal)) h = tt
+  wants_waits good lt x other h = tt

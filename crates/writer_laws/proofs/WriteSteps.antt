@@ -6,7 +6,7 @@ use Rattle.access_model.specs.declared.actions.Action.{Action}
 use Rattle.access_model.specs.declared.replies.Next.{Next}
 use Rattle.cpu_words.specs.Hooks.{HookAnswer}
 use Rattle.write_access.specs.declared.phases.WritePhase.{WritePhase}
-use Rattle.write_access.specs.declared.phases.WritePhase.TheVariants.{Takes, Wants, GivesBack, Drops, Ends}
+use Rattle.write_access.specs.declared.phases.WritePhase.TheVariants.{GivesBack, Ends}
 use Rattle.gate_world.specs.declared.config.Config.{Config}
 use Rattle.gate_world.specs.declared.work.Phase.{Phase}
 use Rattle.gate_world.specs.declared.work.Phase.TheVariants.{Writes}
@@ -27,11 +27,9 @@ use Rattle.writer_laws.proofs.Alikes.{alike_plain}
 -- the phase of its gate fits
 pub plain_fits : (c : Config) (t : ℕ) (held : ℕ → ℕ) (levels : ℕ → Bool) (x : WritePhase) → WriteFits c t held levels x →
     PhaseFits c t held levels (plain x)
-plain_fits c t held levels (Takes m r) f = f.0
-plain_fits c t held levels (Wants x) f = f.0
 plain_fits c t held levels (GivesBack m p refusal) f = (omega arith, omega arith, f.1, f.2)
-plain_fits c t held levels (Drops m p) f = f.0
 plain_fits c t held levels (Ends p) f = (omega arith, omega arith, f.0, f.1)
+plain_fits c t held levels other f = f.0
 
 module _ (c : Config) (w : World) (good : IsGood c w) (t : ℕ) (lt : t < c.tasks) (hook : HookAnswer) (x : WritePhase)
     (e : (w.views t).phase ≡ Some (Writes x)) where

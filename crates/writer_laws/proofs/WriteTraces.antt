@@ -146,17 +146,13 @@ module _ (c : Config) (m p : ℕ) (value : ℕ) (hook : HookAnswer) (earlier : L
       subst (λ y. SaysAfter (DropAt m p) c (DropWrite m p) (Writes (Drops y q)) value hook earlier added) (sym h.0)
       (Ends q, refl, (omega (arith, ap length h.1), ap (λ (l : List Action). Return (Mount m) ∷ l) h.2))
   drop_event (Ends q) h = ((ap (λ (l : List Action). Return (Level 1) ∷ l) h.1, tt), omega (arith, h.0))
-  drop_event (Takes n r) h = absurd h
-  drop_event (Wants x) h = absurd h
-  drop_event (GivesBack n q refusal) h = absurd h
+  drop_event other h = absurd h
 
 -- a return has two events
 drop_short : (m p : ℕ) (x : WritePhase) (trace : List Traced) (added : List Action) → DropSays m p x trace added → length trace ≤ 2
 drop_short m p (Drops n q) trace added h = omega (arith, ap length h.1)
 drop_short m p (Ends q) trace added h = omega (arith, h.0)
-drop_short m p (Takes n r) trace added h = absurd h
-drop_short m p (Wants x) trace added h = absurd h
-drop_short m p (GivesBack n q refusal) trace added h = absurd h
+drop_short m p other trace added h = absurd h
 
 -- so it is kept along every trace of a return
 pub drop_kept : (c : Config) (t m p : ℕ) → Kept (DropAt m p) c t (DropWrite m p)
