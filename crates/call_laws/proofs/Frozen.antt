@@ -16,7 +16,7 @@ use Rattle.gated_tree.specs.declared.phases.TreePhase.TheVariants.{
   ClearMarks as TreeClears,
 }
 use Rattle.gated_tree.specs.declared.snapshots.SnapshotStep.{SnapshotStep}
-use Rattle.gated_tree.specs.declared.snapshots.SnapshotStep.TheVariants.{Locks}
+use Rattle.gated_tree.specs.declared.snapshots.SnapshotStep.TheVariants.{Locks, LoadsStage, LoadsUsed, LoadsNode, LoadsKids, Releases}
 use Rattle.mount_counts.specs.declared.remounts.RemountStep.{RemountStep}
 use Rattle.mount_counts.specs.declared.remounts.RemountStep.TheVariants.{ClearsHold, ClearsMark, SetsReadOnly}
 use Rattle.freeze_levels.specs.declared.freezes.FreezeStep.{FreezeStep}
@@ -25,7 +25,7 @@ use Rattle.gated_tree.specs.declared.opens.OpenFile.{OpenFile}
 use Rattle.gated_tree.specs.declared.opens.OpenStep.{OpenStep}
 use Rattle.gated_tree.specs.declared.opens.OpenStep.TheVariants.{LoadsFile as LoadsFileToOpen, OpensFile}
 use Rattle.file_closes.specs.declared.phases.ClosePhase.{ClosePhase}
-use Rattle.file_closes.specs.declared.phases.ClosePhase.TheVariants.{RefundsBlocks as CloseRefundsBlocks, Uncounts as CloseUncounts}
+use Rattle.file_closes.specs.declared.phases.ClosePhase.TheVariants.{RefundsBlocks as CloseRefundsBlocks, Uncounts as CloseUncounts, LoadsFile as CloseLoadsFile, LowersCount, Enters as EntersLevel, FreesNode as ClosesNode, Leaves as CloseLeaves}
 use Rattle.mount_counts.specs.declared.remounts.RemountStep.TheVariants.{SetsRemount}
 use Rattle.gated_tree.specs.Calls.{open_role}
 use Rattle.gated_tree.specs.Roles.{removal}

@@ -23,7 +23,7 @@ use Rattle.gated_tree.specs.declared.changes.CreateStep.{CreateStep}
 use Rattle.gated_tree.specs.declared.changes.CreateStep.TheVariants.{LoadsDirectory, LoadsNode, ChargesChild, TakesNode, RefundsChild}
 use Rattle.gated_tree.specs.declared.changes.Remove.{Remove}
 use Rattle.gated_tree.specs.declared.changes.RemoveStep.{RemoveStep}
-use Rattle.gated_tree.specs.declared.changes.RemoveStep.TheVariants.{LoadsFile as LoadsFileToRemove, FreesNode, MarksRemoved}
+use Rattle.gated_tree.specs.declared.changes.RemoveStep.TheVariants.{LoadsFile as LoadsFileToRemove, FreesNode, MarksRemoved, CountsRemoved, RefundsRemoved, RefundsBlocks as RefundsItsBlocks, RefundsChild as RefundsItsChild}
 use Rattle.gated_tree.specs.declared.changes.MoveTo.{MoveTo}
 use Rattle.gated_tree.specs.declared.changes.MoveStep.{MoveStep}
 use Rattle.gated_tree.specs.declared.changes.MoveStep.TheVariants.{
@@ -48,7 +48,7 @@ use Rattle.gated_tree.specs.declared.marks.MarkStep.TheVariants.{LoadsFile as Lo
 use Rattle.gated_tree.specs.declared.marks.ClearMarks.{ClearMarks}
 use Rattle.gated_tree.specs.declared.snapshots.Snapshot.{Snapshot}
 use Rattle.gated_tree.specs.declared.snapshots.SnapshotStep.{SnapshotStep}
-use Rattle.gated_tree.specs.declared.snapshots.SnapshotStep.TheVariants.{Locks, LoadsStage, LoadsNode as LoadsNodeWord}
+use Rattle.gated_tree.specs.declared.snapshots.SnapshotStep.TheVariants.{Locks, LoadsStage, LoadsNode as LoadsNodeWord, LoadsUsed as LoadsUsedWord, LoadsKids, Releases}
 use Rattle.gated_tree.specs.declared.phases.TreePhase.{TreePhase}
 use Rattle.gated_tree.specs.declared.phases.TreePhase.TheVariants.{
   Create as Creates,

@@ -18,7 +18,7 @@ use Rattle.tree_laws.specs.Events.{Event, MovesBy}
 use Rattle.tree_laws.proofs.Each.{each_event}
 use Rattle.stage_laws.specs.Roles.{MarksHold, CleanBelow, clean_by, KnowsStage, Freezing}
 use Rattle.file_closes.specs.declared.phases.ClosePhase.{ClosePhase}
-use Rattle.file_closes.specs.declared.phases.ClosePhase.TheVariants.{LoadsFile as CloseLoadsFile}
+use Rattle.file_closes.specs.declared.phases.ClosePhase.TheVariants.{LoadsFile as CloseLoadsFile, LowersCount, Enters, FreesNode as ClosesNode, RefundsBlocks as CloseRefundsBlocks, Uncounts as CloseUncounts, Leaves as CloseLeaves}
 use Rattle.gated_tree.specs.declared.opens.OpenFile.{OpenFile}
 use Rattle.gated_tree.specs.declared.opens.OpenStep.{OpenStep}
 use Rattle.gated_tree.specs.declared.opens.OpenStep.TheVariants.{LoadsFile as LoadsFileToOpen, OpensFile}
@@ -26,7 +26,7 @@ use Rattle.gate_world.specs.declared.config.Config.{Config}
 use Rattle.gate_world.specs.declared.views.View.{View}
 use Rattle.gate_world.specs.declared.views.Traced.{Traced}
 use Rattle.gate_world.specs.declared.work.Phase.{Phase}
-use Rattle.gate_world.specs.declared.work.Phase.TheVariants.{Remounts, Freezes, Thaws, Trees, Closes}
+use Rattle.gate_world.specs.declared.work.Phase.TheVariants.{Remounts, Freezes, Thaws, Trees, Closes, Mounts, DownReads, UpReads, Callbacks, Writes}
 use Rattle.gate_world.specs.Configs.{IsWithin}
 use Rattle.gate_world.specs.Fits.{Fits, FreezeFits, PhaseFits}
 use Rattle.gate_world.specs.Rules.{IsGood, Holds, Tree, Stages, Fitting, marks_of}
@@ -43,7 +43,7 @@ use Rattle.gate_world.specs.Remounts.{RemountFits}
 use Rattle.freeze_levels.specs.declared.thaws.ThawStep.{ThawStep}
 use Rattle.gated_tree.specs.declared.phases.TreePhase.{TreePhase}
 use Rattle.percpu_rwsem.specs.declared.writers.UpWriteStep.TheVariants.{Exits, ClearsBlock}
-use Rattle.gated_tree.specs.declared.snapshots.SnapshotStep.TheVariants.{Locks as SnapshotLocks, LoadsStage as SnapshotLoadsStage, LoadsNode as SnapshotLoadsNode, LoadsKids as SnapshotLoadsKids, Releases as SnapshotReleases}
+use Rattle.gated_tree.specs.declared.snapshots.SnapshotStep.TheVariants.{Locks as SnapshotLocks, LoadsStage as SnapshotLoadsStage, LoadsNode as SnapshotLoadsNode, LoadsKids as SnapshotLoadsKids, Releases as SnapshotReleases, LoadsUsed as SnapshotLoadsUsed}
 use Rattle.freeze_levels.specs.declared.thaws.ThawStep.TheVariants.{Reopens as ThawReopens}
 use Rattle.gated_tree.specs.declared.phases.TreePhase.TheVariants.{OpenFile as OpensOne, Snapshot as Snapshots, Create as Creates, Remove as Removes, Grow as Grows, MoveTo as Moves, Mark as TreeMarks, ClearMarks as TreeClears}
 use Rattle.percpu_rwsem.specs.declared.writers.DownWriteStep.TheVariants.{Sums}
@@ -61,10 +61,10 @@ use Rattle.gated_tree.specs.declared.growth.GrowStep.{GrowStep}
 use Rattle.gated_tree.specs.declared.changes.MoveStep.{MoveStep}
 use Rattle.gated_tree.specs.declared.marks.MarkStep.{MarkStep}
 use Rattle.gate_world.specs.Snapshots.{values_noted}
-use Rattle.gated_tree.specs.declared.changes.CreateStep.TheVariants.{LoadsDirectory}
-use Rattle.gated_tree.specs.declared.changes.RemoveStep.TheVariants.{LoadsFile as LoadsFileToRemove}
-use Rattle.gated_tree.specs.declared.growth.GrowStep.TheVariants.{LoadsFile as LoadsFileToGrow}
-use Rattle.gated_tree.specs.declared.changes.MoveStep.TheVariants.{LoadsFile as LoadsFileToMove}
+use Rattle.gated_tree.specs.declared.changes.CreateStep.TheVariants.{LoadsDirectory, LoadsNode, ChargesChild, TakesNode, RefundsChild}
+use Rattle.gated_tree.specs.declared.changes.RemoveStep.TheVariants.{LoadsFile as LoadsFileToRemove, FreesNode, CountsRemoved, MarksRemoved, RefundsRemoved, RefundsBlocks as RefundsItsBlocks, RefundsChild as RefundsItsChild}
+use Rattle.gated_tree.specs.declared.growth.GrowStep.TheVariants.{LoadsFile as LoadsFileToGrow, LoadsUsed, ChargesBlocks, GrowsFile, RefundsBlocks}
+use Rattle.gated_tree.specs.declared.changes.MoveStep.TheVariants.{LoadsFile as LoadsFileToMove, LoadsDirectory as LoadsTarget, ChargesChild as ChargesTarget, MovesFile, RefundsChild as RefundsOne}
 use Rattle.gated_tree.specs.declared.marks.MarkStep.TheVariants.{LoadsFile as LoadsFileToMark, MarksFile}
 
 -- a configuration within the limits is one for the laws of the tree

@@ -18,9 +18,9 @@ use Rattle.percpu_rwsem.specs.Transitions.{transition_after}
 use Rattle.percpu_rwsem.specs.Writers.{down_write_after, at_down_write, sections_awaited, up_write_after, exit_made}
 use Rattle.percpu_rwsem.specs.declared.grace.Grace.{Grace}
 use Rattle.percpu_rwsem.specs.declared.sync_word.GpState.{GpState}
-use Rattle.percpu_rwsem.specs.declared.sync_word.GpState.TheVariants.{Passed, Exit, Replay}
+use Rattle.percpu_rwsem.specs.declared.sync_word.GpState.TheVariants.{Passed, Exit, Replay, Idle, Enter}
 use Rattle.percpu_rwsem.specs.declared.transitions.TransitionNext.{TransitionNext}
-use Rattle.percpu_rwsem.specs.declared.transitions.TransitionNext.TheVariants.{More}
+use Rattle.percpu_rwsem.specs.declared.transitions.TransitionNext.TheVariants.{More, Undefined, Made}
 use Rattle.percpu_rwsem.specs.declared.writers.DownWrite.{DownWrite}
 use Rattle.percpu_rwsem.specs.declared.writers.DownWriteStep.{DownWriteStep}
 use Rattle.percpu_rwsem.specs.declared.writers.DownWriteStep.TheVariants.{Enters, AwaitsSections, CallsBack, AwaitsPassed, SetsBlock, Sums}
@@ -30,7 +30,7 @@ use Rattle.percpu_rwsem.specs.declared.writers.UpWriteStep.TheVariants.{ClearsBl
 use Rattle.freeze_levels.specs.Freezes.{at_freeze, after_closing, after_clearing, after_reopening}
 use Rattle.freeze_levels.specs.declared.freezes.Freeze.{Freeze}
 use Rattle.freeze_levels.specs.declared.freezes.FreezeStep.{FreezeStep}
-use Rattle.freeze_levels.specs.declared.freezes.FreezeStep.TheVariants.{Locks, LoadsStage, LoadsSuperblock, Closes, LocksAgain, Cleans, SetsFs, SetsComplete, Reopens}
+use Rattle.freeze_levels.specs.declared.freezes.FreezeStep.TheVariants.{Locks, LoadsStage, LoadsSuperblock, Closes, LocksAgain, Cleans, SetsFs, SetsComplete, Reopens, LoadsHolders, Holds, CompletesReadOnly, SetsWrite, Unlocks, SetsPageFault, Releases}
 use Rattle.level_laws.specs.Changes.{state_found, state_found_in}
 use Rattle.level_laws.specs.Events.{SyncLevelHolds}
 use Rattle.level_laws.specs.Operations.{down_write_role}

@@ -9,7 +9,7 @@ use Rattle.cpu_words.specs.Hooks.{HookAnswer}
 use Rattle.mount_counts.specs.Phases.{has_flag}
 use Rattle.mount_counts.specs.Remounts.{at_remount}
 use Rattle.mount_counts.specs.declared.remounts.Remount.{Remount}
-use Rattle.mount_counts.specs.declared.remounts.RemountStep.TheVariants.{Locks, LoadsStage, SetsWritable, LoadsFlags, LoadsRemoved, LoadsRemovedAgain, SetsReadOnly}
+use Rattle.mount_counts.specs.declared.remounts.RemountStep.TheVariants.{Locks, LoadsStage, SetsWritable, LoadsFlags, LoadsRemoved, LoadsRemovedAgain, SetsReadOnly, LoadsSuperblock, SetsHold, Sums, LeavesHolds, SetsRemount, ClearsHold, GivesUp, ClearsMark, ClearsRemount, Releases}
 use Rattle.mount_counts.specs.declared.remounts.RemountStep.{RemountStep}
 use Rattle.gate_world.specs.declared.config.Config.{Config}
 use Rattle.gate_world.specs.declared.work.Phase.TheVariants.{Remounts}

@@ -7,7 +7,7 @@ use Rattle.std.proofs.lemmas.Bool.Decides.{eqb_tells}
 use Rattle.access_model.specs.Replies.{map_next}
 use Rattle.cpu_words.specs.Hooks.{HookAnswer}
 use Rattle.percpu_rwsem.specs.declared.transitions.TransitionNext.{TransitionNext}
-use Rattle.percpu_rwsem.specs.declared.transitions.TransitionNext.TheVariants.{More}
+use Rattle.percpu_rwsem.specs.declared.transitions.TransitionNext.TheVariants.{More, Undefined, Made}
 use Rattle.percpu_rwsem.specs.declared.writers.UpWrite.{UpWrite}
 use Rattle.percpu_rwsem.specs.declared.writers.UpWriteStep.{UpWriteStep}
 use Rattle.percpu_rwsem.specs.declared.writers.UpWriteStep.TheVariants.{ClearsBlock, Exits}
@@ -16,7 +16,7 @@ use Rattle.percpu_rwsem.specs.Transitions.{transition_after}
 use Rattle.percpu_rwsem.specs.Writers.{exit_made, up_write_after}
 use Rattle.freeze_levels.specs.declared.thaws.Thaw.{Thaw}
 use Rattle.freeze_levels.specs.declared.thaws.ThawStep.{ThawStep}
-use Rattle.freeze_levels.specs.declared.thaws.ThawStep.TheVariants.{Locks, LoadsStage, LoadsSuperblock, LeavesLast, Reopens}
+use Rattle.freeze_levels.specs.declared.thaws.ThawStep.TheVariants.{Locks, LoadsStage, LoadsSuperblock, LeavesLast, Reopens, LoadsHolders, Leaves, LeavesReadOnly, UnfreezesReadOnly, SetsUnfrozen, Releases}
 use Rattle.freeze_levels.specs.Thaws.{at_thaw, after_opening}
 use Rattle.gate_world.specs.declared.config.Config.{Config}
 use Rattle.gate_world.specs.declared.work.Phase.{Phase}
