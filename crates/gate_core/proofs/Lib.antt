@@ -17,3 +17,4 @@ pub mod Beginning
 pub mod Opening
 pub mod Rows
 pub mod TreeRows
+pub mod KeptRows
