@@ -21,3 +21,4 @@ pub mod Rows
 pub mod TreeRows
 pub mod CauseRows
 pub mod BadWorlds
+pub mod KeptRows
