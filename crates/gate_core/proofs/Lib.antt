@@ -8,6 +8,7 @@ pub mod Snapshots
 pub mod Rests
 pub mod Between
 pub mod Standing
+pub mod Leads
 pub mod Whole
 pub mod Runs
 pub mod LevelRuns
@@ -19,3 +20,5 @@ pub mod Opening
 pub mod Rows
 pub mod TreeRows
 pub mod CauseRows
+pub mod BadWorlds
+pub mod KeptRows

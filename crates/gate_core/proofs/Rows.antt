@@ -111,7 +111,7 @@ calls_none : (step_answer small (run small opening calls) 2 (Ok tt)).progress â‰
 calls_none = refl
 
 -- a freeze: five events under the lock, ten at each level, two and two between them, and three at the end
-abbrev freezes : List Entry
+abbrev pub freezes : List Entry
 freezes = Begins 0 (Freeze User) âˆ· steps 42 0
 
 -- it closes the levels one after the other

@@ -1,4 +1,5 @@
 -- What holds of every schedule from the opening on.
+use Rattle.gate_core.proofs.Leads.{levels_lead}
 use Rattle.cpu_words.specs.Hooks.{HookAnswer}
 use Rattle.gate_world.specs.Work.{after_of}
 use Rattle.gate_world.specs.KeptCauses.{CauseOf}
@@ -14,7 +15,7 @@ use Rattle.gate_world.specs.declared.config.Config.{Config}
 use Rattle.gate_world.specs.Configs.{IsWithin, model_limits}
 use Rattle.gate_world.specs.Worlds.{World, Entry, opening, happens, run, found_at}
 use Rattle.gate_world.specs.Rules.{IsGood}
-use Rattle.gate_world.specs.Headline.{world_after, actions_so_far, MovesTheModel, IsOneRun, NobodyIsInside, SumsHold, IdleSumsHold, NothingIsLeft, FreezeIsUnderWay, HoldersAreTold, FrozenTreeIsWhole, SnapshotsStand, ViewTells, OperationsAreKept}
+use Rattle.gate_world.specs.Headline.{world_after, actions_so_far, MovesTheModel, IsOneRun, NobodyIsInside, SumsHold, IdleSumsHold, NothingIsLeft, FreezeIsUnderWay, HoldersAreTold, FrozenTreeIsWhole, SnapshotsStand, ViewTells, OperationsAreKept, LevelsLead}
 use Rattle.gate_world.specs.Courses.{course_of, IsTraced, FollowsOrder, AllTraced}
 use Rattle.gate_world.specs.Traces.{Tells, actions_of}
 use Rattle.gate_world.specs.declared.operations.Op.{Op}
@@ -66,6 +67,9 @@ module _ (c : Config) (lim : IsWithin c) where
 
   pub whole_idle : (es : List Entry) → IdleSumsHold c (world_after c es)
   whole_idle es = idle_sums c lim (world_after c es) (whole_rule es)
+
+  pub whole_leads : (es : List Entry) → LevelsLead c (world_after c es)
+  whole_leads es = levels_lead c (world_after c es) (whole_rule es)
 
   pub whole_rests : (es : List Entry) → NothingIsLeft c (world_after c es)
   whole_rests es = at_rest c (world_after c es) (whole_rule es)

@@ -5,7 +5,7 @@ ghost use Rattle.gate_world.specs.declared.config.Config.{Config};
 ghost use Rattle.gate_world.specs.Configs.{IsWithin};
 ghost use Rattle.gate_world.specs.Worlds.{Entry};
 ghost use Rattle.gate_world.specs.Rules.{IsGood};
-ghost use Rattle.gate_world.specs.Headline.{world_after, MovesTheModel, IsOneRun, NobodyIsInside, SumsHold, IdleSumsHold, NothingIsLeft, FreezeIsUnderWay, HoldersAreTold, FrozenTreeIsWhole, SnapshotsStand, OperationsAreKept};
+ghost use Rattle.gate_world.specs.Headline.{world_after, MovesTheModel, IsOneRun, NobodyIsInside, SumsHold, LevelsLead, IdleSumsHold, NothingIsLeft, FreezeIsUnderWay, HoldersAreTold, FrozenTreeIsWhole, SnapshotsStand, OperationsAreKept};
 ghost use Rattle.gate_world.specs.Causes.{RefusalsHaveCauses};
 ghost use Rattle.gate_world.specs.LevelRuns.{LevelsAreRuns};
 ghost use Rattle.gate_world.specs.Waits.{EachWaitHasCulprit};
@@ -23,6 +23,9 @@ ghost use Rattle.progress_laws.specs.Ranks.{most_events_to_reply};
 /// - `inside`: nobody holds an access at a read-only mount, nor at a level that a freeze has passed.
 /// - `sums`, `idle`: each mount's and each level's words sum to what is held and sought there, and, with no operation under way, to the
 ///   accesses held.
+/// - `leads`: while a freeze sums a level's words, from its swap of `block` to the level's pass, what it has read, with the present values of the
+///   words to come, is at least the accesses that are held there, with who is on the fast path, and who seeks one and has added to a word
+///   to come.
 /// - `rests`: nothing is left behind: with no operation under way, `umount` is free, no remount is under way, no mount has HOLD set, no
 ///   read-side section is under way, a level is closed only where the file system is frozen as a whole, no callback is taken, no
 ///   freeze is half done: the stage is SB_UNFROZEN or SB_FREEZE_COMPLETE, and the kernel or user space holds a freeze exactly at the latter; and
@@ -71,6 +74,7 @@ pub fn every_schedule()
     ensures inside { (c : Config) → IsWithin c → (entries : List Entry) → NobodyIsInside c (world_after c entries) }
     ensures sums { (c : Config) → IsWithin c → (entries : List Entry) → SumsHold c (world_after c entries) }
     ensures idle { (c : Config) → IsWithin c → (entries : List Entry) → IdleSumsHold c (world_after c entries) }
+    ensures leads { (c : Config) → IsWithin c → (entries : List Entry) → LevelsLead c (world_after c entries) }
     ensures rests { (c : Config) → IsWithin c → (entries : List Entry) → NothingIsLeft c (world_after c entries) }
     ensures freezes { (c : Config) → IsWithin c → (entries : List Entry) → FreezeIsUnderWay c (world_after c entries) }
     ensures holders { (c : Config) → IsWithin c → (entries : List Entry) → HoldersAreTold c (world_after c entries) }

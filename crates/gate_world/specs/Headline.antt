@@ -1,5 +1,5 @@
 -- The headline: what holds of every schedule.
-use Rattle.std.specs.Prelude.{◌≡◌, ℕ, ◌%◌, ◌<◌, ◌≤◌, ◌==◌, ◌⊎◌, Bool, false, if◌then◌else◌, Option, Some, None, Err, List, []}
+use Rattle.std.specs.Prelude.{◌≡◌, ℕ, ◌%◌, ◌<◌, ◌≤◌, ◌==◌, ◌⊎◌, Bool, false, if◌then◌else◌, Option, Some, None, Err, List, [], ◌+◌}
 use Rattle.finite_sums.specs.Sums.{total}
 use Rattle.access_model.specs.Histories.{Done, end_of, IsLegal, IsMerge}
 use Rattle.access_model.specs.States.{is_removed, one_if}
@@ -12,11 +12,13 @@ use Rattle.gate_world.specs.declared.config.Config.{Config}
 use Rattle.gate_world.specs.declared.operations.Op.{Op}
 use Rattle.gate_world.specs.declared.views.View.{View}
 use Rattle.gate_world.specs.Configs.{model_limits}
-use Rattle.gate_counts.specs.Gates.{counted as counted_of}
-use Rattle.gate_counts.specs.Levels.{level_as_gate}
+use Rattle.gate_counts.specs.Gates.{counted as counted_of, unread}
+use Rattle.gate_counts.specs.Levels.{Summing, level_as_gate}
+use Rattle.cpu_words.specs.Sums.{lead}
+use Rattle.level_laws.specs.Roles.{fast}
 use Rattle.percpu_rwsem.specs.declared.sync_word.SyncWord.{SyncWord}
 use Rattle.percpu_rwsem.specs.SyncWords.{unpack}
-use Rattle.gate_world.specs.Levels.{at_level, is_frozen_whole}
+use Rattle.gate_world.specs.Levels.{at_level, level_role_of, sync_role_of, is_frozen_whole}
 use Rattle.gate_world.specs.Views.{held_at, holds_level, HoldsAsBefore}
 use Rattle.gate_world.specs.Worlds.{World, Entry, happens, action_of, task_of, run, opening, history}
 use Rattle.stage_laws.specs.Roles.{Place, Freezing, freezes}
@@ -70,6 +72,17 @@ pub record SumsHold (c : Config) (w : World) : Type 0 where
       (λ t. counted (at_mount m (w.views t)))
   pub levels : (i : ℕ) → 1 ≤ i → i ≤ 3 → total c.processors (w.words.level i) % 18446744073709551616 ≡ total c.tasks
       (λ t. counted_of (level_as_gate (at_level i (w.views t))))
+
+-- an access at a level that is held, or that a reader on the fast path is granted by its next event
+abbrev pub admitted_at : ℕ → View → ℕ
+admitted_at i v = (at_level i v).held + fast (sync_role_of i v.phase)
+
+-- While a freeze sums a level's words, from its swap of `block` to the pass of the level: `block` is 1, and what it has read, with the
+-- present values of the words to come, is at least what is admitted there, with who seeks an access and has added to a word to come.
+abbrev pub LevelsLead : Config → World → Type 0
+LevelsLead c w = (t i read sum : ℕ) → t < c.tasks → 1 ≤ i → i ≤ 3 → level_role_of i (w.views t).phase ≡ Summing read sum →
+    (w.words.block i ≡ 1) × (total c.tasks (λ x. admitted_at i (w.views x)) +
+    total c.tasks (λ x. unread read (level_as_gate (at_level i (w.views x)))) ≤ lead c.processors (w.words.level i) read sum)
 
 -- to the accesses held
 pub record HeldSumsHold (c : Config) (w : World) : Type 0 where

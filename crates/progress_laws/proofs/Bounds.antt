@@ -9,7 +9,7 @@ use Rattle.cpu_words.specs.Sums.{lead}
 use Rattle.cpu_words.specs.declared.sums.Sum.{Sum}
 use Rattle.mount_counts.specs.declared.phases.MountPhase.TheVariants.{Want as Wants, Drop as Drops, Change as Changes}
 use Rattle.mount_counts.specs.declared.phases.WantStep.{WantStep}
-use Rattle.mount_counts.specs.declared.phases.WantStep.TheVariants.{CountsUp, LoadsHold, LoadsRemount, LoadsReadOnly, LoadsSuperblock, CountsDown}
+use Rattle.mount_counts.specs.declared.phases.WantStep.TheVariants.{CountsUp}
 use Rattle.mount_counts.specs.declared.phases.ChangeStep.{ChangeStep}
 use Rattle.mount_counts.specs.declared.phases.ChangeStep.TheVariants.{Sums as ChangeSums}
 use Rattle.mount_counts.specs.declared.remounts.RemountStep.{RemountStep}
@@ -18,7 +18,7 @@ use Rattle.percpu_rwsem.specs.SyncWords.{pack}
 use Rattle.percpu_rwsem.specs.declared.transitions.Transition.{Transition}
 use Rattle.percpu_rwsem.specs.declared.transitions.Transition.TheVariants.{Loads, Exchanges}
 use Rattle.percpu_rwsem.specs.declared.readers.DownReadStep.{DownReadStep}
-use Rattle.percpu_rwsem.specs.declared.readers.DownReadStep.TheVariants.{EntersSection, LoadsSync, CountsUpFast, CountsUpSlow, LoadsBlock, CountsDown as ReadCountsDown, LeavesAdmitted, LeavesBlocked}
+use Rattle.percpu_rwsem.specs.declared.readers.DownReadStep.TheVariants.{EntersSection}
 use Rattle.percpu_rwsem.specs.declared.callbacks.CallbackStep.{CallbackStep}
 use Rattle.percpu_rwsem.specs.declared.callbacks.CallbackStep.TheVariants.{Claims, AwaitsSections as CallbackAwaits, CallsBack as CallbackCalls}
 use Rattle.percpu_rwsem.specs.declared.writers.DownWrite.{DownWrite}
@@ -36,11 +36,11 @@ use Rattle.freeze_levels.specs.declared.thaws.ThawStep.TheVariants.{Reopens as T
 use Rattle.gated_tree.specs.declared.changes.CreateStep.{CreateStep}
 use Rattle.gated_tree.specs.declared.changes.CreateStep.TheVariants.{LoadsNode}
 use Rattle.gated_tree.specs.declared.changes.RemoveStep.{RemoveStep}
-use Rattle.gated_tree.specs.declared.changes.RemoveStep.TheVariants.{LoadsFile as LoadsFileToRemove, FreesNode, CountsRemoved, MarksRemoved, RefundsRemoved, RefundsBlocks as RefundsItsBlocks, RefundsChild as RefundsItsChild}
+use Rattle.gated_tree.specs.declared.changes.RemoveStep.TheVariants.{LoadsFile as LoadsFileToRemove}
 use Rattle.gated_tree.specs.declared.changes.MoveStep.{MoveStep}
-use Rattle.gated_tree.specs.declared.changes.MoveStep.TheVariants.{LoadsFile as LoadsFileToMove, LoadsDirectory as LoadsTarget, ChargesChild as ChargesTarget, MovesFile, RefundsChild as RefundsOne}
+use Rattle.gated_tree.specs.declared.changes.MoveStep.TheVariants.{LoadsFile as LoadsFileToMove}
 use Rattle.gated_tree.specs.declared.growth.GrowStep.{GrowStep}
-use Rattle.gated_tree.specs.declared.growth.GrowStep.TheVariants.{LoadsFile as LoadsFileToGrow, LoadsUsed, ChargesBlocks, GrowsFile, RefundsBlocks}
+use Rattle.gated_tree.specs.declared.growth.GrowStep.TheVariants.{LoadsFile as LoadsFileToGrow}
 use Rattle.gated_tree.specs.declared.marks.MarkStep.{MarkStep}
 use Rattle.gated_tree.specs.declared.marks.MarkStep.TheVariants.{LoadsFile as LoadsFileToMark, MarksFile}
 use Rattle.gated_tree.specs.declared.opens.OpenStep.{OpenStep}
@@ -50,7 +50,7 @@ use Rattle.gated_tree.specs.declared.snapshots.SnapshotStep.TheVariants.{LoadsNo
 use Rattle.gated_tree.specs.declared.phases.TreePhase.TheVariants.{Create as Creates, Remove as Removes, Grow as Grows, MoveTo as Moves, Mark as TreeMarks, OpenFile as OpensOne, Snapshot as Snapshots, ClearMarks as TreeClears}
 use Rattle.access_model.specs.declared.actions.Holder.{Holder}
 use Rattle.file_closes.specs.declared.phases.ClosePhase.{ClosePhase}
-use Rattle.file_closes.specs.declared.phases.ClosePhase.TheVariants.{LoadsFile as CloseLoadsFile, LowersCount, Enters as EntersLevel, FreesNode as ClosesNode, RefundsBlocks as CloseRefundsBlocks, Uncounts as CloseUncounts, Leaves as CloseLeaves}
+use Rattle.file_closes.specs.declared.phases.ClosePhase.TheVariants.{Enters as EntersLevel}
 use Rattle.gate_world.specs.declared.config.Config.{Config}
 use Rattle.gate_world.specs.declared.work.Phase.{Phase}
 use Rattle.gate_world.specs.declared.work.Phase.TheVariants.{Mounts, Remounts, DownReads, UpReads, Callbacks, Writes, Freezes, Thaws, Trees, Closes as FileCloses}
@@ -62,11 +62,7 @@ use Rattle.progress_laws.specs.Ranks.{rank, want_rank, change_rank, loop_rank, r
 
 want_small : (s : WantStep) → want_rank s < 6
 want_small CountsUp = omega arith
-want_small LoadsHold = omega arith
-want_small LoadsRemount = omega arith
-want_small LoadsReadOnly = omega arith
-want_small LoadsSuperblock = omega arith
-want_small (CountsDown refusal) = omega arith
+want_small s = omega arith
 
 change_small : (p : ℕ) (s : ChangeStep) → change_rank p s < p + 8
 change_small p (ChangeSums sum) = omega arith
@@ -101,21 +97,9 @@ module _ (c : Config) (lim : IsWithin c) where
 
   read_small : (wait : Bool) (s : DownReadStep) → read_rank wait s < 8
   read_small true EntersSection = omega arith
-  read_small true LoadsSync = omega arith
-  read_small true CountsUpFast = omega arith
-  read_small true CountsUpSlow = omega arith
-  read_small true LoadsBlock = omega arith
-  read_small true ReadCountsDown = omega arith
-  read_small true LeavesAdmitted = omega arith
-  read_small true LeavesBlocked = omega arith
   read_small false EntersSection = omega arith
-  read_small false LoadsSync = omega arith
-  read_small false CountsUpFast = omega arith
-  read_small false CountsUpSlow = omega arith
-  read_small false LoadsBlock = omega arith
-  read_small false ReadCountsDown = omega arith
-  read_small false LeavesAdmitted = omega arith
-  read_small false LeavesBlocked = omega arith
+  read_small true s = omega arith
+  read_small false s = omega arith
 
   callback_small : (tasks sync : ℕ) (s : CallbackStep) → GraceFits tasks s → callback_rank tasks sync s < tasks + 6
   callback_small tasks sync (Claims x) fits = omega (arith, exchange_small sync x)
@@ -161,26 +145,15 @@ create_small n s = omega arith
 
 remove_small : (s : RemoveStep) → remove_rank s < 5
 remove_small LoadsFileToRemove = omega arith
-remove_small (FreesNode file) = omega arith
-remove_small (CountsRemoved file) = omega arith
-remove_small (MarksRemoved file) = omega arith
-remove_small RefundsRemoved = omega arith
-remove_small (RefundsItsBlocks file) = omega arith
-remove_small (RefundsItsChild file) = omega arith
+remove_small s = omega arith
 
 grow_small : (s : GrowStep) → grow_rank s < 5
 grow_small LoadsFileToGrow = omega arith
-grow_small (LoadsUsed file) = omega arith
-grow_small (ChargesBlocks file used) = omega arith
-grow_small (GrowsFile file) = omega arith
-grow_small RefundsBlocks = omega arith
+grow_small s = omega arith
 
 move_small : (s : MoveStep) → move_rank s < 5
 move_small LoadsFileToMove = omega arith
-move_small (LoadsTarget file) = omega arith
-move_small (ChargesTarget file) = omega arith
-move_small (MovesFile file) = omega arith
-move_small (RefundsOne dir answer) = omega arith
+move_small s = omega arith
 
 mark_small : (s : MarkStep) → mark_rank s < 5
 mark_small LoadsFileToMark = omega arith
@@ -204,12 +177,7 @@ write_small c lim (Ends p) = omega arith
 
 close_small : (c : Config) (lim : IsWithin c) (x : ClosePhase) → close_rank x < 20
 close_small c lim (EntersLevel f node r) = omega (arith, read_small c lim r.wait r.step)
-close_small c lim (LowersCount x node) = omega arith
-close_small c lim (ClosesNode f p node) = omega arith
-close_small c lim (CloseRefundsBlocks p blocks) = omega arith
-close_small c lim (CloseUncounts p) = omega arith
-close_small c lim (CloseLeaves p) = omega arith
-close_small c lim (CloseLoadsFile x) = omega arith
+close_small c lim x = omega arith
 
 thaw_small : (c : Config) (lim : IsWithin c) (w : Words) (holder : Holder) (s : ThawStep) → ThawFits holder s → thaw_rank w s < 20
 thaw_small c lim w holder (ThawReopens u) fits = omega (arith, fits.1, up_small c lim (w.sync u.level) u.step)

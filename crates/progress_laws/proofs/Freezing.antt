@@ -7,43 +7,26 @@ use Rattle.finite_sums.specs.Sums.{update, total}
 use Rattle.finite_sums.proofs.Totals.{update_off, total_at, total_bound, total_updated, each_updated}
 use Rattle.cpu_words.specs.Hooks.{HookAnswer}
 use Rattle.cpu_words.specs.Words.{Words}
-use Rattle.mount_counts.specs.declared.phases.MountPhase.TheVariants.{Want as Wants, Drop as Drops, Change as Changes}
+use Rattle.mount_counts.specs.declared.phases.MountPhase.TheVariants.{Want as Wants, Change as Changes}
 use Rattle.percpu_rwsem.specs.declared.readers.DownReadStep.{DownReadStep}
-use Rattle.percpu_rwsem.specs.declared.readers.DownReadStep.TheVariants.{EntersSection, LoadsSync, CountsUpFast, CountsUpSlow, LoadsBlock, CountsDown, LeavesAdmitted, LeavesBlocked}
+use Rattle.percpu_rwsem.specs.declared.readers.DownReadStep.TheVariants.{EntersSection}
 use Rattle.percpu_rwsem.specs.declared.callbacks.Callback.{Callback}
 use Rattle.percpu_rwsem.specs.declared.writers.UpWriteStep.{UpWriteStep}
 use Rattle.percpu_rwsem.specs.declared.writers.UpWriteStep.TheVariants.{ClearsBlock, Exits}
 use Rattle.freeze_levels.specs.declared.freezes.Freeze.{Freeze}
 use Rattle.freeze_levels.specs.declared.freezes.FreezeStep.{FreezeStep}
-use Rattle.freeze_levels.specs.declared.freezes.FreezeStep.TheVariants.{
-  Locks,
-  LoadsStage,
-  LoadsHolders,
-  Holds,
-  LoadsSuperblock,
-  CompletesReadOnly,
-  SetsWrite,
-  Unlocks,
-  Closes,
-  LocksAgain,
-  SetsPageFault,
-  Cleans,
-  SetsFs,
-  SetsComplete,
-  Reopens,
-  Releases,
-}
-use Rattle.gated_tree.specs.declared.phases.TreePhase.TheVariants.{Create as Creates, Remove as Removes, Grow as Grows, MoveTo as Moves, Mark as TreeMarks, OpenFile as OpensOne, Snapshot as Snapshots, ClearMarks as TreeClears}
+use Rattle.freeze_levels.specs.declared.freezes.FreezeStep.TheVariants.{Locks, LoadsStage, LoadsHolders, Holds, LoadsSuperblock, CompletesReadOnly, SetsWrite, Closes, LocksAgain, Reopens, Releases}
+use Rattle.gated_tree.specs.declared.phases.TreePhase.TheVariants.{Snapshot as Snapshots}
 use Rattle.level_laws.specs.Operations.{down_read_inside}
 use Rattle.stage_laws.specs.Roles.{Place, HasPassed, Freezing, owns as stage_owns, freezes, under_way, KnowsStage}
 use Rattle.stage_laws.proofs.Facts.{other_zero}
-use Rattle.write_access.specs.declared.phases.WritePhase.TheVariants.{Takes, Wants as WriteWants, GivesBack, Drops as WriteDrops, Ends}
-use Rattle.file_closes.specs.declared.phases.ClosePhase.TheVariants.{LoadsFile as CloseLoadsFile, LowersCount, Enters as EntersLevel, FreesNode as ClosesNode, RefundsBlocks as CloseRefundsBlocks, Uncounts as CloseUncounts, Leaves as CloseLeaves}
+use Rattle.write_access.specs.declared.phases.WritePhase.TheVariants.{Takes, Wants as WriteWants}
+use Rattle.file_closes.specs.declared.phases.ClosePhase.TheVariants.{LoadsFile as CloseLoadsFile, Enters as EntersLevel}
 use Rattle.access_model.specs.declared.actions.Holder.{Holder}
 use Rattle.gate_world.specs.declared.config.Config.{Config}
 use Rattle.gate_world.specs.declared.views.View.{View}
 use Rattle.gate_world.specs.declared.work.Phase.{Phase}
-use Rattle.gate_world.specs.declared.work.Phase.TheVariants.{Mounts, Remounts, DownReads, UpReads, Callbacks, Writes, Freezes, Thaws, Trees, Closes as FileCloses}
+use Rattle.gate_world.specs.declared.work.Phase.TheVariants.{Mounts, Remounts, DownReads, Callbacks, Writes, Freezes, Thaws, Trees, Closes as FileCloses}
 use Rattle.gate_world.specs.Configs.{IsWithin}
 use Rattle.gate_world.specs.Fits.{PhaseFits, ReadStepFits, FreezeFits}
 use Rattle.gate_world.specs.Levels.{inside}
@@ -113,13 +96,7 @@ kept_or_apart c w step =
 outside_fits : (i : ℕ) (levels : ℕ → Bool) (s : DownReadStep) → down_read_inside s ≡ 0 → ReadStepFits i levels s →
     holds_none_from i levels ≡ true
 outside_fits i levels EntersSection h f = f
-outside_fits i levels LoadsSync h f = absurd (omega (arith, h))
-outside_fits i levels CountsUpFast h f = absurd (omega (arith, h))
-outside_fits i levels CountsUpSlow h f = absurd (omega (arith, h))
-outside_fits i levels LoadsBlock h f = absurd (omega (arith, h))
-outside_fits i levels CountsDown h f = absurd (omega (arith, h))
-outside_fits i levels LeavesAdmitted h f = absurd (omega (arith, h))
-outside_fits i levels LeavesBlocked h f = absurd (omega (arith, h))
+outside_fits i levels s h f = absurd (omega (arith, h))
 
 -- a freeze finds `umount` free at its first lock
 abbrev pub FirstFree : Words → FreezeStep → Type 0
@@ -161,16 +138,10 @@ owner_step c w nodes (Holds beside) even one k f o = absurd (omega (arith, k.0, 
 owner_step c w nodes LoadsSuperblock even one k f o = absurd (omega (arith, k.0, one))
 owner_step c w nodes CompletesReadOnly even one k f o = absurd (omega (arith, k.0, one))
 owner_step c w nodes SetsWrite even one k f o = absurd (omega (arith, k.0, one))
-owner_step c w nodes Unlocks even one k f o = absurd (omega (arith, f))
-owner_step c w nodes (Closes d) even one k f o = absurd (omega (arith, f))
-owner_step c w nodes LocksAgain even one k f o = absurd (omega (arith, f))
-owner_step c w nodes SetsPageFault even one k f o = absurd (omega (arith, f))
-owner_step c w nodes (Cleans marks) even one k f o = absurd (omega (arith, f))
-owner_step c w nodes SetsFs even one k f o = absurd (omega (arith, f))
-owner_step c w nodes SetsComplete even one k f o = absurd (omega (arith, f))
 owner_step c w nodes (Reopens u code) even one k f o =
     absurd (omega (arith, one, reopening_knows w.stage w.sb u.level u.step k))
 owner_step c w nodes (Releases answer) even one k f o = (even, tt, λ i low high. absurd (omega (arith, low, high)))
+owner_step c w nodes s even one k f o = absurd (omega (arith, f))
 
 -- there is no level 0 to be passed
 if_some : (b : Bool) → 1 ≤ (if b then 1 else 4)
@@ -207,7 +178,6 @@ module _ (c : Config) (lim : IsWithin c)
         (w.views z).phase ≡ Some phase → PhaseFits c z (held_at (w.views z)) (holds_level (w.views z)) phase → ReplyWithin c (most_alone c) w
     holder_goes z lz i one three is (Mounts (Wants x)) at f =
         want_goes c lim keeps ends w good z lz (Mounts (Wants x)) at refl x.mount f.0 (λ clear. clear)
-    holder_goes z lz i one three is (Mounts (Drops m p)) at f = free_goes c lim keeps ends w good z lz (Mounts (Drops m p)) at tt
     holder_goes z lz i one three is (Mounts (Changes x)) at f = absurd (holds_not_none (holds_level (w.views z)) i f.3 one three is)
     holder_goes z lz i one three is (Remounts x) at f = absurd (holds_not_none (holds_level (w.views z)) i f.4 one three is)
     holder_goes z lz i one three is (DownReads r) at f =
@@ -215,7 +185,6 @@ module _ (c : Config) (lim : IsWithin c)
         let above : i < r.level =
         holds_below (holds_level (w.views z)) i r.level (outside_fits r.level (holds_level (w.views z)) r.step o f.4) one three is in
         free_goes c lim keeps ends w good z lz (DownReads r) at (λ e a. open_above c w good i r.level z one above f.1 lz is)
-    holder_goes z lz i one three is (UpReads u) at f = free_goes c lim keeps ends w good z lz (UpReads u) at tt
     holder_goes z lz i one three is (Callbacks b) at f = free_goes c lim keeps ends w good z lz (Callbacks b) at nobody_inside
     holder_goes z lz i one three is (Writes (Takes m r)) at f =
         let o : down_read_inside r.step ≡ 0 = sym (ap inside at) ∙ out z lz in
@@ -224,41 +193,20 @@ module _ (c : Config) (lim : IsWithin c)
         absurd (omega (arith, above, one, f.1))
     holder_goes z lz i one three is (Writes (WriteWants x)) at f =
         want_goes c lim keeps ends w good z lz (Writes (WriteWants x)) at refl x.mount f.0.0 (λ clear. clear)
-    holder_goes z lz i one three is (Writes (GivesBack m p refusal)) at f =
-        free_goes c lim keeps ends w good z lz (Writes (GivesBack m p refusal)) at tt
-    holder_goes z lz i one three is (Writes (WriteDrops m p)) at f =
-        free_goes c lim keeps ends w good z lz (Writes (WriteDrops m p)) at tt
-    holder_goes z lz i one three is (Writes (Ends p)) at f = free_goes c lim keeps ends w good z lz (Writes (Ends p)) at tt
     holder_goes z lz i one three is (Freezes x) at f = absurd (holds_not_none (holds_level (w.views z)) i f.4 one three is)
     holder_goes z lz i one three is (Thaws x) at f = absurd (holds_not_none (holds_level (w.views z)) i f.1 one three is)
-    holder_goes z lz i one three is (Trees (Creates x)) at f = free_goes c lim keeps ends w good z lz (Trees (Creates x)) at tt
-    holder_goes z lz i one three is (Trees (Removes x)) at f = free_goes c lim keeps ends w good z lz (Trees (Removes x)) at tt
-    holder_goes z lz i one three is (Trees (Grows x)) at f = free_goes c lim keeps ends w good z lz (Trees (Grows x)) at tt
-    holder_goes z lz i one three is (Trees (Moves x)) at f = free_goes c lim keeps ends w good z lz (Trees (Moves x)) at tt
-    holder_goes z lz i one three is (Trees (TreeMarks x)) at f = free_goes c lim keeps ends w good z lz (Trees (TreeMarks x)) at tt
-    holder_goes z lz i one three is (Trees (OpensOne x)) at f = free_goes c lim keeps ends w good z lz (Trees (OpensOne x)) at tt
     holder_goes z lz i one three is (Trees (Snapshots x)) at f = absurd (holds_not_none (holds_level (w.views z)) i f.1 one three is)
-    holder_goes z lz i one three is (Trees (TreeClears x)) at f = absurd f.1
     holder_goes z lz i one three is (FileCloses (CloseLoadsFile x)) at f =
         let above : i < 3 = holds_below (holds_level (w.views z)) i 3 f.3 one three is in
         free_goes c lim keeps ends w good z lz (FileCloses (CloseLoadsFile x)) at
         (λ e a. open_above c w good i 3 z one above (omega arith) lz is)
-    holder_goes z lz i one three is (FileCloses (LowersCount x node)) at f =
-        free_goes c lim keeps ends w good z lz (FileCloses (LowersCount x node)) at tt
     holder_goes z lz i one three is (FileCloses (EntersLevel n node r)) at f =
         let o : down_read_inside r.step ≡ 0 = sym (ap inside at) ∙ out z lz in
         let above : i < r.level =
         holds_below (holds_level (w.views z)) i r.level (outside_fits r.level (holds_level (w.views z)) r.step o f.2.4) one three is in
         free_goes c lim keeps ends w good z lz (FileCloses (EntersLevel n node r)) at
         (λ e a. open_above c w good i r.level z one above f.2.1 lz is)
-    holder_goes z lz i one three is (FileCloses (ClosesNode n p node)) at f =
-        free_goes c lim keeps ends w good z lz (FileCloses (ClosesNode n p node)) at tt
-    holder_goes z lz i one three is (FileCloses (CloseRefundsBlocks p blocks)) at f =
-        free_goes c lim keeps ends w good z lz (FileCloses (CloseRefundsBlocks p blocks)) at tt
-    holder_goes z lz i one three is (FileCloses (CloseUncounts p)) at f =
-        free_goes c lim keeps ends w good z lz (FileCloses (CloseUncounts p)) at tt
-    holder_goes z lz i one three is (FileCloses (CloseLeaves p)) at f =
-        free_goes c lim keeps ends w good z lz (FileCloses (CloseLeaves p)) at tt
+    holder_goes z lz i one three is phase at f = free_goes c lim keeps ends w good z lz phase at tt
 
     -- the same of what a task is at, where no idle task holds the level
     holder_at : (z : ℕ) → z < c.tasks → (i : ℕ) → 1 ≤ i → i ≤ 3 → holds_level (w.views z) i ≡ true → NoneIdle c w i → (p : Option Phase) →

@@ -1,6 +1,6 @@
 -- Where each operation under way is kept, no event of one of them is a reply, and all stay kept.
 use Rattle.std.proofs.Common.{◌≡◌, ℕ, ◌<◌, ◌≤◌, Bool, true, false, refl, sym, ap, ◌∙◌, subst, inl, inr, arith, true≢false}
-use Rattle.std.specs.Prelude.{◌+◌, ◌==◌, ◌&&◌, if◌then◌else◌, nat_lt, Option, Some, None, Ok, Err}
+use Rattle.std.specs.Prelude.{◌+◌, ◌==◌, ◌&&◌, if◌then◌else◌, nat_lt, Option, Some, Ok, Err}
 use Rattle.std.proofs.lemmas.Bool.{cases_Bool, ne_eqb, eqb-true, and_parts}
 use Rattle.std.proofs.lemmas.Bool.Decides.{eqb_tells}
 use Rattle.finite_sums.proofs.Totals.{update_off, each_updated}
@@ -14,7 +14,7 @@ use Rattle.cpu_words.specs.declared.events.Touch.TheVariants.{Cas}
 use Rattle.cpu_words.specs.Words.{Words, read, put}
 use Rattle.cpu_words.specs.Touches.{left, found_by}
 use Rattle.cpu_words.specs.Hooks.{HookAnswer}
-use Rattle.mount_counts.specs.declared.phases.MountPhase.TheVariants.{Want as Wants, Drop as Drops, Change as Changes}
+use Rattle.mount_counts.specs.declared.phases.MountPhase.TheVariants.{Change as Changes}
 use Rattle.mount_counts.specs.declared.phases.Change.{Change}
 use Rattle.mount_counts.specs.declared.phases.ChangeStep.{ChangeStep}
 use Rattle.mount_counts.specs.declared.phases.ChangeStep.TheVariants.{Locks as ChangeLocks}
@@ -26,35 +26,18 @@ use Rattle.percpu_rwsem.specs.declared.readers.DownRead.{DownRead}
 use Rattle.percpu_rwsem.specs.declared.writers.DownWrite.{DownWrite}
 use Rattle.percpu_rwsem.specs.Readers.{down_read_next, down_read_after, step_found}
 use Rattle.percpu_rwsem.specs.Writers.{down_write_after}
-use Rattle.write_access.specs.declared.phases.WritePhase.TheVariants.{Takes, Wants as WriteWants, GivesBack, Drops as WriteDrops, Ends}
+use Rattle.write_access.specs.declared.phases.WritePhase.TheVariants.{Takes}
 use Rattle.write_access.specs.Phases.{then_wants}
 use Rattle.freeze_levels.specs.declared.freezes.Freeze.{Freeze}
 use Rattle.freeze_levels.specs.declared.freezes.FreezeStep.{FreezeStep}
-use Rattle.freeze_levels.specs.declared.freezes.FreezeStep.TheVariants.{
-  Locks as FreezeLocks,
-  LoadsStage,
-  LoadsHolders,
-  Holds,
-  LoadsSuperblock,
-  CompletesReadOnly,
-  SetsWrite,
-  Unlocks,
-  Closes,
-  LocksAgain,
-  SetsPageFault,
-  Cleans,
-  SetsFs,
-  SetsComplete,
-  Reopens,
-  Releases,
-}
+use Rattle.freeze_levels.specs.declared.freezes.FreezeStep.TheVariants.{Locks as FreezeLocks, LoadsStage, LoadsSuperblock, SetsWrite, Unlocks, Closes, LocksAgain, SetsPageFault, Cleans, SetsFs}
 use Rattle.freeze_levels.specs.Freezes.{at_freeze, freeze_closes, level_closed, after_closing}
 use Rattle.freeze_levels.specs.declared.thaws.Thaw.{Thaw}
 use Rattle.freeze_levels.specs.declared.thaws.ThawStep.{ThawStep}
 use Rattle.freeze_levels.specs.declared.thaws.ThawStep.TheVariants.{Locks as ThawLocks}
 use Rattle.freeze_levels.specs.Thaws.{at_thaw}
 use Rattle.gated_tree.specs.declared.marks.ClearMarks.{ClearMarks}
-use Rattle.gated_tree.specs.declared.phases.TreePhase.TheVariants.{Create as Creates, Remove as Removes, Grow as Grows, MoveTo as Moves, Mark as TreeMarks, OpenFile as OpensOne, Snapshot as Snapshots, ClearMarks as TreeClears}
+use Rattle.gated_tree.specs.declared.phases.TreePhase.TheVariants.{Snapshot as Snapshots}
 use Rattle.gated_tree.specs.declared.snapshots.Snapshot.{Snapshot}
 use Rattle.gated_tree.specs.declared.snapshots.SnapshotStep.{SnapshotStep}
 use Rattle.gated_tree.specs.declared.snapshots.SnapshotStep.TheVariants.{Locks as SnapshotLocks}
@@ -63,12 +46,12 @@ use Rattle.gated_tree.proofs.ClearedMarks.{IsCleared, without_mark, clears_mark}
 use Rattle.gated_tree.proofs.Packing.{packed_unpacks}
 use Rattle.stage_laws.specs.Roles.{bit, owns as stage_owns, KnowsStage}
 use Rattle.file_closes.specs.declared.phases.Closing.{Closing}
-use Rattle.file_closes.specs.declared.phases.ClosePhase.TheVariants.{LoadsFile as CloseLoadsFile, LowersCount, Enters as EntersLevel, FreesNode as ClosesNode, RefundsBlocks as CloseRefundsBlocks, Uncounts as CloseUncounts, Leaves as CloseLeaves}
+use Rattle.file_closes.specs.declared.phases.ClosePhase.TheVariants.{LoadsFile as CloseLoadsFile, Enters as EntersLevel}
 use Rattle.file_closes.specs.Phases.{then_frees, enters, after as close_after}
 use Rattle.gate_world.specs.declared.config.Config.{Config}
 use Rattle.gate_world.specs.declared.views.View.{View}
 use Rattle.gate_world.specs.declared.work.Phase.{Phase}
-use Rattle.gate_world.specs.declared.work.Phase.TheVariants.{Mounts, Remounts, DownReads, UpReads, Callbacks, Writes, Freezes, Thaws, Trees, Closes as FileCloses}
+use Rattle.gate_world.specs.declared.work.Phase.TheVariants.{Mounts, Remounts, DownReads, Writes, Freezes, Thaws, Trees, Closes as FileCloses}
 use Rattle.gate_world.specs.Fits.{PhaseFits, FreezeFits}
 use Rattle.gate_world.specs.Levels.{is_frozen_whole, sync_role_of}
 use Rattle.gate_world.specs.Rules.{IsGood, Moves as MovesModel, Owner, Stages, Tree, SyncAt, SyncHoldsIn, owns}
@@ -174,16 +157,7 @@ module _ (c : Config) (w : World) (good : IsGood c w) (t : ℕ) (lt : t < c.task
             let e : next_level next.words x.step ≡ next_level w.words x.step =
             far_same w.words next.words x.step h.0 (omega (arith, h.1.1, h.1.2)) in
             (omega (arith, e, h.0), kept_by x.step x.step (omega (arith, e)) h.1)
-        far_stays None h = absurd h
-        far_stays (Some (Mounts x)) h = absurd h
-        far_stays (Some (Remounts x)) h = absurd h
-        far_stays (Some (DownReads x)) h = absurd h
-        far_stays (Some (UpReads x)) h = absurd h
-        far_stays (Some (Callbacks x)) h = absurd h
-        far_stays (Some (Writes x)) h = absurd h
-        far_stays (Some (Thaws x)) h = absurd h
-        far_stays (Some (Trees x)) h = absurd h
-        far_stays (Some (FileCloses x)) h = absurd h
+        far_stays p h = absurd h
 
     change_stays : (s : ChangeStep) (wait : Bool) → ChangeIsKept c w s wait → ChangeIsKept c next s wait
     change_stays ChangeLocks wait h = (h.0, locks_stay h.1)
@@ -259,34 +233,15 @@ module _ (c : Config) (w : World) (good : IsGood c w) (t : ℕ) (lt : t < c.task
     phase_stays : (y : ℕ) → y < c.tasks → (y ≡ t → ⊥) → (phase : Phase) → (w.views y).phase ≡ Some phase → IsKeptAt c w phase →
         IsKeptAt c next phase
     phase_stays y ly ne (Mounts (Changes x)) is h = change_stays x.step x.wait h
-    phase_stays y ly ne (Mounts (Wants x)) is h = absurd h
-    phase_stays y ly ne (Mounts (Drops m n)) is h = absurd h
     phase_stays y ly ne (Remounts x) is h = remount_stays x.step h
     phase_stays y ly ne (DownReads r) is h = reads_stay r h
-    phase_stays y ly ne (UpReads u) is h = absurd h
-    phase_stays y ly ne (Callbacks b) is h = absurd h
     phase_stays y ly ne (Writes (Takes m r)) is h = reads_stay r h
-    phase_stays y ly ne (Writes (WriteWants x)) is h = absurd h
-    phase_stays y ly ne (Writes (GivesBack m n refusal)) is h = absurd h
-    phase_stays y ly ne (Writes (WriteDrops m n)) is h = absurd h
-    phase_stays y ly ne (Writes (Ends n)) is h = absurd h
     phase_stays y ly ne (Freezes x) is h = freeze_stays y ly ne x is h
     phase_stays y ly ne (Thaws x) is h = thaw_stays x.step h
     phase_stays y ly ne (Trees (Snapshots x)) is h = snapshot_stays x.step x.wait h
-    phase_stays y ly ne (Trees (Creates x)) is h = absurd h
-    phase_stays y ly ne (Trees (Removes x)) is h = absurd h
-    phase_stays y ly ne (Trees (Grows x)) is h = absurd h
-    phase_stays y ly ne (Trees (Moves x)) is h = absurd h
-    phase_stays y ly ne (Trees (TreeMarks x)) is h = absurd h
-    phase_stays y ly ne (Trees (OpensOne x)) is h = absurd h
-    phase_stays y ly ne (Trees (TreeClears x)) is h = absurd h
     phase_stays y ly ne (FileCloses (CloseLoadsFile x)) is h = (h.0, k.last x.file h.1, k.blocks 3 h.2)
     phase_stays y ly ne (FileCloses (EntersLevel f node r)) is h = reads_stay r h
-    phase_stays y ly ne (FileCloses (LowersCount x node)) is h = absurd h
-    phase_stays y ly ne (FileCloses (ClosesNode f n node)) is h = absurd h
-    phase_stays y ly ne (FileCloses (CloseRefundsBlocks n blocks)) is h = absurd h
-    phase_stays y ly ne (FileCloses (CloseUncounts n)) is h = absurd h
-    phase_stays y ly ne (FileCloses (CloseLeaves n)) is h = absurd h
+    phase_stays y ly ne phase is h = absurd h
 
   -- what an event that leaves most words leaves to others
   aside_leaves : (q : Phase) → (next.views t).phase ≡ Some q → StaysBeside w.words next.words →
@@ -645,12 +600,7 @@ module _ (c : Config) (w : World) (good : IsGood c w) (t : ℕ) (lt : t < c.task
               (λ two own. (refl, omega arith)) (λ none. absurd (omega (arith, none))) (λ u z b. owned x SetsFs at refl u)
               (goes_by x SetsFs at (freeze_closes x 3) (omega arith) k) refl
         ]
-    freeze_goes LoadsHolders at fits nodes agreed m k = absurd (omega (arith, k.1, k.2))
-    freeze_goes (Holds beside') at fits nodes agreed m k = absurd (omega (arith, k.1, k.2))
-    freeze_goes CompletesReadOnly at fits nodes agreed m k = absurd (omega (arith, k.1, k.2))
-    freeze_goes SetsComplete at fits nodes agreed m k = absurd (omega (arith, k.1, k.2))
-    freeze_goes (Reopens u code) at fits nodes agreed m k = absurd (omega (arith, k.1, k.2))
-    freeze_goes (Releases answer) at fits nodes agreed m k = absurd (omega (arith, k.1, k.2))
+    freeze_goes s at fits nodes agreed m k = absurd (omega (arith, k.1, k.2))
 
   -- a close that is to be the last one goes on to level 3
   load_goes : (x : Closing) → (w.views t).phase ≡ Some (FileCloses (CloseLoadsFile x)) → x.file < c.nodes → x.wait ≡ true →
@@ -675,44 +625,25 @@ module _ (c : Config) (w : World) (good : IsGood c w) (t : ℕ) (lt : t < c.task
       IsAgreed phase hook → MovesModel c (shown c w) t (phase_action w hook (Some phase)) (shown c (after phase)) → IsKeptAt c w phase →
       Goes phase
   phase_goes (Mounts (Changes x)) at f agreed m k = change_goes x x.step x.wait at k
-  phase_goes (Mounts (Wants x)) at f agreed m k = absurd k
-  phase_goes (Mounts (Drops i n)) at f agreed m k = absurd k
   phase_goes (Remounts x) at f agreed m k = remount_goes x x.step at k
   phase_goes (DownReads r) at f agreed m k =
       through r k f.0 f.1 (DownReads r) at DownReads refl refl (λ x. refl) (λ x h. h) (map_next DownReads) (λ x. refl) (λ x. refl)
       (down_read_after r r.step (found_at w.words (DownReads r) hook)).0 (stands_after c w t lt hook (DownReads r) at) (start_facts r k f.0 f.1)
-  phase_goes (UpReads u) at f agreed m k = absurd k
-  phase_goes (Callbacks b) at f agreed m k = absurd k
   phase_goes (Writes (Takes i r)) at f agreed m k =
       through r k f.0.0 f.0.1 (Writes (Takes i r)) at (λ x. Writes (Takes i x)) refl refl (λ x. refl) (λ x h. h)
       (λ next. map_next Writes (then_wants i r.cpu next)) (λ x. refl) (λ x. refl)
       (down_read_after r r.step (found_at w.words (Writes (Takes i r)) hook)).0 (stands_after c w t lt hook (Writes (Takes i r)) at)
       (start_facts r k f.0.0 f.0.1)
-  phase_goes (Writes (WriteWants x)) at f agreed m k = absurd k
-  phase_goes (Writes (GivesBack i n refusal)) at f agreed m k = absurd k
-  phase_goes (Writes (WriteDrops i n)) at f agreed m k = absurd k
-  phase_goes (Writes (Ends n)) at f agreed m k = absurd k
   phase_goes (Freezes x) at f agreed m k = freeze_goes x x.step at f.5 f.3 agreed m k
   phase_goes (Thaws x) at f agreed m k = thaw_goes x x.step at k
   phase_goes (Trees (Snapshots x)) at f agreed m k = snapshot_goes x x.step x.wait at k
-  phase_goes (Trees (Creates x)) at f agreed m k = absurd k
-  phase_goes (Trees (Removes x)) at f agreed m k = absurd k
-  phase_goes (Trees (Grows x)) at f agreed m k = absurd k
-  phase_goes (Trees (Moves x)) at f agreed m k = absurd k
-  phase_goes (Trees (TreeMarks x)) at f agreed m k = absurd k
-  phase_goes (Trees (OpensOne x)) at f agreed m k = absurd k
-  phase_goes (Trees (TreeClears x)) at f agreed m k = absurd k
   phase_goes (FileCloses (CloseLoadsFile x)) at f agreed m k = load_goes x at f.0 k.0 k.1 k.2
   phase_goes (FileCloses (EntersLevel n node r)) at f agreed m k =
       through r k f.2.0 f.2.1 (FileCloses (EntersLevel n node r)) at (λ x. FileCloses (EntersLevel n node x)) refl refl (λ x. refl)
       (λ x h. h) (λ next. map_next FileCloses (then_frees n node r.cpu next)) (λ x. refl) (λ x. refl)
       (down_read_after r r.step (found_at w.words (FileCloses (EntersLevel n node r)) hook)).0
       (stands_after c w t lt hook (FileCloses (EntersLevel n node r)) at) (start_facts r k f.2.0 f.2.1)
-  phase_goes (FileCloses (LowersCount x node)) at f agreed m k = absurd k
-  phase_goes (FileCloses (ClosesNode n i node)) at f agreed m k = absurd k
-  phase_goes (FileCloses (CloseRefundsBlocks i blocks)) at f agreed m k = absurd k
-  phase_goes (FileCloses (CloseUncounts i)) at f agreed m k = absurd k
-  phase_goes (FileCloses (CloseLeaves i)) at f agreed m k = absurd k
+  phase_goes phase at f agreed m k = absurd k
 
   -- so all stay kept, and none has its reply
   all_stay : (phase : Phase) → (w.views t).phase ≡ Some phase → IsAgreed phase hook →

@@ -19,14 +19,14 @@ use Rattle.percpu_rwsem.specs.declared.readers.DownReadStep.{DownReadStep}
 use Rattle.percpu_rwsem.specs.declared.readers.DownReadStep.TheVariants.{EntersSection, LoadsSync, CountsUpFast, CountsUpSlow, LoadsBlock, CountsDown, LeavesAdmitted, LeavesBlocked}
 use Rattle.percpu_rwsem.specs.Readers.{down_read_next, down_read_after, step_in, step_found, left_blocked}
 use Rattle.level_laws.specs.Operations.{down_read_inside}
-use Rattle.write_access.specs.declared.phases.WritePhase.TheVariants.{Takes, Wants, GivesBack, Drops, Ends}
+use Rattle.write_access.specs.declared.phases.WritePhase.TheVariants.{Takes}
 use Rattle.write_access.specs.Phases.{then_wants}
-use Rattle.file_closes.specs.declared.phases.ClosePhase.TheVariants.{LoadsFile as CloseLoadsFile, LowersCount, Enters as EntersLevel, FreesNode as ClosesNode, RefundsBlocks as CloseRefundsBlocks, Uncounts as CloseUncounts, Leaves as CloseLeaves}
+use Rattle.file_closes.specs.declared.phases.ClosePhase.TheVariants.{Enters as EntersLevel}
 use Rattle.file_closes.specs.Phases.{then_frees}
 use Rattle.gated_tree.specs.declared.nodes.NodeWord.{NodeWord}
 use Rattle.gate_world.specs.declared.config.Config.{Config}
 use Rattle.gate_world.specs.declared.work.Phase.{Phase}
-use Rattle.gate_world.specs.declared.work.Phase.TheVariants.{Mounts, Remounts, DownReads, UpReads, Callbacks, Writes, Freezes, Thaws, Trees, Closes as FileCloses}
+use Rattle.gate_world.specs.declared.work.Phase.TheVariants.{DownReads, Writes, Closes as FileCloses}
 use Rattle.gate_world.specs.declared.views.View.{View}
 use Rattle.gate_world.specs.Levels.{inside}
 use Rattle.gate_world.specs.Rules.{IsGood}
@@ -111,24 +111,8 @@ pub phase_leaves : (w : Words) (phase : Phase) (hook : HookAnswer) → inside (S
     PhaseLeaves (leave_rank phase) (after_of phase (found_at w phase hook) hook).0
 phase_leaves w (DownReads r) hook h = as_read (read_rank false r.step) _ (read_leaves w r r.step h)
 phase_leaves w (Writes (Takes m r)) hook h = as_write m r.cpu (read_rank false r.step) _ (read_leaves w r r.step h)
-phase_leaves w (Writes (Wants x)) hook h = absurd (omega (arith, h))
-phase_leaves w (Writes (GivesBack m p refusal)) hook h = absurd (omega (arith, h))
-phase_leaves w (Writes (Drops m p)) hook h = absurd (omega (arith, h))
-phase_leaves w (Writes (Ends p)) hook h = absurd (omega (arith, h))
-phase_leaves w (Mounts phase) hook h = absurd (omega (arith, h))
-phase_leaves w (Remounts x) hook h = absurd (omega (arith, h))
-phase_leaves w (UpReads u) hook h = absurd (omega (arith, h))
-phase_leaves w (Callbacks b) hook h = absurd (omega (arith, h))
-phase_leaves w (Freezes x) hook h = absurd (omega (arith, h))
-phase_leaves w (Thaws x) hook h = absurd (omega (arith, h))
-phase_leaves w (Trees phase) hook h = absurd (omega (arith, h))
 phase_leaves w (FileCloses (EntersLevel f node r)) hook h = as_close f node r.cpu (read_rank false r.step) _ (read_leaves w r r.step h)
-phase_leaves w (FileCloses (CloseLoadsFile x)) hook h = absurd (omega (arith, h))
-phase_leaves w (FileCloses (LowersCount x node)) hook h = absurd (omega (arith, h))
-phase_leaves w (FileCloses (ClosesNode f p node)) hook h = absurd (omega (arith, h))
-phase_leaves w (FileCloses (CloseRefundsBlocks p blocks)) hook h = absurd (omega (arith, h))
-phase_leaves w (FileCloses (CloseUncounts p)) hook h = absurd (omega (arith, h))
-phase_leaves w (FileCloses (CloseLeaves p)) hook h = absurd (omega (arith, h))
+phase_leaves w phase hook h = absurd (omega (arith, h))
 
 -- what an event inside a section leaves of the words that a freeze looks at
 pub record StaysBeside (w next : Words) : Type 0 where
@@ -149,35 +133,13 @@ read_beside w r LeavesBlocked = record { umount_same = refl; stage_same = refl; 
 pub phase_beside : (w : Words) (phase : Phase) (hook : HookAnswer) → inside (Some phase) ≡ 1 → StaysBeside w (words_after w phase hook)
 phase_beside w (DownReads r) hook h = read_beside w r r.step
 phase_beside w (Writes (Takes m r)) hook h = read_beside w r r.step
-phase_beside w (Writes (Wants x)) hook h = absurd (omega (arith, h))
-phase_beside w (Writes (GivesBack m p refusal)) hook h = absurd (omega (arith, h))
-phase_beside w (Writes (Drops m p)) hook h = absurd (omega (arith, h))
-phase_beside w (Writes (Ends p)) hook h = absurd (omega (arith, h))
-phase_beside w (Mounts phase) hook h = absurd (omega (arith, h))
-phase_beside w (Remounts x) hook h = absurd (omega (arith, h))
-phase_beside w (UpReads u) hook h = absurd (omega (arith, h))
-phase_beside w (Callbacks b) hook h = absurd (omega (arith, h))
-phase_beside w (Freezes x) hook h = absurd (omega (arith, h))
-phase_beside w (Thaws x) hook h = absurd (omega (arith, h))
-phase_beside w (Trees phase) hook h = absurd (omega (arith, h))
 phase_beside w (FileCloses (EntersLevel f node r)) hook h = read_beside w r r.step
-phase_beside w (FileCloses (CloseLoadsFile x)) hook h = absurd (omega (arith, h))
-phase_beside w (FileCloses (LowersCount x node)) hook h = absurd (omega (arith, h))
-phase_beside w (FileCloses (ClosesNode f p node)) hook h = absurd (omega (arith, h))
-phase_beside w (FileCloses (CloseRefundsBlocks p blocks)) hook h = absurd (omega (arith, h))
-phase_beside w (FileCloses (CloseUncounts p)) hook h = absurd (omega (arith, h))
-phase_beside w (FileCloses (CloseLeaves p)) hook h = absurd (omega (arith, h))
+phase_beside w phase hook h = absurd (omega (arith, h))
 
 -- a down-read has few steps inside its section
 read_small : (s : DownReadStep) → down_read_inside s ≡ 1 → read_rank false s < 5
 read_small EntersSection h = absurd (omega (arith, h))
-read_small LoadsSync h = omega arith
-read_small CountsUpFast h = omega arith
-read_small CountsUpSlow h = omega arith
-read_small LoadsBlock h = omega arith
-read_small CountsDown h = omega arith
-read_small LeavesAdmitted h = omega arith
-read_small LeavesBlocked h = omega arith
+read_small s h = omega arith
 
 leave_small : (phase : Phase) → inside (Some phase) ≡ 1 → leave_rank phase < 5
 leave_small (DownReads r) h = read_small r.step h

@@ -5,7 +5,7 @@ use Rattle.std.specs.Prelude.{◌⊎◌, ◌-◌, ◌==◌, ◌&&◌, ◌||◌, 
 use Rattle.std.proofs.lemmas.Bool.{cases_Bool, ltb-true, lt-ltb, le-ltb, ne_eqb, and_parts, or_cases, not-true, cases_lt}
 use Rattle.finite_sums.specs.Sums.{total}
 use Rattle.finite_sums.proofs.Totals.{total_at, total_none}
-use Rattle.mount_counts.specs.declared.phases.MountPhase.TheVariants.{Want as Wants, Drop as Drops, Change as Changes}
+use Rattle.mount_counts.specs.declared.phases.MountPhase.TheVariants.{Change as Changes}
 use Rattle.mount_counts.specs.declared.phases.ChangeStep.{ChangeStep}
 use Rattle.mount_counts.specs.declared.phases.ChangeStep.TheVariants.{Locks as ChangeLocks}
 use Rattle.mount_counts.specs.declared.remounts.RemountStep.{RemountStep}
@@ -28,18 +28,18 @@ use Rattle.freeze_levels.specs.declared.thaws.ThawStep.{ThawStep}
 use Rattle.freeze_levels.specs.declared.thaws.ThawStep.TheVariants.{Locks as ThawLocks, Reopens as ThawReopens}
 use Rattle.gated_tree.specs.declared.snapshots.SnapshotStep.{SnapshotStep}
 use Rattle.gated_tree.specs.declared.snapshots.SnapshotStep.TheVariants.{Locks as SnapshotLocks}
-use Rattle.gated_tree.specs.declared.phases.TreePhase.TheVariants.{Create as Creates, Remove as Removes, Grow as Grows, MoveTo as Moves, Mark as TreeMarks, OpenFile as OpensOne, Snapshot as Snapshots, ClearMarks as TreeClears}
+use Rattle.gated_tree.specs.declared.phases.TreePhase.TheVariants.{Snapshot as Snapshots}
 use Rattle.gate_counts.specs.Gates.{below, admitted, counted, BarringHolds, unread}
 use Rattle.gate_counts.specs.Levels.{LevelRole, Passed, processor_of, barring_of, level_as_gate}
 use Rattle.gate_counts.proofs.Events.{words_sum}
 use Rattle.level_laws.specs.Roles.{Out as IsApart, closed}
 use Rattle.level_laws.specs.Operations.{down_read_role, down_read_inside, callback_role}
 use Rattle.stage_laws.specs.Roles.{owns as stage_owns}
-use Rattle.write_access.specs.declared.phases.WritePhase.TheVariants.{Takes, Wants as WriteWants, GivesBack, Drops as WriteDrops, Ends}
-use Rattle.file_closes.specs.declared.phases.ClosePhase.TheVariants.{LoadsFile as CloseLoadsFile, LowersCount, Enters as EntersLevel, FreesNode as ClosesNode, RefundsBlocks as CloseRefundsBlocks, Uncounts as CloseUncounts, Leaves as CloseLeaves}
+use Rattle.write_access.specs.declared.phases.WritePhase.TheVariants.{Takes}
+use Rattle.file_closes.specs.declared.phases.ClosePhase.TheVariants.{Enters as EntersLevel}
 use Rattle.gate_world.specs.declared.config.Config.{Config}
 use Rattle.gate_world.specs.declared.work.Phase.{Phase}
-use Rattle.gate_world.specs.declared.work.Phase.TheVariants.{Mounts, Remounts, DownReads, UpReads, Callbacks, Writes, Freezes, Thaws, Trees, Closes as FileCloses}
+use Rattle.gate_world.specs.declared.work.Phase.TheVariants.{Mounts, Remounts, DownReads, Callbacks, Writes, Freezes, Thaws, Trees, Closes as FileCloses}
 use Rattle.gate_world.specs.Configs.{IsWithin}
 use Rattle.gate_world.specs.Fits.{Fits, PhaseFits}
 use Rattle.gate_world.specs.Levels.{
@@ -92,25 +92,12 @@ snapshot_owner w wait SnapshotLocks h = absurd (omega (arith, h))
 snapshot_owner w wait s h = tt
 
 pub owner_free : (c : Config) (w : Words) (phase : Phase) → owns (Some phase) ≡ 1 → IsFree c w phase ⊎ ((x : Freeze) × (phase ≡ Freezes x))
-owner_free c w (Mounts (Wants x)) h = absurd (omega (arith, h))
-owner_free c w (Mounts (Drops m p)) h = absurd (omega (arith, h))
 owner_free c w (Mounts (Changes x)) h = inl (change_owner w x.wait x.step h)
 owner_free c w (Remounts x) h = inl (remount_owner w x.step h)
-owner_free c w (DownReads r) h = absurd (omega (arith, h))
-owner_free c w (UpReads u) h = absurd (omega (arith, h))
-owner_free c w (Callbacks b) h = absurd (omega (arith, h))
-owner_free c w (Writes x) h = absurd (omega (arith, h))
 owner_free c w (Freezes x) h = inr (x, refl)
 owner_free c w (Thaws x) h = inl (thaw_owner w x.step h)
-owner_free c w (Trees (Creates x)) h = absurd (omega (arith, h))
-owner_free c w (Trees (Removes x)) h = absurd (omega (arith, h))
-owner_free c w (Trees (Grows x)) h = absurd (omega (arith, h))
-owner_free c w (Trees (Moves x)) h = absurd (omega (arith, h))
-owner_free c w (Trees (TreeMarks x)) h = absurd (omega (arith, h))
-owner_free c w (Trees (OpensOne x)) h = absurd (omega (arith, h))
 owner_free c w (Trees (Snapshots x)) h = inl (snapshot_owner w x.wait x.step h)
-owner_free c w (Trees (TreeClears x)) h = absurd (omega (arith, h))
-owner_free c w (FileCloses x) h = absurd (omega (arith, h))
+owner_free c w phase h = absurd (omega (arith, h))
 
 -- who owns is at a phase
 phase_owns : (p : Option Phase) → owns p ≡ 1 → (phase : Phase) × (p ≡ Some phase)
@@ -224,27 +211,13 @@ stand_passed i j (Some s) lt h =
     ]
 
 closed_passes : (i j : ℕ) (p : Option Phase) → i < j → 1 ≤ closed (sync_role_of j p) → level_role_of i p ≡ Passed
-closed_passes i j None lt h = absurd (omega (arith, h))
-closed_passes i j (Some (Mounts phase)) lt h = absurd (omega (arith, h))
-closed_passes i j (Some (Remounts x)) lt h = absurd (omega (arith, h))
 closed_passes i j (Some (DownReads r)) lt h = absurd (omega (arith, h, read_open (j == r.level) r.step))
-closed_passes i j (Some (UpReads u)) lt h = absurd (omega (arith, h))
 closed_passes i j (Some (Callbacks b)) lt h = absurd (omega (arith, h, callback_open (j == b.level) b.step))
 closed_passes i j (Some (Writes (Takes m r))) lt h = absurd (omega (arith, h, read_open (j == r.level) r.step))
-closed_passes i j (Some (Writes (WriteWants x))) lt h = absurd (omega (arith, h))
-closed_passes i j (Some (Writes (GivesBack m p refusal))) lt h = absurd (omega (arith, h))
-closed_passes i j (Some (Writes (WriteDrops m p))) lt h = absurd (omega (arith, h))
-closed_passes i j (Some (Writes (Ends p))) lt h = absurd (omega (arith, h))
 closed_passes i j (Some (Freezes x)) lt h = stand_passed i j (freeze_stand x.step) lt h
 closed_passes i j (Some (Thaws x)) lt h = stand_passed i j (thaw_stand x.step) lt h
-closed_passes i j (Some (Trees phase)) lt h = absurd (omega (arith, h))
 closed_passes i j (Some (FileCloses (EntersLevel f node r))) lt h = absurd (omega (arith, h, read_open (j == r.level) r.step))
-closed_passes i j (Some (FileCloses (CloseLoadsFile x))) lt h = absurd (omega (arith, h))
-closed_passes i j (Some (FileCloses (LowersCount x node))) lt h = absurd (omega (arith, h))
-closed_passes i j (Some (FileCloses (ClosesNode f p node))) lt h = absurd (omega (arith, h))
-closed_passes i j (Some (FileCloses (CloseRefundsBlocks p blocks))) lt h = absurd (omega (arith, h))
-closed_passes i j (Some (FileCloses (CloseUncounts p))) lt h = absurd (omega (arith, h))
-closed_passes i j (Some (FileCloses (CloseLeaves p))) lt h = absurd (omega (arith, h))
+closed_passes i j p lt h = absurd (omega (arith, h))
 
 -- who is outside each section seeks nothing at a level
 read_out : (b : Bool) (p : ℕ) (s : DownReadStep) → down_read_inside s ≡ 0 → processor_of (count_role_if b (read_count_role p s)) ≡ 0
@@ -280,27 +253,12 @@ thaw_out i (ThawReopens u) = sides_out (i == u.level) (nat_lt i u.level) (up_cou
 thaw_out i s = refl
 
 pub seeks_nothing : (i : ℕ) (p : Option Phase) → inside p ≡ 0 → processor_of (level_role_of i p) ≡ 0
-seeks_nothing i None h = refl
-seeks_nothing i (Some (Mounts phase)) h = refl
-seeks_nothing i (Some (Remounts x)) h = refl
 seeks_nothing i (Some (DownReads r)) h = read_out (i == r.level) r.cpu r.step h
-seeks_nothing i (Some (UpReads u)) h = refl
-seeks_nothing i (Some (Callbacks b)) h = refl
 seeks_nothing i (Some (Writes (Takes m r))) h = read_out (i == r.level) r.cpu r.step h
-seeks_nothing i (Some (Writes (WriteWants x))) h = refl
-seeks_nothing i (Some (Writes (GivesBack m p refusal))) h = refl
-seeks_nothing i (Some (Writes (WriteDrops m p))) h = refl
-seeks_nothing i (Some (Writes (Ends p))) h = refl
 seeks_nothing i (Some (Freezes x)) h = freeze_out i x.step
 seeks_nothing i (Some (Thaws x)) h = thaw_out i x.step
-seeks_nothing i (Some (Trees phase)) h = refl
 seeks_nothing i (Some (FileCloses (EntersLevel f node r))) h = read_out (i == r.level) r.cpu r.step h
-seeks_nothing i (Some (FileCloses (CloseLoadsFile x))) h = refl
-seeks_nothing i (Some (FileCloses (LowersCount x node))) h = refl
-seeks_nothing i (Some (FileCloses (ClosesNode f p node))) h = refl
-seeks_nothing i (Some (FileCloses (CloseRefundsBlocks p blocks))) h = refl
-seeks_nothing i (Some (FileCloses (CloseUncounts p))) h = refl
-seeks_nothing i (Some (FileCloses (CloseLeaves p))) h = refl
+seeks_nothing i p h = refl
 
 -- 1 for a level held
 abbrev held_bit : Bool → ℕ

@@ -3,7 +3,7 @@ use Rattle.std.proofs.Common.{◌≡◌, ℕ, ◌<◌, ◌≤◌, Bool, true, fa
 use Rattle.std.specs.Prelude.{◌⊎◌, ◌==◌, ◌&&◌, Option, Some, None}
 use Rattle.std.proofs.lemmas.Bool.{lt-leb}
 use Rattle.finite_sums.proofs.Totals.{total_place, HasPlace}
-use Rattle.mount_counts.specs.declared.phases.MountPhase.TheVariants.{Want as Wants, Drop as Drops, Change as Changes}
+use Rattle.mount_counts.specs.declared.phases.MountPhase.TheVariants.{Change as Changes}
 use Rattle.mount_counts.specs.declared.phases.ChangeStep.{ChangeStep}
 use Rattle.mount_counts.specs.declared.phases.ChangeStep.TheVariants.{Locks as ChangeLocks}
 use Rattle.mount_counts.specs.declared.remounts.RemountStep.{RemountStep}
@@ -22,7 +22,7 @@ use Rattle.write_access.specs.declared.phases.WritePhase.TheVariants.{Takes}
 use Rattle.file_closes.specs.declared.phases.ClosePhase.TheVariants.{LoadsFile as CloseLoadsFile, Enters as EntersLevel}
 use Rattle.gate_world.specs.declared.config.Config.{Config}
 use Rattle.gate_world.specs.declared.work.Phase.{Phase}
-use Rattle.gate_world.specs.declared.work.Phase.TheVariants.{Mounts, Remounts, DownReads, UpReads, Callbacks, Writes, Freezes, Thaws, Trees, Closes as FileCloses}
+use Rattle.gate_world.specs.declared.work.Phase.TheVariants.{Mounts, Remounts, DownReads, Writes, Freezes, Thaws, Trees, Closes as FileCloses}
 use Rattle.gate_world.specs.Fits.{PhaseFits}
 use Rattle.gate_world.specs.Levels.{is_frozen_whole}
 use Rattle.gate_world.specs.Rules.{IsGood, Stages}
@@ -56,12 +56,7 @@ tree_none x = refl
 -- who has a level closed is a freeze that is past its lock, or a thaw that is
 closer_kept : (c : Config) (w : World) (i : ℕ) → 1 ≤ i → (phase : Phase) → (closes i (stage_role_of (Some phase)) ≡ 0 → ⊥) →
     IsKeptAt c w phase → (x : Freeze) × (phase ≡ Freezes x) × IsKept c w x.step
-closer_kept c w i one (Mounts phase) some k = absurd (some (up_to_none i one))
 closer_kept c w i one (Remounts x) some k = absurd (some (ap (up_to i) (remount_none x.nodes x.step) ∙ up_to_none i one))
-closer_kept c w i one (DownReads r) some k = absurd (some (up_to_none i one))
-closer_kept c w i one (UpReads u) some k = absurd (some (up_to_none i one))
-closer_kept c w i one (Callbacks b) some k = absurd (some (up_to_none i one))
-closer_kept c w i one (Writes x) some k = absurd (some (up_to_none i one))
 closer_kept c w i one (Freezes x) some k = (x, refl, freeze_kept x.step some k)
   where
     freeze_kept : (s : FreezeStep) → (closes i (freeze_stage_role x.nodes s) ≡ 0 → ⊥) → FreezeIsKept c w s → IsKept c w s
@@ -73,7 +68,7 @@ closer_kept c w i one (Thaws x) some k = absurd (thaw_kept x.step some k)
     thaw_kept ThawLocks h k = h (up_to_none i one)
     thaw_kept s h k = k
 closer_kept c w i one (Trees x) some k = absurd (some (ap (up_to i) (tree_none x) ∙ up_to_none i one))
-closer_kept c w i one (FileCloses x) some k = absurd (some (up_to_none i one))
+closer_kept c w i one phase some k = absurd (some (up_to_none i one))
 
 -- the file system is frozen as a whole, or not
 full_or : (b : Bool) → (bit b ≡ 0) ⊎ (bit b ≡ 1)
@@ -105,16 +100,7 @@ module _ (c : Config) (w : World) (good : IsGood c w)
   -- an owner that is kept is a freeze
   owner_kept : (y : ℕ) → y < c.tasks → (p : Option Phase) → (w.views y).phase ≡ p → KeptIfFreeze c w p → AFreezeIsKept c w
   owner_kept y ly (Some (Freezes x)) at k = (y, ly, x, at, k.1)
-  owner_kept y ly None at k = absurd k
-  owner_kept y ly (Some (Mounts phase)) at k = absurd k
-  owner_kept y ly (Some (Remounts x)) at k = absurd k
-  owner_kept y ly (Some (DownReads r)) at k = absurd k
-  owner_kept y ly (Some (UpReads u)) at k = absurd k
-  owner_kept y ly (Some (Callbacks b)) at k = absurd k
-  owner_kept y ly (Some (Writes x)) at k = absurd k
-  owner_kept y ly (Some (Thaws x)) at k = absurd k
-  owner_kept y ly (Some (Trees x)) at k = absurd k
-  owner_kept y ly (Some (FileCloses x)) at k = absurd k
+  owner_kept y ly p at k = absurd k
 
   lock_tells : LockIsKept c w → AFreezeIsKept c w
   lock_tells k = owner_kept k.0 k.1 (w.views k.0).phase refl k.3
@@ -150,20 +136,15 @@ module _ (c : Config) (w : World) (good : IsGood c w)
       PhaseFits c t (held_at (w.views t)) (holds_level (w.views t)) phase → IsKeptAt c w phase →
       (is_frozen_whole w.words ≡ 1) ⊎ AFreezeIsKept c w
   kept_tells t lt (Mounts (Changes x)) at f k = inr (change_tells x.step x.wait k)
-  kept_tells t lt (Mounts (Wants x)) at f k = absurd k
-  kept_tells t lt (Mounts (Drops m p)) at f k = absurd k
   kept_tells t lt (Remounts x) at f k = inr (remount_tells x.step k)
   kept_tells t lt (DownReads r) at f k = start_tells r.level f.0 f.1 k.2
-  kept_tells t lt (UpReads u) at f k = absurd k
-  kept_tells t lt (Callbacks b) at f k = absurd k
   kept_tells t lt (Writes (Takes m r)) at f k = start_tells r.level f.0.0 f.0.1 k.2
-  kept_tells t lt (Writes x) at f k = absurd k
   kept_tells t lt (Freezes x) at f k = inr (freeze_tells t lt x at x.step refl k)
   kept_tells t lt (Thaws x) at f k = inr (thaw_tells x.step k)
   kept_tells t lt (Trees x) at f k = inr (tree_tells x k)
   kept_tells t lt (FileCloses (CloseLoadsFile x)) at f k = start_tells 3 (omega arith) (omega arith) k.2
   kept_tells t lt (FileCloses (EntersLevel n node r)) at f k = start_tells r.level f.2.0 f.2.1 k.2
-  kept_tells t lt (FileCloses x) at f k = absurd k
+  kept_tells t lt phase at f k = absurd k
 
 pub reply_or_frozen : (c : Config) (n : ℕ) (w : World) → IsGood c w → Progresses c n w → ReplyOrFrozen c n w
 reply_or_frozen c n w good (inl near) t lt under = inl near

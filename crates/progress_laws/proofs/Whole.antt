@@ -8,43 +8,26 @@ use Rattle.std.proofs.lemmas.Bool.{cases_Bool, cases_lt, le-ltb, ne_eqb}
 use Rattle.std.proofs.lemmas.Bool.Decides.{eqb_tells}
 use Rattle.cpu_words.specs.Hooks.{HookAnswer}
 use Rattle.cpu_words.specs.Words.{Words}
-use Rattle.mount_counts.specs.declared.phases.MountPhase.TheVariants.{Want as Wants, Drop as Drops, Change as Changes}
+use Rattle.mount_counts.specs.declared.phases.MountPhase.TheVariants.{Want as Wants, Change as Changes}
 use Rattle.mount_counts.specs.declared.phases.ChangeStep.{ChangeStep}
 use Rattle.mount_counts.specs.declared.phases.ChangeStep.TheVariants.{Locks as ChangeLocks}
 use Rattle.mount_counts.specs.declared.remounts.RemountStep.{RemountStep}
 use Rattle.mount_counts.specs.declared.remounts.RemountStep.TheVariants.{Locks as RemountLocks}
 use Rattle.freeze_levels.specs.declared.freezes.Freeze.{Freeze}
 use Rattle.freeze_levels.specs.declared.freezes.FreezeStep.{FreezeStep}
-use Rattle.freeze_levels.specs.declared.freezes.FreezeStep.TheVariants.{
-  Locks as FreezeLocks,
-  LoadsStage,
-  LoadsHolders,
-  Holds,
-  LoadsSuperblock,
-  CompletesReadOnly,
-  SetsWrite,
-  Unlocks,
-  Closes,
-  LocksAgain,
-  SetsPageFault,
-  Cleans,
-  SetsFs,
-  SetsComplete,
-  Reopens,
-  Releases,
-}
+use Rattle.freeze_levels.specs.declared.freezes.FreezeStep.TheVariants.{Locks as FreezeLocks, LoadsStage, LoadsSuperblock, SetsWrite, Unlocks, Closes}
 use Rattle.freeze_levels.specs.declared.thaws.ThawStep.{ThawStep}
 use Rattle.freeze_levels.specs.declared.thaws.ThawStep.TheVariants.{Locks as ThawLocks}
 use Rattle.gated_tree.specs.declared.snapshots.SnapshotStep.{SnapshotStep}
 use Rattle.gated_tree.specs.declared.snapshots.SnapshotStep.TheVariants.{Locks as SnapshotLocks}
-use Rattle.gated_tree.specs.declared.phases.TreePhase.TheVariants.{Create as Creates, Remove as Removes, Grow as Grows, MoveTo as Moves, Mark as TreeMarks, OpenFile as OpensOne, Snapshot as Snapshots, ClearMarks as TreeClears}
+use Rattle.gated_tree.specs.declared.phases.TreePhase.TheVariants.{Snapshot as Snapshots}
 use Rattle.percpu_rwsem.specs.declared.readers.DownReadStep.{DownReadStep}
 use Rattle.stage_laws.specs.Roles.{bit, owns as stage_owns, KnowsStage}
-use Rattle.write_access.specs.declared.phases.WritePhase.TheVariants.{Takes, Wants as WriteWants, GivesBack, Drops as WriteDrops, Ends}
-use Rattle.file_closes.specs.declared.phases.ClosePhase.TheVariants.{LoadsFile as CloseLoadsFile, LowersCount, Enters as EntersLevel, FreesNode as ClosesNode, RefundsBlocks as CloseRefundsBlocks, Uncounts as CloseUncounts, Leaves as CloseLeaves}
+use Rattle.write_access.specs.declared.phases.WritePhase.TheVariants.{Takes, Wants as WriteWants}
+use Rattle.file_closes.specs.declared.phases.ClosePhase.TheVariants.{LoadsFile as CloseLoadsFile, Enters as EntersLevel}
 use Rattle.gate_world.specs.declared.config.Config.{Config}
 use Rattle.gate_world.specs.declared.work.Phase.{Phase}
-use Rattle.gate_world.specs.declared.work.Phase.TheVariants.{Mounts, Remounts, DownReads, UpReads, Callbacks, Writes, Freezes, Thaws, Trees, Closes as FileCloses}
+use Rattle.gate_world.specs.declared.work.Phase.TheVariants.{Mounts, Remounts, DownReads, Callbacks, Writes, Freezes, Thaws, Trees, Closes as FileCloses}
 use Rattle.gate_world.specs.Configs.{IsWithin}
 use Rattle.gate_world.specs.Fits.{PhaseFits}
 use Rattle.gate_world.specs.Remounts.{remount_owns}
@@ -143,17 +126,8 @@ first_is s h = absurd (true≢false (sym h))
 
 -- who is at a first lock
 first_at : (p : Option Phase) → begins_freeze p ≡ true → (y : Freeze) × (p ≡ Some (Freezes (at_freeze y FreezeLocks)))
-first_at None h = absurd (true≢false (sym h))
 first_at (Some (Freezes x)) h = (x, ap (λ s. Some (Freezes (at_freeze x s))) (first_is x.step h))
-first_at (Some (Mounts phase)) h = absurd (true≢false (sym h))
-first_at (Some (Remounts x)) h = absurd (true≢false (sym h))
-first_at (Some (DownReads r)) h = absurd (true≢false (sym h))
-first_at (Some (UpReads u)) h = absurd (true≢false (sym h))
-first_at (Some (Callbacks b)) h = absurd (true≢false (sym h))
-first_at (Some (Writes x)) h = absurd (true≢false (sym h))
-first_at (Some (Thaws x)) h = absurd (true≢false (sym h))
-first_at (Some (Trees x)) h = absurd (true≢false (sym h))
-first_at (Some (FileCloses x)) h = absurd (true≢false (sym h))
+first_at p h = absurd (true≢false (sym h))
 
 -- where a freeze at its first lock has a level to pass, the stage is 0 and the superblock writable
 pub first_finds : (w : Words) (i : ℕ) → next_level w FreezeLocks ≤ i → i ≤ 3 → ((w.stage == 0) ≡ true) × ((w.sb == 0) ≡ true)
@@ -239,7 +213,6 @@ module _ (c : Config) (lim : IsWithin c)
       -- so a freeze that owns `umount` with level 1 still to be passed
       release_goes : (s : FreezeStep) (v : World) → IsGood c v → (v.views u).phase ≡ Some (Freezes (at_freeze y s)) →
           (v.views t).phase ≡ Some phase → stage_owns (freeze_stage_role y.nodes s) ≡ 1 → next_level v.words s < 2 → ReplyWithin c (most_settled c + 4) v
-      release_goes FreezeLocks v good at mine own low = absurd (omega (arith, own))
       release_goes LoadsStage v good at mine own low =
           elim (cases_Bool (v.words.stage == 0)) [
             | inl z ↦ elim (cases_Bool (v.words.sb == 0)) [
@@ -253,21 +226,12 @@ module _ (c : Config) (lim : IsWithin c)
             | inl b ↦ no_further c (most_settled c + 3) (most_settled c + 4) v (omega arith) (superblock_goes v good at mine b)
             | inr b ↦ let l : 4 < 2 = rw b at low in absurd (omega (arith, l))
           ]
-      release_goes LoadsHolders v good at mine own low = absurd (omega (arith, low))
-      release_goes (Holds beside) v good at mine own low = absurd (omega (arith, low))
-      release_goes CompletesReadOnly v good at mine own low = absurd (omega (arith, low))
       release_goes SetsWrite v good at mine own low = no_further c (most_settled c + 2) (most_settled c + 4) v (omega arith) (sets_goes v good at mine)
       release_goes Unlocks v good at mine own low = no_further c (most_settled c + 1) (most_settled c + 4) v (omega arith) (unlocks_goes v good at mine)
       release_goes (Closes d) v good at mine own low =
           let first : nat_lt 1 d.level ≡ false = le-ltb 1 d.level (omega (arith, low)) in
           absurd (omega (arith, own, ap bit first))
-      release_goes LocksAgain v good at mine own low = absurd (omega (arith, own))
-      release_goes SetsPageFault v good at mine own low = absurd (omega (arith, low))
-      release_goes (Cleans marks) v good at mine own low = absurd (omega (arith, low))
-      release_goes SetsFs v good at mine own low = absurd (omega (arith, low))
-      release_goes SetsComplete v good at mine own low = absurd (omega (arith, low))
-      release_goes (Reopens r code) v good at mine own low = absurd (omega (arith, low))
-      release_goes (Releases answer) v good at mine own low = absurd (omega (arith, low))
+      release_goes s v good at mine own low = absurd (omega (arith, own, low))
 
   module _ (w : World) (good : IsGood c w) where
     near : ReplyWithin c (most_alone c) w → ReplyWithin c (most_settled c + 5) w
@@ -327,7 +291,6 @@ module _ (c : Config) (lim : IsWithin c)
           PhaseFits c t (held_at (w.views t)) (holds_level (w.views t)) phase → ReplyWithin c (most_settled c + 5) w ⊎ IsKeptAt c w phase
       task_goes (Mounts (Wants x)) at f =
           inl (near (want_goes c lim keeps ends w good t lt (Mounts (Wants x)) at refl x.mount f.0 (λ clear. clear)))
-      task_goes (Mounts (Drops m p)) at f = goes (Mounts (Drops m p)) at tt
       task_goes (Mounts (Changes x)) at f =
           elim (change_either w.words x.step x.wait) [
             | inl free ↦ goes (Mounts (Changes x)) at free
@@ -352,7 +315,6 @@ module _ (c : Config) (lim : IsWithin c)
             | inl free ↦ goes (DownReads r) at free
             | inr kept ↦ inr kept
           ]
-      task_goes (UpReads u) at f = goes (UpReads u) at tt
       task_goes (Callbacks b) at f = inl (nearly (callback_goes c lim keeps ends w good t lt b at))
       task_goes (Writes (Takes m r)) at f =
           elim (read_either (w.words.block r.level) r.wait r.step (good (AtLevel r.level) f.0.0 f.0.1).known) [
@@ -362,9 +324,6 @@ module _ (c : Config) (lim : IsWithin c)
           ]
       task_goes (Writes (WriteWants x)) at f =
           inl (near (want_goes c lim keeps ends w good t lt (Writes (WriteWants x)) at refl x.mount f.0.0 (λ clear. clear)))
-      task_goes (Writes (GivesBack m p refusal)) at f = goes (Writes (GivesBack m p refusal)) at tt
-      task_goes (Writes (WriteDrops m p)) at f = goes (Writes (WriteDrops m p)) at tt
-      task_goes (Writes (Ends p)) at f = goes (Writes (Ends p)) at tt
       task_goes (Freezes x) at f =
           elim (first_either w.words x.step) [
             | inl first ↦ elim (kept_or_apart c w x.step) [
@@ -402,12 +361,6 @@ module _ (c : Config) (lim : IsWithin c)
                   | inr kept ↦ inr (subst (ThawIsKept c w) (sym n.1) kept)
                 ]
           ]
-      task_goes (Trees (Creates x)) at f = goes (Trees (Creates x)) at tt
-      task_goes (Trees (Removes x)) at f = goes (Trees (Removes x)) at tt
-      task_goes (Trees (Grows x)) at f = goes (Trees (Grows x)) at tt
-      task_goes (Trees (Moves x)) at f = goes (Trees (Moves x)) at tt
-      task_goes (Trees (TreeMarks x)) at f = goes (Trees (TreeMarks x)) at tt
-      task_goes (Trees (OpensOne x)) at f = goes (Trees (OpensOne x)) at tt
       task_goes (Trees (Snapshots x)) at f =
           elim (snapshot_either w.words x.step x.wait) [
             | inl free ↦ goes (Trees (Snapshots x)) at free
@@ -418,22 +371,17 @@ module _ (c : Config) (lim : IsWithin c)
                   | inr kept ↦ inr (subst (λ s. SnapshotIsKept c w s x.wait) (sym n.2) (n.0, kept))
                 ]
           ]
-      task_goes (Trees (TreeClears x)) at f = absurd f.1
       task_goes (FileCloses (CloseLoadsFile x)) at f =
           elim (last_either (w.words.block 3) x.wait (is_last_close (w.words.node x.file)) (good (AtLevel 3) (omega arith) (omega arith)).known) [
             | inl free ↦ goes (FileCloses (CloseLoadsFile x)) at free
             | inr kept ↦ inr kept
           ]
-      task_goes (FileCloses (LowersCount x node)) at f = goes (FileCloses (LowersCount x node)) at tt
       task_goes (FileCloses (EntersLevel n node r)) at f =
           elim (read_either (w.words.block r.level) r.wait r.step (good (AtLevel r.level) f.2.0 f.2.1).known) [
             | inl free ↦ goes (FileCloses (EntersLevel n node r)) at free
             | inr kept ↦ inr kept
           ]
-      task_goes (FileCloses (ClosesNode n p node)) at f = goes (FileCloses (ClosesNode n p node)) at tt
-      task_goes (FileCloses (CloseRefundsBlocks p blocks)) at f = goes (FileCloses (CloseRefundsBlocks p blocks)) at tt
-      task_goes (FileCloses (CloseUncounts p)) at f = goes (FileCloses (CloseUncounts p)) at tt
-      task_goes (FileCloses (CloseLeaves p)) at f = goes (FileCloses (CloseLeaves p)) at tt
+      task_goes phase at f = goes phase at tt
 
       -- whatever it is at
       view_goes : (p : Option Phase) → (w.views t).phase ≡ p →

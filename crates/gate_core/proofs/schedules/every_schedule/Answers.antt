@@ -1,5 +1,5 @@
 -- Each clause is a lemma on whole schedules.
-use Rattle.gate_core.proofs.Whole.{whole_run, whole_moves, whole_nobody, whole_causes, whole_waits, whole_sums, whole_idle, whole_rests, whole_freezes, whole_holders, whole_trees, whole_snapshots, whole_operations}
+use Rattle.gate_core.proofs.Whole.{whole_run, whole_moves, whole_nobody, whole_causes, whole_waits, whole_sums, whole_idle, whole_rests, whole_freezes, whole_holders, whole_trees, whole_snapshots, whole_operations, whole_leads}
 use Rattle.gate_core.proofs.LevelRuns.{whole_levels}
 use Rattle.gate_core.proofs.Deadlocks.{whole_progress, whole_replies, whole_kept}
 use Rattle.gate_core.proofs.schedules.every_schedule.Goals as goal
@@ -18,6 +18,9 @@ returns-clause-sums c = whole_sums
 
 pub returns-clause-idle : goal.returns-clause-idle
 returns-clause-idle c = whole_idle
+
+pub returns-clause-leads : goal.returns-clause-leads
+returns-clause-leads c = whole_leads
 
 pub returns-clause-rests : goal.returns-clause-rests
 returns-clause-rests c = whole_rests
