@@ -2,6 +2,8 @@
 //! closed. It needs public calls alone, and stands in a crate of its own so that what needs no runs does not wait for their proof.
 #![tactic(auto)]
 
+mod meetings;
 mod runs;
 
-pub use runs::{Meeting, Totals, run_with};
+pub use meetings::Meeting;
+pub use runs::{Totals, run_with};

@@ -2,11 +2,15 @@
 
 ghost use Rattle.std.specs.Prelude.{◌≡◌, ◌≤◌, ◌-◌, ◌*◌, IfErr, IfOk, OnOk};
 ghost use Rattle.access_model.specs.declared.errors.GateError.TheVariants.{Invalid};
+ghost use Rattle.vfs_gates.specs.Ended.{EndedWith};
+ghost use Rattle.vfs_gates.specs.TaskStates.{IsFrom};
 ghost use Rattle.gate_runs.specs.Plans.{MayRun, TellsRun, run_config};
+ghost use Rattle.gate_runs.specs.Rounds.{processor_of};
 
 mod threads;
 mod workers;
 
+use crate::meetings::Meeting;
 use access_model::{Gate, GateError};
 use cpu_words::WordName;
 use gate_world::Config;
@@ -14,23 +18,8 @@ use std::alloc::Global;
 use std::sync::Wait;
 use std::thread::Threads;
 use threads::in_threads;
-use vfs_gates::{Closed, Gates};
+use vfs_gates::{Closed, Gates, Task};
 use workers::{FIRST_WRITER, MOUNT, create_files};
-
-/// What is done at a run beside its calls, for tests that look on and programs that tell how far it is. A call of it has the gates as
-/// they stand at that moment.
-pub trait Meeting {
-    /// Called by each writer in each round (the number of its task, 2 to 63, and the round, from 0), while it holds write access.
-    fn holding(&self, task: u8, round: u32);
-
-    /// Called by the backup at each freeze (from 0), while all is frozen. Does nothing unless it is written.
-    fn frozen(&self, _freeze: u32) {}
-}
-
-/// A meeting at which nothing is done.
-impl Meeting for () {
-    fn holding(&self, _task: u8, _round: u32) {}
-}
 
 /// What a run has done.
 #[derive(Clone, Copy, PartialEq, Eq, Debug)]
@@ -104,6 +93,7 @@ impl Plan {
     /// The processor on which a writer, the first being 0, begins a round. It goes on to the next in each.
     fn processor(self, writer: u8, round: u32) -> u8
         requires { round ≤ 10000 }
+        ensures { result ≡ processor_of self.processors writer round }
     {
         ((u32::from(writer) + round) % u32::from(self.processors)) as u8
     }
@@ -125,11 +115,46 @@ fn held_in(closed: &Closed) -> u64
     held
 }
 
+/// Closes the gates, where the task is the only one left.
+fn close(gates: Gates, task: Task) -> Result<Closed, GateError>
+    requires { IsFrom task gates }
+    ensures { IfOk result (λ c. (c.config ≡ gates.words.config) × EndedWith c.config c.words task.items) }
+{
+    match gates.close(task) {
+        Ok(closed) => Ok(closed),
+        Err((refusal, _, _)) => Err(refusal),
+    }
+}
+
+/// Makes the gates of a plan and their files, does it in threads, and closes them.
+fn run_plan<R: Threads + Wait + Sync, M: Meeting + Sync>(
+    rt: &R,
+    alloc: Global,
+    plan: Plan,
+    meeting: &M,
+) -> Result<(Totals, Closed), GateError>
+    ensures { IfOk result (λ r. TellsRun M.held meeting.now plan.tasks plan.processors plan.rounds plan.freezes r.0 r.1) }
+{
+    let (gates, mut task) = Gates::new(alloc, plan.config())?;
+    create_files(rt, &gates, plan, &mut task)?;
+    let (task, copies) = in_threads(rt, alloc, &gates, plan, meeting, task)?;
+    let closed = close(gates, task)?;
+    let totals = Totals {
+        grown: closed.word(WordName::Used).unwrap_or(0),
+        frozen: u64::from(copies.frozen),
+        snapshots: u64::from(copies.snapshots),
+        remounts: u64::from(plan.rounds),
+        held: held_in(&closed),
+    };
+    Ok((totals, closed))
+}
+
 /// Runs so many tasks (3 to 64), each in a thread of its own, at one mount with so many processors (1 to 64), and closes the gates.
 /// The first one freezes the file system so often (at most 1,000), takes a snapshot, thaws, and calls back what the three levels have
 /// queued. The second, for so many rounds (1 to 10,000), makes the mount read-only, unless it is busy, and then writable. Each other one
 /// has a file, and in each round takes write access, again while the mount is read-only, makes its file larger by one block, again
-/// while others were before it, meets, and gives the access back on another processor.
+/// while others were before it, meets, and gives the access back on another processor. That each did just this, and nothing else, is told
+/// of the views that its task has in the end (`Meeting::held` has what the calls of the meeting show).
 ///
 /// Invalid where a number is out of its limits. NoMemory where a growth was refused or a thread couldn't be started: those that were
 /// started have ended then. Any other refusal is the first one that a task met which the run doesn't expect, and ends it too.
@@ -144,19 +169,8 @@ pub fn run_with<R: Threads + Wait + Sync, M: Meeting + Sync>(
 ) -> Result<(Totals, Closed), GateError>
     ensures within { OnOk result (MayRun tasks processors rounds freezes) }
     ensures invalid { ¬ MayRun tasks processors rounds freezes → result ≡ Err Invalid }
-    ensures tells { IfOk result (λ r. TellsRun tasks processors rounds freezes r.0 r.1) }
+    ensures tells { IfOk result (λ r. TellsRun M.held meeting.now tasks processors rounds freezes r.0 r.1) }
 {
     let plan = Plan::new(tasks, processors, rounds, freezes)?;
-    let (gates, mut task) = Gates::new(alloc, plan.config())?;
-    create_files(rt, &gates, plan, &mut task)?;
-    let (task, copies, remounts) = in_threads(rt, alloc, &gates, plan, meeting, task)?;
-    let closed = gates.close(task).map_err(|(refusal, _, _)| refusal)?;
-    let totals = Totals {
-        grown: closed.word(WordName::Used).unwrap_or(0),
-        frozen: u64::from(copies.frozen),
-        snapshots: u64::from(copies.snapshots),
-        remounts: u64::from(remounts),
-        held: held_in(&closed),
-    };
-    Ok((totals, closed))
+    run_plan(rt, alloc, plan, meeting)
 }

@@ -2,7 +2,9 @@
 
 ghost use Rattle.std.specs.Prelude.{◌≡◌, ◌⊎◌, IfOk, Ok, Err};
 ghost use Rattle.transcripts.specs.Replayed.{Replayed};
-ghost use Rattle.endings.specs.declared.ends.Ending.TheVariants.{Done, DoneOverGates, Ran, Refused};
+ghost use Rattle.command_line.specs.declared.words.Asked.TheVariants.{Replay, ReplayOverGates, Run as AskedRun, Unread, Misused as AskedMisused};
+ghost use Rattle.command_line.specs.declared.words.Numbers.{Numbers as NumbersType};
+ghost use Rattle.endings.specs.declared.ends.Ending.TheVariants.{Done, DoneOverGates, Misused, Ran, Refused};
 ghost use Rattle.schedule_bytes.specs.declared.replay_faults.ReplayFault.{ReplayFault};
 
 use crate::replay::replay_gates;
@@ -30,12 +32,37 @@ pub(crate) fn run<R: Threads + Wait + Sync, I: Read, W: Write, E: Write>(
     ensures done { IfOk result (λ ending. ending ≡ Done →
         Replayed (I.remaining reader.old) (I.remaining reader.new) (W.contents writer.old) (W.contents writer.new) (Ok tt)) }
 {
-    match read_words(alloc, words, errors)? {
-        Asked::Replay => Ok(run_replay(alloc, reader, writer, errors)),
-        Asked::ReplayOverGates => Ok(run_replay_gates(alloc, reader, writer, errors)),
-        Asked::Run(numbers) => Ok(run_threads(rt, alloc, numbers, writer, errors, watched)),
-        Asked::Unread => Ok(Ending::Refused),
-        Asked::Misused => Ok(Ending::Misused),
+    let asked = read_words(alloc, words, errors)?;
+    Ok(do_asked(rt, alloc, asked, reader, writer, errors, watched))
+}
+
+/// Does what a command line asks for, and nothing else: a `replay` is one over the core, and what it writes is its transcript.
+fn do_asked<R: Threads + Wait + Sync, I: Read, W: Write, E: Write>(
+    rt: &R,
+    alloc: Global,
+    asked: Asked,
+    reader: &mut I,
+    writer: &mut W,
+    errors: &mut E,
+    watched: Option<Stderr>,
+) -> Ending
+    ensures replay { asked ≡ Replay → (result ≡ Done) ⊎ (result ≡ Refused) }
+    ensures replayed { asked ≡ Replay → result ≡ Done →
+        Replayed (I.remaining reader.old) (I.remaining reader.new) (W.contents writer.old) (W.contents writer.new) (Ok tt) }
+    ensures refused { asked ≡ Replay → result ≡ Refused → (fault : ReplayFault) ×
+        Replayed (I.remaining reader.old) (I.remaining reader.new) (W.contents writer.old) (W.contents writer.new) (Err fault) }
+    ensures over_gates { asked ≡ ReplayOverGates → (result ≡ DoneOverGates) ⊎ (result ≡ Refused) }
+    ensures run { (numbers : NumbersType) → asked ≡ AskedRun numbers → (result ≡ Ran) ⊎ (result ≡ Refused) }
+    ensures unread { asked ≡ Unread → result ≡ Refused }
+    ensures misused { asked ≡ AskedMisused → result ≡ Misused }
+    ensures done { result ≡ Done → asked ≡ Replay }
+{
+    match asked {
+        Asked::Replay => run_replay(alloc, reader, writer, errors),
+        Asked::ReplayOverGates => run_replay_gates(alloc, reader, writer, errors),
+        Asked::Run(numbers) => run_threads(rt, alloc, numbers, writer, errors, watched),
+        Asked::Unread => Ending::Refused,
+        Asked::Misused => Ending::Misused,
     }
 }
 

@@ -1,79 +1,183 @@
 //! The threads of a run: started, and joined.
 
-ghost use Rattle.std.specs.Prelude.{◌≡◌, All, IfOk};
-ghost use Rattle.vfs_gates.specs.TaskStates.{IsFrom};
+ghost use Rattle.std.specs.Prelude.{◌≡◌, ◌+◌, ◌-◌, ◌<◌, ◌++◌, ◌≤◌, ℕ, All, IfOk, OnOk, length, vec_len};
+ghost use Rattle.gate_runs.specs.Parts.{AllDid, Among, EachFrom, Remounted as RemountedPart, Wrote as WrotePart};
+ghost use Rattle.gate_runs.specs.Meetings.{was_held};
+ghost use Rattle.gate_runs.specs.Rounds.{RemountRound, Repeats, WriterRound};
+ghost use Rattle.gate_runs.specs.Splitting.{Gives, HasBegun};
+ghost use Rattle.vfs_gates.specs.TaskStates.{IsFrom, TaskState, own_view};
 
-use super::workers::{Copies, back_up, work};
-use super::{Meeting, Plan};
+use super::Plan;
+use super::workers::{Copies, back_up, remount, write};
+use crate::meetings::{Meeting, Unnoted};
 use access_model::GateError;
 use std::alloc::Global;
+use std::snapshot::Snapshot;
 use std::sync::Wait;
 use std::thread;
 use std::thread::{Promise, PromisedHandle, Scope, Threads};
 use vfs_gates::{Gates, Task};
 
-/// A task whose thread has ended, with the rounds that it did, or why it was refused.
+/// A task whose thread has ended, and why it was refused, if it was.
 #[derive(Drop)]
 struct Worked {
     task: Task,
-    done: Result<u32, GateError>,
+    done: Result<(), GateError>,
 }
 
-/// The promise of each thread: its task comes back to these gates, with this many rounds done unless it was refused.
-#[derive(Clone, Copy)]
-struct Home<'g> {
+/// The promise of the remounter's thread: its task comes back to these gates, and has done all rounds from where it began, unless it was
+/// refused.
+struct RemounterHome<'g> {
     gates: &'g Gates,
-    rounds: u32,
+    plan: Plan,
+    start: Snapshot<Task>,
 }
 
-impl<'g> Promise<Worked> for Home<'g> {
-    ghost kept_by = { λ home worked. IsFrom worked.task home.gates.now × IfOk worked.done (λ n. n ≡ home.rounds) };
+impl<'g> Drop for RemounterHome<'g> {
+    fn drop(self) {
+        let RemounterHome {
+            gates: _,
+            plan: _,
+            start: _,
+        } = self;
+    }
 }
 
-/// A thread that is to be joined.
-type Worker<'g> = PromisedHandle<Worked, Home<'g>>;
+impl<'g> Promise<Worked> for RemounterHome<'g> {
+    ghost kept_by = { λ home ended. IsFrom ended.task home.gates.now
+        × OnOk ended.done (Repeats RemountRound home.plan.rounds home.start.value ended.task) };
+}
 
-/// What one thread does.
-fn run_task<R: Wait, M: Meeting>(
+/// The same of a writer's, with this meeting.
+struct WriterHome<'g, M> {
+    gates: &'g Gates,
+    plan: Plan,
+    meeting: &'g M,
+    writer: u8,
+    start: Snapshot<Task>,
+}
+
+impl<'g, M> Drop for WriterHome<'g, M> {
+    fn drop(self) {
+        let WriterHome {
+            gates: _,
+            plan: _,
+            meeting: _,
+            writer: _,
+            start: _,
+        } = self;
+    }
+}
+
+impl<'g, M: Meeting> Promise<Worked> for WriterHome<'g, M> {
+    ghost kept_by = { λ home ended. IsFrom ended.task home.gates.now
+        × OnOk ended.done (Repeats (WriterRound (was_held M.held) home.meeting.now home.plan.processors home.writer) home.plan.rounds
+        (home.start.value, tt) (ended.task, tt)) };
+}
+
+/// What the remounter's thread does.
+fn run_remounter<R: Wait>(rt: &R, gates: &Gates, plan: Plan, mut task: Task) -> Worked
+    requires { IsFrom task gates.now }
+    ensures from { IsFrom result.task gates.now }
+    ensures rounds { OnOk result.done (Repeats RemountRound plan.rounds task result.task) }
+{
+    let done = remount(rt, gates, plan, &mut task);
+    Worked { task, done }
+}
+
+/// What a writer's thread does.
+fn run_writer<R: Wait, M: Meeting>(
     rt: &R,
     gates: &Gates,
     plan: Plan,
     meeting: &M,
+    writer: u8,
     mut task: Task,
 ) -> Worked
-    requires { IsFrom task gates.now }
+    requires from { IsFrom task gates.now }
+    requires writer { writer ≤ 61 }
     ensures from { IsFrom result.task gates.now }
-    ensures rounds { IfOk result.done (λ n. n ≡ plan.rounds) }
+    ensures rounds { OnOk result.done (Repeats (WriterRound (was_held M.held) meeting.now plan.processors writer) plan.rounds
+        (task, tt) (result.task, tt)) }
 {
-    let done = work(rt, gates, plan, meeting, &mut task);
+    let done = write(
+        rt,
+        gates,
+        plan,
+        &Unnoted { meeting },
+        &mut task,
+        writer,
+        &mut (),
+    );
     Worked { task, done }
 }
 
-/// Splits a task off, and starts its thread. NoMemory where it can't be started, or a growth was refused.
-fn start_one<'s, E, R: Wait + Sync, M: Meeting + Sync>(
+/// Splits the remounter's task off, and starts its thread. NoMemory where it can't be started, or a growth was refused.
+fn start_remounter<'s, E, R: Wait + Sync>(
     scope: &Scope<'s, E>,
     rt: &'s R,
     alloc: Global,
     gates: &'s Gates,
     plan: Plan,
-    meeting: &'s M,
     task: &mut Task,
-) -> Result<Worker<'s>, GateError>
-    requires { IsFrom task.old gates.now }
+) -> Result<PromisedHandle<Worked, RemounterHome<'s>>, GateError>
+    requires from { IsFrom task.old gates.now }
+    requires gives { Gives task.old 1 plan.tasks }
     ensures from { IsFrom task.new gates.now }
-    ensures home { IfOk result (λ w. (w.promise.gates.now ≡ gates.now) × (w.promise.rounds ≡ plan.rounds)) }
+    ensures same { OnOk result (own_view task.new.items ≡ own_view task.old.items) }
+    ensures gives { OnOk result (Gives task.new 2 plan.tasks) }
+    ensures home { IfOk result (λ w. (w.promise.gates.now ≡ gates.now) × (w.promise.plan ≡ plan) × HasBegun 1 w.promise.start.value) }
 {
-    let home = Home {
-        gates,
-        rounds: plan.rounds,
-    };
     let other = task.split(alloc, gates)?;
-    let started = scope.spawn_with(home, move || run_task(rt, gates, plan, meeting, other));
+    let home = RemounterHome {
+        gates,
+        plan,
+        start: Snapshot::of(&other),
+    };
+    let started = scope.spawn_with(home, move || run_remounter(rt, gates, plan, other));
     started.map_err(|_| GateError::NoMemory)
 }
 
-/// The same of each other task.
-fn start_all<'s, E, R: Wait + Sync, M: Meeting + Sync>(
+/// A writer's thread that is to be joined.
+type Writer<'g, M> = PromisedHandle<Worked, WriterHome<'g, M>>;
+
+/// The same of the next writer.
+fn start_writer<'s, E, R: Wait + Sync, M: Meeting + Sync>(
+    scope: &Scope<'s, E>,
+    rt: &'s R,
+    alloc: Global,
+    gates: &'s Gates,
+    plan: Plan,
+    meeting: &'s M,
+    writer: u8,
+    task: &mut Task,
+) -> Result<Writer<'s, M>, GateError>
+    requires from { IsFrom task.old gates.now }
+    requires gives { Gives task.old (writer + 2) plan.tasks }
+    requires writer { writer + 2 < plan.tasks }
+    ensures from { IsFrom task.new gates.now }
+    ensures same { OnOk result (own_view task.new.items ≡ own_view task.old.items) }
+    ensures gives { OnOk result (Gives task.new (writer + 1 + 2) plan.tasks) }
+    ensures home { IfOk result (λ w. (w.promise.gates.now ≡ gates.now) × (w.promise.plan ≡ plan) × (w.promise.meeting.now ≡ meeting.now)
+        × (w.promise.writer ≡ writer) × HasBegun (writer + 2) w.promise.start.value) }
+{
+    let other = task.split(alloc, gates)?;
+    let home = WriterHome {
+        gates,
+        plan,
+        meeting,
+        writer,
+        start: Snapshot::of(&other),
+    };
+    let started = scope.spawn_with(
+        home,
+        move || run_writer(rt, gates, plan, meeting, writer, other),
+    );
+    started.map_err(|_| GateError::NoMemory)
+}
+
+/// The same of all writers, in their order.
+fn start_writers<'s, E, R: Wait + Sync, M: Meeting + Sync>(
     scope: &Scope<'s, E>,
     rt: &'s R,
     alloc: Global,
@@ -81,90 +185,155 @@ fn start_all<'s, E, R: Wait + Sync, M: Meeting + Sync>(
     plan: Plan,
     meeting: &'s M,
     task: &mut Task,
-) -> Result<Vec<Worker<'s>>, GateError>
-    requires { IsFrom task.old gates.now }
+) -> Result<Vec<Writer<'s, M>>, GateError>
+    requires from { IsFrom task.old gates.now }
+    requires gives { Gives task.old 2 plan.tasks }
     ensures from { IsFrom task.new gates.now }
-    ensures homes { IfOk result
-        (λ workers. All (λ w. (w.promise.gates.now ≡ gates.now) × (w.promise.rounds ≡ plan.rounds)) workers.items) }
+    ensures same { OnOk result (own_view task.new.items ≡ own_view task.old.items) }
+    ensures gives { OnOk result (Gives task.new plan.tasks plan.tasks) }
+    ensures all { IfOk result (λ workers. vec_len workers ≡ plan.tasks - 2) }
+    ensures homes { IfOk result (λ workers. EachFrom
+        (λ writer w. (w.promise.gates.now ≡ gates.now) × (w.promise.plan ≡ plan) × (w.promise.meeting.now ≡ meeting.now)
+        × (w.promise.writer ≡ writer) × HasBegun (writer + 2) w.promise.start.value) 0 workers.items) }
 {
     let mut workers = Vec::new(alloc);
-    for _number in 1..plan.tasks {
-        let worker = start_one(scope, rt, alloc, gates, plan, meeting, task)?;
-        if workers.push(worker).is_err() {
+    for writer in 0..plan.writers() {
+        let worker = start_writer(scope, rt, alloc, gates, plan, meeting, writer, task)?;
+        let Ok(()) = workers.push(worker) else {
             return Err(GateError::NoMemory);
-        }
+        };
     }
     Ok(workers)
 }
 
-/// Joins a thread, and takes its task's numbers back. Tells the rounds that it did, or why it was refused.
-fn join_one<R: Threads>(
-    rt: &R,
-    gates: &Gates,
-    plan: Plan,
-    task: &mut Task,
-    worker: Worker<'_>,
-) -> Result<u32, GateError>
+/// Takes a task's numbers back whose thread has ended.
+fn take_back(gates: &Gates, task: &mut Task, other: Task) -> Result<(), GateError>
     requires from { IsFrom task.old gates.now }
-    requires home { (worker.promise.gates.now ≡ gates.now) × (worker.promise.rounds ≡ plan.rounds) }
+    requires other { IsFrom other gates.now }
     ensures from { IsFrom task.new gates.now }
-    ensures rounds { IfOk result (λ n. n ≡ plan.rounds) }
+    ensures took { OnOk result (task.new ≡ record task.old { items = task.old.items ++ other.items }) }
 {
-    let Worked { task: other, done } = worker.join(rt);
-    let rounds = done?;
     match task.join(gates, other) {
-        Ok(()) => Ok(rounds),
+        Ok(()) => Ok(()),
         Err((refusal, _)) => Err(refusal),
     }
 }
 
-/// The same of all threads; the first refusal that is met ends it.
-fn join_all<R: Threads>(
+/// Joins the remounter's thread, and takes its number back. Why it was refused, if it was.
+fn join_remounter<R: Threads>(
     rt: &R,
     gates: &Gates,
     plan: Plan,
     task: &mut Task,
-    mut workers: Vec<Worker<'_>>,
-) -> Result<u32, GateError>
+    worker: PromisedHandle<Worked, RemounterHome<'_>>,
+) -> Result<(), GateError>
     requires from { IsFrom task.old gates.now }
-    requires homes { All (λ w. (w.promise.gates.now ≡ gates.now) × (w.promise.rounds ≡ plan.rounds)) workers.items }
+    requires home { (worker.promise.gates.now ≡ gates.now) × (worker.promise.plan ≡ plan) × HasBegun 1 worker.promise.start.value }
     ensures from { IsFrom task.new gates.now }
-    ensures rounds { IfOk result (λ n. n ≡ plan.rounds) }
+    ensures others { OnOk result ((s : TaskState) → Among task.old.items s → Among task.new.items s) }
+    ensures part { OnOk result (RemountedPart (Among task.new.items) plan.rounds) }
 {
-    let mut rounds = plan.rounds;
-    while let Some(worker) = workers.pop() {
-        rounds = join_one(rt, gates, plan, task, worker)?;
-    }
-    Ok(rounds)
+    let Worked { task: other, done } = worker.join(rt);
+    done?;
+    take_back(gates, task, other)?;
+    Ok(())
 }
 
-/// Starts the threads of all other tasks, backs up beside them, and joins them. They have all ended when it returns, whatever it answers.
+/// The same of a writer's.
+fn join_writer<R: Threads, M: Meeting>(
+    rt: &R,
+    gates: &Gates,
+    task: &mut Task,
+    worker: Writer<'_, M>,
+) -> Result<(), GateError>
+    requires from { IsFrom task.old gates.now }
+    requires home { (worker.promise.gates.now ≡ gates.now) × HasBegun (worker.promise.writer + 2) worker.promise.start.value }
+    ensures from { IsFrom task.new gates.now }
+    ensures others { OnOk result ((s : TaskState) → Among task.old.items s → Among task.new.items s) }
+    ensures part { OnOk result (WrotePart (Among task.new.items) (was_held M.held) worker.entry.promise.meeting.now worker.entry.promise.plan.processors
+        worker.entry.promise.plan.rounds worker.entry.promise.writer tt tt) }
+{
+    let Worked { task: other, done } = worker.join(rt);
+    done?;
+    take_back(gates, task, other)?;
+    Ok(())
+}
+
+/// The same of all writers', of this plan and meeting. The first refusal that is met ends it.
+fn join_writers<R: Threads, M: Meeting>(
+    rt: &R,
+    gates: &Gates,
+    _plan: Plan,
+    _meeting: &M,
+    task: &mut Task,
+    mut workers: Vec<Writer<'_, M>>,
+) -> Result<(), GateError>
+    requires from { IsFrom task.old gates.now }
+    requires homes { EachFrom
+        (λ writer w. (w.promise.gates.now ≡ gates.now) × (w.promise.plan ≡ _plan) × (w.promise.meeting.now ≡ _meeting.now)
+        × (w.promise.writer ≡ writer) × HasBegun (writer + 2) w.promise.start.value) 0 workers.items }
+    ensures from { IsFrom task.new gates.now }
+    ensures others { OnOk result ((s : TaskState) → Among task.old.items s → Among task.new.items s) }
+    ensures parts { OnOk result ((writer : ℕ) → writer < vec_len workers.entry →
+        WrotePart (Among task.new.items) (was_held M.held) _meeting.now _plan.processors _plan.rounds writer tt tt) }
+{
+    while let Some(worker) = workers.pop() {
+        join_writer(rt, gates, task, worker)?;
+    }
+    Ok(())
+}
+
+/// Starts the threads of all other tasks, backs up beside them, and joins them.
+fn run_threads<'s, E, R: Threads + Wait + Sync, M: Meeting + Sync>(
+    scope: &Scope<'s, E>,
+    rt: &'s R,
+    alloc: Global,
+    gates: &'s Gates,
+    plan: Plan,
+    meeting: &'s M,
+    mut task: Task,
+) -> Result<(Task, Copies), GateError>
+    requires from { IsFrom task gates.now }
+    requires gives { Gives task 1 plan.tasks }
+    ensures from { IfOk result (λ r. IsFrom r.0 gates.now) }
+    ensures copies { IfOk result (λ r. (r.1.frozen ≡ plan.freezes) × (r.1.snapshots ≡ plan.freezes)) }
+    ensures all { IfOk result (λ r. AllDid (Among r.0.items) M.held meeting.now plan.tasks plan.processors plan.rounds plan.freezes
+        (own_view task.items)) }
+{
+    let remounter = start_remounter(scope, rt, alloc, gates, plan, &mut task)?;
+    let writers = start_writers(scope, rt, alloc, gates, plan, meeting, &mut task)?;
+    let copies = back_up(rt, gates, plan, &Unnoted { meeting }, &mut task, &mut ())?;
+    join_remounter(rt, gates, plan, &mut task, remounter)?;
+    join_writers(rt, gates, plan, meeting, &mut task, writers)?;
+    Ok((task, copies))
+}
+
+/// The same in a scope: all threads have ended when it returns, whatever it answers.
 pub(crate) fn in_threads<R: Threads + Wait + Sync, M: Meeting + Sync>(
     rt: &R,
     alloc: Global,
     gates: &Gates,
     plan: Plan,
     meeting: &M,
-    mut task: Task,
-) -> Result<(Task, Copies, u32), GateError>
-    requires { IsFrom task gates.now }
+    task: Task,
+) -> Result<(Task, Copies), GateError>
+    requires from { IsFrom task gates.now }
+    requires gives { Gives task 1 plan.tasks }
     ensures from { IfOk result (λ r. IsFrom r.0 gates.now) }
     ensures copies { IfOk result (λ r. (r.1.frozen ≡ plan.freezes) × (r.1.snapshots ≡ plan.freezes)) }
-    ensures rounds { IfOk result (λ r. r.2 ≡ plan.rounds) }
+    ensures all { IfOk result (λ r. AllDid (Among r.0.items) M.held meeting.now plan.tasks plan.processors plan.rounds plan.freezes
+        (own_view task.items)) }
 {
     thread::scope(
         thread::scope_env(),
         rt,
-        move |scope| -> Result<(Task, Copies, u32), GateError>
-            requires { IsFrom task gates.now }
+        move |scope| -> Result<(Task, Copies), GateError>
+            requires from { IsFrom task gates.now }
+            requires gives { Gives task 1 plan.tasks }
             ensures from { IfOk result (λ r. IsFrom r.0 gates.entry.now) }
             ensures copies { IfOk result (λ r. (r.1.frozen ≡ plan.freezes) × (r.1.snapshots ≡ plan.freezes)) }
-            ensures rounds { IfOk result (λ r. r.2 ≡ plan.rounds) }
-        {
-            let workers = start_all(scope, rt, alloc, gates, plan, meeting, &mut task)?;
-            let copies = back_up(rt, gates, plan, meeting, &mut task)?;
-            let rounds = join_all(rt, gates, plan, &mut task, workers)?;
-            Ok((task, copies, rounds))
-        },
+            ensures all { IfOk result (λ r. AllDid (Among r.0.items) M.held meeting.entry.now plan.tasks plan.processors plan.rounds plan.freezes
+                (own_view task.items)) }
+        { run_threads(scope, rt, alloc, gates, plan, meeting, task) },
     )
 }

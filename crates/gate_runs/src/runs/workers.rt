@@ -1,11 +1,15 @@
 //! What each task of a run does.
 
-ghost use Rattle.std.specs.Prelude.{◌≡◌, ◌≤◌, IfOk, Some, length, true};
+ghost use Rattle.std.specs.Prelude.{◌≡◌, ◌+◌, ◌-◌, ◌≤◌, ◌⊎◌, IfOk, OnOk, Some, length, true};
+ghost use Rattle.access_model.specs.declared.errors.GateError.TheVariants.{Again, Busy, ReadOnly};
 ghost use Rattle.gated_tree.specs.Trees.{LoadedClean, LoadedSound};
+ghost use Rattle.gate_runs.specs.Rounds.{BackupRound, CallsBack, CreatesFiles, Does, IsRefused, RemountRound, Repeats, Retries, WriterRound};
+ghost use Rattle.gate_world.specs.declared.operations.Op.TheVariants.{ChangeMount, WantWrite, Grow, Snapshot as SnapshotOp};
 ghost use Rattle.gate_world.specs.declared.views.Snapshot.{Snapshot};
-ghost use Rattle.vfs_gates.specs.TaskStates.{IsFrom, own_view};
+ghost use Rattle.vfs_gates.specs.TaskStates.{IsFrom, own_number, own_view};
 
-use super::{Meeting, Plan};
+use super::Plan;
+use crate::meetings::NotedMeeting;
 use access_model::{GateError, Holder, Kind};
 use crossbeam_utils::Backoff;
 use std::sync::Wait;
@@ -35,7 +39,8 @@ pub(crate) fn create_files<R: Wait>(
     task: &mut Task,
 ) -> Result<(), GateError>
     requires { IsFrom task.old gates.now }
-    ensures { IsFrom task.new gates.now }
+    ensures from { IsFrom task.new gates.now }
+    ensures created { OnOk result (CreatesFiles (plan.tasks - 2) task.old task.new) }
 {
     task.want_write(rt, gates, MOUNT, 0)?;
     for _writer in 0..plan.writers() {
@@ -47,14 +52,16 @@ pub(crate) fn create_files<R: Wait>(
 /// Takes write access on a processor, again while the mount is read-only.
 fn want_write<R: Wait>(rt: &R, gates: &Gates, task: &mut Task, cpu: u8) -> Result<(), GateError>
     requires { IsFrom task.old gates.now }
-    ensures { IsFrom task.new gates.now }
+    ensures from { IsFrom task.new gates.now }
+    ensures took { OnOk result (Retries (WantWrite 0 cpu) ReadOnly task.old task.new) }
 {
     let backoff = Backoff::new();
     for _ in rt.forever() {
-        match task.want_write(rt, gates, MOUNT, cpu) {
-            Err(GateError::ReadOnly) => backoff.snooze(),
-            answer => return answer,
+        let answer = task.want_write(rt, gates, MOUNT, cpu);
+        if answer != Err(GateError::ReadOnly) {
+            return answer;
         }
+        backoff.snooze();
     }
     unreachable!()
 }
@@ -62,77 +69,73 @@ fn want_write<R: Wait>(rt: &R, gates: &Gates, task: &mut Task, cpu: u8) -> Resul
 /// Makes a file larger by one block, again while others were before it.
 fn grow<R: Wait>(rt: &R, gates: &Gates, task: &mut Task, file: u8) -> Result<(), GateError>
     requires { IsFrom task.old gates.now }
-    ensures { IsFrom task.new gates.now }
+    ensures from { IsFrom task.new gates.now }
+    ensures grew { OnOk result (Retries (Grow file 1) Again task.old task.new) }
 {
     for _ in rt.forever() {
-        match task.grow(gates, file, 1) {
-            Err(GateError::Again) => {}
-            answer => return answer,
+        let answer = task.grow(gates, file, 1);
+        if answer != Err(GateError::Again) {
+            return answer;
         }
     }
     unreachable!()
 }
 
-/// Writes in each round, with the access given back on the processor after the one on which it was taken. Counts the rounds.
-fn write<R: Wait, M: Meeting>(
+/// Writes in each round, with the access given back on the processor after the one on which it was taken.
+pub(crate) fn write<R: Wait, M: NotedMeeting>(
     rt: &R,
     gates: &Gates,
     plan: Plan,
     meeting: &M,
     task: &mut Task,
     writer: u8,
-) -> Result<u32, GateError>
+    notes: &mut M::Notes,
+) -> Result<(), GateError>
     requires from { IsFrom task.old gates.now }
-    requires writer { writer ≤ 253 }
+    requires writer { writer ≤ 61 }
     ensures from { IsFrom task.new gates.now }
-    ensures rounds { IfOk result (λ n. n ≡ plan.rounds) }
+    ensures rounds { OnOk result
+        (Repeats (WriterRound M.meets meeting.now plan.processors writer) plan.rounds (task.old, notes.old) (task.new, notes.new)) }
 {
-    let mut rounds = 0;
     for round in 0..plan.rounds {
         want_write(rt, gates, task, plan.processor(writer, round))?;
         let grown = grow(rt, gates, task, writer + 1);
-        meeting.holding(task.number(), round);
+        meeting.holding(task, round, notes);
         task.drop_write(gates, MOUNT, plan.processor(writer, round + 1))?;
         grown?;
-        rounds += 1;
     }
-    Ok(rounds)
+    Ok(())
 }
 
-/// In each round makes the mount read-only, or finds it busy, and then makes it writable. Counts the rounds.
-fn remount<R: Wait>(rt: &R, gates: &Gates, plan: Plan, task: &mut Task) -> Result<u32, GateError>
+/// Makes the mount read-only, unless it is busy.
+fn close_mount<R: Wait>(rt: &R, gates: &Gates, task: &mut Task) -> Result<(), GateError>
     requires { IsFrom task.old gates.now }
     ensures from { IsFrom task.new gates.now }
-    ensures rounds { IfOk result (λ n. n ≡ plan.rounds) }
+    ensures closed { OnOk result
+        (Does (ChangeMount 0 true true) task.old task.new ⊎ IsRefused (ChangeMount 0 true true) Busy task.old task.new) }
 {
-    let mut rounds = 0;
-    for _round in 0..plan.rounds {
-        match task.change_mount(rt, gates, MOUNT, true) {
-            Ok(()) | Err(GateError::Busy) => {}
-            Err(refusal) => return Err(refusal),
-        }
-        task.change_mount(rt, gates, MOUNT, false)?;
-        rounds += 1;
+    match task.change_mount(rt, gates, MOUNT, true) {
+        Err(GateError::Busy) => Ok(()),
+        answer => answer,
     }
-    Ok(rounds)
 }
 
-/// Does what the task with this number does in a run: number 1 remounts, and each above it writes.
-pub(crate) fn work<R: Wait, M: Meeting>(
+/// In each round makes the mount read-only, or finds it busy, and then makes it writable.
+pub(crate) fn remount<R: Wait>(
     rt: &R,
     gates: &Gates,
     plan: Plan,
-    meeting: &M,
     task: &mut Task,
-) -> Result<u32, GateError>
+) -> Result<(), GateError>
     requires { IsFrom task.old gates.now }
     ensures from { IsFrom task.new gates.now }
-    ensures rounds { IfOk result (λ n. n ≡ plan.rounds) }
+    ensures rounds { OnOk result (Repeats RemountRound plan.rounds task.old task.new) }
 {
-    match task.number().checked_sub(FIRST_WRITER) {
-        Some(writer) => write(rt, gates, plan, meeting, task, writer),
-        None => remount(rt, gates, plan, task),
+    for _round in 0..plan.rounds {
+        close_mount(rt, gates, task)?;
+        task.change_mount(rt, gates, MOUNT, false)?;
     }
+    Ok(())
 }
 
 /// Whether a task's last snapshot is sound and clean.
@@ -151,35 +154,48 @@ fn take_snapshot<R: Wait>(rt: &R, gates: &Gates, task: &mut Task) -> Result<bool
     requires { IsFrom task.old gates.now }
     ensures from { IsFrom task.new gates.now }
     ensures whole { IfOk result (λ whole. whole ≡ true) }
+    ensures took { OnOk result (Does (SnapshotOp true) task.old task.new) }
 {
     task.snapshot(rt, gates)?;
     Ok(is_whole(task))
 }
 
-/// Freezes, takes a snapshot, thaws, and calls back what the levels have queued, so often. Counts the freezes, and the snapshots that
-/// were sound and clean.
-pub(crate) fn back_up<R: Wait, M: Meeting>(
+/// Calls back what the three levels have queued.
+fn call_back<R: Wait>(rt: &R, gates: &Gates, task: &mut Task) -> Result<(), GateError>
+    requires { IsFrom task.old gates.now }
+    ensures from { IsFrom task.new gates.now }
+    ensures ran { OnOk result (Repeats (λ k. CallsBack (k + 1)) 3 task.old task.new) }
+{
+    for level in 1..4 {
+        task.callback(rt, gates, level)?;
+    }
+    Ok(())
+}
+
+/// Freezes, takes a snapshot, meets, thaws, and calls back what the levels have queued, so often. Counts the freezes, and the snapshots
+/// that were sound and clean.
+pub(crate) fn back_up<R: Wait, M: NotedMeeting>(
     rt: &R,
     gates: &Gates,
     plan: Plan,
     meeting: &M,
     task: &mut Task,
+    notes: &mut M::Notes,
 ) -> Result<Copies, GateError>
     requires { IsFrom task.old gates.now }
     ensures from { IsFrom task.new gates.now }
     ensures all { IfOk result (λ copies. (copies.frozen ≡ plan.freezes) × (copies.snapshots ≡ plan.freezes)) }
+    ensures rounds { OnOk result (Repeats (BackupRound M.sees meeting.now) plan.freezes (task.old, notes.old) (task.new, notes.new)) }
 {
     let mut frozen = 0;
     let mut snapshots = 0;
     for freeze in 0..plan.freezes {
         task.freeze(rt, gates, Holder::User, &mut ())?;
         let is_whole = take_snapshot(rt, gates, task);
-        meeting.frozen(freeze);
+        meeting.frozen(task, freeze, notes);
         task.thaw(rt, gates, Holder::User, &mut ())?;
         snapshots += u32::from(is_whole?);
-        for level in 1..=3 {
-            task.callback(rt, gates, level)?;
-        }
+        call_back(rt, gates, task)?;
         frozen += 1;
     }
     Ok(Copies { frozen, snapshots })

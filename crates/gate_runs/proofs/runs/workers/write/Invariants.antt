@@ -1,7 +1,8 @@
--- The task comes from the gates, and all rounds so far were counted.
-use Rattle.std.proofs.Common.{◌≡◌}
+-- The task comes from the gates, and has done all rounds so far.
 use Rattle.vfs_gates.specs.TaskStates.{IsFrom}
+use Rattle.gate_runs.specs.Rounds.{Repeats, WriterRound}
 use Rattle.gate_runs.proofs.runs.workers.write.Given as goal
 
 abbrev pub invariant-loop-round : goal.invariant-loop-round
-invariant-loop-round g l = IsFrom l.task l.fn.gates × (l.rounds ≡ l.round)
+invariant-loop-round g l = IsFrom l.task l.fn.gates × Repeats (WriterRound g.M.NotedMeeting.meets l.fn.meeting l.fn.plan.processors l.fn.writer)
+    l.round (l.fn.task, l.fn.notes) (l.task, l.notes)

@@ -1,0 +1,3 @@
+pub mod Repeating
+pub mod Splitting
+pub mod Staying

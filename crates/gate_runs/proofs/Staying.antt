@@ -1,0 +1,237 @@
+-- What calls of its own leave a task, and what it is among others in the end.
+use Rattle.std.proofs.Common.{◌≡◌, ℕ, zero, suc, ◌+◌, ◌≤◌, List, [], ◌∷◌, ◌++◌, length, refl, ap, sym, subst, ◌∙◌, arith, inl, inr}
+use Rattle.std.specs.Prelude.{Option, Some, None, Result, Ok, Err, OnOk}
+use Rattle.access_model.specs.declared.errors.GateError.{GateError}
+use Rattle.access_model.specs.declared.replies.Reply.{Reply}
+use Rattle.gate_world.specs.declared.config.Config.{Config}
+use Rattle.gate_world.specs.declared.operations.Op.{Op}
+use Rattle.gate_world.specs.declared.views.Traced.{Traced}
+use Rattle.gate_world.specs.declared.views.View.{View}
+use Rattle.vfs_gates.specs.Seating.{SeatItems, HaveViews, numbered, times}
+use Rattle.vfs_gates.specs.TaskStates.{TaskState, own_number, own_view, spare_of, refusal_at}
+use Rattle.vfs_gates.specs.Runs.{Replies, ran_items}
+use Rattle.gate_runs.specs.Rounds.{Repeats, CallsBack, CreatesFile, CreatesFiles, IsRefused, Retries, RemountRound, WriterRound, BackupRound}
+use Rattle.gate_runs.specs.Splitting.{Gives, HasBegun, HaveDoneNothing}
+use Rattle.gate_runs.specs.Parts.{EachFrom, Among, EndsAs, Stays, Remounted, Wrote, BackedUp}
+
+pub stays_so : (s : TaskState) → Stays s s
+stays_so s = record { config = refl; own = refl; spare = refl; idle = λ i. i; there = λ h. h }
+
+pub stays_on : {first mid last : TaskState} → Stays first mid → Stays mid last → Stays first last
+stays_on one two = record {
+  config = two.config ∙ one.config;
+  own = two.own ∙ one.own;
+  spare = two.spare ∙ one.spare;
+  idle = λ i. two.idle (one.idle i);
+  there = λ h. two.there (one.there h);
+}
+
+-- what has run has its numbers
+own_ran : (c : Config) (op : Op) (trace : List Traced) (items : SeatItems) → own_number (ran_items c op trace items) ≡ own_number items
+own_ran c op trace [] = refl
+own_ran c op trace (x ∷ xs) = refl
+
+spare_ran : (c : Config) (op : Op) (trace : List Traced) (items : SeatItems) → spare_of (ran_items c op trace items) ≡ spare_of items
+spare_ran c op trace [] = refl
+spare_ran c op trace (x ∷ xs) = refl
+
+there_ran : (c : Config) (op : Op) (trace : List Traced) (items : SeatItems) → 1 ≤ length items → 1 ≤ length (ran_items c op trace items)
+there_ran c op trace [] h = h
+there_ran c op trace (x ∷ xs) h = omega arith
+
+-- a whole call, as its beginning was answered
+call_stays : {A : Type 0} (read : Reply → A) (op : Op) (first last : TaskState) (outcome : Result A GateError) → Replies read op first last outcome →
+    (r : Option GateError) → refusal_at op first ≡ r → Stays first last
+call_stays read op first last outcome did None e =
+    let called = (did.done e).2 in
+    let items : last.items ≡ ran_items first.config op called.trace first.items = ap (λ (s : TaskState). s.items) called.after in record {
+      config = did.config;
+      own = ap own_number items ∙ own_ran first.config op called.trace first.items;
+      spare = ap spare_of items ∙ spare_ran first.config op called.trace first.items;
+      idle = λ i. ap (λ (s : TaskState). s.phase) called.after;
+      there = λ h. subst (λ (l : SeatItems). 1 ≤ length l) (sym items) (there_ran first.config op called.trace first.items h);
+    }
+call_stays read op first last outcome did (Some refusal) e = subst (Stays first) (sym (did.refused refusal e).1) (stays_so first)
+
+pub stays : {A : Type 0} (read : Reply → A) (op : Op) (first last : TaskState) (outcome : Result A GateError) → Replies read op first last outcome →
+    Stays first last
+stays read op first last outcome did = call_stays read op first last outcome did (refusal_at op first) refl
+
+-- so many rounds, where each leaves it so
+rounds_stay : {N : Type 0} (Round : ℕ → TaskState × N → TaskState × N → Type 0) →
+    ((k : ℕ) (x y : TaskState × N) → Round k x y → Stays x.0 y.0) → (k : ℕ) (first last : TaskState × N) → Repeats Round k first last →
+    Stays first.0 last.0
+rounds_stay {N = N} Round each zero first last did = subst (λ (x : TaskState × N). Stays first.0 x.0) (sym did) (stays_so first.0)
+rounds_stay Round each (suc k) first last did = stays_on (rounds_stay Round each k first did.0 did.1) (each k did.0 last did.2)
+
+-- the same of rounds without notes
+calls_stay : (Round : ℕ → TaskState → TaskState → Type 0) → ((k : ℕ) (x y : TaskState) → Round k x y → Stays x y) → (k : ℕ) (first last : TaskState) →
+    Repeats Round k first last → Stays first last
+calls_stay Round each zero first last did = subst (Stays first) (sym did) (stays_so first)
+calls_stay Round each (suc k) first last did = stays_on (calls_stay Round each k first did.0 did.1) (each k did.0 last did.2)
+
+retries_stay : (op : Op) (refusal : GateError) (first last : TaskState) → Retries op refusal first last → Stays first last
+retries_stay op refusal first last did =
+    stays_on (calls_stay (λ k. IsRefused op refusal) (λ k x y was. stays _ op x y _ was) did.0 first did.1 did.2) (stays _ op did.1 last _ did.3)
+
+pub creates_stay : (writers : ℕ) (first last : TaskState) → CreatesFiles writers first last → Stays first last
+creates_stay writers first last did =
+    stays_on (stays _ _ first did.held _ did.took) (stays_on
+    (calls_stay (λ k. CreatesFile) (λ k x y was. stays _ _ x y _ was.1) writers did.held did.made did.creates)
+    (stays _ _ did.made last _ did.gave))
+
+pub remounts_stay : (rounds : ℕ) (first last : TaskState) → Repeats RemountRound rounds first last → Stays first last
+remounts_stay rounds first last did = calls_stay RemountRound (λ k x y was. stays_on
+    (elim was.closed [ inl done ↦ stays _ _ x was.mid _ done | inr busy ↦ stays _ _ x was.mid _ busy ])
+    (stays _ _ was.mid y _ was.opened)) rounds first last did
+
+module _ {M N : Type 0} (link : M → TaskState → ℕ → N → N → Type 0) (meeting : M) where
+  pub writes_stay : (processors writer rounds : ℕ) (first last : TaskState × N) → Repeats (WriterRound link meeting processors writer) rounds first last →
+      Stays first.0 last.0
+  writes_stay processors writer rounds first last did = rounds_stay (WriterRound link meeting processors writer) (λ k x y was. stays_on
+      (retries_stay _ _ x.0 was.held was.took) (stays_on (retries_stay _ _ was.held was.grown was.grew) (stays _ _ was.grown y.0 _ was.gave)))
+      rounds first last did
+
+  pub backs_stay : (freezes : ℕ) (first last : TaskState × N) → Repeats (BackupRound link meeting) freezes first last → Stays first.0 last.0
+  backs_stay freezes first last did = rounds_stay (BackupRound link meeting) (λ k x y was. stays_on
+      (stays _ _ x.0 was.frozen _ was.freezes) (stays_on (stays _ _ was.frozen was.copied _ was.copies) (stays_on
+      (stays _ _ was.copied was.thawed _ was.thaws)
+      (calls_stay (λ k. CallsBack (k + 1)) (λ k x y ran. stays _ _ x y _ ran.1) 3 was.thawed y.0 was.calls_back)))) freezes first last did
+
+-- who stands among these does so among more
+pub among_more : (s : TaskState) (items more : SeatItems) → Among items s → Among (items ++ more) s
+among_more s [] more h = absurd h
+among_more s (x ∷ xs) more (inl is) = inl is
+among_more s (x ∷ xs) more (inr h) = inr (among_more s xs more h)
+
+-- and who joins them does
+own_among : (s : TaskState) (items : SeatItems) → 1 ≤ length items → s.items ≡ items → Among items s
+own_among s [] there is = absurd (omega arith)
+own_among s (x ∷ xs) there is = inl (sym (ap (λ l. numbered (own_number l) (own_view l)) is))
+
+among_behind : (s : TaskState) (items more : SeatItems) → Among more s → Among (items ++ more) s
+among_behind s [] more h = h
+among_behind s (x ∷ xs) more h = inr (among_behind s xs more h)
+
+pub joins_them : (s : TaskState) (items : SeatItems) → 1 ≤ length s.items → Among (items ++ s.items) s
+joins_them s items there = among_behind s items s.items (own_among s s.items there refl)
+
+pub is_among : (s : TaskState) → 1 ≤ length s.items → Among s.items s
+is_among s there = own_among s s.items there refl
+
+-- in the end its number has the view that it knew
+pub ends_as : (views : ℕ → View) (items : SeatItems) (s : TaskState) → HaveViews views items → Among items s → EndsAs views s
+ends_as views [] s have h = absurd h
+ends_as views (x ∷ xs) s have (inl is) = subst (λ y. views y.number ≡ y.view) is (have 0 x refl)
+ends_as views (x ∷ xs) s have (inr h) = ends_as views xs s (λ k y e. have (suc k) y e) h
+
+-- parts of those who end so are parts of those who end otherwise
+module _ (Ends Other : TaskState → Type 0) (on : (s : TaskState) → Ends s → Other s) where
+  pub remounted_on : (rounds : ℕ) → Remounted Ends rounds → Remounted Other rounds
+  remounted_on rounds r = record { first = r.first; last = r.last; begun = r.begun; did = r.did; own = r.own; ends = on r.last r.ends }
+
+  module _ {M N : Type 0} (link : M → TaskState → ℕ → N → N → Type 0) (meeting : M) where
+    pub wrote_on : (processors rounds writer : ℕ) (before after : N) → Wrote Ends link meeting processors rounds writer before after →
+        Wrote Other link meeting processors rounds writer before after
+    wrote_on processors rounds writer before after w =
+        record { first = w.first; last = w.last; begun = w.begun; did = w.did; own = w.own; ends = on w.last w.ends }
+
+    pub backed_on : (writers freezes : ℕ) (before after : N) → BackedUp Ends link meeting writers freezes before after →
+        BackedUp Other link meeting writers freezes before after
+    backed_on writers freezes before after b = record {
+      begins = b.begins;
+      made = b.made;
+      first = b.first;
+      last = b.last;
+      begun = b.begun;
+      creates = b.creates;
+      same = b.same;
+      did = b.did;
+      own = b.own;
+      ends = on b.last b.ends;
+    }
+
+-- one more of a list
+pub each_more : {A : Type 0} (Is : ℕ → A → Type 0) (n : ℕ) (xs : List A) (x : A) → EachFrom Is n xs → Is (n + length xs) x →
+    EachFrom Is n (xs ++ x ∷ [])
+each_more Is n [] x each is = let e : n + 0 ≡ n = omega arith in (subst (λ k. Is k x) e is, tt)
+each_more Is n (y ∷ xs) x each is =
+    let e : n + suc (length xs) ≡ suc n + length xs = omega arith in
+    (each.0, each_more Is (suc n) xs x each.1 (subst (λ k. Is k x) e is))
+
+-- the same, by its place
+pub each_next : {A : Type 0} (Is : ℕ → A → Type 0) (xs : List A) (x : A) (k : ℕ) → length xs ≡ k → EachFrom Is 0 xs → Is k x →
+    EachFrom Is 0 (xs ++ x ∷ [])
+each_next Is xs x k place each is =
+    let e : k ≡ 0 + length xs = omega (arith, place) in each_more Is 0 xs x each (subst (λ j. Is j x) e is)
+
+-- the last of a list, and those before it
+pub each_last : {A : Type 0} (Is : ℕ → A → Type 0) (n : ℕ) (xs : List A) (x : A) → EachFrom Is n (xs ++ x ∷ []) →
+    EachFrom Is n xs × Is (n + length xs) x
+each_last Is n [] x each = let e : n ≡ n + 0 = omega arith in (tt, subst (λ k. Is k x) e each.0)
+each_last Is n (y ∷ xs) x each =
+    let e : suc n + length xs ≡ n + suc (length xs) = omega arith in
+    let rest = each_last Is (suc n) xs x each.1 in ((each.0, rest.0), subst (λ k. Is k x) e rest.1)
+
+-- the same, of a list that is told by both
+pub each_popped : {A : Type 0} (Is : ℕ → A → Type 0) (all rest : List A) (x : A) → all ≡ rest ++ x ∷ [] → EachFrom Is 0 all →
+    EachFrom Is 0 rest × Is (length rest) x
+each_popped Is all rest x are each =
+    let parts = each_last Is 0 rest x (subst (EachFrom Is 0) are each) in
+    let e : 0 + length rest ≡ length rest = omega arith in (parts.0, subst (λ k. Is k x) e parts.1)
+
+-- what is so anyway is so where an answer is a reply
+pub on_ok : {A E : Type 0} {P : Type 0} (answer : Result A E) → P → OnOk answer P
+on_ok (Ok x) p = p
+on_ok (Err e) p = tt
+
+-- a task that was taken back by one that had these numbers
+abbrev pub TookBack : TaskState → TaskState → TaskState → Type 0
+TookBack old other new = new ≡ record old { items = old.items ++ other.items }
+
+pub stays_among : (old other new : TaskState) → TookBack old other new → (s : TaskState) → Among old.items s → Among new.items s
+stays_among old other new took s h =
+    subst (λ (t : TaskState). Among t.items s) (sym took) (among_more s old.items other.items h)
+
+pub comes_among : (old other new : TaskState) → TookBack old other new → 1 ≤ length other.items → Among new.items other
+comes_among old other new took there =
+    subst (λ (t : TaskState). Among t.items other) (sym took) (joins_them other old.items there)
+
+-- the remounter's part, once its task was taken back
+pub remounter_part : (rounds : ℕ) (first last old new : TaskState) → HasBegun 1 first → Repeats RemountRound rounds first last →
+    TookBack old last new → Remounted (Among new.items) rounds
+remounter_part rounds first last old new begun did took =
+    let stayed = remounts_stay rounds first last did in record {
+      first = first;
+      last = last;
+      begun = begun;
+      did = did;
+      own = stayed.own ∙ begun.own;
+      ends = comes_among old last new took (stayed.there begun.there);
+    }
+
+-- and a writer's
+pub writer_part : {M N : Type 0} (link : M → TaskState → ℕ → N → N → Type 0) (meeting : M) (processors rounds writer : ℕ) (before after : N)
+    (first last old new : TaskState) → HasBegun (writer + 2) first →
+    Repeats (WriterRound link meeting processors writer) rounds (first, before) (last, after) → TookBack old last new →
+    Wrote (Among new.items) link meeting processors rounds writer before after
+writer_part link meeting processors rounds writer before after first last old new begun did took =
+    let stayed = writes_stay link meeting processors writer rounds (first, before) (last, after) did in record {
+      first = first;
+      last = last;
+      begun = begun;
+      did = did;
+      own = stayed.own ∙ begun.own;
+      ends = comes_among old last new took (stayed.there begun.there);
+    }
+
+-- what a task has to give stays its to give
+pub gives_stay : (first last : TaskState) (from count : ℕ) → Stays first last → Gives first from count → Gives last from count
+gives_stay first last from count stayed gives = record {
+  there = stayed.there gives.there;
+  own = stayed.own ∙ gives.own;
+  idle = stayed.idle gives.idle;
+  later = λ k low high. ap (times k) stayed.spare ∙ gives.later k low high;
+  earlier = λ k low. ap (times k) stayed.spare ∙ gives.earlier k low;
+  nothing = subst HaveDoneNothing (sym stayed.spare) gives.nothing;
+}

@@ -1,0 +1,21 @@
+-- All threads that were joined are those of the last writers, and each of these has done its part.
+use Rattle.std.proofs.Common.{◌≡◌, ℕ, ◌+◌, ◌<◌, ◌≤◌, vec_len}
+use Rattle.vfs_gates.specs.TaskStates.{IsFrom, TaskState}
+use Rattle.gate_runs.specs.Meetings.{was_held}
+use Rattle.gate_runs.specs.Parts.{Among, EachFrom, Wrote}
+use Rattle.gate_runs.specs.Splitting.{HasBegun}
+use Rattle.gate_runs.proofs.runs.threads.join_writers.Given as goal
+
+abbrev pub invariant-loop-worker : goal.invariant-loop-worker
+invariant-loop-worker g l = record {
+  from : IsFrom l.task l.fn.gates;
+  homes : EachFrom
+      (λ writer w. (w.promise.gates.now ≡ l.fn.gates) × (w.promise.plan ≡ l.fn._plan) × (w.promise.meeting.now ≡ l.fn._meeting)
+      × (w.promise.writer ≡ writer) × HasBegun (writer + 2) w.promise.start.value) 0 l.workers.items;
+  others : (s : TaskState) → Among l.fn.task.items s → Among l.task.items s;
+  parts : (writer : ℕ) → vec_len l.workers ≤ writer → writer < vec_len l.fn.workers →
+      Wrote (Among l.task.items) (was_held g.M.Meeting.held) l.fn._meeting l.fn._plan.processors l.fn._plan.rounds writer tt tt;
+}
+
+abbrev pub decreases-loop-worker : goal.decreases-loop-worker
+decreases-loop-worker g l = vec_len l.workers

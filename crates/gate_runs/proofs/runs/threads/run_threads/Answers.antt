@@ -1,0 +1,29 @@
+-- each task has done its part, and stands among the numbers that were taken back
+use Rattle.std.proofs.Common.{arith, ◌∙◌}
+use Rattle.gate_runs.specs.Meetings.{was_frozen}
+use Rattle.gate_runs.specs.Parts.{Among}
+use Rattle.gate_runs.proofs.Staying.{backs_stay, is_among, remounted_on}
+use Rattle.gate_runs.proofs.Repeating.{backs_on}
+use Rattle.gate_runs.proofs.runs.threads.run_threads.Goals as goal
+
+pub returns-clause-all : goal.returns-clause-all
+returns-clause-all g c =
+    let first = c.start_writers.new.task in
+    let last = c.back_up.new.task in
+    let gives = c.in_ok-writers.ensures.gives in
+    let remounter = c.in_ok-join_remounter.ensures in
+    let writers = c.in_ok-join_writers.ensures in
+    let meeting = c.args.meeting.now in
+    let did = backs_on _ _ was_frozen meeting (λ task k old new was. tt) c.args.plan.freezes (first, tt) (last, tt) c.in_ok-copies.ensures.rounds in
+    let stayed = backs_stay was_frozen meeting c.args.plan.freezes (first, tt) (last, tt) did in
+    record {
+      first = first;
+      last = last;
+      same = c.in_ok-writers.ensures.same ∙ c.in_ok-remounter.ensures.same;
+      backup = did;
+      own = stayed.own ∙ gives.own;
+      ends = writers.others last (remounter.others last (is_among last (stayed.there gives.there)));
+      remounter = remounted_on (Among c.join_remounter.new.task.items) (Among c.join_writers.new.task.items) writers.others
+          c.args.plan.rounds remounter.part;
+      writers = λ writer lt. writers.parts writer (omega (arith, lt, c.in_ok-writers.ensures.all));
+    }

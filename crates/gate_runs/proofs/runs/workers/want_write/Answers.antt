@@ -1,0 +1,19 @@
+-- one refusal more, or another answer
+use Rattle.std.proofs.Common.{rules, ◌≡◌, ◌+◌, subst, ◌∙◌}
+use Rattle.std.specs.Prelude.{Err}
+use Rattle.access_model.specs.declared.errors.GateError.TheVariants.{ReadOnly}
+use Rattle.gate_world.specs.declared.operations.Op.TheVariants.{WantWrite}
+use Rattle.vfs_gates.specs.Runs.{Performs}
+use Rattle.gate_runs.proofs.Repeating.{one_more}
+use Rattle.gate_runs.specs.Rounds.{IsRefused}
+use Rattle.gate_runs.proofs.runs.workers.want_write.Goals as goal
+
+pub loop-preserved : goal.loop-preserved
+loop-preserved g c =
+    let before = c.loop.invariant in
+    let refused : c.want_write-answer.result ≡ Err ReadOnly = search rules in (
+      (c.want_write-answer.ensures.table ∙ before.0.0, c.want_write-answer.ensures.config ∙ before.0.1),
+      before.1 + 1,
+      one_more (λ k. IsRefused (WantWrite 0 c.args.cpu) ReadOnly) before.1 _ _ _ before.2
+          (subst (Performs (WantWrite 0 c.args.cpu) c.loop.task c.want_write-answer.new.self) refused c.want_write-answer.ensures),
+    )

@@ -1,0 +1,77 @@
+-- What each task of a run has done, from where it began, and how it stands at the end.
+use Rattle.std.specs.Prelude.{◌≡◌, ℕ, suc, ◌+◌, ◌-◌, ◌<◌, ◌≤◌, ◌⊎◌, List, [], ◌∷◌, length}
+use Rattle.gate_world.specs.declared.views.View.{View}
+use Rattle.vfs_gates.specs.Seating.{SeatItems, numbered}
+use Rattle.vfs_gates.specs.TaskStates.{TaskState, IsIdle, own_number, own_view, spare_of}
+use Rattle.gate_runs.specs.Meetings.{was_frozen, was_held}
+use Rattle.gate_runs.specs.Rounds.{Repeats, CreatesFiles, RemountRound, WriterRound, BackupRound}
+use Rattle.gate_runs.specs.Splitting.{HasBegun}
+
+-- each of a list, by its number from this one on
+abbrev pub EachFrom : {A : Type 0} → (ℕ → A → Type 0) → ℕ → List A → Type 0
+EachFrom Is n [] = Unit {0}
+EachFrom Is n (x ∷ xs) = Is n x × EachFrom Is (suc n) xs
+
+-- the task's own number stands among these, with its view
+abbrev pub Among : SeatItems → TaskState → Type 0
+Among [] s = ⊥
+Among (x ∷ xs) s = (x ≡ numbered (own_number s.items) (own_view s.items)) ⊎ Among xs s
+
+-- its own number has in the end the view that it knew
+abbrev pub EndsAs : (ℕ → View) → TaskState → Type 0
+EndsAs views s = views (own_number s.items) ≡ own_view s.items
+
+-- calls of its own leave a task its number, and the others that it has to give
+pub record Stays (first last : TaskState) : Type 0 where
+  pub config : last.config ≡ first.config
+  pub own : own_number last.items ≡ own_number first.items
+  pub spare : spare_of last.items ≡ spare_of first.items
+  pub idle : IsIdle first → IsIdle last
+  pub there : 1 ≤ length first.items → 1 ≤ length last.items
+
+-- What each task has done. `Ends` says of the last state of each how it stands at the end.
+module _ (Ends : TaskState → Type 0) where
+  -- the remounter: from its beginning on so many rounds, and nothing else
+  pub record Remounted (rounds : ℕ) : Type 0 where
+    pub first : TaskState
+    pub last : TaskState
+    pub begun : HasBegun 1 first
+    pub did : Repeats RemountRound rounds first last
+    pub own : own_number last.items ≡ 1
+    pub ends : Ends last
+
+  module _ {M N : Type 0} (link : M → TaskState → ℕ → N → N → Type 0) (meeting : M) where
+    -- a writer, the first being 0: from its beginning and these notes on so many rounds, and nothing else
+    pub record Wrote (processors rounds writer : ℕ) (before after : N) : Type 0 where
+      pub first : TaskState
+      pub last : TaskState
+      pub begun : HasBegun (writer + 2) first
+      pub did : Repeats (WriterRound link meeting processors writer) rounds (first, before) (last, after)
+      pub own : own_number last.items ≡ writer + 2
+      pub ends : Ends last
+
+    -- The backup: it has created a file for each writer, then given all other numbers away, which adds nothing to its list, and then frozen
+    -- so often, and nothing else.
+    pub record BackedUp (writers freezes : ℕ) (before after : N) : Type 0 where
+      pub begins : TaskState
+      pub made : TaskState
+      pub first : TaskState
+      pub last : TaskState
+      pub begun : HasBegun 0 begins
+      pub creates : CreatesFiles writers begins made
+      pub same : own_view first.items ≡ own_view made.items
+      pub did : Repeats (BackupRound link meeting) freezes (first, before) (last, after)
+      pub own : own_number last.items ≡ 0
+      pub ends : Ends last
+
+-- what all tasks of a run have done, the backup from this view on, with which it has given all numbers away
+pub record AllDid (Ends : TaskState → Type 0) {M : Type 0} (held : M → ℕ → ℕ → Type 0) (meeting : M) (tasks processors rounds freezes : ℕ)
+    (made : View) : Type 0 where
+  pub first : TaskState
+  pub last : TaskState
+  pub same : own_view first.items ≡ made
+  pub backup : Repeats (BackupRound was_frozen meeting) freezes (first, tt) (last, tt)
+  pub own : own_number last.items ≡ 0
+  pub ends : Ends last
+  pub remounter : Remounted Ends rounds
+  pub writers : (writer : ℕ) → writer < tasks - 2 → Wrote Ends (was_held held) meeting processors rounds writer tt tt
