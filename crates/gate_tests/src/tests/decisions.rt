@@ -51,7 +51,7 @@ fn shut_and_see<R: Wait, H: FsHooks>(
     let mut seen = None;
     for _ in rt.forever() {
         let hook = match task.wants_hook() {
-            Some(kind) => kind.ask(hooks, true),
+            Some(_) => hooks.reconfigure(true),
             None => Ok(()),
         };
         let step = task.step(gates, hook);
