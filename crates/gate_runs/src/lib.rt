@@ -6,4 +6,4 @@ mod meetings;
 mod runs;
 
 pub use meetings::Meeting;
-pub use runs::{Totals, run_with};
+pub use runs::{Plan, Totals, run_plan, run_with};

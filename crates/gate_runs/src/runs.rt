@@ -36,9 +36,9 @@ pub struct Totals {
     pub held: u64,
 }
 
-/// What a run is asked for, within its limits.
+/// What a run is asked for, within its limits: 3 to 64 tasks, 1 to 64 processors, 1 to 10,000 rounds, and at most 1,000 freezes.
 #[derive(Clone, Copy)]
-pub(crate) struct Plan {
+pub struct Plan {
     tasks: u8,
     processors: u8,
     rounds: u32,
@@ -47,8 +47,8 @@ pub(crate) struct Plan {
 }
 
 impl Plan {
-    /// Invalid where a number is out of its limits.
-    fn new(tasks: u8, processors: u8, rounds: u32, freezes: u32) -> Result<Plan, GateError>
+    /// Invalid just where a number is out of its limits, and never refused else.
+    pub fn new(tasks: u8, processors: u8, rounds: u32, freezes: u32) -> Result<Plan, GateError>
         ensures asked { IfOk result
             (λ p. (p.tasks ≡ tasks) × (p.processors ≡ processors) × (p.rounds ≡ rounds) × (p.freezes ≡ freezes)) }
         ensures within { OnOk result (MayRun tasks processors rounds freezes) }
@@ -126,8 +126,9 @@ fn close(gates: Gates, task: Task) -> Result<Closed, GateError>
     }
 }
 
-/// Makes the gates of a plan and their files, does it in threads, and closes them.
-fn run_plan<R: Threads + Wait + Sync, M: Meeting + Sync>(
+/// The same as `run_with`, of numbers that are within their limits: makes the gates and their files, does the plan in threads, and closes
+/// the gates. NoMemory, and any other refusal, as there; no number is at fault.
+pub fn run_plan<R: Threads + Wait + Sync, M: Meeting + Sync>(
     rt: &R,
     alloc: Global,
     plan: Plan,
