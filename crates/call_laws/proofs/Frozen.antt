@@ -1,6 +1,6 @@
 -- Where the file system is frozen nobody has charged anything, so the tree is sound and clean. It is sound, too, where nobody is at work.
 use Rattle.std.proofs.Common.{◌≡◌, ℕ, ◌<◌, Bool, refl, sym, subst, arith}
-use Rattle.std.specs.Prelude.{Option, Some, None, List, true}
+use Rattle.std.specs.Prelude.{Option, Some, None, Ok, Err, List, true}
 use Rattle.gated_tree.specs.Calls.{snapshot_role, mark_role}
 use Rattle.gated_tree.specs.Roles.{HasNoCharge}
 use Rattle.gated_tree.specs.declared.marks.Mark.{Mark}
@@ -58,7 +58,8 @@ snapshot_charges_none nodes values LoadsStage = record { blocks = refl; removed 
 snapshot_charges_none nodes values LoadsUsed = record { blocks = refl; removed = refl; children = λ d. refl }
 snapshot_charges_none nodes values (LoadsNode n) = record { blocks = refl; removed = refl; children = λ d. refl }
 snapshot_charges_none nodes values (LoadsKids n) = record { blocks = refl; removed = refl; children = λ d. refl }
-snapshot_charges_none nodes values (Releases answer) = record { blocks = refl; removed = refl; children = λ d. refl }
+snapshot_charges_none nodes values (Releases (Ok reply)) = record { blocks = refl; removed = refl; children = λ d. refl }
+snapshot_charges_none nodes values (Releases (Err refusal)) = record { blocks = refl; removed = refl; children = λ d. refl }
 
 -- nor does a page fault or a write-back
 mark_charges_none : (x : Mark) (s : MarkStep) → HasNoCharge (mark_role x s)

@@ -70,7 +70,7 @@ use Rattle.gate_world.specs.Rules.{
 }
 use Rattle.gate_world.specs.Shown.{shown, closing, stage_roles}
 use Rattle.gate_world.specs.Snapshots.{values_noted}
-use Rattle.gate_world.specs.Stages.{stage_role_of, snapshot_stage_role}
+use Rattle.gate_world.specs.Stages.{stage_role_of, stage_at_end, snapshot_stage_role}
 use Rattle.gate_world.specs.Trees.{tree_bounds, tree_roles, tree_role_of, is_sealed, is_bare_at}
 use Rattle.gate_world.specs.Views.{
   held_at,
@@ -212,10 +212,10 @@ node_step_role : (o : Option ℕ) → snapshot_stage_role (node_step o) ≡ Owni
 node_step_role (Some n) = refl
 node_step_role None = refl
 
--- the owner goes on to the children of the next node, or to its release
-kids_own : (o : Option ℕ) → stage_owns (snapshot_stage_role (kids_step o)) ≡ 1
-kids_own (Some n) = refl
-kids_own None = refl
+-- so are the children of the next node, and so it goes on to its release
+kids_step_role : (o : Option ℕ) → snapshot_stage_role (kids_step o) ≡ Owning (Some 4) None
+kids_step_role (Some n) = refl
+kids_step_role None = refl
 
 -- where `umount` was taken, nothing is to be done with the stage yet
 locked_out_role : (x : Snapshot) (b : Bool) → stage_role_of (later (snapshot_locked_out x b)) ≡ Aside
@@ -340,14 +340,6 @@ module _ (c : Config) (within : IsWithin c) (w : World) (good : IsGood c w) (t :
   here_knows : (s : SnapshotStep) → IsHere s → KnowsStage w.words.stage w.words.sb (snapshot_stage_role s)
   here_knows s e = subst (λ p. KnowsStage w.words.stage w.words.sb (stage_role_of p)) e ((good Stages).knows t lt)
 
-  -- past the last node it relies on nothing
-  kids_recalls : (n : ℕ) → IsHere (LoadsKids n) → (o : Option ℕ) →
-      stage_role_of (view_here (LoadsKids n)).phase ≡ snapshot_stage_role (kids_step o) →
-      Holds c (world_here (LoadsKids n)) Stages
-  kids_recalls n e (Some next) is =
-      recalls (LoadsKids n) e (Owning (Some 4) None) is (owners_alike (Some 4) None (Some 4) None) (here_knows (LoadsKids n) e) refl
-  kids_recalls n e None is = recalls (LoadsKids n) e (Owning None None) is (owners_alike (Some 4) None None None) (tt, tt) refl
-
   -- the rule of the stage after each event
   stage_law : (s : SnapshotStep) → IsHere s → Holds c (world_here s) Stages
   stage_law Locks e =
@@ -366,9 +358,11 @@ module _ (c : Config) (within : IsWithin c) (w : World) (good : IsGood c w) (t :
   stage_law (LoadsNode n) e =
       recalls (LoadsNode n) e (Owning (Some 4) None) (node_role x n (found_here (LoadsNode n))) (owners_alike (Some 4) None (Some 4) None)
       (here_knows (LoadsNode n) e) refl
-  stage_law (LoadsKids n) e = kids_recalls n e (node_after n x.nodes) refl
+  stage_law (LoadsKids n) e =
+      recalls (LoadsKids n) e (Owning (Some 4) None) (kids_step_role (node_after n x.nodes)) (owners_alike (Some 4) None (Some 4) None)
+      (here_knows (LoadsKids n) e) refl
   stage_law (Releases answer) e =
-      stages_after c w good t lt (words_here (Releases answer)) (view_here (Releases answer)) (ReleasesStage None None)
+      stages_after c w good t lt (words_here (Releases answer)) (view_here (Releases answer)) (ReleasesStage (stage_at_end answer) None)
       (ap stage_role_of e, moment_here (Releases answer) Aside refl)
 
   -- it has `remount` not set
@@ -406,7 +400,7 @@ module _ (c : Config) (within : IsWithin c) (w : World) (good : IsGood c w) (t :
       load_owner (LoadsNode n) e (umount_left (Node n))
       (later_owns x (LoadsNode n) (found_here (LoadsNode n)) ∙ ap stage_owns (node_role x n (found_here (LoadsNode n))) ∙ sym (ap owns e))
   owner_law (LoadsKids n) e own =
-      load_owner (LoadsKids n) e (umount_left (Kids n)) (kids_own (node_after n x.nodes) ∙ sym (ap owns e))
+      load_owner (LoadsKids n) e (umount_left (Kids n)) (ap stage_owns (kids_step_role (node_after n x.nodes)) ∙ sym (ap owns e))
   owner_law (Releases answer) e own =
       releases_umount c w good t lt (view_here (Releases answer)) (ap owns e) refl (later_remounts (Releases answer) e)
 

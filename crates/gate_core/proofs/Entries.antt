@@ -15,24 +15,31 @@ use Rattle.gate_world.specs.Fits.{Fits}
 use Rattle.gate_world.specs.Beginnings.{first_phase, view_refusal}
 use Rattle.gate_world.specs.Worlds.{World, Entry, Begins, Steps, after_begin, begin_of, after_step, step_of, value_at, happens, run}
 use Rattle.gate_world.specs.Rules.{IsGood, Fitting}
-use Rattle.gate_world.specs.Causes.{trail, HasCause}
+use Rattle.gate_world.specs.Causes.{trail, since_begun, HasCause}
 use Rattle.gate_frames.proofs.Keeps.{IsQuiet}
 use Rattle.gate_world.specs.KeptCauses.{CauseOf, Causes}
 use Rattle.gate_core.proofs.Layers.{phase_keeps, op_keeps}
+
+-- a task that is at an operation had begun it, so its worlds go on
+pub begun_on : (t : ℕ) (w : World) (earlier : List World) (phase : Phase) → (w.views t).phase ≡ Some phase →
+    since_begun t (w ∷ earlier) ≡ w ∷ since_begun t earlier
+begun_on t w earlier phase e = rw e refl
 
 module _ (c : Config) (w : World) (earlier : List World) (good : IsGood c w) (holds : Causes c w earlier) where
   -- a task that another entry leaves alone
   module _ (next : World) (after : IsGood c next) (t : ℕ) (lt : t < c.tasks) (quiet : IsQuiet c w next) where
     kept : (p : Option Phase) → Fits c t (held_at (w.views t)) (holds_level (w.views t)) p → (next.views t).phase ≡ p →
-        (w.views t).phase ≡ p → CauseOf c t w earlier p → CauseOf c t next (w ∷ earlier) p
+        (w.views t).phase ≡ p → CauseOf c t w (since_begun t earlier) p → CauseOf c t next (since_begun t (w ∷ earlier)) p
     kept None f e was h = tt
-    kept (Some phase) f e was h = (phase_keeps c phase).stays w next earlier after t f e was quiet h
+    kept (Some phase) f e was h =
+        subst (λ (ws : List World). CauseOf c t next ws (Some phase)) (sym (begun_on t w earlier phase was))
+        ((phase_keeps c phase).stays w next (since_begun t earlier) after t f e was quiet h)
 
-    pub alone : next.views t ≡ w.views t → CauseOf c t next (w ∷ earlier) (next.views t).phase
+    pub alone : next.views t ≡ w.views t → CauseOf c t next (since_begun t (w ∷ earlier)) (next.views t).phase
     alone same = kept (next.views t).phase
         (subst (λ (v : View). Fits c t (held_at (w.views t)) (holds_level (w.views t)) v.phase) (sym same) (good Fitting t lt)) refl
         (ap (λ (v : View). v.phase) (sym same))
-        (subst (λ (v : View). CauseOf c t w earlier v.phase) (sym same) (holds t lt))
+        (subst (λ (v : View). CauseOf c t w (since_begun t earlier) v.phase) (sym same) (holds t lt))
 
   same_causes : Causes c w (w ∷ earlier)
   same_causes t lt = alone w good t lt (record { mounts = λ m a b. refl; levels = λ i a b. refl }) refl
@@ -46,19 +53,21 @@ module _ (c : Config) (w : World) (earlier : List World) (good : IsGood c w) (ho
       elim (eqb_tells t u) [
         | inl h ↦
             let is : next.views u ≡ v = update_at w.views u v in
-            let there : CauseOf c u next (w ∷ earlier) (next.views u).phase =
-            subst (CauseOf c u next (w ∷ earlier)) (sym (ap (λ (x : View). x.phase) is))
-            ((phase_keeps c phase).causes w earlier good u lu hook e after (ap (λ (x : View). x.phase) is)
-            (subst (CauseOf c u w earlier) e (holds u lu))) in
-            subst (λ y. CauseOf c y next (w ∷ earlier) (next.views y).phase) (sym h.1) there
+            let own : CauseOf c u next (w ∷ since_begun u earlier) (next.views u).phase =
+            subst (CauseOf c u next (w ∷ since_begun u earlier)) (sym (ap (λ (x : View). x.phase) is))
+            ((phase_keeps c phase).causes w (since_begun u earlier) good u lu hook e after (ap (λ (x : View). x.phase) is)
+            (subst (CauseOf c u w (since_begun u earlier)) e (holds u lu))) in
+            let there : CauseOf c u next (since_begun u (w ∷ earlier)) (next.views u).phase =
+            subst (λ (ws : List World). CauseOf c u next ws (next.views u).phase) (sym (begun_on u w earlier phase e)) own in
+            subst (λ y. CauseOf c y next (since_begun y (w ∷ earlier)) (next.views y).phase) (sym h.1) there
         | inr h ↦ alone next after t lt (record {
           mounts = λ m a b. (phase_keeps c phase).quiet w good u lu hook m e a b;
           levels = λ i a b. (phase_keeps c phase).level_quiet w good u lu hook i e a b;
         }) (update_off w.views u v t h.1)
       ]
 
-  first_causes : (u : ℕ) (op : Op) (next : World) → CauseOf c u next (w ∷ earlier) (Some (first_phase c u op))
-  first_causes u op next = (op_keeps c op).cause u next (w ∷ earlier)
+  first_causes : (u : ℕ) (op : Op) (next : World) → CauseOf c u next (since_begun u (w ∷ earlier)) (Some (first_phase c u op))
+  first_causes u op next = (op_keeps c op).cause u next (since_begun u (w ∷ earlier))
 
   begin_causes : (u : ℕ) (op : Op) (r : Option GateError) → IsGood c (begin_of c w u op r) → Causes c (begin_of c w u op r) (w ∷ earlier)
   begin_causes u op (Some refused) after t lt = same_causes t lt
@@ -68,9 +77,9 @@ module _ (c : Config) (w : World) (earlier : List World) (good : IsGood c w) (ho
       elim (eqb_tells t u) [
         | inl h ↦
             let is : next.views u ≡ v = update_at w.views u v in
-            let there : CauseOf c u next (w ∷ earlier) (next.views u).phase =
-            subst (CauseOf c u next (w ∷ earlier)) (sym (ap (λ (x : View). x.phase) is)) (first_causes u op next) in
-            subst (λ y. CauseOf c y next (w ∷ earlier) (next.views y).phase) (sym h.1) there
+            let there : CauseOf c u next (since_begun u (w ∷ earlier)) (next.views u).phase =
+            subst (CauseOf c u next (since_begun u (w ∷ earlier))) (sym (ap (λ (x : View). x.phase) is)) (first_causes u op next) in
+            subst (λ y. CauseOf c y next (since_begun y (w ∷ earlier)) (next.views y).phase) (sym h.1) there
         | inr h ↦ alone next after t lt (record { mounts = λ m a b. refl; levels = λ i a b. refl }) (update_off w.views u v t h.1)
       ]
 
@@ -101,7 +110,10 @@ module _ (c : Config) (keeps : (w : World) → IsGood c w → (e : Entry) → Is
       record { rest = t.rest; is = t.is; causes = t.causes }
 
 -- what a phase's cause says at its refusal
-pub cause_tells : (c : Config) (t : ℕ) (w : World) (earlier : List World) (p : Option Phase) →
-    Fits c t (held_at (w.views t)) (holds_level (w.views t)) p → CauseOf c t w earlier p → HasCause c t (w ∷ earlier) p
-cause_tells c t w earlier None fits h = tt
-cause_tells c t w earlier (Some phase) fits h = (phase_keeps c phase).tells t w earlier fits h
+pub cause_tells : (c : Config) (t : ℕ) (w : World) (earlier : List World) (p : Option Phase) → (w.views t).phase ≡ p →
+    Fits c t (held_at (w.views t)) (holds_level (w.views t)) p → CauseOf c t w (since_begun t earlier) p →
+    HasCause c t (since_begun t (w ∷ earlier)) p
+cause_tells c t w earlier None e fits h = tt
+cause_tells c t w earlier (Some phase) e fits h =
+    subst (λ (ws : List World). HasCause c t ws (Some phase)) (sym (begun_on t w earlier phase e))
+    ((phase_keeps c phase).tells t w (since_begun t earlier) fits h)

@@ -7,6 +7,7 @@ pub mod Lists
 pub mod Snapshots
 pub mod Rests
 pub mod Between
+pub mod Standing
 pub mod Whole
 pub mod Runs
 pub mod LevelRuns
@@ -18,3 +19,4 @@ pub mod Opening
 pub mod Rows
 pub mod TreeRows
 pub mod KeptRows
+pub mod CauseRows

@@ -7,9 +7,10 @@ use Rattle.access_model.specs.declared.actions.Kind.TheVariants.{File}
 use Rattle.access_model.specs.declared.replies.Reply.TheVariants.{Node as NodeReply, Tree as TreeReply}
 use Rattle.access_model.specs.declared.errors.GateError.TheVariants.{NoSpace, NotDir, Invalid}
 use Rattle.access_model.specs.declared.actions.Holder.TheVariants.{User}
-use Rattle.gate_world.specs.declared.operations.Op.TheVariants.{WantWrite, DropWrite, Freeze, Create, Grow, Snapshot}
+use Rattle.gate_world.specs.declared.operations.Op.TheVariants.{WantWrite, DropWrite, Freeze, Thaw, Create, Grow, Snapshot}
 use Rattle.gate_world.specs.Worlds.{Entry, Begins, run, history, opening}
-use Rattle.gate_core.specs.declared.steps.Progress.TheVariants.{Done}
+use Rattle.gate_core.specs.declared.steps.Progress.TheVariants.{Done, Waiting}
+use Rattle.gate_world.specs.Snapshots.{values_noted}
 use Rattle.gate_core.specs.Answers.{step_answer}
 use Rattle.gate_core.proofs.Rows.{small, steps}
 
@@ -86,6 +87,13 @@ snapshots_taken : ((run small opening snapshots).views 2).snapshot ≡
       others = [];
     })
 snapshots_taken = refl
+
+-- it has loaded five words then, of which this is the file's, and a thaw that comes before its release waits
+snapshots_loaded : values_noted 2 ((run small opening snapshots).views 2).trace 2 ≡ 1 + 4294967296 * 3
+snapshots_loaded = refl
+
+snapshots_stands : (step_answer small (run small opening (snapshots ++ (Begins 1 (Thaw User) ∷ []))) 1 (Ok tt)).progress ≡ Waiting
+snapshots_stands = refl
 
 -- and its last step says so
 snapshots_end : (step_answer small (run small opening snapshots) 2 (Ok tt)).progress ≡ Done (Ok TreeReply)

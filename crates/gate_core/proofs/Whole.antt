@@ -12,7 +12,7 @@ use Rattle.gate_world.specs.declared.config.Config.{Config}
 use Rattle.gate_world.specs.Configs.{IsWithin, model_limits}
 use Rattle.gate_world.specs.Worlds.{World, Entry, opening, happens, run}
 use Rattle.gate_world.specs.Rules.{IsGood, Fitting}
-use Rattle.gate_world.specs.Headline.{world_after, actions_so_far, MovesTheModel, IsOneRun, NobodyIsInside, SumsHold, IdleSumsHold, NothingIsLeft, FreezeIsUnderWay, HoldersAreTold, FrozenTreeIsWhole, ViewTells, OperationsAreKept}
+use Rattle.gate_world.specs.Headline.{world_after, actions_so_far, MovesTheModel, IsOneRun, NobodyIsInside, SumsHold, IdleSumsHold, NothingIsLeft, FreezeIsUnderWay, HoldersAreTold, FrozenTreeIsWhole, SnapshotsStand, ViewTells, OperationsAreKept}
 use Rattle.gate_world.specs.Courses.{course_of, IsTraced, FollowsOrder, AllTraced}
 use Rattle.gate_world.specs.Traces.{Tells, actions_of}
 use Rattle.gate_world.specs.declared.operations.Op.{Op}
@@ -28,11 +28,12 @@ use Rattle.gate_frames.proofs.Traced.{opening_traced, entry_keeps}
 use Rattle.gate_frames.proofs.MayHolds.{events_may_be}
 use Rattle.call_laws.proofs.Frozen.{frozen_whole}
 use Rattle.gate_world.specs.Waits.{WaitsForAnother, EachWaitHasCulprit, HasCulpritAmong}
-use Rattle.gate_world.specs.Causes.{HasCause, RefusalsHaveCauses}
-use Rattle.gate_core.proofs.Entries.{TrailHolds, trail_holds, cause_tells}
+use Rattle.gate_world.specs.Causes.{since_begun, HasCause, RefusalsHaveCauses}
+use Rattle.gate_core.proofs.Entries.{TrailHolds, trail_holds, cause_tells, begun_on}
 use Rattle.gate_core.proofs.Schedule.{opening_good, opening_shown, happens_keeps, run_keeps, gate_sums, idle_sums}
 use Rattle.gate_core.proofs.Lists.{run_lists}
 use Rattle.gate_core.proofs.Snapshots.{run_moments}
+use Rattle.gate_core.proofs.Standing.{snapshots_stand}
 use Rattle.gate_core.proofs.Rests.{at_rest, a_freeze_is_under_way}
 use Rattle.gate_core.proofs.Between.{AllTold, entry_told, opening_told, holders_told}
 
@@ -61,8 +62,8 @@ module _ (c : Config) (lim : IsWithin c) where
   pub whole_causes : (es : List Entry) → RefusalsHaveCauses c es
   whole_causes es t lt =
       let h : TrailHolds c (λ w good e. (happens_keeps c lim w good e).0) opening [] es = whole_trail es in
-      subst (λ (ws : List World). HasCause c t ws ((world_after c es).views t).phase) (sym h.is)
-      (cause_tells c t (world_after c es) h.rest ((world_after c es).views t).phase (whole_rule es Fitting t lt)
+      subst (λ (ws : List World). HasCause c t (since_begun t ws) ((world_after c es).views t).phase) (sym h.is)
+      (cause_tells c t (world_after c es) h.rest ((world_after c es).views t).phase refl (whole_rule es Fitting t lt)
       (h.causes t lt))
 
   pub whole_sums : (es : List Entry) → SumsHold c (world_after c es)
@@ -90,13 +91,18 @@ module _ (c : Config) (lim : IsWithin c) where
   pub whole_trees : (es : List Entry) → FrozenTreeIsWhole c (world_after c es)
   whole_trees es = frozen_whole c lim (world_after c es) (whole_rule es)
 
+  pub whole_snapshots : (es : List Entry) → SnapshotsStand c (world_after c es)
+  whole_snapshots es = snapshots_stand c (world_after c es) (whole_rule es)
+
   pub whole_waits : (es : List Entry) → EachWaitHasCulprit c es
   whole_waits es t phase again hook lt at e =
       let h : TrailHolds c (λ w good e. (happens_keeps c lim w good e).0) opening [] es = whole_trail es in
-      let cause : CauseOf c t (world_after c es) h.rest (Some phase) = subst (CauseOf c t (world_after c es) h.rest) at (h.causes t lt) in
-      subst (λ (ws : List World). HasCulpritAmong c ws t phase) (sym h.is)
-      (subst (λ (s : Next Phase). WaitsForAnother c (world_after c es) h.rest t phase s) e
-      ((phase_keeps c phase).waits lim (world_after c es) h.rest (whole_rule es) t lt hook at cause))
+      let since : List World = since_begun t h.rest in
+      let cause : CauseOf c t (world_after c es) since (Some phase) = subst (CauseOf c t (world_after c es) since) at (h.causes t lt) in
+      subst (λ (ws : List World). HasCulpritAmong c ws t phase)
+      (sym (ap (since_begun t) h.is ∙ begun_on t (world_after c es) h.rest phase at))
+      (subst (λ (s : Next Phase). WaitsForAnother c (world_after c es) since t phase s) e
+      ((phase_keeps c phase).waits lim (world_after c es) since (whole_rule es) t lt hook at cause))
 
   -- an operation that was refused has added what its refusals add
   refused_adds : (op : Op) (trace : List Traced) (comes : Next Phase) (added : List Action) (refusal : GateError) →

@@ -10,6 +10,6 @@ pub mod steps;
 
 pub use gate_world::{Accesses, Config, Op};
 pub use machine::{Core, words_at_start};
-pub use schedules::every_schedule;
+pub use schedules::{every_schedule, every_schedule_keeps_the_rule};
 pub use seats::Seat;
 pub use steps::{Progress, Step};

@@ -5,7 +5,7 @@ ghost use Rattle.gate_world.specs.declared.config.Config.{Config};
 ghost use Rattle.gate_world.specs.Configs.{IsWithin};
 ghost use Rattle.gate_world.specs.Worlds.{Entry};
 ghost use Rattle.gate_world.specs.Rules.{IsGood};
-ghost use Rattle.gate_world.specs.Headline.{world_after, MovesTheModel, IsOneRun, NobodyIsInside, SumsHold, IdleSumsHold, NothingIsLeft, FreezeIsUnderWay, HoldersAreTold, FrozenTreeIsWhole, OperationsAreKept};
+ghost use Rattle.gate_world.specs.Headline.{world_after, MovesTheModel, IsOneRun, NobodyIsInside, SumsHold, IdleSumsHold, NothingIsLeft, FreezeIsUnderWay, HoldersAreTold, FrozenTreeIsWhole, SnapshotsStand, OperationsAreKept};
 ghost use Rattle.gate_world.specs.Causes.{RefusalsHaveCauses};
 ghost use Rattle.gate_world.specs.LevelRuns.{LevelsAreRuns};
 ghost use Rattle.gate_world.specs.Waits.{EachWaitHasCulprit};
@@ -33,14 +33,17 @@ ghost use Rattle.progress_laws.specs.Ranks.{most_events_to_reply};
 ///   model; and whoever has loaded or stored it has it so until it gives `umount` back.
 /// - `trees`: at SB_FREEZE_COMPLETE the tree is sound and clean, whatever is under way: the blocks charged are those of all files, the
 ///   children charged to each node are those that it has, each parent is a directory, and no file is dirty.
+/// - `snapshots`: from its load of that stage to its release a snapshot stands in a frozen tree: the stage stays, and each word of the tree
+///   that it has loaded is still what it was, but for how many tasks have files open.
 /// - `levels`: what a schedule makes of each freeze level is a run of it, so its grace periods are kept: a writer that is past one had a whole
 ///   one since it entered, from there on nobody is on the level's fast path until its state has been GP_IDLE again, and it becomes so only
 ///   from GP_EXIT, by a callback, with a whole grace period after its claim.
 /// - `operations`: each task's events follow the order of its operation; one that replied has added exactly its stated actions, a
 ///   refusal has its cause among its events and leaves what the task held, waiting is reported only where it may be, and an operation
 ///   that waits for nobody has few events.
-/// - `causes`: a change is refused as busy only where something was counted at that mount in some world from the load of its sum's
-///   first word to the load of its last, and so a remount, at some mount, or where the stage was not 0 when it looked; a freeze is busy only
+/// - `causes`: always in a world since the operation began: a change is refused as busy only where something was counted at that mount in
+///   some world from the load of its sum's first word to the load of its last, and so a remount, at the mount of its last sum, or where the
+///   stage was not 0 when it looked; a freeze is busy only
 ///   where another was under way, or its holder held one, when it last looked, a thaw invalid only where all wasn't frozen, or its holder held
 ///   none, and a snapshot only where all wasn't frozen; a want is refused as read-only only where the shown model had
 ///   that mount read-only at one of its loads; a start that doesn't wait is refused only where another task had the level closed, or the file
@@ -59,8 +62,6 @@ ghost use Rattle.progress_laws.specs.Ranks.{most_events_to_reply};
 ///   task keeps a freeze that is under way.
 /// - `kept_stays`: and that is exact: where each operation under way is kept, no event of one of them is a reply, and all stay kept, as long as
 ///   no hook fails.
-/// - `rule`: the rule of words and views, from which the rest follows: counts, holdings, the owner's words, the stage, the tree and its
-///   marks, mounts, levels, sections, who holds a freeze.
 ///
 /// It takes nothing, does nothing and answers nothing: its contract is the theorem. `Core` is bound to the same worlds by `Shows`.
 pub fn every_schedule()
@@ -73,6 +74,7 @@ pub fn every_schedule()
     ensures freezes { (c : Config) → IsWithin c → (entries : List Entry) → FreezeIsUnderWay c (world_after c entries) }
     ensures holders { (c : Config) → IsWithin c → (entries : List Entry) → HoldersAreTold c (world_after c entries) }
     ensures trees { (c : Config) → IsWithin c → (entries : List Entry) → FrozenTreeIsWhole c (world_after c entries) }
+    ensures snapshots { (c : Config) → IsWithin c → (entries : List Entry) → SnapshotsStand c (world_after c entries) }
     ensures levels { (c : Config) → IsWithin c → (entries : List Entry) → LevelsAreRuns c entries }
     ensures operations { (c : Config) → IsWithin c → (entries : List Entry) (t : ℕ) → OperationsAreKept c entries t }
     ensures causes { (c : Config) → IsWithin c → (entries : List Entry) → RefusalsHaveCauses c entries }
@@ -80,5 +82,11 @@ pub fn every_schedule()
     ensures progress { (c : Config) → IsWithin c → (entries : List Entry) → NobodyIsDeadlocked c (most_events_to_reply c) entries }
     ensures replies { (c : Config) → IsWithin c → (entries : List Entry) → RepliesOrIsFrozen c (most_events_to_reply c) entries }
     ensures kept_stays { (c : Config) → IsWithin c → (entries : List Entry) → KeptStaysKept c entries }
+{}
+
+/// The rule from which the headline follows, in every world of every schedule, as above: counts, holdings, the owner's words, the stage, the
+/// tree and its marks, mounts, levels, sections, who holds a freeze, open files. It is told apart, since who relies on the headline needn't
+/// read it: it speaks of what each phase has found and is about to do.
+pub fn every_schedule_keeps_the_rule()
     ensures rule { (c : Config) → IsWithin c → (entries : List Entry) → IsGood c (world_after c entries) }
 {}

@@ -185,7 +185,8 @@ module _ (n : ℕ) where
   snapshot_frees nodes values LoadsUsedWord = refl
   snapshot_frees nodes values (LoadsNodeWord n) = refl
   snapshot_frees nodes values (LoadsKids n) = refl
-  snapshot_frees nodes values (Releases answer) = refl
+  snapshot_frees nodes values (Releases (Ok reply)) = refl
+  snapshot_frees nodes values (Releases (Err refusal)) = refl
 
   tree_frees : (values : ℕ → ℕ) (x : TreePhase) → frees n (phase_role values x) ≡ 0
   tree_frees values (Creates x) = create_frees x x.step

@@ -1,7 +1,7 @@
 -- What a call at the tree may do: nobody else is in its way, and the model gives it leave.
 use Rattle.std.proofs.Common.{ap, ◌≡◌, ℕ, ◌<◌, ◌≤◌, inl, inr, refl, arith, Bool, true, false, subst, leb-true}
 use Rattle.std.proofs.lemmas.Bool.{cases_Bool}
-use Rattle.std.specs.Prelude.{◌==◌, Option, Some, None, List, if◌then◌else◌, nat_le}
+use Rattle.std.specs.Prelude.{◌==◌, Option, Some, None, Ok, Err, List, if◌then◌else◌, nat_le}
 use Rattle.finite_sums.proofs.Totals.{total_at, total_none}
 use Rattle.access_model.specs.declared.actions.Action.{Action}
 use Rattle.access_model.specs.Actions.{IsWriter}
@@ -151,7 +151,8 @@ snapshot_clears nodes values LoadsStage = refl
 snapshot_clears nodes values LoadsUsedWord = refl
 snapshot_clears nodes values (LoadsNodeWord n) = refl
 snapshot_clears nodes values (LoadsKids n) = refl
-snapshot_clears nodes values (Releases answer) = refl
+snapshot_clears nodes values (Releases (Ok reply)) = refl
+snapshot_clears nodes values (Releases (Err refusal)) = refl
 
 -- a clearing on its own there is not
 tree_clears : (c : Config) (held : ℕ → ℕ) (levels : ℕ → Bool) (values : ℕ → ℕ) (x : TreePhase) → TreeAccess c held levels x →
@@ -219,7 +220,8 @@ snapshot_bares nodes values LoadsStage = refl
 snapshot_bares nodes values LoadsUsedWord = refl
 snapshot_bares nodes values (LoadsNodeWord n) = refl
 snapshot_bares nodes values (LoadsKids n) = refl
-snapshot_bares nodes values (Releases answer) = refl
+snapshot_bares nodes values (Releases (Ok reply)) = refl
+snapshot_bares nodes values (Releases (Err refusal)) = refl
 
 tree_bares : (values : ℕ → ℕ) (x : TreePhase) → is_bare (phase_role values x) ≡ 0
 tree_bares values (Creates x) = create_bares x x.step

@@ -1,7 +1,7 @@
 -- The tree of a world, as the laws of the tree have it: what an event of a task leaves of it, and what it shows.
 use Rattle.std.proofs.Common.{◌≡◌, ℕ, suc, ◌<◌, ◌≤◌, refl, sym, ap, ◌∙◌, subst, inl, inr, arith, Bool, true≢false, zero}
 use Rattle.std.proofs.lemmas.Bool.Decides.{eqb_tells}
-use Rattle.std.specs.Prelude.{Option, Some, None, List, false, nat_lt}
+use Rattle.std.specs.Prelude.{Option, Some, None, Ok, Err, List, false, nat_lt}
 use Rattle.finite_sums.specs.Sums.{update}
 use Rattle.finite_sums.proofs.Totals.{update_map, total_none}
 use Rattle.access_model.specs.States.{is_dirty, IsDirectory}
@@ -246,7 +246,8 @@ module _ (c : Config) (w : World) (good : IsGood c w) where
   snapshot_unread x SnapshotLoadsUsed values apart knows = refl
   snapshot_unread x (SnapshotLoadsNode n) values apart knows = absurd (apart knows.0)
   snapshot_unread x (SnapshotLoadsKids n) values apart knows = absurd (apart knows.0)
-  snapshot_unread x (SnapshotReleases answer) values apart knows = refl
+  snapshot_unread x (SnapshotReleases (Ok reply)) values apart knows = absurd (apart knows.0)
+  snapshot_unread x (SnapshotReleases (Err refusal)) values apart knows = refl
 
   create_unread : (x : Create) (s : CreateStep) → words_read (create_role x s) ≡ 0
   create_unread x LoadsDirectory = refl

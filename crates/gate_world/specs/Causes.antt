@@ -1,5 +1,5 @@
 -- Moments of a schedule: what stood in the world when a refusal's cause was read.
-use Rattle.std.specs.Prelude.{◌≡◌, ℕ, ◌<◌, ◌==◌, ◌&&◌, ◌||◌, ◌⊎◌, not, nat_lt, Bool, true, false, if◌then◌else◌, Option, Some, None, Err, List, [], ◌∷◌}
+use Rattle.std.specs.Prelude.{◌≡◌, ℕ, ◌<◌, ◌==◌, ◌&&◌, ◌||◌, ◌⊎◌, not, nat_lt, Bool, true, false, if◌then◌else◌, Option, Some, None, is_some, Err, List, [], ◌∷◌}
 use Rattle.finite_sums.specs.Sums.{total}
 use Rattle.access_model.specs.declared.errors.GateError.TheVariants.{Busy, ReadOnly, Invalid, NoEntry, NotDir, IsDir}
 use Rattle.mount_counts.specs.declared.phases.MountPhase.TheVariants.{Want as Wants, Drop as Drops, Change as Changes}
@@ -71,6 +71,11 @@ trail c earlier w (e ∷ es) = trail c (w ∷ earlier) (happens c w e) es
 -- the same from the opening on
 abbrev pub trail_of : Config → List Entry → List World
 trail_of c entries = trail c [] opening entries
+
+-- of these worlds, the newest first, those since a task began the operation that it is at: before it the task was idle
+abbrev pub since_begun : ℕ → List World → List World
+since_begun t [] = []
+since_begun t (w ∷ earlier) = if is_some (w.views t).phase then w ∷ since_begun t earlier else []
 
 -- the next event of a want is a load of the read-only question
 abbrev pub want_asks : WantStep → Bool
@@ -252,6 +257,20 @@ abbrev pub moments_of_sum : ℕ → List World → List World
 moments_of_sum t [] = []
 moments_of_sum t (w ∷ earlier) = sum_worlds w (words_read (w.views t).phase) (moments_of_sum t earlier)
 
+-- the mount of which the next event of a remount loads a count
+abbrev pub remount_sums : RemountStep → Option ℕ
+remount_sums (RemountSums m held sum) = Some m
+remount_sums step = None
+
+abbrev pub mount_summed : Option Phase → Option ℕ
+mount_summed (Some (Remounts x)) = remount_sums x.step
+mount_summed phase = None
+
+-- in each of these worlds the next event of a remount is a load of a count of this mount
+abbrev pub AreOfMount : ℕ → ℕ → List World → Type 0
+AreOfMount t m [] = Unit {0}
+AreOfMount t m (w ∷ earlier) = (mount_summed (w.views t).phase ≡ Some m) × AreOfMount t m earlier
+
 -- what is held and sought at a mount
 abbrev pub all_counted : Config → ℕ → World → ℕ
 all_counted c m w = total c.tasks (λ t. counted (at_mount m (w.views t)))
@@ -270,9 +289,10 @@ abbrev pub was_inside : Config → ℕ → List World → Bool
 was_inside c i [] = false
 was_inside c i (w ∷ earlier) = nat_lt 0 (all_inside c i w) || was_inside c i earlier
 
--- something was counted at some mount while the words of a task's last sum were loaded
+-- a remount's last sum is that of some mount, at which something was counted while the sum's words were loaded
 abbrev pub SomeWasCounted : Config → ℕ → List World → Type 0
-SomeWasCounted c t worlds = (m : ℕ) × (m < c.mounts) × (was_counted c m (moments_of_sum t worlds) ≡ true)
+SomeWasCounted c t worlds =
+    (m : ℕ) × (m < c.mounts) × AreOfMount t m (moments_of_sum t worlds) × (was_counted c m (moments_of_sum t worlds) ≡ true)
 
 -- the same of a write access that is refused as read-only, or waits for level 1
 abbrev pub WriteHasCause : Config → ℕ → List World → WritePhase → Type 0
@@ -388,6 +408,7 @@ HasCause c t worlds (Some (Thaws x)) = ThawHasCause c t worlds x.holder x.step
 HasCause c t worlds (Some (Trees phase)) = TreeHasCause c t worlds phase
 HasCause c t worlds (Some (Closes phase)) = CloseHasCause c t worlds phase
 
--- so it is of every task, after a schedule
+-- so it is of every task, after a schedule, among the worlds since it began its operation
 abbrev pub RefusalsHaveCauses : Config → List Entry → Type 0
-RefusalsHaveCauses c entries = (t : ℕ) → t < c.tasks → HasCause c t (trail_of c entries) ((run c opening entries).views t).phase
+RefusalsHaveCauses c entries =
+    (t : ℕ) → t < c.tasks → HasCause c t (since_begun t (trail_of c entries)) ((run c opening entries).views t).phase

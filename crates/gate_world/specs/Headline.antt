@@ -26,7 +26,7 @@ use Rattle.cpu_words.specs.declared.names.WordName.TheVariants.{Holders}
 use Rattle.cpu_words.specs.declared.events.Touch.{Touch}
 use Rattle.cpu_words.specs.declared.events.Touch.TheVariants.{Store}
 use Rattle.gate_world.specs.declared.work.Phase.{Phase}
-use Rattle.gate_world.specs.declared.work.Phase.TheVariants.{Freezes, Thaws}
+use Rattle.gate_world.specs.declared.work.Phase.TheVariants.{Freezes, Thaws, Trees}
 use Rattle.gate_world.specs.declared.views.Traced.{Traced}
 use Rattle.gate_world.specs.Found.{stores_stage, newest}
 use Rattle.gate_world.specs.Owners.{last_left}
@@ -36,6 +36,11 @@ use Rattle.gate_world.specs.Rules.{at_mount, owns, Moves}
 use Rattle.gate_world.specs.Courses.{course_of, IsTraced}
 use Rattle.gate_world.specs.Traces.{Tells, IsShort, most_events}
 use Rattle.gated_tree.specs.Trees.{IsSound, IsClean}
+use Rattle.gated_tree.specs.Calls.{words_loaded}
+use Rattle.gated_tree.specs.Roles.{seen_as, tree_word}
+use Rattle.gated_tree.specs.declared.phases.TreePhase.TheVariants.{Snapshot as Snapshots}
+use Rattle.gated_tree.specs.declared.snapshots.Snapshot.{Snapshot}
+use Rattle.gate_world.specs.Snapshots.{values_noted}
 
 -- the world after a schedule, and the actions that its events added, the newest first
 abbrev pub world_after : Config → List Entry → World
@@ -93,6 +98,14 @@ TreeIsClean c w = IsClean c.nodes (shown c w).tree
 -- At stage 4 the tree is sound and clean: nobody is under way who has charged anything, or could make a file dirty.
 abbrev pub FrozenTreeIsWhole : Config → World → Type 0
 FrozenTreeIsWhole c w = w.words.stage ≡ 4 → TreeIsSound c w × TreeIsClean c w
+
+-- From its load of stage 4 to its release a snapshot stands in a frozen tree: each word of the tree that it has loaded is still what it
+-- was, but for how many tasks have files open.
+abbrev pub SnapshotsStand : Config → World → Type 0
+SnapshotsStand c w = (t : ℕ) (x : Snapshot) (words : ℕ) → t < c.tasks → (w.views t).phase ≡ Some (Trees (Snapshots x)) →
+    words_loaded x.nodes x.step ≡ Some words → (w.words.stage ≡ 4) ×
+    ((i : ℕ) → i < words → seen_as c.nodes i (values_noted x.nodes (w.views t).trace i) ≡
+    seen_as c.nodes i (tree_word c.nodes w.words.used w.words.node w.words.kids i))
 
 -- the event stores that nobody holds a freeze
 abbrev pub stores_nobody : WordName → Touch → Bool

@@ -28,7 +28,7 @@ use Rattle.freeze_levels.specs.declared.freezes.FreezeStep.TheVariants.{Closes, 
 use Rattle.freeze_levels.specs.declared.thaws.ThawStep.{ThawStep}
 use Rattle.freeze_levels.specs.declared.thaws.ThawStep.TheVariants.{Releases as ThawReleases}
 use Rattle.gate_world.specs.Worlds.{World}
-use Rattle.gate_world.specs.Causes.{last_question, was_read_only, last_look, was_frozen, was_busy, was_unheld, was_incomplete, moments_of_sum, was_inside, was_counted, SomeWasCounted, last_asked, WasClosed, was_removed, last_removed}
+use Rattle.gate_world.specs.Causes.{since_begun, AreOfMount, last_question, was_read_only, last_look, was_frozen, was_busy, was_unheld, was_incomplete, moments_of_sum, was_inside, was_counted, SomeWasCounted, last_asked, WasClosed, was_removed, last_removed}
 use Rattle.gated_tree.specs.declared.phases.TreePhase.{TreePhase}
 use Rattle.gated_tree.specs.declared.phases.TreePhase.TheVariants.{Snapshot as Snapshots}
 use Rattle.gated_tree.specs.declared.snapshots.SnapshotStep.{SnapshotStep}
@@ -62,7 +62,7 @@ module _ (c : Config) (t : ℕ) (w : World) (earlier : List World) where
 
   -- a remount: its sum is as a change's, and where it gives up, something was counted
   abbrev pub RemountCause : RemountStep → Type 0
-  RemountCause (RemountSums m held sum) = ChangeCause m (Sums sum)
+  RemountCause (RemountSums m held sum) = ChangeCause m (Sums sum) × AreOfMount t m (moments_of_sum t (w ∷ earlier))
   RemountCause (GivesUp m held) = SomeWasCounted c t (w ∷ earlier)
   RemountCause (LeavesHolds held) = was_removed (last_removed t (w ∷ earlier)) ≡ true
   RemountCause (RemountReleases answer) = RemountAnswerCause answer
@@ -127,6 +127,6 @@ module _ (c : Config) (t : ℕ) (w : World) (earlier : List World) where
   CauseOf (Some (Closes x)) = CloseCause x
   CauseOf phase = Unit {0}
 
--- and of every task
+-- and of every task, since it began its operation
 abbrev pub Causes : Config → World → List World → Type 0
-Causes c w earlier = (t : ℕ) → t < c.tasks → CauseOf c t w earlier (w.views t).phase
+Causes c w earlier = (t : ℕ) → t < c.tasks → CauseOf c t w (since_begun t earlier) (w.views t).phase

@@ -8,6 +8,7 @@ pub mod Snapshots
 pub mod Views
 pub mod Owners
 pub mod Operations
+pub mod Claims
 pub mod Accesses
 pub mod Beginnings
 pub mod Worlds

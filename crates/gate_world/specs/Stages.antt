@@ -1,5 +1,7 @@
 -- What a task is doing with the stage, the superblock's flags and `remount`, by its phase.
-use Rattle.std.specs.Prelude.{ℕ, ◌-◌, nat_lt, true, false, Option, Some, None}
+use Rattle.std.specs.Prelude.{ℕ, ◌-◌, nat_lt, true, false, Option, Some, None, Result, Ok, Err}
+use Rattle.access_model.specs.declared.errors.GateError.{GateError}
+use Rattle.access_model.specs.declared.replies.Reply.{Reply}
 use Rattle.mount_counts.specs.declared.remounts.RemountStep.{RemountStep}
 use Rattle.mount_counts.specs.declared.remounts.RemountStep.TheVariants.{
   Locks as RemountLocks,
@@ -114,11 +116,16 @@ thaw_stage_role SetsUnfrozen = Owning (Some 4) (Some 0)
 thaw_stage_role (ThawReopens u) = reopening_role u.level u.step
 thaw_stage_role (ThawReleases answer) = Owning None None
 
--- a snapshot: from its load of stage 4 on it relies on that
+-- the stage on which a snapshot relies that ends with this answer
+abbrev pub stage_at_end : Result Reply GateError → Option ℕ
+stage_at_end (Ok reply) = Some 4
+stage_at_end (Err refusal) = None
+
+-- a snapshot: from its load of stage 4 on it relies on that, up to its release
 abbrev pub snapshot_stage_role : SnapshotStep → StageRole
 snapshot_stage_role SnapshotLocks = Aside
 snapshot_stage_role SnapshotLoadsStage = Owning None None
-snapshot_stage_role (SnapshotReleases answer) = Owning None None
+snapshot_stage_role (SnapshotReleases answer) = Owning (stage_at_end answer) None
 snapshot_stage_role step = Owning (Some 4) None
 
 -- no other call at the tree has to do with the stage

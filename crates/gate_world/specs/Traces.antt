@@ -9,19 +9,19 @@ use Rattle.gate_world.specs.declared.config.Config.{Config}
 use Rattle.gate_world.specs.declared.operations.Op.{Op}
 use Rattle.gate_world.specs.declared.work.Phase.{Phase}
 use Rattle.gate_world.specs.declared.views.Traced.{Traced}
-use Rattle.gate_world.specs.Operations.{row}
+use Rattle.gate_world.specs.Claims.{claims}
 
 -- what an operation with this answer and trace has added
 abbrev pub actions_of : Op → Result Reply GateError → List Traced → List Action
-actions_of op answer trace = (row op).actions answer trace
+actions_of op answer trace = (claims op).actions answer trace
 
 -- a refusal has its cause in the trace
 abbrev pub IsHonest : Config → Op → GateError → List Traced → Type 0
-IsHonest c op refusal trace = (row op).IsHonest c refusal trace
+IsHonest c op refusal trace = (claims op).IsHonest c refusal trace
 
 -- a reply says what the trace found
 abbrev pub IsTold : Op → Reply → List Traced → Type 0
-IsTold op reply trace = (row op).IsTold reply trace
+IsTold op reply trace = (claims op).IsTold reply trace
 
 -- an answer is honest where it is a reply that says what was found, or a refusal that has its cause
 abbrev pub IsHonestAnswer : Config → Op → Result Reply GateError → List Traced → Type 0
@@ -30,7 +30,7 @@ IsHonestAnswer c op (Err refusal) trace = IsHonest c op refusal trace
 
 -- the most events of an operation, where it waits for nobody
 abbrev pub most_events : Config → Op → Option ℕ
-most_events c op = (row op).most_events c
+most_events c op = (claims op).most_events c
 
 -- a trace has no more events than that, where there is a bound
 abbrev pub IsShort : Option ℕ → List Traced → Type 0
@@ -39,7 +39,7 @@ IsShort (Some most) trace = length trace ≤ most
 
 -- an operation may report that it waits after these events
 abbrev pub MayWait : Config → Op → List Traced → Type 0
-MayWait c op trace = (row op).MayWait c trace
+MayWait c op trace = (claims op).MayWait c trace
 
 -- what the trace of an operation says, by where the operation stands
 abbrev pub Tells : Config → Op → List Traced → Next Phase → List Action → Type 0

@@ -19,7 +19,7 @@ use Rattle.freeze_levels.specs.declared.freezes.Freeze.{Freeze}
 use Rattle.freeze_levels.specs.declared.freezes.FreezeStep.{FreezeStep}
 use Rattle.freeze_levels.specs.declared.freezes.FreezeStep.TheVariants.{Locks, LocksAgain, Closes}
 use Rattle.gate_world.specs.Levels.{inside}
-use Rattle.gate_world.specs.Causes.{trail_of, last_asked, WasClosed, moments_of_sum, was_inside}
+use Rattle.gate_world.specs.Causes.{trail_of, since_begun, last_asked, WasClosed, moments_of_sum, was_inside}
 use Rattle.gate_world.specs.Work.{after_of}
 use Rattle.gate_world.specs.Worlds.{World, Entry, found_at}
 use Rattle.gate_world.specs.Rules.{role_of, owns}
@@ -119,9 +119,9 @@ HasCulpritAmong c (w ∷ earlier) t phase = HasCulpritSince c w earlier t phase
 
 -- Every wait has a culprit: after any schedule, where the next event of a task reports that it waits, another task has what it waits for,
 -- in the world in which the event is done; or, where it waits for a level, that was closed in the world in which the task last asked, or,
--- where a freeze sums the words of one, something was counted there while it did.
+-- where a freeze sums the words of one, something was counted there while it did: always since the task began its operation.
 abbrev pub EachWaitHasCulprit : Config → List Entry → Type 0
 EachWaitHasCulprit c entries =
     (t : ℕ) (phase again : Phase) (hook : HookAnswer) → t < c.tasks → ((world_after c entries).views t).phase ≡ Some phase →
     (after_of phase (found_at (world_after c entries).words phase hook) hook).0 ≡ Wait again →
-    HasCulpritAmong c (trail_of c entries) t phase
+    HasCulpritAmong c (since_begun t (trail_of c entries)) t phase

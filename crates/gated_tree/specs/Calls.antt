@@ -1,5 +1,5 @@
 -- What each phase is doing at the tree, and what its numbers must be.
-use Rattle.std.specs.Prelude.{◌≡◌, ℕ, suc, ◌+◌, ◌<◌, ◌≤◌, Result, Ok, Err}
+use Rattle.std.specs.Prelude.{◌≡◌, ℕ, suc, ◌+◌, ◌<◌, ◌≤◌, Option, Some, None, Result, Ok, Err}
 use Rattle.access_model.specs.declared.errors.GateError.{GateError}
 use Rattle.access_model.specs.declared.errors.GateError.TheVariants.{Again}
 use Rattle.access_model.specs.declared.replies.Reply.{Reply}
@@ -73,14 +73,21 @@ abbrev pub open_role : OpenFile → OpenStep → Role
 open_role o LoadsFileToOpen = Out
 open_role o (OpensFile file) = Loaded file
 
--- a snapshot of so many nodes that has loaded these values, in their order
+-- how many words of the tree a snapshot of so many nodes has loaded, from its load of stage 4 up to its release
+abbrev pub words_loaded : ℕ → SnapshotStep → Option ℕ
+words_loaded nodes LoadsUsedWord = Some 0
+words_loaded nodes (LoadsNodeWord node) = Some (suc node)
+words_loaded nodes (LoadsKids node) = Some (suc (nodes + node))
+words_loaded nodes (Releases (Ok reply)) = Some (suc (nodes + nodes))
+words_loaded nodes step = None
+
+-- a snapshot that has loaded so many words, which had these values, in their order
+abbrev pub reading : (ℕ → ℕ) → Option ℕ → Role
+reading values None = Out
+reading values (Some words) = Reading words values
+
 abbrev pub snapshot_role : ℕ → (ℕ → ℕ) → SnapshotStep → Role
-snapshot_role nodes values Locks = Out
-snapshot_role nodes values LoadsStage = Out
-snapshot_role nodes values LoadsUsedWord = Reading 0 values
-snapshot_role nodes values (LoadsNodeWord node) = Reading (suc node) values
-snapshot_role nodes values (LoadsKids node) = Reading (suc (nodes + node)) values
-snapshot_role nodes values (Releases answer) = Out
+snapshot_role nodes values step = reading values (words_loaded nodes step)
 
 -- the role of a phase, which for a snapshot has loaded these values
 abbrev pub phase_role : (ℕ → ℕ) → TreePhase → Role

@@ -68,7 +68,7 @@ use Rattle.gate_world.specs.declared.views.Traced.{Traced}
 use Rattle.gate_world.specs.Configs.{IsWithin}
 use Rattle.gate_world.specs.Courses.{IsTrace, course_of}
 use Rattle.gate_world.specs.Found.{found_sealed, found_complete, found_held, stored_stage, cleans, ReadAnswer, clean_found}
-use Rattle.gate_world.specs.Operations.{two_levels_closed, all_levels_closed}
+use Rattle.gate_world.specs.Claims.{two_levels_closed, all_levels_closed}
 use Rattle.gate_world.specs.Traces.{actions_of, IsHonestAnswer, Tells, IsShort, most_events}
 use Rattle.gate_world.specs.Views.{actions_after, with_hook}
 use Rattle.gate_frames.proofs.Cleans.{LeaveAccesses, cleans_leave}

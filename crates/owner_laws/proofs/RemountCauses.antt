@@ -3,7 +3,7 @@ use Rattle.access_model.specs.declared.errors.GateError.TheVariants.{Busy, Hook}
 use Rattle.access_model.specs.declared.errors.GateError.{GateError}
 use Rattle.access_model.specs.declared.replies.Reply.TheVariants.{Unit as UnitReply}
 use Rattle.access_model.specs.declared.replies.Reply.{Reply}
-use Rattle.gate_frames.proofs.Moments.{look_skips, look_stands}
+use Rattle.gate_frames.proofs.Moments.{look_skips, look_stands, sum_skips, sum_begins, sum_goes}
 use Rattle.gate_frames.proofs.SumCauses.{counted_stays, sum_starts, sum_stays, sum_takes, sum_ends}
 use Rattle.cpu_words.specs.Hooks.{HookAnswer}
 use Rattle.cpu_words.specs.Touches.{wrap_add}
@@ -12,7 +12,7 @@ use Rattle.cpu_words.specs.declared.names.WordName.TheVariants.{MountCount}
 use Rattle.cpu_words.specs.declared.sums.Sum.{Sum}
 use Rattle.gate_frames.proofs.Keeps.{by_bool}
 use Rattle.gate_frames.proofs.Words.{load_same}
-use Rattle.gate_world.specs.Causes.{all_counted, words_read, looks_at_stage, was_frozen, SomeWasCounted, was_removed, last_removed, looks_at_removed}
+use Rattle.gate_world.specs.Causes.{all_counted, words_read, mount_summed, moments_of_sum, AreOfMount, looks_at_stage, was_frozen, SomeWasCounted, was_removed, last_removed, looks_at_removed}
 use Rattle.gate_world.specs.KeptCauses.{ChangeCause, RemountAnswerCause, RemountCause, CauseOf}
 use Rattle.gate_world.specs.Remounts.{RemountFits}
 use Rattle.gate_world.specs.Rules.{IsGood}
@@ -30,7 +30,7 @@ use Rattle.mount_counts.specs.declared.remounts.Remount.{Remount}
 use Rattle.mount_counts.specs.declared.remounts.RemountStep.TheVariants.{Locks, LoadsStage, LoadsSuperblock, SetsWritable, LoadsFlags, SetsHold, Sums, LoadsRemoved, LoadsRemovedAgain, LeavesHolds, SetsRemount, ClearsHold, GivesUp, ClearsMark, SetsReadOnly, ClearsRemount, Releases}
 use Rattle.mount_counts.specs.declared.remounts.RemountStep.{RemountStep}
 use Rattle.mount_counts.specs.declared.sets.MountSet.{MountSet}
-use Rattle.std.proofs.Common.{◌≡◌, ℕ, suc, ◌+◌, ◌<◌, Bool, true, false, refl, ap, ◌∙◌, inl, inr, arith}
+use Rattle.std.proofs.Common.{◌≡◌, ℕ, suc, ◌+◌, ◌<◌, Bool, true, false, refl, sym, subst, ap, ◌∙◌, inl, inr, arith}
 use Rattle.std.proofs.lemmas.Bool.Decides.{eqb_tells}
 use Rattle.std.proofs.lemmas.Bool.{ltb-false, ne_eqb, cases_Bool}
 use Rattle.std.specs.Prelude.{nat_lt, Option, Some, None, Result, Ok, Err, List, ◌∷◌, ◌==◌, not, if◌then◌else◌}
@@ -94,7 +94,22 @@ removed_stands t w earlier h = rw h refl
 -- where no word of a sum is to be loaded, what was counted at some mount stays so
 some_stays : (c : Config) (t : ℕ) (w : World) (earlier : List World) → words_read (w.views t).phase ≡ None → SomeWasCounted c t earlier →
     SomeWasCounted c t (w ∷ earlier)
-some_stays c t w earlier e h = (h.0, h.1, counted_stays c t h.0 w earlier e h.2)
+some_stays c t w earlier e h =
+    (h.0, h.1, subst (AreOfMount t h.0) (sym (sum_skips t w earlier e)) h.2, counted_stays c t h.0 w earlier e h.3)
+
+-- the worlds of a sum of a mount are of that mount: where it begins
+of_mount_begins : (t m : ℕ) (w : World) (earlier : List World) → words_read (w.views t).phase ≡ Some 0 →
+    mount_summed (w.views t).phase ≡ Some m → AreOfMount t m (moments_of_sum t (w ∷ earlier))
+of_mount_begins t m w earlier e at = subst (AreOfMount t m) (sym (sum_begins t w earlier e)) (at, tt)
+
+-- and where it goes on
+of_mount_goes : (t m k : ℕ) (w : World) (earlier : List World) → words_read (w.views t).phase ≡ Some k →
+    mount_summed (w.views t).phase ≡ Some m → AreOfMount t m (moments_of_sum t earlier) → AreOfMount t m (moments_of_sum t (w ∷ earlier))
+of_mount_goes t m k w earlier e at h =
+    elim (eqb_tells k 0) [
+      | inl z ↦ of_mount_begins t m w earlier (e ∙ ap Some z.1) at
+      | inr z ↦ subst (AreOfMount t m) (sym (sum_goes t w earlier k e z.1)) (at, h)
+    ]
 
 -- a task whose view another entry leaves alone
 module _ (c : Config) (t : ℕ) (w next : World) (earlier : List World) (good : IsGood c next) (x : Remount) where
@@ -116,8 +131,10 @@ module _ (c : Config) (t : ℕ) (w next : World) (earlier : List World) (good : 
       (w.views t).phase ≡ Some (Remounts (at_remount x s)) →
       ((m : ℕ) → all_counted c m w ≡ 0 → all_counted c m next ≡ 0 → next.words.count m ≡ w.words.count m) → RemountCause c t w earlier s →
       RemountCause c t next (w ∷ earlier) s
-  remount_stays (Sums m held sum) f e was quiet h =
-      sum_stays c t m w next earlier sum h good f.0 (ap words_read e) (ap words_read was) (quiet m)
+  remount_stays (Sums m held sum) f e was quiet h = (
+    sum_stays c t m w next earlier sum h.0 good f.0 (ap words_read e) (ap words_read was) (quiet m),
+    of_mount_goes t m sum.words next (w ∷ earlier) (ap words_read e) (ap mount_summed e) h.1,
+  )
   remount_stays (GivesUp m held) f e was quiet h = some_stays c t next (w ∷ earlier) (ap words_read e) h
   remount_stays (LeavesHolds held) f e was quiet h =
       ap was_removed (removed_skips t next (w ∷ earlier) (ap looks_at_removed e)) ∙ h
@@ -183,7 +200,7 @@ module _ (c : Config) (t : ℕ) (w next : World) (earlier : List World) (after :
 
   -- a sum with one word more: it goes on, the loop does, or the remount gives up
   sum_own : (m : ℕ) (held : MountSet) (sum : Sum) → m < c.mounts → sum.words < c.processors → x.processors ≡ c.processors →
-      next.words.count m ≡ w.words.count m → ChangeCause c t w earlier m (SumsOne sum) →
+      next.words.count m ≡ w.words.count m → RemountCause c t w earlier (Sums m held sum) →
       (next.views t).phase ≡ Some (Remounts (at_remount x (remount_summed x m held sum (w.words.count m sum.words)))) →
       CauseAfter (remount_summed x m held sum (w.words.count m sum.words))
   sum_own m held sum lm there sp same h e =
@@ -191,13 +208,16 @@ module _ (c : Config) (t : ℕ) (w next : World) (earlier : List World) (after :
       let total : ℕ = wrap_add sum.total (w.words.count m k) in
       let now : MountSet = with_mount held m in
       elim (cases_Bool (nat_lt (k + 1) x.processors)) [
-        | inl more ↦ rw more (sum_takes c t m w next earlier sum h there same (ap words_read (rw more at e)))
+        | inl more ↦ rw more (
+          sum_takes c t m w next earlier sum h.0 there same (ap words_read (rw more at e)),
+          of_mount_goes t m (k + 1) next (w ∷ earlier) (ap words_read (rw more at e)) (ap mount_summed (rw more at e)) h.1,
+        )
         | inr less ↦
             elim (eqb_tells total 0) [
               | inl z ↦ rw (less, z.0) (past_mount_own m now)
               | inr z ↦
                   let last : suc k ≡ c.processors = omega (arith, there, ltb-false (k + 1) x.processors less, sp) in
-                  rw (less, z.0) (give_up_own m now (rw (less, z.0) at e) (m, lm, sum_ends c t m w next earlier sum h there last z.1))
+                  rw (less, z.0) (give_up_own m now (rw (less, z.0) at e) (m, lm, h.1, sum_ends c t m w next earlier sum h.0 there last z.1))
             ]
       ]
 
@@ -228,7 +248,10 @@ module _ (c : Config) (t : ℕ) (w next : World) (earlier : List World) (after :
       ]
   remount_own hook (LoadsFlags m held) sp f e same h e' =
       elim (cases_Bool (has_flag (w.words.flags m) 1)) [ inl z ↦ rw z (past_mount_own m held) | inr z ↦ rw z tt ]
-  remount_own hook (SetsHold m held) sp f e same h e' = sum_starts c t m next (w ∷ earlier) after f.0 (ap words_read e')
+  remount_own hook (SetsHold m held) sp f e same h e' = (
+    sum_starts c t m next (w ∷ earlier) after f.0 (ap words_read e'),
+    of_mount_begins t m next (w ∷ earlier) (ap words_read e') (ap mount_summed e'),
+  )
   remount_own hook (Sums m held sum) sp f e same h e' = sum_own m held sum f.0 f.2 sp (ap (λ g. g m) same) h e'
   remount_own hook (LoadsRemovedAgain held) sp f e same h e' =
       elim (eqb_tells w.words.removed 0) [

@@ -11,9 +11,9 @@ use Rattle.schedule_text.specs.declared.commands.HookFailure.{HookFailure}
 use Rattle.schedule_text.specs.declared.commands.Verb.{Verb}
 use Rattle.schedule_text.specs.declared.commands.Verb.TheVariants.{Want, TryWant, Drop, Start, TryStart, End, WantWrite, DropWrite, Change, TryChange, Remount, Callback, Freeze, Thaw, Create, Remove, Grow, Move, Fault, Flush, Open, Close, TryClose, Snapshot, TrySnapshot, Step, Run}
 
--- the verb that a word names
-unfoldable pub verb_of : List ℕ → Option Verb
-verb_of word =
+-- the verb at the gates that a word names
+unfoldable pub gate_verb_of : List ℕ → Option Verb
+gate_verb_of word =
     if bytes_eq word (codes "want") then Some Want else
     if bytes_eq word (codes "trywant") then Some TryWant else
     if bytes_eq word (codes "drop") then Some Drop else
@@ -27,7 +27,11 @@ verb_of word =
     if bytes_eq word (codes "remount") then Some Remount else
     if bytes_eq word (codes "callback") then Some Callback else
     if bytes_eq word (codes "freeze") then Some Freeze else
-    if bytes_eq word (codes "thaw") then Some Thaw else
+    if bytes_eq word (codes "thaw") then Some Thaw else None
+
+-- the verb at the tree, or of single steps, that a word names
+unfoldable pub tree_verb_of : List ℕ → Option Verb
+tree_verb_of word =
     if bytes_eq word (codes "create") then Some Create else
     if bytes_eq word (codes "remove") then Some Remove else
     if bytes_eq word (codes "grow") then Some Grow else
@@ -41,6 +45,14 @@ verb_of word =
     if bytes_eq word (codes "trysnapshot") then Some TrySnapshot else
     if bytes_eq word (codes "step") then Some Step else
     if bytes_eq word (codes "run") then Some Run else None
+
+-- the verb that a word names
+abbrev pub or_verb : Option Verb → Option Verb → Option Verb
+or_verb None other = other
+or_verb (Some verb) other = Some verb
+
+abbrev pub verb_of : List ℕ → Option Verb
+verb_of word = or_verb (gate_verb_of word) (tree_verb_of word)
 
 -- whether a line with this verb may have so many words
 abbrev pub takes : Verb → ℕ → Bool

@@ -82,12 +82,22 @@ pub enum Verb {
 }
 
 impl Verb {
-    ghost use Rattle.schedule_text.specs.Commands.{verb_of, takes};
+    ghost use Rattle.schedule_text.specs.Commands.{verb_of, gate_verb_of, tree_verb_of, takes};
 
     /// The verb that a word names.
-    #[tactic(auto, unfolding(crate::specs::Commands::verb_of))]
     pub fn of(word: &[u8]) -> Option<Verb>
         ensures { result ≡ verb_of word.now }
+    {
+        match Verb::at_the_gates(word) {
+            Some(verb) => Some(verb),
+            None => Verb::at_the_tree(word),
+        }
+    }
+
+    /// The verb at the gates that a word names.
+    #[tactic(auto, unfolding(crate::specs::Commands::gate_verb_of))]
+    fn at_the_gates(word: &[u8]) -> Option<Verb>
+        ensures { result ≡ gate_verb_of word.now }
     {
         if word == b"want".as_slice() {
             Some(Verb::Want)
@@ -117,7 +127,17 @@ impl Verb {
             Some(Verb::Freeze)
         } else if word == b"thaw".as_slice() {
             Some(Verb::Thaw)
-        } else if word == b"create".as_slice() {
+        } else {
+            None
+        }
+    }
+
+    /// The verb at the tree, or of single steps, that a word names.
+    #[tactic(auto, unfolding(crate::specs::Commands::tree_verb_of))]
+    fn at_the_tree(word: &[u8]) -> Option<Verb>
+        ensures { result ≡ tree_verb_of word.now }
+    {
+        if word == b"create".as_slice() {
             Some(Verb::Create)
         } else if word == b"remove".as_slice() {
             Some(Verb::Remove)

@@ -1,6 +1,6 @@
 -- Each event of a clearing of the dirty marks and of a snapshot is an event of the tree.
 use Rattle.std.proofs.Common.{◌≡◌, ℕ, suc, Bool, true, false, ◌+◌, ◌-◌, ◌<◌, refl, sym, ap, ◌∙◌, subst, inl, inr, arith}
-use Rattle.std.specs.Prelude.{is_some}
+use Rattle.std.specs.Prelude.{is_some, Ok, Err}
 use Rattle.std.proofs.lemmas.Bool.{cases_lt, lt-ltb, le-ltb}
 use Rattle.std.proofs.lemmas.Bool.Decides.{eqb_tells}
 use Rattle.std.proofs.Math.Path.{fun_ext}
@@ -109,7 +109,12 @@ module _ (c : Bounds) (within : AreWithin c) (sealed bare : ℕ) (w : Words) (at
         | inl l ↦ rw (lt-ltb (node + 1) x.nodes l)
             (reads (suc (x.nodes + node)) (suc (x.nodes + (node + 1))) values noted is word notes.1 (omega arith))
         | inr l ↦ rw (le-ltb (node + 1) x.nodes l)
-            (ends_free c within sealed bare w at good t lt (Reading (suc (x.nodes + node)) values) is
-            (record { blocks = refl; removed = refl; children = λ d. refl }))
+            (reads (suc (x.nodes + node)) (suc (x.nodes + x.nodes)) values noted is word notes.1 (omega (arith, l, fits, same)))
       ])
-  snapshot_step x (Releases answer) values noted same fits is notes = (stays_at c within sealed bare w at good t lt Out is, (refl, refl))
+  snapshot_step x (Releases (Ok reply)) values noted same fits is notes = (
+    ends_free c within sealed bare w at good t lt (Reading (suc (x.nodes + x.nodes)) values) is
+        (record { blocks = refl; removed = refl; children = λ d. refl }),
+    (refl, refl),
+  )
+  snapshot_step x (Releases (Err refusal)) values noted same fits is notes =
+      (stays_at c within sealed bare w at good t lt Out is, (refl, refl))

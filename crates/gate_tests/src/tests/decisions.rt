@@ -88,8 +88,10 @@ fn back_up<R: Wait, H: FsHooks>(
     match task.freeze(rt, gates, Holder::User, hooks) {
         Ok(()) => {
             let taken = task.snapshot(rt, gates);
-            task.thaw(rt, gates, Holder::User, hooks)?;
-            taken
+            match task.thaw(rt, gates, Holder::User, hooks) {
+                Ok(()) | Err(GateError::Invalid) => taken,
+                refused => refused,
+            }
         }
         Err(GateError::Busy) => task.try_snapshot(gates),
         Err(GateError::Hook(code)) => {

@@ -1,5 +1,5 @@
 -- Each clause is a lemma on whole schedules.
-use Rattle.gate_core.proofs.Whole.{whole_rule, whole_run, whole_moves, whole_nobody, whole_causes, whole_waits, whole_sums, whole_idle, whole_rests, whole_freezes, whole_holders, whole_trees, whole_operations}
+use Rattle.gate_core.proofs.Whole.{whole_run, whole_moves, whole_nobody, whole_causes, whole_waits, whole_sums, whole_idle, whole_rests, whole_freezes, whole_holders, whole_trees, whole_snapshots, whole_operations}
 use Rattle.gate_core.proofs.LevelRuns.{whole_levels}
 use Rattle.gate_core.proofs.Deadlocks.{whole_progress, whole_replies, whole_kept}
 use Rattle.gate_core.proofs.schedules.every_schedule.Goals as goal
@@ -31,6 +31,9 @@ returns-clause-holders c = whole_holders
 pub returns-clause-trees : goal.returns-clause-trees
 returns-clause-trees c = whole_trees
 
+pub returns-clause-snapshots : goal.returns-clause-snapshots
+returns-clause-snapshots c = whole_snapshots
+
 pub returns-clause-levels : goal.returns-clause-levels
 returns-clause-levels c = whole_levels
 
@@ -51,6 +54,3 @@ returns-clause-replies c = whole_replies
 
 pub returns-clause-kept_stays : goal.returns-clause-kept_stays
 returns-clause-kept_stays c = whole_kept
-
-pub returns-clause-rule : goal.returns-clause-rule
-returns-clause-rule c = whole_rule
