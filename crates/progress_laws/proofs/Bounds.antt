@@ -1,7 +1,7 @@
 -- The rank of a phase that fits is small.
-use Rattle.std.proofs.Common.{◌≡◌, ℕ, zero, suc, ◌+◌, ◌*◌, ◌<◌, ◌≤◌, Bool, true, false, sym, ap, ◌∙◌, subst, inl, inr, arith}
-use Rattle.std.specs.Prelude.{◌-◌, ◌⊎◌}
-use Rattle.std.proofs.Math.Nat.{suc-mul, zero-mul, le-max_left, le-max_right}
+use Rattle.std.proofs.Common.{◌≡◌, ℕ, zero, suc, ◌+◌, ◌*◌, ◌<◌, ◌≤◌, Bool, true, false, refl, sym, ap, ◌∙◌, subst, inl, inr, arith, true≢false}
+use Rattle.std.specs.Prelude.{◌-◌, ◌⊎◌, max}
+use Rattle.std.proofs.Math.Nat.{suc-mul, zero-mul, le-max_left, le-max_right, max-le}
 use Rattle.std.proofs.lemmas.Bool.{cases_lt}
 use Rattle.std.proofs.lemmas.Bool.Decides.{eqb_tells}
 use Rattle.cpu_words.specs.Words.{Words}
@@ -58,7 +58,7 @@ use Rattle.gate_world.specs.Configs.{IsWithin}
 use Rattle.gate_world.specs.Fits.{PhaseFits, GraceFits, DownWriteStepFits, FreezeFits, ThawFits}
 use Rattle.gate_world.specs.Remounts.{RemountFits}
 use Rattle.progress_laws.proofs.RemountEnds.{loop_step, size_small}
-use Rattle.progress_laws.specs.Ranks.{rank, want_rank, change_rank, loop_rank, remount_rank, read_rank, exchange_rank, callback_rank, write_rank, close_rank, up_rank, sum_rank, down_rank, closing_rank, closed_rank, freeze_rank, thaw_rank, create_rank, remove_rank, grow_rank, move_rank, mark_rank, open_rank, snapshot_rank, most_alone}
+use Rattle.progress_laws.specs.Ranks.{rank, want_rank, change_rank, loop_rank, remount_rank, read_rank, exchange_rank, callback_rank, write_rank, close_rank, up_rank, sum_rank, down_rank, closing_rank, closed_rank, freeze_rank, thaw_rank, create_rank, remove_rank, grow_rank, move_rank, mark_rank, open_rank, snapshot_rank, most_in_loop, most_beside, most_alone, most_settled}
 
 want_small : (s : WantStep) → want_rank s < 6
 want_small CountsUp = omega arith
@@ -106,19 +106,19 @@ module _ (c : Config) (lim : IsWithin c) where
   callback_small tasks sync (CallbackAwaits g) fits = omega (arith, fits.0)
   callback_small tasks sync (CallbackCalls x) fits = omega (arith, exchange_small sync x)
 
-  sum_small : (p : ℕ) (count : ℕ → ℕ) (sum : Sum) → sum_rank p count sum ≤ p + p
-  sum_small p count sum =
-      elim (eqb_tells (lead p count sum.words sum.total) 0) [ inl h ↦ rw h.0 (omega arith) | inr h ↦ rw h.0 (omega arith) ]
+  sum_small : (p : ℕ) (count : ℕ → ℕ) (sum : Sum) → sum.words < p → sum_rank p count sum < p + p
+  sum_small p count sum lt =
+      elim (eqb_tells (lead p count sum.words sum.total) 0) [ inl h ↦ rw h.0 (omega (arith, lt)) | inr h ↦ rw h.0 (omega (arith, lt)) ]
 
   -- a sum that began before may take as long as two
-  down_small : (w : Words) (d : DownWrite) (s : DownWriteStep) → DownWriteStepFits c s → d.tasks ≡ c.tasks →
-      down_rank w d s < d.processors + d.processors + d.tasks + 6
-  down_small w d (Enters x) fits e = omega (arith, exchange_small (w.sync d.level) x)
-  down_small w d (AwaitsSections g) fits e = omega (arith, fits.0, e)
-  down_small w d (CallsBack x) fits e = omega (arith, exchange_small (w.sync d.level) x)
-  down_small w d AwaitsPassed fits e = omega arith
-  down_small w d SetsBlock fits e = omega arith
-  down_small w d (Sums sum) fits e = omega (arith, sum_small d.processors (w.level d.level) sum)
+  down_small : (w : Words) (d : DownWrite) (s : DownWriteStep) → DownWriteStepFits c s → d.tasks ≡ c.tasks → d.processors ≡ c.processors →
+      (down_rank w d s < d.processors + d.tasks + 6) ⊎ (down_rank w d s < d.processors + d.processors)
+  down_small w d (Enters x) fits e p = inl (omega (arith, exchange_small (w.sync d.level) x))
+  down_small w d (AwaitsSections g) fits e p = inl (omega (arith, fits.0, e))
+  down_small w d (CallsBack x) fits e p = inl (omega (arith, exchange_small (w.sync d.level) x))
+  down_small w d AwaitsPassed fits e p = inl (omega arith)
+  down_small w d SetsBlock fits e p = inl (omega arith)
+  down_small w d (Sums sum) fits e p = inr (sum_small d.processors (w.level d.level) sum (omega (arith, fits, p)))
 
   up_small : (sync : ℕ) (s : UpWriteStep) → up_rank sync s < 3
   up_small sync ClearsBlock = omega arith
@@ -132,12 +132,19 @@ module _ (c : Config) (lim : IsWithin c) where
       ]
 
   freeze_small : (w : Words) (x : Freeze) (s : FreezeStep) → FreezeFits c x.holder s → x.processors ≡ c.processors → x.tasks ≡ c.tasks →
-      x.nodes ≡ c.nodes → freeze_rank w x s < 4 * c.processors + 3 * c.tasks + c.nodes + 34
-  freeze_small w x (Closes d) fits ep et en =
-      omega (arith, down_small w d d.step fits.4 fits.2, fits.2, fits.3, closed_small x d.level, ep, et, en)
-  freeze_small w x (Cleans marks) fits ep et en = omega (arith, fits.0, ep, et, en)
-  freeze_small w x (FreezeReopens u code) fits ep et en = omega (arith, fits.1, up_small (w.sync u.level) u.step)
-  freeze_small w x s fits ep et en = omega (arith, ep, et, en)
+      x.nodes ≡ c.nodes → freeze_rank w x s < most_beside c
+  freeze_small w x s fits ep et en =
+      by_step s fits (le-max_left c.processors (c.tasks + 10)) (le-max_right c.processors (c.tasks + 10))
+    where
+      by_step : (s : FreezeStep) → FreezeFits c x.holder s → c.processors ≤ max c.processors (c.tasks + 10) →
+          c.tasks + 10 ≤ max c.processors (c.tasks + 10) → freeze_rank w x s < most_beside c
+      by_step (Closes d) fits l r = elim (down_small w d d.step fits.4 fits.2 fits.3) [
+        | inl h ↦ omega (arith, h, l, r, fits.2, fits.3, closed_small x d.level, ep, et, en)
+        | inr h ↦ omega (arith, h, l, r, fits.2, fits.3, closed_small x d.level, ep, et, en)
+      ]
+      by_step (Cleans marks) fits l r = omega (arith, fits.0, l, r, ep, et, en)
+      by_step (FreezeReopens u code) fits l r = omega (arith, fits.1, up_small (w.sync u.level) u.step)
+      by_step s fits l r = omega (arith, l, r, ep, et, en)
 
 create_small : (n : ℕ) (s : CreateStep) → create_rank n s < n + 5
 create_small n (LoadsNode node) = omega arith
@@ -190,54 +197,59 @@ loop_is p (suc n) =
     let e : loop_rank p n + p + 2 ≡ loop_rank p n + (p + 2) = omega arith in
     e ∙ (ap (λ k. k + (p + 2)) (loop_is p n) ∙ sym (suc-mul n (p + 2)))
 
--- the two bounds of a rank: of a remount, with the loop's rank as it is, and of all others
-abbrev most_in_loop : Config → ℕ
-most_in_loop c = loop_rank c.processors c.mounts + c.nodes + 17
+-- it is no remount and no snapshot
+abbrev pub is_beside : Phase → Bool
+is_beside (Remounts x) = false
+is_beside (Trees (Snapshots x)) = false
+is_beside phase = true
 
-abbrev most_beside : Config → ℕ
-most_beside c = 4 * c.processors + 3 * c.tasks + 2 * c.nodes + 34
+-- of each phase that fits
+pub beside_small : (c : Config) → IsWithin c → (w : Words) (t : ℕ) (held : ℕ → ℕ) (levels : ℕ → Bool) (phase : Phase) →
+    PhaseFits c t held levels phase → is_beside phase ≡ true → rank w phase < most_beside c
+beside_small c lim w t held levels (Mounts (Wants x)) f b = omega (arith, want_small x.step)
+beside_small c lim w t held levels (Mounts (Drops m p)) f b = omega arith
+beside_small c lim w t held levels (Mounts (Changes x)) f b = omega (arith, change_small x.processors x.step, f.2)
+beside_small c lim w t held levels (Remounts x) f b = absurd (true≢false (sym b))
+beside_small c lim w t held levels (DownReads r) f b = omega (arith, read_small c lim r.wait r.step)
+beside_small c lim w t held levels (UpReads u) f b = omega arith
+beside_small c lim w t held levels (Callbacks q) f b =
+    let k : GraceFits q.tasks q.step = subst (λ n. GraceFits n q.step) (sym f.2) f.3 in
+    omega (arith, callback_small c lim q.tasks (w.sync q.level) q.step k, f.2)
+beside_small c lim w t held levels (Writes x) f b = omega (arith, write_small c lim x)
+beside_small c lim w t held levels (Freezes x) f b = freeze_small c lim w x x.step f.5 f.2 f.1 f.3
+beside_small c lim w t held levels (Thaws x) f b = omega (arith, thaw_small c lim w x.holder x.step f.2)
+beside_small c lim w t held levels (Trees (Creates x)) f b = omega (arith, create_small x.nodes x.step, f.0.1)
+beside_small c lim w t held levels (Trees (Removes x)) f b = omega (arith, remove_small x.step)
+beside_small c lim w t held levels (Trees (Grows x)) f b = omega (arith, grow_small x.step)
+beside_small c lim w t held levels (Trees (Moves x)) f b = omega (arith, move_small x.step)
+beside_small c lim w t held levels (Trees (TreeMarks x)) f b = omega (arith, mark_small x.step)
+beside_small c lim w t held levels (Trees (OpensOne x)) f b = omega (arith, open_small x.step)
+beside_small c lim w t held levels (Trees (Snapshots x)) f b = absurd (true≢false (sym b))
+beside_small c lim w t held levels (Trees (TreeClears x)) f b = absurd f.1
+beside_small c lim w t held levels (FileCloses x) f b = omega (arith, close_small c lim x)
 
-fitting_small : (c : Config) → IsWithin c → (w : Words) (t : ℕ) (held : ℕ → ℕ) (levels : ℕ → Bool) (phase : Phase) →
-    PhaseFits c t held levels phase → (rank w phase < most_in_loop c) ⊎ (rank w phase < most_beside c)
-fitting_small c lim w t held levels (Mounts (Wants x)) f = inr (omega (arith, want_small x.step))
-fitting_small c lim w t held levels (Mounts (Drops m p)) f = inr (omega arith)
-fitting_small c lim w t held levels (Mounts (Changes x)) f = inr (omega (arith, change_small x.processors x.step, f.2))
-fitting_small c lim w t held levels (Remounts x) f =
-    inl (omega (
+pub rank_small : (c : Config) → IsWithin c → (w : Words) (t : ℕ) (held : ℕ → ℕ) (levels : ℕ → Bool) (phase : Phase) →
+    PhaseFits c t held levels phase → rank w phase < most_alone c
+rank_small c lim w t held levels (Remounts x) f =
+    omega (
       arith,
       remount_small c lim x.processors x.mounts x.nodes x.step f.5 f.2,
       ap (λ p. loop_rank p x.mounts) f.1,
       ap (loop_rank c.processors) f.2,
+      loop_is c.processors c.mounts,
       f.3,
-    ))
-fitting_small c lim w t held levels (DownReads r) f = inr (omega (arith, read_small c lim r.wait r.step))
-fitting_small c lim w t held levels (UpReads u) f = inr (omega arith)
-fitting_small c lim w t held levels (Callbacks b) f =
-    let k : GraceFits b.tasks b.step = subst (λ n. GraceFits n b.step) (sym f.2) f.3 in
-    inr (omega (arith, callback_small c lim b.tasks (w.sync b.level) b.step k, f.2))
-fitting_small c lim w t held levels (Writes x) f = inr (omega (arith, write_small c lim x))
-fitting_small c lim w t held levels (Freezes x) f = inr (omega (arith, freeze_small c lim w x x.step f.5 f.2 f.1 f.3))
-fitting_small c lim w t held levels (Thaws x) f = inr (omega (arith, thaw_small c lim w x.holder x.step f.2))
-fitting_small c lim w t held levels (Trees (Creates x)) f = inr (omega (arith, create_small x.nodes x.step, f.0.1))
-fitting_small c lim w t held levels (Trees (Removes x)) f = inr (omega (arith, remove_small x.step))
-fitting_small c lim w t held levels (Trees (Grows x)) f = inr (omega (arith, grow_small x.step))
-fitting_small c lim w t held levels (Trees (Moves x)) f = inr (omega (arith, move_small x.step))
-fitting_small c lim w t held levels (Trees (TreeMarks x)) f = inr (omega (arith, mark_small x.step))
-fitting_small c lim w t held levels (Trees (OpensOne x)) f = inr (omega (arith, open_small x.step))
-fitting_small c lim w t held levels (Trees (Snapshots x)) f = inr (omega (arith, snapshot_small x.nodes x.step, f.0.1))
-fitting_small c lim w t held levels (Trees (TreeClears x)) f = absurd f.1
-fitting_small c lim w t held levels (FileCloses x) f = inr (omega (arith, close_small c lim x))
-
--- of each phase that fits
-pub rank_small : (c : Config) → IsWithin c → (w : Words) (t : ℕ) (held : ℕ → ℕ) (levels : ℕ → Bool) (phase : Phase) →
-    PhaseFits c t held levels phase → rank w phase < most_alone c
+      le-max_left (most_in_loop c) (most_beside c),
+    )
+rank_small c lim w t held levels (Trees (Snapshots x)) f =
+    omega (arith, snapshot_small x.nodes x.step, f.0.1, le-max_left (most_in_loop c) (most_beside c))
 rank_small c lim w t held levels phase f =
-    let loop : ℕ = c.mounts * (c.processors + 2) + c.nodes + 17 in
-    elim (fitting_small c lim w t held levels phase f) [
-      | inl l ↦ omega (
-        arith,
-        subst (λ k. rank w phase < k + c.nodes + 17) (loop_is c.processors c.mounts) l,
-        le-max_left loop (most_beside c),
-      )
-      | inr l ↦ omega (arith, l, le-max_right loop (most_beside c))
-    ]
+    omega (arith, beside_small c lim w t held levels phase f refl, le-max_right (most_in_loop c) (most_beside c))
+
+-- the bounds beside each other
+pub alone_settled : (c : Config) → most_alone c ≤ most_settled c
+alone_settled c =
+    let beside : ℕ = most_beside c + 5 * (c.tasks - 1) in
+    max-le (le-max_left (most_in_loop c) beside) (omega (arith, le-max_right (most_in_loop c) beside))
+
+pub beside_settled : (c : Config) → most_beside c + 5 * (c.tasks - 1) ≤ most_settled c
+beside_settled c = le-max_right (most_in_loop c) (most_beside c + 5 * (c.tasks - 1))

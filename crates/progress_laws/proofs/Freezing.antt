@@ -31,16 +31,18 @@ use Rattle.gate_world.specs.Configs.{IsWithin}
 use Rattle.gate_world.specs.Fits.{PhaseFits, ReadStepFits, FreezeFits}
 use Rattle.gate_world.specs.Levels.{inside}
 use Rattle.gate_world.specs.Operations.{holds_none_from}
-use Rattle.gate_world.specs.Rules.{IsGood, Stages, Sections, owns}
+use Rattle.gate_world.specs.Rules.{IsGood, Owner, Stages, Sections, owns}
 use Rattle.gate_world.specs.Shown.{stage_roles}
 use Rattle.gate_world.specs.Stages.{place_of, reopening_role, freeze_stage_role, stage_role_of}
 use Rattle.gate_world.specs.Views.{held_at, holds_level, view_after}
 use Rattle.gate_world.specs.Worlds.{World, after_step, value_at}
 use Rattle.progress_laws.specs.Progress.{EventsKeepRule, ReplyWithin, IsHeldIdle, next_level, IsKept}
-use Rattle.progress_laws.specs.Ranks.{most_alone, most_settled}
+use Rattle.progress_laws.specs.Ranks.{most_beside, most_alone, most_settled}
+use Rattle.progress_laws.proofs.Falls.{no_further}
+use Rattle.progress_laws.proofs.Bounds.{alone_settled, beside_settled}
 use Rattle.progress_laws.specs.Ways.{NobodyInside, FreezeLocksFree, FreezeIsFree, PhaseEnds}
 use Rattle.progress_laws.proofs.Leaves.{StaysBeside, phase_beside, inside_le, all_within, all_leave}
-use Rattle.progress_laws.proofs.Movers.{owner_free, HasOwner, has_owner, fits_at, free_goes, want_goes, holds_not_none, holds_below, open_above, nothing_counted}
+use Rattle.progress_laws.proofs.Movers.{owner_free, HasOwner, has_owner, fits_at, free_goes, beside_goes, OwnerFreezes, hold_clear, holds_not_none, holds_below, open_above, nothing_counted}
 
 -- one of the two for each number below a bound: the first for some, or the second for all
 pub search_below : (n : ℕ) (P Q : ℕ → Type 0) → ((i : ℕ) → i < n → P i ⊎ Q i) → ((i : ℕ) × (i < n) × P i) ⊎ ((i : ℕ) → i < n → Q i)
@@ -169,79 +171,76 @@ first_same w next s e f = tt
 module _ (c : Config) (lim : IsWithin c)
     (keeps : EventsKeepRule c)
     (ends : (phase : Phase) → PhaseEnds c phase) where
-  module _ (w : World) (good : IsGood c w) (out : (y : ℕ) → y < c.tasks → inside (w.views y).phase ≡ 0) where
+  module _ (w : World) (good : IsGood c w) (freezing : OwnerFreezes c w)
+      (out : (y : ℕ) → y < c.tasks → inside (w.views y).phase ≡ 0) where
     nobody_inside : NobodyInside c w.words
     nobody_inside y ly = good Sections y ly ∙ out y ly
 
-    -- who holds a level has its reply, or who has HOLD set at a mount that it wants
+    -- who holds a level has its reply
     holder_goes : (z : ℕ) → z < c.tasks → (i : ℕ) → 1 ≤ i → i ≤ 3 → holds_level (w.views z) i ≡ true → (phase : Phase) →
-        (w.views z).phase ≡ Some phase → PhaseFits c z (held_at (w.views z)) (holds_level (w.views z)) phase → ReplyWithin c (most_alone c) w
+        (w.views z).phase ≡ Some phase → PhaseFits c z (held_at (w.views z)) (holds_level (w.views z)) phase → ReplyWithin c (most_beside c) w
     holder_goes z lz i one three is (Mounts (Wants x)) at f =
-        want_goes c lim keeps ends w good z lz (Mounts (Wants x)) at refl x.mount f.0 (λ clear. clear)
+        beside_goes c lim keeps ends w good z lz (Mounts (Wants x)) at (hold_clear c w good freezing z lz (ap owns at) x.mount f.0) refl
     holder_goes z lz i one three is (Mounts (Changes x)) at f = absurd (holds_not_none (holds_level (w.views z)) i f.3 one three is)
     holder_goes z lz i one three is (Remounts x) at f = absurd (holds_not_none (holds_level (w.views z)) i f.4 one three is)
     holder_goes z lz i one three is (DownReads r) at f =
         let o : down_read_inside r.step ≡ 0 = sym (ap inside at) ∙ out z lz in
         let above : i < r.level =
         holds_below (holds_level (w.views z)) i r.level (outside_fits r.level (holds_level (w.views z)) r.step o f.4) one three is in
-        free_goes c lim keeps ends w good z lz (DownReads r) at (λ e a. open_above c w good i r.level z one above f.1 lz is)
-    holder_goes z lz i one three is (Callbacks b) at f = free_goes c lim keeps ends w good z lz (Callbacks b) at nobody_inside
+        beside_goes c lim keeps ends w good z lz (DownReads r) at (λ e a. open_above c w good i r.level z one above f.1 lz is) refl
+    holder_goes z lz i one three is (Callbacks b) at f = beside_goes c lim keeps ends w good z lz (Callbacks b) at nobody_inside refl
     holder_goes z lz i one three is (Writes (Takes m r)) at f =
         let o : down_read_inside r.step ≡ 0 = sym (ap inside at) ∙ out z lz in
         let above : i < r.level =
         holds_below (holds_level (w.views z)) i r.level (outside_fits r.level (holds_level (w.views z)) r.step o f.0.4) one three is in
         absurd (omega (arith, above, one, f.1))
     holder_goes z lz i one three is (Writes (WriteWants x)) at f =
-        want_goes c lim keeps ends w good z lz (Writes (WriteWants x)) at refl x.mount f.0.0 (λ clear. clear)
+        beside_goes c lim keeps ends w good z lz (Writes (WriteWants x)) at
+        (hold_clear c w good freezing z lz (ap owns at) x.mount f.0.0) refl
     holder_goes z lz i one three is (Freezes x) at f = absurd (holds_not_none (holds_level (w.views z)) i f.4 one three is)
     holder_goes z lz i one three is (Thaws x) at f = absurd (holds_not_none (holds_level (w.views z)) i f.1 one three is)
     holder_goes z lz i one three is (Trees (Snapshots x)) at f = absurd (holds_not_none (holds_level (w.views z)) i f.1 one three is)
     holder_goes z lz i one three is (FileCloses (CloseLoadsFile x)) at f =
         let above : i < 3 = holds_below (holds_level (w.views z)) i 3 f.3 one three is in
-        free_goes c lim keeps ends w good z lz (FileCloses (CloseLoadsFile x)) at
-        (λ e a. open_above c w good i 3 z one above (omega arith) lz is)
+        beside_goes c lim keeps ends w good z lz (FileCloses (CloseLoadsFile x)) at
+        (λ e a. open_above c w good i 3 z one above (omega arith) lz is) refl
     holder_goes z lz i one three is (FileCloses (EntersLevel n node r)) at f =
         let o : down_read_inside r.step ≡ 0 = sym (ap inside at) ∙ out z lz in
         let above : i < r.level =
         holds_below (holds_level (w.views z)) i r.level (outside_fits r.level (holds_level (w.views z)) r.step o f.2.4) one three is in
-        free_goes c lim keeps ends w good z lz (FileCloses (EntersLevel n node r)) at
-        (λ e a. open_above c w good i r.level z one above f.2.1 lz is)
-    holder_goes z lz i one three is phase at f = free_goes c lim keeps ends w good z lz phase at tt
+        beside_goes c lim keeps ends w good z lz (FileCloses (EntersLevel n node r)) at
+        (λ e a. open_above c w good i r.level z one above f.2.1 lz is) refl
+    holder_goes z lz i one three is phase at f = beside_goes c lim keeps ends w good z lz phase at tt refl
 
     -- the same of what a task is at, where no idle task holds the level
     holder_at : (z : ℕ) → z < c.tasks → (i : ℕ) → 1 ≤ i → i ≤ 3 → holds_level (w.views z) i ≡ true → NoneIdle c w i → (p : Option Phase) →
-        (w.views z).phase ≡ p → ReplyWithin c (most_alone c) w
+        (w.views z).phase ≡ p → ReplyWithin c (most_beside c) w
     holder_at z lz i one three is none None at = absurd (true≢false (sym is ∙ none z lz at))
     holder_at z lz i one three is none (Some phase) at = holder_goes z lz i one three is phase at (fits_at c w good z lz phase at)
 
     module _ (t : ℕ) (lt : t < c.tasks) (x : Freeze) (at : (w.views t).phase ≡ Some (Freezes x)) (apart : IdleApart c w x.step) where
       -- `umount` is another task's, which the freeze is to take again
-      owner_goes : NeedsLock w.words x.nodes x.step → ReplyWithin c (most_alone c) w
+      owner_goes : NeedsLock w.words x.nodes x.step → ReplyWithin c (most_beside c) w
       owner_goes n =
-          let u : HasOwner c w = has_owner c w good n.0 in
           let role : stage_roles w t ≡ Freezing 1 n.1 false = ap stage_role_of at ∙ n.2 in
-          let known : KnowsStage w.words.stage w.words.sb (Freezing 1 n.1 false) =
-          subst (KnowsStage w.words.stage w.words.sb) role ((good Stages).knows t lt) in
-          elim (owner_free c w.words u.phase u.owner) [
-            | inl free ↦ free_goes c lim keeps ends w good u.task u.there u.phase u.at free
-            | inr y ↦
-                let there : (w.views u.task).phase ≡ Some (Freezes y.0) = u.at ∙ ap Some y.1 in
-                let one : w.words.stage ≡ 1 = known in
-                let few : total c.tasks (λ v. freezes (stage_roles w v)) ≤ 1 =
-                omega (arith, (good Stages).freezing, ap under_way one) in
-                let ne : u.task ≡ t → ⊥ = λ e.
-                omega (arith, u.owner, ap owns u.at, ap (λ v. owns (w.views v).phase) e, ap owns at, ap stage_owns n.2) in
-                let none : freezes (stage_roles w u.task) ≡ 0 =
-                other_zero c.tasks t (λ v. freezes (stage_roles w v)) few lt (ap freezes role) u.task u.there ne in
-                let its : stage_roles w u.task ≡ freeze_stage_role y.0.nodes y.0.step = ap stage_role_of there in
-                free_goes c lim keeps ends w good u.task u.there (Freezes y.0) there
-                (owner_step c w.words y.0.nodes y.0.step nobody_inside one
-                (subst (KnowsStage w.words.stage w.words.sb) its ((good Stages).knows u.task u.there))
-                (sym (ap freezes its) ∙ none) (sym (ap owns there) ∙ (ap owns u.at ∙ u.owner)))
+          let one : w.words.stage ≡ 1 = subst (KnowsStage w.words.stage w.words.sb) role ((good Stages).knows t lt) in
+          elim freezing [
+            | inl free ↦ absurd (n.0 free)
+            | inr u ↦
+                let own : owns (w.views u.0).phase ≡ 1 = (good Owner).owned u.0 u.1 u.4 in
+                let few : total c.tasks (λ v. freezes (stage_roles w v)) ≤ 1 = omega (arith, (good Stages).freezing, ap under_way one) in
+                let ne : u.0 ≡ t → ⊥ = λ e. omega (arith, own, ap (λ v. owns (w.views v).phase) e, ap owns at, ap stage_owns n.2) in
+                let none : freezes (stage_roles w u.0) ≡ 0 =
+                other_zero c.tasks t (λ v. freezes (stage_roles w v)) few lt (ap freezes role) u.0 u.1 ne in
+                let its : stage_roles w u.0 ≡ freeze_stage_role u.2.nodes u.2.step = ap stage_role_of u.3 in
+                beside_goes c lim keeps ends w good u.0 u.1 (Freezes u.2) u.3
+                (owner_step c w.words u.2.nodes u.2.step nobody_inside one
+                (subst (KnowsStage w.words.stage w.words.sb) its ((good Stages).knows u.0 u.1))
+                (sym (ap freezes its) ∙ none) (sym (ap owns u.3) ∙ own)) refl
           ]
 
       -- with nobody inside a section, a freeze that no idle task keeps
-      freeze_base : FirstFree w.words x.step → ReplyWithin c (most_alone c) w
+      freeze_base : FirstFree w.words x.step → ReplyWithin c (most_beside c) w
       freeze_base first =
           let fits : PhaseFits c t (held_at (w.views t)) (holds_level (w.views t)) (Freezes x) = fits_at c w good t lt (Freezes x) at in
           let some : 1 ≤ next_level w.words x.step = next_some c x.holder w.words x.step fits.5 in
@@ -260,11 +259,11 @@ module _ (c : Config) (lim : IsWithin c)
                 ])) [
                   | inl s ↦ holder_at s.2.1 s.2.2 s.0 (omega (arith, some, s.2.0)) (omega (arith, s.1)) s.2.3
                       (apart s.0 s.2.0 (omega (arith, s.1))) (w.views s.2.1).phase refl
-                  | inr none ↦ free_goes c lim keeps ends w good t lt (Freezes x) at (
+                  | inr none ↦ beside_goes c lim keeps ends w good t lt (Freezes x) at (
                     nobody_inside,
                     locks,
                     λ i low high. nothing_counted c w good i (omega (arith, some, low)) high out (none i (omega (arith, high)) low),
-                  )
+                  ) refl
                 ]
           ]
 
@@ -286,18 +285,31 @@ module _ (c : Config) (lim : IsWithin c)
   beside : (w : World) (z : ℕ) (phase : Phase) (hook : HookAnswer) (y : ℕ) → (y ≡ z → ⊥) → (after_step w z phase hook).views y ≡ w.views y
   beside w z phase hook y ne = update_off w.views z (view_after (w.views z) phase (value_at w.words phase hook) hook) y ne
 
-  -- A freeze that no idle task keeps has a reply near.
-  pub freeze_goes : (w : World) → IsGood c w → (t : ℕ) → t < c.tasks → (x : Freeze) → (w.views t).phase ≡ Some (Freezes x) →
-      IdleApart c w x.step → FirstFree w.words x.step → ReplyWithin c (most_settled c) w
-  freeze_goes w good t lt x at apart first =
+  -- an owner of `umount` that is no freeze has a reply near
+  owner_either : (w : World) → IsGood c w → ReplyWithin c (most_alone c) w ⊎ OwnerFreezes c w
+  owner_either w good =
+      elim (eqb_tells w.words.umount 0) [
+        | inl free ↦ inr (inl free.1)
+        | inr taken ↦
+            let u : HasOwner c w = has_owner c w good taken.1 in
+            elim (owner_free c w.words u.phase u.owner) [
+              | inl free ↦ inl (free_goes c lim keeps ends w good u.task u.there u.phase u.at free)
+              | inr x ↦ inr (inr (u.task, u.there, x.0, u.at ∙ ap Some x.1, (good Owner).locked u.task u.there (ap owns u.at ∙ u.owner)))
+            ]
+      ]
+
+  -- A freeze that no idle task keeps has a reply near,
+  settled_goes : (w : World) → IsGood c w → (t : ℕ) → t < c.tasks → (x : Freeze) → (w.views t).phase ≡ Some (Freezes x) →
+      IdleApart c w x.step → FirstFree w.words x.step → OwnerFreezes c w → ReplyWithin c (most_beside c + 5 * (c.tasks - 1)) w
+  settled_goes w good t lt x at apart first freezing =
       all_leave c keeps
-      (λ (v : World). ((v.views t).phase ≡ Some (Freezes x)) × IdleApart c v x.step × FirstFree v.words x.step)
+      (λ (v : World). ((v.views t).phase ≡ Some (Freezes x)) × IdleApart c v x.step × FirstFree v.words x.step × OwnerFreezes c v)
       (λ v z lz phase at' within hook q is cond.
       let next : World = after_step v z phase hook in
       let stays : StaysBeside v.words next.words = phase_beside v.words phase hook within in
-      let ne : t ≡ z → ⊥ = λ e.
-      omega (arith, within, ap inside at', ap (λ y. inside (v.views y).phase) e, ap inside cond.0) in (
-        ap (λ (u : View). u.phase) (beside v z phase hook t ne) ∙ cond.0,
+      let apart_from : (a : ℕ) (y : Freeze) → (v.views a).phase ≡ Some (Freezes y) → a ≡ z → ⊥ = λ a y there e.
+      omega (arith, within, ap inside at', ap (λ y. inside (v.views y).phase) e, ap inside there) in (
+        ap (λ (u : View). u.phase) (beside v z phase hook t (apart_from t x cond.0)) ∙ cond.0,
         λ i low high y ly none. elim (eqb_tells y z) [
           | inl e ↦ absurd (not_none q (sym is ∙ (sym (ap (λ a. (next.views a).phase) e.1) ∙ none)))
           | inr e ↦
@@ -307,18 +319,40 @@ module _ (c : Config) (lim : IsWithin c)
               (sym (ap (λ (u : View). u.phase) same) ∙ none)
         ],
         first_same v.words next.words x.step stays.umount_same cond.2,
+        elim cond.3 [
+          | inl free ↦ inl (stays.umount_same ∙ free)
+          | inr u ↦ inr (
+            u.0,
+            u.1,
+            u.2,
+            ap (λ (a : View). a.phase) (beside v z phase hook u.0 (apart_from u.0 u.2 u.3)) ∙ u.3,
+            stays.umount_same ∙ u.4,
+          )
+        ],
       ))
-      (most_alone c) (λ v good' cond none. freeze_base v good' (all_out v none) t lt x cond.0 cond.1 cond.2)
-      (c.tasks - 1) w good (at, apart, first) (few_within w t lt (ap inside at))
+      (most_beside c) (λ v good' cond none. freeze_base v good' cond.3 (all_out v none) t lt x cond.0 cond.1 cond.2)
+      (c.tasks - 1) w good (at, apart, first, freezing) (few_within w t lt (ap inside at))
+
+  -- whoever owns `umount`
+  pub freeze_goes : (w : World) → IsGood c w → (t : ℕ) → t < c.tasks → (x : Freeze) → (w.views t).phase ≡ Some (Freezes x) →
+      IdleApart c w x.step → FirstFree w.words x.step → ReplyWithin c (most_settled c) w
+  freeze_goes w good t lt x at apart first =
+      elim (owner_either w good) [
+        | inl goes ↦ no_further c (most_alone c) (most_settled c) w (alone_settled c) goes
+        | inr freezing ↦ no_further c (most_beside c + 5 * (c.tasks - 1)) (most_settled c) w (beside_settled c)
+            (settled_goes w good t lt x at apart first freezing)
+      ]
 
   -- and so has a callback
   pub callback_goes : (w : World) → IsGood c w → (t : ℕ) → t < c.tasks → (b : Callback) → (w.views t).phase ≡ Some (Callbacks b) →
       ReplyWithin c (most_settled c) w
   callback_goes w good t lt b at =
-      all_leave c keeps (λ (v : World). (v.views t).phase ≡ Some (Callbacks b))
+      no_further c (most_beside c + 5 * (c.tasks - 1)) (most_settled c) w (beside_settled c)
+      (all_leave c keeps (λ (v : World). (v.views t).phase ≡ Some (Callbacks b))
       (λ v z lz phase at' within hook q is cond.
       let ne : t ≡ z → ⊥ = λ e.
       omega (arith, within, ap inside at', ap (λ y. inside (v.views y).phase) e, ap inside cond) in
       ap (λ (u : View). u.phase) (beside v z phase hook t ne) ∙ cond)
-      (most_alone c) (λ v good' cond none. free_goes c lim keeps ends v good' t lt (Callbacks b) cond (nobody_inside v good' (all_out v none)))
-      (c.tasks - 1) w good at (few_within w t lt (ap inside at))
+      (most_beside c) (λ v good' cond none. beside_goes c lim keeps ends v good' t lt (Callbacks b) cond
+      (λ y ly. good' Sections y ly ∙ all_out v none y ly) refl)
+      (c.tasks - 1) w good at (few_within w t lt (ap inside at)))

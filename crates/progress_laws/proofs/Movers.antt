@@ -69,10 +69,10 @@ use Rattle.gate_world.specs.Worlds.{World}
 use Rattle.gate_frames.proofs.Owners.{owns_le, hold_owns, who_holds}
 use Rattle.cpu_words.specs.Words.{Words}
 use Rattle.progress_laws.specs.Progress.{EventsKeepRule, ReplyWithin}
-use Rattle.progress_laws.specs.Ranks.{most_alone}
+use Rattle.progress_laws.specs.Ranks.{most_beside, most_alone}
 use Rattle.progress_laws.specs.Ways.{IsFree, HoldIsClear, NothingCounted, ChangeIsFree, RemountIsFree, ThawIsFree, SnapshotIsFree, PhaseEnds}
 use Rattle.progress_laws.proofs.Falls.{runs_out}
-use Rattle.progress_laws.proofs.Bounds.{rank_small}
+use Rattle.progress_laws.proofs.Bounds.{is_beside, beside_small, rank_small}
 
 -- an owner that is no freeze waits for nobody
 change_owner : (w : Words) (wait : Bool) (s : ChangeStep) → change_owns s ≡ 1 → ChangeIsFree w s wait
@@ -137,6 +137,13 @@ module _ (c : Config) (lim : IsWithin c)
       runs_out c lim keeps ends (most_alone c) w good t lt phase at free
       (rank_small c lim w.words t (held_at (w.views t)) (holds_level (w.views t)) phase (fits_at c w good t lt phase at))
 
+  -- fewer, where it is no remount and no snapshot
+  pub beside_goes : (w : World) → IsGood c w → (t : ℕ) → t < c.tasks → (phase : Phase) → (w.views t).phase ≡ Some phase →
+      IsFree c w.words phase → is_beside phase ≡ true → ReplyWithin c (most_beside c) w
+  beside_goes w good t lt phase at free beside =
+      runs_out c lim keeps ends (most_beside c) w good t lt phase at free
+      (beside_small c lim w.words t (held_at (w.views t)) (holds_level (w.views t)) phase (fits_at c w good t lt phase at) beside)
+
   -- so has who has HOLD set at a mount
   holder_of : (w : World) → IsGood c w → (y : ℕ) → y < c.tasks → (m : ℕ) → (p : Option Phase) → (w.views y).phase ≡ p →
       has_hold (role_of m p) ≡ 1 → ReplyWithin c (most_alone c) w
@@ -159,6 +166,34 @@ module _ (c : Config) (lim : IsWithin c)
             who_holds c w good t lt m lm (hold_set (w.words.flags m) (good (AtMount m) lm).bits set) mine in
             holder_of w good who.0 who.1 m (w.views who.0).phase refl who.3
         | inr clear ↦ free_goes w good t lt phase at (free clear)
+      ]
+
+-- `umount` is free, or a freeze's
+abbrev pub OwnerFreezes : Config → World → Type 0
+OwnerFreezes c w =
+    (w.words.umount ≡ 0) ⊎ ((u : ℕ) × (u < c.tasks) × (x : Freeze) × ((w.views u).phase ≡ Some (Freezes x)) × (w.words.umount ≡ suc u))
+
+-- then no mount has HOLD set
+module _ (c : Config) (w : World) (good : IsGood c w) (freezing : OwnerFreezes c w) where
+  freeze_owns : (y : ℕ) → y < c.tasks → owns (w.views y).phase ≡ 1 → (x : Freeze) × ((w.views y).phase ≡ Some (Freezes x))
+  freeze_owns y ly own = elim freezing [
+    | inl free ↦ absurd (omega (arith, (good Owner).locked y ly own, free))
+    | inr u ↦
+        let e : y ≡ u.0 = omega (arith, (good Owner).locked y ly own, u.4) in
+        (u.2, ap (λ a. (w.views a).phase) e ∙ u.3)
+  ]
+
+  pub hold_clear : (t : ℕ) → t < c.tasks → owns (w.views t).phase ≡ 0 → (m : ℕ) → m < c.mounts → HoldIsClear w.words m
+  hold_clear t lt none m lm =
+      elim (cases_Bool (has_flag (w.words.flags m) 2)) [
+        | inr clear ↦ clear
+        | inl set ↦
+            let mine : has_hold (role_of m (w.views t).phase) ≡ 0 = omega (arith, hold_owns m (w.views t).phase, none) in
+            let who : (y : ℕ) × (y < c.tasks) × (y ≡ t → ⊥) × (has_hold (role_of m (w.views y).phase) ≡ 1) =
+            who_holds c w good t lt m lm (hold_set (w.words.flags m) (good (AtMount m) lm).bits set) mine in
+            let own : owns (w.views who.0).phase ≡ 1 =
+            omega (arith, who.3, hold_owns m (w.views who.0).phase, owns_le (w.views who.0).phase) in
+            absurd (omega (arith, who.3, ap (λ q. has_hold (role_of m q)) (freeze_owns who.0 who.1 own).1))
       ]
 
 -- who holds a level is at no operation of those that hold none

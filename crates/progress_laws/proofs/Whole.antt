@@ -57,6 +57,7 @@ use Rattle.progress_laws.specs.Progress.{
 }
 use Rattle.progress_laws.specs.Ranks.{most_alone, most_settled}
 use Rattle.progress_laws.specs.Ways.{IsFree, PhaseEnds, ChangeIsFree, RemountIsFree, ThawIsFree, SnapshotIsFree}
+use Rattle.progress_laws.proofs.Bounds.{alone_settled}
 use Rattle.progress_laws.proofs.Falls.{stands_after, no_further, near_by}
 use Rattle.progress_laws.proofs.Movers.{owner_free, HasOwner, has_owner, fits_at, free_goes, want_goes}
 use Rattle.progress_laws.proofs.Freezing.{search_below, not_none, IdleApart, kept_or_apart, FirstFree, freeze_goes, callback_goes}
@@ -235,7 +236,7 @@ module _ (c : Config) (lim : IsWithin c)
 
   module _ (w : World) (good : IsGood c w) where
     near : ReplyWithin c (most_alone c) w → ReplyWithin c (most_settled c + 5) w
-    near = no_further c (most_alone c) (most_settled c + 5) w (omega arith)
+    near = no_further c (most_alone c) (most_settled c + 5) w (omega (arith, alone_settled c))
 
     nearly : ReplyWithin c (most_settled c) w → ReplyWithin c (most_settled c + 5) w
     nearly = no_further c (most_settled c) (most_settled c + 5) w (omega arith)
@@ -272,7 +273,7 @@ module _ (c : Config) (lim : IsWithin c)
 
       -- the same in another world
       reaches : (v : World) → IsGood c v → (q : Phase) → (v.views t).phase ≡ Some q → IsFree c v.words q → ReplyWithin c (most_settled c) v
-      reaches v good' q at free = no_further c (most_alone c) (most_settled c) v (omega arith) (free_goes c lim keeps ends v good' t lt q at free)
+      reaches v good' q at free = no_further c (most_alone c) (most_settled c) v (alone_settled c) (free_goes c lim keeps ends v good' t lt q at free)
 
       -- at stage 1 a freeze at its first lock has no level to pass
       apart_at_one : (v : World) → v.words.stage ≡ 1 → IdleApart c v FreezeLocks

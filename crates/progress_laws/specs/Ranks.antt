@@ -351,14 +351,22 @@ rank w (Thaws x) = thaw_rank w x.step
 rank w (Trees phase) = tree_rank phase
 rank w (FileCloses phase) = close_rank phase
 
--- More than the rank of any phase that fits: of a remount, or of a freeze's three levels and of all others.
+-- More than the rank of a remount or a snapshot, which own `umount` where they may take so long,
+abbrev pub most_in_loop : Config → ℕ
+most_in_loop c = c.mounts * (c.processors + 2) + 2 * c.nodes + 17
+
+-- and of a phase of any other operation: a freeze may have begun a sum that doesn't come to 0, or three levels to close
+abbrev pub most_beside : Config → ℕ
+most_beside c = 3 * c.processors + 2 * c.tasks + c.nodes + 24 + max c.processors (c.tasks + 10)
+
+-- and so of any phase
 abbrev pub most_alone : Config → ℕ
-most_alone c = max (c.mounts * (c.processors + 2) + c.nodes + 17) (4 * c.processors + 3 * c.tasks + 2 * c.nodes + 34)
+most_alone c = max (most_in_loop c) (most_beside c)
 
--- with the events by which all others who are inside a section leave it first
+-- where all others who are inside a section have to leave it first, which takes 5 events each, it is no remount and no snapshot
 abbrev pub most_settled : Config → ℕ
-most_settled c = most_alone c + 5 * (c.tasks - 1)
+most_settled c = max (most_in_loop c) (most_beside c + 5 * (c.tasks - 1))
 
--- and those of a freeze that takes `umount` and releases it, after which another one is busy
+-- with those of a freeze that takes `umount` and releases it, after which another one is busy
 abbrev pub most_events_to_reply : Config → ℕ
 most_events_to_reply c = most_settled c + 5

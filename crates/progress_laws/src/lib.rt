@@ -19,8 +19,8 @@ pub fn each_event_comes_nearer_to_the_reply()
 /// Freedom from deadlock, of a world in which the rule holds, where each event keeps it. With any operation under way:
 ///
 /// - `progress`: a bounded number of events of tasks under way, which somebody picks one by one, lead to a reply of one of them, whatever
-///   the hooks answer; or each operation under way is kept (`IsKeptAt`). The bound is the larger of M (P + 2) + N + 17 and
-///   4 P + 3 T + 2 N + 34, and 5 T more, for M mounts, P processors, T tasks and N nodes.
+///   the hooks answer; or each operation under way is kept (`IsKeptAt`). The bound is the largest of M (P + 2) + 2 N + 22,
+///   4 P + 7 T + N + 24 and 3 P + 8 T + N + 34, for M mounts, P processors, T tasks and N nodes.
 /// - `replies`: so a reply is at most so many events away, or the file system is frozen as a whole, or an idle task keeps a freeze that is
 ///   under way.
 ///
