@@ -17,6 +17,12 @@ pub write_is_quiet : {tasks processors : ℕ} {count : ℕ → ℕ} {at at' : �
 write_is_quiet {tasks} {processors} {count} p n lp was now before after =
     let small : n < 18446744073709551616 = omega (arith, now.fits p lp, update_at count p n) in
     let same : n ≡ count p =
-    omega (arith, sums_to_none was before, sums_to_none now after, total_changed_by (λ q (word : ℕ). word) processors p count n lp,
-    was.fits p lp, small) in
+    omega (
+      arith,
+      sums_to_none was before,
+      sums_to_none now after,
+      total_changed_by (λ q (word : ℕ). word) processors p count n lp,
+      was.fits p lp,
+      small,
+    ) in
     ap (update count p) same ∙ update_same count p

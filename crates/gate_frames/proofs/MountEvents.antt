@@ -353,4 +353,3 @@ whole_step c w t lt good hook x e keeps = (
       ],
   keeps.1,
 )
-
