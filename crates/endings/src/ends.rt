@@ -1,25 +1,33 @@
 //! How the program ends, and what it tells of a fault.
 
 ghost use Rattle.std.specs.Prelude.{◌≡◌, ◌⊎◌};
-ghost use Rattle.endings.specs.declared.ends.Ending.TheVariants.{Done, DoneOverGates, Ran, Refused, Misused};
+ghost use Rattle.endings.specs.declared.ends.Ending.TheVariants.{Done, DoneOfFile, DoneOverGates, Shown, Passed, Ran, Told, Refused, Misused};
 
 use access_model::GateError;
-use schedule_bytes::ReplayFault;
+use schedule_bytes::{ReplayFault, write_out};
 use std::io;
 use std::io::Write;
 
 /// How the program ends.
 #[derive(Clone, Copy, PartialEq, Eq, Debug)]
 pub enum Ending {
-    /// The whole schedule was done.
+    /// The whole schedule of standard input was done.
     Done,
+    /// The whole schedule of a file was done.
+    DoneOfFile,
     /// It was done over the gates that threads use.
     DoneOverGates,
+    /// It was done, and shown in another form.
+    Shown,
+    /// Each schedule of a check prints what it says.
+    Passed,
     /// A run was done, and what it counted is written.
     Ran,
-    /// A schedule or a run was refused, or could not be read or written, or there was no memory.
+    /// Help or the version was asked for, and is written.
+    Told,
+    /// A schedule or a run was refused, or could not be read or written, or there was no memory; or a check failed.
     Refused,
-    /// The command line has a fault; asking for help is one.
+    /// The command line has a fault.
     Misused,
 }
 
@@ -27,25 +35,54 @@ impl Ending {
     /// The exit status.
     pub fn status(self) -> u8
         ensures done { self ≡ Done → result ≡ 0 }
+        ensures done_of_file { self ≡ DoneOfFile → result ≡ 0 }
         ensures done_over_gates { self ≡ DoneOverGates → result ≡ 0 }
+        ensures shown { self ≡ Shown → result ≡ 0 }
+        ensures passed { self ≡ Passed → result ≡ 0 }
         ensures ran { self ≡ Ran → result ≡ 0 }
+        ensures told { self ≡ Told → result ≡ 0 }
         ensures refused { self ≡ Refused → result ≡ 1 }
         ensures misused { self ≡ Misused → result ≡ 2 }
     {
         match self {
-            Ending::Done | Ending::DoneOverGates | Ending::Ran => 0,
+            Ending::Done | Ending::DoneOfFile | Ending::DoneOverGates | Ending::Shown => 0,
+            Ending::Passed | Ending::Ran | Ending::Told => 0,
             Ending::Refused => 1,
             Ending::Misused => 2,
         }
     }
 }
 
-/// Says at which line a schedule ended, and why.
-pub fn fault_told<E: Write>(fault: ReplayFault, errors: &mut E) -> Ending
+/// Says at which line a schedule ended, of which file, if it has one, and why.
+pub fn fault_told<E: Write>(fault: ReplayFault, file: Option<&str>, errors: &mut E) -> Ending
     ensures { result ≡ Refused }
 {
-    let _ = writeln!(errors, "{fault}");
+    let _ = match file {
+        None => writeln!(errors, "{fault}"),
+        Some(file) => writeln!(errors, "{file}: {fault}"),
+    };
     Ending::Refused
+}
+
+/// Says why a file can't be opened or read.
+pub fn unopened<E: Write>(file: &str, error: &io::Error, errors: &mut E) -> Ending
+    ensures { result ≡ Refused }
+{
+    let _ = writeln!(errors, "{file}: {error}");
+    Ending::Refused
+}
+
+/// Writes the text that was asked for of the program itself.
+pub fn text_told<W: Write, E: Write>(text: &str, writer: &mut W, errors: &mut E) -> Ending
+    ensures { (result ≡ Told) ⊎ (result ≡ Refused) }
+{
+    match write_out(writer, text.as_bytes()) {
+        Ok(()) => Ending::Told,
+        Err(fault) => {
+            let _ = writeln!(errors, "{}", fault.text());
+            Ending::Refused
+        }
+    }
 }
 
 /// Says why a run ended.

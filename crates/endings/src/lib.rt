@@ -3,4 +3,4 @@
 
 pub mod ends;
 
-pub use ends::{Ending, fault_told, refused, unreadable};
+pub use ends::{Ending, fault_told, refused, text_told, unopened, unreadable};

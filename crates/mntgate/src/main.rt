@@ -1,6 +1,7 @@
 //! The program: write gates of a mounted file system, driven from the command line.
 #![tactic(auto)]
 
+mod checks;
 mod gates_driver;
 mod program;
 mod replay;
@@ -10,16 +11,20 @@ mod tests;
 
 use anyhow::Result;
 use endings::unreadable;
+use program::Person;
 use std::io::IsTerminal;
 use std::process::ExitCode;
 
 fn main(rt: HostRuntime) -> Result<ExitCode> {
     let alloc = rt.alloc();
     let (mut reader, mut writer, mut errors) = (rt.stdin(), rt.stdout(), rt.stderr());
-    let watched = if errors.is_terminal() {
-        Some(rt.stderr())
-    } else {
-        None
+    let person = Person {
+        watches: if errors.is_terminal() {
+            Some(rt.stderr())
+        } else {
+            None
+        },
+        types: reader.is_terminal(),
     };
     let ending = match std::env::args(&rt) {
         Ok(words) => {
@@ -31,7 +36,7 @@ fn main(rt: HostRuntime) -> Result<ExitCode> {
                 &mut reader,
                 &mut writer,
                 &mut errors,
-                watched,
+                person,
             )?
         }
         Err(error) => unreadable(&error, &mut errors),

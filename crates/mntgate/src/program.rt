@@ -2,38 +2,60 @@
 
 ghost use Rattle.std.specs.Prelude.{◌≡◌, ◌⊎◌, IfOk, Ok, Err};
 ghost use Rattle.transcripts.specs.Replayed.{Replayed};
-ghost use Rattle.endings.specs.declared.ends.Ending.TheVariants.{Done, DoneOverGates, Ran, Refused};
-ghost use Rattle.schedule_bytes.specs.declared.replay_faults.ReplayFault.{ReplayFault};
+ghost use Rattle.endings.specs.declared.ends.Ending.TheVariants.{Done, Ran, Refused};
 
-use crate::replay::replay_gates;
+use crate::checks::run_checks;
+use crate::gates_driver::GatesDriver;
+use crate::replay::{Telling, replay_core, replay_gates, show_told};
 use crate::runs;
 use crate::runs::Progress;
-use command_line::{Asked, Numbers, read_words};
-use endings::{Ending, fault_told};
-use replays::replay::replay;
+use command_line::{Asked, Form, Numbers, Replay, read_words};
+use endings::{Ending, text_told, unopened};
+use replays::Core;
 use std::alloc::{AllocError, Global};
+use std::fs;
 use std::io::{Read, Stderr, Write};
+use std::rt::Files;
 use std::sync::Wait;
 use std::thread::Threads;
 
+/// What a person is told who is to type a schedule.
+const AWAITED: &str =
+    "mntgate: type a schedule, from 'config TASKS CPUS MOUNTS NODES CAPACITY' on; Ctrl-D ends it";
+
+/// Where a person is.
+#[derive(Drop)]
+pub(crate) struct Person {
+    /// Standard error, where it is a terminal.
+    pub(crate) watches: Option<Stderr>,
+    /// Whether standard input is one.
+    pub(crate) types: bool,
+}
+
 /// Does what the words of a command line ask for; faults are told on a writer of their own, and where they can't be, the
-/// program ends the same. Where a person watches, a run tells there how far it is.
-pub(crate) fn run<R: Threads + Wait + Sync, I: Read, W: Write, E: Write>(
+/// program ends the same. Where a person watches, a run tells there how far it is, and a fault of a schedule is explained.
+pub(crate) fn run<
+    R: Threads + Wait + Sync + Files + Alloc<A = Global>,
+    I: Read,
+    W: Write,
+    E: Write,
+>(
     rt: &R,
     alloc: Global,
     words: &[String],
     reader: &mut I,
     writer: &mut W,
     errors: &mut E,
-    watched: Option<Stderr>,
+    person: Person,
 ) -> Result<Ending, AllocError>
     ensures done { IfOk result (λ ending. ending ≡ Done →
         Replayed (I.remaining reader.old) (I.remaining reader.new) (W.contents writer.old) (W.contents writer.new) (Ok tt)) }
 {
     match read_words(alloc, words, errors)? {
-        Asked::Replay => Ok(run_replay(alloc, reader, writer, errors)),
-        Asked::ReplayOverGates => Ok(run_replay_gates(alloc, reader, writer, errors)),
-        Asked::Run(numbers) => Ok(run_threads(rt, alloc, numbers, writer, errors, watched)),
+        Asked::Replay(asked) => Ok(run_replay(rt, alloc, asked, reader, writer, errors, &person)),
+        Asked::Check(files) => run_checks(rt, alloc, files.as_slice(), reader, writer, errors),
+        Asked::Run(numbers) => Ok(run_threads(rt, alloc, numbers, writer, errors, person.watches)),
+        Asked::Told(text) => Ok(text_told(text.as_str(), writer, errors)),
         Asked::Unread => Ok(Ending::Refused),
         Asked::Misused => Ok(Ending::Misused),
     }
@@ -59,36 +81,76 @@ fn run_threads<R: Threads + Wait + Sync, W: Write, E: Write>(
     }
 }
 
-/// Replays a schedule.
-fn run_replay<R: Read, W: Write, E: Write>(
+/// Replays a schedule: that of a file, or that of the reader.
+fn run_replay<R: Files, I: Read, W: Write, E: Write>(
+    rt: &R,
     alloc: Global,
-    reader: &mut R,
+    asked: Replay<'_>,
+    reader: &mut I,
+    writer: &mut W,
+    errors: &mut E,
+    person: &Person,
+) -> Ending
+    ensures done { result ≡ Done →
+        Replayed (I.remaining reader.old) (I.remaining reader.new) (W.contents writer.old) (W.contents writer.new) (Ok tt) }
+{
+    let telling = Telling {
+        file: asked.file,
+        explains: asked.explain || person.watches.is_some(),
+    };
+    match asked.file {
+        Some(file) => match fs::open(rt, file) {
+            Ok(mut opened) => match replay_as(alloc, asked, telling, &mut opened, writer, errors) {
+                Ending::Done => Ending::DoneOfFile,
+                ending => ending,
+            },
+            Err(error) => unopened(file, &error, errors),
+        },
+        None => {
+            if person.types {
+                let _ = writeln!(errors, "{AWAITED}");
+            }
+            replay_as(alloc, asked, telling, reader, writer, errors)
+        }
+    }
+}
+
+/// Replays the schedule of a reader in the form that is asked for.
+fn replay_as<I: Read, W: Write, E: Write>(
+    alloc: Global,
+    asked: Replay<'_>,
+    telling: Telling<'_>,
+    reader: &mut I,
     writer: &mut W,
     errors: &mut E,
 ) -> Ending
     ensures done { result ≡ Done →
-        Replayed (R.remaining reader.old) (R.remaining reader.new) (W.contents writer.old) (W.contents writer.new) (Ok tt) }
-    ensures refused { result ≡ Refused → (fault : ReplayFault) ×
-        Replayed (R.remaining reader.old) (R.remaining reader.new) (W.contents writer.old) (W.contents writer.new) (Err fault) }
-    ensures read { (result ≡ Done) ⊎ (result ≡ Refused) }
+        Replayed (I.remaining reader.old) (I.remaining reader.new) (W.contents writer.old) (W.contents writer.new) (Ok tt) }
 {
-    match replay(alloc, reader, writer) {
-        Ok(()) => Ending::Done,
-        Err(fault) => fault_told(fault, errors),
-    }
-}
-
-/// Replays a schedule over the gates that threads use.
-fn run_replay_gates<R: Read, W: Write, E: Write>(
-    alloc: Global,
-    reader: &mut R,
-    writer: &mut W,
-    errors: &mut E,
-) -> Ending
-    ensures { (result ≡ DoneOverGates) ⊎ (result ≡ Refused) }
-{
-    match replay_gates(alloc, reader, writer) {
-        Ok(()) => Ending::DoneOverGates,
-        Err(fault) => fault_told(fault, errors),
+    let form = match asked.form {
+        Form::Plain if asked.over_gates => {
+            return match replay_gates(alloc, telling, reader, writer, errors) {
+                Ok(()) => Ending::DoneOverGates,
+                Err(_) => Ending::Refused,
+            };
+        }
+        Form::Plain => {
+            return match replay_core(alloc, telling, reader, writer, errors) {
+                Ok(()) => Ending::Done,
+                Err(_) => Ending::Refused,
+            };
+        }
+        Form::Events => shown_events::Form::Events,
+        Form::Columns => shown_events::Form::Columns,
+        Form::Json => shown_events::Form::Json,
+    };
+    let ended = if asked.over_gates {
+        show_told::<GatesDriver, I, W, E>(alloc, form, telling, reader, writer, errors)
+    } else {
+        show_told::<Core, I, W, E>(alloc, form, telling, reader, writer, errors)
+    };
+    match ended {
+        Ok(()) => Ending::Shown,
+        Err(_) => Ending::Refused,
     }
 }

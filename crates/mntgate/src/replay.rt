@@ -1,22 +1,116 @@
-//! A schedule over the gates that threads use.
+//! A schedule over whichever gates, with its fault told.
 
-ghost use Rattle.std.specs.Prelude.{IfErr};
+ghost use Rattle.std.specs.Prelude.{◌≡◌, true, IfErr};
 ghost use Rattle.transcripts.specs.Limits.{IsLineNumber};
+ghost use Rattle.transcripts.specs.Replayed.{Replayed};
 
 use crate::gates_driver::GatesDriver;
-use replays::replay::replay_over;
-use schedule_bytes::ReplayFault;
+use endings::fault_told;
+use explained_faults::explanation;
+use replays::replay::replay_to_end;
+use replays::{Core, Driver};
+use schedule_bytes::{ReplayFault, fault_after};
+use shown_events::{Form, Show};
 use std::alloc::Global;
 use std::io::{Read, Write};
+use transcripts::no_memory;
+
+/// What is told of a fault.
+#[derive(Clone, Copy)]
+pub(crate) struct Telling<'a> {
+    /// The schedule's file, if it has one.
+    pub(crate) file: Option<&'a str>,
+    /// Whether what helps is told on a line of its own.
+    pub(crate) explains: bool,
+}
+
+/// A schedule over the core.
+pub(crate) fn replay_core<R: Read, W: Write, E: Write>(
+    alloc: Global,
+    telling: Telling<'_>,
+    reader: &mut R,
+    writer: &mut W,
+    errors: &mut E,
+) -> Result<(), ReplayFault>
+    ensures replayed { Replayed (R.remaining reader.old) (R.remaining reader.new) (W.contents writer.old) (W.contents writer.new) result }
+{
+    replay_told::<Core, R, W, E>(alloc, telling, reader, writer, errors)
+}
 
 /// The same language and the same text, by one thread over the gates that threads use, with a task for each number; none of them is
 /// joined. A configuration is refused as `Gates::new` is, then as `Task::split` is, then as `Model::new` is.
-pub fn replay_gates<R: Read, W: Write>(
+pub(crate) fn replay_gates<R: Read, W: Write, E: Write>(
     alloc: Global,
+    telling: Telling<'_>,
     reader: &mut R,
     writer: &mut W,
+    errors: &mut E,
 ) -> Result<(), ReplayFault>
     ensures { IfErr result (λ fault. IsLineNumber fault.line) }
 {
-    replay_over::<GatesDriver, R, W>(alloc, reader, writer)
+    replay_told::<GatesDriver, R, W, E>(alloc, telling, reader, writer, errors)
+}
+
+/// A schedule over whatever gates. Its fault is told on a writer of faults, and where that can't be done it ends the same.
+fn replay_told<D: Driver, R: Read, W: Write, E: Write>(
+    alloc: Global,
+    telling: Telling<'_>,
+    reader: &mut R,
+    writer: &mut W,
+    errors: &mut E,
+) -> Result<(), ReplayFault>
+    ensures replayed { D.is_known ≡ true →
+        Replayed (R.remaining reader.old) (R.remaining reader.new) (W.contents writer.old) (W.contents writer.new) result }
+    ensures line { IfErr result (λ fault. IsLineNumber fault.line) }
+{
+    let ended = replay_to_end::<D, R, W>(alloc, reader, writer);
+    if let Err(fault) = ended.result {
+        let _ = fault_told(fault, telling.file, errors);
+        if telling.explains
+            && let Some(replay) = &ended.replay
+        {
+            explain(alloc, fault, replay.rest(), replay.tasks(), errors);
+        }
+    }
+    ended.result
+}
+
+/// A schedule that is shown, over whatever gates.
+pub(crate) fn show_told<D: Driver, R: Read, W: Write, E: Write>(
+    alloc: Global,
+    form: Form,
+    telling: Telling<'_>,
+    reader: &mut R,
+    writer: &mut W,
+    errors: &mut E,
+) -> Result<(), ReplayFault> {
+    let mut show = match Show::<D>::new(alloc, form) {
+        Ok(show) => show,
+        Err(error) => {
+            let fault = fault_after(0, no_memory(error));
+            let _ = fault_told(fault, telling.file, errors);
+            return Err(fault);
+        }
+    };
+    let ended = show.do_lines(reader, writer);
+    if let Err(fault) = ended {
+        let _ = fault_told(fault, telling.file, errors);
+        if telling.explains {
+            explain(alloc, fault, show.rest(), show.tasks(), errors);
+        }
+    }
+    ended
+}
+
+/// Tells what helps after a fault, if there is something to tell, and memory and a writer for it.
+fn explain<E: Write>(
+    alloc: Global,
+    fault: ReplayFault,
+    rest: &[u8],
+    tasks: Option<u8>,
+    errors: &mut E,
+) {
+    if let Ok(Some(text)) = explanation(alloc, fault, rest, tasks) {
+        let _ = writeln!(errors, "{text}");
+    }
 }

@@ -2,6 +2,10 @@
 //! whatever gates, each of which a test here calls over the core, and one of `mntgate` over the gates that threads use.
 #![tactic(auto)]
 
+#[cfg(test)]
+mod checked;
+#[cfg(test)]
+mod explained;
 pub mod fakes;
 mod freezes;
 mod levels;

@@ -188,8 +188,15 @@ impl<D: Driver> LineReplay<D> {
         self.input.read(reader)
     }
 
+    /// What was read from the line on that is to be done next; after a fault, from the faulty line on.
+    pub fn rest(&self) -> &[u8]
+        ensures { result.now ≡ pending self.now.input }
+    {
+        self.input.pending()
+    }
+
     /// How many tasks there are, once there is a configuration.
-    fn tasks(&self) -> Option<u8>
+    pub fn tasks(&self) -> Option<u8>
         ensures { (p : Option Play) → ShowsPlayIfAny D.shows self.now.session p → result ≡ tasks_of p }
     {
         self.session.as_ref().map(|session| session.tasks())
@@ -206,8 +213,9 @@ impl<D: Driver> LineReplay<D> {
             IfErr result (λ fault. Stops input held left self.new.output.bytes.items holds done fault) }
     {
         let line = parse(self.input.first(length), self.tasks())?;
+        self.do_parsed(line)?;
         self.input.take(length + 1);
-        self.do_parsed(line)
+        Ok(())
     }
 
     /// Does what a line asks for. Where it fails, nothing of it is printed.

@@ -33,8 +33,39 @@ pub fn replay_over<D: Driver, R: Read, W: Write>(
         Replayed (R.remaining reader.old) (R.remaining reader.new) (W.contents writer.old) (W.contents writer.new) result }
     ensures line { IfErr result (λ fault. IsLineNumber fault.line) }
 {
+    replay_to_end::<D, R, W>(alloc, reader, writer).result
+}
+
+/// A replay that has ended.
+#[derive(Drop)]
+pub struct Ended<D> {
+    /// Whether all lines were done, or the fault.
+    pub result: Result<(), ReplayFault>,
+    /// The replay as it is then; None where there was no memory to begin it.
+    pub replay: Option<LineReplay<D>>,
+}
+
+/// The same, with the replay as it is at its end.
+pub fn replay_to_end<D: Driver, R: Read, W: Write>(
+    alloc: Global,
+    reader: &mut R,
+    writer: &mut W,
+) -> Ended<D>
+    ensures replayed { D.is_known ≡ true →
+        Replayed (R.remaining reader.old) (R.remaining reader.new) (W.contents writer.old) (W.contents writer.new) result.result }
+    ensures line { IfErr result.result (λ fault. IsLineNumber fault.line) }
+{
     match LineReplay::<D>::new(alloc) {
-        Ok(mut replay) => replay.do_lines(reader, writer),
-        Err(error) => Err(fault_after(0, no_memory(error))),
+        Ok(mut replay) => {
+            let result = replay.do_lines(reader, writer);
+            Ended {
+                result,
+                replay: Some(replay),
+            }
+        }
+        Err(error) => Ended {
+            result: Err(fault_after(0, no_memory(error))),
+            replay: None,
+        },
     }
 }

@@ -1,6 +1,6 @@
 -- A replay from one step to the next, and to its end.
 use Rattle.std.proofs.Common.{◌≡◌, ℕ, zero, suc, ◌+◌, ◌-◌, ◌<◌, ◌≤◌, refl, sym, ap, subst, ◌∙◌, arith, List, [], ◌∷◌, ◌++◌, length, take, drop, append_assoc, append-nil, length-take, length-append, take-append-drop, true, false, Option, Some, None, Result, Ok, Err, ◌⊎◌, inl, inr}
-use Rattle.std.specs.Prelude.{IfSome, IsSome, IfOk, IfErr, OnOk, OnErr}
+use Rattle.std.specs.Prelude.{IfSome, IsSome, IfOk, IfErr, OnErr}
 use Rattle.std.specs.List.{count_by}
 use Rattle.std.specs.Io.KnownBytes.{Appends, Consumes, Keeps, IsAtEnd}
 use Rattle.std.proofs.KnownBytes.{Consumes-nil, Consumes-trans, Consumes-kept, Appends-nil, Appends-trans}
@@ -443,17 +443,6 @@ pub fails_by : {A : Type 0} (r : Result A Fault) (K : Type 0) (P : Fault → Typ
     OnErr r K → (K → P fault) → IfErr r P
 fails_by (Ok x) K P fault is kept h = tt
 fails_by (Err f) K P fault is kept h = subst P (sym is) (h kept)
-
--- a failed call, by two of its clauses
-pub fails_with : {A : Type 0} (r : Result A Fault) (K : Type 0) (P Q : Fault → Type 0) → IfErr r P → OnErr r K →
-    ((fault : Fault) → P fault → K → Q fault) → IfErr r Q
-fails_with (Ok x) K P Q is kept h = tt
-fails_with (Err f) K P Q is kept h = h f is kept
-
--- a call that went well, by its clauses
-pub by_three : {A : Type 0} (r : Result A Fault) (P Q R S : Type 0) → (P → Q → R → S) → OnOk r P → OnOk r Q → OnOk r R → OnOk r S
-by_three (Ok x) P Q R S h p q r = h p q r
-by_three (Err f) P Q R S h p q r = tt
 
 -- ---- the end by a fault
 

@@ -1,6 +1,6 @@
 //! What a schedule drives: the gates, and the model beside them.
 
-ghost use Rattle.std.specs.Prelude.{◌≡◌, ◌≤◌, ◌<◌, ◌++◌, true, false, IsOk, IfOk, IfErr, OnOk};
+ghost use Rattle.std.specs.Prelude.{◌≡◌, ◌≤◌, ◌<◌, ◌++◌, true, false, IsOk, IfOk, IfErr, OnOk, Some};
 ghost use Rattle.schedule_text.specs.declared.faults.Fault.TheVariants.{Refused};
 ghost use Rattle.access_model.specs.declared.errors.GateError.TheVariants.{Invalid, NoMemory};
 
@@ -46,6 +46,7 @@ impl<D: Driver> Session<D> {
     ghost use Rattle.transcripts.specs.Transcript.{Play, opening_play, played, used_now, begin_text, hook_answer, run_of, command_outcome, request_outcome, nonzero_line, words_text, mount_part, level_part, section_line, node_word_line, kids_line, tree_words_text, count_up, model_text, freezes_text, freeze_line, closed_line, task_text, tree_line, held_line, level_line, open_line};
     ghost use Rattle.access_model.specs.Histories.{end_of};
     ghost use Rattle.cpu_words.specs.Names.{IsWord};
+    ghost use Rattle.cpu_words.specs.Words.{read};
     ghost use Rattle.gate_world.specs.Configs.{extents_of};
     ghost use Rattle.std.specs.List.{flat_map};
 
@@ -115,7 +116,8 @@ impl<D: Driver> Session<D> {
         }
     }
 
-    fn begin(&mut self, task: u8, op: Op, out: &mut Output) -> Result<(), Fault>
+    /// Begins an operation of a task, and prints the refusal of one that can't begin.
+    pub fn begin(&mut self, task: u8, op: Op, out: &mut Output) -> Result<(), Fault>
         ensures prints { (p : Play) → ShowsPlay D.shows self.old p →
             OnOk result (out.new.bytes.items ≡ out.old.bytes.items ++ begin_text task (begin_answer p.config p.world task op)) }
         ensures shows { (p : Play) → ShowsPlay D.shows self.old p → ShowsPlay D.shows self.new (played p (Begins task op)) }
@@ -128,7 +130,7 @@ impl<D: Driver> Session<D> {
     }
 
     /// Does one event, and the action that it adds.
-    fn step(&mut self, task: u8, hook: Result<(), u16>) -> Result<Step, Fault>
+    pub fn step(&mut self, task: u8, hook: Result<(), u16>) -> Result<Step, Fault>
         ensures answer { (p : Play) → ShowsPlay D.shows self.old p → result ≡ Ok (step_answer p.config p.world task hook) }
         ensures shows { (p : Play) → ShowsPlay D.shows self.old p → ShowsPlay D.shows self.new (played p (Steps task hook)) }
     {
@@ -168,7 +170,7 @@ impl<D: Driver> Session<D> {
     }
 
     /// What the hook answers that the next event of a task asks, where one may fail and all others answer Ok.
-    fn hook_answer(&self, task: u8, failure: Option<HookFailure>) -> Result<(), u16>
+    pub fn hook_answer(&self, task: u8, failure: Option<HookFailure>) -> Result<(), u16>
         ensures { (p : Play) → ShowsPlay D.shows self.now p → result ≡ hook_answer p task failure }
     {
         match failure {
@@ -177,8 +179,22 @@ impl<D: Driver> Session<D> {
         }
     }
 
+    /// The value of a word; None where the configuration has no such word.
+    pub fn word(&self, name: WordName) -> Option<u64>
+        ensures { (p : Play) → ShowsPlay D.shows self.now p → IsWord (extents_of p.config) name → result ≡ Some (read p.world.words name) }
+    {
+        self.driver.word(name)
+    }
+
+    /// The model, moved by all actions so far.
+    pub fn model(&self) -> &Model
+        ensures { result.now ≡ self.now.model }
+    {
+        &self.model
+    }
+
     /// The blocks charged.
-    fn used(&self) -> u64
+    pub fn used(&self) -> u64
         ensures { (p : Play) → ShowsPlay D.shows self.now p → result ≡ used_now p }
     {
         self.driver.word(WordName::Used).unwrap_or(0)

@@ -4,7 +4,7 @@ use Rattle.schedule_text.specs.Faults.{text_of, cause_of}
 use Rattle.schedule_text.specs.declared.faults.Fault.TheVariants.{Refused}
 use Rattle.transcripts.specs.Replayed.{Reports}
 use Rattle.transcripts.proofs.Replaying.{never_begun}
-use Rattle.replays.proofs.replay.replay_over.Goals as goal
+use Rattle.replays.proofs.replay.replay_to_end.Goals as goal
 
 pub returns-in-Err-clause-replayed : goal.returns-in-Err-clause-replayed
 returns-in-Err-clause-replayed g c known =

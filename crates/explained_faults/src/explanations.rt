@@ -1,0 +1,219 @@
+//! What helps after a fault.
+
+use crate::forms::{ALONE, CONFIG, LIMITS, VERBS, arguments_of};
+use crate::places::{Place, word_after};
+use schedule_bytes::ReplayFault;
+use schedule_text::numbers::{code_of, is_digits, number_of};
+use schedule_text::words::word_count;
+use schedule_text::{Fault, Front, Line, front_of, parse};
+use std::alloc::{AllocError, Global};
+
+/// What comes of an explanation: a text, or none where there is nothing to tell beside the fault.
+type Told = Result<Option<String>, AllocError>;
+
+/// What helps a person after a fault of a schedule, on one line; `rest` is what was read from the faulty line on, and `tasks` how many tasks
+/// there are, once there is a configuration. Nothing is told of a read or a write that failed, nor of memory that was refused.
+pub fn explanation(alloc: Global, fault: ReplayFault, rest: &[u8], tasks: Option<u8>) -> Told {
+    if [Fault::ReadFailed, Fault::WriteFailed]
+        .iter()
+        .any(|other| other.text() == fault.text)
+    {
+        return Ok(None);
+    }
+    if fault.text == Fault::TooManyLines.text() {
+        return said(alloc, "a schedule has at most 1048576 lines");
+    }
+    match front_of(rest) {
+        Front::Line(length) => of_line(alloc, &rest[..length], tasks),
+        Front::TooLong => said(alloc, "a line has at most 256 bytes before its newline"),
+        Front::Part if rest.is_empty() => first_line(alloc),
+        Front::Part => said(alloc, "the last line has no newline at its end"),
+    }
+}
+
+fn said(alloc: Global, text: &str) -> Told {
+    Ok(Some(text.to_string(alloc)?))
+}
+
+/// What the first line has to be.
+fn first_line(alloc: Global) -> Told {
+    Ok(Some(format!(in alloc; "the first line is '{CONFIG}'")?))
+}
+
+/// What helps with a whole line.
+fn of_line(alloc: Global, line: &[u8], tasks: Option<u8>) -> Told {
+    match parse(line, tasks) {
+        Ok(Line::Config(_)) => out_of_range(alloc, line),
+        Ok(_) => Ok(None),
+        Err(fault) => match odd_byte(alloc, line)? {
+            Some(text) => Ok(Some(text)),
+            None => of_fault(alloc, fault, line, tasks),
+        },
+    }
+}
+
+/// A byte that is in no schedule, but in what some editors write.
+fn odd_byte(alloc: Global, line: &[u8]) -> Told {
+    if line.starts_with(b"\xef\xbb\xbf") {
+        return said(
+            alloc,
+            "the line begins with a byte-order mark: write the file without one",
+        );
+    }
+    for (byte, text) in [
+        (b'\r', "a carriage return: end lines with a newline alone"),
+        (b'\t', "a tab: write one space between two words"),
+    ] {
+        if let Some(place) = line.iter().position(|other| *other == byte) {
+            let column = place.saturating_add(1);
+            return Ok(Some(format!(in alloc; "column {column} is {text}")?));
+        }
+    }
+    Ok(None)
+}
+
+/// What helps with a line of words.
+fn of_fault(alloc: Global, fault: Fault, line: &[u8], tasks: Option<u8>) -> Told {
+    let first = word_after(line, 0);
+    match fault {
+        Fault::ConfigExpected => match first.nearest(alloc, ["config"].as_slice())? {
+            Some(name) => meant(alloc, first, name),
+            None => first_line(alloc),
+        },
+        Fault::ConfigTwice => said(alloc, "a schedule has one configuration"),
+        Fault::UnknownCommand if is_digits(first.word) => {
+            unknown(alloc, word_after(line, 1), names(alloc, false)?.as_slice())
+        }
+        Fault::UnknownCommand => unknown(alloc, first, names(alloc, true)?.as_slice()),
+        Fault::WrongNumberOfWords => form(alloc, line),
+        Fault::NoSuchTask => no_such_task(alloc, first, tasks),
+        Fault::BadNumber | Fault::BadWord => bad_argument(alloc, line, tasks),
+        _ => Ok(None),
+    }
+}
+
+/// The names of the commands on a task, or of those without one.
+fn names(alloc: Global, are_alone: bool) -> Result<Vec<&'static str>, AllocError> {
+    let mut names = Vec::new(alloc);
+    if are_alone {
+        for name in ALONE.iter() {
+            names.push(*name)?;
+        }
+    } else {
+        for (name, _) in VERBS.iter() {
+            names.push(*name)?;
+        }
+    }
+    Ok(names)
+}
+
+fn meant(alloc: Global, place: Place<'_>, name: &str) -> Told {
+    let (word, column) = (place.shown(alloc)?, place.column);
+    Ok(Some(format!(in alloc; "'{word}' at column {column}: did you mean '{name}'?")?))
+}
+
+/// That something else is expected.
+fn expected(alloc: Global, place: Place<'_>, text: &str) -> Told {
+    let (word, column) = (place.shown(alloc)?, place.column);
+    Ok(Some(format!(in alloc; "'{word}' at column {column}: {text}")?))
+}
+
+/// A word that is no command.
+fn unknown(alloc: Global, place: Place<'_>, names: &[&'static str]) -> Told {
+    if place.word.is_empty() {
+        return expected(alloc, place, "words are separated by one space");
+    }
+    match place.nearest(alloc, names)? {
+        Some(name) => meant(alloc, place, name),
+        None => expected(alloc, place, "there is no such command"),
+    }
+}
+
+/// The form of the command of a line.
+fn form(alloc: Global, line: &[u8]) -> Told {
+    let (first, second) = (word_after(line, 0), word_after(line, 1));
+    if first.word == b"config".as_slice() {
+        return Ok(Some(format!(in alloc; "its form is '{CONFIG}'")?));
+    }
+    if !is_digits(first.word) {
+        let word = first.shown(alloc)?;
+        return Ok(Some(format!(in alloc; "'{word}' stands alone on its line")?));
+    }
+    match arguments_of(second.word) {
+        None => said(alloc, "a command follows the number of its task"),
+        Some("") => Ok(Some(format!(in alloc; "its form is 'T {}'", second.shown(alloc)?)?)),
+        Some(arguments) => {
+            Ok(Some(format!(in alloc; "its form is 'T {} {arguments}'", second.shown(alloc)?)?))
+        }
+    }
+}
+
+fn no_such_task(alloc: Global, place: Place<'_>, tasks: Option<u8>) -> Told {
+    match tasks {
+        Some(count) if count > 1 => {
+            let text = format!(in alloc; "the tasks are 0 to {}", count.saturating_sub(1))?;
+            expected(alloc, place, text.as_str())
+        }
+        _ => expected(alloc, place, "the one task is 0"),
+    }
+}
+
+/// The first argument that isn't what its command takes.
+fn bad_argument(alloc: Global, line: &[u8], tasks: Option<u8>) -> Told {
+    if tasks.is_none() {
+        return bad_config(alloc, line);
+    }
+    let arguments = arguments_of(word_after(line, 1).word).unwrap_or("");
+    for (number, argument) in arguments.split(' ').enumerate() {
+        let place = word_after(line, number.saturating_add(2));
+        let argument = argument.trim_start_matches('[').trim_end_matches(']');
+        if !is_one(place.word, argument) {
+            let text = match argument {
+                "CODE" => "a code is a number from 1 to 65535".to_string(alloc)?,
+                _ if argument.contains('|') => format!(in alloc; "{argument} is expected")?,
+                _ => "a number has 1 to 10 digits and is at most 4294967295".to_string(alloc)?,
+            };
+            return expected(alloc, place, text.as_str());
+        }
+    }
+    Ok(None)
+}
+
+/// Whether a word is what an argument of this name may be.
+fn is_one(word: &[u8], argument: &str) -> bool {
+    if argument == "CODE" {
+        code_of(word).is_some()
+    } else if argument.contains('|') {
+        argument.split('|').any(|name| name.as_bytes() == word)
+    } else {
+        number_of(word).is_some()
+    }
+}
+
+/// The first word of a configuration that is no number.
+fn bad_config(alloc: Global, line: &[u8]) -> Told {
+    for number in 1..word_count(line) {
+        let place = word_after(line, number);
+        if number_of(place.word).is_none() {
+            return expected(
+                alloc,
+                place,
+                "a number has 1 to 10 digits and is at most 4294967295",
+            );
+        }
+    }
+    Ok(None)
+}
+
+/// The first number of a configuration that is out of its limits.
+fn out_of_range(alloc: Global, line: &[u8]) -> Told {
+    for (number, (name, least, most)) in LIMITS.iter().enumerate() {
+        let place = word_after(line, number.saturating_add(1));
+        let given = number_of(place.word).unwrap_or(0);
+        if given < *least || *most < given {
+            let text = format!(in alloc; "{name} is {least} to {most}")?;
+            return expected(alloc, place, text.as_str());
+        }
+    }
+    Ok(None)
+}

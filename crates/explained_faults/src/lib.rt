@@ -1,0 +1,9 @@
+//! What a person is told of a faulty line of a schedule, beside the text of its fault: the word, its column, and what stands there instead.
+//! The faults themselves are those of `schedule_text`; here is only what helps.
+#![tactic(auto)]
+
+pub mod explanations;
+pub mod forms;
+mod places;
+
+pub use explanations::explanation;

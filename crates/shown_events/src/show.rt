@@ -1,0 +1,257 @@
+//! A schedule, shown line by line.
+
+use crate::forms::{Form, Happening, Printer};
+use crate::waits::Wait;
+use cpu_words::WordName;
+use gate_core::{Progress, Step};
+use schedule_bytes::{Input, ReplayFault, fault_after, write_out};
+use schedule_text::{
+    Fault, Front, HookFailure, LINE_BYTES, LINES, Line, Output, Request, TaskCommand, parse,
+};
+use std::alloc::{AllocError, Global};
+use std::io::{Read, Write};
+use transcripts::session::EVENTS;
+use transcripts::{Driver, Session, no_memory};
+
+/// A schedule that is shown, over whatever gates.
+#[derive(Drop)]
+pub struct Show<D> {
+    alloc: Global,
+    printer: Printer,
+    input: Input,
+    output: Output,
+    session: Option<Session<D>>,
+    /// Of each task the level whose block it loaded last.
+    blocks: Vec<u8>,
+}
+
+impl<D: Driver> Show<D> {
+    /// Nothing read and nothing printed yet.
+    pub fn new(alloc: Global, form: Form) -> Result<Show<D>, AllocError> {
+        Ok(Show {
+            alloc,
+            printer: Printer::new(alloc, form),
+            input: Input::new(alloc)?,
+            output: Output::with_room(alloc, 0)?,
+            session: None,
+            blocks: Vec::new(alloc),
+        })
+    }
+
+    /// What was read from the line on that is to be done next; after a fault, from the faulty line on.
+    pub fn rest(&self) -> &[u8] {
+        self.input.pending()
+    }
+
+    /// How many tasks there are, once there is a configuration.
+    pub fn tasks(&self) -> Option<u8> {
+        self.session.as_ref().map(|session| session.tasks())
+    }
+
+    /// Does and shows all lines, or those up to the first fault, which is the one that a replay ends by. What is typed is answered at once.
+    pub fn do_lines<R: Read, W: Write>(
+        &mut self,
+        reader: &mut R,
+        writer: &mut W,
+    ) -> Result<(), ReplayFault> {
+        for done in 0..LINES {
+            match self.do_line(done, reader, writer) {
+                Ok(true) => {}
+                Ok(false) => return Ok(()),
+                Err(fault) => return Err(self.ended(done, fault, writer)),
+            }
+        }
+        match self.next_line(reader, writer) {
+            Ok(None) => Ok(()),
+            Ok(Some(_)) => Err(self.ended(LINES, Fault::TooManyLines, writer)),
+            Err(Fault::CutOff | Fault::LineTooLong) => {
+                Err(self.ended(LINES, Fault::TooManyLines, writer))
+            }
+            Err(fault) => Err(self.ended(LINES, fault, writer)),
+        }
+    }
+
+    /// Writes out what was shown before a fault. Where that fails, this is the fault.
+    fn ended<W: Write>(&mut self, done: u32, fault: Fault, writer: &mut W) -> ReplayFault {
+        match self.write_out(writer) {
+            Ok(()) => fault_after(done.min(LINES), fault),
+            Err(failed) => fault_after(done.min(LINES), failed),
+        }
+    }
+
+    fn write_out<W: Write>(&mut self, writer: &mut W) -> Result<(), Fault> {
+        let written = write_out(writer, self.output.bytes.as_slice());
+        self.output.clear();
+        written
+    }
+
+    /// Reads the next line and shows it; says whether there was one.
+    fn do_line<R: Read, W: Write>(
+        &mut self,
+        done: u32,
+        reader: &mut R,
+        writer: &mut W,
+    ) -> Result<bool, Fault> {
+        let Some(length) = self.next_line(reader, writer)? else {
+            return Ok(false);
+        };
+        let Some(text) = self.input.pending().get(..length) else {
+            return Err(Fault::LineTooLong);
+        };
+        let line = parse(text, self.tasks())?;
+        self.do_parsed(done.saturating_add(1), line)?;
+        if length < self.input.pending().len() {
+            self.input.take(length + 1);
+        }
+        Ok(true)
+    }
+
+    /// Reads until the next line is whole, and says how many bytes it has; None at the end of the input.
+    fn next_line<R: Read, W: Write>(
+        &mut self,
+        reader: &mut R,
+        writer: &mut W,
+    ) -> Result<Option<usize>, Fault> {
+        // Each turn that goes on reads a byte or more.
+        for _ in 0..LINE_BYTES + 2 {
+            match self.input.front() {
+                Front::Line(length) => return Ok(Some(length)),
+                Front::TooLong => return Err(Fault::LineTooLong),
+                Front::Part => {}
+            }
+            self.write_out(writer)?;
+            if self.input.read(reader)? == 0 {
+                return match (self.input.is_empty(), &self.session) {
+                    (false, _) => Err(Fault::CutOff),
+                    (true, None) => Err(Fault::ConfigExpected),
+                    (true, Some(_)) => Ok(None),
+                };
+            }
+        }
+        Err(Fault::LineTooLong)
+    }
+
+    fn do_parsed(&mut self, number: u32, line: Line) -> Result<(), Fault> {
+        match line {
+            Line::Skipped => Ok(()),
+            Line::Config(config) => {
+                self.session = Some(Session::new(self.alloc, config)?);
+                for _ in 0..config.tasks {
+                    if self.blocks.push(0).is_err() {
+                        return Err(no_memory(AllocError));
+                    }
+                }
+                self.printer
+                    .begin(config.tasks, &mut self.output)
+                    .map_err(no_memory)
+            }
+            Line::Request(request) => self.do_request(number, request),
+        }
+    }
+
+    fn do_request(&mut self, number: u32, request: Request) -> Result<(), Fault> {
+        match request {
+            Request::Words => self.listing(number, "words", request),
+            Request::Tree => self.listing(number, "tree", request),
+            Request::Model => self.listing(number, "model", request),
+            Request::Task { task, command } => match command {
+                TaskCommand::Begin(_) => self.do_plainly(number, task, command),
+                TaskCommand::Step { hook } => {
+                    self.step(number, task, hook)?;
+                    Ok(())
+                }
+                TaskCommand::Run { failure } => self.run(number, task, failure),
+            },
+        }
+    }
+
+    /// Does what has no event, and prints its answer, if it has one.
+    fn do_plainly(&mut self, number: u32, task: u8, command: TaskCommand) -> Result<(), Fault> {
+        let mut text = Output::with_room(self.alloc, 0).map_err(no_memory)?;
+        self.there()?.do_command(task, command, &mut text)?;
+        self.answer(number, task, &text)
+    }
+
+    /// The gates, once they are set up.
+    fn there(&mut self) -> Result<&mut Session<D>, Fault> {
+        match &mut self.session {
+            Some(session) => Ok(session),
+            None => Err(Fault::ConfigExpected),
+        }
+    }
+
+    fn answer(&mut self, number: u32, task: u8, text: &Output) -> Result<(), Fault> {
+        let text = text.bytes.as_slice();
+        self.printer
+            .answer(self.alloc, number, task, text, &mut self.output)
+            .map_err(no_memory)
+    }
+
+    fn listing(&mut self, number: u32, name: &str, request: Request) -> Result<(), Fault> {
+        let mut text = Output::with_room(self.alloc, 0).map_err(no_memory)?;
+        self.there()?.do_request(request, &mut text)?;
+        let text = text.bytes.as_slice();
+        self.printer
+            .listing(self.alloc, number, name, text, &mut self.output)
+            .map_err(no_memory)
+    }
+
+    /// Does one event and shows it, and then its reply, if the operation has ended.
+    fn step(&mut self, number: u32, task: u8, hook: Result<(), u16>) -> Result<Progress, Fault> {
+        let step = self.there()?.step(task, hook)?;
+        let mut text = Output::with_room(self.alloc, 0).map_err(no_memory)?;
+        if step.event.is_some() {
+            self.event(number, task, step)?;
+        } else {
+            text.idle_line(task).map_err(no_memory)?;
+        }
+        if let Progress::Done(answer) = step.progress {
+            let used = self.there()?.used();
+            text.answer_line(task, answer, used).map_err(no_memory)?;
+        }
+        self.answer(number, task, &text)?;
+        Ok(step.progress)
+    }
+
+    /// Shows the event of a step.
+    fn event(&mut self, number: u32, task: u8, step: Step) -> Result<(), Fault> {
+        let (Some(event), Some(session)) = (step.event, &self.session) else {
+            return Ok(());
+        };
+        if let (WordName::Block(level), Some(last)) = (
+            event.word,
+            self.blocks.get_mut(usize::from(task)),
+        ) {
+            *last = level;
+        }
+        let block = self.blocks.get(usize::from(task)).copied().unwrap_or(1);
+        let wait = match step.progress {
+            Progress::Waiting => Some(Wait::of(session, task, event, block)),
+            Progress::Idle | Progress::Going | Progress::Done(_) => None,
+        };
+        let happening = Happening {
+            line: number,
+            task,
+            event,
+            action: step.action,
+            wait,
+        };
+        self.printer
+            .event(self.alloc, happening, &mut self.output)
+            .map_err(no_memory)
+    }
+
+    /// Goes on to the reply, to the first event that has to wait, or to the last event that one line may do.
+    fn run(&mut self, number: u32, task: u8, failure: Option<HookFailure>) -> Result<(), Fault> {
+        for _ in 0..EVENTS {
+            let hook = self.there()?.hook_answer(task, failure);
+            match self.step(number, task, hook)? {
+                Progress::Going => {}
+                Progress::Idle | Progress::Waiting | Progress::Done(_) => return Ok(()),
+            }
+        }
+        let mut text = Output::with_room(self.alloc, 0).map_err(no_memory)?;
+        text.waiting_line(task).map_err(no_memory)?;
+        self.answer(number, task, &text)
+    }
+}

@@ -1,0 +1,82 @@
+//! For whom a task waits.
+
+use cpu_words::{Event, WordName};
+use schedule_text::Output;
+use std::alloc::AllocError;
+use transcripts::{Driver, Session};
+
+/// Who stands in the way.
+#[derive(Clone, Copy, PartialEq, Eq)]
+pub(crate) enum Culprit {
+    Task(u8),
+    /// Whoever freezes, or has frozen.
+    Freeze,
+    /// Somebody who went on since.
+    Gone,
+}
+
+/// What a task waits for: the word at which it found that it has to wait, and who stands in the way.
+#[derive(Clone, Copy, PartialEq, Eq)]
+pub(crate) struct Wait {
+    word: WordName,
+    culprit: Culprit,
+}
+
+impl Wait {
+    /// What an event waits for that reports so. A lock has its owner's number, and 1, in it; HOLD is set by the owner of `umount`; a section
+    /// is its task's; and a sum of a level counts whoever is inside. A start has found its level's block set three events before, and this
+    /// event is the end of its own section.
+    pub(crate) fn of<D: Driver>(session: &Session<D>, task: u8, event: Event, block: u8) -> Wait {
+        let culprit = match event.word {
+            WordName::Umount => owner(event.found),
+            WordName::MountFlags(_) => owner(session.word(WordName::Umount).unwrap_or(0)),
+            WordName::Section(own) if own == task => {
+                return Wait {
+                    word: WordName::Block(block),
+                    culprit: Culprit::Freeze,
+                };
+            }
+            WordName::Section(other) => Culprit::Task(other),
+            WordName::LevelCount(level, _) => inside(session, level),
+            _ => Culprit::Gone,
+        };
+        Wait {
+            word: event.word,
+            culprit,
+        }
+    }
+
+    /// Prints it: ` waiting for mount0.flags, task 1`.
+    pub(crate) fn print(self, out: &mut Output) -> Result<(), AllocError> {
+        out.text(b" waiting for ")?;
+        self.print_word(out)
+    }
+
+    /// The word and who stands in the way.
+    pub(crate) fn print_word(self, out: &mut Output) -> Result<(), AllocError> {
+        out.word_name(self.word)?;
+        match self.culprit {
+            Culprit::Task(task) => out.numbered(b", task ", u64::from(task)),
+            Culprit::Freeze => out.text(b", the freeze"),
+            Culprit::Gone => Ok(()),
+        }
+    }
+}
+
+/// The owner of a lock with this value.
+fn owner(value: u64) -> Culprit {
+    match u8::try_from(value) {
+        Ok(number) if number > 0 => Culprit::Task(number - 1),
+        _ => Culprit::Gone,
+    }
+}
+
+/// The first task that is inside a level.
+fn inside<D: Driver>(session: &Session<D>, level: u8) -> Culprit {
+    for task in 0..session.tasks() {
+        if session.model().held_level(task, level) {
+            return Culprit::Task(task);
+        }
+    }
+    Culprit::Gone
+}
