@@ -94,6 +94,7 @@ fn measure<R: Threads + Wait + Clock + Sync>(
         "freeze-and-callbacks" => {
             at_freezes::measure(rt, alloc, size, Callbacks::AfterEachThaw, count)
         }
-        _ => at_runs::measure(rt, alloc, size, count),
+        "run" => at_runs::measure(rt, alloc, size, count),
+        other => bail!("gate_bench doesn't know the word {other}"),
     }
 }
