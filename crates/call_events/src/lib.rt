@@ -13,7 +13,7 @@ mod words;
 pub use ends::{Row, Waiting, go_to_end, wait_to_end};
 pub use gate_core::seats::Seat as Kept;
 pub use gate_core::{Progress, Step};
-pub use gate_steps::{Closed, Happens, close, give, index_of, open, take_back, word_of};
+pub use gate_steps::{Closed, Happens, index_of, word_of};
 pub use hooks::TimedHooks;
 pub use lines::InLine;
 pub use turns::{Turn, do_event};

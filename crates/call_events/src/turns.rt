@@ -15,7 +15,6 @@ ghost use Rattle.gate_world.specs.declared.operations.Op.{Op as OpType};
 use crate::words::{GateWords, Seat};
 use access_model::{Action, Next};
 use cpu_words::Event;
-use gate_steps::event;
 use gate_world::{Accesses, Op, UnderWay};
 
 /// An event, the action that it added, and what comes after it.
@@ -50,7 +49,7 @@ pub fn do_event<P: UnderWay>(
         (task_state seat.new.table_id gates.now.config None (phase_after (map_next P.as_phase result.next)) seat.new.me.0) }
 {
     let phase = under_way.phase();
-    let event = event(&gates.table.shared, seat, begins, phase, hook);
+    let event = gates.event(seat, begins, phase, hook);
     let (next, action) = under_way.after(event.found, hook);
     accesses.apply(action);
     Turn {

@@ -8,7 +8,7 @@ use crate::closed::Closed;
 use crate::rooms::Rooms;
 use crate::task::Task;
 use access_model::GateError;
-use call_events::{GateWords, close, open};
+use call_events::GateWords;
 use gate_world::Config;
 use std::alloc::Global;
 
@@ -39,10 +39,9 @@ impl Gates {
         let Ok(rooms) = Rooms::new(alloc, config.nodes) else {
             return Err(GateError::NoMemory);
         };
-        let Ok((table, seat)) = open(alloc, &config) else {
+        let Ok((words, seat)) = GateWords::open(alloc, config) else {
             return Err(GateError::NoMemory);
         };
-        let words = GateWords { table, config };
         Ok((Gates { words }, Task::first(config, seat, rooms)))
     }
 
@@ -57,10 +56,10 @@ impl Gates {
             return Err((GateError::Order, self, task));
         }
         let Gates { words } = self;
-        let GateWords { table, config } = words;
+        let config = words.config;
         Ok(Closed {
             config,
-            closed: close(table, task.into_seat()),
+            closed: words.close(task.into_seat()),
         })
     }
 }

@@ -8,7 +8,7 @@ use crate::numbers::{add_all, lowest, none};
 use crate::rooms::Rooms;
 use crate::task::Task;
 use access_model::GateError;
-use call_events::{Kept, give, take_back};
+use call_events::Kept;
 use std::alloc::Global;
 
 impl Task {
@@ -35,7 +35,7 @@ impl Task {
         let Ok(rooms) = Rooms::new(alloc, self.config.nodes) else {
             return Err(GateError::NoMemory);
         };
-        let seat = give(&gates.words.table.shared, &mut self.seat, number);
+        let seat = gates.words.give(&mut self.seat, number);
         self.spare[number as usize] = false;
         Ok(Task {
             number,
@@ -72,7 +72,7 @@ impl Task {
             rooms: _,
             seat,
         } = other;
-        take_back(&gates.words.table.shared, &mut self.seat, seat);
+        gates.words.take_back(&mut self.seat, seat);
         add_all(&mut self.spare, &spare);
         self.spare[number as usize] = true;
         Ok(())
