@@ -17,10 +17,10 @@ loop-freeze-preserved g c =
             frozen = c.freeze.new.self;
             copied = c.take_snapshot-is_whole.new.task;
             thawed = c.thaw.new.self;
-            freezes = c.in_ok-freeze.ensures;
+            freezes = c.in_ok-freeze.ensures.replies;
             copies = copied.took;
             met = c.frozen.ensures;
-            thaws = c.in_ok-thaw.ensures;
+            thaws = c.in_ok-thaw.ensures.replies;
             calls_back = c.in_ok-call_back.ensures.ran;
           }),
     )
