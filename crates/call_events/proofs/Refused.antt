@@ -27,7 +27,7 @@ use Rattle.gate_world.specs.Beginnings.{is_in_order}
 use Rattle.gate_world.specs.Configs.{IsWithin}
 use Rattle.gate_world.specs.Courses.{course_of, IsTrace}
 use Rattle.gate_world.specs.Found.{clean_found, cleans, stored_stage}
-use Rattle.gate_world.specs.Operations.{two_levels_closed, all_levels_closed}
+use Rattle.gate_world.specs.Claims.{two_levels_closed, all_levels_closed}
 use Rattle.gate_world.specs.Traces.{actions_of, Tells}
 use Rattle.gate_world.specs.Views.{held_at, holds_level}
 use Rattle.gate_core.proofs.Layers.{op_keeps}
