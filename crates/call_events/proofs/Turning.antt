@@ -46,63 +46,50 @@ module _ (number : ℕ) (c : Config) (begins : Option Op) (phase : Phase) (acces
   may_act [] t = absurd t
   may_act (x ∷ xs) t = t.may
 
--- the same of the phase that the code was told, and of the configuration as the table names it
-module _ (c key : Config) (same_key : key ≡ c) (begins : Option Op) (phase told : Phase) (told_is : told ≡ phase) (accesses : Accesses)
-    (items : SeatItems)
+-- the same of the configuration as the table names it
+module _ (c key : Config) (same_key : key ≡ c) (begins : Option Op) (phase : Phase) (accesses : Accesses) (items : SeatItems)
     (tied : IsTied c begins (Some phase) accesses items) (hook : HookAnswer) where
   -- the word is inside
-  pub inside_so : place (next_of told hook).0 < words_in_all
-  inside_so =
-      subst (λ (p : Phase). place (next_of p hook).0 < words_in_all) (sym told_is)
-      (word_inside tied.number c begins phase accesses tied.flags hook items tied.ties)
+  pub inside_so : place (next_of phase hook).0 < words_in_all
+  inside_so = word_inside tied.number c begins phase accesses tied.flags hook items tied.ties
 
   -- the number may act
-  pub acts_so : Acts key begins told items
+  pub acts_so : Acts key begins phase items
   acts_so =
-      let P : Config × Phase → Type 0 = λ z. Acts z.0 begins z.1 items in
-      subst P (λ i. (sym same_key i, sym told_is i)) (may_act tied.number c begins phase accesses tied.flags hook items tied.ties)
+      subst (λ (k : Config). Acts k begins phase items) (sym same_key)
+      (may_act tied.number c begins phase accesses tied.flags hook items tied.ties)
 
   -- what the event adds can be done on the accesses
-  pub adds_so : (next : WordName × Touch) → next ≡ next_of told hook → (found : ℕ) (event : Event) → event ≡ event_of next.0 next.1 found →
+  pub adds_so : (found : ℕ) (event : Event) → event ≡ event_of (next_of phase hook).0 (next_of phase hook).1 found →
       (done : Next Phase × Option Action) → done ≡ after_of phase event.found hook → ActionFits (slice_index accesses.mounts) done.1
-  adds_so next next_is found event event_is done done_is =
+  adds_so found event event_is done done_is =
       may_add tied.number c begins (kept_at (Some phase) accesses) tied.flags phase refl hook items tied.ties
-      next (next_is ∙ ap (λ (p : Phase). next_of p hook) told_is) found event event_is done done_is
+      (next_of phase hook) refl found event event_is done done_is
 
--- of the values that the code has, where the phase that it was told is this one
-module _ (c key : Config) (same_key : key ≡ c) (begins : Option Op) (phase told : Phase) (told_is : told ≡ phase)
-    (accesses accesses_left : Accesses) (hook : HookAnswer) (items left : SeatItems)
-    (next : WordName × Touch) (next_is : next ≡ next_of told hook) (found : ℕ) (event : Event)
-    (event_is : event ≡ event_of next.0 next.1 found)
+-- of the values that the code has
+module _ (c key : Config) (same_key : key ≡ c) (begins : Option Op) (phase : Phase)
+    (accesses accesses_left : Accesses) (hook : HookAnswer) (items left : SeatItems) (found : ℕ) (event : Event)
+    (event_is : event ≡ event_of (next_of phase hook).0 (next_of phase hook).1 found)
     (done : Next Phase × Option Action) (done_is : done ≡ after_of phase event.found hook)
-    (accesses_is : accesses_left ≡ accesses_after accesses done.1) (left_is : left ≡ items_after begins told hook found items) where
-  -- the word and touch of the phase
-  next_here : next ≡ next_of phase hook
-  next_here = next_is ∙ ap (λ (p : Phase). next_of p hook) told_is
-
-  -- the numbers that the event leaves
-  left_here : left ≡ items_after begins phase hook found items
-  left_here = left_is ∙ ap (λ (p : Phase). items_after begins p hook found items) told_is
-
+    (accesses_is : accesses_left ≡ accesses_after accesses done.1) (left_is : left ≡ items_after begins phase hook found items) where
   -- the fields stay tied
   pub stay_tied : (number : ℕ) (flags : List Bool) → Ties number c begins (kept_at (Some phase) accesses) flags items →
       Ties number c None (kept_at (phase_after done.0) accesses_left) flags left
   stay_tied number flags ties =
-      ties_left number c begins (kept_at (Some phase) accesses) flags phase refl hook items ties next next_here found event event_is done
-      done_is
-      (progress_of done.0, phase_after done.0) refl accesses_left accesses_is left left_here
+      ties_left number c begins (kept_at (Some phase) accesses) flags phase refl hook items ties (next_of phase hook) refl found event event_is
+      done done_is
+      (progress_of done.0, phase_after done.0) refl accesses_left accesses_is left left_is
 
   -- the event was a step
   pub stepped_so : (number : ℕ) (flags : List Bool) → Ties number c begins (kept_at (Some phase) accesses) flags items →
-      IsMove key begins told hook items found → (table before : TableId) → table ≡ before →
+      IsMove key begins phase hook items found → (table before : TableId) → table ≡ before →
       Stepped phase hook (task_state before c begins (Some phase) items) (step_was event done.1 done.0)
       (task_state table c None (phase_after done.0) left)
   stepped_so number flags ties moves table before same =
-      let here : IsMove c begins phase hook items found = subst (λ (k : Config). IsMove k begins phase hook items found) same_key
-      (subst (λ (p : Phase). IsMove key begins p hook items found) told_is moves) in
-      stepped_here number c begins (kept_at (Some phase) accesses) flags phase refl hook items ties next next_here found event event_is done
-      done_is
-      (progress_of done.0, phase_after done.0) refl accesses_left accesses_is left left_here
+      let here : IsMove c begins phase hook items found = subst (λ (k : Config). IsMove k begins phase hook items found) same_key moves in
+      stepped_here number c begins (kept_at (Some phase) accesses) flags phase refl hook items ties (next_of phase hook) refl found event
+      event_is done done_is
+      (progress_of done.0, phase_after done.0) refl accesses_left accesses_is left left_is
       table before (task_state before c begins (Some phase) items) same refl here phase refl
 
 -- and what comes after it tells whether the operation goes on

@@ -48,8 +48,7 @@ pub fn do_event<P: UnderWay>(
         (step_was result.event result.action (map_next P.as_phase result.next))
         (task_state seat.new.table_id gates.now.config None (phase_after (map_next P.as_phase result.next)) seat.new.me.0) }
 {
-    let phase = under_way.phase();
-    let event = gates.event(seat, begins, phase, hook);
+    let event = gates.event(seat, begins, under_way, hook);
     let (next, action) = under_way.after(event.found, hook);
     accesses.apply(action);
     Turn {

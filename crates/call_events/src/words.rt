@@ -12,7 +12,7 @@ ghost use Rattle.gate_steps.specs.Seating.{Acts, IsMove, items_after, Spares, ke
 
 use cpu_words::Event;
 use gate_steps::{Closed, GateTable, Items};
-use gate_world::{Config, Op, Phase};
+use gate_world::{Config, Op, UnderWay};
 use std::alloc::{AllocError, Global};
 
 /// The seat of a task at the table.
@@ -45,23 +45,23 @@ impl GateWords {
 
     /// The next event of the seat's own number, in one atomic step (`gate_steps::event`).
     #[inline(always)]
-    pub(crate) fn event(
+    pub(crate) fn event<P: UnderWay>(
         &self,
         seat: &mut Seat,
         begins: Option<Op>,
-        phase: Phase,
+        under_way: P,
         hook: Result<(), u16>,
     ) -> Event
         requires table { seat.old.table_id ≡ self.now.table.shared.table_id }
-        requires inside { place (next_of phase hook).0 < words_in_all }
-        requires acts { Acts self.now.table.shared.key begins phase seat.old.me.0 }
+        requires inside { place (next_of (P.as_phase under_way) hook).0 < words_in_all }
+        requires acts { Acts self.now.table.shared.key begins (P.as_phase under_way) seat.old.me.0 }
         ensures table { seat.new.table_id ≡ seat.old.table_id }
-        ensures is { result ≡ event_of (next_of phase hook).0 (next_of phase hook).1 result.found }
-        ensures event { seat.new.me.0 ≡ items_after begins phase hook result.found seat.old.me.0 }
-        ensures moves { IsMove self.now.table.shared.key begins phase hook seat.old.me.0 result.found }
+        ensures is { result ≡ event_of (next_of (P.as_phase under_way) hook).0 (next_of (P.as_phase under_way) hook).1 result.found }
+        ensures event { seat.new.me.0 ≡ items_after begins (P.as_phase under_way) hook result.found seat.old.me.0 }
+        ensures moves { IsMove self.now.table.shared.key begins (P.as_phase under_way) hook seat.old.me.0 result.found }
         ensures slots { seat.new.me.1 ≡ seat.old.me.1 }
     {
-        gate_steps::event(&self.table.shared, seat, begins, phase, hook)
+        gate_steps::event(&self.table.shared, seat, begins, under_way, hook)
     }
 
     /// A new seat with one of the numbers that the seat has to give.

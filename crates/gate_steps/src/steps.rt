@@ -10,7 +10,7 @@ ghost use Rattle.gate_steps.specs.Seating.{Acts, IsMove, items_after, Spares, ke
 use crate::rule::{Given, Gives, Happens, Items, Moment, Rule, TakesBack};
 use atomic_table::{Seat, Shared};
 use cpu_words::{Event, STRIDE, Touch, WordName};
-use gate_world::{Config, Op, Phase};
+use gate_world::{Config, Op, UnderWay};
 use std::marker::Brand;
 
 /// Where a word lies in the table: words lie apart, each in cache lines of its own.
@@ -23,29 +23,29 @@ pub fn index_of(word: WordName) -> usize
 
 /// The event of that moment.
 #[inline(always)]
-fn event_at<J: Moment>(
+fn event_at<J: Moment, P: UnderWay>(
     shared: &Shared<(), Items, Config, Rule>,
     seat: &mut Seat<(), Items>,
     begins: Option<Op>,
-    phase: Phase,
+    under_way: P,
     hook: Result<(), u16>,
 ) -> Event
     requires config { shared.now.key ≡ J.config }
     requires begins { begins ≡ J.begins }
-    requires phase { phase ≡ J.phase }
+    requires phase { P.as_phase under_way ≡ J.phase }
     requires hook { hook ≡ J.hook }
     requires table { seat.old.table_id ≡ shared.now.table_id }
     requires words { shared.now.table_id.words ≡ table_length }
-    requires inside { place (next_of phase hook).0 < words_in_all }
-    requires acts { Acts shared.now.key begins phase seat.old.me.0 }
+    requires inside { place (next_of (P.as_phase under_way) hook).0 < words_in_all }
+    requires acts { Acts shared.now.key begins (P.as_phase under_way) seat.old.me.0 }
     ensures table { seat.new.table_id ≡ seat.old.table_id }
     ensures id { seat.new.id ≡ seat.old.id }
-    ensures is { result ≡ event_of (next_of phase hook).0 (next_of phase hook).1 result.found }
-    ensures event { seat.new.me.0 ≡ items_after begins phase hook result.found seat.old.me.0 }
-    ensures moves { IsMove shared.now.key begins phase hook seat.old.me.0 result.found }
+    ensures is { result ≡ event_of (next_of (P.as_phase under_way) hook).0 (next_of (P.as_phase under_way) hook).1 result.found }
+    ensures event { seat.new.me.0 ≡ items_after begins (P.as_phase under_way) hook result.found seat.old.me.0 }
+    ensures moves { IsMove shared.now.key begins (P.as_phase under_way) hook seat.old.me.0 result.found }
     ensures slots { seat.new.me.1 ≡ seat.old.me.1 }
 {
-    let (word, touch) = phase.next(hook);
+    let (word, touch) = under_way.next(hook);
     let i = index_of(word);
     let found = match touch {
         Touch::Load => shared.load::<Happens<J>>(seat, i),
@@ -68,25 +68,25 @@ fn event_at<J: Moment>(
 /// The next event of the seat's own number, in one atomic step. An operation that has begun stands in `begins` until its first
 /// event, and None stands there from then on.
 #[inline(always)]
-pub fn event(
+pub fn event<P: UnderWay>(
     shared: &Shared<(), Items, Config, Rule>,
     seat: &mut Seat<(), Items>,
     begins: Option<Op>,
-    phase: Phase,
+    under_way: P,
     hook: Result<(), u16>,
 ) -> Event
     requires table { seat.old.table_id ≡ shared.now.table_id }
     requires words { shared.now.table_id.words ≡ table_length }
-    requires inside { place (next_of phase hook).0 < words_in_all }
-    requires acts { Acts shared.now.key begins phase seat.old.me.0 }
+    requires inside { place (next_of (P.as_phase under_way) hook).0 < words_in_all }
+    requires acts { Acts shared.now.key begins (P.as_phase under_way) seat.old.me.0 }
     ensures table { seat.new.table_id ≡ seat.old.table_id }
     ensures id { seat.new.id ≡ seat.old.id }
-    ensures is { result ≡ event_of (next_of phase hook).0 (next_of phase hook).1 result.found }
-    ensures event { seat.new.me.0 ≡ items_after begins phase hook result.found seat.old.me.0 }
-    ensures moves { IsMove shared.now.key begins phase hook seat.old.me.0 result.found }
+    ensures is { result ≡ event_of (next_of (P.as_phase under_way) hook).0 (next_of (P.as_phase under_way) hook).1 result.found }
+    ensures event { seat.new.me.0 ≡ items_after begins (P.as_phase under_way) hook result.found seat.old.me.0 }
+    ensures moves { IsMove shared.now.key begins (P.as_phase under_way) hook seat.old.me.0 result.found }
     ensures slots { seat.new.me.1 ≡ seat.old.me.1 }
 {
-    event_at::<Brand>(shared, seat, begins, phase, hook)
+    event_at::<Brand, P>(shared, seat, begins, under_way, hook)
 }
 
 fn give_as<J: Given>(

@@ -129,7 +129,7 @@ impl Phase {
 pub trait UnderWay: Copy {
     ghost use Rattle.std.specs.Prelude.{◌≡◌};
     ghost use Rattle.gate_world.specs.declared.work.Phase.{Phase as PhaseType};
-    ghost use Rattle.gate_world.specs.Work.{after_of};
+    ghost use Rattle.gate_world.specs.Work.{next_of, after_of};
     ghost use Rattle.access_model.specs.Replies.{map_next};
 
     /// The phase that it stands for.
@@ -138,6 +138,10 @@ pub trait UnderWay: Copy {
     /// The same as a phase.
     fn phase(self) -> Phase
         ensures { result ≡ as_phase self };
+
+    /// The word and the touch of the next event, where a hook answers this: what each operation does of its own, with no look at others.
+    fn next(self, hook: Result<(), u16>) -> (WordName, Touch)
+        ensures { result ≡ next_of (as_phase self) hook };
 
     /// What comes after the event, which found this, and the action that it adds.
     fn after(self, found: u64, hook: Result<(), u16>) -> (Next<Self>, Option<Action>)
@@ -150,6 +154,11 @@ impl UnderWay for Phase {
     #[inline(always)]
     fn phase(self) -> Phase {
         self
+    }
+
+    #[inline(always)]
+    fn next(self, hook: Result<(), u16>) -> (WordName, Touch) {
+        Phase::next(&self, hook)
     }
 
     #[inline(always)]
@@ -170,6 +179,12 @@ impl UnderWay for Want {
     }
 
     #[inline(always)]
+    fn next(self, hook: Result<(), u16>) -> (WordName, Touch) {
+        let _ = hook;
+        self.next()
+    }
+
+    #[inline(always)]
     fn after(self, found: u64, hook: Result<(), u16>) -> (Next<Want>, Option<Action>) {
         let _ = hook;
         self.after(found)
@@ -184,6 +199,11 @@ impl UnderWay for MountPhase {
     #[inline(always)]
     fn phase(self) -> Phase {
         Phase::Mounts(self)
+    }
+
+    #[inline(always)]
+    fn next(self, hook: Result<(), u16>) -> (WordName, Touch) {
+        MountPhase::next(&self, hook)
     }
 
     #[inline(always)]
@@ -204,6 +224,11 @@ impl UnderWay for Change {
     }
 
     #[inline(always)]
+    fn next(self, hook: Result<(), u16>) -> (WordName, Touch) {
+        MountPhase::next(&MountPhase::Change(self), hook)
+    }
+
+    #[inline(always)]
     fn after(self, found: u64, hook: Result<(), u16>) -> (Next<Change>, Option<Action>) {
         let _ = hook;
         self.after(found)
@@ -218,6 +243,12 @@ impl UnderWay for DownRead {
     #[inline(always)]
     fn phase(self) -> Phase {
         Phase::DownReads(self)
+    }
+
+    #[inline(always)]
+    fn next(self, hook: Result<(), u16>) -> (WordName, Touch) {
+        let _ = hook;
+        self.next()
     }
 
     #[inline(always)]
@@ -238,6 +269,12 @@ impl UnderWay for UpRead {
     }
 
     #[inline(always)]
+    fn next(self, hook: Result<(), u16>) -> (WordName, Touch) {
+        let _ = hook;
+        self.next()
+    }
+
+    #[inline(always)]
     fn after(self, found: u64, hook: Result<(), u16>) -> (Next<UpRead>, Option<Action>) {
         let _ = (found, hook);
         self.after()
@@ -252,6 +289,12 @@ impl UnderWay for WritePhase {
     #[inline(always)]
     fn phase(self) -> Phase {
         Phase::Writes(self)
+    }
+
+    #[inline(always)]
+    fn next(self, hook: Result<(), u16>) -> (WordName, Touch) {
+        let _ = hook;
+        self.next()
     }
 
     #[inline(always)]
@@ -272,6 +315,11 @@ impl UnderWay for Remount {
     }
 
     #[inline(always)]
+    fn next(self, hook: Result<(), u16>) -> (WordName, Touch) {
+        self.next(hook)
+    }
+
+    #[inline(always)]
     fn after(self, found: u64, hook: Result<(), u16>) -> (Next<Remount>, Option<Action>) {
         self.after(found, hook)
     }
@@ -285,6 +333,12 @@ impl UnderWay for Callback {
     #[inline(always)]
     fn phase(self) -> Phase {
         Phase::Callbacks(self)
+    }
+
+    #[inline(always)]
+    fn next(self, hook: Result<(), u16>) -> (WordName, Touch) {
+        let _ = hook;
+        self.next()
     }
 
     #[inline(always)]
@@ -305,6 +359,11 @@ impl UnderWay for Freeze {
     }
 
     #[inline(always)]
+    fn next(self, hook: Result<(), u16>) -> (WordName, Touch) {
+        self.next(hook)
+    }
+
+    #[inline(always)]
     fn after(self, found: u64, hook: Result<(), u16>) -> (Next<Freeze>, Option<Action>) {
         self.after(found, hook)
     }
@@ -321,6 +380,11 @@ impl UnderWay for Thaw {
     }
 
     #[inline(always)]
+    fn next(self, hook: Result<(), u16>) -> (WordName, Touch) {
+        self.next(hook)
+    }
+
+    #[inline(always)]
     fn after(self, found: u64, hook: Result<(), u16>) -> (Next<Thaw>, Option<Action>) {
         self.after(found, hook)
     }
@@ -334,6 +398,11 @@ impl UnderWay for TreePhase {
     #[inline(always)]
     fn phase(self) -> Phase {
         Phase::Trees(self)
+    }
+
+    #[inline(always)]
+    fn next(self, hook: Result<(), u16>) -> (WordName, Touch) {
+        TreePhase::next(&self, hook)
     }
 
     #[inline(always)]
@@ -354,6 +423,11 @@ impl UnderWay for Grow {
     }
 
     #[inline(always)]
+    fn next(self, hook: Result<(), u16>) -> (WordName, Touch) {
+        TreePhase::next(&TreePhase::Grow(self), hook)
+    }
+
+    #[inline(always)]
     fn after(self, found: u64, hook: Result<(), u16>) -> (Next<Grow>, Option<Action>) {
         let _ = hook;
         self.after(found)
@@ -368,6 +442,12 @@ impl UnderWay for ClosePhase {
     #[inline(always)]
     fn phase(self) -> Phase {
         Phase::Closes(self)
+    }
+
+    #[inline(always)]
+    fn next(self, hook: Result<(), u16>) -> (WordName, Touch) {
+        let _ = hook;
+        self.next()
     }
 
     #[inline(always)]
