@@ -29,7 +29,7 @@ use Rattle.gate_world.specs.declared.operations.Op.TheVariants.{Close as CloseOp
 use Rattle.gate_world.specs.declared.views.Traced.{Traced}
 use Rattle.gate_world.specs.declared.work.Phase.{Phase}
 use Rattle.gate_world.specs.declared.work.Phase.TheVariants.{Closes}
-use Rattle.gate_world.specs.Courses.{CloseMayFind, MayFind}
+use Rattle.gate_world.specs.Courses.{CloseMayFind, MayFind, MayHold}
 use Rattle.gate_world.specs.Found.{found_dropped}
 use Rattle.gate_world.specs.Operations.{first_close}
 use Rattle.gate_world.specs.Traces.{IsHonest, IsShort, most_events}
@@ -173,14 +173,14 @@ module _ (c : Config) (file p t : ℕ) (wait : Bool) (value : ℕ) (hook : HookA
     ]
 
     -- an event at level 3
-    enters_event : (node : NodeWord) (s : DownReadStep) → ReadSays 1 3 wait s earlier added → found_dropped earlier ≡ false →
-        After (Enters file node (read_at 3 p t wait s)) earlier added
-    enters_event node s h none =
+    enters_event : (node : NodeWord) (s : DownReadStep) → MayHold (down_read_next (read_at 3 p t wait s) s).0 value →
+        ReadSays 1 3 wait s earlier added → found_dropped earlier ≡ false → After (Enters file node (read_at 3 p t wait s)) earlier added
+    enters_event node s may h none =
         let r : DownRead = read_at 3 p t wait s in
         let found : ℕ = found_by (down_read_next r s).1 value in
         entered_says c file p t wait node (with_hook (event_of (down_read_next r s).0 (down_read_next r s).1 value) hook) earlier
         (actions_after (down_read_after r s found).1 added) (down_read_after r s found).0
-        (read_event 1 3 p t value hook earlier added wait s h) (read_dropped r s value hook earlier ∙ none)
+        (read_event 1 3 p t value hook earlier added wait s may h) (read_dropped r s value hook earlier ∙ none)
 
     -- each event of a close keeps what its trace says
     close_event : (x : ClosePhase) → CloseMayFind x value → CloseSays file p t wait x earlier added → After x earlier added
@@ -191,7 +191,8 @@ module _ (c : Config) (file p t : ℕ) (wait : Bool) (value : ℕ) (hook : HookA
     close_event (LowersCount x node) may h = subst (λ y. After (LowersCount y node) earlier added) (sym h.0) (lowers_event node h.1)
     close_event (Enters f node r) may h =
         subst (λ y. After (Enters y node r) earlier added) (sym h.0)
-        (subst (λ y. After (Enters file node y) earlier added) (sym h.1.1) (enters_event node h.1.0 h.1.2 h.2))
+        (subst (λ (y : DownRead). MayHold (down_read_next y y.step).0 value → After (Enters file node y) earlier added) (sym h.1.1)
+        (λ holds. enters_event node h.1.0 holds h.1.2 h.2) may)
     close_event (FreesNode f q node) may h =
         subst (λ y. After (FreesNode y q node) earlier added) (sym h.0)
         (

@@ -1,4 +1,5 @@
--- The next event of each task is on a word that holds what it may: the word of a node of the tree is a node's.
+-- The next event of each task is on a word that holds what it may: the word of a node of the tree is a node's, and the sync word of a level
+-- is one.
 use Rattle.std.proofs.Common.{◌≡◌, ℕ, ◌<◌, ◌≤◌, ◌*◌, subst, ap, Bool, true, false, arith}
 use Rattle.std.specs.Prelude.{Ok, Err, Some, is_some}
 use Rattle.mount_counts.specs.declared.phases.MountPhase.TheVariants.{Want as MWants, Drop as MDrops, Change as MChanges}
@@ -6,9 +7,9 @@ use Rattle.mount_counts.specs.declared.phases.WantStep.TheVariants.{CountsUp}
 use Rattle.mount_counts.specs.declared.phases.ChangeStep.TheVariants.{Locks}
 use Rattle.mount_counts.specs.declared.remounts.RemountStep.TheVariants.{SetsWritable, ClearsMark, SetsReadOnly as RSetsReadOnly}
 use Rattle.percpu_rwsem.specs.declared.transitions.Transition.TheVariants.{Loads, Exchanges}
-use Rattle.percpu_rwsem.specs.declared.readers.DownReadStep.TheVariants.{EntersSection}
+use Rattle.percpu_rwsem.specs.declared.readers.DownReadStep.TheVariants.{LoadsSync}
 use Rattle.percpu_rwsem.specs.declared.callbacks.CallbackStep.TheVariants.{Claims, AwaitsSections as CAwaitsSections, CallsBack as CCallsBack}
-use Rattle.percpu_rwsem.specs.declared.writers.DownWriteStep.TheVariants.{Enters, CallsBack as WCallsBack}
+use Rattle.percpu_rwsem.specs.declared.writers.DownWriteStep.TheVariants.{Enters, AwaitsPassed, CallsBack as WCallsBack}
 use Rattle.percpu_rwsem.specs.declared.writers.UpWriteStep.TheVariants.{ClearsBlock, Exits}
 use Rattle.write_access.specs.declared.phases.WritePhase.TheVariants.{Takes, Wants as WWants}
 use Rattle.freeze_levels.specs.declared.freezes.FreezeStep.TheVariants.{Closes, Cleans, SetsFs, SetsComplete, Reopens as FReopens}
@@ -24,8 +25,8 @@ use Rattle.gate_world.specs.declared.work.Phase.TheVariants.{Mounts, Remounts, D
 use Rattle.gated_tree.specs.Phases.{next as tree_next, remove_next, grow_next, move_next, mark_next, create_next, snapshot_next, open_next}
 use Rattle.write_access.specs.Phases.{next as write_next}
 use Rattle.gated_tree.proofs.Packing.{packed_unpacks}
-use Rattle.gate_world.specs.Rules.{IsGood, Tree, Files, Fitting}
-use Rattle.cpu_words.specs.declared.names.WordName.TheVariants.{Node}
+use Rattle.gate_world.specs.Rules.{IsGood, Tree, Files, Fitting, SyncAt, SyncHoldsIn}
+use Rattle.cpu_words.specs.declared.names.WordName.TheVariants.{Node, Sync}
 use Rattle.gate_world.specs.Courses.{MayHold, MayFind, CloseMayFind, OpenMayFind, EventsMayBe}
 use Rattle.gate_world.specs.declared.config.Config.{Config}
 use Rattle.cpu_words.specs.declared.names.WordName.{WordName}
@@ -86,7 +87,7 @@ use Rattle.gate_world.specs.Remounts.{RemountFits}
 use Rattle.percpu_rwsem.specs.Readers.{down_read_next}
 use Rattle.percpu_rwsem.specs.Callbacks.{callback_next}
 use Rattle.percpu_rwsem.specs.Writers.{down_write_next, up_write_next}
-use Rattle.gate_world.specs.Fits.{FreezeFits, PhaseFits, CloseFits, HasFile, file_of, Fits}
+use Rattle.gate_world.specs.Fits.{FreezeFits, ThawFits, WriteFits, PhaseFits, CloseFits, HasFile, file_of, Fits}
 use Rattle.freeze_levels.specs.Thaws.{thaw_next}
 use Rattle.gated_tree.specs.Calls.{CreateStepFits, SnapshotStepFits, TreePhaseFits}
 use Rattle.gate_world.specs.Views.{held_at, holds_level, has_open}
@@ -94,21 +95,22 @@ use Rattle.mount_counts.specs.Remounts.{remount_next}
 use Rattle.freeze_levels.specs.Freezes.{freeze_next}
 use Rattle.gate_world.specs.Trees.{tree_bounds, tree_role_of}
 
--- the word of a node is that of one of the tree's
-abbrev IsOfTree : Config → WordName → Type 0
-IsOfTree c (Node n) = n < c.nodes
-IsOfTree c word = Unit {0}
+-- the word of a node is that of one of the tree's, and a sync word that of one of the levels
+abbrev IsThere : Config → WordName → Type 0
+IsThere c (Node n) = n < c.nodes
+IsThere c (Sync i) = (1 ≤ i) × (i ≤ 3)
+IsThere c word = Unit {0}
 
 module _ (c : Config) where
-  want_word : (x : Want) (s : WantStep) → IsOfTree c (want_next x s).0
+  want_word : (x : Want) (s : WantStep) → IsThere c (want_next x s).0
   want_word x CountsUp = tt
   want_word x other = tt
 
-  change_word : (x : Change) (s : ChangeStep) → IsOfTree c (change_next x s).0
+  change_word : (x : Change) (s : ChangeStep) → IsThere c (change_next x s).0
   change_word x Locks = tt
   change_word x other = tt
 
-  remount_word : (x : Remount) (s : RemountStep) (hook : HookAnswer) → RemountFits c s → IsOfTree c (remount_next x s hook).0
+  remount_word : (x : Remount) (s : RemountStep) (hook : HookAnswer) → RemountFits c s → IsThere c (remount_next x s hook).0
   remount_word x SetsWritable (Ok answer) fits = tt
   remount_word x SetsWritable (Err code) fits = tt
   remount_word x (ClearsMark n) hook fits = fits.1
@@ -116,94 +118,95 @@ module _ (c : Config) where
   remount_word x RSetsReadOnly (Err code) fits = tt
   remount_word x other hook fits = tt
 
-  transition_word : (level : ℕ) (x : Transition) → IsOfTree c (transition_next level x).0
-  transition_word level Loads = tt
-  transition_word level (Exchanges from to) = tt
+  transition_word : (level : ℕ) (x : Transition) → 1 ≤ level → level ≤ 3 → IsThere c (transition_next level x).0
+  transition_word level Loads l1 l3 = (l1, l3)
+  transition_word level (Exchanges from to) l1 l3 = (l1, l3)
 
-  read_word : (x : DownRead) (s : DownReadStep) → IsOfTree c (down_read_next x s).0
-  read_word x EntersSection = tt
-  read_word x other = tt
+  read_word : (x : DownRead) (s : DownReadStep) → 1 ≤ x.level → x.level ≤ 3 → IsThere c (down_read_next x s).0
+  read_word x LoadsSync l1 l3 = (l1, l3)
+  read_word x other l1 l3 = tt
 
-  callback_word : (x : Callback) (s : CallbackStep) → IsOfTree c (callback_next x s).0
-  callback_word x (Claims transition) = transition_word x.level transition
-  callback_word x (CAwaitsSections grace) = tt
-  callback_word x (CCallsBack transition) = transition_word x.level transition
+  callback_word : (x : Callback) (s : CallbackStep) → 1 ≤ x.level → x.level ≤ 3 → IsThere c (callback_next x s).0
+  callback_word x (Claims transition) l1 l3 = transition_word x.level transition l1 l3
+  callback_word x (CAwaitsSections grace) l1 l3 = tt
+  callback_word x (CCallsBack transition) l1 l3 = transition_word x.level transition l1 l3
 
-  down_write_word : (x : DownWrite) (s : DownWriteStep) → IsOfTree c (down_write_next x s).0
-  down_write_word x (Enters transition) = transition_word x.level transition
-  down_write_word x (WCallsBack transition) = transition_word x.level transition
-  down_write_word x other = tt
+  down_write_word : (x : DownWrite) (s : DownWriteStep) → 1 ≤ x.level → x.level ≤ 3 → IsThere c (down_write_next x s).0
+  down_write_word x (Enters transition) l1 l3 = transition_word x.level transition l1 l3
+  down_write_word x AwaitsPassed l1 l3 = (l1, l3)
+  down_write_word x (WCallsBack transition) l1 l3 = transition_word x.level transition l1 l3
+  down_write_word x other l1 l3 = tt
 
-  up_write_word : (x : UpWrite) (s : UpWriteStep) → IsOfTree c (up_write_next x s).0
-  up_write_word x ClearsBlock = tt
-  up_write_word x (Exits transition) = transition_word x.level transition
+  up_write_word : (x : UpWrite) (s : UpWriteStep) → 1 ≤ x.level → x.level ≤ 3 → IsThere c (up_write_next x s).0
+  up_write_word x ClearsBlock l1 l3 = tt
+  up_write_word x (Exits transition) l1 l3 = transition_word x.level transition l1 l3
 
-  write_word : (x : WritePhase) → IsOfTree c (write_next x).0
-  write_word (Takes m r) = read_word r r.step
-  write_word (WWants w) = want_word w w.step
-  write_word other = tt
+  write_word : (t : ℕ) (held : ℕ → ℕ) (levels : ℕ → Bool) (x : WritePhase) → WriteFits c t held levels x → IsThere c (write_next x).0
+  write_word t held levels (Takes m r) fits = read_word r r.step fits.0.0 fits.0.1
+  write_word t held levels (WWants w) fits = want_word w w.step
+  write_word t held levels other fits = tt
 
-  freeze_word : (x : Freeze) (s : FreezeStep) (hook : HookAnswer) → FreezeFits c x.holder s → IsOfTree c (freeze_next x s hook).0
-  freeze_word x (Closes d) hook fits = down_write_word d d.step
+  freeze_word : (x : Freeze) (s : FreezeStep) (hook : HookAnswer) → FreezeFits c x.holder s → IsThere c (freeze_next x s hook).0
+  freeze_word x (Closes d) hook fits = down_write_word d d.step fits.0 fits.1
   freeze_word x (Cleans marks) hook fits = fits.2
   freeze_word x SetsFs (Ok answer) fits = tt
   freeze_word x SetsFs (Err code) fits = tt
   freeze_word x SetsComplete (Ok answer) fits = tt
   freeze_word x SetsComplete (Err code) fits = tt
-  freeze_word x (FReopens u code) hook fits = up_write_word u u.step
+  freeze_word x (FReopens u code) hook fits = up_write_word u u.step fits.0 fits.1
   freeze_word x other hook fits = tt
 
-  thaw_word : (x : Thaw) (s : ThawStep) (hook : HookAnswer) → IsOfTree c (thaw_next x s hook).0
-  thaw_word x LeavesLast (Ok answer) = tt
-  thaw_word x LeavesLast (Err code) = tt
-  thaw_word x (TReopens u) hook = up_write_word u u.step
-  thaw_word x other hook = tt
+  thaw_word : (x : Thaw) (s : ThawStep) (hook : HookAnswer) → ThawFits x.holder s → IsThere c (thaw_next x s hook).0
+  thaw_word x LeavesLast (Ok answer) fits = tt
+  thaw_word x LeavesLast (Err code) fits = tt
+  thaw_word x (TReopens u) hook fits = up_write_word u u.step fits.0 fits.1
+  thaw_word x other hook fits = tt
 
-  create_word : (x : Create) (s : CreateStep) → x.dir < c.nodes → CreateStepFits (tree_bounds c) s → IsOfTree c (create_next x s).0
+  create_word : (x : Create) (s : CreateStep) → x.dir < c.nodes → CreateStepFits (tree_bounds c) s → IsThere c (create_next x s).0
   create_word x LoadsDirectory lt fits = lt
   create_word x (LoadsNode n) lt fits = fits
   create_word x (ChargesChild n) lt fits = tt
   create_word x (TakesNode n) lt fits = fits
   create_word x RefundsChild lt fits = tt
 
-  remove_word : (x : Remove) (s : RemoveStep) → x.file < c.nodes → IsOfTree c (remove_next x s).0
+  remove_word : (x : Remove) (s : RemoveStep) → x.file < c.nodes → IsThere c (remove_next x s).0
   remove_word x LoadsFileToRemove lt = lt
   remove_word x (FreesNode file) lt = lt
   remove_word x (MarksRemoved file) lt = lt
   remove_word x other lt = tt
 
-  grow_word : (x : Grow) (s : GrowStep) → x.file < c.nodes → IsOfTree c (grow_next x s).0
+  grow_word : (x : Grow) (s : GrowStep) → x.file < c.nodes → IsThere c (grow_next x s).0
   grow_word x LoadsFileToGrow lt = lt
   grow_word x (GrowsFile file) lt = lt
   grow_word x other lt = tt
 
-  move_word : (x : MoveTo) (s : MoveStep) → x.file < c.nodes → x.dir < c.nodes → IsOfTree c (move_next x s).0
+  move_word : (x : MoveTo) (s : MoveStep) → x.file < c.nodes → x.dir < c.nodes → IsThere c (move_next x s).0
   move_word x LoadsFileToMove lt ld = lt
   move_word x (LoadsTarget file) lt ld = ld
   move_word x (ChargesTarget file) lt ld = tt
   move_word x (MovesFile file) lt ld = lt
   move_word x (RefundsOne dir answer) lt ld = tt
 
-  mark_word : (x : Mark) (s : MarkStep) → x.file < c.nodes → IsOfTree c (mark_next x s).0
+  mark_word : (x : Mark) (s : MarkStep) → x.file < c.nodes → IsThere c (mark_next x s).0
   mark_word x LoadsFileToMark lt = lt
   mark_word x (MarksFile file) lt = lt
 
-  snapshot_word : (x : Snapshot) (s : SnapshotStep) → SnapshotStepFits (tree_bounds c) s → IsOfTree c (snapshot_next x s).0
+  snapshot_word : (x : Snapshot) (s : SnapshotStep) → SnapshotStepFits (tree_bounds c) s → IsThere c (snapshot_next x s).0
   snapshot_word x (SLoadsNode n) fits = fits
   snapshot_word x other fits = tt
 
-  open_word : (x : OpenFile) (s : OpenStep) → x.file < c.nodes → IsOfTree c (open_next x s).0
+  open_word : (x : OpenFile) (s : OpenStep) → x.file < c.nodes → IsThere c (open_next x s).0
   open_word x LoadsFileToOpen lt = lt
   open_word x (OpensFile file) lt = lt
 
-  close_word : (t : ℕ) (levels : ℕ → Bool) (x : ClosePhase) → CloseFits c t levels x → IsOfTree c (close_next x).0
+  close_word : (t : ℕ) (levels : ℕ → Bool) (x : ClosePhase) → CloseFits c t levels x → IsThere c (close_next x).0
   close_word t levels (CloseLoadsFile x) fits = fits.0
   close_word t levels (LowersCount x node) fits = fits.0.0
-  close_word t levels (EntersLevel f node r) fits = read_word r r.step
+  close_word t levels (EntersLevel f node r) fits = read_word r r.step fits.2.0 fits.2.1
   close_word t levels (ClosesNode f p node) fits = fits.0
   close_word t levels other fits = tt
 
-  tree_word : (t : ℕ) (x : TreePhase) (hook : HookAnswer) → TreePhaseFits (tree_bounds c) t x → IsOfTree c (tree_next x hook).0
+  tree_word : (t : ℕ) (x : TreePhase) (hook : HookAnswer) → TreePhaseFits (tree_bounds c) t x → IsThere c (tree_next x hook).0
   tree_word t (Creates x) hook fits = create_word x x.step fits.0 fits.2
   tree_word t (Removes x) hook fits = remove_word x x.step fits.0
   tree_word t (Grows x) hook fits = grow_word x x.step fits.0
@@ -215,23 +218,24 @@ module _ (c : Config) where
 
   -- the word of each phase's next event
   phase_word : (t : ℕ) (held : ℕ → ℕ) (levels : ℕ → Bool) (phase : Phase) (hook : HookAnswer) → PhaseFits c t held levels phase →
-      IsOfTree c (next_of phase hook).0
+      IsThere c (next_of phase hook).0
   phase_word t held levels (Mounts (MWants x)) hook fits = want_word x x.step
   phase_word t held levels (Mounts (MDrops m p)) hook fits = tt
   phase_word t held levels (Mounts (MChanges x)) hook fits = change_word x x.step
   phase_word t held levels (Remounts x) hook fits = remount_word x x.step hook fits.5
-  phase_word t held levels (DownReads r) hook fits = read_word r r.step
+  phase_word t held levels (DownReads r) hook fits = read_word r r.step fits.0 fits.1
   phase_word t held levels (UpReads u) hook fits = tt
-  phase_word t held levels (Callbacks b) hook fits = callback_word b b.step
-  phase_word t held levels (Writes x) hook fits = write_word x
+  phase_word t held levels (Callbacks b) hook fits = callback_word b b.step fits.0 fits.1
+  phase_word t held levels (Writes x) hook fits = write_word t held levels x fits
   phase_word t held levels (Freezes x) hook fits = freeze_word x x.step hook fits.5
-  phase_word t held levels (Thaws x) hook fits = thaw_word x x.step hook
+  phase_word t held levels (Thaws x) hook fits = thaw_word x x.step hook fits.2
   phase_word t held levels (Trees x) hook fits = tree_word t x hook fits.0
   phase_word t held levels (Closes x) hook fits = close_word t levels x fits
 
   -- the words of a good world hold what they may
-  held_well : (w : World) → IsGood c w → (word : WordName) → IsOfTree c word → MayHold word (read w.words word)
+  held_well : (w : World) → IsGood c w → (word : WordName) → IsThere c word → MayHold word (read w.words word)
   held_well w good (Node n) lt = ap is_some (packed_unpacks (w.words.node n) ((good Tree).words n lt).packed)
+  held_well w good (Sync i) there = let s : SyncHoldsIn c w i = good (SyncAt i) there.0 there.1 in ap is_some s.packed
   held_well w good word lt = tt
 
   module _ (within : IsWithin c) (w : World) (good : IsGood c w) (t : ℕ) (lt : t < c.tasks) where
@@ -264,6 +268,8 @@ module _ (c : Config) where
       open_counted x.file fits.0 (subst (λ p. HasFile (has_open (w.views t)) (file_of p)) is ((good Files).own t lt)),
     )
     close_finds (LowersCount x node) is fits = node_packed x.file fits.0.0
+    close_finds (EntersLevel f node r) is fits =
+        held_well w good (down_read_next r r.step).0 (read_word r r.step fits.2.0 fits.2.1)
     close_finds (ClosesNode f p node) is fits =
         (subst (λ q. RoleHolds (tree_bounds c) w.words.used w.words.removed w.words.node w.words.kids (tree_role_of (w.views t).trace q)) is
         ((good Tree).roles t lt)).1.word

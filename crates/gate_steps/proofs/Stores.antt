@@ -1,4 +1,4 @@
--- No event stores into the word of a node, so what it finds there is what the word held.
+-- No event stores into the word of a node or a sync word, so what it finds there is what the word held.
 use Rattle.std.proofs.Common.{ℕ}
 use Rattle.std.specs.Prelude.{Ok, Err}
 use Rattle.mount_counts.specs.declared.phases.MountPhase.TheVariants.{Want as MWants, Drop as MDrops, Change as MChanges}
@@ -24,7 +24,7 @@ use Rattle.gate_world.specs.declared.work.Phase.TheVariants.{Mounts, Remounts, D
 use Rattle.gated_tree.specs.Phases.{next as tree_next, remove_next, grow_next, move_next, mark_next, create_next, snapshot_next, open_next}
 use Rattle.file_closes.specs.Phases.{next as close_next}
 use Rattle.write_access.specs.Phases.{next as write_next}
-use Rattle.cpu_words.specs.declared.names.WordName.TheVariants.{Node}
+use Rattle.cpu_words.specs.declared.names.WordName.TheVariants.{Node, Sync}
 use Rattle.cpu_words.specs.declared.events.Touch.{Touch}
 use Rattle.cpu_words.specs.declared.events.Touch.TheVariants.{Load, Store, Add, Sub, Or, And, Swap, Cas}
 use Rattle.cpu_words.specs.Touches.{found_by}
@@ -80,9 +80,10 @@ use Rattle.freeze_levels.specs.Thaws.{thaw_next}
 use Rattle.mount_counts.specs.Remounts.{remount_next}
 use Rattle.freeze_levels.specs.Freezes.{freeze_next}
 
--- no node's word is stored into
+-- no node's word and no sync word is stored into
 abbrev pub IsNoStore : WordName × Touch → Type 0
 IsNoStore (Node n, Store value) = ⊥
+IsNoStore (Sync i, Store value) = ⊥
 IsNoStore event = Unit {0}
 
 want_word : (x : Want) (s : WantStep) → IsNoStore (want_next x s)
@@ -199,7 +200,7 @@ no_store (Thaws x) hook = thaw_word x x.step hook
 no_store (Trees x) hook = tree_word x hook
 no_store (Closes x) hook = close_word x
 
--- so what an event finds in a word is what the word held, where that is a node's
+-- so what an event finds in a word is what the word held, where that is a node's or a sync word
 held_found : (word : WordName) (touch : Touch) (value : ℕ) → IsNoStore (word, touch) → MayHold word value →
     MayHold word (found_by touch value)
 held_found (Node n) (Store new) value none may = absurd none
@@ -210,6 +211,14 @@ held_found (Node n) (Or bits) value none may = may
 held_found (Node n) (And bits) value none may = may
 held_found (Node n) (Swap new) value none may = may
 held_found (Node n) (Cas expect put) value none may = may
+held_found (Sync i) (Store new) value none may = absurd none
+held_found (Sync i) Load value none may = may
+held_found (Sync i) (Add by) value none may = may
+held_found (Sync i) (Sub by) value none may = may
+held_found (Sync i) (Or bits) value none may = may
+held_found (Sync i) (And bits) value none may = may
+held_found (Sync i) (Swap new) value none may = may
+held_found (Sync i) (Cas expect put) value none may = may
 held_found other touch value none may = tt
 
 -- the same of what a phase asks of its word
@@ -221,7 +230,8 @@ pub there_found : (phase : Phase) (hook : HookAnswer) (value : ℕ) → MayFind 
     MayFind phase (next_of phase hook).0 (found_by (next_of phase hook).1 value)
 there_found (Closes (LoadsFileToClose x)) hook value may = may
 there_found (Closes (LowersCount x node)) hook value may = may
-there_found (Closes (EntersLevel file node r)) hook value may = tt
+there_found (Closes (EntersLevel file node r)) hook value may =
+    held_found (down_read_next r r.step).0 (down_read_next r r.step).1 value (read_word r r.step) may
 there_found (Closes (FreesFile file p node)) hook value may = may
 there_found (Closes (RefundsFile p blocks)) hook value may = tt
 there_found (Closes (Uncounts p)) hook value may = tt

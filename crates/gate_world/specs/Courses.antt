@@ -8,7 +8,7 @@ use Rattle.cpu_words.specs.Touches.{event_of}
 use Rattle.gate_world.specs.declared.config.Config.{Config}
 use Rattle.gate_world.specs.declared.operations.Op.{Op}
 use Rattle.file_closes.specs.declared.phases.ClosePhase.{ClosePhase}
-use Rattle.file_closes.specs.declared.phases.ClosePhase.TheVariants.{LoadsFile as CloseLoadsFile, LowersCount, FreesNode}
+use Rattle.file_closes.specs.declared.phases.ClosePhase.TheVariants.{LoadsFile as CloseLoadsFile, LowersCount, Enters as EntersLevel, FreesNode}
 use Rattle.gate_world.specs.declared.work.Phase.TheVariants.{Trees, Closes}
 use Rattle.gated_tree.specs.declared.phases.TreePhase.TheVariants.{OpenFile as OpensOne}
 use Rattle.gated_tree.specs.declared.opens.OpenStep.{OpenStep}
@@ -21,9 +21,11 @@ use Rattle.gate_world.specs.Views.{phase_after, actions_after}
 use Rattle.gate_world.specs.Beginnings.{first_phase, refusal}
 use Rattle.cpu_words.specs.declared.names.WordName.{WordName}
 use Rattle.gate_world.specs.Worlds.{World, value_at}
-use Rattle.cpu_words.specs.declared.names.WordName.TheVariants.{Node}
+use Rattle.cpu_words.specs.declared.names.WordName.TheVariants.{Node, Sync}
 use Rattle.cpu_words.specs.Hooks.{HookAnswer}
 use Rattle.gated_tree.specs.Nodes.{unpacked, opens_in, word_of}
+use Rattle.percpu_rwsem.specs.Readers.{down_read_next}
+use Rattle.percpu_rwsem.specs.SyncWords.{unpack}
 use Rattle.std.proofs.Common.{true}
 
 -- where an operation stands, and the actions that it has added, the newest first
@@ -46,15 +48,17 @@ abbrev pub course_of : Config → ℕ → Op → List Traced → Course
 course_of c t op [] = record { comes = Go (first_phase c t op); added = [] }
 course_of c t op (e ∷ earlier) = course_after (course_of c t op earlier).comes (course_of c t op earlier).added e
 
--- a value that a word may hold: the word of a node is a node's
+-- a value that a word may hold: the word of a node is a node's, and a sync word is one
 abbrev pub MayHold : WordName → ℕ → Type 0
 MayHold (Node n) value = is_some (unpacked value) ≡ true
+MayHold (Sync i) value = is_some (unpack value) ≡ true
 MayHold word value = Unit {0}
 
 -- What the next event of a phase may find: at a close's file, that some task has it open; at that of a last close, that it is as it was
--- loaded; at a file to open, that fewer than 64 tasks have it open.
+-- loaded; inside its start, what that one's word may hold; at a file to open, that fewer than 64 tasks have it open.
 abbrev pub CloseMayFind : ClosePhase → ℕ → Type 0
 CloseMayFind (CloseLoadsFile x) value = (is_some (unpacked value) ≡ true) × (1 ≤ opens_in value)
+CloseMayFind (EntersLevel f node r) value = MayHold (down_read_next r r.step).0 value
 CloseMayFind (FreesNode f p node) value = value ≡ word_of node
 CloseMayFind (LowersCount x node) value = is_some (unpacked value) ≡ true
 CloseMayFind phase value = Unit {0}

@@ -122,9 +122,9 @@ fn a_want_on_an_idle_mount_is_granted(rt: HostRuntime) {
     assert!(rt; end_of(want, &events) == Some(Next::Done(Ok(Reply::Unit))));
 }
 
-/// 5 is no word of an rcu_sync, so it isn't GP_IDLE.
+/// 5 is no word of an rcu_sync, nor is 2, GP_PASSED with no writer; 3 is GP_EXIT.
 #[test]
-fn a_down_read_asks_for_block_where_there_is_no_word(rt: HostRuntime) {
+fn a_down_read_looks_again_where_there_is_no_word(rt: HostRuntime) {
     let read = SemPhase::DownRead(DownRead {
         level: 2,
         cpu: 1,
@@ -136,6 +136,8 @@ fn a_down_read_asks_for_block_where_there_is_no_word(rt: HostRuntime) {
     let events = [
         (WordName::Section(3), Touch::Add(1), 0, None),
         look(WordName::Sync(2), 5),
+        look(WordName::Sync(2), 2),
+        look(WordName::Sync(2), 3),
         (WordName::LevelCount(2, 1), Touch::Add(1), 4, None),
         (WordName::Block(2), Touch::Load, 0, granted),
         (WordName::Section(3), Touch::Add(1), 1, None),

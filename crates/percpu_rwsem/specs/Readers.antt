@@ -20,8 +20,8 @@ use Rattle.percpu_rwsem.specs.declared.readers.DownReadStep.TheVariants.{EntersS
 use Rattle.percpu_rwsem.specs.declared.readers.UpRead.{UpRead}
 use Rattle.percpu_rwsem.specs.SyncWords.{unpack}
 
--- down-read: enter a section; count up at once in GP_IDLE, else count up and ask; take the count back where the level is closed; leave
--- the section
+-- down-read: enter a section; load the sync word, again where it is none; count up at once in GP_IDLE, else count up and ask; take the
+-- count back where the level is closed; leave the section
 abbrev pub down_read_next : DownRead → DownReadStep → WordName × Touch
 down_read_next r EntersSection = (Section r.task, Add 1)
 down_read_next r LoadsSync = (Sync r.level, Load)
@@ -44,9 +44,9 @@ step_in Passed = CountsUpSlow
 step_in Exit = CountsUpSlow
 step_in Replay = CountsUpSlow
 
--- the step that a sync word leads to: only GP_IDLE leads to the fast path, and so a number that is no word doesn't
+-- the step that a sync word leads to: only GP_IDLE leads to the fast path; where the number is no word, it is loaded again
 abbrev pub step_found : Option SyncWord → DownReadStep
-step_found None = CountsUpSlow
+step_found None = LoadsSync
 step_found (Some word) = step_in word.state
 
 -- it left the section, blocked: one that waits begins again

@@ -13,7 +13,7 @@ use cpu_words::{Touch, WordName};
 pub enum DownReadStep {
     /// Adds one to its section word, which is odd from then on (`preempt_disable`).
     EntersSection,
-    /// Loads the level's sync word (`rcu_sync_is_idle`).
+    /// Loads the level's sync word (`rcu_sync_is_idle`), again where it is none.
     LoadsSync,
     /// Adds one to the count of its processor, and is admitted: the state was GP_IDLE.
     CountsUpFast,
@@ -49,8 +49,8 @@ pub struct UpRead {
 }
 
 impl DownReadStep {
-    /// The step that a number found in a sync word leads to. As in the kernel, which asks for GP_IDLE alone, any other number, also one
-    /// that is no word, leads to the slow path.
+    /// The step that a number found in a sync word leads to: GP_IDLE alone to the fast path, as in the kernel. A number that is no word is
+    /// loaded again; behind the gates there is none.
     #[inline(always)]
     fn after_sync(found: u64) -> DownReadStep
         ensures { result ≡ step_found (unpack found) }
@@ -61,7 +61,8 @@ impl DownReadStep {
         }
         match SyncWord::unpack(found) {
             Some(word) if word.state == GpState::Idle => DownReadStep::CountsUpFast,
-            _ => DownReadStep::CountsUpSlow,
+            Some(_) => DownReadStep::CountsUpSlow,
+            None => DownReadStep::LoadsSync,
         }
     }
 }

@@ -73,7 +73,7 @@ close_falls w (Enters f node r) free h =
     let after : Words = put w (close_next (Enters f node r)).0 (left (close_next (Enters f node r)).1 (read w (close_next (Enters f node r)).0)) in
     frees_falls after f node r.cpu (read_rank r.wait r.step)
     (down_read_after r r.step (found_by (close_next (Enters f node r)).1 (read w (close_next (Enters f node r)).0))).0
-    (read_falls w r after r.step (λ e a. read_block w r r.step ∙ free e a) free)
+    (read_falls w r after r.step h (λ e a. read_block w r r.step ∙ free e a) free)
 close_falls w (FreesNode f p node) free h =
     elim (eqb_tells (w.node f) (word_of node)) [ inl q ↦ rw q.0 (omega arith, tt) | inr q ↦ absurd (q.1 h) ]
 close_falls w (RefundsBlocks p blocks) free h = (omega arith, tt)

@@ -302,7 +302,7 @@ module _ (c : Config) (lim : IsWithin c)
   settled_goes : (w : World) → IsGood c w → (t : ℕ) → t < c.tasks → (x : Freeze) → (w.views t).phase ≡ Some (Freezes x) →
       IdleApart c w x.step → FirstFree w.words x.step → OwnerFreezes c w → ReplyWithin c (most_beside c + 5 * (c.tasks - 1)) w
   settled_goes w good t lt x at apart first freezing =
-      all_leave c keeps
+      all_leave c lim keeps
       (λ (v : World). ((v.views t).phase ≡ Some (Freezes x)) × IdleApart c v x.step × FirstFree v.words x.step × OwnerFreezes c v)
       (λ v z lz phase at' within hook q is cond.
       let next : World = after_step v z phase hook in
@@ -348,7 +348,7 @@ module _ (c : Config) (lim : IsWithin c)
       ReplyWithin c (most_settled c) w
   callback_goes w good t lt b at =
       no_further c (most_beside c + 5 * (c.tasks - 1)) (most_settled c) w (beside_settled c)
-      (all_leave c keeps (λ (v : World). (v.views t).phase ≡ Some (Callbacks b))
+      (all_leave c lim keeps (λ (v : World). (v.views t).phase ≡ Some (Callbacks b))
       (λ v z lz phase at' within hook q is cond.
       let ne : t ≡ z → ⊥ = λ e.
       omega (arith, within, ap inside at', ap (λ y. inside (v.views y).phase) e, ap inside cond) in

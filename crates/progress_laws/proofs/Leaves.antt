@@ -31,7 +31,10 @@ use Rattle.gate_world.specs.declared.views.View.{View}
 use Rattle.gate_world.specs.Levels.{inside}
 use Rattle.gate_world.specs.Rules.{IsGood}
 use Rattle.gate_world.specs.Views.{phase_after, view_after}
-use Rattle.gate_world.specs.Work.{after_of}
+use Rattle.gate_world.specs.Work.{next_of, after_of}
+use Rattle.gate_world.specs.Configs.{IsWithin}
+use Rattle.gate_world.specs.Courses.{MayHold, MayFind}
+use Rattle.gate_frames.proofs.MayHolds.{events_may_be}
 use Rattle.gate_world.specs.Worlds.{World, after_step, words_after, value_at, found_at}
 use Rattle.progress_laws.specs.Progress.{EventsKeepRule, HasReply, ReplyWithin}
 use Rattle.progress_laws.specs.Ranks.{read_rank}
@@ -74,19 +77,20 @@ left_leaves : (r : DownRead) (b : Bool) → ReadLeaves 0 (left_blocked r b)
 left_leaves r true = inl refl
 left_leaves r false = tt
 
--- each event of a down-read inside its section
-read_leaves : (w : Words) (r : DownRead) (s : DownReadStep) → down_read_inside s ≡ 1 →
+-- each event of a down-read inside its section, whose sync word is one
+read_leaves : (w : Words) (r : DownRead) (s : DownReadStep) → MayHold (down_read_next r s).0 (read w (down_read_next r s).0) →
+    down_read_inside s ≡ 1 →
     ReadLeaves (read_rank false s) (down_read_after r s (found_by (down_read_next r s).1 (read w (down_read_next r s).0))).0
-read_leaves w r EntersSection h = absurd (omega (arith, h))
-read_leaves w r LoadsSync h =
-    inr (found_inside (unpack (w.sync r.level)), omega (arith, found_rank false (unpack (w.sync r.level))))
-read_leaves w r CountsUpFast h = inr (refl, omega arith)
-read_leaves w r CountsUpSlow h = inr (refl, omega arith)
-read_leaves w r LoadsBlock h =
+read_leaves w r EntersSection may h = absurd (omega (arith, h))
+read_leaves w r LoadsSync may h =
+    inr (found_inside (unpack (w.sync r.level)), omega (arith, found_rank false (unpack (w.sync r.level)) may))
+read_leaves w r CountsUpFast may h = inr (refl, omega arith)
+read_leaves w r CountsUpSlow may h = inr (refl, omega arith)
+read_leaves w r LoadsBlock may h =
     elim (eqb_tells (w.block r.level) 0) [ inl q ↦ rw q.0 (inr (refl, omega arith)) | inr q ↦ rw q.0 (inr (refl, omega arith)) ]
-read_leaves w r CountsDown h = inr (refl, omega arith)
-read_leaves w r LeavesAdmitted h = tt
-read_leaves w r LeavesBlocked h = left_leaves r r.wait
+read_leaves w r CountsDown may h = inr (refl, omega arith)
+read_leaves w r LeavesAdmitted may h = tt
+read_leaves w r LeavesBlocked may h = left_leaves r r.wait
 
 as_read : (n : ℕ) (next : Next DownRead) → ReadLeaves n next → PhaseLeaves n (map_next DownReads next)
 as_read n (Go r) h = h
@@ -107,12 +111,13 @@ as_close f node p n (Done (Ok reply)) h = inl refl
 as_close f node p n (Done (Err refusal)) h = tt
 
 -- each event of a phase inside a section
-pub phase_leaves : (w : Words) (phase : Phase) (hook : HookAnswer) → inside (Some phase) ≡ 1 →
-    PhaseLeaves (leave_rank phase) (after_of phase (found_at w phase hook) hook).0
-phase_leaves w (DownReads r) hook h = as_read (read_rank false r.step) _ (read_leaves w r r.step h)
-phase_leaves w (Writes (Takes m r)) hook h = as_write m r.cpu (read_rank false r.step) _ (read_leaves w r r.step h)
-phase_leaves w (FileCloses (EntersLevel f node r)) hook h = as_close f node r.cpu (read_rank false r.step) _ (read_leaves w r r.step h)
-phase_leaves w phase hook h = absurd (omega (arith, h))
+pub phase_leaves : (w : Words) (phase : Phase) (hook : HookAnswer) → MayFind phase (next_of phase hook).0 (value_at w phase hook) →
+    inside (Some phase) ≡ 1 → PhaseLeaves (leave_rank phase) (after_of phase (found_at w phase hook) hook).0
+phase_leaves w (DownReads r) hook may h = as_read (read_rank false r.step) _ (read_leaves w r r.step may h)
+phase_leaves w (Writes (Takes m r)) hook may h = as_write m r.cpu (read_rank false r.step) _ (read_leaves w r r.step may h)
+phase_leaves w (FileCloses (EntersLevel f node r)) hook may h =
+    as_close f node r.cpu (read_rank false r.step) _ (read_leaves w r r.step may h)
+phase_leaves w phase hook may h = absurd (omega (arith, h))
 
 -- what an event inside a section leaves of the words that a freeze looks at
 pub record StaysBeside (w next : Words) : Type 0 where
@@ -169,7 +174,7 @@ pub phase_inside : (p : Option Phase) → inside p ≡ 1 → (phase : Phase) × 
 phase_inside None h = absurd (omega (arith, h))
 phase_inside (Some phase) h = (phase, refl)
 
-module _ (c : Config)
+module _ (c : Config) (lim : IsWithin c)
     (keeps : EventsKeepRule c)
     (Cond : World → Type 0)
     (stays : (w : World) → (z : ℕ) → z < c.tasks → (phase : Phase) → (w.views z).phase ≡ Some phase → inside (Some phase) ≡ 1 →
@@ -227,7 +232,8 @@ module _ (c : Config)
       (near_after c (n + 5 * k + m) w z lz phase at (λ hook.
       then_leaves m k w good cond z lz phase at within hook (omega (arith, le)) few rest
       (λ next after cond' q is on le' few'. one_leaves m k next after cond' z lz q is on le' few' rest)
-      (after_of phase (found_at w.words phase hook) hook).0 (stands_after c w z lz hook phase at) (phase_leaves w.words phase hook within)))
+      (after_of phase (found_at w.words phase hook) hook).0 (stands_after c w z lz hook phase at)
+      (phase_leaves w.words phase hook (events_may_be c lim w good z lz phase hook at) within)))
 
   -- all of them do
   pub all_leave : (k : ℕ) (w : World) → IsGood c w → Cond w → all_within c w ≤ k → ReplyWithin c (n + 5 * k) w

@@ -126,7 +126,7 @@ module _ (c : Config) (t : ℕ) (w next : World) (earlier : List World) where
     -- so it is after each event
     pub read_own : (hook : HookAnswer) (s : DownReadStep) → OwnCause s (found_at w.words (DownReads (at_down_read r s)) hook)
     read_own hook LoadsSync asks apart h next_asks =
-        by_word (λ s. HasNextCause (Go (at_down_read r s))) tt tt (unpack (w.words.sync r.level))
+        by_word (λ s. HasNextCause (Go (at_down_read r s))) tt tt tt (unpack (w.words.sync r.level))
     read_own hook LoadsBlock asks apart h next_asks = block_own asks apart h next_asks
     read_own hook CountsDown asks apart h next_asks = cause_skips r.level next_asks h
     read_own hook LeavesBlocked asks apart h next_asks = by_bool r.wait (λ b. HasNextCause (left_blocked r b)) tt tt

@@ -88,9 +88,9 @@ path_in : (s : GpState) → IsPath (step_in s)
 path_in Idle = record { counts_not = λ p. refl; fits_still = λ i levels h. h }
 path_in other = slow_path
 
--- and where the number is no word
+-- and where the number is no word, which is loaded again
 path_found : (o : Option SyncWord) → IsPath (step_found o)
-path_found None = slow_path
+path_found None = record { counts_not = λ p. refl; fits_still = λ i levels h. h }
 path_found (Some word) = path_in word.state
 
 -- a start that was blocked begins anew or is done, and counts at no level
@@ -210,7 +210,7 @@ module _ (c : Config) (lim : IsWithin c) (w : World) (good : IsGood c w) (t : �
   then_view next after =
       view_with (w.views t) next (read w.words next.0) hook (map_next DownReads after.0, after.1)
 
-  -- a load of the sync word finds a path
+  -- a load of the sync word finds a path, or is done again
   loads_sync : IsAt LoadsSync → StepKeeps c w t hook (DownReads (at_down_read r LoadsSync))
   loads_sync e =
       let i : ℕ = r.level in

@@ -105,8 +105,8 @@ module _ (c : Config) (t : ℕ) (r : DownRead) (l1 : 1 ≤ r.level) (l3 : r.leve
       ReadGoes c t r.level r.cpu (levels_by (down_read_after r s found).1 levels) (down_read_after r s found).0
   read_goes levels EntersSection found h = goes_on levels LoadsSync h
   read_goes levels LoadsSync found h =
-      by_word (λ s. ReadGoes c t r.level r.cpu levels (Go (at_down_read r s))) (goes_on levels CountsUpFast h)
-      (goes_on levels CountsUpSlow h) (unpack found)
+      by_word (λ s. ReadGoes c t r.level r.cpu levels (Go (at_down_read r s))) (goes_on levels LoadsSync h)
+      (goes_on levels CountsUpFast h) (goes_on levels CountsUpSlow h) (unpack found)
   read_goes levels CountsUpFast found h = goes_on (update levels r.level true) LeavesAdmitted (update_at levels r.level true)
   read_goes levels CountsUpSlow found h = goes_on levels LoadsBlock h
   read_goes levels LoadsBlock found h =

@@ -20,7 +20,7 @@ use Rattle.gate_world.specs.Views.{held_at, holds_level}
 use Rattle.gate_world.specs.Worlds.{World, after_step, found_at}
 use Rattle.gate_frames.proofs.Keeps.{by_bool, PhaseKeeps, IsSmall, OpKeeps}
 use Rattle.gate_frames.proofs.Snapshots.{completes_none}
-use Rattle.gate_frames.proofs.Says.{tells, is_short}
+use Rattle.gate_frames.proofs.Says.{tells, is_short, tells_well, is_short_well}
 use Rattle.writer_laws.proofs.EndEvents.{end_keeps}
 use Rattle.writer_laws.proofs.ReadEvents.{read_keeps}
 use Rattle.writer_laws.proofs.ReadFits.{both_true, level_there, none_from_agree, read_step_agrees, read_there, read_acts, read_goes, read_fits}
@@ -101,8 +101,8 @@ start_op c i p wait = record {
   room_agrees = λ f g mounts there. refl;
   restores = λ refusal trace before order. (refl, refl, refl);
   file = λ t files own closed. tt;
-  tells = λ within t trace h. tells (StartAt i p t wait) c t (Start i p wait) (start_kept c t i p wait) trace h;
-  short = λ within t trace h. is_short (StartAt i p t wait) c t (Start i p wait) (start_kept c t i p wait) trace h;
+  tells = λ within t trace h. tells_well (StartAt i p t wait) c t (Start i p wait) (start_kept c t i p wait) trace h;
+  short = λ within t trace h. is_short_well (StartAt i p t wait) c t (Start i p wait) (start_kept c t i p wait) trace h;
   most_small = λ within. by_bool wait (λ b. IsSmall (most_events c (Start i p b))) tt (omega arith);
 }
 

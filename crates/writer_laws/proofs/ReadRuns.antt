@@ -129,7 +129,7 @@ block_inside r false = refl
 -- an event of a down-read that changes no section word leaves it inside its section
 stays_inside : (r : DownRead) (s : DownReadStep) (found : ℕ) → IsEventAt r.level (down_read_next r s).0 (down_read_next r s).1 →
     inside (phase_after (map_next DownReads (down_read_after r s found).0)) ≡ down_read_inside s
-stays_inside r LoadsSync found is = by_word (λ s. down_read_inside s ≡ 1) refl refl (unpack found)
+stays_inside r LoadsSync found is = by_word (λ s. down_read_inside s ≡ 1) refl refl refl (unpack found)
 stays_inside r CountsUpFast found is = refl
 stays_inside r CountsUpSlow found is = refl
 stays_inside r LoadsBlock found is = block_inside r (found == 0)

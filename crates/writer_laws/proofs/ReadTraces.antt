@@ -1,7 +1,7 @@
 -- Traces of a start and of an end. What is said of a down-read is said of it alone, so that an operation that goes through one as a part of
 -- its own has it too, after so many events of its own.
 use Rattle.std.proofs.Common.{◌≡◌, ℕ, ◌≤◌, Bool, true, false, refl, sym, ap, subst, inl, inr, arith}
-use Rattle.std.specs.Prelude.{◌+◌, ◌==◌, Option, Some, None, Ok, Err, List, [], ◌∷◌, length}
+use Rattle.std.specs.Prelude.{◌+◌, ◌==◌, Option, Some, None, Ok, Err, List, [], ◌∷◌, length, is_some}
 use Rattle.std.proofs.lemmas.Bool.{eq-eqb, cases_Bool}
 use Rattle.access_model.specs.declared.actions.Action.{Action}
 use Rattle.access_model.specs.declared.actions.Action.TheVariants.{Grant, Return}
@@ -25,10 +25,12 @@ use Rattle.gate_world.specs.declared.operations.Op.TheVariants.{Start, End}
 use Rattle.gate_world.specs.declared.work.Phase.{Phase}
 use Rattle.gate_world.specs.declared.work.Phase.TheVariants.{DownReads, UpReads}
 use Rattle.gate_world.specs.declared.views.Traced.{Traced}
+use Rattle.gate_world.specs.Courses.{MayHold, MayFind}
 use Rattle.gate_world.specs.Found.{newest, finds_closed, backed_off, left_closed, found_closed}
 use Rattle.gate_world.specs.Views.{with_hook, actions_after}
+use Rattle.gate_world.specs.Work.{next_of}
 use Rattle.gate_world.specs.Traces.{most_events, IsShort}
-use Rattle.gate_frames.proofs.Says.{Says, SaysAfter, Kept}
+use Rattle.gate_frames.proofs.Says.{Says, SaysAfter, Kept, KeptWell}
 
 -- a down-read of this level, processor, task and wait, at a step
 abbrev pub read_at : ℕ → ℕ → ℕ → Bool → DownReadStep → DownRead
@@ -80,10 +82,15 @@ by_state P fast slow Passed = slow
 by_state P fast slow Exit = slow
 by_state P fast slow Replay = slow
 
--- and of the one that a sync word leads to
-pub by_word : (P : DownReadStep → Type 0) → P CountsUpFast → P CountsUpSlow → (word : Option SyncWord) → P (step_found word)
-by_word P fast slow None = slow
-by_word P fast slow (Some word) = by_state P fast slow word.state
+-- and of the one that a number which is a sync word leads to
+by_some : (P : DownReadStep → Type 0) → P CountsUpFast → P CountsUpSlow → (word : Option SyncWord) → is_some word ≡ true → P (step_found word)
+by_some P fast slow None some = absurd cc
+by_some P fast slow (Some word) some = by_state P fast slow word.state
+
+-- what holds of another load too holds of the step that any number leads to
+pub by_word : (P : DownReadStep → Type 0) → P LoadsSync → P CountsUpFast → P CountsUpSlow → (word : Option SyncWord) → P (step_found word)
+by_word P again fast slow None = again
+by_word P again fast slow (Some word) = by_state P fast slow word.state
 
 module _ (base i p t : ℕ) (value : ℕ) (hook : HookAnswer) (earlier : List Traced) (added : List Action) where
   -- what the trace says after the event of a step
@@ -99,25 +106,27 @@ module _ (base i p t : ℕ) (value : ℕ) (hook : HookAnswer) (earlier : List Tr
   blocked true h = ((EntersSection, refl, (h.0, λ q. absurd (cc), tt)), refl, h.2.0)
   blocked false h = (h.0, (refl, h.2.1), λ q. omega (arith, h.1 q))
 
-  -- each event of a down-read keeps what its trace says
-  pub read_event : (wait : Bool) (s : DownReadStep) → ReadSays base i wait s earlier added → After wait s
-  read_event wait EntersSection h = (LoadsSync, refl, (h.0, λ q. omega (arith, h.1 q), tt))
-  read_event wait LoadsSync h =
-      by_word (λ s. ReadNext base i p t wait
+  -- each event of a down-read keeps what its trace says: its sync word is one, so it is loaded once
+  pub read_event : (wait : Bool) (s : DownReadStep) → MayHold (down_read_next (read_at i p t wait s) s).0 value →
+      ReadSays base i wait s earlier added → After wait s
+  read_event wait EntersSection may h = (LoadsSync, refl, (h.0, λ q. omega (arith, h.1 q), tt))
+  read_event wait LoadsSync may h =
+      by_some (λ s. ReadNext base i p t wait
       (with_hook (event_of (down_read_next (read_at i p t wait LoadsSync) LoadsSync).0
       (down_read_next (read_at i p t wait LoadsSync) LoadsSync).1 value) hook ∷ earlier)
       added (Go (read_at i p t wait s)))
       (CountsUpFast, refl, (h.0, λ q. omega (arith, h.1 q), tt)) (CountsUpSlow, refl, (h.0, λ q. omega (arith, h.1 q), tt)) (unpack value)
-  read_event wait CountsUpFast h = (LeavesAdmitted, refl, (ap (λ l. Grant (Level i) ∷ l) h.0, λ q. omega (arith, h.1 q), tt))
-  read_event wait CountsUpSlow h = (LoadsBlock, refl, (h.0, λ q. omega (arith, h.1 q), tt))
-  read_event wait LoadsBlock h =
+      may
+  read_event wait CountsUpFast may h = (LeavesAdmitted, refl, (ap (λ l. Grant (Level i) ∷ l) h.0, λ q. omega (arith, h.1 q), tt))
+  read_event wait CountsUpSlow may h = (LoadsBlock, refl, (h.0, λ q. omega (arith, h.1 q), tt))
+  read_event wait LoadsBlock may h =
       elim (cases_Bool (value == 0)) [
         | inl f ↦ rw f (LeavesAdmitted, refl, (ap (λ l. Grant (Level i) ∷ l) h.0, λ q. omega (arith, h.1 q), tt))
         | inr f ↦ rw f (CountsDown, refl, (h.0, λ q. omega (arith, h.1 q), (rw (eq-eqb i i refl, f) refl, rw (eq-eqb i i refl, f) refl)))
       ]
-  read_event wait CountsDown h = (LeavesBlocked, refl, (h.0, λ q. omega (arith, h.1 q), (rw (eq-eqb i i refl) h.2.0, h.2.1)))
-  read_event wait LeavesAdmitted h = (h.0, λ q. omega (arith, h.1 q))
-  read_event wait LeavesBlocked h = blocked wait h
+  read_event wait CountsDown may h = (LeavesBlocked, refl, (h.0, λ q. omega (arith, h.1 q), (rw (eq-eqb i i refl) h.2.0, h.2.1)))
+  read_event wait LeavesAdmitted may h = (h.0, λ q. omega (arith, h.1 q))
+  read_event wait LeavesBlocked may h = blocked wait h
 
 -- what a start's trace says at a phase
 abbrev pub StartAt : ℕ → ℕ → ℕ → Bool → List Traced → Phase → List Action → Type 0
@@ -146,18 +155,19 @@ start_says c i p t wait e earlier added (Done (Err Again)) h = ((h.0, h.1), star
 start_says c i p t wait e earlier added (Done (Err refusal)) h = absurd h
 
 -- so it is kept along every trace of a start
-pub start_kept : (c : Config) (t i p : ℕ) (wait : Bool) → Kept (StartAt i p t wait) c t (Start i p wait)
+pub start_kept : (c : Config) (t i p : ℕ) (wait : Bool) → KeptWell (StartAt i p t wait) c t (Start i p wait)
 start_kept c t i p wait = record {
   first = (EntersSection, refl, (refl, λ q. omega arith, tt));
-  more = λ phase value hook earlier added here.
-      subst (λ (x : Phase). SaysAfter (StartAt i p t wait) c (Start i p wait) x value hook earlier added) (sym here.1)
-      (
+  more = λ phase value hook earlier added may here.
+      subst (λ (x : Phase). MayFind x (next_of x hook).0 value → SaysAfter (StartAt i p t wait) c (Start i p wait) x value hook earlier added)
+      (sym here.1)
+      (λ holds.
       let r : DownRead = read_at i p t wait here.0 in
       let found : ℕ = found_by (down_read_next r here.0).1 value in
       start_says c i p t wait (with_hook (event_of (down_read_next r here.0).0 (down_read_next r here.0).1 value) hook) earlier
       (actions_after (down_read_after r here.0 found).1 added) (down_read_after r here.0 found).0
-      (read_event 0 i p t value hook earlier added wait here.0 here.2)
-      );
+      (read_event 0 i p t value hook earlier added wait here.0 holds here.2))
+      may;
   short = λ trace phase added here. start_short c i p wait trace (λ q. within_six here.0 (length trace) (here.2.1 q));
 }
 

@@ -11,10 +11,10 @@ use Rattle.access_model.specs.Replies.{map_next}
 use Rattle.cpu_words.specs.Hooks.{HookAnswer}
 use Rattle.percpu_rwsem.specs.declared.grace.Grace.{Grace}
 use Rattle.percpu_rwsem.specs.declared.transitions.TransitionNext.{TransitionNext}
-use Rattle.percpu_rwsem.specs.declared.transitions.TransitionNext.TheVariants.{More, Undefined, Made}
+use Rattle.percpu_rwsem.specs.declared.transitions.TransitionNext.TheVariants.{More}
 use Rattle.percpu_rwsem.specs.declared.readers.DownRead.{DownRead}
 use Rattle.percpu_rwsem.specs.declared.readers.DownReadStep.{DownReadStep}
-use Rattle.percpu_rwsem.specs.declared.readers.DownReadStep.TheVariants.{LoadsSync, LoadsBlock, LeavesBlocked, EntersSection, CountsUpFast, CountsUpSlow, CountsDown, LeavesAdmitted}
+use Rattle.percpu_rwsem.specs.declared.readers.DownReadStep.TheVariants.{LoadsSync, LoadsBlock, LeavesBlocked, EntersSection, CountsUpFast, CountsUpSlow}
 use Rattle.percpu_rwsem.specs.declared.callbacks.Callback.{Callback}
 use Rattle.percpu_rwsem.specs.declared.callbacks.CallbackStep.{CallbackStep}
 use Rattle.percpu_rwsem.specs.declared.callbacks.CallbackStep.TheVariants.{Claims, AwaitsSections, CallsBack}
@@ -55,7 +55,7 @@ module _ (c : Config) (w : World) (earlier : List World) (t : ℕ) where
       WhereRefused (WasClosed c t r.level (last_asked t (w ∷ earlier))) (down_read_after r s found).0
   read_waits r EntersSection found h = tt
   read_waits r LoadsSync found h =
-      by_word (λ s. WhereRefused (WasClosed c t r.level (last_asked t (w ∷ earlier))) (Go (at_down_read r s))) tt tt (unpack found)
+      by_word (λ s. WhereRefused (WasClosed c t r.level (last_asked t (w ∷ earlier))) (Go (at_down_read r s))) tt tt tt (unpack found)
   read_waits r CountsUpFast found h = tt
   read_waits r CountsUpSlow found h = tt
   read_waits r LoadsBlock found h = elim (cases_Bool (found == 0)) [ inl f ↦ rw f tt | inr f ↦ rw f tt ]

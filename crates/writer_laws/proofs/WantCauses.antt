@@ -2,14 +2,10 @@
 use Rattle.gate_frames.proofs.Owners.{who_holds}
 use Rattle.access_model.specs.declared.errors.GateError.TheVariants.{Again, ReadOnly}
 use Rattle.access_model.specs.declared.errors.GateError.{GateError}
-use Rattle.cpu_words.specs.Hooks.{HookAnswer}
-use Rattle.finite_sums.proofs.Totals.{update_at, update_off}
-use Rattle.gate_frames.proofs.Frames.{role_on}
-use Rattle.gate_frames.proofs.Loads.{fits_now}
-use Rattle.gate_world.specs.Causes.{all_counted, asks, want_asks, WantRefused, WasHeld}
+use Rattle.gate_world.specs.Causes.{asks, want_asks, WantRefused, WasHeld}
 use Rattle.gate_world.specs.Rules.{IsGood, Owner, Stages, AtMount, role_of, want_role}
-use Rattle.gate_world.specs.Views.{held_at, view_after, phase_after}
-use Rattle.gate_world.specs.Worlds.{World, after_step}
+use Rattle.gate_world.specs.Views.{phase_after}
+use Rattle.gate_world.specs.Worlds.{World}
 use Rattle.gate_world.specs.declared.config.Config.{Config}
 use Rattle.gate_world.specs.declared.work.Phase.TheVariants.{Mounts}
 use Rattle.mount_counts.specs.Phases.{has_flag, want_next, want_after, hold_found}
@@ -20,9 +16,7 @@ use Rattle.access_model.specs.declared.replies.Next.TheVariants.{Go, Wait, Done}
 use Rattle.access_model.specs.Replies.{map_next}
 use Rattle.cpu_words.specs.Touches.{found_by}
 use Rattle.cpu_words.specs.Words.{read}
-use Rattle.mount_counts.specs.Roles.{Asking, BackingOff, sought, ro_bit, has_hold}
-use Rattle.mount_counts.specs.declared.phases.MountPhase.TheVariants.{Drop as Drops}
-use Rattle.mount_counts.specs.declared.phases.MountPhase.{MountPhase}
+use Rattle.mount_counts.specs.Roles.{ro_bit, has_hold}
 use Rattle.mount_counts.specs.declared.phases.WantStep.TheVariants.{CountsUp, LoadsHold, LoadsRemount, LoadsReadOnly, LoadsSuperblock, CountsDown}
 use Rattle.mount_counts.specs.declared.phases.WantStep.{WantStep}
 use Rattle.mount_laws.proofs.Bits.{read_only_set, hold_set}

@@ -38,7 +38,7 @@ use Rattle.gate_frames.proofs.Frames.{role_on}
 use Rattle.gate_frames.proofs.Keeps.{by_bool, PhaseKeeps, OpKeeps, none_agree}
 use Rattle.gate_frames.proofs.Beside.{update_twice}
 use Rattle.gate_frames.proofs.Snapshots.{completes_none}
-use Rattle.gate_frames.proofs.Says.{tells, is_short}
+use Rattle.gate_frames.proofs.Says.{tells, is_short, tells_well, is_short_well}
 use Rattle.writer_laws.proofs.ReadFits.{read_mounts, read_goes}
 use Rattle.writer_laws.proofs.ReadCauses.{read_stays, read_own, read_not_closed}
 use Rattle.writer_laws.proofs.ReadWaits.{read_waits}
@@ -276,8 +276,8 @@ want_write_op c m p = record {
       both (not (levels_of before 1)) (not (levels_of before 2) && not (levels_of before 3)) order in
       (refl, level_restored (levels_of before) (is_false (levels_of before 1) none.0), refl);
   file = λ t files own closed. tt;
-  tells = λ lim t trace h. tells (WriteAt c m p t) c t (WantWrite m p) (write_kept c t m p) trace h;
-  short = λ lim t trace h. is_short (WriteAt c m p t) c t (WantWrite m p) (write_kept c t m p) trace h;
+  tells = λ lim t trace h. tells_well (WriteAt c m p t) c t (WantWrite m p) (write_kept c t m p) trace h;
+  short = λ lim t trace h. is_short_well (WriteAt c m p t) c t (WantWrite m p) (write_kept c t m p) trace h;
   most_small = λ lim. tt;
 }
 

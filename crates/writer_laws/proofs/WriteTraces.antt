@@ -21,7 +21,7 @@ use Rattle.percpu_rwsem.specs.declared.readers.DownReadStep.TheVariants.{EntersS
 use Rattle.percpu_rwsem.specs.Readers.{down_read_next, down_read_after}
 use Rattle.write_access.specs.declared.phases.WritePhase.{WritePhase}
 use Rattle.write_access.specs.declared.phases.WritePhase.TheVariants.{Takes, Wants, GivesBack, Drops, Ends}
-use Rattle.write_access.specs.Phases.{then_wants, then_gives_back}
+use Rattle.write_access.specs.Phases.{then_wants, then_gives_back, next as write_next}
 use Rattle.gate_world.specs.declared.config.Config.{Config}
 use Rattle.gate_world.specs.declared.operations.Op.TheVariants.{Want as WantOp, WantWrite, DropWrite}
 use Rattle.gate_world.specs.declared.work.Phase.{Phase}
@@ -29,7 +29,9 @@ use Rattle.gate_world.specs.declared.work.Phase.TheVariants.{Writes}
 use Rattle.gate_world.specs.declared.views.Traced.{Traced}
 use Rattle.gate_world.specs.Views.{with_hook, actions_after}
 use Rattle.gate_world.specs.Traces.{IsHonest}
-use Rattle.gate_frames.proofs.Says.{Says, SaysAfter, Kept, event_at}
+use Rattle.gate_world.specs.Courses.{MayHold, MayFind}
+use Rattle.gate_world.specs.Work.{next_of}
+use Rattle.gate_frames.proofs.Says.{Says, SaysAfter, Kept, KeptWell, event_at}
 use Rattle.writer_laws.proofs.ReadTraces.{read_at, ReadSays, ReadNext, read_event}
 use Rattle.writer_laws.proofs.WantTraces.{want_at, WantSays, WantNext, want_event}
 
@@ -83,13 +85,14 @@ module _ (c : Config) (m p t : ℕ) (value : ℕ) (hook : HookAnswer) (earlier :
   After x = SaysAfter (WriteAt c m p t) c (WantWrite m p) (Writes x) value hook earlier added
 
   -- an event at level 1
-  takes_event : (s : DownReadStep) → ReadSays 0 1 true s earlier added → After (Takes m (read_at 1 p t true s))
-  takes_event s h =
+  takes_event : (s : DownReadStep) → MayHold (down_read_next (read_at 1 p t true s) s).0 value → ReadSays 0 1 true s earlier added →
+      After (Takes m (read_at 1 p t true s))
+  takes_event s may h =
       let r : DownRead = read_at 1 p t true s in
       let found : ℕ = found_by (down_read_next r s).1 value in
       taken_says c m p t (with_hook (event_of (down_read_next r s).0 (down_read_next r s).1 value) hook) earlier
       (actions_after (down_read_after r s found).1 added) (down_read_after r s found).0
-      (read_event 0 1 p t value hook earlier added true s h)
+      (read_event 0 1 p t value hook earlier added true s may h)
 
   -- an event at the mount
   wants_event : (below : List Traced) (s : WantStep) → WantSays c m p true level_taken below s earlier added →
@@ -108,21 +111,23 @@ module _ (c : Config) (m p t : ℕ) (value : ℕ) (hook : HookAnswer) (earlier :
   cause_stays n q refusal h = h
 
   -- each event of a taking keeps what its trace says
-  write_event : (x : WritePhase) → WriteSays c m p t x earlier added → After x
-  write_event (Takes n r) h =
-      subst (λ y. After (Takes y r)) (sym h.0) (subst (λ y. After (Takes m y)) (sym h.1.1) (takes_event h.1.0 h.1.2))
-  write_event (Wants x) h = subst (λ y. After (Wants y)) (sym h.2) (wants_event h.0 h.1 h.3)
-  write_event (GivesBack n q refusal) h = ((ap (λ (l : List Action). Return (Level 1) ∷ l) h.0, cause_stays n q refusal h.1), tt)
-  write_event (Drops n q) h = absurd h
-  write_event (Ends q) h = absurd h
+  write_event : (x : WritePhase) → MayHold (write_next x).0 value → WriteSays c m p t x earlier added → After x
+  write_event (Takes n r) may h =
+      subst (λ y. After (Takes y r)) (sym h.0)
+      (subst (λ (y : DownRead). MayHold (down_read_next y y.step).0 value → After (Takes m y)) (sym h.1.1)
+      (λ holds. takes_event h.1.0 holds h.1.2) may)
+  write_event (Wants x) may h = subst (λ y. After (Wants y)) (sym h.2) (wants_event h.0 h.1 h.3)
+  write_event (GivesBack n q refusal) may h = ((ap (λ (l : List Action). Return (Level 1) ∷ l) h.0, cause_stays n q refusal h.1), tt)
+  write_event (Drops n q) may h = absurd h
+  write_event (Ends q) may h = absurd h
 
 -- so it is kept along every trace of a taking
-pub write_kept : (c : Config) (t m p : ℕ) → Kept (WriteAt c m p t) c t (WantWrite m p)
+pub write_kept : (c : Config) (t m p : ℕ) → KeptWell (WriteAt c m p t) c t (WantWrite m p)
 write_kept c t m p = record {
   first = (Takes m (read_at 1 p t true EntersSection), refl, (refl, (EntersSection, refl, (refl, λ q. omega arith, tt))));
-  more = λ phase value hook earlier added here.
-      subst (λ (x : Phase). SaysAfter (WriteAt c m p t) c (WantWrite m p) x value hook earlier added) (sym here.1)
-      (write_event c m p t value hook earlier added here.0 here.2);
+  more = λ phase value hook earlier added may here.
+      subst (λ (x : Phase). MayFind x (next_of x hook).0 value → SaysAfter (WriteAt c m p t) c (WantWrite m p) x value hook earlier added)
+      (sym here.1) (λ holds. write_event c m p t value hook earlier added here.0 holds here.2) may;
   short = λ trace phase added here. tt;
 }
 
