@@ -1,7 +1,8 @@
 //! The order of events of a freeze of the superblock.
 
-ghost use Rattle.std.specs.Prelude.{◌≡◌};
+ghost use Rattle.std.specs.Prelude.{◌≡◌, Ok};
 ghost use Rattle.access_model.specs.declared.replies.Next.TheVariants.{Go};
+ghost use Rattle.freeze_levels.specs.declared.freezes.FreezeStep.TheVariants.{Closes};
 ghost use Rattle.freeze_levels.specs.Freezes.{
   freeze_next,
   freeze_after,
@@ -239,9 +240,30 @@ impl Freeze {
         }
     }
 
-    /// What comes after the event, which found this, where the file system answers this, and the action that the event adds.
+    /// What comes after an event of this down-write, which found this, and the action that the event adds.
+    #[inline(always)]
+    fn after_write(self, write: DownWrite, found: u64) -> (Next<Freeze>, Option<Action>)
+        ensures { result ≡ freeze_after self (Closes write) found (Ok tt) }
+    {
+        let (next, action) = write.after(found);
+        (self.after_closing(write.level, next), action)
+    }
+
+    /// What comes after the event, which found this, where the file system answers this, and the action that the event adds. A freeze is
+    /// mostly down-writes, whose loads stand in rows: so these are put in line, and all other events are a call.
     #[inline(always)]
     pub fn after(self, found: u64, hook: Result<(), u16>) -> (Next<Freeze>, Option<Action>)
+        ensures { result ≡ freeze_after self self.step found hook }
+    {
+        match self.step {
+            FreezeStep::Closes(write) => self.after_write(write, found),
+            _ => self.after_any(found, hook),
+        }
+    }
+
+    /// The same, of any step.
+    #[inline(never)]
+    fn after_any(self, found: u64, hook: Result<(), u16>) -> (Next<Freeze>, Option<Action>)
         ensures { result ≡ freeze_after self self.step found hook }
     {
         let busy = FreezeStep::Releases(Err(GateError::Busy));
@@ -266,10 +288,7 @@ impl Freeze {
             FreezeStep::SetsPageFault => return self.stored(2, self.closes(2)),
             FreezeStep::SetsFs => return self.synced(hook),
             FreezeStep::SetsComplete => return self.completed(hook),
-            FreezeStep::Closes(write) => {
-                let (next, action) = write.after(found);
-                return (self.after_closing(write.level, next), action);
-            }
+            FreezeStep::Closes(write) => return self.after_write(write, found),
             FreezeStep::Cleans(clearing) => {
                 let (next, action) = clearing.after(found);
                 return (self.after_clearing(next), action);
