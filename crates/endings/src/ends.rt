@@ -32,6 +32,8 @@ pub enum Ending {
 }
 
 impl Ending {
+    ghost use Rattle.endings.specs.Endings.{of_file};
+
     /// The exit status.
     pub fn status(self) -> u8
         ensures done { self ≡ Done → result ≡ 0 }
@@ -49,6 +51,16 @@ impl Ending {
             Ending::Passed | Ending::Ran | Ending::Told => 0,
             Ending::Refused => 1,
             Ending::Misused => 2,
+        }
+    }
+
+    /// The same of a file's schedule.
+    pub fn of_file(self) -> Ending
+        ensures { result ≡ of_file self }
+    {
+        match self {
+            Ending::Done => Ending::DoneOfFile,
+            ending => ending,
         }
     }
 }

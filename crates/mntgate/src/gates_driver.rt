@@ -1,14 +1,15 @@
 //! The gates that threads use, driven by one thread.
 
-ghost use Rattle.std.specs.Prelude.{◌≡◌, ◌≢◌, ◌<◌, ◌≤◌, ℕ, All, IfErr, IfOk, OnOk, vec_len, slice_get, slice_index_or};
+ghost use Rattle.std.specs.Prelude.{◌≡◌, ◌≢◌, ◌<◌, ◌≤◌, ℕ, All, IfErr, IfOk, OnOk, vec_len, slice_index_or};
 ghost use Rattle.access_model.specs.declared.errors.GateError.TheVariants.{Invalid, NoMemory};
 ghost use Rattle.cpu_words.specs.Lists.{AreOpening};
-ghost use Rattle.cpu_words.specs.Names.{IsWord, place, words_in_all};
+ghost use Rattle.cpu_words.specs.Names.{words_in_all};
 ghost use Rattle.gate_core.specs.Answers.{asked_by, idle_step, unless_refused};
-ghost use Rattle.gate_world.specs.Configs.{IsWithin, extents_of};
+ghost use Rattle.gate_world.specs.Configs.{IsWithin};
 ghost use Rattle.gate_world.specs.declared.work.Phase.{Phase};
 ghost use Rattle.mntgate.specs.Noted.{words_after};
 ghost use Rattle.gate_runs.specs.Splitting.{AreNumbered, Gives};
+ghost use Rattle.transcripts.specs.Drivers.{listed_word};
 ghost use Rattle.vfs_gates.specs.Stepped.{Stepped};
 ghost use Rattle.vfs_gates.specs.TaskStates.{IsFrom, IsIdle, TaskState, refusal_at};
 
@@ -124,8 +125,7 @@ impl GatesDriver {
 
     /// The value of a word, as the events so far have left it; None where the configuration has no such word.
     pub(crate) fn word(&self, name: WordName) -> Option<u64>
-        ensures there { IsWord (extents_of self.now.config) name → result ≡ slice_get self.now.words.items (place name) }
-        ensures not_there { ¬ IsWord (extents_of self.now.config) name → result ≡ None }
+        ensures { result ≡ listed_word self.now.config self.now.words.items name }
     {
         if self.config.has_word(name) {
             self.words.get(name.place()).copied()
@@ -137,13 +137,17 @@ impl GatesDriver {
 
 /// Nothing is said here of which world they show: what one task finds there was so at that moment, and that no other thread moves them is
 /// known to whoever made them, and to no contract. So what is proved of the text of a schedule is proved of a replay over the core; that a
-/// replay over these gates prints the same is tested.
+/// replay over these gates prints the same is tested. Their words, which `words` and `tree` print, are those of the list.
 impl Driver for GatesDriver {
     ghost use Rattle.std.specs.Prelude.{false};
 
     ghost is_known = { false };
 
     ghost shows = { λ _ _ _. ⊥ };
+
+    ghost word_of = { λ driver. listed_word driver.config driver.words.items };
+
+    ghost tells = { λ _ _ _ _ none. absurd none };
 
     fn new(alloc: Global, config: Config) -> Result<GatesDriver, GateError> {
         GatesDriver::new(alloc, config)

@@ -1,8 +1,12 @@
 //! The program apart from its process: from the words of a command line to how it ends.
 
-ghost use Rattle.std.specs.Prelude.{◌≡◌, ◌⊎◌, IfOk, Ok, Err};
-ghost use Rattle.transcripts.specs.Replayed.{Replayed};
+ghost use Rattle.std.specs.Prelude.{◌≡◌, ◌⊎◌, ℕ, List, None, Some, IfOk, Ok};
+ghost use Rattle.std.specs.Borrow.{Bor};
+ghost use Rattle.command_line.specs.declared.words.Asked.TheVariants.{Replay as AsksReplay};
+ghost use Rattle.command_line.specs.declared.words.Replay.{Replay as ReplayAsked};
 ghost use Rattle.endings.specs.declared.ends.Ending.TheVariants.{Done, Ran, Refused};
+ghost use Rattle.mntgate.specs.Asking.{IsPlain, MayEnd, EndsReplayed, EndsReplayedFile, IsRefusedUnread, done_in, done_of};
+ghost use Rattle.transcripts.specs.Replayed.{Replayed};
 
 use crate::checks::run_checks;
 use crate::gates_driver::GatesDriver;
@@ -51,8 +55,31 @@ pub(crate) fn run<
     ensures done { IfOk result (λ ending. ending ≡ Done →
         Replayed (I.remaining reader.old) (I.remaining reader.new) (W.contents writer.old) (W.contents writer.new) (Ok tt)) }
 {
-    match read_words(alloc, words, errors)? {
-        Asked::Replay(asked) => Ok(run_replay(rt, alloc, asked, reader, writer, errors, &person)),
+    let asked = read_words(alloc, words, errors)?;
+    do_asked(rt, alloc, asked, reader, writer, errors, person)
+}
+
+/// Does what is asked for.
+fn do_asked<R: Threads + Wait + Sync + Files + Alloc<A = Global>, I: Read, W: Write, E: Write>(
+    rt: &R,
+    alloc: Global,
+    asked: Asked<'_>,
+    reader: &mut I,
+    writer: &mut W,
+    errors: &mut E,
+    person: Person,
+) -> Result<Ending, AllocError>
+    ensures ends { IfOk result (MayEnd asked.entry) }
+    ensures plain { (r : ReplayAsked) → asked.entry ≡ AsksReplay r → IsPlain r → r.file ≡ None → IfOk result (EndsReplayed
+        (I.remaining reader.old) (I.remaining reader.new) (W.contents writer.old) (W.contents writer.new)) }
+    ensures of_file { (r : ReplayAsked) (file : Bor (List ℕ)) → asked.entry ≡ AsksReplay r → IsPlain r → r.file ≡ Some file →
+        IfOk result (λ ending. EndsReplayedFile (W.contents writer.old) (W.contents writer.new) ending
+        ⊎ IsRefusedUnread (I.remaining reader.old) (I.remaining reader.new) (W.contents writer.old) (W.contents writer.new) ending) }
+{
+    match asked {
+        Asked::Replay(replay) => {
+            Ok(run_replay(rt, alloc, replay, reader, writer, errors, &person))
+        }
         Asked::Check(files) => run_checks(rt, alloc, files.as_slice(), reader, writer, errors),
         Asked::Run(numbers) => Ok(run_threads(rt, alloc, numbers, writer, errors, person.watches)),
         Asked::Told(text) => Ok(text_told(text.as_str(), writer, errors)),
@@ -91,8 +118,12 @@ fn run_replay<R: Files, I: Read, W: Write, E: Write>(
     errors: &mut E,
     person: &Person,
 ) -> Ending
-    ensures done { result ≡ Done →
-        Replayed (I.remaining reader.old) (I.remaining reader.new) (W.contents writer.old) (W.contents writer.new) (Ok tt) }
+    ensures ends { (result ≡ done_of asked.entry.file (done_in asked.entry.form asked.entry.over_gates)) ⊎ (result ≡ Refused) }
+    ensures plain { IsPlain asked.entry → asked.entry.file ≡ None → EndsReplayed
+        (I.remaining reader.old) (I.remaining reader.new) (W.contents writer.old) (W.contents writer.new) result }
+    ensures of_file { (file : Bor (List ℕ)) → IsPlain asked.entry → asked.entry.file ≡ Some file →
+        EndsReplayedFile (W.contents writer.old) (W.contents writer.new) result
+        ⊎ IsRefusedUnread (I.remaining reader.old) (I.remaining reader.new) (W.contents writer.old) (W.contents writer.new) result }
 {
     let telling = Telling {
         file: asked.file,
@@ -100,10 +131,9 @@ fn run_replay<R: Files, I: Read, W: Write, E: Write>(
     };
     match asked.file {
         Some(file) => match fs::open(rt, file) {
-            Ok(mut opened) => match replay_as(alloc, asked, telling, &mut opened, writer, errors) {
-                Ending::Done => Ending::DoneOfFile,
-                ending => ending,
-            },
+            Ok(mut opened) => {
+                replay_as(alloc, asked, telling, &mut opened, writer, errors).of_file()
+            }
             Err(error) => unopened(file, &error, errors),
         },
         None => {
@@ -124,8 +154,9 @@ fn replay_as<I: Read, W: Write, E: Write>(
     writer: &mut W,
     errors: &mut E,
 ) -> Ending
-    ensures done { result ≡ Done →
-        Replayed (I.remaining reader.old) (I.remaining reader.new) (W.contents writer.old) (W.contents writer.new) (Ok tt) }
+    ensures ends { (result ≡ done_in asked.entry.form asked.entry.over_gates) ⊎ (result ≡ Refused) }
+    ensures plain { IsPlain asked.entry → EndsReplayed
+        (I.remaining reader.old) (I.remaining reader.new) (W.contents writer.old) (W.contents writer.new) result }
 {
     let form = match asked.form {
         Form::Plain if asked.over_gates => {

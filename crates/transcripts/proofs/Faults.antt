@@ -29,7 +29,7 @@ is_own _ = true
 
 -- a fault of the schedule ends a replay by the transcript
 pub ends_by_own : (input : Option (List ℕ)) (taken written : List ℕ) (line : ℕ) (fault : Fault) → is_own fault ≡ true →
-    IsTranscript input written (Some (line, fault)) → EndsWhole input taken written line fault
+    IsTranscript input taken written (Some (line, fault)) → EndsWhole input taken written line fault
 ends_by_own input taken written line ReadFailed own h = cc
 ends_by_own input taken written line WriteFailed own h = cc
 ends_by_own input taken written line (Refused NoMemory) own h = cc

@@ -1,5 +1,6 @@
 pub mod Playing
 pub mod Showing
+pub mod Words
 pub mod Texts
 pub mod Running
 pub mod Faults

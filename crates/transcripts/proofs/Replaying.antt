@@ -52,16 +52,28 @@ prints_both a b t = ap (λ (l : List ℕ). let u : Transcript = record t { print
 
 -- ---- the whole input, from what was read of it and what follows
 
--- what holds of the bytes read with all that may follow holds of the input
-of_all : (input left : Option (List ℕ)) (taken : List ℕ) (t : Transcript) → Consumes input left taken →
+-- what may follow: what is left, or nothing
+abbrev Follows : Option (List ℕ) → List ℕ → Type 0
+Follows left more = (left ≡ Some more) ⊎ (more ≡ [])
+
+-- what holds of the bytes read with all that is left holds of the input
+of_input : (input left : Option (List ℕ)) (taken : List ℕ) (t : Transcript) → Consumes input left taken →
     ((more : List ℕ) → left ≡ Some more → transcript (taken ++ more) ≡ t) → IfSome input (λ text. transcript text ≡ t)
-of_all None left taken t c h = tt
-of_all (Some text) None taken t c h = absurd c
-of_all (Some text) (Some more) taken t c h = ap transcript c ∙ h more refl
+of_input None left taken t c h = tt
+of_input (Some text) None taken t c h = absurd c
+of_input (Some text) (Some more) taken t c h = ap transcript c ∙ h more refl
+
+-- what holds of the bytes read with all that may follow holds of them alone, and of the input
+of_all : (input left : Option (List ℕ)) (taken : List ℕ) (t : Transcript) → Consumes input left taken →
+    ((more : List ℕ) → Follows left more → transcript (taken ++ more) ≡ t) →
+    (transcript taken ≡ t) × IfSome input (λ text. transcript text ≡ t)
+of_all input left taken t c h =
+    (ap transcript (sym (append-nil taken)) ∙ h [] (inr refl), of_input input left taken t c (λ (more : List ℕ) e. h more (inl e)))
 
 -- at the end nothing follows
-none_after : (left : Option (List ℕ)) (more : List ℕ) → IsAtEnd left → left ≡ Some more → more ≡ []
-none_after left more at_end e = subst IsAtEnd e at_end
+none_after : (left : Option (List ℕ)) (more : List ℕ) → IsAtEnd left → Follows left more → more ≡ []
+none_after left more at_end (inl e) = subst IsAtEnd e at_end
+none_after left more at_end (inr e) = e
 
 -- a line may follow
 line_left : (done : ℕ) → done < 1048576 → 1048576 - done ≡ suc (1048576 - (done + 1))
@@ -175,7 +187,7 @@ module _ {input held left holds : Option (List ℕ)} {done : ℕ} {pending print
 
   -- a fault of the schedule, by the text that follows
   stops_by : (fault : Fault) → is_own fault ≡ true →
-      ((more : List ℕ) → left ≡ Some more → rest (pending ++ more) ≡ stops done fault) →
+      ((more : List ℕ) → Follows left more → rest (pending ++ more) ≡ stops done fault) →
       Stops input held left printed holds done fault
   stops_by fault own is = record {
     taken = taken;
@@ -209,7 +221,7 @@ module _ {input held left holds : Option (List ℕ)} {done : ℕ} {pending print
   some_left fault p (byte ∷ others) some = refl
 
   -- at the end of the input only what is pending is left
-  at_end : (more : List ℕ) → IsAtEnd left → left ≡ Some more → pending ++ more ≡ pending
+  at_end : (more : List ℕ) → IsAtEnd left → Follows left more → pending ++ more ≡ pending
   at_end more end e = ap (λ (l : List ℕ). pending ++ l) (none_after left more end e) ∙ append-nil pending
 
   -- the end of the input inside a line
@@ -231,7 +243,7 @@ module _ {input held left holds : Option (List ℕ)} {done : ℕ} {pending print
       ∙ some_left TooManyLines play (pending ++ more) (omega (arith, length-append pending more)))
 
   -- the end of the input
-  all_read : (more : List ℕ) → pending ≡ [] → IsAtEnd left → left ≡ Some more → rest (pending ++ more) ≡ ends done play
+  all_read : (more : List ℕ) → pending ≡ [] → IsAtEnd left → Follows left more → rest (pending ++ more) ≡ ends done play
   all_read more none end e = ap rest (at_end more end e ∙ none) ∙ none_left (1048576 - done) done play
 
   -- the end of the input where no configuration came

@@ -3,6 +3,7 @@ pub mod Printing
 pub mod Transcript
 pub mod Reached
 pub mod Drivers
+pub mod Tells
 pub mod Sessions
 pub mod Replayed
 pub mod Replaying

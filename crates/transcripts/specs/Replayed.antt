@@ -13,9 +13,11 @@ use Rattle.schedule_bytes.specs.declared.replay_faults.ReplayFault.{ReplayFault}
 abbrev pub IsFront : List ℕ → List ℕ → Type 0
 IsFront front bytes = (others : List ℕ) × (bytes ≡ front ++ others)
 
--- the whole input, where it is known, prints these bytes, and ends with this fault, or with none
-abbrev pub IsTranscript : Option (List ℕ) → List ℕ → Option (ℕ × Fault) → Type 0
-IsTranscript input printed fault = IfSome input (λ text. transcript text ≡ record { printed = printed; fault = fault })
+-- the bytes that were read print these, and end with this fault, or with none; and so does the whole input, where it is known
+abbrev pub IsTranscript : Option (List ℕ) → List ℕ → List ℕ → Option (ℕ × Fault) → Type 0
+IsTranscript input taken printed fault =
+    (transcript taken ≡ record { printed = printed; fault = fault }) ×
+    IfSome input (λ text. transcript text ≡ record { printed = printed; fault = fault })
 
 -- No line has a fault: there is none, or only that the text ends at this line, inside it or with no configuration yet.
 abbrev pub MayGoOn : ℕ → Option (ℕ × Fault) → Type 0
@@ -38,7 +40,7 @@ EndsWhole input taken printed line ReadFailed =
     (printed ≡ (transcript taken).printed) × (line ≡ count_by is_newline taken + 1) × MayGoOn line (transcript taken).fault
 EndsWhole input taken printed line WriteFailed = ⊥
 EndsWhole input taken printed line (Refused NoMemory) = IsFront printed (transcript taken).printed × PrintsBefore taken line printed
-EndsWhole input taken printed line fault = IsTranscript input printed (Some (line, fault))
+EndsWhole input taken printed line fault = IsTranscript input taken printed (Some (line, fault))
 
 -- A write at the end of this line: what the lines up to it print and was not written yet is a whole block or more, and of that the first
 -- bytes were written.
@@ -72,7 +74,7 @@ pub record Reports (answer : ReplayFault) (fault : Fault) : Type 0 where
 
 -- how a replay ends: well, with the whole transcript written, or by a fault
 abbrev pub EndsAs : Option (List ℕ) → List ℕ → List ℕ → Result (Unit {0}) ReplayFault → Type 0
-EndsAs input taken written (Ok done) = IsTranscript input written None
+EndsAs input taken written (Ok done) = IsTranscript input taken written None
 EndsAs input taken written (Err answer) = (fault : Fault) × Reports answer fault × EndsBy input taken written answer.line fault
 
 -- A replay, by what its reader had left and has left, what its writer held and holds, and its answer.

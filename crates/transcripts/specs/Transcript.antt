@@ -59,9 +59,14 @@ abbrev pub count_up : ℕ → List ℕ
 count_up zero = []
 count_up (suc n) = count_up n ++ n ∷ []
 
--- a word, where it isn't 0
-abbrev pub nonzero_line : World → WordName → List ℕ
-nonzero_line w name = if read w.words name == 0 then [] else word_line name (read w.words name)
+-- a word's line, where it isn't 0; none of a word that there isn't
+abbrev pub word_text : WordName → Option ℕ → List ℕ
+word_text name None = []
+word_text name (Some value) = if value == 0 then [] else word_line name value
+
+-- those of these words that aren't 0, each with its value
+abbrev pub texts_of : (WordName → Option ℕ) → List WordName → List ℕ
+texts_of value names = flat_map (λ name. word_text name (value name)) names
 
 -- the words of a mount
 abbrev pub mount_words : Config → ℕ → List WordName
@@ -71,39 +76,27 @@ mount_words c m = MountFlags m ∷ map (MountCount m) (count_up c.processors)
 abbrev pub level_words : Config → ℕ → List WordName
 level_words c i = Block i ∷ Sync i ∷ map (LevelCount i) (count_up c.processors)
 
--- those of these words that aren't 0
-abbrev pub words_of : Play → List WordName → List ℕ
-words_of p names = flat_map (nonzero_line p.world) names
+-- the words that `words` prints where they aren't 0, in this order: from `umount` to the last section
+abbrev pub printed_words : Config → List WordName
+printed_words c =
+    (Umount ∷ Stage ∷ Holders ∷ SbFlags ∷ Remount ∷ Removed ∷ []) ++ flat_map (mount_words c) (count_up c.mounts) ++
+    flat_map (level_words c) (1 ∷ 2 ∷ 3 ∷ []) ++ map Section (count_up c.tasks)
 
--- what is printed of a mount
-abbrev pub mount_part : Play → ℕ → List ℕ
-mount_part p m = words_of p (mount_words p.config m)
+-- those that `tree` prints: the blocks charged, all nodes, the children charged to each
+abbrev pub printed_tree_words : Config → List WordName
+printed_tree_words c = (Used ∷ []) ++ map Node (count_up c.nodes) ++ map Kids (count_up c.nodes)
 
--- what is printed of a freeze level
-abbrev pub level_part : Play → ℕ → List ℕ
-level_part p i = words_of p (level_words p.config i)
+-- the value of a word
+abbrev pub word_in : Play → WordName → Option ℕ
+word_in p name = Some (read p.world.words name)
 
--- what is printed of a task's section
-abbrev pub section_line : Play → ℕ → List ℕ
-section_line p t = nonzero_line p.world (Section t)
-
--- `words`: each word from `umount` to the last section that isn't 0
+-- `words`
 unfoldable pub words_text : Play → List ℕ
-words_text p =
-    words_of p (Umount ∷ Stage ∷ Holders ∷ SbFlags ∷ Remount ∷ Removed ∷ []) ++ flat_map (mount_part p) (count_up p.config.mounts) ++
-    flat_map (level_part p) (1 ∷ 2 ∷ 3 ∷ []) ++ flat_map (section_line p) (count_up p.config.tasks)
+words_text p = texts_of (word_in p) (printed_words p.config)
 
--- what is printed of a node's word, and of the children charged to it
-abbrev pub node_word_line : Play → ℕ → List ℕ
-node_word_line p n = nonzero_line p.world (Node n)
-
-abbrev pub kids_line : Play → ℕ → List ℕ
-kids_line p n = nonzero_line p.world (Kids n)
-
--- `tree`: each word of the tree that isn't 0: the blocks charged, all nodes, the children charged to each
+-- `tree`
 unfoldable pub tree_words_text : Play → List ℕ
-tree_words_text p =
-    nonzero_line p.world Used ++ flat_map (node_word_line p) (count_up p.config.nodes) ++ flat_map (kids_line p) (count_up p.config.nodes)
+tree_words_text p = texts_of (word_in p) (printed_tree_words p.config)
 
 -- that one holds a freeze, who may
 abbrev pub when_held : Bool → Holder → List ℕ

@@ -9,7 +9,7 @@ use std::alloc::Global;
 
 /// The gates of a schedule, with all their tasks: all tasks on plain words, or gates of a crate that stands on this one.
 pub trait Driver: Drop {
-    ghost use Rattle.std.specs.Prelude.{◌≡◌, true, Bool, Some, Err, IfOk, IfErr, OnOk};
+    ghost use Rattle.std.specs.Prelude.{◌≡◌, ℕ, true, Bool, Option, Some, Err, IfOk, IfErr, OnOk};
     ghost use Rattle.access_model.specs.declared.errors.GateError.TheVariants.{Invalid, NoMemory};
     ghost use Rattle.cpu_words.specs.Names.{IsWord};
     ghost use Rattle.cpu_words.specs.Words.{read};
@@ -17,12 +17,16 @@ pub trait Driver: Drop {
     ghost use Rattle.gate_world.specs.Configs.{IsWithin, extents_of};
     ghost use Rattle.gate_world.specs.Worlds.{World, Begins, Steps, happens, opening};
     ghost use Rattle.gate_world.specs.declared.config.Config.{Config as ConfigType};
+    ghost use Rattle.cpu_words.specs.declared.names.WordName.{WordName as Name};
 
     /// Whether it is known which world they show once they are made.
     ghost is_known: { Bool };
 
     /// They are of this configuration and show this world.
     ghost shows: { Self → ConfigType → World → Type 0 };
+
+    /// Their own value of a word; None where the configuration has no such word.
+    ghost word_of: { Self → Name → Option ℕ };
 
     /// All words as they begin, and every task idle with nothing held. Invalid where a number of the configuration is out of its
     /// limits; NoMemory where a growth was refused.
@@ -48,18 +52,26 @@ pub trait Driver: Drop {
 
     /// The value of a word; None where the configuration has no such word.
     fn word(&self, name: WordName) -> Option<u64>
-        ensures { (c : ConfigType) (w : World) → shows self.now c w → IsWord (extents_of c) name →
-            result ≡ Some (read w.words name) };
+        ensures { result ≡ word_of self.now name };
+
+    /// What they answer of a word is its value in the world which they show.
+    ghost tells: { (driver : Self) (c : ConfigType) (w : World) (name : Name) → shows driver c w → IsWord (extents_of c) name →
+        word_of driver name ≡ Some (read w.words name) };
 }
 
 /// All tasks on plain words.
 impl Driver for Core {
     ghost use Rattle.std.specs.Prelude.{true};
-    ghost use Rattle.transcripts.specs.Drivers.{core_shows};
+    ghost use Rattle.transcripts.specs.Drivers.{CoreShows, core_word};
+    ghost use Rattle.transcripts.specs.Tells.{core_tells};
 
     ghost is_known = { true };
 
-    ghost shows = { core_shows };
+    ghost shows = { CoreShows };
+
+    ghost word_of = { core_word };
+
+    ghost tells = { core_tells };
 
     fn new(alloc: Global, config: Config) -> Result<Core, GateError> {
         Core::new(alloc, config)
@@ -78,6 +90,10 @@ impl Driver for Core {
     }
 
     fn word(&self, name: WordName) -> Option<u64> {
-        self.word(name)
+        if self.config().has_word(name) {
+            self.words().get(name.place()).copied()
+        } else {
+            None
+        }
     }
 }

@@ -43,11 +43,13 @@ impl<D: Driver> Session<D> {
     ghost use Rattle.gate_world.specs.Worlds.{Begins, Steps};
     ghost use Rattle.transcripts.specs.Limits.{is_config};
     ghost use Rattle.transcripts.specs.Sessions.{ShowsPlay};
-    ghost use Rattle.transcripts.specs.Transcript.{Play, opening_play, played, used_now, begin_text, hook_answer, run_of, command_outcome, request_outcome, nonzero_line, words_text, mount_part, level_part, section_line, node_word_line, kids_line, tree_words_text, count_up, model_text, freezes_text, freeze_line, closed_line, task_text, tree_line, held_line, level_line, open_line};
+    ghost use Rattle.transcripts.specs.Transcript.{Play, opening_play, played, used_now, begin_text, hook_answer, run_of, command_outcome, request_outcome, word_text, texts_of, mount_words, level_words, printed_words, printed_tree_words, words_text, tree_words_text, count_up, model_text, freezes_text, freeze_line, closed_line, task_text, tree_line, held_line, level_line, open_line};
     ghost use Rattle.access_model.specs.Histories.{end_of};
     ghost use Rattle.cpu_words.specs.Names.{IsWord};
+    ghost use Rattle.cpu_words.specs.declared.names.WordName.TheVariants.{Section as SectionWord, Node as NodeWord, Kids as KidsWord};
     ghost use Rattle.cpu_words.specs.Words.{read};
     ghost use Rattle.gate_world.specs.Configs.{extents_of};
+    ghost use Rattle.schedule_text.specs.declared.commands.Request.TheVariants.{Words as WordsAsked, Tree as TreeAsked};
     ghost use Rattle.std.specs.List.{flat_map};
 
     /// All tasks idle, and the model as it opens.
@@ -78,6 +80,10 @@ impl<D: Driver> Session<D> {
 
     /// Does what is asked, and prints what it is to print.
     pub fn do_request(&mut self, request: Request, out: &mut Output) -> Result<(), Fault>
+        ensures words { request ≡ WordsAsked → OnOk result (out.new.bytes.items ≡ out.old.bytes.items ++
+            texts_of (D.word_of self.old.driver) (printed_words self.old.config)) }
+        ensures tree { request ≡ TreeAsked → OnOk result (out.new.bytes.items ≡ out.old.bytes.items ++
+            texts_of (D.word_of self.old.driver) (printed_tree_words self.old.config)) }
         ensures prints { (p : Play) → ShowsPlay D.shows self.old p →
             OnOk result (out.new.bytes.items ≡ out.old.bytes.items ++ (request_outcome p request).printed) }
         ensures shows { (p : Play) → ShowsPlay D.shows self.old p → OnOk result (ShowsPlay D.shows self.new (request_outcome p request).play) }
@@ -181,7 +187,8 @@ impl<D: Driver> Session<D> {
 
     /// The value of a word; None where the configuration has no such word.
     pub fn word(&self, name: WordName) -> Option<u64>
-        ensures { (p : Play) → ShowsPlay D.shows self.now p → IsWord (extents_of p.config) name → result ≡ Some (read p.world.words name) }
+        ensures own { result ≡ D.word_of self.now.driver name }
+        ensures shown { (p : Play) → ShowsPlay D.shows self.now p → IsWord (extents_of p.config) name → result ≡ Some (read p.world.words name) }
     {
         self.driver.word(name)
     }
@@ -200,10 +207,11 @@ impl<D: Driver> Session<D> {
         self.driver.word(WordName::Used).unwrap_or(0)
     }
 
-    /// Prints the words that aren't 0, up to the last section.
-    #[tactic(auto, unfolding(crate::specs::Transcript::words_text))]
+    /// Prints the words that aren't 0, up to the last section: each with what the gates tell of it.
     pub fn print_words(&self, out: &mut Output) -> Result<(), AllocError>
-        ensures { (p : Play) → ShowsPlay D.shows self.now p → OnOk result (out.new.bytes.items ≡ out.old.bytes.items ++ words_text p) }
+        ensures own { OnOk result (out.new.bytes.items ≡ out.old.bytes.items ++
+            texts_of (D.word_of self.now.driver) (printed_words self.now.config)) }
+        ensures shown { (p : Play) → ShowsPlay D.shows self.now p → OnOk result (out.new.bytes.items ≡ out.old.bytes.items ++ words_text p) }
     {
         self.print_word(WordName::Umount, out)?;
         self.print_word(WordName::Stage, out)?;
@@ -219,8 +227,8 @@ impl<D: Driver> Session<D> {
     }
 
     fn print_words_of_mounts(&self, out: &mut Output) -> Result<(), AllocError>
-        ensures { (p : Play) → ShowsPlay D.shows self.now p →
-            OnOk result (out.new.bytes.items ≡ out.old.bytes.items ++ flat_map (mount_part p) (count_up p.config.mounts)) }
+        ensures { OnOk result (out.new.bytes.items ≡ out.old.bytes.items ++
+            flat_map (λ m. texts_of (D.word_of self.now.driver) (mount_words self.now.config m)) (count_up self.now.config.mounts)) }
     {
         for mount in 0..self.config.mounts {
             self.print_mount_words(mount, out)?;
@@ -229,8 +237,8 @@ impl<D: Driver> Session<D> {
     }
 
     fn print_mount_words(&self, mount: u8, out: &mut Output) -> Result<(), AllocError>
-        ensures { (p : Play) → ShowsPlay D.shows self.now p → mount < p.config.mounts →
-            OnOk result (out.new.bytes.items ≡ out.old.bytes.items ++ mount_part p mount) }
+        ensures { OnOk result (out.new.bytes.items ≡ out.old.bytes.items ++
+            texts_of (D.word_of self.now.driver) (mount_words self.now.config mount)) }
     {
         self.print_word(WordName::MountFlags(mount), out)?;
         for cpu in 0..self.config.processors {
@@ -240,8 +248,8 @@ impl<D: Driver> Session<D> {
     }
 
     fn print_level_words(&self, level: u8, out: &mut Output) -> Result<(), AllocError>
-        ensures { (p : Play) → ShowsPlay D.shows self.now p → 1 ≤ level → level ≤ 3 →
-            OnOk result (out.new.bytes.items ≡ out.old.bytes.items ++ level_part p level) }
+        ensures { OnOk result (out.new.bytes.items ≡ out.old.bytes.items ++
+            texts_of (D.word_of self.now.driver) (level_words self.now.config level)) }
     {
         self.print_word(WordName::Block(level), out)?;
         self.print_word(WordName::Sync(level), out)?;
@@ -252,8 +260,8 @@ impl<D: Driver> Session<D> {
     }
 
     fn print_sections(&self, out: &mut Output) -> Result<(), AllocError>
-        ensures { (p : Play) → ShowsPlay D.shows self.now p →
-            OnOk result (out.new.bytes.items ≡ out.old.bytes.items ++ flat_map (section_line p) (count_up p.config.tasks)) }
+        ensures { OnOk result (out.new.bytes.items ≡ out.old.bytes.items ++
+            flat_map (λ t. word_text (SectionWord t) (D.word_of self.now.driver (SectionWord t))) (count_up self.now.config.tasks)) }
     {
         for task in 0..self.config.tasks {
             self.print_word(WordName::Section(task), out)?;
@@ -261,10 +269,11 @@ impl<D: Driver> Session<D> {
         Ok(())
     }
 
-    /// Prints the words of the tree that aren't 0.
-    #[tactic(auto, unfolding(crate::specs::Transcript::tree_words_text))]
+    /// Prints the words of the tree that aren't 0: each with what the gates tell of it.
     pub fn print_tree_words(&self, out: &mut Output) -> Result<(), AllocError>
-        ensures { (p : Play) → ShowsPlay D.shows self.now p → OnOk result (out.new.bytes.items ≡ out.old.bytes.items ++ tree_words_text p) }
+        ensures own { OnOk result (out.new.bytes.items ≡ out.old.bytes.items ++
+            texts_of (D.word_of self.now.driver) (printed_tree_words self.now.config)) }
+        ensures shown { (p : Play) → ShowsPlay D.shows self.now p → OnOk result (out.new.bytes.items ≡ out.old.bytes.items ++ tree_words_text p) }
     {
         self.print_word(WordName::Used, out)?;
         self.print_node_words(out)?;
@@ -272,8 +281,8 @@ impl<D: Driver> Session<D> {
     }
 
     fn print_node_words(&self, out: &mut Output) -> Result<(), AllocError>
-        ensures { (p : Play) → ShowsPlay D.shows self.now p →
-            OnOk result (out.new.bytes.items ≡ out.old.bytes.items ++ flat_map (node_word_line p) (count_up p.config.nodes)) }
+        ensures { OnOk result (out.new.bytes.items ≡ out.old.bytes.items ++
+            flat_map (λ n. word_text (NodeWord n) (D.word_of self.now.driver (NodeWord n))) (count_up self.now.config.nodes)) }
     {
         for node in 0..self.config.nodes {
             self.print_word(WordName::Node(node), out)?;
@@ -282,8 +291,8 @@ impl<D: Driver> Session<D> {
     }
 
     fn print_kids(&self, out: &mut Output) -> Result<(), AllocError>
-        ensures { (p : Play) → ShowsPlay D.shows self.now p →
-            OnOk result (out.new.bytes.items ≡ out.old.bytes.items ++ flat_map (kids_line p) (count_up p.config.nodes)) }
+        ensures { OnOk result (out.new.bytes.items ≡ out.old.bytes.items ++
+            flat_map (λ n. word_text (KidsWord n) (D.word_of self.now.driver (KidsWord n))) (count_up self.now.config.nodes)) }
     {
         for node in 0..self.config.nodes {
             self.print_word(WordName::Kids(node), out)?;
@@ -293,8 +302,7 @@ impl<D: Driver> Session<D> {
 
     /// Prints a word where it isn't 0.
     fn print_word(&self, name: WordName, out: &mut Output) -> Result<(), AllocError>
-        ensures { (p : Play) → ShowsPlay D.shows self.now p → IsWord (extents_of p.config) name →
-            OnOk result (out.new.bytes.items ≡ out.old.bytes.items ++ nonzero_line p.world name) }
+        ensures { OnOk result (out.new.bytes.items ≡ out.old.bytes.items ++ word_text name (D.word_of self.now.driver name)) }
     {
         match self.driver.word(name) {
             None | Some(0) => Ok(()),

@@ -1,14 +1,13 @@
-use Rattle.std.proofs.Common.{◌≡◌, ℕ, ap, arith}
-use Rattle.gate_world.specs.declared.config.Config.{Config}
+use Rattle.std.proofs.Common.{◌≡◌, ℕ, arith}
+use Rattle.cpu_words.specs.declared.names.WordName.{WordName}
 use Rattle.cpu_words.specs.declared.names.WordName.TheVariants.{MountFlags, MountCount}
-use Rattle.transcripts.specs.Transcript.{nonzero_line}
+use Rattle.transcripts.specs.Transcript.{word_text}
 use Rattle.transcripts.proofs.Texts.{one_and_counts}
 use Rattle.transcripts.proofs.session.Session.print_mount_words.Goals as goal
 
 pub returns : goal.returns
-returns g c p h lt =
-    let same : c.args.self.now.config.processors ≡ p.config.processors = ap (λ (x : Config). x.processors) h.config in
-    let all : c.loop-cpu.cpu ≡ p.config.processors = omega arith in
+returns g c =
+    let line = λ (name : WordName). word_text name (g.D.Driver.word_of c.args.self.now.driver name) in
+    let all : c.loop-cpu.cpu ≡ c.args.self.now.config.processors = omega arith in
     let counts = λ (i : ℕ). MountCount c.args.mount i in
-    one_and_counts (nonzero_line p.world) counts (MountFlags c.args.mount) _ _ _ c.loop-cpu.cpu _ (c.in_ok-print_word.ensures p h lt)
-    (c.loop-cpu.invariant p h lt) all
+    one_and_counts line counts (MountFlags c.args.mount) _ _ _ c.loop-cpu.cpu _ c.in_ok-print_word.ensures c.loop-cpu.invariant all

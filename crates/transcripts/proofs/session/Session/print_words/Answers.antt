@@ -1,27 +1,35 @@
-use Rattle.std.proofs.Common.{◌≡◌, ◌≤◌, ◌++◌, arith}
+use Rattle.std.proofs.Common.{◌≡◌, ◌++◌, ◌∙◌, ap, sym}
 use Rattle.std.specs.List.{flat_map}
 use Rattle.std.proofs.lemmas.Result.{IfOk-weaker}
-use Rattle.transcripts.specs.Transcript.{section_line, count_up, words_text}
-use Rattle.transcripts.proofs.Texts.{all_words}
+use Rattle.cpu_words.specs.declared.names.WordName.TheVariants.{Section}
+use Rattle.gate_world.specs.declared.config.Config.{Config}
+use Rattle.transcripts.specs.Transcript.{word_text, texts_of, printed_words, words_text, count_up}
+use Rattle.transcripts.proofs.Texts.{all_words, shown_words}
 use Rattle.transcripts.proofs.session.Session.print_words.Goals as goal
 
-pub returns : goal.returns
-returns g c p h =
-    let a : 1 ≤ 1 = omega arith in
-    let b : 1 ≤ 2 = omega arith in
-    let d : 1 ≤ 3 = omega arith in
-    let e : 2 ≤ 3 = omega arith in
-    let f : 3 ≤ 3 = omega arith in
-    let old = c.args.out.now.bytes.items in
+pub returns-clause-own : goal.returns-clause-own
+returns-clause-own g c =
+    let s = c.args.self.now in
+    let value = g.D.Driver.word_of s.driver in
     let before = c.print_level_words-3.new.out.bytes.items in
     let new = c.print_sections.new.out.bytes.items in
     IfOk-weaker c.print_sections.result
-    (λ _. new ≡ before ++ flat_map (section_line p) (count_up p.config.tasks))
-    (λ _. new ≡ old ++ words_text p)
-    (λ _ last. all_words p _ _ _ _ _ _ _ _ _ _ _ _
-    (c.in_ok-print_word.ensures p h tt) (c.in_ok-print_word-2.ensures p h tt)
-    (c.in_ok-print_word-3.ensures p h tt) (c.in_ok-print_word-4.ensures p h tt) (c.in_ok-print_word-5.ensures p h tt)
-    (c.in_ok-print_word-6.ensures p h tt)
-    (c.in_ok-print_words_of_mounts.ensures p h) (c.in_ok-print_level_words.ensures p h a d)
-    (c.in_ok-print_level_words-2.ensures p h b e) (c.in_ok-print_level_words-3.ensures p h d f) last)
-    (c.print_sections.ensures p h)
+    (λ _. new ≡ before ++ flat_map (λ t. word_text (Section t) (value (Section t))) (count_up s.config.tasks))
+    (λ _. new ≡ c.args.out.now.bytes.items ++ texts_of value (printed_words s.config))
+    (λ _ last. all_words value s.config _ _ _ _ _ _ _ _ _ _ _ _
+    c.in_ok-print_word.ensures c.in_ok-print_word-2.ensures c.in_ok-print_word-3.ensures c.in_ok-print_word-4.ensures
+    c.in_ok-print_word-5.ensures c.in_ok-print_word-6.ensures c.in_ok-print_words_of_mounts.ensures c.in_ok-print_level_words.ensures
+    c.in_ok-print_level_words-2.ensures c.in_ok-print_level_words-3.ensures last)
+    c.print_sections.ensures
+
+pub returns-clause-shown : goal.returns-clause-shown
+returns-clause-shown g c p h =
+    let s = c.args.self.now in
+    let value = g.D.Driver.word_of s.driver in
+    let old = c.args.out.now.bytes.items in
+    let new = c.print_sections.new.out.bytes.items in
+    IfOk-weaker c.print_sections.result
+    (λ _. new ≡ old ++ texts_of value (printed_words s.config)) (λ _. new ≡ old ++ words_text p)
+    (λ _ own. own ∙ ap (λ l. old ++ l) (ap (λ (x : Config). texts_of value (printed_words x)) h.config
+    ∙ shown_words value p (λ name there. g.met.D.Driver.tells s.driver p.config p.world name h.driver there)))
+    (returns-clause-own g c)
