@@ -1,10 +1,6 @@
 -- A moment of a history stays one, is the end of a legal history, and cuts each own list.
-use Rattle.std.proofs.Common.{◌≡◌, ℕ, List, [], ◌∷◌, ◌++◌, length, refl, sym, ap, ◌∙◌}
-use Rattle.std.specs.Prelude.{if◌then◌else◌, ◌==◌, Option, true, false}
-use Rattle.access_model.specs.declared.actions.Action.{Action}
-use Rattle.access_model.specs.declared.actions.NodeInfo.{NodeInfo}
-use Rattle.access_model.specs.States.{Limits}
-use Rattle.access_model.specs.Histories.{Done, IsLegal, own_part, IsMerge}
+use Rattle.std.{proofs.Common.{◌≡◌, ℕ, List, [], ◌∷◌, ◌++◌, length, refl, sym, ap, ◌∙◌}, specs.Prelude.{if◌then◌else◌, ◌==◌, Option, true, false}}
+use Rattle.access_model.specs.{Histories.{Done, IsLegal, own_part, IsMerge}, States.Limits, declared.actions.{Action.Action, NodeInfo.NodeInfo}}
 use Rattle.moment_laws.specs.Moments.{HaveDone, IsFrozenWith, WasFrozenWith, CutsList, CutsLists}
 
 module _ (nodes : ℕ) (tree : ℕ → Option NodeInfo) (done : List (ℕ × ℕ)) where
