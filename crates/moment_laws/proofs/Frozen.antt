@@ -27,7 +27,6 @@ module _ (l : Limits) (s : State) (t : ℕ) (lt : t < l.tasks) (nobody : NobodyH
       (tree : ℕ → Option NodeInfo) → IsSealed l (record s { tree = tree })
   changes i one three inside held tree = record { shut = sealed.shut; clean = λ e. absurd (no_writer i one three inside held e) }
 
-  -- a node that was cleaned is not dirty
   cleaned : (o : Option NodeInfo) → is_dirty (option_map (marked false) o) ≡ false
   cleaned None = refl
   cleaned (Some node) = refl
@@ -39,7 +38,6 @@ module _ (l : Limits) (s : State) (t : ℕ) (lt : t < l.tasks) (nobody : NobodyH
     | false ↦ clean
   ]
 
-  -- each action leaves it so
   step : (a : Action) → MayDo l s t a → IsSealed l (after_action s t a)
   step (Action.Grant gate) may = record { shut = sealed.shut; clean = sealed.clean }
   step (Action.Return gate) may = record { shut = sealed.shut; clean = sealed.clean }
@@ -77,17 +75,14 @@ module _ (l : Limits) (s : State) (t : ℕ) (lt : t < l.tasks) (nobody : NobodyH
         (closed_clean _ (s.tree n) (sealed.clean e n may.0)) (λ ne. sealed.clean e x lx);
   }
 
--- so it is after any legal history
 sealed_at : (l : Limits) (log : List Done) → IsLegal l log → IsSealed l (end_of log)
 sealed_at l [] legal = record { shut = λ e. absurd (omega arith); clean = λ e. absurd (omega arith) }
 sealed_at l (a ∷ earlier) legal =
     step l (end_of earlier) a.0 legal.0.0 (closed l earlier legal.1) (sealed_at l earlier legal.1) a.1 legal.0.1
 
--- what is frozen is clean
 pub frozen_clean : (l : Limits) (log : List Done) → IsLegal l log → (end_of log).stage ≡ 4 → IsClean l (end_of log)
 frozen_clean l log legal e = (sealed_at l log legal).clean e
 
--- what a moment tells
 pub tells : (l : Limits) (tree : ℕ → Option NodeInfo) (done : List (ℕ × ℕ)) (lists : ℕ → List Action) (log : List Done) → IsLegal l log →
     IsMerge lists log → (h : WasFrozenWith l.nodes tree done log) → MomentTells l tree done lists h.earlier
 tells l tree done lists log legal merge h =

@@ -18,13 +18,11 @@ thawed = (0, Action.Stage 0) ∷ (1, Action.Grant (Gate.Level 1)) ∷ frozen
 abbrev done_then : List (ℕ × ℕ)
 done_then = (0, 2) ∷ (1, 0) ∷ []
 
--- the opening tree is clean
 clean_tree : (n : ℕ) → n < 2 → is_dirty (opening_state.tree n) ≡ false
 clean_tree zero lt = refl
 clean_tree (suc zero) lt = refl
 clean_tree (suc (suc n)) lt = absurd (omega arith)
 
--- and has no removed file
 linked_tree : (n : ℕ) → n < 2 → is_removed (opening_state.tree n) ≡ false
 linked_tree zero lt = refl
 linked_tree (suc zero) lt = refl
