@@ -1,10 +1,9 @@
 -- What an event of one task at a gate keeps, whatever the event is: of a reader, or of a task that has the flag set.
-use Rattle.std.proofs.Common.{◌≡◌, ℕ, ◌+◌, ◌*◌, ◌%◌, ◌<◌, ◌≤◌, sym, ap, subst, inl, inr, arith}
-use Rattle.std.specs.Prelude.{◌⊎◌}
-use Rattle.finite_sums.specs.Sums.{update, total}
+use Rattle.std.{proofs.Common.{◌≡◌, ℕ, ◌+◌, ◌*◌, ◌%◌, ◌<◌, ◌≤◌, sym, ap, subst, inl, inr, arith}, specs.Prelude.◌⊎◌}
+use Rattle.finite_sums.{proofs.Totals.{each_updated, total_same, total_updated, total_add, total_swap, total_at, residues}, specs.Sums.{update, total}}
 use Rattle.cpu_words.specs.Sums.{lead}
-use Rattle.finite_sums.proofs.Totals.{each_updated, total_same, total_updated, total_add, total_swap, total_at, residues}
-use Rattle.gate_counts.specs.Gates.{Barring, Apart, Reading, ReadZero, Silent, bars, GateView, past, admitted, unread, counted, BarringHolds, CountsHold, GateHolds}
+use Rattle.gate_counts.specs.Gates.{Barring, Apart, Reading, ReadZero, Silent, bars, GateView, past, admitted, unread, counted, BarringHolds, CountsHold}
+use Rattle.gate_counts.specs.Gates.{GateHolds}
 
 -- the words of a gate sum to what is counted
 pub words_sum : {tasks processors : ℕ} {count : ℕ → ℕ} {at : ℕ → GateView} → CountsHold tasks processors count at →

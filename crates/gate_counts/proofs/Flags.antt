@@ -1,12 +1,9 @@
 -- Each event of a task that bars a gate keeps what holds there: it sets the flag, reads the words, shuts what may be shut, clears the flag.
 use Rattle.std.proofs.Common.{◌≡◌, ℕ, suc, ◌+◌, ◌*◌, ◌%◌, ◌<◌, ◌≤◌, ap, subst, arith}
-use Rattle.finite_sums.specs.Sums.{update, total}
-use Rattle.cpu_words.specs.Touches.{wrap_add}
-use Rattle.cpu_words.specs.Sums.{ahead}
-use Rattle.finite_sums.proofs.Totals.{total_le, total_bound, total_add, total_at, total_none, total_zero}
+use Rattle.finite_sums.{proofs.Totals.{total_le, total_bound, total_add, total_at, total_none, total_zero}, specs.Sums.{update, total}}
+use Rattle.cpu_words.specs.{Sums.ahead, Touches.wrap_add}
+use Rattle.gate_counts.proofs.{Events.{words_sum, flag_event}, Numbers.{below_le, below_step, below_first, ahead_none, ahead_past, ahead_step}}
 use Rattle.gate_counts.specs.Gates.{Barring, Apart, Reading, ReadZero, bars, GateView, past, admitted, unread, counted, BarringHolds, GateHolds}
-use Rattle.gate_counts.proofs.Numbers.{below_le, below_step, below_first, ahead_none, ahead_past, ahead_step}
-use Rattle.gate_counts.proofs.Events.{words_sum, flag_event}
 
 module _ {tasks processors bit unowned : ℕ} {shut : ℕ → Type 0} {count : ℕ → ℕ} {at : ℕ → GateView}
     (good : GateHolds tasks processors bit unowned shut count at) where

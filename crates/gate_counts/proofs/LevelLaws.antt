@@ -1,13 +1,12 @@
 -- Each event at a freeze level keeps what holds of its counts.
-use Rattle.std.proofs.Common.{◌≡◌, ℕ, zero, suc, ◌+◌, ◌<◌, ◌≤◌, refl, sym, ap, ◌∙◌, subst, inl, inr, arith}
-use Rattle.std.proofs.lemmas.Bool.Decides.{eqb_tells}
-use Rattle.finite_sums.specs.Sums.{update, total}
+use Rattle.std.proofs.{Common.{◌≡◌, ℕ, zero, suc, ◌+◌, ◌<◌, ◌≤◌, refl, sym, ap, ◌∙◌, subst, inl, inr, arith}, lemmas.Bool.Decides.eqb_tells}
+use Rattle.finite_sums.{proofs.Totals.{total_at, update_map}, specs.Sums.{update, total}}
 use Rattle.cpu_words.specs.Touches.{wrap_add, wrap_sub}
-use Rattle.finite_sums.proofs.Totals.{total_at, update_map}
-use Rattle.gate_counts.specs.Gates.{Apart, bars, below, GateHolds}
-use Rattle.gate_counts.specs.Levels.{LevelRole, Out, Seeking, BackingOff, Summing, Passed, LevelView, processor_of, barring_of, sums_up, level_as_gate, LevelHolds}
-use Rattle.gate_counts.proofs.Readers.{is_granted as gate_grants, is_refused as gate_refuses, adds, adds_granted, backs_off, returns}
 use Rattle.gate_counts.proofs.Flags.{none_held, none_admitted, bars_gate, reads_on, reads_zero, begins_anew, opens_gate, leaves_it_set, takes_it_over}
+use Rattle.gate_counts.proofs.Readers.{is_granted as gate_grants, is_refused as gate_refuses, adds, adds_granted, backs_off, returns}
+use Rattle.gate_counts.specs.Gates.{Apart, bars, below, GateHolds}
+use Rattle.gate_counts.specs.Levels.{LevelRole, Out, Seeking, BackingOff, Summing, Passed, LevelView, processor_of, barring_of, sums_up, level_as_gate}
+use Rattle.gate_counts.specs.Levels.{LevelHolds}
 
 -- who has `block` set, and doesn't sum, passed the level
 has_passed : (r : LevelRole) → 0 < bars (barring_of r) → sums_up r ≡ 0 → r ≡ Passed

@@ -1,12 +1,8 @@
 -- The 0/1 numbers of a gate's view, and the words ahead of a sum.
-use Rattle.std.proofs.Common.{◌≡◌, ℕ, zero, suc, ◌+◌, ◌<◌, ◌≤◌, refl, ap, inl, inr, arith}
+use Rattle.std.proofs.{Common.{◌≡◌, ℕ, zero, suc, ◌+◌, ◌<◌, ◌≤◌, refl, ap, inl, inr, arith}, lemmas.Bool.{le-leb, lt-leb, Decides.eqb_tells}}
 use Rattle.std.specs.Prelude.{nat_le, if◌then◌else◌, ◌⊎◌}
-use Rattle.std.proofs.lemmas.Bool.{le-leb, lt-leb}
-use Rattle.std.proofs.lemmas.Bool.Decides.{eqb_tells}
-use Rattle.finite_sums.specs.Sums.{update, total}
-use Rattle.cpu_words.specs.Touches.{wrap_add, wrap_sub}
-use Rattle.cpu_words.specs.Sums.{ahead, lead}
-use Rattle.finite_sums.proofs.Totals.{total_same, total_changed_by, total_none}
+use Rattle.finite_sums.{proofs.Totals.{total_same, total_changed_by, total_none}, specs.Sums.{update, total}}
+use Rattle.cpu_words.specs.{Sums.{ahead, lead}, Touches.{wrap_add, wrap_sub}}
 use Rattle.gate_counts.specs.Gates.{below}
 
 -- what the number of `below` tells

@@ -1,12 +1,9 @@
 -- Each event of a reader keeps what holds at its gate: it counts up, passes the gate's questions, is granted or refused, and counts down.
-use Rattle.std.proofs.Common.{◌≡◌, ℕ, suc, ◌+◌, ◌*◌, ◌%◌, ◌<◌, ◌≤◌, refl, ap, subst, inl, inr, arith}
-use Rattle.std.specs.Prelude.{◌⊎◌}
-use Rattle.finite_sums.specs.Sums.{update, total}
+use Rattle.std.{proofs.Common.{◌≡◌, ℕ, suc, ◌+◌, ◌*◌, ◌%◌, ◌<◌, ◌≤◌, refl, ap, subst, inl, inr, arith}, specs.Prelude.◌⊎◌}
+use Rattle.finite_sums.{proofs.Totals.{update_at, update_off, each_updated, total_updated, total_bound}, specs.Sums.{update, total}}
 use Rattle.cpu_words.specs.Touches.{wrap_add, wrap_sub}
-use Rattle.finite_sums.proofs.Totals.{update_at, update_off, each_updated, total_updated, total_bound}
+use Rattle.gate_counts.proofs.{Events.{counts_follow, reader_event}, Numbers.{below_tells, below_le, below_first, one_more, lead_up, lead_down}}
 use Rattle.gate_counts.specs.Gates.{Barring, below, GateView, past, admitted, unread, counted, CountsHold, GateHolds}
-use Rattle.gate_counts.proofs.Numbers.{below_tells, below_le, below_first, one_more, lead_up, lead_down}
-use Rattle.gate_counts.proofs.Events.{counts_follow, reader_event}
 
 module _ {tasks processors bit unowned : ℕ} {shut : ℕ → Type 0} {count : ℕ → ℕ} {at : ℕ → GateView}
     (good : GateHolds tasks processors bit unowned shut count at) (t : ℕ) (lt : t < tasks) where
