@@ -5,7 +5,6 @@ use Rattle.cpu_words.specs.Sums.{lead}
 use Rattle.gate_counts.specs.Gates.{Barring, Apart, Reading, ReadZero, Silent, bars, GateView, past, admitted, unread, counted, BarringHolds, CountsHold}
 use Rattle.gate_counts.specs.Gates.{GateHolds}
 
--- the words of a gate sum to what is counted
 pub words_sum : {tasks processors : ℕ} {count : ℕ → ℕ} {at : ℕ → GateView} → CountsHold tasks processors count at →
     total processors count % 18446744073709551616 ≡ total tasks (λ t. counted (at t)) % 18446744073709551616
 words_sum {tasks} {processors} {count} {at} net =
@@ -20,7 +19,6 @@ words_sum {tasks} {processors} {count} {at} net =
     total_add tasks (λ t. total processors (at t).taken) (λ t. counted (at t)) in
     omega (arith, words, own, parts, total_swap tasks processors (λ t. (at t).taken), total_swap tasks processors (λ t. (at t).added))
 
--- who doesn't have the flag says nothing of the counts
 pub apart_holds : (processors : ℕ) (count : ℕ → ℕ) (a : ℕ) (u : ℕ → ℕ) (b : Barring) → bars b ≡ 0 → BarringHolds processors count a u b
 apart_holds processors count a u Apart h = tt
 apart_holds processors count a u (Reading k sum) h = absurd (omega arith)

@@ -82,11 +82,9 @@ module _ {tasks processors bit unowned : ℕ} {shut : ℕ → Type 0} {count : �
     abbrev taken_more : ℕ → ℕ
     taken_more = update (at t).taken p ((at t).taken p + 1)
 
-    -- a lead is far below 2^64
     small : (k : ℕ) → k < processors → 65600 + 64 * k + total tasks (λ x. unread k (at x)) ≤ 100000
     small k lk = omega (arith, few, narrow, total_bound tasks 1 (λ x. unread k (at x)) (λ x l. below_le k (at x).sought_on))
 
-    -- the counts after an addition on p, where the task is counted for one more
     counts_added : (h q s : ℕ) (b : Barring) → h + below 0 q + below 0 s ≡ counted (at t) + 1 →
         CountsHold tasks processors count_up
         (update at t (record (at t) { held = h; added = added_more; questions = q; sought_on = s; barring = b }))
