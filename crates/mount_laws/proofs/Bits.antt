@@ -1,8 +1,6 @@
 -- The bits of a flags word: READONLY and HOLD, set, cleared and found.
-use Rattle.std.proofs.Common.{◌≡◌, ℕ, true, false, zero, suc, ◌<◌, refl, arith}
-use Rattle.std.specs.Prelude.{bit_or, bit_and}
-use Rattle.mount_counts.specs.Phases.{has_flag}
-use Rattle.mount_counts.specs.Roles.{ro_bit, hold_bit}
+use Rattle.std.{proofs.Common.{◌≡◌, ℕ, true, false, zero, suc, ◌<◌, refl, arith}, specs.Prelude.{bit_or, bit_and}}
+use Rattle.mount_counts.specs.{Phases.has_flag, Roles.{ro_bit, hold_bit}}
 
 -- a fact about each number below 4
 pub below4 : (P : ℕ → Type 0) → P 0 → P 1 → P 2 → P 3 → (n : ℕ) → n < 4 → P n

@@ -1,16 +1,17 @@
 -- Each event of the mounts keeps what holds at its mount.
-use Rattle.std.proofs.Common.{◌≡◌, ℕ, zero, suc, ◌+◌, ◌<◌, ◌≤◌, refl, sym, ap, ◌∙◌, subst, inl, inr, arith}
+use Rattle.std.proofs.{Common.{◌≡◌, ℕ, zero, suc, ◌+◌, ◌<◌, ◌≤◌, refl, sym, ap, ◌∙◌, subst, inl, inr, arith}, lemmas.Bool.Decides.eqb_tells}
 use Rattle.std.specs.Prelude.{◌⊎◌, bit_or}
-use Rattle.std.proofs.lemmas.Bool.Decides.{eqb_tells}
-use Rattle.finite_sums.specs.Sums.{update, total}
+use Rattle.finite_sums.{proofs.Totals.{each_updated, total_at, total_none, update_map}, specs.Sums.{update, total}}
 use Rattle.cpu_words.specs.Touches.{wrap_add, wrap_sub}
-use Rattle.finite_sums.proofs.Totals.{each_updated, total_at, total_none, update_map}
+use Rattle.gate_counts.proofs.{Events.flag_event, Flags.{nobody, none_held, none_admitted, MaySay, shuts, sum_begins, sum_goes, sum_ends}}
+use Rattle.gate_counts.proofs.Readers.{adds as gate_adds, is_admitted, goes_on, is_granted as gate_grants, is_refused as gate_refuses}
+use Rattle.gate_counts.proofs.Readers.{backs_off as gate_backs_off, returns as gate_returns}
 use Rattle.gate_counts.specs.Gates.{Barring, Apart, bars, below, past, GateHolds}
-use Rattle.mount_counts.specs.Roles.{Role, Out, Asking, Cleared, PastRemount, PastFlags, BackingOff, Summing, Empty, Leaving, Skipped, MountView, questions_of, processor_of, barring_of, skips, mount_as_gate, passed_hold, past_remount, past_flags, sought, has_hold, admitted, ro_bit, hold_bit, mount_shut, MountHolds}
-use Rattle.gate_counts.proofs.Events.{flag_event}
-use Rattle.gate_counts.proofs.Readers.{adds as gate_adds, is_admitted, goes_on, is_granted as gate_grants, is_refused as gate_refuses, backs_off as gate_backs_off, returns as gate_returns}
-use Rattle.gate_counts.proofs.Flags.{nobody, none_held, none_admitted, MaySay, shuts, sum_begins, sum_goes, sum_ends}
-use Rattle.mount_laws.proofs.Bits.{or_hold, or_read_only, without_hold, and_not_hold, without_read_only, and_not_read_only, IsWithHold, IsWithReadOnly, IsWithoutHold, IsWithoutReadOnly}
+use Rattle.mount_counts.specs.Roles.{Role, Out, Asking, Cleared, PastRemount, PastFlags, BackingOff, Summing, Empty, Leaving, Skipped, MountView, questions_of}
+use Rattle.mount_counts.specs.Roles.{processor_of, barring_of, skips, mount_as_gate, passed_hold, past_remount, past_flags, sought, has_hold, admitted, ro_bit}
+use Rattle.mount_counts.specs.Roles.{hold_bit, mount_shut, MountHolds}
+use Rattle.mount_laws.proofs.Bits.{or_hold, or_read_only, without_hold, and_not_hold, without_read_only, and_not_read_only, IsWithHold, IsWithReadOnly}
+use Rattle.mount_laws.proofs.Bits.{IsWithoutHold, IsWithoutReadOnly}
 
 -- one that doesn't have HOLD set
 apart : (b : Barring) → bars b ≡ 0 → b ≡ Apart

@@ -1,20 +1,11 @@
 -- Sets of mounts: what a set has after a mount joins it, and after its lowest leaves it.
 use Rattle.std.proofs.Common.{◌≡◌, ◌≢◌, ℕ, ◌%◌, ◌*◌, ◌^◌, ◌<◌, ◌≤◌, true, false, refl, sym, ap, ◌∙◌, arith, inl, inr}
-use Rattle.std.specs.Prelude.{◌==◌, nat_lt, bit_or, bit_and}
-use Rattle.std.specs.Int.{bit_at, bit_not, w8}
 use Rattle.std.proofs.lemmas.Bool.{eq-eqb, cases_Bool, ltb-true, ltb-false}
 use Rattle.std.proofs.lemmas.Nat.{or_lt, and_le_l}
-use Rattle.std.proofs.lemmas.Nat.Bits.{
-  bit_at-zero,
-  bit_at_above,
-  bit_at_set_same,
-  bit_at_set_other,
-  bit_at_clear_same,
-  bit_at_clear_other,
-  bit_at-trailing_zeros,
-}
-use Rattle.mount_counts.specs.declared.sets.MountSet.{MountSet}
-use Rattle.mount_counts.specs.Sets.{has_mount, one_mount, no_mounts, with_mount, lowest, without_lowest}
+use Rattle.std.proofs.lemmas.Nat.Bits.{bit_at-zero, bit_at_above, bit_at_set_same, bit_at_set_other, bit_at_clear_same, bit_at_clear_other}
+use Rattle.std.proofs.lemmas.Nat.Bits.{bit_at-trailing_zeros}
+use Rattle.std.specs.{Int.{bit_at, bit_not, w8}, Prelude.{◌==◌, nat_lt, bit_or, bit_and}}
+use Rattle.mount_counts.specs.{Sets.{has_mount, one_mount, no_mounts, with_mount, lowest, without_lowest}, declared.sets.MountSet.MountSet}
 
 -- the empty set has no mount
 pub none_held : (held : MountSet) → held.bits ≡ 0 → (n : ℕ) → has_mount held n ≡ false
