@@ -13,7 +13,6 @@ use Rattle.mount_counts.specs.Roles.{hold_bit, mount_shut, MountHolds}
 use Rattle.mount_laws.proofs.Bits.{or_hold, or_read_only, without_hold, and_not_hold, without_read_only, and_not_read_only, IsWithHold, IsWithReadOnly}
 use Rattle.mount_laws.proofs.Bits.{IsWithoutHold, IsWithoutReadOnly}
 
--- one that doesn't have HOLD set
 apart : (b : Barring) → bars b ≡ 0 → b ≡ Apart
 apart Apart h = refl
 apart _ h = absurd (omega arith)
@@ -26,7 +25,6 @@ each_shut flags remount sb P a b c (suc (suc zero)) h = b h
 each_shut flags remount sb P a b c (suc (suc (suc zero))) h = c h
 each_shut flags remount sb P a b c _ h = absurd h
 
--- who is past the last question holds an access
 none_past : (r : Role) → below 3 (questions_of r) ≡ 0
 none_past (Cleared p) = refl
 none_past (PastRemount p) = refl
@@ -119,7 +117,6 @@ module _ {tasks processors flags remount sb : ℕ} {count : ℕ → ℕ} {at : �
         reads (record (at t) { added = added_more; role = Asking p }) _ refl
         (gate_adds good.gate t lt few narrow p lp Apart (sym (ap barring_of out)) (omega (arith, ap sought out)))
 
-    -- a back-off, on its own processor. Meets: a sum reads each word once
     pub backs_off : (at t).role ≡ BackingOff p → HoldsAfter count_down (record (at t) { taken = taken_more; role = Out })
     backs_off e =
         reads (record (at t) { taken = taken_more; role = Out }) _ refl
@@ -138,7 +135,6 @@ SeeksNone r = (questions_of r ≡ 0) × (processor_of r ≡ 0)
 
 module _ {tasks processors flags remount sb : ℕ} {count : ℕ → ℕ} {at : ℕ → MountView}
     (good : MountHolds tasks processors flags remount sb count at) where
-  -- HOLD is set exactly where one task has it set
   pub hold : total tasks (λ x. has_hold (at x).role) ≡ hold_bit flags
   hold = omega (arith, good.gate.flag)
 
@@ -154,12 +150,10 @@ module _ {tasks processors flags remount sb : ℕ} {count : ℕ → ℕ} {at : �
   pub sealed : sb ≡ 1 → total tasks (λ x. (at x).held) ≡ 0
   sealed e = none_held good.gate 3 (good.gate.open_to 3 e)
 
-  -- nobody is past the last question where nobody holds an access
   none_fourth : total tasks (λ x. (at x).held) ≡ 0 → total tasks (λ x. past 3 (mount_as_gate (at x))) ≡ 0
   none_fourth none =
       total_none tasks _ (λ x lx. omega (arith, none_past (at x).role, none, total_at tasks x (λ y. (at y).held) lx))
 
-  -- nobody holds an access while `remount` is set
   pub none_remounting : remount ≡ 1 → sb ≡ 0 → total tasks (λ x. (at x).held) ≡ 0
   none_remounting set clear = elim (eqb_tells (ro_bit flags) 0) [
     | inl z ↦ none_held good.gate 1 (remounting set clear z.1)
@@ -186,7 +180,6 @@ module _ {tasks processors flags remount sb : ℕ} {count : ℕ → ℕ} {at : �
     pub marks_empty : (at t).role ≡ Empty → MountHolds tasks processors flags 1 sb count at
     marks_empty e = stores 1 sb (λ a b c. nobody good.gate (empties t lt e) 1) sealed
 
-    -- and at one that was skipped
     pub marks_skipped : (at t).role ≡ Skipped → MountHolds tasks processors flags 1 sb count at
     marks_skipped e = stores 1 sb (λ a b c. absurd (omega (arith, c, good.skipped t lt (ap skips e)))) sealed
 
@@ -233,7 +226,6 @@ module _ {tasks processors flags remount sb : ℕ} {count : ℕ → ℕ} {at : �
         owner_event Skipped flags (ap questions_of e, ap processor_of e) (refl, refl) good.bits (omega (arith, ap has_hold e)) closed
         remounting (λ x lx ne s q. q) tt (λ s. ro)
 
-    -- an owner that has not HOLD set there has no more to do at the mount
     pub is_left : SeeksNone (at t).role → has_hold (at t).role ≡ 0 → Becomes Out flags
     is_left none free = keeps_read_only Out flags none (refl, refl) (good.bits, refl) (omega (arith, free)) tt refl
 
@@ -261,7 +253,6 @@ module _ {tasks processors flags remount sb : ℕ} {count : ℕ → ℕ} {at : �
         (omega (arith, ap has_hold e))
         (sum_ends good.gate few narrow k sum last z (subst (MaySay good.gate) (ap barring_of e) (good.gate.sums t lt))) refl
 
-    -- or somebody was counted
     pub sums_to_some : (k sum : ℕ) → (at t).role ≡ Summing k sum → Becomes Leaving flags
     sums_to_some k sum e =
         keeps_read_only Leaving flags (ap questions_of e, ap processor_of e) (refl, refl) (good.bits, refl)
