@@ -1,23 +1,16 @@
 -- A clearing of the dirty marks; the tree is sealed and opened again; a snapshot; what holds where nothing is charged.
 use Rattle.std.proofs.Common.{◌≡◌, ℕ, suc, ◌+◌, ◌-◌, ◌<◌, ◌≤◌, false, sym, ap, ◌∙◌, subst, inl, inr, arith}
+use Rattle.std.proofs.lemmas.Bool.{ne_eqb, lt-ltb, le-ltb, Decides.eqb_tells}
 use Rattle.std.specs.Prelude.{Option, Some, None}
-use Rattle.std.proofs.lemmas.Bool.{ne_eqb, lt-ltb, le-ltb}
-use Rattle.std.proofs.lemmas.Bool.Decides.{eqb_tells}
-use Rattle.finite_sums.specs.Sums.{update}
-use Rattle.finite_sums.proofs.Totals.{update_same, each_updated, total_none, total_same}
-use Rattle.access_model.specs.declared.actions.Action.TheVariants.{Clean}
-use Rattle.access_model.specs.declared.actions.NodeInfo.{NodeInfo}
-use Rattle.access_model.specs.States.{size_of, is_dirty, IsDirectory}
-use Rattle.gated_tree.specs.declared.nodes.NodeWord.{NodeWord}
+use Rattle.finite_sums.{proofs.Totals.{update_same, each_updated, total_none, total_same}, specs.Sums.update}
+use Rattle.access_model.specs.{States.{size_of, is_dirty, IsDirectory}, declared.actions.{Action.Action, NodeInfo.NodeInfo}}
+use Rattle.gated_tree.proofs.{ClearedMarks.{clean_stays, cleared_is, marked_file, file_shown, directory_clean}, Packing.word_returns, Words.dirty_shown}
 use Rattle.gated_tree.specs.Nodes.{dirty_in, removed_in, kind_in, kind_of, word_of, node_of, node_shown, marked_node}
-use Rattle.gated_tree.specs.Trees.{is_child, HasDirectory, IsSound, IsClean}
-use Rattle.gated_tree.specs.Roles.{Out, Clearing, Reading, Bounds, TreeState, AreWithin, charge, child_charge, removal, tree_word, seen_as, IsFileNode, HasParent, TreeHolds}
-use Rattle.gated_tree.proofs.Packing.{word_returns}
-use Rattle.gated_tree.proofs.Words.{dirty_shown}
-use Rattle.gated_tree.proofs.ClearedMarks.{clean_stays, cleared_is, marked_file, file_shown, directory_clean}
+use Rattle.gated_tree.specs.Roles.{Out, Clearing, Reading, Bounds, TreeState, AreWithin, charge, child_charge, removal, tree_word, seen_as, IsFileNode}
+use Rattle.gated_tree.specs.Roles.{HasParent, TreeHolds}
+use Rattle.gated_tree.specs.{Trees.{is_child, HasDirectory, IsSound, IsClean}, declared.nodes.NodeWord.NodeWord}
+use Rattle.tree_laws.proofs.{Changes.{file_shows, unmarks}, Laws.{role_says, moves}}
 use Rattle.tree_laws.specs.Events.{turned, with_node, cleared_word, tree_shown, opens_shown, TreeDoes, MovesBy, MayClean, IsQuiet}
-use Rattle.tree_laws.proofs.Laws.{role_says, moves}
-use Rattle.tree_laws.proofs.Changes.{file_shows, unmarks}
 
 -- each parent, in range and a directory, is a directory
 parent_there : (nodes : ℕ) (node : ℕ → ℕ) (entry : Option NodeInfo) → HasParent nodes node entry →
@@ -106,7 +99,7 @@ module _ (c : Bounds) (s : TreeState) (good : TreeHolds c s) where
     -- a clearing comes to a node that is marked, which is a file and becomes clean
     pub clears : (n : ℕ) → AreWithin c → MayClean c s → s.at t ≡ Clearing n → n < c.nodes → dirty_in (s.node n) ≡ 1 →
         TreeHolds c (with_node s n (cleared_word (s.node n)) t (Clearing (suc n))) ×
-        TreeDoes c s.node (update s.node n (cleared_word (s.node n))) (Clean n)
+        TreeDoes c s.node (update s.node n (cleared_word (s.node n))) (Action.Clean n)
     clears n within may is ln marked =
         let before : (x : ℕ) → x < n → is_dirty (node_shown (s.node x)) ≡ false = role_says c s good t lt (Clearing n) is in
         let file : NodeWord = node_of (s.node n) in
@@ -122,7 +115,7 @@ module _ (c : Bounds) (s : TreeState) (good : TreeHolds c s) where
         let now : (x : ℕ) → x < suc n → is_dirty (node_shown (update s.node n (word_of (marked_node false file)) x)) ≡ false =
         λ x. each_updated (λ y w. y < suc n → is_dirty (node_shown w) ≡ false) s.node n (word_of (marked_node false file)) x
         (λ l. clean) (λ ne l. before x (omega (arith, l, ne))) in
-        subst (λ w. TreeHolds c (with_node s n w t (Clearing (suc n))) × TreeDoes c s.node (update s.node n w) (Clean n))
+        subst (λ w. TreeHolds c (with_node s n w t (Clearing (suc n))) × TreeDoes c s.node (update s.node n w) (Action.Clean n))
         (sym (cleared_is (s.node n) (good.words n ln).packed))
         (unmarks c s good t lt file n (Clearing (suc n)) within h may (sym (ap charge is)) (sym (ap removal is)) (λ d. sym (ap (child_charge d) is)) ln
         (sym back.1) now)
@@ -157,7 +150,8 @@ module _ (c : Bounds) (s : TreeState) (good : TreeHolds c s) where
         moves c s good t lt (Reading 0 values) (sym (ap charge is)) (sym (ap removal is)) (λ d. sym (ap (child_charge d) is)) (λ i l. absurd (omega (arith, l)))
 
     -- and loads its next word
-    pub snapshot_loads : (k : ℕ) (values next : ℕ → ℕ) → s.at t ≡ Reading k values → seen_as c.nodes k (next k) ≡ seen_as c.nodes k (tree_word c.nodes s.used s.node s.kids k) →
+    pub snapshot_loads : (k : ℕ) (values next : ℕ → ℕ) → s.at t ≡ Reading k values →
+        seen_as c.nodes k (next k) ≡ seen_as c.nodes k (tree_word c.nodes s.used s.node s.kids k) →
         ((i : ℕ) → i < k → next i ≡ values i) → TreeHolds c (turned s t (Reading (suc k) next))
     snapshot_loads k values next is word earlier =
         let before : (i : ℕ) → i < k → seen_as c.nodes i (values i) ≡ seen_as c.nodes i (tree_word c.nodes s.used s.node s.kids i) =

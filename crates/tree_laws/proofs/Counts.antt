@@ -1,20 +1,16 @@
 -- Loads, and the events at `used` and at the counts of children. None of them changes a node word, so the shown tree stays.
-use Rattle.std.proofs.Common.{◌≡◌, ℕ, Bool, zero, suc, ◌+◌, ◌<◌, ◌≤◌, refl, sym, ap, ◌∙◌, subst, arith}
+use Rattle.std.proofs.{Common.{◌≡◌, ℕ, Bool, zero, suc, ◌+◌, ◌<◌, ◌≤◌, refl, sym, ap, ◌∙◌, subst, arith}, lemmas.Bool.Decides.nat_tests}
 use Rattle.std.specs.Prelude.{Option, Some, None, Ok, true, false, if◌then◌else◌}
-use Rattle.std.proofs.lemmas.Bool.Decides.{nat_tests}
-use Rattle.finite_sums.specs.Sums.{update, total}
-use Rattle.finite_sums.proofs.Totals.{each_updated, total_bound, total_at}
-use Rattle.access_model.specs.declared.actions.Kind.TheVariants.{File}
-use Rattle.access_model.specs.declared.actions.NodeInfo.{NodeInfo}
-use Rattle.access_model.specs.States.{is_removed, one_if}
+use Rattle.finite_sums.{proofs.Totals.{each_updated, total_bound, total_at}, specs.Sums.{update, total}}
+use Rattle.access_model.specs.{States.{is_removed, one_if}, declared.actions.{Kind.Kind, NodeInfo.NodeInfo}}
 use Rattle.cpu_words.specs.Touches.{wrap_add, wrap_sub}
-use Rattle.gated_tree.specs.declared.nodes.NodeWord.{NodeWord}
-use Rattle.gated_tree.specs.Nodes.{node_shown, info_of, file_in, any_file_in, directory_in}
-use Rattle.gated_tree.specs.Trees.{is_same, has_parent, is_child}
-use Rattle.gated_tree.specs.Roles.{Role, Out, Loaded, Found, Placing, Targets, Moving, Growing, Charged, Refunding, Freed, Returning, Removing, Freeing, Dropped, Uncounting, Bare, Bounds, TreeState, AreWithin, charge, child_charge, removal, IsFileNode, MayGrow, IsDirectoryAt, HasParent, RoleHolds, TreeHolds, NobodyReads, MayRemove, HasNoCharge}
 use Rattle.gated_tree.proofs.Words.{file_loaded, any_file_loaded, directory_loaded, word_shows}
-use Rattle.tree_laws.specs.Events.{turned, with_used, with_kids, with_removed}
-use Rattle.tree_laws.proofs.Laws.{same_here, same_off, role_says, all_change, counts_change, moves}
+use Rattle.gated_tree.specs.Nodes.{node_shown, info_of, file_in, any_file_in, directory_in}
+use Rattle.gated_tree.specs.Roles.{Role, Out, Loaded, Found, Placing, Targets, Moving, Growing, Charged, Refunding, Freed, Returning, Removing, Freeing}
+use Rattle.gated_tree.specs.Roles.{Dropped, Uncounting, Bare, Bounds, TreeState, AreWithin, charge, child_charge, removal, IsFileNode, MayGrow, IsDirectoryAt}
+use Rattle.gated_tree.specs.Roles.{HasParent, RoleHolds, TreeHolds, NobodyReads, MayRemove, HasNoCharge}
+use Rattle.gated_tree.specs.{Trees.{is_same, has_parent, is_child}, declared.nodes.NodeWord.NodeWord}
+use Rattle.tree_laws.{proofs.Laws.{same_here, same_off, role_says, all_change, counts_change, moves}, specs.Events.{turned, with_used, with_kids, with_removed}}
 
 -- a node counts at most once as a child, and a role charges at most one
 pub same_le : (d e : ℕ) → is_same d e ≤ 1
@@ -50,7 +46,7 @@ one_le true = omega arith
 one_le false = omega arith
 
 -- what the tree says of the parent of a file that was loaded
-file_parent : (c : Bounds) (node : ℕ → ℕ) (word : ℕ) (file : NodeWord) → node_shown word ≡ info_of file → file.kind ≡ Some File →
+file_parent : (c : Bounds) (node : ℕ → ℕ) (word : ℕ) (file : NodeWord) → node_shown word ≡ info_of file → file.kind ≡ Some Kind.File →
     HasParent c.nodes node (node_shown word) → IsDirectoryAt c.nodes node file.parent
 file_parent c node word file shows kind h =
     let made : HasParent c.nodes node (info_of file) = subst (HasParent c.nodes node) shows h in
@@ -101,7 +97,8 @@ module _ (c : Bounds) (s : TreeState) (good : TreeHolds c s) (t : ℕ) (lt : t <
   -- the compare-exchange of a create fails: the charge stands until it is subtracted
   pub create_fails : (d : ℕ) → s.at t ≡ Placing d → TreeHolds c (turned s t (Returning d))
   create_fails d is =
-      moves c s good t lt (Returning d) (sym (ap charge is)) (sym (ap removal is)) (λ e. sym (ap (child_charge e) is)) (role_says c s good t lt (Placing d) is).0
+      moves c s good t lt (Returning d) (sym (ap charge is)) (sym (ap removal is)) (λ e. sym (ap (child_charge e) is))
+      (role_says c s good t lt (Placing d) is).0
 
   -- and that of a move
   pub move_fails : (file : NodeWord) (d : ℕ) → s.at t ≡ Moving file d → TreeHolds c (turned s t (Returning d))

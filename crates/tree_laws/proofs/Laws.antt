@@ -1,18 +1,15 @@
 -- Any event at the tree: a role changes with the counts, or with one node word.
 use Rattle.std.proofs.Common.{◌≡◌, ℕ, zero, suc, ◌+◌, ◌<◌, ◌≤◌, true, false, refl, sym, ap, ◌∙◌, subst, inl, inr, arith}
+use Rattle.std.proofs.lemmas.Bool.{cases_Bool, cases_lt, eq-eqb, ne_eqb, Decides.eqb_tells}
 use Rattle.std.specs.Prelude.{◌⊎◌, Option, Some, None, nat_lt}
-use Rattle.std.proofs.lemmas.Bool.{cases_Bool, cases_lt, eq-eqb, ne_eqb}
-use Rattle.std.proofs.lemmas.Bool.Decides.{eqb_tells}
-use Rattle.finite_sums.specs.Sums.{update, total}
-use Rattle.finite_sums.proofs.Totals.{each_updated, total_updated, total_changed_by, total_at}
-use Rattle.access_model.specs.declared.actions.NodeInfo.{NodeInfo}
-use Rattle.access_model.specs.declared.actions.Kind.TheVariants.{File}
-use Rattle.access_model.specs.States.{size_of, is_dirty, is_removed, one_if, IsDirectory}
-use Rattle.gated_tree.specs.declared.nodes.NodeWord.{NodeWord}
-use Rattle.gated_tree.specs.Nodes.{IsNode, opens_in, info_of, node_shown}
+use Rattle.finite_sums.{proofs.Totals.{each_updated, total_updated, total_changed_by, total_at}, specs.Sums.{update, total}}
+use Rattle.access_model.specs.{States.{size_of, is_dirty, is_removed, one_if, IsDirectory}, declared.actions.{Kind.Kind, NodeInfo.NodeInfo}}
 use Rattle.gated_tree.proofs.Words.{word_shows, word_opens}
-use Rattle.gated_tree.specs.Trees.{is_same, has_parent, is_child}
-use Rattle.gated_tree.specs.Roles.{Role, Loaded, Found, Placing, Targets, Moving, Freeing, Bare, Clearing, Reading, Bounds, TreeState, charge, child_charge, removal, frees, is_bare, cleared, words_read, tree_word, seen_as, IsLastOpen, HasParent, RoleHolds, TreeHolds, NobodyReads, MayDirty}
+use Rattle.gated_tree.specs.Nodes.{IsNode, opens_in, info_of, node_shown}
+use Rattle.gated_tree.specs.Roles.{Role, Loaded, Found, Placing, Targets, Moving, Freeing, Bare, Clearing, Reading, Bounds, TreeState, charge, child_charge}
+use Rattle.gated_tree.specs.Roles.{removal, frees, is_bare, cleared, words_read, tree_word, seen_as, IsLastOpen, HasParent, RoleHolds, TreeHolds, NobodyReads}
+use Rattle.gated_tree.specs.Roles.{MayDirty}
+use Rattle.gated_tree.specs.{Trees.{is_same, has_parent, is_child}, declared.nodes.NodeWord.NodeWord}
 use Rattle.tree_laws.specs.Events.{turned, with_node}
 
 -- a number is itself, and no other
@@ -94,7 +91,7 @@ module _ (c : Bounds) (s : TreeState) (good : TreeHolds c s) (t : ℕ) (lt : t <
       elim other [
         | inl linked ↦
             let shows : node_shown (s.node n) ≡ info_of f.0 = ap node_shown f.2.word ∙ word_shows f.0 f.2.parent few in
-            let kinded : info_of f.0 ≡ info_of (record f.0 { kind = Some File }) = ap (λ k. info_of (record f.0 { kind = k })) f.2.kind in
+            let kinded : info_of f.0 ≡ info_of (record f.0 { kind = Some Kind.File }) = ap (λ k. info_of (record f.0 { kind = k })) f.2.kind in
             let wrong : false ≡ true = sym linked ∙ ap is_removed (shows ∙ kinded) ∙ f.2.removed in
             absurd cc
         | inr several ↦ several (ap opens_in f.2.word ∙ word_opens f.0 f.2.parent few ∙ f.2.opens)
