@@ -18,27 +18,22 @@ use Rattle.tree_laws.{proofs.Laws.{role_says, not_freed, node_changes}, specs.Ev
 abbrev pub file_info : NodeWord → NodeInfo
 file_info file = record { kind = Kind.File; parent = file.parent; size = file.size; dirty = file.dirty; removed = file.removed }
 
--- the word of a file shows it
 pub file_shows : (file : NodeWord) → file.kind ≡ Some Kind.File → file.parent < 64 → file.opens ≤ 64 →
     node_shown (word_of file) ≡ Some (file_info file)
 file_shows file kind parent few = word_shows file parent few ∙ ap (λ k. info_of (record file { kind = k })) kind
 
--- a word that as many tasks have open leaves how many have each open
 pub opens_kept : (node : ℕ → ℕ) (n w : ℕ) → opens_in w ≡ opens_in (node n) → opens_shown (update node n w) ≡ opens_shown node
 opens_kept node n w e = update_map opens_in node n w ∙ ap (update (opens_shown node) n) e ∙ update_same (opens_shown node) n
 
--- a file's word is replaced, and so the shown tree has what the action makes of the file
 file_replaced : (node : ℕ → ℕ) (n : ℕ) (old new : NodeWord) (to : NodeInfo → NodeInfo) → node_shown (node n) ≡ Some (file_info old) →
     node_shown (word_of new) ≡ Some (file_info new) → to (file_info old) ≡ file_info new →
     tree_shown (update node n (word_of new)) ≡ update (tree_shown node) n (option_map to (tree_shown node n))
 file_replaced node n old new to before after same =
     update_map node_shown node n (word_of new) ∙ ap (update (tree_shown node) n) (after ∙ sym (ap (option_map to) before ∙ ap Some same))
 
--- a word that shows the same leaves the shown tree
 same_shown : (node : ℕ → ℕ) (n w : ℕ) → node_shown w ≡ node_shown (node n) → tree_shown (update node n w) ≡ tree_shown node
 same_shown node n w e = update_map node_shown node n w ∙ ap (update (tree_shown node) n) e ∙ update_same (tree_shown node) n
 
--- two tests of which the second isn't passed
 both_false : (a b : Bool) → b ≡ false → (a && b) ≡ false
 both_false true b e = e
 both_false false b e = refl
@@ -77,11 +72,9 @@ module _ (c : Bounds) (s : TreeState) (good : TreeHolds c s) (t : ℕ) (lt : t <
         );
       }
 
-  -- a file that is there is one that wasn't removed
   is_linked : (n : ℕ) (file : NodeWord) → IsThere n file → IsLinkedFile (node_shown (s.node n))
   is_linked n file there = subst IsLinkedFile (sym there.shows) (refl, there.linked)
 
-  -- nobody is to free a file that wasn't removed
   nobody_frees : (n : ℕ) (file : NodeWord) → IsThere n file → (u : ℕ) → u < c.tasks → (u ≡ t → ⊥) → frees n (s.at u) ≡ 1 → ⊥
   nobody_frees n file there u lu ne = not_freed c s good t lt n u lu (inl (ap is_removed there.shows ∙ there.linked))
 
@@ -134,7 +127,6 @@ module _ (c : Bounds) (s : TreeState) (good : TreeHolds c s) (t : ℕ) (lt : t <
         },
       )
 
-  -- a remove frees its file
   pub removes : (file : NodeWord) (n : ℕ) → AreWithin c → NobodyReads c s → s.at t ≡ Loaded file → n < c.nodes → s.node n ≡ word_of file →
       file.opens ≡ 0 →
       TreeHolds c (with_node s n 0 t (Freed file.size file.parent)) × TreeDoes c s.node (update s.node n 0) (Action.Remove n)
@@ -160,7 +152,6 @@ module _ (c : Bounds) (s : TreeState) (good : TreeHolds c s) (t : ℕ) (lt : t <
         },
       )
 
-  -- a remove marks its file, which is open
   pub marks_removed : (file : NodeWord) (n : ℕ) → AreWithin c → NobodyReads c s → s.at t ≡ Removing file → n < c.nodes →
       s.node n ≡ word_of file →
       TreeHolds c (with_node s n (word_of (unlinked_node file)) t (Returning file.parent)) ×
@@ -294,7 +285,6 @@ module _ (c : Bounds) (s : TreeState) (good : TreeHolds c s) (t : ℕ) (lt : t <
         },
       )
 
-  -- a flush
   pub flushes : (file : NodeWord) (n : ℕ) → AreWithin c → MayClean c s → s.at t ≡ Loaded file → n < c.nodes → s.node n ≡ word_of file →
       TreeHolds c (with_node s n (word_of (marked_node false file)) t Out) ×
       TreeDoes c s.node (update s.node n (word_of (marked_node false file))) (Action.Clean n)
@@ -302,7 +292,6 @@ module _ (c : Bounds) (s : TreeState) (good : TreeHolds c s) (t : ℕ) (lt : t <
       unmarks file n Out within (role_says c s good t lt (Loaded file) is) may (sym (ap charge is)) (sym (ap removal is)) (λ d. sym (ap (child_charge d) is)) ln
       found tt
 
-  -- an open
   pub opens_file : (file : NodeWord) (n : ℕ) → AreWithin c → s.at t ≡ Loaded file → n < c.nodes → s.node n ≡ word_of file →
       file.opens < 64 →
       TreeHolds c (with_node s n (word_of (opened_node file)) t Out) ×
@@ -398,7 +387,6 @@ module _ (c : Bounds) (s : TreeState) (good : TreeHolds c s) (t : ℕ) (lt : t <
         },
       )
 
-  -- a last close frees its node
   pub frees_file : (file : NodeWord) (n : ℕ) → AreWithin c → NobodyReads c s → NobodyElseFrees c s t n → s.at t ≡ Freeing n file →
       TreeHolds c (with_node s n 0 t (Dropped file.size)) × TreeDoes c s.node (update s.node n 0) (Action.Close n)
   frees_file file n within quiet alone is =

@@ -12,13 +12,11 @@ use Rattle.gated_tree.specs.{Trees.{is_child, HasDirectory, IsSound, IsClean}, d
 use Rattle.tree_laws.proofs.{Changes.{file_shows, unmarks}, Laws.{role_says, moves}}
 use Rattle.tree_laws.specs.Events.{turned, with_node, cleared_word, tree_shown, opens_shown, TreeDoes, MovesBy, MayClean, IsQuiet}
 
--- each parent, in range and a directory, is a directory
 parent_there : (nodes : ℕ) (node : ℕ → ℕ) (entry : Option NodeInfo) → HasParent nodes node entry →
     HasDirectory nodes (tree_shown node) entry
 parent_there nodes node None h = tt
 parent_there nodes node (Some info) h = h
 
--- a parent that is a directory in one tree is one in another that has the same nodes
 parent_loaded : (nodes : ℕ) (tree loaded : ℕ → Option NodeInfo) → ((n : ℕ) → n < nodes → loaded n ≡ tree n) → (entry : Option NodeInfo) →
     HasDirectory nodes tree entry → HasDirectory nodes loaded entry
 parent_loaded nodes tree loaded shows None h = tt
@@ -140,16 +138,13 @@ module _ (c : Bounds) (s : TreeState) (good : TreeHolds c s) where
           (ap tree_shown still, ap opens_shown still),
         )
 
-    -- a clearing is over: every node is clean
     pub clearing_ends : (n : ℕ) → c.nodes ≤ n → s.at t ≡ Clearing n → IsClean c.nodes (tree_shown s.node)
     clearing_ends n past is = λ x lx. role_says c s good t lt (Clearing n) is x (omega (arith, lx, past))
 
-    -- a snapshot begins
     pub snapshot_begins : (values : ℕ → ℕ) → s.at t ≡ Out → TreeHolds c (turned s t (Reading 0 values))
     snapshot_begins values is =
         moves c s good t lt (Reading 0 values) (sym (ap charge is)) (sym (ap removal is)) (λ d. sym (ap (child_charge d) is)) (λ i l. absurd (omega (arith, l)))
 
-    -- and loads its next word
     pub snapshot_loads : (k : ℕ) (values next : ℕ → ℕ) → s.at t ≡ Reading k values →
         seen_as c.nodes k (next k) ≡ seen_as c.nodes k (tree_word c.nodes s.used s.node s.kids k) →
         ((i : ℕ) → i < k → next i ≡ values i) → TreeHolds c (turned s t (Reading (suc k) next))

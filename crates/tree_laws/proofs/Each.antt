@@ -19,7 +19,6 @@ use Rattle.tree_laws.specs.Events.{Flushes, OpensFile, ClosesFile, FindsLast, Fr
 use Rattle.tree_laws.specs.Events.{Opens, BeginsReading, Reads}
 
 module _ (c : Bounds) (within : AreWithin c) (s : TreeState) (good : TreeHolds c s) (t : ℕ) (lt : t < c.tasks) where
-  -- the store that ends a clearing seals the tree
   pub clearing_seals : (n : ℕ) → c.nodes ≤ n → s.at t ≡ Clearing n → TreeHolds c (record (turned s t Out) { sealed = 1 })
   clearing_seals n past is =
       let left : TreeHolds c (turned s t Out) =
@@ -33,7 +32,6 @@ module _ (c : Bounds) (within : AreWithin c) (s : TreeState) (good : TreeHolds c
       leaves c s good t lt (record { blocks = ap charge is; removed = ap removal is; children = λ d. ap (child_charge d) is }) in
       goes_bare c (turned s t Out) left (role_says c s good t lt Bare is)
 
-  -- each event
   pub each_event : (next : TreeState) (action : Option Action) → Event c s t next action →
       TreeHolds c next × MovesBy c s.node next.node action
   each_event next action (FindsDirectory d dir is ld found) = (finds_directory c s good t lt d dir is ld found, (refl, refl))
@@ -85,7 +83,6 @@ opening_child : (d n : ℕ) → is_child d n (node_shown (update (λ x. 0) 0 2 n
 opening_child d zero = refl
 opening_child d (suc n) = ap (λ w. is_child d (suc n) (node_shown w)) (update_off (λ x. 0) 0 2 (suc n) (λ e. absurd (omega arith)))
 
--- the root alone
 pub opening_holds : (c : Bounds) → AreWithin c → TreeHolds c opening_tree
 opening_holds c within =
     let node : ℕ → ℕ = update (λ n. 0) 0 2 in
@@ -117,7 +114,6 @@ opening_holds c within =
       clean = λ e. absurd (omega (arith, e));
     }
 
--- so it holds of every tree that comes
 pub each_tree : (c : Bounds) → AreWithin c → (s : TreeState) → Comes c s → TreeHolds c s
 each_tree c within s Opening = opening_holds c within
 each_tree c within s (After before next t action comes lt event) =

@@ -18,15 +18,12 @@ use Rattle.tree_laws.specs.Ends.{where_done, remove_added, move_added, create_ad
 use Rattle.tree_laws.specs.Ends.{MoveKnows, SnapshotAnswers, SnapshotKnows, EndsWell, SeesMore, CreateEnds, RemoveEnds, GrowEnds, MoveEnds, MarkEnds, OpenEnds}
 use Rattle.tree_laws.specs.Ends.{SnapshotEnds}
 
--- two tests that are passed
 both : (a b : Bool) → a ≡ true → b ≡ true → (a && b) ≡ true
 both a b x y = rw (x, y) refl
 
--- a number is itself
 here : (n : ℕ) → (n == n) ≡ true
 here n = eq-eqb n n refl
 
--- a test that is not passed
 missed : (b : Bool) → b ≡ false → not b ≡ true
 missed b e = rw e refl
 
@@ -42,7 +39,6 @@ module _ (Seen More : (Event → Bool) → Type 0) where
   look_ends Knows added IsOne IsHonest adds again to actions (Some (Ok node)) stays found refused = found node refl
   look_ends Knows added IsOne IsHonest adds again to actions (Some (Err refusal)) stays found refused = refused refusal refl
 
-  -- each event of a create
   create_seen : (x : Create) (node value : ℕ) → CreateKnows Seen x (CreateStep.LoadsNode node) →
       SeesMore Seen More (event_of (create_next x (CreateStep.LoadsNode node)).0 (create_next x (CreateStep.LoadsNode node)).1 value) →
       (r : Option NodeWord) → unpacked value ≡ r →
@@ -97,7 +93,6 @@ module _ (Seen More : (Event → Bool) → Type 0) where
     | inr e ↦ rw e.0 (tt, refl)
   ]
 
-  -- each event of a remove
   pub remove_ends : (x : Remove) (step : RemoveStep) (value : ℕ) → RemoveKnows Seen x step →
       SeesMore Seen More (event_of (remove_next x step).0 (remove_next x step).1 value) →
       RemoveEnds More x step (found_by (remove_next x step).1 value)
@@ -131,7 +126,6 @@ module _ (Seen More : (Event → Bool) → Type 0) where
   remove_ends x (RemoveStep.RefundsBlocks file) value knows sees = (tt, refl)
   remove_ends x (RemoveStep.RefundsChild file) value knows sees = (refl, refl)
 
-  -- each event of a grow
   pub grow_ends : (x : Grow) (step : GrowStep) (value : ℕ) → GrowKnows Seen x step →
       SeesMore Seen More (event_of (grow_next x step).0 (grow_next x step).1 value) →
       GrowEnds More x step (found_by (grow_next x step).1 value)
@@ -177,7 +171,6 @@ module _ (Seen More : (Event → Bool) → Type 0) where
   ]
   grow_ends x GrowStep.RefundsBlocks value knows sees = (inl (sees.earlier finds_other knows), refl)
 
-  -- a move that answers
   move_answers : (x : MoveTo) (answer : Result Reply GateError) (e : Event) → MoveAnswers Seen answer → SeesMore Seen More e →
       EndsWell (λ (y : MoveTo). MoveKnows More y y.step) (λ y. move_added y y.step) (IsReply Reply.Unit) (MoveHonest More x)
       (where_done (Action.MoveTo x.file x.dir)) (Next.Done answer) (where_done (Action.MoveTo x.file x.dir) answer)
@@ -185,7 +178,6 @@ module _ (Seen More : (Event → Bool) → Type 0) where
   move_answers x (Err GateError.Again) e knows sees = (sees.earlier finds_other knows, refl)
   move_answers x (Err refusal) e knows sees = absurd knows
 
-  -- each event of a move
   pub move_ends : (x : MoveTo) (step : MoveStep) (value : ℕ) → MoveKnows Seen x step →
       SeesMore Seen More (event_of (move_next x step).0 (move_next x step).1 value) →
       MoveEnds More x step (found_by (move_next x step).1 value)
@@ -244,7 +236,6 @@ module _ (Seen More : (Event → Bool) → Type 0) where
         rw e.0 (other, refl)
   ]
 
-  -- each event of an open
   pub open_ends : (x : OpenFile) (step : OpenStep) (value : ℕ) →
       SeesMore Seen More (event_of (open_next x step).0 (open_next x step).1 value) →
       OpenEnds More x step (found_by (open_next x step).1 value)
@@ -289,7 +280,6 @@ module _ (Seen More : (Event → Bool) → Type 0) where
   kids_know x (Some node) = tt
   kids_know x None = refl
 
-  -- each event of a snapshot
   pub snapshot_ends : (x : Snapshot) (step : SnapshotStep) (value : ℕ) → SnapshotKnows Seen x step →
       SeesMore Seen More (event_of (snapshot_next x step).0 (snapshot_next x step).1 value) →
       SnapshotEnds More x step (found_by (snapshot_next x step).1 value)

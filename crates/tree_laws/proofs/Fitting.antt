@@ -30,14 +30,12 @@ module _ (c : Bounds) (within : AreWithin c) (t : ℕ) where
   either to true x y f g = f
   either to false x y f g = g
 
-  -- a create that looks at the next node
   past_fits : (x : Create) (node : ℕ) → x.dir < c.nodes → x.nodes ≡ c.nodes → NextFits c t (map_next TreePhase.Create (create_past x node))
   past_fits x node d same = elim (cases_lt (node + 1) x.nodes) [
     | inl l ↦ rw (lt-ltb (node + 1) x.nodes l) (d, same, omega (arith, l, same))
     | inr l ↦ rw (le-ltb (node + 1) x.nodes l) tt
   ]
 
-  -- a create that looked at a node
   seen_fits : (x : Create) (node : ℕ) → x.dir < c.nodes → x.nodes ≡ c.nodes → node < c.nodes → (found : Option NodeWord) →
       NextFits c t (map_next TreePhase.Create (create_looked x node found))
   seen_fits x node d same n None = (d, same, n)
@@ -55,7 +53,6 @@ module _ (c : Bounds) (within : AreWithin c) (t : ℕ) where
   create_fits x (CreateStep.TakesNode node) found d same fits = either TreePhase.Create (found == 0) _ _ tt (d, same, tt)
   create_fits x CreateStep.RefundsChild found d same fits = tt
 
-  -- a remove that is to free its file, or to mark it
   removes_fits : (file : NodeWord) (opens : ℕ) → opens ≡ file.opens → file.parent < 64 → RemoveStepFits (removes_file file opens)
   removes_fits file opens same narrow = elim (eqb_tells opens 0) [
     | inl e ↦ rw e.0 (narrow, sym same ∙ e.1)
@@ -102,7 +99,6 @@ module _ (c : Bounds) (within : AreWithin c) (t : ℕ) where
       looked_fits TreePhase.Mark (at_mark x MarkStep.LoadsFile) (λ file. at_mark x (MarkStep.MarksFile file)) (file_in found) n (λ file e. n)
   mark_fits x (MarkStep.MarksFile file) found n = either TreePhase.Mark (found == word_of file) _ _ tt tt
 
-  -- an open that found its file
   opens_fits : (file : NodeWord) → OpenStepFits (opens_from file (nat_lt file.opens 64))
   opens_fits file = elim (cases_lt file.opens 64) [
     | inl l ↦ rw (lt-ltb file.opens 64 l) l
@@ -121,7 +117,6 @@ module _ (c : Bounds) (within : AreWithin c) (t : ℕ) where
   locked_out_fits x true own same = (own, same, tt)
   locked_out_fits x false own same = tt
 
-  -- a snapshot that goes on to the next node, or past the last one
   node_fits : (node nodes : ℕ) → nodes ≡ c.nodes → SnapshotStepFits c (node_step (node_after node nodes))
   node_fits node nodes same = elim (cases_lt (node + 1) nodes) [
     | inl l ↦ rw (lt-ltb (node + 1) nodes l) (omega (arith, l, same))

@@ -12,7 +12,6 @@ use Rattle.gated_tree.specs.Roles.{MayDirty}
 use Rattle.gated_tree.specs.{Trees.{is_same, has_parent, is_child}, declared.nodes.NodeWord.NodeWord}
 use Rattle.tree_laws.specs.Events.{turned, with_node}
 
--- a number is itself, and no other
 pub same_here : (d : ℕ) → is_same d d ≡ 1
 same_here d = rw (eq-eqb d d refl)
 
@@ -48,7 +47,6 @@ role_kept c used used' removed removed' node node' kids kids' dirs (Freeing n fi
 role_kept c used used' removed removed' node node' kids kids' dirs Bare clean read word bare h = bare (omega arith) h
 role_kept c used used' removed removed' node node' kids kids' dirs _ clean read word bare h = h
 
--- a role that is to free this node is just that
 freeing_is : (c : Bounds) (used removed : ℕ) (node kids : ℕ → ℕ) (n : ℕ) (r : Role) → frees n r ≡ 1 → RoleHolds c used removed node kids r →
     (file : NodeWord) × (n < c.nodes) × IsLastOpen node n file
 freeing_is c used removed node kids n (Freeing m file) e h = elim (eqb_tells m n) [
@@ -82,7 +80,6 @@ module _ (c : Bounds) (s : TreeState) (good : TreeHolds c s) (t : ℕ) (lt : t <
   pub role_says : (r : Role) → s.at t ≡ r → RoleHolds c s.used s.removed s.node s.kids r
   role_says r e = subst (RoleHolds c s.used s.removed s.node s.kids) e (good.roles t lt)
 
-  -- no other task is to free a node that isn't removed, or that not just one task has open
   pub not_freed : (n u : ℕ) → u < c.tasks → (is_removed (node_shown (s.node n)) ≡ false) ⊎ (opens_in (s.node n) ≡ 1 → ⊥) →
       frees n (s.at u) ≡ 1 → ⊥
   not_freed n u lu other e =
@@ -121,7 +118,6 @@ module _ (c : Bounds) (s : TreeState) (good : TreeHolds c s) (t : ℕ) (lt : t <
     clean = good.clean;
   }
 
-  -- `used` and the counts of children change so
   pub counts_change : (r : Role) (u : ℕ) (k : ℕ → ℕ) → u + charge (s.at t) ≡ s.used + charge r → u ≤ c.capacity →
       removal r ≡ removal (s.at t) →
       ((d : ℕ) → d < c.nodes → k d + child_charge d (s.at t) ≡ s.kids d + child_charge d r) →

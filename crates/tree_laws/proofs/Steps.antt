@@ -55,16 +55,13 @@ module _ (c : Bounds) (within : AreWithin c) (sealed bare : ℕ) (w : Words) (at
     (ap (λ s. tree_shown s.node) (same_tree sealed bare w at name), ap (λ s. opens_shown s.node) (same_tree sealed bare w at name)),
   )
 
-  -- an event of the tree, among all words
   pub as_event : (event : WordName × Touch) (role : Role) (action : Option Action) →
       Event c here t (tree_in sealed bare (words_left w event) (update at t role)) action → EventKeeps c sealed bare w at t event role action
   as_event event role action e = each_event c within here good t lt _ action e
 
-  -- a task at a role that charges nothing
   pub ends_free : (role : Role) → at t ≡ role → HasNoCharge role → TreeHolds c (turned here t Out)
   ends_free role is free = leaves c here good t lt (subst HasNoCharge (sym is) free)
 
-  -- and at a role that it keeps
   pub stays_at : (role : Role) → at t ≡ role → TreeHolds c (turned here t role)
   stays_at role is = subst (λ r. TreeHolds c (turned here t r)) is (looks c here good t lt)
 
@@ -76,7 +73,6 @@ module _ (c : Bounds) (within : AreWithin c) (sealed bare : ℕ) (w : Words) (at
   looked role again to is free (Some (Ok node)) found = found node refl
   looked role again to is free (Some (Err refusal)) found = ends_free (role again) is free
 
-  -- nothing is charged
   out_free : HasNoCharge Out
   out_free = record { blocks = refl; removed = refl; children = λ d. refl }
 
@@ -92,20 +88,17 @@ module _ (c : Bounds) (within : AreWithin c) (sealed bare : ℕ) (w : Words) (at
   looks_on x is None = ends_free (Found x.dir) is (found_free x.dir)
   looks_on x is (Some node) = stays_at (Found x.dir) is
 
-  -- a create that found a node of this kind
   kind_found : (x : Create) (node : ℕ) → at t ≡ Found x.dir → (kind : Option Kind) →
       let next : Next Create = if is_some kind then create_past x node else Next.Go (at_create x (CreateStep.ChargesChild node)) in
       TreeHolds c (turned here t (role_after (λ y. create_role y y.step) next))
   kind_found x node is None = stays_at (Found x.dir) is
   kind_found x node is (Some kind) = looks_on x is (node_after node x.nodes)
 
-  -- a create that looked at a node
   looked_at : (x : Create) (node : ℕ) → at t ≡ Found x.dir → (found : Option NodeWord) →
       TreeHolds c (turned here t (role_after (λ y. create_role y y.step) (create_looked x node found)))
   looked_at x node is None = stays_at (Found x.dir) is
   looked_at x node is (Some found) = kind_found x node is found.kind
 
-  -- each event of a create
   pub create_step : (x : Create) (step : CreateStep) → x.dir < c.nodes → CreateStepFits c step → NobodyReads c here →
       at t ≡ create_role x step →
       EventKeeps c sealed bare w at t (create_next x step)
@@ -124,7 +117,6 @@ module _ (c : Bounds) (within : AreWithin c) (sealed bare : ℕ) (w : Words) (at
   ]
   create_step x CreateStep.RefundsChild ld fits quiet is = as_event (create_next x CreateStep.RefundsChild) _ _ (SubtractsChild x.dir quiet is)
 
-  -- a remove that is to free its file, or to mark it
   removes_role : (x : Remove) (file : NodeWord) (opens : ℕ) → remove_role x (removes_file file opens) ≡ Loaded file
   removes_role x file opens = elim (eqb_tells opens 0) [ inl e ↦ rw e.0 refl | inr e ↦ rw e.0 refl ]
 
@@ -167,7 +159,6 @@ module _ (c : Bounds) (within : AreWithin c) (sealed bare : ℕ) (w : Words) (at
     ])
   ]
 
-  -- each event of a grow
   pub grow_step : (x : Grow) (step : GrowStep) → x.file < c.nodes → 1 ≤ x.blocks → x.capacity ≡ c.capacity → NobodyReads c here →
       MayDirty c here →
       at t ≡ grow_role x step →
@@ -194,7 +185,6 @@ module _ (c : Bounds) (within : AreWithin c) (sealed bare : ℕ) (w : Words) (at
   ]
   grow_step x GrowStep.RefundsBlocks ln some same quiet may is = as_event (grow_next x GrowStep.RefundsBlocks) _ _ (TakesBack x.blocks quiet is)
 
-  -- each event of a move
   pub move_step : (x : MoveTo) (step : MoveStep) → x.file < c.nodes → x.dir < c.nodes → NobodyReads c here → at t ≡ move_role x step →
       EventKeeps c sealed bare w at t (move_next x step)
       (role_after (λ y. move_role y y.step) (move_after x step (found_at w (move_next x step))).0)
@@ -245,7 +235,6 @@ module _ (c : Bounds) (within : AreWithin c) (sealed bare : ℕ) (w : Words) (at
   opens_role x file true is found = found
   opens_role x file false is found = stays_at Out is
 
-  -- each event of an open
   pub open_step : (x : OpenFile) (step : OpenStep) → x.file < c.nodes → OpenStepFits step → at t ≡ open_role x step →
       EventKeeps c sealed bare w at t (open_next x step)
       (role_after (λ y. open_role y y.step) (open_after x step (found_at w (open_next x step))).0)

@@ -12,7 +12,6 @@ use Rattle.gated_tree.specs.declared.{marks.ClearMarks.ClearMarks, snapshots.{Sn
 use Rattle.tree_laws.proofs.{Clearings.{clears, passes, snapshot_begins, snapshot_loads}, Counts.leaves, Steps.{leaves_word, ends_free, stays_at}}
 use Rattle.tree_laws.specs.{Events.{turned, MayClean}, Steps.{tree_in, words_left, found_at, EventKeeps, NotesLoad}}
 
--- of two changes of one place the second stands
 update_twice : {A : Type 0} (f : ℕ → A) (t : ℕ) (a b : A) → update (update f t a) t b ≡ update f t b
 update_twice f t a b = fun_ext (λ x. elim (eqb_tells x t) [
   | inl h ↦ rw (h.0, update) refl
@@ -65,7 +64,6 @@ module _ (c : Bounds) (within : AreWithin c) (sealed bare : ℕ) (w : Words) (at
   locked_out x noted true is = stays_at c within sealed bare w at good t lt Out is
   locked_out x noted false is = stays_at c within sealed bare w at good t lt Out is
 
-  -- each event of a snapshot
   pub snapshot_step : (x : Snapshot) (step : SnapshotStep) (values noted : ℕ → ℕ) → x.nodes ≡ c.nodes → SnapshotStepFits c step →
       at t ≡ snapshot_role x.nodes values step → NotesLoad x.nodes step values noted (found_at w (snapshot_next x step)) →
       EventKeeps c sealed bare w at t (snapshot_next x step)
