@@ -1,22 +1,16 @@
 -- a grace period is whole: each section that was under way at its beginning has ended at its end
 use Rattle.std.proofs.Common.{◌≡◌, ℕ, zero, suc, false, ◌+◌, ◌-◌, ◌%◌, ◌<◌, ◌≤◌, refl, sym, ap, subst, ◌∙◌, inl, inr, arith}
-use Rattle.std.specs.Prelude.{Option, Some, None, ◌==◌, ◌&&◌, ◌⊎◌, nat_lt}
 use Rattle.std.proofs.lemmas.Bool.Decides.{eqb_tells, nat_tests}
-use Rattle.finite_sums.specs.Sums.{update}
-use Rattle.finite_sums.proofs.Totals.{update_off}
+use Rattle.std.specs.Prelude.{Option, Some, None, ◌==◌, ◌&&◌, ◌⊎◌, nat_lt}
+use Rattle.finite_sums.{proofs.Totals.update_off, specs.Sums.update}
 use Rattle.cpu_words.specs.Touches.{wrap_add}
-use Rattle.percpu_rwsem.specs.declared.grace.Grace.{Grace}
-use Rattle.percpu_rwsem.specs.declared.grace.GraceNext.{GraceNext}
-use Rattle.percpu_rwsem.specs.declared.grace.GraceNext.TheVariants.{More, Wait, Ended}
-use Rattle.percpu_rwsem.specs.declared.sync_word.GpState.{GpState}
-use Rattle.percpu_rwsem.specs.declared.sync_word.GpState.TheVariants.{Idle, Enter, Passed, Exit, Replay}
-use Rattle.percpu_rwsem.specs.Graces.{is_first, started, looked}
-use Rattle.level_laws.specs.Roles.{SyncRole, Out, Fast, Waiting, Past, Entered, Closed, Claimed, Ready, entering, claimed}
+use Rattle.percpu_rwsem.specs.{Graces.{is_first, started, looked}, declared.{grace.{Grace.Grace, GraceNext.GraceNext}, sync_word.GpState.GpState}}
+use Rattle.level_laws.proofs.{EventLaws.{by_test, waits_entering, claims_claimed}, Runs.run_is_right}
 use Rattle.level_laws.specs.Changes.{state_found, role_found, waits, claims}
-use Rattle.level_laws.specs.Events.{SyncLevel, SyncLevelHolds, SyncEvent, TurnsSection, FindsIdle, AddsFast, Enters, Looks, Passes, Swaps, Opens, Exits, Claims, LooksClaimed, Calls, Freezes, Thaws, Stays, Happens, SyncStep, SyncRun}
+use Rattle.level_laws.specs.Events.{SyncLevel, SyncLevelHolds, SyncEvent, TurnsSection, FindsIdle, AddsFast, Enters, Looks, Passes, Swaps, Opens, Exits, Claims}
+use Rattle.level_laws.specs.Events.{LooksClaimed, Calls, Freezes, Thaws, Stays, Happens, SyncStep, SyncRun}
 use Rattle.level_laws.specs.Laws.{OutsideSince, WholeGrace, GracesAreWhole}
-use Rattle.level_laws.proofs.EventLaws.{by_test, waits_entering, claims_claimed}
-use Rattle.level_laws.proofs.Runs.{run_is_right}
+use Rattle.level_laws.specs.Roles.{SyncRole, Out, Fast, Waiting, Past, Entered, Closed, Claimed, Ready, entering, claimed}
 
 -- an event that changes the section word of a task begins or ends its section
 event_turns : (tasks t : ℕ) → (l l' : SyncLevel) (k : SyncEvent) → Happens tasks t l l' k → (u : ℕ) → l.inside u ≤ 1 →
@@ -74,11 +68,11 @@ quiet tasks l l' t r e c h = Quiet (ap entering h ∙ e) (ap claimed h ∙ c)
 -- an enter begins a grace period in GP_IDLE, and else none
 found_turn : (tasks : ℕ) (l l' : SyncLevel) (t : ℕ) (o : Option GpState) → l'.at t ≡ role_found tasks o → Turn tasks l l' t
 found_turn tasks l l' t None h = quiet tasks l l' t Out refl refl h
-found_turn tasks l l' t (Some Idle) h = Starts h
-found_turn tasks l l' t (Some Enter) h = quiet tasks l l' t Entered refl refl h
-found_turn tasks l l' t (Some Passed) h = quiet tasks l l' t Entered refl refl h
-found_turn tasks l l' t (Some Exit) h = quiet tasks l l' t Entered refl refl h
-found_turn tasks l l' t (Some Replay) h = quiet tasks l l' t Entered refl refl h
+found_turn tasks l l' t (Some GpState.Idle) h = Starts h
+found_turn tasks l l' t (Some GpState.Enter) h = quiet tasks l l' t Entered refl refl h
+found_turn tasks l l' t (Some GpState.Passed) h = quiet tasks l l' t Entered refl refl h
+found_turn tasks l l' t (Some GpState.Exit) h = quiet tasks l l' t Entered refl refl h
+found_turn tasks l l' t (Some GpState.Replay) h = quiet tasks l l' t Entered refl refl h
 
 -- what each kind of event makes of one role
 event_turn : (tasks s : ℕ) → (l l' : SyncLevel) (k : SyncEvent) → Happens tasks s l l' k → (t : ℕ) → Turn tasks l l' t
@@ -144,9 +138,9 @@ Under tasks m t start kind i g =
 
 -- what is said of the past where a load of a section word led to this
 abbrev NextSays : ℕ → (ℕ → SyncLevel) → ℕ → SyncRole → (SyncRole → ℕ) → ℕ → GraceNext → Type 0
-NextSays tasks m t start kind i (More g) = Under tasks m t start kind i g
-NextSays tasks m t start kind i (Wait g) = Under tasks m t start kind i g
-NextSays tasks m t start kind i Ended = WholeGrace tasks m t i start kind
+NextSays tasks m t start kind i (GraceNext.More g) = Under tasks m t start kind i g
+NextSays tasks m t start kind i (GraceNext.Wait g) = Under tasks m t start kind i g
+NextSays tasks m t start kind i GraceNext.Ended = WholeGrace tasks m t i start kind
 
 -- what a role says of the past
 abbrev Says : ℕ → (ℕ → SyncLevel) → ℕ → ℕ → SyncRole → Type 0
@@ -159,16 +153,16 @@ Says tasks m t i r = Unit {0}
 -- the role that the load leads to says the same, of a writer
 waits_says : (tasks : ℕ) (m : ℕ → SyncLevel) (t i : ℕ) (n : GraceNext) → NextSays tasks m t (Waiting (started tasks)) entering i n →
     Says tasks m t i (waits n)
-waits_says tasks m t i (More g) h = h
-waits_says tasks m t i (Wait g) h = h
-waits_says tasks m t i Ended h = h
+waits_says tasks m t i (GraceNext.More g) h = h
+waits_says tasks m t i (GraceNext.Wait g) h = h
+waits_says tasks m t i GraceNext.Ended h = h
 
 -- and of a callback
 claims_says : (tasks : ℕ) (m : ℕ → SyncLevel) (t i : ℕ) (n : GraceNext) → NextSays tasks m t (Claimed (started tasks)) claimed i n →
     Says tasks m t i (claims n)
-claims_says tasks m t i (More g) h = h
-claims_says tasks m t i (Wait g) h = h
-claims_says tasks m t i Ended h = h
+claims_says tasks m t i (GraceNext.More g) h = h
+claims_says tasks m t i (GraceNext.Wait g) h = h
+claims_says tasks m t i GraceNext.Ended h = h
 
 -- a role that is in no grace period says nothing
 quiet_says : (tasks : ℕ) (m : ℕ → SyncLevel) (t i : ℕ) (r : SyncRole) → entering r ≡ 0 → claimed r ≡ 0 → Says tasks m t i r

@@ -1,10 +1,7 @@
 -- an event of the layer above, as it is seen at one level
-use Rattle.std.proofs.Common.{◌≡◌, ℕ, refl}
-use Rattle.std.proofs.Math.Path.{fun_ext}
-use Rattle.finite_sums.specs.Sums.{update}
-use Rattle.finite_sums.proofs.Totals.{each_updated, update_map}
-use Rattle.level_laws.specs.Roles.{SyncRole}
-use Rattle.level_laws.specs.Levels.{level_of}
+use Rattle.std.proofs.{Common.{◌≡◌, ℕ, refl}, Math.Path.fun_ext}
+use Rattle.finite_sums.{proofs.Totals.{each_updated, update_map}, specs.Sums.update}
+use Rattle.level_laws.specs.{Levels.level_of, Roles.SyncRole}
 
 -- what is read of the views stays where it stays of the one that changes
 pub read_same : {A B : Type 0} (f : A → B) (at : ℕ → A) (t : ℕ) (v : A) → f v ≡ f (at t) →

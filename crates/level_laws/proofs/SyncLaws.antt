@@ -1,15 +1,9 @@
 -- one level: what its predicate says, and how it is kept where one task's role changes
-use Rattle.std.proofs.Common.{◌≡◌, ℕ, true, false, ◌+◌, ◌<◌, ◌≤◌, refl, ◌∙◌, arith}
-use Rattle.std.specs.Prelude.{Bool, Option, Some, None}
-use Rattle.std.proofs.lemmas.Bool.Decides.{nat_tests}
-use Rattle.finite_sums.specs.Sums.{update, total}
-use Rattle.finite_sums.proofs.Totals.{update_off, each_updated, total_updated, total_le, total_add, total_at}
-use Rattle.percpu_rwsem.specs.declared.sync_word.GpState.{GpState}
-use Rattle.percpu_rwsem.specs.declared.sync_word.GpState.TheVariants.{Idle, Enter, Passed, Exit, Replay}
-use Rattle.percpu_rwsem.specs.declared.sync_word.SyncWord.{SyncWord}
-use Rattle.percpu_rwsem.specs.SyncWords.{bit, is_lawful}
-use Rattle.percpu_rwsem.proofs.SyncWords.{bit_small}
-use Rattle.level_laws.specs.Roles.{SyncRole, Fast, Waiting, Past, Entered, Closed, fast, entering, entered, closed, claimed, enter_bit, idle_bit, StillFirst, RoleHolds, SyncHolds}
+use Rattle.std.{proofs.{Common.{◌≡◌, ℕ, true, false, ◌+◌, ◌<◌, ◌≤◌, refl, ◌∙◌, arith}, lemmas.Bool.Decides.nat_tests}, specs.Prelude.{Bool, Option, Some, None}}
+use Rattle.finite_sums.{proofs.Totals.{update_off, each_updated, total_updated, total_le, total_add, total_at}, specs.Sums.{update, total}}
+use Rattle.percpu_rwsem.{proofs.SyncWords.bit_small, specs.{SyncWords.{bit, is_lawful}, declared.sync_word.{GpState.GpState, SyncWord.SyncWord}}}
+use Rattle.level_laws.specs.Roles.{SyncRole, Fast, Waiting, Past, Entered, Closed, fast, entering, entered, closed, claimed, enter_bit, idle_bit, StillFirst}
+use Rattle.level_laws.specs.Roles.{RoleHolds, SyncHolds}
 
 -- what a lawful word with a count of at most 1 says in numbers
 pub record LawfulSays (s : GpState) (t : Bool) (c : ℕ) : Type 0 where
@@ -19,16 +13,16 @@ pub record LawfulSays (s : GpState) (t : Bool) (c : ℕ) : Type 0 where
 
 -- a lawful word says it, whatever its state
 pub lawful_says : (s : GpState) (t : Bool) (c : ℕ) → c ≤ 1 → is_lawful s t c ≡ true → LawfulSays s t c
-lawful_says Idle true c l h = cc
-lawful_says Idle false c l h = record { idle = grind (arith, nat_tests); enter = omega arith; free = omega arith }
-lawful_says Enter true c l h = cc
-lawful_says Enter false c l h = record { idle = omega arith; enter = grind (arith, nat_tests); free = omega arith }
-lawful_says Passed true c l h = cc
-lawful_says Passed false c l h = record { idle = omega arith; enter = omega arith; free = omega arith }
-lawful_says Exit true c l h = record { idle = omega arith; enter = omega arith; free = omega arith }
-lawful_says Exit false c l h = record { idle = omega arith; enter = omega arith; free = omega arith }
-lawful_says Replay true c l h = record { idle = omega arith; enter = omega arith; free = omega arith }
-lawful_says Replay false c l h = record { idle = omega arith; enter = omega arith; free = omega arith }
+lawful_says GpState.Idle true c l h = cc
+lawful_says GpState.Idle false c l h = record { idle = grind (arith, nat_tests); enter = omega arith; free = omega arith }
+lawful_says GpState.Enter true c l h = cc
+lawful_says GpState.Enter false c l h = record { idle = omega arith; enter = grind (arith, nat_tests); free = omega arith }
+lawful_says GpState.Passed true c l h = cc
+lawful_says GpState.Passed false c l h = record { idle = omega arith; enter = omega arith; free = omega arith }
+lawful_says GpState.Exit true c l h = record { idle = omega arith; enter = omega arith; free = omega arith }
+lawful_says GpState.Exit false c l h = record { idle = omega arith; enter = omega arith; free = omega arith }
+lawful_says GpState.Replay true c l h = record { idle = omega arith; enter = omega arith; free = omega arith }
+lawful_says GpState.Replay false c l h = record { idle = omega arith; enter = omega arith; free = omega arith }
 
 -- a task is on the fast path once at most
 pub fast_small : (r : SyncRole) → fast r ≤ 1
