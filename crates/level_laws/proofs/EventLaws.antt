@@ -33,7 +33,6 @@ not_waiting section at j found (Some first) h s f e =
       | inr q ↦ omega (arith, q.1, fast_small (at j))
     ]
 
--- a fact about both sides of a test
 pub by_test : {A : Type 0} (P : A → Type 0) (b : Bool) (x y : A) → (b ≡ true → P x) → (b ≡ false → P y) → P (if b then x else y)
 by_test P true x y f g = f refl
 by_test P false x y f g = g refl
@@ -81,7 +80,6 @@ module _ (tasks : ℕ) (word : SyncWord) (block full : ℕ) (section : ℕ → �
       (omega arith) blocked slow
       (λ e. omega (arith, good.slow e, total_at tasks t (λ x. fast (at x)) lt)) own
 
-  -- a reader that finds GP_IDLE is on the fast path
   pub finds_idle : at t ≡ Out → word.state ≡ GpState.Idle → SyncHolds tasks word block full section (update at t Fast)
   finds_idle out idle =
       let i : idle_bit word.state ≡ 1 = ap idle_bit idle in
@@ -98,7 +96,6 @@ module _ (tasks : ℕ) (word : SyncWord) (block full : ℕ) (section : ℕ → �
         blocked = omega (arith, good.blocked, ap closed out, total_updated closed tasks t at Fast lt);
       }
 
-  -- who is on the fast path finds GP_IDLE or GP_ENTER, and the block clear
   pub fast_finds : fast (at t) ≡ 1 → (idle_bit word.state + enter_bit word.state ≡ 1) × (block ≡ 0) × (full ≡ 0)
   fast_finds e =
       let some : 1 ≤ total tasks (λ x. fast (at x)) = omega (arith, total_at tasks t (λ x. fast (at x)) lt) in
@@ -109,7 +106,6 @@ module _ (tasks : ℕ) (word : SyncWord) (block full : ℕ) (section : ℕ → �
       let o : (block ≡ 0) × (full ≡ 0) = open_while_fast tasks word block full section at good q in
       (q, o.0, o.1)
 
-  -- the addition on the fast path
   pub fast_adds : at t ≡ Fast → SyncHolds tasks word block full section (update at t Out)
   fast_adds f = role_moves Out block full (omega (arith, ap entered f)) (sym (ap entering f)) (sym (ap claimed f))
       (omega (arith, ap closed f)) refl tt
@@ -145,7 +141,6 @@ module _ (tasks : ℕ) (word : SyncWord) (block full : ℕ) (section : ℕ → �
       (omega (arith, w, ap closed here)) w.4
       (looked_says section at tasks g f h)
 
-  -- a load of a section word by a callback in its grace period
   pub callback_looks : (g : Grace) (n : GraceNext) → at t ≡ Claimed g → SyncHolds tasks word block full section (update at t (claims n))
   callback_looks g n here =
       let w = claims_claimed n in
@@ -192,7 +187,6 @@ module _ (tasks : ℕ) (word : SyncWord) (block full : ℕ) (section : ℕ → �
       (λ x. entered (update at t Out x)) = parts_of tasks (update at t Out) in
       (omega (arith, s, good), omega (arith, s, good), omega (arith, s, good, p), omega (arith, s, good, p))
 
-  -- the swap of the block, which finds it clear
   pub swap_keeps : at t ≡ Entered → (block ≡ 0) × SyncHolds tasks word 1 full section (update at t Closed)
   swap_keeps here =
       let f = entered_finds (ap entered here) (ap entering here) in
@@ -202,7 +196,6 @@ module _ (tasks : ℕ) (word : SyncWord) (block full : ℕ) (section : ℕ → �
             (omega (arith, b, ap closed here)) refl tt,
       )
 
-  -- the store of 0, which finds the block set
   pub open_keeps : at t ≡ Closed → (block ≡ 1) × SyncHolds tasks word 0 full section (update at t Entered)
   open_keeps here =
       let f = entered_finds (ap entered here) (ap entering here) in
@@ -242,7 +235,6 @@ module _ (tasks : ℕ) (word : SyncWord) (block full : ℕ) (section : ℕ → �
             (omega (arith, ap closed out)) refl (λ h. omega (arith, ap fast out, good.slow h)) tt,
       )
 
-  -- a callback that has claimed finds the callback taken
   pub ready_finds : at t ≡ Ready → Calls word.state word.taken word.count
   ready_finds ready =
       let b : bit word.taken ≡ 1 =
@@ -267,7 +259,6 @@ module _ (tasks : ℕ) (word : SyncWord) (block full : ℕ) (section : ℕ → �
             (omega (arith, ap closed ready)) refl (λ h. omega (arith, ap fast ready, good.slow e.before)) tt,
       )
 
-  -- a freeze is over, and keeps the level closed; a thaw takes it over
   pub freeze_keeps : at t ≡ Closed → (full ≡ 0) × SyncHolds tasks word block 1 section (update at t Out)
   freeze_keeps here =
       let f = entered_finds (ap entered here) (ap entering here) in (
@@ -276,12 +267,10 @@ module _ (tasks : ℕ) (word : SyncWord) (block full : ℕ) (section : ℕ → �
             (omega (arith, ap closed here, f.1)) refl tt,
       )
 
-  -- a thaw takes over a level that is frozen
   pub thaw_keeps : at t ≡ Out → full ≡ 1 → SyncHolds tasks word block 0 section (update at t Closed)
   thaw_keeps out k = role_moves Closed block 0 (omega (arith, ap entered out)) (sym (ap entering out)) (sym (ap claimed out))
       (omega (arith, ap closed out)) refl tt
 
-  -- an event on a section word, by a task that is not on the fast path
   pub section_keeps : (value : ℕ) → fast (at t) ≡ 0 → SyncHolds tasks word block full (update section t value) at
   section_keeps value slow = record {
     lawful = good.lawful;

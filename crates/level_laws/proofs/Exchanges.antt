@@ -17,7 +17,6 @@ load_shows : (makes : SyncWord → Option SyncWord) (found : ℕ) (o : Option Sy
 load_shows makes found None e = (refl, tt)
 load_shows makes found (Some from) e = exchange_shows makes found from (makes from) e refl
 
--- a load or an exchange
 pub exchanges_make_transitions : ExchangesMakeTransitions
 exchanges_make_transitions makes level found Transition.Loads known = load_shows makes found (unpack found) refl
 exchanges_make_transitions makes level found (Transition.Exchanges from to) known =

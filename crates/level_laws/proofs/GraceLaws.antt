@@ -61,11 +61,9 @@ turned tasks s l l' r t e f =
       | inr h ↦ Same (ap (λ (x : ℕ → SyncRole). x t) e ∙ update_off l.at s r t h.1)
     ]
 
--- a role that is in no grace period is quiet
 quiet : (tasks : ℕ) (l l' : SyncLevel) (t : ℕ) (r : SyncRole) → entering r ≡ 0 → claimed r ≡ 0 → l'.at t ≡ r → Turn tasks l l' t
 quiet tasks l l' t r e c h = Quiet (ap entering h ∙ e) (ap claimed h ∙ c)
 
--- an enter begins a grace period in GP_IDLE, and else none
 found_turn : (tasks : ℕ) (l l' : SyncLevel) (t : ℕ) (o : Option GpState) → l'.at t ≡ role_found tasks o → Turn tasks l l' t
 found_turn tasks l l' t None h = quiet tasks l l' t Out refl refl h
 found_turn tasks l l' t (Some GpState.Idle) h = Starts h
@@ -74,7 +72,6 @@ found_turn tasks l l' t (Some GpState.Passed) h = quiet tasks l l' t Entered ref
 found_turn tasks l l' t (Some GpState.Exit) h = quiet tasks l l' t Entered refl refl h
 found_turn tasks l l' t (Some GpState.Replay) h = quiet tasks l l' t Entered refl refl h
 
--- what each kind of event makes of one role
 event_turn : (tasks s : ℕ) → (l l' : SyncLevel) (k : SyncEvent) → Happens tasks s l l' k → (t : ℕ) → Turn tasks l l' t
 event_turn tasks s l l' TurnsSection h t = Same (ap (λ (x : SyncLevel). x.at t) h.1)
 event_turn tasks s l l' FindsIdle h t = turned tasks s l l' Fast t (ap (λ (x : SyncLevel). x.at) h.3)
@@ -100,7 +97,6 @@ event_turn tasks s l l' Thaws h t = turned tasks s l l' Closed t (ap (λ (x : Sy
     (λ a b. quiet tasks l l' t Closed refl refl b)
 event_turn tasks s l l' Stays h t = Same (ap (λ (x : SyncLevel). x.at t) h)
 
--- a longer time
 longer : (m : ℕ → SyncLevel) (a b i j u : ℕ) → a ≤ b → i ≤ j → OutsideSince m b i u → OutsideSince m a j u
 longer m a b i j u le le2 o = (o.0, omega (arith, o), omega (arith, o), o.3)
 
@@ -212,7 +208,6 @@ whole_more tasks m t i start kind now d = (
       (d.4 u l),
 )
 
--- what a role that stays says of the past, one moment later
 says_more : (tasks : ℕ) (m : ℕ → SyncLevel) (t i : ℕ) (r : SyncRole) → (m (suc i)).at t ≡ r → Says tasks m t i r → Says tasks m t (suc i) r
 says_more tasks m t i (Waiting g) e h = under_more tasks m t i _ entering g (ap entering e) h
 says_more tasks m t i Past e h = whole_more tasks m t i _ entering (ap entering e) h
@@ -291,14 +286,12 @@ module _ (tasks n : ℕ) (m : ℕ → SyncLevel) (run : SyncRun tasks n m) where
       (claims_says tasks m t (suc i) _
       (looked_next t i le _ claimed g (ap claimed e ∙ (claims_claimed _).2) (subst (Says tasks m t i) h before)))
 
-  -- so it holds at each moment of a run in which the task begins out
   says : (t : ℕ) → t < tasks → (m 0).at t ≡ Out → (i : ℕ) → i ≤ n → Says tasks m t i ((m i).at t)
   says t lt out zero le = subst (Says tasks m t 0) (sym out) tt
   says t lt out (suc i) le =
       let s : SyncStep tasks (m i) (m (suc i)) = run.steps i (omega arith) in
       turn_says t lt i le (says t lt out i (omega arith)) (event_turn tasks s.task (m i) (m (suc i)) s.kind s.happens t)
 
--- a task past its grace period had a whole one
 pub graces_are_whole : GracesAreWhole
 graces_are_whole tasks n m run out i t le lt = (
   λ e. subst (Says tasks m t i) e (says tasks n m run t lt (out t lt) i le),

@@ -9,7 +9,6 @@ use Rattle.level_laws.specs.{Laws.OnlyCallbacksIdle, Roles.Ready}
 use Rattle.level_laws.proofs.EventLaws
 use Rattle.level_laws.proofs.NumberLaws
 
--- the state of a level whose number unpacks
 found_is : (tasks : ℕ) (l : SyncLevel) → (right : SyncLevelHolds tasks l) → state_found l.sync ≡ Some right.level.word.state
 found_is tasks l right = ap state_found_in right.level.packed
 
@@ -46,6 +45,5 @@ event_idle tasks t lt l l' Calls right h ne i =
     (sym p.1 ∙ NumberLaws.state_is l'.sync p.0.word GpState.Idle p.0.packed i) in
     (refl, h.0, found_is tasks l right ∙ ap (λ (x : GpState). Some x) s)
 
--- the same, of a step
 pub only_callbacks_idle : OnlyCallbacksIdle
 only_callbacks_idle tasks l l' right s ne i = event_idle tasks s.task s.there l l' s.kind right s.happens ne i

@@ -20,7 +20,6 @@ use Rattle.level_laws.specs.Operations.{down_write_role, up_write_role, callback
 use Rattle.level_laws.specs.Operations.{DownWriteIsThere, UpWriteIsThere, CallbackIsThere, DownWritesAreThere, UpWritesAreThere, CallbacksAreThere}
 use Rattle.level_laws.specs.Roles.{SyncRole, Out, Past, Entered, Closed, Ready, entered}
 
--- a writer that has entered goes on as it has found the state
 role_from : (tasks : ℕ) (s : GpState) → down_write_role (entered_from tasks s) ≡ role_entered tasks s
 role_from tasks GpState.Idle = refl
 role_from tasks GpState.Enter = refl
@@ -28,7 +27,6 @@ role_from tasks GpState.Passed = refl
 role_from tasks GpState.Exit = refl
 role_from tasks GpState.Replay = refl
 
--- no exchange is to come then
 knows_from : (tasks : ℕ) (s : GpState) → KnowsDownWrite (entered_from tasks s)
 knows_from tasks GpState.Idle = tt
 knows_from tasks GpState.Enter = tt
@@ -57,7 +55,6 @@ module _ (tasks t : ℕ) (lt : t < tasks) (l : SyncLevel) where
   exchanged_by makes role r here more none made v TransitionNext.Undefined h = unmoved v (role TransitionNext.Undefined) h.0 (here ∙ sym none)
   exchanged_by makes role r here more none made v (TransitionNext.Made s) h = made s v h.0 h.1
 
-  -- an enter that is made
   enter_made : l.at t ≡ Out → total tasks (λ x. entered (l.at x)) + l.full ≡ 0 → (s : GpState) (v : ℕ) → state_found l.sync ≡ Some s →
       transition on_enter l.sync ≡ Some v →
       SyncStep tasks l (record l { sync = v; at = update l.at t (down_write_role (entered_from tasks s)) })
@@ -74,13 +71,11 @@ module _ (tasks t : ℕ) (lt : t < tasks) (l : SyncLevel) where
       λ q. record l { section = sym (update_same l.section g) q; at = update l.at t (sym e q) } in
       subst (SyncStep tasks l) p (step_by _ k h)
 
--- what comes after each of a down-write's events knows what is to come
 enter_knows : (tasks found v : ℕ) (n : TransitionNext) → Shows on_enter found v n → KnowsDownWrite (enter_step tasks n)
 enter_knows tasks found v (TransitionNext.More x) h = h.1
 enter_knows tasks found v TransitionNext.Undefined h = tt
 enter_knows tasks found v (TransitionNext.Made s) h = knows_from tasks s
 
--- the same after the transition that ends its grace period
 callback_knows : (found v : ℕ) (n : TransitionNext) → Shows on_callback found v n → KnowsDownWrite (callback_step n)
 callback_knows found v (TransitionNext.More x) h = h.1
 callback_knows found v TransitionNext.Undefined h = tt
@@ -159,7 +154,6 @@ module _ (t other : ℕ) (l : SyncLevel) (d : DownWrite) (lt : t < d.tasks) wher
         callback_knows l.sync _ _ shown,
       )
 
-  -- each step of a down-write
   down_write_there : (s : DownWriteStep) → SyncLevelHolds d.tasks l → l.at t ≡ down_write_role s → KnowsDownWrite s →
       (l.at t ≡ Out → total d.tasks (λ x. entered (l.at x)) + l.full ≡ 0) → DownWriteIsThere t other l d s
   down_write_there (DownWriteStep.Enters Transition.Loads) right here k none =
@@ -183,7 +177,6 @@ module _ (t other : ℕ) (l : SyncLevel) (d : DownWrite) (lt : t < d.tasks) wher
       let taken : Taken = sum_taking sum other d.processors in
       (unmoved d.tasks t lt l l.sync _ refl (here ∙ sym (summed_role d taken)), summed_knows d taken)
 
--- so each event of a down-write is there
 pub down_writes_are_there : DownWritesAreThere
 down_writes_are_there t other l d lt right here k none = down_write_there t other l d lt d.step right here k none
 
@@ -208,13 +201,11 @@ module _ (tasks t other : ℕ) (l : SyncLevel) (u : UpWrite) (lt : t < tasks) wh
         exit_knows u l.sync _ _ shown,
       )
 
-  -- each step of an up-write
   up_write_there : (s : UpWriteStep) → l.at t ≡ up_write_role s → KnowsUpWrite s → UpWriteIsThere tasks t other l u s
   up_write_there UpWriteStep.ClearsBlock here k = (step_by tasks t lt l _ Opens (here, refl), tt)
   up_write_there (UpWriteStep.Exits Transition.Loads) here k = exits_by Transition.Loads tt here
   up_write_there (UpWriteStep.Exits (Transition.Exchanges from to)) here k = exits_by (Transition.Exchanges from to) k here
 
--- so each event of an up-write is
 pub up_writes_are_there : UpWritesAreThere
 up_writes_are_there tasks t other l u lt here k = up_write_there tasks t other l u lt u.step here k
 
@@ -273,7 +264,6 @@ module _ (t other : ℕ) (l : SyncLevel) (b : Callback) (lt : t < b.tasks) where
         call_knows b l.sync _ _ shown,
       )
 
-  -- each step of a callback
   callback_there : (s : CallbackStep) → l.at t ≡ callback_role s → KnowsCallback s → CallbackIsThere t other l b s
   callback_there (CallbackStep.Claims Transition.Loads) here k = claims_by Transition.Loads tt here
   callback_there (CallbackStep.Claims (Transition.Exchanges from to)) here k = claims_by (Transition.Exchanges from to) k here
@@ -283,6 +273,5 @@ module _ (t other : ℕ) (l : SyncLevel) (b : Callback) (lt : t < b.tasks) where
   callback_there (CallbackStep.CallsBack Transition.Loads) here k = calls_by Transition.Loads tt here
   callback_there (CallbackStep.CallsBack (Transition.Exchanges from to)) here k = calls_by (Transition.Exchanges from to) k here
 
--- so each event of a callback is
 pub callbacks_are_there : CallbacksAreThere
 callbacks_are_there t other l b lt here k = callback_there t other l b lt b.step here k

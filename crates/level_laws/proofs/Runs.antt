@@ -10,7 +10,6 @@ use Rattle.level_laws.specs.Roles.{Out, Fast, Entered, Closed, Claimed, fast}
 use Rattle.level_laws.proofs.EventLaws
 use Rattle.level_laws.proofs.NumberLaws
 
--- an enter doesn't lead to the fast path
 pub found_slow : (tasks : ℕ) (o : Option GpState) → fast (role_found tasks o) ≡ 0
 found_slow tasks None = refl
 found_slow tasks (Some GpState.Idle) = refl
@@ -19,7 +18,6 @@ found_slow tasks (Some GpState.Passed) = refl
 found_slow tasks (Some GpState.Exit) = refl
 found_slow tasks (Some GpState.Replay) = refl
 
--- each event keeps what is right of its level
 pub event_keeps : (tasks t : ℕ) → t < tasks → (l l' : SyncLevel) (k : SyncEvent) → SyncLevelHolds tasks l → Happens tasks t l l' k →
     SyncLevelHolds tasks l'
 event_keeps tasks t lt l l' TurnsSection right h = subst (SyncLevelHolds tasks) (sym h.1) record {
@@ -99,7 +97,6 @@ event_keeps tasks t lt l l' Thaws right h = subst (SyncLevelHolds tasks) (sym h.
 }
 event_keeps tasks t lt l l' Stays right h = subst (SyncLevelHolds tasks) (sym h) right
 
--- each moment of a run is right
 pub run_is_right : (tasks n : ℕ) (m : ℕ → SyncLevel) → SyncRun tasks n m → (i : ℕ) → i ≤ n → SyncLevelHolds tasks (m i)
 run_is_right tasks n m run zero le = run.right
 run_is_right tasks n m run (suc i) le =

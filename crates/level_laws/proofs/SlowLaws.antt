@@ -49,7 +49,6 @@ run_slow tasks n m run i (suc d) le none ne =
     (event_slow tasks s.task (m (i + d)) (m (suc (i + d))) s.kind s.happens (ne (i + d) (omega arith) (omega arith))
     (run_slow tasks n m run i d (omega arith) none (λ k a b. ne k a (omega arith))))
 
--- from a writer past its grace period on
 pub stays_slow : StaysSlow
 stays_slow tasks n m run i j t lt le end past ne =
     let right : SyncLevelHolds tasks (m i) = run_is_right tasks n m run i (omega arith) in

@@ -24,7 +24,6 @@ lawful_says GpState.Exit false c l h = record { idle = omega arith; enter = omeg
 lawful_says GpState.Replay true c l h = record { idle = omega arith; enter = omega arith; free = omega arith }
 lawful_says GpState.Replay false c l h = record { idle = omega arith; enter = omega arith; free = omega arith }
 
--- a task is on the fast path once at most
 pub fast_small : (r : SyncRole) → fast r ≤ 1
 fast_small Fast = omega arith
 fast_small r = omega arith
@@ -36,7 +35,6 @@ still_kept : (section section' : ℕ → ℕ) (at at' : ℕ → SyncRole) → ((
 still_kept section section' at at' less same j None h = tt
 still_kept section section' at at' less same j (Some f) h = λ e. same j e ∙ h (omega (arith, less j, fast_small (at j)))
 
--- the same, of a role
 pub role_kept : (section section' : ℕ → ℕ) (at at' : ℕ → SyncRole) → ((u : ℕ) → fast (at' u) ≤ fast (at u)) →
     ((u : ℕ) → fast (at' u) ≡ 1 → section' u ≡ section u) →
     (tasks : ℕ) (r : SyncRole) → RoleHolds section at tasks r → RoleHolds section' at' tasks r
@@ -45,13 +43,11 @@ role_kept section section' at at' less same tasks (Waiting g) h =
 role_kept section section' at at' less same tasks Past h = λ u l. omega (arith, h u l, less u)
 role_kept section section' at at' less same tasks r h = tt
 
--- a role that isn't entering says nothing
 pub role_free : (section : ℕ → ℕ) (at : ℕ → SyncRole) (tasks : ℕ) (r : SyncRole) → entering r ≡ 0 → RoleHolds section at tasks r
 role_free section at tasks (Waiting g) e = absurd (omega arith)
 role_free section at tasks Past e = absurd (omega arith)
 role_free section at tasks r e = tt
 
--- who has closed the level, and who is in its grace period, has entered
 pub parts_entered : (r : SyncRole) → closed r + entering r ≤ entered r
 parts_entered Closed = omega arith
 parts_entered (Waiting g) = omega arith
@@ -69,7 +65,6 @@ parts_of tasks at = omega (
       (λ x. entered (at x)) (λ x l. parts_entered (at x)),
 )
 
--- two places of a sum are at most the sum
 pub two_places : (n t u : ℕ) (f : ℕ → ℕ) → t < n → u < n → (u ≡ t → ⊥) → f t + f u ≤ total n f
 two_places n t u f lt lu ne =
     let e : total n (λ x. update f t 0 x) + f t ≡ total n f + 0 = total_updated (λ v. v) n t f 0 lt in
@@ -77,15 +72,12 @@ two_places n t u f lt lu ne =
 
 module _ (tasks : ℕ) (word : SyncWord) (block full : ℕ) (section : ℕ → ℕ) (at : ℕ → SyncRole)
     (good : SyncHolds tasks word block full section at) where
-  -- what the level's word says in numbers
   pub says : LawfulSays word.state word.taken word.count
   says = lawful_says word.state word.taken word.count good.once good.lawful
 
-  -- closed writers and entering ones of the level are apart
   pub parts : total tasks (λ x. closed (at x)) + total tasks (λ x. entering (at x)) ≤ total tasks (λ x. entered (at x))
   parts = parts_of tasks at
 
-  -- in GP_IDLE and GP_ENTER the block is clear
   pub open_while_fast : idle_bit word.state + enter_bit word.state ≡ 1 → (block ≡ 0) × (full ≡ 0)
   open_while_fast h = (omega (arith, says, parts, good), omega (arith, says, parts, good))
 

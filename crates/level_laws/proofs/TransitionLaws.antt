@@ -17,7 +17,6 @@ pub record Enters (tasks : ℕ) (s : GpState) (t : Bool) (c : ℕ) : Type 0 wher
   pub after : entering (role_entered tasks s) ≡ enter_bit (entered_state s)
   pub slow : idle_bit (entered_state s) + enter_bit (entered_state s) ≡ idle_bit s
 
--- an enter of a lawful word with a count of 0
 pub enters : (tasks : ℕ) (s : GpState) (t : Bool) (c : ℕ) → c ≡ 0 → is_lawful s t c ≡ true → Enters tasks s t c
 enters tasks s t (suc c) e l = absurd (omega arith)
 enters tasks GpState.Idle true zero e l = cc
@@ -69,7 +68,6 @@ pub record Exits (s : GpState) (t : Bool) (c : ℕ) : Type 0 where
   pub queued : is_queued (left_state s) ≡ true
   pub slow : idle_bit (left_state s) + enter_bit (left_state s) ≡ 0
 
--- an exit of a word with a count of 1, where readers are slow
 pub exits : (s : GpState) (t : Bool) (c : ℕ) → c ≡ 1 → idle_bit s + enter_bit s ≡ 0 → Exits s t c
 exits s t zero e h = absurd (omega arith)
 exits s t (suc (suc c)) e h = absurd (omega arith)
@@ -125,7 +123,6 @@ calls_idle GpState.Replay zero q m e = cc
 calls_idle GpState.Replay (suc zero) q m e = cc
 calls_idle GpState.Replay (suc (suc c)) q m e = absurd (omega arith)
 
--- an enter leaves another state than GP_IDLE
 pub entered_not_idle : (s : GpState) → entered_state s ≡ GpState.Idle → ⊥
 entered_not_idle GpState.Idle e = cc
 entered_not_idle GpState.Enter e = cc
@@ -138,7 +135,6 @@ pub record Claims (s : GpState) (t : Bool) (c : ℕ) : Type 0 where
   pub puts : on_claim record { state = s; taken = t; count = c } ≡ Some record { state = s; taken = true; count = c }
   pub lawful : is_lawful s true c ≡ true
 
--- a claim where a callback is queued and nobody has taken it
 pub claims_queued : (s : GpState) (t : Bool) (c : ℕ) → is_queued s ≡ true → t ≡ false → Claims s t c
 claims_queued s true c q h = cc
 claims_queued GpState.Idle false c q h = cc
@@ -147,7 +143,6 @@ claims_queued GpState.Passed false c q h = cc
 claims_queued GpState.Exit false c q h = record { puts = refl; lawful = refl }
 claims_queued GpState.Replay false c q h = record { puts = refl; lawful = refl }
 
--- where a claim is defined, a callback is queued and not taken
 pub claims_defined : (s : GpState) (t : Bool) (c : ℕ) (w : SyncWord) → on_claim record { state = s; taken = t; count = c } ≡ Some w →
     (is_queued s ≡ true) × (t ≡ false)
 claims_defined GpState.Idle t c w h = cc

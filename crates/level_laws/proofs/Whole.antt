@@ -7,11 +7,9 @@ use Rattle.level_laws.proofs.SyncLaws.{claimed_alone, two_places}
 use Rattle.level_laws.specs.{Changes.{state_found_in, state_found}, Events.SyncLevelHolds}
 use Rattle.level_laws.specs.{Laws.{IdleIsEarned, FastFindsOpen, EntersAlone, WritersFind, EventsKeep, opening}, Roles.{fast, entered, enter_bit, idle_bit}}
 
--- each step keeps what holds at the level
 pub events_keep : EventsKeep
 events_keep tasks l l' right s = event_keeps tasks s.task s.there l l' s.kind right s.happens
 
--- which holds at its beginning
 pub opening_is_right : (tasks : ℕ) → SyncLevelHolds tasks opening
 opening_is_right tasks =
     let z : total tasks (λ t. 0) ≡ 0 = total_zero tasks in
@@ -51,7 +49,6 @@ idle_or_enter n GpState.Passed f e = absurd (omega arith)
 idle_or_enter n GpState.Exit f e = absurd (omega arith)
 idle_or_enter n GpState.Replay f e = absurd (omega arith)
 
--- who is fast finds the level open
 pub fast_finds_open : FastFindsOpen
 fast_finds_open tasks l right t lt here =
     let f = fast_finds tasks right.level.word l.block l.full l.section l.at right.level.holds t lt (ap fast here) in
@@ -66,7 +63,6 @@ passed_or_queued n GpState.Passed f e = inl f
 passed_or_queued n GpState.Exit f e = inr refl
 passed_or_queued n GpState.Replay f e = inr refl
 
--- a writer past its grace period finds nobody fast
 pub writers_find : WritersFind
 writers_find tasks l right t lt e n =
     let f = entered_finds tasks right.level.word l.block l.full l.section l.at right.level.holds t lt e n in (
@@ -77,7 +73,6 @@ writers_find tasks l right t lt e n =
       λ u lu. omega (arith, right.level.holds.slow f.2, total_at tasks u (λ x. fast (l.at x)) lu),
     )
 
--- GP_IDLE comes after a whole grace period
 pub idle_is_earned : IdleIsEarned
 idle_is_earned tasks n m run out i lt ne idle =
     let s = run.steps i lt in
