@@ -1,11 +1,15 @@
 -- Each event keeps what holds of the stage and of the marks.
-use Rattle.stage_laws.proofs.MarkLaws.{cleared_anew, washed, one_more, marked}
-use Rattle.stage_laws.proofs.StageLaws.{turns, relied_on, releases_open, begins, advances, completes, fails, freezes_at_once, thaws, thaws_at_once, sets_block, turns_block, clears_block, sets_remount, clears_remount, sets_read_only, sets_writable}
-use Rattle.std.proofs.Common.{◌≡◌, ℕ, suc, ◌<◌, ◌≤◌, refl, sym, subst, arith, zero}
-use Rattle.std.specs.Prelude.{true, false, Some, None}
+use Rattle.std.{proofs.Common.{◌≡◌, ℕ, suc, ◌<◌, ◌≤◌, refl, sym, subst, arith, zero}, specs.Prelude.{true, false, Some, None}}
 use Rattle.finite_sums.specs.Sums.{update}
-use Rattle.stage_laws.specs.Roles.{StageRole, Aside, Owning, Remounting, Freezing, Reopening, CleanBelow, MarksHold, clean_by, clean_at, Closing, HasPassed, Before}
-use Rattle.stage_laws.specs.Events.{Stages, Holds, StageEvent, Happens, LocksAgain, Releases, LetsGo, LoadsStage, LoadsSb, Advances, Syncs, Completes, Fails, SetsBlock, Passes, ClearsBlock, SetsRemount, Begins, CancelsRemount, ClearsMark, ClearsMarkReadOnly, ClearsRemount, FreezesAtOnce, HoldsOne, LeavesOne, Locks, MarksNode, Recalls, ReleasesOpen, SetsReadOnly, SetsWritable, Stays, Thaws, ThawsAtOnce, WashesNode}
+use Rattle.stage_laws.proofs.MarkLaws.{cleared_anew, washed, one_more, marked}
+use Rattle.stage_laws.proofs.StageLaws.{turns, relied_on, releases_open, begins, advances, completes, fails, freezes_at_once, thaws, thaws_at_once, sets_block}
+use Rattle.stage_laws.proofs.StageLaws.{turns_block, clears_block, sets_remount, clears_remount, sets_read_only, sets_writable}
+use Rattle.stage_laws.specs.Events.{Stages, Holds, StageEvent, Happens, LocksAgain, Releases, LetsGo, LoadsStage, LoadsSb, Advances, Syncs, Completes, Fails}
+use Rattle.stage_laws.specs.Events.{SetsBlock, Passes, ClearsBlock, SetsRemount, Begins, CancelsRemount, ClearsMark, ClearsMarkReadOnly, ClearsRemount}
+use Rattle.stage_laws.specs.Events.{FreezesAtOnce, HoldsOne, LeavesOne, Locks, MarksNode, Recalls, ReleasesOpen, SetsReadOnly, SetsWritable, Stays, Thaws}
+use Rattle.stage_laws.specs.Events.{ThawsAtOnce, WashesNode}
+use Rattle.stage_laws.specs.Roles.{StageRole, Aside, Owning, Remounting, Freezing, Reopening, CleanBelow, MarksHold, clean_by, clean_at, Closing, HasPassed}
+use Rattle.stage_laws.specs.Roles.{Before}
 
 module _ (tasks nodes : ℕ) (x : Stages) (h : Holds tasks nodes x) (t : ℕ) (lt : t < tasks) where
   -- nothing is clean below node 0

@@ -1,11 +1,10 @@
 -- What holds of every role, of the numbers that say how far a freeze has come, and of sums in which at most one place counts.
 use Rattle.std.proofs.Common.{◌≡◌, ℕ, zero, suc, ◌+◌, ◌*◌, ◌-◌, ◌/◌, ◌%◌, ◌<◌, ◌≤◌, Bool, true, false, refl, sym, inl, inr, arith, ap}
+use Rattle.std.proofs.lemmas.Bool.{le-leb, lt-leb, Decides.{nat_tests, eqb_tells}}
 use Rattle.std.specs.Prelude.{◌==◌, ◌&&◌, if◌then◌else◌}
-use Rattle.std.proofs.lemmas.Bool.{le-leb, lt-leb}
-use Rattle.std.proofs.lemmas.Bool.Decides.{nat_tests, eqb_tells}
-use Rattle.finite_sums.specs.Sums.{update, total}
-use Rattle.finite_sums.proofs.Totals.{update_off, each_updated, total_same, total_updated, total_zero, total_at}
-use Rattle.stage_laws.specs.Roles.{Place, Before, Closing, HasPassed, StageRole, Aside, Freezing, Reopening, bit, owns, freezes, reopens, has_position, remounts, closed_at, passed_at, closed_by, passed_by, up_to, closes, passes, sums, under_way, is_full, KnowsStage}
+use Rattle.finite_sums.{proofs.Totals.{update_off, each_updated, total_same, total_updated, total_zero, total_at}, specs.Sums.{update, total}}
+use Rattle.stage_laws.specs.Roles.{Place, Before, Closing, HasPassed, StageRole, Aside, Freezing, Reopening, bit, owns, freezes, reopens, has_position}
+use Rattle.stage_laws.specs.Roles.{remounts, closed_at, passed_at, closed_by, passed_by, up_to, closes, passes, sums, under_way, is_full, KnowsStage}
 
 -- a bit is 0 or 1
 bit_le : (b : Bool) → bit b ≤ 1

@@ -1,13 +1,11 @@
 -- Each event keeps what holds of the marks of nodes.
-use Rattle.stage_laws.proofs.Facts.{owner_only}
-use Rattle.stage_laws.proofs.Positions.{way, who_freezes, passed_own, passed_is}
-use Rattle.finite_sums.proofs.Totals.{each_updated, total_at}
-use Rattle.std.proofs.Common.{◌≡◌, ℕ, suc, ◌+◌, ◌<◌, ◌≤◌, refl, inl, inr, arith, ◌%◌, ◌/◌, zero, ◌-◌}
-use Rattle.std.proofs.lemmas.Bool.Decides.{eqb_tells}
-use Rattle.finite_sums.specs.Sums.{update}
-use Rattle.stage_laws.specs.Roles.{StageRole, StagesHold, CleanBelow, MarksHold, Place, clean_by, KnowsStage, under_way, clean_at, remounts, freezes, passed_at, passed_by, HasPassed, has_position, Freezing, is_full, Remounting, Before, Closing}
-use Rattle.stage_laws.specs.Shown.{passed_shown}
+use Rattle.std.proofs.{Common.{◌≡◌, ℕ, suc, ◌+◌, ◌<◌, ◌≤◌, refl, inl, inr, arith, ◌%◌, ◌/◌, zero, ◌-◌}, lemmas.Bool.Decides.eqb_tells}
+use Rattle.finite_sums.{proofs.Totals.{each_updated, total_at}, specs.Sums.update}
+use Rattle.stage_laws.proofs.{Facts.owner_only, Positions.{way, who_freezes, passed_own, passed_is}}
 use Rattle.stage_laws.specs.Events.{Stages, Holds}
+use Rattle.stage_laws.specs.Roles.{StageRole, StagesHold, CleanBelow, MarksHold, Place, clean_by, KnowsStage, under_way, clean_at, remounts, freezes, passed_at}
+use Rattle.stage_laws.specs.Roles.{passed_by, HasPassed, has_position, Freezing, is_full, Remounting, Before, Closing}
+use Rattle.stage_laws.specs.Shown.{passed_shown}
 
 -- clean nodes stay clean where one is cleaned
 still_clean : (n node : ℕ) (dirty : ℕ → ℕ) → CleanBelow n dirty → CleanBelow n (update dirty node 0)

@@ -1,11 +1,11 @@
 -- What follows at one moment: one owner, one position, and what the blocks and the levels passed are then.
-use Rattle.std.proofs.Common.{◌≡◌, ℕ, ◌+◌, ◌*◌, ◌-◌, ◌<◌, ◌≤◌, sym, ◌∙◌, subst, inl, inr, arith, ◌%◌, ◌/◌, ap}
-use Rattle.std.proofs.lemmas.Bool.Decides.{eqb_tells}
-use Rattle.finite_sums.specs.Sums.{total}
-use Rattle.finite_sums.proofs.Totals.{total_same, total_add, total_le, total_at, total_none, HasPlace, total_place}
-use Rattle.stage_laws.specs.Roles.{StageRole, owns, freezes, reopens, has_position, remounts, closes, passes, sums, passed_by, under_way, is_full, StagesHold, up_to}
+use Rattle.std.proofs.{Common.{◌≡◌, ℕ, ◌+◌, ◌*◌, ◌-◌, ◌<◌, ◌≤◌, sym, ◌∙◌, subst, inl, inr, arith, ◌%◌, ◌/◌, ap}, lemmas.Bool.Decides.eqb_tells}
+use Rattle.finite_sums.{proofs.Totals.{total_same, total_add, total_le, total_at, total_none, HasPlace, total_place}, specs.Sums.total}
+use Rattle.stage_laws.proofs.Facts.{owner_only, parts, closes_le, reopens_at, passed_three, three, way_is, full_is, passed_test, other_zero, total_alone}
+use Rattle.stage_laws.proofs.Facts.{nonzero, stage_bound, no_levels, full_levels, some_position}
+use Rattle.stage_laws.specs.Roles.{StageRole, owns, freezes, reopens, has_position, remounts, closes, passes, sums, passed_by, under_way, is_full, StagesHold}
+use Rattle.stage_laws.specs.Roles.{up_to}
 use Rattle.stage_laws.specs.Shown.{is_passed, passed_shown}
-use Rattle.stage_laws.proofs.Facts.{owner_only, parts, closes_le, reopens_at, passed_three, three, way_is, full_is, passed_test, other_zero, total_alone, nonzero, stage_bound, no_levels, full_levels, some_position}
 
 module _ (tasks stage sb remount : ℕ) (block : ℕ → ℕ) (at : ℕ → StageRole) (good : StagesHold tasks stage sb remount block at) where
   -- the stage as arithmetic: whether it is 1 to 3, and whether the file system is frozen as a whole

@@ -1,13 +1,12 @@
 -- Each event that changes a role keeps what holds of the stage.
-use Rattle.stage_laws.proofs.Positions.{block_at, way, remount_own}
-use Rattle.stage_laws.proofs.Facts.{full_is, up_to_le, way_is, up_to_off, up_to_next, up_to_below}
-use Rattle.finite_sums.proofs.Totals.{total_at, each_updated}
 use Rattle.std.proofs.Common.{◌≡◌, ℕ, suc, ◌+◌, ◌<◌, ◌≤◌, refl, sym, ap, ◌∙◌, subst, inl, inr, arith, ◌%◌, ◌/◌, ◌-◌}
 use Rattle.std.specs.Prelude.{Bool, true, Option, Some, None}
-use Rattle.finite_sums.specs.Sums.{update, total}
-use Rattle.stage_laws.specs.Roles.{StageRole, StagesHold, KnowsStage, under_way, freezes, has_position, Owning, Freezing, Reopening, Remounting, owns, closes, Before, HasPassed, remounts, closed_by, Closing, is_full, up_to, Aside}
+use Rattle.finite_sums.{proofs.Totals.{total_at, each_updated}, specs.Sums.{update, total}}
+use Rattle.stage_laws.proofs.{Changes.{any_event, others_know}, Facts.{full_is, up_to_le, way_is, up_to_off, up_to_next, up_to_below}}
+use Rattle.stage_laws.proofs.Positions.{block_at, way, remount_own}
 use Rattle.stage_laws.specs.Events.{Stages, playing}
-use Rattle.stage_laws.proofs.Changes.{any_event, others_know}
+use Rattle.stage_laws.specs.Roles.{StageRole, StagesHold, KnowsStage, under_way, freezes, has_position, Owning, Freezing, Reopening, Remounting, owns, closes}
+use Rattle.stage_laws.specs.Roles.{Before, HasPassed, remounts, closed_by, Closing, is_full, up_to, Aside}
 
 module _ (tasks : ℕ) (x : Stages) (good : StagesHold tasks x.stage x.sb x.remount x.block x.at) (t : ℕ) (lt : t < tasks) where
   -- the stage holds at a moment

@@ -1,17 +1,19 @@
 -- What the stage says at one moment, and who moves it.
-use Rattle.stage_laws.proofs.EachEvent.{after_kind}
-use Rattle.stage_laws.proofs.Positions.{block_at, block_idle, not_full, one_position, other_position, passed_idle, passed_own, who_freezes, way, nobody_at_four, passed_in_order}
-use Rattle.stage_laws.proofs.Effects.{effect}
-use Rattle.stage_laws.proofs.StageLaws.{freeze_bound, relied_on}
-use Rattle.stage_laws.proofs.Allowed.{may}
-use Rattle.stage_laws.proofs.Facts.{up_to_off, freeze_role}
-use Rattle.std.proofs.Common.{◌≡◌, ℕ, ◌<◌, ◌≤◌, refl, sym, ap, ◌∙◌, inl, inr, arith}
+use Rattle.std.proofs.{Common.{◌≡◌, ℕ, ◌<◌, ◌≤◌, refl, sym, ap, ◌∙◌, inl, inr, arith}, lemmas.Bool.Decides.eqb_tells}
 use Rattle.std.specs.Prelude.{◌⊎◌, Bool, true, Option, Some}
-use Rattle.std.proofs.lemmas.Bool.Decides.{eqb_tells}
 use Rattle.finite_sums.proofs.Totals.{total_none, total_zero, total_at, HasPlace, total_place}
-use Rattle.stage_laws.specs.Roles.{StageRole, Aside, Owning, Remounting, Freezing, HasPassed, KnowsStage, Place, closes, freezes, has_position, is_full, remounts}
-use Rattle.stage_laws.specs.Events.{Stages, Holds, StageEvent, Happens, Advances, Begins, CancelsRemount, ClearsBlock, ClearsMark, ClearsMarkReadOnly, ClearsRemount, Completes, Fails, FreezesAtOnce, HoldsOne, LeavesOne, LetsGo, LoadsSb, LoadsStage, Locks, LocksAgain, MarksNode, Passes, Recalls, Releases, ReleasesOpen, SetsBlock, SetsReadOnly, SetsRemount, SetsWritable, Stays, Syncs, Thaws, ThawsAtOnce, WashesNode}
-use Rattle.stage_laws.specs.Laws.{opening, EventsKeep, ActionsAreAllowed, ActionsHaveTheirEffect, FreezeIsUnderWay, FreezeKeepsOthersOut, FrozenAsAWhole, OnlyTheFreezeMovesTheStage, OpenElsewhere, PositionsAreAlone, PositionsTellTheLevels, LevelsPassInOrder, NobodyAtStageFour}
+use Rattle.stage_laws.proofs.{Allowed.may, EachEvent.after_kind, Effects.effect, Facts.{up_to_off, freeze_role}}
+use Rattle.stage_laws.proofs.Positions.{block_at, block_idle, not_full, one_position, other_position, passed_idle, passed_own, who_freezes, way, nobody_at_four}
+use Rattle.stage_laws.proofs.Positions.{passed_in_order}
+use Rattle.stage_laws.proofs.StageLaws.{freeze_bound, relied_on}
+use Rattle.stage_laws.specs.Events.{Stages, Holds, StageEvent, Happens, Advances, Begins, CancelsRemount, ClearsBlock, ClearsMark, ClearsMarkReadOnly}
+use Rattle.stage_laws.specs.Events.{ClearsRemount, Completes, Fails, FreezesAtOnce, HoldsOne, LeavesOne, LetsGo, LoadsSb, LoadsStage, Locks, LocksAgain}
+use Rattle.stage_laws.specs.Events.{MarksNode, Passes, Recalls, Releases, ReleasesOpen, SetsBlock, SetsReadOnly, SetsRemount, SetsWritable, Stays, Syncs, Thaws}
+use Rattle.stage_laws.specs.Events.{ThawsAtOnce, WashesNode}
+use Rattle.stage_laws.specs.Laws.{opening, EventsKeep, ActionsAreAllowed, ActionsHaveTheirEffect, FreezeIsUnderWay, FreezeKeepsOthersOut, FrozenAsAWhole}
+use Rattle.stage_laws.specs.Laws.{OnlyTheFreezeMovesTheStage, OpenElsewhere, PositionsAreAlone, PositionsTellTheLevels, LevelsPassInOrder, NobodyAtStageFour}
+use Rattle.stage_laws.specs.Roles.{StageRole, Aside, Owning, Remounting, Freezing, HasPassed, KnowsStage, Place, closes, freezes, has_position, is_full}
+use Rattle.stage_laws.specs.Roles.{remounts}
 
 -- everything holds where nothing is frozen and nobody has begun anything
 pub opening_is_right : (tasks nodes : ℕ) → Holds tasks nodes opening
