@@ -16,31 +16,25 @@ abbrev action_or : Action → Option Action → Action
 action_or a None = a
 action_or a (Some b) = b
 
--- one action is there
 some_inj : {a b : Action} → Some a ≡ Some b → a ≡ b
 some_inj {a} {b} e = ap (action_or a) e
 
--- the action of a clearing, if there is one, cleans that node
 cleaned_is : (node mark : ℕ) (action : Action) (P : Action → Type 0) → cleaned node mark ≡ Some action → P (Action.Clean node) → P action
 cleaned_is node zero action P e p = absurd (none-some action e)
 cleaned_is node (suc mark) action P e p = subst P (some_inj e) p
 
 module _ (l : Limits) (x : Stages) (h : Holds l.tasks l.nodes x) (t : ℕ) (lt : t < l.tasks) (s : State) (shows : Shows l x s) where
-  -- nodes without a mark are shown clean
   pub all_clean : CleanBelow l.nodes x.dirty → IsClean l s
   all_clean c n ln = shows.marks n ln (c n ln)
 
-  -- the stage that is shown
   at_stage : (k : ℕ) → x.stage ≡ k → s.stage ≡ k
   at_stage k e = shows.stages.stage_same ∙ e
 
-  -- the number of levels that a task with a position has passed is shown
   own_levels : (old : StageRole) → x.at t ≡ old → has_position old ≡ 1 → s.passed ≡ passed_by old
   own_levels old e p =
       shows.stages.passed_same ∙
       passed_own l.tasks x.stage x.sb x.remount x.block x.at h.stages t lt (ap has_position e ∙ p) ∙ ap passed_by e
 
-  -- an owner at stage 0 with no position finds no level passed
   no_level : (old : StageRole) → x.at t ≡ old → owns old ≡ 1 → has_position old ≡ 0 → x.stage ≡ 0 → s.passed ≡ 0
   no_level old e o n z =
       let w : _ = ways l.tasks x h.stages t lt in

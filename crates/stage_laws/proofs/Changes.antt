@@ -26,7 +26,6 @@ module _ (tasks stage sb remount : ℕ) (block : ℕ → ℕ) (at : ℕ → Stag
     pub others : (u : ℕ) → u < tasks → (u ≡ t → ⊥) → KnowsStage stage' sb' (at u)
     pub own : KnowsStage stage' sb' new
 
-  -- then the stage holds after it
   pub any_event : (old new : StageRole) (stage' sb' remount' : ℕ) (block' : ℕ → ℕ) → at t ≡ old →
       Agrees old new stage' sb' remount' block' →
       StagesHold tasks stage' sb' remount' block' (update at t new)

@@ -12,21 +12,17 @@ use Rattle.stage_laws.specs.Roles.{StageRole, Aside, Owning, Remounting, Freezin
 use Rattle.stage_laws.specs.Roles.{Before}
 
 module _ (tasks nodes : ℕ) (x : Stages) (h : Holds tasks nodes x) (t : ℕ) (lt : t < tasks) where
-  -- nothing is clean below node 0
   none : (dirty : ℕ → ℕ) → CleanBelow 0 dirty
   none dirty m l = absurd (omega (arith, l))
 
-  -- the nodes that the task has cleared are clean
   pub own_clean : (old : StageRole) → x.at t ≡ old → CleanBelow (clean_by old) x.dirty
   own_clean old e = subst (λ r. CleanBelow (clean_by r) x.dirty) e (h.marks.cleared t lt)
 
-  -- a stage after which no more nodes have to be clean
   same_marks : (stage' sb' : ℕ) (new : StageRole) → (3 ≤ stage' → CleanBelow nodes x.dirty) → (sb' ≡ 1 → CleanBelow nodes x.dirty) →
       CleanBelow (clean_by new) x.dirty →
       MarksHold tasks nodes stage' sb' x.dirty (update x.at t new)
   same_marks stage' sb' new f r c = cleared_anew tasks nodes x.stage x.sb stage' sb' x.dirty x.at t new h.marks f r c
 
-  -- the same flags and stage, and a role that has cleared these nodes
   quiet : (new : StageRole) → CleanBelow (clean_by new) x.dirty → MarksHold tasks nodes x.stage x.sb x.dirty (update x.at t new)
   quiet new c = same_marks x.stage x.sb new h.marks.frozen h.marks.read_only c
 
@@ -39,23 +35,19 @@ module _ (tasks nodes : ℕ) (x : Stages) (h : Holds tasks nodes x) (t : ℕ) (l
       (subst (λ k. CleanBelow k (update x.dirty node 0)) (sym c')
       (one_more node x.dirty (subst (λ k. CleanBelow k x.dirty) c (own_clean old e))))
 
-  -- while a level is closing, no mark is cleared
   closing_clean : (level : ℕ) → CleanBelow (clean_at level Closing) x.dirty
   closing_clean zero = none x.dirty
   closing_clean (suc zero) = none x.dirty
   closing_clean (suc (suc level)) = none x.dirty
 
-  -- where a level is passed, so many nodes are clean as were found so
   passed_clean : (level clean : ℕ) → CleanBelow clean x.dirty → CleanBelow (clean_at level (HasPassed clean)) x.dirty
   passed_clean zero clean c = none x.dirty
   passed_clean (suc zero) clean c = none x.dirty
   passed_clean (suc (suc level)) clean c = c
 
-  -- fewer nodes are clean where more are
   pub fewer : (k : ℕ) → nodes ≤ k → CleanBelow k x.dirty → CleanBelow nodes x.dirty
   fewer k le c m l = c m (omega (arith, l, le))
 
-  -- each event keeps both
   pub after_kind : (kind : StageEvent) (x' : Stages) → Happens tasks nodes t x x' kind → Holds tasks nodes x'
   after_kind Locks x' (e, o, p) = subst (Holds tasks nodes) (sym p) record {
     stages = turns tasks x h.stages t lt Aside (Owning None None) e (omega (arith, o)) refl refl refl (tt, tt);

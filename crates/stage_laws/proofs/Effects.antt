@@ -17,7 +17,6 @@ use Rattle.stage_laws.specs.Shown.{ShowsStages, state_after}
 abbrev pub ShowsAt : ℕ → Stages → State → Type 0
 ShowsAt tasks y s = ShowsStages tasks y.stage y.sb y.remount y.block y.at s
 
--- a clearing shows what was shown
 clearing_shows : (tasks : ℕ) (y : Stages) (s : State) (t node mark : ℕ) → ShowsAt tasks y s →
     ShowsAt tasks y (state_after s t (cleaned node mark))
 clearing_shows tasks y s t node zero h = h
@@ -62,7 +61,6 @@ module _ (tasks nodes : ℕ) (x : Stages) (h : Holds tasks nodes x) (t : ℕ) (l
       shown_after old new x.stage b m x.block s' e good (st ∙ shows.stage_same)
       (omega (arith, p, pa, z, ways tasks x h.stages t lt, full_is x.stage b h.stages.stages good.superblock)) f
 
-  -- the stage that an event leaves is held
   kept : (kind : StageEvent) (x' : Stages) → Happens tasks nodes t x x' kind → StagesHold tasks x'.stage x'.sb x'.remount x'.block x'.at
   kept kind x' p = (after_kind tasks nodes x h t lt kind x' p).stages
 
@@ -75,19 +73,16 @@ module _ (tasks nodes : ℕ) (x : Stages) (h : Holds tasks nodes x) (t : ℕ) (l
   relies : (old : StageRole) → x.at t ≡ old → KnowsStage x.stage x.sb old
   relies old e = relied_on tasks x h.stages t lt old e
 
-  -- the number of levels that a task with a position has passed is shown
   own_levels : (old : StageRole) → x.at t ≡ old → has_position old ≡ 1 → s.passed ≡ passed_by old
   own_levels old e p =
       shows.passed_same ∙ passed_own tasks x.stage x.sb x.remount x.block x.at h.stages t lt (ap has_position e ∙ p) ∙ ap passed_by e
 
-  -- an event of a role on no word shown
   turned : (kind : StageEvent) (x' : Stages) (old new : StageRole) → x.at t ≡ old → x' ≡ playing x t new →
       Happens tasks nodes t x (playing x t new) kind →
       passed_by new ≡ passed_by old → ShowsAt tasks x' s
   turned kind x' old new e p happens q =
       subst (λ z. ShowsAt tasks z s) (sym p) (quiet_shown x.block old new e (kept kind (playing x t new) happens) q)
 
-  -- each event shows what its action makes of the state
   pub effect : (kind : StageEvent) (x' : Stages) → Happens tasks nodes t x x' kind → ShowsAt tasks x' (state_after s t (action_of kind x))
   effect Locks x' (e, o, p) = turned Locks x' Aside (Owning None None) e p (e, o, refl) refl
   effect (LocksAgain stage place) x' (e, o, p) =

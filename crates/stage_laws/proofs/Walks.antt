@@ -10,16 +10,13 @@ goes : {x x' last : Stages} {actions : List Action} (kind : StageEvent) → Happ
     StageRun 1 2 x (with_one (action_of kind x) actions) last
 goes kind happens rest = Goes _ _ _ _ kind happens rest
 
--- the nodes below 1 are clean, as node 0 is
 root_clean : (dirty : ℕ → ℕ) → dirty 0 ≡ 0 → CleanBelow 1 dirty
 root_clean dirty e zero lt = e
 root_clean dirty e (suc n) lt = absurd (omega (arith, lt))
 
--- owners that rely on one thing or another are alike
 owners_alike : {stage sb stage' sb' : Option ℕ} → IsAlike (Owning stage sb) (Owning stage' sb')
 owners_alike = record { owns_same = refl; freezes_same = refl; remounts_same = refl; closed_same = refl; passed_same = refl }
 
--- a freeze, and a thaw
 pub freeze_and_thaw_happen : FreezeAndThawHappen
 freeze_and_thaw_happen = (
   _,
