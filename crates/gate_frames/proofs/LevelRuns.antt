@@ -1,32 +1,16 @@
 -- What each event of a freeze or a thaw is of each level: one of the level's own kinds of event, or one that leaves it.
-use Rattle.std.proofs.Common.{refl, ℕ, ◌<◌, ◌≤◌, ◌≡◌, sym, ap, ◌∙◌, inl, subst, arith, inr, ◌+◌}
-use Rattle.std.proofs.lemmas.Bool.Decides.{eqb_tells}
+use Rattle.std.proofs.{Common.{refl, ℕ, ◌<◌, ◌≤◌, ◌≡◌, sym, ap, ◌∙◌, inl, subst, arith, inr, ◌+◌}, lemmas.Bool.Decides.eqb_tells}
 use Rattle.std.specs.Prelude.{Option, Some}
-use Rattle.finite_sums.proofs.Totals.{update_at, update_same}
-use Rattle.finite_sums.specs.Sums.{update, total}
-use Rattle.cpu_words.specs.Touches.{left, found_by}
-use Rattle.cpu_words.specs.Words.{Words, put, read}
-use Rattle.cpu_words.specs.declared.events.Touch.{Touch}
-use Rattle.cpu_words.specs.declared.names.WordName.TheVariants.{Sync, Block, LevelCount, Section}
-use Rattle.cpu_words.specs.declared.names.WordName.{WordName}
+use Rattle.finite_sums.{proofs.Totals.{update_at, update_same}, specs.Sums.{update, total}}
+use Rattle.cpu_words.specs.{Touches.{left, found_by}, Words.{Words, put, read}, declared.{events.Touch.Touch, names.WordName.WordName}}
 use Rattle.percpu_rwsem.specs.Writers.{down_write_after, up_write_after, down_write_next, up_write_next}
-use Rattle.percpu_rwsem.specs.declared.writers.DownWrite.{DownWrite}
-use Rattle.percpu_rwsem.specs.declared.writers.UpWrite.{UpWrite}
-use Rattle.level_laws.specs.Events.{SyncStep}
-use Rattle.level_laws.specs.Operations.{put_at, left_by}
-use Rattle.level_laws.specs.Roles.{Out as IsApart, entered}
-use Rattle.gate_world.specs.Configs.{IsWithin}
-use Rattle.gate_world.specs.Fits.{DownWriteFits, UpWriteFits}
-use Rattle.gate_world.specs.LevelRuns.{level_in}
-use Rattle.gate_world.specs.Levels.{Stand, stand_sync, inside, sync_role_of, is_frozen_whole}
-use Rattle.gate_world.specs.Rules.{IsGood}
-use Rattle.gate_world.specs.Worlds.{World}
-use Rattle.gate_world.specs.declared.config.Config.{Config}
-use Rattle.gate_world.specs.declared.views.View.{View}
-use Rattle.gate_frames.proofs.Frames.{SameLevelWords}
-use Rattle.gate_frames.proofs.LevelSteps.{level_stays, level_kept, level_moved}
-use Rattle.gate_frames.proofs.LevelWorlds.{IsEventAt}
-use Rattle.gate_frames.proofs.DownLevels.{next_closing, down_write_event, closing_others, closing_there}
+use Rattle.percpu_rwsem.specs.declared.writers.{DownWrite.DownWrite, UpWrite.UpWrite}
+use Rattle.level_laws.specs.{Events.SyncStep, Operations.{put_at, left_by}, Roles.{Out as IsApart, entered}}
+use Rattle.gate_world.specs.{Configs.IsWithin, Fits.{DownWriteFits, UpWriteFits}, LevelRuns.level_in}
+use Rattle.gate_world.specs.{Levels.{Stand, stand_sync, inside, sync_role_of, is_frozen_whole}, Rules.IsGood, Worlds.World}
+use Rattle.gate_world.specs.declared.{config.Config.Config, views.View.View}
+use Rattle.gate_frames.proofs.{DownLevels.{next_closing, down_write_event, closing_others, closing_there}, Frames.SameLevelWords}
+use Rattle.gate_frames.proofs.{LevelSteps.{level_stays, level_kept, level_moved}, LevelWorlds.IsEventAt}
 use Rattle.gate_frames.proofs.StandRoles.{SayBeside, touched_sync, put_inside, touched_block, touched_whole, touched_section}
 use Rattle.gate_frames.proofs.Standing.{Stands, LevelsRun, closing_stand, opening_stand, left_world, stand_after_closing, stand_after_opening}
 use Rattle.gate_frames.proofs.UpLevels.{next_opening, up_write_event, opening_others, opening_there}
@@ -42,12 +26,12 @@ levels_stay_runs c w t lt ws v s words was now i one three =
 -- the level with one of its words put is the level of the world with this word put
 put_level : (w : World) (i : ℕ) (name : WordName) (touch : Touch) → IsEventAt i name touch → (n : ℕ) →
     put_at (level_in w i) name n ≡ level_in (record { words = put w.words name n; views = w.views }) i
-put_level w i (Sync j) touch e n =
+put_level w i (WordName.Sync j) touch e n =
     λ q. record (level_in w i) { sync = (sym (update_at w.words.sync j n) ∙ ap (update w.words.sync j n) e) q }
-put_level w i (Block j) touch e n =
+put_level w i (WordName.Block j) touch e n =
     λ q. record (level_in w i) { block = (sym (update_at w.words.block j n) ∙ ap (update w.words.block j n) e) q }
-put_level w i (LevelCount j p) touch e n = refl
-put_level w i (Section u) touch e n = refl
+put_level w i (WordName.LevelCount j p) touch e n = refl
+put_level w i (WordName.Section u) touch e n = refl
 put_level w i name touch e n = absurd e
 
 module _ (c : Config) (w : World) (t : ℕ) (lt : t < c.tasks) (v : View) (s z : Option Stand) (was : Stands (w.views t).phase s)

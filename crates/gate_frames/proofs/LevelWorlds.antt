@@ -1,94 +1,77 @@
 -- One level of a world, as the laws of a level have it: what holds there, and what an event of a task leaves of it.
-use Rattle.stage_laws.specs.Roles.{sums}
-use Rattle.gate_frames.proofs.Stands.{freeze_slow, stand_below, thaw_slow}
-use Rattle.std.proofs.Common.{◌≡◌, ℕ, zero, suc, ◌-◌, ◌<◌, ◌≤◌, refl, sym, ap, ◌∙◌, subst, arith}
+use Rattle.std.proofs.{Common.{◌≡◌, ℕ, zero, suc, ◌-◌, ◌<◌, ◌≤◌, refl, sym, ap, ◌∙◌, subst, arith}, lemmas.Bool.{eq-eqb, ne_eqb}}
 use Rattle.std.specs.Prelude.{Option, Some, Bool, true, false, ◌==◌, ◌&&◌, if◌then◌else◌}
-use Rattle.std.proofs.lemmas.Bool.{eq-eqb, ne_eqb}
-use Rattle.finite_sums.specs.Sums.{update, total}
-use Rattle.finite_sums.proofs.Totals.{total_le, update_map, update_same, update_at, update_off}
-use Rattle.cpu_words.specs.declared.names.WordName.{WordName}
-use Rattle.cpu_words.specs.declared.names.WordName.TheVariants.{Sync, Block, LevelCount, Section}
-use Rattle.cpu_words.specs.declared.events.Touch.{Touch}
-use Rattle.cpu_words.specs.declared.events.Touch.TheVariants.{Load}
-use Rattle.cpu_words.specs.Words.{Words, put, read}
-use Rattle.cpu_words.specs.Touches.{wrap_add, left}
-use Rattle.percpu_rwsem.specs.declared.readers.DownReadStep.{DownReadStep}
-use Rattle.percpu_rwsem.specs.declared.readers.DownReadStep.TheVariants.{EntersSection, LoadsSync, CountsUpFast, CountsUpSlow, LoadsBlock, CountsDown, LeavesAdmitted, LeavesBlocked}
-use Rattle.percpu_rwsem.specs.declared.callbacks.CallbackStep.{CallbackStep}
-use Rattle.percpu_rwsem.specs.declared.callbacks.CallbackStep.TheVariants.{Claims, AwaitsSections, CallsBack}
-use Rattle.file_closes.specs.declared.phases.ClosePhase.TheVariants.{Enters}
-use Rattle.write_access.specs.declared.phases.WritePhase.TheVariants.{Takes}
-use Rattle.level_laws.specs.Roles.{SyncRole, Out as IsApart, Fast, fast, closed}
+use Rattle.finite_sums.{proofs.Totals.{total_le, update_map, update_same, update_at, update_off}, specs.Sums.{update, total}}
+use Rattle.cpu_words.specs.{Touches.{wrap_add, left}, Words.{Words, put, read}, declared.{events.Touch.Touch, names.WordName.WordName}}
+use Rattle.percpu_rwsem.specs.declared.{callbacks.CallbackStep.CallbackStep, readers.DownReadStep.DownReadStep}
+use Rattle.level_laws.proofs.Whole.{events_keep, fast_finds_open as level_is_open}
 use Rattle.level_laws.specs.Events.{SyncLevel, SyncLevelHolds, SyncStep, TurnsSection}
 use Rattle.level_laws.specs.Operations.{down_read_role, callback_role, down_read_inside, put_at, value_at, left_by}
-use Rattle.level_laws.proofs.Whole.{events_keep, fast_finds_open as level_is_open}
-use Rattle.gate_world.specs.declared.config.Config.{Config}
-use Rattle.gate_world.specs.declared.views.View.{View}
-use Rattle.gate_world.specs.declared.work.Phase.{Phase}
-use Rattle.gate_world.specs.declared.work.Phase.TheVariants.{DownReads, Callbacks, Writes, Freezes, Thaws, Closes}
-use Rattle.gate_world.specs.Worlds.{World}
-use Rattle.gate_world.specs.LevelRuns.{level_in}
-use Rattle.gate_world.specs.Levels.{sync_role_if, sync_role_of, inside, freeze_stand, thaw_stand}
-use Rattle.gate_world.specs.Shown.{shown, is_passed, stage_roles}
-use Rattle.gate_world.specs.Rules.{IsGood, SameWords, SyncAt, Sections, Holds}
-use Rattle.gate_frames.proofs.Frames.{left_alone}
+use Rattle.level_laws.specs.Roles.{SyncRole, Out as IsApart, Fast, fast, closed}
+use Rattle.stage_laws.specs.Roles.{sums}
+use Rattle.write_access.specs.declared.phases.WritePhase.{WritePhase}
+use Rattle.file_closes.specs.declared.phases.ClosePhase.{ClosePhase}
+use Rattle.gate_world.specs.{LevelRuns.level_in, Levels.{sync_role_if, sync_role_of, inside, freeze_stand, thaw_stand}}
+use Rattle.gate_world.specs.{Rules.{IsGood, SameWords, SyncAt, Sections, Holds}, Shown.{shown, is_passed, stage_roles}, Worlds.World}
+use Rattle.gate_world.specs.declared.{config.Config.Config, views.View.View, work.Phase.Phase}
+use Rattle.gate_frames.proofs.{Frames.left_alone, Stands.{freeze_slow, stand_below, thaw_slow}}
 
 -- a down-read on the fast path is inside its section
 read_fast : (b : Bool) (s : DownReadStep) → fast (sync_role_if b (down_read_role s)) ≤ down_read_inside s
-read_fast true EntersSection = omega arith
-read_fast true LoadsSync = omega arith
-read_fast true CountsUpFast = omega arith
-read_fast true CountsUpSlow = omega arith
-read_fast true LoadsBlock = omega arith
-read_fast true CountsDown = omega arith
-read_fast true LeavesAdmitted = omega arith
-read_fast true LeavesBlocked = omega arith
+read_fast true DownReadStep.EntersSection = omega arith
+read_fast true DownReadStep.LoadsSync = omega arith
+read_fast true DownReadStep.CountsUpFast = omega arith
+read_fast true DownReadStep.CountsUpSlow = omega arith
+read_fast true DownReadStep.LoadsBlock = omega arith
+read_fast true DownReadStep.CountsDown = omega arith
+read_fast true DownReadStep.LeavesAdmitted = omega arith
+read_fast true DownReadStep.LeavesBlocked = omega arith
 read_fast false s = omega arith
 
 -- a callback is never on the fast path
 callback_slow : (b : Bool) (s : CallbackStep) → fast (sync_role_if b (callback_role s)) ≡ 0
-callback_slow true (Claims transition) = refl
-callback_slow true (AwaitsSections grace) = refl
-callback_slow true (CallsBack transition) = refl
+callback_slow true (CallbackStep.Claims transition) = refl
+callback_slow true (CallbackStep.AwaitsSections grace) = refl
+callback_slow true (CallbackStep.CallsBack transition) = refl
 callback_slow false s = refl
 
 -- whoever is on the fast path is inside a section
 pub fast_in_section : (i : ℕ) (p : Option Phase) → fast (sync_role_of i p) ≤ inside p
-fast_in_section i (Some (DownReads r)) = read_fast (i == r.level) r.step
-fast_in_section i (Some (Callbacks b)) = omega (arith, callback_slow (i == b.level) b.step)
-fast_in_section i (Some (Writes (Takes m r))) = read_fast (i == r.level) r.step
-fast_in_section i (Some (Freezes x)) = omega (arith, freeze_slow i x.step)
-fast_in_section i (Some (Thaws x)) = omega (arith, thaw_slow i x.step)
-fast_in_section i (Some (Closes (Enters f node r))) = read_fast (i == r.level) r.step
+fast_in_section i (Some (Phase.DownReads r)) = read_fast (i == r.level) r.step
+fast_in_section i (Some (Phase.Callbacks b)) = omega (arith, callback_slow (i == b.level) b.step)
+fast_in_section i (Some (Phase.Writes (WritePhase.Takes m r))) = read_fast (i == r.level) r.step
+fast_in_section i (Some (Phase.Freezes x)) = omega (arith, freeze_slow i x.step)
+fast_in_section i (Some (Phase.Thaws x)) = omega (arith, thaw_slow i x.step)
+fast_in_section i (Some (Phase.Closes (ClosePhase.Enters f node r))) = read_fast (i == r.level) r.step
 fast_in_section i other = omega arith
 
 -- no down-read has closed a level
 read_opens : (b : Bool) (s : DownReadStep) → closed (sync_role_if b (down_read_role s)) ≡ 0
-read_opens true EntersSection = refl
-read_opens true LoadsSync = refl
-read_opens true CountsUpFast = refl
-read_opens true CountsUpSlow = refl
-read_opens true LoadsBlock = refl
-read_opens true CountsDown = refl
-read_opens true LeavesAdmitted = refl
-read_opens true LeavesBlocked = refl
+read_opens true DownReadStep.EntersSection = refl
+read_opens true DownReadStep.LoadsSync = refl
+read_opens true DownReadStep.CountsUpFast = refl
+read_opens true DownReadStep.CountsUpSlow = refl
+read_opens true DownReadStep.LoadsBlock = refl
+read_opens true DownReadStep.CountsDown = refl
+read_opens true DownReadStep.LeavesAdmitted = refl
+read_opens true DownReadStep.LeavesBlocked = refl
 read_opens false s = refl
 
 -- nor has a callback
 callback_opens : (b : Bool) (s : CallbackStep) → closed (sync_role_if b (callback_role s)) ≡ 0
-callback_opens true (Claims transition) = refl
-callback_opens true (AwaitsSections grace) = refl
-callback_opens true (CallsBack transition) = refl
+callback_opens true (CallbackStep.Claims transition) = refl
+callback_opens true (CallbackStep.AwaitsSections grace) = refl
+callback_opens true (CallbackStep.CallsBack transition) = refl
 callback_opens false s = refl
 
 -- who has closed a level has closed each one below it
 pub closed_below : (i j : ℕ) (p : Option Phase) → 1 ≤ i → i ≤ j → closed (sync_role_of j p) ≤ closed (sync_role_of i p)
-closed_below i j (Some (DownReads r)) one le = omega (arith, read_opens (j == r.level) r.step)
-closed_below i j (Some (Callbacks b)) one le = omega (arith, callback_opens (j == b.level) b.step)
-closed_below i j (Some (Writes (Takes m r))) one le = omega (arith, read_opens (j == r.level) r.step)
-closed_below i j (Some (Freezes x)) one le = stand_below i j (freeze_stand x.step) le
-closed_below i j (Some (Thaws x)) one le = stand_below i j (thaw_stand x.step) le
-closed_below i j (Some (Closes (Enters f node r))) one le = omega (arith, read_opens (j == r.level) r.step)
+closed_below i j (Some (Phase.DownReads r)) one le = omega (arith, read_opens (j == r.level) r.step)
+closed_below i j (Some (Phase.Callbacks b)) one le = omega (arith, callback_opens (j == b.level) b.step)
+closed_below i j (Some (Phase.Writes (WritePhase.Takes m r))) one le = omega (arith, read_opens (j == r.level) r.step)
+closed_below i j (Some (Phase.Freezes x)) one le = stand_below i j (freeze_stand x.step) le
+closed_below i j (Some (Phase.Thaws x)) one le = stand_below i j (thaw_stand x.step) le
+closed_below i j (Some (Phase.Closes (ClosePhase.Enters f node r))) one le = omega (arith, read_opens (j == r.level) r.step)
 closed_below i j other one le = omega arith
 
 -- a task's role at its own level is the one it has there
@@ -101,63 +84,63 @@ sync_off i j r ne = rw (ne_eqb i j ne)
 
 -- a word that the rcu_sync or the counts of this level read
 abbrev pub IsOfLevel : ℕ → WordName → Type 0
-IsOfLevel i (Sync j) = j ≡ i
-IsOfLevel i (Block j) = j ≡ i
-IsOfLevel i (LevelCount j p) = j ≡ i
-IsOfLevel i (Section u) = Unit {0}
+IsOfLevel i (WordName.Sync j) = j ≡ i
+IsOfLevel i (WordName.Block j) = j ≡ i
+IsOfLevel i (WordName.LevelCount j p) = j ≡ i
+IsOfLevel i (WordName.Section u) = Unit {0}
 IsOfLevel i name = ⊥
 
 -- An event at this level that changes no section word: of its sync word, its `block` or its counts, or a load of a section word.
 abbrev pub IsEventAt : ℕ → WordName → Touch → Type 0
-IsEventAt i (Sync j) touch = j ≡ i
-IsEventAt i (Block j) touch = j ≡ i
-IsEventAt i (LevelCount j p) touch = j ≡ i
-IsEventAt i (Section u) Load = Unit {0}
+IsEventAt i (WordName.Sync j) touch = j ≡ i
+IsEventAt i (WordName.Block j) touch = j ≡ i
+IsEventAt i (WordName.LevelCount j p) touch = j ≡ i
+IsEventAt i (WordName.Section u) Touch.Load = Unit {0}
 IsEventAt i name touch = ⊥
 
 -- it is of a word of the level
 event_word : (i : ℕ) (name : WordName) (touch : Touch) → IsEventAt i name touch → IsOfLevel i name
-event_word i (Sync j) touch e = e
-event_word i (Block j) touch e = e
-event_word i (LevelCount j p) touch e = e
-event_word i (Section u) touch e = tt
+event_word i (WordName.Sync j) touch e = e
+event_word i (WordName.Block j) touch e = e
+event_word i (WordName.LevelCount j p) touch e = e
+event_word i (WordName.Section u) touch e = tt
 event_word i name touch e = absurd e
 
 -- the level with one of its words put is the level of the world with this word put
 put_level : (w : World) (i : ℕ) (name : WordName) → IsOfLevel i name → (n : ℕ) →
     put_at (level_in w i) name n ≡ level_in (record { words = put w.words name n; views = w.views }) i
-put_level w i (Sync j) e n = λ q. record (level_in w i) { sync = (sym (update_at w.words.sync j n) ∙ ap (update w.words.sync j n) e) q }
-put_level w i (Block j) e n =
+put_level w i (WordName.Sync j) e n = λ q. record (level_in w i) { sync = (sym (update_at w.words.sync j n) ∙ ap (update w.words.sync j n) e) q }
+put_level w i (WordName.Block j) e n =
     λ q. record (level_in w i) { block = (sym (update_at w.words.block j n) ∙ ap (update w.words.block j n) e) q }
-put_level w i (LevelCount j p) e n = refl
-put_level w i (Section u) e n = refl
+put_level w i (WordName.LevelCount j p) e n = refl
+put_level w i (WordName.Section u) e n = refl
 put_level w i name e n = absurd e
 
 -- the level finds in its word what the world has there
 pub found_level : (w : World) (i : ℕ) (name : WordName) → IsOfLevel i name →
     value_at (level_in w i) (read w.words name) name ≡ read w.words name
-found_level w i (Sync j) e = ap w.words.sync (sym e)
-found_level w i (Block j) e = ap w.words.block (sym e)
-found_level w i (LevelCount j p) e = refl
-found_level w i (Section u) e = refl
+found_level w i (WordName.Sync j) e = ap w.words.sync (sym e)
+found_level w i (WordName.Block j) e = ap w.words.block (sym e)
+found_level w i (WordName.LevelCount j p) e = refl
+found_level w i (WordName.Section u) e = refl
 found_level w i name e = absurd e
 
 -- such an event leaves the sections
 section_kept : (w : Words) (i : ℕ) (name : WordName) (touch : Touch) → IsEventAt i name touch →
     (put w name (left touch (read w name))).section ≡ w.section
-section_kept w i (Sync j) touch e = refl
-section_kept w i (Block j) touch e = refl
-section_kept w i (LevelCount j p) touch e = refl
-section_kept w i (Section u) Load e = update_same w.section u
+section_kept w i (WordName.Sync j) touch e = refl
+section_kept w i (WordName.Block j) touch e = refl
+section_kept w i (WordName.LevelCount j p) touch e = refl
+section_kept w i (WordName.Section u) Touch.Load e = update_same w.section u
 section_kept w i name touch e = absurd e
 
 -- and what the rcu_sync of another level reads
 other_words : (w : Words) (i j : ℕ) → (j ≡ i → ⊥) → (name : WordName) (touch : Touch) → IsEventAt i name touch →
     SameWords w (put w name (left touch (read w name))) (SyncAt j)
-other_words w i j ne (Sync k) touch e = (update_off w.sync k _ j (λ q. ne (q ∙ e)), refl, refl, refl)
-other_words w i j ne (Block k) touch e = (refl, update_off w.block k _ j (λ q. ne (q ∙ e)), refl, refl)
-other_words w i j ne (LevelCount k p) touch e = (refl, refl, refl, refl)
-other_words w i j ne (Section u) Load e = (refl, refl, update_same w.section u, refl)
+other_words w i j ne (WordName.Sync k) touch e = (update_off w.sync k _ j (λ q. ne (q ∙ e)), refl, refl, refl)
+other_words w i j ne (WordName.Block k) touch e = (refl, update_off w.block k _ j (λ q. ne (q ∙ e)), refl, refl)
+other_words w i j ne (WordName.LevelCount k p) touch e = (refl, refl, refl, refl)
+other_words w i j ne (WordName.Section u) Touch.Load e = (refl, refl, update_same w.section u, refl)
 other_words w i j ne name touch e = absurd e
 
 -- a level passed is one with its `block` set

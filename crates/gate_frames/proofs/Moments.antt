@@ -1,17 +1,12 @@
 -- Moments of a schedule: the last question, the last look at the stage, the moments of a sum, and what was counted.
-use Rattle.cpu_words.specs.Sums.{lead, ahead}
-use Rattle.finite_sums.proofs.Totals.{total_at}
-use Rattle.finite_sums.specs.Sums.{total}
-use Rattle.gate_world.specs.Causes.{all_counted, was_counted, asks, last_question, looks_at_stage, last_look, words_read, moments_of_sum}
-use Rattle.gate_world.specs.Rules.{IsGood, AtMount, MountHoldsIn, at_mount}
-use Rattle.gate_world.specs.Worlds.{World}
-use Rattle.gate_world.specs.declared.config.Config.{Config}
-use Rattle.gate_counts.proofs.Numbers.{ahead_none}
-use Rattle.gate_counts.proofs.Events.{words_sum}
-use Rattle.mount_counts.specs.Roles.{counted}
-use Rattle.std.proofs.Common.{◌≡◌, ℕ, ◌<◌, Bool, true, false, refl, inl, inr, arith, ◌%◌, ◌≤◌, true≢false}
-use Rattle.std.proofs.lemmas.Bool.{ne_eqb, ltb-false, cases_Bool}
+use Rattle.std.proofs.{Common.{◌≡◌, ℕ, ◌<◌, Bool, true, false, refl, inl, inr, arith, ◌%◌, ◌≤◌, true≢false}, lemmas.Bool.{ne_eqb, ltb-false, cases_Bool}}
 use Rattle.std.specs.Prelude.{nat_lt, Some, List, ◌∷◌, ◌||◌, None, []}
+use Rattle.finite_sums.{proofs.Totals.total_at, specs.Sums.total}
+use Rattle.cpu_words.specs.Sums.{lead, ahead}
+use Rattle.gate_counts.proofs.{Events.words_sum, Numbers.ahead_none}
+use Rattle.mount_counts.specs.Roles.{counted}
+use Rattle.gate_world.specs.Causes.{all_counted, was_counted, asks, last_question, looks_at_stage, last_look, words_read, moments_of_sum}
+use Rattle.gate_world.specs.{Rules.{IsGood, AtMount, MountHoldsIn, at_mount}, Worlds.World, declared.config.Config.Config}
 
 -- a task is counted at most as often as all are
 pub one_counted : (c : Config) (m t : ℕ) (w : World) → t < c.tasks → counted (at_mount m (w.views t)) ≤ all_counted c m w

@@ -1,23 +1,11 @@
 -- An operation that stands at a phase of another one, as a part of its own: the law of the other's event is the law of its event.
-use Rattle.std.proofs.Common.{◌≡◌, ℕ, ◌<◌, refl, sym, ap, subst}
-use Rattle.std.specs.Prelude.{Option}
+use Rattle.std.{proofs.Common.{◌≡◌, ℕ, ◌<◌, refl, sym, ap, subst}, specs.Prelude.Option}
 use Rattle.finite_sums.proofs.Totals.{update_at}
-use Rattle.access_model.specs.declared.actions.Action.{Action}
-use Rattle.access_model.specs.declared.replies.Next.{Next}
-use Rattle.cpu_words.specs.declared.names.WordName.{WordName}
-use Rattle.cpu_words.specs.declared.events.Touch.{Touch}
-use Rattle.cpu_words.specs.Hooks.{HookAnswer}
-use Rattle.gate_world.specs.declared.config.Config.{Config}
-use Rattle.gate_world.specs.declared.work.Phase.{Phase}
-use Rattle.gate_world.specs.declared.views.View.{View}
-use Rattle.gate_world.specs.Views.{held_at, holds_level, phase_after}
-use Rattle.gate_world.specs.Fits.{Fits, mounts_by, levels_by}
-use Rattle.gate_world.specs.Worlds.{World}
-use Rattle.gate_world.specs.Shown.{shown}
-use Rattle.gate_world.specs.Rules.{Holds, IsGood, Moves, Tree, Files}
-use Rattle.gate_world.specs.Alike.{IsAlike, at_phase, rephased}
-use Rattle.gate_frames.proofs.Frames.{left_alone}
-use Rattle.gate_frames.proofs.Beside.{beside_good, beside_shown, made, made_again, made_keeps_beside}
+use Rattle.access_model.specs.declared.{actions.Action.Action, replies.Next.Next}
+use Rattle.cpu_words.specs.{Hooks.HookAnswer, declared.{events.Touch.Touch, names.WordName.WordName}}
+use Rattle.gate_world.specs.{Alike.{IsAlike, at_phase, rephased}, Fits.{Fits, mounts_by, levels_by}, Rules.{Holds, IsGood, Moves, Tree, Files}, Shown.shown}
+use Rattle.gate_world.specs.{Views.{held_at, holds_level, phase_after}, Worlds.World, declared.{config.Config.Config, views.View.View, work.Phase.Phase}}
+use Rattle.gate_frames.proofs.{Beside.{beside_good, beside_shown, made, made_again, made_keeps_beside}, Frames.left_alone}
 
 -- what is alike to a phase is alike to the same phase
 pub alike_of : {p q r : Option Phase} → p ≡ q → IsAlike q r → IsAlike p r

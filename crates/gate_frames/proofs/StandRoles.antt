@@ -1,29 +1,15 @@
 -- What who stands at a level has there, below it and above it; which stands say the same; and what an event of such a task leaves.
 use Rattle.std.proofs.Common.{◌≡◌, ℕ, zero, suc, ◌-◌, ◌<◌, ◌≤◌, refl, sym, ap, ◌∙◌, inl, inr, arith, subst}
+use Rattle.std.proofs.lemmas.Bool.{eq-eqb, ne_eqb, lt-ltb, le-ltb, cases_lt, Decides.eqb_tells}
 use Rattle.std.specs.Prelude.{Option, Some, None, Bool, if◌then◌else◌}
-use Rattle.std.proofs.lemmas.Bool.{eq-eqb, ne_eqb, lt-ltb, le-ltb, cases_lt}
-use Rattle.std.proofs.lemmas.Bool.Decides.{eqb_tells}
-use Rattle.finite_sums.specs.Sums.{update}
-use Rattle.finite_sums.proofs.Totals.{update_map, update_off, update_same}
-use Rattle.cpu_words.specs.declared.names.WordName.{WordName}
-use Rattle.cpu_words.specs.declared.names.WordName.TheVariants.{Sync, Block, LevelCount, Section}
-use Rattle.cpu_words.specs.declared.events.Touch.{Touch}
-use Rattle.cpu_words.specs.declared.events.Touch.TheVariants.{Load}
-use Rattle.cpu_words.specs.Words.{Words, put, read}
-use Rattle.cpu_words.specs.Touches.{left}
-use Rattle.freeze_levels.specs.Levels.{closing, reopening}
+use Rattle.finite_sums.{proofs.Totals.{update_map, update_off, update_same}, specs.Sums.update}
+use Rattle.cpu_words.specs.{Touches.left, Words.{Words, put, read}, declared.{events.Touch.Touch, names.WordName.WordName}}
 use Rattle.gate_counts.specs.Levels.{LevelRole, LevelHolds, Out as CountsNot, Passed as CountsPassed}
-use Rattle.level_laws.specs.Events.{SyncLevel, SyncStep}
-use Rattle.level_laws.specs.Operations.{put_at, left_by}
-use Rattle.level_laws.specs.Roles.{Closed, Out as IsApart}
-use Rattle.gate_world.specs.declared.config.Config.{Config}
-use Rattle.gate_world.specs.declared.views.View.{View}
-use Rattle.gate_world.specs.Worlds.{World}
-use Rattle.gate_world.specs.Levels.{at_level, level_role_of, inside, is_frozen_whole, Stand, stand_count, stand_sync, closed_to}
-use Rattle.gate_world.specs.Rules.{IsGood, Holds, AtLevel, SyncAt, Sections}
-use Rattle.gate_world.specs.declared.work.Phase.{Phase}
+use Rattle.freeze_levels.specs.Levels.{closing, reopening}
+use Rattle.level_laws.specs.{Events.{SyncLevel, SyncStep}, Operations.{put_at, left_by}, Roles.{Closed, Out as IsApart}}
+use Rattle.gate_world.specs.{LevelRuns.level_in, Levels.{at_level, level_role_of, inside, is_frozen_whole, Stand, stand_count, stand_sync, closed_to}}
+use Rattle.gate_world.specs.{Rules.{IsGood, Holds, AtLevel, SyncAt, Sections}, Worlds.World, declared.{config.Config.Config, views.View.View, work.Phase.Phase}}
 use Rattle.gate_frames.proofs.Frames.{left_alone, level_as, level_view_as, SameLevelWords, SameLevelCounts}
-use Rattle.gate_world.specs.LevelRuns.{level_in}
 use Rattle.gate_frames.proofs.LevelWorlds.{IsOfLevel, IsEventAt, sync_there, sync_elsewhere, sections_stay}
 use Rattle.gate_frames.proofs.Standing.{LevelsHold, left_world, closing_stand, still_closed, Stands, opening_stand}
 
@@ -222,52 +208,52 @@ still_sync (suc (suc n)) one =
 -- an event at a level leaves `block` of the others
 pub touched_block : (w : Words) (i j : ℕ) → (j ≡ i → ⊥) → (name : WordName) (touch : Touch) → IsEventAt i name touch →
     (put w name (left touch (read w name))).block j ≡ w.block j
-touched_block w i j ne (Sync k) touch e = refl
-touched_block w i j ne (Block k) touch e = update_off w.block k _ j (λ q. ne (q ∙ e))
-touched_block w i j ne (LevelCount k p) touch e = refl
-touched_block w i j ne (Section u) Load e = refl
+touched_block w i j ne (WordName.Sync k) touch e = refl
+touched_block w i j ne (WordName.Block k) touch e = update_off w.block k _ j (λ q. ne (q ∙ e))
+touched_block w i j ne (WordName.LevelCount k p) touch e = refl
+touched_block w i j ne (WordName.Section u) Touch.Load e = refl
 touched_block w i j ne name touch e = absurd e
 
 -- and whether the file system is frozen as a whole
 pub touched_whole : (w : Words) (i : ℕ) (name : WordName) (touch : Touch) → IsEventAt i name touch →
     is_frozen_whole (put w name (left touch (read w name))) ≡ is_frozen_whole w
-touched_whole w i (Sync k) touch e = refl
-touched_whole w i (Block k) touch e = refl
-touched_whole w i (LevelCount k p) touch e = refl
-touched_whole w i (Section u) Load e = refl
+touched_whole w i (WordName.Sync k) touch e = refl
+touched_whole w i (WordName.Block k) touch e = refl
+touched_whole w i (WordName.LevelCount k p) touch e = refl
+touched_whole w i (WordName.Section u) Touch.Load e = refl
 touched_whole w i name touch e = absurd e
 
 -- and the sync words of the others
 pub touched_sync : (w : Words) (i j : ℕ) → (j ≡ i → ⊥) → (name : WordName) (touch : Touch) → IsEventAt i name touch →
     (put w name (left touch (read w name))).sync j ≡ w.sync j
-touched_sync w i j ne (Sync k) touch e = update_off w.sync k _ j (λ q. ne (q ∙ e))
-touched_sync w i j ne (Block k) touch e = refl
-touched_sync w i j ne (LevelCount k p) touch e = refl
-touched_sync w i j ne (Section u) Load e = refl
+touched_sync w i j ne (WordName.Sync k) touch e = update_off w.sync k _ j (λ q. ne (q ∙ e))
+touched_sync w i j ne (WordName.Block k) touch e = refl
+touched_sync w i j ne (WordName.LevelCount k p) touch e = refl
+touched_sync w i j ne (WordName.Section u) Touch.Load e = refl
 touched_sync w i j ne name touch e = absurd e
 
 -- and all section words
 pub touched_section : (w : Words) (i : ℕ) (name : WordName) (touch : Touch) → IsEventAt i name touch →
     (put w name (left touch (read w name))).section ≡ w.section
-touched_section w i (Sync k) touch e = refl
-touched_section w i (Block k) touch e = refl
-touched_section w i (LevelCount k p) touch e = refl
-touched_section w i (Section u) Load e = update_same w.section u
+touched_section w i (WordName.Sync k) touch e = refl
+touched_section w i (WordName.Block k) touch e = refl
+touched_section w i (WordName.LevelCount k p) touch e = refl
+touched_section w i (WordName.Section u) Touch.Load e = update_same w.section u
 touched_section w i name touch e = absurd e
 
 -- its word is one of the level
 pub is_of_level : (i : ℕ) (name : WordName) (touch : Touch) → IsEventAt i name touch → IsOfLevel i name
-is_of_level i (Sync k) touch e = e
-is_of_level i (Block k) touch e = e
-is_of_level i (LevelCount k p) touch e = e
-is_of_level i (Section u) touch e = tt
+is_of_level i (WordName.Sync k) touch e = e
+is_of_level i (WordName.Block k) touch e = e
+is_of_level i (WordName.LevelCount k p) touch e = e
+is_of_level i (WordName.Section u) touch e = tt
 is_of_level i name touch e = absurd e
 
 -- a word that is put is none of who is inside a section
 pub put_inside : (l : SyncLevel) (name : WordName) (n : ℕ) → (put_at l name n).inside ≡ l.inside
-put_inside l (Sync i) n = refl
-put_inside l (Block i) n = refl
-put_inside l (Section u) n = refl
+put_inside l (WordName.Sync i) n = refl
+put_inside l (WordName.Block i) n = refl
+put_inside l (WordName.Section u) n = refl
 put_inside l name n = refl
 
 -- An event of a task that stood so with the levels, stands so after it, and holds and has added at them what it had.

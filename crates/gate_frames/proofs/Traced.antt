@@ -1,36 +1,27 @@
 -- Each view follows its operation, after every schedule.
 use Rattle.std.proofs.Common.{◌≡◌, ℕ, refl, sym, ap, ◌∙◌, subst, inl, inr, Bool, false, is_some, true≢false, ◌<◌}
-use Rattle.std.specs.Prelude.{true, false, Option, Some, None, nat_lt, List, ◌∷◌, ◌++◌}
 use Rattle.std.proofs.lemmas.Bool.{cases_Bool, cases_lt, lt-ltb, le-ltb}
+use Rattle.std.specs.Prelude.{true, false, Option, Some, None, nat_lt, List, ◌∷◌, ◌++◌}
 use Rattle.finite_sums.proofs.Totals.{each_updated}
-use Rattle.access_model.specs.declared.actions.Action.{Action}
-use Rattle.access_model.specs.declared.errors.GateError.{GateError}
-use Rattle.access_model.specs.declared.replies.Next.{Next}
-use Rattle.access_model.specs.declared.replies.Next.TheVariants.{Go, Wait, Done}
-use Rattle.cpu_words.specs.Touches.{found_by}
-use Rattle.cpu_words.specs.Hooks.{HookAnswer}
-use Rattle.gate_world.specs.declared.config.Config.{Config}
-use Rattle.gate_world.specs.declared.operations.Op.{Op}
-use Rattle.gate_world.specs.declared.work.Phase.{Phase}
-use Rattle.gate_world.specs.declared.views.View.{View}
-use Rattle.gate_world.specs.declared.views.Traced.{Traced}
-use Rattle.gate_world.specs.Work.{next_of, after_of}
-use Rattle.gate_world.specs.Views.{phase_after, actions_after, with_hook, view_after, begun_view, held_at, holds_level, has_open}
+use Rattle.access_model.specs.declared.{actions.Action.Action, errors.GateError.GateError, replies.Next.Next}
+use Rattle.cpu_words.specs.{Hooks.HookAnswer, Touches.found_by}
 use Rattle.gate_world.specs.Beginnings.{first_phase, view_refusal, refusal}
-use Rattle.gate_world.specs.Worlds.{World, Entry, Begins, Steps, begin_refusal, begin_of, value_at, step_of, happens, opening}
 use Rattle.gate_world.specs.Courses.{course_with, course_after, course_of, IsEventOf, IsNext, IsTraced, MayFind, AllTraced, EventsMayBe}
+use Rattle.gate_world.specs.{Views.{phase_after, actions_after, with_hook, view_after, begun_view, held_at, holds_level, has_open}, Work.{next_of, after_of}}
+use Rattle.gate_world.specs.Worlds.{World, Entry, Begins, Steps, begin_refusal, begin_of, value_at, step_of, happens, opening}
+use Rattle.gate_world.specs.declared.{config.Config.Config, operations.Op.Op, views.{Traced.Traced, View.View}, work.Phase.Phase}
 use Rattle.gate_frames.proofs.Says.{event_at}
 
 -- where an operation stands at this phase, its event is the next, and what comes after it is the course after it
 stands_at : (comes : Next Phase) (added : List Action) (phase : Phase) (e : Traced) → phase_after comes ≡ Some phase → IsEventOf phase e →
     IsNext comes e × (course_after comes added e ≡ course_with added (after_of phase e.event.found e.hook))
-stands_at (Go there) added phase e h next =
+stands_at (Next.Go there) added phase e h next =
     let same : there ≡ phase = cc in
     (subst (λ x. IsEventOf x e) (sym same) next, ap (λ x. course_with added (after_of x e.event.found e.hook)) same)
-stands_at (Wait there) added phase e h next =
+stands_at (Next.Wait there) added phase e h next =
     let same : there ≡ phase = cc in
     (subst (λ x. IsEventOf x e) (sym same) next, ap (λ x. course_with added (after_of x e.event.found e.hook)) same)
-stands_at (Done answer) added phase e h next = absurd (cc)
+stands_at (Next.Done answer) added phase e h next = absurd (cc)
 
 -- an action more goes before the earlier ones
 newest : (action : Option Action) (actions added before : List Action) → actions ≡ added ++ before →
