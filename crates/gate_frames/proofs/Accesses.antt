@@ -7,36 +7,30 @@ use Rattle.access_model.specs.{Histories.{mounts_of, levels_of, opens_of}, decla
 use Rattle.gate_world.specs.{Accesses.{mounts_held, levels_held, accesses_after, files_held}, Fits.{ActionFits, mounts_by, levels_by, opens_by}}
 use Rattle.gate_world.specs.{Views.actions_after, declared.accesses.Accesses.Accesses}
 
--- what a list of actions leaves, with one action more
 pub mounts_of_after : (a : Option Action) (actions : List Action) → mounts_of (actions_after a actions) ≡ mounts_by a (mounts_of actions)
 mounts_of_after None actions = refl
 mounts_of_after (Some a) actions = refl
 
--- the same of levels
 pub levels_of_after : (a : Option Action) (actions : List Action) → levels_of (actions_after a actions) ≡ levels_by a (levels_of actions)
 levels_of_after None actions = refl
 levels_of_after (Some a) actions = refl
 
--- and of the open files
 pub opens_of_after : (a : Option Action) (actions : List Action) → opens_of (actions_after a actions) ≡ opens_by a (opens_of actions)
 opens_of_after None actions = refl
 opens_of_after (Some a) actions = refl
 
--- an action keeps the length of the mounts' list
 pub long_after : (held : Accesses) (a : Option Action) → length (accesses_after held a).mounts ≡ length held.mounts
 long_after held None = refl
 long_after held (Some (Action.Grant (Gate.Mount m))) = length-set held.mounts m (slice_index held.mounts m + 1)
 long_after held (Some (Action.Return (Gate.Mount m))) = length-set held.mounts m (slice_index held.mounts m - 1)
 long_after held (Some a) = refl
 
--- and that of the levels'
 pub wide_after : (held : Accesses) (a : Option Action) → length (accesses_after held a).levels ≡ length held.levels
 wide_after held None = refl
 wide_after held (Some (Action.Grant (Gate.Level i))) = length-set held.levels i true
 wide_after held (Some (Action.Return (Gate.Level i))) = length-set held.levels i false
 wide_after held (Some a) = refl
 
--- and that of the open files'
 pub deep_after : (held : Accesses) (a : Option Action) → length (accesses_after held a).files ≡ length held.files
 deep_after held (Some (Action.Grant (Gate.Mount m))) = refl
 deep_after held (Some (Action.Return (Gate.Mount m))) = refl

@@ -12,7 +12,6 @@ use Rattle.gate_world.specs.{Shown.shown, Views.{held_at, holds_level, phase_aft
 use Rattle.gate_world.specs.declared.{config.Config.Config, views.View.View, work.Phase.Phase}
 use Rattle.gate_frames.proofs.{Accesses.{mounts_of_after, levels_of_after}, Frames.{view_as, shown_still, left_alone, level_view_as}, LevelSteps.level_kept}
 
--- what is beside a phase is beside the same phase
 pub beside_of : {p q r : Option Phase} → p ≡ q → IsBeside q r → IsBeside p r
 beside_of {p} {q} {r} e h = subst (λ x. IsBeside x r) (sym e) h
 
@@ -52,13 +51,11 @@ module _ (c : Config) (w : World) (t : ℕ) (lt : t < c.tasks) (q : Option Phase
   pub beside_shown : shown c (rephased w t q) ≡ shown c w
   beside_shown = shown_still c w t lt w.words (at_phase (w.views t) q) refl refl refl refl refl refl refl same.steady.closing_same refl refl refl
 
--- and so is each level
 pub beside_level : (w : World) (t : ℕ) (q : Option Phase) → IsBeside (w.views t).phase q → (i : ℕ) →
     level_in (rephased w t q) i ≡ level_in w i
 beside_level w t q same i =
     level_kept w t i w.words (at_phase (w.views t) q) refl refl refl refl same.inside_same (same.sync_same i)
 
--- of two values put at one place the later one stands
 pub update_twice : {A : Type 0} (f : ℕ → A) (t : ℕ) (u v : A) → update (update f t u) t v ≡ update f t v
 update_twice f t u v =
     fun_ext (λ x. elim (eqb_tells x t) [

@@ -9,7 +9,6 @@ use Rattle.gate_world.specs.{Found.SeenIn, Traces.{actions_of, IsHonest, IsTold,
 use Rattle.gate_world.specs.declared.{config.Config.Config, operations.Op.Op, views.Traced.Traced, work.Phase.Phase}
 use Rattle.gate_frames.proofs.Says.{Says}
 
--- where one test is passed, one of two is
 or_one : (a b : Bool) → a ≡ true → (a || b) ≡ true
 or_one a b h = rw h refl
 
@@ -17,19 +16,16 @@ or_other : (a b : Bool) → b ≡ true → (a || b) ≡ true
 or_other true b h = refl
 or_other false b h = h
 
--- with one event more, a trace has seen more
 pub sees : (e : Traced) (earlier : List Traced) → SeesMore (SeenIn earlier) (SeenIn (e ∷ earlier)) e.event
 sees e earlier = record {
   earlier = λ test h. or_other (test e.event) _ h;
   now = λ test h. or_one (test e.event) _ h;
 }
 
--- an action on top of the earlier ones, said both ways
 same_actions : (action : Option Action) (added : List Action) → with_action action added ≡ actions_after action added
 same_actions None added = refl
 same_actions (Some a) added = refl
 
--- something is made of what is there
 pub made_some : {A B : Type 0} (f : A → B) (o : Option A) → is_some o ≡ true → is_some (option_map f o) ≡ true
 made_some f None h = absurd (cc)
 made_some f (Some a) h = refl

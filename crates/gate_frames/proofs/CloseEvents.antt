@@ -56,7 +56,6 @@ module _ (c : Bounds) (within : AreWithin c) (sealed bare : ℕ) (w : Words) (at
   close_looked x is ln (Some (Ok file)) found = close_from x is ln file found
   close_looked x is ln (Some (Err refusal)) found = stays_at c within sealed bare w at good t lt Out is
 
-  -- the load of its file
   pub close_loads : (x : Closing) → at t ≡ Out → x.file < c.nodes →
       EventKeeps c sealed bare w at t (next (ClosePhase.LoadsFile x)) (role_after close_tree_role (after (ClosePhase.LoadsFile x) (w.node x.file)).0)
       (after (ClosePhase.LoadsFile x) (w.node x.file)).1
@@ -169,11 +168,9 @@ frees_le : (n : ℕ) (r : Role) → frees n r ≤ 1
 frees_le n (Freeing m file) = same_le m n
 frees_le n _ = omega arith
 
--- a role frees a node at most once
 frees_small : (n : ℕ) (r : Role) → (frees n r ≡ 1 → ⊥) → frees n r ≡ 0
 frees_small n r other = omega (arith, other, frees_le n r)
 
--- where two tasks have a file open, it is open for two
 two_open : (opens : ℕ → ℕ → Bool) (n t u : ℕ) → t < most_tasks → u < most_tasks → (u ≡ t → ⊥) → opens t n ≡ true → opens u n ≡ true →
     2 ≤ openers opens n
 two_open opens n t u lt lu ne a b =
@@ -214,11 +211,9 @@ module _ (c : Config) (within : IsWithin c) (w : World) (good : IsGood c w) (t :
         level_thawed c w good t lt 3 (omega arith) (omega arith) inside (rw (frozen, writable) refl)
   ]
 
-  -- so no snapshot has loaded a word
   pub closer_unread : holds_level (w.views t) 3 ≡ true → 1 ≤ w.words.removed → NobodyReads (tree_bounds c) (tree_of w)
   closer_unread inside some = nobody_reads c w good (closer_thawed inside some)
 
-  -- a task that has counted a removed file is one of those that `removed` counts
   pub removal_counted : removal (tree_roles w t) ≡ 1 → 1 ≤ w.words.removed
   removal_counted is = omega (arith, (good Tree).removals, total_at c.tasks t (λ x. removal (tree_roles w x)) lt, is)
 

@@ -46,7 +46,6 @@ module _ (c : Config) (d : ℕ) (kind : Kind) where
   abbrev Comes : List Traced → ℕ → Next Create → Type 0
   Comes = Stays Create CreateStep TreePhase.Create create_of Knows so_far (IsThere c) (events_before c) (c.nodes + 3) false c (Op.Create d kind)
 
-  -- a look at a node that was there
   node_looked : (trace : List Traced) (node : ℕ) (r : Option NodeWord) → node < c.nodes → is_some r ≡ true →
       Comes trace node (create_looked (create_of (CreateStep.LoadsNode node)) node r)
   node_looked trace node None lt h = absurd (cc)
@@ -133,7 +132,6 @@ module _ (c : Config) (d : ℕ) (kind : Kind) where
     short = λ trace phase added here. create_within here.0 trace here.2.0 (here.2.3 refl);
   }
 
--- so a create's trace tells what it is to tell, and is short
 pub create_tells : (d : ℕ) (kind : Kind) (c : Config) → IsWithin c → (t : ℕ) (trace : List Traced) → IsTrace c t (Op.Create d kind) trace →
     Tells c (Op.Create d kind) trace (course_of c t (Op.Create d kind) trace).comes (course_of c t (Op.Create d kind) trace).added
 create_tells d kind c lim t trace h = tells_well (CreateAt c d kind) c t (Op.Create d kind) (create_kept c d kind lim t) trace h

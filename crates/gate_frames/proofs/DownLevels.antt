@@ -69,23 +69,19 @@ passed_level : (d : DownWrite) (o : Option SyncWord) → AtTheLevel d.level (pas
 passed_level d None = refl
 passed_level d (Some word) = state_level d (is_passed word.state)
 
--- one that swaps `block` does
 swap_level : (d : DownWrite) (b : Bool) →
     AtTheLevel d.level (if b then Next.Go (at_down_write d sum_begun) else Next.Wait (at_down_write d DownWriteStep.SetsBlock))
 swap_level d true = refl
 swap_level d false = refl
 
--- one that has its total
 total_level : (d : DownWrite) (b : Bool) → AtTheLevel d.level (if b then Next.Done (Ok Reply.Unit) else Next.Wait (at_down_write d sum_begun))
 total_level d true = tt
 total_level d false = refl
 
--- and one that takes a word more
 summed_level : (d : DownWrite) (taken : Taken) → AtTheLevel d.level (down_write_summed d taken).0
 summed_level d (Taken.More sum) = refl
 summed_level d (Taken.Total n) = total_level d (n == 0)
 
--- so each does
 pub down_write_level : (d : DownWrite) (s : DownWriteStep) (found : ℕ) → AtTheLevel d.level (down_write_after d s found).0
 down_write_level d (DownWriteStep.Enters x) found = refl
 down_write_level d (DownWriteStep.AwaitsSections g) found = grace_level d (looked g found)
@@ -108,7 +104,6 @@ closing_sync level (Next.Go x) h = sym (sync_at level (closing_stand x) (sym h))
 closing_sync level (Next.Wait x) h = sym (sync_at level (closing_stand x) (sym h))
 closing_sync level (Next.Done answer) h = sym (sync_at level (closed_to level) refl)
 
--- at its level's counts a down-write does what its step does
 counts_as : (d : DownWrite) (s : DownWriteStep) → stand_count d.level (Some (closing_stand (at_down_write d s))) ≡ down_count_role s
 counts_as d s = count_at d.level (closing_stand (at_down_write d s)) refl
 
@@ -198,7 +193,6 @@ taken_passes : (d : DownWrite) (j : ℕ) (taken : Taken) → (down_write_summed 
 taken_passes d j (Taken.More sum) e = absurd (none-some (Action.Pass j) e)
 taken_passes d j (Taken.Total n) e = ap total_role (total_passes d.level j (n == 0) e)
 
--- a state with a callback queued is at least GP_PASSED
 queued_passed : (s : GpState) → is_queued s ≡ true → is_passed s ≡ true
 queued_passed GpState.Exit e = refl
 queued_passed GpState.Replay e = refl
@@ -401,7 +395,6 @@ module _ (c : Config) (lim : IsWithin c) (w : World) (good : IsGood c w) (t : �
           counts d.level (down_write_next d s).0 (down_write_next d s).1 (down_write_event d s) (down_write_counts w.words d s)
           (closing_others s) (closing_here s fits was now) (λ low high. closing_there s fits was alone)
 
--- so it does at the step that it is at
 pub down_write_levels : (c : Config) → IsWithin c → (w : World) → IsGood c w → (t : ℕ) → t < c.tasks → (d : DownWrite) (v : View) →
     SameLevelCounts (w.views t) v → DownWriteFits c d → Stands (w.views t).phase (Some (closing_stand d)) →
     Stands v.phase (stand_after_closing d.level
@@ -413,14 +406,12 @@ pub down_write_levels : (c : Config) → IsWithin c → (w : World) → IsGood c
 down_write_levels c lim w good t lt d v counts fits was now alone =
     down_write_levels_at c lim w good t lt d v counts d.step fits was now alone
 
--- the event that passes a level finds that nobody holds it
 pub passes_finds_nobody : (c : Config) → IsWithin c → (w : World) → IsGood c w → (t : ℕ) → t < c.tasks → (d : DownWrite) →
     DownWriteFits c d → Stands (w.views t).phase (Some (closing_stand d)) → (j : ℕ) →
     (down_write_after d d.step (found_by (down_write_next d d.step).1 (read w.words (down_write_next d d.step).0))).1 ≡ Some (Action.Pass j) →
     total c.tasks (λ x. if holds_level (w.views x) d.level then 1 else 0) ≡ 0
 passes_finds_nobody c lim w good t lt d fits was j e = passes_nobody c lim w good t lt d d.step fits was j e
 
--- and leaves nobody who does, where its task holds what it held
 pub passes_leaves_nobody : (c : Config) → IsWithin c → (w : World) → IsGood c w → (t : ℕ) → t < c.tasks → (d : DownWrite) →
     DownWriteFits c d → Stands (w.views t).phase (Some (closing_stand d)) → (j : ℕ) →
     (down_write_after d d.step (found_by (down_write_next d d.step).1 (read w.words (down_write_next d d.step).0))).1 ≡ Some (Action.Pass j) →
@@ -433,7 +424,6 @@ passes_leaves_nobody c lim w good t lt d fits was j e v held =
     (ap (λ (h : ℕ → Bool). update (λ x. f (w.views x)) t (if h d.level then 1 else 0)) held ∙ update_same (λ x. f (w.views x)) t) in
     ap (total c.tasks) same ∙ passes_finds_nobody c lim w good t lt d fits was j e
 
--- a role has entered once at most
 entered_le : (r : SyncRole) → entered r ≤ 1
 entered_le (Waiting g) = omega arith
 entered_le HasPassed = omega arith
@@ -441,25 +431,21 @@ entered_le HasEntered = omega arith
 entered_le Closed = omega arith
 entered_le r = omega arith
 
--- no down-read has entered a level
 read_enters : (b : Bool) (s : DownReadStep) → entered (sync_role_if b (down_read_role s)) ≡ 0
 read_enters true DownReadStep.CountsUpFast = refl
 read_enters true s = refl
 read_enters false s = refl
 
--- nor has a callback
 callback_enters : (b : Bool) (s : CallbackStep) → entered (sync_role_if b (callback_role s)) ≡ 0
 callback_enters true (CallbackStep.Claims transition) = refl
 callback_enters true (CallbackStep.AwaitsSections grace) = refl
 callback_enters true (CallbackStep.CallsBack transition) = refl
 callback_enters false s = refl
 
--- who reopens levels has a position
 reopening_position : (level : ℕ) (s : UpWriteStep) → has_position (reopening_role level s) ≡ 1
 reopening_position level UpWriteStep.ClearsBlock = refl
 reopening_position level (UpWriteStep.Exits transition) = refl
 
--- a freeze that has entered a level has a position
 freeze_enters : (i nodes : ℕ) (s : FreezeStep) → entered (stand_sync i (freeze_stand s)) ≤ has_position (freeze_stage_role nodes s)
 freeze_enters i nodes (Closes d) = entered_le (stand_sync i (freeze_stand (Closes d)))
 freeze_enters i nodes FreezeStep.LocksAgain = entered_le (stand_sync i (freeze_stand FreezeStep.LocksAgain))
@@ -471,13 +457,11 @@ freeze_enters i nodes (FreezeStep.Reopens u code) =
     omega (arith, entered_le (stand_sync i (freeze_stand (FreezeStep.Reopens u code))), reopening_position u.level u.step)
 freeze_enters i nodes s = omega arith
 
--- and a thaw
 thaw_enters : (i : ℕ) (s : ThawStep) → entered (stand_sync i (thaw_stand s)) ≤ has_position (thaw_stage_role s)
 thaw_enters i (ThawStep.Reopens u) =
     omega (arith, entered_le (stand_sync i (thaw_stand (ThawStep.Reopens u))), reopening_position u.level u.step)
 thaw_enters i s = omega arith
 
--- so whoever has entered a level has a position
 pub entered_position : (i : ℕ) (p : Option Phase) → entered (sync_role_of i p) ≤ has_position (stage_role_of p)
 entered_position i (Some (Phase.DownReads r)) = omega (arith, read_enters (i == r.level) r.step)
 entered_position i (Some (Phase.Callbacks b)) = omega (arith, callback_enters (i == b.level) b.step)

@@ -21,7 +21,6 @@ use Rattle.gate_world.specs.{Views.{held_at, holds_level, added_after, taken_aft
 use Rattle.gate_world.specs.declared.{config.Config.Config, views.View.View, work.Phase.Phase}
 use Rattle.gate_frames.proofs.Known.{known_same}
 
--- a load counts nowhere
 pub added_load : (name : WordName) (added : ℕ → ℕ → ℕ) → added_after name Touch.Load added ≡ added
 added_load WordName.Umount added = refl
 added_load other added = refl
@@ -205,7 +204,6 @@ module _ (c : Config) (w : World) (t : ℕ) (lt : t < c.tasks) where
       (λ l. h t l ∙ sym seen) (λ ne. h x) lx
 
   module _ (good : IsGood c w) where
-    -- an owner's words and phase as they were
     pub owner_same : (v : View) → IsSteady (w.views t).phase v.phase →
         OwnerHolds c.tasks w.words.umount w.words.remount (λ x. (update w.views t v x).phase)
     owner_same v same = left_alone Owner w.words v (refl, refl) (same.owns_same, same.remounts_same) (good Owner)

@@ -121,7 +121,6 @@ module _ (c : Config) (file blocks : ℕ) where
     short = λ trace phase added here. grow_within here.0 trace (here.2.3 refl);
   }
 
--- so a grow's trace tells what it is to tell, and is short
 pub grow_tells : (file blocks : ℕ) (c : Config) → IsWithin c → (t : ℕ) (trace : List Traced) → IsTrace c t (Op.Grow file blocks) trace →
     Tells c (Op.Grow file blocks) trace (course_of c t (Op.Grow file blocks) trace).comes (course_of c t (Op.Grow file blocks) trace).added
 grow_tells file blocks c lim t trace h = tells_well (GrowAt c file blocks) c t (Op.Grow file blocks) (grow_kept c file blocks t) trace h

@@ -34,7 +34,6 @@ tree_ignores : (x : TreePhase) (a b : HookAnswer) (found : ℕ) → (tree_next x
 tree_ignores (TreePhase.Create x) a b found = (refl, refl)
 tree_ignores other a b found = (refl, refl)
 
--- each phase
 pub ignores : (phase : Phase) → IgnoresAnswer phase (hook_of phase)
 ignores (Phase.Mounts x) h a b found =
     let e : (next x a ≡ next x b) × (after x found a ≡ after x found b) = mount_ignores x a b found in

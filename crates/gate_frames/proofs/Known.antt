@@ -9,11 +9,9 @@ use Rattle.gate_world.specs.{Views.{phase_after, view_after}, Work.{after_of, ne
 use Rattle.gate_world.specs.declared.{config.Config.Config, views.{Traced.Traced, View.View}, work.Phase.Phase}
 use Rattle.gate_frames.proofs.Words.{load_same}
 
--- nothing is something
 none_is_none : {A : Type 0} {B : Type 0} (x : A) → None ≡ Some x → B
 none_is_none x h = absurd (true≢false (ap is_some (sym h)))
 
--- of two words that are the same owned word each is owned
 pub owned_first : (word other : WordName) → is_owned_word word other ≡ true → is_owned word ≡ true
 owned_first WordName.Stage other h = refl
 owned_first WordName.Holders other h = refl
@@ -39,7 +37,6 @@ put_owned w WordName.Remount WordName.Remount value h = refl
 put_owned w (WordName.MountFlags m) (WordName.MountFlags n) value h = rw (h, update) refl
 put_owned w word other value h = absurd (true≢false (sym h))
 
--- and each other owned word as it was
 put_other : (w : Words) (word other : WordName) (value : ℕ) → is_owned word ≡ true → is_owned_word word other ≡ false →
     read (put w other value) word ≡ read w word
 put_other w WordName.Stage WordName.Stage value h k = absurd (true≢false k)
@@ -54,7 +51,6 @@ put_other w (WordName.MountFlags m) (WordName.MountFlags n) value h k = rw (k, u
 put_other w (WordName.MountFlags m) other value h k = refl
 put_other w word other value h k = absurd (true≢false (sym h))
 
--- a load leaves each word
 load_leaves : (w : Words) (word other : WordName) (touch : Touch) → is_load touch ≡ true →
     read (put w other (left touch (read w other))) word ≡ read w word
 load_leaves w word other Touch.Load h = ap (λ ws. read ws word) (load_same w other)
@@ -72,7 +68,6 @@ known_owned word (e ∷ earlier) value h =
       ]
     ]
 
--- owned words that are as they were
 read_same : (old new : Words) → (new.stage ≡ old.stage) × (new.sb ≡ old.sb) × (new.remount ≡ old.remount) × (new.flags ≡ old.flags) ×
     (new.holders ≡ old.holders) →
     (word : WordName) → is_owned word ≡ true → read new word ≡ read old word
@@ -83,7 +78,6 @@ read_same old new same WordName.Remount h = same.2
 read_same old new same (WordName.MountFlags m) h = ap (λ f. f m) same.3
 read_same old new same word h = absurd (true≢false (sym h))
 
--- are known as they were
 pub known_same : (old new : Words) → (new.stage ≡ old.stage) × (new.sb ≡ old.sb) × (new.remount ≡ old.remount) × (new.flags ≡ old.flags) ×
     (new.holders ≡ old.holders) →
     (trace : List Traced) → KnowsWords old trace → KnowsWords new trace
@@ -137,7 +131,6 @@ module _ (c : Config) (w : World) (t : ℕ) (phase : Phase) (hook : HookAnswer) 
       ] in
       there ∙ good Known y ly o word value h
 
-  -- so each event leaves what an owner knows, and adds what it found or left
   pub known_after : Holds c (after_step w t phase hook) Known
   known_after x lx =
       each_updated (λ y (u : View). owns u.phase ≡ 1 → KnowsWords (words_after w.words phase hook) u.trace) w.views t

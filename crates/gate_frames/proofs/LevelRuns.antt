@@ -23,7 +23,6 @@ levels_stay_runs c w t lt ws v s words was now i one three =
     (level_kept w t i ws v (ap (λ f. f i) words.sync_same) (ap (λ f. f i) words.block_same) words.whole_same words.section_same
     (now.outside ∙ sym was.outside) (now.syncs i one three ∙ sym (was.syncs i one three)))
 
--- the level with one of its words put is the level of the world with this word put
 put_level : (w : World) (i : ℕ) (name : WordName) (touch : Touch) → IsEventAt i name touch → (n : ℕ) →
     put_at (level_in w i) name n ≡ level_in (record { words = put w.words name n; views = w.views }) i
 put_level w i (WordName.Sync j) touch e n =
@@ -73,7 +72,6 @@ module _ (c : Config) (w : World) (t : ℕ) (lt : t < c.tasks) (v : View) (s z :
         (other_level j q.1 (beside.syncs j one three q.1) one three)
   ]
 
--- each event of a down-write is one of each level
 pub down_write_runs : (c : Config) → IsWithin c → (w : World) → IsGood c w → (t : ℕ) → t < c.tasks → (d : DownWrite) (v : View) →
     DownWriteFits c d → Stands (w.views t).phase (Some (closing_stand d)) →
     Stands v.phase (stand_after_closing d.level
@@ -87,7 +85,6 @@ down_write_runs c lim w good t lt d v fits was now alone =
     d.level (down_write_next d d.step).0 (down_write_next d d.step).1 (down_write_event d d.step)
     (closing_others c lim w good t lt d d.step) (λ low high. closing_there c lim w good t lt d d.step fits was alone)
 
--- and each of an up-write
 pub up_write_runs : (c : Config) → IsWithin c → (w : World) → IsGood c w → (t : ℕ) → t < c.tasks → (u : UpWrite) (v : View) →
     UpWriteFits u → Stands (w.views t).phase (Some (opening_stand u)) →
     Stands v.phase (stand_after_opening u.level

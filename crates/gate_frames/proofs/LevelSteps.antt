@@ -5,7 +5,6 @@ use Rattle.cpu_words.specs.Words.{Words}
 use Rattle.level_laws.specs.Events.{SyncLevel, SyncStep, Stays}
 use Rattle.gate_world.specs.{LevelRuns.level_in, Levels.{inside, sync_role_of, is_frozen_whole}, Worlds.World, declared.views.View.View}
 
--- where nothing of a level has changed, any task has made a step of it
 pub level_stays : (tasks t : ℕ) → t < tasks → (l l' : SyncLevel) → l' ≡ l → SyncStep tasks l l'
 level_stays tasks t lt l l' e = record { task = t; there = lt; kind = Stays; happens = e }
 

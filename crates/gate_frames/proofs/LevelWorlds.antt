@@ -16,7 +16,6 @@ use Rattle.gate_world.specs.{Rules.{IsGood, SameWords, SyncAt, Sections, Holds},
 use Rattle.gate_world.specs.declared.{config.Config.Config, views.View.View, work.Phase.Phase}
 use Rattle.gate_frames.proofs.{Frames.left_alone, Stands.{freeze_slow, stand_below, thaw_slow}}
 
--- a down-read on the fast path is inside its section
 read_fast : (b : Bool) (s : DownReadStep) → fast (sync_role_if b (down_read_role s)) ≤ down_read_inside s
 read_fast true DownReadStep.EntersSection = omega arith
 read_fast true DownReadStep.LoadsSync = omega arith
@@ -35,7 +34,6 @@ callback_slow true (CallbackStep.AwaitsSections grace) = refl
 callback_slow true (CallbackStep.CallsBack transition) = refl
 callback_slow false s = refl
 
--- whoever is on the fast path is inside a section
 pub fast_in_section : (i : ℕ) (p : Option Phase) → fast (sync_role_of i p) ≤ inside p
 fast_in_section i (Some (Phase.DownReads r)) = read_fast (i == r.level) r.step
 fast_in_section i (Some (Phase.Callbacks b)) = omega (arith, callback_slow (i == b.level) b.step)
@@ -45,7 +43,6 @@ fast_in_section i (Some (Phase.Thaws x)) = omega (arith, thaw_slow i x.step)
 fast_in_section i (Some (Phase.Closes (ClosePhase.Enters f node r))) = read_fast (i == r.level) r.step
 fast_in_section i other = omega arith
 
--- no down-read has closed a level
 read_opens : (b : Bool) (s : DownReadStep) → closed (sync_role_if b (down_read_role s)) ≡ 0
 read_opens true DownReadStep.EntersSection = refl
 read_opens true DownReadStep.LoadsSync = refl
@@ -57,14 +54,12 @@ read_opens true DownReadStep.LeavesAdmitted = refl
 read_opens true DownReadStep.LeavesBlocked = refl
 read_opens false s = refl
 
--- nor has a callback
 callback_opens : (b : Bool) (s : CallbackStep) → closed (sync_role_if b (callback_role s)) ≡ 0
 callback_opens true (CallbackStep.Claims transition) = refl
 callback_opens true (CallbackStep.AwaitsSections grace) = refl
 callback_opens true (CallbackStep.CallsBack transition) = refl
 callback_opens false s = refl
 
--- who has closed a level has closed each one below it
 pub closed_below : (i j : ℕ) (p : Option Phase) → 1 ≤ i → i ≤ j → closed (sync_role_of j p) ≤ closed (sync_role_of i p)
 closed_below i j (Some (Phase.DownReads r)) one le = omega (arith, read_opens (j == r.level) r.step)
 closed_below i j (Some (Phase.Callbacks b)) one le = omega (arith, callback_opens (j == b.level) b.step)
@@ -74,11 +69,9 @@ closed_below i j (Some (Phase.Thaws x)) one le = stand_below i j (thaw_stand x.s
 closed_below i j (Some (Phase.Closes (ClosePhase.Enters f node r))) one le = omega (arith, read_opens (j == r.level) r.step)
 closed_below i j other one le = omega arith
 
--- a task's role at its own level is the one it has there
 pub sync_on : (i : ℕ) (r : SyncRole) → sync_role_if (i == i) r ≡ r
 sync_on i r = rw (eq-eqb i i refl)
 
--- and it has none at another level
 pub sync_off : (i j : ℕ) (r : SyncRole) → (i ≡ j → ⊥) → sync_role_if (i == j) r ≡ IsApart
 sync_off i j r ne = rw (ne_eqb i j ne)
 
@@ -98,7 +91,6 @@ IsEventAt i (WordName.LevelCount j p) touch = j ≡ i
 IsEventAt i (WordName.Section u) Touch.Load = Unit {0}
 IsEventAt i name touch = ⊥
 
--- it is of a word of the level
 event_word : (i : ℕ) (name : WordName) (touch : Touch) → IsEventAt i name touch → IsOfLevel i name
 event_word i (WordName.Sync j) touch e = e
 event_word i (WordName.Block j) touch e = e
@@ -106,7 +98,6 @@ event_word i (WordName.LevelCount j p) touch e = e
 event_word i (WordName.Section u) touch e = tt
 event_word i name touch e = absurd e
 
--- the level with one of its words put is the level of the world with this word put
 put_level : (w : World) (i : ℕ) (name : WordName) → IsOfLevel i name → (n : ℕ) →
     put_at (level_in w i) name n ≡ level_in (record { words = put w.words name n; views = w.views }) i
 put_level w i (WordName.Sync j) e n = λ q. record (level_in w i) { sync = (sym (update_at w.words.sync j n) ∙ ap (update w.words.sync j n) e) q }
@@ -143,24 +134,20 @@ other_words w i j ne (WordName.LevelCount k p) touch e = (refl, refl, refl, refl
 other_words w i j ne (WordName.Section u) Touch.Load e = (refl, refl, update_same w.section u, refl)
 other_words w i j ne name touch e = absurd e
 
--- a level passed is one with its `block` set
 passed_blocked : (c : Config) (w : World) (i : ℕ) → w.words.block i ≡ 0 → is_passed c w i ≡ 0
 passed_blocked c w i e = rw e refl
 
--- and counts once
 passed_once : (b : Bool) → (if b then 1 else 0) ≤ 1
 passed_once true = omega arith
 passed_once false = omega arith
 
 module _ (c : Config) (w : World) (good : IsGood c w) where
-  -- what holds at a level of a good world
   pub level_right : (i : ℕ) → 1 ≤ i → i ≤ 3 → SyncLevelHolds c.tasks (level_in w i)
   level_right i one three = record {
     level = good (SyncAt i) one three;
     sections = record { odd = good Sections; fast_inside = λ x lx. fast_in_section i (w.views x).phase };
   }
 
-  -- a level that is closed has each one below it closed
   pub block_below : (i j : ℕ) → 1 ≤ i → i ≤ j → j ≤ 3 → w.words.block j ≤ w.words.block i
   block_below i j one le three =
       let low = (level_right i one (omega arith)).level.holds.blocked in
@@ -173,15 +160,12 @@ module _ (c : Config) (w : World) (good : IsGood c w) where
             (λ x. closed (sync_role_of i (w.views x).phase)) (λ x lx. closed_below i j (w.views x).phase one le),
       )
 
-  -- a level whose `block` is clear isn't passed, nor is one above it
   pub clear_above : (i j : ℕ) → 1 ≤ i → i ≤ j → j ≤ 3 → w.words.block i ≡ 0 → is_passed c w j ≡ 0
   clear_above i j one le three e = passed_blocked c w j (omega (arith, block_below i j one le three, e))
 
-  -- each level passed counts once
   counts_once : (i : ℕ) → is_passed c w i ≤ 1
   counts_once i = passed_once (w.words.block i == 1 && total c.tasks (λ x. sums i (stage_roles w x)) == 0)
 
-  -- so the shown model has passed fewer levels than one whose `block` is clear
   pub not_passed : (i : ℕ) → 1 ≤ i → i ≤ 3 → w.words.block i ≡ 0 → (shown c w).passed < i
   not_passed zero one three e = absurd (omega arith)
   not_passed (suc zero) one three e =
@@ -250,7 +234,6 @@ module _ (c : Config) (w : World) (good : IsGood c w) where
       pub sync_turned : (i : ℕ) → Holds c (record { words = turned_words; views = update w.views t v }) (SyncAt i)
       sync_turned i one three = (level_steps turned_words v i one three (turns_level i)).level
 
-      -- and the sections
       pub sections_turned : Holds c (record { words = turned_words; views = update w.views t v }) Sections
       sections_turned = (level_steps turned_words v 1 (omega arith) (omega arith) (turns_level 1)).sections.odd
 
@@ -289,7 +272,6 @@ module _ (c : Config) (w : World) (good : IsGood c w) where
       sync_elsewhere j ne same =
           left_alone c w t lt (SyncAt j) touched.words v (other_words w.words i j ne name touch is) same (good (SyncAt j))
 
-      -- and so are the sections
       pub sections_stay : inside v.phase ≡ inside (w.views t).phase → Holds c touched Sections
       sections_stay same =
           left_alone c w t lt Sections touched.words v (section_kept w.words i name touch is) same (good Sections)

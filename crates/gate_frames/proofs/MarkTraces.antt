@@ -58,7 +58,6 @@ mark_actions file true trace (Err refusal) = refl
 mark_actions file false trace (Ok reply) = refl
 mark_actions file false trace (Err refusal) = refl
 
--- a short trace of it
 mark_short : (c : Config) (file : ℕ) (dirty : Bool) (trace : List Traced) → length trace ≤ 2 →
     IsShort (most_events c (mark_op file dirty)) trace
 mark_short c file true trace h = h
@@ -127,7 +126,6 @@ module _ (c : Config) (file : ℕ) (dirty : Bool) where
     short = λ trace phase added here. mark_short c file dirty trace (mark_within here.0 trace (here.2.3 refl));
   }
 
--- so a fault's trace tells what it is to tell, and is short
 pub fault_tells : (file : ℕ) (c : Config) → IsWithin c → (t : ℕ) (trace : List Traced) → IsTrace c t (Op.Fault file) trace →
     Tells c (Op.Fault file) trace (course_of c t (Op.Fault file) trace).comes (course_of c t (Op.Fault file) trace).added
 fault_tells file c lim t trace h = tells_well (MarkAt c file true) c t (Op.Fault file) (mark_kept c file true t) trace h
@@ -136,7 +134,6 @@ pub fault_short : (file : ℕ) (c : Config) → IsWithin c → (t : ℕ) (trace 
     IsShort (most_events c (Op.Fault file)) trace
 fault_short file c lim t trace h = is_short_well (MarkAt c file true) c t (Op.Fault file) (mark_kept c file true t) trace h
 
--- so a flush's trace tells what it is to tell, and is short
 pub flush_tells : (file : ℕ) (c : Config) → IsWithin c → (t : ℕ) (trace : List Traced) → IsTrace c t (Op.Flush file) trace →
     Tells c (Op.Flush file) trace (course_of c t (Op.Flush file) trace).comes (course_of c t (Op.Flush file) trace).added
 flush_tells file c lim t trace h = tells_well (MarkAt c file false) c t (Op.Flush file) (mark_kept c file false t) trace h

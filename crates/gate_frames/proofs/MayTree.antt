@@ -25,7 +25,6 @@ use Rattle.gate_world.specs.Trees.{nodes_noted}
 use Rattle.gate_world.specs.{Views.{has_open, held_at, holds_level}, Worlds.World, declared.{config.Config.Config, views.Traced.Traced, work.Phase.Phase}}
 use Rattle.gate_frames.proofs.{TreeHolders.{none_past, IsOpen, both_true, mount_there, writer_apart}, Trees.{nobody_reads, sealed_frozen}}
 
--- a writable superblock below stage 3 isn't sealed
 pub open_unsealed : (sb stage : ℕ) → sb ≡ 0 → stage < 3 → sealed_by sb stage ≡ 0
 open_unsealed sb stage writable low =
     elim (cases_Bool (nat_le 3 stage)) [
@@ -33,7 +32,6 @@ open_unsealed sb stage writable low =
       | inr h ↦ rw (writable, h) refl
     ]
 
--- a remount that hasn't set `remount` clears no mark
 remount_clears : (nodes : ℕ) (s : RemountStep) → remount_sets s ≡ 0 → cleared (remount_tree_role nodes s) ≡ 0
 remount_clears nodes (RemountStep.SetsRemount held) h = refl
 remount_clears nodes (RemountStep.ClearsHold held) h = absurd (omega (arith, h))
@@ -41,13 +39,11 @@ remount_clears nodes (RemountStep.ClearsMark n) h = absurd (omega (arith, h))
 remount_clears nodes RemountStep.SetsReadOnly h = absurd (omega (arith, h))
 remount_clears nodes s h = refl
 
--- nor does a freeze that hasn't passed level 2
 freeze_clears : (nodes : ℕ) (s : FreezeStep) → passed_by (freeze_stage_role nodes s) < 2 → cleared (freeze_tree_role nodes s) ≡ 0
 freeze_clears nodes (FreezeStep.Cleans marks) h = absurd (omega (arith, h))
 freeze_clears nodes FreezeStep.SetsFs h = absurd (omega (arith, h))
 freeze_clears nodes s h = refl
 
--- nor a call at the tree
 create_clears : (x : Create) (s : CreateStep) → cleared (create_role x s) ≡ 0
 create_clears x CreateStep.LoadsDirectory = refl
 create_clears x other = refl
@@ -97,7 +93,6 @@ tree_clears c held levels values (TreePhase.OpenFile x) may = open_clears x x.st
 tree_clears c held levels values (TreePhase.Snapshot x) may = snapshot_clears x.nodes values x.step
 tree_clears c held levels values (TreePhase.ClearMarks x) may = absurd may
 
--- no call at the tree is a remount that has found no removed file
 create_bares : (x : Create) (s : CreateStep) → is_bare (create_role x s) ≡ 0
 create_bares x CreateStep.LoadsDirectory = refl
 create_bares x other = refl
@@ -145,7 +140,6 @@ tree_bares values (TreePhase.OpenFile x) = open_bares x x.step
 tree_bares values (TreePhase.Snapshot x) = snapshot_bares x.nodes values x.step
 tree_bares values (TreePhase.ClearMarks x) = refl
 
--- nor is a freeze
 freeze_bares : (nodes : ℕ) (s : FreezeStep) → is_bare (freeze_tree_role nodes s) ≡ 0
 freeze_bares nodes (FreezeStep.Cleans marks) = refl
 freeze_bares nodes FreezeStep.SetsFs = refl
@@ -199,7 +193,6 @@ module _ (c : Config) (w : World) (good : IsGood c w) where
         (omega (arith, low, way.unpassed y ly)));
   }
 
-  -- and no snapshot has loaded a word
   pub open_unread : (i : ℕ) → IsOpen w c.tasks i → NobodyReads (tree_bounds c) (tree_of w)
   open_unread i way = nobody_reads c w good (λ e. omega (arith, e, way.unfrozen))
 
@@ -211,19 +204,16 @@ module _ (c : Config) (w : World) (good : IsGood c w) where
   ]
 
   module _ (t : ℕ) (lt : t < c.tasks) where
-    -- what a writer comes through is open
     pub writer_open : is_writer c (held_at (w.views t)) (holds_level (w.views t)) ≡ true → IsOpen w c.tasks 1
     writer_open writes =
         let both : (holds_level (w.views t) 1 ≡ true) × (some_mount c.mounts (held_at (w.views t)) ≡ true) = both_true _ _ writes in
         writer_apart c w good t lt 1 (inl refl) both.0 both.1
 
-    -- and what a page fault comes through
     pub faulter_open : is_faulter c (held_at (w.views t)) (holds_level (w.views t)) ≡ true → IsOpen w c.tasks 2
     faulter_open faults =
         let both : (holds_level (w.views t) 2 ≡ true) × (some_mount c.mounts (held_at (w.views t)) ≡ true) = both_true _ _ faults in
         writer_apart c w good t lt 2 (inr refl) both.0 both.1
 
-    -- nor is one in the way of a writer who removes a file that is open
     may_remove : is_writer c (held_at (w.views t)) (holds_level (w.views t)) ≡ true → MayRemove (tree_bounds c) (tree_of w)
     may_remove writes =
         let way : IsOpen w c.tasks 1 = writer_open writes in
@@ -261,7 +251,6 @@ module _ (c : Config) (w : World) (good : IsGood c w) where
         PhaseFits c t (held_at (w.views t)) (holds_level (w.views t)) (Phase.Trees x)
     call_fits x e = subst (Fits c t (held_at (w.views t)) (holds_level (w.views t))) e (good Fitting t lt)
 
-    -- so nobody is in the way of the call that the task is at
     pub may_step : (x : TreePhase) → (w.views t).phase ≡ Some (Phase.Trees x) → MayStep (tree_bounds c) (tree_of w) x
     may_step x e = may_go x (call_fits x e).1
 
@@ -270,19 +259,16 @@ module _ (c : Config) (w : World) (good : IsGood c w) where
     LeaveFor None = Unit {0}
     LeaveFor (Some action) = HasLeave (model_limits c) (shown c w) t action
 
-    -- where it is the one that there is
     leave_if : (b : Bool) (action : Action) → HasLeave (model_limits c) (shown c w) t action →
         LeaveFor (if b then Some action else None)
     leave_if true action leave = leave
     leave_if false action leave = tt
 
-    -- a writer is one in the shown model
     writer_shown : is_writer c (held_at (w.views t)) (holds_level (w.views t)) ≡ true → IsWriter (model_limits c) (shown c w) t
     writer_shown writes =
         let both : (holds_level (w.views t) 1 ≡ true) × (some_mount c.mounts (held_at (w.views t)) ≡ true) = both_true _ _ writes in
         (both.0, mount_there c.mounts (held_at (w.views t)) both.1)
 
-    -- and so has leave for each call's action
     create_leave : (x : Create) (s : CreateStep) (found : ℕ) → IsWriter (model_limits c) (shown c w) t → LeaveFor (create_after x s found).1
     create_leave x (CreateStep.TakesNode n) found leave = leave_if (found == 0) _ leave
     create_leave x other found leave = tt
@@ -313,7 +299,6 @@ module _ (c : Config) (w : World) (good : IsGood c w) where
     mark_leave x MarkStep.LoadsFile found may = tt
     mark_leave x (MarkStep.MarksFile file) found may = leave_if (found == word_of file) _ (mark_leave_now x.dirty x.file may)
 
-    -- an open has it where its task doesn't have the file open
     open_leave : (x : OpenFile) (s : OpenStep) (found : ℕ) → has_open (w.views t) x.file ≡ false → LeaveFor (open_after x s found).1
     open_leave x OpenStep.LoadsFile found own = tt
     open_leave x (OpenStep.OpensFile file) found own = leave_if (found == word_of file) _ own
@@ -334,7 +319,6 @@ module _ (c : Config) (w : World) (good : IsGood c w) where
     call_leave (TreePhase.Snapshot x) found hook may own = snapshot_leave x x.step found
     call_leave (TreePhase.ClearMarks x) found hook may own = absurd may
 
-    -- so has the one that the task is at
     pub leave : (x : TreePhase) (found : ℕ) (hook : HookAnswer) → (w.views t).phase ≡ Some (Phase.Trees x) → LeaveFor (after x found hook).1
     leave x found hook e =
         call_leave x found hook (call_fits x e).1 (subst (λ p. HasFile (has_open (w.views t)) (file_of p)) e ((good Files).own t lt))

@@ -8,7 +8,6 @@ use Rattle.mount_counts.specs.Roles.{counted}
 use Rattle.gate_world.specs.Causes.{all_counted, was_counted, asks, last_question, looks_at_stage, last_look, words_read, moments_of_sum}
 use Rattle.gate_world.specs.{Rules.{IsGood, AtMount, MountHoldsIn, at_mount}, Worlds.World, declared.config.Config.Config}
 
--- a task is counted at most as often as all are
 pub one_counted : (c : Config) (m t : ℕ) (w : World) → t < c.tasks → counted (at_mount m (w.views t)) ≤ all_counted c m w
 one_counted c m t w lt = total_at c.tasks t (λ x. counted (at_mount m (w.views x))) lt
 

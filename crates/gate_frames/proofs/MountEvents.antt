@@ -43,7 +43,6 @@ change_touches x ChangeStep.LoadsSuperblock = inl refl
 change_touches x (ChangeStep.Sums sum) = inl refl
 change_touches x s = inr refl
 
--- each event of these layers is one
 mounts_touch : (x : MountPhase) (hook : HookAnswer) → IsGateTouch (next x hook)
 mounts_touch (MountPhase.Want x) hook = want_touches x x.step
 mounts_touch (MountPhase.Drop m p) hook = inr refl
@@ -58,7 +57,6 @@ pub known_is : (part : Part) → is_known_part part ≡ true → part ≡ Known
 known_is Known h = refl
 known_is part h = absurd (true≢false (sym h))
 
--- what a part reads is the same in the same words
 same_words : (w : Words) (part : Part) → SameWords w w part
 same_words w Owner = (refl, refl)
 same_words w Holding = (refl, refl)
@@ -124,7 +122,6 @@ record IsUnseen (old new : View) : Type 0 where
   open_same : has_open new ≡ has_open old
   file_same : file_of new.phase ≡ file_of old.phase
 
--- so they read the same
 unseen : (part : Part) → at_gates part ≡ false → is_known_part part ≡ false → (old new : View) → IsUnseen old new → SameView old new part
 unseen Stages h k old new same = same.stage_same
 unseen Holding h k old new same = same.holder_same
@@ -147,7 +144,6 @@ level_taken_gate : (word : WordName) → is_gate_word word ≡ true → (touch :
 level_taken_gate (WordName.LevelCount i p) q touch taken = absurd (true≢false (sym q))
 level_taken_gate word q touch taken = refl
 
--- nor does a load
 pub level_added_load : (word : WordName) (touch : Touch) (added : ℕ → ℕ → ℕ) → is_load touch ≡ true →
     level_added_after word touch added ≡ added
 level_added_load WordName.Umount Touch.Load added h = refl
@@ -160,22 +156,18 @@ level_taken_load WordName.Umount Touch.Load taken h = refl
 level_taken_load word Touch.Load taken h = refl
 level_taken_load word touch taken h = absurd (true≢false (sym h))
 
--- want, drop and change do nothing with the stage
 mounts_aside : (next : Next MountPhase) → stage_role_of (phase_after (map_next Phase.Mounts next)) ≡ Aside
 mounts_aside (Next.Go x) = refl
 mounts_aside other = refl
 
--- nor with those who hold a freeze
 mounts_part : (next : Next MountPhase) → holder_role_of (phase_after (map_next Phase.Mounts next)) ≡ Apart
 mounts_part (Next.Go x) = refl
 mounts_part other = refl
 
--- what comes after an event of a want owns nothing
 want_owns : (next : Next Want) → owns (phase_after (map_next Phase.Mounts (map_next MountPhase.Want next))) ≡ 0
 want_owns (Next.Go x) = refl
 want_owns other = refl
 
--- a change that finds `umount` taken owns nothing
 failed_owns : (x : Change) (wait : Bool) → owns (phase_after (map_next Phase.Mounts (map_next MountPhase.Change (lock_failed x wait)))) ≡ 0
 failed_owns x true = refl
 failed_owns x false = refl

@@ -27,24 +27,20 @@ want_words : (w : Words) (x : Want) (s : WantStep) (hook : HookAnswer) (i : ℕ)
 want_words w x WantStep.CountsUp hook i = (refl, refl, refl, refl)
 want_words w x s hook i = (refl, refl, refl, refl)
 
--- nor one of a change
 change_words : (w : Words) (x : Change) (s : ChangeStep) (hook : HookAnswer) (i : ℕ) →
     SameWords w (words_after w (Phase.Mounts (MountPhase.Change (record x { step = s }))) hook) (SyncAt i)
 change_words w x ChangeStep.Locks hook i = (refl, refl, refl, refl)
 change_words w x s hook i = (refl, refl, refl, refl)
 
--- so none of want, drop and change does
 mount_words : (w : Words) (x : MountPhase) (hook : HookAnswer) (i : ℕ) → SameWords w (words_after w (Phase.Mounts x) hook) (SyncAt i)
 mount_words w (MountPhase.Want x) hook i = want_words w x x.step hook i
 mount_words w (MountPhase.Drop m p) hook i = (refl, refl, refl, refl)
 mount_words w (MountPhase.Change x) hook i = change_words w x x.step hook i
 
--- what comes after such an event is inside no section
 mount_outside : (next : Next MountPhase) → inside (phase_after (map_next Phase.Mounts next)) ≡ 0
 mount_outside (Next.Go x) = refl
 mount_outside other = refl
 
--- and has no part in a level
 mount_apart : (i : ℕ) (next : Next MountPhase) → sync_role_of i (phase_after (map_next Phase.Mounts next)) ≡ IsApart
 mount_apart i (Next.Go x) = refl
 mount_apart i other = refl

@@ -115,7 +115,6 @@ module _ (c : Config) (file dir : ℕ) where
     short = λ trace phase added here. move_within here.0 trace (here.2.3 refl);
   }
 
--- so a move's trace tells what it is to tell, and is short
 pub move_tells : (file dir : ℕ) (c : Config) → IsWithin c → (t : ℕ) (trace : List Traced) → IsTrace c t (Op.MoveTo file dir) trace →
     Tells c (Op.MoveTo file dir) trace (course_of c t (Op.MoveTo file dir) trace).comes (course_of c t (Op.MoveTo file dir) trace).added
 move_tells file dir c lim t trace h = tells_well (MoveAt c file dir) c t (Op.MoveTo file dir) (move_kept c file dir t) trace h

@@ -60,14 +60,12 @@ role_same : (x : TreePhase) (noted other : ℕ → ℕ) → is_snapshot x ≡ fa
 role_same (TreePhase.Snapshot x) noted values other = absurd (true≢false other)
 role_same x noted values other = refl
 
--- so it is of what comes after it
 role_comes : (n : Next TreePhase) (noted : ℕ → ℕ) (trace : List Traced) → IsOther n →
     role_after (phase_role noted) n ≡ tree_role_of trace (phase_after (map_next Phase.Trees n))
 role_comes (Next.Go x) noted trace other = role_same x noted (values_noted (nodes_noted x) trace) other
 role_comes (Next.Wait x) noted trace other = role_same x noted (values_noted (nodes_noted x) trace) other
 role_comes (Next.Done answer) noted trace other = refl
 
--- and nothing is to be noted
 notes_nothing : (x : TreePhase) (values noted : ℕ → ℕ) (found : ℕ) → is_snapshot x ≡ false → Notes x values noted found
 notes_nothing (TreePhase.Snapshot x) values noted found other = absurd (true≢false other)
 notes_nothing x values noted found other = tt
@@ -90,36 +88,30 @@ not_owned word h = absurd (true≢false (sym h))
 
 module _ (c : Config) (within : IsWithin c) (w : World) (good : IsGood c w) (t : ℕ) (lt : t < c.tasks) (hook : HookAnswer) (x : TreePhase)
     (other : is_snapshot x ≡ false) (e : (w.views t).phase ≡ Some (Phase.Trees x)) where
-  -- the task owned nothing, and owns nothing
   was_plain : IsPlain (w.views t).phase
   was_plain = subst IsPlain (sym e) (plain_call x other)
 
-  -- no snapshot comes after it
   next_other : IsOther (call_next c w good t lt x hook e)
   next_other = other_after x (call_found c w good t lt x hook e) hook other
 
   now_plain : IsPlain (call_view c w good t lt x hook e).phase
   now_plain = plain_after (call_next c w good t lt x hook e) next_other
 
-  -- the words of the gates are as they were
   beside : IsBesideTree w.words (call_words c w good t lt x hook e)
   beside = call_beside w.words x hook
 
-  -- so the event is no owner's work
   plain_work : IsOwnersWork w (Phase.Trees x) hook
   plain_work = record {
     changes = λ h. absurd (true≢false (sym h ∙ not_owned (next x hook).0 (node_word x hook other)));
     comes_to_own = λ h. absurd (omega (arith, h, now_plain.owns_none));
   }
 
-  -- the tree's own law
   tree_kept : TreeKeeps c w good t lt x hook e
   tree_kept =
       let values : ℕ → ℕ = values_noted (nodes_noted x) (w.views t).trace in
       call_keeps c w good t lt x hook e within values (notes_nothing x values values (call_found c w good t lt x hook e) other)
       (role_comes (call_next c w good t lt x hook e) values (call_view c w good t lt x hook e).trace next_other)
 
-  -- each part of the rule
   each_part : (part : Part) → Holds c (after_step w t (Phase.Trees x) hook) part
   each_part Owner =
       left_alone c w t lt Owner (call_words c w good t lt x hook e) (call_view c w good t lt x hook e) (
@@ -143,7 +135,6 @@ module _ (c : Config) (within : IsWithin c) (w : World) (good : IsGood c w) (t :
   each_part (SyncAt i) = gate_parts c w good t lt x hook e (SyncAt i) refl
   each_part Sections = gate_parts c w good t lt x hook e Sections refl
 
-  -- so the event keeps the rule, and moves the shown model by its action
   tree_keeps : StepKeeps c w t hook (Phase.Trees x)
   tree_keeps = (each_part, call_moves c w good t lt x hook e tree_kept)
 

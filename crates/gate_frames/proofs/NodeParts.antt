@@ -50,7 +50,6 @@ is_call_word (WordName.Node n) = true
 is_call_word (WordName.Kids d) = true
 is_call_word word = false
 
--- the first are among the second
 pub node_call : (word : WordName) → is_node_word word ≡ true → is_call_word word ≡ true
 node_call WordName.Used h = refl
 node_call WordName.Removed h = refl
@@ -88,7 +87,6 @@ abbrev pub is_snapshot : TreePhase → Bool
 is_snapshot (TreePhase.Snapshot x) = true
 is_snapshot x = false
 
--- so it is of each such call
 pub node_word : (x : TreePhase) (hook : HookAnswer) → is_snapshot x ≡ false → is_node_word (next x hook).0 ≡ true
 node_word (TreePhase.Create x) hook other = create_word x x.step
 node_word (TreePhase.Remove x) hook other = remove_word x x.step
@@ -103,13 +101,11 @@ node_word (TreePhase.ClearMarks x) hook other = refl
 abbrev pub IsCallTouch : WordName × Touch → Type 0
 IsCallTouch x = (is_load x.1 ≡ true) ⊎ (is_call_word x.0 ≡ true)
 
--- a snapshot loads, or touches `umount`
 snapshot_touch : (x : Snapshot) (s : SnapshotStep) → IsCallTouch (snapshot_next x s)
 snapshot_touch x SnapshotStep.Locks = inr refl
 snapshot_touch x (SnapshotStep.Releases answer) = inr refl
 snapshot_touch x other = inl refl
 
--- each event of a call is one
 pub call_touch : (x : TreePhase) (hook : HookAnswer) → IsCallTouch (next x hook)
 call_touch (TreePhase.Snapshot x) hook = snapshot_touch x x.step
 call_touch x hook = inr (node_call (next x hook).0 (node_word x hook refl))
@@ -127,7 +123,6 @@ pub record IsBesideTree (old new : Words) : Type 0 where
   pub level_same : new.level ≡ old.level
   pub section_same : new.section ≡ old.section
 
--- where nothing is written, all words are
 pub same_beside : (w : Words) → IsBesideTree w w
 same_beside w = assumption
 
@@ -198,7 +193,6 @@ pub record CountsNowhere (x : WordName × Touch) : Type 0 where
   pub level_added : (a : ℕ → ℕ → ℕ) → level_added_after x.0 x.1 a ≡ a
   pub level_taken : (a : ℕ → ℕ → ℕ) → level_taken_after x.0 x.1 a ≡ a
 
--- each such touch counts nowhere
 pub counts_nowhere : (x : WordName × Touch) → IsCallTouch x → CountsNowhere x
 counts_nowhere x touches = elim touches [
   | inl h ↦ record {
@@ -220,11 +214,9 @@ pub record LeavesAccesses (action : Option Action) : Type 0 where
   pub mounts : (held : ℕ → ℕ) → mounts_by action held ≡ held
   pub levels : (held : ℕ → Bool) → levels_by action held ≡ held
 
--- where there is none
 pub leaves_none : LeavesAccesses None
 leaves_none = record { mounts = λ held. refl; levels = λ held. refl }
 
--- where there is one that does, or none
 pub leaves_if : (b : Bool) (action : Action) → LeavesAccesses (Some action) → LeavesAccesses (if b then Some action else None)
 leaves_if true action h = h
 leaves_if false action h = leaves_none
@@ -265,7 +257,6 @@ snapshot_leaves x other found = leaves_none
 clear_leaves : (x : ClearMarks) (found : ℕ) → LeavesAccesses (clear_after x found).1
 clear_leaves x found = leaves_if (dirty_in found == 1) _ (record { mounts = λ held. refl; levels = λ held. refl })
 
--- so does the action of each event of a call
 pub call_leaves : (x : TreePhase) (found : ℕ) (hook : HookAnswer) → LeavesAccesses (after x found hook).1
 call_leaves (TreePhase.Create x) found hook = create_leaves x x.step found
 call_leaves (TreePhase.Remove x) found hook = remove_leaves x x.step found
@@ -283,7 +274,6 @@ module _ (c : Config) (held : ℕ → ℕ) (levels : ℕ → Bool) where
   AccessAfter (Next.Wait x) = TreeAccess c held levels x
   AccessAfter (Next.Done answer) = Unit {0}
 
-  -- a phase of the same call
   comes_with : {P : Type 0} (to : P → TreePhase) → ((y : P) → TreeAccess c held levels (to y)) → (n : Next P) → AccessAfter (map_next to n)
   comes_with to may (Next.Go y) = may y
   comes_with to may (Next.Wait y) = may y
@@ -351,21 +341,17 @@ pub record IsOffGates (p : Option Phase) : Type 0 where
   pub remounts_none : remounts p ≡ 0
   pub unheld : holder_role_of p ≡ Apart
 
--- no operation is under way
 pub idle_off : IsOffGates None
 idle_off = assumption
 
--- a snapshot closes no level
 snapshot_closing : (i : ℕ) (s : SnapshotStep) → sums i (snapshot_stage_role s) ≡ 0
 snapshot_closing i SnapshotStep.Locks = refl
 snapshot_closing i other = refl
 
--- nor does another call
 tree_closing : (i : ℕ) (x : TreePhase) → sums i (tree_stage_role x) ≡ 0
 tree_closing i (TreePhase.Snapshot x) = snapshot_closing i x.step
 tree_closing i x = refl
 
--- a call at the tree is one
 pub call_off : (x : TreePhase) → IsOffGates (Some (Phase.Trees x))
 call_off x = record {
   out_of_mounts = λ m. refl;
@@ -375,7 +361,6 @@ call_off x = record {
   unheld = refl;
 }
 
--- and what comes after it
 pub next_off : (n : Next TreePhase) → IsOffGates (phase_after (map_next Phase.Trees n))
 next_off (Next.Go x) = call_off x
 next_off (Next.Wait x) = call_off x
@@ -390,7 +375,6 @@ is_gate_part (SyncAt i) = true
 is_gate_part Sections = true
 is_gate_part part = false
 
--- what they read of the words
 pub gate_words : (part : Part) → is_gate_part part ≡ true → (old new : Words) → IsBesideTree old new → SameWords old new part
 gate_words Holding h old new same = (same.stage_same, same.holders_same)
 gate_words (AtMount m) h old new same = (ap (λ f. f m) same.flags_same, same.remount_same, same.sb_same, ap (λ f. f m) same.count_same)
@@ -418,14 +402,12 @@ module _ (c : Config) (w : World) (good : IsGood c w) (t : ℕ) (lt : t < c.task
   abbrev pub call_action : Option Action
   call_action = (after x call_found hook).1
 
-  -- it holds what it held
   pub held_still : held_at call_view ≡ held_at (w.views t)
   held_still = mounts_of_after call_action (w.views t).actions ∙ (call_leaves x call_found hook).mounts (held_at (w.views t))
 
   pub levels_still : holds_level call_view ≡ holds_level (w.views t)
   levels_still = levels_of_after call_action (w.views t).actions ∙ (call_leaves x call_found hook).levels (holds_level (w.views t))
 
-  -- what was at no gate is at none
   was_off : IsOffGates (w.views t).phase
   was_off = subst IsOffGates (sym e) (call_off x)
 
@@ -449,13 +431,11 @@ module _ (c : Config) (w : World) (good : IsGood c w) (t : ℕ) (lt : t < c.task
   gate_view Sections h = now_off.off_levels.outside ∙ sym was_off.off_levels.outside
   gate_view part h = absurd (true≢false (sym h))
 
-  -- so the event leaves them alone
   pub gate_parts : (part : Part) → is_gate_part part ≡ true → Holds c (after_step w t (Phase.Trees x) hook) part
   gate_parts part h =
       left_alone c w t lt part call_words call_view (gate_words part h w.words call_words (call_beside w.words x hook)) (gate_view part h)
       (good part)
 
-  -- what comes after the event fits its task's accesses
   pub call_fitting : IsWithin c → Holds c (after_step w t (Phase.Trees x) hook) Fitting
   call_fitting within y ly =
       each_updated (λ z (u : View). ViewFits c z u) w.views t call_view y
@@ -464,7 +444,6 @@ module _ (c : Config) (w : World) (good : IsGood c w) (t : ℕ) (lt : t < c.task
       (call_goes_on c (held_at (w.views t)) (holds_level (w.views t)) within t x call_found hook (call_fits c w good t lt x e))))
       (λ ne. good Fitting y ly)
 
-  -- which files the task has open then
   pub opens_then : has_open call_view ≡ opens_by call_action (has_open (w.views t))
   opens_then = opens_of_after call_action (w.views t).actions
 
@@ -487,7 +466,6 @@ module _ (c : Config) (w : World) (good : IsGood c w) (t : ℕ) (lt : t < c.task
         tree = λ n. node_shown (call_words.node n);
       })
 
-  -- so where the nodes that are shown move by the event's action, the model does
   shown_moves : (action : Option Action) → call_action ≡ action → LeaveFor c w good t lt action →
       MovesBy (tree_bounds c) w.words.node call_words.node action →
       ModelMoves c (shown c w) t action (shown c (after_step w t (Phase.Trees x) hook))
@@ -543,6 +521,5 @@ module _ (c : Config) (w : World) (good : IsGood c w) (t : ℕ) (lt : t < c.task
         kept.1,
       )
 
-  -- so the shown model moves by the event's action
   pub call_moves : TreeKeeps → ModelMoves c (shown c w) t call_action (shown c (after_step w t (Phase.Trees x) hook))
   call_moves kept = shown_moves call_action refl (leave c w good t lt x call_found hook e) kept.1

@@ -106,7 +106,6 @@ module _ (c : Config) (file : ℕ) where
     short = λ trace phase added here. open_within here.0 trace (here.2.3 refl);
   }
 
--- so an open's trace tells what it is to tell, and is short
 pub open_tells : (file : ℕ) (c : Config) → IsWithin c → (t : ℕ) (trace : List Traced) → IsTrace c t (Op.Open file) trace →
     Tells c (Op.Open file) trace (course_of c t (Op.Open file) trace).comes (course_of c t (Op.Open file) trace).added
 open_tells file c lim t trace h = tells_well (OpenAt c file) c t (Op.Open file) (open_kept c file t) trace h

@@ -24,7 +24,6 @@ remount_owns_le : (s : RemountStep) → remount_owns s ≤ 1
 remount_owns_le RemountStep.Locks = omega arith
 remount_owns_le step = omega arith
 
--- a task owns at most once
 pub owns_le : (p : Option Phase) → owns p ≤ 1
 owns_le (Some (Phase.Mounts (MountPhase.Change x))) = change_owns_le x.step
 owns_le (Some (Phase.Remounts x)) = remount_owns_le x.step
@@ -33,7 +32,6 @@ owns_le (Some (Phase.Thaws x)) = stage_owns_le (thaw_stage_role x.step)
 owns_le (Some (Phase.Trees x)) = stage_owns_le (tree_stage_role x)
 owns_le other = omega arith
 
--- a want has no hold flag set, and skips no mount
 want_hold : (p : ℕ) (s : WantStep) → has_hold (want_role p s) + skips (want_role p s) ≡ 0
 want_hold p WantStep.CountsUp = refl
 want_hold p step = refl
@@ -45,7 +43,6 @@ change_hold (ChangeStep.ClearsHold (Ok answer)) = omega arith
 change_hold (ChangeStep.ClearsHold (Err refusal)) = omega arith
 change_hold step = omega arith
 
--- a role at one mount alone has no more
 hold_if : (b : Bool) (r : Role) → has_hold (role_if b r) + skips (role_if b r) ≤ has_hold r + skips r
 hold_if true r = omega arith
 hold_if false r = omega arith
@@ -85,7 +82,6 @@ remount_hold m (RemountStep.GivesUp at held) = giving_hold (m == at) (has_mount 
 remount_hold m RemountStep.Locks = omega arith
 remount_hold m step = omega arith
 
--- nor has a write access
 write_hold : (m : ℕ) (x : WritePhase) → has_hold (write_role m x) + skips (write_role m x) ≡ 0
 write_hold m (WritePhase.Wants x) = omega (arith, hold_if (m == x.mount) (want_role x.cpu x.step), want_hold x.cpu x.step)
 write_hold m x = refl
@@ -102,13 +98,11 @@ remount_sets_owns : (s : RemountStep) → remount_sets s ≤ remount_owns s
 remount_sets_owns RemountStep.Locks = omega arith
 remount_sets_owns step = omega arith
 
--- nor has anybody else `remount` set
 pub remounts_owns : (p : Option Phase) → remounts p ≤ owns p
 remounts_owns (Some (Phase.Remounts x)) = remount_sets_owns x.step
 remounts_owns other = omega arith
 
 module _ (c : Config) (w : World) (good : IsGood c w) (t : ℕ) (lt : t < c.tasks) where
-  -- nobody else owns
   pub alone : (x : ℕ) → x < c.tasks → (x ≡ t → ⊥) → owns (w.views t).phase ≡ 1 → owns (w.views x).phase ≡ 0
   alone x lx ne o =
       let both : owns (w.views x).phase ≡ 1 → ⊥ = λ q.
@@ -117,7 +111,6 @@ module _ (c : Config) (w : World) (good : IsGood c w) (t : ℕ) (lt : t < c.task
       ne (omega arith) in
       omega (arith, both, owns_le (w.views x).phase)
 
-  -- an owner that hasn't `remount` set finds it clear
   pub no_remount : owns (w.views t).phase ≡ 1 → remounts (w.views t).phase ≡ 0 → w.words.remount ≡ 1 → ⊥
   no_remount o z q =
       let none : total c.tasks (λ x. remounts (w.views x).phase) ≡ 0 = total_none c.tasks (λ x. remounts (w.views x).phase) (λ x lx.
@@ -220,7 +213,6 @@ module _ (c : Config) (w : World) (good : IsGood c w) (t : ℕ) (lt : t < c.task
         )
       ]
 
-  -- `remount` stands where this task has it set
   pub remount_stands : remounts (w.views t).phase ≡ 1 → w.words.remount ≡ 1
   remount_stands h =
       omega (arith, h, total_at c.tasks t (λ x. remounts (w.views x).phase) lt, (good Owner).remounting, (good Owner).bit)
@@ -257,7 +249,6 @@ module _ (c : Config) (w : World) (good : IsGood c w) (t : ℕ) (lt : t < c.task
         shown_still c w t lt ws v refl refl refl refl refl refl refl close held levels opens,
       )
 
-  -- an owner's event on the flags of a mount
   pub flag_law : (m f : ℕ) (v : View) (r : Role) → m < c.mounts → IsSteady (w.views t).phase v.phase → ViewFits c t v →
       held_at v ≡ held_at (w.views t) → added_by v.events ≡ added_by (w.views t).events → taken_by v.events ≡ taken_by (w.views t).events →
       ((y : ℕ) → (y ≡ m → ⊥) → role_of y v.phase ≡ role_of y (w.views t).phase) → role_of m v.phase ≡ r →

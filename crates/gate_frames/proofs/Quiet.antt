@@ -14,7 +14,6 @@ module _ (c : Config) (w : World) (good : IsGood c w) (views : ℕ → View) (n 
   abbrev Then : WordName → World
   Then word = record { words = put w.words word n; views = views }
 
-  -- at a mount
   mount_quiet : (word : WordName) → IsWord (extents_touched c.tasks c) word → IsGood c (Then word) → (m : ℕ) → all_counted c m w ≡ 0 →
       all_counted c m (Then word) ≡ 0 → (Then word).words.count m ≡ w.words.count m
   mount_quiet (WordName.MountCount k p) there after m =
@@ -30,7 +29,6 @@ module _ (c : Config) (w : World) (good : IsGood c w) (views : ℕ → View) (n 
       ]
   mount_quiet word there after m = λ a b. refl
 
-  -- and at a level
   level_quiet : (word : WordName) → IsWord (extents_touched c.tasks c) word → IsGood c (Then word) → (i : ℕ) → all_inside c i w ≡ 0 →
       all_inside c i (Then word) ≡ 0 → (Then word).words.level i ≡ w.words.level i
   level_quiet (WordName.LevelCount k p) there after i =
@@ -46,6 +44,5 @@ module _ (c : Config) (w : World) (good : IsGood c w) (views : ℕ → View) (n 
       ]
   level_quiet word there after i = λ a b. refl
 
-  -- so a write of one word is quiet
   pub write_quiet : (word : WordName) → IsWord (extents_touched c.tasks c) word → IsGood c (Then word) → IsQuiet c w (Then word)
   write_quiet word there after = record { mounts = mount_quiet word there after; levels = level_quiet word there after }

@@ -22,7 +22,6 @@ events_before RemoveStep.RefundsRemoved = 3
 events_before (RemoveStep.RefundsBlocks file) = 2
 events_before (RemoveStep.RefundsChild file) = 3
 
--- a remove that has loaded its file has done one event
 removes_later : (file : NodeWord) (opens : ℕ) → 0 < events_before (removes_file file opens)
 removes_later file opens = elim (cases_Bool (opens == 0)) [ inl e ↦ rw e (omega arith) | inr e ↦ rw e (omega arith) ]
 
@@ -114,7 +113,6 @@ module _ (c : Config) (file : ℕ) where
     short = λ trace phase added here. remove_within here.0 trace (here.2.3 refl);
   }
 
--- so a remove's trace tells what it is to tell, and is short
 pub remove_tells : (file : ℕ) (c : Config) → IsWithin c → (t : ℕ) (trace : List Traced) → IsTrace c t (Op.Remove file) trace →
     Tells c (Op.Remove file) trace (course_of c t (Op.Remove file) trace).comes (course_of c t (Op.Remove file) trace).added
 remove_tells file c lim t trace h = tells_well (RemoveAt c file) c t (Op.Remove file) (remove_kept c file t) trace h

@@ -55,7 +55,6 @@ module _ (At : List Traced → Phase → List Action → Type 0) (c : Config) (t
   next_keeps (Next.Wait phase) added e earlier next here = event_keeps phase added e earlier next here.0
   next_keeps (Next.Done answer) added e earlier next here = absurd next
 
-  -- every trace says it
   says : (trace : List Traced) → IsTrace c t op trace → Says At c op trace (course_of c t op trace).comes (course_of c t op trace).added
   says [] h = kept.first
   says (e ∷ earlier) h = next_keeps (course_of c t op earlier).comes (course_of c t op earlier).added e earlier h.0 (says earlier h.1)
@@ -91,7 +90,6 @@ module _ (At : List Traced → Phase → List Action → Type 0) (c : Config) (t
     short = kept.short;
   }
 
-  -- so every trace tells what is to be told then too, and is short
   pub tells : (trace : List Traced) → IsTrace c t op trace → Tells c op trace (course_of c t op trace).comes (course_of c t op trace).added
   tells trace h = tells_well At c t op kept_well trace h
 

@@ -36,7 +36,6 @@ Knows seen x = SnapshotKnows seen x x.step
 abbrev so_far : Snapshot → List Action
 so_far x = []
 
--- a short trace of a snapshot
 most_short : (c : Config) (wait : Bool) (trace : List Traced) → (wait ≡ false → length trace ≤ 2 * c.nodes + 4) →
     IsShort (most_events c (Op.Snapshot wait)) trace
 most_short c true trace h = tt

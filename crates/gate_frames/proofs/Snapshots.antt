@@ -15,7 +15,6 @@ bare_view v = record v { snapshot = None }
 abbrev bare : World → World
 bare w = record { words = w.words; views = λ t. bare_view (w.views t) }
 
--- each part of the rule says the same there
 bare_part : (c : Config) (w : World) (part : Part) → Holds c (bare w) part ≡ Holds c w part
 bare_part c w Owner = refl
 bare_part c w other = refl

@@ -27,17 +27,14 @@ stages_in w = record {
   at = stage_roles w;
 }
 
--- a remount that owns by its stage owns `umount`
 remount_owner : (nodes : ℕ) (s : RemountStep) → stage_owns (remount_stage_role nodes s) ≤ remount_owns s
 remount_owner nodes RemountStep.Locks = omega arith
 remount_owner nodes s = omega arith
 
--- who owns by the stage owns `umount`
 pub stage_owner : (p : Option Phase) → stage_owns (stage_role_of p) ≤ owns p
 stage_owner (Some (Phase.Remounts x)) = remount_owner x.nodes x.step
 stage_owner other = omega arith
 
--- a node without a mark is shown without one
 clean_shown : (word : ℕ) → dirty_in word ≡ 0 → is_dirty (node_shown word) ≡ false
 clean_shown word e = elim (eqb_tells (word % 4) 0) [
   | inl q ↦ rw q.0 refl
@@ -45,18 +42,15 @@ clean_shown word e = elim (eqb_tells (word % 4) 0) [
 ]
 
 module _ (c : Config) (w : World) (good : IsGood c w) where
-  -- what holds of the stage of a good world
   pub stages_right : StageHolds c.tasks c.nodes (stages_in w)
   stages_right = record { stages = good Stages; marks = marks_right c w good }
 
-  -- the shown model shows it
   pub stages_shown : Shows (model_limits c) (stages_in w) (shown c w)
   stages_shown = record {
     stages = record { stage_same = refl; passed_same = refl; sb_same = refl };
     marks = λ n lt e. clean_shown (w.words.node n) e;
   }
 
-  -- where `umount` is free nobody owns by the stage
   pub nobody_owns : w.words.umount ≡ 0 → total c.tasks (λ x. stage_owns (stage_roles w x)) ≡ 0
   nobody_owns free = total_none c.tasks (λ x. stage_owns (stage_roles w x)) (λ x lx.
       let none : owns (w.views x).phase ≡ 1 → ⊥ = λ o. omega (arith, free, (good Owner).locked x lx o) in

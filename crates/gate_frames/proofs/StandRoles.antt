@@ -13,27 +13,21 @@ use Rattle.gate_frames.proofs.Frames.{left_alone, level_as, level_view_as, SameL
 use Rattle.gate_frames.proofs.LevelWorlds.{IsOfLevel, IsEventAt, sync_there, sync_elsewhere, sections_stay}
 use Rattle.gate_frames.proofs.Standing.{LevelsHold, left_world, closing_stand, still_closed, Stands, opening_stand}
 
--- at its own level
 pub count_at : (i : ℕ) (s : Stand) → i ≡ s.level → stand_count i (Some s) ≡ s.count
 count_at i s e = rw (eq-eqb i s.level e) refl
 
--- and its rcu_sync there
 pub sync_at : (i : ℕ) (s : Stand) → i ≡ s.level → stand_sync i (Some s) ≡ s.sync
 sync_at i s e = rw (eq-eqb i s.level e) refl
 
--- those below it are closed and passed
 pub count_below : (i : ℕ) (s : Stand) → i < s.level → stand_count i (Some s) ≡ CountsPassed
 count_below i s lt = rw (ne_eqb i s.level (λ e. omega (arith, e, lt)), lt-ltb i s.level lt) refl
 
--- with their rcu_sync
 pub sync_below : (i : ℕ) (s : Stand) → i < s.level → stand_sync i (Some s) ≡ Closed
 sync_below i s lt = rw (ne_eqb i s.level (λ e. omega (arith, e, lt)), lt-ltb i s.level lt) refl
 
--- and those above it are not its own
 pub count_above : (i : ℕ) (s : Stand) → s.level < i → stand_count i (Some s) ≡ CountsNot
 count_above i s lt = rw (ne_eqb i s.level (λ e. omega (arith, e, lt)), le-ltb i s.level (omega (arith, lt))) refl
 
--- nor is their rcu_sync
 pub sync_above : (i : ℕ) (s : Stand) → s.level < i → stand_sync i (Some s) ≡ IsApart
 sync_above i s lt = rw (ne_eqb i s.level (λ e. omega (arith, e, lt)), le-ltb i s.level (omega (arith, lt))) refl
 
@@ -77,7 +71,6 @@ pub record SayBeside (level : ℕ) (s z : Option Stand) : Type 0 where
   pub counts : (i : ℕ) → 1 ≤ i → i ≤ 3 → (i ≡ level → ⊥) → stand_count i z ≡ stand_count i s
   pub syncs : (i : ℕ) → 1 ≤ i → i ≤ 3 → (i ≡ level → ⊥) → stand_sync i z ≡ stand_sync i s
 
--- two stands at a level say the same of the others
 pub beside_each : (level : ℕ) (s z : Stand) → s.level ≡ level → z.level ≡ level → SayBeside level (Some s) (Some z)
 beside_each level s z es ez = record {
   counts = λ i one three ne. elim (cases_lt i level) [
@@ -140,11 +133,9 @@ pub closing_next : (p : Option Phase) (n tasks processors : ℕ) → 1 ≤ n →
     Stands p (Some (closing_stand (closing (suc n) tasks processors))) → Stands p (Some (closed_to n))
 closing_next p n tasks processors some = stands_so p _ _ (say_back _ _ (closing_says n tasks processors some))
 
--- and that of the first
 pub closing_first : (p : Option Phase) (tasks processors : ℕ) → Stands p (Some (closing_stand (closing 1 tasks processors))) → Stands p None
 closing_first p tasks processors = stands_so p _ _ (say_back _ _ (closing_says_none tasks processors))
 
--- where it is a level, the levels up to it are closed
 pub still_up : (n : ℕ) → still_closed (suc n) ≡ Some (closed_to (suc n))
 still_up n = rw (ne_eqb (suc n) 0 (λ e. omega (arith, e))) refl
 
@@ -191,14 +182,12 @@ beside_still (suc (suc n)) s one e = subst (SayBeside (suc (suc n)) (Some s)) (s
   ];
 }
 
--- at a level that is no longer closed, nothing is said
 pub still_count : (level : ℕ) → 1 ≤ level → stand_count level (still_closed (level - 1)) ≡ CountsNot
 still_count zero one = absurd (omega (arith, one))
 still_count (suc zero) one = refl
 still_count (suc (suc n)) one =
     ap (stand_count (suc (suc n))) (still_before n) ∙ count_above (suc (suc n)) (closed_to (suc n)) (omega arith)
 
--- nor of its rcu_sync
 pub still_sync : (level : ℕ) → 1 ≤ level → stand_sync level (still_closed (level - 1)) ≡ IsApart
 still_sync zero one = absurd (omega (arith, one))
 still_sync (suc zero) one = refl
@@ -232,7 +221,6 @@ touched_sync w i j ne (WordName.LevelCount k p) touch e = refl
 touched_sync w i j ne (WordName.Section u) Touch.Load e = refl
 touched_sync w i j ne name touch e = absurd e
 
--- and all section words
 pub touched_section : (w : Words) (i : ℕ) (name : WordName) (touch : Touch) → IsEventAt i name touch →
     (put w name (left touch (read w name))).section ≡ w.section
 touched_section w i (WordName.Sync k) touch e = refl
@@ -241,7 +229,6 @@ touched_section w i (WordName.LevelCount k p) touch e = refl
 touched_section w i (WordName.Section u) Touch.Load e = update_same w.section u
 touched_section w i name touch e = absurd e
 
--- its word is one of the level
 pub is_of_level : (i : ℕ) (name : WordName) (touch : Touch) → IsEventAt i name touch → IsOfLevel i name
 is_of_level i (WordName.Sync k) touch e = e
 is_of_level i (WordName.Block k) touch e = e
@@ -249,7 +236,6 @@ is_of_level i (WordName.LevelCount k p) touch e = e
 is_of_level i (WordName.Section u) touch e = tt
 is_of_level i name touch e = absurd e
 
--- a word that is put is none of who is inside a section
 pub put_inside : (l : SyncLevel) (name : WordName) (n : ℕ) → (put_at l name n).inside ≡ l.inside
 put_inside l (WordName.Sync i) n = refl
 put_inside l (WordName.Block i) n = refl
@@ -259,7 +245,6 @@ put_inside l name n = refl
 -- An event of a task that stood so with the levels, stands so after it, and holds and has added at them what it had.
 module _ (c : Config) (w : World) (good : IsGood c w) (t : ℕ) (lt : t < c.tasks) (v : View) (s z : Option Stand)
     (was : Stands (w.views t).phase s) (now : Stands v.phase z) (counts : SameLevelCounts (w.views t) v) where
-  -- its view of the counts of a level is as it was, with this role
   seen_counts : (i : ℕ) → 1 ≤ i → i ≤ 3 → (r : LevelRole) → stand_count i z ≡ r →
       at_level i v ≡ record (at_level i (w.views t)) { role = r }
   seen_counts i one three r e =

@@ -6,7 +6,6 @@ use Rattle.freeze_levels.specs.declared.{freezes.FreezeStep.FreezeStep, thaws.Th
 use Rattle.level_laws.specs.{Operations.{down_write_role, up_write_role}, Roles.{SyncRole, Closed, fast, closed}}
 use Rattle.gate_world.specs.Levels.{Stand, sync_beside, stand_sync, freeze_stand, thaw_stand}
 
--- no writer is on the fast path
 up_write_slow : (s : UpWriteStep) → fast (up_write_role s) ≡ 0
 up_write_slow UpWriteStep.ClearsBlock = refl
 up_write_slow (UpWriteStep.Exits transition) = refl
@@ -20,7 +19,6 @@ beside_slow true below r h = h
 beside_slow false true r h = refl
 beside_slow false false r h = refl
 
--- so no freeze is, and no thaw
 pub freeze_slow : (i : ℕ) (s : FreezeStep) → fast (stand_sync i (freeze_stand s)) ≡ 0
 freeze_slow i (FreezeStep.Closes d) = beside_slow (i == d.level) (nat_lt i d.level) (down_write_role d.step) (down_write_slow d.step)
 freeze_slow i FreezeStep.LocksAgain = beside_slow (i == 1) (nat_lt i 1) Closed refl
@@ -35,11 +33,9 @@ pub thaw_slow : (i : ℕ) (s : ThawStep) → fast (stand_sync i (thaw_stand s)) 
 thaw_slow i (ThawStep.Reopens u) = beside_slow (i == u.level) (nat_lt i u.level) (up_write_role u.step) (up_write_slow u.step)
 thaw_slow i s = refl
 
--- a number below another
 pub below : (i n : ℕ) → i < n → nat_lt i n ≡ true
 below i n lt = elim (cases_Bool (nat_lt i n)) [ inl h ↦ h | inr h ↦ absurd (omega (arith, lt, ltb-false i n h)) ]
 
--- who stands at a level has closed each one below it
 closed_le : (r : SyncRole) → closed r ≤ 1
 closed_le Closed = omega arith
 closed_le r = omega arith

@@ -60,7 +60,6 @@ module _ (c : Config) (t m : ℕ) where
       word_ahead : ahead c.processors (w.words.count m) sum.words ≡ found + ahead c.processors (w.words.count m) (suc sum.words)
       word_ahead = ahead_step c.processors sum.words (w.words.count m) there
 
-      -- a sum that takes a word more has its cause
       pub sum_takes : next.words.count m ≡ w.words.count m → words_read (next.views t).phase ≡ Some (sum.words + 1) →
           ChangeCause c t next (w ∷ earlier) m
           (ChangeStep.Sums record { words = sum.words + 1; total = wrap_add sum.total (w.words.count m sum.words) })

@@ -66,7 +66,6 @@ begin_keeps c w t op None e h x =
     each_updated (λ y (v : View). IsTraced c y v v.op) w.views t (begun_view (w.views t) op (first_phase c t op)) x
     (record { trace = tt; phase = refl; actions = refl; begins = idle_refusal c (w.views t) op (is_some (w.views t).phase) e }) (λ ne. h x)
 
--- one that finds no such task does nothing
 begin_entry : (c : Config) (w : World) (t : ℕ) (op : Op) → AllTraced c w → AllTraced c (begin_of c w t op (begin_refusal c w t op))
 begin_entry c w t op h =
     elim (cases_Bool (nat_lt t c.tasks)) [
@@ -82,7 +81,6 @@ step_keeps c w t hook (Some phase) e lt may h x =
     each_updated (λ y (v : View). IsTraced c y v v.op) w.views t (view_after (w.views t) phase (value_at w.words phase hook) hook) x
     (step_follows c t (w.views t) (w.views t).op phase (value_at w.words phase hook) hook e (may t lt phase hook e) (h t)) (λ ne. h x)
 
--- so each entry keeps it
 pub entry_keeps : (c : Config) (w : World) (e : Entry) → EventsMayBe c w → AllTraced c w → AllTraced c (happens c w e)
 entry_keeps c w (Begins t op) may h = begin_entry c w t op h
 entry_keeps c w (Steps t hook) may h =
@@ -91,6 +89,5 @@ entry_keeps c w (Steps t hook) may h =
       | inr l ↦ rw (le-ltb t c.tasks l) h
     ]
 
--- so it is at the beginning
 pub opening_traced : (c : Config) → AllTraced c opening
 opening_traced c t = (refl, refl, refl)

@@ -17,16 +17,13 @@ use Rattle.gate_world.specs.Stages.{reopening_role}
 use Rattle.gate_world.specs.{Views.{held_at, holds_level}, Worlds.World, declared.{config.Config.Config, work.Phase.Phase}}
 use Rattle.gate_frames.proofs.Stages.{stages_in, stages_right}
 
--- both of two
 pub both_true : (a b : Bool) → (a && b) ≡ true → (a ≡ true) × (b ≡ true)
 both_true true b h = (refl, h)
 both_true false b h = absurd (true≢false (sym h))
 
--- a number below another is found to be
 pub found_below : (i n : ℕ) → i < n → nat_lt i n ≡ true
 found_below i n lt = elim (cases_Bool (nat_lt i n)) [ inl h ↦ h | inr h ↦ absurd (omega (arith, lt, ltb-false i n h)) ]
 
--- an access at some mount is one at a mount that is there
 pub mount_there : (n : ℕ) (held : ℕ → ℕ) → some_mount n held ≡ true → (m : ℕ) × (m < n) × (0 < held m)
 mount_there zero held h = absurd (true≢false (sym h))
 mount_there (suc n) held h =
@@ -35,11 +32,9 @@ mount_there (suc n) held h =
       | inr e ↦ (n, omega arith, ltb-true 0 (held n) (rw e at h))
     ]
 
--- who stands at a level has passed each one below it
 below_stand : (i level : ℕ) (r : LevelRole) → i < level → count_beside (i == level) (nat_lt i level) r ≡ Passed
 below_stand i level r lt = rw (ne_eqb i level (λ e. omega (arith, e, lt)), found_below i level lt) refl
 
--- and who has passed its own level, each one up to it
 up_to_stand : (i level : ℕ) (r : LevelRole) → i ≤ level → r ≡ Passed → count_beside (i == level) (nat_lt i level) r ≡ Passed
 up_to_stand i level r le is =
     elim (eqb_tells i level) [
@@ -47,7 +42,6 @@ up_to_stand i level r le is =
       | inr q ↦ rw (q.0, found_below i level (omega (arith, le, q.1))) refl
     ]
 
--- a freeze at a stage has passed each level below it
 place_passed : (stage : ℕ) (place : Place) (owner : Bool) → stage ≤ suc (passed_by (Freezing stage place owner))
 place_passed stage Before owner = omega arith
 place_passed stage other owner = omega arith
@@ -76,12 +70,10 @@ freeze_passed nodes i FreezeStep.SetsComplete low le = up_to_stand i 3 Passed le
 freeze_passed nodes i (FreezeStep.Reopens u code) low le = reopening_passed i u.level u.step low le
 freeze_passed nodes i s low le = absurd (omega (arith, low, le))
 
--- the same of a thaw
 thaw_passed : (i : ℕ) (s : ThawStep) → 1 ≤ i → i ≤ passed_by (thaw_stage_role s) → stand_count i (thaw_stand s) ≡ Passed
 thaw_passed i (ThawStep.Reopens u) low le = reopening_passed i u.level u.step low le
 thaw_passed i s low le = absurd (omega (arith, low, le))
 
--- a remount has passed none
 remount_passed : (nodes : ℕ) (s : RemountStep) → passed_by (remount_stage_role nodes s) ≡ 0
 remount_passed nodes (RemountStep.ClearsHold held) = refl
 remount_passed nodes (RemountStep.ClearsMark n) = refl
@@ -89,7 +81,6 @@ remount_passed nodes RemountStep.SetsReadOnly = refl
 remount_passed nodes RemountStep.ClearsRemount = refl
 remount_passed nodes s = refl
 
--- nor has a call at the tree
 snapshot_passed : (s : SnapshotStep) → passed_by (snapshot_stage_role s) ≡ 0
 snapshot_passed SnapshotStep.Locks = refl
 snapshot_passed s = refl
@@ -98,7 +89,6 @@ tree_passed : (x : TreePhase) → passed_by (tree_stage_role x) ≡ 0
 tree_passed (TreePhase.Snapshot x) = snapshot_passed x.step
 tree_passed x = refl
 
--- so it is of what any task is at
 pub passed_there : (i : ℕ) → 1 ≤ i → (p : Option Phase) → i ≤ passed_by (stage_role_of p) → level_role_of i p ≡ Passed
 passed_there i low (Some (Phase.Remounts x)) le = absurd (omega (arith, low, le, remount_passed x.nodes x.step))
 passed_there i low (Some (Phase.Freezes x)) le = freeze_passed x.nodes i x.step low le
@@ -133,7 +123,6 @@ module _ (c : Config) (w : World) (good : IsGood c w) (t : ℕ) (lt : t < c.task
       λ e. omega (arith, some, none_past m lm 1 (h.gate.open_to 1 (e, writable, unmarked))) in
       (writable, omega (arith, not_set, (good Owner).bit))
 
-  -- the task's access at a level is counted there
   level_held : (i : ℕ) → holds_level (w.views t) i ≡ true → total c.tasks (λ x. (at_level i (w.views x)).held) ≡ 0 → ⊥
   level_held i inside none =
       let one : (at_level i (w.views t)).held ≡ 1 = rw inside refl in
@@ -149,11 +138,9 @@ module _ (c : Config) (w : World) (good : IsGood c w) (t : ℕ) (lt : t < c.task
             absurd (level_held i inside (none_passed (good (AtLevel i) low high) y ly (passed_there i low (w.views y).phase l)))
       ]
 
-  -- and the file system isn't frozen as a whole
   pub level_thawed : (i : ℕ) → 1 ≤ i → i ≤ 3 → holds_level (w.views t) i ≡ true → is_frozen_whole w.words ≡ 1 → ⊥
   level_thawed i low high inside whole = level_held i inside (none_frozen (good (AtLevel i) low high) whole)
 
-  -- at stage 3 a freeze has passed levels 1 and 2
   stage_three : w.words.stage ≡ 3 → (y : ℕ) × (y < c.tasks) × (2 ≤ passed_by (stage_roles w y))
   stage_three e =
       let f : (y : ℕ) × (y < c.tasks) × (place : Place) × (owner : Bool) × (stage_roles w y ≡ Freezing w.words.stage place owner) =
@@ -182,7 +169,6 @@ module _ (c : Config) (w : World) (good : IsGood c w) (t : ℕ) (lt : t < c.task
         unpassed = level_unpassed i bounds.0 high inside;
       }
 
-  -- so at stage 4 nobody is a writer
   pub writer_not_frozen : is_writer c (held_at (w.views t)) (holds_level (w.views t)) ≡ true → w.words.stage ≡ 4 → ⊥
   writer_not_frozen writes frozen =
       let both : (holds_level (w.views t) 1 ≡ true) × (some_mount c.mounts (held_at (w.views t)) ≡ true) = both_true _ _ writes in

@@ -26,26 +26,21 @@ use Rattle.gate_world.specs.Trees.{close_tree_role}
 use Rattle.gate_world.specs.{Views.{held_at, holds_level}, Worlds.World}
 use Rattle.gate_world.specs.declared.{config.Config.Config, views.{Traced.Traced, View.View}, work.Phase.{Phase, TheVariants.Closes}}
 
--- a configuration within the limits is one for the laws of the tree
 pub tree_within : (c : Config) → IsWithin c → AreWithin (tree_bounds c)
 tree_within c within = record { tasks = within.tasks; some_node = within.some_node; nodes = within.nodes; capacity = within.capacity }
 
--- the tree is sealed at stages 3 and 4, and where the superblock's flag is set
 pub sealed_frozen : (sb stage : ℕ) → 3 ≤ stage → sealed_by sb stage ≡ 1
 sealed_frozen sb stage h = elim (eqb_tells sb 1) [ inl e ↦ rw e.0 refl | inr e ↦ rw (e.0, le-leb 3 stage h) refl ]
 
 pub sealed_read_only : (sb stage : ℕ) → sb ≡ 1 → sealed_by sb stage ≡ 1
 sealed_read_only sb stage e = rw e refl
 
--- a free node shows nothing
 free_shown : (word : ℕ) → kind_in word ≡ 0 → node_shown word ≡ None
 free_shown word free = rw free refl
 
--- a mark is 0 or 1
 dirty_small : (word : ℕ) → dirty_in word < 2
 dirty_small word = omega arith
 
--- a node that is shown clean has no mark
 pub shown_clean : (word : ℕ) → (kind_in word ≡ 0 → word ≡ 0) → is_dirty (node_shown word) ≡ false → dirty_in word ≡ 0
 shown_clean word free clean = elim (eqb_tells (kind_in word) 0) [
   | inl q ↦ ap dirty_in (free q.1)
@@ -80,7 +75,6 @@ module _ (c : Config) (w : World) (good : IsGood c w) (t : ℕ) (lt : t < c.task
     at = update_map (λ (u : View). tree_role_of u.trace u.phase) w.views t v i;
   }
 
-  -- what holds of the tree then, holds of the world
   pub tree_holds : TreeHolds (tree_bounds c) tree_then → Holds c (record { words = ws; views = update w.views t v }) Tree
   tree_holds h = subst (TreeHolds (tree_bounds c)) (sym tree_moves) h
 
@@ -97,11 +91,9 @@ module _ (c : Config) (w : World) (good : IsGood c w) (t : ℕ) (lt : t < c.task
 
 -- what a task is at says of its accesses
 module _ (c : Config) (w : World) (good : IsGood c w) where
-  -- the root is there
   root_there : kind_in (w.words.node 0) ≡ 0 → ⊥
   root_there free = subst IsDirectory (free_shown (w.words.node 0) free) (good Tree).root
 
-  -- the nodes that a role has cleared have no marks
   cleared_clean : (n : ℕ) → n ≤ c.nodes → (t : ℕ) → t < c.tasks → tree_roles w t ≡ Clearing n → CleanBelow n (marks_of w.words)
   cleared_clean n le t lt is m lm =
       let h : RoleHolds (tree_bounds c) w.words.used w.words.removed w.words.node w.words.kids (Clearing n) =
@@ -183,7 +175,6 @@ module _ (c : Config) (w : World) (good : IsGood c w) where
   phase_clean t lt (Some (Phase.Trees x)) is = tree_clean x
   phase_clean t lt other is = none_clean
 
-  -- what the laws of the stage read of the marks
   pub marks_right : MarksHold c.tasks c.nodes w.words.stage w.words.sb (marks_of w.words) (stage_roles w)
   marks_right = record {
     frozen = λ h. all_clean (sealed_frozen w.words.sb w.words.stage h);
@@ -259,7 +250,6 @@ module _ (c : Config) (w : World) (good : IsGood c w) where
   phase_unread trace (Some (Closes x)) apart knows = close_unread x
   phase_unread trace p apart knows = refl
 
-  -- so nobody reads then
   pub nobody_reads : (w.words.stage ≡ 4 → ⊥) → NobodyReads (tree_bounds c) (tree_of w)
   nobody_reads apart = total_none c.tasks (λ t. words_read (tree_roles w t)) (λ t lt.
       phase_unread (w.views t).trace (w.views t).phase apart ((good Stages).knows t lt))

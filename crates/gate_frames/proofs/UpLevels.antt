@@ -19,19 +19,16 @@ use Rattle.gate_frames.proofs.Standing.{Stands, opening_stand, stand_after_openi
 abbrev pub opening_at : UpWrite → UpWriteStep → UpWrite
 opening_at u s = record u { step = s }
 
--- each of its events is one of its level, and changes no section word
 pub up_write_event : (u : UpWrite) (s : UpWriteStep) → IsEventAt u.level (up_write_next u s).0 (up_write_next u s).1
 up_write_event u UpWriteStep.ClearsBlock = refl
 up_write_event u (UpWriteStep.Exits Transition.Loads) = refl
 up_write_event u (UpWriteStep.Exits (Transition.Exchanges from to)) = refl
 
--- it leaves the counts
 up_write_counts : (w : Words) (u : UpWrite) (s : UpWriteStep) (n : ℕ) → (put w (up_write_next u s).0 n).level ≡ w.level
 up_write_counts w u UpWriteStep.ClearsBlock n = refl
 up_write_counts w u (UpWriteStep.Exits Transition.Loads) n = refl
 up_write_counts w u (UpWriteStep.Exits (Transition.Exchanges from to)) n = refl
 
--- an up-write stays at its level
 exit_level : (u : UpWrite) (n : TransitionNext) → HoldsOfNext (λ (x : UpWrite). x.level ≡ u.level) (exit_made u n)
 exit_level u (TransitionNext.More x) = refl
 exit_level u TransitionNext.Undefined = refl
@@ -133,7 +130,6 @@ module _ (c : Config) (lim : IsWithin c) (w : World) (good : IsGood c w) (t : �
         u.level name touch (up_write_event u s) (up_write_counts w.words u s (left touch (read w.words name)))
         (opening_others s fits) (opening_here s fits.0 was now) (opening_there s fits was)
 
--- so it does at the step that it is at
 pub up_write_levels : (c : Config) → IsWithin c → (w : World) → IsGood c w → (t : ℕ) → t < c.tasks → (u : UpWrite) (v : View) →
     SameLevelCounts (w.views t) v → UpWriteFits u → Stands (w.views t).phase (Some (opening_stand u)) →
     Stands v.phase (stand_after_opening u.level

@@ -3,7 +3,6 @@ use Rattle.std.proofs.Common.{◌≡◌, refl, ap, ◌∙◌}
 use Rattle.finite_sums.{proofs.Totals.update_same, specs.Sums.update}
 use Rattle.cpu_words.specs.{Words.{Words, read, put}, declared.names.WordName.WordName}
 
--- a load leaves the words
 pub load_same : (w : Words) (name : WordName) → put w name (read w name) ≡ w
 load_same w (WordName.MountFlags m) = λ j. record w { flags = update_same w.flags m j }
 load_same w (WordName.MountCount m p) = λ j. record w {

@@ -32,25 +32,20 @@ pub record IsWriter (p : Option Phase) : Type 0 where
   pub remounts_none : remounts p ≡ 0
   pub no_file : file_of p ≡ None
 
--- no operation is under way
 pub idle_writes : IsWriter None
 idle_writes = record { out_of_mounts = λ m. refl; remounts_none = refl; no_file = refl }
 
--- a freeze
 pub freezes_write : (x : Freeze) → IsWriter (Some (Phase.Freezes x))
 freezes_write x = record { out_of_mounts = λ m. refl; remounts_none = refl; no_file = refl }
 
--- a thaw, too
 pub thaws_write : (x : Thaw) → IsWriter (Some (Phase.Thaws x))
 thaws_write x = record { out_of_mounts = λ m. refl; remounts_none = refl; no_file = refl }
 
--- what comes after an event of a freeze
 pub freeze_comes : (n : Next Freeze) → IsWriter (phase_after (map_next Phase.Freezes n))
 freeze_comes (Next.Go x) = freezes_write x
 freeze_comes (Next.Wait x) = freezes_write x
 freeze_comes (Next.Done answer) = idle_writes
 
--- and after one of a thaw
 pub thaw_comes : (n : Next Thaw) → IsWriter (phase_after (map_next Phase.Thaws n))
 thaw_comes (Next.Go x) = thaws_write x
 thaw_comes (Next.Wait x) = thaws_write x
@@ -109,7 +104,6 @@ module _ (c : Config) (w : World) (good : IsGood c w) (t : ℕ) (lt : t < c.task
   abbrev pub PartsHold : Type 0
   PartsHold = (part : Part) → is_known_part part ≡ false → Holds c (left_world w t ws v) part
 
-  -- so each part holds after it
   pub writer_parts : WriterEvent → PartsHold
   writer_parts h Owner k = h.owner
   writer_parts h Stages k = stages_after c w good t lt ws v kind h.happens
@@ -131,7 +125,6 @@ module _ (c : Config) (w : World) (good : IsGood c w) (t : ℕ) (lt : t < c.task
   writer_parts h (SyncAt i) k = h.levels.1 i
   writer_parts h Sections k = h.levels.2
 
-  -- and the shown model is what its action makes of it
   effect_shown : WriterEvent → shown c (left_world w t ws v) ≡ state_after (shown c w) t action
   effect_shown h =
       shown_by c w good t lt ws v h.words.flags_same h.counts.held_same h.counts.levels_same h.counts.open_same (state_after (shown c w) t action)
@@ -139,7 +132,6 @@ module _ (c : Config) (w : World) (good : IsGood c w) (t : ℕ) (lt : t < c.task
       (state_after (shown c w) t a)) h.adds (stage_effect c w good t lt ws v kind h.happens))
       h.rest.mounts_same h.rest.levels_same h.rest.opens_same h.rest.ro_same h.rest.holders_same h.rest.tree_same
 
--- the shown model moves by the action
 writer_moves : (c : Config) (w : World) (good : IsGood c w) (t : ℕ) (lt : t < c.tasks) (ws : Words) (v : View) (action : Option Action)
     (kind : StageEvent) → WriterEvent c w good t lt ws v action kind → Moves c (shown c w) t action (shown c (left_world w t ws v))
 writer_moves c w good t lt ws v None kind h = effect_shown c w good t lt ws v None kind h
@@ -178,13 +170,11 @@ whole_writer c w t lt good hook phase e work keeps = (
 -- What comes after an event of a down-write is the same one with another step, or it is done.
 module _ (d : DownWrite) (P : Next DownWrite → Type 0) (go : (s : DownWriteStep) → P (Next.Go (at_down_write d s)))
     (wait : (s : DownWriteStep) → P (Next.Wait (at_down_write d s))) (done : P (Next.Done (Ok Reply.Unit))) where
-  -- after a load of a section word
   sections_come : (n : GraceNext) → P (sections_awaited d n)
   sections_come (GraceNext.More grace) = go (DownWriteStep.AwaitsSections grace)
   sections_come (GraceNext.Wait grace) = wait (DownWriteStep.AwaitsSections grace)
   sections_come GraceNext.Ended = go (DownWriteStep.CallsBack Transition.Loads)
 
-  -- after a load of the sync word
   passed_comes : (o : Option SyncWord) → P (passed_awaited d o)
   passed_comes None = go DownWriteStep.AwaitsPassed
   passed_comes (Some word) =
@@ -192,13 +182,11 @@ module _ (d : DownWrite) (P : Next DownWrite → Type 0) (go : (s : DownWriteSte
       (λ b. P (if b then Next.Go (at_down_write d DownWriteStep.SetsBlock) else Next.Wait (at_down_write d DownWriteStep.AwaitsPassed)))
       (go DownWriteStep.SetsBlock) (wait DownWriteStep.AwaitsPassed)
 
-  -- after a load of a count
   summed_comes : (n : Taken) → P (down_write_summed d n).0
   summed_comes (Taken.More sum) = go (DownWriteStep.Sums sum)
   summed_comes (Taken.Total total) =
       by_bool (total == 0) (λ b. P (if b then Next.Done (Ok Reply.Unit) else Next.Wait (at_down_write d sum_begun))) done (wait sum_begun)
 
-  -- after each event
   pub down_write_comes : (s : DownWriteStep) (found : ℕ) → P (down_write_after d s found).0
   down_write_comes (DownWriteStep.Enters transition) found = go (enter_step d.tasks (transition_after on_enter transition found))
   down_write_comes (DownWriteStep.AwaitsSections grace) found = sections_come (looked grace found)
@@ -215,18 +203,15 @@ down_write_off d (DownWriteStep.Enters Transition.Loads) = refl
 down_write_off d (DownWriteStep.CallsBack Transition.Loads) = refl
 down_write_off d other = refl
 
--- nor does an up-write
 up_write_off : (u : UpWrite) (s : UpWriteStep) → is_owned (up_write_next u s).0 ≡ false
 up_write_off u UpWriteStep.ClearsBlock = refl
 up_write_off u (UpWriteStep.Exits Transition.Loads) = refl
 up_write_off u (UpWriteStep.Exits (Transition.Exchanges from to)) = refl
 
--- who reopens levels owns `umount`
 pub reopening_owns : (level : ℕ) (s : UpWriteStep) → stage_owns (reopening_role level s) ≡ 1
 reopening_owns level UpWriteStep.ClearsBlock = refl
 reopening_owns level (UpWriteStep.Exits transition) = refl
 
--- a freeze changes an owned word as the owner
 freeze_changes : (x : Freeze) (s : FreezeStep) (hook : HookAnswer) → is_owned (freeze_next x s hook).0 ≡ true →
     (is_load (freeze_next x s hook).1 ≡ true) ⊎ (stage_owns (freeze_stage_role x.nodes s) ≡ 1)
 freeze_changes x FreezeStep.Locks hook h = absurd (true≢false (sym h))
@@ -267,7 +252,6 @@ freeze_comes_to c x (FreezeStep.Closes d) hook value f h =
 freeze_comes_to c x (FreezeStep.Reopens u code) hook value f h = inl (reopening_owns u.level u.step)
 freeze_comes_to c x s hook value f h = inl refl
 
--- so it does an owner's work
 pub freeze_work : (c : Config) (w : World) (x : Freeze) (hook : HookAnswer) → FreezeFits c x.holder x.step → IsOwnersWork w (Phase.Freezes x) hook
 freeze_work c w x hook f = record {
   changes = freeze_changes x x.step hook;
@@ -293,7 +277,6 @@ thaw_comes_to x ThawStep.Locks hook value h =
 thaw_comes_to x (ThawStep.Reopens u) hook value h = inl (reopening_owns u.level u.step)
 thaw_comes_to x s hook value h = inl refl
 
--- so it does an owner's work
 pub thaw_work : (w : World) (x : Thaw) (hook : HookAnswer) → IsOwnersWork w (Phase.Thaws x) hook
 thaw_work w x hook = record {
   changes = thaw_changes x x.step hook;

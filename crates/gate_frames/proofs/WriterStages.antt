@@ -35,15 +35,12 @@ module _ (c : Config) (w : World) (good : IsGood c w) (t : ℕ) (lt : t < c.task
     at = (ap (update (stage_roles w) t) same ∙ update_same (stage_roles w) t) j;
   }
 
-  -- who plays the role that it had is where it was
   pub still_plays : {r : StageRole} → r ≡ stage_role_of (w.views t).phase → playing (stages_in w) t r ≡ stages_in w
   still_plays same = λ j. record (stages_in w) { at = (ap (update (stage_roles w) t) same ∙ update_same (stage_roles w) t) j }
 
-  -- no action leaves the accesses, the mounts and the tree
   pub none_leaves : LeavesRest (shown c w) (shown c w) (shown c w).tree (shown c w).holders
   none_leaves = record { mounts_same = refl; levels_same = refl; opens_same = refl; ro_same = refl; tree_same = refl; holders_same = refl }
 
-  -- nor does the store of a stage touch them
   pub stage_leaves : (n : ℕ) → LeavesRest (shown c w) (after_action (shown c w) t (Action.Stage n)) (shown c w).tree (shown c w).holders
   stage_leaves n = record { mounts_same = refl; levels_same = refl; opens_same = refl; ro_same = refl; tree_same = refl; holders_same = refl }
 
@@ -111,7 +108,6 @@ module _ (c : Config) (w : World) (good : IsGood c w) (t : ℕ) (lt : t < c.task
           rest = none_leaves;
         })
 
-    -- a store of the stage by the owner
     pub writer_stores : (n : ℕ) (kind : StageEvent) →
         OwnerHolds c.tasks w.words.umount w.words.remount (λ y. (update w.views t v y).phase) →
         LevelsHold c (left_world w t (record w.words { stage = n }) v) →

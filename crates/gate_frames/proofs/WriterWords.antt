@@ -29,14 +29,12 @@ pub record IsAtLevels (old new : Words) : Type 0 where
   pub removed_same : new.removed ≡ old.removed
   pub kids_same : new.kids ≡ old.kids
 
--- a down-write writes words of levels alone
 pub down_write_words : (w : Words) (d : DownWrite) (s : DownWriteStep) →
     IsAtLevels w (put w (down_write_next d s).0 (left (down_write_next d s).1 (read w (down_write_next d s).0)))
 down_write_words w d (DownWriteStep.Enters Transition.Loads) = assumption
 down_write_words w d (DownWriteStep.CallsBack Transition.Loads) = assumption
 down_write_words w d other = assumption
 
--- and an up-write
 pub up_write_words : (w : Words) (u : UpWrite) (s : UpWriteStep) →
     IsAtLevels w (put w (up_write_next u s).0 (left (up_write_next u s).1 (read w (up_write_next u s).0)))
 up_write_words w u UpWriteStep.ClearsBlock = assumption
@@ -53,7 +51,6 @@ down_write_counts_none d (DownWriteStep.Enters Transition.Loads) f = (refl, refl
 down_write_counts_none d (DownWriteStep.CallsBack Transition.Loads) f = (refl, refl, refl, refl)
 down_write_counts_none d other f = (refl, refl, refl, refl)
 
--- nor does an up-write
 pub up_write_counts_none : (u : UpWrite) (s : UpWriteStep) (f : ℕ → ℕ → ℕ) →
     (added_after (up_write_next u s).0 (up_write_next u s).1 f ≡ f) × (taken_after (up_write_next u s).0 (up_write_next u s).1 f ≡ f) ×
     (level_added_after (up_write_next u s).0 (up_write_next u s).1 f ≡ f) ×
@@ -64,7 +61,6 @@ up_write_counts_none u (UpWriteStep.Exits (Transition.Exchanges from to)) f = (r
 
 -- What an event of a down-write adds: nothing, or that its level is passed.
 module _ (d : DownWrite) (P : Option Action → Type 0) (none : P None) (pass : P (Some (Action.Pass d.level))) where
-  -- a load of a count
   summed_adds : (n : Taken) → P (down_write_summed d n).1
   summed_adds (Taken.More sum) = none
   summed_adds (Taken.Total total) = by_bool (total == 0) (λ b. P (if b then Some (Action.Pass d.level) else None)) pass none
@@ -83,22 +79,18 @@ up_write_adds u P none opens (UpWriteStep.Exits transition) found = none
 -- What comes after an event of an up-write is the same one, past its store, or it is done.
 module _ (u : UpWrite) (P : Next UpWrite → Type 0) (go : (s : UpWriteStep) → P (Next.Go (record u { step = s })))
     (done : P (Next.Done (Ok Reply.Unit))) where
-  -- after one of its transition
   exit_comes : (n : TransitionNext) → P (exit_made u n)
   exit_comes (TransitionNext.More transition) = go (UpWriteStep.Exits transition)
   exit_comes TransitionNext.Undefined = go (UpWriteStep.Exits Transition.Loads)
   exit_comes (TransitionNext.Made state) = done
 
-  -- after each event
   pub up_write_comes : (s : UpWriteStep) (found : ℕ) → P (up_write_after u s found).0
   up_write_comes UpWriteStep.ClearsBlock found = go (UpWriteStep.Exits Transition.Loads)
   up_write_comes (UpWriteStep.Exits transition) found = exit_comes (transition_after on_exit transition found)
 
--- a level that is passed leaves the accesses, the mounts and the tree
 pub pass_leaves : (s : State) (t i : ℕ) → LeavesRest s (after_action s t (Action.Pass i)) s.tree s.holders
 pass_leaves s t i = record { mounts_same = refl; levels_same = refl; opens_same = refl; ro_same = refl; tree_same = refl; holders_same = refl }
 
--- so does one that is reopened
 pub reopen_leaves : (s : State) (t i : ℕ) → LeavesRest s (after_action s t (Action.Reopen i)) s.tree s.holders
 reopen_leaves s t i = record { mounts_same = refl; levels_same = refl; opens_same = refl; ro_same = refl; tree_same = refl; holders_same = refl }
 
