@@ -1,37 +1,21 @@
 -- What an event at a freeze level leaves alone, where it leaves the word `block` of each.
-use Rattle.gate_frames.proofs.Known.{known_same}
-use Rattle.gated_tree.specs.Nodes.{node_shown}
-use Rattle.gated_tree.specs.Roles.{Out as OffTree, sealed_by, bare_by}
-use Rattle.holder_laws.specs.Roles.{Apart}
-use Rattle.gate_world.specs.Holders.{holder_role_of}
-use Rattle.freeze_levels.specs.Holders.{holders_in}
-use Rattle.gate_world.specs.Trees.{is_sealed, tree_role_of, is_bare_at}
-use Rattle.gate_world.specs.declared.views.Traced.{Traced}
-use Rattle.gate_world.specs.Owners.{KnowsWords}
-use Rattle.mount_counts.specs.Roles.{ro_bit, Out}
-use Rattle.access_model.specs.declared.replies.Next.TheVariants.{Go}
-use Rattle.finite_sums.proofs.Totals.{update_same, each_updated}
-use Rattle.gate_frames.proofs.Frames.{shown_as, left_alone, view_as}
-use Rattle.gate_world.specs.Shown.{closing, shown}
-use Rattle.finite_sums.specs.Sums.{update}
-use Rattle.access_model.specs.Replies.{map_next}
-use Rattle.gate_world.specs.Worlds.{World}
-use Rattle.gate_world.specs.declared.work.Phase.TheVariants.{UpReads, DownReads}
-use Rattle.percpu_rwsem.specs.declared.readers.DownRead.{DownRead}
-use Rattle.gate_world.specs.Levels.{is_frozen_whole, sync_role_of, inside, at_level}
-use Rattle.gate_world.specs.Views.{held_at, added_by, phase_after, taken_by, holds_level, has_open}
-use Rattle.gate_world.specs.Rules.{owns, remounts, IsGood, Holds, ViewFits, Owner, Known, AtMount, AtLevel, role_of, SyncAt, Sections, Stages, Holding, Fitting, Tree, Files}
-use Rattle.gate_world.specs.Stages.{stage_role_of}
-use Rattle.gate_world.specs.Fits.{file_of}
-use Rattle.stage_laws.specs.Roles.{Aside, sums}
-use Rattle.gate_world.specs.declared.config.Config.{Config}
-use Rattle.percpu_rwsem.specs.declared.readers.UpRead.{UpRead}
-use Rattle.access_model.specs.declared.replies.Next.{Next}
-use Rattle.gate_world.specs.declared.views.View.{View}
-use Rattle.gate_world.specs.declared.work.Phase.{Phase}
+use Rattle.std.{proofs.Common.{◌≡◌, ℕ, ◌<◌, sym, ap, ◌∙◌, arith}, specs.Prelude.{◌==◌, ◌&&◌, ◌||◌, if◌then◌else◌, Option, Some, None, List}}
+use Rattle.finite_sums.{proofs.Totals.{update_same, each_updated}, specs.Sums.update}
+use Rattle.access_model.specs.{Replies.map_next, declared.replies.Next.Next}
 use Rattle.cpu_words.specs.Words.{Words}
-use Rattle.std.proofs.Common.{◌≡◌, ℕ, ◌<◌, sym, ap, ◌∙◌, arith}
-use Rattle.std.specs.Prelude.{◌==◌, ◌&&◌, ◌||◌, if◌then◌else◌, Option, Some, None, List}
+use Rattle.gated_tree.specs.{Nodes.node_shown, Roles.{Out as OffTree, sealed_by, bare_by}}
+use Rattle.mount_counts.specs.Roles.{ro_bit, Out}
+use Rattle.percpu_rwsem.specs.declared.readers.{DownRead.DownRead, UpRead.UpRead}
+use Rattle.freeze_levels.specs.Holders.{holders_in}
+use Rattle.stage_laws.specs.Roles.{Aside, sums}
+use Rattle.holder_laws.specs.Roles.{Apart}
+use Rattle.gate_world.specs.{Fits.file_of, Holders.holder_role_of, Levels.{is_frozen_whole, sync_role_of, inside, at_level}, Owners.KnowsWords}
+use Rattle.gate_world.specs.Rules.{owns, remounts, IsGood, Holds, ViewFits, Owner, Known, AtMount, AtLevel, role_of, SyncAt, Sections, Stages, Holding, Fitting}
+use Rattle.gate_world.specs.Rules.{Tree, Files}
+use Rattle.gate_world.specs.{Shown.{closing, shown}, Stages.stage_role_of, Trees.{is_sealed, tree_role_of, is_bare_at}}
+use Rattle.gate_world.specs.{Views.{held_at, added_by, phase_after, taken_by, holds_level, has_open}, Worlds.World}
+use Rattle.gate_world.specs.declared.{config.Config.Config, views.{Traced.Traced, View.View}, work.Phase.Phase}
+use Rattle.gate_frames.proofs.{Frames.{shown_as, left_alone, view_as}, Known.known_same}
 
 -- the words that are no level's own are as they were, and so is `block`
 pub record IsBeside (old new : Words) : Type 0 where
@@ -79,12 +63,12 @@ bare_same : (old new : Words) → IsBeside old new → is_bare_at new ≡ is_bar
 bare_same old new words = λ k. bare_by (words.remount_same k) (words.sb_same k)
 
 -- what is there after a down-read's event is at levels alone
-pub reads_at_levels : (next : Next DownRead) → IsAtLevels (phase_after (map_next DownReads next))
-reads_at_levels (Go r) = assumption
+pub reads_at_levels : (next : Next DownRead) → IsAtLevels (phase_after (map_next Phase.DownReads next))
+reads_at_levels (Next.Go r) = assumption
 reads_at_levels other = assumption
 
 -- so is an up-read
-pub end_at_levels : (u : UpRead) → IsAtLevels (Some (UpReads u))
+pub end_at_levels : (u : UpRead) → IsAtLevels (Some (Phase.UpReads u))
 end_at_levels u = assumption
 
 module _ (c : Config) (w : World) (good : IsGood c w) (t : ℕ) (lt : t < c.tasks) (ws : Words) (v : View) (words : IsBeside w.words ws)
