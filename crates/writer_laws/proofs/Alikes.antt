@@ -9,7 +9,6 @@ use Rattle.gate_world.specs.{Alike.IsAlike, Fits.Fits, Views.phase_after, Work.p
 use Rattle.gate_frames.proofs.Loads.{role_none}
 use Rattle.writer_laws.proofs.ReadFits.{ReadGoes}
 
--- each phase is alike to the one of its gate
 pub alike_plain : (x : WritePhase) → IsAlike (Some (Phase.Writes x)) (Some (plain x))
 alike_plain (WritePhase.Takes m r) = assumption
 alike_plain other = assumption
@@ -39,11 +38,9 @@ alike_wants m p (Next.Go x) = assumption
 alike_wants m p (Next.Done (Ok reply)) = assumption
 alike_wants m p other = assumption
 
--- the end that follows a drop is alike to nothing
 pub alike_ends : (p : ℕ) → IsAlike None (Some (Phase.Writes (WritePhase.Ends p)))
 alike_ends p = assumption
 
--- and nothing to nothing
 pub alike_none : IsAlike None None
 alike_none = assumption
 

@@ -21,14 +21,12 @@ use Rattle.gate_frames.proofs.Frames.{left_alone, level_view_as}
 use Rattle.gate_frames.proofs.LevelWorlds.{sync_on, sync_off, IsOfLevel, IsEventAt, found_level, level_there, sync_elsewhere}
 use Rattle.writer_laws.proofs.LevelParts.{IsBeside, IsAtLevels, SameAtMounts, whole_same, level_parts, level_still}
 
--- each event of a callback is one of its level that changes no section word
 pub event_of_level : (b : Callback) (s : CallbackStep) → IsEventAt b.level (callback_next b s).0 (callback_next b s).1
 event_of_level b (CallbackStep.Claims Transition.Loads) = refl
 event_of_level b (CallbackStep.AwaitsSections g) = tt
 event_of_level b (CallbackStep.CallsBack Transition.Loads) = refl
 event_of_level b other = refl
 
--- so it is on a word of the level
 pub word_of_level : (b : Callback) (s : CallbackStep) → IsOfLevel b.level (callback_next b s).0
 word_of_level b (CallbackStep.Claims Transition.Loads) = refl
 word_of_level b (CallbackStep.AwaitsSections g) = tt
@@ -60,46 +58,38 @@ inside_same l b other n = refl
 
 -- its event counts nowhere
 module _ (b : Callback) (counted : ℕ → ℕ → ℕ) where
-  -- it adds nothing at a mount
   added_same : (s : CallbackStep) → added_after (callback_next b s).0 (callback_next b s).1 counted ≡ counted
   added_same (CallbackStep.Claims Transition.Loads) = refl
   added_same (CallbackStep.CallsBack Transition.Loads) = refl
   added_same other = refl
 
-  -- and takes nothing there
   taken_same : (s : CallbackStep) → taken_after (callback_next b s).0 (callback_next b s).1 counted ≡ counted
   taken_same (CallbackStep.Claims Transition.Loads) = refl
   taken_same (CallbackStep.CallsBack Transition.Loads) = refl
   taken_same other = refl
 
-  -- it adds nothing at a level
   level_added_same : (s : CallbackStep) → level_added_after (callback_next b s).0 (callback_next b s).1 counted ≡ counted
   level_added_same (CallbackStep.Claims Transition.Loads) = refl
   level_added_same (CallbackStep.CallsBack Transition.Loads) = refl
   level_added_same other = refl
 
-  -- and takes nothing there
   level_taken_same : (s : CallbackStep) → level_taken_after (callback_next b s).0 (callback_next b s).1 counted ≡ counted
   level_taken_same (CallbackStep.Claims Transition.Loads) = refl
   level_taken_same (CallbackStep.CallsBack Transition.Loads) = refl
   level_taken_same other = refl
 
--- it adds no action
 no_action : (b : Callback) (s : CallbackStep) (found : ℕ) → (callback_after b s found).1 ≡ None
 no_action b (CallbackStep.Claims x) found = refl
 no_action b other found = refl
 
--- what comes after an event, or nothing, is at levels alone
 after_at_levels : (n : Next Callback) → IsAtLevels (phase_after (map_next Phase.Callbacks n))
 after_at_levels (Next.Go x) = assumption
 after_at_levels other = assumption
 
--- it counts at no level
 after_counts : (i : ℕ) (n : Next Callback) → level_role_of i (phase_after (map_next Phase.Callbacks n)) ≡ CountsNot
 after_counts i (Next.Go x) = refl
 after_counts i other = refl
 
--- and is inside no section
 after_outside : (n : Next Callback) → inside (phase_after (map_next Phase.Callbacks n)) ≡ 0
 after_outside (Next.Go x) = refl
 after_outside other = refl
@@ -126,7 +116,6 @@ looked_stays b g e lt found =
       | inr h ↦ rw h (passed_stays b g e)
     ]
 
--- an event of the claim
 claim_stays : (b : Callback) → 0 < b.tasks → (n : TransitionNext) → HoldsOfNext (Stays b.level b.tasks) (claimed b n)
 claim_stays b some (TransitionNext.More x) = (refl, refl, tt)
 claim_stays b some TransitionNext.Undefined = tt
@@ -199,11 +188,9 @@ module _ (c : Config) (w : World) (good : IsGood c w) (t : ℕ) (lt : t < c.task
   abbrev pub seen_after : View
   seen_after = view_after (w.views t) (Phase.Callbacks (at_callback b s)) (read w.words name) hook
 
-  -- the words
   abbrev then_words : Words
   then_words = put w.words name (left touch (read w.words name))
 
-  -- and the world
   abbrev then_world : World
   then_world = record { words = then_words; views = update w.views t seen_after }
 
@@ -211,16 +198,13 @@ module _ (c : Config) (w : World) (good : IsGood c w) (t : ℕ) (lt : t < c.task
   here_fits : PhaseFits c t (held_at (w.views t)) (holds_level (w.views t)) (Phase.Callbacks (at_callback b s))
   here_fits = subst (Fits c t (held_at (w.views t)) (holds_level (w.views t))) e (good Fitting t lt)
 
-  -- there is a task
   some_task : 0 < b.tasks
   some_task = omega (arith, lt, here_fits.2)
 
-  -- it stays at its level
   stays : HoldsOfNext (Stays b.level b.tasks) coming
   stays =
       stays_after b some_task s (subst (λ k. GraceFits k s) (sym here_fits.2) here_fits.3) (found_by touch (read w.words name))
 
-  -- its event is one of its level
   is_there : CallbackIsThere t (read w.words name) (level_in w b.level) b s
   is_there =
       callbacks_are_there t (read w.words name) (level_in w b.level) (at_callback b s) (omega (arith, lt, here_fits.2))
@@ -261,17 +245,14 @@ module _ (c : Config) (w : World) (good : IsGood c w) (t : ℕ) (lt : t < c.task
       (by_next (λ (x : Callback). callback_role x.step) IsApart
       (callback_after b s (found_by touch (value_at (level_in w i) (read w.words name) name))).0))) here_fits.2 is_there.0)))
 
-  -- so it leaves what holds at its level
   own_level : SyncLevelHolds c.tasks (level_in then_world b.level)
   own_level =
       level_there c w good t lt b.level name touch (word_of_level b s) seen_after here_fits.0 here_fits.1 steps_there
 
-  -- its task's role at the other levels stays
   pub stays_apart : (i : ℕ) → (i ≡ b.level → ⊥) → sync_role_of i seen_after.phase ≡ sync_role_of i (w.views t).phase
   stays_apart i ne =
       role_elsewhere b.level i b.tasks ne coming stays ∙ sym (ap (sync_role_of i) e ∙ sync_off i b.level (callback_role s) ne)
 
-  -- and the other levels
   syncs : (i : ℕ) → Holds c then_world (SyncAt i)
   syncs i =
       elim (eqb_tells i b.level) [
@@ -280,11 +261,9 @@ module _ (c : Config) (w : World) (good : IsGood c w) (t : ℕ) (lt : t < c.task
             sync_elsewhere c w good t lt b.level name touch (event_of_level b s) seen_after i q.1 (stays_apart i q.1)
       ]
 
-  -- it adds no action, so the task holds what it held
   same_actions : seen_after.actions ≡ (w.views t).actions
   same_actions = ap (λ a. actions_after a (w.views t).actions) (no_action b s (found_by touch (read w.words name)))
 
-  -- nothing changes at a mount
   same_at_mounts : SameAtMounts (w.views t) seen_after
   same_at_mounts = record {
     held_same = ap mounts_of same_actions;
@@ -293,7 +272,6 @@ module _ (c : Config) (w : World) (good : IsGood c w) (t : ℕ) (lt : t < c.task
     open_same = ap opens_of same_actions;
   }
 
-  -- nor at the counts of a level
   level_counts : (i : ℕ) → Holds c then_world (AtLevel i)
   level_counts i =
       left_alone c w t lt (AtLevel i) then_words seen_after (
@@ -305,13 +283,11 @@ module _ (c : Config) (w : World) (good : IsGood c w) (t : ℕ) (lt : t < c.task
       (ap (λ f. f i) (level_taken_same b (level_taken_by (w.views t).events) s))
       (after_counts i coming ∙ sym (ap (level_role_of i) e))) (good (AtLevel i))
 
-  -- what comes after it fits
   fits_next : ViewFits c t seen_after
   fits_next =
       next_fits c t b.level b.tasks (held_at seen_after) (holds_level seen_after) here_fits.0 here_fits.1 here_fits.2 coming stays
       knows_next
 
-  -- so the rule holds, and the shown model is as it was
   keeps_at : StepKeeps c w t hook (Phase.Callbacks (at_callback b s))
   keeps_at =
       let words : IsBeside w.words then_words = words_beside w.words b s (left touch (read w.words name)) in

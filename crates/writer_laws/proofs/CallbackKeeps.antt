@@ -16,7 +16,6 @@ callback_cause : (c : Config) (t : ℕ) (w : World) (earlier : List World) (n : 
 callback_cause c t w earlier (Next.Go x) = tt
 callback_cause c t w earlier other = tt
 
--- of each of its phases
 pub callback_phase : (c : Config) (b : Callback) → PhaseKeeps c (Phase.Callbacks b)
 callback_phase c b = record {
   step = λ within w good t lt hook e. callback_keeps c within w good t lt hook b e;
@@ -40,7 +39,6 @@ callback_phase c b = record {
       callback_waits c w earlier t good b hook b.step e f.3;
 }
 
--- of its beginning and its trace
 pub callback_op : (c : Config) (i : ℕ) → OpKeeps c (Op.Callback i)
 callback_op c i = record {
   fits = λ t held levels there order room.

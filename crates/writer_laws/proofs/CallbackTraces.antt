@@ -59,7 +59,6 @@ module _ (c : Config) (i tasks value : ℕ) (hook : HookAnswer) (earlier : List 
   abbrev After : CallbackStep → Type 0
   After s = SaysAfter (CallbackAt i tasks) c (Op.Callback i) (Phase.Callbacks (callback_on i tasks s)) value hook earlier added
 
-  -- a task is passed
   passed : (g : Grace) → transitions_made i earlier ≡ 1 →
       SaysNow (CallbackStep.AwaitsSections g) (callback_looked (callback_on i tasks (CallbackStep.AwaitsSections g)) (passed_on g))
   passed g h =
@@ -68,7 +67,6 @@ module _ (c : Config) (i tasks value : ℕ) (hook : HookAnswer) (earlier : List 
         | inr f ↦ rw f (CallbackStep.CallsBack Transition.Loads, refl, none, h)
       ]
 
-  -- each event of a callback keeps what its trace says
   callback_event : (s : CallbackStep) → transitions_made i earlier ≡ made_before s → After s
   callback_event (CallbackStep.Claims Transition.Loads) h = claim_loaded h (unpack value) refl
   callback_event (CallbackStep.Claims (Transition.Exchanges from to)) h =
@@ -94,7 +92,6 @@ module _ (c : Config) (i tasks value : ℕ) (hook : HookAnswer) (earlier : List 
         | inr f ↦ rw f (CallbackStep.CallsBack Transition.Loads, refl, none, rw (eq-eqb i i refl, f) h)
       ]
 
--- so it is kept along every trace of a callback
 pub callback_kept : (c : Config) (t i : ℕ) → Kept (CallbackAt i c.tasks) c t (Op.Callback i)
 callback_kept c t i = record {
   first = (CallbackStep.Claims Transition.Loads, refl, refl, refl);

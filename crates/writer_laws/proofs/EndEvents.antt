@@ -12,7 +12,6 @@ use Rattle.writer_laws.proofs.LevelParts.{sections_left_at}
 
 module _ (c : Config) (lim : IsWithin c) (w : World) (good : IsGood c w) (t : ℕ) (lt : t < c.tasks) (hook : HookAnswer) (u : UpRead)
     (e : (w.views t).phase ≡ Some (Phase.UpReads u)) where
-  -- the end's numbers are in range, and its task holds its level
   end_fits : PhaseFits c t (held_at (w.views t)) (holds_level (w.views t)) (Phase.UpReads u)
   end_fits = subst (Fits c t (held_at (w.views t)) (holds_level (w.views t))) e (good Fitting t lt)
 
@@ -28,30 +27,24 @@ module _ (c : Config) (lim : IsWithin c) (w : World) (good : IsGood c w) (t : �
   abbrev end_view : View
   end_view = view_down c lim w good t lt u.level u.cpu end_fits.2 hook ended
 
-  -- the words beside the level are as they were
   end_beside : IsBeside w.words end_words
   end_beside = down_beside c lim w good t lt u.level u.cpu end_fits.2 hook ended
 
-  -- its phase is at levels alone
   end_was : IsAtLevels (w.views t).phase
   end_was = subst IsAtLevels (sym e) (end_at_levels u)
 
-  -- and so is none
   end_now : IsAtLevels end_view.phase
   end_now = reads_at_levels (Next.Done (Ok Reply.Unit))
 
-  -- the mounts are left alone
   end_mounts : SameAtMounts (w.views t) end_view
   end_mounts = record { held_same = refl; added_same = refl; taken_same = refl; open_same = refl }
 
-  -- so are the counts of other levels
   end_elsewhere : SameElsewhere u.level (w.views t) end_view
   end_elsewhere = record {
     held_same = λ j ne. ap held_bit (update_off (holds_level (w.views t)) u.level false j ne);
     role_same = λ j ne. sym (ap (level_role_of j) e);
   }
 
-  -- the rule holds after the event of an end
   end_good : IsGood c (record { words = end_words; views = update w.views t end_view })
   end_good =
       level_parts c w good t lt end_words end_view end_beside end_was end_now end_mounts tt

@@ -13,11 +13,9 @@ use Rattle.gate_world.specs.declared.{config.Config.Config, views.View.View, wor
 use Rattle.gate_frames.proofs.Frames.{left_alone, level_as, level_view_as}
 use Rattle.writer_laws.proofs.LevelParts.{IsBeside, whole_same}
 
--- at its own level a role is that
 pub count_on : (i : ℕ) (r : LevelRole) → count_role_if (i == i) r ≡ r
 count_on i r = rw (eq-eqb i i refl)
 
--- and at others none
 pub count_off : (j i : ℕ) (r : LevelRole) → (j ≡ i → ⊥) → count_role_if (j == i) r ≡ CountsNot
 count_off j i r ne = rw (ne_eqb j i ne)
 
@@ -80,11 +78,9 @@ module _ (c : Config) (lim : IsWithin c) (w : World) (good : IsGood c w) (t : �
   abbrev pub view_down : View
   view_down = view_with (w.views t) (WordName.LevelCount i p, Touch.Sub 1) (w.words.level i p) hook coming
 
-  -- an addition leaves the words beside the level
   pub up_beside : IsBeside w.words words_up
   up_beside = assumption
 
-  -- so does a subtraction
   pub down_beside : IsBeside w.words words_down
   down_beside = assumption
 

@@ -62,12 +62,10 @@ sealed_same old new words = λ k. sealed_by (words.sb_same k) (words.stage_same 
 bare_same : (old new : Words) → IsBeside old new → is_bare_at new ≡ is_bare_at old
 bare_same old new words = λ k. bare_by (words.remount_same k) (words.sb_same k)
 
--- what is there after a down-read's event is at levels alone
 pub reads_at_levels : (next : Next DownRead) → IsAtLevels (phase_after (map_next Phase.DownReads next))
 reads_at_levels (Next.Go r) = assumption
 reads_at_levels other = assumption
 
--- so is an up-read
 pub end_at_levels : (u : UpRead) → IsAtLevels (Some (Phase.UpReads u))
 end_at_levels u = assumption
 
@@ -77,13 +75,11 @@ module _ (c : Config) (w : World) (good : IsGood c w) (t : ℕ) (lt : t < c.task
   abbrev pub then_world : World
   then_world = record { words = ws; views = update w.views t v }
 
-  -- the owner of `umount` is no such task, and its words are as they were
   owner_left : Holds c then_world Owner
   owner_left =
       left_alone c w t lt Owner ws v (words.umount_same, words.remount_same)
       (now.owns_none ∙ sym was.owns_none, now.remounts_none ∙ sym was.remounts_none) (good Owner)
 
-  -- so what it knows is there
   known_left : Holds c then_world Known
   known_left x lx =
       each_updated (λ y (u : View). owns u.phase ≡ 1 → KnowsWords ws u.trace) w.views t v x
@@ -91,7 +87,6 @@ module _ (c : Config) (w : World) (good : IsGood c w) (t : ℕ) (lt : t < c.task
       (λ ne o. known_same w.words ws (words.stage_same, words.sb_same, words.remount_same, words.flags_same, words.holders_same) (w.views x).trace
       (good Known x lx o))
 
-  -- each mount
   mount_left : SameAtMounts (w.views t) v → (m : ℕ) → Holds c then_world (AtMount m)
   mount_left mounts m =
       left_alone c w t lt (AtMount m) ws v
@@ -99,7 +94,6 @@ module _ (c : Config) (w : World) (good : IsGood c w) (t : ℕ) (lt : t < c.task
       (view_as (ap (λ f. f m) mounts.held_same) (ap (λ f. f m) mounts.added_same) (ap (λ f. f m) mounts.taken_same)
       (now.out_of_mounts m ∙ sym (was.out_of_mounts m))) (good (AtMount m))
 
-  -- the tree
   tree_left : Holds c then_world Tree
   tree_left =
       left_alone c w t lt Tree ws v (
@@ -112,7 +106,6 @@ module _ (c : Config) (w : World) (good : IsGood c w) (t : ℕ) (lt : t < c.task
       )
       (now.off_tree v.trace ∙ sym (was.off_tree (w.views t).trace)) (good Tree)
 
-  -- the open files
   files_left : SameAtMounts (w.views t) v → Holds c then_world Files
   files_left mounts = left_alone c w t lt Files ws v words.node_same (mounts.open_same, now.no_file ∙ sym was.no_file) (good Files)
 
@@ -158,7 +151,6 @@ module _ (c : Config) (w : World) (good : IsGood c w) (t : ℕ) (lt : t < c.task
         tree = λ n. node_shown (words.node_same j n);
       })
 
-  -- and where they are as they were
   pub level_still : SameAtMounts (w.views t) v → holds_level v ≡ holds_level (w.views t) → shown c then_world ≡ shown c w
   level_still mounts el =
       level_shown mounts ∙
@@ -178,7 +170,6 @@ module _ (c : Config) (w : World) (good : IsGood c w) (t : ℕ) (lt : t < c.task
   pub sections_left_at : ws.section ≡ w.words.section → inside v.phase ≡ inside (w.views t).phase → Holds c then_world Sections
   sections_left_at section same = left_alone c w t lt Sections ws v section same (good Sections)
 
-  -- the counts of a level, where the task counts there as it did
   pub counts_left_at : ws.level ≡ w.words.level → ((i : ℕ) → at_level i v ≡ at_level i (w.views t)) → (i : ℕ) →
       Holds c then_world (AtLevel i)
   counts_left_at counts same i =

@@ -30,7 +30,6 @@ next_asks (Next.Go x) = want_asks x.step
 next_asks (Next.Wait x) = want_asks x.step
 next_asks (Next.Done answer) = false
 
--- it is what a want's own operation is at
 pub next_asked : (n : Next Want) → asks (phase_after (map_next Phase.Mounts (map_next MountPhase.Want n))) ≡ next_asks n
 next_asked (Next.Go x) = refl
 next_asked other = refl
@@ -43,7 +42,6 @@ module _ (c : Config) (t : ℕ) (w : World) (earlier : List World) (m : ℕ) whe
   NextCause (Next.Done (Ok reply)) = Unit {0}
   NextCause (Next.Done (Err refusal)) = WantCause c t w earlier m (WantStep.CountsDown refusal)
 
-  -- of a want's own operation
   pub next_cause : (n : Next Want) → NextCause n → CauseOf c t w earlier (phase_after (map_next Phase.Mounts (map_next MountPhase.Want n)))
   next_cause (Next.Go x) h = subst (λ y. WantCause c t w earlier y x.step) (sym h.0) h.1
   next_cause (Next.Wait x) h = subst (λ y. WantCause c t w earlier y x.step) (sym h.0) h.1

@@ -82,7 +82,6 @@ module _ (c : Config) (lim : IsWithin c) (w : World) (good : IsGood c w) (t : �
           shown_still c w t lt words_less (done (Err refusal) None) refl refl refl refl refl refl refl same.closing_same refl refl refl,
         )
 
-    -- gives an access back, on any processor; meets: a sum reads each word once
     pub drops : (w.views t).phase ≡ Some (Phase.Mounts (MountPhase.Drop m p)) → GateStepKeeps c w t hook (Phase.Mounts (MountPhase.Drop m p))
     drops e =
         let f : (m < c.mounts) × (p < c.processors) × (0 < held_at (w.views t) m) = fits_now c w good t lt (MountPhase.Drop m p) e in

@@ -18,7 +18,6 @@ want_there c w WantStep.LoadsSuperblock m p = tt
 want_there c w (WantStep.CountsDown refusal) m p = (m, p)
 
 module _ (c : Config) (within : IsWithin c) (t : ℕ) (held : ℕ → ℕ) (levels : ℕ → Bool) where
-  -- its action can be done
   pub want_acts : (w : Want) (step : WantStep) (found : ℕ) → w.mount < 8 → held w.mount < 1024 → ActionFits held (want_after w step found).1
   want_acts w WantStep.LoadsSuperblock found m room = by_bool (found == 0) (λ b. ActionFits held (if b then Some (Action.Grant (Gate.Mount w.mount)) else None))
       (m, room) tt
@@ -53,7 +52,6 @@ module _ (c : Config) (within : IsWithin c) (t : ℕ) (held : ℕ → ℕ) (leve
   want_goes w WantStep.LoadsSuperblock found f = by_bool (found == 0) (AnsweredFits w) tt f
   want_goes w (WantStep.CountsDown refusal) found f = tt
 
--- no event of a want moves a level
 pub want_leaves : (w : Want) (step : WantStep) (found : ℕ) (levels : ℕ → Bool) → levels_by (want_after w step found).1 levels ≡ levels
 want_leaves w WantStep.LoadsSuperblock found levels =
     by_bool (found == 0) (λ b. levels_by (if b then Some (Action.Grant (Gate.Mount w.mount)) else None) levels ≡ levels) refl refl

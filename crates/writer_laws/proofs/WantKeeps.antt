@@ -10,13 +10,11 @@ use Rattle.writer_laws.proofs.{WantCauses.{want_kept, want_own, next_cause, next
 use Rattle.writer_laws.proofs.{WantTraces.{WantAt, DropAt, want_kept as want_traced, drop_kept}, WantWaits.{want_waits, next_waits}}
 use Rattle.writer_laws.proofs.Wants.{want_keeps, drop_keeps}
 
--- where both of two tests pass, each does
 pub both : (a b : Bool) → (a && b) ≡ true → (a ≡ true) × (b ≡ true)
 both true true e = (refl, refl)
 both true false e = (refl, e)
 both false b e = absurd (cc)
 
--- of each phase of a want
 pub want_phase : (c : Config) (x : Want) → PhaseKeeps c (Phase.Mounts (MountPhase.Want x))
 want_phase c x = record {
   step = λ lim w good t lt hook e. want_keeps c lim w good t lt hook x.mount x.cpu x.wait x.step e;
@@ -41,7 +39,6 @@ want_phase c x = record {
       (want_waits c w earlier good t lt x x.step f.0 (want_here x.mount x.cpu x.wait x.step e) cause);
 }
 
--- of the one phase of a drop
 pub drop_phase : (c : Config) (m p : ℕ) → PhaseKeeps c (Phase.Mounts (MountPhase.Drop m p))
 drop_phase c m p = record {
   step = λ lim w good t lt hook e. drop_keeps c lim w good t lt hook m p e;
@@ -56,7 +53,6 @@ drop_phase c m p = record {
   reasons = λ lim w earlier good t lt hook e cause. tt;
 }
 
--- of a want
 pub want_op : (c : Config) (m p : ℕ) (wait : Bool) → OpKeeps c (Op.Want m p wait)
 want_op c m p wait = record {
   fits = λ t held levels there order room.
@@ -83,7 +79,6 @@ want_op c m p wait = record {
   most_small = λ lim. by_bool wait (λ w. IsSmall (most_events c (Op.Want m p w))) tt (omega arith);
 }
 
--- of a drop
 pub drop_op : (c : Config) (m p : ℕ) → OpKeeps c (Op.DropMount m p)
 drop_op c m p = record {
   fits = λ t held levels there order room.

@@ -38,15 +38,12 @@ module _ (c : Config) (w : World) (good : IsGood c w) (t : ℕ) (lt : t < c.task
   abbrev pub Becomes : WantStep → Type 0
   Becomes s = MountHoldsAfter c w t m (w.words.flags m) (w.words.count m) (record (at_mount m (w.views t)) { role = want_role p s })
 
-  -- its numbers, and room for its access
   pub fits_here : (s : WantStep) → IsAt s → (m < c.mounts) × (p < c.processors) × (held_at (w.views t) m < 1024)
   fits_here s e = fits_now c w good t lt (want m p wait s) e
 
-  -- the mount's part of the rule
   pub mount_here : (s : WantStep) → IsAt s → MountHoldsIn c w m
   mount_here s e = good (AtMount m) (fits_here s e).0
 
-  -- a load by a want, after which it is at another step
   pub want_load : (name : WordName) (s s' : WantStep) (coming : Next Phase) →
       IsAt s → phase_after coming ≡ Some (Phase.Mounts (want m p wait s')) → Becomes s' →
       GatesHold c (after_load w t name hook coming) × (shown c (after_load w t name hook coming) ≡ shown c w)
@@ -88,7 +85,6 @@ module _ (c : Config) (w : World) (good : IsGood c w) (t : ℕ) (lt : t < c.task
             (read_only_clear (w.words.flags m) (mount_here WantStep.LoadsReadOnly e).bits h)))
       ]
 
-  -- HOLD was found clear, and the task is admitted
   pub hold_was_clear : IsAt WantStep.LoadsHold → has_flag (w.words.flags m) 2 ≡ false → Becomes WantStep.LoadsRemount
   hold_was_clear e h =
       finds_hold_clear (mount_here WantStep.LoadsHold e) t lt p (want_here m p wait WantStep.LoadsHold e)

@@ -31,7 +31,6 @@ HeldSince m below [] = ⊥
 HeldSince m below (e ∷ earlier) =
     ((adds_to m e.event.word e.event.touch ≡ true) × (earlier ≡ below)) ⊎ ((finds_hold m e.event ≡ true) × HeldSince m below earlier)
 
--- of two tests that both pass, or of which one does
 and_true : (a b : Bool) → a ≡ true → b ≡ true → (a && b) ≡ true
 and_true a b h k = rw (h, k) refl
 
@@ -92,12 +91,10 @@ abbrev pub WantAt : Config → ℕ → ℕ → Bool → List Traced → Phase �
 WantAt c m p wait trace phase added =
     (step : WantStep) × (phase ≡ want m p wait step) × WantSays c m p wait [] [] step trace added
 
--- a step comes after at most six events
 within_six : (step : WantStep) (n : ℕ) → n ≤ 0 + events_before step → n ≤ 6
 within_six WantStep.CountsUp n h = omega (arith, h)
 within_six step n h = omega (arith, h)
 
--- a short trace of a want
 want_short : (c : Config) (m p : ℕ) (wait : Bool) (trace : List Traced) → (wait ≡ false → length trace ≤ 6) →
     IsShort (most_events c (Op.Want m p wait)) trace
 want_short c m p true trace h = tt
@@ -121,7 +118,6 @@ module _ (c : Config) (m p : ℕ) (base : List Action) (below : List Traced) (va
       WantNext c m p wait base below (with_hook (event_of (want_next x step).0 (want_next x step).1 value) hook ∷ earlier)
       (actions_after (want_after x step found).1 added) (want_after x step found).0
 
-  -- HOLD was found
   hold_found : (wait : Bool) → WantSays c m p wait base below WantStep.LoadsHold earlier added → has_flag value 2 ≡ true → AfterWant wait WantStep.LoadsHold
   hold_found true h f =
       let e : Event = event_at (want m p true WantStep.LoadsHold) value hook in
@@ -171,7 +167,6 @@ want_says c m p wait e earlier added (Next.Wait x) h = ((h.0.0, ap (λ y. Phase.
 want_says c m p wait e earlier added (Next.Done (Ok reply)) h = ((h.0, tt), want_short c m p wait (e ∷ earlier) h.1)
 want_says c m p wait e earlier added (Next.Done (Err refusal)) h = ((h.0, h.1), want_short c m p wait (e ∷ earlier) h.2)
 
--- so it is kept along every trace of a want
 pub want_kept : (c : Config) (t m p : ℕ) (wait : Bool) → Kept (WantAt c m p wait) c t (Op.Want m p wait)
 want_kept c t m p wait = record {
   first = (WantStep.CountsUp, refl, (refl, λ q. omega arith, refl));
@@ -189,7 +184,6 @@ want_kept c t m p wait = record {
 abbrev pub DropAt : ℕ → ℕ → List Traced → Phase → List Action → Type 0
 DropAt m p trace phase added = (phase ≡ Phase.Mounts (MountPhase.Drop m p)) × (trace ≡ []) × (added ≡ [])
 
--- its one event is its last
 pub drop_kept : (c : Config) (t m p : ℕ) → Kept (DropAt m p) c t (Op.DropMount m p)
 drop_kept c t m p = record {
   first = (refl, refl, refl);

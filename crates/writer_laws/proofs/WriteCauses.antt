@@ -40,7 +40,6 @@ module _ (c : Config) (t : ℕ) (w : World) (earlier : List World) (m p : ℕ) w
   wants_cause (Next.Done (Ok reply)) h = tt
   wants_cause (Next.Done (Err refusal)) h = h
 
-  -- a wait at level 1 is one for who closed it, and so is a refusal
   pub takes_waits : (r : DownRead) (n : Next DownRead) → WhereRefused (WasClosed c t r.level (last_asked t (w ∷ earlier))) n →
       HasReason c w earlier t (Phase.Writes (WritePhase.Takes m r)) (map_next Phase.Writes (then_wants m p n))
   takes_waits r (Next.Go x) h = tt

@@ -32,7 +32,6 @@ takes_fits c t held levels m r found f =
     (takes_goes c t held left m r.cpu f.2 f.0.2 r.level n f.1 f.3
     (read_goes c t r f.0.0 f.0.1 f.0.2 f.0.3 levels r.step found f.0.4))
 
--- what fits after an event at the mount, with level 1 held
 wants_fits : (c : Config) → IsWithin c → (t : ℕ) (held : ℕ → ℕ) (levels : ℕ → Bool) (x : Want) (found : ℕ) (hook : HookAnswer) →
     WriteFits c t held levels (WritePhase.Wants x) →
     Fits c t (mounts_by (want_after x x.step found).1 held) (levels_by (want_after x x.step found).1 levels)
@@ -98,7 +97,6 @@ write_phase_runs c lim w good t lt hook (WritePhase.Ends p) e i one three =
     write_runs c w good t lt hook (WritePhase.Ends p) e (Next.Done (Ok Reply.Unit)) alike_none i
     (λ g at. (end_phase c (leaves_on p)).runs lim (first_world c w good t lt hook (WritePhase.Ends p) e) g t lt hook at i one three)
 
--- what is proved of a phase at level 1
 takes_phase : (c : Config) (m : ℕ) (r : DownRead) → PhaseKeeps c (Phase.Writes (WritePhase.Takes m r))
 takes_phase c m r = record {
   step = λ lim w good t lt hook e. write_keeps c lim w good t lt hook (WritePhase.Takes m r) e;
@@ -124,7 +122,6 @@ takes_phase c m r = record {
       (read_waits c w earlier t r r.step (found_at w.words (Phase.DownReads r) hook) cause);
 }
 
--- what is proved of a phase at the mount
 wants_phase : (c : Config) (x : Want) → PhaseKeeps c (Phase.Writes (WritePhase.Wants x))
 wants_phase c x = record {
   step = λ lim w good t lt hook e. write_keeps c lim w good t lt hook (WritePhase.Wants x) e;
@@ -149,7 +146,6 @@ wants_phase c x = record {
       (want_waits c w earlier good t lt x x.step f.0.0 (ap (role_of x.mount) e ∙ role_on x.mount _) cause);
 }
 
--- what is proved of a phase that leaves the level, as the mount was refused
 gives_back_phase : (c : Config) (m p : ℕ) (refusal : GateError) → PhaseKeeps c (Phase.Writes (WritePhase.GivesBack m p refusal))
 gives_back_phase c m p refusal = record {
   step = λ lim w good t lt hook e. write_keeps c lim w good t lt hook (WritePhase.GivesBack m p refusal) e;
@@ -165,7 +161,6 @@ gives_back_phase c m p refusal = record {
   reasons = λ lim w earlier good t lt hook e cause. cause;
 }
 
--- what is proved of a phase that gives the mount back
 drops_phase : (c : Config) (m p : ℕ) → PhaseKeeps c (Phase.Writes (WritePhase.Drops m p))
 drops_phase c m p = record {
   step = λ lim w good t lt hook e. write_keeps c lim w good t lt hook (WritePhase.Drops m p) e;
@@ -181,7 +176,6 @@ drops_phase c m p = record {
   reasons = λ lim w earlier good t lt hook e cause. tt;
 }
 
--- what is proved of a phase that leaves the level last
 ends_phase : (c : Config) (p : ℕ) → PhaseKeeps c (Phase.Writes (WritePhase.Ends p))
 ends_phase c p = record {
   step = λ lim w good t lt hook e. write_keeps c lim w good t lt hook (WritePhase.Ends p) e;
@@ -197,7 +191,6 @@ ends_phase c p = record {
   reasons = λ lim w earlier good t lt hook e cause. tt;
 }
 
--- each phase
 pub write_phase : (c : Config) (x : WritePhase) → PhaseKeeps c (Phase.Writes x)
 write_phase c (WritePhase.Takes m r) = takes_phase c m r
 write_phase c (WritePhase.Wants x) = wants_phase c x
@@ -205,22 +198,18 @@ write_phase c (WritePhase.GivesBack m p refusal) = gives_back_phase c m p refusa
 write_phase c (WritePhase.Drops m p) = drops_phase c m p
 write_phase c (WritePhase.Ends p) = ends_phase c p
 
--- what is not, is false
 is_false : (b : Bool) → not b ≡ true → b ≡ false
 is_false true h = absurd (true≢false (sym h))
 is_false false h = refl
 
--- a level that was not held, taken and left, is not held
 level_restored : (levels : ℕ → Bool) → levels 1 ≡ false → update (update levels 1 true) 1 false ≡ levels
 level_restored levels free = update_twice levels 1 true false ∙ (ap (update levels 1) (sym free) ∙ update_same levels 1)
 
--- a mount and a processor that are in range
 in_mount : (c : Config) (m p : ℕ) → (nat_lt m c.mounts && nat_lt p c.processors) ≡ true → (m < c.mounts) × (p < c.processors)
 in_mount c m p there =
     let at : (nat_lt m c.mounts ≡ true) × (nat_lt p c.processors ≡ true) = both (nat_lt m c.mounts) (nat_lt p c.processors) there in
     (ltb-true m c.mounts at.0, ltb-true p c.processors at.1)
 
--- what is proved of a taking
 pub want_write_op : (c : Config) (m p : ℕ) → OpKeeps c (Op.WantWrite m p)
 want_write_op c m p = record {
   fits = λ t held levels there order room.
@@ -249,7 +238,6 @@ want_write_op c m p = record {
   most_small = λ lim. tt;
 }
 
--- what is proved of a return
 pub drop_write_op : (c : Config) (m p : ℕ) → OpKeeps c (Op.DropWrite m p)
 drop_write_op c m p = record {
   fits = λ t held levels there order room.

@@ -20,15 +20,12 @@ plain_fits c t held levels other f = f.0
 
 module _ (c : Config) (w : World) (good : IsGood c w) (t : ℕ) (lt : t < c.tasks) (hook : HookAnswer) (x : WritePhase)
     (e : (w.views t).phase ≡ Some (Phase.Writes x)) where
-  -- its phase fits its accesses
   pub write_fits_now : WriteFits c t (held_at (w.views t)) (holds_level (w.views t)) x
   write_fits_now = subst (Fits c t (held_at (w.views t)) (holds_level (w.views t))) e (good Fitting t lt)
 
-  -- its phase is alike to its gate's
   before : IsAlike (w.views t).phase (Some (plain x))
   before = alike_of e (alike_plain x)
 
-  -- and its gate's fits
   fits_plain : Fits c t (held_at (w.views t)) (holds_level (w.views t)) (Some (plain x))
   fits_plain = plain_fits c t (held_at (w.views t)) (holds_level (w.views t)) x write_fits_now
 

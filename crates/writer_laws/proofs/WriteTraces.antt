@@ -59,7 +59,6 @@ module _ (c : Config) (m p t : ℕ) (value : ℕ) (hook : HookAnswer) (earlier :
   abbrev After : WritePhase → Type 0
   After x = SaysAfter (WriteAt c m p t) c (Op.WantWrite m p) (Phase.Writes x) value hook earlier added
 
-  -- an event at level 1
   takes_event : (s : DownReadStep) → ReadSays 0 1 true s earlier added → After (WritePhase.Takes m (read_at 1 p t true s))
   takes_event s h =
       let r : DownRead = read_at 1 p t true s in
@@ -84,7 +83,6 @@ module _ (c : Config) (m p t : ℕ) (value : ℕ) (hook : HookAnswer) (earlier :
   cause_stays n q GateError.ReadOnly h = h
   cause_stays n q refusal h = h
 
-  -- each event of a taking keeps what its trace says
   write_event : (x : WritePhase) → WriteSays c m p t x earlier added → After x
   write_event (WritePhase.Takes n r) h =
       subst (λ y. After (WritePhase.Takes y r)) (sym h.0) (subst (λ y. After (WritePhase.Takes m y)) (sym h.1.1) (takes_event h.1.0 h.1.2))
@@ -93,7 +91,6 @@ module _ (c : Config) (m p t : ℕ) (value : ℕ) (hook : HookAnswer) (earlier :
   write_event (WritePhase.Drops n q) h = absurd h
   write_event (WritePhase.Ends q) h = absurd h
 
--- so it is kept along every trace of a taking
 pub write_kept : (c : Config) (t m p : ℕ) → Kept (WriteAt c m p t) c t (Op.WantWrite m p)
 write_kept c t m p = record {
   first = (WritePhase.Takes m (read_at 1 p t true DownReadStep.EntersSection), refl, (refl, (DownReadStep.EntersSection, refl, (refl, λ q. omega arith, tt))));
@@ -125,13 +122,11 @@ module _ (c : Config) (m p : ℕ) (value : ℕ) (hook : HookAnswer) (earlier : L
   drop_event (WritePhase.Ends q) h = ((ap (λ (l : List Action). Action.Return (Gate.Level 1) ∷ l) h.1, tt), omega (arith, h.0))
   drop_event other h = absurd h
 
--- a return has two events
 drop_short : (m p : ℕ) (x : WritePhase) (trace : List Traced) (added : List Action) → DropSays m p x trace added → length trace ≤ 2
 drop_short m p (WritePhase.Drops n q) trace added h = omega (arith, ap length h.1)
 drop_short m p (WritePhase.Ends q) trace added h = omega (arith, h.0)
 drop_short m p other trace added h = absurd h
 
--- so it is kept along every trace of a return
 pub drop_kept : (c : Config) (t m p : ℕ) → Kept (DropAt m p) c t (Op.DropWrite m p)
 drop_kept c t m p = record {
   first = (WritePhase.Drops m p, refl, (refl, refl, refl));
