@@ -38,7 +38,6 @@ module _ (c : Config) (t : ℕ) (w next : World) (earlier : List World) (good : 
 -- the task that steps: what its next phase says, in the world after the event
 module _ (c : Config) (t : ℕ) (lt : t < c.tasks) (w next : World) (earlier : List World) (good : IsGood c w) (after : IsGood c next)
     (hook : HookAnswer) where
-  -- a change whose state was found is not refused
   between_own : (m : ℕ) (ro b : Bool) → ChangeCause c t next (w ∷ earlier) m (step_between ro b)
   between_own m true true = tt
   between_own m true false = tt

@@ -68,7 +68,6 @@ abbrev pub ChangeAt : Config → ℕ → ℕ → Bool → Bool → List Traced �
 ChangeAt c t m ro wait trace phase added = (step : ChangeStep) × (phase ≡ change c t m ro wait step) ×
     ChangeSays c m ro wait step trace added
 
--- a short trace of a change
 change_short : (c : Config) (m : ℕ) (ro wait : Bool) (trace : List Traced) → (wait ≡ false → length trace ≤ c.processors + 7) →
     IsShort (most_events c (Op.ChangeMount m ro wait)) trace
 change_short c m ro true trace h = tt
@@ -81,7 +80,6 @@ within_most : (c : Config) (m : ℕ) (ro wait : Bool) (step : ChangeStep) (trace
 within_most c m ro wait (ChangeStep.Sums sum) trace added h k = omega (arith, h.3.0)
 within_most c m ro wait step trace added h k = omega arith
 
--- nothing more was found than was found last
 or_false : (b : Bool) → (b || false) ≡ b
 or_false true = refl
 or_false false = refl
@@ -95,7 +93,6 @@ state_found c m true wait false trace added h none e loads = (h, (refl, (none, e
 state_found c m false wait true trace added h none e loads = (h, (none, refl, e))
 state_found c m false wait false trace added h none e loads = (λ q. omega (arith, h q), (rw e none, tt))
 
--- a sum with one count more
 sum_more : (k value s : ℕ) (loads : List (ℕ × ℕ)) → s ≡ sum_loaded loads → wrap_add s value ≡ sum_loaded ((k, value) ∷ loads)
 sum_more k value s loads h = omega (arith, h, sum_by-cons (λ (x : ℕ × ℕ). x.1) (k, value) loads)
 
@@ -123,12 +120,10 @@ module _ (c : Config) (lim : IsWithin c) (t m : ℕ) (ro : Bool) (value : ℕ) (
   lock_leaves wait (Err GateError.Again) h = h
   lock_leaves wait other h = h
 
-  -- `umount` was found taken
   lock_taken : (wait : Bool) → ChangeSays c m ro wait ChangeStep.Locks earlier added → (value == 0) ≡ false → After wait ChangeStep.Locks
   lock_taken true h f = rw f ((ChangeStep.Locks, refl, (λ q. absurd (cc), (rw f h.1.0, h.1.1))), (refl, rw f h.1.0))
   lock_taken false h f = rw f ((h.1.1.0, (refl, rw f refl)), omega (arith, h.0 refl))
 
-  -- `umount` is tried, and nothing is loaded
   locks : (wait : Bool) → ChangeSays c m ro wait ChangeStep.Locks earlier added → After wait ChangeStep.Locks
   locks wait h =
       elim (cases_Bool (value == 0)) [
@@ -136,7 +131,6 @@ module _ (c : Config) (lim : IsWithin c) (t m : ℕ) (ro : Bool) (value : ℕ) (
         | inr f ↦ lock_taken wait h f
       ]
 
-  -- the mount's own flag is set, or clear: then the superblock's decides
   loads_flags : (wait : Bool) → ChangeSays c m ro wait ChangeStep.LoadsFlags earlier added → After wait ChangeStep.LoadsFlags
   loads_flags wait h =
       elim (cases_Bool (has_flag value 1)) [
@@ -149,7 +143,6 @@ module _ (c : Config) (lim : IsWithin c) (t m : ℕ) (ro : Bool) (value : ℕ) (
         | inr f ↦ rw f (ChangeStep.LoadsSuperblock, refl, (λ q. omega (arith, h.0 q), (h.1.0, rw (eq-eqb m m refl, f) h.1.1, h.1.2)))
       ]
 
-  -- the superblock's flag is set or clear, and the mount's own is clear
   loads_superblock : (wait : Bool) → ChangeSays c m ro wait ChangeStep.LoadsSuperblock earlier added → After wait ChangeStep.LoadsSuperblock
   loads_superblock wait h = (
     step_between ro (not (value == 0)),
@@ -183,7 +176,6 @@ module _ (c : Config) (lim : IsWithin c) (t m : ℕ) (ro : Bool) (value : ℕ) (
       (wrap_add sum.total value ≡ sum_loaded (counts_loaded m (longer wait (ChangeStep.Sums sum))))
   count_loaded wait sum h = rw (eq-eqb m m refl) ((refl, h.1), sum_more sum.words value sum.total (counts_loaded m earlier) h.2)
 
-  -- the sum goes on, or it is a sum of all counts: 0, or not
   sums : (wait : Bool) (sum : Sum) → ChangeSays c m ro wait (ChangeStep.Sums sum) earlier added → After wait (ChangeStep.Sums sum)
   sums wait sum h =
       let now : IsEachCount (suc sum.words) (counts_loaded m (longer wait (ChangeStep.Sums sum))) ×
@@ -239,7 +231,6 @@ module _ (c : Config) (lim : IsWithin c) (t m : ℕ) (ro : Bool) (value : ℕ) (
     ),
   )
 
-  -- each event of a change keeps what its trace says
   change_event : (wait : Bool) (step : ChangeStep) → ChangeSays c m ro wait step earlier added → After wait step
   change_event wait ChangeStep.Locks h = locks wait h
   change_event wait ChangeStep.LoadsFlags h = loads_flags wait h
@@ -254,7 +245,6 @@ module _ (c : Config) (lim : IsWithin c) (t m : ℕ) (ro : Bool) (value : ℕ) (
     change_short c m ro wait (longer wait (ChangeStep.Releases answer)) (λ q. omega (arith, h.0 q)),
   )
 
--- so it is kept along every trace of a change
 pub change_kept : (c : Config) → IsWithin c → (t m : ℕ) (ro wait : Bool) → Kept (ChangeAt c t m ro wait) c t (Op.ChangeMount m ro wait)
 change_kept c lim t m ro wait = record {
   first = (ChangeStep.Locks, refl, (λ q. omega arith, (refl, (refl, refl, refl))));

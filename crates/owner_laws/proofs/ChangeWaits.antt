@@ -10,13 +10,11 @@ use Rattle.owner_laws.proofs.ChangeLoads.{change, IsAt}
 
 module _ (c : Config) (w : World) (earlier : List World) (good : IsGood c w) (t : ℕ) (lt : t < c.tasks)
     (m : ℕ) (ro : Bool) (task processors : ℕ) (hook : HookAnswer) where
-  -- who has `umount` then
   taken : (wait : Bool) → IsAt c w good t lt m ro wait task processors hook ChangeStep.Locks → (w.words.umount ≡ 0 → ⊥) → IsTaken c t (w ∷ earlier)
   taken wait e some =
       let who = umount_taken c w good t lt (Phase.Mounts (change m ro wait task processors ChangeStep.Locks)) (λ y own. own) some (ap owns e) in
       (who.task, who.there, who.other, who.stands)
 
-  -- each step of a change
   pub change_waits : (wait : Bool) (s : ChangeStep) → IsAt c w good t lt m ro wait task processors hook s → ChangeCause c t w earlier m s →
       HasReason c w earlier t (Phase.Mounts (change m ro wait task processors s))
       (after_of (Phase.Mounts (change m ro wait task processors s)) (found_at w.words (Phase.Mounts (change m ro wait task processors s)) hook) hook).0

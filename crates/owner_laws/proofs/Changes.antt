@@ -37,14 +37,12 @@ module _ (c : Config) (lim : IsWithin c) (w : World) (good : IsGood c w) (t : �
   abbrev FitsNow : ChangeStep → Type 0
   FitsNow s = FitsHere c w good t lt m ro wait task processors hook s
 
-  -- its role at its own mount, and the mount's part of the rule
   role_here : (s : ChangeStep) → IsHere s → role_of m (w.views t).phase ≡ change_role s
   role_here s e = change_here m ro wait task processors s e
 
   mount_here : (s : ChangeStep) → IsHere s → MountHoldsIn c w m
   mount_here s e = good (AtMount m) (fits_here c w good t lt m ro wait task processors hook s e).0
 
-  -- an event on the mount's flags, after which the change is at another step
   flag_step : (s s' : ChangeStep) (f : ℕ) (v : View) → IsHere s → IsSteady (w.views t).phase v.phase →
       v.phase ≡ Some (Phase.Mounts (here s')) → ViewFits c t v → held_at v ≡ held_at (w.views t) →
       added_by v.events ≡ added_by (w.views t).events → taken_by v.events ≡ taken_by (w.views t).events →
@@ -131,7 +129,6 @@ module _ (c : Config) (lim : IsWithin c) (w : World) (good : IsGood c w) (t : �
   abbrev Becomes : ChangeStep → Type 0
   Becomes s = MountHoldsAfter c w t m (w.words.flags m) (w.words.count m) (record (at_mount m (w.views t)) { role = change_role s })
 
-  -- a load of one word of a sum, after which it is at another step
   sum_load : (sum : Sum) (s : ChangeStep) → IsHere (ChangeStep.Sums sum) → change_owns s ≡ 1 → SumFits c s → Becomes s →
       let coming : Next Phase = Next.Go (Phase.Mounts (here s)) in
       GatesHold c (after_load w t (WordName.MountCount m sum.words) hook coming) ×

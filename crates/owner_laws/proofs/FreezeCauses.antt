@@ -92,7 +92,6 @@ module _ (c : Config) (t i : ℕ) where
           ],
     )
 
-    -- a sum that takes a word more has its cause
     level_takes : sum.words < c.processors → next.words.level i ≡ w.words.level i →
         words_read (next.views t).phase ≡ Some (sum.words + 1) →
         DownWriteCause c t next (w ∷ earlier) i
@@ -110,7 +109,6 @@ module _ (c : Config) (t i : ℕ) where
 
 -- a task whose view another entry leaves alone
 module _ (c : Config) (t : ℕ) (w next : World) (earlier : List World) (good : IsGood c next) (x : Freeze) where
-  -- the cause of each step of a closing stays
   closing_stays : (d : DownWrite) (s : DownWriteStep) → 1 ≤ d.level → d.level ≤ 3 →
       (next.views t).phase ≡ Some (Phase.Freezes (at_freeze x (FreezeStep.Closes (at_down_write d s)))) →
       (w.views t).phase ≡ Some (Phase.Freezes (at_freeze x (FreezeStep.Closes (at_down_write d s)))) → IsQuiet c w next →
@@ -119,7 +117,6 @@ module _ (c : Config) (t : ℕ) (w next : World) (earlier : List World) (good : 
       level_stays c t d.level w next earlier sum h good one three (ap words_read e) (ap words_read was) (quiet.levels d.level)
   closing_stays d other one three e was quiet h = tt
 
-  -- so does the cause of each step of a freeze
   pub freeze_stays : (s : FreezeStep) → FreezeFits c x.holder s → (next.views t).phase ≡ Some (Phase.Freezes (at_freeze x s)) →
       (w.views t).phase ≡ Some (Phase.Freezes (at_freeze x s)) → IsQuiet c w next → FreezeCause c t w earlier x.holder s →
       FreezeCause c t next (w ∷ earlier) x.holder s
@@ -135,7 +132,6 @@ module _ (c : Config) (t : ℕ) (w next : World) (earlier : List World) (after :
   Own n = (next.views t).phase ≡ phase_after (map_next Phase.Freezes n) →
       CauseOf c t next (w ∷ earlier) (phase_after (map_next Phase.Freezes n))
 
-  -- a level is closed
   closed_own : (level : ℕ) → Own (Next.Go (at_freeze x (level_closed level x.nodes)))
   closed_own level e =
       elim (cases_Bool (level == 1)) [
@@ -143,28 +139,23 @@ module _ (c : Config) (t : ℕ) (w next : World) (earlier : List World) (after :
         | inr h ↦ elim (cases_Bool (level == 2)) [ inl k ↦ rw (h, k) tt | inr k ↦ rw (h, k) tt ]
       ]
 
-  -- a hook has failed: a freeze that the file system refused is not refused as busy
   fails_own : (level code : ℕ) → Own (Next.Go (at_freeze x (freeze_fails level code)))
   fails_own level code e = elim (cases_Bool (level == 0)) [ inl h ↦ rw h (λ r. absurd (cc)) | inr h ↦ rw h tt ]
 
   module _ (d : DownWrite) where
-    -- after an event of the enter
     enter_own : (n : TransitionNext) → Own (after_closing x d.level (Next.Go (at_down_write d (enter_step d.tasks n))))
     enter_own (TransitionNext.More transition) e = tt
     enter_own (TransitionNext.Made GpState.Idle) e = tt
     enter_own other e = tt
 
-    -- of the transition after its grace period
     callback_own : (n : TransitionNext) → Own (after_closing x d.level (Next.Go (at_down_write d (callback_step n))))
     callback_own (TransitionNext.More transition) e = tt
     callback_own other e = tt
 
-    -- after a load of a section word
     sections_own : (n : GraceNext) → Own (after_closing x d.level (sections_awaited d n))
     sections_own (GraceNext.More grace) e = tt
     sections_own other e = tt
 
-    -- and of the sync word
     passed_own : (o : Option SyncWord) → Own (after_closing x d.level (passed_awaited d o))
     passed_own None e = tt
     passed_own (Some word) e = elim (cases_Bool (is_passed word.state)) [ inl h ↦ rw h tt | inr h ↦ rw h tt ]
@@ -208,13 +199,11 @@ module _ (c : Config) (t : ℕ) (w next : World) (earlier : List World) (after :
     closing_own hook (DownWriteStep.Sums sum) one three f same h e =
         sum_own sum one three f (ap (λ (ws : Words). ws.level d.level) (same ∙ load_same w.words (WordName.LevelCount d.level sum.words))) h e
 
-  -- after an event of the reopening of a level
   reopening_own : (level code : ℕ) (n : Next UpWrite) → Own (after_reopening x level code n)
   reopening_own level code (Next.Go u) e = tt
   reopening_own level code (Next.Wait u) e = tt
   reopening_own level code (Next.Done answer) e = fails_own (level - 1) code e
 
-  -- and of the clearing of the marks
   clearing_own : (n : Next ClearMarks) → Own (after_clearing x n)
   clearing_own (Next.Go marks) e = tt
   clearing_own other e = tt
@@ -227,7 +216,6 @@ module _ (c : Config) (t : ℕ) (w next : World) (earlier : List World) (after :
       (λ j. not (ne_eqb w.words.stage 0 started j) &&
       (not (ne_eqb w.words.stage 4 unfinished j) || held_by (holders_in w.words.holders) x.holder))
 
-  -- and where its holder was found to hold one, it was so, at stage 4
   holder_own : (w.views t).phase ≡ Some (Phase.Freezes (at_freeze x FreezeStep.LoadsHolders)) → w.words.stage ≡ 4 →
       held_by (holders_in w.words.holders) x.holder ≡ true → Own (Next.Go (at_freeze x (FreezeStep.Releases (Err GateError.Busy))))
   holder_own e four own e' r =

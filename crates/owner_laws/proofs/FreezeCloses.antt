@@ -45,17 +45,14 @@ enter_place tasks (TransitionNext.More transition) = refl
 enter_place tasks (TransitionNext.Made GpState.Idle) = refl
 enter_place tasks other = refl
 
--- so it is past its grace period
 callback_place : (n : TransitionNext) → place_of (callback_step n) ≡ Before
 callback_place (TransitionNext.More transition) = refl
 callback_place other = refl
 
--- in it
 sections_place : (d : DownWrite) (n : GraceNext) → IsAtPlace d Before (sections_awaited d n)
 sections_place d (GraceNext.More grace) = (refl, refl)
 sections_place d other = (refl, refl)
 
--- and where it waits for another writer's
 passed_place : (d : DownWrite) (o : Option SyncWord) → IsAtPlace d Before (passed_awaited d o)
 passed_place d None = (refl, refl)
 passed_place d (Some word) =
@@ -107,7 +104,6 @@ abbrev sum_kind : DownWrite → Taken → StageEvent
 sum_kind d (Taken.More sum) = Stays
 sum_kind d (Taken.Total total) = if total == 0 then Passes d.level (clean_from d.level) (nat_lt 1 d.level) else Stays
 
--- what comes after a level is closed has nothing to do with the holders
 closed_apart : (level nodes : ℕ) → freeze_holder_role (level_closed level nodes) ≡ Apart
 closed_apart level nodes =
     elim (eqb_tells level 1) [
@@ -116,7 +112,6 @@ closed_apart level nodes =
     ]
 
 module _ (c : Config) (lim : IsWithin c) (w : World) (good : IsGood c w) (t : ℕ) (lt : t < c.tasks) (x : Freeze) (hook : HookAnswer) where
-  -- the root is clean
   root_clean : (level : ℕ) → 1 ≤ level → level ≤ 3 → CleanBelow (clean_from level) (marks_of w.words)
   root_clean level low high m l =
       let at_most : clean_from level ≤ 1 = at_level (λ i. clean_from i ≤ 1) (omega arith, omega arith, omega arith) level low high in
@@ -139,14 +134,12 @@ module _ (c : Config) (lim : IsWithin c) (w : World) (good : IsGood c w) (t : �
       (role, root_clean d.level low high, ap (playing (stages_in w) t) (closed_role x d.level low high))
       (still_plays c w good t lt (sym role))
 
-  -- what it adds
   sum_adds : (d : DownWrite) (n : Taken) → stage_action_of (sum_kind d n) (stages_in w) ≡ (down_write_summed d n).1
   sum_adds d (Taken.More sum) = refl
   sum_adds d (Taken.Total sum) =
       by_bool (sum == 0) (λ b. stage_action_of (if b then Passes d.level (clean_from d.level) (nat_lt 1 d.level) else Stays) (stages_in w) ≡
       (if b then Some (Action.Pass d.level) else None)) refl refl
 
-  -- and what that asks for
   sum_asks : (d : DownWrite) (n : Taken) →
       ((j : ℕ) → (down_write_summed d n).1 ≡ Some (Action.Pass j) → (y : ℕ) → y < c.tasks → holds_level (w.views y) d.level ≡ false) →
       AsksWhere (model_limits c) (shown c w) (down_write_summed d n).1
@@ -182,7 +175,6 @@ module _ (c : Config) (lim : IsWithin c) (w : World) (good : IsGood c w) (t : �
     fits_now : FitsHere c lim w good t lt x (FreezeStep.Closes d)
     fits_now = here_fits c lim w good t lt x (FreezeStep.Closes d) e
 
-    -- its accesses are as they were
     accesses_stay : (held_at view_then ≡ held_at (w.views t)) × (holds_level view_then ≡ holds_level (w.views t)) ×
         (has_open view_then ≡ has_open (w.views t))
     accesses_stay =
@@ -190,7 +182,6 @@ module _ (c : Config) (lim : IsWithin c) (w : World) (good : IsGood c w) (t : �
         (levels_of (actions_after a (w.views t).actions) ≡ levels_of (w.views t).actions) ×
         (opens_of (actions_after a (w.views t).actions) ≡ opens_of (w.views t).actions)) (refl, refl, refl) (refl, refl, refl) d.step found_here
 
-    -- so what comes fits them
     fits_then : ViewFits c t view_then
     fits_then =
         let p : Option Phase = phase_after (map_next Phase.Freezes (after_closing x d.level next_here)) in
@@ -198,7 +189,6 @@ module _ (c : Config) (lim : IsWithin c) (w : World) (good : IsGood c w) (t : �
         Fits c t (mounts_of (actions_after a (w.views t).actions)) (levels_of (actions_after a (w.views t).actions)) p) (λ f. f) (λ f. f)
         d.step found_here (freeze_goes c lim t (held_at (w.views t)) (holds_level (w.views t)) x (FreezeStep.Closes d) found_here hook fits_now)
 
-    -- who owned `umount` owns it
     owns_then : owns view_then.phase ≡ bit (nat_lt 1 d.level)
     owns_then =
         down_write_comes d (λ n. owns (phase_after (map_next Phase.Freezes (after_closing x d.level n))) ≡ bit (nat_lt 1 d.level))
@@ -259,7 +249,6 @@ module _ (c : Config) (lim : IsWithin c) (w : World) (good : IsGood c w) (t : �
         (down_write_comes d (λ n. holder_role_of (phase_after (map_next Phase.Freezes (after_closing x d.level n))) ≡ Apart) (λ s. refl) (λ s. refl)
         (closed_apart d.level x.nodes) d.step found_here ∙ sym (ap holder_role_of e))
 
-    -- an event about other words than the stage's, after which it is at the same place
     closing_stays : (words_then.block ≡ w.words.block) → (p : Place) → place_of d.step ≡ p → IsAtPlace d p next_here →
         IsStageEvent c w good t lt words_then view_then Stays
     closing_stays block p was now =
@@ -272,7 +261,6 @@ module _ (c : Config) (lim : IsWithin c) (w : World) (good : IsGood c w) (t : �
         })
         (place_role x d p next_here now ∙ sym (ap stage_role_of e ∙ ap (λ q. Freezing d.level q (nat_lt 1 d.level)) was))
 
-    -- nobody holds the level that its event passes
     nobody_inside : (j : ℕ) → adds_here ≡ Some (Action.Pass j) → (y : ℕ) → y < c.tasks → holds_level (w.views y) d.level ≡ false
     nobody_inside j is y ly =
         let none : total c.tasks (λ z. if holds_level (w.views z) d.level then 1 else 0) ≡ 0 =

@@ -57,7 +57,6 @@ fails_alike : (x : Freeze) (level code : ℕ) →
     IsAlike (Some (Phase.Thaws (as_thaw x (thaw_opens level)))) (Some (Phase.Freezes (at_freeze x (freeze_fails level code))))
 fails_alike x level code = elim (cases_Bool (level == 0)) [ inl h ↦ rw h assumption | inr h ↦ rw h assumption ]
 
--- and after each one
 next_alike : (x : Freeze) (u : UpWrite) (code : ℕ) (n : Next UpWrite) →
     IsAlike (phase_after (map_next Phase.Thaws (after_opening (as_thaw x (ThawStep.Reopens u)) u.level n)))
     (phase_after (map_next Phase.Freezes (after_reopening x u.level code n)))
@@ -71,7 +70,6 @@ module _ (c : Config) (lim : IsWithin c) (w : World) (good : IsGood c w) (t : �
       (role : freeze_stage_role x.nodes s ≡ Freezing 2 (HasPassed (suc marks.node)) true)
       (past : freeze_tree_role x.nodes s ≡ Clearing (suc marks.node))
       (stand : freeze_stand s ≡ Some (closed_to 2)) (holder : freeze_holder_role s ≡ Apart) where
-    -- the node's word
     abbrev node_word : ℕ
     node_word = w.words.node marks.node
 
@@ -83,13 +81,11 @@ module _ (c : Config) (lim : IsWithin c) (w : World) (good : IsGood c w) (t : �
     abbrev cleared_view : Option Action → View
     cleared_view action = view_at c lim w good t lt x (WordName.Node marks.node, Touch.And 18446744073709551611) node_word hook s action
 
-    -- the node is there
     node_there : IsNode node_word
     node_there =
         let f : FitsHere c lim w good t lt x (FreezeStep.Cleans marks) = here_fits c lim w good t lt x (FreezeStep.Cleans marks) e in
         (good Tree).words marks.node f.5.2
 
-    -- the tree after it
     abbrev cleared_tree : TreeState
     cleared_tree = with_node (tree_of w) marks.node (without_mark node_word) t (Clearing (suc marks.node))
 
@@ -144,7 +140,6 @@ module _ (c : Config) (lim : IsWithin c) (w : World) (good : IsGood c w) (t : �
           rest = rest;
         })
 
-    -- where the mark was set
     clears_set : dirty_in node_word ≡ 1 →
         WriterLaw c w t cleared_words (cleared_view (Some (Action.Clean marks.node))) (Some (Action.Clean marks.node))
     clears_set set =
@@ -167,7 +162,6 @@ module _ (c : Config) (lim : IsWithin c) (w : World) (good : IsGood c w) (t : �
         })
         (Clears marks.node (inr (nobody_reads c w good not_frozen)) (here_tree c lim w good t lt x (FreezeStep.Cleans marks) e) f.5.2 set)
 
-    -- and where it was clear
     clears_clean : dirty_in node_word ≡ 0 → WriterLaw c w t cleared_words (cleared_view None) None
     clears_clean clean =
         let f : FitsHere c lim w good t lt x (FreezeStep.Cleans marks) = here_fits c lim w good t lt x (FreezeStep.Cleans marks) e in
@@ -226,7 +220,6 @@ module _ (c : Config) (lim : IsWithin c) (w : World) (good : IsGood c w) (t : �
       (freeze_goes c lim t (held_at (w.views t)) (holds_level (w.views t)) x (FreezeStep.Reopens u code) found hook f) in
       (λ part known. law.0 part, law.1)
 
--- each of them
 freeze_event : (c : Config) (lim : IsWithin c) (w : World) (good : IsGood c w) (t : ℕ) (lt : t < c.tasks) (x : Freeze) (hook : HookAnswer)
     (s : FreezeStep) → IsHere c lim w good t lt x s → Keeps c lim w good t lt x hook s
 freeze_event c lim w good t lt x hook FreezeStep.Locks e = locks c lim w good t lt x hook e

@@ -59,12 +59,10 @@ found_cases x held P own other = both (held_by held x.holder) (λ b. P (if b the
 abbrev MovesNone : Option Action → Type 0
 MovesNone a = (held : ℕ → ℕ) (levels : ℕ → Bool) → ActionFits held a × (mounts_by a held ≡ held) × (levels_by a levels ≡ levels)
 
--- so is one that is there under a condition, where it is one
 if_moves : (b : Bool) (a : Action) → MovesNone (Some a) → MovesNone (if b then Some a else None)
 if_moves true a h held levels = h held levels
 if_moves false a h held levels = (tt, refl, refl)
 
--- what a load of a word of a sum adds moves no access
 summed_moves : (d : DownWrite) (sum : Sum) (found : ℕ) → MovesNone (down_write_summed d (sum_taking sum found d.processors)).1
 summed_moves d sum found held levels =
     elim (cases_Bool (nat_lt (sum.words + 1) d.processors)) [
@@ -72,7 +70,6 @@ summed_moves d sum found held levels =
       | inr h ↦ rw h (if_moves (wrap_add sum.total found == 0) (Action.Pass d.level) (λ f g. (tt, refl, refl)) held levels)
     ]
 
--- no event of a down-write moves one
 down_write_moves : (d : DownWrite) (s : DownWriteStep) (found : ℕ) → MovesNone (down_write_after d s found).1
 down_write_moves d (DownWriteStep.Sums sum) found held levels = summed_moves d sum found held levels
 down_write_moves d other found held levels = (tt, refl, refl)
@@ -99,13 +96,11 @@ pub freeze_acts : (x : Freeze) (s : FreezeStep) (held : ℕ → ℕ) (found : �
     ActionFits held (freeze_after x s found hook).1
 freeze_acts x s held found hook = (freeze_moves x s found hook held (λ i. false)).0
 
--- a writer that goes on with its enter knows the words of its exchange
 knows_enter : (tasks found v : ℕ) (n : TransitionNext) → Shows on_enter found v n → KnowsDownWrite (enter_step tasks n)
 knows_enter tasks found v (TransitionNext.More transition) h = h.1
 knows_enter tasks found v (TransitionNext.Made GpState.Idle) h = tt
 knows_enter tasks found v other h = tt
 
--- with the transition after its grace period
 knows_callback : (found v : ℕ) (n : TransitionNext) → Shows on_callback found v n → KnowsDownWrite (callback_step n)
 knows_callback found v (TransitionNext.More transition) h = h.1
 knows_callback found v TransitionNext.Undefined h = tt
@@ -117,7 +112,6 @@ module _ (c : Config) (within : IsWithin c) where
   enter_fits tasks same (TransitionNext.Made GpState.Idle) = (same, within.some_task)
   enter_fits tasks same other = tt
 
-  -- so does the one after its own transition
   callback_fits : (n : TransitionNext) → DownWriteStepFits c (callback_step n)
   callback_fits (TransitionNext.More transition) = tt
   callback_fits other = tt
@@ -127,7 +121,6 @@ module _ (c : Config) (within : IsWithin c) where
     abbrev Goes : Next DownWrite → Type 0
     Goes n = HoldsOfNext (DownWriteFits c) n
 
-    -- where a task is passed
     passed_goes : (g : Grace) → g.tasks ≡ c.tasks → Goes (sections_awaited d (passed_on g))
     passed_goes g all =
         elim (cases_Bool (nat_lt (g.task + 1) g.tasks)) [
@@ -135,7 +128,6 @@ module _ (c : Config) (within : IsWithin c) where
           | inr h ↦ rw h (l1, l3, same, processors, tt, tt)
         ]
 
-    -- where a section word is loaded
     looked_goes : (g : Grace) (found : ℕ) → g.tasks ≡ c.tasks → g.task < c.tasks → Goes (sections_awaited d (looked g found))
     looked_goes g found all more =
         elim (cases_Bool ((found % 2 == 1) && is_first g.first found)) [
@@ -143,7 +135,6 @@ module _ (c : Config) (within : IsWithin c) where
           | inr h ↦ rw h (passed_goes g all)
         ]
 
-    -- where the sync word is loaded
     passed_found_goes : (o : Option SyncWord) → Goes (passed_awaited d o)
     passed_found_goes None = (l1, l3, same, processors, tt, tt)
     passed_found_goes (Some word) =
@@ -151,7 +142,6 @@ module _ (c : Config) (within : IsWithin c) where
         (λ b. Goes (if b then Next.Go (at_down_write d DownWriteStep.SetsBlock) else Next.Wait (at_down_write d DownWriteStep.AwaitsPassed)))
         (l1, l3, same, processors, tt, tt) (l1, l3, same, processors, tt, tt)
 
-    -- where a word of the sum is loaded
     summed_goes : (sum : Sum) (found : ℕ) → Goes (down_write_summed d (sum_taking sum found d.processors)).0
     summed_goes sum found =
         elim (cases_Bool (nat_lt (sum.words + 1) d.processors)) [
@@ -163,7 +153,6 @@ module _ (c : Config) (within : IsWithin c) where
           ]
         ]
 
-    -- so it is after each event
     down_write_goes : (s : DownWriteStep) (found : ℕ) → DownWriteStepFits c s → KnowsDownWrite s → Goes (down_write_after d s found).0
     down_write_goes (DownWriteStep.Enters transition) found f k =
         let shows = exchanges_make_transitions on_enter d.level found transition k in (
@@ -210,7 +199,6 @@ module _ (c : Config) (within : IsWithin c) where
       FreezeFits c x.holder (freeze_closes x level)
   closes_fits x level all processors l1 l3 = (l1, l3, all, processors, tt, tt)
 
-  -- what comes after a level is closed
   closed_fits : (holder : Holder) (level nodes : ℕ) → nodes ≡ c.nodes → FreezeFits c holder (level_closed level nodes)
   closed_fits holder level nodes same =
       elim (cases_Bool (level == 1)) [
@@ -232,24 +220,20 @@ module _ (c : Config) (within : IsWithin c) where
     abbrev NextFits : Next Freeze → Type 0
     NextFits next = Fits c t held levels (phase_after (map_next Phase.Freezes next))
 
-    -- a step that fits
     goes_to : (s : FreezeStep) → FreezeFits c x.holder s → NextFits (Next.Go (at_freeze x s))
     goes_to s f = (task, all, processors, nodes, none, f)
 
-    -- what comes after an event of the closing of a level
     closing_fits : (level : ℕ) (n : Next DownWrite) → HoldsOfNext (DownWriteFits c) n → NextFits (after_closing x level n)
     closing_fits level (Next.Go d) h = goes_to (FreezeStep.Closes d) h
     closing_fits level (Next.Wait d) h = goes_to (FreezeStep.Closes d) h
     closing_fits level (Next.Done answer) h = goes_to (level_closed level x.nodes) (closed_fits x.holder level x.nodes nodes)
 
-    -- of its reopening
     reopening_fits : (level code : ℕ) → level ≤ 3 → (n : Next UpWrite) → HoldsOfNext UpWriteFits n →
         NextFits (after_reopening x level code n)
     reopening_fits level code l3 (Next.Go u) h = goes_to (FreezeStep.Reopens u code) h
     reopening_fits level code l3 (Next.Wait u) h = goes_to (FreezeStep.Reopens u code) h
     reopening_fits level code l3 (Next.Done answer) h = goes_to (freeze_fails (level - 1) code) (fails_fits x.holder (level - 1) code (omega (arith, l3)))
 
-    -- of the clearing of the marks
     clearing_fits : (marks : ClearMarks) (found : ℕ) → marks.nodes ≡ c.nodes → NextFits (after_clearing x (clear_after marks found).0)
     clearing_fits marks found same =
         elim (cases_Bool (nat_lt (marks.node + 1) marks.nodes)) [
@@ -263,7 +247,6 @@ module _ (c : Config) (within : IsWithin c) where
     locked_fits again s found f g =
         by_bool (found == 0) (λ b. NextFits (if b then Next.Go (at_freeze x s) else Next.Wait (at_freeze x again))) (goes_to s g) (goes_to again f)
 
-    -- so it is after each event of a freeze
     next_fits : (s : FreezeStep) (found : ℕ) (hook : HookAnswer) → FreezeFits c x.holder s → NextFits (freeze_after x s found hook).0
     next_fits FreezeStep.Locks found hook f = locked_fits FreezeStep.Locks FreezeStep.LoadsStage found tt tt
     next_fits FreezeStep.LoadsStage found hook f =

@@ -14,14 +14,12 @@ fits_here : (c : Config) (x : Freeze) (w : World) → IsGood c w → (t : ℕ) �
     PhaseFits c t (held_at (w.views t)) (holds_level (w.views t)) (Phase.Freezes x)
 fits_here c x w good t lt e = subst (Fits c t (held_at (w.views t)) (holds_level (w.views t))) e (good Fitting t lt)
 
--- a freeze that is to load who holds one is at stage 4
 stage_here : (c : Config) (x : Freeze) (w : World) → IsGood c w → (t : ℕ) → t < c.tasks → (w.views t).phase ≡ Some (Phase.Freezes x) →
     x.step ≡ FreezeStep.LoadsHolders → w.words.stage ≡ 4
 stage_here c x w good t lt e is =
     (subst (λ s. KnowsStage w.words.stage w.words.sb (freeze_stage_role x.nodes s)) is
     (subst (λ p. KnowsStage w.words.stage w.words.sb (stage_role_of p)) e ((good Stages).knows t lt))).0
 
--- of each of its phases
 pub freeze_phase : (c : Config) (x : Freeze) → PhaseKeeps c (Phase.Freezes x)
 freeze_phase c x = record {
   step = λ within w good t lt hook e. freeze_keeps c within w good t lt hook x e;
@@ -40,7 +38,6 @@ freeze_phase c x = record {
       freeze_waits c w earlier good t lt x hook x.step e (fits_here c x w good t lt e).5 cause;
 }
 
--- of its beginning and its trace
 pub freeze_op : (c : Config) (holder : Holder) → OpKeeps c (Op.Freeze holder)
 freeze_op c holder = record {
   fits = λ t held levels there order room. (refl, refl, refl, refl, order, tt);

@@ -40,7 +40,6 @@ module _ (c : Config) (lim : IsWithin c) (w : World) (good : IsGood c w) (t : �
   abbrev Runs : HookAnswer → FreezeStep → Type 0
   Runs hook s = LevelsRun c w (after_step w t (Phase.Freezes (at_freeze x s)) hook)
 
-  -- the words after it
   abbrev words_then : HookAnswer → FreezeStep → Words
   words_then hook s = words_after w.words (Phase.Freezes (at_freeze x s)) hook
 
@@ -53,7 +52,6 @@ module _ (c : Config) (lim : IsWithin c) (w : World) (good : IsGood c w) (t : �
       levels_stay_runs c w t lt (words_then hook s)
       (view_after (w.views t) (Phase.Freezes (at_freeze x s)) (value_at w.words (Phase.Freezes (at_freeze x s)) hook) hook) stand words was now
 
-  -- stage 3 is stored, or 0 where the file system refused
   sets_fs : (hook : HookAnswer) → IsHere c lim w good t lt x FreezeStep.SetsFs → Runs hook FreezeStep.SetsFs
   sets_fs (Ok answer) e =
       let k : w.words.stage ≡ 2 = here_knows c lim w good t lt x FreezeStep.SetsFs e in
@@ -68,7 +66,6 @@ module _ (c : Config) (lim : IsWithin c) (w : World) (good : IsGood c w) (t : �
       (record { block_same = refl; level_same = refl; sync_same = refl; section_same = refl; whole_same = rw k refl })
       (here_stands c lim w good t lt x FreezeStep.SetsFs e) (freeze_stands (at_freeze x (freeze_fails 2 code)))
 
-  -- stage 4 is stored, which leaves all levels to no task, or 0
   sets_complete : (hook : HookAnswer) → IsHere c lim w good t lt x FreezeStep.SetsComplete → Runs hook FreezeStep.SetsComplete
   sets_complete (Ok answer) e =
       let k : w.words.stage ≡ 3 = here_knows c lim w good t lt x FreezeStep.SetsComplete e in
@@ -84,7 +81,6 @@ module _ (c : Config) (lim : IsWithin c) (w : World) (good : IsGood c w) (t : �
       (record { block_same = refl; level_same = refl; sync_same = refl; section_same = refl; whole_same = rw k refl })
       (here_stands c lim w good t lt x FreezeStep.SetsComplete e) (freeze_stands (at_freeze x (freeze_fails 3 code)))
 
-  -- each event
   freeze_run : (hook : HookAnswer) (s : FreezeStep) → IsHere c lim w good t lt x s → Runs hook s
   freeze_run hook FreezeStep.Locks e =
       leaves hook FreezeStep.Locks None (assumption) (here_stands c lim w good t lt x FreezeStep.Locks e)

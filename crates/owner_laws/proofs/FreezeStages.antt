@@ -28,20 +28,16 @@ use Rattle.gate_frames.proofs.WriterParts.{IsWriter, AsksWhere, SameAtMounts, Wr
 use Rattle.gate_frames.proofs.WriterStages.{stays_there, writer_holds, writer_beside, writer_stores, stored_levels, stored_tree, opened_tree}
 use Rattle.owner_laws.proofs.FreezeFits.{found_cases}
 
--- owners that rely on one thing or another are alike
 owners_alike : (stage sb stage' sb' : Option ℕ) → IsAlike (Owning stage sb) (Owning stage' sb')
 owners_alike stage sb stage' sb' =
     record { owns_same = refl; freezes_same = refl; remounts_same = refl; closed_same = refl; passed_same = refl }
 
--- how a freeze stands with the levels
 pub freeze_stands : (x : Freeze) → Stands (Some (Phase.Freezes x)) (freeze_stand x.step)
 freeze_stands x = record { counts = λ i one three. refl; syncs = λ i one three. refl; outside = refl }
 
--- an idle task stands nowhere
 pub idle_stands : Stands None None
 idle_stands = record { counts = λ i one three. refl; syncs = λ i one three. refl; outside = refl }
 
--- of stages that aren't 4 none is frozen as a whole
 not_whole : (a b sb : ℕ) → (a ≡ 4 → ⊥) → (b ≡ 4 → ⊥) → is_full a sb ≡ is_full b sb
 not_whole a b sb na nb = rw (ne_eqb a 4 na, ne_eqb b 4 nb) refl
 
@@ -66,19 +62,15 @@ module _ (c : Config) (lim : IsWithin c) (w : World) (good : IsGood c w) (t : �
   pub here_knows : (s : FreezeStep) → IsHere s → KnowsStage w.words.stage w.words.sb (freeze_stage_role x.nodes s)
   here_knows s e = subst (λ p. KnowsStage w.words.stage w.words.sb (stage_role_of p)) e ((good Stages).knows t lt)
 
-  -- it stands so with the levels
   pub here_stands : (s : FreezeStep) → IsHere s → Stands (w.views t).phase (freeze_stand s)
   here_stands s e = subst (λ p. Stands p (freeze_stand s)) (sym e) (freeze_stands (at_freeze x s))
 
-  -- it does so at the tree
   pub here_tree : (s : FreezeStep) → IsHere s → tree_roles w t ≡ freeze_tree_role x.nodes s
   here_tree s e = ap (tree_role_of (w.views t).trace) e
 
-  -- it has no role at a mount
   pub here_writes : (s : FreezeStep) → IsHere s → IsWriter (w.views t).phase
   here_writes s e = subst IsWriter (sym e) (freezes_write (at_freeze x s))
 
-  -- another step that fits
   pub goes_to : (s s' : FreezeStep) → IsHere s → FreezeFits c x.holder s' → FitsHere s'
   goes_to s s' e fit = let f : FitsHere s = here_fits s e in (f.0, f.1, f.2, f.3, f.4, fit)
 
@@ -86,7 +78,6 @@ module _ (c : Config) (lim : IsWithin c) (w : World) (good : IsGood c w) (t : �
   abbrev pub view_at : WordName × Touch → ℕ → HookAnswer → FreezeStep → Option Action → View
   view_at n value hook s action = view_with (w.views t) n value hook (Next.Go (Phase.Freezes (at_freeze x s)), action)
 
-  -- a store of the stage, after which this step comes
   stores : (hook : HookAnswer) (s s' : FreezeStep) (e : IsHere s) (n : ℕ) (kind : StageEvent) →
       stage_owns (freeze_stage_role x.nodes s) ≡ 1 → stage_owns (freeze_stage_role x.nodes s') ≡ 1 → FreezeFits c x.holder s' →
       let v : View = view_at (WordName.Stage, Touch.Store n) w.words.stage hook s' (Some (Action.Stage n)) in
@@ -175,7 +166,6 @@ module _ (c : Config) (lim : IsWithin c) (w : World) (good : IsGood c w) (t : �
       (kept_tree hook FreezeStep.CompletesReadOnly s' e 4 refl (rw k.1 refl))
       (ap stage_role_of e, refl) refl tt (completed hook FreezeStep.CompletesReadOnly e refl refl (λ four. omega (arith, k.0, four)))
 
-  -- stores stage 1
   pub sets_write : (hook : HookAnswer) → IsHere FreezeStep.SetsWrite → Keeps hook FreezeStep.SetsWrite
   sets_write hook e =
       let k : (w.words.stage ≡ 0) × (w.words.sb ≡ 0) = here_knows FreezeStep.SetsWrite e in
@@ -185,7 +175,6 @@ module _ (c : Config) (lim : IsWithin c) (w : World) (good : IsGood c w) (t : �
       (ap stage_role_of e, refl) refl tt
       (moved hook FreezeStep.SetsWrite FreezeStep.Unlocks e 1 refl refl (λ four. omega (arith, k.0, four)) (λ four. omega (arith, four)))
 
-  -- stores stage 2, and begins to close level 2
   pub sets_page_fault : (hook : HookAnswer) → IsHere FreezeStep.SetsPageFault → Keeps hook FreezeStep.SetsPageFault
   sets_page_fault hook e =
       let f : FitsHere FreezeStep.SetsPageFault = here_fits FreezeStep.SetsPageFault e in
@@ -292,7 +281,6 @@ module _ (c : Config) (lim : IsWithin c) (w : World) (good : IsGood c w) (t : �
       (owner_stays c w good t lt v (here_writes s e) (freezes_write (at_freeze x s)) w.words refl refl (sym (ap owns e))) refl refl refl
       (stays_there c w good t lt w.words v (assumption) (sym (ap stage_role_of e))) refl refl
 
-  -- takes `umount` where it is free
   pub locks : (hook : HookAnswer) → IsHere FreezeStep.Locks → Keeps hook FreezeStep.Locks
   locks hook e =
       let f : FitsHere FreezeStep.Locks = here_fits FreezeStep.Locks e in
@@ -320,7 +308,6 @@ module _ (c : Config) (lim : IsWithin c) (w : World) (good : IsGood c w) (t : �
         | inr h ↦ rw h.0 (tries_again FreezeStep.LocksAgain e hook tt)
       ]
 
-  -- gives `umount` back, with stage 1 stored, and begins to close level 1
   pub unlocks : (hook : HookAnswer) → IsHere FreezeStep.Unlocks → Keeps hook FreezeStep.Unlocks
   unlocks hook e =
       let f : FitsHere FreezeStep.Unlocks = here_fits FreezeStep.Unlocks e in
@@ -358,7 +345,6 @@ module _ (c : Config) (lim : IsWithin c) (w : World) (good : IsGood c w) (t : �
       (owner_stays c w good t lt v (here_writes s e) (freezes_write (at_freeze x s')) w.words refl refl (o' ∙ sym (ap owns e ∙ o)))
       before (subst (Stands (Some (Phase.Freezes (at_freeze x s')))) after (freeze_stands (at_freeze x s'))) same happens adds holding
 
-  -- after which it has to do with the holders what it had
   still : (s s' : FreezeStep) → IsHere s → (word : WordName) (value : ℕ) (hook : HookAnswer) →
       freeze_holder_role s' ≡ freeze_holder_role s → Holds c (left_world w t w.words (view_at (word, Touch.Load) value hook s' None)) Holding
   still s s' e word value hook same =
@@ -371,7 +357,6 @@ module _ (c : Config) (lim : IsWithin c) (w : World) (good : IsGood c w) (t : �
   finds s e v kind found value same role h is =
       subst (λ r. Happens c.tasks c.nodes t (stages_in w) (playing (stages_in w) t r) kind) (ap role same ∙ sym is) h
 
-  -- loads the stage
   pub loads_stage : (hook : HookAnswer) → IsHere FreezeStep.LoadsStage → Keeps hook FreezeStep.LoadsStage
   loads_stage hook e =
       elim (eqb_tells w.words.stage 0) [
@@ -402,7 +387,6 @@ module _ (c : Config) (lim : IsWithin c) (w : World) (good : IsGood c w) (t : �
         ]
       ]
 
-  -- loads who holds a freeze; meets: whoever changes it owns `umount`
   pub loads_holders : (hook : HookAnswer) → IsHere FreezeStep.LoadsHolders → Keeps hook FreezeStep.LoadsHolders
   loads_holders hook e =
       let k : (w.words.stage ≡ 4) × Unit {0} = here_knows FreezeStep.LoadsHolders e in
@@ -459,7 +443,6 @@ module _ (c : Config) (lim : IsWithin c) (w : World) (good : IsGood c w) (t : �
       })
       holding
 
-  -- stores its holder: right after stage 4, or beside others
   pub holds : (hook : HookAnswer) (beside : Holders) → IsHere (FreezeStep.Holds beside) → Keeps hook (FreezeStep.Holds beside)
   holds hook beside e =
       let n : ℕ = word_of (with_holder x.holder true beside) in
@@ -485,7 +468,6 @@ module _ (c : Config) (lim : IsWithin c) (w : World) (good : IsGood c w) (t : �
       hold_law hook beside e (roles.1 beside role).0
       (holders_after c w good t lt (record w.words { holders = n }) v (Joins x.holder beside) (role, refl)))
 
-  -- loads the superblock's flag
   pub loads_superblock : (hook : HookAnswer) → IsHere FreezeStep.LoadsSuperblock → Keeps hook FreezeStep.LoadsSuperblock
   loads_superblock hook e =
       elim (eqb_tells w.words.sb 0) [

@@ -54,7 +54,6 @@ module _ (c : Config) (lim : IsWithin c) (i value : ℕ) (hook : HookAnswer) (ea
   abbrev pub closing_found : DownWriteStep → ℕ
   closing_found s = found_by (down_write_next (closing_at c i s) s).1 value
 
-  -- each event of the closing of a level leaves what was found, stored and cleared
   pub closing_leaves : (s : DownWriteStep) → Leaves (closing_trace s) earlier
   closing_leaves (DownWriteStep.Enters Transition.Loads) = (refl, refl, refl, refl)
   closing_leaves (DownWriteStep.CallsBack Transition.Loads) = (refl, refl, refl, refl)
@@ -72,13 +71,11 @@ module _ (c : Config) (lim : IsWithin c) (i value : ℕ) (hook : HookAnswer) (ea
   state_goes trace GpState.Enter = (DownWriteStep.AwaitsPassed, refl, tt)
   state_goes trace other = (DownWriteStep.SetsBlock, refl, tt)
 
-  -- the same after each event of the enter
   enter_goes : (trace : List Traced) (n : TransitionNext) → ClosingGoes c i trace (closing_at c i (enter_step c.tasks n))
   enter_goes trace (TransitionNext.More transition) = (DownWriteStep.Enters transition, refl, tt)
   enter_goes trace TransitionNext.Undefined = (DownWriteStep.Enters Transition.Loads, refl, tt)
   enter_goes trace (TransitionNext.Made state) = state_goes trace state
 
-  -- and after each event that ends a grace period
   callback_goes : (trace : List Traced) (n : TransitionNext) → ClosingGoes c i trace (closing_at c i (callback_step n))
   callback_goes trace (TransitionNext.More transition) = (DownWriteStep.CallsBack transition, refl, tt)
   callback_goes trace TransitionNext.Undefined = (DownWriteStep.CallsBack Transition.Loads, refl, tt)
@@ -118,11 +115,9 @@ module _ (c : Config) (lim : IsWithin c) (i value : ℕ) (hook : HookAnswer) (ea
         | inr f ↦ rw f ((DownWriteStep.AwaitsPassed, refl, tt), refl, inl (rw (e, f) refl))
       ]
 
-  -- a sum begins, of no event
   sum_begins : (trace : List Traced) → ClosingGoes c i trace (closing_at c i sum_begun)
   sum_begins trace = (sum_begun, refl, (lim.some_processor, tt, refl))
 
-  -- `block` was found 0, or set by another writer
   sets_block : AfterClosing DownWriteStep.SetsBlock
   sets_block =
       elim (cases_Bool (value == 0)) [
@@ -130,7 +125,6 @@ module _ (c : Config) (lim : IsWithin c) (i value : ℕ) (hook : HookAnswer) (ea
         | inr f ↦ rw f ((DownWriteStep.SetsBlock, refl, tt), refl, inl (rw f refl))
       ]
 
-  -- the sum goes on, or it is a sum of all counts: 0, or not
   sums_on : (sum : Sum) → ClosingSays c i (DownWriteStep.Sums sum) earlier → AfterClosing (DownWriteStep.Sums sum)
   sums_on sum h =
       let trace : List Traced = closing_trace (DownWriteStep.Sums sum) in
@@ -158,7 +152,6 @@ module _ (c : Config) (lim : IsWithin c) (i value : ℕ) (hook : HookAnswer) (ea
             ]
       ]
 
-  -- each event of the closing of a level keeps what the trace says of it
   pub closing_event : (s : DownWriteStep) → ClosingSays c i s earlier → AfterClosing s
   closing_event (DownWriteStep.Enters transition) h = (
     enter_goes (closing_trace (DownWriteStep.Enters transition))

@@ -113,7 +113,6 @@ StepSays c holder (FreezeStep.Releases answer) trace added = Answers c holder an
 abbrev pub FreezeAt : Config → ℕ → Holder → List Traced → Phase → List Action → Type 0
 FreezeAt c t holder trace phase added = (step : FreezeStep) × (phase ≡ freeze_at c t holder step) × StepSays c holder step trace added
 
--- the mark of a node's word is its dirty bit
 mark_bit : (word : ℕ) → (dirty_in word == 1) ≡ has_flag word 4
 mark_bit word =
     elim (eqb_tells (dirty_in word) 1) [
@@ -165,7 +164,6 @@ fails_says c holder (suc (suc zero)) code trace added h said = (2, UpWriteStep.C
 fails_says c holder (suc (suc (suc zero))) code trace added h said = (3, UpWriteStep.ClearsBlock, refl, h, said)
 fails_says c holder (suc (suc (suc (suc i)))) code trace added h said = absurd h
 
--- the number below the next one
 below_next : (i : ℕ) → suc i - 1 ≡ i
 below_next i = omega arith
 
@@ -201,7 +199,6 @@ module _ (c : Config) (lim : IsWithin c) (t : ℕ) (holder : Holder) (value : �
         | inr f ↦ rw f ((FreezeStep.LocksAgain, refl, h), inl (rw f refl))
       ]
 
-  -- the stage is found 0, or not
   loads_stage : (hook : HookAnswer) → StepSays c holder FreezeStep.LoadsStage earlier added → After hook FreezeStep.LoadsStage
   loads_stage hook h =
       elim (eqb_tells value 0) [
@@ -216,7 +213,6 @@ module _ (c : Config) (lim : IsWithin c) (t : ℕ) (holder : Holder) (value : �
         ]
       ]
 
-  -- its holder is found to hold a freeze, or not
   loads_holders : (hook : HookAnswer) → StepSays c holder FreezeStep.LoadsHolders earlier added → After hook FreezeStep.LoadsHolders
   loads_holders hook h =
       found_cases (freeze_of c t holder FreezeStep.LoadsHolders) (holders_in value)
@@ -224,7 +220,6 @@ module _ (c : Config) (lim : IsWithin c) (t : ℕ) (holder : Holder) (value : �
       (λ own. (FreezeStep.Releases (Err GateError.Busy), refl, (h.0, inr (ap (λ b. b || found_held holder earlier) own))))
       (λ other. (FreezeStep.Holds (holders_in value), refl, rw h.1 h.0))
 
-  -- the superblock's flag is found clear, or set
   loads_superblock : (hook : HookAnswer) → StepSays c holder FreezeStep.LoadsSuperblock earlier added → After hook FreezeStep.LoadsSuperblock
   loads_superblock hook h =
       elim (cases_Bool (value == 0)) [
@@ -246,7 +241,6 @@ module _ (c : Config) (lim : IsWithin c) (t : ℕ) (holder : Holder) (value : �
       (closing_event c lim i value hook earlier s h.4)
       )
 
-  -- another node comes, or the marks are cleared
   node_says : (marks : ClearMarks) (trace : List Traced) (actions : List Action) →
       HasAdded (two_levels_closed trace) false trace actions →
       Says (FreezeAt c t holder) c (Op.Freeze holder) trace
@@ -269,7 +263,6 @@ module _ (c : Config) (lim : IsWithin c) (t : ℕ) (holder : Holder) (value : �
         | inr f ↦ rw (mark_bit value ∙ f) (node_says marks trace added (rw f h.0, h.1, h.2))
       ]
 
-  -- the file system has answered `sync`: stage 3 is stored, or 0
   sets_fs : (hook : HookAnswer) → StepSays c holder FreezeStep.SetsFs earlier added → After hook FreezeStep.SetsFs
   sets_fs (Ok answer) h = (
     FreezeStep.Closes (closing_at c 3 (DownWriteStep.Enters Transition.Loads)),
@@ -283,7 +276,6 @@ module _ (c : Config) (lim : IsWithin c) (t : ℕ) (holder : Holder) (value : �
         (rw h.2 (ap (λ (l : List Action). Action.Stage 0 ∷ l) h.0)) (inl (refl, refl, refl)),
   )
 
-  -- the file system has answered `freeze_fs`: stage 4 is stored, or 0
   sets_complete : (hook : HookAnswer) → StepSays c holder FreezeStep.SetsComplete earlier added → After hook FreezeStep.SetsComplete
   sets_complete (Ok answer) h = (FreezeStep.Holds nobody, refl, rw (h.1.1, h.1.0) (ap (λ (l : List Action). Action.Stage 4 ∷ l) h.0))
   sets_complete (Err code) h = (
@@ -331,7 +323,6 @@ module _ (c : Config) (lim : IsWithin c) (t : ℕ) (holder : Holder) (value : �
   reopens hook (suc (suc zero)) h = rw h.1 (ap (λ (l : List Action). Action.Reopen 3 ∷ l) h.0)
   reopens hook (suc (suc (suc i))) h = absurd h
 
-  -- an event of the reopening of a level
   reopening_event : (hook : HookAnswer) (code i : ℕ) (s : UpWriteStep) → IsReopening i s earlier added →
       ReadAnswer WordName.Stage (Err code) earlier → After hook (FreezeStep.Reopens (record { level = i; step = s }) code)
   reopening_event hook code zero s h said = absurd h
@@ -345,7 +336,6 @@ module _ (c : Config) (lim : IsWithin c) (t : ℕ) (holder : Holder) (value : �
     (suc i, UpWriteStep.Exits Transition.Loads, refl, reopens hook i h, inr said),
   )
 
-  -- each event of a freeze keeps what its trace says
   freeze_event : (hook : HookAnswer) (step : FreezeStep) → StepSays c holder step earlier added → After hook step
   freeze_event hook FreezeStep.Locks h = locks hook h
   freeze_event hook FreezeStep.LoadsStage h = loads_stage hook h
@@ -370,7 +360,6 @@ module _ (c : Config) (lim : IsWithin c) (t : ℕ) (holder : Holder) (value : �
       subst (λ (x : UpWrite). After hook (FreezeStep.Reopens x code)) (sym h.2) (reopening_event hook code h.0 h.1 h.3 h.4)
   freeze_event hook (FreezeStep.Releases answer) h = (lock_leaves c holder answer value hook earlier added h, tt)
 
--- so it is kept along every trace of a freeze
 pub freeze_kept : (c : Config) → IsWithin c → (t : ℕ) (holder : Holder) → Kept (FreezeAt c t holder) c t (Op.Freeze holder)
 freeze_kept c lim t holder = record {
   first = (FreezeStep.Locks, refl, ((refl, (refl, refl), refl), refl));
@@ -385,7 +374,6 @@ pub freeze_tells : (c : Config) (holder : Holder) → IsWithin c → (t : ℕ) (
     Tells c (Op.Freeze holder) trace (course_of c t (Op.Freeze holder) trace).comes (course_of c t (Op.Freeze holder) trace).added
 freeze_tells c holder lim t trace h = tells (FreezeAt c t holder) c t (Op.Freeze holder) (freeze_kept c lim t holder) trace h
 
--- and is as short as it is to be
 pub freeze_short : (c : Config) (holder : Holder) → IsWithin c → (t : ℕ) (trace : List Traced) → IsTrace c t (Op.Freeze holder) trace →
     IsShort (most_events c (Op.Freeze holder)) trace
 freeze_short c holder lim t trace h = is_short (FreezeAt c t holder) c t (Op.Freeze holder) (freeze_kept c lim t holder) trace h

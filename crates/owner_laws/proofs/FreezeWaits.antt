@@ -20,18 +20,15 @@ use Rattle.gate_world.specs.declared.{config.Config.Config, work.Phase.Phase}
 use Rattle.gate_frames.proofs.{LevelWorlds.level_right, Owners.umount_taken}
 use Rattle.owner_laws.proofs.FreezeCauses.{level_ends}
 
--- a state in which a callback is queued is past the grace period
 queued_passed : (s : GpState) → is_queued s ≡ true → is_passed s ≡ true
 queued_passed GpState.Exit h = refl
 queued_passed GpState.Replay h = refl
 queued_passed other h = absurd (cc)
 
--- so is GP_PASSED
 state_passed : (s : GpState) → Some s ≡ Some GpState.Passed → is_passed s ≡ true
 state_passed GpState.Passed h = refl
 state_passed other h = absurd (cc)
 
--- a closing has at its own level the role of its step
 closing_role : (x : Freeze) (d : DownWrite) (s : DownWriteStep) →
     sync_role_of d.level (Some (Phase.Freezes (at_freeze x (FreezeStep.Closes (at_down_write d s))))) ≡ down_write_role s
 closing_role x d s = rw (eq-eqb d.level d.level refl) refl
@@ -42,11 +39,9 @@ module _ (c : Config) (w : World) (earlier : List World) (good : IsGood c w) (t 
   Waits s n = HasReason c w earlier t (Phase.Freezes (at_freeze x s)) (map_next Phase.Freezes n)
 
   module _ (d : DownWrite) (one : 1 ≤ d.level) (three : d.level ≤ 3) where
-    -- the passing of a task is no wait
     passed_waits : (s : FreezeStep) (g : Grace) → Waits s (after_closing x d.level (sections_awaited d (passed_on g)))
     passed_waits s g = elim (cases_Bool (nat_lt (g.task + 1) g.tasks)) [ inl f ↦ rw f tt | inr f ↦ rw f tt ]
 
-    -- a section word that is odd is one of another task, which is inside a section
     inside_found : (g : Grace) → g.task < c.tasks →
         (w.views t).phase ≡ Some (Phase.Freezes (at_freeze x (FreezeStep.Closes (at_down_write d (DownWriteStep.AwaitsSections g))))) →
         w.words.section g.task % 2 ≡ 1 → HasCulprit c w t (Phase.Freezes (at_freeze x (FreezeStep.Closes (at_down_write d (DownWriteStep.AwaitsSections g)))))
@@ -61,11 +56,9 @@ module _ (c : Config) (w : World) (earlier : List World) (good : IsGood c w) (t 
 
     module _ (s : DownWriteStep) (e : (w.views t).phase ≡ Some (Phase.Freezes (at_freeze x (FreezeStep.Closes (at_down_write d s)))))
         (has : down_write_role s ≡ Entered) where
-      -- what holds at its level
       right : SyncLevelHolds c.tasks (level_in w d.level)
       right = level_right c w good d.level one three
 
-      -- its role there
       role_there : sync_role_of d.level (w.views t).phase ≡ Entered
       role_there = ap (sync_role_of d.level) e ∙ (closing_role x d s ∙ has)
 
@@ -99,7 +92,6 @@ module _ (c : Config) (w : World) (earlier : List World) (good : IsGood c w) (t 
           ]
         ]
 
-    -- each step of the closing of a level
     closing_waits : (hook : HookAnswer) (s : DownWriteStep) →
         (w.views t).phase ≡ Some (Phase.Freezes (at_freeze x (FreezeStep.Closes (at_down_write d s)))) → d.processors ≡ c.processors →
         DownWriteStepFits c s → DownWriteCause c t w earlier d.level s →
@@ -133,11 +125,9 @@ module _ (c : Config) (w : World) (earlier : List World) (good : IsGood c w) (t 
   reopening_waits s u UpWriteStep.ClearsBlock level code found = tt
   reopening_waits s u (UpWriteStep.Exits transition) level code found = exits_waits s u level code (transition_after on_exit transition found)
 
-  -- nor one of the clearing of the marks
   clearing_waits : (s : FreezeStep) (marks : ClearMarks) (found : ℕ) → Waits s (after_clearing x (clear_after marks found).0)
   clearing_waits s marks found = elim (cases_Bool (nat_lt (marks.node + 1) marks.nodes)) [ inl h ↦ rw h tt | inr h ↦ rw h tt ]
 
-  -- each step of a freeze
   pub freeze_waits : (hook : HookAnswer) (s : FreezeStep) → (w.views t).phase ≡ Some (Phase.Freezes (at_freeze x s)) → FreezeFits c x.holder s →
       FreezeCause c t w earlier x.holder s →
       HasReason c w earlier t (Phase.Freezes (at_freeze x s))

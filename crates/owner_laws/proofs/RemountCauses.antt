@@ -33,7 +33,6 @@ of_mount_begins : (t m : ℕ) (w : World) (earlier : List World) → words_read 
     mount_summed (w.views t).phase ≡ Some m → AreOfMount t m (moments_of_sum t (w ∷ earlier))
 of_mount_begins t m w earlier e at = subst (AreOfMount t m) (sym (sum_begins t w earlier e)) (at, tt)
 
--- and where it goes on
 of_mount_goes : (t m k : ℕ) (w : World) (earlier : List World) → words_read (w.views t).phase ≡ Some k →
     mount_summed (w.views t).phase ≡ Some m → AreOfMount t m (moments_of_sum t earlier) → AreOfMount t m (moments_of_sum t (w ∷ earlier))
 of_mount_goes t m k w earlier e at h =
@@ -44,7 +43,6 @@ of_mount_goes t m k w earlier e at h =
 
 -- a task whose view another entry leaves alone
 module _ (c : Config) (t : ℕ) (w next : World) (earlier : List World) (good : IsGood c next) (x : Remount) where
-  -- the cause of an answer stays
   answer_stays : (answer : Result Reply GateError) → (next.views t).phase ≡ Some (Phase.Remounts (at_remount x (RemountStep.Releases answer))) →
       RemountAnswerCause c t w earlier answer → RemountAnswerCause c t next (w ∷ earlier) answer
   answer_stays answer e h r =
@@ -57,7 +55,6 @@ module _ (c : Config) (t : ℕ) (w next : World) (earlier : List World) (good : 
             ]
       ]
 
-  -- so does the cause of each step
   pub remount_stays : (s : RemountStep) → RemountFits c s → (next.views t).phase ≡ Some (Phase.Remounts (at_remount x s)) →
       (w.views t).phase ≡ Some (Phase.Remounts (at_remount x s)) →
       ((m : ℕ) → all_counted c m w ≡ 0 → all_counted c m next ≡ 0 → next.words.count m ≡ w.words.count m) → RemountCause c t w earlier s →
@@ -78,22 +75,18 @@ module _ (c : Config) (t : ℕ) (w next : World) (earlier : List World) (after :
   abbrev CauseAfter : RemountStep → Type 0
   CauseAfter s = RemountCause c t next (w ∷ earlier) s
 
-  -- a remount that is done is not refused as busy
   done_own : CauseAfter (RemountStep.Releases (Ok Reply.Unit))
   done_own r = absurd (cc)
 
-  -- nor is one that the file system refused
   hook_own : (code : ℕ) → CauseAfter (RemountStep.Releases (Err (GateError.Hook code)))
   hook_own code r = absurd (cc)
 
-  -- nor is one whose state was found
   from_own : (wanted found : Bool) → CauseAfter (remount_from wanted found)
   from_own true true = done_own
   from_own true false = tt
   from_own false true = tt
   from_own false false = done_own
 
-  -- a step to another mount, to a mark or to a hold to be cleared says nothing
   past_mount_own : (m : ℕ) (held : MountSet) → CauseAfter (past_mount x.mounts m held)
   past_mount_own m held =
       by_bool (nat_lt (m + 1) x.mounts) (λ b. CauseAfter (if b then RemountStep.LoadsFlags (m + 1) held else RemountStep.LoadsRemovedAgain held)) tt tt

@@ -45,7 +45,6 @@ pub not_frozen : (w : Words) (set sealing : ℕ) → w.stage ≡ 0 →
     is_frozen_whole (record w { remount = set; sb = sealing }) ≡ is_frozen_whole w
 not_frozen w set sealing z = rw (ne_eqb w.stage 4 (λ q. omega (arith, z, q))) refl
 
--- the mark's bit of a word is its mark
 mark_set : (word : ℕ) → has_flag word 4 ≡ true → dirty_in word ≡ 1
 mark_set word h =
     elim (eqb_tells (bit_and word 4) 4) [
@@ -60,11 +59,9 @@ mark_clear word h =
       | inr z ↦ absurd (true≢false (sym (eq-eqb (bit_and word 4) 4 (omega (arith, and_pow word 2, z.1))) ∙ h))
     ]
 
--- at stage 0 of a writable superblock the tree isn't sealed
 sealed_writable : (stage : ℕ) → stage ≡ 0 → sealed_by 0 stage ≡ 0
 sealed_writable stage z = rw z refl
 
--- a clearing has charged nothing
 no_charge : (n : ℕ) (role : TreeRole) → role ≡ Clearing n → HasNoCharge role
 no_charge n role is = record { blocks = ap charge is; removed = ap removal is; children = λ d. ap (child_charge d) is }
 
@@ -114,7 +111,6 @@ module _ (c : Config) (lim : IsWithin c) (w : World) (good : IsGood c w) (t : �
         total_at c.tasks y (λ z. (at_mount m (w.views z)).held + past_flags (at_mount m (w.views z)).role) ly,
       )
 
-  -- the root has no mark
   root_clean : CleanBelow 1 (marks_of w.words)
   root_clean n below =
       let first : n ≡ 0 = omega (arith, below) in
@@ -329,7 +325,6 @@ module _ (c : Config) (lim : IsWithin c) (w : World) (good : IsGood c w) (t : �
       (after.0, ((lt, k.0), after.1))
   sets_writable (Err code) e = gives_back (Err code) RemountStep.SetsWritable e (Err (GateError.Hook code)) refl refl (λ m. refl) refl (Some 0) None refl
 
-  -- clears the mark of a node, under `remount`
   pub clears_node : (hook : HookAnswer) (n : ℕ) → IsHere (RemountStep.ClearsMark n) → Keeps hook (RemountStep.ClearsMark n)
   clears_node hook n e =
       let s : RemountStep = RemountStep.ClearsMark n in
@@ -415,7 +410,6 @@ module _ (c : Config) (lim : IsWithin c) (w : World) (good : IsGood c w) (t : �
   still_aside hook e =
       left_alone c w t lt Stages w.words (tried hook w.words.umount RemountStep.Locks) (refl, refl, refl, refl) (sym (ap stage_role_of e)) (good Stages)
 
-  -- takes `umount` where it is free; meets: its owner gives it back last
   pub locks : (hook : HookAnswer) → IsHere RemountStep.Locks → Keeps hook RemountStep.Locks
   locks hook e =
       let f : FitsHere RemountStep.Locks = here_fits c w good t lt x RemountStep.Locks e in
@@ -445,7 +439,6 @@ module _ (c : Config) (lim : IsWithin c) (w : World) (good : IsGood c w) (t : �
   still_load hook name s s' e o stays on fit role =
       load_event c w good t lt x s e name hook s' o stays on fit (λ m lm. mount_stays c w good t lt x s e m lm (remount_role m s') (role m))
 
-  -- loads the stage; meets: whoever changes it owns `umount`
   pub loads_stage : (hook : HookAnswer) → IsHere RemountStep.LoadsStage → Keeps hook RemountStep.LoadsStage
   loads_stage hook e =
       elim (eqb_tells w.words.stage 0) [
@@ -469,14 +462,12 @@ module _ (c : Config) (lim : IsWithin c) (w : World) (good : IsGood c w) (t : �
       CleanBelow 0 (marks_of w.words)
   from_state stage sb a b = owner_on (Some 0) None stage sb w.words.stage w.words.sb (marks_of w.words) a b
 
-  -- it holds where the state was found, as it was asked for or not
   state_stays : (ro b : Bool) → w.words.stage ≡ 0 → (b ≡ false → w.words.sb ≡ 0) → FromState (remount_from ro b)
   state_stays true true z none = ((refl, refl, refl), from_state None None tt tt, λ m. refl)
   state_stays true false z none = ((refl, refl, refl), from_state (Some 0) (Some 0) z (none refl), λ m. refl)
   state_stays false true z none = ((refl, refl, refl), from_state (Some 0) None z tt, λ m. refl)
   state_stays false false z none = ((refl, refl, refl), from_state None None tt tt, λ m. refl)
 
-  -- loads the superblock's flag
   pub loads_superblock : (hook : HookAnswer) → IsHere RemountStep.LoadsSuperblock → Keeps hook RemountStep.LoadsSuperblock
   loads_superblock hook e =
       let k : (w.words.stage ≡ 0) × Unit {0} = here_knows c w good t lt x RemountStep.LoadsSuperblock e in
@@ -531,7 +522,6 @@ module _ (c : Config) (lim : IsWithin c) (w : World) (good : IsGood c w) (t : �
             (left_bare held e m lm (has_mount held m) refl)))
       ]
 
-  -- clears HOLD of the lowest mount that it holds, where a file was found removed
   pub leaves_holds : (hook : HookAnswer) (held : MountSet) → IsHere (RemountStep.LeavesHolds held) → Keeps hook (RemountStep.LeavesHolds held)
   leaves_holds hook held e =
       let f : FitsHere (RemountStep.LeavesHolds held) = here_fits c w good t lt x (RemountStep.LeavesHolds held) e in
@@ -544,7 +534,6 @@ module _ (c : Config) (lim : IsWithin c) (w : World) (good : IsGood c w) (t : �
       (leave_holds_fits c rest (leaves_below c.mounts held f.5.0 f.5.1)) refl (leave_holds_stays x.nodes rest)
       (leave_holds_on x.nodes w.words.stage w.words.sb (marks_of w.words) k.0 k.1 rest)
 
-  -- each of them
   remount_event : (hook : HookAnswer) (s : RemountStep) → IsHere s → Keeps hook s
   remount_event hook RemountStep.Locks e = locks hook e
   remount_event hook RemountStep.LoadsStage e = loads_stage hook e

@@ -14,7 +14,6 @@ use Rattle.gate_world.specs.{Configs.{IsWithin, extents_of}, Fits.{ActionFits, m
 use Rattle.gate_world.specs.{Views.phase_after, declared.{config.Config.Config, work.Phase.Phase}}
 use Rattle.gate_frames.proofs.Keeps.{by_bool}
 
--- a mount joins the set, and the lowest leaves it
 pub joins_below : (m : ℕ) (held : MountSet) → m < 8 → AllBelow m held → AllBelow (m + 1) (with_mount held m)
 joins_below m held lm h = (
   joins_within held m lm h.0,

@@ -7,7 +7,6 @@ use Rattle.gate_frames.proofs.{Keeps.{none_agree, word_among, PhaseKeeps, OpKeep
 use Rattle.owner_laws.proofs.{RemountCauses.{remount_stays, remount_own}, RemountEvents.remount_keeps, RemountFits.{remount_there, remount_acts, remount_goes}}
 use Rattle.owner_laws.proofs.{RemountRuns.remount_runs, RemountTraces.{RemountAt, remount_kept, remount_restores}, RemountWaits.remount_waits}
 
--- of each of its phases
 pub remount_phase : (c : Config) (x : Remount) → PhaseKeeps c (Phase.Remounts x)
 remount_phase c x = record {
   step = λ lim w good t lt hook e. remount_keeps c lim w good t lt hook x e;
@@ -26,7 +25,6 @@ remount_phase c x = record {
   reasons = λ lim w earlier good t lt hook e cause. remount_waits c w earlier good t lt x hook x.step e cause;
 }
 
--- of its beginning and its trace
 pub remount_op : (c : Config) (ro : Bool) → OpKeeps c (Op.RemountSb ro)
 remount_op c ro = record {
   fits = λ t held levels there order room. (refl, refl, refl, refl, order, tt);

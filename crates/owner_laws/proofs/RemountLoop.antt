@@ -67,31 +67,26 @@ past_node_stage nodes n there =
 
 -- a remount in its loop, or at the end of one, goes on at stage 0 of a writable superblock
 module _ (nodes stage sb : ℕ) (dirty : ℕ → ℕ) (a : stage ≡ 0) (b : sb ≡ 0) where
-  -- to another step of its loop
   pub loop_on : IsAlike in_loop in_loop × ((stage ≡ 0) × (sb ≡ 0)) × CleanBelow 0 dirty
   loop_on = owner_on (Some 0) (Some 0) (Some 0) (Some 0) stage sb dirty a b
 
-  -- past a mount
   past_mount_on : (mounts m : ℕ) (held : MountSet) → GoesOn in_loop nodes (past_mount mounts m held) stage sb dirty
   past_mount_on mounts m held =
       by_bool (nat_lt (m + 1) mounts)
       (λ z. GoesOn in_loop nodes (if z then RemountStep.LoadsFlags (m + 1) held else RemountStep.LoadsRemovedAgain held) stage sb dirty)
       loop_on loop_on
 
-  -- where it gives up
   pub give_up_on : (m : ℕ) (held : MountSet) → GoesOn in_loop nodes (give_up m held) stage sb dirty
   give_up_on m held =
       by_bool (held.bits == 0) (λ z. GoesOn in_loop nodes (if z then RemountStep.Releases (Err GateError.Busy) else RemountStep.GivesUp m held) stage sb dirty)
       (owner_on (Some 0) (Some 0) None None stage sb dirty tt tt) loop_on
 
-  -- where a file was found removed
   pub leave_holds_on : (held : MountSet) → GoesOn in_loop nodes (leave_holds held) stage sb dirty
   leave_holds_on held =
       by_bool (held.bits == 0)
       (λ z. GoesOn in_loop nodes (if z then RemountStep.Releases (Err GateError.Busy) else RemountStep.LeavesHolds held) stage sb dirty)
       (owner_on (Some 0) (Some 0) None None stage sb dirty tt tt) loop_on
 
-  -- where holds are to be cleared under `remount`
   pub let_go_on : (held : MountSet) → CleanBelow 1 dirty → GoesOn (Remounting 0 1) nodes (let_go held) stage sb dirty
   let_go_on held clean =
       let there : IsAlike (Remounting 0 1) (Remounting 0 1) × ((stage ≡ 0) × (sb ≡ 0)) × CleanBelow 1 dirty = (alike_same, (a, b), clean) in
@@ -115,7 +110,6 @@ module _ (c : Config) (lim : IsWithin c) (w : World) (good : IsGood c w) (t : �
   abbrev FitsHere : RemountStep → Type 0
   FitsHere s = PhaseFits c t (held_at (w.views t)) (holds_level (w.views t)) (Phase.Remounts (at_remount x s))
 
-  -- the mount at which the loop stands isn't held yet
   not_yet : (m : ℕ) (held : MountSet) → AllBelow m held → has_mount held m ≡ false
   not_yet m held h = elim (cases_Bool (has_mount held m)) [ inl q ↦ absurd (omega (arith, h.1 m q)) | inr q ↦ q ]
 

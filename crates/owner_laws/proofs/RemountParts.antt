@@ -83,7 +83,6 @@ GoesOn old nodes s stage sb dirty =
 abbrev pub in_loop : StageRole
 in_loop = Owning (Some 0) (Some 0)
 
--- a role is like itself
 pub alike_same : {r : StageRole} → IsAlike r r
 alike_same {r} = record { owns_same = refl; freezes_same = refl; remounts_same = refl; closed_same = refl; passed_same = refl }
 
@@ -96,14 +95,12 @@ owner_on old_stage old_sb new_stage new_sb stage sb dirty a b = (
   λ m below. absurd (omega (arith, below)),
 )
 
--- a remount closes no level
 pub remount_closes_none : (i nodes : ℕ) (s : RemountStep) → stage_sums i (remount_stage_role nodes s) ≡ 0
 remount_closes_none i nodes RemountStep.Locks = refl
 remount_closes_none i nodes s = refl
 
 module _ (c : Config) (w : World) (good : IsGood c w) (t : ℕ) (lt : t < c.tasks) (x : Remount) (s : RemountStep)
     (e : (w.views t).phase ≡ Some (Phase.Remounts (at_remount x s))) where
-  -- its phase fits its task's accesses
   pub here_fits : PhaseFits c t (held_at (w.views t)) (holds_level (w.views t)) (Phase.Remounts (at_remount x s))
   here_fits = subst (Fits c t (held_at (w.views t)) (holds_level (w.views t))) e (good Fitting t lt)
 
@@ -124,7 +121,6 @@ module _ (c : Config) (w : World) (good : IsGood c w) (t : ℕ) (lt : t < c.task
       MountHolds c.tasks c.processors f set sealing (w.words.count m)
       (update (λ y. at_mount m (w.views y)) t (record (at_mount m (w.views t)) { role = r }))
 
-  -- the same, where this task's role is as it was
   pub role_stays : (m : ℕ) (f set sealing : ℕ) (r : Role) → r ≡ remount_role m s →
       MountHolds c.tasks c.processors f set sealing (w.words.count m) (λ y. at_mount m (w.views y)) → Mount m f set sealing r
   role_stays m f set sealing r q h =
@@ -132,7 +128,6 @@ module _ (c : Config) (w : World) (good : IsGood c w) (t : ℕ) (lt : t < c.task
       (ap (update (λ y. at_mount m (w.views y)) t) (view_as refl refl refl (q ∙ sym (role_was m))) ∙
       update_same (λ y. at_mount m (w.views y)) t) h
 
-  -- it holds where nothing there has changed
   pub mount_stays : (m : ℕ) → m < c.mounts → (r : Role) → r ≡ remount_role m s → Mount m (w.words.flags m) w.words.remount w.words.sb r
   mount_stays m lm r q = role_stays m (w.words.flags m) w.words.remount w.words.sb r q (good (AtMount m) lm)
 
@@ -143,11 +138,9 @@ module _ (c : Config) (w : World) (good : IsGood c w) (t : ℕ) (lt : t < c.task
       (level_added_by v.events ≡ level_added_by (w.views t).events) × (level_taken_by v.events ≡ level_taken_by (w.views t).events) ×
       (has_open v ≡ has_open (w.views t))
 
-  -- the same, as the levels read it
   at_levels : (v : View) → SameCounts v → SameLevelCounts (w.views t) v
   at_levels v same = record { held_same = same.1; added_same = same.4; taken_same = same.5 }
 
-  -- its phase is off the levels
   off_now : IsOffLevels (w.views t).phase
   off_now = subst IsOffLevels (sym e) (record { counts_not = λ i. refl; apart = λ i. refl; outside = refl })
 
@@ -162,7 +155,6 @@ module _ (c : Config) (w : World) (good : IsGood c w) (t : ℕ) (lt : t < c.task
   abbrev pub TreeIsRight : Words → View → Type 0
   TreeIsRight ws v = Holds c (record { words = ws; views = update w.views t v }) Tree
 
-  -- what it is doing at the tree
   pub tree_was : tree_roles w t ≡ remount_tree_role x.nodes s
   tree_was = ap (tree_role_of (w.views t).trace) e
 
@@ -286,7 +278,6 @@ module _ (c : Config) (w : World) (good : IsGood c w) (t : ℕ) (lt : t < c.task
       closing_same = λ i. ap (closing i) is ∙ (remount_closes_none i x.nodes s' ∙ sym (remount_closes_none i x.nodes s));
     })
 
-    -- at the tree it does what the step that comes says
     tree_now : tree_role_of v.trace v.phase ≡ remount_tree_role x.nodes s'
     tree_now = ap (tree_role_of v.trace) is
 
@@ -334,7 +325,6 @@ module _ (c : Config) (w : World) (good : IsGood c w) (t : ℕ) (lt : t < c.task
               refl refl refl still.closing_same same refl,
         )
 
-    -- a store of `remount` or of the superblock's flags
     pub stores : (set sealing : ℕ) (b : Bool) (role : TreeRole) →
         is_frozen_whole (record w.words { remount = set; sb = sealing }) ≡ is_frozen_whole w.words →
         Stays x.nodes s' set role → TreeIsRight (record w.words { remount = set; sb = sealing }) v →

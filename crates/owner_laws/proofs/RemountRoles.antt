@@ -10,7 +10,6 @@ use Rattle.gate_world.specs.Remounts.{giving_role, remount_role, loop_role, held
 use Rattle.gate_frames.proofs.Keeps.{by_bool}
 use mathlib.Core.Bool.{true}
 
--- the roles of a remount seek no access
 loop_seeks : (a b : Bool) → SeeksNone (loop_role a b)
 loop_seeks true b = (refl, refl)
 loop_seeks false true = (refl, refl)
@@ -42,7 +41,6 @@ remount_seeks m (RemountStep.ClearsHold held) = held_seeks (has_mount held m)
 remount_seeks m (RemountStep.GivesUp at held) = giving_seeks (m == at) (has_mount held m)
 remount_seeks m s = (refl, refl)
 
--- which mounts the loop has passed
 pub passed_here : (m : ℕ) → nat_lt m (m + 1) ≡ true
 passed_here m = grind (arith, nat_tests)
 
@@ -74,7 +72,6 @@ past_mount_role mounts at held m lm =
       ]))
     ]
 
--- where no mount is held, none is to be let go
 pub let_go_role : (m : ℕ) (held : MountSet) → remount_role m (let_go held) ≡ held_role (has_mount held m)
 let_go_role m held =
     elim (eqb_tells held.bits 0) [
@@ -100,14 +97,12 @@ give_up_role m at held =
       | inr z ↦ rw z.0 refl
     ]
 
--- the mount of the sum, and the others
 pub summing_here : (m : ℕ) (sum : Sum) (r : Role) → summing_role (m == m) sum r ≡ Summing sum.words sum.total
 summing_here m sum r = rw (eq-eqb m m refl) refl
 
 pub summing_there : (m n : ℕ) (sum : Sum) (r : Role) → (n ≡ m → ⊥) → summing_role (n == m) sum r ≡ r
 summing_there m n sum r ne = rw (ne_eqb n m ne) refl
 
--- the file marks no role
 pub past_node_role : (nodes n m : ℕ) → remount_role m (past_node nodes n) ≡ Out
 past_node_role nodes n m =
     by_bool (nat_lt (n + 1) nodes) (λ b. remount_role m (if b then RemountStep.ClearsMark (n + 1) else RemountStep.SetsReadOnly) ≡ Out) refl refl

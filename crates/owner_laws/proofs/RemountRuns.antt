@@ -19,12 +19,10 @@ remount_words w x (Ok answer) RemountStep.SetsReadOnly k i = (refl, refl, refl, 
 remount_words w x (Err code) RemountStep.SetsReadOnly k i = (refl, refl, refl, refl)
 remount_words w x hook s k i = (refl, refl, refl, refl)
 
--- what comes after one is inside no section
 remount_outside : (next : Next Remount) → inside (phase_after (map_next Phase.Remounts next)) ≡ 0
 remount_outside (Next.Go x) = refl
 remount_outside other = refl
 
--- and has no part in a level
 remount_apart : (i : ℕ) (next : Next Remount) → sync_role_of i (phase_after (map_next Phase.Remounts next)) ≡ IsApart
 remount_apart i (Next.Go x) = refl
 remount_apart i other = refl

@@ -71,17 +71,14 @@ StepSays c ro (RemountStep.Releases answer) trace added = Answers c ro answer tr
 abbrev pub RemountAt : Config → ℕ → Bool → List Traced → Phase → List Action → Type 0
 RemountAt c t ro trace phase added = (step : RemountStep) × (phase ≡ remount c t ro step) × StepSays c ro step trace added
 
--- nothing more was found than was found last
 or_false : (b : Bool) → (b || false) ≡ b
 or_false true = refl
 or_false false = refl
 
--- a remount that is busy has added nothing
 busy_adds : (ro : Bool) (trace : List Traced) → actions_of (Op.RemountSb ro) (Err GateError.Busy) trace ≡ []
 busy_adds true trace = refl
 busy_adds false trace = refl
 
--- a sum with one count more
 sum_more : (k value s : ℕ) (loads : List (ℕ × ℕ)) → s ≡ sum_loaded loads → wrap_add s value ≡ sum_loaded ((k, value) ∷ loads)
 sum_more k value s loads h = omega (arith, h, sum_by-cons (λ (x : ℕ × ℕ). x.1) (k, value) loads)
 
@@ -144,7 +141,6 @@ module _ (c : Config) (lim : IsWithin c) (t : ℕ) (ro : Bool) (value : ℕ) (ea
   abbrev After : HookAnswer → RemountStep → Type 0
   After hook step = SaysAfter (RemountAt c t ro) c (Op.RemountSb ro) (remount c t ro step) value hook earlier added
 
-  -- `umount` is tried, and nothing is loaded
   locks : (hook : HookAnswer) → StepSays c ro RemountStep.Locks earlier added → After hook RemountStep.Locks
   locks hook h =
       elim (cases_Bool (value == 0)) [
@@ -152,7 +148,6 @@ module _ (c : Config) (lim : IsWithin c) (t : ℕ) (ro : Bool) (value : ℕ) (ea
         | inr f ↦ rw f ((RemountStep.Locks, refl, (rw f h.0, h.1)), rw f h.0)
       ]
 
-  -- the stage is found 0, or not
   loads_stage : (hook : HookAnswer) → StepSays c ro RemountStep.LoadsStage earlier added → After hook RemountStep.LoadsStage
   loads_stage hook h =
       elim (cases_Bool (value == 0)) [
@@ -160,7 +155,6 @@ module _ (c : Config) (lim : IsWithin c) (t : ℕ) (ro : Bool) (value : ℕ) (ea
         | inr f ↦ rw f (RemountStep.Releases (Err GateError.Busy), refl, (h.0 ∙ sym (busy_adds ro (longer hook RemountStep.LoadsStage)), inl (rw f refl)))
       ]
 
-  -- the superblock's flag is found set, or clear
   loads_superblock : (hook : HookAnswer) → StepSays c ro RemountStep.LoadsSuperblock earlier added → After hook RemountStep.LoadsSuperblock
   loads_superblock hook h = (
     remount_from ro (not (value == 0)),
@@ -169,7 +163,6 @@ module _ (c : Config) (lim : IsWithin c) (t : ℕ) (ro : Bool) (value : ℕ) (ea
         h.2 h.3,
   )
 
-  -- the file system has answered, on the way to writable
   sets_writable : (hook : HookAnswer) → StepSays c ro RemountStep.SetsWritable earlier added → After hook RemountStep.SetsWritable
   sets_writable (Ok answer) h = (RemountStep.Releases (Ok Reply.Unit), refl, (rw (h.1, h.2) (ap (λ (l : List Action). Action.SbRw ∷ l) h.0), tt))
   sets_writable (Err code) h = ((rw h.1 h.0, rw h.1 (inl (refl, refl, refl))), tt)
@@ -274,7 +267,6 @@ module _ (c : Config) (lim : IsWithin c) (t : ℕ) (ro : Bool) (value : ℕ) (ea
         (rw h.3 (ap (λ (l : List Action). Action.SbRo ∷ l) h.0), h.1, h.2),
   )
 
-  -- a mark was found set, or clear
   clears_mark : (hook : HookAnswer) (n : ℕ) → StepSays c ro (RemountStep.ClearsMark n) earlier added → After hook (RemountStep.ClearsMark n)
   clears_mark hook n h =
       elim (cases_Bool (has_flag value 4)) [
@@ -300,7 +292,6 @@ module _ (c : Config) (lim : IsWithin c) (t : ℕ) (ro : Bool) (value : ℕ) (ea
     (rw h.1 (ap (λ (l : List Action). Action.SbRw ∷ l) h.0), rw h.1 (inl (refl, refl, refl))),
   )
 
-  -- each event of a remount keeps what its trace says
   remount_event : (hook : HookAnswer) (step : RemountStep) → StepSays c ro step earlier added → After hook step
   remount_event hook RemountStep.Locks h = locks hook h
   remount_event hook RemountStep.LoadsStage h = loads_stage hook h
@@ -334,7 +325,6 @@ module _ (c : Config) (lim : IsWithin c) (t : ℕ) (ro : Bool) (value : ℕ) (ea
   remount_event hook RemountStep.ClearsRemount h = (RemountStep.Releases (Ok Reply.Unit), refl, (rw (h.1, h.2) h.0, tt))
   remount_event hook (RemountStep.Releases answer) h = (lock_leaves c ro answer value hook earlier added h, tt)
 
--- so it is kept along every trace of a remount
 pub remount_kept : (c : Config) → IsWithin c → (t : ℕ) (ro : Bool) → Kept (RemountAt c t ro) c t (Op.RemountSb ro)
 remount_kept c lim t ro = record {
   first = (RemountStep.Locks, refl, (refl, (refl, refl, refl, λ m. refl)));

@@ -8,7 +8,6 @@ use Rattle.gate_world.specs.declared.{config.Config.Config, work.Phase.Phase}
 use Rattle.gate_frames.proofs.Owners.{umount_taken}
 
 module _ (c : Config) (w : World) (earlier : List World) (good : IsGood c w) (t : ℕ) (lt : t < c.tasks) (x : Remount) where
-  -- each step of a remount
   pub remount_waits : (hook : HookAnswer) (s : RemountStep) → (w.views t).phase ≡ Some (Phase.Remounts (at_remount x s)) →
       RemountCause c t w earlier s →
       HasReason c w earlier t (Phase.Remounts (at_remount x s))

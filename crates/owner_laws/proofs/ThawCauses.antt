@@ -18,7 +18,6 @@ thaw_stays c t w next earlier x (ThawStep.Releases answer) e h =
     λ r. ap (was_unheld c x.holder) (look_skips t next (w ∷ earlier) (ap looks_at_stage e)) ∙ h r
 thaw_stays c t w next earlier x s e h = tt
 
--- what is or is true is true
 or_true : (b : Bool) → b || true ≡ true
 or_true true = refl
 or_true false = refl

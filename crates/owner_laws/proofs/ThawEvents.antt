@@ -34,24 +34,19 @@ use Rattle.gate_frames.proofs.WriterStages.{opened_tree, writer_beside, writer_s
 use Rattle.gate_frames.proofs.WriterWords.{tree_beside, writer_at_level, up_write_words, up_write_counts_none, up_write_adds, reopen_leaves}
 use Rattle.owner_laws.proofs.ThawFits.{thaw_goes, finds_cases}
 
--- owners that rely on one thing or another are alike
 owners_alike : (stage sb stage' sb' : Option ℕ) → IsAlike (Owning stage sb) (Owning stage' sb')
 owners_alike stage sb stage' sb' =
     record { owns_same = refl; freezes_same = refl; remounts_same = refl; closed_same = refl; passed_same = refl }
 
--- a role is like itself
 alike_same : (r : StageRole) → IsAlike r r
 alike_same r = record { owns_same = refl; freezes_same = refl; remounts_same = refl; closed_same = refl; passed_same = refl }
 
--- no node is below the first
 none_below : (dirty : ℕ → ℕ) → CleanBelow 0 dirty
 none_below dirty n below = absurd (omega (arith, below))
 
--- a thaw stands with the levels as its step does
 pub thaw_stands : (x : Thaw) → Stands (Some (Phase.Thaws x)) (thaw_stand x.step)
 thaw_stands x = record { counts = λ i one three. refl; syncs = λ i one three. refl; outside = refl }
 
--- and no operation with none
 pub idle_stands : Stands None None
 idle_stands = record { counts = λ i one three. refl; syncs = λ i one three. refl; outside = refl }
 
@@ -78,7 +73,6 @@ module _ (x : Thaw) where
       by_bool (level == 0) (λ b. stage_owns (thaw_stage_role (if b then ThawStep.Releases (Ok Reply.Unit) else ThawStep.Reopens (reopening level))) ≡ 1)
       refl refl
 
-  -- and after each event
   opening_owns : (level : ℕ) (n : Next UpWrite) → owns (phase_after (map_next Phase.Thaws (after_opening x level n))) ≡ 1
   opening_owns level (Next.Go u) = reopening_owns u.level u.step
   opening_owns level (Next.Wait u) = reopening_owns u.level u.step
@@ -145,15 +139,12 @@ module _ (c : Config) (lim : IsWithin c) (w : World) (good : IsGood c w) (t : �
   pub here_knows : (s : ThawStep) → IsHere s → KnowsStage w.words.stage w.words.sb (thaw_stage_role s)
   here_knows s e = subst (λ p. KnowsStage w.words.stage w.words.sb (stage_role_of p)) e ((good Stages).knows t lt)
 
-  -- it stands with the levels as its step does
   pub here_stands : (s : ThawStep) → IsHere s → Stands (w.views t).phase (thaw_stand s)
   here_stands s e = subst (λ p. Stands p (thaw_stand s)) (sym e) (thaw_stands (at_thaw x s))
 
-  -- it does nothing at the tree
   here_off_tree : (s : ThawStep) → IsHere s → tree_role_of (w.views t).trace (w.views t).phase ≡ OffTree
   here_off_tree s e = ap (tree_role_of (w.views t).trace) e
 
-  -- it has no role at a mount
   here_writes : (s : ThawStep) → IsHere s → IsWriter (w.views t).phase
   here_writes s e = subst IsWriter (sym e) (thaws_write (at_thaw x s))
 
@@ -195,17 +186,14 @@ module _ (c : Config) (lim : IsWithin c) (w : World) (good : IsGood c w) (t : �
       )
       refl holding
 
-  -- a load after which it has to do with the holders what it had
   still : (s s' : ThawStep) → IsHere s → (name : WordName) (value : ℕ) (hook : HookAnswer) →
       thaw_holder_role x.holder s' ≡ holder_role_of (w.views t).phase →
       Holds c (left_world w t w.words (view_at (name, Touch.Load) value hook s' None)) Holding
   still s s' e name value hook same = holders_stay c w good t lt w.words (view_at (name, Touch.Load) value hook s' None) refl refl same
 
-  -- where it has stored that nobody holds a freeze, nobody does
   emptied : (s : ThawStep) → IsHere s → thaw_holder_role x.holder s ≡ Empties → w.words.holders ≡ 0
   emptied s e role = ((roles_tell c.tasks t (holders_at w) (good Holding) lt).0 (ap between (ap holder_role_of e ∙ role))).0
 
-  -- and where it has found some who hold one, they do
   found : (s : ThawStep) → IsHere s → (held : Holders) → thaw_holder_role x.holder s ≡ Found held → holders_in w.words.holders ≡ held
   found s e held role = ((roles_tell c.tasks t (holders_at w) (good Holding) lt).1 held (ap holder_role_of e ∙ role)).0
 
@@ -271,7 +259,6 @@ module _ (c : Config) (lim : IsWithin c) (w : World) (good : IsGood c w) (t : �
       (subst (Stands (Some (Phase.Thaws (at_thaw x s)))) none (thaw_stands (at_thaw x s))) (sym (here_off_tree ThawStep.Locks e)) happens adds
       (holders_stay c w good t lt (record w.words { umount = n }) (tried hook n s) refl refl (apart ∙ sym (ap holder_role_of e)))
 
-  -- takes `umount` where it is free; meets: its owner gives it back last
   locks : (hook : HookAnswer) → IsHere ThawStep.Locks → Keeps hook ThawStep.Locks
   locks hook e =
       elim (eqb_tells w.words.umount 0) [
@@ -290,7 +277,6 @@ module _ (c : Config) (lim : IsWithin c) (w : World) (good : IsGood c w) (t : �
             (stays_there c w good t lt w.words (tried hook n ThawStep.Locks) (assumption) (sym (ap stage_role_of e))) refl)
       ]
 
-  -- loads the stage, which has to be 4; meets: whoever changes it owns `umount`
   loads_stage : (hook : HookAnswer) → IsHere ThawStep.LoadsStage → Keeps hook ThawStep.LoadsStage
   loads_stage hook e =
       elim (eqb_tells w.words.stage 4) [
@@ -301,7 +287,6 @@ module _ (c : Config) (lim : IsWithin c) (w : World) (good : IsGood c w) (t : �
             (tt, tt) (still ThawStep.LoadsStage (ThawStep.Releases (Err GateError.Invalid)) e WordName.Stage w.words.stage hook (sym (ap holder_role_of e))))
       ]
 
-  -- loads who holds a freeze; meets: whoever changes it owns `umount`
   loads_holders : (hook : HookAnswer) → IsHere ThawStep.LoadsHolders → Keeps hook ThawStep.LoadsHolders
   loads_holders hook e =
       let s : ThawStep = ThawStep.LoadsHolders in
@@ -327,7 +312,6 @@ module _ (c : Config) (lim : IsWithin c) (w : World) (good : IsGood c w) (t : �
       (own, shared) (k.0, tt) (holders_after c w good t lt w.words (view_at (WordName.Holders, Touch.Load) w.words.holders hook (ThawStep.Leaves held) None)
       Finds (ap holder_role_of e, k.0, none, refl)))
 
-  -- loads the superblock's flag: 0, or else 1
   loads_superblock : (hook : HookAnswer) → IsHere ThawStep.LoadsSuperblock → Keeps hook ThawStep.LoadsSuperblock
   loads_superblock hook e =
       let s : ThawStep = ThawStep.LoadsSuperblock in
@@ -395,7 +379,6 @@ module _ (c : Config) (lim : IsWithin c) (w : World) (good : IsGood c w) (t : �
       (view_at (WordName.Holders, Touch.Store 0) w.words.holders hook ThawStep.UnfreezesReadOnly (Some (Action.Leave x.holder)))
       (LeavesNobody held) (ap holder_role_of e, refl))
 
-  -- and of a writable one, where the file system thaws; or it gives `umount` back
   leaves_last : (hook : HookAnswer) → IsHere ThawStep.LeavesLast → Keeps hook ThawStep.LeavesLast
   leaves_last (Ok answer) e =
       let held : Holders = with_holder x.holder true nobody in
@@ -435,7 +418,6 @@ module _ (c : Config) (lim : IsWithin c) (w : World) (good : IsGood c w) (t : �
       frozen refl)
       (ap stage_role_of e, refl) refl
 
-  -- gives `umount` back with its answer
   releases : (hook : HookAnswer) (answer : Result Reply GateError) → IsHere (ThawStep.Releases answer) → Keeps hook (ThawStep.Releases answer)
   releases hook answer e =
       gives_back hook (ThawStep.Releases answer) e refl answer None None refl
@@ -466,22 +448,18 @@ module _ (c : Config) (lim : IsWithin c) (w : World) (good : IsGood c w) (t : �
         view_with (w.views t) event_here (read w.words event_here.0) hook
         (map_next Phase.Thaws (after_opening x u.level next_here.0), next_here.1)
 
-    -- it leaves the task's accesses at the mounts
     held_here : held_at view_here ≡ held_at (w.views t)
     held_here =
         up_write_adds u (λ a. mounts_of (actions_after a (w.views t).actions) ≡ held_at (w.views t)) refl refl u.step found_here
 
-    -- and at the levels
     levels_here : holds_level view_here ≡ holds_level (w.views t)
     levels_here =
         up_write_adds u (λ a. levels_of (actions_after a (w.views t).actions) ≡ holds_level (w.views t)) refl refl u.step found_here
 
-    -- and each open file
     opened_here : has_open view_here ≡ has_open (w.views t)
     opened_here =
         up_write_adds u (λ a. opens_of (actions_after a (w.views t).actions) ≡ has_open (w.views t)) refl refl u.step found_here
 
-    -- what comes after it fits them
     fits_here : FitsHere (ThawStep.Reopens u) → ViewFits c t view_here
     fits_here f =
         subst (λ h. Fits c t h (holds_level view_here) view_here.phase)
@@ -492,7 +470,6 @@ module _ (c : Config) (lim : IsWithin c) (w : World) (good : IsGood c w) (t : �
         found_here)
         (thaw_goes c t (held_at (w.views t)) (holds_level (w.views t)) x (ThawStep.Reopens u) found_here hook f))
 
-    -- the law of it, by what it is of the stage
     reopens_law : (e : IsHere (ThawStep.Reopens u)) (kind : StageEvent) → IsStageEvent c w good t lt words_here view_here kind →
         stage_action_of kind (stages_in w) ≡ next_here.1 → WriterLaw c w t words_here view_here next_here.1
     reopens_law e kind happens adds =
@@ -573,13 +550,11 @@ module _ (c : Config) (lim : IsWithin c) (w : World) (good : IsGood c w) (t : �
       (marks_of w.words) (here_fits (ThawStep.Reopens u) e).2.1 (here_knows (ThawStep.Reopens u) e).0)
       (record { stage_same = refl; sb_same = refl; remount_same = refl; block_same = refl; node_same = refl })
 
-  -- each event of a level's reopening
   reopening_event : (hook : HookAnswer) (level : ℕ) (s : UpWriteStep) → IsHere (ThawStep.Reopens (record { level = level; step = s })) →
       Keeps hook (ThawStep.Reopens (record { level = level; step = s }))
   reopening_event hook level UpWriteStep.ClearsBlock e = clears_block hook level e
   reopening_event hook level (UpWriteStep.Exits transition) e = exits hook level transition e
 
-  -- each of them
   thaw_event : (hook : HookAnswer) (s : ThawStep) → IsHere s → Keeps hook s
   thaw_event hook ThawStep.Locks e = locks hook e
   thaw_event hook ThawStep.LoadsStage e = loads_stage hook e

@@ -13,7 +13,6 @@ use Rattle.gate_world.specs.{Configs.extents_of, Fits.{UpWriteFits, ThawFits, Ph
 use Rattle.gate_world.specs.{Views.phase_after, declared.{config.Config.Config, work.Phase.Phase}}
 use Rattle.gate_frames.proofs.Keeps.{by_bool}
 
--- what holds in both cases, as the test is, holds
 pub both : (b : Bool) (P : Bool → Type 0) → (b ≡ true → P true) → (b ≡ false → P false) → P b
 both true P first second = first refl
 both false P first second = second refl
@@ -31,7 +30,6 @@ finds_cases x held P refused alone shared =
     (λ own. both (is_unheld (with_holder x.holder false held)) (λ b. P (if b then ThawStep.LoadsSuperblock else ThawStep.Leaves held)) (alone own) (shared own))
     refused
 
--- the word of each event of an up-write is there
 up_write_there : (c : Config) (u : UpWrite) (s : UpWriteStep) → 1 ≤ u.level → u.level ≤ 3 → IsWord (extents_of c) (up_write_next u s).0
 up_write_there c u UpWriteStep.ClearsBlock l1 l3 = (l1, l3)
 up_write_there c u (UpWriteStep.Exits Transition.Loads) l1 l3 = (l1, l3)
@@ -50,7 +48,6 @@ reopening_acts : (held : ℕ → ℕ) (x : Thaw) (level : ℕ) (s : UpWriteStep)
 reopening_acts held x level UpWriteStep.ClearsBlock found hook = tt
 reopening_acts held x level (UpWriteStep.Exits transition) found hook = tt
 
--- the action of each event of a thaw can be done
 pub thaw_acts : (held : ℕ → ℕ) (x : Thaw) (s : ThawStep) (found : ℕ) (hook : HookAnswer) → ActionFits held (thaw_after x s found hook).1
 thaw_acts held x ThawStep.LeavesLast found (Ok answer) = tt
 thaw_acts held x ThawStep.LeavesLast found (Err code) = tt
@@ -87,13 +84,11 @@ module _ (c : Config) (t : ℕ) (held : ℕ → ℕ) (levels : ℕ → Bool) (x 
       Fits c t (mounts_by (thaw_after x s found hook).1 held) (levels_by (thaw_after x s found hook).1 levels)
       (phase_after (map_next Phase.Thaws (thaw_after x s found hook).0))
 
-  -- so it is of a level's reopening
   reopening_goes : (level : ℕ) (s : UpWriteStep) (found : ℕ) (hook : HookAnswer) → UpWriteFits (record { level = level; step = s }) →
       GoesOn (ThawStep.Reopens (record { level = level; step = s })) found hook
   reopening_goes level UpWriteStep.ClearsBlock found hook f = (same, none, (f.0, f.1, tt))
   reopening_goes level (UpWriteStep.Exits transition) found hook f = exit_goes level transition found f.0 f.1 f.2
 
-  -- and at each step
   step_goes : (s : ThawStep) (found : ℕ) (hook : HookAnswer) → ThawFits x.holder s → GoesOn s found hook
   step_goes ThawStep.Locks found hook f =
       by_bool (found == 0) (λ b. NextFits (if b then Next.Go (at_thaw x ThawStep.LoadsStage) else Next.Wait (at_thaw x ThawStep.Locks)))

@@ -7,7 +7,6 @@ use Rattle.gate_frames.proofs.{Keeps.{none_agree, word_among, PhaseKeeps, OpKeep
 use Rattle.owner_laws.proofs.{ThawCauses.{thaw_stays, thaw_own}, ThawEvents.thaw_keeps, ThawFits.{thaw_there, thaw_acts, thaw_goes}, ThawRuns.thaw_runs}
 use Rattle.owner_laws.proofs.{ThawTraces.{ThawAt, thaw_kept, thaw_restores}, ThawWaits.thaw_waits}
 
--- of each of its phases
 pub thaw_phase : (c : Config) (x : Thaw) → PhaseKeeps c (Phase.Thaws x)
 thaw_phase c x = record {
   step = λ lim w good t lt hook e. thaw_keeps c lim w good t lt hook x e;
@@ -22,7 +21,6 @@ thaw_phase c x = record {
   reasons = λ lim w earlier good t lt hook e cause. thaw_waits c w earlier t good lt x hook x.step e cause;
 }
 
--- of its beginning and its trace
 pub thaw_op : (c : Config) (holder : Holder) → OpKeeps c (Op.Thaw holder)
 thaw_op c holder = record {
   fits = λ t held levels there order room. (refl, order, tt);

@@ -15,7 +15,6 @@ module _ (c : Config) (lim : IsWithin c) (w : World) (good : IsGood c w) (t : �
   abbrev Runs : HookAnswer → ThawStep → Type 0
   Runs hook s = LevelsRun c w (after_step w t (Phase.Thaws (at_thaw x s)) hook)
 
-  -- the words after it
   abbrev words_then : HookAnswer → ThawStep → Words
   words_then hook s = words_after w.words (Phase.Thaws (at_thaw x s)) hook
 
@@ -43,7 +42,6 @@ module _ (c : Config) (lim : IsWithin c) (w : World) (good : IsGood c w) (t : �
   leaves_last (Err code) e =
       leaves (Err code) ThawStep.LeavesLast (assumption) (here_stands c lim w good t lt x ThawStep.LeavesLast e) idle_stands
 
-  -- each event
   thaw_run : (hook : HookAnswer) (s : ThawStep) → IsHere c lim w good t lt x s → Runs hook s
   thaw_run hook ThawStep.Locks e =
       leaves hook ThawStep.Locks (assumption) (here_stands c lim w good t lt x ThawStep.Locks e)

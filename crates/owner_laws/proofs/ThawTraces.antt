@@ -89,7 +89,6 @@ module _ (c : Config) (t : ℕ) (holder : Holder) (value : ℕ) (earlier : List 
   abbrev After : HookAnswer → ThawStep → Type 0
   After hook step = SaysAfter (ThawAt c t holder) c (Op.Thaw holder) (Phase.Thaws (thaw_of t holder step)) value hook earlier added
 
-  -- `umount` is tried, and nothing is loaded
   locks : (hook : HookAnswer) → StepSays c holder ThawStep.Locks earlier added → After hook ThawStep.Locks
   locks hook h =
       elim (cases_Bool (value == 0)) [
@@ -97,7 +96,6 @@ module _ (c : Config) (t : ℕ) (holder : Holder) (value : ℕ) (earlier : List 
         | inr f ↦ rw f ((ThawStep.Locks, refl, (rw f h.0, h.1)), rw f h.0)
       ]
 
-  -- the stage is found 4, or not
   loads_stage : (hook : HookAnswer) → StepSays c holder ThawStep.LoadsStage earlier added → After hook ThawStep.LoadsStage
   loads_stage hook h =
       elim (cases_Bool (value == 4)) [
@@ -105,7 +103,6 @@ module _ (c : Config) (t : ℕ) (holder : Holder) (value : ℕ) (earlier : List 
         | inr f ↦ rw f (ThawStep.Releases (Err GateError.Invalid), refl, (h.0, inl (rw f refl)))
       ]
 
-  -- its holder is found to hold no freeze, or alone, or beside another
   loads_holders : (hook : HookAnswer) → StepSays c holder ThawStep.LoadsHolders earlier added → After hook ThawStep.LoadsHolders
   loads_holders hook h =
       finds_cases (thaw_of t holder ThawStep.LoadsHolders) (holders_in value)
@@ -114,7 +111,6 @@ module _ (c : Config) (t : ℕ) (holder : Holder) (value : ℕ) (earlier : List 
       (λ own alone. (ThawStep.LoadsSuperblock, refl, (h.0, h.1, ap (λ b. not b || found_shared holder earlier) alone ∙ h.2)))
       (λ own shared. (ThawStep.Leaves (holders_in value), refl, (h.0, ap (λ b. not b || found_shared holder earlier) shared)))
 
-  -- the superblock's flag is found clear, or set
   loads_superblock : (hook : HookAnswer) → StepSays c holder ThawStep.LoadsSuperblock earlier added → After hook ThawStep.LoadsSuperblock
   loads_superblock hook h =
       elim (cases_Bool (value == 0)) [
@@ -122,12 +118,10 @@ module _ (c : Config) (t : ℕ) (holder : Holder) (value : ℕ) (earlier : List 
         | inr f ↦ rw f (ThawStep.LeavesReadOnly, refl, (h.0, rw f refl, h.2))
       ]
 
-  -- nobody holds a freeze any more, or the file system has failed
   leaves_last : (hook : HookAnswer) → StepSays c holder ThawStep.LeavesLast earlier added → After hook ThawStep.LeavesLast
   leaves_last (Ok answer) h = (ThawStep.SetsUnfrozen, refl, (ap (λ (l : List Action). Action.Leave holder ∷ l) h.0, h.1, h.2))
   leaves_last (Err code) h = ((h.0, inl (refl, refl, refl)), tt)
 
-  -- after an event of an up-write's transition it goes on, or the next level is reopened
   exit_says : (level : ℕ) (s : UpWriteStep) (n : TransitionNext) (trace : List Traced) → level ≤ 3 → 1 ≤ level →
       added ≡ opened_to holder (level - 1) → (found_sealed trace ≡ false) × (found_shared holder trace ≡ false) →
       Says (ThawAt c t holder) c (Op.Thaw holder) trace
@@ -155,7 +149,6 @@ module _ (c : Config) (t : ℕ) (holder : Holder) (value : ℕ) (earlier : List 
       exit_says level (UpWriteStep.Exits (Transition.Exchanges from to)) (transition_after on_exit (Transition.Exchanges from to) value)
       (longer hook (ThawStep.Reopens (record { level = level; step = UpWriteStep.Exits (Transition.Exchanges from to) }))) h.3 h.2 h.0 h.1
 
-  -- each event of a thaw keeps what its trace says
   thaw_event : (hook : HookAnswer) (step : ThawStep) → StepSays c holder step earlier added → After hook step
   thaw_event hook ThawStep.Locks h = locks hook h
   thaw_event hook ThawStep.LoadsStage h = loads_stage hook h
@@ -172,7 +165,6 @@ module _ (c : Config) (t : ℕ) (holder : Holder) (value : ℕ) (earlier : List 
   thaw_event hook (ThawStep.Reopens u) h = reopens hook u.level u.step h
   thaw_event hook (ThawStep.Releases answer) h = (lock_leaves c holder answer value hook earlier added h, tt)
 
--- so it is kept along every trace of a thaw
 pub thaw_kept : (c : Config) (t : ℕ) (holder : Holder) → Kept (ThawAt c t holder) c t (Op.Thaw holder)
 thaw_kept c t holder = record {
   first = (ThawStep.Locks, refl, (refl, (refl, refl, refl)));

@@ -16,14 +16,12 @@ module _ (c : Config) (w : World) (earlier : List World) (t : ℕ) where
   exit_waits phase x level u (TransitionNext.More transition) = tt
   exit_waits phase x level u other = tt
 
-  -- so an up-write doesn't wait
   reopening_waits : (phase : Phase) (x : Thaw) (u : UpWrite) (s : UpWriteStep) (found : ℕ) →
       HasReason c w earlier t phase (map_next Phase.Thaws (after_opening x u.level (up_write_after u s found).0))
   reopening_waits phase x u UpWriteStep.ClearsBlock found = tt
   reopening_waits phase x u (UpWriteStep.Exits transition) found = exit_waits phase x u.level u (transition_after on_exit transition found)
 
   module _ (good : IsGood c w) (lt : t < c.tasks) (x : Thaw) where
-    -- each step of a thaw
     pub thaw_waits : (hook : HookAnswer) (s : ThawStep) → (w.views t).phase ≡ Some (Phase.Thaws (at_thaw x s)) →
         ThawCause c t w earlier x.holder s →
         HasReason c w earlier t (Phase.Thaws (at_thaw x s))
