@@ -1,108 +1,32 @@
 -- The law of each event of a snapshot.
-use Rattle.gate_world.specs.Fits.{file_of}
 use Rattle.std.proofs.Common.{◌≡◌, ℕ, suc, ◌<◌, Bool, true, false, List, refl, sym, ap, ◌∙◌, subst, inl, inr, arith, true≢false, ◌⊎◌}
+use Rattle.std.proofs.lemmas.Bool.{cases_Bool, Decides.eqb_tells}
 use Rattle.std.specs.Prelude.{◌==◌, if◌then◌else◌, Option, Some, None, is_some, Result, Err}
-use Rattle.std.proofs.lemmas.Bool.{cases_Bool}
-use Rattle.std.proofs.lemmas.Bool.Decides.{eqb_tells}
-use Rattle.finite_sums.specs.Sums.{update}
-use Rattle.finite_sums.proofs.Totals.{each_updated}
-use Rattle.access_model.specs.Histories.{mounts_of, levels_of, opens_of}
-use Rattle.access_model.specs.Replies.{map_next}
-use Rattle.access_model.specs.declared.errors.GateError.{GateError}
-use Rattle.access_model.specs.declared.errors.GateError.TheVariants.{Invalid}
-use Rattle.access_model.specs.declared.replies.Next.{Next}
-use Rattle.access_model.specs.declared.replies.Next.TheVariants.{Go, Wait, Done}
-use Rattle.access_model.specs.declared.replies.Reply.{Reply}
-use Rattle.cpu_words.specs.declared.names.WordName.{WordName}
-use Rattle.cpu_words.specs.declared.names.WordName.TheVariants.{Stage, Used, Node, Kids}
-use Rattle.cpu_words.specs.Hooks.{HookAnswer}
-use Rattle.cpu_words.specs.Touches.{event_of, found_by}
-use Rattle.cpu_words.specs.Words.{Words, read, put}
-use Rattle.gated_tree.specs.Calls.{phase_role, role_after, NextFits}
-use Rattle.gated_tree.specs.Nodes.{dirty_in, unpacked, node_after}
+use Rattle.finite_sums.{proofs.Totals.each_updated, specs.Sums.update}
+use Rattle.access_model.specs.{Histories.{mounts_of, levels_of, opens_of}, Replies.map_next}
+use Rattle.access_model.specs.declared.{errors.GateError.GateError, replies.{Next.Next, Reply.Reply}}
+use Rattle.cpu_words.specs.{Hooks.HookAnswer, Touches.{event_of, found_by}, Words.{Words, read, put}, declared.names.WordName.WordName}
+use Rattle.gated_tree.specs.{Calls.{phase_role, role_after, NextFits}, Nodes.{dirty_in, unpacked, node_after}}
 use Rattle.gated_tree.specs.Phases.{snapshot_next, snapshot_after, at_snapshot, snapshot_locked_out, node_step, kids_step}
 use Rattle.gated_tree.specs.Roles.{TreeHolds, TreeState, sealed_by, bare_by}
-use Rattle.gated_tree.specs.declared.phases.TreePhase.TheVariants.{Snapshot as Snapshots}
-use Rattle.gated_tree.specs.declared.snapshots.Snapshot.{Snapshot}
-use Rattle.gated_tree.specs.declared.snapshots.SnapshotStep.{SnapshotStep}
-use Rattle.gated_tree.specs.declared.snapshots.SnapshotStep.TheVariants.{Locks, LoadsStage, LoadsUsed, LoadsNode, LoadsKids, Releases}
+use Rattle.gated_tree.specs.declared.{phases.TreePhase.TreePhase, snapshots.{Snapshot.Snapshot, SnapshotStep.SnapshotStep}}
 use Rattle.mount_counts.specs.Roles.{Out}
-use Rattle.tree_laws.proofs.Fitting.{fits_after}
-use Rattle.tree_laws.proofs.Phases.{each_phase}
-use Rattle.tree_laws.specs.Steps.{words_left, StepKeeps as TreeStepKeeps}
+use Rattle.tree_laws.{proofs.{Fitting.fits_after, Phases.each_phase}, specs.Steps.{words_left, StepKeeps as TreeStepKeeps}}
 use Rattle.stage_laws.specs.Events.{Locks as LocksStage, Releases as ReleasesStage, Recalls, IsAlike, playing, Stages as StageMoment}
 use Rattle.stage_laws.specs.Roles.{StageRole, Aside, Owning, KnowsStage, clean_by, is_full, sums, owns as stage_owns}
 use Rattle.holder_laws.specs.Roles.{Apart}
-use Rattle.gate_world.specs.Holders.{holder_role_of}
-use Rattle.gate_world.specs.declared.config.Config.{Config}
-use Rattle.gate_world.specs.declared.views.View.{View}
-use Rattle.gate_world.specs.declared.views.Traced.{Traced}
-use Rattle.gate_world.specs.declared.work.Phase.{Phase}
-use Rattle.gate_world.specs.declared.work.Phase.TheVariants.{Trees}
-use Rattle.gate_world.specs.Configs.{IsWithin}
-use Rattle.gate_world.specs.Fits.{Fits, PhaseFits}
-use Rattle.gate_world.specs.Found.{is_load}
-use Rattle.gate_world.specs.Levels.{level_added_after, level_taken_after, level_added_by, level_taken_by}
-use Rattle.gate_world.specs.Operations.{holds_none}
+use Rattle.gate_world.specs.{Configs.IsWithin, Fits.{file_of, Fits, PhaseFits}, Found.is_load, Holders.holder_role_of}
+use Rattle.gate_world.specs.{Levels.{level_added_after, level_taken_after, level_added_by, level_taken_by}, Operations.holds_none}
 use Rattle.gate_world.specs.Owners.{is_owned, takes_lock}
-use Rattle.gate_world.specs.Rules.{
-  Files,
-  Part,
-  Owner,
-  Stages,
-  Holding,
-  Fitting,
-  Known,
-  Tree,
-  AtMount,
-  AtLevel,
-  SyncAt,
-  Sections,
-  Holds,
-  IsGood,
-  Moves,
-  StepKeeps,
-  ViewFits,
-  owns,
-  remounts,
-  role_of,
-  marks_of,
-}
-use Rattle.gate_world.specs.Shown.{shown, closing, stage_roles}
-use Rattle.gate_world.specs.Snapshots.{values_noted}
-use Rattle.gate_world.specs.Stages.{stage_role_of, stage_at_end, snapshot_stage_role}
+use Rattle.gate_world.specs.Rules.{Files, Part, Owner, Stages, Holding, Fitting, Known, Tree, AtMount, AtLevel, SyncAt, Sections, Holds, IsGood, Moves}
+use Rattle.gate_world.specs.Rules.{StepKeeps, ViewFits, owns, remounts, role_of, marks_of}
+use Rattle.gate_world.specs.{Shown.{shown, closing, stage_roles}, Snapshots.values_noted, Stages.{stage_role_of, stage_at_end, snapshot_stage_role}}
 use Rattle.gate_world.specs.Trees.{tree_bounds, tree_roles, tree_role_of, is_sealed, is_bare_at}
-use Rattle.gate_world.specs.Views.{
-  held_at,
-  holds_level,
-  actions_after,
-  added_after,
-  taken_after,
-  added_by,
-  taken_by,
-  phase_after,
-  view_with,
-  has_open,
-}
-use Rattle.gate_world.specs.Worlds.{World, after_step}
-use Rattle.gate_frames.proofs.Frames.{
-  left_alone,
-  view_as,
-  shown_still,
-  IsOffLevels,
-  SameLevelWords,
-  SameLevelCounts,
-  level_left,
-  sync_left,
-  sections_left,
-}
-use Rattle.gate_frames.proofs.Keeps.{by_bool}
-use Rattle.gate_frames.proofs.Known.{IsOwnersWork, known_after}
-use Rattle.gate_frames.proofs.MountEvents.{is_known_part, known_is}
-use Rattle.gate_frames.proofs.Owners.{locks_umount, releases_umount}
-use Rattle.gate_frames.proofs.Snapshots.{noted_part, noted_shown}
-use Rattle.gate_frames.proofs.Stages.{stages_in, stages_after, nobody_owns}
-use Rattle.gate_frames.proofs.Trees.{tree_within, tree_holds, tree_then}
+use Rattle.gate_world.specs.Views.{held_at, holds_level, actions_after, added_after, taken_after, added_by, taken_by, phase_after, view_with, has_open}
+use Rattle.gate_world.specs.{Worlds.{World, after_step}, declared.{config.Config.Config, views.{Traced.Traced, View.View}, work.Phase.Phase}}
+use Rattle.gate_frames.proofs.Frames.{left_alone, view_as, shown_still, IsOffLevels, SameLevelWords, SameLevelCounts, level_left, sync_left, sections_left}
+use Rattle.gate_frames.proofs.{Keeps.by_bool, Known.{IsOwnersWork, known_after}, MountEvents.{is_known_part, known_is}, Owners.{locks_umount, releases_umount}}
+use Rattle.gate_frames.proofs.{Snapshots.{noted_part, noted_shown}, Stages.{stages_in, stages_after, nobody_owns}, Trees.{tree_within, tree_holds, tree_then}}
 use Rattle.gate_frames.proofs.Words.{load_same}
 use Rattle.call_laws.proofs.Noted.{notes_step}
 
@@ -130,29 +54,29 @@ load_beside w name = subst (IsBeside w) (sym (load_same w name)) (umount_beside 
 
 -- so they are after each event of a snapshot
 event_beside : (w : Words) (x : Snapshot) (s : SnapshotStep) → IsBeside w (words_left w (snapshot_next x s))
-event_beside w x Locks = umount_beside w (words_left w (snapshot_next x Locks)).umount
-event_beside w x LoadsStage = load_beside w Stage
-event_beside w x LoadsUsed = load_beside w Used
-event_beside w x (LoadsNode n) = load_beside w (Node n)
-event_beside w x (LoadsKids n) = load_beside w (Kids n)
-event_beside w x (Releases answer) = umount_beside w 0
+event_beside w x SnapshotStep.Locks = umount_beside w (words_left w (snapshot_next x SnapshotStep.Locks)).umount
+event_beside w x SnapshotStep.LoadsStage = load_beside w WordName.Stage
+event_beside w x SnapshotStep.LoadsUsed = load_beside w WordName.Used
+event_beside w x (SnapshotStep.LoadsNode n) = load_beside w (WordName.Node n)
+event_beside w x (SnapshotStep.LoadsKids n) = load_beside w (WordName.Kids n)
+event_beside w x (SnapshotStep.Releases answer) = umount_beside w 0
 
 -- it counts nowhere
 counts_none : (x : Snapshot) (s : SnapshotStep) (g : ℕ → ℕ → ℕ) →
     (added_after (snapshot_next x s).0 (snapshot_next x s).1 g ≡ g) × (taken_after (snapshot_next x s).0 (snapshot_next x s).1 g ≡ g) ×
     (level_added_after (snapshot_next x s).0 (snapshot_next x s).1 g ≡ g) ×
     (level_taken_after (snapshot_next x s).0 (snapshot_next x s).1 g ≡ g)
-counts_none x Locks g = (refl, refl, refl, refl)
+counts_none x SnapshotStep.Locks g = (refl, refl, refl, refl)
 counts_none x other g = (refl, refl, refl, refl)
 
 -- and adds no action
 adds_none : (x : Snapshot) (s : SnapshotStep) (found : ℕ) → (snapshot_after x s found).1 ≡ None
-adds_none x Locks found = refl
+adds_none x SnapshotStep.Locks found = refl
 adds_none x other found = refl
 
 -- What comes after it is the same snapshot at another step, or it is done.
-module _ (x : Snapshot) (P : Next Snapshot → Type 0) (go : (s : SnapshotStep) → P (Go (at_snapshot x s)))
-    (wait : P (Wait (at_snapshot x Locks))) (done : (answer : Result Reply GateError) → P (Done answer)) where
+module _ (x : Snapshot) (P : Next Snapshot → Type 0) (go : (s : SnapshotStep) → P (Next.Go (at_snapshot x s)))
+    (wait : P (Next.Wait (at_snapshot x SnapshotStep.Locks))) (done : (answer : Result Reply GateError) → P (Next.Done answer)) where
   -- after a lock that was taken
   locked_out_comes : (b : Bool) → P (snapshot_locked_out x b)
   locked_out_comes true = wait
@@ -160,27 +84,28 @@ module _ (x : Snapshot) (P : Next Snapshot → Type 0) (go : (s : SnapshotStep) 
 
   -- after each event
   snapshot_comes : (s : SnapshotStep) (found : ℕ) → P (snapshot_after x s found).0
-  snapshot_comes Locks found =
-      by_bool (found == 0) (λ b. P (if b then Go (at_snapshot x LoadsStage) else snapshot_locked_out x x.wait))
-      (go LoadsStage) (locked_out_comes x.wait)
-  snapshot_comes LoadsStage found =
-      by_bool (found == 4) (λ b. P (if b then Go (at_snapshot x LoadsUsed) else Go (at_snapshot x (Releases (Err Invalid)))))
-      (go LoadsUsed) (go (Releases (Err Invalid)))
-  snapshot_comes LoadsUsed found = go (LoadsNode 0)
-  snapshot_comes (LoadsNode n) found =
+  snapshot_comes SnapshotStep.Locks found =
+      by_bool (found == 0) (λ b. P (if b then Next.Go (at_snapshot x SnapshotStep.LoadsStage) else snapshot_locked_out x x.wait))
+      (go SnapshotStep.LoadsStage) (locked_out_comes x.wait)
+  snapshot_comes SnapshotStep.LoadsStage found =
+      by_bool (found == 4)
+      (λ b. P (if b then Next.Go (at_snapshot x SnapshotStep.LoadsUsed) else Next.Go (at_snapshot x (SnapshotStep.Releases (Err GateError.Invalid)))))
+      (go SnapshotStep.LoadsUsed) (go (SnapshotStep.Releases (Err GateError.Invalid)))
+  snapshot_comes SnapshotStep.LoadsUsed found = go (SnapshotStep.LoadsNode 0)
+  snapshot_comes (SnapshotStep.LoadsNode n) found =
       by_bool (is_some (unpacked found))
-      (λ b. P (if b then Go (at_snapshot x (node_step (node_after n x.nodes))) else Go (at_snapshot x (LoadsNode n))))
-      (go (node_step (node_after n x.nodes))) (go (LoadsNode n))
-  snapshot_comes (LoadsKids n) found = go (kids_step (node_after n x.nodes))
-  snapshot_comes (Releases answer) found = done answer
+      (λ b. P (if b then Next.Go (at_snapshot x (node_step (node_after n x.nodes))) else Next.Go (at_snapshot x (SnapshotStep.LoadsNode n))))
+      (go (node_step (node_after n x.nodes))) (go (SnapshotStep.LoadsNode n))
+  snapshot_comes (SnapshotStep.LoadsKids n) found = go (kids_step (node_after n x.nodes))
+  snapshot_comes (SnapshotStep.Releases answer) found = done answer
 
 -- what comes after an event, among all phases
 abbrev later : Next Snapshot → Option Phase
-later n = phase_after (map_next Trees (map_next Snapshots n))
+later n = phase_after (map_next Phase.Trees (map_next TreePhase.Snapshot n))
 
 -- no level is closing at a snapshot
 step_sums : (i : ℕ) (s : SnapshotStep) → sums i (snapshot_stage_role s) ≡ 0
-step_sums i Locks = refl
+step_sums i SnapshotStep.Locks = refl
 step_sums i other = refl
 
 -- the next node, or the children of the first, is loaded with the same reliance
@@ -204,10 +129,10 @@ locked_out_owns x true = refl
 locked_out_owns x false = refl
 
 -- the role after a load of a node, whatever it found
-node_role : (x : Snapshot) (n found : ℕ) → stage_role_of (later (snapshot_after x (LoadsNode n) found).0) ≡ Owning (Some 4) None
+node_role : (x : Snapshot) (n found : ℕ) → stage_role_of (later (snapshot_after x (SnapshotStep.LoadsNode n) found).0) ≡ Owning (Some 4) None
 node_role x n found =
     by_bool (is_some (unpacked found))
-    (λ b. stage_role_of (later (if b then Go (at_snapshot x (node_step (node_after n x.nodes))) else Go (at_snapshot x (LoadsNode n)))) ≡
+    (λ b. stage_role_of (later (if b then Next.Go (at_snapshot x (node_step (node_after n x.nodes))) else Next.Go (at_snapshot x (SnapshotStep.LoadsNode n)))) ≡
     Owning (Some 4) None)
     (node_step_role (node_after n x.nodes)) refl
 
@@ -220,15 +145,15 @@ later_owns x s found =
 -- it changes a word that only the owner changes as the owner
 snapshot_changes : (x : Snapshot) (s : SnapshotStep) → is_owned (snapshot_next x s).0 ≡ true →
     (is_load (snapshot_next x s).1 ≡ true) ⊎ (stage_owns (snapshot_stage_role s) ≡ 1)
-snapshot_changes x Locks h = absurd (true≢false (sym h))
-snapshot_changes x (Releases answer) h = absurd (true≢false (sym h))
+snapshot_changes x SnapshotStep.Locks h = absurd (true≢false (sym h))
+snapshot_changes x (SnapshotStep.Releases answer) h = absurd (true≢false (sym h))
 snapshot_changes x s h = inl refl
 
 -- and comes to own `umount` by taking it
 snapshot_comes_to : (x : Snapshot) (s : SnapshotStep) (value : ℕ) →
     owns (later (snapshot_after x s (found_by (snapshot_next x s).1 value)).0) ≡ 1 →
     (stage_owns (snapshot_stage_role s) ≡ 1) ⊎ (takes_lock (event_of (snapshot_next x s).0 (snapshot_next x s).1 value) ≡ true)
-snapshot_comes_to x Locks value h =
+snapshot_comes_to x SnapshotStep.Locks value h =
     elim (cases_Bool (value == 0)) [
       | inl z ↦ inr z
       | inr z ↦ absurd (omega (arith, locked_out_owns x x.wait, rw z at h))
@@ -248,7 +173,7 @@ module _ (c : Config) (within : IsWithin c) (w : World) (good : IsGood c w) (t :
     (x : Snapshot) where
   -- the task is at this step of the snapshot
   abbrev IsHere : SnapshotStep → Type 0
-  IsHere s = (w.views t).phase ≡ Some (Trees (Snapshots (at_snapshot x s)))
+  IsHere s = (w.views t).phase ≡ Some (Phase.Trees (TreePhase.Snapshot (at_snapshot x s)))
 
   -- what its event finds
   abbrev found_here : SnapshotStep → ℕ
@@ -266,7 +191,7 @@ module _ (c : Config) (within : IsWithin c) (w : World) (good : IsGood c w) (t :
   abbrev view_here : SnapshotStep → View
   view_here s =
       view_with (w.views t) (snapshot_next x s) (read w.words (snapshot_next x s).0) hook
-      (map_next Trees (map_next Snapshots (next_here s)), (snapshot_after x s (found_here s)).1)
+      (map_next Phase.Trees (map_next TreePhase.Snapshot (next_here s)), (snapshot_after x s (found_here s)).1)
 
   -- and the world
   abbrev world_here : SnapshotStep → World
@@ -318,28 +243,30 @@ module _ (c : Config) (within : IsWithin c) (w : World) (good : IsGood c w) (t :
 
   -- the rule of the stage after each event
   stage_law : (s : SnapshotStep) → IsHere s → Holds c (world_here s) Stages
-  stage_law Locks e =
+  stage_law SnapshotStep.Locks e =
       elim (eqb_tells w.words.umount 0) [
-        | inl h ↦ stages_after c w good t lt (words_here Locks) (view_here Locks) LocksStage
-            (ap stage_role_of e, nobody_owns c w good h.1, moment_here Locks (Owning None None) (rw h.0 refl))
-        | inr h ↦ recalls Locks e Aside (rw h.0 (locked_out_role x x.wait)) aside_alike tt refl
+        | inl h ↦ stages_after c w good t lt (words_here SnapshotStep.Locks) (view_here SnapshotStep.Locks) LocksStage
+            (ap stage_role_of e, nobody_owns c w good h.1, moment_here SnapshotStep.Locks (Owning None None) (rw h.0 refl))
+        | inr h ↦ recalls SnapshotStep.Locks e Aside (rw h.0 (locked_out_role x x.wait)) aside_alike tt refl
       ]
-  stage_law LoadsStage e =
+  stage_law SnapshotStep.LoadsStage e =
       elim (eqb_tells w.words.stage 4) [
-        | inl h ↦ recalls LoadsStage e (Owning (Some 4) None) (rw h.0 refl) (owners_alike None None (Some 4) None) (h.1, tt) refl
-        | inr h ↦ recalls LoadsStage e (Owning None None) (rw h.0 refl) (owners_alike None None None None) (tt, tt) refl
+        | inl h ↦ recalls SnapshotStep.LoadsStage e (Owning (Some 4) None) (rw h.0 refl) (owners_alike None None (Some 4) None) (h.1, tt) refl
+        | inr h ↦ recalls SnapshotStep.LoadsStage e (Owning None None) (rw h.0 refl) (owners_alike None None None None) (tt, tt) refl
       ]
-  stage_law LoadsUsed e =
-      recalls LoadsUsed e (Owning (Some 4) None) refl (owners_alike (Some 4) None (Some 4) None) (here_knows LoadsUsed e) refl
-  stage_law (LoadsNode n) e =
-      recalls (LoadsNode n) e (Owning (Some 4) None) (node_role x n (found_here (LoadsNode n))) (owners_alike (Some 4) None (Some 4) None)
-      (here_knows (LoadsNode n) e) refl
-  stage_law (LoadsKids n) e =
-      recalls (LoadsKids n) e (Owning (Some 4) None) (kids_step_role (node_after n x.nodes)) (owners_alike (Some 4) None (Some 4) None)
-      (here_knows (LoadsKids n) e) refl
-  stage_law (Releases answer) e =
-      stages_after c w good t lt (words_here (Releases answer)) (view_here (Releases answer)) (ReleasesStage (stage_at_end answer) None)
-      (ap stage_role_of e, moment_here (Releases answer) Aside refl)
+  stage_law SnapshotStep.LoadsUsed e =
+      recalls SnapshotStep.LoadsUsed e (Owning (Some 4) None) refl (owners_alike (Some 4) None (Some 4) None) (here_knows SnapshotStep.LoadsUsed e) refl
+  stage_law (SnapshotStep.LoadsNode n) e =
+      recalls (SnapshotStep.LoadsNode n) e (Owning (Some 4) None) (node_role x n (found_here (SnapshotStep.LoadsNode n)))
+      (owners_alike (Some 4) None (Some 4) None)
+      (here_knows (SnapshotStep.LoadsNode n) e) refl
+  stage_law (SnapshotStep.LoadsKids n) e =
+      recalls (SnapshotStep.LoadsKids n) e (Owning (Some 4) None) (kids_step_role (node_after n x.nodes)) (owners_alike (Some 4) None (Some 4) None)
+      (here_knows (SnapshotStep.LoadsKids n) e) refl
+  stage_law (SnapshotStep.Releases answer) e =
+      stages_after c w good t lt (words_here (SnapshotStep.Releases answer)) (view_here (SnapshotStep.Releases answer))
+      (ReleasesStage (stage_at_end answer) None)
+      (ap stage_role_of e, moment_here (SnapshotStep.Releases answer) Aside refl)
 
   -- it has `remount` not set
   later_remounts : (s : SnapshotStep) → IsHere s → remounts (view_here s).phase ≡ remounts (w.views t).phase
@@ -359,33 +286,36 @@ module _ (c : Config) (within : IsWithin c) (w : World) (good : IsGood c w) (t :
 
   -- the owner's words after each event
   owner_law : (s : SnapshotStep) → IsHere s → x.task ≡ t → Holds c (world_here s) Owner
-  owner_law Locks e own =
+  owner_law SnapshotStep.Locks e own =
       elim (eqb_tells w.words.umount 0) [
         | inl h ↦
-            let mine : (words_here Locks).umount ≡ suc t = rw h.0 (omega (arith, own)) in
-            locks_umount c w good t lt (words_here Locks).umount (view_here Locks) h.1 mine (rw h.0 refl) (later_remounts Locks e)
-        | inr h ↦ load_owner Locks e (rw h.0 refl) (rw h.0 (locked_out_owns x x.wait) ∙ sym (ap owns e))
+            let mine : (words_here SnapshotStep.Locks).umount ≡ suc t = rw h.0 (omega (arith, own)) in
+            locks_umount c w good t lt (words_here SnapshotStep.Locks).umount (view_here SnapshotStep.Locks) h.1 mine (rw h.0 refl)
+            (later_remounts SnapshotStep.Locks e)
+        | inr h ↦ load_owner SnapshotStep.Locks e (rw h.0 refl) (rw h.0 (locked_out_owns x x.wait) ∙ sym (ap owns e))
       ]
-  owner_law LoadsStage e own =
-      load_owner LoadsStage e (umount_left Stage)
+  owner_law SnapshotStep.LoadsStage e own =
+      load_owner SnapshotStep.LoadsStage e (umount_left WordName.Stage)
       (by_bool (w.words.stage == 4)
-      (λ b. owns (later (if b then Go (at_snapshot x LoadsUsed) else Go (at_snapshot x (Releases (Err Invalid))))) ≡ 1) refl refl ∙
+      (λ b. owns (later (if b then Next.Go (at_snapshot x SnapshotStep.LoadsUsed)
+      else Next.Go (at_snapshot x (SnapshotStep.Releases (Err GateError.Invalid))))) ≡ 1) refl refl ∙
       sym (ap owns e))
-  owner_law LoadsUsed e own = load_owner LoadsUsed e (umount_left Used) (sym (ap owns e))
-  owner_law (LoadsNode n) e own =
-      load_owner (LoadsNode n) e (umount_left (Node n))
-      (later_owns x (LoadsNode n) (found_here (LoadsNode n)) ∙ ap stage_owns (node_role x n (found_here (LoadsNode n))) ∙ sym (ap owns e))
-  owner_law (LoadsKids n) e own =
-      load_owner (LoadsKids n) e (umount_left (Kids n)) (ap stage_owns (kids_step_role (node_after n x.nodes)) ∙ sym (ap owns e))
-  owner_law (Releases answer) e own =
-      releases_umount c w good t lt (view_here (Releases answer)) (ap owns e) refl (later_remounts (Releases answer) e)
+  owner_law SnapshotStep.LoadsUsed e own = load_owner SnapshotStep.LoadsUsed e (umount_left WordName.Used) (sym (ap owns e))
+  owner_law (SnapshotStep.LoadsNode n) e own =
+      load_owner (SnapshotStep.LoadsNode n) e (umount_left (WordName.Node n))
+      (later_owns x (SnapshotStep.LoadsNode n) (found_here (SnapshotStep.LoadsNode n)) ∙ ap stage_owns
+      (node_role x n (found_here (SnapshotStep.LoadsNode n))) ∙ sym (ap owns e))
+  owner_law (SnapshotStep.LoadsKids n) e own =
+      load_owner (SnapshotStep.LoadsKids n) e (umount_left (WordName.Kids n)) (ap stage_owns (kids_step_role (node_after n x.nodes)) ∙ sym (ap owns e))
+  owner_law (SnapshotStep.Releases answer) e own =
+      releases_umount c w good t lt (view_here (SnapshotStep.Releases answer)) (ap owns e) refl (later_remounts (SnapshotStep.Releases answer) e)
 
 -- a phase of a snapshot, or none, has no role at a mount
 abbrev IsOffMounts : Option Phase → Type 0
 IsOffMounts p = (m : ℕ) → role_of m p ≡ Out
 
 -- nor at a level
-trees_off_levels : (y : Snapshot) → IsOffLevels (Some (Trees (Snapshots y)))
+trees_off_levels : (y : Snapshot) → IsOffLevels (Some (Phase.Trees (TreePhase.Snapshot y)))
 trees_off_levels y = record { counts_not = λ i. refl; apart = λ i. refl; outside = refl }
 
 -- and none without an operation
@@ -394,23 +324,23 @@ idle_off_levels = record { counts_not = λ i. refl; apart = λ i. refl; outside 
 
 -- What comes after an event is at the same loads of the tree, in the laws of the tree and here.
 later_role : (x : Snapshot) (s : SnapshotStep) (found : ℕ) (trace : List Traced) →
-    role_after (phase_role (values_noted x.nodes trace)) (map_next Snapshots (snapshot_after x s found).0) ≡
+    role_after (phase_role (values_noted x.nodes trace)) (map_next TreePhase.Snapshot (snapshot_after x s found).0) ≡
     tree_role_of trace (later (snapshot_after x s found).0)
 later_role x s found trace =
-    snapshot_comes x (λ n. role_after (phase_role (values_noted x.nodes trace)) (map_next Snapshots n) ≡ tree_role_of trace (later n))
+    snapshot_comes x (λ n. role_after (phase_role (values_noted x.nodes trace)) (map_next TreePhase.Snapshot n) ≡ tree_role_of trace (later n))
     (λ s'. refl) refl (λ answer. refl) s found
 
 -- what fits the tree fits a task that holds no level
 later_fits : (c : Config) (t : ℕ) (held : ℕ → ℕ) (levels : ℕ → Bool) (x : Snapshot) (s : SnapshotStep) (found : ℕ) →
-    holds_none levels ≡ true → NextFits (tree_bounds c) t (map_next Snapshots (snapshot_after x s found).0) →
+    holds_none levels ≡ true → NextFits (tree_bounds c) t (map_next TreePhase.Snapshot (snapshot_after x s found).0) →
     Fits c t held levels (later (snapshot_after x s found).0)
 later_fits c t held levels x s found none =
-    snapshot_comes x (λ n. NextFits (tree_bounds c) t (map_next Snapshots n) → Fits c t held levels (later n))
+    snapshot_comes x (λ n. NextFits (tree_bounds c) t (map_next TreePhase.Snapshot n) → Fits c t held levels (later n))
     (λ s' fits. (fits, none)) (λ fits. (fits, none)) (λ answer fits. tt) s found
 
 -- The law of the event to come.
 module _ (c : Config) (within : IsWithin c) (w : World) (good : IsGood c w) (t : ℕ) (lt : t < c.tasks) (hook : HookAnswer)
-    (x : Snapshot) (e : (w.views t).phase ≡ Some (Trees (Snapshots x))) where
+    (x : Snapshot) (e : (w.views t).phase ≡ Some (Phase.Trees (TreePhase.Snapshot x))) where
   -- the words after it
   abbrev words_now : Words
   words_now = words_here c within w good t lt hook x x.step
@@ -424,7 +354,7 @@ module _ (c : Config) (within : IsWithin c) (w : World) (good : IsGood c w) (t :
   world_now = world_here c within w good t lt hook x x.step
 
   -- its numbers fit
-  fits_now : PhaseFits c t (held_at (w.views t)) (holds_level (w.views t)) (Trees (Snapshots x))
+  fits_now : PhaseFits c t (held_at (w.views t)) (holds_level (w.views t)) (Phase.Trees (TreePhase.Snapshot x))
   fits_now = subst (Fits c t (held_at (w.views t)) (holds_level (w.views t))) e (good Fitting t lt)
 
   -- and those of what comes after it
@@ -434,7 +364,7 @@ module _ (c : Config) (within : IsWithin c) (w : World) (good : IsGood c w) (t :
       let p : Option Phase = view_now.phase in
       let fits : Fits c t (held_at (w.views t)) (holds_level (w.views t)) p =
       later_fits c t (held_at (w.views t)) (holds_level (w.views t)) x x.step found fits_now.1
-      (fits_after (tree_bounds c) (tree_within c within) t (Snapshots x) found hook fits_now.0) in
+      (fits_after (tree_bounds c) (tree_within c within) t (TreePhase.Snapshot x) found hook fits_now.0) in
       subst (λ (f : ℕ → ℕ). Fits c t f (holds_level view_now) p) (sym (held_here c within w good t lt hook x x.step))
       (subst (λ (g : ℕ → Bool). Fits c t (held_at (w.views t)) g p) (sym (levels_here c within w good t lt hook x x.step)) fits)
 
@@ -446,8 +376,9 @@ module _ (c : Config) (within : IsWithin c) (w : World) (good : IsGood c w) (t :
       let value : ℕ = read w.words (snapshot_next x x.step).0 in
       let found : ℕ = found_here c within w good t lt hook x x.step in
       let beside : IsBeside w.words words_now = event_beside w.words x x.step in
-      let kept : TreeStepKeeps (tree_bounds c) (is_sealed w.words) (is_bare_at w.words) w.words (tree_roles w) t (Snapshots x) noted hook =
-      each_phase (tree_bounds c) (tree_within c within) (is_sealed w.words) (is_bare_at w.words) w.words (tree_roles w) (good Tree) t lt (Snapshots x) values
+      let kept : TreeStepKeeps (tree_bounds c) (is_sealed w.words) (is_bare_at w.words) w.words (tree_roles w) t (TreePhase.Snapshot x) noted hook =
+      each_phase (tree_bounds c) (tree_within c within) (is_sealed w.words) (is_bare_at w.words) w.words (tree_roles w) (good Tree) t lt
+      (TreePhase.Snapshot x) values
       noted hook (ap (tree_role_of (w.views t).trace) e) fits_now.0 tt
       (notes_step (tree_bounds c) x x.step fits_now.0.1 fits_now.0.2 (w.views t).trace value hook) in
       let same : ◌≡◌ {A = TreeState} (record {
@@ -457,7 +388,7 @@ module _ (c : Config) (within : IsWithin c) (w : World) (good : IsGood c w) (t :
         removed = words_now.removed;
         node = words_now.node;
         kids = words_now.kids;
-        at = update (tree_roles w) t (role_after (phase_role noted) (map_next Snapshots (snapshot_after x x.step found).0));
+        at = update (tree_roles w) t (role_after (phase_role noted) (map_next TreePhase.Snapshot (snapshot_after x x.step found).0));
       }) (tree_then c w good t lt words_now view_now) =
       λ j. record {
         sealed = sealed_by (sym beside.sb_same j) (sym beside.stage_same j);
@@ -478,7 +409,7 @@ module _ (c : Config) (within : IsWithin c) (w : World) (good : IsGood c w) (t :
   -- nor at a level
   off_levels : IsOffLevels view_now.phase
   off_levels =
-      snapshot_comes x (λ n. IsOffLevels (later n)) (λ s. trees_off_levels (at_snapshot x s)) (trees_off_levels (at_snapshot x Locks))
+      snapshot_comes x (λ n. IsOffLevels (later n)) (λ s. trees_off_levels (at_snapshot x s)) (trees_off_levels (at_snapshot x SnapshotStep.Locks))
       (λ answer. idle_off_levels) x.step (found_here c within w good t lt hook x x.step)
 
   -- where it had none before
@@ -547,34 +478,34 @@ module _ (c : Config) (within : IsWithin c) (w : World) (good : IsGood c w) (t :
       (opens_here c within w good t lt hook x x.step)
 
   -- it does an owner's work
-  owners_work : IsOwnersWork w (Trees (Snapshots x)) hook
+  owners_work : IsOwnersWork w (Phase.Trees (TreePhase.Snapshot x)) hook
   owners_work = record {
     changes = snapshot_changes x x.step;
     comes_to_own = snapshot_comes_to x x.step (read w.words (snapshot_next x x.step).0);
   }
 
   -- so the rule holds after it
-  good_then : IsGood c (after_step w t (Trees (Snapshots x)) hook)
+  good_then : IsGood c (after_step w t (Phase.Trees (TreePhase.Snapshot x)) hook)
   good_then part =
       elim (cases_Bool (is_known_part part)) [
-        | inl h ↦ subst (Holds c (after_step w t (Trees (Snapshots x)) hook)) (sym (known_is part h))
-            (known_after c w t (Trees (Snapshots x)) hook good lt e owners_work)
-        | inr h ↦ noted_part c w t (Trees (Snapshots x)) hook part (parts_hold part h)
+        | inl h ↦ subst (Holds c (after_step w t (Phase.Trees (TreePhase.Snapshot x)) hook)) (sym (known_is part h))
+            (known_after c w t (Phase.Trees (TreePhase.Snapshot x)) hook good lt e owners_work)
+        | inr h ↦ noted_part c w t (Phase.Trees (TreePhase.Snapshot x)) hook part (parts_hold part h)
       ]
 
   -- and nothing is shown to move
-  shown_then : shown c (after_step w t (Trees (Snapshots x)) hook) ≡ shown c w
-  shown_then = sym (noted_shown c w t (Trees (Snapshots x)) hook) ∙ shown_now
+  shown_then : shown c (after_step w t (Phase.Trees (TreePhase.Snapshot x)) hook) ≡ shown c w
+  shown_then = sym (noted_shown c w t (Phase.Trees (TreePhase.Snapshot x)) hook) ∙ shown_now
 
   -- the law of it
-  keeps_now : StepKeeps c w t hook (Trees (Snapshots x))
+  keeps_now : StepKeeps c w t hook (Phase.Trees (TreePhase.Snapshot x))
   keeps_now = (
     good_then,
-    subst (λ a. Moves c (shown c w) t a (shown c (after_step w t (Trees (Snapshots x)) hook)))
+    subst (λ a. Moves c (shown c w) t a (shown c (after_step w t (Phase.Trees (TreePhase.Snapshot x)) hook)))
         (sym (adds_none x x.step (found_here c within w good t lt hook x x.step))) shown_then,
   )
 
 -- each event of a snapshot keeps the rule, and moves nothing that is shown
 pub snapshot_step : (c : Config) → IsWithin c → (w : World) → IsGood c w → (t : ℕ) → t < c.tasks → (hook : HookAnswer) (x : Snapshot) →
-    (w.views t).phase ≡ Some (Trees (Snapshots x)) → StepKeeps c w t hook (Trees (Snapshots x))
+    (w.views t).phase ≡ Some (Phase.Trees (TreePhase.Snapshot x)) → StepKeeps c w t hook (Phase.Trees (TreePhase.Snapshot x))
 snapshot_step c within w good t lt hook x e = keeps_now c within w good t lt hook x e
