@@ -7,17 +7,14 @@ use Rattle.gate_frames.proofs.{MarkTraces.{fault_tells, fault_short, flush_tells
 use Rattle.gate_frames.proofs.{OpenTraces.{open_tells, open_short}, RemoveTraces.{remove_tells, remove_short}, SnapshotTraces.{snapshot_tells, snapshot_short}}
 use Rattle.call_laws.proofs.TreeFits.{writer_agrees, faulter_agrees}
 
--- what is true of both is true of each
 both_true : (a b : Bool) → (a && b) ≡ true → (a ≡ true) × (b ≡ true)
 both_true true b e = (refl, e)
 both_true false b e = absurd cc
 
--- what isn't true is false
 not_false : (b : Bool) → not b ≡ true → b ≡ false
 not_false true e = sym e
 not_false false e = refl
 
--- of a create
 pub create_keeps : (c : Config) (d : ℕ) (kind : Kind) → OpKeeps c (Op.Create d kind)
 create_keeps c d kind = record {
   fits = λ t held levels there order room. ((ltb-true d c.nodes there, refl, tt), order);
@@ -33,7 +30,6 @@ create_keeps c d kind = record {
   most_small = λ within. omega (arith, within.nodes);
 }
 
--- of a remove
 pub remove_keeps : (c : Config) (file : ℕ) → OpKeeps c (Op.Remove file)
 remove_keeps c file = record {
   fits = λ t held levels there order room. ((ltb-true file c.nodes there, tt), order);
@@ -49,7 +45,6 @@ remove_keeps c file = record {
   most_small = λ within. omega arith;
 }
 
--- of a grow
 pub grow_keeps : (c : Config) (file blocks : ℕ) → OpKeeps c (Op.Grow file blocks)
 grow_keeps c file blocks = record {
   fits = λ t held levels there order room.
@@ -67,7 +62,6 @@ grow_keeps c file blocks = record {
   most_small = λ within. omega arith;
 }
 
--- of a move
 pub move_keeps : (c : Config) (file dir : ℕ) → OpKeeps c (Op.MoveTo file dir)
 move_keeps c file dir = record {
   fits = λ t held levels there order room.
@@ -85,7 +79,6 @@ move_keeps c file dir = record {
   most_small = λ within. omega arith;
 }
 
--- of a page fault
 pub fault_keeps : (c : Config) (file : ℕ) → OpKeeps c (Op.Fault file)
 fault_keeps c file = record {
   fits = λ t held levels there order room. (ltb-true file c.nodes there, order);
@@ -101,7 +94,6 @@ fault_keeps c file = record {
   most_small = λ within. omega arith;
 }
 
--- of a write-back
 pub flush_keeps : (c : Config) (file : ℕ) → OpKeeps c (Op.Flush file)
 flush_keeps c file = record {
   fits = λ t held levels there order room. (ltb-true file c.nodes there, order);
@@ -117,7 +109,6 @@ flush_keeps c file = record {
   most_small = λ within. omega arith;
 }
 
--- of an open
 pub open_keeps : (c : Config) (file : ℕ) → OpKeeps c (Op.Open file)
 open_keeps c file = record {
   fits = λ t held levels there order room. ((ltb-true file c.nodes there, tt), tt);
@@ -133,7 +124,6 @@ open_keeps c file = record {
   most_small = λ within. omega arith;
 }
 
--- of a snapshot
 pub snapshot_keeps : (c : Config) (wait : Bool) → OpKeeps c (Op.Snapshot wait)
 snapshot_keeps c wait = record {
   fits = λ t held levels there order room. ((refl, refl, tt), order);

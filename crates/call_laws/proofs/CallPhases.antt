@@ -6,7 +6,6 @@ use Rattle.gate_frames.proofs.Keeps.{PhaseKeeps}
 use Rattle.call_laws.proofs.{CallSteps.{call_step, call_completes}, TreeCauses.{tree_stays, tree_own}, TreeFits.{tree_acts, tree_goes, tree_agrees}}
 use Rattle.call_laws.proofs.{TreeRuns.tree_runs, TreeWaits.tree_waits, TreeWords.tree_there}
 
--- of each phase of a call at the tree
 pub tree_phase_keeps : (c : Config) (x : TreePhase) → PhaseKeeps c (Phase.Trees x)
 tree_phase_keeps c x = record {
   step = λ within w good t lt hook e. call_step c within w good t lt hook x e;

@@ -7,7 +7,6 @@ use Rattle.gate_frames.proofs.{NodeEvents.tree_step, Snapshots.completes_none}
 use Rattle.call_laws.proofs.{Completes.snapshot_completes_now, SnapshotEvents.snapshot_step}
 
 module _ (c : Config) (within : IsWithin c) (w : World) (good : IsGood c w) (t : ℕ) (lt : t < c.tasks) (hook : HookAnswer) where
-  -- each event at the tree keeps the rule
   pub call_step : (x : TreePhase) → (w.views t).phase ≡ Some (Phase.Trees x) → StepKeeps c w t hook (Phase.Trees x)
   call_step (TreePhase.Create x) e = tree_step c within w good t lt hook (TreePhase.Create x) refl e
   call_step (TreePhase.Remove x) e = tree_step c within w good t lt hook (TreePhase.Remove x) refl e
@@ -18,7 +17,6 @@ module _ (c : Config) (within : IsWithin c) (w : World) (good : IsGood c w) (t :
   call_step (TreePhase.Snapshot x) e = snapshot_step c within w good t lt hook x e
   call_step (TreePhase.ClearMarks x) e = tree_step c within w good t lt hook (TreePhase.ClearMarks x) refl e
 
-  -- a snapshot that it completes is of the present tree; no other call completes one
   pub call_completes : (x : TreePhase) → (w.views t).phase ≡ Some (Phase.Trees x) → CompletesNow c w t hook (Phase.Trees x)
   call_completes (TreePhase.Create x) e = completes_none c w t hook (Phase.Trees (TreePhase.Create x)) (λ trace found. refl)
   call_completes (TreePhase.Remove x) e = completes_none c w t hook (Phase.Trees (TreePhase.Remove x)) (λ trace found. refl)

@@ -10,11 +10,9 @@ use Rattle.gate_world.specs.{Snapshots.{loads_noted, values_noted, snapshot_comp
 use Rattle.gate_world.specs.{Views.{held_at, holds_level}, Worlds.World, declared.{config.Config.Config, work.Phase.Phase}}
 use Rattle.call_laws.proofs.Noted.{IsLong, loaded_long, noted_long, last_load, AreWords}
 
--- something is not nothing
 nothing_is_some : {A : Type 0} (a : A) → None ≡ Some a → ⊥
 nothing_is_some a h = true≢false (ap is_some (sym h))
 
--- what is something is that
 something_is : {A : Type 0} (a b : A) → Some a ≡ Some b → a ≡ b
 something_is a b e = cc
 
@@ -40,7 +38,6 @@ module _ (c : Config) (w : World) (good : IsGood c w) (t : ℕ) (lt : t < c.task
   here_knows : KnowsStage w.words.stage w.words.sb (stage_role_of (Some (Phase.Trees (TreePhase.Snapshot (at_snapshot x (SnapshotStep.LoadsKids n))))))
   here_knows = subst (λ p. KnowsStage w.words.stage w.words.sb (stage_role_of p)) e ((good Stages).knows t lt)
 
-  -- so where this is its last load, it has loaded the present tree
   here_present : x.nodes ≤ n + 1 → IsPresentTree c w.words here_loaded
   here_present last =
       let same : x.nodes ≡ c.nodes = here_fits.0.1 in
@@ -60,7 +57,6 @@ module _ (c : Config) (w : World) (good : IsGood c w) (t : ℕ) (lt : t < c.task
         kids = λ i li. are.2 i (omega (arith, li, same));
       }
 
-  -- what it completes is that
   here_completes : (found : TreeWords) → snapshot_completes x.nodes (SnapshotStep.LoadsKids n) (w.views t).trace (w.words.kids n) ≡ Some found →
       IsPresentTree c w.words found
   here_completes found is =

@@ -13,7 +13,6 @@ use Rattle.gate_world.specs.Trees.{close_tree_role, tree_bounds, tree_of, tree_r
 use Rattle.gate_world.specs.{Views.{held_at, holds_level}, Worlds.World, declared.{config.Config.Config, views.Traced.Traced, work.Phase.Phase}}
 use Rattle.gate_frames.proofs.{CloseEvents.{closer_thawed, removal_counted}, TreeHolders.writer_not_frozen, Trees.sealed_frozen}
 
--- a snapshot charges nothing
 pub snapshot_charges_none : (nodes : ℕ) (values : ℕ → ℕ) (s : SnapshotStep) → HasNoCharge (snapshot_role nodes values s)
 snapshot_charges_none nodes values SnapshotStep.Locks = record { blocks = refl; removed = refl; children = λ d. refl }
 snapshot_charges_none nodes values SnapshotStep.LoadsStage = record { blocks = refl; removed = refl; children = λ d. refl }
@@ -23,12 +22,10 @@ snapshot_charges_none nodes values (SnapshotStep.LoadsKids n) = record { blocks 
 snapshot_charges_none nodes values (SnapshotStep.Releases (Ok reply)) = record { blocks = refl; removed = refl; children = λ d. refl }
 snapshot_charges_none nodes values (SnapshotStep.Releases (Err refusal)) = record { blocks = refl; removed = refl; children = λ d. refl }
 
--- nor does a page fault or a write-back
 mark_charges_none : (x : Mark) (s : MarkStep) → HasNoCharge (mark_role x s)
 mark_charges_none x MarkStep.LoadsFile = record { blocks = refl; removed = refl; children = λ d. refl }
 mark_charges_none x (MarkStep.MarksFile file) = record { blocks = refl; removed = refl; children = λ d. refl }
 
--- nor a remount
 remount_charges_none : (nodes : ℕ) (s : RemountStep) → HasNoCharge (remount_tree_role nodes s)
 remount_charges_none nodes (RemountStep.SetsRemount held) = record { blocks = refl; removed = refl; children = λ d. refl }
 remount_charges_none nodes (RemountStep.ClearsHold held) = record { blocks = refl; removed = refl; children = λ d. refl }
@@ -36,13 +33,11 @@ remount_charges_none nodes (RemountStep.ClearsMark n) = record { blocks = refl; 
 remount_charges_none nodes RemountStep.SetsReadOnly = record { blocks = refl; removed = refl; children = λ d. refl }
 remount_charges_none nodes s = record { blocks = refl; removed = refl; children = λ d. refl }
 
--- nor a freeze
 freeze_charges_none : (nodes : ℕ) (s : FreezeStep) → HasNoCharge (freeze_tree_role nodes s)
 freeze_charges_none nodes (FreezeStep.Cleans marks) = record { blocks = refl; removed = refl; children = λ d. refl }
 freeze_charges_none nodes FreezeStep.SetsFs = record { blocks = refl; removed = refl; children = λ d. refl }
 freeze_charges_none nodes s = record { blocks = refl; removed = refl; children = λ d. refl }
 
--- nor an open
 open_charges_none : (x : OpenFile) (s : OpenStep) → HasNoCharge (open_role x s)
 open_charges_none x OpenStep.LoadsFile = record { blocks = refl; removed = refl; children = λ d. refl }
 open_charges_none x (OpenStep.OpensFile file) = record { blocks = refl; removed = refl; children = λ d. refl }
@@ -80,19 +75,16 @@ frozen_quiet c within w good frozen t lt =
     (λ writes. writer_not_frozen c w good t lt writes frozen)
     (λ inside removed. closer_thawed c within w good t lt inside (removal_counted c within w good t lt removed) frozen)
 
--- so the tree is sound and clean then
 pub frozen_whole : (c : Config) → IsWithin c → (w : World) → IsGood c w → FrozenTreeIsWhole c w
 frozen_whole c within w good frozen = (
   exact (tree_bounds c) (tree_of w) (good Tree) (frozen_quiet c within w good frozen),
   (good Tree).clean (sealed_frozen w.words.sb w.words.stage (omega (arith, frozen))),
 )
 
--- an idle task has charged nothing
 idle_quiet : (trace : List Traced) (p : Option Phase) → p ≡ None → HasNoCharge (tree_role_of trace p)
 idle_quiet trace p idle =
     subst (λ q. HasNoCharge (tree_role_of trace q)) (sym idle) (record { blocks = refl; removed = refl; children = λ d. refl })
 
--- so the tree is sound where no operation is under way
 pub idle_sound : (c : Config) (w : World) → IsGood c w → ((t : ℕ) → t < c.tasks → (w.views t).phase ≡ None) → TreeIsSound c w
 idle_sound c w good idle =
     exact (tree_bounds c) (tree_of w) (good Tree) (λ t lt. idle_quiet (w.views t).trace (w.views t).phase (idle t lt))

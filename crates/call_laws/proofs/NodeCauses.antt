@@ -15,11 +15,9 @@ use Rattle.gated_tree.specs.declared.{nodes.NodeWord.NodeWord, opens.{OpenFile.O
 use Rattle.gate_world.specs.{Causes.{TellsOf, CallRefused, tree_sees}, Shown.shown, Work.after_of, Worlds.{World, found_at}}
 use Rattle.gate_world.specs.declared.{config.Config.Config, work.Phase.Phase}
 
--- what is there is what it is
 some_is : {A : Type 0} (a b : A) → Some a ≡ Some b → a ≡ b
 some_is a b e = cc
 
--- of one refusal there is one reason
 refused_is : (a b : GateError) (r : Result NodeWord GateError) → r ≡ Err a → r ≡ Err b → a ≡ b
 refused_is a b r e f = cc
 
@@ -45,7 +43,6 @@ directory_refused node (Some Kind.File) refusal e =
     subst (TellsOf (info_of (record node { kind = Some Kind.File }))) (refused_is GateError.NotDir refusal (Err GateError.NotDir) refl e) refl
 directory_refused node (Some Kind.Dir) refusal e = absurd cc
 
--- a word that is refused is some node's
 refused_unless : (look : NodeWord → Option Kind → Result NodeWord GateError) (stray : Bool) (node : NodeWord) (refusal : GateError) →
     option_map (λ n. look n n.kind) (if stray then None else Some node) ≡ Some (Err refusal) → look node node.kind ≡ Err refusal
 refused_unless look true node refusal e = absurd cc
@@ -57,14 +54,12 @@ file_unless : (stray : Bool) (node : NodeWord) (refusal : GateError) →
 file_unless true node refusal e = absurd cc
 file_unless false node refusal e = some_is _ _ e
 
--- so a word that is refused as a file shows the node so
 file_tells : (word : ℕ) (refusal : GateError) → file_in word ≡ Some (Err refusal) → TellsOf (node_shown word) refusal
 file_tells word refusal e =
     subst (λ entry. TellsOf entry refusal) (fields_shown word)
     (file_refused (node_of word) (node_of word).removed (kind_of (kind_in word)) refusal
     (file_unless (is_stray word) (node_of word) refusal e))
 
--- and one that is refused as a directory
 directory_tells : (word : ℕ) (refusal : GateError) → directory_in word ≡ Some (Err refusal) → TellsOf (node_shown word) refusal
 directory_tells word refusal e =
     subst (λ entry. TellsOf entry refusal) (fields_shown word)
@@ -120,18 +115,15 @@ not_of_node to (Next.Done (Err other)) h refusal e is =
     absurd (true≢false (sym is ∙ (ap is_of_node (sym same) ∙ h)))
 not_of_node to other h refusal e is = absurd cc
 
--- a create that finds all nodes taken is refused for no node
 create_past_not : (x : Create) (o : Option ℕ) → NotOfNode (create_looks_at x o)
 create_past_not x None = refl
 create_past_not x (Some node) = tt
 
--- nor is one that looked at a node to take
 create_looked_not : (x : Create) (node : ℕ) (found : Option NodeWord) → NotOfNode (create_looked x node found)
 create_looked_not x node None = tt
 create_looked_not x node (Some found) =
     either (is_some found.kind) (create_past x node) (Next.Go (at_create x (CreateStep.ChargesChild node))) (create_past_not x (node_after node x.nodes)) tt
 
--- the answer of a move is none
 answer_not : (answer : Result Reply GateError) → IsMoveAnswer answer → NotOfNode {P = MoveTo} (Next.Done answer)
 answer_not (Ok reply) h = tt
 answer_not (Err GateError.Again) h = refl
@@ -143,7 +135,6 @@ clears_not x None = tt
 clears_not x (Some node) = tt
 
 module _ (c : Config) (w : World) where
-  -- a create is refused so where it looks at its directory
   pub create_node : (x : Create) (s : CreateStep) → NodeHasCause c w (TreePhase.Create (at_create x s))
   create_node x CreateStep.LoadsDirectory hook refusal e is = (
     x.dir,
@@ -162,7 +153,6 @@ module _ (c : Config) (w : World) where
   create_node x CreateStep.RefundsChild hook refusal e is =
       not_of_node TreePhase.Create (create_after (at_create x CreateStep.RefundsChild) CreateStep.RefundsChild (w.words.kids x.dir)).0 refl refusal e is
 
-  -- a remove, where it looks at its file
   pub remove_node : (x : Remove) (s : RemoveStep) → NodeHasCause c w (TreePhase.Remove (at_remove x s))
   remove_node x RemoveStep.LoadsFile hook refusal e is = (
     x.file,
@@ -188,7 +178,6 @@ module _ (c : Config) (w : World) where
       not_of_node TreePhase.Remove
       (remove_after (at_remove x (RemoveStep.RefundsChild file)) (RemoveStep.RefundsChild file) (w.words.kids file.parent)).0 tt refusal e is
 
-  -- a grow likewise
   pub grow_node : (x : Grow) (s : GrowStep) → NodeHasCause c w (TreePhase.Grow (at_grow x s))
   grow_node x GrowStep.LoadsFile hook refusal e is = (
     x.file,
@@ -209,7 +198,6 @@ module _ (c : Config) (w : World) where
   grow_node x GrowStep.RefundsBlocks hook refusal e is =
       not_of_node TreePhase.Grow (grow_after (at_grow x GrowStep.RefundsBlocks) GrowStep.RefundsBlocks w.words.used).0 refl refusal e is
 
-  -- a move, where it looks at its file or at its directory
   pub move_node : (x : MoveTo) (s : MoveStep) → MoveStepFits s → NodeHasCause c w (TreePhase.MoveTo (at_move x s))
   move_node x MoveStep.LoadsFile fits hook refusal e is = (
     x.file,
@@ -232,7 +220,6 @@ module _ (c : Config) (w : World) where
       not_of_node TreePhase.MoveTo (move_after (at_move x (MoveStep.RefundsChild dir answer)) (MoveStep.RefundsChild dir answer) (w.words.kids dir)).0
       (answer_not answer fits.1) refusal e is
 
-  -- a page fault or a write-back, where it looks at its file
   pub mark_node : (x : Mark) (s : MarkStep) → NodeHasCause c w (TreePhase.Mark (at_mark x s))
   mark_node x MarkStep.LoadsFile hook refusal e is = (
     x.file,
@@ -244,7 +231,6 @@ module _ (c : Config) (w : World) where
       not_of_node TreePhase.Mark (mark_after (at_mark x (MarkStep.MarksFile file)) (MarkStep.MarksFile file) (w.words.node x.file)).0
       (either (w.words.node x.file == word_of file) _ _ tt refl) refusal e is
 
-  -- an open, where it looks at its file
   pub open_node : (x : OpenFile) (s : OpenStep) → NodeHasCause c w (TreePhase.OpenFile (at_open x s))
   open_node x OpenStep.LoadsFile hook refusal e is = (
     x.file,
@@ -256,7 +242,6 @@ module _ (c : Config) (w : World) where
       not_of_node TreePhase.OpenFile (open_after (at_open x (OpenStep.OpensFile file)) (OpenStep.OpensFile file) (w.words.node x.file)).0
       (either (w.words.node x.file == word_of file) _ _ tt refl) refusal e is
 
-  -- a clearing of marks is not
   pub clear_node : (x : ClearMarks) → NodeHasCause c w (TreePhase.ClearMarks x)
   clear_node x hook refusal e is =
       not_of_node TreePhase.ClearMarks (clear_after x (w.words.node x.node)).0 (clears_not x (node_after x.node x.nodes)) refusal e is

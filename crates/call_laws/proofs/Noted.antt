@@ -20,7 +20,6 @@ loaded_long nodes words (WordName.Node n) value long = (length-set words.nodes n
 loaded_long nodes words (WordName.Kids n) value long = (long.0, length-set words.kids n value ∙ long.1)
 loaded_long nodes words name value long = long
 
--- so there is room in what a trace has noted
 pub noted_long : (nodes : ℕ) (trace : List Traced) → IsLong nodes (loads_noted nodes trace)
 noted_long nodes [] = (length-replicate {A = ℕ} nodes 0, length-replicate {A = ℕ} nodes 0)
 noted_long nodes (e ∷ earlier) =
@@ -33,7 +32,6 @@ noted_long nodes (e ∷ earlier) =
 abbrev pub values_of : ℕ → TreeWords → ℕ → ℕ
 values_of nodes words = tree_word nodes words.used (slice_index words.nodes) (slice_index words.kids)
 
--- a load of `used` is the first value
 notes_used : (nodes : ℕ) (words : TreeWords) (value : ℕ) →
     NotesOne 0 (values_of nodes words) (values_of nodes (loaded words WordName.Used value)) value
 notes_used nodes words value = (refl, λ i l. absurd (omega (arith, l)))

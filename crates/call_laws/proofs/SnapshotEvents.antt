@@ -77,12 +77,10 @@ adds_none x other found = refl
 -- What comes after it is the same snapshot at another step, or it is done.
 module _ (x : Snapshot) (P : Next Snapshot → Type 0) (go : (s : SnapshotStep) → P (Next.Go (at_snapshot x s)))
     (wait : P (Next.Wait (at_snapshot x SnapshotStep.Locks))) (done : (answer : Result Reply GateError) → P (Next.Done answer)) where
-  -- after a lock that was taken
   locked_out_comes : (b : Bool) → P (snapshot_locked_out x b)
   locked_out_comes true = wait
   locked_out_comes false = done _
 
-  -- after each event
   snapshot_comes : (s : SnapshotStep) (found : ℕ) → P (snapshot_after x s found).0
   snapshot_comes SnapshotStep.Locks found =
       by_bool (found == 0) (λ b. P (if b then Next.Go (at_snapshot x SnapshotStep.LoadsStage) else snapshot_locked_out x x.wait))
@@ -103,27 +101,22 @@ module _ (x : Snapshot) (P : Next Snapshot → Type 0) (go : (s : SnapshotStep) 
 abbrev later : Next Snapshot → Option Phase
 later n = phase_after (map_next Phase.Trees (map_next TreePhase.Snapshot n))
 
--- no level is closing at a snapshot
 step_sums : (i : ℕ) (s : SnapshotStep) → sums i (snapshot_stage_role s) ≡ 0
 step_sums i SnapshotStep.Locks = refl
 step_sums i other = refl
 
--- the next node, or the children of the first, is loaded with the same reliance
 node_step_role : (o : Option ℕ) → snapshot_stage_role (node_step o) ≡ Owning (Some 4) None
 node_step_role (Some n) = refl
 node_step_role None = refl
 
--- so are the children of the next node, and so it goes on to its release
 kids_step_role : (o : Option ℕ) → snapshot_stage_role (kids_step o) ≡ Owning (Some 4) None
 kids_step_role (Some n) = refl
 kids_step_role None = refl
 
--- where `umount` was taken, nothing is to be done with the stage yet
 locked_out_role : (x : Snapshot) (b : Bool) → stage_role_of (later (snapshot_locked_out x b)) ≡ Aside
 locked_out_role x true = refl
 locked_out_role x false = refl
 
--- and nothing is owned
 locked_out_owns : (x : Snapshot) (b : Bool) → owns (later (snapshot_locked_out x b)) ≡ 0
 locked_out_owns x true = refl
 locked_out_owns x false = refl
@@ -160,12 +153,10 @@ snapshot_comes_to x SnapshotStep.Locks value h =
     ]
 snapshot_comes_to x s value h = inl refl
 
--- owners that rely on one thing or another are alike
 owners_alike : (stage sb stage' sb' : Option ℕ) → IsAlike (Owning stage sb) (Owning stage' sb')
 owners_alike stage sb stage' sb' =
     record { owns_same = refl; freezes_same = refl; remounts_same = refl; closed_same = refl; passed_same = refl }
 
--- who is no owner is like itself
 aside_alike : IsAlike Aside Aside
 aside_alike = record { owns_same = refl; freezes_same = refl; remounts_same = refl; closed_same = refl; passed_same = refl }
 
@@ -193,19 +184,15 @@ module _ (c : Config) (within : IsWithin c) (w : World) (good : IsGood c w) (t :
       view_with (w.views t) (snapshot_next x s) (read w.words (snapshot_next x s).0) hook
       (map_next Phase.Trees (map_next TreePhase.Snapshot (next_here s)), (snapshot_after x s (found_here s)).1)
 
-  -- and the world
   abbrev world_here : SnapshotStep → World
   world_here s = record { words = words_here s; views = update w.views t (view_here s) }
 
-  -- it holds what it held at the mounts
   held_here : (s : SnapshotStep) → held_at (view_here s) ≡ held_at (w.views t)
   held_here s = ap (λ a. mounts_of (actions_after a (w.views t).actions)) (adds_none x s (found_here s))
 
-  -- and at the levels
   levels_here : (s : SnapshotStep) → holds_level (view_here s) ≡ holds_level (w.views t)
   levels_here s = ap (λ a. levels_of (actions_after a (w.views t).actions)) (adds_none x s (found_here s))
 
-  -- and its open files
   opens_here : (s : SnapshotStep) → has_open (view_here s) ≡ has_open (w.views t)
   opens_here s = ap (λ a. opens_of (actions_after a (w.views t).actions)) (adds_none x s (found_here s))
 
@@ -241,7 +228,6 @@ module _ (c : Config) (within : IsWithin c) (w : World) (good : IsGood c w) (t :
   here_knows : (s : SnapshotStep) → IsHere s → KnowsStage w.words.stage w.words.sb (snapshot_stage_role s)
   here_knows s e = subst (λ p. KnowsStage w.words.stage w.words.sb (stage_role_of p)) e ((good Stages).knows t lt)
 
-  -- the rule of the stage after each event
   stage_law : (s : SnapshotStep) → IsHere s → Holds c (world_here s) Stages
   stage_law SnapshotStep.Locks e =
       elim (eqb_tells w.words.umount 0) [
@@ -268,23 +254,19 @@ module _ (c : Config) (within : IsWithin c) (w : World) (good : IsGood c w) (t :
       (ReleasesStage (stage_at_end answer) None)
       (ap stage_role_of e, moment_here (SnapshotStep.Releases answer) Aside refl)
 
-  -- it has `remount` not set
   later_remounts : (s : SnapshotStep) → IsHere s → remounts (view_here s).phase ≡ remounts (w.views t).phase
   later_remounts s e =
       snapshot_comes x (λ n. remounts (later n) ≡ 0) (λ s'. refl) refl (λ answer. refl) s (found_here s) ∙ sym (ap remounts e)
 
-  -- an owner's load
   load_owner : (s : SnapshotStep) → IsHere s → (words_here s).umount ≡ w.words.umount → owns (view_here s).phase ≡ owns (w.views t).phase →
       Holds c (world_here s) Owner
   load_owner s e umount own =
       left_alone c w t lt Owner (words_here s) (view_here s) (umount, (event_beside w.words x s).remount_same)
       (own, later_remounts s e) (good Owner)
 
-  -- a load leaves `umount`
   umount_left : (name : WordName) → (put w.words name (read w.words name)).umount ≡ w.words.umount
   umount_left name = ap (λ (ws : Words). ws.umount) (load_same w.words name)
 
-  -- the owner's words after each event
   owner_law : (s : SnapshotStep) → IsHere s → x.task ≡ t → Holds c (world_here s) Owner
   owner_law SnapshotStep.Locks e own =
       elim (eqb_tells w.words.umount 0) [
@@ -314,11 +296,9 @@ module _ (c : Config) (within : IsWithin c) (w : World) (good : IsGood c w) (t :
 abbrev IsOffMounts : Option Phase → Type 0
 IsOffMounts p = (m : ℕ) → role_of m p ≡ Out
 
--- nor at a level
 trees_off_levels : (y : Snapshot) → IsOffLevels (Some (Phase.Trees (TreePhase.Snapshot y)))
 trees_off_levels y = record { counts_not = λ i. refl; apart = λ i. refl; outside = refl }
 
--- and none without an operation
 idle_off_levels : IsOffLevels None
 idle_off_levels = record { counts_not = λ i. refl; apart = λ i. refl; outside = refl }
 
@@ -330,7 +310,6 @@ later_role x s found trace =
     snapshot_comes x (λ n. role_after (phase_role (values_noted x.nodes trace)) (map_next TreePhase.Snapshot n) ≡ tree_role_of trace (later n))
     (λ s'. refl) refl (λ answer. refl) s found
 
--- what fits the tree fits a task that holds no level
 later_fits : (c : Config) (t : ℕ) (held : ℕ → ℕ) (levels : ℕ → Bool) (x : Snapshot) (s : SnapshotStep) (found : ℕ) →
     holds_none levels ≡ true → NextFits (tree_bounds c) t (map_next TreePhase.Snapshot (snapshot_after x s found).0) →
     Fits c t held levels (later (snapshot_after x s found).0)
@@ -341,7 +320,6 @@ later_fits c t held levels x s found none =
 -- The law of the event to come.
 module _ (c : Config) (within : IsWithin c) (w : World) (good : IsGood c w) (t : ℕ) (lt : t < c.tasks) (hook : HookAnswer)
     (x : Snapshot) (e : (w.views t).phase ≡ Some (Phase.Trees (TreePhase.Snapshot x))) where
-  -- the words after it
   abbrev words_now : Words
   words_now = words_here c within w good t lt hook x x.step
 
@@ -349,15 +327,12 @@ module _ (c : Config) (within : IsWithin c) (w : World) (good : IsGood c w) (t :
   abbrev view_now : View
   view_now = view_here c within w good t lt hook x x.step
 
-  -- and the world
   abbrev world_now : World
   world_now = world_here c within w good t lt hook x x.step
 
-  -- its numbers fit
   fits_now : PhaseFits c t (held_at (w.views t)) (holds_level (w.views t)) (Phase.Trees (TreePhase.Snapshot x))
   fits_now = subst (Fits c t (held_at (w.views t)) (holds_level (w.views t))) e (good Fitting t lt)
 
-  -- and those of what comes after it
   fits_then : ViewFits c t view_now
   fits_then =
       let found : ℕ = found_here c within w good t lt hook x x.step in
@@ -416,7 +391,6 @@ module _ (c : Config) (within : IsWithin c) (w : World) (good : IsGood c w) (t :
   was_off_levels : IsOffLevels (w.views t).phase
   was_off_levels = subst IsOffLevels (sym e) (trees_off_levels x)
 
-  -- the words of the levels are as they were
   level_words : SameLevelWords w.words words_now
   level_words =
       let beside : IsBeside w.words words_now = event_beside w.words x x.step in
@@ -428,7 +402,6 @@ module _ (c : Config) (within : IsWithin c) (w : World) (good : IsGood c w) (t :
         whole_same = λ j. is_full (beside.stage_same j) (beside.sb_same j);
       }
 
-  -- and its counts there
   level_counts : SameLevelCounts (w.views t) view_now
   level_counts = record {
     held_same = levels_here c within w good t lt hook x x.step;
@@ -466,7 +439,6 @@ module _ (c : Config) (within : IsWithin c) (w : World) (good : IsGood c w) (t :
   parts_hold (SyncAt i) k = sync_left c w t lt good words_now view_now level_words level_counts was_off_levels off_levels i
   parts_hold Sections k = sections_left c w t lt good words_now view_now level_words level_counts was_off_levels off_levels
 
-  -- the shown model is as it was
   shown_now : shown c world_now ≡ shown c w
   shown_now =
       let beside : IsBeside w.words words_now = event_beside w.words x x.step in
@@ -477,14 +449,12 @@ module _ (c : Config) (within : IsWithin c) (w : World) (good : IsGood c w) (t :
       (held_here c within w good t lt hook x x.step) (levels_here c within w good t lt hook x x.step)
       (opens_here c within w good t lt hook x x.step)
 
-  -- it does an owner's work
   owners_work : IsOwnersWork w (Phase.Trees (TreePhase.Snapshot x)) hook
   owners_work = record {
     changes = snapshot_changes x x.step;
     comes_to_own = snapshot_comes_to x x.step (read w.words (snapshot_next x x.step).0);
   }
 
-  -- so the rule holds after it
   good_then : IsGood c (after_step w t (Phase.Trees (TreePhase.Snapshot x)) hook)
   good_then part =
       elim (cases_Bool (is_known_part part)) [
@@ -493,11 +463,9 @@ module _ (c : Config) (within : IsWithin c) (w : World) (good : IsGood c w) (t :
         | inr h ↦ noted_part c w t (Phase.Trees (TreePhase.Snapshot x)) hook part (parts_hold part h)
       ]
 
-  -- and nothing is shown to move
   shown_then : shown c (after_step w t (Phase.Trees (TreePhase.Snapshot x)) hook) ≡ shown c w
   shown_then = sym (noted_shown c w t (Phase.Trees (TreePhase.Snapshot x)) hook) ∙ shown_now
 
-  -- the law of it
   keeps_now : StepKeeps c w t hook (Phase.Trees (TreePhase.Snapshot x))
   keeps_now = (
     good_then,

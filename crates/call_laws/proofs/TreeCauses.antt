@@ -39,22 +39,18 @@ module _ (c : Config) (t : ℕ) (w next : World) (earlier : List World) where
   no_cause to none (Next.Wait p) = none p
   no_cause to none (Next.Done answer) = tt
 
-  -- either of two
   either : (b : Bool) (n m : Next Snapshot) → CauseAfter n → CauseAfter m → CauseAfter (if b then n else m)
   either true n m h k = h
   either false n m h k = k
 
-  -- a snapshot that finds `umount` taken keeps none
   locked_out_own : (x : Snapshot) (wait : Bool) → CauseAfter (snapshot_locked_out x wait)
   locked_out_own x true = tt
   locked_out_own x false = tt
 
-  -- nor does one that goes on to a node
   node_own : (x : Snapshot) (o : Option ℕ) → CauseAfter (Next.Go (at_snapshot x (node_step o)))
   node_own x (Some node) = tt
   node_own x None = tt
 
-  -- a snapshot that is done is not refused
   kids_own : (x : Snapshot) (o : Option ℕ) → CauseAfter (Next.Go (at_snapshot x (kids_step o)))
   kids_own x (Some node) = tt
   kids_own x None = tt
@@ -67,7 +63,6 @@ module _ (c : Config) (t : ℕ) (w next : World) (earlier : List World) where
       ap (was_incomplete c) (look_skips t next (w ∷ earlier) (ap looks_at_stage e') ∙ look_stands t w earlier (ap looks_at_stage e)) ∙
       ap not (ne_eqb w.words.stage 4 other)
 
-  -- what comes after an event of a snapshot has its cause
   snapshot_own : (hook : HookAnswer) (x : Snapshot) (s : SnapshotStep) → (w.views t).phase ≡ Some (Phase.Trees (TreePhase.Snapshot (at_snapshot x s))) →
       let comes : Option Phase = phase_after
       (after_of (Phase.Trees (TreePhase.Snapshot (at_snapshot x s))) (found_at w.words (Phase.Trees (TreePhase.Snapshot (at_snapshot x s))) hook) hook).0 in
@@ -81,7 +76,6 @@ module _ (c : Config) (t : ℕ) (w next : World) (earlier : List World) where
   snapshot_own hook x (SnapshotStep.LoadsKids node) e e' = kids_own (at_snapshot x (SnapshotStep.LoadsKids node)) (node_after node x.nodes)
   snapshot_own hook x (SnapshotStep.Releases answer) e e' = tt
 
-  -- what comes after an event at the tree has its cause
   pub tree_own : (hook : HookAnswer) (x : TreePhase) → (w.views t).phase ≡ Some (Phase.Trees x) →
       let comes : Option Phase = phase_after (after_of (Phase.Trees x) (found_at w.words (Phase.Trees x) hook) hook).0 in
       (next.views t).phase ≡ comes → CauseOf c t next (w ∷ earlier) comes

@@ -31,19 +31,16 @@ if_leaves : (b : Bool) (a : Option Action) → LeavesAccesses a → LeavesAccess
 if_leaves true a h = h
 if_leaves false a h = none_leaves
 
--- a mark that is set or cleared does
 mark_done_leaves : (dirty : Bool) (file : ℕ) → LeavesAccesses (Some (mark_done dirty file))
 mark_done_leaves true file = record { can = λ held. tt; mounts = λ held. refl; levels = λ held. refl }
 mark_done_leaves false file = record { can = λ held. tt; mounts = λ held. refl; levels = λ held. refl }
 
--- so it is of each event of a create
 create_action : (x : Create) (s : CreateStep) (found : ℕ) → LeavesAccesses (create_after x s found).1
 create_action x (CreateStep.TakesNode node) found =
     if_leaves (found == 0) (Some (Action.Create node x.dir x.kind))
     (record { can = λ held. tt; mounts = λ held. refl; levels = λ held. refl })
 create_action x other found = none_leaves
 
--- of a remove
 remove_action : (x : Remove) (s : RemoveStep) (found : ℕ) → LeavesAccesses (remove_after x s found).1
 remove_action x (RemoveStep.FreesNode file) found =
     if_leaves (found == word_of file) (Some (Action.Remove x.file))
@@ -53,21 +50,18 @@ remove_action x (RemoveStep.MarksRemoved file) found =
     (record { can = λ held. tt; mounts = λ held. refl; levels = λ held. refl })
 remove_action x other found = none_leaves
 
--- of a grow
 grow_action : (x : Grow) (s : GrowStep) (found : ℕ) → LeavesAccesses (grow_after x s found).1
 grow_action x (GrowStep.GrowsFile file) found =
     if_leaves (found == word_of file) (Some (Action.Grow x.file x.blocks))
     (record { can = λ held. tt; mounts = λ held. refl; levels = λ held. refl })
 grow_action x other found = none_leaves
 
--- of a move
 move_action : (x : MoveTo) (s : MoveStep) (found : ℕ) → LeavesAccesses (move_after x s found).1
 move_action x (MoveStep.MovesFile file) found =
     if_leaves (found == word_of file) (Some (Action.MoveTo x.file x.dir))
     (record { can = λ held. tt; mounts = λ held. refl; levels = λ held. refl })
 move_action x other found = none_leaves
 
--- of a page fault or a write-back
 mark_action : (x : Mark) (s : MarkStep) (found : ℕ) → LeavesAccesses (mark_after x s found).1
 mark_action x MarkStep.LoadsFile found = none_leaves
 mark_action x (MarkStep.MarksFile file) found =
@@ -80,7 +74,6 @@ open_action x (OpenStep.OpensFile file) found small =
     if_leaves (found == word_of file) (Some (Action.Open x.file))
     (record { can = λ held. small; mounts = λ held. refl; levels = λ held. refl })
 
--- a snapshot has no action
 snapshot_action : (x : Snapshot) (s : SnapshotStep) (found : ℕ) → LeavesAccesses (snapshot_after x s found).1
 snapshot_action x SnapshotStep.Locks found = none_leaves
 snapshot_action x other found = none_leaves
@@ -94,7 +87,6 @@ opens_small : (c : Config) → IsWithin c → (t : ℕ) (x : TreePhase) → Tree
 opens_small c within t (TreePhase.OpenFile x) fits = omega (arith, within.nodes, fits.0)
 opens_small c within t x fits = tt
 
--- so it is of each event at the tree
 pub tree_action : (x : TreePhase) (found : ℕ) (hook : HookAnswer) → OpensSmall x → LeavesAccesses (tree_after x found hook).1
 tree_action (TreePhase.Create x) found hook small = create_action x x.step found
 tree_action (TreePhase.Remove x) found hook small = remove_action x x.step found
@@ -113,7 +105,6 @@ module _ (c : Config) (held : ℕ → ℕ) (levels : ℕ → Bool) where
   NextAccess (Next.Wait x) = TreeAccess c held levels x
   NextAccess (Next.Done answer) = Unit {0}
 
-  -- where each phase of a call asks for the same accesses
   same_access : {P : Type 0} (to : P → TreePhase) → ((p : P) → TreeAccess c held levels (to p)) → (n : Next P) → NextAccess (map_next to n)
   same_access to may (Next.Go p) = may p
   same_access to may (Next.Wait p) = may p
@@ -195,7 +186,6 @@ module _ (c : Config) (f g : ℕ → ℕ) (h k : ℕ → Bool) (mounts : (m : �
   mark_agrees true = faulter_agrees
   mark_agrees false = levels 3 (omega arith) (omega arith)
 
-  -- so it is of each call at the tree
   access_agrees : (x : TreePhase) → TreeAccess c f h x → TreeAccess c g k x
   access_agrees (TreePhase.Mark x) may = sym (mark_agrees x.dirty) ∙ may
   access_agrees (TreePhase.Snapshot x) may = sym (none_agree c 0 f g h k mounts levels) ∙ may
@@ -203,6 +193,5 @@ module _ (c : Config) (f g : ℕ → ℕ) (h k : ℕ → Bool) (mounts : (m : �
   access_agrees (TreePhase.OpenFile x) may = tt
   access_agrees other may = sym writer_agrees ∙ may
 
-  -- and it fits accesses that agree
   pub tree_agrees : (t : ℕ) (x : TreePhase) → PhaseFits c t f h (Phase.Trees x) → PhaseFits c t g k (Phase.Trees x)
   tree_agrees t x fits = (fits.0, access_agrees x fits.1)

@@ -22,12 +22,10 @@ GoesOn (Next.Go p) = Unit {0}
 GoesOn (Next.Wait p) = ⊥
 GoesOn (Next.Done answer) = Unit {0}
 
--- nor is either of two that are none
 either : {P : Type 0} (b : Bool) (n m : Next P) → GoesOn n → GoesOn m → GoesOn (if b then n else m)
 either true n m h k = h
 either false n m h k = k
 
--- what comes after a look at a node is none
 look_goes : {A : Type 0} {P : Type 0} (again : P) (to : A → P) (r : Option (Result A GateError)) → GoesOn (after_look again to r)
 look_goes again to None = tt
 look_goes again to (Some (Ok a)) = tt
@@ -52,14 +50,12 @@ create_goes_on x (CreateStep.ChargesChild node) found = tt
 create_goes_on x (CreateStep.TakesNode node) found = either (found == 0) _ _ tt tt
 create_goes_on x CreateStep.RefundsChild found = tt
 
--- nor does a remove
 remove_goes_on : (x : Remove) (s : RemoveStep) (found : ℕ) → GoesOn (remove_after x s found).0
 remove_goes_on x RemoveStep.LoadsFile found = look_goes _ _ (file_in found)
 remove_goes_on x (RemoveStep.FreesNode file) found = either (found == word_of file) _ _ tt tt
 remove_goes_on x (RemoveStep.MarksRemoved file) found = either (found == word_of file) _ _ tt tt
 remove_goes_on x other found = tt
 
--- nor a grow
 grow_goes_on : (x : Grow) (s : GrowStep) (found : ℕ) → GoesOn (grow_after x s found).0
 grow_goes_on x GrowStep.LoadsFile found = look_goes _ _ (file_in found)
 grow_goes_on x (GrowStep.LoadsUsed file) found =
@@ -68,7 +64,6 @@ grow_goes_on x (GrowStep.ChargesBlocks file used) found = either (found == used)
 grow_goes_on x (GrowStep.GrowsFile file) found = either (found == word_of file) _ _ tt tt
 grow_goes_on x GrowStep.RefundsBlocks found = tt
 
--- nor a move
 move_goes_on : (x : MoveTo) (s : MoveStep) (found : ℕ) → GoesOn (move_after x s found).0
 move_goes_on x MoveStep.LoadsFile found = look_goes _ _ (file_in found)
 move_goes_on x (MoveStep.LoadsDirectory file) found = look_goes _ _ (directory_in found)
@@ -76,17 +71,14 @@ move_goes_on x (MoveStep.ChargesChild file) found = tt
 move_goes_on x (MoveStep.MovesFile file) found = either (found == word_of file) _ _ tt tt
 move_goes_on x (MoveStep.RefundsChild dir answer) found = tt
 
--- nor a page fault or a write-back
 mark_goes_on : (x : Mark) (s : MarkStep) (found : ℕ) → GoesOn (mark_after x s found).0
 mark_goes_on x MarkStep.LoadsFile found = look_goes _ _ (file_in found)
 mark_goes_on x (MarkStep.MarksFile file) found = either (found == word_of file) _ _ tt tt
 
--- nor an open
 open_goes_on : (x : OpenFile) (s : OpenStep) (found : ℕ) → GoesOn (open_after x s found).0
 open_goes_on x OpenStep.LoadsFile found = look_goes _ _ (file_in found)
 open_goes_on x (OpenStep.OpensFile file) found = either (found == word_of file) _ _ tt tt
 
--- nor a clearing of marks
 clear_goes_on : (x : ClearMarks) (o : Option ℕ) → GoesOn (clears_at x o)
 clear_goes_on x None = tt
 clear_goes_on x (Some node) = tt
@@ -103,7 +95,6 @@ module _ (c : Config) (w : World) (earlier : List World) (t : ℕ) where
   no_wait to x (Next.Done (Ok reply)) h call node = tt
   no_wait to x (Next.Done (Err refusal)) h call node = call refusal (call_refused c w earlier x refusal (node refusal refl))
 
-  -- what of a snapshot comes next goes on
   goes_on : (x : Snapshot) (b : Bool) (s s' : SnapshotStep) →
       HasReason c w earlier t (Phase.Trees (TreePhase.Snapshot x))
       (map_next Phase.Trees (map_next TreePhase.Snapshot (if b then Next.Go (at_snapshot x s) else Next.Go (at_snapshot x s'))))

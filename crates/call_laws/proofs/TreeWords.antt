@@ -10,11 +10,9 @@ use Rattle.gate_world.specs.{Rules.{SameWords, SyncAt}, Trees.tree_bounds, World
 use Rattle.gate_frames.proofs.Keeps.{extents_touched}
 
 module _ (c : Config) (n t : ℕ) where
-  -- a node of the tree is one of those touched
   touched : (m : ℕ) → m < c.nodes → m < 64 + (c.nodes - 64)
   touched m lm = omega (arith, lm)
 
-  -- and so is one that a node's word names
   named : (m : ℕ) → m < 64 → m < 64 + (c.nodes - 64)
   named m lm = omega (arith, lm)
 
@@ -25,7 +23,6 @@ module _ (c : Config) (n t : ℕ) where
   create_there x (CreateStep.TakesNode node) d f = touched node f
   create_there x other d f = touched x.dir d
 
-  -- of a remove
   remove_there : (x : Remove) (s : RemoveStep) → x.file < c.nodes → RemoveStepFits s → IsWord (extents_touched n c) (remove_next x s).0
   remove_there x RemoveStep.LoadsFile d f = touched x.file d
   remove_there x (RemoveStep.FreesNode file) d f = touched x.file d
@@ -33,13 +30,11 @@ module _ (c : Config) (n t : ℕ) where
   remove_there x (RemoveStep.RefundsChild file) d f = named file.parent f
   remove_there x other d f = tt
 
-  -- of a grow
   grow_there : (x : Grow) (s : GrowStep) → x.file < c.nodes → IsWord (extents_touched n c) (grow_next x s).0
   grow_there x GrowStep.LoadsFile d = touched x.file d
   grow_there x (GrowStep.GrowsFile file) d = touched x.file d
   grow_there x other d = tt
 
-  -- of a move
   move_there : (x : MoveTo) (s : MoveStep) → x.file < c.nodes → x.dir < c.nodes → MoveStepFits s →
       IsWord (extents_touched n c) (move_next x s).0
   move_there x MoveStep.LoadsFile l d f = touched x.file l
@@ -48,24 +43,20 @@ module _ (c : Config) (n t : ℕ) where
   move_there x (MoveStep.MovesFile file) l d f = touched x.file l
   move_there x (MoveStep.RefundsChild dir answer) l d f = named dir f.0
 
-  -- of a page fault and a write-back
   mark_there : (x : Mark) (s : MarkStep) → x.file < c.nodes → IsWord (extents_touched n c) (mark_next x s).0
   mark_there x MarkStep.LoadsFile d = touched x.file d
   mark_there x (MarkStep.MarksFile file) d = touched x.file d
 
-  -- of an open
   open_there : (x : OpenFile) (s : OpenStep) → x.file < c.nodes → IsWord (extents_touched n c) (open_next x s).0
   open_there x OpenStep.LoadsFile d = touched x.file d
   open_there x (OpenStep.OpensFile file) d = touched x.file d
 
-  -- of a snapshot
   snapshot_there : (x : Snapshot) (s : SnapshotStep) → SnapshotStepFits (tree_bounds c) s →
       IsWord (extents_touched n c) (snapshot_next x s).0
   snapshot_there x (SnapshotStep.LoadsNode node) f = touched node f
   snapshot_there x (SnapshotStep.LoadsKids node) f = touched node f
   snapshot_there x other f = tt
 
-  -- so the word of each event at the tree is one
   pub tree_there : (x : TreePhase) (hook : HookAnswer) → TreePhaseFits (tree_bounds c) t x → IsWord (extents_touched n c) (tree_next x hook).0
   tree_there (TreePhase.Create x) hook f = create_there x x.step f.0 f.2
   tree_there (TreePhase.Remove x) hook f = remove_there x x.step f.0 f.1
@@ -89,7 +80,6 @@ IsApartWord (WordName.Node n) = Unit {0}
 IsApartWord (WordName.Kids n) = Unit {0}
 IsApartWord name = ⊥
 
--- so a write of it leaves the levels and the counts
 put_apart : (w : Words) (name : WordName) (value : ℕ) → IsApartWord name → SameLevels w (put w name value)
 put_apart w WordName.Umount value h = record { at_levels = λ i. (refl, refl, refl, refl) }
 put_apart w WordName.Used value h = record { at_levels = λ i. (refl, refl, refl, refl) }
@@ -98,32 +88,26 @@ put_apart w (WordName.Node n) value h = record { at_levels = λ i. (refl, refl, 
 put_apart w (WordName.Kids n) value h = record { at_levels = λ i. (refl, refl, refl, refl) }
 put_apart w name value h = absurd h
 
--- each event of a create is on such a word
 create_apart : (x : Create) (s : CreateStep) → IsApartWord (create_next x s).0
 create_apart x CreateStep.LoadsDirectory = tt
 create_apart x other = tt
 
--- of a remove
 remove_apart : (x : Remove) (s : RemoveStep) → IsApartWord (remove_next x s).0
 remove_apart x RemoveStep.LoadsFile = tt
 remove_apart x other = tt
 
--- of a grow
 grow_apart : (x : Grow) (s : GrowStep) → IsApartWord (grow_next x s).0
 grow_apart x GrowStep.LoadsFile = tt
 grow_apart x other = tt
 
--- of a move
 move_apart : (x : MoveTo) (s : MoveStep) → IsApartWord (move_next x s).0
 move_apart x MoveStep.LoadsFile = tt
 move_apart x other = tt
 
--- of a page fault and a write-back
 mark_apart : (x : Mark) (s : MarkStep) → IsApartWord (mark_next x s).0
 mark_apart x MarkStep.LoadsFile = tt
 mark_apart x (MarkStep.MarksFile file) = tt
 
--- of an open
 open_apart : (x : OpenFile) (s : OpenStep) → IsApartWord (open_next x s).0
 open_apart x OpenStep.LoadsFile = tt
 open_apart x (OpenStep.OpensFile file) = tt
@@ -133,11 +117,9 @@ module _ (w : Words) (hook : HookAnswer) where
   abbrev Leaves : TreePhase → Type 0
   Leaves x = SameLevels w (words_after w (Phase.Trees x) hook)
 
-  -- an event on such a word leaves the levels and the counts
   word_leaves : (x : TreePhase) → IsApartWord (tree_next x hook).0 → Leaves x
   word_leaves x h = put_apart w (tree_next x hook).0 _ h
 
-  -- a snapshot also loads the stage
   snapshot_leaves : (x : Snapshot) (s : SnapshotStep) → Leaves (TreePhase.Snapshot (at_snapshot x s))
   snapshot_leaves x SnapshotStep.Locks = word_leaves (TreePhase.Snapshot (at_snapshot x SnapshotStep.Locks)) tt
   snapshot_leaves x SnapshotStep.LoadsStage = record { at_levels = λ i. (refl, refl, refl, refl) }
@@ -146,7 +128,6 @@ module _ (w : Words) (hook : HookAnswer) where
   snapshot_leaves x (SnapshotStep.LoadsKids node) = word_leaves (TreePhase.Snapshot (at_snapshot x (SnapshotStep.LoadsKids node))) tt
   snapshot_leaves x (SnapshotStep.Releases answer) = word_leaves (TreePhase.Snapshot (at_snapshot x (SnapshotStep.Releases answer))) tt
 
-  -- no event at the tree changes a word of a level, or a count
   pub tree_leaves : (x : TreePhase) → Leaves x
   tree_leaves (TreePhase.Create x) = word_leaves (TreePhase.Create x) (create_apart x x.step)
   tree_leaves (TreePhase.Remove x) = word_leaves (TreePhase.Remove x) (remove_apart x x.step)
