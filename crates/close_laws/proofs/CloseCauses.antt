@@ -25,7 +25,6 @@ module _ (c : Config) (t : ℕ) (w next : World) (earlier : List World) (file p 
   enters_cause (Next.Done (Err refusal)) h = tt
 
 module _ (c : Config) (t : ℕ) (w : World) (earlier : List World) where
-  -- a wait at level 3 is one for who closed it, and so is a refusal
   pub enters_waits : (file p : ℕ) (node : NodeWord) (r : DownRead) (n : Next DownRead) →
       WhereRefused (WasClosed c t r.level (last_asked t (w ∷ earlier))) n →
       HasReason c w earlier t (Phase.Closes (ClosePhase.Enters file node r)) (map_next Phase.Closes (then_frees file node p n))
@@ -48,7 +47,6 @@ module _ (c : Config) (t : ℕ) (w : World) (earlier : List World) where
   looked_cause x (Some (Ok file)) = found_cause x file
   looked_cause x (Some (Err refusal)) = tt
 
-  -- nor is it a wait
   pub looked_waits : (x : Closing) (r : Option (Result NodeWord GateError)) →
       HasReason c w earlier t (Phase.Closes (ClosePhase.LoadsFile x)) (map_next Phase.Closes (after_look (ClosePhase.LoadsFile x) (closed_from x) r))
   looked_waits x None = tt

@@ -13,11 +13,9 @@ use Rattle.gate_world.specs.declared.{config.Config.Config, work.Phase.Phase}
 use Rattle.gate_frames.proofs.Keeps.{by_bool, extents_touched}
 use Rattle.writer_laws.proofs.{ReadFits.{ReadGoes, read_mounts, read_goes, none_from_agree, read_acts}, ReadKeeps.{read_phase, end_phase}}
 
--- what is there is what it is
 some_is : {A : Type 0} (a b : A) → Some a ≡ Some b → a ≡ b
 some_is a b e = cc
 
--- a node that was taken for a file is one
 taken_is : (node file : NodeWord) (kind : Option Kind) → as_any_file node kind ≡ Ok file → (kind ≡ Some Kind.File) × (node ≡ file)
 taken_is node file None e = absurd cc
 taken_is node file (Some Kind.File) e = (refl, cc)
@@ -40,7 +38,6 @@ lawful_file word plain kind = record {
       ];
 }
 
--- so its word is a file's, and holds that file
 pub found_node : (word : ℕ) (file : NodeWord) → any_file_in word ≡ Some (Ok file) → (is_stray word ≡ false) ×
     (kind_of (kind_in word) ≡ Some Kind.File) × (node_of word ≡ file)
 found_node word file e = elim (cases_Bool (is_stray word)) [
@@ -59,7 +56,6 @@ found_file word file e =
     let h = found_node word file e in
     (sym (ap (λ (node : NodeWord). node.kind) h.2) ∙ h.1, subst IsLawful h.2 (lawful_file word h.0 h.1))
 
--- a file that isn't to be freed is linked, or some other task has it open too
 stays_open : (removed : Bool) (n : ℕ) → (n ≡ 0 → ⊥) → (removed && (n == 1)) ≡ false → (removed ≡ false) ⊎ (2 ≤ n)
 stays_open false n some h = inl refl
 stays_open true n some h = elim (eqb_tells n 1) [
@@ -68,7 +64,6 @@ stays_open true n some h = elim (eqb_tells n 1) [
 ]
 
 module _ (c : Config) (t : ℕ) (held : ℕ → ℕ) (levels : ℕ → Bool) where
-  -- what comes after its file was found fits
   found_fits : (x : Closing) (file : NodeWord) → ClosingFits c t levels x → (file.kind ≡ Some Kind.File) × IsLawful file →
       CloseFits c t levels (closed_from x file)
   found_fits x file f is =
@@ -87,7 +82,6 @@ module _ (c : Config) (t : ℕ) (held : ℕ → ℕ) (levels : ℕ → Bool) whe
   looked_fits x word f (Some (Ok file)) e = found_fits x file f (found_file word file e)
   looked_fits x word f (Some (Err refusal)) e = tt
 
-  -- inside level 3 the node is freed
   pub enters_goes : (file p i : ℕ) (node : NodeWord) (n : Next DownRead) → file < c.nodes → p < c.processors → i ≡ 3 →
       ReadGoes c t i p levels n → Fits c t held levels (phase_after (map_next Phase.Closes (then_frees file node p n)))
   enters_goes file p i node (Next.Go r) there cpu three h = (there, h.1 ∙ three, h.0)
@@ -95,7 +89,6 @@ module _ (c : Config) (t : ℕ) (held : ℕ → ℕ) (levels : ℕ → Bool) whe
   enters_goes file p i node (Next.Done (Ok reply)) there cpu three h = (there, cpu, subst (λ j. levels j ≡ true) three h)
   enters_goes file p i node (Next.Done (Err refusal)) there cpu three h = tt
 
--- what fits after an event at level 3, with the node to be freed
 pub enters_fits : (c : Config) (t : ℕ) (held : ℕ → ℕ) (levels : ℕ → Bool) (file : ℕ) (node : NodeWord) (r : DownRead) (found : ℕ) →
     CloseFits c t levels (ClosePhase.Enters file node r) →
     Fits c t (mounts_by (down_read_after r r.step found).1 held) (levels_by (down_read_after r r.step found).1 levels)

@@ -91,7 +91,6 @@ close_waits c w earlier t hook (ClosePhase.FreesNode file p node) h =
     elim (cases_Bool (w.words.node file == word_of node)) [ inl z ↦ rw z tt | inr z ↦ rw z tt ]
 close_waits c w earlier t hook other h = tt
 
--- what is proved of each phase
 pub close_phase : (c : Config) (x : ClosePhase) → PhaseKeeps c (Phase.Closes x)
 close_phase c x = record {
   step = λ lim w good t lt hook e. close_keeps c lim w good t lt hook x e;

@@ -41,13 +41,11 @@ is_at_tree (ClosePhase.Enters file node r) = false
 is_at_tree (ClosePhase.Leaves p) = false
 is_at_tree x = true
 
--- each is on a word of the tree
 close_word : (x : ClosePhase) → is_at_tree x ≡ true → is_node_word (next x).0 ≡ true
 close_word (ClosePhase.Enters file node r) h = absurd (true≢false (sym h))
 close_word (ClosePhase.Leaves p) h = absurd (true≢false (sym h))
 close_word other h = refl
 
--- its action leaves its task's accesses
 close_leaves : (x : ClosePhase) → is_at_tree x ≡ true → (found : ℕ) → LeavesAccesses (after x found).1
 close_leaves (ClosePhase.LowersCount x node) h found =
     leaves_if (found == word_of node) _ (record { mounts = λ held. refl; levels = λ held. refl })
@@ -57,13 +55,11 @@ close_leaves (ClosePhase.Enters file node r) h found = absurd (true≢false (sym
 close_leaves (ClosePhase.Leaves p) h found = absurd (true≢false (sym h))
 close_leaves other h found = leaves_none
 
--- a close that is at no level's counts
 off_close : (x : ClosePhase) → is_at_tree x ≡ true → IsOffGates (Some (Phase.Closes x))
 off_close (ClosePhase.Enters file node r) h = absurd (true≢false (sym h))
 off_close (ClosePhase.Leaves p) h = absurd (true≢false (sym h))
 off_close other h = assumption
 
--- one that leaves level 3, or is to enter it, has no role there
 off_leaves : (p : ℕ) → IsOffGates (Some (Phase.Closes (ClosePhase.Leaves p)))
 off_leaves p = assumption
 
@@ -80,7 +76,6 @@ off_enters x file = record {
   unheld = refl;
 }
 
--- what comes after each event
 off_found : (x : Closing) (file : NodeWord) → IsOffGates (Some (Phase.Closes (closed_from x file)))
 off_found x file =
     elim (cases_Bool (file.opens == 0)) [
@@ -167,7 +162,6 @@ module _ (c : Config) (within : IsWithin c) (w : World) (good : IsGood c w) (t :
   abbrev close_action : Option Action
   close_action = (after x close_found).1
 
-  -- its phase fits, and it has its file open
   fits_now : CloseFits c t (holds_level (w.views t)) x
   fits_now = subst (Fits c t (held_at (w.views t)) (holds_level (w.views t))) e (good Fitting t lt)
 
@@ -177,7 +171,6 @@ module _ (c : Config) (within : IsWithin c) (w : World) (good : IsGood c w) (t :
   role_now : tree_roles w t ≡ close_tree_role x
   role_now = ap (tree_role_of (w.views t).trace) e
 
-  -- it holds what it held
   held_still : held_at close_view ≡ held_at (w.views t)
   held_still = mounts_of_after close_action (w.views t).actions ∙ (close_leaves x at close_found).mounts (held_at (w.views t))
 
@@ -187,7 +180,6 @@ module _ (c : Config) (within : IsWithin c) (w : World) (good : IsGood c w) (t :
   opens_then : has_open close_view ≡ opens_by close_action (has_open (w.views t))
   opens_then = opens_of_after close_action (w.views t).actions
 
-  -- what was at no gate is at none
   was_off : IsOffGates (w.views t).phase
   was_off = subst IsOffGates (sym e) (off_close x at)
 
@@ -219,7 +211,6 @@ module _ (c : Config) (within : IsWithin c) (w : World) (good : IsGood c w) (t :
   gate_parts part h =
       left_alone c w t lt part close_words close_view (gate_words part h w.words close_words beside) (gate_view part h) (good part)
 
-  -- what comes after the event fits its task's accesses
   close_fitting : Holds c (after_step w t (Phase.Closes x) hook) Fitting
   close_fitting y ly =
       each_updated (λ z (u : View). ViewFits c z u) w.views t close_view y
@@ -296,7 +287,6 @@ module _ (c : Config) (within : IsWithin c) (w : World) (good : IsGood c w) (t :
       (subst (λ r. TreeHolds (tree_bounds c) (tree_in (is_sealed w.words) (is_bare_at w.words) close_words (update (tree_roles w) t r)))
       (role_comes close_next close_view.trace) kept.0)))
 
-  -- it is no owner's work
   plain_work : IsOwnersWork w (Phase.Closes x) hook
   plain_work = record {
     changes = λ h. absurd (true≢false (sym h ∙ not_owned (next x).0 (close_word x at)));
@@ -321,7 +311,6 @@ module _ (c : Config) (within : IsWithin c) (w : World) (good : IsGood c w) (t :
   each_part leave kept (SyncAt i) = gate_parts (SyncAt i) refl
   each_part leave kept Sections = gate_parts Sections refl
 
-  -- so the event keeps the rule, and moves the shown model by its action
   close_kept : LeaveFor c w good t lt close_action → TreeLaw → StepKeeps c w t hook (Phase.Closes x)
   close_kept leave kept = (each_part leave kept, shown_moves close_action refl leave kept.1)
 

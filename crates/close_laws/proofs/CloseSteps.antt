@@ -27,7 +27,6 @@ beside_enters file p node (Next.Go r) = assumption
 beside_enters file p node (Next.Done (Ok reply)) = assumption
 beside_enters file p node other = assumption
 
--- and nothing beside nothing
 pub beside_none : IsBeside None None
 beside_none = assumption
 
@@ -36,7 +35,6 @@ read_tree : (w : Words) (r : DownRead) (s : DownReadStep) (hook : HookAnswer) �
 read_tree w r DownReadStep.EntersSection hook = (refl, refl, refl, refl, refl, refl)
 read_tree w r other hook = (refl, refl, refl, refl, refl, refl)
 
--- nor opens or closes a file
 read_opens : (files : ℕ → Bool) (r : DownRead) (s : DownReadStep) (found : ℕ) → opens_by (down_read_after r s found).1 files ≡ files
 read_opens files r DownReadStep.LoadsBlock found = elim (cases_Bool (found == 0)) [ inl h ↦ rw h refl | inr h ↦ rw h refl ]
 read_opens files r other found = refl
@@ -155,7 +153,6 @@ module _ (c : Config) (lim : IsWithin c) (w : World) (good : IsGood c w) (t : �
       ])
       (files_still c w good t lt ws v same.2 opens (then_has (has_open v) file r.cpu node n (ap (λ g. g file) opens ∙ own)))
 
-  -- it leaves level 3
   pub leaves_level : (p : ℕ) → (w.views t).phase ≡ Some (Phase.Closes (ClosePhase.Leaves p)) → StepKeeps c w t hook (Phase.Closes (ClosePhase.Leaves p))
   leaves_level p e =
       let f : CloseFits c t (holds_level (w.views t)) (ClosePhase.Leaves p) = close_fits_now c w good t lt hook (ClosePhase.Leaves p) e in

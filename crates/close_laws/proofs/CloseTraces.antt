@@ -20,7 +20,6 @@ read_dropped : (r : DownRead) (s : DownReadStep) (value : ℕ) (hook : HookAnswe
 read_dropped r DownReadStep.EntersSection value hook earlier = refl
 read_dropped r other value hook earlier = refl
 
--- a down-read comes to a step after at most five events
 within_five : (s : DownReadStep) → events_before s ≤ 5
 within_five DownReadStep.EntersSection = omega arith
 within_five s = omega arith
@@ -115,14 +114,12 @@ module _ (c : Config) (file p t : ℕ) (wait : Bool) (value : ℕ) (hook : HookA
         ]
   ]
 
-  -- a refusal of a look tells what was found
   look_honest : (refusal : GateError) → any_file_in value ≡ Some (Err refusal) → IsHonest c (Op.Close file p wait) refusal (loaded ∷ [])
   look_honest refusal e = elim (any_file_refused value refusal e) [
     | inl free ↦ rw free.0 (rw (eq-eqb file file refl, eq-eqb value 0 free.1) refl)
     | inr dir ↦ rw dir.0 (rw (eq-eqb file file refl, eq-eqb (kind_in value) 2 dir.1) refl)
   ]
 
-  -- what the trace says after its file was looked at
   looked_says : (r : Option (Result NodeWord GateError)) → any_file_in value ≡ r → is_some r ≡ true → 1 ≤ opens_in value →
       Comes c file p t wait (loaded ∷ []) (after_look looks (closed_from (first_close file p t wait)) r) []
   looked_says None e some opens = absurd cc
@@ -157,7 +154,6 @@ module _ (c : Config) (file p t : ℕ) (wait : Bool) (value : ℕ) (hook : HookA
         (actions_after (down_read_after r s found).1 added) (down_read_after r s found).0
         (read_event 1 3 p t value hook earlier added wait s h) (read_dropped r s value hook earlier ∙ none)
 
-    -- each event of a close keeps what its trace says
     close_event : (x : ClosePhase) → CloseMayFind x value → CloseSays file p t wait x earlier added → After x earlier added
     close_event (ClosePhase.LoadsFile x) may h =
         let start : After looks earlier added =
@@ -180,7 +176,6 @@ module _ (c : Config) (file p t : ℕ) (wait : Bool) (value : ℕ) (hook : HookA
       close_short c file p wait _ (λ r. omega (arith, h.2 r)),
     )
 
--- so it is kept along every trace of a close
 pub close_kept : (c : Config) (file p t : ℕ) (wait : Bool) → KeptWell (CloseAt file p t wait) c t (Op.Close file p wait)
 close_kept c file p t wait = record {
   first = (ClosePhase.LoadsFile (first_close file p t wait), refl, (refl, refl, refl));
@@ -192,7 +187,6 @@ close_kept c file p t wait = record {
       close_short c file p wait trace (says_short c file p t wait here.0 trace added here.2);
 }
 
--- and all that is proved of the beginning of a close
 pub close_op : (c : Config) (file p : ℕ) (wait : Bool) → OpKeeps c (Op.Close file p wait)
 close_op c file p wait =
     close_op_from c file p wait
