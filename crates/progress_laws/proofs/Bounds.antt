@@ -28,7 +28,6 @@ change_small : (p : ℕ) (s : ChangeStep) → change_rank p s < p + 8
 change_small p (ChangeStep.Sums sum) = omega arith
 change_small p s = omega arith
 
--- fewer mounts have a lower rank
 loop_mono : (p a b : ℕ) → a ≤ b → loop_rank p a ≤ loop_rank p b
 loop_mono p a zero le = let e : a ≡ 0 = omega (arith, le) in omega (arith, ap (loop_rank p) e)
 loop_mono p a (suc b) le =
@@ -163,7 +162,6 @@ is_beside (Phase.Remounts x) = false
 is_beside (Phase.Trees (TreePhase.Snapshot x)) = false
 is_beside phase = true
 
--- of each phase that fits
 pub beside_small : (c : Config) → IsWithin c → (w : Words) (t : ℕ) (held : ℕ → ℕ) (levels : ℕ → Bool) (phase : Phase) →
     PhaseFits c t held levels phase → is_beside phase ≡ true → rank w phase < most_beside c
 beside_small c lim w t held levels (Phase.Mounts (MountPhase.Want x)) f b = omega (arith, want_small x.step)
@@ -205,7 +203,6 @@ rank_small c lim w t held levels (Phase.Trees (TreePhase.Snapshot x)) f =
 rank_small c lim w t held levels phase f =
     omega (arith, beside_small c lim w t held levels phase f refl, le-max_right (most_in_loop c) (most_beside c))
 
--- the bounds beside each other
 pub alone_settled : (c : Config) → most_alone c ≤ most_settled c
 alone_settled c =
     let beside : ℕ = most_beside c + 5 * (c.tasks - 1) in

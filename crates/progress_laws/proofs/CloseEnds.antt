@@ -66,7 +66,6 @@ close_falls w (ClosePhase.RefundsBlocks p blocks) free h = (omega arith, tt)
 close_falls w (ClosePhase.Uncounts p) free h = (omega arith, tt)
 close_falls w (ClosePhase.Leaves p) free h = tt
 
--- of each phase of a close
 pub close_ends : (c : Config) (x : ClosePhase) → PhaseEnds c (Phase.Closes x)
 close_ends c x = record {
   falls = λ lim w good t lt hook at free.

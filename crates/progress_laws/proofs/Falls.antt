@@ -20,16 +20,13 @@ falls_as to rank_of free n (Next.Wait q) h = h
 falls_as to rank_of free n (Next.Done answer) h = tt
 
 module _ (c : Config) (w : World) (t : ℕ) (lt : t < c.tasks) (hook : HookAnswer) (phase : Phase) (at : (w.views t).phase ≡ Some phase) where
-  -- the step of a task that is there and at a phase
   pub happens_is : happens c w (Steps t hook) ≡ after_step w t phase hook
   happens_is = rw (lt-ltb t c.tasks lt) (ap (step_of w t hook) at)
 
-  -- where it stands then
   pub stands_after : ((after_step w t phase hook).views t).phase ≡ phase_after (after_of phase (found_at w.words phase hook) hook).0
   stands_after =
       ap (λ (v : View). v.phase) (update_at w.views t (view_after_beside [] (w.views t) phase (value_at w.words phase hook) hook))
 
--- a reply that is near is no further
 pub no_further : (c : Config) (n m : ℕ) (w : World) → n ≤ m → ReplyWithin c n w → ReplyWithin c m w
 no_further c zero m w le h = absurd h
 no_further c (suc n) zero w le h = absurd (omega arith)

@@ -19,7 +19,6 @@ use Rattle.progress_laws.specs.Ranks.{rank, up_rank, reopens_rank, down_rank, cl
 use Rattle.progress_laws.specs.Ways.{IsFree, NobodyInside, NothingCounted, LevelsAreFree, FreezeIsFree, Falls, PhaseEnds}
 
 module _ (w : Words) (d : DownWrite) where
-  -- a down-write leaves the section words
   down_sections : (s : DownWriteStep) → (after_event w (down_write_next d s)).section ≡ w.section
   down_sections (DownWriteStep.Enters Transition.Loads) = refl
   down_sections (DownWriteStep.Enters (Transition.Exchanges from to)) = refl
@@ -30,7 +29,6 @@ module _ (w : Words) (d : DownWrite) where
   down_sections DownWriteStep.SetsBlock = refl
   down_sections (DownWriteStep.Sums sum) = refl
 
-  -- `umount`
   down_umount : (s : DownWriteStep) → (after_event w (down_write_next d s)).umount ≡ w.umount
   down_umount (DownWriteStep.Enters Transition.Loads) = refl
   down_umount (DownWriteStep.Enters (Transition.Exchanges from to)) = refl
@@ -41,7 +39,6 @@ module _ (w : Words) (d : DownWrite) where
   down_umount DownWriteStep.SetsBlock = refl
   down_umount (DownWriteStep.Sums sum) = refl
 
-  -- and the counts of all levels
   down_counts : (s : DownWriteStep) → (after_event w (down_write_next d s)).level ≡ w.level
   down_counts (DownWriteStep.Enters Transition.Loads) = refl
   down_counts (DownWriteStep.Enters (Transition.Exchanges from to)) = refl
@@ -52,13 +49,11 @@ module _ (w : Words) (d : DownWrite) where
   down_counts DownWriteStep.SetsBlock = refl
   down_counts (DownWriteStep.Sums sum) = ap (λ (ws : Words). ws.level) (load_same w (WordName.LevelCount d.level sum.words))
 
--- an up-write leaves the section words
 up_sections : (w : Words) (u : UpWrite) (s : UpWriteStep) → (after_event w (up_write_next u s)).section ≡ w.section
 up_sections w u UpWriteStep.ClearsBlock = refl
 up_sections w u (UpWriteStep.Exits Transition.Loads) = refl
 up_sections w u (UpWriteStep.Exits (Transition.Exchanges from to)) = refl
 
--- no level is left to be passed
 none_left : (c : Config) (w : Words) (i : ℕ) → 4 ≤ i → i ≤ 3 → NothingCounted c w i
 none_left c w i low high = absurd (omega (arith, low, high))
 
@@ -87,7 +82,6 @@ module _ (c : Config) (after : Words) (x : Freeze) (even : NobodyInside c after)
         ]
       ]
 
-  -- after the clearing of a mark
   cleans_falls : (n : ℕ) (next : Next ClearMarks) → 1 ≤ n → ((i : ℕ) → 3 ≤ i → i ≤ 3 → NothingCounted c after i) →
       Falls (λ (y : ClearMarks). y.nodes - y.node) (λ (y : ClearMarks). Unit {0}) n next →
       FreezeFalls c after (closing_rank x + n + 11) (after_clearing x next)
@@ -108,7 +102,6 @@ module _ (c : Config) (after : Words) (x : Freeze) (even : NobodyInside c after)
       ]
 
 module _ (c : Config) (some : 1 ≤ c.processors) (w : World) (good : IsGood c w) (t : ℕ) (lt : t < c.tasks) (x : Freeze) where
-  -- each event of a freeze
   freeze_falls : (hook : HookAnswer) (s : FreezeStep) → ((i : ℕ) → sync_role_of i (w.views t).phase ≡ stand_sync i (freeze_stand s)) →
       FreezeFits c x.holder s → FreezeIsFree c w.words s →
       FreezeFalls c (after_event w.words (freeze_next x s hook)) (freeze_rank w.words x s)
@@ -169,7 +162,6 @@ module _ (c : Config) (some : 1 ≤ c.processors) (w : World) (good : IsGood c w
       (up_falls c w good t lt u fits.0 fits.1 u.step (role u.level ∙ here))
   freeze_falls hook (FreezeStep.Releases answer) role fits free = tt
 
--- of each phase of a freeze
 pub freeze_ends : (c : Config) (x : Freeze) → PhaseEnds c (Phase.Freezes x)
 freeze_ends c x = record {
   falls = λ lim w good t lt hook at free.

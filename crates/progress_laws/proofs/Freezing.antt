@@ -35,7 +35,6 @@ search_below (suc n) P Q h =
       ]
     ]
 
--- there is something, and not nothing
 pub not_none : {A : Type 0} (x : A) → Some x ≡ None → ⊥
 not_none x h = true≢false (ap is_some h)
 
@@ -61,7 +60,6 @@ idle_level c w i =
       | inr f ↦ inr f
     ]
 
--- a freeze is kept, or no idle task holds what it has to pass
 pub kept_or_apart : (c : Config) (w : World) (step : FreezeStep) → IsKept c w step ⊎ IdleApart c w step
 kept_or_apart c w step =
     elim (search_below 4 (λ i. (next_level w.words step ≤ i) × IsHeldIdle c w i) (λ i. next_level w.words step ≤ i → NoneIdle c w i)
@@ -124,7 +122,6 @@ owner_step c w nodes (FreezeStep.Reopens u code) even one k f o =
 owner_step c w nodes (FreezeStep.Releases answer) even one k f o = (even, tt, λ i low high. absurd (omega (arith, low, high)))
 owner_step c w nodes s even one k f o = absurd (omega (arith, f))
 
--- there is no level 0 to be passed
 if_some : (b : Bool) → 1 ≤ (if b then 1 else 4)
 if_some true = omega arith
 if_some false = omega arith
@@ -155,7 +152,6 @@ module _ (c : Config) (lim : IsWithin c)
     nobody_inside : NobodyInside c w.words
     nobody_inside y ly = good Sections y ly ∙ out y ly
 
-    -- who holds a level has its reply
     holder_goes : (z : ℕ) → z < c.tasks → (i : ℕ) → 1 ≤ i → i ≤ 3 → holds_level (w.views z) i ≡ true → (phase : Phase) →
         (w.views z).phase ≡ Some phase → PhaseFits c z (held_at (w.views z)) (holds_level (w.views z)) phase → ReplyWithin c (most_beside c) w
     holder_goes z lz i one three is (Phase.Mounts (MountPhase.Want x)) at f =
@@ -191,7 +187,6 @@ module _ (c : Config) (lim : IsWithin c)
         (λ e a. open_above c w good i r.level z one above f.2.1 lz is) refl
     holder_goes z lz i one three is phase at f = beside_goes c lim keeps ends w good z lz phase at tt refl
 
-    -- the same of what a task is at, where no idle task holds the level
     holder_at : (z : ℕ) → z < c.tasks → (i : ℕ) → 1 ≤ i → i ≤ 3 → holds_level (w.views z) i ≡ true → NoneIdle c w i → (p : Option Phase) →
         (w.views z).phase ≡ p → ReplyWithin c (most_beside c) w
     holder_at z lz i one three is none None at = absurd (true≢false (sym is ∙ none z lz at))
@@ -246,11 +241,9 @@ module _ (c : Config) (lim : IsWithin c)
                 ]
           ]
 
-  -- nobody is inside a section where none is counted
   all_out : (w : World) → all_within c w ≡ 0 → (y : ℕ) → y < c.tasks → inside (w.views y).phase ≡ 0
   all_out w none y ly = omega (arith, none, total_at c.tasks y (λ u. inside (w.views u).phase) ly)
 
-  -- there are fewer than the tasks, where one is outside
   few_within : (w : World) (t : ℕ) → t < c.tasks → inside (w.views t).phase ≡ 0 → all_within c w ≤ c.tasks - 1
   few_within w t lt none =
       let each : ℕ → ℕ = λ u. inside (w.views u).phase in
@@ -260,11 +253,9 @@ module _ (c : Config) (lim : IsWithin c)
       (λ ne. inside_le (w.views u).phase)) in
       omega (arith, more, few, none)
 
-  -- another task's event leaves a task's view
   beside : (w : World) (z : ℕ) (phase : Phase) (hook : HookAnswer) (y : ℕ) → (y ≡ z → ⊥) → (after_step w z phase hook).views y ≡ w.views y
   beside w z phase hook y ne = update_off w.views z (view_after (w.views z) phase (value_at w.words phase hook) hook) y ne
 
-  -- an owner of `umount` that is no freeze has a reply near
   owner_either : (w : World) → IsGood c w → ReplyWithin c (most_alone c) w ⊎ OwnerFreezes c w
   owner_either w good =
       elim (eqb_tells w.words.umount 0) [
@@ -322,7 +313,6 @@ module _ (c : Config) (lim : IsWithin c)
             (settled_goes w good t lt x at apart first freezing)
       ]
 
-  -- and so has a callback
   pub callback_goes : (w : World) → IsGood c w → (t : ℕ) → t < c.tasks → (b : Callback) → (w.views t).phase ≡ Some (Phase.Callbacks b) →
       ReplyWithin c (most_settled c) w
   callback_goes w good t lt b at =

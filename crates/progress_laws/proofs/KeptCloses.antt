@@ -58,7 +58,6 @@ module _ (w : Words) (d : DownWrite) where
   down_nodes DownWriteStep.SetsBlock = refl
   down_nodes (DownWriteStep.Sums sum) = refl
 
-  -- a level that is closed stays so
   pub down_blocks : (s : DownWriteStep) (i : ℕ) → w.block i ≡ 1 → (after_event w (down_write_next d s)).block i ≡ 1
   down_blocks (DownWriteStep.Enters Transition.Loads) i h = h
   down_blocks (DownWriteStep.Enters (Transition.Exchanges from to)) i h = h

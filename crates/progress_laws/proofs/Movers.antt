@@ -30,7 +30,6 @@ use Rattle.progress_laws.proofs.{Bounds.{is_beside, beside_small, rank_small}, F
 use Rattle.progress_laws.specs.{Progress.{EventsKeepRule, ReplyWithin}, Ranks.{most_beside, most_alone}}
 use Rattle.progress_laws.specs.Ways.{IsFree, HoldIsClear, NothingCounted, ChangeIsFree, RemountIsFree, ThawIsFree, SnapshotIsFree, PhaseEnds}
 
--- an owner that is no freeze waits for nobody
 change_owner : (w : Words) (wait : Bool) (s : ChangeStep) → change_owns s ≡ 1 → ChangeIsFree w s wait
 change_owner w wait ChangeStep.Locks h = absurd (omega (arith, h))
 change_owner w wait s h = tt
@@ -55,7 +54,6 @@ owner_free c w (Phase.Thaws x) h = inl (thaw_owner w x.step h)
 owner_free c w (Phase.Trees (TreePhase.Snapshot x)) h = inl (snapshot_owner w x.wait x.step h)
 owner_free c w phase h = absurd (omega (arith, h))
 
--- who owns is at a phase
 phase_owns : (p : Option Phase) → owns p ≡ 1 → (phase : Phase) × (p ≡ Some phase)
 phase_owns None h = absurd (omega (arith, h))
 phase_owns (Some phase) h = (phase, refl)
@@ -68,7 +66,6 @@ pub record HasOwner (c : Config) (w : World) : Type 0 where
   pub at : (w.views task).phase ≡ Some phase
   pub owner : owns (Some phase) ≡ 1
 
--- where `umount` is taken there is one
 pub has_owner : (c : Config) (w : World) → IsGood c w → (w.words.umount ≡ 0 → ⊥) → HasOwner c w
 has_owner c w good taken =
     let y : ℕ = w.words.umount - 1 in
@@ -78,7 +75,6 @@ has_owner c w good taken =
     let p : (phase : Phase) × ((w.views y).phase ≡ Some phase) = phase_owns (w.views y).phase own in
     record { task = y; there = ly; phase = p.0; at = p.1; owner = sym (ap owns p.1) ∙ own }
 
--- a phase fits its task
 pub fits_at : (c : Config) (w : World) → IsGood c w → (t : ℕ) → t < c.tasks → (phase : Phase) → (w.views t).phase ≡ Some phase →
     PhaseFits c t (held_at (w.views t)) (holds_level (w.views t)) phase
 fits_at c w good t lt phase at = subst (Fits c t (held_at (w.views t)) (holds_level (w.views t))) at (good Fitting t lt)
@@ -111,7 +107,6 @@ module _ (c : Config) (lim : IsWithin c)
         | inr x ↦ absurd (omega (arith, h, ap (λ q. has_hold (role_of m (Some q))) x.1))
       ]
 
-  -- a want has its reply, or who has HOLD set at its mount
   pub want_goes : (w : World) → IsGood c w → (t : ℕ) → t < c.tasks → (phase : Phase) → (w.views t).phase ≡ Some phase →
       owns (Some phase) ≡ 0 → (m : ℕ) → m < c.mounts → (HoldIsClear w.words m → IsFree c w.words phase) → ReplyWithin c (most_alone c) w
   want_goes w good t lt phase at none m lm free =
@@ -152,7 +147,6 @@ module _ (c : Config) (w : World) (good : IsGood c w) (freezing : OwnerFreezes c
             absurd (omega (arith, who.3, ap (λ q. has_hold (role_of m q)) (freeze_owns who.0 who.1 own).1))
       ]
 
--- who holds a level is at no operation of those that hold none
 pub holds_not_none : (levels : ℕ → Bool) (i : ℕ) → holds_none levels ≡ true → 1 ≤ i → i ≤ 3 → levels i ≡ true → ⊥
 holds_not_none levels zero h one three is = omega arith
 holds_not_none levels (suc zero) h one three is =
@@ -165,7 +159,6 @@ holds_not_none levels (suc (suc (suc zero))) h one three is =
     (and_parts (not (levels 1)) (not (levels 2) && not (levels 3)) h).1).1)
 holds_not_none levels (suc (suc (suc (suc n)))) h one three is = omega arith
 
--- nor at a start at its level or a lower one
 below_or : (i j : ℕ) (b : Bool) → (nat_lt i j || not b) ≡ true → b ≡ true → i < j
 below_or i j b h is =
     elim (or_cases (nat_lt i j) (not b) h) [ inl l ↦ ltb-true i j l | inr n ↦ absurd (true≢false (sym is ∙ not-true b n)) ]
@@ -177,7 +170,6 @@ holds_below levels (suc (suc zero)) j h one three is = below_or 2 j (levels 2) (
 holds_below levels (suc (suc (suc zero))) j h one three is = below_or 3 j (levels 3) (and_parts _ _ (and_parts _ _ h).1).1 is
 holds_below levels (suc (suc (suc (suc n)))) j h one three is = absurd (omega arith)
 
--- no reader has a level closed, and no callback
 read_open : (b : Bool) (s : DownReadStep) → closed (sync_role_if b (down_read_role s)) ≡ 0
 read_open true DownReadStep.CountsUpFast = refl
 read_open true s = refl
@@ -189,7 +181,6 @@ callback_open true (CallbackStep.AwaitsSections g) = refl
 callback_open true (CallbackStep.CallsBack x) = refl
 callback_open false s = refl
 
--- who stands with a level closed has passed each one below it
 stand_passed : (i j : ℕ) (s : Option Stand) → i < j → 1 ≤ closed (stand_sync j s) → stand_count i s ≡ Passed
 stand_passed i j None lt h = absurd (omega (arith, h))
 stand_passed i j (Some s) lt h =
@@ -210,7 +201,6 @@ closed_passes i j (Some (Phase.Thaws x)) lt h = stand_passed i j (thaw_stand x.s
 closed_passes i j (Some (Phase.Closes (ClosePhase.Enters f node r))) lt h = absurd (omega (arith, h, read_open (j == r.level) r.step))
 closed_passes i j p lt h = absurd (omega (arith, h))
 
--- who is outside each section seeks nothing at a level
 read_out : (b : Bool) (p : ℕ) (s : DownReadStep) → down_read_inside s ≡ 0 → processor_of (count_role_if b (read_count_role p s)) ≡ 0
 read_out true p DownReadStep.EntersSection h = refl
 read_out false p s h = refl
@@ -256,11 +246,9 @@ abbrev held_bit : Bool → ℕ
 held_bit b = if b then 1 else 0
 
 module _ (c : Config) (w : World) (good : IsGood c w) where
-  -- what a level's counts say of a task
   held_there : (i z : ℕ) → holds_level (w.views z) i ≡ true → admitted (level_as_gate (at_level i (w.views z))) ≡ 1
   held_there i z is = let e : held_bit (holds_level (w.views z) i) ≡ held_bit true = ap held_bit is in omega (arith, e)
 
-  -- who holds a level finds each one above it open
   pub open_above : (i j z : ℕ) → 1 ≤ i → i < j → j ≤ 3 → z < c.tasks → holds_level (w.views z) i ≡ true → w.words.block j ≡ 0
   open_above i j z one lt three lz is =
       let s : SyncHoldsIn c w j = good (SyncAt j) (omega arith) three in

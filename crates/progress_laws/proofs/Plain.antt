@@ -16,7 +16,6 @@ use Rattle.progress_laws.specs.Progress.{EventsKeepRule, IsKept, KeptIfFreeze, L
 use Rattle.progress_laws.specs.Progress.{FreezeIsKept, IsKeptAt, AFreezeIsKept, Progresses, ReplyOrFrozen}
 use Rattle.progress_laws.specs.Ranks.{most_events_to_reply}
 
--- no level is closed by who has none closed
 up_to_none : (i : ℕ) → 1 ≤ i → up_to i 0 ≡ 0
 up_to_none i one = rw (lt-leb i 0 one)
 
@@ -49,7 +48,6 @@ closer_kept c w i one (Phase.Thaws x) some k = absurd (thaw_kept x.step some k)
 closer_kept c w i one (Phase.Trees x) some k = absurd (some (ap (up_to i) (tree_none x) ∙ up_to_none i one))
 closer_kept c w i one phase some k = absurd (some (up_to_none i one))
 
--- the file system is frozen as a whole, or not
 full_or : (b : Bool) → (bit b ≡ 0) ⊎ (bit b ≡ 1)
 full_or true = inr refl
 full_or false = inl refl
@@ -64,7 +62,6 @@ module _ (c : Config) (w : World) (good : IsGood c w)
       let k : (x : Freeze) × (phase ≡ Phase.Freezes x) × IsKept c w x.step = closer_kept c w i one phase some (kept y ly phase at) in
       (y, ly, k.0, at ∙ ap Some k.1, k.2)
 
-  -- a closed level is closed by one, or the file system is frozen
   start_tells : (i : ℕ) → 1 ≤ i → i ≤ 3 → w.words.block i ≡ 1 → (is_frozen_whole w.words ≡ 1) ⊎ AFreezeIsKept c w
   start_tells i one three closed =
       elim (full_or (w.words.stage == 4 && w.words.sb == 0)) [
@@ -76,7 +73,6 @@ module _ (c : Config) (w : World) (good : IsGood c w)
             inr (closer_at i place.0 one place.1 (w.views place.0).phase refl place.2)
       ]
 
-  -- an owner that is kept is a freeze
   owner_kept : (y : ℕ) → y < c.tasks → (p : Option Phase) → (w.views y).phase ≡ p → KeptIfFreeze c w p → AFreezeIsKept c w
   owner_kept y ly (Some (Phase.Freezes x)) at k = (y, ly, x, at, k.1)
   owner_kept y ly p at k = absurd k

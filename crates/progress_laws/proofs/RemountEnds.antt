@@ -14,17 +14,14 @@ use Rattle.gate_world.specs.{Worlds.{words_after, found_at}, declared.{config.Co
 use Rattle.progress_laws.proofs.Falls.{falls_as}
 use Rattle.progress_laws.specs.{Ranks.{rank, mount_bit, held_size, loop_rank, remount_rank}, Ways.{IsFree, RemountIsFree, Falls, PhaseEnds}}
 
--- a mount more or less counts once
 bit_le : (b : Bool) → bit b ≤ 1
 bit_le true = omega arith
 bit_le false = omega arith
 
--- a set has eight mounts at most
 pub size_small : (held : MountSet) → held_size held ≤ 8
 unfolding held_size
 size_small held = omega (arith, total_bound 8 1 (mount_bit held) (λ m lm. bit_le (has_mount held m)))
 
--- a set has one mount fewer without its lowest
 size_falls : (held : MountSet) → 0 < held.bits → held.bits < 256 → held_size (without_lowest held) < held_size held
 unfolding held_size
 size_falls held some within =
@@ -44,12 +41,10 @@ size_falls held some within =
     total_updated (λ n. n) 8 l (mount_bit held) 0 low in
     omega (arith, same, here, moved)
 
--- one mount of the loop
 pub loop_step : (p mounts m : ℕ) → m < mounts → loop_rank p (mounts - m) ≡ loop_rank p (mounts - (m + 1)) + p + 2
 loop_step p mounts m lt = let e : mounts - m ≡ suc (mounts - (m + 1)) = omega arith in ap (loop_rank p) e
 
 module _ (w : Words) (p mounts nodes : ℕ) where
-  -- after it has found the present state
   from_rank : (a b : Bool) → remount_rank p mounts nodes (remount_from a b) ≤ loop_rank p mounts + nodes + 13
   from_rank true true = omega arith
   from_rank true false = omega arith
@@ -62,7 +57,6 @@ module _ (w : Words) (p mounts nodes : ℕ) where
   from_free false true = tt
   from_free false false = tt
 
-  -- past a mount
   past_rank : (m : ℕ) (held : MountSet) →
       remount_rank p mounts nodes (past_mount mounts m held) ≤ loop_rank p (mounts - (m + 1)) + nodes + 12
   past_rank m held = elim (cases_Bool (nat_lt (m + 1) mounts)) [ inl h ↦ rw h (omega arith) | inr h ↦ rw h (omega arith) ]
@@ -70,7 +64,6 @@ module _ (w : Words) (p mounts nodes : ℕ) where
   past_free : (m : ℕ) (held : MountSet) → RemountIsFree w (past_mount mounts m held)
   past_free m held = elim (cases_Bool (nat_lt (m + 1) mounts)) [ inl h ↦ rw h tt | inr h ↦ rw h tt ]
 
-  -- where mounts are let go
   go_rank : (held : MountSet) → remount_rank p mounts nodes (let_go held) ≤ held_size held + (nodes - 1) + 2
   go_rank held = elim (eqb_tells held.bits 0) [ inl h ↦ rw h.0 (omega arith) | inr h ↦ rw h.0 (omega arith) ]
 
@@ -180,7 +173,6 @@ module _ (c : Config) (lim : IsWithin c) (w after : Words) (x : Remount) (proces
   remount_falls hook RemountStep.ClearsRemount fits free = (omega arith, tt)
   remount_falls hook (RemountStep.Releases answer) fits free = tt
 
--- of each phase of a remount
 pub remount_ends : (c : Config) (x : Remount) → PhaseEnds c (Phase.Remounts x)
 remount_ends c x = record {
   falls = λ lim w good t lt hook at free.

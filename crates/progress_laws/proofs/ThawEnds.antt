@@ -22,7 +22,6 @@ opens_falls after x level r (Next.Done answer) h =
     elim (eqb_tells (level - 1) 0) [ inl z ↦ rw z.0 (omega arith, tt) | inr z ↦ rw z.0 (omega (arith, z.1), tt) ]
 
 module _ (c : Config) (w : World) (good : IsGood c w) (t : ℕ) (lt : t < c.tasks) (x : Thaw) where
-  -- each event of a thaw
   thaw_falls : (hook : HookAnswer) (s : ThawStep) → ((i : ℕ) → sync_role_of i (w.views t).phase ≡ stand_sync i (thaw_stand s)) →
       ThawFits x.holder s → ThawIsFree w.words s →
       Falls (λ (y : Thaw). thaw_rank (after_event w.words (thaw_next x s hook)) y.step)
@@ -55,7 +54,6 @@ module _ (c : Config) (w : World) (good : IsGood c w) (t : ℕ) (lt : t < c.task
       (up_falls c w good t lt u fits.0 fits.1 u.step (role u.level ∙ here))
   thaw_falls hook (ThawStep.Releases answer) role fits free = tt
 
--- of each phase of a thaw
 pub thaw_ends : (c : Config) (x : Thaw) → PhaseEnds c (Phase.Thaws x)
 thaw_ends c x = record {
   falls = λ lim w good t lt hook at free.

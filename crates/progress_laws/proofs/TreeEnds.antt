@@ -24,7 +24,6 @@ module _ {P : Type 0} (rank_of : P → ℕ) (free : P → Type 0) (n : ℕ) (aga
   answer_falls (Ok a) = goes a
   answer_falls (Err refusal) = tt
 
-  -- a node's word was looked at, and it is a node's
   look_falls : (kind_of : NodeWord → Result NodeWord GateError) (o : Option NodeWord) → is_some o ≡ true →
       Falls rank_of free n (after_look again to (option_map kind_of o))
   look_falls kind_of None h = absurd (true≢false (sym h))
@@ -170,7 +169,6 @@ module _ (w : Words) where
       ]
   snapshot_falls after x (SnapshotStep.Releases answer) free h = tt
 
-  -- a clearing of marks
   pub clear_falls : (x : ClearMarks) (found : ℕ) →
       Falls (λ (y : ClearMarks). y.nodes - y.node) (λ (y : ClearMarks). Unit {0}) (x.nodes - x.node) (clear_after x found).0
   clear_falls x found =
@@ -194,7 +192,6 @@ module _ (w : Words) where
       falls_as TreePhase.Snapshot tree_rank (TreeIsFree after) _ _ (snapshot_falls after x x.step free h)
   tree_falls after hook (TreePhase.ClearMarks x) free h = falls_as TreePhase.ClearMarks tree_rank (TreeIsFree after) _ _ (clear_falls x (w.node x.node))
 
--- of each phase of a call at the tree
 pub tree_ends : (c : Config) (x : TreePhase) → PhaseEnds c (Phase.Trees x)
 tree_ends c x = record {
   falls = λ lim w good t lt hook at free.

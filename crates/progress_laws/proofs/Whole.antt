@@ -71,12 +71,10 @@ last_either block true false le = inl (λ q a. absurd (true≢false (sym a)))
 last_either block true true le =
     elim (eqb_tells block 0) [ inl z ↦ inl (λ q a. z.1) | inr z ↦ inr (refl, refl, omega (arith, z.1, le)) ]
 
--- a freeze that owns `umount` is past its first lock
 first_owned : (w : Words) (nodes : ℕ) (s : FreezeStep) → stage_owns (freeze_stage_role nodes s) ≡ 1 → FirstFree w s
 first_owned w nodes FreezeStep.Locks h = absurd (omega (arith, h))
 first_owned w nodes s h = tt
 
--- a freeze is at its first lock, or kept where an idle task keeps it
 first_or_kept : (c : Config) (w : World) (s : FreezeStep) → (s ≡ FreezeStep.Locks) ⊎ (IsKept c w s → FreezeIsKept c w s)
 first_or_kept c w FreezeStep.Locks = inl refl
 first_or_kept c w s = inr (λ k. k)
@@ -85,7 +83,6 @@ pub first_is : (s : FreezeStep) → is_first_lock s ≡ true → s ≡ FreezeSte
 first_is FreezeStep.Locks h = refl
 first_is s h = absurd (true≢false (sym h))
 
--- who is at a first lock
 first_at : (p : Option Phase) → begins_freeze p ≡ true → (y : Freeze) × (p ≡ Some (Phase.Freezes (at_freeze y FreezeStep.Locks)))
 first_at (Some (Phase.Freezes x)) h = (x, ap (λ s. Some (Phase.Freezes (at_freeze x s))) (first_is x.step h))
 first_at p h = absurd (true≢false (sym h))
@@ -101,7 +98,6 @@ first_finds w i low high =
       | inr z ↦ let l : 4 ≤ i = rw z at low in absurd (omega (arith, l, high))
     ]
 
--- the phase that there is, or this one
 abbrev pub or_phase : Phase → Option Phase → Phase
 or_phase other None = other
 or_phase other (Some phase) = phase
@@ -235,7 +231,6 @@ module _ (c : Config) (lim : IsWithin c)
       goes : (phase : Phase) → (w.views t).phase ≡ Some phase → IsFree c w.words phase → ReplyWithin c (most_settled c + 5) w ⊎ IsKeptAt c w phase
       goes phase at free = inl (near (free_goes c lim keeps ends w good t lt phase at free))
 
-      -- the same in another world
       reaches : (v : World) → IsGood c v → (q : Phase) → (v.views t).phase ≡ Some q → IsFree c v.words q → ReplyWithin c (most_settled c) v
       reaches v good' q at free = no_further c (most_alone c) (most_settled c) v (alone_settled c) (free_goes c lim keeps ends v good' t lt q at free)
 
@@ -360,7 +355,6 @@ module _ (c : Config) (lim : IsWithin c)
                 subst (IsKeptAt c w) same kept)
           ]
 
-    -- So a reply is near, or each operation under way is kept.
     pub world_goes : Progresses c (most_settled c + 5) w
     world_goes =
         elim (search_below c.tasks (λ t. ReplyWithin c (most_settled c + 5) w)

@@ -40,7 +40,6 @@ begun_rank processors count none =
     let z : lead processors count 0 0 ≡ 0 = omega (arith, ahead_none processors count, none) in
     rw (eq-eqb (lead processors count 0 0) 0 z) (omega arith)
 
--- where a writer that has entered goes on
 entered_rank : (w : Words) (d : DownWrite) (s : GpState) → down_rank w d (entered_from d.tasks s) ≤ d.processors + d.tasks + 2
 entered_rank w d GpState.Idle = omega arith
 entered_rank w d GpState.Enter = omega arith
@@ -125,7 +124,6 @@ module _ (c : Config) (w : World) (good : IsGood c w) (t : ℕ) (lt : t < c.task
         (transition_after on_callback x (found_by (transition_next d.level x).1 (w.words.sync d.level)))
         (exchange_falls on_callback (w.words.sync d.level) (sync d.level) d.level rule.word rule.packed x is)
 
-    -- each event of a down-write
     pub down_falls : (s : DownWriteStep) → role t ≡ down_write_role s → DownWriteStepFits c s →
         DownFalls (after_event w.words (down_write_next d s)) d (down_rank w.words d s)
         (down_write_after d s (found_by (down_write_next d s).1 (read w.words (down_write_next d s).0))).0
