@@ -1,27 +1,14 @@
 -- A beginning of the core shows what the entry makes of the world.
-use Rattle.std.proofs.Common.{◌≡◌, ℕ, ◌<◌, ◌≤◌, Bool, [], ◌∷◌, ◌++◌, length, get_or, sym, ap, ◌∙◌, subst, arith}
-use Rattle.std.proofs.Math.ListN.{length-set}
+use Rattle.std.proofs.{Common.{◌≡◌, ℕ, ◌<◌, ◌≤◌, Bool, [], ◌∷◌, ◌++◌, length, get_or, sym, ap, ◌∙◌, subst, arith}, Math.ListN.length-set}
+use Rattle.std.proofs.lemmas.{Bool.lt-ltb, List.get_or_default}
 use Rattle.std.specs.Prelude.{is_some, Option, Some, None, Result, Ok, Err, slice_set}
-use Rattle.std.proofs.lemmas.Bool.{lt-ltb}
-use Rattle.std.proofs.lemmas.List.{get_or_default}
-use Rattle.finite_sums.specs.Sums.{update}
-use Rattle.finite_sums.proofs.Totals.{update_at, update_off}
+use Rattle.finite_sums.{proofs.Totals.{update_at, update_off}, specs.Sums.update}
 use Rattle.access_model.specs.declared.errors.GateError.{GateError}
-use Rattle.gate_world.specs.declared.operations.Op.{Op}
-use Rattle.gate_world.specs.declared.work.Phase.{Phase}
-use Rattle.gate_world.specs.declared.views.View.{View}
-use Rattle.gate_world.specs.Views.{held_at, holds_level, has_open, begun_view}
-use Rattle.gate_world.specs.Beginnings.{first_phase, refusal, beginning}
-use Rattle.gate_world.specs.Worlds.{World, Begins, begin_refusal, happens, run, opening}
-use Rattle.gate_world.specs.Fits.{Fits}
-use Rattle.gate_core.specs.declared.seats.Seat.{Seat}
-use Rattle.gate_core.specs.Seats.{mounts_in, levels_in, files_in}
-use Rattle.gate_core.specs.Memory.{Memory, Shows, IsSound, no_seat, seat_of}
-use Rattle.gate_core.specs.Answers.{unless_refused, begin_answer}
-use Rattle.gate_core.specs.Moves.{refusal_in, begun_of, begun}
-use Rattle.gate_core.proofs.Beginnings.{refusal_agree, may_begin, first_fits, ok_means, err_means}
-use Rattle.gate_core.proofs.Runs.{run_more}
-use Rattle.gate_core.proofs.Each.{seat_cases}
+use Rattle.gate_world.specs.{Beginnings.{first_phase, refusal, beginning}, Fits.Fits, Views.{held_at, holds_level, has_open, begun_view}}
+use Rattle.gate_world.specs.{Worlds.{World, Begins, begin_refusal, happens, run, opening}, declared.{operations.Op.Op, views.View.View, work.Phase.Phase}}
+use Rattle.gate_core.proofs.{Beginnings.{refusal_agree, may_begin, first_fits, ok_means, err_means}, Each.seat_cases, Runs.run_more}
+use Rattle.gate_core.specs.{Answers.{unless_refused, begin_answer}, Memory.{Memory, Shows, IsSound, no_seat, seat_of}, Moves.{refusal_in, begun_of, begun}}
+use Rattle.gate_core.specs.{Seats.{mounts_in, levels_in, files_in}, declared.seats.Seat.Seat}
 
 module _ (memory : Memory) (sound : IsSound memory) (t : ℕ) (lt : t < memory.config.tasks)
     (seat : Seat) (seat_is : seat ≡ get_or memory.seats t seat)

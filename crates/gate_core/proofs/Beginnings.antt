@@ -1,15 +1,9 @@
 -- What it means that an operation may begin.
-use Rattle.std.proofs.Common.{◌≡◌, ℕ, ◌<◌, ◌≤◌, Bool, true, false, refl, sym, ap, inl, inr, true≢false}
+use Rattle.std.proofs.{Common.{◌≡◌, ℕ, ◌<◌, ◌≤◌, Bool, true, false, refl, sym, ap, inl, inr, true≢false}, lemmas.Bool.cases_Bool}
 use Rattle.std.specs.Prelude.{if◌then◌else◌, ◌&&◌, not, is_some, Option, Some, None, Result, Ok, Err}
-use Rattle.std.proofs.lemmas.Bool.{cases_Bool}
 use Rattle.access_model.specs.declared.errors.GateError.{GateError}
-use Rattle.access_model.specs.declared.errors.GateError.TheVariants.{Invalid, Order, TooMany}
-use Rattle.gate_world.specs.declared.config.Config.{Config}
-use Rattle.gate_world.specs.declared.operations.Op.{Op}
-use Rattle.gate_world.specs.Beginnings.{first_phase, is_in_range, is_in_order, is_within_room, refusal, or_refusal}
-use Rattle.gate_world.specs.Fits.{Fits}
-use Rattle.gate_world.specs.Operations.{is_of_open, is_of_closed}
-use Rattle.gate_world.specs.declared.operations.Op.TheVariants.{Open, Close}
+use Rattle.gate_world.specs.{Beginnings.{first_phase, is_in_range, is_in_order, is_within_room, refusal, or_refusal}, Fits.Fits}
+use Rattle.gate_world.specs.{Operations.{is_of_open, is_of_closed}, declared.{config.Config.Config, operations.Op.Op}}
 use Rattle.writer_laws.proofs.ReadFits.{both_true}
 use Rattle.gate_core.proofs.Layers.{op_keeps}
 
@@ -29,7 +23,7 @@ not_some x h = absurd (true≢false (ap is_some h))
 -- what isn't refused may begin
 pub may_begin : (c : Config) (under_way : Bool) (held : ℕ → ℕ) (levels files : ℕ → Bool) (op : Op) →
     refusal c under_way held levels files op ≡ None → MayBegin c under_way held levels files op
-may_begin c true held levels files op h = not_some Order h
+may_begin c true held levels files op h = not_some GateError.Order h
 may_begin c false held levels files op h =
     elim (cases_Bool (is_in_range c op)) [
       | inl b ↦ elim (cases_Bool (is_in_order c held levels op && is_of_open files op)) [
@@ -40,11 +34,11 @@ may_begin c false held levels files op h =
               let room : (is_within_room held op ≡ true) × (is_of_closed files op ≡ true) =
               both_true (is_within_room held op) (is_of_closed files op) e in
               record { idle = refl; range = b; order = order.0; of_open = order.1; room = room.0; of_closed = room.1 }
-          | inr e ↦ not_some TooMany (rw (b, d, e) at h)
+          | inr e ↦ not_some GateError.TooMany (rw (b, d, e) at h)
         ]
-        | inr d ↦ not_some Order (rw (b, d) at h)
+        | inr d ↦ not_some GateError.Order (rw (b, d) at h)
       ]
-      | inr b ↦ not_some Invalid (rw b at h)
+      | inr b ↦ not_some GateError.Invalid (rw b at h)
     ]
 
 -- and its first phase fits
@@ -61,7 +55,7 @@ module _ (c : Config) (f g : ℕ → ℕ) (h k p q : ℕ → Bool) (mounts : (m 
 
   -- whether it has open what it closes
   open_agree : (op : Op) → is_of_open p op ≡ is_of_open q op
-  open_agree (Close file cpu wait) = files file
+  open_agree (Op.Close file cpu wait) = files file
   open_agree op = refl
 
   -- whether it has room
@@ -70,7 +64,7 @@ module _ (c : Config) (f g : ℕ → ℕ) (h k p q : ℕ → Bool) (mounts : (m 
 
   -- and doesn't have open what it opens
   closed_agree : (op : Op) → is_of_closed p op ≡ is_of_closed q op
-  closed_agree (Open file) = ap not (files file)
+  closed_agree (Op.Open file) = ap not (files file)
   closed_agree op = refl
 
   -- and so the refusal
@@ -80,8 +74,8 @@ module _ (c : Config) (f g : ℕ → ℕ) (h k p q : ℕ → Bool) (mounts : (m 
       elim (cases_Bool (is_in_range c op)) [
         | inl there ↦ rw there
             (λ i. if order_agree op there i && open_agree op i
-            then (if room_agree op there i && closed_agree op i then None else Some TooMany)
-            else Some Order)
+            then (if room_agree op there i && closed_agree op i then None else Some GateError.TooMany)
+            else Some GateError.Order)
         | inr there ↦ rw there refl
       ]
 

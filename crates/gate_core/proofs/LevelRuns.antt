@@ -1,30 +1,16 @@
 -- Each freeze level of a schedule is a run of it, so its grace periods are kept.
-use Rattle.level_laws.proofs.IdleLaws.{only_callbacks_idle}
-use Rattle.level_laws.proofs.Whole.{idle_is_earned}
-use Rattle.level_laws.proofs.SlowLaws.{stays_slow}
-use Rattle.level_laws.proofs.GraceLaws.{graces_are_whole}
-use Rattle.std.proofs.Common.{◌≡◌, ℕ, zero, suc, ◌<◌, ◌≤◌, refl, sym, ap, ◌∙◌, inl, inr, arith}
+use Rattle.std.proofs.{Common.{◌≡◌, ℕ, zero, suc, ◌<◌, ◌≤◌, refl, sym, ap, ◌∙◌, inl, inr, arith}, lemmas.Bool.{cases_Bool, ltb-true}}
 use Rattle.std.specs.Prelude.{Option, Some, None, List, [], ◌∷◌, length, take, nat_lt, is_some}
-use Rattle.std.proofs.lemmas.Bool.{cases_Bool, ltb-true}
 use Rattle.access_model.specs.declared.errors.GateError.{GateError}
 use Rattle.cpu_words.specs.Hooks.{HookAnswer}
+use Rattle.level_laws.proofs.{GraceLaws.graces_are_whole, IdleLaws.only_callbacks_idle, SlowLaws.stays_slow, Whole.idle_is_earned}
 use Rattle.level_laws.specs.Events.{SyncLevelHolds, SyncStep, SyncRun}
-use Rattle.gate_world.specs.declared.config.Config.{Config}
-use Rattle.gate_world.specs.declared.operations.Op.{Op}
-use Rattle.gate_world.specs.declared.work.Phase.{Phase}
-use Rattle.gate_world.specs.Configs.{IsWithin}
-use Rattle.gate_world.specs.Beginnings.{first_phase, view_refusal}
-use Rattle.gate_world.specs.LevelRuns.{level_in, level_after, IsLevelRun, GracesAreKept, LevelsAreRuns}
-use Rattle.gate_world.specs.Levels.{inside, sync_role_of}
-use Rattle.gate_world.specs.Rules.{IsGood}
-use Rattle.gate_world.specs.Views.{begun_view, held_at, holds_level, has_open}
-use Rattle.gate_world.specs.Worlds.{World, Entry, Begins, Steps, begin_of, step_of, happens, run, opening}
-use Rattle.gate_frames.proofs.LevelSteps.{level_stays, level_kept}
-use Rattle.gate_frames.proofs.LevelWorlds.{level_right}
-use Rattle.gate_core.proofs.Beginnings.{may_begin}
-use Rattle.gate_core.proofs.Layers.{phase_keeps, op_keeps}
-use Rattle.gate_core.proofs.Schedule.{idle_is, happens_keeps}
-use Rattle.gate_core.proofs.Whole.{whole_rule}
+use Rattle.gate_world.specs.{Beginnings.{first_phase, view_refusal}, Configs.IsWithin}
+use Rattle.gate_world.specs.{LevelRuns.{level_in, level_after, IsLevelRun, GracesAreKept, LevelsAreRuns}, Levels.{inside, sync_role_of}, Rules.IsGood}
+use Rattle.gate_world.specs.{Views.{begun_view, held_at, holds_level, has_open}, Worlds.{World, Entry, Begins, Steps, begin_of, step_of, happens, run, opening}}
+use Rattle.gate_world.specs.declared.{config.Config.Config, operations.Op.Op, work.Phase.Phase}
+use Rattle.gate_frames.proofs.{LevelSteps.{level_stays, level_kept}, LevelWorlds.level_right}
+use Rattle.gate_core.proofs.{Beginnings.may_begin, Layers.{phase_keeps, op_keeps}, Schedule.{idle_is, happens_keeps}, Whole.whole_rule}
 
 module _ (c : Config) (lim : IsWithin c) (i : ℕ) (one : 1 ≤ i) (three : i ≤ 3) where
   -- an entry that leaves the level is a step of any task

@@ -1,18 +1,10 @@
 -- The memory as it begins shows the opening.
-use Rattle.std.proofs.Common.{◌≡◌, ℕ, zero, suc, ◌<◌, false, List, [], length, refl, arith, subst, sym}
-use Rattle.std.proofs.lemmas.List.{length-replicate, get_or-replicate}
+use Rattle.std.proofs.{Common.{◌≡◌, ℕ, zero, suc, ◌<◌, false, List, [], length, refl, arith, subst, sym}, lemmas.List.{length-replicate, get_or-replicate}}
 use Rattle.std.specs.Prelude.{None, slice_index_or, replicate}
-use Rattle.cpu_words.specs.Names.{words_in_all}
-use Rattle.cpu_words.specs.Lists.{AreOpening}
-use Rattle.cpu_words.proofs.Places.{opening_listed}
-use Rattle.gate_world.specs.declared.config.Config.{Config}
-use Rattle.gate_world.specs.Configs.{IsWithin, extents_kept}
-use Rattle.gate_world.specs.Worlds.{opening}
-use Rattle.gate_world.specs.Fits.{Fits}
+use Rattle.cpu_words.{proofs.Places.opening_listed, specs.{Lists.AreOpening, Names.words_in_all}}
+use Rattle.gate_world.specs.{Configs.{IsWithin, extents_kept}, Fits.Fits, Worlds.opening, declared.config.Config.Config}
 use Rattle.gate_frames.proofs.Places.{are_few}
-use Rattle.gate_core.specs.declared.seats.Seat.{Seat}
-use Rattle.gate_core.specs.Seats.{idle_seat, mounts_in, levels_in, files_in}
-use Rattle.gate_core.specs.Memory.{Memory, Shows, IsSound, no_seat}
+use Rattle.gate_core.specs.{Memory.{Memory, Shows, IsSound, no_seat}, Seats.{idle_seat, mounts_in, levels_in, files_in}, declared.seats.Seat.Seat}
 
 -- a list of one value has it at each place, and past its end where it is the default
 one_value : {A : Type 0} (n i : ℕ) (x : A) → slice_index_or (replicate n x) i x ≡ x

@@ -1,35 +1,22 @@
 -- Nothing is left behind: with no operation under way nobody has a lock, a remount or a hold.
-use Rattle.percpu_rwsem.specs.SyncWords.{bit, unpack}
-use Rattle.level_laws.specs.Roles.{closed, claimed}
-use Rattle.gate_world.specs.Levels.{is_frozen_whole, sync_role_of, inside}
 use Rattle.std.proofs.Common.{◌≡◌, ◌⊎◌, ◌+◌, ◌/◌, inl, inr, ℕ, zero, suc, ◌<◌, ◌≤◌, refl, ap, ◌∙◌, arith, Bool, false, true, subst, sym, ◌%◌}
+use Rattle.std.proofs.lemmas.Bool.Decides.{eqb_tells}
 use Rattle.std.specs.Prelude.{None}
-use Rattle.finite_sums.specs.Sums.{total}
-use Rattle.finite_sums.proofs.Totals.{total_none}
-use Rattle.mount_counts.specs.Roles.{has_hold, hold_bit}
-use Rattle.mount_laws.proofs.Bits.{hold_unset}
-use Rattle.gate_world.specs.declared.config.Config.{Config}
-use Rattle.gate_world.specs.Worlds.{World}
-use Rattle.gate_world.specs.Rules.{owns, remounts, role_of, IsGood, Owner, Tree, AtMount, SyncHoldsIn, SyncAt, Sections}
-use Rattle.gate_world.specs.Headline.{IsAtRest, IsUntaken, HeldWhereFrozen}
+use Rattle.finite_sums.{proofs.Totals.total_none, specs.Sums.total}
 use Rattle.access_model.specs.States.{is_removed, one_if}
 use Rattle.gated_tree.specs.Roles.{removal}
-use Rattle.gate_world.specs.Trees.{tree_role_of}
-use Rattle.gate_world.specs.Shown.{shown, stage_roles}
-use Rattle.gate_world.specs.Stages.{stage_role_of}
-use Rattle.gate_world.specs.Holders.{holder_role_of}
-use Rattle.gate_world.specs.Rules.{Stages, Holding}
-use Rattle.holder_laws.specs.Roles.{between}
-use Rattle.holder_laws.proofs.HolderLaws.{held_exactly}
-use Rattle.gate_frames.proofs.Holders.{holders_at}
-use Rattle.stage_laws.specs.Roles.{freezes, under_way}
-use Rattle.stage_laws.proofs.Facts.{way_is, other_zero}
-use Rattle.stage_laws.proofs.Whole.{freeze_is_under_way}
-use Rattle.stage_laws.specs.Roles.{Place, Freezing}
-use Rattle.gate_frames.proofs.Stages.{stages_in, stages_right}
+use Rattle.mount_counts.specs.Roles.{has_hold, hold_bit}
+use Rattle.mount_laws.proofs.Bits.{hold_unset}
+use Rattle.percpu_rwsem.specs.SyncWords.{bit, unpack}
+use Rattle.level_laws.specs.Roles.{closed, claimed}
+use Rattle.stage_laws.{proofs.{Facts.{way_is, other_zero}, Whole.freeze_is_under_way}, specs.Roles.{freezes, under_way, Place, Freezing}}
+use Rattle.holder_laws.{proofs.HolderLaws.held_exactly, specs.Roles.between}
+use Rattle.gate_world.specs.{Headline.{IsAtRest, IsUntaken, HeldWhereFrozen, FreezeIsUnderWay}, Holders.holder_role_of}
+use Rattle.gate_world.specs.Levels.{is_frozen_whole, sync_role_of, inside}
+use Rattle.gate_world.specs.Rules.{owns, remounts, role_of, IsGood, Owner, Tree, AtMount, SyncHoldsIn, SyncAt, Sections, Stages, Holding}
+use Rattle.gate_world.specs.{Shown.{shown, stage_roles}, Stages.stage_role_of, Trees.tree_role_of, Worlds.World, declared.config.Config.Config}
+use Rattle.gate_frames.proofs.{Holders.holders_at, Stages.{stages_in, stages_right}}
 use Rattle.call_laws.proofs.Frozen.{idle_sound}
-use Rattle.gate_world.specs.Headline.{FreezeIsUnderWay}
-use Rattle.std.proofs.lemmas.Bool.Decides.{eqb_tells}
 
 module _ (c : Config) (w : World) (good : IsGood c w) (idle : (t : ℕ) → t < c.tasks → (w.views t).phase ≡ None) where
   -- a number of `umount` that is of no owner is 0

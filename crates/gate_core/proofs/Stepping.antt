@@ -1,44 +1,23 @@
 -- One step of the core shows what the entry makes of the world.
-use Rattle.std.proofs.Common.{◌≡◌, ℕ, ◌<◌, ◌≤◌, Bool, [], ◌∷◌, ◌++◌, length, get_or, refl, sym, ap, ◌∙◌, subst, arith}
-use Rattle.std.proofs.Math.ListN.{length-set}
+use Rattle.std.proofs.{Common.{◌≡◌, ℕ, ◌<◌, ◌≤◌, Bool, [], ◌∷◌, ◌++◌, length, get_or, refl, sym, ap, ◌∙◌, subst, arith}, Math.ListN.length-set}
+use Rattle.std.proofs.lemmas.{Bool.lt-ltb, List.get_or_default}
 use Rattle.std.specs.Prelude.{Option, Some, slice_index, slice_set}
-use Rattle.std.proofs.lemmas.Bool.{lt-ltb}
-use Rattle.std.proofs.lemmas.List.{get_or_default}
-use Rattle.finite_sums.specs.Sums.{update}
-use Rattle.finite_sums.proofs.Totals.{update_at, update_off}
-use Rattle.access_model.specs.declared.actions.Action.{Action}
-use Rattle.access_model.specs.declared.replies.Next.{Next}
-use Rattle.cpu_words.specs.declared.names.WordName.{WordName}
-use Rattle.cpu_words.specs.declared.events.Touch.{Touch}
-use Rattle.cpu_words.specs.declared.events.Event.{Event}
-use Rattle.cpu_words.specs.Names.{IsWord, place}
-use Rattle.cpu_words.specs.Touches.{left, found_by, event_of}
-use Rattle.cpu_words.specs.Words.{read, put}
-use Rattle.cpu_words.specs.Hooks.{HookAnswer}
-use Rattle.gate_world.specs.declared.config.Config.{Config}
-use Rattle.gate_world.specs.declared.work.Phase.{Phase}
-use Rattle.gate_world.specs.declared.views.View.{View}
-use Rattle.gate_world.specs.Configs.{extents_kept}
-use Rattle.gate_world.specs.Views.{held_at, holds_level, has_open, phase_after, view_after}
-use Rattle.gate_world.specs.Work.{next_of, after_of}
-use Rattle.gate_world.specs.Worlds.{World, Steps, after_step, happens, run, opening}
-use Rattle.gate_world.specs.Fits.{PhaseFits, Fits}
-use Rattle.gate_core.specs.declared.seats.Seat.{Seat}
-use Rattle.gate_world.specs.declared.accesses.Accesses.{Accesses}
-use Rattle.gate_world.specs.Accesses.{mounts_held, accesses_after}
-use Rattle.gate_core.specs.declared.steps.Progress.{Progress}
-use Rattle.gate_core.specs.declared.steps.Step.{Step}
-use Rattle.gate_core.specs.Seats.{mounts_in, levels_in, files_in}
-use Rattle.gate_core.specs.Memory.{Memory, Shows, IsSound, no_seat, seat_of}
-use Rattle.gate_core.specs.Answers.{progress_of, step_answer}
-use Rattle.gate_core.specs.Moves.{phase_in, stepped_of, stepped, progress_by, progress_in}
-use Rattle.gate_world.specs.Fits.{ActionFits, mounts_by, levels_by, opens_by}
+use Rattle.finite_sums.{proofs.Totals.{update_at, update_off}, specs.Sums.update}
+use Rattle.access_model.specs.declared.{actions.Action.Action, replies.Next.Next}
 use Rattle.cpu_words.proofs.Places.{written}
-use Rattle.gate_frames.proofs.Accesses.{mounts_of_after, levels_of_after, opens_of_after, long_after, wide_after, deep_after, mounts_same, levels_same, files_same}
+use Rattle.cpu_words.specs.{Hooks.HookAnswer, Names.{IsWord, place}, Touches.{left, found_by, event_of}, Words.{read, put}}
+use Rattle.cpu_words.specs.declared.{events.{Event.Event, Touch.Touch}, names.WordName.WordName}
+use Rattle.gate_world.specs.{Accesses.{mounts_held, accesses_after}, Configs.extents_kept, Fits.{PhaseFits, Fits, ActionFits, mounts_by, levels_by, opens_by}}
+use Rattle.gate_world.specs.{Views.{held_at, holds_level, has_open, phase_after, view_after}, Work.{next_of, after_of}}
+use Rattle.gate_world.specs.Worlds.{World, Steps, after_step, happens, run, opening}
+use Rattle.gate_world.specs.declared.{accesses.Accesses.Accesses, config.Config.Config, views.View.View, work.Phase.Phase}
+use Rattle.gate_frames.proofs.Accesses.{mounts_of_after, levels_of_after, opens_of_after, long_after, wide_after, deep_after, mounts_same, levels_same}
+use Rattle.gate_frames.proofs.Accesses.{files_same}
 use Rattle.gate_frames.proofs.Places.{are_few}
-use Rattle.gate_core.proofs.Phases.{word_there, word_placed, action_fits, fits_after, fits_agree}
-use Rattle.gate_core.proofs.Runs.{run_more}
-use Rattle.gate_core.proofs.Each.{seat_cases}
+use Rattle.gate_core.proofs.{Each.seat_cases, Phases.{word_there, word_placed, action_fits, fits_after, fits_agree}, Runs.run_more}
+use Rattle.gate_core.specs.{Answers.{progress_of, step_answer}, Memory.{Memory, Shows, IsSound, no_seat, seat_of}}
+use Rattle.gate_core.specs.{Moves.{phase_in, stepped_of, stepped, progress_by, progress_in}, Seats.{mounts_in, levels_in, files_in}}
+use Rattle.gate_core.specs.declared.{seats.Seat.Seat, steps.{Progress.Progress, Step.Step}}
 
 module _ (memory : Memory) (sound : IsSound memory) (t : ℕ) (lt : t < memory.config.tasks) (phase : Phase)
     (is : (seat_of memory t).phase ≡ Some phase) (hook : HookAnswer) where
