@@ -16,7 +16,6 @@ pub record MayBegin (c : Config) (under_way : Bool) (held : ℕ → ℕ) (levels
   pub room : is_within_room held op ≡ true
   pub of_closed : is_of_closed files op ≡ true
 
--- where there is something, there is not nothing
 not_some : {A : Type 0} (x : A) {B : Type 0} → Some x ≡ None → B
 not_some x h = absurd (true≢false (ap is_some h))
 
@@ -41,7 +40,6 @@ may_begin c false held levels files op h =
       | inr b ↦ not_some GateError.Invalid (rw b at h)
     ]
 
--- and its first phase fits
 pub first_fits : (c : Config) (t : ℕ) (under_way : Bool) (held : ℕ → ℕ) (levels files : ℕ → Bool) (op : Op) →
     MayBegin c under_way held levels files op → Fits c t held levels (Some (first_phase c t op))
 first_fits c t under_way held levels files op may = (op_keeps c op).fits t held levels may.range may.order may.room
@@ -53,21 +51,17 @@ module _ (c : Config) (f g : ℕ → ℕ) (h k p q : ℕ → Bool) (mounts : (m 
   order_agree : (op : Op) → is_in_range c op ≡ true → is_in_order c f h op ≡ is_in_order c g k op
   order_agree op there = (op_keeps c op).order_agrees f g h k mounts levels there
 
-  -- whether it has open what it closes
   open_agree : (op : Op) → is_of_open p op ≡ is_of_open q op
   open_agree (Op.Close file cpu wait) = files file
   open_agree op = refl
 
-  -- whether it has room
   room_agree : (op : Op) → is_in_range c op ≡ true → is_within_room f op ≡ is_within_room g op
   room_agree op there = (op_keeps c op).room_agrees f g mounts there
 
-  -- and doesn't have open what it opens
   closed_agree : (op : Op) → is_of_closed p op ≡ is_of_closed q op
   closed_agree (Op.Open file) = ap not (files file)
   closed_agree op = refl
 
-  -- and so the refusal
   pub refusal_agree : (under_way : Bool) (op : Op) → refusal c under_way f h p op ≡ refusal c under_way g k q op
   refusal_agree true op = refl
   refusal_agree false op =
@@ -84,7 +78,6 @@ pub ok_means : {A : Type 0} (x : A) (r : Option GateError) (y : A) → Ok y ≡ 
 ok_means x None y e = (refl, (let same : Ok y ≡ Ok x = e in cc))
 ok_means {A} x (Some refused) y e = absurd (let same : ◌≡◌ {A = Result A GateError} (Ok y) (Err refused) = e in let no : ⊥ = cc in no)
 
--- or it was this
 pub err_means : {A : Type 0} (x : A) (r : Option GateError) (refused : GateError) →
     ◌≡◌ {A = Result A GateError} (Err refused) (or_refusal x r) → r ≡ Some refused
 err_means {A} x None refused e = absurd (let same : ◌≡◌ {A = Result A GateError} (Err refused) (Ok x) = e in let no : ⊥ = cc in no)

@@ -20,7 +20,6 @@ use Rattle.gate_world.specs.declared.{config.Config.Config, operations.Op.Op, vi
 use Rattle.gate_frames.proofs.Holders.{holders_at}
 use Rattle.gate_core.proofs.Layers.{op_keeps}
 
--- 1 for what is so
 abbrev bit : Bool → ℕ
 bit b = if b then 1 else 0
 
@@ -71,7 +70,6 @@ thaw_unstored (Next.Go x) e trace none zero_is = zero_is ∙ ap bit (sym none)
 thaw_unstored (Next.Wait x) e trace none zero_is = zero_is ∙ ap bit (sym none)
 thaw_unstored (Next.Done answer) e trace none zero_is = refl
 
--- a word of some holders is not 0
 not_nobody : (word : ℕ) → is_held word ≡ 1 → (word == 0) ≡ false
 not_nobody word some = elim (eqb_tells word 0) [
   | inl q ↦
@@ -108,7 +106,6 @@ module _ (c : Config) (w : World) (good : IsGood c w) (t : ℕ) (lt : t < c.task
       (with_hook (event_of (freeze_next x x.step hook).0 (freeze_next x x.step hook).1 (value_at w.words (Phase.Freezes x) hook)) hook)
       (w.views t).trace spares.2 (stays (Phase.Freezes x) hook e after spares ∙ apart)
 
-  -- the same of a thaw
   thaw_spares : (x : Thaw) (hook : HookAnswer) → (w.views t).phase ≡ Some (Phase.Thaws x) → IsGood c (after_step w t (Phase.Thaws x) hook) →
       Spares w.words (thaw_next x x.step hook) → between (holder_role_of (Some (Phase.Thaws x))) ≡ 0 → IsToldAfter (Phase.Thaws x) hook
   thaw_spares x hook e after spares apart =
@@ -154,7 +151,6 @@ module _ (c : Config) (w : World) (good : IsGood c w) (t : ℕ) (lt : t < c.task
       thaw_spares (record x { step = ThawStep.Reopens u }) hook e after (up_write_spares w.words u u.step) refl
   thaw_told x other hook e after = refl
 
-  -- so of each phase
   phase_told : (phase : Phase) (hook : HookAnswer) → (w.views t).phase ≡ Some phase → IsGood c (after_step w t phase hook) →
       IsToldAfter phase hook
   phase_told (Phase.Mounts phase) hook e after = quiet Phase.Mounts (λ x trace. refl) _ _
@@ -175,7 +171,6 @@ module _ (c : Config) (w : World) (good : IsGood c w) (t : ℕ) (lt : t < c.task
       each_updated (λ y (v : View). IsTold v.phase v.trace) w.views t
       (view_after (w.views t) phase (value_at w.words phase hook) hook) x (phase_told phase hook e after) (λ ne. told x)
 
--- nothing has happened in an operation that begins
 none_yet : (phase : Phase) → is_between (Some phase) [] ≡ false
 none_yet (Phase.Mounts phase) = refl
 none_yet other = refl
@@ -186,7 +181,6 @@ begin_told c w t op None told x =
     each_updated (λ y (v : View). IsTold v.phase v.trace) w.views t (begun_view (w.views t) op (first_phase c t op)) x
     (ap between ((op_keeps c op).starts_idle t).holder_same ∙ ap bit (sym (none_yet (first_phase c t op)))) (λ ne. told x)
 
--- each entry keeps it
 pub entry_told : (c : Config) (w : World) (e : Entry) → IsGood c w → IsGood c (happens c w e) → AllTold w → AllTold (happens c w e)
 entry_told c w (Begins t op) good after told = begin_told c w t op (begin_refusal c w t op) told
 entry_told c w (Steps t hook) good after told =
@@ -199,7 +193,6 @@ entry_told c w (Steps t hook) good after told =
       | inr l ↦ rw (le-ltb t c.tasks l) told
     ]
 
--- it holds at the opening
 pub opening_told : AllTold opening
 opening_told t = refl
 

@@ -7,7 +7,6 @@ use Rattle.gate_world.specs.{Headline.{admitted_at, LevelsLead}, Levels.{at_leve
 use Rattle.gate_world.specs.declared.config.Config.{Config}
 use Rattle.gate_frames.proofs.LevelWorlds.{fast_finds_open}
 
--- who isn't on the fast path
 not_fast : (r : SyncRole) → (r ≡ Fast → ⊥) → fast r ≡ 0
 not_fast Fast h = absurd (h refl)
 not_fast r h = refl

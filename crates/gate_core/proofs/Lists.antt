@@ -43,7 +43,6 @@ begin_lists c w earlier t op None m x =
     each_updated (λ y (v : View). own_part y earlier ≡ v.actions) w.views t (begun_view (w.views t) op (first_phase c t op)) x (m t)
     (λ ne. m x)
 
--- after any entry
 pub happens_lists : (c : Config) (w : World) (earlier : List Done) (e : Entry) → IsMerge (lists w) earlier →
     IsMerge (lists (happens c w e)) (with_action (task_of e) (action_of c w e) earlier)
 happens_lists c w earlier (Begins t op) m =

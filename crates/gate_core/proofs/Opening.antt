@@ -16,23 +16,18 @@ module _ (c : Config) (within : IsWithin c) (words : List ℕ) (opens : AreOpeni
   abbrev memory : Memory
   memory = record { config = c; words = words; seats = replicate c.tasks idle_seat }
 
-  -- what holds of an idle seat holds of each
   at_seat : (P : Seat → Type 0) → P idle_seat → (t : ℕ) → t < c.tasks → P (slice_index_or (replicate c.tasks idle_seat) t no_seat)
   at_seat P p t lt = subst P (sym (get_or-replicate c.tasks t idle_seat no_seat lt)) p
 
-  -- an idle seat holds nothing
   zero_held : (m : ℕ) → m < 8 → mounts_in idle_seat m ≡ 0
   zero_held m lm = get_or-replicate 8 m 0 0 lm
 
-  -- nor is it inside a level
   no_level : (i : ℕ) → i < 4 → levels_in idle_seat i ≡ false
   no_level i l = get_or-replicate 4 i false false l
 
-  -- and has no file open
   no_file : (n : ℕ) → files_in idle_seat n ≡ false
   no_file n = one_value 64 n false
 
-  -- the memory shows the opening
   pub opening_shown : Shows memory opening
   opening_shown = record {
     words =
@@ -44,7 +39,6 @@ module _ (c : Config) (within : IsWithin c) (words : List ℕ) (opens : AreOpeni
     files = λ t n lt. at_seat (λ (s : Seat). files_in s n ≡ false) (no_file n) t lt;
   }
 
-  -- and is sound
   pub opening_sound : IsSound memory
   opening_sound = record {
     within = within;

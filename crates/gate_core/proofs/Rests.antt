@@ -19,35 +19,29 @@ use Rattle.gate_frames.proofs.{Holders.holders_at, Stages.{stages_in, stages_rig
 use Rattle.call_laws.proofs.Frozen.{idle_sound}
 
 module _ (c : Config) (w : World) (good : IsGood c w) (idle : (t : ℕ) → t < c.tasks → (w.views t).phase ≡ None) where
-  -- a number of `umount` that is of no owner is 0
   free : (u : ℕ) → u ≤ c.tasks → ((t : ℕ) → t < c.tasks → u ≡ suc t → owns (w.views t).phase ≡ 1) → u ≡ 0
   free zero le owned = refl
   free (suc t) le owned = absurd (omega (arith, owned t (omega arith) refl, ap owns (idle t (omega arith))))
 
-  -- nobody has HOLD set at a mount
   pub no_hold : (m : ℕ) → m < c.mounts → hold_bit (w.words.flags m) ≡ 0
   no_hold m lm =
       let none : total c.tasks (λ t. has_hold (role_of m (w.views t).phase)) ≡ 0 =
       total_none c.tasks _ (λ t lt. ap (λ p. has_hold (role_of m p)) (idle t lt)) in
       omega (arith, none, (good (AtMount m) lm).gate.flag)
 
-  -- nobody is inside a section
   no_section : (t : ℕ) → t < c.tasks → w.words.section t % 2 ≡ 0
   no_section t lt = good Sections t lt ∙ ap inside (idle t lt)
 
-  -- nobody has closed a level
   no_closed : (i : ℕ) → 1 ≤ i → i ≤ 3 → w.words.block i ≡ is_frozen_whole w.words
   no_closed i l1 l3 =
       let none : total c.tasks (λ t. closed (sync_role_of i (w.views t).phase)) ≡ 0 =
       total_none c.tasks _ (λ t lt. ap (λ p. closed (sync_role_of i p)) (idle t lt)) in
       omega (arith, none, (good (SyncAt i) l1 l3).holds.blocked)
 
-  -- a callback that is taken is 1
   untaken : (b : Bool) → bit b ≡ 0 → b ≡ false
   untaken true h = absurd (omega (arith, h))
   untaken false h = refl
 
-  -- nobody has taken a callback
   no_callback : (i : ℕ) → 1 ≤ i → i ≤ 3 → IsUntaken (unpack (w.words.sync i))
   no_callback i l1 l3 =
       let s : SyncHoldsIn c w i = good (SyncAt i) l1 l3 in
@@ -55,7 +49,6 @@ module _ (c : Config) (w : World) (good : IsGood c w) (idle : (t : ℕ) → t < 
       total_none c.tasks _ (λ t lt. ap (λ p. claimed (sync_role_of i p)) (idle t lt)) in
       subst IsUntaken (sym s.packed) (untaken s.word.taken (omega (arith, none, s.holds.taken)))
 
-  -- nobody is in a freeze
   settled : (w.words.stage ≡ 0) ⊎ (w.words.stage ≡ 4)
   settled =
       let none : total c.tasks (λ t. freezes (stage_roles w t)) ≡ 0 =
@@ -66,7 +59,6 @@ module _ (c : Config) (w : World) (good : IsGood c w) (idle : (t : ℕ) → t < 
         | inr z ↦ inr (omega (arith, z.1, none, way, (good Stages).freezing, (good Stages).stages))
       ]
 
-  -- nobody is between two stores, of the stage and of the holders
   held : HeldWhereFrozen w
   held =
       let exactly = held_exactly c.tasks (holders_at w) (good Holding) in
@@ -79,7 +71,6 @@ module _ (c : Config) (w : World) (good : IsGood c w) (idle : (t : ℕ) → t < 
       total_none c.tasks _ (λ t lt. ap (λ p. removal (tree_role_of (w.views t).trace p)) (idle t lt)) in
       omega (arith, none, (good Tree).removals)
 
-  -- so nothing is left
   pub at_rest : IsAtRest c w
   at_rest = record {
     umount_free = free w.words.umount (good Owner).known (good Owner).owned;
@@ -94,11 +85,9 @@ module _ (c : Config) (w : World) (good : IsGood c w) (idle : (t : ℕ) → t < 
     removals_counted = removals;
   }
 
--- no two freezes are
 at_most_one : (c : Config) (w : World) → IsGood c w → total c.tasks (λ u. freezes (stage_roles w u)) ≤ 1
 at_most_one c w good = omega (arith, (good Stages).freezing, way_is w.words.stage (good Stages).stages, (good Stages).stages)
 
--- at stages 1 to 3 one freeze is under way
 pub a_freeze_is_under_way : (c : Config) (w : World) → IsGood c w → FreezeIsUnderWay c w
 a_freeze_is_under_way c w good low high =
     let f : (t : ℕ) × (t < c.tasks) × (place : Place) × (owner : Bool) × (stage_roles w t ≡ Freezing w.words.stage place owner) =

@@ -140,7 +140,6 @@ module _ (c : Config) (lim : IsWithin c) where
   zeros : (n : ℕ) → total n (λ x. 0) ≡ 0
   zeros n = total_none n (λ x. 0) (λ x lx. refl)
 
-  -- nobody has a file open
   none_open : (n : ℕ) → opens_in (opening.words.node n) ≡ openers (λ t. has_open (opening.views t)) n
   none_open n =
       let nobody : openers (λ t. has_open (opening.views t)) n ≡ 0 = total_none most_tasks (λ t. one_if false) (λ t lt. refl) in
@@ -173,7 +172,6 @@ module _ (c : Config) (lim : IsWithin c) where
   opening_tree : (n : ℕ) → opening_state.tree n ≡ (shown c opening).tree n
   opening_tree n = elim (eqb_tells n 0) [ inl h ↦ rw (h.0, update) refl | inr h ↦ rw (h.0, update) refl ]
 
-  -- which shows the opening state
   pub opening_shown : opening_state ≡ shown c opening
   opening_shown =
       λ i. record opening_state { tree = fun_ext opening_tree i }
@@ -189,7 +187,6 @@ module _ (c : Config) (lim : IsWithin c) where
       total_bound c.tasks 1025 _ (λ x lx. omega (arith, g.gate.room x lx, below_le 0 (processor_of (role_of m (w.views x).phase)))) in
       omega (arith, lim.tasks)
 
-  -- so do a level's
   level_sums : (w : World) → IsGood c w → (i : ℕ) → 1 ≤ i → i ≤ 3 →
       total c.processors (w.words.level i) % 18446744073709551616 ≡ total c.tasks (λ t. counted_of (level_as_gate (at_level i (w.views t))))
   level_sums w good i l1 l3 =
@@ -203,7 +200,6 @@ module _ (c : Config) (lim : IsWithin c) where
   pub gate_sums : (w : World) → IsGood c w → SumsHold c w
   gate_sums w good = record { mounts = mount_sums w good; levels = level_sums w good }
 
-  -- with no operation under way, to the accesses held
   pub idle_sums : (w : World) → IsGood c w → IdleSumsHold c w
   idle_sums w good idle = record {
     mounts = λ m lm.

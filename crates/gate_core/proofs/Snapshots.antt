@@ -32,7 +32,6 @@ sound_as nodes used used' old new kids kids' same_used same same_kids sound = re
   parents = λ n lt. subst (HasDirectory nodes new) (same n lt) (directory_as nodes old new same (old n) (sound.parents n lt));
 }
 
--- and as clean
 clean_as : (nodes : ℕ) (old new : ℕ → Option NodeInfo) → ((n : ℕ) → n < nodes → old n ≡ new n) → IsClean nodes old → IsClean nodes new
 clean_as nodes old new same clean n lt = subst (λ node. is_dirty node ≡ false) (same n lt) (clean n lt)
 
@@ -103,7 +102,6 @@ module _ (c : Config) where
         (last_moment t taken v.actions others v.snapshot (merge t) done now (all t)) t a)
         (λ ne. moment_stays log x (w.views x).snapshot (all x) t a)
 
-  -- after a beginning
   pub begin_moments : (w : World) (log : List Done) (t : ℕ) (op : Op) (r : Option GateError) → AllHaveMoments c log w →
       AllHaveMoments c log (begin_of c w t op r)
   begin_moments w log t op (Some refused) all x = all x
@@ -121,7 +119,6 @@ module _ (c : Config) (lim : IsWithin c) where
     step_moments t lt hook (Some phase) e =
         beside_moments c w (frozen_whole c lim w good) log ends [] t hook phase merge tt ((phase_keeps c phase).completes lim w good t lt hook e) all
 
-    -- after any entry
     happens_moments : (e : Entry) → AllHaveMoments c (with_action (task_of e) (action_of c w e) log) (happens c w e)
     happens_moments (Begins t op) =
         elim (cases_Bool (nat_lt t c.tasks)) [

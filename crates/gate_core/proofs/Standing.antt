@@ -16,7 +16,6 @@ relies stage sb nodes words (SnapshotStep.LoadsKids n) e knows = knows.0
 relies stage sb nodes words (SnapshotStep.Releases (Ok reply)) e knows = knows.0
 relies stage sb nodes words (SnapshotStep.Releases (Err refusal)) e knows = absurd (true≢false (sym (ap is_some e)))
 
--- so it stands there
 pub snapshots_stand : (c : Config) (w : World) → IsGood c w → SnapshotsStand c w
 snapshots_stand c w good t x words lt at e = (
   relies w.words.stage w.words.sb x.nodes words x.step e

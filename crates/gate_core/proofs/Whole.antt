@@ -55,7 +55,6 @@ module _ (c : Config) (lim : IsWithin c) where
   pub whole_freezes : (es : List Entry) → FreezeIsUnderWay c (world_after c es)
   whole_freezes es = a_freeze_is_under_way c (world_after c es) (whole_rule es)
 
-  -- each task's role says of its two stores what its trace says
   run_told : (es : List Entry) (w : World) → IsGood c w → AllTold w → AllTold (run c w es)
   run_told [] w good told = told
   run_told (e ∷ es) w good told =
