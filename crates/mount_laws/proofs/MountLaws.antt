@@ -27,8 +27,6 @@ each_shut flags remount sb P a b c _ h = absurd h
 
 none_past : (r : Role) → below 3 (questions_of r) ≡ 0
 none_past (Cleared p) = refl
-none_past (PastRemount p) = refl
-none_past (PastFlags p) = refl
 none_past _ = refl
 
 module _ {tasks processors flags remount sb : ℕ} {count : ℕ → ℕ} {at : ℕ → MountView}
