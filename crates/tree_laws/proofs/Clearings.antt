@@ -23,65 +23,35 @@ parent_loaded nodes tree loaded shows None h = tt
 parent_loaded nodes tree loaded shows (Some info) h = (h.0, subst IsDirectory (sym (shows info.parent h.0)) h.1)
 
 module _ (c : Bounds) (s : TreeState) (good : TreeHolds c s) where
-  -- the tree is sealed where every node is clean
+  -- with other flags, where these have what they ask for
+  with_flags : (sealed bare : ℕ) → (sealed ≡ 1 → IsClean c.nodes (tree_shown s.node)) → (bare ≡ 1 → s.removed ≡ 0) →
+      TreeHolds c (record s { sealed = sealed; bare = bare })
+  with_flags sealed bare clean none = record {
+    words = good.words;
+    root = good.root;
+    parents = good.parents;
+    blocks = good.blocks;
+    room = good.room;
+    children = good.children;
+    removals = good.removals;
+    none = none;
+    roles = good.roles;
+    clean = clean;
+  }
+
+  -- the tree is sealed where every node is clean, and may be opened at any time
   pub seals : IsClean c.nodes (tree_shown s.node) → TreeHolds c (record s { sealed = 1 })
-  seals clean = record {
-    words = good.words;
-    root = good.root;
-    parents = good.parents;
-    blocks = good.blocks;
-    room = good.room;
-    children = good.children;
-    removals = good.removals;
-    none = good.none;
-    roles = good.roles;
-    clean = λ e. clean;
-  }
+  seals clean = with_flags 1 s.bare (λ e. clean) good.none
 
-  -- and may be opened at any time
   pub opens : TreeHolds c (record s { sealed = 0 })
-  opens = record {
-    words = good.words;
-    root = good.root;
-    parents = good.parents;
-    blocks = good.blocks;
-    room = good.room;
-    children = good.children;
-    removals = good.removals;
-    none = good.none;
-    roles = good.roles;
-    clean = λ e. absurd (omega (arith, e));
-  }
+  opens = with_flags 0 s.bare (λ e. absurd (omega (arith, e))) good.none
 
-  -- the superblock is read-only where no file is removed
+  -- the superblock is read-only where no file is removed, and may be writable again at any time
   pub goes_bare : s.removed ≡ 0 → TreeHolds c (record s { bare = 1 })
-  goes_bare none = record {
-    words = good.words;
-    root = good.root;
-    parents = good.parents;
-    blocks = good.blocks;
-    room = good.room;
-    children = good.children;
-    removals = good.removals;
-    none = λ e. none;
-    roles = good.roles;
-    clean = good.clean;
-  }
+  goes_bare none = with_flags s.sealed 1 good.clean (λ e. none)
 
-  -- and may be writable again at any time
   pub stops_bare : TreeHolds c (record s { bare = 0 })
-  stops_bare = record {
-    words = good.words;
-    root = good.root;
-    parents = good.parents;
-    blocks = good.blocks;
-    room = good.room;
-    children = good.children;
-    removals = good.removals;
-    none = λ e. absurd (omega (arith, e));
-    roles = good.roles;
-    clean = good.clean;
-  }
+  stops_bare = with_flags s.sealed 0 good.clean (λ e. absurd (omega (arith, e)))
 
   module _ (t : ℕ) (lt : t < c.tasks) where
     -- a clearing begins at node 1, since the root is clean

@@ -35,8 +35,6 @@ child_charge_le d _ = omega arith
 
 removal_le : (r : Role) → removal r ≤ 1
 removal_le (Removing file) = omega arith
-removal_le (Dropped b) = omega arith
-removal_le Uncounting = omega arith
 removal_le _ = omega arith
 
 one_le : (b : Bool) → one_if b ≤ 1

@@ -57,29 +57,23 @@ module _ (c : Bounds) (within : AreWithin c) (sealed bare : ℕ) (w : Words) (at
 
   module _ (e : Extents) (nodes : e.nodes ≡ c.nodes) where
     create_there : (x : Create) (step : CreateStep) → x.dir < c.nodes → CreateStepFits c step → IsWord e (create_next x step).0
-    create_there x CreateStep.LoadsDirectory d fits = omega (arith, d, nodes)
     create_there x (CreateStep.LoadsNode node) d fits = omega (arith, fits, nodes)
-    create_there x (CreateStep.ChargesChild node) d fits = omega (arith, d, nodes)
     create_there x (CreateStep.TakesNode node) d fits = omega (arith, fits, nodes)
-    create_there x CreateStep.RefundsChild d fits = omega (arith, d, nodes)
+    create_there x other d fits = omega (arith, d, nodes)
 
     remove_there : (x : Remove) (step : RemoveStep) → x.file < c.nodes → at t ≡ remove_role x step → IsWord e (remove_next x step).0
-    remove_there x RemoveStep.LoadsFile n is = omega (arith, n, nodes)
-    remove_there x (RemoveStep.FreesNode file) n is = omega (arith, n, nodes)
     remove_there x (RemoveStep.CountsRemoved file) n is = tt
-    remove_there x (RemoveStep.MarksRemoved file) n is = omega (arith, n, nodes)
     remove_there x RemoveStep.RefundsRemoved n is = tt
     remove_there x (RemoveStep.RefundsBlocks file) n is = tt
     remove_there x (RemoveStep.RefundsChild file) n is =
         let d : file.parent < c.nodes = role_says c (tree_in sealed bare w at) good t lt (Returning file.parent) is in
         omega (arith, d, nodes)
+    remove_there x other n is = omega (arith, n, nodes)
 
     grow_there : (x : Grow) (step : GrowStep) → x.file < c.nodes → IsWord e (grow_next x step).0
     grow_there x GrowStep.LoadsFile n = omega (arith, n, nodes)
-    grow_there x (GrowStep.LoadsUsed file) n = tt
-    grow_there x (GrowStep.ChargesBlocks file used) n = tt
     grow_there x (GrowStep.GrowsFile file) n = omega (arith, n, nodes)
-    grow_there x GrowStep.RefundsBlocks n = tt
+    grow_there x other n = tt
 
     move_there : (x : MoveTo) (step : MoveStep) → x.file < c.nodes → x.dir < c.nodes → at t ≡ move_role x step →
         IsWord e (move_next x step).0
@@ -100,12 +94,9 @@ module _ (c : Bounds) (within : AreWithin c) (sealed bare : ℕ) (w : Words) (at
     open_there x (OpenStep.OpensFile file) n = omega (arith, n, nodes)
 
     snapshot_there : (x : Snapshot) (step : SnapshotStep) → SnapshotStepFits c step → IsWord e (snapshot_next x step).0
-    snapshot_there x SnapshotStep.Locks fits = tt
-    snapshot_there x SnapshotStep.LoadsStage fits = tt
-    snapshot_there x SnapshotStep.LoadsUsed fits = tt
     snapshot_there x (SnapshotStep.LoadsNode node) fits = omega (arith, fits, nodes)
     snapshot_there x (SnapshotStep.LoadsKids node) fits = omega (arith, fits, nodes)
-    snapshot_there x (SnapshotStep.Releases answer) fits = tt
+    snapshot_there x other fits = tt
 
     -- the word of each event is there
     pub word_there : (phase : TreePhase) (values : ℕ → ℕ) (hook : HookAnswer) → at t ≡ phase_role values phase → TreePhaseFits c t phase →

@@ -28,19 +28,7 @@ use Rattle.tree_laws.specs.Steps.{tree_in, words_left, found_at, EventKeeps, May
 same_tree : (sealed bare : ℕ) (w : Words) (at : ℕ → Role) (name : WordName) → tree_in sealed bare (put w name (read w name)) at ≡ tree_in sealed bare w at
 same_tree sealed bare w at (WordName.Node n) = λ j. record (tree_in sealed bare w at) { node = update_same w.node n j }
 same_tree sealed bare w at (WordName.Kids n) = λ j. record (tree_in sealed bare w at) { kids = update_same w.kids n j }
-same_tree sealed bare w at WordName.Umount = refl
-same_tree sealed bare w at WordName.Stage = refl
-same_tree sealed bare w at WordName.Holders = refl
-same_tree sealed bare w at WordName.SbFlags = refl
-same_tree sealed bare w at WordName.Remount = refl
-same_tree sealed bare w at WordName.Removed = refl
-same_tree sealed bare w at (WordName.MountFlags m) = refl
-same_tree sealed bare w at (WordName.MountCount m p) = refl
-same_tree sealed bare w at (WordName.Block i) = refl
-same_tree sealed bare w at (WordName.Sync i) = refl
-same_tree sealed bare w at (WordName.LevelCount i p) = refl
-same_tree sealed bare w at (WordName.Section x) = refl
-same_tree sealed bare w at WordName.Used = refl
+same_tree sealed bare w at other = refl
 
 module _ (c : Bounds) (within : AreWithin c) (sealed bare : ℕ) (w : Words) (at : ℕ → Role) (good : TreeHolds c (tree_in sealed bare w at))
     (t : ℕ) (lt : t < c.tasks) where
