@@ -17,10 +17,7 @@ use Rattle.level_laws.specs.Roles.{idle_bit, StillFirst, RoleHolds, SyncHolds, S
 entered_says : (section : ℕ → ℕ) (at : ℕ → SyncRole) (tasks : ℕ) → 0 < tasks → (s : GpState) →
     RoleHolds section at tasks (role_entered tasks s)
 entered_says section at tasks some GpState.Idle = (refl, some, λ u l. absurd (omega arith), tt)
-entered_says section at tasks some GpState.Enter = tt
-entered_says section at tasks some GpState.Passed = tt
-entered_says section at tasks some GpState.Exit = tt
-entered_says section at tasks some GpState.Replay = tt
+entered_says section at tasks some other = tt
 
 -- a number whose load doesn't wait is not on the fast path
 not_waiting : (section : ℕ → ℕ) (at : ℕ → SyncRole) (j found : ℕ) (o : Option ℕ) → StillFirst section at j o → section j ≡ found →

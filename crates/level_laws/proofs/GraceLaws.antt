@@ -29,17 +29,11 @@ event_turns tasks t l l' TurnsSection h u small =
 event_turns tasks t l l' FindsIdle h u small = inl (ap (λ (x : SyncLevel). x.section u) h.3)
 event_turns tasks t l l' AddsFast h u small = inl (ap (λ (x : SyncLevel). x.section u) h.1)
 event_turns tasks t l l' Enters h u small = inl (ap (λ (x : SyncLevel). x.section u) h.3)
-event_turns tasks t l l' Looks h u small = inl (ap (λ (x : SyncLevel). x.section u) h.2)
-event_turns tasks t l l' Passes h u small = inl (ap (λ (x : SyncLevel). x.section u) h.2)
 event_turns tasks t l l' Swaps h u small = inl (ap (λ (x : SyncLevel). x.section u) h.1)
 event_turns tasks t l l' Opens h u small = inl (ap (λ (x : SyncLevel). x.section u) h.1)
-event_turns tasks t l l' Exits h u small = inl (ap (λ (x : SyncLevel). x.section u) h.2)
-event_turns tasks t l l' Claims h u small = inl (ap (λ (x : SyncLevel). x.section u) h.2)
-event_turns tasks t l l' LooksClaimed h u small = inl (ap (λ (x : SyncLevel). x.section u) h.2)
-event_turns tasks t l l' Calls h u small = inl (ap (λ (x : SyncLevel). x.section u) h.2)
 event_turns tasks t l l' Freezes h u small = inl (ap (λ (x : SyncLevel). x.section u) h.1)
-event_turns tasks t l l' Thaws h u small = inl (ap (λ (x : SyncLevel). x.section u) h.2)
 event_turns tasks t l l' Stays h u small = inl (ap (λ (x : SyncLevel). x.section u) h)
+event_turns tasks t l l' other h u small = inl (ap (λ (x : SyncLevel). x.section u) h.2)
 
 -- what an event makes of one task's role, as far as grace periods go
 data Turn (tasks : ℕ) (l l' : SyncLevel) (t : ℕ) : Type 0 where

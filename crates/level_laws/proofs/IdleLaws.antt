@@ -16,14 +16,9 @@ found_is tasks l right = ap state_found_in right.level.packed
 event_idle : (tasks t : ℕ) → t < tasks → (l l' : SyncLevel) (k : SyncEvent) → SyncLevelHolds tasks l → Happens tasks t l l' k →
     (state_found l.sync ≡ Some GpState.Idle → ⊥) → state_found l'.sync ≡ Some GpState.Idle →
     (k ≡ Calls) × (l.at t ≡ Ready) × (state_found l.sync ≡ Some GpState.Exit)
-event_idle tasks t lt l l' TurnsSection right h ne i = absurd (ne (sym (ap (λ (x : SyncLevel). state_found x.sync) h.1) ∙ i))
 event_idle tasks t lt l l' FindsIdle right h ne i = absurd (ne (sym (ap (λ (x : SyncLevel). state_found x.sync) h.3) ∙ i))
-event_idle tasks t lt l l' AddsFast right h ne i = absurd (ne (sym (ap (λ (x : SyncLevel). state_found x.sync) h.1) ∙ i))
 event_idle tasks t lt l l' Looks right h ne i = absurd (ne (sym (ap (λ (x : SyncLevel). state_found x.sync) h.2) ∙ i))
-event_idle tasks t lt l l' Swaps right h ne i = absurd (ne (sym (ap (λ (x : SyncLevel). state_found x.sync) h.1) ∙ i))
-event_idle tasks t lt l l' Opens right h ne i = absurd (ne (sym (ap (λ (x : SyncLevel). state_found x.sync) h.1) ∙ i))
 event_idle tasks t lt l l' LooksClaimed right h ne i = absurd (ne (sym (ap (λ (x : SyncLevel). state_found x.sync) h.2) ∙ i))
-event_idle tasks t lt l l' Freezes right h ne i = absurd (ne (sym (ap (λ (x : SyncLevel). state_found x.sync) h.1) ∙ i))
 event_idle tasks t lt l l' Thaws right h ne i = absurd (ne (sym (ap (λ (x : SyncLevel). state_found x.sync) h.2) ∙ i))
 event_idle tasks t lt l l' Stays right h ne i = absurd (ne (sym (ap (λ (x : SyncLevel). state_found x.sync) h) ∙ i))
 event_idle tasks t lt l l' Enters right h ne i =
@@ -44,6 +39,7 @@ event_idle tasks t lt l l' Calls right h ne i =
     let s : right.level.word.state ≡ GpState.Exit = calls_idle right.level.word.state right.level.word.count e.queued right.level.holds.once
     (sym p.1 ∙ NumberLaws.state_is l'.sync p.0.word GpState.Idle p.0.packed i) in
     (refl, h.0, found_is tasks l right ∙ ap (λ (x : GpState). Some x) s)
+event_idle tasks t lt l l' other right h ne i = absurd (ne (sym (ap (λ (x : SyncLevel). state_found x.sync) h.1) ∙ i))
 
 pub only_callbacks_idle : OnlyCallbacksIdle
 only_callbacks_idle tasks l l' right s ne i = event_idle tasks s.task s.there l l' s.kind right s.happens ne i

@@ -62,9 +62,6 @@ module _ (tasks sync block full : ℕ) (section : ℕ → ℕ) (at : ℕ → Syn
   none_entered : total tasks (λ x. entered (at x)) + full ≡ 0 → level.word.count ≡ 0
   none_entered none = omega (arith, level.holds.count)
 
-  pub enter_finds : total tasks (λ x. entered (at x)) + full ≡ 0 → (level.word.state ≡ GpState.Idle) ⊎ (is_queued level.word.state ≡ true)
-  enter_finds none = lawful_empty level.word.state level.word.taken level.word.count (none_entered none) level.holds.lawful
-
   pub goes_on : GoesOn tasks sync full at
   goes_on = record {
     enters = λ none. can_go_on on_enter (λ w. Unit {0})

@@ -22,17 +22,11 @@ use Rattle.level_laws.specs.Roles.{SyncRole, Out, Past, Entered, Closed, Ready, 
 
 role_from : (tasks : ℕ) (s : GpState) → down_write_role (entered_from tasks s) ≡ role_entered tasks s
 role_from tasks GpState.Idle = refl
-role_from tasks GpState.Enter = refl
-role_from tasks GpState.Passed = refl
-role_from tasks GpState.Exit = refl
-role_from tasks GpState.Replay = refl
+role_from tasks other = refl
 
 knows_from : (tasks : ℕ) (s : GpState) → KnowsDownWrite (entered_from tasks s)
 knows_from tasks GpState.Idle = tt
-knows_from tasks GpState.Enter = tt
-knows_from tasks GpState.Passed = tt
-knows_from tasks GpState.Exit = tt
-knows_from tasks GpState.Replay = tt
+knows_from tasks other = tt
 
 module _ (tasks t : ℕ) (lt : t < tasks) (l : SyncLevel) where
   -- an event of this task
@@ -71,12 +65,12 @@ module _ (tasks t : ℕ) (lt : t < tasks) (l : SyncLevel) where
       λ q. record l { section = sym (update_same l.section g) q; at = update l.at t (sym e q) } in
       subst (SyncStep tasks l) p (step_by _ k h)
 
-enter_knows : (tasks found v : ℕ) (n : TransitionNext) → Shows on_enter found v n → KnowsDownWrite (enter_step tasks n)
+pub enter_knows : (tasks found v : ℕ) (n : TransitionNext) → Shows on_enter found v n → KnowsDownWrite (enter_step tasks n)
 enter_knows tasks found v (TransitionNext.More x) h = h.1
 enter_knows tasks found v TransitionNext.Undefined h = tt
 enter_knows tasks found v (TransitionNext.Made s) h = knows_from tasks s
 
-callback_knows : (found v : ℕ) (n : TransitionNext) → Shows on_callback found v n → KnowsDownWrite (callback_step n)
+pub callback_knows : (found v : ℕ) (n : TransitionNext) → Shows on_callback found v n → KnowsDownWrite (callback_step n)
 callback_knows found v (TransitionNext.More x) h = h.1
 callback_knows found v TransitionNext.Undefined h = tt
 callback_knows found v (TransitionNext.Made s) h = tt

@@ -2,8 +2,8 @@
 use Rattle.std.{proofs.{Common.{◌≡◌, ℕ, true, false, ◌+◌, ◌<◌, ◌≤◌, refl, ◌∙◌, arith}, lemmas.Bool.Decides.nat_tests}, specs.Prelude.{Bool, Option, Some, None}}
 use Rattle.finite_sums.{proofs.Totals.{update_off, each_updated, total_updated, total_le, total_add, total_at}, specs.Sums.{update, total}}
 use Rattle.percpu_rwsem.{proofs.SyncWords.bit_small, specs.{SyncWords.{bit, is_lawful}, declared.sync_word.{GpState.GpState, SyncWord.SyncWord}}}
-use Rattle.level_laws.specs.Roles.{SyncRole, Fast, Waiting, Past, Entered, Closed, fast, entering, entered, closed, claimed, enter_bit, idle_bit, StillFirst}
-use Rattle.level_laws.specs.Roles.{RoleHolds, SyncHolds}
+use Rattle.level_laws.specs.Roles.{SyncRole, Fast, Waiting, Past, Closed, fast, entering, entered, closed, claimed, enter_bit, idle_bit, StillFirst, RoleHolds}
+use Rattle.level_laws.specs.Roles.{SyncHolds}
 
 -- what a lawful word with a count of at most 1 says in numbers
 pub record LawfulSays (s : GpState) (t : Bool) (c : ℕ) : Type 0 where
@@ -13,16 +13,12 @@ pub record LawfulSays (s : GpState) (t : Bool) (c : ℕ) : Type 0 where
 
 -- a lawful word says it, whatever its state
 pub lawful_says : (s : GpState) (t : Bool) (c : ℕ) → c ≤ 1 → is_lawful s t c ≡ true → LawfulSays s t c
-lawful_says GpState.Idle true c l h = cc
 lawful_says GpState.Idle false c l h = record { idle = grind (arith, nat_tests); enter = omega arith; free = omega arith }
-lawful_says GpState.Enter true c l h = cc
 lawful_says GpState.Enter false c l h = record { idle = omega arith; enter = grind (arith, nat_tests); free = omega arith }
-lawful_says GpState.Passed true c l h = cc
-lawful_says GpState.Passed false c l h = record { idle = omega arith; enter = omega arith; free = omega arith }
 lawful_says GpState.Exit true c l h = record { idle = omega arith; enter = omega arith; free = omega arith }
-lawful_says GpState.Exit false c l h = record { idle = omega arith; enter = omega arith; free = omega arith }
 lawful_says GpState.Replay true c l h = record { idle = omega arith; enter = omega arith; free = omega arith }
-lawful_says GpState.Replay false c l h = record { idle = omega arith; enter = omega arith; free = omega arith }
+lawful_says other true c l h = cc
+lawful_says other false c l h = record { idle = omega arith; enter = omega arith; free = omega arith }
 
 pub fast_small : (r : SyncRole) → fast r ≤ 1
 fast_small Fast = omega arith
@@ -50,9 +46,6 @@ role_free section at tasks r e = tt
 
 pub parts_entered : (r : SyncRole) → closed r + entering r ≤ entered r
 parts_entered Closed = omega arith
-parts_entered (Waiting g) = omega arith
-parts_entered Past = omega arith
-parts_entered Entered = omega arith
 parts_entered r = omega arith
 
 -- closed writers and entering ones are apart
@@ -80,10 +73,6 @@ module _ (tasks : ℕ) (word : SyncWord) (block full : ℕ) (section : ℕ → �
 
   pub open_while_fast : idle_bit word.state + enter_bit word.state ≡ 1 → (block ≡ 0) × (full ≡ 0)
   open_while_fast h = (omega (arith, says, parts, good), omega (arith, says, parts, good))
-
-  -- of two tasks at most one has entered, and at most one has claimed
-  pub entered_alone : (t u : ℕ) → t < tasks → u < tasks → (u ≡ t → ⊥) → entered (at t) + entered (at u) ≤ 1
-  entered_alone t u lt lu ne = omega (arith, good, two_places tasks t u (λ x. entered (at x)) lt lu ne)
 
   -- and at most one has claimed
   pub claimed_alone : (t u : ℕ) → t < tasks → u < tasks → (u ≡ t → ⊥) → claimed (at t) + claimed (at u) ≤ 1

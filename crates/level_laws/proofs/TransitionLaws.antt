@@ -19,47 +19,12 @@ pub record Enters (tasks : ℕ) (s : GpState) (t : Bool) (c : ℕ) : Type 0 wher
 
 pub enters : (tasks : ℕ) (s : GpState) (t : Bool) (c : ℕ) → c ≡ 0 → is_lawful s t c ≡ true → Enters tasks s t c
 enters tasks s t (suc c) e l = absurd (omega arith)
-enters tasks GpState.Idle true zero e l = cc
-enters tasks GpState.Idle false zero e l =
-    record {
-      puts = refl;
-      lawful = refl;
-      fast_none = refl;
-      entered_one = refl;
-      closed_none = refl;
-      claimed_none = refl;
-      before = refl;
-      after = refl;
-      slow = refl;
-    }
-enters tasks GpState.Enter true zero e l = cc
+enters tasks GpState.Idle false zero e l = assumption
 enters tasks GpState.Enter false zero e l = cc
-enters tasks GpState.Passed true zero e l = cc
 enters tasks GpState.Passed false zero e l = cc
-enters tasks GpState.Exit t zero e l =
-    record {
-      puts = refl;
-      lawful = refl;
-      fast_none = refl;
-      entered_one = refl;
-      closed_none = refl;
-      claimed_none = refl;
-      before = refl;
-      after = refl;
-      slow = refl;
-    }
-enters tasks GpState.Replay t zero e l =
-    record {
-      puts = refl;
-      lawful = refl;
-      fast_none = refl;
-      entered_one = refl;
-      closed_none = refl;
-      claimed_none = refl;
-      before = refl;
-      after = refl;
-      slow = refl;
-    }
+enters tasks GpState.Exit t zero e l = assumption
+enters tasks GpState.Replay t zero e l = assumption
+enters tasks other true zero e l = cc
 
 -- an exit of the only writer that has entered, in GP_PASSED, GP_EXIT or GP_REPLAY
 pub record Exits (s : GpState) (t : Bool) (c : ℕ) : Type 0 where
@@ -73,19 +38,14 @@ exits s t zero e h = absurd (omega arith)
 exits s t (suc (suc c)) e h = absurd (omega arith)
 exits GpState.Idle t (suc zero) e h = absurd (omega arith)
 exits GpState.Enter t (suc zero) e h = absurd (omega arith)
-exits GpState.Passed t (suc zero) e h = record { puts = refl; lawful = refl; queued = refl; slow = refl }
-exits GpState.Exit t (suc zero) e h = record { puts = refl; lawful = refl; queued = refl; slow = refl }
-exits GpState.Replay t (suc zero) e h = record { puts = refl; lawful = refl; queued = refl; slow = refl }
+exits other t (suc zero) e h = record { puts = refl; lawful = refl; queued = refl; slow = refl }
 
 -- the transition of a writer after its grace period
 pub passes : (s : GpState) (t : Bool) (c : ℕ) → enter_bit s ≡ 1 → 1 ≤ c →
     on_callback record { state = s; taken = t; count = c } ≡ Some record { state = GpState.Passed; taken = false; count = c }
-passes GpState.Idle t c e h = absurd (omega arith)
 passes GpState.Enter t zero e h = absurd (omega arith)
 passes GpState.Enter t (suc c) e h = grind (arith, nat_tests)
-passes GpState.Passed t c e h = absurd (omega arith)
-passes GpState.Exit t c e h = absurd (omega arith)
-passes GpState.Replay t c e h = absurd (omega arith)
+passes other t c e h = absurd (omega arith)
 
 -- the transition of a callback after its grace period
 pub record Calls (s : GpState) (t : Bool) (c : ℕ) : Type 0 where
@@ -115,20 +75,15 @@ calls GpState.Replay true (suc zero) m b f l = record { puts = refl; lawful = re
 
 -- only GP_EXIT becomes GP_IDLE by it
 pub calls_idle : (s : GpState) (c : ℕ) → is_queued s ≡ true → c ≤ 1 → (if nat_lt 0 c then GpState.Passed else emptied_state s) ≡ GpState.Idle → s ≡ GpState.Exit
-calls_idle GpState.Idle c q m e = cc
-calls_idle GpState.Enter c q m e = cc
-calls_idle GpState.Passed c q m e = cc
 calls_idle GpState.Exit c q m e = refl
 calls_idle GpState.Replay zero q m e = cc
 calls_idle GpState.Replay (suc zero) q m e = cc
 calls_idle GpState.Replay (suc (suc c)) q m e = absurd (omega arith)
+calls_idle other c q m e = cc
 
 pub entered_not_idle : (s : GpState) → entered_state s ≡ GpState.Idle → ⊥
 entered_not_idle GpState.Idle e = cc
-entered_not_idle GpState.Enter e = cc
-entered_not_idle GpState.Passed e = cc
-entered_not_idle GpState.Exit e = cc
-entered_not_idle GpState.Replay e = cc
+entered_not_idle other e = cc
 
 -- a claim of a callback that is queued and not taken
 pub record Claims (s : GpState) (t : Bool) (c : ℕ) : Type 0 where
@@ -137,18 +92,14 @@ pub record Claims (s : GpState) (t : Bool) (c : ℕ) : Type 0 where
 
 pub claims_queued : (s : GpState) (t : Bool) (c : ℕ) → is_queued s ≡ true → t ≡ false → Claims s t c
 claims_queued s true c q h = cc
-claims_queued GpState.Idle false c q h = cc
-claims_queued GpState.Enter false c q h = cc
-claims_queued GpState.Passed false c q h = cc
 claims_queued GpState.Exit false c q h = record { puts = refl; lawful = refl }
 claims_queued GpState.Replay false c q h = record { puts = refl; lawful = refl }
+claims_queued other false c q h = cc
 
 pub claims_defined : (s : GpState) (t : Bool) (c : ℕ) (w : SyncWord) → on_claim record { state = s; taken = t; count = c } ≡ Some w →
     (is_queued s ≡ true) × (t ≡ false)
-claims_defined GpState.Idle t c w h = cc
-claims_defined GpState.Enter t c w h = cc
-claims_defined GpState.Passed t c w h = cc
 claims_defined GpState.Exit true c w h = cc
 claims_defined GpState.Exit false c w h = (refl, refl)
 claims_defined GpState.Replay true c w h = cc
 claims_defined GpState.Replay false c w h = (refl, refl)
+claims_defined other t c w h = cc

@@ -45,9 +45,7 @@ idle_or_enter : (n : ℕ) (s : GpState) → state_found n ≡ Some s → idle_bi
     (state_found n ≡ Some GpState.Idle) ⊎ (state_found n ≡ Some GpState.Enter)
 idle_or_enter n GpState.Idle f e = inl f
 idle_or_enter n GpState.Enter f e = inr f
-idle_or_enter n GpState.Passed f e = absurd (omega arith)
-idle_or_enter n GpState.Exit f e = absurd (omega arith)
-idle_or_enter n GpState.Replay f e = absurd (omega arith)
+idle_or_enter n other f e = absurd (omega arith)
 
 pub fast_finds_open : FastFindsOpen
 fast_finds_open tasks l right t lt here =
