@@ -4,9 +4,9 @@ use Rattle.std.proofs.lemmas.Bool.{le-leb, lt-leb, Decides.{nat_tests, eqb_tells
 use Rattle.std.specs.Prelude.{◌==◌, ◌&&◌, if◌then◌else◌}
 use Rattle.finite_sums.{proofs.Totals.{update_off, each_updated, total_same, total_updated, total_zero, total_at}, specs.Sums.{update, total}}
 use Rattle.stage_laws.specs.Roles.{Place, Before, Closing, HasPassed, StageRole, Aside, Freezing, Reopening, bit, owns, freezes, reopens, has_position}
-use Rattle.stage_laws.specs.Roles.{remounts, closed_at, passed_at, closed_by, passed_by, up_to, closes, passes, sums, under_way, is_full, KnowsStage}
+use Rattle.stage_laws.specs.Roles.{remounts, closed_at, passed_at, passed_by, up_to, closes, passes, sums, under_way, is_full, KnowsStage}
 
-bit_le : (b : Bool) → bit b ≤ 1
+pub bit_le : (b : Bool) → bit b ≤ 1
 bit_le true = omega arith
 bit_le false = omega arith
 
@@ -25,11 +25,6 @@ place_le : (stage : ℕ) (p : Place) → (passed_at stage p ≤ closed_at stage 
 place_le stage Before = omega arith
 place_le stage Closing = omega arith
 place_le stage (HasPassed clean) = omega arith
-
-pub passed_le : (r : StageRole) → passed_by r ≤ closed_by r
-passed_le (Freezing stage place owner) = (place_le stage place).0
-passed_le (Reopening closed) = omega arith
-passed_le r = omega arith
 
 pub up_to_le : (i n : ℕ) → i ≤ n → up_to i n ≡ 1
 up_to_le i n h = rw (le-leb i n h) refl

@@ -20,12 +20,6 @@ module _ (tasks stage sb remount : ℕ) (block : ℕ → ℕ) (at : ℕ → Stag
       good.remounting ∙
       total_alone tasks t (λ y. remounts (at y)) lt (λ u lu ne. omega (arith, owner_only (at u), other_owns t lt o u lu ne))
 
-  pub remount_le : remount ≤ 1
-  remount_le =
-      let h : total tasks (λ t. remounts (at t)) ≤ total tasks (λ t. owns (at t)) =
-      total_le tasks _ _ (λ u lu. omega (arith, owner_only (at u))) in
-      omega (arith, good.remounting, good.alone, h)
-
   reopening : (stage * total tasks (λ t. reopens (at t)) ≡ 0) × (total tasks (λ t. reopens (at t)) ≤ 1)
   reopening =
       let le : total tasks (λ t. reopens (at t)) ≤ total tasks (λ t. owns (at t)) =
