@@ -12,7 +12,7 @@ use Rattle.gate_frames.proofs.Says.{Says}
 or_one : (a b : Bool) → a ≡ true → (a || b) ≡ true
 or_one a b h = rw h refl
 
-or_other : (a b : Bool) → b ≡ true → (a || b) ≡ true
+pub or_other : (a b : Bool) → b ≡ true → (a || b) ≡ true
 or_other true b h = refl
 or_other false b h = h
 

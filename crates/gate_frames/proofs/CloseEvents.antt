@@ -6,23 +6,17 @@ use Rattle.finite_sums.{proofs.Totals.{total_at, total_updated, update_off}, spe
 use Rattle.access_model.{proofs.Openers.most_tasks_is, specs.{States.{one_if, is_removed, most_tasks, openers}, declared.errors.GateError.GateError}}
 use Rattle.cpu_words.specs.{Words.Words, declared.names.WordName.WordName}
 use Rattle.gated_tree.proofs.Words.{word_opens, word_shows}
-use Rattle.gated_tree.specs.Calls.{role_after, phase_role, create_role, remove_role, grow_role, move_role, mark_role, open_role, snapshot_role}
-use Rattle.gated_tree.specs.{Nodes.{word_of, any_file_in, opens_in, node_shown, info_of}, Phases.after_look}
+use Rattle.gated_tree.specs.{Calls.{role_after, phase_role}, Nodes.{word_of, any_file_in, opens_in, node_shown, info_of}, Phases.after_look}
 use Rattle.gated_tree.specs.Roles.{Role, Out, Freeing, Dropped, Uncounting, frees, removal, Bounds, TreeState, AreWithin, TreeHolds, RoleHolds, NobodyReads}
 use Rattle.gated_tree.specs.Roles.{NobodyElseFrees, IsLastOpen}
-use Rattle.gated_tree.specs.declared.changes.{Create.Create, CreateStep.CreateStep, MoveStep.MoveStep, MoveTo.MoveTo, Remove.Remove, RemoveStep.RemoveStep}
-use Rattle.gated_tree.specs.declared.{growth.{Grow.Grow, GrowStep.GrowStep}, marks.{Mark.Mark, MarkStep.MarkStep}, nodes.NodeWord.NodeWord}
-use Rattle.gated_tree.specs.declared.{opens.{OpenFile.OpenFile, OpenStep.OpenStep}, phases.TreePhase.TreePhase, snapshots.SnapshotStep.SnapshotStep}
-use Rattle.mount_counts.specs.declared.remounts.RemountStep.{RemountStep}
+use Rattle.gated_tree.specs.declared.{nodes.NodeWord.NodeWord, phases.TreePhase.TreePhase}
 use Rattle.tree_laws.proofs.{Counts.{finds_last, same_le}, Each.each_event, Laws.{role_says, same_off}, Steps.{leaves_word, as_event, stays_at}}
 use Rattle.tree_laws.specs.{Events.{turned, ClosesFile, FreesFile, DropsBlocks, Uncounts}, Steps.{tree_in, EventKeeps}}
-use Rattle.freeze_levels.specs.declared.freezes.FreezeStep.{FreezeStep}
 use Rattle.file_closes.specs.{Phases.{next, after, enters, closed_from}, declared.phases.{ClosePhase.ClosePhase, Closing.Closing}}
 use Rattle.gate_world.specs.{Configs.IsWithin, Fits.{MayLower, HasFile, file_of}, Rules.{IsGood, Tree, Files, Stages}, Snapshots.values_noted}
-use Rattle.gate_world.specs.Trees.{tree_bounds, tree_of, tree_roles, tree_role_of, close_tree_role, remount_tree_role, freeze_tree_role, nodes_noted}
-use Rattle.gate_world.specs.Trees.{is_bare_at}
-use Rattle.gate_world.specs.{Views.{has_open, holds_level}, Worlds.World, declared.{config.Config.Config, views.Traced.Traced, work.Phase.Phase}}
-use Rattle.gate_frames.proofs.{TreeHolders.level_thawed, Trees.nobody_reads}
+use Rattle.gate_world.specs.{Trees.{tree_bounds, tree_of, tree_roles, tree_role_of, close_tree_role, nodes_noted, is_bare_at}, Views.{has_open, holds_level}}
+use Rattle.gate_world.specs.{Worlds.World, declared.{config.Config.Config, views.Traced.Traced, work.Phase.Phase}}
+use Rattle.gate_frames.proofs.{TreeHolders.level_thawed, TreeRoles.{call_plain, remount_apart, snapshot_apart, freeze_apart}, Trees.nobody_reads}
 
 -- each event of a close on a word of the tree, where its task holds what it may
 module _ (c : Bounds) (within : AreWithin c) (sealed bare : ℕ) (w : Words) (at : ℕ → Role) (good : TreeHolds c (tree_in sealed bare w at))
@@ -97,60 +91,10 @@ module _ (n : ℕ) where
     | inr h ↦ absurd (omega (arith, e, same_off m n (λ q. h.1 (sym q))))
   ]
 
-  create_frees : (x : Create) (s : CreateStep) → frees n (create_role x s) ≡ 0
-  create_frees x CreateStep.LoadsDirectory = refl
-  create_frees x other = refl
-
-  remove_frees : (x : Remove) (s : RemoveStep) → frees n (remove_role x s) ≡ 0
-  remove_frees x RemoveStep.LoadsFile = refl
-  remove_frees x other = refl
-
-  grow_frees : (x : Grow) (s : GrowStep) → frees n (grow_role x s) ≡ 0
-  grow_frees x GrowStep.LoadsFile = refl
-  grow_frees x other = refl
-
-  move_frees : (x : MoveTo) (s : MoveStep) → frees n (move_role x s) ≡ 0
-  move_frees x MoveStep.LoadsFile = refl
-  move_frees x other = refl
-
-  mark_frees : (x : Mark) (s : MarkStep) → frees n (mark_role x s) ≡ 0
-  mark_frees x MarkStep.LoadsFile = refl
-  mark_frees x (MarkStep.MarksFile file) = refl
-
-  open_frees : (x : OpenFile) (s : OpenStep) → frees n (open_role x s) ≡ 0
-  open_frees x OpenStep.LoadsFile = refl
-  open_frees x (OpenStep.OpensFile file) = refl
-
-  snapshot_frees : (nodes : ℕ) (values : ℕ → ℕ) (s : SnapshotStep) → frees n (snapshot_role nodes values s) ≡ 0
-  snapshot_frees nodes values SnapshotStep.Locks = refl
-  snapshot_frees nodes values SnapshotStep.LoadsStage = refl
-  snapshot_frees nodes values SnapshotStep.LoadsUsed = refl
-  snapshot_frees nodes values (SnapshotStep.LoadsNode n) = refl
-  snapshot_frees nodes values (SnapshotStep.LoadsKids n) = refl
-  snapshot_frees nodes values (SnapshotStep.Releases (Ok reply)) = refl
-  snapshot_frees nodes values (SnapshotStep.Releases (Err refusal)) = refl
-
   tree_frees : (values : ℕ → ℕ) (x : TreePhase) → frees n (phase_role values x) ≡ 0
-  tree_frees values (TreePhase.Create x) = create_frees x x.step
-  tree_frees values (TreePhase.Remove x) = remove_frees x x.step
-  tree_frees values (TreePhase.Grow x) = grow_frees x x.step
-  tree_frees values (TreePhase.MoveTo x) = move_frees x x.step
-  tree_frees values (TreePhase.Mark x) = mark_frees x x.step
-  tree_frees values (TreePhase.OpenFile x) = open_frees x x.step
-  tree_frees values (TreePhase.Snapshot x) = snapshot_frees x.nodes values x.step
+  tree_frees values (TreePhase.Snapshot x) = (snapshot_apart x.nodes values x.step).2 n
   tree_frees values (TreePhase.ClearMarks x) = refl
-
-  freeze_frees : (nodes : ℕ) (s : FreezeStep) → frees n (freeze_tree_role nodes s) ≡ 0
-  freeze_frees nodes (FreezeStep.Cleans marks) = refl
-  freeze_frees nodes FreezeStep.SetsFs = refl
-  freeze_frees nodes s = refl
-
-  remount_frees : (nodes : ℕ) (s : RemountStep) → frees n (remount_tree_role nodes s) ≡ 0
-  remount_frees nodes (RemountStep.SetsRemount held) = refl
-  remount_frees nodes (RemountStep.ClearsHold held) = refl
-  remount_frees nodes (RemountStep.ClearsMark m) = refl
-  remount_frees nodes RemountStep.SetsReadOnly = refl
-  remount_frees nodes s = refl
+  tree_frees values x = (call_plain values x refl).frees_none n
 
   close_file_is : (x : ClosePhase) → frees n (close_tree_role x) ≡ 1 → file_of (Some (Phase.Closes x)) ≡ Some (n, true)
   close_file_is (ClosePhase.Enters f node r) e = ap (λ m. Some (m, true)) (same_is f node e)
@@ -158,8 +102,8 @@ module _ (n : ℕ) where
   close_file_is other e = absurd (omega (arith, e))
 
   freer_file : (trace : List Traced) (p : Option Phase) → frees n (tree_role_of trace p) ≡ 1 → file_of p ≡ Some (n, true)
-  freer_file trace (Some (Phase.Remounts x)) e = absurd (omega (arith, e, remount_frees x.nodes x.step))
-  freer_file trace (Some (Phase.Freezes x)) e = absurd (omega (arith, e, freeze_frees x.nodes x.step))
+  freer_file trace (Some (Phase.Remounts x)) e = absurd (omega (arith, e, (remount_apart x.nodes x.step).1 n))
+  freer_file trace (Some (Phase.Freezes x)) e = absurd (omega (arith, e, (freeze_apart x.nodes x.step).2 n))
   freer_file trace (Some (Phase.Trees x)) e = absurd (omega (arith, e, tree_frees (values_noted (nodes_noted x) trace) x))
   freer_file trace (Some (Phase.Closes x)) e = close_file_is x e
   freer_file trace p e = absurd (omega (arith, e))

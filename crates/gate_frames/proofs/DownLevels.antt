@@ -16,10 +16,10 @@ use Rattle.percpu_rwsem.specs.declared.{callbacks.CallbackStep.CallbackStep, gra
 use Rattle.percpu_rwsem.specs.declared.{sync_word.{GpState.GpState, SyncWord.SyncWord}, transitions.{Transition.Transition, TransitionNext.TransitionNext}}
 use Rattle.percpu_rwsem.specs.declared.writers.{DownWrite.DownWrite, DownWriteStep.DownWriteStep, UpWriteStep.UpWriteStep}
 use Rattle.freeze_levels.specs.declared.{freezes.FreezeStep.{FreezeStep, TheVariants.Closes}, thaws.ThawStep.ThawStep}
-use Rattle.level_laws.proofs.{EventLaws.swap_keeps, NumberLaws.state_is, Operations.down_writes_are_there, Whole.writers_find}
+use Rattle.level_laws.proofs.{EventLaws.swap_keeps, Operations.down_writes_are_there}
 use Rattle.level_laws.specs.Events.{SyncLevelHolds, SyncStep}
 use Rattle.level_laws.specs.Operations.{down_read_role, callback_role, down_write_role, value_at, left_by, by_next, HoldsOfNext}
-use Rattle.level_laws.specs.Roles.{SyncRole, Waiting, Past as HasPassed, Out as IsApart, Entered as HasEntered, Closed, entered, entering}
+use Rattle.level_laws.specs.Roles.{SyncRole, Waiting, Out as IsApart, Closed, entered}
 use Rattle.stage_laws.{proofs.{Facts.total_alone, Positions.{other_position, not_full}}, specs.Roles.has_position}
 use Rattle.write_access.specs.declared.phases.WritePhase.{WritePhase}
 use Rattle.file_closes.specs.declared.phases.ClosePhase.{ClosePhase}
@@ -29,8 +29,8 @@ use Rattle.gate_world.specs.Levels.{is_frozen_whole, level_role_of}
 use Rattle.gate_world.specs.{Rules.{Stages, IsGood, Holds, AtLevel}, Shown.stage_roles}
 use Rattle.gate_world.specs.{Stages.{stage_role_of, freeze_stage_role, thaw_stage_role, reopening_role}, Views.holds_level, Worlds.World}
 use Rattle.gate_world.specs.declared.{config.Config.Config, views.View.View, work.Phase.{Phase, TheVariants.Closes}}
-use Rattle.gate_frames.proofs.{Frames.SameLevelCounts, LevelWorlds.{level_right, found_level, IsEventAt}}
-use Rattle.gate_frames.proofs.StandRoles.{count_at, sync_at, SayBeside, beside_each, is_of_level, counts_left, counts_become, levels_move}
+use Rattle.gate_frames.proofs.{Frames.SameLevelCounts, LevelWorlds.{level_right, found_level, IsEventAt, event_word}}
+use Rattle.gate_frames.proofs.StandRoles.{count_at, sync_at, SayBeside, beside_each, counts_left, counts_become, levels_move}
 use Rattle.gate_frames.proofs.Standing.{Stands, closing_stand, stand_after_closing, LevelsHold, left_world}
 
 -- each event of a down-write is one of its level, and changes no section word
@@ -193,7 +193,7 @@ taken_passes : (d : DownWrite) (j : ℕ) (taken : Taken) → (down_write_summed 
 taken_passes d j (Taken.More sum) e = absurd (none-some (Action.Pass j) e)
 taken_passes d j (Taken.Total n) e = ap total_role (total_passes d.level j (n == 0) e)
 
-queued_passed : (s : GpState) → is_queued s ≡ true → is_passed s ≡ true
+pub queued_passed : (s : GpState) → is_queued s ≡ true → is_passed s ≡ true
 queued_passed GpState.Exit e = refl
 queued_passed GpState.Replay e = refl
 queued_passed s e = absurd (true≢false (sym e))
@@ -283,21 +283,6 @@ module _ (c : Config) (lim : IsWithin c) (w : World) (good : IsGood c w) (t : �
     passes_nobody (DownWriteStep.Sums sum) fits was j e = summed_nobody sum fits was j e
     passes_nobody other fits was j e = absurd (none-some (Action.Pass j) e)
 
-    -- a load for GP_PASSED finds it
-    pub awaits_passed_passes : 1 ≤ d.level → d.level ≤ 3 → Stands (w.views t).phase (Some (closing_stand (at_down_write d DownWriteStep.AwaitsPassed))) →
-        next_closing DownWriteStep.AwaitsPassed ≡ Next.Go (at_down_write d DownWriteStep.SetsBlock)
-    awaits_passed_passes one three was =
-        let l = level_in w d.level in
-        let right = level_right c w good d.level one three in
-        let here : l.at t ≡ HasEntered =
-        was.syncs d.level one three ∙ sync_at d.level (closing_stand (at_down_write d DownWriteStep.AwaitsPassed)) refl in
-        let finds = writers_find c.tasks l right t lt (ap entered here) (ap entering here) in
-        state_passes d (w.words.sync d.level) right.level.word right.level.packed
-        (elim finds.3 [
-          | inl q ↦ ap is_passed (state_is (w.words.sync d.level) right.level.word GpState.Passed right.level.packed q)
-          | inr q ↦ queued_passed right.level.word.state q
-        ])
-
     -- its event is one of the rcu_sync of its level; it enters where nobody has entered
     pub closing_there : (s : DownWriteStep) → DownWriteFits c (at_down_write d s) →
         Stands (w.views t).phase (Some (closing_stand (at_down_write d s))) →
@@ -310,7 +295,7 @@ module _ (c : Config) (lim : IsWithin c) (w : World) (good : IsGood c w) (t : �
         let name : WordName = (down_write_next d s).0 in
         let touch : Touch = (down_write_next d s).1 in
         let l = level_in w d.level in
-        let found = found_level w d.level name (is_of_level d.level name touch (down_write_event d s)) in
+        let found = found_level w d.level name (event_word d.level name touch (down_write_event d s)) in
         let there = down_writes_are_there t (read w.words name) l (at_down_write d s) (omega (arith, lt, fits.2))
         (subst (λ k. SyncLevelHolds k l) (sym fits.2) (level_right c w good d.level fits.0 fits.1))
         (was.syncs d.level fits.0 fits.1 ∙ sync_at d.level (closing_stand (at_down_write d s)) refl) fits.5
@@ -412,23 +397,8 @@ pub passes_finds_nobody : (c : Config) → IsWithin c → (w : World) → IsGood
     total c.tasks (λ x. if holds_level (w.views x) d.level then 1 else 0) ≡ 0
 passes_finds_nobody c lim w good t lt d fits was j e = passes_nobody c lim w good t lt d d.step fits was j e
 
-pub passes_leaves_nobody : (c : Config) → IsWithin c → (w : World) → IsGood c w → (t : ℕ) → t < c.tasks → (d : DownWrite) →
-    DownWriteFits c d → Stands (w.views t).phase (Some (closing_stand d)) → (j : ℕ) →
-    (down_write_after d d.step (found_by (down_write_next d d.step).1 (read w.words (down_write_next d d.step).0))).1 ≡ Some (Action.Pass j) →
-    (v : View) → holds_level v ≡ holds_level (w.views t) →
-    total c.tasks (λ x. if holds_level (update w.views t v x) d.level then 1 else 0) ≡ 0
-passes_leaves_nobody c lim w good t lt d fits was j e v held =
-    let f : View → ℕ = λ u. if holds_level u d.level then 1 else 0 in
-    let same : ◌≡◌ {A = ℕ → ℕ} (λ x. f (update w.views t v x)) (λ x. f (w.views x)) =
-    update_map f w.views t v ∙
-    (ap (λ (h : ℕ → Bool). update (λ x. f (w.views x)) t (if h d.level then 1 else 0)) held ∙ update_same (λ x. f (w.views x)) t) in
-    ap (total c.tasks) same ∙ passes_finds_nobody c lim w good t lt d fits was j e
-
 entered_le : (r : SyncRole) → entered r ≤ 1
 entered_le (Waiting g) = omega arith
-entered_le HasPassed = omega arith
-entered_le HasEntered = omega arith
-entered_le Closed = omega arith
 entered_le r = omega arith
 
 read_enters : (b : Bool) (s : DownReadStep) → entered (sync_role_if b (down_read_role s)) ≡ 0

@@ -19,11 +19,6 @@ freeze_minds nodes s = omega arith
 
 thaw_minds : (holder : Holder) (s : ThawStep) → minds (thaw_holder_role holder s) ≤ stage_owns (thaw_stage_role s)
 thaw_minds holder (ThawStep.Leaves held) = omega arith
-thaw_minds holder ThawStep.LoadsSuperblock = omega arith
-thaw_minds holder ThawStep.LeavesReadOnly = omega arith
-thaw_minds holder ThawStep.LeavesLast = omega arith
-thaw_minds holder ThawStep.UnfreezesReadOnly = omega arith
-thaw_minds holder ThawStep.SetsUnfrozen = omega arith
 thaw_minds holder s = omega arith
 
 pub holder_owner : (p : Option Phase) → minds (holder_role_of p) ≤ owns p

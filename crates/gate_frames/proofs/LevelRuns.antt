@@ -10,8 +10,8 @@ use Rattle.gate_world.specs.{Configs.IsWithin, Fits.{DownWriteFits, UpWriteFits}
 use Rattle.gate_world.specs.{Levels.{Stand, stand_sync, inside, sync_role_of, is_frozen_whole}, Rules.IsGood, Worlds.World}
 use Rattle.gate_world.specs.declared.{config.Config.Config, views.View.View}
 use Rattle.gate_frames.proofs.{DownLevels.{next_closing, down_write_event, closing_others, closing_there}, Frames.SameLevelWords}
-use Rattle.gate_frames.proofs.{LevelSteps.{level_stays, level_kept, level_moved}, LevelWorlds.IsEventAt}
-use Rattle.gate_frames.proofs.StandRoles.{SayBeside, touched_sync, put_inside, touched_block, touched_whole, touched_section}
+use Rattle.gate_frames.proofs.{LevelSteps.{level_stays, level_kept, level_moved}, LevelWorlds.{IsEventAt, section_kept}}
+use Rattle.gate_frames.proofs.StandRoles.{SayBeside, touched_sync, put_inside, touched_block, touched_whole}
 use Rattle.gate_frames.proofs.Standing.{Stands, LevelsRun, closing_stand, opening_stand, left_world, stand_after_closing, stand_after_opening}
 use Rattle.gate_frames.proofs.UpLevels.{next_opening, up_write_event, opening_others, opening_there}
 
@@ -58,7 +58,7 @@ module _ (c : Config) (w : World) (t : ℕ) (lt : t < c.tasks) (v : View) (s z :
       level_in (left_world w t words_touched v) j ≡ level_in w j
   other_level j ne same one three =
       level_kept w t j words_touched v (touched_sync w.words i j ne name touch is) (touched_block w.words i j ne name touch is)
-      (touched_whole w.words i name touch is) (touched_section w.words i name touch is) (now.outside ∙ sym was.outside)
+      (touched_whole w.words i name touch is) (section_kept w.words i name touch is) (now.outside ∙ sym was.outside)
       (now.syncs j one three ∙ (same ∙ sym (was.syncs j one three)))
 
   -- so it is an event of each level, where it is one of its own

@@ -5,7 +5,7 @@ use Rattle.finite_sums.{proofs.Totals.{total_le, update_map, update_same, update
 use Rattle.cpu_words.specs.{Touches.{wrap_add, left}, Words.{Words, put, read}, declared.{events.Touch.Touch, names.WordName.WordName}}
 use Rattle.percpu_rwsem.specs.declared.{callbacks.CallbackStep.CallbackStep, readers.DownReadStep.DownReadStep}
 use Rattle.level_laws.proofs.Whole.{events_keep, fast_finds_open as level_is_open}
-use Rattle.level_laws.specs.Events.{SyncLevel, SyncLevelHolds, SyncStep, TurnsSection}
+use Rattle.level_laws.specs.Events.{SyncLevelHolds, SyncStep, TurnsSection}
 use Rattle.level_laws.specs.Operations.{down_read_role, callback_role, down_read_inside, put_at, value_at, left_by}
 use Rattle.level_laws.specs.Roles.{SyncRole, Out as IsApart, Fast, fast, closed}
 use Rattle.stage_laws.specs.Roles.{sums}
@@ -18,13 +18,7 @@ use Rattle.gate_frames.proofs.{Frames.left_alone, Stands.{freeze_slow, stand_bel
 
 read_fast : (b : Bool) (s : DownReadStep) → fast (sync_role_if b (down_read_role s)) ≤ down_read_inside s
 read_fast true DownReadStep.EntersSection = omega arith
-read_fast true DownReadStep.LoadsSync = omega arith
-read_fast true DownReadStep.CountsUpFast = omega arith
-read_fast true DownReadStep.CountsUpSlow = omega arith
-read_fast true DownReadStep.LoadsBlock = omega arith
-read_fast true DownReadStep.CountsDown = omega arith
-read_fast true DownReadStep.LeavesAdmitted = omega arith
-read_fast true DownReadStep.LeavesBlocked = omega arith
+read_fast true other = omega arith
 read_fast false s = omega arith
 
 -- a callback is never on the fast path
@@ -43,18 +37,12 @@ fast_in_section i (Some (Phase.Thaws x)) = omega (arith, thaw_slow i x.step)
 fast_in_section i (Some (Phase.Closes (ClosePhase.Enters f node r))) = read_fast (i == r.level) r.step
 fast_in_section i other = omega arith
 
-read_opens : (b : Bool) (s : DownReadStep) → closed (sync_role_if b (down_read_role s)) ≡ 0
+pub read_opens : (b : Bool) (s : DownReadStep) → closed (sync_role_if b (down_read_role s)) ≡ 0
 read_opens true DownReadStep.EntersSection = refl
-read_opens true DownReadStep.LoadsSync = refl
-read_opens true DownReadStep.CountsUpFast = refl
-read_opens true DownReadStep.CountsUpSlow = refl
-read_opens true DownReadStep.LoadsBlock = refl
-read_opens true DownReadStep.CountsDown = refl
-read_opens true DownReadStep.LeavesAdmitted = refl
-read_opens true DownReadStep.LeavesBlocked = refl
+read_opens true other = refl
 read_opens false s = refl
 
-callback_opens : (b : Bool) (s : CallbackStep) → closed (sync_role_if b (callback_role s)) ≡ 0
+pub callback_opens : (b : Bool) (s : CallbackStep) → closed (sync_role_if b (callback_role s)) ≡ 0
 callback_opens true (CallbackStep.Claims transition) = refl
 callback_opens true (CallbackStep.AwaitsSections grace) = refl
 callback_opens true (CallbackStep.CallsBack transition) = refl
@@ -91,7 +79,7 @@ IsEventAt i (WordName.LevelCount j p) touch = j ≡ i
 IsEventAt i (WordName.Section u) Touch.Load = Unit {0}
 IsEventAt i name touch = ⊥
 
-event_word : (i : ℕ) (name : WordName) (touch : Touch) → IsEventAt i name touch → IsOfLevel i name
+pub event_word : (i : ℕ) (name : WordName) (touch : Touch) → IsEventAt i name touch → IsOfLevel i name
 event_word i (WordName.Sync j) touch e = e
 event_word i (WordName.Block j) touch e = e
 event_word i (WordName.LevelCount j p) touch e = e
@@ -117,7 +105,7 @@ found_level w i (WordName.Section u) e = refl
 found_level w i name e = absurd e
 
 -- such an event leaves the sections
-section_kept : (w : Words) (i : ℕ) (name : WordName) (touch : Touch) → IsEventAt i name touch →
+pub section_kept : (w : Words) (i : ℕ) (name : WordName) (touch : Touch) → IsEventAt i name touch →
     (put w name (left touch (read w name))).section ≡ w.section
 section_kept w i (WordName.Sync j) touch e = refl
 section_kept w i (WordName.Block j) touch e = refl
@@ -200,12 +188,6 @@ module _ (c : Config) (w : World) (good : IsGood c w) where
         SyncStep c.tasks (level_in w i) (level_in (record { words = ws; views = update w.views t v }) i) →
         SyncLevelHolds c.tasks (level_in (record { words = ws; views = update w.views t v }) i)
     level_steps ws v i one three s = events_keep c.tasks (level_in w i) _ (level_right i one three) s
-
-    -- the same, where what is left of the level is known in another form
-    pub sync_steps : (ws : Words) (v : View) (i : ℕ) (l : SyncLevel) →
-        l ≡ level_in (record { words = ws; views = update w.views t v }) i → (1 ≤ i → i ≤ 3 → SyncStep c.tasks (level_in w i) l) →
-        Holds c (record { words = ws; views = update w.views t v }) (SyncAt i)
-    sync_steps ws v i l e s one three = (level_steps ws v i one three (subst (SyncStep c.tasks (level_in w i)) e (s one three))).level
 
     -- the words after an addition to the task's own section word
     abbrev pub turned_words : Words

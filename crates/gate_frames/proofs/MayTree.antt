@@ -1,11 +1,11 @@
 -- What a call at the tree may do: nobody else is in its way, and the model gives it leave.
 use Rattle.std.proofs.{Common.{ap, ◌≡◌, ℕ, ◌<◌, ◌≤◌, inl, inr, refl, arith, Bool, true, false, subst, leb-true}, lemmas.Bool.{cases_Bool, Decides.eqb_tells}}
-use Rattle.std.specs.Prelude.{◌==◌, Option, Some, None, Ok, Err, List, if◌then◌else◌, nat_le}
+use Rattle.std.specs.Prelude.{◌==◌, Option, Some, None, List, if◌then◌else◌, nat_le}
 use Rattle.finite_sums.{proofs.Totals.{total_at, total_none}, specs.Sums.total}
 use Rattle.access_model.specs.{Actions.IsWriter, declared.actions.Action.Action}
 use Rattle.cpu_words.specs.Hooks.{HookAnswer}
 use Rattle.gate_counts.specs.Gates.{BarringHolds, admitted, unread}
-use Rattle.gated_tree.specs.{Calls.{phase_role, create_role, remove_role, grow_role, move_role, mark_role, snapshot_role, open_role}, Nodes.word_of}
+use Rattle.gated_tree.specs.{Calls.phase_role, Nodes.word_of}
 use Rattle.gated_tree.specs.Phases.{after, create_after, remove_after, grow_after, move_after, mark_after, mark_done, snapshot_after, open_after}
 use Rattle.gated_tree.specs.Roles.{cleared, sealed_by, MayDirty, NobodyReads, MayRemove, is_bare, bare_by}
 use Rattle.gated_tree.specs.declared.changes.{Create.Create, CreateStep.CreateStep, MoveStep.MoveStep, MoveTo.MoveTo, Remove.Remove, RemoveStep.RemoveStep}
@@ -15,15 +15,14 @@ use Rattle.mount_counts.specs.{Roles.{mount_as_gate, barring_of, skips}, Sets.ha
 use Rattle.tree_laws.specs.{Events.{HasLeave, MayClean}, Steps.{MayStep, MayMark}}
 use Rattle.freeze_levels.specs.declared.freezes.FreezeStep.{FreezeStep}
 use Rattle.stage_laws.specs.Roles.{passed_by}
-use Rattle.file_closes.specs.declared.phases.ClosePhase.{ClosePhase}
 use Rattle.gate_world.specs.{Configs.model_limits, Fits.{HasFile, file_of, Fits, PhaseFits, TreeAccess}}
 use Rattle.gate_world.specs.{Operations.{is_writer, is_faulter, may_mark, some_mount}, Remounts.{loop_role, remount_role, remount_sets}}
 use Rattle.gate_world.specs.{Rules.{Files, AtMount, at_mount, role_of, IsGood, Fitting, Owner, remounts}, Shown.shown, Snapshots.values_noted}
 use Rattle.gate_world.specs.Stages.{stage_role_of, freeze_stage_role}
-use Rattle.gate_world.specs.Trees.{is_bare_at, close_tree_role, tree_bounds, tree_of, tree_role_of, tree_roles, remount_tree_role, freeze_tree_role}
-use Rattle.gate_world.specs.Trees.{nodes_noted}
+use Rattle.gate_world.specs.Trees.{is_bare_at, tree_bounds, tree_of, tree_role_of, tree_roles, remount_tree_role, freeze_tree_role, nodes_noted}
 use Rattle.gate_world.specs.{Views.{has_open, held_at, holds_level}, Worlds.World, declared.{config.Config.Config, views.Traced.Traced, work.Phase.Phase}}
-use Rattle.gate_frames.proofs.{TreeHolders.{none_past, IsOpen, both_true, mount_there, writer_apart}, Trees.{nobody_reads, sealed_frozen}}
+use Rattle.gate_frames.proofs.TreeHolders.{none_past, IsOpen, both_true, mount_there, writer_apart}
+use Rattle.gate_frames.proofs.{TreeRoles.{call_plain, snapshot_apart, close_apart, freeze_apart}, Trees.{nobody_reads, sealed_frozen}}
 
 pub open_unsealed : (sb stage : ℕ) → sb ≡ 0 → stage < 3 → sealed_by sb stage ≡ 0
 open_unsealed sb stage writable low =
@@ -44,106 +43,17 @@ freeze_clears nodes (FreezeStep.Cleans marks) h = absurd (omega (arith, h))
 freeze_clears nodes FreezeStep.SetsFs h = absurd (omega (arith, h))
 freeze_clears nodes s h = refl
 
-create_clears : (x : Create) (s : CreateStep) → cleared (create_role x s) ≡ 0
-create_clears x CreateStep.LoadsDirectory = refl
-create_clears x other = refl
-
-remove_clears : (x : Remove) (s : RemoveStep) → cleared (remove_role x s) ≡ 0
-remove_clears x RemoveStep.LoadsFile = refl
-remove_clears x other = refl
-
-grow_clears : (x : Grow) (s : GrowStep) → cleared (grow_role x s) ≡ 0
-grow_clears x GrowStep.LoadsFile = refl
-grow_clears x other = refl
-
-move_clears : (x : MoveTo) (s : MoveStep) → cleared (move_role x s) ≡ 0
-move_clears x MoveStep.LoadsFile = refl
-move_clears x other = refl
-
-mark_clears : (x : Mark) (s : MarkStep) → cleared (mark_role x s) ≡ 0
-mark_clears x MarkStep.LoadsFile = refl
-mark_clears x (MarkStep.MarksFile file) = refl
-
-open_clears : (x : OpenFile) (s : OpenStep) → cleared (open_role x s) ≡ 0
-open_clears x OpenStep.LoadsFile = refl
-open_clears x (OpenStep.OpensFile file) = refl
-
-close_clears : (x : ClosePhase) → cleared (close_tree_role x) ≡ 0
-close_clears (ClosePhase.LoadsFile x) = refl
-close_clears other = refl
-
-snapshot_clears : (nodes : ℕ) (values : ℕ → ℕ) (s : SnapshotStep) → cleared (snapshot_role nodes values s) ≡ 0
-snapshot_clears nodes values SnapshotStep.Locks = refl
-snapshot_clears nodes values SnapshotStep.LoadsStage = refl
-snapshot_clears nodes values SnapshotStep.LoadsUsed = refl
-snapshot_clears nodes values (SnapshotStep.LoadsNode n) = refl
-snapshot_clears nodes values (SnapshotStep.LoadsKids n) = refl
-snapshot_clears nodes values (SnapshotStep.Releases (Ok reply)) = refl
-snapshot_clears nodes values (SnapshotStep.Releases (Err refusal)) = refl
-
 -- a clearing on its own there is not
 tree_clears : (c : Config) (held : ℕ → ℕ) (levels : ℕ → Bool) (values : ℕ → ℕ) (x : TreePhase) → TreeAccess c held levels x →
     cleared (phase_role values x) ≡ 0
-tree_clears c held levels values (TreePhase.Create x) may = create_clears x x.step
-tree_clears c held levels values (TreePhase.Remove x) may = remove_clears x x.step
-tree_clears c held levels values (TreePhase.Grow x) may = grow_clears x x.step
-tree_clears c held levels values (TreePhase.MoveTo x) may = move_clears x x.step
-tree_clears c held levels values (TreePhase.Mark x) may = mark_clears x x.step
-tree_clears c held levels values (TreePhase.OpenFile x) may = open_clears x x.step
-tree_clears c held levels values (TreePhase.Snapshot x) may = snapshot_clears x.nodes values x.step
+tree_clears c held levels values (TreePhase.Snapshot x) may = (snapshot_apart x.nodes values x.step).0
 tree_clears c held levels values (TreePhase.ClearMarks x) may = absurd may
-
-create_bares : (x : Create) (s : CreateStep) → is_bare (create_role x s) ≡ 0
-create_bares x CreateStep.LoadsDirectory = refl
-create_bares x other = refl
-
-remove_bares : (x : Remove) (s : RemoveStep) → is_bare (remove_role x s) ≡ 0
-remove_bares x RemoveStep.LoadsFile = refl
-remove_bares x other = refl
-
-grow_bares : (x : Grow) (s : GrowStep) → is_bare (grow_role x s) ≡ 0
-grow_bares x GrowStep.LoadsFile = refl
-grow_bares x other = refl
-
-move_bares : (x : MoveTo) (s : MoveStep) → is_bare (move_role x s) ≡ 0
-move_bares x MoveStep.LoadsFile = refl
-move_bares x other = refl
-
-mark_bares : (x : Mark) (s : MarkStep) → is_bare (mark_role x s) ≡ 0
-mark_bares x MarkStep.LoadsFile = refl
-mark_bares x (MarkStep.MarksFile file) = refl
-
-open_bares : (x : OpenFile) (s : OpenStep) → is_bare (open_role x s) ≡ 0
-open_bares x OpenStep.LoadsFile = refl
-open_bares x (OpenStep.OpensFile file) = refl
-
-close_bares : (x : ClosePhase) → is_bare (close_tree_role x) ≡ 0
-close_bares (ClosePhase.LoadsFile x) = refl
-close_bares other = refl
-
-snapshot_bares : (nodes : ℕ) (values : ℕ → ℕ) (s : SnapshotStep) → is_bare (snapshot_role nodes values s) ≡ 0
-snapshot_bares nodes values SnapshotStep.Locks = refl
-snapshot_bares nodes values SnapshotStep.LoadsStage = refl
-snapshot_bares nodes values SnapshotStep.LoadsUsed = refl
-snapshot_bares nodes values (SnapshotStep.LoadsNode n) = refl
-snapshot_bares nodes values (SnapshotStep.LoadsKids n) = refl
-snapshot_bares nodes values (SnapshotStep.Releases (Ok reply)) = refl
-snapshot_bares nodes values (SnapshotStep.Releases (Err refusal)) = refl
+tree_clears c held levels values x may = (call_plain values x refl).cleared_none
 
 tree_bares : (values : ℕ → ℕ) (x : TreePhase) → is_bare (phase_role values x) ≡ 0
-tree_bares values (TreePhase.Create x) = create_bares x x.step
-tree_bares values (TreePhase.Remove x) = remove_bares x x.step
-tree_bares values (TreePhase.Grow x) = grow_bares x x.step
-tree_bares values (TreePhase.MoveTo x) = move_bares x x.step
-tree_bares values (TreePhase.Mark x) = mark_bares x x.step
-tree_bares values (TreePhase.OpenFile x) = open_bares x x.step
-tree_bares values (TreePhase.Snapshot x) = snapshot_bares x.nodes values x.step
+tree_bares values (TreePhase.Snapshot x) = (snapshot_apart x.nodes values x.step).1
 tree_bares values (TreePhase.ClearMarks x) = refl
-
-freeze_bares : (nodes : ℕ) (s : FreezeStep) → is_bare (freeze_tree_role nodes s) ≡ 0
-freeze_bares nodes (FreezeStep.Cleans marks) = refl
-freeze_bares nodes FreezeStep.SetsFs = refl
-freeze_bares nodes s = refl
+tree_bares values x = (call_plain values x refl).bare_none
 
 module _ (c : Config) (w : World) (good : IsGood c w) (t : ℕ) (lt : t < c.tasks) (m : ℕ) (lm : m < c.mounts)
     (some : 0 < held_at (w.views t) m) (y : ℕ) (ly : y < c.tasks) where
@@ -160,16 +70,13 @@ module _ (c : Config) (w : World) (good : IsGood c w) (t : ℕ) (lt : t < c.task
   -- so none is about to make the superblock read-only
   remount_bares : (nodes : ℕ) (s : RemountStep) → role_of m (w.views y).phase ≡ remount_role m s → is_bare (remount_tree_role nodes s) ≡ 0
   remount_bares nodes (RemountStep.SetsRemount held) r = absurd (loop_shut (has_mount held m) r)
-  remount_bares nodes (RemountStep.ClearsHold held) r = refl
-  remount_bares nodes (RemountStep.ClearsMark n) r = refl
-  remount_bares nodes RemountStep.SetsReadOnly r = refl
   remount_bares nodes s r = refl
 
   phase_bares : (p : Option Phase) → (w.views y).phase ≡ p → is_bare (tree_role_of (w.views y).trace p) ≡ 0
   phase_bares (Some (Phase.Remounts x)) is = remount_bares x.nodes x.step (ap (role_of m) is)
-  phase_bares (Some (Phase.Freezes x)) is = freeze_bares x.nodes x.step
+  phase_bares (Some (Phase.Freezes x)) is = (freeze_apart x.nodes x.step).0
   phase_bares (Some (Phase.Trees x)) is = tree_bares (values_noted (nodes_noted x) (w.views y).trace) x
-  phase_bares (Some (Phase.Closes x)) is = close_bares x
+  phase_bares (Some (Phase.Closes x)) is = (close_apart x).1
   phase_bares p is = refl
 
 -- so nothing that a task is at clears a mark, where no remount is beginning and the task hasn't passed level 2
@@ -179,7 +86,7 @@ phase_clears c t held levels trace (Some (Phase.Remounts x)) fits unset unpassed
 phase_clears c t held levels trace (Some (Phase.Freezes x)) fits unset unpassed = freeze_clears x.nodes x.step unpassed
 phase_clears c t held levels trace (Some (Phase.Trees x)) fits unset unpassed =
     tree_clears c held levels (values_noted (nodes_noted x) trace) x fits.1
-phase_clears c t held levels trace (Some (Phase.Closes x)) fits unset unpassed = close_clears x
+phase_clears c t held levels trace (Some (Phase.Closes x)) fits unset unpassed = (close_apart x).0
 phase_clears c t held levels trace p fits unset unpassed = refl
 
 module _ (c : Config) (w : World) (good : IsGood c w) where

@@ -212,11 +212,11 @@ mounts_count : (i : ℕ) (next : Next MountPhase) → level_role_of i (phase_aft
 mounts_count i (Next.Go x) = refl
 mounts_count i other = refl
 
-mounts_apart : (i : ℕ) (next : Next MountPhase) → sync_role_of i (phase_after (map_next Phase.Mounts next)) ≡ IsApart
+pub mounts_apart : (i : ℕ) (next : Next MountPhase) → sync_role_of i (phase_after (map_next Phase.Mounts next)) ≡ IsApart
 mounts_apart i (Next.Go x) = refl
 mounts_apart i other = refl
 
-mounts_outside : (next : Next MountPhase) → inside (phase_after (map_next Phase.Mounts next)) ≡ 0
+pub mounts_outside : (next : Next MountPhase) → inside (phase_after (map_next Phase.Mounts next)) ≡ 0
 mounts_outside (Next.Go x) = refl
 mounts_outside other = refl
 

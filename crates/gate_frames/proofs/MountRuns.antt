@@ -1,12 +1,11 @@
 -- What an event off the levels makes of each of them: it leaves it, and so each event of want, drop and change does.
 use Rattle.std.{proofs.Common.{◌≡◌, ℕ, ◌<◌, refl, sym, ap, ◌∙◌}, specs.Prelude.Some}
-use Rattle.access_model.specs.{Replies.map_next, declared.replies.Next.Next}
 use Rattle.cpu_words.specs.{Hooks.HookAnswer, Words.Words}
 use Rattle.mount_counts.specs.{Phases.after, declared.phases.{Change.Change, ChangeStep.ChangeStep, MountPhase.MountPhase, Want.Want, WantStep.WantStep}}
 use Rattle.level_laws.specs.{Events.SyncStep, Roles.Out as IsApart}
 use Rattle.gate_world.specs.{LevelRuns.level_in, Levels.{inside, sync_role_of}, Rules.{SameWords, SyncAt}, Views.{phase_after, view_after}, Work.after_of}
 use Rattle.gate_world.specs.{Worlds.{World, after_step, found_at, value_at, words_after}, declared.work.Phase.Phase}
-use Rattle.gate_frames.proofs.LevelSteps.{level_kept, level_stays}
+use Rattle.gate_frames.proofs.{LevelSteps.{level_kept, level_stays}, MountEvents.{mounts_apart, mounts_outside}}
 
 -- an event that leaves what a level reads of the words, of a task that has no part in the level and is inside no section, before it and
 -- after it, is one at which the level stays
@@ -37,17 +36,9 @@ mount_words w (MountPhase.Want x) hook i = want_words w x x.step hook i
 mount_words w (MountPhase.Drop m p) hook i = (refl, refl, refl, refl)
 mount_words w (MountPhase.Change x) hook i = change_words w x x.step hook i
 
-mount_outside : (next : Next MountPhase) → inside (phase_after (map_next Phase.Mounts next)) ≡ 0
-mount_outside (Next.Go x) = refl
-mount_outside other = refl
-
-mount_apart : (i : ℕ) (next : Next MountPhase) → sync_role_of i (phase_after (map_next Phase.Mounts next)) ≡ IsApart
-mount_apart i (Next.Go x) = refl
-mount_apart i other = refl
-
 -- each event of want, drop or change is one at which each level stays
 pub mounts_run : (tasks : ℕ) (w : World) (t : ℕ) → t < tasks → (hook : HookAnswer) (x : MountPhase) →
     (w.views t).phase ≡ Some (Phase.Mounts x) → (i : ℕ) → SyncStep tasks (level_in w i) (level_in (after_step w t (Phase.Mounts x) hook) i)
 mounts_run tasks w t lt hook x e i =
     apart_run tasks w t lt hook (Phase.Mounts x) e i (mount_words w.words x hook i) refl refl
-    (mount_outside (after x (found_at w.words (Phase.Mounts x) hook) hook).0) (mount_apart i (after x (found_at w.words (Phase.Mounts x) hook) hook).0)
+    (mounts_outside (after x (found_at w.words (Phase.Mounts x) hook) hook).0) (mounts_apart i (after x (found_at w.words (Phase.Mounts x) hook) hook).0)

@@ -27,7 +27,8 @@ use Rattle.gate_world.specs.Rules.{role_of, remounts, Moves as ModelMoves}
 use Rattle.gate_world.specs.{Shown.{shown, closing}, Snapshots.values_noted, Stages.{tree_stage_role, snapshot_stage_role}}
 use Rattle.gate_world.specs.Trees.{is_bare_at, tree_bounds, tree_roles, tree_role_of, nodes_noted, is_sealed}
 use Rattle.gate_world.specs.Views.{has_open, held_at, holds_level, added_after, taken_after, added_by, taken_by, phase_after, view_after}
-use Rattle.gate_world.specs.{Worlds.{World, after_step, words_after, value_at, found_at}, declared.{config.Config.Config, views.View.View, work.Phase.Phase}}
+use Rattle.gate_world.specs.{Work.{next_of, after_of}, Worlds.{World, after_step, words_after, value_at, found_at}}
+use Rattle.gate_world.specs.declared.{config.Config.Config, views.View.View, work.Phase.Phase}
 use Rattle.gate_frames.proofs.Accesses.{opens_of_after, mounts_of_after, levels_of_after}
 use Rattle.gate_frames.proofs.{Frames.{IsOffLevels, added_load, taken_load, view_as, level_view_as, left_alone, shown_as}, Keeps.by_bool}
 use Rattle.gate_frames.proofs.{MayTree.{LeaveFor, call_fits, leave, may_step}, MountEvents.{level_added_load, level_taken_load}}
@@ -140,12 +141,12 @@ pub load_beside : (w : Words) (word : WordName) (touch : Touch) → is_load touc
 load_beside w word Touch.Load h = subst (IsBesideTree w) (sym (load_same w word)) (same_beside w)
 load_beside w word touch h = absurd (true≢false (sym h))
 
--- so they are after each event of a call
-pub call_beside : (w : Words) (x : TreePhase) (hook : HookAnswer) → IsBesideTree w (words_after w (Phase.Trees x) hook)
-call_beside w x hook =
-    elim (call_touch x hook) [
-      | inl h ↦ load_beside w (next x hook).0 (next x hook).1 h
-      | inr h ↦ write_beside w (next x hook).0 (left (next x hook).1 (read w (next x hook).0)) h
+-- so they are after each event that loads a word, or writes such a one
+pub touch_beside : (w : Words) (x : WordName × Touch) → IsCallTouch x → IsBesideTree w (put w x.0 (left x.1 (read w x.0)))
+touch_beside w x touches =
+    elim touches [
+      | inl h ↦ load_beside w x.0 x.1 h
+      | inr h ↦ write_beside w x.0 (left x.1 (read w x.0)) h
     ]
 
 -- and the file system is frozen as a whole, and the tree sealed, as before
@@ -384,77 +385,78 @@ gate_words (SyncAt i) h old new same =
 gate_words Sections h old new same = same.section_same
 gate_words part h old new same = absurd (true≢false (sym h))
 
-module _ (c : Config) (w : World) (good : IsGood c w) (t : ℕ) (lt : t < c.tasks) (x : TreePhase) (hook : HookAnswer)
-    (e : (w.views t).phase ≡ Some (Phase.Trees x)) where
-  -- the words and the task's view after its next event, what the event finds, what comes after it, and its action
-  abbrev pub call_words : Words
-  call_words = words_after w.words (Phase.Trees x) hook
+-- an event at the tree, of whatever operation: it writes no other word but `umount`, and leaves its task's accesses
+pub record IsAtTree (w : World) (phase : Phase) (hook : HookAnswer) : Type 0 where
+  pub touches : IsCallTouch (next_of phase hook)
+  pub leaves : LeavesAccesses (after_of phase (found_at w.words phase hook) hook).1
+  pub off : IsOffGates (Some phase)
+  pub off_then : IsOffGates (phase_after (after_of phase (found_at w.words phase hook) hook).0)
 
-  abbrev pub call_view : View
-  call_view = view_after (w.views t) (Phase.Trees x) (value_at w.words (Phase.Trees x) hook) hook
+module _ (c : Config) (w : World) (good : IsGood c w) (t : ℕ) (lt : t < c.tasks) (phase : Phase) (hook : HookAnswer)
+    (e : (w.views t).phase ≡ Some phase) (at : IsAtTree w phase hook) where
+  -- the words and the task's view after it, and its action
+  abbrev pub words_then : Words
+  words_then = words_after w.words phase hook
 
-  abbrev pub call_found : ℕ
-  call_found = found_at w.words (Phase.Trees x) hook
+  abbrev pub view_then : View
+  view_then = view_after (w.views t) phase (value_at w.words phase hook) hook
 
-  abbrev pub call_next : Next TreePhase
-  call_next = (after x call_found hook).0
+  abbrev pub action_then : Option Action
+  action_then = (after_of phase (found_at w.words phase hook) hook).1
 
-  abbrev pub call_action : Option Action
-  call_action = (after x call_found hook).1
+  pub beside_then : IsBesideTree w.words words_then
+  beside_then = touch_beside w.words (next_of phase hook) at.touches
 
-  pub held_still : held_at call_view ≡ held_at (w.views t)
-  held_still = mounts_of_after call_action (w.views t).actions ∙ (call_leaves x call_found hook).mounts (held_at (w.views t))
+  held_still : held_at view_then ≡ held_at (w.views t)
+  held_still = mounts_of_after action_then (w.views t).actions ∙ at.leaves.mounts (held_at (w.views t))
 
-  pub levels_still : holds_level call_view ≡ holds_level (w.views t)
-  levels_still = levels_of_after call_action (w.views t).actions ∙ (call_leaves x call_found hook).levels (holds_level (w.views t))
+  levels_still : holds_level view_then ≡ holds_level (w.views t)
+  levels_still = levels_of_after action_then (w.views t).actions ∙ at.leaves.levels (holds_level (w.views t))
+
+  opens_then : has_open view_then ≡ opens_by action_then (has_open (w.views t))
+  opens_then = opens_of_after action_then (w.views t).actions
 
   was_off : IsOffGates (w.views t).phase
-  was_off = subst IsOffGates (sym e) (call_off x)
-
-  now_off : IsOffGates call_view.phase
-  now_off = next_off call_next
+  was_off = subst IsOffGates (sym e) at.off
 
   -- what the parts of mounts, levels and sections read of the task's view is the same
-  gate_view : (part : Part) → is_gate_part part ≡ true → SameView (w.views t) call_view part
-  gate_view Holding h = now_off.unheld ∙ sym was_off.unheld
+  gate_view : (part : Part) → is_gate_part part ≡ true → SameView (w.views t) view_then part
+  gate_view Holding h = at.off_then.unheld ∙ sym was_off.unheld
   gate_view (AtMount m) h =
-      let none : CountsNowhere (next x hook) = counts_nowhere (next x hook) (call_touch x hook) in
+      let none : CountsNowhere (next_of phase hook) = counts_nowhere (next_of phase hook) at.touches in
       view_as (ap (λ f. f m) held_still) (ap (λ f. f m) (none.added (added_by (w.views t).events)))
-      (ap (λ f. f m) (none.taken (taken_by (w.views t).events))) (now_off.out_of_mounts m ∙ sym (was_off.out_of_mounts m))
+      (ap (λ f. f m) (none.taken (taken_by (w.views t).events))) (at.off_then.out_of_mounts m ∙ sym (was_off.out_of_mounts m))
   gate_view (AtLevel i) h =
-      let none : CountsNowhere (next x hook) = counts_nowhere (next x hook) (call_touch x hook) in
+      let none : CountsNowhere (next_of phase hook) = counts_nowhere (next_of phase hook) at.touches in
       level_view_as (ap (λ (f : ℕ → Bool). if f i then 1 else 0) levels_still)
       (ap (λ f. f i) (none.level_added (level_added_by (w.views t).events)))
       (ap (λ f. f i) (none.level_taken (level_taken_by (w.views t).events)))
-      (now_off.off_levels.counts_not i ∙ sym (was_off.off_levels.counts_not i))
-  gate_view (SyncAt i) h = now_off.off_levels.apart i ∙ sym (was_off.off_levels.apart i)
-  gate_view Sections h = now_off.off_levels.outside ∙ sym was_off.off_levels.outside
+      (at.off_then.off_levels.counts_not i ∙ sym (was_off.off_levels.counts_not i))
+  gate_view (SyncAt i) h = at.off_then.off_levels.apart i ∙ sym (was_off.off_levels.apart i)
+  gate_view Sections h = at.off_then.off_levels.outside ∙ sym was_off.off_levels.outside
   gate_view part h = absurd (true≢false (sym h))
 
-  pub gate_parts : (part : Part) → is_gate_part part ≡ true → Holds c (after_step w t (Phase.Trees x) hook) part
-  gate_parts part h =
-      left_alone c w t lt part call_words call_view (gate_words part h w.words call_words (call_beside w.words x hook)) (gate_view part h)
-      (good part)
+  pub gate_parts : (part : Part) → is_gate_part part ≡ true → Holds c (after_step w t phase hook) part
+  gate_parts part h = left_alone c w t lt part words_then view_then (gate_words part h w.words words_then beside_then) (gate_view part h) (good part)
 
-  pub call_fitting : IsWithin c → Holds c (after_step w t (Phase.Trees x) hook) Fitting
-  call_fitting within y ly =
-      each_updated (λ z (u : View). ViewFits c z u) w.views t call_view y
-      (subst (λ k. Fits c t k (holds_level call_view) call_view.phase) (sym held_still)
-      (subst (λ k. Fits c t (held_at (w.views t)) k call_view.phase) (sym levels_still)
-      (call_goes_on c (held_at (w.views t)) (holds_level (w.views t)) within t x call_found hook (call_fits c w good t lt x e))))
+  -- what comes after the event fits the accesses that it leaves
+  pub fitting_then : Fits c t (mounts_by action_then (held_at (w.views t))) (levels_by action_then (holds_level (w.views t))) view_then.phase →
+      Holds c (after_step w t phase hook) Fitting
+  fitting_then fits y ly =
+      each_updated (λ z (u : View). ViewFits c z u) w.views t view_then y
+      (subst (λ k. Fits c t k (holds_level view_then) view_then.phase) (sym (mounts_of_after action_then (w.views t).actions))
+      (subst (λ k. Fits c t (mounts_by action_then (held_at (w.views t))) k view_then.phase)
+      (sym (levels_of_after action_then (w.views t).actions)) fits))
       (λ ne. good Fitting y ly)
 
-  pub opens_then : has_open call_view ≡ opens_by call_action (has_open (w.views t))
-  opens_then = opens_of_after call_action (w.views t).actions
-
   -- the shown model is as it was but for the tree and the task's open files
-  pub call_shown : shown c (after_step w t (Phase.Trees x) hook) ≡ record (shown c w) {
-    opens = update (shown c w).opens t (opens_by call_action ((shown c w).opens t));
-    tree = λ n. node_shown (call_words.node n);
+  shown_then : shown c (after_step w t phase hook) ≡ record (shown c w) {
+    opens = update (shown c w).opens t (opens_by action_then ((shown c w).opens t));
+    tree = λ n. node_shown (words_then.node n);
   }
-  call_shown =
-      let same : IsBesideTree w.words call_words = call_beside w.words x hook in
-      shown_as c w t lt call_words call_view same.block_same (λ i. now_off.closing_none i ∙ sym (was_off.closing_none i)) ∙
+  shown_then =
+      let same : IsBesideTree w.words words_then = beside_then in
+      shown_as c w t lt words_then view_then same.block_same (λ i. at.off_then.closing_none i ∙ sym (was_off.closing_none i)) ∙
       (λ j. record (shown c w) {
         mounts = (ap (update (λ y. held_at (w.views y)) t) held_still ∙ update_same (λ y. held_at (w.views y)) t) j;
         levels = (ap (update (λ y. holds_level (w.views y)) t) levels_still ∙ update_same (λ y. holds_level (w.views y)) t) j;
@@ -463,21 +465,22 @@ module _ (c : Config) (w : World) (good : IsGood c w) (t : ℕ) (lt : t < c.task
         sb_ro = same.remount_same j == 1 || same.sb_same j == 1;
         stage = same.stage_same j;
         holders = holders_in (same.holders_same j);
-        tree = λ n. node_shown (call_words.node n);
+        tree = λ n. node_shown (words_then.node n);
       })
 
-  shown_moves : (action : Option Action) → call_action ≡ action → LeaveFor c w good t lt action →
-      MovesBy (tree_bounds c) w.words.node call_words.node action →
-      ModelMoves c (shown c w) t action (shown c (after_step w t (Phase.Trees x) hook))
+  -- so where the nodes that are shown move by the event's action, the model does
+  pub shown_moves : (action : Option Action) → action_then ≡ action → LeaveFor c w good t lt action →
+      MovesBy (tree_bounds c) w.words.node words_then.node action →
+      ModelMoves c (shown c w) t action (shown c (after_step w t phase hook))
   shown_moves None is leave moves =
-      call_shown ∙
+      shown_then ∙
       (λ j. record (shown c w) {
         opens = (ap (λ a. update (shown c w).opens t (opens_by a ((shown c w).opens t))) is ∙ update_same (shown c w).opens t) j;
         tree = moves.0 j;
       })
   shown_moves (Some action) is leave moves = (
     (lt, may_do (model_limits c) (shown c w) t action leave moves.allowed),
-    call_shown ∙
+    shown_then ∙
         (λ j. record (shown c w) {
           opens = ap (λ a. update (shown c w).opens t (opens_by a ((shown c w).opens t))) is j;
           tree = (moves.effect ∙ same_counts (tree_bounds c) (opens_shown w.words.node) (openers (shown c w).opens) (shown c w).tree action
@@ -486,40 +489,82 @@ module _ (c : Config) (w : World) (good : IsGood c w) (t : ℕ) (lt : t < c.task
   )
 
   -- the files of the world then: as many tasks have each open as its word says
-  pub call_files : MovesBy (tree_bounds c) w.words.node call_words.node call_action → IsWithin c → Holds c (after_step w t (Phase.Trees x) hook) Files
-  call_files moves within = record {
+  pub files_then : IsWithin c → LeaveFor c w good t lt action_then → MovesBy (tree_bounds c) w.words.node words_then.node action_then →
+      HasFile (opens_by action_then (has_open (w.views t))) (file_of view_then.phase) → Holds c (after_step w t phase hook) Files
+  files_then within leave moves has = record {
     counted = λ n ln.
-        files_counted (model_limits c) (shown c w) t (omega (arith, lt, within.tasks, most_tasks_is)) w.words.node call_words.node call_action
-        (leave c w good t lt x call_found hook e) moves (good Files).counted n ln ∙
-        sym (ap (λ f. openers f n) (update_map has_open w.views t call_view ∙ ap (update (λ y. has_open (w.views y)) t) opens_then));
-    own = λ y ly. each_updated (λ z (u : View). HasFile (has_open u) (file_of u.phase)) w.views t call_view y
-        (subst (λ f. HasFile f (file_of call_view.phase)) (sym opens_then)
-        (file_then (has_open (w.views t)) x call_found hook (subst (λ p. HasFile (has_open (w.views t)) (file_of p)) e ((good Files).own t lt))))
+        files_counted (model_limits c) (shown c w) t (omega (arith, lt, within.tasks, most_tasks_is)) w.words.node words_then.node action_then
+        leave moves (good Files).counted n ln ∙
+        sym (ap (λ f. openers f n) (update_map has_open w.views t view_then ∙ ap (update (λ y. has_open (w.views y)) t) opens_then));
+    own = λ y ly. each_updated (λ z (u : View). HasFile (has_open u) (file_of u.phase)) w.views t view_then y
+        (subst (λ f. HasFile f (file_of view_then.phase)) (sym opens_then) has)
         (λ ne. (good Files).own y ly);
   }
+
+  -- what holds of the tree with the task's new role, by its words then
+  pub tree_then : (role : Role) → role ≡ tree_role_of view_then.trace view_then.phase →
+      TreeHolds (tree_bounds c) (tree_in (is_sealed w.words) (is_bare_at w.words) words_then (update (tree_roles w) t role)) →
+      Holds c (after_step w t phase hook) Tree
+  tree_then role is kept =
+      let now_roles : ℕ → Role = update (tree_roles w) t (tree_role_of view_then.trace view_then.phase) in
+      tree_holds c w good t lt words_then view_then
+      (subst (λ s. TreeHolds (tree_bounds c) (tree_in s (is_bare_at words_then) words_then now_roles))
+      (sym (sealed_beside w.words words_then beside_then))
+      (subst (λ b. TreeHolds (tree_bounds c) (tree_in (is_sealed w.words) b words_then now_roles))
+      (sym (bare_beside w.words words_then beside_then))
+      (subst (λ r. TreeHolds (tree_bounds c) (tree_in (is_sealed w.words) (is_bare_at w.words) words_then (update (tree_roles w) t r))) is kept)))
+
+-- a call at the tree has such events alone
+pub call_at : (w : World) (x : TreePhase) (hook : HookAnswer) → IsAtTree w (Phase.Trees x) hook
+call_at w x hook = record {
+  touches = call_touch x hook;
+  leaves = call_leaves x (found_at w.words (Phase.Trees x) hook) hook;
+  off = call_off x;
+  off_then = next_off (after x (found_at w.words (Phase.Trees x) hook) hook).0;
+}
+
+module _ (c : Config) (within : IsWithin c) (w : World) (good : IsGood c w) (t : ℕ) (lt : t < c.tasks) (x : TreePhase) (hook : HookAnswer)
+    (e : (w.views t).phase ≡ Some (Phase.Trees x)) where
+  -- what the event finds, and what comes after it
+  abbrev pub call_found : ℕ
+  call_found = found_at w.words (Phase.Trees x) hook
+
+  abbrev pub call_next : Next TreePhase
+  call_next = (after x call_found hook).0
+
+  abbrev pub call_words : Words
+  call_words = words_after w.words (Phase.Trees x) hook
+
+  abbrev pub call_view : View
+  call_view = view_after (w.views t) (Phase.Trees x) (value_at w.words (Phase.Trees x) hook) hook
+
+  pub call_parts : (part : Part) → is_gate_part part ≡ true → Holds c (after_step w t (Phase.Trees x) hook) part
+  call_parts = gate_parts c w good t lt (Phase.Trees x) hook e (call_at w x hook)
+
+  pub call_fitting : Holds c (after_step w t (Phase.Trees x) hook) Fitting
+  call_fitting =
+      fitting_then c w good t lt (Phase.Trees x) hook e (call_at w x hook)
+      (call_goes c (held_at (w.views t)) (holds_level (w.views t)) within t x call_found hook (call_fits c w good t lt x e))
 
   -- what the tree's own law says of the event, where a snapshot has noted this after it
   abbrev pub TreeKeeps : Type 0
   TreeKeeps =
-      Holds c (after_step w t (Phase.Trees x) hook) Tree × MovesBy (tree_bounds c) w.words.node call_words.node call_action
+      Holds c (after_step w t (Phase.Trees x) hook) Tree × MovesBy (tree_bounds c) w.words.node call_words.node (after x call_found hook).1
 
-  pub call_keeps : IsWithin c → (noted : ℕ → ℕ) → Notes x (values_noted (nodes_noted x) (w.views t).trace) noted call_found →
+  pub call_keeps : (noted : ℕ → ℕ) → Notes x (values_noted (nodes_noted x) (w.views t).trace) noted call_found →
       role_after (phase_role noted) call_next ≡ tree_role_of call_view.trace call_view.phase → TreeKeeps
-  call_keeps within noted notes role =
+  call_keeps noted notes role =
       let kept : StepKeeps (tree_bounds c) (is_sealed w.words) (is_bare_at w.words) w.words (tree_roles w) t x noted hook =
       each_phase (tree_bounds c) (tree_within c within) (is_sealed w.words) (is_bare_at w.words) w.words (tree_roles w) (good Tree) t lt x
       (values_noted (nodes_noted x) (w.views t).trace) noted hook (ap (tree_role_of (w.views t).trace) e) (call_fits c w good t lt x e).0
       (may_step c w good t lt x e) notes in
-      let now_roles : ℕ → Role = update (tree_roles w) t (tree_role_of call_view.trace call_view.phase) in (
-        tree_holds c w good t lt call_words call_view
-            (subst (λ s. TreeHolds (tree_bounds c) (tree_in s (is_bare_at call_words) call_words now_roles))
-            (sym (sealed_beside w.words call_words (call_beside w.words x hook)))
-            (subst (λ b. TreeHolds (tree_bounds c) (tree_in (is_sealed w.words) b call_words now_roles))
-            (sym (bare_beside w.words call_words (call_beside w.words x hook)))
-            (subst (λ r. TreeHolds (tree_bounds c) (tree_in (is_sealed w.words) (is_bare_at w.words) call_words (update (tree_roles w) t r)))
-            role kept.0))),
-        kept.1,
-      )
+      (tree_then c w good t lt (Phase.Trees x) hook e (call_at w x hook) (role_after (phase_role noted) call_next) role kept.0, kept.1)
 
-  pub call_moves : TreeKeeps → ModelMoves c (shown c w) t call_action (shown c (after_step w t (Phase.Trees x) hook))
-  call_moves kept = shown_moves call_action refl (leave c w good t lt x call_found hook e) kept.1
+  pub call_files : TreeKeeps → Holds c (after_step w t (Phase.Trees x) hook) Files
+  call_files kept =
+      files_then c w good t lt (Phase.Trees x) hook e (call_at w x hook) within (leave c w good t lt x call_found hook e) kept.1
+      (file_then (has_open (w.views t)) x call_found hook (subst (λ p. HasFile (has_open (w.views t)) (file_of p)) e ((good Files).own t lt)))
+
+  pub call_moves : TreeKeeps → ModelMoves c (shown c w) t (after x call_found hook).1 (shown c (after_step w t (Phase.Trees x) hook))
+  call_moves kept =
+      shown_moves c w good t lt (Phase.Trees x) hook e (call_at w x hook) (after x call_found hook).1 refl (leave c w good t lt x call_found hook e) kept.1

@@ -77,9 +77,6 @@ module _ (c : Config) (w : World) (t : ℕ) (phase : Phase) (hook : HookAnswer) 
   pub noted_part : (part : Part) → Holds c (after_plain_step w t phase hook) part → Holds c (after_step w t phase hook) part
   noted_part part h = part_apart c (words_after w.words phase hook) w.views t plain noted refl part h
 
-  pub noted_shown : shown c (after_plain_step w t phase hook) ≡ shown c (after_step w t phase hook)
-  noted_shown = shown_apart c (words_after w.words phase hook) w.views t plain noted refl
-
 -- a phase whose event completes no snapshot, whatever it finds
 pub completes_none : (c : Config) (w : World) (t : ℕ) (hook : HookAnswer) (phase : Phase) →
     ((trace : List Traced) (found : ℕ) → completes phase trace found ≡ None) → CompletesNow c w t hook phase

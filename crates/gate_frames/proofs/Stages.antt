@@ -9,12 +9,20 @@ use Rattle.gated_tree.specs.Nodes.{dirty_in, node_shown}
 use Rattle.mount_counts.specs.{Roles.ro_bit, declared.remounts.RemountStep.RemountStep}
 use Rattle.freeze_levels.specs.Holders.{holders_in}
 use Rattle.stage_laws.proofs.Whole.{events_keep, actions_are_allowed, actions_have_their_effect}
-use Rattle.stage_laws.specs.{Events.{Stages as StageMoment, Holds as StageHolds, Shows, StageEvent, Happens, action_of}, Roles.owns as stage_owns}
-use Rattle.stage_laws.specs.Shown.{ShowsStages, AsksOthers, state_after, passed_shown}
+use Rattle.stage_laws.specs.Events.{Stages as StageMoment, Holds as StageHolds, Shows, StageEvent, Happens, action_of, IsAlike}
+use Rattle.stage_laws.specs.{Roles.{owns as stage_owns, Owning, StageRole}, Shown.{ShowsStages, AsksOthers, state_after, passed_shown}}
 use Rattle.gate_world.specs.{Configs.model_limits, Remounts.remount_owns, Rules.{owns, IsGood, Holds, Owner, Stages, marks_of}, Shown.{shown, stage_roles}}
 use Rattle.gate_world.specs.{Stages.{stage_role_of, remount_stage_role}, Views.{held_at, holds_level, has_open}, Worlds.World}
 use Rattle.gate_world.specs.declared.{config.Config.Config, views.View.View, work.Phase.Phase}
 use Rattle.gate_frames.proofs.{Owners.owns_le, Trees.marks_right}
+
+-- owners that rely on one thing or another are alike
+pub owners_alike : (stage sb stage' sb' : Option ℕ) → IsAlike (Owning stage sb) (Owning stage' sb')
+owners_alike stage sb stage' sb' =
+    record { owns_same = refl; freezes_same = refl; remounts_same = refl; closed_same = refl; passed_same = refl }
+
+pub alike_same : (r : StageRole) → IsAlike r r
+alike_same r = record { owns_same = refl; freezes_same = refl; remounts_same = refl; closed_same = refl; passed_same = refl }
 
 -- the stage of a world
 abbrev pub stages_in : World → StageMoment

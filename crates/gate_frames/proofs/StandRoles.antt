@@ -10,7 +10,7 @@ use Rattle.level_laws.specs.{Events.{SyncLevel, SyncStep}, Operations.{put_at, l
 use Rattle.gate_world.specs.{LevelRuns.level_in, Levels.{at_level, level_role_of, inside, is_frozen_whole, Stand, stand_count, stand_sync, closed_to}}
 use Rattle.gate_world.specs.{Rules.{IsGood, Holds, AtLevel, SyncAt, Sections}, Worlds.World, declared.{config.Config.Config, views.View.View, work.Phase.Phase}}
 use Rattle.gate_frames.proofs.Frames.{left_alone, level_as, level_view_as, SameLevelWords, SameLevelCounts}
-use Rattle.gate_frames.proofs.LevelWorlds.{IsOfLevel, IsEventAt, sync_there, sync_elsewhere, sections_stay}
+use Rattle.gate_frames.proofs.LevelWorlds.{IsEventAt, sync_there, sync_elsewhere, sections_stay}
 use Rattle.gate_frames.proofs.Standing.{LevelsHold, left_world, closing_stand, still_closed, Stands, opening_stand}
 
 pub count_at : (i : ℕ) (s : Stand) → i ≡ s.level → stand_count i (Some s) ≡ s.count
@@ -119,15 +119,6 @@ closing_says_none tasks processors = record {
   ];
 }
 
--- so with the levels up to one closed, a task may begin to close the next
-pub closes_next : (p : Option Phase) (n tasks processors : ℕ) → 1 ≤ n → Stands p (Some (closed_to n)) →
-    Stands p (Some (closing_stand (closing (suc n) tasks processors)))
-closes_next p n tasks processors some = stands_so p _ _ (closing_says n tasks processors some)
-
--- and with none closed, the first
-pub closes_first : (p : Option Phase) (tasks processors : ℕ) → Stands p None → Stands p (Some (closing_stand (closing 1 tasks processors)))
-closes_first p tasks processors = stands_so p _ _ (closing_says_none tasks processors)
-
 -- the other way round
 pub closing_next : (p : Option Phase) (n tasks processors : ℕ) → 1 ≤ n →
     Stands p (Some (closing_stand (closing (suc n) tasks processors))) → Stands p (Some (closed_to n))
@@ -147,16 +138,6 @@ still_closed_is (suc n) one = still_up n
 -- and says the same
 pub opening_says : (level : ℕ) → 1 ≤ level → SaySame (still_closed level) (Some (opening_stand (reopening level)))
 opening_says level one = subst (SaySame (still_closed level)) (still_closed_is level one) (says_same (still_closed level))
-
--- so a task with a level closed may begin to reopen it
-pub opens_next : (p : Option Phase) (level : ℕ) → 1 ≤ level → Stands p (still_closed level) →
-    Stands p (Some (opening_stand (reopening level)))
-opens_next p level one = stands_so p _ _ (opening_says level one)
-
--- and the other way round
-pub opening_next : (p : Option Phase) (level : ℕ) → 1 ≤ level → Stands p (Some (opening_stand (reopening level))) →
-    Stands p (still_closed level)
-opening_next p level one = stands_so p _ _ (say_back _ _ (opening_says level one))
 
 -- before a level that isn't the first, the one below it is the last that is closed
 pub still_before : (n : ℕ) → still_closed (suc (suc n) - 1) ≡ Some (closed_to (suc n))
@@ -221,25 +202,8 @@ touched_sync w i j ne (WordName.LevelCount k p) touch e = refl
 touched_sync w i j ne (WordName.Section u) Touch.Load e = refl
 touched_sync w i j ne name touch e = absurd e
 
-pub touched_section : (w : Words) (i : ℕ) (name : WordName) (touch : Touch) → IsEventAt i name touch →
-    (put w name (left touch (read w name))).section ≡ w.section
-touched_section w i (WordName.Sync k) touch e = refl
-touched_section w i (WordName.Block k) touch e = refl
-touched_section w i (WordName.LevelCount k p) touch e = refl
-touched_section w i (WordName.Section u) Touch.Load e = update_same w.section u
-touched_section w i name touch e = absurd e
-
-pub is_of_level : (i : ℕ) (name : WordName) (touch : Touch) → IsEventAt i name touch → IsOfLevel i name
-is_of_level i (WordName.Sync k) touch e = e
-is_of_level i (WordName.Block k) touch e = e
-is_of_level i (WordName.LevelCount k p) touch e = e
-is_of_level i (WordName.Section u) touch e = tt
-is_of_level i name touch e = absurd e
-
 pub put_inside : (l : SyncLevel) (name : WordName) (n : ℕ) → (put_at l name n).inside ≡ l.inside
 put_inside l (WordName.Sync i) n = refl
-put_inside l (WordName.Block i) n = refl
-put_inside l (WordName.Section u) n = refl
 put_inside l name n = refl
 
 -- An event of a task that stood so with the levels, stands so after it, and holds and has added at them what it had.

@@ -1,6 +1,6 @@
 -- Who is at a level with an access at some mount: nobody has shut what it came through.
 use Rattle.std.proofs.Common.{◌≡◌, ℕ, zero, suc, ◌<◌, ◌≤◌, ◌⊎◌, inl, inr, refl, sym, arith, Bool, true, false, true≢false, ap}
-use Rattle.std.proofs.lemmas.Bool.{cases_Bool, ltb-true, ltb-false, ne_eqb, cases_lt, Decides.eqb_tells}
+use Rattle.std.proofs.lemmas.Bool.{cases_Bool, ltb-true, ne_eqb, cases_lt, Decides.eqb_tells}
 use Rattle.std.specs.Prelude.{◌&&◌, Option, Some, nat_lt, ◌==◌}
 use Rattle.finite_sums.{proofs.Totals.total_at, specs.Sums.total}
 use Rattle.gate_counts.{proofs.LevelLaws.{none_frozen, none_passed}, specs.{Gates.past, Levels.{LevelRole, Passed}}}
@@ -15,14 +15,11 @@ use Rattle.gate_world.specs.{Operations.{some_mount, is_writer}, Rules.{IsGood, 
 use Rattle.gate_world.specs.Stages.{stage_role_of, remount_stage_role, freeze_stage_role, thaw_stage_role, tree_stage_role, snapshot_stage_role, place_of}
 use Rattle.gate_world.specs.Stages.{reopening_role}
 use Rattle.gate_world.specs.{Views.{held_at, holds_level}, Worlds.World, declared.{config.Config.Config, work.Phase.Phase}}
-use Rattle.gate_frames.proofs.Stages.{stages_in, stages_right}
+use Rattle.gate_frames.proofs.{Stages.{stages_in, stages_right}, Stands.below}
 
 pub both_true : (a b : Bool) → (a && b) ≡ true → (a ≡ true) × (b ≡ true)
 both_true true b h = (refl, h)
 both_true false b h = absurd (true≢false (sym h))
-
-pub found_below : (i n : ℕ) → i < n → nat_lt i n ≡ true
-found_below i n lt = elim (cases_Bool (nat_lt i n)) [ inl h ↦ h | inr h ↦ absurd (omega (arith, lt, ltb-false i n h)) ]
 
 pub mount_there : (n : ℕ) (held : ℕ → ℕ) → some_mount n held ≡ true → (m : ℕ) × (m < n) × (0 < held m)
 mount_there zero held h = absurd (true≢false (sym h))
@@ -33,13 +30,13 @@ mount_there (suc n) held h =
     ]
 
 below_stand : (i level : ℕ) (r : LevelRole) → i < level → count_beside (i == level) (nat_lt i level) r ≡ Passed
-below_stand i level r lt = rw (ne_eqb i level (λ e. omega (arith, e, lt)), found_below i level lt) refl
+below_stand i level r lt = rw (ne_eqb i level (λ e. omega (arith, e, lt)), below i level lt) refl
 
 up_to_stand : (i level : ℕ) (r : LevelRole) → i ≤ level → r ≡ Passed → count_beside (i == level) (nat_lt i level) r ≡ Passed
 up_to_stand i level r le is =
     elim (eqb_tells i level) [
       | inl q ↦ rw q.0 is
-      | inr q ↦ rw (q.0, found_below i level (omega (arith, le, q.1))) refl
+      | inr q ↦ rw (q.0, below i level (omega (arith, le, q.1))) refl
     ]
 
 place_passed : (stage : ℕ) (place : Place) (owner : Bool) → stage ≤ suc (passed_by (Freezing stage place owner))
@@ -76,9 +73,6 @@ thaw_passed i s low le = absurd (omega (arith, low, le))
 
 remount_passed : (nodes : ℕ) (s : RemountStep) → passed_by (remount_stage_role nodes s) ≡ 0
 remount_passed nodes (RemountStep.ClearsHold held) = refl
-remount_passed nodes (RemountStep.ClearsMark n) = refl
-remount_passed nodes RemountStep.SetsReadOnly = refl
-remount_passed nodes RemountStep.ClearsRemount = refl
 remount_passed nodes s = refl
 
 snapshot_passed : (s : SnapshotStep) → passed_by (snapshot_stage_role s) ≡ 0

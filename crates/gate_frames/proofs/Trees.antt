@@ -5,26 +5,22 @@ use Rattle.std.specs.Prelude.{Option, Some, None, Ok, Err, List, false, nat_lt}
 use Rattle.finite_sums.{proofs.Totals.{update_map, total_none}, specs.Sums.update}
 use Rattle.access_model.specs.{States.{is_dirty, IsDirectory}, declared.actions.{Action.Action, Holder.Holder}}
 use Rattle.cpu_words.specs.Words.{Words}
-use Rattle.gated_tree.specs.Calls.{snapshot_role, phase_role, create_role, remove_role, grow_role, move_role, mark_role, open_role}
-use Rattle.gated_tree.specs.Nodes.{dirty_in, kind_in, node_shown}
+use Rattle.gated_tree.specs.{Calls.{snapshot_role, phase_role}, Nodes.{dirty_in, kind_in, node_shown}}
 use Rattle.gated_tree.specs.Roles.{TreeHolds, TreeState, AreWithin, RoleHolds, Clearing, sealed_by, NobodyReads, words_read}
-use Rattle.gated_tree.specs.declared.changes.{Create.Create, CreateStep.CreateStep, MoveStep.MoveStep, MoveTo.MoveTo, Remove.Remove, RemoveStep.RemoveStep}
-use Rattle.gated_tree.specs.declared.{growth.{Grow.Grow, GrowStep.GrowStep}, marks.{Mark.Mark, MarkStep.MarkStep}, opens.{OpenFile.OpenFile, OpenStep.OpenStep}}
 use Rattle.gated_tree.specs.declared.{phases.TreePhase.TreePhase, snapshots.{Snapshot.Snapshot, SnapshotStep.SnapshotStep}}
 use Rattle.mount_counts.specs.declared.remounts.RemountStep.{RemountStep}
-use Rattle.tree_laws.{proofs.Each.each_event, specs.Events.{Event, MovesBy}}
+use Rattle.tree_laws.{proofs.Each.each_event, specs.Events.Event}
 use Rattle.percpu_rwsem.specs.declared.writers.{DownWriteStep.DownWriteStep, UpWriteStep.UpWriteStep}
 use Rattle.freeze_levels.specs.declared.{freezes.FreezeStep.{FreezeStep, TheVariants.Closes}, thaws.ThawStep.ThawStep}
 use Rattle.stage_laws.specs.Roles.{MarksHold, CleanBelow, clean_by, KnowsStage, Freezing}
-use Rattle.file_closes.specs.declared.phases.ClosePhase.{ClosePhase}
 use Rattle.gate_world.specs.{Configs.IsWithin, Fits.{Fits, FreezeFits, PhaseFits}, Remounts.RemountFits, Rules.{IsGood, Holds, Tree, Stages, Fitting, marks_of}}
 use Rattle.gate_world.specs.{Shown.stage_roles, Snapshots.values_noted}
 use Rattle.gate_world.specs.Stages.{stage_role_of, remount_stage_role, freeze_stage_role, reopening_role, snapshot_stage_role, thaw_stage_role, tree_stage_role}
 use Rattle.gate_world.specs.Stages.{place_of}
 use Rattle.gate_world.specs.Trees.{tree_bounds, tree_of, tree_role_of, tree_roles, is_sealed, remount_tree_role, freeze_tree_role, nodes_noted, is_bare_at}
-use Rattle.gate_world.specs.Trees.{close_tree_role}
 use Rattle.gate_world.specs.{Views.{held_at, holds_level}, Worlds.World}
 use Rattle.gate_world.specs.declared.{config.Config.Config, views.{Traced.Traced, View.View}, work.Phase.{Phase, TheVariants.Closes}}
+use Rattle.gate_frames.proofs.TreeRoles.{call_plain, remount_apart, close_apart, freeze_apart}
 
 pub tree_within : (c : Config) → IsWithin c → AreWithin (tree_bounds c)
 tree_within c within = record { tasks = within.tasks; some_node = within.some_node; nodes = within.nodes; capacity = within.capacity }
@@ -84,11 +80,6 @@ module _ (c : Config) (w : World) (good : IsGood c w) (t : ℕ) (lt : t < c.task
   tree_after within action event =
       tree_holds (each_event (tree_bounds c) (tree_within c within) (tree_of w) (good Tree) t lt tree_then action event).0
 
-  pub tree_moved : IsWithin c → (action : Option Action) → Event (tree_bounds c) (tree_of w) t tree_then action →
-      MovesBy (tree_bounds c) w.words.node ws.node action
-  tree_moved within action event =
-      (each_event (tree_bounds c) (tree_within c within) (tree_of w) (good Tree) t lt tree_then action event).1
-
 -- what a task is at says of its accesses
 module _ (c : Config) (w : World) (good : IsGood c w) where
   root_there : kind_in (w.words.node 0) ≡ 0 → ⊥
@@ -127,8 +118,6 @@ module _ (c : Config) (w : World) (good : IsGood c w) where
 
   snapshot_clean : (s : SnapshotStep) → CleanBelow (clean_by (snapshot_stage_role s)) (marks_of w.words)
   snapshot_clean SnapshotStep.Locks = none_clean
-  snapshot_clean SnapshotStep.LoadsStage = none_clean
-  snapshot_clean (SnapshotStep.Releases answer) = none_clean
   snapshot_clean s = none_clean
 
   -- those that a remount has cleared
@@ -191,63 +180,18 @@ module _ (c : Config) (w : World) (good : IsGood c w) where
   snapshot_unread x (SnapshotStep.Releases (Err refusal)) values apart knows = refl
   snapshot_unread x other values apart knows = refl
 
-  create_unread : (x : Create) (s : CreateStep) → words_read (create_role x s) ≡ 0
-  create_unread x CreateStep.LoadsDirectory = refl
-  create_unread x other = refl
-
-  remove_unread : (x : Remove) (s : RemoveStep) → words_read (remove_role x s) ≡ 0
-  remove_unread x RemoveStep.LoadsFile = refl
-  remove_unread x other = refl
-
-  grow_unread : (x : Grow) (s : GrowStep) → words_read (grow_role x s) ≡ 0
-  grow_unread x GrowStep.LoadsFile = refl
-  grow_unread x other = refl
-
-  move_unread : (x : MoveTo) (s : MoveStep) → words_read (move_role x s) ≡ 0
-  move_unread x MoveStep.LoadsFile = refl
-  move_unread x other = refl
-
-  mark_unread : (x : Mark) (s : MarkStep) → words_read (mark_role x s) ≡ 0
-  mark_unread x MarkStep.LoadsFile = refl
-  mark_unread x (MarkStep.MarksFile file) = refl
-
-  open_unread : (x : OpenFile) (s : OpenStep) → words_read (open_role x s) ≡ 0
-  open_unread x OpenStep.LoadsFile = refl
-  open_unread x (OpenStep.OpensFile file) = refl
-
-  close_unread : (x : ClosePhase) → words_read (close_tree_role x) ≡ 0
-  close_unread (ClosePhase.LoadsFile x) = refl
-  close_unread other = refl
-
   tree_unread : (x : TreePhase) (values : ℕ → ℕ) → (w.words.stage ≡ 4 → ⊥) →
       KnowsStage w.words.stage w.words.sb (tree_stage_role x) → words_read (phase_role values x) ≡ 0
-  tree_unread (TreePhase.Create x) values apart knows = create_unread x x.step
-  tree_unread (TreePhase.Remove x) values apart knows = remove_unread x x.step
-  tree_unread (TreePhase.Grow x) values apart knows = grow_unread x x.step
-  tree_unread (TreePhase.MoveTo x) values apart knows = move_unread x x.step
-  tree_unread (TreePhase.Mark x) values apart knows = mark_unread x x.step
-  tree_unread (TreePhase.OpenFile x) values apart knows = open_unread x x.step
   tree_unread (TreePhase.Snapshot x) values apart knows = snapshot_unread x x.step values apart knows
   tree_unread (TreePhase.ClearMarks x) values apart knows = refl
-
-  remount_unread : (nodes : ℕ) (s : RemountStep) → words_read (remount_tree_role nodes s) ≡ 0
-  remount_unread nodes (RemountStep.SetsRemount held) = refl
-  remount_unread nodes (RemountStep.ClearsHold held) = refl
-  remount_unread nodes (RemountStep.ClearsMark n) = refl
-  remount_unread nodes RemountStep.SetsReadOnly = refl
-  remount_unread nodes s = refl
-
-  freeze_unread : (nodes : ℕ) (s : FreezeStep) → words_read (freeze_tree_role nodes s) ≡ 0
-  freeze_unread nodes (FreezeStep.Cleans marks) = refl
-  freeze_unread nodes FreezeStep.SetsFs = refl
-  freeze_unread nodes s = refl
+  tree_unread x values apart knows = (call_plain values x refl).read_none
 
   phase_unread : (trace : List Traced) (p : Option Phase) → (w.words.stage ≡ 4 → ⊥) →
       KnowsStage w.words.stage w.words.sb (stage_role_of p) → words_read (tree_role_of trace p) ≡ 0
-  phase_unread trace (Some (Phase.Remounts x)) apart knows = remount_unread x.nodes x.step
-  phase_unread trace (Some (Phase.Freezes x)) apart knows = freeze_unread x.nodes x.step
+  phase_unread trace (Some (Phase.Remounts x)) apart knows = (remount_apart x.nodes x.step).0
+  phase_unread trace (Some (Phase.Freezes x)) apart knows = (freeze_apart x.nodes x.step).1
   phase_unread trace (Some (Phase.Trees x)) apart knows = tree_unread x (values_noted (nodes_noted x) trace) apart knows
-  phase_unread trace (Some (Closes x)) apart knows = close_unread x
+  phase_unread trace (Some (Closes x)) apart knows = (close_apart x).2
   phase_unread trace p apart knows = refl
 
   pub nobody_reads : (w.words.stage ≡ 4 → ⊥) → NobodyReads (tree_bounds c) (tree_of w)

@@ -10,9 +10,9 @@ use Rattle.level_laws.proofs.Operations.{up_writes_are_there}
 use Rattle.level_laws.specs.{Events.SyncStep, Operations.{up_write_role, left_by, by_next, HoldsOfNext}, Roles.Out as IsApart}
 use Rattle.gate_world.specs.{Configs.IsWithin, Fits.UpWriteFits, LevelRuns.level_in, Levels.{Stand, stand_count, stand_sync, is_frozen_whole}}
 use Rattle.gate_world.specs.{Rules.{IsGood, Holds, AtLevel}, Worlds.World, declared.{config.Config.Config, views.View.View}}
-use Rattle.gate_frames.proofs.{Frames.SameLevelCounts, LevelWorlds.{found_level, IsEventAt}}
-use Rattle.gate_frames.proofs.StandRoles.{count_at, sync_at, still_count, still_sync, SayBeside, beside_each, beside_still, is_of_level, counts_left}
-use Rattle.gate_frames.proofs.StandRoles.{counts_become, levels_move}
+use Rattle.gate_frames.proofs.{Frames.SameLevelCounts, LevelWorlds.{found_level, IsEventAt, event_word}}
+use Rattle.gate_frames.proofs.StandRoles.{count_at, sync_at, still_count, still_sync, SayBeside, beside_each, beside_still, counts_left, counts_become}
+use Rattle.gate_frames.proofs.StandRoles.{levels_move}
 use Rattle.gate_frames.proofs.Standing.{Stands, opening_stand, stand_after_opening, LevelsHold, left_world}
 
 -- the same up-write at this step
@@ -79,7 +79,7 @@ module _ (c : Config) (lim : IsWithin c) (w : World) (good : IsGood c w) (t : �
       let name : WordName = (up_write_next u s).0 in
       let touch : Touch = (up_write_next u s).1 in
       let stays = up_write_level u s (found_by touch (read w.words name)) in
-      let found = found_level w u.level name (is_of_level u.level name touch (up_write_event u s)) in
+      let found = found_level w u.level name (event_word u.level name touch (up_write_event u s)) in
       let there = up_writes_are_there c.tasks t (read w.words name) (level_in w u.level) (opening_at u s) lt
       (was.syncs u.level low high ∙ sync_at u.level (opening_stand (opening_at u s)) refl) fits.2 in
       subst (λ k. SyncStep c.tasks (level_in w u.level) (left_by (level_in w u.level) t (name, touch) (read w.words name) k))

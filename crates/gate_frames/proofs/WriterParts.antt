@@ -9,10 +9,10 @@ use Rattle.cpu_words.specs.{Hooks.HookAnswer, Sums.sum_taking, Touches.{found_by
 use Rattle.gated_tree.specs.Nodes.{node_shown, opens_in}
 use Rattle.mount_counts.specs.Roles.{Out}
 use Rattle.percpu_rwsem.specs.{Graces.looked, SyncWords.{is_passed, on_enter, on_callback, unpack}, Transitions.transition_after}
-use Rattle.percpu_rwsem.specs.Writers.{sum_begun, at_down_write, down_write_next, up_write_next, down_write_after, sections_awaited, passed_awaited}
-use Rattle.percpu_rwsem.specs.Writers.{down_write_summed, enter_step, callback_step}
+use Rattle.percpu_rwsem.specs.Writers.{sum_begun, at_down_write, down_write_next, down_write_after, sections_awaited, passed_awaited, down_write_summed}
+use Rattle.percpu_rwsem.specs.Writers.{enter_step, callback_step}
 use Rattle.percpu_rwsem.specs.declared.{grace.GraceNext.GraceNext, sync_word.SyncWord.SyncWord, transitions.Transition.Transition}
-use Rattle.percpu_rwsem.specs.declared.writers.{DownWrite.DownWrite, DownWriteStep.DownWriteStep, UpWrite.UpWrite, UpWriteStep.UpWriteStep}
+use Rattle.percpu_rwsem.specs.declared.writers.{DownWrite.DownWrite, DownWriteStep.DownWriteStep, UpWriteStep.UpWriteStep}
 use Rattle.freeze_levels.specs.{Freezes.{freeze_next, level_closed, freeze_after, after_closing}, Holders.holders_in, Thaws.{thaw_next, thaw_after}}
 use Rattle.freeze_levels.specs.declared.{freezes.{Freeze.Freeze, FreezeStep.FreezeStep}, thaws.{Thaw.Thaw, ThawStep.ThawStep}}
 use Rattle.stage_laws.specs.{Events.{StageEvent, action_of as stage_action_of}, Roles.{owns as stage_owns, bit}, Shown.{state_after, ShowsStages, AsksOthers}}
@@ -202,11 +202,6 @@ down_write_off : (d : DownWrite) (s : DownWriteStep) → is_owned (down_write_ne
 down_write_off d (DownWriteStep.Enters Transition.Loads) = refl
 down_write_off d (DownWriteStep.CallsBack Transition.Loads) = refl
 down_write_off d other = refl
-
-up_write_off : (u : UpWrite) (s : UpWriteStep) → is_owned (up_write_next u s).0 ≡ false
-up_write_off u UpWriteStep.ClearsBlock = refl
-up_write_off u (UpWriteStep.Exits Transition.Loads) = refl
-up_write_off u (UpWriteStep.Exits (Transition.Exchanges from to)) = refl
 
 pub reopening_owns : (level : ℕ) (s : UpWriteStep) → stage_owns (reopening_role level s) ≡ 1
 reopening_owns level UpWriteStep.ClearsBlock = refl
