@@ -6,7 +6,7 @@ use Rattle.cpu_words.specs.{Hooks.HookAnswer, Touches.{event_of, found_by}, decl
 use Rattle.mount_counts.specs.{Phases.{has_flag, want_next, want_after}, declared.phases.{MountPhase.MountPhase, Want.Want, WantStep.WantStep}}
 use Rattle.gate_world.specs.{Found.{each_but_first, finds_hold, looks_again, holds_since, adds_to, newest}, Traces.{IsHonest, most_events, IsShort}}
 use Rattle.gate_world.specs.{Views.{with_hook, actions_after}, declared.{config.Config.Config, operations.Op.Op, views.Traced.Traced, work.Phase.Phase}}
-use Rattle.gate_frames.proofs.Says.{Says, SaysAfter, Kept, event_at}
+use Rattle.gate_frames.proofs.{CallTraces.or_other, Says.{Says, SaysAfter, Kept, event_at}}
 
 -- a want of this mount, processor and way to wait, at this step
 abbrev pub want_at : ℕ → ℕ → Bool → WantStep → Want
@@ -34,18 +34,13 @@ HeldSince m below (e ∷ earlier) =
 and_true : (a b : Bool) → a ≡ true → b ≡ true → (a && b) ≡ true
 and_true a b h k = rw (h, k) refl
 
--- where the second of two tests passes, one does
-or_second : (a b : Bool) → b ≡ true → (a || b) ≡ true
-or_second true b h = refl
-or_second false b h = h
-
 -- so the newest of them is the addition, or has found HOLD as has each before it back to the addition
 began : (m : ℕ) (below trace : List Traced) → HeldSince m below trace →
     (newest (λ d. adds_to m d.word d.touch) trace || holds_since m trace) ≡ true
 began m below [] h = absurd h
 began m below (e ∷ earlier) (inl h) = rw h.0 refl
 began m below (e ∷ earlier) (inr h) =
-    or_second (adds_to m e.event.word e.event.touch) (holds_since m (e ∷ earlier))
+    or_other (adds_to m e.event.word e.event.touch) (holds_since m (e ∷ earlier))
     (and_true (finds_hold m e.event) (newest (λ d. adds_to m d.word d.touch) earlier || holds_since m earlier) h.0
     (began m below earlier h.1))
 

@@ -1,4 +1,5 @@
--- A want waits only where another task has HOLD set at its mount, and is refused only for its cause, whether it is an operation of its own or stands in a longer one.
+-- A want waits only where another task has HOLD set at its mount, and is refused only for its cause, whether it is an operation of its own
+-- or stands in a longer one.
 use Rattle.std.{proofs.{Common.{◌≡◌, ℕ, ◌<◌, Bool, true, false, ap, inl, inr}, lemmas.Bool.{cases_Bool, Decides.eqb_tells}}, specs.Prelude.{List, Ok, Err, ◌∷◌}}
 use Rattle.access_model.specs.{Replies.map_next, declared.replies.Next.Next}
 use Rattle.cpu_words.specs.{Touches.found_by, Words.read}

@@ -13,10 +13,10 @@ use Rattle.gate_world.specs.{Causes.{asks, asks_level}, Configs.IsWithin, Fits.{
 use Rattle.gate_world.specs.{Levels.{sync_role_of, sync_role_if, count_role_if}, Rules.{IsGood, StepKeeps, role_of}, Views.{held_at, holds_level, phase_after}}
 use Rattle.gate_world.specs.{Worlds.{World, after_step, found_at}, declared.{config.Config.Config, operations.Op.Op, work.Phase.Phase}}
 use Rattle.gate_frames.proofs.{Beside.update_twice, Frames.role_on, Keeps.{by_bool, PhaseKeeps, OpKeeps, none_agree}, Says.{tells, is_short}}
-use Rattle.gate_frames.proofs.Snapshots.{completes_none}
+use Rattle.gate_frames.proofs.{Snapshots.completes_none, TreeHolders.both_true}
 use Rattle.writer_laws.proofs.Alikes.{alike_takes, alike_wants, alike_ends, alike_none, takes_goes, wants_goes}
 use Rattle.writer_laws.proofs.{ReadCauses.{read_stays, read_own, read_not_closed}, ReadFits.{read_mounts, read_goes}, ReadKeeps.{read_phase, end_phase}}
-use Rattle.writer_laws.proofs.{ReadWaits.read_waits, WantCauses.{want_kept, want_own}, WantFits.want_leaves, WantKeeps.{both, want_phase, drop_phase}}
+use Rattle.writer_laws.proofs.{ReadWaits.read_waits, WantCauses.{want_kept, want_own}, WantFits.want_leaves, WantKeeps.{want_phase, drop_phase}}
 use Rattle.writer_laws.proofs.{WantWaits.want_waits, WriteCauses.{takes_asks, takes_cause, takes_waits, wants_asked, wants_cause, wants_waits}}
 use Rattle.writer_laws.proofs.{WriteSteps.{write_fits_now, write_step, write_runs, first_world}, WriteTraces.{WriteAt, DropAt, write_kept, drop_kept}}
 
@@ -207,7 +207,7 @@ level_restored levels free = update_twice levels 1 true false ∙ (ap (update le
 
 in_mount : (c : Config) (m p : ℕ) → (nat_lt m c.mounts && nat_lt p c.processors) ≡ true → (m < c.mounts) × (p < c.processors)
 in_mount c m p there =
-    let at : (nat_lt m c.mounts ≡ true) × (nat_lt p c.processors ≡ true) = both (nat_lt m c.mounts) (nat_lt p c.processors) there in
+    let at : (nat_lt m c.mounts ≡ true) × (nat_lt p c.processors ≡ true) = both_true (nat_lt m c.mounts) (nat_lt p c.processors) there in
     (ltb-true m c.mounts at.0, ltb-true p c.processors at.1)
 
 pub want_write_op : (c : Config) (m p : ℕ) → OpKeeps c (Op.WantWrite m p)
@@ -230,7 +230,7 @@ want_write_op c m p = record {
   room_agrees = λ f g mounts there. ap (λ y. nat_lt y 1024) (mounts m (in_mount c m p there).0);
   restores = λ refusal trace before order.
       let none : (not (levels_of before 1) ≡ true) × ((not (levels_of before 2) && not (levels_of before 3)) ≡ true) =
-      both (not (levels_of before 1)) (not (levels_of before 2) && not (levels_of before 3)) order in
+      both_true (not (levels_of before 1)) (not (levels_of before 2) && not (levels_of before 3)) order in
       (refl, level_restored (levels_of before) (is_false (levels_of before 1) none.0), refl);
   file = λ t files own closed. tt;
   tells = λ lim t trace h. tells (WriteAt c m p t) c t (Op.WantWrite m p) (write_kept c t m p) trace h;
@@ -242,7 +242,7 @@ pub drop_write_op : (c : Config) (m p : ℕ) → OpKeeps c (Op.DropWrite m p)
 drop_write_op c m p = record {
   fits = λ t held levels there order room.
       let at : (m < c.mounts) × (p < c.processors) = in_mount c m p there in
-      let o : (levels 1 ≡ true) × (nat_lt 0 (held m) ≡ true) = both (levels 1) (nat_lt 0 (held m)) order in
+      let o : (levels 1 ≡ true) × (nat_lt 0 (held m) ≡ true) = both_true (levels 1) (nat_lt 0 (held m)) order in
       ((at.0, at.1, ltb-true 0 (held m) o.1), o.0);
   starts_idle = λ t. assumption;
   off_tree = λ t trace. refl;

@@ -102,11 +102,9 @@ write_kept c t m p = record {
 
 -- what a trace says of a return: it gives the mount back, and then the level
 abbrev DropSays : ℕ → ℕ → WritePhase → List Traced → List Action → Type 0
-DropSays m p (WritePhase.Takes n r) trace added = ⊥
-DropSays m p (WritePhase.Wants x) trace added = ⊥
-DropSays m p (WritePhase.GivesBack n q refusal) trace added = ⊥
 DropSays m p (WritePhase.Drops n q) trace added = (n ≡ m) × (trace ≡ []) × (added ≡ [])
 DropSays m p (WritePhase.Ends q) trace added = (length trace ≤ 1) × (added ≡ Action.Return (Gate.Mount m) ∷ [])
+DropSays m p other trace added = ⊥
 
 -- what it says at a phase
 abbrev pub DropAt : ℕ → ℕ → List Traced → Phase → List Action → Type 0
