@@ -87,11 +87,9 @@ module _ (c : Config) (t : ℕ) (lt : t < c.tasks) (w next : World) (earlier : L
   change_own m ro wait task processors ChangeStep.LoadsFlags lm e same h e' =
       elim (cases_Bool (has_flag (w.words.flags m) 1)) [ inl z ↦ rw z (between_own m ro true) | inr z ↦ rw z tt ]
   change_own m ro wait task processors ChangeStep.LoadsSuperblock lm e same h e' = between_own m ro (not (w.words.sb == 0))
-  change_own m ro wait task processors ChangeStep.ClearsReadOnly lm e same h e' = tt
   change_own m ro wait task processors ChangeStep.SetsHold lm e same h e' = sum_starts c t m next (w ∷ earlier) after lm (ap words_read e')
   change_own m ro wait task processors (ChangeStep.Sums sum) lm e same h e' =
       sum_own m ro wait task processors sum e (ap (λ (ws : Words). ws.count m) (same ∙ load_same w.words (WordName.MountCount m sum.words))) h e'
-  change_own m ro wait task processors ChangeStep.SetsReadOnly lm e same h e' = tt
   change_own m ro wait task processors (ChangeStep.ClearsHold answer) lm e same h e' =
       answer_stays c t w next earlier m answer (ap words_read e') h
-  change_own m ro wait task processors (ChangeStep.Releases answer) lm e same h e' = tt
+  change_own m ro wait task processors other lm e same h e' = tt

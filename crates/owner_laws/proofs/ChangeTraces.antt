@@ -1,6 +1,6 @@
 -- Traces of a change of a mount's read-only flag.
 use Rattle.std.proofs.Common.{◌≡◌, ℕ, suc, ◌+◌, ◌<◌, ◌≤◌, Bool, true, false, refl, sym, ap, ◌∙◌, subst, inl, inr, add-one, arith}
-use Rattle.std.proofs.lemmas.{Bool.{eq-eqb, ltb-true, ltb-false, cases_Bool, Decides.eqb_tells}, List.Sums.sum_by-cons}
+use Rattle.std.proofs.lemmas.Bool.{eq-eqb, ltb-true, ltb-false, cases_Bool, Decides.eqb_tells}
 use Rattle.std.specs.Prelude.{◌==◌, not, ◌||◌, nat_lt, Result, Ok, Err, List, [], ◌∷◌, length}
 use Rattle.access_model.specs.declared.{actions.Action.Action, errors.GateError.GateError, replies.Reply.Reply}
 use Rattle.cpu_words.specs.{Hooks.HookAnswer, Touches.wrap_add, declared.sums.Sum.Sum}
@@ -9,6 +9,7 @@ use Rattle.gate_world.specs.{Configs.IsWithin, Found.{found_read_only, counts_lo
 use Rattle.gate_world.specs.{Traces.{actions_of, IsHonestAnswer, most_events, IsShort}, Views.with_hook}
 use Rattle.gate_world.specs.declared.{config.Config.Config, operations.Op.Op, views.Traced.Traced, work.Phase.Phase}
 use Rattle.gate_frames.proofs.Says.{SaysAfter, Kept, event_at}
+use Rattle.owner_laws.proofs.RemountTraces.{or_false, sum_more}
 
 abbrev pub change : Config → ℕ → ℕ → Bool → Bool → ChangeStep → Phase
 change c t m ro wait step = Phase.Mounts (MountPhase.Change (record {
@@ -80,10 +81,6 @@ within_most : (c : Config) (m : ℕ) (ro wait : Bool) (step : ChangeStep) (trace
 within_most c m ro wait (ChangeStep.Sums sum) trace added h k = omega (arith, h.3.0)
 within_most c m ro wait step trace added h k = omega arith
 
-or_false : (b : Bool) → (b || false) ≡ b
-or_false true = refl
-or_false false = refl
-
 -- the state was found, as it was asked for or not
 state_found : (c : Config) (m : ℕ) (ro wait b : Bool) (trace : List Traced) (added : List Action) → (wait ≡ false → length trace ≤ 3) →
     added ≡ [] →
@@ -92,9 +89,6 @@ state_found c m true wait true trace added h none e loads = (λ q. omega (arith,
 state_found c m true wait false trace added h none e loads = (h, (refl, (none, e, loads)))
 state_found c m false wait true trace added h none e loads = (h, (none, refl, e))
 state_found c m false wait false trace added h none e loads = (λ q. omega (arith, h q), (rw e none, tt))
-
-sum_more : (k value s : ℕ) (loads : List (ℕ × ℕ)) → s ≡ sum_loaded loads → wrap_add s value ≡ sum_loaded ((k, value) ∷ loads)
-sum_more k value s loads h = omega (arith, h, sum_by-cons (λ (x : ℕ × ℕ). x.1) (k, value) loads)
 
 module _ (c : Config) (lim : IsWithin c) (t m : ℕ) (ro : Bool) (value : ℕ) (hook : HookAnswer) (earlier : List Traced)
     (added : List Action) where

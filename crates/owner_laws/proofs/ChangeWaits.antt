@@ -26,12 +26,7 @@ module _ (c : Config) (w : World) (earlier : List World) (good : IsGood c w) (t 
       ]
   change_waits false ChangeStep.Locks e cause = elim (eqb_tells w.words.umount 0) [ inl h ↦ rw h.0 tt | inr h ↦ rw h.0 (taken false e h.1) ]
   change_waits wait ChangeStep.LoadsFlags e cause = elim (cases_Bool (has_flag (w.words.flags m) 1)) [ inl h ↦ rw h tt | inr h ↦ rw h tt ]
-  change_waits wait ChangeStep.LoadsSuperblock e cause = tt
-  change_waits wait ChangeStep.ClearsReadOnly e cause = tt
-  change_waits wait ChangeStep.SetsHold e cause = tt
-  change_waits wait (ChangeStep.Sums sum) e cause = tt
-  change_waits wait ChangeStep.SetsReadOnly e cause = tt
-  change_waits wait (ChangeStep.ClearsHold answer) e cause = tt
   change_waits wait (ChangeStep.Releases (Ok reply)) e cause = tt
   change_waits wait (ChangeStep.Releases (Err GateError.Again)) e cause = absurd cause
   change_waits wait (ChangeStep.Releases (Err refusal)) e cause = cause
+  change_waits wait other e cause = tt

@@ -16,7 +16,8 @@ use Rattle.percpu_rwsem.specs.declared.writers.{DownWrite.DownWrite, DownWriteSt
 use Rattle.freeze_levels.specs.Freezes.{found_holders, freeze_next, freeze_after, at_freeze, freeze_locked, freeze_closes, level_closed, after_closing}
 use Rattle.freeze_levels.specs.Freezes.{after_clearing, freeze_fails, after_reopening}
 use Rattle.freeze_levels.specs.{Holders.holders_in, declared.freezes.{Freeze.Freeze, FreezeStep.FreezeStep}}
-use Rattle.level_laws.{proofs.Exchanges.exchanges_make_transitions, specs.{Exchanges.Shows, Operations.{HoldsOfNext, KnowsDownWrite, KnowsUpWrite}}}
+use Rattle.level_laws.proofs.{Exchanges.exchanges_make_transitions, Operations.{enter_knows, callback_knows}}
+use Rattle.level_laws.specs.{Exchanges.Shows, Operations.{HoldsOfNext, KnowsDownWrite, KnowsUpWrite}}
 use Rattle.holder_laws.proofs.Words.{none_held}
 use Rattle.gate_world.specs.Configs.{IsWithin, extents_of}
 use Rattle.gate_world.specs.Fits.{DownWriteStepFits, DownWriteFits, UpWriteFits, FreezeFits, PhaseFits, Fits, ActionFits, mounts_by, levels_by}
@@ -33,7 +34,7 @@ down_write_word c d (DownWriteStep.Sums sum) l1 l3 f = (l1, l3, f)
 down_write_word c d other l1 l3 f = (l1, l3)
 
 -- and of each event of an up-write
-up_write_word : (c : Config) (u : UpWrite) (s : UpWriteStep) → 1 ≤ u.level → u.level ≤ 3 → IsWord (extents_of c) (up_write_next u s).0
+pub up_write_word : (c : Config) (u : UpWrite) (s : UpWriteStep) → 1 ≤ u.level → u.level ≤ 3 → IsWord (extents_of c) (up_write_next u s).0
 up_write_word c u UpWriteStep.ClearsBlock l1 l3 = (l1, l3)
 up_write_word c u (UpWriteStep.Exits Transition.Loads) l1 l3 = (l1, l3)
 up_write_word c u (UpWriteStep.Exits (Transition.Exchanges from to)) l1 l3 = (l1, l3)
@@ -96,16 +97,6 @@ pub freeze_acts : (x : Freeze) (s : FreezeStep) (held : ℕ → ℕ) (found : �
     ActionFits held (freeze_after x s found hook).1
 freeze_acts x s held found hook = (freeze_moves x s found hook held (λ i. false)).0
 
-knows_enter : (tasks found v : ℕ) (n : TransitionNext) → Shows on_enter found v n → KnowsDownWrite (enter_step tasks n)
-knows_enter tasks found v (TransitionNext.More transition) h = h.1
-knows_enter tasks found v (TransitionNext.Made GpState.Idle) h = tt
-knows_enter tasks found v other h = tt
-
-knows_callback : (found v : ℕ) (n : TransitionNext) → Shows on_callback found v n → KnowsDownWrite (callback_step n)
-knows_callback found v (TransitionNext.More transition) h = h.1
-knows_callback found v TransitionNext.Undefined h = tt
-knows_callback found v (TransitionNext.Made state) h = tt
-
 module _ (c : Config) (within : IsWithin c) where
   -- the step after its enter fits: a grace period that begins has all tasks before it
   enter_fits : (tasks : ℕ) → tasks ≡ c.tasks → (n : TransitionNext) → DownWriteStepFits c (enter_step tasks n)
@@ -161,7 +152,7 @@ module _ (c : Config) (within : IsWithin c) where
           same,
           processors,
           enter_fits d.tasks same (transition_after on_enter transition found),
-          knows_enter d.tasks found _ (transition_after on_enter transition found) shows,
+          enter_knows d.tasks found _ (transition_after on_enter transition found) shows,
         )
     down_write_goes (DownWriteStep.AwaitsSections grace) found f k = looked_goes grace found f.0 f.1
     down_write_goes (DownWriteStep.CallsBack transition) found f k =
@@ -171,7 +162,7 @@ module _ (c : Config) (within : IsWithin c) where
           same,
           processors,
           callback_fits (transition_after on_callback transition found),
-          knows_callback found _ (transition_after on_callback transition found) shows,
+          callback_knows found _ (transition_after on_callback transition found) shows,
         )
     down_write_goes DownWriteStep.AwaitsPassed found f k = passed_found_goes (unpack found)
     down_write_goes DownWriteStep.SetsBlock found f k =

@@ -1,5 +1,5 @@
 -- The events of a freeze on `umount`, the stage and the superblock's flag, and its clearing of marks.
-use Rattle.std.proofs.{Common.{◌≡◌, ℕ, ◌+◌, ◌<◌, refl, sym, ap, ◌∙◌, subst, inl, inr, arith}, lemmas.Bool.{ne_eqb, Decides.eqb_tells}}
+use Rattle.std.proofs.{Common.{◌≡◌, ℕ, ◌+◌, ◌<◌, refl, sym, ap, ◌∙◌, subst, inl, inr, arith}, lemmas.Bool.Decides.eqb_tells}
 use Rattle.std.specs.Prelude.{◌∷◌, if◌then◌else◌, true, false, Option, Some, None, Ok, Err, Result}
 use Rattle.finite_sums.specs.Sums.{update, total}
 use Rattle.access_model.specs.Holders.{nobody, held_by, with_holder, is_unheld}
@@ -9,8 +9,8 @@ use Rattle.gated_tree.specs.Roles.{Out as OffTree, TreeState, HasNoCharge, seale
 use Rattle.tree_laws.specs.Events.{Event as TreeEvent, turned, Leaves, Seals}
 use Rattle.freeze_levels.specs.{Freezes.{at_freeze, freeze_closes, freeze_fails}, Holders.{word_of, holders_in}}
 use Rattle.freeze_levels.specs.declared.freezes.{Freeze.Freeze, FreezeStep.FreezeStep}
-use Rattle.stage_laws.specs.Events.{Happens, playing, StageEvent, HoldsOne, Recalls, IsAlike, Begins, Advances, Syncs, Completes, Fails, FreezesAtOnce, LetsGo}
-use Rattle.stage_laws.specs.Events.{Stays, LoadsSb, Locks as LocksStage, LocksAgain as LocksStageAgain, LoadsStage as FindsStage, Releases as ReleasesStage}
+use Rattle.stage_laws.specs.Events.{Happens, playing, StageEvent, HoldsOne, Recalls, Begins, Advances, Syncs, Completes, Fails, FreezesAtOnce, LetsGo, Stays}
+use Rattle.stage_laws.specs.Events.{LoadsSb, Locks as LocksStage, LocksAgain as LocksStageAgain, LoadsStage as FindsStage, Releases as ReleasesStage}
 use Rattle.stage_laws.specs.Events.{action_of as stage_action_of}
 use Rattle.stage_laws.specs.Roles.{StageRole, Before, HasPassed, Owning, owns as stage_owns, is_full, KnowsStage}
 use Rattle.holder_laws.proofs.{HolderLaws.{roles_tell, finds_some}, Words.{unpack_pack, none_held, is_nobody}}
@@ -21,25 +21,18 @@ use Rattle.gate_world.specs.{Shown.{shown, holder_roles}, Stages.{freeze_stage_r
 use Rattle.gate_world.specs.{Trees.{tree_bounds, tree_of, tree_role_of, tree_roles, freeze_tree_role}, Views.{held_at, holds_level, view_with}, Worlds.World}
 use Rattle.gate_world.specs.declared.{config.Config.Config, views.View.View, work.Phase.Phase}
 use Rattle.gate_frames.proofs.{Cases.both, Frames.SameLevelCounts, Holders.{holders_at, holders_stay, holders_move, holders_after, nobody_minds}}
-use Rattle.gate_frames.proofs.{Stages.{IsStageEvent, stages_in, nobody_owns}, StandRoles.{closing_first, closing_next}}
+use Rattle.gate_frames.proofs.{Stages.{IsStageEvent, stages_in, nobody_owns, owners_alike}, StandRoles.{closing_first, closing_next}}
 use Rattle.gate_frames.proofs.{Standing.{Stands, LevelsHold, left_world}, Trees.{sealed_frozen, tree_then, tree_after}, WholeLevels.freezes_all}
 use Rattle.gate_frames.proofs.WriterOwner.{owner_stays, lock_taken, lock_given}
 use Rattle.gate_frames.proofs.WriterParts.{IsWriter, AsksWhere, SameAtMounts, WriterKeeps, WriterLaw, freezes_write, idle_writes}
 use Rattle.gate_frames.proofs.WriterStages.{stays_there, writer_holds, writer_beside, writer_stores, stored_levels, stored_tree, opened_tree}
 use Rattle.owner_laws.proofs.FreezeFits.{found_cases}
 
-owners_alike : (stage sb stage' sb' : Option ℕ) → IsAlike (Owning stage sb) (Owning stage' sb')
-owners_alike stage sb stage' sb' =
-    record { owns_same = refl; freezes_same = refl; remounts_same = refl; closed_same = refl; passed_same = refl }
-
 pub freeze_stands : (x : Freeze) → Stands (Some (Phase.Freezes x)) (freeze_stand x.step)
 freeze_stands x = record { counts = λ i one three. refl; syncs = λ i one three. refl; outside = refl }
 
 pub idle_stands : Stands None None
 idle_stands = record { counts = λ i one three. refl; syncs = λ i one three. refl; outside = refl }
-
-not_whole : (a b sb : ℕ) → (a ≡ 4 → ⊥) → (b ≡ 4 → ⊥) → is_full a sb ≡ is_full b sb
-not_whole a b sb na nb = rw (ne_eqb a 4 na, ne_eqb b 4 nb) refl
 
 module _ (c : Config) (lim : IsWithin c) (w : World) (good : IsGood c w) (t : ℕ) (lt : t < c.tasks) (x : Freeze) where
   -- the task is at this step

@@ -92,13 +92,9 @@ ReopensSay u code trace added =
 
 -- what a trace says at a step: what was found, stored, cleared and added
 abbrev StepSays : Config → Holder → FreezeStep → List Traced → List Action → Type 0
-StepSays c holder FreezeStep.Locks trace added = HasBegun [] trace added
-StepSays c holder FreezeStep.LoadsStage trace added = HasBegun [] trace added
 StepSays c holder FreezeStep.LoadsHolders trace added = (added ≡ []) × (found_complete trace ≡ true)
 StepSays c holder (FreezeStep.Holds beside) trace added = added ≡ frozen_adds trace
-StepSays c holder FreezeStep.LoadsSuperblock trace added = HasBegun [] trace added
 StepSays c holder FreezeStep.CompletesReadOnly trace added = (added ≡ []) × (found_sealed trace ≡ true) × (found_complete trace ≡ false)
-StepSays c holder FreezeStep.SetsWrite trace added = HasBegun [] trace added
 StepSays c holder FreezeStep.Unlocks trace added = HasBegun (Action.Stage 1 ∷ []) trace added
 StepSays c holder (FreezeStep.Closes d) trace added = ClosesSay c d trace added
 StepSays c holder FreezeStep.LocksAgain trace added = HasBegun (Action.Pass 1 ∷ (Action.Stage 1 ∷ [])) trace added
@@ -108,6 +104,7 @@ StepSays c holder FreezeStep.SetsFs trace added = HasAdded (two_levels_closed tr
 StepSays c holder FreezeStep.SetsComplete trace added = HasAdded (all_levels_closed trace) true trace added
 StepSays c holder (FreezeStep.Reopens u code) trace added = ReopensSay u code trace added
 StepSays c holder (FreezeStep.Releases answer) trace added = Answers c holder answer trace added
+StepSays c holder other trace added = HasBegun [] trace added
 
 -- what a freeze's trace says at a phase
 abbrev pub FreezeAt : Config → ℕ → Holder → List Traced → Phase → List Action → Type 0
@@ -387,7 +384,7 @@ failed_leaves holder code trace before =
     elim (cases_Bool (stored_stage 3 trace)) [ inl f ↦ rw f closed | inr f ↦ rw f closed ]
 
 -- nor is clearing a mark an open or a close, on top of actions that leave each open file
-clean_open : (word : WordName) (touch : Touch) (found : ℕ) (actions rest before : List Action) →
+pub clean_open : (word : WordName) (touch : Touch) (found : ℕ) (actions rest before : List Action) →
     opens_of ((actions ++ rest) ++ before) ≡ opens_of before →
     opens_of ((clean_found word touch found actions ++ rest) ++ before) ≡ opens_of before
 clean_open (WordName.Node n) (Touch.And mask) found actions rest before h =
@@ -395,7 +392,7 @@ clean_open (WordName.Node n) (Touch.And mask) found actions rest before h =
 clean_open word touch found actions rest before h = h
 
 -- so is clearing each mark of a trace
-cleans_open : (trace : List Traced) (rest before : List Action) → opens_of (rest ++ before) ≡ opens_of before →
+pub cleans_open : (trace : List Traced) (rest before : List Action) → opens_of (rest ++ before) ≡ opens_of before →
     opens_of ((cleans trace ++ rest) ++ before) ≡ opens_of before
 cleans_open [] rest before h = h
 cleans_open (e ∷ earlier) rest before h =

@@ -17,13 +17,8 @@ use Rattle.level_laws.specs.Roles.{Entered, entered, entering, closed}
 use Rattle.gate_world.specs.{Fits.{DownWriteStepFits, FreezeFits}, KeptCauses.{DownWriteCause, FreezeCause}, LevelRuns.level_in, Levels.{inside, sync_role_of}}
 use Rattle.gate_world.specs.{Rules.{owns, IsGood, Sections}, Waits.{HasCulprit, HasReason}, Work.after_of, Worlds.{World, found_at}}
 use Rattle.gate_world.specs.declared.{config.Config.Config, work.Phase.Phase}
-use Rattle.gate_frames.proofs.{LevelWorlds.level_right, Owners.umount_taken}
+use Rattle.gate_frames.proofs.{DownLevels.queued_passed, LevelWorlds.level_right, Owners.umount_taken}
 use Rattle.owner_laws.proofs.FreezeCauses.{level_ends}
-
-queued_passed : (s : GpState) → is_queued s ≡ true → is_passed s ≡ true
-queued_passed GpState.Exit h = refl
-queued_passed GpState.Replay h = refl
-queued_passed other h = absurd (cc)
 
 state_passed : (s : GpState) → Some s ≡ Some GpState.Passed → is_passed s ≡ true
 state_passed GpState.Passed h = refl

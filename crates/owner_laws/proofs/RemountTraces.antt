@@ -6,10 +6,11 @@ use Rattle.access_model.specs.{Histories.{mounts_of, levels_of, opens_of}, decla
 use Rattle.cpu_words.specs.{Hooks.HookAnswer, Touches.{wrap_add, event_of}, declared.{events.Touch.Touch, names.WordName.WordName, sums.Sum.Sum}}
 use Rattle.mount_counts.specs.{Phases.has_flag, Remounts.{remount_from, past_mount, let_go, leave_holds, give_up, past_node}}
 use Rattle.mount_counts.specs.{Sets.{no_mounts, with_mount, without_lowest}, declared.{remounts.RemountStep.RemountStep, sets.MountSet.MountSet}}
-use Rattle.gate_world.specs.{Configs.IsWithin, Found.{found_sealed, counts_loaded, sum_loaded, IsEachCount, each_event, finds_taken, cleans, clean_found}}
+use Rattle.gate_world.specs.{Configs.IsWithin, Found.{found_sealed, counts_loaded, sum_loaded, IsEachCount, each_event, finds_taken, cleans}}
 use Rattle.gate_world.specs.{Traces.{actions_of, IsHonestAnswer}, Views.with_hook}
 use Rattle.gate_world.specs.declared.{config.Config.Config, operations.Op.Op, views.Traced.Traced, work.Phase.Phase}
 use Rattle.gate_frames.proofs.{Cleans.{cleans_leave, LeaveAccesses}, Keeps.by_bool, Says.{SaysAfter, Kept, event_at}}
+use Rattle.owner_laws.proofs.FreezeTraces.{cleans_open}
 
 -- a remount of the superblock by a task, at this step
 abbrev remount : Config → ℕ → Bool → RemountStep → Phase
@@ -60,18 +61,15 @@ StepSays c ro (RemountStep.Sums m held sum) trace added = IsOnItsWay ro trace ad
 StepSays c ro (RemountStep.LoadsRemovedAgain held) trace added = IsOnItsWay ro trace added
 StepSays c ro (RemountStep.LeavesHolds held) trace added = Answers c ro (Err GateError.Busy) trace added
 StepSays c ro (RemountStep.SetsRemount held) trace added = IsOnItsWay ro trace added
-StepSays c ro (RemountStep.ClearsHold held) trace added = HasSealed ro trace added
 StepSays c ro (RemountStep.GivesUp m held) trace added = Answers c ro (Err GateError.Busy) trace added
-StepSays c ro (RemountStep.ClearsMark n) trace added = HasSealed ro trace added
-StepSays c ro RemountStep.SetsReadOnly trace added = HasSealed ro trace added
-StepSays c ro RemountStep.ClearsRemount trace added = HasSealed ro trace added
 StepSays c ro (RemountStep.Releases answer) trace added = Answers c ro answer trace added
+StepSays c ro other trace added = HasSealed ro trace added
 
 -- what a remount's trace says at a phase
 abbrev pub RemountAt : Config → ℕ → Bool → List Traced → Phase → List Action → Type 0
 RemountAt c t ro trace phase added = (step : RemountStep) × (phase ≡ remount c t ro step) × StepSays c ro step trace added
 
-or_false : (b : Bool) → (b || false) ≡ b
+pub or_false : (b : Bool) → (b || false) ≡ b
 or_false true = refl
 or_false false = refl
 
@@ -79,7 +77,7 @@ busy_adds : (ro : Bool) (trace : List Traced) → actions_of (Op.RemountSb ro) (
 busy_adds true trace = refl
 busy_adds false trace = refl
 
-sum_more : (k value s : ℕ) (loads : List (ℕ × ℕ)) → s ≡ sum_loaded loads → wrap_add s value ≡ sum_loaded ((k, value) ∷ loads)
+pub sum_more : (k value s : ℕ) (loads : List (ℕ × ℕ)) → s ≡ sum_loaded loads → wrap_add s value ≡ sum_loaded ((k, value) ∷ loads)
 sum_more k value s loads h = omega (arith, h, sum_by-cons (λ (x : ℕ × ℕ). x.1) (k, value) loads)
 
 -- an event that gives `umount` back leaves what is told
@@ -333,21 +331,6 @@ remount_kept c lim t ro = record {
       (remount_event c lim t ro value earlier added hook here.0 here.2);
   short = λ trace phase added here. tt;
 }
-
--- clearing a mark is no open and no close, on top of actions that leave each open file
-clean_open : (word : WordName) (touch : Touch) (found : ℕ) (actions rest before : List Action) →
-    opens_of ((actions ++ rest) ++ before) ≡ opens_of before →
-    opens_of ((clean_found word touch found actions ++ rest) ++ before) ≡ opens_of before
-clean_open (WordName.Node n) (Touch.And mask) found actions rest before h =
-    elim (cases_Bool (has_flag found 4)) [ inl f ↦ rw f h | inr f ↦ rw f h ]
-clean_open word touch found actions rest before h = h
-
--- so is clearing each mark of a trace
-cleans_open : (trace : List Traced) (rest before : List Action) → opens_of (rest ++ before) ≡ opens_of before →
-    opens_of ((cleans trace ++ rest) ++ before) ≡ opens_of before
-cleans_open [] rest before h = h
-cleans_open (e ∷ earlier) rest before h =
-    clean_open e.event.word e.event.touch e.event.found (cleans earlier) rest before (cleans_open earlier rest before h)
 
 -- so does what a remount has added where it is refused
 pub remount_restores : (ro : Bool) (refusal : GateError) (trace : List Traced) (before : List Action) →

@@ -18,22 +18,14 @@ module _ (c : Config) (w : World) (earlier : List World) (good : IsGood c w) (t 
         | inr h ↦ rw h.0 (umount_taken c w good t lt (Phase.Remounts (at_remount x RemountStep.Locks)) (λ y own. own) h.1 (ap owns e))
       ]
   remount_waits hook RemountStep.LoadsStage e cause = elim (eqb_tells w.words.stage 0) [ inl h ↦ rw h.0 tt | inr h ↦ rw h.0 tt ]
-  remount_waits hook RemountStep.LoadsSuperblock e cause = tt
   remount_waits (Ok answer) RemountStep.SetsWritable e cause = tt
   remount_waits (Err code) RemountStep.SetsWritable e cause = tt
   remount_waits hook (RemountStep.LoadsFlags m held) e cause = elim (cases_Bool (has_flag (w.words.flags m) 1)) [ inl h ↦ rw h tt | inr h ↦ rw h tt ]
-  remount_waits hook (RemountStep.SetsHold m held) e cause = tt
-  remount_waits hook (RemountStep.Sums m held sum) e cause = tt
   remount_waits hook RemountStep.LoadsRemoved e cause = elim (eqb_tells w.words.removed 0) [ inl h ↦ rw h.0 tt | inr h ↦ rw h.0 tt ]
   remount_waits hook (RemountStep.LoadsRemovedAgain held) e cause = elim (eqb_tells w.words.removed 0) [ inl h ↦ rw h.0 tt | inr h ↦ rw h.0 tt ]
-  remount_waits hook (RemountStep.LeavesHolds held) e cause = tt
-  remount_waits hook (RemountStep.SetsRemount held) e cause = tt
-  remount_waits hook (RemountStep.ClearsHold held) e cause = tt
-  remount_waits hook (RemountStep.GivesUp m held) e cause = tt
-  remount_waits hook (RemountStep.ClearsMark n) e cause = tt
   remount_waits (Ok answer) RemountStep.SetsReadOnly e cause = tt
   remount_waits (Err code) RemountStep.SetsReadOnly e cause = tt
-  remount_waits hook RemountStep.ClearsRemount e cause = tt
   remount_waits hook (RemountStep.Releases (Ok reply)) e cause = tt
   remount_waits hook (RemountStep.Releases (Err GateError.Busy)) e cause = cause refl
   remount_waits hook (RemountStep.Releases (Err refusal)) e cause = tt
+  remount_waits hook other e cause = tt

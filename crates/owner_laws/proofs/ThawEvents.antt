@@ -25,7 +25,7 @@ use Rattle.gate_world.specs.{Shown.{stage_roles, shown, holder_roles}, Stages.{t
 use Rattle.gate_world.specs.Views.{has_open, actions_after, added_after, taken_after, phase_after, held_at, holds_level, view_with, added_by, taken_by}
 use Rattle.gate_world.specs.{Worlds.World, declared.{config.Config.Config, views.{Traced.Traced, View.View}, work.Phase.Phase}}
 use Rattle.gate_frames.proofs.{Frames.{added_load, taken_load}, Holders.{holders_at, holders_stay, holders_after, nobody_minds}, Keeps.by_bool}
-use Rattle.gate_frames.proofs.{MountEvents.{level_added_load, level_taken_load}, Stages.{stages_in, IsStageEvent, nobody_owns}}
+use Rattle.gate_frames.proofs.{MountEvents.{level_added_load, level_taken_load}, Stages.{stages_in, IsStageEvent, nobody_owns, owners_alike, alike_same}}
 use Rattle.gate_frames.proofs.{Standing.{Stands, still_closed, stand_after_opening, LevelsHold, left_world}, UpLevels.up_write_levels, WholeLevels.thaws_all}
 use Rattle.gate_frames.proofs.WriterOwner.{lock_given, lock_taken, owner_stays}
 use Rattle.gate_frames.proofs.WriterParts.{AsksWhere, IsWriter, WriterLaw, thaw_work, idle_writes, LeavesRest, WriterKeeps, reopening_owns, thaws_write}
@@ -33,13 +33,6 @@ use Rattle.gate_frames.proofs.WriterParts.{thaw_comes, whole_writer}
 use Rattle.gate_frames.proofs.WriterStages.{opened_tree, writer_beside, writer_stores, stored_levels, stays_there, none_leaves, SameStageWords, writer_holds}
 use Rattle.gate_frames.proofs.WriterWords.{tree_beside, writer_at_level, up_write_words, up_write_counts_none, up_write_adds, reopen_leaves}
 use Rattle.owner_laws.proofs.ThawFits.{thaw_goes, finds_cases}
-
-owners_alike : (stage sb stage' sb' : Option ℕ) → IsAlike (Owning stage sb) (Owning stage' sb')
-owners_alike stage sb stage' sb' =
-    record { owns_same = refl; freezes_same = refl; remounts_same = refl; closed_same = refl; passed_same = refl }
-
-alike_same : (r : StageRole) → IsAlike r r
-alike_same r = record { owns_same = refl; freezes_same = refl; remounts_same = refl; closed_same = refl; passed_same = refl }
 
 none_below : (dirty : ℕ → ℕ) → CleanBelow 0 dirty
 none_below dirty n below = absurd (omega (arith, below))

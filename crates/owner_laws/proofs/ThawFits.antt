@@ -1,21 +1,18 @@
 -- What fits after an event of a thaw.
-use Rattle.std.proofs.{Common.{refl, false, ◌≡◌, ℕ, ◌≤◌, true, arith, inl, inr}, lemmas.Bool.Decides.eqb_tells}
+use Rattle.std.proofs.{Common.{false, ◌≡◌, ℕ, ◌≤◌, true, arith, inl, inr}, lemmas.Bool.Decides.eqb_tells}
 use Rattle.std.specs.Prelude.{◌-◌, ◌==◌, if◌then◌else◌, Bool, Ok, Err}
 use Rattle.access_model.specs.{Holders.{held_by, with_holder, is_unheld}, Replies.map_next}
 use Rattle.access_model.specs.declared.{actions.{Holder.Holder, Holders.Holders}, errors.GateError.GateError, replies.Next.Next}
 use Rattle.cpu_words.specs.{Hooks.HookAnswer, Names.IsWord, Touches.left}
-use Rattle.percpu_rwsem.specs.{SyncWords.on_exit, Transitions.{transition_next, transition_after}, Writers.{exit_made, up_write_next}}
-use Rattle.percpu_rwsem.specs.declared.{transitions.{Transition.Transition, TransitionNext.TransitionNext}, writers.{UpWrite.UpWrite, UpWriteStep.UpWriteStep}}
+use Rattle.percpu_rwsem.specs.{SyncWords.on_exit, Transitions.{transition_next, transition_after}, Writers.exit_made}
+use Rattle.percpu_rwsem.specs.declared.{transitions.{Transition.Transition, TransitionNext.TransitionNext}, writers.UpWriteStep.UpWriteStep}
 use Rattle.freeze_levels.specs.{Holders.holders_in, Thaws.{thaw_next, thaw_after, at_thaw, thaw_opens, thaw_finds, after_opening}}
 use Rattle.freeze_levels.specs.declared.thaws.{Thaw.Thaw, ThawStep.ThawStep}
 use Rattle.level_laws.{proofs.Exchanges.exchanges_make_transitions, specs.Exchanges.{Shows, KnowsWords}}
 use Rattle.gate_world.specs.{Configs.extents_of, Fits.{UpWriteFits, ThawFits, PhaseFits, Fits, ActionFits, mounts_by, levels_by}, Operations.holds_none}
 use Rattle.gate_world.specs.{Views.phase_after, declared.{config.Config.Config, work.Phase.Phase}}
-use Rattle.gate_frames.proofs.Keeps.{by_bool}
-
-pub both : (b : Bool) (P : Bool → Type 0) → (b ≡ true → P true) → (b ≡ false → P false) → P b
-both true P first second = first refl
-both false P first second = second refl
+use Rattle.gate_frames.proofs.{Cases.both, Keeps.by_bool}
+use Rattle.owner_laws.proofs.FreezeFits.{up_write_word}
 
 -- What comes after a look at who holds a freeze: a refusal, where its own holder doesn't; the superblock's flag, where it alone does; or
 -- else the store without it.
@@ -30,16 +27,11 @@ finds_cases x held P refused alone shared =
     (λ own. both (is_unheld (with_holder x.holder false held)) (λ b. P (if b then ThawStep.LoadsSuperblock else ThawStep.Leaves held)) (alone own) (shared own))
     refused
 
-up_write_there : (c : Config) (u : UpWrite) (s : UpWriteStep) → 1 ≤ u.level → u.level ≤ 3 → IsWord (extents_of c) (up_write_next u s).0
-up_write_there c u UpWriteStep.ClearsBlock l1 l3 = (l1, l3)
-up_write_there c u (UpWriteStep.Exits Transition.Loads) l1 l3 = (l1, l3)
-up_write_there c u (UpWriteStep.Exits (Transition.Exchanges from to)) l1 l3 = (l1, l3)
-
 -- the word of each event of a thaw is there
 pub thaw_there : (c : Config) (x : Thaw) (s : ThawStep) (hook : HookAnswer) → ThawFits x.holder s → IsWord (extents_of c) (thaw_next x s hook).0
 thaw_there c x ThawStep.LeavesLast (Ok answer) f = tt
 thaw_there c x ThawStep.LeavesLast (Err code) f = tt
-thaw_there c x (ThawStep.Reopens u) hook f = up_write_there c u u.step f.0 f.1
+thaw_there c x (ThawStep.Reopens u) hook f = up_write_word c u u.step f.0 f.1
 thaw_there c x other hook f = tt
 
 -- the action of an event of a level's reopening can be done

@@ -46,19 +46,16 @@ Answers c holder answer trace added = (added ≡ actions_of (Op.Thaw holder) ans
 -- what a trace says at a step: what was found and added
 abbrev StepSays : Config → Holder → ThawStep → List Traced → List Action → Type 0
 StepSays c holder ThawStep.Locks trace added = (each_event finds_taken trace ≡ true) × FoundNothing holder trace added
-StepSays c holder ThawStep.LoadsStage trace added = FoundNothing holder trace added
-StepSays c holder ThawStep.LoadsHolders trace added = FoundNothing holder trace added
 StepSays c holder (ThawStep.Leaves held) trace added = (added ≡ []) × (found_shared holder trace ≡ true)
-StepSays c holder ThawStep.LoadsSuperblock trace added = FoundNothing holder trace added
 StepSays c holder ThawStep.LeavesReadOnly trace added = (added ≡ []) × (found_sealed trace ≡ true) × (found_shared holder trace ≡ false)
 StepSays c holder ThawStep.UnfreezesReadOnly trace added =
     (added ≡ Action.Leave holder ∷ []) × (found_sealed trace ≡ true) × (found_shared holder trace ≡ false)
-StepSays c holder ThawStep.LeavesLast trace added = FoundNothing holder trace added
 StepSays c holder ThawStep.SetsUnfrozen trace added =
     (added ≡ Action.Leave holder ∷ []) × (found_sealed trace ≡ false) × (found_shared holder trace ≡ false)
 StepSays c holder (ThawStep.Reopens u) trace added =
     (added ≡ opened holder u.level u.step) × ((found_sealed trace ≡ false) × (found_shared holder trace ≡ false)) × (1 ≤ u.level) × (u.level ≤ 3)
 StepSays c holder (ThawStep.Releases answer) trace added = Answers c holder answer trace added
+StepSays c holder other trace added = FoundNothing holder trace added
 
 -- what a thaw's trace says at a phase
 abbrev pub ThawAt : Config → ℕ → Holder → List Traced → Phase → List Action → Type 0

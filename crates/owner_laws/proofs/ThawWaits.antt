@@ -32,17 +32,13 @@ module _ (c : Config) (w : World) (earlier : List World) (t : ℕ) where
           | inr h ↦ rw h.0 (umount_taken c w good t lt (Phase.Thaws (at_thaw x ThawStep.Locks)) (λ y own. own) h.1 (ap owns e))
         ]
     thaw_waits hook ThawStep.LoadsStage e cause = elim (eqb_tells w.words.stage 4) [ inl h ↦ rw h.0 tt | inr h ↦ rw h.0 tt ]
-    thaw_waits hook ThawStep.LoadsHolders e cause = tt
-    thaw_waits hook (ThawStep.Leaves held) e cause = tt
     thaw_waits hook ThawStep.LoadsSuperblock e cause = elim (eqb_tells w.words.sb 0) [ inl h ↦ rw h.0 tt | inr h ↦ rw h.0 tt ]
-    thaw_waits hook ThawStep.LeavesReadOnly e cause = tt
-    thaw_waits hook ThawStep.UnfreezesReadOnly e cause = tt
     thaw_waits (Ok answer) ThawStep.LeavesLast e cause = tt
     thaw_waits (Err code) ThawStep.LeavesLast e cause = tt
-    thaw_waits hook ThawStep.SetsUnfrozen e cause = tt
     thaw_waits hook (ThawStep.Reopens u) e cause =
         reopening_waits (Phase.Thaws (at_thaw x (ThawStep.Reopens u))) (at_thaw x (ThawStep.Reopens u)) u u.step
         (found_at w.words (Phase.Thaws (at_thaw x (ThawStep.Reopens u))) hook)
     thaw_waits hook (ThawStep.Releases (Ok reply)) e cause = tt
     thaw_waits hook (ThawStep.Releases (Err GateError.Invalid)) e cause = cause refl
     thaw_waits hook (ThawStep.Releases (Err refusal)) e cause = tt
+    thaw_waits hook other e cause = tt
