@@ -5,11 +5,8 @@ use Rattle.gate_world.specs.{Traces.most_events, declared.{config.Config.Config,
 use Rattle.gate_frames.proofs.{CreateTraces.{create_tells, create_short}, GrowTraces.{grow_tells, grow_short}, Keeps.{by_bool, none_agree, IsSmall, OpKeeps}}
 use Rattle.gate_frames.proofs.{MarkTraces.{fault_tells, fault_short, flush_tells, flush_short}, MoveTraces.{move_tells, move_short}}
 use Rattle.gate_frames.proofs.{OpenTraces.{open_tells, open_short}, RemoveTraces.{remove_tells, remove_short}, SnapshotTraces.{snapshot_tells, snapshot_short}}
+use Rattle.gate_frames.proofs.TreeHolders.{both_true}
 use Rattle.call_laws.proofs.TreeFits.{writer_agrees, faulter_agrees}
-
-both_true : (a b : Bool) → (a && b) ≡ true → (a ≡ true) × (b ≡ true)
-both_true true b e = (refl, e)
-both_true false b e = absurd cc
 
 not_false : (b : Bool) → not b ≡ true → b ≡ false
 not_false true e = sym e

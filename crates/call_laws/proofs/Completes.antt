@@ -8,13 +8,10 @@ use Rattle.stage_laws.specs.Roles.{KnowsStage}
 use Rattle.gate_world.specs.{Configs.IsWithin, Fits.{Fits, PhaseFits}, Moments.{IsPresentTree, CompletesNow}, Rules.{IsGood, Fitting, Stages, Tree}}
 use Rattle.gate_world.specs.{Snapshots.{loads_noted, values_noted, snapshot_completes}, Stages.stage_role_of, Trees.{tree_bounds, tree_role_of}}
 use Rattle.gate_world.specs.{Views.{held_at, holds_level}, Worlds.World, declared.{config.Config.Config, work.Phase.Phase}}
-use Rattle.call_laws.proofs.Noted.{IsLong, loaded_long, noted_long, last_load, AreWords}
+use Rattle.call_laws.proofs.{NodeCauses.some_is, Noted.{IsLong, loaded_long, noted_long, last_load, AreWords}}
 
 nothing_is_some : {A : Type 0} (a : A) → None ≡ Some a → ⊥
 nothing_is_some a h = true≢false (ap is_some (sym h))
-
-something_is : {A : Type 0} (a b : A) → Some a ≡ Some b → a ≡ b
-something_is a b e = cc
 
 module _ (c : Config) (w : World) (good : IsGood c w) (t : ℕ) (lt : t < c.tasks) (x : Snapshot) (n : ℕ)
     (e : (w.views t).phase ≡ Some (Phase.Trees (TreePhase.Snapshot (at_snapshot x (SnapshotStep.LoadsKids n))))) where
@@ -62,7 +59,7 @@ module _ (c : Config) (w : World) (good : IsGood c w) (t : ℕ) (lt : t < c.task
   here_completes found is =
       elim (cases_lt (n + 1) x.nodes) [
         | inl l ↦ absurd (nothing_is_some found (rw (lt-ltb (n + 1) x.nodes l) at is))
-        | inr l ↦ subst (IsPresentTree c w.words) (something_is here_loaded found (rw (le-ltb (n + 1) x.nodes l) at is)) (here_present l)
+        | inr l ↦ subst (IsPresentTree c w.words) (some_is here_loaded found (rw (le-ltb (n + 1) x.nodes l) at is)) (here_present l)
       ]
 
 -- only its load of the children of a node may complete a snapshot

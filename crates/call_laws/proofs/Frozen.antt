@@ -14,13 +14,9 @@ use Rattle.gate_world.specs.{Views.{held_at, holds_level}, Worlds.World, declare
 use Rattle.gate_frames.proofs.{CloseEvents.{closer_thawed, removal_counted}, TreeHolders.writer_not_frozen, Trees.sealed_frozen}
 
 pub snapshot_charges_none : (nodes : ℕ) (values : ℕ → ℕ) (s : SnapshotStep) → HasNoCharge (snapshot_role nodes values s)
-snapshot_charges_none nodes values SnapshotStep.Locks = record { blocks = refl; removed = refl; children = λ d. refl }
-snapshot_charges_none nodes values SnapshotStep.LoadsStage = record { blocks = refl; removed = refl; children = λ d. refl }
-snapshot_charges_none nodes values SnapshotStep.LoadsUsed = record { blocks = refl; removed = refl; children = λ d. refl }
-snapshot_charges_none nodes values (SnapshotStep.LoadsNode n) = record { blocks = refl; removed = refl; children = λ d. refl }
-snapshot_charges_none nodes values (SnapshotStep.LoadsKids n) = record { blocks = refl; removed = refl; children = λ d. refl }
 snapshot_charges_none nodes values (SnapshotStep.Releases (Ok reply)) = record { blocks = refl; removed = refl; children = λ d. refl }
 snapshot_charges_none nodes values (SnapshotStep.Releases (Err refusal)) = record { blocks = refl; removed = refl; children = λ d. refl }
+snapshot_charges_none nodes values other = record { blocks = refl; removed = refl; children = λ d. refl }
 
 mark_charges_none : (x : Mark) (s : MarkStep) → HasNoCharge (mark_role x s)
 mark_charges_none x MarkStep.LoadsFile = record { blocks = refl; removed = refl; children = λ d. refl }
@@ -28,9 +24,6 @@ mark_charges_none x (MarkStep.MarksFile file) = record { blocks = refl; removed 
 
 remount_charges_none : (nodes : ℕ) (s : RemountStep) → HasNoCharge (remount_tree_role nodes s)
 remount_charges_none nodes (RemountStep.SetsRemount held) = record { blocks = refl; removed = refl; children = λ d. refl }
-remount_charges_none nodes (RemountStep.ClearsHold held) = record { blocks = refl; removed = refl; children = λ d. refl }
-remount_charges_none nodes (RemountStep.ClearsMark n) = record { blocks = refl; removed = refl; children = λ d. refl }
-remount_charges_none nodes RemountStep.SetsReadOnly = record { blocks = refl; removed = refl; children = λ d. refl }
 remount_charges_none nodes s = record { blocks = refl; removed = refl; children = λ d. refl }
 
 freeze_charges_none : (nodes : ℕ) (s : FreezeStep) → HasNoCharge (freeze_tree_role nodes s)

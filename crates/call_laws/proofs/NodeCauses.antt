@@ -15,7 +15,7 @@ use Rattle.gated_tree.specs.declared.{nodes.NodeWord.NodeWord, opens.{OpenFile.O
 use Rattle.gate_world.specs.{Causes.{TellsOf, CallRefused, tree_sees}, Shown.shown, Work.after_of, Worlds.{World, found_at}}
 use Rattle.gate_world.specs.declared.{config.Config.Config, work.Phase.Phase}
 
-some_is : {A : Type 0} (a b : A) → Some a ≡ Some b → a ≡ b
+pub some_is : {A : Type 0} (a b : A) → Some a ≡ Some b → a ≡ b
 some_is a b e = cc
 
 refused_is : (a b : GateError) (r : Result NodeWord GateError) → r ≡ Err a → r ≡ Err b → a ≡ b
@@ -97,10 +97,8 @@ call_refused c w earlier phase refusal h = tt
 
 -- an end that is no refusal for what a node is
 abbrev NotOfNode : {P : Type 0} → Next P → Type 0
-NotOfNode (Next.Go p) = Unit {0}
-NotOfNode (Next.Wait p) = Unit {0}
-NotOfNode (Next.Done (Ok reply)) = Unit {0}
 NotOfNode (Next.Done (Err refusal)) = is_of_node refusal ≡ false
+NotOfNode other = Unit {0}
 
 -- either of two
 either : {P : Type 0} (b : Bool) (n m : Next P) → NotOfNode n → NotOfNode m → NotOfNode (if b then n else m)

@@ -1,12 +1,12 @@
--- The words of the events of the calls at the tree: each is one that is kept, and none is a count, or a word of a level.
-use Rattle.std.proofs.Common.{ℕ, ◌<◌, refl, arith, ◌+◌, ◌-◌}
-use Rattle.cpu_words.specs.{Hooks.HookAnswer, Names.IsWord, Words.{Words, put}, declared.names.WordName.WordName}
+-- The words of the events of the calls at the tree: each is one that is kept.
+use Rattle.std.proofs.Common.{ℕ, ◌<◌, arith, ◌+◌, ◌-◌}
+use Rattle.cpu_words.specs.{Hooks.HookAnswer, Names.IsWord}
 use Rattle.gated_tree.specs.Calls.{CreateStepFits, RemoveStepFits, MoveStepFits, SnapshotStepFits, TreePhaseFits}
-use Rattle.gated_tree.specs.Phases.{create_next, remove_next, grow_next, move_next, mark_next, open_next, snapshot_next, next as tree_next, at_snapshot}
+use Rattle.gated_tree.specs.Phases.{create_next, remove_next, grow_next, move_next, mark_next, open_next, snapshot_next, next as tree_next}
 use Rattle.gated_tree.specs.declared.changes.{Create.Create, CreateStep.CreateStep, MoveStep.MoveStep, MoveTo.MoveTo, Remove.Remove, RemoveStep.RemoveStep}
 use Rattle.gated_tree.specs.declared.{growth.{Grow.Grow, GrowStep.GrowStep}, marks.{Mark.Mark, MarkStep.MarkStep}, opens.{OpenFile.OpenFile, OpenStep.OpenStep}}
 use Rattle.gated_tree.specs.declared.{phases.TreePhase.TreePhase, snapshots.{Snapshot.Snapshot, SnapshotStep.SnapshotStep}}
-use Rattle.gate_world.specs.{Rules.{SameWords, SyncAt}, Trees.tree_bounds, Worlds.words_after, declared.{config.Config.Config, work.Phase.Phase}}
+use Rattle.gate_world.specs.{Trees.tree_bounds, declared.config.Config.Config}
 use Rattle.gate_frames.proofs.Keeps.{extents_touched}
 
 module _ (c : Config) (n t : ℕ) where
@@ -66,74 +66,3 @@ module _ (c : Config) (n t : ℕ) where
   tree_there (TreePhase.OpenFile x) hook f = open_there x x.step f.0
   tree_there (TreePhase.Snapshot x) hook f = snapshot_there x x.step f.2
   tree_there (TreePhase.ClearMarks x) hook f = touched x.node f.0
-
--- words of which each level's are as they were, and so are the counts of mounts and levels
-pub record SameLevels (old new : Words) : Type 0 where
-  pub at_levels : (i : ℕ) → SameWords old new (SyncAt i)
-
--- a word of the tree, or `umount`: no level reads it, and it is no count
-abbrev IsApartWord : WordName → Type 0
-IsApartWord WordName.Umount = Unit {0}
-IsApartWord WordName.Used = Unit {0}
-IsApartWord WordName.Removed = Unit {0}
-IsApartWord (WordName.Node n) = Unit {0}
-IsApartWord (WordName.Kids n) = Unit {0}
-IsApartWord name = ⊥
-
-put_apart : (w : Words) (name : WordName) (value : ℕ) → IsApartWord name → SameLevels w (put w name value)
-put_apart w WordName.Umount value h = record { at_levels = λ i. (refl, refl, refl, refl) }
-put_apart w WordName.Used value h = record { at_levels = λ i. (refl, refl, refl, refl) }
-put_apart w WordName.Removed value h = record { at_levels = λ i. (refl, refl, refl, refl) }
-put_apart w (WordName.Node n) value h = record { at_levels = λ i. (refl, refl, refl, refl) }
-put_apart w (WordName.Kids n) value h = record { at_levels = λ i. (refl, refl, refl, refl) }
-put_apart w name value h = absurd h
-
-create_apart : (x : Create) (s : CreateStep) → IsApartWord (create_next x s).0
-create_apart x CreateStep.LoadsDirectory = tt
-create_apart x other = tt
-
-remove_apart : (x : Remove) (s : RemoveStep) → IsApartWord (remove_next x s).0
-remove_apart x RemoveStep.LoadsFile = tt
-remove_apart x other = tt
-
-grow_apart : (x : Grow) (s : GrowStep) → IsApartWord (grow_next x s).0
-grow_apart x GrowStep.LoadsFile = tt
-grow_apart x other = tt
-
-move_apart : (x : MoveTo) (s : MoveStep) → IsApartWord (move_next x s).0
-move_apart x MoveStep.LoadsFile = tt
-move_apart x other = tt
-
-mark_apart : (x : Mark) (s : MarkStep) → IsApartWord (mark_next x s).0
-mark_apart x MarkStep.LoadsFile = tt
-mark_apart x (MarkStep.MarksFile file) = tt
-
-open_apart : (x : OpenFile) (s : OpenStep) → IsApartWord (open_next x s).0
-open_apart x OpenStep.LoadsFile = tt
-open_apart x (OpenStep.OpensFile file) = tt
-
-module _ (w : Words) (hook : HookAnswer) where
-  -- what an event of a phase leaves of the words
-  abbrev Leaves : TreePhase → Type 0
-  Leaves x = SameLevels w (words_after w (Phase.Trees x) hook)
-
-  word_leaves : (x : TreePhase) → IsApartWord (tree_next x hook).0 → Leaves x
-  word_leaves x h = put_apart w (tree_next x hook).0 _ h
-
-  snapshot_leaves : (x : Snapshot) (s : SnapshotStep) → Leaves (TreePhase.Snapshot (at_snapshot x s))
-  snapshot_leaves x SnapshotStep.Locks = word_leaves (TreePhase.Snapshot (at_snapshot x SnapshotStep.Locks)) tt
-  snapshot_leaves x SnapshotStep.LoadsStage = record { at_levels = λ i. (refl, refl, refl, refl) }
-  snapshot_leaves x SnapshotStep.LoadsUsed = word_leaves (TreePhase.Snapshot (at_snapshot x SnapshotStep.LoadsUsed)) tt
-  snapshot_leaves x (SnapshotStep.LoadsNode node) = word_leaves (TreePhase.Snapshot (at_snapshot x (SnapshotStep.LoadsNode node))) tt
-  snapshot_leaves x (SnapshotStep.LoadsKids node) = word_leaves (TreePhase.Snapshot (at_snapshot x (SnapshotStep.LoadsKids node))) tt
-  snapshot_leaves x (SnapshotStep.Releases answer) = word_leaves (TreePhase.Snapshot (at_snapshot x (SnapshotStep.Releases answer))) tt
-
-  pub tree_leaves : (x : TreePhase) → Leaves x
-  tree_leaves (TreePhase.Create x) = word_leaves (TreePhase.Create x) (create_apart x x.step)
-  tree_leaves (TreePhase.Remove x) = word_leaves (TreePhase.Remove x) (remove_apart x x.step)
-  tree_leaves (TreePhase.Grow x) = word_leaves (TreePhase.Grow x) (grow_apart x x.step)
-  tree_leaves (TreePhase.MoveTo x) = word_leaves (TreePhase.MoveTo x) (move_apart x x.step)
-  tree_leaves (TreePhase.Mark x) = word_leaves (TreePhase.Mark x) (mark_apart x x.step)
-  tree_leaves (TreePhase.OpenFile x) = word_leaves (TreePhase.OpenFile x) (open_apart x x.step)
-  tree_leaves (TreePhase.Snapshot x) = snapshot_leaves x x.step
-  tree_leaves (TreePhase.ClearMarks x) = word_leaves (TreePhase.ClearMarks x) tt
