@@ -133,8 +133,6 @@ close_acts c lim t held levels (ClosePhase.LowersCount x node) found f =
 close_acts c lim t held levels (ClosePhase.Enters file node r) found f = read_acts held r r.step found f.2.0 f.2.1
 close_acts c lim t held levels (ClosePhase.FreesNode file p node) found f =
     by_bool (found == word_of node) (λ b. ActionFits held (if b then Some (Action.Close file) else None)) (omega (arith, f.0, lim.nodes)) tt
-close_acts c lim t held levels (ClosePhase.RefundsBlocks p blocks) found f = tt
-close_acts c lim t held levels (ClosePhase.Uncounts p) found f = tt
 close_acts c lim t held levels (ClosePhase.Leaves p) found f = (omega arith, omega arith)
 close_acts c lim t held levels other found f = tt
 

@@ -13,7 +13,7 @@ use Rattle.gate_frames.proofs.{Keeps.PhaseKeeps, Snapshots.completes_none}
 use Rattle.writer_laws.proofs.{ReadCauses.{read_stays, read_own, read_not_closed}, ReadKeeps.{read_phase, end_phase}, ReadWaits.read_waits}
 use Rattle.close_laws.proofs.CloseCauses.{enters_asks, enters_cause, enters_waits, looked_cause, looked_waits}
 use Rattle.close_laws.proofs.CloseFits.{close_goes, close_there, close_acts, close_agrees}
-use Rattle.close_laws.proofs.CloseParts.{loads_file, lowers_count, frees_node, refunds_blocks, uncounts, tree_run}
+use Rattle.close_laws.proofs.CloseParts.{loads_file, lowers_count, frees_node, refunds_blocks, uncounts, close_run}
 use Rattle.close_laws.proofs.CloseSteps.{close_fits_now, enters_level, leaves_level, beside_reads, beside_ends, beside_runs, beside_enters, beside_none}
 
 -- each event keeps the rule, and moves the shown model by its action or not at all
@@ -31,17 +31,17 @@ close_keeps c lim w good t lt hook (ClosePhase.Leaves p) e = leaves_level c lim 
 close_runs : (c : Config) → IsWithin c → (w : World) → IsGood c w → (t : ℕ) → t < c.tasks → (hook : HookAnswer) → (x : ClosePhase) →
     (w.views t).phase ≡ Some (Phase.Closes x) → (i : ℕ) → 1 ≤ i → i ≤ 3 →
     SyncStep c.tasks (level_in w i) (level_in (after_step w t (Phase.Closes x) hook) i)
-close_runs c lim w good t lt hook (ClosePhase.LoadsFile x) e i one three = tree_run c w t lt hook (ClosePhase.LoadsFile x) refl e i
-close_runs c lim w good t lt hook (ClosePhase.LowersCount x node) e i one three = tree_run c w t lt hook (ClosePhase.LowersCount x node) refl e i
+close_runs c lim w good t lt hook (ClosePhase.LoadsFile x) e i one three = close_run c w t lt hook (ClosePhase.LoadsFile x) refl e i
+close_runs c lim w good t lt hook (ClosePhase.LowersCount x node) e i one three = close_run c w t lt hook (ClosePhase.LowersCount x node) refl e i
 close_runs c lim w good t lt hook (ClosePhase.Enters file node r) e i one three =
     let b : IsBeside (w.views t).phase (Some (Phase.DownReads r)) × IsGood c (rephased w t (Some (Phase.DownReads r))) =
     beside_reads c w good t lt file node r e in
     let n : Next DownRead = (down_read_after r r.step (found_at w.words (Phase.DownReads r) hook)).0 in
     beside_runs c w t lt hook (Phase.DownReads r) b.0 b.1 (map_next Phase.Closes (then_frees file node r.cpu n)) (beside_enters file r.cpu node n) i
     (λ g at. (read_phase c r).runs lim (rephased w t (Some (Phase.DownReads r))) g t lt hook at i one three)
-close_runs c lim w good t lt hook (ClosePhase.FreesNode file p node) e i one three = tree_run c w t lt hook (ClosePhase.FreesNode file p node) refl e i
-close_runs c lim w good t lt hook (ClosePhase.RefundsBlocks p blocks) e i one three = tree_run c w t lt hook (ClosePhase.RefundsBlocks p blocks) refl e i
-close_runs c lim w good t lt hook (ClosePhase.Uncounts p) e i one three = tree_run c w t lt hook (ClosePhase.Uncounts p) refl e i
+close_runs c lim w good t lt hook (ClosePhase.FreesNode file p node) e i one three = close_run c w t lt hook (ClosePhase.FreesNode file p node) refl e i
+close_runs c lim w good t lt hook (ClosePhase.RefundsBlocks p blocks) e i one three = close_run c w t lt hook (ClosePhase.RefundsBlocks p blocks) refl e i
+close_runs c lim w good t lt hook (ClosePhase.Uncounts p) e i one three = close_run c w t lt hook (ClosePhase.Uncounts p) refl e i
 close_runs c lim w good t lt hook (ClosePhase.Leaves p) e i one three =
     let q : Phase = Phase.UpReads (leaves_on p) in
     let b : IsBeside (w.views t).phase (Some q) × IsGood c (rephased w t (Some q)) = beside_ends c w good t lt p e in

@@ -3,36 +3,26 @@
 use Rattle.std.proofs.Common.{arith, ◌≡◌, ℕ, ◌<◌, ◌∙◌, inl, inr, refl, sym, ap, Bool, true, false, true≢false, subst}
 use Rattle.std.proofs.lemmas.Bool.{cases_Bool, Decides.eqb_tells}
 use Rattle.std.specs.Prelude.{◌==◌, ◌||◌, ◌&&◌, List, Option, Some, None, Result, Ok, Err, if◌then◌else◌}
-use Rattle.finite_sums.{proofs.Totals.{each_updated, update_same, update_map}, specs.Sums.update}
-use Rattle.access_model.proofs.Openers.{most_tasks_is}
-use Rattle.access_model.specs.{Replies.map_next, States.{openers, is_removed}, declared.{actions.Action.Action, errors.GateError.GateError, replies.Next.Next}}
-use Rattle.cpu_words.specs.{Hooks.HookAnswer, Touches.left, Words.{Words, read}}
+use Rattle.access_model.specs.{Replies.map_next, States.is_removed, declared.{actions.Action.Action, errors.GateError.GateError, replies.Next.Next}}
+use Rattle.cpu_words.specs.Hooks.{HookAnswer}
 use Rattle.gate_counts.specs.Levels.{Out as CountsNot}
 use Rattle.gated_tree.proofs.Words.{word_shows, word_opens}
-use Rattle.gated_tree.specs.{Calls.role_after, Nodes.{word_of, node_shown, any_file_in, opens_in, info_of}, Phases.after_look}
-use Rattle.gated_tree.specs.{Roles.{Role, Freeing, Dropped, TreeHolds}, declared.nodes.NodeWord.NodeWord}
-use Rattle.mount_counts.specs.Roles.{ro_bit}
-use Rattle.tree_laws.{proofs.Allowed.{may_do, tree_alone}, specs.{Events.{MovesBy, opens_shown, HasLeave}, Steps.{EventKeeps, tree_in}}}
-use Rattle.freeze_levels.specs.Holders.{holders_in}
+use Rattle.gated_tree.specs.{Calls.role_after, Nodes.{word_of, node_shown, any_file_in, opens_in, info_of}, Phases.after_look, Roles.{Freeing, Dropped}}
+use Rattle.gated_tree.specs.declared.nodes.NodeWord.{NodeWord}
+use Rattle.tree_laws.specs.{Events.HasLeave, Steps.EventKeeps}
 use Rattle.level_laws.specs.{Events.SyncStep, Roles.Out as IsApart}
-use Rattle.stage_laws.specs.Roles.{Aside}
 use Rattle.file_closes.specs.{Phases.{next, after, enters, closed_from}, declared.phases.{ClosePhase.ClosePhase, Closing.Closing}}
-use Rattle.gate_world.specs.{Configs.{IsWithin, model_limits}, Fits.{Fits, CloseFits, MayLower, HasFile, file_of, mounts_by, opens_by}, LevelRuns.level_in}
-use Rattle.gate_world.specs.Levels.{level_added_by, level_taken_by, count_role_if, sync_role_if}
-use Rattle.gate_world.specs.Rules.{IsGood, Holds, Part, Owner, Stages, Holding, Fitting, Known, Tree, Files, AtMount, AtLevel, SyncAt, Sections, ViewFits}
-use Rattle.gate_world.specs.Rules.{SameView, StepKeeps, owns, remounts, Moves as ModelMoves}
-use Rattle.gate_world.specs.{Shown.shown, Stages.stage_role_of, Trees.{tree_bounds, tree_roles, tree_role_of, close_tree_role, is_sealed, is_bare_at}}
-use Rattle.gate_world.specs.Views.{held_at, holds_level, has_open, added_by, taken_by, phase_after, view_after}
-use Rattle.gate_world.specs.Worlds.{World, after_step, words_after, value_at, found_at}
+use Rattle.gate_world.specs.{Configs.{IsWithin, model_limits}, Fits.{Fits, CloseFits, MayLower, HasFile, file_of, opens_by}, LevelRuns.level_in}
+use Rattle.gate_world.specs.{Levels.{count_role_if, sync_role_if}, Rules.{IsGood, Fitting, Tree, Files, StepKeeps}, Shown.shown}
+use Rattle.gate_world.specs.Trees.{tree_bounds, tree_roles, tree_role_of, close_tree_role, is_sealed, is_bare_at}
+use Rattle.gate_world.specs.{Views.{held_at, holds_level, has_open, phase_after, view_after}, Worlds.{World, value_at, found_at, after_step}}
 use Rattle.gate_world.specs.declared.{config.Config.Config, views.{Traced.Traced, View.View}, work.Phase.Phase}
-use Rattle.gate_frames.proofs.Accesses.{mounts_of_after, levels_of_after, opens_of_after}
 use Rattle.gate_frames.proofs.CloseEvents.{close_loads, close_lowers, close_frees, close_drops, close_uncounts, frees_alone, closer_unread, freeing_removed}
 use Rattle.gate_frames.proofs.CloseEvents.{dropped_removed}
-use Rattle.gate_frames.proofs.{Frames.{view_as, level_view_as, left_alone, shown_as}, Keeps.by_bool, Known.{IsOwnersWork, known_after}, MayTree.LeaveFor}
-use Rattle.gate_frames.proofs.{MountRuns.apart_run, NodeEvents.{umount_same, not_owned}}
-use Rattle.gate_frames.proofs.NodeParts.{is_node_word, node_call, IsBesideTree, write_beside, CountsNowhere, counts_nowhere, LeavesAccesses, leaves_none}
-use Rattle.gate_frames.proofs.NodeParts.{leaves_if, IsOffGates, idle_off, is_gate_part, gate_words, sealed_beside, bare_beside}
-use Rattle.gate_frames.proofs.{OpenFiles.{same_counts, files_counted}, Trees.{tree_within, tree_holds}}
+use Rattle.gate_frames.proofs.{Keeps.by_bool, MayTree.LeaveFor, NodeEvents.{IsPlain, plain_parts, tree_run}}
+use Rattle.gate_frames.proofs.NodeParts.{is_node_word, node_call, LeavesAccesses, leaves_none, leaves_if, IsOffGates, idle_off, IsAtTree, fitting_then}
+use Rattle.gate_frames.proofs.NodeParts.{tree_then, files_then, shown_moves}
+use Rattle.gate_frames.proofs.Trees.{tree_within}
 use Rattle.close_laws.proofs.CloseFits.{close_goes}
 
 -- the events at the tree
@@ -109,9 +99,9 @@ off_next (ClosePhase.Enters file node r) h found = absurd (true≢false (sym h))
 off_next (ClosePhase.Leaves p) h found = absurd (true≢false (sym h))
 
 -- a close has to do with no stage and owns nothing, and so has what comes after one
-plain_next : (n : Next ClosePhase) → (stage_role_of (phase_after (map_next Phase.Closes n)) ≡ Aside) × (owns (phase_after (map_next Phase.Closes n)) ≡ 0)
-plain_next (Next.Go x) = (refl, refl)
-plain_next other = (refl, refl)
+plain_next : (n : Next ClosePhase) → IsPlain (phase_after (map_next Phase.Closes n))
+plain_next (Next.Go x) = record { aside = refl; owns_none = refl }
+plain_next other = record { aside = refl; owns_none = refl }
 
 -- its role at the tree is that of its phase
 role_comes : (n : Next ClosePhase) (trace : List Traced) → role_after close_tree_role n ≡ tree_role_of trace (phase_after (map_next Phase.Closes n))
@@ -144,12 +134,16 @@ file_then files (ClosePhase.Uncounts p) h found own = tt
 file_then files (ClosePhase.Enters file node r) h found own = absurd (true≢false (sym h))
 file_then files (ClosePhase.Leaves p) h found own = absurd (true≢false (sym h))
 
+close_at : (w : World) (x : ClosePhase) (hook : HookAnswer) → is_at_tree x ≡ true → IsAtTree w (Phase.Closes x) hook
+close_at w x hook at = record {
+  touches = inr (node_call (next x).0 (close_word x at));
+  leaves = close_leaves x at (found_at w.words (Phase.Closes x) hook);
+  off = off_close x at;
+  off_then = off_next x at (found_at w.words (Phase.Closes x) hook);
+}
+
 module _ (c : Config) (within : IsWithin c) (w : World) (good : IsGood c w) (t : ℕ) (lt : t < c.tasks) (hook : HookAnswer) (x : ClosePhase)
     (at : is_at_tree x ≡ true) (e : (w.views t).phase ≡ Some (Phase.Closes x)) where
-  -- the words and the task's view after its next event, what the event finds, what comes after it, and its action
-  abbrev close_words : Words
-  close_words = words_after w.words (Phase.Closes x) hook
-
   abbrev close_view : View
   close_view = view_after (w.views t) (Phase.Closes x) (value_at w.words (Phase.Closes x) hook) hook
 
@@ -171,165 +165,27 @@ module _ (c : Config) (within : IsWithin c) (w : World) (good : IsGood c w) (t :
   role_now : tree_roles w t ≡ close_tree_role x
   role_now = ap (tree_role_of (w.views t).trace) e
 
-  held_still : held_at close_view ≡ held_at (w.views t)
-  held_still = mounts_of_after close_action (w.views t).actions ∙ (close_leaves x at close_found).mounts (held_at (w.views t))
-
-  levels_still : holds_level close_view ≡ holds_level (w.views t)
-  levels_still = levels_of_after close_action (w.views t).actions ∙ (close_leaves x at close_found).levels (holds_level (w.views t))
-
-  opens_then : has_open close_view ≡ opens_by close_action (has_open (w.views t))
-  opens_then = opens_of_after close_action (w.views t).actions
-
-  was_off : IsOffGates (w.views t).phase
-  was_off = subst IsOffGates (sym e) (off_close x at)
-
-  pub now_off : IsOffGates close_view.phase
-  now_off = off_next x at close_found
-
-  pub beside : IsBesideTree w.words close_words
-  beside = write_beside w.words (next x).0 (left (next x).1 (read w.words (next x).0)) (node_call (next x).0 (close_word x at))
-
-  nowhere : CountsNowhere (next x)
-  nowhere = counts_nowhere (next x) (inr (node_call (next x).0 (close_word x at)))
-
-  -- what the parts of mounts, levels and sections read of the task's view is the same
-  gate_view : (part : Part) → is_gate_part part ≡ true → SameView (w.views t) close_view part
-  gate_view (AtMount m) h =
-      view_as (ap (λ f. f m) held_still) (ap (λ f. f m) (nowhere.added (added_by (w.views t).events)))
-      (ap (λ f. f m) (nowhere.taken (taken_by (w.views t).events))) (now_off.out_of_mounts m ∙ sym (was_off.out_of_mounts m))
-  gate_view (AtLevel i) h =
-      level_view_as (ap (λ (f : ℕ → Bool). if f i then 1 else 0) levels_still)
-      (ap (λ f. f i) (nowhere.level_added (level_added_by (w.views t).events)))
-      (ap (λ f. f i) (nowhere.level_taken (level_taken_by (w.views t).events)))
-      (now_off.off_levels.counts_not i ∙ sym (was_off.off_levels.counts_not i))
-  gate_view (SyncAt i) h = now_off.off_levels.apart i ∙ sym (was_off.off_levels.apart i)
-  gate_view Sections h = now_off.off_levels.outside ∙ sym was_off.off_levels.outside
-  gate_view Holding h = now_off.unheld ∙ sym was_off.unheld
-  gate_view part h = absurd (true≢false (sym h))
-
-  gate_parts : (part : Part) → is_gate_part part ≡ true → Holds c (after_step w t (Phase.Closes x) hook) part
-  gate_parts part h =
-      left_alone c w t lt part close_words close_view (gate_words part h w.words close_words beside) (gate_view part h) (good part)
-
-  close_fitting : Holds c (after_step w t (Phase.Closes x) hook) Fitting
-  close_fitting y ly =
-      each_updated (λ z (u : View). ViewFits c z u) w.views t close_view y
-      (subst (λ k. Fits c t k (holds_level close_view) close_view.phase) (sym (mounts_of_after close_action (w.views t).actions))
-      (subst (λ k. Fits c t (mounts_by close_action (held_at (w.views t))) k close_view.phase)
-      (sym (levels_of_after close_action (w.views t).actions))
-      (close_goes c t (held_at (w.views t)) (holds_level (w.views t)) x close_found fits_now)))
-      (λ ne. good Fitting y ly)
-
-  -- the shown model is as it was but for the tree and the task's open files
-  close_shown : shown c (after_step w t (Phase.Closes x) hook) ≡ record (shown c w) {
-    opens = update (shown c w).opens t (opens_by close_action ((shown c w).opens t));
-    tree = λ n. node_shown (close_words.node n);
-  }
-  close_shown =
-      shown_as c w t lt close_words close_view beside.block_same (λ i. now_off.closing_none i ∙ sym (was_off.closing_none i)) ∙
-      (λ j. record (shown c w) {
-        mounts = (ap (update (λ y. held_at (w.views y)) t) held_still ∙ update_same (λ y. held_at (w.views y)) t) j;
-        levels = (ap (update (λ y. holds_level (w.views y)) t) levels_still ∙ update_same (λ y. holds_level (w.views y)) t) j;
-        opens = ap (update (λ y. has_open (w.views y)) t) opens_then j;
-        mount_ro = λ m. ro_bit (beside.flags_same j m) == 1;
-        sb_ro = beside.remount_same j == 1 || beside.sb_same j == 1;
-        stage = beside.stage_same j;
-        holders = holders_in (beside.holders_same j);
-        tree = λ n. node_shown (close_words.node n);
-      })
-
-  -- so where the nodes that are shown move by the event's action, the model does
-  shown_moves : (action : Option Action) → close_action ≡ action → LeaveFor c w good t lt action →
-      MovesBy (tree_bounds c) w.words.node close_words.node action →
-      ModelMoves c (shown c w) t action (shown c (after_step w t (Phase.Closes x) hook))
-  shown_moves None is leave moves =
-      close_shown ∙
-      (λ j. record (shown c w) {
-        opens = (ap (λ a. update (shown c w).opens t (opens_by a ((shown c w).opens t))) is ∙ update_same (shown c w).opens t) j;
-        tree = moves.0 j;
-      })
-  shown_moves (Some action) is leave moves = (
-    (lt, may_do (model_limits c) (shown c w) t action leave moves.allowed),
-    close_shown ∙
-        (λ j. record (shown c w) {
-          opens = ap (λ a. update (shown c w).opens t (opens_by a ((shown c w).opens t))) is j;
-          tree = (moves.effect ∙ same_counts (tree_bounds c) (opens_shown w.words.node) (openers (shown c w).opens) (shown c w).tree action
-              moves.allowed (λ n ln. (good Files).counted n ln)) j;
-        }) ∙ sym (tree_alone (model_limits c) (shown c w) t action leave),
-  )
-
-  -- as many tasks have each file open as its word says
-  close_files : LeaveFor c w good t lt close_action → MovesBy (tree_bounds c) w.words.node close_words.node close_action →
-      Holds c (after_step w t (Phase.Closes x) hook) Files
-  close_files leave moves = record {
-    counted = λ n ln.
-        files_counted (model_limits c) (shown c w) t (omega (arith, lt, within.tasks, most_tasks_is)) w.words.node close_words.node close_action
-        leave moves (good Files).counted n ln ∙
-        sym (ap (λ f. openers f n) (update_map has_open w.views t close_view ∙ ap (update (λ y. has_open (w.views y)) t) opens_then));
-    own = λ y ly. each_updated (λ z (u : View). HasFile (has_open u) (file_of u.phase)) w.views t close_view y
-        (subst (λ f. HasFile f (file_of close_view.phase)) (sym opens_then) (file_then (has_open (w.views t)) x at close_found has_now))
-        (λ ne. (good Files).own y ly);
-  }
-
   -- what the tree's own law says of the event
   abbrev TreeLaw : Type 0
   TreeLaw = EventKeeps (tree_bounds c) (is_sealed w.words) (is_bare_at w.words) w.words (tree_roles w) t (next x)
       (role_after close_tree_role close_next) close_action
 
-  close_tree : TreeLaw → Holds c (after_step w t (Phase.Closes x) hook) Tree
-  close_tree kept =
-      let now_roles : ℕ → Role = update (tree_roles w) t (tree_role_of close_view.trace close_view.phase) in
-      tree_holds c w good t lt close_words close_view
-      (subst (λ s. TreeHolds (tree_bounds c) (tree_in s (is_bare_at close_words) close_words now_roles))
-      (sym (sealed_beside w.words close_words beside))
-      (subst (λ b. TreeHolds (tree_bounds c) (tree_in (is_sealed w.words) b close_words now_roles))
-      (sym (bare_beside w.words close_words beside))
-      (subst (λ r. TreeHolds (tree_bounds c) (tree_in (is_sealed w.words) (is_bare_at w.words) close_words (update (tree_roles w) t r)))
-      (role_comes close_next close_view.trace) kept.0)))
-
-  plain_work : IsOwnersWork w (Phase.Closes x) hook
-  plain_work = record {
-    changes = λ h. absurd (true≢false (sym h ∙ not_owned (next x).0 (close_word x at)));
-    comes_to_own = λ h. absurd (omega (arith, h, (plain_next close_next).1));
-  }
-
-  each_part : LeaveFor c w good t lt close_action → TreeLaw → (part : Part) → Holds c (after_step w t (Phase.Closes x) hook) part
-  each_part leave kept Owner =
-      left_alone c w t lt Owner close_words close_view
-      (umount_same w.words (next x).0 (left (next x).1 (read w.words (next x).0)) (close_word x at), beside.remount_same)
-      ((plain_next close_next).1 ∙ sym (ap owns e), now_off.remounts_none ∙ sym (ap remounts e)) (good Owner)
-  each_part leave kept Stages =
-      left_alone c w t lt Stages close_words close_view (beside.stage_same, beside.sb_same, beside.remount_same, beside.block_same)
-      ((plain_next close_next).0 ∙ sym (ap stage_role_of e)) (good Stages)
-  each_part leave kept Fitting = close_fitting
-  each_part leave kept Known = known_after c w t (Phase.Closes x) hook good lt e plain_work
-  each_part leave kept Tree = close_tree kept
-  each_part leave kept Files = close_files leave kept.1
-  each_part leave kept Holding = gate_parts Holding refl
-  each_part leave kept (AtMount m) = gate_parts (AtMount m) refl
-  each_part leave kept (AtLevel i) = gate_parts (AtLevel i) refl
-  each_part leave kept (SyncAt i) = gate_parts (SyncAt i) refl
-  each_part leave kept Sections = gate_parts Sections refl
-
   close_kept : LeaveFor c w good t lt close_action → TreeLaw → StepKeeps c w t hook (Phase.Closes x)
-  close_kept leave kept = (each_part leave kept, shown_moves close_action refl leave kept.1)
+  close_kept leave kept = (
+    plain_parts c w good t lt (Phase.Closes x) hook e (close_at w x hook at) (close_word x at) (record { aside = refl; owns_none = refl })
+        (plain_next close_next)
+        (fitting_then c w good t lt (Phase.Closes x) hook e (close_at w x hook at)
+        (close_goes c t (held_at (w.views t)) (holds_level (w.views t)) x close_found fits_now))
+        (tree_then c w good t lt (Phase.Closes x) hook e (close_at w x hook at) (role_after close_tree_role close_next)
+        (role_comes close_next close_view.trace) kept.0)
+        (files_then c w good t lt (Phase.Closes x) hook e (close_at w x hook at) within leave kept.1
+        (file_then (has_open (w.views t)) x at close_found has_now)),
+    shown_moves c w good t lt (Phase.Closes x) hook e (close_at w x hook at) close_action refl leave kept.1,
+  )
 
--- what comes after such an event is inside no section, and has no part in a level; so each level stays
-pub tree_run : (c : Config) (w : World) (t : ℕ) → t < c.tasks → (hook : HookAnswer) (x : ClosePhase) → is_at_tree x ≡ true →
+pub close_run : (c : Config) (w : World) (t : ℕ) → t < c.tasks → (hook : HookAnswer) (x : ClosePhase) → is_at_tree x ≡ true →
     (w.views t).phase ≡ Some (Phase.Closes x) → (i : ℕ) → SyncStep c.tasks (level_in w i) (level_in (after_step w t (Phase.Closes x) hook) i)
-tree_run c w t lt hook x at e i =
-    let off : IsOffGates (Some (Phase.Closes x)) = off_close x at in
-    let now : IsOffGates (phase_after (map_next Phase.Closes (after x (found_at w.words (Phase.Closes x) hook)).0)) = off_next x at
-    (found_at w.words (Phase.Closes x) hook) in
-    apart_run c.tasks w t lt hook (Phase.Closes x) e i
-    (gate_words (SyncAt i) refl w.words (words_after w.words (Phase.Closes x) hook)
-    (write_beside w.words (next x).0 (left (next x).1 (read w.words (next x).0)) (node_call (next x).0 (close_word x at))))
-    off.off_levels.outside (off.off_levels.apart i) now.off_levels.outside (now.off_levels.apart i)
-
--- it leaves the counts of the mounts and of the levels
-pub tree_counts : (w : World) (hook : HookAnswer) (x : ClosePhase) → is_at_tree x ≡ true → IsBesideTree w.words (words_after w.words (Phase.Closes x) hook)
-tree_counts w hook x at =
-    write_beside w.words (next x).0 (left (next x).1 (read w.words (next x).0)) (node_call (next x).0 (close_word x at))
+close_run c w t lt hook x at e i = tree_run c.tasks w t lt (Phase.Closes x) hook e (close_at w x hook at) i
 
 module _ (c : Config) (within : IsWithin c) (w : World) (good : IsGood c w) (t : ℕ) (lt : t < c.tasks) (hook : HookAnswer) where
   abbrev IsHere : ClosePhase → Type 0

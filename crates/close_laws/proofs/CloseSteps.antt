@@ -98,9 +98,6 @@ module _ (c : Config) (w : World) (good : IsGood c w) (t : ℕ) (lt : t < c.task
     abbrev first_world : World
     first_world = rephased w t (Some q)
 
-    first_good : IsGood c first_world
-    first_good = beside_good c w t lt (Some q) before fits good tree files
-
     first_phase : (first_world.views t).phase ≡ Some q
     first_phase = ap (λ (u : View). u.phase) (update_at w.views t (at_phase (w.views t) (Some q)))
 
