@@ -137,9 +137,7 @@ snapshot_small n s = omega arith
 write_small : (c : Config) (lim : IsWithin c) (x : WritePhase) → write_rank x < 20
 write_small c lim (WritePhase.Takes m r) = omega (arith, read_small c lim r.wait r.step)
 write_small c lim (WritePhase.Wants x) = omega (arith, want_small x.step)
-write_small c lim (WritePhase.GivesBack m p refusal) = omega arith
-write_small c lim (WritePhase.Drops m p) = omega arith
-write_small c lim (WritePhase.Ends p) = omega arith
+write_small c lim other = omega arith
 
 close_small : (c : Config) (lim : IsWithin c) (x : ClosePhase) → close_rank x < 20
 close_small c lim (ClosePhase.Enters f node r) = omega (arith, read_small c lim r.wait r.step)

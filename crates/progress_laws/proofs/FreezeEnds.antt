@@ -25,29 +25,22 @@ module _ (w : Words) (d : DownWrite) where
   down_sections (DownWriteStep.AwaitsSections g) = update_same w.section g.task
   down_sections (DownWriteStep.CallsBack Transition.Loads) = refl
   down_sections (DownWriteStep.CallsBack (Transition.Exchanges from to)) = refl
-  down_sections DownWriteStep.AwaitsPassed = refl
-  down_sections DownWriteStep.SetsBlock = refl
-  down_sections (DownWriteStep.Sums sum) = refl
+  down_sections other = refl
 
   down_umount : (s : DownWriteStep) → (after_event w (down_write_next d s)).umount ≡ w.umount
   down_umount (DownWriteStep.Enters Transition.Loads) = refl
   down_umount (DownWriteStep.Enters (Transition.Exchanges from to)) = refl
-  down_umount (DownWriteStep.AwaitsSections g) = refl
   down_umount (DownWriteStep.CallsBack Transition.Loads) = refl
   down_umount (DownWriteStep.CallsBack (Transition.Exchanges from to)) = refl
-  down_umount DownWriteStep.AwaitsPassed = refl
-  down_umount DownWriteStep.SetsBlock = refl
-  down_umount (DownWriteStep.Sums sum) = refl
+  down_umount other = refl
 
   down_counts : (s : DownWriteStep) → (after_event w (down_write_next d s)).level ≡ w.level
   down_counts (DownWriteStep.Enters Transition.Loads) = refl
   down_counts (DownWriteStep.Enters (Transition.Exchanges from to)) = refl
-  down_counts (DownWriteStep.AwaitsSections g) = refl
   down_counts (DownWriteStep.CallsBack Transition.Loads) = refl
   down_counts (DownWriteStep.CallsBack (Transition.Exchanges from to)) = refl
-  down_counts DownWriteStep.AwaitsPassed = refl
-  down_counts DownWriteStep.SetsBlock = refl
   down_counts (DownWriteStep.Sums sum) = ap (λ (ws : Words). ws.level) (load_same w (WordName.LevelCount d.level sum.words))
+  down_counts other = refl
 
 up_sections : (w : Words) (u : UpWrite) (s : UpWriteStep) → (after_event w (up_write_next u s)).section ≡ w.section
 up_sections w u UpWriteStep.ClearsBlock = refl

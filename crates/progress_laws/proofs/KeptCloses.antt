@@ -41,29 +41,21 @@ module _ (w : Words) (d : DownWrite) where
   pub down_beside : (s : DownWriteStep) → StaysBeside w (after_event w (down_write_next d s))
   down_beside (DownWriteStep.Enters Transition.Loads) = record { umount_same = refl; stage_same = refl; sb_same = refl }
   down_beside (DownWriteStep.Enters (Transition.Exchanges from to)) = record { umount_same = refl; stage_same = refl; sb_same = refl }
-  down_beside (DownWriteStep.AwaitsSections g) = record { umount_same = refl; stage_same = refl; sb_same = refl }
   down_beside (DownWriteStep.CallsBack Transition.Loads) = record { umount_same = refl; stage_same = refl; sb_same = refl }
   down_beside (DownWriteStep.CallsBack (Transition.Exchanges from to)) = record { umount_same = refl; stage_same = refl; sb_same = refl }
-  down_beside DownWriteStep.AwaitsPassed = record { umount_same = refl; stage_same = refl; sb_same = refl }
-  down_beside DownWriteStep.SetsBlock = record { umount_same = refl; stage_same = refl; sb_same = refl }
-  down_beside (DownWriteStep.Sums sum) = record { umount_same = refl; stage_same = refl; sb_same = refl }
+  down_beside other = record { umount_same = refl; stage_same = refl; sb_same = refl }
 
   pub down_nodes : (s : DownWriteStep) → (after_event w (down_write_next d s)).node ≡ w.node
   down_nodes (DownWriteStep.Enters Transition.Loads) = refl
   down_nodes (DownWriteStep.Enters (Transition.Exchanges from to)) = refl
-  down_nodes (DownWriteStep.AwaitsSections g) = refl
   down_nodes (DownWriteStep.CallsBack Transition.Loads) = refl
   down_nodes (DownWriteStep.CallsBack (Transition.Exchanges from to)) = refl
-  down_nodes DownWriteStep.AwaitsPassed = refl
-  down_nodes DownWriteStep.SetsBlock = refl
-  down_nodes (DownWriteStep.Sums sum) = refl
+  down_nodes other = refl
 
   pub down_blocks : (s : DownWriteStep) (i : ℕ) → w.block i ≡ 1 → (after_event w (down_write_next d s)).block i ≡ 1
   down_blocks (DownWriteStep.Enters Transition.Loads) i h = h
   down_blocks (DownWriteStep.Enters (Transition.Exchanges from to)) i h = h
-  down_blocks (DownWriteStep.AwaitsSections g) i h = h
   down_blocks (DownWriteStep.CallsBack Transition.Loads) i h = h
   down_blocks (DownWriteStep.CallsBack (Transition.Exchanges from to)) i h = h
-  down_blocks DownWriteStep.AwaitsPassed i h = h
   down_blocks DownWriteStep.SetsBlock i h = each_updated (λ y n. n ≡ 1) w.block d.level 1 i refl (λ ne. h)
-  down_blocks (DownWriteStep.Sums sum) i h = h
+  down_blocks other i h = h

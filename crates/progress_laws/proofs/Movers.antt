@@ -11,21 +11,20 @@ use Rattle.gated_tree.specs.declared.{phases.TreePhase.TreePhase, snapshots.Snap
 use Rattle.mount_counts.specs.{Phases.has_flag, Roles.has_hold}
 use Rattle.mount_counts.specs.declared.{phases.{ChangeStep.ChangeStep, MountPhase.MountPhase}, remounts.RemountStep.RemountStep}
 use Rattle.mount_laws.proofs.Bits.{hold_set}
-use Rattle.percpu_rwsem.specs.declared.{callbacks.CallbackStep.CallbackStep, readers.DownReadStep.DownReadStep}
-use Rattle.percpu_rwsem.specs.declared.writers.{DownWriteStep.DownWriteStep, UpWriteStep.UpWriteStep}
+use Rattle.percpu_rwsem.specs.declared.{readers.DownReadStep.DownReadStep, writers.{DownWriteStep.DownWriteStep, UpWriteStep.UpWriteStep}}
 use Rattle.freeze_levels.specs.declared.{freezes.{Freeze.Freeze, FreezeStep.FreezeStep}, thaws.ThawStep.ThawStep}
-use Rattle.level_laws.specs.{Operations.{down_read_role, down_read_inside, callback_role}, Roles.{Out as IsApart, closed}}
+use Rattle.level_laws.specs.{Operations.down_read_inside, Roles.{Out as IsApart, closed}}
 use Rattle.stage_laws.specs.Roles.{owns as stage_owns}
 use Rattle.write_access.specs.declared.phases.WritePhase.{WritePhase}
 use Rattle.file_closes.specs.declared.phases.ClosePhase.{ClosePhase}
 use Rattle.gate_world.specs.{Configs.IsWithin, Fits.{Fits, PhaseFits}}
-use Rattle.gate_world.specs.Levels.{Stand, stand_count, stand_sync, freeze_stand, thaw_stand, down_count_role, up_count_role, count_role_if, sync_role_if}
-use Rattle.gate_world.specs.Levels.{count_beside, read_count_role, level_role_of, sync_role_of, inside, at_level, is_frozen_whole}
+use Rattle.gate_world.specs.Levels.{Stand, stand_count, stand_sync, freeze_stand, thaw_stand, down_count_role, up_count_role, count_role_if, count_beside}
+use Rattle.gate_world.specs.Levels.{read_count_role, level_role_of, sync_role_of, inside, at_level, is_frozen_whole}
 use Rattle.gate_world.specs.{Operations.{holds_none, holds_none_from}, Remounts.remount_owns}
 use Rattle.gate_world.specs.Rules.{IsGood, Owner, Fitting, AtMount, AtLevel, SyncAt, SyncHoldsIn, LevelHoldsIn, role_of, owns, change_owns}
 use Rattle.gate_world.specs.{Stages.{thaw_stage_role, snapshot_stage_role}, Views.{held_at, holds_level}, Worlds.World}
 use Rattle.gate_world.specs.declared.{config.Config.Config, work.Phase.Phase}
-use Rattle.gate_frames.proofs.Owners.{owns_le, hold_owns, who_holds}
+use Rattle.gate_frames.proofs.{LevelWorlds.{callback_opens, read_opens}, Owners.{owns_le, hold_owns, who_holds}}
 use Rattle.progress_laws.proofs.{Bounds.{is_beside, beside_small, rank_small}, Falls.runs_out}
 use Rattle.progress_laws.specs.{Progress.{EventsKeepRule, ReplyWithin}, Ranks.{most_beside, most_alone}}
 use Rattle.progress_laws.specs.Ways.{IsFree, HoldIsClear, NothingCounted, ChangeIsFree, RemountIsFree, ThawIsFree, SnapshotIsFree, PhaseEnds}
@@ -170,17 +169,6 @@ holds_below levels (suc (suc zero)) j h one three is = below_or 2 j (levels 2) (
 holds_below levels (suc (suc (suc zero))) j h one three is = below_or 3 j (levels 3) (and_parts _ _ (and_parts _ _ h).1).1 is
 holds_below levels (suc (suc (suc (suc n)))) j h one three is = absurd (omega arith)
 
-read_open : (b : Bool) (s : DownReadStep) → closed (sync_role_if b (down_read_role s)) ≡ 0
-read_open true DownReadStep.CountsUpFast = refl
-read_open true s = refl
-read_open false s = refl
-
-callback_open : (b : Bool) (s : CallbackStep) → closed (sync_role_if b (callback_role s)) ≡ 0
-callback_open true (CallbackStep.Claims x) = refl
-callback_open true (CallbackStep.AwaitsSections g) = refl
-callback_open true (CallbackStep.CallsBack x) = refl
-callback_open false s = refl
-
 stand_passed : (i j : ℕ) (s : Option Stand) → i < j → 1 ≤ closed (stand_sync j s) → stand_count i s ≡ Passed
 stand_passed i j None lt h = absurd (omega (arith, h))
 stand_passed i j (Some s) lt h =
@@ -193,12 +181,12 @@ stand_passed i j (Some s) lt h =
     ]
 
 closed_passes : (i j : ℕ) (p : Option Phase) → i < j → 1 ≤ closed (sync_role_of j p) → level_role_of i p ≡ Passed
-closed_passes i j (Some (Phase.DownReads r)) lt h = absurd (omega (arith, h, read_open (j == r.level) r.step))
-closed_passes i j (Some (Phase.Callbacks b)) lt h = absurd (omega (arith, h, callback_open (j == b.level) b.step))
-closed_passes i j (Some (Phase.Writes (WritePhase.Takes m r))) lt h = absurd (omega (arith, h, read_open (j == r.level) r.step))
+closed_passes i j (Some (Phase.DownReads r)) lt h = absurd (omega (arith, h, read_opens (j == r.level) r.step))
+closed_passes i j (Some (Phase.Callbacks b)) lt h = absurd (omega (arith, h, callback_opens (j == b.level) b.step))
+closed_passes i j (Some (Phase.Writes (WritePhase.Takes m r))) lt h = absurd (omega (arith, h, read_opens (j == r.level) r.step))
 closed_passes i j (Some (Phase.Freezes x)) lt h = stand_passed i j (freeze_stand x.step) lt h
 closed_passes i j (Some (Phase.Thaws x)) lt h = stand_passed i j (thaw_stand x.step) lt h
-closed_passes i j (Some (Phase.Closes (ClosePhase.Enters f node r))) lt h = absurd (omega (arith, h, read_open (j == r.level) r.step))
+closed_passes i j (Some (Phase.Closes (ClosePhase.Enters f node r))) lt h = absurd (omega (arith, h, read_opens (j == r.level) r.step))
 closed_passes i j p lt h = absurd (omega (arith, h))
 
 read_out : (b : Bool) (p : ℕ) (s : DownReadStep) → down_read_inside s ≡ 0 → processor_of (count_role_if b (read_count_role p s)) ≡ 0

@@ -38,14 +38,10 @@ module _ (c : Config) (w : World) (good : IsGood c w) (t : ℕ) (lt : t < c.task
         ]
         | inr h ↦ rw h (omega arith, tt)
       ]
-  thaw_falls hook (ThawStep.Leaves held) role fits free = (omega arith, tt)
   thaw_falls hook ThawStep.LoadsSuperblock role fits free =
       elim (eqb_tells w.words.sb 0) [ inl h ↦ rw h.0 (omega arith, tt) | inr h ↦ rw h.0 (omega arith, tt) ]
-  thaw_falls hook ThawStep.UnfreezesReadOnly role fits free = (omega arith, tt)
-  thaw_falls hook ThawStep.LeavesReadOnly role fits free = (omega arith, tt)
   thaw_falls (Ok answer) ThawStep.LeavesLast role fits free = (omega arith, tt)
   thaw_falls (Err code) ThawStep.LeavesLast role fits free = tt
-  thaw_falls hook ThawStep.SetsUnfrozen role fits free = (omega arith, tt)
   thaw_falls hook (ThawStep.Reopens u) role fits free =
       let here : stand_sync u.level (thaw_stand (ThawStep.Reopens u)) ≡ up_write_role u.step =
       ap (λ q. sync_beside q (nat_lt u.level u.level) (up_write_role u.step)) (eq-eqb u.level u.level refl) in
@@ -53,6 +49,7 @@ module _ (c : Config) (w : World) (good : IsGood c w) (t : ℕ) (lt : t < c.task
       (up_write_after u u.step (found_by (up_write_next u u.step).1 (read w.words (up_write_next u u.step).0))).0
       (up_falls c w good t lt u fits.0 fits.1 u.step (role u.level ∙ here))
   thaw_falls hook (ThawStep.Releases answer) role fits free = tt
+  thaw_falls hook other role fits free = (omega arith, tt)
 
 pub thaw_ends : (c : Config) (x : Thaw) → PhaseEnds c (Phase.Thaws x)
 thaw_ends c x = record {

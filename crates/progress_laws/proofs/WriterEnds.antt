@@ -42,10 +42,7 @@ begun_rank processors count none =
 
 entered_rank : (w : Words) (d : DownWrite) (s : GpState) → down_rank w d (entered_from d.tasks s) ≤ d.processors + d.tasks + 2
 entered_rank w d GpState.Idle = omega arith
-entered_rank w d GpState.Enter = omega arith
-entered_rank w d GpState.Passed = omega arith
-entered_rank w d GpState.Exit = omega arith
-entered_rank w d GpState.Replay = omega arith
+entered_rank w d other = omega arith
 
 -- a down-write's next phase is at its level
 abbrev pub DownFalls : Words → DownWrite → ℕ → Next DownWrite → Type 0
