@@ -1,5 +1,5 @@
 -- Every schedule keeps the rule, and its actions are one run of the access model.
-use Rattle.std.proofs.{Common.{◌≡◌, ℕ, ◌*◌, ◌%◌, ◌<◌, ◌≤◌, Bool, true, false, refl, sym, ap, ◌∙◌, subst, inl, inr, arith, true≢false}, Math.Path.fun_ext}
+use Rattle.std.proofs.{Common.{◌≡◌, ℕ, ◌*◌, ◌%◌, ◌<◌, ◌≤◌, true, false, refl, sym, ap, ◌∙◌, subst, inl, inr, arith, true≢false}, Math.Path.fun_ext}
 use Rattle.std.proofs.lemmas.Bool.{cases_Bool, ltb-true, Decides.eqb_tells}
 use Rattle.std.specs.Prelude.{nat_lt, ◌&&◌, is_some, Option, Some, None, List, [], ◌∷◌}
 use Rattle.finite_sums.{proofs.Totals.{each_updated, total_same, total_none, total_bound}, specs.Sums.{update, total}}
@@ -24,10 +24,6 @@ use Rattle.gate_world.specs.Worlds.{opening, history}
 use Rattle.gate_world.specs.declared.{config.Config.Config, operations.Op.Op, views.View.View, work.Phase.Phase}
 use Rattle.gate_frames.proofs.{Beside.beside_of, Frames.{view_as, left_alone, opens_left, shown_still, level_view_as}, Trees.tree_within}
 use Rattle.gate_core.proofs.{Beginnings.{MayBegin, may_begin, first_fits}, Layers.{phase_keeps, op_keeps}}
-
-pub both : (a b : Bool) → (a && b) ≡ true → (a ≡ true) × (b ≡ true)
-both true b h = (refl, h)
-both false b h = absurd (true≢false (sym h))
 
 pub idle_is : (p : Option Phase) → is_some p ≡ false → p ≡ None
 idle_is None h = refl

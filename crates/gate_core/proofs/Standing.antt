@@ -10,11 +10,9 @@ relies : (stage sb nodes words : ℕ) (s : SnapshotStep) → words_loaded nodes 
     stage ≡ 4
 relies stage sb nodes words SnapshotStep.Locks e knows = absurd (true≢false (sym (ap is_some e)))
 relies stage sb nodes words SnapshotStep.LoadsStage e knows = absurd (true≢false (sym (ap is_some e)))
-relies stage sb nodes words SnapshotStep.LoadsUsed e knows = knows.0
-relies stage sb nodes words (SnapshotStep.LoadsNode n) e knows = knows.0
-relies stage sb nodes words (SnapshotStep.LoadsKids n) e knows = knows.0
 relies stage sb nodes words (SnapshotStep.Releases (Ok reply)) e knows = knows.0
 relies stage sb nodes words (SnapshotStep.Releases (Err refusal)) e knows = absurd (true≢false (sym (ap is_some e)))
+relies stage sb nodes words other e knows = knows.0
 
 pub snapshots_stand : (c : Config) (w : World) → IsGood c w → SnapshotsStand c w
 snapshots_stand c w good t x words lt at e = (
