@@ -3,8 +3,8 @@ use Rattle.std.{proofs.Common.{◌≡◌, ℕ, true, false, ◌<◌, refl, sym, 
 use Rattle.percpu_rwsem.specs.{SyncWords.is_queued, declared.sync_word.GpState.GpState}
 use Rattle.level_laws.proofs.TransitionLaws.{entered_not_idle, calls_idle}
 use Rattle.level_laws.specs.Changes.{state_found_in, state_found}
-use Rattle.level_laws.specs.Events.{SyncLevel, SyncLevelHolds, SyncEvent, TurnsSection, FindsIdle, AddsFast, Enters, Looks, Passes, Swaps, Opens, Exits, Claims}
-use Rattle.level_laws.specs.Events.{LooksClaimed, Calls, Freezes, Thaws, Stays, Happens}
+use Rattle.level_laws.specs.Events.{SyncLevel, SyncLevelHolds, SyncEvent, FindsIdle, Enters, Looks, Passes, Exits, Claims, LooksClaimed, Calls, Thaws, Stays}
+use Rattle.level_laws.specs.Events.{Happens}
 use Rattle.level_laws.specs.{Laws.OnlyCallbacksIdle, Roles.Ready}
 use Rattle.level_laws.proofs.EventLaws
 use Rattle.level_laws.proofs.NumberLaws
