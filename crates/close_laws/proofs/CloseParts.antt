@@ -2,7 +2,7 @@
 -- task's open files.
 use Rattle.std.proofs.Common.{arith, ◌≡◌, ℕ, ◌<◌, ◌∙◌, inl, inr, refl, sym, ap, Bool, true, false, true≢false, subst}
 use Rattle.std.proofs.lemmas.Bool.{cases_Bool, Decides.eqb_tells}
-use Rattle.std.specs.Prelude.{◌==◌, ◌||◌, ◌&&◌, List, Option, Some, None, Result, Ok, Err, if◌then◌else◌}
+use Rattle.std.specs.Prelude.{◌==◌, ◌&&◌, List, Option, Some, None, Result, Ok, Err}
 use Rattle.access_model.specs.{Replies.map_next, States.is_removed, declared.{actions.Action.Action, errors.GateError.GateError, replies.Next.Next}}
 use Rattle.cpu_words.specs.Hooks.{HookAnswer}
 use Rattle.gate_counts.specs.Levels.{Out as CountsNot}

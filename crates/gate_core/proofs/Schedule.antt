@@ -1,7 +1,7 @@
 -- Every schedule keeps the rule, and its actions are one run of the access model.
 use Rattle.std.proofs.{Common.{◌≡◌, ℕ, ◌*◌, ◌%◌, ◌<◌, ◌≤◌, true, false, refl, sym, ap, ◌∙◌, subst, inl, inr, arith, true≢false}, Math.Path.fun_ext}
 use Rattle.std.proofs.lemmas.Bool.{cases_Bool, ltb-true, Decides.eqb_tells}
-use Rattle.std.specs.Prelude.{nat_lt, ◌&&◌, is_some, Option, Some, None, List, [], ◌∷◌}
+use Rattle.std.specs.Prelude.{nat_lt, is_some, Option, Some, None, List, [], ◌∷◌}
 use Rattle.finite_sums.{proofs.Totals.{each_updated, total_same, total_none, total_bound}, specs.Sums.{update, total}}
 use Rattle.access_model.specs.{Actions.{IsAllowed, after_action}, Histories.{Done, end_of, IsLegal}, States.{State, opening_state, openers, most_tasks, one_if}}
 use Rattle.access_model.specs.declared.{actions.Action.Action, errors.GateError.GateError}

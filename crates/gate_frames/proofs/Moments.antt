@@ -1,5 +1,5 @@
 -- Moments of a schedule: the last question, the last look at the stage, the moments of a sum, and what was counted.
-use Rattle.std.proofs.{Common.{◌≡◌, ℕ, ◌<◌, Bool, true, false, refl, inl, inr, arith, ◌%◌, ◌≤◌, true≢false}, lemmas.Bool.{ne_eqb, ltb-false, cases_Bool}}
+use Rattle.std.proofs.{Common.{◌≡◌, ℕ, ◌<◌, Bool, true, false, refl, inl, inr, arith, ◌%◌, true≢false}, lemmas.Bool.{ne_eqb, ltb-false, cases_Bool}}
 use Rattle.std.specs.Prelude.{nat_lt, Some, List, ◌∷◌, ◌||◌, None, []}
 use Rattle.finite_sums.specs.Sums.{total}
 use Rattle.cpu_words.specs.Sums.{lead, ahead}

@@ -5,7 +5,7 @@ use Rattle.std.proofs.lemmas.Nat.{or_lt, and_le_l}
 use Rattle.std.proofs.lemmas.Nat.Bits.{bit_at-zero, bit_at_above, bit_at_set_same, bit_at_set_other, bit_at_clear_same, bit_at_clear_other}
 use Rattle.std.proofs.lemmas.Nat.Bits.{bit_at-trailing_zeros}
 use Rattle.std.specs.{Int.{bit_at, bit_not, w8}, Prelude.{◌==◌, nat_lt, bit_or, bit_and}}
-use Rattle.mount_counts.specs.{Sets.{has_mount, one_mount, no_mounts, with_mount, lowest, without_lowest}, declared.sets.MountSet.MountSet}
+use Rattle.mount_counts.specs.{Sets.{has_mount, one_mount, with_mount, lowest, without_lowest}, declared.sets.MountSet.MountSet}
 
 pub none_held : (held : MountSet) → held.bits ≡ 0 → (n : ℕ) → has_mount held n ≡ false
 none_held held e n = ap (λ b. bit_at b n == 1) e ∙ (let z : bit_at 0 n ≡ 0 = bit_at-zero n in ap (λ b. b == 1) z)

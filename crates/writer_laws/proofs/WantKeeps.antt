@@ -1,5 +1,5 @@
 -- All that is proved of a want and of a drop.
-use Rattle.std.{proofs.{Common.{◌≡◌, ℕ, Bool, true, arith, ap, ◌∙◌, refl, subst}, lemmas.Bool.ltb-true}, specs.Prelude.{nat_lt, Some, ◌&&◌, ◌∷◌}}
+use Rattle.std.{proofs.{Common.{◌≡◌, ℕ, Bool, true, arith, ap, ◌∙◌, refl, subst}, lemmas.Bool.ltb-true}, specs.Prelude.{nat_lt, Some, ◌∷◌}}
 use Rattle.access_model.specs.declared.replies.Next.{Next}
 use Rattle.mount_counts.specs.{Phases.want_after, declared.phases.{MountPhase.MountPhase, Want.Want}}
 use Rattle.gate_world.specs.{Causes.asks, Fits.Fits, Rules.Fitting, Traces.most_events, Views.{held_at, holds_level}, Worlds.{World, after_step, found_at}}
