@@ -1,43 +1,18 @@
 -- All that is proved of the beginnings and the traces of the operations at the tree.
-use Rattle.std.proofs.Common.{not, sym}
-use Rattle.gate_frames.proofs.OpenTraces.{open_tells, open_short}
-use Rattle.std.proofs.Common.{◌≡◌, ℕ, Bool, true, arith, refl}
-use Rattle.std.proofs.lemmas.Bool.{ltb-true}
-use Rattle.std.specs.Prelude.{nat_lt, ◌&&◌, false}
+use Rattle.std.{proofs.{Common.{not, sym, ◌≡◌, ℕ, Bool, true, arith, refl}, lemmas.Bool.ltb-true}, specs.Prelude.{nat_lt, false}}
 use Rattle.access_model.specs.declared.actions.Kind.{Kind}
-use Rattle.gate_world.specs.declared.config.Config.{Config}
-use Rattle.gate_world.specs.declared.operations.Op.TheVariants.{
-  Create as CreateOp,
-  Remove as RemoveOp,
-  Grow as GrowOp,
-  MoveTo as MoveToOp,
-  Fault as FaultOp,
-  Flush as FlushOp,
-  Open as OpenOp,
-  Snapshot as SnapshotOp,
-}
-use Rattle.gate_world.specs.Traces.{most_events}
-use Rattle.gate_frames.proofs.Keeps.{by_bool, none_agree, IsSmall, OpKeeps}
-use Rattle.gate_frames.proofs.CreateTraces.{create_tells, create_short}
-use Rattle.gate_frames.proofs.RemoveTraces.{remove_tells, remove_short}
-use Rattle.gate_frames.proofs.GrowTraces.{grow_tells, grow_short}
-use Rattle.gate_frames.proofs.MoveTraces.{move_tells, move_short}
-use Rattle.gate_frames.proofs.MarkTraces.{fault_tells, fault_short, flush_tells, flush_short}
-use Rattle.gate_frames.proofs.SnapshotTraces.{snapshot_tells, snapshot_short}
+use Rattle.gate_world.specs.{Traces.most_events, declared.{config.Config.Config, operations.Op.Op}}
+use Rattle.gate_frames.proofs.{CreateTraces.{create_tells, create_short}, GrowTraces.{grow_tells, grow_short}, Keeps.{by_bool, none_agree, IsSmall, OpKeeps}}
+use Rattle.gate_frames.proofs.{MarkTraces.{fault_tells, fault_short, flush_tells, flush_short}, MoveTraces.{move_tells, move_short}}
+use Rattle.gate_frames.proofs.{OpenTraces.{open_tells, open_short}, RemoveTraces.{remove_tells, remove_short}, SnapshotTraces.{snapshot_tells, snapshot_short}}
+use Rattle.gate_frames.proofs.TreeHolders.{both_true}
 use Rattle.call_laws.proofs.TreeFits.{writer_agrees, faulter_agrees}
 
--- what is true of both is true of each
-both_true : (a b : Bool) → (a && b) ≡ true → (a ≡ true) × (b ≡ true)
-both_true true b e = (refl, e)
-both_true false b e = absurd cc
-
--- what isn't true is false
 not_false : (b : Bool) → not b ≡ true → b ≡ false
 not_false true e = sym e
 not_false false e = refl
 
--- of a create
-pub create_keeps : (c : Config) (d : ℕ) (kind : Kind) → OpKeeps c (CreateOp d kind)
+pub create_keeps : (c : Config) (d : ℕ) (kind : Kind) → OpKeeps c (Op.Create d kind)
 create_keeps c d kind = record {
   fits = λ t held levels there order room. ((ltb-true d c.nodes there, refl, tt), order);
   starts_idle = λ t. assumption;
@@ -52,8 +27,7 @@ create_keeps c d kind = record {
   most_small = λ within. omega (arith, within.nodes);
 }
 
--- of a remove
-pub remove_keeps : (c : Config) (file : ℕ) → OpKeeps c (RemoveOp file)
+pub remove_keeps : (c : Config) (file : ℕ) → OpKeeps c (Op.Remove file)
 remove_keeps c file = record {
   fits = λ t held levels there order room. ((ltb-true file c.nodes there, tt), order);
   starts_idle = λ t. assumption;
@@ -68,8 +42,7 @@ remove_keeps c file = record {
   most_small = λ within. omega arith;
 }
 
--- of a grow
-pub grow_keeps : (c : Config) (file blocks : ℕ) → OpKeeps c (GrowOp file blocks)
+pub grow_keeps : (c : Config) (file blocks : ℕ) → OpKeeps c (Op.Grow file blocks)
 grow_keeps c file blocks = record {
   fits = λ t held levels there order room.
       let both : (nat_lt file c.nodes ≡ true) × (nat_lt 0 blocks ≡ true) = both_true (nat_lt file c.nodes) (nat_lt 0 blocks) there in
@@ -86,8 +59,7 @@ grow_keeps c file blocks = record {
   most_small = λ within. omega arith;
 }
 
--- of a move
-pub move_keeps : (c : Config) (file dir : ℕ) → OpKeeps c (MoveToOp file dir)
+pub move_keeps : (c : Config) (file dir : ℕ) → OpKeeps c (Op.MoveTo file dir)
 move_keeps c file dir = record {
   fits = λ t held levels there order room.
       let both : (nat_lt file c.nodes ≡ true) × (nat_lt dir c.nodes ≡ true) = both_true (nat_lt file c.nodes) (nat_lt dir c.nodes) there in
@@ -104,8 +76,7 @@ move_keeps c file dir = record {
   most_small = λ within. omega arith;
 }
 
--- of a page fault
-pub fault_keeps : (c : Config) (file : ℕ) → OpKeeps c (FaultOp file)
+pub fault_keeps : (c : Config) (file : ℕ) → OpKeeps c (Op.Fault file)
 fault_keeps c file = record {
   fits = λ t held levels there order room. (ltb-true file c.nodes there, order);
   starts_idle = λ t. assumption;
@@ -120,8 +91,7 @@ fault_keeps c file = record {
   most_small = λ within. omega arith;
 }
 
--- of a write-back
-pub flush_keeps : (c : Config) (file : ℕ) → OpKeeps c (FlushOp file)
+pub flush_keeps : (c : Config) (file : ℕ) → OpKeeps c (Op.Flush file)
 flush_keeps c file = record {
   fits = λ t held levels there order room. (ltb-true file c.nodes there, order);
   starts_idle = λ t. assumption;
@@ -136,8 +106,7 @@ flush_keeps c file = record {
   most_small = λ within. omega arith;
 }
 
--- of an open
-pub open_keeps : (c : Config) (file : ℕ) → OpKeeps c (OpenOp file)
+pub open_keeps : (c : Config) (file : ℕ) → OpKeeps c (Op.Open file)
 open_keeps c file = record {
   fits = λ t held levels there order room. ((ltb-true file c.nodes there, tt), tt);
   starts_idle = λ t. assumption;
@@ -152,8 +121,7 @@ open_keeps c file = record {
   most_small = λ within. omega arith;
 }
 
--- of a snapshot
-pub snapshot_keeps : (c : Config) (wait : Bool) → OpKeeps c (SnapshotOp wait)
+pub snapshot_keeps : (c : Config) (wait : Bool) → OpKeeps c (Op.Snapshot wait)
 snapshot_keeps c wait = record {
   fits = λ t held levels there order room. ((refl, refl, tt), order);
   starts_idle = λ t. assumption;
@@ -165,5 +133,5 @@ snapshot_keeps c wait = record {
   file = λ t files own closed. tt;
   tells = λ within t trace h. snapshot_tells wait c within t trace h;
   short = λ within t trace h. snapshot_short wait c within t trace h;
-  most_small = λ within. by_bool wait (λ b. IsSmall (most_events c (SnapshotOp b))) tt (omega (arith, within.nodes));
+  most_small = λ within. by_bool wait (λ b. IsSmall (most_events c (Op.Snapshot b))) tt (omega (arith, within.nodes));
 }

@@ -1,32 +1,22 @@
 -- All that is proved of each event of a call at the tree.
-use Rattle.gate_world.specs.Rules.{Fitting}
-use Rattle.gate_world.specs.Fits.{Fits}
 use Rattle.std.proofs.Common.{subst}
 use Rattle.gated_tree.specs.declared.phases.TreePhase.{TreePhase}
-use Rattle.gate_world.specs.declared.config.Config.{Config}
-use Rattle.gate_world.specs.declared.work.Phase.TheVariants.{Trees}
-use Rattle.gate_world.specs.Views.{held_at, holds_level}
-use Rattle.gate_world.specs.Worlds.{after_step}
-use Rattle.gate_frames.proofs.Keeps.{PhaseKeeps}
-use Rattle.call_laws.proofs.CallSteps.{call_step, call_completes}
+use Rattle.gate_world.specs.{Fits.Fits, Rules.Fitting, Views.{held_at, holds_level}, Worlds.after_step, declared.{config.Config.Config, work.Phase.Phase}}
+use Rattle.gate_frames.proofs.{Keeps.PhaseKeeps, NodeEvents.tree_run, NodeParts.{call_goes, call_at}}
+use Rattle.call_laws.proofs.{CallSteps.{call_step, call_completes}, TreeCauses.{tree_stays, tree_own}, TreeFits.{tree_acts, tree_agrees}, TreeWaits.tree_waits}
 use Rattle.call_laws.proofs.TreeWords.{tree_there}
-use Rattle.call_laws.proofs.TreeFits.{tree_acts, tree_goes, tree_agrees}
-use Rattle.call_laws.proofs.TreeRuns.{tree_runs}
-use Rattle.call_laws.proofs.TreeCauses.{tree_stays, tree_own}
-use Rattle.call_laws.proofs.TreeWaits.{tree_waits}
 
--- of each phase of a call at the tree
-pub tree_phase_keeps : (c : Config) (x : TreePhase) → PhaseKeeps c (Trees x)
+pub tree_phase_keeps : (c : Config) (x : TreePhase) → PhaseKeeps c (Phase.Trees x)
 tree_phase_keeps c x = record {
   step = λ within w good t lt hook e. call_step c within w good t lt hook x e;
-  runs = λ within w good t lt hook e i one three. tree_runs c.tasks w t lt hook x e i;
+  runs = λ within w good t lt hook e i one three. tree_run c.tasks w t lt (Phase.Trees x) hook e (call_at w x hook) i;
   completes = λ within w good t lt hook e. call_completes c within w good t lt hook x e;
   word = λ n le t lt held levels hook f. tree_there c n t x hook f.0;
-  acts = λ within t held levels found hook f. tree_acts c within t held levels x found hook f;
-  goes = λ within t held levels found hook f. tree_goes c within t held levels x found hook f;
+  acts = λ within t held levels found hook f. tree_acts held c within t levels x found hook f;
+  goes = λ within t held levels found hook f. call_goes c held levels within t x found hook f;
   agrees = λ t f g h k mounts levels fits. tree_agrees c f g h k mounts levels t x fits;
   stays = λ w next earlier good t fits e was quiet h. tree_stays c t w next earlier x e h;
-  causes = λ w earlier good t lt hook e after is h. tree_own c t w (after_step w t (Trees x) hook) earlier hook x e is;
+  causes = λ w earlier good t lt hook e after is h. tree_own c t w (after_step w t (Phase.Trees x) hook) earlier hook x e is;
   reasons = λ within w earlier good t lt hook e cause.
       tree_waits c w earlier t good lt hook x e (subst (Fits c t (held_at (w.views t)) (holds_level (w.views t))) e (good Fitting t lt)) cause;
 }

@@ -1,47 +1,26 @@
 -- The last load of a snapshot: the tree that it has loaded is the present one.
-use Rattle.std.proofs.Common.{◌≡◌, ℕ, ◌+◌, ◌<◌, ◌≤◌, sym, subst, ap, inl, inr, arith, true≢false, suc, ◌∙◌}
+use Rattle.std.proofs.{Common.{◌≡◌, ℕ, ◌+◌, ◌<◌, ◌≤◌, sym, subst, ap, inl, inr, arith, true≢false, suc, ◌∙◌}, lemmas.Bool.{lt-ltb, le-ltb, cases_lt}}
 use Rattle.std.specs.Prelude.{Some, None, is_some}
-use Rattle.std.proofs.lemmas.Bool.{lt-ltb, le-ltb, cases_lt}
-use Rattle.cpu_words.specs.Hooks.{HookAnswer}
-use Rattle.cpu_words.specs.declared.names.WordName.TheVariants.{Kids}
-use Rattle.gated_tree.specs.Phases.{at_snapshot}
-use Rattle.gated_tree.specs.Roles.{RoleHolds, tree_word, seen_as}
-use Rattle.gated_tree.specs.Trees.{loaded}
-use Rattle.gated_tree.specs.declared.phases.TreePhase.TheVariants.{Snapshot as Snapshots}
-use Rattle.gated_tree.specs.declared.snapshots.Snapshot.{Snapshot}
-use Rattle.gated_tree.specs.declared.snapshots.SnapshotStep.{SnapshotStep}
-use Rattle.gated_tree.specs.declared.snapshots.SnapshotStep.TheVariants.{LoadsKids}
-use Rattle.gated_tree.specs.declared.trees.TreeWords.{TreeWords}
-use Rattle.gate_world.specs.declared.config.Config.{Config}
-use Rattle.gate_world.specs.declared.work.Phase.TheVariants.{Trees}
-use Rattle.gate_world.specs.Configs.{IsWithin}
-use Rattle.gate_world.specs.Fits.{Fits, PhaseFits}
-use Rattle.gate_world.specs.Moments.{IsPresentTree, CompletesNow}
-use Rattle.gate_world.specs.Rules.{IsGood, Fitting, Stages, Tree}
-use Rattle.gate_world.specs.Snapshots.{loads_noted, values_noted, snapshot_completes}
-use Rattle.gate_world.specs.Stages.{stage_role_of}
-use Rattle.gate_world.specs.Trees.{tree_bounds, tree_role_of}
-use Rattle.gate_world.specs.Views.{held_at, holds_level}
-use Rattle.gate_world.specs.Worlds.{World}
+use Rattle.cpu_words.specs.{Hooks.HookAnswer, declared.names.WordName.WordName}
+use Rattle.gated_tree.specs.{Phases.at_snapshot, Roles.{RoleHolds, tree_word, seen_as}, Trees.loaded}
+use Rattle.gated_tree.specs.declared.{phases.TreePhase.TreePhase, snapshots.{Snapshot.Snapshot, SnapshotStep.SnapshotStep}, trees.TreeWords.TreeWords}
 use Rattle.stage_laws.specs.Roles.{KnowsStage}
-use Rattle.call_laws.proofs.Noted.{IsLong, loaded_long, noted_long, last_load, AreWords}
+use Rattle.gate_world.specs.{Configs.IsWithin, Fits.{Fits, PhaseFits}, Moments.{IsPresentTree, CompletesNow}, Rules.{IsGood, Fitting, Stages, Tree}}
+use Rattle.gate_world.specs.{Snapshots.{loads_noted, values_noted, snapshot_completes}, Stages.stage_role_of, Trees.{tree_bounds, tree_role_of}}
+use Rattle.gate_world.specs.{Views.{held_at, holds_level}, Worlds.World, declared.{config.Config.Config, work.Phase.Phase}}
+use Rattle.call_laws.proofs.{NodeCauses.some_is, Noted.{IsLong, loaded_long, noted_long, last_load, AreWords}}
 
--- something is not nothing
 nothing_is_some : {A : Type 0} (a : A) → None ≡ Some a → ⊥
 nothing_is_some a h = true≢false (ap is_some (sym h))
 
--- what is something is that
-something_is : {A : Type 0} (a b : A) → Some a ≡ Some b → a ≡ b
-something_is a b e = cc
-
 module _ (c : Config) (w : World) (good : IsGood c w) (t : ℕ) (lt : t < c.tasks) (x : Snapshot) (n : ℕ)
-    (e : (w.views t).phase ≡ Some (Trees (Snapshots (at_snapshot x (LoadsKids n))))) where
+    (e : (w.views t).phase ≡ Some (Phase.Trees (TreePhase.Snapshot (at_snapshot x (SnapshotStep.LoadsKids n))))) where
   -- the words that were loaded, with this load
   abbrev here_loaded : TreeWords
-  here_loaded = loaded (loads_noted x.nodes (w.views t).trace) (Kids n) (w.words.kids n)
+  here_loaded = loaded (loads_noted x.nodes (w.views t).trace) (WordName.Kids n) (w.words.kids n)
 
   -- its numbers fit
-  here_fits : PhaseFits c t (held_at (w.views t)) (holds_level (w.views t)) (Trees (Snapshots (at_snapshot x (LoadsKids n))))
+  here_fits : PhaseFits c t (held_at (w.views t)) (holds_level (w.views t)) (Phase.Trees (TreePhase.Snapshot (at_snapshot x (SnapshotStep.LoadsKids n))))
   here_fits = subst (Fits c t (held_at (w.views t)) (holds_level (w.views t))) e (good Fitting t lt)
 
   -- each word that it loaded before is still what it was
@@ -53,10 +32,9 @@ module _ (c : Config) (w : World) (good : IsGood c w) (t : ℕ) (lt : t < c.task
       ((good Tree).roles t lt)
 
   -- it relies on stage 4
-  here_knows : KnowsStage w.words.stage w.words.sb (stage_role_of (Some (Trees (Snapshots (at_snapshot x (LoadsKids n))))))
+  here_knows : KnowsStage w.words.stage w.words.sb (stage_role_of (Some (Phase.Trees (TreePhase.Snapshot (at_snapshot x (SnapshotStep.LoadsKids n))))))
   here_knows = subst (λ p. KnowsStage w.words.stage w.words.sb (stage_role_of p)) e ((good Stages).knows t lt)
 
-  -- so where this is its last load, it has loaded the present tree
   here_present : x.nodes ≤ n + 1 → IsPresentTree c w.words here_loaded
   here_present last =
       let same : x.nodes ≡ c.nodes = here_fits.0.1 in
@@ -70,28 +48,27 @@ module _ (c : Config) (w : World) (good : IsGood c w) (t : ℕ) (lt : t < c.task
       here_reads) in
       record {
         frozen = here_knows.0;
-        whole = (loaded_long x.nodes words (Kids n) (w.words.kids n) long).0 ∙ same;
+        whole = (loaded_long x.nodes words (WordName.Kids n) (w.words.kids n) long).0 ∙ same;
         used = are.0;
         nodes = λ i li. are.1 i (omega (arith, li, same));
         kids = λ i li. are.2 i (omega (arith, li, same));
       }
 
-  -- what it completes is that
-  here_completes : (found : TreeWords) → snapshot_completes x.nodes (LoadsKids n) (w.views t).trace (w.words.kids n) ≡ Some found →
+  here_completes : (found : TreeWords) → snapshot_completes x.nodes (SnapshotStep.LoadsKids n) (w.views t).trace (w.words.kids n) ≡ Some found →
       IsPresentTree c w.words found
   here_completes found is =
       elim (cases_lt (n + 1) x.nodes) [
         | inl l ↦ absurd (nothing_is_some found (rw (lt-ltb (n + 1) x.nodes l) at is))
-        | inr l ↦ subst (IsPresentTree c w.words) (something_is here_loaded found (rw (le-ltb (n + 1) x.nodes l) at is)) (here_present l)
+        | inr l ↦ subst (IsPresentTree c w.words) (some_is here_loaded found (rw (le-ltb (n + 1) x.nodes l) at is)) (here_present l)
       ]
 
 -- only its load of the children of a node may complete a snapshot
 step_completes : (c : Config) (w : World) → IsGood c w → (t : ℕ) → t < c.tasks → (hook : HookAnswer) (x : Snapshot) (s : SnapshotStep) →
-    (w.views t).phase ≡ Some (Trees (Snapshots (at_snapshot x s))) → CompletesNow c w t hook (Trees (Snapshots (at_snapshot x s)))
-step_completes c w good t lt hook x (LoadsKids n) e found is = here_completes c w good t lt x n e found is
+    (w.views t).phase ≡ Some (Phase.Trees (TreePhase.Snapshot (at_snapshot x s))) → CompletesNow c w t hook (Phase.Trees (TreePhase.Snapshot (at_snapshot x s)))
+step_completes c w good t lt hook x (SnapshotStep.LoadsKids n) e found is = here_completes c w good t lt x n e found is
 step_completes c w good t lt hook x s e found is = absurd (nothing_is_some found is)
 
 -- a snapshot that an event completes is of the present tree
 pub snapshot_completes_now : (c : Config) → IsWithin c → (w : World) → IsGood c w → (t : ℕ) → t < c.tasks → (hook : HookAnswer)
-    (x : Snapshot) → (w.views t).phase ≡ Some (Trees (Snapshots x)) → CompletesNow c w t hook (Trees (Snapshots x))
+    (x : Snapshot) → (w.views t).phase ≡ Some (Phase.Trees (TreePhase.Snapshot x)) → CompletesNow c w t hook (Phase.Trees (TreePhase.Snapshot x))
 snapshot_completes_now c within w good t lt hook x e = step_completes c w good t lt hook x x.step e

@@ -4,7 +4,6 @@ pub mod Completes
 pub mod SnapshotEvents
 pub mod TreeWords
 pub mod TreeFits
-pub mod TreeRuns
 pub mod TreeWaits
 pub mod TreeCauses
 pub mod NodeCauses

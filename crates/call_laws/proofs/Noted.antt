@@ -1,51 +1,13 @@
 -- What the loads of a trace have noted of the tree, and what a snapshot's next load adds.
-use Rattle.std.proofs.Common.{
-  ◌≡◌,
-  ℕ,
-  zero,
-  suc,
-  ◌+◌,
-  ◌-◌,
-  ◌<◌,
-  ◌≤◌,
-  List,
-  [],
-  ◌∷◌,
-  length,
-  refl,
-  sym,
-  ap,
-  ◌∙◌,
-  subst,
-  inl,
-  inr,
-  arith,
-  get_or-set_same,
-  get_or-set_other,
-}
+use Rattle.std.proofs.Common.{◌≡◌, ℕ, zero, suc, ◌+◌, ◌-◌, ◌<◌, ◌≤◌, List, [], ◌∷◌, length, refl, sym, ap, ◌∙◌, subst, inl, inr, arith, get_or-set_same}
+use Rattle.std.proofs.Common.{get_or-set_other}
+use Rattle.std.proofs.{Math.ListN.length-set, lemmas.{Bool.{cases_Bool, lt-ltb, le-ltb, cases_lt, Decides.eqb_tells}, List.length-replicate}}
 use Rattle.std.specs.Prelude.{slice_index}
-use Rattle.std.proofs.Math.ListN.{length-set}
-use Rattle.std.proofs.lemmas.Bool.{cases_Bool, lt-ltb, le-ltb, cases_lt}
-use Rattle.std.proofs.lemmas.List.{length-replicate}
-use Rattle.cpu_words.specs.declared.names.WordName.{WordName}
-use Rattle.cpu_words.specs.declared.names.WordName.TheVariants.{Used, Node, Kids}
-use Rattle.cpu_words.specs.Hooks.{HookAnswer}
-use Rattle.cpu_words.specs.Touches.{event_of, found_by}
-use Rattle.gated_tree.specs.Calls.{SnapshotStepFits}
-use Rattle.gated_tree.specs.Phases.{snapshot_next}
-use Rattle.gated_tree.specs.Nodes.{node_shown}
-use Rattle.gated_tree.specs.Roles.{Bounds, tree_word, seen_as}
-use Rattle.gated_tree.specs.Trees.{loaded, node_at}
-use Rattle.gated_tree.specs.declared.snapshots.Snapshot.{Snapshot}
-use Rattle.gated_tree.specs.declared.snapshots.SnapshotStep.{SnapshotStep}
-use Rattle.gated_tree.specs.declared.snapshots.SnapshotStep.TheVariants.{LoadsUsed, LoadsNode, LoadsKids}
-use Rattle.gated_tree.specs.declared.trees.TreeWords.{TreeWords}
-use Rattle.gate_world.specs.declared.views.Traced.{Traced}
-use Rattle.gate_world.specs.Found.{is_load}
-use Rattle.gate_world.specs.Snapshots.{loads_noted, values_noted}
-use Rattle.gate_world.specs.Views.{with_hook}
+use Rattle.cpu_words.specs.{Hooks.HookAnswer, Touches.{event_of, found_by}, declared.names.WordName.WordName}
+use Rattle.gated_tree.specs.{Calls.SnapshotStepFits, Nodes.node_shown, Phases.snapshot_next, Roles.{Bounds, tree_word, seen_as}, Trees.{loaded, node_at}}
+use Rattle.gated_tree.specs.declared.{snapshots.{Snapshot.Snapshot, SnapshotStep.SnapshotStep}, trees.TreeWords.TreeWords}
 use Rattle.tree_laws.specs.Steps.{NotesOne, NotesLoad}
-use Rattle.std.proofs.lemmas.Bool.Decides.{eqb_tells}
+use Rattle.gate_world.specs.{Found.is_load, Snapshots.{loads_noted, values_noted}, Views.with_hook, declared.views.Traced.Traced}
 
 -- there is room for the words of so many nodes
 abbrev pub IsLong : ℕ → TreeWords → Type 0
@@ -54,11 +16,10 @@ IsLong nodes words = (length words.nodes ≡ nodes) × (length words.kids ≡ no
 -- a load keeps the room
 pub loaded_long : (nodes : ℕ) (words : TreeWords) (name : WordName) (value : ℕ) → IsLong nodes words →
     IsLong nodes (loaded words name value)
-loaded_long nodes words (Node n) value long = (length-set words.nodes n value ∙ long.0, long.1)
-loaded_long nodes words (Kids n) value long = (long.0, length-set words.kids n value ∙ long.1)
+loaded_long nodes words (WordName.Node n) value long = (length-set words.nodes n value ∙ long.0, long.1)
+loaded_long nodes words (WordName.Kids n) value long = (long.0, length-set words.kids n value ∙ long.1)
 loaded_long nodes words name value long = long
 
--- so there is room in what a trace has noted
 pub noted_long : (nodes : ℕ) (trace : List Traced) → IsLong nodes (loads_noted nodes trace)
 noted_long nodes [] = (length-replicate {A = ℕ} nodes 0, length-replicate {A = ℕ} nodes 0)
 noted_long nodes (e ∷ earlier) =
@@ -71,27 +32,26 @@ noted_long nodes (e ∷ earlier) =
 abbrev pub values_of : ℕ → TreeWords → ℕ → ℕ
 values_of nodes words = tree_word nodes words.used (slice_index words.nodes) (slice_index words.kids)
 
--- a load of `used` is the first value
 notes_used : (nodes : ℕ) (words : TreeWords) (value : ℕ) →
-    NotesOne 0 (values_of nodes words) (values_of nodes (loaded words Used value)) value
+    NotesOne 0 (values_of nodes words) (values_of nodes (loaded words WordName.Used value)) value
 notes_used nodes words value = (refl, λ i l. absurd (omega (arith, l)))
 
 -- a load of a node leaves the values before it
 node_kept : (nodes n : ℕ) (words : TreeWords) (value : ℕ) → n < nodes → (i : ℕ) → i < suc n →
-    values_of nodes (loaded words (Node n) value) i ≡ values_of nodes words i
+    values_of nodes (loaded words (WordName.Node n) value) i ≡ values_of nodes words i
 node_kept nodes n words value ln zero l = refl
 node_kept nodes n words value ln (suc i) l =
     rw (lt-ltb i nodes (omega (arith, l, ln))) (get_or-set_other words.nodes n i value 0 (λ q. absurd (omega (arith, q, l))))
 
 -- and is the next value
 notes_node : (nodes n : ℕ) (words : TreeWords) (value : ℕ) → IsLong nodes words → n < nodes →
-    NotesOne (suc n) (values_of nodes words) (values_of nodes (loaded words (Node n) value)) value
+    NotesOne (suc n) (values_of nodes words) (values_of nodes (loaded words (WordName.Node n) value)) value
 notes_node nodes n words value long ln =
     (rw (lt-ltb n nodes ln) (get_or-set_same words.nodes n value 0 (omega (arith, long.0, ln))), node_kept nodes n words value ln)
 
 -- a load of a node's children leaves the values before it
 kids_kept : (nodes n : ℕ) (words : TreeWords) (value : ℕ) → (i : ℕ) → i < suc (nodes + n) →
-    values_of nodes (loaded words (Kids n) value) i ≡ values_of nodes words i
+    values_of nodes (loaded words (WordName.Kids n) value) i ≡ values_of nodes words i
 kids_kept nodes n words value zero l = refl
 kids_kept nodes n words value (suc i) l =
     elim (cases_lt i nodes) [
@@ -101,10 +61,10 @@ kids_kept nodes n words value (suc i) l =
 
 -- and is the next value
 pub notes_kids : (nodes n : ℕ) (words : TreeWords) (value : ℕ) → IsLong nodes words → n < nodes →
-    NotesOne (suc (nodes + n)) (values_of nodes words) (values_of nodes (loaded words (Kids n) value)) value
+    NotesOne (suc (nodes + n)) (values_of nodes words) (values_of nodes (loaded words (WordName.Kids n) value)) value
 notes_kids nodes n words value long ln =
     let back : nodes + n - nodes ≡ n = omega arith in
-    let after : TreeWords = loaded words (Kids n) value in (
+    let after : TreeWords = loaded words (WordName.Kids n) value in (
       rw (le-ltb (nodes + n) nodes (omega arith))
           (ap (slice_index after.kids) back ∙ get_or-set_same words.kids n value 0 (omega (arith, long.1, ln))),
       kids_kept nodes n words value,
@@ -116,10 +76,10 @@ pub notes_step : (c : Bounds) (x : Snapshot) (s : SnapshotStep) → x.nodes ≡ 
     NotesLoad x.nodes s (values_noted x.nodes trace)
     (values_noted x.nodes (with_hook (event_of (snapshot_next x s).0 (snapshot_next x s).1 value) hook ∷ trace))
     (found_by (snapshot_next x s).1 value)
-notes_step c x LoadsUsed same fits trace value hook = notes_used x.nodes (loads_noted x.nodes trace) value
-notes_step c x (LoadsNode n) same fits trace value hook =
+notes_step c x SnapshotStep.LoadsUsed same fits trace value hook = notes_used x.nodes (loads_noted x.nodes trace) value
+notes_step c x (SnapshotStep.LoadsNode n) same fits trace value hook =
     notes_node x.nodes n (loads_noted x.nodes trace) value (noted_long x.nodes trace) (omega (arith, fits, same))
-notes_step c x (LoadsKids n) same fits trace value hook =
+notes_step c x (SnapshotStep.LoadsKids n) same fits trace value hook =
     notes_kids x.nodes n (loads_noted x.nodes trace) value (noted_long x.nodes trace) (omega (arith, fits, same))
 notes_step c x s same fits trace value hook = tt
 
@@ -147,10 +107,10 @@ are_words nodes words used node kids all = (
 pub last_load : (nodes n : ℕ) (words : TreeWords) (used : ℕ) (node kids : ℕ → ℕ) → IsLong nodes words → n < nodes → nodes ≤ n + 1 →
     ((i : ℕ) → i < suc (nodes + n) →
     seen_as nodes i (values_of nodes words i) ≡ seen_as nodes i (tree_word nodes used node kids i)) →
-    AreWords nodes (loaded words (Kids n) (kids n)) used node kids
+    AreWords nodes (loaded words (WordName.Kids n) (kids n)) used node kids
 last_load nodes n words used node kids long ln last before =
     let notes = notes_kids nodes n words (kids n) long ln in
-    let after : TreeWords = loaded words (Kids n) (kids n) in
+    let after : TreeWords = loaded words (WordName.Kids n) (kids n) in
     let back : nodes + n - nodes ≡ n = omega arith in
     let here : kids n ≡ tree_word nodes used node kids (suc (nodes + n)) =
     rw (le-ltb (nodes + n) nodes (omega arith)) (ap kids (sym back)) in

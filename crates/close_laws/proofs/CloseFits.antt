@@ -1,47 +1,28 @@
 -- What fits after an event of a close.
 use Rattle.std.proofs.Common.{◌≡◌, ℕ, ◌<◌, ◌≤◌, ◌⊎◌, Bool, true, false, refl, sym, ap, ◌∙◌, subst, inl, inr, arith, true≢false}
+use Rattle.std.proofs.lemmas.Bool.{cases_Bool, Decides.{eqb_tells, nat_tests}}
 use Rattle.std.specs.Prelude.{◌==◌, ◌&&◌, Option, Some, None, Result, Ok, Err, if◌then◌else◌}
-use Rattle.std.proofs.lemmas.Bool.{cases_Bool}
-use Rattle.std.proofs.lemmas.Bool.Decides.{eqb_tells, nat_tests}
-use Rattle.access_model.specs.declared.actions.Action.TheVariants.{Close as CloseAction}
-use Rattle.access_model.specs.declared.actions.Kind.{Kind}
-use Rattle.access_model.specs.declared.actions.Kind.TheVariants.{File, Dir}
-use Rattle.access_model.specs.declared.errors.GateError.{GateError}
-use Rattle.access_model.specs.declared.replies.Next.{Next}
-use Rattle.access_model.specs.declared.replies.Next.TheVariants.{Go, Wait, Done}
-use Rattle.access_model.specs.Replies.{map_next}
-use Rattle.cpu_words.specs.Names.{IsWord}
-use Rattle.cpu_words.specs.Hooks.{HookAnswer}
-use Rattle.gated_tree.specs.declared.nodes.NodeWord.{NodeWord}
+use Rattle.access_model.specs.{Replies.map_next, declared.{actions.{Action.Action, Kind.Kind}, errors.GateError.GateError, replies.Next.Next}}
+use Rattle.cpu_words.specs.{Hooks.HookAnswer, Names.IsWord}
 use Rattle.gated_tree.specs.Nodes.{any_file_in, as_any_file, is_stray, node_of, kind_in, kind_of, dirty_in, removed_in, opens_in, IsLawful, word_of}
-use Rattle.gated_tree.specs.Phases.{after_look}
-use Rattle.percpu_rwsem.specs.declared.readers.DownRead.{DownRead}
-use Rattle.percpu_rwsem.specs.Readers.{down_read_after}
-use Rattle.file_closes.specs.declared.phases.Closing.{Closing}
-use Rattle.file_closes.specs.declared.phases.ClosePhase.{ClosePhase}
-use Rattle.file_closes.specs.declared.phases.ClosePhase.TheVariants.{LoadsFile, LowersCount, Enters, FreesNode, RefundsBlocks, Uncounts, Leaves}
-use Rattle.file_closes.specs.Phases.{next, after, closed_from, then_frees, leaves_on}
-use Rattle.gate_world.specs.declared.config.Config.{Config}
-use Rattle.gate_world.specs.declared.work.Phase.TheVariants.{Closes}
-use Rattle.gate_world.specs.Configs.{IsWithin}
-use Rattle.gate_world.specs.Fits.{Fits, CloseFits, ClosingFits, ActionFits, mounts_by, levels_by}
-use Rattle.gate_world.specs.Views.{phase_after}
+use Rattle.gated_tree.specs.{Phases.after_look, declared.nodes.NodeWord.NodeWord}
+use Rattle.percpu_rwsem.specs.{Readers.down_read_after, declared.readers.DownRead.DownRead}
+use Rattle.file_closes.specs.{Phases.{next, after, closed_from, then_frees, leaves_on}, declared.phases.{ClosePhase.ClosePhase, Closing.Closing}}
+use Rattle.gate_world.specs.{Configs.IsWithin, Fits.{Fits, CloseFits, ClosingFits, ActionFits, mounts_by, levels_by}, Views.phase_after}
+use Rattle.gate_world.specs.declared.{config.Config.Config, work.Phase.Phase}
 use Rattle.gate_frames.proofs.Keeps.{by_bool, extents_touched}
-use Rattle.writer_laws.proofs.ReadFits.{ReadGoes, read_mounts, read_goes, none_from_agree, read_acts}
-use Rattle.writer_laws.proofs.ReadKeeps.{read_phase, end_phase}
+use Rattle.writer_laws.proofs.{ReadFits.{ReadGoes, read_mounts, read_goes, none_from_agree, read_acts}, ReadKeeps.{read_phase, end_phase}}
 
--- what is there is what it is
 some_is : {A : Type 0} (a b : A) → Some a ≡ Some b → a ≡ b
 some_is a b e = cc
 
--- a node that was taken for a file is one
-taken_is : (node file : NodeWord) (kind : Option Kind) → as_any_file node kind ≡ Ok file → (kind ≡ Some File) × (node ≡ file)
+taken_is : (node file : NodeWord) (kind : Option Kind) → as_any_file node kind ≡ Ok file → (kind ≡ Some Kind.File) × (node ≡ file)
 taken_is node file None e = absurd cc
-taken_is node file (Some File) e = (refl, cc)
-taken_is node file (Some Dir) e = absurd cc
+taken_is node file (Some Kind.File) e = (refl, cc)
+taken_is node file (Some Kind.Dir) e = absurd cc
 
 -- what a load of any word found to be a file says what a word can say
-lawful_file : (word : ℕ) → is_stray word ≡ false → kind_of (kind_in word) ≡ Some File → IsLawful (node_of word)
+lawful_file : (word : ℕ) → is_stray word ≡ false → kind_of (kind_in word) ≡ Some Kind.File → IsLawful (node_of word)
 lawful_file word plain kind = record {
   parent = omega arith;
   free = λ z. absurd cc;
@@ -57,26 +38,24 @@ lawful_file word plain kind = record {
       ];
 }
 
--- so its word is a file's, and holds that file
 pub found_node : (word : ℕ) (file : NodeWord) → any_file_in word ≡ Some (Ok file) → (is_stray word ≡ false) ×
-    (kind_of (kind_in word) ≡ Some File) × (node_of word ≡ file)
+    (kind_of (kind_in word) ≡ Some Kind.File) × (node_of word ≡ file)
 found_node word file e = elim (cases_Bool (is_stray word)) [
   | inl stray ↦
       let none : any_file_in word ≡ None = rw stray refl in
       absurd cc
   | inr plain ↦
       let is : any_file_in word ≡ Some (as_any_file (node_of word) (kind_of (kind_in word))) = rw plain refl in
-      let same : (kind_of (kind_in word) ≡ Some File) × (node_of word ≡ file) =
+      let same : (kind_of (kind_in word) ≡ Some Kind.File) × (node_of word ≡ file) =
       taken_is (node_of word) file (kind_of (kind_in word)) (some_is _ _ (sym is ∙ e)) in
       (plain, same.0, same.1)
 ]
 
-pub found_file : (word : ℕ) (file : NodeWord) → any_file_in word ≡ Some (Ok file) → (file.kind ≡ Some File) × IsLawful file
+pub found_file : (word : ℕ) (file : NodeWord) → any_file_in word ≡ Some (Ok file) → (file.kind ≡ Some Kind.File) × IsLawful file
 found_file word file e =
     let h = found_node word file e in
     (sym (ap (λ (node : NodeWord). node.kind) h.2) ∙ h.1, subst IsLawful h.2 (lawful_file word h.0 h.1))
 
--- a file that isn't to be freed is linked, or some other task has it open too
 stays_open : (removed : Bool) (n : ℕ) → (n ≡ 0 → ⊥) → (removed && (n == 1)) ≡ false → (removed ≡ false) ⊎ (2 ≤ n)
 stays_open false n some h = inl refl
 stays_open true n some h = elim (eqb_tells n 1) [
@@ -85,8 +64,7 @@ stays_open true n some h = elim (eqb_tells n 1) [
 ]
 
 module _ (c : Config) (t : ℕ) (held : ℕ → ℕ) (levels : ℕ → Bool) where
-  -- what comes after its file was found fits
-  found_fits : (x : Closing) (file : NodeWord) → ClosingFits c t levels x → (file.kind ≡ Some File) × IsLawful file →
+  found_fits : (x : Closing) (file : NodeWord) → ClosingFits c t levels x → (file.kind ≡ Some Kind.File) × IsLawful file →
       CloseFits c t levels (closed_from x file)
   found_fits x file f is =
       elim (eqb_tells file.opens 0) [
@@ -99,78 +77,74 @@ module _ (c : Config) (t : ℕ) (held : ℕ → ℕ) (levels : ℕ → Bool) whe
       ]
 
   looked_fits : (x : Closing) (word : ℕ) → ClosingFits c t levels x → (r : Option (Result NodeWord GateError)) → any_file_in word ≡ r →
-      Fits c t held levels (phase_after (map_next Closes (after_look (LoadsFile x) (closed_from x) r)))
+      Fits c t held levels (phase_after (map_next Phase.Closes (after_look (ClosePhase.LoadsFile x) (closed_from x) r)))
   looked_fits x word f None e = f
   looked_fits x word f (Some (Ok file)) e = found_fits x file f (found_file word file e)
   looked_fits x word f (Some (Err refusal)) e = tt
 
-  -- inside level 3 the node is freed
   pub enters_goes : (file p i : ℕ) (node : NodeWord) (n : Next DownRead) → file < c.nodes → p < c.processors → i ≡ 3 →
-      ReadGoes c t i p levels n → Fits c t held levels (phase_after (map_next Closes (then_frees file node p n)))
-  enters_goes file p i node (Go r) there cpu three h = (there, h.1 ∙ three, h.0)
-  enters_goes file p i node (Wait r) there cpu three h = (there, h.1 ∙ three, h.0)
-  enters_goes file p i node (Done (Ok reply)) there cpu three h = (there, cpu, subst (λ j. levels j ≡ true) three h)
-  enters_goes file p i node (Done (Err refusal)) there cpu three h = tt
+      ReadGoes c t i p levels n → Fits c t held levels (phase_after (map_next Phase.Closes (then_frees file node p n)))
+  enters_goes file p i node (Next.Go r) there cpu three h = (there, h.1 ∙ three, h.0)
+  enters_goes file p i node (Next.Wait r) there cpu three h = (there, h.1 ∙ three, h.0)
+  enters_goes file p i node (Next.Done (Ok reply)) there cpu three h = (there, cpu, subst (λ j. levels j ≡ true) three h)
+  enters_goes file p i node (Next.Done (Err refusal)) there cpu three h = tt
 
--- what fits after an event at level 3, with the node to be freed
 pub enters_fits : (c : Config) (t : ℕ) (held : ℕ → ℕ) (levels : ℕ → Bool) (file : ℕ) (node : NodeWord) (r : DownRead) (found : ℕ) →
-    CloseFits c t levels (Enters file node r) →
+    CloseFits c t levels (ClosePhase.Enters file node r) →
     Fits c t (mounts_by (down_read_after r r.step found).1 held) (levels_by (down_read_after r r.step found).1 levels)
-    (phase_after (map_next Closes (then_frees file node r.cpu (down_read_after r r.step found).0)))
+    (phase_after (map_next Phase.Closes (then_frees file node r.cpu (down_read_after r r.step found).0)))
 enters_fits c t held levels file node r found f =
     let left : ℕ → Bool = levels_by (down_read_after r r.step found).1 levels in
     let n : Next DownRead = (down_read_after r r.step found).0 in
-    subst (λ h. Fits c t h left (phase_after (map_next Closes (then_frees file node r.cpu n)))) (sym (read_mounts held r r.step found))
+    subst (λ h. Fits c t h left (phase_after (map_next Phase.Closes (then_frees file node r.cpu n)))) (sym (read_mounts held r r.step found))
     (enters_goes c t held left file r.cpu r.level node n f.0 f.2.2 f.1
     (read_goes c t r f.2.0 f.2.1 f.2.2 f.2.3 levels r.step found f.2.4))
 
 -- what comes after each event fits
 pub close_goes : (c : Config) (t : ℕ) (held : ℕ → ℕ) (levels : ℕ → Bool) (x : ClosePhase) (found : ℕ) → CloseFits c t levels x →
-    Fits c t (mounts_by (after x found).1 held) (levels_by (after x found).1 levels) (phase_after (map_next Closes (after x found).0))
-close_goes c t held levels (LoadsFile x) found f = looked_fits c t held levels x found f (any_file_in found) refl
-close_goes c t held levels (LowersCount x node) found f =
+    Fits c t (mounts_by (after x found).1 held) (levels_by (after x found).1 levels) (phase_after (map_next Phase.Closes (after x found).0))
+close_goes c t held levels (ClosePhase.LoadsFile x) found f = looked_fits c t held levels x found f (any_file_in found) refl
+close_goes c t held levels (ClosePhase.LowersCount x node) found f =
     elim (cases_Bool (found == word_of node)) [ inl h ↦ rw h tt | inr h ↦ rw h tt ]
-close_goes c t held levels (Enters file node r) found f = enters_fits c t held levels file node r found f
-close_goes c t held levels (FreesNode file p node) found f =
+close_goes c t held levels (ClosePhase.Enters file node r) found f = enters_fits c t held levels file node r found f
+close_goes c t held levels (ClosePhase.FreesNode file p node) found f =
     elim (cases_Bool (found == word_of node)) [ inl h ↦ rw h (f.1, f.2) | inr h ↦ rw h f ]
-close_goes c t held levels (RefundsBlocks p blocks) found f = f
-close_goes c t held levels (Uncounts p) found f = f
-close_goes c t held levels (Leaves p) found f = tt
+close_goes c t held levels (ClosePhase.RefundsBlocks p blocks) found f = f
+close_goes c t held levels (ClosePhase.Uncounts p) found f = f
+close_goes c t held levels (ClosePhase.Leaves p) found f = tt
 
 -- the word of each event is there
 pub close_there : (c : Config) (n : ℕ) → c.tasks ≤ n → (t : ℕ) → t < n → (held : ℕ → ℕ) (levels : ℕ → Bool) (hook : HookAnswer)
     (x : ClosePhase) → CloseFits c t levels x → IsWord (extents_touched n c) (next x).0
-close_there c n le t lt held levels hook (LoadsFile x) f = omega (arith, f.0)
-close_there c n le t lt held levels hook (LowersCount x node) f = omega (arith, f.0.0)
-close_there c n le t lt held levels hook (Enters file node r) f = (read_phase c r).word n le t lt held levels hook f.2
-close_there c n le t lt held levels hook (FreesNode file p node) f = omega (arith, f.0)
-close_there c n le t lt held levels hook (RefundsBlocks p blocks) f = tt
-close_there c n le t lt held levels hook (Uncounts p) f = tt
-close_there c n le t lt held levels hook (Leaves p) f =
+close_there c n le t lt held levels hook (ClosePhase.LoadsFile x) f = omega (arith, f.0)
+close_there c n le t lt held levels hook (ClosePhase.LowersCount x node) f = omega (arith, f.0.0)
+close_there c n le t lt held levels hook (ClosePhase.Enters file node r) f = (read_phase c r).word n le t lt held levels hook f.2
+close_there c n le t lt held levels hook (ClosePhase.FreesNode file p node) f = omega (arith, f.0)
+close_there c n le t lt held levels hook (ClosePhase.RefundsBlocks p blocks) f = tt
+close_there c n le t lt held levels hook (ClosePhase.Uncounts p) f = tt
+close_there c n le t lt held levels hook (ClosePhase.Leaves p) f =
     (end_phase c (leaves_on p)).word n le t lt held levels hook (omega arith, omega arith, f.0, f.1)
 
 -- and its action can be done
 pub close_acts : (c : Config) → IsWithin c → (t : ℕ) (held : ℕ → ℕ) (levels : ℕ → Bool) (x : ClosePhase) (found : ℕ) →
     CloseFits c t levels x → ActionFits held (after x found).1
-close_acts c lim t held levels (LowersCount x node) found f =
-    by_bool (found == word_of node) (λ b. ActionFits held (if b then Some (CloseAction x.file) else None)) (omega (arith, f.0.0, lim.nodes)) tt
-close_acts c lim t held levels (Enters file node r) found f = read_acts held r r.step found f.2.0 f.2.1
-close_acts c lim t held levels (FreesNode file p node) found f =
-    by_bool (found == word_of node) (λ b. ActionFits held (if b then Some (CloseAction file) else None)) (omega (arith, f.0, lim.nodes)) tt
-close_acts c lim t held levels (RefundsBlocks p blocks) found f = tt
-close_acts c lim t held levels (Uncounts p) found f = tt
-close_acts c lim t held levels (Leaves p) found f = (omega arith, omega arith)
+close_acts c lim t held levels (ClosePhase.LowersCount x node) found f =
+    by_bool (found == word_of node) (λ b. ActionFits held (if b then Some (Action.Close x.file) else None)) (omega (arith, f.0.0, lim.nodes)) tt
+close_acts c lim t held levels (ClosePhase.Enters file node r) found f = read_acts held r r.step found f.2.0 f.2.1
+close_acts c lim t held levels (ClosePhase.FreesNode file p node) found f =
+    by_bool (found == word_of node) (λ b. ActionFits held (if b then Some (Action.Close file) else None)) (omega (arith, f.0, lim.nodes)) tt
+close_acts c lim t held levels (ClosePhase.Leaves p) found f = (omega arith, omega arith)
 close_acts c lim t held levels other found f = tt
 
 -- it fits levels that agree
 pub close_agrees : (c : Config) (t : ℕ) (f g : ℕ → ℕ) (h k : ℕ → Bool) → ((m : ℕ) → m < c.mounts → f m ≡ g m) →
     ((i : ℕ) → 1 ≤ i → i ≤ 3 → h i ≡ k i) → (x : ClosePhase) → CloseFits c t h x → CloseFits c t k x
-close_agrees c t f g h k mounts levels (LoadsFile x) fits =
+close_agrees c t f g h k mounts levels (ClosePhase.LoadsFile x) fits =
     (fits.0, fits.1, fits.2, sym (none_from_agree h k levels 3) ∙ fits.3)
-close_agrees c t f g h k mounts levels (LowersCount x node) fits =
+close_agrees c t f g h k mounts levels (ClosePhase.LowersCount x node) fits =
     ((fits.0.0, fits.0.1, fits.0.2, sym (none_from_agree h k levels 3) ∙ fits.0.3), fits.1)
-close_agrees c t f g h k mounts levels (Enters file node r) fits =
+close_agrees c t f g h k mounts levels (ClosePhase.Enters file node r) fits =
     (fits.0, fits.1, (read_phase c r).agrees t f g h k mounts levels fits.2)
-close_agrees c t f g h k mounts levels (FreesNode file p node) fits =
+close_agrees c t f g h k mounts levels (ClosePhase.FreesNode file p node) fits =
     (fits.0, fits.1, sym (levels 3 (omega arith) (omega arith)) ∙ fits.2)
 close_agrees c t f g h k mounts levels other fits = (fits.0, sym (levels 3 (omega arith) (omega arith)) ∙ fits.1)

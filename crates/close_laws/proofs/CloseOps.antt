@@ -1,21 +1,15 @@
 -- What is proved of the beginning of a close, given what its trace says.
-use Rattle.std.proofs.Common.{◌≡◌, ℕ, Bool, true, refl, arith}
-use Rattle.std.specs.Prelude.{nat_lt, List}
-use Rattle.std.proofs.lemmas.Bool.{ltb-true}
-use Rattle.gate_world.specs.declared.config.Config.{Config}
-use Rattle.gate_world.specs.declared.operations.Op.TheVariants.{Close as CloseOp}
-use Rattle.gate_world.specs.declared.views.Traced.{Traced}
-use Rattle.gate_world.specs.Configs.{IsWithin}
-use Rattle.gate_world.specs.Courses.{IsTrace, course_of}
-use Rattle.gate_world.specs.Traces.{Tells, IsShort, most_events}
+use Rattle.std.{proofs.{Common.{◌≡◌, ℕ, Bool, true, refl, arith}, lemmas.Bool.ltb-true}, specs.Prelude.{nat_lt, List}}
+use Rattle.gate_world.specs.{Configs.IsWithin, Courses.{IsTrace, course_of}, Traces.{Tells, IsShort, most_events}}
+use Rattle.gate_world.specs.declared.{config.Config.Config, operations.Op.Op, views.Traced.Traced}
 use Rattle.gate_frames.proofs.Keeps.{by_bool, IsSmall, OpKeeps}
 use Rattle.writer_laws.proofs.ReadFits.{both_true, none_from_agree}
 
 pub close_op_from : (c : Config) (file p : ℕ) (wait : Bool) →
-    (IsWithin c → (t : ℕ) (trace : List Traced) → IsTrace c t (CloseOp file p wait) trace →
-    Tells c (CloseOp file p wait) trace (course_of c t (CloseOp file p wait) trace).comes (course_of c t (CloseOp file p wait) trace).added) →
-    (IsWithin c → (t : ℕ) (trace : List Traced) → IsTrace c t (CloseOp file p wait) trace →
-    IsShort (most_events c (CloseOp file p wait)) trace) → OpKeeps c (CloseOp file p wait)
+    (IsWithin c → (t : ℕ) (trace : List Traced) → IsTrace c t (Op.Close file p wait) trace →
+    Tells c (Op.Close file p wait) trace (course_of c t (Op.Close file p wait) trace).comes (course_of c t (Op.Close file p wait) trace).added) →
+    (IsWithin c → (t : ℕ) (trace : List Traced) → IsTrace c t (Op.Close file p wait) trace →
+    IsShort (most_events c (Op.Close file p wait)) trace) → OpKeeps c (Op.Close file p wait)
 close_op_from c file p wait tells short = record {
   fits = λ t held levels there order room.
       let at : (nat_lt file c.nodes ≡ true) × (nat_lt p c.processors ≡ true) =
@@ -30,5 +24,5 @@ close_op_from c file p wait tells short = record {
   file = λ t files own closed. own;
   tells = tells;
   short = short;
-  most_small = λ lim. by_bool wait (λ b. IsSmall (most_events c (CloseOp file p b))) tt (omega arith);
+  most_small = λ lim. by_bool wait (λ b. IsSmall (most_events c (Op.Close file p b))) tt (omega arith);
 }

@@ -1,84 +1,55 @@
 -- The events of a close at level 3: the law of each is that of the level's own event, but for the tree and the open files, which the event
 -- leaves alone.
-use Rattle.std.proofs.Common.{◌≡◌, ℕ, ◌<◌, ◌⊎◌, Bool, true, refl, sym, ap, ◌∙◌, subst, inl, inr, arith}
+use Rattle.std.proofs.{Common.{◌≡◌, ℕ, ◌<◌, ◌⊎◌, Bool, true, refl, sym, ap, ◌∙◌, subst, inl, inr, arith}, lemmas.Bool.cases_Bool}
 use Rattle.std.specs.Prelude.{◌==◌, Option, Some, None, Ok, Err, List}
-use Rattle.std.proofs.lemmas.Bool.{cases_Bool}
-use Rattle.finite_sums.specs.Sums.{update}
-use Rattle.finite_sums.proofs.Totals.{each_updated, update_at}
-use Rattle.access_model.specs.declared.actions.Action.{Action}
-use Rattle.access_model.specs.declared.replies.Next.{Next}
-use Rattle.access_model.specs.declared.replies.Next.TheVariants.{Go, Done}
-use Rattle.access_model.specs.declared.replies.Reply.TheVariants.{Unit as UnitReply}
-use Rattle.access_model.specs.Replies.{map_next}
-use Rattle.access_model.specs.States.{openers}
-use Rattle.cpu_words.specs.Hooks.{HookAnswer}
-use Rattle.cpu_words.specs.Words.{Words, read}
-use Rattle.gated_tree.specs.declared.nodes.NodeWord.{NodeWord}
-use Rattle.gated_tree.specs.Nodes.{opens_in}
-use Rattle.gated_tree.specs.Roles.{Out as OffTree, Freeing, TreeHolds, charge, removal, child_charge}
-use Rattle.level_laws.specs.Events.{SyncStep}
-use Rattle.percpu_rwsem.specs.declared.readers.DownRead.{DownRead}
-use Rattle.percpu_rwsem.specs.declared.readers.DownReadStep.{DownReadStep}
-use Rattle.percpu_rwsem.specs.declared.readers.DownReadStep.TheVariants.{EntersSection, LoadsBlock}
-use Rattle.percpu_rwsem.specs.Readers.{at_down_read, down_read_after}
-use Rattle.file_closes.specs.declared.phases.ClosePhase.{ClosePhase}
-use Rattle.file_closes.specs.declared.phases.ClosePhase.TheVariants.{Enters, Leaves}
-use Rattle.file_closes.specs.Phases.{then_frees, leaves_on}
-use Rattle.gate_world.specs.declared.config.Config.{Config}
-use Rattle.gate_world.specs.declared.views.View.{View}
-use Rattle.gate_world.specs.declared.views.Traced.{Traced}
-use Rattle.gate_world.specs.declared.work.Phase.{Phase}
-use Rattle.gate_world.specs.declared.work.Phase.TheVariants.{Closes, DownReads, UpReads}
-use Rattle.gate_world.specs.Alike.{IsBeside, at_phase, rephased}
-use Rattle.gate_world.specs.Configs.{IsWithin}
-use Rattle.gate_world.specs.Fits.{Fits, CloseFits, HasFile, file_of, mounts_by, levels_by, opens_by}
-use Rattle.gate_world.specs.LevelRuns.{level_in}
-use Rattle.gate_world.specs.Rules.{IsGood, Holds, Fitting, Tree, Files, SameWords, StepKeeps, Moves}
-use Rattle.gate_world.specs.Shown.{shown}
-use Rattle.gate_world.specs.Trees.{tree_bounds, tree_of, tree_roles, tree_role_of}
-use Rattle.gate_world.specs.Views.{held_at, holds_level, has_open, phase_after, view_with}
-use Rattle.gate_world.specs.Work.{next_of, after_of}
-use Rattle.gate_world.specs.Worlds.{World, found_at, words_after}
-use Rattle.gate_frames.proofs.Accesses.{opens_of_after}
-use Rattle.gate_frames.proofs.Beside.{beside_of, made, made_keeps_beside, made_runs_beside, beside_good}
-use Rattle.gate_frames.proofs.Frames.{left_alone, opens_left}
-use Rattle.gate_frames.proofs.Trees.{tree_holds}
+use Rattle.finite_sums.{proofs.Totals.{each_updated, update_at}, specs.Sums.update}
+use Rattle.access_model.specs.{Replies.map_next, States.openers, declared.{actions.Action.Action, replies.{Next.Next, Reply.Reply}}}
+use Rattle.cpu_words.specs.{Hooks.HookAnswer, Words.{Words, read}}
+use Rattle.gated_tree.specs.{Nodes.opens_in, Roles.{Out as OffTree, Freeing, TreeHolds, charge, removal, child_charge}, declared.nodes.NodeWord.NodeWord}
 use Rattle.tree_laws.proofs.Counts.{leaves}
+use Rattle.percpu_rwsem.specs.{Readers.{at_down_read, down_read_after}, declared.readers.{DownRead.DownRead, DownReadStep.DownReadStep}}
+use Rattle.level_laws.specs.Events.{SyncStep}
+use Rattle.file_closes.specs.{Phases.{then_frees, leaves_on}, declared.phases.ClosePhase.ClosePhase}
+use Rattle.gate_world.specs.{Alike.{IsBeside, at_phase, rephased}, Configs.IsWithin, Fits.{Fits, CloseFits, HasFile, file_of, mounts_by, levels_by, opens_by}}
+use Rattle.gate_world.specs.{LevelRuns.level_in, Rules.{IsGood, Holds, Fitting, Tree, Files, SameWords, StepKeeps, Moves}, Shown.shown}
+use Rattle.gate_world.specs.{Trees.{tree_bounds, tree_of, tree_roles, tree_role_of}, Views.{held_at, holds_level, has_open, phase_after, view_with}}
+use Rattle.gate_world.specs.{Work.{next_of, after_of}, Worlds.{World, found_at, words_after}}
+use Rattle.gate_world.specs.declared.{config.Config.Config, views.{Traced.Traced, View.View}, work.Phase.Phase}
+use Rattle.gate_frames.proofs.{Accesses.opens_of_after, Beside.{beside_of, made, made_keeps_beside, made_runs_beside, beside_good}}
+use Rattle.gate_frames.proofs.{Frames.{left_alone, opens_left}, Trees.tree_holds}
 use Rattle.writer_laws.proofs.ReadKeeps.{read_phase, end_phase}
 use Rattle.close_laws.proofs.CloseFits.{enters_fits}
 
 -- what comes after an event at level 3 is beside what comes in its own operation
 pub beside_enters : (file p : ℕ) (node : NodeWord) (n : Next DownRead) →
-    IsBeside (phase_after (map_next DownReads n)) (phase_after (map_next Closes (then_frees file node p n)))
-beside_enters file p node (Go r) = assumption
-beside_enters file p node (Done (Ok reply)) = assumption
+    IsBeside (phase_after (map_next Phase.DownReads n)) (phase_after (map_next Phase.Closes (then_frees file node p n)))
+beside_enters file p node (Next.Go r) = assumption
+beside_enters file p node (Next.Done (Ok reply)) = assumption
 beside_enters file p node other = assumption
 
--- and nothing beside nothing
 pub beside_none : IsBeside None None
 beside_none = assumption
 
 -- no event of a down-read touches a word of the tree
-read_tree : (w : Words) (r : DownRead) (s : DownReadStep) (hook : HookAnswer) → SameWords w (words_after w (DownReads (at_down_read r s)) hook) Tree
-read_tree w r EntersSection hook = (refl, refl, refl, refl, refl, refl)
+read_tree : (w : Words) (r : DownRead) (s : DownReadStep) (hook : HookAnswer) → SameWords w (words_after w (Phase.DownReads (at_down_read r s)) hook) Tree
+read_tree w r DownReadStep.EntersSection hook = (refl, refl, refl, refl, refl, refl)
 read_tree w r other hook = (refl, refl, refl, refl, refl, refl)
 
--- nor opens or closes a file
 read_opens : (files : ℕ → Bool) (r : DownRead) (s : DownReadStep) (found : ℕ) → opens_by (down_read_after r s found).1 files ≡ files
-read_opens files r LoadsBlock found = elim (cases_Bool (found == 0)) [ inl h ↦ rw h refl | inr h ↦ rw h refl ]
+read_opens files r DownReadStep.LoadsBlock found = elim (cases_Bool (found == 0)) [ inl h ↦ rw h refl | inr h ↦ rw h refl ]
 read_opens files r other found = refl
 
 -- a close that is to free a node stays so, or it ends
 then_role : (file p : ℕ) (node : NodeWord) (n : Next DownRead) (trace : List Traced) →
-    (tree_role_of trace (phase_after (map_next Closes (then_frees file node p n))) ≡ Freeing file node) ⊎
-    (tree_role_of trace (phase_after (map_next Closes (then_frees file node p n))) ≡ OffTree)
-then_role file p node (Done (Err refusal)) trace = inr refl
+    (tree_role_of trace (phase_after (map_next Phase.Closes (then_frees file node p n))) ≡ Freeing file node) ⊎
+    (tree_role_of trace (phase_after (map_next Phase.Closes (then_frees file node p n))) ≡ OffTree)
+then_role file p node (Next.Done (Err refusal)) trace = inr refl
 then_role file p node other trace = inl refl
 
 -- and its task has its file open
 then_has : (files : ℕ → Bool) (file p : ℕ) (node : NodeWord) (n : Next DownRead) → files file ≡ true →
-    HasFile files (file_of (phase_after (map_next Closes (then_frees file node p n))))
-then_has files file p node (Done (Err refusal)) own = tt
+    HasFile files (file_of (phase_after (map_next Phase.Closes (then_frees file node p n))))
+then_has files file p node (Next.Done (Err refusal)) own = tt
 then_has files file p node other own = own
 
 module _ (c : Config) (w : World) (good : IsGood c w) (t : ℕ) (lt : t < c.tasks) where
@@ -127,9 +98,6 @@ module _ (c : Config) (w : World) (good : IsGood c w) (t : ℕ) (lt : t < c.task
     abbrev first_world : World
     first_world = rephased w t (Some q)
 
-    first_good : IsGood c first_world
-    first_good = beside_good c w t lt (Some q) before fits good tree files
-
     first_phase : (first_world.views t).phase ≡ Some q
     first_phase = ap (λ (u : View). u.phase) (update_at w.views t (at_phase (w.views t) (Some q)))
 
@@ -149,32 +117,32 @@ module _ (c : Config) (w : World) (good : IsGood c w) (t : ℕ) (lt : t < c.task
 
 -- its phase fits its accesses
 pub close_fits_now : (c : Config) (w : World) → IsGood c w → (t : ℕ) → t < c.tasks → (hook : HookAnswer) (x : ClosePhase) →
-    (w.views t).phase ≡ Some (Closes x) → CloseFits c t (holds_level (w.views t)) x
+    (w.views t).phase ≡ Some (Phase.Closes x) → CloseFits c t (holds_level (w.views t)) x
 close_fits_now c w good t lt hook x e = subst (Fits c t (held_at (w.views t)) (holds_level (w.views t))) e (good Fitting t lt)
 
 module _ (c : Config) (lim : IsWithin c) (w : World) (good : IsGood c w) (t : ℕ) (lt : t < c.tasks) (hook : HookAnswer) where
   -- an event at level 3, with the node to be freed
-  pub enters_level : (file : ℕ) (node : NodeWord) (r : DownRead) → (w.views t).phase ≡ Some (Closes (Enters file node r)) →
-      StepKeeps c w t hook (Closes (Enters file node r))
+  pub enters_level : (file : ℕ) (node : NodeWord) (r : DownRead) → (w.views t).phase ≡ Some (Phase.Closes (ClosePhase.Enters file node r)) →
+      StepKeeps c w t hook (Phase.Closes (ClosePhase.Enters file node r))
   enters_level file node r e =
-      let f : CloseFits c t (holds_level (w.views t)) (Enters file node r) = close_fits_now c w good t lt hook (Enters file node r) e in
+      let f : CloseFits c t (holds_level (w.views t)) (ClosePhase.Enters file node r) = close_fits_now c w good t lt hook (ClosePhase.Enters file node r) e in
       let own : has_open (w.views t) file ≡ true = subst (λ p. HasFile (has_open (w.views t)) (file_of p)) e ((good Files).own t lt) in
       let is : tree_roles w t ≡ Freeing file node = ap (tree_role_of (w.views t).trace) e in
-      let found : ℕ = found_at w.words (DownReads r) hook in
+      let found : ℕ = found_at w.words (Phase.DownReads r) hook in
       let n : Next DownRead = (down_read_after r r.step found).0 in
-      let coming : Next Phase = map_next Closes (then_frees file node r.cpu n) in
-      let ws : Words = words_after w.words (DownReads r) hook in
-      let v : View = view_with (w.views t) (next_of (DownReads r) hook) (read w.words (next_of (DownReads r) hook).0) hook
+      let coming : Next Phase = map_next Phase.Closes (then_frees file node r.cpu n) in
+      let ws : Words = words_after w.words (Phase.DownReads r) hook in
+      let v : View = view_with (w.views t) (next_of (Phase.DownReads r) hook) (read w.words (next_of (Phase.DownReads r) hook).0) hook
       (coming, (down_read_after r r.step found).1) in
       let opens : has_open v ≡ has_open (w.views t) =
       opens_of_after (down_read_after r r.step found).1 (w.views t).actions ∙ read_opens (has_open (w.views t)) r r.step found in
-      let before : IsBeside (w.views t).phase (Some (DownReads r)) =
+      let before : IsBeside (w.views t).phase (Some (Phase.DownReads r)) =
       beside_of e assumption in
       let same : SameWords w.words ws Tree = read_tree w.words r r.step hook in
-      beside_step c w good t lt hook (DownReads r) before f.2
-      (tree_left c w good t lt file node is w.words (at_phase (w.views t) (Some (DownReads r))) (refl, refl, refl, refl, refl, refl) refl)
-      (files_still c w good t lt w.words (at_phase (w.views t) (Some (DownReads r))) refl refl tt)
-      (λ g at. (read_phase c r).step lim (rephased w t (Some (DownReads r))) g t lt hook at) coming (beside_enters file r.cpu node n)
+      beside_step c w good t lt hook (Phase.DownReads r) before f.2
+      (tree_left c w good t lt file node is w.words (at_phase (w.views t) (Some (Phase.DownReads r))) (refl, refl, refl, refl, refl, refl) refl)
+      (files_still c w good t lt w.words (at_phase (w.views t) (Some (Phase.DownReads r))) refl refl tt)
+      (λ g at. (read_phase c r).step lim (rephased w t (Some (Phase.DownReads r))) g t lt hook at) coming (beside_enters file r.cpu node n)
       (enters_fits c t (held_at (w.views t)) (holds_level (w.views t)) file node r found f)
       (elim (then_role file r.cpu node n v.trace) [
         | inl stays ↦ left_alone c w t lt Tree ws v same (stays ∙ sym is) (good Tree)
@@ -182,14 +150,13 @@ module _ (c : Config) (lim : IsWithin c) (w : World) (good : IsGood c w) (t : �
       ])
       (files_still c w good t lt ws v same.2 opens (then_has (has_open v) file r.cpu node n (ap (λ g. g file) opens ∙ own)))
 
-  -- it leaves level 3
-  pub leaves_level : (p : ℕ) → (w.views t).phase ≡ Some (Closes (Leaves p)) → StepKeeps c w t hook (Closes (Leaves p))
+  pub leaves_level : (p : ℕ) → (w.views t).phase ≡ Some (Phase.Closes (ClosePhase.Leaves p)) → StepKeeps c w t hook (Phase.Closes (ClosePhase.Leaves p))
   leaves_level p e =
-      let f : CloseFits c t (holds_level (w.views t)) (Leaves p) = close_fits_now c w good t lt hook (Leaves p) e in
-      let q : Phase = UpReads (leaves_on p) in
+      let f : CloseFits c t (holds_level (w.views t)) (ClosePhase.Leaves p) = close_fits_now c w good t lt hook (ClosePhase.Leaves p) e in
+      let q : Phase = Phase.UpReads (leaves_on p) in
       let found : ℕ = found_at w.words q hook in
       let ws : Words = words_after w.words q hook in
-      let coming : Next Phase = Done (Ok UnitReply) in
+      let coming : Next Phase = Next.Done (Ok Reply.Unit) in
       let v : View = view_with (w.views t) (next_of q hook) (read w.words (next_of q hook).0) hook
       (coming, (after_of q found hook).1) in
       let is : tree_roles w t ≡ OffTree = ap (tree_role_of (w.views t).trace) e in
@@ -228,27 +195,27 @@ module _ (c : Config) (w : World) (t : ℕ) (lt : t < c.tasks) (hook : HookAnswe
 
 -- the worlds in which a close at level 3 stands at the level's phase: the rule holds there
 module _ (c : Config) (w : World) (good : IsGood c w) (t : ℕ) (lt : t < c.tasks) where
-  pub beside_reads : (file : ℕ) (node : NodeWord) (r : DownRead) → (w.views t).phase ≡ Some (Closes (Enters file node r)) →
-      IsBeside (w.views t).phase (Some (DownReads r)) × IsGood c (rephased w t (Some (DownReads r)))
+  pub beside_reads : (file : ℕ) (node : NodeWord) (r : DownRead) → (w.views t).phase ≡ Some (Phase.Closes (ClosePhase.Enters file node r)) →
+      IsBeside (w.views t).phase (Some (Phase.DownReads r)) × IsGood c (rephased w t (Some (Phase.DownReads r)))
   beside_reads file node r e =
-      let f : CloseFits c t (holds_level (w.views t)) (Enters file node r) =
+      let f : CloseFits c t (holds_level (w.views t)) (ClosePhase.Enters file node r) =
       subst (Fits c t (held_at (w.views t)) (holds_level (w.views t))) e (good Fitting t lt) in
       let is : tree_roles w t ≡ Freeing file node = ap (tree_role_of (w.views t).trace) e in
-      let before : IsBeside (w.views t).phase (Some (DownReads r)) =
+      let before : IsBeside (w.views t).phase (Some (Phase.DownReads r)) =
       beside_of e assumption in (
         before,
-        beside_good c w t lt (Some (DownReads r)) before f.2 good
-            (tree_left c w good t lt file node is w.words (at_phase (w.views t) (Some (DownReads r))) (refl, refl, refl, refl, refl, refl) refl)
-            (files_still c w good t lt w.words (at_phase (w.views t) (Some (DownReads r))) refl refl tt),
+        beside_good c w t lt (Some (Phase.DownReads r)) before f.2 good
+            (tree_left c w good t lt file node is w.words (at_phase (w.views t) (Some (Phase.DownReads r))) (refl, refl, refl, refl, refl, refl) refl)
+            (files_still c w good t lt w.words (at_phase (w.views t) (Some (Phase.DownReads r))) refl refl tt),
       )
 
-  pub beside_ends : (p : ℕ) → (w.views t).phase ≡ Some (Closes (Leaves p)) →
-      IsBeside (w.views t).phase (Some (UpReads (leaves_on p))) × IsGood c (rephased w t (Some (UpReads (leaves_on p))))
+  pub beside_ends : (p : ℕ) → (w.views t).phase ≡ Some (Phase.Closes (ClosePhase.Leaves p)) →
+      IsBeside (w.views t).phase (Some (Phase.UpReads (leaves_on p))) × IsGood c (rephased w t (Some (Phase.UpReads (leaves_on p))))
   beside_ends p e =
-      let f : CloseFits c t (holds_level (w.views t)) (Leaves p) =
+      let f : CloseFits c t (holds_level (w.views t)) (ClosePhase.Leaves p) =
       subst (Fits c t (held_at (w.views t)) (holds_level (w.views t))) e (good Fitting t lt) in
       let is : tree_roles w t ≡ OffTree = ap (tree_role_of (w.views t).trace) e in
-      let q : Phase = UpReads (leaves_on p) in
+      let q : Phase = Phase.UpReads (leaves_on p) in
       let before : IsBeside (w.views t).phase (Some q) = beside_of e assumption in (
         before,
         beside_good c w t lt (Some q) before (omega arith, omega arith, f.0, f.1) good

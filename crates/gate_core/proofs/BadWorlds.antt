@@ -1,28 +1,15 @@
 -- Worlds and refusals that no schedule has, of which a clause says so: a wrong order of events, or a weaker rule, would have them.
-use Rattle.mount_counts.specs.declared.phases.MountPhase.TheVariants.{Change as Changes}
-use Rattle.mount_counts.specs.declared.phases.Change.{Change}
-use Rattle.access_model.specs.declared.errors.GateError.TheVariants.{Busy}
-use Rattle.gate_world.specs.Causes.{HasCause}
-use Rattle.std.proofs.Common.{ℕ, zero, suc, ◌+◌, ◌≤◌, true, refl, arith, sym, true≢false}
-use Rattle.std.specs.Prelude.{Some, Ok, [], ◌∷◌}
+use Rattle.std.{proofs.Common.{ℕ, zero, suc, ◌+◌, ◌≤◌, true, refl, arith, sym, true≢false}, specs.Prelude.{Some, Ok, [], ◌∷◌}}
 use Rattle.finite_sums.specs.Sums.{total}
-use Rattle.access_model.specs.declared.actions.Holder.TheVariants.{User}
-use Rattle.access_model.specs.declared.replies.Reply.TheVariants.{Tree as TreeReply}
+use Rattle.access_model.specs.declared.{actions.Holder.Holder, errors.GateError.GateError, replies.Reply.Reply}
 use Rattle.cpu_words.specs.Sums.{lead}
-use Rattle.gate_counts.specs.Gates.{admitted, unread}
-use Rattle.gate_counts.specs.Levels.{level_as_gate}
-use Rattle.gate_world.specs.declared.views.View.{View}
-use Rattle.gate_world.specs.declared.work.Phase.{Phase}
-use Rattle.gate_world.specs.declared.work.Phase.TheVariants.{DownReads, Freezes, Trees, Mounts}
-use Rattle.gate_world.specs.Headline.{LevelsLead, SnapshotsStand}
-use Rattle.gate_world.specs.Levels.{at_level}
-use Rattle.gate_world.specs.Views.{opening_view}
-use Rattle.gate_world.specs.Worlds.{World, opening}
-use Rattle.gated_tree.specs.declared.phases.TreePhase.TheVariants.{Snapshot as Snapshots}
-use Rattle.gated_tree.specs.declared.snapshots.SnapshotStep.TheVariants.{Releases}
-use Rattle.freeze_levels.specs.declared.freezes.FreezeStep.TheVariants.{Closes}
-use Rattle.percpu_rwsem.specs.declared.readers.DownReadStep.TheVariants.{CountsUpFast}
-use Rattle.percpu_rwsem.specs.declared.writers.DownWriteStep.TheVariants.{Sums}
+use Rattle.gate_counts.specs.{Gates.{admitted, unread}, Levels.level_as_gate}
+use Rattle.gated_tree.specs.declared.{phases.TreePhase.TreePhase, snapshots.SnapshotStep.SnapshotStep}
+use Rattle.mount_counts.specs.declared.phases.{Change.Change, MountPhase.MountPhase}
+use Rattle.percpu_rwsem.specs.declared.{readers.DownReadStep.DownReadStep, writers.DownWriteStep.DownWriteStep}
+use Rattle.freeze_levels.specs.declared.freezes.FreezeStep.{FreezeStep}
+use Rattle.gate_world.specs.{Causes.HasCause, Headline.{LevelsLead, SnapshotsStand}, Levels.at_level, Views.opening_view, Worlds.{World, opening}}
+use Rattle.gate_world.specs.declared.{views.View.View, work.Phase.Phase}
 use Rattle.gate_core.proofs.Rows.{small}
 
 -- a task of which nothing is known but what it is at
@@ -40,15 +27,15 @@ abbrev fast : World
 fast = record {
   words = record opening.words { block = λ i. 1 };
   views = views_of
-      (at_phase (Freezes record {
-        holder = User;
+      (at_phase (Phase.Freezes record {
+        holder = Holder.User;
         task = 0;
         tasks = 3;
         processors = 2;
         nodes = 2;
-        step = Closes record { level = 1; tasks = 3; processors = 2; step = Sums record { words = 0; total = 0 } };
+        step = FreezeStep.Closes record { level = 1; tasks = 3; processors = 2; step = DownWriteStep.Sums record { words = 0; total = 0 } };
       }))
-      (at_phase (DownReads record { level = 1; cpu = 0; task = 1; wait = true; step = CountsUpFast }));
+      (at_phase (Phase.DownReads record { level = 1; cpu = 0; task = 1; wait = true; step = DownReadStep.CountsUpFast }));
 }
 
 -- its lead is no less than what is held there and sought on a word to come
@@ -64,12 +51,14 @@ fast_never h = omega (arith, (h 0 1 0 0 (omega arith) (omega arith) (omega arith
 abbrev thawed : World
 thawed = record {
   words = opening.words;
-  views = views_of (at_phase (Trees (Snapshots record { nodes = 2; task = 0; wait = true; step = Releases (Ok TreeReply) }))) opening_view;
+  views =
+      views_of (at_phase (Phase.Trees
+      (TreePhase.Snapshot record { nodes = 2; task = 0; wait = true; step = SnapshotStep.Releases (Ok Reply.Tree) }))) opening_view;
 }
 
 thawed_never : SnapshotsStand small thawed → ⊥
 thawed_never h = omega (arith, (h 0 _ 5 (omega arith) refl refl).0)
 
 -- a change that is refused as busy where nothing is counted, by whatever event, be it its first
-early_never : (x : Change) → HasCause small 0 (opening ∷ []) (Mounts (Changes x)) Busy → ⊥
+early_never : (x : Change) → HasCause small 0 (opening ∷ []) (Phase.Mounts (MountPhase.Change x)) GateError.Busy → ⊥
 early_never x h = true≢false (sym h)

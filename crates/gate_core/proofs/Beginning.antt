@@ -1,32 +1,18 @@
 -- A beginning of the core shows what the entry makes of the world.
-use Rattle.std.proofs.Common.{◌≡◌, ℕ, ◌<◌, ◌≤◌, Bool, [], ◌∷◌, ◌++◌, length, get_or, sym, ap, ◌∙◌, subst, arith}
-use Rattle.std.proofs.Math.ListN.{length-set}
+use Rattle.std.proofs.{Common.{◌≡◌, ℕ, ◌<◌, ◌≤◌, Bool, [], ◌∷◌, ◌++◌, length, get_or, sym, ap, ◌∙◌, subst, arith}, Math.ListN.length-set}
+use Rattle.std.proofs.lemmas.{Bool.lt-ltb, List.get_or_default}
 use Rattle.std.specs.Prelude.{is_some, Option, Some, None, Result, Ok, Err, slice_set}
-use Rattle.std.proofs.lemmas.Bool.{lt-ltb}
-use Rattle.std.proofs.lemmas.List.{get_or_default}
-use Rattle.finite_sums.specs.Sums.{update}
-use Rattle.finite_sums.proofs.Totals.{update_at, update_off}
+use Rattle.finite_sums.{proofs.Totals.{update_at, update_off}, specs.Sums.update}
 use Rattle.access_model.specs.declared.errors.GateError.{GateError}
-use Rattle.gate_world.specs.declared.operations.Op.{Op}
-use Rattle.gate_world.specs.declared.work.Phase.{Phase}
-use Rattle.gate_world.specs.declared.views.View.{View}
-use Rattle.gate_world.specs.Views.{held_at, holds_level, has_open, begun_view}
-use Rattle.gate_world.specs.Beginnings.{first_phase, refusal, beginning}
-use Rattle.gate_world.specs.Worlds.{World, Begins, begin_refusal, happens, run, opening}
-use Rattle.gate_world.specs.Fits.{Fits}
-use Rattle.gate_core.specs.declared.seats.Seat.{Seat}
-use Rattle.gate_core.specs.Seats.{mounts_in, levels_in, files_in}
-use Rattle.gate_core.specs.Memory.{Memory, Shows, IsSound, no_seat, seat_of}
-use Rattle.gate_core.specs.Answers.{unless_refused, begin_answer}
-use Rattle.gate_core.specs.Moves.{refusal_in, begun_of, begun}
-use Rattle.gate_core.proofs.Beginnings.{refusal_agree, may_begin, first_fits, ok_means, err_means}
-use Rattle.gate_core.proofs.Runs.{run_more}
-use Rattle.gate_core.proofs.Each.{seat_cases}
+use Rattle.gate_world.specs.{Beginnings.{first_phase, refusal, beginning}, Fits.Fits, Views.{held_at, holds_level, has_open, begun_view}}
+use Rattle.gate_world.specs.{Worlds.{World, Begins, begin_refusal, happens, run, opening}, declared.{operations.Op.Op, views.View.View, work.Phase.Phase}}
+use Rattle.gate_core.proofs.{Beginnings.{refusal_agree, may_begin, first_fits, ok_means, err_means}, Each.seat_cases, Runs.run_more}
+use Rattle.gate_core.specs.{Answers.{unless_refused, begin_answer}, Memory.{Memory, Shows, IsSound, no_seat, seat_of}, Moves.{refusal_in, begun_of, begun}}
+use Rattle.gate_core.specs.{Seats.{mounts_in, levels_in, files_in}, declared.seats.Seat.Seat}
 
 module _ (memory : Memory) (sound : IsSound memory) (t : ℕ) (lt : t < memory.config.tasks)
     (seat : Seat) (seat_is : seat ≡ get_or memory.seats t seat)
     (under_way : Bool) (under_way_is : under_way ≡ is_some seat.phase) (op : Op) where
-  -- the seat that the code read is the task's
   same_seat : seat_of memory t ≡ seat
   same_seat = get_or_default memory.seats t no_seat seat (omega (arith, sound.seats)) ∙ sym seat_is
 
@@ -38,7 +24,6 @@ module _ (memory : Memory) (sound : IsSound memory) (t : ℕ) (lt : t < memory.c
   abbrev pub seat_beginning : Result Phase GateError
   seat_beginning = beginning memory.config t under_way (mounts_in seat) (levels_in seat) (files_in seat) op
 
-  -- which is what is said of the memory
   pub refusal_told : refusal_in memory t op ≡ seat_refusal
   refusal_told =
       rw (lt-ltb t memory.config.tasks lt)
@@ -46,23 +31,18 @@ module _ (memory : Memory) (sound : IsSound memory) (t : ℕ) (lt : t < memory.c
       ap (λ b. refusal memory.config b (mounts_in seat) (levels_in seat) (files_in seat) op) (sym under_way_is))
 
   module _ (w : World) (shows : Shows memory w) where
-    -- what the seat has is what the view has: its phase
     phase_same : seat.phase ≡ (w.views t).phase
     phase_same = ap (λ (s : Seat). s.phase) (sym same_seat) ∙ shows.phases t lt
 
-    -- its accesses at mounts
     mounts_same : (m : ℕ) → m < memory.config.mounts → mounts_in seat m ≡ held_at (w.views t) m
     mounts_same m lm = ap (λ (s : Seat). mounts_in s m) (sym same_seat) ∙ shows.mounts t m lt lm
 
-    -- and at levels
     levels_same : (i : ℕ) → 1 ≤ i → i ≤ 3 → levels_in seat i ≡ holds_level (w.views t) i
     levels_same i one three = ap (λ (s : Seat). levels_in s i) (sym same_seat) ∙ shows.levels t i lt one three
 
-    -- and its open files
     files_same : (n : ℕ) → files_in seat n ≡ has_open (w.views t) n
     files_same n = ap (λ (s : Seat). files_in s n) (sym same_seat) ∙ shows.files t n lt
 
-    -- so the operation is refused as in the world
     pub refusal_same : begin_refusal memory.config w t op ≡ seat_refusal
     refusal_same =
         rw (lt-ltb t memory.config.tasks lt)
@@ -72,7 +52,6 @@ module _ (memory : Memory) (sound : IsSound memory) (t : ℕ) (lt : t < memory.c
         (files_in seat) (has_open (w.views t)) mounts_same levels_same files_same (is_some (w.views t).phase) op))
 
   module _ (refused : GateError) (answered : ◌≡◌ {A = Result Phase GateError} (Err refused) seat_beginning) where
-    -- the refusal that the code answered
     refused_is : seat_refusal ≡ Some refused
     refused_is = err_means (first_phase memory.config t op) seat_refusal refused answered
 
@@ -80,25 +59,20 @@ module _ (memory : Memory) (sound : IsSound memory) (t : ℕ) (lt : t < memory.c
     pub refused_shows : (w : World) → Shows memory w → Shows memory (happens memory.config w (Begins t op))
     refused_shows w shows = rw (refusal_same w shows ∙ refused_is) shows
 
-    -- and answers its refusal
     pub refused_answer : (w : World) → Shows memory w →
         ◌≡◌ {A = Result (Unit {0}) GateError} (Err refused) (begin_answer memory.config w t op)
     refused_answer w shows = sym (ap unless_refused (refusal_same w shows ∙ refused_is))
 
-    -- which is said of the memory
     pub refused_told : ◌≡◌ {A = Result (Unit {0}) GateError} (Err refused) (unless_refused (refusal_in memory t op))
     refused_told = sym (ap unless_refused (refusal_told ∙ refused_is))
 
-    -- as is that it stays
     pub refused_begun : memory ≡ begun memory t op
     refused_begun = sym (ap (begun_of memory t op) (refusal_told ∙ refused_is))
 
   module _ (phase : Phase) (answered : ◌≡◌ {A = Result Phase GateError} (Ok phase) seat_beginning) where
-    -- there was no refusal
     none_refused : seat_refusal ≡ None
     none_refused = (ok_means (first_phase memory.config t op) seat_refusal phase answered).0
 
-    -- and the phase is the operation's first
     phase_is : phase ≡ first_phase memory.config t op
     phase_is = (ok_means (first_phase memory.config t op) seat_refusal phase answered).1
 
@@ -109,7 +83,6 @@ module _ (memory : Memory) (sound : IsSound memory) (t : ℕ) (lt : t < memory.c
     abbrev memory_after : Memory
     memory_after = record { config = memory.config; words = memory.words; seats = slice_set memory.seats t seat_after }
 
-    -- which is what is said of the memory
     pub begin_told : ◌≡◌ {A = Result (Unit {0}) GateError} (Ok tt) (unless_refused (refusal_in memory t op))
     begin_told = sym (ap unless_refused (refusal_told ∙ none_refused))
 
@@ -119,15 +92,12 @@ module _ (memory : Memory) (sound : IsSound memory) (t : ℕ) (lt : t < memory.c
         (λ i. record { phase = Some (phase_is i); accesses = (sym same_seat i).accesses }) ∙
         sym (ap (begun_of memory t op) (refusal_told ∙ none_refused))
 
-    -- there is such a seat
     some_seat : t < length memory.seats
     some_seat = omega (arith, sound.seats)
 
-    -- the beginning answers that it isn't refused
     pub begin_answers : (w : World) → Shows memory w → ◌≡◌ {A = Result (Unit {0}) GateError} (Ok tt) (begin_answer memory.config w t op)
     begin_answers w shows = sym (ap unless_refused (refusal_same w shows ∙ none_refused))
 
-    -- and the memory after it shows the world after it
     pub begin_shows : (w : World) → Shows memory w → Shows memory_after (happens memory.config w (Begins t op))
     begin_shows w shows =
         let view : View = begun_view (w.views t) op (first_phase memory.config t op) in
@@ -151,14 +121,12 @@ module _ (memory : Memory) (sound : IsSound memory) (t : ℕ) (lt : t < memory.c
               (λ ne l. shows.files x n l ∙ ap (λ (v : View). has_open v n) (sym (update_off w.views t view x ne))) lx;
         })
 
-    -- the first phase fits what the task holds
     seat_fits : Fits memory.config t (mounts_in seat) (levels_in seat) (Some phase)
     seat_fits =
         subst (λ p. Fits memory.config t (mounts_in seat) (levels_in seat) (Some p)) (sym phase_is)
         (first_fits memory.config t under_way (mounts_in seat) (levels_in seat) (files_in seat) op
         (may_begin memory.config under_way (mounts_in seat) (levels_in seat) (files_in seat) op none_refused))
 
-    -- the memory after a beginning is sound
     pub begin_sound : IsSound memory_after
     begin_sound = record {
       within = sound.within;

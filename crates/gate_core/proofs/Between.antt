@@ -1,61 +1,25 @@
 -- A freeze or a thaw is between its two stores just where its newest event is the first of them: what its role says, its trace says too.
 use Rattle.std.proofs.Common.{◌≡◌, ℕ, ◌<◌, refl, sym, ap, ◌∙◌, subst, inl, inr, arith, Bool, true, false, if◌then◌else◌}
+use Rattle.std.proofs.lemmas.Bool.{cases_lt, lt-ltb, le-ltb, Decides.eqb_tells}
 use Rattle.std.specs.Prelude.{◌==◌, Option, Some, None, Ok, Err, List, [], ◌∷◌}
-use Rattle.std.proofs.lemmas.Bool.{cases_lt, lt-ltb, le-ltb}
-use Rattle.std.proofs.lemmas.Bool.Decides.{eqb_tells}
 use Rattle.finite_sums.proofs.Totals.{each_updated, total_updated}
-use Rattle.access_model.specs.declared.errors.GateError.{GateError}
-use Rattle.access_model.specs.declared.replies.Next.{Next}
-use Rattle.access_model.specs.declared.replies.Next.TheVariants.{Go, Wait, Done}
-use Rattle.access_model.specs.Holders.{with_holder}
-use Rattle.access_model.specs.Replies.{map_next}
-use Rattle.cpu_words.specs.declared.names.WordName.{WordName}
-use Rattle.cpu_words.specs.declared.events.Touch.{Touch}
-use Rattle.cpu_words.specs.Hooks.{HookAnswer}
-use Rattle.cpu_words.specs.Touches.{event_of, left}
-use Rattle.cpu_words.specs.Words.{Words, read, put}
+use Rattle.access_model.specs.{Holders.with_holder, Replies.map_next, declared.{errors.GateError.GateError, replies.Next.Next}}
+use Rattle.cpu_words.specs.{Hooks.HookAnswer, Touches.{event_of, left}, Words.{Words, read, put}, declared.{events.Touch.Touch, names.WordName.WordName}}
+use Rattle.percpu_rwsem.specs.{Transitions.transition_next, Writers.{down_write_next, up_write_next}}
 use Rattle.percpu_rwsem.specs.declared.transitions.Transition.{Transition}
-use Rattle.percpu_rwsem.specs.declared.transitions.Transition.TheVariants.{Loads, Exchanges}
-use Rattle.percpu_rwsem.specs.declared.writers.DownWrite.{DownWrite}
-use Rattle.percpu_rwsem.specs.declared.writers.DownWriteStep.{DownWriteStep}
-use Rattle.percpu_rwsem.specs.declared.writers.DownWriteStep.TheVariants.{Enters, CallsBack}
-use Rattle.percpu_rwsem.specs.declared.writers.UpWrite.{UpWrite}
-use Rattle.percpu_rwsem.specs.declared.writers.UpWriteStep.{UpWriteStep}
-use Rattle.percpu_rwsem.specs.declared.writers.UpWriteStep.TheVariants.{ClearsBlock, Exits}
-use Rattle.percpu_rwsem.specs.Transitions.{transition_next}
-use Rattle.percpu_rwsem.specs.Writers.{down_write_next, up_write_next}
-use Rattle.freeze_levels.specs.declared.freezes.Freeze.{Freeze}
-use Rattle.freeze_levels.specs.declared.freezes.FreezeStep.{FreezeStep}
-use Rattle.freeze_levels.specs.declared.freezes.FreezeStep.TheVariants.{Locks, LoadsStage, LoadsHolders, LoadsSuperblock, Closes, LocksAgain, Cleans, SetsFs, SetsComplete, Reopens}
-use Rattle.freeze_levels.specs.declared.thaws.Thaw.{Thaw}
-use Rattle.freeze_levels.specs.declared.thaws.ThawStep.{ThawStep}
-use Rattle.freeze_levels.specs.declared.thaws.ThawStep.TheVariants.{Locks as ThawLocks, LoadsStage as ThawLoadsStage, LoadsHolders as ThawLoadsHolders, Leaves as StoresOthers, LoadsSuperblock as ThawLoadsSuperblock, LeavesLast, Reopens as ThawReopens}
-use Rattle.freeze_levels.specs.Freezes.{freeze_next, freeze_after}
-use Rattle.freeze_levels.specs.Holders.{word_of}
-use Rattle.freeze_levels.specs.Thaws.{thaw_next, thaw_after}
-use Rattle.holder_laws.specs.Roles.{between, is_held, is_four, HoldersHold}
-use Rattle.holder_laws.proofs.HolderLaws.{held_exactly}
-use Rattle.holder_laws.proofs.Words.{held_word}
-use Rattle.gate_world.specs.declared.config.Config.{Config}
-use Rattle.gate_world.specs.declared.operations.Op.{Op}
-use Rattle.gate_world.specs.declared.views.View.{View}
-use Rattle.gate_world.specs.declared.views.Traced.{Traced}
-use Rattle.gate_world.specs.declared.work.Phase.{Phase}
-use Rattle.gate_world.specs.declared.work.Phase.TheVariants.{Mounts, Remounts, DownReads, UpReads, Callbacks, Writes, Freezes, Thaws, Trees, Closes}
-use Rattle.gate_world.specs.Beginnings.{first_phase}
-use Rattle.gate_world.specs.Fits.{Fits}
-use Rattle.gate_world.specs.Found.{stores_stage}
-use Rattle.gate_world.specs.Headline.{stores_nobody, is_between, HoldersAreTold}
-use Rattle.gate_world.specs.Holders.{holder_role_of}
-use Rattle.gate_world.specs.Rules.{IsGood, Fitting, Holding, Known}
-use Rattle.gate_world.specs.Views.{phase_after, with_hook, view_after, begun_view, held_at, holds_level}
-use Rattle.gate_world.specs.Work.{next_of, after_of}
-use Rattle.gate_world.specs.Worlds.{World, Entry, Begins, Steps, after_step, begin_refusal, begin_of, step_of, happens, opening, value_at, found_at, words_after}
-use Rattle.cpu_words.specs.declared.names.WordName.TheVariants.{Holders}
+use Rattle.percpu_rwsem.specs.declared.writers.{DownWrite.DownWrite, DownWriteStep.DownWriteStep, UpWrite.UpWrite, UpWriteStep.UpWriteStep}
+use Rattle.freeze_levels.specs.{Freezes.{freeze_next, freeze_after}, Holders.word_of, Thaws.{thaw_next, thaw_after}}
+use Rattle.freeze_levels.specs.declared.{freezes.{Freeze.Freeze, FreezeStep.{FreezeStep, TheVariants.Closes}}, thaws.{Thaw.Thaw, ThawStep.ThawStep}}
+use Rattle.holder_laws.{proofs.{HolderLaws.held_exactly, Words.held_word}, specs.Roles.{between, is_held, is_four, HoldersHold}}
+use Rattle.gate_world.specs.{Beginnings.first_phase, Fits.Fits, Found.stores_stage, Headline.{stores_nobody, is_between, HoldersAreTold}}
+use Rattle.gate_world.specs.{Holders.holder_role_of, Rules.{IsGood, Fitting, Holding, Known}}
+use Rattle.gate_world.specs.{Views.{phase_after, with_hook, view_after, begun_view, held_at, holds_level}, Work.{next_of, after_of}}
+use Rattle.gate_world.specs.Worlds.{World, Entry, Begins, Steps, after_step, begin_refusal, begin_of, step_of, happens, opening, value_at, found_at}
+use Rattle.gate_world.specs.Worlds.{words_after}
+use Rattle.gate_world.specs.declared.{config.Config.Config, operations.Op.Op, views.{Traced.Traced, View.View}, work.Phase.{Phase, TheVariants.Closes}}
 use Rattle.gate_frames.proofs.Holders.{holders_at}
 use Rattle.gate_core.proofs.Layers.{op_keeps}
 
--- 1 for what is so
 abbrev bit : Bool → ℕ
 bit b = if b then 1 else 0
 
@@ -70,9 +34,9 @@ AllTold w = (t : ℕ) → IsTold (w.views t).phase (w.views t).trace
 -- an operation that is neither a freeze nor a thaw is never between two stores
 quiet : {A : Type 0} (to : A → Phase) → ((x : A) (trace : List Traced) → IsTold (Some (to x)) trace) → (next : Next A) (trace : List Traced) →
     IsTold (phase_after (map_next to next)) trace
-quiet to each (Go x) trace = each x trace
-quiet to each (Wait x) trace = each x trace
-quiet to each (Done answer) trace = refl
+quiet to each (Next.Go x) trace = each x trace
+quiet to each (Next.Wait x) trace = each x trace
+quiet to each (Next.Done answer) trace = refl
 
 -- an event leaves the stage and the holders as they are, and is the first of no two stores
 abbrev Spares : Words → WordName × Touch → Type 0
@@ -81,32 +45,31 @@ Spares w n =
     (stores_stage 4 n.0 n.1 ≡ false) × (stores_nobody n.0 n.1 ≡ false)
 
 transition_spares : (w : Words) (level : ℕ) (transition : Transition) → Spares w (transition_next level transition)
-transition_spares w level Loads = (refl, refl, refl, refl)
-transition_spares w level (Exchanges from to) = (refl, refl, refl, refl)
+transition_spares w level Transition.Loads = (refl, refl, refl, refl)
+transition_spares w level (Transition.Exchanges from to) = (refl, refl, refl, refl)
 
 down_write_spares : (w : Words) (d : DownWrite) (s : DownWriteStep) → Spares w (down_write_next d s)
-down_write_spares w d (Enters transition) = transition_spares w d.level transition
-down_write_spares w d (CallsBack transition) = transition_spares w d.level transition
+down_write_spares w d (DownWriteStep.Enters transition) = transition_spares w d.level transition
+down_write_spares w d (DownWriteStep.CallsBack transition) = transition_spares w d.level transition
 down_write_spares w d other = (refl, refl, refl, refl)
 
 up_write_spares : (w : Words) (u : UpWrite) (s : UpWriteStep) → Spares w (up_write_next u s)
-up_write_spares w u ClearsBlock = (refl, refl, refl, refl)
-up_write_spares w u (Exits transition) = transition_spares w u.level transition
+up_write_spares w u UpWriteStep.ClearsBlock = (refl, refl, refl, refl)
+up_write_spares w u (UpWriteStep.Exits transition) = transition_spares w u.level transition
 
 -- a freeze, or a thaw, that is not between two stores after an event that is the first of none
 freeze_unstored : (next : Next Freeze) (e : Traced) (trace : List Traced) → stores_stage 4 e.event.word e.event.touch ≡ false →
-    between (holder_role_of (phase_after (map_next Freezes next))) ≡ 0 → IsTold (phase_after (map_next Freezes next)) (e ∷ trace)
-freeze_unstored (Go x) e trace none zero_is = zero_is ∙ ap bit (sym none)
-freeze_unstored (Wait x) e trace none zero_is = zero_is ∙ ap bit (sym none)
-freeze_unstored (Done answer) e trace none zero_is = refl
+    between (holder_role_of (phase_after (map_next Phase.Freezes next))) ≡ 0 → IsTold (phase_after (map_next Phase.Freezes next)) (e ∷ trace)
+freeze_unstored (Next.Go x) e trace none zero_is = zero_is ∙ ap bit (sym none)
+freeze_unstored (Next.Wait x) e trace none zero_is = zero_is ∙ ap bit (sym none)
+freeze_unstored (Next.Done answer) e trace none zero_is = refl
 
 thaw_unstored : (next : Next Thaw) (e : Traced) (trace : List Traced) → stores_nobody e.event.word e.event.touch ≡ false →
-    between (holder_role_of (phase_after (map_next Thaws next))) ≡ 0 → IsTold (phase_after (map_next Thaws next)) (e ∷ trace)
-thaw_unstored (Go x) e trace none zero_is = zero_is ∙ ap bit (sym none)
-thaw_unstored (Wait x) e trace none zero_is = zero_is ∙ ap bit (sym none)
-thaw_unstored (Done answer) e trace none zero_is = refl
+    between (holder_role_of (phase_after (map_next Phase.Thaws next))) ≡ 0 → IsTold (phase_after (map_next Phase.Thaws next)) (e ∷ trace)
+thaw_unstored (Next.Go x) e trace none zero_is = zero_is ∙ ap bit (sym none)
+thaw_unstored (Next.Wait x) e trace none zero_is = zero_is ∙ ap bit (sym none)
+thaw_unstored (Next.Done answer) e trace none zero_is = refl
 
--- a word of some holders is not 0
 not_nobody : (word : ℕ) → is_held word ≡ 1 → (word == 0) ≡ false
 not_nobody word some = elim (eqb_tells word 0) [
   | inl q ↦
@@ -136,70 +99,69 @@ module _ (c : Config) (w : World) (good : IsGood c w) (t : ℕ) (lt : t < c.task
       omega (arith, before_holds.held, (after Holding).held, changes, held_same, four_same, was)
 
   -- an event of a freeze that is not between two stores, and doesn't come to be
-  freeze_spares : (x : Freeze) (hook : HookAnswer) → (w.views t).phase ≡ Some (Freezes x) → IsGood c (after_step w t (Freezes x) hook) →
-      Spares w.words (freeze_next x x.step hook) → between (holder_role_of (Some (Freezes x))) ≡ 0 → IsToldAfter (Freezes x) hook
+  freeze_spares : (x : Freeze) (hook : HookAnswer) → (w.views t).phase ≡ Some (Phase.Freezes x) → IsGood c (after_step w t (Phase.Freezes x) hook) →
+      Spares w.words (freeze_next x x.step hook) → between (holder_role_of (Some (Phase.Freezes x))) ≡ 0 → IsToldAfter (Phase.Freezes x) hook
   freeze_spares x hook e after spares apart =
-      freeze_unstored (freeze_after x x.step (found_at w.words (Freezes x) hook) hook).0
-      (with_hook (event_of (freeze_next x x.step hook).0 (freeze_next x x.step hook).1 (value_at w.words (Freezes x) hook)) hook)
-      (w.views t).trace spares.2 (stays (Freezes x) hook e after spares ∙ apart)
+      freeze_unstored (freeze_after x x.step (found_at w.words (Phase.Freezes x) hook) hook).0
+      (with_hook (event_of (freeze_next x x.step hook).0 (freeze_next x x.step hook).1 (value_at w.words (Phase.Freezes x) hook)) hook)
+      (w.views t).trace spares.2 (stays (Phase.Freezes x) hook e after spares ∙ apart)
 
-  -- the same of a thaw
-  thaw_spares : (x : Thaw) (hook : HookAnswer) → (w.views t).phase ≡ Some (Thaws x) → IsGood c (after_step w t (Thaws x) hook) →
-      Spares w.words (thaw_next x x.step hook) → between (holder_role_of (Some (Thaws x))) ≡ 0 → IsToldAfter (Thaws x) hook
+  thaw_spares : (x : Thaw) (hook : HookAnswer) → (w.views t).phase ≡ Some (Phase.Thaws x) → IsGood c (after_step w t (Phase.Thaws x) hook) →
+      Spares w.words (thaw_next x x.step hook) → between (holder_role_of (Some (Phase.Thaws x))) ≡ 0 → IsToldAfter (Phase.Thaws x) hook
   thaw_spares x hook e after spares apart =
-      thaw_unstored (thaw_after x x.step (found_at w.words (Thaws x) hook) hook).0
-      (with_hook (event_of (thaw_next x x.step hook).0 (thaw_next x x.step hook).1 (value_at w.words (Thaws x) hook)) hook)
-      (w.views t).trace spares.3 (stays (Thaws x) hook e after spares ∙ apart)
+      thaw_unstored (thaw_after x x.step (found_at w.words (Phase.Thaws x) hook) hook).0
+      (with_hook (event_of (thaw_next x x.step hook).0 (thaw_next x x.step hook).1 (value_at w.words (Phase.Thaws x) hook)) hook)
+      (w.views t).trace spares.3 (stays (Phase.Thaws x) hook e after spares ∙ apart)
 
   -- each event of a freeze
-  freeze_told : (x : Freeze) (s : FreezeStep) (hook : HookAnswer) → (w.views t).phase ≡ Some (Freezes (record x { step = s })) →
-      IsGood c (after_step w t (Freezes (record x { step = s })) hook) → IsToldAfter (Freezes (record x { step = s })) hook
-  freeze_told x Locks hook e after = freeze_spares (record x { step = Locks }) hook e after (refl, refl, refl, refl) refl
-  freeze_told x LoadsStage hook e after = freeze_spares (record x { step = LoadsStage }) hook e after (refl, refl, refl, refl) refl
-  freeze_told x LoadsHolders hook e after = freeze_spares (record x { step = LoadsHolders }) hook e after (refl, refl, refl, refl) refl
-  freeze_told x LoadsSuperblock hook e after = freeze_spares (record x { step = LoadsSuperblock }) hook e after (refl, refl, refl, refl) refl
+  freeze_told : (x : Freeze) (s : FreezeStep) (hook : HookAnswer) → (w.views t).phase ≡ Some (Phase.Freezes (record x { step = s })) →
+      IsGood c (after_step w t (Phase.Freezes (record x { step = s })) hook) → IsToldAfter (Phase.Freezes (record x { step = s })) hook
+  freeze_told x FreezeStep.Locks hook e after = freeze_spares (record x { step = FreezeStep.Locks }) hook e after (refl, refl, refl, refl) refl
+  freeze_told x FreezeStep.LoadsStage hook e after = freeze_spares (record x { step = FreezeStep.LoadsStage }) hook e after (refl, refl, refl, refl) refl
+  freeze_told x FreezeStep.LoadsHolders hook e after = freeze_spares (record x { step = FreezeStep.LoadsHolders }) hook e after (refl, refl, refl, refl) refl
+  freeze_told x FreezeStep.LoadsSuperblock hook e after =
+      freeze_spares (record x { step = FreezeStep.LoadsSuperblock }) hook e after (refl, refl, refl, refl) refl
   freeze_told x (Closes d) hook e after =
       freeze_spares (record x { step = Closes d }) hook e after (down_write_spares w.words d d.step) refl
-  freeze_told x LocksAgain hook e after = freeze_spares (record x { step = LocksAgain }) hook e after (refl, refl, refl, refl) refl
-  freeze_told x (Cleans marks) hook e after = freeze_spares (record x { step = Cleans marks }) hook e after (refl, refl, refl, refl) refl
-  freeze_told x SetsFs (Ok answer) e after = refl
-  freeze_told x SetsFs (Err code) e after = refl
-  freeze_told x SetsComplete (Ok answer) e after = refl
-  freeze_told x SetsComplete (Err code) e after = refl
-  freeze_told x (Reopens u code) hook e after =
-      freeze_spares (record x { step = Reopens u code }) hook e after (up_write_spares w.words u u.step) refl
+  freeze_told x FreezeStep.LocksAgain hook e after = freeze_spares (record x { step = FreezeStep.LocksAgain }) hook e after (refl, refl, refl, refl) refl
+  freeze_told x (FreezeStep.Cleans marks) hook e after = freeze_spares (record x { step = FreezeStep.Cleans marks }) hook e after (refl, refl, refl, refl) refl
+  freeze_told x FreezeStep.SetsFs (Ok answer) e after = refl
+  freeze_told x FreezeStep.SetsFs (Err code) e after = refl
+  freeze_told x FreezeStep.SetsComplete (Ok answer) e after = refl
+  freeze_told x FreezeStep.SetsComplete (Err code) e after = refl
+  freeze_told x (FreezeStep.Reopens u code) hook e after =
+      freeze_spares (record x { step = FreezeStep.Reopens u code }) hook e after (up_write_spares w.words u u.step) refl
   freeze_told x other hook e after = refl
 
   -- and of a thaw: who leaves others stores that these hold a freeze
-  thaw_told : (x : Thaw) (s : ThawStep) (hook : HookAnswer) → (w.views t).phase ≡ Some (Thaws (record x { step = s })) →
-      IsGood c (after_step w t (Thaws (record x { step = s })) hook) → IsToldAfter (Thaws (record x { step = s })) hook
-  thaw_told x ThawLocks hook e after = thaw_spares (record x { step = ThawLocks }) hook e after (refl, refl, refl, refl) refl
-  thaw_told x ThawLoadsStage hook e after = thaw_spares (record x { step = ThawLoadsStage }) hook e after (refl, refl, refl, refl) refl
-  thaw_told x ThawLoadsHolders hook e after = thaw_spares (record x { step = ThawLoadsHolders }) hook e after (refl, refl, refl, refl) refl
-  thaw_told x (StoresOthers held) hook e after =
+  thaw_told : (x : Thaw) (s : ThawStep) (hook : HookAnswer) → (w.views t).phase ≡ Some (Phase.Thaws (record x { step = s })) →
+      IsGood c (after_step w t (Phase.Thaws (record x { step = s })) hook) → IsToldAfter (Phase.Thaws (record x { step = s })) hook
+  thaw_told x ThawStep.Locks hook e after = thaw_spares (record x { step = ThawStep.Locks }) hook e after (refl, refl, refl, refl) refl
+  thaw_told x ThawStep.LoadsStage hook e after = thaw_spares (record x { step = ThawStep.LoadsStage }) hook e after (refl, refl, refl, refl) refl
+  thaw_told x ThawStep.LoadsHolders hook e after = thaw_spares (record x { step = ThawStep.LoadsHolders }) hook e after (refl, refl, refl, refl) refl
+  thaw_told x (ThawStep.Leaves held) hook e after =
       let fits = subst (λ p. Fits c t (held_at (w.views t)) (holds_level (w.views t)) p) e (good Fitting t lt) in
       let others = with_holder x.holder false held in
       ap bit (sym (not_nobody (word_of others) (held_word others fits.2.1)))
-  thaw_told x ThawLoadsSuperblock hook e after =
-      thaw_spares (record x { step = ThawLoadsSuperblock }) hook e after (refl, refl, refl, refl) refl
-  thaw_told x LeavesLast (Ok answer) e after = refl
-  thaw_told x LeavesLast (Err code) e after = refl
-  thaw_told x (ThawReopens u) hook e after =
-      thaw_spares (record x { step = ThawReopens u }) hook e after (up_write_spares w.words u u.step) refl
+  thaw_told x ThawStep.LoadsSuperblock hook e after =
+      thaw_spares (record x { step = ThawStep.LoadsSuperblock }) hook e after (refl, refl, refl, refl) refl
+  thaw_told x ThawStep.LeavesLast (Ok answer) e after = refl
+  thaw_told x ThawStep.LeavesLast (Err code) e after = refl
+  thaw_told x (ThawStep.Reopens u) hook e after =
+      thaw_spares (record x { step = ThawStep.Reopens u }) hook e after (up_write_spares w.words u u.step) refl
   thaw_told x other hook e after = refl
 
-  -- so of each phase
   phase_told : (phase : Phase) (hook : HookAnswer) → (w.views t).phase ≡ Some phase → IsGood c (after_step w t phase hook) →
       IsToldAfter phase hook
-  phase_told (Mounts phase) hook e after = quiet Mounts (λ x trace. refl) _ _
-  phase_told (Remounts x) hook e after = quiet Remounts (λ x trace. refl) _ _
-  phase_told (DownReads r) hook e after = quiet DownReads (λ x trace. refl) _ _
-  phase_told (UpReads u) hook e after = refl
-  phase_told (Callbacks b) hook e after = quiet Callbacks (λ x trace. refl) _ _
-  phase_told (Writes x) hook e after = quiet Writes (λ x trace. refl) _ _
-  phase_told (Freezes x) hook e after = freeze_told x x.step hook e after
-  phase_told (Thaws x) hook e after = thaw_told x x.step hook e after
-  phase_told (Trees phase) hook e after = quiet Trees (λ x trace. refl) _ _
+  phase_told (Phase.Mounts phase) hook e after = quiet Phase.Mounts (λ x trace. refl) _ _
+  phase_told (Phase.Remounts x) hook e after = quiet Phase.Remounts (λ x trace. refl) _ _
+  phase_told (Phase.DownReads r) hook e after = quiet Phase.DownReads (λ x trace. refl) _ _
+  phase_told (Phase.UpReads u) hook e after = refl
+  phase_told (Phase.Callbacks b) hook e after = quiet Phase.Callbacks (λ x trace. refl) _ _
+  phase_told (Phase.Writes x) hook e after = quiet Phase.Writes (λ x trace. refl) _ _
+  phase_told (Phase.Freezes x) hook e after = freeze_told x x.step hook e after
+  phase_told (Phase.Thaws x) hook e after = thaw_told x x.step hook e after
+  phase_told (Phase.Trees phase) hook e after = quiet Phase.Trees (λ x trace. refl) _ _
   phase_told (Closes phase) hook e after = quiet Closes (λ x trace. refl) _ _
 
   step_told : (hook : HookAnswer) (p : Option Phase) → (w.views t).phase ≡ p → IsGood c (step_of w t hook p) → AllTold w →
@@ -209,9 +171,8 @@ module _ (c : Config) (w : World) (good : IsGood c w) (t : ℕ) (lt : t < c.task
       each_updated (λ y (v : View). IsTold v.phase v.trace) w.views t
       (view_after (w.views t) phase (value_at w.words phase hook) hook) x (phase_told phase hook e after) (λ ne. told x)
 
--- nothing has happened in an operation that begins
 none_yet : (phase : Phase) → is_between (Some phase) [] ≡ false
-none_yet (Mounts phase) = refl
+none_yet (Phase.Mounts phase) = refl
 none_yet other = refl
 
 begin_told : (c : Config) (w : World) (t : ℕ) (op : Op) (refused : Option GateError) → AllTold w → AllTold (begin_of c w t op refused)
@@ -220,7 +181,6 @@ begin_told c w t op None told x =
     each_updated (λ y (v : View). IsTold v.phase v.trace) w.views t (begun_view (w.views t) op (first_phase c t op)) x
     (ap between ((op_keeps c op).starts_idle t).holder_same ∙ ap bit (sym (none_yet (first_phase c t op)))) (λ ne. told x)
 
--- each entry keeps it
 pub entry_told : (c : Config) (w : World) (e : Entry) → IsGood c w → IsGood c (happens c w e) → AllTold w → AllTold (happens c w e)
 entry_told c w (Begins t op) good after told = begin_told c w t op (begin_refusal c w t op) told
 entry_told c w (Steps t hook) good after told =
@@ -233,7 +193,6 @@ entry_told c w (Steps t hook) good after told =
       | inr l ↦ rw (le-ltb t c.tasks l) told
     ]
 
--- it holds at the opening
 pub opening_told : AllTold opening
 opening_told t = refl
 
@@ -250,5 +209,5 @@ holders_told c w good told =
       held_where_frozen = λ some. ((exactly.0 some).0, λ t lt. bit_none _ (sym ((exactly.0 some).1 t lt) ∙ told t));
       frozen_where_held = λ four none. exactly.1 four (λ t lt. told t ∙ ap bit (none t lt));
       as_shown = (good Holding).lawful;
-      as_found = λ t lt own value left. good Known t lt own Holders value left;
+      as_found = λ t lt own value left. good Known t lt own WordName.Holders value left;
     }

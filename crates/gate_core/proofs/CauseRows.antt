@@ -1,19 +1,15 @@
 -- Worked schedules of refusals and their causes, by computing: in which worlds a cause may lie.
-use Rattle.std.proofs.Common.{◌≡◌, true, false, List, [], ◌++◌, refl, arith}
-use Rattle.std.specs.Prelude.{Ok, Err, ◌∷◌, length}
-use Rattle.access_model.specs.declared.errors.GateError.TheVariants.{Again, Busy}
+use Rattle.std.{proofs.Common.{◌≡◌, true, false, List, [], ◌++◌, refl, arith}, specs.Prelude.{Ok, Err, ◌∷◌, length}}
+use Rattle.access_model.specs.declared.errors.GateError.{GateError}
 use Rattle.gate_world.specs.Causes.{trail_of, since_begun, last_question, moments_of_sum, was_counted, SomeWasCounted, WantRefused, ChangeRefused}
-use Rattle.gate_world.specs.declared.operations.Op.TheVariants.{Want, ChangeMount, RemountSb}
-use Rattle.gate_world.specs.Worlds.{Entry, Begins, run, opening}
-use Rattle.gate_core.specs.declared.steps.Progress.TheVariants.{Done}
-use Rattle.gate_core.specs.Answers.{step_answer}
-use Rattle.gate_core.proofs.Rows.{small, steps}
+use Rattle.gate_world.specs.{Worlds.{Entry, Begins, run, opening}, declared.operations.Op.Op}
+use Rattle.gate_core.{proofs.Rows.{small, steps}, specs.{Answers.step_answer, declared.steps.Progress.Progress}}
 
 -- a remount while another task holds an access, up to its last step, which refuses it as busy
 abbrev remounts : List Entry
-remounts = Begins 0 (Want 0 1 true) ∷ steps 5 0 ++ (Begins 1 (RemountSb true) ∷ steps 9 1)
+remounts = Begins 0 (Op.Want 0 1 true) ∷ steps 5 0 ++ (Begins 1 (Op.RemountSb true) ∷ steps 9 1)
 
-remounts_ends : (step_answer small (run small opening remounts) 1 (Ok tt)).progress ≡ Done (Err Busy)
+remounts_ends : (step_answer small (run small opening remounts) 1 (Ok tt)).progress ≡ Progress.Done (Err GateError.Busy)
 unfolding lib.Count.count_trailing_zeros
 remounts_ends = refl
 
@@ -24,7 +20,7 @@ remounts_cause = (0, omega arith, (refl, (refl, tt)), refl)
 
 -- a remount that has only begun, by a task whose change was refused as busy before it
 abbrev begins : List Entry
-begins = Begins 0 (Want 0 1 true) ∷ steps 5 0 ++ (Begins 1 (ChangeMount 0 true true) ∷ steps 8 1) ++ (Begins 1 (RemountSb true) ∷ [])
+begins = Begins 0 (Op.Want 0 1 true) ∷ steps 5 0 ++ (Begins 1 (Op.ChangeMount 0 true true) ∷ steps 8 1) ++ (Begins 1 (Op.RemountSb true) ∷ [])
 
 -- something was counted in the worlds of the change's sum, which are not the remount's: it has summed nothing
 begins_before : was_counted small 0 (moments_of_sum 1 (trail_of small begins)) ≡ true
@@ -39,21 +35,21 @@ begins_since = refl
 
 -- a want that doesn't wait, up to its last step, while a change has HOLD set: it is refused again
 abbrev wants : List Entry
-wants = Begins 0 (ChangeMount 0 true true) ∷ steps 4 0 ++ (Begins 1 (Want 0 1 false) ∷ steps 2 1)
+wants = Begins 0 (Op.ChangeMount 0 true true) ∷ steps 4 0 ++ (Begins 1 (Op.Want 0 1 false) ∷ steps 2 1)
 
-wants_ends : (step_answer small (run small opening wants) 1 (Ok tt)).progress ≡ Done (Err Again)
+wants_ends : (step_answer small (run small opening wants) 1 (Ok tt)).progress ≡ Progress.Done (Err GateError.Again)
 wants_ends = refl
 
 -- for the task that had it set when the want asked
-wants_cause : WantRefused small 1 0 (last_question 1 (since_begun 1 (trail_of small wants))) Again
+wants_cause : WantRefused small 1 0 (last_question 1 (since_begun 1 (trail_of small wants))) GateError.Again
 wants_cause = (0, omega arith, (λ same. omega (arith, same)), refl)
 
 -- a change that doesn't wait is, by its first step, for the task that owns `umount`
 abbrev changes : List Entry
-changes = Begins 0 (ChangeMount 0 true true) ∷ steps 1 0 ++ (Begins 1 (ChangeMount 0 false false) ∷ [])
+changes = Begins 0 (Op.ChangeMount 0 true true) ∷ steps 1 0 ++ (Begins 1 (Op.ChangeMount 0 false false) ∷ [])
 
-changes_ends : (step_answer small (run small opening changes) 1 (Ok tt)).progress ≡ Done (Err Again)
+changes_ends : (step_answer small (run small opening changes) 1 (Ok tt)).progress ≡ Progress.Done (Err GateError.Again)
 changes_ends = refl
 
-changes_cause : ChangeRefused small 1 (since_begun 1 (trail_of small changes)) 0 Again
+changes_cause : ChangeRefused small 1 (since_begun 1 (trail_of small changes)) 0 GateError.Again
 changes_cause = (0, omega arith, (λ same. omega (arith, same)), refl)

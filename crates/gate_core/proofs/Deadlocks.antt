@@ -1,17 +1,9 @@
 -- Of every schedule: a reply is near, or each operation under way is kept.
 use Rattle.std.specs.Prelude.{List}
-use Rattle.gate_world.specs.declared.config.Config.{Config}
-use Rattle.gate_world.specs.Configs.{IsWithin}
-use Rattle.gate_world.specs.Headline.{world_after}
-use Rattle.gate_world.specs.Worlds.{Entry}
-use Rattle.progress_laws.specs.Progress.{EventsKeepRule, EventsMoveModel, KeptStaysKept, NobodyIsDeadlocked, RepliesOrIsFrozen}
-use Rattle.progress_laws.specs.Ranks.{most_events_to_reply}
-use Rattle.progress_laws.proofs.Layers.{phase_ends}
-use Rattle.progress_laws.proofs.Whole.{world_goes}
-use Rattle.progress_laws.proofs.Plain.{world_replies}
-use Rattle.progress_laws.proofs.KeptStays.{kept_stays}
-use Rattle.gate_core.proofs.Layers.{phase_keeps}
-use Rattle.gate_core.proofs.Whole.{whole_rule}
+use Rattle.gate_world.specs.{Configs.IsWithin, Headline.world_after, Worlds.Entry, declared.config.Config.Config}
+use Rattle.progress_laws.proofs.{KeptStays.kept_stays, Layers.phase_ends, Plain.world_replies, Whole.world_goes}
+use Rattle.progress_laws.specs.{Progress.{EventsKeepRule, EventsMoveModel, KeptStaysKept, NobodyIsDeadlocked, RepliesOrIsFrozen}, Ranks.most_events_to_reply}
+use Rattle.gate_core.proofs.{Layers.phase_keeps, Whole.whole_rule}
 
 module _ (c : Config) (lim : IsWithin c) where
   events_keep_rule : EventsKeepRule c

@@ -1,27 +1,14 @@
 -- Each entry, and so each schedule, keeps what is said of the causes of refusals.
-use Rattle.std.proofs.Common.{◌≡◌, ℕ, ◌<◌, refl, sym, ap, subst, inl, inr, arith}
+use Rattle.std.proofs.{Common.{◌≡◌, ℕ, ◌<◌, refl, sym, ap, subst, inl, inr, arith}, lemmas.Bool.{ltb-true, cases_Bool, Decides.eqb_tells}}
 use Rattle.std.specs.Prelude.{nat_lt, Option, Some, None, List, [], ◌∷◌}
-use Rattle.std.proofs.lemmas.Bool.{ltb-true, cases_Bool}
-use Rattle.std.proofs.lemmas.Bool.Decides.{eqb_tells}
 use Rattle.finite_sums.proofs.Totals.{update_at, update_off}
 use Rattle.access_model.specs.declared.errors.GateError.{GateError}
-use Rattle.cpu_words.specs.Hooks.{HookAnswer}
-use Rattle.gate_world.specs.declared.config.Config.{Config}
-use Rattle.gate_world.specs.declared.operations.Op.{Op}
-use Rattle.gate_world.specs.declared.work.Phase.{Phase}
-use Rattle.gate_world.specs.declared.views.View.{View}
-use Rattle.gate_world.specs.Views.{held_at, holds_level, begun_view, view_after}
-use Rattle.gate_world.specs.Fits.{Fits}
-use Rattle.gate_world.specs.Beginnings.{first_phase, view_refusal}
+use Rattle.cpu_words.specs.{Hooks.HookAnswer, Names.IsWord, Touches.left}
+use Rattle.gate_world.specs.{Beginnings.{first_phase, view_refusal}, Causes.{trail, since_begun}, Fits.Fits, KeptCauses.{CauseOf, Causes}}
+use Rattle.gate_world.specs.{Rules.{IsGood, Fitting}, Views.{held_at, holds_level, begun_view, view_after}, Work.next_of}
 use Rattle.gate_world.specs.Worlds.{World, Entry, Begins, Steps, after_begin, begin_of, after_step, step_of, value_at, happens, run}
-use Rattle.gate_world.specs.Rules.{IsGood, Fitting}
-use Rattle.gate_world.specs.Causes.{trail, since_begun}
-use Rattle.gate_frames.proofs.Keeps.{IsQuiet, extents_touched}
-use Rattle.gate_frames.proofs.Quiet.{write_quiet}
-use Rattle.gate_world.specs.Work.{next_of}
-use Rattle.cpu_words.specs.Names.{IsWord}
-use Rattle.cpu_words.specs.Touches.{left}
-use Rattle.gate_world.specs.KeptCauses.{CauseOf, Causes}
+use Rattle.gate_world.specs.declared.{config.Config.Config, operations.Op.Op, views.View.View, work.Phase.Phase}
+use Rattle.gate_frames.proofs.{Keeps.{IsQuiet, extents_touched}, Quiet.write_quiet}
 use Rattle.gate_core.proofs.Layers.{phase_keeps, op_keeps}
 
 -- a task that is at an operation had begun it, so its worlds go on

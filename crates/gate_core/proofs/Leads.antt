@@ -1,18 +1,12 @@
 -- While a freeze sums a level's words, nobody is on the level's fast path, so what is held there is all that is admitted.
 use Rattle.std.proofs.Common.{◌≡◌, ◌+◌, refl, ap, ◌∙◌, subst, arith}
-use Rattle.finite_sums.specs.Sums.{total}
-use Rattle.finite_sums.proofs.Totals.{total_add, total_at, total_none, total_same}
-use Rattle.gate_counts.specs.Gates.{bars, admitted, unread, BarringHolds}
-use Rattle.gate_counts.specs.Levels.{Summing, barring_of, level_as_gate}
-use Rattle.gate_frames.proofs.LevelWorlds.{fast_finds_open}
-use Rattle.gate_world.specs.declared.config.Config.{Config}
-use Rattle.gate_world.specs.Headline.{admitted_at, LevelsLead}
-use Rattle.gate_world.specs.Levels.{at_level, sync_role_of}
-use Rattle.gate_world.specs.Rules.{IsGood, AtLevel, LevelHoldsIn}
-use Rattle.gate_world.specs.Worlds.{World}
+use Rattle.finite_sums.{proofs.Totals.{total_add, total_at, total_none, total_same}, specs.Sums.total}
+use Rattle.gate_counts.specs.{Gates.{bars, admitted, unread, BarringHolds}, Levels.{Summing, barring_of, level_as_gate}}
 use Rattle.level_laws.specs.Roles.{SyncRole, Fast, fast}
+use Rattle.gate_world.specs.{Headline.{admitted_at, LevelsLead}, Levels.{at_level, sync_role_of}, Rules.{IsGood, AtLevel, LevelHoldsIn}, Worlds.World}
+use Rattle.gate_world.specs.declared.config.Config.{Config}
+use Rattle.gate_frames.proofs.LevelWorlds.{fast_finds_open}
 
--- who isn't on the fast path
 not_fast : (r : SyncRole) → (r ≡ Fast → ⊥) → fast r ≡ 0
 not_fast Fast h = absurd (h refl)
 not_fast r h = refl

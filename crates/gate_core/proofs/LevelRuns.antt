@@ -1,33 +1,18 @@
 -- Each freeze level of a schedule is a run of it, so its grace periods are kept.
-use Rattle.level_laws.proofs.IdleLaws.{only_callbacks_idle}
-use Rattle.level_laws.proofs.Whole.{idle_is_earned}
-use Rattle.level_laws.proofs.SlowLaws.{stays_slow}
-use Rattle.level_laws.proofs.GraceLaws.{graces_are_whole}
-use Rattle.std.proofs.Common.{◌≡◌, ℕ, zero, suc, ◌<◌, ◌≤◌, refl, sym, ap, ◌∙◌, inl, inr, arith}
+use Rattle.std.proofs.{Common.{◌≡◌, ℕ, zero, suc, ◌<◌, ◌≤◌, refl, sym, ap, ◌∙◌, inl, inr, arith}, lemmas.Bool.{cases_Bool, ltb-true}}
 use Rattle.std.specs.Prelude.{Option, Some, None, List, [], ◌∷◌, length, take, nat_lt, is_some}
-use Rattle.std.proofs.lemmas.Bool.{cases_Bool, ltb-true}
 use Rattle.access_model.specs.declared.errors.GateError.{GateError}
 use Rattle.cpu_words.specs.Hooks.{HookAnswer}
+use Rattle.level_laws.proofs.{GraceLaws.graces_are_whole, IdleLaws.only_callbacks_idle, SlowLaws.stays_slow, Whole.idle_is_earned}
 use Rattle.level_laws.specs.Events.{SyncLevelHolds, SyncStep, SyncRun}
-use Rattle.gate_world.specs.declared.config.Config.{Config}
-use Rattle.gate_world.specs.declared.operations.Op.{Op}
-use Rattle.gate_world.specs.declared.work.Phase.{Phase}
-use Rattle.gate_world.specs.Configs.{IsWithin}
-use Rattle.gate_world.specs.Beginnings.{first_phase, view_refusal}
-use Rattle.gate_world.specs.LevelRuns.{level_in, level_after, IsLevelRun, GracesAreKept, LevelsAreRuns}
-use Rattle.gate_world.specs.Levels.{inside, sync_role_of}
-use Rattle.gate_world.specs.Rules.{IsGood}
-use Rattle.gate_world.specs.Views.{begun_view, held_at, holds_level, has_open}
-use Rattle.gate_world.specs.Worlds.{World, Entry, Begins, Steps, begin_of, step_of, happens, run, opening}
-use Rattle.gate_frames.proofs.LevelSteps.{level_stays, level_kept}
-use Rattle.gate_frames.proofs.LevelWorlds.{level_right}
-use Rattle.gate_core.proofs.Beginnings.{may_begin}
-use Rattle.gate_core.proofs.Layers.{phase_keeps, op_keeps}
-use Rattle.gate_core.proofs.Schedule.{idle_is, happens_keeps}
-use Rattle.gate_core.proofs.Whole.{whole_rule}
+use Rattle.gate_world.specs.{Beginnings.{first_phase, view_refusal}, Configs.IsWithin}
+use Rattle.gate_world.specs.{LevelRuns.{level_in, level_after, IsLevelRun, GracesAreKept, LevelsAreRuns}, Levels.{inside, sync_role_of}, Rules.IsGood}
+use Rattle.gate_world.specs.{Views.{begun_view, held_at, holds_level, has_open}, Worlds.{World, Entry, Begins, Steps, begin_of, step_of, happens, run, opening}}
+use Rattle.gate_world.specs.declared.{config.Config.Config, operations.Op.Op, work.Phase.Phase}
+use Rattle.gate_frames.proofs.{LevelSteps.{level_stays, level_kept}, LevelWorlds.level_right}
+use Rattle.gate_core.proofs.{Beginnings.may_begin, Layers.{phase_keeps, op_keeps}, Schedule.{idle_is, happens_keeps}, Whole.whole_rule}
 
 module _ (c : Config) (lim : IsWithin c) (i : ℕ) (one : 1 ≤ i) (three : i ≤ 3) where
-  -- an entry that leaves the level is a step of any task
   still : (w next : World) → level_in next i ≡ level_in w i → SyncStep c.tasks (level_in w i) (level_in next i)
   still w next e = level_stays c.tasks 0 (omega (arith, lim.some_task)) (level_in w i) (level_in next i) e
 
@@ -69,7 +54,6 @@ module _ (c : Config) (lim : IsWithin c) (i : ℕ) (one : 1 ≤ i) (three : i �
   moment_steps (e ∷ es) w good zero lt = entry_steps w good e
   moment_steps (e ∷ es) w good (suc k) lt = moment_steps es (happens c w e) (happens_keeps c lim w good e).0 k (omega (arith, lt))
 
-  -- where all holds of the level
   moment_right : (es : List Entry) (w : World) → IsGood c w → (k : ℕ) → k ≤ length es → SyncLevelHolds c.tasks (level_in (run c w (take k es)) i)
   moment_right [] w good zero le = level_right c w good i one three
   moment_right [] w good (suc k) le = level_right c w good i one three
@@ -77,7 +61,6 @@ module _ (c : Config) (lim : IsWithin c) (i : ℕ) (one : 1 ≤ i) (three : i �
   moment_right (e ∷ es) w good (suc k) le = moment_right es (happens c w e) (happens_keeps c lim w good e).0 k (omega (arith, le))
 
   module _ (entries : List Entry) where
-    -- the level of a schedule is a run
     pub level_runs : IsLevelRun c entries i
     level_runs = record {
       steps = record {
@@ -87,7 +70,6 @@ module _ (c : Config) (lim : IsWithin c) (i : ℕ) (one : 1 ≤ i) (three : i �
       begins = λ t lt. refl;
     }
 
-    -- so its grace periods are kept
     pub level_graces : GracesAreKept c entries i
     level_graces =
         let r : SyncRun c.tasks (length entries) (level_after c entries i) = level_runs.steps in
@@ -102,6 +84,5 @@ module _ (c : Config) (lim : IsWithin c) (i : ℕ) (one : 1 ≤ i) (three : i �
               ((r.steps k lt).task, (r.steps k lt).there, only.1, earned.1, earned.2);
         }
 
--- each level's
 pub whole_levels : (c : Config) → IsWithin c → (entries : List Entry) → LevelsAreRuns c entries
 whole_levels c lim entries i one three = (level_runs c lim i one three entries, level_graces c lim i one three entries)

@@ -1,19 +1,13 @@
 -- Each task's own list is its part of the history.
-use Rattle.std.proofs.Common.{◌≡◌, ℕ, refl, sym, ap, ◌∙◌, inl, inr}
+use Rattle.std.proofs.{Common.{◌≡◌, ℕ, refl, sym, ap, ◌∙◌, inl, inr}, lemmas.Bool.{eq-eqb, ne_eqb, cases_Bool}}
 use Rattle.std.specs.Prelude.{nat_lt, Option, Some, None, List, [], ◌∷◌}
-use Rattle.std.proofs.lemmas.Bool.{eq-eqb, ne_eqb, cases_Bool}
 use Rattle.finite_sums.proofs.Totals.{each_updated}
-use Rattle.access_model.specs.declared.actions.Action.{Action}
-use Rattle.access_model.specs.declared.errors.GateError.{GateError}
-use Rattle.access_model.specs.Histories.{Done, own_part, IsMerge}
+use Rattle.access_model.specs.{Histories.{Done, own_part, IsMerge}, declared.{actions.Action.Action, errors.GateError.GateError}}
 use Rattle.cpu_words.specs.Hooks.{HookAnswer}
-use Rattle.gate_world.specs.declared.config.Config.{Config}
-use Rattle.gate_world.specs.declared.operations.Op.{Op}
-use Rattle.gate_world.specs.declared.work.Phase.{Phase}
-use Rattle.gate_world.specs.declared.views.View.{View}
-use Rattle.gate_world.specs.Views.{actions_after, begun_view, view_after_beside}
-use Rattle.gate_world.specs.Beginnings.{first_phase, view_refusal}
-use Rattle.gate_world.specs.Worlds.{World, Entry, Begins, Steps, begin_of, after_step_beside, step_of, happens, phase_action, action_of, task_of, with_action, value_at, run, history}
+use Rattle.gate_world.specs.{Beginnings.{first_phase, view_refusal}, Views.{actions_after, begun_view, view_after_beside}}
+use Rattle.gate_world.specs.Worlds.{World, Entry, Begins, Steps, begin_of, after_step_beside, step_of, happens, phase_action, action_of, task_of, with_action}
+use Rattle.gate_world.specs.Worlds.{value_at, run, history}
+use Rattle.gate_world.specs.declared.{config.Config.Config, operations.Op.Op, views.View.View, work.Phase.Phase}
 
 -- the lists of a world
 abbrev pub lists : World → ℕ → List Action
@@ -49,7 +43,6 @@ begin_lists c w earlier t op None m x =
     each_updated (λ y (v : View). own_part y earlier ≡ v.actions) w.views t (begun_view (w.views t) op (first_phase c t op)) x (m t)
     (λ ne. m x)
 
--- after any entry
 pub happens_lists : (c : Config) (w : World) (earlier : List Done) (e : Entry) → IsMerge (lists w) earlier →
     IsMerge (lists (happens c w e)) (with_action (task_of e) (action_of c w e) earlier)
 happens_lists c w earlier (Begins t op) m =

@@ -1,18 +1,10 @@
 -- The memory as it begins shows the opening.
-use Rattle.std.proofs.Common.{◌≡◌, ℕ, zero, suc, ◌<◌, false, List, [], length, refl, arith, subst, sym}
-use Rattle.std.proofs.lemmas.List.{length-replicate, get_or-replicate}
+use Rattle.std.proofs.{Common.{◌≡◌, ℕ, zero, suc, ◌<◌, false, List, [], length, refl, arith, subst, sym}, lemmas.List.{length-replicate, get_or-replicate}}
 use Rattle.std.specs.Prelude.{None, slice_index_or, replicate}
-use Rattle.cpu_words.specs.Names.{words_in_all}
-use Rattle.cpu_words.specs.Lists.{AreOpening}
-use Rattle.cpu_words.proofs.Places.{opening_listed}
-use Rattle.gate_world.specs.declared.config.Config.{Config}
-use Rattle.gate_world.specs.Configs.{IsWithin, extents_kept}
-use Rattle.gate_world.specs.Worlds.{opening}
-use Rattle.gate_world.specs.Fits.{Fits}
+use Rattle.cpu_words.{proofs.Places.opening_listed, specs.{Lists.AreOpening, Names.words_in_all}}
+use Rattle.gate_world.specs.{Configs.{IsWithin, extents_kept}, Fits.Fits, Worlds.opening, declared.config.Config.Config}
 use Rattle.gate_frames.proofs.Places.{are_few}
-use Rattle.gate_core.specs.declared.seats.Seat.{Seat}
-use Rattle.gate_core.specs.Seats.{idle_seat, mounts_in, levels_in, files_in}
-use Rattle.gate_core.specs.Memory.{Memory, Shows, IsSound, no_seat}
+use Rattle.gate_core.specs.{Memory.{Memory, Shows, IsSound, no_seat}, Seats.{idle_seat, mounts_in, levels_in, files_in}, declared.seats.Seat.Seat}
 
 -- a list of one value has it at each place, and past its end where it is the default
 one_value : {A : Type 0} (n i : ℕ) (x : A) → slice_index_or (replicate n x) i x ≡ x
@@ -24,23 +16,18 @@ module _ (c : Config) (within : IsWithin c) (words : List ℕ) (opens : AreOpeni
   abbrev memory : Memory
   memory = record { config = c; words = words; seats = replicate c.tasks idle_seat }
 
-  -- what holds of an idle seat holds of each
   at_seat : (P : Seat → Type 0) → P idle_seat → (t : ℕ) → t < c.tasks → P (slice_index_or (replicate c.tasks idle_seat) t no_seat)
   at_seat P p t lt = subst P (sym (get_or-replicate c.tasks t idle_seat no_seat lt)) p
 
-  -- an idle seat holds nothing
   zero_held : (m : ℕ) → m < 8 → mounts_in idle_seat m ≡ 0
   zero_held m lm = get_or-replicate 8 m 0 0 lm
 
-  -- nor is it inside a level
   no_level : (i : ℕ) → i < 4 → levels_in idle_seat i ≡ false
   no_level i l = get_or-replicate 4 i false false l
 
-  -- and has no file open
   no_file : (n : ℕ) → files_in idle_seat n ≡ false
   no_file n = one_value 64 n false
 
-  -- the memory shows the opening
   pub opening_shown : Shows memory opening
   opening_shown = record {
     words =
@@ -52,7 +39,6 @@ module _ (c : Config) (within : IsWithin c) (words : List ℕ) (opens : AreOpeni
     files = λ t n lt. at_seat (λ (s : Seat). files_in s n ≡ false) (no_file n) t lt;
   }
 
-  -- and is sound
   pub opening_sound : IsSound memory
   opening_sound = record {
     within = within;

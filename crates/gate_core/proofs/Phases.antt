@@ -1,18 +1,10 @@
 -- A phase that fits: the word of its next event is there and has a place, the action of the event can be done, and the phase that comes
 -- fits.
-use Rattle.std.proofs.Common.{◌≡◌, ℕ, ◌<◌, ◌≤◌, Bool, arith}
-use Rattle.std.specs.Prelude.{Option, Some, None}
-use Rattle.cpu_words.specs.Names.{IsWord, place, words_in_all}
-use Rattle.cpu_words.specs.Hooks.{HookAnswer}
-use Rattle.cpu_words.proofs.Places.{place_small}
-use Rattle.gate_world.specs.declared.config.Config.{Config}
-use Rattle.gate_world.specs.declared.work.Phase.{Phase}
-use Rattle.gate_world.specs.Configs.{IsWithin, extents_kept, extents_among}
-use Rattle.gate_world.specs.Views.{phase_after}
-use Rattle.gate_world.specs.Work.{next_of, after_of}
-use Rattle.gate_world.specs.Fits.{PhaseFits, Fits, ActionFits, mounts_by, levels_by}
-use Rattle.gate_frames.proofs.Keeps.{word_kept}
-use Rattle.gate_frames.proofs.Places.{few_among}
+use Rattle.std.{proofs.Common.{◌≡◌, ℕ, ◌<◌, ◌≤◌, Bool, arith}, specs.Prelude.{Option, Some, None}}
+use Rattle.cpu_words.{proofs.Places.place_small, specs.{Hooks.HookAnswer, Names.{IsWord, place, words_in_all}}}
+use Rattle.gate_world.specs.{Configs.{IsWithin, extents_kept, extents_among}, Fits.{PhaseFits, Fits, ActionFits, mounts_by, levels_by}, Views.phase_after}
+use Rattle.gate_world.specs.{Work.{next_of, after_of}, declared.{config.Config.Config, work.Phase.Phase}}
+use Rattle.gate_frames.proofs.{Keeps.word_kept, Places.few_among}
 use Rattle.gate_core.proofs.Layers.{phase_keeps}
 
 module _ (c : Config) (within : IsWithin c) (t : ℕ) (held : ℕ → ℕ) (levels : ℕ → Bool) where

@@ -1,66 +1,47 @@
 -- Nothing is left behind: with no operation under way nobody has a lock, a remount or a hold.
-use Rattle.percpu_rwsem.specs.SyncWords.{bit, unpack}
-use Rattle.level_laws.specs.Roles.{closed, claimed}
-use Rattle.gate_world.specs.Levels.{is_frozen_whole, sync_role_of, inside}
 use Rattle.std.proofs.Common.{◌≡◌, ◌⊎◌, ◌+◌, ◌/◌, inl, inr, ℕ, zero, suc, ◌<◌, ◌≤◌, refl, ap, ◌∙◌, arith, Bool, false, true, subst, sym, ◌%◌}
+use Rattle.std.proofs.lemmas.Bool.Decides.{eqb_tells}
 use Rattle.std.specs.Prelude.{None}
-use Rattle.finite_sums.specs.Sums.{total}
-use Rattle.finite_sums.proofs.Totals.{total_none}
-use Rattle.mount_counts.specs.Roles.{has_hold, hold_bit}
-use Rattle.mount_laws.proofs.Bits.{hold_unset}
-use Rattle.gate_world.specs.declared.config.Config.{Config}
-use Rattle.gate_world.specs.Worlds.{World}
-use Rattle.gate_world.specs.Rules.{owns, remounts, role_of, IsGood, Owner, Tree, AtMount, SyncHoldsIn, SyncAt, Sections}
-use Rattle.gate_world.specs.Headline.{IsAtRest, IsUntaken, HeldWhereFrozen}
+use Rattle.finite_sums.{proofs.Totals.total_none, specs.Sums.total}
 use Rattle.access_model.specs.States.{is_removed, one_if}
 use Rattle.gated_tree.specs.Roles.{removal}
-use Rattle.gate_world.specs.Trees.{tree_role_of}
-use Rattle.gate_world.specs.Shown.{shown, stage_roles}
-use Rattle.gate_world.specs.Stages.{stage_role_of}
-use Rattle.gate_world.specs.Holders.{holder_role_of}
-use Rattle.gate_world.specs.Rules.{Stages, Holding}
-use Rattle.holder_laws.specs.Roles.{between}
-use Rattle.holder_laws.proofs.HolderLaws.{held_exactly}
-use Rattle.gate_frames.proofs.Holders.{holders_at}
-use Rattle.stage_laws.specs.Roles.{freezes, under_way}
-use Rattle.stage_laws.proofs.Facts.{way_is, other_zero}
-use Rattle.stage_laws.proofs.Whole.{freeze_is_under_way}
-use Rattle.stage_laws.specs.Roles.{Place, Freezing}
-use Rattle.gate_frames.proofs.Stages.{stages_in, stages_right}
+use Rattle.mount_counts.specs.Roles.{has_hold, hold_bit}
+use Rattle.mount_laws.proofs.Bits.{hold_unset}
+use Rattle.percpu_rwsem.specs.SyncWords.{bit, unpack}
+use Rattle.level_laws.specs.Roles.{closed, claimed}
+use Rattle.stage_laws.{proofs.{Facts.{way_is, other_zero}, Whole.freeze_is_under_way}, specs.Roles.{freezes, under_way, Place, Freezing}}
+use Rattle.holder_laws.{proofs.HolderLaws.held_exactly, specs.Roles.between}
+use Rattle.gate_world.specs.{Headline.{IsAtRest, IsUntaken, HeldWhereFrozen, FreezeIsUnderWay}, Holders.holder_role_of}
+use Rattle.gate_world.specs.Levels.{is_frozen_whole, sync_role_of, inside}
+use Rattle.gate_world.specs.Rules.{owns, remounts, role_of, IsGood, Owner, Tree, AtMount, SyncHoldsIn, SyncAt, Sections, Stages, Holding}
+use Rattle.gate_world.specs.{Shown.{shown, stage_roles}, Stages.stage_role_of, Trees.tree_role_of, Worlds.World, declared.config.Config.Config}
+use Rattle.gate_frames.proofs.{Holders.holders_at, Stages.{stages_in, stages_right}}
 use Rattle.call_laws.proofs.Frozen.{idle_sound}
-use Rattle.gate_world.specs.Headline.{FreezeIsUnderWay}
-use Rattle.std.proofs.lemmas.Bool.Decides.{eqb_tells}
 
 module _ (c : Config) (w : World) (good : IsGood c w) (idle : (t : ℕ) → t < c.tasks → (w.views t).phase ≡ None) where
-  -- a number of `umount` that is of no owner is 0
   free : (u : ℕ) → u ≤ c.tasks → ((t : ℕ) → t < c.tasks → u ≡ suc t → owns (w.views t).phase ≡ 1) → u ≡ 0
   free zero le owned = refl
   free (suc t) le owned = absurd (omega (arith, owned t (omega arith) refl, ap owns (idle t (omega arith))))
 
-  -- nobody has HOLD set at a mount
   pub no_hold : (m : ℕ) → m < c.mounts → hold_bit (w.words.flags m) ≡ 0
   no_hold m lm =
       let none : total c.tasks (λ t. has_hold (role_of m (w.views t).phase)) ≡ 0 =
       total_none c.tasks _ (λ t lt. ap (λ p. has_hold (role_of m p)) (idle t lt)) in
       omega (arith, none, (good (AtMount m) lm).gate.flag)
 
-  -- nobody is inside a section
   no_section : (t : ℕ) → t < c.tasks → w.words.section t % 2 ≡ 0
   no_section t lt = good Sections t lt ∙ ap inside (idle t lt)
 
-  -- nobody has closed a level
   no_closed : (i : ℕ) → 1 ≤ i → i ≤ 3 → w.words.block i ≡ is_frozen_whole w.words
   no_closed i l1 l3 =
       let none : total c.tasks (λ t. closed (sync_role_of i (w.views t).phase)) ≡ 0 =
       total_none c.tasks _ (λ t lt. ap (λ p. closed (sync_role_of i p)) (idle t lt)) in
       omega (arith, none, (good (SyncAt i) l1 l3).holds.blocked)
 
-  -- a callback that is taken is 1
   untaken : (b : Bool) → bit b ≡ 0 → b ≡ false
   untaken true h = absurd (omega (arith, h))
   untaken false h = refl
 
-  -- nobody has taken a callback
   no_callback : (i : ℕ) → 1 ≤ i → i ≤ 3 → IsUntaken (unpack (w.words.sync i))
   no_callback i l1 l3 =
       let s : SyncHoldsIn c w i = good (SyncAt i) l1 l3 in
@@ -68,7 +49,6 @@ module _ (c : Config) (w : World) (good : IsGood c w) (idle : (t : ℕ) → t < 
       total_none c.tasks _ (λ t lt. ap (λ p. claimed (sync_role_of i p)) (idle t lt)) in
       subst IsUntaken (sym s.packed) (untaken s.word.taken (omega (arith, none, s.holds.taken)))
 
-  -- nobody is in a freeze
   settled : (w.words.stage ≡ 0) ⊎ (w.words.stage ≡ 4)
   settled =
       let none : total c.tasks (λ t. freezes (stage_roles w t)) ≡ 0 =
@@ -79,7 +59,6 @@ module _ (c : Config) (w : World) (good : IsGood c w) (idle : (t : ℕ) → t < 
         | inr z ↦ inr (omega (arith, z.1, none, way, (good Stages).freezing, (good Stages).stages))
       ]
 
-  -- nobody is between two stores, of the stage and of the holders
   held : HeldWhereFrozen w
   held =
       let exactly = held_exactly c.tasks (holders_at w) (good Holding) in
@@ -92,7 +71,6 @@ module _ (c : Config) (w : World) (good : IsGood c w) (idle : (t : ℕ) → t < 
       total_none c.tasks _ (λ t lt. ap (λ p. removal (tree_role_of (w.views t).trace p)) (idle t lt)) in
       omega (arith, none, (good Tree).removals)
 
-  -- so nothing is left
   pub at_rest : IsAtRest c w
   at_rest = record {
     umount_free = free w.words.umount (good Owner).known (good Owner).owned;
@@ -107,11 +85,9 @@ module _ (c : Config) (w : World) (good : IsGood c w) (idle : (t : ℕ) → t < 
     removals_counted = removals;
   }
 
--- no two freezes are
 at_most_one : (c : Config) (w : World) → IsGood c w → total c.tasks (λ u. freezes (stage_roles w u)) ≤ 1
 at_most_one c w good = omega (arith, (good Stages).freezing, way_is w.words.stage (good Stages).stages, (good Stages).stages)
 
--- at stages 1 to 3 one freeze is under way
 pub a_freeze_is_under_way : (c : Config) (w : World) → IsGood c w → FreezeIsUnderWay c w
 a_freeze_is_under_way c w good low high =
     let f : (t : ℕ) × (t < c.tasks) × (place : Place) × (owner : Bool) × (stage_roles w t ≡ Freezing w.words.stage place owner) =

@@ -1,53 +1,29 @@
 -- Every schedule keeps the rule, and its actions are one run of the access model.
-use Rattle.holder_laws.proofs.HolderLaws.{opens as holders_open}
-use Rattle.gate_world.specs.Owners.{KnowsWords}
-use Rattle.std.proofs.Common.{◌≡◌, ℕ, ◌*◌, ◌%◌, ◌<◌, ◌≤◌, Bool, true, false, refl, sym, ap, ◌∙◌, subst, inl, inr, arith, true≢false}
-use Rattle.std.specs.Prelude.{nat_lt, ◌&&◌, is_some, Option, Some, None, List, [], ◌∷◌}
-use Rattle.std.proofs.Math.Path.{fun_ext}
-use Rattle.std.proofs.lemmas.Bool.Decides.{eqb_tells}
-use Rattle.std.proofs.lemmas.Bool.{cases_Bool, ltb-true}
-use Rattle.finite_sums.specs.Sums.{update, total}
-use Rattle.finite_sums.proofs.Totals.{each_updated, total_same, total_none, total_bound}
-use Rattle.access_model.specs.declared.actions.Action.{Action}
-use Rattle.access_model.specs.declared.errors.GateError.{GateError}
-use Rattle.access_model.specs.Histories.{Done, end_of, IsLegal}
-use Rattle.access_model.specs.States.{State, opening_state, openers, most_tasks, one_if}
-use Rattle.access_model.specs.Actions.{IsAllowed, after_action}
+use Rattle.std.proofs.{Common.{◌≡◌, ℕ, ◌*◌, ◌%◌, ◌<◌, ◌≤◌, true, false, refl, sym, ap, ◌∙◌, subst, inl, inr, arith, true≢false}, Math.Path.fun_ext}
+use Rattle.std.proofs.lemmas.Bool.{cases_Bool, ltb-true, Decides.eqb_tells}
+use Rattle.std.specs.Prelude.{nat_lt, is_some, Option, Some, None, List, [], ◌∷◌}
+use Rattle.finite_sums.{proofs.Totals.{each_updated, total_same, total_none, total_bound}, specs.Sums.{update, total}}
+use Rattle.access_model.specs.{Actions.{IsAllowed, after_action}, Histories.{Done, end_of, IsLegal}, States.{State, opening_state, openers, most_tasks, one_if}}
+use Rattle.access_model.specs.declared.{actions.Action.Action, errors.GateError.GateError}
 use Rattle.cpu_words.specs.Hooks.{HookAnswer}
-use Rattle.mount_counts.specs.Roles.{processor_of, counted, sought, mount_shut}
-use Rattle.gate_counts.proofs.Numbers.{below_le}
-use Rattle.gate_counts.proofs.Events.{words_sum}
-use Rattle.gate_counts.proofs.Flags.{gate_begins}
-use Rattle.gate_world.specs.declared.config.Config.{Config}
-use Rattle.gate_world.specs.declared.operations.Op.{Op}
-use Rattle.gate_world.specs.declared.work.Phase.{Phase}
-use Rattle.gate_world.specs.declared.views.View.{View}
-use Rattle.gate_world.specs.Configs.{IsWithin, model_limits}
-use Rattle.gate_world.specs.Views.{held_at, holds_level, has_open, begun_view}
-use Rattle.gate_world.specs.Beginnings.{first_phase, view_refusal}
-use Rattle.gate_world.specs.Worlds.{World, Entry, Begins, Steps, after_begin, begin_of, step_of, happens, phase_action, action_of, task_of, with_action, run, opening, history}
-use Rattle.gate_world.specs.Shown.{shown}
-use Rattle.gate_counts.specs.Gates.{below, counted as counted_of}
-use Rattle.gate_counts.specs.Levels.{level_as_gate, processor_of as level_processor}
-use Rattle.gate_world.specs.Rules.{role_of, at_mount, MountHoldsIn, LevelHoldsIn, ViewFits, Part, Owner, Stages, Holding, Fitting, AtMount, Holds, IsGood, Moves, owns, Known, Tree, Files, AtLevel, SyncAt, Sections}
-use Rattle.gate_world.specs.Fits.{HasFile, file_of}
+use Rattle.gate_counts.proofs.{Events.words_sum, Flags.gate_begins, Numbers.below_le}
+use Rattle.gate_counts.specs.{Gates.{below, counted as counted_of}, Levels.{level_as_gate, processor_of as level_processor}}
 use Rattle.gated_tree.specs.Nodes.{opens_in}
-use Rattle.gate_world.specs.Headline.{SumsHold, IdleSumsHold}
-use Rattle.gate_core.proofs.Layers.{phase_keeps, op_keeps}
-use Rattle.gate_core.proofs.Beginnings.{MayBegin, may_begin, first_fits}
-use Rattle.gate_frames.proofs.Frames.{view_as, left_alone, opens_left, shown_still, level_view_as}
-use Rattle.gate_frames.proofs.Trees.{tree_within}
-use Rattle.gate_frames.proofs.Beside.{beside_of}
-use Rattle.gate_world.specs.Alike.{IsBeside}
+use Rattle.mount_counts.specs.Roles.{processor_of, counted, sought, mount_shut}
 use Rattle.tree_laws.proofs.Each.{opening_holds}
-use Rattle.gate_world.specs.Levels.{at_level, level_role_of}
 use Rattle.level_laws.proofs.Whole.{opening_is_right}
 use Rattle.stage_laws.proofs.Whole.{opening_is_right as stages_open}
-use Rattle.gate_world.specs.Trees.{tree_bounds, tree_role_of}
-
-pub both : (a b : Bool) → (a && b) ≡ true → (a ≡ true) × (b ≡ true)
-both true b h = (refl, h)
-both false b h = absurd (true≢false (sym h))
+use Rattle.holder_laws.proofs.HolderLaws.{opens as holders_open}
+use Rattle.gate_world.specs.{Alike.IsBeside, Beginnings.{first_phase, view_refusal}, Configs.{IsWithin, model_limits}, Fits.{HasFile, file_of}}
+use Rattle.gate_world.specs.{Headline.{SumsHold, IdleSumsHold}, Levels.{at_level, level_role_of}, Owners.KnowsWords}
+use Rattle.gate_world.specs.Rules.{role_of, at_mount, MountHoldsIn, LevelHoldsIn, ViewFits, Part, Owner, Stages, Holding, Fitting, AtMount, Holds, IsGood}
+use Rattle.gate_world.specs.Rules.{Moves, owns, Known, Tree, Files, AtLevel, SyncAt, Sections}
+use Rattle.gate_world.specs.{Shown.shown, Trees.{tree_bounds, tree_role_of}, Views.{held_at, holds_level, has_open, begun_view}}
+use Rattle.gate_world.specs.Worlds.{World, Entry, Begins, Steps, after_begin, begin_of, step_of, happens, phase_action, action_of, task_of, with_action, run}
+use Rattle.gate_world.specs.Worlds.{opening, history}
+use Rattle.gate_world.specs.declared.{config.Config.Config, operations.Op.Op, views.View.View, work.Phase.Phase}
+use Rattle.gate_frames.proofs.{Beside.beside_of, Frames.{view_as, left_alone, opens_left, shown_still, level_view_as}, Trees.tree_within}
+use Rattle.gate_core.proofs.{Beginnings.{MayBegin, may_begin, first_fits}, Layers.{phase_keeps, op_keeps}}
 
 pub idle_is : (p : Option Phase) → is_some p ≡ false → p ≡ None
 idle_is None h = refl
@@ -160,7 +136,6 @@ module _ (c : Config) (lim : IsWithin c) where
   zeros : (n : ℕ) → total n (λ x. 0) ≡ 0
   zeros n = total_none n (λ x. 0) (λ x lx. refl)
 
-  -- nobody has a file open
   none_open : (n : ℕ) → opens_in (opening.words.node n) ≡ openers (λ t. has_open (opening.views t)) n
   none_open n =
       let nobody : openers (λ t. has_open (opening.views t)) n ≡ 0 = total_none most_tasks (λ t. one_if false) (λ t lt. refl) in
@@ -193,7 +168,6 @@ module _ (c : Config) (lim : IsWithin c) where
   opening_tree : (n : ℕ) → opening_state.tree n ≡ (shown c opening).tree n
   opening_tree n = elim (eqb_tells n 0) [ inl h ↦ rw (h.0, update) refl | inr h ↦ rw (h.0, update) refl ]
 
-  -- which shows the opening state
   pub opening_shown : opening_state ≡ shown c opening
   opening_shown =
       λ i. record opening_state { tree = fun_ext opening_tree i }
@@ -209,7 +183,6 @@ module _ (c : Config) (lim : IsWithin c) where
       total_bound c.tasks 1025 _ (λ x lx. omega (arith, g.gate.room x lx, below_le 0 (processor_of (role_of m (w.views x).phase)))) in
       omega (arith, lim.tasks)
 
-  -- so do a level's
   level_sums : (w : World) → IsGood c w → (i : ℕ) → 1 ≤ i → i ≤ 3 →
       total c.processors (w.words.level i) % 18446744073709551616 ≡ total c.tasks (λ t. counted_of (level_as_gate (at_level i (w.views t))))
   level_sums w good i l1 l3 =
@@ -223,7 +196,6 @@ module _ (c : Config) (lim : IsWithin c) where
   pub gate_sums : (w : World) → IsGood c w → SumsHold c w
   gate_sums w good = record { mounts = mount_sums w good; levels = level_sums w good }
 
-  -- with no operation under way, to the accesses held
   pub idle_sums : (w : World) → IsGood c w → IdleSumsHold c w
   idle_sums w good idle = record {
     mounts = λ m lm.

@@ -1,36 +1,20 @@
 -- Each last snapshot has its moment in the history, and keeps it.
-use Rattle.std.proofs.Common.{◌≡◌, ℕ, ◌<◌, refl, sym, subst, ap, ◌∙◌, inl, inr}
+use Rattle.std.proofs.{Common.{◌≡◌, ℕ, ◌<◌, refl, sym, subst, ap, ◌∙◌, inl, inr}, lemmas.Bool.{cases_Bool, ltb-true}}
 use Rattle.std.specs.Prelude.{nat_lt, false, Option, Some, None, List, [], ◌∷◌, length, slice_index}
-use Rattle.std.proofs.lemmas.Bool.{cases_Bool, ltb-true}
 use Rattle.finite_sums.proofs.Totals.{each_updated, total_same}
-use Rattle.access_model.specs.declared.actions.Action.{Action}
-use Rattle.access_model.specs.declared.errors.GateError.{GateError}
-use Rattle.access_model.specs.declared.actions.NodeInfo.{NodeInfo}
-use Rattle.access_model.specs.States.{State, size_of, is_dirty, IsDirectory}
-use Rattle.access_model.specs.Histories.{Done, end_of, IsLegal, own_part, IsMerge}
-use Rattle.moment_laws.specs.Moments.{HaveDone}
-use Rattle.moment_laws.proofs.Moments.{is_now, stays}
+use Rattle.access_model.specs.{Histories.{Done, end_of, IsLegal, own_part, IsMerge}, States.{State, size_of, is_dirty, IsDirectory}}
+use Rattle.access_model.specs.declared.{actions.{Action.Action, NodeInfo.NodeInfo}, errors.GateError.GateError}
+use Rattle.moment_laws.{proofs.Moments.{is_now, stays}, specs.Moments.HaveDone}
 use Rattle.cpu_words.specs.Hooks.{HookAnswer}
-use Rattle.gated_tree.specs.Trees.{node_at, is_child, HasDirectory, IsSound, IsClean, LoadedSound, LoadedClean}
-use Rattle.gate_world.specs.declared.config.Config.{Config}
-use Rattle.gate_world.specs.declared.operations.Op.{Op}
-use Rattle.gate_world.specs.declared.work.Phase.{Phase}
-use Rattle.gate_world.specs.declared.views.View.{View}
-use Rattle.gated_tree.specs.declared.trees.TreeWords.{TreeWords}
-use Rattle.gate_world.specs.declared.views.Snapshot.{Snapshot}
-use Rattle.gate_world.specs.Configs.{IsWithin, model_limits}
-use Rattle.gate_world.specs.Snapshots.{completes, last_snapshot}
-use Rattle.gate_world.specs.Views.{view_after_beside, begun_view}
-use Rattle.gate_world.specs.Beginnings.{first_phase, view_refusal}
-use Rattle.gate_world.specs.Worlds.{World, Entry, Begins, Steps, begin_of, after_step_beside, step_of, happens, phase_action, action_of, task_of, with_action, found_at, value_at, run, history}
-use Rattle.gate_world.specs.Shown.{shown}
-use Rattle.gate_world.specs.Moments.{HasMoment, AllHaveMoments, IsPresentTree, CompletesNow}
-use Rattle.gate_world.specs.Rules.{IsGood, Moves}
-use Rattle.gate_world.specs.Headline.{FrozenTreeIsWhole}
+use Rattle.gated_tree.specs.{Trees.{node_at, is_child, HasDirectory, IsSound, IsClean, LoadedSound, LoadedClean}, declared.trees.TreeWords.TreeWords}
+use Rattle.gate_world.specs.{Beginnings.{first_phase, view_refusal}, Configs.{IsWithin, model_limits}, Headline.FrozenTreeIsWhole}
+use Rattle.gate_world.specs.{Moments.{HasMoment, AllHaveMoments, IsPresentTree, CompletesNow}, Rules.{IsGood, Moves}, Shown.shown}
+use Rattle.gate_world.specs.{Snapshots.{completes, last_snapshot}, Views.{view_after_beside, begun_view}}
+use Rattle.gate_world.specs.Worlds.{World, Entry, Begins, Steps, begin_of, after_step_beside, step_of, happens, phase_action, action_of, task_of, with_action}
+use Rattle.gate_world.specs.Worlds.{found_at, value_at, run, history}
+use Rattle.gate_world.specs.declared.{config.Config.Config, operations.Op.Op, views.{Snapshot.Snapshot, View.View}, work.Phase.Phase}
 use Rattle.call_laws.proofs.Frozen.{frozen_whole}
-use Rattle.gate_core.proofs.Layers.{phase_keeps}
-use Rattle.gate_core.proofs.Lists.{lists, happens_lists}
-use Rattle.gate_core.proofs.Schedule.{happens_keeps, legal_more}
+use Rattle.gate_core.proofs.{Layers.phase_keeps, Lists.{lists, happens_lists}, Schedule.{happens_keeps, legal_more}}
 
 -- the parent of a node is a directory also in a tree that shows the same nodes
 directory_as : (nodes : ℕ) (old new : ℕ → Option NodeInfo) → ((n : ℕ) → n < nodes → old n ≡ new n) → (node : Option NodeInfo) →
@@ -48,7 +32,6 @@ sound_as nodes used used' old new kids kids' same_used same same_kids sound = re
   parents = λ n lt. subst (HasDirectory nodes new) (same n lt) (directory_as nodes old new same (old n) (sound.parents n lt));
 }
 
--- and as clean
 clean_as : (nodes : ℕ) (old new : ℕ → Option NodeInfo) → ((n : ℕ) → n < nodes → old n ≡ new n) → IsClean nodes old → IsClean nodes new
 clean_as nodes old new same clean n lt = subst (λ node. is_dirty node ≡ false) (same n lt) (clean n lt)
 
@@ -119,7 +102,6 @@ module _ (c : Config) where
         (last_moment t taken v.actions others v.snapshot (merge t) done now (all t)) t a)
         (λ ne. moment_stays log x (w.views x).snapshot (all x) t a)
 
-  -- after a beginning
   pub begin_moments : (w : World) (log : List Done) (t : ℕ) (op : Op) (r : Option GateError) → AllHaveMoments c log w →
       AllHaveMoments c log (begin_of c w t op r)
   begin_moments w log t op (Some refused) all x = all x
@@ -137,7 +119,6 @@ module _ (c : Config) (lim : IsWithin c) where
     step_moments t lt hook (Some phase) e =
         beside_moments c w (frozen_whole c lim w good) log ends [] t hook phase merge tt ((phase_keeps c phase).completes lim w good t lt hook e) all
 
-    -- after any entry
     happens_moments : (e : Entry) → AllHaveMoments c (with_action (task_of e) (action_of c w e) log) (happens c w e)
     happens_moments (Begins t op) =
         elim (cases_Bool (nat_lt t c.tasks)) [

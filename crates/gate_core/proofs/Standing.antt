@@ -1,31 +1,19 @@
 -- A snapshot under way stands in a frozen tree, from its load of stage 4 to its release.
-use Rattle.std.proofs.Common.{◌≡◌, ℕ, ap, subst, sym, true≢false}
-use Rattle.std.specs.Prelude.{Some, Ok, Err, is_some}
-use Rattle.gated_tree.specs.Calls.{words_loaded, reading}
-use Rattle.gated_tree.specs.Roles.{RoleHolds}
-use Rattle.gated_tree.specs.declared.snapshots.SnapshotStep.{SnapshotStep}
-use Rattle.gated_tree.specs.declared.snapshots.SnapshotStep.TheVariants.{Locks, LoadsStage, LoadsUsed, LoadsNode, LoadsKids, Releases}
-use Rattle.gate_world.specs.declared.config.Config.{Config}
-use Rattle.gate_world.specs.Headline.{SnapshotsStand}
-use Rattle.gate_world.specs.Rules.{IsGood, Stages, Tree}
-use Rattle.gate_world.specs.Snapshots.{values_noted}
-use Rattle.gate_world.specs.Stages.{stage_role_of, snapshot_stage_role}
-use Rattle.gate_world.specs.Trees.{tree_bounds, tree_role_of}
-use Rattle.gate_world.specs.Worlds.{World}
+use Rattle.std.{proofs.Common.{◌≡◌, ℕ, ap, subst, sym, true≢false}, specs.Prelude.{Some, Ok, Err, is_some}}
+use Rattle.gated_tree.specs.{Calls.{words_loaded, reading}, Roles.RoleHolds, declared.snapshots.SnapshotStep.SnapshotStep}
 use Rattle.stage_laws.specs.Roles.{KnowsStage}
+use Rattle.gate_world.specs.{Headline.SnapshotsStand, Rules.{IsGood, Stages, Tree}, Snapshots.values_noted, Stages.{stage_role_of, snapshot_stage_role}}
+use Rattle.gate_world.specs.{Trees.{tree_bounds, tree_role_of}, Worlds.World, declared.config.Config.Config}
 
 -- who has loaded words relies on stage 4
 relies : (stage sb nodes words : ℕ) (s : SnapshotStep) → words_loaded nodes s ≡ Some words → KnowsStage stage sb (snapshot_stage_role s) →
     stage ≡ 4
-relies stage sb nodes words Locks e knows = absurd (true≢false (sym (ap is_some e)))
-relies stage sb nodes words LoadsStage e knows = absurd (true≢false (sym (ap is_some e)))
-relies stage sb nodes words LoadsUsed e knows = knows.0
-relies stage sb nodes words (LoadsNode n) e knows = knows.0
-relies stage sb nodes words (LoadsKids n) e knows = knows.0
-relies stage sb nodes words (Releases (Ok reply)) e knows = knows.0
-relies stage sb nodes words (Releases (Err refusal)) e knows = absurd (true≢false (sym (ap is_some e)))
+relies stage sb nodes words SnapshotStep.Locks e knows = absurd (true≢false (sym (ap is_some e)))
+relies stage sb nodes words SnapshotStep.LoadsStage e knows = absurd (true≢false (sym (ap is_some e)))
+relies stage sb nodes words (SnapshotStep.Releases (Ok reply)) e knows = knows.0
+relies stage sb nodes words (SnapshotStep.Releases (Err refusal)) e knows = absurd (true≢false (sym (ap is_some e)))
+relies stage sb nodes words other e knows = knows.0
 
--- so it stands there
 pub snapshots_stand : (c : Config) (w : World) → IsGood c w → SnapshotsStand c w
 snapshots_stand c w good t x words lt at e = (
   relies w.words.stage w.words.sb x.nodes words x.step e

@@ -1,44 +1,23 @@
 -- One step of the core shows what the entry makes of the world.
-use Rattle.std.proofs.Common.{◌≡◌, ℕ, ◌<◌, ◌≤◌, Bool, [], ◌∷◌, ◌++◌, length, get_or, refl, sym, ap, ◌∙◌, subst, arith}
-use Rattle.std.proofs.Math.ListN.{length-set}
+use Rattle.std.proofs.{Common.{◌≡◌, ℕ, ◌<◌, ◌≤◌, Bool, [], ◌∷◌, ◌++◌, length, get_or, refl, sym, ap, ◌∙◌, subst, arith}, Math.ListN.length-set}
+use Rattle.std.proofs.lemmas.{Bool.lt-ltb, List.get_or_default}
 use Rattle.std.specs.Prelude.{Option, Some, slice_index, slice_set}
-use Rattle.std.proofs.lemmas.Bool.{lt-ltb}
-use Rattle.std.proofs.lemmas.List.{get_or_default}
-use Rattle.finite_sums.specs.Sums.{update}
-use Rattle.finite_sums.proofs.Totals.{update_at, update_off}
-use Rattle.access_model.specs.declared.actions.Action.{Action}
-use Rattle.access_model.specs.declared.replies.Next.{Next}
-use Rattle.cpu_words.specs.declared.names.WordName.{WordName}
-use Rattle.cpu_words.specs.declared.events.Touch.{Touch}
-use Rattle.cpu_words.specs.declared.events.Event.{Event}
-use Rattle.cpu_words.specs.Names.{IsWord, place}
-use Rattle.cpu_words.specs.Touches.{left, found_by, event_of}
-use Rattle.cpu_words.specs.Words.{read, put}
-use Rattle.cpu_words.specs.Hooks.{HookAnswer}
-use Rattle.gate_world.specs.declared.config.Config.{Config}
-use Rattle.gate_world.specs.declared.work.Phase.{Phase}
-use Rattle.gate_world.specs.declared.views.View.{View}
-use Rattle.gate_world.specs.Configs.{extents_kept}
-use Rattle.gate_world.specs.Views.{held_at, holds_level, has_open, phase_after, view_after}
-use Rattle.gate_world.specs.Work.{next_of, after_of}
-use Rattle.gate_world.specs.Worlds.{World, Steps, after_step, happens, run, opening}
-use Rattle.gate_world.specs.Fits.{PhaseFits, Fits}
-use Rattle.gate_core.specs.declared.seats.Seat.{Seat}
-use Rattle.gate_world.specs.declared.accesses.Accesses.{Accesses}
-use Rattle.gate_world.specs.Accesses.{mounts_held, accesses_after}
-use Rattle.gate_core.specs.declared.steps.Progress.{Progress}
-use Rattle.gate_core.specs.declared.steps.Step.{Step}
-use Rattle.gate_core.specs.Seats.{mounts_in, levels_in, files_in}
-use Rattle.gate_core.specs.Memory.{Memory, Shows, IsSound, no_seat, seat_of}
-use Rattle.gate_core.specs.Answers.{progress_of, step_answer}
-use Rattle.gate_core.specs.Moves.{phase_in, stepped_of, stepped, progress_by, progress_in}
-use Rattle.gate_world.specs.Fits.{ActionFits, mounts_by, levels_by, opens_by}
+use Rattle.finite_sums.{proofs.Totals.{update_at, update_off}, specs.Sums.update}
+use Rattle.access_model.specs.declared.{actions.Action.Action, replies.Next.Next}
 use Rattle.cpu_words.proofs.Places.{written}
-use Rattle.gate_frames.proofs.Accesses.{mounts_of_after, levels_of_after, opens_of_after, long_after, wide_after, deep_after, mounts_same, levels_same, files_same}
+use Rattle.cpu_words.specs.{Hooks.HookAnswer, Names.{IsWord, place}, Touches.{left, found_by, event_of}, Words.{read, put}}
+use Rattle.cpu_words.specs.declared.{events.{Event.Event, Touch.Touch}, names.WordName.WordName}
+use Rattle.gate_world.specs.{Accesses.{mounts_held, accesses_after}, Configs.extents_kept, Fits.{PhaseFits, Fits, ActionFits, mounts_by, levels_by, opens_by}}
+use Rattle.gate_world.specs.{Views.{held_at, holds_level, has_open, phase_after, view_after}, Work.{next_of, after_of}}
+use Rattle.gate_world.specs.Worlds.{World, Steps, after_step, happens, run, opening}
+use Rattle.gate_world.specs.declared.{accesses.Accesses.Accesses, config.Config.Config, views.View.View, work.Phase.Phase}
+use Rattle.gate_frames.proofs.Accesses.{mounts_of_after, levels_of_after, opens_of_after, long_after, wide_after, deep_after, mounts_same, levels_same}
+use Rattle.gate_frames.proofs.Accesses.{files_same}
 use Rattle.gate_frames.proofs.Places.{are_few}
-use Rattle.gate_core.proofs.Phases.{word_there, word_placed, action_fits, fits_after, fits_agree}
-use Rattle.gate_core.proofs.Runs.{run_more}
-use Rattle.gate_core.proofs.Each.{seat_cases}
+use Rattle.gate_core.proofs.{Each.seat_cases, Phases.{word_there, word_placed, action_fits, fits_after, fits_agree}, Runs.run_more}
+use Rattle.gate_core.specs.{Answers.{progress_of, step_answer}, Memory.{Memory, Shows, IsSound, no_seat, seat_of}}
+use Rattle.gate_core.specs.{Moves.{phase_in, stepped_of, stepped, progress_by, progress_in}, Seats.{mounts_in, levels_in, files_in}}
+use Rattle.gate_core.specs.declared.{seats.Seat.Seat, steps.{Progress.Progress, Step.Step}}
 
 module _ (memory : Memory) (sound : IsSound memory) (t : ℕ) (lt : t < memory.config.tasks) (phase : Phase)
     (is : (seat_of memory t).phase ≡ Some phase) (hook : HookAnswer) where
@@ -84,31 +63,24 @@ module _ (memory : Memory) (sound : IsSound memory) (t : ℕ) (lt : t < memory.c
     seats = slice_set memory.seats t seat_after;
   }
 
-  -- the phase fits what the task holds
   phase_fits : PhaseFits config t mounts levels phase
   phase_fits = subst (Fits config t mounts levels) is (sound.fits t lt)
 
-  -- so the word is there
   there : IsWord (extents_kept config) name
   there = word_there config sound.within t mounts levels lt phase hook phase_fits
 
-  -- and in the list
   pub place_fits : place name < length memory.words
   place_fits = omega (arith, sound.words, word_placed config sound.within t mounts levels (omega (arith, lt, sound.within.tasks)) phase hook phase_fits)
 
-  -- the action of the event can be done
   pub acts : ActionFits mounts done.1
   acts = action_fits config sound.within t mounts levels phase (found_by touch value) hook phase_fits
 
-  -- there is such a seat
   some_seat : t < length memory.seats
   some_seat = omega (arith, sound.seats)
 
-  -- in a world that the memory shows the word is what the list has
   pub words_shown : (w : World) → Shows memory w → value ≡ read w.words name
   words_shown w shows = shows.words name there
 
-  -- and the task's view is at the phase
   pub phase_shown : (w : World) → Shows memory w → (w.views t).phase ≡ Some phase
   phase_shown w shows = sym (shows.phases t lt) ∙ is
 
@@ -117,11 +89,9 @@ module _ (memory : Memory) (sound : IsSound memory) (t : ℕ) (lt : t < memory.c
     abbrev view : View
     view = view_after (w.views t) phase (read w.words name) hook
 
-    -- what comes after the event is the same in the world
     done_same : done ≡ done_at (read w.words name)
     done_same = ap done_at (words_shown w shows)
 
-    -- the event leaves of the accesses at each mount what it leaves in the world
     mounts_shown : (m : ℕ) → m < config.mounts → mounts_in seat_after m ≡ held_at view m
     mounts_shown m lm =
         mounts_same held (sound.mounts t lt) (sound.levels t lt) config.mounts (held_at (w.views t)) done.1 acts
@@ -129,7 +99,6 @@ module _ (memory : Memory) (sound : IsSound memory) (t : ℕ) (lt : t < memory.c
         (ap (λ (d : Next Phase × Option Action). mounts_by d.1 (held_at (w.views t)) m) done_same ∙
         ap (λ f. f m) (sym (mounts_of_after (done_at (read w.words name)).1 (w.views t).actions)))
 
-    -- and at each level
     levels_shown : (i : ℕ) → 1 ≤ i → i ≤ 3 → levels_in seat_after i ≡ holds_level view i
     levels_shown i one three =
         levels_same held (sound.mounts t lt) (sound.levels t lt) (holds_level (w.views t)) done.1 acts
@@ -137,7 +106,6 @@ module _ (memory : Memory) (sound : IsSound memory) (t : ℕ) (lt : t < memory.c
         (ap (λ (d : Next Phase × Option Action). levels_by d.1 (holds_level (w.views t)) i) done_same ∙
         ap (λ f. f i) (sym (levels_of_after (done_at (read w.words name)).1 (w.views t).actions)))
 
-    -- and of each file
     files_shown : (n : ℕ) → files_in seat_after n ≡ has_open view n
     files_shown n =
         files_same held (sound.files t lt) (has_open (w.views t)) done.1 acts (λ i. shows.files t i lt) n ∙
@@ -152,7 +120,6 @@ module _ (memory : Memory) (sound : IsSound memory) (t : ℕ) (lt : t < memory.c
         memory.words w.words name (left touch value) place_fits there shows.words n rn ∙
         ap (λ y. read (put w.words name (left touch y)) n) (words_shown w shows)
 
-    -- so the memory after the event shows the world after it
     stepped_shown : Shows memory_after (after_step w t phase hook)
     stepped_shown = record {
       words = words_after_shown;
@@ -175,11 +142,9 @@ module _ (memory : Memory) (sound : IsSound memory) (t : ℕ) (lt : t < memory.c
           (λ ne l. shows.files x n l ∙ ap (λ (v : View). has_open v n) (sym (update_off w.views t view x ne))) lx;
     }
 
-    -- which is what the entry makes of the world
     pub step_shows : Shows memory_after (happens config w (Steps t hook))
     step_shows = rw (lt-ltb t config.tasks lt, phase_shown w shows) stepped_shown
 
-  -- the phase that comes fits what the event leaves
   seat_fits : Fits config t (mounts_in seat_after) (levels_in seat_after) (phase_after done.0)
   seat_fits =
       fits_agree config t (mounts_by done.1 mounts) (mounts_in seat_after) (levels_by done.1 levels) (levels_in seat_after)
@@ -224,37 +189,29 @@ module _ (memory : Memory) (sound : IsSound memory) (t : ℕ) (lt : t < memory.c
   abbrev its_done : Next Phase × Option Action
   its_done = after_of phase (found_by (next_of phase hook).1 its_value) hook
 
-  -- the seat is the task's
   pub same_seat : seat_of memory t ≡ seat
   same_seat = get_or_default memory.seats t no_seat seat (omega (arith, sound.seats)) ∙ sym seat_is
 
-  -- so the task is at the phase
   its_phase : (seat_of memory t).phase ≡ Some phase
   its_phase = ap (λ (s : Seat). s.phase) same_seat ∙ phase_is
 
-  -- the place is the word's
   same_at : at ≡ its_place
   same_at = at_is ∙ ap (λ (n : WordName × Touch). place n.0) next_is
 
-  -- and in the list
   pub at_small : at < length memory.words
   at_small = omega (arith, same_at, place_fits memory sound t lt phase its_phase hook)
 
   module _ (value : ℕ) (value_is : value ≡ get_or memory.words at value) (event : Event) (event_is : event ≡ event_of next.0 next.1 value)
       (done : Next Phase × Option Action) (done_is : done ≡ after_of phase event.found hook) where
-    -- the value is the word's
     same_value : value ≡ its_value
     same_value = value_is ∙ (get_or_default memory.words at value 0 at_small ∙ ap (λ i. slice_index memory.words i) same_at)
 
-    -- the event is the phase's
     same_event : event ≡ event_of (next_of phase hook).0 (next_of phase hook).1 its_value
     same_event = event_is ∙ (λ i. event_of (next_is i).0 (next_is i).1 (same_value i))
 
-    -- and what comes after it is too
     same_done : done ≡ its_done
     same_done = done_is ∙ ap (λ (e : Event). after_of phase e.found hook) same_event
 
-    -- its action can be done
     pub may_act : ActionFits (mounts_held seat.accesses) done.1
     may_act =
         subst (λ (s : Seat). ActionFits (mounts_in s) done.1) same_seat
@@ -306,7 +263,6 @@ module _ (memory : Memory) (sound : IsSound memory) (t : ℕ) (lt : t < memory.c
           subst (λ m. Shows m (happens memory.config w (Steps t hook))) (sym same_memory)
           (step_shows memory sound t lt phase its_phase hook w shows)
 
-      -- the step that the code answers is the one of the world
       pub answer_after : (w : World) → Shows memory w →
           ◌≡◌ {A = Step} (record { event = Some event; action = done.1; progress = progress.0 }) (step_answer memory.config w t hook)
       answer_after w shows =

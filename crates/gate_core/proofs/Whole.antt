@@ -1,44 +1,22 @@
 -- What holds of every schedule from the opening on.
-use Rattle.gate_core.proofs.Leads.{levels_lead}
-use Rattle.cpu_words.specs.Hooks.{HookAnswer}
-use Rattle.gate_world.specs.Work.{after_of}
-use Rattle.gate_world.specs.KeptCauses.{CauseOf}
-use Rattle.gate_core.proofs.Beginnings.{may_begin}
-use Rattle.access_model.specs.Histories.{mounts_of, levels_of, opens_of}
-use Rattle.gate_world.specs.Views.{HoldsAsBefore}
-use Rattle.std.proofs.Common.{◌≡◌, ℕ, refl, sym, subst, ◌∙◌, ap, ◌<◌}
-use Rattle.std.specs.Prelude.{Option, Some, None, Err, List, [], ◌∷◌, ◌++◌, false}
-use Rattle.access_model.specs.States.{State}
-use Rattle.access_model.specs.Laws.{NobodyHoldsClosed}
+use Rattle.std.{proofs.Common.{◌≡◌, ℕ, refl, sym, subst, ◌∙◌, ap, ◌<◌}, specs.Prelude.{Option, Some, None, Err, List, [], ◌∷◌, ◌++◌, false}}
 use Rattle.access_model.proofs.Closed.{closed}
-use Rattle.gate_world.specs.declared.config.Config.{Config}
-use Rattle.gate_world.specs.Configs.{IsWithin, model_limits}
-use Rattle.gate_world.specs.Worlds.{World, Entry, opening, happens, run, found_at}
-use Rattle.gate_world.specs.Rules.{IsGood}
-use Rattle.gate_world.specs.Headline.{world_after, actions_so_far, MovesTheModel, IsOneRun, NobodyIsInside, SumsHold, IdleSumsHold, NothingIsLeft, FreezeIsUnderWay, HoldersAreTold, FrozenTreeIsWhole, SnapshotsStand, ViewTells, OperationsAreKept, LevelsLead}
+use Rattle.access_model.specs.{Histories.{mounts_of, levels_of, opens_of}, Laws.NobodyHoldsClosed, States.State}
+use Rattle.access_model.specs.declared.{actions.Action.Action, errors.GateError.GateError, replies.Next.Next}
+use Rattle.cpu_words.specs.Hooks.{HookAnswer}
+use Rattle.gate_world.specs.{Causes.{since_begun, HasCause, RefusalsHaveCauses, trail_of}, Configs.{IsWithin, model_limits}}
 use Rattle.gate_world.specs.Courses.{course_of, IsTraced, FollowsOrder, AllTraced}
-use Rattle.gate_world.specs.Traces.{Tells, actions_of}
-use Rattle.gate_world.specs.declared.operations.Op.{Op}
-use Rattle.gate_world.specs.declared.work.Phase.{Phase}
-use Rattle.gate_world.specs.declared.views.View.{View}
-use Rattle.gate_world.specs.declared.views.Traced.{Traced}
-use Rattle.access_model.specs.declared.actions.Action.{Action}
-use Rattle.access_model.specs.declared.errors.GateError.{GateError}
-use Rattle.access_model.specs.declared.replies.Next.{Next}
-use Rattle.access_model.specs.declared.replies.Next.TheVariants.{Done as Ended}
-use Rattle.gate_core.proofs.Layers.{phase_keeps, op_keeps}
-use Rattle.gate_frames.proofs.Traced.{opening_traced, entry_keeps}
-use Rattle.gate_frames.proofs.MayHolds.{events_may_be}
+use Rattle.gate_world.specs.Headline.{world_after, actions_so_far, MovesTheModel, IsOneRun, NobodyIsInside, SumsHold, IdleSumsHold, NothingIsLeft}
+use Rattle.gate_world.specs.Headline.{FreezeIsUnderWay, HoldersAreTold, FrozenTreeIsWhole, SnapshotsStand, ViewTells, OperationsAreKept, LevelsLead}
+use Rattle.gate_world.specs.{KeptCauses.CauseOf, Rules.IsGood, Traces.{Tells, actions_of}, Views.HoldsAsBefore}
+use Rattle.gate_world.specs.{Waits.{HasReason, EachWaitHasCulprit, HasCulpritAmong}, Work.after_of, Worlds.{World, Entry, opening, happens, run, found_at}}
+use Rattle.gate_world.specs.declared.{config.Config.Config, operations.Op.Op, views.{Traced.Traced, View.View}, work.Phase.Phase}
+use Rattle.gate_frames.proofs.{MayHolds.events_may_be, Traced.{opening_traced, entry_keeps}}
 use Rattle.call_laws.proofs.Frozen.{frozen_whole}
-use Rattle.gate_world.specs.Waits.{HasReason, EachWaitHasCulprit, HasCulpritAmong}
-use Rattle.gate_world.specs.Causes.{since_begun, HasCause, RefusalsHaveCauses, trail_of}
-use Rattle.gate_core.proofs.Entries.{TrailHolds, trail_holds, begun_on}
-use Rattle.gate_core.proofs.Schedule.{opening_good, opening_shown, happens_keeps, run_keeps, gate_sums, idle_sums}
-use Rattle.gate_core.proofs.Lists.{run_lists}
-use Rattle.gate_core.proofs.Snapshots.{run_moments}
+use Rattle.gate_core.proofs.{Beginnings.may_begin, Between.{AllTold, entry_told, opening_told, holders_told}, Entries.{TrailHolds, trail_holds, begun_on}}
+use Rattle.gate_core.proofs.{Layers.{phase_keeps, op_keeps}, Leads.levels_lead, Lists.run_lists, Rests.{at_rest, a_freeze_is_under_way}}
+use Rattle.gate_core.proofs.{Schedule.{opening_good, opening_shown, happens_keeps, run_keeps, gate_sums, idle_sums}, Snapshots.run_moments}
 use Rattle.gate_core.proofs.Standing.{snapshots_stand}
-use Rattle.gate_core.proofs.Rests.{at_rest, a_freeze_is_under_way}
-use Rattle.gate_core.proofs.Between.{AllTold, entry_told, opening_told, holders_told}
 
 module _ (c : Config) (lim : IsWithin c) where
   pub whole_rule : (es : List Entry) → IsGood c (world_after c es)
@@ -77,7 +55,6 @@ module _ (c : Config) (lim : IsWithin c) where
   pub whole_freezes : (es : List Entry) → FreezeIsUnderWay c (world_after c es)
   whole_freezes es = a_freeze_is_under_way c (world_after c es) (whole_rule es)
 
-  -- each task's role says of its two stores what its trace says
   run_told : (es : List Entry) (w : World) → IsGood c w → AllTold w → AllTold (run c w es)
   run_told [] w good told = told
   run_told (e ∷ es) w good told =
@@ -120,9 +97,9 @@ module _ (c : Config) (lim : IsWithin c) where
 
   -- an operation that was refused has added what its refusals add
   refused_adds : (op : Op) (trace : List Traced) (comes : Next Phase) (added : List Action) (refusal : GateError) →
-      Tells c op trace comes added → comes ≡ Ended (Err refusal) → added ≡ actions_of op (Err refusal) trace
+      Tells c op trace comes added → comes ≡ Next.Done (Err refusal) → added ≡ actions_of op (Err refusal) trace
   refused_adds op trace comes added refusal h e =
-      let k : Tells c op trace (Ended (Err refusal)) added = subst (λ (s : Next Phase). Tells c op trace s added) e h in k.0
+      let k : Tells c op trace (Next.Done (Err refusal)) added = subst (λ (s : Next Phase). Tells c op trace s added) e h in k.0
 
   -- so its task holds what it held when it began
   holds_as_before : (t : ℕ) (v : View) (op : Op) (refusal : GateError) → FollowsOrder c t v op →

@@ -1,12 +1,10 @@
 -- What an event of one task at a gate keeps, whatever the event is: of a reader, or of a task that has the flag set.
-use Rattle.std.proofs.Common.{◌≡◌, ℕ, ◌+◌, ◌*◌, ◌%◌, ◌<◌, ◌≤◌, sym, ap, subst, inl, inr, arith}
-use Rattle.std.specs.Prelude.{◌⊎◌}
-use Rattle.finite_sums.specs.Sums.{update, total}
+use Rattle.std.{proofs.Common.{◌≡◌, ℕ, ◌+◌, ◌*◌, ◌%◌, ◌<◌, ◌≤◌, sym, ap, subst, inl, inr, arith}, specs.Prelude.◌⊎◌}
+use Rattle.finite_sums.{proofs.Totals.{each_updated, total_same, total_updated, total_add, total_swap, total_at, residues}, specs.Sums.{update, total}}
 use Rattle.cpu_words.specs.Sums.{lead}
-use Rattle.finite_sums.proofs.Totals.{each_updated, total_same, total_updated, total_add, total_swap, total_at, residues}
-use Rattle.gate_counts.specs.Gates.{Barring, Apart, Reading, ReadZero, Silent, bars, GateView, past, admitted, unread, counted, BarringHolds, CountsHold, GateHolds}
+use Rattle.gate_counts.specs.Gates.{Barring, Apart, Reading, ReadZero, Silent, bars, GateView, past, admitted, unread, counted, BarringHolds, CountsHold}
+use Rattle.gate_counts.specs.Gates.{GateHolds}
 
--- the words of a gate sum to what is counted
 pub words_sum : {tasks processors : ℕ} {count : ℕ → ℕ} {at : ℕ → GateView} → CountsHold tasks processors count at →
     total processors count % 18446744073709551616 ≡ total tasks (λ t. counted (at t)) % 18446744073709551616
 words_sum {tasks} {processors} {count} {at} net =
@@ -21,7 +19,6 @@ words_sum {tasks} {processors} {count} {at} net =
     total_add tasks (λ t. total processors (at t).taken) (λ t. counted (at t)) in
     omega (arith, words, own, parts, total_swap tasks processors (λ t. (at t).taken), total_swap tasks processors (λ t. (at t).added))
 
--- who doesn't have the flag says nothing of the counts
 pub apart_holds : (processors : ℕ) (count : ℕ → ℕ) (a : ℕ) (u : ℕ → ℕ) (b : Barring) → bars b ≡ 0 → BarringHolds processors count a u b
 apart_holds processors count a u Apart h = tt
 apart_holds processors count a u (Reading k sum) h = absurd (omega arith)

@@ -1,21 +1,16 @@
 -- Each event of a task that bars a gate keeps what holds there: it sets the flag, reads the words, shuts what may be shut, clears the flag.
 use Rattle.std.proofs.Common.{◌≡◌, ℕ, suc, ◌+◌, ◌*◌, ◌%◌, ◌<◌, ◌≤◌, ap, subst, arith}
-use Rattle.finite_sums.specs.Sums.{update, total}
-use Rattle.cpu_words.specs.Touches.{wrap_add}
-use Rattle.cpu_words.specs.Sums.{ahead}
-use Rattle.finite_sums.proofs.Totals.{total_le, total_bound, total_add, total_at, total_none, total_zero}
+use Rattle.finite_sums.{proofs.Totals.{total_le, total_bound, total_add, total_at, total_none, total_zero}, specs.Sums.{update, total}}
+use Rattle.cpu_words.specs.{Sums.ahead, Touches.wrap_add}
+use Rattle.gate_counts.proofs.{Events.{words_sum, flag_event}, Numbers.{below_le, below_step, below_first, ahead_none, ahead_past, ahead_step}}
 use Rattle.gate_counts.specs.Gates.{Barring, Apart, Reading, ReadZero, bars, GateView, past, admitted, unread, counted, BarringHolds, GateHolds}
-use Rattle.gate_counts.proofs.Numbers.{below_le, below_step, below_first, ahead_none, ahead_past, ahead_step}
-use Rattle.gate_counts.proofs.Events.{words_sum, flag_event}
 
 module _ {tasks processors bit unowned : ℕ} {shut : ℕ → Type 0} {count : ℕ → ℕ} {at : ℕ → GateView}
     (good : GateHolds tasks processors bit unowned shut count at) where
-  -- where nobody is admitted, nobody is past any question
   pub nobody : total tasks (λ x. admitted (at x)) ≡ 0 → (i : ℕ) → total tasks (λ x. past i (at x)) ≡ 0
   nobody none i =
       total_none tasks _ (λ x lx. omega (arith, none, total_at tasks x (λ y. admitted (at y)) lx, below_first i (at x).questions))
 
-  -- where nobody is past some question, nobody holds an access
   pub none_held : (i : ℕ) → total tasks (λ x. past i (at x)) ≡ 0 → total tasks (λ x. (at x).held) ≡ 0
   none_held i none = total_none tasks _ (λ x lx. omega (arith, none, total_at tasks x (λ y. past i (at y)) lx))
 
@@ -33,7 +28,6 @@ module _ {tasks processors bit unowned : ℕ} {shut : ℕ → Type 0} {count : �
   shuts shut' h = record { counts = good.counts; room = good.room; flag = good.flag; sums = good.sums; open_to = h }
 
   module _ (few : tasks ≤ 64) (narrow : processors ≤ 64) where
-    -- a sum begins
     pub sum_begins : 0 < processors → MaySay (Reading 0 0)
     sum_begins some =
         let a : total tasks (λ x. admitted (at x)) ≤ tasks * 1024 = total_bound tasks 1024 _ good.room in
@@ -44,7 +38,6 @@ module _ {tasks processors bit unowned : ℕ} {shut : ℕ → Type 0} {count : �
         (ahead processors count 0 ≡ total processors count) = (words_sum good.counts, ahead_none processors count) in
         (some, omega (arith, a, u, parts, facts), omega (arith, a, u, parts, facts))
 
-    -- one word more is read
     pub sum_goes : (k sum : ℕ) → suc k < processors → MaySay (Reading k sum) → MaySay (Reading (suc k) (wrap_add sum (count k)))
     sum_goes k sum more d =
         let s : ahead processors count k ≡ count k + ahead processors count (suc k) = ahead_step processors k count d.0 in
@@ -57,7 +50,6 @@ module _ {tasks processors bit unowned : ℕ} {shut : ℕ → Type 0} {count : �
         let b : total tasks (λ x. 1) ≤ tasks * 1 = total_bound tasks 1 _ (λ x lx. omega arith) in
         (more, omega (arith, d), omega (arith, d))
 
-    -- the last word is read, and the sum is 0
     pub sum_ends : (k sum : ℕ) → suc k ≡ processors → wrap_add sum (count k) ≡ 0 → MaySay (Reading k sum) → MaySay ReadZero
     sum_ends k sum last zero_sum d =
         let s : ahead processors count k ≡ count k + ahead processors count (suc k) = ahead_step processors k count d.0 in
@@ -69,7 +61,6 @@ module _ {tasks processors bit unowned : ℕ} {shut : ℕ → Type 0} {count : �
     abbrev HoldsAfter : (bit' unowned' : ℕ) → Barring → Type 0
     HoldsAfter bit' unowned' b = GateHolds tasks processors bit' unowned' shut count (update at t (record (at t) { barring = b }))
 
-    -- the flag is set, and a sum begins
     pub bars_gate : tasks ≤ 64 → processors ≤ 64 → 0 < processors → (at t).barring ≡ Apart → bit ≡ 0 → HoldsAfter 1 unowned (Reading 0 0)
     bars_gate few narrow some apart clear =
         flag_event good t lt (Reading 0 0) 1 unowned shut (omega (arith, ap bars apart, clear)) (sum_begins few narrow some) good.open_to
@@ -88,12 +79,10 @@ module _ {tasks processors bit unowned : ℕ} {shut : ℕ → Type 0} {count : �
         flag_event good t lt ReadZero bit unowned shut (omega (arith, ap bars e))
         (sum_ends few narrow k sum last z (subst MaySay e (good.sums t lt))) good.open_to
 
-    -- or a new sum begins at once
     pub begins_anew : tasks ≤ 64 → processors ≤ 64 → bars (at t).barring ≡ 1 → 0 < processors → HoldsAfter bit unowned (Reading 0 0)
     begins_anew few narrow one some =
         flag_event good t lt (Reading 0 0) bit unowned shut (omega (arith, one)) (sum_begins few narrow some) good.open_to
 
-    -- the flag is cleared
     pub opens_gate : bars (at t).barring ≡ 1 → bit ≡ 1 → HoldsAfter 0 unowned Apart
     opens_gate one set = flag_event good t lt Apart 0 unowned shut (omega (arith, one, set)) tt good.open_to
 

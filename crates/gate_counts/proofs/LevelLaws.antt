@@ -1,21 +1,18 @@
 -- Each event at a freeze level keeps what holds of its counts.
-use Rattle.std.proofs.Common.{◌≡◌, ℕ, zero, suc, ◌+◌, ◌<◌, ◌≤◌, refl, sym, ap, ◌∙◌, subst, inl, inr, arith}
-use Rattle.std.proofs.lemmas.Bool.Decides.{eqb_tells}
-use Rattle.finite_sums.specs.Sums.{update, total}
+use Rattle.std.proofs.{Common.{◌≡◌, ℕ, zero, suc, ◌+◌, ◌<◌, ◌≤◌, refl, sym, ap, ◌∙◌, subst, inl, inr, arith}, lemmas.Bool.Decides.eqb_tells}
+use Rattle.finite_sums.{proofs.Totals.{total_at, update_map}, specs.Sums.{update, total}}
 use Rattle.cpu_words.specs.Touches.{wrap_add, wrap_sub}
-use Rattle.finite_sums.proofs.Totals.{total_at, update_map}
-use Rattle.gate_counts.specs.Gates.{Apart, bars, below, GateHolds}
-use Rattle.gate_counts.specs.Levels.{LevelRole, Out, Seeking, BackingOff, Summing, Passed, LevelView, processor_of, barring_of, sums_up, level_as_gate, LevelHolds}
-use Rattle.gate_counts.proofs.Readers.{is_granted as gate_grants, is_refused as gate_refuses, adds, adds_granted, backs_off, returns}
 use Rattle.gate_counts.proofs.Flags.{none_held, none_admitted, bars_gate, reads_on, reads_zero, begins_anew, opens_gate, leaves_it_set, takes_it_over}
+use Rattle.gate_counts.proofs.Readers.{is_granted as gate_grants, is_refused as gate_refuses, adds, adds_granted, backs_off, returns}
+use Rattle.gate_counts.specs.Gates.{Apart, bars, below, GateHolds}
+use Rattle.gate_counts.specs.Levels.{LevelRole, Out, Seeking, BackingOff, Summing, Passed, LevelView, processor_of, barring_of, sums_up, level_as_gate}
+use Rattle.gate_counts.specs.Levels.{LevelHolds}
 
--- who has `block` set, and doesn't sum, passed the level
 has_passed : (r : LevelRole) → 0 < bars (barring_of r) → sums_up r ≡ 0 → r ≡ Passed
 has_passed (Summing k sum) h z = absurd (omega arith)
 has_passed Passed h z = refl
 has_passed _ h z = absurd (omega arith)
 
--- a sum that isn't 0 has a place that isn't
 some_place : (n : ℕ) (f : ℕ → ℕ) → 0 < total n f → (t : ℕ) × (t < n) × (0 < f t)
 some_place zero f h = absurd (omega arith)
 some_place (suc n) f h = elim (eqb_tells (f n) 0) [
@@ -25,15 +22,12 @@ some_place (suc n) f h = elim (eqb_tells (f n) 0) [
 
 module _ {tasks processors block full : ℕ} {count : ℕ → ℕ} {at : ℕ → LevelView}
     (good : LevelHolds tasks processors block full count at) where
-  -- nobody holds a frozen level
   pub none_frozen : full ≡ 1 → total tasks (λ x. (at x).held) ≡ 0
   none_frozen e = none_held good.gate 0 (good.gate.open_to 0 e)
 
-  -- nobody holds a level that the task has passed
   pub none_passed : (t : ℕ) → t < tasks → (at t).role ≡ Passed → total tasks (λ x. (at x).held) ≡ 0
   none_passed t lt e = none_held good.gate 0 (none_admitted good.gate t lt (ap barring_of e))
 
-  -- nobody holds a level whose `block` is 1 and whose words no task sums
   pub none_closed : block ≡ 1 → total tasks (λ x. sums_up (at x).role) ≡ 0 → total tasks (λ x. (at x).held) ≡ 0
   none_closed set none = elim (eqb_tells full 1) [
     | inl e ↦ none_frozen e.1
@@ -48,7 +42,6 @@ module _ {tasks processors block full : ℕ} {count : ℕ → ℕ} {at : ℕ →
     abbrev HoldsAfter : (ℕ → ℕ) → LevelView → Type 0
     HoldsAfter count' v = LevelHolds tasks processors block full count' (update at t v)
 
-    -- the level holds after an event of a task where it holds as a gate
     follows : (v : LevelView) {block' full' : ℕ} {count' : ℕ → ℕ} → block' ≤ 1 →
         GateHolds tasks processors block' full' (λ i. full' ≡ 1) count' (update (λ x. level_as_gate (at x)) t (level_as_gate v)) →
         LevelHolds tasks processors block' full' count' (update at t v)
@@ -65,7 +58,6 @@ module _ {tasks processors block full : ℕ} {count : ℕ → ℕ} {at : ℕ →
         (gate_grants good.gate t lt 0 Apart (sym (ap barring_of e)) refl (omega (arith, ap (λ r. below 0 (processor_of r)) e)) (inl clear)
         (λ i le s. omega (arith, s, clear, good.gate.flag)) room)
 
-    -- it finds 1
     pub is_refused : (p : ℕ) → (at t).role ≡ Seeking p → HoldsAfter count (record (at t) { role = BackingOff p })
     is_refused p e =
         follows (record (at t) { role = BackingOff p }) good.known
@@ -149,7 +141,6 @@ module _ {tasks processors block full : ℕ} {count : ℕ → ℕ} {at : ℕ →
           writes (Summing k sum) (Summing 0 0) block full e refl refl good.known
           (begins_anew good.gate t lt few narrow (ap (λ r. bars (barring_of r)) e) (omega (arith, last)))
 
-      -- one that passed the level has its `block` alone
       alone : (at t).role ≡ Passed → (block ≡ 1) × (full ≡ 0)
       alone e =
           let one : bars (barring_of (at t).role) ≡ 1 = ap (λ r. bars (barring_of r)) e in

@@ -1,12 +1,8 @@
 -- The 0/1 numbers of a gate's view, and the words ahead of a sum.
-use Rattle.std.proofs.Common.{◌≡◌, ℕ, zero, suc, ◌+◌, ◌<◌, ◌≤◌, refl, ap, inl, inr, arith}
+use Rattle.std.proofs.{Common.{◌≡◌, ℕ, zero, suc, ◌+◌, ◌<◌, ◌≤◌, refl, ap, inl, inr, arith}, lemmas.Bool.{le-leb, lt-leb, Decides.eqb_tells}}
 use Rattle.std.specs.Prelude.{nat_le, if◌then◌else◌, ◌⊎◌}
-use Rattle.std.proofs.lemmas.Bool.{le-leb, lt-leb}
-use Rattle.std.proofs.lemmas.Bool.Decides.{eqb_tells}
-use Rattle.finite_sums.specs.Sums.{update, total}
-use Rattle.cpu_words.specs.Touches.{wrap_add, wrap_sub}
-use Rattle.cpu_words.specs.Sums.{ahead, lead}
-use Rattle.finite_sums.proofs.Totals.{total_same, total_changed_by, total_none}
+use Rattle.finite_sums.{proofs.Totals.{total_same, total_changed_by, total_none}, specs.Sums.{update, total}}
+use Rattle.cpu_words.specs.{Sums.{ahead, lead}, Touches.{wrap_add, wrap_sub}}
 use Rattle.gate_counts.specs.Gates.{below}
 
 -- what the number of `below` tells
@@ -23,11 +19,9 @@ below_le i n = grind (arith, below_tells)
 pub below_step : (i n : ℕ) → (below (suc i) n ≤ below i n) × (below i n ≤ below (suc i) n + 1)
 below_step i n = grind (arith, below_tells i n, below_tells (suc i) n)
 
--- it is largest at 0
 pub below_first : (i n : ℕ) → below i n ≤ below 0 n
 below_first i n = grind (arith, below_tells i n, below_tells 0 n)
 
--- one question more changes it at that question alone
 pub one_more : (q i : ℕ) → (i ≡ q → ⊥) → below i (suc q) ≤ below i q
 one_more q i ne =
     elim (below_tells i q) [
@@ -35,11 +29,9 @@ one_more q i ne =
       | inr h ↦ elim (below_tells i (suc q)) [ inl k ↦ absurd (ne (omega (arith, h.1, k.1))) | inr k ↦ omega (arith, k.0) ]
     ]
 
--- the words ahead of a sum that has read none are all words
 pub ahead_none : (processors : ℕ) (count : ℕ → ℕ) → ahead processors count 0 ≡ total processors count
 ahead_none processors count = total_same processors _ _ (λ q lq. rw (le-leb 0 q (omega arith)))
 
--- a sum that has read all words has none ahead
 pub ahead_past : (processors k : ℕ) (count : ℕ → ℕ) → processors ≤ k → ahead processors count k ≡ 0
 ahead_past processors k count h = total_none processors _ (λ q lq. rw (lt-leb k q (omega arith)))
 

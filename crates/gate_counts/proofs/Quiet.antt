@@ -1,9 +1,7 @@
 -- A gate at which nothing is counted: its words sum to 0, so that a write of one of them that leaves nothing counted writes what was there.
 use Rattle.std.proofs.Common.{◌≡◌, ℕ, ◌%◌, ◌<◌, ◌∙◌, ap, arith}
-use Rattle.finite_sums.specs.Sums.{update, total}
-use Rattle.finite_sums.proofs.Totals.{total_changed_by, update_at, update_same}
-use Rattle.gate_counts.specs.Gates.{GateView, counted, CountsHold}
-use Rattle.gate_counts.proofs.Events.{words_sum}
+use Rattle.finite_sums.{proofs.Totals.{total_changed_by, update_at, update_same}, specs.Sums.{update, total}}
+use Rattle.gate_counts.{proofs.Events.words_sum, specs.Gates.{GateView, counted, CountsHold}}
 
 -- where nothing is counted, the words sum to 0
 sums_to_none : {tasks processors : ℕ} {count : ℕ → ℕ} {at : ℕ → GateView} → CountsHold tasks processors count at →

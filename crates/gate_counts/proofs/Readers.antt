@@ -1,12 +1,9 @@
 -- Each event of a reader keeps what holds at its gate: it counts up, passes the gate's questions, is granted or refused, and counts down.
-use Rattle.std.proofs.Common.{◌≡◌, ℕ, suc, ◌+◌, ◌*◌, ◌%◌, ◌<◌, ◌≤◌, refl, ap, subst, inl, inr, arith}
-use Rattle.std.specs.Prelude.{◌⊎◌}
-use Rattle.finite_sums.specs.Sums.{update, total}
+use Rattle.std.{proofs.Common.{◌≡◌, ℕ, suc, ◌+◌, ◌*◌, ◌%◌, ◌<◌, ◌≤◌, refl, ap, subst, inl, inr, arith}, specs.Prelude.◌⊎◌}
+use Rattle.finite_sums.{proofs.Totals.{update_at, update_off, each_updated, total_updated, total_bound}, specs.Sums.{update, total}}
 use Rattle.cpu_words.specs.Touches.{wrap_add, wrap_sub}
-use Rattle.finite_sums.proofs.Totals.{update_at, update_off, each_updated, total_updated, total_bound}
+use Rattle.gate_counts.proofs.{Events.{counts_follow, reader_event}, Numbers.{below_tells, below_le, below_first, one_more, lead_up, lead_down}}
 use Rattle.gate_counts.specs.Gates.{Barring, below, GateView, past, admitted, unread, counted, CountsHold, GateHolds}
-use Rattle.gate_counts.proofs.Numbers.{below_tells, below_le, below_first, one_more, lead_up, lead_down}
-use Rattle.gate_counts.proofs.Events.{counts_follow, reader_event}
 
 module _ {tasks processors bit unowned : ℕ} {shut : ℕ → Type 0} {count : ℕ → ℕ} {at : ℕ → GateView}
     (good : GateHolds tasks processors bit unowned shut count at) (t : ℕ) (lt : t < tasks) where
@@ -85,11 +82,9 @@ module _ {tasks processors bit unowned : ℕ} {shut : ℕ → Type 0} {count : �
     abbrev taken_more : ℕ → ℕ
     taken_more = update (at t).taken p ((at t).taken p + 1)
 
-    -- a lead is far below 2^64
     small : (k : ℕ) → k < processors → 65600 + 64 * k + total tasks (λ x. unread k (at x)) ≤ 100000
     small k lk = omega (arith, few, narrow, total_bound tasks 1 (λ x. unread k (at x)) (λ x l. below_le k (at x).sought_on))
 
-    -- the counts after an addition on p, where the task is counted for one more
     counts_added : (h q s : ℕ) (b : Barring) → h + below 0 q + below 0 s ≡ counted (at t) + 1 →
         CountsHold tasks processors count_up
         (update at t (record (at t) { held = h; added = added_more; questions = q; sought_on = s; barring = b }))

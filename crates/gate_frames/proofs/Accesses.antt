@@ -1,54 +1,41 @@
 -- What an action makes of a task's lists of accesses.
 use Rattle.std.proofs.Common.{◌≡◌, ℕ, ◌+◌, ◌-◌, ◌<◌, ◌≤◌, Bool, true, false, length, refl, sym, ap, ◌∙◌, inl, inr, arith, get_or-set_same, get_or-set_other}
-use Rattle.std.proofs.Math.ListN.{length-set}
+use Rattle.std.proofs.{Math.ListN.length-set, lemmas.Bool.Decides.eqb_tells}
 use Rattle.std.specs.Prelude.{List, Option, Some, None, slice_index, slice_index_or, slice_set}
-use Rattle.std.proofs.lemmas.Bool.Decides.{eqb_tells}
-use Rattle.finite_sums.specs.Sums.{update}
-use Rattle.finite_sums.proofs.Totals.{update_at, update_off}
-use Rattle.access_model.specs.declared.actions.Action.{Action}
-use Rattle.access_model.specs.declared.actions.Action.TheVariants.{Grant, Return, Open, Close}
-use Rattle.access_model.specs.declared.actions.Gate.TheVariants.{Mount, Level}
-use Rattle.access_model.specs.Histories.{mounts_of, levels_of, opens_of}
-use Rattle.gate_world.specs.declared.accesses.Accesses.{Accesses}
-use Rattle.gate_world.specs.Accesses.{mounts_held, levels_held, accesses_after, files_held}
-use Rattle.gate_world.specs.Views.{actions_after}
-use Rattle.gate_world.specs.Fits.{ActionFits, mounts_by, levels_by, opens_by}
+use Rattle.finite_sums.{proofs.Totals.{update_at, update_off}, specs.Sums.update}
+use Rattle.access_model.specs.{Histories.{mounts_of, levels_of, opens_of}, declared.actions.{Action.Action, Gate.Gate}}
+use Rattle.gate_world.specs.{Accesses.{mounts_held, levels_held, accesses_after, files_held}, Fits.{ActionFits, mounts_by, levels_by, opens_by}}
+use Rattle.gate_world.specs.{Views.actions_after, declared.accesses.Accesses.Accesses}
 
--- what a list of actions leaves, with one action more
 pub mounts_of_after : (a : Option Action) (actions : List Action) → mounts_of (actions_after a actions) ≡ mounts_by a (mounts_of actions)
 mounts_of_after None actions = refl
 mounts_of_after (Some a) actions = refl
 
--- the same of levels
 pub levels_of_after : (a : Option Action) (actions : List Action) → levels_of (actions_after a actions) ≡ levels_by a (levels_of actions)
 levels_of_after None actions = refl
 levels_of_after (Some a) actions = refl
 
--- and of the open files
 pub opens_of_after : (a : Option Action) (actions : List Action) → opens_of (actions_after a actions) ≡ opens_by a (opens_of actions)
 opens_of_after None actions = refl
 opens_of_after (Some a) actions = refl
 
--- an action keeps the length of the mounts' list
 pub long_after : (held : Accesses) (a : Option Action) → length (accesses_after held a).mounts ≡ length held.mounts
 long_after held None = refl
-long_after held (Some (Grant (Mount m))) = length-set held.mounts m (slice_index held.mounts m + 1)
-long_after held (Some (Return (Mount m))) = length-set held.mounts m (slice_index held.mounts m - 1)
+long_after held (Some (Action.Grant (Gate.Mount m))) = length-set held.mounts m (slice_index held.mounts m + 1)
+long_after held (Some (Action.Return (Gate.Mount m))) = length-set held.mounts m (slice_index held.mounts m - 1)
 long_after held (Some a) = refl
 
--- and that of the levels'
 pub wide_after : (held : Accesses) (a : Option Action) → length (accesses_after held a).levels ≡ length held.levels
 wide_after held None = refl
-wide_after held (Some (Grant (Level i))) = length-set held.levels i true
-wide_after held (Some (Return (Level i))) = length-set held.levels i false
+wide_after held (Some (Action.Grant (Gate.Level i))) = length-set held.levels i true
+wide_after held (Some (Action.Return (Gate.Level i))) = length-set held.levels i false
 wide_after held (Some a) = refl
 
--- and that of the open files'
 pub deep_after : (held : Accesses) (a : Option Action) → length (accesses_after held a).files ≡ length held.files
-deep_after held (Some (Grant (Mount m))) = refl
-deep_after held (Some (Return (Mount m))) = refl
-deep_after held (Some (Open n)) = length-set held.files n true
-deep_after held (Some (Close n)) = length-set held.files n false
+deep_after held (Some (Action.Grant (Gate.Mount m))) = refl
+deep_after held (Some (Action.Return (Gate.Mount m))) = refl
+deep_after held (Some (Action.Open n)) = length-set held.files n true
+deep_after held (Some (Action.Close n)) = length-set held.files n false
 deep_after held other = refl
 
 -- what an action leaves of each open file agrees, where what it finds does
@@ -63,10 +50,10 @@ module _ (held : Accesses) (deep : length held.files ≡ 64) where
 
   pub files_same : (seen : ℕ → Bool) (a : Option Action) → ActionFits (mounts_held held) a →
       ((i : ℕ) → files_held held i ≡ seen i) → (i : ℕ) → files_held (accesses_after held a) i ≡ opens_by a seen i
-  files_same seen (Some (Grant (Mount m))) f h i = h i
-  files_same seen (Some (Return (Mount m))) f h i = h i
-  files_same seen (Some (Open n)) f h i = file_set seen n true f i (h i)
-  files_same seen (Some (Close n)) f h i = file_set seen n false f i (h i)
+  files_same seen (Some (Action.Grant (Gate.Mount m))) f h i = h i
+  files_same seen (Some (Action.Return (Gate.Mount m))) f h i = h i
+  files_same seen (Some (Action.Open n)) f h i = file_set seen n true f i (h i)
+  files_same seen (Some (Action.Close n)) f h i = file_set seen n false f i (h i)
   files_same seen other f h i = h i
 
 module _ (held : Accesses) (long : length held.mounts ≡ 8) (wide : length held.levels ≡ 4) where
@@ -75,7 +62,7 @@ module _ (held : Accesses) (long : length held.mounts ≡ 8) (wide : length held
       ((m : ℕ) → m < mounts → mounts_held held m ≡ seen m) → (m : ℕ) → m < mounts →
       mounts_held (accesses_after held a) m ≡ mounts_by a seen m
   mounts_same mounts seen None f h m lt = h m lt
-  mounts_same mounts seen (Some (Grant (Mount n))) f h m lt =
+  mounts_same mounts seen (Some (Action.Grant (Gate.Mount n))) f h m lt =
       elim (eqb_tells m n) [
         | inl e ↦
             rw (e.1, update_at seen n (seen n + 1))
@@ -84,7 +71,7 @@ module _ (held : Accesses) (long : length held.mounts ≡ 8) (wide : length held
         | inr e ↦
             get_or-set_other held.mounts n m (slice_index held.mounts n + 1) 0 e.1 ∙ (h m lt ∙ sym (update_off seen n (seen n + 1) m e.1))
       ]
-  mounts_same mounts seen (Some (Return (Mount n))) f h m lt =
+  mounts_same mounts seen (Some (Action.Return (Gate.Mount n))) f h m lt =
       elim (eqb_tells m n) [
         | inl e ↦
             rw (e.1, update_at seen n (seen n - 1))
@@ -109,6 +96,6 @@ module _ (held : Accesses) (long : length held.mounts ≡ 8) (wide : length held
       ((i : ℕ) → 1 ≤ i → i ≤ 3 → levels_held held i ≡ seen i) → (i : ℕ) → 1 ≤ i → i ≤ 3 →
       levels_held (accesses_after held a) i ≡ levels_by a seen i
   levels_same seen None f h i one three = h i one three
-  levels_same seen (Some (Grant (Level n))) f h i one three = level_set seen n true f.1 i (h i one three)
-  levels_same seen (Some (Return (Level n))) f h i one three = level_set seen n false f.1 i (h i one three)
+  levels_same seen (Some (Action.Grant (Gate.Level n))) f h i one three = level_set seen n true f.1 i (h i one three)
+  levels_same seen (Some (Action.Return (Gate.Level n))) f h i one three = level_set seen n false f.1 i (h i one three)
   levels_same seen (Some a) f h i one three = h i one three

@@ -1,34 +1,17 @@
 -- An operation that stands at a phase of another one, and relies on something at the tree meanwhile, as a last close does inside level 3:
 -- the law of the other's event is the law of its event, but for the tree and the open files, which the event leaves alone.
-use Rattle.std.proofs.Common.{◌≡◌, ℕ, ◌<◌, refl, sym, ap, ◌∙◌, subst, inl, inr}
-use Rattle.std.specs.Prelude.{Option}
-use Rattle.std.proofs.Math.Path.{fun_ext}
-use Rattle.std.proofs.lemmas.Bool.Decides.{eqb_tells}
-use Rattle.finite_sums.specs.Sums.{update}
-use Rattle.finite_sums.proofs.Totals.{update_at, update_off, each_updated}
-use Rattle.access_model.specs.declared.actions.Action.{Action}
-use Rattle.access_model.specs.declared.replies.Next.{Next}
-use Rattle.cpu_words.specs.declared.names.WordName.{WordName}
-use Rattle.cpu_words.specs.declared.events.Touch.{Touch}
-use Rattle.cpu_words.specs.Touches.{left}
-use Rattle.cpu_words.specs.Words.{read, put}
-use Rattle.cpu_words.specs.Hooks.{HookAnswer}
-use Rattle.gate_world.specs.declared.config.Config.{Config}
-use Rattle.gate_world.specs.declared.work.Phase.{Phase}
-use Rattle.gate_world.specs.declared.views.View.{View}
-use Rattle.gate_world.specs.Views.{held_at, holds_level, phase_after, view_with}
-use Rattle.gate_world.specs.Fits.{Fits, mounts_by, levels_by}
-use Rattle.gate_world.specs.Worlds.{World}
-use Rattle.gate_world.specs.Shown.{shown}
-use Rattle.gate_world.specs.Rules.{ViewFits, Part, Owner, Stages, Holding, Fitting, Known, AtMount, Holds, IsGood, Moves, Tree, Files, AtLevel, SyncAt, Sections}
-use Rattle.gate_world.specs.Alike.{IsBeside, at_phase, rephased}
-use Rattle.gate_world.specs.LevelRuns.{level_in}
+use Rattle.std.{proofs.{Common.{◌≡◌, ℕ, ◌<◌, refl, sym, ap, ◌∙◌, subst, inl, inr}, Math.Path.fun_ext, lemmas.Bool.Decides.eqb_tells}, specs.Prelude.Option}
+use Rattle.finite_sums.{proofs.Totals.{update_at, update_off, each_updated}, specs.Sums.update}
+use Rattle.access_model.specs.declared.{actions.Action.Action, replies.Next.Next}
+use Rattle.cpu_words.specs.{Hooks.HookAnswer, Touches.left, Words.{read, put}, declared.{events.Touch.Touch, names.WordName.WordName}}
 use Rattle.level_laws.specs.Events.{SyncStep}
-use Rattle.gate_frames.proofs.Frames.{view_as, shown_still, left_alone, level_view_as}
-use Rattle.gate_frames.proofs.LevelSteps.{level_kept}
-use Rattle.gate_frames.proofs.Accesses.{mounts_of_after, levels_of_after}
+use Rattle.gate_world.specs.{Alike.{IsBeside, at_phase, rephased}, Fits.{Fits, mounts_by, levels_by}, LevelRuns.level_in}
+use Rattle.gate_world.specs.Rules.{ViewFits, Part, Owner, Stages, Holding, Fitting, Known, AtMount, Holds, IsGood, Moves, Tree, Files, AtLevel, SyncAt}
+use Rattle.gate_world.specs.Rules.{Sections}
+use Rattle.gate_world.specs.{Shown.shown, Views.{held_at, holds_level, phase_after, view_with}, Worlds.World}
+use Rattle.gate_world.specs.declared.{config.Config.Config, views.View.View, work.Phase.Phase}
+use Rattle.gate_frames.proofs.{Accesses.{mounts_of_after, levels_of_after}, Frames.{view_as, shown_still, left_alone, level_view_as}, LevelSteps.level_kept}
 
--- what is beside a phase is beside the same phase
 pub beside_of : {p q r : Option Phase} → p ≡ q → IsBeside q r → IsBeside p r
 beside_of {p} {q} {r} e h = subst (λ x. IsBeside x r) (sym e) h
 
@@ -68,13 +51,11 @@ module _ (c : Config) (w : World) (t : ℕ) (lt : t < c.tasks) (q : Option Phase
   pub beside_shown : shown c (rephased w t q) ≡ shown c w
   beside_shown = shown_still c w t lt w.words (at_phase (w.views t) q) refl refl refl refl refl refl refl same.steady.closing_same refl refl refl
 
--- and so is each level
 pub beside_level : (w : World) (t : ℕ) (q : Option Phase) → IsBeside (w.views t).phase q → (i : ℕ) →
     level_in (rephased w t q) i ≡ level_in w i
 beside_level w t q same i =
     level_kept w t i w.words (at_phase (w.views t) q) refl refl refl refl same.inside_same (same.sync_same i)
 
--- of two values put at one place the later one stands
 pub update_twice : {A : Type 0} (f : ℕ → A) (t : ℕ) (u v : A) → update (update f t u) t v ≡ update f t v
 update_twice f t u v =
     fun_ext (λ x. elim (eqb_tells x t) [

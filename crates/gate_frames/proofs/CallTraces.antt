@@ -1,54 +1,38 @@
 -- What the trace of a call at the tree says, kept from each event to the next, whichever call it is.
 use Rattle.std.proofs.Common.{◌≡◌, ℕ, ◌<◌, ◌≤◌, Bool, true, false, refl, sym, ap, ◌∙◌, subst, arith}
 use Rattle.std.specs.Prelude.{◌||◌, Option, Some, None, Result, Ok, Err, List, ◌∷◌, length, is_some, option_map}
-use Rattle.access_model.specs.declared.actions.Action.{Action}
-use Rattle.access_model.specs.declared.errors.GateError.{GateError}
-use Rattle.access_model.specs.declared.replies.Next.{Next}
-use Rattle.access_model.specs.declared.replies.Next.TheVariants.{Go, Wait, Done}
-use Rattle.access_model.specs.declared.replies.Reply.{Reply}
-use Rattle.access_model.specs.Replies.{map_next}
+use Rattle.access_model.specs.{Replies.map_next, declared.{actions.Action.Action, errors.GateError.GateError, replies.{Next.Next, Reply.Reply}}}
 use Rattle.cpu_words.specs.declared.events.Event.{Event}
-use Rattle.gate_world.specs.declared.config.Config.{Config}
-use Rattle.gate_world.specs.declared.operations.Op.{Op}
-use Rattle.gate_world.specs.declared.work.Phase.{Phase}
-use Rattle.gate_world.specs.declared.work.Phase.TheVariants.{Trees}
-use Rattle.gate_world.specs.declared.views.Traced.{Traced}
-use Rattle.gate_world.specs.Found.{SeenIn}
-use Rattle.gate_world.specs.Traces.{actions_of, IsHonest, IsTold, most_events, IsShort, MayWait}
-use Rattle.gate_world.specs.Views.{actions_after}
-use Rattle.gated_tree.specs.declared.phases.TreePhase.{TreePhase}
-use Rattle.gated_tree.specs.Phases.{after_look}
-use Rattle.gate_frames.proofs.Says.{Says}
+use Rattle.gated_tree.specs.{Phases.after_look, declared.phases.TreePhase.TreePhase}
 use Rattle.tree_laws.specs.Ends.{with_action, EndsWell, SeesMore}
+use Rattle.gate_world.specs.{Found.SeenIn, Traces.{actions_of, IsHonest, IsTold, most_events, IsShort, MayWait}, Views.actions_after}
+use Rattle.gate_world.specs.declared.{config.Config.Config, operations.Op.Op, views.Traced.Traced, work.Phase.Phase}
+use Rattle.gate_frames.proofs.Says.{Says}
 
--- where one test is passed, one of two is
 or_one : (a b : Bool) → a ≡ true → (a || b) ≡ true
 or_one a b h = rw h refl
 
-or_other : (a b : Bool) → b ≡ true → (a || b) ≡ true
+pub or_other : (a b : Bool) → b ≡ true → (a || b) ≡ true
 or_other true b h = refl
 or_other false b h = h
 
--- with one event more, a trace has seen more
 pub sees : (e : Traced) (earlier : List Traced) → SeesMore (SeenIn earlier) (SeenIn (e ∷ earlier)) e.event
 sees e earlier = record {
   earlier = λ test h. or_other (test e.event) _ h;
   now = λ test h. or_one (test e.event) _ h;
 }
 
--- an action on top of the earlier ones, said both ways
 same_actions : (action : Option Action) (added : List Action) → with_action action added ≡ actions_after action added
 same_actions None added = refl
 same_actions (Some a) added = refl
 
--- something is made of what is there
 pub made_some : {A B : Type 0} (f : A → B) (o : Option A) → is_some o ≡ true → is_some (option_map f o) ≡ true
 made_some f None h = absurd (cc)
 made_some f (Some a) h = refl
 
 -- A look at a word that may be there goes on or is refused: it is never done again.
 pub looked : {A P : Type 0} (Holds : Next P → Type 0) (again : P) (to : A → P) (r : Option (Result A GateError)) → is_some r ≡ true →
-    ((a : A) → Holds (Go (to a))) → ((refusal : GateError) → Holds (Done (Err refusal))) → Holds (after_look again to r)
+    ((a : A) → Holds (Next.Go (to a))) → ((refusal : GateError) → Holds (Next.Done (Err refusal))) → Holds (after_look again to r)
 looked Holds again to None h goes refused = absurd (cc)
 looked Holds again to (Some (Ok a)) h goes refused = goes a
 looked Holds again to (Some (Err refusal)) h goes refused = refused refusal
@@ -64,13 +48,13 @@ module _ (P S : Type 0) (to : P → TreePhase) (at : S → P) (Knows : ((Event �
 
   -- the same at a phase
   abbrev pub CallAt : List Traced → Phase → List Action → Type 0
-  CallAt trace phase added = (s : S) × (phase ≡ Trees (to (at s))) × CallSays trace s added
+  CallAt trace phase added = (s : S) × (phase ≡ Phase.Trees (to (at s))) × CallSays trace s added
 
   -- what comes is a step of the same call, after one event more than so many, or the call's end
   abbrev pub Stays : List Traced → ℕ → Next P → Type 0
-  Stays trace n (Go y) = (s : S) × (y ≡ at s) × Is trace s × (waits ≡ false → n < done s)
-  Stays trace n (Wait y) = (s : S) × (y ≡ at s) × Is trace s × (waits ≡ true) × MayWait c op trace
-  Stays trace n (Done answer) = waits ≡ false → n < most
+  Stays trace n (Next.Go y) = (s : S) × (y ≡ at s) × Is trace s × (waits ≡ false → n < done s)
+  Stays trace n (Next.Wait y) = (s : S) × (y ≡ at s) × Is trace s × (waits ≡ true) × MayWait c op trace
+  Stays trace n (Next.Done answer) = waits ≡ false → n < most
 
   -- what is known, told and added by an answer is what the operation's row asks for
   pub record Answers (IsOne : Reply → Type 0) (Honest : GateError → Type 0) (adds : Result Reply GateError → List Action)
@@ -85,20 +69,20 @@ module _ (P S : Type 0) (to : P → TreePhase) (at : S → P) (Knows : ((Event �
       (within : waits ≡ false → length earlier ≤ n) where
     -- what is known and what comes say what the trace says after an event
     next_says : (next : Next P) (added : List Action) → EndsWell (Knows (SeenIn (e ∷ earlier))) so_far IsOne Honest adds next added →
-        Stays (e ∷ earlier) n next → Says CallAt c op (e ∷ earlier) (map_next Trees (map_next to next)) added
-    next_says (Go y) added h stays =
+        Stays (e ∷ earlier) n next → Says CallAt c op (e ∷ earlier) (map_next Phase.Trees (map_next to next)) added
+    next_says (Next.Go y) added h stays =
         let k : Knows (SeenIn (e ∷ earlier)) (at stays.0) × (added ≡ so_far (at stays.0)) =
         subst (λ x. Knows (SeenIn (e ∷ earlier)) x × (added ≡ so_far x)) stays.1 h in
-        (stays.0, ap (λ x. Trees (to x)) stays.1, (stays.2, k.0, k.1, λ q. omega (arith, within q, stays.3 q)))
-    next_says (Wait y) added h stays =
+        (stays.0, ap (λ x. Phase.Trees (to x)) stays.1, (stays.2, k.0, k.1, λ q. omega (arith, within q, stays.3 q)))
+    next_says (Next.Wait y) added h stays =
         let k : Knows (SeenIn (e ∷ earlier)) (at stays.0) × (added ≡ so_far (at stays.0)) =
         subst (λ x. Knows (SeenIn (e ∷ earlier)) x × (added ≡ so_far x)) stays.1 h in
-        ((stays.0, ap (λ x. Trees (to x)) stays.1, (stays.2, k.0, k.1, λ q. absurd (cc))), stays.4)
-    next_says (Done (Ok reply)) added h stays = (
+        ((stays.0, ap (λ x. Phase.Trees (to x)) stays.1, (stays.2, k.0, k.1, λ q. absurd (cc))), stays.4)
+    next_says (Next.Done (Ok reply)) added h stays = (
       (h.1 ∙ answers.actions (Ok reply), answers.told reply h.0),
       answers.short (λ q. omega (arith, within q, stays q)),
     )
-    next_says (Done (Err refusal)) added h stays = (
+    next_says (Next.Done (Err refusal)) added h stays = (
       (h.1 ∙ answers.actions (Err refusal), answers.honest refusal h.0),
       answers.short (λ q. omega (arith, within q, stays q)),
     )
@@ -106,8 +90,8 @@ module _ (P S : Type 0) (to : P → TreePhase) (at : S → P) (Knows : ((Event �
     -- the same, of what the event added on top of what was added before
     pub call_says : (next : Next P) (action : Option Action) (before added : List Action) → added ≡ before →
         EndsWell (Knows (SeenIn (e ∷ earlier))) so_far IsOne Honest adds next (with_action action before) → Stays (e ∷ earlier) n next →
-        Says CallAt c op (e ∷ earlier) (map_next Trees (map_next to next)) (actions_after action added)
+        Says CallAt c op (e ∷ earlier) (map_next Phase.Trees (map_next to next)) (actions_after action added)
     call_says next action before added same ends stays =
-        subst (Says CallAt c op (e ∷ earlier) (map_next Trees (map_next to next)))
+        subst (Says CallAt c op (e ∷ earlier) (map_next Phase.Trees (map_next to next)))
         (same_actions action before ∙ ap (actions_after action) (sym same))
         (next_says next (with_action action before) ends stays)

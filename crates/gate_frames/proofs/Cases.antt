@@ -1,7 +1,6 @@
 -- A test that is done, with what it tells.
 use Rattle.std.proofs.Common.{◌≡◌, Bool, true, false, refl}
 
--- what holds in both cases, as the test is, holds
 pub both : (b : Bool) (P : Bool → Type 0) → (b ≡ true → P true) → (b ≡ false → P false) → P b
 both true P first second = first refl
 both false P first second = second refl

@@ -1,16 +1,9 @@
 -- The marks that a trace has cleared are no accesses.
-use Rattle.std.proofs.Common.{◌≡◌, ℕ, inl, inr}
-use Rattle.std.specs.Prelude.{List, [], ◌∷◌, ◌++◌}
-use Rattle.std.proofs.lemmas.Bool.{cases_Bool}
-use Rattle.access_model.specs.declared.actions.Action.{Action}
-use Rattle.access_model.specs.Histories.{mounts_of, levels_of}
-use Rattle.cpu_words.specs.declared.names.WordName.{WordName}
-use Rattle.cpu_words.specs.declared.names.WordName.TheVariants.{Node}
-use Rattle.cpu_words.specs.declared.events.Touch.{Touch}
-use Rattle.cpu_words.specs.declared.events.Touch.TheVariants.{And}
+use Rattle.std.{proofs.{Common.{◌≡◌, ℕ, inl, inr}, lemmas.Bool.cases_Bool}, specs.Prelude.{List, [], ◌∷◌, ◌++◌}}
+use Rattle.access_model.specs.{Histories.{mounts_of, levels_of}, declared.actions.Action.Action}
+use Rattle.cpu_words.specs.declared.{events.Touch.Touch, names.WordName.WordName}
 use Rattle.mount_counts.specs.Phases.{has_flag}
-use Rattle.gate_world.specs.declared.views.Traced.{Traced}
-use Rattle.gate_world.specs.Found.{clean_found, cleans}
+use Rattle.gate_world.specs.{Found.{clean_found, cleans}, declared.views.Traced.Traced}
 
 -- these actions leave each access and each level as it was
 abbrev pub LeaveAccesses : List Action → List Action → Type 0
@@ -19,7 +12,7 @@ LeaveAccesses actions before = (mounts_of (actions ++ before) ≡ mounts_of befo
 -- clearing a mark leaves them, on top of actions that do
 clean_leaves : (word : WordName) (touch : Touch) (found : ℕ) (actions rest before : List Action) → LeaveAccesses (actions ++ rest) before →
     LeaveAccesses (clean_found word touch found actions ++ rest) before
-clean_leaves (Node n) (And mask) found actions rest before h =
+clean_leaves (WordName.Node n) (Touch.And mask) found actions rest before h =
     elim (cases_Bool (has_flag found 4)) [ inl f ↦ rw f h | inr f ↦ rw f h ]
 clean_leaves word touch found actions rest before h = h
 

@@ -1,72 +1,22 @@
 -- A close at the tree: each of its events there is one of the tree's, and nobody is in the way of a last close inside level 3.
 use Rattle.std.proofs.Common.{◌≡◌, ℕ, ◌<◌, ◌≤◌, Bool, true, false, refl, sym, ap, ◌∙◌, subst, inl, inr, arith}
-use Rattle.std.specs.Prelude.{◌==◌, ◌&&◌, Option, Some, None, Result, Ok, Err, if◌then◌else◌}
-use Rattle.std.proofs.lemmas.Bool.{cases_Bool, true≢false}
-use Rattle.std.proofs.lemmas.Bool.Decides.{eqb_tells}
-use Rattle.finite_sums.specs.Sums.{update, total}
-use Rattle.finite_sums.proofs.Totals.{total_at, total_updated, update_off}
-use Rattle.access_model.specs.declared.errors.GateError.{GateError}
-use Rattle.access_model.specs.States.{one_if, is_removed, most_tasks, openers}
-use Rattle.access_model.proofs.Openers.{most_tasks_is}
-use Rattle.cpu_words.specs.declared.names.WordName.TheVariants.{Node}
-use Rattle.cpu_words.specs.Words.{Words}
-use Rattle.gated_tree.specs.Nodes.{word_of, any_file_in, opens_in, node_shown, info_of}
-use Rattle.gated_tree.specs.Phases.{after_look}
-use Rattle.gated_tree.specs.Calls.{role_after, phase_role, create_role, remove_role, grow_role, move_role, mark_role, open_role, snapshot_role}
-use Rattle.gated_tree.specs.Roles.{Role, Out, Freeing, Dropped, Uncounting, frees, removal, Bounds, TreeState, AreWithin, TreeHolds, RoleHolds, NobodyReads, NobodyElseFrees, IsLastOpen}
+use Rattle.std.proofs.lemmas.Bool.{cases_Bool, true≢false, Decides.eqb_tells}
+use Rattle.std.specs.Prelude.{◌==◌, ◌&&◌, Option, Some, None, Result, Ok, Err, if◌then◌else◌, List}
+use Rattle.finite_sums.{proofs.Totals.{total_at, total_updated, update_off}, specs.Sums.{update, total}}
+use Rattle.access_model.{proofs.Openers.most_tasks_is, specs.{States.{one_if, is_removed, most_tasks, openers}, declared.errors.GateError.GateError}}
+use Rattle.cpu_words.specs.{Words.Words, declared.names.WordName.WordName}
 use Rattle.gated_tree.proofs.Words.{word_opens, word_shows}
-use Rattle.tree_laws.specs.Events.{turned, ClosesFile, FreesFile, DropsBlocks, Uncounts}
-use Rattle.tree_laws.specs.Steps.{tree_in, EventKeeps}
-use Rattle.tree_laws.proofs.Laws.{role_says, same_off}
-use Rattle.tree_laws.proofs.Counts.{finds_last, same_le}
-use Rattle.tree_laws.proofs.Each.{each_event}
-use Rattle.tree_laws.proofs.Steps.{leaves_word, as_event, stays_at}
-use Rattle.file_closes.specs.declared.phases.Closing.{Closing}
-use Rattle.file_closes.specs.declared.phases.ClosePhase.{ClosePhase}
-use Rattle.file_closes.specs.declared.phases.ClosePhase.TheVariants.{LoadsFile as CloseLoadsFile, LowersCount, Enters as EntersLevel, FreesNode as ClosesNode, RefundsBlocks as CloseRefundsBlocks, Uncounts as CloseUncounts, Leaves as CloseLeaves}
-use Rattle.file_closes.specs.Phases.{next, after, enters, closed_from}
-use Rattle.gate_world.specs.declared.config.Config.{Config}
-use Rattle.gate_world.specs.declared.work.Phase.{Phase}
-use Rattle.gate_world.specs.declared.work.Phase.TheVariants.{Remounts, Freezes, Trees, Closes}
-use Rattle.gate_world.specs.declared.views.Traced.{Traced}
-use Rattle.gate_world.specs.Configs.{IsWithin}
-use Rattle.gate_world.specs.Fits.{MayLower, HasFile, file_of}
-use Rattle.gate_world.specs.Rules.{IsGood, Tree, Files, Stages}
-use Rattle.gate_world.specs.Snapshots.{values_noted}
-use Rattle.gate_world.specs.Trees.{tree_bounds, tree_of, tree_roles, tree_role_of, close_tree_role, remount_tree_role, freeze_tree_role, nodes_noted, is_bare_at}
-use Rattle.gate_world.specs.Views.{has_open, holds_level}
-use Rattle.gate_world.specs.Worlds.{World}
-use Rattle.gate_frames.proofs.Trees.{nobody_reads}
-use Rattle.gate_frames.proofs.TreeHolders.{level_thawed}
-use Rattle.std.specs.Prelude.{List}
-use Rattle.gated_tree.specs.declared.changes.Create.{Create}
-use Rattle.gated_tree.specs.declared.changes.CreateStep.{CreateStep}
-use Rattle.gated_tree.specs.declared.changes.CreateStep.TheVariants.{LoadsDirectory, LoadsNode, ChargesChild, TakesNode, RefundsChild}
-use Rattle.gated_tree.specs.declared.changes.Remove.{Remove}
-use Rattle.gated_tree.specs.declared.changes.RemoveStep.{RemoveStep}
-use Rattle.gated_tree.specs.declared.changes.RemoveStep.TheVariants.{LoadsFile as LoadsFileToRemove, FreesNode, CountsRemoved, MarksRemoved, RefundsRemoved, RefundsBlocks as RefundsItsBlocks, RefundsChild as RefundsItsChild}
-use Rattle.gated_tree.specs.declared.changes.MoveTo.{MoveTo}
-use Rattle.gated_tree.specs.declared.changes.MoveStep.{MoveStep}
-use Rattle.gated_tree.specs.declared.changes.MoveStep.TheVariants.{LoadsFile as LoadsFileToMove, LoadsDirectory as LoadsTarget, ChargesChild as ChargesTarget, MovesFile, RefundsChild as RefundsOne}
-use Rattle.gated_tree.specs.declared.growth.Grow.{Grow}
-use Rattle.gated_tree.specs.declared.growth.GrowStep.{GrowStep}
-use Rattle.gated_tree.specs.declared.growth.GrowStep.TheVariants.{LoadsFile as LoadsFileToGrow, LoadsUsed, ChargesBlocks, GrowsFile, RefundsBlocks}
-use Rattle.gated_tree.specs.declared.marks.Mark.{Mark}
-use Rattle.gated_tree.specs.declared.marks.MarkStep.{MarkStep}
-use Rattle.gated_tree.specs.declared.marks.MarkStep.TheVariants.{LoadsFile as LoadsFileToMark, MarksFile}
-use Rattle.gated_tree.specs.declared.snapshots.SnapshotStep.{SnapshotStep}
-use Rattle.gated_tree.specs.declared.snapshots.SnapshotStep.TheVariants.{Locks, LoadsStage, LoadsUsed as LoadsUsedWord, LoadsNode as LoadsNodeWord, LoadsKids, Releases}
-use Rattle.gated_tree.specs.declared.phases.TreePhase.{TreePhase}
-use Rattle.gated_tree.specs.declared.phases.TreePhase.TheVariants.{OpenFile as OpensOne, Create as Creates, Remove as Removes, Grow as Grows, MoveTo as Moves, Mark as Marks, Snapshot as Snapshots, ClearMarks as Clears}
-use Rattle.mount_counts.specs.declared.remounts.RemountStep.{RemountStep}
-use Rattle.mount_counts.specs.declared.remounts.RemountStep.TheVariants.{ClearsHold, ClearsMark, SetsReadOnly}
-use Rattle.freeze_levels.specs.declared.freezes.FreezeStep.{FreezeStep}
-use Rattle.freeze_levels.specs.declared.freezes.FreezeStep.TheVariants.{Cleans, SetsFs}
-use Rattle.gated_tree.specs.declared.opens.OpenFile.{OpenFile}
-use Rattle.gated_tree.specs.declared.opens.OpenStep.{OpenStep}
-use Rattle.gated_tree.specs.declared.opens.OpenStep.TheVariants.{LoadsFile as LoadsFileToOpen, OpensFile}
-use Rattle.mount_counts.specs.declared.remounts.RemountStep.TheVariants.{SetsRemount}
-use Rattle.gated_tree.specs.declared.nodes.NodeWord.{NodeWord}
+use Rattle.gated_tree.specs.{Calls.{role_after, phase_role}, Nodes.{word_of, any_file_in, opens_in, node_shown, info_of}, Phases.after_look}
+use Rattle.gated_tree.specs.Roles.{Role, Out, Freeing, Dropped, Uncounting, frees, removal, Bounds, TreeState, AreWithin, TreeHolds, RoleHolds, NobodyReads}
+use Rattle.gated_tree.specs.Roles.{NobodyElseFrees, IsLastOpen}
+use Rattle.gated_tree.specs.declared.{nodes.NodeWord.NodeWord, phases.TreePhase.TreePhase}
+use Rattle.tree_laws.proofs.{Counts.{finds_last, same_le}, Each.each_event, Laws.{role_says, same_off}, Steps.{leaves_word, as_event, stays_at}}
+use Rattle.tree_laws.specs.{Events.{turned, ClosesFile, FreesFile, DropsBlocks, Uncounts}, Steps.{tree_in, EventKeeps}}
+use Rattle.file_closes.specs.{Phases.{next, after, enters, closed_from}, declared.phases.{ClosePhase.ClosePhase, Closing.Closing}}
+use Rattle.gate_world.specs.{Configs.IsWithin, Fits.{MayLower, HasFile, file_of}, Rules.{IsGood, Tree, Files, Stages}, Snapshots.values_noted}
+use Rattle.gate_world.specs.{Trees.{tree_bounds, tree_of, tree_roles, tree_role_of, close_tree_role, nodes_noted, is_bare_at}, Views.{has_open, holds_level}}
+use Rattle.gate_world.specs.{Worlds.World, declared.{config.Config.Config, views.Traced.Traced, work.Phase.Phase}}
+use Rattle.gate_frames.proofs.{TreeHolders.level_thawed, TreeRoles.{call_plain, remount_apart, snapshot_apart, freeze_apart}, Trees.nobody_reads}
 
 -- each event of a close on a word of the tree, where its task holds what it may
 module _ (c : Bounds) (within : AreWithin c) (sealed bare : ℕ) (w : Words) (at : ℕ → Role) (good : TreeHolds c (tree_in sealed bare w at))
@@ -78,8 +28,8 @@ module _ (c : Bounds) (within : AreWithin c) (sealed bare : ℕ) (w : Words) (at
   -- a close that found its file: it is to be loaded again, it is a removed one that nobody else has open, or its count is lowered
   close_cases : (x : Closing) (file : NodeWord) (none removed one : Bool) → at t ≡ Out →
       (removed ≡ true → one ≡ true → TreeHolds c (turned here t (Freeing x.file file))) →
-      TreeHolds c (turned here t (close_tree_role (if none then CloseLoadsFile x else
-      if removed && one then enters x file else LowersCount x file)))
+      TreeHolds c (turned here t (close_tree_role (if none then ClosePhase.LoadsFile x else
+      if removed && one then enters x file else ClosePhase.LowersCount x file)))
   close_cases x file true removed one is last = stays_at c within sealed bare w at good t lt Out is
   close_cases x file false true true is last = last refl refl
   close_cases x file false true false is last = stays_at c within sealed bare w at good t lt Out is
@@ -95,31 +45,31 @@ module _ (c : Bounds) (within : AreWithin c) (sealed bare : ℕ) (w : Words) (at
       (λ r o. finds_last c here good t lt file x.file is ln found r (one_is file.opens o))
 
   close_looked : (x : Closing) → at t ≡ Out → x.file < c.nodes → (r : Option (Result NodeWord GateError)) → any_file_in (w.node x.file) ≡ r →
-      TreeHolds c (turned here t (role_after close_tree_role (after_look (CloseLoadsFile x) (closed_from x) r)))
+      TreeHolds c (turned here t (role_after close_tree_role (after_look (ClosePhase.LoadsFile x) (closed_from x) r)))
   close_looked x is ln None found = stays_at c within sealed bare w at good t lt Out is
   close_looked x is ln (Some (Ok file)) found = close_from x is ln file found
   close_looked x is ln (Some (Err refusal)) found = stays_at c within sealed bare w at good t lt Out is
 
-  -- the load of its file
   pub close_loads : (x : Closing) → at t ≡ Out → x.file < c.nodes →
-      EventKeeps c sealed bare w at t (next (CloseLoadsFile x)) (role_after close_tree_role (after (CloseLoadsFile x) (w.node x.file)).0)
-      (after (CloseLoadsFile x) (w.node x.file)).1
+      EventKeeps c sealed bare w at t (next (ClosePhase.LoadsFile x)) (role_after close_tree_role (after (ClosePhase.LoadsFile x) (w.node x.file)).0)
+      (after (ClosePhase.LoadsFile x) (w.node x.file)).1
   close_loads x is ln =
-      leaves_word c within sealed bare w at good t lt (Node x.file) _ (close_looked x is ln (any_file_in (w.node x.file)) refl)
+      leaves_word c within sealed bare w at good t lt (WordName.Node x.file) _ (close_looked x is ln (any_file_in (w.node x.file)) refl)
 
   -- the compare-exchange that lowers a count
   pub close_lowers : (x : Closing) (file : NodeWord) → at t ≡ Out → x.file < c.nodes → MayLower file →
-      EventKeeps c sealed bare w at t (next (LowersCount x file)) (role_after close_tree_role (after (LowersCount x file) (w.node x.file)).0)
-      (after (LowersCount x file) (w.node x.file)).1
+      EventKeeps c sealed bare w at t (next (ClosePhase.LowersCount x file))
+      (role_after close_tree_role (after (ClosePhase.LowersCount x file) (w.node x.file)).0)
+      (after (ClosePhase.LowersCount x file) (w.node x.file)).1
   close_lowers x file is ln may = elim (eqb_tells (w.node x.file) (word_of file)) [
     | inl e ↦ rw e.0 (each_event c within here good t lt _ _ (ClosesFile file x.file is ln e.1 may.0 may.1 may.2 may.3))
-    | inr e ↦ rw e.0 (leaves_word c within sealed bare w at good t lt (Node x.file) Out (stays_at c within sealed bare w at good t lt Out is))
+    | inr e ↦ rw e.0 (leaves_word c within sealed bare w at good t lt (WordName.Node x.file) Out (stays_at c within sealed bare w at good t lt Out is))
   ]
 
   -- the compare-exchange that frees the node, which can't fail
   pub close_frees : (f p : ℕ) (file : NodeWord) → at t ≡ Freeing f file → NobodyReads c here → NobodyElseFrees c here t f →
-      EventKeeps c sealed bare w at t (next (ClosesNode f p file)) (role_after close_tree_role (after (ClosesNode f p file) (w.node f)).0)
-      (after (ClosesNode f p file) (w.node f)).1
+      EventKeeps c sealed bare w at t (next (ClosePhase.FreesNode f p file)) (role_after close_tree_role (after (ClosePhase.FreesNode f p file) (w.node f)).0)
+      (after (ClosePhase.FreesNode f p file) (w.node f)).1
   close_frees f p file is quiet alone = elim (eqb_tells (w.node f) (word_of file)) [
     | inl e ↦ rw e.0 (each_event c within here good t lt _ _ (FreesFile file f quiet alone is))
     | inr e ↦ absurd (e.1 (role_says c here good t lt (Freeing f file) is).1.word)
@@ -127,11 +77,11 @@ module _ (c : Bounds) (within : AreWithin c) (sealed bare : ℕ) (w : Words) (at
 
   -- its blocks and its removal are subtracted
   pub close_drops : (p blocks : ℕ) → at t ≡ Dropped blocks → NobodyReads c here →
-      EventKeeps c sealed bare w at t (next (CloseRefundsBlocks p blocks)) Uncounting None
-  close_drops p blocks is quiet = as_event c within sealed bare w at good t lt (next (CloseRefundsBlocks p blocks)) _ _ (DropsBlocks blocks quiet is)
+      EventKeeps c sealed bare w at t (next (ClosePhase.RefundsBlocks p blocks)) Uncounting None
+  close_drops p blocks is quiet = as_event c within sealed bare w at good t lt (next (ClosePhase.RefundsBlocks p blocks)) _ _ (DropsBlocks blocks quiet is)
 
-  pub close_uncounts : (p : ℕ) → at t ≡ Uncounting → EventKeeps c sealed bare w at t (next (CloseUncounts p)) Out None
-  close_uncounts p is = as_event c within sealed bare w at good t lt (next (CloseUncounts p)) _ _ (Uncounts is)
+  pub close_uncounts : (p : ℕ) → at t ≡ Uncounting → EventKeeps c sealed bare w at t (next (ClosePhase.Uncounts p)) Out None
+  close_uncounts p is = as_event c within sealed bare w at good t lt (next (ClosePhase.Uncounts p)) _ _ (Uncounts is)
 
 -- who relies on the word of a node has its file open: no other phase does
 module _ (n : ℕ) where
@@ -141,82 +91,30 @@ module _ (n : ℕ) where
     | inr h ↦ absurd (omega (arith, e, same_off m n (λ q. h.1 (sym q))))
   ]
 
-  create_frees : (x : Create) (s : CreateStep) → frees n (create_role x s) ≡ 0
-  create_frees x LoadsDirectory = refl
-  create_frees x other = refl
-
-  remove_frees : (x : Remove) (s : RemoveStep) → frees n (remove_role x s) ≡ 0
-  remove_frees x LoadsFileToRemove = refl
-  remove_frees x other = refl
-
-  grow_frees : (x : Grow) (s : GrowStep) → frees n (grow_role x s) ≡ 0
-  grow_frees x LoadsFileToGrow = refl
-  grow_frees x other = refl
-
-  move_frees : (x : MoveTo) (s : MoveStep) → frees n (move_role x s) ≡ 0
-  move_frees x LoadsFileToMove = refl
-  move_frees x other = refl
-
-  mark_frees : (x : Mark) (s : MarkStep) → frees n (mark_role x s) ≡ 0
-  mark_frees x LoadsFileToMark = refl
-  mark_frees x (MarksFile file) = refl
-
-  open_frees : (x : OpenFile) (s : OpenStep) → frees n (open_role x s) ≡ 0
-  open_frees x LoadsFileToOpen = refl
-  open_frees x (OpensFile file) = refl
-
-  snapshot_frees : (nodes : ℕ) (values : ℕ → ℕ) (s : SnapshotStep) → frees n (snapshot_role nodes values s) ≡ 0
-  snapshot_frees nodes values Locks = refl
-  snapshot_frees nodes values LoadsStage = refl
-  snapshot_frees nodes values LoadsUsedWord = refl
-  snapshot_frees nodes values (LoadsNodeWord n) = refl
-  snapshot_frees nodes values (LoadsKids n) = refl
-  snapshot_frees nodes values (Releases (Ok reply)) = refl
-  snapshot_frees nodes values (Releases (Err refusal)) = refl
-
   tree_frees : (values : ℕ → ℕ) (x : TreePhase) → frees n (phase_role values x) ≡ 0
-  tree_frees values (Creates x) = create_frees x x.step
-  tree_frees values (Removes x) = remove_frees x x.step
-  tree_frees values (Grows x) = grow_frees x x.step
-  tree_frees values (Moves x) = move_frees x x.step
-  tree_frees values (Marks x) = mark_frees x x.step
-  tree_frees values (OpensOne x) = open_frees x x.step
-  tree_frees values (Snapshots x) = snapshot_frees x.nodes values x.step
-  tree_frees values (Clears x) = refl
+  tree_frees values (TreePhase.Snapshot x) = (snapshot_apart x.nodes values x.step).2 n
+  tree_frees values (TreePhase.ClearMarks x) = refl
+  tree_frees values x = (call_plain values x refl).frees_none n
 
-  freeze_frees : (nodes : ℕ) (s : FreezeStep) → frees n (freeze_tree_role nodes s) ≡ 0
-  freeze_frees nodes (Cleans marks) = refl
-  freeze_frees nodes SetsFs = refl
-  freeze_frees nodes s = refl
-
-  remount_frees : (nodes : ℕ) (s : RemountStep) → frees n (remount_tree_role nodes s) ≡ 0
-  remount_frees nodes (SetsRemount held) = refl
-  remount_frees nodes (ClearsHold held) = refl
-  remount_frees nodes (ClearsMark m) = refl
-  remount_frees nodes SetsReadOnly = refl
-  remount_frees nodes s = refl
-
-  close_file_is : (x : ClosePhase) → frees n (close_tree_role x) ≡ 1 → file_of (Some (Closes x)) ≡ Some (n, true)
-  close_file_is (EntersLevel f node r) e = ap (λ m. Some (m, true)) (same_is f node e)
-  close_file_is (ClosesNode f p node) e = ap (λ m. Some (m, true)) (same_is f node e)
+  close_file_is : (x : ClosePhase) → frees n (close_tree_role x) ≡ 1 → file_of (Some (Phase.Closes x)) ≡ Some (n, true)
+  close_file_is (ClosePhase.Enters f node r) e = ap (λ m. Some (m, true)) (same_is f node e)
+  close_file_is (ClosePhase.FreesNode f p node) e = ap (λ m. Some (m, true)) (same_is f node e)
   close_file_is other e = absurd (omega (arith, e))
 
   freer_file : (trace : List Traced) (p : Option Phase) → frees n (tree_role_of trace p) ≡ 1 → file_of p ≡ Some (n, true)
-  freer_file trace (Some (Remounts x)) e = absurd (omega (arith, e, remount_frees x.nodes x.step))
-  freer_file trace (Some (Freezes x)) e = absurd (omega (arith, e, freeze_frees x.nodes x.step))
-  freer_file trace (Some (Trees x)) e = absurd (omega (arith, e, tree_frees (values_noted (nodes_noted x) trace) x))
-  freer_file trace (Some (Closes x)) e = close_file_is x e
+  freer_file trace (Some (Phase.Remounts x)) e = absurd (omega (arith, e, (remount_apart x.nodes x.step).1 n))
+  freer_file trace (Some (Phase.Freezes x)) e = absurd (omega (arith, e, (freeze_apart x.nodes x.step).2 n))
+  freer_file trace (Some (Phase.Trees x)) e = absurd (omega (arith, e, tree_frees (values_noted (nodes_noted x) trace) x))
+  freer_file trace (Some (Phase.Closes x)) e = close_file_is x e
   freer_file trace p e = absurd (omega (arith, e))
 
 frees_le : (n : ℕ) (r : Role) → frees n r ≤ 1
 frees_le n (Freeing m file) = same_le m n
 frees_le n _ = omega arith
 
--- a role frees a node at most once
 frees_small : (n : ℕ) (r : Role) → (frees n r ≡ 1 → ⊥) → frees n r ≡ 0
 frees_small n r other = omega (arith, other, frees_le n r)
 
--- where two tasks have a file open, it is open for two
 two_open : (opens : ℕ → ℕ → Bool) (n t u : ℕ) → t < most_tasks → u < most_tasks → (u ≡ t → ⊥) → opens t n ≡ true → opens u n ≡ true →
     2 ≤ openers opens n
 two_open opens n t u lt lu ne a b =
@@ -257,11 +155,9 @@ module _ (c : Config) (within : IsWithin c) (w : World) (good : IsGood c w) (t :
         level_thawed c w good t lt 3 (omega arith) (omega arith) inside (rw (frozen, writable) refl)
   ]
 
-  -- so no snapshot has loaded a word
   pub closer_unread : holds_level (w.views t) 3 ≡ true → 1 ≤ w.words.removed → NobodyReads (tree_bounds c) (tree_of w)
   closer_unread inside some = nobody_reads c w good (closer_thawed inside some)
 
-  -- a task that has counted a removed file is one of those that `removed` counts
   pub removal_counted : removal (tree_roles w t) ≡ 1 → 1 ≤ w.words.removed
   removal_counted is = omega (arith, (good Tree).removals, total_at c.tasks t (λ x. removal (tree_roles w x)) lt, is)
 

@@ -1,94 +1,51 @@
 -- What each event of a down-write leaves of the levels: it enters the rcu_sync of its level, sets `block`, and sums the counts until nobody
 -- is counted.
 use Rattle.std.proofs.Common.{◌≡◌, ℕ, suc, ◌+◌, ◌<◌, ◌≤◌, refl, sym, ap, ◌∙◌, subst, inl, inr, arith, true≢false}
+use Rattle.std.proofs.lemmas.{Bool.{eq-eqb, lt-ltb, le-ltb, cases_lt, Decides.eqb_tells}, Option.none-some}
 use Rattle.std.specs.Prelude.{Option, Some, None, Ok, Bool, true, false, ◌==◌, if◌then◌else◌}
-use Rattle.std.proofs.lemmas.Bool.{eq-eqb, lt-ltb, le-ltb, cases_lt}
-use Rattle.std.proofs.lemmas.Bool.Decides.{eqb_tells}
-use Rattle.std.proofs.lemmas.Option.{none-some}
-use Rattle.finite_sums.specs.Sums.{update, total}
-use Rattle.finite_sums.proofs.Totals.{update_at, update_map, update_same}
-use Rattle.access_model.specs.declared.replies.Reply.TheVariants.{Unit as UnitReply}
-use Rattle.access_model.specs.declared.actions.Action.TheVariants.{Pass}
-use Rattle.access_model.specs.declared.replies.Next.{Next}
-use Rattle.access_model.specs.declared.replies.Next.TheVariants.{Go, Wait, Done}
-use Rattle.cpu_words.specs.declared.names.WordName.{WordName}
-use Rattle.cpu_words.specs.declared.events.Touch.{Touch}
-use Rattle.cpu_words.specs.declared.sums.Sum.{Sum}
-use Rattle.cpu_words.specs.declared.sums.Taken.{Taken}
-use Rattle.cpu_words.specs.declared.sums.Taken.TheVariants.{More as MoreWords, Total}
-use Rattle.cpu_words.specs.Sums.{sum_taking}
-use Rattle.cpu_words.specs.Touches.{found_by, left, wrap_add}
-use Rattle.cpu_words.specs.Words.{Words, read, put}
-use Rattle.percpu_rwsem.specs.declared.readers.DownReadStep.{DownReadStep}
-use Rattle.percpu_rwsem.specs.declared.readers.DownReadStep.TheVariants.{CountsUpFast}
-use Rattle.percpu_rwsem.specs.declared.callbacks.CallbackStep.{CallbackStep}
-use Rattle.percpu_rwsem.specs.declared.callbacks.CallbackStep.TheVariants.{Claims, AwaitsSections as AwaitsGrace, CallsBack as MakesCall}
-use Rattle.percpu_rwsem.specs.declared.writers.UpWriteStep.{UpWriteStep}
-use Rattle.percpu_rwsem.specs.declared.writers.UpWriteStep.TheVariants.{ClearsBlock, Exits as ExitsLevel}
-use Rattle.percpu_rwsem.specs.declared.grace.GraceNext.{GraceNext}
-use Rattle.percpu_rwsem.specs.declared.grace.GraceNext.TheVariants.{More as MoreSections, Wait as WaitsFor, Ended}
-use Rattle.percpu_rwsem.specs.declared.sync_word.GpState.{GpState}
-use Rattle.percpu_rwsem.specs.declared.sync_word.GpState.TheVariants.{Idle, Passed, Exit, Replay}
-use Rattle.percpu_rwsem.specs.declared.sync_word.SyncWord.{SyncWord}
-use Rattle.percpu_rwsem.specs.declared.transitions.Transition.TheVariants.{Loads, Exchanges}
-use Rattle.percpu_rwsem.specs.declared.transitions.TransitionNext.{TransitionNext}
-use Rattle.percpu_rwsem.specs.declared.transitions.TransitionNext.TheVariants.{More, Undefined, Made}
-use Rattle.percpu_rwsem.specs.declared.writers.DownWrite.{DownWrite}
-use Rattle.percpu_rwsem.specs.declared.writers.DownWriteStep.{DownWriteStep}
-use Rattle.percpu_rwsem.specs.declared.writers.DownWriteStep.TheVariants.{Enters, AwaitsSections, CallsBack, AwaitsPassed, SetsBlock, Sums}
-use Rattle.percpu_rwsem.specs.SyncWords.{unpack, is_passed, is_queued, on_enter, on_callback}
-use Rattle.percpu_rwsem.specs.Graces.{looked}
-use Rattle.percpu_rwsem.specs.Transitions.{transition_after}
-use Rattle.percpu_rwsem.specs.Writers.{down_write_next, down_write_after, at_down_write, entered_from, enter_step, callback_step, sections_awaited, passed_awaited, sum_begun, down_write_summed}
-use Rattle.freeze_levels.specs.declared.freezes.FreezeStep.{FreezeStep}
-use Rattle.freeze_levels.specs.declared.freezes.FreezeStep.TheVariants.{Closes, LocksAgain, SetsPageFault, Cleans, SetsFs, SetsComplete, Reopens as FreezeReopens}
-use Rattle.freeze_levels.specs.declared.thaws.ThawStep.{ThawStep}
-use Rattle.freeze_levels.specs.declared.thaws.ThawStep.TheVariants.{Reopens as ThawReopens}
-use Rattle.write_access.specs.declared.phases.WritePhase.TheVariants.{Takes}
-use Rattle.gate_counts.specs.Levels.{LevelRole, LevelView, LevelHolds, Out as CountsNot, Summing, Passed as CountsPassed}
+use Rattle.finite_sums.{proofs.Totals.{update_at, update_map, update_same}, specs.Sums.{update, total}}
+use Rattle.access_model.specs.declared.{actions.Action.Action, replies.{Next.Next, Reply.Reply}}
+use Rattle.cpu_words.specs.{Sums.sum_taking, Touches.{found_by, left, wrap_add}, Words.{Words, read, put}}
+use Rattle.cpu_words.specs.declared.{events.Touch.Touch, names.WordName.WordName, sums.{Sum.Sum, Taken.Taken}}
 use Rattle.gate_counts.proofs.LevelLaws.{swaps, sums_on, passes, sums_anew, none_passed}
-use Rattle.stage_laws.specs.Roles.{has_position}
-use Rattle.stage_laws.proofs.Facts.{total_alone}
-use Rattle.stage_laws.proofs.Positions.{other_position, not_full}
-use Rattle.level_laws.specs.Roles.{SyncRole, Waiting, Past as HasPassed, Out as IsApart, Entered as HasEntered, Closed, entered, entering}
-use Rattle.level_laws.specs.Operations.{down_read_role, callback_role, down_write_role, value_at, left_by, by_next, HoldsOfNext}
-use Rattle.level_laws.proofs.NumberLaws.{state_is}
+use Rattle.gate_counts.specs.Levels.{LevelRole, LevelView, LevelHolds, Out as CountsNot, Summing, Passed as CountsPassed}
+use Rattle.percpu_rwsem.specs.{Graces.looked, SyncWords.{unpack, is_passed, is_queued, on_enter, on_callback}, Transitions.transition_after}
+use Rattle.percpu_rwsem.specs.Writers.{down_write_next, down_write_after, at_down_write, entered_from, enter_step, callback_step, sections_awaited}
+use Rattle.percpu_rwsem.specs.Writers.{passed_awaited, sum_begun, down_write_summed}
+use Rattle.percpu_rwsem.specs.declared.{callbacks.CallbackStep.CallbackStep, grace.GraceNext.GraceNext, readers.DownReadStep.DownReadStep}
+use Rattle.percpu_rwsem.specs.declared.{sync_word.{GpState.GpState, SyncWord.SyncWord}, transitions.{Transition.Transition, TransitionNext.TransitionNext}}
+use Rattle.percpu_rwsem.specs.declared.writers.{DownWrite.DownWrite, DownWriteStep.DownWriteStep, UpWriteStep.UpWriteStep}
+use Rattle.freeze_levels.specs.declared.{freezes.FreezeStep.{FreezeStep, TheVariants.Closes}, thaws.ThawStep.ThawStep}
+use Rattle.level_laws.proofs.{EventLaws.swap_keeps, Operations.down_writes_are_there}
 use Rattle.level_laws.specs.Events.{SyncLevelHolds, SyncStep}
-use Rattle.level_laws.proofs.EventLaws.{swap_keeps}
-use Rattle.level_laws.proofs.Operations.{down_writes_are_there}
-use Rattle.level_laws.proofs.Whole.{writers_find}
-use Rattle.gate_world.specs.Shown.{stage_roles}
-use Rattle.gate_world.specs.Rules.{Stages, IsGood, Holds, AtLevel}
-use Rattle.gate_world.specs.Stages.{stage_role_of, freeze_stage_role, thaw_stage_role, reopening_role}
-use Rattle.gate_world.specs.Levels.{sync_role_if, freeze_stand, thaw_stand, Stand, stand_count, stand_sync, closed_to, down_count_role, sync_role_of, at_level, is_frozen_whole, level_role_of}
-use Rattle.gate_world.specs.declared.work.Phase.{Phase}
-use Rattle.gate_world.specs.declared.work.Phase.TheVariants.{DownReads, Callbacks, Writes, Freezes, Thaws, Closes}
-use Rattle.file_closes.specs.declared.phases.ClosePhase.TheVariants.{Enters as EntersLevel}
-use Rattle.gate_world.specs.declared.config.Config.{Config}
-use Rattle.gate_world.specs.declared.views.View.{View}
-use Rattle.gate_world.specs.Configs.{IsWithin}
-use Rattle.gate_world.specs.Fits.{DownWriteFits}
-use Rattle.gate_world.specs.Views.{holds_level}
-use Rattle.gate_world.specs.Worlds.{World}
-use Rattle.gate_frames.proofs.Frames.{SameLevelCounts}
-use Rattle.gate_world.specs.LevelRuns.{level_in}
-use Rattle.gate_frames.proofs.LevelWorlds.{level_right, found_level, IsEventAt}
+use Rattle.level_laws.specs.Operations.{down_read_role, callback_role, down_write_role, value_at, left_by, by_next, HoldsOfNext}
+use Rattle.level_laws.specs.Roles.{SyncRole, Waiting, Out as IsApart, Closed, entered}
+use Rattle.stage_laws.{proofs.{Facts.total_alone, Positions.{other_position, not_full}}, specs.Roles.has_position}
+use Rattle.write_access.specs.declared.phases.WritePhase.{WritePhase}
+use Rattle.file_closes.specs.declared.phases.ClosePhase.{ClosePhase}
+use Rattle.gate_world.specs.{Configs.IsWithin, Fits.DownWriteFits, LevelRuns.level_in}
+use Rattle.gate_world.specs.Levels.{sync_role_if, freeze_stand, thaw_stand, Stand, stand_count, stand_sync, closed_to, down_count_role, sync_role_of, at_level}
+use Rattle.gate_world.specs.Levels.{is_frozen_whole, level_role_of}
+use Rattle.gate_world.specs.{Rules.{Stages, IsGood, Holds, AtLevel}, Shown.stage_roles}
+use Rattle.gate_world.specs.{Stages.{stage_role_of, freeze_stage_role, thaw_stage_role, reopening_role}, Views.holds_level, Worlds.World}
+use Rattle.gate_world.specs.declared.{config.Config.Config, views.View.View, work.Phase.{Phase, TheVariants.Closes}}
+use Rattle.gate_frames.proofs.{Frames.SameLevelCounts, LevelWorlds.{level_right, found_level, IsEventAt, event_word}}
+use Rattle.gate_frames.proofs.StandRoles.{count_at, sync_at, SayBeside, beside_each, counts_left, counts_become, levels_move}
 use Rattle.gate_frames.proofs.Standing.{Stands, closing_stand, stand_after_closing, LevelsHold, left_world}
-use Rattle.gate_frames.proofs.StandRoles.{count_at, sync_at, SayBeside, beside_each, is_of_level, counts_left, counts_become, levels_move}
 
 -- each event of a down-write is one of its level, and changes no section word
 pub down_write_event : (d : DownWrite) (s : DownWriteStep) → IsEventAt d.level (down_write_next d s).0 (down_write_next d s).1
-down_write_event d (Enters Loads) = refl
-down_write_event d (AwaitsSections g) = tt
-down_write_event d (CallsBack Loads) = refl
+down_write_event d (DownWriteStep.Enters Transition.Loads) = refl
+down_write_event d (DownWriteStep.AwaitsSections g) = tt
+down_write_event d (DownWriteStep.CallsBack Transition.Loads) = refl
 down_write_event d other = refl
 
 -- it leaves the counts
 pub down_write_counts : (w : Words) (d : DownWrite) (s : DownWriteStep) →
     (put w (down_write_next d s).0 (left (down_write_next d s).1 (read w (down_write_next d s).0))).level ≡ w.level
-down_write_counts w d (Enters Loads) = refl
-down_write_counts w d (CallsBack Loads) = refl
-down_write_counts w d (Sums sum) =
+down_write_counts w d (DownWriteStep.Enters Transition.Loads) = refl
+down_write_counts w d (DownWriteStep.CallsBack Transition.Loads) = refl
+down_write_counts w d (DownWriteStep.Sums sum) =
     ap (update w.level d.level) (update_same (w.level d.level) sum.words) ∙ update_same w.level d.level
 down_write_counts w d other = refl
 
@@ -98,12 +55,12 @@ AtTheLevel level n = HoldsOfNext (λ (x : DownWrite). x.level ≡ level) n
 
 -- a down-write stays at its level
 grace_level : (d : DownWrite) (n : GraceNext) → AtTheLevel d.level (sections_awaited d n)
-grace_level d (MoreSections g) = refl
+grace_level d (GraceNext.More g) = refl
 grace_level d other = refl
 
 -- one that loads for GP_PASSED does
 state_level : (d : DownWrite) (b : Bool) →
-    AtTheLevel d.level (if b then Go (at_down_write d SetsBlock) else Wait (at_down_write d AwaitsPassed))
+    AtTheLevel d.level (if b then Next.Go (at_down_write d DownWriteStep.SetsBlock) else Next.Wait (at_down_write d DownWriteStep.AwaitsPassed))
 state_level d true = refl
 state_level d false = refl
 
@@ -112,94 +69,89 @@ passed_level : (d : DownWrite) (o : Option SyncWord) → AtTheLevel d.level (pas
 passed_level d None = refl
 passed_level d (Some word) = state_level d (is_passed word.state)
 
--- one that swaps `block` does
 swap_level : (d : DownWrite) (b : Bool) →
-    AtTheLevel d.level (if b then Go (at_down_write d sum_begun) else Wait (at_down_write d SetsBlock))
+    AtTheLevel d.level (if b then Next.Go (at_down_write d sum_begun) else Next.Wait (at_down_write d DownWriteStep.SetsBlock))
 swap_level d true = refl
 swap_level d false = refl
 
--- one that has its total
-total_level : (d : DownWrite) (b : Bool) → AtTheLevel d.level (if b then Done (Ok UnitReply) else Wait (at_down_write d sum_begun))
+total_level : (d : DownWrite) (b : Bool) → AtTheLevel d.level (if b then Next.Done (Ok Reply.Unit) else Next.Wait (at_down_write d sum_begun))
 total_level d true = tt
 total_level d false = refl
 
--- and one that takes a word more
 summed_level : (d : DownWrite) (taken : Taken) → AtTheLevel d.level (down_write_summed d taken).0
-summed_level d (MoreWords sum) = refl
-summed_level d (Total n) = total_level d (n == 0)
+summed_level d (Taken.More sum) = refl
+summed_level d (Taken.Total n) = total_level d (n == 0)
 
--- so each does
 pub down_write_level : (d : DownWrite) (s : DownWriteStep) (found : ℕ) → AtTheLevel d.level (down_write_after d s found).0
-down_write_level d (Enters x) found = refl
-down_write_level d (AwaitsSections g) found = grace_level d (looked g found)
-down_write_level d (CallsBack x) found = refl
-down_write_level d AwaitsPassed found = passed_level d (unpack found)
-down_write_level d SetsBlock found = swap_level d (found == 0)
-down_write_level d (Sums sum) found = summed_level d (sum_taking sum found d.processors)
+down_write_level d (DownWriteStep.Enters x) found = refl
+down_write_level d (DownWriteStep.AwaitsSections g) found = grace_level d (looked g found)
+down_write_level d (DownWriteStep.CallsBack x) found = refl
+down_write_level d DownWriteStep.AwaitsPassed found = passed_level d (unpack found)
+down_write_level d DownWriteStep.SetsBlock found = swap_level d (found == 0)
+down_write_level d (DownWriteStep.Sums sum) found = summed_level d (sum_taking sum found d.processors)
 
 -- what comes after its event says what it said of the other levels
 closing_beside : (level : ℕ) (s : Stand) → s.level ≡ level → (n : Next DownWrite) → AtTheLevel level n →
     SayBeside level (Some s) (stand_after_closing level n)
-closing_beside level s e (Go x) h = beside_each level s (closing_stand x) e h
-closing_beside level s e (Wait x) h = beside_each level s (closing_stand x) e h
-closing_beside level s e (Done answer) h = beside_each level s (closed_to level) e refl
+closing_beside level s e (Next.Go x) h = beside_each level s (closing_stand x) e h
+closing_beside level s e (Next.Wait x) h = beside_each level s (closing_stand x) e h
+closing_beside level s e (Next.Done answer) h = beside_each level s (closed_to level) e refl
 
 -- and of its own what its step is doing there
 closing_sync : (level : ℕ) (n : Next DownWrite) → AtTheLevel level n →
     by_next (λ (x : DownWrite). down_write_role x.step) Closed n ≡ stand_sync level (stand_after_closing level n)
-closing_sync level (Go x) h = sym (sync_at level (closing_stand x) (sym h))
-closing_sync level (Wait x) h = sym (sync_at level (closing_stand x) (sym h))
-closing_sync level (Done answer) h = sym (sync_at level (closed_to level) refl)
+closing_sync level (Next.Go x) h = sym (sync_at level (closing_stand x) (sym h))
+closing_sync level (Next.Wait x) h = sym (sync_at level (closing_stand x) (sym h))
+closing_sync level (Next.Done answer) h = sym (sync_at level (closed_to level) refl)
 
--- at its level's counts a down-write does what its step does
 counts_as : (d : DownWrite) (s : DownWriteStep) → stand_count d.level (Some (closing_stand (at_down_write d s))) ≡ down_count_role s
 counts_as d s = count_at d.level (closing_stand (at_down_write d s)) refl
 
 -- before its swap it has no part in the counts
 entered_counts : (tasks : ℕ) (s : GpState) → down_count_role (entered_from tasks s) ≡ CountsNot
-entered_counts tasks Idle = refl
+entered_counts tasks GpState.Idle = refl
 entered_counts tasks other = refl
 
 -- nor has it while it enters
 enter_counts : (tasks : ℕ) (n : TransitionNext) → down_count_role (enter_step tasks n) ≡ CountsNot
-enter_counts tasks (More x) = refl
-enter_counts tasks Undefined = refl
-enter_counts tasks (Made state) = entered_counts tasks state
+enter_counts tasks (TransitionNext.More x) = refl
+enter_counts tasks TransitionNext.Undefined = refl
+enter_counts tasks (TransitionNext.Made state) = entered_counts tasks state
 
 -- or ends its grace period
 call_counts : (n : TransitionNext) → down_count_role (callback_step n) ≡ CountsNot
-call_counts (More x) = refl
+call_counts (TransitionNext.More x) = refl
 call_counts other = refl
 
 -- or is in it
 grace_counts : (d : DownWrite) (n : GraceNext) →
     stand_count d.level (stand_after_closing d.level (sections_awaited d n)) ≡ CountsNot
-grace_counts d (MoreSections g) = counts_as d (AwaitsSections g)
-grace_counts d (WaitsFor g) = counts_as d (AwaitsSections g)
-grace_counts d Ended = counts_as d (CallsBack Loads)
+grace_counts d (GraceNext.More g) = counts_as d (DownWriteStep.AwaitsSections g)
+grace_counts d (GraceNext.Wait g) = counts_as d (DownWriteStep.AwaitsSections g)
+grace_counts d GraceNext.Ended = counts_as d (DownWriteStep.CallsBack Transition.Loads)
 
 -- or has loaded for GP_PASSED
 state_counts : (d : DownWrite) (b : Bool) → stand_count d.level (stand_after_closing d.level
-    (if b then Go (at_down_write d SetsBlock) else Wait (at_down_write d AwaitsPassed))) ≡ CountsNot
-state_counts d true = counts_as d SetsBlock
-state_counts d false = counts_as d AwaitsPassed
+    (if b then Next.Go (at_down_write d DownWriteStep.SetsBlock) else Next.Wait (at_down_write d DownWriteStep.AwaitsPassed))) ≡ CountsNot
+state_counts d true = counts_as d DownWriteStep.SetsBlock
+state_counts d false = counts_as d DownWriteStep.AwaitsPassed
 
 -- whatever number it found
 passed_counts : (d : DownWrite) (o : Option SyncWord) →
     stand_count d.level (stand_after_closing d.level (passed_awaited d o)) ≡ CountsNot
-passed_counts d None = counts_as d AwaitsPassed
+passed_counts d None = counts_as d DownWriteStep.AwaitsPassed
 passed_counts d (Some word) = state_counts d (is_passed word.state)
 
 -- by its swap of a clear `block` it begins a sum
 swap_counts : (d : DownWrite) (b : Bool) → b ≡ true → stand_count d.level (stand_after_closing d.level
-    (if b then Go (at_down_write d sum_begun) else Wait (at_down_write d SetsBlock))) ≡ Summing 0 0
+    (if b then Next.Go (at_down_write d sum_begun) else Next.Wait (at_down_write d DownWriteStep.SetsBlock))) ≡ Summing 0 0
 swap_counts d true e = counts_as d sum_begun
 swap_counts d false e = absurd (true≢false (sym e))
 
 -- what a sum is after one word more, of so many processors: it goes on, or that is its total
 abbrev IsTaken : (k sum processors : ℕ) → Taken → Type 0
-IsTaken k sum processors (MoreWords more) = (more.words ≡ suc k) × (more.total ≡ sum) × (suc k < processors)
-IsTaken k sum processors (Total n) = (n ≡ sum) × (processors ≤ suc k)
+IsTaken k sum processors (Taken.More more) = (more.words ≡ suc k) × (more.total ≡ sum) × (suc k < processors)
+IsTaken k sum processors (Taken.Total n) = (n ≡ sum) × (processors ≤ suc k)
 
 -- each word that is taken leaves one of them
 is_taken : (sum : Sum) (word processors : ℕ) →
@@ -216,40 +168,39 @@ total_role false = Summing 0 0
 
 -- and after one word more
 abbrev taken_role : Taken → LevelRole
-taken_role (MoreWords sum) = Summing sum.words sum.total
-taken_role (Total n) = total_role (n == 0)
+taken_role (Taken.More sum) = Summing sum.words sum.total
+taken_role (Taken.Total n) = total_role (n == 0)
 
 -- so it stands then at its level
 total_counts : (d : DownWrite) (b : Bool) → stand_count d.level (stand_after_closing d.level
-    (if b then Done (Ok UnitReply) else Wait (at_down_write d sum_begun))) ≡ total_role b
+    (if b then Next.Done (Ok Reply.Unit) else Next.Wait (at_down_write d sum_begun))) ≡ total_role b
 total_counts d true = count_at d.level (closed_to d.level) refl
 total_counts d false = counts_as d sum_begun
 
 -- and so after one word more
 taken_counts : (d : DownWrite) (taken : Taken) →
     stand_count d.level (stand_after_closing d.level (down_write_summed d taken).0) ≡ taken_role taken
-taken_counts d (MoreWords sum) = counts_as d (Sums sum)
-taken_counts d (Total n) = total_counts d (n == 0)
+taken_counts d (Taken.More sum) = counts_as d (DownWriteStep.Sums sum)
+taken_counts d (Taken.Total n) = total_counts d (n == 0)
 
 -- a level is passed by a total of 0
-total_passes : (i j : ℕ) (b : Bool) → (if b then Some (Pass i) else None) ≡ Some (Pass j) → b ≡ true
+total_passes : (i j : ℕ) (b : Bool) → (if b then Some (Action.Pass i) else None) ≡ Some (Action.Pass j) → b ≡ true
 total_passes i j true e = refl
-total_passes i j false e = absurd (none-some (Pass j) e)
+total_passes i j false e = absurd (none-some (Action.Pass j) e)
 
 -- so the event that passes a level leaves it passed
-taken_passes : (d : DownWrite) (j : ℕ) (taken : Taken) → (down_write_summed d taken).1 ≡ Some (Pass j) → taken_role taken ≡ CountsPassed
-taken_passes d j (MoreWords sum) e = absurd (none-some (Pass j) e)
-taken_passes d j (Total n) e = ap total_role (total_passes d.level j (n == 0) e)
+taken_passes : (d : DownWrite) (j : ℕ) (taken : Taken) → (down_write_summed d taken).1 ≡ Some (Action.Pass j) → taken_role taken ≡ CountsPassed
+taken_passes d j (Taken.More sum) e = absurd (none-some (Action.Pass j) e)
+taken_passes d j (Taken.Total n) e = ap total_role (total_passes d.level j (n == 0) e)
 
--- a state with a callback queued is at least GP_PASSED
-queued_passed : (s : GpState) → is_queued s ≡ true → is_passed s ≡ true
-queued_passed Exit e = refl
-queued_passed Replay e = refl
+pub queued_passed : (s : GpState) → is_queued s ≡ true → is_passed s ≡ true
+queued_passed GpState.Exit e = refl
+queued_passed GpState.Replay e = refl
 queued_passed s e = absurd (true≢false (sym e))
 
 -- a load of a word whose state is so ends the wait for it
 state_passes : (d : DownWrite) (n : ℕ) (word : SyncWord) → unpack n ≡ Some word → is_passed word.state ≡ true →
-    passed_awaited d (unpack n) ≡ Go (at_down_write d SetsBlock)
+    passed_awaited d (unpack n) ≡ Next.Go (at_down_write d DownWriteStep.SetsBlock)
 state_passes d n word packed e = rw (packed, e) refl
 
 module _ (c : Config) (lim : IsWithin c) (w : World) (good : IsGood c w) (t : ℕ) (lt : t < c.tasks) where
@@ -271,11 +222,11 @@ module _ (c : Config) (lim : IsWithin c) (w : World) (good : IsGood c w) (t : �
   -- a word more of a sum, whether it is its last or not
   word_taken : (i k sum : ℕ) → 1 ≤ i → i ≤ 3 → level_role_of i (w.views t).phase ≡ Summing k sum → k < c.processors → (taken : Taken) →
       IsTaken k (wrap_add sum (w.words.level i k)) c.processors taken → RoleAfter i (taken_role taken)
-  word_taken i k sum one three here more (MoreWords next) is =
+  word_taken i k sum one three here more (Taken.More next) is =
       subst (λ n. RoleAfter i (Summing n next.total)) (sym is.0)
       (subst (λ n. RoleAfter i (Summing (suc k) n)) (sym is.1)
       (sums_on (good (AtLevel i) one three) t lt lim.tasks lim.processors k sum here is.2))
-  word_taken i k sum one three here more (Total n) is = total_taken i k sum one three here (omega (arith, more, is.1)) n is.0
+  word_taken i k sum one three here more (Taken.Total n) is = total_taken i k sum one three here (omega (arith, more, is.1)) n is.0
 
   module _ (d : DownWrite) where
     -- the words after its event at this step
@@ -291,29 +242,29 @@ module _ (c : Config) (lim : IsWithin c) (w : World) (good : IsGood c w) (t : �
     next_closing s = (down_write_after d s (found_closing s)).0
 
     -- its swap finds `block` clear
-    pub swap_finds_clear : 1 ≤ d.level → d.level ≤ 3 → Stands (w.views t).phase (Some (closing_stand (at_down_write d SetsBlock))) →
+    pub swap_finds_clear : 1 ≤ d.level → d.level ≤ 3 → Stands (w.views t).phase (Some (closing_stand (at_down_write d DownWriteStep.SetsBlock))) →
         w.words.block d.level ≡ 0
     swap_finds_clear one three was =
         let l = level_in w d.level in
         let right = level_right c w good d.level one three in
         (swap_keeps c.tasks right.level.word l.block l.full l.section l.at right.level.holds t lt
-        (was.syncs d.level one three ∙ sync_at d.level (closing_stand (at_down_write d SetsBlock)) refl)).0
+        (was.syncs d.level one three ∙ sync_at d.level (closing_stand (at_down_write d DownWriteStep.SetsBlock)) refl)).0
 
     -- its sum after one word more
-    summed_here : (sum : Sum) → DownWriteFits c (at_down_write d (Sums sum)) →
-        Stands (w.views t).phase (Some (closing_stand (at_down_write d (Sums sum)))) →
+    summed_here : (sum : Sum) → DownWriteFits c (at_down_write d (DownWriteStep.Sums sum)) →
+        Stands (w.views t).phase (Some (closing_stand (at_down_write d (DownWriteStep.Sums sum)))) →
         RoleAfter d.level (taken_role (sum_taking sum (w.words.level d.level sum.words) d.processors))
     summed_here sum fits was =
-        word_taken d.level sum.words sum.total fits.0 fits.1 (was.counts d.level fits.0 fits.1 ∙ counts_as d (Sums sum)) fits.4
+        word_taken d.level sum.words sum.total fits.0 fits.1 (was.counts d.level fits.0 fits.1 ∙ counts_as d (DownWriteStep.Sums sum)) fits.4
         (sum_taking sum (w.words.level d.level sum.words) d.processors)
         (subst (λ k. IsTaken sum.words (wrap_add sum.total (w.words.level d.level sum.words)) k
         (sum_taking sum (w.words.level d.level sum.words) d.processors)) fits.3
         (is_taken sum (w.words.level d.level sum.words) d.processors))
 
     -- the sum of nobody's counts finds that nobody holds the level
-    summed_nobody : (sum : Sum) → DownWriteFits c (at_down_write d (Sums sum)) →
-        Stands (w.views t).phase (Some (closing_stand (at_down_write d (Sums sum)))) → (j : ℕ) →
-        (down_write_summed d (sum_taking sum (w.words.level d.level sum.words) d.processors)).1 ≡ Some (Pass j) →
+    summed_nobody : (sum : Sum) → DownWriteFits c (at_down_write d (DownWriteStep.Sums sum)) →
+        Stands (w.views t).phase (Some (closing_stand (at_down_write d (DownWriteStep.Sums sum)))) → (j : ℕ) →
+        (down_write_summed d (sum_taking sum (w.words.level d.level sum.words) d.processors)).1 ≡ Some (Action.Pass j) →
         total c.tasks (λ x. (at_level d.level (w.views x)).held) ≡ 0
     summed_nobody sum fits was j e =
         let views : ℕ → LevelView = λ x. at_level d.level (w.views x) in
@@ -327,25 +278,10 @@ module _ (c : Config) (lim : IsWithin c) (w : World) (good : IsGood c w) (t : �
     -- an event that passes a level finds that nobody holds it
     passes_nobody : (s : DownWriteStep) → DownWriteFits c (at_down_write d s) →
         Stands (w.views t).phase (Some (closing_stand (at_down_write d s))) → (j : ℕ) →
-        (down_write_after d s (found_closing s)).1 ≡ Some (Pass j) →
+        (down_write_after d s (found_closing s)).1 ≡ Some (Action.Pass j) →
         total c.tasks (λ x. if holds_level (w.views x) d.level then 1 else 0) ≡ 0
-    passes_nobody (Sums sum) fits was j e = summed_nobody sum fits was j e
-    passes_nobody other fits was j e = absurd (none-some (Pass j) e)
-
-    -- a load for GP_PASSED finds it
-    pub awaits_passed_passes : 1 ≤ d.level → d.level ≤ 3 → Stands (w.views t).phase (Some (closing_stand (at_down_write d AwaitsPassed))) →
-        next_closing AwaitsPassed ≡ Go (at_down_write d SetsBlock)
-    awaits_passed_passes one three was =
-        let l = level_in w d.level in
-        let right = level_right c w good d.level one three in
-        let here : l.at t ≡ HasEntered =
-        was.syncs d.level one three ∙ sync_at d.level (closing_stand (at_down_write d AwaitsPassed)) refl in
-        let finds = writers_find c.tasks l right t lt (ap entered here) (ap entering here) in
-        state_passes d (w.words.sync d.level) right.level.word right.level.packed
-        (elim finds.3 [
-          | inl q ↦ ap is_passed (state_is (w.words.sync d.level) right.level.word Passed right.level.packed q)
-          | inr q ↦ queued_passed right.level.word.state q
-        ])
+    passes_nobody (DownWriteStep.Sums sum) fits was j e = summed_nobody sum fits was j e
+    passes_nobody other fits was j e = absurd (none-some (Action.Pass j) e)
 
     -- its event is one of the rcu_sync of its level; it enters where nobody has entered
     pub closing_there : (s : DownWriteStep) → DownWriteFits c (at_down_write d s) →
@@ -359,7 +295,7 @@ module _ (c : Config) (lim : IsWithin c) (w : World) (good : IsGood c w) (t : �
         let name : WordName = (down_write_next d s).0 in
         let touch : Touch = (down_write_next d s).1 in
         let l = level_in w d.level in
-        let found = found_level w d.level name (is_of_level d.level name touch (down_write_event d s)) in
+        let found = found_level w d.level name (event_word d.level name touch (down_write_event d s)) in
         let there = down_writes_are_there t (read w.words name) l (at_down_write d s) (omega (arith, lt, fits.2))
         (subst (λ k. SyncLevelHolds k l) (sym fits.2) (level_right c w good d.level fits.0 fits.1))
         (was.syncs d.level fits.0 fits.1 ∙ sync_at d.level (closing_stand (at_down_write d s)) refl) fits.5
@@ -395,40 +331,40 @@ module _ (c : Config) (lim : IsWithin c) (w : World) (good : IsGood c w) (t : �
       closing_here : (s : DownWriteStep) → DownWriteFits c (at_down_write d s) →
           Stands (w.views t).phase (Some (closing_stand (at_down_write d s))) →
           Stands v.phase (stand_after_closing d.level (next_closing s)) → Holds c (left_world w t (words_closing s) v) (AtLevel d.level)
-      closing_here (Enters Loads) fits was now =
-          waits_here (Enters Loads) refl refl refl
-          (counts_as d (enter_step d.tasks (transition_after on_enter Loads (w.words.sync d.level))) ∙
-          enter_counts d.tasks (transition_after on_enter Loads (w.words.sync d.level))) was now
-      closing_here (Enters (Exchanges from to)) fits was now =
-          waits_here (Enters (Exchanges from to)) refl refl refl
-          (counts_as d (enter_step d.tasks (transition_after on_enter (Exchanges from to) (w.words.sync d.level))) ∙
-          enter_counts d.tasks (transition_after on_enter (Exchanges from to) (w.words.sync d.level))) was now
-      closing_here (AwaitsSections g) fits was now =
-          waits_here (AwaitsSections g) refl refl refl (grace_counts d (looked g (w.words.section g.task))) was now
-      closing_here (CallsBack Loads) fits was now =
-          waits_here (CallsBack Loads) refl refl refl
-          (counts_as d (callback_step (transition_after on_callback Loads (w.words.sync d.level))) ∙
-          call_counts (transition_after on_callback Loads (w.words.sync d.level))) was now
-      closing_here (CallsBack (Exchanges from to)) fits was now =
-          waits_here (CallsBack (Exchanges from to)) refl refl refl
-          (counts_as d (callback_step (transition_after on_callback (Exchanges from to) (w.words.sync d.level))) ∙
-          call_counts (transition_after on_callback (Exchanges from to) (w.words.sync d.level))) was now
-      closing_here AwaitsPassed fits was now =
-          waits_here AwaitsPassed refl refl refl (passed_counts d (unpack (w.words.sync d.level))) was now
-      closing_here SetsBlock fits was now =
+      closing_here (DownWriteStep.Enters Transition.Loads) fits was now =
+          waits_here (DownWriteStep.Enters Transition.Loads) refl refl refl
+          (counts_as d (enter_step d.tasks (transition_after on_enter Transition.Loads (w.words.sync d.level))) ∙
+          enter_counts d.tasks (transition_after on_enter Transition.Loads (w.words.sync d.level))) was now
+      closing_here (DownWriteStep.Enters (Transition.Exchanges from to)) fits was now =
+          waits_here (DownWriteStep.Enters (Transition.Exchanges from to)) refl refl refl
+          (counts_as d (enter_step d.tasks (transition_after on_enter (Transition.Exchanges from to) (w.words.sync d.level))) ∙
+          enter_counts d.tasks (transition_after on_enter (Transition.Exchanges from to) (w.words.sync d.level))) was now
+      closing_here (DownWriteStep.AwaitsSections g) fits was now =
+          waits_here (DownWriteStep.AwaitsSections g) refl refl refl (grace_counts d (looked g (w.words.section g.task))) was now
+      closing_here (DownWriteStep.CallsBack Transition.Loads) fits was now =
+          waits_here (DownWriteStep.CallsBack Transition.Loads) refl refl refl
+          (counts_as d (callback_step (transition_after on_callback Transition.Loads (w.words.sync d.level))) ∙
+          call_counts (transition_after on_callback Transition.Loads (w.words.sync d.level))) was now
+      closing_here (DownWriteStep.CallsBack (Transition.Exchanges from to)) fits was now =
+          waits_here (DownWriteStep.CallsBack (Transition.Exchanges from to)) refl refl refl
+          (counts_as d (callback_step (transition_after on_callback (Transition.Exchanges from to) (w.words.sync d.level))) ∙
+          call_counts (transition_after on_callback (Transition.Exchanges from to) (w.words.sync d.level))) was now
+      closing_here DownWriteStep.AwaitsPassed fits was now =
+          waits_here DownWriteStep.AwaitsPassed refl refl refl (passed_counts d (unpack (w.words.sync d.level))) was now
+      closing_here DownWriteStep.SetsBlock fits was now =
           let clear = swap_finds_clear fits.0 fits.1 was in
-          counts_become c w good t lt v (Some (closing_stand (at_down_write d SetsBlock)))
-          (stand_after_closing d.level (next_closing SetsBlock)) was now counts (words_closing SetsBlock) d.level 1
+          counts_become c w good t lt v (Some (closing_stand (at_down_write d DownWriteStep.SetsBlock)))
+          (stand_after_closing d.level (next_closing DownWriteStep.SetsBlock)) was now counts (words_closing DownWriteStep.SetsBlock) d.level 1
           (is_frozen_whole w.words) (Summing 0 0) (update_at w.words.block d.level 1) refl refl
           (λ low high. swap_counts d (w.words.block d.level == 0) (eq-eqb (w.words.block d.level) 0 clear))
           (λ low high. swaps (good (AtLevel d.level) low high) t lt lim.tasks lim.processors
-          (was.counts d.level low high ∙ counts_as d SetsBlock) clear (omega (arith, lim.some_processor)))
-      closing_here (Sums sum) fits was now =
-          counts_become c w good t lt v (Some (closing_stand (at_down_write d (Sums sum))))
-          (stand_after_closing d.level (next_closing (Sums sum))) was now counts (words_closing (Sums sum)) d.level
+          (was.counts d.level low high ∙ counts_as d DownWriteStep.SetsBlock) clear (omega (arith, lim.some_processor)))
+      closing_here (DownWriteStep.Sums sum) fits was now =
+          counts_become c w good t lt v (Some (closing_stand (at_down_write d (DownWriteStep.Sums sum))))
+          (stand_after_closing d.level (next_closing (DownWriteStep.Sums sum))) was now counts (words_closing (DownWriteStep.Sums sum)) d.level
           (w.words.block d.level) (is_frozen_whole w.words)
           (taken_role (sum_taking sum (w.words.level d.level sum.words) d.processors)) refl refl
-          (ap (λ f. f d.level) (down_write_counts w.words d (Sums sum)))
+          (ap (λ f. f d.level) (down_write_counts w.words d (DownWriteStep.Sums sum)))
           (λ low high. taken_counts d (sum_taking sum (w.words.level d.level sum.words) d.processors))
           (λ low high. summed_here sum fits was)
 
@@ -444,7 +380,6 @@ module _ (c : Config) (lim : IsWithin c) (w : World) (good : IsGood c w) (t : �
           counts d.level (down_write_next d s).0 (down_write_next d s).1 (down_write_event d s) (down_write_counts w.words d s)
           (closing_others s) (closing_here s fits was now) (λ low high. closing_there s fits was alone)
 
--- so it does at the step that it is at
 pub down_write_levels : (c : Config) → IsWithin c → (w : World) → IsGood c w → (t : ℕ) → t < c.tasks → (d : DownWrite) (v : View) →
     SameLevelCounts (w.views t) v → DownWriteFits c d → Stands (w.views t).phase (Some (closing_stand d)) →
     Stands v.phase (stand_after_closing d.level
@@ -456,78 +391,54 @@ pub down_write_levels : (c : Config) → IsWithin c → (w : World) → IsGood c
 down_write_levels c lim w good t lt d v counts fits was now alone =
     down_write_levels_at c lim w good t lt d v counts d.step fits was now alone
 
--- the event that passes a level finds that nobody holds it
 pub passes_finds_nobody : (c : Config) → IsWithin c → (w : World) → IsGood c w → (t : ℕ) → t < c.tasks → (d : DownWrite) →
     DownWriteFits c d → Stands (w.views t).phase (Some (closing_stand d)) → (j : ℕ) →
-    (down_write_after d d.step (found_by (down_write_next d d.step).1 (read w.words (down_write_next d d.step).0))).1 ≡ Some (Pass j) →
+    (down_write_after d d.step (found_by (down_write_next d d.step).1 (read w.words (down_write_next d d.step).0))).1 ≡ Some (Action.Pass j) →
     total c.tasks (λ x. if holds_level (w.views x) d.level then 1 else 0) ≡ 0
 passes_finds_nobody c lim w good t lt d fits was j e = passes_nobody c lim w good t lt d d.step fits was j e
 
--- and leaves nobody who does, where its task holds what it held
-pub passes_leaves_nobody : (c : Config) → IsWithin c → (w : World) → IsGood c w → (t : ℕ) → t < c.tasks → (d : DownWrite) →
-    DownWriteFits c d → Stands (w.views t).phase (Some (closing_stand d)) → (j : ℕ) →
-    (down_write_after d d.step (found_by (down_write_next d d.step).1 (read w.words (down_write_next d d.step).0))).1 ≡ Some (Pass j) →
-    (v : View) → holds_level v ≡ holds_level (w.views t) →
-    total c.tasks (λ x. if holds_level (update w.views t v x) d.level then 1 else 0) ≡ 0
-passes_leaves_nobody c lim w good t lt d fits was j e v held =
-    let f : View → ℕ = λ u. if holds_level u d.level then 1 else 0 in
-    let same : ◌≡◌ {A = ℕ → ℕ} (λ x. f (update w.views t v x)) (λ x. f (w.views x)) =
-    update_map f w.views t v ∙
-    (ap (λ (h : ℕ → Bool). update (λ x. f (w.views x)) t (if h d.level then 1 else 0)) held ∙ update_same (λ x. f (w.views x)) t) in
-    ap (total c.tasks) same ∙ passes_finds_nobody c lim w good t lt d fits was j e
-
--- a role has entered once at most
 entered_le : (r : SyncRole) → entered r ≤ 1
 entered_le (Waiting g) = omega arith
-entered_le HasPassed = omega arith
-entered_le HasEntered = omega arith
-entered_le Closed = omega arith
 entered_le r = omega arith
 
--- no down-read has entered a level
 read_enters : (b : Bool) (s : DownReadStep) → entered (sync_role_if b (down_read_role s)) ≡ 0
-read_enters true CountsUpFast = refl
+read_enters true DownReadStep.CountsUpFast = refl
 read_enters true s = refl
 read_enters false s = refl
 
--- nor has a callback
 callback_enters : (b : Bool) (s : CallbackStep) → entered (sync_role_if b (callback_role s)) ≡ 0
-callback_enters true (Claims transition) = refl
-callback_enters true (AwaitsGrace grace) = refl
-callback_enters true (MakesCall transition) = refl
+callback_enters true (CallbackStep.Claims transition) = refl
+callback_enters true (CallbackStep.AwaitsSections grace) = refl
+callback_enters true (CallbackStep.CallsBack transition) = refl
 callback_enters false s = refl
 
--- who reopens levels has a position
 reopening_position : (level : ℕ) (s : UpWriteStep) → has_position (reopening_role level s) ≡ 1
-reopening_position level ClearsBlock = refl
-reopening_position level (ExitsLevel transition) = refl
+reopening_position level UpWriteStep.ClearsBlock = refl
+reopening_position level (UpWriteStep.Exits transition) = refl
 
--- a freeze that has entered a level has a position
 freeze_enters : (i nodes : ℕ) (s : FreezeStep) → entered (stand_sync i (freeze_stand s)) ≤ has_position (freeze_stage_role nodes s)
 freeze_enters i nodes (Closes d) = entered_le (stand_sync i (freeze_stand (Closes d)))
-freeze_enters i nodes LocksAgain = entered_le (stand_sync i (freeze_stand LocksAgain))
-freeze_enters i nodes SetsPageFault = entered_le (stand_sync i (freeze_stand SetsPageFault))
-freeze_enters i nodes (Cleans marks) = entered_le (stand_sync i (freeze_stand (Cleans marks)))
-freeze_enters i nodes SetsFs = entered_le (stand_sync i (freeze_stand SetsFs))
-freeze_enters i nodes SetsComplete = entered_le (stand_sync i (freeze_stand SetsComplete))
-freeze_enters i nodes (FreezeReopens u code) =
-    omega (arith, entered_le (stand_sync i (freeze_stand (FreezeReopens u code))), reopening_position u.level u.step)
+freeze_enters i nodes FreezeStep.LocksAgain = entered_le (stand_sync i (freeze_stand FreezeStep.LocksAgain))
+freeze_enters i nodes FreezeStep.SetsPageFault = entered_le (stand_sync i (freeze_stand FreezeStep.SetsPageFault))
+freeze_enters i nodes (FreezeStep.Cleans marks) = entered_le (stand_sync i (freeze_stand (FreezeStep.Cleans marks)))
+freeze_enters i nodes FreezeStep.SetsFs = entered_le (stand_sync i (freeze_stand FreezeStep.SetsFs))
+freeze_enters i nodes FreezeStep.SetsComplete = entered_le (stand_sync i (freeze_stand FreezeStep.SetsComplete))
+freeze_enters i nodes (FreezeStep.Reopens u code) =
+    omega (arith, entered_le (stand_sync i (freeze_stand (FreezeStep.Reopens u code))), reopening_position u.level u.step)
 freeze_enters i nodes s = omega arith
 
--- and a thaw
 thaw_enters : (i : ℕ) (s : ThawStep) → entered (stand_sync i (thaw_stand s)) ≤ has_position (thaw_stage_role s)
-thaw_enters i (ThawReopens u) =
-    omega (arith, entered_le (stand_sync i (thaw_stand (ThawReopens u))), reopening_position u.level u.step)
+thaw_enters i (ThawStep.Reopens u) =
+    omega (arith, entered_le (stand_sync i (thaw_stand (ThawStep.Reopens u))), reopening_position u.level u.step)
 thaw_enters i s = omega arith
 
--- so whoever has entered a level has a position
 pub entered_position : (i : ℕ) (p : Option Phase) → entered (sync_role_of i p) ≤ has_position (stage_role_of p)
-entered_position i (Some (DownReads r)) = omega (arith, read_enters (i == r.level) r.step)
-entered_position i (Some (Callbacks b)) = omega (arith, callback_enters (i == b.level) b.step)
-entered_position i (Some (Writes (Takes m r))) = omega (arith, read_enters (i == r.level) r.step)
-entered_position i (Some (Freezes x)) = freeze_enters i x.nodes x.step
-entered_position i (Some (Thaws x)) = thaw_enters i x.step
-entered_position i (Some (Closes (EntersLevel f node r))) = omega (arith, read_enters (i == r.level) r.step)
+entered_position i (Some (Phase.DownReads r)) = omega (arith, read_enters (i == r.level) r.step)
+entered_position i (Some (Phase.Callbacks b)) = omega (arith, callback_enters (i == b.level) b.step)
+entered_position i (Some (Phase.Writes (WritePhase.Takes m r))) = omega (arith, read_enters (i == r.level) r.step)
+entered_position i (Some (Phase.Freezes x)) = freeze_enters i x.nodes x.step
+entered_position i (Some (Phase.Thaws x)) = thaw_enters i x.step
+entered_position i (Some (Closes (ClosePhase.Enters f node r))) = omega (arith, read_enters (i == r.level) r.step)
 entered_position i other = omega arith
 
 -- where a task with a position has not entered a level, nobody has, and the file system isn't frozen as a whole

@@ -1,45 +1,32 @@
 -- What an event leaves alone.
 use Rattle.std.proofs.Common.{◌≡◌, ℕ, suc, ◌+◌, ◌<◌, refl, sym, ap, ◌∙◌, subst, inl, inr, arith, true≢false, Bool}
+use Rattle.std.proofs.lemmas.Bool.{eq-eqb, ne_eqb, Decides.eqb_tells}
 use Rattle.std.specs.Prelude.{◌==◌, ◌&&◌, ◌||◌, if◌then◌else◌, Option, ◌%◌}
-use Rattle.std.proofs.lemmas.Bool.{eq-eqb, ne_eqb}
-use Rattle.std.proofs.lemmas.Bool.Decides.{eqb_tells}
-use Rattle.finite_sums.specs.Sums.{update, total}
-use Rattle.finite_sums.proofs.Totals.{each_updated, total_updated, update_map, update_same}
-use Rattle.cpu_words.specs.declared.names.WordName.{WordName}
-use Rattle.cpu_words.specs.declared.names.WordName.TheVariants.{Umount}
-use Rattle.cpu_words.specs.declared.events.Touch.TheVariants.{Load}
-use Rattle.cpu_words.specs.Words.{Words}
-use Rattle.mount_counts.specs.Roles.{Role, Out, MountView, ro_bit, MountHolds}
+use Rattle.finite_sums.{proofs.Totals.{each_updated, total_updated, update_map, update_same}, specs.Sums.{update, total}}
 use Rattle.access_model.specs.States.{openers}
-use Rattle.gate_world.specs.declared.config.Config.{Config}
-use Rattle.gate_world.specs.declared.views.View.{View}
-use Rattle.gate_world.specs.declared.work.Phase.{Phase}
-use Rattle.gate_world.specs.Views.{held_at, holds_level, added_after, taken_after, has_open}
-use Rattle.gate_world.specs.Worlds.{World}
-use Rattle.gate_world.specs.Shown.{shown, closing, is_passed, stage_roles, holder_roles}
-use Rattle.gate_world.specs.Fits.{Fits, HasFile, file_of}
-use Rattle.gate_world.specs.Rules.{role_if, at_mount, owns, remounts, IsSteady, OwnerHolds, ViewFits, Part, Owner, Stages, Holding, Fitting, AtMount, Holds, SameWords, SameView, GatesHold, IsGood, Known, Tree, AtLevel, SyncAt, Sections, Files}
-use Rattle.gate_world.specs.Owners.{KnowsWords}
-use Rattle.gate_frames.proofs.Known.{known_same}
-use Rattle.gated_tree.specs.Nodes.{node_shown, opens_in}
-use Rattle.gated_tree.specs.Roles.{Role as TreeRole, TreeState, TreeHolds}
-use Rattle.gate_world.specs.Trees.{tree_bounds, tree_role_of, tree_roles}
-use Rattle.stage_laws.specs.Roles.{StageRole, StagesHold}
-use Rattle.gate_world.specs.Stages.{stage_role_of}
-use Rattle.freeze_levels.specs.Holders.{holders_in}
-use Rattle.holder_laws.specs.Roles.{HolderRole, HoldersHold}
-use Rattle.gate_world.specs.Holders.{holder_role_of}
+use Rattle.cpu_words.specs.{Words.Words, declared.{events.Touch.Touch, names.WordName.WordName}}
 use Rattle.gate_counts.specs.Levels.{Out as CountsNot, LevelView, LevelRole, LevelHolds}
+use Rattle.gated_tree.specs.{Nodes.{node_shown, opens_in}, Roles.{Role as TreeRole, TreeState, TreeHolds}}
+use Rattle.mount_counts.specs.Roles.{Role, Out, MountView, ro_bit, MountHolds}
+use Rattle.freeze_levels.specs.Holders.{holders_in}
 use Rattle.level_laws.specs.Roles.{Out as IsApart, SyncRole, SyncNumberHolds}
-use Rattle.gate_world.specs.Levels.{inside, at_level, level_role_of, is_frozen_whole, level_added_by, sync_role_of, level_taken_by}
+use Rattle.stage_laws.specs.Roles.{StageRole, StagesHold}
+use Rattle.holder_laws.specs.Roles.{HolderRole, HoldersHold}
+use Rattle.gate_world.specs.{Fits.{Fits, HasFile, file_of}, Holders.holder_role_of}
+use Rattle.gate_world.specs.{Levels.{inside, at_level, level_role_of, is_frozen_whole, level_added_by, sync_role_of, level_taken_by}, Owners.KnowsWords}
+use Rattle.gate_world.specs.Rules.{role_if, at_mount, owns, remounts, IsSteady, OwnerHolds, ViewFits, Part, Owner, Stages, Holding, Fitting, AtMount, Holds}
+use Rattle.gate_world.specs.Rules.{SameWords, SameView, GatesHold, IsGood, Known, Tree, AtLevel, SyncAt, Sections, Files}
+use Rattle.gate_world.specs.{Shown.{shown, closing, is_passed, stage_roles, holder_roles}, Stages.stage_role_of, Trees.{tree_bounds, tree_role_of, tree_roles}}
+use Rattle.gate_world.specs.{Views.{held_at, holds_level, added_after, taken_after, has_open}, Worlds.World}
+use Rattle.gate_world.specs.declared.{config.Config.Config, views.View.View, work.Phase.Phase}
+use Rattle.gate_frames.proofs.Known.{known_same}
 
--- a load counts nowhere
-pub added_load : (name : WordName) (added : ℕ → ℕ → ℕ) → added_after name Load added ≡ added
-added_load Umount added = refl
+pub added_load : (name : WordName) (added : ℕ → ℕ → ℕ) → added_after name Touch.Load added ≡ added
+added_load WordName.Umount added = refl
 added_load other added = refl
 
-pub taken_load : (name : WordName) (taken : ℕ → ℕ → ℕ) → taken_after name Load taken ≡ taken
-taken_load Umount taken = refl
+pub taken_load : (name : WordName) (taken : ℕ → ℕ → ℕ) → taken_after name Touch.Load taken ≡ taken
+taken_load WordName.Umount taken = refl
 taken_load other taken = refl
 
 pub role_on : (m : ℕ) (r : Role) → role_if (m == m) r ≡ r
@@ -217,7 +204,6 @@ module _ (c : Config) (w : World) (t : ℕ) (lt : t < c.tasks) where
       (λ l. h t l ∙ sym seen) (λ ne. h x) lx
 
   module _ (good : IsGood c w) where
-    -- an owner's words and phase as they were
     pub owner_same : (v : View) → IsSteady (w.views t).phase v.phase →
         OwnerHolds c.tasks w.words.umount w.words.remount (λ x. (update w.views t v x).phase)
     owner_same v same = left_alone Owner w.words v (refl, refl) (same.owns_same, same.remounts_same) (good Owner)

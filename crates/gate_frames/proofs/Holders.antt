@@ -1,50 +1,29 @@
 -- Who holds a freeze, as the laws of the holders have it: what holds of it in a world, and what an event of a task leaves of it.
-use Rattle.std.proofs.Common.{◌≡◌, ℕ, ◌<◌, ◌≤◌, sym, ap, ◌∙◌, subst, inl, inr, arith}
+use Rattle.std.proofs.{Common.{◌≡◌, ℕ, ◌<◌, ◌≤◌, sym, ap, ◌∙◌, subst, inl, inr, arith}, lemmas.Bool.{cases_Bool, Decides.eqb_tells}}
 use Rattle.std.specs.Prelude.{Option, Some}
-use Rattle.std.proofs.lemmas.Bool.Decides.{eqb_tells}
-use Rattle.std.proofs.lemmas.Bool.{cases_Bool}
-use Rattle.finite_sums.specs.Sums.{update, total}
-use Rattle.finite_sums.proofs.Totals.{total_none, update_map, update_same}
-use Rattle.access_model.specs.declared.actions.Holder.{Holder}
-use Rattle.access_model.specs.Holders.{is_unheld}
+use Rattle.finite_sums.{proofs.Totals.{total_none, update_map, update_same}, specs.Sums.{update, total}}
+use Rattle.access_model.specs.{Holders.is_unheld, declared.actions.Holder.Holder}
 use Rattle.cpu_words.specs.Words.{Words}
-use Rattle.freeze_levels.specs.declared.freezes.FreezeStep.{FreezeStep}
-use Rattle.freeze_levels.specs.declared.freezes.FreezeStep.TheVariants.{Holds as StoresHolder}
-use Rattle.freeze_levels.specs.declared.thaws.ThawStep.{ThawStep}
-use Rattle.freeze_levels.specs.declared.thaws.ThawStep.TheVariants.{Leaves as StoresOthers, LoadsSuperblock, LeavesReadOnly, LeavesLast, UnfreezesReadOnly, SetsUnfrozen}
+use Rattle.freeze_levels.specs.declared.{freezes.FreezeStep.FreezeStep, thaws.ThawStep.ThawStep}
 use Rattle.stage_laws.specs.Roles.{owns as stage_owns}
-use Rattle.holder_laws.specs.Roles.{HoldersHold, minds}
-use Rattle.holder_laws.specs.Events.{HolderMoment, HolderEvent, Happens, Moves, Stays}
-use Rattle.holder_laws.proofs.HolderLaws.{events_keep}
-use Rattle.gate_world.specs.declared.config.Config.{Config}
-use Rattle.gate_world.specs.declared.views.View.{View}
-use Rattle.gate_world.specs.declared.work.Phase.{Phase}
-use Rattle.gate_world.specs.declared.work.Phase.TheVariants.{Freezes, Thaws}
-use Rattle.gate_world.specs.Holders.{freeze_holder_role, thaw_holder_role, holder_role_of}
-use Rattle.gate_world.specs.Stages.{freeze_stage_role, thaw_stage_role}
-use Rattle.gate_world.specs.Rules.{owns, IsGood, Holds, Owner, Holding}
-use Rattle.gate_world.specs.Shown.{holder_roles}
-use Rattle.gate_world.specs.Worlds.{World}
+use Rattle.holder_laws.{proofs.HolderLaws.events_keep, specs.{Events.{HolderMoment, HolderEvent, Happens, Moves, Stays}, Roles.{HoldersHold, minds}}}
+use Rattle.gate_world.specs.{Holders.{freeze_holder_role, thaw_holder_role, holder_role_of}, Rules.{owns, IsGood, Holds, Owner, Holding}, Shown.holder_roles}
+use Rattle.gate_world.specs.{Stages.{freeze_stage_role, thaw_stage_role}, Worlds.World, declared.{config.Config.Config, views.View.View, work.Phase.Phase}}
 use Rattle.gate_frames.proofs.Owners.{owns_le}
 
 -- who relies on the holders owns `umount`
 freeze_minds : (nodes : ℕ) (s : FreezeStep) → minds (freeze_holder_role s) ≤ stage_owns (freeze_stage_role nodes s)
-freeze_minds nodes (StoresHolder beside) =
+freeze_minds nodes (FreezeStep.Holds beside) =
     elim (cases_Bool (is_unheld beside)) [ inl h ↦ rw h (omega arith) | inr h ↦ rw h (omega arith) ]
 freeze_minds nodes s = omega arith
 
 thaw_minds : (holder : Holder) (s : ThawStep) → minds (thaw_holder_role holder s) ≤ stage_owns (thaw_stage_role s)
-thaw_minds holder (StoresOthers held) = omega arith
-thaw_minds holder LoadsSuperblock = omega arith
-thaw_minds holder LeavesReadOnly = omega arith
-thaw_minds holder LeavesLast = omega arith
-thaw_minds holder UnfreezesReadOnly = omega arith
-thaw_minds holder SetsUnfrozen = omega arith
+thaw_minds holder (ThawStep.Leaves held) = omega arith
 thaw_minds holder s = omega arith
 
 pub holder_owner : (p : Option Phase) → minds (holder_role_of p) ≤ owns p
-holder_owner (Some (Freezes x)) = freeze_minds x.nodes x.step
-holder_owner (Some (Thaws x)) = thaw_minds x.holder x.step
+holder_owner (Some (Phase.Freezes x)) = freeze_minds x.nodes x.step
+holder_owner (Some (Phase.Thaws x)) = thaw_minds x.holder x.step
 holder_owner other = omega arith
 
 -- the holders of a world

@@ -1,72 +1,56 @@
 -- An event that reads no hook's answer is the same whatever a hook answers.
-use Rattle.mount_counts.specs.declared.phases.MountPhase.{MountPhase}
-use Rattle.mount_counts.specs.declared.remounts.Remount.{Remount}
-use Rattle.freeze_levels.specs.declared.freezes.Freeze.{Freeze}
-use Rattle.freeze_levels.specs.declared.freezes.FreezeStep.{FreezeStep}
-use Rattle.freeze_levels.specs.declared.freezes.FreezeStep.TheVariants.{SetsFs, SetsComplete}
-use Rattle.freeze_levels.specs.declared.thaws.Thaw.{Thaw}
-use Rattle.freeze_levels.specs.declared.thaws.ThawStep.{ThawStep}
-use Rattle.freeze_levels.specs.declared.thaws.ThawStep.TheVariants.{LeavesLast}
-use Rattle.freeze_levels.specs.Freezes.{freeze_hook, freeze_next, freeze_after}
-use Rattle.freeze_levels.specs.Thaws.{thaw_hook, thaw_next, thaw_after}
-use Rattle.gate_world.specs.declared.work.Phase.{Phase}
-use Rattle.cpu_words.specs.Hooks.{HookAnswer}
-use Rattle.mount_counts.specs.declared.remounts.RemountStep.{RemountStep}
-use Rattle.gate_world.specs.Work.{IgnoresAnswer, remount_hook, hook_of}
 use Rattle.std.proofs.Common.{ℕ, ◌≡◌, None, ap, true≢false, is_some, refl}
-use Rattle.mount_counts.specs.Phases.{next, after}
-use Rattle.gate_world.specs.declared.work.Phase.TheVariants.{Mounts, Remounts, Freezes, Thaws, Trees}
-use Rattle.mount_counts.specs.declared.phases.MountPhase.TheVariants.{Want as Wants}
-use Rattle.mount_counts.specs.Remounts.{remount_next, remount_after}
 use Rattle.access_model.specs.Replies.{map_next}
-use Rattle.mount_counts.specs.declared.remounts.RemountStep.TheVariants.{SetsWritable, SetsReadOnly}
-use Rattle.gated_tree.specs.declared.phases.TreePhase.{TreePhase}
-use Rattle.gated_tree.specs.Phases.{next as tree_next, after as tree_after}
-use Rattle.gated_tree.specs.declared.phases.TreePhase.TheVariants.{Create as Creates}
+use Rattle.cpu_words.specs.Hooks.{HookAnswer}
+use Rattle.gated_tree.specs.{Phases.{next as tree_next, after as tree_after}, declared.phases.TreePhase.TreePhase}
+use Rattle.mount_counts.specs.{Phases.{next, after}, Remounts.{remount_next, remount_after}}
+use Rattle.mount_counts.specs.declared.{phases.MountPhase.MountPhase, remounts.{Remount.Remount, RemountStep.RemountStep}}
+use Rattle.freeze_levels.specs.{Freezes.{freeze_hook, freeze_next, freeze_after}, Thaws.{thaw_hook, thaw_next, thaw_after}}
+use Rattle.freeze_levels.specs.declared.{freezes.{Freeze.Freeze, FreezeStep.FreezeStep}, thaws.{Thaw.Thaw, ThawStep.ThawStep}}
+use Rattle.gate_world.specs.{Work.{IgnoresAnswer, remount_hook, hook_of}, declared.work.Phase.Phase}
 
 mount_ignores : (x : MountPhase) (a b : HookAnswer) (found : ℕ) → (next x a ≡ next x b) × (after x found a ≡ after x found b)
-mount_ignores (Wants x) a b found = (refl, refl)
+mount_ignores (MountPhase.Want x) a b found = (refl, refl)
 mount_ignores other a b found = (refl, refl)
 
 remount_ignores : (x : Remount) (s : RemountStep) → remount_hook s ≡ None → (a b : HookAnswer) (found : ℕ) →
     (remount_next x s a ≡ remount_next x s b) × (remount_after x s found a ≡ remount_after x s found b)
-remount_ignores x SetsWritable h a b found = absurd (true≢false (ap is_some h))
-remount_ignores x SetsReadOnly h a b found = absurd (true≢false (ap is_some h))
+remount_ignores x RemountStep.SetsWritable h a b found = absurd (true≢false (ap is_some h))
+remount_ignores x RemountStep.SetsReadOnly h a b found = absurd (true≢false (ap is_some h))
 remount_ignores x s h a b found = (refl, refl)
 
 freeze_ignores : (x : Freeze) (s : FreezeStep) → freeze_hook s ≡ None → (a b : HookAnswer) (found : ℕ) →
     (freeze_next x s a ≡ freeze_next x s b) × (freeze_after x s found a ≡ freeze_after x s found b)
-freeze_ignores x SetsFs h a b found = absurd (true≢false (ap is_some h))
-freeze_ignores x SetsComplete h a b found = absurd (true≢false (ap is_some h))
+freeze_ignores x FreezeStep.SetsFs h a b found = absurd (true≢false (ap is_some h))
+freeze_ignores x FreezeStep.SetsComplete h a b found = absurd (true≢false (ap is_some h))
 freeze_ignores x s h a b found = (refl, refl)
 
 thaw_ignores : (x : Thaw) (s : ThawStep) → thaw_hook s ≡ None → (a b : HookAnswer) (found : ℕ) →
     (thaw_next x s a ≡ thaw_next x s b) × (thaw_after x s found a ≡ thaw_after x s found b)
-thaw_ignores x LeavesLast h a b found = absurd (true≢false (ap is_some h))
+thaw_ignores x ThawStep.LeavesLast h a b found = absurd (true≢false (ap is_some h))
 thaw_ignores x s h a b found = (refl, refl)
 
 tree_ignores : (x : TreePhase) (a b : HookAnswer) (found : ℕ) → (tree_next x a ≡ tree_next x b) × (tree_after x found a ≡ tree_after x found b)
-tree_ignores (Creates x) a b found = (refl, refl)
+tree_ignores (TreePhase.Create x) a b found = (refl, refl)
 tree_ignores other a b found = (refl, refl)
 
--- each phase
 pub ignores : (phase : Phase) → IgnoresAnswer phase (hook_of phase)
-ignores (Mounts x) h a b found =
+ignores (Phase.Mounts x) h a b found =
     let e : (next x a ≡ next x b) × (after x found a ≡ after x found b) = mount_ignores x a b found in
-    (e.0, ap (λ y. (map_next Mounts y.0, y.1)) e.1)
-ignores (Remounts x) h a b found =
+    (e.0, ap (λ y. (map_next Phase.Mounts y.0, y.1)) e.1)
+ignores (Phase.Remounts x) h a b found =
     let e : (remount_next x x.step a ≡ remount_next x x.step b) × (remount_after x x.step found a ≡ remount_after x x.step found b) =
     remount_ignores x x.step h a b found in
-    (e.0, ap (λ y. (map_next Remounts y.0, y.1)) e.1)
-ignores (Freezes x) h a b found =
+    (e.0, ap (λ y. (map_next Phase.Remounts y.0, y.1)) e.1)
+ignores (Phase.Freezes x) h a b found =
     let e : (freeze_next x x.step a ≡ freeze_next x x.step b) × (freeze_after x x.step found a ≡ freeze_after x x.step found b) =
     freeze_ignores x x.step h a b found in
-    (e.0, ap (λ y. (map_next Freezes y.0, y.1)) e.1)
-ignores (Thaws x) h a b found =
+    (e.0, ap (λ y. (map_next Phase.Freezes y.0, y.1)) e.1)
+ignores (Phase.Thaws x) h a b found =
     let e : (thaw_next x x.step a ≡ thaw_next x x.step b) × (thaw_after x x.step found a ≡ thaw_after x x.step found b) =
     thaw_ignores x x.step h a b found in
-    (e.0, ap (λ y. (map_next Thaws y.0, y.1)) e.1)
-ignores (Trees x) h a b found =
+    (e.0, ap (λ y. (map_next Phase.Thaws y.0, y.1)) e.1)
+ignores (Phase.Trees x) h a b found =
     let e : (tree_next x a ≡ tree_next x b) × (tree_after x found a ≡ tree_after x found b) = tree_ignores x a b found in
-    (e.0, ap (λ y. (map_next Trees y.0, y.1)) e.1)
+    (e.0, ap (λ y. (map_next Phase.Trees y.0, y.1)) e.1)
 ignores other h a b found = (refl, refl)

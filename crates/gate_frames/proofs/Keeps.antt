@@ -1,38 +1,16 @@
 -- What the crate of an operation proves of it: of each of its phases, and of its beginning and its trace.
-use Rattle.cpu_words.specs.declared.names.WordName.TheVariants.{Section, Node, Kids}
-use Rattle.cpu_words.specs.declared.names.WordName.{WordName}
-use Rattle.access_model.specs.Histories.{mounts_of, levels_of, opens_of}
-use Rattle.gate_world.specs.Traces.{actions_of}
-use Rattle.std.specs.Prelude.{Err, ◌++◌}
-use Rattle.access_model.specs.declared.errors.GateError.{GateError}
-use Rattle.access_model.specs.declared.actions.Action.{Action}
-use Rattle.std.proofs.Common.{◌≡◌, ℕ, ◌<◌, ◌≤◌, Bool, true, false, arith, ◌+◌, ◌-◌}
-use Rattle.std.specs.Prelude.{Option, Some, None, List, ◌∷◌}
-use Rattle.cpu_words.specs.Names.{IsWord, Extents}
-use Rattle.cpu_words.specs.Hooks.{HookAnswer}
-use Rattle.gate_world.specs.declared.config.Config.{Config}
-use Rattle.gate_world.specs.declared.work.Phase.{Phase}
+use Rattle.std.{proofs.Common.{◌≡◌, ℕ, ◌<◌, ◌≤◌, Bool, true, false, arith, ◌+◌, ◌-◌}, specs.Prelude.{Err, ◌++◌, Option, Some, None, List, ◌∷◌}}
+use Rattle.access_model.specs.{Histories.{mounts_of, levels_of, opens_of}, declared.{actions.Action.Action, errors.GateError.GateError}}
+use Rattle.cpu_words.specs.{Hooks.HookAnswer, Names.{IsWord, Extents}, declared.names.WordName.WordName}
 use Rattle.gated_tree.specs.Roles.{Out as OffTree}
-use Rattle.gate_world.specs.Trees.{tree_role_of}
-use Rattle.gate_world.specs.Configs.{IsWithin, extents_of, extents_among}
-use Rattle.gate_world.specs.Views.{phase_after, held_at, holds_level}
-use Rattle.gate_world.specs.Work.{next_of, after_of}
-use Rattle.gate_world.specs.Operations.{holds_none, is_of_open, is_of_closed}
-use Rattle.gate_world.specs.Fits.{PhaseFits, Fits, ActionFits, mounts_by, levels_by, HasFile, file_of}
-use Rattle.gate_world.specs.Alike.{IsBeside}
-use Rattle.gate_world.specs.Rules.{IsGood, StepKeeps}
-use Rattle.gate_world.specs.Causes.{all_counted, all_inside}
-use Rattle.gate_world.specs.KeptCauses.{CauseOf}
-use Rattle.gate_world.specs.Waits.{HasReason}
-use Rattle.gate_world.specs.Beginnings.{first_phase, is_in_range, is_in_order, is_within_room}
-use Rattle.gate_world.specs.Worlds.{World, after_step, found_at}
-use Rattle.gate_world.specs.Moments.{CompletesNow}
-use Rattle.gate_world.specs.declared.operations.Op.{Op}
-use Rattle.gate_world.specs.declared.views.Traced.{Traced}
-use Rattle.gate_world.specs.Courses.{course_of, IsTrace}
-use Rattle.gate_world.specs.Traces.{Tells, IsShort, most_events}
-use Rattle.gate_world.specs.LevelRuns.{level_in}
 use Rattle.level_laws.specs.Events.{SyncStep}
+use Rattle.gate_world.specs.{Alike.IsBeside, Beginnings.{first_phase, is_in_range, is_in_order, is_within_room}, Causes.{all_counted, all_inside}}
+use Rattle.gate_world.specs.{Configs.{IsWithin, extents_of, extents_among}, Courses.{course_of, IsTrace}}
+use Rattle.gate_world.specs.{Fits.{PhaseFits, Fits, ActionFits, mounts_by, levels_by, HasFile, file_of}, KeptCauses.CauseOf, LevelRuns.level_in}
+use Rattle.gate_world.specs.{Moments.CompletesNow, Operations.{holds_none, is_of_open, is_of_closed}, Rules.{IsGood, StepKeeps}}
+use Rattle.gate_world.specs.{Traces.{actions_of, Tells, IsShort, most_events}, Trees.tree_role_of, Views.{phase_after, held_at, holds_level}, Waits.HasReason}
+use Rattle.gate_world.specs.{Work.{next_of, after_of}, Worlds.{World, after_step, found_at}}
+use Rattle.gate_world.specs.declared.{config.Config.Config, operations.Op.Op, views.Traced.Traced, work.Phase.Phase}
 
 pub by_bool : (b : Bool) (P : Bool → Type 0) → P true → P false → P b
 by_bool true P x y = x
@@ -50,15 +28,15 @@ extents_touched n c = record { tasks = n; processors = c.processors; mounts = c.
 
 -- a word that is there is one of them
 pub word_among : (c : Config) (n : ℕ) → c.tasks ≤ n → (name : WordName) → IsWord (extents_of c) name → IsWord (extents_touched n c) name
-word_among c n le (Section t) h = omega (arith, le, h)
-word_among c n le (Node m) h = omega (arith, h)
-word_among c n le (Kids m) h = omega (arith, h)
+word_among c n le (WordName.Section t) h = omega (arith, le, h)
+word_among c n le (WordName.Node m) h = omega (arith, h)
+word_among c n le (WordName.Kids m) h = omega (arith, h)
 word_among c n le name h = h
 
 -- and within the limits they are those that are kept
 pub word_kept : (c : Config) → IsWithin c → (n : ℕ) (name : WordName) → IsWord (extents_touched n c) name → IsWord (extents_among n c) name
-word_kept c within n (Node m) h = omega (arith, within.nodes, h)
-word_kept c within n (Kids m) h = omega (arith, within.nodes, h)
+word_kept c within n (WordName.Node m) h = omega (arith, within.nodes, h)
+word_kept c within n (WordName.Kids m) h = omega (arith, within.nodes, h)
 word_kept c within n name h = h
 
 -- where nothing is counted at a gate in two worlds, its counts are the same in both

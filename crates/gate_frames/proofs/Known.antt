@@ -1,78 +1,59 @@
 -- What the owner of `umount` has found or left is still there: nobody else changes such a word.
-use Rattle.finite_sums.proofs.Totals.{each_updated}
-use Rattle.gate_world.specs.declared.config.Config.{Config}
-use Rattle.cpu_words.specs.declared.events.Event.{Event}
-use Rattle.gate_world.specs.Rules.{Holds, IsGood, Known, Owner, owns}
-use Rattle.cpu_words.specs.Hooks.{HookAnswer}
+use Rattle.std.proofs.{Common.{arith, inl, inr, refl, sym, true, true≢false, ◌≡◌, ◌<◌, ◌∙◌, ◌⊎◌, ap, ℕ}, lemmas.Bool.cases_Bool}
 use Rattle.std.specs.Prelude.{List, None, Some, false, is_some, ◌∷◌, []}
-use Rattle.cpu_words.specs.declared.events.Touch.TheVariants.{Load}
-use Rattle.cpu_words.specs.declared.names.WordName.TheVariants.{Holders, MountFlags, Remount, SbFlags, Stage}
-use Rattle.gate_world.specs.declared.work.Phase.{Phase}
-use Rattle.cpu_words.specs.declared.events.Touch.{Touch}
-use Rattle.gate_world.specs.declared.views.Traced.{Traced}
-use Rattle.gate_world.specs.declared.views.View.{View}
-use Rattle.cpu_words.specs.declared.names.WordName.{WordName}
-use Rattle.cpu_words.specs.Words.{Words, put, read}
-use Rattle.gate_world.specs.Worlds.{World, after_step, found_at, value_at, words_after}
-use Rattle.gate_world.specs.Work.{after_of, next_of}
-use Rattle.std.proofs.Common.{arith, inl, inr, refl, sym, true, true≢false, ◌≡◌, ◌<◌, ◌∙◌, ◌⊎◌, ap, ℕ}
-use Rattle.std.proofs.lemmas.Bool.{cases_Bool}
-use Rattle.cpu_words.specs.Touches.{event_of, left}
-use Rattle.gate_world.specs.Found.{is_load}
-use Rattle.gate_world.specs.Owners.{is_owned, is_owned_word, last_left, takes_lock, KnowsWords}
+use Rattle.finite_sums.{proofs.Totals.each_updated, specs.Sums.update}
+use Rattle.cpu_words.specs.{Hooks.HookAnswer, Touches.{event_of, left}, Words.{Words, put, read}}
+use Rattle.cpu_words.specs.declared.{events.{Event.Event, Touch.Touch}, names.WordName.WordName}
+use Rattle.gate_world.specs.{Found.is_load, Owners.{is_owned, is_owned_word, last_left, takes_lock, KnowsWords}, Rules.{Holds, IsGood, Known, Owner, owns}}
+use Rattle.gate_world.specs.{Views.{phase_after, view_after}, Work.{after_of, next_of}, Worlds.{World, after_step, found_at, value_at, words_after}}
+use Rattle.gate_world.specs.declared.{config.Config.Config, views.{Traced.Traced, View.View}, work.Phase.Phase}
 use Rattle.gate_frames.proofs.Words.{load_same}
-use Rattle.gate_world.specs.Views.{phase_after, view_after}
-use Rattle.finite_sums.specs.Sums.{update}
 
--- nothing is something
 none_is_none : {A : Type 0} {B : Type 0} (x : A) → None ≡ Some x → B
 none_is_none x h = absurd (true≢false (ap is_some (sym h)))
 
--- of two words that are the same owned word each is owned
 pub owned_first : (word other : WordName) → is_owned_word word other ≡ true → is_owned word ≡ true
-owned_first Stage other h = refl
-owned_first Holders other h = refl
-owned_first SbFlags other h = refl
-owned_first Remount other h = refl
-owned_first (MountFlags m) other h = refl
+owned_first WordName.Stage other h = refl
+owned_first WordName.Holders other h = refl
+owned_first WordName.SbFlags other h = refl
+owned_first WordName.Remount other h = refl
+owned_first (WordName.MountFlags m) other h = refl
 owned_first word other h = absurd (true≢false (sym h))
 
 pub owned_second : (word other : WordName) → is_owned_word word other ≡ true → is_owned other ≡ true
-owned_second Stage Stage h = refl
-owned_second Holders Holders h = refl
-owned_second SbFlags SbFlags h = refl
-owned_second Remount Remount h = refl
-owned_second (MountFlags m) (MountFlags n) h = refl
+owned_second WordName.Stage WordName.Stage h = refl
+owned_second WordName.Holders WordName.Holders h = refl
+owned_second WordName.SbFlags WordName.SbFlags h = refl
+owned_second WordName.Remount WordName.Remount h = refl
+owned_second (WordName.MountFlags m) (WordName.MountFlags n) h = refl
 owned_second word other h = absurd (true≢false (sym h))
 
 -- a write of an owned word leaves its value there
 put_owned : (w : Words) (word other : WordName) (value : ℕ) → is_owned_word word other ≡ true → read (put w other value) word ≡ value
-put_owned w Stage Stage value h = refl
-put_owned w Holders Holders value h = refl
-put_owned w SbFlags SbFlags value h = refl
-put_owned w Remount Remount value h = refl
-put_owned w (MountFlags m) (MountFlags n) value h = rw (h, update) refl
+put_owned w WordName.Stage WordName.Stage value h = refl
+put_owned w WordName.Holders WordName.Holders value h = refl
+put_owned w WordName.SbFlags WordName.SbFlags value h = refl
+put_owned w WordName.Remount WordName.Remount value h = refl
+put_owned w (WordName.MountFlags m) (WordName.MountFlags n) value h = rw (h, update) refl
 put_owned w word other value h = absurd (true≢false (sym h))
 
--- and each other owned word as it was
 put_other : (w : Words) (word other : WordName) (value : ℕ) → is_owned word ≡ true → is_owned_word word other ≡ false →
     read (put w other value) word ≡ read w word
-put_other w Stage Stage value h k = absurd (true≢false k)
-put_other w Stage other value h k = refl
-put_other w Holders Holders value h k = absurd (true≢false k)
-put_other w Holders other value h k = refl
-put_other w SbFlags SbFlags value h k = absurd (true≢false k)
-put_other w SbFlags other value h k = refl
-put_other w Remount Remount value h k = absurd (true≢false k)
-put_other w Remount other value h k = refl
-put_other w (MountFlags m) (MountFlags n) value h k = rw (k, update) refl
-put_other w (MountFlags m) other value h k = refl
+put_other w WordName.Stage WordName.Stage value h k = absurd (true≢false k)
+put_other w WordName.Stage other value h k = refl
+put_other w WordName.Holders WordName.Holders value h k = absurd (true≢false k)
+put_other w WordName.Holders other value h k = refl
+put_other w WordName.SbFlags WordName.SbFlags value h k = absurd (true≢false k)
+put_other w WordName.SbFlags other value h k = refl
+put_other w WordName.Remount WordName.Remount value h k = absurd (true≢false k)
+put_other w WordName.Remount other value h k = refl
+put_other w (WordName.MountFlags m) (WordName.MountFlags n) value h k = rw (k, update) refl
+put_other w (WordName.MountFlags m) other value h k = refl
 put_other w word other value h k = absurd (true≢false (sym h))
 
--- a load leaves each word
 load_leaves : (w : Words) (word other : WordName) (touch : Touch) → is_load touch ≡ true →
     read (put w other (left touch (read w other))) word ≡ read w word
-load_leaves w word other Load h = ap (λ ws. read ws word) (load_same w other)
+load_leaves w word other Touch.Load h = ap (λ ws. read ws word) (load_same w other)
 load_leaves w word other touch h = absurd (true≢false (sym h))
 
 -- only an owned word is known
@@ -87,18 +68,16 @@ known_owned word (e ∷ earlier) value h =
       ]
     ]
 
--- owned words that are as they were
 read_same : (old new : Words) → (new.stage ≡ old.stage) × (new.sb ≡ old.sb) × (new.remount ≡ old.remount) × (new.flags ≡ old.flags) ×
     (new.holders ≡ old.holders) →
     (word : WordName) → is_owned word ≡ true → read new word ≡ read old word
-read_same old new same Stage h = same.0
-read_same old new same Holders h = same.4
-read_same old new same SbFlags h = same.1
-read_same old new same Remount h = same.2
-read_same old new same (MountFlags m) h = ap (λ f. f m) same.3
+read_same old new same WordName.Stage h = same.0
+read_same old new same WordName.Holders h = same.4
+read_same old new same WordName.SbFlags h = same.1
+read_same old new same WordName.Remount h = same.2
+read_same old new same (WordName.MountFlags m) h = ap (λ f. f m) same.3
 read_same old new same word h = absurd (true≢false (sym h))
 
--- are known as they were
 pub known_same : (old new : Words) → (new.stage ≡ old.stage) × (new.sb ≡ old.sb) × (new.remount ≡ old.remount) × (new.flags ≡ old.flags) ×
     (new.holders ≡ old.holders) →
     (trace : List Traced) → KnowsWords old trace → KnowsWords new trace
@@ -152,7 +131,6 @@ module _ (c : Config) (w : World) (t : ℕ) (phase : Phase) (hook : HookAnswer) 
       ] in
       there ∙ good Known y ly o word value h
 
-  -- so each event leaves what an owner knows, and adds what it found or left
   pub known_after : Holds c (after_step w t phase hook) Known
   known_after x lx =
       each_updated (λ y (u : View). owns u.phase ≡ 1 → KnowsWords (words_after w.words phase hook) u.trace) w.views t

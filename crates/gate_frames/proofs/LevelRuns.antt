@@ -1,33 +1,17 @@
 -- What each event of a freeze or a thaw is of each level: one of the level's own kinds of event, or one that leaves it.
-use Rattle.std.proofs.Common.{refl, ℕ, ◌<◌, ◌≤◌, ◌≡◌, sym, ap, ◌∙◌, inl, subst, arith, inr, ◌+◌}
-use Rattle.std.proofs.lemmas.Bool.Decides.{eqb_tells}
+use Rattle.std.proofs.{Common.{refl, ℕ, ◌<◌, ◌≤◌, ◌≡◌, sym, ap, ◌∙◌, inl, subst, arith, inr, ◌+◌}, lemmas.Bool.Decides.eqb_tells}
 use Rattle.std.specs.Prelude.{Option, Some}
-use Rattle.finite_sums.proofs.Totals.{update_at, update_same}
-use Rattle.finite_sums.specs.Sums.{update, total}
-use Rattle.cpu_words.specs.Touches.{left, found_by}
-use Rattle.cpu_words.specs.Words.{Words, put, read}
-use Rattle.cpu_words.specs.declared.events.Touch.{Touch}
-use Rattle.cpu_words.specs.declared.names.WordName.TheVariants.{Sync, Block, LevelCount, Section}
-use Rattle.cpu_words.specs.declared.names.WordName.{WordName}
+use Rattle.finite_sums.{proofs.Totals.{update_at, update_same}, specs.Sums.{update, total}}
+use Rattle.cpu_words.specs.{Touches.{left, found_by}, Words.{Words, put, read}, declared.{events.Touch.Touch, names.WordName.WordName}}
 use Rattle.percpu_rwsem.specs.Writers.{down_write_after, up_write_after, down_write_next, up_write_next}
-use Rattle.percpu_rwsem.specs.declared.writers.DownWrite.{DownWrite}
-use Rattle.percpu_rwsem.specs.declared.writers.UpWrite.{UpWrite}
-use Rattle.level_laws.specs.Events.{SyncStep}
-use Rattle.level_laws.specs.Operations.{put_at, left_by}
-use Rattle.level_laws.specs.Roles.{Out as IsApart, entered}
-use Rattle.gate_world.specs.Configs.{IsWithin}
-use Rattle.gate_world.specs.Fits.{DownWriteFits, UpWriteFits}
-use Rattle.gate_world.specs.LevelRuns.{level_in}
-use Rattle.gate_world.specs.Levels.{Stand, stand_sync, inside, sync_role_of, is_frozen_whole}
-use Rattle.gate_world.specs.Rules.{IsGood}
-use Rattle.gate_world.specs.Worlds.{World}
-use Rattle.gate_world.specs.declared.config.Config.{Config}
-use Rattle.gate_world.specs.declared.views.View.{View}
-use Rattle.gate_frames.proofs.Frames.{SameLevelWords}
-use Rattle.gate_frames.proofs.LevelSteps.{level_stays, level_kept, level_moved}
-use Rattle.gate_frames.proofs.LevelWorlds.{IsEventAt}
-use Rattle.gate_frames.proofs.DownLevels.{next_closing, down_write_event, closing_others, closing_there}
-use Rattle.gate_frames.proofs.StandRoles.{SayBeside, touched_sync, put_inside, touched_block, touched_whole, touched_section}
+use Rattle.percpu_rwsem.specs.declared.writers.{DownWrite.DownWrite, UpWrite.UpWrite}
+use Rattle.level_laws.specs.{Events.SyncStep, Operations.{put_at, left_by}, Roles.{Out as IsApart, entered}}
+use Rattle.gate_world.specs.{Configs.IsWithin, Fits.{DownWriteFits, UpWriteFits}, LevelRuns.level_in}
+use Rattle.gate_world.specs.{Levels.{Stand, stand_sync, inside, sync_role_of, is_frozen_whole}, Rules.IsGood, Worlds.World}
+use Rattle.gate_world.specs.declared.{config.Config.Config, views.View.View}
+use Rattle.gate_frames.proofs.{DownLevels.{next_closing, down_write_event, closing_others, closing_there}, Frames.SameLevelWords}
+use Rattle.gate_frames.proofs.{LevelSteps.{level_stays, level_kept, level_moved}, LevelWorlds.{IsEventAt, section_kept}}
+use Rattle.gate_frames.proofs.StandRoles.{SayBeside, touched_sync, put_inside, touched_block, touched_whole}
 use Rattle.gate_frames.proofs.Standing.{Stands, LevelsRun, closing_stand, opening_stand, left_world, stand_after_closing, stand_after_opening}
 use Rattle.gate_frames.proofs.UpLevels.{next_opening, up_write_event, opening_others, opening_there}
 
@@ -39,15 +23,14 @@ levels_stay_runs c w t lt ws v s words was now i one three =
     (level_kept w t i ws v (ap (λ f. f i) words.sync_same) (ap (λ f. f i) words.block_same) words.whole_same words.section_same
     (now.outside ∙ sym was.outside) (now.syncs i one three ∙ sym (was.syncs i one three)))
 
--- the level with one of its words put is the level of the world with this word put
 put_level : (w : World) (i : ℕ) (name : WordName) (touch : Touch) → IsEventAt i name touch → (n : ℕ) →
     put_at (level_in w i) name n ≡ level_in (record { words = put w.words name n; views = w.views }) i
-put_level w i (Sync j) touch e n =
+put_level w i (WordName.Sync j) touch e n =
     λ q. record (level_in w i) { sync = (sym (update_at w.words.sync j n) ∙ ap (update w.words.sync j n) e) q }
-put_level w i (Block j) touch e n =
+put_level w i (WordName.Block j) touch e n =
     λ q. record (level_in w i) { block = (sym (update_at w.words.block j n) ∙ ap (update w.words.block j n) e) q }
-put_level w i (LevelCount j p) touch e n = refl
-put_level w i (Section u) touch e n = refl
+put_level w i (WordName.LevelCount j p) touch e n = refl
+put_level w i (WordName.Section u) touch e n = refl
 put_level w i name touch e n = absurd e
 
 module _ (c : Config) (w : World) (t : ℕ) (lt : t < c.tasks) (v : View) (s z : Option Stand) (was : Stands (w.views t).phase s)
@@ -75,7 +58,7 @@ module _ (c : Config) (w : World) (t : ℕ) (lt : t < c.tasks) (v : View) (s z :
       level_in (left_world w t words_touched v) j ≡ level_in w j
   other_level j ne same one three =
       level_kept w t j words_touched v (touched_sync w.words i j ne name touch is) (touched_block w.words i j ne name touch is)
-      (touched_whole w.words i name touch is) (touched_section w.words i name touch is) (now.outside ∙ sym was.outside)
+      (touched_whole w.words i name touch is) (section_kept w.words i name touch is) (now.outside ∙ sym was.outside)
       (now.syncs j one three ∙ (same ∙ sym (was.syncs j one three)))
 
   -- so it is an event of each level, where it is one of its own
@@ -89,7 +72,6 @@ module _ (c : Config) (w : World) (t : ℕ) (lt : t < c.tasks) (v : View) (s z :
         (other_level j q.1 (beside.syncs j one three q.1) one three)
   ]
 
--- each event of a down-write is one of each level
 pub down_write_runs : (c : Config) → IsWithin c → (w : World) → IsGood c w → (t : ℕ) → t < c.tasks → (d : DownWrite) (v : View) →
     DownWriteFits c d → Stands (w.views t).phase (Some (closing_stand d)) →
     Stands v.phase (stand_after_closing d.level
@@ -103,7 +85,6 @@ down_write_runs c lim w good t lt d v fits was now alone =
     d.level (down_write_next d d.step).0 (down_write_next d d.step).1 (down_write_event d d.step)
     (closing_others c lim w good t lt d d.step) (λ low high. closing_there c lim w good t lt d d.step fits was alone)
 
--- and each of an up-write
 pub up_write_runs : (c : Config) → IsWithin c → (w : World) → IsGood c w → (t : ℕ) → t < c.tasks → (u : UpWrite) (v : View) →
     UpWriteFits u → Stands (w.views t).phase (Some (opening_stand u)) →
     Stands v.phase (stand_after_opening u.level

@@ -1,15 +1,10 @@
 -- Events as steps of a level.
 use Rattle.std.proofs.Common.{◌≡◌, ℕ, ◌<◌, ap, ◌∙◌}
-use Rattle.finite_sums.specs.Sums.{update}
-use Rattle.finite_sums.proofs.Totals.{update_map, update_same}
+use Rattle.finite_sums.{proofs.Totals.{update_map, update_same}, specs.Sums.update}
 use Rattle.cpu_words.specs.Words.{Words}
 use Rattle.level_laws.specs.Events.{SyncLevel, SyncStep, Stays}
-use Rattle.gate_world.specs.declared.views.View.{View}
-use Rattle.gate_world.specs.Levels.{inside, sync_role_of, is_frozen_whole}
-use Rattle.gate_world.specs.LevelRuns.{level_in}
-use Rattle.gate_world.specs.Worlds.{World}
+use Rattle.gate_world.specs.{LevelRuns.level_in, Levels.{inside, sync_role_of, is_frozen_whole}, Worlds.World, declared.views.View.View}
 
--- where nothing of a level has changed, any task has made a step of it
 pub level_stays : (tasks t : ℕ) → t < tasks → (l l' : SyncLevel) → l' ≡ l → SyncStep tasks l l'
 level_stays tasks t lt l l' e = record { task = t; there = lt; kind = Stays; happens = e }
 

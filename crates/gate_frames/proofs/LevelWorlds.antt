@@ -1,183 +1,141 @@
 -- One level of a world, as the laws of a level have it: what holds there, and what an event of a task leaves of it.
-use Rattle.stage_laws.specs.Roles.{sums}
-use Rattle.gate_frames.proofs.Stands.{freeze_slow, stand_below, thaw_slow}
-use Rattle.std.proofs.Common.{◌≡◌, ℕ, zero, suc, ◌-◌, ◌<◌, ◌≤◌, refl, sym, ap, ◌∙◌, subst, arith}
+use Rattle.std.proofs.{Common.{◌≡◌, ℕ, zero, suc, ◌-◌, ◌<◌, ◌≤◌, refl, sym, ap, ◌∙◌, subst, arith}, lemmas.Bool.{eq-eqb, ne_eqb}}
 use Rattle.std.specs.Prelude.{Option, Some, Bool, true, false, ◌==◌, ◌&&◌, if◌then◌else◌}
-use Rattle.std.proofs.lemmas.Bool.{eq-eqb, ne_eqb}
-use Rattle.finite_sums.specs.Sums.{update, total}
-use Rattle.finite_sums.proofs.Totals.{total_le, update_map, update_same, update_at, update_off}
-use Rattle.cpu_words.specs.declared.names.WordName.{WordName}
-use Rattle.cpu_words.specs.declared.names.WordName.TheVariants.{Sync, Block, LevelCount, Section}
-use Rattle.cpu_words.specs.declared.events.Touch.{Touch}
-use Rattle.cpu_words.specs.declared.events.Touch.TheVariants.{Load}
-use Rattle.cpu_words.specs.Words.{Words, put, read}
-use Rattle.cpu_words.specs.Touches.{wrap_add, left}
-use Rattle.percpu_rwsem.specs.declared.readers.DownReadStep.{DownReadStep}
-use Rattle.percpu_rwsem.specs.declared.readers.DownReadStep.TheVariants.{EntersSection, LoadsSync, CountsUpFast, CountsUpSlow, LoadsBlock, CountsDown, LeavesAdmitted, LeavesBlocked}
-use Rattle.percpu_rwsem.specs.declared.callbacks.CallbackStep.{CallbackStep}
-use Rattle.percpu_rwsem.specs.declared.callbacks.CallbackStep.TheVariants.{Claims, AwaitsSections, CallsBack}
-use Rattle.file_closes.specs.declared.phases.ClosePhase.TheVariants.{Enters}
-use Rattle.write_access.specs.declared.phases.WritePhase.TheVariants.{Takes}
-use Rattle.level_laws.specs.Roles.{SyncRole, Out as IsApart, Fast, fast, closed}
-use Rattle.level_laws.specs.Events.{SyncLevel, SyncLevelHolds, SyncStep, TurnsSection}
-use Rattle.level_laws.specs.Operations.{down_read_role, callback_role, down_read_inside, put_at, value_at, left_by}
+use Rattle.finite_sums.{proofs.Totals.{total_le, update_map, update_same, update_at, update_off}, specs.Sums.{update, total}}
+use Rattle.cpu_words.specs.{Touches.{wrap_add, left}, Words.{Words, put, read}, declared.{events.Touch.Touch, names.WordName.WordName}}
+use Rattle.percpu_rwsem.specs.declared.{callbacks.CallbackStep.CallbackStep, readers.DownReadStep.DownReadStep}
 use Rattle.level_laws.proofs.Whole.{events_keep, fast_finds_open as level_is_open}
-use Rattle.gate_world.specs.declared.config.Config.{Config}
-use Rattle.gate_world.specs.declared.views.View.{View}
-use Rattle.gate_world.specs.declared.work.Phase.{Phase}
-use Rattle.gate_world.specs.declared.work.Phase.TheVariants.{DownReads, Callbacks, Writes, Freezes, Thaws, Closes}
-use Rattle.gate_world.specs.Worlds.{World}
-use Rattle.gate_world.specs.LevelRuns.{level_in}
-use Rattle.gate_world.specs.Levels.{sync_role_if, sync_role_of, inside, freeze_stand, thaw_stand}
-use Rattle.gate_world.specs.Shown.{shown, is_passed, stage_roles}
-use Rattle.gate_world.specs.Rules.{IsGood, SameWords, SyncAt, Sections, Holds}
-use Rattle.gate_frames.proofs.Frames.{left_alone}
+use Rattle.level_laws.specs.Events.{SyncLevelHolds, SyncStep, TurnsSection}
+use Rattle.level_laws.specs.Operations.{down_read_role, callback_role, down_read_inside, put_at, value_at, left_by}
+use Rattle.level_laws.specs.Roles.{SyncRole, Out as IsApart, Fast, fast, closed}
+use Rattle.stage_laws.specs.Roles.{sums}
+use Rattle.write_access.specs.declared.phases.WritePhase.{WritePhase}
+use Rattle.file_closes.specs.declared.phases.ClosePhase.{ClosePhase}
+use Rattle.gate_world.specs.{LevelRuns.level_in, Levels.{sync_role_if, sync_role_of, inside, freeze_stand, thaw_stand}}
+use Rattle.gate_world.specs.{Rules.{IsGood, SameWords, SyncAt, Sections, Holds}, Shown.{shown, is_passed, stage_roles}, Worlds.World}
+use Rattle.gate_world.specs.declared.{config.Config.Config, views.View.View, work.Phase.Phase}
+use Rattle.gate_frames.proofs.{Frames.left_alone, Stands.{freeze_slow, stand_below, thaw_slow}}
 
--- a down-read on the fast path is inside its section
 read_fast : (b : Bool) (s : DownReadStep) → fast (sync_role_if b (down_read_role s)) ≤ down_read_inside s
-read_fast true EntersSection = omega arith
-read_fast true LoadsSync = omega arith
-read_fast true CountsUpFast = omega arith
-read_fast true CountsUpSlow = omega arith
-read_fast true LoadsBlock = omega arith
-read_fast true CountsDown = omega arith
-read_fast true LeavesAdmitted = omega arith
-read_fast true LeavesBlocked = omega arith
+read_fast true DownReadStep.EntersSection = omega arith
+read_fast true other = omega arith
 read_fast false s = omega arith
 
 -- a callback is never on the fast path
 callback_slow : (b : Bool) (s : CallbackStep) → fast (sync_role_if b (callback_role s)) ≡ 0
-callback_slow true (Claims transition) = refl
-callback_slow true (AwaitsSections grace) = refl
-callback_slow true (CallsBack transition) = refl
+callback_slow true (CallbackStep.Claims transition) = refl
+callback_slow true (CallbackStep.AwaitsSections grace) = refl
+callback_slow true (CallbackStep.CallsBack transition) = refl
 callback_slow false s = refl
 
--- whoever is on the fast path is inside a section
 pub fast_in_section : (i : ℕ) (p : Option Phase) → fast (sync_role_of i p) ≤ inside p
-fast_in_section i (Some (DownReads r)) = read_fast (i == r.level) r.step
-fast_in_section i (Some (Callbacks b)) = omega (arith, callback_slow (i == b.level) b.step)
-fast_in_section i (Some (Writes (Takes m r))) = read_fast (i == r.level) r.step
-fast_in_section i (Some (Freezes x)) = omega (arith, freeze_slow i x.step)
-fast_in_section i (Some (Thaws x)) = omega (arith, thaw_slow i x.step)
-fast_in_section i (Some (Closes (Enters f node r))) = read_fast (i == r.level) r.step
+fast_in_section i (Some (Phase.DownReads r)) = read_fast (i == r.level) r.step
+fast_in_section i (Some (Phase.Callbacks b)) = omega (arith, callback_slow (i == b.level) b.step)
+fast_in_section i (Some (Phase.Writes (WritePhase.Takes m r))) = read_fast (i == r.level) r.step
+fast_in_section i (Some (Phase.Freezes x)) = omega (arith, freeze_slow i x.step)
+fast_in_section i (Some (Phase.Thaws x)) = omega (arith, thaw_slow i x.step)
+fast_in_section i (Some (Phase.Closes (ClosePhase.Enters f node r))) = read_fast (i == r.level) r.step
 fast_in_section i other = omega arith
 
--- no down-read has closed a level
-read_opens : (b : Bool) (s : DownReadStep) → closed (sync_role_if b (down_read_role s)) ≡ 0
-read_opens true EntersSection = refl
-read_opens true LoadsSync = refl
-read_opens true CountsUpFast = refl
-read_opens true CountsUpSlow = refl
-read_opens true LoadsBlock = refl
-read_opens true CountsDown = refl
-read_opens true LeavesAdmitted = refl
-read_opens true LeavesBlocked = refl
+pub read_opens : (b : Bool) (s : DownReadStep) → closed (sync_role_if b (down_read_role s)) ≡ 0
+read_opens true DownReadStep.EntersSection = refl
+read_opens true other = refl
 read_opens false s = refl
 
--- nor has a callback
-callback_opens : (b : Bool) (s : CallbackStep) → closed (sync_role_if b (callback_role s)) ≡ 0
-callback_opens true (Claims transition) = refl
-callback_opens true (AwaitsSections grace) = refl
-callback_opens true (CallsBack transition) = refl
+pub callback_opens : (b : Bool) (s : CallbackStep) → closed (sync_role_if b (callback_role s)) ≡ 0
+callback_opens true (CallbackStep.Claims transition) = refl
+callback_opens true (CallbackStep.AwaitsSections grace) = refl
+callback_opens true (CallbackStep.CallsBack transition) = refl
 callback_opens false s = refl
 
--- who has closed a level has closed each one below it
 pub closed_below : (i j : ℕ) (p : Option Phase) → 1 ≤ i → i ≤ j → closed (sync_role_of j p) ≤ closed (sync_role_of i p)
-closed_below i j (Some (DownReads r)) one le = omega (arith, read_opens (j == r.level) r.step)
-closed_below i j (Some (Callbacks b)) one le = omega (arith, callback_opens (j == b.level) b.step)
-closed_below i j (Some (Writes (Takes m r))) one le = omega (arith, read_opens (j == r.level) r.step)
-closed_below i j (Some (Freezes x)) one le = stand_below i j (freeze_stand x.step) le
-closed_below i j (Some (Thaws x)) one le = stand_below i j (thaw_stand x.step) le
-closed_below i j (Some (Closes (Enters f node r))) one le = omega (arith, read_opens (j == r.level) r.step)
+closed_below i j (Some (Phase.DownReads r)) one le = omega (arith, read_opens (j == r.level) r.step)
+closed_below i j (Some (Phase.Callbacks b)) one le = omega (arith, callback_opens (j == b.level) b.step)
+closed_below i j (Some (Phase.Writes (WritePhase.Takes m r))) one le = omega (arith, read_opens (j == r.level) r.step)
+closed_below i j (Some (Phase.Freezes x)) one le = stand_below i j (freeze_stand x.step) le
+closed_below i j (Some (Phase.Thaws x)) one le = stand_below i j (thaw_stand x.step) le
+closed_below i j (Some (Phase.Closes (ClosePhase.Enters f node r))) one le = omega (arith, read_opens (j == r.level) r.step)
 closed_below i j other one le = omega arith
 
--- a task's role at its own level is the one it has there
 pub sync_on : (i : ℕ) (r : SyncRole) → sync_role_if (i == i) r ≡ r
 sync_on i r = rw (eq-eqb i i refl)
 
--- and it has none at another level
 pub sync_off : (i j : ℕ) (r : SyncRole) → (i ≡ j → ⊥) → sync_role_if (i == j) r ≡ IsApart
 sync_off i j r ne = rw (ne_eqb i j ne)
 
 -- a word that the rcu_sync or the counts of this level read
 abbrev pub IsOfLevel : ℕ → WordName → Type 0
-IsOfLevel i (Sync j) = j ≡ i
-IsOfLevel i (Block j) = j ≡ i
-IsOfLevel i (LevelCount j p) = j ≡ i
-IsOfLevel i (Section u) = Unit {0}
+IsOfLevel i (WordName.Sync j) = j ≡ i
+IsOfLevel i (WordName.Block j) = j ≡ i
+IsOfLevel i (WordName.LevelCount j p) = j ≡ i
+IsOfLevel i (WordName.Section u) = Unit {0}
 IsOfLevel i name = ⊥
 
 -- An event at this level that changes no section word: of its sync word, its `block` or its counts, or a load of a section word.
 abbrev pub IsEventAt : ℕ → WordName → Touch → Type 0
-IsEventAt i (Sync j) touch = j ≡ i
-IsEventAt i (Block j) touch = j ≡ i
-IsEventAt i (LevelCount j p) touch = j ≡ i
-IsEventAt i (Section u) Load = Unit {0}
+IsEventAt i (WordName.Sync j) touch = j ≡ i
+IsEventAt i (WordName.Block j) touch = j ≡ i
+IsEventAt i (WordName.LevelCount j p) touch = j ≡ i
+IsEventAt i (WordName.Section u) Touch.Load = Unit {0}
 IsEventAt i name touch = ⊥
 
--- it is of a word of the level
-event_word : (i : ℕ) (name : WordName) (touch : Touch) → IsEventAt i name touch → IsOfLevel i name
-event_word i (Sync j) touch e = e
-event_word i (Block j) touch e = e
-event_word i (LevelCount j p) touch e = e
-event_word i (Section u) touch e = tt
+pub event_word : (i : ℕ) (name : WordName) (touch : Touch) → IsEventAt i name touch → IsOfLevel i name
+event_word i (WordName.Sync j) touch e = e
+event_word i (WordName.Block j) touch e = e
+event_word i (WordName.LevelCount j p) touch e = e
+event_word i (WordName.Section u) touch e = tt
 event_word i name touch e = absurd e
 
--- the level with one of its words put is the level of the world with this word put
 put_level : (w : World) (i : ℕ) (name : WordName) → IsOfLevel i name → (n : ℕ) →
     put_at (level_in w i) name n ≡ level_in (record { words = put w.words name n; views = w.views }) i
-put_level w i (Sync j) e n = λ q. record (level_in w i) { sync = (sym (update_at w.words.sync j n) ∙ ap (update w.words.sync j n) e) q }
-put_level w i (Block j) e n =
+put_level w i (WordName.Sync j) e n = λ q. record (level_in w i) { sync = (sym (update_at w.words.sync j n) ∙ ap (update w.words.sync j n) e) q }
+put_level w i (WordName.Block j) e n =
     λ q. record (level_in w i) { block = (sym (update_at w.words.block j n) ∙ ap (update w.words.block j n) e) q }
-put_level w i (LevelCount j p) e n = refl
-put_level w i (Section u) e n = refl
+put_level w i (WordName.LevelCount j p) e n = refl
+put_level w i (WordName.Section u) e n = refl
 put_level w i name e n = absurd e
 
 -- the level finds in its word what the world has there
 pub found_level : (w : World) (i : ℕ) (name : WordName) → IsOfLevel i name →
     value_at (level_in w i) (read w.words name) name ≡ read w.words name
-found_level w i (Sync j) e = ap w.words.sync (sym e)
-found_level w i (Block j) e = ap w.words.block (sym e)
-found_level w i (LevelCount j p) e = refl
-found_level w i (Section u) e = refl
+found_level w i (WordName.Sync j) e = ap w.words.sync (sym e)
+found_level w i (WordName.Block j) e = ap w.words.block (sym e)
+found_level w i (WordName.LevelCount j p) e = refl
+found_level w i (WordName.Section u) e = refl
 found_level w i name e = absurd e
 
 -- such an event leaves the sections
-section_kept : (w : Words) (i : ℕ) (name : WordName) (touch : Touch) → IsEventAt i name touch →
+pub section_kept : (w : Words) (i : ℕ) (name : WordName) (touch : Touch) → IsEventAt i name touch →
     (put w name (left touch (read w name))).section ≡ w.section
-section_kept w i (Sync j) touch e = refl
-section_kept w i (Block j) touch e = refl
-section_kept w i (LevelCount j p) touch e = refl
-section_kept w i (Section u) Load e = update_same w.section u
+section_kept w i (WordName.Sync j) touch e = refl
+section_kept w i (WordName.Block j) touch e = refl
+section_kept w i (WordName.LevelCount j p) touch e = refl
+section_kept w i (WordName.Section u) Touch.Load e = update_same w.section u
 section_kept w i name touch e = absurd e
 
 -- and what the rcu_sync of another level reads
 other_words : (w : Words) (i j : ℕ) → (j ≡ i → ⊥) → (name : WordName) (touch : Touch) → IsEventAt i name touch →
     SameWords w (put w name (left touch (read w name))) (SyncAt j)
-other_words w i j ne (Sync k) touch e = (update_off w.sync k _ j (λ q. ne (q ∙ e)), refl, refl, refl)
-other_words w i j ne (Block k) touch e = (refl, update_off w.block k _ j (λ q. ne (q ∙ e)), refl, refl)
-other_words w i j ne (LevelCount k p) touch e = (refl, refl, refl, refl)
-other_words w i j ne (Section u) Load e = (refl, refl, update_same w.section u, refl)
+other_words w i j ne (WordName.Sync k) touch e = (update_off w.sync k _ j (λ q. ne (q ∙ e)), refl, refl, refl)
+other_words w i j ne (WordName.Block k) touch e = (refl, update_off w.block k _ j (λ q. ne (q ∙ e)), refl, refl)
+other_words w i j ne (WordName.LevelCount k p) touch e = (refl, refl, refl, refl)
+other_words w i j ne (WordName.Section u) Touch.Load e = (refl, refl, update_same w.section u, refl)
 other_words w i j ne name touch e = absurd e
 
--- a level passed is one with its `block` set
 passed_blocked : (c : Config) (w : World) (i : ℕ) → w.words.block i ≡ 0 → is_passed c w i ≡ 0
 passed_blocked c w i e = rw e refl
 
--- and counts once
 passed_once : (b : Bool) → (if b then 1 else 0) ≤ 1
 passed_once true = omega arith
 passed_once false = omega arith
 
 module _ (c : Config) (w : World) (good : IsGood c w) where
-  -- what holds at a level of a good world
   pub level_right : (i : ℕ) → 1 ≤ i → i ≤ 3 → SyncLevelHolds c.tasks (level_in w i)
   level_right i one three = record {
     level = good (SyncAt i) one three;
     sections = record { odd = good Sections; fast_inside = λ x lx. fast_in_section i (w.views x).phase };
   }
 
-  -- a level that is closed has each one below it closed
   pub block_below : (i j : ℕ) → 1 ≤ i → i ≤ j → j ≤ 3 → w.words.block j ≤ w.words.block i
   block_below i j one le three =
       let low = (level_right i one (omega arith)).level.holds.blocked in
@@ -190,15 +148,12 @@ module _ (c : Config) (w : World) (good : IsGood c w) where
             (λ x. closed (sync_role_of i (w.views x).phase)) (λ x lx. closed_below i j (w.views x).phase one le),
       )
 
-  -- a level whose `block` is clear isn't passed, nor is one above it
   pub clear_above : (i j : ℕ) → 1 ≤ i → i ≤ j → j ≤ 3 → w.words.block i ≡ 0 → is_passed c w j ≡ 0
   clear_above i j one le three e = passed_blocked c w j (omega (arith, block_below i j one le three, e))
 
-  -- each level passed counts once
   counts_once : (i : ℕ) → is_passed c w i ≤ 1
   counts_once i = passed_once (w.words.block i == 1 && total c.tasks (λ x. sums i (stage_roles w x)) == 0)
 
-  -- so the shown model has passed fewer levels than one whose `block` is clear
   pub not_passed : (i : ℕ) → 1 ≤ i → i ≤ 3 → w.words.block i ≡ 0 → (shown c w).passed < i
   not_passed zero one three e = absurd (omega arith)
   not_passed (suc zero) one three e =
@@ -234,12 +189,6 @@ module _ (c : Config) (w : World) (good : IsGood c w) where
         SyncLevelHolds c.tasks (level_in (record { words = ws; views = update w.views t v }) i)
     level_steps ws v i one three s = events_keep c.tasks (level_in w i) _ (level_right i one three) s
 
-    -- the same, where what is left of the level is known in another form
-    pub sync_steps : (ws : Words) (v : View) (i : ℕ) (l : SyncLevel) →
-        l ≡ level_in (record { words = ws; views = update w.views t v }) i → (1 ≤ i → i ≤ 3 → SyncStep c.tasks (level_in w i) l) →
-        Holds c (record { words = ws; views = update w.views t v }) (SyncAt i)
-    sync_steps ws v i l e s one three = (level_steps ws v i one three (subst (SyncStep c.tasks (level_in w i)) e (s one three))).level
-
     -- the words after an addition to the task's own section word
     abbrev pub turned_words : Words
     turned_words = record w.words { section = update w.words.section t (wrap_add (w.words.section t) 1) }
@@ -267,7 +216,6 @@ module _ (c : Config) (w : World) (good : IsGood c w) where
       pub sync_turned : (i : ℕ) → Holds c (record { words = turned_words; views = update w.views t v }) (SyncAt i)
       sync_turned i one three = (level_steps turned_words v i one three (turns_level i)).level
 
-      -- and the sections
       pub sections_turned : Holds c (record { words = turned_words; views = update w.views t v }) Sections
       sections_turned = (level_steps turned_words v 1 (omega arith) (omega arith) (turns_level 1)).sections.odd
 
@@ -306,7 +254,6 @@ module _ (c : Config) (w : World) (good : IsGood c w) where
       sync_elsewhere j ne same =
           left_alone c w t lt (SyncAt j) touched.words v (other_words w.words i j ne name touch is) same (good (SyncAt j))
 
-      -- and so are the sections
       pub sections_stay : inside v.phase ≡ inside (w.views t).phase → Holds c touched Sections
       sections_stay same =
           left_alone c w t lt Sections touched.words v (section_kept w.words i name touch is) same (good Sections)

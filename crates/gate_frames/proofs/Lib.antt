@@ -10,6 +10,7 @@ pub mod Rephased
 pub mod Accesses
 pub mod Places
 pub mod Hooks
+pub mod TreeRoles
 pub mod Trees
 pub mod Stages
 pub mod Holders

@@ -1,32 +1,18 @@
 -- Loads of a task at a mount: they leave the words and the shown model.
-use Rattle.std.proofs.Common.{◌≡◌, ℕ, ◌<◌, refl, sym, ap, ◌∙◌, subst}
-use Rattle.std.specs.Prelude.{◌==◌, Option, Some, None, true, false}
-use Rattle.finite_sums.specs.Sums.{update}
-use Rattle.finite_sums.proofs.Totals.{update_same}
+use Rattle.std.{proofs.Common.{◌≡◌, ℕ, ◌<◌, refl, sym, ap, ◌∙◌, subst}, specs.Prelude.{◌==◌, Option, Some, None, true, false}}
+use Rattle.finite_sums.{proofs.Totals.update_same, specs.Sums.update}
 use Rattle.access_model.specs.declared.replies.Next.{Next}
-use Rattle.cpu_words.specs.declared.names.WordName.{WordName}
-use Rattle.cpu_words.specs.declared.events.Touch.TheVariants.{Load}
-use Rattle.cpu_words.specs.Words.{read, put}
-use Rattle.cpu_words.specs.Hooks.{HookAnswer}
-use Rattle.mount_counts.specs.declared.phases.MountPhase.{MountPhase}
-use Rattle.mount_counts.specs.Roles.{Out}
-use Rattle.gate_world.specs.declared.config.Config.{Config}
-use Rattle.gate_world.specs.declared.work.Phase.{Phase}
-use Rattle.gate_world.specs.declared.work.Phase.TheVariants.{Mounts}
-use Rattle.gate_world.specs.declared.views.View.{View}
-use Rattle.gate_world.specs.Views.{held_at, holds_level, added_by, taken_by, phase_after, view_with}
+use Rattle.cpu_words.specs.{Hooks.HookAnswer, Words.{read, put}, declared.{events.Touch.Touch, names.WordName.WordName}}
+use Rattle.mount_counts.specs.{Roles.Out, declared.phases.MountPhase.MountPhase}
 use Rattle.gate_world.specs.Fits.{Fits, MountFits}
-use Rattle.gate_world.specs.Worlds.{World}
-use Rattle.gate_world.specs.Shown.{shown, closing}
 use Rattle.gate_world.specs.Rules.{role_if, role_of, at_mount, owns, mount_owns, remounts, IsSteady, IsGood, Fitting, AtMount, GatesHold}
-use Rattle.gate_frames.proofs.Words.{load_same}
-use Rattle.gate_frames.proofs.Frames.{added_load, taken_load, view_as, holds_as, MountHoldsAfter, shown_still, owner_same, gates_after}
+use Rattle.gate_world.specs.{Shown.{shown, closing}, Views.{held_at, holds_level, added_by, taken_by, phase_after, view_with}, Worlds.World}
+use Rattle.gate_world.specs.declared.{config.Config.Config, views.View.View, work.Phase.Phase}
+use Rattle.gate_frames.proofs.{Frames.{added_load, taken_load, view_as, holds_as, MountHoldsAfter, shown_still, owner_same, gates_after}, Words.load_same}
 
--- no role is none at whichever mount
 pub role_none : (y m : ℕ) → role_if (y == m) Out ≡ Out
 role_none y m = elim (y == m) as (λ b. role_if b Out ≡ Out) [ true ↦ refl | false ↦ refl ]
 
--- phases that are as steady as these
 pub steady : {p q r : Option Phase} → p ≡ r → IsSteady r q → IsSteady p q
 steady e s = record {
   owns_same = s.owns_same ∙ sym (ap owns e);
@@ -36,7 +22,7 @@ steady e s = record {
 }
 
 -- events of a layer that closes no level and sets no `remount`
-pub as_owner : {p q : Option Phase} (phase : MountPhase) → p ≡ Some (Mounts phase) → owns q ≡ mount_owns phase → remounts q ≡ 0 →
+pub as_owner : {p q : Option Phase} (phase : MountPhase) → p ≡ Some (Phase.Mounts phase) → owns q ≡ mount_owns phase → remounts q ≡ 0 →
     ((i : ℕ) → closing i q ≡ 0) → IsSteady p q
 as_owner phase e o r c = steady e (record { owns_same = o; remounts_same = r; closing_same = c })
 
@@ -44,12 +30,12 @@ as_owner phase e o r c = steady e (record { owns_same = o; remounts_same = r; cl
 abbrev pub after_load : World → ℕ → WordName → HookAnswer → Next Phase → World
 after_load w t name hook coming = record {
   words = put w.words name (read w.words name);
-  views = update w.views t (view_with (w.views t) (name, Load) (read w.words name) hook (coming, None));
+  views = update w.views t (view_with (w.views t) (name, Touch.Load) (read w.words name) hook (coming, None));
 }
 
 module _ (c : Config) (w : World) (good : IsGood c w) (t : ℕ) (lt : t < c.tasks) where
   -- the phase fits its task's accesses
-  pub fits_now : (phase : MountPhase) → (w.views t).phase ≡ Some (Mounts phase) →
+  pub fits_now : (phase : MountPhase) → (w.views t).phase ≡ Some (Phase.Mounts phase) →
       MountFits c t (held_at (w.views t)) (holds_level (w.views t)) phase
   fits_now phase e = subst (Fits c t (held_at (w.views t)) (holds_level (w.views t))) e (good Fitting t lt)
 
@@ -62,7 +48,7 @@ module _ (c : Config) (w : World) (good : IsGood c w) (t : ℕ) (lt : t < c.task
       (record (at_mount m (w.views t)) { role = role_of m (phase_after coming) })) →
       GatesHold c (after_load w t name hook coming) × (shown c (after_load w t name hook coming) ≡ shown c w)
   load_law m name hook coming off same fits own =
-      let v : View = view_with (w.views t) (name, Load) (read w.words name) hook (coming, None) in
+      let v : View = view_with (w.views t) (name, Touch.Load) (read w.words name) hook (coming, None) in
       let ea : added_by v.events ≡ added_by (w.views t).events = added_load name (added_by (w.views t).events) in
       let et : taken_by v.events ≡ taken_by (w.views t).events = taken_load name (taken_by (w.views t).events) in
       let there : GatesHold c (record { words = w.words; views = update w.views t v }) =

@@ -1,81 +1,29 @@
 -- What a call at the tree may do: nobody else is in its way, and the model gives it leave.
-use Rattle.std.proofs.Common.{ap, ◌≡◌, ℕ, ◌<◌, ◌≤◌, inl, inr, refl, arith, Bool, true, false, subst, leb-true}
-use Rattle.std.proofs.lemmas.Bool.{cases_Bool}
-use Rattle.std.specs.Prelude.{◌==◌, Option, Some, None, Ok, Err, List, if◌then◌else◌, nat_le}
-use Rattle.finite_sums.proofs.Totals.{total_at, total_none}
-use Rattle.access_model.specs.declared.actions.Action.{Action}
-use Rattle.access_model.specs.Actions.{IsWriter}
+use Rattle.std.proofs.{Common.{ap, ◌≡◌, ℕ, ◌<◌, ◌≤◌, inl, inr, refl, arith, Bool, true, false, subst, leb-true}, lemmas.Bool.{cases_Bool, Decides.eqb_tells}}
+use Rattle.std.specs.Prelude.{◌==◌, Option, Some, None, List, if◌then◌else◌, nat_le}
+use Rattle.finite_sums.{proofs.Totals.{total_at, total_none}, specs.Sums.total}
+use Rattle.access_model.specs.{Actions.IsWriter, declared.actions.Action.Action}
 use Rattle.cpu_words.specs.Hooks.{HookAnswer}
-use Rattle.gated_tree.specs.declared.changes.Create.{Create}
-use Rattle.gated_tree.specs.declared.changes.CreateStep.{CreateStep}
-use Rattle.gated_tree.specs.declared.changes.CreateStep.TheVariants.{LoadsDirectory, TakesNode, LoadsNode, ChargesChild, RefundsChild}
-use Rattle.gated_tree.specs.declared.changes.Remove.{Remove}
-use Rattle.gated_tree.specs.declared.changes.RemoveStep.{RemoveStep}
-use Rattle.gated_tree.specs.declared.changes.RemoveStep.TheVariants.{LoadsFile as LoadsFileToRemove, FreesNode, MarksRemoved, CountsRemoved, RefundsRemoved, RefundsBlocks as RefundsItsBlocks, RefundsChild as RefundsItsChild}
-use Rattle.gated_tree.specs.declared.changes.MoveTo.{MoveTo}
-use Rattle.gated_tree.specs.declared.changes.MoveStep.{MoveStep}
-use Rattle.gated_tree.specs.declared.changes.MoveStep.TheVariants.{LoadsFile as LoadsFileToMove, MovesFile, LoadsDirectory as LoadsTarget, ChargesChild as ChargesTarget, RefundsChild as RefundsOne}
-use Rattle.gated_tree.specs.declared.growth.Grow.{Grow}
-use Rattle.gated_tree.specs.declared.growth.GrowStep.{GrowStep}
-use Rattle.gated_tree.specs.declared.growth.GrowStep.TheVariants.{LoadsFile as LoadsFileToGrow, GrowsFile, LoadsUsed, ChargesBlocks, RefundsBlocks}
-use Rattle.gated_tree.specs.declared.marks.Mark.{Mark}
-use Rattle.gated_tree.specs.declared.marks.MarkStep.{MarkStep}
-use Rattle.gated_tree.specs.declared.marks.MarkStep.TheVariants.{LoadsFile as LoadsFileToMark, MarksFile}
-use Rattle.gated_tree.specs.declared.snapshots.Snapshot.{Snapshot}
-use Rattle.gated_tree.specs.declared.snapshots.SnapshotStep.{SnapshotStep}
-use Rattle.gated_tree.specs.declared.snapshots.SnapshotStep.TheVariants.{Locks, LoadsStage, LoadsUsed as LoadsUsedWord, LoadsNode as LoadsNodeWord, LoadsKids, Releases}
-use Rattle.gated_tree.specs.declared.phases.TreePhase.{TreePhase}
-use Rattle.gated_tree.specs.declared.phases.TreePhase.TheVariants.{OpenFile as OpensOne, Create as Creates, Remove as Removes, Grow as Grows, MoveTo as Moves, Mark as Marks, Snapshot as Snapshots, ClearMarks as Clears}
-use Rattle.gated_tree.specs.Phases.{after, create_after, remove_after, grow_after, move_after, mark_after, mark_done, snapshot_after}
-use Rattle.gated_tree.specs.Calls.{phase_role, create_role, remove_role, grow_role, move_role, mark_role, snapshot_role}
-use Rattle.gated_tree.specs.Roles.{cleared, sealed_by, MayDirty, NobodyReads}
-use Rattle.tree_laws.specs.Events.{HasLeave, MayClean}
-use Rattle.tree_laws.specs.Steps.{MayStep, MayMark}
-use Rattle.mount_counts.specs.declared.remounts.RemountStep.{RemountStep}
-use Rattle.mount_counts.specs.declared.remounts.RemountStep.TheVariants.{ClearsHold, ClearsMark, SetsReadOnly}
-use Rattle.freeze_levels.specs.declared.freezes.FreezeStep.{FreezeStep}
-use Rattle.freeze_levels.specs.declared.freezes.FreezeStep.TheVariants.{Cleans, SetsFs}
-use Rattle.stage_laws.specs.Roles.{passed_by}
-use Rattle.gated_tree.specs.declared.opens.OpenFile.{OpenFile}
-use Rattle.gated_tree.specs.declared.opens.OpenStep.{OpenStep}
-use Rattle.gated_tree.specs.declared.opens.OpenStep.TheVariants.{LoadsFile as LoadsFileToOpen, OpensFile}
-use Rattle.file_closes.specs.declared.phases.ClosePhase.{ClosePhase}
-use Rattle.file_closes.specs.declared.phases.ClosePhase.TheVariants.{LoadsFile as CloseLoadsFile, LowersCount, Enters as EntersLevel, FreesNode as ClosesNode, RefundsBlocks as CloseRefundsBlocks, Uncounts as CloseUncounts, Leaves as CloseLeaves}
-use Rattle.mount_counts.specs.declared.remounts.RemountStep.TheVariants.{SetsRemount}
-use Rattle.mount_counts.specs.Roles.{mount_as_gate, barring_of, skips}
 use Rattle.gate_counts.specs.Gates.{BarringHolds, admitted, unread}
-use Rattle.mount_counts.specs.Sets.{has_mount}
-use Rattle.gate_world.specs.Remounts.{loop_role, remount_role}
-use Rattle.gate_world.specs.Fits.{HasFile, file_of}
-use Rattle.gate_world.specs.Rules.{Files, AtMount, at_mount, role_of}
-use Rattle.gated_tree.specs.Roles.{MayRemove, is_bare, bare_by}
-use Rattle.gated_tree.specs.Calls.{open_role}
-use Rattle.gated_tree.specs.Phases.{open_after}
-use Rattle.gate_world.specs.Trees.{is_bare_at, close_tree_role}
-use Rattle.gate_world.specs.Views.{has_open}
-use Rattle.gate_frames.proofs.TreeHolders.{none_past}
-use Rattle.finite_sums.specs.Sums.{total}
-use Rattle.gate_world.specs.declared.config.Config.{Config}
-use Rattle.gate_world.specs.declared.views.Traced.{Traced}
-use Rattle.gate_world.specs.declared.work.Phase.{Phase}
-use Rattle.gate_world.specs.declared.work.Phase.TheVariants.{Closes, Remounts, Freezes, Trees}
-use Rattle.gate_world.specs.Configs.{model_limits}
-use Rattle.gate_world.specs.Fits.{Fits, PhaseFits, TreeAccess}
-use Rattle.gate_world.specs.Operations.{is_writer, is_faulter, may_mark, some_mount}
-use Rattle.gate_world.specs.Remounts.{remount_sets}
-use Rattle.gate_world.specs.Rules.{IsGood, Fitting, Owner, remounts}
-use Rattle.gate_world.specs.Shown.{shown}
+use Rattle.gated_tree.specs.{Calls.phase_role, Nodes.word_of}
+use Rattle.gated_tree.specs.Phases.{after, create_after, remove_after, grow_after, move_after, mark_after, mark_done, snapshot_after, open_after}
+use Rattle.gated_tree.specs.Roles.{cleared, sealed_by, MayDirty, NobodyReads, MayRemove, is_bare, bare_by}
+use Rattle.gated_tree.specs.declared.changes.{Create.Create, CreateStep.CreateStep, MoveStep.MoveStep, MoveTo.MoveTo, Remove.Remove, RemoveStep.RemoveStep}
+use Rattle.gated_tree.specs.declared.{growth.{Grow.Grow, GrowStep.GrowStep}, marks.{Mark.Mark, MarkStep.MarkStep}, opens.{OpenFile.OpenFile, OpenStep.OpenStep}}
+use Rattle.gated_tree.specs.declared.{phases.TreePhase.TreePhase, snapshots.{Snapshot.Snapshot, SnapshotStep.SnapshotStep}}
+use Rattle.mount_counts.specs.{Roles.{mount_as_gate, barring_of, skips}, Sets.has_mount, declared.remounts.RemountStep.RemountStep}
+use Rattle.tree_laws.specs.{Events.{HasLeave, MayClean}, Steps.{MayStep, MayMark}}
+use Rattle.freeze_levels.specs.declared.freezes.FreezeStep.{FreezeStep}
+use Rattle.stage_laws.specs.Roles.{passed_by}
+use Rattle.gate_world.specs.{Configs.model_limits, Fits.{HasFile, file_of, Fits, PhaseFits, TreeAccess}}
+use Rattle.gate_world.specs.{Operations.{is_writer, is_faulter, may_mark, some_mount}, Remounts.{loop_role, remount_role, remount_sets}}
+use Rattle.gate_world.specs.{Rules.{Files, AtMount, at_mount, role_of, IsGood, Fitting, Owner, remounts}, Shown.shown, Snapshots.values_noted}
 use Rattle.gate_world.specs.Stages.{stage_role_of, freeze_stage_role}
-use Rattle.gate_world.specs.Trees.{tree_bounds, tree_of, tree_role_of, tree_roles, remount_tree_role, freeze_tree_role, nodes_noted}
-use Rattle.gate_world.specs.Snapshots.{values_noted}
-use Rattle.gate_world.specs.Views.{held_at, holds_level}
-use Rattle.gate_world.specs.Worlds.{World}
-use Rattle.gate_frames.proofs.Trees.{nobody_reads, sealed_frozen}
-use Rattle.gate_frames.proofs.TreeHolders.{IsOpen, both_true, mount_there, writer_apart}
-use Rattle.std.proofs.lemmas.Bool.Decides.{eqb_tells}
-use Rattle.gated_tree.specs.Nodes.{word_of}
+use Rattle.gate_world.specs.Trees.{is_bare_at, tree_bounds, tree_of, tree_role_of, tree_roles, remount_tree_role, freeze_tree_role, nodes_noted}
+use Rattle.gate_world.specs.{Views.{has_open, held_at, holds_level}, Worlds.World, declared.{config.Config.Config, views.Traced.Traced, work.Phase.Phase}}
+use Rattle.gate_frames.proofs.TreeHolders.{none_past, IsOpen, both_true, mount_there, writer_apart}
+use Rattle.gate_frames.proofs.{TreeRoles.{call_plain, snapshot_apart, close_apart, freeze_apart}, Trees.{nobody_reads, sealed_frozen}}
 
--- a writable superblock below stage 3 isn't sealed
 pub open_unsealed : (sb stage : ℕ) → sb ≡ 0 → stage < 3 → sealed_by sb stage ≡ 0
 open_unsealed sb stage writable low =
     elim (cases_Bool (nat_le 3 stage)) [
@@ -83,123 +31,29 @@ open_unsealed sb stage writable low =
       | inr h ↦ rw (writable, h) refl
     ]
 
--- a remount that hasn't set `remount` clears no mark
 remount_clears : (nodes : ℕ) (s : RemountStep) → remount_sets s ≡ 0 → cleared (remount_tree_role nodes s) ≡ 0
-remount_clears nodes (SetsRemount held) h = refl
-remount_clears nodes (ClearsHold held) h = absurd (omega (arith, h))
-remount_clears nodes (ClearsMark n) h = absurd (omega (arith, h))
-remount_clears nodes SetsReadOnly h = absurd (omega (arith, h))
+remount_clears nodes (RemountStep.SetsRemount held) h = refl
+remount_clears nodes (RemountStep.ClearsHold held) h = absurd (omega (arith, h))
+remount_clears nodes (RemountStep.ClearsMark n) h = absurd (omega (arith, h))
+remount_clears nodes RemountStep.SetsReadOnly h = absurd (omega (arith, h))
 remount_clears nodes s h = refl
 
--- nor does a freeze that hasn't passed level 2
 freeze_clears : (nodes : ℕ) (s : FreezeStep) → passed_by (freeze_stage_role nodes s) < 2 → cleared (freeze_tree_role nodes s) ≡ 0
-freeze_clears nodes (Cleans marks) h = absurd (omega (arith, h))
-freeze_clears nodes SetsFs h = absurd (omega (arith, h))
+freeze_clears nodes (FreezeStep.Cleans marks) h = absurd (omega (arith, h))
+freeze_clears nodes FreezeStep.SetsFs h = absurd (omega (arith, h))
 freeze_clears nodes s h = refl
-
--- nor a call at the tree
-create_clears : (x : Create) (s : CreateStep) → cleared (create_role x s) ≡ 0
-create_clears x LoadsDirectory = refl
-create_clears x other = refl
-
-remove_clears : (x : Remove) (s : RemoveStep) → cleared (remove_role x s) ≡ 0
-remove_clears x LoadsFileToRemove = refl
-remove_clears x other = refl
-
-grow_clears : (x : Grow) (s : GrowStep) → cleared (grow_role x s) ≡ 0
-grow_clears x LoadsFileToGrow = refl
-grow_clears x other = refl
-
-move_clears : (x : MoveTo) (s : MoveStep) → cleared (move_role x s) ≡ 0
-move_clears x LoadsFileToMove = refl
-move_clears x other = refl
-
-mark_clears : (x : Mark) (s : MarkStep) → cleared (mark_role x s) ≡ 0
-mark_clears x LoadsFileToMark = refl
-mark_clears x (MarksFile file) = refl
-
-open_clears : (x : OpenFile) (s : OpenStep) → cleared (open_role x s) ≡ 0
-open_clears x LoadsFileToOpen = refl
-open_clears x (OpensFile file) = refl
-
-close_clears : (x : ClosePhase) → cleared (close_tree_role x) ≡ 0
-close_clears (CloseLoadsFile x) = refl
-close_clears other = refl
-
-snapshot_clears : (nodes : ℕ) (values : ℕ → ℕ) (s : SnapshotStep) → cleared (snapshot_role nodes values s) ≡ 0
-snapshot_clears nodes values Locks = refl
-snapshot_clears nodes values LoadsStage = refl
-snapshot_clears nodes values LoadsUsedWord = refl
-snapshot_clears nodes values (LoadsNodeWord n) = refl
-snapshot_clears nodes values (LoadsKids n) = refl
-snapshot_clears nodes values (Releases (Ok reply)) = refl
-snapshot_clears nodes values (Releases (Err refusal)) = refl
 
 -- a clearing on its own there is not
 tree_clears : (c : Config) (held : ℕ → ℕ) (levels : ℕ → Bool) (values : ℕ → ℕ) (x : TreePhase) → TreeAccess c held levels x →
     cleared (phase_role values x) ≡ 0
-tree_clears c held levels values (Creates x) may = create_clears x x.step
-tree_clears c held levels values (Removes x) may = remove_clears x x.step
-tree_clears c held levels values (Grows x) may = grow_clears x x.step
-tree_clears c held levels values (Moves x) may = move_clears x x.step
-tree_clears c held levels values (Marks x) may = mark_clears x x.step
-tree_clears c held levels values (OpensOne x) may = open_clears x x.step
-tree_clears c held levels values (Snapshots x) may = snapshot_clears x.nodes values x.step
-tree_clears c held levels values (Clears x) may = absurd may
-
--- no call at the tree is a remount that has found no removed file
-create_bares : (x : Create) (s : CreateStep) → is_bare (create_role x s) ≡ 0
-create_bares x LoadsDirectory = refl
-create_bares x other = refl
-
-remove_bares : (x : Remove) (s : RemoveStep) → is_bare (remove_role x s) ≡ 0
-remove_bares x LoadsFileToRemove = refl
-remove_bares x other = refl
-
-grow_bares : (x : Grow) (s : GrowStep) → is_bare (grow_role x s) ≡ 0
-grow_bares x LoadsFileToGrow = refl
-grow_bares x other = refl
-
-move_bares : (x : MoveTo) (s : MoveStep) → is_bare (move_role x s) ≡ 0
-move_bares x LoadsFileToMove = refl
-move_bares x other = refl
-
-mark_bares : (x : Mark) (s : MarkStep) → is_bare (mark_role x s) ≡ 0
-mark_bares x LoadsFileToMark = refl
-mark_bares x (MarksFile file) = refl
-
-open_bares : (x : OpenFile) (s : OpenStep) → is_bare (open_role x s) ≡ 0
-open_bares x LoadsFileToOpen = refl
-open_bares x (OpensFile file) = refl
-
-close_bares : (x : ClosePhase) → is_bare (close_tree_role x) ≡ 0
-close_bares (CloseLoadsFile x) = refl
-close_bares other = refl
-
-snapshot_bares : (nodes : ℕ) (values : ℕ → ℕ) (s : SnapshotStep) → is_bare (snapshot_role nodes values s) ≡ 0
-snapshot_bares nodes values Locks = refl
-snapshot_bares nodes values LoadsStage = refl
-snapshot_bares nodes values LoadsUsedWord = refl
-snapshot_bares nodes values (LoadsNodeWord n) = refl
-snapshot_bares nodes values (LoadsKids n) = refl
-snapshot_bares nodes values (Releases (Ok reply)) = refl
-snapshot_bares nodes values (Releases (Err refusal)) = refl
+tree_clears c held levels values (TreePhase.Snapshot x) may = (snapshot_apart x.nodes values x.step).0
+tree_clears c held levels values (TreePhase.ClearMarks x) may = absurd may
+tree_clears c held levels values x may = (call_plain values x refl).cleared_none
 
 tree_bares : (values : ℕ → ℕ) (x : TreePhase) → is_bare (phase_role values x) ≡ 0
-tree_bares values (Creates x) = create_bares x x.step
-tree_bares values (Removes x) = remove_bares x x.step
-tree_bares values (Grows x) = grow_bares x x.step
-tree_bares values (Moves x) = move_bares x x.step
-tree_bares values (Marks x) = mark_bares x x.step
-tree_bares values (OpensOne x) = open_bares x x.step
-tree_bares values (Snapshots x) = snapshot_bares x.nodes values x.step
-tree_bares values (Clears x) = refl
-
--- nor is a freeze
-freeze_bares : (nodes : ℕ) (s : FreezeStep) → is_bare (freeze_tree_role nodes s) ≡ 0
-freeze_bares nodes (Cleans marks) = refl
-freeze_bares nodes SetsFs = refl
-freeze_bares nodes s = refl
+tree_bares values (TreePhase.Snapshot x) = (snapshot_apart x.nodes values x.step).1
+tree_bares values (TreePhase.ClearMarks x) = refl
+tree_bares values x = (call_plain values x refl).bare_none
 
 module _ (c : Config) (w : World) (good : IsGood c w) (t : ℕ) (lt : t < c.tasks) (m : ℕ) (lm : m < c.mounts)
     (some : 0 < held_at (w.views t) m) (y : ℕ) (ly : y < c.tasks) where
@@ -215,27 +69,24 @@ module _ (c : Config) (w : World) (good : IsGood c w) (t : ℕ) (lt : t < c.task
 
   -- so none is about to make the superblock read-only
   remount_bares : (nodes : ℕ) (s : RemountStep) → role_of m (w.views y).phase ≡ remount_role m s → is_bare (remount_tree_role nodes s) ≡ 0
-  remount_bares nodes (SetsRemount held) r = absurd (loop_shut (has_mount held m) r)
-  remount_bares nodes (ClearsHold held) r = refl
-  remount_bares nodes (ClearsMark n) r = refl
-  remount_bares nodes SetsReadOnly r = refl
+  remount_bares nodes (RemountStep.SetsRemount held) r = absurd (loop_shut (has_mount held m) r)
   remount_bares nodes s r = refl
 
   phase_bares : (p : Option Phase) → (w.views y).phase ≡ p → is_bare (tree_role_of (w.views y).trace p) ≡ 0
-  phase_bares (Some (Remounts x)) is = remount_bares x.nodes x.step (ap (role_of m) is)
-  phase_bares (Some (Freezes x)) is = freeze_bares x.nodes x.step
-  phase_bares (Some (Trees x)) is = tree_bares (values_noted (nodes_noted x) (w.views y).trace) x
-  phase_bares (Some (Closes x)) is = close_bares x
+  phase_bares (Some (Phase.Remounts x)) is = remount_bares x.nodes x.step (ap (role_of m) is)
+  phase_bares (Some (Phase.Freezes x)) is = (freeze_apart x.nodes x.step).0
+  phase_bares (Some (Phase.Trees x)) is = tree_bares (values_noted (nodes_noted x) (w.views y).trace) x
+  phase_bares (Some (Phase.Closes x)) is = (close_apart x).1
   phase_bares p is = refl
 
 -- so nothing that a task is at clears a mark, where no remount is beginning and the task hasn't passed level 2
 phase_clears : (c : Config) (t : ℕ) (held : ℕ → ℕ) (levels : ℕ → Bool) (trace : List Traced) (p : Option Phase) → Fits c t held levels p →
     remounts p ≡ 0 → passed_by (stage_role_of p) < 2 → cleared (tree_role_of trace p) ≡ 0
-phase_clears c t held levels trace (Some (Remounts x)) fits unset unpassed = remount_clears x.nodes x.step unset
-phase_clears c t held levels trace (Some (Freezes x)) fits unset unpassed = freeze_clears x.nodes x.step unpassed
-phase_clears c t held levels trace (Some (Trees x)) fits unset unpassed =
+phase_clears c t held levels trace (Some (Phase.Remounts x)) fits unset unpassed = remount_clears x.nodes x.step unset
+phase_clears c t held levels trace (Some (Phase.Freezes x)) fits unset unpassed = freeze_clears x.nodes x.step unpassed
+phase_clears c t held levels trace (Some (Phase.Trees x)) fits unset unpassed =
     tree_clears c held levels (values_noted (nodes_noted x) trace) x fits.1
-phase_clears c t held levels trace (Some (Closes x)) fits unset unpassed = close_clears x
+phase_clears c t held levels trace (Some (Phase.Closes x)) fits unset unpassed = (close_apart x).0
 phase_clears c t held levels trace p fits unset unpassed = refl
 
 module _ (c : Config) (w : World) (good : IsGood c w) where
@@ -249,7 +100,6 @@ module _ (c : Config) (w : World) (good : IsGood c w) where
         (omega (arith, low, way.unpassed y ly)));
   }
 
-  -- and no snapshot has loaded a word
   pub open_unread : (i : ℕ) → IsOpen w c.tasks i → NobodyReads (tree_bounds c) (tree_of w)
   open_unread i way = nobody_reads c w good (λ e. omega (arith, e, way.unfrozen))
 
@@ -261,19 +111,16 @@ module _ (c : Config) (w : World) (good : IsGood c w) where
   ]
 
   module _ (t : ℕ) (lt : t < c.tasks) where
-    -- what a writer comes through is open
     pub writer_open : is_writer c (held_at (w.views t)) (holds_level (w.views t)) ≡ true → IsOpen w c.tasks 1
     writer_open writes =
         let both : (holds_level (w.views t) 1 ≡ true) × (some_mount c.mounts (held_at (w.views t)) ≡ true) = both_true _ _ writes in
         writer_apart c w good t lt 1 (inl refl) both.0 both.1
 
-    -- and what a page fault comes through
     pub faulter_open : is_faulter c (held_at (w.views t)) (holds_level (w.views t)) ≡ true → IsOpen w c.tasks 2
     faulter_open faults =
         let both : (holds_level (w.views t) 2 ≡ true) × (some_mount c.mounts (held_at (w.views t)) ≡ true) = both_true _ _ faults in
         writer_apart c w good t lt 2 (inr refl) both.0 both.1
 
-    -- nor is one in the way of a writer who removes a file that is open
     may_remove : is_writer c (held_at (w.views t)) (holds_level (w.views t)) ≡ true → MayRemove (tree_bounds c) (tree_of w)
     may_remove writes =
         let way : IsOpen w c.tasks 1 = writer_open writes in
@@ -297,22 +144,21 @@ module _ (c : Config) (w : World) (good : IsGood c w) where
     -- nor of any call
     pub may_go : (x : TreePhase) → TreeAccess c (held_at (w.views t)) (holds_level (w.views t)) x →
         MayStep (tree_bounds c) (tree_of w) x
-    may_go (Creates x) may = open_unread 1 (writer_open may)
-    may_go (Removes x) may = (open_unread 1 (writer_open may), may_remove may)
-    may_go (Grows x) may = (open_unread 1 (writer_open may), may_dirty 1 (omega arith) (writer_open may))
-    may_go (Moves x) may = open_unread 1 (writer_open may)
-    may_go (Marks x) may = may_mark_now x.dirty may
-    may_go (OpensOne x) may = tt
-    may_go (Snapshots x) may = tt
-    may_go (Clears x) may = absurd may
+    may_go (TreePhase.Create x) may = open_unread 1 (writer_open may)
+    may_go (TreePhase.Remove x) may = (open_unread 1 (writer_open may), may_remove may)
+    may_go (TreePhase.Grow x) may = (open_unread 1 (writer_open may), may_dirty 1 (omega arith) (writer_open may))
+    may_go (TreePhase.MoveTo x) may = open_unread 1 (writer_open may)
+    may_go (TreePhase.Mark x) may = may_mark_now x.dirty may
+    may_go (TreePhase.OpenFile x) may = tt
+    may_go (TreePhase.Snapshot x) may = tt
+    may_go (TreePhase.ClearMarks x) may = absurd may
 
     -- what a call at the tree says of its numbers and of its task's accesses
-    pub call_fits : (x : TreePhase) → (w.views t).phase ≡ Some (Trees x) →
-        PhaseFits c t (held_at (w.views t)) (holds_level (w.views t)) (Trees x)
+    pub call_fits : (x : TreePhase) → (w.views t).phase ≡ Some (Phase.Trees x) →
+        PhaseFits c t (held_at (w.views t)) (holds_level (w.views t)) (Phase.Trees x)
     call_fits x e = subst (Fits c t (held_at (w.views t)) (holds_level (w.views t))) e (good Fitting t lt)
 
-    -- so nobody is in the way of the call that the task is at
-    pub may_step : (x : TreePhase) → (w.views t).phase ≡ Some (Trees x) → MayStep (tree_bounds c) (tree_of w) x
+    pub may_step : (x : TreePhase) → (w.views t).phase ≡ Some (Phase.Trees x) → MayStep (tree_bounds c) (tree_of w) x
     may_step x e = may_go x (call_fits x e).1
 
     -- the model gives leave to an action, if there is one
@@ -320,34 +166,31 @@ module _ (c : Config) (w : World) (good : IsGood c w) where
     LeaveFor None = Unit {0}
     LeaveFor (Some action) = HasLeave (model_limits c) (shown c w) t action
 
-    -- where it is the one that there is
     leave_if : (b : Bool) (action : Action) → HasLeave (model_limits c) (shown c w) t action →
         LeaveFor (if b then Some action else None)
     leave_if true action leave = leave
     leave_if false action leave = tt
 
-    -- a writer is one in the shown model
     writer_shown : is_writer c (held_at (w.views t)) (holds_level (w.views t)) ≡ true → IsWriter (model_limits c) (shown c w) t
     writer_shown writes =
         let both : (holds_level (w.views t) 1 ≡ true) × (some_mount c.mounts (held_at (w.views t)) ≡ true) = both_true _ _ writes in
         (both.0, mount_there c.mounts (held_at (w.views t)) both.1)
 
-    -- and so has leave for each call's action
     create_leave : (x : Create) (s : CreateStep) (found : ℕ) → IsWriter (model_limits c) (shown c w) t → LeaveFor (create_after x s found).1
-    create_leave x (TakesNode n) found leave = leave_if (found == 0) _ leave
+    create_leave x (CreateStep.TakesNode n) found leave = leave_if (found == 0) _ leave
     create_leave x other found leave = tt
 
     remove_leave : (x : Remove) (s : RemoveStep) (found : ℕ) → IsWriter (model_limits c) (shown c w) t → LeaveFor (remove_after x s found).1
-    remove_leave x (FreesNode file) found leave = leave_if (found == word_of file) _ leave
-    remove_leave x (MarksRemoved file) found leave = leave_if (found == word_of file) _ leave
+    remove_leave x (RemoveStep.FreesNode file) found leave = leave_if (found == word_of file) _ leave
+    remove_leave x (RemoveStep.MarksRemoved file) found leave = leave_if (found == word_of file) _ leave
     remove_leave x other found leave = tt
 
     grow_leave : (x : Grow) (s : GrowStep) (found : ℕ) → IsWriter (model_limits c) (shown c w) t → LeaveFor (grow_after x s found).1
-    grow_leave x (GrowsFile file) found leave = leave_if (found == word_of file) _ leave
+    grow_leave x (GrowStep.GrowsFile file) found leave = leave_if (found == word_of file) _ leave
     grow_leave x other found leave = tt
 
     move_leave : (x : MoveTo) (s : MoveStep) (found : ℕ) → IsWriter (model_limits c) (shown c w) t → LeaveFor (move_after x s found).1
-    move_leave x (MovesFile file) found leave = leave_if (found == word_of file) _ leave
+    move_leave x (MoveStep.MovesFile file) found leave = leave_if (found == word_of file) _ leave
     move_leave x other found leave = tt
 
     -- a page fault has leave inside level 2, with an access at some mount; a write-back inside level 3
@@ -360,31 +203,29 @@ module _ (c : Config) (w : World) (good : IsGood c w) where
 
     mark_leave : (x : Mark) (s : MarkStep) (found : ℕ) → may_mark x.dirty c (held_at (w.views t)) (holds_level (w.views t)) ≡ true →
         LeaveFor (mark_after x s found).1
-    mark_leave x LoadsFileToMark found may = tt
-    mark_leave x (MarksFile file) found may = leave_if (found == word_of file) _ (mark_leave_now x.dirty x.file may)
+    mark_leave x MarkStep.LoadsFile found may = tt
+    mark_leave x (MarkStep.MarksFile file) found may = leave_if (found == word_of file) _ (mark_leave_now x.dirty x.file may)
 
-    -- an open has it where its task doesn't have the file open
     open_leave : (x : OpenFile) (s : OpenStep) (found : ℕ) → has_open (w.views t) x.file ≡ false → LeaveFor (open_after x s found).1
-    open_leave x LoadsFileToOpen found own = tt
-    open_leave x (OpensFile file) found own = leave_if (found == word_of file) _ own
+    open_leave x OpenStep.LoadsFile found own = tt
+    open_leave x (OpenStep.OpensFile file) found own = leave_if (found == word_of file) _ own
 
     snapshot_leave : (x : Snapshot) (s : SnapshotStep) (found : ℕ) → LeaveFor (snapshot_after x s found).1
-    snapshot_leave x Locks found = tt
+    snapshot_leave x SnapshotStep.Locks found = tt
     snapshot_leave x other found = tt
 
     -- each call has leave for the action of its next event
     pub call_leave : (x : TreePhase) (found : ℕ) (hook : HookAnswer) → TreeAccess c (held_at (w.views t)) (holds_level (w.views t)) x →
-        HasFile (has_open (w.views t)) (file_of (Some (Trees x))) → LeaveFor (after x found hook).1
-    call_leave (Creates x) found hook may own = create_leave x x.step found (writer_shown may)
-    call_leave (Removes x) found hook may own = remove_leave x x.step found (writer_shown may)
-    call_leave (Grows x) found hook may own = grow_leave x x.step found (writer_shown may)
-    call_leave (Moves x) found hook may own = move_leave x x.step found (writer_shown may)
-    call_leave (Marks x) found hook may own = mark_leave x x.step found may
-    call_leave (OpensOne x) found hook may own = open_leave x x.step found own
-    call_leave (Snapshots x) found hook may own = snapshot_leave x x.step found
-    call_leave (Clears x) found hook may own = absurd may
+        HasFile (has_open (w.views t)) (file_of (Some (Phase.Trees x))) → LeaveFor (after x found hook).1
+    call_leave (TreePhase.Create x) found hook may own = create_leave x x.step found (writer_shown may)
+    call_leave (TreePhase.Remove x) found hook may own = remove_leave x x.step found (writer_shown may)
+    call_leave (TreePhase.Grow x) found hook may own = grow_leave x x.step found (writer_shown may)
+    call_leave (TreePhase.MoveTo x) found hook may own = move_leave x x.step found (writer_shown may)
+    call_leave (TreePhase.Mark x) found hook may own = mark_leave x x.step found may
+    call_leave (TreePhase.OpenFile x) found hook may own = open_leave x x.step found own
+    call_leave (TreePhase.Snapshot x) found hook may own = snapshot_leave x x.step found
+    call_leave (TreePhase.ClearMarks x) found hook may own = absurd may
 
-    -- so has the one that the task is at
-    pub leave : (x : TreePhase) (found : ℕ) (hook : HookAnswer) → (w.views t).phase ≡ Some (Trees x) → LeaveFor (after x found hook).1
+    pub leave : (x : TreePhase) (found : ℕ) (hook : HookAnswer) → (w.views t).phase ≡ Some (Phase.Trees x) → LeaveFor (after x found hook).1
     leave x found hook e =
         call_leave x found hook (call_fits x e).1 (subst (λ p. HasFile (has_open (w.views t)) (file_of p)) e ((good Files).own t lt))

@@ -1,21 +1,11 @@
 -- Moments of a schedule: the last question, the last look at the stage, the moments of a sum, and what was counted.
-use Rattle.cpu_words.specs.Sums.{lead, ahead}
-use Rattle.finite_sums.proofs.Totals.{total_at}
-use Rattle.finite_sums.specs.Sums.{total}
-use Rattle.gate_world.specs.Causes.{all_counted, was_counted, asks, last_question, looks_at_stage, last_look, words_read, moments_of_sum}
-use Rattle.gate_world.specs.Rules.{IsGood, AtMount, MountHoldsIn, at_mount}
-use Rattle.gate_world.specs.Worlds.{World}
-use Rattle.gate_world.specs.declared.config.Config.{Config}
-use Rattle.gate_counts.proofs.Numbers.{ahead_none}
-use Rattle.gate_counts.proofs.Events.{words_sum}
-use Rattle.mount_counts.specs.Roles.{counted}
-use Rattle.std.proofs.Common.{◌≡◌, ℕ, ◌<◌, Bool, true, false, refl, inl, inr, arith, ◌%◌, ◌≤◌, true≢false}
-use Rattle.std.proofs.lemmas.Bool.{ne_eqb, ltb-false, cases_Bool}
+use Rattle.std.proofs.{Common.{◌≡◌, ℕ, ◌<◌, Bool, true, false, refl, inl, inr, arith, ◌%◌, true≢false}, lemmas.Bool.{ne_eqb, ltb-false, cases_Bool}}
 use Rattle.std.specs.Prelude.{nat_lt, Some, List, ◌∷◌, ◌||◌, None, []}
-
--- a task is counted at most as often as all are
-pub one_counted : (c : Config) (m t : ℕ) (w : World) → t < c.tasks → counted (at_mount m (w.views t)) ≤ all_counted c m w
-one_counted c m t w lt = total_at c.tasks t (λ x. counted (at_mount m (w.views x))) lt
+use Rattle.finite_sums.specs.Sums.{total}
+use Rattle.cpu_words.specs.Sums.{lead, ahead}
+use Rattle.gate_counts.proofs.{Events.words_sum, Numbers.ahead_none}
+use Rattle.gate_world.specs.Causes.{all_counted, was_counted, asks, last_question, looks_at_stage, last_look, words_read, moments_of_sum}
+use Rattle.gate_world.specs.{Rules.{IsGood, AtMount, MountHoldsIn}, Worlds.World, declared.config.Config.Config}
 
 pub or_true : (b : Bool) → (b || true) ≡ true
 or_true true = refl

@@ -1,56 +1,31 @@
 -- What the events of want, drop and change touch: the rest of the rule stays.
-use Rattle.gate_frames.proofs.Frames.{left_alone, level_view_as}
-use Rattle.gate_world.specs.Rules.{Fitting, Holds, IsGood, Known, Owner, Part, SameView, SameWords, Stages, Holding, StepKeeps, at_gates, change_owns, owns, GateStepKeeps, Tree, AtLevel, SyncAt, Sections, Files}
-use Rattle.std.proofs.Common.{Bool, arith, inl, inr, refl, sym, true, true≢false, ◌≡◌, ◌<◌, ◌⊎◌, subst, ℕ, ◌∙◌, ap, List}
-use Rattle.mount_counts.specs.declared.phases.Change.{Change}
-use Rattle.mount_counts.specs.declared.phases.ChangeStep.{ChangeStep}
-use Rattle.mount_counts.specs.declared.phases.MountPhase.TheVariants.{Change as Changes, Drop as Drops, Want as Wants}
-use Rattle.gate_world.specs.Fits.{file_of}
-use Rattle.gate_world.specs.declared.config.Config.{Config}
-use Rattle.mount_counts.specs.declared.phases.WantStep.TheVariants.{CountsDown, CountsUp, LoadsSuperblock}
-use Rattle.access_model.specs.declared.replies.Next.TheVariants.{Go}
-use Rattle.cpu_words.specs.Hooks.{HookAnswer}
-use Rattle.gate_frames.proofs.Known.{IsOwnersWork, known_after}
-use Rattle.cpu_words.specs.declared.events.Touch.TheVariants.{Load}
-use Rattle.mount_counts.specs.declared.phases.ChangeStep.TheVariants.{LoadsSuperblock as LoadsSb, Locks, Sums}
-use Rattle.cpu_words.specs.declared.names.WordName.TheVariants.{MountCount, MountFlags, Stage, Holders, Umount, Node, SbFlags, Block, LevelCount, Sync, Section, Remount, Kids, Used, Removed}
-use Rattle.mount_counts.specs.declared.phases.MountPhase.{MountPhase}
-use Rattle.gate_world.specs.declared.work.Phase.TheVariants.{Mounts}
-use Rattle.access_model.specs.declared.replies.Next.{Next}
+use Rattle.std.proofs.{Common.{Bool, arith, inl, inr, refl, sym, true, true≢false, ◌≡◌, ◌<◌, ◌⊎◌, subst, ℕ, ◌∙◌, ap, List}, lemmas.Bool.cases_Bool}
 use Rattle.std.specs.Prelude.{Some, false, sum, ◌==◌, if◌then◌else◌, None}
-use Rattle.cpu_words.specs.declared.events.Touch.{Touch}
-use Rattle.gate_world.specs.declared.views.View.{View}
-use Rattle.mount_counts.specs.declared.phases.Want.{Want}
-use Rattle.mount_counts.specs.declared.phases.WantStep.{WantStep}
-use Rattle.cpu_words.specs.declared.names.WordName.{WordName}
-use Rattle.cpu_words.specs.Words.{Words, put, read}
-use Rattle.gate_world.specs.Worlds.{World, after_step, found_at, value_at, words_after}
-use Rattle.std.proofs.lemmas.Bool.{cases_Bool}
+use Rattle.access_model.specs.{Histories.{levels_of, opens_of}, Replies.map_next, declared.{actions.Action.Action, replies.Next.Next}}
+use Rattle.cpu_words.specs.{Hooks.HookAnswer, Touches.{event_of, found_by, left}, Words.{Words, put, read}}
+use Rattle.cpu_words.specs.declared.{events.Touch.Touch, names.WordName.WordName}
+use Rattle.gate_counts.specs.Levels.{Out as CountsNot}
+use Rattle.gated_tree.specs.Roles.{Out as OffTree}
 use Rattle.mount_counts.specs.Phases.{change_after, change_next, lock_failed, want_after, want_next, next, after}
-use Rattle.cpu_words.specs.Touches.{event_of, found_by, left}
-use Rattle.gate_world.specs.Found.{is_load}
-use Rattle.gate_world.specs.Owners.{is_owned, takes_lock}
-use Rattle.gate_frames.proofs.Words.{load_same}
-use Rattle.access_model.specs.Replies.{map_next}
-use Rattle.gate_world.specs.Views.{phase_after, view_after, actions_after, has_open}
-use Rattle.gate_world.specs.Stages.{stage_role_of}
+use Rattle.mount_counts.specs.declared.phases.{Change.Change, ChangeStep.ChangeStep, MountPhase.MountPhase, Want.Want, WantStep.WantStep}
+use Rattle.level_laws.specs.Roles.{Out as IsApart}
 use Rattle.stage_laws.specs.Roles.{Aside}
 use Rattle.holder_laws.specs.Roles.{Apart}
-use Rattle.gate_world.specs.Holders.{holder_role_of}
-use Rattle.gate_counts.specs.Levels.{Out as CountsNot}
-use Rattle.level_laws.specs.Roles.{Out as IsApart}
+use Rattle.gate_world.specs.{Fits.file_of, Found.is_load, Holders.holder_role_of}
 use Rattle.gate_world.specs.Levels.{inside, at_level, level_added_after, level_taken_after, level_role_of, sync_role_of, level_added_by, level_taken_by}
-use Rattle.access_model.specs.declared.actions.Action.{Action}
-use Rattle.access_model.specs.Histories.{levels_of, opens_of}
-use Rattle.gate_world.specs.Trees.{tree_role_of}
-use Rattle.gate_world.specs.declared.views.Traced.{Traced}
-use Rattle.gated_tree.specs.Roles.{Out as OffTree}
+use Rattle.gate_world.specs.Owners.{is_owned, takes_lock}
+use Rattle.gate_world.specs.Rules.{Fitting, Holds, IsGood, Known, Owner, Part, SameView, SameWords, Stages, Holding, StepKeeps, at_gates, change_owns, owns}
+use Rattle.gate_world.specs.Rules.{GateStepKeeps, Tree, AtLevel, SyncAt, Sections, Files}
+use Rattle.gate_world.specs.{Stages.stage_role_of, Trees.tree_role_of, Views.{phase_after, view_after, actions_after, has_open}}
+use Rattle.gate_world.specs.Worlds.{World, after_step, found_at, value_at, words_after}
+use Rattle.gate_world.specs.declared.{config.Config.Config, views.{Traced.Traced, View.View}, work.Phase.Phase}
+use Rattle.gate_frames.proofs.{Frames.{left_alone, level_view_as}, Known.{IsOwnersWork, known_after}, Words.load_same}
 
 -- the words that want, drop and change write
 abbrev pub is_gate_word : WordName → Bool
-is_gate_word Umount = true
-is_gate_word (MountFlags m) = true
-is_gate_word (MountCount m p) = true
+is_gate_word WordName.Umount = true
+is_gate_word (WordName.MountFlags m) = true
+is_gate_word (WordName.MountCount m p) = true
 is_gate_word word = false
 
 -- the event of this touch on this word is a load, or it is a word of these
@@ -58,21 +33,20 @@ abbrev pub IsGateTouch : WordName × Touch → Type 0
 IsGateTouch x = (is_load x.1 ≡ true) ⊎ (is_gate_word x.0 ≡ true)
 
 want_touches : (x : Want) (s : WantStep) → IsGateTouch (want_next x s)
-want_touches x CountsUp = inr refl
-want_touches x (CountsDown refusal) = inr refl
+want_touches x WantStep.CountsUp = inr refl
+want_touches x (WantStep.CountsDown refusal) = inr refl
 want_touches x s = inl refl
 
 change_touches : (x : Change) (s : ChangeStep) → IsGateTouch (change_next x s)
-change_touches x Locks = inr refl
-change_touches x LoadsSb = inl refl
-change_touches x (Sums sum) = inl refl
+change_touches x ChangeStep.Locks = inr refl
+change_touches x ChangeStep.LoadsSuperblock = inl refl
+change_touches x (ChangeStep.Sums sum) = inl refl
 change_touches x s = inr refl
 
--- each event of these layers is one
 mounts_touch : (x : MountPhase) (hook : HookAnswer) → IsGateTouch (next x hook)
-mounts_touch (Wants x) hook = want_touches x x.step
-mounts_touch (Drops m p) hook = inr refl
-mounts_touch (Changes x) hook = change_touches x x.step
+mounts_touch (MountPhase.Want x) hook = want_touches x x.step
+mounts_touch (MountPhase.Drop m p) hook = inr refl
+mounts_touch (MountPhase.Change x) hook = change_touches x x.step
 
 -- the part of what an owner knows, which each event's own trace moves
 abbrev pub is_known_part : Part → Bool
@@ -83,7 +57,6 @@ pub known_is : (part : Part) → is_known_part part ≡ true → part ≡ Known
 known_is Known h = refl
 known_is part h = absurd (true≢false (sym h))
 
--- what a part reads is the same in the same words
 same_words : (w : Words) (part : Part) → SameWords w w part
 same_words w Owner = (refl, refl)
 same_words w Holding = (refl, refl)
@@ -98,43 +71,43 @@ same_words w other = (refl, refl, refl, refl)
 -- a load leaves what each part reads
 pub load_unread : (w : Words) (word : WordName) (touch : Touch) (part : Part) → is_load touch ≡ true →
     SameWords w (put w word (left touch (read w word))) part
-load_unread w word Load part h = subst (λ (ws : Words). SameWords w ws part) (sym (load_same w word)) (same_words w part)
+load_unread w word Touch.Load part h = subst (λ (ws : Words). SameWords w ws part) (sym (load_same w word)) (same_words w part)
 load_unread w word touch part h = absurd (true≢false (sym h))
 
 -- and the words of want, drop and change are none that the parts of the stage, the holders, the marks, the nodes and the levels read
 unread : (part : Part) → at_gates part ≡ false → is_known_part part ≡ false → (word : WordName) → is_gate_word word ≡ true →
     (w : Words) (n : ℕ) → SameWords w (put w word n) part
-unread Stages h k Stage q w n = absurd (true≢false (sym q))
-unread Stages h k SbFlags q w n = absurd (true≢false (sym q))
-unread Stages h k Remount q w n = absurd (true≢false (sym q))
-unread Stages h k (Block i) q w n = absurd (true≢false (sym q))
+unread Stages h k WordName.Stage q w n = absurd (true≢false (sym q))
+unread Stages h k WordName.SbFlags q w n = absurd (true≢false (sym q))
+unread Stages h k WordName.Remount q w n = absurd (true≢false (sym q))
+unread Stages h k (WordName.Block i) q w n = absurd (true≢false (sym q))
 unread Stages h k word q w n = (refl, refl, refl, refl)
-unread Holding h k Stage q w n = absurd (true≢false (sym q))
-unread Holding h k Holders q w n = absurd (true≢false (sym q))
+unread Holding h k WordName.Stage q w n = absurd (true≢false (sym q))
+unread Holding h k WordName.Holders q w n = absurd (true≢false (sym q))
 unread Holding h k word q w n = (refl, refl)
 unread Known h k word q w n = absurd (true≢false k)
-unread (AtLevel j) h k Stage q w n = absurd (true≢false (sym q))
-unread (AtLevel j) h k SbFlags q w n = absurd (true≢false (sym q))
-unread (AtLevel j) h k (Block i) q w n = absurd (true≢false (sym q))
-unread (AtLevel j) h k (LevelCount i p) q w n = absurd (true≢false (sym q))
+unread (AtLevel j) h k WordName.Stage q w n = absurd (true≢false (sym q))
+unread (AtLevel j) h k WordName.SbFlags q w n = absurd (true≢false (sym q))
+unread (AtLevel j) h k (WordName.Block i) q w n = absurd (true≢false (sym q))
+unread (AtLevel j) h k (WordName.LevelCount i p) q w n = absurd (true≢false (sym q))
 unread (AtLevel j) h k word q w n = (refl, refl, refl)
-unread (SyncAt j) h k Stage q w n = absurd (true≢false (sym q))
-unread (SyncAt j) h k SbFlags q w n = absurd (true≢false (sym q))
-unread (SyncAt j) h k (Block i) q w n = absurd (true≢false (sym q))
-unread (SyncAt j) h k (Sync i) q w n = absurd (true≢false (sym q))
-unread (SyncAt j) h k (Section t) q w n = absurd (true≢false (sym q))
+unread (SyncAt j) h k WordName.Stage q w n = absurd (true≢false (sym q))
+unread (SyncAt j) h k WordName.SbFlags q w n = absurd (true≢false (sym q))
+unread (SyncAt j) h k (WordName.Block i) q w n = absurd (true≢false (sym q))
+unread (SyncAt j) h k (WordName.Sync i) q w n = absurd (true≢false (sym q))
+unread (SyncAt j) h k (WordName.Section t) q w n = absurd (true≢false (sym q))
 unread (SyncAt j) h k word q w n = (refl, refl, refl, refl)
-unread Sections h k (Section t) q w n = absurd (true≢false (sym q))
+unread Sections h k (WordName.Section t) q w n = absurd (true≢false (sym q))
 unread Sections h k word q w n = refl
-unread Tree h k Stage q w n = absurd (true≢false (sym q))
-unread Tree h k SbFlags q w n = absurd (true≢false (sym q))
-unread Tree h k Remount q w n = absurd (true≢false (sym q))
-unread Tree h k Removed q w n = absurd (true≢false (sym q))
-unread Tree h k Used q w n = absurd (true≢false (sym q))
-unread Tree h k (Node i) q w n = absurd (true≢false (sym q))
-unread Tree h k (Kids i) q w n = absurd (true≢false (sym q))
+unread Tree h k WordName.Stage q w n = absurd (true≢false (sym q))
+unread Tree h k WordName.SbFlags q w n = absurd (true≢false (sym q))
+unread Tree h k WordName.Remount q w n = absurd (true≢false (sym q))
+unread Tree h k WordName.Removed q w n = absurd (true≢false (sym q))
+unread Tree h k WordName.Used q w n = absurd (true≢false (sym q))
+unread Tree h k (WordName.Node i) q w n = absurd (true≢false (sym q))
+unread Tree h k (WordName.Kids i) q w n = absurd (true≢false (sym q))
 unread Tree h k word q w n = (refl, refl, refl, refl, refl, refl)
-unread Files h k (Node i) q w n = absurd (true≢false (sym q))
+unread Files h k (WordName.Node i) q w n = absurd (true≢false (sym q))
 unread Files h k word q w n = refl
 unread part h k word q w n = absurd (true≢false h)
 
@@ -149,7 +122,6 @@ record IsUnseen (old new : View) : Type 0 where
   open_same : has_open new ≡ has_open old
   file_same : file_of new.phase ≡ file_of old.phase
 
--- so they read the same
 unseen : (part : Part) → at_gates part ≡ false → is_known_part part ≡ false → (old new : View) → IsUnseen old new → SameView old new part
 unseen Stages h k old new same = same.stage_same
 unseen Holding h k old new same = same.holder_same
@@ -164,52 +136,47 @@ unseen part h k old new same = absurd (true≢false h)
 -- an event on a word of want, drop and change counts at no level
 level_added_gate : (word : WordName) → is_gate_word word ≡ true → (touch : Touch) (added : ℕ → ℕ → ℕ) →
     level_added_after word touch added ≡ added
-level_added_gate (LevelCount i p) q touch added = absurd (true≢false (sym q))
+level_added_gate (WordName.LevelCount i p) q touch added = absurd (true≢false (sym q))
 level_added_gate word q touch added = refl
 
 level_taken_gate : (word : WordName) → is_gate_word word ≡ true → (touch : Touch) (taken : ℕ → ℕ → ℕ) →
     level_taken_after word touch taken ≡ taken
-level_taken_gate (LevelCount i p) q touch taken = absurd (true≢false (sym q))
+level_taken_gate (WordName.LevelCount i p) q touch taken = absurd (true≢false (sym q))
 level_taken_gate word q touch taken = refl
 
--- nor does a load
 pub level_added_load : (word : WordName) (touch : Touch) (added : ℕ → ℕ → ℕ) → is_load touch ≡ true →
     level_added_after word touch added ≡ added
-level_added_load Umount Load added h = refl
-level_added_load word Load added h = refl
+level_added_load WordName.Umount Touch.Load added h = refl
+level_added_load word Touch.Load added h = refl
 level_added_load word touch added h = absurd (true≢false (sym h))
 
 pub level_taken_load : (word : WordName) (touch : Touch) (taken : ℕ → ℕ → ℕ) → is_load touch ≡ true →
     level_taken_after word touch taken ≡ taken
-level_taken_load Umount Load taken h = refl
-level_taken_load word Load taken h = refl
+level_taken_load WordName.Umount Touch.Load taken h = refl
+level_taken_load word Touch.Load taken h = refl
 level_taken_load word touch taken h = absurd (true≢false (sym h))
 
--- want, drop and change do nothing with the stage
-mounts_aside : (next : Next MountPhase) → stage_role_of (phase_after (map_next Mounts next)) ≡ Aside
-mounts_aside (Go x) = refl
+mounts_aside : (next : Next MountPhase) → stage_role_of (phase_after (map_next Phase.Mounts next)) ≡ Aside
+mounts_aside (Next.Go x) = refl
 mounts_aside other = refl
 
--- nor with those who hold a freeze
-mounts_part : (next : Next MountPhase) → holder_role_of (phase_after (map_next Mounts next)) ≡ Apart
-mounts_part (Go x) = refl
+mounts_part : (next : Next MountPhase) → holder_role_of (phase_after (map_next Phase.Mounts next)) ≡ Apart
+mounts_part (Next.Go x) = refl
 mounts_part other = refl
 
--- what comes after an event of a want owns nothing
-want_owns : (next : Next Want) → owns (phase_after (map_next Mounts (map_next Wants next))) ≡ 0
-want_owns (Go x) = refl
+want_owns : (next : Next Want) → owns (phase_after (map_next Phase.Mounts (map_next MountPhase.Want next))) ≡ 0
+want_owns (Next.Go x) = refl
 want_owns other = refl
 
--- a change that finds `umount` taken owns nothing
-failed_owns : (x : Change) (wait : Bool) → owns (phase_after (map_next Mounts (map_next Changes (lock_failed x wait)))) ≡ 0
+failed_owns : (x : Change) (wait : Bool) → owns (phase_after (map_next Phase.Mounts (map_next MountPhase.Change (lock_failed x wait)))) ≡ 0
 failed_owns x true = refl
 failed_owns x false = refl
 
 -- a change comes to own `umount` by taking it
 change_comes : (x : Change) (s : ChangeStep) (value : ℕ) →
-    owns (phase_after (map_next Mounts (map_next Changes (change_after x s (found_by (change_next x s).1 value)).0))) ≡ 1 →
+    owns (phase_after (map_next Phase.Mounts (map_next MountPhase.Change (change_after x s (found_by (change_next x s).1 value)).0))) ≡ 1 →
     (change_owns s ≡ 1) ⊎ (takes_lock (event_of (change_next x s).0 (change_next x s).1 value) ≡ true)
-change_comes x Locks value h =
+change_comes x ChangeStep.Locks value h =
     elim (cases_Bool (value == 0)) [
       | inl f ↦ inr f
       | inr f ↦ absurd (omega (arith, failed_owns x x.wait, rw f at h))
@@ -219,86 +186,86 @@ change_comes x s value h = inl refl
 -- it changes an owned word only as the owner
 change_changes : (x : Change) (s : ChangeStep) → is_owned (change_next x s).0 ≡ true →
     (is_load (change_next x s).1 ≡ true) ⊎ (change_owns s ≡ 1)
-change_changes x Locks h = absurd (true≢false (sym h))
+change_changes x ChangeStep.Locks h = absurd (true≢false (sym h))
 change_changes x s h = inr refl
 
 -- a want changes no owned word
 want_changes : (x : Want) (s : WantStep) → is_owned (want_next x s).0 ≡ true → (is_load (want_next x s).1 ≡ true)
-want_changes x CountsUp h = absurd (true≢false (sym h))
-want_changes x (CountsDown refusal) h = absurd (true≢false (sym h))
+want_changes x WantStep.CountsUp h = absurd (true≢false (sym h))
+want_changes x (WantStep.CountsDown refusal) h = absurd (true≢false (sym h))
 want_changes x s h = refl
 
 -- so owned words change only under `umount`
-mounts_work : (w : World) (x : MountPhase) (hook : HookAnswer) → IsOwnersWork w (Mounts x) hook
-mounts_work w (Wants x) hook = record {
+mounts_work : (w : World) (x : MountPhase) (hook : HookAnswer) → IsOwnersWork w (Phase.Mounts x) hook
+mounts_work w (MountPhase.Want x) hook = record {
   changes = λ h. inl (want_changes x x.step h);
-  comes_to_own = λ h. absurd (omega (arith, want_owns (want_after x x.step (found_at w.words (Mounts (Wants x)) hook)).0, h));
+  comes_to_own = λ h. absurd (omega (arith, want_owns (want_after x x.step (found_at w.words (Phase.Mounts (MountPhase.Want x)) hook)).0, h));
 }
-mounts_work w (Drops m p) hook = record { changes = λ h. absurd (true≢false (sym h)); comes_to_own = λ h. absurd (omega (arith, h)) }
-mounts_work w (Changes x) hook = record {
+mounts_work w (MountPhase.Drop m p) hook = record { changes = λ h. absurd (true≢false (sym h)); comes_to_own = λ h. absurd (omega (arith, h)) }
+mounts_work w (MountPhase.Change x) hook = record {
   changes = change_changes x x.step;
-  comes_to_own = change_comes x x.step (value_at w.words (Mounts (Changes x)) hook);
+  comes_to_own = change_comes x x.step (value_at w.words (Phase.Mounts (MountPhase.Change x)) hook);
 }
 
 -- want, drop and change count at no level, have no part in its rcu_sync, and are inside no section
-mounts_count : (i : ℕ) (next : Next MountPhase) → level_role_of i (phase_after (map_next Mounts next)) ≡ CountsNot
-mounts_count i (Go x) = refl
+mounts_count : (i : ℕ) (next : Next MountPhase) → level_role_of i (phase_after (map_next Phase.Mounts next)) ≡ CountsNot
+mounts_count i (Next.Go x) = refl
 mounts_count i other = refl
 
-mounts_apart : (i : ℕ) (next : Next MountPhase) → sync_role_of i (phase_after (map_next Mounts next)) ≡ IsApart
-mounts_apart i (Go x) = refl
+pub mounts_apart : (i : ℕ) (next : Next MountPhase) → sync_role_of i (phase_after (map_next Phase.Mounts next)) ≡ IsApart
+mounts_apart i (Next.Go x) = refl
 mounts_apart i other = refl
 
-mounts_outside : (next : Next MountPhase) → inside (phase_after (map_next Mounts next)) ≡ 0
-mounts_outside (Go x) = refl
+pub mounts_outside : (next : Next MountPhase) → inside (phase_after (map_next Phase.Mounts next)) ≡ 0
+mounts_outside (Next.Go x) = refl
 mounts_outside other = refl
 
 -- nor has it to do with the tree
-mounts_off_tree : (trace : List Traced) (n : Next MountPhase) → tree_role_of trace (phase_after (map_next Mounts n)) ≡ OffTree
-mounts_off_tree trace (Go phase) = refl
+mounts_off_tree : (trace : List Traced) (n : Next MountPhase) → tree_role_of trace (phase_after (map_next Phase.Mounts n)) ≡ OffTree
+mounts_off_tree trace (Next.Go phase) = refl
 mounts_off_tree trace other = refl
 
 -- and they add no action at a level
 want_levels : (x : Want) (s : WantStep) (found : ℕ) (actions : List Action) →
     levels_of (actions_after (want_after x s found).1 actions) ≡ levels_of actions
-want_levels x LoadsSuperblock found actions = elim (cases_Bool (found == 0)) [ inl h ↦ rw h refl | inr h ↦ rw h refl ]
+want_levels x WantStep.LoadsSuperblock found actions = elim (cases_Bool (found == 0)) [ inl h ↦ rw h refl | inr h ↦ rw h refl ]
 want_levels x s found actions = refl
 
 change_levels : (x : Change) (s : ChangeStep) (found : ℕ) (actions : List Action) →
     levels_of (actions_after (change_after x s found).1 actions) ≡ levels_of actions
-change_levels x Locks found actions = refl
+change_levels x ChangeStep.Locks found actions = refl
 change_levels x s found actions = refl
 
 mounts_levels : (x : MountPhase) (found : ℕ) (hook : HookAnswer) (actions : List Action) →
     levels_of (actions_after (after x found hook).1 actions) ≡ levels_of actions
-mounts_levels (Wants x) found hook actions = want_levels x x.step found actions
-mounts_levels (Drops m p) found hook actions = refl
-mounts_levels (Changes x) found hook actions = change_levels x x.step found actions
+mounts_levels (MountPhase.Want x) found hook actions = want_levels x x.step found actions
+mounts_levels (MountPhase.Drop m p) found hook actions = refl
+mounts_levels (MountPhase.Change x) found hook actions = change_levels x x.step found actions
 
 -- nor of a file
 want_opens : (x : Want) (s : WantStep) (found : ℕ) (actions : List Action) →
     opens_of (actions_after (want_after x s found).1 actions) ≡ opens_of actions
-want_opens x LoadsSuperblock found actions = elim (cases_Bool (found == 0)) [ inl h ↦ rw h refl | inr h ↦ rw h refl ]
+want_opens x WantStep.LoadsSuperblock found actions = elim (cases_Bool (found == 0)) [ inl h ↦ rw h refl | inr h ↦ rw h refl ]
 want_opens x s found actions = refl
 
 change_opens : (x : Change) (s : ChangeStep) (found : ℕ) (actions : List Action) →
     opens_of (actions_after (change_after x s found).1 actions) ≡ opens_of actions
-change_opens x Locks found actions = refl
+change_opens x ChangeStep.Locks found actions = refl
 change_opens x s found actions = refl
 
 mounts_opens : (x : MountPhase) (found : ℕ) (hook : HookAnswer) (actions : List Action) →
     opens_of (actions_after (after x found hook).1 actions) ≡ opens_of actions
-mounts_opens (Wants x) found hook actions = want_opens x x.step found actions
-mounts_opens (Drops m p) found hook actions = refl
-mounts_opens (Changes x) found hook actions = change_opens x x.step found actions
+mounts_opens (MountPhase.Want x) found hook actions = want_opens x x.step found actions
+mounts_opens (MountPhase.Drop m p) found hook actions = refl
+mounts_opens (MountPhase.Change x) found hook actions = change_opens x x.step found actions
 
-mounts_files : (n : Next MountPhase) → file_of (phase_after (map_next Mounts n)) ≡ None
-mounts_files (Go phase) = refl
+mounts_files : (n : Next MountPhase) → file_of (phase_after (map_next Phase.Mounts n)) ≡ None
+mounts_files (Next.Go phase) = refl
 mounts_files other = refl
 
 -- so their events are unseen at the levels
-mounts_unseen : (v : View) (x : MountPhase) (value : ℕ) (hook : HookAnswer) → v.phase ≡ Some (Mounts x) →
-    IsUnseen v (view_after v (Mounts x) value hook)
+mounts_unseen : (v : View) (x : MountPhase) (value : ℕ) (hook : HookAnswer) → v.phase ≡ Some (Phase.Mounts x) →
+    IsUnseen v (view_after v (Phase.Mounts x) value hook)
 mounts_unseen v x value hook e =
     let found : ℕ = found_by (next x hook).1 value in
     let added : level_added_after (next x hook).0 (next x hook).1 (level_added_by v.events) ≡ level_added_by v.events =
@@ -314,7 +281,7 @@ mounts_unseen v x value hook e =
     record {
       stage_same = mounts_aside (after x found hook).0 ∙ sym (ap stage_role_of e);
       holder_same = mounts_part (after x found hook).0 ∙ sym (ap holder_role_of e);
-      tree_same = mounts_off_tree (view_after v (Mounts x) value hook).trace (after x found hook).0 ∙ sym (ap (tree_role_of v.trace) e);
+      tree_same = mounts_off_tree (view_after v (Phase.Mounts x) value hook).trace (after x found hook).0 ∙ sym (ap (tree_role_of v.trace) e);
       level_same = λ i. level_view_as
           (ap (λ (f : ℕ → Bool). if f i then 1 else 0) (mounts_levels x found hook v.actions))
           (ap (λ f. f i) added) (ap (λ f. f i) taken) (mounts_count i (after x found hook).0 ∙ sym (ap (level_role_of i) e));
@@ -326,25 +293,25 @@ mounts_unseen v x value hook e =
 
 -- what an event of want, drop or change leaves of the other parts
 others_hold : (c : Config) (w : World) (t : ℕ) → t < c.tasks → IsGood c w → (hook : HookAnswer) (x : MountPhase) →
-    (w.views t).phase ≡ Some (Mounts x) →
-    (part : Part) → at_gates part ≡ false → (b : Bool) → is_known_part part ≡ b → Holds c (after_step w t (Mounts x) hook) part
+    (w.views t).phase ≡ Some (Phase.Mounts x) →
+    (part : Part) → at_gates part ≡ false → (b : Bool) → is_known_part part ≡ b → Holds c (after_step w t (Phase.Mounts x) hook) part
 others_hold c w t lt good hook x e part h true k =
-    subst (Holds c (after_step w t (Mounts x) hook)) (sym (known_is part k))
-    (known_after c w t (Mounts x) hook good lt e (mounts_work w x hook))
+    subst (Holds c (after_step w t (Phase.Mounts x) hook)) (sym (known_is part k))
+    (known_after c w t (Phase.Mounts x) hook good lt e (mounts_work w x hook))
 others_hold c w t lt good hook x e part h false k =
-    left_alone c w t lt part (words_after w.words (Mounts x) hook)
-    (view_after (w.views t) (Mounts x) (value_at w.words (Mounts x) hook) hook)
+    left_alone c w t lt part (words_after w.words (Phase.Mounts x) hook)
+    (view_after (w.views t) (Phase.Mounts x) (value_at w.words (Phase.Mounts x) hook) hook)
     (elim (mounts_touch x hook) [
       | inl f ↦ load_unread w.words (next x hook).0 (next x hook).1 part f
       | inr f ↦ unread part h k (next x hook).0 f w.words (left (next x hook).1 (read w.words (next x hook).0))
     ])
-    (unseen part h k (w.views t) (view_after (w.views t) (Mounts x) (value_at w.words (Mounts x) hook) hook)
-    (mounts_unseen (w.views t) x (value_at w.words (Mounts x) hook) hook e)) (good part)
+    (unseen part h k (w.views t) (view_after (w.views t) (Phase.Mounts x) (value_at w.words (Phase.Mounts x) hook) hook)
+    (mounts_unseen (w.views t) x (value_at w.words (Phase.Mounts x) hook) hook e)) (good part)
 
 -- so an event of want, drop or change keeps the rule where it keeps the parts that it may touch
 pub whole_step : (c : Config) (w : World) (t : ℕ) → t < c.tasks → IsGood c w → (hook : HookAnswer) (x : MountPhase) →
-    (w.views t).phase ≡ Some (Mounts x) →
-    GateStepKeeps c w t hook (Mounts x) → StepKeeps c w t hook (Mounts x)
+    (w.views t).phase ≡ Some (Phase.Mounts x) →
+    GateStepKeeps c w t hook (Phase.Mounts x) → StepKeeps c w t hook (Phase.Mounts x)
 whole_step c w t lt good hook x e keeps = (
   λ part.
       elim (cases_Bool (at_gates part)) [

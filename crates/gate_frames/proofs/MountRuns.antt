@@ -1,31 +1,11 @@
 -- What an event off the levels makes of each of them: it leaves it, and so each event of want, drop and change does.
-use Rattle.std.proofs.Common.{◌≡◌, ℕ, ◌<◌, refl, sym, ap, ◌∙◌}
-use Rattle.std.specs.Prelude.{Some}
-use Rattle.access_model.specs.Replies.{map_next}
-use Rattle.access_model.specs.declared.replies.Next.{Next}
-use Rattle.access_model.specs.declared.replies.Next.TheVariants.{Go}
-use Rattle.cpu_words.specs.Hooks.{HookAnswer}
-use Rattle.cpu_words.specs.Words.{Words}
-use Rattle.mount_counts.specs.Phases.{after}
-use Rattle.mount_counts.specs.declared.phases.Change.{Change}
-use Rattle.mount_counts.specs.declared.phases.ChangeStep.{ChangeStep}
-use Rattle.mount_counts.specs.declared.phases.ChangeStep.TheVariants.{Locks}
-use Rattle.mount_counts.specs.declared.phases.MountPhase.{MountPhase}
-use Rattle.mount_counts.specs.declared.phases.MountPhase.TheVariants.{Change as Changes, Drop as Drops, Want as Wants}
-use Rattle.mount_counts.specs.declared.phases.Want.{Want}
-use Rattle.mount_counts.specs.declared.phases.WantStep.{WantStep}
-use Rattle.mount_counts.specs.declared.phases.WantStep.TheVariants.{CountsUp}
-use Rattle.level_laws.specs.Events.{SyncStep}
-use Rattle.level_laws.specs.Roles.{Out as IsApart}
-use Rattle.gate_world.specs.LevelRuns.{level_in}
-use Rattle.gate_world.specs.Levels.{inside, sync_role_of}
-use Rattle.gate_world.specs.Rules.{SameWords, SyncAt}
-use Rattle.gate_world.specs.Views.{phase_after, view_after}
-use Rattle.gate_world.specs.Work.{after_of}
-use Rattle.gate_world.specs.Worlds.{World, after_step, found_at, value_at, words_after}
-use Rattle.gate_world.specs.declared.work.Phase.{Phase}
-use Rattle.gate_world.specs.declared.work.Phase.TheVariants.{Mounts}
-use Rattle.gate_frames.proofs.LevelSteps.{level_kept, level_stays}
+use Rattle.std.{proofs.Common.{◌≡◌, ℕ, ◌<◌, refl, sym, ap, ◌∙◌}, specs.Prelude.Some}
+use Rattle.cpu_words.specs.{Hooks.HookAnswer, Words.Words}
+use Rattle.mount_counts.specs.{Phases.after, declared.phases.{Change.Change, ChangeStep.ChangeStep, MountPhase.MountPhase, Want.Want, WantStep.WantStep}}
+use Rattle.level_laws.specs.{Events.SyncStep, Roles.Out as IsApart}
+use Rattle.gate_world.specs.{LevelRuns.level_in, Levels.{inside, sync_role_of}, Rules.{SameWords, SyncAt}, Views.{phase_after, view_after}, Work.after_of}
+use Rattle.gate_world.specs.{Worlds.{World, after_step, found_at, value_at, words_after}, declared.work.Phase.Phase}
+use Rattle.gate_frames.proofs.{LevelSteps.{level_kept, level_stays}, MountEvents.{mounts_apart, mounts_outside}}
 
 -- an event that leaves what a level reads of the words, of a task that has no part in the level and is inside no section, before it and
 -- after it, is one at which the level stays
@@ -42,35 +22,23 @@ apart_run tasks w t lt hook phase e i same outside apart outside_then apart_then
 
 -- no event of a want changes what a level reads of the words
 want_words : (w : Words) (x : Want) (s : WantStep) (hook : HookAnswer) (i : ℕ) →
-    SameWords w (words_after w (Mounts (Wants (record x { step = s }))) hook) (SyncAt i)
-want_words w x CountsUp hook i = (refl, refl, refl, refl)
+    SameWords w (words_after w (Phase.Mounts (MountPhase.Want (record x { step = s }))) hook) (SyncAt i)
+want_words w x WantStep.CountsUp hook i = (refl, refl, refl, refl)
 want_words w x s hook i = (refl, refl, refl, refl)
 
--- nor one of a change
 change_words : (w : Words) (x : Change) (s : ChangeStep) (hook : HookAnswer) (i : ℕ) →
-    SameWords w (words_after w (Mounts (Changes (record x { step = s }))) hook) (SyncAt i)
-change_words w x Locks hook i = (refl, refl, refl, refl)
+    SameWords w (words_after w (Phase.Mounts (MountPhase.Change (record x { step = s }))) hook) (SyncAt i)
+change_words w x ChangeStep.Locks hook i = (refl, refl, refl, refl)
 change_words w x s hook i = (refl, refl, refl, refl)
 
--- so none of want, drop and change does
-mount_words : (w : Words) (x : MountPhase) (hook : HookAnswer) (i : ℕ) → SameWords w (words_after w (Mounts x) hook) (SyncAt i)
-mount_words w (Wants x) hook i = want_words w x x.step hook i
-mount_words w (Drops m p) hook i = (refl, refl, refl, refl)
-mount_words w (Changes x) hook i = change_words w x x.step hook i
-
--- what comes after such an event is inside no section
-mount_outside : (next : Next MountPhase) → inside (phase_after (map_next Mounts next)) ≡ 0
-mount_outside (Go x) = refl
-mount_outside other = refl
-
--- and has no part in a level
-mount_apart : (i : ℕ) (next : Next MountPhase) → sync_role_of i (phase_after (map_next Mounts next)) ≡ IsApart
-mount_apart i (Go x) = refl
-mount_apart i other = refl
+mount_words : (w : Words) (x : MountPhase) (hook : HookAnswer) (i : ℕ) → SameWords w (words_after w (Phase.Mounts x) hook) (SyncAt i)
+mount_words w (MountPhase.Want x) hook i = want_words w x x.step hook i
+mount_words w (MountPhase.Drop m p) hook i = (refl, refl, refl, refl)
+mount_words w (MountPhase.Change x) hook i = change_words w x x.step hook i
 
 -- each event of want, drop or change is one at which each level stays
 pub mounts_run : (tasks : ℕ) (w : World) (t : ℕ) → t < tasks → (hook : HookAnswer) (x : MountPhase) →
-    (w.views t).phase ≡ Some (Mounts x) → (i : ℕ) → SyncStep tasks (level_in w i) (level_in (after_step w t (Mounts x) hook) i)
+    (w.views t).phase ≡ Some (Phase.Mounts x) → (i : ℕ) → SyncStep tasks (level_in w i) (level_in (after_step w t (Phase.Mounts x) hook) i)
 mounts_run tasks w t lt hook x e i =
-    apart_run tasks w t lt hook (Mounts x) e i (mount_words w.words x hook i) refl refl
-    (mount_outside (after x (found_at w.words (Mounts x) hook) hook).0) (mount_apart i (after x (found_at w.words (Mounts x) hook) hook).0)
+    apart_run tasks w t lt hook (Phase.Mounts x) e i (mount_words w.words x hook i) refl refl
+    (mounts_outside (after x (found_at w.words (Phase.Mounts x) hook) hook).0) (mounts_apart i (after x (found_at w.words (Phase.Mounts x) hook) hook).0)

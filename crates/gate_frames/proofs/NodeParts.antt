@@ -2,175 +2,113 @@
 -- snapshot is such a call, too.
 use Rattle.std.proofs.Common.{arith, ◌≡◌, ℕ, ◌<◌, ◌⊎◌, ◌∙◌, inl, inr, refl, sym, ap, Bool, true, false, true≢false, subst}
 use Rattle.std.specs.Prelude.{◌==◌, ◌||◌, Option, Some, None, Result, Ok, Err, if◌then◌else◌}
-use Rattle.finite_sums.specs.Sums.{update}
-use Rattle.finite_sums.proofs.Totals.{each_updated, update_same}
-use Rattle.access_model.specs.declared.actions.Action.{Action}
-use Rattle.access_model.specs.declared.errors.GateError.{GateError}
-use Rattle.access_model.specs.declared.replies.Next.{Next}
-use Rattle.access_model.specs.declared.replies.Next.TheVariants.{Go, Wait, Done}
-use Rattle.access_model.specs.Replies.{map_next}
-use Rattle.cpu_words.specs.declared.names.WordName.{WordName}
-use Rattle.cpu_words.specs.declared.names.WordName.TheVariants.{Umount, MountCount, LevelCount, Used, Node, Kids}
-use Rattle.cpu_words.specs.declared.events.Touch.{Touch}
-use Rattle.cpu_words.specs.declared.events.Touch.TheVariants.{Load}
-use Rattle.cpu_words.specs.Hooks.{HookAnswer}
-use Rattle.cpu_words.specs.Touches.{left}
-use Rattle.cpu_words.specs.Words.{Words, read, put}
-use Rattle.gated_tree.specs.declared.changes.Create.{Create}
-use Rattle.gated_tree.specs.declared.changes.CreateStep.{CreateStep}
-use Rattle.gated_tree.specs.declared.changes.CreateStep.TheVariants.{LoadsDirectory, TakesNode}
-use Rattle.gated_tree.specs.declared.changes.Remove.{Remove}
-use Rattle.gated_tree.specs.declared.changes.RemoveStep.{RemoveStep}
-use Rattle.gated_tree.specs.declared.changes.RemoveStep.TheVariants.{LoadsFile as LoadsFileToRemove, FreesNode, MarksRemoved}
-use Rattle.gated_tree.specs.declared.changes.MoveTo.{MoveTo}
-use Rattle.gated_tree.specs.declared.changes.MoveStep.{MoveStep}
-use Rattle.gated_tree.specs.declared.changes.MoveStep.TheVariants.{LoadsFile as LoadsFileToMove, MovesFile}
-use Rattle.gated_tree.specs.declared.growth.Grow.{Grow}
-use Rattle.gated_tree.specs.declared.growth.GrowStep.{GrowStep}
-use Rattle.gated_tree.specs.declared.growth.GrowStep.TheVariants.{LoadsFile as LoadsFileToGrow, GrowsFile}
-use Rattle.gated_tree.specs.declared.marks.Mark.{Mark}
-use Rattle.gated_tree.specs.declared.marks.MarkStep.{MarkStep}
-use Rattle.gated_tree.specs.declared.marks.MarkStep.TheVariants.{LoadsFile as LoadsFileToMark, MarksFile}
-use Rattle.gated_tree.specs.declared.marks.ClearMarks.{ClearMarks}
-use Rattle.gated_tree.specs.declared.snapshots.Snapshot.{Snapshot}
-use Rattle.gated_tree.specs.declared.snapshots.SnapshotStep.{SnapshotStep}
-use Rattle.gated_tree.specs.declared.snapshots.SnapshotStep.TheVariants.{Locks, Releases}
-use Rattle.gated_tree.specs.declared.phases.TreePhase.{TreePhase}
-use Rattle.gated_tree.specs.declared.phases.TreePhase.TheVariants.{OpenFile as OpensOne, Create as Creates, Remove as Removes, Grow as Grows, MoveTo as Moves, Mark as Marks, Snapshot as Snapshots, ClearMarks as Clears}
-use Rattle.gated_tree.specs.Nodes.{word_of, node_shown, file_in, dirty_in}
-use Rattle.gated_tree.specs.Phases.{next, after, after_look, create_next, create_after, remove_next, remove_after, grow_next, grow_after, move_next, move_after, mark_next, mark_after, mark_done, at_mark, snapshot_next, snapshot_after, clear_after}
-use Rattle.gated_tree.specs.Calls.{phase_role, role_after, TreePhaseFits, NextFits}
-use Rattle.gated_tree.specs.Roles.{Role, TreeHolds, sealed_by}
-use Rattle.mount_counts.specs.Roles.{Out, ro_bit}
-use Rattle.stage_laws.specs.Roles.{sums, is_full}
-use Rattle.tree_laws.specs.Events.{MovesBy}
-use Rattle.tree_laws.specs.Steps.{Notes, StepKeeps, tree_in}
-use Rattle.tree_laws.proofs.Allowed.{may_do, tree_alone}
-use Rattle.tree_laws.proofs.Fitting.{fits_after}
-use Rattle.tree_laws.proofs.Phases.{each_phase}
-use Rattle.holder_laws.specs.Roles.{Apart}
-use Rattle.gate_world.specs.Holders.{holder_role_of}
-use Rattle.freeze_levels.specs.Holders.{holders_in}
-use Rattle.gated_tree.specs.declared.opens.OpenFile.{OpenFile}
-use Rattle.gated_tree.specs.declared.opens.OpenStep.{OpenStep}
-use Rattle.gated_tree.specs.declared.opens.OpenStep.TheVariants.{LoadsFile as LoadsFileToOpen, OpensFile}
-use Rattle.cpu_words.specs.declared.names.WordName.TheVariants.{Removed}
-use Rattle.gated_tree.specs.Phases.{open_next, open_after}
-use Rattle.gated_tree.specs.Roles.{bare_by}
-use Rattle.gate_world.specs.Trees.{is_bare_at}
-use Rattle.gate_world.specs.Views.{has_open}
-use Rattle.gate_world.specs.Fits.{HasFile, file_of, opens_by}
-use Rattle.gate_world.specs.Rules.{Files}
-use Rattle.gate_frames.proofs.Accesses.{opens_of_after}
-use Rattle.tree_laws.specs.Events.{opens_shown}
-use Rattle.access_model.specs.States.{openers}
+use Rattle.finite_sums.{proofs.Totals.{each_updated, update_same, update_map}, specs.Sums.update}
 use Rattle.access_model.proofs.Openers.{most_tasks_is}
-use Rattle.finite_sums.proofs.Totals.{update_map}
-use Rattle.gate_frames.proofs.OpenFiles.{same_counts, files_counted, file_then}
-use Rattle.gate_world.specs.declared.config.Config.{Config}
-use Rattle.gate_world.specs.declared.views.View.{View}
-use Rattle.gate_world.specs.declared.work.Phase.{Phase}
-use Rattle.gate_world.specs.declared.work.Phase.TheVariants.{Trees}
-use Rattle.gate_world.specs.Configs.{IsWithin, model_limits}
-use Rattle.gate_world.specs.Fits.{Fits, TreeAccess, mounts_by, levels_by}
-use Rattle.gate_world.specs.Found.{is_load}
-use Rattle.gate_world.specs.Levels.{is_frozen_whole, level_added_after, level_taken_after, level_added_by, level_taken_by}
-use Rattle.gate_world.specs.Rules.{IsGood, Holds, Part, Holding, AtMount, AtLevel, SyncAt, Sections, Fitting, Tree, ViewFits, SameView, SameWords, role_of, remounts, Moves as ModelMoves}
-use Rattle.gate_world.specs.Shown.{shown, closing}
-use Rattle.gate_world.specs.Stages.{tree_stage_role, snapshot_stage_role}
-use Rattle.gate_world.specs.Trees.{tree_bounds, tree_roles, tree_role_of, nodes_noted, is_sealed}
-use Rattle.gate_world.specs.Snapshots.{values_noted}
-use Rattle.gate_world.specs.Views.{held_at, holds_level, added_after, taken_after, added_by, taken_by, phase_after, view_after}
-use Rattle.gate_world.specs.Worlds.{World, after_step, words_after, value_at, found_at}
-use Rattle.gate_frames.proofs.Accesses.{mounts_of_after, levels_of_after}
-use Rattle.gate_frames.proofs.Frames.{IsOffLevels, added_load, taken_load, view_as, level_view_as, left_alone, shown_as}
-use Rattle.gate_frames.proofs.Keeps.{by_bool}
-use Rattle.gate_frames.proofs.MountEvents.{level_added_load, level_taken_load}
-use Rattle.gate_frames.proofs.Trees.{tree_within, tree_holds}
-use Rattle.gate_frames.proofs.Words.{load_same}
-use Rattle.gate_frames.proofs.MayTree.{LeaveFor, call_fits, leave, may_step}
-use Rattle.access_model.specs.declared.replies.Reply.TheVariants.{Unit as UnitReply}
-use Rattle.access_model.specs.declared.errors.GateError.TheVariants.{Again}
+use Rattle.access_model.specs.{Replies.map_next, States.openers, declared.{actions.Action.Action, errors.GateError.GateError, replies.{Next.Next, Reply.Reply}}}
+use Rattle.cpu_words.specs.{Hooks.HookAnswer, Touches.left, Words.{Words, read, put}, declared.{events.Touch.Touch, names.WordName.WordName}}
+use Rattle.gated_tree.specs.{Calls.{phase_role, role_after, TreePhaseFits, NextFits}, Nodes.{word_of, node_shown, file_in, dirty_in}}
+use Rattle.gated_tree.specs.Phases.{next, after, after_look, create_next, create_after, remove_next, remove_after, grow_next, grow_after, move_next, move_after}
+use Rattle.gated_tree.specs.Phases.{mark_next, mark_after, mark_done, at_mark, snapshot_next, snapshot_after, clear_after, open_next, open_after}
+use Rattle.gated_tree.specs.Roles.{Role, TreeHolds, sealed_by, bare_by}
+use Rattle.gated_tree.specs.declared.changes.{Create.Create, CreateStep.CreateStep, MoveStep.MoveStep, MoveTo.MoveTo, Remove.Remove, RemoveStep.RemoveStep}
+use Rattle.gated_tree.specs.declared.{growth.{Grow.Grow, GrowStep.GrowStep}, marks.{ClearMarks.ClearMarks, Mark.Mark, MarkStep.MarkStep}}
+use Rattle.gated_tree.specs.declared.{opens.{OpenFile.OpenFile, OpenStep.OpenStep}, phases.TreePhase.TreePhase}
+use Rattle.gated_tree.specs.declared.snapshots.{Snapshot.Snapshot, SnapshotStep.SnapshotStep}
+use Rattle.mount_counts.specs.Roles.{Out, ro_bit}
+use Rattle.tree_laws.proofs.{Allowed.{may_do, tree_alone}, Fitting.fits_after, Phases.each_phase}
+use Rattle.tree_laws.specs.{Events.{MovesBy, opens_shown}, Steps.{Notes, StepKeeps, tree_in}}
+use Rattle.freeze_levels.specs.Holders.{holders_in}
+use Rattle.stage_laws.specs.Roles.{sums, is_full}
+use Rattle.holder_laws.specs.Roles.{Apart}
+use Rattle.gate_world.specs.{Configs.{IsWithin, model_limits}, Fits.{HasFile, file_of, opens_by, Fits, TreeAccess, mounts_by, levels_by}, Found.is_load}
+use Rattle.gate_world.specs.{Holders.holder_role_of, Levels.{is_frozen_whole, level_added_after, level_taken_after, level_added_by, level_taken_by}}
+use Rattle.gate_world.specs.Rules.{Files, IsGood, Holds, Part, Holding, AtMount, AtLevel, SyncAt, Sections, Fitting, Tree, ViewFits, SameView, SameWords}
+use Rattle.gate_world.specs.Rules.{role_of, remounts, Moves as ModelMoves}
+use Rattle.gate_world.specs.{Shown.{shown, closing}, Snapshots.values_noted, Stages.{tree_stage_role, snapshot_stage_role}}
+use Rattle.gate_world.specs.Trees.{is_bare_at, tree_bounds, tree_roles, tree_role_of, nodes_noted, is_sealed}
+use Rattle.gate_world.specs.Views.{has_open, held_at, holds_level, added_after, taken_after, added_by, taken_by, phase_after, view_after}
+use Rattle.gate_world.specs.{Work.{next_of, after_of}, Worlds.{World, after_step, words_after, value_at, found_at}}
+use Rattle.gate_world.specs.declared.{config.Config.Config, views.View.View, work.Phase.Phase}
+use Rattle.gate_frames.proofs.Accesses.{opens_of_after, mounts_of_after, levels_of_after}
+use Rattle.gate_frames.proofs.{Frames.{IsOffLevels, added_load, taken_load, view_as, level_view_as, left_alone, shown_as}, Keeps.by_bool}
+use Rattle.gate_frames.proofs.{MayTree.{LeaveFor, call_fits, leave, may_step}, MountEvents.{level_added_load, level_taken_load}}
+use Rattle.gate_frames.proofs.{OpenFiles.{same_counts, files_counted, file_then}, Trees.{tree_within, tree_holds}, Words.load_same}
 
 -- the words of the tree
 abbrev pub is_node_word : WordName → Bool
-is_node_word Used = true
-is_node_word Removed = true
-is_node_word (Node n) = true
-is_node_word (Kids d) = true
+is_node_word WordName.Used = true
+is_node_word WordName.Removed = true
+is_node_word (WordName.Node n) = true
+is_node_word (WordName.Kids d) = true
 is_node_word word = false
 
 -- the words that calls at the tree write: those, and a snapshot `umount`
 abbrev pub is_call_word : WordName → Bool
-is_call_word Umount = true
-is_call_word Used = true
-is_call_word Removed = true
-is_call_word (Node n) = true
-is_call_word (Kids d) = true
+is_call_word WordName.Umount = true
+is_call_word WordName.Used = true
+is_call_word WordName.Removed = true
+is_call_word (WordName.Node n) = true
+is_call_word (WordName.Kids d) = true
 is_call_word word = false
 
--- the first are among the second
 pub node_call : (word : WordName) → is_node_word word ≡ true → is_call_word word ≡ true
-node_call Used h = refl
-node_call Removed h = refl
-node_call (Node n) h = refl
-node_call (Kids d) h = refl
+node_call WordName.Used h = refl
+node_call WordName.Removed h = refl
+node_call (WordName.Node n) h = refl
+node_call (WordName.Kids d) h = refl
 node_call word h = absurd (true≢false (sym h))
 
 -- each event of a call but a snapshot is on a word of the tree
 create_word : (x : Create) (s : CreateStep) → is_node_word (create_next x s).0 ≡ true
-create_word x LoadsDirectory = refl
+create_word x CreateStep.LoadsDirectory = refl
 create_word x other = refl
 
 remove_word : (x : Remove) (s : RemoveStep) → is_node_word (remove_next x s).0 ≡ true
-remove_word x LoadsFileToRemove = refl
+remove_word x RemoveStep.LoadsFile = refl
 remove_word x other = refl
 
 grow_word : (x : Grow) (s : GrowStep) → is_node_word (grow_next x s).0 ≡ true
-grow_word x LoadsFileToGrow = refl
+grow_word x GrowStep.LoadsFile = refl
 grow_word x other = refl
 
 move_word : (x : MoveTo) (s : MoveStep) → is_node_word (move_next x s).0 ≡ true
-move_word x LoadsFileToMove = refl
+move_word x MoveStep.LoadsFile = refl
 move_word x other = refl
 
 mark_word : (x : Mark) (s : MarkStep) → is_node_word (mark_next x s).0 ≡ true
-mark_word x LoadsFileToMark = refl
-mark_word x (MarksFile file) = refl
+mark_word x MarkStep.LoadsFile = refl
+mark_word x (MarkStep.MarksFile file) = refl
 
 open_word : (x : OpenFile) (s : OpenStep) → is_node_word (open_next x s).0 ≡ true
-open_word x LoadsFileToOpen = refl
-open_word x (OpensFile file) = refl
+open_word x OpenStep.LoadsFile = refl
+open_word x (OpenStep.OpensFile file) = refl
 
 -- the call is a snapshot
 abbrev pub is_snapshot : TreePhase → Bool
-is_snapshot (Snapshots x) = true
+is_snapshot (TreePhase.Snapshot x) = true
 is_snapshot x = false
 
--- so it is of each such call
 pub node_word : (x : TreePhase) (hook : HookAnswer) → is_snapshot x ≡ false → is_node_word (next x hook).0 ≡ true
-node_word (Creates x) hook other = create_word x x.step
-node_word (Removes x) hook other = remove_word x x.step
-node_word (Grows x) hook other = grow_word x x.step
-node_word (Moves x) hook other = move_word x x.step
-node_word (Marks x) hook other = mark_word x x.step
-node_word (OpensOne x) hook other = open_word x x.step
-node_word (Snapshots x) hook other = absurd (true≢false other)
-node_word (Clears x) hook other = refl
+node_word (TreePhase.Create x) hook other = create_word x x.step
+node_word (TreePhase.Remove x) hook other = remove_word x x.step
+node_word (TreePhase.Grow x) hook other = grow_word x x.step
+node_word (TreePhase.MoveTo x) hook other = move_word x x.step
+node_word (TreePhase.Mark x) hook other = mark_word x x.step
+node_word (TreePhase.OpenFile x) hook other = open_word x x.step
+node_word (TreePhase.Snapshot x) hook other = absurd (true≢false other)
+node_word (TreePhase.ClearMarks x) hook other = refl
 
 -- the event of this touch on this word is a load, or the word is one that calls write
 abbrev pub IsCallTouch : WordName × Touch → Type 0
 IsCallTouch x = (is_load x.1 ≡ true) ⊎ (is_call_word x.0 ≡ true)
 
--- a snapshot loads, or touches `umount`
 snapshot_touch : (x : Snapshot) (s : SnapshotStep) → IsCallTouch (snapshot_next x s)
-snapshot_touch x Locks = inr refl
-snapshot_touch x (Releases answer) = inr refl
+snapshot_touch x SnapshotStep.Locks = inr refl
+snapshot_touch x (SnapshotStep.Releases answer) = inr refl
 snapshot_touch x other = inl refl
 
--- each event of a call is one
 pub call_touch : (x : TreePhase) (hook : HookAnswer) → IsCallTouch (next x hook)
-call_touch (Snapshots x) hook = snapshot_touch x x.step
+call_touch (TreePhase.Snapshot x) hook = snapshot_touch x x.step
 call_touch x hook = inr (node_call (next x hook).0 (node_word x hook refl))
 
 -- the words that no call at the tree writes are as they were
@@ -186,30 +124,29 @@ pub record IsBesideTree (old new : Words) : Type 0 where
   pub level_same : new.level ≡ old.level
   pub section_same : new.section ≡ old.section
 
--- where nothing is written, all words are
 pub same_beside : (w : Words) → IsBesideTree w w
 same_beside w = assumption
 
 -- where such a word is written
 pub write_beside : (w : Words) (word : WordName) (n : ℕ) → is_call_word word ≡ true → IsBesideTree w (put w word n)
-write_beside w Umount n h = assumption
-write_beside w Used n h = assumption
-write_beside w Removed n h = assumption
-write_beside w (Node x) n h = assumption
-write_beside w (Kids d) n h = assumption
+write_beside w WordName.Umount n h = assumption
+write_beside w WordName.Used n h = assumption
+write_beside w WordName.Removed n h = assumption
+write_beside w (WordName.Node x) n h = assumption
+write_beside w (WordName.Kids d) n h = assumption
 write_beside w word n h = absurd (true≢false (sym h))
 
 -- and where a word is loaded
 pub load_beside : (w : Words) (word : WordName) (touch : Touch) → is_load touch ≡ true → IsBesideTree w (put w word (left touch (read w word)))
-load_beside w word Load h = subst (IsBesideTree w) (sym (load_same w word)) (same_beside w)
+load_beside w word Touch.Load h = subst (IsBesideTree w) (sym (load_same w word)) (same_beside w)
 load_beside w word touch h = absurd (true≢false (sym h))
 
--- so they are after each event of a call
-pub call_beside : (w : Words) (x : TreePhase) (hook : HookAnswer) → IsBesideTree w (words_after w (Trees x) hook)
-call_beside w x hook =
-    elim (call_touch x hook) [
-      | inl h ↦ load_beside w (next x hook).0 (next x hook).1 h
-      | inr h ↦ write_beside w (next x hook).0 (left (next x hook).1 (read w (next x hook).0)) h
+-- so they are after each event that loads a word, or writes such a one
+pub touch_beside : (w : Words) (x : WordName × Touch) → IsCallTouch x → IsBesideTree w (put w x.0 (left x.1 (read w x.0)))
+touch_beside w x touches =
+    elim touches [
+      | inl h ↦ load_beside w x.0 x.1 h
+      | inr h ↦ write_beside w x.0 (left x.1 (read w x.0)) h
     ]
 
 -- and the file system is frozen as a whole, and the tree sealed, as before
@@ -224,30 +161,30 @@ bare_beside old new same = λ j. bare_by (same.remount_same j) (same.sb_same j)
 
 -- a write of such a word counts at no mount and at no level
 added_call : (word : WordName) (touch : Touch) (added : ℕ → ℕ → ℕ) → is_call_word word ≡ true → added_after word touch added ≡ added
-added_call (MountCount m p) touch added h = absurd (true≢false (sym h))
+added_call (WordName.MountCount m p) touch added h = absurd (true≢false (sym h))
 added_call word touch added h = refl
 
 taken_call : (word : WordName) (touch : Touch) (taken : ℕ → ℕ → ℕ) → is_call_word word ≡ true → taken_after word touch taken ≡ taken
-taken_call (MountCount m p) touch taken h = absurd (true≢false (sym h))
+taken_call (WordName.MountCount m p) touch taken h = absurd (true≢false (sym h))
 taken_call word touch taken h = refl
 
 level_added_call : (word : WordName) (touch : Touch) (added : ℕ → ℕ → ℕ) → is_call_word word ≡ true →
     level_added_after word touch added ≡ added
-level_added_call (LevelCount i p) touch added h = absurd (true≢false (sym h))
+level_added_call (WordName.LevelCount i p) touch added h = absurd (true≢false (sym h))
 level_added_call word touch added h = refl
 
 level_taken_call : (word : WordName) (touch : Touch) (taken : ℕ → ℕ → ℕ) → is_call_word word ≡ true →
     level_taken_after word touch taken ≡ taken
-level_taken_call (LevelCount i p) touch taken h = absurd (true≢false (sym h))
+level_taken_call (WordName.LevelCount i p) touch taken h = absurd (true≢false (sym h))
 level_taken_call word touch taken h = refl
 
 -- nor does a load
 added_loaded : (word : WordName) (touch : Touch) (added : ℕ → ℕ → ℕ) → is_load touch ≡ true → added_after word touch added ≡ added
-added_loaded word Load added h = added_load word added
+added_loaded word Touch.Load added h = added_load word added
 added_loaded word touch added h = absurd (true≢false (sym h))
 
 taken_loaded : (word : WordName) (touch : Touch) (taken : ℕ → ℕ → ℕ) → is_load touch ≡ true → taken_after word touch taken ≡ taken
-taken_loaded word Load taken h = taken_load word taken
+taken_loaded word Touch.Load taken h = taken_load word taken
 taken_loaded word touch taken h = absurd (true≢false (sym h))
 
 -- so no event of a call counts anywhere
@@ -257,7 +194,6 @@ pub record CountsNowhere (x : WordName × Touch) : Type 0 where
   pub level_added : (a : ℕ → ℕ → ℕ) → level_added_after x.0 x.1 a ≡ a
   pub level_taken : (a : ℕ → ℕ → ℕ) → level_taken_after x.0 x.1 a ≡ a
 
--- each such touch counts nowhere
 pub counts_nowhere : (x : WordName × Touch) → IsCallTouch x → CountsNowhere x
 counts_nowhere x touches = elim touches [
   | inl h ↦ record {
@@ -279,30 +215,28 @@ pub record LeavesAccesses (action : Option Action) : Type 0 where
   pub mounts : (held : ℕ → ℕ) → mounts_by action held ≡ held
   pub levels : (held : ℕ → Bool) → levels_by action held ≡ held
 
--- where there is none
 pub leaves_none : LeavesAccesses None
 leaves_none = record { mounts = λ held. refl; levels = λ held. refl }
 
--- where there is one that does, or none
 pub leaves_if : (b : Bool) (action : Action) → LeavesAccesses (Some action) → LeavesAccesses (if b then Some action else None)
 leaves_if true action h = h
 leaves_if false action h = leaves_none
 
 create_leaves : (x : Create) (s : CreateStep) (found : ℕ) → LeavesAccesses (create_after x s found).1
-create_leaves x (TakesNode n) found = leaves_if (found == 0) _ (record { mounts = λ held. refl; levels = λ held. refl })
+create_leaves x (CreateStep.TakesNode n) found = leaves_if (found == 0) _ (record { mounts = λ held. refl; levels = λ held. refl })
 create_leaves x other found = leaves_none
 
 remove_leaves : (x : Remove) (s : RemoveStep) (found : ℕ) → LeavesAccesses (remove_after x s found).1
-remove_leaves x (FreesNode file) found = leaves_if (found == word_of file) _ (record { mounts = λ held. refl; levels = λ held. refl })
-remove_leaves x (MarksRemoved file) found = leaves_if (found == word_of file) _ (record { mounts = λ held. refl; levels = λ held. refl })
+remove_leaves x (RemoveStep.FreesNode file) found = leaves_if (found == word_of file) _ (record { mounts = λ held. refl; levels = λ held. refl })
+remove_leaves x (RemoveStep.MarksRemoved file) found = leaves_if (found == word_of file) _ (record { mounts = λ held. refl; levels = λ held. refl })
 remove_leaves x other found = leaves_none
 
 grow_leaves : (x : Grow) (s : GrowStep) (found : ℕ) → LeavesAccesses (grow_after x s found).1
-grow_leaves x (GrowsFile file) found = leaves_if (found == word_of file) _ (record { mounts = λ held. refl; levels = λ held. refl })
+grow_leaves x (GrowStep.GrowsFile file) found = leaves_if (found == word_of file) _ (record { mounts = λ held. refl; levels = λ held. refl })
 grow_leaves x other found = leaves_none
 
 move_leaves : (x : MoveTo) (s : MoveStep) (found : ℕ) → LeavesAccesses (move_after x s found).1
-move_leaves x (MovesFile file) found = leaves_if (found == word_of file) _ (record { mounts = λ held. refl; levels = λ held. refl })
+move_leaves x (MoveStep.MovesFile file) found = leaves_if (found == word_of file) _ (record { mounts = λ held. refl; levels = λ held. refl })
 move_leaves x other found = leaves_none
 
 done_leaves : (dirty : Bool) (file : ℕ) → LeavesAccesses (Some (mark_done dirty file))
@@ -310,81 +244,80 @@ done_leaves true file = record { mounts = λ held. refl; levels = λ held. refl 
 done_leaves false file = record { mounts = λ held. refl; levels = λ held. refl }
 
 mark_leaves : (x : Mark) (s : MarkStep) (found : ℕ) → LeavesAccesses (mark_after x s found).1
-mark_leaves x LoadsFileToMark found = leaves_none
-mark_leaves x (MarksFile file) found = leaves_if (found == word_of file) _ (done_leaves x.dirty x.file)
+mark_leaves x MarkStep.LoadsFile found = leaves_none
+mark_leaves x (MarkStep.MarksFile file) found = leaves_if (found == word_of file) _ (done_leaves x.dirty x.file)
 
 open_leaves : (x : OpenFile) (s : OpenStep) (found : ℕ) → LeavesAccesses (open_after x s found).1
-open_leaves x LoadsFileToOpen found = leaves_none
-open_leaves x (OpensFile file) found = leaves_if (found == word_of file) _ (record { mounts = λ held. refl; levels = λ held. refl })
+open_leaves x OpenStep.LoadsFile found = leaves_none
+open_leaves x (OpenStep.OpensFile file) found = leaves_if (found == word_of file) _ (record { mounts = λ held. refl; levels = λ held. refl })
 
 snapshot_leaves : (x : Snapshot) (s : SnapshotStep) (found : ℕ) → LeavesAccesses (snapshot_after x s found).1
-snapshot_leaves x Locks found = leaves_none
+snapshot_leaves x SnapshotStep.Locks found = leaves_none
 snapshot_leaves x other found = leaves_none
 
 clear_leaves : (x : ClearMarks) (found : ℕ) → LeavesAccesses (clear_after x found).1
 clear_leaves x found = leaves_if (dirty_in found == 1) _ (record { mounts = λ held. refl; levels = λ held. refl })
 
--- so does the action of each event of a call
 pub call_leaves : (x : TreePhase) (found : ℕ) (hook : HookAnswer) → LeavesAccesses (after x found hook).1
-call_leaves (Creates x) found hook = create_leaves x x.step found
-call_leaves (Removes x) found hook = remove_leaves x x.step found
-call_leaves (Grows x) found hook = grow_leaves x x.step found
-call_leaves (Moves x) found hook = move_leaves x x.step found
-call_leaves (Marks x) found hook = mark_leaves x x.step found
-call_leaves (OpensOne x) found hook = open_leaves x x.step found
-call_leaves (Snapshots x) found hook = snapshot_leaves x x.step found
-call_leaves (Clears x) found hook = clear_leaves x found
+call_leaves (TreePhase.Create x) found hook = create_leaves x x.step found
+call_leaves (TreePhase.Remove x) found hook = remove_leaves x x.step found
+call_leaves (TreePhase.Grow x) found hook = grow_leaves x x.step found
+call_leaves (TreePhase.MoveTo x) found hook = move_leaves x x.step found
+call_leaves (TreePhase.Mark x) found hook = mark_leaves x x.step found
+call_leaves (TreePhase.OpenFile x) found hook = open_leaves x x.step found
+call_leaves (TreePhase.Snapshot x) found hook = snapshot_leaves x x.step found
+call_leaves (TreePhase.ClearMarks x) found hook = clear_leaves x found
 
 module _ (c : Config) (held : ℕ → ℕ) (levels : ℕ → Bool) where
   -- what comes after an event is a call at which its task may be
   abbrev pub AccessAfter : Next TreePhase → Type 0
-  AccessAfter (Go x) = TreeAccess c held levels x
-  AccessAfter (Wait x) = TreeAccess c held levels x
-  AccessAfter (Done answer) = Unit {0}
+  AccessAfter (Next.Go x) = TreeAccess c held levels x
+  AccessAfter (Next.Wait x) = TreeAccess c held levels x
+  AccessAfter (Next.Done answer) = Unit {0}
 
-  -- a phase of the same call
   comes_with : {P : Type 0} (to : P → TreePhase) → ((y : P) → TreeAccess c held levels (to y)) → (n : Next P) → AccessAfter (map_next to n)
-  comes_with to may (Go y) = may y
-  comes_with to may (Wait y) = may y
-  comes_with to may (Done answer) = tt
+  comes_with to may (Next.Go y) = may y
+  comes_with to may (Next.Wait y) = may y
+  comes_with to may (Next.Done answer) = tt
 
   -- after a look at a file
-  looked_with : {A : Type 0} (again : Mark) (from : A → Mark) → TreeAccess c held levels (Marks again) →
-      ((a : A) → TreeAccess c held levels (Marks (from a))) → (r : Option (Result A GateError)) →
-      AccessAfter (map_next Marks (after_look again from r))
+  looked_with : {A : Type 0} (again : Mark) (from : A → Mark) → TreeAccess c held levels (TreePhase.Mark again) →
+      ((a : A) → TreeAccess c held levels (TreePhase.Mark (from a))) → (r : Option (Result A GateError)) →
+      AccessAfter (map_next TreePhase.Mark (after_look again from r))
   looked_with again from may more None = may
   looked_with again from may more (Some (Ok a)) = more a
   looked_with again from may more (Some (Err refusal)) = tt
 
   -- after an event of a page fault or a write-back
-  mark_access : (x : Mark) (s : MarkStep) (found : ℕ) → TreeAccess c held levels (Marks x) →
-      AccessAfter (map_next Marks (mark_after x s found).0)
-  mark_access x LoadsFileToMark found may =
-      looked_with (at_mark x LoadsFileToMark) (λ file. at_mark x (MarksFile file)) may (λ file. may) (file_in found)
-  mark_access x (MarksFile file) found may =
-      by_bool (found == word_of file) (λ b. AccessAfter (map_next Marks (if b then Done (Ok UnitReply) else Done (Err Again)))) tt tt
+  mark_access : (x : Mark) (s : MarkStep) (found : ℕ) → TreeAccess c held levels (TreePhase.Mark x) →
+      AccessAfter (map_next TreePhase.Mark (mark_after x s found).0)
+  mark_access x MarkStep.LoadsFile found may =
+      looked_with (at_mark x MarkStep.LoadsFile) (λ file. at_mark x (MarkStep.MarksFile file)) may (λ file. may) (file_in found)
+  mark_access x (MarkStep.MarksFile file) found may =
+      by_bool (found == word_of file)
+      (λ b. AccessAfter (map_next TreePhase.Mark (if b then Next.Done (Ok Reply.Unit) else Next.Done (Err GateError.Again)))) tt tt
 
   -- a call keeps its task's accesses
   pub access_after : (x : TreePhase) (found : ℕ) (hook : HookAnswer) → TreeAccess c held levels x → AccessAfter (after x found hook).0
-  access_after (Creates x) found hook may = comes_with Creates (λ y. may) (create_after x x.step found).0
-  access_after (Removes x) found hook may = comes_with Removes (λ y. may) (remove_after x x.step found).0
-  access_after (Grows x) found hook may = comes_with Grows (λ y. may) (grow_after x x.step found).0
-  access_after (Moves x) found hook may = comes_with Moves (λ y. may) (move_after x x.step found).0
-  access_after (Marks x) found hook may = mark_access x x.step found may
-  access_after (OpensOne x) found hook may = comes_with OpensOne (λ y. tt) (open_after x x.step found).0
-  access_after (Snapshots x) found hook may = comes_with Snapshots (λ y. may) (snapshot_after x x.step found).0
-  access_after (Clears x) found hook may = absurd may
+  access_after (TreePhase.Create x) found hook may = comes_with TreePhase.Create (λ y. may) (create_after x x.step found).0
+  access_after (TreePhase.Remove x) found hook may = comes_with TreePhase.Remove (λ y. may) (remove_after x x.step found).0
+  access_after (TreePhase.Grow x) found hook may = comes_with TreePhase.Grow (λ y. may) (grow_after x x.step found).0
+  access_after (TreePhase.MoveTo x) found hook may = comes_with TreePhase.MoveTo (λ y. may) (move_after x x.step found).0
+  access_after (TreePhase.Mark x) found hook may = mark_access x x.step found may
+  access_after (TreePhase.OpenFile x) found hook may = comes_with TreePhase.OpenFile (λ y. tt) (open_after x x.step found).0
+  access_after (TreePhase.Snapshot x) found hook may = comes_with TreePhase.Snapshot (λ y. may) (snapshot_after x x.step found).0
+  access_after (TreePhase.ClearMarks x) found hook may = absurd may
 
   -- so what comes after it fits
   next_fits : (t : ℕ) (n : Next TreePhase) → NextFits (tree_bounds c) t n → AccessAfter n →
-      Fits c t held levels (phase_after (map_next Trees n))
-  next_fits t (Go x) fits may = (fits, may)
-  next_fits t (Wait x) fits may = (fits, may)
-  next_fits t (Done answer) fits may = tt
+      Fits c t held levels (phase_after (map_next Phase.Trees n))
+  next_fits t (Next.Go x) fits may = (fits, may)
+  next_fits t (Next.Wait x) fits may = (fits, may)
+  next_fits t (Next.Done answer) fits may = tt
 
   pub call_goes_on : IsWithin c → (t : ℕ) (x : TreePhase) (found : ℕ) (hook : HookAnswer) →
       TreePhaseFits (tree_bounds c) t x × TreeAccess c held levels x →
-      Fits c t held levels (phase_after (map_next Trees (after x found hook).0))
+      Fits c t held levels (phase_after (map_next Phase.Trees (after x found hook).0))
   call_goes_on within t x found hook fits =
       next_fits t (after x found hook).0 (fits_after (tree_bounds c) (tree_within c within) t x found hook fits.0)
       (access_after x found hook fits.1)
@@ -393,12 +326,12 @@ module _ (c : Config) (held : ℕ → ℕ) (levels : ℕ → Bool) where
   pub call_goes : IsWithin c → (t : ℕ) (x : TreePhase) (found : ℕ) (hook : HookAnswer) →
       TreePhaseFits (tree_bounds c) t x × TreeAccess c held levels x →
       Fits c t (mounts_by (after x found hook).1 held) (levels_by (after x found hook).1 levels)
-      (phase_after (map_next Trees (after x found hook).0))
+      (phase_after (map_next Phase.Trees (after x found hook).0))
   call_goes within t x found hook fits =
       let leaves : LeavesAccesses (after x found hook).1 = call_leaves x found hook in
-      subst (λ k. Fits c t k (levels_by (after x found hook).1 levels) (phase_after (map_next Trees (after x found hook).0)))
+      subst (λ k. Fits c t k (levels_by (after x found hook).1 levels) (phase_after (map_next Phase.Trees (after x found hook).0)))
       (sym (leaves.mounts held))
-      (subst (λ k. Fits c t held k (phase_after (map_next Trees (after x found hook).0))) (sym (leaves.levels levels))
+      (subst (λ k. Fits c t held k (phase_after (map_next Phase.Trees (after x found hook).0))) (sym (leaves.levels levels))
       (call_goes_on within t x found hook fits))
 
 -- a phase that is at no mount, no level and no section, and closes no level
@@ -409,22 +342,18 @@ pub record IsOffGates (p : Option Phase) : Type 0 where
   pub remounts_none : remounts p ≡ 0
   pub unheld : holder_role_of p ≡ Apart
 
--- no operation is under way
 pub idle_off : IsOffGates None
 idle_off = assumption
 
--- a snapshot closes no level
 snapshot_closing : (i : ℕ) (s : SnapshotStep) → sums i (snapshot_stage_role s) ≡ 0
-snapshot_closing i Locks = refl
+snapshot_closing i SnapshotStep.Locks = refl
 snapshot_closing i other = refl
 
--- nor does another call
 tree_closing : (i : ℕ) (x : TreePhase) → sums i (tree_stage_role x) ≡ 0
-tree_closing i (Snapshots x) = snapshot_closing i x.step
+tree_closing i (TreePhase.Snapshot x) = snapshot_closing i x.step
 tree_closing i x = refl
 
--- a call at the tree is one
-pub call_off : (x : TreePhase) → IsOffGates (Some (Trees x))
+pub call_off : (x : TreePhase) → IsOffGates (Some (Phase.Trees x))
 call_off x = record {
   out_of_mounts = λ m. refl;
   off_levels = record { counts_not = λ i. refl; apart = λ i. refl; outside = refl };
@@ -433,11 +362,10 @@ call_off x = record {
   unheld = refl;
 }
 
--- and what comes after it
-pub next_off : (n : Next TreePhase) → IsOffGates (phase_after (map_next Trees n))
-next_off (Go x) = call_off x
-next_off (Wait x) = call_off x
-next_off (Done answer) = idle_off
+pub next_off : (n : Next TreePhase) → IsOffGates (phase_after (map_next Phase.Trees n))
+next_off (Next.Go x) = call_off x
+next_off (Next.Wait x) = call_off x
+next_off (Next.Done answer) = idle_off
 
 -- the parts that no event of a call touches
 abbrev pub is_gate_part : Part → Bool
@@ -448,7 +376,6 @@ is_gate_part (SyncAt i) = true
 is_gate_part Sections = true
 is_gate_part part = false
 
--- what they read of the words
 pub gate_words : (part : Part) → is_gate_part part ≡ true → (old new : Words) → IsBesideTree old new → SameWords old new part
 gate_words Holding h old new same = (same.stage_same, same.holders_same)
 gate_words (AtMount m) h old new same = (ap (λ f. f m) same.flags_same, same.remount_same, same.sb_same, ap (λ f. f m) same.count_same)
@@ -458,82 +385,78 @@ gate_words (SyncAt i) h old new same =
 gate_words Sections h old new same = same.section_same
 gate_words part h old new same = absurd (true≢false (sym h))
 
-module _ (c : Config) (w : World) (good : IsGood c w) (t : ℕ) (lt : t < c.tasks) (x : TreePhase) (hook : HookAnswer)
-    (e : (w.views t).phase ≡ Some (Trees x)) where
-  -- the words and the task's view after its next event, what the event finds, what comes after it, and its action
-  abbrev pub call_words : Words
-  call_words = words_after w.words (Trees x) hook
+-- an event at the tree, of whatever operation: it writes no other word but `umount`, and leaves its task's accesses
+pub record IsAtTree (w : World) (phase : Phase) (hook : HookAnswer) : Type 0 where
+  pub touches : IsCallTouch (next_of phase hook)
+  pub leaves : LeavesAccesses (after_of phase (found_at w.words phase hook) hook).1
+  pub off : IsOffGates (Some phase)
+  pub off_then : IsOffGates (phase_after (after_of phase (found_at w.words phase hook) hook).0)
 
-  abbrev pub call_view : View
-  call_view = view_after (w.views t) (Trees x) (value_at w.words (Trees x) hook) hook
+module _ (c : Config) (w : World) (good : IsGood c w) (t : ℕ) (lt : t < c.tasks) (phase : Phase) (hook : HookAnswer)
+    (e : (w.views t).phase ≡ Some phase) (at : IsAtTree w phase hook) where
+  -- the words and the task's view after it, and its action
+  abbrev pub words_then : Words
+  words_then = words_after w.words phase hook
 
-  abbrev pub call_found : ℕ
-  call_found = found_at w.words (Trees x) hook
+  abbrev pub view_then : View
+  view_then = view_after (w.views t) phase (value_at w.words phase hook) hook
 
-  abbrev pub call_next : Next TreePhase
-  call_next = (after x call_found hook).0
+  abbrev pub action_then : Option Action
+  action_then = (after_of phase (found_at w.words phase hook) hook).1
 
-  abbrev pub call_action : Option Action
-  call_action = (after x call_found hook).1
+  pub beside_then : IsBesideTree w.words words_then
+  beside_then = touch_beside w.words (next_of phase hook) at.touches
 
-  -- it holds what it held
-  pub held_still : held_at call_view ≡ held_at (w.views t)
-  held_still = mounts_of_after call_action (w.views t).actions ∙ (call_leaves x call_found hook).mounts (held_at (w.views t))
+  held_still : held_at view_then ≡ held_at (w.views t)
+  held_still = mounts_of_after action_then (w.views t).actions ∙ at.leaves.mounts (held_at (w.views t))
 
-  pub levels_still : holds_level call_view ≡ holds_level (w.views t)
-  levels_still = levels_of_after call_action (w.views t).actions ∙ (call_leaves x call_found hook).levels (holds_level (w.views t))
+  levels_still : holds_level view_then ≡ holds_level (w.views t)
+  levels_still = levels_of_after action_then (w.views t).actions ∙ at.leaves.levels (holds_level (w.views t))
 
-  -- what was at no gate is at none
+  opens_then : has_open view_then ≡ opens_by action_then (has_open (w.views t))
+  opens_then = opens_of_after action_then (w.views t).actions
+
   was_off : IsOffGates (w.views t).phase
-  was_off = subst IsOffGates (sym e) (call_off x)
-
-  now_off : IsOffGates call_view.phase
-  now_off = next_off call_next
+  was_off = subst IsOffGates (sym e) at.off
 
   -- what the parts of mounts, levels and sections read of the task's view is the same
-  gate_view : (part : Part) → is_gate_part part ≡ true → SameView (w.views t) call_view part
-  gate_view Holding h = now_off.unheld ∙ sym was_off.unheld
+  gate_view : (part : Part) → is_gate_part part ≡ true → SameView (w.views t) view_then part
+  gate_view Holding h = at.off_then.unheld ∙ sym was_off.unheld
   gate_view (AtMount m) h =
-      let none : CountsNowhere (next x hook) = counts_nowhere (next x hook) (call_touch x hook) in
+      let none : CountsNowhere (next_of phase hook) = counts_nowhere (next_of phase hook) at.touches in
       view_as (ap (λ f. f m) held_still) (ap (λ f. f m) (none.added (added_by (w.views t).events)))
-      (ap (λ f. f m) (none.taken (taken_by (w.views t).events))) (now_off.out_of_mounts m ∙ sym (was_off.out_of_mounts m))
+      (ap (λ f. f m) (none.taken (taken_by (w.views t).events))) (at.off_then.out_of_mounts m ∙ sym (was_off.out_of_mounts m))
   gate_view (AtLevel i) h =
-      let none : CountsNowhere (next x hook) = counts_nowhere (next x hook) (call_touch x hook) in
+      let none : CountsNowhere (next_of phase hook) = counts_nowhere (next_of phase hook) at.touches in
       level_view_as (ap (λ (f : ℕ → Bool). if f i then 1 else 0) levels_still)
       (ap (λ f. f i) (none.level_added (level_added_by (w.views t).events)))
       (ap (λ f. f i) (none.level_taken (level_taken_by (w.views t).events)))
-      (now_off.off_levels.counts_not i ∙ sym (was_off.off_levels.counts_not i))
-  gate_view (SyncAt i) h = now_off.off_levels.apart i ∙ sym (was_off.off_levels.apart i)
-  gate_view Sections h = now_off.off_levels.outside ∙ sym was_off.off_levels.outside
+      (at.off_then.off_levels.counts_not i ∙ sym (was_off.off_levels.counts_not i))
+  gate_view (SyncAt i) h = at.off_then.off_levels.apart i ∙ sym (was_off.off_levels.apart i)
+  gate_view Sections h = at.off_then.off_levels.outside ∙ sym was_off.off_levels.outside
   gate_view part h = absurd (true≢false (sym h))
 
-  -- so the event leaves them alone
-  pub gate_parts : (part : Part) → is_gate_part part ≡ true → Holds c (after_step w t (Trees x) hook) part
-  gate_parts part h =
-      left_alone c w t lt part call_words call_view (gate_words part h w.words call_words (call_beside w.words x hook)) (gate_view part h)
-      (good part)
+  pub gate_parts : (part : Part) → is_gate_part part ≡ true → Holds c (after_step w t phase hook) part
+  gate_parts part h = left_alone c w t lt part words_then view_then (gate_words part h w.words words_then beside_then) (gate_view part h) (good part)
 
-  -- what comes after the event fits its task's accesses
-  pub call_fitting : IsWithin c → Holds c (after_step w t (Trees x) hook) Fitting
-  call_fitting within y ly =
-      each_updated (λ z (u : View). ViewFits c z u) w.views t call_view y
-      (subst (λ k. Fits c t k (holds_level call_view) call_view.phase) (sym held_still)
-      (subst (λ k. Fits c t (held_at (w.views t)) k call_view.phase) (sym levels_still)
-      (call_goes_on c (held_at (w.views t)) (holds_level (w.views t)) within t x call_found hook (call_fits c w good t lt x e))))
+  -- what comes after the event fits the accesses that it leaves
+  pub fitting_then : Fits c t (mounts_by action_then (held_at (w.views t))) (levels_by action_then (holds_level (w.views t))) view_then.phase →
+      Holds c (after_step w t phase hook) Fitting
+  fitting_then fits y ly =
+      each_updated (λ z (u : View). ViewFits c z u) w.views t view_then y
+      (subst (λ k. Fits c t k (holds_level view_then) view_then.phase) (sym (mounts_of_after action_then (w.views t).actions))
+      (subst (λ k. Fits c t (mounts_by action_then (held_at (w.views t))) k view_then.phase)
+      (sym (levels_of_after action_then (w.views t).actions)) fits))
       (λ ne. good Fitting y ly)
 
-  -- which files the task has open then
-  pub opens_then : has_open call_view ≡ opens_by call_action (has_open (w.views t))
-  opens_then = opens_of_after call_action (w.views t).actions
-
   -- the shown model is as it was but for the tree and the task's open files
-  pub call_shown : shown c (after_step w t (Trees x) hook) ≡ record (shown c w) {
-    opens = update (shown c w).opens t (opens_by call_action ((shown c w).opens t));
-    tree = λ n. node_shown (call_words.node n);
+  shown_then : shown c (after_step w t phase hook) ≡ record (shown c w) {
+    opens = update (shown c w).opens t (opens_by action_then ((shown c w).opens t));
+    tree = λ n. node_shown (words_then.node n);
   }
-  call_shown =
-      let same : IsBesideTree w.words call_words = call_beside w.words x hook in
-      shown_as c w t lt call_words call_view same.block_same (λ i. now_off.closing_none i ∙ sym (was_off.closing_none i)) ∙
+  shown_then =
+      let same : IsBesideTree w.words words_then = beside_then in
+      shown_as c w t lt words_then view_then same.block_same (λ i. at.off_then.closing_none i ∙ sym (was_off.closing_none i)) ∙
       (λ j. record (shown c w) {
         mounts = (ap (update (λ y. held_at (w.views y)) t) held_still ∙ update_same (λ y. held_at (w.views y)) t) j;
         levels = (ap (update (λ y. holds_level (w.views y)) t) levels_still ∙ update_same (λ y. holds_level (w.views y)) t) j;
@@ -542,22 +465,22 @@ module _ (c : Config) (w : World) (good : IsGood c w) (t : ℕ) (lt : t < c.task
         sb_ro = same.remount_same j == 1 || same.sb_same j == 1;
         stage = same.stage_same j;
         holders = holders_in (same.holders_same j);
-        tree = λ n. node_shown (call_words.node n);
+        tree = λ n. node_shown (words_then.node n);
       })
 
   -- so where the nodes that are shown move by the event's action, the model does
-  shown_moves : (action : Option Action) → call_action ≡ action → LeaveFor c w good t lt action →
-      MovesBy (tree_bounds c) w.words.node call_words.node action →
-      ModelMoves c (shown c w) t action (shown c (after_step w t (Trees x) hook))
+  pub shown_moves : (action : Option Action) → action_then ≡ action → LeaveFor c w good t lt action →
+      MovesBy (tree_bounds c) w.words.node words_then.node action →
+      ModelMoves c (shown c w) t action (shown c (after_step w t phase hook))
   shown_moves None is leave moves =
-      call_shown ∙
+      shown_then ∙
       (λ j. record (shown c w) {
         opens = (ap (λ a. update (shown c w).opens t (opens_by a ((shown c w).opens t))) is ∙ update_same (shown c w).opens t) j;
         tree = moves.0 j;
       })
   shown_moves (Some action) is leave moves = (
     (lt, may_do (model_limits c) (shown c w) t action leave moves.allowed),
-    call_shown ∙
+    shown_then ∙
         (λ j. record (shown c w) {
           opens = ap (λ a. update (shown c w).opens t (opens_by a ((shown c w).opens t))) is j;
           tree = (moves.effect ∙ same_counts (tree_bounds c) (opens_shown w.words.node) (openers (shown c w).opens) (shown c w).tree action
@@ -566,41 +489,82 @@ module _ (c : Config) (w : World) (good : IsGood c w) (t : ℕ) (lt : t < c.task
   )
 
   -- the files of the world then: as many tasks have each open as its word says
-  pub call_files : MovesBy (tree_bounds c) w.words.node call_words.node call_action → IsWithin c → Holds c (after_step w t (Trees x) hook) Files
-  call_files moves within = record {
+  pub files_then : IsWithin c → LeaveFor c w good t lt action_then → MovesBy (tree_bounds c) w.words.node words_then.node action_then →
+      HasFile (opens_by action_then (has_open (w.views t))) (file_of view_then.phase) → Holds c (after_step w t phase hook) Files
+  files_then within leave moves has = record {
     counted = λ n ln.
-        files_counted (model_limits c) (shown c w) t (omega (arith, lt, within.tasks, most_tasks_is)) w.words.node call_words.node call_action
-        (leave c w good t lt x call_found hook e) moves (good Files).counted n ln ∙
-        sym (ap (λ f. openers f n) (update_map has_open w.views t call_view ∙ ap (update (λ y. has_open (w.views y)) t) opens_then));
-    own = λ y ly. each_updated (λ z (u : View). HasFile (has_open u) (file_of u.phase)) w.views t call_view y
-        (subst (λ f. HasFile f (file_of call_view.phase)) (sym opens_then)
-        (file_then (has_open (w.views t)) x call_found hook (subst (λ p. HasFile (has_open (w.views t)) (file_of p)) e ((good Files).own t lt))))
+        files_counted (model_limits c) (shown c w) t (omega (arith, lt, within.tasks, most_tasks_is)) w.words.node words_then.node action_then
+        leave moves (good Files).counted n ln ∙
+        sym (ap (λ f. openers f n) (update_map has_open w.views t view_then ∙ ap (update (λ y. has_open (w.views y)) t) opens_then));
+    own = λ y ly. each_updated (λ z (u : View). HasFile (has_open u) (file_of u.phase)) w.views t view_then y
+        (subst (λ f. HasFile f (file_of view_then.phase)) (sym opens_then) has)
         (λ ne. (good Files).own y ly);
   }
+
+  -- what holds of the tree with the task's new role, by its words then
+  pub tree_then : (role : Role) → role ≡ tree_role_of view_then.trace view_then.phase →
+      TreeHolds (tree_bounds c) (tree_in (is_sealed w.words) (is_bare_at w.words) words_then (update (tree_roles w) t role)) →
+      Holds c (after_step w t phase hook) Tree
+  tree_then role is kept =
+      let now_roles : ℕ → Role = update (tree_roles w) t (tree_role_of view_then.trace view_then.phase) in
+      tree_holds c w good t lt words_then view_then
+      (subst (λ s. TreeHolds (tree_bounds c) (tree_in s (is_bare_at words_then) words_then now_roles))
+      (sym (sealed_beside w.words words_then beside_then))
+      (subst (λ b. TreeHolds (tree_bounds c) (tree_in (is_sealed w.words) b words_then now_roles))
+      (sym (bare_beside w.words words_then beside_then))
+      (subst (λ r. TreeHolds (tree_bounds c) (tree_in (is_sealed w.words) (is_bare_at w.words) words_then (update (tree_roles w) t r))) is kept)))
+
+-- a call at the tree has such events alone
+pub call_at : (w : World) (x : TreePhase) (hook : HookAnswer) → IsAtTree w (Phase.Trees x) hook
+call_at w x hook = record {
+  touches = call_touch x hook;
+  leaves = call_leaves x (found_at w.words (Phase.Trees x) hook) hook;
+  off = call_off x;
+  off_then = next_off (after x (found_at w.words (Phase.Trees x) hook) hook).0;
+}
+
+module _ (c : Config) (within : IsWithin c) (w : World) (good : IsGood c w) (t : ℕ) (lt : t < c.tasks) (x : TreePhase) (hook : HookAnswer)
+    (e : (w.views t).phase ≡ Some (Phase.Trees x)) where
+  -- what the event finds, and what comes after it
+  abbrev pub call_found : ℕ
+  call_found = found_at w.words (Phase.Trees x) hook
+
+  abbrev pub call_next : Next TreePhase
+  call_next = (after x call_found hook).0
+
+  abbrev pub call_words : Words
+  call_words = words_after w.words (Phase.Trees x) hook
+
+  abbrev pub call_view : View
+  call_view = view_after (w.views t) (Phase.Trees x) (value_at w.words (Phase.Trees x) hook) hook
+
+  pub call_parts : (part : Part) → is_gate_part part ≡ true → Holds c (after_step w t (Phase.Trees x) hook) part
+  call_parts = gate_parts c w good t lt (Phase.Trees x) hook e (call_at w x hook)
+
+  pub call_fitting : Holds c (after_step w t (Phase.Trees x) hook) Fitting
+  call_fitting =
+      fitting_then c w good t lt (Phase.Trees x) hook e (call_at w x hook)
+      (call_goes c (held_at (w.views t)) (holds_level (w.views t)) within t x call_found hook (call_fits c w good t lt x e))
 
   -- what the tree's own law says of the event, where a snapshot has noted this after it
   abbrev pub TreeKeeps : Type 0
   TreeKeeps =
-      Holds c (after_step w t (Trees x) hook) Tree × MovesBy (tree_bounds c) w.words.node call_words.node call_action
+      Holds c (after_step w t (Phase.Trees x) hook) Tree × MovesBy (tree_bounds c) w.words.node call_words.node (after x call_found hook).1
 
-  pub call_keeps : IsWithin c → (noted : ℕ → ℕ) → Notes x (values_noted (nodes_noted x) (w.views t).trace) noted call_found →
+  pub call_keeps : (noted : ℕ → ℕ) → Notes x (values_noted (nodes_noted x) (w.views t).trace) noted call_found →
       role_after (phase_role noted) call_next ≡ tree_role_of call_view.trace call_view.phase → TreeKeeps
-  call_keeps within noted notes role =
+  call_keeps noted notes role =
       let kept : StepKeeps (tree_bounds c) (is_sealed w.words) (is_bare_at w.words) w.words (tree_roles w) t x noted hook =
       each_phase (tree_bounds c) (tree_within c within) (is_sealed w.words) (is_bare_at w.words) w.words (tree_roles w) (good Tree) t lt x
       (values_noted (nodes_noted x) (w.views t).trace) noted hook (ap (tree_role_of (w.views t).trace) e) (call_fits c w good t lt x e).0
       (may_step c w good t lt x e) notes in
-      let now_roles : ℕ → Role = update (tree_roles w) t (tree_role_of call_view.trace call_view.phase) in (
-        tree_holds c w good t lt call_words call_view
-            (subst (λ s. TreeHolds (tree_bounds c) (tree_in s (is_bare_at call_words) call_words now_roles))
-            (sym (sealed_beside w.words call_words (call_beside w.words x hook)))
-            (subst (λ b. TreeHolds (tree_bounds c) (tree_in (is_sealed w.words) b call_words now_roles))
-            (sym (bare_beside w.words call_words (call_beside w.words x hook)))
-            (subst (λ r. TreeHolds (tree_bounds c) (tree_in (is_sealed w.words) (is_bare_at w.words) call_words (update (tree_roles w) t r)))
-            role kept.0))),
-        kept.1,
-      )
+      (tree_then c w good t lt (Phase.Trees x) hook e (call_at w x hook) (role_after (phase_role noted) call_next) role kept.0, kept.1)
 
-  -- so the shown model moves by the event's action
-  pub call_moves : TreeKeeps → ModelMoves c (shown c w) t call_action (shown c (after_step w t (Trees x) hook))
-  call_moves kept = shown_moves call_action refl (leave c w good t lt x call_found hook e) kept.1
+  pub call_files : TreeKeeps → Holds c (after_step w t (Phase.Trees x) hook) Files
+  call_files kept =
+      files_then c w good t lt (Phase.Trees x) hook e (call_at w x hook) within (leave c w good t lt x call_found hook e) kept.1
+      (file_then (has_open (w.views t)) x call_found hook (subst (λ p. HasFile (has_open (w.views t)) (file_of p)) e ((good Files).own t lt)))
+
+  pub call_moves : TreeKeeps → ModelMoves c (shown c w) t (after x call_found hook).1 (shown c (after_step w t (Phase.Trees x) hook))
+  call_moves kept =
+      shown_moves c w good t lt (Phase.Trees x) hook e (call_at w x hook) (after x call_found hook).1 refl (leave c w good t lt x call_found hook e) kept.1

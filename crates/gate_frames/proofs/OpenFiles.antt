@@ -1,44 +1,28 @@
 -- How many tasks have each file open, after an action of one of them.
-use Rattle.std.proofs.Common.{◌≡◌, ℕ, ◌+◌, ◌-◌, ◌<◌, Bool, true, false, refl, sym, ap, ◌∙◌, subst, inl, inr, arith}
+use Rattle.std.proofs.{Common.{◌≡◌, ℕ, ◌+◌, ◌-◌, ◌<◌, Bool, true, false, refl, sym, ap, ◌∙◌, subst, inl, inr, arith}, lemmas.Bool.Decides.eqb_tells}
 use Rattle.std.specs.Prelude.{Option, Some, None, Result, Ok, Err, nat_lt}
-use Rattle.std.proofs.lemmas.Bool.Decides.{eqb_tells}
-use Rattle.finite_sums.specs.Sums.{update}
-use Rattle.finite_sums.proofs.Totals.{update_at, update_off, update_same, total_updated}
-use Rattle.access_model.specs.declared.actions.Action.{Action}
-use Rattle.access_model.specs.declared.actions.Action.TheVariants.{Create, Remove, Grow, MoveTo, Dirty, Clean, Open, Close}
-use Rattle.access_model.specs.declared.actions.NodeInfo.{NodeInfo}
-use Rattle.access_model.specs.declared.errors.GateError.{GateError}
-use Rattle.access_model.specs.declared.replies.Next.{Next}
-use Rattle.access_model.specs.declared.replies.Next.TheVariants.{Go, Wait, Done}
-use Rattle.access_model.specs.Replies.{map_next}
-use Rattle.access_model.specs.States.{Limits, State, one_if, most_tasks, openers}
-use Rattle.access_model.specs.Actions.{tree_after, after_remove, after_close}
+use Rattle.finite_sums.{proofs.Totals.{update_at, update_off, update_same, total_updated}, specs.Sums.update}
+use Rattle.access_model.specs.{Actions.{tree_after, after_remove, after_close}, Replies.map_next, States.{Limits, State, one_if, most_tasks, openers}}
+use Rattle.access_model.specs.declared.{actions.{Action.Action, NodeInfo.NodeInfo}, errors.GateError.GateError, replies.Next.Next}
 use Rattle.cpu_words.specs.Hooks.{HookAnswer}
-use Rattle.gated_tree.specs.declared.nodes.NodeWord.{NodeWord}
-use Rattle.gated_tree.specs.declared.phases.TreePhase.{TreePhase}
-use Rattle.gated_tree.specs.declared.phases.TreePhase.TheVariants.{Create as Creates, Remove as Removes, Grow as Grows, MoveTo as Moves, Mark as Marks, OpenFile as OpensOne, Snapshot as Snapshots, ClearMarks as Clears}
-use Rattle.gated_tree.specs.declared.opens.OpenFile.{OpenFile}
-use Rattle.gated_tree.specs.declared.opens.OpenStep.{OpenStep}
-use Rattle.gated_tree.specs.declared.opens.OpenStep.TheVariants.{LoadsFile as LoadsFileToOpen, OpensFile}
 use Rattle.gated_tree.specs.Nodes.{opens_in, word_of, file_in}
-use Rattle.gated_tree.specs.Phases.{after, after_look, at_open, opens_from, open_after, create_after, remove_after, grow_after, move_after, mark_after, snapshot_after, clear_after}
-use Rattle.gated_tree.specs.Roles.{Bounds}
+use Rattle.gated_tree.specs.Phases.{after, after_look, at_open, opens_from, open_after, create_after, remove_after, grow_after, move_after, mark_after}
+use Rattle.gated_tree.specs.Phases.{snapshot_after, clear_after}
+use Rattle.gated_tree.specs.{Roles.Bounds, declared.{nodes.NodeWord.NodeWord, opens.{OpenFile.OpenFile, OpenStep.OpenStep}, phases.TreePhase.TreePhase}}
 use Rattle.tree_laws.specs.Events.{TreeAllows, MovesBy, HasLeave, opens_shown, bounds_of}
-use Rattle.gate_world.specs.declared.work.Phase.TheVariants.{Trees}
-use Rattle.gate_world.specs.Fits.{HasFile, file_of, opens_by}
-use Rattle.gate_world.specs.Views.{phase_after}
+use Rattle.gate_world.specs.{Fits.{HasFile, file_of, opens_by}, Views.phase_after, declared.work.Phase.Phase}
 
 -- an action's effect on the tree asks only how many tasks have its own node open
 pub same_counts : (c : Bounds) (f g : ℕ → ℕ) (tree : ℕ → Option NodeInfo) (action : Action) → TreeAllows c tree action →
     ((n : ℕ) → n < c.nodes → f n ≡ g n) → tree_after action f tree ≡ tree_after action g tree
-same_counts c f g tree (Create n d kind) allows same = refl
-same_counts c f g tree (Remove n) allows same = ap (λ k. update tree n (after_remove k (tree n))) (same n allows.0)
-same_counts c f g tree (Grow n b) allows same = refl
-same_counts c f g tree (MoveTo n d) allows same = refl
-same_counts c f g tree (Dirty n) allows same = refl
-same_counts c f g tree (Clean n) allows same = refl
-same_counts c f g tree (Open n) allows same = refl
-same_counts c f g tree (Close n) allows same = ap (λ k. update tree n (after_close k (tree n))) (same n allows)
+same_counts c f g tree (Action.Create n d kind) allows same = refl
+same_counts c f g tree (Action.Remove n) allows same = ap (λ k. update tree n (after_remove k (tree n))) (same n allows.0)
+same_counts c f g tree (Action.Grow n b) allows same = refl
+same_counts c f g tree (Action.MoveTo n d) allows same = refl
+same_counts c f g tree (Action.Dirty n) allows same = refl
+same_counts c f g tree (Action.Clean n) allows same = refl
+same_counts c f g tree (Action.Open n) allows same = refl
+same_counts c f g tree (Action.Close n) allows same = ap (λ k. update tree n (after_close k (tree n))) (same n allows)
 same_counts c f g tree _ allows same = absurd allows
 
 -- how many tasks have a file open, where one task has it open or not
@@ -110,49 +94,49 @@ module _ (l : Limits) (s : State) (t : ℕ) (lt : t < most_tasks) (node node' : 
   pub files_counted : (action : Option Action) → LeaveToDo l s t action → MovesBy (bounds_of l) node node' action → AreCounted →
       (n : ℕ) → n < l.nodes → opens_in (node' n) ≡ openers (update s.opens t (opens_by action (s.opens t))) n
   files_counted None leave moves counted n ln = stays_counted moves.1 counted n ln
-  files_counted (Some (Open k)) leave moves counted n ln =
+  files_counted (Some (Action.Open k)) leave moves counted n ln =
       one_counted k (opens_shown node k + 1) true moves.opens n ln counted (openers s.opens k + 1)
       (ap (λ x. x + 1) (counted k moves.allowed.0)) (more_open s.opens t lt k n leave)
-  files_counted (Some (Close k)) leave moves counted n ln =
+  files_counted (Some (Action.Close k)) leave moves counted n ln =
       one_counted k (opens_shown node k - 1) false moves.opens n ln counted (openers s.opens k - 1)
       (ap (λ x. x - 1) (counted k moves.allowed)) (fewer_open s.opens t lt k n leave.0)
-  files_counted (Some (Create k d kind)) leave moves counted n ln = stays_counted moves.opens counted n ln
-  files_counted (Some (Remove k)) leave moves counted n ln = stays_counted moves.opens counted n ln
-  files_counted (Some (Grow k b)) leave moves counted n ln = stays_counted moves.opens counted n ln
-  files_counted (Some (MoveTo k d)) leave moves counted n ln = stays_counted moves.opens counted n ln
-  files_counted (Some (Dirty k)) leave moves counted n ln = stays_counted moves.opens counted n ln
-  files_counted (Some (Clean k)) leave moves counted n ln = stays_counted moves.opens counted n ln
+  files_counted (Some (Action.Create k d kind)) leave moves counted n ln = stays_counted moves.opens counted n ln
+  files_counted (Some (Action.Remove k)) leave moves counted n ln = stays_counted moves.opens counted n ln
+  files_counted (Some (Action.Grow k b)) leave moves counted n ln = stays_counted moves.opens counted n ln
+  files_counted (Some (Action.MoveTo k d)) leave moves counted n ln = stays_counted moves.opens counted n ln
+  files_counted (Some (Action.Dirty k)) leave moves counted n ln = stays_counted moves.opens counted n ln
+  files_counted (Some (Action.Clean k)) leave moves counted n ln = stays_counted moves.opens counted n ln
   files_counted (Some action) leave moves counted n ln = absurd leave
 
 -- a call but an open relies on no file
-no_file : {P : Type 0} (to : P → TreePhase) → ((y : P) → file_of (Some (Trees (to y))) ≡ None) → (files : ℕ → Bool) (n : Next P) →
-    HasFile files (file_of (phase_after (map_next Trees (map_next to n))))
-no_file to none files (Go y) = subst (HasFile files) (sym (none y)) tt
-no_file to none files (Wait y) = subst (HasFile files) (sym (none y)) tt
-no_file to none files (Done answer) = tt
+no_file : {P : Type 0} (to : P → TreePhase) → ((y : P) → file_of (Some (Phase.Trees (to y))) ≡ None) → (files : ℕ → Bool) (n : Next P) →
+    HasFile files (file_of (phase_after (map_next Phase.Trees (map_next to n))))
+no_file to none files (Next.Go y) = subst (HasFile files) (sym (none y)) tt
+no_file to none files (Next.Wait y) = subst (HasFile files) (sym (none y)) tt
+no_file to none files (Next.Done answer) = tt
 
 -- an open relies on that its task doesn't have its file open, until it has
 look_file : (x again : OpenFile) (to : NodeWord → OpenFile) (files : ℕ → Bool) (r : Option (Result NodeWord GateError)) →
     again.file ≡ x.file → ((node : NodeWord) → (to node).file ≡ x.file) → files x.file ≡ false →
-    HasFile files (file_of (phase_after (map_next Trees (map_next OpensOne (after_look again to r)))))
+    HasFile files (file_of (phase_after (map_next Phase.Trees (map_next TreePhase.OpenFile (after_look again to r)))))
 look_file x again to files None same on own = ap files same ∙ own
 look_file x again to files (Some (Ok node)) same on own = ap files (on node) ∙ own
 look_file x again to files (Some (Err refusal)) same on own = tt
 
 open_file : (files : ℕ → Bool) (x : OpenFile) (s : OpenStep) (found : ℕ) → files x.file ≡ false →
-    HasFile (opens_by (open_after x s found).1 files) (file_of (phase_after (map_next Trees (map_next OpensOne (open_after x s found).0))))
-open_file files x LoadsFileToOpen found own =
-    look_file x (at_open x LoadsFileToOpen) (λ file. at_open x (opens_from file (nat_lt file.opens 64))) files (file_in found) refl (λ node. refl) own
-open_file files x (OpensFile file) found own = elim (eqb_tells found (word_of file)) [ inl h ↦ rw h.0 tt | inr h ↦ rw h.0 tt ]
+    HasFile (opens_by (open_after x s found).1 files) (file_of (phase_after (map_next Phase.Trees (map_next TreePhase.OpenFile (open_after x s found).0))))
+open_file files x OpenStep.LoadsFile found own =
+    look_file x (at_open x OpenStep.LoadsFile) (λ file. at_open x (opens_from file (nat_lt file.opens 64))) files (file_in found) refl (λ node. refl) own
+open_file files x (OpenStep.OpensFile file) found own = elim (eqb_tells found (word_of file)) [ inl h ↦ rw h.0 tt | inr h ↦ rw h.0 tt ]
 
 -- so after an event of a call its task has open, or not, what the phase relies on
-pub file_then : (files : ℕ → Bool) (x : TreePhase) (found : ℕ) (hook : HookAnswer) → HasFile files (file_of (Some (Trees x))) →
-    HasFile (opens_by (after x found hook).1 files) (file_of (phase_after (map_next Trees (after x found hook).0)))
-file_then files (Creates x) found hook own = no_file Creates (λ y. refl) _ (create_after x x.step found).0
-file_then files (Removes x) found hook own = no_file Removes (λ y. refl) _ (remove_after x x.step found).0
-file_then files (Grows x) found hook own = no_file Grows (λ y. refl) _ (grow_after x x.step found).0
-file_then files (Moves x) found hook own = no_file Moves (λ y. refl) _ (move_after x x.step found).0
-file_then files (Marks x) found hook own = no_file Marks (λ y. refl) _ (mark_after x x.step found).0
-file_then files (OpensOne x) found hook own = open_file files x x.step found own
-file_then files (Snapshots x) found hook own = no_file Snapshots (λ y. refl) _ (snapshot_after x x.step found).0
-file_then files (Clears x) found hook own = no_file Clears (λ y. refl) _ (clear_after x found).0
+pub file_then : (files : ℕ → Bool) (x : TreePhase) (found : ℕ) (hook : HookAnswer) → HasFile files (file_of (Some (Phase.Trees x))) →
+    HasFile (opens_by (after x found hook).1 files) (file_of (phase_after (map_next Phase.Trees (after x found hook).0)))
+file_then files (TreePhase.Create x) found hook own = no_file TreePhase.Create (λ y. refl) _ (create_after x x.step found).0
+file_then files (TreePhase.Remove x) found hook own = no_file TreePhase.Remove (λ y. refl) _ (remove_after x x.step found).0
+file_then files (TreePhase.Grow x) found hook own = no_file TreePhase.Grow (λ y. refl) _ (grow_after x x.step found).0
+file_then files (TreePhase.MoveTo x) found hook own = no_file TreePhase.MoveTo (λ y. refl) _ (move_after x x.step found).0
+file_then files (TreePhase.Mark x) found hook own = no_file TreePhase.Mark (λ y. refl) _ (mark_after x x.step found).0
+file_then files (TreePhase.OpenFile x) found hook own = open_file files x x.step found own
+file_then files (TreePhase.Snapshot x) found hook own = no_file TreePhase.Snapshot (λ y. refl) _ (snapshot_after x x.step found).0
+file_then files (TreePhase.ClearMarks x) found hook own = no_file TreePhase.ClearMarks (λ y. refl) _ (clear_after x found).0

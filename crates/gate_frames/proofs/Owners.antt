@@ -1,66 +1,48 @@
 -- What every owner of `umount` may rely on, and its events: under the lock, on the word `umount`, and on a mount's flags.
-use Rattle.std.proofs.Common.{◌≡◌, ℕ, suc, ◌+◌, ◌<◌, ◌≤◌, Bool, true, false, refl, ap, ◌∙◌, inl, inr, arith, nat_lt}
+use Rattle.std.proofs.{Common.{◌≡◌, ℕ, suc, ◌+◌, ◌<◌, ◌≤◌, Bool, true, false, refl, ap, ◌∙◌, inl, inr, arith, nat_lt}, lemmas.Bool.Decides.eqb_tells}
 use Rattle.std.specs.Prelude.{◌-◌, ◌==◌, Option, Some, Ok, Err}
-use Rattle.std.proofs.lemmas.Bool.Decides.{eqb_tells}
-use Rattle.finite_sums.specs.Sums.{update, total}
 use Rattle.finite_sums.proofs.Totals.{update_at, update_off, update_map, update_same, each_updated, total_updated, total_none, HasPlace, total_place, total_at}
-use Rattle.cpu_words.specs.Words.{Words}
-use Rattle.mount_counts.specs.declared.phases.MountPhase.TheVariants.{Want as Wants, Change as Changes}
-use Rattle.mount_counts.specs.declared.phases.WantStep.TheVariants.{CountsUp}
-use Rattle.mount_counts.specs.declared.phases.WantStep.{WantStep}
-use Rattle.mount_counts.specs.declared.phases.ChangeStep.{ChangeStep}
-use Rattle.mount_counts.specs.declared.phases.ChangeStep.TheVariants.{Locks, ClearsHold}
-use Rattle.mount_counts.specs.Roles.{Role, has_hold, skips, ro_bit, hold_bit}
-use Rattle.gate_world.specs.declared.config.Config.{Config}
-use Rattle.gate_world.specs.declared.work.Phase.{Phase}
-use Rattle.gate_world.specs.declared.work.Phase.TheVariants.{Mounts, Remounts, Writes, Freezes, Thaws, Trees}
-use Rattle.write_access.specs.declared.phases.WritePhase.{WritePhase}
-use Rattle.write_access.specs.declared.phases.WritePhase.TheVariants.{Wants as WriteWants}
-use Rattle.gate_world.specs.declared.views.View.{View}
-use Rattle.gate_world.specs.Views.{held_at, holds_level, added_by, taken_by, has_open}
-use Rattle.gate_world.specs.Worlds.{World}
-use Rattle.gate_world.specs.Shown.{shown, closing}
-use Rattle.gate_world.specs.Waits.{IsWaitedFor, HasCulprit}
-use Rattle.gate_world.specs.Rules.{want_role, change_role, write_role, role_if, role_of, at_mount, change_owns, owns, remounts, IsSteady, OwnerHolds, ViewFits, IsGood, Owner, AtMount, GatesHold}
-use Rattle.gate_frames.proofs.Frames.{view_as, holds_as, MountHoldsAfter, owner_same, gates_after, shown_as, shown_still}
-use Rattle.mount_counts.specs.declared.remounts.RemountStep.{RemountStep}
-use Rattle.gate_world.specs.Remounts.{loop_role, held_role, giving_role, remount_owns, summing_role, remount_role, remount_sets}
-use Rattle.cpu_words.specs.declared.sums.Sum.{Sum}
-use Rattle.mount_counts.specs.declared.remounts.RemountStep.TheVariants.{LoadsFlags as RemountLoads, SetsHold as RemountHolds, Sums as RemountSums, LoadsRemovedAgain, LeavesHolds, SetsRemount, ClearsHold as RemountClears, GivesUp, Locks as RemountLocks}
-use Rattle.mount_counts.specs.Sets.{has_mount}
+use Rattle.finite_sums.specs.Sums.{update, total}
+use Rattle.cpu_words.specs.{Words.Words, declared.sums.Sum.Sum}
+use Rattle.mount_counts.specs.{Roles.{Role, has_hold, skips, ro_bit, hold_bit}, Sets.has_mount}
+use Rattle.mount_counts.specs.declared.{phases.{ChangeStep.ChangeStep, MountPhase.MountPhase, WantStep.WantStep}, remounts.RemountStep.RemountStep}
 use Rattle.stage_laws.proofs.Facts.{owns_le as stage_owns_le}
-use Rattle.gate_world.specs.Stages.{freeze_stage_role, thaw_stage_role, tree_stage_role}
+use Rattle.write_access.specs.declared.phases.WritePhase.{WritePhase}
+use Rattle.gate_world.specs.Remounts.{loop_role, held_role, giving_role, remount_owns, summing_role, remount_role, remount_sets}
+use Rattle.gate_world.specs.Rules.{want_role, change_role, write_role, role_if, role_of, at_mount, change_owns, owns, remounts, IsSteady, OwnerHolds, ViewFits}
+use Rattle.gate_world.specs.Rules.{IsGood, Owner, AtMount, GatesHold}
+use Rattle.gate_world.specs.{Shown.{shown, closing}, Stages.{freeze_stage_role, thaw_stage_role, tree_stage_role}}
+use Rattle.gate_world.specs.{Views.{held_at, holds_level, added_by, taken_by, has_open}, Waits.{IsWaitedFor, HasCulprit}, Worlds.World}
+use Rattle.gate_world.specs.declared.{config.Config.Config, views.View.View, work.Phase.Phase}
+use Rattle.gate_frames.proofs.Frames.{view_as, holds_as, MountHoldsAfter, owner_same, gates_after, shown_as, shown_still}
 
 change_owns_le : (s : ChangeStep) → change_owns s ≤ 1
-change_owns_le Locks = omega arith
+change_owns_le ChangeStep.Locks = omega arith
 change_owns_le step = omega arith
 
 remount_owns_le : (s : RemountStep) → remount_owns s ≤ 1
-remount_owns_le RemountLocks = omega arith
+remount_owns_le RemountStep.Locks = omega arith
 remount_owns_le step = omega arith
 
--- a task owns at most once
 pub owns_le : (p : Option Phase) → owns p ≤ 1
-owns_le (Some (Mounts (Changes x))) = change_owns_le x.step
-owns_le (Some (Remounts x)) = remount_owns_le x.step
-owns_le (Some (Freezes x)) = stage_owns_le (freeze_stage_role x.nodes x.step)
-owns_le (Some (Thaws x)) = stage_owns_le (thaw_stage_role x.step)
-owns_le (Some (Trees x)) = stage_owns_le (tree_stage_role x)
+owns_le (Some (Phase.Mounts (MountPhase.Change x))) = change_owns_le x.step
+owns_le (Some (Phase.Remounts x)) = remount_owns_le x.step
+owns_le (Some (Phase.Freezes x)) = stage_owns_le (freeze_stage_role x.nodes x.step)
+owns_le (Some (Phase.Thaws x)) = stage_owns_le (thaw_stage_role x.step)
+owns_le (Some (Phase.Trees x)) = stage_owns_le (tree_stage_role x)
 owns_le other = omega arith
 
--- a want has no hold flag set, and skips no mount
 want_hold : (p : ℕ) (s : WantStep) → has_hold (want_role p s) + skips (want_role p s) ≡ 0
-want_hold p CountsUp = refl
+want_hold p WantStep.CountsUp = refl
 want_hold p step = refl
 
 -- a change has one set only while it owns
 change_hold : (s : ChangeStep) → has_hold (change_role s) + skips (change_role s) ≤ change_owns s
-change_hold Locks = omega arith
-change_hold (ClearsHold (Ok answer)) = omega arith
-change_hold (ClearsHold (Err refusal)) = omega arith
+change_hold ChangeStep.Locks = omega arith
+change_hold (ChangeStep.ClearsHold (Ok answer)) = omega arith
+change_hold (ChangeStep.ClearsHold (Err refusal)) = omega arith
 change_hold step = omega arith
 
--- a role at one mount alone has no more
 hold_if : (b : Bool) (r : Role) → has_hold (role_if b r) + skips (role_if b r) ≤ has_hold r + skips r
 hold_if true r = omega arith
 hold_if false r = omega arith
@@ -88,42 +70,39 @@ giving_hold false false = omega arith
 
 -- a remount has one set, or skips, only while it owns
 remount_hold : (m : ℕ) (s : RemountStep) → has_hold (remount_role m s) + skips (remount_role m s) ≤ remount_owns s
-remount_hold m (RemountLoads at held) = loop_hold (has_mount held m) (nat_lt m at)
-remount_hold m (RemountHolds at held) = loop_hold (has_mount held m) (nat_lt m at)
-remount_hold m (RemountSums at held sum) =
+remount_hold m (RemountStep.LoadsFlags at held) = loop_hold (has_mount held m) (nat_lt m at)
+remount_hold m (RemountStep.SetsHold at held) = loop_hold (has_mount held m) (nat_lt m at)
+remount_hold m (RemountStep.Sums at held sum) =
     summing_hold (m == at) sum (loop_role (has_mount held m) (nat_lt m at)) (loop_hold (has_mount held m) (nat_lt m at))
-remount_hold m (LoadsRemovedAgain held) = loop_hold (has_mount held m) true
-remount_hold m (LeavesHolds held) = held_hold (has_mount held m)
-remount_hold m (SetsRemount held) = loop_hold (has_mount held m) true
-remount_hold m (RemountClears held) = held_hold (has_mount held m)
-remount_hold m (GivesUp at held) = giving_hold (m == at) (has_mount held m)
-remount_hold m RemountLocks = omega arith
+remount_hold m (RemountStep.LoadsRemovedAgain held) = loop_hold (has_mount held m) true
+remount_hold m (RemountStep.LeavesHolds held) = held_hold (has_mount held m)
+remount_hold m (RemountStep.SetsRemount held) = loop_hold (has_mount held m) true
+remount_hold m (RemountStep.ClearsHold held) = held_hold (has_mount held m)
+remount_hold m (RemountStep.GivesUp at held) = giving_hold (m == at) (has_mount held m)
+remount_hold m RemountStep.Locks = omega arith
 remount_hold m step = omega arith
 
--- nor has a write access
 write_hold : (m : ℕ) (x : WritePhase) → has_hold (write_role m x) + skips (write_role m x) ≡ 0
-write_hold m (WriteWants x) = omega (arith, hold_if (m == x.mount) (want_role x.cpu x.step), want_hold x.cpu x.step)
+write_hold m (WritePhase.Wants x) = omega (arith, hold_if (m == x.mount) (want_role x.cpu x.step), want_hold x.cpu x.step)
 write_hold m x = refl
 
 -- only the owner of `umount` has a hold flag set, or counts on a mount's staying read-only
 pub hold_owns : (m : ℕ) (p : Option Phase) → has_hold (role_of m p) + skips (role_of m p) ≤ owns p
-hold_owns m (Some (Mounts (Wants x))) = omega (arith, hold_if (m == x.mount) (want_role x.cpu x.step), want_hold x.cpu x.step)
-hold_owns m (Some (Mounts (Changes x))) = omega (arith, hold_if (m == x.mount) (change_role x.step), change_hold x.step)
-hold_owns m (Some (Remounts x)) = remount_hold m x.step
-hold_owns m (Some (Writes x)) = omega (arith, write_hold m x)
+hold_owns m (Some (Phase.Mounts (MountPhase.Want x))) = omega (arith, hold_if (m == x.mount) (want_role x.cpu x.step), want_hold x.cpu x.step)
+hold_owns m (Some (Phase.Mounts (MountPhase.Change x))) = omega (arith, hold_if (m == x.mount) (change_role x.step), change_hold x.step)
+hold_owns m (Some (Phase.Remounts x)) = remount_hold m x.step
+hold_owns m (Some (Phase.Writes x)) = omega (arith, write_hold m x)
 hold_owns m other = omega arith
 
 remount_sets_owns : (s : RemountStep) → remount_sets s ≤ remount_owns s
-remount_sets_owns RemountLocks = omega arith
+remount_sets_owns RemountStep.Locks = omega arith
 remount_sets_owns step = omega arith
 
--- nor has anybody else `remount` set
 pub remounts_owns : (p : Option Phase) → remounts p ≤ owns p
-remounts_owns (Some (Remounts x)) = remount_sets_owns x.step
+remounts_owns (Some (Phase.Remounts x)) = remount_sets_owns x.step
 remounts_owns other = omega arith
 
 module _ (c : Config) (w : World) (good : IsGood c w) (t : ℕ) (lt : t < c.tasks) where
-  -- nobody else owns
   pub alone : (x : ℕ) → x < c.tasks → (x ≡ t → ⊥) → owns (w.views t).phase ≡ 1 → owns (w.views x).phase ≡ 0
   alone x lx ne o =
       let both : owns (w.views x).phase ≡ 1 → ⊥ = λ q.
@@ -132,7 +111,6 @@ module _ (c : Config) (w : World) (good : IsGood c w) (t : ℕ) (lt : t < c.task
       ne (omega arith) in
       omega (arith, both, owns_le (w.views x).phase)
 
-  -- an owner that hasn't `remount` set finds it clear
   pub no_remount : owns (w.views t).phase ≡ 1 → remounts (w.views t).phase ≡ 0 → w.words.remount ≡ 1 → ⊥
   no_remount o z q =
       let none : total c.tasks (λ x. remounts (w.views x).phase) ≡ 0 = total_none c.tasks (λ x. remounts (w.views x).phase) (λ x lx.
@@ -235,7 +213,6 @@ module _ (c : Config) (w : World) (good : IsGood c w) (t : ℕ) (lt : t < c.task
         )
       ]
 
-  -- `remount` stands where this task has it set
   pub remount_stands : remounts (w.views t).phase ≡ 1 → w.words.remount ≡ 1
   remount_stands h =
       omega (arith, h, total_at c.tasks t (λ x. remounts (w.views x).phase) lt, (good Owner).remounting, (good Owner).bit)
@@ -272,7 +249,6 @@ module _ (c : Config) (w : World) (good : IsGood c w) (t : ℕ) (lt : t < c.task
         shown_still c w t lt ws v refl refl refl refl refl refl refl close held levels opens,
       )
 
-  -- an owner's event on the flags of a mount
   pub flag_law : (m f : ℕ) (v : View) (r : Role) → m < c.mounts → IsSteady (w.views t).phase v.phase → ViewFits c t v →
       held_at v ≡ held_at (w.views t) → added_by v.events ≡ added_by (w.views t).events → taken_by v.events ≡ taken_by (w.views t).events →
       ((y : ℕ) → (y ≡ m → ⊥) → role_of y v.phase ≡ role_of y (w.views t).phase) → role_of m v.phase ≡ r →

@@ -1,51 +1,27 @@
 -- Traces of a remove.
-use Rattle.std.proofs.Common.{◌≡◌, ℕ, ◌<◌, ◌≤◌, Bool, false, refl, sym, subst, inl, inr, arith}
+use Rattle.std.proofs.{Common.{◌≡◌, ℕ, ◌<◌, ◌≤◌, Bool, false, refl, sym, subst, inl, inr, arith}, lemmas.Bool.cases_Bool}
 use Rattle.std.specs.Prelude.{◌==◌, Result, Ok, Err, List, ◌∷◌, length}
-use Rattle.std.proofs.lemmas.Bool.{cases_Bool}
-use Rattle.access_model.specs.declared.actions.Action.{Action}
-use Rattle.access_model.specs.declared.errors.GateError.{GateError}
-use Rattle.access_model.specs.declared.replies.Next.{Next}
-use Rattle.access_model.specs.declared.replies.Reply.{Reply}
-use Rattle.access_model.specs.declared.replies.Reply.TheVariants.{Unit as UnitReply}
-use Rattle.cpu_words.specs.declared.events.Event.{Event}
-use Rattle.cpu_words.specs.Touches.{found_by}
-use Rattle.gate_world.specs.declared.config.Config.{Config}
-use Rattle.gate_world.specs.declared.work.Phase.{Phase}
-use Rattle.gate_world.specs.declared.work.Phase.TheVariants.{Trees}
-use Rattle.gate_world.specs.declared.views.Traced.{Traced}
-use Rattle.gate_world.specs.Configs.{IsWithin}
-use Rattle.gate_world.specs.Courses.{IsTrace, MayHold, MayFind, course_of}
-use Rattle.gate_world.specs.Found.{SeenIn}
-use Rattle.gate_world.specs.Traces.{actions_of, IsShort, Tells, most_events}
-use Rattle.gate_world.specs.Views.{with_hook}
-use Rattle.gate_world.specs.Work.{next_of}
-use Rattle.gate_frames.proofs.Says.{KeptWell, SaysAfter, event_at, tells_well, is_short_well}
+use Rattle.access_model.specs.declared.{actions.Action.Action, errors.GateError.GateError, replies.{Next.Next, Reply.Reply}}
+use Rattle.cpu_words.specs.{Touches.found_by, declared.events.Event.Event}
+use Rattle.gated_tree.specs.{Nodes.{word_of, as_file, unpacked, file_in}, Phases.{at_remove, removes_file, remove_after, remove_next}, Refusals.FileHonest}
+use Rattle.gated_tree.specs.declared.{changes.{Remove.Remove, RemoveStep.RemoveStep}, nodes.NodeWord.NodeWord, phases.TreePhase.TreePhase}
+use Rattle.tree_laws.{proofs.Ends.remove_ends, specs.Ends.{IsReply, RemoveKnows, remove_added, where_done}}
+use Rattle.gate_world.specs.{Configs.IsWithin, Courses.{IsTrace, MayHold, MayFind, course_of}, Found.SeenIn, Operations.first_remove}
+use Rattle.gate_world.specs.{Traces.{actions_of, IsShort, Tells, most_events}, Views.with_hook, Work.next_of}
+use Rattle.gate_world.specs.declared.{config.Config.Config, operations.Op.Op, views.Traced.Traced, work.Phase.Phase}
 use Rattle.gate_frames.proofs.CallTraces.{Answers, CallAt, Stays, call_says, looked, made_some, sees}
-use Rattle.access_model.specs.declared.actions.Action.TheVariants.{Remove as RemoveAction}
-use Rattle.gate_world.specs.declared.operations.Op.TheVariants.{Remove as RemoveOp}
-use Rattle.gate_world.specs.Operations.{first_remove}
-use Rattle.gated_tree.specs.declared.changes.Remove.{Remove}
-use Rattle.gated_tree.specs.declared.changes.RemoveStep.{RemoveStep}
-use Rattle.gated_tree.specs.declared.changes.RemoveStep.TheVariants.{LoadsFile, FreesNode, CountsRemoved, MarksRemoved, RefundsRemoved, RefundsBlocks, RefundsChild}
-use Rattle.gated_tree.specs.declared.phases.TreePhase.TheVariants.{Remove as Removes}
-use Rattle.gated_tree.specs.declared.nodes.NodeWord.{NodeWord}
-use Rattle.gated_tree.specs.Nodes.{word_of, as_file, unpacked, file_in}
-use Rattle.gated_tree.specs.Phases.{at_remove, removes_file, remove_after, remove_next}
-use Rattle.gated_tree.specs.Refusals.{FileHonest}
-use Rattle.tree_laws.specs.Ends.{IsReply, RemoveKnows, remove_added, where_done}
-use Rattle.tree_laws.proofs.Ends.{remove_ends}
+use Rattle.gate_frames.proofs.Says.{KeptWell, SaysAfter, event_at, tells_well, is_short_well}
 
 -- how many events a remove has done before a step
 abbrev events_before : RemoveStep → ℕ
-events_before LoadsFile = 0
-events_before (FreesNode file) = 1
-events_before (CountsRemoved file) = 1
-events_before (MarksRemoved file) = 2
-events_before RefundsRemoved = 3
-events_before (RefundsBlocks file) = 2
-events_before (RefundsChild file) = 3
+events_before RemoveStep.LoadsFile = 0
+events_before (RemoveStep.FreesNode file) = 1
+events_before (RemoveStep.CountsRemoved file) = 1
+events_before (RemoveStep.MarksRemoved file) = 2
+events_before RemoveStep.RefundsRemoved = 3
+events_before (RemoveStep.RefundsBlocks file) = 2
+events_before (RemoveStep.RefundsChild file) = 3
 
--- a remove that has loaded its file has done one event
 removes_later : (file : NodeWord) (opens : ℕ) → 0 < events_before (removes_file file opens)
 removes_later file opens = elim (cases_Bool (opens == 0)) [ inl e ↦ rw e (omega arith) | inr e ↦ rw e (omega arith) ]
 
@@ -67,42 +43,42 @@ module _ (c : Config) (file : ℕ) where
 
   -- what its trace says at a phase
   abbrev RemoveAt : List Traced → Phase → List Action → Type 0
-  RemoveAt = CallAt Remove RemoveStep Removes remove_of Knows so_far IsThere events_before 4 false c (RemoveOp file)
+  RemoveAt = CallAt Remove RemoveStep TreePhase.Remove remove_of Knows so_far IsThere events_before 4 false c (Op.Remove file)
 
   -- what comes after so many events
   abbrev Comes : List Traced → ℕ → Next Remove → Type 0
-  Comes = Stays Remove RemoveStep Removes remove_of Knows so_far IsThere events_before 4 false c (RemoveOp file)
+  Comes = Stays Remove RemoveStep TreePhase.Remove remove_of Knows so_far IsThere events_before 4 false c (Op.Remove file)
 
   -- each event is followed by a later step of the remove, or by its end
   remove_goes : (s : RemoveStep) (value : ℕ) (trace : List Traced) → MayHold (remove_next (remove_of s) s).0 value →
       Comes trace (events_before s) (remove_after (remove_of s) s (found_by (remove_next (remove_of s) s).1 value)).0
-  remove_goes LoadsFile value trace may =
-      looked (Comes trace 0) (remove_of LoadsFile) (λ node. remove_of (removes_file node node.opens)) (file_in value)
+  remove_goes RemoveStep.LoadsFile value trace may =
+      looked (Comes trace 0) (remove_of RemoveStep.LoadsFile) (λ node. remove_of (removes_file node node.opens)) (file_in value)
       (made_some (λ node. as_file node node.removed node.kind) (unpacked value) may)
       (λ node. (removes_file node node.opens, refl, tt, λ q. removes_later node node.opens)) (λ refusal q. omega arith)
-  remove_goes (FreesNode node) value trace may = elim (cases_Bool (value == word_of node)) [
-    | inl e ↦ rw e (RefundsBlocks node, refl, tt, λ q. omega arith)
+  remove_goes (RemoveStep.FreesNode node) value trace may = elim (cases_Bool (value == word_of node)) [
+    | inl e ↦ rw e (RemoveStep.RefundsBlocks node, refl, tt, λ q. omega arith)
     | inr e ↦ rw e (λ q. omega arith)
   ]
-  remove_goes (CountsRemoved node) value trace may = (MarksRemoved node, refl, tt, λ q. omega arith)
-  remove_goes (MarksRemoved node) value trace may = elim (cases_Bool (value == word_of node)) [
-    | inl e ↦ rw e (RefundsChild node, refl, tt, λ q. omega arith)
-    | inr e ↦ rw e (RefundsRemoved, refl, tt, λ q. omega arith)
+  remove_goes (RemoveStep.CountsRemoved node) value trace may = (RemoveStep.MarksRemoved node, refl, tt, λ q. omega arith)
+  remove_goes (RemoveStep.MarksRemoved node) value trace may = elim (cases_Bool (value == word_of node)) [
+    | inl e ↦ rw e (RemoveStep.RefundsChild node, refl, tt, λ q. omega arith)
+    | inr e ↦ rw e (RemoveStep.RefundsRemoved, refl, tt, λ q. omega arith)
   ]
-  remove_goes RefundsRemoved value trace may = λ q. omega arith
-  remove_goes (RefundsBlocks node) value trace may = (RefundsChild node, refl, tt, λ q. omega arith)
-  remove_goes (RefundsChild node) value trace may = λ q. omega arith
+  remove_goes RemoveStep.RefundsRemoved value trace may = λ q. omega arith
+  remove_goes (RemoveStep.RefundsBlocks node) value trace may = (RemoveStep.RefundsChild node, refl, tt, λ q. omega arith)
+  remove_goes (RemoveStep.RefundsChild node) value trace may = λ q. omega arith
 
   -- what it has added, said both ways
   remove_actions : (trace : List Traced) (answer : Result Reply GateError) →
-      where_done (RemoveAction file) answer ≡ actions_of (RemoveOp file) answer trace
+      where_done (Action.Remove file) answer ≡ actions_of (Op.Remove file) answer trace
   remove_actions trace (Ok reply) = refl
   remove_actions trace (Err refusal) = refl
 
   -- so the trace of a remove says what its row asks for
   remove_answers : (trace : List Traced) →
-      Answers Remove RemoveStep Removes remove_of Knows so_far IsThere events_before 4 false c (RemoveOp file)
-      (IsReply UnitReply) (FileHonest (SeenIn trace) file) (where_done (RemoveAction file)) trace
+      Answers Remove RemoveStep TreePhase.Remove remove_of Knows so_far IsThere events_before 4 false c (Op.Remove file)
+      (IsReply Reply.Unit) (FileHonest (SeenIn trace) file) (where_done (Action.Remove file)) trace
   remove_answers trace = record {
     told = λ reply h. h;
     honest = λ refusal h. h;
@@ -112,22 +88,22 @@ module _ (c : Config) (file : ℕ) where
 
   -- a step comes after at most that many events
   remove_within : (s : RemoveStep) (trace : List Traced) → length trace ≤ events_before s → length trace ≤ 4
-  remove_within LoadsFile trace h = omega (arith, h)
+  remove_within RemoveStep.LoadsFile trace h = omega (arith, h)
   remove_within other trace h = omega (arith, h)
 
   -- and keeps it along
-  remove_kept : (t : ℕ) → KeptWell RemoveAt c t (RemoveOp file)
+  remove_kept : (t : ℕ) → KeptWell RemoveAt c t (Op.Remove file)
   remove_kept t = record {
-    first = (LoadsFile, refl, (tt, tt, refl, λ q. omega arith));
+    first = (RemoveStep.LoadsFile, refl, (tt, tt, refl, λ q. omega arith));
     more = λ phase value hook earlier added may here.
         let s : RemoveStep = here.0 in
-        let x : Phase = Trees (Removes (remove_of s)) in
+        let x : Phase = Phase.Trees (TreePhase.Remove (remove_of s)) in
         let e : Traced = with_hook (event_at x value hook) hook in
-        subst (λ (p : Phase). MayFind p (next_of p hook).0 value → SaysAfter RemoveAt c (RemoveOp file) p value hook earlier added)
+        subst (λ (p : Phase). MayFind p (next_of p hook).0 value → SaysAfter RemoveAt c (Op.Remove file) p value hook earlier added)
         (sym here.1)
         (λ holds.
-        call_says Remove RemoveStep Removes remove_of Knows so_far IsThere events_before 4 false c (RemoveOp file)
-        (IsReply UnitReply) (FileHonest (SeenIn (e ∷ earlier)) file) (where_done (RemoveAction file)) e earlier
+        call_says Remove RemoveStep TreePhase.Remove remove_of Knows so_far IsThere events_before 4 false c (Op.Remove file)
+        (IsReply Reply.Unit) (FileHonest (SeenIn (e ∷ earlier)) file) (where_done (Action.Remove file)) e earlier
         (remove_answers (e ∷ earlier)) (events_before s) here.2.3
         (remove_after (remove_of s) s (found_by (remove_next (remove_of s) s).1 value)).0
         (remove_after (remove_of s) s (found_by (remove_next (remove_of s) s).1 value)).1 (remove_added (remove_of s) s) added here.2.2
@@ -137,11 +113,10 @@ module _ (c : Config) (file : ℕ) where
     short = λ trace phase added here. remove_within here.0 trace (here.2.3 refl);
   }
 
--- so a remove's trace tells what it is to tell, and is short
-pub remove_tells : (file : ℕ) (c : Config) → IsWithin c → (t : ℕ) (trace : List Traced) → IsTrace c t (RemoveOp file) trace →
-    Tells c (RemoveOp file) trace (course_of c t (RemoveOp file) trace).comes (course_of c t (RemoveOp file) trace).added
-remove_tells file c lim t trace h = tells_well (RemoveAt c file) c t (RemoveOp file) (remove_kept c file t) trace h
+pub remove_tells : (file : ℕ) (c : Config) → IsWithin c → (t : ℕ) (trace : List Traced) → IsTrace c t (Op.Remove file) trace →
+    Tells c (Op.Remove file) trace (course_of c t (Op.Remove file) trace).comes (course_of c t (Op.Remove file) trace).added
+remove_tells file c lim t trace h = tells_well (RemoveAt c file) c t (Op.Remove file) (remove_kept c file t) trace h
 
-pub remove_short : (file : ℕ) (c : Config) → IsWithin c → (t : ℕ) (trace : List Traced) → IsTrace c t (RemoveOp file) trace →
-    IsShort (most_events c (RemoveOp file)) trace
-remove_short file c lim t trace h = is_short_well (RemoveAt c file) c t (RemoveOp file) (remove_kept c file t) trace h
+pub remove_short : (file : ℕ) (c : Config) → IsWithin c → (t : ℕ) (trace : List Traced) → IsTrace c t (Op.Remove file) trace →
+    IsShort (most_events c (Op.Remove file)) trace
+remove_short file c lim t trace h = is_short_well (RemoveAt c file) c t (Op.Remove file) (remove_kept c file t) trace h

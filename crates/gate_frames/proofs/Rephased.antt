@@ -1,43 +1,26 @@
 -- An operation that stands at a phase of another one, as a part of its own: the law of the other's event is the law of its event.
-use Rattle.std.proofs.Common.{◌≡◌, ℕ, ◌<◌, refl, sym, ap, subst}
-use Rattle.std.specs.Prelude.{Option}
+use Rattle.std.{proofs.Common.{◌≡◌, ℕ, ◌<◌, refl, sym, ap, subst}, specs.Prelude.Option}
 use Rattle.finite_sums.proofs.Totals.{update_at}
-use Rattle.access_model.specs.declared.actions.Action.{Action}
-use Rattle.access_model.specs.declared.replies.Next.{Next}
-use Rattle.cpu_words.specs.declared.names.WordName.{WordName}
-use Rattle.cpu_words.specs.declared.events.Touch.{Touch}
-use Rattle.cpu_words.specs.Hooks.{HookAnswer}
-use Rattle.gate_world.specs.declared.config.Config.{Config}
-use Rattle.gate_world.specs.declared.work.Phase.{Phase}
-use Rattle.gate_world.specs.declared.views.View.{View}
-use Rattle.gate_world.specs.Views.{held_at, holds_level, phase_after}
-use Rattle.gate_world.specs.Fits.{Fits, mounts_by, levels_by}
-use Rattle.gate_world.specs.Worlds.{World}
-use Rattle.gate_world.specs.Shown.{shown}
-use Rattle.gate_world.specs.Rules.{Holds, IsGood, Moves, Tree, Files}
-use Rattle.gate_world.specs.Alike.{IsAlike, at_phase, rephased}
-use Rattle.gate_frames.proofs.Frames.{left_alone}
-use Rattle.gate_frames.proofs.Beside.{beside_good, beside_shown, made, made_again, made_keeps_beside}
+use Rattle.access_model.specs.declared.{actions.Action.Action, replies.Next.Next}
+use Rattle.cpu_words.specs.{Hooks.HookAnswer, declared.{events.Touch.Touch, names.WordName.WordName}}
+use Rattle.gate_world.specs.{Alike.{IsAlike, at_phase, rephased}, Fits.{Fits, mounts_by, levels_by}, Rules.{Holds, IsGood, Moves, Tree, Files}, Shown.shown}
+use Rattle.gate_world.specs.{Views.{held_at, holds_level, phase_after}, Worlds.World, declared.{config.Config.Config, views.View.View, work.Phase.Phase}}
+use Rattle.gate_frames.proofs.{Beside.{beside_good, beside_shown, made, made_again, made_keeps_beside}, Frames.left_alone}
 
--- what is alike to a phase is alike to the same phase
 pub alike_of : {p q r : Option Phase} → p ≡ q → IsAlike q r → IsAlike p r
 alike_of {p} {q} {r} e h = subst (λ x. IsAlike x r) (sym e) h
 
 module _ (c : Config) (w : World) (t : ℕ) (lt : t < c.tasks) (q : Option Phase) (same : IsAlike (w.views t).phase q) where
-  -- the tree stands with the other phase
   rephased_tree : Holds c w Tree → Holds c (rephased w t q) Tree
   rephased_tree h =
       left_alone c w t lt Tree w.words (at_phase (w.views t) q) (refl, refl, refl, refl, refl, refl) (same.tree_same (w.views t).trace) h
 
-  -- and so do the open files
   rephased_files : Holds c w Files → Holds c (rephased w t q) Files
   rephased_files h = left_alone c w t lt Files w.words (at_phase (w.views t) q) refl (refl, same.file_same) h
 
-  -- so the rule holds
   pub rephased_good : Fits c t (held_at (w.views t)) (holds_level (w.views t)) q → IsGood c w → IsGood c (rephased w t q)
   rephased_good fits good = beside_good c w t lt q same.beside fits good (rephased_tree (good Tree)) (rephased_files (good Files))
 
-  -- and the shown model is the same
   pub rephased_shown : shown c (rephased w t q) ≡ shown c w
   rephased_shown = beside_shown c w t lt q same.beside
 

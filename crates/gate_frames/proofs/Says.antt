@@ -1,27 +1,16 @@
 -- What a trace says, kept from each event to the next.
-use Rattle.std.proofs.Common.{ℕ, sym, subst}
-use Rattle.std.specs.Prelude.{List, [], ◌∷◌}
-use Rattle.access_model.specs.declared.actions.Action.{Action}
-use Rattle.access_model.specs.declared.replies.Next.{Next}
-use Rattle.access_model.specs.declared.replies.Next.TheVariants.{Go, Wait, Done}
-use Rattle.cpu_words.specs.declared.events.Event.{Event}
-use Rattle.cpu_words.specs.Touches.{event_of, found_by}
-use Rattle.cpu_words.specs.Hooks.{HookAnswer}
-use Rattle.gate_world.specs.declared.config.Config.{Config}
-use Rattle.gate_world.specs.declared.operations.Op.{Op}
-use Rattle.gate_world.specs.declared.work.Phase.{Phase}
-use Rattle.gate_world.specs.declared.views.Traced.{Traced}
-use Rattle.gate_world.specs.Work.{next_of, after_of}
-use Rattle.gate_world.specs.Views.{actions_after, with_hook}
-use Rattle.gate_world.specs.Beginnings.{first_phase}
-use Rattle.gate_world.specs.Courses.{course_after, course_of, IsEventOf, IsNext, IsTrace, MayFind}
-use Rattle.gate_world.specs.Traces.{most_events, IsShort, Tells}
+use Rattle.std.{proofs.Common.{ℕ, sym, subst}, specs.Prelude.{List, [], ◌∷◌}}
+use Rattle.access_model.specs.declared.{actions.Action.Action, replies.Next.Next}
+use Rattle.cpu_words.specs.{Hooks.HookAnswer, Touches.{event_of, found_by}, declared.events.Event.Event}
+use Rattle.gate_world.specs.{Beginnings.first_phase, Courses.{course_after, course_of, IsEventOf, IsNext, IsTrace, MayFind}}
+use Rattle.gate_world.specs.{Traces.{most_events, IsShort, Tells}, Views.{actions_after, with_hook}, Work.{next_of, after_of}}
+use Rattle.gate_world.specs.declared.{config.Config.Config, operations.Op.Op, views.Traced.Traced, work.Phase.Phase}
 
 -- what a trace says by where its operation stands, where `At` is what it says at a phase
 abbrev pub Says : (List Traced → Phase → List Action → Type 0) → Config → Op → List Traced → Next Phase → List Action → Type 0
-Says At c op trace (Go phase) added = At trace phase added
-Says At c op trace (Wait phase) added = At trace phase added × Tells c op trace (Wait phase) added
-Says At c op trace (Done answer) added = Tells c op trace (Done answer) added × IsShort (most_events c op) trace
+Says At c op trace (Next.Go phase) added = At trace phase added
+Says At c op trace (Next.Wait phase) added = At trace phase added × Tells c op trace (Next.Wait phase) added
+Says At c op trace (Next.Done answer) added = Tells c op trace (Next.Done answer) added × IsShort (most_events c op) trace
 
 -- the event of a phase, on a word that held this value
 abbrev pub event_at : Phase → ℕ → HookAnswer → Event
@@ -62,11 +51,10 @@ module _ (At : List Traced → Phase → List Action → Type 0) (c : Config) (t
   next_keeps : (comes : Next Phase) (added : List Action) (e : Traced) (earlier : List Traced) → IsNext comes e →
       Says At c op earlier comes added →
       Says At c op (e ∷ earlier) (course_after comes added e).comes (course_after comes added e).added
-  next_keeps (Go phase) added e earlier next here = event_keeps phase added e earlier next here
-  next_keeps (Wait phase) added e earlier next here = event_keeps phase added e earlier next here.0
-  next_keeps (Done answer) added e earlier next here = absurd next
+  next_keeps (Next.Go phase) added e earlier next here = event_keeps phase added e earlier next here
+  next_keeps (Next.Wait phase) added e earlier next here = event_keeps phase added e earlier next here.0
+  next_keeps (Next.Done answer) added e earlier next here = absurd next
 
-  -- every trace says it
   says : (trace : List Traced) → IsTrace c t op trace → Says At c op trace (course_of c t op trace).comes (course_of c t op trace).added
   says [] h = kept.first
   says (e ∷ earlier) h = next_keeps (course_of c t op earlier).comes (course_of c t op earlier).added e earlier h.0 (says earlier h.1)
@@ -74,16 +62,16 @@ module _ (At : List Traced → Phase → List Action → Type 0) (c : Config) (t
   -- what is said tells what is to be told
   says_tells : (trace : List Traced) (comes : Next Phase) (added : List Action) → Says At c op trace comes added →
       Tells c op trace comes added
-  says_tells trace (Go phase) added h = tt
-  says_tells trace (Wait phase) added h = h.1
-  says_tells trace (Done answer) added h = h.0
+  says_tells trace (Next.Go phase) added h = tt
+  says_tells trace (Next.Wait phase) added h = h.1
+  says_tells trace (Next.Done answer) added h = h.0
 
   -- what is said bounds the trace
   says_short : (trace : List Traced) (comes : Next Phase) (added : List Action) → Says At c op trace comes added →
       IsShort (most_events c op) trace
-  says_short trace (Go phase) added h = kept.short trace phase added h
-  says_short trace (Wait phase) added h = kept.short trace phase added h.0
-  says_short trace (Done answer) added h = h.1
+  says_short trace (Next.Go phase) added h = kept.short trace phase added h
+  says_short trace (Next.Wait phase) added h = kept.short trace phase added h.0
+  says_short trace (Next.Done answer) added h = h.1
 
   -- so every trace tells what is to be told, and is short
   pub tells_well : (trace : List Traced) → IsTrace c t op trace →
@@ -102,7 +90,6 @@ module _ (At : List Traced → Phase → List Action → Type 0) (c : Config) (t
     short = kept.short;
   }
 
-  -- so every trace tells what is to be told then too, and is short
   pub tells : (trace : List Traced) → IsTrace c t op trace → Tells c op trace (course_of c t op trace).comes (course_of c t op trace).added
   tells trace h = tells_well At c t op kept_well trace h
 

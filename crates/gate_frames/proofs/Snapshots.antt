@@ -1,24 +1,12 @@
 -- The rule and the shown model read no snapshot.
-use Rattle.std.proofs.Common.{◌≡◌, ℕ, ap, subst, refl, inl, inr, sym, ◌∙◌}
+use Rattle.std.proofs.{Common.{◌≡◌, ℕ, ap, subst, refl, inl, inr, sym, ◌∙◌}, Math.Path.fun_ext, lemmas.Bool.{true≢false, Decides.eqb_tells}}
 use Rattle.std.specs.Prelude.{None, is_some, List}
-use Rattle.std.proofs.Math.Path.{fun_ext}
-use Rattle.std.proofs.lemmas.Bool.{true≢false}
-use Rattle.std.proofs.lemmas.Bool.Decides.{eqb_tells}
 use Rattle.finite_sums.specs.Sums.{update}
-use Rattle.cpu_words.specs.Words.{Words}
-use Rattle.cpu_words.specs.Touches.{found_by}
-use Rattle.cpu_words.specs.Hooks.{HookAnswer}
-use Rattle.gate_world.specs.declared.config.Config.{Config}
-use Rattle.gate_world.specs.declared.work.Phase.{Phase}
-use Rattle.gate_world.specs.declared.views.View.{View}
-use Rattle.gate_world.specs.declared.views.Traced.{Traced}
-use Rattle.gate_world.specs.Snapshots.{completes}
-use Rattle.gate_world.specs.Work.{next_of, after_of}
-use Rattle.gate_world.specs.Views.{view_with, view_after, view_after_beside}
+use Rattle.cpu_words.specs.{Hooks.HookAnswer, Touches.found_by, Words.Words}
+use Rattle.gate_world.specs.{Moments.CompletesNow, Rules.{Part, Owner, Holds, IsGood}, Shown.shown, Snapshots.completes}
+use Rattle.gate_world.specs.{Views.{view_with, view_after, view_after_beside}, Work.{next_of, after_of}}
 use Rattle.gate_world.specs.Worlds.{World, value_at, found_at, words_after, after_step, after_step_beside}
-use Rattle.gate_world.specs.Shown.{shown}
-use Rattle.gate_world.specs.Moments.{CompletesNow}
-use Rattle.gate_world.specs.Rules.{Part, Owner, Holds, IsGood}
+use Rattle.gate_world.specs.declared.{config.Config.Config, views.{Traced.Traced, View.View}, work.Phase.Phase}
 
 -- a view, and a world, without their snapshots
 abbrev bare_view : View → View
@@ -27,7 +15,6 @@ bare_view v = record v { snapshot = None }
 abbrev bare : World → World
 bare w = record { words = w.words; views = λ t. bare_view (w.views t) }
 
--- each part of the rule says the same there
 bare_part : (c : Config) (w : World) (part : Part) → Holds c (bare w) part ≡ Holds c w part
 bare_part c w Owner = refl
 bare_part c w other = refl
@@ -89,9 +76,6 @@ module _ (c : Config) (w : World) (t : ℕ) (phase : Phase) (hook : HookAnswer) 
 
   pub noted_part : (part : Part) → Holds c (after_plain_step w t phase hook) part → Holds c (after_step w t phase hook) part
   noted_part part h = part_apart c (words_after w.words phase hook) w.views t plain noted refl part h
-
-  pub noted_shown : shown c (after_plain_step w t phase hook) ≡ shown c (after_step w t phase hook)
-  noted_shown = shown_apart c (words_after w.words phase hook) w.views t plain noted refl
 
 -- a phase whose event completes no snapshot, whatever it finds
 pub completes_none : (c : Config) (w : World) (t : ℕ) (hook : HookAnswer) (phase : Phase) →

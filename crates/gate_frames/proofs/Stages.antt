@@ -1,36 +1,28 @@
 -- The stage of a world, as the laws of the stage have it: what holds of it, what an event of a task leaves of it, and which actions are
 -- allowed.
-use Rattle.std.proofs.lemmas.Bool.Decides.{eqb_tells}
-use Rattle.gated_tree.specs.Nodes.{dirty_in, node_shown}
-use Rattle.std.proofs.Common.{◌≡◌, ℕ, ◌<◌, ◌≤◌, refl, sym, ap, ◌∙◌, subst, inl, inr, arith, ◌%◌, Bool}
+use Rattle.std.proofs.{Common.{◌≡◌, ℕ, ◌<◌, ◌≤◌, refl, sym, ap, ◌∙◌, subst, inl, inr, arith, ◌%◌, Bool}, lemmas.Bool.Decides.eqb_tells}
 use Rattle.std.specs.Prelude.{Option, Some, ◌==◌, false}
-use Rattle.finite_sums.specs.Sums.{update, total}
-use Rattle.finite_sums.proofs.Totals.{total_none, update_map, update_same}
-use Rattle.access_model.specs.States.{State, is_dirty}
-use Rattle.access_model.specs.Actions.{IsAllowed}
-use Rattle.access_model.specs.declared.actions.Action.{Action}
+use Rattle.finite_sums.{proofs.Totals.{total_none, update_map, update_same}, specs.Sums.{update, total}}
+use Rattle.access_model.specs.{Actions.IsAllowed, States.{State, is_dirty}, declared.actions.Action.Action}
 use Rattle.cpu_words.specs.Words.{Words}
-use Rattle.mount_counts.specs.declared.remounts.RemountStep.{RemountStep}
-use Rattle.mount_counts.specs.declared.remounts.RemountStep.TheVariants.{Locks}
-use Rattle.mount_counts.specs.Roles.{ro_bit}
-use Rattle.stage_laws.specs.Roles.{owns as stage_owns}
-use Rattle.stage_laws.specs.Shown.{ShowsStages, AsksOthers, state_after, passed_shown}
-use Rattle.stage_laws.specs.Events.{Stages as StageMoment, Holds as StageHolds, Shows, StageEvent, Happens, action_of}
-use Rattle.stage_laws.proofs.Whole.{events_keep, actions_are_allowed, actions_have_their_effect}
-use Rattle.gate_world.specs.declared.config.Config.{Config}
-use Rattle.gate_world.specs.declared.views.View.{View}
-use Rattle.gate_world.specs.declared.work.Phase.{Phase}
-use Rattle.gate_world.specs.declared.work.Phase.TheVariants.{Remounts}
+use Rattle.gated_tree.specs.Nodes.{dirty_in, node_shown}
+use Rattle.mount_counts.specs.{Roles.ro_bit, declared.remounts.RemountStep.RemountStep}
 use Rattle.freeze_levels.specs.Holders.{holders_in}
-use Rattle.gate_world.specs.Configs.{model_limits}
-use Rattle.gate_world.specs.Remounts.{remount_owns}
-use Rattle.gate_world.specs.Rules.{owns, IsGood, Holds, Owner, Stages, marks_of}
-use Rattle.gate_world.specs.Shown.{shown, stage_roles}
-use Rattle.gate_world.specs.Stages.{stage_role_of, remount_stage_role}
-use Rattle.gate_world.specs.Views.{held_at, holds_level, has_open}
-use Rattle.gate_world.specs.Worlds.{World}
-use Rattle.gate_frames.proofs.Owners.{owns_le}
-use Rattle.gate_frames.proofs.Trees.{marks_right}
+use Rattle.stage_laws.proofs.Whole.{events_keep, actions_are_allowed, actions_have_their_effect}
+use Rattle.stage_laws.specs.Events.{Stages as StageMoment, Holds as StageHolds, Shows, StageEvent, Happens, action_of, IsAlike}
+use Rattle.stage_laws.specs.{Roles.{owns as stage_owns, Owning, StageRole}, Shown.{ShowsStages, AsksOthers, state_after, passed_shown}}
+use Rattle.gate_world.specs.{Configs.model_limits, Remounts.remount_owns, Rules.{owns, IsGood, Holds, Owner, Stages, marks_of}, Shown.{shown, stage_roles}}
+use Rattle.gate_world.specs.{Stages.{stage_role_of, remount_stage_role}, Views.{held_at, holds_level, has_open}, Worlds.World}
+use Rattle.gate_world.specs.declared.{config.Config.Config, views.View.View, work.Phase.Phase}
+use Rattle.gate_frames.proofs.{Owners.owns_le, Trees.marks_right}
+
+-- owners that rely on one thing or another are alike
+pub owners_alike : (stage sb stage' sb' : Option ℕ) → IsAlike (Owning stage sb) (Owning stage' sb')
+owners_alike stage sb stage' sb' =
+    record { owns_same = refl; freezes_same = refl; remounts_same = refl; closed_same = refl; passed_same = refl }
+
+pub alike_same : (r : StageRole) → IsAlike r r
+alike_same r = record { owns_same = refl; freezes_same = refl; remounts_same = refl; closed_same = refl; passed_same = refl }
 
 -- the stage of a world
 abbrev pub stages_in : World → StageMoment
@@ -43,17 +35,14 @@ stages_in w = record {
   at = stage_roles w;
 }
 
--- a remount that owns by its stage owns `umount`
 remount_owner : (nodes : ℕ) (s : RemountStep) → stage_owns (remount_stage_role nodes s) ≤ remount_owns s
-remount_owner nodes Locks = omega arith
+remount_owner nodes RemountStep.Locks = omega arith
 remount_owner nodes s = omega arith
 
--- who owns by the stage owns `umount`
 pub stage_owner : (p : Option Phase) → stage_owns (stage_role_of p) ≤ owns p
-stage_owner (Some (Remounts x)) = remount_owner x.nodes x.step
+stage_owner (Some (Phase.Remounts x)) = remount_owner x.nodes x.step
 stage_owner other = omega arith
 
--- a node without a mark is shown without one
 clean_shown : (word : ℕ) → dirty_in word ≡ 0 → is_dirty (node_shown word) ≡ false
 clean_shown word e = elim (eqb_tells (word % 4) 0) [
   | inl q ↦ rw q.0 refl
@@ -61,18 +50,15 @@ clean_shown word e = elim (eqb_tells (word % 4) 0) [
 ]
 
 module _ (c : Config) (w : World) (good : IsGood c w) where
-  -- what holds of the stage of a good world
   pub stages_right : StageHolds c.tasks c.nodes (stages_in w)
   stages_right = record { stages = good Stages; marks = marks_right c w good }
 
-  -- the shown model shows it
   pub stages_shown : Shows (model_limits c) (stages_in w) (shown c w)
   stages_shown = record {
     stages = record { stage_same = refl; passed_same = refl; sb_same = refl };
     marks = λ n lt e. clean_shown (w.words.node n) e;
   }
 
-  -- where `umount` is free nobody owns by the stage
   pub nobody_owns : w.words.umount ≡ 0 → total c.tasks (λ x. stage_owns (stage_roles w x)) ≡ 0
   nobody_owns free = total_none c.tasks (λ x. stage_owns (stage_roles w x)) (λ x lx.
       let none : owns (w.views x).phase ≡ 1 → ⊥ = λ o. omega (arith, free, (good Owner).locked x lx o) in

@@ -1,53 +1,33 @@
 -- What who stands at a level has there, below it and above it; which stands say the same; and what an event of such a task leaves.
 use Rattle.std.proofs.Common.{◌≡◌, ℕ, zero, suc, ◌-◌, ◌<◌, ◌≤◌, refl, sym, ap, ◌∙◌, inl, inr, arith, subst}
+use Rattle.std.proofs.lemmas.Bool.{eq-eqb, ne_eqb, lt-ltb, le-ltb, cases_lt, Decides.eqb_tells}
 use Rattle.std.specs.Prelude.{Option, Some, None, Bool, if◌then◌else◌}
-use Rattle.std.proofs.lemmas.Bool.{eq-eqb, ne_eqb, lt-ltb, le-ltb, cases_lt}
-use Rattle.std.proofs.lemmas.Bool.Decides.{eqb_tells}
-use Rattle.finite_sums.specs.Sums.{update}
-use Rattle.finite_sums.proofs.Totals.{update_map, update_off, update_same}
-use Rattle.cpu_words.specs.declared.names.WordName.{WordName}
-use Rattle.cpu_words.specs.declared.names.WordName.TheVariants.{Sync, Block, LevelCount, Section}
-use Rattle.cpu_words.specs.declared.events.Touch.{Touch}
-use Rattle.cpu_words.specs.declared.events.Touch.TheVariants.{Load}
-use Rattle.cpu_words.specs.Words.{Words, put, read}
-use Rattle.cpu_words.specs.Touches.{left}
-use Rattle.freeze_levels.specs.Levels.{closing, reopening}
+use Rattle.finite_sums.{proofs.Totals.{update_map, update_off, update_same}, specs.Sums.update}
+use Rattle.cpu_words.specs.{Touches.left, Words.{Words, put, read}, declared.{events.Touch.Touch, names.WordName.WordName}}
 use Rattle.gate_counts.specs.Levels.{LevelRole, LevelHolds, Out as CountsNot, Passed as CountsPassed}
-use Rattle.level_laws.specs.Events.{SyncLevel, SyncStep}
-use Rattle.level_laws.specs.Operations.{put_at, left_by}
-use Rattle.level_laws.specs.Roles.{Closed, Out as IsApart}
-use Rattle.gate_world.specs.declared.config.Config.{Config}
-use Rattle.gate_world.specs.declared.views.View.{View}
-use Rattle.gate_world.specs.Worlds.{World}
-use Rattle.gate_world.specs.Levels.{at_level, level_role_of, inside, is_frozen_whole, Stand, stand_count, stand_sync, closed_to}
-use Rattle.gate_world.specs.Rules.{IsGood, Holds, AtLevel, SyncAt, Sections}
-use Rattle.gate_world.specs.declared.work.Phase.{Phase}
+use Rattle.freeze_levels.specs.Levels.{closing, reopening}
+use Rattle.level_laws.specs.{Events.{SyncLevel, SyncStep}, Operations.{put_at, left_by}, Roles.{Closed, Out as IsApart}}
+use Rattle.gate_world.specs.{LevelRuns.level_in, Levels.{at_level, level_role_of, inside, is_frozen_whole, Stand, stand_count, stand_sync, closed_to}}
+use Rattle.gate_world.specs.{Rules.{IsGood, Holds, AtLevel, SyncAt, Sections}, Worlds.World, declared.{config.Config.Config, views.View.View, work.Phase.Phase}}
 use Rattle.gate_frames.proofs.Frames.{left_alone, level_as, level_view_as, SameLevelWords, SameLevelCounts}
-use Rattle.gate_world.specs.LevelRuns.{level_in}
-use Rattle.gate_frames.proofs.LevelWorlds.{IsOfLevel, IsEventAt, sync_there, sync_elsewhere, sections_stay}
+use Rattle.gate_frames.proofs.LevelWorlds.{IsEventAt, sync_there, sync_elsewhere, sections_stay}
 use Rattle.gate_frames.proofs.Standing.{LevelsHold, left_world, closing_stand, still_closed, Stands, opening_stand}
 
--- at its own level
 pub count_at : (i : ℕ) (s : Stand) → i ≡ s.level → stand_count i (Some s) ≡ s.count
 count_at i s e = rw (eq-eqb i s.level e) refl
 
--- and its rcu_sync there
 pub sync_at : (i : ℕ) (s : Stand) → i ≡ s.level → stand_sync i (Some s) ≡ s.sync
 sync_at i s e = rw (eq-eqb i s.level e) refl
 
--- those below it are closed and passed
 pub count_below : (i : ℕ) (s : Stand) → i < s.level → stand_count i (Some s) ≡ CountsPassed
 count_below i s lt = rw (ne_eqb i s.level (λ e. omega (arith, e, lt)), lt-ltb i s.level lt) refl
 
--- with their rcu_sync
 pub sync_below : (i : ℕ) (s : Stand) → i < s.level → stand_sync i (Some s) ≡ Closed
 sync_below i s lt = rw (ne_eqb i s.level (λ e. omega (arith, e, lt)), lt-ltb i s.level lt) refl
 
--- and those above it are not its own
 pub count_above : (i : ℕ) (s : Stand) → s.level < i → stand_count i (Some s) ≡ CountsNot
 count_above i s lt = rw (ne_eqb i s.level (λ e. omega (arith, e, lt)), le-ltb i s.level (omega (arith, lt))) refl
 
--- nor is their rcu_sync
 pub sync_above : (i : ℕ) (s : Stand) → s.level < i → stand_sync i (Some s) ≡ IsApart
 sync_above i s lt = rw (ne_eqb i s.level (λ e. omega (arith, e, lt)), le-ltb i s.level (omega (arith, lt))) refl
 
@@ -91,7 +71,6 @@ pub record SayBeside (level : ℕ) (s z : Option Stand) : Type 0 where
   pub counts : (i : ℕ) → 1 ≤ i → i ≤ 3 → (i ≡ level → ⊥) → stand_count i z ≡ stand_count i s
   pub syncs : (i : ℕ) → 1 ≤ i → i ≤ 3 → (i ≡ level → ⊥) → stand_sync i z ≡ stand_sync i s
 
--- two stands at a level say the same of the others
 pub beside_each : (level : ℕ) (s z : Stand) → s.level ≡ level → z.level ≡ level → SayBeside level (Some s) (Some z)
 beside_each level s z es ez = record {
   counts = λ i one three ne. elim (cases_lt i level) [
@@ -140,25 +119,14 @@ closing_says_none tasks processors = record {
   ];
 }
 
--- so with the levels up to one closed, a task may begin to close the next
-pub closes_next : (p : Option Phase) (n tasks processors : ℕ) → 1 ≤ n → Stands p (Some (closed_to n)) →
-    Stands p (Some (closing_stand (closing (suc n) tasks processors)))
-closes_next p n tasks processors some = stands_so p _ _ (closing_says n tasks processors some)
-
--- and with none closed, the first
-pub closes_first : (p : Option Phase) (tasks processors : ℕ) → Stands p None → Stands p (Some (closing_stand (closing 1 tasks processors)))
-closes_first p tasks processors = stands_so p _ _ (closing_says_none tasks processors)
-
 -- the other way round
 pub closing_next : (p : Option Phase) (n tasks processors : ℕ) → 1 ≤ n →
     Stands p (Some (closing_stand (closing (suc n) tasks processors))) → Stands p (Some (closed_to n))
 closing_next p n tasks processors some = stands_so p _ _ (say_back _ _ (closing_says n tasks processors some))
 
--- and that of the first
 pub closing_first : (p : Option Phase) (tasks processors : ℕ) → Stands p (Some (closing_stand (closing 1 tasks processors))) → Stands p None
 closing_first p tasks processors = stands_so p _ _ (say_back _ _ (closing_says_none tasks processors))
 
--- where it is a level, the levels up to it are closed
 pub still_up : (n : ℕ) → still_closed (suc n) ≡ Some (closed_to (suc n))
 still_up n = rw (ne_eqb (suc n) 0 (λ e. omega (arith, e))) refl
 
@@ -170,16 +138,6 @@ still_closed_is (suc n) one = still_up n
 -- and says the same
 pub opening_says : (level : ℕ) → 1 ≤ level → SaySame (still_closed level) (Some (opening_stand (reopening level)))
 opening_says level one = subst (SaySame (still_closed level)) (still_closed_is level one) (says_same (still_closed level))
-
--- so a task with a level closed may begin to reopen it
-pub opens_next : (p : Option Phase) (level : ℕ) → 1 ≤ level → Stands p (still_closed level) →
-    Stands p (Some (opening_stand (reopening level)))
-opens_next p level one = stands_so p _ _ (opening_says level one)
-
--- and the other way round
-pub opening_next : (p : Option Phase) (level : ℕ) → 1 ≤ level → Stands p (Some (opening_stand (reopening level))) →
-    Stands p (still_closed level)
-opening_next p level one = stands_so p _ _ (say_back _ _ (opening_says level one))
 
 -- before a level that isn't the first, the one below it is the last that is closed
 pub still_before : (n : ℕ) → still_closed (suc (suc n) - 1) ≡ Some (closed_to (suc n))
@@ -205,14 +163,12 @@ beside_still (suc (suc n)) s one e = subst (SayBeside (suc (suc n)) (Some s)) (s
   ];
 }
 
--- at a level that is no longer closed, nothing is said
 pub still_count : (level : ℕ) → 1 ≤ level → stand_count level (still_closed (level - 1)) ≡ CountsNot
 still_count zero one = absurd (omega (arith, one))
 still_count (suc zero) one = refl
 still_count (suc (suc n)) one =
     ap (stand_count (suc (suc n))) (still_before n) ∙ count_above (suc (suc n)) (closed_to (suc n)) (omega arith)
 
--- nor of its rcu_sync
 pub still_sync : (level : ℕ) → 1 ≤ level → stand_sync level (still_closed (level - 1)) ≡ IsApart
 still_sync zero one = absurd (omega (arith, one))
 still_sync (suc zero) one = refl
@@ -222,58 +178,37 @@ still_sync (suc (suc n)) one =
 -- an event at a level leaves `block` of the others
 pub touched_block : (w : Words) (i j : ℕ) → (j ≡ i → ⊥) → (name : WordName) (touch : Touch) → IsEventAt i name touch →
     (put w name (left touch (read w name))).block j ≡ w.block j
-touched_block w i j ne (Sync k) touch e = refl
-touched_block w i j ne (Block k) touch e = update_off w.block k _ j (λ q. ne (q ∙ e))
-touched_block w i j ne (LevelCount k p) touch e = refl
-touched_block w i j ne (Section u) Load e = refl
+touched_block w i j ne (WordName.Sync k) touch e = refl
+touched_block w i j ne (WordName.Block k) touch e = update_off w.block k _ j (λ q. ne (q ∙ e))
+touched_block w i j ne (WordName.LevelCount k p) touch e = refl
+touched_block w i j ne (WordName.Section u) Touch.Load e = refl
 touched_block w i j ne name touch e = absurd e
 
 -- and whether the file system is frozen as a whole
 pub touched_whole : (w : Words) (i : ℕ) (name : WordName) (touch : Touch) → IsEventAt i name touch →
     is_frozen_whole (put w name (left touch (read w name))) ≡ is_frozen_whole w
-touched_whole w i (Sync k) touch e = refl
-touched_whole w i (Block k) touch e = refl
-touched_whole w i (LevelCount k p) touch e = refl
-touched_whole w i (Section u) Load e = refl
+touched_whole w i (WordName.Sync k) touch e = refl
+touched_whole w i (WordName.Block k) touch e = refl
+touched_whole w i (WordName.LevelCount k p) touch e = refl
+touched_whole w i (WordName.Section u) Touch.Load e = refl
 touched_whole w i name touch e = absurd e
 
 -- and the sync words of the others
 pub touched_sync : (w : Words) (i j : ℕ) → (j ≡ i → ⊥) → (name : WordName) (touch : Touch) → IsEventAt i name touch →
     (put w name (left touch (read w name))).sync j ≡ w.sync j
-touched_sync w i j ne (Sync k) touch e = update_off w.sync k _ j (λ q. ne (q ∙ e))
-touched_sync w i j ne (Block k) touch e = refl
-touched_sync w i j ne (LevelCount k p) touch e = refl
-touched_sync w i j ne (Section u) Load e = refl
+touched_sync w i j ne (WordName.Sync k) touch e = update_off w.sync k _ j (λ q. ne (q ∙ e))
+touched_sync w i j ne (WordName.Block k) touch e = refl
+touched_sync w i j ne (WordName.LevelCount k p) touch e = refl
+touched_sync w i j ne (WordName.Section u) Touch.Load e = refl
 touched_sync w i j ne name touch e = absurd e
 
--- and all section words
-pub touched_section : (w : Words) (i : ℕ) (name : WordName) (touch : Touch) → IsEventAt i name touch →
-    (put w name (left touch (read w name))).section ≡ w.section
-touched_section w i (Sync k) touch e = refl
-touched_section w i (Block k) touch e = refl
-touched_section w i (LevelCount k p) touch e = refl
-touched_section w i (Section u) Load e = update_same w.section u
-touched_section w i name touch e = absurd e
-
--- its word is one of the level
-pub is_of_level : (i : ℕ) (name : WordName) (touch : Touch) → IsEventAt i name touch → IsOfLevel i name
-is_of_level i (Sync k) touch e = e
-is_of_level i (Block k) touch e = e
-is_of_level i (LevelCount k p) touch e = e
-is_of_level i (Section u) touch e = tt
-is_of_level i name touch e = absurd e
-
--- a word that is put is none of who is inside a section
 pub put_inside : (l : SyncLevel) (name : WordName) (n : ℕ) → (put_at l name n).inside ≡ l.inside
-put_inside l (Sync i) n = refl
-put_inside l (Block i) n = refl
-put_inside l (Section u) n = refl
+put_inside l (WordName.Sync i) n = refl
 put_inside l name n = refl
 
 -- An event of a task that stood so with the levels, stands so after it, and holds and has added at them what it had.
 module _ (c : Config) (w : World) (good : IsGood c w) (t : ℕ) (lt : t < c.tasks) (v : View) (s z : Option Stand)
     (was : Stands (w.views t).phase s) (now : Stands v.phase z) (counts : SameLevelCounts (w.views t) v) where
-  -- its view of the counts of a level is as it was, with this role
   seen_counts : (i : ℕ) → 1 ≤ i → i ≤ 3 → (r : LevelRole) → stand_count i z ≡ r →
       at_level i v ≡ record (at_level i (w.views t)) { role = r }
   seen_counts i one three r e =

@@ -1,21 +1,13 @@
 -- How a task stands with the levels, and what the rule says of all of them.
-use Rattle.std.proofs.Common.{◌≡◌, ℕ, ◌≤◌}
-use Rattle.std.specs.Prelude.{Option, Some, None, ◌==◌, ◌-◌, if◌then◌else◌}
+use Rattle.std.{proofs.Common.{◌≡◌, ℕ, ◌≤◌}, specs.Prelude.{Option, Some, None, ◌==◌, ◌-◌, if◌then◌else◌}}
 use Rattle.finite_sums.specs.Sums.{update}
-use Rattle.cpu_words.specs.Words.{Words}
 use Rattle.access_model.specs.declared.replies.Next.{Next}
-use Rattle.access_model.specs.declared.replies.Next.TheVariants.{Go, Wait, Done}
-use Rattle.percpu_rwsem.specs.declared.writers.DownWrite.{DownWrite}
-use Rattle.percpu_rwsem.specs.declared.writers.UpWrite.{UpWrite}
-use Rattle.level_laws.specs.Events.{SyncStep}
-use Rattle.level_laws.specs.Operations.{down_write_role, up_write_role}
-use Rattle.gate_world.specs.declared.config.Config.{Config}
-use Rattle.gate_world.specs.declared.views.View.{View}
-use Rattle.gate_world.specs.declared.work.Phase.{Phase}
-use Rattle.gate_world.specs.Levels.{Stand, closed_to, stand_count, stand_sync, down_count_role, up_count_role, level_role_of, sync_role_of, inside}
-use Rattle.gate_world.specs.Rules.{Holds, AtLevel, SyncAt, Sections}
+use Rattle.cpu_words.specs.Words.{Words}
+use Rattle.percpu_rwsem.specs.declared.writers.{DownWrite.DownWrite, UpWrite.UpWrite}
+use Rattle.level_laws.specs.{Events.SyncStep, Operations.{down_write_role, up_write_role}}
 use Rattle.gate_world.specs.LevelRuns.{level_in}
-use Rattle.gate_world.specs.Worlds.{World}
+use Rattle.gate_world.specs.Levels.{Stand, closed_to, stand_count, stand_sync, down_count_role, up_count_role, level_role_of, sync_role_of, inside}
+use Rattle.gate_world.specs.{Rules.{Holds, AtLevel, SyncAt, Sections}, Worlds.World, declared.{config.Config.Config, views.View.View, work.Phase.Phase}}
 
 -- a phase stands so with the levels, and is inside no section
 pub record Stands (p : Option Phase) (s : Option Stand) : Type 0 where
@@ -37,15 +29,15 @@ still_closed level = if level == 0 then None else Some (closed_to level)
 
 -- what comes after an event of a down-write stands so: with the level closed and passed at its end
 abbrev pub stand_after_closing : ℕ → Next DownWrite → Option Stand
-stand_after_closing level (Go d) = Some (closing_stand d)
-stand_after_closing level (Wait d) = Some (closing_stand d)
-stand_after_closing level (Done answer) = Some (closed_to level)
+stand_after_closing level (Next.Go d) = Some (closing_stand d)
+stand_after_closing level (Next.Wait d) = Some (closing_stand d)
+stand_after_closing level (Next.Done answer) = Some (closed_to level)
 
 -- and after an event of an up-write: with the level open at its end, and those below it still closed
 abbrev pub stand_after_opening : ℕ → Next UpWrite → Option Stand
-stand_after_opening level (Go u) = Some (opening_stand u)
-stand_after_opening level (Wait u) = Some (opening_stand u)
-stand_after_opening level (Done answer) = still_closed (level - 1)
+stand_after_opening level (Next.Go u) = Some (opening_stand u)
+stand_after_opening level (Next.Wait u) = Some (opening_stand u)
+stand_after_opening level (Next.Done answer) = still_closed (level - 1)
 
 -- what the rule says of the levels
 abbrev pub LevelsHold : Config → World → Type 0

@@ -1,27 +1,17 @@
 -- How writers of levels stand with them: none is on the fast path, and who has closed a level has closed each one below it.
-use Rattle.std.proofs.lemmas.Bool.Decides.{eqb_tells}
-use Rattle.std.proofs.lemmas.Bool.{cases_Bool, ltb-false, ne_eqb, ltb-true}
-use Rattle.std.proofs.Common.{◌≡◌, ℕ, ◌<◌, ◌≤◌, refl, inl, inr, arith}
+use Rattle.std.proofs.{Common.{◌≡◌, ℕ, ◌<◌, ◌≤◌, refl, inl, inr, arith}, lemmas.Bool.{cases_Bool, ltb-false, ne_eqb, ltb-true, Decides.eqb_tells}}
 use Rattle.std.specs.Prelude.{Option, Some, None, Bool, true, false, ◌==◌, nat_lt}
-use Rattle.percpu_rwsem.specs.declared.writers.DownWriteStep.{DownWriteStep}
-use Rattle.percpu_rwsem.specs.declared.writers.DownWriteStep.TheVariants.{Enters}
-use Rattle.percpu_rwsem.specs.declared.writers.UpWriteStep.{UpWriteStep}
-use Rattle.percpu_rwsem.specs.declared.writers.UpWriteStep.TheVariants.{ClearsBlock, Exits}
-use Rattle.freeze_levels.specs.declared.freezes.FreezeStep.{FreezeStep}
-use Rattle.freeze_levels.specs.declared.freezes.FreezeStep.TheVariants.{Closes, LocksAgain, SetsPageFault, Cleans, SetsFs, SetsComplete, Reopens as FreezeReopens}
-use Rattle.freeze_levels.specs.declared.thaws.ThawStep.{ThawStep}
-use Rattle.freeze_levels.specs.declared.thaws.ThawStep.TheVariants.{Reopens as ThawReopens}
-use Rattle.level_laws.specs.Roles.{SyncRole, Closed, fast, closed}
-use Rattle.level_laws.specs.Operations.{down_write_role, up_write_role}
+use Rattle.percpu_rwsem.specs.declared.writers.{DownWriteStep.DownWriteStep, UpWriteStep.UpWriteStep}
+use Rattle.freeze_levels.specs.declared.{freezes.FreezeStep.FreezeStep, thaws.ThawStep.ThawStep}
+use Rattle.level_laws.specs.{Operations.{down_write_role, up_write_role}, Roles.{SyncRole, Closed, fast, closed}}
 use Rattle.gate_world.specs.Levels.{Stand, sync_beside, stand_sync, freeze_stand, thaw_stand}
 
--- no writer is on the fast path
 up_write_slow : (s : UpWriteStep) → fast (up_write_role s) ≡ 0
-up_write_slow ClearsBlock = refl
-up_write_slow (Exits transition) = refl
+up_write_slow UpWriteStep.ClearsBlock = refl
+up_write_slow (UpWriteStep.Exits transition) = refl
 
 down_write_slow : (s : DownWriteStep) → fast (down_write_role s) ≡ 0
-down_write_slow (Enters transition) = refl
+down_write_slow (DownWriteStep.Enters transition) = refl
 down_write_slow other = refl
 
 beside_slow : (here below : Bool) (r : SyncRole) → fast r ≡ 0 → fast (sync_beside here below r) ≡ 0
@@ -29,26 +19,23 @@ beside_slow true below r h = h
 beside_slow false true r h = refl
 beside_slow false false r h = refl
 
--- so no freeze is, and no thaw
 pub freeze_slow : (i : ℕ) (s : FreezeStep) → fast (stand_sync i (freeze_stand s)) ≡ 0
-freeze_slow i (Closes d) = beside_slow (i == d.level) (nat_lt i d.level) (down_write_role d.step) (down_write_slow d.step)
-freeze_slow i LocksAgain = beside_slow (i == 1) (nat_lt i 1) Closed refl
-freeze_slow i SetsPageFault = beside_slow (i == 1) (nat_lt i 1) Closed refl
-freeze_slow i (Cleans marks) = beside_slow (i == 2) (nat_lt i 2) Closed refl
-freeze_slow i SetsFs = beside_slow (i == 2) (nat_lt i 2) Closed refl
-freeze_slow i SetsComplete = beside_slow (i == 3) (nat_lt i 3) Closed refl
-freeze_slow i (FreezeReopens u code) = beside_slow (i == u.level) (nat_lt i u.level) (up_write_role u.step) (up_write_slow u.step)
+freeze_slow i (FreezeStep.Closes d) = beside_slow (i == d.level) (nat_lt i d.level) (down_write_role d.step) (down_write_slow d.step)
+freeze_slow i FreezeStep.LocksAgain = beside_slow (i == 1) (nat_lt i 1) Closed refl
+freeze_slow i FreezeStep.SetsPageFault = beside_slow (i == 1) (nat_lt i 1) Closed refl
+freeze_slow i (FreezeStep.Cleans marks) = beside_slow (i == 2) (nat_lt i 2) Closed refl
+freeze_slow i FreezeStep.SetsFs = beside_slow (i == 2) (nat_lt i 2) Closed refl
+freeze_slow i FreezeStep.SetsComplete = beside_slow (i == 3) (nat_lt i 3) Closed refl
+freeze_slow i (FreezeStep.Reopens u code) = beside_slow (i == u.level) (nat_lt i u.level) (up_write_role u.step) (up_write_slow u.step)
 freeze_slow i s = refl
 
 pub thaw_slow : (i : ℕ) (s : ThawStep) → fast (stand_sync i (thaw_stand s)) ≡ 0
-thaw_slow i (ThawReopens u) = beside_slow (i == u.level) (nat_lt i u.level) (up_write_role u.step) (up_write_slow u.step)
+thaw_slow i (ThawStep.Reopens u) = beside_slow (i == u.level) (nat_lt i u.level) (up_write_role u.step) (up_write_slow u.step)
 thaw_slow i s = refl
 
--- a number below another
 pub below : (i n : ℕ) → i < n → nat_lt i n ≡ true
 below i n lt = elim (cases_Bool (nat_lt i n)) [ inl h ↦ h | inr h ↦ absurd (omega (arith, lt, ltb-false i n h)) ]
 
--- who stands at a level has closed each one below it
 closed_le : (r : SyncRole) → closed r ≤ 1
 closed_le Closed = omega arith
 closed_le r = omega arith

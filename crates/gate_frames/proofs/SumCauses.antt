@@ -1,18 +1,11 @@
 -- The cause of a sum of a mount's counts, from each world of a schedule to the next, whichever operation reads it.
-use Rattle.cpu_words.specs.Sums.{lead, ahead}
-use Rattle.cpu_words.specs.Touches.{wrap_add}
-use Rattle.cpu_words.specs.declared.sums.Sum.{Sum}
-use Rattle.gate_counts.proofs.Numbers.{ahead_step, ahead_past}
-use Rattle.gate_world.specs.Causes.{all_counted, was_counted, words_read, moments_of_sum}
-use Rattle.gate_world.specs.KeptCauses.{ChangeCause}
-use Rattle.gate_world.specs.Rules.{IsGood}
-use Rattle.gate_world.specs.Worlds.{World}
-use Rattle.gate_world.specs.declared.config.Config.{Config}
-use Rattle.mount_counts.specs.declared.phases.ChangeStep.TheVariants.{Sums}
-use Rattle.std.proofs.Common.{◌≡◌, ℕ, suc, ◌+◌, ◌<◌, true, false, refl, sym, ap, ◌∙◌, inl, inr, arith, add-one}
-use Rattle.std.proofs.lemmas.Bool.{cases_Bool}
-use Rattle.std.proofs.lemmas.Bool.Decides.{eqb_tells}
+use Rattle.std.proofs.{Common.{◌≡◌, ℕ, suc, ◌+◌, ◌<◌, true, false, refl, sym, ap, ◌∙◌, inl, inr, arith, add-one}, lemmas.Bool.{cases_Bool, Decides.eqb_tells}}
 use Rattle.std.specs.Prelude.{Some, None, List, [], ◌∷◌}
+use Rattle.cpu_words.specs.{Sums.{lead, ahead}, Touches.wrap_add, declared.sums.Sum.Sum}
+use Rattle.gate_counts.proofs.Numbers.{ahead_step, ahead_past}
+use Rattle.mount_counts.specs.declared.phases.ChangeStep.{ChangeStep}
+use Rattle.gate_world.specs.{Causes.{all_counted, was_counted, words_read, moments_of_sum}, KeptCauses.ChangeCause, Rules.IsGood, Worlds.World}
+use Rattle.gate_world.specs.declared.config.Config.{Config}
 use Rattle.gate_frames.proofs.Moments.{fresh_lead, none_counted, sum_skips, sum_begins, sum_goes}
 
 module _ (c : Config) (t m : ℕ) where
@@ -25,7 +18,7 @@ module _ (c : Config) (t m : ℕ) where
 
     -- a sum that begins has its cause
     pub sum_starts : IsGood c w → m < c.mounts → words_read (w.views t).phase ≡ Some 0 →
-        ChangeCause c t w earlier m (Sums record { words = 0; total = 0 })
+        ChangeCause c t w earlier m (ChangeStep.Sums record { words = 0; total = 0 })
     sum_starts good lm e = (
       λ z. refl,
       λ none. fresh_lead c w good m lm (none_counted c m w [] (sym (ap (was_counted c m) (sum_begins t w earlier e)) ∙ none)).0,
@@ -39,12 +32,12 @@ module _ (c : Config) (t m : ℕ) where
         none_counted c m w (moments_of_sum t earlier) (sym (ap (was_counted c m) (sum_goes t w earlier k e ne)) ∙ none)
 
   -- in this world, the next one and the earlier ones, with a sum whose cause is known
-  module _ (w next : World) (earlier : List World) (sum : Sum) (h : ChangeCause c t w earlier m (Sums sum)) where
+  module _ (w next : World) (earlier : List World) (sum : Sum) (h : ChangeCause c t w earlier m (ChangeStep.Sums sum)) where
     -- the cause of a sum stays while others step
     pub sum_stays : IsGood c next → m < c.mounts → words_read (next.views t).phase ≡ Some sum.words →
         words_read (w.views t).phase ≡ Some sum.words →
         (all_counted c m w ≡ 0 → all_counted c m next ≡ 0 → next.words.count m ≡ w.words.count m) →
-        ChangeCause c t next (w ∷ earlier) m (Sums sum)
+        ChangeCause c t next (w ∷ earlier) m (ChangeStep.Sums sum)
     sum_stays good lm e was quiet = (
       h.0,
       λ none.
@@ -67,10 +60,9 @@ module _ (c : Config) (t m : ℕ) where
       word_ahead : ahead c.processors (w.words.count m) sum.words ≡ found + ahead c.processors (w.words.count m) (suc sum.words)
       word_ahead = ahead_step c.processors sum.words (w.words.count m) there
 
-      -- a sum that takes a word more has its cause
       pub sum_takes : next.words.count m ≡ w.words.count m → words_read (next.views t).phase ≡ Some (sum.words + 1) →
           ChangeCause c t next (w ∷ earlier) m
-          (Sums record { words = sum.words + 1; total = wrap_add sum.total (w.words.count m sum.words) })
+          (ChangeStep.Sums record { words = sum.words + 1; total = wrap_add sum.total (w.words.count m sum.words) })
       sum_takes same e = (
         λ z. absurd (omega (arith, z)),
         λ none.

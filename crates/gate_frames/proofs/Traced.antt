@@ -1,36 +1,27 @@
 -- Each view follows its operation, after every schedule.
 use Rattle.std.proofs.Common.{◌≡◌, ℕ, refl, sym, ap, ◌∙◌, subst, inl, inr, Bool, false, is_some, true≢false, ◌<◌}
-use Rattle.std.specs.Prelude.{true, false, Option, Some, None, nat_lt, List, ◌∷◌, ◌++◌}
 use Rattle.std.proofs.lemmas.Bool.{cases_Bool, cases_lt, lt-ltb, le-ltb}
+use Rattle.std.specs.Prelude.{true, false, Option, Some, None, nat_lt, List, ◌∷◌, ◌++◌}
 use Rattle.finite_sums.proofs.Totals.{each_updated}
-use Rattle.access_model.specs.declared.actions.Action.{Action}
-use Rattle.access_model.specs.declared.errors.GateError.{GateError}
-use Rattle.access_model.specs.declared.replies.Next.{Next}
-use Rattle.access_model.specs.declared.replies.Next.TheVariants.{Go, Wait, Done}
-use Rattle.cpu_words.specs.Touches.{found_by}
-use Rattle.cpu_words.specs.Hooks.{HookAnswer}
-use Rattle.gate_world.specs.declared.config.Config.{Config}
-use Rattle.gate_world.specs.declared.operations.Op.{Op}
-use Rattle.gate_world.specs.declared.work.Phase.{Phase}
-use Rattle.gate_world.specs.declared.views.View.{View}
-use Rattle.gate_world.specs.declared.views.Traced.{Traced}
-use Rattle.gate_world.specs.Work.{next_of, after_of}
-use Rattle.gate_world.specs.Views.{phase_after, actions_after, with_hook, view_after, begun_view, held_at, holds_level, has_open}
+use Rattle.access_model.specs.declared.{actions.Action.Action, errors.GateError.GateError, replies.Next.Next}
+use Rattle.cpu_words.specs.{Hooks.HookAnswer, Touches.found_by}
 use Rattle.gate_world.specs.Beginnings.{first_phase, view_refusal, refusal}
-use Rattle.gate_world.specs.Worlds.{World, Entry, Begins, Steps, begin_refusal, begin_of, value_at, step_of, happens, opening}
 use Rattle.gate_world.specs.Courses.{course_with, course_after, course_of, IsEventOf, IsNext, IsTraced, MayFind, AllTraced, EventsMayBe}
+use Rattle.gate_world.specs.{Views.{phase_after, actions_after, with_hook, view_after, begun_view, held_at, holds_level, has_open}, Work.{next_of, after_of}}
+use Rattle.gate_world.specs.Worlds.{World, Entry, Begins, Steps, begin_refusal, begin_of, value_at, step_of, happens, opening}
+use Rattle.gate_world.specs.declared.{config.Config.Config, operations.Op.Op, views.{Traced.Traced, View.View}, work.Phase.Phase}
 use Rattle.gate_frames.proofs.Says.{event_at}
 
 -- where an operation stands at this phase, its event is the next, and what comes after it is the course after it
 stands_at : (comes : Next Phase) (added : List Action) (phase : Phase) (e : Traced) → phase_after comes ≡ Some phase → IsEventOf phase e →
     IsNext comes e × (course_after comes added e ≡ course_with added (after_of phase e.event.found e.hook))
-stands_at (Go there) added phase e h next =
+stands_at (Next.Go there) added phase e h next =
     let same : there ≡ phase = cc in
     (subst (λ x. IsEventOf x e) (sym same) next, ap (λ x. course_with added (after_of x e.event.found e.hook)) same)
-stands_at (Wait there) added phase e h next =
+stands_at (Next.Wait there) added phase e h next =
     let same : there ≡ phase = cc in
     (subst (λ x. IsEventOf x e) (sym same) next, ap (λ x. course_with added (after_of x e.event.found e.hook)) same)
-stands_at (Done answer) added phase e h next = absurd (cc)
+stands_at (Next.Done answer) added phase e h next = absurd (cc)
 
 -- an action more goes before the earlier ones
 newest : (action : Option Action) (actions added before : List Action) → actions ≡ added ++ before →
@@ -75,7 +66,6 @@ begin_keeps c w t op None e h x =
     each_updated (λ y (v : View). IsTraced c y v v.op) w.views t (begun_view (w.views t) op (first_phase c t op)) x
     (record { trace = tt; phase = refl; actions = refl; begins = idle_refusal c (w.views t) op (is_some (w.views t).phase) e }) (λ ne. h x)
 
--- one that finds no such task does nothing
 begin_entry : (c : Config) (w : World) (t : ℕ) (op : Op) → AllTraced c w → AllTraced c (begin_of c w t op (begin_refusal c w t op))
 begin_entry c w t op h =
     elim (cases_Bool (nat_lt t c.tasks)) [
@@ -91,7 +81,6 @@ step_keeps c w t hook (Some phase) e lt may h x =
     each_updated (λ y (v : View). IsTraced c y v v.op) w.views t (view_after (w.views t) phase (value_at w.words phase hook) hook) x
     (step_follows c t (w.views t) (w.views t).op phase (value_at w.words phase hook) hook e (may t lt phase hook e) (h t)) (λ ne. h x)
 
--- so each entry keeps it
 pub entry_keeps : (c : Config) (w : World) (e : Entry) → EventsMayBe c w → AllTraced c w → AllTraced c (happens c w e)
 entry_keeps c w (Begins t op) may h = begin_entry c w t op h
 entry_keeps c w (Steps t hook) may h =
@@ -100,6 +89,5 @@ entry_keeps c w (Steps t hook) may h =
       | inr l ↦ rw (le-ltb t c.tasks l) h
     ]
 
--- so it is at the beginning
 pub opening_traced : (c : Config) → AllTraced c opening
 opening_traced c t = (refl, refl, refl)

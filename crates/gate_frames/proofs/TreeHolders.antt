@@ -1,52 +1,26 @@
 -- Who is at a level with an access at some mount: nobody has shut what it came through.
 use Rattle.std.proofs.Common.{◌≡◌, ℕ, zero, suc, ◌<◌, ◌≤◌, ◌⊎◌, inl, inr, refl, sym, arith, Bool, true, false, true≢false, ap}
-use Rattle.std.proofs.lemmas.Bool.{cases_Bool, ltb-true, ltb-false, ne_eqb, cases_lt}
-use Rattle.std.proofs.lemmas.Bool.Decides.{eqb_tells}
+use Rattle.std.proofs.lemmas.Bool.{cases_Bool, ltb-true, ne_eqb, cases_lt, Decides.eqb_tells}
 use Rattle.std.specs.Prelude.{◌&&◌, Option, Some, nat_lt, ◌==◌}
-use Rattle.finite_sums.specs.Sums.{total}
-use Rattle.finite_sums.proofs.Totals.{total_at}
-use Rattle.mount_counts.specs.Roles.{ro_bit, mount_as_gate}
-use Rattle.gate_counts.specs.Gates.{past}
-use Rattle.gate_counts.specs.Levels.{LevelRole, Passed}
-use Rattle.gate_counts.proofs.LevelLaws.{none_frozen, none_passed}
-use Rattle.stage_laws.specs.Roles.{Freezing, Place, passed_by, Before}
-use Rattle.stage_laws.proofs.Whole.{freeze_is_under_way}
-use Rattle.freeze_levels.specs.declared.freezes.FreezeStep.{FreezeStep}
-use Rattle.freeze_levels.specs.declared.freezes.FreezeStep.TheVariants.{Closes, LocksAgain, SetsPageFault, Cleans, SetsFs, SetsComplete, Reopens as FreezeReopens}
-use Rattle.freeze_levels.specs.declared.thaws.ThawStep.{ThawStep}
-use Rattle.freeze_levels.specs.declared.thaws.ThawStep.TheVariants.{Reopens as ThawReopens}
-use Rattle.mount_counts.specs.declared.remounts.RemountStep.{RemountStep}
-use Rattle.mount_counts.specs.declared.remounts.RemountStep.TheVariants.{ClearsHold, ClearsMark, SetsReadOnly, ClearsRemount}
-use Rattle.percpu_rwsem.specs.declared.writers.DownWriteStep.{DownWriteStep}
-use Rattle.percpu_rwsem.specs.declared.writers.DownWriteStep.TheVariants.{Sums}
-use Rattle.percpu_rwsem.specs.declared.writers.UpWriteStep.{UpWriteStep}
-use Rattle.percpu_rwsem.specs.declared.writers.UpWriteStep.TheVariants.{ClearsBlock, Exits}
-use Rattle.gated_tree.specs.declared.snapshots.SnapshotStep.{SnapshotStep}
-use Rattle.gated_tree.specs.declared.snapshots.SnapshotStep.TheVariants.{Locks as SnapshotLocks}
-use Rattle.gated_tree.specs.declared.phases.TreePhase.{TreePhase}
-use Rattle.gated_tree.specs.declared.phases.TreePhase.TheVariants.{Snapshot as Snapshots}
-use Rattle.gate_world.specs.declared.config.Config.{Config}
-use Rattle.gate_world.specs.declared.work.Phase.{Phase}
-use Rattle.gate_world.specs.declared.work.Phase.TheVariants.{Remounts, Freezes, Thaws, Trees}
-use Rattle.gate_world.specs.Levels.{level_role_of, stand_count, count_beside, down_count_role, up_count_role, freeze_stand, thaw_stand, at_level, is_frozen_whole}
-use Rattle.gate_world.specs.Operations.{some_mount, is_writer}
-use Rattle.gate_world.specs.Rules.{IsGood, AtMount, AtLevel, Owner, Stages, MountHoldsIn, at_mount}
-use Rattle.gate_world.specs.Shown.{stage_roles}
-use Rattle.gate_world.specs.Stages.{stage_role_of, remount_stage_role, freeze_stage_role, thaw_stage_role, tree_stage_role, snapshot_stage_role, place_of, reopening_role}
-use Rattle.gate_world.specs.Views.{held_at, holds_level}
-use Rattle.gate_world.specs.Worlds.{World}
-use Rattle.gate_frames.proofs.Stages.{stages_in, stages_right}
+use Rattle.finite_sums.{proofs.Totals.total_at, specs.Sums.total}
+use Rattle.gate_counts.{proofs.LevelLaws.{none_frozen, none_passed}, specs.{Gates.past, Levels.{LevelRole, Passed}}}
+use Rattle.gated_tree.specs.declared.{phases.TreePhase.TreePhase, snapshots.SnapshotStep.SnapshotStep}
+use Rattle.mount_counts.specs.{Roles.{ro_bit, mount_as_gate}, declared.remounts.RemountStep.RemountStep}
+use Rattle.percpu_rwsem.specs.declared.writers.{DownWriteStep.DownWriteStep, UpWriteStep.UpWriteStep}
+use Rattle.freeze_levels.specs.declared.{freezes.FreezeStep.FreezeStep, thaws.ThawStep.ThawStep}
+use Rattle.stage_laws.{proofs.Whole.freeze_is_under_way, specs.Roles.{Freezing, Place, passed_by, Before}}
+use Rattle.gate_world.specs.Levels.{level_role_of, stand_count, count_beside, down_count_role, up_count_role, freeze_stand, thaw_stand, at_level}
+use Rattle.gate_world.specs.Levels.{is_frozen_whole}
+use Rattle.gate_world.specs.{Operations.{some_mount, is_writer}, Rules.{IsGood, AtMount, AtLevel, Owner, Stages, MountHoldsIn, at_mount}, Shown.stage_roles}
+use Rattle.gate_world.specs.Stages.{stage_role_of, remount_stage_role, freeze_stage_role, thaw_stage_role, tree_stage_role, snapshot_stage_role, place_of}
+use Rattle.gate_world.specs.Stages.{reopening_role}
+use Rattle.gate_world.specs.{Views.{held_at, holds_level}, Worlds.World, declared.{config.Config.Config, work.Phase.Phase}}
+use Rattle.gate_frames.proofs.{Stages.{stages_in, stages_right}, Stands.below}
 
--- both of two
 pub both_true : (a b : Bool) → (a && b) ≡ true → (a ≡ true) × (b ≡ true)
 both_true true b h = (refl, h)
 both_true false b h = absurd (true≢false (sym h))
 
--- a number below another is found to be
-pub found_below : (i n : ℕ) → i < n → nat_lt i n ≡ true
-found_below i n lt = elim (cases_Bool (nat_lt i n)) [ inl h ↦ h | inr h ↦ absurd (omega (arith, lt, ltb-false i n h)) ]
-
--- an access at some mount is one at a mount that is there
 pub mount_there : (n : ℕ) (held : ℕ → ℕ) → some_mount n held ≡ true → (m : ℕ) × (m < n) × (0 < held m)
 mount_there zero held h = absurd (true≢false (sym h))
 mount_there (suc n) held h =
@@ -55,75 +29,65 @@ mount_there (suc n) held h =
       | inr e ↦ (n, omega arith, ltb-true 0 (held n) (rw e at h))
     ]
 
--- who stands at a level has passed each one below it
 below_stand : (i level : ℕ) (r : LevelRole) → i < level → count_beside (i == level) (nat_lt i level) r ≡ Passed
-below_stand i level r lt = rw (ne_eqb i level (λ e. omega (arith, e, lt)), found_below i level lt) refl
+below_stand i level r lt = rw (ne_eqb i level (λ e. omega (arith, e, lt)), below i level lt) refl
 
--- and who has passed its own level, each one up to it
 up_to_stand : (i level : ℕ) (r : LevelRole) → i ≤ level → r ≡ Passed → count_beside (i == level) (nat_lt i level) r ≡ Passed
 up_to_stand i level r le is =
     elim (eqb_tells i level) [
       | inl q ↦ rw q.0 is
-      | inr q ↦ rw (q.0, found_below i level (omega (arith, le, q.1))) refl
+      | inr q ↦ rw (q.0, below i level (omega (arith, le, q.1))) refl
     ]
 
--- a freeze at a stage has passed each level below it
 place_passed : (stage : ℕ) (place : Place) (owner : Bool) → stage ≤ suc (passed_by (Freezing stage place owner))
 place_passed stage Before owner = omega arith
 place_passed stage other owner = omega arith
 
 -- a level that is being closed isn't passed
 closing_passed : (i level : ℕ) (s : DownWriteStep) (owner : Bool) → 1 ≤ i → i ≤ passed_by (Freezing level (place_of s) owner) → i < level
-closing_passed i level (Sums sum) owner low le = omega (arith, low, le)
+closing_passed i level (DownWriteStep.Sums sum) owner low le = omega (arith, low, le)
 closing_passed i level s owner low le = omega (arith, low, le)
 
 -- one that is being opened is passed until its store
 reopening_passed : (i level : ℕ) (s : UpWriteStep) → 1 ≤ i → i ≤ passed_by (reopening_role level s) →
     count_beside (i == level) (nat_lt i level) (up_count_role s) ≡ Passed
-reopening_passed i level ClearsBlock low le = up_to_stand i level Passed le refl
-reopening_passed i level (Exits transition) low le = below_stand i level (up_count_role (Exits transition)) (omega (arith, low, le))
+reopening_passed i level UpWriteStep.ClearsBlock low le = up_to_stand i level Passed le refl
+reopening_passed i level (UpWriteStep.Exits transition) low le = below_stand i level (up_count_role (UpWriteStep.Exits transition)) (omega (arith, low, le))
 
 -- a level that a freeze has passed, it has passed at the level's counts
 freeze_passed : (nodes i : ℕ) (s : FreezeStep) → 1 ≤ i → i ≤ passed_by (freeze_stage_role nodes s) →
     stand_count i (freeze_stand s) ≡ Passed
-freeze_passed nodes i (Closes d) low le =
+freeze_passed nodes i (FreezeStep.Closes d) low le =
     below_stand i d.level (down_count_role d.step) (closing_passed i d.level d.step (nat_lt 1 d.level) low le)
-freeze_passed nodes i LocksAgain low le = up_to_stand i 1 Passed le refl
-freeze_passed nodes i SetsPageFault low le = up_to_stand i 1 Passed le refl
-freeze_passed nodes i (Cleans marks) low le = up_to_stand i 2 Passed le refl
-freeze_passed nodes i SetsFs low le = up_to_stand i 2 Passed le refl
-freeze_passed nodes i SetsComplete low le = up_to_stand i 3 Passed le refl
-freeze_passed nodes i (FreezeReopens u code) low le = reopening_passed i u.level u.step low le
+freeze_passed nodes i FreezeStep.LocksAgain low le = up_to_stand i 1 Passed le refl
+freeze_passed nodes i FreezeStep.SetsPageFault low le = up_to_stand i 1 Passed le refl
+freeze_passed nodes i (FreezeStep.Cleans marks) low le = up_to_stand i 2 Passed le refl
+freeze_passed nodes i FreezeStep.SetsFs low le = up_to_stand i 2 Passed le refl
+freeze_passed nodes i FreezeStep.SetsComplete low le = up_to_stand i 3 Passed le refl
+freeze_passed nodes i (FreezeStep.Reopens u code) low le = reopening_passed i u.level u.step low le
 freeze_passed nodes i s low le = absurd (omega (arith, low, le))
 
--- the same of a thaw
 thaw_passed : (i : ℕ) (s : ThawStep) → 1 ≤ i → i ≤ passed_by (thaw_stage_role s) → stand_count i (thaw_stand s) ≡ Passed
-thaw_passed i (ThawReopens u) low le = reopening_passed i u.level u.step low le
+thaw_passed i (ThawStep.Reopens u) low le = reopening_passed i u.level u.step low le
 thaw_passed i s low le = absurd (omega (arith, low, le))
 
--- a remount has passed none
 remount_passed : (nodes : ℕ) (s : RemountStep) → passed_by (remount_stage_role nodes s) ≡ 0
-remount_passed nodes (ClearsHold held) = refl
-remount_passed nodes (ClearsMark n) = refl
-remount_passed nodes SetsReadOnly = refl
-remount_passed nodes ClearsRemount = refl
+remount_passed nodes (RemountStep.ClearsHold held) = refl
 remount_passed nodes s = refl
 
--- nor has a call at the tree
 snapshot_passed : (s : SnapshotStep) → passed_by (snapshot_stage_role s) ≡ 0
-snapshot_passed SnapshotLocks = refl
+snapshot_passed SnapshotStep.Locks = refl
 snapshot_passed s = refl
 
 tree_passed : (x : TreePhase) → passed_by (tree_stage_role x) ≡ 0
-tree_passed (Snapshots x) = snapshot_passed x.step
+tree_passed (TreePhase.Snapshot x) = snapshot_passed x.step
 tree_passed x = refl
 
--- so it is of what any task is at
 pub passed_there : (i : ℕ) → 1 ≤ i → (p : Option Phase) → i ≤ passed_by (stage_role_of p) → level_role_of i p ≡ Passed
-passed_there i low (Some (Remounts x)) le = absurd (omega (arith, low, le, remount_passed x.nodes x.step))
-passed_there i low (Some (Freezes x)) le = freeze_passed x.nodes i x.step low le
-passed_there i low (Some (Thaws x)) le = thaw_passed i x.step low le
-passed_there i low (Some (Trees x)) le = absurd (omega (arith, low, le, tree_passed x))
+passed_there i low (Some (Phase.Remounts x)) le = absurd (omega (arith, low, le, remount_passed x.nodes x.step))
+passed_there i low (Some (Phase.Freezes x)) le = freeze_passed x.nodes i x.step low le
+passed_there i low (Some (Phase.Thaws x)) le = thaw_passed i x.step low le
+passed_there i low (Some (Phase.Trees x)) le = absurd (omega (arith, low, le, tree_passed x))
 passed_there i low p le = absurd (omega (arith, low, le))
 
 -- What nobody has shut: the superblock is writable and no remount has set `remount`, the stage is below 3, and no task has passed this
@@ -153,7 +117,6 @@ module _ (c : Config) (w : World) (good : IsGood c w) (t : ℕ) (lt : t < c.task
       λ e. omega (arith, some, none_past m lm 1 (h.gate.open_to 1 (e, writable, unmarked))) in
       (writable, omega (arith, not_set, (good Owner).bit))
 
-  -- the task's access at a level is counted there
   level_held : (i : ℕ) → holds_level (w.views t) i ≡ true → total c.tasks (λ x. (at_level i (w.views x)).held) ≡ 0 → ⊥
   level_held i inside none =
       let one : (at_level i (w.views t)).held ≡ 1 = rw inside refl in
@@ -169,11 +132,9 @@ module _ (c : Config) (w : World) (good : IsGood c w) (t : ℕ) (lt : t < c.task
             absurd (level_held i inside (none_passed (good (AtLevel i) low high) y ly (passed_there i low (w.views y).phase l)))
       ]
 
-  -- and the file system isn't frozen as a whole
   pub level_thawed : (i : ℕ) → 1 ≤ i → i ≤ 3 → holds_level (w.views t) i ≡ true → is_frozen_whole w.words ≡ 1 → ⊥
   level_thawed i low high inside whole = level_held i inside (none_frozen (good (AtLevel i) low high) whole)
 
-  -- at stage 3 a freeze has passed levels 1 and 2
   stage_three : w.words.stage ≡ 3 → (y : ℕ) × (y < c.tasks) × (2 ≤ passed_by (stage_roles w y))
   stage_three e =
       let f : (y : ℕ) × (y < c.tasks) × (place : Place) × (owner : Bool) × (stage_roles w y ≡ Freezing w.words.stage place owner) =
@@ -202,7 +163,6 @@ module _ (c : Config) (w : World) (good : IsGood c w) (t : ℕ) (lt : t < c.task
         unpassed = level_unpassed i bounds.0 high inside;
       }
 
-  -- so at stage 4 nobody is a writer
   pub writer_not_frozen : is_writer c (held_at (w.views t)) (holds_level (w.views t)) ≡ true → w.words.stage ≡ 4 → ⊥
   writer_not_frozen writes frozen =
       let both : (holds_level (w.views t) 1 ≡ true) × (some_mount c.mounts (held_at (w.views t)) ≡ true) = both_true _ _ writes in

@@ -1,92 +1,42 @@
 -- The tree of a world, as the laws of the tree have it: what an event of a task leaves of it, and what it shows.
 use Rattle.std.proofs.Common.{◌≡◌, ℕ, suc, ◌<◌, ◌≤◌, refl, sym, ap, ◌∙◌, subst, inl, inr, arith, Bool, true≢false, zero}
-use Rattle.std.proofs.lemmas.Bool.Decides.{eqb_tells}
+use Rattle.std.proofs.lemmas.Bool.{le-leb, Decides.eqb_tells}
 use Rattle.std.specs.Prelude.{Option, Some, None, Ok, Err, List, false, nat_lt}
-use Rattle.finite_sums.specs.Sums.{update}
-use Rattle.finite_sums.proofs.Totals.{update_map, total_none}
-use Rattle.access_model.specs.States.{is_dirty, IsDirectory}
-use Rattle.access_model.specs.declared.actions.Action.{Action}
+use Rattle.finite_sums.{proofs.Totals.{update_map, total_none}, specs.Sums.update}
+use Rattle.access_model.specs.{States.{is_dirty, IsDirectory}, declared.actions.{Action.Action, Holder.Holder}}
 use Rattle.cpu_words.specs.Words.{Words}
-use Rattle.mount_counts.specs.declared.remounts.RemountStep.{RemountStep}
-use Rattle.mount_counts.specs.declared.remounts.RemountStep.TheVariants.{ClearsHold, ClearsMark, SetsReadOnly, ClearsRemount, SetsRemount}
-use Rattle.access_model.specs.declared.actions.Holder.{Holder}
-use Rattle.freeze_levels.specs.declared.freezes.FreezeStep.{FreezeStep}
-use Rattle.freeze_levels.specs.declared.freezes.FreezeStep.TheVariants.{Closes, Cleans, SetsFs, Reopens as FreezeReopens}
-use Rattle.gated_tree.specs.Nodes.{dirty_in, kind_in, node_shown}
+use Rattle.gated_tree.specs.{Calls.{snapshot_role, phase_role}, Nodes.{dirty_in, kind_in, node_shown}}
 use Rattle.gated_tree.specs.Roles.{TreeHolds, TreeState, AreWithin, RoleHolds, Clearing, sealed_by, NobodyReads, words_read}
-use Rattle.tree_laws.specs.Events.{Event, MovesBy}
-use Rattle.tree_laws.proofs.Each.{each_event}
+use Rattle.gated_tree.specs.declared.{phases.TreePhase.TreePhase, snapshots.{Snapshot.Snapshot, SnapshotStep.SnapshotStep}}
+use Rattle.mount_counts.specs.declared.remounts.RemountStep.{RemountStep}
+use Rattle.tree_laws.{proofs.Each.each_event, specs.Events.Event}
+use Rattle.percpu_rwsem.specs.declared.writers.{DownWriteStep.DownWriteStep, UpWriteStep.UpWriteStep}
+use Rattle.freeze_levels.specs.declared.{freezes.FreezeStep.{FreezeStep, TheVariants.Closes}, thaws.ThawStep.ThawStep}
 use Rattle.stage_laws.specs.Roles.{MarksHold, CleanBelow, clean_by, KnowsStage, Freezing}
-use Rattle.file_closes.specs.declared.phases.ClosePhase.{ClosePhase}
-use Rattle.file_closes.specs.declared.phases.ClosePhase.TheVariants.{LoadsFile as CloseLoadsFile, LowersCount, Enters, FreesNode as ClosesNode, RefundsBlocks as CloseRefundsBlocks, Uncounts as CloseUncounts, Leaves as CloseLeaves}
-use Rattle.gated_tree.specs.declared.opens.OpenFile.{OpenFile}
-use Rattle.gated_tree.specs.declared.opens.OpenStep.{OpenStep}
-use Rattle.gated_tree.specs.declared.opens.OpenStep.TheVariants.{LoadsFile as LoadsFileToOpen, OpensFile}
-use Rattle.gate_world.specs.declared.config.Config.{Config}
-use Rattle.gate_world.specs.declared.views.View.{View}
-use Rattle.gate_world.specs.declared.views.Traced.{Traced}
-use Rattle.gate_world.specs.declared.work.Phase.{Phase}
-use Rattle.gate_world.specs.declared.work.Phase.TheVariants.{Remounts, Freezes, Thaws, Trees, Closes, Mounts, DownReads, UpReads, Callbacks, Writes}
-use Rattle.gate_world.specs.Configs.{IsWithin}
-use Rattle.gate_world.specs.Fits.{Fits, FreezeFits, PhaseFits}
-use Rattle.gate_world.specs.Rules.{IsGood, Holds, Tree, Stages, Fitting, marks_of}
-use Rattle.gate_world.specs.Shown.{stage_roles}
-use Rattle.gate_world.specs.Stages.{stage_role_of, remount_stage_role, freeze_stage_role, reopening_role, snapshot_stage_role, thaw_stage_role, tree_stage_role, place_of}
-use Rattle.gate_world.specs.Trees.{tree_bounds, tree_of, tree_role_of, tree_roles, is_sealed, remount_tree_role, freeze_tree_role, nodes_noted, is_bare_at, close_tree_role}
-use Rattle.gate_world.specs.Views.{held_at, holds_level}
-use Rattle.gate_world.specs.Worlds.{World}
-use Rattle.std.proofs.lemmas.Bool.{le-leb}
-use Rattle.percpu_rwsem.specs.declared.writers.DownWriteStep.{DownWriteStep}
-use Rattle.percpu_rwsem.specs.declared.writers.UpWriteStep.{UpWriteStep}
-use Rattle.gated_tree.specs.declared.snapshots.SnapshotStep.{SnapshotStep}
-use Rattle.gate_world.specs.Remounts.{RemountFits}
-use Rattle.freeze_levels.specs.declared.thaws.ThawStep.{ThawStep}
-use Rattle.gated_tree.specs.declared.phases.TreePhase.{TreePhase}
-use Rattle.percpu_rwsem.specs.declared.writers.UpWriteStep.TheVariants.{Exits, ClearsBlock}
-use Rattle.gated_tree.specs.declared.snapshots.SnapshotStep.TheVariants.{Locks as SnapshotLocks, LoadsStage as SnapshotLoadsStage, LoadsNode as SnapshotLoadsNode, LoadsKids as SnapshotLoadsKids, Releases as SnapshotReleases, LoadsUsed as SnapshotLoadsUsed}
-use Rattle.freeze_levels.specs.declared.thaws.ThawStep.TheVariants.{Reopens as ThawReopens}
-use Rattle.gated_tree.specs.declared.phases.TreePhase.TheVariants.{OpenFile as OpensOne, Snapshot as Snapshots, Create as Creates, Remove as Removes, Grow as Grows, MoveTo as Moves, Mark as TreeMarks, ClearMarks as TreeClears}
-use Rattle.percpu_rwsem.specs.declared.writers.DownWriteStep.TheVariants.{Sums}
-use Rattle.gated_tree.specs.declared.snapshots.Snapshot.{Snapshot}
-use Rattle.gated_tree.specs.declared.changes.Create.{Create}
-use Rattle.gated_tree.specs.declared.changes.Remove.{Remove}
-use Rattle.gated_tree.specs.declared.growth.Grow.{Grow}
-use Rattle.gated_tree.specs.declared.changes.MoveTo.{MoveTo}
-use Rattle.gated_tree.specs.declared.marks.Mark.{Mark}
-use Rattle.gated_tree.specs.Roles.{words_read}
-use Rattle.gated_tree.specs.Calls.{snapshot_role, phase_role, create_role, remove_role, grow_role, move_role, mark_role, open_role}
-use Rattle.gated_tree.specs.declared.changes.CreateStep.{CreateStep}
-use Rattle.gated_tree.specs.declared.changes.RemoveStep.{RemoveStep}
-use Rattle.gated_tree.specs.declared.growth.GrowStep.{GrowStep}
-use Rattle.gated_tree.specs.declared.changes.MoveStep.{MoveStep}
-use Rattle.gated_tree.specs.declared.marks.MarkStep.{MarkStep}
-use Rattle.gate_world.specs.Snapshots.{values_noted}
-use Rattle.gated_tree.specs.declared.changes.CreateStep.TheVariants.{LoadsDirectory, LoadsNode, ChargesChild, TakesNode, RefundsChild}
-use Rattle.gated_tree.specs.declared.changes.RemoveStep.TheVariants.{LoadsFile as LoadsFileToRemove, FreesNode, CountsRemoved, MarksRemoved, RefundsRemoved, RefundsBlocks as RefundsItsBlocks, RefundsChild as RefundsItsChild}
-use Rattle.gated_tree.specs.declared.growth.GrowStep.TheVariants.{LoadsFile as LoadsFileToGrow, LoadsUsed, ChargesBlocks, GrowsFile, RefundsBlocks}
-use Rattle.gated_tree.specs.declared.changes.MoveStep.TheVariants.{LoadsFile as LoadsFileToMove, LoadsDirectory as LoadsTarget, ChargesChild as ChargesTarget, MovesFile, RefundsChild as RefundsOne}
-use Rattle.gated_tree.specs.declared.marks.MarkStep.TheVariants.{LoadsFile as LoadsFileToMark, MarksFile}
+use Rattle.gate_world.specs.{Configs.IsWithin, Fits.{Fits, FreezeFits, PhaseFits}, Remounts.RemountFits, Rules.{IsGood, Holds, Tree, Stages, Fitting, marks_of}}
+use Rattle.gate_world.specs.{Shown.stage_roles, Snapshots.values_noted}
+use Rattle.gate_world.specs.Stages.{stage_role_of, remount_stage_role, freeze_stage_role, reopening_role, snapshot_stage_role, thaw_stage_role, tree_stage_role}
+use Rattle.gate_world.specs.Stages.{place_of}
+use Rattle.gate_world.specs.Trees.{tree_bounds, tree_of, tree_role_of, tree_roles, is_sealed, remount_tree_role, freeze_tree_role, nodes_noted, is_bare_at}
+use Rattle.gate_world.specs.{Views.{held_at, holds_level}, Worlds.World}
+use Rattle.gate_world.specs.declared.{config.Config.Config, views.{Traced.Traced, View.View}, work.Phase.{Phase, TheVariants.Closes}}
+use Rattle.gate_frames.proofs.TreeRoles.{call_plain, remount_apart, close_apart, freeze_apart}
 
--- a configuration within the limits is one for the laws of the tree
 pub tree_within : (c : Config) → IsWithin c → AreWithin (tree_bounds c)
 tree_within c within = record { tasks = within.tasks; some_node = within.some_node; nodes = within.nodes; capacity = within.capacity }
 
--- the tree is sealed at stages 3 and 4, and where the superblock's flag is set
 pub sealed_frozen : (sb stage : ℕ) → 3 ≤ stage → sealed_by sb stage ≡ 1
 sealed_frozen sb stage h = elim (eqb_tells sb 1) [ inl e ↦ rw e.0 refl | inr e ↦ rw (e.0, le-leb 3 stage h) refl ]
 
 pub sealed_read_only : (sb stage : ℕ) → sb ≡ 1 → sealed_by sb stage ≡ 1
 sealed_read_only sb stage e = rw e refl
 
--- a free node shows nothing
 free_shown : (word : ℕ) → kind_in word ≡ 0 → node_shown word ≡ None
 free_shown word free = rw free refl
 
--- a mark is 0 or 1
 dirty_small : (word : ℕ) → dirty_in word < 2
 dirty_small word = omega arith
 
--- a node that is shown clean has no mark
 pub shown_clean : (word : ℕ) → (kind_in word ≡ 0 → word ≡ 0) → is_dirty (node_shown word) ≡ false → dirty_in word ≡ 0
 shown_clean word free clean = elim (eqb_tells (kind_in word) 0) [
   | inl q ↦ ap dirty_in (free q.1)
@@ -121,7 +71,6 @@ module _ (c : Config) (w : World) (good : IsGood c w) (t : ℕ) (lt : t < c.task
     at = update_map (λ (u : View). tree_role_of u.trace u.phase) w.views t v i;
   }
 
-  -- what holds of the tree then, holds of the world
   pub tree_holds : TreeHolds (tree_bounds c) tree_then → Holds c (record { words = ws; views = update w.views t v }) Tree
   tree_holds h = subst (TreeHolds (tree_bounds c)) (sym tree_moves) h
 
@@ -131,18 +80,11 @@ module _ (c : Config) (w : World) (good : IsGood c w) (t : ℕ) (lt : t < c.task
   tree_after within action event =
       tree_holds (each_event (tree_bounds c) (tree_within c within) (tree_of w) (good Tree) t lt tree_then action event).0
 
-  pub tree_moved : IsWithin c → (action : Option Action) → Event (tree_bounds c) (tree_of w) t tree_then action →
-      MovesBy (tree_bounds c) w.words.node ws.node action
-  tree_moved within action event =
-      (each_event (tree_bounds c) (tree_within c within) (tree_of w) (good Tree) t lt tree_then action event).1
-
 -- what a task is at says of its accesses
 module _ (c : Config) (w : World) (good : IsGood c w) where
-  -- the root is there
   root_there : kind_in (w.words.node 0) ≡ 0 → ⊥
   root_there free = subst IsDirectory (free_shown (w.words.node 0) free) (good Tree).root
 
-  -- the nodes that a role has cleared have no marks
   cleared_clean : (n : ℕ) → n ≤ c.nodes → (t : ℕ) → t < c.tasks → tree_roles w t ≡ Clearing n → CleanBelow n (marks_of w.words)
   cleared_clean n le t lt is m lm =
       let h : RoleHolds (tree_bounds c) w.words.used w.words.removed w.words.node w.words.kids (Clearing n) =
@@ -167,27 +109,25 @@ module _ (c : Config) (w : World) (good : IsGood c w) where
       CleanBelow (clean_by (Freezing level (place_of s) owner)) (marks_of w.words)
   closing_clean zero s owner = none_clean
   closing_clean (suc zero) s owner = none_clean
-  closing_clean (suc (suc level)) (Sums sum) owner = none_clean
+  closing_clean (suc (suc level)) (DownWriteStep.Sums sum) owner = none_clean
   closing_clean (suc (suc level)) s owner = none_clean
 
   reopening_clean : (level : ℕ) (s : UpWriteStep) → CleanBelow (clean_by (reopening_role level s)) (marks_of w.words)
-  reopening_clean level ClearsBlock = none_clean
-  reopening_clean level (Exits transition) = none_clean
+  reopening_clean level UpWriteStep.ClearsBlock = none_clean
+  reopening_clean level (UpWriteStep.Exits transition) = none_clean
 
   snapshot_clean : (s : SnapshotStep) → CleanBelow (clean_by (snapshot_stage_role s)) (marks_of w.words)
-  snapshot_clean SnapshotLocks = none_clean
-  snapshot_clean SnapshotLoadsStage = none_clean
-  snapshot_clean (SnapshotReleases answer) = none_clean
+  snapshot_clean SnapshotStep.Locks = none_clean
   snapshot_clean s = none_clean
 
   -- those that a remount has cleared
   remount_clean : (nodes : ℕ) (s : RemountStep) (t : ℕ) → t < c.tasks → nodes ≡ c.nodes → RemountFits c s →
       tree_roles w t ≡ remount_tree_role nodes s → KnowsStage w.words.stage w.words.sb (remount_stage_role nodes s) →
       CleanBelow (clean_by (remount_stage_role nodes s)) (marks_of w.words)
-  remount_clean nodes (ClearsHold held) t lt same fits is knows = first_clean t lt is
-  remount_clean nodes (ClearsMark n) t lt same fits is knows = cleared_clean n (omega (arith, fits.1)) t lt is
-  remount_clean nodes SetsReadOnly t lt same fits is knows = cleared_clean nodes (omega (arith, same)) t lt is
-  remount_clean nodes ClearsRemount t lt same fits is knows =
+  remount_clean nodes (RemountStep.ClearsHold held) t lt same fits is knows = first_clean t lt is
+  remount_clean nodes (RemountStep.ClearsMark n) t lt same fits is knows = cleared_clean n (omega (arith, fits.1)) t lt is
+  remount_clean nodes RemountStep.SetsReadOnly t lt same fits is knows = cleared_clean nodes (omega (arith, same)) t lt is
+  remount_clean nodes RemountStep.ClearsRemount t lt same fits is knows =
       subst (λ n. CleanBelow n (marks_of w.words)) (sym same) (all_clean (sealed_read_only w.words.sb w.words.stage knows.1))
   remount_clean nodes s t lt same fits is knows = none_clean
 
@@ -195,36 +135,35 @@ module _ (c : Config) (w : World) (good : IsGood c w) where
   freeze_clean : (nodes : ℕ) (holder : Holder) (s : FreezeStep) (t : ℕ) → t < c.tasks → nodes ≡ c.nodes → FreezeFits c holder s →
       tree_roles w t ≡ freeze_tree_role nodes s → CleanBelow (clean_by (freeze_stage_role nodes s)) (marks_of w.words)
   freeze_clean nodes holder (Closes d) t lt same fits is = closing_clean d.level d.step (nat_lt 1 d.level)
-  freeze_clean nodes holder (Cleans marks) t lt same fits is = cleared_clean marks.node (omega (arith, fits.2)) t lt is
-  freeze_clean nodes holder SetsFs t lt same fits is = cleared_clean nodes (omega (arith, same)) t lt is
-  freeze_clean nodes holder (FreezeReopens u code) t lt same fits is = reopening_clean u.level u.step
+  freeze_clean nodes holder (FreezeStep.Cleans marks) t lt same fits is = cleared_clean marks.node (omega (arith, fits.2)) t lt is
+  freeze_clean nodes holder FreezeStep.SetsFs t lt same fits is = cleared_clean nodes (omega (arith, same)) t lt is
+  freeze_clean nodes holder (FreezeStep.Reopens u code) t lt same fits is = reopening_clean u.level u.step
   freeze_clean nodes holder s t lt same fits is = none_clean
 
   thaw_clean : (s : ThawStep) → CleanBelow (clean_by (thaw_stage_role s)) (marks_of w.words)
-  thaw_clean (ThawReopens u) = reopening_clean u.level u.step
+  thaw_clean (ThawStep.Reopens u) = reopening_clean u.level u.step
   thaw_clean s = none_clean
 
   tree_clean : (x : TreePhase) → CleanBelow (clean_by (tree_stage_role x)) (marks_of w.words)
-  tree_clean (Snapshots x) = snapshot_clean x.step
+  tree_clean (TreePhase.Snapshot x) = snapshot_clean x.step
   tree_clean x = none_clean
 
   -- those that what a task is at has cleared
   phase_clean : (t : ℕ) → t < c.tasks → (p : Option Phase) → (w.views t).phase ≡ p →
       CleanBelow (clean_by (stage_role_of p)) (marks_of w.words)
-  phase_clean t lt (Some (Remounts x)) is =
-      let fits : PhaseFits c t (held_at (w.views t)) (holds_level (w.views t)) (Remounts x) =
+  phase_clean t lt (Some (Phase.Remounts x)) is =
+      let fits : PhaseFits c t (held_at (w.views t)) (holds_level (w.views t)) (Phase.Remounts x) =
       subst (Fits c t (held_at (w.views t)) (holds_level (w.views t))) is (good Fitting t lt) in
       remount_clean x.nodes x.step t lt fits.3 fits.5 (ap (tree_role_of (w.views t).trace) is)
       (subst (λ p. KnowsStage w.words.stage w.words.sb (stage_role_of p)) is ((good Stages).knows t lt))
-  phase_clean t lt (Some (Freezes x)) is =
-      let fits : PhaseFits c t (held_at (w.views t)) (holds_level (w.views t)) (Freezes x) =
+  phase_clean t lt (Some (Phase.Freezes x)) is =
+      let fits : PhaseFits c t (held_at (w.views t)) (holds_level (w.views t)) (Phase.Freezes x) =
       subst (Fits c t (held_at (w.views t)) (holds_level (w.views t))) is (good Fitting t lt) in
       freeze_clean x.nodes x.holder x.step t lt fits.3 fits.5 (ap (tree_role_of (w.views t).trace) is)
-  phase_clean t lt (Some (Thaws x)) is = thaw_clean x.step
-  phase_clean t lt (Some (Trees x)) is = tree_clean x
+  phase_clean t lt (Some (Phase.Thaws x)) is = thaw_clean x.step
+  phase_clean t lt (Some (Phase.Trees x)) is = tree_clean x
   phase_clean t lt other is = none_clean
 
-  -- what the laws of the stage read of the marks
   pub marks_right : MarksHold c.tasks c.nodes w.words.stage w.words.sb (marks_of w.words) (stage_roles w)
   marks_right = record {
     frozen = λ h. all_clean (sealed_frozen w.words.sb w.words.stage h);
@@ -235,72 +174,26 @@ module _ (c : Config) (w : World) (good : IsGood c w) where
   -- where the stage isn't 4, a snapshot has loaded no word
   snapshot_unread : (x : Snapshot) (s : SnapshotStep) (values : ℕ → ℕ) → (w.words.stage ≡ 4 → ⊥) →
       KnowsStage w.words.stage w.words.sb (snapshot_stage_role s) → words_read (snapshot_role x.nodes values s) ≡ 0
-  snapshot_unread x (SnapshotLoadsNode n) values apart knows = absurd (apart knows.0)
-  snapshot_unread x (SnapshotLoadsKids n) values apart knows = absurd (apart knows.0)
-  snapshot_unread x (SnapshotReleases (Ok reply)) values apart knows = absurd (apart knows.0)
-  snapshot_unread x (SnapshotReleases (Err refusal)) values apart knows = refl
+  snapshot_unread x (SnapshotStep.LoadsNode n) values apart knows = absurd (apart knows.0)
+  snapshot_unread x (SnapshotStep.LoadsKids n) values apart knows = absurd (apart knows.0)
+  snapshot_unread x (SnapshotStep.Releases (Ok reply)) values apart knows = absurd (apart knows.0)
+  snapshot_unread x (SnapshotStep.Releases (Err refusal)) values apart knows = refl
   snapshot_unread x other values apart knows = refl
-
-  create_unread : (x : Create) (s : CreateStep) → words_read (create_role x s) ≡ 0
-  create_unread x LoadsDirectory = refl
-  create_unread x other = refl
-
-  remove_unread : (x : Remove) (s : RemoveStep) → words_read (remove_role x s) ≡ 0
-  remove_unread x LoadsFileToRemove = refl
-  remove_unread x other = refl
-
-  grow_unread : (x : Grow) (s : GrowStep) → words_read (grow_role x s) ≡ 0
-  grow_unread x LoadsFileToGrow = refl
-  grow_unread x other = refl
-
-  move_unread : (x : MoveTo) (s : MoveStep) → words_read (move_role x s) ≡ 0
-  move_unread x LoadsFileToMove = refl
-  move_unread x other = refl
-
-  mark_unread : (x : Mark) (s : MarkStep) → words_read (mark_role x s) ≡ 0
-  mark_unread x LoadsFileToMark = refl
-  mark_unread x (MarksFile file) = refl
-
-  open_unread : (x : OpenFile) (s : OpenStep) → words_read (open_role x s) ≡ 0
-  open_unread x LoadsFileToOpen = refl
-  open_unread x (OpensFile file) = refl
-
-  close_unread : (x : ClosePhase) → words_read (close_tree_role x) ≡ 0
-  close_unread (CloseLoadsFile x) = refl
-  close_unread other = refl
 
   tree_unread : (x : TreePhase) (values : ℕ → ℕ) → (w.words.stage ≡ 4 → ⊥) →
       KnowsStage w.words.stage w.words.sb (tree_stage_role x) → words_read (phase_role values x) ≡ 0
-  tree_unread (Creates x) values apart knows = create_unread x x.step
-  tree_unread (Removes x) values apart knows = remove_unread x x.step
-  tree_unread (Grows x) values apart knows = grow_unread x x.step
-  tree_unread (Moves x) values apart knows = move_unread x x.step
-  tree_unread (TreeMarks x) values apart knows = mark_unread x x.step
-  tree_unread (OpensOne x) values apart knows = open_unread x x.step
-  tree_unread (Snapshots x) values apart knows = snapshot_unread x x.step values apart knows
-  tree_unread (TreeClears x) values apart knows = refl
-
-  remount_unread : (nodes : ℕ) (s : RemountStep) → words_read (remount_tree_role nodes s) ≡ 0
-  remount_unread nodes (SetsRemount held) = refl
-  remount_unread nodes (ClearsHold held) = refl
-  remount_unread nodes (ClearsMark n) = refl
-  remount_unread nodes SetsReadOnly = refl
-  remount_unread nodes s = refl
-
-  freeze_unread : (nodes : ℕ) (s : FreezeStep) → words_read (freeze_tree_role nodes s) ≡ 0
-  freeze_unread nodes (Cleans marks) = refl
-  freeze_unread nodes SetsFs = refl
-  freeze_unread nodes s = refl
+  tree_unread (TreePhase.Snapshot x) values apart knows = snapshot_unread x x.step values apart knows
+  tree_unread (TreePhase.ClearMarks x) values apart knows = refl
+  tree_unread x values apart knows = (call_plain values x refl).read_none
 
   phase_unread : (trace : List Traced) (p : Option Phase) → (w.words.stage ≡ 4 → ⊥) →
       KnowsStage w.words.stage w.words.sb (stage_role_of p) → words_read (tree_role_of trace p) ≡ 0
-  phase_unread trace (Some (Remounts x)) apart knows = remount_unread x.nodes x.step
-  phase_unread trace (Some (Freezes x)) apart knows = freeze_unread x.nodes x.step
-  phase_unread trace (Some (Trees x)) apart knows = tree_unread x (values_noted (nodes_noted x) trace) apart knows
-  phase_unread trace (Some (Closes x)) apart knows = close_unread x
+  phase_unread trace (Some (Phase.Remounts x)) apart knows = (remount_apart x.nodes x.step).0
+  phase_unread trace (Some (Phase.Freezes x)) apart knows = (freeze_apart x.nodes x.step).1
+  phase_unread trace (Some (Phase.Trees x)) apart knows = tree_unread x (values_noted (nodes_noted x) trace) apart knows
+  phase_unread trace (Some (Closes x)) apart knows = (close_apart x).2
   phase_unread trace p apart knows = refl
 
-  -- so nobody reads then
   pub nobody_reads : (w.words.stage ≡ 4 → ⊥) → NobodyReads (tree_bounds c) (tree_of w)
   nobody_reads apart = total_none c.tasks (λ t. words_read (tree_roles w t)) (λ t lt.
       phase_unread (w.views t).trace (w.views t).phase apart ((good Stages).knows t lt))

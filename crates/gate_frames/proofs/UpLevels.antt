@@ -1,89 +1,65 @@
 -- What each event of an up-write leaves of the levels: its store opens its level, and its exchange leaves the rcu_sync.
-use Rattle.std.proofs.Common.{◌≡◌, ℕ, ◌<◌, ◌≤◌, refl, sym, ◌∙◌, subst}
-use Rattle.std.specs.Prelude.{Some}
+use Rattle.std.{proofs.Common.{◌≡◌, ℕ, ◌<◌, ◌≤◌, refl, sym, ◌∙◌, subst}, specs.Prelude.Some}
 use Rattle.finite_sums.proofs.Totals.{update_at}
 use Rattle.access_model.specs.declared.replies.Next.{Next}
-use Rattle.access_model.specs.declared.replies.Next.TheVariants.{Go, Wait, Done}
-use Rattle.cpu_words.specs.declared.names.WordName.{WordName}
-use Rattle.cpu_words.specs.declared.events.Touch.{Touch}
-use Rattle.cpu_words.specs.Touches.{found_by, left}
-use Rattle.cpu_words.specs.Words.{Words, read, put}
-use Rattle.percpu_rwsem.specs.declared.transitions.Transition.TheVariants.{Loads, Exchanges}
-use Rattle.percpu_rwsem.specs.declared.transitions.TransitionNext.{TransitionNext}
-use Rattle.percpu_rwsem.specs.declared.transitions.TransitionNext.TheVariants.{More, Undefined, Made}
-use Rattle.percpu_rwsem.specs.declared.writers.UpWrite.{UpWrite}
-use Rattle.percpu_rwsem.specs.declared.writers.UpWriteStep.{UpWriteStep}
-use Rattle.percpu_rwsem.specs.declared.writers.UpWriteStep.TheVariants.{ClearsBlock, Exits}
-use Rattle.percpu_rwsem.specs.SyncWords.{on_exit}
-use Rattle.percpu_rwsem.specs.Transitions.{transition_after}
-use Rattle.percpu_rwsem.specs.Writers.{up_write_next, up_write_after, at_up_write, exit_made}
-use Rattle.gate_counts.specs.Levels.{Out as CountsNot}
-use Rattle.gate_counts.proofs.LevelLaws.{reopens}
-use Rattle.level_laws.specs.Roles.{Out as IsApart}
-use Rattle.level_laws.specs.Events.{SyncStep}
-use Rattle.level_laws.specs.Operations.{up_write_role, left_by, by_next, HoldsOfNext}
+use Rattle.cpu_words.specs.{Touches.{found_by, left}, Words.{Words, read, put}, declared.{events.Touch.Touch, names.WordName.WordName}}
+use Rattle.gate_counts.{proofs.LevelLaws.reopens, specs.Levels.Out as CountsNot}
+use Rattle.percpu_rwsem.specs.{SyncWords.on_exit, Transitions.transition_after, Writers.{up_write_next, up_write_after, at_up_write, exit_made}}
+use Rattle.percpu_rwsem.specs.declared.{transitions.{Transition.Transition, TransitionNext.TransitionNext}, writers.{UpWrite.UpWrite, UpWriteStep.UpWriteStep}}
 use Rattle.level_laws.proofs.Operations.{up_writes_are_there}
-use Rattle.gate_world.specs.declared.config.Config.{Config}
-use Rattle.gate_world.specs.declared.views.View.{View}
-use Rattle.gate_world.specs.Configs.{IsWithin}
-use Rattle.gate_world.specs.Fits.{UpWriteFits}
-use Rattle.gate_world.specs.Worlds.{World}
-use Rattle.gate_world.specs.Levels.{Stand, stand_count, stand_sync, is_frozen_whole}
-use Rattle.gate_world.specs.Rules.{IsGood, Holds, AtLevel}
-use Rattle.gate_frames.proofs.Frames.{SameLevelCounts}
-use Rattle.gate_world.specs.LevelRuns.{level_in}
-use Rattle.gate_frames.proofs.LevelWorlds.{found_level, IsEventAt}
+use Rattle.level_laws.specs.{Events.SyncStep, Operations.{up_write_role, left_by, by_next, HoldsOfNext}, Roles.Out as IsApart}
+use Rattle.gate_world.specs.{Configs.IsWithin, Fits.UpWriteFits, LevelRuns.level_in, Levels.{Stand, stand_count, stand_sync, is_frozen_whole}}
+use Rattle.gate_world.specs.{Rules.{IsGood, Holds, AtLevel}, Worlds.World, declared.{config.Config.Config, views.View.View}}
+use Rattle.gate_frames.proofs.{Frames.SameLevelCounts, LevelWorlds.{found_level, IsEventAt, event_word}}
+use Rattle.gate_frames.proofs.StandRoles.{count_at, sync_at, still_count, still_sync, SayBeside, beside_each, beside_still, counts_left, counts_become}
+use Rattle.gate_frames.proofs.StandRoles.{levels_move}
 use Rattle.gate_frames.proofs.Standing.{Stands, opening_stand, stand_after_opening, LevelsHold, left_world}
-use Rattle.gate_frames.proofs.StandRoles.{count_at, sync_at, still_count, still_sync, SayBeside, beside_each, beside_still, is_of_level, counts_left, counts_become, levels_move}
 
 -- the same up-write at this step
 abbrev pub opening_at : UpWrite → UpWriteStep → UpWrite
 opening_at u s = record u { step = s }
 
--- each of its events is one of its level, and changes no section word
 pub up_write_event : (u : UpWrite) (s : UpWriteStep) → IsEventAt u.level (up_write_next u s).0 (up_write_next u s).1
-up_write_event u ClearsBlock = refl
-up_write_event u (Exits Loads) = refl
-up_write_event u (Exits (Exchanges from to)) = refl
+up_write_event u UpWriteStep.ClearsBlock = refl
+up_write_event u (UpWriteStep.Exits Transition.Loads) = refl
+up_write_event u (UpWriteStep.Exits (Transition.Exchanges from to)) = refl
 
--- it leaves the counts
 up_write_counts : (w : Words) (u : UpWrite) (s : UpWriteStep) (n : ℕ) → (put w (up_write_next u s).0 n).level ≡ w.level
-up_write_counts w u ClearsBlock n = refl
-up_write_counts w u (Exits Loads) n = refl
-up_write_counts w u (Exits (Exchanges from to)) n = refl
+up_write_counts w u UpWriteStep.ClearsBlock n = refl
+up_write_counts w u (UpWriteStep.Exits Transition.Loads) n = refl
+up_write_counts w u (UpWriteStep.Exits (Transition.Exchanges from to)) n = refl
 
--- an up-write stays at its level
 exit_level : (u : UpWrite) (n : TransitionNext) → HoldsOfNext (λ (x : UpWrite). x.level ≡ u.level) (exit_made u n)
-exit_level u (More x) = refl
-exit_level u Undefined = refl
-exit_level u (Made state) = tt
+exit_level u (TransitionNext.More x) = refl
+exit_level u TransitionNext.Undefined = refl
+exit_level u (TransitionNext.Made state) = tt
 
 -- after each of its events
 pub up_write_level : (u : UpWrite) (s : UpWriteStep) (found : ℕ) →
     HoldsOfNext (λ (x : UpWrite). x.level ≡ u.level) (up_write_after u s found).0
-up_write_level u ClearsBlock found = refl
-up_write_level u (Exits x) found = exit_level u (transition_after on_exit x found)
+up_write_level u UpWriteStep.ClearsBlock found = refl
+up_write_level u (UpWriteStep.Exits x) found = exit_level u (transition_after on_exit x found)
 
 -- what comes after its event says what it said of the other levels
 opening_beside : (level : ℕ) (s : Stand) → 1 ≤ level → s.level ≡ level → (n : Next UpWrite) →
     HoldsOfNext (λ (x : UpWrite). x.level ≡ level) n → SayBeside level (Some s) (stand_after_opening level n)
-opening_beside level s one e (Go x) h = beside_each level s (opening_stand x) e h
-opening_beside level s one e (Wait x) h = beside_each level s (opening_stand x) e h
-opening_beside level s one e (Done answer) h = beside_still level s one e
+opening_beside level s one e (Next.Go x) h = beside_each level s (opening_stand x) e h
+opening_beside level s one e (Next.Wait x) h = beside_each level s (opening_stand x) e h
+opening_beside level s one e (Next.Done answer) h = beside_still level s one e
 
 -- and of its own what its step is doing there
 opening_sync : (level : ℕ) → 1 ≤ level → (n : Next UpWrite) → HoldsOfNext (λ (x : UpWrite). x.level ≡ level) n →
     by_next (λ (x : UpWrite). up_write_role x.step) IsApart n ≡ stand_sync level (stand_after_opening level n)
-opening_sync level one (Go x) h = sym (sync_at level (opening_stand x) (sym h))
-opening_sync level one (Wait x) h = sym (sync_at level (opening_stand x) (sym h))
-opening_sync level one (Done answer) h = sym (still_sync level one)
+opening_sync level one (Next.Go x) h = sym (sync_at level (opening_stand x) (sym h))
+opening_sync level one (Next.Wait x) h = sym (sync_at level (opening_stand x) (sym h))
+opening_sync level one (Next.Done answer) h = sym (still_sync level one)
 
 -- with its store made, it has no part in the counts
 exit_counts : (u : UpWrite) → 1 ≤ u.level → (n : TransitionNext) →
     stand_count u.level (stand_after_opening u.level (exit_made u n)) ≡ CountsNot
-exit_counts u one (More x) = count_at u.level (opening_stand (at_up_write u x)) refl
-exit_counts u one Undefined = count_at u.level (opening_stand (at_up_write u Loads)) refl
-exit_counts u one (Made state) = still_count u.level one
+exit_counts u one (TransitionNext.More x) = count_at u.level (opening_stand (at_up_write u x)) refl
+exit_counts u one TransitionNext.Undefined = count_at u.level (opening_stand (at_up_write u Transition.Loads)) refl
+exit_counts u one (TransitionNext.Made state) = still_count u.level one
 
 module _ (c : Config) (lim : IsWithin c) (w : World) (good : IsGood c w) (t : ℕ) (lt : t < c.tasks) (u : UpWrite) where
   -- the words after its event at this step
@@ -103,7 +79,7 @@ module _ (c : Config) (lim : IsWithin c) (w : World) (good : IsGood c w) (t : �
       let name : WordName = (up_write_next u s).0 in
       let touch : Touch = (up_write_next u s).1 in
       let stays = up_write_level u s (found_by touch (read w.words name)) in
-      let found = found_level w u.level name (is_of_level u.level name touch (up_write_event u s)) in
+      let found = found_level w u.level name (event_word u.level name touch (up_write_event u s)) in
       let there = up_writes_are_there c.tasks t (read w.words name) (level_in w u.level) (opening_at u s) lt
       (was.syncs u.level low high ∙ sync_at u.level (opening_stand (opening_at u s)) refl) fits.2 in
       subst (λ k. SyncStep c.tasks (level_in w u.level) (left_by (level_in w u.level) t (name, touch) (read w.words name) k))
@@ -122,24 +98,26 @@ module _ (c : Config) (lim : IsWithin c) (w : World) (good : IsGood c w) (t : �
     -- the counts of its level after its event: its store opens the level
     opening_here : (s : UpWriteStep) → 1 ≤ u.level → Stands (w.views t).phase (Some (opening_stand (opening_at u s))) →
         Stands v.phase (stand_after_opening u.level (next_opening s)) → Holds c (left_world w t (words_opening s) v) (AtLevel u.level)
-    opening_here ClearsBlock one was now =
-        counts_become c w good t lt v (Some (opening_stand (opening_at u ClearsBlock)))
-        (stand_after_opening u.level (next_opening ClearsBlock)) was now counts (words_opening ClearsBlock) u.level 0
+    opening_here UpWriteStep.ClearsBlock one was now =
+        counts_become c w good t lt v (Some (opening_stand (opening_at u UpWriteStep.ClearsBlock)))
+        (stand_after_opening u.level (next_opening UpWriteStep.ClearsBlock)) was now counts (words_opening UpWriteStep.ClearsBlock) u.level 0
         (is_frozen_whole w.words) CountsNot (update_at w.words.block u.level 0) refl refl
-        (λ low high. count_at u.level (opening_stand (at_up_write u Loads)) refl)
+        (λ low high. count_at u.level (opening_stand (at_up_write u Transition.Loads)) refl)
         (λ low high. reopens (good (AtLevel u.level) low high) t lt lim.tasks lim.processors
-        (was.counts u.level low high ∙ count_at u.level (opening_stand (opening_at u ClearsBlock)) refl))
-    opening_here (Exits Loads) one was now =
-        counts_left c w good t lt v (Some (opening_stand (opening_at u (Exits Loads))))
-        (stand_after_opening u.level (next_opening (Exits Loads))) was now counts (words_opening (Exits Loads)) u.level refl refl refl
-        (λ low high. exit_counts u one (transition_after on_exit Loads (w.words.sync u.level)) ∙
-        sym (count_at u.level (opening_stand (opening_at u (Exits Loads))) refl))
-    opening_here (Exits (Exchanges from to)) one was now =
-        counts_left c w good t lt v (Some (opening_stand (opening_at u (Exits (Exchanges from to)))))
-        (stand_after_opening u.level (next_opening (Exits (Exchanges from to)))) was now counts (words_opening (Exits (Exchanges from to)))
+        (was.counts u.level low high ∙ count_at u.level (opening_stand (opening_at u UpWriteStep.ClearsBlock)) refl))
+    opening_here (UpWriteStep.Exits Transition.Loads) one was now =
+        counts_left c w good t lt v (Some (opening_stand (opening_at u (UpWriteStep.Exits Transition.Loads))))
+        (stand_after_opening u.level (next_opening (UpWriteStep.Exits Transition.Loads))) was now counts
+        (words_opening (UpWriteStep.Exits Transition.Loads)) u.level refl refl refl
+        (λ low high. exit_counts u one (transition_after on_exit Transition.Loads (w.words.sync u.level)) ∙
+        sym (count_at u.level (opening_stand (opening_at u (UpWriteStep.Exits Transition.Loads))) refl))
+    opening_here (UpWriteStep.Exits (Transition.Exchanges from to)) one was now =
+        counts_left c w good t lt v (Some (opening_stand (opening_at u (UpWriteStep.Exits (Transition.Exchanges from to)))))
+        (stand_after_opening u.level (next_opening (UpWriteStep.Exits (Transition.Exchanges from to)))) was now counts
+        (words_opening (UpWriteStep.Exits (Transition.Exchanges from to)))
         u.level refl refl refl
-        (λ low high. exit_counts u one (transition_after on_exit (Exchanges from to) (w.words.sync u.level)) ∙
-        sym (count_at u.level (opening_stand (opening_at u (Exits (Exchanges from to)))) refl))
+        (λ low high. exit_counts u one (transition_after on_exit (Transition.Exchanges from to) (w.words.sync u.level)) ∙
+        sym (count_at u.level (opening_stand (opening_at u (UpWriteStep.Exits (Transition.Exchanges from to)))) refl))
 
     -- each event of an up-write leaves the levels as the rule has them
     pub up_write_levels_at : (s : UpWriteStep) → UpWriteFits (opening_at u s) →
@@ -152,7 +130,6 @@ module _ (c : Config) (lim : IsWithin c) (w : World) (good : IsGood c w) (t : �
         u.level name touch (up_write_event u s) (up_write_counts w.words u s (left touch (read w.words name)))
         (opening_others s fits) (opening_here s fits.0 was now) (opening_there s fits was)
 
--- so it does at the step that it is at
 pub up_write_levels : (c : Config) → IsWithin c → (w : World) → IsGood c w → (t : ℕ) → t < c.tasks → (u : UpWrite) (v : View) →
     SameLevelCounts (w.views t) v → UpWriteFits u → Stands (w.views t).phase (Some (opening_stand u)) →
     Stands v.phase (stand_after_opening u.level

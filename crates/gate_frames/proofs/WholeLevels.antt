@@ -1,24 +1,13 @@
 -- The store of stage 4 that leaves all levels closed and no task's own, and the store of stage 0 that takes them over.
-use Rattle.std.proofs.Common.{◌≡◌, ℕ, ◌<◌, refl, sym, ap, ◌∙◌, subst}
-use Rattle.std.specs.Prelude.{Some, None}
-use Rattle.finite_sums.specs.Sums.{update}
-use Rattle.finite_sums.proofs.Totals.{update_same}
+use Rattle.std.{proofs.Common.{◌≡◌, ℕ, ◌<◌, refl, sym, ap, ◌∙◌, subst}, specs.Prelude.{Some, None}}
+use Rattle.finite_sums.{proofs.Totals.update_same, specs.Sums.update}
 use Rattle.cpu_words.specs.Words.{Words}
-use Rattle.gate_counts.specs.Levels.{Out as CountsNot, Passed as CountsPassed}
-use Rattle.gate_counts.proofs.LevelLaws.{is_left_frozen, thaws}
-use Rattle.level_laws.specs.Roles.{SyncRole, Out as IsApart, Closed}
-use Rattle.level_laws.specs.Events.{Freezes, Thaws, SyncStep}
-use Rattle.gate_world.specs.declared.config.Config.{Config}
-use Rattle.gate_world.specs.declared.views.View.{View}
-use Rattle.gate_world.specs.Configs.{IsWithin}
-use Rattle.gate_world.specs.Worlds.{World}
-use Rattle.gate_world.specs.Levels.{closed_to, inside, is_frozen_whole, sync_role_of}
-use Rattle.gate_world.specs.Rules.{IsGood, AtLevel}
-use Rattle.gate_frames.proofs.Frames.{SameLevelCounts}
-use Rattle.gate_world.specs.LevelRuns.{level_in}
-use Rattle.gate_frames.proofs.LevelWorlds.{level_moves, level_steps}
-use Rattle.gate_frames.proofs.Standing.{Stands, LevelsHold, LevelsRun, left_world}
-use Rattle.gate_frames.proofs.StandRoles.{count_closed, sync_closed, counts_become, sections_left}
+use Rattle.gate_counts.{proofs.LevelLaws.{is_left_frozen, thaws}, specs.Levels.{Out as CountsNot, Passed as CountsPassed}}
+use Rattle.level_laws.specs.{Events.{Freezes, Thaws, SyncStep}, Roles.{SyncRole, Out as IsApart, Closed}}
+use Rattle.gate_world.specs.{Configs.IsWithin, LevelRuns.level_in, Levels.{closed_to, inside, is_frozen_whole, sync_role_of}, Rules.{IsGood, AtLevel}}
+use Rattle.gate_world.specs.{Worlds.World, declared.{config.Config.Config, views.View.View}}
+use Rattle.gate_frames.proofs.{Frames.SameLevelCounts, LevelWorlds.{level_moves, level_steps}}
+use Rattle.gate_frames.proofs.{StandRoles.{count_closed, sync_closed, counts_become, sections_left}, Standing.{Stands, LevelsHold, LevelsRun, left_world}}
 
 -- the words of the levels are as they were, but for whether the file system is frozen as a whole
 pub record SameWordsOfLevels (old new : Words) : Type 0 where

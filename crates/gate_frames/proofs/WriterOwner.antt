@@ -2,13 +2,8 @@
 use Rattle.std.proofs.Common.{◌≡◌, ℕ, suc, ◌<◌, sym, ◌∙◌}
 use Rattle.finite_sums.specs.Sums.{update}
 use Rattle.cpu_words.specs.Words.{Words}
-use Rattle.gate_world.specs.declared.config.Config.{Config}
-use Rattle.gate_world.specs.declared.views.View.{View}
-use Rattle.gate_world.specs.Rules.{owns, remounts, OwnerHolds, IsGood, Owner}
-use Rattle.gate_world.specs.Worlds.{World}
-use Rattle.gate_frames.proofs.Frames.{left_alone}
-use Rattle.gate_frames.proofs.Owners.{locks_umount, releases_umount}
-use Rattle.gate_frames.proofs.WriterParts.{IsWriter}
+use Rattle.gate_world.specs.{Rules.{owns, remounts, OwnerHolds, IsGood, Owner}, Worlds.World, declared.{config.Config.Config, views.View.View}}
+use Rattle.gate_frames.proofs.{Frames.left_alone, Owners.{locks_umount, releases_umount}, WriterParts.IsWriter}
 
 module _ (c : Config) (w : World) (good : IsGood c w) (t : ℕ) (lt : t < c.tasks) (v : View) (was : IsWriter (w.views t).phase)
     (now : IsWriter v.phase) where

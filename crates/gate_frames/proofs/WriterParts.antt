@@ -1,76 +1,30 @@
 -- What an event of a freeze or a thaw may leave: each part of the rule, and the shown model.
-use Rattle.cpu_words.specs.Sums.{sum_taking}
-use Rattle.access_model.specs.States.{Limits}
-use Rattle.percpu_rwsem.specs.Graces.{looked}
-use Rattle.gated_tree.specs.Nodes.{node_shown}
-use Rattle.gate_world.specs.Configs.{model_limits}
-use Rattle.percpu_rwsem.specs.SyncWords.{is_passed, on_enter, on_callback, unpack}
-use Rattle.percpu_rwsem.specs.Transitions.{transition_after}
-use Rattle.cpu_words.specs.declared.sums.Taken.TheVariants.{More as MoreWords, Total}
-use Rattle.gate_frames.proofs.Keeps.{by_bool}
-use Rattle.percpu_rwsem.specs.declared.grace.GraceNext.TheVariants.{More as MoreSections, Wait as WaitsFor, Ended}
-use Rattle.gate_frames.proofs.Frames.{left_alone, view_as}
-use Rattle.cpu_words.specs.declared.sums.Taken.{Taken}
-use Rattle.percpu_rwsem.specs.declared.sync_word.SyncWord.{SyncWord}
-use Rattle.percpu_rwsem.specs.declared.grace.GraceNext.{GraceNext}
-use Rattle.cpu_words.specs.Touches.{found_by, event_of}
-use Rattle.access_model.specs.declared.replies.Reply.TheVariants.{Unit as UnitReply}
-use Rattle.std.proofs.lemmas.Bool.{cases_Bool, lt-ltb}
-use Rattle.stage_laws.specs.Shown.{state_after, ShowsStages, AsksOthers}
-use Rattle.finite_sums.proofs.Totals.{each_updated}
-use Rattle.gate_frames.proofs.Standing.{LevelsHold}
-use Rattle.std.proofs.lemmas.Bool.Decides.{eqb_tells}
-use Rattle.gate_world.specs.Found.{is_load}
-use Rattle.gate_frames.proofs.Standing.{left_world}
-use Rattle.gate_frames.proofs.MountEvents.{is_known_part, known_is}
-use Rattle.finite_sums.specs.Sums.{update}
-use Rattle.freeze_levels.specs.Thaws.{thaw_next, thaw_after}
-use Rattle.gate_world.specs.Fits.{FreezeFits, HasFile, file_of}
-use Rattle.gated_tree.specs.Nodes.{opens_in}
-use Rattle.access_model.specs.States.{openers}
-use Rattle.gate_frames.proofs.Frames.{opens_left}
-use Rattle.freeze_levels.specs.Freezes.{freeze_next, level_closed, freeze_after, after_closing}
-use Rattle.percpu_rwsem.specs.Writers.{sum_begun, at_down_write, down_write_next, up_write_next, down_write_after, sections_awaited, passed_awaited, down_write_summed, enter_step, callback_step}
-use Rattle.gate_frames.proofs.Known.{IsOwnersWork, known_after}
-use Rattle.gate_world.specs.Shown.{shown, stage_roles}
-use Rattle.gate_frames.proofs.Stages.{stages_after, stage_action, shown_by, IsStageEvent, stages_in, stage_effect}
-use Rattle.access_model.specs.Replies.{map_next}
-use Rattle.mount_counts.specs.Roles.{Out}
-use Rattle.freeze_levels.specs.declared.thaws.ThawStep.{ThawStep}
-use Rattle.freeze_levels.specs.declared.freezes.FreezeStep.{FreezeStep}
-use Rattle.gate_world.specs.Stages.{reopening_role, freeze_stage_role, thaw_stage_role, stage_role_of}
-use Rattle.gate_world.specs.Owners.{is_owned, takes_lock}
-use Rattle.percpu_rwsem.specs.declared.writers.DownWriteStep.{DownWriteStep}
-use Rattle.cpu_words.specs.Hooks.{HookAnswer}
-use Rattle.access_model.specs.declared.actions.Action.{Action}
-use Rattle.access_model.specs.declared.actions.NodeInfo.{NodeInfo}
-use Rattle.access_model.specs.declared.actions.Holders.{Holders}
-use Rattle.freeze_levels.specs.Holders.{holders_in}
-use Rattle.gate_world.specs.Views.{phase_after, held_at, holds_level, added_by, taken_by, has_open}
-use Rattle.gate_world.specs.declared.work.Phase.TheVariants.{Freezes, Thaws}
-use Rattle.gate_world.specs.Rules.{Stages, Holding, Fitting, Known, Tree, AtMount, Sections, role_of, IsGood, OwnerHolds, Part, Moves, owns, remounts, StepKeeps, Holds, ViewFits, AtLevel, SyncAt, Owner, Files}
-use Rattle.gate_world.specs.Worlds.{World, value_at, after_step, phase_action}
-use Rattle.percpu_rwsem.specs.declared.writers.UpWriteStep.{UpWriteStep}
-use Rattle.percpu_rwsem.specs.declared.writers.UpWrite.{UpWrite}
-use Rattle.percpu_rwsem.specs.declared.writers.DownWrite.{DownWrite}
-use Rattle.gate_world.specs.declared.config.Config.{Config}
-use Rattle.access_model.specs.States.{State}
-use Rattle.gate_world.specs.declared.views.View.{View}
-use Rattle.cpu_words.specs.Words.{Words}
-use Rattle.access_model.specs.declared.replies.Next.{Next}
-use Rattle.freeze_levels.specs.declared.thaws.Thaw.{Thaw}
-use Rattle.freeze_levels.specs.declared.freezes.Freeze.{Freeze}
-use Rattle.gate_world.specs.declared.work.Phase.{Phase}
 use Rattle.std.proofs.Common.{◌≡◌, ℕ, ◌<◌, ◌≤◌, true, false, refl, sym, ap, ◌∙◌, subst, inl, inr, arith, true≢false, ◌⊎◌, nat_lt}
+use Rattle.std.proofs.lemmas.Bool.{cases_Bool, lt-ltb, Decides.eqb_tells}
 use Rattle.std.specs.Prelude.{if◌then◌else◌, ◌==◌, Option, Some, None, Ok}
-use Rattle.freeze_levels.specs.declared.freezes.FreezeStep.TheVariants.{Locks as FreezeLocks, Closes, LocksAgain, Reopens as FreezeReopens}
-use Rattle.freeze_levels.specs.declared.thaws.ThawStep.TheVariants.{Locks as ThawLocks, Reopens as ThawReopens}
-use Rattle.percpu_rwsem.specs.declared.writers.DownWriteStep.TheVariants.{Enters, AwaitsSections, CallsBack, AwaitsPassed, SetsBlock, Sums}
-use Rattle.percpu_rwsem.specs.declared.writers.UpWriteStep.TheVariants.{ClearsBlock, Exits}
-use Rattle.percpu_rwsem.specs.declared.transitions.Transition.TheVariants.{Loads, Exchanges}
-use Rattle.access_model.specs.declared.replies.Next.TheVariants.{Go, Wait, Done}
-use Rattle.stage_laws.specs.Roles.{owns as stage_owns, bit}
-use Rattle.stage_laws.specs.Events.{StageEvent, action_of as stage_action_of}
+use Rattle.finite_sums.{proofs.Totals.each_updated, specs.Sums.update}
+use Rattle.access_model.specs.{Replies.map_next, States.{Limits, openers, State}}
+use Rattle.access_model.specs.declared.{actions.{Action.Action, Holders.Holders, NodeInfo.NodeInfo}, replies.{Next.Next, Reply.Reply}}
+use Rattle.cpu_words.specs.{Hooks.HookAnswer, Sums.sum_taking, Touches.{found_by, event_of}, Words.Words, declared.sums.Taken.Taken}
+use Rattle.gated_tree.specs.Nodes.{node_shown, opens_in}
+use Rattle.mount_counts.specs.Roles.{Out}
+use Rattle.percpu_rwsem.specs.{Graces.looked, SyncWords.{is_passed, on_enter, on_callback, unpack}, Transitions.transition_after}
+use Rattle.percpu_rwsem.specs.Writers.{sum_begun, at_down_write, down_write_next, down_write_after, sections_awaited, passed_awaited, down_write_summed}
+use Rattle.percpu_rwsem.specs.Writers.{enter_step, callback_step}
+use Rattle.percpu_rwsem.specs.declared.{grace.GraceNext.GraceNext, sync_word.SyncWord.SyncWord, transitions.Transition.Transition}
+use Rattle.percpu_rwsem.specs.declared.writers.{DownWrite.DownWrite, DownWriteStep.DownWriteStep, UpWriteStep.UpWriteStep}
+use Rattle.freeze_levels.specs.{Freezes.{freeze_next, level_closed, freeze_after, after_closing}, Holders.holders_in, Thaws.{thaw_next, thaw_after}}
+use Rattle.freeze_levels.specs.declared.{freezes.{Freeze.Freeze, FreezeStep.FreezeStep}, thaws.{Thaw.Thaw, ThawStep.ThawStep}}
+use Rattle.stage_laws.specs.{Events.{StageEvent, action_of as stage_action_of}, Roles.{owns as stage_owns, bit}, Shown.{state_after, ShowsStages, AsksOthers}}
+use Rattle.gate_world.specs.{Configs.model_limits, Fits.{FreezeFits, HasFile, file_of}, Found.is_load, Owners.{is_owned, takes_lock}}
+use Rattle.gate_world.specs.Rules.{Stages, Holding, Fitting, Known, Tree, AtMount, Sections, role_of, IsGood, OwnerHolds, Part, Moves, owns, remounts}
+use Rattle.gate_world.specs.Rules.{StepKeeps, Holds, ViewFits, AtLevel, SyncAt, Owner, Files}
+use Rattle.gate_world.specs.{Shown.{shown, stage_roles}, Stages.{reopening_role, freeze_stage_role, thaw_stage_role, stage_role_of}}
+use Rattle.gate_world.specs.{Views.{phase_after, held_at, holds_level, added_by, taken_by, has_open}, Worlds.{World, value_at, after_step, phase_action}}
+use Rattle.gate_world.specs.declared.{config.Config.Config, views.View.View, work.Phase.Phase}
+use Rattle.gate_frames.proofs.{Frames.{left_alone, view_as, opens_left}, Keeps.by_bool, Known.{IsOwnersWork, known_after}}
+use Rattle.gate_frames.proofs.{MountEvents.{is_known_part, known_is}, Stages.{stages_after, stage_action, shown_by, IsStageEvent, stages_in, stage_effect}}
+use Rattle.gate_frames.proofs.Standing.{LevelsHold, left_world}
 
 -- A phase of a freeze or a thaw, or none: it has no role at a mount, and `remount` not set.
 pub record IsWriter (p : Option Phase) : Type 0 where
@@ -78,29 +32,24 @@ pub record IsWriter (p : Option Phase) : Type 0 where
   pub remounts_none : remounts p ≡ 0
   pub no_file : file_of p ≡ None
 
--- no operation is under way
 pub idle_writes : IsWriter None
 idle_writes = record { out_of_mounts = λ m. refl; remounts_none = refl; no_file = refl }
 
--- a freeze
-pub freezes_write : (x : Freeze) → IsWriter (Some (Freezes x))
+pub freezes_write : (x : Freeze) → IsWriter (Some (Phase.Freezes x))
 freezes_write x = record { out_of_mounts = λ m. refl; remounts_none = refl; no_file = refl }
 
--- a thaw, too
-pub thaws_write : (x : Thaw) → IsWriter (Some (Thaws x))
+pub thaws_write : (x : Thaw) → IsWriter (Some (Phase.Thaws x))
 thaws_write x = record { out_of_mounts = λ m. refl; remounts_none = refl; no_file = refl }
 
--- what comes after an event of a freeze
-pub freeze_comes : (n : Next Freeze) → IsWriter (phase_after (map_next Freezes n))
-freeze_comes (Go x) = freezes_write x
-freeze_comes (Wait x) = freezes_write x
-freeze_comes (Done answer) = idle_writes
+pub freeze_comes : (n : Next Freeze) → IsWriter (phase_after (map_next Phase.Freezes n))
+freeze_comes (Next.Go x) = freezes_write x
+freeze_comes (Next.Wait x) = freezes_write x
+freeze_comes (Next.Done answer) = idle_writes
 
--- and after one of a thaw
-pub thaw_comes : (n : Next Thaw) → IsWriter (phase_after (map_next Thaws n))
-thaw_comes (Go x) = thaws_write x
-thaw_comes (Wait x) = thaws_write x
-thaw_comes (Done answer) = idle_writes
+pub thaw_comes : (n : Next Thaw) → IsWriter (phase_after (map_next Phase.Thaws n))
+thaw_comes (Next.Go x) = thaws_write x
+thaw_comes (Next.Wait x) = thaws_write x
+thaw_comes (Next.Done answer) = idle_writes
 
 -- the words that no freeze and no thaw writes are as they were
 pub record IsBeside (old new : Words) : Type 0 where
@@ -155,7 +104,6 @@ module _ (c : Config) (w : World) (good : IsGood c w) (t : ℕ) (lt : t < c.task
   abbrev pub PartsHold : Type 0
   PartsHold = (part : Part) → is_known_part part ≡ false → Holds c (left_world w t ws v) part
 
-  -- so each part holds after it
   pub writer_parts : WriterEvent → PartsHold
   writer_parts h Owner k = h.owner
   writer_parts h Stages k = stages_after c w good t lt ws v kind h.happens
@@ -177,7 +125,6 @@ module _ (c : Config) (w : World) (good : IsGood c w) (t : ℕ) (lt : t < c.task
   writer_parts h (SyncAt i) k = h.levels.1 i
   writer_parts h Sections k = h.levels.2
 
-  -- and the shown model is what its action makes of it
   effect_shown : WriterEvent → shown c (left_world w t ws v) ≡ state_after (shown c w) t action
   effect_shown h =
       shown_by c w good t lt ws v h.words.flags_same h.counts.held_same h.counts.levels_same h.counts.open_same (state_after (shown c w) t action)
@@ -185,7 +132,6 @@ module _ (c : Config) (w : World) (good : IsGood c w) (t : ℕ) (lt : t < c.task
       (state_after (shown c w) t a)) h.adds (stage_effect c w good t lt ws v kind h.happens))
       h.rest.mounts_same h.rest.levels_same h.rest.opens_same h.rest.ro_same h.rest.holders_same h.rest.tree_same
 
--- the shown model moves by the action
 writer_moves : (c : Config) (w : World) (good : IsGood c w) (t : ℕ) (lt : t < c.tasks) (ws : Words) (v : View) (action : Option Action)
     (kind : StageEvent) → WriterEvent c w good t lt ws v action kind → Moves c (shown c w) t action (shown c (left_world w t ws v))
 writer_moves c w good t lt ws v None kind h = effect_shown c w good t lt ws v None kind h
@@ -222,62 +168,51 @@ whole_writer c w t lt good hook phase e work keeps = (
 )
 
 -- What comes after an event of a down-write is the same one with another step, or it is done.
-module _ (d : DownWrite) (P : Next DownWrite → Type 0) (go : (s : DownWriteStep) → P (Go (at_down_write d s)))
-    (wait : (s : DownWriteStep) → P (Wait (at_down_write d s))) (done : P (Done (Ok UnitReply))) where
-  -- after a load of a section word
+module _ (d : DownWrite) (P : Next DownWrite → Type 0) (go : (s : DownWriteStep) → P (Next.Go (at_down_write d s)))
+    (wait : (s : DownWriteStep) → P (Next.Wait (at_down_write d s))) (done : P (Next.Done (Ok Reply.Unit))) where
   sections_come : (n : GraceNext) → P (sections_awaited d n)
-  sections_come (MoreSections grace) = go (AwaitsSections grace)
-  sections_come (WaitsFor grace) = wait (AwaitsSections grace)
-  sections_come Ended = go (CallsBack Loads)
+  sections_come (GraceNext.More grace) = go (DownWriteStep.AwaitsSections grace)
+  sections_come (GraceNext.Wait grace) = wait (DownWriteStep.AwaitsSections grace)
+  sections_come GraceNext.Ended = go (DownWriteStep.CallsBack Transition.Loads)
 
-  -- after a load of the sync word
   passed_comes : (o : Option SyncWord) → P (passed_awaited d o)
-  passed_comes None = go AwaitsPassed
+  passed_comes None = go DownWriteStep.AwaitsPassed
   passed_comes (Some word) =
-      by_bool (is_passed word.state) (λ b. P (if b then Go (at_down_write d SetsBlock) else Wait (at_down_write d AwaitsPassed)))
-      (go SetsBlock) (wait AwaitsPassed)
+      by_bool (is_passed word.state)
+      (λ b. P (if b then Next.Go (at_down_write d DownWriteStep.SetsBlock) else Next.Wait (at_down_write d DownWriteStep.AwaitsPassed)))
+      (go DownWriteStep.SetsBlock) (wait DownWriteStep.AwaitsPassed)
 
-  -- after a load of a count
   summed_comes : (n : Taken) → P (down_write_summed d n).0
-  summed_comes (MoreWords sum) = go (Sums sum)
-  summed_comes (Total total) =
-      by_bool (total == 0) (λ b. P (if b then Done (Ok UnitReply) else Wait (at_down_write d sum_begun))) done (wait sum_begun)
+  summed_comes (Taken.More sum) = go (DownWriteStep.Sums sum)
+  summed_comes (Taken.Total total) =
+      by_bool (total == 0) (λ b. P (if b then Next.Done (Ok Reply.Unit) else Next.Wait (at_down_write d sum_begun))) done (wait sum_begun)
 
-  -- after each event
   pub down_write_comes : (s : DownWriteStep) (found : ℕ) → P (down_write_after d s found).0
-  down_write_comes (Enters transition) found = go (enter_step d.tasks (transition_after on_enter transition found))
-  down_write_comes (AwaitsSections grace) found = sections_come (looked grace found)
-  down_write_comes (CallsBack transition) found = go (callback_step (transition_after on_callback transition found))
-  down_write_comes AwaitsPassed found = passed_comes (unpack found)
-  down_write_comes SetsBlock found =
-      by_bool (found == 0) (λ b. P (if b then Go (at_down_write d sum_begun) else Wait (at_down_write d SetsBlock)))
-      (go sum_begun) (wait SetsBlock)
-  down_write_comes (Sums sum) found = summed_comes (sum_taking sum found d.processors)
+  down_write_comes (DownWriteStep.Enters transition) found = go (enter_step d.tasks (transition_after on_enter transition found))
+  down_write_comes (DownWriteStep.AwaitsSections grace) found = sections_come (looked grace found)
+  down_write_comes (DownWriteStep.CallsBack transition) found = go (callback_step (transition_after on_callback transition found))
+  down_write_comes DownWriteStep.AwaitsPassed found = passed_comes (unpack found)
+  down_write_comes DownWriteStep.SetsBlock found =
+      by_bool (found == 0) (λ b. P (if b then Next.Go (at_down_write d sum_begun) else Next.Wait (at_down_write d DownWriteStep.SetsBlock)))
+      (go sum_begun) (wait DownWriteStep.SetsBlock)
+  down_write_comes (DownWriteStep.Sums sum) found = summed_comes (sum_taking sum found d.processors)
 
 -- a down-write changes no word that only the owner changes
 down_write_off : (d : DownWrite) (s : DownWriteStep) → is_owned (down_write_next d s).0 ≡ false
-down_write_off d (Enters Loads) = refl
-down_write_off d (CallsBack Loads) = refl
+down_write_off d (DownWriteStep.Enters Transition.Loads) = refl
+down_write_off d (DownWriteStep.CallsBack Transition.Loads) = refl
 down_write_off d other = refl
 
--- nor does an up-write
-up_write_off : (u : UpWrite) (s : UpWriteStep) → is_owned (up_write_next u s).0 ≡ false
-up_write_off u ClearsBlock = refl
-up_write_off u (Exits Loads) = refl
-up_write_off u (Exits (Exchanges from to)) = refl
-
--- who reopens levels owns `umount`
 pub reopening_owns : (level : ℕ) (s : UpWriteStep) → stage_owns (reopening_role level s) ≡ 1
-reopening_owns level ClearsBlock = refl
-reopening_owns level (Exits transition) = refl
+reopening_owns level UpWriteStep.ClearsBlock = refl
+reopening_owns level (UpWriteStep.Exits transition) = refl
 
--- a freeze changes an owned word as the owner
 freeze_changes : (x : Freeze) (s : FreezeStep) (hook : HookAnswer) → is_owned (freeze_next x s hook).0 ≡ true →
     (is_load (freeze_next x s hook).1 ≡ true) ⊎ (stage_owns (freeze_stage_role x.nodes s) ≡ 1)
-freeze_changes x FreezeLocks hook h = absurd (true≢false (sym h))
-freeze_changes x (Closes d) hook h = absurd (true≢false (sym h ∙ down_write_off d d.step))
-freeze_changes x LocksAgain hook h = absurd (true≢false (sym h))
-freeze_changes x (FreezeReopens u code) hook h = inr (reopening_owns u.level u.step)
+freeze_changes x FreezeStep.Locks hook h = absurd (true≢false (sym h))
+freeze_changes x (FreezeStep.Closes d) hook h = absurd (true≢false (sym h ∙ down_write_off d d.step))
+freeze_changes x FreezeStep.LocksAgain hook h = absurd (true≢false (sym h))
+freeze_changes x (FreezeStep.Reopens u code) hook h = inr (reopening_owns u.level u.step)
 freeze_changes x s hook h = inr refl
 
 -- a level that is closed is closed by the owner as before, but for level 1, after which `umount` is to be taken again
@@ -291,56 +226,54 @@ closed_comes x level low h =
 
 -- and comes to own `umount` by taking it
 freeze_comes_to : (c : Config) (x : Freeze) (s : FreezeStep) (hook : HookAnswer) (value : ℕ) → FreezeFits c x.holder s →
-    owns (phase_after (map_next Freezes (freeze_after x s (found_by (freeze_next x s hook).1 value) hook).0)) ≡ 1 →
+    owns (phase_after (map_next Phase.Freezes (freeze_after x s (found_by (freeze_next x s hook).1 value) hook).0)) ≡ 1 →
     (stage_owns (freeze_stage_role x.nodes s) ≡ 1) ⊎ (takes_lock (event_of (freeze_next x s hook).0 (freeze_next x s hook).1 value) ≡ true)
-freeze_comes_to c x FreezeLocks hook value f h =
+freeze_comes_to c x FreezeStep.Locks hook value f h =
     elim (cases_Bool (value == 0)) [
       | inl z ↦ inr z
       | inr z ↦ absurd (omega (arith, rw z at h))
     ]
-freeze_comes_to c x LocksAgain hook value f h =
+freeze_comes_to c x FreezeStep.LocksAgain hook value f h =
     elim (cases_Bool (value == 0)) [
       | inl z ↦ inr z
       | inr z ↦ absurd (omega (arith, rw z at h))
     ]
-freeze_comes_to c x (Closes d) hook value f h =
+freeze_comes_to c x (FreezeStep.Closes d) hook value f h =
     let found : ℕ = found_by (down_write_next d d.step).1 value in
     let own : bit (nat_lt 1 d.level) ≡ 1 =
-    down_write_comes d (λ n. owns (phase_after (map_next Freezes (after_closing x d.level n))) ≡ 1 → bit (nat_lt 1 d.level) ≡ 1)
+    down_write_comes d (λ n. owns (phase_after (map_next Phase.Freezes (after_closing x d.level n))) ≡ 1 → bit (nat_lt 1 d.level) ≡ 1)
     (λ s q. q) (λ s q. q) (closed_comes x d.level f.0) d.step found h in
     inl own
-freeze_comes_to c x (FreezeReopens u code) hook value f h = inl (reopening_owns u.level u.step)
+freeze_comes_to c x (FreezeStep.Reopens u code) hook value f h = inl (reopening_owns u.level u.step)
 freeze_comes_to c x s hook value f h = inl refl
 
--- so it does an owner's work
-pub freeze_work : (c : Config) (w : World) (x : Freeze) (hook : HookAnswer) → FreezeFits c x.holder x.step → IsOwnersWork w (Freezes x) hook
+pub freeze_work : (c : Config) (w : World) (x : Freeze) (hook : HookAnswer) → FreezeFits c x.holder x.step → IsOwnersWork w (Phase.Freezes x) hook
 freeze_work c w x hook f = record {
   changes = freeze_changes x x.step hook;
-  comes_to_own = freeze_comes_to c x x.step hook (value_at w.words (Freezes x) hook) f;
+  comes_to_own = freeze_comes_to c x x.step hook (value_at w.words (Phase.Freezes x) hook) f;
 }
 
 -- a thaw changes an owned word as the owner
 thaw_changes : (x : Thaw) (s : ThawStep) (hook : HookAnswer) → is_owned (thaw_next x s hook).0 ≡ true →
     (is_load (thaw_next x s hook).1 ≡ true) ⊎ (stage_owns (thaw_stage_role s) ≡ 1)
-thaw_changes x ThawLocks hook h = absurd (true≢false (sym h))
-thaw_changes x (ThawReopens u) hook h = inr (reopening_owns u.level u.step)
+thaw_changes x ThawStep.Locks hook h = absurd (true≢false (sym h))
+thaw_changes x (ThawStep.Reopens u) hook h = inr (reopening_owns u.level u.step)
 thaw_changes x s hook h = inr refl
 
 -- and comes to own `umount` by taking it
 thaw_comes_to : (x : Thaw) (s : ThawStep) (hook : HookAnswer) (value : ℕ) →
-    owns (phase_after (map_next Thaws (thaw_after x s (found_by (thaw_next x s hook).1 value) hook).0)) ≡ 1 →
+    owns (phase_after (map_next Phase.Thaws (thaw_after x s (found_by (thaw_next x s hook).1 value) hook).0)) ≡ 1 →
     (stage_owns (thaw_stage_role s) ≡ 1) ⊎ (takes_lock (event_of (thaw_next x s hook).0 (thaw_next x s hook).1 value) ≡ true)
-thaw_comes_to x ThawLocks hook value h =
+thaw_comes_to x ThawStep.Locks hook value h =
     elim (cases_Bool (value == 0)) [
       | inl z ↦ inr z
       | inr z ↦ absurd (omega (arith, rw z at h))
     ]
-thaw_comes_to x (ThawReopens u) hook value h = inl (reopening_owns u.level u.step)
+thaw_comes_to x (ThawStep.Reopens u) hook value h = inl (reopening_owns u.level u.step)
 thaw_comes_to x s hook value h = inl refl
 
--- so it does an owner's work
-pub thaw_work : (w : World) (x : Thaw) (hook : HookAnswer) → IsOwnersWork w (Thaws x) hook
+pub thaw_work : (w : World) (x : Thaw) (hook : HookAnswer) → IsOwnersWork w (Phase.Thaws x) hook
 thaw_work w x hook = record {
   changes = thaw_changes x x.step hook;
-  comes_to_own = thaw_comes_to x x.step hook (value_at w.words (Thaws x) hook);
+  comes_to_own = thaw_comes_to x x.step hook (value_at w.words (Phase.Thaws x) hook);
 }

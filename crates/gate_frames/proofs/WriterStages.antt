@@ -1,33 +1,17 @@
 -- Events of a freeze or a thaw that leave the words of the levels: on `umount`, loads by the owner, and stores of the stage.
-use Rattle.std.proofs.Common.{◌≡◌, ℕ, ◌<◌, refl, sym, ap, ◌∙◌, subst, inl, inr, arith}
-use Rattle.std.proofs.lemmas.Bool.Decides.{eqb_tells}
-use Rattle.std.specs.Prelude.{Option, Some, None}
-use Rattle.finite_sums.specs.Sums.{update}
-use Rattle.finite_sums.proofs.Totals.{update_same}
-use Rattle.access_model.specs.Actions.{after_action}
-use Rattle.access_model.specs.declared.actions.Action.{Action}
-use Rattle.access_model.specs.declared.actions.Action.TheVariants.{Stage as StageAction}
-use Rattle.freeze_levels.specs.Holders.{holders_in}
+use Rattle.std.{proofs.{Common.{◌≡◌, ℕ, ◌<◌, refl, sym, ap, ◌∙◌, subst, inl, inr, arith}, lemmas.Bool.Decides.eqb_tells}, specs.Prelude.{Option, Some, None}}
+use Rattle.finite_sums.{proofs.Totals.update_same, specs.Sums.update}
+use Rattle.access_model.specs.{Actions.after_action, declared.actions.Action.Action}
 use Rattle.cpu_words.specs.Words.{Words}
-use Rattle.gated_tree.specs.Nodes.{dirty_in}
-use Rattle.stage_laws.specs.Roles.{StageRole}
-use Rattle.stage_laws.specs.Events.{playing, StageEvent, Stays, action_of as stage_action_of}
-use Rattle.gate_world.specs.declared.config.Config.{Config}
-use Rattle.gate_world.specs.declared.views.View.{View}
-use Rattle.gate_world.specs.Levels.{Stand, is_frozen_whole}
-use Rattle.gate_world.specs.Shown.{shown, stage_roles}
-use Rattle.gate_world.specs.Stages.{stage_role_of}
-use Rattle.gate_world.specs.Rules.{IsGood, OwnerHolds, Holds, ViewFits, Stages, Holding, Tree}
-use Rattle.gate_world.specs.Trees.{tree_bounds, tree_of, tree_role_of, tree_roles}
-use Rattle.gate_world.specs.Configs.{IsWithin, model_limits}
-use Rattle.gated_tree.specs.Roles.{TreeState, sealed_by}
+use Rattle.gated_tree.specs.{Nodes.dirty_in, Roles.{TreeState, sealed_by}}
 use Rattle.tree_laws.specs.Events.{Event, Opens}
-use Rattle.gate_frames.proofs.Trees.{sealed_read_only, tree_then, tree_after}
-use Rattle.gate_world.specs.Worlds.{World}
-use Rattle.gate_frames.proofs.Frames.{SameLevelCounts, left_alone}
-use Rattle.gate_frames.proofs.Stages.{IsStageEvent, stages_in}
-use Rattle.gate_frames.proofs.Standing.{Stands, LevelsHold, left_world}
-use Rattle.gate_frames.proofs.StandRoles.{levels_stay}
+use Rattle.freeze_levels.specs.Holders.{holders_in}
+use Rattle.stage_laws.specs.{Events.{playing, StageEvent, Stays, action_of as stage_action_of}, Roles.StageRole}
+use Rattle.gate_world.specs.{Configs.{IsWithin, model_limits}, Levels.{Stand, is_frozen_whole}}
+use Rattle.gate_world.specs.{Rules.{IsGood, OwnerHolds, Holds, ViewFits, Stages, Holding, Tree}, Shown.{shown, stage_roles}, Stages.stage_role_of}
+use Rattle.gate_world.specs.{Trees.{tree_bounds, tree_of, tree_role_of, tree_roles}, Worlds.World, declared.{config.Config.Config, views.View.View}}
+use Rattle.gate_frames.proofs.{Frames.{SameLevelCounts, left_alone}, Stages.{IsStageEvent, stages_in}, StandRoles.levels_stay}
+use Rattle.gate_frames.proofs.{Standing.{Stands, LevelsHold, left_world}, Trees.{sealed_read_only, tree_then, tree_after}}
 use Rattle.gate_frames.proofs.WriterParts.{IsWriter, SameAtMounts, LeavesRest, AsksWhere, WriterLaw, writer_law}
 
 -- the words that tell the stage are as they were
@@ -51,16 +35,13 @@ module _ (c : Config) (w : World) (good : IsGood c w) (t : ℕ) (lt : t < c.task
     at = (ap (update (stage_roles w) t) same ∙ update_same (stage_roles w) t) j;
   }
 
-  -- who plays the role that it had is where it was
   pub still_plays : {r : StageRole} → r ≡ stage_role_of (w.views t).phase → playing (stages_in w) t r ≡ stages_in w
   still_plays same = λ j. record (stages_in w) { at = (ap (update (stage_roles w) t) same ∙ update_same (stage_roles w) t) j }
 
-  -- no action leaves the accesses, the mounts and the tree
   pub none_leaves : LeavesRest (shown c w) (shown c w) (shown c w).tree (shown c w).holders
   none_leaves = record { mounts_same = refl; levels_same = refl; opens_same = refl; ro_same = refl; tree_same = refl; holders_same = refl }
 
-  -- nor does the store of a stage touch them
-  pub stage_leaves : (n : ℕ) → LeavesRest (shown c w) (after_action (shown c w) t (StageAction n)) (shown c w).tree (shown c w).holders
+  pub stage_leaves : (n : ℕ) → LeavesRest (shown c w) (after_action (shown c w) t (Action.Stage n)) (shown c w).tree (shown c w).holders
   stage_leaves n = record { mounts_same = refl; levels_same = refl; opens_same = refl; ro_same = refl; tree_same = refl; holders_same = refl }
 
   -- a store of the stage leaves the levels, where the file system is frozen as a whole or not as before
@@ -127,18 +108,17 @@ module _ (c : Config) (w : World) (good : IsGood c w) (t : ℕ) (lt : t < c.task
           rest = none_leaves;
         })
 
-    -- a store of the stage by the owner
     pub writer_stores : (n : ℕ) (kind : StageEvent) →
         OwnerHolds c.tasks w.words.umount w.words.remount (λ y. (update w.views t v y).phase) →
         LevelsHold c (left_world w t (record w.words { stage = n }) v) →
         Holds c (left_world w t (record w.words { stage = n }) v) Tree →
         IsStageEvent c w good t lt (record w.words { stage = n }) v kind →
-        stage_action_of kind (stages_in w) ≡ Some (StageAction n) →
-        AsksWhere (model_limits c) (shown c w) (Some (StageAction n)) →
+        stage_action_of kind (stages_in w) ≡ Some (Action.Stage n) →
+        AsksWhere (model_limits c) (shown c w) (Some (Action.Stage n)) →
         Holds c (left_world w t (record w.words { stage = n }) v) Holding →
-        WriterLaw c w t (record w.words { stage = n }) v (Some (StageAction n))
+        WriterLaw c w t (record w.words { stage = n }) v (Some (Action.Stage n))
     writer_stores n kind owner hold tree happens adds asks holding =
-        writer_law c w good t lt (record w.words { stage = n }) v (Some (StageAction n)) kind (record {
+        writer_law c w good t lt (record w.words { stage = n }) v (Some (Action.Stage n)) kind (record {
           words = record { flags_same = refl; count_same = refl; remount_same = refl; sb_same = refl };
           counts = mounts;
           was = was;

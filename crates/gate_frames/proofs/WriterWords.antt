@@ -1,55 +1,22 @@
 -- Events of a down-write and of an up-write: the words that they leave, the counts, and what they add.
-use Rattle.std.proofs.Common.{ap, ◌≡◌, ℕ, ◌<◌, refl, sym, ◌∙◌, subst}
-use Rattle.std.specs.Prelude.{Ok, ◌==◌, if◌then◌else◌, Option, Some, None}
-use Rattle.access_model.specs.States.{State}
-use Rattle.access_model.specs.declared.actions.Action.{Action}
-use Rattle.access_model.specs.declared.actions.Action.TheVariants.{Pass, Reopen}
-use Rattle.access_model.specs.Actions.{after_action}
-use Rattle.cpu_words.specs.Sums.{sum_taking}
-use Rattle.cpu_words.specs.declared.sums.Taken.{Taken}
-use Rattle.cpu_words.specs.declared.sums.Taken.TheVariants.{More as MoreWords, Total}
-use Rattle.cpu_words.specs.Touches.{left}
-use Rattle.cpu_words.specs.Words.{Words, read, put}
-use Rattle.percpu_rwsem.specs.declared.transitions.Transition.TheVariants.{Loads, Exchanges}
-use Rattle.percpu_rwsem.specs.declared.writers.DownWrite.{DownWrite}
-use Rattle.percpu_rwsem.specs.declared.writers.DownWriteStep.{DownWriteStep}
-use Rattle.percpu_rwsem.specs.declared.writers.DownWriteStep.TheVariants.{Enters, CallsBack, Sums}
-use Rattle.percpu_rwsem.specs.declared.writers.UpWrite.{UpWrite}
-use Rattle.percpu_rwsem.specs.declared.writers.UpWriteStep.{UpWriteStep}
-use Rattle.percpu_rwsem.specs.declared.writers.UpWriteStep.TheVariants.{ClearsBlock, Exits}
-use Rattle.access_model.specs.declared.replies.Next.{Next}
-use Rattle.access_model.specs.declared.replies.Next.TheVariants.{Go, Done}
-use Rattle.access_model.specs.declared.replies.Reply.TheVariants.{Unit as UnitReply}
-use Rattle.percpu_rwsem.specs.declared.transitions.TransitionNext.{TransitionNext}
-use Rattle.percpu_rwsem.specs.declared.transitions.TransitionNext.TheVariants.{More, Undefined, Made}
-use Rattle.percpu_rwsem.specs.SyncWords.{on_exit}
-use Rattle.percpu_rwsem.specs.Transitions.{transition_after}
-use Rattle.percpu_rwsem.specs.Writers.{exit_made, down_write_next, down_write_after, down_write_summed, up_write_next, up_write_after}
-use Rattle.stage_laws.specs.Events.{StageEvent, action_of as stage_action_of}
-use Rattle.stage_laws.specs.Shown.{state_after}
-use Rattle.gated_tree.specs.Nodes.{node_shown, opens_in}
-use Rattle.gate_world.specs.declared.config.Config.{Config}
-use Rattle.gate_world.specs.declared.views.View.{View}
-use Rattle.gate_world.specs.Configs.{IsWithin, model_limits}
-use Rattle.gate_world.specs.Levels.{level_added_after, level_taken_after}
-use Rattle.gate_world.specs.Rules.{IsGood, Holds, ViewFits, Tree, owns}
-use Rattle.gate_world.specs.Trees.{tree_bounds, tree_of, tree_role_of, tree_roles}
-use Rattle.gated_tree.specs.Roles.{Out, Clearing, sealed_by, bare_by}
-use Rattle.tree_laws.specs.Events.{Event, turned, BeginsClearing}
-use Rattle.gate_frames.proofs.Trees.{tree_then, tree_after}
+use Rattle.std.{proofs.Common.{ap, ◌≡◌, ℕ, ◌<◌, refl, sym, ◌∙◌, subst}, specs.Prelude.{Ok, ◌==◌, if◌then◌else◌, Option, Some, None}}
 use Rattle.finite_sums.specs.Sums.{update}
-use Rattle.gate_world.specs.Shown.{shown}
-use Rattle.gate_world.specs.Views.{added_after, taken_after}
-use Rattle.gate_world.specs.Worlds.{World}
-use Rattle.gate_frames.proofs.Frames.{left_alone}
-use Rattle.gate_frames.proofs.Keeps.{by_bool}
-use Rattle.gate_frames.proofs.Stages.{IsStageEvent, stages_in}
+use Rattle.access_model.specs.{Actions.after_action, States.State, declared.{actions.Action.Action, replies.{Next.Next, Reply.Reply}}}
+use Rattle.cpu_words.specs.{Sums.sum_taking, Touches.left, Words.{Words, read, put}, declared.sums.Taken.Taken}
+use Rattle.gated_tree.specs.{Nodes.{node_shown, opens_in}, Roles.{Out, Clearing, sealed_by, bare_by}}
+use Rattle.tree_laws.specs.Events.{Event, turned, BeginsClearing}
+use Rattle.percpu_rwsem.specs.{SyncWords.on_exit, Transitions.transition_after}
+use Rattle.percpu_rwsem.specs.Writers.{exit_made, down_write_next, down_write_after, down_write_summed, up_write_next, up_write_after}
+use Rattle.percpu_rwsem.specs.declared.transitions.{Transition.Transition, TransitionNext.TransitionNext}
+use Rattle.percpu_rwsem.specs.declared.writers.{DownWrite.DownWrite, DownWriteStep.DownWriteStep, UpWrite.UpWrite, UpWriteStep.UpWriteStep}
 use Rattle.freeze_levels.specs.Holders.{holders_in}
-use Rattle.gate_world.specs.Holders.{holder_role_of}
-use Rattle.gate_frames.proofs.Holders.{holders_stay}
-use Rattle.gate_frames.proofs.Standing.{LevelsHold, left_world}
+use Rattle.stage_laws.specs.{Events.{StageEvent, action_of as stage_action_of}, Shown.state_after}
+use Rattle.gate_world.specs.{Configs.{IsWithin, model_limits}, Holders.holder_role_of, Levels.{level_added_after, level_taken_after}}
+use Rattle.gate_world.specs.{Rules.{IsGood, Holds, ViewFits, Tree, owns}, Shown.shown, Trees.{tree_bounds, tree_of, tree_role_of, tree_roles}}
+use Rattle.gate_world.specs.{Views.{added_after, taken_after}, Worlds.World, declared.{config.Config.Config, views.View.View}}
+use Rattle.gate_frames.proofs.{Frames.left_alone, Holders.holders_stay, Keeps.by_bool, Stages.{IsStageEvent, stages_in}, Standing.{LevelsHold, left_world}}
+use Rattle.gate_frames.proofs.{Trees.{tree_then, tree_after}, WriterOwner.owner_stays}
 use Rattle.gate_frames.proofs.WriterParts.{IsBeside, IsWriter, SameAtMounts, LeavesRest, AsksWhere, WriterLaw, writer_law}
-use Rattle.gate_frames.proofs.WriterOwner.{owner_stays}
 
 -- each word that is no level's own is as it was
 pub record IsAtLevels (old new : Words) : Type 0 where
@@ -62,19 +29,17 @@ pub record IsAtLevels (old new : Words) : Type 0 where
   pub removed_same : new.removed ≡ old.removed
   pub kids_same : new.kids ≡ old.kids
 
--- a down-write writes words of levels alone
 pub down_write_words : (w : Words) (d : DownWrite) (s : DownWriteStep) →
     IsAtLevels w (put w (down_write_next d s).0 (left (down_write_next d s).1 (read w (down_write_next d s).0)))
-down_write_words w d (Enters Loads) = assumption
-down_write_words w d (CallsBack Loads) = assumption
+down_write_words w d (DownWriteStep.Enters Transition.Loads) = assumption
+down_write_words w d (DownWriteStep.CallsBack Transition.Loads) = assumption
 down_write_words w d other = assumption
 
--- and an up-write
 pub up_write_words : (w : Words) (u : UpWrite) (s : UpWriteStep) →
     IsAtLevels w (put w (up_write_next u s).0 (left (up_write_next u s).1 (read w (up_write_next u s).0)))
-up_write_words w u ClearsBlock = assumption
-up_write_words w u (Exits Loads) = assumption
-up_write_words w u (Exits (Exchanges from to)) = assumption
+up_write_words w u UpWriteStep.ClearsBlock = assumption
+up_write_words w u (UpWriteStep.Exits Transition.Loads) = assumption
+up_write_words w u (UpWriteStep.Exits (Transition.Exchanges from to)) = assumption
 
 -- a down-write counts nothing, at mounts or at levels
 pub down_write_counts_none : (d : DownWrite) (s : DownWriteStep) (f : ℕ → ℕ → ℕ) →
@@ -82,57 +47,51 @@ pub down_write_counts_none : (d : DownWrite) (s : DownWriteStep) (f : ℕ → �
     (taken_after (down_write_next d s).0 (down_write_next d s).1 f ≡ f) ×
     (level_added_after (down_write_next d s).0 (down_write_next d s).1 f ≡ f) ×
     (level_taken_after (down_write_next d s).0 (down_write_next d s).1 f ≡ f)
-down_write_counts_none d (Enters Loads) f = (refl, refl, refl, refl)
-down_write_counts_none d (CallsBack Loads) f = (refl, refl, refl, refl)
+down_write_counts_none d (DownWriteStep.Enters Transition.Loads) f = (refl, refl, refl, refl)
+down_write_counts_none d (DownWriteStep.CallsBack Transition.Loads) f = (refl, refl, refl, refl)
 down_write_counts_none d other f = (refl, refl, refl, refl)
 
--- nor does an up-write
 pub up_write_counts_none : (u : UpWrite) (s : UpWriteStep) (f : ℕ → ℕ → ℕ) →
     (added_after (up_write_next u s).0 (up_write_next u s).1 f ≡ f) × (taken_after (up_write_next u s).0 (up_write_next u s).1 f ≡ f) ×
     (level_added_after (up_write_next u s).0 (up_write_next u s).1 f ≡ f) ×
     (level_taken_after (up_write_next u s).0 (up_write_next u s).1 f ≡ f)
-up_write_counts_none u ClearsBlock f = (refl, refl, refl, refl)
-up_write_counts_none u (Exits Loads) f = (refl, refl, refl, refl)
-up_write_counts_none u (Exits (Exchanges from to)) f = (refl, refl, refl, refl)
+up_write_counts_none u UpWriteStep.ClearsBlock f = (refl, refl, refl, refl)
+up_write_counts_none u (UpWriteStep.Exits Transition.Loads) f = (refl, refl, refl, refl)
+up_write_counts_none u (UpWriteStep.Exits (Transition.Exchanges from to)) f = (refl, refl, refl, refl)
 
 -- What an event of a down-write adds: nothing, or that its level is passed.
-module _ (d : DownWrite) (P : Option Action → Type 0) (none : P None) (pass : P (Some (Pass d.level))) where
-  -- a load of a count
+module _ (d : DownWrite) (P : Option Action → Type 0) (none : P None) (pass : P (Some (Action.Pass d.level))) where
   summed_adds : (n : Taken) → P (down_write_summed d n).1
-  summed_adds (MoreWords sum) = none
-  summed_adds (Total total) = by_bool (total == 0) (λ b. P (if b then Some (Pass d.level) else None)) pass none
+  summed_adds (Taken.More sum) = none
+  summed_adds (Taken.Total total) = by_bool (total == 0) (λ b. P (if b then Some (Action.Pass d.level) else None)) pass none
 
   -- each event
   pub down_write_adds : (s : DownWriteStep) (found : ℕ) → P (down_write_after d s found).1
-  down_write_adds (Sums sum) found = summed_adds (sum_taking sum found d.processors)
+  down_write_adds (DownWriteStep.Sums sum) found = summed_adds (sum_taking sum found d.processors)
   down_write_adds s found = none
 
 -- and what one of an up-write adds: nothing, or that its level is reopened
-pub up_write_adds : (u : UpWrite) (P : Option Action → Type 0) → P None → P (Some (Reopen u.level)) → (s : UpWriteStep) (found : ℕ) →
+pub up_write_adds : (u : UpWrite) (P : Option Action → Type 0) → P None → P (Some (Action.Reopen u.level)) → (s : UpWriteStep) (found : ℕ) →
     P (up_write_after u s found).1
-up_write_adds u P none opens ClearsBlock found = opens
-up_write_adds u P none opens (Exits transition) found = none
+up_write_adds u P none opens UpWriteStep.ClearsBlock found = opens
+up_write_adds u P none opens (UpWriteStep.Exits transition) found = none
 
 -- What comes after an event of an up-write is the same one, past its store, or it is done.
-module _ (u : UpWrite) (P : Next UpWrite → Type 0) (go : (s : UpWriteStep) → P (Go (record u { step = s })))
-    (done : P (Done (Ok UnitReply))) where
-  -- after one of its transition
+module _ (u : UpWrite) (P : Next UpWrite → Type 0) (go : (s : UpWriteStep) → P (Next.Go (record u { step = s })))
+    (done : P (Next.Done (Ok Reply.Unit))) where
   exit_comes : (n : TransitionNext) → P (exit_made u n)
-  exit_comes (More transition) = go (Exits transition)
-  exit_comes Undefined = go (Exits Loads)
-  exit_comes (Made state) = done
+  exit_comes (TransitionNext.More transition) = go (UpWriteStep.Exits transition)
+  exit_comes TransitionNext.Undefined = go (UpWriteStep.Exits Transition.Loads)
+  exit_comes (TransitionNext.Made state) = done
 
-  -- after each event
   pub up_write_comes : (s : UpWriteStep) (found : ℕ) → P (up_write_after u s found).0
-  up_write_comes ClearsBlock found = go (Exits Loads)
-  up_write_comes (Exits transition) found = exit_comes (transition_after on_exit transition found)
+  up_write_comes UpWriteStep.ClearsBlock found = go (UpWriteStep.Exits Transition.Loads)
+  up_write_comes (UpWriteStep.Exits transition) found = exit_comes (transition_after on_exit transition found)
 
--- a level that is passed leaves the accesses, the mounts and the tree
-pub pass_leaves : (s : State) (t i : ℕ) → LeavesRest s (after_action s t (Pass i)) s.tree s.holders
+pub pass_leaves : (s : State) (t i : ℕ) → LeavesRest s (after_action s t (Action.Pass i)) s.tree s.holders
 pass_leaves s t i = record { mounts_same = refl; levels_same = refl; opens_same = refl; ro_same = refl; tree_same = refl; holders_same = refl }
 
--- so does one that is reopened
-pub reopen_leaves : (s : State) (t i : ℕ) → LeavesRest s (after_action s t (Reopen i)) s.tree s.holders
+pub reopen_leaves : (s : State) (t i : ℕ) → LeavesRest s (after_action s t (Action.Reopen i)) s.tree s.holders
 reopen_leaves s t i = record { mounts_same = refl; levels_same = refl; opens_same = refl; ro_same = refl; tree_same = refl; holders_same = refl }
 
 -- the tree is left, where its task does there what it did

@@ -1,11 +1,8 @@
 -- What the traces of the calls at the tree tell.
 use Rattle.std.specs.Prelude.{ℕ, List}
-use Rattle.gate_world.specs.declared.config.Config.{Config}
-use Rattle.gate_world.specs.declared.operations.Op.{Op}
-use Rattle.gate_world.specs.declared.operations.Op.TheVariants.{Create, Remove, Grow, MoveTo, Fault, Flush, Open, Snapshot}
+use Rattle.gate_world.specs.{Courses.course_of, Traces.{IsShort, Tells, most_events}}
+use Rattle.gate_world.specs.declared.{config.Config.Config, operations.Op.{Op, TheVariants.{Create, Remove, Grow, MoveTo, Fault, Flush, Open, Snapshot}}}
 use Rattle.gate_world.specs.declared.views.Traced.{Traced}
-use Rattle.gate_world.specs.Courses.{course_of}
-use Rattle.gate_world.specs.Traces.{IsShort, Tells, most_events}
 
 -- a call at the tree
 abbrev pub IsAtTree : Op → Type 0

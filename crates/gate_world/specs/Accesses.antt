@@ -1,8 +1,6 @@
 -- What a task holds at run time, and what an action leaves of it.
 use Rattle.std.specs.Prelude.{ℕ, ◌+◌, ◌-◌, Bool, true, false, Option, Some, None, slice_index, slice_index_or, slice_set, replicate}
-use Rattle.access_model.specs.declared.actions.Action.{Action}
-use Rattle.access_model.specs.declared.actions.Action.TheVariants.{Grant, Return, Open, Close}
-use Rattle.access_model.specs.declared.actions.Gate.TheVariants.{Mount, Level}
+use Rattle.access_model.specs.declared.actions.{Action.{Action, TheVariants.{Grant, Return, Open, Close}}, Gate.TheVariants.{Mount, Level}}
 use Rattle.gate_world.specs.declared.accesses.Accesses.{Accesses}
 
 -- how many accesses are held at each mount

@@ -1,13 +1,8 @@
 -- Beginnings: where an operation starts, and why it can't. A beginning has no event.
 use Rattle.std.specs.Prelude.{ℕ, Bool, if◌then◌else◌, Option, Some, None, is_some, Result, Ok, Err, ◌&&◌}
-use Rattle.access_model.specs.declared.errors.GateError.{GateError}
-use Rattle.access_model.specs.declared.errors.GateError.TheVariants.{Invalid, Order, TooMany}
-use Rattle.gate_world.specs.declared.config.Config.{Config}
-use Rattle.gate_world.specs.declared.operations.Op.{Op}
-use Rattle.gate_world.specs.declared.work.Phase.{Phase}
-use Rattle.gate_world.specs.declared.views.View.{View}
-use Rattle.gate_world.specs.Operations.{row, is_of_open, is_of_closed}
-use Rattle.gate_world.specs.Views.{held_at, holds_level, has_open}
+use Rattle.access_model.specs.declared.errors.GateError.{GateError, TheVariants.{Invalid, Order, TooMany}}
+use Rattle.gate_world.specs.{Operations.{row, is_of_open, is_of_closed}, Views.{held_at, holds_level, has_open}}
+use Rattle.gate_world.specs.declared.{config.Config.Config, operations.Op.Op, views.View.View, work.Phase.Phase}
 
 -- the first phase of an operation
 abbrev pub first_phase : Config → ℕ → Op → Phase

@@ -1,67 +1,40 @@
 -- Moments of a schedule: what stood in the world when a refusal's cause was read.
-use Rattle.std.specs.Prelude.{◌≡◌, ℕ, ◌<◌, ◌==◌, ◌&&◌, ◌||◌, ◌⊎◌, not, nat_lt, Bool, true, false, if◌then◌else◌, Option, Some, None, is_some, Err, List, [], ◌∷◌}
+use Rattle.std.specs.Prelude.{◌≡◌, ℕ, ◌<◌, ◌==◌, ◌&&◌, ◌||◌, ◌⊎◌, not, nat_lt, Bool, true, false, if◌then◌else◌, Option, Some, None, is_some, Err, List, []}
+use Rattle.std.specs.Prelude.{◌∷◌}
 use Rattle.finite_sums.specs.Sums.{total}
-use Rattle.access_model.specs.declared.errors.GateError.TheVariants.{Again, Busy, ReadOnly, Invalid, NoEntry, NotDir, IsDir}
-use Rattle.mount_counts.specs.declared.phases.MountPhase.TheVariants.{Want as Wants, Drop as Drops, Change as Changes}
-use Rattle.mount_counts.specs.declared.phases.WantStep.{WantStep}
-use Rattle.mount_counts.specs.declared.phases.WantStep.TheVariants.{LoadsHold, LoadsRemount, LoadsReadOnly, LoadsSuperblock}
-use Rattle.mount_counts.specs.declared.phases.ChangeStep.{ChangeStep}
-use Rattle.mount_counts.specs.declared.phases.ChangeStep.TheVariants.{Sums}
-use Rattle.mount_counts.specs.declared.remounts.RemountStep.{RemountStep}
-use Rattle.mount_counts.specs.declared.remounts.RemountStep.TheVariants.{LoadsStage, LoadsRemoved, LoadsRemovedAgain, Sums as RemountSums}
-use Rattle.mount_counts.specs.Roles.{counted, has_hold}
-use Rattle.gate_world.specs.declared.config.Config.{Config}
-use Rattle.file_closes.specs.declared.phases.ClosePhase.{ClosePhase}
-use Rattle.file_closes.specs.declared.phases.ClosePhase.TheVariants.{Enters}
-use Rattle.gate_world.specs.declared.work.Phase.{Phase}
-use Rattle.gate_world.specs.declared.work.Phase.TheVariants.{Mounts, Remounts, DownReads, UpReads, Callbacks, Writes, Freezes, Thaws, Trees, Closes}
-use Rattle.percpu_rwsem.specs.declared.readers.DownReadStep.{DownReadStep}
-use Rattle.percpu_rwsem.specs.declared.readers.DownReadStep.TheVariants.{LoadsBlock}
-use Rattle.level_laws.specs.Roles.{closed}
-use Rattle.write_access.specs.declared.phases.WritePhase.{WritePhase}
-use Rattle.write_access.specs.declared.phases.WritePhase.TheVariants.{Takes, Wants as WriteWants, GivesBack}
-use Rattle.percpu_rwsem.specs.declared.writers.DownWriteStep.{DownWriteStep}
-use Rattle.percpu_rwsem.specs.declared.writers.DownWriteStep.TheVariants.{Sums as SumsLevel}
-use Rattle.freeze_levels.specs.declared.freezes.FreezeStep.{FreezeStep}
-use Rattle.freeze_levels.specs.declared.freezes.FreezeStep.TheVariants.{LoadsStage as FreezeLoadsStage, LoadsHolders as FreezeLoadsHolders, Closes}
-use Rattle.freeze_levels.specs.declared.thaws.ThawStep.{ThawStep}
-use Rattle.freeze_levels.specs.declared.thaws.ThawStep.TheVariants.{LoadsStage as ThawLoadsStage, LoadsHolders as ThawLoadsHolders}
-use Rattle.access_model.specs.declared.actions.Holder.{Holder}
-use Rattle.access_model.specs.Holders.{held_by}
-use Rattle.gate_counts.specs.Gates.{counted as counted_of}
-use Rattle.gate_counts.specs.Levels.{level_as_gate}
-use Rattle.gate_world.specs.Levels.{sync_role_of, is_frozen_whole, at_level}
-use Rattle.gate_world.specs.Worlds.{World, Entry, happens, run, opening, found_at}
-use Rattle.gate_world.specs.Shown.{shown}
-use Rattle.gate_world.specs.Rules.{at_mount, role_of, owns}
-use Rattle.gated_tree.specs.declared.phases.TreePhase.{TreePhase}
-use Rattle.gated_tree.specs.declared.phases.TreePhase.TheVariants.{Create as Creates, Remove as Removes, Grow as Grows, MoveTo as Moves, Mark as TreeMarks, OpenFile as OpensOne, Snapshot as Snapshots}
-use Rattle.gated_tree.specs.declared.opens.OpenFile.{OpenFile}
-use Rattle.gated_tree.specs.declared.opens.OpenStep.{OpenStep}
-use Rattle.gated_tree.specs.declared.opens.OpenStep.TheVariants.{LoadsFile as LoadsFileToOpen}
-use Rattle.gated_tree.specs.declared.snapshots.SnapshotStep.{SnapshotStep}
-use Rattle.gated_tree.specs.declared.snapshots.SnapshotStep.TheVariants.{LoadsStage as SnapshotLoadsStage}
-use Rattle.gated_tree.specs.declared.changes.Create.{Create}
-use Rattle.gated_tree.specs.declared.changes.CreateStep.{CreateStep}
-use Rattle.gated_tree.specs.declared.changes.CreateStep.TheVariants.{LoadsDirectory}
-use Rattle.gated_tree.specs.declared.changes.Remove.{Remove}
-use Rattle.gated_tree.specs.declared.changes.RemoveStep.{RemoveStep}
-use Rattle.gated_tree.specs.declared.changes.RemoveStep.TheVariants.{LoadsFile as LoadsFileToRemove}
-use Rattle.gated_tree.specs.declared.changes.MoveTo.{MoveTo}
-use Rattle.gated_tree.specs.declared.changes.MoveStep.{MoveStep}
-use Rattle.gated_tree.specs.declared.changes.MoveStep.TheVariants.{LoadsFile as LoadsFileToMove, LoadsDirectory as LoadsTarget}
-use Rattle.gated_tree.specs.declared.growth.Grow.{Grow}
-use Rattle.gated_tree.specs.declared.growth.GrowStep.{GrowStep}
-use Rattle.gated_tree.specs.declared.growth.GrowStep.TheVariants.{LoadsFile as LoadsFileToGrow}
-use Rattle.gated_tree.specs.declared.marks.Mark.{Mark}
-use Rattle.gated_tree.specs.declared.marks.MarkStep.{MarkStep}
-use Rattle.gated_tree.specs.declared.marks.MarkStep.TheVariants.{LoadsFile as LoadsFileToMark}
-use Rattle.access_model.specs.declared.actions.NodeInfo.{NodeInfo}
-use Rattle.access_model.specs.States.{is_removed, IsFile, IsDirectory}
-use Rattle.access_model.specs.declared.errors.GateError.{GateError}
+use Rattle.access_model.specs.{Holders.held_by, States.{is_removed, IsFile, IsDirectory}}
+use Rattle.access_model.specs.declared.actions.{Holder.Holder, NodeInfo.NodeInfo}
+use Rattle.access_model.specs.declared.errors.GateError.{GateError, TheVariants.{Again, Busy, ReadOnly, Invalid, NoEntry, NotDir, IsDir}}
 use Rattle.access_model.specs.declared.replies.Next.TheVariants.{Done}
 use Rattle.cpu_words.specs.Hooks.{HookAnswer}
-use Rattle.gate_world.specs.Work.{after_of}
+use Rattle.gate_counts.specs.{Gates.counted as counted_of, Levels.level_as_gate}
+use Rattle.gated_tree.specs.declared.changes.{Create.Create, CreateStep.{CreateStep, TheVariants.LoadsDirectory}}
+use Rattle.gated_tree.specs.declared.changes.{MoveStep.{MoveStep, TheVariants.{LoadsFile as LoadsFileToMove, LoadsDirectory as LoadsTarget}}, MoveTo.MoveTo}
+use Rattle.gated_tree.specs.declared.changes.{Remove.Remove, RemoveStep.{RemoveStep, TheVariants.LoadsFile as LoadsFileToRemove}}
+use Rattle.gated_tree.specs.declared.growth.{Grow.Grow, GrowStep.{GrowStep, TheVariants.LoadsFile as LoadsFileToGrow}}
+use Rattle.gated_tree.specs.declared.marks.{Mark.Mark, MarkStep.{MarkStep, TheVariants.LoadsFile as LoadsFileToMark}}
+use Rattle.gated_tree.specs.declared.opens.{OpenFile.OpenFile, OpenStep.{OpenStep, TheVariants.LoadsFile as LoadsFileToOpen}}
+use Rattle.gated_tree.specs.declared.phases.TreePhase.{TreePhase}
+use Rattle.gated_tree.specs.declared.phases.TreePhase.TheVariants.{Create as Creates, Remove as Removes, Grow as Grows, MoveTo as Moves, Mark as TreeMarks}
+use Rattle.gated_tree.specs.declared.phases.TreePhase.TheVariants.{OpenFile as OpensOne, Snapshot as Snapshots}
+use Rattle.gated_tree.specs.declared.snapshots.SnapshotStep.{SnapshotStep, TheVariants.LoadsStage as SnapshotLoadsStage}
+use Rattle.mount_counts.specs.Roles.{counted, has_hold}
+use Rattle.mount_counts.specs.declared.phases.ChangeStep.{ChangeStep, TheVariants.Sums}
+use Rattle.mount_counts.specs.declared.phases.MountPhase.TheVariants.{Want as Wants, Drop as Drops, Change as Changes}
+use Rattle.mount_counts.specs.declared.phases.WantStep.{WantStep, TheVariants.{LoadsHold, LoadsRemount, LoadsReadOnly, LoadsSuperblock}}
+use Rattle.mount_counts.specs.declared.remounts.RemountStep.{RemountStep, TheVariants.{LoadsStage, LoadsRemoved, LoadsRemovedAgain, Sums as RemountSums}}
+use Rattle.percpu_rwsem.specs.declared.readers.DownReadStep.{DownReadStep, TheVariants.LoadsBlock}
+use Rattle.percpu_rwsem.specs.declared.writers.DownWriteStep.{DownWriteStep, TheVariants.Sums as SumsLevel}
+use Rattle.freeze_levels.specs.declared.freezes.FreezeStep.{FreezeStep}
+use Rattle.freeze_levels.specs.declared.freezes.FreezeStep.TheVariants.{LoadsStage as FreezeLoadsStage, LoadsHolders as FreezeLoadsHolders, Closes}
+use Rattle.freeze_levels.specs.declared.thaws.ThawStep.{ThawStep, TheVariants.{LoadsStage as ThawLoadsStage, LoadsHolders as ThawLoadsHolders}}
+use Rattle.level_laws.specs.Roles.{closed}
+use Rattle.write_access.specs.declared.phases.WritePhase.{WritePhase, TheVariants.{Takes, Wants as WriteWants, GivesBack}}
+use Rattle.file_closes.specs.declared.phases.ClosePhase.{ClosePhase, TheVariants.Enters}
+use Rattle.gate_world.specs.{Levels.{sync_role_of, is_frozen_whole, at_level}, Rules.{at_mount, role_of, owns}, Shown.shown, Work.after_of}
+use Rattle.gate_world.specs.Worlds.{World, Entry, happens, run, opening, found_at}
+use Rattle.gate_world.specs.declared.config.Config.{Config}
+use Rattle.gate_world.specs.declared.work.Phase.{Phase, TheVariants.{Mounts, Remounts, DownReads, UpReads, Callbacks, Writes, Freezes, Thaws, Trees, Closes}}
 
 -- the worlds of a schedule, the newest first: the one that it leaves, and each that an entry found
 abbrev pub trail : Config → List World → World → List Entry → List World

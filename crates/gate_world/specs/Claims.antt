@@ -1,58 +1,27 @@
 -- What is claimed of an operation: the actions that it has added, why it may be refused, when it may wait, how long it is.
 use Rattle.std.specs.Prelude.{◌≡◌, ◌≢◌, ◌⊎◌, ℕ, ◌+◌, ◌*◌, ◌<◌, Bool, true, false, if◌then◌else◌, Option, Some, None, Result, Ok, Err, List, [], ◌∷◌, ◌++◌}
 use Rattle.access_model.specs.declared.actions.Action.{Action}
-use Rattle.access_model.specs.declared.actions.Action.TheVariants.{Grant, Return, MountRo, MountRw, SbRo, SbRw, Stage as StageAction, Hold, Leave, Pass, Reopen, Create as CreateAction, Remove as RemoveAction, Grow as GrowAction, MoveTo as MoveToAction, Open as OpenAction, Close as CloseAction}
-use Rattle.access_model.specs.declared.actions.Holder.{Holder}
-use Rattle.access_model.specs.declared.actions.Gate.TheVariants.{Mount, Level}
-use Rattle.access_model.specs.declared.errors.GateError.{GateError}
-use Rattle.access_model.specs.declared.errors.GateError.TheVariants.{Again, Busy, ReadOnly, Invalid, NoEntry, IsDir, Hook}
-use Rattle.access_model.specs.declared.replies.Reply.{Reply}
-use Rattle.access_model.specs.declared.replies.Reply.TheVariants.{Unit as UnitReply, Node as NodeReply, Ran, Tree as TreeReply}
-use Rattle.cpu_words.specs.declared.names.WordName.{WordName}
-use Rattle.cpu_words.specs.declared.names.WordName.TheVariants.{Umount, Remount, Stage}
-use Rattle.gate_world.specs.declared.config.Config.{Config}
-use Rattle.gate_world.specs.declared.operations.Op.{Op}
-use Rattle.gate_world.specs.declared.operations.Op.TheVariants.{Want, DropMount, ChangeMount, RemountSb, Start, End, WantWrite, DropWrite, Callback, Freeze as FreezeOp, Thaw as ThawOp, Create as CreateOp, Remove as RemoveOp, Grow as GrowOp, MoveTo as MoveToOp, Fault as FaultOp, Flush as FlushOp, Open as OpenOp, Close as CloseOp, Snapshot as SnapshotOp}
-use Rattle.gate_world.specs.declared.views.Traced.{Traced}
-use Rattle.access_model.specs.declared.actions.Kind.{Kind}
+use Rattle.access_model.specs.declared.actions.Action.TheVariants.{Grant, Return, MountRo, MountRw, SbRo, SbRw, Stage as StageAction, Hold, Leave, Pass, Reopen}
+use Rattle.access_model.specs.declared.actions.Action.TheVariants.{Create as CreateAction, Remove as RemoveAction, Grow as GrowAction, MoveTo as MoveToAction}
+use Rattle.access_model.specs.declared.actions.Action.TheVariants.{Open as OpenAction, Close as CloseAction}
+use Rattle.access_model.specs.declared.actions.{Gate.TheVariants.{Mount, Level}, Holder.Holder, Kind.Kind}
+use Rattle.access_model.specs.declared.errors.GateError.{GateError, TheVariants.{Again, Busy, ReadOnly, Invalid, NoEntry, IsDir, Hook}}
+use Rattle.access_model.specs.declared.replies.Reply.{Reply, TheVariants.{Unit as UnitReply, Node as NodeReply, Ran, Tree as TreeReply}}
+use Rattle.cpu_words.specs.declared.names.WordName.{WordName, TheVariants.{Umount, Remount, Stage}}
 use Rattle.gated_tree.specs.Phases.{mark_done}
 use Rattle.gated_tree.specs.Refusals.{CreateHonest, FileHonest, GrowHonest, MoveHonest, SnapshotHonest, finds_free, finds_directory, finds_other}
-use Rattle.gate_world.specs.Found.{
-  found_read_only,
-  found_hold,
-  found_taken,
-  found_sealed,
-  SeenIn,
-  found_frozen,
-  found_removed,
-  found_dropped,
-  finds_hold,
-  finds_taken,
-  each_event,
-  looks_again,
-  counts_loaded,
-  IsEachCount,
-  sum_loaded,
-  ReadAnswer,
-  cleans,
-  newest,
-  found_closed,
-  left_closed,
-  holds_since,
-  finds_inside,
-  finds_none_queued,
-  transitions_made,
-  found_incomplete,
-  found_complete,
-  found_moving,
-  found_held,
-  found_unheld,
-  found_shared,
-  stored_stage,
-  finds_readers,
-  FoundInside,
-}
+use Rattle.gate_world.specs.Found.{found_read_only, found_hold, found_taken, found_sealed, SeenIn, found_frozen, found_removed, found_dropped, finds_hold}
+use Rattle.gate_world.specs.Found.{finds_taken, each_event, looks_again, counts_loaded, IsEachCount, sum_loaded, ReadAnswer, cleans, newest, found_closed}
+use Rattle.gate_world.specs.Found.{left_closed, holds_since, finds_inside, finds_none_queued, transitions_made, found_incomplete, found_complete, found_moving}
+use Rattle.gate_world.specs.Found.{found_held, found_unheld, found_shared, stored_stage, finds_readers, FoundInside}
 use Rattle.gate_world.specs.Operations.{first_create, first_grow, first_move, first_snapshot}
+use Rattle.gate_world.specs.declared.config.Config.{Config}
+use Rattle.gate_world.specs.declared.operations.Op.{Op}
+use Rattle.gate_world.specs.declared.operations.Op.TheVariants.{Want, DropMount, ChangeMount, RemountSb, Start, End, WantWrite, DropWrite, Callback}
+use Rattle.gate_world.specs.declared.operations.Op.TheVariants.{Freeze as FreezeOp, Thaw as ThawOp, Create as CreateOp, Remove as RemoveOp, Grow as GrowOp}
+use Rattle.gate_world.specs.declared.operations.Op.TheVariants.{MoveTo as MoveToOp, Fault as FaultOp, Flush as FlushOp, Open as OpenOp, Close as CloseOp}
+use Rattle.gate_world.specs.declared.operations.Op.TheVariants.{Snapshot as SnapshotOp}
+use Rattle.gate_world.specs.declared.views.Traced.{Traced}
 
 -- what is claimed of an operation
 pub record OpClaims : Type 1 where

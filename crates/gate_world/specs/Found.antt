@@ -1,20 +1,15 @@
 -- What the events of a trace have found.
-use Rattle.std.specs.Prelude.{◌≡◌, ◌≢◌, ℕ, zero, suc, ◌%◌, ◌==◌, not, ◌&&◌, ◌||◌, Bool, true, false, if◌then◌else◌, ◌⊎◌, Option, Some, None, is_some, List, [], ◌∷◌, sum_by}
+use Rattle.std.specs.Prelude.{◌≡◌, ◌≢◌, ℕ, zero, suc, ◌%◌, ◌==◌, not, ◌&&◌, ◌||◌, Bool, true, false, if◌then◌else◌, ◌⊎◌, Option, Some, None, is_some, List, []}
+use Rattle.std.specs.Prelude.{◌∷◌, sum_by}
+use Rattle.access_model.specs.{Holders.{held_by, with_holder, is_unheld}, declared.actions.{Action.{Action, TheVariants.Clean}, Holder.Holder}}
+use Rattle.cpu_words.specs.{Hooks.HookAnswer, Touches.wrap_add}
+use Rattle.cpu_words.specs.declared.events.{Event.Event, Touch.{Touch, TheVariants.{Load, Store, Add, Sub, And, Cas, Swap}}}
 use Rattle.cpu_words.specs.declared.names.WordName.{WordName}
-use Rattle.cpu_words.specs.declared.names.WordName.TheVariants.{Umount, Stage, Holders, SbFlags, Remount, MountFlags, MountCount, Block, Sync, LevelCount, Section, Node, Removed}
-use Rattle.cpu_words.specs.declared.events.Touch.{Touch}
-use Rattle.cpu_words.specs.declared.events.Touch.TheVariants.{Load, Store, Add, Sub, And, Cas, Swap}
-use Rattle.cpu_words.specs.declared.events.Event.{Event}
-use Rattle.cpu_words.specs.Hooks.{HookAnswer}
-use Rattle.access_model.specs.declared.actions.Action.{Action}
-use Rattle.access_model.specs.declared.actions.Action.TheVariants.{Clean}
-use Rattle.access_model.specs.declared.actions.Holder.{Holder}
-use Rattle.access_model.specs.Holders.{held_by, with_holder, is_unheld}
-use Rattle.freeze_levels.specs.Holders.{holders_in}
+use Rattle.cpu_words.specs.declared.names.WordName.TheVariants.{Umount, Stage, Holders, SbFlags, Remount, MountFlags, MountCount, Block, Sync, LevelCount}
+use Rattle.cpu_words.specs.declared.names.WordName.TheVariants.{Section, Node, Removed}
 use Rattle.mount_counts.specs.Phases.{has_flag}
-use Rattle.percpu_rwsem.specs.declared.sync_word.SyncWord.{SyncWord}
-use Rattle.cpu_words.specs.Touches.{wrap_add}
-use Rattle.percpu_rwsem.specs.SyncWords.{unpack, is_passed, on_claim}
+use Rattle.percpu_rwsem.specs.{SyncWords.{unpack, is_passed, on_claim}, declared.sync_word.SyncWord.SyncWord}
+use Rattle.freeze_levels.specs.Holders.{holders_in}
 use Rattle.gate_world.specs.declared.views.Traced.{Traced}
 
 -- the touch is a load; a compare-exchange

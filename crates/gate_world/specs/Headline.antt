@@ -1,48 +1,23 @@
 -- The headline: what holds of every schedule.
 use Rattle.std.specs.Prelude.{◌≡◌, ℕ, ◌%◌, ◌<◌, ◌≤◌, ◌==◌, ◌⊎◌, Bool, false, if◌then◌else◌, Option, Some, None, Err, List, [], ◌+◌}
 use Rattle.finite_sums.specs.Sums.{total}
-use Rattle.access_model.specs.Histories.{Done, end_of, IsLegal, IsMerge}
-use Rattle.access_model.specs.States.{is_removed, one_if}
-use Rattle.access_model.specs.Laws.{NobodyHoldsClosed}
-use Rattle.access_model.specs.declared.errors.GateError.{GateError}
-use Rattle.access_model.specs.declared.replies.Next.TheVariants.{Done as Ended}
-use Rattle.mount_counts.specs.Phases.{has_flag}
-use Rattle.mount_counts.specs.Roles.{counted}
-use Rattle.gate_world.specs.declared.config.Config.{Config}
-use Rattle.gate_world.specs.declared.operations.Op.{Op}
-use Rattle.gate_world.specs.declared.views.View.{View}
-use Rattle.gate_world.specs.Configs.{model_limits}
-use Rattle.gate_counts.specs.Gates.{counted as counted_of, unread}
-use Rattle.gate_counts.specs.Levels.{Summing, level_as_gate}
-use Rattle.cpu_words.specs.Sums.{lead}
-use Rattle.level_laws.specs.Roles.{fast}
-use Rattle.percpu_rwsem.specs.declared.sync_word.SyncWord.{SyncWord}
-use Rattle.percpu_rwsem.specs.SyncWords.{unpack}
-use Rattle.gate_world.specs.Levels.{at_level, level_role_of, sync_role_of, is_frozen_whole}
-use Rattle.gate_world.specs.Views.{held_at, holds_level, HoldsAsBefore}
-use Rattle.gate_world.specs.Worlds.{World, Entry, happens, action_of, task_of, run, opening, history}
-use Rattle.stage_laws.specs.Roles.{Place, Freezing, freezes}
+use Rattle.access_model.specs.{Histories.{Done, end_of, IsLegal, IsMerge}, Laws.NobodyHoldsClosed, States.{is_removed, one_if}}
+use Rattle.access_model.specs.declared.{errors.GateError.GateError, replies.Next.TheVariants.Done as Ended}
+use Rattle.cpu_words.specs.{Sums.lead, declared.{events.Touch.{Touch, TheVariants.Store}, names.WordName.{WordName, TheVariants.Holders}}}
+use Rattle.gate_counts.specs.{Gates.{counted as counted_of, unread}, Levels.{Summing, level_as_gate}}
+use Rattle.gated_tree.specs.{Calls.words_loaded, Roles.{seen_as, tree_word}, Trees.{IsSound, IsClean}}
+use Rattle.gated_tree.specs.declared.{phases.TreePhase.TheVariants.Snapshot as Snapshots, snapshots.Snapshot.Snapshot}
+use Rattle.mount_counts.specs.{Phases.has_flag, Roles.counted}
+use Rattle.percpu_rwsem.specs.{SyncWords.unpack, declared.sync_word.SyncWord.SyncWord}
 use Rattle.freeze_levels.specs.Holders.{word_of}
-use Rattle.cpu_words.specs.declared.names.WordName.{WordName}
-use Rattle.cpu_words.specs.declared.names.WordName.TheVariants.{Holders}
-use Rattle.cpu_words.specs.declared.events.Touch.{Touch}
-use Rattle.cpu_words.specs.declared.events.Touch.TheVariants.{Store}
-use Rattle.gate_world.specs.declared.work.Phase.{Phase}
-use Rattle.gate_world.specs.declared.work.Phase.TheVariants.{Freezes, Thaws, Trees}
-use Rattle.gate_world.specs.declared.views.Traced.{Traced}
-use Rattle.gate_world.specs.Found.{stores_stage, newest}
-use Rattle.gate_world.specs.Owners.{last_left}
-use Rattle.gate_world.specs.Shown.{shown, stage_roles}
-use Rattle.gate_world.specs.Moments.{AllHaveMoments}
-use Rattle.gate_world.specs.Rules.{at_mount, owns, Moves}
-use Rattle.gate_world.specs.Courses.{course_of, IsTraced}
-use Rattle.gate_world.specs.Traces.{Tells, IsShort, most_events}
-use Rattle.gated_tree.specs.Trees.{IsSound, IsClean}
-use Rattle.gated_tree.specs.Calls.{words_loaded}
-use Rattle.gated_tree.specs.Roles.{seen_as, tree_word}
-use Rattle.gated_tree.specs.declared.phases.TreePhase.TheVariants.{Snapshot as Snapshots}
-use Rattle.gated_tree.specs.declared.snapshots.Snapshot.{Snapshot}
-use Rattle.gate_world.specs.Snapshots.{values_noted}
+use Rattle.level_laws.specs.Roles.{fast}
+use Rattle.stage_laws.specs.Roles.{Place, Freezing, freezes}
+use Rattle.gate_world.specs.{Configs.model_limits, Courses.{course_of, IsTraced}, Found.{stores_stage, newest}}
+use Rattle.gate_world.specs.{Levels.{at_level, level_role_of, sync_role_of, is_frozen_whole}, Moments.AllHaveMoments, Owners.last_left}
+use Rattle.gate_world.specs.{Rules.{at_mount, owns, Moves}, Shown.{shown, stage_roles}, Snapshots.values_noted, Traces.{Tells, IsShort, most_events}}
+use Rattle.gate_world.specs.{Views.{held_at, holds_level, HoldsAsBefore}, Worlds.{World, Entry, happens, action_of, task_of, run, opening, history}}
+use Rattle.gate_world.specs.declared.{config.Config.Config, operations.Op.Op, views.{Traced.Traced, View.View}}
+use Rattle.gate_world.specs.declared.work.Phase.{Phase, TheVariants.{Freezes, Thaws, Trees}}
 
 -- the world after a schedule, and the actions that its events added, the newest first
 abbrev pub world_after : Config → List Entry → World

@@ -1,14 +1,11 @@
 -- What a task is doing with those who hold a freeze, by its phase.
 use Rattle.std.specs.Prelude.{true, if◌then◌else◌, Option, Some, None}
-use Rattle.access_model.specs.declared.actions.Holder.{Holder}
-use Rattle.access_model.specs.Holders.{nobody, with_holder, is_unheld}
-use Rattle.freeze_levels.specs.declared.freezes.FreezeStep.{FreezeStep}
-use Rattle.freeze_levels.specs.declared.freezes.FreezeStep.TheVariants.{Holds}
+use Rattle.access_model.specs.{Holders.{nobody, with_holder, is_unheld}, declared.actions.Holder.Holder}
+use Rattle.freeze_levels.specs.declared.freezes.FreezeStep.{FreezeStep, TheVariants.Holds}
 use Rattle.freeze_levels.specs.declared.thaws.ThawStep.{ThawStep}
 use Rattle.freeze_levels.specs.declared.thaws.ThawStep.TheVariants.{Leaves, LoadsSuperblock, LeavesReadOnly, LeavesLast, UnfreezesReadOnly, SetsUnfrozen}
 use Rattle.holder_laws.specs.Roles.{HolderRole, Apart, Found, Fills, Empties}
-use Rattle.gate_world.specs.declared.work.Phase.{Phase}
-use Rattle.gate_world.specs.declared.work.Phase.TheVariants.{Mounts, Remounts, DownReads, UpReads, Callbacks, Writes, Freezes, Thaws, Trees, Closes}
+use Rattle.gate_world.specs.declared.work.Phase.{Phase, TheVariants.{Mounts, Remounts, DownReads, UpReads, Callbacks, Writes, Freezes, Thaws, Trees, Closes}}
 
 -- A freeze that is to store its holder: right after its store of stage 4 beside nobody, and else beside those that it has found.
 abbrev pub freeze_holder_role : FreezeStep → HolderRole

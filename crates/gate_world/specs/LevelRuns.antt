@@ -1,14 +1,9 @@
 -- A freeze level of a world as the laws of a level have it, and what a schedule makes of it, moment by moment.
 use Rattle.std.specs.Prelude.{◌≡◌, ℕ, suc, ◌<◌, ◌≤◌, Some, List, length, take}
-use Rattle.percpu_rwsem.specs.declared.sync_word.GpState.TheVariants.{Idle, Exit}
-use Rattle.percpu_rwsem.specs.Graces.{started}
+use Rattle.percpu_rwsem.specs.{Graces.started, declared.sync_word.GpState.TheVariants.{Idle, Exit}}
+use Rattle.level_laws.specs.{Changes.state_found, Events.{SyncLevel, SyncRun}, Laws.{NoneFast, WholeGrace}}
 use Rattle.level_laws.specs.Roles.{Out, Waiting, Past, Claimed, Ready, entering, claimed}
-use Rattle.level_laws.specs.Changes.{state_found}
-use Rattle.level_laws.specs.Events.{SyncLevel, SyncRun}
-use Rattle.level_laws.specs.Laws.{NoneFast, WholeGrace}
-use Rattle.gate_world.specs.declared.config.Config.{Config}
-use Rattle.gate_world.specs.Levels.{sync_role_of, inside, is_frozen_whole}
-use Rattle.gate_world.specs.Worlds.{World, Entry, run, opening}
+use Rattle.gate_world.specs.{Levels.{sync_role_of, inside, is_frozen_whole}, Worlds.{World, Entry, run, opening}, declared.config.Config.Config}
 
 -- one level of a world
 abbrev pub level_in : World → ℕ → SyncLevel

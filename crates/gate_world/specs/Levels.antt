@@ -1,34 +1,23 @@
 -- Freeze levels: what each predicate of one reads of the words and of each task's view.
 use Rattle.std.specs.Prelude.{◌≡◌, ℕ, ◌+◌, ◌%◌, ◌<◌, ◌==◌, nat_lt, if◌then◌else◌, Bool, true, false, Option, Some, None, List, [], ◌∷◌}
 use Rattle.finite_sums.specs.Sums.{update}
-use Rattle.cpu_words.specs.declared.names.WordName.{WordName}
-use Rattle.cpu_words.specs.declared.names.WordName.TheVariants.{LevelCount}
-use Rattle.cpu_words.specs.declared.events.Touch.{Touch}
-use Rattle.cpu_words.specs.declared.events.Touch.TheVariants.{Add, Sub}
-use Rattle.cpu_words.specs.declared.events.Event.{Event}
 use Rattle.cpu_words.specs.Words.{Words}
+use Rattle.cpu_words.specs.declared.{events.{Event.Event, Touch.{Touch, TheVariants.{Add, Sub}}}, names.WordName.{WordName, TheVariants.LevelCount}}
 use Rattle.gate_counts.specs.Levels.{LevelRole, Out as CountsNot, Seeking, BackingOff, Summing, Passed, LevelView}
-use Rattle.level_laws.specs.Roles.{SyncRole, Out as IsApart, Closed}
-use Rattle.level_laws.specs.Operations.{down_read_role, down_read_inside, down_write_role, up_write_role, callback_role}
-use Rattle.percpu_rwsem.specs.declared.readers.DownReadStep.{DownReadStep}
-use Rattle.percpu_rwsem.specs.declared.readers.DownReadStep.TheVariants.{LoadsBlock, CountsDown}
-use Rattle.percpu_rwsem.specs.declared.writers.DownWriteStep.{DownWriteStep}
-use Rattle.percpu_rwsem.specs.declared.writers.DownWriteStep.TheVariants.{Sums}
-use Rattle.percpu_rwsem.specs.declared.writers.UpWriteStep.{UpWriteStep}
-use Rattle.percpu_rwsem.specs.declared.writers.UpWriteStep.TheVariants.{ClearsBlock, Exits}
+use Rattle.percpu_rwsem.specs.declared.readers.DownReadStep.{DownReadStep, TheVariants.{LoadsBlock, CountsDown}}
+use Rattle.percpu_rwsem.specs.declared.writers.{DownWriteStep.{DownWriteStep, TheVariants.Sums}, UpWriteStep.{UpWriteStep, TheVariants.{ClearsBlock, Exits}}}
 use Rattle.freeze_levels.specs.declared.freezes.FreezeStep.{FreezeStep}
-use Rattle.freeze_levels.specs.declared.freezes.FreezeStep.TheVariants.{Closes, LocksAgain, SetsPageFault, Cleans, SetsFs, SetsComplete, Reopens as FreezeReopens}
-use Rattle.freeze_levels.specs.declared.thaws.ThawStep.{ThawStep}
-use Rattle.freeze_levels.specs.declared.thaws.ThawStep.TheVariants.{Reopens as ThawReopens}
-use Rattle.write_access.specs.declared.phases.WritePhase.{WritePhase}
-use Rattle.write_access.specs.declared.phases.WritePhase.TheVariants.{Takes}
-use Rattle.file_closes.specs.declared.phases.ClosePhase.{ClosePhase}
-use Rattle.file_closes.specs.declared.phases.ClosePhase.TheVariants.{Enters}
-use Rattle.gate_world.specs.declared.work.Phase.{Phase}
-use Rattle.gate_world.specs.declared.work.Phase.TheVariants.{Mounts, Remounts, DownReads, UpReads, Callbacks, Writes, Freezes, Thaws, Trees, Closes}
+use Rattle.freeze_levels.specs.declared.freezes.FreezeStep.TheVariants.{Closes, LocksAgain, SetsPageFault, Cleans, SetsFs, SetsComplete}
+use Rattle.freeze_levels.specs.declared.freezes.FreezeStep.TheVariants.{Reopens as FreezeReopens}
+use Rattle.freeze_levels.specs.declared.thaws.ThawStep.{ThawStep, TheVariants.Reopens as ThawReopens}
+use Rattle.level_laws.specs.Operations.{down_read_role, down_read_inside, down_write_role, up_write_role, callback_role}
+use Rattle.level_laws.specs.Roles.{SyncRole, Out as IsApart, Closed}
 use Rattle.stage_laws.specs.Roles.{is_full}
-use Rattle.gate_world.specs.declared.views.View.{View}
+use Rattle.write_access.specs.declared.phases.WritePhase.{WritePhase, TheVariants.Takes}
+use Rattle.file_closes.specs.declared.phases.ClosePhase.{ClosePhase, TheVariants.Enters}
 use Rattle.gate_world.specs.Views.{holds_level}
+use Rattle.gate_world.specs.declared.views.View.{View}
+use Rattle.gate_world.specs.declared.work.Phase.{Phase, TheVariants.{Mounts, Remounts, DownReads, UpReads, Callbacks, Writes, Freezes, Thaws, Trees, Closes}}
 
 -- net additions are what was added to a level's count word less what was taken away: each is a sum over the events
 abbrev pub level_added_after : WordName → Touch → (ℕ → ℕ → ℕ) → ℕ → ℕ → ℕ

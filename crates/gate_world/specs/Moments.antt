@@ -2,16 +2,9 @@
 use Rattle.std.specs.Prelude.{◌≡◌, ℕ, ◌<◌, Option, Some, None, List, ◌∷◌, length, slice_index}
 use Rattle.access_model.specs.Histories.{Done}
 use Rattle.moment_laws.specs.Moments.{WasFrozenWith}
-use Rattle.cpu_words.specs.Words.{Words}
-use Rattle.cpu_words.specs.Hooks.{HookAnswer}
-use Rattle.gate_world.specs.declared.config.Config.{Config}
-use Rattle.gated_tree.specs.declared.trees.TreeWords.{TreeWords}
-use Rattle.gated_tree.specs.Nodes.{node_shown}
-use Rattle.gated_tree.specs.Trees.{LoadedSound, LoadedClean, node_at}
-use Rattle.gate_world.specs.declared.views.Snapshot.{Snapshot}
-use Rattle.gate_world.specs.declared.work.Phase.{Phase}
-use Rattle.gate_world.specs.Snapshots.{completes}
-use Rattle.gate_world.specs.Worlds.{World, found_at}
+use Rattle.cpu_words.specs.{Hooks.HookAnswer, Words.Words}
+use Rattle.gated_tree.specs.{Nodes.node_shown, Trees.{LoadedSound, LoadedClean, node_at}, declared.trees.TreeWords.TreeWords}
+use Rattle.gate_world.specs.{Snapshots.completes, Worlds.{World, found_at}, declared.{config.Config.Config, views.Snapshot.Snapshot, work.Phase.Phase}}
 
 -- A snapshot of a task number has a moment in a history. It is of all nodes, and of a tree that is sound and clean; and after some of
 -- the history's first actions everything was frozen, the tree was the one loaded, and this number and each other one of its task had done

@@ -1,41 +1,26 @@
 -- The rule: what holds of words and views between any two events. One predicate for each mount, one for the owner's words.
 use Rattle.std.specs.Prelude.{◌≡◌, ℕ, suc, ◌<◌, ◌≤◌, ◌==◌, Bool, true, false, Option, Some, None, Ok, Err}
 use Rattle.finite_sums.specs.Sums.{total}
-use Rattle.access_model.specs.declared.actions.Action.{Action}
-use Rattle.access_model.specs.States.{State, openers}
-use Rattle.access_model.specs.Actions.{IsAllowed, after_action}
-use Rattle.cpu_words.specs.Words.{Words}
-use Rattle.cpu_words.specs.Hooks.{HookAnswer}
-use Rattle.mount_counts.specs.declared.phases.MountPhase.{MountPhase}
-use Rattle.mount_counts.specs.declared.phases.MountPhase.TheVariants.{Want as Wants, Drop as Drops, Change as Changes}
-use Rattle.mount_counts.specs.declared.phases.WantStep.{WantStep}
-use Rattle.mount_counts.specs.declared.phases.WantStep.TheVariants.{CountsUp, LoadsHold, LoadsRemount, LoadsReadOnly, LoadsSuperblock, CountsDown}
-use Rattle.mount_counts.specs.declared.phases.ChangeStep.{ChangeStep}
-use Rattle.mount_counts.specs.declared.phases.ChangeStep.TheVariants.{Locks, Sums, SetsReadOnly, ClearsHold}
-use Rattle.mount_counts.specs.Roles.{Role, Out, Asking, Cleared, PastRemount, PastFlags, BackingOff, Summing, Empty, Leaving, MountView, MountHolds}
-use Rattle.gate_world.specs.declared.config.Config.{Config}
-use Rattle.gate_world.specs.declared.work.Phase.{Phase}
-use Rattle.gate_world.specs.declared.work.Phase.TheVariants.{Mounts, Remounts, DownReads, UpReads, Callbacks, Writes, Freezes, Thaws, Trees, Closes}
-use Rattle.write_access.specs.declared.phases.WritePhase.{WritePhase}
-use Rattle.write_access.specs.declared.phases.WritePhase.TheVariants.{Wants as WriteWants}
-use Rattle.gate_world.specs.declared.views.View.{View}
-use Rattle.gate_world.specs.Configs.{model_limits}
-use Rattle.gate_world.specs.Views.{held_at, holds_level, has_open, added_by, taken_by}
-use Rattle.gated_tree.specs.Nodes.{dirty_in, opens_in}
-use Rattle.gated_tree.specs.Roles.{TreeHolds}
-use Rattle.gate_world.specs.Trees.{tree_bounds, tree_of, tree_role_of, is_sealed, is_bare_at}
+use Rattle.access_model.specs.{Actions.{IsAllowed, after_action}, States.{State, openers}, declared.actions.Action.Action}
+use Rattle.cpu_words.specs.{Hooks.HookAnswer, Words.Words}
 use Rattle.gate_counts.specs.Levels.{LevelHolds}
+use Rattle.gated_tree.specs.{Nodes.{dirty_in, opens_in}, Roles.TreeHolds}
+use Rattle.mount_counts.specs.Roles.{Role, Out, Asking, Cleared, PastRemount, PastFlags, BackingOff, Summing, Empty, Leaving, MountView, MountHolds}
+use Rattle.mount_counts.specs.declared.phases.ChangeStep.{ChangeStep, TheVariants.{Locks, Sums, SetsReadOnly, ClearsHold}}
+use Rattle.mount_counts.specs.declared.phases.MountPhase.{MountPhase, TheVariants.{Want as Wants, Drop as Drops, Change as Changes}}
+use Rattle.mount_counts.specs.declared.phases.WantStep.{WantStep, TheVariants.{CountsUp, LoadsHold, LoadsRemount, LoadsReadOnly, LoadsSuperblock, CountsDown}}
 use Rattle.level_laws.specs.Roles.{SyncNumberHolds}
-use Rattle.gate_world.specs.Levels.{sync_role_of, inside, at_level, is_frozen_whole, SectionsAreOdd}
-use Rattle.gate_world.specs.Fits.{Fits, HasFile, file_of}
-use Rattle.gate_world.specs.Remounts.{remount_role, remount_owns, remount_sets}
-use Rattle.gate_world.specs.Stages.{freeze_stage_role, thaw_stage_role, tree_stage_role, stage_role_of}
 use Rattle.stage_laws.specs.Roles.{owns as stage_owns, StagesHold}
+use Rattle.write_access.specs.declared.phases.WritePhase.{WritePhase, TheVariants.Wants as WriteWants}
 use Rattle.holder_laws.specs.Roles.{HoldersHold}
-use Rattle.gate_world.specs.Holders.{holder_role_of}
-use Rattle.gate_world.specs.Owners.{KnowsWords}
+use Rattle.gate_world.specs.{Configs.model_limits, Fits.{Fits, HasFile, file_of}, Holders.holder_role_of}
+use Rattle.gate_world.specs.{Levels.{sync_role_of, inside, at_level, is_frozen_whole, SectionsAreOdd}, Owners.KnowsWords}
+use Rattle.gate_world.specs.{Remounts.{remount_role, remount_owns, remount_sets}, Shown.{shown, closing, stage_roles, holder_roles}}
+use Rattle.gate_world.specs.Stages.{freeze_stage_role, thaw_stage_role, tree_stage_role, stage_role_of}
+use Rattle.gate_world.specs.{Trees.{tree_bounds, tree_of, tree_role_of, is_sealed, is_bare_at}, Views.{held_at, holds_level, has_open, added_by, taken_by}}
 use Rattle.gate_world.specs.Worlds.{World, after_step, phase_action}
-use Rattle.gate_world.specs.Shown.{shown, closing, stage_roles, holder_roles}
+use Rattle.gate_world.specs.declared.{config.Config.Config, views.View.View}
+use Rattle.gate_world.specs.declared.work.Phase.{Phase, TheVariants.{Mounts, Remounts, DownReads, UpReads, Callbacks, Writes, Freezes, Thaws, Trees, Closes}}
 
 -- what a step of a want is doing at its mount, on this processor
 abbrev pub want_role : ℕ → WantStep → Role

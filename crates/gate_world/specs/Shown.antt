@@ -1,18 +1,13 @@
 -- The shown model: what words and views show of the access model.
 use Rattle.std.specs.Prelude.{ℕ, ◌||◌, ◌==◌, Option}
 use Rattle.access_model.specs.States.{State}
-use Rattle.mount_counts.specs.Roles.{ro_bit}
 use Rattle.gated_tree.specs.Nodes.{node_shown}
+use Rattle.mount_counts.specs.Roles.{ro_bit}
 use Rattle.freeze_levels.specs.Holders.{holders_in}
-use Rattle.gate_world.specs.declared.config.Config.{Config}
-use Rattle.gate_world.specs.declared.work.Phase.{Phase}
-use Rattle.gate_world.specs.Views.{held_at, holds_level, has_open}
-use Rattle.stage_laws.specs.Roles.{StageRole, sums}
-use Rattle.stage_laws.specs.Shown.{is_passed as passed_at_level, passed_shown}
-use Rattle.gate_world.specs.Stages.{stage_role_of}
+use Rattle.stage_laws.specs.{Roles.{StageRole, sums}, Shown.{is_passed as passed_at_level, passed_shown}}
 use Rattle.holder_laws.specs.Roles.{HolderRole}
-use Rattle.gate_world.specs.Holders.{holder_role_of}
-use Rattle.gate_world.specs.Worlds.{World}
+use Rattle.gate_world.specs.{Holders.holder_role_of, Stages.stage_role_of, Views.{held_at, holds_level, has_open}, Worlds.World}
+use Rattle.gate_world.specs.declared.{config.Config.Config, work.Phase.Phase}
 
 -- 1 while a phase has a level's `block` set and its sum has not been 0
 abbrev pub closing : ℕ → Option Phase → ℕ

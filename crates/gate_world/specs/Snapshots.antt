@@ -1,20 +1,11 @@
 -- Snapshots: which event completes one, and what is noted of it.
 use Rattle.std.specs.Prelude.{ℕ, if◌then◌else◌, Option, Some, None, List, [], ◌∷◌, length, slice_index}
 use Rattle.access_model.specs.declared.actions.Action.{Action}
-use Rattle.gated_tree.specs.declared.phases.TreePhase.{TreePhase}
-use Rattle.gated_tree.specs.declared.phases.TreePhase.TheVariants.{Snapshot as Snapshots}
-use Rattle.gated_tree.specs.declared.snapshots.SnapshotStep.{SnapshotStep}
-use Rattle.gated_tree.specs.declared.snapshots.SnapshotStep.TheVariants.{LoadsKids}
-use Rattle.gated_tree.specs.declared.trees.TreeWords.{TreeWords}
 use Rattle.cpu_words.specs.declared.names.WordName.TheVariants.{Kids}
-use Rattle.gated_tree.specs.Nodes.{node_after}
-use Rattle.gated_tree.specs.Roles.{tree_word}
-use Rattle.gated_tree.specs.Trees.{unloaded, loaded}
-use Rattle.gate_world.specs.declared.work.Phase.{Phase}
-use Rattle.gate_world.specs.declared.work.Phase.TheVariants.{Trees}
-use Rattle.gate_world.specs.declared.views.Traced.{Traced}
-use Rattle.gate_world.specs.declared.views.Snapshot.{Snapshot}
-use Rattle.gate_world.specs.Found.{is_load}
+use Rattle.gated_tree.specs.{Nodes.node_after, Roles.tree_word, Trees.{unloaded, loaded}}
+use Rattle.gated_tree.specs.declared.phases.TreePhase.{TreePhase, TheVariants.Snapshot as Snapshots}
+use Rattle.gated_tree.specs.declared.{snapshots.SnapshotStep.{SnapshotStep, TheVariants.LoadsKids}, trees.TreeWords.TreeWords}
+use Rattle.gate_world.specs.{Found.is_load, declared.{views.{Snapshot.Snapshot, Traced.Traced}, work.Phase.{Phase, TheVariants.Trees}}}
 
 -- what the loads of a trace have noted, in room for so many nodes: of each word of the tree what its newest load found
 abbrev pub loads_noted : ℕ → List Traced → TreeWords

@@ -1,63 +1,25 @@
 -- What a task is doing with the stage, the superblock's flags and `remount`, by its phase.
 use Rattle.std.specs.Prelude.{ℕ, ◌-◌, nat_lt, true, false, Option, Some, None, Result, Ok, Err}
-use Rattle.access_model.specs.declared.errors.GateError.{GateError}
-use Rattle.access_model.specs.declared.replies.Reply.{Reply}
-use Rattle.mount_counts.specs.declared.remounts.RemountStep.{RemountStep}
-use Rattle.mount_counts.specs.declared.remounts.RemountStep.TheVariants.{
-  Locks as RemountLocks,
-  LoadsStage as RemountLoadsStage,
-  LoadsSuperblock as RemountLoadsSuperblock,
-  SetsWritable,
-  ClearsHold,
-  ClearsMark,
-  SetsReadOnly,
-  ClearsRemount,
-  Releases as RemountReleases,
-}
-use Rattle.percpu_rwsem.specs.declared.writers.DownWriteStep.{DownWriteStep}
-use Rattle.percpu_rwsem.specs.declared.writers.DownWriteStep.TheVariants.{Sums}
-use Rattle.percpu_rwsem.specs.declared.writers.UpWriteStep.{UpWriteStep}
-use Rattle.percpu_rwsem.specs.declared.writers.UpWriteStep.TheVariants.{ClearsBlock, Exits}
-use Rattle.freeze_levels.specs.declared.freezes.FreezeStep.{FreezeStep}
-use Rattle.freeze_levels.specs.declared.freezes.FreezeStep.TheVariants.{
-  Locks as FreezeLocks,
-  LoadsStage as FreezeLoadsStage,
-  LoadsHolders as FreezeLoadsHolders,
-  Holds,
-  LoadsSuperblock as FreezeLoadsSuperblock,
-  CompletesReadOnly,
-  SetsWrite,
-  Unlocks,
-  Closes,
-  LocksAgain,
-  SetsPageFault,
-  Cleans,
-  SetsFs,
-  SetsComplete,
-  Reopens as FreezeReopens,
-  Releases as FreezeReleases,
-}
-use Rattle.freeze_levels.specs.declared.thaws.ThawStep.{ThawStep}
-use Rattle.freeze_levels.specs.declared.thaws.ThawStep.TheVariants.{
-  Locks as ThawLocks,
-  LoadsStage as ThawLoadsStage,
-  LoadsHolders as ThawLoadsHolders,
-  Leaves,
-  LoadsSuperblock as ThawLoadsSuperblock,
-  LeavesReadOnly,
-  UnfreezesReadOnly,
-  LeavesLast,
-  SetsUnfrozen,
-  Reopens as ThawReopens,
-  Releases as ThawReleases,
-}
-use Rattle.stage_laws.specs.Roles.{Place, Before, Closing, HasPassed, StageRole, Aside, Owning, Remounting, Freezing, Reopening}
-use Rattle.gated_tree.specs.declared.phases.TreePhase.{TreePhase}
-use Rattle.gated_tree.specs.declared.phases.TreePhase.TheVariants.{Snapshot as Snapshots}
+use Rattle.access_model.specs.declared.{errors.GateError.GateError, replies.Reply.Reply}
+use Rattle.gated_tree.specs.declared.phases.TreePhase.{TreePhase, TheVariants.Snapshot as Snapshots}
 use Rattle.gated_tree.specs.declared.snapshots.SnapshotStep.{SnapshotStep}
 use Rattle.gated_tree.specs.declared.snapshots.SnapshotStep.TheVariants.{Locks as SnapshotLocks, LoadsStage as SnapshotLoadsStage, Releases as SnapshotReleases}
-use Rattle.gate_world.specs.declared.work.Phase.{Phase}
-use Rattle.gate_world.specs.declared.work.Phase.TheVariants.{Mounts, Remounts, DownReads, UpReads, Callbacks, Writes, Freezes, Thaws, Trees, Closes}
+use Rattle.mount_counts.specs.declared.remounts.RemountStep.{RemountStep}
+use Rattle.mount_counts.specs.declared.remounts.RemountStep.TheVariants.{Locks as RemountLocks, LoadsStage as RemountLoadsStage}
+use Rattle.mount_counts.specs.declared.remounts.RemountStep.TheVariants.{LoadsSuperblock as RemountLoadsSuperblock, SetsWritable, ClearsHold, ClearsMark}
+use Rattle.mount_counts.specs.declared.remounts.RemountStep.TheVariants.{SetsReadOnly, ClearsRemount, Releases as RemountReleases}
+use Rattle.percpu_rwsem.specs.declared.writers.{DownWriteStep.{DownWriteStep, TheVariants.Sums}, UpWriteStep.{UpWriteStep, TheVariants.{ClearsBlock, Exits}}}
+use Rattle.freeze_levels.specs.declared.freezes.FreezeStep.{FreezeStep}
+use Rattle.freeze_levels.specs.declared.freezes.FreezeStep.TheVariants.{Locks as FreezeLocks, LoadsStage as FreezeLoadsStage}
+use Rattle.freeze_levels.specs.declared.freezes.FreezeStep.TheVariants.{LoadsHolders as FreezeLoadsHolders, Holds, LoadsSuperblock as FreezeLoadsSuperblock}
+use Rattle.freeze_levels.specs.declared.freezes.FreezeStep.TheVariants.{CompletesReadOnly, SetsWrite, Unlocks, Closes, LocksAgain, SetsPageFault, Cleans}
+use Rattle.freeze_levels.specs.declared.freezes.FreezeStep.TheVariants.{SetsFs, SetsComplete, Reopens as FreezeReopens, Releases as FreezeReleases}
+use Rattle.freeze_levels.specs.declared.thaws.ThawStep.{ThawStep}
+use Rattle.freeze_levels.specs.declared.thaws.ThawStep.TheVariants.{Locks as ThawLocks, LoadsStage as ThawLoadsStage, LoadsHolders as ThawLoadsHolders, Leaves}
+use Rattle.freeze_levels.specs.declared.thaws.ThawStep.TheVariants.{LoadsSuperblock as ThawLoadsSuperblock, LeavesReadOnly, UnfreezesReadOnly, LeavesLast}
+use Rattle.freeze_levels.specs.declared.thaws.ThawStep.TheVariants.{SetsUnfrozen, Reopens as ThawReopens, Releases as ThawReleases}
+use Rattle.stage_laws.specs.Roles.{Place, Before, Closing, HasPassed, StageRole, Aside, Owning, Remounting, Freezing, Reopening}
+use Rattle.gate_world.specs.declared.work.Phase.{Phase, TheVariants.{Mounts, Remounts, DownReads, UpReads, Callbacks, Writes, Freezes, Thaws, Trees, Closes}}
 
 -- A remount, among so many nodes: in its loop it relies on the stage 0 and the flags 0 that it found, and with `remount` set it clears the
 -- marks from node 1 on; the root, node 0, never has one.

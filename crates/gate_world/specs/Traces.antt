@@ -1,15 +1,7 @@
 -- What the trace of an operation tells.
 use Rattle.std.specs.Prelude.{◌≡◌, ℕ, ◌≤◌, Option, Some, None, Result, Ok, Err, List, [], ◌∷◌, length}
-use Rattle.access_model.specs.declared.actions.Action.{Action}
-use Rattle.access_model.specs.declared.errors.GateError.{GateError}
-use Rattle.access_model.specs.declared.replies.Next.{Next}
-use Rattle.access_model.specs.declared.replies.Next.TheVariants.{Go, Wait, Done}
-use Rattle.access_model.specs.declared.replies.Reply.{Reply}
-use Rattle.gate_world.specs.declared.config.Config.{Config}
-use Rattle.gate_world.specs.declared.operations.Op.{Op}
-use Rattle.gate_world.specs.declared.work.Phase.{Phase}
-use Rattle.gate_world.specs.declared.views.Traced.{Traced}
-use Rattle.gate_world.specs.Claims.{claims}
+use Rattle.access_model.specs.declared.{actions.Action.Action, errors.GateError.GateError, replies.{Next.{Next, TheVariants.{Go, Wait, Done}}, Reply.Reply}}
+use Rattle.gate_world.specs.{Claims.claims, declared.{config.Config.Config, operations.Op.Op, views.Traced.Traced, work.Phase.Phase}}
 
 -- what an operation with this answer and trace has added
 abbrev pub actions_of : Op → Result Reply GateError → List Traced → List Action

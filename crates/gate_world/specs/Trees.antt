@@ -1,22 +1,15 @@
 -- The tree of a world: its words, and what each task is doing at them.
 use Rattle.std.specs.Prelude.{ℕ, Option, Some, None, List}
-use Rattle.mount_counts.specs.declared.remounts.RemountStep.{RemountStep}
-use Rattle.mount_counts.specs.declared.remounts.RemountStep.TheVariants.{SetsRemount, ClearsHold, ClearsMark, SetsReadOnly}
-use Rattle.freeze_levels.specs.declared.freezes.FreezeStep.{FreezeStep}
-use Rattle.freeze_levels.specs.declared.freezes.FreezeStep.TheVariants.{Cleans, SetsFs}
-use Rattle.gated_tree.specs.declared.phases.TreePhase.{TreePhase}
-use Rattle.gated_tree.specs.declared.phases.TreePhase.TheVariants.{Snapshot as Snapshots}
-use Rattle.gated_tree.specs.Roles.{Role, Out, Freeing, Dropped, Uncounting, Bare, Clearing, Bounds, TreeState, sealed_by, bare_by}
-use Rattle.gated_tree.specs.Calls.{phase_role}
 use Rattle.cpu_words.specs.Words.{Words}
-use Rattle.gate_world.specs.declared.config.Config.{Config}
+use Rattle.gated_tree.specs.{Calls.phase_role, Roles.{Role, Out, Freeing, Dropped, Uncounting, Bare, Clearing, Bounds, TreeState, sealed_by, bare_by}}
+use Rattle.gated_tree.specs.declared.phases.TreePhase.{TreePhase, TheVariants.Snapshot as Snapshots}
+use Rattle.mount_counts.specs.declared.remounts.RemountStep.{RemountStep, TheVariants.{SetsRemount, ClearsHold, ClearsMark, SetsReadOnly}}
+use Rattle.freeze_levels.specs.declared.freezes.FreezeStep.{FreezeStep, TheVariants.{Cleans, SetsFs}}
 use Rattle.file_closes.specs.declared.phases.ClosePhase.{ClosePhase}
 use Rattle.file_closes.specs.declared.phases.ClosePhase.TheVariants.{Enters, FreesNode, RefundsBlocks as CloseRefundsBlocks, Uncounts as CloseUncounts}
-use Rattle.gate_world.specs.declared.work.Phase.{Phase}
-use Rattle.gate_world.specs.declared.work.Phase.TheVariants.{Mounts, Remounts, DownReads, UpReads, Callbacks, Writes, Freezes, Thaws, Trees, Closes}
-use Rattle.gate_world.specs.declared.views.Traced.{Traced}
-use Rattle.gate_world.specs.Snapshots.{values_noted}
-use Rattle.gate_world.specs.Worlds.{World}
+use Rattle.gate_world.specs.{Snapshots.values_noted, Worlds.World}
+use Rattle.gate_world.specs.declared.{config.Config.Config, views.Traced.Traced}
+use Rattle.gate_world.specs.declared.work.Phase.{Phase, TheVariants.{Mounts, Remounts, DownReads, UpReads, Callbacks, Writes, Freezes, Thaws, Trees, Closes}}
 
 -- what the laws of the tree read of a configuration
 abbrev pub tree_bounds : Config → Bounds

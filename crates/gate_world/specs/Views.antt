@@ -1,23 +1,11 @@
 -- What is known of one task number, and what its next event makes of it.
 use Rattle.std.specs.Prelude.{◌≡◌, ℕ, ◌+◌, Bool, Option, Some, None, List, [], ◌∷◌}
 use Rattle.finite_sums.specs.Sums.{update}
-use Rattle.access_model.specs.declared.actions.Action.{Action}
-use Rattle.access_model.specs.declared.replies.Next.{Next}
-use Rattle.access_model.specs.declared.replies.Next.TheVariants.{Go, Wait, Done}
-use Rattle.access_model.specs.Histories.{mounts_of, levels_of, opens_of}
-use Rattle.cpu_words.specs.declared.names.WordName.{WordName}
-use Rattle.cpu_words.specs.declared.names.WordName.TheVariants.{MountCount}
-use Rattle.cpu_words.specs.declared.events.Touch.{Touch}
-use Rattle.cpu_words.specs.declared.events.Touch.TheVariants.{Add, Sub}
-use Rattle.cpu_words.specs.declared.events.Event.{Event}
-use Rattle.cpu_words.specs.Touches.{event_of, found_by}
-use Rattle.cpu_words.specs.Hooks.{HookAnswer}
-use Rattle.gate_world.specs.declared.operations.Op.{Op}
-use Rattle.gate_world.specs.declared.work.Phase.{Phase}
-use Rattle.gate_world.specs.declared.views.View.{View}
-use Rattle.gate_world.specs.declared.views.Traced.{Traced}
-use Rattle.gate_world.specs.Work.{next_of, after_of}
-use Rattle.gate_world.specs.Snapshots.{completes, last_snapshot}
+use Rattle.access_model.specs.{Histories.{mounts_of, levels_of, opens_of}, declared.{actions.Action.Action, replies.Next.{Next, TheVariants.{Go, Wait, Done}}}}
+use Rattle.cpu_words.specs.{Hooks.HookAnswer, Touches.{event_of, found_by}}
+use Rattle.cpu_words.specs.declared.{events.{Event.Event, Touch.{Touch, TheVariants.{Add, Sub}}}, names.WordName.{WordName, TheVariants.MountCount}}
+use Rattle.gate_world.specs.{Snapshots.{completes, last_snapshot}, Work.{next_of, after_of}}
+use Rattle.gate_world.specs.declared.{operations.Op.Op, views.{Traced.Traced, View.View}, work.Phase.Phase}
 
 -- nothing is held and nothing was done
 abbrev pub opening_view : View

@@ -1,31 +1,17 @@
 -- Waits: where an event reports that its operation waits, another task has what it waits for.
 use Rattle.std.specs.Prelude.{◌≡◌, ℕ, ◌<◌, true, Some, Ok, Err, List, [], ◌∷◌}
-use Rattle.access_model.specs.declared.replies.Next.{Next}
-use Rattle.access_model.specs.declared.replies.Next.TheVariants.{Go, Wait, Done}
+use Rattle.access_model.specs.declared.replies.Next.{Next, TheVariants.{Go, Wait, Done}}
 use Rattle.cpu_words.specs.Hooks.{HookAnswer}
-use Rattle.mount_counts.specs.declared.phases.MountPhase.{MountPhase}
-use Rattle.mount_counts.specs.declared.phases.MountPhase.TheVariants.{Want as Wants, Drop as Drops, Change as Changes}
-use Rattle.mount_counts.specs.Roles.{has_hold}
+use Rattle.gated_tree.specs.declared.phases.TreePhase.{TreePhase, TheVariants.Snapshot as Snapshots}
+use Rattle.mount_counts.specs.{Roles.has_hold, declared.phases.MountPhase.{MountPhase, TheVariants.{Want as Wants, Drop as Drops, Change as Changes}}}
+use Rattle.percpu_rwsem.specs.declared.writers.DownWriteStep.{DownWriteStep, TheVariants.{AwaitsSections, Sums as SumsLevel}}
+use Rattle.freeze_levels.specs.declared.freezes.{Freeze.Freeze, FreezeStep.{FreezeStep, TheVariants.{Locks, LocksAgain, Closes}}}
+use Rattle.write_access.specs.declared.phases.WritePhase.{WritePhase, TheVariants.{Takes, Wants as WriteWants}}
+use Rattle.file_closes.specs.declared.phases.ClosePhase.{ClosePhase, TheVariants.Enters}
+use Rattle.gate_world.specs.{Causes.{trail_of, since_begun, HasCause, last_asked, WasClosed, moments_of_sum, was_inside}, Headline.world_after, Levels.inside}
+use Rattle.gate_world.specs.{Rules.{role_of, owns}, Work.after_of, Worlds.{World, Entry, found_at}}
 use Rattle.gate_world.specs.declared.config.Config.{Config}
-use Rattle.file_closes.specs.declared.phases.ClosePhase.{ClosePhase}
-use Rattle.file_closes.specs.declared.phases.ClosePhase.TheVariants.{Enters}
-use Rattle.gate_world.specs.declared.work.Phase.{Phase}
-use Rattle.gate_world.specs.declared.work.Phase.TheVariants.{Mounts, Remounts, DownReads, UpReads, Callbacks, Writes, Freezes, Thaws, Trees, Closes}
-use Rattle.write_access.specs.declared.phases.WritePhase.{WritePhase}
-use Rattle.write_access.specs.declared.phases.WritePhase.TheVariants.{Takes, Wants as WriteWants}
-use Rattle.percpu_rwsem.specs.declared.writers.DownWriteStep.{DownWriteStep}
-use Rattle.percpu_rwsem.specs.declared.writers.DownWriteStep.TheVariants.{AwaitsSections, Sums as SumsLevel}
-use Rattle.freeze_levels.specs.declared.freezes.Freeze.{Freeze}
-use Rattle.freeze_levels.specs.declared.freezes.FreezeStep.{FreezeStep}
-use Rattle.freeze_levels.specs.declared.freezes.FreezeStep.TheVariants.{Locks, LocksAgain, Closes}
-use Rattle.gate_world.specs.Levels.{inside}
-use Rattle.gate_world.specs.Causes.{trail_of, since_begun, HasCause, last_asked, WasClosed, moments_of_sum, was_inside}
-use Rattle.gate_world.specs.Work.{after_of}
-use Rattle.gate_world.specs.Worlds.{World, Entry, found_at}
-use Rattle.gate_world.specs.Rules.{role_of, owns}
-use Rattle.gate_world.specs.Headline.{world_after}
-use Rattle.gated_tree.specs.declared.phases.TreePhase.{TreePhase}
-use Rattle.gated_tree.specs.declared.phases.TreePhase.TheVariants.{Snapshot as Snapshots}
+use Rattle.gate_world.specs.declared.work.Phase.{Phase, TheVariants.{Mounts, Remounts, DownReads, UpReads, Callbacks, Writes, Freezes, Thaws, Trees, Closes}}
 
 -- What a phase waits for, task y has: a want waits for who has HOLD set at its mount, a change for who has `umount`, a drop for nobody.
 abbrev pub MountIsWaitedFor : World → MountPhase → ℕ → Type 0

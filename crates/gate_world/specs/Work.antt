@@ -1,29 +1,18 @@
 -- The phases of all layers as one.
 use Rattle.std.specs.Prelude.{◌≡◌, ℕ, Option, Some, None}
-use Rattle.access_model.specs.declared.actions.Action.{Action}
-use Rattle.access_model.specs.declared.replies.Next.{Next}
-use Rattle.access_model.specs.Replies.{map_next}
-use Rattle.cpu_words.specs.declared.names.WordName.{WordName}
-use Rattle.cpu_words.specs.declared.events.Touch.{Touch}
-use Rattle.cpu_words.specs.Hooks.{HookAnswer}
-use Rattle.mount_counts.specs.Phases.{next, after}
-use Rattle.mount_counts.specs.Remounts.{remount_next, remount_after}
-use Rattle.mount_counts.specs.declared.remounts.RemountStep.{RemountStep}
-use Rattle.mount_counts.specs.declared.remounts.RemountStep.TheVariants.{SetsWritable, SetsReadOnly}
-use Rattle.freeze_levels.specs.Freezes.{freeze_next, freeze_after, freeze_hook}
-use Rattle.freeze_levels.specs.Thaws.{thaw_next, thaw_after, thaw_hook}
-use Rattle.freeze_levels.specs.declared.hooks.HookKind.{HookKind}
-use Rattle.freeze_levels.specs.declared.hooks.HookKind.TheVariants.{Reconfigure}
+use Rattle.access_model.specs.{Replies.map_next, declared.{actions.Action.Action, replies.Next.Next}}
+use Rattle.cpu_words.specs.{Hooks.HookAnswer, declared.{events.Touch.Touch, names.WordName.WordName}}
 use Rattle.gated_tree.specs.Phases.{next as tree_next, after as tree_after}
-use Rattle.file_closes.specs.Phases.{next as close_next, after as close_after}
-use Rattle.gate_world.specs.declared.work.Phase.{Phase}
+use Rattle.mount_counts.specs.{Phases.{next, after}, Remounts.{remount_next, remount_after}}
 use Rattle.mount_counts.specs.declared.phases.MountPhase.TheVariants.{Want as PlainWant, Drop as PlainDrop}
-use Rattle.percpu_rwsem.specs.Readers.{down_read_next, down_read_after, up_read_next, up_read_after}
-use Rattle.percpu_rwsem.specs.Callbacks.{callback_next, callback_after}
-use Rattle.write_access.specs.declared.phases.WritePhase.{WritePhase}
-use Rattle.write_access.specs.declared.phases.WritePhase.TheVariants.{Takes, Wants, GivesBack, Drops, Ends}
+use Rattle.mount_counts.specs.declared.remounts.RemountStep.{RemountStep, TheVariants.{SetsWritable, SetsReadOnly}}
+use Rattle.percpu_rwsem.specs.{Callbacks.{callback_next, callback_after}, Readers.{down_read_next, down_read_after, up_read_next, up_read_after}}
+use Rattle.freeze_levels.specs.{Freezes.{freeze_next, freeze_after, freeze_hook}, Thaws.{thaw_next, thaw_after, thaw_hook}}
+use Rattle.freeze_levels.specs.declared.hooks.HookKind.{HookKind, TheVariants.Reconfigure}
 use Rattle.write_access.specs.Phases.{next as write_next, after as write_after, leaves_on}
-use Rattle.gate_world.specs.declared.work.Phase.TheVariants.{Mounts, Remounts, DownReads, UpReads, Callbacks, Writes, Freezes, Thaws, Trees, Closes}
+use Rattle.write_access.specs.declared.phases.WritePhase.{WritePhase, TheVariants.{Takes, Wants, GivesBack, Drops, Ends}}
+use Rattle.file_closes.specs.Phases.{next as close_next, after as close_after}
+use Rattle.gate_world.specs.declared.work.Phase.{Phase, TheVariants.{Mounts, Remounts, DownReads, UpReads, Callbacks, Writes, Freezes, Thaws, Trees, Closes}}
 
 -- the word and the touch of the next event
 abbrev pub next_of : Phase → HookAnswer → WordName × Touch

@@ -1,20 +1,10 @@
 -- The world, which is the words and one view per task number, and what an entry of a schedule does to it.
 use Rattle.std.specs.Prelude.{ℕ, nat_lt, if◌then◌else◌, Option, Some, None, List, [], ◌∷◌}
 use Rattle.finite_sums.specs.Sums.{update}
-use Rattle.access_model.specs.declared.actions.Action.{Action}
-use Rattle.access_model.specs.declared.errors.GateError.{GateError}
-use Rattle.access_model.specs.declared.errors.GateError.TheVariants.{Invalid}
-use Rattle.access_model.specs.Histories.{Done}
-use Rattle.cpu_words.specs.Touches.{left, found_by}
-use Rattle.cpu_words.specs.Words.{Words, read, put, opening_words}
-use Rattle.cpu_words.specs.Hooks.{HookAnswer}
-use Rattle.gate_world.specs.declared.config.Config.{Config}
-use Rattle.gate_world.specs.declared.operations.Op.{Op}
-use Rattle.gate_world.specs.declared.work.Phase.{Phase}
-use Rattle.gate_world.specs.declared.views.View.{View}
-use Rattle.gate_world.specs.Work.{next_of, after_of}
-use Rattle.gate_world.specs.Views.{opening_view, view_after_beside, begun_view}
-use Rattle.gate_world.specs.Beginnings.{first_phase, view_refusal}
+use Rattle.access_model.specs.{Histories.Done, declared.{actions.Action.Action, errors.GateError.{GateError, TheVariants.Invalid}}}
+use Rattle.cpu_words.specs.{Hooks.HookAnswer, Touches.{left, found_by}, Words.{Words, read, put, opening_words}}
+use Rattle.gate_world.specs.{Beginnings.{first_phase, view_refusal}, Views.{opening_view, view_after_beside, begun_view}, Work.{next_of, after_of}}
+use Rattle.gate_world.specs.declared.{config.Config.Config, operations.Op.Op, views.View.View, work.Phase.Phase}
 
 -- the words, and what is known of each task number
 pub record World : Type 0 where

@@ -1,32 +1,23 @@
 -- each kind of event at one level keeps its predicate
-use Rattle.std.proofs.Common.{◌≡◌, ℕ, true, false, ◌+◌, ◌%◌, ◌<◌, ◌≤◌, refl, sym, ap, subst, ◌∙◌, inl, inr, arith}
+use Rattle.std.proofs.{Common.{◌≡◌, ℕ, true, false, ◌+◌, ◌%◌, ◌<◌, ◌≤◌, refl, sym, ap, subst, ◌∙◌, inl, inr, arith}, lemmas.Bool.Decides.{eqb_tells, nat_tests}}
 use Rattle.std.specs.Prelude.{Bool, Option, Some, None, ◌==◌, ◌&&◌, nat_lt, if◌then◌else◌}
-use Rattle.std.proofs.lemmas.Bool.Decides.{eqb_tells, nat_tests}
-use Rattle.finite_sums.specs.Sums.{update, total}
-use Rattle.finite_sums.proofs.Totals.{update_off, each_updated, total_updated, total_at, total_none}
+use Rattle.finite_sums.{proofs.Totals.{update_off, each_updated, total_updated, total_at, total_none}, specs.Sums.{update, total}}
 use Rattle.cpu_words.specs.Touches.{wrap_add}
-use Rattle.percpu_rwsem.specs.declared.grace.Grace.{Grace}
-use Rattle.percpu_rwsem.specs.declared.grace.GraceNext.{GraceNext}
-use Rattle.percpu_rwsem.specs.declared.grace.GraceNext.TheVariants.{More, Wait, Ended}
-use Rattle.percpu_rwsem.specs.declared.sync_word.GpState.{GpState}
-use Rattle.percpu_rwsem.specs.declared.sync_word.GpState.TheVariants.{Idle, Enter, Passed, Exit, Replay}
-use Rattle.percpu_rwsem.specs.declared.sync_word.SyncWord.{SyncWord}
-use Rattle.percpu_rwsem.specs.SyncWords.{bit, is_queued, entered_state, left_state, emptied_state, on_enter, on_exit, on_claim, on_callback}
-use Rattle.percpu_rwsem.specs.Graces.{is_first, started, looked}
-use Rattle.level_laws.specs.Roles.{SyncRole, Out, Fast, Waiting, Past, Entered, Closed, Claimed, Ready, fast, entering, entered, closed, claimed, enter_bit, idle_bit, StillFirst, RoleHolds, SyncHolds, SectionsHold}
-use Rattle.level_laws.specs.Changes.{Leaves, role_entered, waits, claims}
 use Rattle.percpu_rwsem.proofs.SyncWords.{bit_small}
+use Rattle.percpu_rwsem.specs.Graces.{is_first, started, looked}
+use Rattle.percpu_rwsem.specs.SyncWords.{bit, is_queued, entered_state, left_state, emptied_state, on_enter, on_exit, on_claim, on_callback}
+use Rattle.percpu_rwsem.specs.declared.{grace.{Grace.Grace, GraceNext.GraceNext}, sync_word.{GpState.GpState, SyncWord.SyncWord}}
 use Rattle.level_laws.proofs.SyncLaws.{fast_small, role_kept, role_free, says, parts_of, open_while_fast, moves}
 use Rattle.level_laws.proofs.TransitionLaws.{Enters, enters, Exits, exits, passes, Calls, calls, Claims, claims_queued}
+use Rattle.level_laws.specs.Changes.{Leaves, role_entered, waits, claims}
+use Rattle.level_laws.specs.Roles.{SyncRole, Out, Fast, Waiting, Past, Entered, Closed, Claimed, Ready, fast, entering, entered, closed, claimed, enter_bit}
+use Rattle.level_laws.specs.Roles.{idle_bit, StillFirst, RoleHolds, SyncHolds, SectionsHold}
 
 -- a grace period that has not loaded yet says nothing
 entered_says : (section : ℕ → ℕ) (at : ℕ → SyncRole) (tasks : ℕ) → 0 < tasks → (s : GpState) →
     RoleHolds section at tasks (role_entered tasks s)
-entered_says section at tasks some Idle = (refl, some, λ u l. absurd (omega arith), tt)
-entered_says section at tasks some Enter = tt
-entered_says section at tasks some Passed = tt
-entered_says section at tasks some Exit = tt
-entered_says section at tasks some Replay = tt
+entered_says section at tasks some GpState.Idle = (refl, some, λ u l. absurd (omega arith), tt)
+entered_says section at tasks some other = tt
 
 -- a number whose load doesn't wait is not on the fast path
 not_waiting : (section : ℕ → ℕ) (at : ℕ → SyncRole) (j found : ℕ) (o : Option ℕ) → StillFirst section at j o → section j ≡ found →
@@ -39,7 +30,6 @@ not_waiting section at j found (Some first) h s f e =
       | inr q ↦ omega (arith, q.1, fast_small (at j))
     ]
 
--- a fact about both sides of a test
 pub by_test : {A : Type 0} (P : A → Type 0) (b : Bool) (x y : A) → (b ≡ true → P x) → (b ≡ false → P y) → P (if b then x else y)
 by_test P true x y f g = f refl
 by_test P false x y f g = g refl
@@ -64,16 +54,16 @@ looked_says section at tasks g f h =
 -- the numbers of a role, by what its load led to
 pub waits_entering : (n : GraceNext) →
     (entering (waits n) ≡ 1) × (entered (waits n) ≡ 1) × (claimed (waits n) ≡ 0) × (closed (waits n) ≡ 0) × (fast (waits n) ≡ 0)
-waits_entering (More g) = (refl, refl, refl, refl, refl)
-waits_entering (Wait g) = (refl, refl, refl, refl, refl)
-waits_entering Ended = (refl, refl, refl, refl, refl)
+waits_entering (GraceNext.More g) = (refl, refl, refl, refl, refl)
+waits_entering (GraceNext.Wait g) = (refl, refl, refl, refl, refl)
+waits_entering GraceNext.Ended = (refl, refl, refl, refl, refl)
 
 -- the same, of a callback
 pub claims_claimed : (n : GraceNext) →
     (entering (claims n) ≡ 0) × (entered (claims n) ≡ 0) × (claimed (claims n) ≡ 1) × (closed (claims n) ≡ 0) × (fast (claims n) ≡ 0)
-claims_claimed (More g) = (refl, refl, refl, refl, refl)
-claims_claimed (Wait g) = (refl, refl, refl, refl, refl)
-claims_claimed Ended = (refl, refl, refl, refl, refl)
+claims_claimed (GraceNext.More g) = (refl, refl, refl, refl, refl)
+claims_claimed (GraceNext.Wait g) = (refl, refl, refl, refl, refl)
+claims_claimed GraceNext.Ended = (refl, refl, refl, refl, refl)
 
 module _ (tasks : ℕ) (word : SyncWord) (block full : ℕ) (section : ℕ → ℕ) (at : ℕ → SyncRole)
     (good : SyncHolds tasks word block full section at) (t : ℕ) (lt : t < tasks) where
@@ -87,8 +77,7 @@ module _ (tasks : ℕ) (word : SyncWord) (block full : ℕ) (section : ℕ → �
       (omega arith) blocked slow
       (λ e. omega (arith, good.slow e, total_at tasks t (λ x. fast (at x)) lt)) own
 
-  -- a reader that finds GP_IDLE is on the fast path
-  pub finds_idle : at t ≡ Out → word.state ≡ Idle → SyncHolds tasks word block full section (update at t Fast)
+  pub finds_idle : at t ≡ Out → word.state ≡ GpState.Idle → SyncHolds tasks word block full section (update at t Fast)
   finds_idle out idle =
       let i : idle_bit word.state ≡ 1 = ap idle_bit idle in
       record {
@@ -104,7 +93,6 @@ module _ (tasks : ℕ) (word : SyncWord) (block full : ℕ) (section : ℕ → �
         blocked = omega (arith, good.blocked, ap closed out, total_updated closed tasks t at Fast lt);
       }
 
-  -- who is on the fast path finds GP_IDLE or GP_ENTER, and the block clear
   pub fast_finds : fast (at t) ≡ 1 → (idle_bit word.state + enter_bit word.state ≡ 1) × (block ≡ 0) × (full ≡ 0)
   fast_finds e =
       let some : 1 ≤ total tasks (λ x. fast (at x)) = omega (arith, total_at tasks t (λ x. fast (at x)) lt) in
@@ -115,7 +103,6 @@ module _ (tasks : ℕ) (word : SyncWord) (block full : ℕ) (section : ℕ → �
       let o : (block ≡ 0) × (full ≡ 0) = open_while_fast tasks word block full section at good q in
       (q, o.0, o.1)
 
-  -- the addition on the fast path
   pub fast_adds : at t ≡ Fast → SyncHolds tasks word block full section (update at t Out)
   fast_adds f = role_moves Out block full (omega (arith, ap entered f)) (sym (ap entering f)) (sym (ap claimed f))
       (omega (arith, ap closed f)) refl tt
@@ -151,7 +138,6 @@ module _ (tasks : ℕ) (word : SyncWord) (block full : ℕ) (section : ℕ → �
       (omega (arith, w, ap closed here)) w.4
       (looked_says section at tasks g f h)
 
-  -- a load of a section word by a callback in its grace period
   pub callback_looks : (g : Grace) (n : GraceNext) → at t ≡ Claimed g → SyncHolds tasks word block full section (update at t (claims n))
   callback_looks g n here =
       let w = claims_claimed n in
@@ -170,14 +156,14 @@ module _ (tasks : ℕ) (word : SyncWord) (block full : ℕ) (section : ℕ → �
 
   -- the transition of a writer after its grace period: GP_ENTER becomes GP_PASSED
   pub pass_keeps : at t ≡ Past →
-      Leaves (on_callback word) (λ w. (w.state ≡ Passed) × SyncHolds tasks w block full section (update at t Entered))
+      Leaves (on_callback word) (λ w. (w.state ≡ GpState.Passed) × SyncHolds tasks w block full section (update at t Entered))
   pass_keeps past =
       let f : (enter_bit word.state ≡ 1) × (word.count ≡ 1) × (bit word.taken ≡ 0) × ((u : ℕ) → u < tasks → fast (at u) ≡ 0) =
       past_finds past in
-      subst (λ o. Leaves o (λ w. (w.state ≡ Passed) × SyncHolds tasks w block full section (update at t Entered)))
+      subst (λ o. Leaves o (λ w. (w.state ≡ GpState.Passed) × SyncHolds tasks w block full section (update at t Entered)))
       (sym (passes word.state word.taken word.count f.0 (omega arith))) (
         refl,
-        moves tasks word block full section at good t lt Entered record { state = Passed; taken = false; count = word.count } block full
+        moves tasks word block full section at good t lt Entered record { state = GpState.Passed; taken = false; count = word.count } block full
             (grind (arith, nat_tests, f.1)) (omega (arith, f.1)) (omega (arith, ap entered past)) (omega (arith, ap entering past, f.0))
             (omega (arith, ap claimed past, f.2))
             (omega (arith, ap closed past)) refl (λ e. omega (arith, ap fast past, total_none tasks (λ x. fast (at x)) f.3)) tt,
@@ -198,7 +184,6 @@ module _ (tasks : ℕ) (word : SyncWord) (block full : ℕ) (section : ℕ → �
       (λ x. entered (update at t Out x)) = parts_of tasks (update at t Out) in
       (omega (arith, s, good), omega (arith, s, good), omega (arith, s, good, p), omega (arith, s, good, p))
 
-  -- the swap of the block, which finds it clear
   pub swap_keeps : at t ≡ Entered → (block ≡ 0) × SyncHolds tasks word 1 full section (update at t Closed)
   swap_keeps here =
       let f = entered_finds (ap entered here) (ap entering here) in
@@ -208,7 +193,6 @@ module _ (tasks : ℕ) (word : SyncWord) (block full : ℕ) (section : ℕ → �
             (omega (arith, b, ap closed here)) refl tt,
       )
 
-  -- the store of 0, which finds the block set
   pub open_keeps : at t ≡ Closed → (block ≡ 1) × SyncHolds tasks word 0 full section (update at t Entered)
   open_keeps here =
       let f = entered_finds (ap entered here) (ap entering here) in
@@ -248,7 +232,6 @@ module _ (tasks : ℕ) (word : SyncWord) (block full : ℕ) (section : ℕ → �
             (omega (arith, ap closed out)) refl (λ h. omega (arith, ap fast out, good.slow h)) tt,
       )
 
-  -- a callback that has claimed finds the callback taken
   pub ready_finds : at t ≡ Ready → Calls word.state word.taken word.count
   ready_finds ready =
       let b : bit word.taken ≡ 1 =
@@ -258,22 +241,21 @@ module _ (tasks : ℕ) (word : SyncWord) (block full : ℕ) (section : ℕ → �
   -- the transition of a callback after its grace period
   pub call_keeps : at t ≡ Ready →
       Leaves (on_callback word)
-      (λ w. (w.state ≡ (if nat_lt 0 word.count then Passed else emptied_state word.state)) × SyncHolds tasks w block full section
+      (λ w. (w.state ≡ (if nat_lt 0 word.count then GpState.Passed else emptied_state word.state)) × SyncHolds tasks w block full section
       (update at t Out))
   call_keeps ready =
       let e : Calls word.state word.taken word.count = ready_finds ready in
       subst (λ o. Leaves o
-      (λ w. (w.state ≡ (if nat_lt 0 word.count then Passed else emptied_state word.state)) × SyncHolds tasks w block full section
+      (λ w. (w.state ≡ (if nat_lt 0 word.count then GpState.Passed else emptied_state word.state)) × SyncHolds tasks w block full section
       (update at t Out))) (sym e.puts) (
         refl,
         moves tasks word block full section at good t lt Out record
-            { state = if nat_lt 0 word.count then Passed else emptied_state word.state; taken = false; count = word.count } block full
+            { state = if nat_lt 0 word.count then GpState.Passed else emptied_state word.state; taken = false; count = word.count } block full
             e.lawful good.once (omega (arith, ap entered ready)) (omega (arith, ap entering ready, e.before, e.after))
             (omega (arith, ap claimed ready, ap bit e.taken))
             (omega (arith, ap closed ready)) refl (λ h. omega (arith, ap fast ready, good.slow e.before)) tt,
       )
 
-  -- a freeze is over, and keeps the level closed; a thaw takes it over
   pub freeze_keeps : at t ≡ Closed → (full ≡ 0) × SyncHolds tasks word block 1 section (update at t Out)
   freeze_keeps here =
       let f = entered_finds (ap entered here) (ap entering here) in (
@@ -282,12 +264,10 @@ module _ (tasks : ℕ) (word : SyncWord) (block full : ℕ) (section : ℕ → �
             (omega (arith, ap closed here, f.1)) refl tt,
       )
 
-  -- a thaw takes over a level that is frozen
   pub thaw_keeps : at t ≡ Out → full ≡ 1 → SyncHolds tasks word block 0 section (update at t Closed)
   thaw_keeps out k = role_moves Closed block 0 (omega (arith, ap entered out)) (sym (ap entering out)) (sym (ap claimed out))
       (omega (arith, ap closed out)) refl tt
 
-  -- an event on a section word, by a task that is not on the fast path
   pub section_keeps : (value : ℕ) → fast (at t) ≡ 0 → SyncHolds tasks word block full (update section t value) at
   section_keeps value slow = record {
     lawful = good.lawful;

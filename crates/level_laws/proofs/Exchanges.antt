@@ -1,14 +1,9 @@
 -- the transitions that phases make are those of the number in memory
-use Rattle.std.proofs.Common.{◌≡◌, ℕ, refl, ap, ◌∙◌, inl, inr}
-use Rattle.std.specs.Prelude.{Option, Some, None}
-use Rattle.std.proofs.lemmas.Bool.Decides.{eqb_tells}
-use Rattle.percpu_rwsem.specs.declared.sync_word.SyncWord.{SyncWord}
-use Rattle.percpu_rwsem.specs.declared.transitions.Transition.TheVariants.{Loads, Exchanges}
-use Rattle.percpu_rwsem.specs.SyncWords.{pack, unpack}
-use Rattle.percpu_rwsem.specs.Transitions.{exchange_for, word_loaded}
+use Rattle.std.{proofs.{Common.{◌≡◌, ℕ, refl, ap, ◌∙◌, inl, inr}, lemmas.Bool.Decides.eqb_tells}, specs.Prelude.{Option, Some, None}}
 use Rattle.percpu_rwsem.proofs.SyncWords.{unpack_pack, unpack_lawful}
-use Rattle.level_laws.specs.Changes.{put_by, transition_of, state_found_in}
-use Rattle.level_laws.specs.Exchanges.{Shows, ExchangesMakeTransitions}
+use Rattle.percpu_rwsem.specs.{SyncWords.{pack, unpack}, Transitions.{exchange_for, word_loaded}}
+use Rattle.percpu_rwsem.specs.declared.{sync_word.SyncWord.SyncWord, transitions.Transition.Transition}
+use Rattle.level_laws.specs.{Changes.{put_by, transition_of, state_found_in}, Exchanges.{Shows, ExchangesMakeTransitions}}
 
 -- a lawful word was loaded
 exchange_shows : (makes : SyncWord → Option SyncWord) (found : ℕ) (from : SyncWord) (o : Option SyncWord) → unpack found ≡ Some from →
@@ -22,10 +17,9 @@ load_shows : (makes : SyncWord → Option SyncWord) (found : ℕ) (o : Option Sy
 load_shows makes found None e = (refl, tt)
 load_shows makes found (Some from) e = exchange_shows makes found from (makes from) e refl
 
--- a load or an exchange
 pub exchanges_make_transitions : ExchangesMakeTransitions
-exchanges_make_transitions makes level found Loads known = load_shows makes found (unpack found) refl
-exchanges_make_transitions makes level found (Exchanges from to) known =
+exchanges_make_transitions makes level found Transition.Loads known = load_shows makes found (unpack found) refl
+exchanges_make_transitions makes level found (Transition.Exchanges from to) known =
     elim (eqb_tells found (pack from)) [
       | inl e ↦
           let u : unpack found ≡ Some from = ap unpack e.1 ∙ unpack_pack from known.0 in

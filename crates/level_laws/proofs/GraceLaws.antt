@@ -1,22 +1,16 @@
 -- a grace period is whole: each section that was under way at its beginning has ended at its end
 use Rattle.std.proofs.Common.{◌≡◌, ℕ, zero, suc, false, ◌+◌, ◌-◌, ◌%◌, ◌<◌, ◌≤◌, refl, sym, ap, subst, ◌∙◌, inl, inr, arith}
-use Rattle.std.specs.Prelude.{Option, Some, None, ◌==◌, ◌&&◌, ◌⊎◌, nat_lt}
 use Rattle.std.proofs.lemmas.Bool.Decides.{eqb_tells, nat_tests}
-use Rattle.finite_sums.specs.Sums.{update}
-use Rattle.finite_sums.proofs.Totals.{update_off}
+use Rattle.std.specs.Prelude.{Option, Some, None, ◌==◌, ◌&&◌, ◌⊎◌, nat_lt}
+use Rattle.finite_sums.{proofs.Totals.update_off, specs.Sums.update}
 use Rattle.cpu_words.specs.Touches.{wrap_add}
-use Rattle.percpu_rwsem.specs.declared.grace.Grace.{Grace}
-use Rattle.percpu_rwsem.specs.declared.grace.GraceNext.{GraceNext}
-use Rattle.percpu_rwsem.specs.declared.grace.GraceNext.TheVariants.{More, Wait, Ended}
-use Rattle.percpu_rwsem.specs.declared.sync_word.GpState.{GpState}
-use Rattle.percpu_rwsem.specs.declared.sync_word.GpState.TheVariants.{Idle, Enter, Passed, Exit, Replay}
-use Rattle.percpu_rwsem.specs.Graces.{is_first, started, looked}
-use Rattle.level_laws.specs.Roles.{SyncRole, Out, Fast, Waiting, Past, Entered, Closed, Claimed, Ready, entering, claimed}
+use Rattle.percpu_rwsem.specs.{Graces.{is_first, started, looked}, declared.{grace.{Grace.Grace, GraceNext.GraceNext}, sync_word.GpState.GpState}}
+use Rattle.level_laws.proofs.{EventLaws.{by_test, waits_entering, claims_claimed}, Runs.run_is_right}
 use Rattle.level_laws.specs.Changes.{state_found, role_found, waits, claims}
-use Rattle.level_laws.specs.Events.{SyncLevel, SyncLevelHolds, SyncEvent, TurnsSection, FindsIdle, AddsFast, Enters, Looks, Passes, Swaps, Opens, Exits, Claims, LooksClaimed, Calls, Freezes, Thaws, Stays, Happens, SyncStep, SyncRun}
+use Rattle.level_laws.specs.Events.{SyncLevel, SyncLevelHolds, SyncEvent, TurnsSection, FindsIdle, AddsFast, Enters, Looks, Passes, Swaps, Opens, Exits, Claims}
+use Rattle.level_laws.specs.Events.{LooksClaimed, Calls, Freezes, Thaws, Stays, Happens, SyncStep, SyncRun}
 use Rattle.level_laws.specs.Laws.{OutsideSince, WholeGrace, GracesAreWhole}
-use Rattle.level_laws.proofs.EventLaws.{by_test, waits_entering, claims_claimed}
-use Rattle.level_laws.proofs.Runs.{run_is_right}
+use Rattle.level_laws.specs.Roles.{SyncRole, Out, Fast, Waiting, Past, Entered, Closed, Claimed, Ready, entering, claimed}
 
 -- an event that changes the section word of a task begins or ends its section
 event_turns : (tasks t : ℕ) → (l l' : SyncLevel) (k : SyncEvent) → Happens tasks t l l' k → (u : ℕ) → l.inside u ≤ 1 →
@@ -35,17 +29,11 @@ event_turns tasks t l l' TurnsSection h u small =
 event_turns tasks t l l' FindsIdle h u small = inl (ap (λ (x : SyncLevel). x.section u) h.3)
 event_turns tasks t l l' AddsFast h u small = inl (ap (λ (x : SyncLevel). x.section u) h.1)
 event_turns tasks t l l' Enters h u small = inl (ap (λ (x : SyncLevel). x.section u) h.3)
-event_turns tasks t l l' Looks h u small = inl (ap (λ (x : SyncLevel). x.section u) h.2)
-event_turns tasks t l l' Passes h u small = inl (ap (λ (x : SyncLevel). x.section u) h.2)
 event_turns tasks t l l' Swaps h u small = inl (ap (λ (x : SyncLevel). x.section u) h.1)
 event_turns tasks t l l' Opens h u small = inl (ap (λ (x : SyncLevel). x.section u) h.1)
-event_turns tasks t l l' Exits h u small = inl (ap (λ (x : SyncLevel). x.section u) h.2)
-event_turns tasks t l l' Claims h u small = inl (ap (λ (x : SyncLevel). x.section u) h.2)
-event_turns tasks t l l' LooksClaimed h u small = inl (ap (λ (x : SyncLevel). x.section u) h.2)
-event_turns tasks t l l' Calls h u small = inl (ap (λ (x : SyncLevel). x.section u) h.2)
 event_turns tasks t l l' Freezes h u small = inl (ap (λ (x : SyncLevel). x.section u) h.1)
-event_turns tasks t l l' Thaws h u small = inl (ap (λ (x : SyncLevel). x.section u) h.2)
 event_turns tasks t l l' Stays h u small = inl (ap (λ (x : SyncLevel). x.section u) h)
+event_turns tasks t l l' other h u small = inl (ap (λ (x : SyncLevel). x.section u) h.2)
 
 -- what an event makes of one task's role, as far as grace periods go
 data Turn (tasks : ℕ) (l l' : SyncLevel) (t : ℕ) : Type 0 where
@@ -67,20 +55,17 @@ turned tasks s l l' r t e f =
       | inr h ↦ Same (ap (λ (x : ℕ → SyncRole). x t) e ∙ update_off l.at s r t h.1)
     ]
 
--- a role that is in no grace period is quiet
 quiet : (tasks : ℕ) (l l' : SyncLevel) (t : ℕ) (r : SyncRole) → entering r ≡ 0 → claimed r ≡ 0 → l'.at t ≡ r → Turn tasks l l' t
 quiet tasks l l' t r e c h = Quiet (ap entering h ∙ e) (ap claimed h ∙ c)
 
--- an enter begins a grace period in GP_IDLE, and else none
 found_turn : (tasks : ℕ) (l l' : SyncLevel) (t : ℕ) (o : Option GpState) → l'.at t ≡ role_found tasks o → Turn tasks l l' t
 found_turn tasks l l' t None h = quiet tasks l l' t Out refl refl h
-found_turn tasks l l' t (Some Idle) h = Starts h
-found_turn tasks l l' t (Some Enter) h = quiet tasks l l' t Entered refl refl h
-found_turn tasks l l' t (Some Passed) h = quiet tasks l l' t Entered refl refl h
-found_turn tasks l l' t (Some Exit) h = quiet tasks l l' t Entered refl refl h
-found_turn tasks l l' t (Some Replay) h = quiet tasks l l' t Entered refl refl h
+found_turn tasks l l' t (Some GpState.Idle) h = Starts h
+found_turn tasks l l' t (Some GpState.Enter) h = quiet tasks l l' t Entered refl refl h
+found_turn tasks l l' t (Some GpState.Passed) h = quiet tasks l l' t Entered refl refl h
+found_turn tasks l l' t (Some GpState.Exit) h = quiet tasks l l' t Entered refl refl h
+found_turn tasks l l' t (Some GpState.Replay) h = quiet tasks l l' t Entered refl refl h
 
--- what each kind of event makes of one role
 event_turn : (tasks s : ℕ) → (l l' : SyncLevel) (k : SyncEvent) → Happens tasks s l l' k → (t : ℕ) → Turn tasks l l' t
 event_turn tasks s l l' TurnsSection h t = Same (ap (λ (x : SyncLevel). x.at t) h.1)
 event_turn tasks s l l' FindsIdle h t = turned tasks s l l' Fast t (ap (λ (x : SyncLevel). x.at) h.3)
@@ -106,7 +91,6 @@ event_turn tasks s l l' Thaws h t = turned tasks s l l' Closed t (ap (λ (x : Sy
     (λ a b. quiet tasks l l' t Closed refl refl b)
 event_turn tasks s l l' Stays h t = Same (ap (λ (x : SyncLevel). x.at t) h)
 
--- a longer time
 longer : (m : ℕ → SyncLevel) (a b i j u : ℕ) → a ≤ b → i ≤ j → OutsideSince m b i u → OutsideSince m a j u
 longer m a b i j u le le2 o = (o.0, omega (arith, o), omega (arith, o), o.3)
 
@@ -144,9 +128,9 @@ Under tasks m t start kind i g =
 
 -- what is said of the past where a load of a section word led to this
 abbrev NextSays : ℕ → (ℕ → SyncLevel) → ℕ → SyncRole → (SyncRole → ℕ) → ℕ → GraceNext → Type 0
-NextSays tasks m t start kind i (More g) = Under tasks m t start kind i g
-NextSays tasks m t start kind i (Wait g) = Under tasks m t start kind i g
-NextSays tasks m t start kind i Ended = WholeGrace tasks m t i start kind
+NextSays tasks m t start kind i (GraceNext.More g) = Under tasks m t start kind i g
+NextSays tasks m t start kind i (GraceNext.Wait g) = Under tasks m t start kind i g
+NextSays tasks m t start kind i GraceNext.Ended = WholeGrace tasks m t i start kind
 
 -- what a role says of the past
 abbrev Says : ℕ → (ℕ → SyncLevel) → ℕ → ℕ → SyncRole → Type 0
@@ -159,16 +143,16 @@ Says tasks m t i r = Unit {0}
 -- the role that the load leads to says the same, of a writer
 waits_says : (tasks : ℕ) (m : ℕ → SyncLevel) (t i : ℕ) (n : GraceNext) → NextSays tasks m t (Waiting (started tasks)) entering i n →
     Says tasks m t i (waits n)
-waits_says tasks m t i (More g) h = h
-waits_says tasks m t i (Wait g) h = h
-waits_says tasks m t i Ended h = h
+waits_says tasks m t i (GraceNext.More g) h = h
+waits_says tasks m t i (GraceNext.Wait g) h = h
+waits_says tasks m t i GraceNext.Ended h = h
 
 -- and of a callback
 claims_says : (tasks : ℕ) (m : ℕ → SyncLevel) (t i : ℕ) (n : GraceNext) → NextSays tasks m t (Claimed (started tasks)) claimed i n →
     Says tasks m t i (claims n)
-claims_says tasks m t i (More g) h = h
-claims_says tasks m t i (Wait g) h = h
-claims_says tasks m t i Ended h = h
+claims_says tasks m t i (GraceNext.More g) h = h
+claims_says tasks m t i (GraceNext.Wait g) h = h
+claims_says tasks m t i GraceNext.Ended h = h
 
 -- a role that is in no grace period says nothing
 quiet_says : (tasks : ℕ) (m : ℕ → SyncLevel) (t i : ℕ) (r : SyncRole) → entering r ≡ 0 → claimed r ≡ 0 → Says tasks m t i r
@@ -218,7 +202,6 @@ whole_more tasks m t i start kind now d = (
       (d.4 u l),
 )
 
--- what a role that stays says of the past, one moment later
 says_more : (tasks : ℕ) (m : ℕ → SyncLevel) (t i : ℕ) (r : SyncRole) → (m (suc i)).at t ≡ r → Says tasks m t i r → Says tasks m t (suc i) r
 says_more tasks m t i (Waiting g) e h = under_more tasks m t i _ entering g (ap entering e) h
 says_more tasks m t i Past e h = whole_more tasks m t i _ entering (ap entering e) h
@@ -297,14 +280,12 @@ module _ (tasks n : ℕ) (m : ℕ → SyncLevel) (run : SyncRun tasks n m) where
       (claims_says tasks m t (suc i) _
       (looked_next t i le _ claimed g (ap claimed e ∙ (claims_claimed _).2) (subst (Says tasks m t i) h before)))
 
-  -- so it holds at each moment of a run in which the task begins out
   says : (t : ℕ) → t < tasks → (m 0).at t ≡ Out → (i : ℕ) → i ≤ n → Says tasks m t i ((m i).at t)
   says t lt out zero le = subst (Says tasks m t 0) (sym out) tt
   says t lt out (suc i) le =
       let s : SyncStep tasks (m i) (m (suc i)) = run.steps i (omega arith) in
       turn_says t lt i le (says t lt out i (omega arith)) (event_turn tasks s.task (m i) (m (suc i)) s.kind s.happens t)
 
--- a task past its grace period had a whole one
 pub graces_are_whole : GracesAreWhole
 graces_are_whole tasks n m run out i t le lt = (
   λ e. subst (Says tasks m t i) e (says tasks n m run t lt (out t lt) i le),

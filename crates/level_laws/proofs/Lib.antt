@@ -7,7 +7,6 @@ pub mod Runs
 pub mod SlowLaws
 pub mod IdleLaws
 pub mod GraceLaws
-pub mod Seams
 pub mod Whole
 pub mod Operations
 pub mod ReadOperations

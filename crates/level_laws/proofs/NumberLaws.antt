@@ -2,19 +2,15 @@
 use Rattle.std.proofs.Common.{◌≡◌, ℕ, zero, suc, true, false, ◌+◌, ◌<◌, refl, sym, ap, subst, inl, inr, arith}
 use Rattle.std.specs.Prelude.{Bool, Option, Some, None, ◌⊎◌, nat_lt, if◌then◌else◌}
 use Rattle.finite_sums.specs.Sums.{update, total}
-use Rattle.percpu_rwsem.specs.declared.sync_word.GpState.{GpState}
-use Rattle.percpu_rwsem.specs.declared.sync_word.GpState.TheVariants.{Idle, Enter, Passed, Exit, Replay}
-use Rattle.percpu_rwsem.specs.declared.sync_word.SyncWord.{SyncWord}
-use Rattle.percpu_rwsem.specs.SyncWords.{is_lawful, is_queued, entered_state, emptied_state, pack, unpack, on_enter, on_exit, on_claim, on_callback}
-use Rattle.percpu_rwsem.specs.Graces.{started}
-use Rattle.level_laws.specs.Roles.{SyncRole, Out, Past, Entered, Claimed, Ready, entered, SyncHolds, SyncNumberHolds}
-use Rattle.level_laws.specs.Changes.{Leaves, put_by, transition_of, transition, state_found_in, state_found, role_entered, role_found}
-use Rattle.level_laws.specs.Numbers.{CanGoOn, GoesOn, AlwaysGoesOn}
 use Rattle.percpu_rwsem.proofs.SyncWords.{unpack_pack}
+use Rattle.percpu_rwsem.specs.Graces.{started}
+use Rattle.percpu_rwsem.specs.SyncWords.{is_lawful, is_queued, entered_state, emptied_state, pack, unpack, on_enter, on_exit, on_claim, on_callback}
+use Rattle.percpu_rwsem.specs.declared.sync_word.{GpState.GpState, SyncWord.SyncWord}
 use Rattle.level_laws.proofs.TransitionLaws.{enters, claims_defined}
+use Rattle.level_laws.specs.Changes.{Leaves, put_by, transition_of, transition, state_found_in, state_found, role_entered, role_found}
+use Rattle.level_laws.specs.{Numbers.{CanGoOn, GoesOn, AlwaysGoesOn}, Roles.{SyncRole, Out, Past, Entered, Claimed, Ready, entered, SyncHolds, SyncNumberHolds}}
 use Rattle.level_laws.proofs.EventLaws
 
--- a transition that leaves a word puts a number
 puts : (P : SyncWord → Type 0) (o : Option SyncWord) → Leaves o P → (put : ℕ) × (put_by o ≡ Some put)
 puts P None h = absurd h
 puts P (Some w) h = (pack w, refl)
@@ -29,28 +25,24 @@ put_holds P tasks block full section at (Some w) put h e =
     subst (λ n. (new : SyncNumberHolds tasks n block full section at) × P new.word) p
     (record { word = w; packed = unpack_pack w record { fits = h.1.lawful; few = omega (arith, h.1.once) }; holds = h.1 }, h.0)
 
--- a transition that puts a number is defined
 put_from : (o : Option SyncWord) (put : ℕ) → put_by o ≡ Some put → (w : SyncWord) × (o ≡ Some w)
 put_from None put e = cc
 put_from (Some w) put e = (w, refl)
 
--- the state of a number that unpacks
 pub state_is : (n : ℕ) (w : SyncWord) (s : GpState) → unpack n ≡ Some w → state_found n ≡ Some s → w.state ≡ s
 state_is n w s e h = let f : state_found n ≡ Some w.state = ap state_found_in e in cc
 
--- GP_ENTER and GP_PASSED are not found where nobody has entered
-lawful_empty : (s : GpState) (t : Bool) (c : ℕ) → c ≡ 0 → is_lawful s t c ≡ true → (s ≡ Idle) ⊎ (is_queued s ≡ true)
+lawful_empty : (s : GpState) (t : Bool) (c : ℕ) → c ≡ 0 → is_lawful s t c ≡ true → (s ≡ GpState.Idle) ⊎ (is_queued s ≡ true)
 lawful_empty s t (suc c) e l = absurd (omega arith)
-lawful_empty Idle t zero e l = inl refl
-lawful_empty Enter true zero e l = cc
-lawful_empty Enter false zero e l = cc
-lawful_empty Passed true zero e l = cc
-lawful_empty Passed false zero e l = cc
-lawful_empty Exit t zero e l = inr refl
-lawful_empty Replay t zero e l = inr refl
+lawful_empty GpState.Idle t zero e l = inl refl
+lawful_empty GpState.Enter true zero e l = cc
+lawful_empty GpState.Enter false zero e l = cc
+lawful_empty GpState.Passed true zero e l = cc
+lawful_empty GpState.Passed false zero e l = cc
+lawful_empty GpState.Exit t zero e l = inr refl
+lawful_empty GpState.Replay t zero e l = inr refl
 
 module _ (tasks sync block full : ℕ) (section : ℕ → ℕ) (at : ℕ → SyncRole) (level : SyncNumberHolds tasks sync block full section at) where
-  -- a transition of the word that is there is defined of its number
   can_go_on : (on : SyncWord → Option SyncWord) (P : SyncWord → Type 0) → Leaves (on level.word) P → CanGoOn on sync
   can_go_on on P h = subst (λ o. (put : ℕ) × (transition_of on o ≡ Some put)) (sym level.packed) (puts P (on level.word) h)
 
@@ -67,15 +59,9 @@ module _ (tasks sync block full : ℕ) (section : ℕ → ℕ) (at : ℕ → Syn
       SyncNumberHolds tasks sync block' full' section' at'
   unchanged block' full' section' at' f = record { word = level.word; packed = level.packed; holds = f level.holds }
 
-  -- where nobody has entered, the count is 0
   none_entered : total tasks (λ x. entered (at x)) + full ≡ 0 → level.word.count ≡ 0
   none_entered none = omega (arith, level.holds.count)
 
-  -- what a writer finds that enters
-  pub enter_finds : total tasks (λ x. entered (at x)) + full ≡ 0 → (level.word.state ≡ Idle) ⊎ (is_queued level.word.state ≡ true)
-  enter_finds none = lawful_empty level.word.state level.word.taken level.word.count (none_entered none) level.holds.lawful
-
-  -- each transition that is asked for is defined
   pub goes_on : GoesOn tasks sync full at
   goes_on = record {
     enters = λ none. can_go_on on_enter (λ w. Unit {0})
@@ -87,7 +73,6 @@ module _ (tasks sync block full : ℕ) (section : ℕ → ℕ) (at : ℕ → Syn
   }
 
   module _ (t : ℕ) (lt : t < tasks) (put : ℕ) where
-    -- the exchange of an enter
     pub enters_exchanged : at t ≡ Out → total tasks (λ x. entered (at x)) + full ≡ 0 → transition on_enter sync ≡ Some put →
         (new : SyncNumberHolds tasks put block full section (update at t (role_found tasks (state_found sync)))) ×
         (new.word.state ≡ entered_state level.word.state)
@@ -101,17 +86,15 @@ module _ (tasks sync block full : ℕ) (section : ℕ → ℕ) (at : ℕ → Syn
 
     -- the exchange of a writer past its grace period
     pub passes_exchanged : at t ≡ Past → transition on_callback sync ≡ Some put →
-        (new : SyncNumberHolds tasks put block full section (update at t Entered)) × (new.word.state ≡ Passed)
-    passes_exchanged here e = exchanged on_callback (λ w. w.state ≡ Passed) block full (update at t Entered)
+        (new : SyncNumberHolds tasks put block full section (update at t Entered)) × (new.word.state ≡ GpState.Passed)
+    passes_exchanged here e = exchanged on_callback (λ w. w.state ≡ GpState.Passed) block full (update at t Entered)
         (EventLaws.pass_keeps tasks level.word block full section at level.holds t lt here) put e
 
-    -- the exchange of an exit
     pub exits_exchanged : at t ≡ Entered → transition on_exit sync ≡ Some put →
         (new : SyncNumberHolds tasks put block full section (update at t Out)) × ((new.word.count ≡ 0) × (is_queued new.word.state ≡ true))
     exits_exchanged here e = exchanged on_exit (λ w. (w.count ≡ 0) × (is_queued w.state ≡ true)) block full (update at t Out)
         (EventLaws.exit_keeps tasks level.word block full section at level.holds t lt here) put e
 
-    -- the exchange of a claim
     pub claims_exchanged : at t ≡ Out → transition on_claim sync ≡ Some put →
         (new : SyncNumberHolds tasks put block full section (update at t (Claimed (started tasks)))) × (new.word.state ≡ level.word.state)
     claims_exchanged here e =
@@ -123,12 +106,11 @@ module _ (tasks sync block full : ℕ) (section : ℕ → ℕ) (at : ℕ → Syn
     -- the exchange of a callback past its grace period
     pub calls_exchanged : at t ≡ Ready → transition on_callback sync ≡ Some put →
         (new : SyncNumberHolds tasks put block full section (update at t Out)) ×
-        (new.word.state ≡ (if nat_lt 0 level.word.count then Passed else emptied_state level.word.state))
+        (new.word.state ≡ (if nat_lt 0 level.word.count then GpState.Passed else emptied_state level.word.state))
     calls_exchanged here e =
-        exchanged on_callback (λ w. w.state ≡ (if nat_lt 0 level.word.count then Passed else emptied_state level.word.state)) block full
+        exchanged on_callback (λ w. w.state ≡ (if nat_lt 0 level.word.count then GpState.Passed else emptied_state level.word.state)) block full
         (update at t Out)
         (EventLaws.call_keeps tasks level.word block full section at level.holds t lt here) put e
 
--- wherever the level holds
 pub always_goes_on : AlwaysGoesOn
 always_goes_on tasks sync block full section at level = goes_on tasks sync block full section at level

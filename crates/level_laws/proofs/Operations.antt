@@ -1,61 +1,32 @@
 -- each event of an operation at a level is one of the level
-use Rattle.std.proofs.Common.{◌≡◌, ℕ, true, false, ◌+◌, ◌<◌, refl, sym, ap, subst, ◌∙◌}
+use Rattle.std.proofs.{Common.{◌≡◌, ℕ, true, false, ◌+◌, ◌<◌, refl, sym, ap, subst, ◌∙◌}, lemmas.Bool.eq-eqb}
 use Rattle.std.specs.Prelude.{Option, Some, None, Ok, ◌==◌, if◌then◌else◌}
-use Rattle.std.proofs.lemmas.Bool.{eq-eqb}
-use Rattle.finite_sums.specs.Sums.{update, total}
-use Rattle.finite_sums.proofs.Totals.{update_same}
-use Rattle.cpu_words.specs.Touches.{left}
-use Rattle.cpu_words.specs.declared.sums.Taken.{Taken}
-use Rattle.cpu_words.specs.declared.sums.Taken.TheVariants.{More as MoreWords, Total}
-use Rattle.cpu_words.specs.Sums.{sum_taking}
-use Rattle.percpu_rwsem.specs.declared.grace.GraceNext.{GraceNext}
-use Rattle.percpu_rwsem.specs.declared.grace.GraceNext.TheVariants.{More as MoreSections, Wait as WaitsFor, Ended}
-use Rattle.percpu_rwsem.specs.declared.sync_word.GpState.{GpState}
-use Rattle.percpu_rwsem.specs.declared.sync_word.GpState.TheVariants.{Idle, Enter, Passed, Exit, Replay}
-use Rattle.percpu_rwsem.specs.declared.sync_word.SyncWord.{SyncWord}
-use Rattle.percpu_rwsem.specs.declared.transitions.Transition.{Transition}
-use Rattle.percpu_rwsem.specs.declared.transitions.Transition.TheVariants.{Loads, Exchanges}
-use Rattle.percpu_rwsem.specs.declared.transitions.TransitionNext.{TransitionNext}
-use Rattle.percpu_rwsem.specs.declared.transitions.TransitionNext.TheVariants.{More, Undefined, Made}
-use Rattle.percpu_rwsem.specs.declared.writers.DownWrite.{DownWrite}
-use Rattle.percpu_rwsem.specs.declared.writers.DownWriteStep.{DownWriteStep}
-use Rattle.percpu_rwsem.specs.declared.writers.DownWriteStep.TheVariants.{Enters as EntersLevel, AwaitsSections, CallsBack, AwaitsPassed, SetsBlock, Sums}
-use Rattle.percpu_rwsem.specs.declared.writers.UpWrite.{UpWrite}
-use Rattle.percpu_rwsem.specs.declared.writers.UpWriteStep.{UpWriteStep}
-use Rattle.percpu_rwsem.specs.declared.writers.UpWriteStep.TheVariants.{ClearsBlock, Exits as ExitsLevel}
-use Rattle.percpu_rwsem.specs.declared.callbacks.Callback.{Callback}
-use Rattle.percpu_rwsem.specs.declared.callbacks.CallbackStep.{CallbackStep}
-use Rattle.percpu_rwsem.specs.declared.callbacks.CallbackStep.TheVariants.{Claims as ClaimsLevel, AwaitsSections as AwaitsGrace, CallsBack as MakesCall}
-use Rattle.percpu_rwsem.specs.SyncWords.{unpack, is_passed, on_enter, on_exit, on_claim, on_callback}
-use Rattle.percpu_rwsem.specs.Graces.{looked}
-use Rattle.percpu_rwsem.specs.Transitions.{transition_next, transition_after}
-use Rattle.access_model.specs.declared.replies.Next.TheVariants.{Go, Wait, Done}
-use Rattle.access_model.specs.declared.replies.Reply.TheVariants.{Unit as UnitReply}
-use Rattle.percpu_rwsem.specs.Writers.{at_down_write, sum_begun, entered_from, enter_step, callback_step, sections_awaited, passed_awaited, down_write_summed, exit_made}
-use Rattle.percpu_rwsem.specs.Callbacks.{claimed as claim_made, callback_looked, called_back}
-use Rattle.level_laws.specs.Roles.{SyncRole, Out, Past, Entered, Closed, Ready, entered}
+use Rattle.finite_sums.{proofs.Totals.update_same, specs.Sums.{update, total}}
+use Rattle.access_model.specs.declared.replies.{Next.Next, Reply.Reply}
+use Rattle.cpu_words.specs.{Sums.sum_taking, Touches.left, declared.sums.Taken.Taken}
+use Rattle.percpu_rwsem.specs.{Callbacks.{claimed as claim_made, callback_looked, called_back}, Graces.looked}
+use Rattle.percpu_rwsem.specs.{SyncWords.{unpack, is_passed, on_enter, on_exit, on_claim, on_callback}, Transitions.{transition_next, transition_after}}
+use Rattle.percpu_rwsem.specs.Writers.{at_down_write, sum_begun, entered_from, enter_step, callback_step, sections_awaited, passed_awaited, down_write_summed}
+use Rattle.percpu_rwsem.specs.Writers.{exit_made}
+use Rattle.percpu_rwsem.specs.declared.{callbacks.{Callback.Callback, CallbackStep.CallbackStep}, grace.GraceNext.GraceNext}
+use Rattle.percpu_rwsem.specs.declared.{sync_word.{GpState.GpState, SyncWord.SyncWord}, transitions.{Transition.Transition, TransitionNext.TransitionNext}}
+use Rattle.percpu_rwsem.specs.declared.writers.{DownWrite.DownWrite, DownWriteStep.DownWriteStep, UpWrite.UpWrite, UpWriteStep.UpWriteStep}
+use Rattle.level_laws.proofs.{EventLaws.swap_keeps, Exchanges.exchanges_make_transitions}
 use Rattle.level_laws.specs.Changes.{transition, state_found, role_entered, role_found, waits, claims}
-use Rattle.level_laws.specs.Events.{SyncLevel, SyncLevelHolds, SyncEvent, Enters, Looks, Passes, Swaps, Opens, Exits, Claims, LooksClaimed, Calls, Stays, Happens, SyncStep}
+use Rattle.level_laws.specs.Events.{SyncLevel, SyncLevelHolds, SyncEvent, Enters, Looks, Passes, Swaps, Opens, Exits, Claims, LooksClaimed, Calls, Stays}
+use Rattle.level_laws.specs.Events.{Happens, SyncStep}
 use Rattle.level_laws.specs.Exchanges.{KnowsWords, Shows}
-use Rattle.level_laws.specs.Operations.{down_write_role, up_write_role, callback_role, KnowsDownWrite, KnowsUpWrite, KnowsCallback, by_next, HoldsOfNext, DownWriteIsThere, UpWriteIsThere, CallbackIsThere, DownWritesAreThere, UpWritesAreThere, CallbacksAreThere}
-use Rattle.level_laws.proofs.EventLaws.{swap_keeps}
-use Rattle.level_laws.proofs.Exchanges.{exchanges_make_transitions}
+use Rattle.level_laws.specs.Operations.{down_write_role, up_write_role, callback_role, KnowsDownWrite, KnowsUpWrite, KnowsCallback, by_next, HoldsOfNext}
+use Rattle.level_laws.specs.Operations.{DownWriteIsThere, UpWriteIsThere, CallbackIsThere, DownWritesAreThere, UpWritesAreThere, CallbacksAreThere}
+use Rattle.level_laws.specs.Roles.{SyncRole, Out, Past, Entered, Closed, Ready, entered}
 
--- a writer that has entered goes on as it has found the state
 role_from : (tasks : ℕ) (s : GpState) → down_write_role (entered_from tasks s) ≡ role_entered tasks s
-role_from tasks Idle = refl
-role_from tasks Enter = refl
-role_from tasks Passed = refl
-role_from tasks Exit = refl
-role_from tasks Replay = refl
+role_from tasks GpState.Idle = refl
+role_from tasks other = refl
 
--- no exchange is to come then
 knows_from : (tasks : ℕ) (s : GpState) → KnowsDownWrite (entered_from tasks s)
-knows_from tasks Idle = tt
-knows_from tasks Enter = tt
-knows_from tasks Passed = tt
-knows_from tasks Exit = tt
-knows_from tasks Replay = tt
+knows_from tasks GpState.Idle = tt
+knows_from tasks other = tt
 
 module _ (tasks t : ℕ) (lt : t < tasks) (l : SyncLevel) where
   -- an event of this task
@@ -70,15 +41,14 @@ module _ (tasks t : ℕ) (lt : t < tasks) (l : SyncLevel) where
 
   -- one of a transition: either nothing has changed, or it is made
   exchanged_by : (makes : SyncWord → Option SyncWord) (role : TransitionNext → SyncRole) (r : SyncRole) → l.at t ≡ r →
-      ((x : Transition) → role (More x) ≡ r) → role Undefined ≡ r →
+      ((x : Transition) → role (TransitionNext.More x) ≡ r) → role TransitionNext.Undefined ≡ r →
       ((s : GpState) (v : ℕ) → state_found l.sync ≡ Some s → transition makes l.sync ≡ Some v →
-      SyncStep tasks l (record l { sync = v; at = update l.at t (role (Made s)) })) →
+      SyncStep tasks l (record l { sync = v; at = update l.at t (role (TransitionNext.Made s)) })) →
       (v : ℕ) (n : TransitionNext) → Shows makes l.sync v n → SyncStep tasks l (record l { sync = v; at = update l.at t (role n) })
-  exchanged_by makes role r here more none made v (More x) h = unmoved v (role (More x)) h.0 (here ∙ sym (more x))
-  exchanged_by makes role r here more none made v Undefined h = unmoved v (role Undefined) h.0 (here ∙ sym none)
-  exchanged_by makes role r here more none made v (Made s) h = made s v h.0 h.1
+  exchanged_by makes role r here more none made v (TransitionNext.More x) h = unmoved v (role (TransitionNext.More x)) h.0 (here ∙ sym (more x))
+  exchanged_by makes role r here more none made v TransitionNext.Undefined h = unmoved v (role TransitionNext.Undefined) h.0 (here ∙ sym none)
+  exchanged_by makes role r here more none made v (TransitionNext.Made s) h = made s v h.0 h.1
 
-  -- an enter that is made
   enter_made : l.at t ≡ Out → total tasks (λ x. entered (l.at x)) + l.full ≡ 0 → (s : GpState) (v : ℕ) → state_found l.sync ≡ Some s →
       transition on_enter l.sync ≡ Some v →
       SyncStep tasks l (record l { sync = v; at = update l.at t (down_write_role (entered_from tasks s)) })
@@ -95,58 +65,61 @@ module _ (tasks t : ℕ) (lt : t < tasks) (l : SyncLevel) where
       λ q. record l { section = sym (update_same l.section g) q; at = update l.at t (sym e q) } in
       subst (SyncStep tasks l) p (step_by _ k h)
 
--- what comes after each of a down-write's events knows what is to come
-enter_knows : (tasks found v : ℕ) (n : TransitionNext) → Shows on_enter found v n → KnowsDownWrite (enter_step tasks n)
-enter_knows tasks found v (More x) h = h.1
-enter_knows tasks found v Undefined h = tt
-enter_knows tasks found v (Made s) h = knows_from tasks s
+pub enter_knows : (tasks found v : ℕ) (n : TransitionNext) → Shows on_enter found v n → KnowsDownWrite (enter_step tasks n)
+enter_knows tasks found v (TransitionNext.More x) h = h.1
+enter_knows tasks found v TransitionNext.Undefined h = tt
+enter_knows tasks found v (TransitionNext.Made s) h = knows_from tasks s
 
--- the same after the transition that ends its grace period
-callback_knows : (found v : ℕ) (n : TransitionNext) → Shows on_callback found v n → KnowsDownWrite (callback_step n)
-callback_knows found v (More x) h = h.1
-callback_knows found v Undefined h = tt
-callback_knows found v (Made s) h = tt
+pub callback_knows : (found v : ℕ) (n : TransitionNext) → Shows on_callback found v n → KnowsDownWrite (callback_step n)
+callback_knows found v (TransitionNext.More x) h = h.1
+callback_knows found v TransitionNext.Undefined h = tt
+callback_knows found v (TransitionNext.Made s) h = tt
 
 -- a down-write goes on with its grace period, or to its transition
 looked_role : (d : DownWrite) (n : GraceNext) → by_next (λ (x : DownWrite). down_write_role x.step) Closed (sections_awaited d n) ≡ waits n
-looked_role d (MoreSections g) = refl
-looked_role d (WaitsFor g) = refl
-looked_role d Ended = refl
+looked_role d (GraceNext.More g) = refl
+looked_role d (GraceNext.Wait g) = refl
+looked_role d GraceNext.Ended = refl
 
 -- and no exchange is to come yet
 looked_knows : (d : DownWrite) (n : GraceNext) →
     HoldsOfNext (λ (x : DownWrite). (x.tasks ≡ d.tasks) × KnowsDownWrite x.step) (sections_awaited d n)
-looked_knows d (MoreSections g) = (refl, tt)
-looked_knows d (WaitsFor g) = (refl, tt)
-looked_knows d Ended = (refl, tt)
+looked_knows d (GraceNext.More g) = (refl, tt)
+looked_knows d (GraceNext.Wait g) = (refl, tt)
+looked_knows d GraceNext.Ended = (refl, tt)
 
 -- a load for GP_PASSED leaves it entered
 passed_role : (d : DownWrite) (o : Option SyncWord) →
     by_next (λ (x : DownWrite). down_write_role x.step) Closed (passed_awaited d o) ≡ Entered
 passed_role d None = refl
 passed_role d (Some w) = elim (is_passed w.state) as (λ b. by_next (λ (x : DownWrite). down_write_role x.step) Closed
-    (if b then Go (at_down_write d SetsBlock) else Wait (at_down_write d AwaitsPassed)) ≡ Entered) [ true ↦ refl | false ↦ refl ]
+    (if b then Next.Go (at_down_write d DownWriteStep.SetsBlock)
+    else Next.Wait (at_down_write d DownWriteStep.AwaitsPassed)) ≡ Entered) [ true ↦ refl | false ↦ refl ]
 
 -- and no exchange is to come
 passed_knows : (d : DownWrite) (o : Option SyncWord) →
     HoldsOfNext (λ (x : DownWrite). (x.tasks ≡ d.tasks) × KnowsDownWrite x.step) (passed_awaited d o)
 passed_knows d None = (refl, tt)
 passed_knows d (Some w) = elim (is_passed w.state) as (λ b. HoldsOfNext (λ (x : DownWrite). (x.tasks ≡ d.tasks) × KnowsDownWrite x.step)
-    (if b then Go (at_down_write d SetsBlock) else Wait (at_down_write d AwaitsPassed))) [ true ↦ (refl, tt) | false ↦ (refl, tt) ]
+    (if b then Next.Go (at_down_write d DownWriteStep.SetsBlock) else Next.Wait (at_down_write d DownWriteStep.AwaitsPassed))) [
+      | true ↦ (refl, tt)
+      | false ↦
+          (refl, tt)
+    ]
 
 -- a word more of the sum leaves the level closed
 summed_role : (d : DownWrite) (taken : Taken) →
     by_next (λ (x : DownWrite). down_write_role x.step) Closed (down_write_summed d taken).0 ≡ Closed
-summed_role d (MoreWords sum) = refl
-summed_role d (Total total) = elim (total == 0) as (λ b. by_next (λ (x : DownWrite). down_write_role x.step) Closed
-    (if b then Done (Ok UnitReply) else Wait (at_down_write d sum_begun)) ≡ Closed) [ true ↦ refl | false ↦ refl ]
+summed_role d (Taken.More sum) = refl
+summed_role d (Taken.Total total) = elim (total == 0) as (λ b. by_next (λ (x : DownWrite). down_write_role x.step) Closed
+    (if b then Next.Done (Ok Reply.Unit) else Next.Wait (at_down_write d sum_begun)) ≡ Closed) [ true ↦ refl | false ↦ refl ]
 
 -- and no exchange is to come
 summed_knows : (d : DownWrite) (taken : Taken) →
     HoldsOfNext (λ (x : DownWrite). (x.tasks ≡ d.tasks) × KnowsDownWrite x.step) (down_write_summed d taken).0
-summed_knows d (MoreWords sum) = (refl, tt)
-summed_knows d (Total total) = elim (total == 0) as (λ b. HoldsOfNext (λ (x : DownWrite). (x.tasks ≡ d.tasks) × KnowsDownWrite x.step)
-    (if b then Done (Ok UnitReply) else Wait (at_down_write d sum_begun))) [ true ↦ tt | false ↦ (refl, tt) ]
+summed_knows d (Taken.More sum) = (refl, tt)
+summed_knows d (Taken.Total total) = elim (total == 0) as (λ b. HoldsOfNext (λ (x : DownWrite). (x.tasks ≡ d.tasks) × KnowsDownWrite x.step)
+    (if b then Next.Done (Ok Reply.Unit) else Next.Wait (at_down_write d sum_begun))) [ true ↦ tt | false ↦ (refl, tt) ]
 
 module _ (t other : ℕ) (l : SyncLevel) (d : DownWrite) (lt : t < d.tasks) where
   -- an event of the enter
@@ -175,40 +148,38 @@ module _ (t other : ℕ) (l : SyncLevel) (d : DownWrite) (lt : t < d.tasks) wher
         callback_knows l.sync _ _ shown,
       )
 
-  -- each step of a down-write
   down_write_there : (s : DownWriteStep) → SyncLevelHolds d.tasks l → l.at t ≡ down_write_role s → KnowsDownWrite s →
       (l.at t ≡ Out → total d.tasks (λ x. entered (l.at x)) + l.full ≡ 0) → DownWriteIsThere t other l d s
-  down_write_there (EntersLevel Loads) right here k none =
-      let e = enters_by Loads tt here (none here) in (e.0, (refl, e.1))
-  down_write_there (EntersLevel (Exchanges from to)) right here k none =
-      let e = enters_by (Exchanges from to) k here (none here) in (e.0, (refl, e.1))
-  down_write_there (AwaitsSections g) right here k none =
+  down_write_there (DownWriteStep.Enters Transition.Loads) right here k none =
+      let e = enters_by Transition.Loads tt here (none here) in (e.0, (refl, e.1))
+  down_write_there (DownWriteStep.Enters (Transition.Exchanges from to)) right here k none =
+      let e = enters_by (Transition.Exchanges from to) k here (none here) in (e.0, (refl, e.1))
+  down_write_there (DownWriteStep.AwaitsSections g) right here k none =
       let n : GraceNext = looked g (l.section g.task) in
       (looked_by d.tasks t lt l g.task (waits n) _ Looks (looked_role d n) (g, here, refl), looked_knows d n)
-  down_write_there (CallsBack Loads) right here k none =
-      let e = passes_by Loads tt here in (e.0, (refl, e.1))
-  down_write_there (CallsBack (Exchanges from to)) right here k none =
-      let e = passes_by (Exchanges from to) k here in (e.0, (refl, e.1))
-  down_write_there AwaitsPassed right here k none =
+  down_write_there (DownWriteStep.CallsBack Transition.Loads) right here k none =
+      let e = passes_by Transition.Loads tt here in (e.0, (refl, e.1))
+  down_write_there (DownWriteStep.CallsBack (Transition.Exchanges from to)) right here k none =
+      let e = passes_by (Transition.Exchanges from to) k here in (e.0, (refl, e.1))
+  down_write_there DownWriteStep.AwaitsPassed right here k none =
       (unmoved d.tasks t lt l l.sync _ refl (here ∙ sym (passed_role d (unpack l.sync))), passed_knows d (unpack l.sync))
-  down_write_there SetsBlock right here k none =
+  down_write_there DownWriteStep.SetsBlock right here k none =
       let b = swap_keeps d.tasks right.level.word l.block l.full l.section l.at right.level.holds t lt here in
       let e : (l.block == 0) ≡ true = eq-eqb l.block 0 b.0 in
       rw e (step_by d.tasks t lt l _ Swaps (here, refl), (refl, tt))
-  down_write_there (Sums sum) right here k none =
+  down_write_there (DownWriteStep.Sums sum) right here k none =
       let taken : Taken = sum_taking sum other d.processors in
       (unmoved d.tasks t lt l l.sync _ refl (here ∙ sym (summed_role d taken)), summed_knows d taken)
 
--- so each event of a down-write is there
 pub down_writes_are_there : DownWritesAreThere
 down_writes_are_there t other l d lt right here k none = down_write_there t other l d lt d.step right here k none
 
 -- an up-write that goes on knows what is to come
 exit_knows : (u : UpWrite) (found v : ℕ) (n : TransitionNext) → Shows on_exit found v n →
     HoldsOfNext (λ (x : UpWrite). KnowsUpWrite x.step) (exit_made u n)
-exit_knows u found v (More x) h = h.1
-exit_knows u found v Undefined h = tt
-exit_knows u found v (Made s) h = tt
+exit_knows u found v (TransitionNext.More x) h = h.1
+exit_knows u found v TransitionNext.Undefined h = tt
+exit_knows u found v (TransitionNext.Made s) h = tt
 
 module _ (tasks t other : ℕ) (l : SyncLevel) (u : UpWrite) (lt : t < tasks) where
   -- an event of the exit
@@ -224,42 +195,40 @@ module _ (tasks t other : ℕ) (l : SyncLevel) (u : UpWrite) (lt : t < tasks) wh
         exit_knows u l.sync _ _ shown,
       )
 
-  -- each step of an up-write
   up_write_there : (s : UpWriteStep) → l.at t ≡ up_write_role s → KnowsUpWrite s → UpWriteIsThere tasks t other l u s
-  up_write_there ClearsBlock here k = (step_by tasks t lt l _ Opens (here, refl), tt)
-  up_write_there (ExitsLevel Loads) here k = exits_by Loads tt here
-  up_write_there (ExitsLevel (Exchanges from to)) here k = exits_by (Exchanges from to) k here
+  up_write_there UpWriteStep.ClearsBlock here k = (step_by tasks t lt l _ Opens (here, refl), tt)
+  up_write_there (UpWriteStep.Exits Transition.Loads) here k = exits_by Transition.Loads tt here
+  up_write_there (UpWriteStep.Exits (Transition.Exchanges from to)) here k = exits_by (Transition.Exchanges from to) k here
 
--- so each event of an up-write is
 pub up_writes_are_there : UpWritesAreThere
 up_writes_are_there tasks t other l u lt here k = up_write_there tasks t other l u lt u.step here k
 
 -- a callback that has claimed waits for its grace period, and one that claims knows what is to come
 claim_knows : (b : Callback) (found v : ℕ) (n : TransitionNext) → Shows on_claim found v n →
     HoldsOfNext (λ (x : Callback). (x.tasks ≡ b.tasks) × KnowsCallback x.step) (claim_made b n)
-claim_knows b found v (More x) h = (refl, h.1)
-claim_knows b found v Undefined h = tt
-claim_knows b found v (Made s) h = (refl, tt)
+claim_knows b found v (TransitionNext.More x) h = (refl, h.1)
+claim_knows b found v TransitionNext.Undefined h = tt
+claim_knows b found v (TransitionNext.Made s) h = (refl, tt)
 
 -- one past its grace period knows it too
 call_knows : (b : Callback) (found v : ℕ) (n : TransitionNext) → Shows on_callback found v n →
     HoldsOfNext (λ (x : Callback). (x.tasks ≡ b.tasks) × KnowsCallback x.step) (called_back b n)
-call_knows b found v (More x) h = (refl, h.1)
-call_knows b found v Undefined h = (refl, tt)
-call_knows b found v (Made s) h = tt
+call_knows b found v (TransitionNext.More x) h = (refl, h.1)
+call_knows b found v TransitionNext.Undefined h = (refl, tt)
+call_knows b found v (TransitionNext.Made s) h = tt
 
 -- a callback goes on with its grace period, or to its transition
 grace_role : (b : Callback) (n : GraceNext) → by_next (λ (x : Callback). callback_role x.step) Out (callback_looked b n) ≡ claims n
-grace_role b (MoreSections g) = refl
-grace_role b (WaitsFor g) = refl
-grace_role b Ended = refl
+grace_role b (GraceNext.More g) = refl
+grace_role b (GraceNext.Wait g) = refl
+grace_role b GraceNext.Ended = refl
 
 -- and no exchange is to come yet
 grace_knows : (b : Callback) (n : GraceNext) →
     HoldsOfNext (λ (x : Callback). (x.tasks ≡ b.tasks) × KnowsCallback x.step) (callback_looked b n)
-grace_knows b (MoreSections g) = (refl, tt)
-grace_knows b (WaitsFor g) = (refl, tt)
-grace_knows b Ended = (refl, tt)
+grace_knows b (GraceNext.More g) = (refl, tt)
+grace_knows b (GraceNext.Wait g) = (refl, tt)
+grace_knows b GraceNext.Ended = (refl, tt)
 
 module _ (t other : ℕ) (l : SyncLevel) (b : Callback) (lt : t < b.tasks) where
   -- an event of the claim
@@ -289,16 +258,14 @@ module _ (t other : ℕ) (l : SyncLevel) (b : Callback) (lt : t < b.tasks) where
         call_knows b l.sync _ _ shown,
       )
 
-  -- each step of a callback
   callback_there : (s : CallbackStep) → l.at t ≡ callback_role s → KnowsCallback s → CallbackIsThere t other l b s
-  callback_there (ClaimsLevel Loads) here k = claims_by Loads tt here
-  callback_there (ClaimsLevel (Exchanges from to)) here k = claims_by (Exchanges from to) k here
-  callback_there (AwaitsGrace g) here k =
+  callback_there (CallbackStep.Claims Transition.Loads) here k = claims_by Transition.Loads tt here
+  callback_there (CallbackStep.Claims (Transition.Exchanges from to)) here k = claims_by (Transition.Exchanges from to) k here
+  callback_there (CallbackStep.AwaitsSections g) here k =
       let n : GraceNext = looked g (l.section g.task) in
       (looked_by b.tasks t lt l g.task (claims n) _ LooksClaimed (grace_role b n) (g, here, refl), grace_knows b n)
-  callback_there (MakesCall Loads) here k = calls_by Loads tt here
-  callback_there (MakesCall (Exchanges from to)) here k = calls_by (Exchanges from to) k here
+  callback_there (CallbackStep.CallsBack Transition.Loads) here k = calls_by Transition.Loads tt here
+  callback_there (CallbackStep.CallsBack (Transition.Exchanges from to)) here k = calls_by (Transition.Exchanges from to) k here
 
--- so each event of a callback is
 pub callbacks_are_there : CallbacksAreThere
 callbacks_are_there t other l b lt here k = callback_there t other l b lt b.step here k

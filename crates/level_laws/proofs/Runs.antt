@@ -1,27 +1,23 @@
 -- each event of a level keeps what is right of it
-use Rattle.std.proofs.Common.{◌≡◌, ℕ, zero, suc, ◌-◌, ◌<◌, ◌≤◌, refl, sym, subst, arith}
-use Rattle.std.specs.Prelude.{Option, Some, None}
+use Rattle.std.{proofs.Common.{◌≡◌, ℕ, zero, suc, ◌-◌, ◌<◌, ◌≤◌, refl, sym, subst, arith}, specs.Prelude.{Option, Some, None}}
 use Rattle.finite_sums.specs.Sums.{update}
-use Rattle.percpu_rwsem.specs.declared.sync_word.GpState.{GpState}
-use Rattle.percpu_rwsem.specs.declared.sync_word.GpState.TheVariants.{Idle, Enter, Passed, Exit, Replay}
-use Rattle.percpu_rwsem.specs.Graces.{started, looked}
 use Rattle.cpu_words.specs.Touches.{wrap_add}
-use Rattle.level_laws.specs.Roles.{Out, Fast, Entered, Closed, Claimed, fast}
+use Rattle.percpu_rwsem.specs.{Graces.{started, looked}, declared.sync_word.GpState.GpState}
 use Rattle.level_laws.specs.Changes.{state_found, role_found, waits, claims}
-use Rattle.level_laws.specs.Events.{SyncLevel, SyncLevelHolds, SyncEvent, TurnsSection, FindsIdle, AddsFast, Enters, Looks, Passes, Swaps, Opens, Exits, Claims, LooksClaimed, Calls, Freezes, Thaws, Stays, Happens, SyncStep, SyncRun}
+use Rattle.level_laws.specs.Events.{SyncLevel, SyncLevelHolds, SyncEvent, TurnsSection, FindsIdle, AddsFast, Enters, Looks, Passes, Swaps, Opens, Exits, Claims}
+use Rattle.level_laws.specs.Events.{LooksClaimed, Calls, Freezes, Thaws, Stays, Happens, SyncStep, SyncRun}
+use Rattle.level_laws.specs.Roles.{Out, Fast, Entered, Closed, Claimed, fast}
 use Rattle.level_laws.proofs.EventLaws
 use Rattle.level_laws.proofs.NumberLaws
 
--- an enter doesn't lead to the fast path
 pub found_slow : (tasks : ℕ) (o : Option GpState) → fast (role_found tasks o) ≡ 0
 found_slow tasks None = refl
-found_slow tasks (Some Idle) = refl
-found_slow tasks (Some Enter) = refl
-found_slow tasks (Some Passed) = refl
-found_slow tasks (Some Exit) = refl
-found_slow tasks (Some Replay) = refl
+found_slow tasks (Some GpState.Idle) = refl
+found_slow tasks (Some GpState.Enter) = refl
+found_slow tasks (Some GpState.Passed) = refl
+found_slow tasks (Some GpState.Exit) = refl
+found_slow tasks (Some GpState.Replay) = refl
 
--- each event keeps what is right of its level
 pub event_keeps : (tasks t : ℕ) → t < tasks → (l l' : SyncLevel) (k : SyncEvent) → SyncLevelHolds tasks l → Happens tasks t l l' k →
     SyncLevelHolds tasks l'
 event_keeps tasks t lt l l' TurnsSection right h = subst (SyncLevelHolds tasks) (sym h.1) record {
@@ -34,7 +30,7 @@ event_keeps tasks t lt l l' TurnsSection right h = subst (SyncLevelHolds tasks) 
 event_keeps tasks t lt l l' FindsIdle right h = subst (SyncLevelHolds tasks) (sym h.3) record {
   level = NumberLaws.unchanged tasks l.sync l.block l.full l.section l.at right.level l.block l.full l.section (update l.at t Fast)
       (λ q. EventLaws.finds_idle tasks right.level.word l.block l.full l.section l.at right.level.holds t lt h.0
-      (NumberLaws.state_is l.sync right.level.word Idle right.level.packed h.2));
+      (NumberLaws.state_is l.sync right.level.word GpState.Idle right.level.packed h.2));
   sections = EventLaws.section_stays tasks l.section l.inside l.at right.sections t Fast (omega (arith, h.1));
 }
 event_keeps tasks t lt l l' AddsFast right h = subst (SyncLevelHolds tasks) (sym h.1) record {
@@ -101,7 +97,6 @@ event_keeps tasks t lt l l' Thaws right h = subst (SyncLevelHolds tasks) (sym h.
 }
 event_keeps tasks t lt l l' Stays right h = subst (SyncLevelHolds tasks) (sym h) right
 
--- each moment of a run is right
 pub run_is_right : (tasks n : ℕ) (m : ℕ → SyncLevel) → SyncRun tasks n m → (i : ℕ) → i ≤ n → SyncLevelHolds tasks (m i)
 run_is_right tasks n m run zero le = run.right
 run_is_right tasks n m run (suc i) le =

@@ -1,16 +1,12 @@
 -- after a grace period nobody is on the fast path, until the state is GP_IDLE again
-use Rattle.std.proofs.Common.{◌≡◌, ℕ, zero, suc, ◌+◌, ◌-◌, ◌<◌, ◌≤◌, refl, sym, subst, arith}
-use Rattle.std.specs.Prelude.{Some}
-use Rattle.finite_sums.specs.Sums.{update}
-use Rattle.finite_sums.proofs.Totals.{each_updated}
-use Rattle.percpu_rwsem.specs.declared.sync_word.GpState.TheVariants.{Idle}
-use Rattle.percpu_rwsem.specs.Graces.{looked}
-use Rattle.level_laws.specs.Roles.{SyncRole, Out, Entered, Closed, fast}
+use Rattle.std.{proofs.Common.{◌≡◌, ℕ, zero, suc, ◌+◌, ◌-◌, ◌<◌, ◌≤◌, refl, sym, subst, arith}, specs.Prelude.Some}
+use Rattle.finite_sums.{proofs.Totals.each_updated, specs.Sums.update}
+use Rattle.percpu_rwsem.specs.{Graces.looked, declared.sync_word.GpState.GpState}
+use Rattle.level_laws.proofs.{EventLaws.{waits_entering, claims_claimed, past_finds}, Runs.{found_slow, run_is_right}}
 use Rattle.level_laws.specs.Changes.{state_found, role_found, waits, claims}
-use Rattle.level_laws.specs.Events.{SyncLevel, SyncLevelHolds, SyncEvent, TurnsSection, FindsIdle, AddsFast, Enters, Looks, Passes, Swaps, Opens, Exits, Claims, LooksClaimed, Calls, Freezes, Thaws, Stays, Happens, SyncStep, SyncRun}
-use Rattle.level_laws.specs.Laws.{NoneFast, StaysSlow}
-use Rattle.level_laws.proofs.EventLaws.{waits_entering, claims_claimed, past_finds}
-use Rattle.level_laws.proofs.Runs.{found_slow, run_is_right}
+use Rattle.level_laws.specs.Events.{SyncLevel, SyncLevelHolds, SyncEvent, TurnsSection, FindsIdle, AddsFast, Enters, Looks, Passes, Swaps, Opens, Exits, Claims}
+use Rattle.level_laws.specs.Events.{LooksClaimed, Calls, Freezes, Thaws, Stays, Happens, SyncStep, SyncRun}
+use Rattle.level_laws.specs.{Laws.{NoneFast, StaysSlow}, Roles.{SyncRole, Out, Entered, Closed, fast}}
 
 -- a role off the fast path at one place
 slow_changed : (tasks t : ℕ) (at : ℕ → SyncRole) (r : SyncRole) → fast r ≡ 0 → ((u : ℕ) → u < tasks → fast (at u) ≡ 0) → (u : ℕ) →
@@ -18,7 +14,7 @@ slow_changed : (tasks t : ℕ) (at : ℕ → SyncRole) (r : SyncRole) → fast r
 slow_changed tasks t at r slow none u lu = each_updated (λ y w. fast w ≡ 0) at t r u slow (λ ne. none u lu)
 
 -- only a load of GP_IDLE leads to the fast path
-pub event_slow : (tasks t : ℕ) (l l' : SyncLevel) (k : SyncEvent) → Happens tasks t l l' k → (state_found l.sync ≡ Some Idle → ⊥) →
+pub event_slow : (tasks t : ℕ) (l l' : SyncLevel) (k : SyncEvent) → Happens tasks t l l' k → (state_found l.sync ≡ Some GpState.Idle → ⊥) →
     NoneFast tasks l → NoneFast tasks l'
 event_slow tasks t l l' TurnsSection h ne none = subst (NoneFast tasks) (sym h.1) none
 event_slow tasks t l l' FindsIdle h ne none = absurd (ne h.2)
@@ -44,7 +40,7 @@ event_slow tasks t l l' Stays h ne none = subst (NoneFast tasks) (sym h) none
 
 -- the same over as many steps as find another state than GP_IDLE
 run_slow : (tasks n : ℕ) (m : ℕ → SyncLevel) → SyncRun tasks n m → (i d : ℕ) → i + d ≤ n → NoneFast tasks (m i) →
-    ((k : ℕ) → i ≤ k → k < i + d → state_found (m k).sync ≡ Some Idle → ⊥) → NoneFast tasks (m (i + d))
+    ((k : ℕ) → i ≤ k → k < i + d → state_found (m k).sync ≡ Some GpState.Idle → ⊥) → NoneFast tasks (m (i + d))
 run_slow tasks n m run i zero le none ne = subst (λ x. NoneFast tasks (m x)) (omega arith) none
 run_slow tasks n m run i (suc d) le none ne =
     let s : SyncStep tasks (m (i + d)) (m (suc (i + d))) = run.steps (i + d) (omega arith) in
@@ -53,7 +49,6 @@ run_slow tasks n m run i (suc d) le none ne =
     (event_slow tasks s.task (m (i + d)) (m (suc (i + d))) s.kind s.happens (ne (i + d) (omega arith) (omega arith))
     (run_slow tasks n m run i d (omega arith) none (λ k a b. ne k a (omega arith))))
 
--- from a writer past its grace period on
 pub stays_slow : StaysSlow
 stays_slow tasks n m run i j t lt le end past ne =
     let right : SyncLevelHolds tasks (m i) = run_is_right tasks n m run i (omega arith) in

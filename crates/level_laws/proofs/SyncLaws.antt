@@ -1,15 +1,9 @@
 -- one level: what its predicate says, and how it is kept where one task's role changes
-use Rattle.std.proofs.Common.{◌≡◌, ℕ, true, false, ◌+◌, ◌<◌, ◌≤◌, refl, ◌∙◌, arith}
-use Rattle.std.specs.Prelude.{Bool, Option, Some, None}
-use Rattle.std.proofs.lemmas.Bool.Decides.{nat_tests}
-use Rattle.finite_sums.specs.Sums.{update, total}
-use Rattle.finite_sums.proofs.Totals.{update_off, each_updated, total_updated, total_le, total_add, total_at}
-use Rattle.percpu_rwsem.specs.declared.sync_word.GpState.{GpState}
-use Rattle.percpu_rwsem.specs.declared.sync_word.GpState.TheVariants.{Idle, Enter, Passed, Exit, Replay}
-use Rattle.percpu_rwsem.specs.declared.sync_word.SyncWord.{SyncWord}
-use Rattle.percpu_rwsem.specs.SyncWords.{bit, is_lawful}
-use Rattle.percpu_rwsem.proofs.SyncWords.{bit_small}
-use Rattle.level_laws.specs.Roles.{SyncRole, Fast, Waiting, Past, Entered, Closed, fast, entering, entered, closed, claimed, enter_bit, idle_bit, StillFirst, RoleHolds, SyncHolds}
+use Rattle.std.{proofs.{Common.{◌≡◌, ℕ, true, false, ◌+◌, ◌<◌, ◌≤◌, refl, ◌∙◌, arith}, lemmas.Bool.Decides.nat_tests}, specs.Prelude.{Bool, Option, Some, None}}
+use Rattle.finite_sums.{proofs.Totals.{update_off, each_updated, total_updated, total_le, total_add, total_at}, specs.Sums.{update, total}}
+use Rattle.percpu_rwsem.{proofs.SyncWords.bit_small, specs.{SyncWords.{bit, is_lawful}, declared.sync_word.{GpState.GpState, SyncWord.SyncWord}}}
+use Rattle.level_laws.specs.Roles.{SyncRole, Fast, Waiting, Past, Closed, fast, entering, entered, closed, claimed, enter_bit, idle_bit, StillFirst, RoleHolds}
+use Rattle.level_laws.specs.Roles.{SyncHolds}
 
 -- what a lawful word with a count of at most 1 says in numbers
 pub record LawfulSays (s : GpState) (t : Bool) (c : ℕ) : Type 0 where
@@ -19,18 +13,13 @@ pub record LawfulSays (s : GpState) (t : Bool) (c : ℕ) : Type 0 where
 
 -- a lawful word says it, whatever its state
 pub lawful_says : (s : GpState) (t : Bool) (c : ℕ) → c ≤ 1 → is_lawful s t c ≡ true → LawfulSays s t c
-lawful_says Idle true c l h = cc
-lawful_says Idle false c l h = record { idle = grind (arith, nat_tests); enter = omega arith; free = omega arith }
-lawful_says Enter true c l h = cc
-lawful_says Enter false c l h = record { idle = omega arith; enter = grind (arith, nat_tests); free = omega arith }
-lawful_says Passed true c l h = cc
-lawful_says Passed false c l h = record { idle = omega arith; enter = omega arith; free = omega arith }
-lawful_says Exit true c l h = record { idle = omega arith; enter = omega arith; free = omega arith }
-lawful_says Exit false c l h = record { idle = omega arith; enter = omega arith; free = omega arith }
-lawful_says Replay true c l h = record { idle = omega arith; enter = omega arith; free = omega arith }
-lawful_says Replay false c l h = record { idle = omega arith; enter = omega arith; free = omega arith }
+lawful_says GpState.Idle false c l h = record { idle = grind (arith, nat_tests); enter = omega arith; free = omega arith }
+lawful_says GpState.Enter false c l h = record { idle = omega arith; enter = grind (arith, nat_tests); free = omega arith }
+lawful_says GpState.Exit true c l h = record { idle = omega arith; enter = omega arith; free = omega arith }
+lawful_says GpState.Replay true c l h = record { idle = omega arith; enter = omega arith; free = omega arith }
+lawful_says other true c l h = cc
+lawful_says other false c l h = record { idle = omega arith; enter = omega arith; free = omega arith }
 
--- a task is on the fast path once at most
 pub fast_small : (r : SyncRole) → fast r ≤ 1
 fast_small Fast = omega arith
 fast_small r = omega arith
@@ -42,7 +31,6 @@ still_kept : (section section' : ℕ → ℕ) (at at' : ℕ → SyncRole) → ((
 still_kept section section' at at' less same j None h = tt
 still_kept section section' at at' less same j (Some f) h = λ e. same j e ∙ h (omega (arith, less j, fast_small (at j)))
 
--- the same, of a role
 pub role_kept : (section section' : ℕ → ℕ) (at at' : ℕ → SyncRole) → ((u : ℕ) → fast (at' u) ≤ fast (at u)) →
     ((u : ℕ) → fast (at' u) ≡ 1 → section' u ≡ section u) →
     (tasks : ℕ) (r : SyncRole) → RoleHolds section at tasks r → RoleHolds section' at' tasks r
@@ -51,18 +39,13 @@ role_kept section section' at at' less same tasks (Waiting g) h =
 role_kept section section' at at' less same tasks Past h = λ u l. omega (arith, h u l, less u)
 role_kept section section' at at' less same tasks r h = tt
 
--- a role that isn't entering says nothing
 pub role_free : (section : ℕ → ℕ) (at : ℕ → SyncRole) (tasks : ℕ) (r : SyncRole) → entering r ≡ 0 → RoleHolds section at tasks r
 role_free section at tasks (Waiting g) e = absurd (omega arith)
 role_free section at tasks Past e = absurd (omega arith)
 role_free section at tasks r e = tt
 
--- who has closed the level, and who is in its grace period, has entered
 pub parts_entered : (r : SyncRole) → closed r + entering r ≤ entered r
 parts_entered Closed = omega arith
-parts_entered (Waiting g) = omega arith
-parts_entered Past = omega arith
-parts_entered Entered = omega arith
 parts_entered r = omega arith
 
 -- closed writers and entering ones are apart
@@ -75,7 +58,6 @@ parts_of tasks at = omega (
       (λ x. entered (at x)) (λ x l. parts_entered (at x)),
 )
 
--- two places of a sum are at most the sum
 pub two_places : (n t u : ℕ) (f : ℕ → ℕ) → t < n → u < n → (u ≡ t → ⊥) → f t + f u ≤ total n f
 two_places n t u f lt lu ne =
     let e : total n (λ x. update f t 0 x) + f t ≡ total n f + 0 = total_updated (λ v. v) n t f 0 lt in
@@ -83,21 +65,14 @@ two_places n t u f lt lu ne =
 
 module _ (tasks : ℕ) (word : SyncWord) (block full : ℕ) (section : ℕ → ℕ) (at : ℕ → SyncRole)
     (good : SyncHolds tasks word block full section at) where
-  -- what the level's word says in numbers
   pub says : LawfulSays word.state word.taken word.count
   says = lawful_says word.state word.taken word.count good.once good.lawful
 
-  -- closed writers and entering ones of the level are apart
   pub parts : total tasks (λ x. closed (at x)) + total tasks (λ x. entering (at x)) ≤ total tasks (λ x. entered (at x))
   parts = parts_of tasks at
 
-  -- in GP_IDLE and GP_ENTER the block is clear
   pub open_while_fast : idle_bit word.state + enter_bit word.state ≡ 1 → (block ≡ 0) × (full ≡ 0)
   open_while_fast h = (omega (arith, says, parts, good), omega (arith, says, parts, good))
-
-  -- of two tasks at most one has entered, and at most one has claimed
-  pub entered_alone : (t u : ℕ) → t < tasks → u < tasks → (u ≡ t → ⊥) → entered (at t) + entered (at u) ≤ 1
-  entered_alone t u lt lu ne = omega (arith, good, two_places tasks t u (λ x. entered (at x)) lt lu ne)
 
   -- and at most one has claimed
   pub claimed_alone : (t u : ℕ) → t < tasks → u < tasks → (u ≡ t → ⊥) → claimed (at t) + claimed (at u) ≤ 1

@@ -1,32 +1,21 @@
 -- the laws that the contracts name
-use Rattle.std.proofs.Common.{◌≡◌, ℕ, suc, ◌+◌, refl, ap, inl, inr, arith}
-use Rattle.std.specs.Prelude.{◌⊎◌, Some, true, false}
-use Rattle.finite_sums.specs.Sums.{total}
-use Rattle.finite_sums.proofs.Totals.{total_zero, total_at}
-use Rattle.percpu_rwsem.specs.declared.sync_word.GpState.{GpState}
-use Rattle.percpu_rwsem.specs.declared.sync_word.GpState.TheVariants.{Idle, Enter, Passed, Exit, Replay}
-use Rattle.percpu_rwsem.specs.SyncWords.{is_queued}
-use Rattle.level_laws.specs.Roles.{fast, entered, enter_bit, idle_bit}
-use Rattle.level_laws.specs.Changes.{state_found_in, state_found}
-use Rattle.level_laws.specs.Events.{SyncLevelHolds}
-use Rattle.level_laws.specs.Laws.{IdleIsEarned, FastFindsOpen, EntersAlone, WritersFind, EventsKeep, opening}
+use Rattle.std.{proofs.Common.{◌≡◌, ℕ, suc, ◌+◌, refl, ap, inl, inr, arith}, specs.Prelude.{◌⊎◌, Some, true, false}}
+use Rattle.finite_sums.{proofs.Totals.{total_zero, total_at}, specs.Sums.total}
+use Rattle.percpu_rwsem.specs.{SyncWords.is_queued, declared.sync_word.GpState.GpState}
+use Rattle.level_laws.proofs.{EventLaws.{fast_finds, entered_finds}, GraceLaws.graces_are_whole, IdleLaws.only_callbacks_idle, Runs.{event_keeps, run_is_right}}
 use Rattle.level_laws.proofs.SyncLaws.{claimed_alone, two_places}
-use Rattle.level_laws.proofs.EventLaws.{fast_finds, entered_finds}
-use Rattle.level_laws.proofs.Runs.{event_keeps, run_is_right}
-use Rattle.level_laws.proofs.IdleLaws.{only_callbacks_idle}
-use Rattle.level_laws.proofs.GraceLaws.{graces_are_whole}
+use Rattle.level_laws.specs.{Changes.{state_found_in, state_found}, Events.SyncLevelHolds}
+use Rattle.level_laws.specs.{Laws.{IdleIsEarned, FastFindsOpen, EntersAlone, WritersFind, EventsKeep, opening}, Roles.{fast, entered, enter_bit, idle_bit}}
 
--- each step keeps what holds at the level
 pub events_keep : EventsKeep
 events_keep tasks l l' right s = event_keeps tasks s.task s.there l l' s.kind right s.happens
 
--- which holds at its beginning
 pub opening_is_right : (tasks : ℕ) → SyncLevelHolds tasks opening
 opening_is_right tasks =
     let z : total tasks (λ t. 0) ≡ 0 = total_zero tasks in
     record {
       level = record {
-        word = record { state = Idle; taken = false; count = 0 };
+        word = record { state = GpState.Idle; taken = false; count = 0 };
         packed = refl;
         holds =
             record {
@@ -53,14 +42,11 @@ enters_alone tasks l right t u lt lu ne = (
 
 -- a state in which readers may be fast
 idle_or_enter : (n : ℕ) (s : GpState) → state_found n ≡ Some s → idle_bit s + enter_bit s ≡ 1 →
-    (state_found n ≡ Some Idle) ⊎ (state_found n ≡ Some Enter)
-idle_or_enter n Idle f e = inl f
-idle_or_enter n Enter f e = inr f
-idle_or_enter n Passed f e = absurd (omega arith)
-idle_or_enter n Exit f e = absurd (omega arith)
-idle_or_enter n Replay f e = absurd (omega arith)
+    (state_found n ≡ Some GpState.Idle) ⊎ (state_found n ≡ Some GpState.Enter)
+idle_or_enter n GpState.Idle f e = inl f
+idle_or_enter n GpState.Enter f e = inr f
+idle_or_enter n other f e = absurd (omega arith)
 
--- who is fast finds the level open
 pub fast_finds_open : FastFindsOpen
 fast_finds_open tasks l right t lt here =
     let f = fast_finds tasks right.level.word l.block l.full l.section l.at right.level.holds t lt (ap fast here) in
@@ -68,14 +54,13 @@ fast_finds_open tasks l right t lt here =
 
 -- a state in which readers are slow
 passed_or_queued : (n : ℕ) (s : GpState) → state_found n ≡ Some s → idle_bit s + enter_bit s ≡ 0 →
-    (state_found n ≡ Some Passed) ⊎ (is_queued s ≡ true)
-passed_or_queued n Idle f e = absurd (omega arith)
-passed_or_queued n Enter f e = absurd (omega arith)
-passed_or_queued n Passed f e = inl f
-passed_or_queued n Exit f e = inr refl
-passed_or_queued n Replay f e = inr refl
+    (state_found n ≡ Some GpState.Passed) ⊎ (is_queued s ≡ true)
+passed_or_queued n GpState.Idle f e = absurd (omega arith)
+passed_or_queued n GpState.Enter f e = absurd (omega arith)
+passed_or_queued n GpState.Passed f e = inl f
+passed_or_queued n GpState.Exit f e = inr refl
+passed_or_queued n GpState.Replay f e = inr refl
 
--- a writer past its grace period finds nobody fast
 pub writers_find : WritersFind
 writers_find tasks l right t lt e n =
     let f = entered_finds tasks right.level.word l.block l.full l.section l.at right.level.holds t lt e n in (
@@ -86,7 +71,6 @@ writers_find tasks l right t lt e n =
       λ u lu. omega (arith, right.level.holds.slow f.2, total_at tasks u (λ x. fast (l.at x)) lu),
     )
 
--- GP_IDLE comes after a whole grace period
 pub idle_is_earned : IdleIsEarned
 idle_is_earned tasks n m run out i lt ne idle =
     let s = run.steps i lt in

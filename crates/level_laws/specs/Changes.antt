@@ -1,12 +1,8 @@
 -- What an event at a level leaves: the number that a transition puts, and the role that its task has.
 use Rattle.std.specs.Prelude.{ℕ, Option, Some, None}
-use Rattle.percpu_rwsem.specs.declared.grace.GraceNext.{GraceNext}
-use Rattle.percpu_rwsem.specs.declared.grace.GraceNext.TheVariants.{More, Wait, Ended}
-use Rattle.percpu_rwsem.specs.declared.sync_word.GpState.{GpState}
-use Rattle.percpu_rwsem.specs.declared.sync_word.GpState.TheVariants.{Idle}
-use Rattle.percpu_rwsem.specs.declared.sync_word.SyncWord.{SyncWord}
-use Rattle.percpu_rwsem.specs.SyncWords.{pack, unpack}
-use Rattle.percpu_rwsem.specs.Graces.{started}
+use Rattle.percpu_rwsem.specs.{Graces.started, SyncWords.{pack, unpack}}
+use Rattle.percpu_rwsem.specs.declared.grace.GraceNext.{GraceNext, TheVariants.{More, Wait, Ended}}
+use Rattle.percpu_rwsem.specs.declared.sync_word.{GpState.{GpState, TheVariants.Idle}, SyncWord.SyncWord}
 use Rattle.level_laws.specs.Roles.{SyncRole, Out, Waiting, Past, Entered, Claimed, Ready}
 
 -- the transition is defined, and P holds of what it leaves

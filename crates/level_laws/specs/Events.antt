@@ -2,12 +2,10 @@
 use Rattle.std.specs.Prelude.{◌≡◌, ℕ, suc, ◌+◌, ◌-◌, ◌<◌, Some}
 use Rattle.finite_sums.specs.Sums.{update, total}
 use Rattle.cpu_words.specs.Touches.{wrap_add}
-use Rattle.percpu_rwsem.specs.declared.grace.Grace.{Grace}
-use Rattle.percpu_rwsem.specs.declared.sync_word.GpState.TheVariants.{Idle}
-use Rattle.percpu_rwsem.specs.SyncWords.{on_enter, on_exit, on_claim, on_callback}
-use Rattle.percpu_rwsem.specs.Graces.{started, looked}
-use Rattle.level_laws.specs.Roles.{SyncRole, Out, Fast, Waiting, Past, Entered, Closed, Claimed, Ready, fast, entered, SyncNumberHolds, SectionsHold}
+use Rattle.percpu_rwsem.specs.{Graces.{started, looked}, SyncWords.{on_enter, on_exit, on_claim, on_callback}}
+use Rattle.percpu_rwsem.specs.declared.{grace.Grace.Grace, sync_word.GpState.TheVariants.Idle}
 use Rattle.level_laws.specs.Changes.{role_found, state_found, transition, waits, claims}
+use Rattle.level_laws.specs.Roles.{SyncRole, Out, Fast, Waiting, Past, Entered, Closed, Claimed, Ready, fast, entered, SyncNumberHolds, SectionsHold}
 
 -- One level at one moment: its sync word and block, 1 while it is frozen, the section word of each task, 1 for each task inside a section,
 -- and the roles.

@@ -1,13 +1,10 @@
 -- The transitions that phases make, by a load and a compare-exchange, as transitions of the number that is in memory.
 use Rattle.std.specs.Prelude.{◌≡◌, ℕ, Option, Some, None}
 use Rattle.cpu_words.specs.Touches.{left}
+use Rattle.percpu_rwsem.specs.{SyncWords.IsLawful, Transitions.{transition_next, transition_after}}
 use Rattle.percpu_rwsem.specs.declared.sync_word.SyncWord.{SyncWord}
-use Rattle.percpu_rwsem.specs.declared.transitions.Transition.{Transition}
-use Rattle.percpu_rwsem.specs.declared.transitions.Transition.TheVariants.{Loads, Exchanges}
-use Rattle.percpu_rwsem.specs.declared.transitions.TransitionNext.{TransitionNext}
-use Rattle.percpu_rwsem.specs.declared.transitions.TransitionNext.TheVariants.{More, Undefined, Made}
-use Rattle.percpu_rwsem.specs.SyncWords.{IsLawful}
-use Rattle.percpu_rwsem.specs.Transitions.{transition_next, transition_after}
+use Rattle.percpu_rwsem.specs.declared.transitions.Transition.{Transition, TheVariants.{Loads, Exchanges}}
+use Rattle.percpu_rwsem.specs.declared.transitions.TransitionNext.{TransitionNext, TheVariants.{More, Undefined, Made}}
 use Rattle.level_laws.specs.Changes.{transition, state_found}
 
 -- what is known where an exchange is to come: the word that was loaded is lawful, and the transition makes the other one of it

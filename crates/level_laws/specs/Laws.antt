@@ -1,11 +1,8 @@
 -- What runs of a level say.
 use Rattle.std.specs.Prelude.{◌≡◌, ℕ, suc, ◌+◌, ◌<◌, ◌≤◌, ◌⊎◌, true, Some}
-use Rattle.percpu_rwsem.specs.declared.sync_word.GpState.TheVariants.{Idle, Enter, Passed, Exit}
-use Rattle.percpu_rwsem.specs.SyncWords.{is_queued}
-use Rattle.percpu_rwsem.specs.Graces.{started}
+use Rattle.percpu_rwsem.specs.{Graces.started, SyncWords.is_queued, declared.sync_word.GpState.TheVariants.{Idle, Enter, Passed, Exit}}
+use Rattle.level_laws.specs.{Changes.state_found, Events.{SyncLevel, SyncLevelHolds, Calls, SyncStep, SyncRun}}
 use Rattle.level_laws.specs.Roles.{SyncRole, Out, Fast, Waiting, Past, Claimed, Ready, fast, entering, entered, closed, claimed}
-use Rattle.level_laws.specs.Changes.{state_found}
-use Rattle.level_laws.specs.Events.{SyncLevel, SyncLevelHolds, Calls, SyncStep, SyncRun}
 
 -- nobody is on the fast path
 abbrev pub NoneFast : ℕ → SyncLevel → Type 0

@@ -1,10 +1,8 @@
 -- The transitions of a sync word as the number that it is in memory.
 use Rattle.std.specs.Prelude.{◌≡◌, ℕ, ◌+◌, ◌<◌, Option, Some}
 use Rattle.finite_sums.specs.Sums.{total}
-use Rattle.percpu_rwsem.specs.declared.sync_word.SyncWord.{SyncWord}
-use Rattle.percpu_rwsem.specs.SyncWords.{on_enter, on_exit, on_callback}
-use Rattle.level_laws.specs.Roles.{SyncRole, Past, Entered, Ready, entered, SyncNumberHolds}
-use Rattle.level_laws.specs.Changes.{transition}
+use Rattle.percpu_rwsem.specs.{SyncWords.{on_enter, on_exit, on_callback}, declared.sync_word.SyncWord.SyncWord}
+use Rattle.level_laws.specs.{Changes.transition, Roles.{SyncRole, Past, Entered, Ready, entered, SyncNumberHolds}}
 
 -- the transition that a loaded word asks for is defined
 abbrev pub CanGoOn : (SyncWord → Option SyncWord) → ℕ → Type 0

@@ -1,31 +1,18 @@
 -- The operations at a level as events of it: what a task is doing there before each step, and what its event leaves.
 use Rattle.std.specs.Prelude.{◌≡◌, ℕ, ◌+◌, ◌<◌}
 use Rattle.finite_sums.specs.Sums.{update, total}
-use Rattle.access_model.specs.declared.replies.Next.{Next}
-use Rattle.access_model.specs.declared.replies.Next.TheVariants.{Go, Wait, Done}
-use Rattle.cpu_words.specs.declared.names.WordName.{WordName}
-use Rattle.cpu_words.specs.declared.names.WordName.TheVariants.{Block, Sync, Section}
-use Rattle.cpu_words.specs.declared.events.Touch.{Touch}
-use Rattle.cpu_words.specs.Touches.{left, found_by}
-use Rattle.percpu_rwsem.specs.declared.readers.DownRead.{DownRead}
-use Rattle.percpu_rwsem.specs.declared.readers.DownReadStep.{DownReadStep}
-use Rattle.percpu_rwsem.specs.declared.readers.DownReadStep.TheVariants.{EntersSection, CountsUpFast}
-use Rattle.percpu_rwsem.specs.declared.writers.DownWrite.{DownWrite}
-use Rattle.percpu_rwsem.specs.declared.writers.DownWriteStep.{DownWriteStep}
-use Rattle.percpu_rwsem.specs.declared.writers.DownWriteStep.TheVariants.{Enters, AwaitsSections, CallsBack, AwaitsPassed, SetsBlock, Sums}
-use Rattle.percpu_rwsem.specs.declared.writers.UpWrite.{UpWrite}
-use Rattle.percpu_rwsem.specs.declared.writers.UpWriteStep.{UpWriteStep}
-use Rattle.percpu_rwsem.specs.declared.writers.UpWriteStep.TheVariants.{ClearsBlock, Exits}
+use Rattle.access_model.specs.declared.replies.Next.{Next, TheVariants.{Go, Wait, Done}}
+use Rattle.cpu_words.specs.{Touches.{left, found_by}, declared.{events.Touch.Touch, names.WordName.{WordName, TheVariants.{Block, Sync, Section}}}}
+use Rattle.percpu_rwsem.specs.{Callbacks.{callback_next, callback_after}, Readers.{down_read_next, down_read_after}}
+use Rattle.percpu_rwsem.specs.{SyncWords.{on_enter, on_exit, on_claim, on_callback}, Writers.{down_write_next, down_write_after, up_write_next, up_write_after}}
 use Rattle.percpu_rwsem.specs.declared.callbacks.Callback.{Callback}
-use Rattle.percpu_rwsem.specs.declared.callbacks.CallbackStep.{CallbackStep}
-use Rattle.percpu_rwsem.specs.declared.callbacks.CallbackStep.TheVariants.{Claims, AwaitsSections as AwaitsGrace, CallsBack as MakesCall}
-use Rattle.percpu_rwsem.specs.SyncWords.{on_enter, on_exit, on_claim, on_callback}
-use Rattle.percpu_rwsem.specs.Readers.{down_read_next, down_read_after}
-use Rattle.percpu_rwsem.specs.Writers.{down_write_next, down_write_after, up_write_next, up_write_after}
-use Rattle.percpu_rwsem.specs.Callbacks.{callback_next, callback_after}
+use Rattle.percpu_rwsem.specs.declared.callbacks.CallbackStep.{CallbackStep, TheVariants.{Claims, AwaitsSections as AwaitsGrace, CallsBack as MakesCall}}
+use Rattle.percpu_rwsem.specs.declared.readers.{DownRead.DownRead, DownReadStep.{DownReadStep, TheVariants.{EntersSection, CountsUpFast}}}
+use Rattle.percpu_rwsem.specs.declared.writers.DownWrite.{DownWrite}
+use Rattle.percpu_rwsem.specs.declared.writers.DownWriteStep.{DownWriteStep, TheVariants.{Enters, AwaitsSections, CallsBack, AwaitsPassed, SetsBlock, Sums}}
+use Rattle.percpu_rwsem.specs.declared.writers.{UpWrite.UpWrite, UpWriteStep.{UpWriteStep, TheVariants.{ClearsBlock, Exits}}}
+use Rattle.level_laws.specs.{Events.{SyncLevel, SyncLevelHolds, SyncStep}, Exchanges.KnowsWords}
 use Rattle.level_laws.specs.Roles.{SyncRole, Out, Fast, Waiting, Past, Entered, Closed, Claimed, Ready, entered}
-use Rattle.level_laws.specs.Events.{SyncLevel, SyncLevelHolds, SyncStep}
-use Rattle.level_laws.specs.Exchanges.{KnowsWords}
 
 -- a down-read is on the fast path from its load of GP_IDLE to its addition
 abbrev pub down_read_role : DownReadStep → SyncRole

@@ -1,18 +1,12 @@
 -- Whatever is fully frozen has no dirty node, whatever was done since.
-use Rattle.std.proofs.Common.{◌≡◌, ℕ, zero, suc, ◌<◌, ◌≤◌, ◌⊎◌, true, false, refl, sym, ap, subst, ◌∙◌, inl, inr, arith}
+use Rattle.std.proofs.{Common.{◌≡◌, ℕ, zero, suc, ◌<◌, ◌≤◌, ◌⊎◌, true, false, refl, sym, ap, subst, ◌∙◌, inl, inr, arith}, lemmas.Bool.false≢true}
 use Rattle.std.specs.Prelude.{Option, Some, None, option_map, ◌==◌, ◌&&◌, if◌then◌else◌, List, [], ◌∷◌}
-use Rattle.std.proofs.lemmas.Bool.{false≢true}
 use Rattle.finite_sums.proofs.Totals.{each_updated}
-use Rattle.access_model.specs.declared.actions.Action.{Action}
-use Rattle.access_model.specs.declared.actions.Action.TheVariants.{Grant, Return, MountRo, MountRw, SbRo, SbRw, Stage, Hold, Leave, Pass, Reopen, Create, Remove, Grow, MoveTo, Dirty, Clean, Open, Close}
-use Rattle.access_model.specs.declared.actions.NodeInfo.{NodeInfo}
-use Rattle.access_model.specs.States.{Limits, State, is_dirty, is_removed, IsClean}
-use Rattle.access_model.specs.Actions.{MayDo, HoldsSomeMount, marked, after_close, after_action}
-use Rattle.access_model.specs.Histories.{Done, end_of, IsLegal, IsMerge}
-use Rattle.access_model.specs.Laws.{NobodyHoldsClosed}
 use Rattle.access_model.proofs.Closed.{closed}
-use Rattle.moment_laws.specs.Moments.{WasFrozenWith, MomentTells}
-use Rattle.moment_laws.proofs.Moments.{first_legal, cuts}
+use Rattle.access_model.specs.{Actions.{MayDo, HoldsSomeMount, marked, after_close, after_action}, Histories.{Done, end_of, IsLegal, IsMerge}}
+use Rattle.access_model.specs.{Laws.NobodyHoldsClosed, States.{Limits, State, is_dirty, is_removed, IsClean}}
+use Rattle.access_model.specs.declared.actions.{Action.Action, NodeInfo.NodeInfo}
+use Rattle.moment_laws.{proofs.Moments.{first_legal, cuts}, specs.Moments.{WasFrozenWith, MomentTells}}
 
 -- at stage 4 either all levels are passed, or none is and the superblock is read-only; and no node is dirty
 record IsSealed (l : Limits) (s : State) : Type 0 where
@@ -33,7 +27,6 @@ module _ (l : Limits) (s : State) (t : ℕ) (lt : t < l.tasks) (nobody : NobodyH
       (tree : ℕ → Option NodeInfo) → IsSealed l (record s { tree = tree })
   changes i one three inside held tree = record { shut = sealed.shut; clean = λ e. absurd (no_writer i one three inside held e) }
 
-  -- a node that was cleaned is not dirty
   cleaned : (o : Option NodeInfo) → is_dirty (option_map (marked false) o) ≡ false
   cleaned None = refl
   cleaned (Some node) = refl
@@ -45,55 +38,51 @@ module _ (l : Limits) (s : State) (t : ℕ) (lt : t < l.tasks) (nobody : NobodyH
     | false ↦ clean
   ]
 
-  -- each action leaves it so
   step : (a : Action) → MayDo l s t a → IsSealed l (after_action s t a)
-  step (Grant gate) may = record { shut = sealed.shut; clean = sealed.clean }
-  step (Return gate) may = record { shut = sealed.shut; clean = sealed.clean }
-  step (MountRo m) may = record { shut = sealed.shut; clean = sealed.clean }
-  step (MountRw m) may = record { shut = sealed.shut; clean = sealed.clean }
-  step SbRo may = let z = may.0 in record { shut = λ e. absurd (omega arith); clean = sealed.clean }
-  step SbRw may = record { shut = λ e. absurd (omega (arith, may)); clean = sealed.clean }
-  step (Stage zero) may = record { shut = λ e. absurd (omega arith); clean = λ e. absurd (omega arith) }
-  step (Stage (suc zero)) may = record { shut = λ e. absurd (omega arith); clean = λ e. absurd (omega arith) }
-  step (Stage (suc (suc zero))) may = record { shut = λ e. absurd (omega arith); clean = λ e. absurd (omega arith) }
-  step (Stage (suc (suc (suc zero)))) may = record { shut = λ e. absurd (omega arith); clean = λ e. absurd (omega arith) }
-  step (Stage (suc (suc (suc (suc zero))))) may = record {
+  step (Action.Grant gate) may = record { shut = sealed.shut; clean = sealed.clean }
+  step (Action.Return gate) may = record { shut = sealed.shut; clean = sealed.clean }
+  step (Action.MountRo m) may = record { shut = sealed.shut; clean = sealed.clean }
+  step (Action.MountRw m) may = record { shut = sealed.shut; clean = sealed.clean }
+  step Action.SbRo may = let z = may.0 in record { shut = λ e. absurd (omega arith); clean = sealed.clean }
+  step Action.SbRw may = record { shut = λ e. absurd (omega (arith, may)); clean = sealed.clean }
+  step (Action.Stage zero) may = record { shut = λ e. absurd (omega arith); clean = λ e. absurd (omega arith) }
+  step (Action.Stage (suc zero)) may = record { shut = λ e. absurd (omega arith); clean = λ e. absurd (omega arith) }
+  step (Action.Stage (suc (suc zero))) may = record { shut = λ e. absurd (omega arith); clean = λ e. absurd (omega arith) }
+  step (Action.Stage (suc (suc (suc zero)))) may = record { shut = λ e. absurd (omega arith); clean = λ e. absurd (omega arith) }
+  step (Action.Stage (suc (suc (suc (suc zero))))) may = record {
     shut = λ e. elim may.1 [ inl p ↦ inl p.1 | inr p ↦ inr (p.1, p.2) ];
     clean = λ e. may.0;
   }
-  step (Stage (suc (suc (suc (suc (suc n)))))) may = absurd may
-  step (Hold h) may = record { shut = sealed.shut; clean = sealed.clean }
-  step (Leave h) may = record { shut = sealed.shut; clean = sealed.clean }
-  step (Pass i) may = let is = may.1 in let three = may.0.1 in record { shut = λ e. absurd (omega arith); clean = sealed.clean }
-  step (Reopen i) may = let is = may.1 in record { shut = λ e. absurd (omega arith); clean = sealed.clean }
-  step (Create n d kind) may = changes 1 (omega arith) (omega arith) may.0.0 may.0.1 _
-  step (Remove n) may = changes 1 (omega arith) (omega arith) may.0.0 may.0.1 _
-  step (Grow n blocks) may = changes 1 (omega arith) (omega arith) may.0.0 may.0.1 _
-  step (MoveTo n d) may = changes 1 (omega arith) (omega arith) may.0.0 may.0.1 _
-  step (Dirty n) may = changes 2 (omega arith) (omega arith) may.0 may.1 _
-  step (Clean n) may = record {
+  step (Action.Stage (suc (suc (suc (suc (suc n)))))) may = absurd may
+  step (Action.Hold h) may = record { shut = sealed.shut; clean = sealed.clean }
+  step (Action.Leave h) may = record { shut = sealed.shut; clean = sealed.clean }
+  step (Action.Pass i) may = let is = may.1 in let three = may.0.1 in record { shut = λ e. absurd (omega arith); clean = sealed.clean }
+  step (Action.Reopen i) may = let is = may.1 in record { shut = λ e. absurd (omega arith); clean = sealed.clean }
+  step (Action.Create n d kind) may = changes 1 (omega arith) (omega arith) may.0.0 may.0.1 _
+  step (Action.Remove n) may = changes 1 (omega arith) (omega arith) may.0.0 may.0.1 _
+  step (Action.Grow n blocks) may = changes 1 (omega arith) (omega arith) may.0.0 may.0.1 _
+  step (Action.MoveTo n d) may = changes 1 (omega arith) (omega arith) may.0.0 may.0.1 _
+  step (Action.Dirty n) may = changes 2 (omega arith) (omega arith) may.0 may.1 _
+  step (Action.Clean n) may = record {
     shut = sealed.shut;
     clean = λ e x lx. each_updated (λ y (o : Option NodeInfo). is_dirty o ≡ false) s.tree n (option_map (marked false) (s.tree n)) x
         (cleaned (s.tree n)) (λ ne. sealed.clean e x lx);
   }
-  step (Open n) may = record { shut = sealed.shut; clean = sealed.clean }
-  step (Close n) may = record {
+  step (Action.Open n) may = record { shut = sealed.shut; clean = sealed.clean }
+  step (Action.Close n) may = record {
     shut = sealed.shut;
     clean = λ e x lx. each_updated (λ y (o : Option NodeInfo). is_dirty o ≡ false) s.tree n _ x
         (closed_clean _ (s.tree n) (sealed.clean e n may.0)) (λ ne. sealed.clean e x lx);
   }
 
--- so it is after any legal history
 sealed_at : (l : Limits) (log : List Done) → IsLegal l log → IsSealed l (end_of log)
 sealed_at l [] legal = record { shut = λ e. absurd (omega arith); clean = λ e. absurd (omega arith) }
 sealed_at l (a ∷ earlier) legal =
     step l (end_of earlier) a.0 legal.0.0 (closed l earlier legal.1) (sealed_at l earlier legal.1) a.1 legal.0.1
 
--- what is frozen is clean
 pub frozen_clean : (l : Limits) (log : List Done) → IsLegal l log → (end_of log).stage ≡ 4 → IsClean l (end_of log)
 frozen_clean l log legal e = (sealed_at l log legal).clean e
 
--- what a moment tells
 pub tells : (l : Limits) (tree : ℕ → Option NodeInfo) (done : List (ℕ × ℕ)) (lists : ℕ → List Action) (log : List Done) → IsLegal l log →
     IsMerge lists log → (h : WasFrozenWith l.nodes tree done log) → MomentTells l tree done lists h.earlier
 tells l tree done lists log legal merge h =

@@ -1,10 +1,6 @@
 -- A moment of a history stays one, is the end of a legal history, and cuts each own list.
-use Rattle.std.proofs.Common.{◌≡◌, ℕ, List, [], ◌∷◌, ◌++◌, length, refl, sym, ap, ◌∙◌}
-use Rattle.std.specs.Prelude.{if◌then◌else◌, ◌==◌, Option, true, false}
-use Rattle.access_model.specs.declared.actions.Action.{Action}
-use Rattle.access_model.specs.declared.actions.NodeInfo.{NodeInfo}
-use Rattle.access_model.specs.States.{Limits}
-use Rattle.access_model.specs.Histories.{Done, IsLegal, own_part, IsMerge}
+use Rattle.std.{proofs.Common.{◌≡◌, ℕ, List, [], ◌∷◌, ◌++◌, length, refl, sym, ap, ◌∙◌}, specs.Prelude.{if◌then◌else◌, ◌==◌, Option, true, false}}
+use Rattle.access_model.specs.{Histories.{Done, IsLegal, own_part, IsMerge}, States.Limits, declared.actions.{Action.Action, NodeInfo.NodeInfo}}
 use Rattle.moment_laws.specs.Moments.{HaveDone, IsFrozenWith, WasFrozenWith, CutsList, CutsLists}
 
 module _ (nodes : ℕ) (tree : ℕ → Option NodeInfo) (done : List (ℕ × ℕ)) where
@@ -16,7 +12,6 @@ module _ (nodes : ℕ) (tree : ℕ → Option NodeInfo) (done : List (ℕ × ℕ
   pub stays : (log : List Done) → WasFrozenWith nodes tree done log → (a : Done) → WasFrozenWith nodes tree done (a ∷ log)
   stays log h a = record { later = a ∷ h.later; earlier = h.earlier; parts = ap (λ l. a ∷ l) h.parts; was = h.was }
 
--- the first actions of a legal history are one
 pub first_legal : (l : Limits) (later earlier : List Done) → IsLegal l (later ++ earlier) → IsLegal l earlier
 first_legal l [] earlier legal = legal
 first_legal l (a ∷ later) earlier legal = first_legal l later earlier legal.1
@@ -33,7 +28,6 @@ part_append t (a ∷ later) earlier =
       | false ↦ more
     ]
 
--- so a number's own list is cut at what it had done
 cut : (t count : ℕ) (later earlier : List Done) (actions : List Action) → own_part t (later ++ earlier) ≡ actions →
     length (own_part t earlier) ≡ count → CutsList t count earlier actions
 cut t count later earlier actions merge counted = record {

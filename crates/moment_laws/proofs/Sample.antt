@@ -1,33 +1,28 @@
 -- A freeze of a read-only superblock, a moment of it, and a thaw.
 use Rattle.std.proofs.Common.{◌≡◌, ℕ, zero, suc, ◌<◌, false, List, [], ◌∷◌, refl, inr, arith}
-use Rattle.access_model.specs.declared.actions.Action.TheVariants.{Grant, SbRo, Stage}
-use Rattle.access_model.specs.declared.actions.Gate.TheVariants.{Level}
-use Rattle.access_model.specs.States.{Limits, opening_state, is_dirty, is_removed}
-use Rattle.access_model.specs.Histories.{Done, end_of, IsLegal}
-use Rattle.moment_laws.specs.Moments.{WasFrozenWith}
-use Rattle.moment_laws.proofs.Moments.{is_now, stays}
+use Rattle.access_model.specs.{Histories.{Done, end_of, IsLegal}, States.{Limits, opening_state, is_dirty, is_removed}}
+use Rattle.access_model.specs.declared.actions.{Action.Action, Gate.Gate}
+use Rattle.moment_laws.{proofs.Moments.{is_now, stays}, specs.Moments.WasFrozenWith}
 
 abbrev two_tasks : Limits
 two_tasks = record { tasks = 2; mounts = 1; nodes = 2; capacity = 8 }
 
 -- task 0 closes the superblock and freezes
 abbrev frozen : List Done
-frozen = (0, Stage 4) ∷ (0, SbRo) ∷ []
+frozen = (0, Action.Stage 4) ∷ (0, Action.SbRo) ∷ []
 
 -- then task 1 takes level 1, and task 0 thaws
 abbrev thawed : List Done
-thawed = (0, Stage 0) ∷ (1, Grant (Level 1)) ∷ frozen
+thawed = (0, Action.Stage 0) ∷ (1, Action.Grant (Gate.Level 1)) ∷ frozen
 
 abbrev done_then : List (ℕ × ℕ)
 done_then = (0, 2) ∷ (1, 0) ∷ []
 
--- the opening tree is clean
 clean_tree : (n : ℕ) → n < 2 → is_dirty (opening_state.tree n) ≡ false
 clean_tree zero lt = refl
 clean_tree (suc zero) lt = refl
 clean_tree (suc (suc n)) lt = absurd (omega arith)
 
--- and has no removed file
 linked_tree : (n : ℕ) → n < 2 → is_removed (opening_state.tree n) ≡ false
 linked_tree zero lt = refl
 linked_tree (suc zero) lt = refl
@@ -48,9 +43,9 @@ its_moment : WasFrozenWith 2 opening_state.tree done_then thawed
 its_moment =
     let now : WasFrozenWith 2 opening_state.tree done_then frozen =
     is_now 2 opening_state.tree done_then frozen (record { frozen = refl; same_tree = λ n lt. refl; have_done = (refl, (refl, tt)) }) in
-    let more : WasFrozenWith 2 opening_state.tree done_then ((1, Grant (Level 1)) ∷ frozen) =
-    stays 2 opening_state.tree done_then frozen now (1, Grant (Level 1)) in
-    stays 2 opening_state.tree done_then ((1, Grant (Level 1)) ∷ frozen) more (0, Stage 0)
+    let more : WasFrozenWith 2 opening_state.tree done_then ((1, Action.Grant (Gate.Level 1)) ∷ frozen) =
+    stays 2 opening_state.tree done_then frozen now (1, Action.Grant (Gate.Level 1)) in
+    stays 2 opening_state.tree done_then ((1, Action.Grant (Gate.Level 1)) ∷ frozen) more (0, Action.Stage 0)
 
 -- so a legal history may go on after such a moment, to another stage
 pub sample : (l : Limits) × (log : List Done) × IsLegal l log × WasFrozenWith l.nodes opening_state.tree ((0, 2) ∷ (1, 0) ∷ []) log ×

@@ -1,9 +1,6 @@
 -- Moments of a history: what held after its first actions.
 use Rattle.std.specs.Prelude.{◌≡◌, ℕ, ◌<◌, false, Option, List, [], ◌∷◌, ◌++◌, length}
-use Rattle.access_model.specs.declared.actions.Action.{Action}
-use Rattle.access_model.specs.declared.actions.NodeInfo.{NodeInfo}
-use Rattle.access_model.specs.States.{Limits, is_dirty}
-use Rattle.access_model.specs.Histories.{Done, end_of, IsLegal, own_part}
+use Rattle.access_model.specs.{Histories.{Done, end_of, IsLegal, own_part}, States.{Limits, is_dirty}, declared.actions.{Action.Action, NodeInfo.NodeInfo}}
 
 -- each of these numbers has done so many actions, no more and no fewer
 abbrev pub HaveDone : List (ℕ × ℕ) → List Done → Type 0

@@ -1,8 +1,6 @@
 -- The bits of a flags word: READONLY and HOLD, set, cleared and found.
-use Rattle.std.proofs.Common.{◌≡◌, ℕ, true, false, zero, suc, ◌<◌, refl, arith}
-use Rattle.std.specs.Prelude.{bit_or, bit_and}
-use Rattle.mount_counts.specs.Phases.{has_flag}
-use Rattle.mount_counts.specs.Roles.{ro_bit, hold_bit}
+use Rattle.std.{proofs.Common.{◌≡◌, ℕ, true, false, zero, suc, ◌<◌, refl, arith}, specs.Prelude.{bit_or, bit_and}}
+use Rattle.mount_counts.specs.{Phases.has_flag, Roles.{ro_bit, hold_bit}}
 
 -- a fact about each number below 4
 pub below4 : (P : ℕ → Type 0) → P 0 → P 1 → P 2 → P 3 → (n : ℕ) → n < 4 → P n
@@ -24,7 +22,6 @@ or_hold = below4 (λ f. IsWithHold f (bit_or f 2)) (omega arith) (omega arith) (
 abbrev pub IsWithReadOnly : ℕ → ℕ → Type 0
 IsWithReadOnly f g = (g < 4) × (ro_bit g ≡ 1) × (hold_bit g ≡ hold_bit f)
 
--- an `or` with 1 sets READONLY alone
 pub or_read_only : (f : ℕ) → f < 4 → IsWithReadOnly f (bit_or f 1)
 or_read_only = below4 (λ f. IsWithReadOnly f (bit_or f 1)) (omega arith) (omega arith) (omega arith) (omega arith)
 
@@ -52,24 +49,19 @@ IsWithoutReadOnly f g = (g < 4) × (ro_bit g ≡ 0) × (hold_bit g ≡ hold_bit 
 pub and_not_read_only : (f : ℕ) → f < 4 → IsWithoutReadOnly f (without_read_only f)
 and_not_read_only = below4 (λ f. IsWithoutReadOnly f (without_read_only f)) (omega arith) (omega arith) (omega arith) (omega arith)
 
--- HOLD was found clear
 pub hold_clear : (f : ℕ) → f < 4 → has_flag f 2 ≡ false → hold_bit f ≡ 0
 hold_clear = below4 (λ f. has_flag f 2 ≡ false → hold_bit f ≡ 0) (λ h. omega arith) (λ h. omega arith) (λ h. cc) (λ h. cc)
 
--- HOLD was found set
 pub hold_set : (f : ℕ) → f < 4 → has_flag f 2 ≡ true → hold_bit f ≡ 1
 hold_set = below4 (λ f. has_flag f 2 ≡ true → hold_bit f ≡ 1) (λ h. cc) (λ h. cc) (λ h. omega arith) (λ h. omega arith)
 
--- where the bit is 0, HOLD is found clear
 pub hold_unset : (f : ℕ) → f < 4 → hold_bit f ≡ 0 → has_flag f 2 ≡ false
 hold_unset =
     below4 (λ f. hold_bit f ≡ 0 → has_flag f 2 ≡ false) (λ h. refl) (λ h. refl)
     (λ h. absurd (omega (arith, h))) (λ h. absurd (omega (arith, h)))
 
--- READONLY was found clear
 pub read_only_clear : (f : ℕ) → f < 4 → has_flag f 1 ≡ false → ro_bit f ≡ 0
 read_only_clear = below4 (λ f. has_flag f 1 ≡ false → ro_bit f ≡ 0) (λ h. omega arith) (λ h. cc) (λ h. omega arith) (λ h. cc)
 
--- READONLY was found set
 pub read_only_set : (f : ℕ) → f < 4 → has_flag f 1 ≡ true → ro_bit f ≡ 1
 read_only_set = below4 (λ f. has_flag f 1 ≡ true → ro_bit f ≡ 1) (λ h. cc) (λ h. omega arith) (λ h. cc) (λ h. omega arith)

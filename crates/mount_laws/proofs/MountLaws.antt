@@ -1,18 +1,18 @@
 -- Each event of the mounts keeps what holds at its mount.
-use Rattle.std.proofs.Common.{◌≡◌, ℕ, zero, suc, ◌+◌, ◌<◌, ◌≤◌, refl, sym, ap, ◌∙◌, subst, inl, inr, arith}
+use Rattle.std.proofs.{Common.{◌≡◌, ℕ, zero, suc, ◌+◌, ◌<◌, ◌≤◌, refl, sym, ap, ◌∙◌, subst, inl, inr, arith}, lemmas.Bool.Decides.eqb_tells}
 use Rattle.std.specs.Prelude.{◌⊎◌, bit_or}
-use Rattle.std.proofs.lemmas.Bool.Decides.{eqb_tells}
-use Rattle.finite_sums.specs.Sums.{update, total}
+use Rattle.finite_sums.{proofs.Totals.{each_updated, total_at, total_none, update_map}, specs.Sums.{update, total}}
 use Rattle.cpu_words.specs.Touches.{wrap_add, wrap_sub}
-use Rattle.finite_sums.proofs.Totals.{each_updated, total_at, total_none, update_map}
+use Rattle.gate_counts.proofs.{Events.flag_event, Flags.{nobody, none_held, none_admitted, MaySay, shuts, sum_begins, sum_goes, sum_ends}}
+use Rattle.gate_counts.proofs.Readers.{adds as gate_adds, is_admitted, goes_on, is_granted as gate_grants, is_refused as gate_refuses}
+use Rattle.gate_counts.proofs.Readers.{backs_off as gate_backs_off, returns as gate_returns}
 use Rattle.gate_counts.specs.Gates.{Barring, Apart, bars, below, past, GateHolds}
-use Rattle.mount_counts.specs.Roles.{Role, Out, Asking, Cleared, PastRemount, PastFlags, BackingOff, Summing, Empty, Leaving, Skipped, MountView, questions_of, processor_of, barring_of, skips, mount_as_gate, passed_hold, past_remount, past_flags, sought, has_hold, admitted, ro_bit, hold_bit, mount_shut, MountHolds}
-use Rattle.gate_counts.proofs.Events.{flag_event}
-use Rattle.gate_counts.proofs.Readers.{adds as gate_adds, is_admitted, goes_on, is_granted as gate_grants, is_refused as gate_refuses, backs_off as gate_backs_off, returns as gate_returns}
-use Rattle.gate_counts.proofs.Flags.{nobody, none_held, none_admitted, MaySay, shuts, sum_begins, sum_goes, sum_ends}
-use Rattle.mount_laws.proofs.Bits.{or_hold, or_read_only, without_hold, and_not_hold, without_read_only, and_not_read_only, IsWithHold, IsWithReadOnly, IsWithoutHold, IsWithoutReadOnly}
+use Rattle.mount_counts.specs.Roles.{Role, Out, Asking, Cleared, PastRemount, PastFlags, BackingOff, Summing, Empty, Leaving, Skipped, MountView, questions_of}
+use Rattle.mount_counts.specs.Roles.{processor_of, barring_of, skips, mount_as_gate, passed_hold, past_remount, past_flags, sought, has_hold, admitted, ro_bit}
+use Rattle.mount_counts.specs.Roles.{hold_bit, mount_shut, MountHolds}
+use Rattle.mount_laws.proofs.Bits.{or_hold, or_read_only, without_hold, and_not_hold, without_read_only, and_not_read_only, IsWithHold, IsWithReadOnly}
+use Rattle.mount_laws.proofs.Bits.{IsWithoutHold, IsWithoutReadOnly}
 
--- one that doesn't have HOLD set
 apart : (b : Barring) → bars b ≡ 0 → b ≡ Apart
 apart Apart h = refl
 apart _ h = absurd (omega arith)
@@ -25,11 +25,8 @@ each_shut flags remount sb P a b c (suc (suc zero)) h = b h
 each_shut flags remount sb P a b c (suc (suc (suc zero))) h = c h
 each_shut flags remount sb P a b c _ h = absurd h
 
--- who is past the last question holds an access
 none_past : (r : Role) → below 3 (questions_of r) ≡ 0
 none_past (Cleared p) = refl
-none_past (PastRemount p) = refl
-none_past (PastFlags p) = refl
 none_past _ = refl
 
 module _ {tasks processors flags remount sb : ℕ} {count : ℕ → ℕ} {at : ℕ → MountView}
@@ -118,7 +115,6 @@ module _ {tasks processors flags remount sb : ℕ} {count : ℕ → ℕ} {at : �
         reads (record (at t) { added = added_more; role = Asking p }) _ refl
         (gate_adds good.gate t lt few narrow p lp Apart (sym (ap barring_of out)) (omega (arith, ap sought out)))
 
-    -- a back-off, on its own processor. Meets: a sum reads each word once
     pub backs_off : (at t).role ≡ BackingOff p → HoldsAfter count_down (record (at t) { taken = taken_more; role = Out })
     backs_off e =
         reads (record (at t) { taken = taken_more; role = Out }) _ refl
@@ -137,7 +133,6 @@ SeeksNone r = (questions_of r ≡ 0) × (processor_of r ≡ 0)
 
 module _ {tasks processors flags remount sb : ℕ} {count : ℕ → ℕ} {at : ℕ → MountView}
     (good : MountHolds tasks processors flags remount sb count at) where
-  -- HOLD is set exactly where one task has it set
   pub hold : total tasks (λ x. has_hold (at x).role) ≡ hold_bit flags
   hold = omega (arith, good.gate.flag)
 
@@ -153,12 +148,10 @@ module _ {tasks processors flags remount sb : ℕ} {count : ℕ → ℕ} {at : �
   pub sealed : sb ≡ 1 → total tasks (λ x. (at x).held) ≡ 0
   sealed e = none_held good.gate 3 (good.gate.open_to 3 e)
 
-  -- nobody is past the last question where nobody holds an access
   none_fourth : total tasks (λ x. (at x).held) ≡ 0 → total tasks (λ x. past 3 (mount_as_gate (at x))) ≡ 0
   none_fourth none =
       total_none tasks _ (λ x lx. omega (arith, none_past (at x).role, none, total_at tasks x (λ y. (at y).held) lx))
 
-  -- nobody holds an access while `remount` is set
   pub none_remounting : remount ≡ 1 → sb ≡ 0 → total tasks (λ x. (at x).held) ≡ 0
   none_remounting set clear = elim (eqb_tells (ro_bit flags) 0) [
     | inl z ↦ none_held good.gate 1 (remounting set clear z.1)
@@ -185,7 +178,6 @@ module _ {tasks processors flags remount sb : ℕ} {count : ℕ → ℕ} {at : �
     pub marks_empty : (at t).role ≡ Empty → MountHolds tasks processors flags 1 sb count at
     marks_empty e = stores 1 sb (λ a b c. nobody good.gate (empties t lt e) 1) sealed
 
-    -- and at one that was skipped
     pub marks_skipped : (at t).role ≡ Skipped → MountHolds tasks processors flags 1 sb count at
     marks_skipped e = stores 1 sb (λ a b c. absurd (omega (arith, c, good.skipped t lt (ap skips e)))) sealed
 
@@ -232,7 +224,6 @@ module _ {tasks processors flags remount sb : ℕ} {count : ℕ → ℕ} {at : �
         owner_event Skipped flags (ap questions_of e, ap processor_of e) (refl, refl) good.bits (omega (arith, ap has_hold e)) closed
         remounting (λ x lx ne s q. q) tt (λ s. ro)
 
-    -- an owner that has not HOLD set there has no more to do at the mount
     pub is_left : SeeksNone (at t).role → has_hold (at t).role ≡ 0 → Becomes Out flags
     is_left none free = keeps_read_only Out flags none (refl, refl) (good.bits, refl) (omega (arith, free)) tt refl
 
@@ -260,7 +251,6 @@ module _ {tasks processors flags remount sb : ℕ} {count : ℕ → ℕ} {at : �
         (omega (arith, ap has_hold e))
         (sum_ends good.gate few narrow k sum last z (subst (MaySay good.gate) (ap barring_of e) (good.gate.sums t lt))) refl
 
-    -- or somebody was counted
     pub sums_to_some : (k sum : ℕ) → (at t).role ≡ Summing k sum → Becomes Leaving flags
     sums_to_some k sum e =
         keeps_read_only Leaving flags (ap questions_of e, ap processor_of e) (refl, refl) (good.bits, refl)

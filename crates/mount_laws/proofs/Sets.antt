@@ -1,30 +1,18 @@
 -- Sets of mounts: what a set has after a mount joins it, and after its lowest leaves it.
 use Rattle.std.proofs.Common.{◌≡◌, ◌≢◌, ℕ, ◌%◌, ◌*◌, ◌^◌, ◌<◌, ◌≤◌, true, false, refl, sym, ap, ◌∙◌, arith, inl, inr}
-use Rattle.std.specs.Prelude.{◌==◌, nat_lt, bit_or, bit_and}
-use Rattle.std.specs.Int.{bit_at, bit_not, w8}
 use Rattle.std.proofs.lemmas.Bool.{eq-eqb, cases_Bool, ltb-true, ltb-false}
 use Rattle.std.proofs.lemmas.Nat.{or_lt, and_le_l}
-use Rattle.std.proofs.lemmas.Nat.Bits.{
-  bit_at-zero,
-  bit_at_above,
-  bit_at_set_same,
-  bit_at_set_other,
-  bit_at_clear_same,
-  bit_at_clear_other,
-  bit_at-trailing_zeros,
-}
-use Rattle.mount_counts.specs.declared.sets.MountSet.{MountSet}
-use Rattle.mount_counts.specs.Sets.{has_mount, one_mount, no_mounts, with_mount, lowest, without_lowest}
+use Rattle.std.proofs.lemmas.Nat.Bits.{bit_at-zero, bit_at_above, bit_at_set_same, bit_at_set_other, bit_at_clear_same, bit_at_clear_other}
+use Rattle.std.proofs.lemmas.Nat.Bits.{bit_at-trailing_zeros}
+use Rattle.std.specs.{Int.{bit_at, bit_not, w8}, Prelude.{◌==◌, nat_lt, bit_or, bit_and}}
+use Rattle.mount_counts.specs.{Sets.{has_mount, one_mount, with_mount, lowest, without_lowest}, declared.sets.MountSet.MountSet}
 
--- the empty set has no mount
 pub none_held : (held : MountSet) → held.bits ≡ 0 → (n : ℕ) → has_mount held n ≡ false
 none_held held e n = ap (λ b. bit_at b n == 1) e ∙ (let z : bit_at 0 n ≡ 0 = bit_at-zero n in ap (λ b. b == 1) z)
 
--- the bit of a mount
 place : (m : ℕ) → m < 8 → one_mount m ≡ 1 * 2 ^ m % 256
 place m lm = let e : m % 8 ≡ m = omega arith in ap (λ k. 1 * 2 ^ k % 256) e
 
--- a mount joins a set
 pub joins_here : (held : MountSet) (m : ℕ) → m < 8 → has_mount (with_mount held m) m ≡ true
 joins_here held m lm =
     eq-eqb (bit_at (with_mount held m).bits m) 1 (ap (λ b. bit_at (bit_or held.bits b) m) (place m lm) ∙ bit_at_set_same w8 held.bits m lm)
@@ -37,14 +25,12 @@ joins_there held m n lm ne =
 pub joins_within : (held : MountSet) (m : ℕ) → m < 8 → held.bits < 256 → (with_mount held m).bits < 256
 joins_within held m lm within = or_lt 8 held.bits (one_mount m) within (omega arith)
 
--- the lowest of a set is in it
 pub lowest_held : (held : MountSet) → 0 < held.bits → held.bits < 256 → (lowest held < 8) × (has_mount held (lowest held) ≡ true)
 lowest_held held some within =
     let z : (lowest held < 8) × (bit_at held.bits (lowest held) ≡ 1) × ((i : ℕ) → i < lowest held → bit_at held.bits i ≡ 0) =
     bit_at-trailing_zeros w8 held.bits some within in
     (z.0, eq-eqb (bit_at held.bits (lowest held)) 1 z.1)
 
--- and leaves it
 pub leaves_here : (held : MountSet) → 0 < held.bits → held.bits < 256 → has_mount (without_lowest held) (lowest held) ≡ false
 leaves_here held some within =
     let l : lowest held < 8 = (lowest_held held some within).0 in
@@ -56,7 +42,6 @@ leaves_here held some within =
 pub leaves_within : (held : MountSet) → held.bits < 256 → (without_lowest held).bits < 256
 leaves_within held within = omega (arith, and_le_l held.bits (bit_not w8 (one_mount (lowest held))))
 
--- a set has no mount above 7
 above : (held : MountSet) (n : ℕ) → held.bits < 256 → 8 ≤ n → has_mount held n ≡ false
 above held n within h = let z : bit_at held.bits n ≡ 0 = bit_at_above held.bits 8 n within h in rw z refl
 

@@ -1,36 +1,24 @@
 -- What fits after an event of a change.
-use Rattle.gate_world.specs.declared.work.Phase.TheVariants.{Mounts}
-use Rattle.access_model.specs.declared.replies.Next.{Next}
-use Rattle.std.proofs.Common.{◌≡◌, ℕ, ◌+◌, ◌<◌, Bool, true, false, inl, inr, arith}
+use Rattle.std.proofs.{Common.{◌≡◌, ℕ, ◌+◌, ◌<◌, Bool, true, false, inl, inr, arith}, lemmas.Bool.{cases_Bool, ltb-true}}
 use Rattle.std.specs.Prelude.{◌==◌, not, nat_lt, if◌then◌else◌, Err}
-use Rattle.std.proofs.lemmas.Bool.{cases_Bool, ltb-true}
-use Rattle.access_model.specs.declared.errors.GateError.TheVariants.{Busy}
-use Rattle.access_model.specs.declared.replies.Next.TheVariants.{Go}
-use Rattle.cpu_words.specs.declared.sums.Sum.{Sum}
-use Rattle.cpu_words.specs.Names.{IsWord}
-use Rattle.cpu_words.specs.Touches.{wrap_add}
-use Rattle.mount_counts.specs.declared.phases.MountPhase.TheVariants.{Change as Changes}
-use Rattle.mount_counts.specs.declared.phases.Change.{Change}
-use Rattle.mount_counts.specs.declared.phases.ChangeStep.{ChangeStep}
-use Rattle.mount_counts.specs.declared.phases.ChangeStep.TheVariants.{Locks, LoadsFlags, LoadsSuperblock as LoadsSb, SetsHold, Sums, SetsReadOnly, ClearsHold, Releases}
+use Rattle.access_model.specs.{Replies.map_next, declared.{errors.GateError.GateError, replies.Next.Next}}
+use Rattle.cpu_words.specs.{Names.IsWord, Touches.wrap_add, declared.sums.Sum.Sum}
 use Rattle.mount_counts.specs.Phases.{has_flag, at_change, lock_failed, step_between, change_from, change_summed, change_next, change_after, next}
-use Rattle.gate_world.specs.declared.config.Config.{Config}
-use Rattle.gate_world.specs.Configs.{IsWithin, extents_of}
-use Rattle.gate_world.specs.Views.{phase_after}
-use Rattle.access_model.specs.Replies.{map_next}
-use Rattle.gate_world.specs.Fits.{SumFits, MountFits, Fits, ActionFits, mounts_by, levels_by}
+use Rattle.mount_counts.specs.declared.phases.{Change.Change, ChangeStep.ChangeStep, MountPhase.MountPhase}
+use Rattle.gate_world.specs.{Configs.{IsWithin, extents_of}, Fits.{SumFits, MountFits, Fits, ActionFits, mounts_by, levels_by}, Views.phase_after}
+use Rattle.gate_world.specs.declared.{config.Config.Config, work.Phase.Phase}
 use Rattle.gate_frames.proofs.Keeps.{by_bool}
 
 pub change_there : (c : Config) (x : Change) (step : ChangeStep) → x.mount < c.mounts → SumFits c step → IsWord (extents_of c) (change_next x step).0
-change_there c x Locks m f = tt
-change_there c x LoadsSb m f = tt
-change_there c x (Sums sum) m f = (m, f)
-change_there c x (Releases answer) m f = tt
+change_there c x ChangeStep.Locks m f = tt
+change_there c x ChangeStep.LoadsSuperblock m f = tt
+change_there c x (ChangeStep.Sums sum) m f = (m, f)
+change_there c x (ChangeStep.Releases answer) m f = tt
 change_there c x step m f = m
 
 module _ (c : Config) (within : IsWithin c) (t : ℕ) (held : ℕ → ℕ) (levels : ℕ → Bool) where
   pub change_acts : (x : Change) (step : ChangeStep) (found : ℕ) → ActionFits held (change_after x step found).1
-  change_acts x Locks found = tt
+  change_acts x ChangeStep.Locks found = tt
   change_acts x step found = tt
 
   between : (wanted found : Bool) → SumFits c (step_between wanted found)
@@ -43,25 +31,26 @@ module _ (c : Config) (within : IsWithin c) (t : ℕ) (held : ℕ → ℕ) (leve
   summed x sum word same =
       elim (cases_Bool (nat_lt (sum.words + 1) x.processors)) [
         | inl h ↦ rw h (omega (arith, ltb-true (sum.words + 1) x.processors h))
-        | inr h ↦ rw h (by_bool (wrap_add sum.total word == 0) (λ b. SumFits c (if b then SetsReadOnly else ClearsHold (Err Busy))) tt tt)
+        | inr h ↦ rw h (by_bool (wrap_add sum.total word == 0)
+            (λ b. SumFits c (if b then ChangeStep.SetsReadOnly else ChangeStep.ClearsHold (Err GateError.Busy))) tt tt)
       ]
 
   -- what comes after an event fits
   abbrev NextFits : Next Change → Type 0
-  NextFits next = Fits c t held levels (phase_after (map_next Mounts (map_next Changes next)))
+  NextFits next = Fits c t held levels (phase_after (map_next Phase.Mounts (map_next MountPhase.Change next)))
 
   -- what comes after each event of a change fits
-  pub change_goes : (x : Change) (step : ChangeStep) (found : ℕ) → MountFits c t held levels (Changes record x { step = step }) →
+  pub change_goes : (x : Change) (step : ChangeStep) (found : ℕ) → MountFits c t held levels (MountPhase.Change record x { step = step }) →
       Fits c t (mounts_by (change_after x step found).1 held) (levels_by (change_after x step found).1 levels)
-      (phase_after (map_next Mounts (map_next Changes (change_after x step found).0)))
-  change_goes x Locks found f =
-      by_bool (found == 0) (λ b. NextFits (if b then Go (at_change x LoadsFlags) else lock_failed x x.wait)) f
+      (phase_after (map_next Phase.Mounts (map_next MountPhase.Change (change_after x step found).0)))
+  change_goes x ChangeStep.Locks found f =
+      by_bool (found == 0) (λ b. NextFits (if b then Next.Go (at_change x ChangeStep.LoadsFlags) else lock_failed x x.wait)) f
       (by_bool x.wait (λ b. NextFits (lock_failed x b)) f tt)
-  change_goes x LoadsFlags found f =
-      by_bool (has_flag found 1) (λ b. NextFits (if b then Go (at_change x (change_from x true)) else Go (at_change x LoadsSb)))
+  change_goes x ChangeStep.LoadsFlags found f =
+      by_bool (has_flag found 1) (λ b. NextFits (if b then Next.Go (at_change x (change_from x true)) else Next.Go (at_change x ChangeStep.LoadsSuperblock)))
       (f.0, f.1, f.2, f.3, between x.read_only true) f
-  change_goes x LoadsSb found f = (f.0, f.1, f.2, f.3, between x.read_only (not (found == 0)))
-  change_goes x SetsHold found f = (f.0, f.1, f.2, f.3, omega (arith, within.some_processor))
-  change_goes x (Sums sum) found f = (f.0, f.1, f.2, f.3, summed x sum found f.2)
-  change_goes x (Releases answer) found f = tt
+  change_goes x ChangeStep.LoadsSuperblock found f = (f.0, f.1, f.2, f.3, between x.read_only (not (found == 0)))
+  change_goes x ChangeStep.SetsHold found f = (f.0, f.1, f.2, f.3, omega (arith, within.some_processor))
+  change_goes x (ChangeStep.Sums sum) found f = (f.0, f.1, f.2, f.3, summed x sum found f.2)
+  change_goes x (ChangeStep.Releases answer) found f = tt
   change_goes x other found f = f

@@ -1,33 +1,18 @@
 -- All that is proved of a change.
-use Rattle.std.proofs.Common.{ℕ, Bool, arith, refl, subst}
-use Rattle.std.specs.Prelude.{Some}
-use Rattle.std.proofs.lemmas.Bool.{ltb-true}
-use Rattle.mount_counts.specs.declared.phases.MountPhase.TheVariants.{Change as Changes}
-use Rattle.mount_counts.specs.declared.phases.Change.{Change}
-use Rattle.gate_world.specs.declared.config.Config.{Config}
-use Rattle.gate_world.specs.declared.work.Phase.TheVariants.{Mounts}
-use Rattle.gate_world.specs.Fits.{Fits}
-use Rattle.gate_frames.proofs.Keeps.{by_bool, none_agree, word_among, PhaseKeeps, IsSmall, OpKeeps}
-use Rattle.gate_frames.proofs.Loads.{role_none}
-use Rattle.gate_frames.proofs.MountRuns.{mounts_run}
-use Rattle.gate_frames.proofs.Snapshots.{completes_none}
-use Rattle.gate_world.specs.declared.operations.Op.TheVariants.{ChangeMount}
-use Rattle.gate_world.specs.Traces.{most_events}
-use Rattle.gate_frames.proofs.Says.{tells, is_short}
-use Rattle.gate_world.specs.Worlds.{after_step}
-use Rattle.owner_laws.proofs.Each.{change_keeps}
-use Rattle.owner_laws.proofs.ChangeFits.{change_there, change_acts, change_goes}
-use Rattle.owner_laws.proofs.ChangeCauses.{change_kept, change_own}
-use Rattle.owner_laws.proofs.ChangeWaits.{change_waits}
-use Rattle.owner_laws.proofs.ChangeTraces.{ChangeAt, change_kept as change_traced}
-use Rattle.gate_world.specs.Views.{held_at, holds_level}
-use Rattle.gate_world.specs.Rules.{Fitting}
+use Rattle.std.{proofs.{Common.{ℕ, Bool, arith, refl, subst}, lemmas.Bool.ltb-true}, specs.Prelude.Some}
+use Rattle.mount_counts.specs.declared.phases.{Change.Change, MountPhase.MountPhase}
+use Rattle.gate_world.specs.{Fits.Fits, Rules.Fitting, Traces.most_events, Views.{held_at, holds_level}, Worlds.after_step}
+use Rattle.gate_world.specs.declared.{config.Config.Config, operations.Op.Op, work.Phase.Phase}
+use Rattle.gate_frames.proofs.{Keeps.{by_bool, none_agree, word_among, PhaseKeeps, IsSmall, OpKeeps}, Loads.role_none, MountRuns.mounts_run}
+use Rattle.gate_frames.proofs.{Says.{tells, is_short}, Snapshots.completes_none}
+use Rattle.owner_laws.proofs.{ChangeCauses.{change_kept, change_own}, ChangeFits.{change_there, change_acts, change_goes}}
+use Rattle.owner_laws.proofs.{ChangeTraces.{ChangeAt, change_kept as change_traced}, ChangeWaits.change_waits, Each.change_keeps}
 
-pub change_phase : (c : Config) (x : Change) → PhaseKeeps c (Mounts (Changes x))
+pub change_phase : (c : Config) (x : Change) → PhaseKeeps c (Phase.Mounts (MountPhase.Change x))
 change_phase c x = record {
   step = λ lim w good t lt hook e. change_keeps c lim w good t lt hook x.mount x.read_only x.wait x.task x.processors x.step e;
-  runs = λ lim w good t lt hook e i l1 l3. mounts_run c.tasks w t lt hook (Changes x) e i;
-  completes = λ lim w good t lt hook e. completes_none c w t hook (Mounts (Changes x)) (λ trace found. refl);
+  runs = λ lim w good t lt hook e i l1 l3. mounts_run c.tasks w t lt hook (MountPhase.Change x) e i;
+  completes = λ lim w good t lt hook e. completes_none c w t hook (Phase.Mounts (MountPhase.Change x)) (λ trace found. refl);
   word = λ n le t lt held levels hook f. word_among c n le _ (change_there c x x.step f.0 f.4);
   acts = λ lim t held levels found hook f. change_acts c lim t held levels x x.step found;
   goes = λ lim t held levels found hook f. change_goes c lim t held levels x x.step found f;
@@ -35,15 +20,15 @@ change_phase c x = record {
   stays = λ w next earlier after t f e was quiet h. change_kept c t w next earlier after x.mount x.read_only x.wait x.task x.processors
       x.step f.0 e was (quiet.mounts x.mount) h;
   causes = λ w earlier good t lt hook e after is h.
-      let f : Fits c t (held_at (w.views t)) (holds_level (w.views t)) (Some (Mounts (Changes x))) =
+      let f : Fits c t (held_at (w.views t)) (holds_level (w.views t)) (Some (Phase.Mounts (MountPhase.Change x))) =
       subst (Fits c t (held_at (w.views t)) (holds_level (w.views t))) e (good Fitting t lt) in
-      change_own c t lt w (after_step w t (Mounts (Changes x)) hook) earlier good after hook x.mount x.read_only x.wait x.task
+      change_own c t lt w (after_step w t (Phase.Mounts (MountPhase.Change x)) hook) earlier good after hook x.mount x.read_only x.wait x.task
       x.processors x.step f.0 e refl h is;
   reasons = λ lim w earlier good t lt hook e cause.
       change_waits c w earlier good t lt x.mount x.read_only x.task x.processors hook x.wait x.step e cause;
 }
 
-pub change_op : (c : Config) (m : ℕ) (ro wait : Bool) → OpKeeps c (ChangeMount m ro wait)
+pub change_op : (c : Config) (m : ℕ) (ro wait : Bool) → OpKeeps c (Op.ChangeMount m ro wait)
 change_op c m ro wait = record {
   fits = λ t held levels there order room. (ltb-true m c.mounts there, refl, refl, order, tt);
   starts_idle = λ t. record {
@@ -61,7 +46,7 @@ change_op c m ro wait = record {
   room_agrees = λ f g mounts there. refl;
   restores = λ refusal trace before order. (refl, refl, refl);
   file = λ t files own closed. tt;
-  tells = λ lim t trace h. tells (ChangeAt c t m ro wait) c t (ChangeMount m ro wait) (change_traced c lim t m ro wait) trace h;
-  short = λ lim t trace h. is_short (ChangeAt c t m ro wait) c t (ChangeMount m ro wait) (change_traced c lim t m ro wait) trace h;
-  most_small = λ lim. by_bool wait (λ w. IsSmall (most_events c (ChangeMount m ro w))) tt (omega (arith, lim.processors));
+  tells = λ lim t trace h. tells (ChangeAt c t m ro wait) c t (Op.ChangeMount m ro wait) (change_traced c lim t m ro wait) trace h;
+  short = λ lim t trace h. is_short (ChangeAt c t m ro wait) c t (Op.ChangeMount m ro wait) (change_traced c lim t m ro wait) trace h;
+  most_small = λ lim. by_bool wait (λ w. IsSmall (most_events c (Op.ChangeMount m ro w))) tt (omega (arith, lim.processors));
 }

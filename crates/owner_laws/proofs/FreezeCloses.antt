@@ -1,74 +1,33 @@
 -- The events of a freeze on the words of a level that it closes.
 use Rattle.std.proofs.Common.{◌≡◌, ◌⊎◌, ℕ, ◌<◌, ◌≤◌, Bool, true, false, refl, sym, ap, ◌∙◌, inl, inr, arith, true≢false, nat_lt}
+use Rattle.std.proofs.lemmas.Bool.{eq-eqb, cases_Bool, Decides.eqb_tells}
 use Rattle.std.specs.Prelude.{◌==◌, if◌then◌else◌, Option, Some, None, Ok}
-use Rattle.std.proofs.lemmas.Bool.{eq-eqb, cases_Bool}
-use Rattle.std.proofs.lemmas.Bool.Decides.{eqb_tells}
-use Rattle.finite_sums.specs.Sums.{update, total}
-use Rattle.finite_sums.proofs.Totals.{total_at}
-use Rattle.access_model.specs.declared.actions.Action.{Action}
-use Rattle.access_model.specs.declared.actions.Action.TheVariants.{Pass}
-use Rattle.access_model.specs.declared.replies.Next.{Next}
-use Rattle.access_model.specs.declared.replies.Next.TheVariants.{Go, Wait, Done}
-use Rattle.access_model.specs.declared.replies.Reply.TheVariants.{Unit as UnitReply}
-use Rattle.access_model.specs.Histories.{mounts_of, levels_of, opens_of}
-use Rattle.access_model.specs.Replies.{map_next}
-use Rattle.cpu_words.specs.declared.sums.Sum.{Sum}
-use Rattle.cpu_words.specs.declared.sums.Taken.{Taken}
-use Rattle.cpu_words.specs.declared.sums.Taken.TheVariants.{More as MoreWords, Total}
-use Rattle.cpu_words.specs.Hooks.{HookAnswer}
-use Rattle.cpu_words.specs.Sums.{sum_taking}
-use Rattle.cpu_words.specs.Touches.{left, found_by}
-use Rattle.cpu_words.specs.Words.{Words, read, put}
-use Rattle.freeze_levels.specs.declared.freezes.Freeze.{Freeze}
-use Rattle.freeze_levels.specs.declared.freezes.FreezeStep.TheVariants.{Closes}
-use Rattle.freeze_levels.specs.Freezes.{at_freeze, after_closing, level_closed}
-use Rattle.percpu_rwsem.specs.declared.grace.GraceNext.{GraceNext}
-use Rattle.percpu_rwsem.specs.declared.grace.GraceNext.TheVariants.{More as MoreSections}
-use Rattle.percpu_rwsem.specs.declared.sync_word.GpState.TheVariants.{Idle}
-use Rattle.percpu_rwsem.specs.declared.sync_word.SyncWord.{SyncWord}
-use Rattle.percpu_rwsem.specs.declared.transitions.Transition.TheVariants.{Loads, Exchanges}
-use Rattle.percpu_rwsem.specs.declared.transitions.TransitionNext.{TransitionNext}
-use Rattle.percpu_rwsem.specs.declared.transitions.TransitionNext.TheVariants.{More, Made}
-use Rattle.percpu_rwsem.specs.declared.writers.DownWrite.{DownWrite}
-use Rattle.percpu_rwsem.specs.declared.writers.DownWriteStep.{DownWriteStep}
-use Rattle.percpu_rwsem.specs.declared.writers.DownWriteStep.TheVariants.{Enters, AwaitsSections, CallsBack, AwaitsPassed, SetsBlock, Sums}
-use Rattle.percpu_rwsem.specs.Graces.{looked}
-use Rattle.percpu_rwsem.specs.SyncWords.{unpack, is_passed, on_enter, on_callback}
-use Rattle.percpu_rwsem.specs.Transitions.{transition_after}
-use Rattle.percpu_rwsem.specs.Writers.{down_write_next, down_write_after, at_down_write, enter_step, callback_step, sections_awaited, passed_awaited, sum_begun, down_write_summed}
-use Rattle.stage_laws.specs.Roles.{Place, Before, Closing, HasPassed, Freezing, owns as stage_owns, has_position, bit, CleanBelow}
-use Rattle.stage_laws.specs.Shown.{state_after}
-use Rattle.stage_laws.specs.Events.{StageEvent, Happens, Stays, SetsBlock as SetsBlockStage, Passes, playing, action_of as stage_action_of}
+use Rattle.finite_sums.{proofs.Totals.total_at, specs.Sums.{update, total}}
+use Rattle.access_model.specs.{Histories.{mounts_of, levels_of, opens_of}, Replies.map_next, declared.{actions.Action.Action, replies.{Next.Next, Reply.Reply}}}
+use Rattle.cpu_words.specs.{Hooks.HookAnswer, Sums.sum_taking, Touches.{left, found_by}, Words.{Words, read, put}, declared.sums.{Sum.Sum, Taken.Taken}}
+use Rattle.gated_tree.{proofs.ClearedMarks.directory_clean, specs.{Nodes.IsNode, Roles.{Out as OffTree, Clearing}}}
+use Rattle.percpu_rwsem.specs.{Graces.looked, SyncWords.{unpack, is_passed, on_enter, on_callback}, Transitions.transition_after}
+use Rattle.percpu_rwsem.specs.Writers.{down_write_next, down_write_after, at_down_write, enter_step, callback_step, sections_awaited, passed_awaited, sum_begun}
+use Rattle.percpu_rwsem.specs.Writers.{down_write_summed}
+use Rattle.percpu_rwsem.specs.declared.{grace.GraceNext.GraceNext, sync_word.{GpState.GpState, SyncWord.SyncWord}}
+use Rattle.percpu_rwsem.specs.declared.transitions.{Transition.Transition, TransitionNext.TransitionNext}
+use Rattle.percpu_rwsem.specs.declared.writers.{DownWrite.DownWrite, DownWriteStep.DownWriteStep}
+use Rattle.freeze_levels.specs.{Freezes.{at_freeze, after_closing, level_closed}, declared.freezes.{Freeze.Freeze, FreezeStep.FreezeStep}}
 use Rattle.stage_laws.proofs.Facts.{at_level}
-use Rattle.gate_world.specs.declared.config.Config.{Config}
-use Rattle.gate_world.specs.declared.views.View.{View}
-use Rattle.gate_world.specs.declared.work.Phase.{Phase}
-use Rattle.gate_world.specs.declared.work.Phase.TheVariants.{Freezes}
-use Rattle.gate_world.specs.Configs.{IsWithin, model_limits}
-use Rattle.gate_world.specs.Fits.{Fits, mounts_by, levels_by}
-use Rattle.gate_world.specs.Levels.{closed_to}
-use Rattle.gate_world.specs.Rules.{IsGood, Holds, Tree, owns, marks_of, ViewFits}
-use Rattle.gate_world.specs.Shown.{shown}
-use Rattle.gate_world.specs.Stages.{freeze_stage_role, stage_role_of, place_of}
-use Rattle.gate_world.specs.Views.{held_at, holds_level, phase_after, actions_after, view_with, added_by, taken_by, has_open}
-use Rattle.gate_world.specs.Levels.{level_added_by, level_taken_by}
-use Rattle.gate_world.specs.Worlds.{World}
-use Rattle.gate_world.specs.Trees.{tree_role_of, tree_roles, freeze_tree_role}
-use Rattle.gated_tree.specs.Nodes.{IsNode}
-use Rattle.gated_tree.specs.Roles.{Out as OffTree, Clearing}
-use Rattle.gated_tree.proofs.ClearedMarks.{directory_clean}
-use Rattle.gate_frames.proofs.Keeps.{by_bool}
-use Rattle.gate_frames.proofs.Trees.{shown_clean}
-use Rattle.gate_frames.proofs.Stages.{IsStageEvent, stages_in}
+use Rattle.stage_laws.specs.Events.{StageEvent, Happens, Stays, SetsBlock as SetsBlockStage, Passes, playing, action_of as stage_action_of}
+use Rattle.stage_laws.specs.{Roles.{Place, Before, Closing, HasPassed, Freezing, owns as stage_owns, has_position, bit, CleanBelow}, Shown.state_after}
 use Rattle.holder_laws.specs.Roles.{Apart}
-use Rattle.gate_world.specs.Holders.{freeze_holder_role, holder_role_of}
-use Rattle.gate_frames.proofs.Standing.{Stands, LevelsHold, left_world, stand_after_closing}
-use Rattle.gate_frames.proofs.DownLevels.{down_write_levels, passes_finds_nobody, swap_finds_clear, entered_by_nobody}
+use Rattle.gate_world.specs.{Configs.{IsWithin, model_limits}, Fits.{Fits, mounts_by, levels_by}, Holders.{freeze_holder_role, holder_role_of}}
+use Rattle.gate_world.specs.{Levels.{closed_to, level_added_by, level_taken_by}, Rules.{IsGood, Holds, Tree, owns, marks_of, ViewFits}, Shown.shown}
+use Rattle.gate_world.specs.{Stages.{freeze_stage_role, stage_role_of, place_of}, Trees.{tree_role_of, tree_roles, freeze_tree_role}}
+use Rattle.gate_world.specs.{Views.{held_at, holds_level, phase_after, actions_after, view_with, added_by, taken_by, has_open}, Worlds.World}
+use Rattle.gate_world.specs.declared.{config.Config.Config, views.View.View, work.Phase.Phase}
+use Rattle.gate_frames.proofs.{DownLevels.{down_write_levels, passes_finds_nobody, swap_finds_clear, entered_by_nobody}, Keeps.by_bool}
+use Rattle.gate_frames.proofs.{Stages.{IsStageEvent, stages_in}, Standing.{Stands, LevelsHold, left_world, stand_after_closing}, Trees.shown_clean}
 use Rattle.gate_frames.proofs.WriterParts.{LeavesRest, AsksWhere, WriterLaw, freeze_comes, down_write_comes}
 use Rattle.gate_frames.proofs.WriterStages.{still_plays, stays_there, none_leaves}
 use Rattle.gate_frames.proofs.WriterWords.{tree_beside, tree_begins, down_write_words, down_write_counts_none, down_write_adds, pass_leaves, writer_at_level}
-use Rattle.owner_laws.proofs.FreezeFits.{freeze_goes}
-use Rattle.owner_laws.proofs.FreezeStages.{freeze_stands, IsHere, Keeps, FitsHere, here_fits, here_stands, here_tree, here_writes}
+use Rattle.owner_laws.proofs.{FreezeFits.freeze_goes, FreezeStages.{freeze_stands, IsHere, Keeps, FitsHere, here_fits, here_stands, here_tree, here_writes}}
 
 -- once level 2 is passed the clearing of marks begins at node 1
 abbrev clean_from : ℕ → ℕ
@@ -76,40 +35,38 @@ clean_from level = if level == 2 then 1 else 0
 
 -- what comes after an event of a down-write is the same one, at a step of this place
 abbrev IsAtPlace : DownWrite → Place → Next DownWrite → Type 0
-IsAtPlace d p (Go x) = (x.level ≡ d.level) × (place_of x.step ≡ p)
-IsAtPlace d p (Wait x) = (x.level ≡ d.level) × (place_of x.step ≡ p)
-IsAtPlace d p (Done answer) = ⊥
+IsAtPlace d p (Next.Go x) = (x.level ≡ d.level) × (place_of x.step ≡ p)
+IsAtPlace d p (Next.Wait x) = (x.level ≡ d.level) × (place_of x.step ≡ p)
+IsAtPlace d p (Next.Done answer) = ⊥
 
 -- until its swap it is before that
 enter_place : (tasks : ℕ) (n : TransitionNext) → place_of (enter_step tasks n) ≡ Before
-enter_place tasks (More transition) = refl
-enter_place tasks (Made Idle) = refl
+enter_place tasks (TransitionNext.More transition) = refl
+enter_place tasks (TransitionNext.Made GpState.Idle) = refl
 enter_place tasks other = refl
 
--- so it is past its grace period
 callback_place : (n : TransitionNext) → place_of (callback_step n) ≡ Before
-callback_place (More transition) = refl
+callback_place (TransitionNext.More transition) = refl
 callback_place other = refl
 
--- in it
 sections_place : (d : DownWrite) (n : GraceNext) → IsAtPlace d Before (sections_awaited d n)
-sections_place d (MoreSections grace) = (refl, refl)
+sections_place d (GraceNext.More grace) = (refl, refl)
 sections_place d other = (refl, refl)
 
--- and where it waits for another writer's
 passed_place : (d : DownWrite) (o : Option SyncWord) → IsAtPlace d Before (passed_awaited d o)
 passed_place d None = (refl, refl)
 passed_place d (Some word) =
     by_bool (is_passed word.state)
-    (λ b. IsAtPlace d Before (if b then Go (at_down_write d SetsBlock) else Wait (at_down_write d AwaitsPassed))) (refl, refl)
+    (λ b. IsAtPlace d Before (if b then Next.Go (at_down_write d DownWriteStep.SetsBlock) else Next.Wait (at_down_write d DownWriteStep.AwaitsPassed)))
+    (refl, refl)
     (refl, refl)
 
 -- what a freeze does with the stage at such a place
 place_role : (x : Freeze) (d : DownWrite) (p : Place) (n : Next DownWrite) → IsAtPlace d p n →
-    stage_role_of (phase_after (map_next Freezes (after_closing x d.level n))) ≡ Freezing d.level p (nat_lt 1 d.level)
-place_role x d p (Go y) h = λ j. Freezing (h.0 j) (h.1 j) (nat_lt 1 (h.0 j))
-place_role x d p (Wait y) h = λ j. Freezing (h.0 j) (h.1 j) (nat_lt 1 (h.0 j))
-place_role x d p (Done answer) h = absurd h
+    stage_role_of (phase_after (map_next Phase.Freezes (after_closing x d.level n))) ≡ Freezing d.level p (nat_lt 1 d.level)
+place_role x d p (Next.Go y) h = λ j. Freezing (h.0 j) (h.1 j) (nat_lt 1 (h.0 j))
+place_role x d p (Next.Wait y) h = λ j. Freezing (h.0 j) (h.1 j) (nat_lt 1 (h.0 j))
+place_role x d p (Next.Done answer) h = absurd h
 
 -- and once the level is closed
 closed_role : (x : Freeze) (level : ℕ) → 1 ≤ level → level ≤ 3 →
@@ -128,8 +85,8 @@ closed_tree nodes level =
 
 -- how it stands with the levels then
 closed_stands : (x : Freeze) (level : ℕ) → 1 ≤ level → level ≤ 3 →
-    Stands (Some (Freezes (at_freeze x (level_closed level x.nodes)))) (Some (closed_to level))
-closed_stands x level = at_level (λ i. Stands (Some (Freezes (at_freeze x (level_closed i x.nodes)))) (Some (closed_to i))) (
+    Stands (Some (Phase.Freezes (at_freeze x (level_closed level x.nodes)))) (Some (closed_to level))
+closed_stands x level = at_level (λ i. Stands (Some (Phase.Freezes (at_freeze x (level_closed i x.nodes)))) (Some (closed_to i))) (
   freeze_stands (at_freeze x (level_closed 1 x.nodes)),
   freeze_stands (at_freeze x (level_closed 2 x.nodes)),
   freeze_stands (at_freeze x (level_closed 3 x.nodes)),
@@ -137,17 +94,16 @@ closed_stands x level = at_level (λ i. Stands (Some (Freezes (at_freeze x (leve
 
 -- `block` is set where the swap found it clear
 swapped_role : (x : Freeze) (d : DownWrite) (b : Bool) → b ≡ true →
-    stage_role_of (phase_after (map_next Freezes (after_closing x d.level
-    (if b then Go (at_down_write d sum_begun) else Wait (at_down_write d SetsBlock))))) ≡ Freezing d.level Closing (nat_lt 1 d.level)
+    stage_role_of (phase_after (map_next Phase.Freezes (after_closing x d.level
+    (if b then Next.Go (at_down_write d sum_begun) else Next.Wait (at_down_write d DownWriteStep.SetsBlock))))) ≡ Freezing d.level Closing (nat_lt 1 d.level)
 swapped_role x d true h = refl
 swapped_role x d false h = absurd (true≢false (sym h))
 
 -- the event of the stage that comes with a word more of the sum: with the last one of a sum of 0 the level is passed
 abbrev sum_kind : DownWrite → Taken → StageEvent
-sum_kind d (MoreWords sum) = Stays
-sum_kind d (Total total) = if total == 0 then Passes d.level (clean_from d.level) (nat_lt 1 d.level) else Stays
+sum_kind d (Taken.More sum) = Stays
+sum_kind d (Taken.Total total) = if total == 0 then Passes d.level (clean_from d.level) (nat_lt 1 d.level) else Stays
 
--- what comes after a level is closed has nothing to do with the holders
 closed_apart : (level nodes : ℕ) → freeze_holder_role (level_closed level nodes) ≡ Apart
 closed_apart level nodes =
     elim (eqb_tells level 1) [
@@ -156,7 +112,6 @@ closed_apart level nodes =
     ]
 
 module _ (c : Config) (lim : IsWithin c) (w : World) (good : IsGood c w) (t : ℕ) (lt : t < c.tasks) (x : Freeze) (hook : HookAnswer) where
-  -- the root is clean
   root_clean : (level : ℕ) → 1 ≤ level → level ≤ 3 → CleanBelow (clean_from level) (marks_of w.words)
   root_clean level low high m l =
       let at_most : clean_from level ≤ 1 = at_level (λ i. clean_from i ≤ 1) (omega arith, omega arith, omega arith) level low high in
@@ -169,34 +124,32 @@ module _ (c : Config) (lim : IsWithin c) (w : World) (good : IsGood c w) (t : �
   sum_happens : (d : DownWrite) → stage_role_of (w.views t).phase ≡ Freezing d.level Closing (nat_lt 1 d.level) → 1 ≤ d.level →
       d.level ≤ 3 → (n : Taken) →
       Happens c.tasks c.nodes t (stages_in w) (playing (stages_in w) t
-      (stage_role_of (phase_after (map_next Freezes (after_closing x d.level (down_write_summed d n).0))))) (sum_kind d n)
-  sum_happens d role low high (MoreWords sum) = still_plays c w good t lt (sym role)
-  sum_happens d role low high (Total sum) =
+      (stage_role_of (phase_after (map_next Phase.Freezes (after_closing x d.level (down_write_summed d n).0))))) (sum_kind d n)
+  sum_happens d role low high (Taken.More sum) = still_plays c w good t lt (sym role)
+  sum_happens d role low high (Taken.Total sum) =
       by_bool (sum == 0) (λ b. Happens c.tasks c.nodes t (stages_in w) (playing (stages_in w) t
-      (stage_role_of (phase_after (map_next Freezes (after_closing x d.level
-      (if b then Done (Ok UnitReply) else Wait (at_down_write d sum_begun)))))))
+      (stage_role_of (phase_after (map_next Phase.Freezes (after_closing x d.level
+      (if b then Next.Done (Ok Reply.Unit) else Next.Wait (at_down_write d sum_begun)))))))
       (if b then Passes d.level (clean_from d.level) (nat_lt 1 d.level) else Stays))
       (role, root_clean d.level low high, ap (playing (stages_in w) t) (closed_role x d.level low high))
       (still_plays c w good t lt (sym role))
 
-  -- what it adds
   sum_adds : (d : DownWrite) (n : Taken) → stage_action_of (sum_kind d n) (stages_in w) ≡ (down_write_summed d n).1
-  sum_adds d (MoreWords sum) = refl
-  sum_adds d (Total sum) =
+  sum_adds d (Taken.More sum) = refl
+  sum_adds d (Taken.Total sum) =
       by_bool (sum == 0) (λ b. stage_action_of (if b then Passes d.level (clean_from d.level) (nat_lt 1 d.level) else Stays) (stages_in w) ≡
-      (if b then Some (Pass d.level) else None)) refl refl
+      (if b then Some (Action.Pass d.level) else None)) refl refl
 
-  -- and what that asks for
   sum_asks : (d : DownWrite) (n : Taken) →
-      ((j : ℕ) → (down_write_summed d n).1 ≡ Some (Pass j) → (y : ℕ) → y < c.tasks → holds_level (w.views y) d.level ≡ false) →
+      ((j : ℕ) → (down_write_summed d n).1 ≡ Some (Action.Pass j) → (y : ℕ) → y < c.tasks → holds_level (w.views y) d.level ≡ false) →
       AsksWhere (model_limits c) (shown c w) (down_write_summed d n).1
-  sum_asks d (MoreWords sum) h = tt
-  sum_asks d (Total sum) h =
-      by_bool (sum == 0) (λ b. ((j : ℕ) → (if b then Some (Pass d.level) else None) ≡ Some (Pass j) → (y : ℕ) → y < c.tasks →
-      holds_level (w.views y) d.level ≡ false) → AsksWhere (model_limits c) (shown c w) (if b then Some (Pass d.level) else None))
+  sum_asks d (Taken.More sum) h = tt
+  sum_asks d (Taken.Total sum) h =
+      by_bool (sum == 0) (λ b. ((j : ℕ) → (if b then Some (Action.Pass d.level) else None) ≡ Some (Action.Pass j) → (y : ℕ) → y < c.tasks →
+      holds_level (w.views y) d.level ≡ false) → AsksWhere (model_limits c) (shown c w) (if b then Some (Action.Pass d.level) else None))
       (λ g. g d.level refl) (λ g. tt) h
 
-  module _ (d : DownWrite) (e : IsHere c lim w good t lt x (Closes d)) where
+  module _ (d : DownWrite) (e : IsHere c lim w good t lt x (FreezeStep.Closes d)) where
     -- the words after its event
     abbrev words_then : Words
     words_then = put w.words (down_write_next d d.step).0 (left (down_write_next d d.step).1 (read w.words (down_write_next d d.step).0))
@@ -216,13 +169,12 @@ module _ (c : Config) (lim : IsWithin c) (w : World) (good : IsGood c w) (t : �
     -- and its task's view then
     abbrev view_then : View
     view_then = view_with (w.views t) (down_write_next d d.step) (read w.words (down_write_next d d.step).0) hook
-        (map_next Freezes (after_closing x d.level next_here), adds_here)
+        (map_next Phase.Freezes (after_closing x d.level next_here), adds_here)
 
     -- its step fits before it
-    fits_now : FitsHere c lim w good t lt x (Closes d)
-    fits_now = here_fits c lim w good t lt x (Closes d) e
+    fits_now : FitsHere c lim w good t lt x (FreezeStep.Closes d)
+    fits_now = here_fits c lim w good t lt x (FreezeStep.Closes d) e
 
-    -- its accesses are as they were
     accesses_stay : (held_at view_then ≡ held_at (w.views t)) × (holds_level view_then ≡ holds_level (w.views t)) ×
         (has_open view_then ≡ has_open (w.views t))
     accesses_stay =
@@ -230,25 +182,23 @@ module _ (c : Config) (lim : IsWithin c) (w : World) (good : IsGood c w) (t : �
         (levels_of (actions_after a (w.views t).actions) ≡ levels_of (w.views t).actions) ×
         (opens_of (actions_after a (w.views t).actions) ≡ opens_of (w.views t).actions)) (refl, refl, refl) (refl, refl, refl) d.step found_here
 
-    -- so what comes fits them
     fits_then : ViewFits c t view_then
     fits_then =
-        let p : Option Phase = phase_after (map_next Freezes (after_closing x d.level next_here)) in
+        let p : Option Phase = phase_after (map_next Phase.Freezes (after_closing x d.level next_here)) in
         down_write_adds d (λ a. Fits c t (mounts_by a (held_at (w.views t))) (levels_by a (holds_level (w.views t))) p →
         Fits c t (mounts_of (actions_after a (w.views t).actions)) (levels_of (actions_after a (w.views t).actions)) p) (λ f. f) (λ f. f)
-        d.step found_here (freeze_goes c lim t (held_at (w.views t)) (holds_level (w.views t)) x (Closes d) found_here hook fits_now)
+        d.step found_here (freeze_goes c lim t (held_at (w.views t)) (holds_level (w.views t)) x (FreezeStep.Closes d) found_here hook fits_now)
 
-    -- who owned `umount` owns it
     owns_then : owns view_then.phase ≡ bit (nat_lt 1 d.level)
     owns_then =
-        down_write_comes d (λ n. owns (phase_after (map_next Freezes (after_closing x d.level n))) ≡ bit (nat_lt 1 d.level))
+        down_write_comes d (λ n. owns (phase_after (map_next Phase.Freezes (after_closing x d.level n))) ≡ bit (nat_lt 1 d.level))
         (λ s. refl) (λ s. refl) (ap stage_owns (closed_role x d.level fits_now.5.0 fits_now.5.1)) d.step found_here
 
     -- how it stands with the levels
     pub stands_then : Stands view_then.phase (stand_after_closing d.level next_here)
     stands_then =
-        down_write_comes d (λ n. Stands (phase_after (map_next Freezes (after_closing x d.level n))) (stand_after_closing d.level n))
-        (λ s. freeze_stands (at_freeze x (Closes (at_down_write d s)))) (λ s. freeze_stands (at_freeze x (Closes (at_down_write d s))))
+        down_write_comes d (λ n. Stands (phase_after (map_next Phase.Freezes (after_closing x d.level n))) (stand_after_closing d.level n))
+        (λ s. freeze_stands (at_freeze x (FreezeStep.Closes (at_down_write d s)))) (λ s. freeze_stands (at_freeze x (FreezeStep.Closes (at_down_write d s))))
         (closed_stands x d.level fits_now.5.0 fits_now.5.1) d.step found_here
 
     -- what is left of the levels
@@ -260,20 +210,20 @@ module _ (c : Config) (lim : IsWithin c) (w : World) (good : IsGood c w) (t : �
           added_same = (down_write_counts_none d d.step (level_added_by (w.views t).events)).2;
           taken_same = (down_write_counts_none d d.step (level_taken_by (w.views t).events)).3;
         })
-        fits_now.5 (here_stands c lim w good t lt x (Closes d) e) stands_then
+        fits_now.5 (here_stands c lim w good t lt x (FreezeStep.Closes d) e) stands_then
         (entered_by_nobody c w good t lt (ap (λ p. has_position (stage_role_of p)) e) d.level)
 
     -- what it does at the tree: nothing, or it begins to clear marks
     tree_role_then : (tree_role_of view_then.trace view_then.phase ≡ OffTree) ⊎ (tree_role_of view_then.trace view_then.phase ≡ Clearing 1)
     tree_role_then =
-        down_write_comes d (λ n. let p : Option Phase = phase_after (map_next Freezes (after_closing x d.level n)) in
+        down_write_comes d (λ n. let p : Option Phase = phase_after (map_next Phase.Freezes (after_closing x d.level n)) in
         (tree_role_of view_then.trace p ≡ OffTree) ⊎ (tree_role_of view_then.trace p ≡ Clearing 1))
         (λ s. inl refl) (λ s. inl refl) (closed_tree x.nodes d.level) d.step found_here
 
     -- what is left of the tree
     tree_left : Holds c (left_world w t words_then view_then) Tree
     tree_left =
-        let was : tree_roles w t ≡ OffTree = here_tree c lim w good t lt x (Closes d) e in
+        let was : tree_roles w t ≡ OffTree = here_tree c lim w good t lt x (FreezeStep.Closes d) e in
         elim tree_role_then [
           | inl now ↦ tree_beside c w good t lt words_then view_then (down_write_words w.words d d.step) (now ∙ sym was)
           | inr now ↦ tree_begins c w good t lt words_then view_then lim (down_write_words w.words d d.step) was now
@@ -284,7 +234,7 @@ module _ (c : Config) (lim : IsWithin c) (w : World) (good : IsGood c w) (t : �
         stage_action_of kind (stages_in w) ≡ adds_here → AsksWhere (model_limits c) (shown c w) adds_here →
         WriterLaw c w t words_then view_then adds_here
     closing_law kind happens adds asks =
-        writer_at_level c w good t lt words_then view_then adds_here kind (here_writes c lim w good t lt x (Closes d) e)
+        writer_at_level c w good t lt words_then view_then adds_here kind (here_writes c lim w good t lt x (FreezeStep.Closes d) e)
         (freeze_comes (after_closing x d.level next_here)) (down_write_words w.words d d.step)
         (record {
           held_same = accesses_stay.0;
@@ -296,10 +246,9 @@ module _ (c : Config) (lim : IsWithin c) (w : World) (good : IsGood c w) (t : �
         fits_then (owns_then ∙ sym (ap owns e)) levels_then tree_left happens adds asks
         (down_write_adds d (λ a. LeavesRest (shown c w) (state_after (shown c w) t a) (shown c w).tree (shown c w).holders)
         (none_leaves c w good t lt) (pass_leaves (shown c w) t d.level) d.step found_here)
-        (down_write_comes d (λ n. holder_role_of (phase_after (map_next Freezes (after_closing x d.level n))) ≡ Apart) (λ s. refl) (λ s. refl)
+        (down_write_comes d (λ n. holder_role_of (phase_after (map_next Phase.Freezes (after_closing x d.level n))) ≡ Apart) (λ s. refl) (λ s. refl)
         (closed_apart d.level x.nodes) d.step found_here ∙ sym (ap holder_role_of e))
 
-    -- an event about other words than the stage's, after which it is at the same place
     closing_stays : (words_then.block ≡ w.words.block) → (p : Place) → place_of d.step ≡ p → IsAtPlace d p next_here →
         IsStageEvent c w good t lt words_then view_then Stays
     closing_stays block p was now =
@@ -312,11 +261,10 @@ module _ (c : Config) (lim : IsWithin c) (w : World) (good : IsGood c w) (t : �
         })
         (place_role x d p next_here now ∙ sym (ap stage_role_of e ∙ ap (λ q. Freezing d.level q (nat_lt 1 d.level)) was))
 
-    -- nobody holds the level that its event passes
-    nobody_inside : (j : ℕ) → adds_here ≡ Some (Pass j) → (y : ℕ) → y < c.tasks → holds_level (w.views y) d.level ≡ false
+    nobody_inside : (j : ℕ) → adds_here ≡ Some (Action.Pass j) → (y : ℕ) → y < c.tasks → holds_level (w.views y) d.level ≡ false
     nobody_inside j is y ly =
         let none : total c.tasks (λ z. if holds_level (w.views z) d.level then 1 else 0) ≡ 0 =
-        passes_finds_nobody c lim w good t lt d fits_now.5 (here_stands c lim w good t lt x (Closes d) e) j is in
+        passes_finds_nobody c lim w good t lt d fits_now.5 (here_stands c lim w good t lt x (FreezeStep.Closes d) e) j is in
         elim (cases_Bool (holds_level (w.views y) d.level)) [
           | inl h ↦
               let one : ◌≡◌ {A = ℕ} (if holds_level (w.views y) d.level then 1 else 0) 1 = rw h refl in
@@ -325,56 +273,56 @@ module _ (c : Config) (lim : IsWithin c) (w : World) (good : IsGood c w) (t : �
         ]
 
   -- the swap, which finds `block` clear
-  sets_block : (d : DownWrite) → IsHere c lim w good t lt x (Closes (at_down_write d SetsBlock)) →
-      Keeps c lim w good t lt x hook (Closes (at_down_write d SetsBlock))
+  sets_block : (d : DownWrite) → IsHere c lim w good t lt x (FreezeStep.Closes (at_down_write d DownWriteStep.SetsBlock)) →
+      Keeps c lim w good t lt x hook (FreezeStep.Closes (at_down_write d DownWriteStep.SetsBlock))
   sets_block d e =
-      let y : DownWrite = at_down_write d SetsBlock in
-      let f : FitsHere c lim w good t lt x (Closes y) = here_fits c lim w good t lt x (Closes y) e in
+      let y : DownWrite = at_down_write d DownWriteStep.SetsBlock in
+      let f : FitsHere c lim w good t lt x (FreezeStep.Closes y) = here_fits c lim w good t lt x (FreezeStep.Closes y) e in
       let clear : w.words.block d.level ≡ 0 =
-      swap_finds_clear c lim w good t lt d f.5.0 f.5.1 (here_stands c lim w good t lt x (Closes y) e) in
+      swap_finds_clear c lim w good t lt d f.5.0 f.5.1 (here_stands c lim w good t lt x (FreezeStep.Closes y) e) in
       let role : stage_role_of (view_then y e).phase ≡ Freezing d.level Closing (nat_lt 1 d.level) =
       swapped_role x y (w.words.block d.level == 0) (eq-eqb (w.words.block d.level) 0 clear) in
       closing_law y e (SetsBlockStage d.level (nat_lt 1 d.level))
       (ap stage_role_of e, ap (playing (record (stages_in w) { block = update w.words.block d.level 1 }) t) role) refl tt
 
   -- a load of a count of the level
-  sums_level : (d : DownWrite) (sum : Sum) → IsHere c lim w good t lt x (Closes (at_down_write d (Sums sum))) →
-      Keeps c lim w good t lt x hook (Closes (at_down_write d (Sums sum)))
+  sums_level : (d : DownWrite) (sum : Sum) → IsHere c lim w good t lt x (FreezeStep.Closes (at_down_write d (DownWriteStep.Sums sum))) →
+      Keeps c lim w good t lt x hook (FreezeStep.Closes (at_down_write d (DownWriteStep.Sums sum)))
   sums_level d sum e =
-      let y : DownWrite = at_down_write d (Sums sum) in
+      let y : DownWrite = at_down_write d (DownWriteStep.Sums sum) in
       let n : Taken = sum_taking sum (w.words.level d.level sum.words) d.processors in
-      let f : FitsHere c lim w good t lt x (Closes y) = here_fits c lim w good t lt x (Closes y) e in
+      let f : FitsHere c lim w good t lt x (FreezeStep.Closes y) = here_fits c lim w good t lt x (FreezeStep.Closes y) e in
       closing_law y e (sum_kind y n)
       (sum_happens y (ap stage_role_of e) f.5.0 f.5.1 n)
       (sum_adds y n)
       (sum_asks y n (nobody_inside y e))
 
   -- each event of the closing of a level
-  pub closes : (d : DownWrite) (s : DownWriteStep) → IsHere c lim w good t lt x (Closes (at_down_write d s)) →
-      Keeps c lim w good t lt x hook (Closes (at_down_write d s))
-  closes d (Enters Loads) e =
-      let y : DownWrite = at_down_write d (Enters Loads) in
+  pub closes : (d : DownWrite) (s : DownWriteStep) → IsHere c lim w good t lt x (FreezeStep.Closes (at_down_write d s)) →
+      Keeps c lim w good t lt x hook (FreezeStep.Closes (at_down_write d s))
+  closes d (DownWriteStep.Enters Transition.Loads) e =
+      let y : DownWrite = at_down_write d (DownWriteStep.Enters Transition.Loads) in
       closing_law y e Stays
-      (closing_stays y e refl Before refl (refl, enter_place d.tasks (transition_after on_enter Loads (w.words.sync d.level)))) refl tt
-  closes d (Enters (Exchanges from to)) e =
-      let y : DownWrite = at_down_write d (Enters (Exchanges from to)) in
+      (closing_stays y e refl Before refl (refl, enter_place d.tasks (transition_after on_enter Transition.Loads (w.words.sync d.level)))) refl tt
+  closes d (DownWriteStep.Enters (Transition.Exchanges from to)) e =
+      let y : DownWrite = at_down_write d (DownWriteStep.Enters (Transition.Exchanges from to)) in
       closing_law y e Stays
       (closing_stays y e refl Before refl
-      (refl, enter_place d.tasks (transition_after on_enter (Exchanges from to) (w.words.sync d.level)))) refl tt
-  closes d (AwaitsSections grace) e =
-      let y : DownWrite = at_down_write d (AwaitsSections grace) in
+      (refl, enter_place d.tasks (transition_after on_enter (Transition.Exchanges from to) (w.words.sync d.level)))) refl tt
+  closes d (DownWriteStep.AwaitsSections grace) e =
+      let y : DownWrite = at_down_write d (DownWriteStep.AwaitsSections grace) in
       closing_law y e Stays (closing_stays y e refl Before refl (sections_place y (looked grace (w.words.section grace.task)))) refl tt
-  closes d (CallsBack Loads) e =
-      let y : DownWrite = at_down_write d (CallsBack Loads) in
+  closes d (DownWriteStep.CallsBack Transition.Loads) e =
+      let y : DownWrite = at_down_write d (DownWriteStep.CallsBack Transition.Loads) in
       closing_law y e Stays
-      (closing_stays y e refl Before refl (refl, callback_place (transition_after on_callback Loads (w.words.sync d.level)))) refl tt
-  closes d (CallsBack (Exchanges from to)) e =
-      let y : DownWrite = at_down_write d (CallsBack (Exchanges from to)) in
+      (closing_stays y e refl Before refl (refl, callback_place (transition_after on_callback Transition.Loads (w.words.sync d.level)))) refl tt
+  closes d (DownWriteStep.CallsBack (Transition.Exchanges from to)) e =
+      let y : DownWrite = at_down_write d (DownWriteStep.CallsBack (Transition.Exchanges from to)) in
       closing_law y e Stays
-      (closing_stays y e refl Before refl (refl, callback_place (transition_after on_callback (Exchanges from to) (w.words.sync d.level))))
+      (closing_stays y e refl Before refl (refl, callback_place (transition_after on_callback (Transition.Exchanges from to) (w.words.sync d.level))))
       refl tt
-  closes d AwaitsPassed e =
-      let y : DownWrite = at_down_write d AwaitsPassed in
+  closes d DownWriteStep.AwaitsPassed e =
+      let y : DownWrite = at_down_write d DownWriteStep.AwaitsPassed in
       closing_law y e Stays (closing_stays y e refl Before refl (passed_place y (unpack (w.words.sync d.level)))) refl tt
-  closes d SetsBlock e = sets_block d e
-  closes d (Sums sum) e = sums_level d sum e
+  closes d DownWriteStep.SetsBlock e = sets_block d e
+  closes d (DownWriteStep.Sums sum) e = sums_level d sum e

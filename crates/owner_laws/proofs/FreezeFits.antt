@@ -1,168 +1,95 @@
 -- What fits after an event of a freeze, of the closing of a level and of its reopening.
 use Rattle.std.proofs.Common.{◌≡◌, ℕ, ◌+◌, ◌-◌, ◌%◌, ◌<◌, ◌≤◌, Bool, true, false, refl, sym, subst, inl, inr, arith}
+use Rattle.std.proofs.lemmas.Bool.{cases_Bool, ltb-true, Decides.eqb_tells}
 use Rattle.std.specs.Prelude.{◌==◌, ◌&&◌, nat_lt, if◌then◌else◌, Option, Some, None, Ok, Err}
-use Rattle.std.proofs.lemmas.Bool.{cases_Bool, ltb-true}
-use Rattle.std.proofs.lemmas.Bool.Decides.{eqb_tells}
-use Rattle.access_model.specs.declared.actions.Action.{Action}
-use Rattle.access_model.specs.declared.actions.Action.TheVariants.{Pass, Clean}
-use Rattle.access_model.specs.declared.errors.GateError.TheVariants.{Busy}
-use Rattle.access_model.specs.declared.replies.Reply.TheVariants.{Unit as UnitReply}
-use Rattle.access_model.specs.declared.replies.Next.{Next}
-use Rattle.access_model.specs.declared.replies.Next.TheVariants.{Go, Wait, Done}
-use Rattle.access_model.specs.Replies.{map_next}
-use Rattle.cpu_words.specs.Hooks.{HookAnswer}
-use Rattle.cpu_words.specs.Names.{IsWord}
-use Rattle.cpu_words.specs.Sums.{sum_taking}
-use Rattle.cpu_words.specs.Touches.{wrap_add}
-use Rattle.cpu_words.specs.declared.sums.Sum.{Sum}
-use Rattle.gated_tree.specs.Phases.{clear_after}
-use Rattle.gated_tree.specs.Nodes.{dirty_in}
-use Rattle.gated_tree.specs.declared.marks.ClearMarks.{ClearMarks}
-use Rattle.percpu_rwsem.specs.SyncWords.{unpack, is_passed, on_enter, on_exit, on_callback}
-use Rattle.percpu_rwsem.specs.Graces.{is_first, passed_on, looked}
+use Rattle.access_model.specs.{Holders.{nobody, held_by}, Replies.map_next}
+use Rattle.access_model.specs.declared.{actions.{Action.Action, Holder.Holder, Holders.Holders}, errors.GateError.GateError, replies.{Next.Next, Reply.Reply}}
+use Rattle.cpu_words.specs.{Hooks.HookAnswer, Names.IsWord, Sums.sum_taking, Touches.wrap_add, declared.sums.Sum.Sum}
+use Rattle.gated_tree.specs.{Nodes.dirty_in, Phases.clear_after, declared.marks.ClearMarks.ClearMarks}
+use Rattle.percpu_rwsem.specs.{Graces.{is_first, passed_on, looked}, SyncWords.{unpack, is_passed, on_enter, on_exit, on_callback}}
 use Rattle.percpu_rwsem.specs.Transitions.{transition_after}
-use Rattle.percpu_rwsem.specs.Writers.{down_write_next, down_write_after, at_down_write, enter_step, callback_step, sections_awaited, passed_awaited, sum_begun, down_write_summed, up_write_next, up_write_after, exit_made}
-use Rattle.percpu_rwsem.specs.declared.grace.Grace.{Grace}
-use Rattle.percpu_rwsem.specs.declared.sync_word.GpState.TheVariants.{Idle}
-use Rattle.percpu_rwsem.specs.declared.sync_word.SyncWord.{SyncWord}
-use Rattle.percpu_rwsem.specs.declared.transitions.Transition.TheVariants.{Loads, Exchanges}
-use Rattle.percpu_rwsem.specs.declared.transitions.TransitionNext.{TransitionNext}
-use Rattle.percpu_rwsem.specs.declared.transitions.TransitionNext.TheVariants.{More, Undefined, Made}
-use Rattle.percpu_rwsem.specs.declared.writers.DownWrite.{DownWrite}
-use Rattle.percpu_rwsem.specs.declared.writers.DownWriteStep.{DownWriteStep}
-use Rattle.percpu_rwsem.specs.declared.writers.DownWriteStep.TheVariants.{Enters, AwaitsSections, CallsBack, AwaitsPassed, SetsBlock, Sums}
-use Rattle.percpu_rwsem.specs.declared.writers.UpWrite.{UpWrite}
-use Rattle.percpu_rwsem.specs.declared.writers.UpWriteStep.{UpWriteStep}
-use Rattle.percpu_rwsem.specs.declared.writers.UpWriteStep.TheVariants.{ClearsBlock, Exits}
-use Rattle.freeze_levels.specs.Freezes.{
-  found_holders,
-  freeze_next,
-  freeze_after,
-  at_freeze,
-  freeze_locked,
-  freeze_closes,
-  level_closed,
-  after_closing,
-  after_clearing,
-  freeze_fails,
-  after_reopening,
-}
-use Rattle.freeze_levels.specs.declared.freezes.Freeze.{Freeze}
-use Rattle.freeze_levels.specs.declared.freezes.FreezeStep.{FreezeStep}
-use Rattle.access_model.specs.declared.actions.Holder.{Holder}
-use Rattle.access_model.specs.declared.actions.Holders.{Holders}
-use Rattle.access_model.specs.Holders.{nobody, held_by}
-use Rattle.freeze_levels.specs.Holders.{holders_in}
+use Rattle.percpu_rwsem.specs.Writers.{down_write_next, down_write_after, at_down_write, enter_step, callback_step, sections_awaited, passed_awaited, sum_begun}
+use Rattle.percpu_rwsem.specs.Writers.{down_write_summed, up_write_next, up_write_after, exit_made}
+use Rattle.percpu_rwsem.specs.declared.{grace.Grace.Grace, sync_word.{GpState.GpState, SyncWord.SyncWord}}
+use Rattle.percpu_rwsem.specs.declared.transitions.{Transition.Transition, TransitionNext.TransitionNext}
+use Rattle.percpu_rwsem.specs.declared.writers.{DownWrite.DownWrite, DownWriteStep.DownWriteStep, UpWrite.UpWrite, UpWriteStep.UpWriteStep}
+use Rattle.freeze_levels.specs.Freezes.{found_holders, freeze_next, freeze_after, at_freeze, freeze_locked, freeze_closes, level_closed, after_closing}
+use Rattle.freeze_levels.specs.Freezes.{after_clearing, freeze_fails, after_reopening}
+use Rattle.freeze_levels.specs.{Holders.holders_in, declared.freezes.{Freeze.Freeze, FreezeStep.FreezeStep}}
+use Rattle.level_laws.proofs.{Exchanges.exchanges_make_transitions, Operations.{enter_knows, callback_knows}}
+use Rattle.level_laws.specs.{Exchanges.Shows, Operations.{HoldsOfNext, KnowsDownWrite, KnowsUpWrite}}
 use Rattle.holder_laws.proofs.Words.{none_held}
-use Rattle.gate_frames.proofs.Cases.{both}
-use Rattle.freeze_levels.specs.declared.freezes.FreezeStep.TheVariants.{
-  LoadsHolders,
-  Holds,
-  Locks,
-  LoadsStage,
-  LoadsSuperblock,
-  CompletesReadOnly,
-  SetsWrite,
-  Unlocks,
-  Closes,
-  LocksAgain,
-  SetsPageFault,
-  Cleans,
-  SetsFs,
-  SetsComplete,
-  Reopens,
-  Releases,
-}
-use Rattle.level_laws.specs.Exchanges.{Shows}
-use Rattle.level_laws.specs.Operations.{HoldsOfNext, KnowsDownWrite, KnowsUpWrite}
-use Rattle.level_laws.proofs.Exchanges.{exchanges_make_transitions}
 use Rattle.gate_world.specs.Configs.{IsWithin, extents_of}
-use Rattle.gate_world.specs.Fits.{
-  DownWriteStepFits,
-  DownWriteFits,
-  UpWriteFits,
-  FreezeFits,
-  PhaseFits,
-  Fits,
-  ActionFits,
-  mounts_by,
-  levels_by,
-}
-use Rattle.gate_world.specs.Operations.{holds_none}
-use Rattle.gate_world.specs.Views.{phase_after}
-use Rattle.gate_world.specs.declared.config.Config.{Config}
-use Rattle.gate_world.specs.declared.work.Phase.TheVariants.{Freezes}
-use Rattle.gate_frames.proofs.Keeps.{by_bool}
+use Rattle.gate_world.specs.Fits.{DownWriteStepFits, DownWriteFits, UpWriteFits, FreezeFits, PhaseFits, Fits, ActionFits, mounts_by, levels_by}
+use Rattle.gate_world.specs.{Operations.holds_none, Views.phase_after, declared.{config.Config.Config, work.Phase.Phase}}
+use Rattle.gate_frames.proofs.{Cases.both, Keeps.by_bool}
 
 -- the word of each event of a down-write is there
 down_write_word : (c : Config) (d : DownWrite) (s : DownWriteStep) → 1 ≤ d.level → d.level ≤ 3 → DownWriteStepFits c s →
     IsWord (extents_of c) (down_write_next d s).0
-down_write_word c d (Enters Loads) l1 l3 f = (l1, l3)
-down_write_word c d (AwaitsSections grace) l1 l3 f = f.1
-down_write_word c d (CallsBack Loads) l1 l3 f = (l1, l3)
-down_write_word c d (Sums sum) l1 l3 f = (l1, l3, f)
+down_write_word c d (DownWriteStep.Enters Transition.Loads) l1 l3 f = (l1, l3)
+down_write_word c d (DownWriteStep.AwaitsSections grace) l1 l3 f = f.1
+down_write_word c d (DownWriteStep.CallsBack Transition.Loads) l1 l3 f = (l1, l3)
+down_write_word c d (DownWriteStep.Sums sum) l1 l3 f = (l1, l3, f)
 down_write_word c d other l1 l3 f = (l1, l3)
 
 -- and of each event of an up-write
-up_write_word : (c : Config) (u : UpWrite) (s : UpWriteStep) → 1 ≤ u.level → u.level ≤ 3 → IsWord (extents_of c) (up_write_next u s).0
-up_write_word c u ClearsBlock l1 l3 = (l1, l3)
-up_write_word c u (Exits Loads) l1 l3 = (l1, l3)
-up_write_word c u (Exits (Exchanges from to)) l1 l3 = (l1, l3)
+pub up_write_word : (c : Config) (u : UpWrite) (s : UpWriteStep) → 1 ≤ u.level → u.level ≤ 3 → IsWord (extents_of c) (up_write_next u s).0
+up_write_word c u UpWriteStep.ClearsBlock l1 l3 = (l1, l3)
+up_write_word c u (UpWriteStep.Exits Transition.Loads) l1 l3 = (l1, l3)
+up_write_word c u (UpWriteStep.Exits (Transition.Exchanges from to)) l1 l3 = (l1, l3)
 
 -- so it is of each event of a freeze
 pub freeze_word : (c : Config) (x : Freeze) (s : FreezeStep) (hook : HookAnswer) → FreezeFits c x.holder s →
     IsWord (extents_of c) (freeze_next x s hook).0
-freeze_word c x (Closes d) hook f = down_write_word c d d.step f.0 f.1 f.4
-freeze_word c x (Cleans marks) hook f = f.2
-freeze_word c x SetsFs (Ok answer) f = tt
-freeze_word c x SetsFs (Err code) f = tt
-freeze_word c x SetsComplete (Ok answer) f = tt
-freeze_word c x SetsComplete (Err code) f = tt
-freeze_word c x (Reopens u code) hook f = up_write_word c u u.step f.0 f.1
+freeze_word c x (FreezeStep.Closes d) hook f = down_write_word c d d.step f.0 f.1 f.4
+freeze_word c x (FreezeStep.Cleans marks) hook f = f.2
+freeze_word c x FreezeStep.SetsFs (Ok answer) f = tt
+freeze_word c x FreezeStep.SetsFs (Err code) f = tt
+freeze_word c x FreezeStep.SetsComplete (Ok answer) f = tt
+freeze_word c x FreezeStep.SetsComplete (Err code) f = tt
+freeze_word c x (FreezeStep.Reopens u code) hook f = up_write_word c u u.step f.0 f.1
 freeze_word c x other hook f = tt
 
 -- What comes after a look at who holds a freeze: a refusal, where its own holder does, or else the store with it.
-pub found_cases : (x : Freeze) (held : Holders) (P : FreezeStep → Type 0) → (held_by held x.holder ≡ true → P (Releases (Err Busy))) →
-    (held_by held x.holder ≡ false → P (Holds held)) → P (found_holders x held)
-found_cases x held P own other = both (held_by held x.holder) (λ b. P (if b then Releases (Err Busy) else Holds held)) own other
+pub found_cases : (x : Freeze) (held : Holders) (P : FreezeStep → Type 0) → (held_by held x.holder ≡ true → P (FreezeStep.Releases (Err GateError.Busy))) →
+    (held_by held x.holder ≡ false → P (FreezeStep.Holds held)) → P (found_holders x held)
+found_cases x held P own other = both (held_by held x.holder) (λ b. P (if b then FreezeStep.Releases (Err GateError.Busy) else FreezeStep.Holds held)) own other
 
 -- an action that moves no access: with it a task holds what it held
 abbrev MovesNone : Option Action → Type 0
 MovesNone a = (held : ℕ → ℕ) (levels : ℕ → Bool) → ActionFits held a × (mounts_by a held ≡ held) × (levels_by a levels ≡ levels)
 
--- so is one that is there under a condition, where it is one
 if_moves : (b : Bool) (a : Action) → MovesNone (Some a) → MovesNone (if b then Some a else None)
 if_moves true a h held levels = h held levels
 if_moves false a h held levels = (tt, refl, refl)
 
--- what a load of a word of a sum adds moves no access
 summed_moves : (d : DownWrite) (sum : Sum) (found : ℕ) → MovesNone (down_write_summed d (sum_taking sum found d.processors)).1
 summed_moves d sum found held levels =
     elim (cases_Bool (nat_lt (sum.words + 1) d.processors)) [
       | inl h ↦ rw h (tt, refl, refl)
-      | inr h ↦ rw h (if_moves (wrap_add sum.total found == 0) (Pass d.level) (λ f g. (tt, refl, refl)) held levels)
+      | inr h ↦ rw h (if_moves (wrap_add sum.total found == 0) (Action.Pass d.level) (λ f g. (tt, refl, refl)) held levels)
     ]
 
--- no event of a down-write moves one
 down_write_moves : (d : DownWrite) (s : DownWriteStep) (found : ℕ) → MovesNone (down_write_after d s found).1
-down_write_moves d (Sums sum) found held levels = summed_moves d sum found held levels
+down_write_moves d (DownWriteStep.Sums sum) found held levels = summed_moves d sum found held levels
 down_write_moves d other found held levels = (tt, refl, refl)
 
 -- none of an up-write
 up_write_moves : (u : UpWrite) (s : UpWriteStep) (found : ℕ) → MovesNone (up_write_after u s found).1
-up_write_moves u ClearsBlock found held levels = (tt, refl, refl)
-up_write_moves u (Exits transition) found held levels = (tt, refl, refl)
+up_write_moves u UpWriteStep.ClearsBlock found held levels = (tt, refl, refl)
+up_write_moves u (UpWriteStep.Exits transition) found held levels = (tt, refl, refl)
 
 -- and none of a freeze
 freeze_moves : (x : Freeze) (s : FreezeStep) (found : ℕ) (hook : HookAnswer) → MovesNone (freeze_after x s found hook).1
-freeze_moves x (Closes d) found hook held levels = down_write_moves d d.step found held levels
-freeze_moves x (Cleans marks) found hook held levels =
-    if_moves (dirty_in found == 1) (Clean marks.node) (λ f g. (tt, refl, refl)) held levels
-freeze_moves x SetsFs found (Ok answer) held levels = (tt, refl, refl)
-freeze_moves x SetsFs found (Err code) held levels = (tt, refl, refl)
-freeze_moves x SetsComplete found (Ok answer) held levels = (tt, refl, refl)
-freeze_moves x SetsComplete found (Err code) held levels = (tt, refl, refl)
-freeze_moves x (Reopens u code) found hook held levels = up_write_moves u u.step found held levels
+freeze_moves x (FreezeStep.Closes d) found hook held levels = down_write_moves d d.step found held levels
+freeze_moves x (FreezeStep.Cleans marks) found hook held levels =
+    if_moves (dirty_in found == 1) (Action.Clean marks.node) (λ f g. (tt, refl, refl)) held levels
+freeze_moves x FreezeStep.SetsFs found (Ok answer) held levels = (tt, refl, refl)
+freeze_moves x FreezeStep.SetsFs found (Err code) held levels = (tt, refl, refl)
+freeze_moves x FreezeStep.SetsComplete found (Ok answer) held levels = (tt, refl, refl)
+freeze_moves x FreezeStep.SetsComplete found (Err code) held levels = (tt, refl, refl)
+freeze_moves x (FreezeStep.Reopens u code) found hook held levels = up_write_moves u u.step found held levels
 freeze_moves x other found hook held levels = (tt, refl, refl)
 
 -- its action can be done
@@ -170,27 +97,14 @@ pub freeze_acts : (x : Freeze) (s : FreezeStep) (held : ℕ → ℕ) (found : �
     ActionFits held (freeze_after x s found hook).1
 freeze_acts x s held found hook = (freeze_moves x s found hook held (λ i. false)).0
 
--- a writer that goes on with its enter knows the words of its exchange
-knows_enter : (tasks found v : ℕ) (n : TransitionNext) → Shows on_enter found v n → KnowsDownWrite (enter_step tasks n)
-knows_enter tasks found v (More transition) h = h.1
-knows_enter tasks found v (Made Idle) h = tt
-knows_enter tasks found v other h = tt
-
--- with the transition after its grace period
-knows_callback : (found v : ℕ) (n : TransitionNext) → Shows on_callback found v n → KnowsDownWrite (callback_step n)
-knows_callback found v (More transition) h = h.1
-knows_callback found v Undefined h = tt
-knows_callback found v (Made state) h = tt
-
 module _ (c : Config) (within : IsWithin c) where
   -- the step after its enter fits: a grace period that begins has all tasks before it
   enter_fits : (tasks : ℕ) → tasks ≡ c.tasks → (n : TransitionNext) → DownWriteStepFits c (enter_step tasks n)
-  enter_fits tasks same (Made Idle) = (same, within.some_task)
+  enter_fits tasks same (TransitionNext.Made GpState.Idle) = (same, within.some_task)
   enter_fits tasks same other = tt
 
-  -- so does the one after its own transition
   callback_fits : (n : TransitionNext) → DownWriteStepFits c (callback_step n)
-  callback_fits (More transition) = tt
+  callback_fits (TransitionNext.More transition) = tt
   callback_fits other = tt
 
   module _ (d : DownWrite) (l1 : 1 ≤ d.level) (l3 : d.level ≤ 3) (same : d.tasks ≡ c.tasks) (processors : d.processors ≡ c.processors) where
@@ -198,7 +112,6 @@ module _ (c : Config) (within : IsWithin c) where
     abbrev Goes : Next DownWrite → Type 0
     Goes n = HoldsOfNext (DownWriteFits c) n
 
-    -- where a task is passed
     passed_goes : (g : Grace) → g.tasks ≡ c.tasks → Goes (sections_awaited d (passed_on g))
     passed_goes g all =
         elim (cases_Bool (nat_lt (g.task + 1) g.tasks)) [
@@ -206,7 +119,6 @@ module _ (c : Config) (within : IsWithin c) where
           | inr h ↦ rw h (l1, l3, same, processors, tt, tt)
         ]
 
-    -- where a section word is loaded
     looked_goes : (g : Grace) (found : ℕ) → g.tasks ≡ c.tasks → g.task < c.tasks → Goes (sections_awaited d (looked g found))
     looked_goes g found all more =
         elim (cases_Bool ((found % 2 == 1) && is_first g.first found)) [
@@ -214,15 +126,13 @@ module _ (c : Config) (within : IsWithin c) where
           | inr h ↦ rw h (passed_goes g all)
         ]
 
-    -- where the sync word is loaded
     passed_found_goes : (o : Option SyncWord) → Goes (passed_awaited d o)
     passed_found_goes None = (l1, l3, same, processors, tt, tt)
     passed_found_goes (Some word) =
         by_bool (is_passed word.state)
-        (λ b. Goes (if b then Go (at_down_write d SetsBlock) else Wait (at_down_write d AwaitsPassed)))
+        (λ b. Goes (if b then Next.Go (at_down_write d DownWriteStep.SetsBlock) else Next.Wait (at_down_write d DownWriteStep.AwaitsPassed)))
         (l1, l3, same, processors, tt, tt) (l1, l3, same, processors, tt, tt)
 
-    -- where a word of the sum is loaded
     summed_goes : (sum : Sum) (found : ℕ) → Goes (down_write_summed d (sum_taking sum found d.processors)).0
     summed_goes sum found =
         elim (cases_Bool (nat_lt (sum.words + 1) d.processors)) [
@@ -234,45 +144,44 @@ module _ (c : Config) (within : IsWithin c) where
           ]
         ]
 
-    -- so it is after each event
     down_write_goes : (s : DownWriteStep) (found : ℕ) → DownWriteStepFits c s → KnowsDownWrite s → Goes (down_write_after d s found).0
-    down_write_goes (Enters transition) found f k =
+    down_write_goes (DownWriteStep.Enters transition) found f k =
         let shows = exchanges_make_transitions on_enter d.level found transition k in (
           l1,
           l3,
           same,
           processors,
           enter_fits d.tasks same (transition_after on_enter transition found),
-          knows_enter d.tasks found _ (transition_after on_enter transition found) shows,
+          enter_knows d.tasks found _ (transition_after on_enter transition found) shows,
         )
-    down_write_goes (AwaitsSections grace) found f k = looked_goes grace found f.0 f.1
-    down_write_goes (CallsBack transition) found f k =
+    down_write_goes (DownWriteStep.AwaitsSections grace) found f k = looked_goes grace found f.0 f.1
+    down_write_goes (DownWriteStep.CallsBack transition) found f k =
         let shows = exchanges_make_transitions on_callback d.level found transition k in (
           l1,
           l3,
           same,
           processors,
           callback_fits (transition_after on_callback transition found),
-          knows_callback found _ (transition_after on_callback transition found) shows,
+          callback_knows found _ (transition_after on_callback transition found) shows,
         )
-    down_write_goes AwaitsPassed found f k = passed_found_goes (unpack found)
-    down_write_goes SetsBlock found f k =
-        by_bool (found == 0) (λ b. Goes (if b then Go (at_down_write d sum_begun) else Wait (at_down_write d SetsBlock)))
+    down_write_goes DownWriteStep.AwaitsPassed found f k = passed_found_goes (unpack found)
+    down_write_goes DownWriteStep.SetsBlock found f k =
+        by_bool (found == 0) (λ b. Goes (if b then Next.Go (at_down_write d sum_begun) else Next.Wait (at_down_write d DownWriteStep.SetsBlock)))
         (l1, l3, same, processors, within.some_processor, tt) (l1, l3, same, processors, tt, tt)
-    down_write_goes (Sums sum) found f k = summed_goes sum found
+    down_write_goes (DownWriteStep.Sums sum) found f k = summed_goes sum found
 
   -- what comes after an event of the transition of an up-write fits
   exits_goes : (u : UpWrite) (found v : ℕ) → 1 ≤ u.level → u.level ≤ 3 → (n : TransitionNext) → Shows on_exit found v n →
       HoldsOfNext UpWriteFits (exit_made u n)
-  exits_goes u found v l1 l3 (More transition) h = (l1, l3, h.1)
-  exits_goes u found v l1 l3 Undefined h = (l1, l3, tt)
-  exits_goes u found v l1 l3 (Made state) h = tt
+  exits_goes u found v l1 l3 (TransitionNext.More transition) h = (l1, l3, h.1)
+  exits_goes u found v l1 l3 TransitionNext.Undefined h = (l1, l3, tt)
+  exits_goes u found v l1 l3 (TransitionNext.Made state) h = tt
 
   -- so it is after each event of an up-write
   up_write_goes : (u : UpWrite) (s : UpWriteStep) (found : ℕ) → 1 ≤ u.level → u.level ≤ 3 → KnowsUpWrite s →
       HoldsOfNext UpWriteFits (up_write_after u s found).0
-  up_write_goes u ClearsBlock found l1 l3 k = (l1, l3, tt)
-  up_write_goes u (Exits transition) found l1 l3 k =
+  up_write_goes u UpWriteStep.ClearsBlock found l1 l3 k = (l1, l3, tt)
+  up_write_goes u (UpWriteStep.Exits transition) found l1 l3 k =
       exits_goes u found _ l1 l3 (transition_after on_exit transition found)
       (exchanges_make_transitions on_exit u.level found transition k)
 
@@ -281,7 +190,6 @@ module _ (c : Config) (within : IsWithin c) where
       FreezeFits c x.holder (freeze_closes x level)
   closes_fits x level all processors l1 l3 = (l1, l3, all, processors, tt, tt)
 
-  -- what comes after a level is closed
   closed_fits : (holder : Holder) (level nodes : ℕ) → nodes ≡ c.nodes → FreezeFits c holder (level_closed level nodes)
   closed_fits holder level nodes same =
       elim (cases_Bool (level == 1)) [
@@ -301,80 +209,75 @@ module _ (c : Config) (within : IsWithin c) where
       (processors : x.processors ≡ c.processors) (nodes : x.nodes ≡ c.nodes) (none : holds_none levels ≡ true) where
     -- what comes after an event fits these accesses
     abbrev NextFits : Next Freeze → Type 0
-    NextFits next = Fits c t held levels (phase_after (map_next Freezes next))
+    NextFits next = Fits c t held levels (phase_after (map_next Phase.Freezes next))
 
-    -- a step that fits
-    goes_to : (s : FreezeStep) → FreezeFits c x.holder s → NextFits (Go (at_freeze x s))
+    goes_to : (s : FreezeStep) → FreezeFits c x.holder s → NextFits (Next.Go (at_freeze x s))
     goes_to s f = (task, all, processors, nodes, none, f)
 
-    -- what comes after an event of the closing of a level
     closing_fits : (level : ℕ) (n : Next DownWrite) → HoldsOfNext (DownWriteFits c) n → NextFits (after_closing x level n)
-    closing_fits level (Go d) h = goes_to (Closes d) h
-    closing_fits level (Wait d) h = goes_to (Closes d) h
-    closing_fits level (Done answer) h = goes_to (level_closed level x.nodes) (closed_fits x.holder level x.nodes nodes)
+    closing_fits level (Next.Go d) h = goes_to (FreezeStep.Closes d) h
+    closing_fits level (Next.Wait d) h = goes_to (FreezeStep.Closes d) h
+    closing_fits level (Next.Done answer) h = goes_to (level_closed level x.nodes) (closed_fits x.holder level x.nodes nodes)
 
-    -- of its reopening
     reopening_fits : (level code : ℕ) → level ≤ 3 → (n : Next UpWrite) → HoldsOfNext UpWriteFits n →
         NextFits (after_reopening x level code n)
-    reopening_fits level code l3 (Go u) h = goes_to (Reopens u code) h
-    reopening_fits level code l3 (Wait u) h = goes_to (Reopens u code) h
-    reopening_fits level code l3 (Done answer) h = goes_to (freeze_fails (level - 1) code) (fails_fits x.holder (level - 1) code (omega (arith, l3)))
+    reopening_fits level code l3 (Next.Go u) h = goes_to (FreezeStep.Reopens u code) h
+    reopening_fits level code l3 (Next.Wait u) h = goes_to (FreezeStep.Reopens u code) h
+    reopening_fits level code l3 (Next.Done answer) h = goes_to (freeze_fails (level - 1) code) (fails_fits x.holder (level - 1) code (omega (arith, l3)))
 
-    -- of the clearing of the marks
     clearing_fits : (marks : ClearMarks) (found : ℕ) → marks.nodes ≡ c.nodes → NextFits (after_clearing x (clear_after marks found).0)
     clearing_fits marks found same =
         elim (cases_Bool (nat_lt (marks.node + 1) marks.nodes)) [
-          | inl h ↦ rw h (goes_to (Cleans (record marks { node = marks.node + 1 }))
+          | inl h ↦ rw h (goes_to (FreezeStep.Cleans (record marks { node = marks.node + 1 }))
               (same, omega arith, omega (arith, same, ltb-true (marks.node + 1) marks.nodes h)))
-          | inr h ↦ rw h (goes_to SetsFs tt)
+          | inr h ↦ rw h (goes_to FreezeStep.SetsFs tt)
         ]
 
     -- where the lock is tried for
     locked_fits : (again s : FreezeStep) (found : ℕ) → FreezeFits c x.holder again → FreezeFits c x.holder s → NextFits (freeze_locked x again found s)
     locked_fits again s found f g =
-        by_bool (found == 0) (λ b. NextFits (if b then Go (at_freeze x s) else Wait (at_freeze x again))) (goes_to s g) (goes_to again f)
+        by_bool (found == 0) (λ b. NextFits (if b then Next.Go (at_freeze x s) else Next.Wait (at_freeze x again))) (goes_to s g) (goes_to again f)
 
-    -- so it is after each event of a freeze
     next_fits : (s : FreezeStep) (found : ℕ) (hook : HookAnswer) → FreezeFits c x.holder s → NextFits (freeze_after x s found hook).0
-    next_fits Locks found hook f = locked_fits Locks LoadsStage found tt tt
-    next_fits LoadsStage found hook f =
+    next_fits FreezeStep.Locks found hook f = locked_fits FreezeStep.Locks FreezeStep.LoadsStage found tt tt
+    next_fits FreezeStep.LoadsStage found hook f =
         elim (cases_Bool (found == 0)) [
-          | inl h ↦ rw h (goes_to LoadsSuperblock tt)
+          | inl h ↦ rw h (goes_to FreezeStep.LoadsSuperblock tt)
           | inr h ↦ elim (cases_Bool (found == 4)) [
-            | inl k ↦ rw (h, k) (goes_to LoadsHolders tt)
-            | inr k ↦ rw (h, k) (goes_to (Releases (Err Busy)) tt)
+            | inl k ↦ rw (h, k) (goes_to FreezeStep.LoadsHolders tt)
+            | inr k ↦ rw (h, k) (goes_to (FreezeStep.Releases (Err GateError.Busy)) tt)
           ]
         ]
-    next_fits LoadsHolders found hook f =
-        found_cases x (holders_in found) (λ s. NextFits (Go (at_freeze x s))) (λ own. goes_to (Releases (Err Busy)) tt)
-        (λ other. goes_to (Holds (holders_in found)) other)
-    next_fits (Holds beside) found hook f = goes_to (Releases (Ok UnitReply)) tt
-    next_fits LoadsSuperblock found hook f =
-        elim (cases_Bool (found == 0)) [ inl h ↦ rw h (goes_to SetsWrite tt) | inr h ↦ rw h (goes_to CompletesReadOnly tt) ]
-    next_fits CompletesReadOnly found hook f = goes_to (Holds nobody) (none_held x.holder)
-    next_fits SetsWrite found hook f = goes_to Unlocks tt
-    next_fits Unlocks found hook f = goes_to (freeze_closes x 1) (closes_fits x 1 all processors (omega arith) (omega arith))
-    next_fits (Closes d) found hook f =
+    next_fits FreezeStep.LoadsHolders found hook f =
+        found_cases x (holders_in found) (λ s. NextFits (Next.Go (at_freeze x s))) (λ own. goes_to (FreezeStep.Releases (Err GateError.Busy)) tt)
+        (λ other. goes_to (FreezeStep.Holds (holders_in found)) other)
+    next_fits (FreezeStep.Holds beside) found hook f = goes_to (FreezeStep.Releases (Ok Reply.Unit)) tt
+    next_fits FreezeStep.LoadsSuperblock found hook f =
+        elim (cases_Bool (found == 0)) [ inl h ↦ rw h (goes_to FreezeStep.SetsWrite tt) | inr h ↦ rw h (goes_to FreezeStep.CompletesReadOnly tt) ]
+    next_fits FreezeStep.CompletesReadOnly found hook f = goes_to (FreezeStep.Holds nobody) (none_held x.holder)
+    next_fits FreezeStep.SetsWrite found hook f = goes_to FreezeStep.Unlocks tt
+    next_fits FreezeStep.Unlocks found hook f = goes_to (freeze_closes x 1) (closes_fits x 1 all processors (omega arith) (omega arith))
+    next_fits (FreezeStep.Closes d) found hook f =
         closing_fits d.level (down_write_after d d.step found).0 (down_write_goes d f.0 f.1 f.2 f.3 d.step found f.4 f.5)
-    next_fits LocksAgain found hook f = locked_fits LocksAgain SetsPageFault found tt tt
-    next_fits SetsPageFault found hook f = goes_to (freeze_closes x 2) (closes_fits x 2 all processors (omega arith) (omega arith))
-    next_fits (Cleans marks) found hook f = clearing_fits marks found f.0
-    next_fits SetsFs found (Ok answer) f = goes_to (freeze_closes x 3) (closes_fits x 3 all processors (omega arith) (omega arith))
-    next_fits SetsFs found (Err code) f = goes_to (freeze_fails 2 code) (fails_fits x.holder 2 code (omega arith))
-    next_fits SetsComplete found (Ok answer) f = goes_to (Holds nobody) (none_held x.holder)
-    next_fits SetsComplete found (Err code) f = goes_to (freeze_fails 3 code) (fails_fits x.holder 3 code (omega arith))
-    next_fits (Reopens u code) found hook f =
+    next_fits FreezeStep.LocksAgain found hook f = locked_fits FreezeStep.LocksAgain FreezeStep.SetsPageFault found tt tt
+    next_fits FreezeStep.SetsPageFault found hook f = goes_to (freeze_closes x 2) (closes_fits x 2 all processors (omega arith) (omega arith))
+    next_fits (FreezeStep.Cleans marks) found hook f = clearing_fits marks found f.0
+    next_fits FreezeStep.SetsFs found (Ok answer) f = goes_to (freeze_closes x 3) (closes_fits x 3 all processors (omega arith) (omega arith))
+    next_fits FreezeStep.SetsFs found (Err code) f = goes_to (freeze_fails 2 code) (fails_fits x.holder 2 code (omega arith))
+    next_fits FreezeStep.SetsComplete found (Ok answer) f = goes_to (FreezeStep.Holds nobody) (none_held x.holder)
+    next_fits FreezeStep.SetsComplete found (Err code) f = goes_to (freeze_fails 3 code) (fails_fits x.holder 3 code (omega arith))
+    next_fits (FreezeStep.Reopens u code) found hook f =
         reopening_fits u.level code f.1 (up_write_after u u.step found).0 (up_write_goes u u.step found f.0 f.1 f.2)
-    next_fits (Releases answer) found hook f = tt
+    next_fits (FreezeStep.Releases answer) found hook f = tt
 
   -- what comes after each event of a freeze fits what its action leaves
   pub freeze_goes : (t : ℕ) (held : ℕ → ℕ) (levels : ℕ → Bool) (x : Freeze) (s : FreezeStep) (found : ℕ) (hook : HookAnswer) →
-      PhaseFits c t held levels (Freezes (at_freeze x s)) →
+      PhaseFits c t held levels (Phase.Freezes (at_freeze x s)) →
       Fits c t (mounts_by (freeze_after x s found hook).1 held) (levels_by (freeze_after x s found hook).1 levels)
-      (phase_after (map_next Freezes (freeze_after x s found hook).0))
+      (phase_after (map_next Phase.Freezes (freeze_after x s found hook).0))
   freeze_goes t held levels x s found hook f =
       let same = freeze_moves x s found hook held levels in
-      let p = phase_after (map_next Freezes (freeze_after x s found hook).0) in
+      let p = phase_after (map_next Phase.Freezes (freeze_after x s found hook).0) in
       let h : Fits c t held levels p = next_fits t held levels x f.0 f.1 f.2 f.3 f.4 s found hook f.5 in
       let g : Fits c t held (levels_by (freeze_after x s found hook).1 levels) p =
       subst (λ k. Fits c t held k p) (sym same.2) h in

@@ -1,45 +1,30 @@
 -- All that is proved of a freeze, from the law of its events and from what its trace tells.
-use Rattle.std.proofs.Common.{◌≡◌, ℕ, ◌<◌, refl, subst}
-use Rattle.std.specs.Prelude.{Some}
-use Rattle.freeze_levels.specs.declared.freezes.Freeze.{Freeze}
-use Rattle.gate_world.specs.Fits.{Fits, PhaseFits}
-use Rattle.gate_world.specs.Rules.{IsGood, Fitting, Stages}
-use Rattle.gate_world.specs.Views.{held_at, holds_level}
-use Rattle.gate_world.specs.Worlds.{World, after_step}
-use Rattle.gate_world.specs.declared.config.Config.{Config}
-use Rattle.gate_world.specs.declared.operations.Op.TheVariants.{Freeze as FreezeOp}
-use Rattle.gate_world.specs.declared.work.Phase.TheVariants.{Freezes}
-use Rattle.gate_frames.proofs.Keeps.{none_agree, word_among, PhaseKeeps, OpKeeps}
-use Rattle.gate_frames.proofs.Snapshots.{completes_none}
+use Rattle.std.{proofs.Common.{◌≡◌, ℕ, ◌<◌, refl, subst}, specs.Prelude.Some}
 use Rattle.access_model.specs.declared.actions.Holder.{Holder}
-use Rattle.freeze_levels.specs.declared.freezes.FreezeStep.TheVariants.{LoadsHolders}
+use Rattle.freeze_levels.specs.declared.freezes.{Freeze.Freeze, FreezeStep.FreezeStep}
 use Rattle.stage_laws.specs.Roles.{KnowsStage}
-use Rattle.gate_world.specs.Stages.{freeze_stage_role, stage_role_of}
-use Rattle.owner_laws.proofs.FreezeFits.{freeze_word, freeze_acts, freeze_goes}
-use Rattle.owner_laws.proofs.FreezeCauses.{freeze_stays, freeze_own}
-use Rattle.owner_laws.proofs.FreezeWaits.{freeze_waits}
-use Rattle.owner_laws.proofs.FreezeEvents.{freeze_keeps}
-use Rattle.owner_laws.proofs.FreezeRuns.{freeze_runs}
-use Rattle.owner_laws.proofs.FreezeTraces.{freeze_tells, freeze_short, freeze_restores}
+use Rattle.gate_world.specs.{Fits.{Fits, PhaseFits}, Rules.{IsGood, Fitting, Stages}, Stages.{freeze_stage_role, stage_role_of}, Views.{held_at, holds_level}}
+use Rattle.gate_world.specs.{Worlds.{World, after_step}, declared.{config.Config.Config, operations.Op.Op, work.Phase.Phase}}
+use Rattle.gate_frames.proofs.{Keeps.{none_agree, word_among, PhaseKeeps, OpKeeps}, Snapshots.completes_none}
+use Rattle.owner_laws.proofs.{FreezeCauses.{freeze_stays, freeze_own}, FreezeEvents.freeze_keeps, FreezeFits.{freeze_word, freeze_acts, freeze_goes}}
+use Rattle.owner_laws.proofs.{FreezeRuns.freeze_runs, FreezeTraces.{freeze_tells, freeze_short, freeze_restores}, FreezeWaits.freeze_waits}
 
 -- what a freeze says of its task's accesses, in a good world
-fits_here : (c : Config) (x : Freeze) (w : World) → IsGood c w → (t : ℕ) → t < c.tasks → (w.views t).phase ≡ Some (Freezes x) →
-    PhaseFits c t (held_at (w.views t)) (holds_level (w.views t)) (Freezes x)
+fits_here : (c : Config) (x : Freeze) (w : World) → IsGood c w → (t : ℕ) → t < c.tasks → (w.views t).phase ≡ Some (Phase.Freezes x) →
+    PhaseFits c t (held_at (w.views t)) (holds_level (w.views t)) (Phase.Freezes x)
 fits_here c x w good t lt e = subst (Fits c t (held_at (w.views t)) (holds_level (w.views t))) e (good Fitting t lt)
 
--- a freeze that is to load who holds one is at stage 4
-stage_here : (c : Config) (x : Freeze) (w : World) → IsGood c w → (t : ℕ) → t < c.tasks → (w.views t).phase ≡ Some (Freezes x) →
-    x.step ≡ LoadsHolders → w.words.stage ≡ 4
+stage_here : (c : Config) (x : Freeze) (w : World) → IsGood c w → (t : ℕ) → t < c.tasks → (w.views t).phase ≡ Some (Phase.Freezes x) →
+    x.step ≡ FreezeStep.LoadsHolders → w.words.stage ≡ 4
 stage_here c x w good t lt e is =
     (subst (λ s. KnowsStage w.words.stage w.words.sb (freeze_stage_role x.nodes s)) is
     (subst (λ p. KnowsStage w.words.stage w.words.sb (stage_role_of p)) e ((good Stages).knows t lt))).0
 
--- of each of its phases
-pub freeze_phase : (c : Config) (x : Freeze) → PhaseKeeps c (Freezes x)
+pub freeze_phase : (c : Config) (x : Freeze) → PhaseKeeps c (Phase.Freezes x)
 freeze_phase c x = record {
   step = λ within w good t lt hook e. freeze_keeps c within w good t lt hook x e;
   runs = λ within w good t lt hook e. freeze_runs c within w good t lt hook x e;
-  completes = λ within w good t lt hook e. completes_none c w t hook (Freezes x) (λ trace found. refl);
+  completes = λ within w good t lt hook e. completes_none c w t hook (Phase.Freezes x) (λ trace found. refl);
   word = λ n le t lt held levels hook f. word_among c n le _ (freeze_word c x x.step hook f.5);
   acts = λ within t held levels found hook f. freeze_acts x x.step held found hook;
   goes = λ within t held levels found hook f. freeze_goes c within t held levels x x.step found hook f;
@@ -47,14 +32,13 @@ freeze_phase c x = record {
       (fits.0, fits.1, fits.2, fits.3, rw (← none_agree c t f g h k mounts levels) fits.4, fits.5);
   stays = λ w next earlier after t f e was quiet h. freeze_stays c t w next earlier after x x.step f.5 e was quiet h;
   causes = λ w earlier good t lt hook e after is h.
-      freeze_own c t w (after_step w t (Freezes x) hook) earlier after x hook x.step (fits_here c x w good t lt e).5
+      freeze_own c t w (after_step w t (Phase.Freezes x) hook) earlier after x hook x.step (fits_here c x w good t lt e).5
       (λ is_load. (stage_here c x w good t lt e is_load)) e refl h is;
   reasons = λ within w earlier good t lt hook e cause.
       freeze_waits c w earlier good t lt x hook x.step e (fits_here c x w good t lt e).5 cause;
 }
 
--- of its beginning and its trace
-pub freeze_op : (c : Config) (holder : Holder) → OpKeeps c (FreezeOp holder)
+pub freeze_op : (c : Config) (holder : Holder) → OpKeeps c (Op.Freeze holder)
 freeze_op c holder = record {
   fits = λ t held levels there order room. (refl, refl, refl, refl, order, tt);
   starts_idle = λ t. assumption;

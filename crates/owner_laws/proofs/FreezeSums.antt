@@ -1,43 +1,17 @@
 -- What the trace of an operation says while it closes a level: which events are added to it, and why it waits.
 use Rattle.std.proofs.Common.{◌≡◌, ℕ, suc, ◌+◌, ◌%◌, ◌<◌, ◌⊎◌, true, refl, ap, ◌∙◌, subst, inl, inr, add-one, arith}
+use Rattle.std.proofs.lemmas.Bool.{ltb-true, ltb-false, cases_Bool, Decides.eqb_tells}
 use Rattle.std.specs.Prelude.{◌==◌, nat_lt, Option, Some, None, List, ◌∷◌}
-use Rattle.std.proofs.lemmas.Bool.{ltb-true, ltb-false, cases_Bool}
-use Rattle.std.proofs.lemmas.Bool.Decides.{eqb_tells}
-use Rattle.access_model.specs.declared.actions.Action.{Action}
-use Rattle.access_model.specs.declared.actions.Action.TheVariants.{Pass}
-use Rattle.access_model.specs.declared.replies.Next.{Next}
-use Rattle.access_model.specs.declared.replies.Next.TheVariants.{Go, Wait, Done}
-use Rattle.cpu_words.specs.declared.sums.Sum.{Sum}
-use Rattle.cpu_words.specs.Hooks.{HookAnswer}
-use Rattle.cpu_words.specs.Touches.{wrap_add, event_of, found_by}
-use Rattle.percpu_rwsem.specs.declared.sync_word.GpState.{GpState}
-use Rattle.percpu_rwsem.specs.declared.sync_word.GpState.TheVariants.{Idle, Enter}
-use Rattle.percpu_rwsem.specs.declared.sync_word.SyncWord.{SyncWord}
-use Rattle.percpu_rwsem.specs.declared.grace.Grace.{Grace}
-use Rattle.percpu_rwsem.specs.declared.transitions.Transition.TheVariants.{Loads}
-use Rattle.percpu_rwsem.specs.declared.transitions.TransitionNext.{TransitionNext}
-use Rattle.percpu_rwsem.specs.declared.transitions.TransitionNext.TheVariants.{More, Undefined, Made}
-use Rattle.percpu_rwsem.specs.declared.writers.DownWrite.{DownWrite}
-use Rattle.percpu_rwsem.specs.declared.writers.DownWriteStep.{DownWriteStep}
-use Rattle.percpu_rwsem.specs.declared.writers.DownWriteStep.TheVariants.{Enters, AwaitsSections, CallsBack, AwaitsPassed, SetsBlock, Sums}
-use Rattle.percpu_rwsem.specs.SyncWords.{unpack, is_passed, on_enter, on_callback}
-use Rattle.percpu_rwsem.specs.Graces.{is_first, passed_on}
-use Rattle.percpu_rwsem.specs.Transitions.{transition_after}
-use Rattle.percpu_rwsem.specs.Writers.{
-  down_write_next,
-  down_write_after,
-  entered_from,
-  enter_step,
-  callback_step,
-  sections_awaited,
-  passed_awaited,
-  sum_begun,
-}
-use Rattle.gate_world.specs.declared.config.Config.{Config}
-use Rattle.gate_world.specs.declared.views.Traced.{Traced}
+use Rattle.access_model.specs.declared.{actions.Action.Action, replies.Next.Next}
+use Rattle.cpu_words.specs.{Hooks.HookAnswer, Touches.{wrap_add, event_of, found_by}, declared.sums.Sum.Sum}
+use Rattle.percpu_rwsem.specs.{Graces.{is_first, passed_on}, SyncWords.{unpack, is_passed, on_enter, on_callback}, Transitions.transition_after}
+use Rattle.percpu_rwsem.specs.Writers.{down_write_next, down_write_after, entered_from, enter_step, callback_step, sections_awaited, passed_awaited, sum_begun}
+use Rattle.percpu_rwsem.specs.declared.{grace.Grace.Grace, sync_word.{GpState.GpState, SyncWord.SyncWord}}
+use Rattle.percpu_rwsem.specs.declared.transitions.{Transition.Transition, TransitionNext.TransitionNext}
+use Rattle.percpu_rwsem.specs.declared.writers.{DownWrite.DownWrite, DownWriteStep.DownWriteStep}
 use Rattle.gate_world.specs.Configs.{IsWithin}
 use Rattle.gate_world.specs.Found.{found_sealed, found_complete, stored_stage, cleans, newest, finds_readers, IsLevelSum, sum_of_newest, FoundInside}
-use Rattle.gate_world.specs.Views.{with_hook}
+use Rattle.gate_world.specs.{Views.with_hook, declared.{config.Config.Config, views.Traced.Traced}}
 
 -- the closing of this level, among the tasks and processors of a configuration, at a step
 abbrev pub closing_at : Config → ℕ → DownWriteStep → DownWrite
@@ -45,7 +19,7 @@ closing_at c i s = record { level = i; tasks = c.tasks; processors = c.processor
 
 -- the sum of a step under way is what the newest events found
 abbrev pub ClosingSays : Config → ℕ → DownWriteStep → List Traced → Type 0
-ClosingSays c i (Sums sum) trace =
+ClosingSays c i (DownWriteStep.Sums sum) trace =
     (sum.words < c.processors) × IsLevelSum i sum.words trace × (sum.total ≡ sum_of_newest sum.words trace)
 ClosingSays c i s trace = Unit {0}
 
@@ -60,9 +34,9 @@ FoundOthers c trace = (newest finds_readers trace ≡ true) ⊎ FoundInside c.pr
 -- What the trace says by what comes after an event of the closing of a level, which added this: only the last event adds an action, the
 -- pass of the level.
 abbrev pub ClosingNext : Config → ℕ → List Traced → Next DownWrite → Option Action → Type 0
-ClosingNext c i trace (Go d) action = ClosingGoes c i trace d × (action ≡ None)
-ClosingNext c i trace (Wait d) action = ClosingGoes c i trace d × (action ≡ None) × FoundOthers c trace
-ClosingNext c i trace (Done answer) action = action ≡ Some (Pass i)
+ClosingNext c i trace (Next.Go d) action = ClosingGoes c i trace d × (action ≡ None)
+ClosingNext c i trace (Next.Wait d) action = ClosingGoes c i trace d × (action ≡ None) × FoundOthers c trace
+ClosingNext c i trace (Next.Done answer) action = action ≡ Some (Action.Pass i)
 
 -- the trace has found the superblock's flag, stored stage 3 and cleared marks as an earlier one had
 abbrev pub Leaves : List Traced → List Traced → Type 0
@@ -80,10 +54,9 @@ module _ (c : Config) (lim : IsWithin c) (i value : ℕ) (hook : HookAnswer) (ea
   abbrev pub closing_found : DownWriteStep → ℕ
   closing_found s = found_by (down_write_next (closing_at c i s) s).1 value
 
-  -- each event of the closing of a level leaves what was found, stored and cleared
   pub closing_leaves : (s : DownWriteStep) → Leaves (closing_trace s) earlier
-  closing_leaves (Enters Loads) = (refl, refl, refl, refl)
-  closing_leaves (CallsBack Loads) = (refl, refl, refl, refl)
+  closing_leaves (DownWriteStep.Enters Transition.Loads) = (refl, refl, refl, refl)
+  closing_leaves (DownWriteStep.CallsBack Transition.Loads) = (refl, refl, refl, refl)
   closing_leaves other = (refl, refl, refl, refl)
 
   -- what the trace says after the event of a step
@@ -94,79 +67,74 @@ module _ (c : Config) (lim : IsWithin c) (i value : ℕ) (hook : HookAnswer) (ea
 
   -- a step with no sum comes, whatever state was left
   state_goes : (trace : List Traced) (state : GpState) → ClosingGoes c i trace (closing_at c i (entered_from c.tasks state))
-  state_goes trace Idle = (entered_from c.tasks Idle, refl, tt)
-  state_goes trace Enter = (AwaitsPassed, refl, tt)
-  state_goes trace other = (SetsBlock, refl, tt)
+  state_goes trace GpState.Idle = (entered_from c.tasks GpState.Idle, refl, tt)
+  state_goes trace GpState.Enter = (DownWriteStep.AwaitsPassed, refl, tt)
+  state_goes trace other = (DownWriteStep.SetsBlock, refl, tt)
 
-  -- the same after each event of the enter
   enter_goes : (trace : List Traced) (n : TransitionNext) → ClosingGoes c i trace (closing_at c i (enter_step c.tasks n))
-  enter_goes trace (More transition) = (Enters transition, refl, tt)
-  enter_goes trace Undefined = (Enters Loads, refl, tt)
-  enter_goes trace (Made state) = state_goes trace state
+  enter_goes trace (TransitionNext.More transition) = (DownWriteStep.Enters transition, refl, tt)
+  enter_goes trace TransitionNext.Undefined = (DownWriteStep.Enters Transition.Loads, refl, tt)
+  enter_goes trace (TransitionNext.Made state) = state_goes trace state
 
-  -- and after each event that ends a grace period
   callback_goes : (trace : List Traced) (n : TransitionNext) → ClosingGoes c i trace (closing_at c i (callback_step n))
-  callback_goes trace (More transition) = (CallsBack transition, refl, tt)
-  callback_goes trace Undefined = (CallsBack Loads, refl, tt)
-  callback_goes trace (Made state) = (SetsBlock, refl, tt)
+  callback_goes trace (TransitionNext.More transition) = (DownWriteStep.CallsBack transition, refl, tt)
+  callback_goes trace TransitionNext.Undefined = (DownWriteStep.CallsBack Transition.Loads, refl, tt)
+  callback_goes trace (TransitionNext.Made state) = (DownWriteStep.SetsBlock, refl, tt)
 
   -- a task is passed
   passed_goes : (trace : List Traced) (g : Grace) →
-      ClosingNext c i trace (sections_awaited (closing_at c i (AwaitsSections g)) (passed_on g)) None
+      ClosingNext c i trace (sections_awaited (closing_at c i (DownWriteStep.AwaitsSections g)) (passed_on g)) None
   passed_goes trace g =
       elim (cases_Bool (nat_lt (g.task + 1) g.tasks)) [
-        | inl f ↦ rw f ((AwaitsSections (record { tasks = g.tasks; task = g.task + 1; first = None }), refl, tt), refl)
-        | inr f ↦ rw f ((CallsBack Loads, refl, tt), refl)
+        | inl f ↦ rw f ((DownWriteStep.AwaitsSections (record { tasks = g.tasks; task = g.task + 1; first = None }), refl, tt), refl)
+        | inr f ↦ rw f ((DownWriteStep.CallsBack Transition.Loads, refl, tt), refl)
       ]
 
   -- a task is passed, or it is still inside its section
-  looks_at_section : (g : Grace) → AfterClosing (AwaitsSections g)
+  looks_at_section : (g : Grace) → AfterClosing (DownWriteStep.AwaitsSections g)
   looks_at_section g =
       elim (cases_Bool (value % 2 == 1)) [
         | inl f ↦ elim (cases_Bool (is_first g.first value)) [
           | inl e ↦ rw (f, e) (
-            (AwaitsSections (record { tasks = g.tasks; task = g.task; first = Some value }), refl, tt),
+            (DownWriteStep.AwaitsSections (record { tasks = g.tasks; task = g.task; first = Some value }), refl, tt),
             refl,
             inl (rw f refl),
           )
-          | inr e ↦ rw (f, e) (passed_goes (closing_trace (AwaitsSections g)) g)
+          | inr e ↦ rw (f, e) (passed_goes (closing_trace (DownWriteStep.AwaitsSections g)) g)
         ]
-        | inr f ↦ rw f (passed_goes (closing_trace (AwaitsSections g)) g)
+        | inr f ↦ rw f (passed_goes (closing_trace (DownWriteStep.AwaitsSections g)) g)
       ]
 
   -- the sync word was found past GP_ENTER, or a writer in its grace period
   looks_at_sync : (o : Option SyncWord) → unpack value ≡ o →
-      ClosingNext c i (closing_trace AwaitsPassed) (passed_awaited (closing_at c i AwaitsPassed) o) None
-  looks_at_sync None e = ((AwaitsPassed, refl, tt), refl)
+      ClosingNext c i (closing_trace DownWriteStep.AwaitsPassed) (passed_awaited (closing_at c i DownWriteStep.AwaitsPassed) o) None
+  looks_at_sync None e = ((DownWriteStep.AwaitsPassed, refl, tt), refl)
   looks_at_sync (Some word) e =
       elim (cases_Bool (is_passed word.state)) [
-        | inl f ↦ rw f ((SetsBlock, refl, tt), refl)
-        | inr f ↦ rw f ((AwaitsPassed, refl, tt), refl, inl (rw (e, f) refl))
+        | inl f ↦ rw f ((DownWriteStep.SetsBlock, refl, tt), refl)
+        | inr f ↦ rw f ((DownWriteStep.AwaitsPassed, refl, tt), refl, inl (rw (e, f) refl))
       ]
 
-  -- a sum begins, of no event
   sum_begins : (trace : List Traced) → ClosingGoes c i trace (closing_at c i sum_begun)
   sum_begins trace = (sum_begun, refl, (lim.some_processor, tt, refl))
 
-  -- `block` was found 0, or set by another writer
-  sets_block : AfterClosing SetsBlock
+  sets_block : AfterClosing DownWriteStep.SetsBlock
   sets_block =
       elim (cases_Bool (value == 0)) [
-        | inl f ↦ rw f (sum_begins (closing_trace SetsBlock), refl)
-        | inr f ↦ rw f ((SetsBlock, refl, tt), refl, inl (rw f refl))
+        | inl f ↦ rw f (sum_begins (closing_trace DownWriteStep.SetsBlock), refl)
+        | inr f ↦ rw f ((DownWriteStep.SetsBlock, refl, tt), refl, inl (rw f refl))
       ]
 
-  -- the sum goes on, or it is a sum of all counts: 0, or not
-  sums_on : (sum : Sum) → ClosingSays c i (Sums sum) earlier → AfterClosing (Sums sum)
+  sums_on : (sum : Sum) → ClosingSays c i (DownWriteStep.Sums sum) earlier → AfterClosing (DownWriteStep.Sums sum)
   sums_on sum h =
-      let trace : List Traced = closing_trace (Sums sum) in
+      let trace : List Traced = closing_trace (DownWriteStep.Sums sum) in
       let more : IsLevelSum i (suc sum.words) trace = (refl, refl, h.1) in
       let now : wrap_add sum.total value ≡ sum_of_newest (suc sum.words) trace = ap (λ s. wrap_add s value) h.2 in
       elim (cases_Bool (nat_lt (sum.words + 1) c.processors)) [
         | inl f ↦
             rw f (
               (
-                Sums record { words = sum.words + 1; total = wrap_add sum.total value },
+                DownWriteStep.Sums record { words = sum.words + 1; total = wrap_add sum.total value },
                 refl,
                 (ltb-true (sum.words + 1) c.processors f, rw (add-one sum.words) more, rw (add-one sum.words) now),
               ),
@@ -184,14 +152,16 @@ module _ (c : Config) (lim : IsWithin c) (i value : ℕ) (hook : HookAnswer) (ea
             ]
       ]
 
-  -- each event of the closing of a level keeps what the trace says of it
   pub closing_event : (s : DownWriteStep) → ClosingSays c i s earlier → AfterClosing s
-  closing_event (Enters transition) h =
-      (enter_goes (closing_trace (Enters transition)) (transition_after on_enter transition (closing_found (Enters transition))), refl)
-  closing_event (AwaitsSections grace) h = looks_at_section grace
-  closing_event (CallsBack transition) h =
-      let found : ℕ = closing_found (CallsBack transition) in
-      (callback_goes (closing_trace (CallsBack transition)) (transition_after on_callback transition found), refl)
-  closing_event AwaitsPassed h = looks_at_sync (unpack value) refl
-  closing_event SetsBlock h = sets_block
-  closing_event (Sums sum) h = sums_on sum h
+  closing_event (DownWriteStep.Enters transition) h = (
+    enter_goes (closing_trace (DownWriteStep.Enters transition))
+        (transition_after on_enter transition (closing_found (DownWriteStep.Enters transition))),
+    refl,
+  )
+  closing_event (DownWriteStep.AwaitsSections grace) h = looks_at_section grace
+  closing_event (DownWriteStep.CallsBack transition) h =
+      let found : ℕ = closing_found (DownWriteStep.CallsBack transition) in
+      (callback_goes (closing_trace (DownWriteStep.CallsBack transition)) (transition_after on_callback transition found), refl)
+  closing_event DownWriteStep.AwaitsPassed h = looks_at_sync (unpack value) refl
+  closing_event DownWriteStep.SetsBlock h = sets_block
+  closing_event (DownWriteStep.Sums sum) h = sums_on sum h

@@ -1,38 +1,17 @@
 -- The causes of a remount's refusals, along a schedule.
-use Rattle.access_model.specs.declared.errors.GateError.TheVariants.{Busy, Hook}
-use Rattle.access_model.specs.declared.errors.GateError.{GateError}
-use Rattle.access_model.specs.declared.replies.Reply.TheVariants.{Unit as UnitReply}
-use Rattle.access_model.specs.declared.replies.Reply.{Reply}
-use Rattle.gate_frames.proofs.Moments.{look_skips, look_stands, sum_skips, sum_begins, sum_goes}
-use Rattle.gate_frames.proofs.SumCauses.{counted_stays, sum_starts, sum_stays, sum_takes, sum_ends}
-use Rattle.cpu_words.specs.Hooks.{HookAnswer}
-use Rattle.cpu_words.specs.Touches.{wrap_add}
-use Rattle.cpu_words.specs.Words.{Words}
-use Rattle.cpu_words.specs.declared.names.WordName.TheVariants.{MountCount}
-use Rattle.cpu_words.specs.declared.sums.Sum.{Sum}
-use Rattle.gate_frames.proofs.Keeps.{by_bool}
-use Rattle.gate_frames.proofs.Words.{load_same}
-use Rattle.gate_world.specs.Causes.{all_counted, words_read, mount_summed, moments_of_sum, AreOfMount, looks_at_stage, was_frozen, SomeWasCounted, was_removed, last_removed, looks_at_removed}
-use Rattle.gate_world.specs.KeptCauses.{RemountAnswerCause, RemountCause, CauseOf}
-use Rattle.gate_world.specs.Remounts.{RemountFits}
-use Rattle.gate_world.specs.Rules.{IsGood}
-use Rattle.gate_world.specs.Views.{phase_after}
-use Rattle.gate_world.specs.Work.{after_of}
-use Rattle.gate_world.specs.Worlds.{words_after, World, found_at}
-use Rattle.gate_world.specs.declared.config.Config.{Config}
-use Rattle.gate_world.specs.declared.work.Phase.TheVariants.{Remounts}
-use Rattle.gate_world.specs.declared.work.Phase.{Phase}
-use Rattle.mount_counts.specs.Phases.{has_flag}
-use Rattle.mount_counts.specs.Remounts.{at_remount, remount_from, past_mount, let_go, leave_holds, give_up, remount_summed, past_node}
-use Rattle.mount_counts.specs.Sets.{with_mount, without_lowest}
-use Rattle.mount_counts.specs.declared.remounts.Remount.{Remount}
-use Rattle.mount_counts.specs.declared.remounts.RemountStep.TheVariants.{Locks, LoadsStage, LoadsSuperblock, SetsWritable, LoadsFlags, SetsHold, Sums, LoadsRemoved, LoadsRemovedAgain, LeavesHolds, SetsRemount, ClearsHold, GivesUp, ClearsMark, SetsReadOnly, ClearsRemount, Releases}
-use Rattle.mount_counts.specs.declared.remounts.RemountStep.{RemountStep}
-use Rattle.mount_counts.specs.declared.sets.MountSet.{MountSet}
 use Rattle.std.proofs.Common.{◌≡◌, ℕ, suc, ◌+◌, ◌<◌, Bool, true, false, refl, sym, subst, ap, ◌∙◌, inl, inr, arith}
-use Rattle.std.proofs.lemmas.Bool.Decides.{eqb_tells}
-use Rattle.std.proofs.lemmas.Bool.{ltb-false, ne_eqb, cases_Bool}
+use Rattle.std.proofs.lemmas.Bool.{ltb-false, ne_eqb, cases_Bool, Decides.eqb_tells}
 use Rattle.std.specs.Prelude.{nat_lt, Option, Some, None, Result, Ok, Err, List, ◌∷◌, ◌==◌, not, if◌then◌else◌}
+use Rattle.access_model.specs.declared.{errors.GateError.GateError, replies.Reply.Reply}
+use Rattle.cpu_words.specs.{Hooks.HookAnswer, Touches.wrap_add, Words.Words, declared.{names.WordName.WordName, sums.Sum.Sum}}
+use Rattle.mount_counts.specs.{Phases.has_flag, Remounts.{at_remount, remount_from, past_mount, let_go, leave_holds, give_up, remount_summed, past_node}}
+use Rattle.mount_counts.specs.{Sets.{with_mount, without_lowest}, declared.{remounts.{Remount.Remount, RemountStep.RemountStep}, sets.MountSet.MountSet}}
+use Rattle.gate_world.specs.Causes.{all_counted, words_read, mount_summed, moments_of_sum, AreOfMount, looks_at_stage, was_frozen, SomeWasCounted, was_removed}
+use Rattle.gate_world.specs.Causes.{last_removed, looks_at_removed}
+use Rattle.gate_world.specs.{KeptCauses.{RemountAnswerCause, RemountCause, CauseOf}, Remounts.RemountFits, Rules.IsGood, Views.phase_after, Work.after_of}
+use Rattle.gate_world.specs.{Worlds.{words_after, World, found_at}, declared.{config.Config.Config, work.Phase.Phase}}
+use Rattle.gate_frames.proofs.{Keeps.by_bool, Moments.{look_skips, look_stands, sum_skips, sum_begins, sum_goes}}
+use Rattle.gate_frames.proofs.{SumCauses.{counted_stays, sum_starts, sum_stays, sum_takes, sum_ends}, Words.load_same}
 
 -- a task whose next event is a load of `removed` looks at it, any other doesn't
 removed_skips : (t : ℕ) (w : World) (earlier : List World) → looks_at_removed (w.views t).phase ≡ false →
@@ -54,7 +33,6 @@ of_mount_begins : (t m : ℕ) (w : World) (earlier : List World) → words_read 
     mount_summed (w.views t).phase ≡ Some m → AreOfMount t m (moments_of_sum t (w ∷ earlier))
 of_mount_begins t m w earlier e at = subst (AreOfMount t m) (sym (sum_begins t w earlier e)) (at, tt)
 
--- and where it goes on
 of_mount_goes : (t m k : ℕ) (w : World) (earlier : List World) → words_read (w.views t).phase ≡ Some k →
     mount_summed (w.views t).phase ≡ Some m → AreOfMount t m (moments_of_sum t earlier) → AreOfMount t m (moments_of_sum t (w ∷ earlier))
 of_mount_goes t m k w earlier e at h =
@@ -65,8 +43,7 @@ of_mount_goes t m k w earlier e at h =
 
 -- a task whose view another entry leaves alone
 module _ (c : Config) (t : ℕ) (w next : World) (earlier : List World) (good : IsGood c next) (x : Remount) where
-  -- the cause of an answer stays
-  answer_stays : (answer : Result Reply GateError) → (next.views t).phase ≡ Some (Remounts (at_remount x (Releases answer))) →
+  answer_stays : (answer : Result Reply GateError) → (next.views t).phase ≡ Some (Phase.Remounts (at_remount x (RemountStep.Releases answer))) →
       RemountAnswerCause c t w earlier answer → RemountAnswerCause c t next (w ∷ earlier) answer
   answer_stays answer e h r =
       elim (h r) [
@@ -78,19 +55,18 @@ module _ (c : Config) (t : ℕ) (w next : World) (earlier : List World) (good : 
             ]
       ]
 
-  -- so does the cause of each step
-  pub remount_stays : (s : RemountStep) → RemountFits c s → (next.views t).phase ≡ Some (Remounts (at_remount x s)) →
-      (w.views t).phase ≡ Some (Remounts (at_remount x s)) →
+  pub remount_stays : (s : RemountStep) → RemountFits c s → (next.views t).phase ≡ Some (Phase.Remounts (at_remount x s)) →
+      (w.views t).phase ≡ Some (Phase.Remounts (at_remount x s)) →
       ((m : ℕ) → all_counted c m w ≡ 0 → all_counted c m next ≡ 0 → next.words.count m ≡ w.words.count m) → RemountCause c t w earlier s →
       RemountCause c t next (w ∷ earlier) s
-  remount_stays (Sums m held sum) f e was quiet h = (
+  remount_stays (RemountStep.Sums m held sum) f e was quiet h = (
     sum_stays c t m w next earlier sum h.0 good f.0 (ap words_read e) (ap words_read was) (quiet m),
     of_mount_goes t m sum.words next (w ∷ earlier) (ap words_read e) (ap mount_summed e) h.1,
   )
-  remount_stays (GivesUp m held) f e was quiet h = some_stays c t next (w ∷ earlier) (ap words_read e) h
-  remount_stays (LeavesHolds held) f e was quiet h =
+  remount_stays (RemountStep.GivesUp m held) f e was quiet h = some_stays c t next (w ∷ earlier) (ap words_read e) h
+  remount_stays (RemountStep.LeavesHolds held) f e was quiet h =
       ap was_removed (removed_skips t next (w ∷ earlier) (ap looks_at_removed e)) ∙ h
-  remount_stays (Releases answer) f e was quiet h = answer_stays answer e h
+  remount_stays (RemountStep.Releases answer) f e was quiet h = answer_stays answer e h
   remount_stays s f e was quiet h = tt
 
 -- the task that steps: what its next phase says, in the world after the event
@@ -99,34 +75,30 @@ module _ (c : Config) (t : ℕ) (w next : World) (earlier : List World) (after :
   abbrev CauseAfter : RemountStep → Type 0
   CauseAfter s = RemountCause c t next (w ∷ earlier) s
 
-  -- a remount that is done is not refused as busy
-  done_own : CauseAfter (Releases (Ok UnitReply))
+  done_own : CauseAfter (RemountStep.Releases (Ok Reply.Unit))
   done_own r = absurd (cc)
 
-  -- nor is one that the file system refused
-  hook_own : (code : ℕ) → CauseAfter (Releases (Err (Hook code)))
+  hook_own : (code : ℕ) → CauseAfter (RemountStep.Releases (Err (GateError.Hook code)))
   hook_own code r = absurd (cc)
 
-  -- nor is one whose state was found
   from_own : (wanted found : Bool) → CauseAfter (remount_from wanted found)
   from_own true true = done_own
   from_own true false = tt
   from_own false true = tt
   from_own false false = done_own
 
-  -- a step to another mount, to a mark or to a hold to be cleared says nothing
   past_mount_own : (m : ℕ) (held : MountSet) → CauseAfter (past_mount x.mounts m held)
   past_mount_own m held =
-      by_bool (nat_lt (m + 1) x.mounts) (λ b. CauseAfter (if b then LoadsFlags (m + 1) held else LoadsRemovedAgain held)) tt tt
+      by_bool (nat_lt (m + 1) x.mounts) (λ b. CauseAfter (if b then RemountStep.LoadsFlags (m + 1) held else RemountStep.LoadsRemovedAgain held)) tt tt
 
   let_go_own : (held : MountSet) → CauseAfter (let_go held)
-  let_go_own held = by_bool (held.bits == 0) (λ b. CauseAfter (if b then ClearsMark 1 else ClearsHold held)) tt tt
+  let_go_own held = by_bool (held.bits == 0) (λ b. CauseAfter (if b then RemountStep.ClearsMark 1 else RemountStep.ClearsHold held)) tt tt
 
   past_node_own : (n : ℕ) → CauseAfter (past_node x.nodes n)
-  past_node_own n = by_bool (nat_lt (n + 1) x.nodes) (λ b. CauseAfter (if b then ClearsMark (n + 1) else SetsReadOnly)) tt tt
+  past_node_own n = by_bool (nat_lt (n + 1) x.nodes) (λ b. CauseAfter (if b then RemountStep.ClearsMark (n + 1) else RemountStep.SetsReadOnly)) tt tt
 
   -- a remount that gives up loads no word of a sum, so what was counted stays so
-  give_up_own : (m : ℕ) (held : MountSet) → (next.views t).phase ≡ Some (Remounts (at_remount x (give_up m held))) →
+  give_up_own : (m : ℕ) (held : MountSet) → (next.views t).phase ≡ Some (Phase.Remounts (at_remount x (give_up m held))) →
       SomeWasCounted c t (w ∷ earlier) → CauseAfter (give_up m held)
   give_up_own m held e h =
       elim (eqb_tells held.bits 0) [
@@ -135,7 +107,7 @@ module _ (c : Config) (t : ℕ) (w next : World) (earlier : List World) (after :
       ]
 
   -- nor does one that leaves its holds look at `removed` again
-  leave_holds_own : (held : MountSet) → (next.views t).phase ≡ Some (Remounts (at_remount x (leave_holds held))) →
+  leave_holds_own : (held : MountSet) → (next.views t).phase ≡ Some (Phase.Remounts (at_remount x (leave_holds held))) →
       was_removed (last_removed t (w ∷ earlier)) ≡ true → CauseAfter (leave_holds held)
   leave_holds_own held e h =
       elim (eqb_tells held.bits 0) [
@@ -144,16 +116,16 @@ module _ (c : Config) (t : ℕ) (w next : World) (earlier : List World) (after :
       ]
 
   -- where a removed file was found, there was one when the remount looked
-  removed_was : (s : RemountStep) → (w.views t).phase ≡ Some (Remounts (at_remount x s)) →
-      looks_at_removed (Some (Remounts (at_remount x s))) ≡ true → (w.words.removed ≡ 0 → ⊥) →
+  removed_was : (s : RemountStep) → (w.views t).phase ≡ Some (Phase.Remounts (at_remount x s)) →
+      looks_at_removed (Some (Phase.Remounts (at_remount x s))) ≡ true → (w.words.removed ≡ 0 → ⊥) →
       was_removed (last_removed t (w ∷ earlier)) ≡ true
   removed_was s e looks some =
       ap was_removed (removed_stands t w earlier (ap looks_at_removed e ∙ looks)) ∙ ap not (ne_eqb w.words.removed 0 some)
 
   -- a sum with one word more: it goes on, the loop does, or the remount gives up
   sum_own : (m : ℕ) (held : MountSet) (sum : Sum) → m < c.mounts → sum.words < c.processors → x.processors ≡ c.processors →
-      next.words.count m ≡ w.words.count m → RemountCause c t w earlier (Sums m held sum) →
-      (next.views t).phase ≡ Some (Remounts (at_remount x (remount_summed x m held sum (w.words.count m sum.words)))) →
+      next.words.count m ≡ w.words.count m → RemountCause c t w earlier (RemountStep.Sums m held sum) →
+      (next.views t).phase ≡ Some (Phase.Remounts (at_remount x (remount_summed x m held sum (w.words.count m sum.words)))) →
       CauseAfter (remount_summed x m held sum (w.words.count m sum.words))
   sum_own m held sum lm there sp same h e =
       let k : ℕ = sum.words in
@@ -174,50 +146,51 @@ module _ (c : Config) (t : ℕ) (w next : World) (earlier : List World) (after :
       ]
 
   -- where the stage was found other than 0, it was so when the remount looked
-  stage_own : (w.views t).phase ≡ Some (Remounts (at_remount x LoadsStage)) → (w.words.stage ≡ 0 → ⊥) →
-      (next.views t).phase ≡ Some (Remounts (at_remount x (Releases (Err Busy)))) → CauseAfter (Releases (Err Busy))
+  stage_own : (w.views t).phase ≡ Some (Phase.Remounts (at_remount x RemountStep.LoadsStage)) → (w.words.stage ≡ 0 → ⊥) →
+      (next.views t).phase ≡ Some (Phase.Remounts (at_remount x (RemountStep.Releases (Err GateError.Busy)))) →
+      CauseAfter (RemountStep.Releases (Err GateError.Busy))
   stage_own e frozen e' r =
       inl (ap (was_frozen c) (look_skips t next (w ∷ earlier) (ap looks_at_stage e') ∙ look_stands t w earlier (ap looks_at_stage e)) ∙
       ap not (ne_eqb w.words.stage 0 frozen))
 
   -- what comes after an event has its cause
   pub remount_own : (hook : HookAnswer) (s : RemountStep) → x.processors ≡ c.processors → RemountFits c s →
-      (w.views t).phase ≡ Some (Remounts (at_remount x s)) → next.words ≡ words_after w.words (Remounts (at_remount x s)) hook →
+      (w.views t).phase ≡ Some (Phase.Remounts (at_remount x s)) → next.words ≡ words_after w.words (Phase.Remounts (at_remount x s)) hook →
       RemountCause c t w earlier s →
       let comes : Option Phase =
-      phase_after (after_of (Remounts (at_remount x s)) (found_at w.words (Remounts (at_remount x s)) hook) hook).0 in
+      phase_after (after_of (Phase.Remounts (at_remount x s)) (found_at w.words (Phase.Remounts (at_remount x s)) hook) hook).0 in
       (next.views t).phase ≡ comes → CauseOf c t next (w ∷ earlier) comes
-  remount_own hook Locks sp f e same h e' = elim (eqb_tells w.words.umount 0) [ inl z ↦ rw z.0 tt | inr z ↦ rw z.0 tt ]
-  remount_own hook LoadsStage sp f e same h e' =
+  remount_own hook RemountStep.Locks sp f e same h e' = elim (eqb_tells w.words.umount 0) [ inl z ↦ rw z.0 tt | inr z ↦ rw z.0 tt ]
+  remount_own hook RemountStep.LoadsStage sp f e same h e' =
       elim (eqb_tells w.words.stage 0) [ inl z ↦ rw z.0 tt | inr z ↦ rw z.0 (stage_own e z.1 (rw z.0 at e')) ]
-  remount_own hook LoadsSuperblock sp f e same h e' = from_own x.read_only (not (w.words.sb == 0))
-  remount_own (Ok answer) SetsWritable sp f e same h e' = done_own
-  remount_own (Err code) SetsWritable sp f e same h e' = tt
-  remount_own hook LoadsRemoved sp f e same h e' =
+  remount_own hook RemountStep.LoadsSuperblock sp f e same h e' = from_own x.read_only (not (w.words.sb == 0))
+  remount_own (Ok answer) RemountStep.SetsWritable sp f e same h e' = done_own
+  remount_own (Err code) RemountStep.SetsWritable sp f e same h e' = tt
+  remount_own hook RemountStep.LoadsRemoved sp f e same h e' =
       elim (eqb_tells w.words.removed 0) [
         | inl z ↦ rw z.0 tt
         | inr z ↦ rw z.0 (λ r. inr (inl (ap was_removed (removed_skips t next (w ∷ earlier) (ap looks_at_removed (rw z.0 at e'))) ∙
-            removed_was LoadsRemoved e refl z.1)))
+            removed_was RemountStep.LoadsRemoved e refl z.1)))
       ]
-  remount_own hook (LoadsFlags m held) sp f e same h e' =
+  remount_own hook (RemountStep.LoadsFlags m held) sp f e same h e' =
       elim (cases_Bool (has_flag (w.words.flags m) 1)) [ inl z ↦ rw z (past_mount_own m held) | inr z ↦ rw z tt ]
-  remount_own hook (SetsHold m held) sp f e same h e' = (
+  remount_own hook (RemountStep.SetsHold m held) sp f e same h e' = (
     sum_starts c t m next (w ∷ earlier) after f.0 (ap words_read e'),
     of_mount_begins t m next (w ∷ earlier) (ap words_read e') (ap mount_summed e'),
   )
-  remount_own hook (Sums m held sum) sp f e same h e' =
-      sum_own m held sum f.0 f.2 sp (ap (λ (ws : Words). ws.count m) (same ∙ load_same w.words (MountCount m sum.words))) h e'
-  remount_own hook (LoadsRemovedAgain held) sp f e same h e' =
+  remount_own hook (RemountStep.Sums m held sum) sp f e same h e' =
+      sum_own m held sum f.0 f.2 sp (ap (λ (ws : Words). ws.count m) (same ∙ load_same w.words (WordName.MountCount m sum.words))) h e'
+  remount_own hook (RemountStep.LoadsRemovedAgain held) sp f e same h e' =
       elim (eqb_tells w.words.removed 0) [
         | inl z ↦ rw z.0 tt
-        | inr z ↦ rw z.0 (leave_holds_own held (rw z.0 at e') (removed_was (LoadsRemovedAgain held) e refl z.1))
+        | inr z ↦ rw z.0 (leave_holds_own held (rw z.0 at e') (removed_was (RemountStep.LoadsRemovedAgain held) e refl z.1))
       ]
-  remount_own hook (LeavesHolds held) sp f e same h e' = leave_holds_own (without_lowest held) e' h
-  remount_own hook (SetsRemount held) sp f e same h e' = let_go_own held
-  remount_own hook (ClearsHold held) sp f e same h e' = let_go_own (without_lowest held)
-  remount_own hook (GivesUp m held) sp f e same h e' = give_up_own m (without_lowest held) e' h
-  remount_own hook (ClearsMark n) sp f e same h e' = past_node_own n
-  remount_own (Ok answer) SetsReadOnly sp f e same h e' = tt
-  remount_own (Err code) SetsReadOnly sp f e same h e' = hook_own code
-  remount_own hook ClearsRemount sp f e same h e' = done_own
-  remount_own hook (Releases answer) sp f e same h e' = tt
+  remount_own hook (RemountStep.LeavesHolds held) sp f e same h e' = leave_holds_own (without_lowest held) e' h
+  remount_own hook (RemountStep.SetsRemount held) sp f e same h e' = let_go_own held
+  remount_own hook (RemountStep.ClearsHold held) sp f e same h e' = let_go_own (without_lowest held)
+  remount_own hook (RemountStep.GivesUp m held) sp f e same h e' = give_up_own m (without_lowest held) e' h
+  remount_own hook (RemountStep.ClearsMark n) sp f e same h e' = past_node_own n
+  remount_own (Ok answer) RemountStep.SetsReadOnly sp f e same h e' = tt
+  remount_own (Err code) RemountStep.SetsReadOnly sp f e same h e' = hook_own code
+  remount_own hook RemountStep.ClearsRemount sp f e same h e' = done_own
+  remount_own hook (RemountStep.Releases answer) sp f e same h e' = tt

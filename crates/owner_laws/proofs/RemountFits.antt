@@ -1,34 +1,19 @@
 -- What fits after an event of a remount.
-use Rattle.mount_counts.specs.declared.remounts.RemountStep.TheVariants.{Locks, LoadsStage, LoadsSuperblock, SetsWritable, LoadsFlags, SetsHold, Sums, LoadsRemoved, LoadsRemovedAgain, LeavesHolds, SetsRemount, ClearsHold, GivesUp, ClearsMark, SetsReadOnly, ClearsRemount, Releases}
-use Rattle.mount_counts.specs.declared.remounts.Remount.{Remount}
-use Rattle.std.proofs.Common.{ℕ, ◌≡◌, ◌<◌, Bool, ◌+◌, arith, Option, true≢false, sym, nat_lt, inl, inr, ◌∙◌, ltb-true, if◌then◌else◌, ap, Ok, Some, Err, ◌==◌, None, not, refl, true, false}
-use Rattle.gate_world.specs.declared.config.Config.{Config}
-use Rattle.mount_counts.specs.declared.sets.MountSet.{MountSet}
-use Rattle.gate_world.specs.Remounts.{AllBelow, RemountFits}
-use Rattle.gate_world.specs.Configs.{IsWithin, extents_of}
-use Rattle.mount_counts.specs.Sets.{no_mounts, without_lowest, with_mount, lowest, has_mount}
-use Rattle.cpu_words.specs.declared.sums.Sum.{Sum}
-use Rattle.mount_counts.specs.Remounts.{give_up, leave_holds, past_node, let_go, remount_from, remount_summed, past_mount, remount_after, remount_next, at_remount}
-use Rattle.mount_counts.specs.declared.remounts.RemountStep.{RemountStep}
-use Rattle.access_model.specs.declared.replies.Next.{Next}
-use Rattle.mount_laws.proofs.Sets.{leaves_within, joins_within, joins_there, none_held, leaves_here, lowest_held, leaves_there}
-use Rattle.std.proofs.lemmas.Bool.Decides.{eqb_tells}
-use Rattle.std.proofs.lemmas.Bool.{cases_Bool}
-use Rattle.cpu_words.specs.Hooks.{HookAnswer}
-use Rattle.gate_world.specs.declared.work.Phase.{Phase}
-use Rattle.cpu_words.specs.Names.{IsWord}
-use Rattle.gate_world.specs.Fits.{ActionFits, mounts_by, PhaseFits, levels_by, Fits}
-use Rattle.gate_world.specs.Views.{phase_after}
-use Rattle.access_model.specs.Replies.{map_next}
-use Rattle.gate_world.specs.declared.work.Phase.TheVariants.{Remounts}
-use Rattle.gate_frames.proofs.Keeps.{by_bool}
-use Rattle.cpu_words.specs.Touches.{wrap_add}
-use Rattle.access_model.specs.declared.actions.Action.TheVariants.{Clean}
+use Rattle.std.proofs.Common.{ℕ, ◌≡◌, ◌<◌, Bool, ◌+◌, arith, Option, true≢false, sym, nat_lt, inl, inr, ◌∙◌, ltb-true, if◌then◌else◌, ap, Ok, Some, Err, ◌==◌}
+use Rattle.std.proofs.Common.{None, not, refl, true, false}
+use Rattle.std.proofs.lemmas.Bool.{cases_Bool, Decides.eqb_tells}
+use Rattle.access_model.specs.{Replies.map_next, declared.{actions.Action.Action, errors.GateError.GateError, replies.Next.Next}}
+use Rattle.cpu_words.specs.{Hooks.HookAnswer, Names.IsWord, Touches.wrap_add, declared.sums.Sum.Sum}
 use Rattle.mount_counts.specs.Phases.{has_flag}
-use Rattle.access_model.specs.declared.replies.Next.TheVariants.{Go, Wait}
-use Rattle.access_model.specs.declared.errors.GateError.TheVariants.{Busy}
+use Rattle.mount_counts.specs.Remounts.{give_up, leave_holds, past_node, let_go, remount_from, remount_summed, past_mount, remount_after, remount_next}
+use Rattle.mount_counts.specs.Remounts.{at_remount}
+use Rattle.mount_counts.specs.Sets.{no_mounts, without_lowest, with_mount, lowest, has_mount}
+use Rattle.mount_counts.specs.declared.{remounts.{Remount.Remount, RemountStep.RemountStep}, sets.MountSet.MountSet}
+use Rattle.mount_laws.proofs.Sets.{leaves_within, joins_within, joins_there, none_held, leaves_here, lowest_held, leaves_there}
+use Rattle.gate_world.specs.{Configs.{IsWithin, extents_of}, Fits.{ActionFits, mounts_by, PhaseFits, levels_by, Fits}, Remounts.{AllBelow, RemountFits}}
+use Rattle.gate_world.specs.{Views.phase_after, declared.{config.Config.Config, work.Phase.Phase}}
+use Rattle.gate_frames.proofs.Keeps.{by_bool}
 
--- a mount joins the set, and the lowest leaves it
 pub joins_below : (m : ℕ) (held : MountSet) → m < 8 → AllBelow m held → AllBelow (m + 1) (with_mount held m)
 joins_below m held lm h = (
   joins_within held m lm h.0,
@@ -74,17 +59,17 @@ module _ (c : Config) where
 
   pub remount_there : (x : Remount) (s : RemountStep) (hook : HookAnswer) → RemountFits c s →
       IsWord (extents_of c) (remount_next x s hook).0
-  remount_there x SetsWritable (Ok answer) f = tt
-  remount_there x SetsWritable (Err code) f = tt
-  remount_there x (LoadsFlags m set) hook f = f.0
-  remount_there x (SetsHold m set) hook f = f.0
-  remount_there x (Sums m set sum) hook f = (f.0, f.2)
-  remount_there x (LeavesHolds set) hook f = f.1.1 (lowest set) (lowest_held set f.0 f.1.0).1
-  remount_there x (ClearsHold set) hook f = f.1.1 (lowest set) (lowest_held set f.0 f.1.0).1
-  remount_there x (GivesUp m set) hook f = f.1.1 (lowest set) (lowest_held set f.0 f.1.0).1
-  remount_there x (ClearsMark n) hook f = f.1
-  remount_there x SetsReadOnly (Ok answer) f = tt
-  remount_there x SetsReadOnly (Err code) f = tt
+  remount_there x RemountStep.SetsWritable (Ok answer) f = tt
+  remount_there x RemountStep.SetsWritable (Err code) f = tt
+  remount_there x (RemountStep.LoadsFlags m set) hook f = f.0
+  remount_there x (RemountStep.SetsHold m set) hook f = f.0
+  remount_there x (RemountStep.Sums m set sum) hook f = (f.0, f.2)
+  remount_there x (RemountStep.LeavesHolds set) hook f = f.1.1 (lowest set) (lowest_held set f.0 f.1.0).1
+  remount_there x (RemountStep.ClearsHold set) hook f = f.1.1 (lowest set) (lowest_held set f.0 f.1.0).1
+  remount_there x (RemountStep.GivesUp m set) hook f = f.1.1 (lowest set) (lowest_held set f.0 f.1.0).1
+  remount_there x (RemountStep.ClearsMark n) hook f = f.1
+  remount_there x RemountStep.SetsReadOnly (Ok answer) f = tt
+  remount_there x RemountStep.SetsReadOnly (Err code) f = tt
   remount_there x other hook f = tt
 
   module _ (lim : IsWithin c) where
@@ -115,62 +100,64 @@ module _ (c : Config) where
 
     module _ (t : ℕ) (held : ℕ → ℕ) (levels : ℕ → Bool) where
       pub remount_acts : (x : Remount) (s : RemountStep) (found : ℕ) (hook : HookAnswer) → ActionFits held (remount_after x s found hook).1
-      remount_acts x SetsWritable found (Ok answer) = tt
-      remount_acts x SetsWritable found (Err code) = tt
-      remount_acts x SetsReadOnly found (Ok answer) = tt
-      remount_acts x SetsReadOnly found (Err code) = tt
-      remount_acts x (ClearsMark n) found hook =
-          by_bool (has_flag found 4) (λ b. ActionFits held (if b then Some (Clean n) else None)) tt tt
+      remount_acts x RemountStep.SetsWritable found (Ok answer) = tt
+      remount_acts x RemountStep.SetsWritable found (Err code) = tt
+      remount_acts x RemountStep.SetsReadOnly found (Ok answer) = tt
+      remount_acts x RemountStep.SetsReadOnly found (Err code) = tt
+      remount_acts x (RemountStep.ClearsMark n) found hook =
+          by_bool (has_flag found 4) (λ b. ActionFits held (if b then Some (Action.Clean n) else None)) tt tt
       remount_acts x s found hook = tt
 
       -- what comes after an event fits
       abbrev NextFits : Next Remount → Type 0
-      NextFits next = Fits c t held levels (phase_after (map_next Remounts next))
+      NextFits next = Fits c t held levels (phase_after (map_next Phase.Remounts next))
 
       -- a cleaned node leaves the accesses
       cleans_none : (n : ℕ) (b : Bool) (p : Option Phase) → Fits c t held levels p →
-          Fits c t (mounts_by (if b then Some (Clean n) else None) held) (levels_by (if b then Some (Clean n) else None) levels) p
+          Fits c t (mounts_by (if b then Some (Action.Clean n) else None) held) (levels_by (if b then Some (Action.Clean n) else None) levels) p
       cleans_none n true p f = f
       cleans_none n false p f = f
 
       -- what comes after each event of a remount fits
       pub remount_goes : (x : Remount) (s : RemountStep) (found : ℕ) (hook : HookAnswer) →
-          PhaseFits c t held levels (Remounts (at_remount x s)) →
+          PhaseFits c t held levels (Phase.Remounts (at_remount x s)) →
           Fits c t (mounts_by (remount_after x s found hook).1 held) (levels_by (remount_after x s found hook).1 levels)
-          (phase_after (map_next Remounts (remount_after x s found hook).0))
-      remount_goes x Locks found hook f =
-          by_bool (found == 0) (λ b. NextFits (if b then Go (at_remount x LoadsStage) else Wait (at_remount x Locks))) f f
-      remount_goes x LoadsStage found hook f =
+          (phase_after (map_next Phase.Remounts (remount_after x s found hook).0))
+      remount_goes x RemountStep.Locks found hook f =
+          by_bool (found == 0) (λ b. NextFits (if b then Next.Go (at_remount x RemountStep.LoadsStage) else Next.Wait (at_remount x RemountStep.Locks))) f f
+      remount_goes x RemountStep.LoadsStage found hook f =
           by_bool (found == 0)
-          (λ b. NextFits (if b then Go (at_remount x LoadsSuperblock) else Go (at_remount x (Releases (Err Busy))))) f f
-      remount_goes x LoadsSuperblock found hook f = (f.0, f.1, f.2, f.3, f.4, state_fits x.read_only (not (found == 0)))
-      remount_goes x SetsWritable found (Ok answer) f = f
-      remount_goes x SetsWritable found (Err code) f = tt
-      remount_goes x LoadsRemoved found hook f =
+          (λ b. NextFits (if b then Next.Go (at_remount x RemountStep.LoadsSuperblock)
+          else Next.Go (at_remount x (RemountStep.Releases (Err GateError.Busy))))) f f
+      remount_goes x RemountStep.LoadsSuperblock found hook f = (f.0, f.1, f.2, f.3, f.4, state_fits x.read_only (not (found == 0)))
+      remount_goes x RemountStep.SetsWritable found (Ok answer) f = f
+      remount_goes x RemountStep.SetsWritable found (Err code) f = tt
+      remount_goes x RemountStep.LoadsRemoved found hook f =
           by_bool (found == 0)
-          (λ b. NextFits (if b then Go (at_remount x (LoadsFlags 0 no_mounts)) else Go (at_remount x (Releases (Err Busy)))))
+          (λ b. NextFits (if b then Next.Go (at_remount x (RemountStep.LoadsFlags 0 no_mounts))
+          else Next.Go (at_remount x (RemountStep.Releases (Err GateError.Busy)))))
           (f.0, f.1, f.2, f.3, f.4, (lim.some_mount, none_below 0)) f
-      remount_goes x (LoadsFlags m set) found hook f =
+      remount_goes x (RemountStep.LoadsFlags m set) found hook f =
           by_bool (has_flag found 1)
-          (λ b. NextFits (if b then Go (at_remount x (past_mount x.mounts m set)) else Go (at_remount x (SetsHold m set))))
+          (λ b. NextFits (if b then Next.Go (at_remount x (past_mount x.mounts m set)) else Next.Go (at_remount x (RemountStep.SetsHold m set))))
           (f.0, f.1, f.2, f.3, f.4, past_mount_fits x.mounts m set f.2 f.5.0 (f.5.1.0, λ n q. omega (arith, f.5.1.1 n q))) f
-      remount_goes x (SetsHold m set) found hook f = (f.0, f.1, f.2, f.3, f.4, (f.5.0, f.5.1, lim.some_processor))
-      remount_goes x (Sums m set sum) found hook f = (f.0, f.1, f.2, f.3, f.4, sums_fit x m set sum found f.1 f.2 f.5.0 f.5.1)
-      remount_goes x (LoadsRemovedAgain set) found hook f =
+      remount_goes x (RemountStep.SetsHold m set) found hook f = (f.0, f.1, f.2, f.3, f.4, (f.5.0, f.5.1, lim.some_processor))
+      remount_goes x (RemountStep.Sums m set sum) found hook f = (f.0, f.1, f.2, f.3, f.4, sums_fit x m set sum found f.1 f.2 f.5.0 f.5.1)
+      remount_goes x (RemountStep.LoadsRemovedAgain set) found hook f =
           by_bool (found == 0)
-          (λ b. NextFits (if b then Go (at_remount x (SetsRemount set)) else Go (at_remount x (leave_holds set)))) f
+          (λ b. NextFits (if b then Next.Go (at_remount x (RemountStep.SetsRemount set)) else Next.Go (at_remount x (leave_holds set)))) f
           (f.0, f.1, f.2, f.3, f.4, leave_holds_fits set f.5)
-      remount_goes x (LeavesHolds set) found hook f =
+      remount_goes x (RemountStep.LeavesHolds set) found hook f =
           (f.0, f.1, f.2, f.3, f.4, leave_holds_fits (without_lowest set) (leaves_below c.mounts set f.5.0 f.5.1))
-      remount_goes x (SetsRemount set) found hook f = (f.0, f.1, f.2, f.3, f.4, let_go_fits set f.5)
-      remount_goes x (ClearsHold set) found hook f =
+      remount_goes x (RemountStep.SetsRemount set) found hook f = (f.0, f.1, f.2, f.3, f.4, let_go_fits set f.5)
+      remount_goes x (RemountStep.ClearsHold set) found hook f =
           (f.0, f.1, f.2, f.3, f.4, let_go_fits (without_lowest set) (leaves_below c.mounts set f.5.0 f.5.1))
-      remount_goes x (GivesUp m set) found hook f =
+      remount_goes x (RemountStep.GivesUp m set) found hook f =
           (f.0, f.1, f.2, f.3, f.4, give_up_fits m (without_lowest set) f.5.2 (leaves_below c.mounts set f.5.0 f.5.1))
-      remount_goes x (ClearsMark n) found hook f =
-          cleans_none n (has_flag found 4) (Some (Remounts (at_remount x (past_node x.nodes n))))
+      remount_goes x (RemountStep.ClearsMark n) found hook f =
+          cleans_none n (has_flag found 4) (Some (Phase.Remounts (at_remount x (past_node x.nodes n))))
           (f.0, f.1, f.2, f.3, f.4, past_node_fits x.nodes n f.3)
-      remount_goes x SetsReadOnly found (Ok answer) f = f
-      remount_goes x SetsReadOnly found (Err code) f = f
-      remount_goes x ClearsRemount found hook f = f
-      remount_goes x (Releases answer) found hook f = tt
+      remount_goes x RemountStep.SetsReadOnly found (Ok answer) f = f
+      remount_goes x RemountStep.SetsReadOnly found (Err code) f = f
+      remount_goes x RemountStep.ClearsRemount found hook f = f
+      remount_goes x (RemountStep.Releases answer) found hook f = tt

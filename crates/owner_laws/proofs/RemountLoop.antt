@@ -1,64 +1,45 @@
 -- Events of a remount's loop over the mounts.
-use Rattle.mount_counts.specs.declared.remounts.RemountStep.TheVariants.{LoadsFlags, SetsHold, Sums, LoadsRemovedAgain, LeavesHolds, ClearsHold, GivesUp, ClearsMark, Releases}
-use Rattle.mount_counts.specs.declared.remounts.Remount.{Remount}
-use Rattle.mount_laws.proofs.MountLaws.{sets_hold as mount_sets_hold, is_skipped, sums_on, sums_to_none, sums_to_some, is_left, SeeksNone}
-use Rattle.gate_world.specs.Rules.{AtMount, IsGood, MountHoldsIn, role_of, owns}
-use Rattle.mount_counts.specs.Roles.{Out, Summing, has_hold, hold_bit}
-use Rattle.owner_laws.proofs.RemountParts.{RemountKeeps, Stays, GoesOn, in_loop, owner_on, alike_same, here_fits, here_knows, load_event, role_was, Mount, mount_stays, flags_change}
-use Rattle.std.proofs.Common.{refl, sym, ap, subst, inl, inr, true, false, arith, suc, ℕ, Bool, ◌≡◌, ◌⊎◌, ◌<◌, nat_lt, ◌==◌, ◌+◌, if◌then◌else◌, Err, Some, bit_or, ◌∙◌, ltb-true, add-one, None, ltb-false, eq-eqb, ne_eqb}
-use Rattle.mount_counts.specs.declared.sets.MountSet.{MountSet}
+use Rattle.std.proofs.Common.{refl, sym, ap, subst, inl, inr, true, false, arith, suc, ℕ, Bool, ◌≡◌, ◌⊎◌, ◌<◌, nat_lt, ◌==◌, ◌+◌, if◌then◌else◌, Err, Some}
+use Rattle.std.proofs.Common.{bit_or, ◌∙◌, ltb-true, add-one, None, ltb-false, eq-eqb, ne_eqb}
+use Rattle.std.proofs.lemmas.Bool.{cases_Bool, Decides.eqb_tells}
+use Rattle.access_model.specs.declared.{errors.GateError.GateError, replies.Next.Next}
+use Rattle.cpu_words.specs.{Hooks.HookAnswer, Touches.wrap_add, declared.{events.Touch.Touch, names.WordName.WordName, sums.Sum.Sum}}
 use Rattle.gated_tree.specs.Roles.{Out as OffTree, Clearing}
-use Rattle.gate_world.specs.declared.config.Config.{Config}
-use Rattle.gate_world.specs.Stages.{remount_stage_role}
-use Rattle.stage_laws.specs.Roles.{Remounting, CleanBelow}
-use Rattle.stage_laws.specs.Events.{IsAlike}
-use Rattle.gate_world.specs.Rules.{marks_of}
-use Rattle.gate_world.specs.Remounts.{giving_role, loop_role, AllBelow, remount_role}
-use Rattle.gate_world.specs.Configs.{IsWithin}
-use Rattle.gate_world.specs.Worlds.{World}
-use Rattle.mount_counts.specs.Remounts.{past_mount, let_go, leave_holds, give_up, past_node, at_remount}
-use Rattle.gate_frames.proofs.Keeps.{by_bool}
-use Rattle.cpu_words.specs.Hooks.{HookAnswer}
-use Rattle.mount_counts.specs.declared.remounts.RemountStep.{RemountStep}
-use Rattle.cpu_words.specs.declared.sums.Sum.{Sum}
-use Rattle.gate_world.specs.declared.work.Phase.TheVariants.{Remounts}
-use Rattle.gate_world.specs.Fits.{PhaseFits}
-use Rattle.mount_counts.specs.Sets.{has_mount, with_mount}
-use Rattle.access_model.specs.declared.errors.GateError.TheVariants.{Busy}
-use Rattle.gate_world.specs.Views.{held_at, holds_level, view_with}
-use Rattle.std.proofs.lemmas.Bool.{cases_Bool}
-use Rattle.owner_laws.proofs.RemountRoles.{not_passed, summing_here, past_mount_role, summing_there, passed_here, passed_there, give_up_role, remount_seeks}
-use Rattle.mount_counts.specs.Phases.{has_flag}
-use Rattle.cpu_words.specs.Touches.{wrap_add}
-use Rattle.cpu_words.specs.declared.names.WordName.TheVariants.{MountFlags, MountCount}
-use Rattle.owner_laws.proofs.RemountFits.{joins_below, past_mount_fits, give_up_fits}
-use Rattle.gate_frames.proofs.Owners.{no_hold}
-use Rattle.std.proofs.lemmas.Bool.Decides.{eqb_tells}
-use Rattle.gate_world.specs.declared.views.View.{View}
+use Rattle.mount_counts.specs.{Phases.has_flag, Remounts.{past_mount, let_go, leave_holds, give_up, past_node, at_remount}}
+use Rattle.mount_counts.specs.{Roles.{Out, Summing, has_hold, hold_bit}, Sets.{has_mount, with_mount}}
+use Rattle.mount_counts.specs.declared.{remounts.{Remount.Remount, RemountStep.RemountStep}, sets.MountSet.MountSet}
 use Rattle.mount_laws.proofs.Bits.{read_only_set, or_hold}
-use Rattle.cpu_words.specs.declared.events.Touch.TheVariants.{Or}
-use Rattle.access_model.specs.declared.replies.Next.TheVariants.{Go}
+use Rattle.mount_laws.proofs.MountLaws.{sets_hold as mount_sets_hold, is_skipped, sums_on, sums_to_none, sums_to_some, is_left, SeeksNone}
 use Rattle.mount_laws.proofs.Sets.{joins_here, joins_there}
+use Rattle.stage_laws.specs.{Events.IsAlike, Roles.{Remounting, CleanBelow}}
+use Rattle.gate_world.specs.{Configs.IsWithin, Fits.PhaseFits, Remounts.{giving_role, loop_role, AllBelow, remount_role}}
+use Rattle.gate_world.specs.{Rules.{AtMount, IsGood, MountHoldsIn, role_of, owns, marks_of}, Stages.remount_stage_role, Views.{held_at, holds_level, view_with}}
+use Rattle.gate_world.specs.{Worlds.World, declared.{config.Config.Config, views.View.View, work.Phase.Phase}}
+use Rattle.gate_frames.proofs.{Keeps.by_bool, Owners.no_hold}
+use Rattle.owner_laws.proofs.RemountFits.{joins_below, past_mount_fits, give_up_fits}
+use Rattle.owner_laws.proofs.RemountParts.{RemountKeeps, Stays, GoesOn, in_loop, owner_on, alike_same, here_fits, here_knows, load_event, role_was, Mount}
+use Rattle.owner_laws.proofs.RemountParts.{mount_stays, flags_change}
+use Rattle.owner_laws.proofs.RemountRoles.{not_passed, summing_here, past_mount_role, summing_there, passed_here, passed_there, give_up_role, remount_seeks}
 
 -- what stays where the loop goes on, where holds are to be cleared, and where marks are
 past_mount_stays : (nodes mounts m : ℕ) (held : MountSet) → Stays nodes (past_mount mounts m held) 0 OffTree
 past_mount_stays nodes mounts m held =
-    by_bool (nat_lt (m + 1) mounts) (λ z. Stays nodes (if z then LoadsFlags (m + 1) held else LoadsRemovedAgain held) 0 OffTree)
+    by_bool (nat_lt (m + 1) mounts) (λ z. Stays nodes (if z then RemountStep.LoadsFlags (m + 1) held else RemountStep.LoadsRemovedAgain held) 0 OffTree)
     (refl, refl, refl) (refl, refl, refl)
 
 pub leave_holds_stays : (nodes : ℕ) (held : MountSet) → Stays nodes (leave_holds held) 0 OffTree
 leave_holds_stays nodes held =
-    by_bool (held.bits == 0) (λ z. Stays nodes (if z then Releases (Err Busy) else LeavesHolds held) 0 OffTree)
+    by_bool (held.bits == 0) (λ z. Stays nodes (if z then RemountStep.Releases (Err GateError.Busy) else RemountStep.LeavesHolds held) 0 OffTree)
     (refl, refl, refl) (refl, refl, refl)
 
 pub let_go_stays : (nodes : ℕ) (held : MountSet) → Stays nodes (let_go held) 1 (Clearing 1)
 let_go_stays nodes held =
-    by_bool (held.bits == 0) (λ z. Stays nodes (if z then ClearsMark 1 else ClearsHold held) 1 (Clearing 1))
+    by_bool (held.bits == 0) (λ z. Stays nodes (if z then RemountStep.ClearsMark 1 else RemountStep.ClearsHold held) 1 (Clearing 1))
     (refl, refl, refl) (refl, refl, refl)
 
 pub give_up_stays : (nodes m : ℕ) (held : MountSet) → Stays nodes (give_up m held) 0 OffTree
 give_up_stays nodes m held =
-    by_bool (held.bits == 0) (λ z. Stays nodes (if z then Releases (Err Busy) else GivesUp m held) 0 OffTree)
+    by_bool (held.bits == 0) (λ z. Stays nodes (if z then RemountStep.Releases (Err GateError.Busy) else RemountStep.GivesUp m held) 0 OffTree)
     (refl, refl, refl) (refl, refl, refl)
 
 pub past_node_stays : (nodes n : ℕ) → n < nodes → Stays nodes (past_node nodes n) 1 (Clearing (suc n))
@@ -73,7 +54,7 @@ past_node_stays nodes n there =
 -- the role at the stage where holds are to be cleared under `remount`, and where the mark of a node was
 pub let_go_stage : (nodes : ℕ) (held : MountSet) → remount_stage_role nodes (let_go held) ≡ Remounting 0 1
 let_go_stage nodes held =
-    by_bool (held.bits == 0) (λ z. remount_stage_role nodes (if z then ClearsMark 1 else ClearsHold held) ≡ Remounting 0 1) refl refl
+    by_bool (held.bits == 0) (λ z. remount_stage_role nodes (if z then RemountStep.ClearsMark 1 else RemountStep.ClearsHold held) ≡ Remounting 0 1) refl refl
 
 pub past_node_stage : (nodes n : ℕ) → n < nodes → remount_stage_role nodes (past_node nodes n) ≡ Remounting 0 (suc n)
 past_node_stage nodes n there =
@@ -86,33 +67,31 @@ past_node_stage nodes n there =
 
 -- a remount in its loop, or at the end of one, goes on at stage 0 of a writable superblock
 module _ (nodes stage sb : ℕ) (dirty : ℕ → ℕ) (a : stage ≡ 0) (b : sb ≡ 0) where
-  -- to another step of its loop
   pub loop_on : IsAlike in_loop in_loop × ((stage ≡ 0) × (sb ≡ 0)) × CleanBelow 0 dirty
   loop_on = owner_on (Some 0) (Some 0) (Some 0) (Some 0) stage sb dirty a b
 
-  -- past a mount
   past_mount_on : (mounts m : ℕ) (held : MountSet) → GoesOn in_loop nodes (past_mount mounts m held) stage sb dirty
   past_mount_on mounts m held =
-      by_bool (nat_lt (m + 1) mounts) (λ z. GoesOn in_loop nodes (if z then LoadsFlags (m + 1) held else LoadsRemovedAgain held) stage sb dirty)
+      by_bool (nat_lt (m + 1) mounts)
+      (λ z. GoesOn in_loop nodes (if z then RemountStep.LoadsFlags (m + 1) held else RemountStep.LoadsRemovedAgain held) stage sb dirty)
       loop_on loop_on
 
-  -- where it gives up
   pub give_up_on : (m : ℕ) (held : MountSet) → GoesOn in_loop nodes (give_up m held) stage sb dirty
   give_up_on m held =
-      by_bool (held.bits == 0) (λ z. GoesOn in_loop nodes (if z then Releases (Err Busy) else GivesUp m held) stage sb dirty)
+      by_bool (held.bits == 0) (λ z. GoesOn in_loop nodes (if z then RemountStep.Releases (Err GateError.Busy) else RemountStep.GivesUp m held) stage sb dirty)
       (owner_on (Some 0) (Some 0) None None stage sb dirty tt tt) loop_on
 
-  -- where a file was found removed
   pub leave_holds_on : (held : MountSet) → GoesOn in_loop nodes (leave_holds held) stage sb dirty
   leave_holds_on held =
-      by_bool (held.bits == 0) (λ z. GoesOn in_loop nodes (if z then Releases (Err Busy) else LeavesHolds held) stage sb dirty)
+      by_bool (held.bits == 0)
+      (λ z. GoesOn in_loop nodes (if z then RemountStep.Releases (Err GateError.Busy) else RemountStep.LeavesHolds held) stage sb dirty)
       (owner_on (Some 0) (Some 0) None None stage sb dirty tt tt) loop_on
 
-  -- where holds are to be cleared under `remount`
   pub let_go_on : (held : MountSet) → CleanBelow 1 dirty → GoesOn (Remounting 0 1) nodes (let_go held) stage sb dirty
   let_go_on held clean =
       let there : IsAlike (Remounting 0 1) (Remounting 0 1) × ((stage ≡ 0) × (sb ≡ 0)) × CleanBelow 1 dirty = (alike_same, (a, b), clean) in
-      by_bool (held.bits == 0) (λ z. GoesOn (Remounting 0 1) nodes (if z then ClearsMark 1 else ClearsHold held) stage sb dirty) there there
+      by_bool (held.bits == 0)
+      (λ z. GoesOn (Remounting 0 1) nodes (if z then RemountStep.ClearsMark 1 else RemountStep.ClearsHold held) stage sb dirty) there there
 
 -- a mount that is held is empty before and after a sum that was not 0, but that of the sum; one that isn't held is left
 giving_or_left : (a b : Bool) → (giving_role false a ≡ loop_role a b) ⊎
@@ -123,15 +102,14 @@ giving_or_left false false = inr (refl, refl)
 
 module _ (c : Config) (lim : IsWithin c) (w : World) (good : IsGood c w) (t : ℕ) (lt : t < c.tasks) (x : Remount) (hook : HookAnswer) where
   abbrev IsHere : RemountStep → Type 0
-  IsHere s = (w.views t).phase ≡ Some (Remounts (at_remount x s))
+  IsHere s = (w.views t).phase ≡ Some (Phase.Remounts (at_remount x s))
 
   abbrev Keeps : RemountStep → Type 0
-  Keeps s = RemountKeeps c w t hook (Remounts (at_remount x s))
+  Keeps s = RemountKeeps c w t hook (Phase.Remounts (at_remount x s))
 
   abbrev FitsHere : RemountStep → Type 0
-  FitsHere s = PhaseFits c t (held_at (w.views t)) (holds_level (w.views t)) (Remounts (at_remount x s))
+  FitsHere s = PhaseFits c t (held_at (w.views t)) (holds_level (w.views t)) (Phase.Remounts (at_remount x s))
 
-  -- the mount at which the loop stands isn't held yet
   not_yet : (m : ℕ) (held : MountSet) → AllBelow m held → has_mount held m ≡ false
   not_yet m held h = elim (cases_Bool (has_mount held m)) [ inl q ↦ absurd (omega (arith, h.1 m q)) | inr q ↦ q ]
 
@@ -139,15 +117,15 @@ module _ (c : Config) (lim : IsWithin c) (w : World) (good : IsGood c w) (t : �
   out_here m held h = rw (not_yet m held h, not_passed m) refl
 
   -- loads the flags of the mount at which its loop stands; meets: whoever changes READONLY owns `umount`
-  pub loads_flags : (m : ℕ) (held : MountSet) → IsHere (LoadsFlags m held) → Keeps (LoadsFlags m held)
+  pub loads_flags : (m : ℕ) (held : MountSet) → IsHere (RemountStep.LoadsFlags m held) → Keeps (RemountStep.LoadsFlags m held)
   loads_flags m held e =
-      let s : RemountStep = LoadsFlags m held in
+      let s : RemountStep = RemountStep.LoadsFlags m held in
       let f : FitsHere s = here_fits c w good t lt x s e in
       let k : (w.words.stage ≡ 0) × (w.words.sb ≡ 0) = here_knows c w good t lt x s e in
       let g : MountHoldsIn c w m = good (AtMount m) f.5.0 in
       let out : loop_role (has_mount held m) (nat_lt m m) ≡ Out = out_here m held f.5.1 in
       elim (cases_Bool (has_flag (w.words.flags m) 1)) [
-        | inl h ↦ rw h (load_event c w good t lt x s e (MountFlags m) hook (past_mount x.mounts m held) refl
+        | inl h ↦ rw h (load_event c w good t lt x s e (WordName.MountFlags m) hook (past_mount x.mounts m held) refl
             (past_mount_stays x.nodes x.mounts m held)
             (past_mount_on x.nodes w.words.stage w.words.sb (marks_of w.words) k.0 k.1 x.mounts m held)
             (past_mount_fits c x.mounts m held f.2 f.5.0 (f.5.1.0, λ n q. omega (arith, f.5.1.1 n q)))
@@ -163,15 +141,15 @@ module _ (c : Config) (lim : IsWithin c) (w : World) (good : IsGood c w) (t : �
               | inr q ↦ mount_stays c w good t lt x s e n ln (loop_role (has_mount held n) (nat_lt n (m + 1)))
                   (ap (loop_role (has_mount held n)) (passed_there m n q.1))
             ])))
-        | inr h ↦ rw h (load_event c w good t lt x s e (MountFlags m) hook (SetsHold m held) refl (refl, refl, refl)
+        | inr h ↦ rw h (load_event c w good t lt x s e (WordName.MountFlags m) hook (RemountStep.SetsHold m held) refl (refl, refl, refl)
             (loop_on x.nodes w.words.stage w.words.sb (marks_of w.words) k.0 k.1) f.5
-            (λ n ln. mount_stays c w good t lt x s e n ln (remount_role n (SetsHold m held)) refl))
+            (λ n ln. mount_stays c w good t lt x s e n ln (remount_role n (RemountStep.SetsHold m held)) refl))
       ]
 
   -- sets HOLD before it sums the words; meets: a task adds before it looks for HOLD
-  pub sets_hold : (m : ℕ) (held : MountSet) → IsHere (SetsHold m held) → Keeps (SetsHold m held)
+  pub sets_hold : (m : ℕ) (held : MountSet) → IsHere (RemountStep.SetsHold m held) → Keeps (RemountStep.SetsHold m held)
   sets_hold m held e =
-      let s : RemountStep = SetsHold m held in
+      let s : RemountStep = RemountStep.SetsHold m held in
       let f : FitsHere s = here_fits c w good t lt x s e in
       let k : (w.words.stage ≡ 0) × (w.words.sb ≡ 0) = here_knows c w good t lt x s e in
       let g : MountHoldsIn c w m = good (AtMount m) f.5.0 in
@@ -179,9 +157,9 @@ module _ (c : Config) (lim : IsWithin c) (w : World) (good : IsGood c w) (t : �
       let sum : Sum = record { words = 0; total = 0 } in
       let was : role_of m (w.views t).phase ≡ Out = role_was c w good t lt x s e m ∙ out_here m held f.5.1 in
       let clear : hold_bit (w.words.flags m) ≡ 0 = no_hold c w good t lt m f.5.0 (ap owns e) (ap has_hold was) in
-      let v : View = view_with (w.views t) (MountFlags m, Or 2) (w.words.flags m) hook
-      (Go (Remounts (at_remount x (Sums m held sum))), None) in
-      flags_change c w good t lt x s e refl (Sums m held sum) v refl (refl, refl, refl, refl, refl, refl, refl)
+      let v : View = view_with (w.views t) (WordName.MountFlags m, Touch.Or 2) (w.words.flags m) hook
+      (Next.Go (Phase.Remounts (at_remount x (RemountStep.Sums m held sum))), None) in
+      flags_change c w good t lt x s e refl (RemountStep.Sums m held sum) v refl (refl, refl, refl, refl, refl, refl, refl)
       (f.0, f.1, f.2, f.3, f.4, (f.5.0, f.5.1, lim.some_processor)) m word (refl, refl, refl)
       (loop_on x.nodes w.words.stage w.words.sb (marks_of w.words) k.0 k.1) (or_hold (w.words.flags m) g.bits).1
       (λ lm. subst (Mount c w good t lt x s e m word w.words.remount w.words.sb)
@@ -190,9 +168,9 @@ module _ (c : Config) (lim : IsWithin c) (w : World) (good : IsGood c w) (t : �
       (λ n ne. summing_there m n sum (loop_role (has_mount held n) (nat_lt n m)) ne)
 
   -- reads a word under HOLD; meets: a task adds before it looks for HOLD
-  pub sums : (m : ℕ) (held : MountSet) (sum : Sum) → IsHere (Sums m held sum) → Keeps (Sums m held sum)
+  pub sums : (m : ℕ) (held : MountSet) (sum : Sum) → IsHere (RemountStep.Sums m held sum) → Keeps (RemountStep.Sums m held sum)
   sums m held sum e =
-      let s : RemountStep = Sums m held sum in
+      let s : RemountStep = RemountStep.Sums m held sum in
       let f : FitsHere s = here_fits c w good t lt x s e in
       let k : (w.words.stage ≡ 0) × (w.words.sb ≡ 0) = here_knows c w good t lt x s e in
       let g : MountHoldsIn c w m = good (AtMount m) f.5.0 in
@@ -209,23 +187,23 @@ module _ (c : Config) (lim : IsWithin c) (w : World) (good : IsGood c w) (t : �
         | inl h ↦
             let more : suc i < c.processors = omega (arith, ltb-true (i + 1) x.processors h, f.1) in
             let on : Sum = record { words = i + 1; total = now } in
-            rw h (load_event c w good t lt x s e (MountCount m i) hook (Sums m held on) refl (refl, refl, refl)
+            rw h (load_event c w good t lt x s e (WordName.MountCount m i) hook (RemountStep.Sums m held on) refl (refl, refl, refl)
             (loop_on x.nodes w.words.stage w.words.sb (marks_of w.words) k.0 k.1)
             (f.5.0, f.5.1, omega (arith, more))
             (λ n ln. elim (eqb_tells n m) [
               | inl q ↦ subst (λ y. Mount c w good t lt x s e y (w.words.flags y) w.words.remount w.words.sb
-                  (remount_role y (Sums m held on))) (sym q.1)
+                  (remount_role y (RemountStep.Sums m held on))) (sym q.1)
                   (subst (Mount c w good t lt x s e m (w.words.flags m) w.words.remount w.words.sb)
                   (sym (summing_here m on (loop_role (has_mount held m) (nat_lt m m))))
                   (subst (λ j. Mount c w good t lt x s e m (w.words.flags m) w.words.remount w.words.sb (Summing j now)) (sym (add-one i))
                   (sums_on g t lt lim.tasks lim.processors i sum.total r more)))
-              | inr q ↦ mount_stays c w good t lt x s e n ln (remount_role n (Sums m held on))
+              | inr q ↦ mount_stays c w good t lt x s e n ln (remount_role n (RemountStep.Sums m held on))
                   (summing_there m n on (loop_role (has_mount held n) (nat_lt n m)) q.1 ∙ sym (others n q.1))
             ]))
         | inr h ↦
             let last : suc i ≡ c.processors = omega (arith, f.5.2, ltb-false (i + 1) x.processors h, f.1) in
             elim (eqb_tells now 0) [
-              | inl z ↦ rw (h, z.0) (load_event c w good t lt x s e (MountCount m i) hook (past_mount x.mounts m joined) refl
+              | inl z ↦ rw (h, z.0) (load_event c w good t lt x s e (WordName.MountCount m i) hook (past_mount x.mounts m joined) refl
                   (past_mount_stays x.nodes x.mounts m joined)
                   (past_mount_on x.nodes w.words.stage w.words.sb (marks_of w.words) k.0 k.1 x.mounts m joined)
                   (past_mount_fits c x.mounts m joined f.2 f.5.0 below)
@@ -240,7 +218,7 @@ module _ (c : Config) (lim : IsWithin c) (w : World) (good : IsGood c w) (t : �
                     | inr q ↦ mount_stays c w good t lt x s e n ln (loop_role (has_mount joined n) (nat_lt n (m + 1)))
                         ((λ j. loop_role (joins_there held m n small q.1 j) (passed_there m n q.1 j)) ∙ sym (others n q.1))
                   ])))
-              | inr z ↦ rw (h, z.0) (load_event c w good t lt x s e (MountCount m i) hook (give_up m joined) refl
+              | inr z ↦ rw (h, z.0) (load_event c w good t lt x s e (WordName.MountCount m i) hook (give_up m joined) refl
                   (give_up_stays x.nodes m joined)
                   (give_up_on x.nodes w.words.stage w.words.sb (marks_of w.words) k.0 k.1 m joined)
                   (give_up_fits c m joined f.5.0 (below.0, λ n q. omega (arith, below.1 n q, f.5.0)))

@@ -1,81 +1,53 @@
 -- What an event of a remount may leave: each part of the rule, and the shown model.
-use Rattle.mount_counts.specs.declared.remounts.RemountStep.TheVariants.{Locks}
-use Rattle.mount_counts.specs.declared.remounts.Remount.{Remount}
-use Rattle.freeze_levels.specs.Holders.{holders_in}
-use Rattle.holder_laws.specs.Roles.{Apart}
-use Rattle.gate_world.specs.Holders.{holder_role_of}
-use Rattle.gate_frames.proofs.Holders.{holders_stay}
-use Rattle.gate_world.specs.Rules.{Owner, Stages, Holding, Tree, Fitting, Known, AtMount, IsGood, owns, Part, StepKeeps, role_of, ViewFits, at_mount, Holds, IsSteady, OwnerHolds, remounts, Moves, AtLevel, SyncAt, Sections, marks_of, Files}
-use Rattle.gate_world.specs.Fits.{Fits, PhaseFits, HasFile, file_of}
-use Rattle.access_model.specs.States.{openers}
-use Rattle.gated_tree.specs.Nodes.{opens_in}
-use Rattle.gate_frames.proofs.Frames.{opens_left}
 use Rattle.std.proofs.Common.{refl, sym, ap, subst, inl, inr, true, false, arith, true≢false, ℕ, ◌<◌, ◌≡◌, Some, ◌⊎◌, Bool, ◌==◌, ◌||◌, ◌∙◌, None, Option}
-use Rattle.mount_counts.specs.declared.remounts.RemountStep.{RemountStep}
-use Rattle.gate_world.specs.Worlds.{World, value_at, after_step, phase_action}
-use Rattle.gate_world.specs.declared.config.Config.{Config}
-use Rattle.cpu_words.specs.Hooks.{HookAnswer}
-use Rattle.gate_world.specs.Owners.{is_owned, takes_lock}
-use Rattle.gate_frames.proofs.Known.{IsOwnersWork, known_after}
-use Rattle.gate_world.specs.declared.work.Phase.{Phase}
-use Rattle.gate_world.specs.Remounts.{remount_owns, remount_sets, remount_role, RemountFits}
-use Rattle.mount_counts.specs.Remounts.{remount_next, remount_after, at_remount}
-use Rattle.gate_world.specs.Views.{phase_after, held_at, holds_level, added_by, taken_by, view_with, has_open}
-use Rattle.gate_world.specs.declared.work.Phase.TheVariants.{Remounts}
-use Rattle.gate_world.specs.Found.{is_load}
-use Rattle.access_model.specs.Replies.{map_next}
-use Rattle.cpu_words.specs.Touches.{found_by, event_of}
-use Rattle.std.proofs.lemmas.Bool.{cases_Bool}
-use Rattle.mount_counts.specs.Roles.{Role, MountHolds, ro_bit}
-use Rattle.gate_world.specs.declared.views.View.{View}
-use Rattle.cpu_words.specs.Words.{Words, read}
-use Rattle.cpu_words.specs.declared.names.WordName.{WordName}
-use Rattle.finite_sums.specs.Sums.{update}
-use Rattle.gated_tree.specs.Nodes.{node_shown}
-use Rattle.gated_tree.specs.Roles.{Role as TreeRole, TreeState}
-use Rattle.tree_laws.specs.Events.{Event as TreeEvent}
-use Rattle.gate_world.specs.Configs.{IsWithin}
-use Rattle.gate_world.specs.Trees.{tree_bounds, tree_of, tree_role_of, tree_roles, is_sealed, is_bare_at, remount_tree_role}
-use Rattle.gate_frames.proofs.Trees.{marks_right, tree_after, tree_holds, tree_then, tree_within}
-use Rattle.tree_laws.proofs.Each.{each_event}
-use Rattle.access_model.specs.declared.actions.Action.{Action}
-use Rattle.gate_world.specs.Shown.{shown, closing}
-use Rattle.access_model.specs.declared.replies.Next.{Next}
-use Rattle.gate_frames.proofs.Frames.{left_alone, holds_as, owner_same, view_as, shown_as, shown_still, added_load, taken_load, SameLevelCounts, IsOffLevels, SameLevelWords, level_left, sync_left, sections_left}
-use Rattle.finite_sums.proofs.Totals.{each_updated, update_map, update_same, update_at, update_off}
-use Rattle.gate_frames.proofs.Owners.{remount_stored}
-use Rattle.gate_frames.proofs.Stages.{stages_in, IsStageEvent, stages_after}
-use Rattle.stage_laws.specs.Roles.{StageRole, Owning, IsKnown, KnowsStage, CleanBelow, clean_by, sums as stage_sums}
+use Rattle.std.proofs.lemmas.Bool.{cases_Bool, Decides.eqb_tells}
+use Rattle.finite_sums.{proofs.Totals.{each_updated, update_map, update_same, update_at, update_off}, specs.Sums.update}
+use Rattle.access_model.specs.{Replies.map_next, States.openers, declared.{actions.Action.Action, replies.Next.Next}}
+use Rattle.cpu_words.specs.{Hooks.HookAnswer, Touches.{found_by, event_of}, Words.{Words, read}, declared.{events.Touch.Touch, names.WordName.WordName}}
+use Rattle.gated_tree.specs.{Nodes.{opens_in, node_shown}, Roles.{Role as TreeRole, TreeState}}
+use Rattle.mount_counts.specs.{Remounts.{remount_next, remount_after, at_remount}, Roles.{Role, MountHolds, ro_bit}}
+use Rattle.mount_counts.specs.declared.remounts.{Remount.Remount, RemountStep.RemountStep}
+use Rattle.tree_laws.{proofs.Each.each_event, specs.Events.Event as TreeEvent}
+use Rattle.freeze_levels.specs.Holders.{holders_in}
 use Rattle.stage_laws.specs.Events.{StageEvent, Recalls, IsAlike, playing}
-use Rattle.gate_world.specs.Stages.{stage_role_of, remount_stage_role}
-use Rattle.gate_frames.proofs.Loads.{steady, after_load}
-use Rattle.access_model.specs.declared.replies.Next.TheVariants.{Go}
-use Rattle.std.proofs.lemmas.Bool.Decides.{eqb_tells}
-use Rattle.gate_frames.proofs.MountEvents.{is_known_part, known_is, level_added_load, level_taken_load}
-use Rattle.cpu_words.specs.declared.events.Touch.TheVariants.{Load}
+use Rattle.stage_laws.specs.Roles.{StageRole, Owning, IsKnown, KnowsStage, CleanBelow, clean_by, sums as stage_sums}
+use Rattle.holder_laws.specs.Roles.{Apart}
+use Rattle.gate_world.specs.{Configs.IsWithin, Fits.{Fits, PhaseFits, HasFile, file_of}, Found.is_load, Holders.holder_role_of}
+use Rattle.gate_world.specs.{Levels.{level_added_by, is_frozen_whole, level_taken_by}, Owners.{is_owned, takes_lock}}
+use Rattle.gate_world.specs.Remounts.{remount_owns, remount_sets, remount_role, RemountFits}
+use Rattle.gate_world.specs.Rules.{Owner, Stages, Holding, Tree, Fitting, Known, AtMount, IsGood, owns, Part, StepKeeps, role_of, ViewFits, at_mount, Holds}
+use Rattle.gate_world.specs.Rules.{IsSteady, OwnerHolds, remounts, Moves, AtLevel, SyncAt, Sections, marks_of, Files}
+use Rattle.gate_world.specs.{Shown.{shown, closing}, Stages.{stage_role_of, remount_stage_role}}
+use Rattle.gate_world.specs.Trees.{tree_bounds, tree_of, tree_role_of, tree_roles, is_sealed, is_bare_at, remount_tree_role}
+use Rattle.gate_world.specs.Views.{phase_after, held_at, holds_level, added_by, taken_by, view_with, has_open}
+use Rattle.gate_world.specs.{Worlds.{World, value_at, after_step, phase_action}, declared.{config.Config.Config, views.View.View, work.Phase.Phase}}
+use Rattle.gate_frames.proofs.Frames.{opens_left, left_alone, holds_as, owner_same, view_as, shown_as, shown_still, added_load, taken_load, SameLevelCounts}
+use Rattle.gate_frames.proofs.Frames.{IsOffLevels, SameLevelWords, level_left, sync_left, sections_left}
+use Rattle.gate_frames.proofs.{Holders.holders_stay, Known.{IsOwnersWork, known_after}, Loads.{steady, after_load}}
+use Rattle.gate_frames.proofs.{MountEvents.{is_known_part, known_is, level_added_load, level_taken_load}, Owners.remount_stored}
+use Rattle.gate_frames.proofs.{Stages.{stages_in, IsStageEvent, stages_after}, Trees.{marks_right, tree_after, tree_holds, tree_then, tree_within}}
 use Rattle.gate_frames.proofs.Words.{load_same}
-use Rattle.gate_world.specs.Levels.{level_added_by, is_frozen_whole, level_taken_by}
 
 -- who changes an owned word is the owner, and a remount comes to own `umount` by taking it
 remount_changes : (x : Remount) (s : RemountStep) (hook : HookAnswer) → is_owned (remount_next x s hook).0 ≡ true →
     (is_load (remount_next x s hook).1 ≡ true) ⊎ (remount_owns s ≡ 1)
-remount_changes x Locks hook h = absurd (true≢false (sym h))
+remount_changes x RemountStep.Locks hook h = absurd (true≢false (sym h))
 remount_changes x s hook h = inr refl
 
 remount_comes : (x : Remount) (s : RemountStep) (hook : HookAnswer) (value : ℕ) →
-    owns (phase_after (map_next Remounts (remount_after x s (found_by (remount_next x s hook).1 value) hook).0)) ≡ 1 →
+    owns (phase_after (map_next Phase.Remounts (remount_after x s (found_by (remount_next x s hook).1 value) hook).0)) ≡ 1 →
     (remount_owns s ≡ 1) ⊎ (takes_lock (event_of (remount_next x s hook).0 (remount_next x s hook).1 value) ≡ true)
-remount_comes x Locks hook value h =
+remount_comes x RemountStep.Locks hook value h =
     elim (cases_Bool (value == 0)) [
       | inl f ↦ inr f
       | inr f ↦ absurd (omega (arith, rw f at h))
     ]
 remount_comes x s hook value h = inl refl
 
-remount_work : (w : World) (x : Remount) (hook : HookAnswer) → IsOwnersWork w (Remounts x) hook
+remount_work : (w : World) (x : Remount) (hook : HookAnswer) → IsOwnersWork w (Phase.Remounts x) hook
 remount_work w x hook = record {
   changes = remount_changes x x.step hook;
-  comes_to_own = remount_comes x x.step hook (value_at w.words (Remounts x) hook);
+  comes_to_own = remount_comes x x.step hook (value_at w.words (Phase.Remounts x) hook);
 }
 
 -- the law of an event of a remount: each part but what the owner knows, and the shown model
@@ -86,11 +58,11 @@ RemountKeeps c w t hook phase =
 
 -- what it knows moves with its trace
 pub whole_remount : (c : Config) (w : World) (t : ℕ) → t < c.tasks → IsGood c w → (hook : HookAnswer) (x : Remount) →
-    (w.views t).phase ≡ Some (Remounts x) → RemountKeeps c w t hook (Remounts x) → StepKeeps c w t hook (Remounts x)
+    (w.views t).phase ≡ Some (Phase.Remounts x) → RemountKeeps c w t hook (Phase.Remounts x) → StepKeeps c w t hook (Phase.Remounts x)
 whole_remount c w t lt good hook x e keeps = (
   λ part. elim (cases_Bool (is_known_part part)) [
-    | inl h ↦ subst (Holds c (after_step w t (Remounts x) hook)) (sym (known_is part h))
-        (known_after c w t (Remounts x) hook good lt e (remount_work w x hook))
+    | inl h ↦ subst (Holds c (after_step w t (Phase.Remounts x) hook)) (sym (known_is part h))
+        (known_after c w t (Phase.Remounts x) hook good lt e (remount_work w x hook))
     | inr h ↦ keeps.0 part h
   ],
   keeps.1,
@@ -111,7 +83,6 @@ GoesOn old nodes s stage sb dirty =
 abbrev pub in_loop : StageRole
 in_loop = Owning (Some 0) (Some 0)
 
--- a role is like itself
 pub alike_same : {r : StageRole} → IsAlike r r
 alike_same {r} = record { owns_same = refl; freezes_same = refl; remounts_same = refl; closed_same = refl; passed_same = refl }
 
@@ -124,15 +95,13 @@ owner_on old_stage old_sb new_stage new_sb stage sb dirty a b = (
   λ m below. absurd (omega (arith, below)),
 )
 
--- a remount closes no level
 pub remount_closes_none : (i nodes : ℕ) (s : RemountStep) → stage_sums i (remount_stage_role nodes s) ≡ 0
-remount_closes_none i nodes Locks = refl
+remount_closes_none i nodes RemountStep.Locks = refl
 remount_closes_none i nodes s = refl
 
 module _ (c : Config) (w : World) (good : IsGood c w) (t : ℕ) (lt : t < c.tasks) (x : Remount) (s : RemountStep)
-    (e : (w.views t).phase ≡ Some (Remounts (at_remount x s))) where
-  -- its phase fits its task's accesses
-  pub here_fits : PhaseFits c t (held_at (w.views t)) (holds_level (w.views t)) (Remounts (at_remount x s))
+    (e : (w.views t).phase ≡ Some (Phase.Remounts (at_remount x s))) where
+  pub here_fits : PhaseFits c t (held_at (w.views t)) (holds_level (w.views t)) (Phase.Remounts (at_remount x s))
   here_fits = subst (Fits c t (held_at (w.views t)) (holds_level (w.views t))) e (good Fitting t lt)
 
   -- what its step relies on is so
@@ -152,7 +121,6 @@ module _ (c : Config) (w : World) (good : IsGood c w) (t : ℕ) (lt : t < c.task
       MountHolds c.tasks c.processors f set sealing (w.words.count m)
       (update (λ y. at_mount m (w.views y)) t (record (at_mount m (w.views t)) { role = r }))
 
-  -- the same, where this task's role is as it was
   pub role_stays : (m : ℕ) (f set sealing : ℕ) (r : Role) → r ≡ remount_role m s →
       MountHolds c.tasks c.processors f set sealing (w.words.count m) (λ y. at_mount m (w.views y)) → Mount m f set sealing r
   role_stays m f set sealing r q h =
@@ -160,7 +128,6 @@ module _ (c : Config) (w : World) (good : IsGood c w) (t : ℕ) (lt : t < c.task
       (ap (update (λ y. at_mount m (w.views y)) t) (view_as refl refl refl (q ∙ sym (role_was m))) ∙
       update_same (λ y. at_mount m (w.views y)) t) h
 
-  -- it holds where nothing there has changed
   pub mount_stays : (m : ℕ) → m < c.mounts → (r : Role) → r ≡ remount_role m s → Mount m (w.words.flags m) w.words.remount w.words.sb r
   mount_stays m lm r q = role_stays m (w.words.flags m) w.words.remount w.words.sb r q (good (AtMount m) lm)
 
@@ -171,11 +138,9 @@ module _ (c : Config) (w : World) (good : IsGood c w) (t : ℕ) (lt : t < c.task
       (level_added_by v.events ≡ level_added_by (w.views t).events) × (level_taken_by v.events ≡ level_taken_by (w.views t).events) ×
       (has_open v ≡ has_open (w.views t))
 
-  -- the same, as the levels read it
   at_levels : (v : View) → SameCounts v → SameLevelCounts (w.views t) v
   at_levels v same = record { held_same = same.1; added_same = same.4; taken_same = same.5 }
 
-  -- its phase is off the levels
   off_now : IsOffLevels (w.views t).phase
   off_now = subst IsOffLevels (sym e) (record { counts_not = λ i. refl; apart = λ i. refl; outside = refl })
 
@@ -190,13 +155,13 @@ module _ (c : Config) (w : World) (good : IsGood c w) (t : ℕ) (lt : t < c.task
   abbrev pub TreeIsRight : Words → View → Type 0
   TreeIsRight ws v = Holds c (record { words = ws; views = update w.views t v }) Tree
 
-  -- what it is doing at the tree
   pub tree_was : tree_roles w t ≡ remount_tree_role x.nodes s
   tree_was = ap (tree_role_of (w.views t).trace) e
 
   -- the tree after an event that leaves its words, of a remount that does there what it did
   pub tree_stays : (ws : Words) (v : View) → ws.used ≡ w.words.used → ws.removed ≡ w.words.removed →
-      ws.node ≡ w.words.node → ws.kids ≡ w.words.kids → is_sealed ws ≡ is_sealed w.words → is_bare_at ws ≡ is_bare_at w.words → tree_role_of v.trace v.phase ≡ remount_tree_role x.nodes s → TreeIsRight ws v
+      ws.node ≡ w.words.node → ws.kids ≡ w.words.kids → is_sealed ws ≡ is_sealed w.words → is_bare_at ws ≡ is_bare_at w.words →
+      tree_role_of v.trace v.phase ≡ remount_tree_role x.nodes s → TreeIsRight ws v
   tree_stays ws v used removed node kids sealed bare role =
       left_alone c w t lt Tree ws v (used, removed, node, kids, sealed, bare) (role ∙ sym tree_was) (good Tree)
 
@@ -235,7 +200,7 @@ module _ (c : Config) (w : World) (good : IsGood c w) (t : ℕ) (lt : t < c.task
   stage_holds ws v kind happens = stages_after c w good t lt ws v kind happens
 
   -- and after an event on the flags of a mount, or on none, with which the remount goes on
-  pub goes_on : (flags : ℕ → ℕ) (s' : RemountStep) (v : View) → v.phase ≡ Some (Remounts (at_remount x s')) →
+  pub goes_on : (flags : ℕ → ℕ) (s' : RemountStep) (v : View) → v.phase ≡ Some (Phase.Remounts (at_remount x s')) →
       GoesOn (remount_stage_role x.nodes s) x.nodes s' w.words.stage w.words.sb (marks_of w.words) →
       StageHolds (record w.words { flags = flags }) v
   goes_on flags s' v is on =
@@ -290,7 +255,7 @@ module _ (c : Config) (w : World) (good : IsGood c w) (t : ℕ) (lt : t < c.task
         tree = λ n. node_shown (en j n);
       })
 
-  module _ (o : remount_owns s ≡ 1) (s' : RemountStep) (v : View) (is : v.phase ≡ Some (Remounts (at_remount x s'))) (same : SameCounts v)
+  module _ (o : remount_owns s ≡ 1) (s' : RemountStep) (v : View) (is : v.phase ≡ Some (Phase.Remounts (at_remount x s'))) (same : SameCounts v)
       (fits : ViewFits c t v) where
     -- the phase that comes is off the levels
     off_then : IsOffLevels v.phase
@@ -313,7 +278,6 @@ module _ (c : Config) (w : World) (good : IsGood c w) (t : ℕ) (lt : t < c.task
       closing_same = λ i. ap (closing i) is ∙ (remount_closes_none i x.nodes s' ∙ sym (remount_closes_none i x.nodes s));
     })
 
-    -- at the tree it does what the step that comes says
     tree_now : tree_role_of v.trace v.phase ≡ remount_tree_role x.nodes s'
     tree_now = ap (tree_role_of v.trace) is
 
@@ -361,7 +325,6 @@ module _ (c : Config) (w : World) (good : IsGood c w) (t : ℕ) (lt : t < c.task
               refl refl refl still.closing_same same refl,
         )
 
-    -- a store of `remount` or of the superblock's flags
     pub stores : (set sealing : ℕ) (b : Bool) (role : TreeRole) →
         is_frozen_whole (record w.words { remount = set; sb = sealing }) ≡ is_frozen_whole w.words →
         Stays x.nodes s' set role → TreeIsRight (record w.words { remount = set; sb = sealing }) v →
@@ -409,15 +372,15 @@ module _ (c : Config) (w : World) (good : IsGood c w) (t : ℕ) (lt : t < c.task
   -- a load by the owner with which it comes to do something else at the tree
   pub load_found : (name : WordName) (hook : HookAnswer) (s' : RemountStep) → remount_owns s ≡ 1 → remount_owns s' ≡ 1 →
       remount_sets s' ≡ remount_sets s →
-      TreeIsRight w.words (view_with (w.views t) (name, Load) (read w.words name) hook (Go (Remounts (at_remount x s')), None)) →
+      TreeIsRight w.words (view_with (w.views t) (name, Touch.Load) (read w.words name) hook (Next.Go (Phase.Remounts (at_remount x s')), None)) →
       GoesOn (remount_stage_role x.nodes s) x.nodes s' w.words.stage w.words.sb (marks_of w.words) →
       RemountFits c s' → ((m : ℕ) → m < c.mounts → Mount m (w.words.flags m) w.words.remount w.words.sb (remount_role m s')) →
-      let coming : Next Phase = Go (Remounts (at_remount x s')) in
+      let coming : Next Phase = Next.Go (Phase.Remounts (at_remount x s')) in
       ((part : Part) → is_known_part part ≡ false → Holds c (after_load w t name hook coming) part) ×
       (shown c (after_load w t name hook coming) ≡ shown c w)
   load_found name hook s' o owning sets tree on fit own =
-      let v : View = view_with (w.views t) (name, Load) (read w.words name) hook (Go (Remounts (at_remount x s')), None) in
-      let f : PhaseFits c t (held_at (w.views t)) (holds_level (w.views t)) (Remounts (at_remount x s)) = here_fits in
+      let v : View = view_with (w.views t) (name, Touch.Load) (read w.words name) hook (Next.Go (Phase.Remounts (at_remount x s')), None) in
+      let f : PhaseFits c t (held_at (w.views t)) (holds_level (w.views t)) (Phase.Remounts (at_remount x s)) = here_fits in
       subst (λ ws. let next_world : World = record { words = ws; views = update w.views t v } in
       ((part : Part) → is_known_part part ≡ false → Holds c next_world part) × (shown c next_world ≡ shown c w))
       (sym (load_same w.words name))
@@ -426,8 +389,8 @@ module _ (c : Config) (w : World) (good : IsGood c w) (t : ℕ) (lt : t < c.task
         refl,
         added_load name (added_by (w.views t).events),
         taken_load name (taken_by (w.views t).events),
-        level_added_load name Load (level_added_by (w.views t).events) refl,
-        level_taken_load name Load (level_taken_by (w.views t).events) refl,
+        level_added_load name Touch.Load (level_added_by (w.views t).events) refl,
+        level_taken_load name Touch.Load (level_taken_by (w.views t).events) refl,
         refl,
       )
       (f.0, f.1, f.2, f.3, f.4, fit) owning sets tree (goes_on w.words.flags s' v refl on) own)
@@ -437,11 +400,11 @@ module _ (c : Config) (w : World) (good : IsGood c w) (t : ℕ) (lt : t < c.task
       Stays x.nodes s' (remount_sets s) (remount_tree_role x.nodes s) →
       GoesOn (remount_stage_role x.nodes s) x.nodes s' w.words.stage w.words.sb (marks_of w.words) →
       RemountFits c s' → ((m : ℕ) → m < c.mounts → Mount m (w.words.flags m) w.words.remount w.words.sb (remount_role m s')) →
-      let coming : Next Phase = Go (Remounts (at_remount x s')) in
+      let coming : Next Phase = Next.Go (Phase.Remounts (at_remount x s')) in
       ((part : Part) → is_known_part part ≡ false → Holds c (after_load w t name hook coming) part) ×
       (shown c (after_load w t name hook coming) ≡ shown c w)
   load_event name hook s' o stays on fit own =
-      let v : View = view_with (w.views t) (name, Load) (read w.words name) hook (Go (Remounts (at_remount x s')), None) in
+      let v : View = view_with (w.views t) (name, Touch.Load) (read w.words name) hook (Next.Go (Phase.Remounts (at_remount x s')), None) in
       load_found name hook s' o stays.0 stays.1 (tree_stays w.words v refl refl refl refl refl refl stays.2) on fit own
 
   -- an event on `umount`, of a task that has no role at a mount before and after it, and does at the tree what it did

@@ -1,21 +1,15 @@
 -- The roles of a remount at each mount.
-use Rattle.mount_counts.specs.declared.remounts.RemountStep.TheVariants.{LoadsFlags, SetsHold, Sums, LoadsRemovedAgain, LeavesHolds, SetsRemount, ClearsHold, GivesUp, ClearsMark, SetsReadOnly}
-use Rattle.mount_counts.specs.Roles.{Out, Summing, Role}
-use Rattle.std.proofs.Common.{Bool, ℕ, nat_lt, ◌≡◌, ◌+◌, false, ◌<◌, ◌==◌, true, arith, inl, eq-eqb, ne_eqb, if◌then◌else◌, ◌∙◌, inr, sym, ltb-true, ap, ltb-false, refl}
-use Rattle.mount_laws.proofs.MountLaws.{SeeksNone}
+use Rattle.std.proofs.Common.{Bool, ℕ, nat_lt, ◌≡◌, ◌+◌, false, ◌<◌, ◌==◌, true, arith, inl, eq-eqb, ne_eqb, if◌then◌else◌, ◌∙◌, inr, sym, ltb-true, ap}
+use Rattle.std.proofs.Common.{ltb-false, refl}
+use Rattle.std.proofs.lemmas.Bool.{cases_Bool, Decides.{eqb_tells, nat_tests}}
 use Rattle.cpu_words.specs.declared.sums.Sum.{Sum}
-use Rattle.mount_counts.specs.declared.remounts.RemountStep.{RemountStep}
-use Rattle.mount_counts.specs.declared.sets.MountSet.{MountSet}
+use Rattle.mount_counts.specs.{Remounts.{let_go, leave_holds, give_up, past_node, past_mount}, Roles.{Out, Summing, Role}, Sets.has_mount}
+use Rattle.mount_counts.specs.declared.{remounts.RemountStep.RemountStep, sets.MountSet.MountSet}
+use Rattle.mount_laws.proofs.{MountLaws.SeeksNone, Sets.none_held}
 use Rattle.gate_world.specs.Remounts.{giving_role, remount_role, loop_role, held_role, summing_role}
-use Rattle.mount_counts.specs.Sets.{has_mount}
-use Rattle.mount_counts.specs.Remounts.{let_go, leave_holds, give_up, past_node, past_mount}
-use mathlib.Core.Bool.{true}
-use Rattle.std.proofs.lemmas.Bool.{cases_Bool}
-use Rattle.std.proofs.lemmas.Bool.Decides.{eqb_tells, nat_tests}
 use Rattle.gate_frames.proofs.Keeps.{by_bool}
-use Rattle.mount_laws.proofs.Sets.{none_held}
+use mathlib.Core.Bool.{true}
 
--- the roles of a remount seek no access
 loop_seeks : (a b : Bool) → SeeksNone (loop_role a b)
 loop_seeks true b = (refl, refl)
 loop_seeks false true = (refl, refl)
@@ -36,18 +30,17 @@ giving_seeks true false = (refl, refl)
 giving_seeks false false = (refl, refl)
 
 pub remount_seeks : (m : ℕ) (s : RemountStep) → SeeksNone (remount_role m s)
-remount_seeks m (LoadsFlags at held) = loop_seeks (has_mount held m) (nat_lt m at)
-remount_seeks m (SetsHold at held) = loop_seeks (has_mount held m) (nat_lt m at)
-remount_seeks m (Sums at held sum) =
+remount_seeks m (RemountStep.LoadsFlags at held) = loop_seeks (has_mount held m) (nat_lt m at)
+remount_seeks m (RemountStep.SetsHold at held) = loop_seeks (has_mount held m) (nat_lt m at)
+remount_seeks m (RemountStep.Sums at held sum) =
     summing_seeks (m == at) sum (loop_role (has_mount held m) (nat_lt m at)) (loop_seeks (has_mount held m) (nat_lt m at))
-remount_seeks m (LoadsRemovedAgain held) = loop_seeks (has_mount held m) true
-remount_seeks m (LeavesHolds held) = held_seeks (has_mount held m)
-remount_seeks m (SetsRemount held) = loop_seeks (has_mount held m) true
-remount_seeks m (ClearsHold held) = held_seeks (has_mount held m)
-remount_seeks m (GivesUp at held) = giving_seeks (m == at) (has_mount held m)
+remount_seeks m (RemountStep.LoadsRemovedAgain held) = loop_seeks (has_mount held m) true
+remount_seeks m (RemountStep.LeavesHolds held) = held_seeks (has_mount held m)
+remount_seeks m (RemountStep.SetsRemount held) = loop_seeks (has_mount held m) true
+remount_seeks m (RemountStep.ClearsHold held) = held_seeks (has_mount held m)
+remount_seeks m (RemountStep.GivesUp at held) = giving_seeks (m == at) (has_mount held m)
 remount_seeks m s = (refl, refl)
 
--- which mounts the loop has passed
 pub passed_here : (m : ℕ) → nat_lt m (m + 1) ≡ true
 passed_here m = grind (arith, nat_tests)
 
@@ -79,7 +72,6 @@ past_mount_role mounts at held m lm =
       ]))
     ]
 
--- where no mount is held, none is to be let go
 pub let_go_role : (m : ℕ) (held : MountSet) → remount_role m (let_go held) ≡ held_role (has_mount held m)
 let_go_role m held =
     elim (eqb_tells held.bits 0) [
@@ -105,14 +97,12 @@ give_up_role m at held =
       | inr z ↦ rw z.0 refl
     ]
 
--- the mount of the sum, and the others
 pub summing_here : (m : ℕ) (sum : Sum) (r : Role) → summing_role (m == m) sum r ≡ Summing sum.words sum.total
 summing_here m sum r = rw (eq-eqb m m refl) refl
 
 pub summing_there : (m n : ℕ) (sum : Sum) (r : Role) → (n ≡ m → ⊥) → summing_role (n == m) sum r ≡ r
 summing_there m n sum r ne = rw (ne_eqb n m ne) refl
 
--- the file marks no role
 pub past_node_role : (nodes n m : ℕ) → remount_role m (past_node nodes n) ≡ Out
 past_node_role nodes n m =
-    by_bool (nat_lt (n + 1) nodes) (λ b. remount_role m (if b then ClearsMark (n + 1) else SetsReadOnly) ≡ Out) refl refl
+    by_bool (nat_lt (n + 1) nodes) (λ b. remount_role m (if b then RemountStep.ClearsMark (n + 1) else RemountStep.SetsReadOnly) ≡ Out) refl refl

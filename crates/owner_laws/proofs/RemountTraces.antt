@@ -1,63 +1,20 @@
 -- Traces of a remount of the superblock.
 use Rattle.std.proofs.Common.{◌≡◌, ℕ, suc, ◌+◌, ◌<◌, ◌≤◌, Bool, true, false, refl, sym, ap, ◌∙◌, subst, inl, inr, add-one, arith}
+use Rattle.std.proofs.lemmas.{Bool.{eq-eqb, ne_eqb, ltb-true, ltb-false, cases_Bool, Decides.eqb_tells}, List.Sums.sum_by-cons}
 use Rattle.std.specs.Prelude.{◌==◌, ◌||◌, not, nat_lt, if◌then◌else◌, Result, Ok, Err, List, [], ◌∷◌, ◌++◌}
-use Rattle.std.proofs.lemmas.Bool.{eq-eqb, ne_eqb, ltb-true, ltb-false, cases_Bool}
-use Rattle.std.proofs.lemmas.Bool.Decides.{eqb_tells}
-use Rattle.std.proofs.lemmas.List.Sums.{sum_by-cons}
-use Rattle.access_model.specs.declared.actions.Action.{Action}
-use Rattle.access_model.specs.declared.actions.Action.TheVariants.{SbRo, SbRw, Clean}
-use Rattle.access_model.specs.declared.errors.GateError.{GateError}
-use Rattle.access_model.specs.declared.errors.GateError.TheVariants.{Busy, Hook}
-use Rattle.access_model.specs.declared.replies.Reply.{Reply}
-use Rattle.access_model.specs.declared.replies.Reply.TheVariants.{Unit as UnitReply}
-use Rattle.access_model.specs.Histories.{mounts_of, levels_of, opens_of}
-use Rattle.cpu_words.specs.declared.names.WordName.{WordName}
-use Rattle.cpu_words.specs.declared.names.WordName.TheVariants.{Umount, Node}
-use Rattle.cpu_words.specs.declared.events.Touch.{Touch}
-use Rattle.cpu_words.specs.declared.events.Touch.TheVariants.{And, Store}
-use Rattle.cpu_words.specs.declared.sums.Sum.{Sum}
-use Rattle.cpu_words.specs.Hooks.{HookAnswer}
-use Rattle.cpu_words.specs.Touches.{wrap_add, event_of}
-use Rattle.mount_counts.specs.Phases.{has_flag}
-use Rattle.mount_counts.specs.Sets.{no_mounts, with_mount, without_lowest}
-use Rattle.mount_counts.specs.Remounts.{remount_from, past_mount, let_go, leave_holds, give_up, past_node}
-use Rattle.mount_counts.specs.declared.sets.MountSet.{MountSet}
-use Rattle.mount_counts.specs.declared.remounts.RemountStep.{RemountStep}
-use Rattle.mount_counts.specs.declared.remounts.RemountStep.TheVariants.{
-  Locks,
-  LoadsStage,
-  LoadsSuperblock,
-  SetsWritable,
-  LoadsFlags,
-  SetsHold,
-  Sums,
-  LoadsRemoved,
-  LoadsRemovedAgain,
-  LeavesHolds,
-  SetsRemount,
-  ClearsHold,
-  GivesUp,
-  ClearsMark,
-  SetsReadOnly,
-  ClearsRemount,
-  Releases,
-}
-use Rattle.gate_world.specs.declared.config.Config.{Config}
-use Rattle.gate_world.specs.declared.operations.Op.TheVariants.{RemountSb}
-use Rattle.gate_world.specs.declared.work.Phase.{Phase}
-use Rattle.gate_world.specs.declared.work.Phase.TheVariants.{Remounts}
-use Rattle.gate_world.specs.declared.views.Traced.{Traced}
-use Rattle.gate_world.specs.Views.{with_hook}
-use Rattle.gate_world.specs.Configs.{IsWithin}
-use Rattle.gate_world.specs.Found.{found_sealed, counts_loaded, sum_loaded, IsEachCount, each_event, finds_taken, cleans, clean_found}
-use Rattle.gate_world.specs.Traces.{actions_of, IsHonestAnswer}
-use Rattle.gate_frames.proofs.Keeps.{by_bool}
-use Rattle.gate_frames.proofs.Cleans.{cleans_leave, LeaveAccesses}
-use Rattle.gate_frames.proofs.Says.{SaysAfter, Kept, event_at}
+use Rattle.access_model.specs.{Histories.{mounts_of, levels_of, opens_of}, declared.{actions.Action.Action, errors.GateError.GateError, replies.Reply.Reply}}
+use Rattle.cpu_words.specs.{Hooks.HookAnswer, Touches.{wrap_add, event_of}, declared.{events.Touch.Touch, names.WordName.WordName, sums.Sum.Sum}}
+use Rattle.mount_counts.specs.{Phases.has_flag, Remounts.{remount_from, past_mount, let_go, leave_holds, give_up, past_node}}
+use Rattle.mount_counts.specs.{Sets.{no_mounts, with_mount, without_lowest}, declared.{remounts.RemountStep.RemountStep, sets.MountSet.MountSet}}
+use Rattle.gate_world.specs.{Configs.IsWithin, Found.{found_sealed, counts_loaded, sum_loaded, IsEachCount, each_event, finds_taken, cleans}}
+use Rattle.gate_world.specs.{Traces.{actions_of, IsHonestAnswer}, Views.with_hook}
+use Rattle.gate_world.specs.declared.{config.Config.Config, operations.Op.Op, views.Traced.Traced, work.Phase.Phase}
+use Rattle.gate_frames.proofs.{Cleans.{cleans_leave, LeaveAccesses}, Keeps.by_bool, Says.{SaysAfter, Kept, event_at}}
+use Rattle.owner_laws.proofs.FreezeTraces.{cleans_open}
 
 -- a remount of the superblock by a task, at this step
 abbrev remount : Config → ℕ → Bool → RemountStep → Phase
-remount c t ro step = Remounts (record {
+remount c t ro step = Phase.Remounts (record {
   read_only = ro;
   task = t;
   processors = c.processors;
@@ -76,7 +33,7 @@ IsOnItsWay ro trace added = (added ≡ []) × (ro ≡ true) × (found_sealed tra
 
 -- `remount` was set, on the way to read-only: what is added since are the marks cleared
 abbrev HasSealed : Bool → List Traced → List Action → Type 0
-HasSealed ro trace added = (added ≡ cleans trace ++ (SbRo ∷ [])) × (ro ≡ true) × (found_sealed trace ≡ false)
+HasSealed ro trace added = (added ≡ cleans trace ++ (Action.SbRo ∷ [])) × (ro ≡ true) × (found_sealed trace ≡ false)
 
 -- no counts are loaded of a mount from this one on
 abbrev NoneLoaded : ℕ → List Traced → Type 0
@@ -89,52 +46,46 @@ IsSumOf c m sum trace = (sum.words < c.processors) × IsEachCount sum.words (cou
 
 -- what is answered is told already
 abbrev Answers : Config → Bool → Result Reply GateError → List Traced → List Action → Type 0
-Answers c ro answer trace added = (added ≡ actions_of (RemountSb ro) answer trace) × IsHonestAnswer c (RemountSb ro) answer trace
+Answers c ro answer trace added = (added ≡ actions_of (Op.RemountSb ro) answer trace) × IsHonestAnswer c (Op.RemountSb ro) answer trace
 
 -- what a trace says at a step: what was found, loaded, cleaned and added
 abbrev StepSays : Config → Bool → RemountStep → List Traced → List Action → Type 0
-StepSays c ro Locks trace added = (each_event finds_taken trace ≡ true) × FoundNothing trace added
-StepSays c ro LoadsStage trace added = FoundNothing trace added
-StepSays c ro LoadsSuperblock trace added = FoundNothing trace added
-StepSays c ro SetsWritable trace added = (added ≡ []) × (ro ≡ false) × (found_sealed trace ≡ true)
-StepSays c ro LoadsRemoved trace added = IsOnItsWay ro trace added × ((m : ℕ) → counts_loaded m trace ≡ [])
-StepSays c ro (LoadsFlags m held) trace added = IsOnItsWay ro trace added × (m < c.mounts) × NoneLoaded m trace
-StepSays c ro (SetsHold m held) trace added = IsOnItsWay ro trace added × (m < c.mounts) × NoneLoaded m trace
-StepSays c ro (Sums m held sum) trace added = IsOnItsWay ro trace added × (m < c.mounts) × NoneLoaded (m + 1) trace × IsSumOf c m sum trace
-StepSays c ro (LoadsRemovedAgain held) trace added = IsOnItsWay ro trace added
-StepSays c ro (LeavesHolds held) trace added = Answers c ro (Err Busy) trace added
-StepSays c ro (SetsRemount held) trace added = IsOnItsWay ro trace added
-StepSays c ro (ClearsHold held) trace added = HasSealed ro trace added
-StepSays c ro (GivesUp m held) trace added = Answers c ro (Err Busy) trace added
-StepSays c ro (ClearsMark n) trace added = HasSealed ro trace added
-StepSays c ro SetsReadOnly trace added = HasSealed ro trace added
-StepSays c ro ClearsRemount trace added = HasSealed ro trace added
-StepSays c ro (Releases answer) trace added = Answers c ro answer trace added
+StepSays c ro RemountStep.Locks trace added = (each_event finds_taken trace ≡ true) × FoundNothing trace added
+StepSays c ro RemountStep.LoadsStage trace added = FoundNothing trace added
+StepSays c ro RemountStep.LoadsSuperblock trace added = FoundNothing trace added
+StepSays c ro RemountStep.SetsWritable trace added = (added ≡ []) × (ro ≡ false) × (found_sealed trace ≡ true)
+StepSays c ro RemountStep.LoadsRemoved trace added = IsOnItsWay ro trace added × ((m : ℕ) → counts_loaded m trace ≡ [])
+StepSays c ro (RemountStep.LoadsFlags m held) trace added = IsOnItsWay ro trace added × (m < c.mounts) × NoneLoaded m trace
+StepSays c ro (RemountStep.SetsHold m held) trace added = IsOnItsWay ro trace added × (m < c.mounts) × NoneLoaded m trace
+StepSays c ro (RemountStep.Sums m held sum) trace added = IsOnItsWay ro trace added × (m < c.mounts) × NoneLoaded (m + 1) trace × IsSumOf c m sum trace
+StepSays c ro (RemountStep.LoadsRemovedAgain held) trace added = IsOnItsWay ro trace added
+StepSays c ro (RemountStep.LeavesHolds held) trace added = Answers c ro (Err GateError.Busy) trace added
+StepSays c ro (RemountStep.SetsRemount held) trace added = IsOnItsWay ro trace added
+StepSays c ro (RemountStep.GivesUp m held) trace added = Answers c ro (Err GateError.Busy) trace added
+StepSays c ro (RemountStep.Releases answer) trace added = Answers c ro answer trace added
+StepSays c ro other trace added = HasSealed ro trace added
 
 -- what a remount's trace says at a phase
 abbrev pub RemountAt : Config → ℕ → Bool → List Traced → Phase → List Action → Type 0
 RemountAt c t ro trace phase added = (step : RemountStep) × (phase ≡ remount c t ro step) × StepSays c ro step trace added
 
--- nothing more was found than was found last
-or_false : (b : Bool) → (b || false) ≡ b
+pub or_false : (b : Bool) → (b || false) ≡ b
 or_false true = refl
 or_false false = refl
 
--- a remount that is busy has added nothing
-busy_adds : (ro : Bool) (trace : List Traced) → actions_of (RemountSb ro) (Err Busy) trace ≡ []
+busy_adds : (ro : Bool) (trace : List Traced) → actions_of (Op.RemountSb ro) (Err GateError.Busy) trace ≡ []
 busy_adds true trace = refl
 busy_adds false trace = refl
 
--- a sum with one count more
-sum_more : (k value s : ℕ) (loads : List (ℕ × ℕ)) → s ≡ sum_loaded loads → wrap_add s value ≡ sum_loaded ((k, value) ∷ loads)
+pub sum_more : (k value s : ℕ) (loads : List (ℕ × ℕ)) → s ≡ sum_loaded loads → wrap_add s value ≡ sum_loaded ((k, value) ∷ loads)
 sum_more k value s loads h = omega (arith, h, sum_by-cons (λ (x : ℕ × ℕ). x.1) (k, value) loads)
 
 -- an event that gives `umount` back leaves what is told
 lock_leaves : (c : Config) (ro : Bool) (answer : Result Reply GateError) (value : ℕ) (hook : HookAnswer) (earlier : List Traced)
     (added : List Action) → Answers c ro answer earlier added →
-    Answers c ro answer (with_hook (event_of Umount (Store 0) value) hook ∷ earlier) added
-lock_leaves c true (Err (Hook code)) value hook earlier added h = (h.0, inr h.1)
-lock_leaves c false (Err (Hook code)) value hook earlier added h = (h.0, inr h.1)
+    Answers c ro answer (with_hook (event_of WordName.Umount (Touch.Store 0) value) hook ∷ earlier) added
+lock_leaves c true (Err (GateError.Hook code)) value hook earlier added h = (h.0, inr h.1)
+lock_leaves c false (Err (GateError.Hook code)) value hook earlier added h = (h.0, inr h.1)
 lock_leaves c true answer value hook earlier added h = h
 lock_leaves c false answer value hook earlier added h = h
 
@@ -159,25 +110,25 @@ past_says c ro m held trace added h none =
 let_go_says : (c : Config) (ro : Bool) (held : MountSet) (trace : List Traced) (added : List Action) → HasSealed ro trace added →
     StepSays c ro (let_go held) trace added
 let_go_says c ro held trace added h =
-    by_bool (held.bits == 0) (λ b. StepSays c ro (if b then ClearsMark 1 else ClearsHold held) trace added) h h
+    by_bool (held.bits == 0) (λ b. StepSays c ro (if b then RemountStep.ClearsMark 1 else RemountStep.ClearsHold held) trace added) h h
 
 -- the same where a sum was not 0
 give_up_says : (c : Config) (ro : Bool) (m : ℕ) (held : MountSet) (trace : List Traced) (added : List Action) →
-    Answers c ro (Err Busy) trace added → StepSays c ro (give_up m held) trace added
+    Answers c ro (Err GateError.Busy) trace added → StepSays c ro (give_up m held) trace added
 give_up_says c ro m held trace added h =
-    by_bool (held.bits == 0) (λ b. StepSays c ro (if b then Releases (Err Busy) else GivesUp m held) trace added) h h
+    by_bool (held.bits == 0) (λ b. StepSays c ro (if b then RemountStep.Releases (Err GateError.Busy) else RemountStep.GivesUp m held) trace added) h h
 
 -- the same where a file was found removed
 leave_holds_says : (c : Config) (ro : Bool) (held : MountSet) (trace : List Traced) (added : List Action) →
-    Answers c ro (Err Busy) trace added → StepSays c ro (leave_holds held) trace added
+    Answers c ro (Err GateError.Busy) trace added → StepSays c ro (leave_holds held) trace added
 leave_holds_says c ro held trace added h =
-    by_bool (held.bits == 0) (λ b. StepSays c ro (if b then Releases (Err Busy) else LeavesHolds held) trace added) h h
+    by_bool (held.bits == 0) (λ b. StepSays c ro (if b then RemountStep.Releases (Err GateError.Busy) else RemountStep.LeavesHolds held) trace added) h h
 
 -- a mark is still to be cleared, or no more
 past_node_says : (c : Config) (ro : Bool) (n : ℕ) (trace : List Traced) (added : List Action) → HasSealed ro trace added →
     StepSays c ro (past_node c.nodes n) trace added
 past_node_says c ro n trace added h =
-    by_bool (nat_lt (n + 1) c.nodes) (λ b. StepSays c ro (if b then ClearsMark (n + 1) else SetsReadOnly) trace added) h h
+    by_bool (nat_lt (n + 1) c.nodes) (λ b. StepSays c ro (if b then RemountStep.ClearsMark (n + 1) else RemountStep.SetsReadOnly) trace added) h h
 
 module _ (c : Config) (lim : IsWithin c) (t : ℕ) (ro : Bool) (value : ℕ) (earlier : List Traced) (added : List Action) where
   -- the trace after the event of a step
@@ -186,98 +137,95 @@ module _ (c : Config) (lim : IsWithin c) (t : ℕ) (ro : Bool) (value : ℕ) (ea
 
   -- what the trace says after the event of a step
   abbrev After : HookAnswer → RemountStep → Type 0
-  After hook step = SaysAfter (RemountAt c t ro) c (RemountSb ro) (remount c t ro step) value hook earlier added
+  After hook step = SaysAfter (RemountAt c t ro) c (Op.RemountSb ro) (remount c t ro step) value hook earlier added
 
-  -- `umount` is tried, and nothing is loaded
-  locks : (hook : HookAnswer) → StepSays c ro Locks earlier added → After hook Locks
+  locks : (hook : HookAnswer) → StepSays c ro RemountStep.Locks earlier added → After hook RemountStep.Locks
   locks hook h =
       elim (cases_Bool (value == 0)) [
-        | inl f ↦ rw f (LoadsStage, refl, h.1)
-        | inr f ↦ rw f ((Locks, refl, (rw f h.0, h.1)), rw f h.0)
+        | inl f ↦ rw f (RemountStep.LoadsStage, refl, h.1)
+        | inr f ↦ rw f ((RemountStep.Locks, refl, (rw f h.0, h.1)), rw f h.0)
       ]
 
-  -- the stage is found 0, or not
-  loads_stage : (hook : HookAnswer) → StepSays c ro LoadsStage earlier added → After hook LoadsStage
+  loads_stage : (hook : HookAnswer) → StepSays c ro RemountStep.LoadsStage earlier added → After hook RemountStep.LoadsStage
   loads_stage hook h =
       elim (cases_Bool (value == 0)) [
-        | inl f ↦ rw f (LoadsSuperblock, refl, h)
-        | inr f ↦ rw f (Releases (Err Busy), refl, (h.0 ∙ sym (busy_adds ro (longer hook LoadsStage)), inl (rw f refl)))
+        | inl f ↦ rw f (RemountStep.LoadsSuperblock, refl, h)
+        | inr f ↦ rw f (RemountStep.Releases (Err GateError.Busy), refl, (h.0 ∙ sym (busy_adds ro (longer hook RemountStep.LoadsStage)), inl (rw f refl)))
       ]
 
-  -- the superblock's flag is found set, or clear
-  loads_superblock : (hook : HookAnswer) → StepSays c ro LoadsSuperblock earlier added → After hook LoadsSuperblock
+  loads_superblock : (hook : HookAnswer) → StepSays c ro RemountStep.LoadsSuperblock earlier added → After hook RemountStep.LoadsSuperblock
   loads_superblock hook h = (
     remount_from ro (not (value == 0)),
     refl,
-    state_found c ro (not (value == 0)) (longer hook LoadsSuperblock) added h.0 (rw h.1 (or_false (not (value == 0))))
+    state_found c ro (not (value == 0)) (longer hook RemountStep.LoadsSuperblock) added h.0 (rw h.1 (or_false (not (value == 0))))
         h.2 h.3,
   )
 
-  -- the file system has answered, on the way to writable
-  sets_writable : (hook : HookAnswer) → StepSays c ro SetsWritable earlier added → After hook SetsWritable
-  sets_writable (Ok answer) h = (Releases (Ok UnitReply), refl, (rw (h.1, h.2) (ap (λ (l : List Action). SbRw ∷ l) h.0), tt))
+  sets_writable : (hook : HookAnswer) → StepSays c ro RemountStep.SetsWritable earlier added → After hook RemountStep.SetsWritable
+  sets_writable (Ok answer) h = (RemountStep.Releases (Ok Reply.Unit), refl, (rw (h.1, h.2) (ap (λ (l : List Action). Action.SbRw ∷ l) h.0), tt))
   sets_writable (Err code) h = ((rw h.1 h.0, rw h.1 (inl (refl, refl, refl))), tt)
 
   -- no file is found removed, or one is
-  loads_removed : (hook : HookAnswer) → StepSays c ro LoadsRemoved earlier added → After hook LoadsRemoved
+  loads_removed : (hook : HookAnswer) → StepSays c ro RemountStep.LoadsRemoved earlier added → After hook RemountStep.LoadsRemoved
   loads_removed hook h =
       elim (cases_Bool (value == 0)) [
-        | inl f ↦ rw f (LoadsFlags 0 no_mounts, refl, (h.0, lim.some_mount, λ n q. h.1 n))
+        | inl f ↦ rw f (RemountStep.LoadsFlags 0 no_mounts, refl, (h.0, lim.some_mount, λ n q. h.1 n))
         | inr f ↦ rw f (
-          Releases (Err Busy),
+          RemountStep.Releases (Err GateError.Busy),
           refl,
-          (h.0.0 ∙ sym (busy_adds ro (longer hook LoadsRemoved)), inr (inl (rw f refl))),
+          (h.0.0 ∙ sym (busy_adds ro (longer hook RemountStep.LoadsRemoved)), inr (inl (rw f refl))),
         )
       ]
 
   -- the same with each mount held or read-only
-  loads_removed_again : (hook : HookAnswer) (held : MountSet) → StepSays c ro (LoadsRemovedAgain held) earlier added →
-      After hook (LoadsRemovedAgain held)
+  loads_removed_again : (hook : HookAnswer) (held : MountSet) → StepSays c ro (RemountStep.LoadsRemovedAgain held) earlier added →
+      After hook (RemountStep.LoadsRemovedAgain held)
   loads_removed_again hook held h =
       elim (cases_Bool (value == 0)) [
-        | inl f ↦ rw f (SetsRemount held, refl, h)
+        | inl f ↦ rw f (RemountStep.SetsRemount held, refl, h)
         | inr f ↦ rw f (
           leave_holds held,
           refl,
-          leave_holds_says c ro held (longer hook (LoadsRemovedAgain held)) added
-              (h.0 ∙ sym (busy_adds ro (longer hook (LoadsRemovedAgain held))), inr (inl (rw f refl))),
+          leave_holds_says c ro held (longer hook (RemountStep.LoadsRemovedAgain held)) added
+              (h.0 ∙ sym (busy_adds ro (longer hook (RemountStep.LoadsRemovedAgain held))), inr (inl (rw f refl))),
         )
       ]
 
   -- a mount is found read-only, or writable
-  loads_flags : (hook : HookAnswer) (m : ℕ) (held : MountSet) → StepSays c ro (LoadsFlags m held) earlier added →
-      After hook (LoadsFlags m held)
+  loads_flags : (hook : HookAnswer) (m : ℕ) (held : MountSet) → StepSays c ro (RemountStep.LoadsFlags m held) earlier added →
+      After hook (RemountStep.LoadsFlags m held)
   loads_flags hook m held h =
       elim (cases_Bool (has_flag value 1)) [
         | inl f ↦ rw f (
           past_mount c.mounts m held,
           refl,
-          past_says c ro m held (longer hook (LoadsFlags m held)) added h.0 (λ n q. h.2 n (omega (arith, q))),
+          past_says c ro m held (longer hook (RemountStep.LoadsFlags m held)) added h.0 (λ n q. h.2 n (omega (arith, q))),
         )
-        | inr f ↦ rw f (SetsHold m held, refl, h)
+        | inr f ↦ rw f (RemountStep.SetsHold m held, refl, h)
       ]
 
   -- its sum begins with no count loaded
-  sets_hold : (hook : HookAnswer) (m : ℕ) (held : MountSet) → StepSays c ro (SetsHold m held) earlier added → After hook (SetsHold m held)
+  sets_hold : (hook : HookAnswer) (m : ℕ) (held : MountSet) → StepSays c ro (RemountStep.SetsHold m held) earlier added →
+      After hook (RemountStep.SetsHold m held)
   sets_hold hook m held h =
       let none : counts_loaded m earlier ≡ [] = h.2 m (omega arith) in (
-        Sums m held record { words = 0; total = 0 },
+        RemountStep.Sums m held record { words = 0; total = 0 },
         refl,
         (h.0, h.1, λ n q. h.2 n (omega (arith, q)), (lim.some_processor, rw none tt, rw none refl)),
       )
 
   -- one count more is loaded
   count_loaded : (hook : HookAnswer) (m : ℕ) (held : MountSet) (sum : Sum) → IsSumOf c m sum earlier →
-      IsEachCount (suc sum.words) (counts_loaded m (longer hook (Sums m held sum))) ×
-      (wrap_add sum.total value ≡ sum_loaded (counts_loaded m (longer hook (Sums m held sum))))
+      IsEachCount (suc sum.words) (counts_loaded m (longer hook (RemountStep.Sums m held sum))) ×
+      (wrap_add sum.total value ≡ sum_loaded (counts_loaded m (longer hook (RemountStep.Sums m held sum))))
   count_loaded hook m held sum h =
       rw (eq-eqb m m refl) ((refl, h.1), sum_more sum.words value sum.total (counts_loaded m earlier) h.2)
 
   -- the sum goes on, or it is a sum of all counts: 0, or not
-  sums : (hook : HookAnswer) (m : ℕ) (held : MountSet) (sum : Sum) → StepSays c ro (Sums m held sum) earlier added →
-      After hook (Sums m held sum)
+  sums : (hook : HookAnswer) (m : ℕ) (held : MountSet) (sum : Sum) → StepSays c ro (RemountStep.Sums m held sum) earlier added →
+      After hook (RemountStep.Sums m held sum)
   sums hook m held sum h =
-      let trace : List Traced = longer hook (Sums m held sum) in
+      let trace : List Traced = longer hook (RemountStep.Sums m held sum) in
       let way : IsOnItsWay ro trace added = h.0 in
       let none : NoneLoaded (m + 1) trace = λ n q. rw (ne_eqb m n (λ z. omega (arith, z, q))) (h.2 n q) in
       let now : IsEachCount (suc sum.words) (counts_loaded m trace) × (wrap_add sum.total value ≡ sum_loaded (counts_loaded m trace)) =
@@ -285,7 +233,7 @@ module _ (c : Config) (lim : IsWithin c) (t : ℕ) (ro : Bool) (value : ℕ) (ea
       elim (cases_Bool (nat_lt (sum.words + 1) c.processors)) [
         | inl f ↦
             rw f (
-              Sums m held record { words = sum.words + 1; total = wrap_add sum.total value },
+              RemountStep.Sums m held record { words = sum.words + 1; total = wrap_add sum.total value },
               refl,
               (way, h.1, none, (ltb-true (sum.words + 1) c.processors f, rw (add-one sum.words) now.0, now.1)),
             )
@@ -309,107 +257,89 @@ module _ (c : Config) (lim : IsWithin c) (t : ℕ) (ro : Bool) (value : ℕ) (ea
       ]
 
   -- `remount` is set, and `sb ro` is added before any mark is cleared
-  sets_remount : (hook : HookAnswer) (held : MountSet) → StepSays c ro (SetsRemount held) earlier added → After hook (SetsRemount held)
+  sets_remount : (hook : HookAnswer) (held : MountSet) → StepSays c ro (RemountStep.SetsRemount held) earlier added → After hook (RemountStep.SetsRemount held)
   sets_remount hook held h = (
     let_go held,
     refl,
-    let_go_says c ro held (longer hook (SetsRemount held)) (SbRo ∷ added)
-        (rw h.3 (ap (λ (l : List Action). SbRo ∷ l) h.0), h.1, h.2),
+    let_go_says c ro held (longer hook (RemountStep.SetsRemount held)) (Action.SbRo ∷ added)
+        (rw h.3 (ap (λ (l : List Action). Action.SbRo ∷ l) h.0), h.1, h.2),
   )
 
-  -- a mark was found set, or clear
-  clears_mark : (hook : HookAnswer) (n : ℕ) → StepSays c ro (ClearsMark n) earlier added → After hook (ClearsMark n)
+  clears_mark : (hook : HookAnswer) (n : ℕ) → StepSays c ro (RemountStep.ClearsMark n) earlier added → After hook (RemountStep.ClearsMark n)
   clears_mark hook n h =
       elim (cases_Bool (has_flag value 4)) [
         | inl f ↦ rw f (
           past_node c.nodes n,
           refl,
-          past_node_says c ro n (longer hook (ClearsMark n)) (Clean n ∷ added)
-              (rw f (ap (λ (l : List Action). Clean n ∷ l) h.0), h.1, h.2),
+          past_node_says c ro n (longer hook (RemountStep.ClearsMark n)) (Action.Clean n ∷ added)
+              (rw f (ap (λ (l : List Action). Action.Clean n ∷ l) h.0), h.1, h.2),
         )
         | inr f ↦ rw f (
           past_node c.nodes n,
           refl,
-          past_node_says c ro n (longer hook (ClearsMark n)) added (rw f h.0, h.1, h.2),
+          past_node_says c ro n (longer hook (RemountStep.ClearsMark n)) added (rw f h.0, h.1, h.2),
         )
       ]
 
   -- the file system has answered, on the way to read-only
-  sets_read_only : (hook : HookAnswer) → StepSays c ro SetsReadOnly earlier added → After hook SetsReadOnly
-  sets_read_only (Ok answer) h = (ClearsRemount, refl, h)
+  sets_read_only : (hook : HookAnswer) → StepSays c ro RemountStep.SetsReadOnly earlier added → After hook RemountStep.SetsReadOnly
+  sets_read_only (Ok answer) h = (RemountStep.ClearsRemount, refl, h)
   sets_read_only (Err code) h = (
-    Releases (Err (Hook code)),
+    RemountStep.Releases (Err (GateError.Hook code)),
     refl,
-    (rw h.1 (ap (λ (l : List Action). SbRw ∷ l) h.0), rw h.1 (inl (refl, refl, refl))),
+    (rw h.1 (ap (λ (l : List Action). Action.SbRw ∷ l) h.0), rw h.1 (inl (refl, refl, refl))),
   )
 
-  -- each event of a remount keeps what its trace says
   remount_event : (hook : HookAnswer) (step : RemountStep) → StepSays c ro step earlier added → After hook step
-  remount_event hook Locks h = locks hook h
-  remount_event hook LoadsStage h = loads_stage hook h
-  remount_event hook LoadsSuperblock h = loads_superblock hook h
-  remount_event hook SetsWritable h = sets_writable hook h
-  remount_event hook LoadsRemoved h = loads_removed hook h
-  remount_event hook (LoadsFlags m held) h = loads_flags hook m held h
-  remount_event hook (SetsHold m held) h = sets_hold hook m held h
-  remount_event hook (Sums m held sum) h = sums hook m held sum h
-  remount_event hook (LoadsRemovedAgain held) h = loads_removed_again hook held h
-  remount_event hook (LeavesHolds held) h = (
+  remount_event hook RemountStep.Locks h = locks hook h
+  remount_event hook RemountStep.LoadsStage h = loads_stage hook h
+  remount_event hook RemountStep.LoadsSuperblock h = loads_superblock hook h
+  remount_event hook RemountStep.SetsWritable h = sets_writable hook h
+  remount_event hook RemountStep.LoadsRemoved h = loads_removed hook h
+  remount_event hook (RemountStep.LoadsFlags m held) h = loads_flags hook m held h
+  remount_event hook (RemountStep.SetsHold m held) h = sets_hold hook m held h
+  remount_event hook (RemountStep.Sums m held sum) h = sums hook m held sum h
+  remount_event hook (RemountStep.LoadsRemovedAgain held) h = loads_removed_again hook held h
+  remount_event hook (RemountStep.LeavesHolds held) h = (
     leave_holds (without_lowest held),
     refl,
-    leave_holds_says c ro (without_lowest held) (longer hook (LeavesHolds held)) added
-        (h.0 ∙ busy_adds ro earlier ∙ sym (busy_adds ro (longer hook (LeavesHolds held))), h.1),
+    leave_holds_says c ro (without_lowest held) (longer hook (RemountStep.LeavesHolds held)) added
+        (h.0 ∙ busy_adds ro earlier ∙ sym (busy_adds ro (longer hook (RemountStep.LeavesHolds held))), h.1),
   )
-  remount_event hook (SetsRemount held) h = sets_remount hook held h
-  remount_event hook (ClearsHold held) h = (
+  remount_event hook (RemountStep.SetsRemount held) h = sets_remount hook held h
+  remount_event hook (RemountStep.ClearsHold held) h = (
     let_go (without_lowest held),
     refl,
-    let_go_says c ro (without_lowest held) (longer hook (ClearsHold held)) added h,
+    let_go_says c ro (without_lowest held) (longer hook (RemountStep.ClearsHold held)) added h,
   )
-  remount_event hook (GivesUp m held) h = (
+  remount_event hook (RemountStep.GivesUp m held) h = (
     give_up m (without_lowest held),
     refl,
-    give_up_says c ro m (without_lowest held) (longer hook (GivesUp m held)) added
-        (h.0 ∙ busy_adds ro earlier ∙ sym (busy_adds ro (longer hook (GivesUp m held))), h.1),
+    give_up_says c ro m (without_lowest held) (longer hook (RemountStep.GivesUp m held)) added
+        (h.0 ∙ busy_adds ro earlier ∙ sym (busy_adds ro (longer hook (RemountStep.GivesUp m held))), h.1),
   )
-  remount_event hook (ClearsMark n) h = clears_mark hook n h
-  remount_event hook SetsReadOnly h = sets_read_only hook h
-  remount_event hook ClearsRemount h = (Releases (Ok UnitReply), refl, (rw (h.1, h.2) h.0, tt))
-  remount_event hook (Releases answer) h = (lock_leaves c ro answer value hook earlier added h, tt)
+  remount_event hook (RemountStep.ClearsMark n) h = clears_mark hook n h
+  remount_event hook RemountStep.SetsReadOnly h = sets_read_only hook h
+  remount_event hook RemountStep.ClearsRemount h = (RemountStep.Releases (Ok Reply.Unit), refl, (rw (h.1, h.2) h.0, tt))
+  remount_event hook (RemountStep.Releases answer) h = (lock_leaves c ro answer value hook earlier added h, tt)
 
--- so it is kept along every trace of a remount
-pub remount_kept : (c : Config) → IsWithin c → (t : ℕ) (ro : Bool) → Kept (RemountAt c t ro) c t (RemountSb ro)
+pub remount_kept : (c : Config) → IsWithin c → (t : ℕ) (ro : Bool) → Kept (RemountAt c t ro) c t (Op.RemountSb ro)
 remount_kept c lim t ro = record {
-  first = (Locks, refl, (refl, (refl, refl, refl, λ m. refl)));
+  first = (RemountStep.Locks, refl, (refl, (refl, refl, refl, λ m. refl)));
   more = λ phase value hook earlier added here.
-      subst (λ (x : Phase). SaysAfter (RemountAt c t ro) c (RemountSb ro) x value hook earlier added) (sym here.1)
+      subst (λ (x : Phase). SaysAfter (RemountAt c t ro) c (Op.RemountSb ro) x value hook earlier added) (sym here.1)
       (remount_event c lim t ro value earlier added hook here.0 here.2);
   short = λ trace phase added here. tt;
 }
 
--- clearing a mark is no open and no close, on top of actions that leave each open file
-clean_open : (word : WordName) (touch : Touch) (found : ℕ) (actions rest before : List Action) →
-    opens_of ((actions ++ rest) ++ before) ≡ opens_of before →
-    opens_of ((clean_found word touch found actions ++ rest) ++ before) ≡ opens_of before
-clean_open (Node n) (And mask) found actions rest before h =
-    elim (cases_Bool (has_flag found 4)) [ inl f ↦ rw f h | inr f ↦ rw f h ]
-clean_open word touch found actions rest before h = h
-
--- so is clearing each mark of a trace
-cleans_open : (trace : List Traced) (rest before : List Action) → opens_of (rest ++ before) ≡ opens_of before →
-    opens_of ((cleans trace ++ rest) ++ before) ≡ opens_of before
-cleans_open [] rest before h = h
-cleans_open (e ∷ earlier) rest before h =
-    clean_open e.event.word e.event.touch e.event.found (cleans earlier) rest before (cleans_open earlier rest before h)
-
 -- so does what a remount has added where it is refused
 pub remount_restores : (ro : Bool) (refusal : GateError) (trace : List Traced) (before : List Action) →
-    (mounts_of (actions_of (RemountSb ro) (Err refusal) trace ++ before) ≡ mounts_of before) ×
-    (levels_of (actions_of (RemountSb ro) (Err refusal) trace ++ before) ≡ levels_of before) ×
-    (opens_of (actions_of (RemountSb ro) (Err refusal) trace ++ before) ≡ opens_of before)
-remount_restores true (Hook code) trace before =
-    let leaves : LeaveAccesses (actions_of (RemountSb true) (Err (Hook code)) trace) before =
-    cleans_leave trace (SbRo ∷ []) before (refl, refl) in
-    (leaves.0, leaves.1, cleans_open trace (SbRo ∷ []) before refl)
+    (mounts_of (actions_of (Op.RemountSb ro) (Err refusal) trace ++ before) ≡ mounts_of before) ×
+    (levels_of (actions_of (Op.RemountSb ro) (Err refusal) trace ++ before) ≡ levels_of before) ×
+    (opens_of (actions_of (Op.RemountSb ro) (Err refusal) trace ++ before) ≡ opens_of before)
+remount_restores true (GateError.Hook code) trace before =
+    let leaves : LeaveAccesses (actions_of (Op.RemountSb true) (Err (GateError.Hook code)) trace) before =
+    cleans_leave trace (Action.SbRo ∷ []) before (refl, refl) in
+    (leaves.0, leaves.1, cleans_open trace (Action.SbRo ∷ []) before refl)
 remount_restores true refusal trace before = (refl, refl, refl)
 remount_restores false refusal trace before = (refl, refl, refl)

@@ -1,83 +1,49 @@
 -- What fits after an event of a thaw.
-use Rattle.std.proofs.Common.{refl, false, ◌≡◌, ℕ, ◌≤◌, true, arith, inl, inr}
+use Rattle.std.proofs.{Common.{false, ◌≡◌, ℕ, ◌≤◌, true, arith, inl, inr}, lemmas.Bool.Decides.eqb_tells}
 use Rattle.std.specs.Prelude.{◌-◌, ◌==◌, if◌then◌else◌, Bool, Ok, Err}
-use Rattle.std.proofs.lemmas.Bool.Decides.{eqb_tells}
-use Rattle.access_model.specs.declared.errors.GateError.TheVariants.{Invalid}
-use Rattle.access_model.specs.declared.replies.Next.{Next}
-use Rattle.access_model.specs.declared.replies.Next.TheVariants.{Go, Wait}
-use Rattle.access_model.specs.Replies.{map_next}
-use Rattle.cpu_words.specs.Hooks.{HookAnswer}
-use Rattle.cpu_words.specs.Names.{IsWord}
-use Rattle.cpu_words.specs.Touches.{left}
-use Rattle.percpu_rwsem.specs.declared.transitions.Transition.{Transition}
-use Rattle.percpu_rwsem.specs.declared.transitions.Transition.TheVariants.{Loads, Exchanges}
-use Rattle.percpu_rwsem.specs.declared.transitions.TransitionNext.{TransitionNext}
-use Rattle.percpu_rwsem.specs.declared.transitions.TransitionNext.TheVariants.{More, Undefined, Made}
-use Rattle.percpu_rwsem.specs.declared.writers.UpWrite.{UpWrite}
-use Rattle.percpu_rwsem.specs.declared.writers.UpWriteStep.{UpWriteStep}
-use Rattle.percpu_rwsem.specs.declared.writers.UpWriteStep.TheVariants.{ClearsBlock, Exits}
-use Rattle.percpu_rwsem.specs.SyncWords.{on_exit}
-use Rattle.percpu_rwsem.specs.Transitions.{transition_next, transition_after}
-use Rattle.percpu_rwsem.specs.Writers.{exit_made, up_write_next}
-use Rattle.level_laws.specs.Exchanges.{Shows, KnowsWords}
-use Rattle.level_laws.proofs.Exchanges.{exchanges_make_transitions}
-use Rattle.freeze_levels.specs.declared.thaws.Thaw.{Thaw}
-use Rattle.freeze_levels.specs.declared.thaws.ThawStep.{ThawStep}
-use Rattle.freeze_levels.specs.declared.thaws.ThawStep.TheVariants.{Locks, LoadsStage, LoadsHolders, Leaves, LoadsSuperblock, LeavesReadOnly, LeavesLast, SetsUnfrozen, Reopens, Releases}
-use Rattle.access_model.specs.declared.actions.Holder.{Holder}
-use Rattle.access_model.specs.declared.actions.Holders.{Holders}
-use Rattle.access_model.specs.Holders.{held_by, with_holder, is_unheld}
-use Rattle.freeze_levels.specs.Holders.{holders_in}
-use Rattle.freeze_levels.specs.Thaws.{thaw_next, thaw_after, at_thaw, thaw_opens, thaw_finds, after_opening}
-use Rattle.gate_world.specs.declared.config.Config.{Config}
-use Rattle.gate_world.specs.declared.work.Phase.TheVariants.{Thaws}
-use Rattle.gate_world.specs.Configs.{extents_of}
-use Rattle.gate_world.specs.Views.{phase_after}
-use Rattle.gate_world.specs.Operations.{holds_none}
-use Rattle.gate_world.specs.Fits.{UpWriteFits, ThawFits, PhaseFits, Fits, ActionFits, mounts_by, levels_by}
-use Rattle.gate_frames.proofs.Keeps.{by_bool}
-
--- what holds in both cases, as the test is, holds
-pub both : (b : Bool) (P : Bool → Type 0) → (b ≡ true → P true) → (b ≡ false → P false) → P b
-both true P first second = first refl
-both false P first second = second refl
+use Rattle.access_model.specs.{Holders.{held_by, with_holder, is_unheld}, Replies.map_next}
+use Rattle.access_model.specs.declared.{actions.{Holder.Holder, Holders.Holders}, errors.GateError.GateError, replies.Next.Next}
+use Rattle.cpu_words.specs.{Hooks.HookAnswer, Names.IsWord, Touches.left}
+use Rattle.percpu_rwsem.specs.{SyncWords.on_exit, Transitions.{transition_next, transition_after}, Writers.exit_made}
+use Rattle.percpu_rwsem.specs.declared.{transitions.{Transition.Transition, TransitionNext.TransitionNext}, writers.UpWriteStep.UpWriteStep}
+use Rattle.freeze_levels.specs.{Holders.holders_in, Thaws.{thaw_next, thaw_after, at_thaw, thaw_opens, thaw_finds, after_opening}}
+use Rattle.freeze_levels.specs.declared.thaws.{Thaw.Thaw, ThawStep.ThawStep}
+use Rattle.level_laws.{proofs.Exchanges.exchanges_make_transitions, specs.Exchanges.{Shows, KnowsWords}}
+use Rattle.gate_world.specs.{Configs.extents_of, Fits.{UpWriteFits, ThawFits, PhaseFits, Fits, ActionFits, mounts_by, levels_by}, Operations.holds_none}
+use Rattle.gate_world.specs.{Views.phase_after, declared.{config.Config.Config, work.Phase.Phase}}
+use Rattle.gate_frames.proofs.{Cases.both, Keeps.by_bool}
+use Rattle.owner_laws.proofs.FreezeFits.{up_write_word}
 
 -- What comes after a look at who holds a freeze: a refusal, where its own holder doesn't; the superblock's flag, where it alone does; or
 -- else the store without it.
 pub finds_cases : (x : Thaw) (held : Holders) (P : ThawStep → Type 0) →
-    (held_by held x.holder ≡ false → P (Releases (Err Invalid))) →
-    (held_by held x.holder ≡ true → is_unheld (with_holder x.holder false held) ≡ true → P LoadsSuperblock) →
-    (held_by held x.holder ≡ true → is_unheld (with_holder x.holder false held) ≡ false → P (Leaves held)) → P (thaw_finds x held)
+    (held_by held x.holder ≡ false → P (ThawStep.Releases (Err GateError.Invalid))) →
+    (held_by held x.holder ≡ true → is_unheld (with_holder x.holder false held) ≡ true → P ThawStep.LoadsSuperblock) →
+    (held_by held x.holder ≡ true → is_unheld (with_holder x.holder false held) ≡ false → P (ThawStep.Leaves held)) → P (thaw_finds x held)
 finds_cases x held P refused alone shared =
     both (held_by held x.holder)
-    (λ b. P (if b then (if is_unheld (with_holder x.holder false held) then LoadsSuperblock else Leaves held) else Releases (Err Invalid)))
-    (λ own. both (is_unheld (with_holder x.holder false held)) (λ b. P (if b then LoadsSuperblock else Leaves held)) (alone own) (shared own))
+    (λ b. P (if b then (if is_unheld (with_holder x.holder false held) then ThawStep.LoadsSuperblock else ThawStep.Leaves held)
+    else ThawStep.Releases (Err GateError.Invalid)))
+    (λ own. both (is_unheld (with_holder x.holder false held)) (λ b. P (if b then ThawStep.LoadsSuperblock else ThawStep.Leaves held)) (alone own) (shared own))
     refused
-
--- the word of each event of an up-write is there
-up_write_there : (c : Config) (u : UpWrite) (s : UpWriteStep) → 1 ≤ u.level → u.level ≤ 3 → IsWord (extents_of c) (up_write_next u s).0
-up_write_there c u ClearsBlock l1 l3 = (l1, l3)
-up_write_there c u (Exits Loads) l1 l3 = (l1, l3)
-up_write_there c u (Exits (Exchanges from to)) l1 l3 = (l1, l3)
 
 -- the word of each event of a thaw is there
 pub thaw_there : (c : Config) (x : Thaw) (s : ThawStep) (hook : HookAnswer) → ThawFits x.holder s → IsWord (extents_of c) (thaw_next x s hook).0
-thaw_there c x LeavesLast (Ok answer) f = tt
-thaw_there c x LeavesLast (Err code) f = tt
-thaw_there c x (Reopens u) hook f = up_write_there c u u.step f.0 f.1
+thaw_there c x ThawStep.LeavesLast (Ok answer) f = tt
+thaw_there c x ThawStep.LeavesLast (Err code) f = tt
+thaw_there c x (ThawStep.Reopens u) hook f = up_write_word c u u.step f.0 f.1
 thaw_there c x other hook f = tt
 
 -- the action of an event of a level's reopening can be done
 reopening_acts : (held : ℕ → ℕ) (x : Thaw) (level : ℕ) (s : UpWriteStep) (found : ℕ) (hook : HookAnswer) →
-    ActionFits held (thaw_after x (Reopens (record { level = level; step = s })) found hook).1
-reopening_acts held x level ClearsBlock found hook = tt
-reopening_acts held x level (Exits transition) found hook = tt
+    ActionFits held (thaw_after x (ThawStep.Reopens (record { level = level; step = s })) found hook).1
+reopening_acts held x level UpWriteStep.ClearsBlock found hook = tt
+reopening_acts held x level (UpWriteStep.Exits transition) found hook = tt
 
--- the action of each event of a thaw can be done
 pub thaw_acts : (held : ℕ → ℕ) (x : Thaw) (s : ThawStep) (found : ℕ) (hook : HookAnswer) → ActionFits held (thaw_after x s found hook).1
-thaw_acts held x LeavesLast found (Ok answer) = tt
-thaw_acts held x LeavesLast found (Err code) = tt
-thaw_acts held x (Reopens u) found hook = reopening_acts held x u.level u.step found hook
+thaw_acts held x ThawStep.LeavesLast found (Ok answer) = tt
+thaw_acts held x ThawStep.LeavesLast found (Err code) = tt
+thaw_acts held x (ThawStep.Reopens u) found hook = reopening_acts held x u.level u.step found hook
 thaw_acts held x s found hook = tt
 
 -- a level is still to be reopened, or no more
@@ -87,59 +53,58 @@ opens_fit holder level l3 = elim (eqb_tells level 0) [ inl z ↦ rw z.0 tt | inr
 module _ (c : Config) (t : ℕ) (held : ℕ → ℕ) (levels : ℕ → Bool) (x : Thaw) (same : x.task ≡ t) (none : holds_none levels ≡ true) where
   -- what comes after an event fits
   abbrev NextFits : Next Thaw → Type 0
-  NextFits next = Fits c t held levels (phase_after (map_next Thaws next))
+  NextFits next = Fits c t held levels (phase_after (map_next Phase.Thaws next))
 
   -- an up-write that goes on knows the words of its exchange
   exit_fits : (level found leaves : ℕ) (s : UpWriteStep) (n : TransitionNext) → 1 ≤ level → level ≤ 3 → Shows on_exit found leaves n →
       NextFits (after_opening x level (exit_made (record { level = level; step = s }) n))
-  exit_fits level found leaves s (More transition) l1 l3 shows = (same, none, (l1, l3, shows.1))
-  exit_fits level found leaves s Undefined l1 l3 shows = (same, none, (l1, l3, tt))
-  exit_fits level found leaves s (Made state) l1 l3 shows = (same, none, opens_fit x.holder (level - 1) (omega (arith, l3)))
+  exit_fits level found leaves s (TransitionNext.More transition) l1 l3 shows = (same, none, (l1, l3, shows.1))
+  exit_fits level found leaves s TransitionNext.Undefined l1 l3 shows = (same, none, (l1, l3, tt))
+  exit_fits level found leaves s (TransitionNext.Made state) l1 l3 shows = (same, none, opens_fit x.holder (level - 1) (omega (arith, l3)))
 
   -- so it is after an event of its transition
   exit_goes : (level : ℕ) (transition : Transition) (found : ℕ) → 1 ≤ level → level ≤ 3 → KnowsWords on_exit transition →
       NextFits (after_opening x level
-      (exit_made (record { level = level; step = Exits transition }) (transition_after on_exit transition found)))
+      (exit_made (record { level = level; step = UpWriteStep.Exits transition }) (transition_after on_exit transition found)))
   exit_goes level transition found l1 l3 knows =
-      exit_fits level found (left (transition_next level transition).1 found) (Exits transition) (transition_after on_exit transition found)
+      exit_fits level found (left (transition_next level transition).1 found) (UpWriteStep.Exits transition) (transition_after on_exit transition found)
       l1 l3 (exchanges_make_transitions on_exit level found transition knows)
 
   -- after an event of a thaw, what comes fits the accesses that its action leaves
   abbrev GoesOn : ThawStep → ℕ → HookAnswer → Type 0
   GoesOn s found hook =
       Fits c t (mounts_by (thaw_after x s found hook).1 held) (levels_by (thaw_after x s found hook).1 levels)
-      (phase_after (map_next Thaws (thaw_after x s found hook).0))
+      (phase_after (map_next Phase.Thaws (thaw_after x s found hook).0))
 
-  -- so it is of a level's reopening
   reopening_goes : (level : ℕ) (s : UpWriteStep) (found : ℕ) (hook : HookAnswer) → UpWriteFits (record { level = level; step = s }) →
-      GoesOn (Reopens (record { level = level; step = s })) found hook
-  reopening_goes level ClearsBlock found hook f = (same, none, (f.0, f.1, tt))
-  reopening_goes level (Exits transition) found hook f = exit_goes level transition found f.0 f.1 f.2
+      GoesOn (ThawStep.Reopens (record { level = level; step = s })) found hook
+  reopening_goes level UpWriteStep.ClearsBlock found hook f = (same, none, (f.0, f.1, tt))
+  reopening_goes level (UpWriteStep.Exits transition) found hook f = exit_goes level transition found f.0 f.1 f.2
 
-  -- and at each step
   step_goes : (s : ThawStep) (found : ℕ) (hook : HookAnswer) → ThawFits x.holder s → GoesOn s found hook
-  step_goes Locks found hook f =
-      by_bool (found == 0) (λ b. NextFits (if b then Go (at_thaw x LoadsStage) else Wait (at_thaw x Locks)))
+  step_goes ThawStep.Locks found hook f =
+      by_bool (found == 0) (λ b. NextFits (if b then Next.Go (at_thaw x ThawStep.LoadsStage) else Next.Wait (at_thaw x ThawStep.Locks)))
       (same, none, tt) (same, none, tt)
-  step_goes LoadsStage found hook f =
-      by_bool (found == 4) (λ b. NextFits (if b then Go (at_thaw x LoadsHolders) else Go (at_thaw x (Releases (Err Invalid)))))
+  step_goes ThawStep.LoadsStage found hook f =
+      by_bool (found == 4)
+      (λ b. NextFits (if b then Next.Go (at_thaw x ThawStep.LoadsHolders) else Next.Go (at_thaw x (ThawStep.Releases (Err GateError.Invalid)))))
       (same, none, tt) (same, none, tt)
-  step_goes LoadsHolders found hook f =
-      finds_cases x (holders_in found) (λ s. NextFits (Go (at_thaw x s))) (λ other. (same, none, tt)) (λ own alone. (same, none, tt))
+  step_goes ThawStep.LoadsHolders found hook f =
+      finds_cases x (holders_in found) (λ s. NextFits (Next.Go (at_thaw x s))) (λ other. (same, none, tt)) (λ own alone. (same, none, tt))
       (λ own shared. (same, none, (own, shared)))
-  step_goes LoadsSuperblock found hook f =
-      by_bool (found == 0) (λ b. NextFits (if b then Go (at_thaw x LeavesLast) else Go (at_thaw x LeavesReadOnly)))
+  step_goes ThawStep.LoadsSuperblock found hook f =
+      by_bool (found == 0) (λ b. NextFits (if b then Next.Go (at_thaw x ThawStep.LeavesLast) else Next.Go (at_thaw x ThawStep.LeavesReadOnly)))
       (same, none, tt) (same, none, tt)
-  step_goes LeavesLast found (Ok answer) f = (same, none, tt)
-  step_goes LeavesLast found (Err code) f = tt
-  step_goes SetsUnfrozen found hook f = (same, none, (omega arith, omega arith, tt))
-  step_goes (Reopens u) found hook f = reopening_goes u.level u.step found hook f
-  step_goes (Releases answer) found hook f = tt
+  step_goes ThawStep.LeavesLast found (Ok answer) f = (same, none, tt)
+  step_goes ThawStep.LeavesLast found (Err code) f = tt
+  step_goes ThawStep.SetsUnfrozen found hook f = (same, none, (omega arith, omega arith, tt))
+  step_goes (ThawStep.Reopens u) found hook f = reopening_goes u.level u.step found hook f
+  step_goes (ThawStep.Releases answer) found hook f = tt
   step_goes other found hook f = (same, none, tt)
 
 -- what comes after each event of a thaw fits
 pub thaw_goes : (c : Config) (t : ℕ) (held : ℕ → ℕ) (levels : ℕ → Bool) (x : Thaw) (s : ThawStep) (found : ℕ) (hook : HookAnswer) →
-    PhaseFits c t held levels (Thaws (at_thaw x s)) →
+    PhaseFits c t held levels (Phase.Thaws (at_thaw x s)) →
     Fits c t (mounts_by (thaw_after x s found hook).1 held) (levels_by (thaw_after x s found hook).1 levels)
-    (phase_after (map_next Thaws (thaw_after x s found hook).0))
+    (phase_after (map_next Phase.Thaws (thaw_after x s found hook).0))
 thaw_goes c t held levels x s found hook f = step_goes c t held levels x f.0 f.1 s found hook f.2

@@ -1,27 +1,12 @@
 -- A phase whose way is free runs out: each of its events lowers its rank and leaves its way free, so alone it comes to its reply.
-use Rattle.std.proofs.Common.{◌≡◌, ℕ, zero, suc, ◌<◌, ◌≤◌, sym, ap, subst, inl, inr, arith}
-use Rattle.std.specs.Prelude.{◌⊎◌, Some, []}
-use Rattle.std.proofs.lemmas.Bool.{lt-ltb}
+use Rattle.std.{proofs.{Common.{◌≡◌, ℕ, zero, suc, ◌<◌, ◌≤◌, sym, ap, subst, inl, inr, arith}, lemmas.Bool.lt-ltb}, specs.Prelude.{◌⊎◌, Some, []}}
 use Rattle.finite_sums.proofs.Totals.{update_at}
-use Rattle.access_model.specs.declared.replies.Next.{Next}
-use Rattle.access_model.specs.declared.replies.Next.TheVariants.{Go, Wait, Done}
-use Rattle.access_model.specs.Replies.{map_next}
-use Rattle.cpu_words.specs.declared.names.WordName.{WordName}
-use Rattle.cpu_words.specs.declared.events.Touch.{Touch}
-use Rattle.cpu_words.specs.Touches.{left}
-use Rattle.cpu_words.specs.Words.{Words, read, put}
-use Rattle.cpu_words.specs.Hooks.{HookAnswer}
-use Rattle.gate_world.specs.declared.config.Config.{Config}
-use Rattle.gate_world.specs.declared.work.Phase.{Phase}
-use Rattle.gate_world.specs.declared.views.View.{View}
-use Rattle.gate_world.specs.Configs.{IsWithin}
-use Rattle.gate_world.specs.Views.{phase_after, view_after_beside}
-use Rattle.gate_world.specs.Work.{after_of}
+use Rattle.access_model.specs.{Replies.map_next, declared.replies.Next.Next}
+use Rattle.cpu_words.specs.{Hooks.HookAnswer, Touches.left, Words.{Words, read, put}, declared.{events.Touch.Touch, names.WordName.WordName}}
+use Rattle.gate_world.specs.{Configs.IsWithin, Rules.IsGood, Views.{phase_after, view_after_beside}, Work.after_of}
 use Rattle.gate_world.specs.Worlds.{World, Steps, step_of, after_step, value_at, found_at, happens}
-use Rattle.gate_world.specs.Rules.{IsGood}
-use Rattle.progress_laws.specs.Ranks.{rank}
-use Rattle.progress_laws.specs.Ways.{IsFree, Falls, PhaseEnds}
-use Rattle.progress_laws.specs.Progress.{EventsKeepRule, HasReply, ReplyWithin}
+use Rattle.gate_world.specs.declared.{config.Config.Config, views.View.View, work.Phase.Phase}
+use Rattle.progress_laws.specs.{Progress.{EventsKeepRule, HasReply, ReplyWithin}, Ranks.rank, Ways.{IsFree, Falls, PhaseEnds}}
 
 -- the words after an event of this word and touch
 abbrev pub after_event : Words → WordName × Touch → Words
@@ -30,21 +15,18 @@ after_event w event = put w event.0 (left event.1 (read w event.0))
 -- the same of a layer's own phases
 pub falls_as : {A B : Type 0} (to : A → B) (rank_of : B → ℕ) (free : B → Type 0) (n : ℕ) (next : Next A) →
     Falls (λ a. rank_of (to a)) (λ a. free (to a)) n next → Falls rank_of free n (map_next to next)
-falls_as to rank_of free n (Go q) h = h
-falls_as to rank_of free n (Wait q) h = h
-falls_as to rank_of free n (Done answer) h = tt
+falls_as to rank_of free n (Next.Go q) h = h
+falls_as to rank_of free n (Next.Wait q) h = h
+falls_as to rank_of free n (Next.Done answer) h = tt
 
 module _ (c : Config) (w : World) (t : ℕ) (lt : t < c.tasks) (hook : HookAnswer) (phase : Phase) (at : (w.views t).phase ≡ Some phase) where
-  -- the step of a task that is there and at a phase
   pub happens_is : happens c w (Steps t hook) ≡ after_step w t phase hook
   happens_is = rw (lt-ltb t c.tasks lt) (ap (step_of w t hook) at)
 
-  -- where it stands then
   pub stands_after : ((after_step w t phase hook).views t).phase ≡ phase_after (after_of phase (found_at w.words phase hook) hook).0
   stands_after =
       ap (λ (v : View). v.phase) (update_at w.views t (view_after_beside [] (w.views t) phase (value_at w.words phase hook) hook))
 
--- a reply that is near is no further
 pub no_further : (c : Config) (n m : ℕ) (w : World) → n ≤ m → ReplyWithin c n w → ReplyWithin c m w
 no_further c zero m w le h = absurd h
 no_further c (suc n) zero w le h = absurd (omega arith)
@@ -78,9 +60,9 @@ goes_on : (c : Config) (n m : ℕ) (next : World) (t : ℕ) (coming : Next Phase
     Falls (rank next.words) (IsFree c next.words) m coming →
     ((q : Phase) → (next.views t).phase ≡ Some q → IsFree c next.words q → rank next.words q < n → ReplyWithin c n next) →
     HasReply next t ⊎ ReplyWithin c n next
-goes_on c n m next t (Go q) is le f again = inr (again q is f.1 (omega (arith, f.0, le)))
-goes_on c n m next t (Wait q) is le f again = inr (again q is f.1 (omega (arith, f.0, le)))
-goes_on c n m next t (Done answer) is le f again = inl is
+goes_on c n m next t (Next.Go q) is le f again = inr (again q is f.1 (omega (arith, f.0, le)))
+goes_on c n m next t (Next.Wait q) is le f again = inr (again q is f.1 (omega (arith, f.0, le)))
+goes_on c n m next t (Next.Done answer) is le f again = inl is
 
 module _ (c : Config) (lim : IsWithin c)
     (keeps : EventsKeepRule c)

@@ -1,105 +1,58 @@
 -- Who can move: a task whose way is free, who has HOLD set at a mount, and an owner of `umount` that is no freeze; and what the rule says of who
 -- holds a level.
 use Rattle.std.proofs.Common.{◌≡◌, ℕ, zero, suc, ◌<◌, ◌≤◌, Bool, true, false, refl, sym, ap, ◌∙◌, subst, inl, inr, arith, true≢false}
-use Rattle.std.specs.Prelude.{◌⊎◌, ◌-◌, ◌==◌, ◌&&◌, ◌||◌, not, nat_lt, if◌then◌else◌, Option, Some, None}
 use Rattle.std.proofs.lemmas.Bool.{cases_Bool, ltb-true, lt-ltb, le-ltb, ne_eqb, and_parts, or_cases, not-true, cases_lt}
-use Rattle.finite_sums.specs.Sums.{total}
-use Rattle.finite_sums.proofs.Totals.{total_at, total_none}
-use Rattle.mount_counts.specs.declared.phases.MountPhase.TheVariants.{Change as Changes}
-use Rattle.mount_counts.specs.declared.phases.ChangeStep.{ChangeStep}
-use Rattle.mount_counts.specs.declared.phases.ChangeStep.TheVariants.{Locks as ChangeLocks}
-use Rattle.mount_counts.specs.declared.remounts.RemountStep.{RemountStep}
-use Rattle.mount_counts.specs.declared.remounts.RemountStep.TheVariants.{Locks as RemountLocks}
-use Rattle.mount_counts.specs.Phases.{has_flag}
-use Rattle.mount_counts.specs.Roles.{has_hold}
-use Rattle.mount_laws.proofs.Bits.{hold_set}
-use Rattle.percpu_rwsem.specs.declared.readers.DownReadStep.{DownReadStep}
-use Rattle.percpu_rwsem.specs.declared.readers.DownReadStep.TheVariants.{EntersSection, CountsUpFast}
-use Rattle.percpu_rwsem.specs.declared.callbacks.CallbackStep.{CallbackStep}
-use Rattle.percpu_rwsem.specs.declared.callbacks.CallbackStep.TheVariants.{Claims, AwaitsSections, CallsBack}
-use Rattle.percpu_rwsem.specs.declared.writers.DownWriteStep.{DownWriteStep}
-use Rattle.percpu_rwsem.specs.declared.writers.DownWriteStep.TheVariants.{Sums}
-use Rattle.percpu_rwsem.specs.declared.writers.UpWriteStep.{UpWriteStep}
-use Rattle.percpu_rwsem.specs.declared.writers.UpWriteStep.TheVariants.{ClearsBlock, Exits}
-use Rattle.freeze_levels.specs.declared.freezes.Freeze.{Freeze}
-use Rattle.freeze_levels.specs.declared.freezes.FreezeStep.{FreezeStep}
-use Rattle.freeze_levels.specs.declared.freezes.FreezeStep.TheVariants.{Closes, LocksAgain, SetsPageFault, Cleans, SetsFs, SetsComplete, Reopens as FreezeReopens}
-use Rattle.freeze_levels.specs.declared.thaws.ThawStep.{ThawStep}
-use Rattle.freeze_levels.specs.declared.thaws.ThawStep.TheVariants.{Locks as ThawLocks, Reopens as ThawReopens}
-use Rattle.gated_tree.specs.declared.snapshots.SnapshotStep.{SnapshotStep}
-use Rattle.gated_tree.specs.declared.snapshots.SnapshotStep.TheVariants.{Locks as SnapshotLocks}
-use Rattle.gated_tree.specs.declared.phases.TreePhase.TheVariants.{Snapshot as Snapshots}
-use Rattle.gate_counts.specs.Gates.{below, admitted, counted, BarringHolds, unread}
-use Rattle.gate_counts.specs.Levels.{LevelRole, Passed, processor_of, barring_of, level_as_gate}
-use Rattle.gate_counts.proofs.Events.{words_sum}
-use Rattle.level_laws.specs.Roles.{Out as IsApart, closed}
-use Rattle.level_laws.specs.Operations.{down_read_role, down_read_inside, callback_role}
-use Rattle.stage_laws.specs.Roles.{owns as stage_owns}
-use Rattle.write_access.specs.declared.phases.WritePhase.TheVariants.{Takes}
-use Rattle.file_closes.specs.declared.phases.ClosePhase.TheVariants.{Enters as EntersLevel}
-use Rattle.gate_world.specs.declared.config.Config.{Config}
-use Rattle.gate_world.specs.declared.work.Phase.{Phase}
-use Rattle.gate_world.specs.declared.work.Phase.TheVariants.{Mounts, Remounts, DownReads, Callbacks, Writes, Freezes, Thaws, Trees, Closes as FileCloses}
-use Rattle.gate_world.specs.Configs.{IsWithin}
-use Rattle.gate_world.specs.Fits.{Fits, PhaseFits}
-use Rattle.gate_world.specs.Levels.{
-  Stand,
-  stand_count,
-  stand_sync,
-  freeze_stand,
-  thaw_stand,
-  down_count_role,
-  up_count_role,
-  count_role_if,
-  sync_role_if,
-  count_beside,
-  read_count_role,
-  level_role_of,
-  sync_role_of,
-  inside,
-  at_level,
-  is_frozen_whole,
-}
-use Rattle.gate_world.specs.Operations.{holds_none, holds_none_from}
-use Rattle.gate_world.specs.Remounts.{remount_owns}
-use Rattle.gate_world.specs.Rules.{IsGood, Owner, Fitting, AtMount, AtLevel, SyncAt, SyncHoldsIn, LevelHoldsIn, role_of, owns, change_owns}
-use Rattle.gate_world.specs.Stages.{thaw_stage_role, snapshot_stage_role}
-use Rattle.gate_world.specs.Views.{held_at, holds_level}
-use Rattle.gate_world.specs.Worlds.{World}
-use Rattle.gate_frames.proofs.Owners.{owns_le, hold_owns, who_holds}
+use Rattle.std.specs.Prelude.{◌⊎◌, ◌-◌, ◌==◌, ◌&&◌, ◌||◌, not, nat_lt, if◌then◌else◌, Option, Some, None}
+use Rattle.finite_sums.{proofs.Totals.{total_at, total_none}, specs.Sums.total}
 use Rattle.cpu_words.specs.Words.{Words}
-use Rattle.progress_laws.specs.Progress.{EventsKeepRule, ReplyWithin}
-use Rattle.progress_laws.specs.Ranks.{most_beside, most_alone}
+use Rattle.gate_counts.proofs.Events.{words_sum}
+use Rattle.gate_counts.specs.{Gates.{below, admitted, counted, BarringHolds, unread}, Levels.{LevelRole, Passed, processor_of, barring_of, level_as_gate}}
+use Rattle.gated_tree.specs.declared.{phases.TreePhase.TreePhase, snapshots.SnapshotStep.SnapshotStep}
+use Rattle.mount_counts.specs.{Phases.has_flag, Roles.has_hold}
+use Rattle.mount_counts.specs.declared.{phases.{ChangeStep.ChangeStep, MountPhase.MountPhase}, remounts.RemountStep.RemountStep}
+use Rattle.mount_laws.proofs.Bits.{hold_set}
+use Rattle.percpu_rwsem.specs.declared.{readers.DownReadStep.DownReadStep, writers.{DownWriteStep.DownWriteStep, UpWriteStep.UpWriteStep}}
+use Rattle.freeze_levels.specs.declared.{freezes.{Freeze.Freeze, FreezeStep.FreezeStep}, thaws.ThawStep.ThawStep}
+use Rattle.level_laws.specs.{Operations.down_read_inside, Roles.{Out as IsApart, closed}}
+use Rattle.stage_laws.specs.Roles.{owns as stage_owns}
+use Rattle.write_access.specs.declared.phases.WritePhase.{WritePhase}
+use Rattle.file_closes.specs.declared.phases.ClosePhase.{ClosePhase}
+use Rattle.gate_world.specs.{Configs.IsWithin, Fits.{Fits, PhaseFits}}
+use Rattle.gate_world.specs.Levels.{Stand, stand_count, stand_sync, freeze_stand, thaw_stand, down_count_role, up_count_role, count_role_if, count_beside}
+use Rattle.gate_world.specs.Levels.{read_count_role, level_role_of, sync_role_of, inside, at_level, is_frozen_whole}
+use Rattle.gate_world.specs.{Operations.{holds_none, holds_none_from}, Remounts.remount_owns}
+use Rattle.gate_world.specs.Rules.{IsGood, Owner, Fitting, AtMount, AtLevel, SyncAt, SyncHoldsIn, LevelHoldsIn, role_of, owns, change_owns}
+use Rattle.gate_world.specs.{Stages.{thaw_stage_role, snapshot_stage_role}, Views.{held_at, holds_level}, Worlds.World}
+use Rattle.gate_world.specs.declared.{config.Config.Config, work.Phase.Phase}
+use Rattle.gate_frames.proofs.{LevelWorlds.{callback_opens, read_opens}, Owners.{owns_le, hold_owns, who_holds}}
+use Rattle.progress_laws.proofs.{Bounds.{is_beside, beside_small, rank_small}, Falls.runs_out}
+use Rattle.progress_laws.specs.{Progress.{EventsKeepRule, ReplyWithin}, Ranks.{most_beside, most_alone}}
 use Rattle.progress_laws.specs.Ways.{IsFree, HoldIsClear, NothingCounted, ChangeIsFree, RemountIsFree, ThawIsFree, SnapshotIsFree, PhaseEnds}
-use Rattle.progress_laws.proofs.Falls.{runs_out}
-use Rattle.progress_laws.proofs.Bounds.{is_beside, beside_small, rank_small}
 
--- an owner that is no freeze waits for nobody
 change_owner : (w : Words) (wait : Bool) (s : ChangeStep) → change_owns s ≡ 1 → ChangeIsFree w s wait
-change_owner w wait ChangeLocks h = absurd (omega (arith, h))
+change_owner w wait ChangeStep.Locks h = absurd (omega (arith, h))
 change_owner w wait s h = tt
 
 remount_owner : (w : Words) (s : RemountStep) → remount_owns s ≡ 1 → RemountIsFree w s
-remount_owner w RemountLocks h = absurd (omega (arith, h))
+remount_owner w RemountStep.Locks h = absurd (omega (arith, h))
 remount_owner w s h = tt
 
 thaw_owner : (w : Words) (s : ThawStep) → stage_owns (thaw_stage_role s) ≡ 1 → ThawIsFree w s
-thaw_owner w ThawLocks h = absurd (omega (arith, h))
+thaw_owner w ThawStep.Locks h = absurd (omega (arith, h))
 thaw_owner w s h = tt
 
 snapshot_owner : (w : Words) (wait : Bool) (s : SnapshotStep) → stage_owns (snapshot_stage_role s) ≡ 1 → SnapshotIsFree w s wait
-snapshot_owner w wait SnapshotLocks h = absurd (omega (arith, h))
+snapshot_owner w wait SnapshotStep.Locks h = absurd (omega (arith, h))
 snapshot_owner w wait s h = tt
 
-pub owner_free : (c : Config) (w : Words) (phase : Phase) → owns (Some phase) ≡ 1 → IsFree c w phase ⊎ ((x : Freeze) × (phase ≡ Freezes x))
-owner_free c w (Mounts (Changes x)) h = inl (change_owner w x.wait x.step h)
-owner_free c w (Remounts x) h = inl (remount_owner w x.step h)
-owner_free c w (Freezes x) h = inr (x, refl)
-owner_free c w (Thaws x) h = inl (thaw_owner w x.step h)
-owner_free c w (Trees (Snapshots x)) h = inl (snapshot_owner w x.wait x.step h)
+pub owner_free : (c : Config) (w : Words) (phase : Phase) → owns (Some phase) ≡ 1 → IsFree c w phase ⊎ ((x : Freeze) × (phase ≡ Phase.Freezes x))
+owner_free c w (Phase.Mounts (MountPhase.Change x)) h = inl (change_owner w x.wait x.step h)
+owner_free c w (Phase.Remounts x) h = inl (remount_owner w x.step h)
+owner_free c w (Phase.Freezes x) h = inr (x, refl)
+owner_free c w (Phase.Thaws x) h = inl (thaw_owner w x.step h)
+owner_free c w (Phase.Trees (TreePhase.Snapshot x)) h = inl (snapshot_owner w x.wait x.step h)
 owner_free c w phase h = absurd (omega (arith, h))
 
--- who owns is at a phase
 phase_owns : (p : Option Phase) → owns p ≡ 1 → (phase : Phase) × (p ≡ Some phase)
 phase_owns None h = absurd (omega (arith, h))
 phase_owns (Some phase) h = (phase, refl)
@@ -112,7 +65,6 @@ pub record HasOwner (c : Config) (w : World) : Type 0 where
   pub at : (w.views task).phase ≡ Some phase
   pub owner : owns (Some phase) ≡ 1
 
--- where `umount` is taken there is one
 pub has_owner : (c : Config) (w : World) → IsGood c w → (w.words.umount ≡ 0 → ⊥) → HasOwner c w
 has_owner c w good taken =
     let y : ℕ = w.words.umount - 1 in
@@ -122,7 +74,6 @@ has_owner c w good taken =
     let p : (phase : Phase) × ((w.views y).phase ≡ Some phase) = phase_owns (w.views y).phase own in
     record { task = y; there = ly; phase = p.0; at = p.1; owner = sym (ap owns p.1) ∙ own }
 
--- a phase fits its task
 pub fits_at : (c : Config) (w : World) → IsGood c w → (t : ℕ) → t < c.tasks → (phase : Phase) → (w.views t).phase ≡ Some phase →
     PhaseFits c t (held_at (w.views t)) (holds_level (w.views t)) phase
 fits_at c w good t lt phase at = subst (Fits c t (held_at (w.views t)) (holds_level (w.views t))) at (good Fitting t lt)
@@ -155,7 +106,6 @@ module _ (c : Config) (lim : IsWithin c)
         | inr x ↦ absurd (omega (arith, h, ap (λ q. has_hold (role_of m (Some q))) x.1))
       ]
 
-  -- a want has its reply, or who has HOLD set at its mount
   pub want_goes : (w : World) → IsGood c w → (t : ℕ) → t < c.tasks → (phase : Phase) → (w.views t).phase ≡ Some phase →
       owns (Some phase) ≡ 0 → (m : ℕ) → m < c.mounts → (HoldIsClear w.words m → IsFree c w.words phase) → ReplyWithin c (most_alone c) w
   want_goes w good t lt phase at none m lm free =
@@ -171,11 +121,11 @@ module _ (c : Config) (lim : IsWithin c)
 -- `umount` is free, or a freeze's
 abbrev pub OwnerFreezes : Config → World → Type 0
 OwnerFreezes c w =
-    (w.words.umount ≡ 0) ⊎ ((u : ℕ) × (u < c.tasks) × (x : Freeze) × ((w.views u).phase ≡ Some (Freezes x)) × (w.words.umount ≡ suc u))
+    (w.words.umount ≡ 0) ⊎ ((u : ℕ) × (u < c.tasks) × (x : Freeze) × ((w.views u).phase ≡ Some (Phase.Freezes x)) × (w.words.umount ≡ suc u))
 
 -- then no mount has HOLD set
 module _ (c : Config) (w : World) (good : IsGood c w) (freezing : OwnerFreezes c w) where
-  freeze_owns : (y : ℕ) → y < c.tasks → owns (w.views y).phase ≡ 1 → (x : Freeze) × ((w.views y).phase ≡ Some (Freezes x))
+  freeze_owns : (y : ℕ) → y < c.tasks → owns (w.views y).phase ≡ 1 → (x : Freeze) × ((w.views y).phase ≡ Some (Phase.Freezes x))
   freeze_owns y ly own = elim freezing [
     | inl free ↦ absurd (omega (arith, (good Owner).locked y ly own, free))
     | inr u ↦
@@ -196,7 +146,6 @@ module _ (c : Config) (w : World) (good : IsGood c w) (freezing : OwnerFreezes c
             absurd (omega (arith, who.3, ap (λ q. has_hold (role_of m q)) (freeze_owns who.0 who.1 own).1))
       ]
 
--- who holds a level is at no operation of those that hold none
 pub holds_not_none : (levels : ℕ → Bool) (i : ℕ) → holds_none levels ≡ true → 1 ≤ i → i ≤ 3 → levels i ≡ true → ⊥
 holds_not_none levels zero h one three is = omega arith
 holds_not_none levels (suc zero) h one three is =
@@ -209,7 +158,6 @@ holds_not_none levels (suc (suc (suc zero))) h one three is =
     (and_parts (not (levels 1)) (not (levels 2) && not (levels 3)) h).1).1)
 holds_not_none levels (suc (suc (suc (suc n)))) h one three is = omega arith
 
--- nor at a start at its level or a lower one
 below_or : (i j : ℕ) (b : Bool) → (nat_lt i j || not b) ≡ true → b ≡ true → i < j
 below_or i j b h is =
     elim (or_cases (nat_lt i j) (not b) h) [ inl l ↦ ltb-true i j l | inr n ↦ absurd (true≢false (sym is ∙ not-true b n)) ]
@@ -221,19 +169,6 @@ holds_below levels (suc (suc zero)) j h one three is = below_or 2 j (levels 2) (
 holds_below levels (suc (suc (suc zero))) j h one three is = below_or 3 j (levels 3) (and_parts _ _ (and_parts _ _ h).1).1 is
 holds_below levels (suc (suc (suc (suc n)))) j h one three is = absurd (omega arith)
 
--- no reader has a level closed, and no callback
-read_open : (b : Bool) (s : DownReadStep) → closed (sync_role_if b (down_read_role s)) ≡ 0
-read_open true CountsUpFast = refl
-read_open true s = refl
-read_open false s = refl
-
-callback_open : (b : Bool) (s : CallbackStep) → closed (sync_role_if b (callback_role s)) ≡ 0
-callback_open true (Claims x) = refl
-callback_open true (AwaitsSections g) = refl
-callback_open true (CallsBack x) = refl
-callback_open false s = refl
-
--- who stands with a level closed has passed each one below it
 stand_passed : (i j : ℕ) (s : Option Stand) → i < j → 1 ≤ closed (stand_sync j s) → stand_count i s ≡ Passed
 stand_passed i j None lt h = absurd (omega (arith, h))
 stand_passed i j (Some s) lt h =
@@ -246,27 +181,26 @@ stand_passed i j (Some s) lt h =
     ]
 
 closed_passes : (i j : ℕ) (p : Option Phase) → i < j → 1 ≤ closed (sync_role_of j p) → level_role_of i p ≡ Passed
-closed_passes i j (Some (DownReads r)) lt h = absurd (omega (arith, h, read_open (j == r.level) r.step))
-closed_passes i j (Some (Callbacks b)) lt h = absurd (omega (arith, h, callback_open (j == b.level) b.step))
-closed_passes i j (Some (Writes (Takes m r))) lt h = absurd (omega (arith, h, read_open (j == r.level) r.step))
-closed_passes i j (Some (Freezes x)) lt h = stand_passed i j (freeze_stand x.step) lt h
-closed_passes i j (Some (Thaws x)) lt h = stand_passed i j (thaw_stand x.step) lt h
-closed_passes i j (Some (FileCloses (EntersLevel f node r))) lt h = absurd (omega (arith, h, read_open (j == r.level) r.step))
+closed_passes i j (Some (Phase.DownReads r)) lt h = absurd (omega (arith, h, read_opens (j == r.level) r.step))
+closed_passes i j (Some (Phase.Callbacks b)) lt h = absurd (omega (arith, h, callback_opens (j == b.level) b.step))
+closed_passes i j (Some (Phase.Writes (WritePhase.Takes m r))) lt h = absurd (omega (arith, h, read_opens (j == r.level) r.step))
+closed_passes i j (Some (Phase.Freezes x)) lt h = stand_passed i j (freeze_stand x.step) lt h
+closed_passes i j (Some (Phase.Thaws x)) lt h = stand_passed i j (thaw_stand x.step) lt h
+closed_passes i j (Some (Phase.Closes (ClosePhase.Enters f node r))) lt h = absurd (omega (arith, h, read_opens (j == r.level) r.step))
 closed_passes i j p lt h = absurd (omega (arith, h))
 
--- who is outside each section seeks nothing at a level
 read_out : (b : Bool) (p : ℕ) (s : DownReadStep) → down_read_inside s ≡ 0 → processor_of (count_role_if b (read_count_role p s)) ≡ 0
-read_out true p EntersSection h = refl
+read_out true p DownReadStep.EntersSection h = refl
 read_out false p s h = refl
 read_out true p s h = absurd (omega (arith, h))
 
 down_out : (s : DownWriteStep) → processor_of (down_count_role s) ≡ 0
-down_out (Sums sum) = refl
+down_out (DownWriteStep.Sums sum) = refl
 down_out s = refl
 
 up_out : (s : UpWriteStep) → processor_of (up_count_role s) ≡ 0
-up_out ClearsBlock = refl
-up_out (Exits x) = refl
+up_out UpWriteStep.ClearsBlock = refl
+up_out (UpWriteStep.Exits x) = refl
 
 sides_out : (here below : Bool) (r : LevelRole) → processor_of r ≡ 0 → processor_of (count_beside here below r) ≡ 0
 sides_out true below r h = h
@@ -274,25 +208,25 @@ sides_out false true r h = refl
 sides_out false false r h = refl
 
 freeze_out : (i : ℕ) (s : FreezeStep) → processor_of (stand_count i (freeze_stand s)) ≡ 0
-freeze_out i (Closes d) = sides_out (i == d.level) (nat_lt i d.level) (down_count_role d.step) (down_out d.step)
-freeze_out i LocksAgain = sides_out (i == 1) (nat_lt i 1) Passed refl
-freeze_out i SetsPageFault = sides_out (i == 1) (nat_lt i 1) Passed refl
-freeze_out i (Cleans marks) = sides_out (i == 2) (nat_lt i 2) Passed refl
-freeze_out i SetsFs = sides_out (i == 2) (nat_lt i 2) Passed refl
-freeze_out i SetsComplete = sides_out (i == 3) (nat_lt i 3) Passed refl
-freeze_out i (FreezeReopens u code) = sides_out (i == u.level) (nat_lt i u.level) (up_count_role u.step) (up_out u.step)
+freeze_out i (FreezeStep.Closes d) = sides_out (i == d.level) (nat_lt i d.level) (down_count_role d.step) (down_out d.step)
+freeze_out i FreezeStep.LocksAgain = sides_out (i == 1) (nat_lt i 1) Passed refl
+freeze_out i FreezeStep.SetsPageFault = sides_out (i == 1) (nat_lt i 1) Passed refl
+freeze_out i (FreezeStep.Cleans marks) = sides_out (i == 2) (nat_lt i 2) Passed refl
+freeze_out i FreezeStep.SetsFs = sides_out (i == 2) (nat_lt i 2) Passed refl
+freeze_out i FreezeStep.SetsComplete = sides_out (i == 3) (nat_lt i 3) Passed refl
+freeze_out i (FreezeStep.Reopens u code) = sides_out (i == u.level) (nat_lt i u.level) (up_count_role u.step) (up_out u.step)
 freeze_out i s = refl
 
 thaw_out : (i : ℕ) (s : ThawStep) → processor_of (stand_count i (thaw_stand s)) ≡ 0
-thaw_out i (ThawReopens u) = sides_out (i == u.level) (nat_lt i u.level) (up_count_role u.step) (up_out u.step)
+thaw_out i (ThawStep.Reopens u) = sides_out (i == u.level) (nat_lt i u.level) (up_count_role u.step) (up_out u.step)
 thaw_out i s = refl
 
 pub seeks_nothing : (i : ℕ) (p : Option Phase) → inside p ≡ 0 → processor_of (level_role_of i p) ≡ 0
-seeks_nothing i (Some (DownReads r)) h = read_out (i == r.level) r.cpu r.step h
-seeks_nothing i (Some (Writes (Takes m r))) h = read_out (i == r.level) r.cpu r.step h
-seeks_nothing i (Some (Freezes x)) h = freeze_out i x.step
-seeks_nothing i (Some (Thaws x)) h = thaw_out i x.step
-seeks_nothing i (Some (FileCloses (EntersLevel f node r))) h = read_out (i == r.level) r.cpu r.step h
+seeks_nothing i (Some (Phase.DownReads r)) h = read_out (i == r.level) r.cpu r.step h
+seeks_nothing i (Some (Phase.Writes (WritePhase.Takes m r))) h = read_out (i == r.level) r.cpu r.step h
+seeks_nothing i (Some (Phase.Freezes x)) h = freeze_out i x.step
+seeks_nothing i (Some (Phase.Thaws x)) h = thaw_out i x.step
+seeks_nothing i (Some (Phase.Closes (ClosePhase.Enters f node r))) h = read_out (i == r.level) r.cpu r.step h
 seeks_nothing i p h = refl
 
 -- 1 for a level held
@@ -300,11 +234,9 @@ abbrev held_bit : Bool → ℕ
 held_bit b = if b then 1 else 0
 
 module _ (c : Config) (w : World) (good : IsGood c w) where
-  -- what a level's counts say of a task
   held_there : (i z : ℕ) → holds_level (w.views z) i ≡ true → admitted (level_as_gate (at_level i (w.views z))) ≡ 1
   held_there i z is = let e : held_bit (holds_level (w.views z) i) ≡ held_bit true = ap held_bit is in omega (arith, e)
 
-  -- who holds a level finds each one above it open
   pub open_above : (i j z : ℕ) → 1 ≤ i → i < j → j ≤ 3 → z < c.tasks → holds_level (w.views z) i ≡ true → w.words.block j ≡ 0
   open_above i j z one lt three lz is =
       let s : SyncHoldsIn c w j = good (SyncAt j) (omega arith) three in

@@ -1,64 +1,27 @@
 -- A remount that finds `umount` free runs out.
 use Rattle.std.proofs.Common.{◌≡◌, ℕ, suc, ◌+◌, ◌<◌, ◌≤◌, Bool, true, false, sym, ap, ◌∙◌, subst, inl, inr, arith}
+use Rattle.std.proofs.lemmas.Bool.{cases_Bool, ltb-true, Decides.eqb_tells}
 use Rattle.std.specs.Prelude.{◌-◌, ◌%◌, ◌==◌, not, nat_lt, Ok, Err}
-use Rattle.std.proofs.lemmas.Bool.{cases_Bool, ltb-true}
-use Rattle.std.proofs.lemmas.Bool.Decides.{eqb_tells}
-use Rattle.cpu_words.specs.Words.{Words, read}
-use Rattle.cpu_words.specs.Touches.{found_by}
-use Rattle.cpu_words.specs.Hooks.{HookAnswer}
-use Rattle.cpu_words.specs.declared.sums.Sum.{Sum}
-use Rattle.mount_counts.specs.Phases.{has_flag}
+use Rattle.finite_sums.{proofs.Totals.{update_at, update_off, total_same, total_updated, total_bound}, specs.Sums.{update, total}}
+use Rattle.cpu_words.specs.{Hooks.HookAnswer, Touches.found_by, Words.{Words, read}, declared.sums.Sum.Sum}
+use Rattle.mount_counts.specs.{Phases.has_flag, Remounts.{remount_next, remount_after, remount_from, past_mount, let_go, leave_holds, give_up}}
 use Rattle.mount_counts.specs.Sets.{has_mount, with_mount, lowest, without_lowest}
-use Rattle.mount_counts.specs.Remounts.{remount_next, remount_after, remount_from, past_mount, let_go, leave_holds, give_up}
-use Rattle.mount_counts.specs.declared.sets.MountSet.{MountSet}
-use Rattle.mount_counts.specs.declared.remounts.Remount.{Remount}
-use Rattle.mount_counts.specs.declared.remounts.RemountStep.{RemountStep}
-use Rattle.mount_counts.specs.declared.remounts.RemountStep.TheVariants.{
-  Locks,
-  LoadsStage,
-  LoadsSuperblock,
-  SetsWritable,
-  LoadsRemoved,
-  LoadsRemovedAgain,
-  LeavesHolds,
-  LoadsFlags,
-  SetsHold,
-  Sums,
-  SetsRemount,
-  ClearsHold,
-  GivesUp,
-  ClearsMark,
-  SetsReadOnly,
-  ClearsRemount,
-  Releases,
-}
-use Rattle.percpu_rwsem.specs.SyncWords.{bit}
-use Rattle.finite_sums.specs.Sums.{update, total}
-use Rattle.finite_sums.proofs.Totals.{update_at, update_off, total_same, total_updated, total_bound}
+use Rattle.mount_counts.specs.declared.{remounts.{Remount.Remount, RemountStep.RemountStep}, sets.MountSet.MountSet}
 use Rattle.mount_laws.proofs.Sets.{lowest_held, leaves_here, leaves_there}
-use Rattle.gate_world.specs.declared.config.Config.{Config}
-use Rattle.gate_world.specs.declared.work.Phase.TheVariants.{Remounts}
-use Rattle.gate_world.specs.Configs.{IsWithin}
-use Rattle.gate_world.specs.Fits.{Fits, PhaseFits}
-use Rattle.gate_world.specs.Remounts.{RemountFits}
-use Rattle.gate_world.specs.Rules.{Fitting}
-use Rattle.gate_world.specs.Views.{held_at, holds_level}
-use Rattle.gate_world.specs.Worlds.{words_after, found_at}
-use Rattle.progress_laws.specs.Ranks.{rank, mount_bit, held_size, loop_rank, remount_rank}
-use Rattle.progress_laws.specs.Ways.{IsFree, RemountIsFree, Falls, PhaseEnds}
+use Rattle.percpu_rwsem.specs.SyncWords.{bit}
+use Rattle.gate_world.specs.{Configs.IsWithin, Fits.{Fits, PhaseFits}, Remounts.RemountFits, Rules.Fitting, Views.{held_at, holds_level}}
+use Rattle.gate_world.specs.{Worlds.{words_after, found_at}, declared.{config.Config.Config, work.Phase.Phase}}
 use Rattle.progress_laws.proofs.Falls.{falls_as}
+use Rattle.progress_laws.specs.{Ranks.{rank, mount_bit, held_size, loop_rank, remount_rank}, Ways.{IsFree, RemountIsFree, Falls, PhaseEnds}}
 
--- a mount more or less counts once
 bit_le : (b : Bool) → bit b ≤ 1
 bit_le true = omega arith
 bit_le false = omega arith
 
--- a set has eight mounts at most
 pub size_small : (held : MountSet) → held_size held ≤ 8
 unfolding held_size
 size_small held = omega (arith, total_bound 8 1 (mount_bit held) (λ m lm. bit_le (has_mount held m)))
 
--- a set has one mount fewer without its lowest
 size_falls : (held : MountSet) → 0 < held.bits → held.bits < 256 → held_size (without_lowest held) < held_size held
 unfolding held_size
 size_falls held some within =
@@ -78,12 +41,10 @@ size_falls held some within =
     total_updated (λ n. n) 8 l (mount_bit held) 0 low in
     omega (arith, same, here, moved)
 
--- one mount of the loop
 pub loop_step : (p mounts m : ℕ) → m < mounts → loop_rank p (mounts - m) ≡ loop_rank p (mounts - (m + 1)) + p + 2
 loop_step p mounts m lt = let e : mounts - m ≡ suc (mounts - (m + 1)) = omega arith in ap (loop_rank p) e
 
 module _ (w : Words) (p mounts nodes : ℕ) where
-  -- after it has found the present state
   from_rank : (a b : Bool) → remount_rank p mounts nodes (remount_from a b) ≤ loop_rank p mounts + nodes + 13
   from_rank true true = omega arith
   from_rank true false = omega arith
@@ -96,7 +57,6 @@ module _ (w : Words) (p mounts nodes : ℕ) where
   from_free false true = tt
   from_free false false = tt
 
-  -- past a mount
   past_rank : (m : ℕ) (held : MountSet) →
       remount_rank p mounts nodes (past_mount mounts m held) ≤ loop_rank p (mounts - (m + 1)) + nodes + 12
   past_rank m held = elim (cases_Bool (nat_lt (m + 1) mounts)) [ inl h ↦ rw h (omega arith) | inr h ↦ rw h (omega arith) ]
@@ -104,7 +64,6 @@ module _ (w : Words) (p mounts nodes : ℕ) where
   past_free : (m : ℕ) (held : MountSet) → RemountIsFree w (past_mount mounts m held)
   past_free m held = elim (cases_Bool (nat_lt (m + 1) mounts)) [ inl h ↦ rw h tt | inr h ↦ rw h tt ]
 
-  -- where mounts are let go
   go_rank : (held : MountSet) → remount_rank p mounts nodes (let_go held) ≤ held_size held + (nodes - 1) + 2
   go_rank held = elim (eqb_tells held.bits 0) [ inl h ↦ rw h.0 (omega arith) | inr h ↦ rw h.0 (omega arith) ]
 
@@ -130,8 +89,8 @@ module _ (c : Config) (lim : IsWithin c) (w after : Words) (x : Remount) (proces
       Falls (λ (y : Remount). remount_rank y.processors y.mounts y.nodes y.step) (λ (y : Remount). RemountIsFree after y.step)
       (remount_rank x.processors x.mounts x.nodes s) (remount_after x s found hook).0
 
-  sums_falls : (m : ℕ) (held : MountSet) (sum : Sum) (hook : HookAnswer) (found : ℕ) → RemountFits c (Sums m held sum) →
-      RemountFalls (Sums m held sum) hook found
+  sums_falls : (m : ℕ) (held : MountSet) (sum : Sum) (hook : HookAnswer) (found : ℕ) → RemountFits c (RemountStep.Sums m held sum) →
+      RemountFalls (RemountStep.Sums m held sum) hook found
   sums_falls m held sum hook found fits =
       let sum_read : ℕ = (sum.total + found) % 18446744073709551616 in
       elim (cases_Bool (nat_lt (sum.words + 1) x.processors)) [
@@ -153,19 +112,19 @@ module _ (c : Config) (lim : IsWithin c) (w after : Words) (x : Remount) (proces
   -- each event of a remount
   remount_falls : (hook : HookAnswer) (s : RemountStep) → RemountFits c s → RemountIsFree w s →
       RemountFalls s hook (found_by (remount_next x s hook).1 (read w (remount_next x s hook).0))
-  remount_falls hook Locks fits free = rw free (omega arith, tt)
-  remount_falls hook LoadsStage fits free =
+  remount_falls hook RemountStep.Locks fits free = rw free (omega arith, tt)
+  remount_falls hook RemountStep.LoadsStage fits free =
       elim (eqb_tells w.stage 0) [ inl h ↦ rw h.0 (omega arith, tt) | inr h ↦ rw h.0 (omega arith, tt) ]
-  remount_falls hook LoadsSuperblock fits free = (
+  remount_falls hook RemountStep.LoadsSuperblock fits free = (
     omega (arith, from_rank after x.processors x.mounts x.nodes x.read_only (not (w.sb == 0))),
     from_free after x.processors x.mounts x.nodes x.read_only (not (w.sb == 0)),
   )
-  remount_falls (Ok answer) SetsWritable fits free = (omega arith, tt)
-  remount_falls (Err code) SetsWritable fits free = tt
-  remount_falls hook LoadsRemoved fits free =
+  remount_falls (Ok answer) RemountStep.SetsWritable fits free = (omega arith, tt)
+  remount_falls (Err code) RemountStep.SetsWritable fits free = tt
+  remount_falls hook RemountStep.LoadsRemoved fits free =
       let e : x.mounts - 0 ≡ x.mounts = omega arith in
       elim (eqb_tells w.removed 0) [ inl h ↦ rw h.0 (omega (arith, ap (loop_rank x.processors) e), tt) | inr h ↦ rw h.0 (omega arith, tt) ]
-  remount_falls hook (LoadsFlags m held) fits free =
+  remount_falls hook (RemountStep.LoadsFlags m held) fits free =
       elim (cases_Bool (has_flag (w.flags m) 1)) [
         | inl h ↦ rw h (
           omega (
@@ -177,10 +136,10 @@ module _ (c : Config) (lim : IsWithin c) (w after : Words) (x : Remount) (proces
         )
         | inr h ↦ rw h (omega arith, tt)
       ]
-  remount_falls hook (SetsHold m held) fits free =
+  remount_falls hook (RemountStep.SetsHold m held) fits free =
       (omega (arith, loop_step x.processors x.mounts m (omega (arith, fits.0, mounts))), tt)
-  remount_falls hook (Sums m held sum) fits free = sums_falls m held sum hook (w.count m sum.words) fits
-  remount_falls hook (LoadsRemovedAgain held) fits free =
+  remount_falls hook (RemountStep.Sums m held sum) fits free = sums_falls m held sum hook (w.count m sum.words) fits
+  remount_falls hook (RemountStep.LoadsRemovedAgain held) fits free =
       elim (eqb_tells w.removed 0) [
         | inl h ↦ rw h.0 (omega arith, tt)
         | inr h ↦ rw h.0 (
@@ -188,40 +147,39 @@ module _ (c : Config) (lim : IsWithin c) (w after : Words) (x : Remount) (proces
           leave_free after x.processors x.mounts x.nodes held,
         )
       ]
-  remount_falls hook (LeavesHolds held) fits free = (
+  remount_falls hook (RemountStep.LeavesHolds held) fits free = (
     omega (arith, size_falls held fits.0 fits.1.0, leave_rank after x.processors x.mounts x.nodes (without_lowest held)),
     leave_free after x.processors x.mounts x.nodes (without_lowest held),
   )
-  remount_falls hook (SetsRemount held) fits free = (
+  remount_falls hook (RemountStep.SetsRemount held) fits free = (
     omega (arith, size_small held, nodes, lim.some_node, go_rank after x.processors x.mounts x.nodes held),
     go_free after x.processors x.mounts x.nodes held,
   )
-  remount_falls hook (ClearsHold held) fits free = (
+  remount_falls hook (RemountStep.ClearsHold held) fits free = (
     omega (arith, size_falls held fits.0 fits.1.0, go_rank after x.processors x.mounts x.nodes (without_lowest held)),
     go_free after x.processors x.mounts x.nodes (without_lowest held),
   )
-  remount_falls hook (GivesUp m held) fits free = (
+  remount_falls hook (RemountStep.GivesUp m held) fits free = (
     omega (arith, size_falls held fits.0 fits.1.0, give_rank after x.processors x.mounts x.nodes m (without_lowest held)),
     give_free after x.processors x.mounts x.nodes m (without_lowest held),
   )
-  remount_falls hook (ClearsMark n) fits free =
+  remount_falls hook (RemountStep.ClearsMark n) fits free =
       elim (cases_Bool (nat_lt (n + 1) x.nodes)) [
         | inl h ↦ rw h (omega (arith, ltb-true (n + 1) x.nodes h), tt)
         | inr h ↦ rw h (omega (arith, fits.1, nodes), tt)
       ]
-  remount_falls (Ok answer) SetsReadOnly fits free = (omega arith, tt)
-  remount_falls (Err code) SetsReadOnly fits free = (omega arith, tt)
-  remount_falls hook ClearsRemount fits free = (omega arith, tt)
-  remount_falls hook (Releases answer) fits free = tt
+  remount_falls (Ok answer) RemountStep.SetsReadOnly fits free = (omega arith, tt)
+  remount_falls (Err code) RemountStep.SetsReadOnly fits free = (omega arith, tt)
+  remount_falls hook RemountStep.ClearsRemount fits free = (omega arith, tt)
+  remount_falls hook (RemountStep.Releases answer) fits free = tt
 
--- of each phase of a remount
-pub remount_ends : (c : Config) (x : Remount) → PhaseEnds c (Remounts x)
+pub remount_ends : (c : Config) (x : Remount) → PhaseEnds c (Phase.Remounts x)
 remount_ends c x = record {
   falls = λ lim w good t lt hook at free.
-      let f : PhaseFits c t (held_at (w.views t)) (holds_level (w.views t)) (Remounts x) =
+      let f : PhaseFits c t (held_at (w.views t)) (holds_level (w.views t)) (Phase.Remounts x) =
       subst (Fits c t (held_at (w.views t)) (holds_level (w.views t))) at (good Fitting t lt) in
-      let after : Words = words_after w.words (Remounts x) hook in
-      falls_as Remounts (rank after) (IsFree c after) (remount_rank x.processors x.mounts x.nodes x.step)
-      (remount_after x x.step (found_at w.words (Remounts x) hook) hook).0
+      let after : Words = words_after w.words (Phase.Remounts x) hook in
+      falls_as Phase.Remounts (rank after) (IsFree c after) (remount_rank x.processors x.mounts x.nodes x.step)
+      (remount_after x x.step (found_at w.words (Phase.Remounts x) hook) hook).0
       (remount_falls c lim w.words after x f.1 f.2 f.3 hook x.step f.5 free);
 }

@@ -1,55 +1,36 @@
 -- A thaw that finds `umount` free runs out.
-use Rattle.std.proofs.Common.{◌≡◌, ℕ, ◌+◌, ◌<◌, false, refl, ap, ◌∙◌, subst, inl, inr, arith}
+use Rattle.std.proofs.{Common.{◌≡◌, ℕ, ◌+◌, ◌<◌, false, refl, ap, ◌∙◌, subst, inl, inr, arith}, lemmas.Bool.{cases_Bool, eq-eqb, Decides.eqb_tells}}
 use Rattle.std.specs.Prelude.{◌-◌, ◌*◌, nat_lt, Ok, Err}
-use Rattle.std.proofs.lemmas.Bool.{cases_Bool, eq-eqb}
-use Rattle.std.proofs.lemmas.Bool.Decides.{eqb_tells}
-use Rattle.access_model.specs.declared.replies.Next.{Next}
-use Rattle.access_model.specs.declared.replies.Next.TheVariants.{Go, Wait, Done}
-use Rattle.cpu_words.specs.Words.{Words, read}
-use Rattle.cpu_words.specs.Touches.{found_by}
-use Rattle.cpu_words.specs.Hooks.{HookAnswer}
-use Rattle.percpu_rwsem.specs.declared.writers.UpWrite.{UpWrite}
-use Rattle.percpu_rwsem.specs.Writers.{up_write_next, up_write_after}
-use Rattle.freeze_levels.specs.declared.thaws.Thaw.{Thaw}
-use Rattle.freeze_levels.specs.declared.thaws.ThawStep.{ThawStep}
-use Rattle.freeze_levels.specs.declared.thaws.ThawStep.TheVariants.{Locks, LoadsStage, LoadsHolders, Leaves, LoadsSuperblock, LeavesReadOnly, UnfreezesReadOnly, LeavesLast, SetsUnfrozen, Reopens, Releases}
-use Rattle.access_model.specs.Holders.{held_by, with_holder, is_unheld}
-use Rattle.freeze_levels.specs.Holders.{holders_in}
-use Rattle.freeze_levels.specs.Thaws.{thaw_next, thaw_after, after_opening}
+use Rattle.access_model.specs.{Holders.{held_by, with_holder, is_unheld}, declared.replies.Next.Next}
+use Rattle.cpu_words.specs.{Hooks.HookAnswer, Touches.found_by, Words.{Words, read}}
+use Rattle.percpu_rwsem.specs.{Writers.{up_write_next, up_write_after}, declared.writers.UpWrite.UpWrite}
+use Rattle.freeze_levels.specs.{Holders.holders_in, Thaws.{thaw_next, thaw_after, after_opening}, declared.thaws.{Thaw.Thaw, ThawStep.ThawStep}}
 use Rattle.level_laws.specs.Operations.{up_write_role}
-use Rattle.gate_world.specs.declared.config.Config.{Config}
-use Rattle.gate_world.specs.declared.work.Phase.TheVariants.{Thaws}
-use Rattle.gate_world.specs.Fits.{Fits, PhaseFits, ThawFits}
-use Rattle.gate_world.specs.Levels.{thaw_stand, sync_beside, stand_sync, sync_role_of}
-use Rattle.gate_world.specs.Rules.{IsGood, Fitting}
-use Rattle.gate_world.specs.Views.{held_at, holds_level}
-use Rattle.gate_world.specs.Worlds.{World, words_after, found_at}
-use Rattle.progress_laws.specs.Ranks.{rank, up_rank, reopens_rank, thaw_rank}
-use Rattle.progress_laws.specs.Ways.{IsFree, ThawIsFree, Falls, PhaseEnds}
-use Rattle.progress_laws.proofs.Falls.{after_event, falls_as}
-use Rattle.progress_laws.proofs.WriterEnds.{up_falls}
+use Rattle.gate_world.specs.{Fits.{Fits, PhaseFits, ThawFits}, Levels.{thaw_stand, sync_beside, stand_sync, sync_role_of}, Rules.{IsGood, Fitting}}
+use Rattle.gate_world.specs.{Views.{held_at, holds_level}, Worlds.{World, words_after, found_at}, declared.{config.Config.Config, work.Phase.Phase}}
+use Rattle.progress_laws.proofs.{Falls.{after_event, falls_as}, WriterEnds.up_falls}
+use Rattle.progress_laws.specs.{Ranks.{rank, up_rank, reopens_rank, thaw_rank}, Ways.{IsFree, ThawIsFree, Falls, PhaseEnds}}
 
 -- after an event of the reopening of a level: those below it are still to be reopened
 opens_falls : (after : Words) (x : Thaw) (level r : ℕ) (next : Next UpWrite) →
     Falls (reopens_rank after) (λ (y : UpWrite). Unit {0}) (r + 3 * (level - 1) + 1) next →
     Falls (λ (y : Thaw). thaw_rank after y.step) (λ (y : Thaw). ThawIsFree after y.step) (r + 3 * (level - 1) + 1)
     (after_opening x level next)
-opens_falls after x level r (Go u) h = (h.0, tt)
-opens_falls after x level r (Wait u) h = (h.0, tt)
-opens_falls after x level r (Done answer) h =
+opens_falls after x level r (Next.Go u) h = (h.0, tt)
+opens_falls after x level r (Next.Wait u) h = (h.0, tt)
+opens_falls after x level r (Next.Done answer) h =
     elim (eqb_tells (level - 1) 0) [ inl z ↦ rw z.0 (omega arith, tt) | inr z ↦ rw z.0 (omega (arith, z.1), tt) ]
 
 module _ (c : Config) (w : World) (good : IsGood c w) (t : ℕ) (lt : t < c.tasks) (x : Thaw) where
-  -- each event of a thaw
   thaw_falls : (hook : HookAnswer) (s : ThawStep) → ((i : ℕ) → sync_role_of i (w.views t).phase ≡ stand_sync i (thaw_stand s)) →
       ThawFits x.holder s → ThawIsFree w.words s →
       Falls (λ (y : Thaw). thaw_rank (after_event w.words (thaw_next x s hook)) y.step)
       (λ (y : Thaw). ThawIsFree (after_event w.words (thaw_next x s hook)) y.step) (thaw_rank w.words s)
       (thaw_after x s (found_by (thaw_next x s hook).1 (read w.words (thaw_next x s hook).0)) hook).0
-  thaw_falls hook Locks role fits free = rw free (omega arith, tt)
-  thaw_falls hook LoadsStage role fits free =
+  thaw_falls hook ThawStep.Locks role fits free = rw free (omega arith, tt)
+  thaw_falls hook ThawStep.LoadsStage role fits free =
       elim (eqb_tells w.words.stage 4) [ inl h ↦ rw h.0 (omega arith, tt) | inr h ↦ rw h.0 (omega arith, tt) ]
-  thaw_falls hook LoadsHolders role fits free =
+  thaw_falls hook ThawStep.LoadsHolders role fits free =
       elim (cases_Bool (held_by (holders_in w.words.holders) x.holder)) [
         | inl h ↦ elim (cases_Bool (is_unheld (with_holder x.holder false (holders_in w.words.holders)))) [
           | inl q ↦ rw (h, q) (omega arith, tt)
@@ -57,30 +38,26 @@ module _ (c : Config) (w : World) (good : IsGood c w) (t : ℕ) (lt : t < c.task
         ]
         | inr h ↦ rw h (omega arith, tt)
       ]
-  thaw_falls hook (Leaves held) role fits free = (omega arith, tt)
-  thaw_falls hook LoadsSuperblock role fits free =
+  thaw_falls hook ThawStep.LoadsSuperblock role fits free =
       elim (eqb_tells w.words.sb 0) [ inl h ↦ rw h.0 (omega arith, tt) | inr h ↦ rw h.0 (omega arith, tt) ]
-  thaw_falls hook UnfreezesReadOnly role fits free = (omega arith, tt)
-  thaw_falls hook LeavesReadOnly role fits free = (omega arith, tt)
-  thaw_falls (Ok answer) LeavesLast role fits free = (omega arith, tt)
-  thaw_falls (Err code) LeavesLast role fits free = tt
-  thaw_falls hook SetsUnfrozen role fits free = (omega arith, tt)
-  thaw_falls hook (Reopens u) role fits free =
-      let here : stand_sync u.level (thaw_stand (Reopens u)) ≡ up_write_role u.step =
+  thaw_falls (Ok answer) ThawStep.LeavesLast role fits free = (omega arith, tt)
+  thaw_falls (Err code) ThawStep.LeavesLast role fits free = tt
+  thaw_falls hook (ThawStep.Reopens u) role fits free =
+      let here : stand_sync u.level (thaw_stand (ThawStep.Reopens u)) ≡ up_write_role u.step =
       ap (λ q. sync_beside q (nat_lt u.level u.level) (up_write_role u.step)) (eq-eqb u.level u.level refl) in
       opens_falls (after_event w.words (up_write_next u u.step)) x u.level (up_rank (w.words.sync u.level) u.step)
       (up_write_after u u.step (found_by (up_write_next u u.step).1 (read w.words (up_write_next u u.step).0))).0
       (up_falls c w good t lt u fits.0 fits.1 u.step (role u.level ∙ here))
-  thaw_falls hook (Releases answer) role fits free = tt
+  thaw_falls hook (ThawStep.Releases answer) role fits free = tt
+  thaw_falls hook other role fits free = (omega arith, tt)
 
--- of each phase of a thaw
-pub thaw_ends : (c : Config) (x : Thaw) → PhaseEnds c (Thaws x)
+pub thaw_ends : (c : Config) (x : Thaw) → PhaseEnds c (Phase.Thaws x)
 thaw_ends c x = record {
   falls = λ lim w good t lt hook at free.
-      let f : PhaseFits c t (held_at (w.views t)) (holds_level (w.views t)) (Thaws x) =
+      let f : PhaseFits c t (held_at (w.views t)) (holds_level (w.views t)) (Phase.Thaws x) =
       subst (Fits c t (held_at (w.views t)) (holds_level (w.views t))) at (good Fitting t lt) in
-      let after : Words = words_after w.words (Thaws x) hook in
-      falls_as Thaws (rank after) (IsFree c after) (thaw_rank w.words x.step)
-      (thaw_after x x.step (found_at w.words (Thaws x) hook) hook).0
+      let after : Words = words_after w.words (Phase.Thaws x) hook in
+      falls_as Phase.Thaws (rank after) (IsFree c after) (thaw_rank w.words x.step)
+      (thaw_after x x.step (found_at w.words (Phase.Thaws x) hook) hook).0
       (thaw_falls c w good t lt x hook x.step (λ i. ap (sync_role_of i) at) f.2 free);
 }

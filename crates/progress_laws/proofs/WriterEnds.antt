@@ -1,49 +1,25 @@
 -- A level is closed, where nobody is inside a section and nothing is counted there, and opened, in a bounded number of events.
 use Rattle.std.proofs.Common.{◌≡◌, ℕ, suc, ◌+◌, ◌<◌, ◌≤◌, true, refl, sym, ap, subst, inl, inr, arith, add-one}
+use Rattle.std.proofs.lemmas.Bool.{cases_Bool, ltb-true, ltb-false, eq-eqb, Decides.eqb_tells}
 use Rattle.std.specs.Prelude.{◌-◌, ◌*◌, ◌%◌, ◌==◌, nat_lt, Some, None}
-use Rattle.std.proofs.lemmas.Bool.{cases_Bool, ltb-true, ltb-false, eq-eqb}
-use Rattle.std.proofs.lemmas.Bool.Decides.{eqb_tells}
-use Rattle.finite_sums.specs.Sums.{total}
-use Rattle.finite_sums.proofs.Totals.{update_at}
+use Rattle.finite_sums.{proofs.Totals.update_at, specs.Sums.total}
 use Rattle.access_model.specs.declared.replies.Next.{Next}
-use Rattle.access_model.specs.declared.replies.Next.TheVariants.{Go}
-use Rattle.cpu_words.specs.declared.names.WordName.TheVariants.{LevelCount}
-use Rattle.cpu_words.specs.declared.sums.Sum.{Sum}
-use Rattle.cpu_words.specs.Words.{Words, read}
-use Rattle.cpu_words.specs.Touches.{left, found_by, wrap_add}
-use Rattle.cpu_words.specs.Sums.{ahead, lead}
-use Rattle.percpu_rwsem.specs.declared.grace.GraceNext.{GraceNext}
-use Rattle.percpu_rwsem.specs.declared.grace.GraceNext.TheVariants.{More as MoreSections, Wait as WaitsFor, Ended}
-use Rattle.percpu_rwsem.specs.declared.sync_word.GpState.{GpState}
-use Rattle.percpu_rwsem.specs.declared.sync_word.GpState.TheVariants.{Idle, Enter, Passed, Exit, Replay}
-use Rattle.percpu_rwsem.specs.declared.transitions.Transition.{Transition}
-use Rattle.percpu_rwsem.specs.declared.transitions.Transition.TheVariants.{Loads, Exchanges}
-use Rattle.percpu_rwsem.specs.declared.transitions.TransitionNext.{TransitionNext}
-use Rattle.percpu_rwsem.specs.declared.transitions.TransitionNext.TheVariants.{More, Undefined, Made}
-use Rattle.percpu_rwsem.specs.declared.writers.DownWrite.{DownWrite}
-use Rattle.percpu_rwsem.specs.declared.writers.DownWriteStep.{DownWriteStep}
-use Rattle.percpu_rwsem.specs.declared.writers.DownWriteStep.TheVariants.{Enters, AwaitsSections, CallsBack, AwaitsPassed, SetsBlock, Sums}
-use Rattle.percpu_rwsem.specs.declared.writers.UpWrite.{UpWrite}
-use Rattle.percpu_rwsem.specs.declared.writers.UpWriteStep.{UpWriteStep}
-use Rattle.percpu_rwsem.specs.declared.writers.UpWriteStep.TheVariants.{ClearsBlock, Exits}
-use Rattle.percpu_rwsem.specs.SyncWords.{unpack, is_passed, on_enter, on_exit, on_callback}
-use Rattle.percpu_rwsem.specs.Graces.{looked}
-use Rattle.percpu_rwsem.specs.Transitions.{transition_next, transition_after}
-use Rattle.percpu_rwsem.specs.Writers.{down_write_next, down_write_after, at_down_write, entered_from, enter_step, callback_step, sections_awaited, up_write_next, up_write_after, exit_made}
-use Rattle.level_laws.specs.Roles.{SyncRole, Past, Entered, entering, entered, closed}
-use Rattle.level_laws.specs.Operations.{down_write_role, up_write_role}
+use Rattle.cpu_words.specs.{Sums.{ahead, lead}, Touches.{left, found_by, wrap_add}, Words.{Words, read}, declared.{names.WordName.WordName, sums.Sum.Sum}}
 use Rattle.gate_counts.proofs.Numbers.{ahead_none, ahead_past, ahead_step}
+use Rattle.percpu_rwsem.specs.{Graces.looked, SyncWords.{unpack, is_passed, on_enter, on_exit, on_callback}, Transitions.{transition_next, transition_after}}
+use Rattle.percpu_rwsem.specs.Writers.{down_write_next, down_write_after, at_down_write, entered_from, enter_step, callback_step, sections_awaited}
+use Rattle.percpu_rwsem.specs.Writers.{up_write_next, up_write_after, exit_made}
+use Rattle.percpu_rwsem.specs.declared.{grace.GraceNext.GraceNext, sync_word.GpState.GpState}
+use Rattle.percpu_rwsem.specs.declared.transitions.{Transition.Transition, TransitionNext.TransitionNext}
+use Rattle.percpu_rwsem.specs.declared.writers.{DownWrite.DownWrite, DownWriteStep.DownWriteStep, UpWrite.UpWrite, UpWriteStep.UpWriteStep}
+use Rattle.level_laws.specs.{Operations.{down_write_role, up_write_role}, Roles.{SyncRole, Past, Entered, entering, entered, closed}}
+use Rattle.gate_world.specs.{Fits.DownWriteStepFits, Levels.{is_frozen_whole, sync_role_of}, Rules.{IsGood, SyncAt, SyncHoldsIn}, Worlds.World}
 use Rattle.gate_world.specs.declared.config.Config.{Config}
-use Rattle.gate_world.specs.Fits.{DownWriteStepFits}
-use Rattle.gate_world.specs.Levels.{is_frozen_whole, sync_role_of}
-use Rattle.gate_world.specs.Rules.{IsGood, SyncAt, SyncHoldsIn}
-use Rattle.gate_world.specs.Worlds.{World}
 use Rattle.gate_frames.proofs.Words.{load_same}
-use Rattle.progress_laws.specs.Ranks.{exchange_rank, grace_rank, up_rank, reopens_rank, sum_rank, down_rank}
-use Rattle.progress_laws.specs.Ways.{NobodyInside, NothingCounted, Falls}
-use Rattle.progress_laws.proofs.Falls.{after_event}
-use Rattle.progress_laws.proofs.LevelFacts.{ExchangeFalls, exchange_falls, defined_falls, enter_defined, writer_passed, exit_defined, block_clear, writer_called}
-use Rattle.progress_laws.proofs.CallbackEnds.{GraceFalls, look_falls}
+use Rattle.progress_laws.proofs.{CallbackEnds.{GraceFalls, look_falls}, Falls.after_event}
+use Rattle.progress_laws.proofs.LevelFacts.{ExchangeFalls, exchange_falls, defined_falls, enter_defined, writer_passed, exit_defined, block_clear}
+use Rattle.progress_laws.proofs.LevelFacts.{writer_called}
+use Rattle.progress_laws.specs.{Ranks.{exchange_rank, grace_rank, up_rank, reopens_rank, sum_rank, down_rank}, Ways.{NobodyInside, NothingCounted, Falls}}
 
 -- a sum has taken one word more: what is ahead of it is as it was
 lead_on : (processors : ℕ) (count : ℕ → ℕ) (k sum : ℕ) → k < processors →
@@ -64,13 +40,9 @@ begun_rank processors count none =
     let z : lead processors count 0 0 ≡ 0 = omega (arith, ahead_none processors count, none) in
     rw (eq-eqb (lead processors count 0 0) 0 z) (omega arith)
 
--- where a writer that has entered goes on
 entered_rank : (w : Words) (d : DownWrite) (s : GpState) → down_rank w d (entered_from d.tasks s) ≤ d.processors + d.tasks + 2
-entered_rank w d Idle = omega arith
-entered_rank w d Enter = omega arith
-entered_rank w d Passed = omega arith
-entered_rank w d Exit = omega arith
-entered_rank w d Replay = omega arith
+entered_rank w d GpState.Idle = omega arith
+entered_rank w d other = omega arith
 
 -- a down-write's next phase is at its level
 abbrev pub DownFalls : Words → DownWrite → ℕ → Next DownWrite → Type 0
@@ -78,26 +50,26 @@ DownFalls after d n next = Falls (λ (y : DownWrite). down_rank after y y.step) 
 
 module _ (after : Words) (d : DownWrite) where
   enters_falls : (n : ℕ) (next : TransitionNext) → ExchangeFalls (after.sync d.level) n ⊥ next →
-      DownFalls after d (d.processors + d.tasks + 3 + n) (Go (at_down_write d (enter_step d.tasks next)))
-  enters_falls n (More x) h = (omega (arith, h), refl)
-  enters_falls n Undefined h = absurd h
-  enters_falls n (Made state) h = (omega (arith, entered_rank after d state), refl)
+      DownFalls after d (d.processors + d.tasks + 3 + n) (Next.Go (at_down_write d (enter_step d.tasks next)))
+  enters_falls n (TransitionNext.More x) h = (omega (arith, h), refl)
+  enters_falls n TransitionNext.Undefined h = absurd h
+  enters_falls n (TransitionNext.Made state) h = (omega (arith, entered_rank after d state), refl)
 
   waits_falls : (n : ℕ) (next : GraceNext) → 1 ≤ n → GraceFalls n next → DownFalls after d (d.processors + n + 2) (sections_awaited d next)
-  waits_falls n (MoreSections g) some h = (omega (arith, h), refl)
-  waits_falls n (WaitsFor g) some h = absurd h
-  waits_falls n Ended some h = (omega (arith, some), refl)
+  waits_falls n (GraceNext.More g) some h = (omega (arith, h), refl)
+  waits_falls n (GraceNext.Wait g) some h = absurd h
+  waits_falls n GraceNext.Ended some h = (omega (arith, some), refl)
 
   calls_falls : (n : ℕ) (next : TransitionNext) → ExchangeFalls (after.sync d.level) n ⊥ next →
-      DownFalls after d (d.processors + 1 + n) (Go (at_down_write d (callback_step next)))
-  calls_falls n (More x) h = (omega (arith, h), refl)
-  calls_falls n Undefined h = absurd h
-  calls_falls n (Made state) h = (omega arith, refl)
+      DownFalls after d (d.processors + 1 + n) (Next.Go (at_down_write d (callback_step next)))
+  calls_falls n (TransitionNext.More x) h = (omega (arith, h), refl)
+  calls_falls n TransitionNext.Undefined h = absurd h
+  calls_falls n (TransitionNext.Made state) h = (omega arith, refl)
 
   -- a sum takes one word more
   sums_falls : (sum : Sum) → sum.words < d.processors → total d.processors (after.level d.level) % 18446744073709551616 ≡ 0 →
       DownFalls after d (sum_rank d.processors (after.level d.level) sum)
-      (down_write_after d (Sums sum) (after.level d.level sum.words)).0
+      (down_write_after d (DownWriteStep.Sums sum) (after.level d.level sum.words)).0
   sums_falls sum lt none =
       let count : ℕ → ℕ = after.level d.level in
       elim (cases_Bool (nat_lt (sum.words + 1) d.processors)) [
@@ -149,40 +121,39 @@ module _ (c : Config) (w : World) (good : IsGood c w) (t : ℕ) (lt : t < c.task
         (transition_after on_callback x (found_by (transition_next d.level x).1 (w.words.sync d.level)))
         (exchange_falls on_callback (w.words.sync d.level) (sync d.level) d.level rule.word rule.packed x is)
 
-    -- each event of a down-write
     pub down_falls : (s : DownWriteStep) → role t ≡ down_write_role s → DownWriteStepFits c s →
         DownFalls (after_event w.words (down_write_next d s)) d (down_rank w.words d s)
         (down_write_after d s (found_by (down_write_next d s).1 (read w.words (down_write_next d s).0))).0
-    down_falls (Enters Loads) here fits =
-        let after : Words = after_event w.words (down_write_next d (Enters Loads)) in
-        enters_falls after d 1 (transition_after on_enter Loads (w.words.sync d.level))
-        (enter_by Loads after.sync (update_at w.words.sync d.level (w.words.sync d.level)))
-    down_falls (Enters (Exchanges from to)) here fits =
-        let after : Words = after_event w.words (down_write_next d (Enters (Exchanges from to))) in
-        enters_falls after d (exchange_rank (w.words.sync d.level) (Exchanges from to))
-        (transition_after on_enter (Exchanges from to) (w.words.sync d.level))
-        (enter_by (Exchanges from to) after.sync
-        (update_at w.words.sync d.level (left (transition_next d.level (Exchanges from to)).1 (w.words.sync d.level))))
-    down_falls (AwaitsSections g) here fits =
-        waits_falls (after_event w.words (down_write_next d (AwaitsSections g))) d (grace_rank g) (looked g (w.words.section g.task))
+    down_falls (DownWriteStep.Enters Transition.Loads) here fits =
+        let after : Words = after_event w.words (down_write_next d (DownWriteStep.Enters Transition.Loads)) in
+        enters_falls after d 1 (transition_after on_enter Transition.Loads (w.words.sync d.level))
+        (enter_by Transition.Loads after.sync (update_at w.words.sync d.level (w.words.sync d.level)))
+    down_falls (DownWriteStep.Enters (Transition.Exchanges from to)) here fits =
+        let after : Words = after_event w.words (down_write_next d (DownWriteStep.Enters (Transition.Exchanges from to))) in
+        enters_falls after d (exchange_rank (w.words.sync d.level) (Transition.Exchanges from to))
+        (transition_after on_enter (Transition.Exchanges from to) (w.words.sync d.level))
+        (enter_by (Transition.Exchanges from to) after.sync
+        (update_at w.words.sync d.level (left (transition_next d.level (Transition.Exchanges from to)).1 (w.words.sync d.level))))
+    down_falls (DownWriteStep.AwaitsSections g) here fits =
+        waits_falls (after_event w.words (down_write_next d (DownWriteStep.AwaitsSections g))) d (grace_rank g) (looked g (w.words.section g.task))
         (omega (arith, fits.0, fits.1)) (look_falls g (w.words.section g.task) (even g.task fits.1))
-    down_falls (CallsBack Loads) here fits =
-        let after : Words = after_event w.words (down_write_next d (CallsBack Loads)) in
-        calls_falls after d 1 (transition_after on_callback Loads (w.words.sync d.level))
-        (call_by here Loads after.sync (update_at w.words.sync d.level (w.words.sync d.level)))
-    down_falls (CallsBack (Exchanges from to)) here fits =
-        let after : Words = after_event w.words (down_write_next d (CallsBack (Exchanges from to))) in
-        calls_falls after d (exchange_rank (w.words.sync d.level) (Exchanges from to))
-        (transition_after on_callback (Exchanges from to) (w.words.sync d.level))
-        (call_by here (Exchanges from to) after.sync
-        (update_at w.words.sync d.level (left (transition_next d.level (Exchanges from to)).1 (w.words.sync d.level))))
-    down_falls AwaitsPassed here fits =
+    down_falls (DownWriteStep.CallsBack Transition.Loads) here fits =
+        let after : Words = after_event w.words (down_write_next d (DownWriteStep.CallsBack Transition.Loads)) in
+        calls_falls after d 1 (transition_after on_callback Transition.Loads (w.words.sync d.level))
+        (call_by here Transition.Loads after.sync (update_at w.words.sync d.level (w.words.sync d.level)))
+    down_falls (DownWriteStep.CallsBack (Transition.Exchanges from to)) here fits =
+        let after : Words = after_event w.words (down_write_next d (DownWriteStep.CallsBack (Transition.Exchanges from to))) in
+        calls_falls after d (exchange_rank (w.words.sync d.level) (Transition.Exchanges from to))
+        (transition_after on_callback (Transition.Exchanges from to) (w.words.sync d.level))
+        (call_by here (Transition.Exchanges from to) after.sync
+        (update_at w.words.sync d.level (left (transition_next d.level (Transition.Exchanges from to)).1 (w.words.sync d.level))))
+    down_falls DownWriteStep.AwaitsPassed here fits =
         let p : is_passed rule.word.state ≡ true =
         writer_passed c.tasks rule.word (w.words.block d.level) (is_frozen_whole w.words) w.words.section role rule.holds t lt
         (ap entered here) (ap entering here) in
         let u : unpack (w.words.sync d.level) ≡ Some rule.word = rule.packed in
         rw (u, p) (omega arith, refl)
-    down_falls SetsBlock here fits =
+    down_falls DownWriteStep.SetsBlock here fits =
         let b : w.words.block d.level ≡ 0 =
         block_clear c.tasks rule.word (w.words.block d.level) (is_frozen_whole w.words) w.words.section role rule.holds t lt
         (ap entered here) (ap closed here) in
@@ -190,21 +161,21 @@ module _ (c : Config) (w : World) (good : IsGood c w) (t : ℕ) (lt : t < c.task
         let k : total d.processors (w.words.level d.level) % 18446744073709551616 ≡ 0 =
         subst (λ p. total p (w.words.level d.level) % 18446744073709551616 ≡ 0) (sym processors) none in
         rw e (omega (arith, some, processors, begun_rank d.processors (w.words.level d.level) k), refl)
-    down_falls (Sums sum) here fits =
-        let same : after_event w.words (down_write_next d (Sums sum)) ≡ w.words = load_same w.words (LevelCount d.level sum.words) in
+    down_falls (DownWriteStep.Sums sum) here fits =
+        let same : after_event w.words (down_write_next d (DownWriteStep.Sums sum)) ≡ w.words = load_same w.words (WordName.LevelCount d.level sum.words) in
         let k : total d.processors (w.words.level d.level) % 18446744073709551616 ≡ 0 =
         subst (λ p. total p (w.words.level d.level) % 18446744073709551616 ≡ 0) (sym processors) none in
         subst (λ (after : Words). DownFalls after d (sum_rank d.processors (w.words.level d.level) sum)
-        (down_write_after d (Sums sum) (w.words.level d.level sum.words)).0) (sym same)
+        (down_write_after d (DownWriteStep.Sums sum) (w.words.level d.level sum.words)).0) (sym same)
         (sums_falls w.words d sum (omega (arith, fits, processors)) k)
 
   -- each event of an up-write
   module _ (u : UpWrite) (one : 1 ≤ u.level) (three : u.level ≤ 3) where
     exits_falls : (after : Words) (n : ℕ) (next : TransitionNext) → ExchangeFalls (after.sync u.level) n ⊥ next →
         Falls (reopens_rank after) (λ (y : UpWrite). Unit {0}) (n + 3 * (u.level - 1) + 1) (exit_made u next)
-    exits_falls after n (More x) h = (omega (arith, h), tt)
-    exits_falls after n Undefined h = absurd h
-    exits_falls after n (Made state) h = tt
+    exits_falls after n (TransitionNext.More x) h = (omega (arith, h), tt)
+    exits_falls after n TransitionNext.Undefined h = absurd h
+    exits_falls after n (TransitionNext.Made state) h = tt
 
     exit_by : sync_role_of u.level (w.views t).phase ≡ Entered → (x : Transition) (sync : ℕ → ℕ) →
         sync u.level ≡ left (transition_next u.level x).1 (w.words.sync u.level) →
@@ -222,14 +193,14 @@ module _ (c : Config) (w : World) (good : IsGood c w) (t : ℕ) (lt : t < c.task
         Falls (reopens_rank (after_event w.words (up_write_next u s))) (λ (y : UpWrite). Unit {0})
         (up_rank (w.words.sync u.level) s + 3 * (u.level - 1) + 1)
         (up_write_after u s (found_by (up_write_next u s).1 (read w.words (up_write_next u s).0))).0
-    up_falls ClearsBlock here = (omega arith, tt)
-    up_falls (Exits Loads) here =
-        let after : Words = after_event w.words (up_write_next u (Exits Loads)) in
-        exits_falls after 1 (transition_after on_exit Loads (w.words.sync u.level))
-        (exit_by here Loads after.sync (update_at w.words.sync u.level (w.words.sync u.level)))
-    up_falls (Exits (Exchanges from to)) here =
-        let after : Words = after_event w.words (up_write_next u (Exits (Exchanges from to))) in
-        exits_falls after (exchange_rank (w.words.sync u.level) (Exchanges from to))
-        (transition_after on_exit (Exchanges from to) (w.words.sync u.level))
-        (exit_by here (Exchanges from to) after.sync
-        (update_at w.words.sync u.level (left (transition_next u.level (Exchanges from to)).1 (w.words.sync u.level))))
+    up_falls UpWriteStep.ClearsBlock here = (omega arith, tt)
+    up_falls (UpWriteStep.Exits Transition.Loads) here =
+        let after : Words = after_event w.words (up_write_next u (UpWriteStep.Exits Transition.Loads)) in
+        exits_falls after 1 (transition_after on_exit Transition.Loads (w.words.sync u.level))
+        (exit_by here Transition.Loads after.sync (update_at w.words.sync u.level (w.words.sync u.level)))
+    up_falls (UpWriteStep.Exits (Transition.Exchanges from to)) here =
+        let after : Words = after_event w.words (up_write_next u (UpWriteStep.Exits (Transition.Exchanges from to))) in
+        exits_falls after (exchange_rank (w.words.sync u.level) (Transition.Exchanges from to))
+        (transition_after on_exit (Transition.Exchanges from to) (w.words.sync u.level))
+        (exit_by here (Transition.Exchanges from to) after.sync
+        (update_at w.words.sync u.level (left (transition_next u.level (Transition.Exchanges from to)).1 (w.words.sync u.level))))

@@ -1,108 +1,66 @@
 -- How many events may still come after the next one of a phase, where its way is free and no other task does anything.
 use Rattle.std.specs.Prelude.{max, ℕ, zero, suc, ◌+◌, ◌-◌, ◌*◌, ◌==◌, Bool, true, false, if◌then◌else◌}
 use Rattle.finite_sums.specs.Sums.{total}
+use Rattle.cpu_words.specs.{Sums.lead, Words.Words, declared.sums.Sum.Sum}
+use Rattle.gated_tree.specs.declared.changes.CreateStep.{CreateStep, TheVariants.{LoadsDirectory, LoadsNode, ChargesChild, TakesNode, RefundsChild}}
+use Rattle.gated_tree.specs.declared.changes.MoveStep.{MoveStep}
+use Rattle.gated_tree.specs.declared.changes.MoveStep.TheVariants.{LoadsFile as LoadsFileToMove, LoadsDirectory as LoadsTarget, ChargesChild as ChargesTarget}
+use Rattle.gated_tree.specs.declared.changes.MoveStep.TheVariants.{MovesFile, RefundsChild as RefundsOne}
+use Rattle.gated_tree.specs.declared.changes.RemoveStep.{RemoveStep}
+use Rattle.gated_tree.specs.declared.changes.RemoveStep.TheVariants.{LoadsFile as LoadsFileToRemove, FreesNode, CountsRemoved, MarksRemoved, RefundsRemoved}
+use Rattle.gated_tree.specs.declared.changes.RemoveStep.TheVariants.{RefundsBlocks as RefundsItsBlocks, RefundsChild as RefundsItsChild}
+use Rattle.gated_tree.specs.declared.growth.GrowStep.{GrowStep, TheVariants.{LoadsFile as LoadsFileToGrow, LoadsUsed, ChargesBlocks, GrowsFile, RefundsBlocks}}
+use Rattle.gated_tree.specs.declared.marks.MarkStep.{MarkStep, TheVariants.{LoadsFile as LoadsFileToMark, MarksFile}}
+use Rattle.gated_tree.specs.declared.opens.OpenStep.{OpenStep, TheVariants.{LoadsFile as LoadsFileToOpen, OpensFile}}
+use Rattle.gated_tree.specs.declared.phases.TreePhase.{TreePhase}
+use Rattle.gated_tree.specs.declared.phases.TreePhase.TheVariants.{Create as Creates, Remove as Removes, Grow as Grows, MoveTo as Moves, Mark as TreeMarks}
+use Rattle.gated_tree.specs.declared.phases.TreePhase.TheVariants.{OpenFile as OpensOne, Snapshot as Snapshots, ClearMarks as TreeClears}
+use Rattle.gated_tree.specs.declared.snapshots.SnapshotStep.{SnapshotStep}
+use Rattle.gated_tree.specs.declared.snapshots.SnapshotStep.TheVariants.{Locks as SLocks, LoadsStage as SLoadsStage, LoadsUsed as SLoadsUsed}
+use Rattle.gated_tree.specs.declared.snapshots.SnapshotStep.TheVariants.{LoadsNode as SLoadsNode, LoadsKids as SLoadsKids, Releases as SReleases}
 use Rattle.mount_counts.specs.Sets.{has_mount}
-use Rattle.mount_counts.specs.declared.sets.MountSet.{MountSet}
-use Rattle.gate_world.specs.declared.config.Config.{Config}
-use Rattle.cpu_words.specs.Words.{Words}
-use Rattle.cpu_words.specs.Sums.{lead}
-use Rattle.cpu_words.specs.declared.sums.Sum.{Sum}
-use Rattle.mount_counts.specs.declared.phases.MountPhase.{MountPhase}
-use Rattle.mount_counts.specs.declared.phases.MountPhase.TheVariants.{Want as Wants, Drop as Drops, Change as Changes}
-use Rattle.mount_counts.specs.declared.phases.WantStep.{WantStep}
-use Rattle.mount_counts.specs.declared.phases.WantStep.TheVariants.{CountsUp, LoadsHold, LoadsRemount, LoadsReadOnly, LoadsSuperblock, CountsDown}
 use Rattle.mount_counts.specs.declared.phases.ChangeStep.{ChangeStep}
-use Rattle.mount_counts.specs.declared.phases.ChangeStep.TheVariants.{Locks, LoadsFlags, LoadsSuperblock as LoadsSb, ClearsReadOnly, SetsHold, Sums, SetsReadOnly, ClearsHold, Releases}
+use Rattle.mount_counts.specs.declared.phases.ChangeStep.TheVariants.{Locks, LoadsFlags, LoadsSuperblock as LoadsSb, ClearsReadOnly, SetsHold, Sums}
+use Rattle.mount_counts.specs.declared.phases.ChangeStep.TheVariants.{SetsReadOnly, ClearsHold, Releases}
+use Rattle.mount_counts.specs.declared.phases.MountPhase.{MountPhase, TheVariants.{Want as Wants, Drop as Drops, Change as Changes}}
+use Rattle.mount_counts.specs.declared.phases.WantStep.{WantStep, TheVariants.{CountsUp, LoadsHold, LoadsRemount, LoadsReadOnly, LoadsSuperblock, CountsDown}}
 use Rattle.mount_counts.specs.declared.remounts.RemountStep.{RemountStep}
-use Rattle.mount_counts.specs.declared.remounts.RemountStep.TheVariants.{
-  Locks as RLocks,
-  LoadsStage as RLoadsStage,
-  LoadsSuperblock as RLoadsSuperblock,
-  LoadsRemoved as RLoadsRemoved,
-  LoadsRemovedAgain as RLoadsRemovedAgain,
-  LeavesHolds as RLeavesHolds,
-  SetsWritable,
-  LoadsFlags as RLoadsFlags,
-  SetsHold as RSetsHold,
-  Sums as RSums,
-  SetsRemount,
-  ClearsHold as RClearsHold,
-  GivesUp,
-  ClearsMark,
-  SetsReadOnly as RSetsReadOnly,
-  ClearsRemount,
-  Releases as RReleases,
-}
+use Rattle.mount_counts.specs.declared.remounts.RemountStep.TheVariants.{Locks as RLocks, LoadsStage as RLoadsStage, LoadsSuperblock as RLoadsSuperblock}
+use Rattle.mount_counts.specs.declared.remounts.RemountStep.TheVariants.{LoadsRemoved as RLoadsRemoved, LoadsRemovedAgain as RLoadsRemovedAgain}
+use Rattle.mount_counts.specs.declared.remounts.RemountStep.TheVariants.{LeavesHolds as RLeavesHolds, SetsWritable, LoadsFlags as RLoadsFlags}
+use Rattle.mount_counts.specs.declared.remounts.RemountStep.TheVariants.{SetsHold as RSetsHold, Sums as RSums, SetsRemount, ClearsHold as RClearsHold, GivesUp}
+use Rattle.mount_counts.specs.declared.remounts.RemountStep.TheVariants.{ClearsMark, SetsReadOnly as RSetsReadOnly, ClearsRemount, Releases as RReleases}
+use Rattle.mount_counts.specs.declared.sets.MountSet.{MountSet}
 use Rattle.percpu_rwsem.specs.SyncWords.{bit, pack}
-use Rattle.percpu_rwsem.specs.declared.transitions.Transition.{Transition}
-use Rattle.percpu_rwsem.specs.declared.transitions.Transition.TheVariants.{Loads, Exchanges}
+use Rattle.percpu_rwsem.specs.declared.callbacks.CallbackStep.{CallbackStep, TheVariants.{Claims, AwaitsSections as CAwaitsSections, CallsBack as CCallsBack}}
 use Rattle.percpu_rwsem.specs.declared.grace.Grace.{Grace}
 use Rattle.percpu_rwsem.specs.declared.readers.DownReadStep.{DownReadStep}
-use Rattle.percpu_rwsem.specs.declared.readers.DownReadStep.TheVariants.{EntersSection, LoadsSync, CountsUpFast, CountsUpSlow, LoadsBlock, CountsDown as DCountsDown, LeavesAdmitted, LeavesBlocked}
-use Rattle.percpu_rwsem.specs.declared.callbacks.CallbackStep.{CallbackStep}
-use Rattle.percpu_rwsem.specs.declared.callbacks.CallbackStep.TheVariants.{Claims, AwaitsSections as CAwaitsSections, CallsBack as CCallsBack}
+use Rattle.percpu_rwsem.specs.declared.readers.DownReadStep.TheVariants.{EntersSection, LoadsSync, CountsUpFast, CountsUpSlow, LoadsBlock}
+use Rattle.percpu_rwsem.specs.declared.readers.DownReadStep.TheVariants.{CountsDown as DCountsDown, LeavesAdmitted, LeavesBlocked}
+use Rattle.percpu_rwsem.specs.declared.transitions.Transition.{Transition, TheVariants.{Loads, Exchanges}}
 use Rattle.percpu_rwsem.specs.declared.writers.DownWrite.{DownWrite}
 use Rattle.percpu_rwsem.specs.declared.writers.DownWriteStep.{DownWriteStep}
-use Rattle.percpu_rwsem.specs.declared.writers.DownWriteStep.TheVariants.{Enters, AwaitsSections as WAwaitsSections, CallsBack as WCallsBack, AwaitsPassed, SetsBlock, Sums as WSums}
-use Rattle.percpu_rwsem.specs.declared.writers.UpWrite.{UpWrite}
-use Rattle.percpu_rwsem.specs.declared.writers.UpWriteStep.{UpWriteStep}
-use Rattle.percpu_rwsem.specs.declared.writers.UpWriteStep.TheVariants.{ClearsBlock, Exits}
-use Rattle.write_access.specs.declared.phases.WritePhase.{WritePhase}
-use Rattle.write_access.specs.declared.phases.WritePhase.TheVariants.{Takes, Wants as WWants, GivesBack, Drops as WDrops, Ends}
+use Rattle.percpu_rwsem.specs.declared.writers.DownWriteStep.TheVariants.{Enters, AwaitsSections as WAwaitsSections, CallsBack as WCallsBack, AwaitsPassed}
+use Rattle.percpu_rwsem.specs.declared.writers.DownWriteStep.TheVariants.{SetsBlock, Sums as WSums}
+use Rattle.percpu_rwsem.specs.declared.writers.{UpWrite.UpWrite, UpWriteStep.{UpWriteStep, TheVariants.{ClearsBlock, Exits}}}
 use Rattle.freeze_levels.specs.declared.freezes.Freeze.{Freeze}
 use Rattle.freeze_levels.specs.declared.freezes.FreezeStep.{FreezeStep}
-use Rattle.freeze_levels.specs.declared.freezes.FreezeStep.TheVariants.{
-  Locks as FLocks,
-  LoadsStage as FLoadsStage,
-  LoadsHolders as FLoadsHolders,
-  Holds,
-  LoadsSuperblock as FLoadsSuperblock,
-  CompletesReadOnly,
-  SetsWrite,
-  Unlocks,
-  Closes,
-  LocksAgain,
-  SetsPageFault,
-  Cleans,
-  SetsFs,
-  SetsComplete,
-  Reopens as FReopens,
-  Releases as FReleases,
-}
+use Rattle.freeze_levels.specs.declared.freezes.FreezeStep.TheVariants.{Locks as FLocks, LoadsStage as FLoadsStage, LoadsHolders as FLoadsHolders, Holds}
+use Rattle.freeze_levels.specs.declared.freezes.FreezeStep.TheVariants.{LoadsSuperblock as FLoadsSuperblock, CompletesReadOnly, SetsWrite, Unlocks, Closes}
+use Rattle.freeze_levels.specs.declared.freezes.FreezeStep.TheVariants.{LocksAgain, SetsPageFault, Cleans, SetsFs, SetsComplete, Reopens as FReopens}
+use Rattle.freeze_levels.specs.declared.freezes.FreezeStep.TheVariants.{Releases as FReleases}
 use Rattle.freeze_levels.specs.declared.thaws.ThawStep.{ThawStep}
-use Rattle.freeze_levels.specs.declared.thaws.ThawStep.TheVariants.{
-  Locks as TLocks,
-  LoadsStage as TLoadsStage,
-  LoadsHolders as TLoadsHolders,
-  Leaves as TLeaves,
-  LoadsSuperblock as TLoadsSuperblock,
-  LeavesReadOnly,
-  LeavesLast,
-  UnfreezesReadOnly,
-  SetsUnfrozen,
-  Reopens as TReopens,
-  Releases as TReleases,
-}
-use Rattle.gated_tree.specs.declared.changes.CreateStep.{CreateStep}
-use Rattle.gated_tree.specs.declared.changes.CreateStep.TheVariants.{LoadsDirectory, LoadsNode, ChargesChild, TakesNode, RefundsChild}
-use Rattle.gated_tree.specs.declared.changes.RemoveStep.{RemoveStep}
-use Rattle.gated_tree.specs.declared.changes.RemoveStep.TheVariants.{LoadsFile as LoadsFileToRemove, FreesNode, CountsRemoved, MarksRemoved, RefundsRemoved, RefundsBlocks as RefundsItsBlocks, RefundsChild as RefundsItsChild}
-use Rattle.gated_tree.specs.declared.changes.MoveStep.{MoveStep}
-use Rattle.gated_tree.specs.declared.changes.MoveStep.TheVariants.{LoadsFile as LoadsFileToMove, LoadsDirectory as LoadsTarget, ChargesChild as ChargesTarget, MovesFile, RefundsChild as RefundsOne}
-use Rattle.gated_tree.specs.declared.growth.GrowStep.{GrowStep}
-use Rattle.gated_tree.specs.declared.growth.GrowStep.TheVariants.{LoadsFile as LoadsFileToGrow, LoadsUsed, ChargesBlocks, GrowsFile, RefundsBlocks}
-use Rattle.gated_tree.specs.declared.marks.MarkStep.{MarkStep}
-use Rattle.gated_tree.specs.declared.marks.MarkStep.TheVariants.{LoadsFile as LoadsFileToMark, MarksFile}
-use Rattle.gated_tree.specs.declared.opens.OpenStep.{OpenStep}
-use Rattle.gated_tree.specs.declared.opens.OpenStep.TheVariants.{LoadsFile as LoadsFileToOpen, OpensFile}
-use Rattle.gated_tree.specs.declared.snapshots.SnapshotStep.{SnapshotStep}
-use Rattle.gated_tree.specs.declared.snapshots.SnapshotStep.TheVariants.{Locks as SLocks, LoadsStage as SLoadsStage, LoadsUsed as SLoadsUsed, LoadsNode as SLoadsNode, LoadsKids as SLoadsKids, Releases as SReleases}
-use Rattle.gated_tree.specs.declared.phases.TreePhase.{TreePhase}
-use Rattle.gated_tree.specs.declared.phases.TreePhase.TheVariants.{Create as Creates, Remove as Removes, Grow as Grows, MoveTo as Moves, Mark as TreeMarks, OpenFile as OpensOne, Snapshot as Snapshots, ClearMarks as TreeClears}
+use Rattle.freeze_levels.specs.declared.thaws.ThawStep.TheVariants.{Locks as TLocks, LoadsStage as TLoadsStage, LoadsHolders as TLoadsHolders}
+use Rattle.freeze_levels.specs.declared.thaws.ThawStep.TheVariants.{Leaves as TLeaves, LoadsSuperblock as TLoadsSuperblock, LeavesReadOnly, LeavesLast}
+use Rattle.freeze_levels.specs.declared.thaws.ThawStep.TheVariants.{UnfreezesReadOnly, SetsUnfrozen, Reopens as TReopens, Releases as TReleases}
+use Rattle.write_access.specs.declared.phases.WritePhase.{WritePhase, TheVariants.{Takes, Wants as WWants, GivesBack, Drops as WDrops, Ends}}
 use Rattle.file_closes.specs.declared.phases.ClosePhase.{ClosePhase}
-use Rattle.file_closes.specs.declared.phases.ClosePhase.TheVariants.{LoadsFile as CloseLoadsFile, LowersCount, Enters as EntersLevel, FreesNode as ClosesNode, RefundsBlocks as CloseRefundsBlocks, Uncounts as CloseUncounts, Leaves as CloseLeaves}
+use Rattle.file_closes.specs.declared.phases.ClosePhase.TheVariants.{LoadsFile as CloseLoadsFile, LowersCount, Enters as EntersLevel, FreesNode as ClosesNode}
+use Rattle.file_closes.specs.declared.phases.ClosePhase.TheVariants.{RefundsBlocks as CloseRefundsBlocks, Uncounts as CloseUncounts, Leaves as CloseLeaves}
+use Rattle.gate_world.specs.declared.config.Config.{Config}
 use Rattle.gate_world.specs.declared.work.Phase.{Phase}
-use Rattle.gate_world.specs.declared.work.Phase.TheVariants.{Mounts, Remounts, DownReads, UpReads, Callbacks, Writes, Freezes, Thaws, Trees, Closes as FileCloses}
+use Rattle.gate_world.specs.declared.work.Phase.TheVariants.{Mounts, Remounts, DownReads, UpReads, Callbacks, Writes, Freezes, Thaws, Trees}
+use Rattle.gate_world.specs.declared.work.Phase.TheVariants.{Closes as FileCloses}
 
 -- a want
 abbrev pub want_rank : WantStep → ℕ

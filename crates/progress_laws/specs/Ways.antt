@@ -1,39 +1,25 @@
 -- When the way of a phase is free: where nobody else does anything, none of its events waits for good.
 use Rattle.std.specs.Prelude.{◌≡◌, ℕ, ◌<◌, ◌≤◌, ◌%◌, Bool, true, false, Some}
 use Rattle.finite_sums.specs.Sums.{total}
-use Rattle.cpu_words.specs.Words.{Words}
-use Rattle.mount_counts.specs.declared.phases.MountPhase.{MountPhase}
-use Rattle.mount_counts.specs.declared.phases.MountPhase.TheVariants.{Want as Wants, Drop as Drops, Change as Changes}
-use Rattle.mount_counts.specs.declared.phases.ChangeStep.{ChangeStep}
-use Rattle.mount_counts.specs.declared.phases.ChangeStep.TheVariants.{Locks as ChangeLocks}
+use Rattle.access_model.specs.declared.replies.Next.{Next, TheVariants.{Go, Wait, Done}}
+use Rattle.cpu_words.specs.{Hooks.HookAnswer, Words.Words}
+use Rattle.gated_tree.specs.declared.phases.TreePhase.{TreePhase, TheVariants.Snapshot as Snapshots}
+use Rattle.gated_tree.specs.declared.snapshots.SnapshotStep.{SnapshotStep, TheVariants.Locks as SnapshotLocks}
 use Rattle.mount_counts.specs.Phases.{has_flag}
-use Rattle.mount_counts.specs.declared.remounts.RemountStep.{RemountStep}
-use Rattle.mount_counts.specs.declared.remounts.RemountStep.TheVariants.{Locks as RemountLocks}
-use Rattle.freeze_levels.specs.declared.freezes.FreezeStep.{FreezeStep}
-use Rattle.freeze_levels.specs.declared.freezes.FreezeStep.TheVariants.{Locks as FreezeLocks, Closes, LocksAgain}
-use Rattle.freeze_levels.specs.declared.thaws.ThawStep.{ThawStep}
-use Rattle.freeze_levels.specs.declared.thaws.ThawStep.TheVariants.{Locks as ThawLocks}
-use Rattle.gated_tree.specs.declared.phases.TreePhase.{TreePhase}
-use Rattle.gated_tree.specs.declared.phases.TreePhase.TheVariants.{Snapshot as Snapshots}
-use Rattle.gated_tree.specs.declared.snapshots.SnapshotStep.{SnapshotStep}
-use Rattle.gated_tree.specs.declared.snapshots.SnapshotStep.TheVariants.{Locks as SnapshotLocks}
+use Rattle.mount_counts.specs.declared.phases.ChangeStep.{ChangeStep, TheVariants.Locks as ChangeLocks}
+use Rattle.mount_counts.specs.declared.phases.MountPhase.{MountPhase, TheVariants.{Want as Wants, Drop as Drops, Change as Changes}}
+use Rattle.mount_counts.specs.declared.remounts.RemountStep.{RemountStep, TheVariants.Locks as RemountLocks}
 use Rattle.percpu_rwsem.specs.declared.readers.DownRead.{DownRead}
-use Rattle.write_access.specs.declared.phases.WritePhase.{WritePhase}
-use Rattle.write_access.specs.declared.phases.WritePhase.TheVariants.{Takes, Wants as WriteWants}
-use Rattle.file_closes.specs.declared.phases.ClosePhase.{ClosePhase}
-use Rattle.file_closes.specs.declared.phases.ClosePhase.TheVariants.{LoadsFile, Enters as EntersLevel}
-use Rattle.access_model.specs.declared.replies.Next.{Next}
-use Rattle.access_model.specs.declared.replies.Next.TheVariants.{Go, Wait, Done}
-use Rattle.cpu_words.specs.Hooks.{HookAnswer}
-use Rattle.gate_world.specs.Configs.{IsWithin}
-use Rattle.gate_world.specs.Rules.{IsGood}
-use Rattle.gate_world.specs.Work.{after_of}
-use Rattle.gate_world.specs.Worlds.{World, words_after, found_at}
-use Rattle.progress_laws.specs.Ranks.{rank}
+use Rattle.freeze_levels.specs.declared.freezes.FreezeStep.{FreezeStep, TheVariants.{Locks as FreezeLocks, Closes, LocksAgain}}
+use Rattle.freeze_levels.specs.declared.thaws.ThawStep.{ThawStep, TheVariants.Locks as ThawLocks}
+use Rattle.write_access.specs.declared.phases.WritePhase.{WritePhase, TheVariants.{Takes, Wants as WriteWants}}
+use Rattle.file_closes.specs.declared.phases.ClosePhase.{ClosePhase, TheVariants.{LoadsFile, Enters as EntersLevel}}
+use Rattle.gate_world.specs.{Configs.IsWithin, Rules.IsGood, Work.after_of, Worlds.{World, words_after, found_at}}
 use Rattle.gate_world.specs.declared.config.Config.{Config}
 use Rattle.gate_world.specs.declared.work.Phase.{Phase}
-use Rattle.gate_world.specs.declared.work.Phase.TheVariants.{Mounts, Remounts, DownReads, UpReads, Callbacks, Writes, Freezes, Thaws, Trees, Closes as FileCloses}
-use Rattle.progress_laws.specs.Progress.{is_admitted, next_level, is_last_close}
+use Rattle.gate_world.specs.declared.work.Phase.TheVariants.{Mounts, Remounts, DownReads, UpReads, Callbacks, Writes, Freezes, Thaws, Trees}
+use Rattle.gate_world.specs.declared.work.Phase.TheVariants.{Closes as FileCloses}
+use Rattle.progress_laws.specs.{Progress.{is_admitted, next_level, is_last_close}, Ranks.rank}
 
 -- HOLD, which is 2, is clear at a mount
 abbrev pub HoldIsClear : Words → ℕ → Type 0

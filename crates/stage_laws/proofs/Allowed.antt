@@ -1,49 +1,40 @@
 -- The action of each event is allowed in each state that shows the moment before it.
-use Rattle.stage_laws.proofs.EachEvent.{fewer, own_clean}
-use Rattle.stage_laws.proofs.StageLaws.{freeze_bound, own_remount, relied_on, ways}
-use Rattle.stage_laws.proofs.Positions.{owner_idle, passed_idle, passed_own}
-use Rattle.std.proofs.Common.{◌≡◌, ℕ, zero, suc, ◌-◌, ◌<◌, ◌≤◌, refl, ap, ◌∙◌, subst, inl, inr, arith}
+use Rattle.std.proofs.{Common.{◌≡◌, ℕ, zero, suc, ◌-◌, ◌<◌, ◌≤◌, refl, ap, ◌∙◌, subst, inl, inr, arith}, lemmas.{Bool.Decides.eqb_tells, Option.none-some}}
 use Rattle.std.specs.Prelude.{◌==◌, Bool, true, false, Option, Some, None}
-use Rattle.std.proofs.lemmas.Bool.Decides.{eqb_tells}
-use Rattle.std.proofs.lemmas.Option.{none-some}
-use Rattle.access_model.specs.declared.actions.Action.{Action}
-use Rattle.access_model.specs.declared.actions.Action.TheVariants.{SbRo, Stage, Hold, Leave, Pass, Clean}
-use Rattle.access_model.specs.States.{Limits, State, IsClean}
-use Rattle.access_model.specs.Actions.{MayDo}
-use Rattle.stage_laws.specs.Roles.{StageRole, Owning, Remounting, Freezing, Reopening, CleanBelow, Closing, HasPassed, KnowsStage, has_position, owns, passed_by, remounts}
+use Rattle.access_model.specs.{Actions.MayDo, States.{Limits, State, IsClean}, declared.actions.Action.Action}
+use Rattle.stage_laws.proofs.{EachEvent.{fewer, own_clean}, Positions.{owner_idle, passed_idle, passed_own}}
+use Rattle.stage_laws.proofs.StageLaws.{freeze_bound, own_remount, relied_on, ways}
+use Rattle.stage_laws.specs.Events.{Stages, Holds, Shows, StageEvent, Happens, action_of, cleaned, Advances, Begins, CancelsRemount, ClearsBlock, ClearsMark}
+use Rattle.stage_laws.specs.Events.{ClearsMarkReadOnly, Completes, Fails, FreezesAtOnce, HoldsOne, LeavesOne, Passes, SetsRemount, SetsWritable, Syncs, Thaws}
+use Rattle.stage_laws.specs.Events.{ThawsAtOnce}
+use Rattle.stage_laws.specs.Roles.{StageRole, Owning, Remounting, Freezing, Reopening, CleanBelow, Closing, HasPassed, KnowsStage, has_position, owns}
+use Rattle.stage_laws.specs.Roles.{passed_by, remounts}
 use Rattle.stage_laws.specs.Shown.{AsksOthers}
-use Rattle.stage_laws.specs.Events.{Stages, Holds, Shows, StageEvent, Happens, action_of, cleaned, Advances, Begins, CancelsRemount, ClearsBlock, ClearsMark, ClearsMarkReadOnly, Completes, Fails, FreezesAtOnce, HoldsOne, LeavesOne, Passes, SetsRemount, SetsWritable, Syncs, Thaws, ThawsAtOnce}
 
 -- the action that there is, or else this one
 abbrev action_or : Action → Option Action → Action
 action_or a None = a
 action_or a (Some b) = b
 
--- one action is there
 some_inj : {a b : Action} → Some a ≡ Some b → a ≡ b
 some_inj {a} {b} e = ap (action_or a) e
 
--- the action of a clearing, if there is one, cleans that node
-cleaned_is : (node mark : ℕ) (action : Action) (P : Action → Type 0) → cleaned node mark ≡ Some action → P (Clean node) → P action
+cleaned_is : (node mark : ℕ) (action : Action) (P : Action → Type 0) → cleaned node mark ≡ Some action → P (Action.Clean node) → P action
 cleaned_is node zero action P e p = absurd (none-some action e)
 cleaned_is node (suc mark) action P e p = subst P (some_inj e) p
 
 module _ (l : Limits) (x : Stages) (h : Holds l.tasks l.nodes x) (t : ℕ) (lt : t < l.tasks) (s : State) (shows : Shows l x s) where
-  -- nodes without a mark are shown clean
   pub all_clean : CleanBelow l.nodes x.dirty → IsClean l s
   all_clean c n ln = shows.marks n ln (c n ln)
 
-  -- the stage that is shown
   at_stage : (k : ℕ) → x.stage ≡ k → s.stage ≡ k
   at_stage k e = shows.stages.stage_same ∙ e
 
-  -- the number of levels that a task with a position has passed is shown
   own_levels : (old : StageRole) → x.at t ≡ old → has_position old ≡ 1 → s.passed ≡ passed_by old
   own_levels old e p =
       shows.stages.passed_same ∙
       passed_own l.tasks x.stage x.sb x.remount x.block x.at h.stages t lt (ap has_position e ∙ p) ∙ ap passed_by e
 
-  -- an owner at stage 0 with no position finds no level passed
   no_level : (old : StageRole) → x.at t ≡ old → owns old ≡ 1 → has_position old ≡ 0 → x.stage ≡ 0 → s.passed ≡ 0
   no_level old e o n z =
       let w : _ = ways l.tasks x h.stages t lt in
@@ -108,25 +99,25 @@ module _ (l : Limits) (x : Stages) (h : Holds l.tasks l.nodes x) (t : ℕ) (lt :
         ),
       )
   may (HoldsOne holder sb new) x' (e, alike, k, c, p) action a asks =
-      may_be (Hold holder) action a asks (λ ask. (at_stage 4 (relies (Owning (Some 4) sb) e).0, ask))
+      may_be (Action.Hold holder) action a asks (λ ask. (at_stage 4 (relies (Owning (Some 4) sb) e).0, ask))
   may (LeavesOne holder sb new) x' (e, alike, k, c, p) action a asks =
-      may_be (Leave holder) action a asks (λ ask. (at_stage 4 (relies (Owning (Some 4) sb) e).0, ask))
+      may_be (Action.Leave holder) action a asks (λ ask. (at_stage 4 (relies (Owning (Some 4) sb) e).0, ask))
   may Thaws x' (e, p) action a asks =
       let four : s.stage ≡ 4 = at_stage 4 (relies (Owning (Some 4) (Some 0)) e).0 in
-      may_be (Stage 0) action a asks (λ ask. inr (inr (four, ask four)))
+      may_be (Action.Stage 0) action a asks (λ ask. inr (inr (four, ask four)))
   may ThawsAtOnce x' (e, p) action a asks =
       let four : s.stage ≡ 4 = at_stage 4 (relies (Owning (Some 4) (Some 1)) e).0 in
-      may_be (Stage 0) action a asks (λ ask. inr (inr (four, ask four)))
+      may_be (Action.Stage 0) action a asks (λ ask. inr (inr (four, ask four)))
   may (Passes level clean owner) x' (e, c, p) action a asks =
       let k : x.stage ≡ level = relies (Freezing level Closing owner) e in
       let b : _ = freeze_bound l.tasks x h.stages t lt (Freezing level Closing owner) e refl in
       let n : s.passed ≡ level - 1 = own_levels (Freezing level Closing owner) e refl in
-      may_be (Pass level) action a asks (λ ask. (omega (arith, k, b), at_stage level k, omega (arith, n, k, b), ask))
+      may_be (Action.Pass level) action a asks (λ ask. (omega (arith, k, b), at_stage level k, omega (arith, n, k, b), ask))
   may (ClearsBlock below) x' (e, p) action a asks =
       let k : (x.stage ≡ 0) × (suc below ≤ 3) = relies (Reopening (suc below)) e in
       subst (MayDo l s t) (some_inj a) (omega (arith, k.1), at_stage 0 k.0, own_levels (Reopening (suc below)) e refl)
   may (SetsRemount clean) x' (e, c, p) action a asks =
-      may_be SbRo action a asks (λ ask. (at_stage 0 (relies (Owning (Some 0) (Some 0)) e).0, ask.0, ask.1))
+      may_be Action.SbRo action a asks (λ ask. (at_stage 0 (relies (Owning (Some 0) (Some 0)) e).0, ask.0, ask.1))
   may (CancelsRemount clean) x' (e, p) action a asks = subst (MayDo l s t) (some_inj a) (at_stage 0 (relies (Remounting 0 clean) e).0)
   may (SetsWritable sb) x' (e, p) action a asks = subst (MayDo l s t) (some_inj a) (at_stage 0 (relies (Owning (Some 0) sb) e).0)
   may (ClearsMark node) x' (e, p) action a asks =

@@ -1,11 +1,9 @@
 -- What a task's event leaves: a changed role beside changed words.
-use Rattle.std.proofs.Common.{◌≡◌, ℕ, ◌+◌, ◌*◌, ◌<◌, ◌≤◌, ap, ◌∙◌, inl, inr, arith}
-use Rattle.std.specs.Prelude.{◌⊎◌}
-use Rattle.finite_sums.specs.Sums.{update, total}
-use Rattle.finite_sums.proofs.Totals.{each_updated, total_updated, total_at, update_off}
+use Rattle.std.{proofs.Common.{◌≡◌, ℕ, ◌+◌, ◌*◌, ◌<◌, ◌≤◌, ap, ◌∙◌, inl, inr, arith}, specs.Prelude.◌⊎◌}
+use Rattle.finite_sums.{proofs.Totals.{each_updated, total_updated, total_at, update_off}, specs.Sums.{update, total}}
+use Rattle.stage_laws.proofs.Positions.{other_owns, passed_is}
 use Rattle.stage_laws.specs.Roles.{StageRole, Aside, Freezing, owns, freezes, remounts, closes, passed_by, under_way, is_full, KnowsStage, StagesHold}
 use Rattle.stage_laws.specs.Shown.{passed_shown}
-use Rattle.stage_laws.proofs.Positions.{other_owns, passed_is}
 
 -- who doesn't own `umount` relies at most on the stage that it stored
 free_knows : (stage sb stage' sb' : ℕ) (r : StageRole) → owns r ≡ 0 → (freezes r ≡ 0) ⊎ (stage' ≡ stage) → KnowsStage stage sb r →
@@ -28,7 +26,6 @@ module _ (tasks stage sb remount : ℕ) (block : ℕ → ℕ) (at : ℕ → Stag
     pub others : (u : ℕ) → u < tasks → (u ≡ t → ⊥) → KnowsStage stage' sb' (at u)
     pub own : KnowsStage stage' sb' new
 
-  -- then the stage holds after it
   pub any_event : (old new : StageRole) (stage' sb' remount' : ℕ) (block' : ℕ → ℕ) → at t ≡ old →
       Agrees old new stage' sb' remount' block' →
       StagesHold tasks stage' sb' remount' block' (update at t new)

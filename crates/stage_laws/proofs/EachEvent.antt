@@ -1,28 +1,28 @@
 -- Each event keeps what holds of the stage and of the marks.
-use Rattle.stage_laws.proofs.MarkLaws.{cleared_anew, washed, one_more, marked}
-use Rattle.stage_laws.proofs.StageLaws.{turns, relied_on, releases_open, begins, advances, completes, fails, freezes_at_once, thaws, thaws_at_once, sets_block, turns_block, clears_block, sets_remount, clears_remount, sets_read_only, sets_writable}
-use Rattle.std.proofs.Common.{◌≡◌, ℕ, suc, ◌<◌, ◌≤◌, refl, sym, subst, arith, zero}
-use Rattle.std.specs.Prelude.{true, false, Some, None}
+use Rattle.std.{proofs.Common.{◌≡◌, ℕ, suc, ◌<◌, ◌≤◌, refl, sym, subst, arith, zero}, specs.Prelude.{true, false, Some, None}}
 use Rattle.finite_sums.specs.Sums.{update}
-use Rattle.stage_laws.specs.Roles.{StageRole, Aside, Owning, Remounting, Freezing, Reopening, CleanBelow, MarksHold, clean_by, clean_at, Closing, HasPassed, Before}
-use Rattle.stage_laws.specs.Events.{Stages, Holds, StageEvent, Happens, LocksAgain, Releases, LetsGo, LoadsStage, LoadsSb, Advances, Syncs, Completes, Fails, SetsBlock, Passes, ClearsBlock, SetsRemount, Begins, CancelsRemount, ClearsMark, ClearsMarkReadOnly, ClearsRemount, FreezesAtOnce, HoldsOne, LeavesOne, Locks, MarksNode, Recalls, ReleasesOpen, SetsReadOnly, SetsWritable, Stays, Thaws, ThawsAtOnce, WashesNode}
+use Rattle.stage_laws.proofs.MarkLaws.{cleared_anew, washed, one_more, marked}
+use Rattle.stage_laws.proofs.StageLaws.{turns, relied_on, releases_open, begins, advances, completes, fails, freezes_at_once, thaws, thaws_at_once, sets_block}
+use Rattle.stage_laws.proofs.StageLaws.{turns_block, clears_block, sets_remount, clears_remount, sets_read_only, sets_writable}
+use Rattle.stage_laws.specs.Events.{Stages, Holds, StageEvent, Happens, LocksAgain, Releases, LetsGo, LoadsStage, LoadsSb, Advances, Syncs, Completes, Fails}
+use Rattle.stage_laws.specs.Events.{SetsBlock, Passes, ClearsBlock, SetsRemount, Begins, CancelsRemount, ClearsMark, ClearsMarkReadOnly, ClearsRemount}
+use Rattle.stage_laws.specs.Events.{FreezesAtOnce, HoldsOne, LeavesOne, Locks, MarksNode, Recalls, ReleasesOpen, SetsReadOnly, SetsWritable, Stays, Thaws}
+use Rattle.stage_laws.specs.Events.{ThawsAtOnce, WashesNode}
+use Rattle.stage_laws.specs.Roles.{StageRole, Aside, Owning, Remounting, Freezing, Reopening, CleanBelow, MarksHold, clean_by, clean_at, Closing, HasPassed}
+use Rattle.stage_laws.specs.Roles.{Before}
 
 module _ (tasks nodes : ℕ) (x : Stages) (h : Holds tasks nodes x) (t : ℕ) (lt : t < tasks) where
-  -- nothing is clean below node 0
   none : (dirty : ℕ → ℕ) → CleanBelow 0 dirty
   none dirty m l = absurd (omega (arith, l))
 
-  -- the nodes that the task has cleared are clean
   pub own_clean : (old : StageRole) → x.at t ≡ old → CleanBelow (clean_by old) x.dirty
   own_clean old e = subst (λ r. CleanBelow (clean_by r) x.dirty) e (h.marks.cleared t lt)
 
-  -- a stage after which no more nodes have to be clean
   same_marks : (stage' sb' : ℕ) (new : StageRole) → (3 ≤ stage' → CleanBelow nodes x.dirty) → (sb' ≡ 1 → CleanBelow nodes x.dirty) →
       CleanBelow (clean_by new) x.dirty →
       MarksHold tasks nodes stage' sb' x.dirty (update x.at t new)
   same_marks stage' sb' new f r c = cleared_anew tasks nodes x.stage x.sb stage' sb' x.dirty x.at t new h.marks f r c
 
-  -- the same flags and stage, and a role that has cleared these nodes
   quiet : (new : StageRole) → CleanBelow (clean_by new) x.dirty → MarksHold tasks nodes x.stage x.sb x.dirty (update x.at t new)
   quiet new c = same_marks x.stage x.sb new h.marks.frozen h.marks.read_only c
 
@@ -35,23 +35,19 @@ module _ (tasks nodes : ℕ) (x : Stages) (h : Holds tasks nodes x) (t : ℕ) (l
       (subst (λ k. CleanBelow k (update x.dirty node 0)) (sym c')
       (one_more node x.dirty (subst (λ k. CleanBelow k x.dirty) c (own_clean old e))))
 
-  -- while a level is closing, no mark is cleared
   closing_clean : (level : ℕ) → CleanBelow (clean_at level Closing) x.dirty
   closing_clean zero = none x.dirty
   closing_clean (suc zero) = none x.dirty
   closing_clean (suc (suc level)) = none x.dirty
 
-  -- where a level is passed, so many nodes are clean as were found so
   passed_clean : (level clean : ℕ) → CleanBelow clean x.dirty → CleanBelow (clean_at level (HasPassed clean)) x.dirty
   passed_clean zero clean c = none x.dirty
   passed_clean (suc zero) clean c = none x.dirty
   passed_clean (suc (suc level)) clean c = c
 
-  -- fewer nodes are clean where more are
   pub fewer : (k : ℕ) → nodes ≤ k → CleanBelow k x.dirty → CleanBelow nodes x.dirty
   fewer k le c m l = c m (omega (arith, l, le))
 
-  -- each event keeps both
   pub after_kind : (kind : StageEvent) (x' : Stages) → Happens tasks nodes t x x' kind → Holds tasks nodes x'
   after_kind Locks x' (e, o, p) = subst (Holds tasks nodes) (sym p) record {
     stages = turns tasks x h.stages t lt Aside (Owning None None) e (omega (arith, o)) refl refl refl (tt, tt);

@@ -1,23 +1,22 @@
 -- The effect of each event's action shows the stage after it, and an event without one leaves the stage that was shown.
-use Rattle.stage_laws.proofs.StageLaws.{advances, begins, clears_block, clears_remount, completes, fails, freeze_bound, freezes_at_once, own_remount, relied_on, sets_block, sets_read_only, sets_remount, sets_writable, thaws, thaws_at_once, turns_block, ways}
-use Rattle.stage_laws.proofs.EachEvent.{after_kind}
-use Rattle.stage_laws.proofs.Facts.{full_is}
-use Rattle.stage_laws.proofs.Changes.{passed_moves}
-use Rattle.stage_laws.proofs.Positions.{passed_own}
-use Rattle.std.proofs.Common.{◌≡◌, ℕ, zero, suc, ◌+◌, ◌*◌, ◌<◌, refl, sym, ap, ◌∙◌, subst, arith}
-use Rattle.std.specs.Prelude.{◌==◌, ◌||◌, true, false, Some, None}
+use Rattle.std.{proofs.Common.{◌≡◌, ℕ, zero, suc, ◌+◌, ◌*◌, ◌<◌, refl, sym, ap, ◌∙◌, subst, arith}, specs.Prelude.{◌==◌, ◌||◌, true, false, Some, None}}
 use Rattle.finite_sums.specs.Sums.{update}
-use Rattle.access_model.specs.declared.actions.Action.TheVariants.{SbRo, SbRw, Stage, Pass, Reopen}
-use Rattle.access_model.specs.States.{State}
-use Rattle.stage_laws.specs.Roles.{StageRole, Aside, Owning, Remounting, Freezing, Reopening, StagesHold, Before, Closing, HasPassed, KnowsStage, has_position, is_full, passed_by}
+use Rattle.access_model.specs.{States.State, declared.actions.Action.Action}
+use Rattle.stage_laws.proofs.{Changes.passed_moves, EachEvent.after_kind, Facts.full_is, Positions.passed_own}
+use Rattle.stage_laws.proofs.StageLaws.{advances, begins, clears_block, clears_remount, completes, fails, freeze_bound, freezes_at_once, own_remount, relied_on}
+use Rattle.stage_laws.proofs.StageLaws.{sets_block, sets_read_only, sets_remount, sets_writable, thaws, thaws_at_once, turns_block, ways}
+use Rattle.stage_laws.specs.Events.{Stages, Holds, StageEvent, Happens, action_of, cleaned, playing, Advances, Begins, CancelsRemount, ClearsBlock, ClearsMark}
+use Rattle.stage_laws.specs.Events.{ClearsMarkReadOnly, ClearsRemount, Completes, Fails, FreezesAtOnce, HoldsOne, LeavesOne, LetsGo, LoadsSb, LoadsStage, Locks}
+use Rattle.stage_laws.specs.Events.{LocksAgain, MarksNode, Passes, Recalls, Releases, ReleasesOpen, SetsBlock, SetsReadOnly, SetsRemount, SetsWritable, Stays}
+use Rattle.stage_laws.specs.Events.{Syncs, Thaws, ThawsAtOnce, WashesNode}
+use Rattle.stage_laws.specs.Roles.{StageRole, Aside, Owning, Remounting, Freezing, Reopening, StagesHold, Before, Closing, HasPassed, KnowsStage, has_position}
+use Rattle.stage_laws.specs.Roles.{is_full, passed_by}
 use Rattle.stage_laws.specs.Shown.{ShowsStages, state_after}
-use Rattle.stage_laws.specs.Events.{Stages, Holds, StageEvent, Happens, action_of, cleaned, playing, Advances, Begins, CancelsRemount, ClearsBlock, ClearsMark, ClearsMarkReadOnly, ClearsRemount, Completes, Fails, FreezesAtOnce, HoldsOne, LeavesOne, LetsGo, LoadsSb, LoadsStage, Locks, LocksAgain, MarksNode, Passes, Recalls, Releases, ReleasesOpen, SetsBlock, SetsReadOnly, SetsRemount, SetsWritable, Stays, Syncs, Thaws, ThawsAtOnce, WashesNode}
 
 -- a state shows a moment
 abbrev pub ShowsAt : ℕ → Stages → State → Type 0
 ShowsAt tasks y s = ShowsStages tasks y.stage y.sb y.remount y.block y.at s
 
--- a clearing shows what was shown
 clearing_shows : (tasks : ℕ) (y : Stages) (s : State) (t node mark : ℕ) → ShowsAt tasks y s →
     ShowsAt tasks y (state_after s t (cleaned node mark))
 clearing_shows tasks y s t node zero h = h
@@ -43,9 +42,9 @@ module _ (tasks nodes : ℕ) (x : Stages) (h : Holds tasks nodes x) (t : ℕ) (l
   -- an owner's store of a stage shows it
   stage_shown : (k : ℕ) (old new : StageRole) → x.at t ≡ old → StagesHold tasks k x.sb x.remount x.block (update x.at t new) →
       passed_by old + 3 * is_full x.stage x.sb ≡ passed_by new + 3 * is_full k x.sb →
-      ShowsAt tasks (playing (record x { stage = k }) t new) (state_after s t (Some (Stage k)))
+      ShowsAt tasks (playing (record x { stage = k }) t new) (state_after s t (Some (Action.Stage k)))
   stage_shown k old new e good p =
-      shown_after old new k x.sb x.remount x.block (state_after s t (Some (Stage k))) e good refl (omega (arith, p)) shows.sb_same
+      shown_after old new k x.sb x.remount x.block (state_after s t (Some (Action.Stage k))) e good refl (omega (arith, p)) shows.sb_same
 
   -- an event after which as many levels are passed, and no more than a block is another, shows what was shown
   quiet_shown : (block' : ℕ → ℕ) (old new : StageRole) → x.at t ≡ old → StagesHold tasks x.stage x.sb x.remount block' (update x.at t new) →
@@ -62,7 +61,6 @@ module _ (tasks nodes : ℕ) (x : Stages) (h : Holds tasks nodes x) (t : ℕ) (l
       shown_after old new x.stage b m x.block s' e good (st ∙ shows.stage_same)
       (omega (arith, p, pa, z, ways tasks x h.stages t lt, full_is x.stage b h.stages.stages good.superblock)) f
 
-  -- the stage that an event leaves is held
   kept : (kind : StageEvent) (x' : Stages) → Happens tasks nodes t x x' kind → StagesHold tasks x'.stage x'.sb x'.remount x'.block x'.at
   kept kind x' p = (after_kind tasks nodes x h t lt kind x' p).stages
 
@@ -75,19 +73,16 @@ module _ (tasks nodes : ℕ) (x : Stages) (h : Holds tasks nodes x) (t : ℕ) (l
   relies : (old : StageRole) → x.at t ≡ old → KnowsStage x.stage x.sb old
   relies old e = relied_on tasks x h.stages t lt old e
 
-  -- the number of levels that a task with a position has passed is shown
   own_levels : (old : StageRole) → x.at t ≡ old → has_position old ≡ 1 → s.passed ≡ passed_by old
   own_levels old e p =
       shows.passed_same ∙ passed_own tasks x.stage x.sb x.remount x.block x.at h.stages t lt (ap has_position e ∙ p) ∙ ap passed_by e
 
-  -- an event of a role on no word shown
   turned : (kind : StageEvent) (x' : Stages) (old new : StageRole) → x.at t ≡ old → x' ≡ playing x t new →
       Happens tasks nodes t x (playing x t new) kind →
       passed_by new ≡ passed_by old → ShowsAt tasks x' s
   turned kind x' old new e p happens q =
       subst (λ z. ShowsAt tasks z s) (sym p) (quiet_shown x.block old new e (kept kind (playing x t new) happens) q)
 
-  -- each event shows what its action makes of the state
   pub effect : (kind : StageEvent) (x' : Stages) → Happens tasks nodes t x x' kind → ShowsAt tasks x' (state_after s t (action_of kind x))
   effect Locks x' (e, o, p) = turned Locks x' Aside (Owning None None) e p (e, o, refl) refl
   effect (LocksAgain stage place) x' (e, o, p) =
@@ -147,15 +142,15 @@ module _ (tasks nodes : ℕ) (x : Stages) (h : Holds tasks nodes x) (t : ℕ) (l
   effect (Passes level clean owner) x' (e, c, p) =
       let k : x.stage ≡ level = relies (Freezing level Closing owner) e in
       shown_at (Passes level clean owner) x' _ p (shown_after (Freezing level Closing owner) (Freezing level (HasPassed clean) owner)
-      x.stage x.sb x.remount x.block (state_after s t (Some (Pass level))) e (turns_block tasks x h.stages t lt level clean owner e)
+      x.stage x.sb x.remount x.block (state_after s t (Some (Action.Pass level))) e (turns_block tasks x h.stages t lt level clean owner e)
       shows.stage_same (omega (arith, own_levels (Freezing level Closing owner) e refl)) shows.sb_same)
   effect (ClearsBlock below) x' (e, p) =
       shown_at (ClearsBlock below) x' _ p (shown_after (Reopening (suc below)) (Reopening below)
-      x.stage x.sb x.remount (update x.block (suc below) 0) (state_after s t (Some (Reopen (suc below)))) e
+      x.stage x.sb x.remount (update x.block (suc below) 0) (state_after s t (Some (Action.Reopen (suc below)))) e
       (clears_block tasks x h.stages t lt below e)
       shows.stage_same (omega (arith, own_levels (Reopening (suc below)) e refl)) shows.sb_same)
   effect (SetsRemount clean) x' (e, c, p) =
-      shown_at (SetsRemount clean) x' _ p (flag_shown x.sb 1 (Owning (Some 0) (Some 0)) (Remounting 0 clean) (state_after s t (Some SbRo)) e
+      shown_at (SetsRemount clean) x' _ p (flag_shown x.sb 1 (Owning (Some 0) (Some 0)) (Remounting 0 clean) (state_after s t (Some Action.SbRo)) e
       (relies (Owning (Some 0) (Some 0)) e).0 (sets_remount tasks x h.stages t lt clean e) refl refl refl refl)
   effect (SetsReadOnly clean) x' (e, all, p) =
       let r : x.remount ≡ 1 = own_remount tasks x h.stages t lt (Remounting 0 clean) e refl in
@@ -168,11 +163,11 @@ module _ (tasks nodes : ℕ) (x : Stages) (h : Holds tasks nodes x) (t : ℕ) (l
       k.0 (clears_remount tasks x h.stages t lt 1 clean e) refl refl refl (shows.sb_same ∙ (rw (r, k.1) refl)))
   effect (CancelsRemount clean) x' (e, p) =
       let k : (x.stage ≡ 0) × (x.sb ≡ 0) = relies (Remounting 0 clean) e in
-      shown_at (CancelsRemount clean) x' _ p (flag_shown x.sb 0 (Remounting 0 clean) (Owning None None) (state_after s t (Some SbRw)) e
+      shown_at (CancelsRemount clean) x' _ p (flag_shown x.sb 0 (Remounting 0 clean) (Owning None None) (state_after s t (Some Action.SbRw)) e
       k.0 (clears_remount tasks x h.stages t lt 0 clean e) refl refl refl (rw k.1 refl))
   effect (SetsWritable sb) x' (e, p) =
       let r : x.remount ≡ 0 = own_remount tasks x h.stages t lt (Owning (Some 0) sb) e refl in
-      shown_at (SetsWritable sb) x' _ p (flag_shown 0 x.remount (Owning (Some 0) sb) (Owning None None) (state_after s t (Some SbRw)) e
+      shown_at (SetsWritable sb) x' _ p (flag_shown 0 x.remount (Owning (Some 0) sb) (Owning None None) (state_after s t (Some Action.SbRw)) e
       (relies (Owning (Some 0) sb) e).0 (sets_writable tasks x h.stages t lt sb e) refl refl refl (rw r refl))
   effect (ClearsMark node) x' (e, p) =
       shown_at (ClearsMark node) x' _ p (clearing_shows tasks

@@ -1,18 +1,15 @@
 -- What holds of every role, of the numbers that say how far a freeze has come, and of sums in which at most one place counts.
 use Rattle.std.proofs.Common.{◌≡◌, ℕ, zero, suc, ◌+◌, ◌*◌, ◌-◌, ◌/◌, ◌%◌, ◌<◌, ◌≤◌, Bool, true, false, refl, sym, inl, inr, arith, ap}
+use Rattle.std.proofs.lemmas.Bool.{le-leb, lt-leb, Decides.{nat_tests, eqb_tells}}
 use Rattle.std.specs.Prelude.{◌==◌, ◌&&◌, if◌then◌else◌}
-use Rattle.std.proofs.lemmas.Bool.{le-leb, lt-leb}
-use Rattle.std.proofs.lemmas.Bool.Decides.{nat_tests, eqb_tells}
-use Rattle.finite_sums.specs.Sums.{update, total}
-use Rattle.finite_sums.proofs.Totals.{update_off, each_updated, total_same, total_updated, total_zero, total_at}
-use Rattle.stage_laws.specs.Roles.{Place, Before, Closing, HasPassed, StageRole, Aside, Freezing, Reopening, bit, owns, freezes, reopens, has_position, remounts, closed_at, passed_at, closed_by, passed_by, up_to, closes, passes, sums, under_way, is_full, KnowsStage}
+use Rattle.finite_sums.{proofs.Totals.{update_off, each_updated, total_same, total_updated, total_zero, total_at}, specs.Sums.{update, total}}
+use Rattle.stage_laws.specs.Roles.{Place, Before, Closing, HasPassed, StageRole, Aside, Freezing, Reopening, bit, owns, freezes, reopens, has_position}
+use Rattle.stage_laws.specs.Roles.{remounts, closed_at, passed_at, passed_by, up_to, closes, passes, sums, under_way, is_full, KnowsStage}
 
--- a bit is 0 or 1
-bit_le : (b : Bool) → bit b ≤ 1
+pub bit_le : (b : Bool) → bit b ≤ 1
 bit_le true = omega arith
 bit_le false = omega arith
 
--- a task owns at most once
 pub owns_le : (r : StageRole) → owns r ≤ 1
 owns_le Aside = omega arith
 owns_le (Freezing stage place owner) = bit_le owner
@@ -24,35 +21,23 @@ owner_only Aside = omega arith
 owner_only (Freezing stage place owner) = omega arith
 owner_only r = omega arith
 
--- at a place no more is passed than closed, and that is at most the stage
 place_le : (stage : ℕ) (p : Place) → (passed_at stage p ≤ closed_at stage p) × (closed_at stage p ≤ stage)
 place_le stage Before = omega arith
 place_le stage Closing = omega arith
 place_le stage (HasPassed clean) = omega arith
 
--- a task passes no more levels than it closes
-pub passed_le : (r : StageRole) → passed_by r ≤ closed_by r
-passed_le (Freezing stage place owner) = (place_le stage place).0
-passed_le (Reopening closed) = omega arith
-passed_le r = omega arith
-
--- a number's levels are those up to it
 pub up_to_le : (i n : ℕ) → i ≤ n → up_to i n ≡ 1
 up_to_le i n h = rw (le-leb i n h) refl
 
--- and no other
 pub up_to_off : (i n : ℕ) → n < i → up_to i n ≡ 0
 up_to_off i n h = rw (lt-leb i n h) refl
 
--- a level counts at most once, and more levels hold no fewer
 pub up_to_grows : (i a b : ℕ) → a ≤ b → (up_to i a ≤ up_to i b) × (up_to i b ≤ 1)
 up_to_grows i a b h = grind (arith, nat_tests)
 
--- one level more is that level
 pub up_to_next : (i n : ℕ) → (i ≡ suc n → ⊥) → up_to i (suc n) ≡ up_to i n
 up_to_next i n h = grind (arith, nat_tests)
 
--- a number up to 3 is as many levels
 pub three : (n : ℕ) → n ≤ 3 → up_to 1 n + (up_to 2 n + up_to 3 n) ≡ n
 three zero h = refl
 three (suc zero) h = refl
@@ -60,13 +45,11 @@ three (suc (suc zero)) h = refl
 three (suc (suc (suc zero))) h = refl
 three (suc (suc (suc (suc n)))) h = absurd (omega (arith, h))
 
--- who has no position closes no level
 pub closes_le : (i : ℕ) → 1 ≤ i → (r : StageRole) → closes i r ≤ has_position r
 closes_le i low (Freezing stage place owner) = omega (arith, up_to_grows i (closed_at stage place) (closed_at stage place) (omega arith))
 closes_le i low (Reopening closed) = omega (arith, up_to_grows i closed closed (omega arith))
 closes_le i low r = omega (arith, up_to_off i 0 (omega (arith, low)))
 
--- a level that is closed and not passed is the one of the stage
 sums_one : (i stage : ℕ) → 1 ≤ i → (if i == stage then 1 else 0) + up_to i (stage - 1) ≡ up_to i stage
 sums_one i stage low = grind (arith, nat_tests, low)
 
@@ -77,7 +60,6 @@ parts i low (Freezing stage Closing owner) = sums_one i stage low
 parts i low (Freezing stage (HasPassed clean) owner) = omega arith
 parts i low r = omega arith
 
--- who opens levels knows the stage to be 0
 pub reopens_at : (stage sb : ℕ) (r : StageRole) → KnowsStage stage sb r → 0 < reopens r → stage ≡ 0
 reopens_at stage sb (Reopening closed) k h = k.0
 reopens_at stage sb r k h = absurd (omega (arith, h))
@@ -88,7 +70,6 @@ passed_three stage sb (Freezing known place owner) k h = omega (arith, place_le 
 passed_three stage sb (Reopening closed) k h = k.1
 passed_three stage sb r k h = omega arith
 
--- whether the stage is 1 to 3, as arithmetic
 pub way_is : (stage : ℕ) → stage ≤ 4 → under_way stage ≡ (stage % 4 + 3) / 4
 way_is zero h = refl
 way_is (suc zero) h = refl
@@ -97,7 +78,6 @@ way_is (suc (suc (suc zero))) h = refl
 way_is (suc (suc (suc (suc zero)))) h = refl
 way_is (suc (suc (suc (suc (suc n))))) h = absurd (omega (arith, h))
 
--- whether the file system is frozen as a whole, as arithmetic
 pub full_is : (stage sb : ℕ) → stage ≤ 4 → sb ≤ 1 → is_full stage sb ≡ stage / 4 - sb
 full_is zero sb h k = omega arith
 full_is (suc zero) sb h k = omega arith
@@ -108,7 +88,6 @@ full_is (suc (suc (suc (suc zero)))) (suc zero) h k = refl
 full_is (suc (suc (suc (suc zero)))) (suc (suc n)) h k = absurd (omega (arith, k))
 full_is (suc (suc (suc (suc (suc n))))) sb h k = absurd (omega (arith, h))
 
--- a level is shown as passed where its block is set and no sum counts
 pub passed_test : (b s : ℕ) → b ≤ 1 → (if b == 1 && s == 0 then 1 else 0) ≡ b - s
 passed_test b s h = grind (arith, nat_tests)
 
@@ -126,7 +105,6 @@ total_alone n t f lt none =
     total_same n _ _ (λ x lx. sym (each_updated (λ y w. w ≡ f y) (λ x. 0) t (f t) x refl (λ ne. sym (none x lx ne)))) in
     omega (arith, e, total_updated (λ w. w) n t (λ x. 0) (f t) lt, total_zero n)
 
--- what holds of levels 1 to 3 holds of each level
 pub at_level : (P : ℕ → Type 0) → P 1 × P 2 × P 3 → (i : ℕ) → 1 ≤ i → i ≤ 3 → P i
 at_level P h zero low high = absurd (omega (arith, low))
 at_level P h (suc zero) low high = h.0
@@ -134,36 +112,30 @@ at_level P h (suc (suc zero)) low high = h.1
 at_level P h (suc (suc (suc zero))) low high = h.2
 at_level P h (suc (suc (suc (suc i)))) low high = absurd (omega (arith, high))
 
--- a product of numbers that are not 0 is not 0
 pub nonzero : (a b : ℕ) → (a ≡ 0 → ⊥) → (b ≡ 0 → ⊥) → a * b ≡ 0 → ⊥
 nonzero zero b h k e = absurd (h refl)
 nonzero (suc a) zero h k e = absurd (k refl)
 nonzero (suc a) (suc b) h k e = absurd (omega (arith, e))
 
--- a stage with a freeze under way is at most 3
 pub stage_bound : (stage f : ℕ) → stage ≤ 4 → f ≤ 1 → (stage ≡ 4 → f ≡ 0) → stage * f ≤ 3
 stage_bound stage zero h k n = omega arith
 stage_bound stage (suc zero) h k n = elim (eqb_tells stage 4) [ inl e ↦ absurd (omega (arith, n e.1)) | inr e ↦ omega (arith, h, e.1) ]
 stage_bound stage (suc (suc f)) h k n = absurd (omega (arith, k))
 
--- who has no position has passed no level
 pub no_levels : (r : StageRole) → has_position r ≡ 0 → passed_by r ≡ 0
 no_levels (Freezing stage place owner) h = absurd (omega (arith, h))
 no_levels (Reopening closed) h = absurd (omega (arith, h))
 no_levels r h = refl
 
--- a level counts to a number as to the one below it, where it isn't that number
 pub up_to_below : (i n : ℕ) → 1 ≤ n → (i ≡ n → ⊥) → up_to i n ≡ up_to i (n - 1)
 up_to_below i zero h ne = absurd (omega (arith, h))
 up_to_below i (suc n) h ne = let e : suc n - 1 ≡ n = omega arith in rw e (up_to_next i n ne)
 
--- while the file system is frozen as a whole, each level counts, and else none
 pub full_levels : (i : ℕ) → 1 ≤ i → i ≤ 3 → (full : ℕ) → full ≤ 1 → 0 + full ≡ up_to i (3 * full)
 full_levels i low high zero le = sym (up_to_off i 0 low)
 full_levels i low high (suc zero) le = sym (up_to_le i 3 high)
 full_levels i low high (suc (suc n)) le = absurd (omega (arith, le))
 
--- who has a position has one
 pub some_position : (r : StageRole) → (has_position r ≡ 0 → ⊥) → has_position r ≡ 1
 some_position (Freezing stage place owner) h = refl
 some_position (Reopening closed) h = refl

@@ -1,23 +1,18 @@
 -- Each event keeps what holds of the marks of nodes.
-use Rattle.stage_laws.proofs.Facts.{owner_only}
-use Rattle.stage_laws.proofs.Positions.{way, who_freezes, passed_own, passed_is}
-use Rattle.finite_sums.proofs.Totals.{each_updated, total_at}
-use Rattle.std.proofs.Common.{◌≡◌, ℕ, suc, ◌+◌, ◌<◌, ◌≤◌, refl, inl, inr, arith, ◌%◌, ◌/◌, zero, ◌-◌}
-use Rattle.std.proofs.lemmas.Bool.Decides.{eqb_tells}
-use Rattle.finite_sums.specs.Sums.{update}
-use Rattle.stage_laws.specs.Roles.{StageRole, StagesHold, CleanBelow, MarksHold, Place, clean_by, KnowsStage, under_way, clean_at, remounts, freezes, passed_at, passed_by, HasPassed, has_position, Freezing, is_full, Remounting, Before, Closing}
-use Rattle.stage_laws.specs.Shown.{passed_shown}
+use Rattle.std.proofs.{Common.{◌≡◌, ℕ, suc, ◌+◌, ◌<◌, ◌≤◌, refl, inl, inr, arith, ◌%◌, ◌/◌, zero, ◌-◌}, lemmas.Bool.Decides.eqb_tells}
+use Rattle.finite_sums.{proofs.Totals.{each_updated, total_at}, specs.Sums.update}
+use Rattle.stage_laws.proofs.{Facts.owner_only, Positions.{way, who_freezes, passed_own, passed_is}}
 use Rattle.stage_laws.specs.Events.{Stages, Holds}
+use Rattle.stage_laws.specs.Roles.{StageRole, StagesHold, CleanBelow, MarksHold, Place, clean_by, KnowsStage, under_way, clean_at, remounts, freezes, passed_at}
+use Rattle.stage_laws.specs.Roles.{passed_by, HasPassed, has_position, Freezing, is_full, Remounting, Before, Closing}
+use Rattle.stage_laws.specs.Shown.{passed_shown}
 
--- clean nodes stay clean where one is cleaned
 still_clean : (n node : ℕ) (dirty : ℕ → ℕ) → CleanBelow n dirty → CleanBelow n (update dirty node 0)
 still_clean n node dirty h m lt = each_updated (λ y v. v ≡ 0) dirty node 0 m refl (λ ne. h m lt)
 
--- and one more is clean where the next one is cleaned
 pub one_more : (node : ℕ) (dirty : ℕ → ℕ) → CleanBelow node dirty → CleanBelow (suc node) (update dirty node 0)
 one_more node dirty h m lt = each_updated (λ y v. v ≡ 0) dirty node 0 m refl (λ ne. h m (omega (arith, lt, ne)))
 
--- a freeze that has cleared marks has passed level 2
 cleared_two : (stage : ℕ) (p : Place) → 0 < clean_at stage p → 2 ≤ passed_at stage p
 cleared_two zero p h = absurd (omega (arith, h))
 cleared_two (suc zero) p h = absurd (omega (arith, h))
@@ -25,13 +20,11 @@ cleared_two (suc (suc s)) (HasPassed clean) h = omega arith
 cleared_two (suc (suc s)) Before h = absurd (omega (arith, h))
 cleared_two (suc (suc s)) Closing h = absurd (omega (arith, h))
 
--- who has cleared marks is in such a freeze, or has `remount` set
 cleared_by : (r : StageRole) → 0 < clean_by r → remounts r ≡ 0 → (2 ≤ passed_by r) × (has_position r ≡ 1)
 cleared_by (Freezing stage place owner) h n = (cleared_two stage place h, refl)
 cleared_by (Remounting sb clean) h n = absurd (omega (arith, n))
 cleared_by r h n = absurd (omega (arith, h))
 
--- at stage 3 a freeze has passed level 2
 passed_third : (r : StageRole) (stage sb : ℕ) → KnowsStage stage sb r → freezes r ≡ 1 → stage ≡ 3 → 2 ≤ passed_by r
 passed_third (Freezing known Before owner) stage sb k f e = omega (arith, k, e)
 passed_third (Freezing known Closing owner) stage sb k f e = omega (arith, k, e)

@@ -1,35 +1,25 @@
 -- What follows at one moment: one owner, one position, and what the blocks and the levels passed are then.
-use Rattle.std.proofs.Common.{◌≡◌, ℕ, ◌+◌, ◌*◌, ◌-◌, ◌<◌, ◌≤◌, sym, ◌∙◌, subst, inl, inr, arith, ◌%◌, ◌/◌, ap}
-use Rattle.std.proofs.lemmas.Bool.Decides.{eqb_tells}
-use Rattle.finite_sums.specs.Sums.{total}
-use Rattle.finite_sums.proofs.Totals.{total_same, total_add, total_le, total_at, total_none, HasPlace, total_place}
-use Rattle.stage_laws.specs.Roles.{StageRole, owns, freezes, reopens, has_position, remounts, closes, passes, sums, passed_by, under_way, is_full, StagesHold, up_to}
+use Rattle.std.proofs.{Common.{◌≡◌, ℕ, ◌+◌, ◌*◌, ◌-◌, ◌<◌, ◌≤◌, sym, ◌∙◌, subst, inl, inr, arith, ◌%◌, ◌/◌, ap}, lemmas.Bool.Decides.eqb_tells}
+use Rattle.finite_sums.{proofs.Totals.{total_same, total_add, total_le, total_at, total_none, HasPlace, total_place}, specs.Sums.total}
+use Rattle.stage_laws.proofs.Facts.{owner_only, parts, closes_le, reopens_at, passed_three, three, way_is, full_is, passed_test, other_zero, total_alone}
+use Rattle.stage_laws.proofs.Facts.{nonzero, stage_bound, no_levels, full_levels, some_position}
+use Rattle.stage_laws.specs.Roles.{StageRole, owns, freezes, reopens, has_position, remounts, closes, passes, sums, passed_by, under_way, is_full, StagesHold}
+use Rattle.stage_laws.specs.Roles.{up_to}
 use Rattle.stage_laws.specs.Shown.{is_passed, passed_shown}
-use Rattle.stage_laws.proofs.Facts.{owner_only, parts, closes_le, reopens_at, passed_three, three, way_is, full_is, passed_test, other_zero, total_alone, nonzero, stage_bound, no_levels, full_levels, some_position}
 
 module _ (tasks stage sb remount : ℕ) (block : ℕ → ℕ) (at : ℕ → StageRole) (good : StagesHold tasks stage sb remount block at) where
   -- the stage as arithmetic: whether it is 1 to 3, and whether the file system is frozen as a whole
   pub way : (under_way stage ≡ (stage % 4 + 3) / 4) × (is_full stage sb ≡ stage / 4 - sb)
   way = (way_is stage good.stages, full_is stage sb good.stages good.superblock)
 
-  -- beside an owner nobody owns
   pub other_owns : (t : ℕ) → t < tasks → owns (at t) ≡ 1 → (u : ℕ) → u < tasks → (u ≡ t → ⊥) → owns (at u) ≡ 0
   other_owns t lt o = other_zero tasks t (λ y. owns (at y)) good.alone lt o
 
-  -- `remount` is as an owner has it
   pub remount_own : (t : ℕ) → t < tasks → owns (at t) ≡ 1 → remount ≡ remounts (at t)
   remount_own t lt o =
       good.remounting ∙
       total_alone tasks t (λ y. remounts (at y)) lt (λ u lu ne. omega (arith, owner_only (at u), other_owns t lt o u lu ne))
 
-  -- it is at most 1
-  pub remount_le : remount ≤ 1
-  remount_le =
-      let h : total tasks (λ t. remounts (at t)) ≤ total tasks (λ t. owns (at t)) =
-      total_le tasks _ _ (λ u lu. omega (arith, owner_only (at u))) in
-      omega (arith, good.remounting, good.alone, h)
-
-  -- if somebody opens levels the stage is 0, and at most one task does
   reopening : (stage * total tasks (λ t. reopens (at t)) ≡ 0) × (total tasks (λ t. reopens (at t)) ≤ 1)
   reopening =
       let le : total tasks (λ t. reopens (at t)) ≤ total tasks (λ t. owns (at t)) =
@@ -60,15 +50,12 @@ module _ (tasks stage sb remount : ℕ) (block : ℕ → ℕ) (at : ℕ → Stag
             omega (arith, a, z, way, good.freezing, reopening.1)
       ]
 
-  -- beside a position nobody has another
   pub other_position : (t : ℕ) → t < tasks → has_position (at t) ≡ 1 → (u : ℕ) → u < tasks → (u ≡ t → ⊥) → has_position (at u) ≡ 0
   other_position t lt p = other_zero tasks t (λ y. has_position (at y)) (omega (arith, one_position)) lt p
 
-  -- nor is the file system frozen as a whole
   pub not_full : (t : ℕ) → t < tasks → has_position (at t) ≡ 1 → is_full stage sb ≡ 0
   not_full t lt p = omega (arith, one_position, p, total_at tasks t (λ y. has_position (at y)) lt)
 
-  -- a block is as a task's position has it
   pub block_at : (t : ℕ) → t < tasks → has_position (at t) ≡ 1 → (i : ℕ) → 1 ≤ i → i ≤ 3 → block i ≡ closes i (at t)
   block_at t lt p i low high =
       let c : total tasks (λ y. closes i (at y)) ≡ closes i (at t) =
@@ -94,7 +81,6 @@ module _ (tasks stage sb remount : ℕ) (block : ℕ → ℕ) (at : ℕ → Stag
       let b : block i ≤ 1 = omega (arith, le, good.blocks i low high, one_position) in
       omega (arith, c, a, good.blocks i low high, passed_test (block i) (total tasks (λ t. sums i (at t))) b)
 
-  -- nobody passes more than 3 levels
   pub passed_bound : (t : ℕ) → t < tasks → passed_by (at t) ≤ 3
   passed_bound t lt = passed_three stage sb (at t) (good.knows t lt) (stage_bound stage (freezes (at t)) good.stages
       (omega (arith, owner_only (at t))) (λ e. omega (arith, e, way, good.freezing, total_at tasks t (λ y. freezes (at y)) lt)))
@@ -117,7 +103,6 @@ module _ (tasks stage sb remount : ℕ) (block : ℕ → ℕ) (at : ℕ → Stag
         passed_level 3 (omega arith) (omega arith),
       )
 
-  -- beside a task's position they are its own
   pub passed_own : (t : ℕ) → t < tasks → has_position (at t) ≡ 1 → passed_shown tasks block at ≡ passed_by (at t)
   passed_own t lt p =
       let c : total tasks (λ y. passed_by (at y)) ≡ passed_by (at t) =
@@ -128,7 +113,6 @@ module _ (tasks stage sb remount : ℕ) (block : ℕ → ℕ) (at : ℕ → Stag
   pub passed_idle : ((t : ℕ) → t < tasks → has_position (at t) ≡ 0) → passed_shown tasks block at ≡ 3 * is_full stage sb
   passed_idle none = omega (arith, passed_is, total_none tasks (λ y. passed_by (at y)) (λ u lu. no_levels (at u) (none u lu)))
 
-  -- at stages 1 to 3 somebody is in a freeze
   pub who_freezes : under_way stage ≡ 1 → (t : ℕ) × (t < tasks) × (freezes (at t) ≡ 1)
   who_freezes w =
       let p : HasPlace tasks (λ t. freezes (at t)) =
@@ -145,7 +129,6 @@ module _ (tasks stage sb remount : ℕ) (block : ℕ → ℕ) (at : ℕ → Stag
         | inr h ↦ omega (arith, f, owner_only (at u), other_owns t lt o u lu h.1)
       ]
 
-  -- at stage 4 nobody has a position
   pub nobody_at_four : stage ≡ 4 → (t : ℕ) → t < tasks → has_position (at t) ≡ 0
   nobody_at_four e t lt =
       let f : freezes (at t) ≡ 0 = omega (arith, e, way, good.freezing, total_at tasks t (λ y. freezes (at y)) lt) in

@@ -1,13 +1,12 @@
 -- Each event that changes a role keeps what holds of the stage.
-use Rattle.stage_laws.proofs.Positions.{block_at, way, remount_own}
-use Rattle.stage_laws.proofs.Facts.{full_is, up_to_le, way_is, up_to_off, up_to_next, up_to_below}
-use Rattle.finite_sums.proofs.Totals.{total_at, each_updated}
 use Rattle.std.proofs.Common.{◌≡◌, ℕ, suc, ◌+◌, ◌<◌, ◌≤◌, refl, sym, ap, ◌∙◌, subst, inl, inr, arith, ◌%◌, ◌/◌, ◌-◌}
 use Rattle.std.specs.Prelude.{Bool, true, Option, Some, None}
-use Rattle.finite_sums.specs.Sums.{update, total}
-use Rattle.stage_laws.specs.Roles.{StageRole, StagesHold, KnowsStage, under_way, freezes, has_position, Owning, Freezing, Reopening, Remounting, owns, closes, Before, HasPassed, remounts, closed_by, Closing, is_full, up_to, Aside}
+use Rattle.finite_sums.{proofs.Totals.{total_at, each_updated}, specs.Sums.{update, total}}
+use Rattle.stage_laws.proofs.{Changes.{any_event, others_know}, Facts.{full_is, up_to_le, way_is, up_to_off, up_to_next, up_to_below}}
+use Rattle.stage_laws.proofs.Positions.{block_at, way, remount_own}
 use Rattle.stage_laws.specs.Events.{Stages, playing}
-use Rattle.stage_laws.proofs.Changes.{any_event, others_know}
+use Rattle.stage_laws.specs.Roles.{StageRole, StagesHold, KnowsStage, under_way, freezes, has_position, Owning, Freezing, Reopening, Remounting, owns, closes}
+use Rattle.stage_laws.specs.Roles.{Before, HasPassed, remounts, closed_by, Closing, is_full, up_to, Aside}
 
 module _ (tasks : ℕ) (x : Stages) (good : StagesHold tasks x.stage x.sb x.remount x.block x.at) (t : ℕ) (lt : t < tasks) where
   -- the stage holds at a moment
@@ -18,7 +17,6 @@ module _ (tasks : ℕ) (x : Stages) (good : StagesHold tasks x.stage x.sb x.remo
   pub relied_on : (old : StageRole) → x.at t ≡ old → KnowsStage x.stage x.sb old
   relied_on old e = subst (KnowsStage x.stage x.sb) e (good.knows t lt)
 
-  -- the same about the stage as arithmetic
   pub ways : (under_way x.stage ≡ (x.stage % 4 + 3) / 4) × (is_full x.stage x.sb ≡ x.stage / 4 - x.sb)
   ways = way tasks x.stage x.sb x.remount x.block x.at good
 
@@ -93,7 +91,6 @@ module _ (tasks : ℕ) (x : Stages) (good : StagesHold tasks x.stage x.sb x.remo
         own = k;
       })
 
-  -- an owner's flag `remount` is its own
   pub own_remount : (old : StageRole) → x.at t ≡ old → owns old ≡ 1 → x.remount ≡ remounts old
   own_remount old e o = remount_own tasks x.stage x.sb x.remount x.block x.at good t lt (ap owns e ∙ o) ∙ ap remounts e
 
@@ -105,7 +102,6 @@ module _ (tasks : ℕ) (x : Stages) (good : StagesHold tasks x.stage x.sb x.remo
       omega (arith, f, ap freezes e, good.freezing, total_at tasks t (λ y. freezes (x.at y)) lt, ways, good.stages) in
       omega (arith, w, ways, good.stages, good.writable w)
 
-  -- where a task has a position, a block is as that has it
   pub own_block : (old : StageRole) → x.at t ≡ old → has_position old ≡ 1 → (i : ℕ) → 1 ≤ i → i ≤ 3 → x.block i ≡ closes i old
   own_block old e p i low high =
       block_at tasks x.stage x.sb x.remount x.block x.at good t lt (ap has_position e ∙ p) i low high ∙ ap (closes i) e
@@ -139,7 +135,6 @@ module _ (tasks : ℕ) (x : Stages) (good : StagesHold tasks x.stage x.sb x.remo
             good.superblock,
       ))
 
-  -- it is complete
   pub completes : (clean : ℕ) → x.at t ≡ Freezing 3 (HasPassed clean) true →
       StagesAt (playing (record x { stage = 4 }) t (Owning (Some 4) None))
   completes clean e =
@@ -149,7 +144,6 @@ module _ (tasks : ℕ) (x : Stages) (good : StagesHold tasks x.stage x.sb x.remo
       (λ h. b.3) (refl, tt)
       (λ i l h. omega (arith, ways, k, b.3, up_to_le i 3 h, up_to_off i 0 (omega (arith, l)), full_is 4 x.sb (omega arith) good.superblock))
 
-  -- it failed at its stage
   pub fails : (s clean : ℕ) → x.at t ≡ Freezing s (HasPassed clean) true → StagesAt (playing (record x { stage = 0 }) t (Reopening s))
   fails s clean e =
       let k : x.stage ≡ s = relied_on (Freezing s (HasPassed clean) true) e in
@@ -218,20 +212,17 @@ module _ (tasks : ℕ) (x : Stages) (good : StagesHold tasks x.stage x.sb x.remo
       stores_flags x.sb 1 (Owning (Some 0) (Some 0)) (Remounting 0 clean) e k.0 refl refl refl refl refl good.superblock
       (omega (arith, own_remount (Owning (Some 0) (Some 0)) e refl)) k
 
-  -- and the superblock's flag under it
   pub sets_read_only : (clean : ℕ) → x.at t ≡ Remounting 0 clean → StagesAt (playing (record x { sb = 1 }) t (Remounting 1 clean))
   sets_read_only clean e =
       let k : (x.stage ≡ 0) × (x.sb ≡ 0) = relied_on (Remounting 0 clean) e in
       stores_flags 1 x.remount (Remounting 0 clean) (Remounting 1 clean) e k.0 refl refl refl refl refl (omega arith) refl (k.0, refl)
 
-  -- and clears `remount`, after that or where the file system refused
   pub clears_remount : (b clean : ℕ) → x.at t ≡ Remounting b clean → StagesAt (playing (record x { remount = 0 }) t (Owning None None))
   clears_remount b clean e =
       let k : (x.stage ≡ 0) × (x.sb ≡ b) = relied_on (Remounting b clean) e in
       stores_flags x.sb 0 (Remounting b clean) (Owning None None) e k.0 refl refl refl refl refl good.superblock
       (omega (arith, own_remount (Remounting b clean) e refl)) (tt, tt)
 
-  -- a remount makes the superblock writable
   pub sets_writable : (b : Option ℕ) → x.at t ≡ Owning (Some 0) b → StagesAt (playing (record x { sb = 0 }) t (Owning None None))
   sets_writable b e =
       let z : x.stage ≡ 0 = (relied_on (Owning (Some 0) b) e).0 in
@@ -244,6 +235,5 @@ module _ (tasks : ℕ) (x : Stages) (good : StagesHold tasks x.stage x.sb x.remo
       turns (Freezing i Closing owner) (Freezing i (HasPassed clean) owner) e (omega (arith, good.alone)) refl refl refl
       (relied_on (Freezing i Closing owner) e)
 
-  -- an owner with no level left to open goes: its position ends
   pub releases_open : x.at t ≡ Reopening 0 → StagesAt (playing x t Aside)
   releases_open e = turns (Reopening 0) Aside e (omega (arith, good.alone)) refl refl refl tt

@@ -1,19 +1,20 @@
 -- What the stage says at one moment, and who moves it.
-use Rattle.stage_laws.proofs.EachEvent.{after_kind}
-use Rattle.stage_laws.proofs.Positions.{block_at, block_idle, not_full, one_position, other_position, passed_idle, passed_own, who_freezes, way, nobody_at_four, passed_in_order}
-use Rattle.stage_laws.proofs.Effects.{effect}
-use Rattle.stage_laws.proofs.StageLaws.{freeze_bound, relied_on}
-use Rattle.stage_laws.proofs.Allowed.{may}
-use Rattle.stage_laws.proofs.Facts.{up_to_off, freeze_role}
-use Rattle.std.proofs.Common.{◌≡◌, ℕ, ◌<◌, ◌≤◌, refl, sym, ap, ◌∙◌, inl, inr, arith}
+use Rattle.std.proofs.{Common.{◌≡◌, ℕ, ◌<◌, ◌≤◌, refl, sym, ap, ◌∙◌, inl, inr, arith}, lemmas.Bool.Decides.eqb_tells}
 use Rattle.std.specs.Prelude.{◌⊎◌, Bool, true, Option, Some}
-use Rattle.std.proofs.lemmas.Bool.Decides.{eqb_tells}
 use Rattle.finite_sums.proofs.Totals.{total_none, total_zero, total_at, HasPlace, total_place}
-use Rattle.stage_laws.specs.Roles.{StageRole, Aside, Owning, Remounting, Freezing, HasPassed, KnowsStage, Place, closes, freezes, has_position, is_full, remounts}
-use Rattle.stage_laws.specs.Events.{Stages, Holds, StageEvent, Happens, Advances, Begins, CancelsRemount, ClearsBlock, ClearsMark, ClearsMarkReadOnly, ClearsRemount, Completes, Fails, FreezesAtOnce, HoldsOne, LeavesOne, LetsGo, LoadsSb, LoadsStage, Locks, LocksAgain, MarksNode, Passes, Recalls, Releases, ReleasesOpen, SetsBlock, SetsReadOnly, SetsRemount, SetsWritable, Stays, Syncs, Thaws, ThawsAtOnce, WashesNode}
-use Rattle.stage_laws.specs.Laws.{opening, EventsKeep, ActionsAreAllowed, ActionsHaveTheirEffect, FreezeIsUnderWay, FreezeKeepsOthersOut, FrozenAsAWhole, OnlyTheFreezeMovesTheStage, OpenElsewhere, PositionsAreAlone, PositionsTellTheLevels, LevelsPassInOrder, NobodyAtStageFour}
+use Rattle.stage_laws.proofs.{Allowed.may, EachEvent.after_kind, Effects.effect, Facts.{up_to_off, freeze_role}}
+use Rattle.stage_laws.proofs.Positions.{block_at, block_idle, not_full, one_position, other_position, passed_idle, passed_own, who_freezes, way, nobody_at_four}
+use Rattle.stage_laws.proofs.Positions.{passed_in_order}
+use Rattle.stage_laws.proofs.StageLaws.{freeze_bound, relied_on}
+use Rattle.stage_laws.specs.Events.{Stages, Holds, StageEvent, Happens, Advances, Begins, CancelsRemount, ClearsBlock, ClearsMark, ClearsMarkReadOnly}
+use Rattle.stage_laws.specs.Events.{ClearsRemount, Completes, Fails, FreezesAtOnce, HoldsOne, LeavesOne, LetsGo, LoadsSb, LoadsStage, Locks, LocksAgain}
+use Rattle.stage_laws.specs.Events.{MarksNode, Passes, Recalls, Releases, ReleasesOpen, SetsBlock, SetsReadOnly, SetsRemount, SetsWritable, Stays, Syncs, Thaws}
+use Rattle.stage_laws.specs.Events.{ThawsAtOnce, WashesNode}
+use Rattle.stage_laws.specs.Laws.{opening, EventsKeep, ActionsAreAllowed, ActionsHaveTheirEffect, FreezeIsUnderWay, FreezeKeepsOthersOut, FrozenAsAWhole}
+use Rattle.stage_laws.specs.Laws.{OnlyTheFreezeMovesTheStage, OpenElsewhere, PositionsAreAlone, PositionsTellTheLevels, LevelsPassInOrder, NobodyAtStageFour}
+use Rattle.stage_laws.specs.Roles.{StageRole, Aside, Owning, Remounting, Freezing, HasPassed, KnowsStage, Place, closes, freezes, has_position, is_full}
+use Rattle.stage_laws.specs.Roles.{remounts}
 
--- everything holds where nothing is frozen and nobody has begun anything
 pub opening_is_right : (tasks nodes : ℕ) → Holds tasks nodes opening
 opening_is_right tasks nodes = record {
   stages = record {
@@ -29,20 +30,16 @@ opening_is_right tasks nodes = record {
   marks = record { frozen = λ e m lt. refl; read_only = λ e m lt. refl; cleared = λ t lt m l. refl };
 }
 
--- each event keeps what holds
 pub events_keep : EventsKeep
 events_keep tasks nodes x x' t kind step = after_kind tasks nodes x step.right t step.there kind x' step.happens
 
--- the action of each event is allowed
 pub actions_are_allowed : ActionsAreAllowed
 actions_are_allowed l x x' t kind step s shows action a asks =
     (step.there, may l x step.right t step.there s shows kind x' step.happens action a asks)
 
--- and has its effect
 pub actions_have_their_effect : ActionsHaveTheirEffect
 actions_have_their_effect tasks nodes x x' t kind step s shows = effect tasks nodes x step.right t step.there s shows kind x' step.happens
 
--- at stages 1 to 3 a freeze is under way
 pub freeze_is_under_way : FreezeIsUnderWay
 freeze_is_under_way tasks nodes x h low high =
     let w : (t : ℕ) × (t < tasks) × (freezes (x.at t) ≡ 1) =
@@ -52,7 +49,6 @@ freeze_is_under_way tasks nodes x h low high =
     freeze_role x.stage x.sb (x.at w.0) (h.stages.knows w.0 w.1) w.2 in
     (w.0, w.1, r.0, r.1, r.2)
 
--- a task that has `remount` set knows the stage to be 0
 remounts_at : (stage sb : ℕ) (r : StageRole) → KnowsStage stage sb r → (remounts r ≡ 0 → ⊥) → stage ≡ 0
 remounts_at stage sb (Remounting known clean) k h = k.0
 remounts_at stage sb r k h = absurd (h refl)
@@ -74,7 +70,6 @@ freeze_keeps_others_out tasks nodes x h t lt f =
       λ u sb lu q. absurd (omega (arith, b, (relied_on tasks x h.stages u lu (Owning (Some 0) sb) q).0)),
     )
 
--- a position is alone
 pub positions_are_alone : PositionsAreAlone
 positions_are_alone tasks nodes x h t lt p = (
   not_full tasks x.stage x.sb x.remount x.block x.at h.stages t lt p,
@@ -82,7 +77,6 @@ positions_are_alone tasks nodes x h t lt p = (
       t lt p,
 )
 
--- it tells what is closed and passed
 pub positions_tell_the_levels : PositionsTellTheLevels
 positions_tell_the_levels tasks nodes x h t lt p = (
   passed_own tasks x.stage x.sb x.remount x.block x.at h.stages t lt p,
@@ -114,15 +108,12 @@ frozen_as_a_whole tasks nodes x h =
           omega (arith, full, w, h.stages.stages, h.stages.superblock),
     )
 
--- at stage 4 nobody has a position
 pub nobody_at_stage_four : NobodyAtStageFour
 nobody_at_stage_four tasks nodes x h = nobody_at_four tasks x.stage x.sb x.remount x.block x.at h.stages
 
--- levels are passed in order
 pub levels_pass_in_order : LevelsPassInOrder
 levels_pass_in_order tasks nodes x h = passed_in_order tasks x.stage x.sb x.remount x.block x.at h.stages
 
--- elsewhere every level is open
 pub open_elsewhere : OpenElsewhere
 open_elsewhere tasks nodes x h none full = (
   omega (arith, full, passed_idle tasks x.stage x.sb x.remount x.block x.at h.stages none),
@@ -138,11 +129,9 @@ module _ (tasks nodes : ℕ) (x : Stages) (h : Holds tasks nodes x) (t : ℕ) (l
       let z : x.stage ≡ k = (relied_on tasks x h.stages t lt (Owning (Some k) b) e).0 in
       elim o [ inl q ↦ absurd (omega (arith, z, q, low)) | inr q ↦ absurd (omega (arith, z, q, high)) ]
 
-  -- and the task is in no freeze
   not_in : (C : Type 0) (s : ℕ) (p : Place) (o : Bool) → x.at t ≡ Freezing s p o → C
   not_in C s p o e = absurd (omega (arith, out, ap freezes e))
 
-  -- so the stage stays
   pub stage_stays : (kind : StageEvent) (x' : Stages) → Happens tasks nodes t x x' kind → x'.stage ≡ x.stage
   stage_stays Begins x' (e, p) = not_at 0 (Some 0) (x'.stage ≡ x.stage) e (inl refl)
   stage_stays (Advances clean) x' (e, p) = not_in (x'.stage ≡ x.stage) 1 (HasPassed clean) true e

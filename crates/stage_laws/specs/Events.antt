@@ -1,11 +1,10 @@
 -- The stage from event to event.
 use Rattle.std.specs.Prelude.{◌≡◌, ℕ, zero, suc, ◌<◌, ◌≤◌, Bool, true, false, Option, Some, None}
 use Rattle.finite_sums.specs.Sums.{update, total}
-use Rattle.access_model.specs.declared.actions.Action.{Action}
-use Rattle.access_model.specs.declared.actions.Action.TheVariants.{SbRo, SbRw, Stage, Hold, Leave, Pass, Reopen, Clean}
-use Rattle.access_model.specs.declared.actions.Holder.{Holder}
 use Rattle.access_model.specs.States.{Limits, State}
-use Rattle.stage_laws.specs.Roles.{Place, Before, Closing, HasPassed, StageRole, Aside, Owning, Remounting, Freezing, Reopening, owns, freezes, remounts, closed_by, passed_by, clean_by, KnowsStage, StagesHold, CleanBelow, MarksHold}
+use Rattle.access_model.specs.declared.actions.{Action.{Action, TheVariants.{SbRo, SbRw, Stage, Hold, Leave, Pass, Reopen, Clean}}, Holder.Holder}
+use Rattle.stage_laws.specs.Roles.{Place, Before, Closing, HasPassed, StageRole, Aside, Owning, Remounting, Freezing, Reopening, owns, freezes, remounts}
+use Rattle.stage_laws.specs.Roles.{closed_by, passed_by, clean_by, KnowsStage, StagesHold, CleanBelow, MarksHold}
 use Rattle.stage_laws.specs.Shown.{passed_shown, ShowsStages, ShowsMarks}
 
 -- One moment: the stage, the superblock's flag and `remount`, the block of each level, the mark of each node, and the roles.

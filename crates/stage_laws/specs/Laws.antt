@@ -1,14 +1,10 @@
 -- The laws of the stage.
-use Rattle.std.proofs.Common.{Bool}
-use Rattle.std.specs.Prelude.{◌≡◌, ℕ, ◌<◌, ◌≤◌, Option, Some, None, List, [], ◌∷◌}
-use Rattle.access_model.specs.declared.actions.Action.TheVariants.{Stage, Hold, Leave, Pass, Reopen, Clean}
-use Rattle.access_model.specs.declared.actions.Holder.TheVariants.{User}
-use Rattle.access_model.specs.declared.actions.Action.{Action}
-use Rattle.access_model.specs.States.{Limits, State}
-use Rattle.access_model.specs.Actions.{IsAllowed}
+use Rattle.std.{proofs.Common.Bool, specs.Prelude.{◌≡◌, ℕ, ◌<◌, ◌≤◌, Option, Some, None, List, [], ◌∷◌}}
+use Rattle.access_model.specs.{Actions.IsAllowed, States.{Limits, State}}
+use Rattle.access_model.specs.declared.actions.{Action.{Action, TheVariants.{Stage, Hold, Leave, Pass, Reopen, Clean}}, Holder.TheVariants.User}
+use Rattle.stage_laws.specs.Events.{Stages, Holds, Shows, StageEvent, Happens, action_of}
 use Rattle.stage_laws.specs.Roles.{Aside, Owning, freezes, has_position, closes, passed_by, is_full, Freezing, Place, up_to}
 use Rattle.stage_laws.specs.Shown.{is_passed, passed_shown, ShowsStages, AsksOthers, state_after}
-use Rattle.stage_laws.specs.Events.{Stages, Holds, Shows, StageEvent, Happens, action_of}
 
 -- nothing is frozen, no flag and no mark is set, and everybody is aside
 abbrev pub opening : Stages

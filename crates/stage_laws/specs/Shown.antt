@@ -1,12 +1,8 @@
 -- What the stage, the blocks and the flags show of the access model, and what its state after an event is to be.
 use Rattle.std.specs.Prelude.{◌≡◌, ℕ, ◌+◌, ◌<◌, ◌==◌, ◌&&◌, ◌||◌, if◌then◌else◌, zero, true, false, Option, Some, None}
 use Rattle.finite_sums.specs.Sums.{total}
-use Rattle.access_model.specs.declared.actions.Action.{Action}
-use Rattle.access_model.specs.declared.actions.Action.TheVariants.{SbRo, Stage, Hold, Leave, Pass, Clean}
-use Rattle.access_model.specs.declared.actions.Gate.TheVariants.{Mount, Level}
-use Rattle.access_model.specs.Holders.{held_by, is_unheld}
-use Rattle.access_model.specs.States.{Limits, State, NobodyHolds, IsFile, is_dirty, NoneRemoved}
-use Rattle.access_model.specs.Actions.{after_action}
+use Rattle.access_model.specs.{Actions.after_action, Holders.{held_by, is_unheld}, States.{Limits, State, NobodyHolds, IsFile, is_dirty, NoneRemoved}}
+use Rattle.access_model.specs.declared.actions.{Action.{Action, TheVariants.{SbRo, Stage, Hold, Leave, Pass, Clean}}, Gate.TheVariants.{Mount, Level}}
 use Rattle.stage_laws.specs.Roles.{StageRole, sums}
 
 -- 1 where a level's `block` is set and no task is still closing it

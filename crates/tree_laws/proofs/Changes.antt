@@ -1,48 +1,39 @@
 -- The compare-exchanges of node words that found what was loaded. Each says what the tree keeps and which action it is.
-use Rattle.std.proofs.Common.{◌≡◌, ℕ, Bool, true, false, ◌+◌, ◌-◌, ◌%◌, ◌<◌, ◌≤◌, refl, sym, ap, ◌∙◌, subst, inl, inr, arith}
+use Rattle.std.proofs.{Common.{◌≡◌, ℕ, Bool, true, false, ◌+◌, ◌-◌, ◌%◌, ◌<◌, ◌≤◌, refl, sym, ap, ◌∙◌, subst, inl, inr, arith}, lemmas.Bool.{eq-eqb, ne_eqb}}
 use Rattle.std.specs.Prelude.{◌⊎◌, ◌==◌, ◌&&◌, if◌then◌else◌, Some, None, option_map}
-use Rattle.std.proofs.lemmas.Bool.{eq-eqb, ne_eqb}
-use Rattle.finite_sums.specs.Sums.{update, total}
-use Rattle.finite_sums.proofs.Totals.{update_map, update_same, total_at}
-use Rattle.access_model.specs.declared.actions.Kind.{Kind}
-use Rattle.access_model.specs.declared.actions.Kind.TheVariants.{File, Dir}
-use Rattle.access_model.specs.declared.actions.NodeInfo.{NodeInfo}
-use Rattle.access_model.specs.declared.actions.Action.TheVariants.{Create, Remove, Grow, MoveTo, Dirty, Clean, Open, Close}
-use Rattle.access_model.specs.States.{size_of, is_dirty, is_removed, one_if, IsFile, IsLinkedFile, IsDirectory}
+use Rattle.finite_sums.{proofs.Totals.{update_map, update_same, total_at}, specs.Sums.{update, total}}
 use Rattle.access_model.specs.Actions.{grown, moved, marked, unlinked, after_remove}
-use Rattle.gated_tree.specs.declared.nodes.NodeWord.{NodeWord}
-use Rattle.gated_tree.specs.Nodes.{IsLawful, opens_in, word_of, info_of, node_shown, new_node, grown_node, moved_node, marked_node, opened_node, closed_node, unlinked_node}
-use Rattle.gated_tree.specs.Trees.{is_same, has_parent}
-use Rattle.gated_tree.specs.Roles.{Role, Out, Loaded, Placing, Moving, Charged, Freed, Returning, Removing, Freeing, Dropped, Bounds, TreeState, AreWithin, charge, child_charge, removal, frees, IsFileNode, IsLastOpen, MayGrow, IsDirectoryAt, HasParent, RoleHolds, TreeHolds, NobodyReads, MayDirty, NobodyElseFrees}
+use Rattle.access_model.specs.States.{size_of, is_dirty, is_removed, one_if, IsFile, IsLinkedFile, IsDirectory}
+use Rattle.access_model.specs.declared.actions.{Action.Action, Kind.Kind, NodeInfo.NodeInfo}
 use Rattle.gated_tree.proofs.Words.{word_shows, word_opens, file_is_node, lawful_file, new_is_node, free_is_node}
-use Rattle.tree_laws.specs.Events.{with_node, tree_shown, opens_shown, TreeDoes, MayClean}
-use Rattle.tree_laws.proofs.Laws.{role_says, not_freed, node_changes}
+use Rattle.gated_tree.specs.Nodes.{IsLawful, opens_in, word_of, info_of, node_shown, new_node, grown_node, moved_node, marked_node, opened_node, closed_node}
+use Rattle.gated_tree.specs.Nodes.{unlinked_node}
+use Rattle.gated_tree.specs.Roles.{Role, Out, Loaded, Placing, Moving, Charged, Freed, Returning, Removing, Freeing, Dropped, Bounds, TreeState, AreWithin}
+use Rattle.gated_tree.specs.Roles.{charge, child_charge, removal, frees, IsFileNode, IsLastOpen, MayGrow, IsDirectoryAt, HasParent, RoleHolds, TreeHolds}
+use Rattle.gated_tree.specs.Roles.{NobodyReads, MayDirty, NobodyElseFrees}
+use Rattle.gated_tree.specs.{Trees.{is_same, has_parent}, declared.nodes.NodeWord.NodeWord}
+use Rattle.tree_laws.{proofs.Laws.{role_says, not_freed, node_changes}, specs.Events.{with_node, tree_shown, opens_shown, TreeDoes, MayClean}}
 
 -- a file, as the model has it
 abbrev pub file_info : NodeWord → NodeInfo
-file_info file = record { kind = File; parent = file.parent; size = file.size; dirty = file.dirty; removed = file.removed }
+file_info file = record { kind = Kind.File; parent = file.parent; size = file.size; dirty = file.dirty; removed = file.removed }
 
--- the word of a file shows it
-pub file_shows : (file : NodeWord) → file.kind ≡ Some File → file.parent < 64 → file.opens ≤ 64 →
+pub file_shows : (file : NodeWord) → file.kind ≡ Some Kind.File → file.parent < 64 → file.opens ≤ 64 →
     node_shown (word_of file) ≡ Some (file_info file)
 file_shows file kind parent few = word_shows file parent few ∙ ap (λ k. info_of (record file { kind = k })) kind
 
--- a word that as many tasks have open leaves how many have each open
 pub opens_kept : (node : ℕ → ℕ) (n w : ℕ) → opens_in w ≡ opens_in (node n) → opens_shown (update node n w) ≡ opens_shown node
 opens_kept node n w e = update_map opens_in node n w ∙ ap (update (opens_shown node) n) e ∙ update_same (opens_shown node) n
 
--- a file's word is replaced, and so the shown tree has what the action makes of the file
 file_replaced : (node : ℕ → ℕ) (n : ℕ) (old new : NodeWord) (to : NodeInfo → NodeInfo) → node_shown (node n) ≡ Some (file_info old) →
     node_shown (word_of new) ≡ Some (file_info new) → to (file_info old) ≡ file_info new →
     tree_shown (update node n (word_of new)) ≡ update (tree_shown node) n (option_map to (tree_shown node n))
 file_replaced node n old new to before after same =
     update_map node_shown node n (word_of new) ∙ ap (update (tree_shown node) n) (after ∙ sym (ap (option_map to) before ∙ ap Some same))
 
--- a word that shows the same leaves the shown tree
 same_shown : (node : ℕ → ℕ) (n w : ℕ) → node_shown w ≡ node_shown (node n) → tree_shown (update node n w) ≡ tree_shown node
 same_shown node n w e = update_map node_shown node n w ∙ ap (update (tree_shown node) n) e ∙ update_same (tree_shown node) n
 
--- two tests of which the second isn't passed
 both_false : (a b : Bool) → b ≡ false → (a && b) ≡ false
 both_false true b e = e
 both_false false b e = refl
@@ -50,7 +41,7 @@ both_false false b e = refl
 module _ (c : Bounds) (s : TreeState) (good : TreeHolds c s) (t : ℕ) (lt : t < c.tasks) where
   -- what is known of a file whose node is as it was loaded
   record IsThere (n : ℕ) (file : NodeWord) : Type 0 where
-    kind : file.kind ≡ Some File
+    kind : file.kind ≡ Some Kind.File
     narrow : file.parent < 64
     shows : node_shown (s.node n) ≡ Some (file_info file)
     few : file.opens ≤ 64
@@ -81,16 +72,14 @@ module _ (c : Bounds) (s : TreeState) (good : TreeHolds c s) (t : ℕ) (lt : t <
         );
       }
 
-  -- a file that is there is one that wasn't removed
   is_linked : (n : ℕ) (file : NodeWord) → IsThere n file → IsLinkedFile (node_shown (s.node n))
   is_linked n file there = subst IsLinkedFile (sym there.shows) (refl, there.linked)
 
-  -- nobody is to free a file that wasn't removed
   nobody_frees : (n : ℕ) (file : NodeWord) → IsThere n file → (u : ℕ) → u < c.tasks → (u ≡ t → ⊥) → frees n (s.at u) ≡ 1 → ⊥
   nobody_frees n file there u lu ne = not_freed c s good t lt n u lu (inl (ap is_removed there.shows ∙ there.linked))
 
   -- a file stays a file that wasn't removed, with other fields
-  file_changes : (n : ℕ) (old new : NodeWord) (r : Role) → n < c.nodes → IsThere n old → new.kind ≡ Some File → new.parent < 64 →
+  file_changes : (n : ℕ) (old new : NodeWord) (r : Role) → n < c.nodes → IsThere n old → new.kind ≡ Some Kind.File → new.parent < 64 →
       new.opens ≤ 64 → new.removed ≡ false →
       new.size < 4294967296 → IsDirectoryAt c.nodes s.node new.parent →
       new.size + charge r ≡ old.size + charge (s.at t) → removal r ≡ removal (s.at t) →
@@ -106,7 +95,7 @@ module _ (c : Bounds) (s : TreeState) (good : TreeHolds c s) (t : ℕ) (lt : t <
       ap (has_parent d) there.shows ∙ ap (λ b. if b then 0 else is_same old.parent d) there.linked in
       node_changes c s good t lt n (word_of new) r ln
       (λ e.
-      let wrong : File ≡ Dir = subst IsDirectory there.shows e in
+      let wrong : Kind.File ≡ Kind.Dir = subst IsDirectory there.shows e in
       absurd cc)
       (file_is_node new kind narrow few linked small) (subst (HasParent c.nodes s.node) (sym shows) dir)
       (omega (arith, ap size_of shows, ap size_of there.shows, size))
@@ -118,7 +107,7 @@ module _ (c : Bounds) (s : TreeState) (good : TreeHolds c s) (t : ℕ) (lt : t <
   -- a create takes a free node
   pub creates : (n d : ℕ) (kind : Kind) → AreWithin c → NobodyReads c s → s.at t ≡ Placing d → n < c.nodes → s.node n ≡ 0 →
       TreeHolds c (with_node s n (word_of (new_node kind d)) t Out) ×
-      TreeDoes c s.node (update s.node n (word_of (new_node kind d))) (Create n d kind)
+      TreeDoes c s.node (update s.node n (word_of (new_node kind d))) (Action.Create n d kind)
   creates n d kind within quiet is ln free =
       let h : IsDirectoryAt c.nodes s.node d = role_says c s good t lt (Placing d) is in
       let narrow : d < 64 = omega (arith, h.0, within.nodes) in
@@ -138,10 +127,9 @@ module _ (c : Bounds) (s : TreeState) (good : TreeHolds c s) (t : ℕ) (lt : t <
         },
       )
 
-  -- a remove frees its file
   pub removes : (file : NodeWord) (n : ℕ) → AreWithin c → NobodyReads c s → s.at t ≡ Loaded file → n < c.nodes → s.node n ≡ word_of file →
       file.opens ≡ 0 →
-      TreeHolds c (with_node s n 0 t (Freed file.size file.parent)) × TreeDoes c s.node (update s.node n 0) (Remove n)
+      TreeHolds c (with_node s n 0 t (Freed file.size file.parent)) × TreeDoes c s.node (update s.node n 0) (Action.Remove n)
   removes file n within quiet is ln found closed =
       let h : IsFileNode c.nodes file = role_says c s good t lt (Loaded file) is in
       let there : IsThere n file = is_there n file within h ln found in
@@ -150,7 +138,7 @@ module _ (c : Bounds) (s : TreeState) (good : TreeHolds c s) (t : ℕ) (lt : t <
       let none : opens_in (s.node n) ≡ 0 = there.opens ∙ closed in (
         node_changes c s good t lt n 0 (Freed file.size file.parent) ln
             (λ e.
-            let wrong : File ≡ Dir = subst IsDirectory there.shows e in
+            let wrong : Kind.File ≡ Kind.Dir = subst IsDirectory there.shows e in
             absurd cc) free_is_node tt
             (omega (arith, ap size_of there.shows, ap charge is))
             (λ d. omega (arith, stood d, ap (child_charge d) is))
@@ -164,11 +152,10 @@ module _ (c : Bounds) (s : TreeState) (good : TreeHolds c s) (t : ℕ) (lt : t <
         },
       )
 
-  -- a remove marks its file, which is open
   pub marks_removed : (file : NodeWord) (n : ℕ) → AreWithin c → NobodyReads c s → s.at t ≡ Removing file → n < c.nodes →
       s.node n ≡ word_of file →
       TreeHolds c (with_node s n (word_of (unlinked_node file)) t (Returning file.parent)) ×
-      TreeDoes c s.node (update s.node n (word_of (unlinked_node file))) (Remove n)
+      TreeDoes c s.node (update s.node n (word_of (unlinked_node file))) (Action.Remove n)
   marks_removed file n within quiet is ln found =
       let h : IsFileNode c.nodes file × (1 ≤ file.opens) = role_says c s good t lt (Removing file) is in
       let there : IsThere n file = is_there n file within h.0 ln found in
@@ -179,11 +166,11 @@ module _ (c : Bounds) (s : TreeState) (good : TreeHolds c s) (t : ℕ) (lt : t <
       let lawful : IsLawful new = record {
         parent = there.narrow;
         free = λ e.
-            let wrong : Some File ≡ None = sym there.kind ∙ e in
+            let wrong : Some Kind.File ≡ None = sym there.kind ∙ e in
             absurd cc;
         few = there.few;
         closed = λ e.
-            let wrong : Some File ≡ Some Dir = sym there.kind ∙ e in
+            let wrong : Some Kind.File ≡ Some Kind.Dir = sym there.kind ∙ e in
             absurd cc;
         marked = λ e. (there.kind, refl, h.1);
       } in
@@ -191,7 +178,7 @@ module _ (c : Bounds) (s : TreeState) (good : TreeHolds c s) (t : ℕ) (lt : t <
       let open_still : (opens_in (s.node n) == 0) ≡ false = ne_eqb (opens_in (s.node n)) 0 (λ e. absurd (omega (arith, e, there.opens, h.1))) in (
         node_changes c s good t lt n (word_of new) (Returning file.parent) ln
             (λ e.
-            let wrong : File ≡ Dir = subst IsDirectory there.shows e in
+            let wrong : Kind.File ≡ Kind.Dir = subst IsDirectory there.shows e in
             absurd cc) (lawful_file new there.kind lawful (omega (arith, there.size, within.capacity)))
             (subst (HasParent c.nodes s.node) (sym shows) there.parent)
             (omega (arith, ap size_of shows, ap size_of there.shows, ap charge is))
@@ -210,7 +197,7 @@ module _ (c : Bounds) (s : TreeState) (good : TreeHolds c s) (t : ℕ) (lt : t <
   pub grows : (file : NodeWord) (b n : ℕ) → AreWithin c → NobodyReads c s → MayDirty c s → s.at t ≡ Charged file b → n < c.nodes →
       s.node n ≡ word_of file →
       TreeHolds c (with_node s n (word_of (grown_node b file)) t Out) × TreeDoes c s.node (update s.node n (word_of (grown_node b file)))
-      (Grow n b)
+      (Action.Grow n b)
   grows file b n within quiet may is ln found =
       let h : MayGrow c file b = role_says c s good t lt (Charged file b) is in
       let there : IsThere n file = is_there n file within h.loaded ln found in
@@ -224,7 +211,7 @@ module _ (c : Bounds) (s : TreeState) (good : TreeHolds c s) (t : ℕ) (lt : t <
           allowed = (ln, is_linked n file there, h.some, omega (arith, good.blocks, good.room, least, ap charge is));
           effect =
               file_replaced s.node n file (grown_node b file) (grown b) there.shows (file_shows (grown_node b file) there.kind there.narrow there.few)
-              (λ j. record { kind = File; parent = file.parent; size = sym fits j; dirty = true; removed = file.removed });
+              (λ j. record { kind = Kind.File; parent = file.parent; size = sym fits j; dirty = true; removed = file.removed });
           opens = opens_kept s.node n (word_of (grown_node b file))
               (word_opens (grown_node b file) there.narrow there.few ∙ sym there.opens);
         },
@@ -234,7 +221,7 @@ module _ (c : Bounds) (s : TreeState) (good : TreeHolds c s) (t : ℕ) (lt : t <
   pub moves_to : (file : NodeWord) (d n : ℕ) → AreWithin c → NobodyReads c s → s.at t ≡ Moving file d → n < c.nodes →
       s.node n ≡ word_of file →
       TreeHolds c (with_node s n (word_of (moved_node d file)) t (Returning file.parent)) ×
-      TreeDoes c s.node (update s.node n (word_of (moved_node d file))) (MoveTo n d)
+      TreeDoes c s.node (update s.node n (word_of (moved_node d file))) (Action.MoveTo n d)
   moves_to file d n within quiet is ln found =
       let h : IsFileNode c.nodes file × IsDirectoryAt c.nodes s.node d = role_says c s good t lt (Moving file d) is in
       let there : IsThere n file = is_there n file within h.0 ln found in
@@ -254,7 +241,7 @@ module _ (c : Bounds) (s : TreeState) (good : TreeHolds c s) (t : ℕ) (lt : t <
   pub dirties : (file : NodeWord) (n : ℕ) → AreWithin c → NobodyReads c s → MayDirty c s → s.at t ≡ Loaded file → n < c.nodes →
       s.node n ≡ word_of file →
       TreeHolds c (with_node s n (word_of (marked_node true file)) t Out) ×
-      TreeDoes c s.node (update s.node n (word_of (marked_node true file))) (Dirty n)
+      TreeDoes c s.node (update s.node n (word_of (marked_node true file))) (Action.Dirty n)
   dirties file n within quiet may is ln found =
       let h : IsFileNode c.nodes file = role_says c s good t lt (Loaded file) is in
       let there : IsThere n file = is_there n file within h ln found in (
@@ -272,11 +259,12 @@ module _ (c : Bounds) (s : TreeState) (good : TreeHolds c s) (t : ℕ) (lt : t <
       )
 
   -- a file's mark is cleared, by a task whose charges stay
-  pub unmarks : (file : NodeWord) (n : ℕ) (r : Role) → AreWithin c → IsFileNode c.nodes file → MayClean c s → charge r ≡ charge (s.at t) → removal r ≡ removal (s.at t) →
+  pub unmarks : (file : NodeWord) (n : ℕ) (r : Role) → AreWithin c → IsFileNode c.nodes file → MayClean c s → charge r ≡ charge (s.at t) →
+      removal r ≡ removal (s.at t) →
       ((d : ℕ) → child_charge d r ≡ child_charge d (s.at t)) → n < c.nodes → s.node n ≡ word_of file →
       RoleHolds c s.used s.removed (update s.node n (word_of (marked_node false file))) s.kids r →
       TreeHolds c (with_node s n (word_of (marked_node false file)) t r) ×
-      TreeDoes c s.node (update s.node n (word_of (marked_node false file))) (Clean n)
+      TreeDoes c s.node (update s.node n (word_of (marked_node false file))) (Action.Clean n)
   unmarks file n r within h may e same k ln found own =
       let there : IsThere n file = is_there n file within h ln found in
       let still : s.sealed ≡ 1 → file_info (marked_node false file) ≡ file_info file =
@@ -297,19 +285,17 @@ module _ (c : Bounds) (s : TreeState) (good : TreeHolds c s) (t : ℕ) (lt : t <
         },
       )
 
-  -- a flush
   pub flushes : (file : NodeWord) (n : ℕ) → AreWithin c → MayClean c s → s.at t ≡ Loaded file → n < c.nodes → s.node n ≡ word_of file →
       TreeHolds c (with_node s n (word_of (marked_node false file)) t Out) ×
-      TreeDoes c s.node (update s.node n (word_of (marked_node false file))) (Clean n)
+      TreeDoes c s.node (update s.node n (word_of (marked_node false file))) (Action.Clean n)
   flushes file n within may is ln found =
       unmarks file n Out within (role_says c s good t lt (Loaded file) is) may (sym (ap charge is)) (sym (ap removal is)) (λ d. sym (ap (child_charge d) is)) ln
       found tt
 
-  -- an open
   pub opens_file : (file : NodeWord) (n : ℕ) → AreWithin c → s.at t ≡ Loaded file → n < c.nodes → s.node n ≡ word_of file →
       file.opens < 64 →
       TreeHolds c (with_node s n (word_of (opened_node file)) t Out) ×
-      TreeDoes c s.node (update s.node n (word_of (opened_node file))) (Open n)
+      TreeDoes c s.node (update s.node n (word_of (opened_node file))) (Action.Open n)
   opens_file file n within is ln found room =
       let h : IsFileNode c.nodes file = role_says c s good t lt (Loaded file) is in
       let there : IsThere n file = is_there n file within h ln found in
@@ -329,15 +315,15 @@ module _ (c : Bounds) (s : TreeState) (good : TreeHolds c s) (t : ℕ) (lt : t <
       )
 
   -- a file that a close has loaded, removed or not
-  closing_shows : (n : ℕ) (file : NodeWord) → s.node n ≡ word_of file → file.kind ≡ Some File → IsLawful file →
+  closing_shows : (n : ℕ) (file : NodeWord) → s.node n ≡ word_of file → file.kind ≡ Some Kind.File → IsLawful file →
       node_shown (s.node n) ≡ Some (file_info file)
   closing_shows n file found kind lawful = ap node_shown found ∙ file_shows file kind lawful.parent lawful.few
 
   -- a close of a file that stays
-  pub closes_file : (file : NodeWord) (n : ℕ) → AreWithin c → s.at t ≡ Out → n < c.nodes → s.node n ≡ word_of file → file.kind ≡ Some File →
+  pub closes_file : (file : NodeWord) (n : ℕ) → AreWithin c → s.at t ≡ Out → n < c.nodes → s.node n ≡ word_of file → file.kind ≡ Some Kind.File →
       IsLawful file → 1 ≤ file.opens → (file.removed ≡ false) ⊎ (2 ≤ file.opens) →
       TreeHolds c (with_node s n (word_of (closed_node file)) t Out) ×
-      TreeDoes c s.node (update s.node n (word_of (closed_node file))) (Close n)
+      TreeDoes c s.node (update s.node n (word_of (closed_node file))) (Action.Close n)
   closes_file file n within is ln found kind lawful some stays =
       let new : NodeWord = closed_node file in
       let less : new.opens + 1 ≡ file.opens = omega (arith, some) in
@@ -348,11 +334,11 @@ module _ (c : Bounds) (s : TreeState) (good : TreeHolds c s) (t : ℕ) (lt : t <
       let still : IsLawful new = record {
         parent = lawful.parent;
         free = λ e.
-            let wrong : Some File ≡ None = sym kind ∙ e in
+            let wrong : Some Kind.File ≡ None = sym kind ∙ e in
             absurd cc;
         few = few;
         closed = λ e.
-            let wrong : Some File ≡ Some Dir = sym kind ∙ e in
+            let wrong : Some Kind.File ≡ Some Kind.Dir = sym kind ∙ e in
             absurd cc;
         marked = λ e.
             let m = lawful.marked e in (
@@ -385,7 +371,7 @@ module _ (c : Bounds) (s : TreeState) (good : TreeHolds c s) (t : ℕ) (lt : t <
       ] in (
         node_changes c s good t lt n (word_of new) Out ln
             (λ e.
-            let wrong : File ≡ Dir = subst IsDirectory shown e in
+            let wrong : Kind.File ≡ Kind.Dir = subst IsDirectory shown e in
             absurd cc) (lawful_file new kind still (omega (arith, small, within.capacity)))
             (subst (HasParent c.nodes s.node) (sym shows) (good.parents n ln))
             (omega (arith, ap size_of shows, ap charge is))
@@ -401,9 +387,8 @@ module _ (c : Bounds) (s : TreeState) (good : TreeHolds c s) (t : ℕ) (lt : t <
         },
       )
 
-  -- a last close frees its node
   pub frees_file : (file : NodeWord) (n : ℕ) → AreWithin c → NobodyReads c s → NobodyElseFrees c s t n → s.at t ≡ Freeing n file →
-      TreeHolds c (with_node s n 0 t (Dropped file.size)) × TreeDoes c s.node (update s.node n 0) (Close n)
+      TreeHolds c (with_node s n 0 t (Dropped file.size)) × TreeDoes c s.node (update s.node n 0) (Action.Close n)
   frees_file file n within quiet alone is =
       let h : (n < c.nodes) × IsLastOpen s.node n file = role_says c s good t lt (Freeing n file) is in
       let one : file.opens ≤ 64 = omega (arith, h.1.opens) in
@@ -416,7 +401,7 @@ module _ (c : Bounds) (s : TreeState) (good : TreeHolds c s) (t : ℕ) (lt : t <
       rw (gone, eq-eqb (opens_in (s.node n)) 1 counted) refl in (
         node_changes c s good t lt n 0 (Dropped file.size) h.0
             (λ e.
-            let wrong : File ≡ Dir = subst IsDirectory shown e in
+            let wrong : Kind.File ≡ Kind.Dir = subst IsDirectory shown e in
             absurd cc) free_is_node tt
             (omega (arith, ap size_of shown, ap charge is))
             (λ d. omega (arith, stood d, ap (child_charge d) is))

@@ -1,96 +1,57 @@
 -- A clearing of the dirty marks; the tree is sealed and opened again; a snapshot; what holds where nothing is charged.
 use Rattle.std.proofs.Common.{◌≡◌, ℕ, suc, ◌+◌, ◌-◌, ◌<◌, ◌≤◌, false, sym, ap, ◌∙◌, subst, inl, inr, arith}
+use Rattle.std.proofs.lemmas.Bool.{ne_eqb, lt-ltb, le-ltb, Decides.eqb_tells}
 use Rattle.std.specs.Prelude.{Option, Some, None}
-use Rattle.std.proofs.lemmas.Bool.{ne_eqb, lt-ltb, le-ltb}
-use Rattle.std.proofs.lemmas.Bool.Decides.{eqb_tells}
-use Rattle.finite_sums.specs.Sums.{update}
-use Rattle.finite_sums.proofs.Totals.{update_same, each_updated, total_none, total_same}
-use Rattle.access_model.specs.declared.actions.Action.TheVariants.{Clean}
-use Rattle.access_model.specs.declared.actions.NodeInfo.{NodeInfo}
-use Rattle.access_model.specs.States.{size_of, is_dirty, IsDirectory}
-use Rattle.gated_tree.specs.declared.nodes.NodeWord.{NodeWord}
+use Rattle.finite_sums.{proofs.Totals.{update_same, each_updated, total_none, total_same}, specs.Sums.update}
+use Rattle.access_model.specs.{States.{size_of, is_dirty, IsDirectory}, declared.actions.{Action.Action, NodeInfo.NodeInfo}}
+use Rattle.gated_tree.proofs.{ClearedMarks.{clean_stays, cleared_is, marked_file, file_shown, directory_clean}, Packing.word_returns, Words.dirty_shown}
 use Rattle.gated_tree.specs.Nodes.{dirty_in, removed_in, kind_in, kind_of, word_of, node_of, node_shown, marked_node}
-use Rattle.gated_tree.specs.Trees.{is_child, HasDirectory, IsSound, IsClean}
-use Rattle.gated_tree.specs.Roles.{Out, Clearing, Reading, Bounds, TreeState, AreWithin, charge, child_charge, removal, tree_word, seen_as, IsFileNode, HasParent, TreeHolds}
-use Rattle.gated_tree.proofs.Packing.{word_returns}
-use Rattle.gated_tree.proofs.Words.{dirty_shown}
-use Rattle.gated_tree.proofs.ClearedMarks.{clean_stays, cleared_is, marked_file, file_shown, directory_clean}
+use Rattle.gated_tree.specs.Roles.{Out, Clearing, Reading, Bounds, TreeState, AreWithin, charge, child_charge, removal, tree_word, seen_as, IsFileNode}
+use Rattle.gated_tree.specs.Roles.{HasParent, TreeHolds}
+use Rattle.gated_tree.specs.{Trees.{is_child, HasDirectory, IsSound, IsClean}, declared.nodes.NodeWord.NodeWord}
+use Rattle.tree_laws.proofs.{Changes.{file_shows, unmarks}, Laws.{role_says, moves}}
 use Rattle.tree_laws.specs.Events.{turned, with_node, cleared_word, tree_shown, opens_shown, TreeDoes, MovesBy, MayClean, IsQuiet}
-use Rattle.tree_laws.proofs.Laws.{role_says, moves}
-use Rattle.tree_laws.proofs.Changes.{file_shows, unmarks}
 
--- each parent, in range and a directory, is a directory
 parent_there : (nodes : ℕ) (node : ℕ → ℕ) (entry : Option NodeInfo) → HasParent nodes node entry →
     HasDirectory nodes (tree_shown node) entry
 parent_there nodes node None h = tt
 parent_there nodes node (Some info) h = h
 
--- a parent that is a directory in one tree is one in another that has the same nodes
 parent_loaded : (nodes : ℕ) (tree loaded : ℕ → Option NodeInfo) → ((n : ℕ) → n < nodes → loaded n ≡ tree n) → (entry : Option NodeInfo) →
     HasDirectory nodes tree entry → HasDirectory nodes loaded entry
 parent_loaded nodes tree loaded shows None h = tt
 parent_loaded nodes tree loaded shows (Some info) h = (h.0, subst IsDirectory (sym (shows info.parent h.0)) h.1)
 
 module _ (c : Bounds) (s : TreeState) (good : TreeHolds c s) where
-  -- the tree is sealed where every node is clean
+  -- with other flags, where these have what they ask for
+  with_flags : (sealed bare : ℕ) → (sealed ≡ 1 → IsClean c.nodes (tree_shown s.node)) → (bare ≡ 1 → s.removed ≡ 0) →
+      TreeHolds c (record s { sealed = sealed; bare = bare })
+  with_flags sealed bare clean none = record {
+    words = good.words;
+    root = good.root;
+    parents = good.parents;
+    blocks = good.blocks;
+    room = good.room;
+    children = good.children;
+    removals = good.removals;
+    none = none;
+    roles = good.roles;
+    clean = clean;
+  }
+
+  -- the tree is sealed where every node is clean, and may be opened at any time
   pub seals : IsClean c.nodes (tree_shown s.node) → TreeHolds c (record s { sealed = 1 })
-  seals clean = record {
-    words = good.words;
-    root = good.root;
-    parents = good.parents;
-    blocks = good.blocks;
-    room = good.room;
-    children = good.children;
-    removals = good.removals;
-    none = good.none;
-    roles = good.roles;
-    clean = λ e. clean;
-  }
+  seals clean = with_flags 1 s.bare (λ e. clean) good.none
 
-  -- and may be opened at any time
   pub opens : TreeHolds c (record s { sealed = 0 })
-  opens = record {
-    words = good.words;
-    root = good.root;
-    parents = good.parents;
-    blocks = good.blocks;
-    room = good.room;
-    children = good.children;
-    removals = good.removals;
-    none = good.none;
-    roles = good.roles;
-    clean = λ e. absurd (omega (arith, e));
-  }
+  opens = with_flags 0 s.bare (λ e. absurd (omega (arith, e))) good.none
 
-  -- the superblock is read-only where no file is removed
+  -- the superblock is read-only where no file is removed, and may be writable again at any time
   pub goes_bare : s.removed ≡ 0 → TreeHolds c (record s { bare = 1 })
-  goes_bare none = record {
-    words = good.words;
-    root = good.root;
-    parents = good.parents;
-    blocks = good.blocks;
-    room = good.room;
-    children = good.children;
-    removals = good.removals;
-    none = λ e. none;
-    roles = good.roles;
-    clean = good.clean;
-  }
+  goes_bare none = with_flags s.sealed 1 good.clean (λ e. none)
 
-  -- and may be writable again at any time
   pub stops_bare : TreeHolds c (record s { bare = 0 })
-  stops_bare = record {
-    words = good.words;
-    root = good.root;
-    parents = good.parents;
-    blocks = good.blocks;
-    room = good.room;
-    children = good.children;
-    removals = good.removals;
-    none = λ e. absurd (omega (arith, e));
-    roles = good.roles;
-    clean = good.clean;
-  }
+  stops_bare = with_flags s.sealed 0 good.clean (λ e. absurd (omega (arith, e)))
 
   module _ (t : ℕ) (lt : t < c.tasks) where
     -- a clearing begins at node 1, since the root is clean
@@ -106,7 +67,7 @@ module _ (c : Bounds) (s : TreeState) (good : TreeHolds c s) where
     -- a clearing comes to a node that is marked, which is a file and becomes clean
     pub clears : (n : ℕ) → AreWithin c → MayClean c s → s.at t ≡ Clearing n → n < c.nodes → dirty_in (s.node n) ≡ 1 →
         TreeHolds c (with_node s n (cleared_word (s.node n)) t (Clearing (suc n))) ×
-        TreeDoes c s.node (update s.node n (cleared_word (s.node n))) (Clean n)
+        TreeDoes c s.node (update s.node n (cleared_word (s.node n))) (Action.Clean n)
     clears n within may is ln marked =
         let before : (x : ℕ) → x < n → is_dirty (node_shown (s.node x)) ≡ false = role_says c s good t lt (Clearing n) is in
         let file : NodeWord = node_of (s.node n) in
@@ -122,7 +83,7 @@ module _ (c : Bounds) (s : TreeState) (good : TreeHolds c s) where
         let now : (x : ℕ) → x < suc n → is_dirty (node_shown (update s.node n (word_of (marked_node false file)) x)) ≡ false =
         λ x. each_updated (λ y w. y < suc n → is_dirty (node_shown w) ≡ false) s.node n (word_of (marked_node false file)) x
         (λ l. clean) (λ ne l. before x (omega (arith, l, ne))) in
-        subst (λ w. TreeHolds c (with_node s n w t (Clearing (suc n))) × TreeDoes c s.node (update s.node n w) (Clean n))
+        subst (λ w. TreeHolds c (with_node s n w t (Clearing (suc n))) × TreeDoes c s.node (update s.node n w) (Action.Clean n))
         (sym (cleared_is (s.node n) (good.words n ln).packed))
         (unmarks c s good t lt file n (Clearing (suc n)) within h may (sym (ap charge is)) (sym (ap removal is)) (λ d. sym (ap (child_charge d) is)) ln
         (sym back.1) now)
@@ -147,17 +108,15 @@ module _ (c : Bounds) (s : TreeState) (good : TreeHolds c s) where
           (ap tree_shown still, ap opens_shown still),
         )
 
-    -- a clearing is over: every node is clean
     pub clearing_ends : (n : ℕ) → c.nodes ≤ n → s.at t ≡ Clearing n → IsClean c.nodes (tree_shown s.node)
     clearing_ends n past is = λ x lx. role_says c s good t lt (Clearing n) is x (omega (arith, lx, past))
 
-    -- a snapshot begins
     pub snapshot_begins : (values : ℕ → ℕ) → s.at t ≡ Out → TreeHolds c (turned s t (Reading 0 values))
     snapshot_begins values is =
         moves c s good t lt (Reading 0 values) (sym (ap charge is)) (sym (ap removal is)) (λ d. sym (ap (child_charge d) is)) (λ i l. absurd (omega (arith, l)))
 
-    -- and loads its next word
-    pub snapshot_loads : (k : ℕ) (values next : ℕ → ℕ) → s.at t ≡ Reading k values → seen_as c.nodes k (next k) ≡ seen_as c.nodes k (tree_word c.nodes s.used s.node s.kids k) →
+    pub snapshot_loads : (k : ℕ) (values next : ℕ → ℕ) → s.at t ≡ Reading k values →
+        seen_as c.nodes k (next k) ≡ seen_as c.nodes k (tree_word c.nodes s.used s.node s.kids k) →
         ((i : ℕ) → i < k → next i ≡ values i) → TreeHolds c (turned s t (Reading (suc k) next))
     snapshot_loads k values next is word earlier =
         let before : (i : ℕ) → i < k → seen_as c.nodes i (values i) ≡ seen_as c.nodes i (tree_word c.nodes s.used s.node s.kids i) =

@@ -1,22 +1,17 @@
 -- Loads, and the events at `used` and at the counts of children. None of them changes a node word, so the shown tree stays.
-use Rattle.std.proofs.Common.{◌≡◌, ℕ, Bool, zero, suc, ◌+◌, ◌<◌, ◌≤◌, refl, sym, ap, ◌∙◌, subst, arith}
+use Rattle.std.proofs.{Common.{◌≡◌, ℕ, Bool, zero, suc, ◌+◌, ◌<◌, ◌≤◌, refl, sym, ap, ◌∙◌, subst, arith}, lemmas.Bool.Decides.nat_tests}
 use Rattle.std.specs.Prelude.{Option, Some, None, Ok, true, false, if◌then◌else◌}
-use Rattle.std.proofs.lemmas.Bool.Decides.{nat_tests}
-use Rattle.finite_sums.specs.Sums.{update, total}
-use Rattle.finite_sums.proofs.Totals.{each_updated, total_bound, total_at}
-use Rattle.access_model.specs.declared.actions.Kind.TheVariants.{File}
-use Rattle.access_model.specs.declared.actions.NodeInfo.{NodeInfo}
-use Rattle.access_model.specs.States.{is_removed, one_if}
+use Rattle.finite_sums.{proofs.Totals.{each_updated, total_bound, total_at}, specs.Sums.{update, total}}
+use Rattle.access_model.specs.{States.{is_removed, one_if}, declared.actions.{Kind.Kind, NodeInfo.NodeInfo}}
 use Rattle.cpu_words.specs.Touches.{wrap_add, wrap_sub}
-use Rattle.gated_tree.specs.declared.nodes.NodeWord.{NodeWord}
-use Rattle.gated_tree.specs.Nodes.{node_shown, info_of, file_in, any_file_in, directory_in}
-use Rattle.gated_tree.specs.Trees.{is_same, has_parent, is_child}
-use Rattle.gated_tree.specs.Roles.{Role, Out, Loaded, Found, Placing, Targets, Moving, Growing, Charged, Refunding, Freed, Returning, Removing, Freeing, Dropped, Uncounting, Bare, Bounds, TreeState, AreWithin, charge, child_charge, removal, IsFileNode, MayGrow, IsDirectoryAt, HasParent, RoleHolds, TreeHolds, NobodyReads, MayRemove, HasNoCharge}
 use Rattle.gated_tree.proofs.Words.{file_loaded, any_file_loaded, directory_loaded, word_shows}
-use Rattle.tree_laws.specs.Events.{turned, with_used, with_kids, with_removed}
-use Rattle.tree_laws.proofs.Laws.{same_here, same_off, role_says, all_change, counts_change, moves}
+use Rattle.gated_tree.specs.Nodes.{node_shown, info_of, file_in, any_file_in, directory_in}
+use Rattle.gated_tree.specs.Roles.{Role, Out, Loaded, Found, Placing, Targets, Moving, Growing, Charged, Refunding, Freed, Returning, Removing, Freeing}
+use Rattle.gated_tree.specs.Roles.{Dropped, Uncounting, Bare, Bounds, TreeState, AreWithin, charge, child_charge, removal, IsFileNode, MayGrow, IsDirectoryAt}
+use Rattle.gated_tree.specs.Roles.{HasParent, RoleHolds, TreeHolds, NobodyReads, MayRemove, HasNoCharge}
+use Rattle.gated_tree.specs.{Trees.{is_same, has_parent, is_child}, declared.nodes.NodeWord.NodeWord}
+use Rattle.tree_laws.{proofs.Laws.{same_here, same_off, role_says, all_change, counts_change, moves}, specs.Events.{turned, with_used, with_kids, with_removed}}
 
--- a node counts at most once as a child, and a role charges at most one
 pub same_le : (d e : ℕ) → is_same d e ≤ 1
 same_le d e = grind (arith, nat_tests)
 
@@ -38,11 +33,8 @@ child_charge_le d (Freed b e) = same_le e d
 child_charge_le d (Returning e) = same_le e d
 child_charge_le d _ = omega arith
 
--- a task has counted at most one removed file
 removal_le : (r : Role) → removal r ≤ 1
 removal_le (Removing file) = omega arith
-removal_le (Dropped b) = omega arith
-removal_le Uncounting = omega arith
 removal_le _ = omega arith
 
 one_le : (b : Bool) → one_if b ≤ 1
@@ -50,14 +42,13 @@ one_le true = omega arith
 one_le false = omega arith
 
 -- what the tree says of the parent of a file that was loaded
-file_parent : (c : Bounds) (node : ℕ → ℕ) (word : ℕ) (file : NodeWord) → node_shown word ≡ info_of file → file.kind ≡ Some File →
+file_parent : (c : Bounds) (node : ℕ → ℕ) (word : ℕ) (file : NodeWord) → node_shown word ≡ info_of file → file.kind ≡ Some Kind.File →
     HasParent c.nodes node (node_shown word) → IsDirectoryAt c.nodes node file.parent
 file_parent c node word file shows kind h =
     let made : HasParent c.nodes node (info_of file) = subst (HasParent c.nodes node) shows h in
     subst (λ k. HasParent c.nodes node (info_of (record file { kind = k }))) kind made
 
 module _ (c : Bounds) (s : TreeState) (good : TreeHolds c s) (t : ℕ) (lt : t < c.tasks) where
-  -- an event that leaves the words and the role
   pub looks : TreeHolds c (turned s t (s.at t))
   looks = moves c s good t lt (s.at t) refl refl (λ d. refl) (good.roles t lt)
 
@@ -68,7 +59,6 @@ module _ (c : Bounds) (s : TreeState) (good : TreeHolds c s) (t : ℕ) (lt : t <
       moves c s good t lt (Found d) (sym (ap charge is)) (sym (ap removal is)) (λ e. sym (ap (child_charge e) is))
       (ld, directory_loaded (s.node d) dir (good.words d ld).packed found)
 
-  -- a load finds a file
   pub finds_file : (n : ℕ) (file : NodeWord) → AreWithin c → s.at t ≡ Out → n < c.nodes → file_in (s.node n) ≡ Some (Ok file) →
       TreeHolds c (turned s t (Loaded file))
   finds_file n file within is ln found =
@@ -80,14 +70,12 @@ module _ (c : Bounds) (s : TreeState) (good : TreeHolds c s) (t : ℕ) (lt : t <
       moves c s good t lt (Loaded file) (sym (ap charge is)) (sym (ap removal is)) (λ e. sym (ap (child_charge e) is))
       (record { kind = is_file.kind; parent = parent.0; opens = is_file.lawful.few; linked = read.1 })
 
-  -- a move's load finds its directory
   pub finds_target : (file dir : NodeWord) (d : ℕ) → s.at t ≡ Loaded file → d < c.nodes → directory_in (s.node d) ≡ Some (Ok dir) →
       TreeHolds c (turned s t (Targets file d))
   finds_target file dir d is ld found =
       moves c s good t lt (Targets file d) (sym (ap charge is)) (sym (ap removal is)) (λ e. sym (ap (child_charge e) is))
       (role_says c s good t lt (Loaded file) is, (ld, directory_loaded (s.node d) dir (good.words d ld).packed found))
 
-  -- a grow's load of `used` finds room
   pub finds_room : (file : NodeWord) (b : ℕ) → s.at t ≡ Loaded file → 0 < b → s.used + b ≤ c.capacity → file.size + b ≤ c.capacity →
       TreeHolds c (turned s t (Growing file b s.used))
   finds_room file b is some all own =
@@ -101,15 +89,14 @@ module _ (c : Bounds) (s : TreeState) (good : TreeHolds c s) (t : ℕ) (lt : t <
   -- the compare-exchange of a create fails: the charge stands until it is subtracted
   pub create_fails : (d : ℕ) → s.at t ≡ Placing d → TreeHolds c (turned s t (Returning d))
   create_fails d is =
-      moves c s good t lt (Returning d) (sym (ap charge is)) (sym (ap removal is)) (λ e. sym (ap (child_charge e) is)) (role_says c s good t lt (Placing d) is).0
+      moves c s good t lt (Returning d) (sym (ap charge is)) (sym (ap removal is)) (λ e. sym (ap (child_charge e) is))
+      (role_says c s good t lt (Placing d) is).0
 
-  -- and that of a move
   pub move_fails : (file : NodeWord) (d : ℕ) → s.at t ≡ Moving file d → TreeHolds c (turned s t (Returning d))
   move_fails file d is =
       moves c s good t lt (Returning d) (sym (ap charge is)) (sym (ap removal is)) (λ e. sym (ap (child_charge e) is))
       (role_says c s good t lt (Moving file d) is).1.0
 
-  -- and that of a grow
   pub grow_fails : (file : NodeWord) (b : ℕ) → s.at t ≡ Charged file b → TreeHolds c (turned s t (Refunding b))
   grow_fails file b is = moves c s good t lt (Refunding b) (sym (ap charge is)) (sym (ap removal is)) (λ e. sym (ap (child_charge e) is)) tt
 
@@ -143,16 +130,13 @@ module _ (c : Bounds) (s : TreeState) (good : TreeHolds c s) (t : ℕ) (lt : t <
       subtracts_blocks b (Returning d) within quiet (omega (arith, ap charge is)) (sym (ap removal is)) (λ e. sym (ap (child_charge e) is))
       (role_says c s good t lt (Freed b d) is)
 
-  -- and after a last close
   pub drops_blocks : (b : ℕ) → AreWithin c → NobodyReads c s → s.at t ≡ Dropped b → TreeHolds c (with_used s (wrap_sub s.used b) t Uncounting)
   drops_blocks b within quiet is =
       subtracts_blocks b Uncounting within quiet (omega (arith, ap charge is)) (sym (ap removal is)) (λ d. sym (ap (child_charge d) is)) tt
 
-  -- the compare-exchange of a remove fails that has counted its file
   pub remove_fails : (file : NodeWord) → s.at t ≡ Removing file → TreeHolds c (turned s t Uncounting)
   remove_fails file is = moves c s good t lt Uncounting (sym (ap charge is)) (sym (ap removal is)) (λ e. sym (ap (child_charge e) is)) tt
 
-  -- the count of removed files is at most the nodes and the tasks
   pub few_removals : AreWithin c → s.removed ≤ 128
   few_removals within = omega (
     arith,
@@ -163,7 +147,6 @@ module _ (c : Bounds) (s : TreeState) (good : TreeHolds c s) (t : ℕ) (lt : t <
     total_bound c.tasks 1 (λ x. removal (s.at x)) (λ x lx. removal_le (s.at x)),
   )
 
-  -- a remove counts its file, which is open
   pub counts_removal : (file : NodeWord) → AreWithin c → MayRemove c s → s.at t ≡ Loaded file → 1 ≤ file.opens →
       TreeHolds c (with_removed s (wrap_add s.removed 1) t (Removing file))
   counts_removal file within may is some =
@@ -173,7 +156,6 @@ module _ (c : Bounds) (s : TreeState) (good : TreeHolds c s) (t : ℕ) (lt : t <
       (omega (arith, more, ap removal is)) (λ bare. absurd (may.writable bare)) (λ l z. absurd (omega (arith, l, may.nobody_bares)))
       (λ d ld. omega (arith, ap (child_charge d) is)) (λ i q. refl) (role_says c s good t lt (Loaded file) is, some)
 
-  -- a count of a removed file is taken back
   pub uncounts : AreWithin c → s.at t ≡ Uncounting → TreeHolds c (with_removed s (wrap_sub s.removed 1) t Out)
   uncounts within is =
       let few : s.removed ≤ 128 = few_removals within in
@@ -184,7 +166,6 @@ module _ (c : Bounds) (s : TreeState) (good : TreeHolds c s) (t : ℕ) (lt : t <
       (omega (arith, less, ap removal is)) (λ bare. absurd (omega (arith, some, good.none bare))) (λ l z. absurd (omega (arith, some, z)))
       (λ d ld. omega (arith, ap (child_charge d) is)) (λ i q. refl) tt
 
-  -- a last close finds its file, which it is to free
   pub finds_last : (file : NodeWord) (n : ℕ) → s.at t ≡ Out → n < c.nodes → any_file_in (s.node n) ≡ Some (Ok file) → file.removed ≡ true →
       file.opens ≡ 1 →
       TreeHolds c (turned s t (Freeing n file))
@@ -193,11 +174,9 @@ module _ (c : Bounds) (s : TreeState) (good : TreeHolds c s) (t : ℕ) (lt : t <
       moves c s good t lt (Freeing n file) (sym (ap charge is)) (sym (ap removal is)) (λ e. sym (ap (child_charge e) is))
       (ln, record { kind = read.kind; word = sym read.same; parent = read.lawful.parent; opens = opens; removed = removed })
 
-  -- a remount finds no removed file
   pub finds_none : s.at t ≡ Out → s.removed ≡ 0 → TreeHolds c (turned s t Bare)
   finds_none is none = moves c s good t lt Bare (sym (ap charge is)) (sym (ap removal is)) (λ e. sym (ap (child_charge e) is)) none
 
-  -- a directory's count is at most its children and the tasks that charge one
   pub few_children : (d : ℕ) → d < c.nodes → AreWithin c → s.kids d ≤ 128
   few_children d ld within = omega (
     arith,
@@ -208,7 +187,6 @@ module _ (c : Bounds) (s : TreeState) (good : TreeHolds c s) (t : ℕ) (lt : t <
     total_bound c.tasks 1 (λ x. child_charge d (s.at x)) (λ x lx. child_charge_le d (s.at x)),
   )
 
-  -- a child is charged, by a role that then charges it
   pub adds_child : (d : ℕ) (r : Role) → AreWithin c → NobodyReads c s → d < c.nodes → charge r ≡ charge (s.at t) →
       removal r ≡ removal (s.at t) →
       ((e : ℕ) → child_charge e r ≡ child_charge e (s.at t) + is_same d e) →
@@ -221,14 +199,12 @@ module _ (c : Bounds) (s : TreeState) (good : TreeHolds c s) (t : ℕ) (lt : t <
       (λ x lx. each_updated (λ y v. v + child_charge y (s.at t) ≡ s.kids y + child_charge y r) s.kids d (wrap_add (s.kids d) 1) x
       (omega (arith, more, k d, same_here d)) (λ ne. omega (arith, k x, same_off d x ne))) (λ i q. absurd (omega (arith, q, quiet))) own
 
-  -- by a create
   pub create_adds : (d : ℕ) → AreWithin c → NobodyReads c s → s.at t ≡ Found d →
       TreeHolds c (with_kids s d (wrap_add (s.kids d) 1) t (Placing d))
   create_adds d within quiet is =
       let h : IsDirectoryAt c.nodes s.node d = role_says c s good t lt (Found d) is in
       adds_child d (Placing d) within quiet h.0 (sym (ap charge is)) (sym (ap removal is)) (λ e. omega (arith, ap (child_charge e) is)) h
 
-  -- and by a move
   pub move_adds : (file : NodeWord) (d : ℕ) → AreWithin c → NobodyReads c s → s.at t ≡ Targets file d →
       TreeHolds c (with_kids s d (wrap_add (s.kids d) 1) t (Moving file d))
   move_adds file d within quiet is =

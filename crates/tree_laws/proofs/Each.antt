@@ -1,22 +1,24 @@
 -- Each event keeps what holds of the tree, and moves the shown tree by its action or not at all.
-use Rattle.std.proofs.Common.{◌≡◌, ℕ, zero, suc, ◌<◌, ◌≤◌, refl, ap, arith}
-use Rattle.std.specs.Prelude.{Option}
-use Rattle.finite_sums.specs.Sums.{update}
-use Rattle.finite_sums.proofs.Totals.{each_updated, update_off, total_none, total_zero}
-use Rattle.access_model.specs.declared.actions.Action.{Action}
-use Rattle.access_model.specs.States.{size_of, is_removed, one_if}
-use Rattle.gated_tree.specs.Nodes.{IsNode, node_shown}
-use Rattle.gated_tree.specs.Trees.{is_child}
-use Rattle.gated_tree.specs.Roles.{Out, Bare, Clearing, Bounds, TreeState, AreWithin, charge, child_charge, removal, seen_as, HasParent, TreeHolds}
+use Rattle.std.{proofs.Common.{◌≡◌, ℕ, zero, suc, ◌<◌, ◌≤◌, refl, ap, arith}, specs.Prelude.Option}
+use Rattle.finite_sums.{proofs.Totals.{each_updated, update_off, total_none, total_zero}, specs.Sums.update}
+use Rattle.access_model.specs.{States.{size_of, is_removed, one_if}, declared.actions.Action.Action}
 use Rattle.gated_tree.proofs.Words.{free_is_node, root_is_node}
-use Rattle.tree_laws.specs.Events.{Event, MovesBy, Comes, Opening, After, opening_tree, turned, FindsDirectory, FindsFile, FindsTarget, FindsRoom, Looks, Leaves, CreateFails, MoveFails, RemoveFails, GrowFails, ChargesBlocks, RefundsBlocks, FreesBlocks, DropsBlocks, CountsRemoval, Uncounts, CreateAdds, MoveAdds, SubtractsChild, Creates, Removes, MarksRemoved, Grows, Moves, Dirties, Flushes, OpensFile, ClosesFile, FindsLast, FreesFile, FindsNone, GoesBare, StopsBare, BeginsClearing, Clears, Passes, Seals, Opens, BeginsReading, Reads}
-use Rattle.tree_laws.proofs.Counts.{looks, finds_directory, finds_file, finds_target, finds_room, leaves, create_fails, move_fails, grow_fails, charges_blocks, refunds_blocks, frees_blocks, drops_blocks, remove_fails, counts_removal, uncounts, finds_last, finds_none, create_adds, move_adds, subtracts_child}
+use Rattle.gated_tree.specs.Nodes.{IsNode, node_shown}
+use Rattle.gated_tree.specs.Roles.{Out, Bare, Clearing, Bounds, TreeState, AreWithin, charge, child_charge, removal, seen_as, HasParent, TreeHolds}
+use Rattle.gated_tree.specs.Trees.{is_child}
 use Rattle.tree_laws.proofs.Changes.{creates, removes, marks_removed, grows, moves_to, dirties, flushes, opens_file, closes_file, frees_file}
-use Rattle.tree_laws.proofs.Laws.{role_says}
 use Rattle.tree_laws.proofs.Clearings.{seals, opens, goes_bare, stops_bare, clearing_begins, clears, passes, clearing_ends, snapshot_begins, snapshot_loads}
+use Rattle.tree_laws.proofs.Counts.{looks, finds_directory, finds_file, finds_target, finds_room, leaves, create_fails, move_fails, grow_fails, charges_blocks}
+use Rattle.tree_laws.proofs.Counts.{refunds_blocks, frees_blocks, drops_blocks, remove_fails, counts_removal, uncounts, finds_last, finds_none, create_adds}
+use Rattle.tree_laws.proofs.Counts.{move_adds, subtracts_child}
+use Rattle.tree_laws.proofs.Laws.{role_says}
+use Rattle.tree_laws.specs.Events.{Event, MovesBy, Comes, Opening, After, opening_tree, turned, FindsDirectory, FindsFile, FindsTarget, FindsRoom, Looks}
+use Rattle.tree_laws.specs.Events.{Leaves, CreateFails, MoveFails, RemoveFails, GrowFails, ChargesBlocks, RefundsBlocks, FreesBlocks, DropsBlocks}
+use Rattle.tree_laws.specs.Events.{CountsRemoval, Uncounts, CreateAdds, MoveAdds, SubtractsChild, Creates, Removes, MarksRemoved, Grows, Moves, Dirties}
+use Rattle.tree_laws.specs.Events.{Flushes, OpensFile, ClosesFile, FindsLast, FreesFile, FindsNone, GoesBare, StopsBare, BeginsClearing, Clears, Passes, Seals}
+use Rattle.tree_laws.specs.Events.{Opens, BeginsReading, Reads}
 
 module _ (c : Bounds) (within : AreWithin c) (s : TreeState) (good : TreeHolds c s) (t : ℕ) (lt : t < c.tasks) where
-  -- the store that ends a clearing seals the tree
   pub clearing_seals : (n : ℕ) → c.nodes ≤ n → s.at t ≡ Clearing n → TreeHolds c (record (turned s t Out) { sealed = 1 })
   clearing_seals n past is =
       let left : TreeHolds c (turned s t Out) =
@@ -30,7 +32,6 @@ module _ (c : Bounds) (within : AreWithin c) (s : TreeState) (good : TreeHolds c
       leaves c s good t lt (record { blocks = ap charge is; removed = ap removal is; children = λ d. ap (child_charge d) is }) in
       goes_bare c (turned s t Out) left (role_says c s good t lt Bare is)
 
-  -- each event
   pub each_event : (next : TreeState) (action : Option Action) → Event c s t next action →
       TreeHolds c next × MovesBy c s.node next.node action
   each_event next action (FindsDirectory d dir is ld found) = (finds_directory c s good t lt d dir is ld found, (refl, refl))
@@ -74,14 +75,14 @@ module _ (c : Bounds) (within : AreWithin c) (s : TreeState) (good : TreeHolds c
   each_event next action (Seals n past is) = (clearing_seals n past is, (refl, refl))
   each_event next action Opens = (opens c s good, (refl, refl))
   each_event next action (BeginsReading values is) = (snapshot_begins c s good t lt values is, (refl, refl))
-  each_event next action (Reads k values loaded is word earlier) = (snapshot_loads c s good t lt k values loaded is (ap (seen_as c.nodes k) word) earlier, (refl, refl))
+  each_event next action (Reads k values loaded is word earlier) =
+      (snapshot_loads c s good t lt k values loaded is (ap (seen_as c.nodes k) word) earlier, (refl, refl))
 
 -- at the opening no node is a child but the root, which isn't counted
 opening_child : (d n : ℕ) → is_child d n (node_shown (update (λ x. 0) 0 2 n)) ≡ 0
 opening_child d zero = refl
 opening_child d (suc n) = ap (λ w. is_child d (suc n) (node_shown w)) (update_off (λ x. 0) 0 2 (suc n) (λ e. absurd (omega arith)))
 
--- the root alone
 pub opening_holds : (c : Bounds) → AreWithin c → TreeHolds c opening_tree
 opening_holds c within =
     let node : ℕ → ℕ = update (λ n. 0) 0 2 in
@@ -113,7 +114,6 @@ opening_holds c within =
       clean = λ e. absurd (omega (arith, e));
     }
 
--- so it holds of every tree that comes
 pub each_tree : (c : Bounds) → AreWithin c → (s : TreeState) → Comes c s → TreeHolds c s
 each_tree c within s Opening = opening_holds c within
 each_tree c within s (After before next t action comes lt event) =

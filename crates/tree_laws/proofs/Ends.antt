@@ -1,54 +1,29 @@
 -- What is known of a call's events is kept from each event to the next, up to its answer.
 use Rattle.std.proofs.Common.{◌≡◌, ℕ, Bool, true, false, ◌+◌, ◌<◌, ◌≤◌, refl, sym, ap, ◌∙◌, subst, inl, inr, arith}
+use Rattle.std.proofs.lemmas.Bool.{cases_Bool, cases_lt, eq-eqb, ne_eqb, lt-ltb, le-ltb, Decides.eqb_tells}
 use Rattle.std.specs.Prelude.{◌==◌, ◌&&◌, Option, Some, None, Result, Ok, Err, List, [], is_some, nat_lt, not}
-use Rattle.std.proofs.lemmas.Bool.{cases_Bool, cases_lt, eq-eqb, ne_eqb, lt-ltb, le-ltb}
-use Rattle.std.proofs.lemmas.Bool.Decides.{eqb_tells}
-use Rattle.access_model.specs.declared.actions.Action.{Action}
-use Rattle.access_model.specs.declared.actions.Action.TheVariants.{Remove as RemoveAction, MoveTo as MoveToAction, Grow as GrowAction, Open as OpenAction}
-use Rattle.access_model.specs.declared.errors.GateError.{GateError}
-use Rattle.access_model.specs.declared.errors.GateError.TheVariants.{Again, Invalid}
-use Rattle.access_model.specs.declared.replies.Next.TheVariants.{Done}
-use Rattle.access_model.specs.declared.replies.Reply.{Reply}
-use Rattle.access_model.specs.declared.replies.Reply.TheVariants.{Unit as UnitReply, Tree as TreeReply}
-use Rattle.cpu_words.specs.declared.events.Event.{Event}
-use Rattle.cpu_words.specs.Touches.{event_of, found_by}
-use Rattle.gated_tree.specs.declared.nodes.NodeWord.{NodeWord}
-use Rattle.gated_tree.specs.declared.changes.Create.{Create}
-use Rattle.gated_tree.specs.declared.changes.CreateStep.{CreateStep}
-use Rattle.gated_tree.specs.declared.changes.CreateStep.TheVariants.{LoadsDirectory, LoadsNode, ChargesChild, TakesNode, RefundsChild}
-use Rattle.gated_tree.specs.declared.changes.Remove.{Remove}
-use Rattle.gated_tree.specs.declared.changes.RemoveStep.{RemoveStep}
-use Rattle.gated_tree.specs.declared.changes.RemoveStep.TheVariants.{LoadsFile as LoadsFileToRemove, FreesNode, CountsRemoved, MarksRemoved, RefundsRemoved, RefundsBlocks as RefundsItsBlocks, RefundsChild as RefundsItsChild}
-use Rattle.gated_tree.specs.declared.changes.MoveTo.{MoveTo}
-use Rattle.gated_tree.specs.declared.changes.MoveStep.{MoveStep}
-use Rattle.gated_tree.specs.declared.changes.MoveStep.TheVariants.{LoadsFile as LoadsFileToMove, LoadsDirectory as LoadsTarget, ChargesChild as ChargesTarget, MovesFile, RefundsChild as RefundsOne}
-use Rattle.gated_tree.specs.declared.growth.Grow.{Grow}
-use Rattle.gated_tree.specs.declared.growth.GrowStep.{GrowStep}
-use Rattle.gated_tree.specs.declared.growth.GrowStep.TheVariants.{LoadsFile as LoadsFileToGrow, LoadsUsed, ChargesBlocks, GrowsFile, RefundsBlocks}
-use Rattle.gated_tree.specs.declared.marks.Mark.{Mark}
-use Rattle.gated_tree.specs.declared.marks.MarkStep.{MarkStep}
-use Rattle.gated_tree.specs.declared.marks.MarkStep.TheVariants.{LoadsFile as LoadsFileToMark, MarksFile}
-use Rattle.gated_tree.specs.declared.opens.OpenFile.{OpenFile}
-use Rattle.gated_tree.specs.declared.opens.OpenStep.{OpenStep}
-use Rattle.gated_tree.specs.declared.opens.OpenStep.TheVariants.{LoadsFile as LoadsFileToOpen, OpensFile}
-use Rattle.gated_tree.specs.declared.snapshots.Snapshot.{Snapshot}
-use Rattle.gated_tree.specs.declared.snapshots.SnapshotStep.{SnapshotStep}
-use Rattle.gated_tree.specs.declared.snapshots.SnapshotStep.TheVariants.{Locks, LoadsStage, LoadsUsed as LoadsUsedWord, LoadsNode as LoadsNodeWord, LoadsKids, Releases}
-use Rattle.gated_tree.specs.Nodes.{kind_in, word_of, unpacked, file_in, directory_in, node_after}
-use Rattle.gated_tree.specs.Phases.{after_look, create_next, create_looked, at_create, remove_next, removes_file, at_remove, grow_next, at_grow, move_next, at_move, mark_next, mark_done, at_mark, open_next, at_open, opens_from, snapshot_next, snapshot_locked_out, node_step, kids_step}
-use Rattle.gated_tree.specs.Refusals.{CreateHonest, FileHonest, GrowHonest, MoveHonest, SnapshotHonest, finds_free, finds_gone, finds_taken, finds_file, finds_directory, finds_large, finds_full, finds_other, finds_owner, finds_thawed}
+use Rattle.access_model.specs.declared.{actions.Action.Action, errors.GateError.GateError, replies.{Next.Next, Reply.Reply}}
+use Rattle.cpu_words.specs.{Touches.{event_of, found_by}, declared.events.Event.Event}
 use Rattle.gated_tree.proofs.Refused.{file_refused, directory_refused, taken_some, size_loaded}
-use Rattle.tree_laws.specs.Ends.{where_done, remove_added, move_added, create_adds, IsReply, IsNodeReply, CreateKnows, RemoveKnows, GrowKnows, MoveAnswers, MoveKnows, SnapshotAnswers, SnapshotKnows, EndsWell, SeesMore, CreateEnds, RemoveEnds, GrowEnds, MoveEnds, MarkEnds, OpenEnds, SnapshotEnds}
+use Rattle.gated_tree.specs.Nodes.{kind_in, word_of, unpacked, file_in, directory_in, node_after}
+use Rattle.gated_tree.specs.Phases.{after_look, create_next, create_looked, at_create, remove_next, removes_file, at_remove, grow_next, at_grow, move_next}
+use Rattle.gated_tree.specs.Phases.{at_move, mark_next, mark_done, at_mark, open_next, at_open, opens_from, snapshot_next, snapshot_locked_out, node_step}
+use Rattle.gated_tree.specs.Phases.{kids_step}
+use Rattle.gated_tree.specs.Refusals.{CreateHonest, FileHonest, GrowHonest, MoveHonest, SnapshotHonest, finds_free, finds_gone, finds_taken, finds_file}
+use Rattle.gated_tree.specs.Refusals.{finds_directory, finds_large, finds_full, finds_other, finds_owner, finds_thawed}
+use Rattle.gated_tree.specs.declared.changes.{Create.Create, CreateStep.CreateStep, MoveStep.MoveStep, MoveTo.MoveTo, Remove.Remove, RemoveStep.RemoveStep}
+use Rattle.gated_tree.specs.declared.{growth.{Grow.Grow, GrowStep.GrowStep}, marks.{Mark.Mark, MarkStep.MarkStep}, nodes.NodeWord.NodeWord}
+use Rattle.gated_tree.specs.declared.{opens.{OpenFile.OpenFile, OpenStep.OpenStep}, snapshots.{Snapshot.Snapshot, SnapshotStep.SnapshotStep}}
+use Rattle.tree_laws.specs.Ends.{where_done, remove_added, move_added, create_adds, IsReply, IsNodeReply, CreateKnows, RemoveKnows, GrowKnows, MoveAnswers}
+use Rattle.tree_laws.specs.Ends.{MoveKnows, SnapshotAnswers, SnapshotKnows, EndsWell, SeesMore, CreateEnds, RemoveEnds, GrowEnds, MoveEnds, MarkEnds, OpenEnds}
+use Rattle.tree_laws.specs.Ends.{SnapshotEnds}
 
--- two tests that are passed
 both : (a b : Bool) → a ≡ true → b ≡ true → (a && b) ≡ true
 both a b x y = rw (x, y) refl
 
--- a number is itself
 here : (n : ℕ) → (n == n) ≡ true
 here n = eq-eqb n n refl
 
--- a test that is not passed
 missed : (b : Bool) → b ≡ false → not b ≡ true
 missed b e = rw e refl
 
@@ -64,9 +39,8 @@ module _ (Seen More : (Event → Bool) → Type 0) where
   look_ends Knows added IsOne IsHonest adds again to actions (Some (Ok node)) stays found refused = found node refl
   look_ends Knows added IsOne IsHonest adds again to actions (Some (Err refusal)) stays found refused = refused refusal refl
 
-  -- each event of a create
-  create_seen : (x : Create) (node value : ℕ) → CreateKnows Seen x (LoadsNode node) →
-      SeesMore Seen More (event_of (create_next x (LoadsNode node)).0 (create_next x (LoadsNode node)).1 value) →
+  create_seen : (x : Create) (node value : ℕ) → CreateKnows Seen x (CreateStep.LoadsNode node) →
+      SeesMore Seen More (event_of (create_next x (CreateStep.LoadsNode node)).0 (create_next x (CreateStep.LoadsNode node)).1 value) →
       (r : Option NodeWord) → unpacked value ≡ r →
       EndsWell (λ (y : Create). CreateKnows More y y.step) (λ y. []) IsNodeReply (CreateHonest More x) (create_adds x)
       (create_looked x node r) []
@@ -89,9 +63,9 @@ module _ (Seen More : (Event → Bool) → Type 0) where
   pub create_ends : (x : Create) (step : CreateStep) (value : ℕ) → CreateKnows Seen x step →
       SeesMore Seen More (event_of (create_next x step).0 (create_next x step).1 value) →
       CreateEnds More x step (found_by (create_next x step).1 value)
-  create_ends x LoadsDirectory value knows sees =
+  create_ends x CreateStep.LoadsDirectory value knows sees =
       look_ends (λ (y : Create). CreateKnows More y y.step) (λ y. []) IsNodeReply (CreateHonest More x) (create_adds x)
-      (at_create x LoadsDirectory) (λ dir. at_create x (LoadsNode 1)) [] (directory_in value) (tt, refl)
+      (at_create x CreateStep.LoadsDirectory) (λ dir. at_create x (CreateStep.LoadsNode 1)) [] (directory_in value) (tt, refl)
       (λ dir e. (λ n some below. absurd (omega (arith, some, below)), refl))
       (λ refusal e. (
         elim (directory_refused value refusal e) [
@@ -101,15 +75,15 @@ module _ (Seen More : (Event → Bool) → Type 0) where
         ],
         refl,
       ))
-  create_ends x (LoadsNode node) value knows sees = create_seen x node value knows sees (unpacked value) refl
-  create_ends x (ChargesChild node) value knows sees = (tt, refl)
-  create_ends x (TakesNode node) value knows sees = elim (eqb_tells value 0) [
+  create_ends x (CreateStep.LoadsNode node) value knows sees = create_seen x node value knows sees (unpacked value) refl
+  create_ends x (CreateStep.ChargesChild node) value knows sees = (tt, refl)
+  create_ends x (CreateStep.TakesNode node) value knows sees = elim (eqb_tells value 0) [
     | inl e ↦ rw e.0 (tt, refl)
     | inr e ↦
         let other : More finds_other = sees.now finds_other (missed (value == 0) e.0) in
         rw e.0 (other, refl)
   ]
-  create_ends x RefundsChild value knows sees = (sees.earlier finds_other knows, refl)
+  create_ends x CreateStep.RefundsChild value knows sees = (sees.earlier finds_other knows, refl)
 
   -- a remove that is to free its file, or to mark it
   removes_end : (x : Remove) (file : NodeWord) (opens : ℕ) →
@@ -119,13 +93,12 @@ module _ (Seen More : (Event → Bool) → Type 0) where
     | inr e ↦ rw e.0 (tt, refl)
   ]
 
-  -- each event of a remove
   pub remove_ends : (x : Remove) (step : RemoveStep) (value : ℕ) → RemoveKnows Seen x step →
       SeesMore Seen More (event_of (remove_next x step).0 (remove_next x step).1 value) →
       RemoveEnds More x step (found_by (remove_next x step).1 value)
-  remove_ends x LoadsFileToRemove value knows sees =
-      look_ends (λ (y : Remove). RemoveKnows More y y.step) (λ y. remove_added y y.step) (IsReply UnitReply) (FileHonest More x.file)
-      (where_done (RemoveAction x.file)) (at_remove x LoadsFileToRemove) (λ file. at_remove x (removes_file file file.opens)) [] (file_in value)
+  remove_ends x RemoveStep.LoadsFile value knows sees =
+      look_ends (λ (y : Remove). RemoveKnows More y y.step) (λ y. remove_added y y.step) (IsReply Reply.Unit) (FileHonest More x.file)
+      (where_done (Action.Remove x.file)) (at_remove x RemoveStep.LoadsFile) (λ file. at_remove x (removes_file file file.opens)) [] (file_in value)
       (tt, refl)
       (λ file e. removes_end x file file.opens)
       (λ refusal e. (
@@ -136,30 +109,29 @@ module _ (Seen More : (Event → Bool) → Type 0) where
         ],
         refl,
       ))
-  remove_ends x (FreesNode file) value knows sees = elim (eqb_tells value (word_of file)) [
+  remove_ends x (RemoveStep.FreesNode file) value knows sees = elim (eqb_tells value (word_of file)) [
     | inl e ↦ rw e.0 (tt, refl)
     | inr e ↦
         let other : More finds_other = sees.now finds_other (missed (value == word_of file) e.0) in
         rw e.0 (other, refl)
   ]
-  remove_ends x (CountsRemoved file) value knows sees = (tt, refl)
-  remove_ends x (MarksRemoved file) value knows sees = elim (eqb_tells value (word_of file)) [
+  remove_ends x (RemoveStep.CountsRemoved file) value knows sees = (tt, refl)
+  remove_ends x (RemoveStep.MarksRemoved file) value knows sees = elim (eqb_tells value (word_of file)) [
     | inl e ↦ rw e.0 (tt, refl)
     | inr e ↦
         let other : More finds_other = sees.now finds_other (missed (value == word_of file) e.0) in
         rw e.0 (other, refl)
   ]
-  remove_ends x RefundsRemoved value knows sees = (sees.earlier finds_other knows, refl)
-  remove_ends x (RefundsItsBlocks file) value knows sees = (tt, refl)
-  remove_ends x (RefundsItsChild file) value knows sees = (refl, refl)
+  remove_ends x RemoveStep.RefundsRemoved value knows sees = (sees.earlier finds_other knows, refl)
+  remove_ends x (RemoveStep.RefundsBlocks file) value knows sees = (tt, refl)
+  remove_ends x (RemoveStep.RefundsChild file) value knows sees = (refl, refl)
 
-  -- each event of a grow
   pub grow_ends : (x : Grow) (step : GrowStep) (value : ℕ) → GrowKnows Seen x step →
       SeesMore Seen More (event_of (grow_next x step).0 (grow_next x step).1 value) →
       GrowEnds More x step (found_by (grow_next x step).1 value)
-  grow_ends x LoadsFileToGrow value knows sees =
-      look_ends (λ (y : Grow). GrowKnows More y y.step) (λ y. []) (IsReply UnitReply) (GrowHonest More x)
-      (where_done (GrowAction x.file x.blocks)) (at_grow x LoadsFileToGrow) (λ file. at_grow x (LoadsUsed file)) [] (file_in value)
+  grow_ends x GrowStep.LoadsFile value knows sees =
+      look_ends (λ (y : Grow). GrowKnows More y y.step) (λ y. []) (IsReply Reply.Unit) (GrowHonest More x)
+      (where_done (Action.Grow x.file x.blocks)) (at_grow x GrowStep.LoadsFile) (λ file. at_grow x (GrowStep.LoadsUsed file)) [] (file_in value)
       (tt, refl)
       (λ file e. (
         λ large. sees.now (finds_large x.file x.blocks x.capacity) (both _ _ (here x.file)
@@ -174,7 +146,7 @@ module _ (Seen More : (Event → Bool) → Type 0) where
         ],
         refl,
       ))
-  grow_ends x (LoadsUsed file) value knows sees = elim (cases_Bool (nat_lt x.capacity (value + x.blocks))) [
+  grow_ends x (GrowStep.LoadsUsed file) value knows sees = elim (cases_Bool (nat_lt x.capacity (value + x.blocks))) [
     | inl full ↦
         let cause : More (finds_full x.blocks x.capacity) = sees.now (finds_full x.blocks x.capacity) full in
         rw full (cause, refl)
@@ -185,35 +157,33 @@ module _ (Seen More : (Event → Bool) → Type 0) where
       | inr fits ↦ rw fits (tt, refl)
     ])
   ]
-  grow_ends x (ChargesBlocks file used) value knows sees = elim (eqb_tells value used) [
+  grow_ends x (GrowStep.ChargesBlocks file used) value knows sees = elim (eqb_tells value used) [
     | inl e ↦ rw e.0 (tt, refl)
     | inr e ↦
         let other : More finds_other = sees.now finds_other (missed (value == used) e.0) in
         rw e.0 (inl other, refl)
   ]
-  grow_ends x (GrowsFile file) value knows sees = elim (eqb_tells value (word_of file)) [
+  grow_ends x (GrowStep.GrowsFile file) value knows sees = elim (eqb_tells value (word_of file)) [
     | inl e ↦ rw e.0 (refl, refl)
     | inr e ↦
         let other : More finds_other = sees.now finds_other (missed (value == word_of file) e.0) in
         rw e.0 (other, refl)
   ]
-  grow_ends x RefundsBlocks value knows sees = (inl (sees.earlier finds_other knows), refl)
+  grow_ends x GrowStep.RefundsBlocks value knows sees = (inl (sees.earlier finds_other knows), refl)
 
-  -- a move that answers
   move_answers : (x : MoveTo) (answer : Result Reply GateError) (e : Event) → MoveAnswers Seen answer → SeesMore Seen More e →
-      EndsWell (λ (y : MoveTo). MoveKnows More y y.step) (λ y. move_added y y.step) (IsReply UnitReply) (MoveHonest More x)
-      (where_done (MoveToAction x.file x.dir)) (Done answer) (where_done (MoveToAction x.file x.dir) answer)
+      EndsWell (λ (y : MoveTo). MoveKnows More y y.step) (λ y. move_added y y.step) (IsReply Reply.Unit) (MoveHonest More x)
+      (where_done (Action.MoveTo x.file x.dir)) (Next.Done answer) (where_done (Action.MoveTo x.file x.dir) answer)
   move_answers x (Ok reply) e knows sees = (knows, refl)
-  move_answers x (Err Again) e knows sees = (sees.earlier finds_other knows, refl)
+  move_answers x (Err GateError.Again) e knows sees = (sees.earlier finds_other knows, refl)
   move_answers x (Err refusal) e knows sees = absurd knows
 
-  -- each event of a move
   pub move_ends : (x : MoveTo) (step : MoveStep) (value : ℕ) → MoveKnows Seen x step →
       SeesMore Seen More (event_of (move_next x step).0 (move_next x step).1 value) →
       MoveEnds More x step (found_by (move_next x step).1 value)
-  move_ends x LoadsFileToMove value knows sees =
-      look_ends (λ (y : MoveTo). MoveKnows More y y.step) (λ y. move_added y y.step) (IsReply UnitReply) (MoveHonest More x)
-      (where_done (MoveToAction x.file x.dir)) (at_move x LoadsFileToMove) (λ file. at_move x (LoadsTarget file)) [] (file_in value)
+  move_ends x MoveStep.LoadsFile value knows sees =
+      look_ends (λ (y : MoveTo). MoveKnows More y y.step) (λ y. move_added y y.step) (IsReply Reply.Unit) (MoveHonest More x)
+      (where_done (Action.MoveTo x.file x.dir)) (at_move x MoveStep.LoadsFile) (λ file. at_move x (MoveStep.LoadsDirectory file)) [] (file_in value)
       (tt, refl)
       (λ file e. (tt, refl))
       (λ refusal e. (
@@ -224,9 +194,9 @@ module _ (Seen More : (Event → Bool) → Type 0) where
         ],
         refl,
       ))
-  move_ends x (LoadsTarget file) value knows sees =
-      look_ends (λ (y : MoveTo). MoveKnows More y y.step) (λ y. move_added y y.step) (IsReply UnitReply) (MoveHonest More x)
-      (where_done (MoveToAction x.file x.dir)) (at_move x (LoadsTarget file)) (λ dir. at_move x (ChargesTarget file)) []
+  move_ends x (MoveStep.LoadsDirectory file) value knows sees =
+      look_ends (λ (y : MoveTo). MoveKnows More y y.step) (λ y. move_added y y.step) (IsReply Reply.Unit) (MoveHonest More x)
+      (where_done (Action.MoveTo x.file x.dir)) (at_move x (MoveStep.LoadsDirectory file)) (λ dir. at_move x (MoveStep.ChargesChild file)) []
       (directory_in value)
       (tt, refl) (λ dir e. (tt, refl))
       (λ refusal e. (
@@ -236,21 +206,21 @@ module _ (Seen More : (Event → Bool) → Type 0) where
         ],
         refl,
       ))
-  move_ends x (ChargesTarget file) value knows sees = (tt, refl)
-  move_ends x (MovesFile file) value knows sees = elim (eqb_tells value (word_of file)) [
+  move_ends x (MoveStep.ChargesChild file) value knows sees = (tt, refl)
+  move_ends x (MoveStep.MovesFile file) value knows sees = elim (eqb_tells value (word_of file)) [
     | inl e ↦ rw e.0 (refl, refl)
     | inr e ↦
         let other : More finds_other = sees.now finds_other (missed (value == word_of file) e.0) in
         rw e.0 (other, refl)
   ]
-  move_ends x (RefundsOne dir answer) value knows sees = move_answers x answer _ knows sees
+  move_ends x (MoveStep.RefundsChild dir answer) value knows sees = move_answers x answer _ knows sees
 
   -- each event of a page fault or a write-back
   pub mark_ends : (x : Mark) (step : MarkStep) (value : ℕ) → SeesMore Seen More (event_of (mark_next x step).0 (mark_next x step).1 value) →
       MarkEnds More x step (found_by (mark_next x step).1 value)
-  mark_ends x LoadsFileToMark value sees =
-      look_ends (λ (y : Mark). Unit {0}) (λ y. []) (IsReply UnitReply) (FileHonest More x.file) (where_done (mark_done x.dirty x.file))
-      (at_mark x LoadsFileToMark) (λ file. at_mark x (MarksFile file)) [] (file_in value) (tt, refl) (λ file e. (tt, refl))
+  mark_ends x MarkStep.LoadsFile value sees =
+      look_ends (λ (y : Mark). Unit {0}) (λ y. []) (IsReply Reply.Unit) (FileHonest More x.file) (where_done (mark_done x.dirty x.file))
+      (at_mark x MarkStep.LoadsFile) (λ file. at_mark x (MarkStep.MarksFile file)) [] (file_in value) (tt, refl) (λ file e. (tt, refl))
       (λ refusal e. (
         elim (file_refused value refusal e) [
           | inl h ↦ subst (FileHonest More x.file) (sym h.0) (sees.now (finds_gone x.file) (both _ _ (here x.file) h.1))
@@ -259,20 +229,19 @@ module _ (Seen More : (Event → Bool) → Type 0) where
         ],
         refl,
       ))
-  mark_ends x (MarksFile file) value sees = elim (eqb_tells value (word_of file)) [
+  mark_ends x (MarkStep.MarksFile file) value sees = elim (eqb_tells value (word_of file)) [
     | inl e ↦ rw e.0 (refl, refl)
     | inr e ↦
         let other : More finds_other = sees.now finds_other (missed (value == word_of file) e.0) in
         rw e.0 (other, refl)
   ]
 
-  -- each event of an open
   pub open_ends : (x : OpenFile) (step : OpenStep) (value : ℕ) →
       SeesMore Seen More (event_of (open_next x step).0 (open_next x step).1 value) →
       OpenEnds More x step (found_by (open_next x step).1 value)
-  open_ends x LoadsFileToOpen value sees =
-      look_ends (λ (y : OpenFile). Unit {0}) (λ y. []) (IsReply UnitReply) (FileHonest More x.file) (where_done (OpenAction x.file))
-      (at_open x LoadsFileToOpen) (λ file. at_open x (opens_from file (nat_lt file.opens 64))) [] (file_in value) (tt, refl)
+  open_ends x OpenStep.LoadsFile value sees =
+      look_ends (λ (y : OpenFile). Unit {0}) (λ y. []) (IsReply Reply.Unit) (FileHonest More x.file) (where_done (Action.Open x.file))
+      (at_open x OpenStep.LoadsFile) (λ file. at_open x (opens_from file (nat_lt file.opens 64))) [] (file_in value) (tt, refl)
       (λ file e. (tt, refl))
       (λ refusal e. (
         elim (file_refused value refusal e) [
@@ -282,7 +251,7 @@ module _ (Seen More : (Event → Bool) → Type 0) where
         ],
         refl,
       ))
-  open_ends x (OpensFile file) value sees = elim (eqb_tells value (word_of file)) [
+  open_ends x (OpenStep.OpensFile file) value sees = elim (eqb_tells value (word_of file)) [
     | inl e ↦ rw e.0 (refl, refl)
     | inr e ↦
         let other : More finds_other = sees.now finds_other (missed (value == word_of file) e.0) in
@@ -291,16 +260,16 @@ module _ (Seen More : (Event → Bool) → Type 0) where
 
   -- a snapshot that finds `umount` taken, and one that answers
   locked_out : (x : Snapshot) (wait : Bool) → x.wait ≡ wait → More finds_owner →
-      EndsWell (λ (y : Snapshot). SnapshotKnows More y y.step) (λ y. []) (IsReply TreeReply) (SnapshotHonest More x) (λ answer. [])
+      EndsWell (λ (y : Snapshot). SnapshotKnows More y y.step) (λ y. []) (IsReply Reply.Tree) (SnapshotHonest More x) (λ answer. [])
       (snapshot_locked_out x wait) []
   locked_out x true is owned = (tt, refl)
   locked_out x false is owned = ((is, owned), refl)
 
   snapshot_answers : (x : Snapshot) (answer : Result Reply GateError) (e : Event) → SnapshotAnswers Seen answer → SeesMore Seen More e →
-      EndsWell (λ (y : Snapshot). SnapshotKnows More y y.step) (λ y. []) (IsReply TreeReply) (SnapshotHonest More x) (λ answer. [])
-      (Done answer) []
+      EndsWell (λ (y : Snapshot). SnapshotKnows More y y.step) (λ y. []) (IsReply Reply.Tree) (SnapshotHonest More x) (λ answer. [])
+      (Next.Done answer) []
   snapshot_answers x (Ok reply) e knows sees = (knows, refl)
-  snapshot_answers x (Err Invalid) e knows sees = (sees.earlier finds_thawed knows, refl)
+  snapshot_answers x (Err GateError.Invalid) e knows sees = (sees.earlier finds_thawed knows, refl)
   snapshot_answers x (Err refusal) e knows sees = absurd knows
 
   node_knows : (x : Snapshot) (next : Option ℕ) → SnapshotKnows More x (node_step next)
@@ -311,26 +280,25 @@ module _ (Seen More : (Event → Bool) → Type 0) where
   kids_know x (Some node) = tt
   kids_know x None = refl
 
-  -- each event of a snapshot
   pub snapshot_ends : (x : Snapshot) (step : SnapshotStep) (value : ℕ) → SnapshotKnows Seen x step →
       SeesMore Seen More (event_of (snapshot_next x step).0 (snapshot_next x step).1 value) →
       SnapshotEnds More x step (found_by (snapshot_next x step).1 value)
-  snapshot_ends x Locks value knows sees = elim (eqb_tells value 0) [
+  snapshot_ends x SnapshotStep.Locks value knows sees = elim (eqb_tells value 0) [
     | inl e ↦ rw e.0 (tt, refl)
     | inr e ↦
         let owned : More finds_owner = sees.now finds_owner (missed (value == 0) e.0) in
         rw e.0 (locked_out x x.wait refl owned)
   ]
-  snapshot_ends x LoadsStage value knows sees = elim (eqb_tells value 4) [
+  snapshot_ends x SnapshotStep.LoadsStage value knows sees = elim (eqb_tells value 4) [
     | inl e ↦ rw e.0 (tt, refl)
     | inr e ↦
         let thawed : More finds_thawed = sees.now finds_thawed (missed (value == 4) e.0) in
         rw e.0 (thawed, refl)
   ]
-  snapshot_ends x LoadsUsedWord value knows sees = (tt, refl)
-  snapshot_ends x (LoadsNodeWord node) value knows sees = elim (cases_Bool (is_some (unpacked value))) [
+  snapshot_ends x SnapshotStep.LoadsUsed value knows sees = (tt, refl)
+  snapshot_ends x (SnapshotStep.LoadsNode node) value knows sees = elim (cases_Bool (is_some (unpacked value))) [
     | inl said ↦ rw said (node_knows x (node_after node x.nodes), refl)
     | inr none ↦ rw none (tt, refl)
   ]
-  snapshot_ends x (LoadsKids node) value knows sees = (kids_know x (node_after node x.nodes), refl)
-  snapshot_ends x (Releases answer) value knows sees = snapshot_answers x answer _ knows sees
+  snapshot_ends x (SnapshotStep.LoadsKids node) value knows sees = (kids_know x (node_after node x.nodes), refl)
+  snapshot_ends x (SnapshotStep.Releases answer) value knows sees = snapshot_answers x answer _ knows sees

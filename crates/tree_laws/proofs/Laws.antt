@@ -1,21 +1,17 @@
 -- Any event at the tree: a role changes with the counts, or with one node word.
 use Rattle.std.proofs.Common.{◌≡◌, ℕ, zero, suc, ◌+◌, ◌<◌, ◌≤◌, true, false, refl, sym, ap, ◌∙◌, subst, inl, inr, arith}
+use Rattle.std.proofs.lemmas.Bool.{cases_Bool, cases_lt, eq-eqb, ne_eqb, Decides.eqb_tells}
 use Rattle.std.specs.Prelude.{◌⊎◌, Option, Some, None, nat_lt}
-use Rattle.std.proofs.lemmas.Bool.{cases_Bool, cases_lt, eq-eqb, ne_eqb}
-use Rattle.std.proofs.lemmas.Bool.Decides.{eqb_tells}
-use Rattle.finite_sums.specs.Sums.{update, total}
-use Rattle.finite_sums.proofs.Totals.{each_updated, total_updated, total_changed_by, total_at}
-use Rattle.access_model.specs.declared.actions.NodeInfo.{NodeInfo}
-use Rattle.access_model.specs.declared.actions.Kind.TheVariants.{File}
-use Rattle.access_model.specs.States.{size_of, is_dirty, is_removed, one_if, IsDirectory}
-use Rattle.gated_tree.specs.declared.nodes.NodeWord.{NodeWord}
-use Rattle.gated_tree.specs.Nodes.{IsNode, opens_in, info_of, node_shown}
+use Rattle.finite_sums.{proofs.Totals.{each_updated, total_updated, total_changed_by, total_at}, specs.Sums.{update, total}}
+use Rattle.access_model.specs.{States.{size_of, is_dirty, is_removed, one_if, IsDirectory}, declared.actions.{Kind.Kind, NodeInfo.NodeInfo}}
 use Rattle.gated_tree.proofs.Words.{word_shows, word_opens}
-use Rattle.gated_tree.specs.Trees.{is_same, has_parent, is_child}
-use Rattle.gated_tree.specs.Roles.{Role, Loaded, Found, Placing, Targets, Moving, Freeing, Bare, Clearing, Reading, Bounds, TreeState, charge, child_charge, removal, frees, is_bare, cleared, words_read, tree_word, seen_as, IsLastOpen, HasParent, RoleHolds, TreeHolds, NobodyReads, MayDirty}
+use Rattle.gated_tree.specs.Nodes.{IsNode, opens_in, info_of, node_shown}
+use Rattle.gated_tree.specs.Roles.{Role, Loaded, Found, Placing, Targets, Moving, Freeing, Bare, Clearing, Reading, Bounds, TreeState, charge, child_charge}
+use Rattle.gated_tree.specs.Roles.{removal, frees, is_bare, cleared, words_read, tree_word, seen_as, IsLastOpen, HasParent, RoleHolds, TreeHolds, NobodyReads}
+use Rattle.gated_tree.specs.Roles.{MayDirty}
+use Rattle.gated_tree.specs.{Trees.{is_same, has_parent, is_child}, declared.nodes.NodeWord.NodeWord}
 use Rattle.tree_laws.specs.Events.{turned, with_node}
 
--- a number is itself, and no other
 pub same_here : (d : ℕ) → is_same d d ≡ 1
 same_here d = rw (eq-eqb d d refl)
 
@@ -51,7 +47,6 @@ role_kept c used used' removed removed' node node' kids kids' dirs (Freeing n fi
 role_kept c used used' removed removed' node node' kids kids' dirs Bare clean read word bare h = bare (omega arith) h
 role_kept c used used' removed removed' node node' kids kids' dirs _ clean read word bare h = h
 
--- a role that is to free this node is just that
 freeing_is : (c : Bounds) (used removed : ℕ) (node kids : ℕ → ℕ) (n : ℕ) (r : Role) → frees n r ≡ 1 → RoleHolds c used removed node kids r →
     (file : NodeWord) × (n < c.nodes) × IsLastOpen node n file
 freeing_is c used removed node kids n (Freeing m file) e h = elim (eqb_tells m n) [
@@ -85,7 +80,6 @@ module _ (c : Bounds) (s : TreeState) (good : TreeHolds c s) (t : ℕ) (lt : t <
   pub role_says : (r : Role) → s.at t ≡ r → RoleHolds c s.used s.removed s.node s.kids r
   role_says r e = subst (RoleHolds c s.used s.removed s.node s.kids) e (good.roles t lt)
 
-  -- no other task is to free a node that isn't removed, or that not just one task has open
   pub not_freed : (n u : ℕ) → u < c.tasks → (is_removed (node_shown (s.node n)) ≡ false) ⊎ (opens_in (s.node n) ≡ 1 → ⊥) →
       frees n (s.at u) ≡ 1 → ⊥
   not_freed n u lu other e =
@@ -94,7 +88,7 @@ module _ (c : Bounds) (s : TreeState) (good : TreeHolds c s) (t : ℕ) (lt : t <
       elim other [
         | inl linked ↦
             let shows : node_shown (s.node n) ≡ info_of f.0 = ap node_shown f.2.word ∙ word_shows f.0 f.2.parent few in
-            let kinded : info_of f.0 ≡ info_of (record f.0 { kind = Some File }) = ap (λ k. info_of (record f.0 { kind = k })) f.2.kind in
+            let kinded : info_of f.0 ≡ info_of (record f.0 { kind = Some Kind.File }) = ap (λ k. info_of (record f.0 { kind = k })) f.2.kind in
             let wrong : false ≡ true = sym linked ∙ ap is_removed (shows ∙ kinded) ∙ f.2.removed in
             absurd cc
         | inr several ↦ several (ap opens_in f.2.word ∙ word_opens f.0 f.2.parent few ∙ f.2.opens)
@@ -124,7 +118,6 @@ module _ (c : Bounds) (s : TreeState) (good : TreeHolds c s) (t : ℕ) (lt : t <
     clean = good.clean;
   }
 
-  -- `used` and the counts of children change so
   pub counts_change : (r : Role) (u : ℕ) (k : ℕ → ℕ) → u + charge (s.at t) ≡ s.used + charge r → u ≤ c.capacity →
       removal r ≡ removal (s.at t) →
       ((d : ℕ) → d < c.nodes → k d + child_charge d (s.at t) ≡ s.kids d + child_charge d r) →

@@ -1,29 +1,17 @@
 -- Each event of a clearing of the dirty marks and of a snapshot is an event of the tree.
-use Rattle.std.proofs.Common.{◌≡◌, ℕ, suc, Bool, true, false, ◌+◌, ◌-◌, ◌<◌, refl, sym, ap, ◌∙◌, subst, inl, inr, arith}
+use Rattle.std.proofs.{Common.{◌≡◌, ℕ, suc, Bool, true, false, ◌+◌, ◌-◌, ◌<◌, refl, sym, ap, ◌∙◌, subst, inl, inr, arith}, Math.Path.fun_ext}
+use Rattle.std.proofs.lemmas.Bool.{cases_lt, lt-ltb, le-ltb, Decides.eqb_tells}
 use Rattle.std.specs.Prelude.{is_some, Ok, Err}
-use Rattle.std.proofs.lemmas.Bool.{cases_lt, lt-ltb, le-ltb}
-use Rattle.std.proofs.lemmas.Bool.Decides.{eqb_tells}
-use Rattle.std.proofs.Math.Path.{fun_ext}
-use Rattle.finite_sums.specs.Sums.{update}
-use Rattle.finite_sums.proofs.Totals.{update_at, update_off}
-use Rattle.cpu_words.specs.declared.names.WordName.TheVariants.{Used, Node, Kids}
-use Rattle.cpu_words.specs.Words.{Words}
-use Rattle.gated_tree.specs.declared.marks.ClearMarks.{ClearMarks}
-use Rattle.gated_tree.specs.declared.snapshots.Snapshot.{Snapshot}
-use Rattle.gated_tree.specs.declared.snapshots.SnapshotStep.{SnapshotStep}
-use Rattle.gated_tree.specs.declared.snapshots.SnapshotStep.TheVariants.{Locks, LoadsStage, LoadsUsed, LoadsNode, LoadsKids, Releases}
-use Rattle.gated_tree.specs.Nodes.{dirty_in, unpacked}
-use Rattle.gated_tree.specs.Phases.{clear_next, clear_after, snapshot_next, snapshot_after, snapshot_locked_out}
-use Rattle.gated_tree.specs.Calls.{snapshot_role, role_after, SnapshotStepFits}
-use Rattle.gated_tree.specs.Roles.{Role, Out, Clearing, Reading, Bounds, TreeState, AreWithin, TreeHolds, HasNoCharge, tree_word, seen_as}
+use Rattle.finite_sums.{proofs.Totals.{update_at, update_off}, specs.Sums.update}
+use Rattle.cpu_words.specs.{Words.Words, declared.names.WordName.WordName}
 use Rattle.gated_tree.proofs.Packing.{packed_unpacks}
-use Rattle.tree_laws.specs.Events.{turned, MayClean}
-use Rattle.tree_laws.specs.Steps.{tree_in, words_left, found_at, EventKeeps, NotesLoad}
-use Rattle.tree_laws.proofs.Counts.{leaves}
-use Rattle.tree_laws.proofs.Clearings.{clears, passes, snapshot_begins, snapshot_loads}
-use Rattle.tree_laws.proofs.Steps.{leaves_word, ends_free, stays_at}
+use Rattle.gated_tree.specs.{Calls.{snapshot_role, role_after, SnapshotStepFits}, Nodes.{dirty_in, unpacked}}
+use Rattle.gated_tree.specs.Phases.{clear_next, clear_after, snapshot_next, snapshot_after, snapshot_locked_out}
+use Rattle.gated_tree.specs.Roles.{Role, Out, Clearing, Reading, Bounds, TreeState, AreWithin, TreeHolds, HasNoCharge, tree_word, seen_as}
+use Rattle.gated_tree.specs.declared.{marks.ClearMarks.ClearMarks, snapshots.{Snapshot.Snapshot, SnapshotStep.SnapshotStep}}
+use Rattle.tree_laws.proofs.{Clearings.{clears, passes, snapshot_begins, snapshot_loads}, Counts.leaves, Steps.{leaves_word, ends_free, stays_at}}
+use Rattle.tree_laws.specs.{Events.{turned, MayClean}, Steps.{tree_in, words_left, found_at, EventKeeps, NotesLoad}}
 
--- of two changes of one place the second stands
 update_twice : {A : Type 0} (f : ℕ → A) (t : ℕ) (a b : A) → update (update f t a) t b ≡ update f t b
 update_twice f t a b = fun_ext (λ x. elim (eqb_tells x t) [
   | inl h ↦ rw (h.0, update) refl
@@ -76,45 +64,44 @@ module _ (c : Bounds) (within : AreWithin c) (sealed bare : ℕ) (w : Words) (at
   locked_out x noted true is = stays_at c within sealed bare w at good t lt Out is
   locked_out x noted false is = stays_at c within sealed bare w at good t lt Out is
 
-  -- each event of a snapshot
   pub snapshot_step : (x : Snapshot) (step : SnapshotStep) (values noted : ℕ → ℕ) → x.nodes ≡ c.nodes → SnapshotStepFits c step →
       at t ≡ snapshot_role x.nodes values step → NotesLoad x.nodes step values noted (found_at w (snapshot_next x step)) →
       EventKeeps c sealed bare w at t (snapshot_next x step)
       (role_after (λ y. snapshot_role y.nodes noted y.step) (snapshot_after x step (found_at w (snapshot_next x step))).0)
       (snapshot_after x step (found_at w (snapshot_next x step))).1
-  snapshot_step x Locks values noted same fits is notes = elim (eqb_tells w.umount 0) [
+  snapshot_step x SnapshotStep.Locks values noted same fits is notes = elim (eqb_tells w.umount 0) [
     | inl e ↦ rw e.0 (stays_at c within sealed bare w at good t lt Out is, (refl, refl))
     | inr e ↦ rw e.0 (locked_out x noted x.wait is, (refl, refl))
   ]
-  snapshot_step x LoadsStage values noted same fits is notes = elim (eqb_tells w.stage 4) [
+  snapshot_step x SnapshotStep.LoadsStage values noted same fits is notes = elim (eqb_tells w.stage 4) [
     | inl e ↦ rw e.0 (snapshot_begins c here good t lt noted is, (refl, refl))
     | inr e ↦ rw e.0 (stays_at c within sealed bare w at good t lt Out is, (refl, refl))
   ]
-  snapshot_step x LoadsUsed values noted same fits is notes =
-      leaves_word c within sealed bare w at good t lt Used (Reading 1 noted) (reads 0 1 values noted is notes.0 notes.1 refl)
-  snapshot_step x (LoadsNode node) values noted same fits is notes =
+  snapshot_step x SnapshotStep.LoadsUsed values noted same fits is notes =
+      leaves_word c within sealed bare w at good t lt WordName.Used (Reading 1 noted) (reads 0 1 values noted is notes.0 notes.1 refl)
+  snapshot_step x (SnapshotStep.LoadsNode node) values noted same fits is notes =
       let there : is_some (unpacked (w.node node)) ≡ true = ap is_some (packed_unpacks (w.node node) (good.words node fits).packed) in
       let word : noted (suc node) ≡ tree_word c.nodes w.used w.node w.kids (suc node) = rw (lt-ltb node c.nodes fits) notes.0 in
       let load : (next : ℕ) → suc (suc node) ≡ next → TreeHolds c (turned here t (Reading next noted)) =
       λ next on. reads (suc node) next values noted is word notes.1 on in
-      leaves_word c within sealed bare w at good t lt (Node node) _ (rw there (elim (cases_lt (node + 1) x.nodes) [
+      leaves_word c within sealed bare w at good t lt (WordName.Node node) _ (rw there (elim (cases_lt (node + 1) x.nodes) [
         | inl l ↦ rw (lt-ltb (node + 1) x.nodes l) (load (suc (node + 1)) (omega arith))
         | inr l ↦ rw (le-ltb (node + 1) x.nodes l) (load (suc (x.nodes + 0)) (omega (arith, l, fits, same)))
       ]))
-  snapshot_step x (LoadsKids node) values noted same fits is notes =
+  snapshot_step x (SnapshotStep.LoadsKids node) values noted same fits is notes =
       let back : x.nodes + node - c.nodes ≡ node = omega (arith, same) in
       let word : noted (suc (x.nodes + node)) ≡ tree_word c.nodes w.used w.node w.kids (suc (x.nodes + node)) =
       rw (le-ltb (x.nodes + node) c.nodes (omega (arith, same))) (notes.0 ∙ ap w.kids (sym back)) in
-      leaves_word c within sealed bare w at good t lt (Kids node) _ (elim (cases_lt (node + 1) x.nodes) [
+      leaves_word c within sealed bare w at good t lt (WordName.Kids node) _ (elim (cases_lt (node + 1) x.nodes) [
         | inl l ↦ rw (lt-ltb (node + 1) x.nodes l)
             (reads (suc (x.nodes + node)) (suc (x.nodes + (node + 1))) values noted is word notes.1 (omega arith))
         | inr l ↦ rw (le-ltb (node + 1) x.nodes l)
             (reads (suc (x.nodes + node)) (suc (x.nodes + x.nodes)) values noted is word notes.1 (omega (arith, l, fits, same)))
       ])
-  snapshot_step x (Releases (Ok reply)) values noted same fits is notes = (
+  snapshot_step x (SnapshotStep.Releases (Ok reply)) values noted same fits is notes = (
     ends_free c within sealed bare w at good t lt (Reading (suc (x.nodes + x.nodes)) values) is
         (record { blocks = refl; removed = refl; children = λ d. refl }),
     (refl, refl),
   )
-  snapshot_step x (Releases (Err refusal)) values noted same fits is notes =
+  snapshot_step x (SnapshotStep.Releases (Err refusal)) values noted same fits is notes =
       (stays_at c within sealed bare w at good t lt Out is, (refl, refl))

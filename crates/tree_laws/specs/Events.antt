@@ -1,17 +1,17 @@
 -- The events at the tree: what a task finds and does there, the tree that it leaves, and its action.
 use Rattle.std.specs.Prelude.{◌≡◌, ℕ, suc, ◌+◌, ◌-◌, ◌<◌, ◌≤◌, ◌⊎◌, true, false, Option, Some, None, Ok, bit_and}
 use Rattle.finite_sums.specs.Sums.{update, total}
-use Rattle.access_model.specs.declared.actions.Kind.{Kind}
-use Rattle.access_model.specs.declared.actions.Kind.TheVariants.{File}
-use Rattle.access_model.specs.declared.actions.NodeInfo.{NodeInfo}
-use Rattle.access_model.specs.declared.actions.Action.{Action}
-use Rattle.access_model.specs.declared.actions.Action.TheVariants.{Create, Remove, Grow, MoveTo, Dirty, Clean, Open, Close}
-use Rattle.access_model.specs.States.{Limits, State, size_of, is_removed, IsFile, IsLinkedFile, IsDirectory, openers}
 use Rattle.access_model.specs.Actions.{HoldsSomeMount, IsWriter, MayDo, opens_after, after_action, tree_after}
+use Rattle.access_model.specs.States.{Limits, State, size_of, is_removed, IsFile, IsLinkedFile, IsDirectory, openers}
+use Rattle.access_model.specs.declared.actions.Action.{Action, TheVariants.{Create, Remove, Grow, MoveTo, Dirty, Clean, Open, Close}}
+use Rattle.access_model.specs.declared.actions.{Kind.{Kind, TheVariants.File}, NodeInfo.NodeInfo}
 use Rattle.cpu_words.specs.Touches.{wrap_add, wrap_sub}
+use Rattle.gated_tree.specs.Nodes.{dirty_in, opens_in, word_of, node_shown, IsLawful, new_node, grown_node, moved_node, marked_node, opened_node, closed_node}
+use Rattle.gated_tree.specs.Nodes.{unlinked_node, file_in, any_file_in, directory_in}
+use Rattle.gated_tree.specs.Roles.{Role, Out, Loaded, Found, Placing, Targets, Moving, Growing, Charged, Refunding, Freed, Returning, Removing, Freeing}
+use Rattle.gated_tree.specs.Roles.{Dropped, Uncounting, Bare, Clearing, Reading, Bounds, TreeState, tree_word, NobodyReads, MayDirty, MayRemove}
+use Rattle.gated_tree.specs.Roles.{NobodyElseFrees, HasNoCharge}
 use Rattle.gated_tree.specs.declared.nodes.NodeWord.{NodeWord}
-use Rattle.gated_tree.specs.Nodes.{dirty_in, opens_in, word_of, node_shown, IsLawful, new_node, grown_node, moved_node, marked_node, opened_node, closed_node, unlinked_node, file_in, any_file_in, directory_in}
-use Rattle.gated_tree.specs.Roles.{Role, Out, Loaded, Found, Placing, Targets, Moving, Growing, Charged, Refunding, Freed, Returning, Removing, Freeing, Dropped, Uncounting, Bare, Clearing, Reading, Bounds, TreeState, tree_word, NobodyReads, MayDirty, MayRemove, NobodyElseFrees, HasNoCharge}
 
 -- the same tree, with another role of task t
 abbrev pub turned : TreeState → ℕ → Role → TreeState

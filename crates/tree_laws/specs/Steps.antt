@@ -2,18 +2,12 @@
 use Rattle.std.specs.Prelude.{◌≡◌, ℕ, suc, ◌+◌, ◌<◌, Bool, true, false, Option}
 use Rattle.finite_sums.specs.Sums.{update}
 use Rattle.access_model.specs.declared.actions.Action.{Action}
-use Rattle.cpu_words.specs.declared.names.WordName.{WordName}
-use Rattle.cpu_words.specs.declared.events.Touch.{Touch}
-use Rattle.cpu_words.specs.Hooks.{HookAnswer}
-use Rattle.cpu_words.specs.Touches.{left, found_by}
-use Rattle.cpu_words.specs.Words.{Words, read, put}
-use Rattle.gated_tree.specs.declared.snapshots.SnapshotStep.{SnapshotStep}
-use Rattle.gated_tree.specs.declared.snapshots.SnapshotStep.TheVariants.{LoadsUsed, LoadsNode, LoadsKids}
+use Rattle.cpu_words.specs.{Hooks.HookAnswer, Touches.{left, found_by}, Words.{Words, read, put}, declared.{events.Touch.Touch, names.WordName.WordName}}
+use Rattle.gated_tree.specs.{Calls.{phase_role, role_after}, Phases.{next, after}, Roles.{Role, Bounds, TreeState, TreeHolds, NobodyReads, MayDirty, MayRemove}}
 use Rattle.gated_tree.specs.declared.phases.TreePhase.{TreePhase}
-use Rattle.gated_tree.specs.declared.phases.TreePhase.TheVariants.{Create as Creates, Remove as Removes, Grow as Grows, MoveTo as Moves, Mark as Marks, OpenFile as OpensOne, Snapshot as Snapshots, ClearMarks as Clears}
-use Rattle.gated_tree.specs.Phases.{next, after}
-use Rattle.gated_tree.specs.Calls.{phase_role, role_after}
-use Rattle.gated_tree.specs.Roles.{Role, Bounds, TreeState, TreeHolds, NobodyReads, MayDirty, MayRemove}
+use Rattle.gated_tree.specs.declared.phases.TreePhase.TheVariants.{Create as Creates, Remove as Removes, Grow as Grows, MoveTo as Moves, Mark as Marks}
+use Rattle.gated_tree.specs.declared.phases.TreePhase.TheVariants.{OpenFile as OpensOne, Snapshot as Snapshots, ClearMarks as Clears}
+use Rattle.gated_tree.specs.declared.snapshots.SnapshotStep.{SnapshotStep, TheVariants.{LoadsUsed, LoadsNode, LoadsKids}}
 use Rattle.tree_laws.specs.Events.{MayClean, MovesBy}
 
 -- the tree among all words, with the roles of all tasks

@@ -1,62 +1,36 @@
 -- Events of a callback: each keeps the rule, and leaves the shown model.
-use Rattle.std.proofs.Common.{◌≡◌, ℕ, ◌+◌, ◌<◌, ◌≤◌, refl, sym, ap, ◌∙◌, subst, inl, inr, arith}
+use Rattle.std.proofs.{Common.{◌≡◌, ℕ, ◌+◌, ◌<◌, ◌≤◌, refl, sym, ap, ◌∙◌, subst, inl, inr, arith}, lemmas.Bool.{cases_Bool, ltb-true, Decides.eqb_tells}}
 use Rattle.std.specs.Prelude.{Some, None, Bool, ◌==◌, ◌&&◌, ◌%◌, nat_lt, if◌then◌else◌}
-use Rattle.std.proofs.lemmas.Bool.{cases_Bool, ltb-true}
-use Rattle.std.proofs.lemmas.Bool.Decides.{eqb_tells}
-use Rattle.finite_sums.specs.Sums.{update}
-use Rattle.finite_sums.proofs.Totals.{update_same}
-use Rattle.access_model.specs.declared.replies.Next.{Next}
-use Rattle.access_model.specs.declared.replies.Next.TheVariants.{Go, Wait, Done}
-use Rattle.access_model.specs.Histories.{mounts_of, levels_of, opens_of}
-use Rattle.access_model.specs.Replies.{map_next}
-use Rattle.cpu_words.specs.declared.names.WordName.{WordName}
-use Rattle.cpu_words.specs.declared.events.Touch.{Touch}
-use Rattle.cpu_words.specs.Touches.{found_by, left}
-use Rattle.cpu_words.specs.Words.{Words, read, put}
-use Rattle.cpu_words.specs.Hooks.{HookAnswer}
-use Rattle.percpu_rwsem.specs.declared.grace.Grace.{Grace}
-use Rattle.percpu_rwsem.specs.declared.transitions.Transition.TheVariants.{Loads}
-use Rattle.percpu_rwsem.specs.declared.transitions.TransitionNext.{TransitionNext}
-use Rattle.percpu_rwsem.specs.declared.transitions.TransitionNext.TheVariants.{More, Undefined, Made}
-use Rattle.percpu_rwsem.specs.declared.callbacks.Callback.{Callback}
-use Rattle.percpu_rwsem.specs.declared.callbacks.CallbackStep.{CallbackStep}
-use Rattle.percpu_rwsem.specs.declared.callbacks.CallbackStep.TheVariants.{Claims, AwaitsSections, CallsBack}
-use Rattle.percpu_rwsem.specs.SyncWords.{on_claim, on_callback}
-use Rattle.percpu_rwsem.specs.Graces.{is_first, passed_on, looked}
-use Rattle.percpu_rwsem.specs.Transitions.{transition_after}
-use Rattle.percpu_rwsem.specs.Callbacks.{at_callback, callback_next, callback_after, claimed, callback_looked, called_back}
-use Rattle.level_laws.specs.Roles.{Out as IsApart}
-use Rattle.level_laws.specs.Events.{SyncLevel, SyncLevelHolds, SyncStep}
-use Rattle.level_laws.specs.Operations.{callback_role, KnowsCallback, CallbackIsThere, left_by, put_at, value_at, by_next, HoldsOfNext}
-use Rattle.level_laws.proofs.Operations.{callbacks_are_there}
-use Rattle.gate_world.specs.declared.config.Config.{Config}
-use Rattle.gate_world.specs.declared.views.View.{View}
-use Rattle.gate_world.specs.declared.work.Phase.TheVariants.{Callbacks}
-use Rattle.gate_world.specs.Configs.{IsWithin}
-use Rattle.gate_world.specs.Fits.{Fits, PhaseFits, GraceFits}
-use Rattle.gate_world.specs.Views.{view_after, phase_after, actions_after, held_at, holds_level, added_by, added_after, taken_by, taken_after}
-use Rattle.gate_world.specs.Worlds.{World}
-use Rattle.gate_world.specs.Shown.{shown}
-use Rattle.gate_world.specs.Levels.{sync_role_if, sync_role_of, inside, level_added_by, level_added_after, level_taken_by, level_taken_after, level_role_of}
-use Rattle.gate_world.specs.Rules.{IsGood, StepKeeps, Moves, AtLevel, SyncAt, Fitting, Holds, ViewFits}
+use Rattle.finite_sums.{proofs.Totals.update_same, specs.Sums.update}
+use Rattle.access_model.specs.{Histories.{mounts_of, levels_of, opens_of}, Replies.map_next, declared.replies.Next.Next}
+use Rattle.cpu_words.specs.{Hooks.HookAnswer, Touches.{found_by, left}, Words.{Words, read, put}, declared.{events.Touch.Touch, names.WordName.WordName}}
 use Rattle.gate_counts.specs.Levels.{Out as CountsNot}
+use Rattle.percpu_rwsem.specs.Callbacks.{at_callback, callback_next, callback_after, claimed, callback_looked, called_back}
+use Rattle.percpu_rwsem.specs.{Graces.{is_first, passed_on, looked}, SyncWords.{on_claim, on_callback}, Transitions.transition_after}
+use Rattle.percpu_rwsem.specs.declared.{callbacks.{Callback.Callback, CallbackStep.CallbackStep}, grace.Grace.Grace}
+use Rattle.percpu_rwsem.specs.declared.transitions.{Transition.Transition, TransitionNext.TransitionNext}
+use Rattle.level_laws.proofs.Operations.{callbacks_are_there}
+use Rattle.level_laws.specs.Events.{SyncLevel, SyncLevelHolds, SyncStep}
+use Rattle.level_laws.specs.{Operations.{callback_role, KnowsCallback, CallbackIsThere, left_by, put_at, value_at, by_next, HoldsOfNext}, Roles.Out as IsApart}
+use Rattle.gate_world.specs.{Configs.IsWithin, Fits.{Fits, PhaseFits, GraceFits}, LevelRuns.level_in}
+use Rattle.gate_world.specs.Levels.{sync_role_if, sync_role_of, inside, level_added_by, level_added_after, level_taken_by, level_taken_after, level_role_of}
+use Rattle.gate_world.specs.{Rules.{IsGood, StepKeeps, Moves, AtLevel, SyncAt, Fitting, Holds, ViewFits}, Shown.shown}
+use Rattle.gate_world.specs.{Views.{view_after, phase_after, actions_after, held_at, holds_level, added_by, added_after, taken_by, taken_after}, Worlds.World}
+use Rattle.gate_world.specs.declared.{config.Config.Config, views.View.View, work.Phase.Phase}
 use Rattle.gate_frames.proofs.Frames.{left_alone, level_view_as}
-use Rattle.gate_world.specs.LevelRuns.{level_in}
 use Rattle.gate_frames.proofs.LevelWorlds.{sync_on, sync_off, IsOfLevel, IsEventAt, found_level, level_there, sync_elsewhere}
 use Rattle.writer_laws.proofs.LevelParts.{IsBeside, IsAtLevels, SameAtMounts, whole_same, level_parts, level_still}
 
--- each event of a callback is one of its level that changes no section word
 pub event_of_level : (b : Callback) (s : CallbackStep) → IsEventAt b.level (callback_next b s).0 (callback_next b s).1
-event_of_level b (Claims Loads) = refl
-event_of_level b (AwaitsSections g) = tt
-event_of_level b (CallsBack Loads) = refl
+event_of_level b (CallbackStep.Claims Transition.Loads) = refl
+event_of_level b (CallbackStep.AwaitsSections g) = tt
+event_of_level b (CallbackStep.CallsBack Transition.Loads) = refl
 event_of_level b other = refl
 
--- so it is on a word of the level
 pub word_of_level : (b : Callback) (s : CallbackStep) → IsOfLevel b.level (callback_next b s).0
-word_of_level b (Claims Loads) = refl
-word_of_level b (AwaitsSections g) = tt
-word_of_level b (CallsBack Loads) = refl
+word_of_level b (CallbackStep.Claims Transition.Loads) = refl
+word_of_level b (CallbackStep.AwaitsSections g) = tt
+word_of_level b (CallbackStep.CallsBack Transition.Loads) = refl
 word_of_level b other = refl
 
 -- words of which a section word or a sync word is another
@@ -65,67 +39,59 @@ beside w sections syncs = assumption
 
 -- it leaves the words beside the levels, and each `block`
 words_beside : (w : Words) (b : Callback) (s : CallbackStep) (n : ℕ) → IsBeside w (put w (callback_next b s).0 n)
-words_beside w b (Claims Loads) n = beside w w.section (update w.sync b.level n)
-words_beside w b (AwaitsSections g) n = beside w (update w.section g.task n) w.sync
-words_beside w b (CallsBack Loads) n = beside w w.section (update w.sync b.level n)
+words_beside w b (CallbackStep.Claims Transition.Loads) n = beside w w.section (update w.sync b.level n)
+words_beside w b (CallbackStep.AwaitsSections g) n = beside w (update w.section g.task n) w.sync
+words_beside w b (CallbackStep.CallsBack Transition.Loads) n = beside w w.section (update w.sync b.level n)
 words_beside w b other n = beside w w.section (update w.sync b.level n)
 
 -- and the counts of each level
 counts_same : (w : Words) (b : Callback) (s : CallbackStep) (n : ℕ) → (put w (callback_next b s).0 n).level ≡ w.level
-counts_same w b (Claims Loads) n = refl
-counts_same w b (CallsBack Loads) n = refl
+counts_same w b (CallbackStep.Claims Transition.Loads) n = refl
+counts_same w b (CallbackStep.CallsBack Transition.Loads) n = refl
 counts_same w b other n = refl
 
 -- and which tasks are inside a section
 inside_same : (l : SyncLevel) (b : Callback) (s : CallbackStep) (n : ℕ) → (put_at l (callback_next b s).0 n).inside ≡ l.inside
-inside_same l b (Claims Loads) n = refl
-inside_same l b (CallsBack Loads) n = refl
+inside_same l b (CallbackStep.Claims Transition.Loads) n = refl
+inside_same l b (CallbackStep.CallsBack Transition.Loads) n = refl
 inside_same l b other n = refl
 
 -- its event counts nowhere
 module _ (b : Callback) (counted : ℕ → ℕ → ℕ) where
-  -- it adds nothing at a mount
   added_same : (s : CallbackStep) → added_after (callback_next b s).0 (callback_next b s).1 counted ≡ counted
-  added_same (Claims Loads) = refl
-  added_same (CallsBack Loads) = refl
+  added_same (CallbackStep.Claims Transition.Loads) = refl
+  added_same (CallbackStep.CallsBack Transition.Loads) = refl
   added_same other = refl
 
-  -- and takes nothing there
   taken_same : (s : CallbackStep) → taken_after (callback_next b s).0 (callback_next b s).1 counted ≡ counted
-  taken_same (Claims Loads) = refl
-  taken_same (CallsBack Loads) = refl
+  taken_same (CallbackStep.Claims Transition.Loads) = refl
+  taken_same (CallbackStep.CallsBack Transition.Loads) = refl
   taken_same other = refl
 
-  -- it adds nothing at a level
   level_added_same : (s : CallbackStep) → level_added_after (callback_next b s).0 (callback_next b s).1 counted ≡ counted
-  level_added_same (Claims Loads) = refl
-  level_added_same (CallsBack Loads) = refl
+  level_added_same (CallbackStep.Claims Transition.Loads) = refl
+  level_added_same (CallbackStep.CallsBack Transition.Loads) = refl
   level_added_same other = refl
 
-  -- and takes nothing there
   level_taken_same : (s : CallbackStep) → level_taken_after (callback_next b s).0 (callback_next b s).1 counted ≡ counted
-  level_taken_same (Claims Loads) = refl
-  level_taken_same (CallsBack Loads) = refl
+  level_taken_same (CallbackStep.Claims Transition.Loads) = refl
+  level_taken_same (CallbackStep.CallsBack Transition.Loads) = refl
   level_taken_same other = refl
 
--- it adds no action
 no_action : (b : Callback) (s : CallbackStep) (found : ℕ) → (callback_after b s found).1 ≡ None
-no_action b (Claims x) found = refl
+no_action b (CallbackStep.Claims x) found = refl
 no_action b other found = refl
 
--- what comes after an event, or nothing, is at levels alone
-after_at_levels : (n : Next Callback) → IsAtLevels (phase_after (map_next Callbacks n))
-after_at_levels (Go x) = assumption
+after_at_levels : (n : Next Callback) → IsAtLevels (phase_after (map_next Phase.Callbacks n))
+after_at_levels (Next.Go x) = assumption
 after_at_levels other = assumption
 
--- it counts at no level
-after_counts : (i : ℕ) (n : Next Callback) → level_role_of i (phase_after (map_next Callbacks n)) ≡ CountsNot
-after_counts i (Go x) = refl
+after_counts : (i : ℕ) (n : Next Callback) → level_role_of i (phase_after (map_next Phase.Callbacks n)) ≡ CountsNot
+after_counts i (Next.Go x) = refl
 after_counts i other = refl
 
--- and is inside no section
-after_outside : (n : Next Callback) → inside (phase_after (map_next Callbacks n)) ≡ 0
-after_outside (Go x) = refl
+after_outside : (n : Next Callback) → inside (phase_after (map_next Phase.Callbacks n)) ≡ 0
+after_outside (Next.Go x) = refl
 after_outside other = refl
 
 -- what stays of a callback from event to event: its level, and that its grace period is among all tasks
@@ -150,42 +116,41 @@ looked_stays b g e lt found =
       | inr h ↦ rw h (passed_stays b g e)
     ]
 
--- an event of the claim
 claim_stays : (b : Callback) → 0 < b.tasks → (n : TransitionNext) → HoldsOfNext (Stays b.level b.tasks) (claimed b n)
-claim_stays b some (More x) = (refl, refl, tt)
-claim_stays b some Undefined = tt
-claim_stays b some (Made state) = (refl, refl, (refl, some))
+claim_stays b some (TransitionNext.More x) = (refl, refl, tt)
+claim_stays b some TransitionNext.Undefined = tt
+claim_stays b some (TransitionNext.Made state) = (refl, refl, (refl, some))
 
 -- an event of its own transition
 call_stays : (b : Callback) (n : TransitionNext) → HoldsOfNext (Stays b.level b.tasks) (called_back b n)
-call_stays b (More x) = (refl, refl, tt)
-call_stays b Undefined = (refl, refl, tt)
-call_stays b (Made state) = tt
+call_stays b (TransitionNext.More x) = (refl, refl, tt)
+call_stays b TransitionNext.Undefined = (refl, refl, tt)
+call_stays b (TransitionNext.Made state) = tt
 
 -- so each event leaves it
 stays_after : (b : Callback) → 0 < b.tasks → (s : CallbackStep) → GraceFits b.tasks s → (found : ℕ) →
     HoldsOfNext (Stays b.level b.tasks) (callback_after b s found).0
-stays_after b some (Claims x) f found = claim_stays b some (transition_after on_claim x found)
-stays_after b some (AwaitsSections g) f found = looked_stays b g f.0 f.1 found
-stays_after b some (CallsBack x) f found = call_stays b (transition_after on_callback x found)
+stays_after b some (CallbackStep.Claims x) f found = claim_stays b some (transition_after on_claim x found)
+stays_after b some (CallbackStep.AwaitsSections g) f found = looked_stays b g f.0 f.1 found
+stays_after b some (CallbackStep.CallsBack x) f found = call_stays b (transition_after on_callback x found)
 
 -- at its level, the role of what comes after an event is the one of its step
 role_next : (i tasks : ℕ) (n : Next Callback) → HoldsOfNext (Stays i tasks) n →
-    by_next (λ (x : Callback). callback_role x.step) IsApart n ≡ sync_role_of i (phase_after (map_next Callbacks n))
-role_next i tasks (Go x) h = sym (ap (λ k. sync_role_if (i == k) (callback_role x.step)) h.0 ∙ sync_on i (callback_role x.step))
-role_next i tasks (Wait x) h = sym (ap (λ k. sync_role_if (i == k) (callback_role x.step)) h.0 ∙ sync_on i (callback_role x.step))
-role_next i tasks (Done answer) h = refl
+    by_next (λ (x : Callback). callback_role x.step) IsApart n ≡ sync_role_of i (phase_after (map_next Phase.Callbacks n))
+role_next i tasks (Next.Go x) h = sym (ap (λ k. sync_role_if (i == k) (callback_role x.step)) h.0 ∙ sync_on i (callback_role x.step))
+role_next i tasks (Next.Wait x) h = sym (ap (λ k. sync_role_if (i == k) (callback_role x.step)) h.0 ∙ sync_on i (callback_role x.step))
+role_next i tasks (Next.Done answer) h = refl
 
 -- at another level there is none
 role_elsewhere : (i j tasks : ℕ) → (j ≡ i → ⊥) → (n : Next Callback) → HoldsOfNext (Stays i tasks) n →
-    sync_role_of j (phase_after (map_next Callbacks n)) ≡ IsApart
-role_elsewhere i j tasks ne (Go x) h = sync_off j x.level (callback_role x.step) (λ q. ne (q ∙ h.0))
-role_elsewhere i j tasks ne (Wait x) h = sync_off j x.level (callback_role x.step) (λ q. ne (q ∙ h.0))
-role_elsewhere i j tasks ne (Done answer) h = refl
+    sync_role_of j (phase_after (map_next Phase.Callbacks n)) ≡ IsApart
+role_elsewhere i j tasks ne (Next.Go x) h = sync_off j x.level (callback_role x.step) (λ q. ne (q ∙ h.0))
+role_elsewhere i j tasks ne (Next.Wait x) h = sync_off j x.level (callback_role x.step) (λ q. ne (q ∙ h.0))
+role_elsewhere i j tasks ne (Next.Done answer) h = refl
 
 -- one callback of a level and of all tasks that knows what is to come fits
 one_fits : (c : Config) (t level tasks : ℕ) (held : ℕ → ℕ) (levels : ℕ → Bool) → 1 ≤ level → level ≤ 3 → tasks ≡ c.tasks → (x : Callback) →
-    Stays level tasks x → KnowsCallback x.step → PhaseFits c t held levels (Callbacks x)
+    Stays level tasks x → KnowsCallback x.step → PhaseFits c t held levels (Phase.Callbacks x)
 one_fits c t level tasks held levels one three all x stays knows = (
   omega (arith, one, stays.0),
   omega (arith, three, stays.0),
@@ -198,15 +163,15 @@ one_fits c t level tasks held levels one three all x stays knows = (
 next_fits : (c : Config) (t level tasks : ℕ) (held : ℕ → ℕ) (levels : ℕ → Bool) → 1 ≤ level → level ≤ 3 → tasks ≡ c.tasks →
     (n : Next Callback) → HoldsOfNext (Stays level tasks) n →
     HoldsOfNext (λ (x : Callback). (x.tasks ≡ tasks) × KnowsCallback x.step) n →
-    Fits c t held levels (phase_after (map_next Callbacks n))
-next_fits c t level tasks held levels one three all (Go x) stays knows =
+    Fits c t held levels (phase_after (map_next Phase.Callbacks n))
+next_fits c t level tasks held levels one three all (Next.Go x) stays knows =
     one_fits c t level tasks held levels one three all x stays knows.1
-next_fits c t level tasks held levels one three all (Wait x) stays knows =
+next_fits c t level tasks held levels one three all (Next.Wait x) stays knows =
     one_fits c t level tasks held levels one three all x stays knows.1
-next_fits c t level tasks held levels one three all (Done answer) stays knows = tt
+next_fits c t level tasks held levels one three all (Next.Done answer) stays knows = tt
 
 module _ (c : Config) (w : World) (good : IsGood c w) (t : ℕ) (lt : t < c.tasks) (hook : HookAnswer) (b : Callback) (s : CallbackStep)
-    (e : (w.views t).phase ≡ Some (Callbacks (at_callback b s))) where
+    (e : (w.views t).phase ≡ Some (Phase.Callbacks (at_callback b s))) where
   -- the word of its event
   abbrev pub name : WordName
   name = (callback_next b s).0
@@ -221,30 +186,25 @@ module _ (c : Config) (w : World) (good : IsGood c w) (t : ℕ) (lt : t < c.task
 
   -- its view then
   abbrev pub seen_after : View
-  seen_after = view_after (w.views t) (Callbacks (at_callback b s)) (read w.words name) hook
+  seen_after = view_after (w.views t) (Phase.Callbacks (at_callback b s)) (read w.words name) hook
 
-  -- the words
   abbrev then_words : Words
   then_words = put w.words name (left touch (read w.words name))
 
-  -- and the world
   abbrev then_world : World
   then_world = record { words = then_words; views = update w.views t seen_after }
 
   -- what its phase says before the event
-  here_fits : PhaseFits c t (held_at (w.views t)) (holds_level (w.views t)) (Callbacks (at_callback b s))
+  here_fits : PhaseFits c t (held_at (w.views t)) (holds_level (w.views t)) (Phase.Callbacks (at_callback b s))
   here_fits = subst (Fits c t (held_at (w.views t)) (holds_level (w.views t))) e (good Fitting t lt)
 
-  -- there is a task
   some_task : 0 < b.tasks
   some_task = omega (arith, lt, here_fits.2)
 
-  -- it stays at its level
   stays : HoldsOfNext (Stays b.level b.tasks) coming
   stays =
       stays_after b some_task s (subst (λ k. GraceFits k s) (sym here_fits.2) here_fits.3) (found_by touch (read w.words name))
 
-  -- its event is one of its level
   is_there : CallbackIsThere t (read w.words name) (level_in w b.level) b s
   is_there =
       callbacks_are_there t (read w.words name) (level_in w b.level) (at_callback b s) (omega (arith, lt, here_fits.2))
@@ -285,17 +245,14 @@ module _ (c : Config) (w : World) (good : IsGood c w) (t : ℕ) (lt : t < c.task
       (by_next (λ (x : Callback). callback_role x.step) IsApart
       (callback_after b s (found_by touch (value_at (level_in w i) (read w.words name) name))).0))) here_fits.2 is_there.0)))
 
-  -- so it leaves what holds at its level
   own_level : SyncLevelHolds c.tasks (level_in then_world b.level)
   own_level =
       level_there c w good t lt b.level name touch (word_of_level b s) seen_after here_fits.0 here_fits.1 steps_there
 
-  -- its task's role at the other levels stays
   pub stays_apart : (i : ℕ) → (i ≡ b.level → ⊥) → sync_role_of i seen_after.phase ≡ sync_role_of i (w.views t).phase
   stays_apart i ne =
       role_elsewhere b.level i b.tasks ne coming stays ∙ sym (ap (sync_role_of i) e ∙ sync_off i b.level (callback_role s) ne)
 
-  -- and the other levels
   syncs : (i : ℕ) → Holds c then_world (SyncAt i)
   syncs i =
       elim (eqb_tells i b.level) [
@@ -304,11 +261,9 @@ module _ (c : Config) (w : World) (good : IsGood c w) (t : ℕ) (lt : t < c.task
             sync_elsewhere c w good t lt b.level name touch (event_of_level b s) seen_after i q.1 (stays_apart i q.1)
       ]
 
-  -- it adds no action, so the task holds what it held
   same_actions : seen_after.actions ≡ (w.views t).actions
   same_actions = ap (λ a. actions_after a (w.views t).actions) (no_action b s (found_by touch (read w.words name)))
 
-  -- nothing changes at a mount
   same_at_mounts : SameAtMounts (w.views t) seen_after
   same_at_mounts = record {
     held_same = ap mounts_of same_actions;
@@ -317,7 +272,6 @@ module _ (c : Config) (w : World) (good : IsGood c w) (t : ℕ) (lt : t < c.task
     open_same = ap opens_of same_actions;
   }
 
-  -- nor at the counts of a level
   level_counts : (i : ℕ) → Holds c then_world (AtLevel i)
   level_counts i =
       left_alone c w t lt (AtLevel i) then_words seen_after (
@@ -329,17 +283,15 @@ module _ (c : Config) (w : World) (good : IsGood c w) (t : ℕ) (lt : t < c.task
       (ap (λ f. f i) (level_taken_same b (level_taken_by (w.views t).events) s))
       (after_counts i coming ∙ sym (ap (level_role_of i) e))) (good (AtLevel i))
 
-  -- what comes after it fits
   fits_next : ViewFits c t seen_after
   fits_next =
       next_fits c t b.level b.tasks (held_at seen_after) (holds_level seen_after) here_fits.0 here_fits.1 here_fits.2 coming stays
       knows_next
 
-  -- so the rule holds, and the shown model is as it was
-  keeps_at : StepKeeps c w t hook (Callbacks (at_callback b s))
+  keeps_at : StepKeeps c w t hook (Phase.Callbacks (at_callback b s))
   keeps_at =
       let words : IsBeside w.words then_words = words_beside w.words b s (left touch (read w.words name)) in
-      let was : IsAtLevels (w.views t).phase = subst IsAtLevels (sym e) (after_at_levels (Go (at_callback b s))) in
+      let was : IsAtLevels (w.views t).phase = subst IsAtLevels (sym e) (after_at_levels (Next.Go (at_callback b s))) in
       let now : IsAtLevels seen_after.phase = after_at_levels coming in (
         level_parts c w good t lt then_words seen_after words was now same_at_mounts fits_next level_counts syncs own_level.sections.odd,
         subst (λ a. Moves c (shown c w) t a (shown c then_world)) (sym (no_action b s (found_by touch (read w.words name))))
@@ -348,5 +300,5 @@ module _ (c : Config) (w : World) (good : IsGood c w) (t : ℕ) (lt : t < c.task
 
 -- each event of a callback keeps the rule, and leaves the shown model
 pub callback_keeps : (c : Config) → IsWithin c → (w : World) → IsGood c w → (t : ℕ) → t < c.tasks → (hook : HookAnswer) (b : Callback) →
-    (w.views t).phase ≡ Some (Callbacks b) → StepKeeps c w t hook (Callbacks b)
+    (w.views t).phase ≡ Some (Phase.Callbacks b) → StepKeeps c w t hook (Phase.Callbacks b)
 callback_keeps c lim w good t lt hook b e = keeps_at c w good t lt hook b b.step e

@@ -1,63 +1,45 @@
 -- All that is proved of a callback.
-use Rattle.access_model.specs.declared.replies.Next.TheVariants.{Go}
-use Rattle.access_model.specs.declared.actions.Action.{Action}
-use Rattle.access_model.specs.Replies.{map_next}
-use Rattle.gate_world.specs.KeptCauses.{CauseOf}
-use Rattle.access_model.specs.declared.replies.Next.{Next}
-use Rattle.percpu_rwsem.specs.Callbacks.{callback_after}
-use Rattle.std.proofs.Common.{◌≡◌, ℕ, refl, subst, ◌≤◌, sym}
-use Rattle.std.specs.Prelude.{Some, List, ◌==◌, Option, ◌∷◌}
-use Rattle.percpu_rwsem.specs.declared.callbacks.Callback.{Callback}
+use Rattle.std.{proofs.Common.{◌≡◌, ℕ, refl, subst, ◌≤◌, sym}, specs.Prelude.{Some, List, ◌==◌, Option, ◌∷◌}}
+use Rattle.access_model.specs.{Replies.map_next, declared.{actions.Action.Action, replies.Next.Next}}
+use Rattle.percpu_rwsem.specs.{Callbacks.callback_after, declared.callbacks.Callback.Callback}
 use Rattle.level_laws.specs.Roles.{Out as IsApart}
-use Rattle.gate_world.specs.declared.config.Config.{Config}
-use Rattle.gate_world.specs.declared.operations.Op.TheVariants.{Callback as CallbackOp}
-use Rattle.gate_world.specs.declared.work.Phase.TheVariants.{Callbacks}
-use Rattle.gate_world.specs.Fits.{Fits, ActionFits, mounts_by, levels_by}
-use Rattle.gate_world.specs.Levels.{sync_role_if}
-use Rattle.gate_world.specs.Rules.{Fitting}
-use Rattle.gate_world.specs.Views.{held_at, holds_level, phase_after}
-use Rattle.gate_world.specs.Worlds.{World, after_step, found_at}
-use Rattle.gate_frames.proofs.Keeps.{by_bool, word_among, PhaseKeeps, OpKeeps}
-use Rattle.gate_frames.proofs.Snapshots.{completes_none}
-use Rattle.gate_frames.proofs.Says.{tells, is_short}
-use Rattle.writer_laws.proofs.ReadFits.{level_there, callback_there, callback_goes, callback_acts_none}
-use Rattle.writer_laws.proofs.CallbackEvents.{callback_keeps}
-use Rattle.writer_laws.proofs.ReadWaits.{callback_waits}
-use Rattle.writer_laws.proofs.ReadRuns.{callback_runs}
-use Rattle.writer_laws.proofs.CallbackTraces.{CallbackAt, callback_kept}
+use Rattle.gate_world.specs.{Fits.{Fits, ActionFits, mounts_by, levels_by}, KeptCauses.CauseOf, Levels.sync_role_if, Rules.Fitting}
+use Rattle.gate_world.specs.{Views.{held_at, holds_level, phase_after}, Worlds.{World, after_step, found_at}}
+use Rattle.gate_world.specs.declared.{config.Config.Config, operations.Op.Op, work.Phase.Phase}
+use Rattle.gate_frames.proofs.{Keeps.{by_bool, word_among, PhaseKeeps, OpKeeps}, Says.{tells, is_short}, Snapshots.completes_none}
+use Rattle.writer_laws.proofs.{CallbackEvents.callback_keeps, CallbackTraces.{CallbackAt, callback_kept}}
+use Rattle.writer_laws.proofs.{ReadFits.{level_there, callback_there, callback_goes, callback_acts_none}, ReadRuns.callback_runs, ReadWaits.callback_waits}
 
 -- what comes after an event of a callback has no cause
 callback_cause : (c : Config) (t : ℕ) (w : World) (earlier : List World) (n : Next Callback) →
-    CauseOf c t w earlier (phase_after (map_next Callbacks n))
-callback_cause c t w earlier (Go x) = tt
+    CauseOf c t w earlier (phase_after (map_next Phase.Callbacks n))
+callback_cause c t w earlier (Next.Go x) = tt
 callback_cause c t w earlier other = tt
 
--- of each of its phases
-pub callback_phase : (c : Config) (b : Callback) → PhaseKeeps c (Callbacks b)
+pub callback_phase : (c : Config) (b : Callback) → PhaseKeeps c (Phase.Callbacks b)
 callback_phase c b = record {
   step = λ within w good t lt hook e. callback_keeps c within w good t lt hook b e;
   runs = λ within w good t lt hook e i one three. callback_runs c w good t lt hook b e i;
-  completes = λ within w good t lt hook e. completes_none c w t hook (Callbacks b) (λ trace found. refl);
+  completes = λ within w good t lt hook e. completes_none c w t hook (Phase.Callbacks b) (λ trace found. refl);
   word = λ n le t lt held levels hook f. word_among c n le _ (callback_there c b b.step f.0 f.1 f.3);
   acts = λ within t held levels found hook f.
       subst (ActionFits held) (sym (callback_acts_none b b.step found)) tt;
   goes = λ within t held levels found hook f.
       subst (λ (a : Option Action). Fits c t (mounts_by a held) (levels_by a levels)
-      (phase_after (map_next Callbacks (callback_after b b.step found).0)))
+      (phase_after (map_next Phase.Callbacks (callback_after b b.step found).0)))
       (sym (callback_acts_none b b.step found)) (callback_goes c within t held levels b b.step found f);
   agrees = λ t f g h k mounts levels fits. fits;
   stays = λ w next earlier good t f e was quiet h. tt;
   causes = λ w earlier good t lt hook e after is h.
-      callback_cause c t (after_step w t (Callbacks b) hook) (w ∷ earlier)
-      (callback_after b b.step (found_at w.words (Callbacks b) hook)).0;
+      callback_cause c t (after_step w t (Phase.Callbacks b) hook) (w ∷ earlier)
+      (callback_after b b.step (found_at w.words (Phase.Callbacks b) hook)).0;
   reasons = λ within w earlier good t lt hook e cause.
-      let f : Fits c t (held_at (w.views t)) (holds_level (w.views t)) (Some (Callbacks b)) =
+      let f : Fits c t (held_at (w.views t)) (holds_level (w.views t)) (Some (Phase.Callbacks b)) =
       subst (Fits c t (held_at (w.views t)) (holds_level (w.views t))) e (good Fitting t lt) in
       callback_waits c w earlier t good b hook b.step e f.3;
 }
 
--- of its beginning and its trace
-pub callback_op : (c : Config) (i : ℕ) → OpKeeps c (CallbackOp i)
+pub callback_op : (c : Config) (i : ℕ) → OpKeeps c (Op.Callback i)
 callback_op c i = record {
   fits = λ t held levels there order room.
       let l : (1 ≤ i) × (i ≤ 3) = level_there i there in
@@ -77,7 +59,7 @@ callback_op c i = record {
   room_agrees = λ f g mounts there. refl;
   restores = λ refusal trace before order. (refl, refl, refl);
   file = λ t files own closed. tt;
-  tells = λ within t trace h. tells (CallbackAt i c.tasks) c t (CallbackOp i) (callback_kept c t i) trace h;
-  short = λ within t trace h. is_short (CallbackAt i c.tasks) c t (CallbackOp i) (callback_kept c t i) trace h;
+  tells = λ within t trace h. tells (CallbackAt i c.tasks) c t (Op.Callback i) (callback_kept c t i) trace h;
+  short = λ within t trace h. is_short (CallbackAt i c.tasks) c t (Op.Callback i) (callback_kept c t i) trace h;
   most_small = λ within. tt;
 }

@@ -1,35 +1,21 @@
 -- The counts of a freeze level after each kind of event of a reader there.
-use Rattle.cpu_words.specs.declared.events.Touch.TheVariants.{Add, Sub}
-use Rattle.cpu_words.specs.declared.names.WordName.TheVariants.{LevelCount}
-use Rattle.gate_counts.proofs.LevelLaws.{adds_slow, adds_fast, backs_away, gives_back}
-use Rattle.cpu_words.specs.Touches.{wrap_add, wrap_sub}
-use Rattle.access_model.specs.declared.actions.Action.{Action}
-use Rattle.gate_world.specs.declared.work.Phase.{Phase}
-use Rattle.access_model.specs.declared.replies.Next.{Next}
-use Rattle.cpu_words.specs.Hooks.{HookAnswer}
-use Rattle.gate_world.specs.Configs.{IsWithin}
-use Rattle.gate_world.specs.Views.{holds_level, view_with}
-use Rattle.finite_sums.proofs.Totals.{update_map, update_at, update_off}
-use Rattle.gate_frames.proofs.Frames.{left_alone, level_as, level_view_as}
-use Rattle.std.proofs.lemmas.Bool.Decides.{eqb_tells}
-use Rattle.writer_laws.proofs.LevelParts.{IsBeside, whole_same}
-use Rattle.gate_world.specs.declared.views.View.{View}
-use Rattle.finite_sums.specs.Sums.{update}
-use Rattle.cpu_words.specs.Words.{Words, put}
-use Rattle.gate_world.specs.Rules.{IsGood, Holds, AtLevel}
-use Rattle.gate_world.specs.Worlds.{World}
-use Rattle.std.proofs.lemmas.Bool.{eq-eqb, ne_eqb}
-use Rattle.gate_world.specs.declared.config.Config.{Config}
-use Rattle.gate_world.specs.Levels.{count_role_if, is_frozen_whole, at_level, level_role_of, level_added_by, level_taken_by}
 use Rattle.std.proofs.Common.{◌≡◌, ℕ, ◌+◌, ◌<◌, ◌≤◌, Bool, true, false, refl, sym, ap, ◌∙◌, subst, inl, inr, arith}
+use Rattle.std.proofs.lemmas.Bool.{eq-eqb, ne_eqb, Decides.eqb_tells}
 use Rattle.std.specs.Prelude.{◌==◌, if◌then◌else◌, Option}
+use Rattle.finite_sums.{proofs.Totals.{update_map, update_at, update_off}, specs.Sums.update}
+use Rattle.access_model.specs.declared.{actions.Action.Action, replies.Next.Next}
+use Rattle.cpu_words.specs.{Hooks.HookAnswer, Touches.{wrap_add, wrap_sub}, Words.{Words, put}, declared.{events.Touch.Touch, names.WordName.WordName}}
+use Rattle.gate_counts.proofs.LevelLaws.{adds_slow, adds_fast, backs_away, gives_back}
 use Rattle.gate_counts.specs.Levels.{Out as CountsNot, Seeking, BackingOff, LevelRole, LevelView, LevelHolds}
+use Rattle.gate_world.specs.{Configs.IsWithin, Levels.{count_role_if, is_frozen_whole, at_level, level_role_of, level_added_by, level_taken_by}}
+use Rattle.gate_world.specs.{Rules.{IsGood, Holds, AtLevel}, Views.{holds_level, view_with}, Worlds.World}
+use Rattle.gate_world.specs.declared.{config.Config.Config, views.View.View, work.Phase.Phase}
+use Rattle.gate_frames.proofs.Frames.{left_alone, level_as, level_view_as}
+use Rattle.writer_laws.proofs.LevelParts.{IsBeside, whole_same}
 
--- at its own level a role is that
 pub count_on : (i : ℕ) (r : LevelRole) → count_role_if (i == i) r ≡ r
 count_on i r = rw (eq-eqb i i refl)
 
--- and at others none
 pub count_off : (j i : ℕ) (r : LevelRole) → (j ≡ i → ⊥) → count_role_if (j == i) r ≡ CountsNot
 count_off j i r ne = rw (ne_eqb j i ne)
 
@@ -78,25 +64,23 @@ module _ (c : Config) (lim : IsWithin c) (w : World) (good : IsGood c w) (t : �
     (hook : HookAnswer) (coming : Next Phase × Option Action) where
   -- the words after an addition to a level's count on this processor
   abbrev pub words_up : Words
-  words_up = put w.words (LevelCount i p) (wrap_add (w.words.level i p) 1)
+  words_up = put w.words (WordName.LevelCount i p) (wrap_add (w.words.level i p) 1)
 
   -- and after a subtraction
   abbrev pub words_down : Words
-  words_down = put w.words (LevelCount i p) (wrap_sub (w.words.level i p) 1)
+  words_down = put w.words (WordName.LevelCount i p) (wrap_sub (w.words.level i p) 1)
 
   -- the task's view after the addition
   abbrev pub view_up : View
-  view_up = view_with (w.views t) (LevelCount i p, Add 1) (w.words.level i p) hook coming
+  view_up = view_with (w.views t) (WordName.LevelCount i p, Touch.Add 1) (w.words.level i p) hook coming
 
   -- and after the subtraction
   abbrev pub view_down : View
-  view_down = view_with (w.views t) (LevelCount i p, Sub 1) (w.words.level i p) hook coming
+  view_down = view_with (w.views t) (WordName.LevelCount i p, Touch.Sub 1) (w.words.level i p) hook coming
 
-  -- an addition leaves the words beside the level
   pub up_beside : IsBeside w.words words_up
   up_beside = assumption
 
-  -- so does a subtraction
   pub down_beside : IsBeside w.words words_down
   down_beside = assumption
 

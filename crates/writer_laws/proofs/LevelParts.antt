@@ -1,37 +1,21 @@
 -- What an event at a freeze level leaves alone, where it leaves the word `block` of each.
-use Rattle.gate_frames.proofs.Known.{known_same}
-use Rattle.gated_tree.specs.Nodes.{node_shown}
-use Rattle.gated_tree.specs.Roles.{Out as OffTree, sealed_by, bare_by}
-use Rattle.holder_laws.specs.Roles.{Apart}
-use Rattle.gate_world.specs.Holders.{holder_role_of}
-use Rattle.freeze_levels.specs.Holders.{holders_in}
-use Rattle.gate_world.specs.Trees.{is_sealed, tree_role_of, is_bare_at}
-use Rattle.gate_world.specs.declared.views.Traced.{Traced}
-use Rattle.gate_world.specs.Owners.{KnowsWords}
-use Rattle.mount_counts.specs.Roles.{ro_bit, Out}
-use Rattle.access_model.specs.declared.replies.Next.TheVariants.{Go}
-use Rattle.finite_sums.proofs.Totals.{update_same, each_updated}
-use Rattle.gate_frames.proofs.Frames.{shown_as, left_alone, view_as}
-use Rattle.gate_world.specs.Shown.{closing, shown}
-use Rattle.finite_sums.specs.Sums.{update}
-use Rattle.access_model.specs.Replies.{map_next}
-use Rattle.gate_world.specs.Worlds.{World}
-use Rattle.gate_world.specs.declared.work.Phase.TheVariants.{UpReads, DownReads}
-use Rattle.percpu_rwsem.specs.declared.readers.DownRead.{DownRead}
-use Rattle.gate_world.specs.Levels.{is_frozen_whole, sync_role_of, inside, at_level}
-use Rattle.gate_world.specs.Views.{held_at, added_by, phase_after, taken_by, holds_level, has_open}
-use Rattle.gate_world.specs.Rules.{owns, remounts, IsGood, Holds, ViewFits, Owner, Known, AtMount, AtLevel, role_of, SyncAt, Sections, Stages, Holding, Fitting, Tree, Files}
-use Rattle.gate_world.specs.Stages.{stage_role_of}
-use Rattle.gate_world.specs.Fits.{file_of}
-use Rattle.stage_laws.specs.Roles.{Aside, sums}
-use Rattle.gate_world.specs.declared.config.Config.{Config}
-use Rattle.percpu_rwsem.specs.declared.readers.UpRead.{UpRead}
-use Rattle.access_model.specs.declared.replies.Next.{Next}
-use Rattle.gate_world.specs.declared.views.View.{View}
-use Rattle.gate_world.specs.declared.work.Phase.{Phase}
+use Rattle.std.{proofs.Common.{◌≡◌, ℕ, ◌<◌, sym, ap, ◌∙◌, arith}, specs.Prelude.{◌==◌, ◌&&◌, ◌||◌, if◌then◌else◌, Option, Some, None, List}}
+use Rattle.finite_sums.{proofs.Totals.{update_same, each_updated}, specs.Sums.update}
+use Rattle.access_model.specs.{Replies.map_next, declared.replies.Next.Next}
 use Rattle.cpu_words.specs.Words.{Words}
-use Rattle.std.proofs.Common.{◌≡◌, ℕ, ◌<◌, sym, ap, ◌∙◌, arith}
-use Rattle.std.specs.Prelude.{◌==◌, ◌&&◌, ◌||◌, if◌then◌else◌, Option, Some, None, List}
+use Rattle.gated_tree.specs.{Nodes.node_shown, Roles.{Out as OffTree, sealed_by, bare_by}}
+use Rattle.mount_counts.specs.Roles.{ro_bit, Out}
+use Rattle.percpu_rwsem.specs.declared.readers.{DownRead.DownRead, UpRead.UpRead}
+use Rattle.freeze_levels.specs.Holders.{holders_in}
+use Rattle.stage_laws.specs.Roles.{Aside, sums}
+use Rattle.holder_laws.specs.Roles.{Apart}
+use Rattle.gate_world.specs.{Fits.file_of, Holders.holder_role_of, Levels.{is_frozen_whole, sync_role_of, inside, at_level}, Owners.KnowsWords}
+use Rattle.gate_world.specs.Rules.{owns, remounts, IsGood, Holds, ViewFits, Owner, Known, AtMount, AtLevel, role_of, SyncAt, Sections, Stages, Holding, Fitting}
+use Rattle.gate_world.specs.Rules.{Tree, Files}
+use Rattle.gate_world.specs.{Shown.{closing, shown}, Stages.stage_role_of, Trees.{is_sealed, tree_role_of, is_bare_at}}
+use Rattle.gate_world.specs.{Views.{held_at, added_by, phase_after, taken_by, holds_level, has_open}, Worlds.World}
+use Rattle.gate_world.specs.declared.{config.Config.Config, views.{Traced.Traced, View.View}, work.Phase.Phase}
+use Rattle.gate_frames.proofs.{Frames.{shown_as, left_alone, view_as}, Known.known_same}
 
 -- the words that are no level's own are as they were, and so is `block`
 pub record IsBeside (old new : Words) : Type 0 where
@@ -78,13 +62,11 @@ sealed_same old new words = λ k. sealed_by (words.sb_same k) (words.stage_same 
 bare_same : (old new : Words) → IsBeside old new → is_bare_at new ≡ is_bare_at old
 bare_same old new words = λ k. bare_by (words.remount_same k) (words.sb_same k)
 
--- what is there after a down-read's event is at levels alone
-pub reads_at_levels : (next : Next DownRead) → IsAtLevels (phase_after (map_next DownReads next))
-reads_at_levels (Go r) = assumption
+pub reads_at_levels : (next : Next DownRead) → IsAtLevels (phase_after (map_next Phase.DownReads next))
+reads_at_levels (Next.Go r) = assumption
 reads_at_levels other = assumption
 
--- so is an up-read
-pub end_at_levels : (u : UpRead) → IsAtLevels (Some (UpReads u))
+pub end_at_levels : (u : UpRead) → IsAtLevels (Some (Phase.UpReads u))
 end_at_levels u = assumption
 
 module _ (c : Config) (w : World) (good : IsGood c w) (t : ℕ) (lt : t < c.tasks) (ws : Words) (v : View) (words : IsBeside w.words ws)
@@ -93,13 +75,11 @@ module _ (c : Config) (w : World) (good : IsGood c w) (t : ℕ) (lt : t < c.task
   abbrev pub then_world : World
   then_world = record { words = ws; views = update w.views t v }
 
-  -- the owner of `umount` is no such task, and its words are as they were
   owner_left : Holds c then_world Owner
   owner_left =
       left_alone c w t lt Owner ws v (words.umount_same, words.remount_same)
       (now.owns_none ∙ sym was.owns_none, now.remounts_none ∙ sym was.remounts_none) (good Owner)
 
-  -- so what it knows is there
   known_left : Holds c then_world Known
   known_left x lx =
       each_updated (λ y (u : View). owns u.phase ≡ 1 → KnowsWords ws u.trace) w.views t v x
@@ -107,7 +87,6 @@ module _ (c : Config) (w : World) (good : IsGood c w) (t : ℕ) (lt : t < c.task
       (λ ne o. known_same w.words ws (words.stage_same, words.sb_same, words.remount_same, words.flags_same, words.holders_same) (w.views x).trace
       (good Known x lx o))
 
-  -- each mount
   mount_left : SameAtMounts (w.views t) v → (m : ℕ) → Holds c then_world (AtMount m)
   mount_left mounts m =
       left_alone c w t lt (AtMount m) ws v
@@ -115,7 +94,6 @@ module _ (c : Config) (w : World) (good : IsGood c w) (t : ℕ) (lt : t < c.task
       (view_as (ap (λ f. f m) mounts.held_same) (ap (λ f. f m) mounts.added_same) (ap (λ f. f m) mounts.taken_same)
       (now.out_of_mounts m ∙ sym (was.out_of_mounts m))) (good (AtMount m))
 
-  -- the tree
   tree_left : Holds c then_world Tree
   tree_left =
       left_alone c w t lt Tree ws v (
@@ -128,7 +106,6 @@ module _ (c : Config) (w : World) (good : IsGood c w) (t : ℕ) (lt : t < c.task
       )
       (now.off_tree v.trace ∙ sym (was.off_tree (w.views t).trace)) (good Tree)
 
-  -- the open files
   files_left : SameAtMounts (w.views t) v → Holds c then_world Files
   files_left mounts = left_alone c w t lt Files ws v words.node_same (mounts.open_same, now.no_file ∙ sym was.no_file) (good Files)
 
@@ -174,7 +151,6 @@ module _ (c : Config) (w : World) (good : IsGood c w) (t : ℕ) (lt : t < c.task
         tree = λ n. node_shown (words.node_same j n);
       })
 
-  -- and where they are as they were
   pub level_still : SameAtMounts (w.views t) v → holds_level v ≡ holds_level (w.views t) → shown c then_world ≡ shown c w
   level_still mounts el =
       level_shown mounts ∙
@@ -194,7 +170,6 @@ module _ (c : Config) (w : World) (good : IsGood c w) (t : ℕ) (lt : t < c.task
   pub sections_left_at : ws.section ≡ w.words.section → inside v.phase ≡ inside (w.views t).phase → Holds c then_world Sections
   sections_left_at section same = left_alone c w t lt Sections ws v section same (good Sections)
 
-  -- the counts of a level, where the task counts there as it did
   pub counts_left_at : ws.level ≡ w.words.level → ((i : ℕ) → at_level i v ≡ at_level i (w.views t)) → (i : ℕ) →
       Holds c then_world (AtLevel i)
   counts_left_at counts same i =

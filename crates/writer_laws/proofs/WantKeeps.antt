@@ -1,69 +1,44 @@
 -- All that is proved of a want and of a drop.
-use Rattle.std.proofs.Common.{◌≡◌, ℕ, Bool, true, false, arith, ap, ◌∙◌, refl, subst}
-use Rattle.std.specs.Prelude.{nat_lt, Some, ◌&&◌, ◌∷◌}
-use Rattle.std.proofs.lemmas.Bool.{ltb-true}
-use Rattle.mount_counts.specs.declared.phases.MountPhase.TheVariants.{Want as Wants, Drop as Drops}
-use Rattle.mount_counts.specs.declared.phases.Want.{Want}
-use Rattle.gate_world.specs.declared.config.Config.{Config}
-use Rattle.gate_world.specs.declared.work.Phase.TheVariants.{Mounts}
-use Rattle.gate_world.specs.Fits.{Fits}
-use Rattle.gate_frames.proofs.Keeps.{by_bool, PhaseKeeps, IsSmall, OpKeeps, word_among}
-use Rattle.gate_frames.proofs.Loads.{role_none}
-use Rattle.gate_frames.proofs.MountRuns.{mounts_run}
-use Rattle.gate_frames.proofs.Snapshots.{completes_none}
-use Rattle.gate_world.specs.declared.operations.Op.TheVariants.{Want as WantOp, DropMount}
-use Rattle.gate_world.specs.Traces.{most_events}
-use Rattle.gate_frames.proofs.Says.{tells, is_short}
-use Rattle.gate_world.specs.Worlds.{World, after_step, found_at}
-use Rattle.gate_world.specs.Causes.{asks}
-use Rattle.mount_counts.specs.Phases.{want_after}
+use Rattle.std.{proofs.{Common.{◌≡◌, ℕ, Bool, true, arith, ap, ◌∙◌, refl, subst}, lemmas.Bool.ltb-true}, specs.Prelude.{nat_lt, Some, ◌∷◌}}
 use Rattle.access_model.specs.declared.replies.Next.{Next}
+use Rattle.mount_counts.specs.{Phases.want_after, declared.phases.{MountPhase.MountPhase, Want.Want}}
+use Rattle.gate_world.specs.{Causes.asks, Fits.Fits, Rules.Fitting, Traces.most_events, Views.{held_at, holds_level}, Worlds.{World, after_step, found_at}}
+use Rattle.gate_world.specs.declared.{config.Config.Config, operations.Op.Op, work.Phase.Phase}
+use Rattle.gate_frames.proofs.{Keeps.{by_bool, PhaseKeeps, IsSmall, OpKeeps, word_among}, Loads.role_none, MountRuns.mounts_run, Says.{tells, is_short}}
+use Rattle.gate_frames.proofs.{Snapshots.completes_none, TreeHolders.both_true}
+use Rattle.writer_laws.proofs.{WantCauses.{want_kept, want_own, next_cause, next_asked}, WantFits.{want_there, want_acts, want_goes}, WantLoads.want_here}
+use Rattle.writer_laws.proofs.{WantTraces.{WantAt, DropAt, want_kept as want_traced, drop_kept}, WantWaits.{want_waits, next_waits}}
 use Rattle.writer_laws.proofs.Wants.{want_keeps, drop_keeps}
-use Rattle.writer_laws.proofs.WantFits.{want_there, want_acts, want_goes}
-use Rattle.writer_laws.proofs.WantCauses.{want_kept, want_own, next_cause, next_asked}
-use Rattle.writer_laws.proofs.WantWaits.{want_waits, next_waits}
-use Rattle.writer_laws.proofs.WantLoads.{want_here}
-use Rattle.writer_laws.proofs.WantTraces.{WantAt, DropAt, want_kept as want_traced, drop_kept}
-use Rattle.gate_world.specs.Views.{held_at, holds_level}
-use Rattle.gate_world.specs.Rules.{Fitting}
 
--- where both of two tests pass, each does
-pub both : (a b : Bool) → (a && b) ≡ true → (a ≡ true) × (b ≡ true)
-both true true e = (refl, refl)
-both true false e = (refl, e)
-both false b e = absurd (cc)
-
--- of each phase of a want
-pub want_phase : (c : Config) (x : Want) → PhaseKeeps c (Mounts (Wants x))
+pub want_phase : (c : Config) (x : Want) → PhaseKeeps c (Phase.Mounts (MountPhase.Want x))
 want_phase c x = record {
   step = λ lim w good t lt hook e. want_keeps c lim w good t lt hook x.mount x.cpu x.wait x.step e;
-  runs = λ lim w good t lt hook e i l1 l3. mounts_run c.tasks w t lt hook (Wants x) e i;
-  completes = λ lim w good t lt hook e. completes_none c w t hook (Mounts (Wants x)) (λ trace found. refl);
+  runs = λ lim w good t lt hook e i l1 l3. mounts_run c.tasks w t lt hook (MountPhase.Want x) e i;
+  completes = λ lim w good t lt hook e. completes_none c w t hook (Phase.Mounts (MountPhase.Want x)) (λ trace found. refl);
   word = λ n le t lt held levels hook f. word_among c n le _ (want_there c x x.step f.0 f.1);
   acts = λ lim t held levels found hook f. want_acts c lim t held levels x x.step found (omega (arith, f.0, lim.mounts)) f.2;
   goes = λ lim t held levels found hook f. want_goes c lim t held levels x x.step found f;
   agrees = λ t f g h k mounts levels fits. (fits.0, fits.1, omega (arith, fits.2, mounts x.mount fits.0));
   stays = λ w next earlier after t f e was quiet h. want_kept c t w next earlier x.mount x.step (ap asks e) h;
   causes = λ w earlier good t lt hook e after is h.
-      let f : Fits c t (held_at (w.views t)) (holds_level (w.views t)) (Some (Mounts (Wants x))) =
+      let f : Fits c t (held_at (w.views t)) (holds_level (w.views t)) (Some (Phase.Mounts (MountPhase.Want x))) =
       subst (Fits c t (held_at (w.views t)) (holds_level (w.views t))) e (good Fitting t lt) in
-      let next : World = after_step w t (Mounts (Wants x)) hook in
-      let coming : Next Want = (want_after x x.step (found_at w.words (Mounts (Wants x)) hook)).0 in
+      let next : World = after_step w t (Phase.Mounts (MountPhase.Want x)) hook in
+      let coming : Next Want = (want_after x x.step (found_at w.words (Phase.Mounts (MountPhase.Want x)) hook)).0 in
       next_cause c t next (w ∷ earlier) x.mount coming
       (want_own c t lt w next earlier good x x.step f.0 (ap asks e) (want_here x.mount x.cpu x.wait x.step e) (ap asks is ∙ next_asked coming) h);
   reasons = λ lim w earlier good t lt hook e cause.
-      let f : Fits c t (held_at (w.views t)) (holds_level (w.views t)) (Some (Mounts (Wants x))) =
+      let f : Fits c t (held_at (w.views t)) (holds_level (w.views t)) (Some (Phase.Mounts (MountPhase.Want x))) =
       subst (Fits c t (held_at (w.views t)) (holds_level (w.views t))) e (good Fitting t lt) in
-      next_waits c w earlier good t lt x (want_after x x.step (found_at w.words (Mounts (Wants x)) hook)).0
+      next_waits c w earlier good t lt x (want_after x x.step (found_at w.words (Phase.Mounts (MountPhase.Want x)) hook)).0
       (want_waits c w earlier good t lt x x.step f.0 (want_here x.mount x.cpu x.wait x.step e) cause);
 }
 
--- of the one phase of a drop
-pub drop_phase : (c : Config) (m p : ℕ) → PhaseKeeps c (Mounts (Drops m p))
+pub drop_phase : (c : Config) (m p : ℕ) → PhaseKeeps c (Phase.Mounts (MountPhase.Drop m p))
 drop_phase c m p = record {
   step = λ lim w good t lt hook e. drop_keeps c lim w good t lt hook m p e;
-  runs = λ lim w good t lt hook e i l1 l3. mounts_run c.tasks w t lt hook (Drops m p) e i;
-  completes = λ lim w good t lt hook e. completes_none c w t hook (Mounts (Drops m p)) (λ trace found. refl);
+  runs = λ lim w good t lt hook e i l1 l3. mounts_run c.tasks w t lt hook (MountPhase.Drop m p) e i;
+  completes = λ lim w good t lt hook e. completes_none c w t hook (Phase.Mounts (MountPhase.Drop m p)) (λ trace found. refl);
   word = λ n le t lt held levels hook f. (f.0, f.1);
   acts = λ lim t held levels found hook f. (omega (arith, f.0, lim.mounts), f.2);
   goes = λ lim t held levels found hook f. tt;
@@ -73,11 +48,10 @@ drop_phase c m p = record {
   reasons = λ lim w earlier good t lt hook e cause. tt;
 }
 
--- of a want
-pub want_op : (c : Config) (m p : ℕ) (wait : Bool) → OpKeeps c (WantOp m p wait)
+pub want_op : (c : Config) (m p : ℕ) (wait : Bool) → OpKeeps c (Op.Want m p wait)
 want_op c m p wait = record {
   fits = λ t held levels there order room.
-      let at : (nat_lt m c.mounts ≡ true) × (nat_lt p c.processors ≡ true) = both (nat_lt m c.mounts) (nat_lt p c.processors) there in
+      let at : (nat_lt m c.mounts ≡ true) × (nat_lt p c.processors ≡ true) = both_true (nat_lt m c.mounts) (nat_lt p c.processors) there in
       (ltb-true m c.mounts at.0, ltb-true p c.processors at.1, ltb-true (held m) 1024 room);
   starts_idle = λ t. record {
     steady = assumption;
@@ -92,29 +66,28 @@ want_op c m p wait = record {
   cause = λ t w earlier. tt;
   order_agrees = λ f g h k mounts levels there. refl;
   room_agrees = λ f g mounts there. ap (λ y. nat_lt y 1024) (mounts m
-      (ltb-true m c.mounts (both (nat_lt m c.mounts) (nat_lt p c.processors) there).0));
+      (ltb-true m c.mounts (both_true (nat_lt m c.mounts) (nat_lt p c.processors) there).0));
   restores = λ refusal trace before order. (refl, refl, refl);
   file = λ t files own closed. tt;
-  tells = λ lim t trace h. tells (WantAt c m p wait) c t (WantOp m p wait) (want_traced c t m p wait) trace h;
-  short = λ lim t trace h. is_short (WantAt c m p wait) c t (WantOp m p wait) (want_traced c t m p wait) trace h;
-  most_small = λ lim. by_bool wait (λ w. IsSmall (most_events c (WantOp m p w))) tt (omega arith);
+  tells = λ lim t trace h. tells (WantAt c m p wait) c t (Op.Want m p wait) (want_traced c t m p wait) trace h;
+  short = λ lim t trace h. is_short (WantAt c m p wait) c t (Op.Want m p wait) (want_traced c t m p wait) trace h;
+  most_small = λ lim. by_bool wait (λ w. IsSmall (most_events c (Op.Want m p w))) tt (omega arith);
 }
 
--- of a drop
-pub drop_op : (c : Config) (m p : ℕ) → OpKeeps c (DropMount m p)
+pub drop_op : (c : Config) (m p : ℕ) → OpKeeps c (Op.DropMount m p)
 drop_op c m p = record {
   fits = λ t held levels there order room.
-      let at : (nat_lt m c.mounts ≡ true) × (nat_lt p c.processors ≡ true) = both (nat_lt m c.mounts) (nat_lt p c.processors) there in
+      let at : (nat_lt m c.mounts ≡ true) × (nat_lt p c.processors ≡ true) = both_true (nat_lt m c.mounts) (nat_lt p c.processors) there in
       (ltb-true m c.mounts at.0, ltb-true p c.processors at.1, ltb-true 0 (held m) order);
   starts_idle = λ t. assumption;
   off_tree = λ t trace. refl;
   cause = λ t w earlier. tt;
   order_agrees = λ f g h k mounts levels there. ap (nat_lt 0) (mounts m
-      (ltb-true m c.mounts (both (nat_lt m c.mounts) (nat_lt p c.processors) there).0));
+      (ltb-true m c.mounts (both_true (nat_lt m c.mounts) (nat_lt p c.processors) there).0));
   room_agrees = λ f g mounts there. refl;
   restores = λ refusal trace before order. (refl, refl, refl);
   file = λ t files own closed. tt;
-  tells = λ lim t trace h. tells (DropAt m p) c t (DropMount m p) (drop_kept c t m p) trace h;
-  short = λ lim t trace h. is_short (DropAt m p) c t (DropMount m p) (drop_kept c t m p) trace h;
+  tells = λ lim t trace h. tells (DropAt m p) c t (Op.DropMount m p) (drop_kept c t m p) trace h;
+  short = λ lim t trace h. is_short (DropAt m p) c t (Op.DropMount m p) (drop_kept c t m p) trace h;
   most_small = λ lim. omega arith;
 }

@@ -1,74 +1,41 @@
 -- All that is proved of a taking and of a return of write access, each from what is proved of its gates.
-use Rattle.std.proofs.Common.{◌≡◌, ℕ, ◌<◌, ◌≤◌, Bool, true, false, arith, ap, sym, ◌∙◌, refl, subst, true≢false}
+use Rattle.std.proofs.{Common.{◌≡◌, ℕ, ◌<◌, ◌≤◌, Bool, true, false, arith, ap, sym, ◌∙◌, refl, subst, true≢false}, lemmas.Bool.ltb-true}
 use Rattle.std.specs.Prelude.{nat_lt, not, Some, Ok, Err, ◌==◌, ◌&&◌, ◌∷◌}
-use Rattle.std.proofs.lemmas.Bool.{ltb-true}
-use Rattle.finite_sums.specs.Sums.{update}
-use Rattle.finite_sums.proofs.Totals.{update_same}
-use Rattle.access_model.specs.declared.errors.GateError.{GateError}
-use Rattle.access_model.specs.declared.replies.Next.{Next}
-use Rattle.access_model.specs.declared.replies.Next.TheVariants.{Go, Done}
-use Rattle.access_model.specs.declared.replies.Reply.TheVariants.{Unit as UnitReply}
-use Rattle.access_model.specs.Histories.{levels_of}
-use Rattle.access_model.specs.Replies.{map_next}
+use Rattle.finite_sums.{proofs.Totals.update_same, specs.Sums.update}
+use Rattle.access_model.specs.{Histories.levels_of, Replies.map_next, declared.{errors.GateError.GateError, replies.{Next.Next, Reply.Reply}}}
 use Rattle.cpu_words.specs.Hooks.{HookAnswer}
 use Rattle.gate_counts.specs.Levels.{Out as CountsNot}
-use Rattle.level_laws.specs.Roles.{Out as IsApart, closed}
-use Rattle.level_laws.specs.Events.{SyncStep}
-use Rattle.mount_counts.specs.declared.phases.MountPhase.TheVariants.{Want as PlainWant}
-use Rattle.mount_counts.specs.declared.phases.Want.{Want}
-use Rattle.mount_counts.specs.declared.phases.WantStep.TheVariants.{CountsDown}
-use Rattle.mount_counts.specs.Phases.{want_after}
-use Rattle.percpu_rwsem.specs.declared.readers.DownRead.{DownRead}
-use Rattle.percpu_rwsem.specs.Readers.{down_read_after}
-use Rattle.write_access.specs.declared.phases.WritePhase.{WritePhase}
-use Rattle.write_access.specs.declared.phases.WritePhase.TheVariants.{Takes, Wants, GivesBack, Drops, Ends}
-use Rattle.write_access.specs.Phases.{then_wants, then_gives_back, leaves_on}
-use Rattle.gate_world.specs.declared.config.Config.{Config}
-use Rattle.gate_world.specs.declared.operations.Op.TheVariants.{WantWrite, DropWrite}
-use Rattle.gate_world.specs.declared.work.Phase.TheVariants.{Mounts, DownReads, Writes}
-use Rattle.gate_world.specs.Configs.{IsWithin}
-use Rattle.gate_world.specs.Views.{held_at, holds_level, phase_after}
-use Rattle.gate_world.specs.Fits.{WriteFits, Fits, mounts_by, levels_by}
-use Rattle.gate_world.specs.Causes.{asks, asks_level}
-use Rattle.gate_world.specs.Levels.{sync_role_of, sync_role_if, count_role_if}
-use Rattle.gate_world.specs.LevelRuns.{level_in}
-use Rattle.gate_world.specs.Worlds.{World, after_step, found_at}
-use Rattle.gate_world.specs.Rules.{IsGood, StepKeeps, role_of}
-use Rattle.gate_frames.proofs.Frames.{role_on}
-use Rattle.gate_frames.proofs.Keeps.{by_bool, PhaseKeeps, OpKeeps, none_agree}
-use Rattle.gate_frames.proofs.Beside.{update_twice}
-use Rattle.gate_frames.proofs.Snapshots.{completes_none}
-use Rattle.gate_frames.proofs.Says.{tells, is_short, tells_well, is_short_well}
-use Rattle.writer_laws.proofs.ReadFits.{read_mounts, read_goes}
-use Rattle.writer_laws.proofs.ReadCauses.{read_stays, read_own, read_not_closed}
-use Rattle.writer_laws.proofs.ReadWaits.{read_waits}
-use Rattle.writer_laws.proofs.ReadKeeps.{read_phase, end_phase}
-use Rattle.writer_laws.proofs.WantFits.{want_leaves}
-use Rattle.writer_laws.proofs.WantCauses.{want_kept, want_own}
-use Rattle.writer_laws.proofs.WantWaits.{want_waits}
-use Rattle.writer_laws.proofs.WantKeeps.{both, want_phase, drop_phase}
+use Rattle.mount_counts.specs.{Phases.want_after, declared.phases.{MountPhase.MountPhase, Want.Want, WantStep.WantStep}}
+use Rattle.percpu_rwsem.specs.{Readers.down_read_after, declared.readers.DownRead.DownRead}
+use Rattle.level_laws.specs.{Events.SyncStep, Roles.{Out as IsApart, closed}}
+use Rattle.write_access.specs.{Phases.{then_wants, then_gives_back, leaves_on}, declared.phases.WritePhase.WritePhase}
+use Rattle.gate_world.specs.{Causes.{asks, asks_level}, Configs.IsWithin, Fits.{WriteFits, Fits, mounts_by, levels_by}, LevelRuns.level_in}
+use Rattle.gate_world.specs.{Levels.{sync_role_of, sync_role_if, count_role_if}, Rules.{IsGood, StepKeeps, role_of}, Views.{held_at, holds_level, phase_after}}
+use Rattle.gate_world.specs.{Worlds.{World, after_step, found_at}, declared.{config.Config.Config, operations.Op.Op, work.Phase.Phase}}
+use Rattle.gate_frames.proofs.{Beside.update_twice, Frames.role_on, Keeps.{by_bool, PhaseKeeps, OpKeeps, none_agree}}
+use Rattle.gate_frames.proofs.{Says.{tells, is_short, tells_well, is_short_well}, Snapshots.completes_none, TreeHolders.both_true}
 use Rattle.writer_laws.proofs.Alikes.{alike_takes, alike_wants, alike_ends, alike_none, takes_goes, wants_goes}
-use Rattle.writer_laws.proofs.WriteSteps.{write_fits_now, write_step, write_runs, first_world}
-use Rattle.writer_laws.proofs.WriteCauses.{takes_asks, takes_cause, takes_waits, wants_asked, wants_cause, wants_waits}
-use Rattle.writer_laws.proofs.WriteTraces.{WriteAt, DropAt, write_kept, drop_kept}
+use Rattle.writer_laws.proofs.{ReadCauses.{read_stays, read_own, read_not_closed}, ReadFits.{read_mounts, read_goes}, ReadKeeps.{read_phase, end_phase}}
+use Rattle.writer_laws.proofs.{ReadWaits.read_waits, WantCauses.{want_kept, want_own}, WantFits.want_leaves, WantKeeps.{want_phase, drop_phase}}
+use Rattle.writer_laws.proofs.{WantWaits.want_waits, WriteCauses.{takes_asks, takes_cause, takes_waits, wants_asked, wants_cause, wants_waits}}
+use Rattle.writer_laws.proofs.{WriteSteps.{write_fits_now, write_step, write_runs, first_world}, WriteTraces.{WriteAt, DropAt, write_kept, drop_kept}}
 
 -- what fits after an event at level 1, with the mount to come
 takes_fits : (c : Config) (t : ℕ) (held : ℕ → ℕ) (levels : ℕ → Bool) (m : ℕ) (r : DownRead) (found : ℕ) →
-    WriteFits c t held levels (Takes m r) →
+    WriteFits c t held levels (WritePhase.Takes m r) →
     Fits c t (mounts_by (down_read_after r r.step found).1 held) (levels_by (down_read_after r r.step found).1 levels)
-    (phase_after (map_next Writes (then_wants m r.cpu (down_read_after r r.step found).0)))
+    (phase_after (map_next Phase.Writes (then_wants m r.cpu (down_read_after r r.step found).0)))
 takes_fits c t held levels m r found f =
     let left : ℕ → Bool = levels_by (down_read_after r r.step found).1 levels in
     let n : Next DownRead = (down_read_after r r.step found).0 in
-    subst (λ h. Fits c t h left (phase_after (map_next Writes (then_wants m r.cpu n)))) (sym (read_mounts held r r.step found))
+    subst (λ h. Fits c t h left (phase_after (map_next Phase.Writes (then_wants m r.cpu n)))) (sym (read_mounts held r r.step found))
     (takes_goes c t held left m r.cpu f.2 f.0.2 r.level n f.1 f.3
     (read_goes c t r f.0.0 f.0.1 f.0.2 f.0.3 levels r.step found f.0.4))
 
--- what fits after an event at the mount, with level 1 held
 wants_fits : (c : Config) → IsWithin c → (t : ℕ) (held : ℕ → ℕ) (levels : ℕ → Bool) (x : Want) (found : ℕ) (hook : HookAnswer) →
-    WriteFits c t held levels (Wants x) →
+    WriteFits c t held levels (WritePhase.Wants x) →
     Fits c t (mounts_by (want_after x x.step found).1 held) (levels_by (want_after x x.step found).1 levels)
-    (phase_after (map_next Writes (then_gives_back x.mount x.cpu (want_after x x.step found).0)))
+    (phase_after (map_next Phase.Writes (then_gives_back x.mount x.cpu (want_after x x.step found).0)))
 wants_fits c lim t held levels x found hook f =
     wants_goes c t (mounts_by (want_after x x.step found).1 held) (levels_by (want_after x x.step found).1 levels) x.mount x.cpu
     f.0.0 f.0.1 (want_after x x.step found).0 (ap (λ g. g 1) (want_leaves x x.step found levels) ∙ f.1)
@@ -76,66 +43,65 @@ wants_fits c lim t held levels x found hook f =
 
 -- each event keeps the rule, and moves the shown model by its action or not at all, as its gate's does
 pub write_keeps : (c : Config) → IsWithin c → (w : World) → IsGood c w → (t : ℕ) → t < c.tasks → (hook : HookAnswer) → (x : WritePhase) →
-    (w.views t).phase ≡ Some (Writes x) → StepKeeps c w t hook (Writes x)
-write_keeps c lim w good t lt hook (Takes m r) e =
-    let n : Next DownRead = (down_read_after r r.step (found_at w.words (DownReads r) hook)).0 in
-    let f : WriteFits c t (held_at (w.views t)) (holds_level (w.views t)) (Takes m r) =
-    write_fits_now c w good t lt hook (Takes m r) e in
-    write_step c w good t lt hook (Takes m r) e
-    (λ g at. (read_phase c r).step lim (first_world c w good t lt hook (Takes m r) e) g t lt hook at)
-    (map_next Writes (then_wants m r.cpu n)) (alike_takes m r.cpu n)
-    (takes_fits c t (held_at (w.views t)) (holds_level (w.views t)) m r (found_at w.words (DownReads r) hook) f)
-write_keeps c lim w good t lt hook (Wants x) e =
-    let n : Next Want = (want_after x x.step (found_at w.words (Mounts (PlainWant x)) hook)).0 in
-    let f : WriteFits c t (held_at (w.views t)) (holds_level (w.views t)) (Wants x) = write_fits_now c w good t lt hook (Wants x) e in
-    write_step c w good t lt hook (Wants x) e
-    (λ g at. (want_phase c x).step lim (first_world c w good t lt hook (Wants x) e) g t lt hook at)
-    (map_next Writes (then_gives_back x.mount x.cpu n)) (alike_wants x.mount x.cpu n)
-    (wants_fits c lim t (held_at (w.views t)) (holds_level (w.views t)) x (found_at w.words (Mounts (PlainWant x)) hook) hook f)
-write_keeps c lim w good t lt hook (GivesBack m p refusal) e =
-    write_step c w good t lt hook (GivesBack m p refusal) e
-    (λ g at. (end_phase c (leaves_on p)).step lim (first_world c w good t lt hook (GivesBack m p refusal) e) g t lt hook at)
-    (Done (Err refusal)) alike_none tt
-write_keeps c lim w good t lt hook (Drops m p) e =
-    let f : WriteFits c t (held_at (w.views t)) (holds_level (w.views t)) (Drops m p) =
-    write_fits_now c w good t lt hook (Drops m p) e in
-    write_step c w good t lt hook (Drops m p) e
-    (λ g at. (drop_phase c m p).step lim (first_world c w good t lt hook (Drops m p) e) g t lt hook at)
-    (Go (Writes (Ends p))) (alike_ends p) (f.0.1, f.1)
-write_keeps c lim w good t lt hook (Ends p) e =
-    write_step c w good t lt hook (Ends p) e
-    (λ g at. (end_phase c (leaves_on p)).step lim (first_world c w good t lt hook (Ends p) e) g t lt hook at)
-    (Done (Ok UnitReply)) alike_none tt
+    (w.views t).phase ≡ Some (Phase.Writes x) → StepKeeps c w t hook (Phase.Writes x)
+write_keeps c lim w good t lt hook (WritePhase.Takes m r) e =
+    let n : Next DownRead = (down_read_after r r.step (found_at w.words (Phase.DownReads r) hook)).0 in
+    let f : WriteFits c t (held_at (w.views t)) (holds_level (w.views t)) (WritePhase.Takes m r) =
+    write_fits_now c w good t lt hook (WritePhase.Takes m r) e in
+    write_step c w good t lt hook (WritePhase.Takes m r) e
+    (λ g at. (read_phase c r).step lim (first_world c w good t lt hook (WritePhase.Takes m r) e) g t lt hook at)
+    (map_next Phase.Writes (then_wants m r.cpu n)) (alike_takes m r.cpu n)
+    (takes_fits c t (held_at (w.views t)) (holds_level (w.views t)) m r (found_at w.words (Phase.DownReads r) hook) f)
+write_keeps c lim w good t lt hook (WritePhase.Wants x) e =
+    let n : Next Want = (want_after x x.step (found_at w.words (Phase.Mounts (MountPhase.Want x)) hook)).0 in
+    let f : WriteFits c t (held_at (w.views t)) (holds_level (w.views t)) (WritePhase.Wants x) = write_fits_now c w good t lt hook (WritePhase.Wants x) e in
+    write_step c w good t lt hook (WritePhase.Wants x) e
+    (λ g at. (want_phase c x).step lim (first_world c w good t lt hook (WritePhase.Wants x) e) g t lt hook at)
+    (map_next Phase.Writes (then_gives_back x.mount x.cpu n)) (alike_wants x.mount x.cpu n)
+    (wants_fits c lim t (held_at (w.views t)) (holds_level (w.views t)) x (found_at w.words (Phase.Mounts (MountPhase.Want x)) hook) hook f)
+write_keeps c lim w good t lt hook (WritePhase.GivesBack m p refusal) e =
+    write_step c w good t lt hook (WritePhase.GivesBack m p refusal) e
+    (λ g at. (end_phase c (leaves_on p)).step lim (first_world c w good t lt hook (WritePhase.GivesBack m p refusal) e) g t lt hook at)
+    (Next.Done (Err refusal)) alike_none tt
+write_keeps c lim w good t lt hook (WritePhase.Drops m p) e =
+    let f : WriteFits c t (held_at (w.views t)) (holds_level (w.views t)) (WritePhase.Drops m p) =
+    write_fits_now c w good t lt hook (WritePhase.Drops m p) e in
+    write_step c w good t lt hook (WritePhase.Drops m p) e
+    (λ g at. (drop_phase c m p).step lim (first_world c w good t lt hook (WritePhase.Drops m p) e) g t lt hook at)
+    (Next.Go (Phase.Writes (WritePhase.Ends p))) (alike_ends p) (f.0.1, f.1)
+write_keeps c lim w good t lt hook (WritePhase.Ends p) e =
+    write_step c w good t lt hook (WritePhase.Ends p) e
+    (λ g at. (end_phase c (leaves_on p)).step lim (first_world c w good t lt hook (WritePhase.Ends p) e) g t lt hook at)
+    (Next.Done (Ok Reply.Unit)) alike_none tt
 
 -- each event is one of each level's kinds of event, as its gate's is
 write_phase_runs : (c : Config) → IsWithin c → (w : World) → IsGood c w → (t : ℕ) → t < c.tasks → (hook : HookAnswer) → (x : WritePhase) →
-    (w.views t).phase ≡ Some (Writes x) → (i : ℕ) → 1 ≤ i → i ≤ 3 →
-    SyncStep c.tasks (level_in w i) (level_in (after_step w t (Writes x) hook) i)
-write_phase_runs c lim w good t lt hook (Takes m r) e i one three =
-    let n : Next DownRead = (down_read_after r r.step (found_at w.words (DownReads r) hook)).0 in
-    write_runs c w good t lt hook (Takes m r) e (map_next Writes (then_wants m r.cpu n)) (alike_takes m r.cpu n) i
-    (λ g at. (read_phase c r).runs lim (first_world c w good t lt hook (Takes m r) e) g t lt hook at i one three)
-write_phase_runs c lim w good t lt hook (Wants x) e i one three =
-    let n : Next Want = (want_after x x.step (found_at w.words (Mounts (PlainWant x)) hook)).0 in
-    write_runs c w good t lt hook (Wants x) e (map_next Writes (then_gives_back x.mount x.cpu n)) (alike_wants x.mount x.cpu n) i
-    (λ g at. (want_phase c x).runs lim (first_world c w good t lt hook (Wants x) e) g t lt hook at i one three)
-write_phase_runs c lim w good t lt hook (GivesBack m p refusal) e i one three =
-    write_runs c w good t lt hook (GivesBack m p refusal) e (Done (Err refusal)) alike_none i
+    (w.views t).phase ≡ Some (Phase.Writes x) → (i : ℕ) → 1 ≤ i → i ≤ 3 →
+    SyncStep c.tasks (level_in w i) (level_in (after_step w t (Phase.Writes x) hook) i)
+write_phase_runs c lim w good t lt hook (WritePhase.Takes m r) e i one three =
+    let n : Next DownRead = (down_read_after r r.step (found_at w.words (Phase.DownReads r) hook)).0 in
+    write_runs c w good t lt hook (WritePhase.Takes m r) e (map_next Phase.Writes (then_wants m r.cpu n)) (alike_takes m r.cpu n) i
+    (λ g at. (read_phase c r).runs lim (first_world c w good t lt hook (WritePhase.Takes m r) e) g t lt hook at i one three)
+write_phase_runs c lim w good t lt hook (WritePhase.Wants x) e i one three =
+    let n : Next Want = (want_after x x.step (found_at w.words (Phase.Mounts (MountPhase.Want x)) hook)).0 in
+    write_runs c w good t lt hook (WritePhase.Wants x) e (map_next Phase.Writes (then_gives_back x.mount x.cpu n)) (alike_wants x.mount x.cpu n) i
+    (λ g at. (want_phase c x).runs lim (first_world c w good t lt hook (WritePhase.Wants x) e) g t lt hook at i one three)
+write_phase_runs c lim w good t lt hook (WritePhase.GivesBack m p refusal) e i one three =
+    write_runs c w good t lt hook (WritePhase.GivesBack m p refusal) e (Next.Done (Err refusal)) alike_none i
     (λ g at.
-    (end_phase c (leaves_on p)).runs lim (first_world c w good t lt hook (GivesBack m p refusal) e) g t lt hook at i one three)
-write_phase_runs c lim w good t lt hook (Drops m p) e i one three =
-    write_runs c w good t lt hook (Drops m p) e (Go (Writes (Ends p))) (alike_ends p) i
-    (λ g at. (drop_phase c m p).runs lim (first_world c w good t lt hook (Drops m p) e) g t lt hook at i one three)
-write_phase_runs c lim w good t lt hook (Ends p) e i one three =
-    write_runs c w good t lt hook (Ends p) e (Done (Ok UnitReply)) alike_none i
-    (λ g at. (end_phase c (leaves_on p)).runs lim (first_world c w good t lt hook (Ends p) e) g t lt hook at i one three)
+    (end_phase c (leaves_on p)).runs lim (first_world c w good t lt hook (WritePhase.GivesBack m p refusal) e) g t lt hook at i one three)
+write_phase_runs c lim w good t lt hook (WritePhase.Drops m p) e i one three =
+    write_runs c w good t lt hook (WritePhase.Drops m p) e (Next.Go (Phase.Writes (WritePhase.Ends p))) (alike_ends p) i
+    (λ g at. (drop_phase c m p).runs lim (first_world c w good t lt hook (WritePhase.Drops m p) e) g t lt hook at i one three)
+write_phase_runs c lim w good t lt hook (WritePhase.Ends p) e i one three =
+    write_runs c w good t lt hook (WritePhase.Ends p) e (Next.Done (Ok Reply.Unit)) alike_none i
+    (λ g at. (end_phase c (leaves_on p)).runs lim (first_world c w good t lt hook (WritePhase.Ends p) e) g t lt hook at i one three)
 
--- what is proved of a phase at level 1
-takes_phase : (c : Config) (m : ℕ) (r : DownRead) → PhaseKeeps c (Writes (Takes m r))
+takes_phase : (c : Config) (m : ℕ) (r : DownRead) → PhaseKeeps c (Phase.Writes (WritePhase.Takes m r))
 takes_phase c m r = record {
-  step = λ lim w good t lt hook e. write_keeps c lim w good t lt hook (Takes m r) e;
-  runs = λ lim w good t lt hook e i one three. write_phase_runs c lim w good t lt hook (Takes m r) e i one three;
-  completes = λ lim w good t lt hook e. completes_none c w t hook (Writes (Takes m r)) (λ trace found. refl);
+  step = λ lim w good t lt hook e. write_keeps c lim w good t lt hook (WritePhase.Takes m r) e;
+  runs = λ lim w good t lt hook e i one three. write_phase_runs c lim w good t lt hook (WritePhase.Takes m r) e i one three;
+  completes = λ lim w good t lt hook e. completes_none c w t hook (Phase.Writes (WritePhase.Takes m r)) (λ trace found. refl);
   word = λ n le t lt held levels hook f. (read_phase c r).word n le t lt held levels hook f.0;
   acts = λ lim t held levels found hook f. (read_phase c r).acts lim t held levels found hook f.0;
   goes = λ lim t held levels found hook f. takes_fits c t held levels m r found f;
@@ -143,25 +109,24 @@ takes_phase c m r = record {
       ((read_phase c r).agrees t f g h k mounts levels fits.0, fits.1, fits.2, omega (arith, fits.3, mounts m fits.2));
   stays = λ w next earlier good t f e was quiet h. read_stays c t w next earlier r.level r.step (ap asks_level e) h;
   causes = λ w earlier good t lt hook e after is h.
-      let f : WriteFits c t (held_at (w.views t)) (holds_level (w.views t)) (Takes m r) =
-      write_fits_now c w good t lt hook (Takes m r) e in
-      let next : World = after_step w t (Writes (Takes m r)) hook in
-      let n : Next DownRead = (down_read_after r r.step (found_at w.words (DownReads r) hook)).0 in
+      let f : WriteFits c t (held_at (w.views t)) (holds_level (w.views t)) (WritePhase.Takes m r) =
+      write_fits_now c w good t lt hook (WritePhase.Takes m r) e in
+      let next : World = after_step w t (Phase.Writes (WritePhase.Takes m r)) hook in
+      let n : Next DownRead = (down_read_after r r.step (found_at w.words (Phase.DownReads r) hook)).0 in
       takes_cause c t w next earlier m r.cpu n
       (read_own c t w next earlier good r f.0.0 f.0.1 hook r.step (ap asks_level e)
       (ap (λ q. closed (sync_role_of r.level q)) e ∙ read_not_closed r.level r.level r.step) h
       (takes_asks c t w next earlier m r.cpu n is));
   reasons = λ lim w earlier good t lt hook e cause.
-      takes_waits c t w earlier m r.cpu r (down_read_after r r.step (found_at w.words (DownReads r) hook)).0
-      (read_waits c w earlier t r r.step (found_at w.words (DownReads r) hook) cause);
+      takes_waits c t w earlier m r.cpu r (down_read_after r r.step (found_at w.words (Phase.DownReads r) hook)).0
+      (read_waits c w earlier t r r.step (found_at w.words (Phase.DownReads r) hook) cause);
 }
 
--- what is proved of a phase at the mount
-wants_phase : (c : Config) (x : Want) → PhaseKeeps c (Writes (Wants x))
+wants_phase : (c : Config) (x : Want) → PhaseKeeps c (Phase.Writes (WritePhase.Wants x))
 wants_phase c x = record {
-  step = λ lim w good t lt hook e. write_keeps c lim w good t lt hook (Wants x) e;
-  runs = λ lim w good t lt hook e i one three. write_phase_runs c lim w good t lt hook (Wants x) e i one three;
-  completes = λ lim w good t lt hook e. completes_none c w t hook (Writes (Wants x)) (λ trace found. refl);
+  step = λ lim w good t lt hook e. write_keeps c lim w good t lt hook (WritePhase.Wants x) e;
+  runs = λ lim w good t lt hook e i one three. write_phase_runs c lim w good t lt hook (WritePhase.Wants x) e i one three;
+  completes = λ lim w good t lt hook e. completes_none c w t hook (Phase.Writes (WritePhase.Wants x)) (λ trace found. refl);
   word = λ n le t lt held levels hook f. (want_phase c x).word n le t lt held levels hook f.0;
   acts = λ lim t held levels found hook f. (want_phase c x).acts lim t held levels found hook f.0;
   goes = λ lim t held levels found hook f. wants_fits c lim t held levels x found hook f;
@@ -169,40 +134,38 @@ wants_phase c x = record {
       ((want_phase c x).agrees t f g h k mounts levels fits.0, sym (levels 1 (omega arith) (omega arith)) ∙ fits.1);
   stays = λ w next earlier good t f e was quiet h. want_kept c t w next earlier x.mount x.step (ap asks e) h;
   causes = λ w earlier good t lt hook e after is h.
-      let f : WriteFits c t (held_at (w.views t)) (holds_level (w.views t)) (Wants x) = write_fits_now c w good t lt hook (Wants x) e in
-      let next : World = after_step w t (Writes (Wants x)) hook in
-      let n : Next Want = (want_after x x.step (found_at w.words (Mounts (PlainWant x)) hook)).0 in
+      let f : WriteFits c t (held_at (w.views t)) (holds_level (w.views t)) (WritePhase.Wants x) = write_fits_now c w good t lt hook (WritePhase.Wants x) e in
+      let next : World = after_step w t (Phase.Writes (WritePhase.Wants x)) hook in
+      let n : Next Want = (want_after x x.step (found_at w.words (Phase.Mounts (MountPhase.Want x)) hook)).0 in
       wants_cause c t next (w ∷ earlier) x.mount x.cpu n
       (want_own c t lt w next earlier good x x.step f.0.0 (ap asks e) (ap (role_of x.mount) e ∙ role_on x.mount _)
       (ap asks is ∙ wants_asked c t next earlier x.mount x.cpu n) h);
   reasons = λ lim w earlier good t lt hook e cause.
-      let f : WriteFits c t (held_at (w.views t)) (holds_level (w.views t)) (Wants x) = write_fits_now c w good t lt hook (Wants x) e in
-      wants_waits c t w earlier x.mount x.cpu good lt x (want_after x x.step (found_at w.words (Mounts (PlainWant x)) hook)).0
+      let f : WriteFits c t (held_at (w.views t)) (holds_level (w.views t)) (WritePhase.Wants x) = write_fits_now c w good t lt hook (WritePhase.Wants x) e in
+      wants_waits c t w earlier x.mount x.cpu good lt x (want_after x x.step (found_at w.words (Phase.Mounts (MountPhase.Want x)) hook)).0
       (want_waits c w earlier good t lt x x.step f.0.0 (ap (role_of x.mount) e ∙ role_on x.mount _) cause);
 }
 
--- what is proved of a phase that leaves the level, as the mount was refused
-gives_back_phase : (c : Config) (m p : ℕ) (refusal : GateError) → PhaseKeeps c (Writes (GivesBack m p refusal))
+gives_back_phase : (c : Config) (m p : ℕ) (refusal : GateError) → PhaseKeeps c (Phase.Writes (WritePhase.GivesBack m p refusal))
 gives_back_phase c m p refusal = record {
-  step = λ lim w good t lt hook e. write_keeps c lim w good t lt hook (GivesBack m p refusal) e;
-  runs = λ lim w good t lt hook e i one three. write_phase_runs c lim w good t lt hook (GivesBack m p refusal) e i one three;
-  completes = λ lim w good t lt hook e. completes_none c w t hook (Writes (GivesBack m p refusal)) (λ trace found. refl);
+  step = λ lim w good t lt hook e. write_keeps c lim w good t lt hook (WritePhase.GivesBack m p refusal) e;
+  runs = λ lim w good t lt hook e i one three. write_phase_runs c lim w good t lt hook (WritePhase.GivesBack m p refusal) e i one three;
+  completes = λ lim w good t lt hook e. completes_none c w t hook (Phase.Writes (WritePhase.GivesBack m p refusal)) (λ trace found. refl);
   word = λ n le t lt held levels hook f.
       (end_phase c (leaves_on p)).word n le t lt held levels hook (omega arith, omega arith, f.1, f.2);
   acts = λ lim t held levels found hook f. (omega arith, omega arith);
   goes = λ lim t held levels found hook f. tt;
   agrees = λ t f g h k mounts levels fits. (fits.0, fits.1, sym (levels 1 (omega arith) (omega arith)) ∙ fits.2);
-  stays = λ w next earlier good t f e was quiet h. want_kept c t w next earlier m (CountsDown refusal) (ap asks e) h;
+  stays = λ w next earlier good t f e was quiet h. want_kept c t w next earlier m (WantStep.CountsDown refusal) (ap asks e) h;
   causes = λ w earlier good t lt hook e after is h. tt;
   reasons = λ lim w earlier good t lt hook e cause. cause;
 }
 
--- what is proved of a phase that gives the mount back
-drops_phase : (c : Config) (m p : ℕ) → PhaseKeeps c (Writes (Drops m p))
+drops_phase : (c : Config) (m p : ℕ) → PhaseKeeps c (Phase.Writes (WritePhase.Drops m p))
 drops_phase c m p = record {
-  step = λ lim w good t lt hook e. write_keeps c lim w good t lt hook (Drops m p) e;
-  runs = λ lim w good t lt hook e i one three. write_phase_runs c lim w good t lt hook (Drops m p) e i one three;
-  completes = λ lim w good t lt hook e. completes_none c w t hook (Writes (Drops m p)) (λ trace found. refl);
+  step = λ lim w good t lt hook e. write_keeps c lim w good t lt hook (WritePhase.Drops m p) e;
+  runs = λ lim w good t lt hook e i one three. write_phase_runs c lim w good t lt hook (WritePhase.Drops m p) e i one three;
+  completes = λ lim w good t lt hook e. completes_none c w t hook (Phase.Writes (WritePhase.Drops m p)) (λ trace found. refl);
   word = λ n le t lt held levels hook f. (drop_phase c m p).word n le t lt held levels hook f.0;
   acts = λ lim t held levels found hook f. (drop_phase c m p).acts lim t held levels found hook f.0;
   goes = λ lim t held levels found hook f. (f.0.1, f.1);
@@ -213,12 +176,11 @@ drops_phase c m p = record {
   reasons = λ lim w earlier good t lt hook e cause. tt;
 }
 
--- what is proved of a phase that leaves the level last
-ends_phase : (c : Config) (p : ℕ) → PhaseKeeps c (Writes (Ends p))
+ends_phase : (c : Config) (p : ℕ) → PhaseKeeps c (Phase.Writes (WritePhase.Ends p))
 ends_phase c p = record {
-  step = λ lim w good t lt hook e. write_keeps c lim w good t lt hook (Ends p) e;
-  runs = λ lim w good t lt hook e i one three. write_phase_runs c lim w good t lt hook (Ends p) e i one three;
-  completes = λ lim w good t lt hook e. completes_none c w t hook (Writes (Ends p)) (λ trace found. refl);
+  step = λ lim w good t lt hook e. write_keeps c lim w good t lt hook (WritePhase.Ends p) e;
+  runs = λ lim w good t lt hook e i one three. write_phase_runs c lim w good t lt hook (WritePhase.Ends p) e i one three;
+  completes = λ lim w good t lt hook e. completes_none c w t hook (Phase.Writes (WritePhase.Ends p)) (λ trace found. refl);
   word = λ n le t lt held levels hook f.
       (end_phase c (leaves_on p)).word n le t lt held levels hook (omega arith, omega arith, f.0, f.1);
   acts = λ lim t held levels found hook f. (omega arith, omega arith);
@@ -229,31 +191,26 @@ ends_phase c p = record {
   reasons = λ lim w earlier good t lt hook e cause. tt;
 }
 
--- each phase
-pub write_phase : (c : Config) (x : WritePhase) → PhaseKeeps c (Writes x)
-write_phase c (Takes m r) = takes_phase c m r
-write_phase c (Wants x) = wants_phase c x
-write_phase c (GivesBack m p refusal) = gives_back_phase c m p refusal
-write_phase c (Drops m p) = drops_phase c m p
-write_phase c (Ends p) = ends_phase c p
+pub write_phase : (c : Config) (x : WritePhase) → PhaseKeeps c (Phase.Writes x)
+write_phase c (WritePhase.Takes m r) = takes_phase c m r
+write_phase c (WritePhase.Wants x) = wants_phase c x
+write_phase c (WritePhase.GivesBack m p refusal) = gives_back_phase c m p refusal
+write_phase c (WritePhase.Drops m p) = drops_phase c m p
+write_phase c (WritePhase.Ends p) = ends_phase c p
 
--- what is not, is false
 is_false : (b : Bool) → not b ≡ true → b ≡ false
 is_false true h = absurd (true≢false (sym h))
 is_false false h = refl
 
--- a level that was not held, taken and left, is not held
 level_restored : (levels : ℕ → Bool) → levels 1 ≡ false → update (update levels 1 true) 1 false ≡ levels
 level_restored levels free = update_twice levels 1 true false ∙ (ap (update levels 1) (sym free) ∙ update_same levels 1)
 
--- a mount and a processor that are in range
 in_mount : (c : Config) (m p : ℕ) → (nat_lt m c.mounts && nat_lt p c.processors) ≡ true → (m < c.mounts) × (p < c.processors)
 in_mount c m p there =
-    let at : (nat_lt m c.mounts ≡ true) × (nat_lt p c.processors ≡ true) = both (nat_lt m c.mounts) (nat_lt p c.processors) there in
+    let at : (nat_lt m c.mounts ≡ true) × (nat_lt p c.processors ≡ true) = both_true (nat_lt m c.mounts) (nat_lt p c.processors) there in
     (ltb-true m c.mounts at.0, ltb-true p c.processors at.1)
 
--- what is proved of a taking
-pub want_write_op : (c : Config) (m p : ℕ) → OpKeeps c (WantWrite m p)
+pub want_write_op : (c : Config) (m p : ℕ) → OpKeeps c (Op.WantWrite m p)
 want_write_op c m p = record {
   fits = λ t held levels there order room.
       let at : (m < c.mounts) × (p < c.processors) = in_mount c m p there in
@@ -273,20 +230,19 @@ want_write_op c m p = record {
   room_agrees = λ f g mounts there. ap (λ y. nat_lt y 1024) (mounts m (in_mount c m p there).0);
   restores = λ refusal trace before order.
       let none : (not (levels_of before 1) ≡ true) × ((not (levels_of before 2) && not (levels_of before 3)) ≡ true) =
-      both (not (levels_of before 1)) (not (levels_of before 2) && not (levels_of before 3)) order in
+      both_true (not (levels_of before 1)) (not (levels_of before 2) && not (levels_of before 3)) order in
       (refl, level_restored (levels_of before) (is_false (levels_of before 1) none.0), refl);
   file = λ t files own closed. tt;
-  tells = λ lim t trace h. tells_well (WriteAt c m p t) c t (WantWrite m p) (write_kept c t m p) trace h;
-  short = λ lim t trace h. is_short_well (WriteAt c m p t) c t (WantWrite m p) (write_kept c t m p) trace h;
+  tells = λ lim t trace h. tells_well (WriteAt c m p t) c t (Op.WantWrite m p) (write_kept c t m p) trace h;
+  short = λ lim t trace h. is_short_well (WriteAt c m p t) c t (Op.WantWrite m p) (write_kept c t m p) trace h;
   most_small = λ lim. tt;
 }
 
--- what is proved of a return
-pub drop_write_op : (c : Config) (m p : ℕ) → OpKeeps c (DropWrite m p)
+pub drop_write_op : (c : Config) (m p : ℕ) → OpKeeps c (Op.DropWrite m p)
 drop_write_op c m p = record {
   fits = λ t held levels there order room.
       let at : (m < c.mounts) × (p < c.processors) = in_mount c m p there in
-      let o : (levels 1 ≡ true) × (nat_lt 0 (held m) ≡ true) = both (levels 1) (nat_lt 0 (held m)) order in
+      let o : (levels 1 ≡ true) × (nat_lt 0 (held m) ≡ true) = both_true (levels 1) (nat_lt 0 (held m)) order in
       ((at.0, at.1, ltb-true 0 (held m) o.1), o.0);
   starts_idle = λ t. assumption;
   off_tree = λ t trace. refl;
@@ -295,7 +251,7 @@ drop_write_op c m p = record {
   room_agrees = λ f g mounts there. refl;
   restores = λ refusal trace before order. (refl, refl, refl);
   file = λ t files own closed. tt;
-  tells = λ lim t trace h. tells (DropAt m p) c t (DropWrite m p) (drop_kept c t m p) trace h;
-  short = λ lim t trace h. is_short (DropAt m p) c t (DropWrite m p) (drop_kept c t m p) trace h;
+  tells = λ lim t trace h. tells (DropAt m p) c t (Op.DropWrite m p) (drop_kept c t m p) trace h;
+  short = λ lim t trace h. is_short (DropAt m p) c t (Op.DropWrite m p) (drop_kept c t m p) trace h;
   most_small = λ lim. omega arith;
 }

@@ -1,47 +1,31 @@
 -- The law of an event of a write access is that of its gate's event, made by a task that stands at the gate's phase.
-use Rattle.std.proofs.Common.{◌≡◌, ℕ, ◌<◌, Bool, ap, subst, arith}
-use Rattle.std.specs.Prelude.{Option, Some}
+use Rattle.std.{proofs.Common.{◌≡◌, ℕ, ◌<◌, Bool, ap, subst, arith}, specs.Prelude.{Option, Some}}
 use Rattle.finite_sums.proofs.Totals.{update_at}
-use Rattle.access_model.specs.declared.actions.Action.{Action}
-use Rattle.access_model.specs.declared.replies.Next.{Next}
+use Rattle.access_model.specs.declared.{actions.Action.Action, replies.Next.Next}
 use Rattle.cpu_words.specs.Hooks.{HookAnswer}
-use Rattle.write_access.specs.declared.phases.WritePhase.{WritePhase}
-use Rattle.write_access.specs.declared.phases.WritePhase.TheVariants.{GivesBack, Ends}
-use Rattle.gate_world.specs.declared.config.Config.{Config}
-use Rattle.gate_world.specs.declared.work.Phase.{Phase}
-use Rattle.gate_world.specs.declared.work.Phase.TheVariants.{Writes}
-use Rattle.gate_world.specs.declared.views.View.{View}
-use Rattle.gate_world.specs.Views.{held_at, holds_level, phase_after}
-use Rattle.gate_world.specs.Work.{plain, next_of, after_of}
-use Rattle.gate_world.specs.Fits.{Fits, WriteFits, PhaseFits, mounts_by, levels_by}
-use Rattle.gate_world.specs.Alike.{IsAlike, at_phase, rephased}
-use Rattle.gate_world.specs.Worlds.{World, found_at}
-use Rattle.gate_world.specs.Shown.{shown}
-use Rattle.gate_world.specs.Rules.{IsGood, Moves, Fitting}
-use Rattle.gate_world.specs.LevelRuns.{level_in}
 use Rattle.level_laws.specs.Events.{SyncStep}
-use Rattle.gate_frames.proofs.Beside.{made, made_runs_beside}
-use Rattle.gate_frames.proofs.Rephased.{alike_of, rephased_good, made_keeps}
+use Rattle.write_access.specs.declared.phases.WritePhase.{WritePhase}
+use Rattle.gate_world.specs.{Alike.{IsAlike, at_phase, rephased}, Fits.{Fits, WriteFits, PhaseFits, mounts_by, levels_by}, LevelRuns.level_in}
+use Rattle.gate_world.specs.{Rules.{IsGood, Moves, Fitting}, Shown.shown, Views.{held_at, holds_level, phase_after}, Work.{plain, next_of, after_of}}
+use Rattle.gate_world.specs.{Worlds.{World, found_at}, declared.{config.Config.Config, views.View.View, work.Phase.Phase}}
+use Rattle.gate_frames.proofs.{Beside.{made, made_runs_beside}, Rephased.{alike_of, rephased_good, made_keeps}}
 use Rattle.writer_laws.proofs.Alikes.{alike_plain}
 
 -- the phase of its gate fits
 pub plain_fits : (c : Config) (t : ℕ) (held : ℕ → ℕ) (levels : ℕ → Bool) (x : WritePhase) → WriteFits c t held levels x →
     PhaseFits c t held levels (plain x)
-plain_fits c t held levels (GivesBack m p refusal) f = (omega arith, omega arith, f.1, f.2)
-plain_fits c t held levels (Ends p) f = (omega arith, omega arith, f.0, f.1)
+plain_fits c t held levels (WritePhase.GivesBack m p refusal) f = (omega arith, omega arith, f.1, f.2)
+plain_fits c t held levels (WritePhase.Ends p) f = (omega arith, omega arith, f.0, f.1)
 plain_fits c t held levels other f = f.0
 
 module _ (c : Config) (w : World) (good : IsGood c w) (t : ℕ) (lt : t < c.tasks) (hook : HookAnswer) (x : WritePhase)
-    (e : (w.views t).phase ≡ Some (Writes x)) where
-  -- its phase fits its accesses
+    (e : (w.views t).phase ≡ Some (Phase.Writes x)) where
   pub write_fits_now : WriteFits c t (held_at (w.views t)) (holds_level (w.views t)) x
   write_fits_now = subst (Fits c t (held_at (w.views t)) (holds_level (w.views t))) e (good Fitting t lt)
 
-  -- its phase is alike to its gate's
   before : IsAlike (w.views t).phase (Some (plain x))
   before = alike_of e (alike_plain x)
 
-  -- and its gate's fits
   fits_plain : Fits c t (held_at (w.views t)) (holds_level (w.views t)) (Some (plain x))
   fits_plain = plain_fits c t (held_at (w.views t)) (holds_level (w.views t)) x write_fits_now
 

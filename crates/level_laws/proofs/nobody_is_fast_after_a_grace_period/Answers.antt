@@ -1,6 +1,4 @@
-use Rattle.level_laws.proofs.Whole.{fast_finds_open}
-use Rattle.level_laws.proofs.SlowLaws.{stays_slow}
-use Rattle.level_laws.proofs.GraceLaws.{graces_are_whole}
+use Rattle.level_laws.proofs.{GraceLaws.graces_are_whole, SlowLaws.stays_slow, Whole.fast_finds_open}
 use Rattle.level_laws.proofs.nobody_is_fast_after_a_grace_period.Goals as goal
 
 pub returns : goal.returns

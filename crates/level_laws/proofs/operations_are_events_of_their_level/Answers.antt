@@ -1,5 +1,4 @@
-use Rattle.level_laws.proofs.Operations.{down_writes_are_there, up_writes_are_there, callbacks_are_there}
-use Rattle.level_laws.proofs.ReadOperations.{down_reads_are_there}
+use Rattle.level_laws.proofs.{Operations.{down_writes_are_there, up_writes_are_there, callbacks_are_there}, ReadOperations.down_reads_are_there}
 use Rattle.level_laws.proofs.operations_are_events_of_their_level.Goals as goal
 
 pub returns : goal.returns

@@ -1,6 +1,4 @@
-use Rattle.progress_laws.proofs.Layers.{phase_ends}
-use Rattle.progress_laws.proofs.Whole.{world_goes}
-use Rattle.progress_laws.proofs.Plain.{world_replies}
+use Rattle.progress_laws.proofs.{Layers.phase_ends, Plain.world_replies, Whole.world_goes}
 use Rattle.progress_laws.proofs.nobody_is_deadlocked.Goals as goal
 
 pub returns-clause-progress : goal.returns-clause-progress

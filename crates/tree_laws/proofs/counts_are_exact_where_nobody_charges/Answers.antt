@@ -1,6 +1,5 @@
 -- the laws are lemmas, of every tree that comes
-use Rattle.tree_laws.proofs.Each.{each_tree}
-use Rattle.tree_laws.proofs.Clearings.{exact, snapshot_exact}
+use Rattle.tree_laws.proofs.{Clearings.{exact, snapshot_exact}, Each.each_tree}
 use Rattle.tree_laws.proofs.counts_are_exact_where_nobody_charges.Goals as goal
 
 pub returns-clause-words : goal.returns-clause-words

@@ -1,6 +1,5 @@
 -- each is a lemma
-use Rattle.tree_laws.specs.Ends.{Passed}
-use Rattle.tree_laws.proofs.Ends.{create_ends, remove_ends, grow_ends, move_ends, mark_ends, open_ends, snapshot_ends}
+use Rattle.tree_laws.{proofs.Ends.{create_ends, remove_ends, grow_ends, move_ends, mark_ends, open_ends, snapshot_ends}, specs.Ends.Passed}
 use Rattle.tree_laws.proofs.each_call_ends_honestly.Goals as goal
 
 pub returns-clause-create : goal.returns-clause-create

@@ -1,6 +1,5 @@
 -- both are lemmas
-use Rattle.call_laws.proofs.SnapshotEvents.{snapshot_step}
-use Rattle.call_laws.proofs.Completes.{snapshot_completes_now}
+use Rattle.call_laws.proofs.{Completes.snapshot_completes_now, SnapshotEvents.snapshot_step}
 use Rattle.call_laws.proofs.snapshot_events.each_event_of_a_snapshot_keeps_the_rule.Goals as goal
 
 pub returns-clause-steps : goal.returns-clause-steps

@@ -1,7 +1,6 @@
 -- zeros, with the root's word written
 use Rattle.std.proofs.Common.{arith}
-use Rattle.cpu_words.specs.Names.{words_in_all}
-use Rattle.cpu_words.proofs.Places.{opening_from}
+use Rattle.cpu_words.{proofs.Places.opening_from, specs.Names.words_in_all}
 use Rattle.gate_core.proofs.machine.words_at_start.Goals as goal
 
 pub returns : goal.returns

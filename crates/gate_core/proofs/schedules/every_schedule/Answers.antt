@@ -1,7 +1,7 @@
 -- Each clause is a lemma on whole schedules.
-use Rattle.gate_core.proofs.Whole.{whole_run, whole_moves, whole_nobody, whole_causes, whole_waits, whole_sums, whole_idle, whole_rests, whole_freezes, whole_holders, whole_trees, whole_snapshots, whole_operations, whole_leads}
-use Rattle.gate_core.proofs.LevelRuns.{whole_levels}
-use Rattle.gate_core.proofs.Deadlocks.{whole_progress, whole_replies, whole_kept}
+use Rattle.gate_core.proofs.{Deadlocks.{whole_progress, whole_replies, whole_kept}, LevelRuns.whole_levels}
+use Rattle.gate_core.proofs.Whole.{whole_run, whole_moves, whole_nobody, whole_causes, whole_waits, whole_sums, whole_idle, whole_rests, whole_freezes}
+use Rattle.gate_core.proofs.Whole.{whole_holders, whole_trees, whole_snapshots, whole_operations, whole_leads}
 use Rattle.gate_core.proofs.schedules.every_schedule.Goals as goal
 
 pub returns-clause-moves : goal.returns-clause-moves

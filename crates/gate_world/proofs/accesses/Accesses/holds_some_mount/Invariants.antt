@@ -1,7 +1,6 @@
 -- whether there is an access at a mount below this one
 use Rattle.std.proofs.Common.{◌≡◌}
-use Rattle.gate_world.specs.Operations.{some_mount}
-use Rattle.gate_world.specs.Accesses.{mounts_held}
+use Rattle.gate_world.specs.{Accesses.mounts_held, Operations.some_mount}
 use Rattle.gate_world.proofs.accesses.Accesses.holds_some_mount.Given as goal
 
 abbrev pub invariant-loop-mount : goal.invariant-loop-mount

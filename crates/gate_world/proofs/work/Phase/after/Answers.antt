@@ -1,8 +1,7 @@
 -- an up-read has one event, whatever it finds
 use Rattle.std.proofs.Common.{sym, ap, ◌∙◌}
-use Rattle.gate_world.specs.declared.work.Phase.TheVariants.{UpReads}
-use Rattle.gate_world.specs.Work.{after_of}
 use Rattle.access_model.specs.Replies.{map_next}
+use Rattle.gate_world.specs.{Work.after_of, declared.work.Phase.TheVariants.UpReads}
 use Rattle.gate_world.proofs.work.Phase.after.Goals as goal
 
 pub returns-in-UpReads : goal.returns-in-UpReads
