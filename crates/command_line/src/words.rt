@@ -1,5 +1,12 @@
 //! The words of a command line.
 
+ghost use Rattle.std.specs.Prelude.{◌≡◌, ◌⊎◌, true, false, Some, IfOk, map, codes, string_bytes};
+ghost use Rattle.clap.specs.Words.{app_of, found_of, kind_of, one_of, rows_of, rule_of, subcommand_rows_of};
+ghost use Rattle.clap.specs.declared.error.kind.ErrorKind.TheVariants.{OutOfMemory};
+ghost use Rattle.command_line.specs.CommandLine.{AreBare, IsBareReplay, IsPlainOfInput, MayAskPlainly, alone, are_plain, ask_plainly, check_shape, flag_rule, is_off, is_plain_replay, mntgate_app, number_rule, replay_shape, run_shape};
+ghost use Rattle.command_line.specs.declared.words.Asked.TheVariants.{Misused, Unread};
+ghost use Rattle.command_line.specs.declared.words.Form.TheVariants.{Plain};
+
 use clap::builder::ValueParser;
 use clap::error::ErrorKind;
 use clap::{Arg, ArgAction, ArgMatches, Command, Error};
@@ -80,24 +87,30 @@ pub fn read_words<'a, E: Write>(
     alloc: Global,
     words: &'a [String],
     errors: &mut E,
-) -> Result<Asked<'a>, AllocError> {
+) -> Result<Asked<'a>, AllocError>
+    ensures plain { ask_plainly (map string_bytes words.entry.now) ≡ true →
+        IfOk result (λ asked. (asked ≡ Unread) ⊎ IsPlainOfInput asked) }
+    ensures only { IfOk result (λ asked. IsPlainOfInput asked → MayAskPlainly (map string_bytes words.entry.now)) }
+{
     let command = command(alloc)?;
     match command.try_get_matches_from(words) {
-        Ok(matches) => request_of(alloc, &matches),
+        Ok(matches) => request_of(alloc, &matches, errors),
         Err(error) if error.use_stderr() => Ok(misused(&error, errors)),
         Err(error) => Ok(Asked::Told(format!(in alloc; "{error}")?)),
     }
 }
 
 /// What a command line asks for that was understood.
-fn request_of<'a>(alloc: Global, matches: &ArgMatches<'a>) -> Result<Asked<'a>, AllocError> {
+fn request_of<'a, E: Write>(
+    alloc: Global,
+    matches: &ArgMatches<'a>,
+    errors: &mut E,
+) -> Result<Asked<'a>, AllocError>
+    ensures plain { is_plain_replay (subcommand_rows_of matches.now) ≡ true → IfOk result IsPlainOfInput }
+    ensures only { IfOk result (λ asked. IsPlainOfInput asked → IsBareReplay (subcommand_rows_of matches.now)) }
+{
     if let Some(replay) = matches.subcommand_matches("replay") {
-        return Ok(Asked::Replay(Replay {
-            file: replay.get_str(FILE),
-            form: form_of(replay),
-            over_gates: replay.get_flag(OVER_GATES),
-            explain: replay.get_flag(EXPLAIN),
-        }));
+        return Ok(replay_of(replay, errors));
     }
     if let Some(check) = matches.subcommand_matches("check") {
         return Ok(Asked::Check(files_of(alloc, check)?));
@@ -112,17 +125,66 @@ fn request_of<'a>(alloc: Global, matches: &ArgMatches<'a>) -> Result<Asked<'a>, 
     }
 }
 
-/// What is to be printed of a replay, of whose flags there is one at most.
-fn form_of(replay: &ArgMatches<'_>) -> Form {
-    if replay.get_flag(EVENTS) {
-        Form::Events
-    } else if replay.get_flag(COLUMNS) {
-        Form::Columns
-    } else if replay.get_flag(JSON) {
-        Form::Json
-    } else {
-        Form::Plain
+/// What `replay` asks for. That of its forms there may be one is told here, since the parser's contract speaks of no argument that excludes
+/// another.
+fn replay_of<'a, E: Write>(replay: &ArgMatches<'a>, errors: &mut E) -> Asked<'a>
+    ensures plain { are_plain (rows_of (found_of replay.now)) ≡ true → IsPlainOfInput result }
+    ensures only { IsPlainOfInput result → AreBare (rows_of (found_of replay.now)) }
+{
+    match form_of(replay) {
+        Some(form) => Asked::Replay(Replay {
+            file: replay.get_str(FILE),
+            form,
+            over_gates: is_on(replay, OVER_GATES),
+            explain: is_on(replay, EXPLAIN),
+        }),
+        None => {
+            let _ = writeln!(
+                errors,
+                "error: '--{EVENTS}', '--{COLUMNS}' and '--{JSON}' cannot be used together"
+            );
+            Asked::Misused
+        }
     }
+}
+
+/// What is to be printed of a replay; None where more than one of its flags is given.
+fn form_of(replay: &ArgMatches<'_>) -> Option<Form>
+    ensures plain { let rows = rows_of (found_of replay.now) in is_off rows (codes "events") ≡ true → is_off rows (codes "columns") ≡ true →
+        is_off rows (codes "json") ≡ true → result ≡ Some Plain }
+    ensures events { result ≡ Some Plain → ¬ (one_of (codes "events") (rows_of (found_of replay.now)) ≡ Some (codes "true")) }
+    ensures columns { result ≡ Some Plain → ¬ (one_of (codes "columns") (rows_of (found_of replay.now)) ≡ Some (codes "true")) }
+    ensures json { result ≡ Some Plain → ¬ (one_of (codes "json") (rows_of (found_of replay.now)) ≡ Some (codes "true")) }
+{
+    form_for(
+        is_on(replay, EVENTS),
+        is_on(replay, COLUMNS),
+        is_on(replay, JSON),
+    )
+}
+
+/// The form for these flags; None where there is more than one.
+fn form_for(events: bool, columns: bool, json: bool) -> Option<Form>
+    ensures plain { events ≡ false → columns ≡ false → json ≡ false → result ≡ Some Plain }
+    ensures events { result ≡ Some Plain → events ≡ false }
+    ensures columns { result ≡ Some Plain → columns ≡ false }
+    ensures json { result ≡ Some Plain → json ≡ false }
+{
+    match (events, columns, json) {
+        (false, false, false) => Some(Form::Plain),
+        (true, false, false) => Some(Form::Events),
+        (false, true, false) => Some(Form::Columns),
+        (false, false, true) => Some(Form::Json),
+        _ => None,
+    }
+}
+
+/// Whether a flag is given.
+fn is_on(matches: &ArgMatches<'_>, name: &str) -> bool
+    ensures off { is_off (rows_of (found_of matches.now)) name.now ≡ true → result ≡ false }
+    ensures on { one_of name.now (rows_of (found_of matches.now)) ≡ Some (codes "true") → result ≡ true }
+{
+    matches.get_flag(name)
 }
 
 /// The files that are named.
@@ -137,7 +199,10 @@ fn files_of<'a>(alloc: Global, check: &ArgMatches<'a>) -> Result<Vec<&'a str>, A
 }
 
 /// A flag, which is left out or given once.
-fn flag<'a>(alloc: Global, name: &'a str, help: &'a str) -> Arg<'a> {
+fn flag<'a>(alloc: Global, name: &'a str, help: &'a str) -> Arg<'a>
+    ensures rule { rule_of result ≡ flag_rule name.entry.now }
+    ensures local { result.global ≡ false }
+{
     Arg::new(alloc, name)
         .long(name)
         .action(ArgAction::SetTrue)
@@ -145,7 +210,9 @@ fn flag<'a>(alloc: Global, name: &'a str, help: &'a str) -> Arg<'a> {
 }
 
 /// `replay`, with its file and its flags.
-fn replay_command<'a>(alloc: Global) -> Result<Command<'a>, AllocError> {
+fn replay_command<'a>(alloc: Global) -> Result<Command<'a>, AllocError>
+    ensures { IfOk result (λ command. app_of command ≡ alone replay_shape) }
+{
     let events = flag(
         alloc,
         EVENTS,
@@ -160,8 +227,8 @@ fn replay_command<'a>(alloc: Global) -> Result<Command<'a>, AllocError> {
     Command::new(alloc, "replay")
         .about("Replays a schedule, and prints what its lines ask for")
         .arg(Arg::new(alloc, FILE).help("Its file; standard input, where none is named"))?
-        .arg(events.conflicts_with(COLUMNS)?.conflicts_with(JSON)?)?
-        .arg(columns.conflicts_with(JSON)?)?
+        .arg(events)?
+        .arg(columns)?
         .arg(json)?
         .arg(flag(
             alloc,
@@ -176,7 +243,9 @@ fn replay_command<'a>(alloc: Global) -> Result<Command<'a>, AllocError> {
 }
 
 /// `check`, with its files.
-fn check_command<'a>(alloc: Global) -> Result<Command<'a>, AllocError> {
+fn check_command<'a>(alloc: Global) -> Result<Command<'a>, AllocError>
+    ensures { IfOk result (λ command. app_of command ≡ alone check_shape) }
+{
     let files = Arg::new(alloc, FILE)
         .num_args(1..)
         .help("Their files; standard input, where none is named");
@@ -186,7 +255,9 @@ fn check_command<'a>(alloc: Global) -> Result<Command<'a>, AllocError> {
 }
 
 /// `run`, with its numbers.
-fn run_command<'a>(alloc: Global) -> Result<Command<'a>, AllocError> {
+fn run_command<'a>(alloc: Global) -> Result<Command<'a>, AllocError>
+    ensures { IfOk result (λ command. app_of command ≡ alone run_shape) }
+{
     Command::new(alloc, "run")
         .about("Runs writers, a remounter and a backup in threads, and prints what they did")
         .arg(number(
@@ -220,7 +291,9 @@ fn run_command<'a>(alloc: Global) -> Result<Command<'a>, AllocError> {
 }
 
 /// The command line: each command of the program.
-fn command<'a>(alloc: Global) -> Result<Command<'a>, AllocError> {
+fn command<'a>(alloc: Global) -> Result<Command<'a>, AllocError>
+    ensures { IfOk result (λ command. app_of command ≡ mntgate_app) }
+{
     Command::new(alloc, "mntgate")
         .about("Write gates of a mounted file system")
         .version(VERSION)
@@ -231,7 +304,10 @@ fn command<'a>(alloc: Global) -> Result<Command<'a>, AllocError> {
 }
 
 /// An argument that has to be there: a number from the least to the most.
-fn number<'a>(alloc: Global, name: &'a str, least: u64, most: u64, help: &'a str) -> Arg<'a> {
+fn number<'a>(alloc: Global, name: &'a str, least: u64, most: u64, help: &'a str) -> Arg<'a>
+    ensures rule { rule_of result ≡ number_rule name.entry.now least most }
+    ensures local { result.global ≡ false }
+{
     Arg::new(alloc, name)
         .long(name)
         .value_name("N")
@@ -251,7 +327,10 @@ fn run_numbers(run: &ArgMatches<'_>) -> Option<Numbers> {
 }
 
 /// Says what is wrong with the command line. That there was no memory to read it is no fault of it.
-fn misused<'a, E: Write>(error: &Error, errors: &mut E) -> Asked<'a> {
+fn misused<'a, E: Write>(error: &Error, errors: &mut E) -> Asked<'a>
+    ensures memory { kind_of error.now ≡ OutOfMemory → result ≡ Unread }
+    ensures nothing { (result ≡ Unread) ⊎ (result ≡ Misused) }
+{
     let _ = write!(errors, "{error}");
     match error.kind() {
         ErrorKind::OutOfMemory => Asked::Unread,

@@ -6,17 +6,11 @@ use Rattle.command_line.specs.declared.words.Asked.{Asked}
 use Rattle.command_line.specs.declared.words.Asked.TheVariants as ask
 use Rattle.command_line.specs.declared.words.Form.{Form}
 use Rattle.command_line.specs.declared.words.Form.TheVariants.{Plain}
-use Rattle.command_line.specs.declared.words.Replay.{Replay}
 use Rattle.endings.specs.Endings.{of_file}
 use Rattle.endings.specs.declared.ends.Ending.{Ending}
 use Rattle.endings.specs.declared.ends.Ending.TheVariants.{Done, DoneOverGates, Shown, Passed, Ran, Told, Refused, Misused}
 use Rattle.schedule_bytes.specs.declared.replay_faults.ReplayFault.{ReplayFault}
 use Rattle.transcripts.specs.Replayed.{Replayed}
-
--- a plain replay: over the core, printing what its lines ask for
-pub record IsPlain (asked : Replay) : Type 0 where
-  pub form : asked.form ≡ Plain
-  pub core : asked.over_gates ≡ false
 
 -- how a replay ends that was done, in this form and over these gates, of standard input
 abbrev pub done_in : Form → Bool → Ending

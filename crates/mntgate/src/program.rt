@@ -1,11 +1,12 @@
 //! The program apart from its process: from the words of a command line to how it ends.
 
-ghost use Rattle.std.specs.Prelude.{◌≡◌, ◌⊎◌, ℕ, List, None, Some, IfOk, Ok};
+ghost use Rattle.std.specs.Prelude.{◌≡◌, ◌⊎◌, ℕ, List, true, None, Some, IfOk, Ok, map, string_bytes};
 ghost use Rattle.std.specs.Borrow.{Bor};
-ghost use Rattle.command_line.specs.declared.words.Asked.TheVariants.{Replay as AsksReplay};
+ghost use Rattle.command_line.specs.CommandLine.{IsPlain, MayAskPlainly, ask_plainly};
+ghost use Rattle.command_line.specs.declared.words.Asked.TheVariants.{Replay as AsksReplay, Unread};
 ghost use Rattle.command_line.specs.declared.words.Replay.{Replay as ReplayAsked};
 ghost use Rattle.endings.specs.declared.ends.Ending.TheVariants.{Done, Ran, Refused};
-ghost use Rattle.mntgate.specs.Asking.{IsPlain, MayEnd, EndsReplayed, EndsReplayedFile, IsRefusedUnread, done_in, done_of};
+ghost use Rattle.mntgate.specs.Asking.{MayEnd, EndsReplayed, EndsReplayedFile, IsRefusedUnread, done_in, done_of};
 ghost use Rattle.transcripts.specs.Replayed.{Replayed};
 
 use crate::checks::run_checks;
@@ -52,6 +53,10 @@ pub(crate) fn run<
     errors: &mut E,
     person: Person,
 ) -> Result<Ending, AllocError>
+    ensures plain { ask_plainly (map string_bytes words.now) ≡ true → IfOk result (λ ending. EndsReplayed
+        (I.remaining reader.old) (I.remaining reader.new) (W.contents writer.old) (W.contents writer.new) ending
+        ⊎ IsRefusedUnread (I.remaining reader.old) (I.remaining reader.new) (W.contents writer.old) (W.contents writer.new) ending) }
+    ensures only { IfOk result (λ ending. ending ≡ Done → MayAskPlainly (map string_bytes words.now)) }
     ensures done { IfOk result (λ ending. ending ≡ Done →
         Replayed (I.remaining reader.old) (I.remaining reader.new) (W.contents writer.old) (W.contents writer.new) (Ok tt)) }
 {
@@ -70,6 +75,8 @@ fn do_asked<R: Threads + Wait + Sync + Files + Alloc<A = Global>, I: Read, W: Wr
     person: Person,
 ) -> Result<Ending, AllocError>
     ensures ends { IfOk result (MayEnd asked.entry) }
+    ensures unread { asked.entry ≡ Unread → IfOk result (IsRefusedUnread
+        (I.remaining reader.old) (I.remaining reader.new) (W.contents writer.old) (W.contents writer.new)) }
     ensures plain { (r : ReplayAsked) → asked.entry ≡ AsksReplay r → IsPlain r → r.file ≡ None → IfOk result (EndsReplayed
         (I.remaining reader.old) (I.remaining reader.new) (W.contents writer.old) (W.contents writer.new)) }
     ensures of_file { (r : ReplayAsked) (file : Bor (List ℕ)) → asked.entry ≡ AsksReplay r → IsPlain r → r.file ≡ Some file →

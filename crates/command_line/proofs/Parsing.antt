@@ -1,0 +1,99 @@
+-- What follows from a command line that was parsed.
+use Rattle.std.proofs.Common.{◌≡◌, refl, ap, ap₂, ◌∙◌, Bool, true, false, ◌&&◌, [], ◌∷◌, ◌++◌, Option, Some, None, codes, option_map}
+use Rattle.std.specs.Prelude.{IsSomeAnd, not, is_some}
+use Rattle.std.specs.Option.{option_map_or}
+use Rattle.std.specs.Str.{bytes_eq}
+use Rattle.std.proofs.lemmas.Bool.{false≢true}
+use Rattle.std.proofs.lemmas.Slice.Eq.{bytes_eq-Decides}
+use Rattle.clap.specs.Words.{AddsArg, AddsSubcommand, App, Rule, Shape, Text, app_of, is_simple, rule_of, with_rule, with_subcommand}
+use Rattle.clap.specs.declared.builder.arg.Arg.{Arg}
+use Rattle.clap.specs.declared.builder.command.Command.{Command}
+use Rattle.clap.specs.declared.builder.range.ValueRange.{ValueRange}
+use Rattle.clap.proofs.OnLiterals.{clap_on_literals}
+use Rattle.command_line.specs.declared.words.Asked.TheVariants.{Replay as AsksReplay}
+use Rattle.command_line.specs.declared.words.Form.{Form}
+use Rattle.command_line.specs.declared.words.Replay.{Replay}
+use Rattle.command_line.specs.CommandLine.{alone, ask_plainly, mntgate_app}
+
+-- both of two tests
+pub and_left : (a b : Bool) → (a && b) ≡ true → a ≡ true
+and_left true b h = refl
+and_left false b h = absurd (false≢true h)
+
+pub and_right : (a b : Bool) → (a && b) ≡ true → b ≡ true
+and_right true b h = h
+and_right false b h = absurd (false≢true h)
+
+-- what isn't so is false
+pub is_false : (b : Bool) → not b ≡ true → b ≡ false
+is_false true h = absurd (false≢true h)
+is_false false h = refl
+
+-- nothing is there
+pub is_none : {A : Type 0} (o : Option A) → not (is_some o) ≡ true → o ≡ None
+is_none None h = refl
+is_none (Some x) h = absurd (false≢true h)
+
+-- nothing was there before it was mapped
+pub unmapped : {A B : Type 0} (f : A → B) (o : Option A) → option_map f o ≡ None → o ≡ None
+unmapped f None h = refl
+unmapped f (Some x) h = cc
+
+-- a flag that is off is false
+pub off_false : (o : Option Text) (r : Bool) → option_map_or (λ text. bytes_eq text (codes "false")) o true ≡ true →
+    (o ≡ None → r ≡ false) → (o ≡ Some (codes "false") → r ≡ false) → r ≡ false
+off_false None r off none other = none refl
+off_false (Some text) r off none other =
+    let some : Text → Option Text = Some in
+    other (ap some ((bytes_eq-Decides text (codes "false")).0 off))
+
+-- two requests that are the same are of the same replay
+pub same_replay : (a b : Replay) → AsksReplay a ≡ AsksReplay b → a ≡ b
+same_replay a b e = cc
+
+-- two forms that are there and the same
+pub same_form : (a b : Form) → Some a ≡ Some b → a ≡ b
+same_form a b e = cc
+
+-- a range that is there
+pub range_there : (o : Option ValueRange) (r : ValueRange) → IsSomeAnd o (λ v. v ≡ r) → o ≡ Some r
+range_there None r h = absurd h
+range_there (Some v) r h = let some : ValueRange → Option ValueRange = Some in ap some h
+
+-- the third of four tests, which is of what isn't so
+third : (a b g d : Bool) → (a && (b && (not g && d))) ≡ true → g ≡ false
+third a b g d h = is_false g (and_left (not g) d (and_right b (not g && d) (and_right a (b && (not g && d)) h)))
+
+-- a command with one argument more
+pub added : (old : Command) (a : Arg) (new : Command) (s : Shape) (r : Rule) → AddsArg old a new → a.global ≡ false →
+    app_of old ≡ alone s → rule_of a ≡ r → app_of new ≡ alone (record s { rules = s.rules ++ r ∷ [] })
+added old a new s r h local is rule = h.shape local ∙ ap₂ with_rule is rule
+
+-- a command with one command more
+pub joined : (old sub new : Command) (a : App) (s : Shape) → AddsSubcommand old sub new → s.is_plain ≡ true →
+    app_of sub ≡ alone s → app_of old ≡ a → app_of new ≡ with_subcommand a s
+joined old sub new a s h plain sub_is old_is =
+    h.shape (third _ _ _ _ (ap (λ (x : App). x.top.is_plain) sub_is ∙ plain))
+    ∙ ap₂ with_subcommand old_is (ap (λ (x : App). x.top) sub_is)
+
+-- the parser knows all of the command line
+pub is_known : is_simple mntgate_app ≡ true
+is_known = refl
+
+-- `mntgate replay`, whatever the program is called, asks for a plain replay of standard input
+pub plain_words : (name : Text) → ask_plainly (name ∷ codes "replay" ∷ []) ≡ true
+unfolding clap_on_literals
+plain_words name = refl
+
+-- and so it does with `--explain`
+pub explained_words : (name : Text) → ask_plainly (name ∷ codes "replay" ∷ codes "--explain" ∷ []) ≡ true
+unfolding clap_on_literals
+explained_words name = refl
+
+-- `--over-gates`, a form or a file don't
+pub other_words : (name : Text) →
+    (ask_plainly (name ∷ codes "replay" ∷ codes "--over-gates" ∷ []) ≡ false)
+    × (ask_plainly (name ∷ codes "replay" ∷ codes "--json" ∷ []) ≡ false)
+    × (ask_plainly (name ∷ codes "replay" ∷ codes "x.schedule" ∷ []) ≡ false)
+unfolding clap_on_literals
+other_words name = (refl, refl, refl)

@@ -1,0 +1,106 @@
+-- The command line of the program, as the parser of command lines knows it, and the words that ask for a plain replay.
+use Rattle.std.specs.Prelude.{◌≡◌, ◌&&◌, ℕ, Bool, true, false, not, List, [], ◌∷◌, Option, Some, None, is_some, codes}
+use Rattle.std.specs.Option.{option_map_or}
+use Rattle.std.specs.Str.{bytes_eq}
+use Rattle.clap.specs.Words.{App, Row, Rule, Shape, Text, first_of, new_rule, one_of, subcommand_of, takes}
+use Rattle.clap.specs.Simple.{new_shape}
+use Rattle.clap.specs.Lexer.{usize_max}
+use Rattle.clap.specs.declared.builder.action.ArgAction.TheVariants.{SetTrue}
+use Rattle.clap.specs.declared.builder.value_parser.ValueParser.TheVariants.{Unsigned}
+use Rattle.command_line.specs.declared.words.Asked.{Asked}
+use Rattle.command_line.specs.declared.words.Asked.TheVariants.{Replay as AsksReplay}
+use Rattle.command_line.specs.declared.words.Form.TheVariants.{Plain}
+use Rattle.command_line.specs.declared.words.Replay.{Replay}
+
+-- a flag, which is left out or given once
+abbrev pub flag_rule : Text → Rule
+flag_rule name = record (new_rule name) { long = Some name; action = Some SetTrue }
+
+-- a number from the least to the most, which has to be there
+abbrev pub number_rule : Text → ℕ → ℕ → Rule
+number_rule name least most = record (new_rule name) {
+  long = Some name;
+  value_names = 1;
+  required = true;
+  parser = Some (Unsigned least most);
+}
+
+-- a command with its arguments
+abbrev pub command_of : Text → List Rule → Shape
+command_of name rules = record (new_shape name) { rules = rules }
+
+-- `replay`
+abbrev pub replay_shape : Shape
+replay_shape = command_of (codes "replay") (
+    new_rule (codes "FILE") ∷ flag_rule (codes "events") ∷ flag_rule (codes "columns") ∷ flag_rule (codes "json")
+    ∷ flag_rule (codes "over-gates") ∷ flag_rule (codes "explain") ∷ [])
+
+-- `check`
+abbrev pub check_shape : Shape
+check_shape = command_of (codes "check") (
+    record (new_rule (codes "FILE")) { range = Some (record { start_inclusive = 1; end_inclusive = usize_max }) } ∷ [])
+
+-- `run`
+abbrev pub run_shape : Shape
+run_shape = command_of (codes "run") (
+    number_rule (codes "tasks") 3 64 ∷ number_rule (codes "cpus") 1 64 ∷ number_rule (codes "rounds") 1 10000
+    ∷ number_rule (codes "freezes") 0 1000 ∷ [])
+
+-- the command line: each command of the program
+abbrev pub mntgate_app : App
+mntgate_app = record {
+  top = record (new_shape (codes "mntgate")) { is_leaf = false; has_version = true; subcommand_required = true };
+  subs = replay_shape ∷ check_shape ∷ run_shape ∷ [];
+}
+
+-- a command with no commands of its own
+abbrev pub alone : Shape → App
+alone s = record { top = s; subs = [] }
+
+-- what the words of a plain replay of standard input say of each flag: that it is off
+abbrev pub is_off : List Row → Text → Bool
+is_off rows name = option_map_or (λ text. bytes_eq text (codes "false")) (one_of name rows) true
+
+-- no file, no other form and not over the gates
+abbrev pub are_plain : List Row → Bool
+are_plain rows =
+    not (is_some (first_of (codes "FILE") rows)) && (is_off rows (codes "events") && (is_off rows (codes "columns")
+    && (is_off rows (codes "json") && is_off rows (codes "over-gates"))))
+
+-- the command is `replay`, with such words
+abbrev pub is_plain_replay : Option (Text × List Row) → Bool
+is_plain_replay command = option_map_or (λ p. bytes_eq p.0 (codes "replay") && are_plain p.1) command false
+
+-- The words have no fault and ask for a plain replay of standard input, as `mntgate replay` does.
+abbrev pub ask_plainly : List Text → Bool
+ask_plainly words = takes mntgate_app words && is_plain_replay (subcommand_of mntgate_app words)
+
+-- a plain replay: over the core, printing what its lines ask for
+pub record IsPlain (asked : Replay) : Type 0 where
+  pub form : asked.form ≡ Plain
+  pub core : asked.over_gates ≡ false
+
+-- a plain replay of standard input
+pub record IsPlainOfInput (asked : Asked) : Type 0 where
+  pub replay : Replay
+  pub is : asked ≡ AsksReplay replay
+  pub plain : IsPlain replay
+  pub of_input : replay.file ≡ None
+
+-- No word names a file, or puts another flag on than `--explain`.
+pub record AreBare (rows : List Row) : Type 0 where
+  pub file : first_of (codes "FILE") rows ≡ None
+  pub events : ¬ (one_of (codes "events") rows ≡ Some (codes "true"))
+  pub columns : ¬ (one_of (codes "columns") rows ≡ Some (codes "true"))
+  pub json : ¬ (one_of (codes "json") rows ≡ Some (codes "true"))
+  pub core : ¬ (one_of (codes "over-gates") rows ≡ Some (codes "true"))
+
+-- the command is `replay`, with no such word
+pub record IsBareReplay (command : Option (Text × List Row)) : Type 0 where
+  pub rows : List Row
+  pub replay : command ≡ Some (codes "replay", rows)
+  pub bare : AreBare rows
+
+-- the words name `replay`, with no such word
+abbrev pub MayAskPlainly : List Text → Type 0
+MayAskPlainly words = IsBareReplay (subcommand_of mntgate_app words)
