@@ -32,6 +32,9 @@ const JSON: &str = "json";
 /// The flag of a replay that tells what helps after a fault.
 const EXPLAIN: &str = "explain";
 
+/// The flag of a run that tells what its tasks met.
+const DETAILS: &str = "details";
+
 /// The numbers of a run.
 #[derive(Clone, Copy, PartialEq, Eq, Debug)]
 pub struct Numbers {
@@ -39,6 +42,15 @@ pub struct Numbers {
     pub processors: u8,
     pub rounds: u32,
     pub freezes: u32,
+}
+
+/// What is printed of a run.
+#[derive(Clone, Copy, PartialEq, Eq, Debug)]
+pub enum Tells {
+    /// What its tasks did, in five lines.
+    Totals,
+    /// The same, and then what they met on their way.
+    Details,
 }
 
 /// What is printed of a replay.
@@ -73,7 +85,7 @@ pub enum Asked<'a> {
     /// is named.
     Check(Vec<&'a str>),
     /// A run in threads.
-    Run(Numbers),
+    Run(Numbers, Tells),
     /// Help or the version, which is this text.
     Told(String),
     /// Nothing: there was no memory to read them.
@@ -115,14 +127,21 @@ fn request_of<'a, E: Write>(
     if let Some(check) = matches.subcommand_matches("check") {
         return Ok(Asked::Check(files_of(alloc, check)?));
     }
-    let numbers = match matches.subcommand_matches("run") {
-        Some(run) => run_numbers(run),
+    let asked = match matches.subcommand_matches("run") {
+        Some(run) => run_asked(run),
         None => None,
     };
-    match numbers {
-        Some(numbers) => Ok(Asked::Run(numbers)),
-        None => Ok(Asked::Misused),
-    }
+    Ok(asked.unwrap_or(Asked::Misused))
+}
+
+/// The run that a command line asks for which was understood.
+fn run_asked<'a>(run: &ArgMatches<'a>) -> Option<Asked<'a>> {
+    let tells = if run.get_flag(DETAILS) {
+        Tells::Details
+    } else {
+        Tells::Totals
+    };
+    Some(Asked::Run(run_numbers(run)?, tells))
 }
 
 /// What `replay` asks for. That of its forms there may be one is told here, since the parser's contract speaks of no argument that excludes
@@ -287,6 +306,11 @@ fn run_command<'a>(alloc: Global) -> Result<Command<'a>, AllocError>
             0,
             1_000,
             "Freezes, each with a snapshot: 0 to 1000",
+        ))?
+        .arg(flag(
+            alloc,
+            DETAILS,
+            "Prints after that what they met: refusals, snapshots' sizes, time",
         ))
 }
 

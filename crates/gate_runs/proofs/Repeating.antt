@@ -1,24 +1,24 @@
 -- Rounds that go on.
-use Rattle.std.proofs.Common.{◌≡◌, ℕ, zero, suc, ◌+◌, arith, subst}
-use Rattle.std.specs.Prelude.{Result, Ok, Err, OnOk}
+use Rattle.std.proofs.Common.{◌≡◌, ℕ, zero, suc, ◌+◌, ◌-◌, ◌^◌, ◌≤◌, min, ap, refl, inl, inr, ◌∙◌, arith, subst}
+use Rattle.std.specs.Prelude.{Result, Ok, Err, OnOk, IfOk}
 use Rattle.access_model.specs.declared.errors.GateError.{GateError}
 use Rattle.gate_world.specs.declared.operations.Op.{Op}
 use Rattle.gate_world.specs.declared.operations.Op.TheVariants.{WantWrite, DropWrite}
 use Rattle.vfs_gates.specs.TaskStates.{TaskState}
-use Rattle.vfs_gates.specs.Runs.{Performs}
-use Rattle.gate_runs.specs.Rounds.{CreatesFile, CreatesFiles, Does, IsRefused, Repeats, Retries, WriterRound, BackupRound}
+use Rattle.vfs_gates.specs.Runs.{Performs, Replies, told_as, unit_of}
+use Rattle.access_model.specs.declared.replies.Reply.{Reply}
+use Rattle.gate_runs.specs.declared.counts.Copies.{Copies}
+use Rattle.gate_runs.specs.declared.counts.Writes.{Writes}
+use Rattle.gate_runs.specs.Counts.{counted}
+use Rattle.gate_runs.specs.Refusals.{IsRunCall, MetBy, WasRefused}
+use Rattle.gate_world.specs.declared.config.Config.{Config}
+use Rattle.gate_runs.specs.Rounds.{Closes, CreatesFile, CreatesFiles, Does, IsRefused, Repeats, Retries, WriterRound, BackupRound}
 
 -- one round more
 pub one_more : {S : Type 0} (Round : ℕ → S → S → Type 0) (k : ℕ) (first mid last : S) → Repeats Round k first mid → Round k mid last →
     Repeats Round (k + 1) first last
 one_more Round k first mid last so_far next =
     let is : suc k ≡ k + 1 = omega arith in subst (λ n. Repeats Round n first last) is (mid, so_far, next)
-
--- a call that was refused again and again, and now is answered otherwise
-pub answered : (op : Op) (refusal : GateError) (first mid last : TaskState) (tries : ℕ) → Repeats (λ k. IsRefused op refusal) tries first mid →
-    (answer : Result (Unit {0}) GateError) → Performs op mid last answer → OnOk answer (Retries op refusal first last)
-answered op refusal first mid last tries so_far (Ok unit) did = (tries, mid, so_far, did)
-answered op refusal first mid last tries so_far (Err other) did = tt
 
 -- files that were created, and the access that is given back
 pub created : (writers : ℕ) (first held made last : TaskState) → Does (WantWrite 0 0) first held → Repeats (λ k. CreatesFile) writers held made →
@@ -41,7 +41,7 @@ repeats_on Round Other on (suc k) first last did = (did.0, repeats_on Round Othe
 -- rounds of a writer are such of another meeting, where its calls say as much
 pub writes_on : {M N O : Type 0} (link : M → TaskState → ℕ → N → N → Type 0) (meeting : M) (other : O → TaskState → ℕ → N → N → Type 0) (there : O) →
     ((task : TaskState) (round : ℕ) (old new : N) → link meeting task round old new → other there task round old new) →
-    (processors writer rounds : ℕ) (first last : TaskState × N) → Repeats (WriterRound link meeting processors writer) rounds first last →
+    (processors writer rounds : ℕ) (first last : TaskState × N × Writes) → Repeats (WriterRound link meeting processors writer) rounds first last →
     Repeats (WriterRound other there processors writer) rounds first last
 writes_on link meeting other there on processors writer rounds first last did =
     repeats_on (WriterRound link meeting processors writer) (WriterRound other there processors writer) (λ k x y was. record {
@@ -51,12 +51,13 @@ writes_on link meeting other there on processors writer rounds first last did =
       grew = was.grew;
       met = on was.grown k x.1 y.1 was.met;
       gave = was.gave;
+      counts = was.counts;
     }) rounds first last did
 
 -- and so are the backup's
 pub backs_on : {M N O : Type 0} (link : M → TaskState → ℕ → N → N → Type 0) (meeting : M) (other : O → TaskState → ℕ → N → N → Type 0) (there : O) →
     ((task : TaskState) (round : ℕ) (old new : N) → link meeting task round old new → other there task round old new) →
-    (freezes : ℕ) (first last : TaskState × N) → Repeats (BackupRound link meeting) freezes first last →
+    (freezes : ℕ) (first last : TaskState × N × Copies) → Repeats (BackupRound link meeting) freezes first last →
     Repeats (BackupRound other there) freezes first last
 backs_on link meeting other there on freezes first last did =
     repeats_on (BackupRound link meeting) (BackupRound other there) (λ k x y was. record {
@@ -67,10 +68,60 @@ backs_on link meeting other there on freezes first last did =
       copies = was.copies;
       met = on was.copied k x.1 y.1 was.met;
       thaws = was.thaws;
+      ran = was.ran;
       calls_back = was.calls_back;
+      counts = was.counts;
     }) freezes first last did
 
+-- a call that was refused again and again, and then was done, and how often it was refused
+pub answered : (op : Op) (refusal : GateError) (first mid last : TaskState) (tries tried : ℕ) →
+    Repeats (λ k. IsRefused op refusal) tries first mid → Does op mid last → tried ≡ counted tries →
+    (did : Retries op refusal first last) × (tried ≡ counted did.0)
+answered op refusal first mid last tries tried so_far did counts = ((tries, mid, so_far, did), counts)
+
+-- one more
+stands_still : (most n : ℕ) → min (min n most + 1) most ≡ min (n + 1) most
+stands_still most n = omega arith
+
+pub counted_more : (n : ℕ) → min (counted n + 1) (2 ^ 64 - 1) ≡ counted (n + 1)
+counted_more n = stands_still (2 ^ 64 - 1) n
+
+-- an answer that tells only whether the operation was done
+abbrev unit_told : {A : Type 0} → Result A GateError → Result (Unit {0}) GateError
+unit_told (Ok x) = Ok tt
+unit_told (Err e) = Err e
+
+told_unit : {A : Type 0} (read : Reply → A) (answer : Result Reply GateError) → unit_told (told_as read answer) ≡ told_as unit_of answer
+told_unit read (Ok reply) = refl
+told_unit read (Err e) = refl
+
+-- a call that is refused tells so, whatever it reads of replies
+pub refused_so : {A : Type 0} (read : Reply → A) (op : Op) (first last : TaskState) (refusal : GateError) →
+    Replies read op first last (Err refusal) → IsRefused op refusal first last
+refused_so read op first last refusal was = record {
+  table = was.table;
+  config = was.config;
+  refused = λ other at. let told = was.refused other at in (ap unit_told told.0, told.1);
+  done = λ admitted. let told = was.done admitted in (told.0, ap unit_told told.1 ∙ told_unit read told.0, told.2);
+}
+
 -- what an answer says, by what it said before
-pub on_ok_on : {A E P Q : Type 0} → (P → Q) → (answer : Result A E) → OnOk answer P → OnOk answer Q
-on_ok_on on (Ok x) p = on p
-on_ok_on on (Err e) p = tt
+pub if_ok_on : {A E : Type 0} {P Q : A → Type 0} → ((x : A) → P x → Q x) → (answer : Result A E) → IfOk answer P → IfOk answer Q
+if_ok_on on (Ok x) p = on x p
+if_ok_on on (Err e) p = tt
+
+-- a call that a run makes, by a task of its gates, was refused so
+pub meets : (config : Config) (tasks processors : ℕ) (op : Op) (refusal : GateError) (first last : TaskState) → IsRunCall tasks processors op →
+    first.config ≡ config → IsRefused op refusal first last → MetBy config tasks processors refusal
+meets config tasks processors op refusal first last its of refused =
+    record { op = op; its = its; was = record { first = first; last = last; of = of; refused = refused } }
+
+-- the same where that is known
+pub met : (config : Config) (tasks processors : ℕ) (op : Op) (refusal : GateError) → IsRunCall tasks processors op → WasRefused config op refusal →
+    MetBy config tasks processors refusal
+met config tasks processors op refusal its was = record { op = op; its = its; was = was }
+
+-- a mount is busy once at most
+pub busy_once : (busy : ℕ) (first last : TaskState) → Closes busy first last → busy ≤ 1
+busy_once busy first last (inl done) = let none : busy ≡ 0 = done.1 in omega arith
+busy_once busy first last (inr was) = let one : busy ≡ 1 = was.1 in omega arith

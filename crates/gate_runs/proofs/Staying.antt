@@ -10,9 +10,12 @@ use Rattle.gate_world.specs.declared.views.View.{View}
 use Rattle.vfs_gates.specs.Seating.{SeatItems, HaveViews, numbered, times}
 use Rattle.vfs_gates.specs.TaskStates.{TaskState, own_number, own_view, spare_of, refusal_at}
 use Rattle.vfs_gates.specs.Runs.{Replies, ran_items}
+use Rattle.gate_runs.specs.declared.counts.Copies.{Copies}
+use Rattle.gate_runs.specs.declared.counts.Writes.{Writes}
+use Rattle.gate_runs.specs.Counts.{both, no_writes}
 use Rattle.gate_runs.specs.Rounds.{Repeats, CallsBack, CreatesFile, CreatesFiles, IsRefused, Retries, RemountRound, WriterRound, BackupRound}
 use Rattle.gate_runs.specs.Splitting.{Gives, HasBegun, HaveDoneNothing}
-use Rattle.gate_runs.specs.Parts.{EachFrom, Among, EndsAs, Stays, Remounted, Wrote, BackedUp}
+use Rattle.gate_runs.specs.Parts.{EachFrom, Among, EndsAs, Stays, Remounted, Wrote, AllWrote}
 
 pub stays_so : (s : TaskState) → Stays s s
 stays_so s = record { config = refl; own = refl; spare = refl; idle = λ i. i; there = λ h. h }
@@ -57,18 +60,17 @@ pub stays : {A : Type 0} (read : Reply → A) (op : Op) (first last : TaskState)
     Stays first last
 stays read op first last outcome did = call_stays read op first last outcome did (refusal_at op first) refl
 
--- so many rounds, where each leaves it so
-rounds_stay : {N : Type 0} (Round : ℕ → TaskState × N → TaskState × N → Type 0) →
-    ((k : ℕ) (x y : TaskState × N) → Round k x y → Stays x.0 y.0) → (k : ℕ) (first last : TaskState × N) → Repeats Round k first last →
-    Stays first.0 last.0
-rounds_stay {N = N} Round each zero first last did = subst (λ (x : TaskState × N). Stays first.0 x.0) (sym did) (stays_so first.0)
-rounds_stay Round each (suc k) first last did = stays_on (rounds_stay Round each k first did.0 did.1) (each k did.0 last did.2)
+-- so many rounds, where each leaves a task so
+rounds_stay : {S : Type 0} (task : S → TaskState) (Round : ℕ → S → S → Type 0) →
+    ((k : ℕ) (x y : S) → Round k x y → Stays (task x) (task y)) → (k : ℕ) (first last : S) → Repeats Round k first last →
+    Stays (task first) (task last)
+rounds_stay {S = S} task Round each zero first last did = subst (λ (x : S). Stays (task first) (task x)) (sym did) (stays_so (task first))
+rounds_stay task Round each (suc k) first last did = stays_on (rounds_stay task Round each k first did.0 did.1) (each k did.0 last did.2)
 
--- the same of rounds without notes
+-- the same of rounds that are calls
 calls_stay : (Round : ℕ → TaskState → TaskState → Type 0) → ((k : ℕ) (x y : TaskState) → Round k x y → Stays x y) → (k : ℕ) (first last : TaskState) →
     Repeats Round k first last → Stays first last
-calls_stay Round each zero first last did = subst (Stays first) (sym did) (stays_so first)
-calls_stay Round each (suc k) first last did = stays_on (calls_stay Round each k first did.0 did.1) (each k did.0 last did.2)
+calls_stay = rounds_stay (λ x. x)
 
 retries_stay : (op : Op) (refusal : GateError) (first last : TaskState) → Retries op refusal first last → Stays first last
 retries_stay op refusal first last did =
@@ -80,23 +82,25 @@ creates_stay writers first last did =
     (calls_stay (λ k. CreatesFile) (λ k x y was. stays _ _ x y _ was.1) writers did.held did.made did.creates)
     (stays _ _ did.made last _ did.gave))
 
-pub remounts_stay : (rounds : ℕ) (first last : TaskState) → Repeats RemountRound rounds first last → Stays first last
-remounts_stay rounds first last did = calls_stay RemountRound (λ k x y was. stays_on
-    (elim was.closed [ inl done ↦ stays _ _ x was.mid _ done | inr busy ↦ stays _ _ x was.mid _ busy ])
-    (stays _ _ was.mid y _ was.opened)) rounds first last did
+pub remounts_stay : (rounds : ℕ) (first last : TaskState × ℕ) → Repeats RemountRound rounds first last → Stays first.0 last.0
+remounts_stay rounds first last did = rounds_stay (λ x. x.0) RemountRound (λ k x y was. stays_on
+    (elim was.closed [ inl done ↦ stays _ _ x.0 was.mid _ done.0 | inr busy ↦ stays _ _ x.0 was.mid _ busy.0 ])
+    (stays _ _ was.mid y.0 _ was.opened)) rounds first last did
 
 module _ {M N : Type 0} (link : M → TaskState → ℕ → N → N → Type 0) (meeting : M) where
-  pub writes_stay : (processors writer rounds : ℕ) (first last : TaskState × N) → Repeats (WriterRound link meeting processors writer) rounds first last →
-      Stays first.0 last.0
-  writes_stay processors writer rounds first last did = rounds_stay (WriterRound link meeting processors writer) (λ k x y was. stays_on
+  pub writes_stay : (processors writer rounds : ℕ) (first last : TaskState × N × Writes) →
+      Repeats (WriterRound link meeting processors writer) rounds first last → Stays first.0 last.0
+  writes_stay processors writer rounds first last did = rounds_stay (λ x. x.0) (WriterRound link meeting processors writer) (λ k x y was. stays_on
       (retries_stay _ _ x.0 was.held was.took) (stays_on (retries_stay _ _ was.held was.grown was.grew) (stays _ _ was.grown y.0 _ was.gave)))
       rounds first last did
 
-  pub backs_stay : (freezes : ℕ) (first last : TaskState × N) → Repeats (BackupRound link meeting) freezes first last → Stays first.0 last.0
-  backs_stay freezes first last did = rounds_stay (BackupRound link meeting) (λ k x y was. stays_on
+  pub backs_stay : (freezes : ℕ) (first last : TaskState × N × Copies) → Repeats (BackupRound link meeting) freezes first last →
+      Stays first.0 last.0
+  backs_stay freezes first last did = rounds_stay (λ x. x.0) (BackupRound link meeting) (λ k x y was. stays_on
       (stays _ _ x.0 was.frozen _ was.freezes) (stays_on (stays _ _ was.frozen was.copied _ was.copies) (stays_on
       (stays _ _ was.copied was.thawed _ was.thaws)
-      (calls_stay (λ k. CallsBack (k + 1)) (λ k x y ran. stays _ _ x y _ ran.1) 3 was.thawed y.0 was.calls_back)))) freezes first last did
+      (rounds_stay (λ (x : TaskState × ℕ). x.0) (λ k. CallsBack (k + 1)) (λ k x y ran. stays _ _ x.0 y.0 _ ran.1) 3 (was.thawed, 0) (y.0, was.ran)
+      was.calls_back)))) freezes first last did
 
 -- who stands among these does so among more
 pub among_more : (s : TaskState) (items more : SeatItems) → Among items s → Among (items ++ more) s
@@ -119,6 +123,12 @@ joins_them s items there = among_behind s items s.items (own_among s s.items the
 pub is_among : (s : TaskState) → 1 ≤ length s.items → Among s.items s
 is_among s there = own_among s s.items there refl
 
+-- each of a list that is so is otherwise
+each_on : {A : Type 0} (Is Other : ℕ → A → Type 0) → ((n : ℕ) (x : A) → Is n x → Other n x) → (n : ℕ) (xs : List A) → EachFrom Is n xs →
+    EachFrom Other n xs
+each_on Is Other on n [] each = tt
+each_on Is Other on n (x ∷ xs) each = (on n x each.0, each_on Is Other on (suc n) xs each.1)
+
 -- in the end its number has the view that it knew
 pub ends_as : (views : ℕ → View) (items : SeatItems) (s : TaskState) → HaveViews views items → Among items s → EndsAs views s
 ends_as views [] s have h = absurd h
@@ -127,29 +137,40 @@ ends_as views (x ∷ xs) s have (inr h) = ends_as views xs s (λ k y e. have (su
 
 -- parts of those who end so are parts of those who end otherwise
 module _ (Ends Other : TaskState → Type 0) (on : (s : TaskState) → Ends s → Other s) where
-  pub remounted_on : (rounds : ℕ) → Remounted Ends rounds → Remounted Other rounds
-  remounted_on rounds r = record { first = r.first; last = r.last; begun = r.begun; did = r.did; own = r.own; ends = on r.last r.ends }
+  pub remounted_on : (rounds busy : ℕ) → Remounted Ends rounds busy → Remounted Other rounds busy
+  remounted_on rounds busy r = record { first = r.first; last = r.last; begun = r.begun; did = r.did; own = r.own; ends = on r.last r.ends }
 
-  module _ {M N : Type 0} (link : M → TaskState → ℕ → N → N → Type 0) (meeting : M) where
-    pub wrote_on : (processors rounds writer : ℕ) (before after : N) → Wrote Ends link meeting processors rounds writer before after →
-        Wrote Other link meeting processors rounds writer before after
-    wrote_on processors rounds writer before after w =
+  module _ {M N : Type 0} (link : M → TaskState → ℕ → N → N → Type 0) (meeting : M) (processors rounds : ℕ) (before after : N) where
+    pub wrote_on : (writer : ℕ) (writes : Writes) → Wrote Ends link meeting processors rounds writer before after writes →
+        Wrote Other link meeting processors rounds writer before after writes
+    wrote_on writer writes w =
         record { first = w.first; last = w.last; begun = w.begun; did = w.did; own = w.own; ends = on w.last w.ends }
 
-    pub backed_on : (writers freezes : ℕ) (before after : N) → BackedUp Ends link meeting writers freezes before after →
-        BackedUp Other link meeting writers freezes before after
-    backed_on writers freezes before after b = record {
-      begins = b.begins;
-      made = b.made;
-      first = b.first;
-      last = b.last;
-      begun = b.begun;
-      creates = b.creates;
-      same = b.same;
-      did = b.did;
-      own = b.own;
-      ends = on b.last b.ends;
+    pub all_wrote_on : (from count : ℕ) (writes : Writes) → AllWrote Ends link meeting processors rounds from count before after writes →
+        AllWrote Other link meeting processors rounds from count before after writes
+    all_wrote_on from count writes w = record {
+      each = w.each;
+      all = w.all;
+      parts = each_on (λ writer. Wrote Ends link meeting processors rounds writer before after)
+          (λ writer. Wrote Other link meeting processors rounds writer before after) wrote_on from w.each w.parts;
+      sum = w.sum;
     }
+
+-- one writer more, before all that come after it
+pub all_wrote_before : (Ends : TaskState → Type 0) {M N : Type 0} (link : M → TaskState → ℕ → N → N → Type 0) (meeting : M)
+    (processors rounds : ℕ) (before after : N) (writer from count : ℕ) (its writes all : Writes) → from ≡ suc writer →
+    Wrote Ends link meeting processors rounds writer before after its →
+    AllWrote Ends link meeting processors rounds from count before after writes → all ≡ both its writes →
+    AllWrote Ends link meeting processors rounds writer count before after all
+all_wrote_before Ends link meeting processors rounds before after writer from count its writes all next part later is = record {
+  each = its ∷ later.each;
+  all = let many : count ≡ from + length later.each = later.all in omega (arith, many, next);
+  parts = (
+    part,
+    subst (λ n. EachFrom (λ k. Wrote Ends link meeting processors rounds k before after) n later.each) next later.parts,
+  );
+  sum = is ∙ ap (both its) later.sum;
+}
 
 -- one more of a list
 pub each_more : {A : Type 0} (Is : ℕ → A → Type 0) (n : ℕ) (xs : List A) (x : A) → EachFrom Is n xs → Is (n + length xs) x →
@@ -198,10 +219,10 @@ comes_among old other new took there =
     subst (λ (t : TaskState). Among t.items other) (sym took) (joins_them other old.items there)
 
 -- the remounter's part, once its task was taken back
-pub remounter_part : (rounds : ℕ) (first last old new : TaskState) → HasBegun 1 first → Repeats RemountRound rounds first last →
-    TookBack old last new → Remounted (Among new.items) rounds
-remounter_part rounds first last old new begun did took =
-    let stayed = remounts_stay rounds first last did in record {
+pub remounter_part : (rounds busy : ℕ) (first last old new : TaskState) → HasBegun 1 first →
+    Repeats RemountRound rounds (first, 0) (last, busy) → TookBack old last new → Remounted (Among new.items) rounds busy
+remounter_part rounds busy first last old new begun did took =
+    let stayed = remounts_stay rounds (first, 0) (last, busy) did in record {
       first = first;
       last = last;
       begun = begun;
@@ -212,11 +233,11 @@ remounter_part rounds first last old new begun did took =
 
 -- and a writer's
 pub writer_part : {M N : Type 0} (link : M → TaskState → ℕ → N → N → Type 0) (meeting : M) (processors rounds writer : ℕ) (before after : N)
-    (first last old new : TaskState) → HasBegun (writer + 2) first →
-    Repeats (WriterRound link meeting processors writer) rounds (first, before) (last, after) → TookBack old last new →
-    Wrote (Among new.items) link meeting processors rounds writer before after
-writer_part link meeting processors rounds writer before after first last old new begun did took =
-    let stayed = writes_stay link meeting processors writer rounds (first, before) (last, after) did in record {
+    (writes : Writes) (first last old new : TaskState) → HasBegun (writer + 2) first →
+    Repeats (WriterRound link meeting processors writer) rounds (first, before, no_writes) (last, after, writes) → TookBack old last new →
+    Wrote (Among new.items) link meeting processors rounds writer before after writes
+writer_part link meeting processors rounds writer before after writes first last old new begun did took =
+    let stayed = writes_stay link meeting processors writer rounds (first, before, no_writes) (last, after, writes) did in record {
       first = first;
       last = last;
       begun = begun;

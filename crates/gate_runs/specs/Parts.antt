@@ -1,8 +1,12 @@
 -- What each task of a run has done, from where it began, and how it stands at the end.
-use Rattle.std.specs.Prelude.{◌≡◌, ℕ, suc, ◌+◌, ◌-◌, ◌<◌, ◌≤◌, ◌⊎◌, List, [], ◌∷◌, length}
+use Rattle.std.specs.Prelude.{◌≡◌, ℕ, suc, ◌+◌, ◌-◌, ◌≤◌, ◌⊎◌, List, [], ◌∷◌, length}
 use Rattle.gate_world.specs.declared.views.View.{View}
 use Rattle.vfs_gates.specs.Seating.{SeatItems, numbered}
 use Rattle.vfs_gates.specs.TaskStates.{TaskState, IsIdle, own_number, own_view, spare_of}
+use Rattle.gate_runs.specs.declared.counts.Copies.{Copies}
+use Rattle.gate_runs.specs.declared.counts.Details.{Details}
+use Rattle.gate_runs.specs.declared.counts.Writes.{Writes}
+use Rattle.gate_runs.specs.Counts.{all_writes, no_copies, no_writes}
 use Rattle.gate_runs.specs.Meetings.{was_frozen, was_held}
 use Rattle.gate_runs.specs.Rounds.{Repeats, CreatesFiles, RemountRound, WriterRound, BackupRound}
 use Rattle.gate_runs.specs.Splitting.{HasBegun}
@@ -31,28 +35,35 @@ pub record Stays (first last : TaskState) : Type 0 where
 
 -- What each task has done. `Ends` says of the last state of each how it stands at the end.
 module _ (Ends : TaskState → Type 0) where
-  -- the remounter: from its beginning on so many rounds, and nothing else
-  pub record Remounted (rounds : ℕ) : Type 0 where
+  -- the remounter: from its beginning on so many rounds, in which the mount was busy so often, and nothing else
+  pub record Remounted (rounds busy : ℕ) : Type 0 where
     pub first : TaskState
     pub last : TaskState
     pub begun : HasBegun 1 first
-    pub did : Repeats RemountRound rounds first last
+    pub did : Repeats RemountRound rounds (first, 0) (last, busy)
     pub own : own_number last.items ≡ 1
     pub ends : Ends last
 
   module _ {M N : Type 0} (link : M → TaskState → ℕ → N → N → Type 0) (meeting : M) where
-    -- a writer, the first being 0: from its beginning and these notes on so many rounds, and nothing else
-    pub record Wrote (processors rounds writer : ℕ) (before after : N) : Type 0 where
+    -- a writer, the first being 0: from its beginning and these notes on so many rounds, which met this, and nothing else
+    pub record Wrote (processors rounds writer : ℕ) (before after : N) (writes : Writes) : Type 0 where
       pub first : TaskState
       pub last : TaskState
       pub begun : HasBegun (writer + 2) first
-      pub did : Repeats (WriterRound link meeting processors writer) rounds (first, before) (last, after)
+      pub did : Repeats (WriterRound link meeting processors writer) rounds (first, before, no_writes) (last, after, writes)
       pub own : own_number last.items ≡ writer + 2
       pub ends : Ends last
 
+    -- all writers from this one on, of so many: each its part, and what they met together
+    pub record AllWrote (processors rounds from count : ℕ) (before after : N) (writes : Writes) : Type 0 where
+      pub each : List Writes
+      pub all : count ≡ from + length each
+      pub parts : EachFrom (λ writer. Wrote processors rounds writer before after) from each
+      pub sum : writes ≡ all_writes each
+
     -- The backup: it has created a file for each writer, then given all other numbers away, which adds nothing to its list, and then frozen
-    -- so often, and nothing else.
-    pub record BackedUp (writers freezes : ℕ) (before after : N) : Type 0 where
+    -- so often, which met this, and nothing else.
+    pub record BackedUp (writers freezes : ℕ) (before after : N) (copies : Copies) : Type 0 where
       pub begins : TaskState
       pub made : TaskState
       pub first : TaskState
@@ -60,18 +71,18 @@ module _ (Ends : TaskState → Type 0) where
       pub begun : HasBegun 0 begins
       pub creates : CreatesFiles writers begins made
       pub same : own_view first.items ≡ own_view made.items
-      pub did : Repeats (BackupRound link meeting) freezes (first, before) (last, after)
+      pub did : Repeats (BackupRound link meeting) freezes (first, before, no_copies) (last, after, copies)
       pub own : own_number last.items ≡ 0
       pub ends : Ends last
 
--- what all tasks of a run have done, the backup from this view on, with which it has given all numbers away
+-- what all tasks of a run have done and met, the backup from this view on, with which it has given all numbers away
 pub record AllDid (Ends : TaskState → Type 0) {M : Type 0} (held : M → ℕ → ℕ → Type 0) (meeting : M) (tasks processors rounds freezes : ℕ)
-    (made : View) : Type 0 where
+    (made : View) (details : Details) : Type 0 where
   pub first : TaskState
   pub last : TaskState
   pub same : own_view first.items ≡ made
-  pub backup : Repeats (BackupRound was_frozen meeting) freezes (first, tt) (last, tt)
+  pub backup : Repeats (BackupRound was_frozen meeting) freezes (first, tt, no_copies) (last, tt, details.copies)
   pub own : own_number last.items ≡ 0
   pub ends : Ends last
-  pub remounter : Remounted Ends rounds
-  pub writers : (writer : ℕ) → writer < tasks - 2 → Wrote Ends (was_held held) meeting processors rounds writer tt tt
+  pub remounter : Remounted Ends rounds details.busy
+  pub writers : AllWrote Ends (was_held held) meeting processors rounds 0 (tasks - 2) tt tt details.writes

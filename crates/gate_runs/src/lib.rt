@@ -2,8 +2,10 @@
 //! closed. It needs public calls alone, and stands in a crate of its own so that what needs no runs does not wait for their proof.
 #![tactic(auto)]
 
+mod counts;
 mod meetings;
 mod runs;
 
+pub use counts::{Copies, Details, Sizes, Writes};
 pub use meetings::Meeting;
 pub use runs::{Plan, Totals, run_plan, run_with};

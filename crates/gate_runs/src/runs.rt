@@ -1,15 +1,18 @@
 //! A run: writers, a remounter and a backup, each in a thread of its own.
 
 ghost use Rattle.std.specs.Prelude.{◌≡◌, ◌≤◌, ◌-◌, ◌*◌, IfErr, IfOk, OnOk};
-ghost use Rattle.access_model.specs.declared.errors.GateError.TheVariants.{Invalid};
+ghost use Rattle.access_model.specs.declared.errors.GateError.TheVariants.{Invalid, Order};
 ghost use Rattle.vfs_gates.specs.Ended.{EndedWith};
 ghost use Rattle.vfs_gates.specs.TaskStates.{IsFrom};
+ghost use Rattle.gate_runs.specs.declared.counts.Details.{Details as DetailsType};
 ghost use Rattle.gate_runs.specs.Plans.{MayRun, TellsRun, run_config};
+ghost use Rattle.gate_runs.specs.Refusals.{RunRefused};
 ghost use Rattle.gate_runs.specs.Rounds.{processor_of};
 
 mod threads;
 mod workers;
 
+use crate::counts::Details;
 use crate::meetings::Meeting;
 use access_model::{Gate, GateError};
 use cpu_words::WordName;
@@ -118,7 +121,8 @@ fn held_in(closed: &Closed) -> u64
 /// Closes the gates, where the task is the only one left.
 fn close(gates: Gates, task: Task) -> Result<Closed, GateError>
     requires { IsFrom task gates }
-    ensures { IfOk result (λ c. (c.config ≡ gates.words.config) × EndedWith c.config c.words task.items) }
+    ensures closed { IfOk result (λ c. (c.config ≡ gates.words.config) × EndedWith c.config c.words task.items) }
+    ensures refused { IfErr result (λ e. e ≡ Order) }
 {
     match gates.close(task) {
         Ok(closed) => Ok(closed),
@@ -127,27 +131,29 @@ fn close(gates: Gates, task: Task) -> Result<Closed, GateError>
 }
 
 /// The same as `run_with`, of numbers that are within their limits: makes the gates and their files, does the plan in threads, and closes
-/// the gates. NoMemory, and any other refusal, as there; no number is at fault.
+/// the gates. Tells beside the totals what the tasks met on their way, each refusal and callback counted. NoMemory, and any other refusal, as
+/// there; no number is at fault.
 pub fn run_plan<R: Threads + Wait + Sync, M: Meeting + Sync>(
     rt: &R,
     alloc: Global,
     plan: Plan,
     meeting: &M,
-) -> Result<(Totals, Closed), GateError>
-    ensures { IfOk result (λ r. TellsRun M.held meeting.now plan.tasks plan.processors plan.rounds plan.freezes r.0 r.1) }
+) -> Result<(Totals, Details, Closed), GateError>
+    ensures tells { IfOk result (λ r. TellsRun M.held meeting.now plan.tasks plan.processors plan.rounds plan.freezes r.0 r.1 r.2) }
+    ensures refused { IfErr result (RunRefused (run_config plan.tasks plan.processors plan.rounds) plan.tasks plan.processors) }
 {
     let (gates, mut task) = Gates::new(alloc, plan.config())?;
     create_files(rt, &gates, plan, &mut task)?;
-    let (task, copies) = in_threads(rt, alloc, &gates, plan, meeting, task)?;
+    let (task, details) = in_threads(rt, alloc, &gates, plan, meeting, task)?;
     let closed = close(gates, task)?;
     let totals = Totals {
         grown: closed.word(WordName::Used).unwrap_or(0),
-        frozen: u64::from(copies.frozen),
-        snapshots: u64::from(copies.snapshots),
+        frozen: u64::from(details.copies.frozen),
+        snapshots: u64::from(details.copies.snapshots),
         remounts: u64::from(plan.rounds),
         held: held_in(&closed),
     };
-    Ok((totals, closed))
+    Ok((totals, details, closed))
 }
 
 /// Runs so many tasks (3 to 64), each in a thread of its own, at one mount with so many processors (1 to 64), and closes the gates.
@@ -158,7 +164,8 @@ pub fn run_plan<R: Threads + Wait + Sync, M: Meeting + Sync>(
 /// of the views that its task has in the end (`Meeting::held` has what the calls of the meeting show).
 ///
 /// Invalid where a number is out of its limits. NoMemory where a growth was refused or a thread couldn't be started: those that were
-/// started have ended then. Any other refusal is the first one that a task met which the run doesn't expect, and ends it too.
+/// started have ended then. Any other refusal is the first one that a task met which the run doesn't expect, and ends it too: that of a call
+/// of it (so Invalid, where a snapshot or a thaw found nothing frozen), or Order, where a task that came back held something.
 pub fn run_with<R: Threads + Wait + Sync, M: Meeting + Sync>(
     rt: &R,
     alloc: Global,
@@ -170,8 +177,10 @@ pub fn run_with<R: Threads + Wait + Sync, M: Meeting + Sync>(
 ) -> Result<(Totals, Closed), GateError>
     ensures within { OnOk result (MayRun tasks processors rounds freezes) }
     ensures invalid { ¬ MayRun tasks processors rounds freezes → result ≡ Err Invalid }
-    ensures tells { IfOk result (λ r. TellsRun M.held meeting.now tasks processors rounds freezes r.0 r.1) }
+    ensures refused { MayRun tasks processors rounds freezes → IfErr result (RunRefused (run_config tasks processors rounds) tasks processors) }
+    ensures tells { IfOk result (λ r. (details : DetailsType) × TellsRun M.held meeting.now tasks processors rounds freezes r.0 details r.1) }
 {
     let plan = Plan::new(tasks, processors, rounds, freezes)?;
-    run_plan(rt, alloc, plan, meeting)
+    let (totals, _details, closed) = run_plan(rt, alloc, plan, meeting)?;
+    Ok((totals, closed))
 }

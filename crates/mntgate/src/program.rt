@@ -13,14 +13,14 @@ use crate::checks::run_checks;
 use crate::gates_driver::GatesDriver;
 use crate::replay::{Telling, replay_core, replay_gates, show_told};
 use crate::runs;
-use crate::runs::Progress;
-use command_line::{Asked, Form, Numbers, Replay, read_words};
+use crate::runs::{AskedRun, Progress};
+use command_line::{Asked, Form, Replay, read_words};
 use endings::{Ending, text_told, unopened};
 use replays::Core;
 use std::alloc::{AllocError, Global};
 use std::fs;
 use std::io::{Read, Stderr, Write};
-use std::rt::Files;
+use std::rt::{Clock, Files};
 use std::sync::Wait;
 use std::thread::Threads;
 
@@ -40,7 +40,7 @@ pub(crate) struct Person {
 /// Does what the words of a command line ask for; faults are told on a writer of their own, and where they can't be, the
 /// program ends the same. Where a person watches, a run tells there how far it is, and a fault of a schedule is explained.
 pub(crate) fn run<
-    R: Threads + Wait + Sync + Files + Alloc<A = Global>,
+    R: Threads + Wait + Clock + Sync + Files + Alloc<A = Global>,
     I: Read,
     W: Write,
     E: Write,
@@ -88,30 +88,30 @@ fn do_asked<R: Threads + Wait + Sync + Files + Alloc<A = Global>, I: Read, W: Wr
             Ok(run_replay(rt, alloc, replay, reader, writer, errors, &person))
         }
         Asked::Check(files) => run_checks(rt, alloc, files.as_slice(), reader, writer, errors),
-        Asked::Run(numbers) => Ok(run_threads(rt, alloc, numbers, writer, errors, person.watches)),
+        Asked::Run(numbers, tells) => {
+            let asked = AskedRun { numbers, tells };
+            Ok(run_threads(rt, alloc, asked, writer, errors, person.watches))
+        }
         Asked::Told(text) => Ok(text_told(text.as_str(), writer, errors)),
         Asked::Unread => Ok(Ending::Refused),
         Asked::Misused => Ok(Ending::Misused),
     }
 }
 
-/// Runs the threads.
-fn run_threads<R: Threads + Wait + Sync, W: Write, E: Write>(
+/// Runs the threads. Where the clock can't be read, nobody is told how far they are.
+fn run_threads<R: Threads + Wait + Clock + Sync, W: Write, E: Write>(
     rt: &R,
     alloc: Global,
-    numbers: Numbers,
+    asked: AskedRun,
     writer: &mut W,
     errors: &mut E,
     watched: Option<Stderr>,
 ) -> Ending
     ensures { (result ≡ Ran) ⊎ (result ≡ Refused) }
 {
-    match watched {
-        Some(stderr) => {
-            let progress = Progress::new(numbers, stderr);
-            runs::run(rt, alloc, numbers, &progress, writer, errors)
-        }
-        None => runs::run(rt, alloc, numbers, &(), writer, errors),
+    match watched.and_then(|stderr| Progress::new(rt, asked.numbers, stderr).ok()) {
+        Some(progress) => runs::run(rt, alloc, asked, &progress, writer, errors),
+        None => runs::run(rt, alloc, asked, &(), writer, errors),
     }
 }
 

@@ -5,41 +5,72 @@ ghost use Rattle.endings.specs.declared.ends.Ending.TheVariants.{Ran, Refused};
 ghost use Rattle.gate_runs.specs.Plans.{MayRun};
 
 use access_model::GateError;
-use command_line::Numbers;
+use command_line::{Numbers, Tells};
 use endings::{Ending, refused};
-use gate_runs::{Meeting, run_with};
+use gate_runs::{Details, Meeting, Plan, Sizes, Totals, run_plan};
 use schedule_bytes::write_out;
-use std::alloc::Global;
+use std::alloc::{AllocError, Global};
+use std::io;
 use std::io::{Stderr, Write};
+use std::rt::Clock;
 use std::sync::Wait;
 use std::sync::atomic::{AtomicU32, AtomicU64, Ordering};
 use std::thread::Threads;
+use std::time::{Duration, Instant};
 
-/// How often a run tells how far it is.
-const TIMES: u64 = 20;
-
-/// Tells a person now and then how far a run is: the rounds of all writers, and the freezes.
+/// Tells a person each second how far a run is: the rounds of all writers, and the freezes.
 #[derive(Drop)]
-pub(crate) struct Progress {
+pub(crate) struct Progress<'r, R> {
+    rt: &'r R,
+    start: Instant,
+    /// The second from the start at which a person is told next.
+    due: AtomicU64,
     asked: Numbers,
     rounds: AtomicU64,
     freezes: AtomicU32,
     errors: Stderr,
 }
 
-impl Progress {
-    pub(crate) fn new(asked: Numbers, errors: Stderr) -> Progress {
-        Progress {
+impl<'r, R: Clock> Progress<'r, R> {
+    /// That of a run which begins now. The clock's error, where it can't be read.
+    pub(crate) fn new(
+        rt: &'r R,
+        asked: Numbers,
+        errors: Stderr,
+    ) -> Result<Progress<'r, R>, io::Error> {
+        Ok(Progress {
+            rt,
+            start: Instant::now(rt)?,
+            due: AtomicU64::new(1),
             asked,
             rounds: AtomicU64::new(0),
             freezes: AtomicU32::new(0),
             errors,
-        }
+        })
     }
 
     /// The rounds of all writers.
     fn all_rounds(&self) -> u64 {
         u64::from(self.asked.tasks.saturating_sub(2)) * u64::from(self.asked.rounds)
+    }
+
+    /// Tells how far the run is, where a second has begun in which nobody was told. One of the threads that come by does it.
+    fn tell_each_second(&self) {
+        let Ok(gone) = self.start.elapsed(self.rt) else {
+            return;
+        };
+        let (second, due) = (gone.as_secs(), self.due.load(Ordering::SeqCst));
+        if second < due {
+            return;
+        }
+        let next = second.saturating_add(1);
+        if self
+            .due
+            .compare_exchange(due, next, Ordering::SeqCst, Ordering::SeqCst)
+            .is_ok()
+        {
+            self.tell();
+        }
     }
 
     /// That nobody can be told is no fault of the run.
@@ -54,51 +85,118 @@ impl Progress {
     }
 }
 
-impl Meeting for Progress {
+impl<'r, R: Clock> Meeting for Progress<'r, R> {
     fn holding(&self, _task: u8, _round: u32) {
-        let done = self.rounds.fetch_add(1, Ordering::SeqCst).wrapping_add(1);
-        if done % (self.all_rounds() / TIMES).max(1) == 0 {
-            self.tell();
-        }
+        self.rounds.fetch_add(1, Ordering::SeqCst);
+        self.tell_each_second();
     }
 
     fn frozen(&self, freeze: u32) {
-        let done = freeze.saturating_add(1);
-        self.freezes.store(done, Ordering::SeqCst);
-        if u64::from(done) % (u64::from(self.asked.freezes) / TIMES).max(1) == 0 {
-            self.tell();
-        }
+        self.freezes
+            .store(freeze.saturating_add(1), Ordering::SeqCst);
+        self.tell_each_second();
     }
 }
 
-/// Runs what is asked for, and writes what it counted in five lines. A refusal is told on the writer of faults, and so is a write that
-/// fails.
-pub(crate) fn run<R: Threads + Wait + Sync, M: Meeting + Sync, W: Write, E: Write>(
+/// The five lines of what all tasks did.
+fn total_lines(alloc: Global, totals: Totals) -> Result<String, AllocError> {
+    format!(in alloc;
+        "grown {}\nfrozen {}\nsnapshots {}\nremounts {}\nheld {}\n",
+        totals.grown, totals.frozen, totals.snapshots, totals.remounts, totals.held
+    )
+}
+
+/// So many in so long a time, for each second. A time under a microsecond counts as one.
+fn each_second(count: u64, took: Duration) -> u64 {
+    let micros = u64::try_from(took.as_micros()).unwrap_or(u64::MAX).max(1);
+    count.saturating_mul(1_000_000) / micros
+}
+
+/// The lines of what they met: a name and a number each. The sizes of snapshots are told where there was one, and the time where the clock
+/// could be read.
+fn detail_lines(
+    alloc: Global,
+    details: Details,
+    took: Option<Duration>,
+) -> Result<String, AllocError> {
+    let Details {
+        writes,
+        busy,
+        copies,
+    } = details;
+    let mut lines = format!(in alloc;
+        "granted {}\nread_only {}\nbusy {}\nagain {}\ncallbacks {}\n",
+        writes.granted, writes.read_only, busy, writes.again, copies.callbacks
+    )?;
+    if let Some(Sizes { least, most }) = copies.sizes {
+        let sizes = format!(in alloc; "least_blocks {least}\nmost_blocks {most}\n")?;
+        lines.push_str(sizes.as_str())?;
+    }
+    if let Some(took) = took {
+        let rounds = each_second(writes.granted, took);
+        let times = format!(in alloc;
+            "milliseconds {}\nrounds_a_second {rounds}\n",
+            took.as_millis()
+        )?;
+        lines.push_str(times.as_str())?;
+    }
+    Ok(lines)
+}
+
+/// The lines that are asked for.
+fn lines_of(
+    alloc: Global,
+    tells: Tells,
+    totals: Totals,
+    details: Details,
+    took: Option<Duration>,
+) -> Result<String, AllocError> {
+    let mut lines = total_lines(alloc, totals)?;
+    match tells {
+        Tells::Totals => {}
+        Tells::Details => lines.push_str(detail_lines(alloc, details, took)?.as_str())?,
+    }
+    Ok(lines)
+}
+
+/// What is asked of a run.
+#[derive(Clone, Copy)]
+pub(crate) struct AskedRun {
+    pub(crate) numbers: Numbers,
+    pub(crate) tells: Tells,
+}
+
+/// Runs what is asked for, and writes what it counted in five lines, with the details after them, where they are asked for. A refusal is told on
+/// the writer of faults, and so is a write that fails.
+pub(crate) fn run<R: Threads + Wait + Clock + Sync, M: Meeting + Sync, W: Write, E: Write>(
     rt: &R,
     alloc: Global,
-    asked: Numbers,
+    asked: AskedRun,
     meeting: &M,
     writer: &mut W,
     errors: &mut E,
 ) -> Ending
     ensures ends { (result ≡ Ran) ⊎ (result ≡ Refused) }
-    ensures within { result ≡ Ran → MayRun asked.tasks asked.processors asked.rounds asked.freezes }
+    ensures within { result ≡ Ran →
+        MayRun asked.numbers.tasks asked.numbers.processors asked.numbers.rounds asked.numbers.freezes }
 {
     let Numbers {
         tasks,
         processors,
         rounds,
         freezes,
-    } = asked;
-    let totals = match run_with(rt, alloc, tasks, processors, rounds, freezes, meeting) {
-        Ok((totals, _)) => totals,
+    } = asked.numbers;
+    let plan = match Plan::new(tasks, processors, rounds, freezes) {
+        Ok(plan) => plan,
         Err(refusal) => return refused(refusal, errors),
     };
-    let lines = format!(in alloc;
-        "grown {}\nfrozen {}\nsnapshots {}\nremounts {}\nheld {}\n",
-        totals.grown, totals.frozen, totals.snapshots, totals.remounts, totals.held
-    );
-    let Ok(lines) = lines else {
+    let start = Instant::now(rt).ok();
+    let (totals, details) = match run_plan(rt, alloc, plan, meeting) {
+        Ok((totals, details, _)) => (totals, details),
+        Err(refusal) => return refused(refusal, errors),
+    };
+    let took = start.and_then(|start| start.elapsed(rt).ok());
+    let Ok(lines) = lines_of(alloc, asked.tells, totals, details, took) else {
         return refused(GateError::NoMemory, errors);
     };
     match write_out(writer, lines.as_bytes()) {

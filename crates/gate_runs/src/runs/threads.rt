@@ -1,14 +1,18 @@
 //! The threads of a run: started, and joined.
 
-ghost use Rattle.std.specs.Prelude.{◌≡◌, ◌+◌, ◌-◌, ◌<◌, ◌++◌, ◌≤◌, ℕ, All, IfOk, OnOk, length, vec_len};
-ghost use Rattle.gate_runs.specs.Parts.{AllDid, Among, EachFrom, Remounted as RemountedPart, Wrote as WrotePart};
+ghost use Rattle.std.specs.Prelude.{◌≡◌, ◌+◌, ◌-◌, ◌<◌, ◌++◌, IfErr, IfOk, OnOk, vec_len};
+ghost use Rattle.access_model.specs.declared.errors.GateError.TheVariants.{NoMemory, Order};
+ghost use Rattle.gate_runs.specs.Counts.{no_writes};
+ghost use Rattle.gate_runs.specs.Parts.{AllDid, AllWrote, Among, EachFrom, Remounted as RemountedPart, Wrote as WrotePart};
 ghost use Rattle.gate_runs.specs.Meetings.{was_held};
+ghost use Rattle.gate_runs.specs.Refusals.{MetBy, RunRefused};
 ghost use Rattle.gate_runs.specs.Rounds.{RemountRound, Repeats, WriterRound};
 ghost use Rattle.gate_runs.specs.Splitting.{Gives, HasBegun};
 ghost use Rattle.vfs_gates.specs.TaskStates.{IsFrom, TaskState, own_view};
 
 use super::Plan;
-use super::workers::{Copies, back_up, remount, write};
+use super::workers::{back_up, remount, write};
+use crate::counts::{Details, Writes};
 use crate::meetings::{Meeting, Unnoted};
 use access_model::GateError;
 use std::alloc::Global;
@@ -18,15 +22,15 @@ use std::thread;
 use std::thread::{Promise, PromisedHandle, Scope, Threads};
 use vfs_gates::{Gates, Task};
 
-/// A task whose thread has ended, and why it was refused, if it was.
+/// A task whose thread has ended, and what it met, or why it was refused.
 #[derive(Drop)]
-struct Worked {
+struct Worked<T> {
     task: Task,
-    done: Result<(), GateError>,
+    done: Result<T, GateError>,
 }
 
-/// The promise of the remounter's thread: its task comes back to these gates, and has done all rounds from where it began, unless it was
-/// refused.
+/// The promise of the remounter's thread: its task comes back to these gates, and has done all rounds from where it began, in which it met
+/// what it tells, unless a call of it was refused so.
 struct RemounterHome<'g> {
     gates: &'g Gates,
     plan: Plan,
@@ -43,9 +47,10 @@ impl<'g> Drop for RemounterHome<'g> {
     }
 }
 
-impl<'g> Promise<Worked> for RemounterHome<'g> {
+impl<'g> Promise<Worked<u32>> for RemounterHome<'g> {
     ghost kept_by = { λ home ended. IsFrom ended.task home.gates.now
-        × OnOk ended.done (Repeats RemountRound home.plan.rounds home.start.value ended.task) };
+        × IfOk ended.done (λ busy. Repeats RemountRound home.plan.rounds (home.start.value, 0) (ended.task, busy))
+        × IfErr ended.done (MetBy home.gates.now.words.config home.plan.tasks home.plan.processors) };
 }
 
 /// The same of a writer's, with this meeting.
@@ -69,17 +74,19 @@ impl<'g, M> Drop for WriterHome<'g, M> {
     }
 }
 
-impl<'g, M: Meeting> Promise<Worked> for WriterHome<'g, M> {
+impl<'g, M: Meeting> Promise<Worked<Writes>> for WriterHome<'g, M> {
     ghost kept_by = { λ home ended. IsFrom ended.task home.gates.now
-        × OnOk ended.done (Repeats (WriterRound (was_held M.held) home.meeting.now home.plan.processors home.writer) home.plan.rounds
-        (home.start.value, tt) (ended.task, tt)) };
+        × IfOk ended.done (λ writes. Repeats (WriterRound (was_held M.held) home.meeting.now home.plan.processors home.writer) home.plan.rounds
+        (home.start.value, tt, no_writes) (ended.task, tt, writes))
+        × IfErr ended.done (MetBy home.gates.now.words.config home.plan.tasks home.plan.processors) };
 }
 
 /// What the remounter's thread does.
-fn run_remounter<R: Wait>(rt: &R, gates: &Gates, plan: Plan, mut task: Task) -> Worked
+fn run_remounter<R: Wait>(rt: &R, gates: &Gates, plan: Plan, mut task: Task) -> Worked<u32>
     requires { IsFrom task gates.now }
     ensures from { IsFrom result.task gates.now }
-    ensures rounds { OnOk result.done (Repeats RemountRound plan.rounds task result.task) }
+    ensures rounds { IfOk result.done (λ busy. Repeats RemountRound plan.rounds (task, 0) (result.task, busy)) }
+    ensures refused { IfErr result.done (MetBy gates.now.words.config plan.tasks plan.processors) }
 {
     let done = remount(rt, gates, plan, &mut task);
     Worked { task, done }
@@ -93,12 +100,13 @@ fn run_writer<R: Wait, M: Meeting>(
     meeting: &M,
     writer: u8,
     mut task: Task,
-) -> Worked
+) -> Worked<Writes>
     requires from { IsFrom task gates.now }
-    requires writer { writer ≤ 61 }
+    requires writer { writer + 2 < plan.tasks }
     ensures from { IsFrom result.task gates.now }
-    ensures rounds { OnOk result.done (Repeats (WriterRound (was_held M.held) meeting.now plan.processors writer) plan.rounds
-        (task, tt) (result.task, tt)) }
+    ensures rounds { IfOk result.done (λ writes. Repeats (WriterRound (was_held M.held) meeting.now plan.processors writer) plan.rounds
+        (task, tt, no_writes) (result.task, tt, writes)) }
+    ensures refused { IfErr result.done (MetBy gates.now.words.config plan.tasks plan.processors) }
 {
     let done = write(
         rt,
@@ -120,13 +128,14 @@ fn start_remounter<'s, E, R: Wait + Sync>(
     gates: &'s Gates,
     plan: Plan,
     task: &mut Task,
-) -> Result<PromisedHandle<Worked, RemounterHome<'s>>, GateError>
+) -> Result<PromisedHandle<Worked<u32>, RemounterHome<'s>>, GateError>
     requires from { IsFrom task.old gates.now }
     requires gives { Gives task.old 1 plan.tasks }
     ensures from { IsFrom task.new gates.now }
     ensures same { OnOk result (own_view task.new.items ≡ own_view task.old.items) }
     ensures gives { OnOk result (Gives task.new 2 plan.tasks) }
     ensures home { IfOk result (λ w. (w.promise.gates.now ≡ gates.now) × (w.promise.plan ≡ plan) × HasBegun 1 w.promise.start.value) }
+    ensures refused { IfErr result (λ e. e ≡ NoMemory) }
 {
     let other = task.split(alloc, gates)?;
     let home = RemounterHome {
@@ -139,7 +148,7 @@ fn start_remounter<'s, E, R: Wait + Sync>(
 }
 
 /// A writer's thread that is to be joined.
-type Writer<'g, M> = PromisedHandle<Worked, WriterHome<'g, M>>;
+type Writer<'g, M> = PromisedHandle<Worked<Writes>, WriterHome<'g, M>>;
 
 /// The same of the next writer.
 fn start_writer<'s, E, R: Wait + Sync, M: Meeting + Sync>(
@@ -160,6 +169,7 @@ fn start_writer<'s, E, R: Wait + Sync, M: Meeting + Sync>(
     ensures gives { OnOk result (Gives task.new (writer + 1 + 2) plan.tasks) }
     ensures home { IfOk result (λ w. (w.promise.gates.now ≡ gates.now) × (w.promise.plan ≡ plan) × (w.promise.meeting.now ≡ meeting.now)
         × (w.promise.writer ≡ writer) × HasBegun (writer + 2) w.promise.start.value) }
+    ensures refused { IfErr result (λ e. e ≡ NoMemory) }
 {
     let other = task.split(alloc, gates)?;
     let home = WriterHome {
@@ -195,6 +205,7 @@ fn start_writers<'s, E, R: Wait + Sync, M: Meeting + Sync>(
     ensures homes { IfOk result (λ workers. EachFrom
         (λ writer w. (w.promise.gates.now ≡ gates.now) × (w.promise.plan ≡ plan) × (w.promise.meeting.now ≡ meeting.now)
         × (w.promise.writer ≡ writer) × HasBegun (writer + 2) w.promise.start.value) 0 workers.items) }
+    ensures refused { IfErr result (λ e. e ≡ NoMemory) }
 {
     let mut workers = Vec::new(alloc);
     for writer in 0..plan.writers() {
@@ -212,6 +223,7 @@ fn take_back(gates: &Gates, task: &mut Task, other: Task) -> Result<(), GateErro
     requires other { IsFrom other gates.now }
     ensures from { IsFrom task.new gates.now }
     ensures took { OnOk result (task.new ≡ record task.old { items = task.old.items ++ other.items }) }
+    ensures refused { IfErr result (λ e. e ≡ Order) }
 {
     match task.join(gates, other) {
         Ok(()) => Ok(()),
@@ -219,24 +231,25 @@ fn take_back(gates: &Gates, task: &mut Task, other: Task) -> Result<(), GateErro
     }
 }
 
-/// Joins the remounter's thread, and takes its number back. Why it was refused, if it was.
+/// Joins the remounter's thread, and takes its number back. Tells what it met, or why it was refused.
 fn join_remounter<R: Threads>(
     rt: &R,
     gates: &Gates,
     plan: Plan,
     task: &mut Task,
-    worker: PromisedHandle<Worked, RemounterHome<'_>>,
-) -> Result<(), GateError>
+    worker: PromisedHandle<Worked<u32>, RemounterHome<'_>>,
+) -> Result<u32, GateError>
     requires from { IsFrom task.old gates.now }
     requires home { (worker.promise.gates.now ≡ gates.now) × (worker.promise.plan ≡ plan) × HasBegun 1 worker.promise.start.value }
     ensures from { IsFrom task.new gates.now }
     ensures others { OnOk result ((s : TaskState) → Among task.old.items s → Among task.new.items s) }
-    ensures part { OnOk result (RemountedPart (Among task.new.items) plan.rounds) }
+    ensures part { IfOk result (RemountedPart (Among task.new.items) plan.rounds) }
+    ensures refused { IfErr result (RunRefused gates.now.words.config plan.tasks plan.processors) }
 {
     let Worked { task: other, done } = worker.join(rt);
-    done?;
+    let busy = done?;
     take_back(gates, task, other)?;
-    Ok(())
+    Ok(busy)
 }
 
 /// The same of a writer's.
@@ -245,21 +258,22 @@ fn join_writer<R: Threads, M: Meeting>(
     gates: &Gates,
     task: &mut Task,
     worker: Writer<'_, M>,
-) -> Result<(), GateError>
+) -> Result<Writes, GateError>
     requires from { IsFrom task.old gates.now }
     requires home { (worker.promise.gates.now ≡ gates.now) × HasBegun (worker.promise.writer + 2) worker.promise.start.value }
     ensures from { IsFrom task.new gates.now }
     ensures others { OnOk result ((s : TaskState) → Among task.old.items s → Among task.new.items s) }
-    ensures part { OnOk result (WrotePart (Among task.new.items) (was_held M.held) worker.entry.promise.meeting.now worker.entry.promise.plan.processors
-        worker.entry.promise.plan.rounds worker.entry.promise.writer tt tt) }
+    ensures part { IfOk result (WrotePart (Among task.new.items) (was_held M.held) worker.entry.promise.meeting.now
+        worker.entry.promise.plan.processors worker.entry.promise.plan.rounds worker.entry.promise.writer tt tt) }
+    ensures refused { IfErr result (RunRefused gates.now.words.config worker.entry.promise.plan.tasks worker.entry.promise.plan.processors) }
 {
     let Worked { task: other, done } = worker.join(rt);
-    done?;
+    let writes = done?;
     take_back(gates, task, other)?;
-    Ok(())
+    Ok(writes)
 }
 
-/// The same of all writers', of this plan and meeting. The first refusal that is met ends it.
+/// The same of all writers', of this plan and meeting, and what they met together. The first refusal that is met ends it.
 fn join_writers<R: Threads, M: Meeting>(
     rt: &R,
     gates: &Gates,
@@ -267,20 +281,23 @@ fn join_writers<R: Threads, M: Meeting>(
     _meeting: &M,
     task: &mut Task,
     mut workers: Vec<Writer<'_, M>>,
-) -> Result<(), GateError>
+) -> Result<Writes, GateError>
     requires from { IsFrom task.old gates.now }
     requires homes { EachFrom
         (λ writer w. (w.promise.gates.now ≡ gates.now) × (w.promise.plan ≡ _plan) × (w.promise.meeting.now ≡ _meeting.now)
         × (w.promise.writer ≡ writer) × HasBegun (writer + 2) w.promise.start.value) 0 workers.items }
     ensures from { IsFrom task.new gates.now }
     ensures others { OnOk result ((s : TaskState) → Among task.old.items s → Among task.new.items s) }
-    ensures parts { OnOk result ((writer : ℕ) → writer < vec_len workers.entry →
-        WrotePart (Among task.new.items) (was_held M.held) _meeting.now _plan.processors _plan.rounds writer tt tt) }
+    ensures parts { IfOk result (AllWrote (Among task.new.items) (was_held M.held) _meeting.now _plan.processors _plan.rounds
+        0 (vec_len workers.entry) tt tt) }
+    ensures refused { IfErr result (RunRefused gates.now.words.config _plan.tasks _plan.processors) }
 {
+    let mut writes = Writes::none();
     while let Some(worker) = workers.pop() {
-        join_writer(rt, gates, task, worker)?;
+        let its = join_writer(rt, gates, task, worker)?;
+        writes = its.and(writes);
     }
-    Ok(())
+    Ok(writes)
 }
 
 /// Starts the threads of all other tasks, backs up beside them, and joins them.
@@ -292,20 +309,26 @@ fn run_threads<'s, E, R: Threads + Wait + Sync, M: Meeting + Sync>(
     plan: Plan,
     meeting: &'s M,
     mut task: Task,
-) -> Result<(Task, Copies), GateError>
+) -> Result<(Task, Details), GateError>
     requires from { IsFrom task gates.now }
     requires gives { Gives task 1 plan.tasks }
     ensures from { IfOk result (λ r. IsFrom r.0 gates.now) }
-    ensures copies { IfOk result (λ r. (r.1.frozen ≡ plan.freezes) × (r.1.snapshots ≡ plan.freezes)) }
+    ensures copies { IfOk result (λ r. (r.1.copies.frozen ≡ plan.freezes) × (r.1.copies.snapshots ≡ plan.freezes)) }
     ensures all { IfOk result (λ r. AllDid (Among r.0.items) M.held meeting.now plan.tasks plan.processors plan.rounds plan.freezes
-        (own_view task.items)) }
+        (own_view task.items) r.1) }
+    ensures refused { IfErr result (RunRefused gates.now.words.config plan.tasks plan.processors) }
 {
     let remounter = start_remounter(scope, rt, alloc, gates, plan, &mut task)?;
     let writers = start_writers(scope, rt, alloc, gates, plan, meeting, &mut task)?;
     let copies = back_up(rt, gates, plan, &Unnoted { meeting }, &mut task, &mut ())?;
-    join_remounter(rt, gates, plan, &mut task, remounter)?;
-    join_writers(rt, gates, plan, meeting, &mut task, writers)?;
-    Ok((task, copies))
+    let busy = join_remounter(rt, gates, plan, &mut task, remounter)?;
+    let writes = join_writers(rt, gates, plan, meeting, &mut task, writers)?;
+    let details = Details {
+        writes,
+        busy,
+        copies,
+    };
+    Ok((task, details))
 }
 
 /// The same in a scope: all threads have ended when it returns, whatever it answers.
@@ -316,24 +339,26 @@ pub(crate) fn in_threads<R: Threads + Wait + Sync, M: Meeting + Sync>(
     plan: Plan,
     meeting: &M,
     task: Task,
-) -> Result<(Task, Copies), GateError>
+) -> Result<(Task, Details), GateError>
     requires from { IsFrom task gates.now }
     requires gives { Gives task 1 plan.tasks }
     ensures from { IfOk result (λ r. IsFrom r.0 gates.now) }
-    ensures copies { IfOk result (λ r. (r.1.frozen ≡ plan.freezes) × (r.1.snapshots ≡ plan.freezes)) }
+    ensures copies { IfOk result (λ r. (r.1.copies.frozen ≡ plan.freezes) × (r.1.copies.snapshots ≡ plan.freezes)) }
     ensures all { IfOk result (λ r. AllDid (Among r.0.items) M.held meeting.now plan.tasks plan.processors plan.rounds plan.freezes
-        (own_view task.items)) }
+        (own_view task.items) r.1) }
+    ensures refused { IfErr result (RunRefused gates.now.words.config plan.tasks plan.processors) }
 {
     thread::scope(
         thread::scope_env(),
         rt,
-        move |scope| -> Result<(Task, Copies), GateError>
+        move |scope| -> Result<(Task, Details), GateError>
             requires from { IsFrom task gates.now }
             requires gives { Gives task 1 plan.tasks }
             ensures from { IfOk result (λ r. IsFrom r.0 gates.entry.now) }
-            ensures copies { IfOk result (λ r. (r.1.frozen ≡ plan.freezes) × (r.1.snapshots ≡ plan.freezes)) }
+            ensures copies { IfOk result (λ r. (r.1.copies.frozen ≡ plan.freezes) × (r.1.copies.snapshots ≡ plan.freezes)) }
             ensures all { IfOk result (λ r. AllDid (Among r.0.items) M.held meeting.entry.now plan.tasks plan.processors plan.rounds plan.freezes
-                (own_view task.items)) }
+                (own_view task.items) r.1) }
+            ensures refused { IfErr result (RunRefused gates.entry.now.words.config plan.tasks plan.processors) }
         { run_threads(scope, rt, alloc, gates, plan, meeting, task) },
     )
 }

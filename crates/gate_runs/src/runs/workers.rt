@@ -1,14 +1,17 @@
 //! What each task of a run does.
 
-ghost use Rattle.std.specs.Prelude.{◌≡◌, ◌+◌, ◌-◌, ◌≤◌, ◌⊎◌, IfOk, OnOk, Some, length, true};
-ghost use Rattle.access_model.specs.declared.errors.GateError.TheVariants.{Again, Busy, ReadOnly};
+ghost use Rattle.std.specs.Prelude.{◌≡◌, ◌+◌, ◌-◌, ◌<◌, ◌≤◌, ℕ, IfErr, IfOk, OnOk, Some, length, true};
+ghost use Rattle.access_model.specs.declared.errors.GateError.TheVariants.{Again, ReadOnly};
 ghost use Rattle.gated_tree.specs.Trees.{LoadedClean, LoadedSound};
-ghost use Rattle.gate_runs.specs.Rounds.{BackupRound, CallsBack, CreatesFiles, Does, IsRefused, RemountRound, Repeats, Retries, WriterRound};
+ghost use Rattle.gate_runs.specs.Counts.{blocks_of, counted, no_copies, no_writes};
+ghost use Rattle.gate_runs.specs.Refusals.{MetBy, WasRefused};
+ghost use Rattle.gate_runs.specs.Rounds.{BackupRound, CallsBack, Closes, CreatesFiles, Does, RemountRound, Repeats, Retries, WriterRound};
 ghost use Rattle.gate_world.specs.declared.operations.Op.TheVariants.{ChangeMount, WantWrite, Grow, Snapshot as SnapshotOp};
 ghost use Rattle.gate_world.specs.declared.views.Snapshot.{Snapshot};
 ghost use Rattle.vfs_gates.specs.TaskStates.{IsFrom, own_number, own_view};
 
 use super::Plan;
+use crate::counts::{Copies, Writes};
 use crate::meetings::NotedMeeting;
 use access_model::{GateError, Holder, Kind};
 use crossbeam_utils::Backoff;
@@ -24,13 +27,6 @@ pub(crate) const FIRST_WRITER: u8 = 2;
 /// The root of the tree.
 const ROOT: u8 = 0;
 
-/// What a backup has done.
-#[derive(Clone, Copy)]
-pub(crate) struct Copies {
-    pub(crate) frozen: u32,
-    pub(crate) snapshots: u32,
-}
-
 /// Creates a file for each writer, in the root.
 pub(crate) fn create_files<R: Wait>(
     rt: &R,
@@ -41,6 +37,7 @@ pub(crate) fn create_files<R: Wait>(
     requires { IsFrom task.old gates.now }
     ensures from { IsFrom task.new gates.now }
     ensures created { OnOk result (CreatesFiles (plan.tasks - 2) task.old task.new) }
+    ensures refused { IfErr result (MetBy gates.now.words.config plan.tasks plan.processors) }
 {
     task.want_write(rt, gates, MOUNT, 0)?;
     for _writer in 0..plan.writers() {
@@ -49,39 +46,47 @@ pub(crate) fn create_files<R: Wait>(
     task.drop_write(gates, MOUNT, 0)
 }
 
-/// Takes write access on a processor, again while the mount is read-only.
-fn want_write<R: Wait>(rt: &R, gates: &Gates, task: &mut Task, cpu: u8) -> Result<(), GateError>
+/// Takes write access on a processor, again while the mount is read-only, and tells how often it was.
+fn want_write<R: Wait>(rt: &R, gates: &Gates, task: &mut Task, cpu: u8) -> Result<u64, GateError>
     requires { IsFrom task.old gates.now }
     ensures from { IsFrom task.new gates.now }
-    ensures took { OnOk result (Retries (WantWrite 0 cpu) ReadOnly task.old task.new) }
+    ensures took { IfOk result (λ denied. (took : Retries (WantWrite 0 cpu) ReadOnly task.old task.new) × (denied ≡ counted took.0)) }
+    ensures refused { IfErr result (WasRefused gates.now.words.config (WantWrite 0 cpu)) }
 {
     let backoff = Backoff::new();
+    let mut denied = 0u64;
     for _ in rt.forever() {
         let answer = task.want_write(rt, gates, MOUNT, cpu);
         if answer != Err(GateError::ReadOnly) {
-            return answer;
+            answer?;
+            return Ok(denied);
         }
+        denied = denied.saturating_add(1);
         backoff.snooze();
     }
     unreachable!()
 }
 
-/// Makes a file larger by one block, again while others were before it.
-fn grow<R: Wait>(rt: &R, gates: &Gates, task: &mut Task, file: u8) -> Result<(), GateError>
+/// Makes a file larger by one block, again while others were before it, and tells how often they were.
+fn grow<R: Wait>(rt: &R, gates: &Gates, task: &mut Task, file: u8) -> Result<u64, GateError>
     requires { IsFrom task.old gates.now }
     ensures from { IsFrom task.new gates.now }
-    ensures grew { OnOk result (Retries (Grow file 1) Again task.old task.new) }
+    ensures grew { IfOk result (λ raced. (grew : Retries (Grow file 1) Again task.old task.new) × (raced ≡ counted grew.0)) }
+    ensures refused { IfErr result (WasRefused gates.now.words.config (Grow file 1)) }
 {
+    let mut raced = 0u64;
     for _ in rt.forever() {
         let answer = task.grow(gates, file, 1);
         if answer != Err(GateError::Again) {
-            return answer;
+            answer?;
+            return Ok(raced);
         }
+        raced = raced.saturating_add(1);
     }
     unreachable!()
 }
 
-/// Writes in each round, with the access given back on the processor after the one on which it was taken.
+/// Writes in each round, with the access given back on the processor after the one on which it was taken. Tells what it met.
 pub(crate) fn write<R: Wait, M: NotedMeeting>(
     rt: &R,
     gates: &Gates,
@@ -90,90 +95,99 @@ pub(crate) fn write<R: Wait, M: NotedMeeting>(
     task: &mut Task,
     writer: u8,
     notes: &mut M::Notes,
-) -> Result<(), GateError>
+) -> Result<Writes, GateError>
     requires from { IsFrom task.old gates.now }
-    requires writer { writer ≤ 61 }
+    requires writer { writer + 2 < plan.tasks }
     ensures from { IsFrom task.new gates.now }
-    ensures rounds { OnOk result
-        (Repeats (WriterRound M.meets meeting.now plan.processors writer) plan.rounds (task.old, notes.old) (task.new, notes.new)) }
+    ensures rounds { IfOk result (λ writes. Repeats (WriterRound M.meets meeting.now plan.processors writer) plan.rounds
+        (task.old, notes.old, no_writes) (task.new, notes.new, writes)) }
+    ensures refused { IfErr result (MetBy gates.now.words.config plan.tasks plan.processors) }
 {
+    let mut writes = Writes::none();
     for round in 0..plan.rounds {
-        want_write(rt, gates, task, plan.processor(writer, round))?;
+        let denied = want_write(rt, gates, task, plan.processor(writer, round))?;
         let grown = grow(rt, gates, task, writer + 1);
         meeting.holding(task, round, notes);
         task.drop_write(gates, MOUNT, plan.processor(writer, round + 1))?;
-        grown?;
+        writes = writes.with_round(denied, grown?);
     }
-    Ok(())
+    Ok(writes)
 }
 
-/// Makes the mount read-only, unless it is busy.
-fn close_mount<R: Wait>(rt: &R, gates: &Gates, task: &mut Task) -> Result<(), GateError>
+/// Makes the mount read-only, unless it is busy, and tells how often it was: never, or once.
+fn close_mount<R: Wait>(rt: &R, gates: &Gates, task: &mut Task) -> Result<u32, GateError>
     requires { IsFrom task.old gates.now }
     ensures from { IsFrom task.new gates.now }
-    ensures closed { OnOk result
-        (Does (ChangeMount 0 true true) task.old task.new ⊎ IsRefused (ChangeMount 0 true true) Busy task.old task.new) }
+    ensures closed { IfOk result (λ busy. Closes busy task.old task.new) }
+    ensures refused { IfErr result (WasRefused gates.now.words.config (ChangeMount 0 true true)) }
 {
     match task.change_mount(rt, gates, MOUNT, true) {
-        Err(GateError::Busy) => Ok(()),
-        answer => answer,
+        Ok(()) => Ok(0),
+        Err(GateError::Busy) => Ok(1),
+        Err(refusal) => Err(refusal),
     }
 }
 
-/// In each round makes the mount read-only, or finds it busy, and then makes it writable.
+/// In each round makes the mount read-only, or finds it busy, and then makes it writable. Tells how often it was busy.
 pub(crate) fn remount<R: Wait>(
     rt: &R,
     gates: &Gates,
     plan: Plan,
     task: &mut Task,
-) -> Result<(), GateError>
+) -> Result<u32, GateError>
     requires { IsFrom task.old gates.now }
     ensures from { IsFrom task.new gates.now }
-    ensures rounds { OnOk result (Repeats RemountRound plan.rounds task.old task.new) }
+    ensures rounds { IfOk result (λ busy. Repeats RemountRound plan.rounds (task.old, 0) (task.new, busy)) }
+    ensures refused { IfErr result (MetBy gates.now.words.config plan.tasks plan.processors) }
 {
+    let mut busy = 0;
     for _round in 0..plan.rounds {
-        close_mount(rt, gates, task)?;
+        let found = close_mount(rt, gates, task)?;
         task.change_mount(rt, gates, MOUNT, false)?;
+        busy += found;
     }
-    Ok(())
+    Ok(busy)
 }
 
-/// Whether a task's last snapshot is sound and clean.
-fn is_whole(task: &Task) -> bool
+/// The blocks of a task's last snapshot, where it is sound and clean.
+fn whole_blocks(task: &Task) -> Option<u64>
     ensures there { 1 ≤ length task.now.items }
-    ensures whole { (s : Snapshot) → (own_view task.now.items).snapshot ≡ Some s → LoadedSound s.loaded → LoadedClean s.loaded → result ≡ true }
+    ensures whole { (s : Snapshot) → (own_view task.now.items).snapshot ≡ Some s → LoadedSound s.loaded → LoadedClean s.loaded →
+        result ≡ Some s.loaded.used }
 {
-    let Some(tree) = task.tree() else {
-        return false;
-    };
-    tree.is_sound() && tree.is_clean()
+    let tree = task.tree()?;
+    (tree.is_sound() && tree.is_clean()).then(|| tree.used())
 }
 
-/// Takes a snapshot, and says whether it is sound and clean.
-fn take_snapshot<R: Wait>(rt: &R, gates: &Gates, task: &mut Task) -> Result<bool, GateError>
+/// Takes a snapshot, and tells its blocks, where it is sound and clean.
+fn take_snapshot<R: Wait>(rt: &R, gates: &Gates, task: &mut Task) -> Result<Option<u64>, GateError>
     requires { IsFrom task.old gates.now }
     ensures from { IsFrom task.new gates.now }
-    ensures whole { IfOk result (λ whole. whole ≡ true) }
+    ensures whole { IfOk result (λ blocks. blocks ≡ Some (blocks_of task.new)) }
     ensures took { OnOk result (Does (SnapshotOp true) task.old task.new) }
+    ensures refused { IfErr result (WasRefused gates.now.words.config (SnapshotOp true)) }
 {
     task.snapshot(rt, gates)?;
-    Ok(is_whole(task))
+    Ok(whole_blocks(task))
 }
 
-/// Calls back what the three levels have queued.
-fn call_back<R: Wait>(rt: &R, gates: &Gates, task: &mut Task) -> Result<(), GateError>
+/// Calls back what the three levels have queued, and tells how many callbacks ran.
+fn call_back<R: Wait>(rt: &R, gates: &Gates, task: &mut Task) -> Result<u32, GateError>
     requires { IsFrom task.old gates.now }
     ensures from { IsFrom task.new gates.now }
-    ensures ran { OnOk result (Repeats (λ k. CallsBack (k + 1)) 3 task.old task.new) }
+    ensures few { IfOk result (λ ran. ran ≤ 3) }
+    ensures ran { IfOk result (λ ran. Repeats (λ k. CallsBack (k + 1)) 3 (task.old, 0) (task.new, ran)) }
+    ensures refused { (tasks processors : ℕ) → IfErr result (MetBy gates.now.words.config tasks processors) }
 {
+    let mut ran = 0;
     for level in 1..4 {
-        task.callback(rt, gates, level)?;
+        ran += u32::from(task.callback(rt, gates, level)?);
     }
-    Ok(())
+    Ok(ran)
 }
 
-/// Freezes, takes a snapshot, meets, thaws, and calls back what the levels have queued, so often. Counts the freezes, and the snapshots
-/// that were sound and clean.
+/// Freezes, takes a snapshot, meets, thaws, and calls back what the levels have queued, so often. Counts the freezes, the snapshots that
+/// were sound and clean, their blocks, and the callbacks that ran.
 pub(crate) fn back_up<R: Wait, M: NotedMeeting>(
     rt: &R,
     gates: &Gates,
@@ -185,18 +199,19 @@ pub(crate) fn back_up<R: Wait, M: NotedMeeting>(
     requires { IsFrom task.old gates.now }
     ensures from { IsFrom task.new gates.now }
     ensures all { IfOk result (λ copies. (copies.frozen ≡ plan.freezes) × (copies.snapshots ≡ plan.freezes)) }
-    ensures rounds { OnOk result (Repeats (BackupRound M.sees meeting.now) plan.freezes (task.old, notes.old) (task.new, notes.new)) }
+    ensures rounds { IfOk result (λ copies. Repeats (BackupRound M.sees meeting.now) plan.freezes
+        (task.old, notes.old, no_copies) (task.new, notes.new, copies)) }
+    ensures refused { IfErr result (MetBy gates.now.words.config plan.tasks plan.processors) }
 {
-    let mut frozen = 0;
-    let mut snapshots = 0;
+    let mut copies = Copies::none();
     for freeze in 0..plan.freezes {
         task.freeze(rt, gates, Holder::User, &mut ())?;
-        let is_whole = take_snapshot(rt, gates, task);
+        let taken = take_snapshot(rt, gates, task);
         meeting.frozen(task, freeze, notes);
         task.thaw(rt, gates, Holder::User, &mut ())?;
-        snapshots += u32::from(is_whole?);
-        call_back(rt, gates, task)?;
-        frozen += 1;
+        let blocks = taken?;
+        let ran = call_back(rt, gates, task)?;
+        copies = copies.with_copy(ran, blocks);
     }
-    Ok(Copies { frozen, snapshots })
+    Ok(copies)
 }

@@ -7,7 +7,7 @@ use replay_cases::rows::expect_text;
 use std::alloc::{AllocError, Global};
 use std::io::ErrorKind;
 use std::process::Abort;
-use std::rt::Files;
+use std::rt::{Clock, Files};
 use std::sync::Wait;
 use std::test::Fail;
 use std::thread::Threads;
@@ -24,7 +24,7 @@ fn words_of(alloc: Global, line: &str) -> Result<Vec<String>, AllocError> {
 
 /// That a command line over a schedule ends with this status, and that what it tells begins with this text; with none,
 /// where the text is empty. Gives what it printed.
-fn ends<R: Abort + Alloc<A = Global> + Threads + Wait + Sync + Files>(
+fn ends<R: Abort + Alloc<A = Global> + Threads + Wait + Clock + Sync + Files>(
     rt: &R,
     line: &str,
     schedule: &str,
@@ -54,7 +54,7 @@ fn ends<R: Abort + Alloc<A = Global> + Threads + Wait + Sync + Files>(
 }
 
 /// That a run of these numbers prints this and ends with no fault.
-fn runs<R: Abort + Alloc<A = Global> + Threads + Wait + Sync + Files>(
+fn runs<R: Abort + Alloc<A = Global> + Threads + Wait + Clock + Sync + Files>(
     rt: &R,
     line: &str,
     text: &str,
@@ -78,6 +78,48 @@ fn a_run_prints_what_it_counted(rt: HostRuntime) -> Result<(), Fail> {
         "mntgate run --tasks 3 --cpus 1 --rounds 1 --freezes 0",
         "grown 1\nfrozen 0\nsnapshots 0\nremounts 1\nheld 0\n",
     )
+}
+
+/// That these lines are names with a number each.
+fn are_counts<R: Abort>(rt: &R, lines: &str, names: &[&str]) {
+    assert_eq!(rt; lines.lines().count(), names.len());
+    for (line, name) in lines.lines().zip(names) {
+        let counted = line.split_once(' ').is_some_and(|(word, number)| word == *name
+            && number.parse::<u64>().is_ok());
+        assert!(rt; counted);
+    }
+}
+
+#[test]
+fn details_follow_what_a_run_counted(rt: HostRuntime) -> Result<(), Fail> {
+    let met = ["granted", "read_only", "busy", "again", "callbacks"];
+    let sizes = ["least_blocks", "most_blocks"];
+    let times = ["milliseconds", "rounds_a_second"];
+    for (line, counted, granted, sizes) in [
+        (
+            "mntgate run --tasks 4 --cpus 2 --rounds 100 --freezes 3 --details",
+            "grown 200\nfrozen 3\nsnapshots 3\nremounts 100\nheld 0\n",
+            "granted 200\n",
+            sizes.as_slice(),
+        ),
+        (
+            "mntgate run --details --tasks 3 --cpus 1 --rounds 1 --freezes 0",
+            "grown 1\nfrozen 0\nsnapshots 0\nremounts 1\nheld 0\n",
+            "granted 1\n",
+            [].as_slice(),
+        ),
+    ] {
+        let printed = ends(&rt, line, "", 0, "")?;
+        let text = std::str::from_utf8(printed.as_slice()).unwrap_or("");
+        let details = text.strip_prefix(counted).unwrap_or("");
+        assert!(rt; details.starts_with(granted));
+        let mut names = Vec::new(rt.alloc());
+        names.extend_from_slice(met.as_slice())?;
+        names.extend_from_slice(sizes)?;
+        names.extend_from_slice(times.as_slice())?;
+        are_counts(&rt, details, names.as_slice());
+    }
+    Ok(())
 }
 
 #[test]
@@ -156,7 +198,7 @@ fn an_argument_that_is_no_text_is_a_fault_of_the_command_line(rt: HostRuntime) -
 }
 
 /// That a command line prints a text that begins so and has this in it, and tells nothing of a fault.
-fn prints<R: Abort + Alloc<A = Global> + Threads + Wait + Sync + Files>(
+fn prints<R: Abort + Alloc<A = Global> + Threads + Wait + Clock + Sync + Files>(
     rt: &R,
     line: &str,
     first: &str,

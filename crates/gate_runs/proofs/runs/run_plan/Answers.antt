@@ -1,15 +1,20 @@
 -- what the threads did is what their tasks' numbers have in the end
-use Rattle.std.proofs.Common.{rules, ◌≡◌, ◌*◌, ◌≤◌, arith, subst, ap, ◌∙◌}
+use Rattle.std.proofs.Common.{rules, ◌≡◌, ℕ, inl, inr, sym, ◌*◌, ◌-◌, ◌≤◌, arith, subst, ap, ◌∙◌}
 use Rattle.std.specs.Prelude.{slice_index}
 use Rattle.cpu_words.specs.Names.{place}
 use Rattle.cpu_words.specs.declared.names.WordName.TheVariants.{Used}
 use Rattle.gate_world.specs.declared.config.Config.{Config}
 use Rattle.vfs_gates.specs.TaskStates.{TaskState}
 use Rattle.gate_runs.specs.Meetings.{was_held}
+use Rattle.std.proofs.lemmas.Nat.{mul-le}
+use Rattle.std.proofs.lemmas.Result.{err_from_is_err_and}
+use Rattle.gate_world.specs.Configs.{IsWithin}
 use Rattle.gate_runs.specs.Parts.{Among, EndsAs}
+use Rattle.gate_runs.specs.Plans.{MayRun, run_config}
+use Rattle.gate_runs.specs.Refusals.{MetBy, RunRefused}
 use Rattle.gate_runs.specs.Splitting.{Gives}
 use Rattle.gate_runs.proofs.Splitting.{first_begins, gives_all}
-use Rattle.gate_runs.proofs.Staying.{creates_stay, ends_as, gives_stay, remounted_on, wrote_on}
+use Rattle.gate_runs.proofs.Staying.{all_wrote_on, creates_stay, ends_as, gives_stay, remounted_on}
 use Rattle.gate_runs.proofs.runs.run_plan.Goals as goal
 
 pub in_threads-requires-clause-gives : goal.in_threads-requires-clause-gives
@@ -23,12 +28,12 @@ in_threads-requires-clause-gives g c =
     gives_stay c.in_ok-gates.task c.create_files.new.task 1 c.args.plan.tasks (creates_stay _ _ _ c.in_ok-create_files.ensures.created) first in
     search (rules, gives)
 
-pub returns : goal.returns
-returns g c =
+pub returns-clause-tells : goal.returns-clause-tells
+returns-clause-tells g c =
     let made = c.in_ok-gates.ensures.made in
     let tasks : c.config.result.tasks ≡ c.args.plan.tasks = ap (λ (d : Config). d.tasks) c.config.ensures in
     let some : 1 ≤ c.config.result.tasks = omega (arith, tasks, c.args.plan.within.tasks_from) in
-    let closed = c.in_ok-closed.ensures in
+    let closed = c.in_ok-closed.ensures.closed in
     let items = c.in_ok-task.task.items in
     let did = c.in_ok-task.ensures.all in
     let views = closed.1.ended.world.views in
@@ -54,7 +59,46 @@ returns g c =
         own = did.own;
         ends = on did.last did.ends;
       };
-      remounter = remounted_on (Among items) (EndsAs views) on c.args.plan.rounds did.remounter;
-      writers = λ writer lt. wrote_on (Among items) (EndsAs views) on (was_held g.M.Meeting.held) c.args.meeting.now c.args.plan.processors
-          c.args.plan.rounds writer tt tt (did.writers writer lt);
+      remounter = remounted_on (Among items) (EndsAs views) on c.args.plan.rounds c.in_ok-task.details.busy did.remounter;
+      writers = all_wrote_on (Among items) (EndsAs views) on (was_held g.M.Meeting.held) c.args.meeting.now c.args.plan.processors
+          c.args.plan.rounds tt tt 0 (c.args.plan.tasks - 2) c.in_ok-task.details.writes did.writers;
     }
+
+-- a run's gates are within their limits
+run_within : (tasks processors rounds freezes : ℕ) → MayRun tasks processors rounds freezes → IsWithin (run_config tasks processors rounds)
+run_within tasks processors rounds freezes may =
+    let room : (tasks - 2) * rounds ≤ 62 * 10000 = mul-le (tasks - 2) rounds 62 10000 (omega (arith, may.tasks_to)) may.rounds_to in record {
+      some_task = omega (arith, may.tasks_from);
+      tasks = may.tasks_to;
+      some_processor = may.processors_from;
+      processors = may.processors_to;
+      some_mount = omega arith;
+      mounts = omega arith;
+      some_node = omega (arith, may.tasks_from);
+      nodes = omega (arith, may.tasks_to);
+      capacity = omega (arith, room);
+    }
+
+pub returns-in_err-gates-clause-refused : goal.returns-in_err-gates-clause-refused
+returns-in_err-gates-clause-refused g c =
+    let within : IsWithin c.config.result = subst IsWithin (sym c.config.ensures)
+    (run_within c.args.plan.tasks c.args.plan.processors c.args.plan.rounds c.args.plan.freezes c.args.plan.within) in
+    let p = err_from_is_err_and c.from_residual.result c.from_residual.ensures.1 in
+    rw (p.1, p.2) (inl (c.in_err-gates.ensures.memory within))
+
+pub returns-in_err-create_files-clause-refused : goal.returns-in_err-create_files-clause-refused
+returns-in_err-create_files-clause-refused g c =
+    let p = err_from_is_err_and c.from_residual-in_err-create_files.result c.from_residual-in_err-create_files.ensures.1 in
+    rw (p.1, p.2) (inr (inr (subst (λ (d : Config). MetBy d c.args.plan.tasks c.args.plan.processors c.in_err-create_files.field-0.0)
+    (c.in_ok-gates.ensures.made.0 ∙ c.config.ensures) c.in_err-create_files.ensures.refused)))
+
+pub returns-in_err-task-clause-refused : goal.returns-in_err-task-clause-refused
+returns-in_err-task-clause-refused g c =
+    let p = err_from_is_err_and c.from_residual-in_err-task.result c.from_residual-in_err-task.ensures.1 in
+    rw (p.1, p.2) (subst (λ (d : Config). RunRefused d c.args.plan.tasks c.args.plan.processors c.in_err-task.field-0.0)
+    (c.in_ok-gates.ensures.made.0 ∙ c.config.ensures) c.in_err-task.ensures.refused)
+
+pub returns-in_err-closed-clause-refused : goal.returns-in_err-closed-clause-refused
+returns-in_err-closed-clause-refused g c =
+    let p = err_from_is_err_and c.from_residual-in_err-closed.result c.from_residual-in_err-closed.ensures.1 in
+    rw (p.1, p.2) (inr (inl c.in_err-closed.ensures.refused))

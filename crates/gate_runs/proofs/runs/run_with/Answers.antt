@@ -1,17 +1,32 @@
 -- the plan is what was asked for
-use Rattle.std.proofs.Common.{subst}
-use Rattle.std.specs.Prelude.{IfOk}
-use Rattle.gate_runs.specs.Plans.{TellsRun}
+use Rattle.std.proofs.Common.{◌≡◌, ℕ, subst}
+use Rattle.std.proofs.lemmas.Result.{err_from_is_err_and}
+use Rattle.gate_runs.specs.declared.runs.Plan.{Plan}
+use Rattle.gate_runs.specs.Plans.{TellsRun, run_config}
+use Rattle.gate_runs.specs.Refusals.{RunRefused}
 use Rattle.gate_runs.proofs.runs.run_with.Goals as goal
+
+-- what is said of a plan's numbers is said of those that were asked for
+as_asked : (Says : ℕ → ℕ → ℕ → ℕ → Type 0) (plan : Plan) (tasks processors rounds freezes : ℕ) →
+    (plan.tasks ≡ tasks) × (plan.processors ≡ processors) × (plan.rounds ≡ rounds) × (plan.freezes ≡ freezes) →
+    Says plan.tasks plan.processors plan.rounds plan.freezes → Says tasks processors rounds freezes
+as_asked Says plan tasks processors rounds freezes asked says =
+    subst (λ n. Says tasks processors rounds n) asked.3
+    (subst (λ n. Says tasks processors n plan.freezes) asked.2
+    (subst (λ n. Says tasks n plan.rounds plan.freezes) asked.1
+    (subst (λ n. Says n plan.processors plan.rounds plan.freezes) asked.0 says)))
 
 pub returns-clause-tells : goal.returns-clause-tells
 returns-clause-tells g c =
-    let asked = c.in_ok-plan.ensures.asked in
-    let plan = c.in_ok-plan.plan in
-    let held = g.M.Meeting.held in
-    let meeting = c.args.meeting.now in
-    let answer = c.run_plan.result in
-    subst (λ n. IfOk answer (λ r. TellsRun held meeting c.args.tasks c.args.processors c.args.rounds n r.0 r.1)) asked.3
-    (subst (λ n. IfOk answer (λ r. TellsRun held meeting c.args.tasks c.args.processors n plan.freezes r.0 r.1)) asked.2
-    (subst (λ n. IfOk answer (λ r. TellsRun held meeting c.args.tasks n plan.rounds plan.freezes r.0 r.1)) asked.1
-    (subst (λ n. IfOk answer (λ r. TellsRun held meeting n plan.processors plan.rounds plan.freezes r.0 r.1)) asked.0 c.run_plan.ensures)))
+    let answer = c.in_ok-totals in (
+      answer._details,
+      as_asked (λ tasks processors rounds freezes.
+          TellsRun g.M.Meeting.held c.args.meeting.now tasks processors rounds freezes answer.totals answer._details answer.closed)
+          c.in_ok-plan.plan c.args.tasks c.args.processors c.args.rounds c.args.freezes c.in_ok-plan.ensures.asked answer.ensures.tells,
+    )
+
+pub returns-in_err-totals-clause-refused : goal.returns-in_err-totals-clause-refused
+returns-in_err-totals-clause-refused g c = λ within.
+    let p = err_from_is_err_and c.from_residual-in_err-totals.result c.from_residual-in_err-totals.ensures.1 in
+    rw (p.1, p.2) (as_asked (λ tasks processors rounds freezes. RunRefused (run_config tasks processors rounds) tasks processors c.in_err-totals.field-0.0)
+    c.in_ok-plan.plan c.args.tasks c.args.processors c.args.rounds c.args.freezes c.in_ok-plan.ensures.asked c.in_err-totals.ensures.refused)

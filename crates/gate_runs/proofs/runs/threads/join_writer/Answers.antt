@@ -1,7 +1,12 @@
 -- the task that comes back has done its part
-use Rattle.std.proofs.Common.{subst}
-use Rattle.std.specs.Prelude.{OnOk}
+use Rattle.std.proofs.Common.{inr, subst}
+use Rattle.std.proofs.lemmas.Result.{err_from_is_err_and}
+use Rattle.std.specs.Prelude.{IfErr, IfOk}
+use Rattle.vfs_gates.specs.declared.gates.Gates.{Gates}
+use Rattle.gate_runs.specs.declared.counts.Writes.{Writes}
+use Rattle.gate_runs.specs.Counts.{no_writes}
 use Rattle.gate_runs.specs.Meetings.{was_held}
+use Rattle.gate_runs.specs.Refusals.{MetBy}
 use Rattle.gate_runs.specs.Rounds.{Repeats, WriterRound}
 use Rattle.gate_runs.proofs.Staying.{writer_part, stays_among}
 use Rattle.gate_runs.proofs.runs.threads.join_writer.Goals as goal
@@ -10,10 +15,18 @@ pub returns-clause-part : goal.returns-clause-part
 returns-clause-part g c =
     let home = c.args.worker.promise in
     let last = c.join-other.result.task in
-    writer_part (was_held g.M.Meeting.held) home.meeting.now home.plan.processors home.plan.rounds home.writer tt tt home.start.value last
-    c.args.task.now c.take_back.new.task c.requires.home.1
-    (subst (λ r. OnOk r (Repeats (WriterRound (was_held g.M.Meeting.held) home.meeting.now home.plan.processors home.writer) home.plan.rounds
-    (home.start.value, tt) (last, tt))) c.in_ok-done.was c.join-other.ensures.1) c.in_ok-take_back.ensures.took
+    let did = subst (λ r. IfOk r (λ (w : Writes). Repeats (WriterRound (was_held g.M.Meeting.held) home.meeting.now home.plan.processors home.writer)
+    home.plan.rounds (home.start.value, tt, no_writes) (last, tt, w))) c.in_ok-writes.was c.join-other.ensures.1 in
+    writer_part (was_held g.M.Meeting.held) home.meeting.now home.plan.processors home.plan.rounds home.writer tt tt c.in_ok-writes.writes
+    home.start.value last c.args.task.now c.take_back.new.task c.requires.home.1 did c.in_ok-take_back.ensures.took
 
 pub returns-clause-others : goal.returns-clause-others
 returns-clause-others g c = stays_among c.args.task.now c.join-other.result.task c.take_back.new.task c.in_ok-take_back.ensures.took
+
+pub returns-in_err-writes-clause-refused : goal.returns-in_err-writes-clause-refused
+returns-in_err-writes-clause-refused g c =
+    let home = c.args.worker.promise in
+    let met : MetBy home.gates.now.words.config home.plan.tasks home.plan.processors c.in_err-writes.field-0.0 =
+    subst (λ r. IfErr r (MetBy home.gates.now.words.config home.plan.tasks home.plan.processors)) c.in_err-writes.was c.join-other.ensures.2 in
+    let p = err_from_is_err_and c.from_residual.result c.from_residual.ensures.1 in
+    rw (p.1, p.2) (inr (inr (subst (λ (d : Gates). MetBy d.words.config home.plan.tasks home.plan.processors c.in_err-writes.field-0.0) c.requires.home.0 met)))

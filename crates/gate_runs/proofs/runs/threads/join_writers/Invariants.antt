@@ -1,8 +1,8 @@
--- All threads that were joined are those of the last writers, and each of these has done its part.
-use Rattle.std.proofs.Common.{◌≡◌, ℕ, ◌+◌, ◌<◌, ◌≤◌, vec_len}
+-- All threads that were joined are those of the last writers, and each of these has done its part, with what they met together.
+use Rattle.std.proofs.Common.{◌≡◌, ◌+◌, vec_len}
 use Rattle.vfs_gates.specs.TaskStates.{IsFrom, TaskState}
 use Rattle.gate_runs.specs.Meetings.{was_held}
-use Rattle.gate_runs.specs.Parts.{Among, EachFrom, Wrote}
+use Rattle.gate_runs.specs.Parts.{AllWrote, Among, EachFrom}
 use Rattle.gate_runs.specs.Splitting.{HasBegun}
 use Rattle.gate_runs.proofs.runs.threads.join_writers.Given as goal
 
@@ -13,8 +13,8 @@ invariant-loop-worker g l = record {
       (λ writer w. (w.promise.gates.now ≡ l.fn.gates) × (w.promise.plan ≡ l.fn._plan) × (w.promise.meeting.now ≡ l.fn._meeting)
       × (w.promise.writer ≡ writer) × HasBegun (writer + 2) w.promise.start.value) 0 l.workers.items;
   others : (s : TaskState) → Among l.fn.task.items s → Among l.task.items s;
-  parts : (writer : ℕ) → vec_len l.workers ≤ writer → writer < vec_len l.fn.workers →
-      Wrote (Among l.task.items) (was_held g.M.Meeting.held) l.fn._meeting l.fn._plan.processors l.fn._plan.rounds writer tt tt;
+  parts : AllWrote (Among l.task.items) (was_held g.M.Meeting.held) l.fn._meeting l.fn._plan.processors l.fn._plan.rounds
+      (vec_len l.workers) (vec_len l.fn.workers) tt tt l.writes;
 }
 
 abbrev pub decreases-loop-worker : goal.decreases-loop-worker

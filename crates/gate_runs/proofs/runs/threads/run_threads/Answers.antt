@@ -1,5 +1,6 @@
 -- each task has done its part, and stands among the numbers that were taken back
 use Rattle.std.proofs.Common.{arith, ◌∙◌}
+use Rattle.gate_runs.specs.Counts.{no_copies}
 use Rattle.gate_runs.specs.Meetings.{was_frozen}
 use Rattle.gate_runs.specs.Parts.{Among}
 use Rattle.gate_runs.proofs.Staying.{backs_stay, is_among, remounted_on}
@@ -11,19 +12,25 @@ returns-clause-all g c =
     let first = c.start_writers.new.task in
     let last = c.back_up.new.task in
     let gives = c.in_ok-writers.ensures.gives in
-    let remounter = c.in_ok-join_remounter.ensures in
-    let writers = c.in_ok-join_writers.ensures in
+    let remounter = c.in_ok-busy.ensures in
+    let joined = c.in_ok-writes.ensures in
     let meeting = c.args.meeting.now in
-    let did = backs_on _ _ was_frozen meeting (λ task k old new was. tt) c.args.plan.freezes (first, tt) (last, tt) c.in_ok-copies.ensures.rounds in
-    let stayed = backs_stay was_frozen meeting c.args.plan.freezes (first, tt) (last, tt) did in
+    let did = backs_on _ _ was_frozen meeting (λ task k old new was. tt) c.args.plan.freezes
+    (first, tt, no_copies) (last, tt, c.in_ok-copies.copies) c.in_ok-copies.ensures.rounds in
+    let stayed = backs_stay was_frozen meeting c.args.plan.freezes (first, tt, no_copies) (last, tt, c.in_ok-copies.copies) did in
     record {
       first = first;
       last = last;
       same = c.in_ok-writers.ensures.same ∙ c.in_ok-remounter.ensures.same;
       backup = did;
       own = stayed.own ∙ gives.own;
-      ends = writers.others last (remounter.others last (is_among last (stayed.there gives.there)));
-      remounter = remounted_on (Among c.join_remounter.new.task.items) (Among c.join_writers.new.task.items) writers.others
-          c.args.plan.rounds remounter.part;
-      writers = λ writer lt. writers.parts writer (omega (arith, lt, c.in_ok-writers.ensures.all));
+      ends = joined.others last (remounter.others last (is_among last (stayed.there gives.there)));
+      remounter = remounted_on (Among c.join_remounter.new.task.items) (Among c.join_writers.new.task.items) joined.others
+          c.args.plan.rounds c.in_ok-busy.busy remounter.part;
+      writers = record {
+        each = joined.parts.each;
+        all = omega (arith, joined.parts.all, c.in_ok-writers.ensures.all);
+        parts = joined.parts.parts;
+        sum = joined.parts.sum;
+      };
     }

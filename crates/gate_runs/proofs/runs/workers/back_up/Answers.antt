@@ -1,26 +1,37 @@
 -- one freeze more
-use Rattle.std.proofs.Common.{rules, ◌≡◌, ◌+◌, ap}
+use Rattle.std.proofs.Common.{◌≡◌, ◌+◌, ap, arith, ◌∙◌}
+use Rattle.gate_runs.specs.declared.counts.Copies.{Copies}
 use Rattle.gate_runs.proofs.Repeating.{one_more}
+use Rattle.gate_runs.specs.Counts.{blocks_of, no_copies, with_copy}
 use Rattle.gate_runs.specs.Rounds.{BackupRound}
 use Rattle.gate_runs.proofs.runs.workers.back_up.Goals as goal
 
 pub loop-freeze-preserved : goal.loop-freeze-preserved
 loop-freeze-preserved g c =
     let before = c.loop-freeze.invariant in
-    let copied = c.in_ok-is_whole.ensures in
-    let counted : c.loop-freeze.snapshots + c.from.result ≡ c.loop-freeze.freeze + 1 = search rules in (
-      c.in_ok-call_back.ensures.from,
-      ap (λ n. n + 1) before.1,
-      counted,
-      one_more (BackupRound g.M.NotedMeeting.sees c.args.meeting.now) c.loop-freeze.freeze _ _ _ before.3
+    let copied = c.take_snapshot-taken.new.task in
+    let ran = c.in_ok-ran.ran in
+    let counts : c.with_copy-copies.result ≡ with_copy ran (blocks_of copied) c.loop-freeze.copies =
+    c.with_copy-copies.ensures (blocks_of copied) c.in_ok-blocks.ensures.whole in
+    let callbacks : c.with_copy-copies.result.callbacks ≡ c.loop-freeze.copies.callbacks + ran = ap (λ (x : Copies). x.callbacks) counts in
+    record {
+      from = c.in_ok-ran.ensures.from;
+      frozen = ap (λ (x : Copies). x.frozen) counts ∙ ap (λ n. n + 1) before.frozen;
+      snapshots = ap (λ (x : Copies). x.snapshots) counts ∙ ap (λ n. n + 1) before.snapshots;
+      callbacks = omega (arith, before.callbacks, callbacks, c.in_ok-ran.ensures.few);
+      did = one_more (BackupRound g.M.NotedMeeting.sees c.args.meeting.now) c.loop-freeze.freeze
+          (c.args.task.now, c.args.notes.now, no_copies) (c.loop-freeze.task, c.loop-freeze.notes, c.loop-freeze.copies)
+          (c.call_back.new.task, c.frozen.new.notes, c.with_copy-copies.result) before.did
           (record {
             frozen = c.freeze.new.self;
-            copied = c.take_snapshot-is_whole.new.task;
+            copied = copied;
             thawed = c.thaw.new.self;
             freezes = c.in_ok-freeze.ensures.replies;
-            copies = copied.took;
+            copies = c.in_ok-blocks.ensures.took;
             met = c.frozen.ensures;
             thaws = c.in_ok-thaw.ensures.replies;
-            calls_back = c.in_ok-call_back.ensures.ran;
-          }),
-    )
+            ran = ran;
+            calls_back = c.in_ok-ran.ensures.ran;
+            counts = counts;
+          });
+    }

@@ -1,10 +1,10 @@
 -- one refusal more, or another answer
-use Rattle.std.proofs.Common.{rules, ◌≡◌, ◌+◌, subst, ◌∙◌}
+use Rattle.std.proofs.Common.{rules, ◌≡◌, ◌+◌, ◌-◌, ◌^◌, min, ap, subst, ◌∙◌}
 use Rattle.std.specs.Prelude.{Err}
 use Rattle.access_model.specs.declared.errors.GateError.TheVariants.{ReadOnly}
 use Rattle.gate_world.specs.declared.operations.Op.TheVariants.{WantWrite}
 use Rattle.vfs_gates.specs.Runs.{Performs}
-use Rattle.gate_runs.proofs.Repeating.{one_more}
+use Rattle.gate_runs.proofs.Repeating.{answered, counted_more, one_more}
 use Rattle.gate_runs.specs.Rounds.{IsRefused}
 use Rattle.gate_runs.proofs.runs.workers.want_write.Goals as goal
 
@@ -16,4 +16,11 @@ loop-preserved g c =
       before.1 + 1,
       one_more (λ k. IsRefused (WantWrite 0 c.args.cpu) ReadOnly) before.1 _ _ _ before.2
           (subst (Performs (WantWrite 0 c.args.cpu) c.loop.task c.want_write-answer.new.self) refused c.want_write-answer.ensures),
+      c.saturating_add-denied.ensures ∙ (ap (λ n. min (n + 1) (2 ^ 64 - 1)) before.3 ∙ counted_more before.1),
     )
+
+pub returns-then-ne-clause-took : goal.returns-then-ne-clause-took
+returns-then-ne-clause-took g c =
+    let before = c.loop.invariant in
+    answered (WantWrite 0 c.args.cpu) ReadOnly c.args.task.now c.loop.task c.want_write-answer.new.self before.1 c.loop.denied before.2
+    (subst (Performs (WantWrite 0 c.args.cpu) c.loop.task c.want_write-answer.new.self) c.in_ok-answer.was c.want_write-answer.ensures) before.3

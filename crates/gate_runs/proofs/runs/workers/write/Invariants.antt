@@ -1,8 +1,9 @@
--- The task comes from the gates, and has done all rounds so far.
+-- The task comes from the gates, and has done all rounds so far, with what they met.
 use Rattle.vfs_gates.specs.TaskStates.{IsFrom}
+use Rattle.gate_runs.specs.Counts.{no_writes}
 use Rattle.gate_runs.specs.Rounds.{Repeats, WriterRound}
 use Rattle.gate_runs.proofs.runs.workers.write.Given as goal
 
 abbrev pub invariant-loop-round : goal.invariant-loop-round
 invariant-loop-round g l = IsFrom l.task l.fn.gates × Repeats (WriterRound g.M.NotedMeeting.meets l.fn.meeting l.fn.plan.processors l.fn.writer)
-    l.round (l.fn.task, l.fn.notes) (l.task, l.notes)
+    l.round (l.fn.task, l.fn.notes, no_writes) (l.task, l.notes, l.writes)
