@@ -1,15 +1,15 @@
 //! The backup: it reads while the mount is read-only.
 
-ghost use Rattle.std.specs.Prelude.{◌≡◌, IfErr};
-ghost use Rattle.access_model.specs.declared.errors.GateError.TheVariants.{Busy};
-ghost use Rattle.vfs_gates.specs.TaskStates.{IsFrom};
-ghost use Rattle.backup_beside_writer.specs.Rests.{Rests};
+ghost use Rattle.std.specs.Prelude.{◌≡◌, ◌+◌, ℕ, IfErr, OnErr, OnOk};
+ghost use Rattle.vfs_gates.specs.GateError.TheVariants.{Busy};
+ghost use Rattle.vfs_gates.specs.Held.{Rests};
+ghost use Rattle.vfs_gates.specs.TaskStates.{TaskState, IsFrom};
+ghost use Rattle.backup_beside_writer.specs.Told.{Copies};
 
 use crate::MOUNT;
-use access_model::GateError;
 use std::sync::Wait;
 use std::sync::atomic::{AtomicU64, Ordering};
-use vfs_gates::{Gates, Task};
+use vfs_gates::{GateError, Gates, Task};
 
 /// Reads the file twice while the mount is read-only, and says whether the reads differ. Refused only as Busy; whatever it answers, the
 /// task rests again.
@@ -24,6 +24,8 @@ pub(crate) fn copy_once<R: Wait>(
     ensures from { IsFrom task.new gates.now }
     ensures rests { Rests task.new }
     ensures refused { IfErr result (λ refusal. refusal ≡ Busy) }
+    ensures copied { OnOk result ((n : ℕ) (first : TaskState) → Copies n first task.old → Copies (n + 1) first task.new) }
+    ensures copied_nothing { OnErr result ((n : ℕ) (first : TaskState) → Copies n first task.old → Copies n first task.new) }
 {
     task.change_mount(rt, gates, MOUNT, true)?;
     let copy = file.load(Ordering::SeqCst);
@@ -44,6 +46,7 @@ pub(crate) fn back_up<R: Wait>(
     requires rests { Rests task }
     ensures from { IsFrom result.0 gates.now }
     ensures rests { Rests result.0 }
+    ensures copied { Copies copies task result.0 }
 {
     let mut torn = 0;
     for _copy in 0..copies {

@@ -1,15 +1,15 @@
 //! The writer: each write stands between a want and a drop.
 
-ghost use Rattle.std.specs.Prelude.{◌≡◌, IfErr};
-ghost use Rattle.access_model.specs.declared.errors.GateError.TheVariants.{ReadOnly};
+ghost use Rattle.std.specs.Prelude.{◌≡◌, ◌+◌, IfErr, OnErr, OnOk};
+ghost use Rattle.vfs_gates.specs.GateError.TheVariants.{ReadOnly};
+ghost use Rattle.vfs_gates.specs.Held.{Rests, own_actions};
 ghost use Rattle.vfs_gates.specs.TaskStates.{IsFrom};
-ghost use Rattle.backup_beside_writer.specs.Rests.{Rests};
+ghost use Rattle.backup_beside_writer.specs.Told.{grants_in};
 
 use crate::MOUNT;
-use access_model::GateError;
 use std::sync::Wait;
 use std::sync::atomic::{AtomicU64, Ordering};
-use vfs_gates::{Gates, Task};
+use vfs_gates::{GateError, Gates, Task};
 
 /// The processor that the writer says it is on.
 const CPU: u8 = 0;
@@ -26,6 +26,8 @@ pub(crate) fn write_once<R: Wait>(
     ensures from { IsFrom task.new gates.now }
     ensures rests { Rests task.new }
     ensures refused { IfErr result (λ refusal. refusal ≡ ReadOnly) }
+    ensures wrote { OnOk result (grants_in (own_actions task.new) ≡ 1 + grants_in (own_actions task.old)) }
+    ensures wrote_nothing { OnErr result (own_actions task.new ≡ own_actions task.old) }
 {
     task.want(rt, gates, MOUNT, CPU)?;
     file.fetch_add(1, Ordering::SeqCst);
@@ -44,6 +46,7 @@ pub(crate) fn write<R: Wait>(
     requires rests { Rests task }
     ensures from { IsFrom result gates.now }
     ensures rests { Rests result }
+    ensures wrote { grants_in (own_actions result) ≡ writes + grants_in (own_actions task) }
 {
     for _write in 0..writes {
         for _ in rt.forever() {

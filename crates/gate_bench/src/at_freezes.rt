@@ -3,14 +3,12 @@
 ghost use Rattle.std.specs.Prelude.{◌≡◌};
 ghost use Rattle.vfs_gates.specs.TaskStates.{IsFrom};
 
-use access_model::Holder;
 use anyhow::{Result, bail};
-use gate_world::Config;
 use std::alloc::Global;
 use std::rt::Clock;
 use std::sync::Wait;
 use std::time::{Duration, Instant};
-use vfs_gates::{Gates, Task};
+use vfs_gates::{Config, Gates, Holder, Task};
 
 /// Whether the callbacks of the levels run after each thaw. Where they do, each freeze and each callback waits for a grace period at each
 /// level; where they don't, the levels stay on their slow path.

@@ -4,14 +4,13 @@ ghost use Rattle.std.specs.Prelude.{◌≡◌, ◌≤◌, All, IfOk};
 ghost use Rattle.vfs_gates.specs.TaskStates.{IsFrom};
 
 use anyhow::{Result, bail};
-use gate_world::Config;
 use std::alloc::Global;
 use std::rt::Clock;
 use std::sync::Wait;
 use std::thread;
 use std::thread::Threads;
 use std::time::{Duration, Instant};
-use vfs_gates::{Gates, Task};
+use vfs_gates::{Config, Gates, Task};
 
 /// What is taken and given back in a pair.
 #[derive(Clone, Copy, PartialEq, Eq, Debug)]

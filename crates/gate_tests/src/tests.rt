@@ -9,6 +9,7 @@ mod holders;
 mod hooks;
 mod lost;
 mod opens;
+mod pairs;
 mod steps;
 mod threads;
 

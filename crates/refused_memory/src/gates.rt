@@ -6,9 +6,8 @@ ghost use Rattle.vfs_gates.specs.TaskStates.{IsFrom, own_number};
 
 use crate::ending::Ending;
 use crate::models::SMALL;
-use access_model::GateError;
 use std::alloc::Global;
-use vfs_gates::{Gates, Task};
+use vfs_gates::{GateError, Gates, Task};
 
 /// Gates whose making is tried again where there is no memory, and how that ended.
 fn make(alloc: Global) -> Result<(Gates, Task, Ending), GateError>

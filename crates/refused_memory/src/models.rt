@@ -3,8 +3,8 @@
 use crate::ending::Ending;
 use access_model::{GateError, Model};
 use gate_core::Core;
-use gate_world::Config;
 use std::alloc::Global;
+use vfs_gates::Config;
 
 /// The configuration of all that is made here.
 pub(crate) const SMALL: Config = Config {

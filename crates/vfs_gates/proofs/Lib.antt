@@ -9,3 +9,7 @@ pub mod Calling
 pub mod Rooming
 pub mod Seeing
 pub mod Taking
+pub mod Holding
+pub mod Returning
+pub mod Resting
+pub mod CallingBack

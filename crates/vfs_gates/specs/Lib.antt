@@ -1,5 +1,10 @@
 pub use Rattle.call_events.specs.Rules
 pub use Rattle.call_events.specs.Seating
+pub use Rattle.access_model.specs.declared.actions.Action
+pub use Rattle.access_model.specs.declared.actions.Gate
+pub use Rattle.access_model.specs.declared.errors.GateError
+pub use Rattle.gate_world.specs.declared.operations.Op
+pub use Rattle.gate_world.specs.declared.views.View
 pub mod Room
 pub mod TaskStates
 pub use Rattle.call_events.specs.Ties
@@ -9,5 +14,9 @@ pub mod Parts
 pub mod Sums
 pub mod Ended
 pub mod Seen
+pub mod Held
+pub mod Pairs
+pub mod Settled
+pub mod Taken
 pub use Rattle.call_events.specs.Runs
 pub use Rattle.call_events.specs.Asking

@@ -85,9 +85,12 @@ impl Task {
         }
     }
 
-    /// `__mnt_want_write` that doesn't wait: an access at a mount, taken on a processor. Again where a change of the mount holds
-    /// writers off, ReadOnly where the mount or the superblock is read-only; then the task holds what it held. Order, Invalid and
-    /// TooMany as `begin`.
+    /// `__mnt_want_write` that doesn't wait: an access at a mount, taken on a processor.
+    ///
+    /// # Errors
+    ///
+    /// Again where a change of the mount holds writers off, ReadOnly where the mount or the superblock is read-only; then the task holds what
+    /// it held. Order, Invalid and TooMany as `begin`.
     pub fn try_want(&mut self, gates: &Gates, mount: u8, cpu: u8) -> Result<(), GateError>
         requires { IsFrom self.old gates.now }
         ensures { Performs (WantOp mount cpu false) self.old self.new result }
@@ -103,8 +106,11 @@ impl Task {
         self.perform(gates, Op::Want { mount, cpu, wait }, want)
     }
 
-    /// `__mnt_drop_write`: gives an access at a mount back, on any processor. It is never refused once it has begun: Order, where the
-    /// task holds no access there, and Invalid as `begin`.
+    /// `__mnt_drop_write`: gives an access at a mount back, on any processor. It is never refused once it has begun.
+    ///
+    /// # Errors
+    ///
+    /// Order, where the task holds no access there, and Invalid as `begin`.
     pub fn drop_mount(&mut self, gates: &Gates, mount: u8, cpu: u8) -> Result<(), GateError>
         requires { IsFrom self.old gates.now }
         ensures { Performs (DropMount mount cpu) self.old self.new result }
@@ -114,8 +120,12 @@ impl Task {
     }
 
     /// `sb_start_write_trylock` (`percpu_down_read_trylock`), at any level: goes inside a freeze level, 1 to 3, counted on a
-    /// processor. Again where a freeze closes the level; then the task is inside what it was inside. Order, where it is inside this
-    /// level or one above it, and Invalid as `begin`.
+    /// processor.
+    ///
+    /// # Errors
+    ///
+    /// Again where a freeze closes the level; then the task is inside what it was inside. Order, where it is inside this level or one above
+    /// it, and Invalid as `begin`.
     pub fn try_start(&mut self, gates: &Gates, level: u8, cpu: u8) -> Result<(), GateError>
         requires { IsFrom self.old gates.now }
         ensures { Performs (Start level cpu false) self.old self.new result }
@@ -132,7 +142,11 @@ impl Task {
     }
 
     /// `sb_end_write`, `sb_end_pagefault`, `sb_end_intwrite` (`percpu_up_read`): leaves a freeze level, on any processor. It is never
-    /// refused once it has begun: Order, where the task is not inside the level, and Invalid as `begin`.
+    /// refused once it has begun.
+    ///
+    /// # Errors
+    ///
+    /// Order, where the task is not inside the level, and Invalid as `begin`.
     pub fn end(&mut self, gates: &Gates, level: u8, cpu: u8) -> Result<(), GateError>
         requires { IsFrom self.old gates.now }
         ensures { Performs (End level cpu) self.old self.new result }
@@ -141,7 +155,11 @@ impl Task {
     }
 
     /// `mnt_drop_write`: gives an access at a mount back and then leaves level 1, both on any processor. It is never refused
-    /// once it has begun: Order, where the task holds no access there or is not inside level 1, and Invalid as `begin`.
+    /// once it has begun.
+    ///
+    /// # Errors
+    ///
+    /// Order, where the task holds no access there or is not inside level 1, and Invalid as `begin`.
     pub fn drop_write(&mut self, gates: &Gates, mount: u8, cpu: u8) -> Result<(), GateError>
         requires { IsFrom self.old gates.now }
         ensures { Performs (DropWrite mount cpu) self.old self.new result }
@@ -165,8 +183,12 @@ impl Task {
         }
     }
 
-    /// `mnt_make_readonly`, or its undoing, that doesn't wait. Again where another task has `umount`, Busy where writers are
-    /// counted at the mount. Order, where the task is inside a level, and Invalid as `begin`.
+    /// `mnt_make_readonly`, or its undoing, that doesn't wait.
+    ///
+    /// # Errors
+    ///
+    /// Again where another task has `umount`, Busy where writers are counted at the mount. Order, where the task is inside a level, and
+    /// Invalid as `begin`.
     pub fn try_change_mount(
         &mut self,
         gates: &Gates,

@@ -13,7 +13,14 @@ use gate_world::Config;
 use std::marker::Model;
 
 /// The words of gates that are closed: all tasks were joined, no operation is under way, and nothing is held. Contracts see the
-/// configuration and the words.
+/// configuration and the words. From crates/gate_tests/src/tests/calls.rt, which is run:
+///
+/// ```
+/// closed.gate_sum(Gate::Mount(0)) == Some(0)
+///     && closed.gate_sum(Gate::Level(3)) == Some(0)
+///     && closed.gate_sum(Gate::Mount(1)).is_none()
+///     && closed.word(WordName::Umount) == Some(0)
+/// ```
 pub struct Closed {
     pub(crate) config: Config,
     pub(crate) closed: call_events::Closed,

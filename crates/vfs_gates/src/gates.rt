@@ -12,7 +12,13 @@ use call_events::GateWords;
 use gate_world::Config;
 use std::alloc::Global;
 
-/// All words of the gates, which threads share by reference.
+/// All words of the gates, which threads share by reference. From crates/backup_beside_writer/src/tasks.rt, a proved program:
+///
+/// ```
+/// let (gates, mut first) = Gates::new(alloc, config)?;
+/// let second = first.split(alloc, &gates)?;
+/// Ok((gates, first, second))
+/// ```
 #[derive(Drop)]
 pub struct Gates {
     pub(crate) words: GateWords,
@@ -21,14 +27,19 @@ pub struct Gates {
 impl Gates {
     ghost use Rattle.vfs_gates.specs.TaskStates.{task_state, IsFrom};
     ghost use Rattle.vfs_gates.specs.Ended.{HasAll, EndedWith, HasOpeningWords};
+    ghost use Rattle.vfs_gates.specs.Held.{Rests};
     ghost use Rattle.access_model.specs.declared.errors.GateError.TheVariants.{Invalid, NoMemory, Order};
 
-    /// All words as they begin, and the task with number 0, which has all other numbers to give. Invalid where a number of the
-    /// configuration is out of its limits; NoMemory where a growth was refused.
+    /// All words as they begin, and the task with number 0, which has all other numbers to give.
+    ///
+    /// # Errors
+    ///
+    /// Invalid where a number of the configuration is out of its limits; NoMemory where a growth was refused.
     pub fn new(alloc: Global, config: Config) -> Result<(Gates, Task), GateError>
         ensures made { IfOk result
             (λ r. (r.0.words.config ≡ config) × (r.1 ≡ task_state r.0.words.table.shared.table_id config None None (first_items config))) }
         ensures words { IfOk result (λ r. HasOpeningWords config r.1.items) }
+        ensures rests { IfOk result (λ r. Rests r.1) }
         ensures within { OnOk result (IsWithin config) }
         ensures invalid { ¬ IsWithin config → result ≡ Err Invalid }
         ensures memory { IsWithin config → IfErr result (λ e. e ≡ NoMemory) }
@@ -45,8 +56,11 @@ impl Gates {
         Ok((Gates { words }, Task::first(config, seat, rooms)))
     }
 
-    /// The words as they were at the end, where this task is the only one left: all other numbers are its to give. Order, with both
-    /// given back as they were, unless the task is idle, holds nothing and has all other numbers.
+    /// The words as they were at the end, where this task is the only one left: all other numbers are its to give.
+    ///
+    /// # Errors
+    ///
+    /// Order, with both given back as they were, unless the task is idle, holds nothing and has all other numbers.
     pub fn close(self, task: Task) -> Result<Closed, (GateError, Gates, Task)>
         requires { IsFrom task self }
         ensures closed { IfOk result (λ c. HasAll task × (c.config ≡ self.words.config) × EndedWith c.config c.words task.items) }

@@ -1,6 +1,8 @@
 //! Laws of whole calls. The functions here do nothing: their contracts are the laws.
 
-ghost use Rattle.std.specs.Prelude.{◌≡◌, ◌≤◌, ℕ, Bool, Some, None, Ok, Result, List, [], ◌∷◌, length};
+ghost use Rattle.std.specs.Prelude.{◌≡◌, ◌≤◌, ◌<◌, ℕ, Bool, true, Some, None, Ok, Err, Result, IfErr, List, [], ◌∷◌, ◌++◌, length};
+ghost use Rattle.access_model.specs.declared.actions.Gate.TheVariants.{Mount};
+ghost use Rattle.access_model.specs.declared.errors.GateError.TheVariants.{Busy, ReadOnly};
 ghost use Rattle.access_model.specs.declared.errors.GateError.{GateError};
 ghost use Rattle.access_model.specs.declared.replies.Reply.{Reply};
 ghost use Rattle.gate_world.specs.declared.operations.Op.{Op};
@@ -8,13 +10,14 @@ ghost use Rattle.gate_world.specs.declared.views.Snapshot.{Snapshot};
 ghost use Rattle.gate_world.specs.declared.views.Traced.{Traced};
 ghost use Rattle.gated_tree.specs.declared.trees.TreeWords.{TreeWords};
 ghost use Rattle.gate_world.specs.Courses.{course_of};
-ghost use Rattle.call_events.specs.Seating.{done_by};
-ghost use Rattle.vfs_gates.specs.TaskStates.{TaskState, own_number, own_view, spare_of};
-ghost use Rattle.call_events.specs.Runs.{completed_by, Called};
+ghost use Rattle.call_events.specs.Seating.{SeatItems, done_by};
+ghost use Rattle.vfs_gates.specs.TaskStates.{TaskState, own_number, own_view, spare_of, IsIdle};
+ghost use Rattle.vfs_gates.specs.Held.{Rests, own_actions, IsAsBefore, IsGivenBack, takes_nothing};
+ghost use Rattle.call_events.specs.Runs.{completed_by, Called, Performs};
 ghost use Rattle.gate_world.specs.declared.config.Config.{Config};
-ghost use Rattle.vfs_gates.specs.Ended.{Ended, LeavesSoundTree};
+ghost use Rattle.vfs_gates.specs.Ended.{Ended, EndedWith, LeavesSoundTree};
 ghost use Rattle.vfs_gates.specs.Seen.{HasTaken, IsOfAMoment};
-ghost use Rattle.gate_world.specs.declared.operations.Op.TheVariants.{Snapshot as SnapshotOp};
+ghost use Rattle.gate_world.specs.declared.operations.Op.TheVariants.{ChangeMount, DropMount, Snapshot as SnapshotOp, Want};
 
 /// After a whole call, the last snapshot of its task is of a moment of the one history that the call leaves. Does nothing: its contract
 /// is the law.
@@ -49,4 +52,43 @@ pub fn a_snapshot_that_replied_was_taken()
 /// children, and each parent is a directory. Does nothing: its contract is the law.
 pub fn closed_gates_leave_a_sound_tree()
     ensures { (c : Config) (ws : List ℕ) → Ended c ws → LeavesSoundTree c ws }
+{}
+
+/// An access that a want was granted, and a drop right after it, on any processor that there is: the drop is not refused, both stand in the
+/// task's list, and the task is as it was. Does nothing: its contract is the law.
+pub fn a_granted_want_is_dropped()
+    ensures { (m p q : ℕ) (wait : Bool) (old there left : TaskState) (outcome : Result (Unit {0}) GateError) → q < old.config.processors →
+        Performs (Want m p wait) old there (Ok tt) → Performs (DropMount m q) there left outcome → IsGivenBack (Mount m) old left outcome }
+{}
+
+/// A want of a task at rest is refused as ReadOnly alone; then nothing was added to the task's list, and it rests. Does nothing: its contract is
+/// the law.
+pub fn a_refused_want_leaves_a_task_at_rest()
+    ensures { (m p : ℕ) (old left : TaskState) (refusal : GateError) → Rests old → m < old.config.mounts → p < old.config.processors →
+        Performs (Want m p true) old left (Err refusal) → (refusal ≡ ReadOnly) × (own_actions left ≡ own_actions old) × Rests left }
+{}
+
+/// A change of a mount by a task at rest is refused as Busy alone, and the task rests after it, refused or not. Does nothing: its contract is the
+/// law.
+pub fn a_change_leaves_a_task_at_rest()
+    ensures { (m : ℕ) (read_only : Bool) (old left : TaskState) (outcome : Result (Unit {0}) GateError) → Rests old →
+        m < old.config.mounts → Performs (ChangeMount m read_only true) old left outcome →
+        IfErr outcome (λ refusal. refusal ≡ Busy) × Rests left }
+{}
+
+/// A call that takes no access and gives none back, and neither opens nor closes a file, leaves an idle task as it was, whatever it answers; so
+/// does any call that is refused. Does nothing: its contract is the law.
+pub fn a_call_that_takes_nothing_leaves_a_task_as_it_was()
+    ensures kept { (op : Op) (old left : TaskState) (outcome : Result (Unit {0}) GateError) → IsIdle old → takes_nothing op ≡ true →
+        Performs op old left outcome → IsAsBefore old left }
+    ensures refused { (op : Op) (old left : TaskState) (refusal : GateError) → IsIdle old → Performs op old left (Err refusal) →
+        IsAsBefore old left }
+{}
+
+/// Where two tasks were joined and the gates closed, each of their own numbers has in the world that is left the view that its task knew. Does
+/// nothing: its contract is the law.
+pub fn joined_tasks_end_as_they_were()
+    ensures { (c : Config) (ws : List ℕ) (first second : SeatItems) (e : EndedWith c ws (first ++ second)) → 1 ≤ length first →
+        1 ≤ length second →
+        (e.ended.world.views (own_number first) ≡ own_view first) × (e.ended.world.views (own_number second) ≡ own_view second) }
 {}

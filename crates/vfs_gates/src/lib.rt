@@ -1,5 +1,5 @@
 //! The gates on a table of atomic words, driven by tasks that threads own. A task is a token: it has its own number, with the
-//! right to do that number's events, and the numbers that it may still give to others.
+//! right to do that number's events, and the numbers that it may still give to others. What a caller names of the crates below it finds here, too.
 #![tactic(auto)]
 
 mod calls;
@@ -7,13 +7,22 @@ mod closed;
 mod gates;
 pub mod laws;
 mod numbers;
+mod pairs;
 mod parts;
 mod rooms;
+mod settling;
+mod shown;
+mod taken;
 mod task;
 mod tree_calls;
 mod waits;
 
-pub use call_events::{Seat, TimedHooks};
+pub use access_model::{Action, Gate, GateError, Holder, Kind, NodeInfo, Reply};
+pub use call_events::{Progress, Seat, Step, TimedHooks};
 pub use closed::Closed;
+pub use cpu_words::{Event, Touch, WordName};
+pub use freeze_levels::{FsHooks, HookCall, HookKind};
+pub use gate_world::{Config, Op};
+pub use gated_tree::Tree;
 pub use gates::Gates;
 pub use task::Task;

@@ -14,9 +14,13 @@ use std::alloc::Global;
 impl Task {
     ghost use Rattle.vfs_gates.specs.TaskStates.{IsFrom, IsIdle, HoldsNothing};
     ghost use Rattle.vfs_gates.specs.Parts.{SplitOf, SplitRefused};
+    ghost use Rattle.vfs_gates.specs.Held.{Rests};
 
-    /// A task with the lowest number that this one has to give. The new one is idle, holds nothing, and has no number to give. Order
-    /// where an operation is under way, TooMany where no number is left, NoMemory where a growth was refused; then nothing is
+    /// A task with the lowest number that this one has to give. The new one is idle, holds nothing, and has no number to give.
+    ///
+    /// # Errors
+    ///
+    /// Order where an operation is under way, TooMany where no number is left, NoMemory where a growth was refused; then nothing is
     /// changed.
     pub fn split(&mut self, alloc: Global, gates: &Gates) -> Result<Task, GateError>
         requires { IsFrom self.old gates.now }
@@ -25,6 +29,7 @@ impl Task {
         ensures from { IfOk result (λ t. IsFrom t gates.now) }
         ensures made { IfOk result (λ t. SplitOf self.old self.new t) }
         ensures refused { IfErr result (λ e. (self.new ≡ self.old) × SplitRefused self.old e) }
+        ensures rests { IfOk result (λ t. Rests t × (Rests self.old → Rests self.new)) }
     {
         if !self.is_idle() {
             return Err(GateError::Order);
@@ -48,8 +53,11 @@ impl Task {
         })
     }
 
-    /// Takes another task's numbers back, to give them again. Order, with the other given back as it was, unless both are idle and
-    /// hold nothing.
+    /// Takes another task's numbers back, to give them again.
+    ///
+    /// # Errors
+    ///
+    /// Order, with the other given back as it was, unless both are idle and hold nothing.
     pub fn join(&mut self, gates: &Gates, other: Task) -> Result<(), (GateError, Task)>
         requires this { IsFrom self.old gates.now }
         requires that { IsFrom other gates.now }

@@ -35,7 +35,13 @@ use std::marker::Model;
 /// - a call at the tree: what it has charged stays charged, and the level that it needs is as above.
 ///
 /// So each task is to be joined, at rest: an access is given back before a refusal is handed on, and an operation that has begun is done
-/// to its end. docs/REFUSALS.md says more.
+/// to its end. docs/REFUSALS.md says more. From crates/backup_beside_writer/src/writer.rt, a proved program:
+///
+/// ```
+/// task.want(rt, gates, MOUNT, CPU)?;
+/// file.fetch_add(1, Ordering::SeqCst);
+/// task.drop_mount(gates, MOUNT, CPU)
+/// ```
 #[derive(Drop)]
 pub struct Task {
     pub(crate) number: u8,
@@ -145,9 +151,13 @@ impl Task {
         self.rooms.last()
     }
 
-    /// Begins an operation; it has no event, and changes no word. Refused, and then nothing is changed: Order where an operation is
-    /// under way; Invalid where a number of the operation is out of range; Order where the task holds what the operation must not
-    /// find held, or doesn't hold what it gives back; TooMany where the task would get its 1,025th access at a mount, or have a file open twice.
+    /// Begins an operation; it has no event, and changes no word.
+    ///
+    /// # Errors
+    ///
+    /// Then nothing is changed. Order where an operation is under way; Invalid where a number of the operation is out of range; Order where the
+    /// task holds what the operation must not find held, or doesn't hold what it gives back; TooMany where the task would get its 1,025th access
+    /// at a mount, or have a file open twice.
     pub fn begin(&mut self, op: Op) -> Result<(), GateError>
         ensures table { self.new.table ≡ self.old.table }
         ensures config { self.new.config ≡ self.old.config }

@@ -89,9 +89,12 @@ impl Task {
         self.finish_waiting(rt, gates)
     }
 
-    /// `vfs_create`, `vfs_mkdir`: makes an empty, clean file or directory in a directory, and tells the number of its node. NoEntry where
-    /// the directory's node is free, NotDir where it is a file; NoSpace where no node is free; Again where its node was taken meanwhile:
-    /// then nothing is changed. Order, where the task is not inside level 1 with an access at some mount, and Invalid as `begin`.
+    /// `vfs_create`, `vfs_mkdir`: makes an empty, clean file or directory in a directory, and tells the number of its node.
+    ///
+    /// # Errors
+    ///
+    /// NoEntry where the directory's node is free, NotDir where it is a file; NoSpace where no node is free; Again where its node was taken
+    /// meanwhile: then nothing is changed. Order, where the task is not inside level 1 with an access at some mount, and Invalid as `begin`.
     pub fn create(&mut self, gates: &Gates, dir: u8, kind: Kind) -> Result<u8, GateError>
         requires { IsFrom self.old gates.now }
         ensures { Replies node_of (CreateOp dir kind) self.old self.new result }
@@ -106,8 +109,12 @@ impl Task {
     }
 
     /// `vfs_unlink`: frees a file's node, and gives its blocks back; where some task has the file open, it has its node and its blocks until
-    /// its last close. NoEntry where the node is free or its file was removed before, IsDir where it is a directory; Again
-    /// where it changed meanwhile: then nothing is changed. Order, as `create`, and Invalid as `begin`.
+    /// its last close.
+    ///
+    /// # Errors
+    ///
+    /// NoEntry where the node is free or its file was removed before, IsDir where it is a directory; Again where it changed meanwhile: then
+    /// nothing is changed. Order, as `create`, and Invalid as `begin`.
     pub fn remove(&mut self, gates: &Gates, file: u8) -> Result<(), GateError>
         requires { IsFrom self.old gates.now }
         ensures { Performs (RemoveOp file) self.old self.new result }
@@ -119,9 +126,12 @@ impl Task {
         outcome(self.call(gates, Op::Remove { file }, remove))
     }
 
-    /// `vfs_write` past a file's end: makes it larger by so many blocks, and dirty. NoEntry and IsDir as `remove`; NoSpace where there is
-    /// no room for the blocks; Again where the file or the blocks charged changed meanwhile: then nothing is changed. Order, as `create`,
-    /// and Invalid as `begin`, also for no block.
+    /// `vfs_write` past a file's end: makes it larger by so many blocks, and dirty.
+    ///
+    /// # Errors
+    ///
+    /// NoEntry and IsDir as `remove`; NoSpace where there is no room for the blocks; Again where the file or the blocks charged changed
+    /// meanwhile: then nothing is changed. Order, as `create`, and Invalid as `begin`, also for no block.
     pub fn grow(&mut self, gates: &Gates, file: u8, blocks: u32) -> Result<(), GateError>
         requires { IsFrom self.old gates.now }
         ensures { Performs (GrowOp file blocks) self.old self.new result }
@@ -135,8 +145,12 @@ impl Task {
         self.perform(gates, Op::Grow { file, blocks }, grow)
     }
 
-    /// `vfs_rename`: gives a file another directory. NoEntry and IsDir as `remove`, NoEntry and NotDir of the directory as `create`; Again
-    /// where the file changed meanwhile: then nothing is changed. Order, as `create`, and Invalid as `begin`.
+    /// `vfs_rename`: gives a file another directory.
+    ///
+    /// # Errors
+    ///
+    /// NoEntry and IsDir as `remove`, NoEntry and NotDir of the directory as `create`; Again where the file changed meanwhile: then nothing is
+    /// changed. Order, as `create`, and Invalid as `begin`.
     pub fn move_to(&mut self, gates: &Gates, file: u8, dir: u8) -> Result<(), GateError>
         requires { IsFrom self.old gates.now }
         ensures { Performs (MoveToOp file dir) self.old self.new result }
@@ -149,8 +163,11 @@ impl Task {
         outcome(self.call(gates, Op::MoveTo { file, dir }, moving))
     }
 
-    /// `page_mkwrite`: makes a file dirty. NoEntry, IsDir and Again as `remove`. Order, where the task is not inside level 2 with an access
-    /// at some mount, and Invalid as `begin`.
+    /// `page_mkwrite`: makes a file dirty.
+    ///
+    /// # Errors
+    ///
+    /// NoEntry, IsDir and Again as `remove`. Order, where the task is not inside level 2 with an access at some mount, and Invalid as `begin`.
     pub fn fault(&mut self, gates: &Gates, file: u8) -> Result<(), GateError>
         requires { IsFrom self.old gates.now }
         ensures { Performs (FaultOp file) self.old self.new result }
@@ -158,8 +175,11 @@ impl Task {
         outcome(self.call(gates, Op::Fault { file }, mark(file, true)))
     }
 
-    /// A write-back: makes a file clean. NoEntry, IsDir and Again as `remove`. Order, where the task is not inside level 3, and Invalid as
-    /// `begin`.
+    /// A write-back: makes a file clean.
+    ///
+    /// # Errors
+    ///
+    /// NoEntry, IsDir and Again as `remove`. Order, where the task is not inside level 3, and Invalid as `begin`.
     pub fn flush(&mut self, gates: &Gates, file: u8) -> Result<(), GateError>
         requires { IsFrom self.old gates.now }
         ensures { Performs (FlushOp file) self.old self.new result }
@@ -168,8 +188,12 @@ impl Task {
     }
 
     /// `do_dentry_open`: opens a file, which is there until its last close, also where it is removed meanwhile. A task opens a file once.
+    /// No level and no mount is asked for.
+    ///
+    /// # Errors
+    ///
     /// NoEntry and IsDir as `remove`, Again where the file changed meanwhile: then nothing is changed. TooMany where the task has it open,
-    /// and Invalid as `begin`. No level and no mount is asked for.
+    /// and Invalid as `begin`.
     pub fn open_file(&mut self, gates: &Gates, file: u8) -> Result<(), GateError>
         requires { IsFrom self.old gates.now }
         ensures { Performs (OpenOp file) self.old self.new result }
@@ -182,9 +206,12 @@ impl Task {
     }
 
     /// `__fput` that doesn't wait: closes a file that the task has open. The last close of a removed file frees it inside level 3, where
-    /// it is counted on a processor, and gives its blocks back. Again where a freeze closes level 3 then, or where the file changed
-    /// meanwhile: then the file is open as before. Order, where the task doesn't have the file open or is inside level 3, and Invalid as
-    /// `begin`.
+    /// it is counted on a processor, and gives its blocks back.
+    ///
+    /// # Errors
+    ///
+    /// Again where a freeze closes level 3 then, or where the file changed meanwhile: then the file is open as before. Order, where the task
+    /// doesn't have the file open or is inside level 3, and Invalid as `begin`.
     pub fn try_close_file(&mut self, gates: &Gates, file: u8, cpu: u8) -> Result<(), GateError>
         requires { IsFrom self.old gates.now }
         ensures { Performs (CloseOp file cpu false) self.old self.new result }
@@ -193,8 +220,11 @@ impl Task {
         outcome(self.run(gates, Op::Close { file, cpu, wait }))
     }
 
-    /// The same, which waits while a freeze closes level 3: Again only where the file changed meanwhile. Order and Invalid as
-    /// `try_close_file`.
+    /// The same, which waits while a freeze closes level 3.
+    ///
+    /// # Errors
+    ///
+    /// Again only where the file changed meanwhile. Order and Invalid as `try_close_file`.
     pub fn close_file<R: Wait>(
         &mut self,
         rt: &R,
@@ -209,8 +239,12 @@ impl Task {
         outcome(self.run_waiting(rt, gates, Op::Close { file, cpu, wait }))
     }
 
-    /// A snapshot of the tree that doesn't wait, which `tree` shows from then on. Again where another task has `umount`, Invalid where the
-    /// file system is not frozen; then the last snapshot stays. Order, where the task is inside a level, as `begin`.
+    /// A snapshot of the tree that doesn't wait, which `tree` shows from then on.
+    ///
+    /// # Errors
+    ///
+    /// Again where another task has `umount`, Invalid where the file system is not frozen; then the last snapshot stays. Order, where the task
+    /// is inside a level, as `begin`.
     pub fn try_snapshot(&mut self, gates: &Gates) -> Result<(), GateError>
         requires { IsFrom self.old gates.now }
         ensures { Performs (SnapshotOp false) self.old self.new result }
@@ -218,7 +252,11 @@ impl Task {
         outcome(self.run(gates, Op::Snapshot { wait: false }))
     }
 
-    /// The same, which waits for `umount`: Invalid where the file system is not frozen. Order, where the task is inside a level, as `begin`.
+    /// The same, which waits for `umount`.
+    ///
+    /// # Errors
+    ///
+    /// Invalid where the file system is not frozen; then the last snapshot stays. Order, where the task is inside a level, as `begin`.
     pub fn snapshot<R: Wait>(&mut self, rt: &R, gates: &Gates) -> Result<(), GateError>
         requires { IsFrom self.old gates.now }
         ensures { Performs (SnapshotOp true) self.old self.new result }

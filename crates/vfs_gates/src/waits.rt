@@ -117,8 +117,11 @@ impl Task {
         }
     }
 
-    /// `__mnt_want_write`: an access at a mount, taken on a processor. While a change of the mount holds writers off it waits. ReadOnly
-    /// where the mount or the superblock is read-only; then the task holds what it held. Order, Invalid and TooMany as `begin`.
+    /// `__mnt_want_write`: an access at a mount, taken on a processor. While a change of the mount holds writers off it waits.
+    ///
+    /// # Errors
+    ///
+    /// ReadOnly where the mount or the superblock is read-only; then the task holds what it held. Order, Invalid and TooMany as `begin`.
     pub fn want<R: Wait>(
         &mut self,
         rt: &R,
@@ -141,8 +144,11 @@ impl Task {
     }
 
     /// `sb_start_write`, `sb_start_pagefault`, `sb_start_intwrite` (`percpu_down_read`): goes inside a freeze level, 1 to 3, counted on
-    /// a processor. While a freeze closes the level it waits, with its count taken back. It is never refused once it has begun: Order,
-    /// where the task is inside this level or one above it, and Invalid as `begin`.
+    /// a processor. While a freeze closes the level it waits, with its count taken back. It is never refused once it has begun.
+    ///
+    /// # Errors
+    ///
+    /// Order, where the task is inside this level or one above it, and Invalid as `begin`.
     pub fn start<R: Wait>(
         &mut self,
         rt: &R,
@@ -165,8 +171,12 @@ impl Task {
     }
 
     /// `mnt_want_write`: goes inside level 1 and takes an access at a mount, both on a processor. While a freeze closes the level, and
-    /// then while a change of the mount holds writers off, it waits. ReadOnly where the mount or the superblock is read-only; then the
-    /// task has left the level and holds what it held. Order, where the task is inside a level, Invalid and TooMany as `begin`.
+    /// then while a change of the mount holds writers off, it waits.
+    ///
+    /// # Errors
+    ///
+    /// ReadOnly where the mount or the superblock is read-only; then the task has left the level and holds what it held. Order, where the
+    /// task is inside a level, Invalid and TooMany as `begin`.
     pub fn want_write<R: Wait>(
         &mut self,
         rt: &R,
@@ -190,7 +200,11 @@ impl Task {
 
     /// `rcu_sync_func`, with the wait of `call_rcu` before it: runs the callback that the `rcu_sync` of a level, 1 to 3, has queued, after
     /// each section of a reader that was under way has ended, for which it waits. Answers whether one ran: false where none was
-    /// queued. It is never refused once it has begun: Invalid, and Order where an operation is under way, as `begin`.
+    /// queued. It is never refused once it has begun.
+    ///
+    /// # Errors
+    ///
+    /// Invalid, and Order where an operation is under way, as `begin`.
     #[tactic(auto, using(call_events::proofs::Running::was_told))]
     pub fn callback<R: Wait>(&mut self, rt: &R, gates: &Gates, level: u8) -> Result<bool, GateError>
         requires { IsFrom self.old gates.now }
@@ -204,8 +218,11 @@ impl Task {
         ran(self.perform_waiting(rt, gates, Op::Callback { level }, callback, &mut ()))
     }
 
-    /// `mnt_make_readonly`, or its undoing. While another task has `umount` it waits. Busy where writers are counted at the mount.
-    /// Order, where the task is inside a level, and Invalid as `begin`.
+    /// `mnt_make_readonly`, or its undoing. While another task has `umount` it waits.
+    ///
+    /// # Errors
+    ///
+    /// Busy where writers are counted at the mount. Order, where the task is inside a level, and Invalid as `begin`.
     pub fn change_mount<R: Wait>(
         &mut self,
         rt: &R,
@@ -226,11 +243,14 @@ impl Task {
         self.perform_or_wait(rt, gates, op, change)
     }
 
-    /// `reconfigure_super`: remounts the superblock read-only or writable. While another task has `umount` it waits. Busy where the
-    /// stage isn't 0, or, to read-only, where writers are counted at a mount. `FsHooks::reconfigure` is asked once, where the
-    /// superblock isn't as it is asked for: to read-only with nobody inside, dirty marks cleared and no new writer let in. Hook where
-    /// it fails, and then the superblock is as it was, but for the dirty marks. Order, where the task is inside a level, as `begin`.
-    /// After an Ok the superblock is as it was asked for, until another remount.
+    /// `reconfigure_super`: remounts the superblock read-only or writable. While another task has `umount` it waits.
+    /// `FsHooks::reconfigure` is asked once, where the superblock isn't as it is asked for: to read-only with nobody inside, dirty marks
+    /// cleared and no new writer let in. After an Ok the superblock is as it was asked for, until another remount.
+    ///
+    /// # Errors
+    ///
+    /// Busy where the stage isn't 0, or, to read-only, where writers are counted at a mount or a file is removed and still open. Hook where the
+    /// hook fails, and then the superblock is as it was, but for the dirty marks. Order, where the task is inside a level, as `begin`.
     pub fn remount_sb<R: Wait, H: TimedHooks>(
         &mut self,
         rt: &R,
@@ -254,12 +274,15 @@ impl Task {
     }
 
     /// `freeze_super`: closes the three freeze levels, one after the other, waiting at each for who is inside, and freezes the file system.
-    /// While another task has `umount` it waits. Busy where another freeze is under way, or its holder holds one
-    /// already; where all is frozen for the other holder, it is held for this one, too, at once. `FsHooks::sync` is asked once, with levels 1 and 2
-    /// closed and the dirty marks cleared, and `FsHooks::freeze_fs` once, with all levels closed; a superblock that is read-only is frozen at
-    /// once, with no level closed and no hook asked. Hook where one fails, and then the levels are open and the file system is as it was, but
-    /// for the dirty marks. Order, where the task is inside a level, as `begin`. After an Ok nobody is inside a level that was closed, nor
-    /// comes inside, until a thaw.
+    /// While another task has `umount` it waits. Where all is frozen for the other holder, it is held for this one, too, at once.
+    /// `FsHooks::sync` is asked once, with levels 1 and 2 closed and the dirty marks cleared, and `FsHooks::freeze_fs` once, with all levels
+    /// closed; a superblock that is read-only is frozen at once, with no level closed and no hook asked. After an Ok nobody is inside a level
+    /// that was closed, nor comes inside, until a thaw.
+    ///
+    /// # Errors
+    ///
+    /// Busy where another freeze is under way, or its holder holds one already. Hook where a hook fails, and then the levels are open and the
+    /// file system is as it was, but for the dirty marks. Order, where the task is inside a level, as `begin`.
     pub fn freeze<R: Wait, H: TimedHooks>(
         &mut self,
         rt: &R,
@@ -283,9 +306,13 @@ impl Task {
     }
 
     /// `thaw_super`: gives a holder's freeze back, whichever task froze; where no other is held, it thaws the file system, and reopens its
-    /// levels, the highest first. While another task has `umount` it waits. Invalid where the stage isn't SB_FREEZE_COMPLETE, or this holder
-    /// holds no freeze. `FsHooks::unfreeze_fs` is asked once, unless the superblock is
-    /// read-only; Hook where it fails, and then all stays frozen. Order, where the task is inside a level, as `begin`.
+    /// levels, the highest first. While another task has `umount` it waits. `FsHooks::unfreeze_fs` is asked once, unless the superblock is
+    /// read-only.
+    ///
+    /// # Errors
+    ///
+    /// Invalid where the stage isn't SB_FREEZE_COMPLETE, or this holder holds no freeze. Hook where the hook fails, and then all stays frozen.
+    /// Order, where the task is inside a level, as `begin`.
     pub fn thaw<R: Wait, H: TimedHooks>(
         &mut self,
         rt: &R,

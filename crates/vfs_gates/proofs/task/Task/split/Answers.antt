@@ -1,11 +1,13 @@
 use Rattle.std.proofs.Common.{◌≡◌, ℕ, refl, length, set, false, arith, sym, ap, ◌∙◌, subst, None}
+use Rattle.gate_world.specs.declared.views.View.{View}
 use Rattle.call_events.specs.Seating.{SeatItems}
 use Rattle.call_events.specs.Ties.{Ties}
 use Rattle.vfs_gates.proofs.Parting.{split_self, split_new, lowest_there, none_begun}
 use Rattle.call_events.specs.Seat.{Seat}
-use Rattle.vfs_gates.specs.TaskStates.{TaskState, task_state, own_view}
+use Rattle.vfs_gates.specs.TaskStates.{TaskState, task_state, own_view, Empty}
 use Rattle.vfs_gates.specs.Parts.{SplitOf}
 use Rattle.vfs_gates.proofs.Rooming.{given_unseen, kept_view, room_new, room_same}
+use Rattle.vfs_gates.proofs.Resting.{given_empty}
 use Rattle.vfs_gates.proofs.task.Task.split.Goals as goal
 
 pub invariant_of-result : goal.invariant_of-result
@@ -52,3 +54,23 @@ returns-clause-made c =
       given = λ i. task_state (given.table.1 i) old.config (sym begun i) ((ap (λ (k : Seat). k.phase) c.idle.ensures ∙ sym idle) i)
           (given.given i).0;
     })
+
+pub returns-clause-rests : goal.returns-clause-rests
+returns-clause-rests c =
+    let old = c.self.inside in
+    let n : ℕ = c.in-Some.number in
+    let low = c.in-Some.ensures.some in
+    let ties = c.self.invariant.0 in
+    let idle : old.kept.phase ≡ None = ap (λ (s : TaskState). s.phase) c.self.view_is ∙ c.if-not-is_idle.ensures.0 refl in
+    let spares = lowest_there old.number old.config old.begins old.kept old.spare old.seat.me.0 n ties low.1 low.2 in
+    let given = given_empty old.number old.config old.begins old.kept old.spare old.seat.me.0 n ties spares.0 in (
+      (
+        ap (λ (k : Seat). k.phase) c.idle.ensures,
+        subst (λ (l : SeatItems). Empty old.config (own_view l)) (sym (ap (λ z. z.0) c.give-seat.ensures.given)) given,
+      ),
+      (λ rests. (
+        idle,
+        subst (λ (v : View). Empty old.config v) (sym (ap (λ z. own_view z.0) c.give-seat.ensures.kept ∙ kept_view n old.seat.me.0))
+            (subst (λ (s : TaskState). Empty s.config (own_view s.items)) (sym c.self.view_is) rests.1),
+      )),
+    )

@@ -1,0 +1,32 @@
+//! What a run tells.
+
+use std::fmt;
+
+/// What the two tasks have done, each with its number.
+#[derive(Clone, Copy)]
+pub(crate) struct Told {
+    /// The number of the writer's task.
+    pub(crate) writer: u8,
+    /// How often it wrote.
+    pub(crate) writes: u32,
+    /// The number of the backup's task.
+    pub(crate) backup: u8,
+    /// How many copies it made.
+    pub(crate) copies: u32,
+    /// How many of these were torn.
+    pub(crate) torn: u32,
+}
+
+impl fmt::Display for Told {
+    ghost use Rattle.std.specs.Prelude.{Some};
+    ghost use Rattle.backup_beside_writer.specs.Told.{lines_of};
+
+    ghost output = { λ told. Some (lines_of told) };
+
+    fn fmt<W: fmt::Write>(&self, f: &mut fmt::Formatter<W>) -> fmt::Result {
+        let writes = self.writes;
+        let copies = self.copies;
+        let torn = self.torn;
+        write!(f, "{writes} writes\n{copies} copies, {torn} of them torn")
+    }
+}

@@ -1,0 +1,239 @@
+-- What whole calls leave of what a task holds.
+use Rattle.std.proofs.Common.{◌≡◌, ℕ, ◌<◌, Bool, true, false, List, [], ◌∷◌, ◌++◌, refl, sym, ap, ◌∙◌, subst, inl, inr, true≢false}
+use Rattle.std.specs.Prelude.{Option, Some, None, Result, Ok, Err}
+use Rattle.std.proofs.lemmas.Bool.{cases_Bool}
+use Rattle.access_model.specs.declared.actions.Action.{Action}
+use Rattle.access_model.specs.declared.actions.Action.TheVariants.{Grant, Return, SbRo, SbRw, Stage as StageAction, Leave, Pass, Clean, Open as OpenAction, Close as CloseAction}
+use Rattle.access_model.specs.declared.errors.GateError.{GateError}
+use Rattle.access_model.specs.declared.replies.Next.{Next}
+use Rattle.access_model.specs.declared.replies.Next.TheVariants.{Go, Wait, Done}
+use Rattle.access_model.specs.declared.replies.Reply.{Reply}
+use Rattle.access_model.specs.declared.replies.Reply.TheVariants.{Node as NodeReply}
+use Rattle.access_model.specs.Actions.{mounts_after, levels_after, opens_after}
+use Rattle.access_model.specs.Histories.{mounts_of, levels_of, opens_of}
+use Rattle.cpu_words.specs.declared.names.WordName.{WordName}
+use Rattle.cpu_words.specs.declared.names.WordName.TheVariants.{Node}
+use Rattle.cpu_words.specs.declared.events.Touch.{Touch}
+use Rattle.cpu_words.specs.declared.events.Touch.TheVariants.{And}
+use Rattle.mount_counts.specs.Phases.{has_flag}
+use Rattle.gate_world.specs.declared.config.Config.{Config}
+use Rattle.gate_world.specs.declared.operations.Op.{Op}
+use Rattle.gate_world.specs.declared.operations.Op.TheVariants.{Want, DropMount, ChangeMount, RemountSb, Start, End, WantWrite, DropWrite, Callback, Freeze, Thaw, Create, Open, Close, Snapshot}
+use Rattle.gate_world.specs.declared.views.Traced.{Traced}
+use Rattle.gate_world.specs.declared.work.Phase.{Phase}
+use Rattle.gate_world.specs.Found.{clean_found, cleans, found_complete, found_read_only, found_sealed, found_shared}
+use Rattle.gate_world.specs.Claims.{all_levels_closed}
+use Rattle.gate_world.specs.Courses.{course_of}
+use Rattle.gate_world.specs.Traces.{actions_of}
+use Rattle.call_events.proofs.Asked.{either_way}
+use Rattle.call_events.specs.Runs.{ran_items, IsNextMove, AreMoves, told_as, Called, Replies}
+use Rattle.call_events.specs.Seating.{SeatItems}
+use Rattle.vfs_gates.specs.TaskStates.{TaskState, own_number, own_view, refusal_at, IsIdle}
+use Rattle.vfs_gates.specs.Held.{Rests, own_actions, IsAsBefore, takes_nothing}
+
+-- an action that is neither a grant nor a return, and neither opens nor closes a file
+abbrev is_free : Action → Bool
+is_free (Grant gate) = false
+is_free (Return gate) = false
+is_free (OpenAction n) = false
+is_free (CloseAction n) = false
+is_free a = true
+
+-- it leaves the accesses at the mounts, the levels and the open files
+free_mounts : (a : Action) (held : ℕ → ℕ) → is_free a ≡ true → mounts_after a held ≡ held
+free_mounts (Grant gate) held free = absurd (true≢false (sym free))
+free_mounts (Return gate) held free = absurd (true≢false (sym free))
+free_mounts a held free = refl
+
+free_levels : (a : Action) (held : ℕ → Bool) → is_free a ≡ true → levels_after a held ≡ held
+free_levels (Grant gate) held free = absurd (true≢false (sym free))
+free_levels (Return gate) held free = absurd (true≢false (sym free))
+free_levels a held free = refl
+
+free_files : (a : Action) (held : ℕ → Bool) → is_free a ≡ true → opens_after a held ≡ held
+free_files (OpenAction n) held free = absurd (true≢false (sym free))
+free_files (CloseAction n) held free = absurd (true≢false (sym free))
+free_files a held free = refl
+
+-- each of these actions is so
+abbrev AreFree : List Action → Type 0
+AreFree [] = Unit {0}
+AreFree (a ∷ l) = (is_free a ≡ true) × AreFree l
+
+-- they leave what is held
+leave_held : (l before : List Action) → AreFree l → (mounts_of (l ++ before) ≡ mounts_of before) ×
+    (levels_of (l ++ before) ≡ levels_of before) × (opens_of (l ++ before) ≡ opens_of before)
+leave_held [] before free = (refl, refl, refl)
+leave_held (a ∷ l) before free =
+    let rest = leave_held l before free.1 in (
+      free_mounts a _ free.0 ∙ rest.0,
+      free_levels a _ free.0 ∙ rest.1,
+      free_files a _ free.0 ∙ rest.2,
+    )
+
+-- the marks that a trace has cleared are such actions
+clean_free : (word : WordName) (touch : Touch) (found : ℕ) (l rest : List Action) → AreFree (l ++ rest) →
+    AreFree (clean_found word touch found l ++ rest)
+clean_free (Node n) (And mask) found l rest h =
+    either_way (λ k. AreFree (k ++ rest)) (has_flag found 4) (Clean n ∷ l) l (refl, h) h
+clean_free word touch found l rest h = h
+
+cleans_free : (trace : List Traced) (rest : List Action) → AreFree rest → AreFree (cleans trace ++ rest)
+cleans_free [] rest h = h
+cleans_free (e ∷ earlier) rest h =
+    clean_free e.event.word e.event.touch e.event.found (cleans earlier) rest (cleans_free earlier rest h)
+
+-- and what a freeze has added on its way to stage 4
+closed_free : (trace : List Traced) → AreFree (all_levels_closed trace)
+closed_free trace =
+    (refl, (refl, cleans_free trace (Pass 2 ∷ (StageAction 2 ∷ (Pass 1 ∷ (StageAction 1 ∷ [])))) (refl, (refl, (refl, (refl, tt))))))
+
+-- What an operation that takes nothing has added, where it is done.
+adds_free : (op : Op) (reply : Reply) (trace : List Traced) → takes_nothing op ≡ true → AreFree (actions_of op (Ok reply) trace)
+adds_free (Want m p wait) reply trace none = absurd (true≢false (sym none))
+adds_free (DropMount m p) reply trace none = absurd (true≢false (sym none))
+adds_free (Start i p wait) reply trace none = absurd (true≢false (sym none))
+adds_free (End i p) reply trace none = absurd (true≢false (sym none))
+adds_free (WantWrite m p) reply trace none = absurd (true≢false (sym none))
+adds_free (DropWrite m p) reply trace none = absurd (true≢false (sym none))
+adds_free (Open file) reply trace none = absurd (true≢false (sym none))
+adds_free (Close file p wait) reply trace none = absurd (true≢false (sym none))
+adds_free (ChangeMount m true wait) reply trace none =
+    elim (cases_Bool (found_read_only m trace)) [ inl f ↦ rw f tt | inr f ↦ rw f (refl, tt) ]
+adds_free (ChangeMount m false wait) reply trace none =
+    elim (cases_Bool (found_read_only m trace)) [ inl f ↦ rw f (refl, tt) | inr f ↦ rw f tt ]
+adds_free (RemountSb true) reply trace none =
+    either_way AreFree (found_sealed trace) [] (cleans trace ++ (SbRo ∷ [])) tt (cleans_free trace (SbRo ∷ []) (refl, tt))
+adds_free (RemountSb false) reply trace none = either_way AreFree (found_sealed trace) (SbRw ∷ []) [] (refl, tt) tt
+adds_free (Freeze holder) reply trace none = (
+  refl,
+  either_way AreFree (found_complete trace) [] _ tt (refl, either_way AreFree (found_sealed trace) [] _ tt (closed_free trace)),
+)
+adds_free (Thaw holder) reply trace none =
+    either_way AreFree (found_shared holder trace) (Leave holder ∷ []) _ (refl, tt)
+    (either_way AreFree (found_sealed trace) (StageAction 0 ∷ (Leave holder ∷ [])) _ (refl, (refl, tt))
+    (refl, (refl, (refl, (refl, (refl, tt))))))
+adds_free (Create d kind) (NodeReply n) trace none = (refl, tt)
+adds_free (Create d kind) reply trace none = tt
+adds_free (Callback i) reply trace none = tt
+adds_free (Snapshot wait) reply trace none = tt
+adds_free op reply trace none = (refl, tt)
+
+-- a task with no number of its own has no event
+no_move : (c : Config) (op : Op) (earlier : List Traced) (e : Traced) (s : Next Phase) → IsNextMove c op [] earlier e s → ⊥
+no_move c op [] e (Go phase) h = h.2
+no_move c op (d ∷ ds) e (Go phase) h = h.2
+no_move c op [] e (Wait phase) h = h.2
+no_move c op (d ∷ ds) e (Wait phase) h = h.2
+no_move c op earlier e (Done answer) h = h
+
+-- the own number's actions after a whole operation: those that it has added, and the earlier ones
+acted : (c : Config) (op : Op) (trace : List Traced) (answer : Result Reply GateError) (l : SeatItems) (added : List Action) →
+    (course_of c (own_number l) op trace).comes ≡ Done answer → AreMoves c op l trace →
+    (course_of c (own_number l) op trace).added ≡ added →
+    (own_view (ran_items c op trace l)).actions ≡ added ++ (own_view l).actions
+acted c op [] answer [] added ends moves is = absurd (let f : ⊥ = cc in f)
+acted c op (e ∷ es) answer [] added ends moves is = absurd (no_move c op es e _ moves.0)
+acted c op trace answer (x ∷ xs) added ends moves is = ap (λ l. l ++ x.view.actions) is
+
+same_own : (c : Config) (op : Op) (trace : List Traced) (l : SeatItems) → own_number (ran_items c op trace l) ≡ own_number l
+same_own c op trace [] = refl
+same_own c op trace (x ∷ xs) = refl
+
+-- A whole call has added its actions to the task's list.
+module _ (op : Op) (old left : TaskState) (answer : Result Reply GateError) (k : Called op old left answer) where
+  pub adds : own_actions left ≡ actions_of op answer k.trace ++ own_actions old
+  adds = ap (λ (s : TaskState). own_actions s) k.after ∙ acted old.config op k.trace answer old.items _ k.ends k.moves k.added
+
+  -- its task stays, and is idle
+  pub stays : (left.table ≡ old.table) × (left.config ≡ old.config) × (own_number left.items ≡ own_number old.items) × IsIdle left
+  stays = (
+    ap (λ (s : TaskState). s.table) k.after,
+    ap (λ (s : TaskState). s.config) k.after,
+    ap (λ (s : TaskState). own_number s.items) k.after ∙ same_own old.config op k.trace old.items,
+    ap (λ (s : TaskState). s.phase) k.after,
+  )
+
+-- one that is refused leaves a task as it was
+refused_keeps : (op : Op) (old left : TaskState) (refusal : GateError) → Called op old left (Err refusal) → IsAsBefore old left
+refused_keeps op old left refusal k =
+    let there = stays op old left (Err refusal) k in record {
+      table = there.0;
+      config = there.1;
+      own = there.2;
+      idle = there.3;
+      mounts = λ m. ap (λ f. f m) k.unchanged.mounts;
+      levels = λ i. ap (λ f. f i) k.unchanged.levels;
+      files = λ n. ap (λ f. f n) k.unchanged.files;
+    }
+
+-- and so does one that takes nothing
+called_keeps : (op : Op) (old left : TaskState) (answer : Result Reply GateError) → takes_nothing op ≡ true →
+    Called op old left answer → IsAsBefore old left
+called_keeps op old left (Ok reply) none k =
+    let there = stays op old left (Ok reply) k in
+    let list = adds op old left (Ok reply) k in
+    let held = leave_held (actions_of op (Ok reply) k.trace) (own_actions old) (adds_free op reply k.trace none) in record {
+      table = there.0;
+      config = there.1;
+      own = there.2;
+      idle = there.3;
+      mounts = λ m. ap (λ l. mounts_of l m) list ∙ ap (λ f. f m) held.0;
+      levels = λ i. ap (λ l. levels_of l i) list ∙ ap (λ f. f i) held.1;
+      files = λ n. ap (λ l. opens_of l n) list ∙ ap (λ f. f n) held.2;
+    }
+called_keeps op old left (Err refusal) none k = refused_keeps op old left refusal k
+
+-- a task that is idle is as it was
+pub unchanged : (s : TaskState) → IsIdle s → IsAsBefore s s
+unchanged s idle =
+    record { table = refl; config = refl; own = refl; idle = idle; mounts = λ m. refl; levels = λ i. refl; files = λ n. refl }
+
+module _ {A : Type 0} (read : Reply → A) (op : Op) (old left : TaskState) (outcome : Result A GateError) (idle : IsIdle old)
+    (call : Replies read op old left outcome) where
+  -- whether its beginning is refused or not
+  by_beginning : ((answer : Result Reply GateError) → outcome ≡ told_as read answer → Called op old left answer → IsAsBefore old left) →
+      (o : Option GateError) → refusal_at op old ≡ o → IsAsBefore old left
+  by_beginning done None at = let whole = call.done at in done whole.0 whole.1 whole.2
+  by_beginning done (Some refusal) at =
+      let same : left ≡ old = (call.refused refusal at).1 in subst (IsAsBefore old) (sym same) (unchanged old idle)
+
+  -- a call that takes nothing leaves a task as it was, whatever it answers
+  pub keeps : takes_nothing op ≡ true → IsAsBefore old left
+  keeps none = by_beginning (λ answer told k. called_keeps op old left answer none k) (refusal_at op old) refl
+
+-- a call that tells a refusal was refused
+refused_answer : {A : Type 0} (read : Reply → A) (op : Op) (old left : TaskState) (refusal : GateError) (answer : Result Reply GateError) →
+    Err refusal ≡ told_as read answer → Called op old left answer → IsAsBefore old left
+refused_answer read op old left refusal (Ok reply) told k = absurd (let f : ⊥ = cc in f)
+refused_answer read op old left refusal (Err cause) told k = refused_keeps op old left cause k
+
+-- and leaves a task as it was
+pub refused_call_keeps : {A : Type 0} (read : Reply → A) (op : Op) (old left : TaskState) (refusal : GateError) → IsIdle old →
+    Replies read op old left (Err refusal) → IsAsBefore old left
+refused_call_keeps read op old left refusal idle call =
+    by_beginning read op old left (Err refusal) idle call (λ answer told k. refused_answer read op old left refusal answer told k)
+    (refusal_at op old) refl
+
+-- who is as before holds nothing where it held nothing
+pub rests_on : (before after : TaskState) → Rests before → IsAsBefore before after → Rests after
+rests_on before after rests same = (
+  same.idle,
+  (
+    (λ m lt. same.mounts m ∙ rests.1.0 m (subst (λ c. m < c.mounts) same.config lt)),
+    (λ i one three. same.levels i ∙ rests.1.1 i one three),
+    (λ n. same.files n ∙ rests.1.2 n),
+  ),
+)
+
+-- and as before twice is as before
+pub as_before_twice : (first second third : TaskState) → IsAsBefore first second → IsAsBefore second third → IsAsBefore first third
+as_before_twice first second third a b = record {
+  table = b.table ∙ a.table;
+  config = b.config ∙ a.config;
+  own = b.own ∙ a.own;
+  idle = b.idle;
+  mounts = λ m. b.mounts m ∙ a.mounts m;
+  levels = λ i. b.levels i ∙ a.levels i;
+  files = λ n. b.files n ∙ a.files n;
+}

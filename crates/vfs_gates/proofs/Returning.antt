@@ -1,0 +1,203 @@
+-- What a return leaves of a task whose access was granted before.
+use Rattle.std.proofs.Common.{◌≡◌, ℕ, ◌+◌, ◌-◌, ◌<◌, Bool, true, false, List, ◌∷◌, refl, sym, ap, ◌∙◌, subst, arith, inl, inr, lt-ltb}
+use Rattle.std.specs.Prelude.{Option, Some, None, Result, Ok, Err, is_some, nat_lt, not}
+use Rattle.std.proofs.lemmas.Bool.{and_parts, ltb-true, not-true}
+use Rattle.std.proofs.lemmas.Bool.Decides.{eqb_tells}
+use Rattle.finite_sums.specs.Sums.{update}
+use Rattle.finite_sums.proofs.Totals.{update_at, update_off}
+use Rattle.access_model.specs.declared.actions.Action.TheVariants.{Grant, Return}
+use Rattle.access_model.specs.declared.actions.Gate.TheVariants.{Mount, Level}
+use Rattle.access_model.specs.declared.errors.GateError.{GateError}
+use Rattle.access_model.specs.declared.replies.Reply.{Reply}
+use Rattle.access_model.specs.Histories.{mounts_of, levels_of, opens_of}
+use Rattle.gate_world.specs.declared.config.Config.{Config}
+use Rattle.gate_world.specs.declared.operations.Op.{Op}
+use Rattle.gate_world.specs.declared.operations.Op.TheVariants.{Want, DropMount, WantWrite, DropWrite}
+use Rattle.gate_world.specs.declared.views.Traced.{Traced}
+use Rattle.gate_world.specs.Traces.{IsHonestAnswer}
+use Rattle.gate_world.specs.Views.{held_at, holds_level, has_open}
+use Rattle.call_events.proofs.Beginnings.{may_begin, MayBegin}
+use Rattle.call_events.specs.Runs.{told_as, unit_of, Called, Performs}
+use Rattle.vfs_gates.specs.TaskStates.{TaskState, own_view, refusal_at, IsIdle}
+use Rattle.vfs_gates.specs.Held.{own_actions, IsAsBefore, IsGivenBack}
+use Rattle.vfs_gates.proofs.Holding.{adds, stays, unchanged}
+
+-- a call that was done began, and was one whole operation that replied
+pub record WasDone (op : Op) (old left : TaskState) : Type 0 where
+  pub began : refusal_at op old ≡ None
+  pub reply : Reply
+  pub called : Called op old left (Ok reply)
+
+replied : (op : Op) (old left : TaskState) → refusal_at op old ≡ None → (answer : Result Reply GateError) →
+    ◌≡◌ {A = Result (Unit {0}) GateError} (Ok tt) (told_as unit_of answer) → Called op old left answer → WasDone op old left
+replied op old left began (Ok reply) told k = record { began = began; reply = reply; called = k }
+replied op old left began (Err refusal) told k = absurd (let f : ⊥ = cc in f)
+
+done_by_beginning : (op : Op) (old left : TaskState) → Performs op old left (Ok tt) → (o : Option GateError) → refusal_at op old ≡ o →
+    WasDone op old left
+done_by_beginning op old left call None at = let done = call.done at in replied op old left at done.0 done.1 done.2
+done_by_beginning op old left call (Some refusal) at =
+    let is : ◌≡◌ {A = Result (Unit {0}) GateError} (Ok tt) (Err refusal) = (call.refused refusal at).0 in absurd cc
+
+pub was_done : (op : Op) (old left : TaskState) → Performs op old left (Ok tt) → WasDone op old left
+was_done op old left call = done_by_beginning op old left call (refusal_at op old) refl
+
+-- so its task may begin it
+may : (op : Op) (old left : TaskState) → WasDone op old left → MayBegin old.config (is_some old.phase) (held_at (own_view old.items))
+    (holds_level (own_view old.items)) (has_open (own_view old.items)) op
+may op old left was =
+    may_begin old.config (is_some old.phase) (held_at (own_view old.items)) (holds_level (own_view old.items)) (has_open (own_view old.items)) op
+    was.began
+
+-- and is idle after it
+pub done_idle : (op : Op) (old left : TaskState) → Performs op old left (Ok tt) → IsIdle left
+done_idle op old left call = let was = was_done op old left call in (stays op old left (Ok was.reply) was.called).3
+
+-- an operation that is never refused once it has begun
+abbrev NeverRefused : Op → Type 0
+NeverRefused op = (c : Config) (refusal : GateError) (trace : List Traced) → IsHonestAnswer c op (Err refusal) trace → ⊥
+
+-- a call of one that begins was done
+never : (op : Op) (old left : TaskState) → NeverRefused op → refusal_at op old ≡ None → (answer : Result Reply GateError)
+    (outcome : Result (Unit {0}) GateError) → outcome ≡ told_as unit_of answer → Called op old left answer →
+    (outcome ≡ Ok tt) × WasDone op old left
+never op old left unrefused began (Ok reply) outcome told k = (told, record { began = began; reply = reply; called = k })
+never op old left unrefused began (Err refusal) outcome told k = absurd (unrefused old.config refusal k.trace k.honest)
+
+-- one access more, and then one less, with others in between that leave their number
+one_more_less : (f g : ℕ → ℕ) (m y : ℕ) → ((k : ℕ) → g k ≡ update f m (f m + 1) k) → update g m (g m - 1) y ≡ f y
+one_more_less f g m y same =
+    elim (eqb_tells y m) [
+      | inl e ↦
+          let one : g m ≡ f m + 1 = same m ∙ update_at f m (f m + 1) in
+          let back : g m - 1 ≡ f m = omega (arith, one) in
+          subst (λ z. update g m (g m - 1) z ≡ f z) (sym e.1) (update_at g m _ ∙ back)
+      | inr e ↦ update_off g m _ y e.1 ∙ (same y ∙ update_off f m _ y e.1)
+    ]
+
+-- gone inside a level that it was not inside, and left it again
+in_and_out : (f g : ℕ → Bool) (i y : ℕ) → f i ≡ false → ((k : ℕ) → g k ≡ update f i true k) → update g i false y ≡ f y
+in_and_out f g i y out same =
+    elim (eqb_tells y i) [
+      | inl e ↦ subst (λ z. update g i false z ≡ f z) (sym e.1) (update_at g i false ∙ sym out)
+      | inr e ↦ update_off g i false y e.1 ∙ (same y ∙ update_off f i true y e.1)
+    ]
+
+-- A want that was granted, other calls that left the task as it was, and a drop.
+module _ (m p q : ℕ) (wait : Bool) (old there mid left : TaskState) (outcome : Result (Unit {0}) GateError)
+    (cpu : q < old.config.processors) (took : Performs (Want m p wait) old there (Ok tt)) (between : IsAsBefore there mid)
+    (gives : Performs (DropMount m q) mid left outcome) where
+  wanted : WasDone (Want m p wait) old there
+  wanted = was_done (Want m p wait) old there took
+
+  want_adds : own_actions there ≡ Grant (Mount m) ∷ own_actions old
+  want_adds = adds (Want m p wait) old there (Ok wanted.reply) wanted.called
+
+  mounts_then : (k : ℕ) → mounts_of (own_actions mid) k ≡ update (mounts_of (own_actions old)) m (mounts_of (own_actions old) m + 1) k
+  mounts_then k = between.mounts k ∙ ap (λ l. mounts_of l k) want_adds
+
+  drop_begins : refusal_at (DropMount m q) mid ≡ None
+  drop_begins =
+      let config : mid.config ≡ old.config = between.config ∙ took.config in
+      let range = and_parts (nat_lt m old.config.mounts) (nat_lt p old.config.processors) (may (Want m p wait) old there wanted).range in
+      let one : mounts_of (own_actions mid) m ≡ mounts_of (own_actions old) m + 1 = mounts_then m ∙ update_at (mounts_of (own_actions old)) m _ in
+      let some : 0 < mounts_of (own_actions mid) m = omega (arith, one) in
+      rw (between.idle, config, range.0, lt-ltb q old.config.processors cpu, lt-ltb 0 _ some) refl
+
+  drop : (outcome ≡ Ok tt) × WasDone (DropMount m q) mid left
+  drop = let done = gives.done drop_begins in never (DropMount m q) mid left (λ c refusal trace h. h) drop_begins done.0 outcome done.1 done.2
+
+  drop_adds : own_actions left ≡ Return (Mount m) ∷ own_actions mid
+  drop_adds = adds (DropMount m q) mid left (Ok drop.1.reply) drop.1.called
+
+  pub drop_restores : (outcome ≡ Ok tt) × IsAsBefore old left
+  drop_restores =
+      let here = stays (DropMount m q) mid left (Ok drop.1.reply) drop.1.called in
+      let first = stays (Want m p wait) old there (Ok wanted.reply) wanted.called in (
+        drop.0,
+        record {
+          table = here.0 ∙ (between.table ∙ first.0);
+          config = here.1 ∙ (between.config ∙ first.1);
+          own = here.2 ∙ (between.own ∙ first.2);
+          idle = here.3;
+          mounts = λ k. ap (λ l. mounts_of l k) drop_adds ∙
+              one_more_less (mounts_of (own_actions old)) (mounts_of (own_actions mid)) m k mounts_then;
+          levels = λ i. ap (λ l. levels_of l i) drop_adds ∙ (between.levels i ∙ ap (λ l. levels_of l i) want_adds);
+          files = λ n. ap (λ l. opens_of l n) drop_adds ∙ (between.files n ∙ ap (λ l. opens_of l n) want_adds);
+        },
+      )
+
+-- a want that was granted, and the drop right after it
+pub dropped : (m p q : ℕ) (wait : Bool) (old there left : TaskState) (outcome : Result (Unit {0}) GateError) → q < old.config.processors →
+    Performs (Want m p wait) old there (Ok tt) → Performs (DropMount m q) there left outcome → IsGivenBack (Mount m) old left outcome
+dropped m p q wait old there left outcome cpu took gives =
+    let same = unchanged there (done_idle (Want m p wait) old there took) in
+    let restored = drop_restores m p q wait old there there left outcome cpu took same gives in record {
+      done = restored.0;
+      list = drop_adds m p q wait old there there left outcome cpu took same gives ∙
+          ap (λ l. Return (Mount m) ∷ l) (want_adds m p q wait old there there left outcome cpu took same gives);
+      as_before = restored.1;
+    }
+
+-- Write access that was granted, other calls that left the task as it was, and its return.
+module _ (m p q : ℕ) (old there mid left : TaskState) (outcome : Result (Unit {0}) GateError) (cpu : q < old.config.processors)
+    (took : Performs (WantWrite m p) old there (Ok tt)) (between : IsAsBefore there mid) (gives : Performs (DropWrite m q) mid left outcome)
+  where
+    written : WasDone (WantWrite m p) old there
+    written = was_done (WantWrite m p) old there took
+
+    write_adds : own_actions there ≡ Grant (Mount m) ∷ (Grant (Level 1) ∷ own_actions old)
+    write_adds = adds (WantWrite m p) old there (Ok written.reply) written.called
+
+    outside : levels_of (own_actions old) 1 ≡ false
+    outside = not-true _ (and_parts (not (levels_of (own_actions old) 1)) _ (may (WantWrite m p) old there written).order).0
+
+    held_then : (k : ℕ) → mounts_of (own_actions mid) k ≡ update (mounts_of (own_actions old)) m (mounts_of (own_actions old) m + 1) k
+    held_then k = between.mounts k ∙ ap (λ l. mounts_of l k) write_adds
+
+    inside_then : (k : ℕ) → levels_of (own_actions mid) k ≡ update (levels_of (own_actions old)) 1 true k
+    inside_then k = between.levels k ∙ ap (λ l. levels_of l k) write_adds
+
+    return_begins : refusal_at (DropWrite m q) mid ≡ None
+    return_begins =
+        let config : mid.config ≡ old.config = between.config ∙ took.config in
+        let range = and_parts (nat_lt m old.config.mounts) (nat_lt p old.config.processors) (may (WantWrite m p) old there written).range in
+        let one : mounts_of (own_actions mid) m ≡ mounts_of (own_actions old) m + 1 = held_then m ∙ update_at (mounts_of (own_actions old)) m _ in
+        let some : 0 < mounts_of (own_actions mid) m = omega (arith, one) in
+        let inside : levels_of (own_actions mid) 1 ≡ true = inside_then 1 ∙ update_at (levels_of (own_actions old)) 1 true in
+        rw (between.idle, config, range.0, lt-ltb q old.config.processors cpu, inside, lt-ltb 0 _ some) refl
+
+    return : (outcome ≡ Ok tt) × WasDone (DropWrite m q) mid left
+    return =
+        let done = gives.done return_begins in
+        never (DropWrite m q) mid left (λ c refusal trace h. h) return_begins done.0 outcome done.1 done.2
+
+    return_adds : own_actions left ≡ Return (Level 1) ∷ (Return (Mount m) ∷ own_actions mid)
+    return_adds = adds (DropWrite m q) mid left (Ok return.1.reply) return.1.called
+
+    pub return_restores : (outcome ≡ Ok tt) × IsAsBefore old left
+    return_restores =
+        let here = stays (DropWrite m q) mid left (Ok return.1.reply) return.1.called in
+        let first = stays (WantWrite m p) old there (Ok written.reply) written.called in (
+          return.0,
+          record {
+            table = here.0 ∙ (between.table ∙ first.0);
+            config = here.1 ∙ (between.config ∙ first.1);
+            own = here.2 ∙ (between.own ∙ first.2);
+            idle = here.3;
+            mounts = λ k. ap (λ l. mounts_of l k) return_adds ∙
+                one_more_less (mounts_of (own_actions old)) (mounts_of (own_actions mid)) m k held_then;
+            levels = λ i. ap (λ l. levels_of l i) return_adds ∙
+                in_and_out (levels_of (own_actions old)) (levels_of (own_actions mid)) 1 i outside inside_then;
+            files = λ n. ap (λ l. opens_of l n) return_adds ∙ (between.files n ∙ ap (λ l. opens_of l n) write_adds);
+          },
+        )
+
+-- Write access that was granted, other calls that left the task as it was, and its return on the same processor.
+pub written_back : (m p : ℕ) (old there mid left : TaskState) (outcome : Result (Unit {0}) GateError) →
+    Performs (WantWrite m p) old there (Ok tt) → IsAsBefore there mid → Performs (DropWrite m p) mid left outcome →
+    (outcome ≡ Ok tt) × IsAsBefore old left
+written_back m p old there mid left outcome took between gives =
+    let began = may (WantWrite m p) old there (was_done (WantWrite m p) old there took) in
+    let range = and_parts (nat_lt m old.config.mounts) (nat_lt p old.config.processors) began.range in
+    return_restores m p p old there mid left outcome (ltb-true p old.config.processors range.1) took between gives

@@ -1,0 +1,15 @@
+-- Each callback so far ran, and an idle task is as it was.
+use Rattle.std.proofs.Common.{ℕ}
+use Rattle.vfs_gates.specs.TaskStates.{IsFrom, IsIdle}
+use Rattle.vfs_gates.specs.Held.{IsAsBefore}
+use Rattle.vfs_gates.specs.Settled.{CallsBack}
+use Rattle.vfs_gates.proofs.task.Task.settle_level.Given as goal
+
+abbrev pub invariant-loop : goal.invariant-loop
+invariant-loop g l = record {
+  next : (goal.iterator-loop g).can_next l.iterator';
+  finite : (goal.iterator-loop g).is_finite l.iterator';
+  from : IsFrom l.self l.gates;
+  ran : (times : ℕ) × CallsBack l.level times l.fn.self l.self;
+  as_before : IsIdle l.fn.self → IsAsBefore l.fn.self l.self;
+}

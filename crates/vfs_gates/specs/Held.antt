@@ -1,0 +1,46 @@
+-- What a task holds between two calls, and what whole calls leave of it.
+use Rattle.std.specs.Prelude.{◌≡◌, ℕ, Bool, true, false, Result, Ok, List, ◌∷◌}
+use Rattle.access_model.specs.declared.actions.Action.{Action}
+use Rattle.access_model.specs.declared.actions.Action.TheVariants.{Grant, Return}
+use Rattle.access_model.specs.declared.actions.Gate.{Gate}
+use Rattle.access_model.specs.declared.errors.GateError.{GateError}
+use Rattle.gate_world.specs.declared.operations.Op.{Op}
+use Rattle.gate_world.specs.declared.operations.Op.TheVariants.{Want, DropMount, Start, End, WantWrite, DropWrite, Open, Close}
+use Rattle.gate_world.specs.Views.{held_at, holds_level, has_open}
+use Rattle.vfs_gates.specs.TaskStates.{TaskState, own_number, own_view, IsIdle, HoldsNothing}
+
+-- no operation is under way, and nothing is held
+abbrev pub Rests : TaskState → Type 0
+Rests s = IsIdle s × HoldsNothing s
+
+-- the actions of a task's own number, the newest first
+abbrev pub own_actions : TaskState → List Action
+own_actions s = (own_view s.items).actions
+
+-- A task that is between two calls as it was: it came from the same gates, has its own number, and holds what it held.
+pub record IsAsBefore (before after : TaskState) : Type 0 where
+  pub table : after.table ≡ before.table
+  pub config : after.config ≡ before.config
+  pub own : own_number after.items ≡ own_number before.items
+  pub idle : IsIdle after
+  pub mounts : (m : ℕ) → held_at (own_view after.items) m ≡ held_at (own_view before.items) m
+  pub levels : (i : ℕ) → holds_level (own_view after.items) i ≡ holds_level (own_view before.items) i
+  pub files : (n : ℕ) → has_open (own_view after.items) n ≡ has_open (own_view before.items) n
+
+-- an operation that takes no access and gives none back, and neither opens nor closes a file
+abbrev pub takes_nothing : Op → Bool
+takes_nothing (Want m p wait) = false
+takes_nothing (DropMount m p) = false
+takes_nothing (Start i p wait) = false
+takes_nothing (End i p) = false
+takes_nothing (WantWrite m p) = false
+takes_nothing (DropWrite m p) = false
+takes_nothing (Open file) = false
+takes_nothing (Close file p wait) = false
+takes_nothing op = true
+
+-- A return that was not refused, of an access that was granted just before: both stand in the task's list, and it is as it was.
+pub record IsGivenBack (gate : Gate) (before after : TaskState) (outcome : Result (Unit {0}) GateError) : Type 0 where
+  pub done : outcome ≡ Ok tt
+  pub list : own_actions after ≡ Return gate ∷ (Grant gate ∷ own_actions before)
+  pub as_before : IsAsBefore before after
