@@ -3,4 +3,4 @@
 
 pub mod words;
 
-pub use words::{Asked, Form, Numbers, Replay, read_words};
+pub use words::{Asked, Form, Numbers, Outcomes, Replay, Schedules, read_words};

@@ -6,6 +6,7 @@ ghost use Rattle.endings.specs.declared.ends.Ending.TheVariants.{Done, Ran, Refu
 
 use crate::checks::run_checks;
 use crate::gates_driver::GatesDriver;
+use crate::outcomes::run_outcomes;
 use crate::replay::{Telling, replay_core, replay_gates, show_told};
 use crate::runs;
 use crate::runs::Progress;
@@ -54,6 +55,7 @@ pub(crate) fn run<
     match read_words(alloc, words, errors)? {
         Asked::Replay(asked) => Ok(run_replay(rt, alloc, asked, reader, writer, errors, &person)),
         Asked::Check(files) => run_checks(rt, alloc, files.as_slice(), reader, writer, errors),
+        Asked::Outcomes(asked) => run_outcomes(rt, alloc, asked, reader, writer, errors),
         Asked::Run(numbers) => Ok(run_threads(rt, alloc, numbers, writer, errors, person.watches)),
         Asked::Told(text) => Ok(text_told(text.as_str(), writer, errors)),
         Asked::Unread => Ok(Ending::Refused),
