@@ -12,7 +12,7 @@ use transcripts::{Core, Session};
 const EXPECTED: &[u8] = b"#>";
 
 /// How many states a race may have here.
-const STATES: usize = 1_000_000;
+const STATES: usize = 100_000;
 
 /// How a schedule compares.
 #[derive(Drop)]

@@ -6,5 +6,5 @@ pub mod schedules;
 pub mod telling;
 pub mod texts;
 
-pub use listing::{Outcome, list};
+pub use listing::{Listing, Outcome, list};
 pub use telling::{Details, Schedules, tell, tell_briefly};
