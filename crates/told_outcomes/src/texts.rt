@@ -1,8 +1,8 @@
 //! The text of an outcome.
 
-ghost use Rattle.std.specs.Prelude.{◌≡◌, ◌++◌, [], Some, Ok, IfOk, OnOk, slice_index_or};
+ghost use Rattle.std.specs.Prelude.{◌≡◌, ◌++◌, [], Some, Ok, IfOk, OnOk, slice_get, slice_index_or};
 ghost use Rattle.races.specs.Races.{call_in};
-ghost use Rattle.told_outcomes.specs.Texts.{told_answer, course_text, outcome_text};
+ghost use Rattle.told_outcomes.specs.Texts.{told_answer, course_text, task_part, outcome_text};
 
 use access_model::{GateError, Reply};
 use races::{Call, Course, Race};
@@ -17,12 +17,27 @@ pub fn outcome_text(alloc: Global, race: &Race, courses: &[Course]) -> Result<Ve
 {
     let mut out = Output::with_room(alloc, 0)?;
     for task in 0..race.tasks {
-        if let Some(course) = courses.get(task as usize) {
-            print_course(&mut out, race, task, *course)?;
-        }
+        print_task(&mut out, race, courses, task)?;
     }
     let text = out.bytes.as_slice();
     Vec::from_slice(alloc, &text[2.min(text.len())..])
+}
+
+/// Prints what is told of a task.
+fn print_task(out: &mut Output, race: &Race, courses: &[Course], task: u8) -> Result<(), AllocError>
+    ensures { OnOk result (out.new.bytes.items ≡ out.old.bytes.items ++ task_part race.now.calls.items courses.now task) }
+{
+    match course_of(courses, task) {
+        None => Ok(()),
+        Some(course) => print_course(out, race, task, course),
+    }
+}
+
+/// The course of a task, where there is one.
+fn course_of(courses: &[Course], task: u8) -> Option<Course>
+    ensures { result ≡ slice_get courses.now task }
+{
+    courses.get(task as usize).copied()
 }
 
 /// Prints the answers of a task, each behind `; `, and that it waits, where it has calls left.
