@@ -1,5 +1,3 @@
-use Rattle.std.proofs.Common.{◌≡◌, ◌++◌, ℕ, List}
-use Rattle.std.specs.List.{flat_map}
 use Rattle.told_outcomes.specs.Told.{TellsDetails}
 use Rattle.told_outcomes.proofs.telling.indent.Given as goal
 

@@ -1,4 +1,4 @@
-use Rattle.std.proofs.Common.{◌≡◌, ◌<◌, ◌≤◌, arith, subst, length, List}
+use Rattle.std.proofs.Common.{◌<◌, ◌≤◌, arith, subst, length, List}
 use Rattle.indexmap.specs.IndexSet.{index_set_len}
 use Rattle.told_outcomes.specs.declared.listing.Outcome.{Outcome}
 use Rattle.told_outcomes.proofs.Parts.{ToldSoFar, none_told, one_told, tells}
