@@ -4,7 +4,7 @@ use crate::tests::exits::ends;
 use std::fs;
 use std::test::Fail;
 
-/// A remount that meets a task that holds an access, and a start that waits for it no longer than it is asked to.
+/// A remount, and a return of what is not held.
 const RACE: &str = "config 2 1 1 2 8\nrace\n0 remount ro\n1 drop 0 0\n";
 
 #[test]
