@@ -3,4 +3,4 @@
 
 pub mod words;
 
-pub use words::{Asked, Form, Numbers, Replay, Tells, read_words};
+pub use words::{Asked, Form, Numbers, Outcomes, Replay, Schedules, Tells, read_words};

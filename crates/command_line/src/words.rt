@@ -35,6 +35,16 @@ const EXPLAIN: &str = "explain";
 /// The flag of a run that tells what its tasks met.
 const DETAILS: &str = "details";
 
+/// The flags of what is told of the outcomes of a race.
+const SCHEDULES: &str = "schedules";
+
+const MODEL: &str = "model";
+
+const LIMIT: &str = "limit";
+
+/// How many states a race may have, where nothing else is asked for.
+const STATES: u32 = 1_000_000;
+
 /// The numbers of a run.
 #[derive(Clone, Copy, PartialEq, Eq, Debug)]
 pub struct Numbers {
@@ -76,6 +86,28 @@ pub struct Replay<'a> {
     pub explain: bool,
 }
 
+/// In which form a schedule of each outcome is told, if it is.
+#[derive(Clone, Copy, PartialEq, Eq, Debug)]
+pub enum Schedules {
+    Untold,
+    /// In lines that a replay takes.
+    Lines,
+    /// In a column for each task.
+    Columns,
+}
+
+/// How the outcomes of a race are told.
+#[derive(Clone, Copy, PartialEq, Eq, Debug)]
+pub struct Outcomes<'a> {
+    /// The file that has it; standard input, where none is named.
+    pub file: Option<&'a str>,
+    pub schedules: Schedules,
+    /// Whether the model is told.
+    pub model: bool,
+    /// How many states it may have.
+    pub limit: u32,
+}
+
 /// What the words of a command line ask for.
 #[derive(PartialEq, Debug, Drop)]
 pub enum Asked<'a> {
@@ -84,6 +116,8 @@ pub enum Asked<'a> {
     /// To replay the schedules of these files, and to compare what they print with what they say of it; that of standard input, where none
     /// is named.
     Check(Vec<&'a str>),
+    /// All outcomes of a race.
+    Outcomes(Outcomes<'a>),
     /// A run in threads.
     Run(Numbers, Tells),
     /// Help or the version, which is this text.
@@ -126,6 +160,9 @@ fn request_of<'a, E: Write>(
     }
     if let Some(check) = matches.subcommand_matches("check") {
         return Ok(Asked::Check(files_of(alloc, check)?));
+    }
+    if let Some(outcomes) = matches.subcommand_matches("outcomes") {
+        return Ok(Asked::Outcomes(outcomes_of(outcomes)));
     }
     let asked = match matches.subcommand_matches("run") {
         Some(run) => run_asked(run),
@@ -206,6 +243,23 @@ fn is_on(matches: &ArgMatches<'_>, name: &str) -> bool
     matches.get_flag(name)
 }
 
+/// How outcomes are to be told.
+fn outcomes_of<'a>(outcomes: &ArgMatches<'a>) -> Outcomes<'a> {
+    let schedules = if outcomes.get_flag(COLUMNS) {
+        Schedules::Columns
+    } else if outcomes.get_flag(SCHEDULES) {
+        Schedules::Lines
+    } else {
+        Schedules::Untold
+    };
+    Outcomes {
+        file: outcomes.get_str(FILE),
+        schedules,
+        model: outcomes.get_flag(MODEL),
+        limit: outcomes.get_one(LIMIT).unwrap_or(STATES),
+    }
+}
+
 /// The files that are named.
 fn files_of<'a>(alloc: Global, check: &ArgMatches<'a>) -> Result<Vec<&'a str>, AllocError> {
     let mut files = Vec::new(alloc);
@@ -269,8 +323,31 @@ fn check_command<'a>(alloc: Global) -> Result<Command<'a>, AllocError>
         .num_args(1..)
         .help("Their files; standard input, where none is named");
     Command::new(alloc, "check")
-        .about("Replays schedules, and compares what they print with their lines '#> TEXT'")
+        .about(
+            "Replays schedules and lists outcomes of races, and compares what they print with their lines '#> TEXT'",
+        )
         .arg(files)
+}
+
+/// `outcomes`, with its file and its flags.
+fn outcomes_command<'a>(alloc: Global) -> Result<Command<'a>, AllocError> {
+    let columns = flag(alloc, COLUMNS, "Prints it in a column for each task");
+    let limit = Arg::new(alloc, LIMIT)
+        .long(LIMIT)
+        .value_name("STATES")
+        .value_parser(ValueParser::unsigned(1, u64::from(u32::MAX)))
+        .help("How many states it may have at most: 1000000, if not given");
+    Command::new(alloc, "outcomes")
+        .about("Prints all outcomes of a race: what its calls can answer, whatever their order")
+        .arg(Arg::new(alloc, FILE).help("Its file; standard input, where none is named"))?
+        .arg(flag(
+            alloc,
+            SCHEDULES,
+            "Prints a shortest schedule for each outcome",
+        ))?
+        .arg(columns.requires_arg(SCHEDULES)?)?
+        .arg(flag(alloc, MODEL, "Prints the model at the end of each schedule"))?
+        .arg(limit)
 }
 
 /// `run`, with its numbers.
@@ -324,6 +401,7 @@ fn command<'a>(alloc: Global) -> Result<Command<'a>, AllocError>
         .subcommand_required(true)
         .subcommand(replay_command(alloc)?)?
         .subcommand(check_command(alloc)?)?
+        .subcommand(outcomes_command(alloc)?)?
         .subcommand(run_command(alloc)?)
 }
 

@@ -1,7 +1,7 @@
 //! How the program ends, and what it tells of a fault.
 
 ghost use Rattle.std.specs.Prelude.{◌≡◌, ◌⊎◌};
-ghost use Rattle.endings.specs.declared.ends.Ending.TheVariants.{Done, DoneOfFile, DoneOverGates, Shown, Passed, Ran, Told, Refused, Misused};
+ghost use Rattle.endings.specs.declared.ends.Ending.TheVariants.{Done, DoneOfFile, DoneOverGates, Shown, Passed, Listed, Ran, Told, Refused, Misused};
 
 use access_model::GateError;
 use schedule_bytes::{ReplayFault, write_out};
@@ -21,11 +21,13 @@ pub enum Ending {
     Shown,
     /// Each schedule of a check prints what it says.
     Passed,
+    /// All outcomes of a race are told.
+    Listed,
     /// A run was done, and what it counted is written.
     Ran,
     /// Help or the version was asked for, and is written.
     Told,
-    /// A schedule or a run was refused, or could not be read or written, or there was no memory; or a check failed.
+    /// A schedule, a race or a run was refused, or could not be read or written, or there was no memory; or a check failed.
     Refused,
     /// The command line has a fault.
     Misused,
@@ -41,6 +43,7 @@ impl Ending {
         ensures done_over_gates { self ≡ DoneOverGates → result ≡ 0 }
         ensures shown { self ≡ Shown → result ≡ 0 }
         ensures passed { self ≡ Passed → result ≡ 0 }
+        ensures listed { self ≡ Listed → result ≡ 0 }
         ensures ran { self ≡ Ran → result ≡ 0 }
         ensures told { self ≡ Told → result ≡ 0 }
         ensures refused { self ≡ Refused → result ≡ 1 }
@@ -48,7 +51,7 @@ impl Ending {
     {
         match self {
             Ending::Done | Ending::DoneOfFile | Ending::DoneOverGates | Ending::Shown => 0,
-            Ending::Passed | Ending::Ran | Ending::Told => 0,
+            Ending::Passed | Ending::Listed | Ending::Ran | Ending::Told => 0,
             Ending::Refused => 1,
             Ending::Misused => 2,
         }

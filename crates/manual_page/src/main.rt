@@ -8,10 +8,11 @@ use std::alloc::Global;
 use std::fs;
 
 /// The command lines that ask for help.
-static HELPS: [&str; 4] = [
+static HELPS: [&str; 5] = [
     "mntgate --help",
     "mntgate help replay",
     "mntgate help check",
+    "mntgate help outcomes",
     "mntgate help run",
 ];
 

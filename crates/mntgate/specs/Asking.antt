@@ -8,7 +8,7 @@ use Rattle.command_line.specs.declared.words.Form.{Form}
 use Rattle.command_line.specs.declared.words.Form.TheVariants.{Plain}
 use Rattle.endings.specs.Endings.{of_file}
 use Rattle.endings.specs.declared.ends.Ending.{Ending}
-use Rattle.endings.specs.declared.ends.Ending.TheVariants.{Done, DoneOverGates, Shown, Passed, Ran, Told, Refused, Misused}
+use Rattle.endings.specs.declared.ends.Ending.TheVariants.{Done, DoneOverGates, Shown, Passed, Listed, Ran, Told, Refused, Misused}
 use Rattle.schedule_bytes.specs.declared.replay_faults.ReplayFault.{ReplayFault}
 use Rattle.transcripts.specs.Replayed.{Replayed}
 
@@ -27,7 +27,8 @@ done_of (Some file) ending = of_file ending
 abbrev pub MayEnd : Asked → Ending → Type 0
 MayEnd (ask.Replay r) ending = (ending ≡ done_of r.file (done_in r.form r.over_gates)) ⊎ (ending ≡ Refused)
 MayEnd (ask.Check files) ending = (ending ≡ Passed) ⊎ (ending ≡ Refused)
-MayEnd (ask.Run numbers) ending = (ending ≡ Ran) ⊎ (ending ≡ Refused)
+MayEnd (ask.Outcomes race) ending = (ending ≡ Listed) ⊎ (ending ≡ Refused)
+MayEnd (ask.Run numbers tells) ending = (ending ≡ Ran) ⊎ (ending ≡ Refused)
 MayEnd (ask.Told text) ending = (ending ≡ Told) ⊎ (ending ≡ Refused)
 MayEnd ask.Unread ending = ending ≡ Refused
 MayEnd ask.Misused ending = ending ≡ Misused

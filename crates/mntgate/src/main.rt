@@ -3,6 +3,7 @@
 
 mod checks;
 mod gates_driver;
+mod outcomes;
 mod program;
 mod replay;
 mod runs;

@@ -11,6 +11,7 @@ ghost use Rattle.transcripts.specs.Replayed.{Replayed};
 
 use crate::checks::run_checks;
 use crate::gates_driver::GatesDriver;
+use crate::outcomes::run_outcomes;
 use crate::replay::{Telling, replay_core, replay_gates, show_told};
 use crate::runs;
 use crate::runs::{AskedRun, Progress};
@@ -88,6 +89,7 @@ fn do_asked<R: Threads + Wait + Sync + Files + Alloc<A = Global>, I: Read, W: Wr
             Ok(run_replay(rt, alloc, replay, reader, writer, errors, &person))
         }
         Asked::Check(files) => run_checks(rt, alloc, files.as_slice(), reader, writer, errors),
+        Asked::Outcomes(asked) => run_outcomes(rt, alloc, asked, reader, writer, errors),
         Asked::Run(numbers, tells) => {
             let asked = AskedRun { numbers, tells };
             Ok(run_threads(rt, alloc, asked, writer, errors, person.watches))

@@ -3,6 +3,7 @@
 
 mod exits;
 mod growths;
+mod outcomes;
 mod random;
 
 use crate::gates_driver::GatesDriver;

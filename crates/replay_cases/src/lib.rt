@@ -10,6 +10,8 @@ pub mod fakes;
 mod freezes;
 mod levels;
 mod opens;
+#[cfg(test)]
+mod raced;
 pub mod reads_and_writes;
 mod remounts;
 pub mod rows;

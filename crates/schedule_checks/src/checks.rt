@@ -1,14 +1,18 @@
 //! What a schedule prints, compared with what it says of it.
 
-ghost use Rattle.std.specs.Prelude.{◌≤◌};
-
-use schedule_bytes::fault_after;
+use exploration::Stop;
+use race_files::{Lines, RaceFault, RaceFile, is_race};
+use schedule_bytes::ReplayFault;
 use schedule_text::{Fault, Front, LINES, Line, Output, Request, front_of, parse};
 use std::alloc::{AllocError, Global};
+use told_outcomes::tell_briefly;
 use transcripts::{Core, Session};
 
 /// Where a comment begins that says what is printed.
 const EXPECTED: &[u8] = b"#>";
+
+/// How many states a race may have here.
+const STATES: usize = 100_000;
 
 /// How a schedule compares.
 #[derive(Drop)]
@@ -19,7 +23,8 @@ pub struct Checked {
     pub told: Output,
 }
 
-/// Replays a schedule over the core, and compares what each command prints with the lines `#> TEXT` between it and the next command.
+/// Replays a schedule over the core, and compares what each command prints with the lines `#> TEXT` between it and the next command, and
+/// all outcomes of a race, where it ends with one, with those behind the line `race`.
 /// `name` is what each line that is told begins with: that of a file, a colon and a space; or nothing.
 pub fn check(alloc: Global, name: &str, schedule: &[u8]) -> Result<Checked, AllocError> {
     let mut comparison = Comparison {
@@ -56,25 +61,80 @@ struct Comparison<'a> {
 impl Comparison<'_> {
     /// Does all lines, or those up to a fault.
     fn do_lines(&mut self, schedule: &[u8]) -> Result<(), AllocError> {
-        let mut rest = schedule;
-        for done in 0..LINES {
-            let length = match front_of(rest) {
-                Front::Line(length) => length,
-                Front::TooLong => return self.end(done, Some(Fault::LineTooLong)),
-                Front::Part if !rest.is_empty() => return self.end(done, Some(Fault::CutOff)),
-                Front::Part if self.session.is_none() => {
-                    return self.end(done, Some(Fault::ConfigExpected));
+        let mut lines = Lines::new(schedule);
+        for _ in 0..=LINES {
+            let line = match lines.line() {
+                Ok(Some(line)) => line,
+                Ok(None) if self.session.is_none() => {
+                    return self.end(Some(lines.fault(Fault::ConfigExpected.into())));
                 }
-                Front::Part => return self.end(done, None),
+                Ok(None) => break,
+                Err(fault) => return self.end(Some(lines.fault(fault.into()))),
             };
-            let (line, behind) = rest.split_at(length);
-            if let Err(fault) = self.do_line(done.saturating_add(1), line)? {
-                return self.end(done, Some(fault));
+            match self.begins_race(line) {
+                Ok(true) => return self.do_race(&mut lines),
+                Ok(false) => {}
+                Err(fault) => return self.end(Some(lines.fault(fault.into()))),
             }
-            rest = behind.strip_prefix(b"\n").unwrap_or(behind);
+            if let Err(fault) = self.do_line(lines.number(), line)? {
+                return self.end(Some(lines.fault(fault.into())));
+            }
+            lines.take();
         }
-        let fault = (!rest.is_empty()).then_some(Fault::TooManyLines);
-        self.end(LINES, fault)
+        self.end(None)
+    }
+
+    /// Whether a line begins a race, once there is a configuration.
+    fn begins_race(&self, line: &[u8]) -> Result<bool, Fault> {
+        match self.session {
+            None => Ok(false),
+            Some(_) => is_race(line),
+        }
+    }
+
+    /// Reads a race from its line `race` on, and compares its outcomes with the lines that say them.
+    fn do_race(&mut self, lines: &mut Lines<'_>) -> Result<(), AllocError> {
+        self.tell_unexpected()?;
+        self.printed.clear();
+        self.compared = 0;
+        self.command = lines.number();
+        let (before, rest) = (self.command, lines.rest());
+        if let Err(fault) = self.list_outcomes(lines)? {
+            return self.end(Some(lines.fault(fault)));
+        }
+        let mut number = before;
+        for line in rest.split(|byte| *byte == b'\n') {
+            if let Some(text) = line.strip_prefix(EXPECTED) {
+                self.compare(number, text.strip_prefix(b" ").unwrap_or(text))?;
+            }
+            number = number.saturating_add(1);
+        }
+        self.end(None)
+    }
+
+    /// Prints all outcomes of a race.
+    fn list_outcomes(
+        &mut self,
+        lines: &mut Lines<'_>,
+    ) -> Result<Result<(), RaceFault>, AllocError> {
+        let Some(session) = &self.session else {
+            return Ok(Err(Fault::ConfigExpected.into()));
+        };
+        let RaceFile { core, calls } = match RaceFile::read(self.alloc, session, lines) {
+            Ok(file) => file,
+            Err(fault) => return Ok(Err(fault)),
+        };
+        match tell_briefly(self.alloc, &calls.race, core, STATES, &mut self.printed) {
+            Ok(()) => Ok(Ok(())),
+            Err(Stop::NoMemory) => Err(AllocError),
+            Err(Stop::TooMany) => {
+                self.checked.passed = false;
+                let name = self.name;
+                let text = format!(in self.alloc; "{name}more than {STATES} states\n")?;
+                self.checked.told.text(text.as_bytes())?;
+                Ok(Ok(()))
+            }
+        }
     }
 
     /// Does a line, or compares what it says.
@@ -167,14 +227,12 @@ impl Comparison<'_> {
         told.text(text)
     }
 
-    /// After so many lines, tells what was printed and not expected, and the fault.
-    fn end(&mut self, done: u32, fault: Option<Fault>) -> Result<(), AllocError>
-        requires { done ≤ 1048576 }
-    {
+    /// Tells what was printed and not expected, and the fault.
+    fn end(&mut self, fault: Option<ReplayFault>) -> Result<(), AllocError> {
         self.tell_unexpected()?;
         if let Some(fault) = fault {
             self.checked.passed = false;
-            let text = format!(in self.alloc; "{}{}\n", self.name, fault_after(done, fault))?;
+            let text = format!(in self.alloc; "{}{fault}\n", self.name)?;
             self.checked.told.text(text.as_bytes())?;
         }
         Ok(())

@@ -1,7 +1,7 @@
 //! How words, events, actions and replies are printed.
 
-ghost use Rattle.std.specs.Prelude.{◌≡◌, ◌++◌, codes, OnOk};
-ghost use Rattle.schedule_text.specs.Printing.{count_name, word_text, word_line, kind_text, event_text, event_line, gate_text, pair_text, held_text, holder_line, action_text, kind_name, reply_text, refusal_text, answer_line, refused_line, idle_line, waiting_line, model_line, read_only_mount_line, held_mount_line, held_level_line, open_file_line, node_line, numbered};
+ghost use Rattle.std.specs.Prelude.{◌≡◌, ◌++◌, codes, decimal, OnOk};
+ghost use Rattle.schedule_text.specs.Printing.{count_name, word_text, word_line, kind_text, event_text, event_line, gate_text, pair_text, held_text, holder_line, action_text, kind_name, reply_text, refusal_text, answer_text, answer_line, refused_line, idle_line, waiting_line, model_line, read_only_mount_line, held_mount_line, held_level_line, open_file_line, node_line, numbered};
 ghost use Rattle.access_model.specs.declared.actions.Action.TheVariants.{Create};
 
 use crate::output::Output;
@@ -170,7 +170,23 @@ impl Output {
         self.numbered(b" ", second)
     }
 
-    /// How an operation of a task ended, on a line of its own; `used` is the blocks charged then.
+    /// How an operation of a task ended; `used` is the blocks charged then.
+    pub fn answer(
+        &mut self,
+        task: u8,
+        answer: Result<Reply, GateError>,
+        used: u64,
+    ) -> Result<(), AllocError>
+        ensures { OnOk result (self.new.bytes.items ≡ self.old.bytes.items ++ (decimal task ++ answer_text answer used)) }
+    {
+        self.number(u64::from(task))?;
+        match answer {
+            Ok(reply) => self.reply(reply, used),
+            Err(refusal) => self.refusal(refusal),
+        }
+    }
+
+    /// The same on a line of its own.
     #[tactic(auto, unfolding(crate::specs::Printing::answer_line))]
     pub fn answer_line(
         &mut self,
@@ -180,11 +196,7 @@ impl Output {
     ) -> Result<(), AllocError>
         ensures { OnOk result (self.new.bytes.items ≡ self.old.bytes.items ++ answer_line task answer used) }
     {
-        self.number(u64::from(task))?;
-        match answer {
-            Ok(reply) => self.reply(reply, used)?,
-            Err(refusal) => self.refusal(refusal)?,
-        }
+        self.answer(task, answer, used)?;
         self.text(b"\n")
     }
 

@@ -38,6 +38,23 @@ impl<D: Driver> Show<D> {
         })
     }
 
+    /// Gates that were set up before, with no configuration to be read.
+    pub fn over(alloc: Global, form: Form, session: Session<D>) -> Result<Show<D>, AllocError> {
+        let mut show = Show::new(alloc, form)?;
+        show.begin(session)?;
+        Ok(show)
+    }
+
+    /// Begins to show these gates.
+    fn begin(&mut self, session: Session<D>) -> Result<(), AllocError> {
+        let tasks = session.tasks();
+        for _ in 0..tasks {
+            self.blocks.push(0)?;
+        }
+        self.session = Some(session);
+        self.printer.begin(tasks, &mut self.output)
+    }
+
     /// What was read from the line on that is to be done next; after a fault, from the faulty line on.
     pub fn rest(&self) -> &[u8] {
         self.input.pending()
@@ -135,15 +152,8 @@ impl<D: Driver> Show<D> {
         match line {
             Line::Skipped => Ok(()),
             Line::Config(config) => {
-                self.session = Some(Session::new(self.alloc, config)?);
-                for _ in 0..config.tasks {
-                    if self.blocks.push(0).is_err() {
-                        return Err(no_memory(AllocError));
-                    }
-                }
-                self.printer
-                    .begin(config.tasks, &mut self.output)
-                    .map_err(no_memory)
+                let session = Session::new(self.alloc, config)?;
+                self.begin(session).map_err(no_memory)
             }
             Line::Request(request) => self.do_request(number, request),
         }

@@ -78,6 +78,13 @@ impl<D: Driver> Session<D> {
         self.config.tasks
     }
 
+    /// The gates.
+    pub fn gates(&self) -> &D
+        ensures { (p : Play) → ShowsPlay D.shows self.now p → D.shows result.now p.config p.world }
+    {
+        &self.driver
+    }
+
     /// Does what is asked, and prints what it is to print.
     pub fn do_request(&mut self, request: Request, out: &mut Output) -> Result<(), Fault>
         ensures words { request ≡ WordsAsked → OnOk result (out.new.bytes.items ≡ out.old.bytes.items ++

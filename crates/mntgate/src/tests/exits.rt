@@ -24,7 +24,7 @@ fn words_of(alloc: Global, line: &str) -> Result<Vec<String>, AllocError> {
 
 /// That a command line over a schedule ends with this status, and that what it tells begins with this text; with none,
 /// where the text is empty. Gives what it printed.
-fn ends<R: Abort + Alloc<A = Global> + Threads + Wait + Clock + Sync + Files>(
+pub(super) fn ends<R: Abort + Alloc<A = Global> + Threads + Wait + Clock + Sync + Files>(
     rt: &R,
     line: &str,
     schedule: &str,

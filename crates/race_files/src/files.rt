@@ -1,0 +1,58 @@
+//! A whole file of a race.
+
+ghost use Rattle.std.specs.Prelude.{◌≡◌};
+
+use crate::calls::Calls;
+use crate::faults::RaceFault;
+use crate::lines::Lines;
+use crate::setting_up::set_up;
+use schedule_bytes::ReplayFault;
+use std::alloc::Global;
+use transcripts::{Core, Session, no_memory};
+
+/// A race that was read: the core, as it was set up, and what each of its tasks calls.
+#[derive(Drop)]
+pub struct RaceFile {
+    pub core: Core,
+    pub calls: Calls,
+    pub ghost tasks: { calls.race.tasks ≡ core.config.tasks },
+}
+
+impl RaceFile {
+    /// Takes the lines from `race` on, on gates that were set up.
+    pub fn read(
+        alloc: Global,
+        session: &Session<Core>,
+        lines: &mut Lines<'_>,
+    ) -> Result<RaceFile, RaceFault> {
+        let core = session.gates().twin().map_err(no_memory)?;
+        expect_idle(&core)?;
+        lines.take();
+        let calls = Calls::read(alloc, core.config().tasks, lines)?;
+        Ok(RaceFile { core, calls })
+    }
+}
+
+/// That no task is under way.
+fn expect_idle(core: &Core) -> Result<(), RaceFault> {
+    for task in 0..core.config().tasks {
+        if core.is_under_way(task) {
+            return Err(RaceFault::UnderWay);
+        }
+    }
+    Ok(())
+}
+
+/// Reads a race; its fault is the first.
+pub fn read_race(alloc: Global, bytes: &[u8]) -> Result<RaceFile, ReplayFault> {
+    let mut lines = Lines::new(bytes);
+    match read_lines(alloc, &mut lines) {
+        Ok(file) => Ok(file),
+        Err(fault) => Err(lines.fault(fault)),
+    }
+}
+
+fn read_lines(alloc: Global, lines: &mut Lines<'_>) -> Result<RaceFile, RaceFault> {
+    let session = set_up(alloc, lines)?;
+    RaceFile::read(alloc, &session, lines)
+}

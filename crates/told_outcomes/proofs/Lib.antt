@@ -1,0 +1,4 @@
+pub mod Mapped
+pub mod Complete
+pub mod Ordered
+pub mod Parts
