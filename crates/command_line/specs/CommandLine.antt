@@ -40,17 +40,31 @@ abbrev pub check_shape : Shape
 check_shape = command_of (codes "check") (
     record (new_rule (codes "FILE")) { range = Some (record { start_inclusive = 1; end_inclusive = usize_max }) } ∷ [])
 
+-- how many states a race may have: a number, which may be left out
+abbrev pub limit_rule : Rule
+limit_rule = record (new_rule (codes "limit")) {
+  long = Some (codes "limit");
+  value_names = 1;
+  parser = Some (Unsigned 1 4294967295);
+}
+
+-- `outcomes`
+abbrev pub outcomes_shape : Shape
+outcomes_shape = command_of (codes "outcomes") (
+    new_rule (codes "FILE") ∷ flag_rule (codes "schedules") ∷ flag_rule (codes "columns") ∷ flag_rule (codes "model")
+    ∷ limit_rule ∷ [])
+
 -- `run`
 abbrev pub run_shape : Shape
 run_shape = command_of (codes "run") (
     number_rule (codes "tasks") 3 64 ∷ number_rule (codes "cpus") 1 64 ∷ number_rule (codes "rounds") 1 10000
-    ∷ number_rule (codes "freezes") 0 1000 ∷ [])
+    ∷ number_rule (codes "freezes") 0 1000 ∷ flag_rule (codes "details") ∷ [])
 
 -- the command line: each command of the program
 abbrev pub mntgate_app : App
 mntgate_app = record {
   top = record (new_shape (codes "mntgate")) { is_leaf = false; has_version = true; subcommand_required = true };
-  subs = replay_shape ∷ check_shape ∷ run_shape ∷ [];
+  subs = replay_shape ∷ check_shape ∷ outcomes_shape ∷ run_shape ∷ [];
 }
 
 -- a command with no commands of its own

@@ -3,7 +3,7 @@
 ghost use Rattle.std.specs.Prelude.{◌≡◌, ◌⊎◌, true, false, Some, IfOk, map, codes, string_bytes};
 ghost use Rattle.clap.specs.Words.{app_of, found_of, kind_of, one_of, rows_of, rule_of, subcommand_rows_of};
 ghost use Rattle.clap.specs.declared.error.kind.ErrorKind.TheVariants.{OutOfMemory};
-ghost use Rattle.command_line.specs.CommandLine.{AreBare, IsBareReplay, IsPlainOfInput, MayAskPlainly, alone, are_plain, ask_plainly, check_shape, flag_rule, is_off, is_plain_replay, mntgate_app, number_rule, replay_shape, run_shape};
+ghost use Rattle.command_line.specs.CommandLine.{AreBare, IsBareReplay, IsPlainOfInput, MayAskPlainly, alone, are_plain, ask_plainly, check_shape, flag_rule, is_off, is_plain_replay, limit_rule, mntgate_app, number_rule, outcomes_shape, replay_shape, run_shape};
 ghost use Rattle.command_line.specs.declared.words.Asked.TheVariants.{Misused, Unread};
 ghost use Rattle.command_line.specs.declared.words.Form.TheVariants.{Plain};
 
@@ -168,17 +168,20 @@ fn request_of<'a, E: Write>(
         Some(run) => run_asked(run),
         None => None,
     };
-    Ok(asked.unwrap_or(Asked::Misused))
+    match asked {
+        Some((numbers, tells)) => Ok(Asked::Run(numbers, tells)),
+        None => Ok(Asked::Misused),
+    }
 }
 
 /// The run that a command line asks for which was understood.
-fn run_asked<'a>(run: &ArgMatches<'a>) -> Option<Asked<'a>> {
+fn run_asked(run: &ArgMatches<'_>) -> Option<(Numbers, Tells)> {
     let tells = if run.get_flag(DETAILS) {
         Tells::Details
     } else {
         Tells::Totals
     };
-    Some(Asked::Run(run_numbers(run)?, tells))
+    Some((run_numbers(run)?, tells))
 }
 
 /// What `replay` asks for. That of its forms there may be one is told here, since the parser's contract speaks of no argument that excludes
@@ -329,25 +332,40 @@ fn check_command<'a>(alloc: Global) -> Result<Command<'a>, AllocError>
         .arg(files)
 }
 
-/// `outcomes`, with its file and its flags.
-fn outcomes_command<'a>(alloc: Global) -> Result<Command<'a>, AllocError> {
-    let columns = flag(alloc, COLUMNS, "Prints it in a column for each task");
-    let limit = Arg::new(alloc, LIMIT)
+/// How many states a race may have.
+fn limit<'a>(alloc: Global) -> Arg<'a>
+    ensures rule { rule_of result ≡ limit_rule }
+    ensures local { result.global ≡ false }
+{
+    Arg::new(alloc, LIMIT)
         .long(LIMIT)
         .value_name("STATES")
-        .value_parser(ValueParser::unsigned(1, u64::from(u32::MAX)))
-        .help("How many states it may have at most: 1000000, if not given");
+        .value_parser(ValueParser::unsigned(1, 4_294_967_295))
+        .help("How many states it may have at most: 1000000, if not given")
+}
+
+/// `outcomes`, with its file and its flags.
+fn outcomes_command<'a>(alloc: Global) -> Result<Command<'a>, AllocError>
+    ensures { IfOk result (λ command. app_of command ≡ alone outcomes_shape) }
+{
+    let schedules = flag(
+        alloc,
+        SCHEDULES,
+        "Prints a shortest schedule for each outcome",
+    );
+    let columns = flag(
+        alloc,
+        COLUMNS,
+        "Prints one too, in a column for each task",
+    );
+    let model = flag(alloc, MODEL, "Prints the model at the end of each schedule");
     Command::new(alloc, "outcomes")
         .about("Prints all outcomes of a race: what its calls can answer, whatever their order")
         .arg(Arg::new(alloc, FILE).help("Its file; standard input, where none is named"))?
-        .arg(flag(
-            alloc,
-            SCHEDULES,
-            "Prints a shortest schedule for each outcome",
-        ))?
-        .arg(columns.requires_arg(SCHEDULES)?)?
-        .arg(flag(alloc, MODEL, "Prints the model at the end of each schedule"))?
-        .arg(limit)
+        .arg(schedules)?
+        .arg(columns)?
+        .arg(model)?
+        .arg(limit(alloc))
 }
 
 /// `run`, with its numbers.

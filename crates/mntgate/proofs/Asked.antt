@@ -10,7 +10,7 @@ use Rattle.command_line.specs.declared.words.Form.TheVariants.{Plain, Events, Co
 use Rattle.command_line.specs.declared.words.Replay.{Replay}
 use Rattle.endings.specs.Endings.{of_file}
 use Rattle.endings.specs.declared.ends.Ending.{Ending}
-use Rattle.endings.specs.declared.ends.Ending.TheVariants.{Done, DoneOfFile, DoneOverGates, Shown, Passed, Ran, Told, Refused, Misused}
+use Rattle.endings.specs.declared.ends.Ending.TheVariants.{Done, DoneOfFile, DoneOverGates, Shown, Passed, Listed, Ran, Told, Refused, Misused}
 use Rattle.mntgate.specs.Asking.{EndsReplayed, MayEnd, done_in, done_of, ending_of}
 use Rattle.schedule_bytes.specs.declared.replay_faults.ReplayFault.{ReplayFault}
 use Rattle.transcripts.specs.Replayed.{Replayed}
@@ -22,6 +22,7 @@ never_of_file DoneOfFile e = cc
 never_of_file DoneOverGates e = cc
 never_of_file Shown e = cc
 never_of_file Passed e = cc
+never_of_file Listed e = cc
 never_of_file Ran e = cc
 never_of_file Told e = cc
 never_of_file Refused e = cc
@@ -49,8 +50,10 @@ done_plainly (ask.Replay r) ending (inl e) done =
 done_plainly (ask.Replay r) ending (inr e) done = cc
 done_plainly (ask.Check files) ending (inl e) done = cc
 done_plainly (ask.Check files) ending (inr e) done = cc
-done_plainly (ask.Run numbers) ending (inl e) done = cc
-done_plainly (ask.Run numbers) ending (inr e) done = cc
+done_plainly (ask.Outcomes race) ending (inl e) done = cc
+done_plainly (ask.Outcomes race) ending (inr e) done = cc
+done_plainly (ask.Run numbers tells) ending (inl e) done = cc
+done_plainly (ask.Run numbers tells) ending (inr e) done = cc
 done_plainly (ask.Told text) ending (inl e) done = cc
 done_plainly (ask.Told text) ending (inr e) done = cc
 done_plainly ask.Unread ending e done = cc

@@ -1,6 +1,5 @@
 pub mod Playing
 pub mod Showing
-pub mod Words
 pub mod Texts
 pub mod Running
 pub mod Faults

@@ -8,7 +8,7 @@ use Rattle.std.proofs.lemmas.List.Elements.{All-from_recursion, All-nil, All-con
 use Rattle.std.proofs.lemmas.List.Folds.{flat_map-map}
 use Rattle.cpu_words.specs.declared.names.WordName.{WordName}
 use Rattle.cpu_words.specs.declared.names.WordName.TheVariants.{Umount, Stage, Holders, SbFlags, Remount, Removed, MountFlags, MountCount, Block, Sync, LevelCount, Section, Used, Node, Kids}
-use Rattle.cpu_words.specs.Names.{Extents, IsWord}
+use Rattle.cpu_words.specs.Names.{IsWord}
 use Rattle.gate_world.specs.Configs.{extents_of}
 use Rattle.gate_world.specs.declared.config.Config.{Config}
 use Rattle.transcripts.specs.Transcript.{Play, count_up, word_text, texts_of, mount_words, level_words, printed_words, printed_tree_words, word_in, words_text, tree_words_text}

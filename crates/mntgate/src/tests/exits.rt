@@ -159,6 +159,8 @@ fn the_exit_status_says_how_it_ended(rt: HostRuntime) -> Result<(), Fail> {
     ends(&rt, "mntgate play", good, 2, "error: ")?;
     ends(&rt, "mntgate replay once twice", good, 2, "error: ")?;
     ends(&rt, "mntgate run --over-gates", good, 2, "error: ")?;
+    let forms = "error: '--events', '--columns' and '--json' cannot be used together\n";
+    ends(&rt, "mntgate replay --json --events", good, 2, forms)?;
     Ok(())
 }
 

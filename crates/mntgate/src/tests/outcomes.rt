@@ -30,7 +30,6 @@ fn outcomes_are_printed_or_told_of(rt: HostRuntime) -> Result<(), Fail> {
         ),
         ("mntgate outcomes --limit 3", 1, "more than 3 states\n"),
         ("mntgate outcomes one.race --limit 0", 2, "error: "),
-        ("mntgate outcomes one.race --columns", 2, "error: "),
     ] {
         let printed = ends(&rt, line, RACE, status, fault)?;
         assert!(rt; printed.is_empty());
@@ -46,7 +45,7 @@ fn each_outcome_has_its_details(rt: HostRuntime) -> Result<(), Fail> {
             "\n  0 remount ro\n  0 step\n",
         ),
         (
-            "mntgate outcomes --schedules --columns",
+            "mntgate outcomes --columns",
             "\n  cas umount 0 1\n",
         ),
         (

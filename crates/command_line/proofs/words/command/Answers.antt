@@ -2,7 +2,7 @@ use Rattle.std.proofs.Common.{ap, ◌∙◌, refl, true}
 use Rattle.std.proofs.lemmas.Result.{IfOk-weaker}
 use Rattle.clap.specs.Words.{App}
 use Rattle.clap.specs.Simple.{app_of_fields, on_top}
-use Rattle.command_line.specs.CommandLine.{replay_shape, check_shape, run_shape}
+use Rattle.command_line.specs.CommandLine.{replay_shape, check_shape, outcomes_shape, run_shape}
 use Rattle.command_line.proofs.Parsing.{joined}
 use Rattle.command_line.proofs.words.command.Goals as goal
 
@@ -21,4 +21,5 @@ returns c =
     let top = ap app_of_fields c.subcommand_required.ensures ∙ ap required version in
     let a = joined _ _ _ _ replay_shape c.in_ok-subcommand.ensures refl c.in_ok-replay_command.ensures top in
     let b = joined _ _ _ _ check_shape c.in_ok-subcommand-2.ensures refl c.in_ok-check_command.ensures a in
-    IfOk-weaker c.subcommand-3.result _ _ (λ new h. joined _ _ new _ run_shape h refl c.in_ok-run_command.ensures b) c.subcommand-3.ensures
+    let d = joined _ _ _ _ outcomes_shape c.in_ok-subcommand-3.ensures refl c.in_ok-outcomes_command.ensures b in
+    IfOk-weaker c.subcommand-4.result _ _ (λ new h. joined _ _ new _ run_shape h refl c.in_ok-run_command.ensures d) c.subcommand-4.ensures
