@@ -1,4 +1,5 @@
-//! Two races, and all their outcomes: a remount to read-only against a writer; and a freeze, a snapshot and a thaw against one.
+//! Three races, and all their outcomes: a remount to read-only against a writer; a freeze, a snapshot and a thaw against a remount; and
+//! against both.
 #![tactic(auto)]
 
 use access_model::{GateError, Holder, Reply};
@@ -101,5 +102,7 @@ fn main(rt: HostRuntime) -> Result<()> {
     let one = vec![in rt.alloc(); remount(), writer()]?;
     print_race(&rt, "remount, writer", 2, one)?;
     let two = vec![in rt.alloc(); backup(), remount()]?;
-    print_race(&rt, "backup, remount", 2, two)
+    print_race(&rt, "backup, remount", 2, two)?;
+    let three = vec![in rt.alloc(); backup(), writer(), remount()]?;
+    print_race(&rt, "backup, writer, remount", 3, three)
 }
