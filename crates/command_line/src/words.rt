@@ -353,11 +353,7 @@ fn outcomes_command<'a>(alloc: Global) -> Result<Command<'a>, AllocError>
         SCHEDULES,
         "Prints a shortest schedule for each outcome",
     );
-    let columns = flag(
-        alloc,
-        COLUMNS,
-        "Prints one too, in a column for each task",
-    );
+    let columns = flag(alloc, COLUMNS, "Prints one too, in a column for each task");
     let model = flag(alloc, MODEL, "Prints the model at the end of each schedule");
     Command::new(alloc, "outcomes")
         .about("Prints all outcomes of a race: what its calls can answer, whatever their order")
