@@ -66,7 +66,12 @@ pub(crate) fn run<
 }
 
 /// Does what is asked for.
-fn do_asked<R: Threads + Wait + Sync + Files + Alloc<A = Global>, I: Read, W: Write, E: Write>(
+fn do_asked<
+    R: Threads + Wait + Clock + Sync + Files + Alloc<A = Global>,
+    I: Read,
+    W: Write,
+    E: Write,
+>(
     rt: &R,
     alloc: Global,
     asked: Asked<'_>,

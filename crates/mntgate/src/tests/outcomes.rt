@@ -44,10 +44,7 @@ fn each_outcome_has_its_details(rt: HostRuntime) -> Result<(), Fail> {
             "mntgate outcomes --schedules",
             "\n  0 remount ro\n  0 step\n",
         ),
-        (
-            "mntgate outcomes --columns",
-            "\n  cas umount 0 1\n",
-        ),
+        ("mntgate outcomes --columns", "\n  cas umount 0 1\n"),
         (
             "mntgate outcomes --model",
             "Order\n  model stage 0 passed 0 sb ro\n  node 0 dir 0 0 clean\n",
