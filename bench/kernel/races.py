@@ -24,13 +24,11 @@ class Race:
         self.calls = next(line for line in lines if line.startswith("# in the kernel: ")).split(": ")[1].split()
 
     def allowed(self, program):
-        """The outcomes that the gates allow: as `mntgate outcomes` lists them, or, where the program has no such command, as they are kept."""
+        """The outcomes that the gates allow, as `mntgate outcomes` lists them."""
         done = subprocess.run([*program, "outcomes", self.path], stdout=subprocess.PIPE, stderr=subprocess.PIPE, text=True, check=False)
-        if done.returncode == 0:
-            return read_outcomes(done.stdout), "mntgate outcomes"
-        kept = self.path.replace(".race", ".outcomes")
-        with open(kept, encoding="utf-8") as file:
-            return read_outcomes(file.read()), os.path.relpath(kept, machine.HERE)
+        if done.returncode != 0:
+            raise machine.Failed(f"mntgate outcomes {self.path} ended with status {done.returncode}:\n{done.stderr.strip()}")
+        return read_outcomes(done.stdout)
 
 
 def read_outcomes(text):
@@ -92,7 +90,7 @@ def compare(options, program, guest):
     differing = 0
     for number, path in enumerate(sorted(glob.glob(f"{machine.HERE}/races/*.race")), 1):
         race = Race(path)
-        allowed, source = race.allowed(program)
+        allowed = race.allowed(program)
         guest.send(f"race {options.rounds} {options.seconds} {options.seed} {' '.join(race.calls)}")
         lines = []
         while not lines or not lines[-1].startswith("raced"):
@@ -101,7 +99,7 @@ def compare(options, program, guest):
         if number == wrong:
             seen = {told if count else told.replace(" ok", " refused 11 Again", 1): seen[told] for count, told in enumerate(seen)}
         rows, others = table(race, seen, allowed)
-        print(f"{race.name}, {rounds} rounds on {guest.processors} processors, beside {source}: {race.about}")
+        print(f"{race.name}, {rounds} rounds on {guest.processors} processors: {race.about}")
         print("\n".join(rows), flush=True)
         differing += others
     print(f"seed {options.seed}, {guest.processors} processors, {number} races, {differing} outcomes that are not allowed", flush=True)
