@@ -1,12 +1,9 @@
 //! Races whose outcomes and faults are known.
 
-use crate::rows::{expect_text, played};
+use crate::rows::expect_text;
 use exploration::Stop;
 use race_files::read_race;
-use replays::Core;
 use schedule_text::Output;
-use std::alloc::{AllocError, Global};
-use std::process::Abort;
 use std::test::Fail;
 use told_outcomes::{Details, Schedules, tell};
 
@@ -135,96 +132,6 @@ fn more_states_than_the_limit_are_told_of(rt: HostRuntime) -> Result<(), Fail> {
             Err(Stop::TooMany) if !is_told => {}
             _ => return Err(Fail::new("the limit is another one")),
         }
-    }
-    Ok(())
-}
-
-/// The answers of a replay, as an outcome has them, behind `; `: those of each task, task by task, and without the blocks of a snapshot.
-fn answers(alloc: Global, printed: &str) -> Result<String, AllocError> {
-    let mut text = String::new(alloc);
-    for task in ["0 ", "1 ", "2 "] {
-        for line in printed.lines() {
-            let answer = line.strip_prefix(task).unwrap_or("");
-            if answer.starts_with("ok") || answer.starts_with("refused") {
-                let answer = answer.split(" used").next().unwrap_or("");
-                text.push_str(format!(in alloc; "; {task}{answer}")?.as_str())?;
-            }
-        }
-    }
-    Ok(text)
-}
-
-/// That a schedule behind the lines that set a race up ends in this outcome, apart from the tasks that wait.
-fn ends_in<R: AllocGlobal>(rt: &R, schedule: &str, outcome: &str) -> Result<(), Fail> {
-    let (printed, ended) = played::<Core, R>(rt, schedule.as_bytes())?;
-    if ended.is_err() {
-        return Err(Fail::new("no replay takes the schedule"));
-    }
-    let printed = std::str::from_utf8(printed.as_slice()).unwrap_or("");
-    let mut expected = String::new(rt.alloc());
-    for part in outcome.split("; ") {
-        if !part.ends_with(" waits") {
-            expected.push_str("; ")?;
-            expected.push_str(part)?;
-        }
-    }
-    let found = answers(rt.alloc(), printed)?;
-    expect_text(found.as_bytes(), expected.as_str())
-}
-
-/// That each outcome of a race has a schedule that ends in it; says how many there are.
-fn replayed<R: AllocGlobal>(rt: &R, config: &str, calls: &str) -> Result<u32, Fail> {
-    let race = format!(in rt.alloc(); "{config}race\n{calls}")?;
-    let details = Details {
-        schedules: Schedules::Lines,
-        model: false,
-    };
-    let Ok(out) = told(rt, race.as_str(), 100_000, details)? else {
-        return Err(Fail::new("there are too many states"));
-    };
-    let text = std::str::from_utf8(out.bytes.as_slice()).unwrap_or("");
-    let (mut outcome, mut schedule) = ("", config.to_string(rt.alloc())?);
-    let mut count: u32 = 0;
-    for line in text.lines().skip(1) {
-        match line.strip_prefix("  ") {
-            Some(step) => {
-                schedule.push_str(step)?;
-                schedule.push_str("\n")?;
-            }
-            None => {
-                if count > 0 {
-                    ends_in(rt, schedule.as_str(), outcome)?;
-                }
-                (outcome, schedule) = (line, config.to_string(rt.alloc())?);
-                count = count.saturating_add(1);
-            }
-        }
-    }
-    ends_in(rt, schedule.as_str(), outcome)?;
-    Ok(count)
-}
-
-#[test]
-fn each_outcome_has_a_schedule_that_ends_in_it(rt: HostRuntime) -> Result<(), Fail> {
-    for (config, calls, outcomes) in [
-        (
-            "config 2 1 1 2 8\n",
-            "0 remount ro\n1 wantwrite 0 0\n1 dropwrite 0 0\n",
-            3,
-        ),
-        (
-            "config 2 1 1 2 8\n",
-            "0 freeze\n0 snapshot\n0 thaw\n1 remount ro\n",
-            2,
-        ),
-        (
-            "config 2 1 1 2 8\n",
-            "0 freeze\n0 hook sync 5\n1 trystart 1 0\n",
-            3,
-        ),
-    ] {
-        let found = replayed(&rt, config, calls)?;
-        assert_eq!(rt; found, outcomes);
     }
     Ok(())
 }
