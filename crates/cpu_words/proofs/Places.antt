@@ -5,7 +5,7 @@ use Rattle.std.proofs.Math.ListN.{length-set}
 use Rattle.std.proofs.lemmas.List.{length-replicate}
 use Rattle.std.proofs.lemmas.Bool.Decides.{eqb_tells}
 use Rattle.cpu_words.specs.declared.names.WordName.{WordName}
-use Rattle.cpu_words.specs.declared.names.WordName.TheVariants.{Umount, Stage, Holders, SbFlags, Remount, MountFlags, MountCount, Block, Sync, LevelCount, Section, Used, Node, Kids, Removed}
+use Rattle.cpu_words.specs.declared.names.WordName.TheVariants.{Node}
 use Rattle.cpu_words.specs.Names.{Extents, IsWord, place, words_in_all}
 use Rattle.cpu_words.specs.Words.{Words, put, opening_words}
 use Rattle.cpu_words.specs.Lists.{AreFew, ListShows, AreOpening}
@@ -20,60 +20,11 @@ zeros_at (suc size) (suc i) = zeros_at size i
 module _ (e : Extents) (few : AreFew e) where
   -- each word has a place among all
   pub place_small : (name : WordName) → IsWord e name → place name < words_in_all
-  place_small Umount there = omega arith
-  place_small Stage there = omega arith
-  place_small Holders there = omega arith
-  place_small SbFlags there = omega arith
-  place_small Remount there = omega arith
-  place_small Removed there = omega arith
-  place_small (MountFlags m) there = omega arith
-  place_small (MountCount m p) there = omega arith
-  place_small (Block i) there = omega arith
-  place_small (Sync i) there = omega arith
-  place_small (LevelCount i p) there = omega arith
-  place_small (Section t) there = omega arith
-  place_small Used there = omega arith
-  place_small (Node n) there = omega arith
-  place_small (Kids n) there = omega arith
+  place_small name there = grind arith
 
   -- words that lie at one place are one word
   pub same_name : (name other : WordName) → IsWord e name → IsWord e other → place other ≡ place name → other ≡ name
-  same_name Umount Umount here there same = refl
-  same_name Umount other here there same = absurd (omega arith)
-  same_name Stage Stage here there same = refl
-  same_name Stage other here there same = absurd (omega arith)
-  same_name Holders Holders here there same = refl
-  same_name Holders other here there same = absurd (omega arith)
-  same_name SbFlags SbFlags here there same = refl
-  same_name SbFlags other here there same = absurd (omega arith)
-  same_name Remount Remount here there same = refl
-  same_name Remount other here there same = absurd (omega arith)
-  same_name Removed Removed here there same = refl
-  same_name Removed other here there same = absurd (omega arith)
-  same_name (MountFlags m) (MountFlags k) here there same = ap MountFlags (omega arith)
-  same_name (MountFlags m) other here there same = absurd (omega arith)
-  same_name (MountCount m p) (MountCount k q) here there same =
-      let row : k ≡ m = omega arith in
-      let column : q ≡ p = omega arith in
-      λ z. MountCount (row z) (column z)
-  same_name (MountCount m p) other here there same = absurd (omega arith)
-  same_name (Block i) (Block j) here there same = ap Block (omega arith)
-  same_name (Block i) other here there same = absurd (omega arith)
-  same_name (Sync i) (Sync j) here there same = ap Sync (omega arith)
-  same_name (Sync i) other here there same = absurd (omega arith)
-  same_name (LevelCount i p) (LevelCount j q) here there same =
-      let row : j ≡ i = omega arith in
-      let column : q ≡ p = omega arith in
-      λ z. LevelCount (row z) (column z)
-  same_name (LevelCount i p) other here there same = absurd (omega arith)
-  same_name (Section t) (Section u) here there same = ap Section (omega arith)
-  same_name (Section t) other here there same = absurd (omega arith)
-  same_name Used Used here there same = refl
-  same_name Used other here there same = absurd (omega arith)
-  same_name (Node n) (Node o) here there same = ap Node (omega arith)
-  same_name (Node n) other here there same = absurd (omega arith)
-  same_name (Kids n) (Kids o) here there same = ap Kids (omega arith)
-  same_name (Kids n) other here there same = absurd (omega arith)
+  same_name name other here there same = grind arith
 
   -- at indexes that differ where places do
   module _ (index : ℕ → ℕ) (apart : (i j : ℕ) → index i ≡ index j → i ≡ j) where
