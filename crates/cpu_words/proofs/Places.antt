@@ -7,9 +7,9 @@ use Rattle.std.proofs.lemmas.Bool.Decides.{eqb_tells}
 use Rattle.cpu_words.specs.declared.names.WordName.{WordName}
 use Rattle.cpu_words.specs.declared.names.WordName.TheVariants.{Node}
 use Rattle.cpu_words.specs.Names.{Extents, IsWord, place, words_in_all}
-use Rattle.cpu_words.specs.Words.{Words, put, opening_words}
+use Rattle.cpu_words.specs.Words.{Words, put, no_words, opening_words}
 use Rattle.cpu_words.specs.Lists.{AreFew, ListShows, AreOpening}
-use Rattle.cpu_words.proofs.Writes.{read_put_same, read_put_other, no_words, read_no_words}
+use Rattle.cpu_words.proofs.Writes.{read_put_same, read_put_other, read_no_words}
 
 -- a list of zeros has 0 at each index, also past its end
 zeros_at : (size i : ℕ) → slice_index (replicate size 0) i ≡ 0

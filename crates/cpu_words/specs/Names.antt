@@ -1,5 +1,7 @@
 -- The words that a configuration has, and where each lies.
 use Rattle.std.specs.Prelude.{ℕ, ◌+◌, ◌-◌, ◌*◌, ◌<◌, ◌≤◌}
+use Rattle.cpu_words.specs.declared.names.Row.{Row}
+use Rattle.cpu_words.specs.declared.names.Row.TheVariants.{OfAll, OfMount, CountOfMount, OfLevel, CountOfLevel, OfTask, OfNode}
 use Rattle.cpu_words.specs.declared.names.WordName.{WordName}
 use Rattle.cpu_words.specs.declared.names.WordName.TheVariants.{Umount, Stage, Holders, SbFlags, Remount, MountFlags, MountCount, Block, Sync, LevelCount, Section, Used, Node, Kids, Removed}
 
@@ -14,114 +16,87 @@ pub record Extents : Type 0 where
 abbrev pub largest : Extents
 largest = record { tasks = 64; processors = 64; mounts = 8; nodes = 64 }
 
+-- The table of all words: what there is one such word of, and which of the words of that kind it is. A word more takes its row here, and is
+-- counted below.
+abbrev pub row : WordName → Row
+row Umount = OfAll 0
+row Stage = OfAll 1
+row Holders = OfAll 2
+row SbFlags = OfAll 3
+row Remount = OfAll 4
+row Removed = OfAll 5
+row Used = OfAll 6
+row (MountFlags m) = OfMount 0 m
+row (MountCount m p) = CountOfMount 0 m p
+row (Block i) = OfLevel 0 i
+row (Sync i) = OfLevel 1 i
+row (LevelCount i p) = CountOfLevel 0 i p
+row (Section t) = OfTask 0 t
+row (Node n) = OfNode 0 n
+row (Kids n) = OfNode 1 n
+
 -- there is that word
+abbrev pub HasRow : Extents → Row → Type 0
+HasRow e (OfAll k) = Unit {0}
+HasRow e (OfMount k m) = m < e.mounts
+HasRow e (CountOfMount k m p) = (m < e.mounts) × (p < e.processors)
+HasRow e (OfLevel k i) = (1 ≤ i) × (i ≤ 3)
+HasRow e (CountOfLevel k i p) = (1 ≤ i) × (i ≤ 3) × (p < e.processors)
+HasRow e (OfTask k t) = t < e.tasks
+HasRow e (OfNode k n) = n < e.nodes
+
 abbrev pub IsWord : Extents → WordName → Type 0
-IsWord e Umount = Unit {0}
-IsWord e Stage = Unit {0}
-IsWord e Holders = Unit {0}
-IsWord e SbFlags = Unit {0}
-IsWord e Remount = Unit {0}
-IsWord e Removed = Unit {0}
-IsWord e (MountFlags m) = m < e.mounts
-IsWord e (MountCount m p) = (m < e.mounts) × (p < e.processors)
-IsWord e (Block i) = (1 ≤ i) × (i ≤ 3)
-IsWord e (Sync i) = (1 ≤ i) × (i ≤ 3)
-IsWord e (LevelCount i p) = (1 ≤ i) × (i ≤ 3) × (p < e.processors)
-IsWord e (Section t) = t < e.tasks
-IsWord e Used = Unit {0}
-IsWord e (Node n) = n < e.nodes
-IsWord e (Kids n) = n < e.nodes
+IsWord e name = HasRow e (row name)
 
--- Places. Words of which there is one come first, and then each kind where the kind before it ends, at the largest limits, so that a word's
--- place is the same for every configuration. A new word or kind takes one line here. Mounts, tasks and nodes count from 0; levels count
--- from 1, so the base of a kind of level words is where a level 0 would lie.
+-- Places. Each kind of words begins where the kind before it ends, at the largest limits, so that a word's place is the same for every
+-- configuration. Mounts, tasks and nodes count from 0; levels count from 1, so the base of their words is where a level 0 would lie.
 
--- the place of the owner of `s_umount` and the mount lock
-abbrev pub umount_place : ℕ
-umount_place = 0
+-- the words of which there is one come first: so many
+abbrev pub mount_base : ℕ
+mount_base = 7
 
--- the place of the freeze's stage
-abbrev pub stage_place : ℕ
-stage_place = umount_place + 1
+-- one word for each mount
+abbrev pub level_base : ℕ
+level_base = (mount_base + largest.mounts * 1) - 1
 
--- the place of the holders of a freeze
-abbrev pub holders_place : ℕ
-holders_place = stage_place + 1
-
--- the place of the superblock's flags
-abbrev pub sb_flags_place : ℕ
-sb_flags_place = holders_place + 1
-
--- the place of the word that says that a remount is under way
-abbrev pub remount_place : ℕ
-remount_place = sb_flags_place + 1
-
--- the place of the count of removed files that are still open
-abbrev pub removed_place : ℕ
-removed_place = remount_place + 1
-
--- the mounts' flags, one word a mount
-abbrev pub mount_flags_base : ℕ
-mount_flags_base = removed_place + 1
-
--- `block` of the levels 1 to 3
-abbrev pub block_base : ℕ
-block_base = (mount_flags_base + largest.mounts) - 1
-
--- `rss` of the levels 1 to 3
-abbrev pub sync_base : ℕ
-sync_base = block_base + 3
-
--- the place of the blocks that are charged
-abbrev pub used_place : ℕ
-used_place = sync_base + 4
-
--- the tasks' read-side sections, one word a task
+-- two for each level
 abbrev pub section_base : ℕ
-section_base = used_place + 1
+section_base = level_base + 3 * 2 + 1
 
--- the nodes, one word each
+-- one for each task
 abbrev pub node_base : ℕ
-node_base = section_base + largest.tasks
+node_base = section_base + largest.tasks * 1
 
--- the children that are charged to the nodes, one word a node
-abbrev pub kids_base : ℕ
-kids_base = node_base + largest.nodes
+-- the count words of one gate lie in a line, one for each processor
+abbrev pub line_length : ℕ
+line_length = largest.processors
 
--- the count words of one gate lie in a row, one for each processor
-abbrev pub row_length : ℕ
-row_length = largest.processors
-
--- the mounts' counts, one row a mount
+-- after two for each node, the mounts' counts, one line a mount
 abbrev pub mount_count_base : ℕ
-mount_count_base = kids_base + largest.nodes
+mount_count_base = node_base + largest.nodes * 2
 
--- the counts of the levels 1 to 3, one row a level
+-- the counts of the levels, one line a level
 abbrev pub level_count_base : ℕ
-level_count_base = (mount_count_base + row_length * largest.mounts) - row_length
+level_count_base = (mount_count_base + line_length * largest.mounts * 1) - line_length
 
 -- how many places there are
 abbrev pub words_in_all : ℕ
-words_in_all = level_count_base + row_length * 4
+words_in_all = level_count_base + line_length * 3 * 1 + line_length
 
 -- how far apart words lie in a table that gives each word cache lines of its own: 16 places of 8 bytes
 abbrev pub stride : ℕ
 stride = 16
 
+-- where the word of a row lies
+abbrev pub lies : Row → ℕ
+lies (OfAll k) = k
+lies (OfMount k m) = mount_base + largest.mounts * k + m
+lies (CountOfMount k m p) = mount_count_base + line_length * largest.mounts * k + line_length * m + p
+lies (OfLevel k i) = level_base + 3 * k + i
+lies (CountOfLevel k i p) = level_count_base + line_length * 3 * k + line_length * i + p
+lies (OfTask k t) = section_base + largest.tasks * k + t
+lies (OfNode k n) = node_base + largest.nodes * k + n
+
 -- the word's place among all words, at whatever limits
 abbrev pub place : WordName → ℕ
-place Umount = umount_place
-place Stage = stage_place
-place Holders = holders_place
-place SbFlags = sb_flags_place
-place Remount = remount_place
-place Removed = removed_place
-place (MountFlags m) = mount_flags_base + m
-place (MountCount m p) = mount_count_base + row_length * m + p
-place (Block i) = block_base + i
-place (Sync i) = sync_base + i
-place (LevelCount i p) = level_count_base + row_length * i + p
-place (Section t) = section_base + t
-place Used = used_place
-place (Node n) = node_base + n
-place (Kids n) = kids_base + n
+place name = lies (row name)

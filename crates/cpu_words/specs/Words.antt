@@ -62,9 +62,9 @@ put w Used v = record w { used = v }
 put w (Node n) v = record w { node = update w.node n v }
 put w (Kids n) v = record w { kids = update w.kids n v }
 
--- all words are 0, but for the root, a directory
-abbrev pub opening_words : Words
-opening_words = record {
+-- all words are 0
+abbrev pub no_words : Words
+no_words = record {
   umount = 0;
   stage = 0;
   holders = 0;
@@ -78,6 +78,10 @@ opening_words = record {
   level = λ i p. 0;
   section = λ t. 0;
   used = 0;
-  node = update (λ n. 0) 0 2;
+  node = λ n. 0;
   kids = λ n. 0;
 }
+
+-- but for the root's, a directory
+abbrev pub opening_words : Words
+opening_words = put no_words (Node 0) 2

@@ -2,51 +2,48 @@
 
 ghost use Rattle.std.specs.Prelude.{◌≡◌, ◌<◌};
 ghost use Rattle.cpu_words.specs.declared.names.WordName.{WordName as WordNameType};
-ghost use Rattle.cpu_words.specs.Names.{IsWord, largest, place, stride, words_in_all};
+ghost use Rattle.cpu_words.specs.Names.{IsWord, largest, lies, place, row, stride, words_in_all};
 
-// The largest numbers of mounts, tasks and nodes, and the count words of one gate, which lie in a row, one for each processor.
+// The largest numbers of mounts, tasks and nodes, and the count words of one gate, which lie in a line, one for each processor.
 const MOUNTS: usize = 8;
 
 const TASKS: usize = 64;
 
 const NODES: usize = 64;
 
-const ROW: usize = 64;
+const LINE: usize = 64;
 
-// Where each word or kind of words begins: each where the one before it ends. Levels count from 1, so the base of a kind of level words
-// is where a level 0 would lie.
-const UMOUNT: usize = 0;
+// How many words there are of each kind.
+const OF_ALL: usize = 7;
 
-const STAGE: usize = UMOUNT + 1;
+const OF_MOUNT: usize = 1;
 
-const HOLDERS: usize = STAGE + 1;
+const OF_LEVEL: usize = 2;
 
-const SB_FLAGS: usize = HOLDERS + 1;
+const OF_TASK: usize = 1;
 
-const REMOUNT: usize = SB_FLAGS + 1;
+const OF_NODE: usize = 2;
 
-const REMOVED: usize = REMOUNT + 1;
+const COUNTS_OF_MOUNT: usize = 1;
 
-const MOUNT_FLAGS: usize = REMOVED + 1;
+const COUNTS_OF_LEVEL: usize = 1;
 
-const BLOCK: usize = MOUNT_FLAGS + MOUNTS - 1;
+// Where each kind begins: each where the one before it ends. Levels count from 1, so the base of a kind of level words is where a level 0
+// would lie.
+const MOUNT: usize = OF_ALL;
 
-const SYNC: usize = BLOCK + 3;
+const LEVEL: usize = MOUNT + MOUNTS * OF_MOUNT - 1;
 
-const USED: usize = SYNC + 4;
+const TASK: usize = LEVEL + 3 * OF_LEVEL + 1;
 
-const SECTION: usize = USED + 1;
+const NODE: usize = TASK + TASKS * OF_TASK;
 
-const NODE: usize = SECTION + TASKS;
+const MOUNT_COUNT: usize = NODE + NODES * OF_NODE;
 
-const KIDS: usize = NODE + NODES;
-
-const MOUNT_COUNT: usize = KIDS + NODES;
-
-const LEVEL_COUNT: usize = MOUNT_COUNT + ROW * MOUNTS - ROW;
+const LEVEL_COUNT: usize = MOUNT_COUNT + LINE * MOUNTS * COUNTS_OF_MOUNT - LINE;
 
 /// How many places there are: every word at the largest limits has one of its own.
-pub const WORDS: usize = LEVEL_COUNT + ROW * 4;
+pub const WORDS: usize = LEVEL_COUNT + LINE * 3 * COUNTS_OF_LEVEL + LINE;
 
 /// How far apart words lie in a table that gives each word cache lines of its own: 16 places of 8 bytes.
 pub const STRIDE: usize = 16;
@@ -86,30 +83,88 @@ pub enum WordName {
     Kids(u8),
 }
 
+/// The row of a word: its kind, which is what there is one such word of, which of the words of that kind it is, from 0, and what it is the
+/// word of.
+#[derive(Clone, Copy, PartialEq, Eq, Debug)]
+pub enum Row {
+    /// Of the whole file system.
+    OfAll { which: u8 },
+    /// Of each mount.
+    OfMount { which: u8, mount: u8 },
+    /// Of each mount on each processor.
+    CountOfMount { which: u8, mount: u8, cpu: u8 },
+    /// Of each freeze level.
+    OfLevel { which: u8, level: u8 },
+    /// Of each freeze level on each processor.
+    CountOfLevel { which: u8, level: u8, cpu: u8 },
+    /// Of each task.
+    OfTask { which: u8, task: u8 },
+    /// Of each node.
+    OfNode { which: u8, node: u8 },
+}
+
+impl Row {
+    /// Where the word of this row lies.
+    #[inline(always)]
+    pub fn place(self) -> usize
+        ensures { result ≡ lies self }
+    {
+        match self {
+            Row::OfAll { which } => which as usize,
+            Row::OfMount { which, mount } => MOUNT + MOUNTS * which as usize + mount as usize,
+            Row::CountOfMount { which, mount, cpu } => {
+                MOUNT_COUNT + LINE * MOUNTS * which as usize + LINE * mount as usize + cpu as usize
+            }
+            Row::OfLevel { which, level } => LEVEL + 3 * which as usize + level as usize,
+            Row::CountOfLevel { which, level, cpu } => {
+                LEVEL_COUNT + LINE * 3 * which as usize + LINE * level as usize + cpu as usize
+            }
+            Row::OfTask { which, task } => TASK + TASKS * which as usize + task as usize,
+            Row::OfNode { which, node } => NODE + NODES * which as usize + node as usize,
+        }
+    }
+}
+
 impl WordName {
+    /// The row of the word, which says where it lies and which configurations have it. A word more takes its row here.
+    #[inline(always)]
+    pub fn row(self) -> Row
+        ensures { result ≡ row self }
+    {
+        match self {
+            WordName::Umount => Row::OfAll { which: 0 },
+            WordName::Stage => Row::OfAll { which: 1 },
+            WordName::Holders => Row::OfAll { which: 2 },
+            WordName::SbFlags => Row::OfAll { which: 3 },
+            WordName::Remount => Row::OfAll { which: 4 },
+            WordName::Removed => Row::OfAll { which: 5 },
+            WordName::Used => Row::OfAll { which: 6 },
+            WordName::MountFlags(mount) => Row::OfMount { which: 0, mount },
+            WordName::MountCount(mount, cpu) => Row::CountOfMount {
+                which: 0,
+                mount,
+                cpu,
+            },
+            WordName::Block(level) => Row::OfLevel { which: 0, level },
+            WordName::Sync(level) => Row::OfLevel { which: 1, level },
+            WordName::LevelCount(level, cpu) => Row::CountOfLevel {
+                which: 0,
+                level,
+                cpu,
+            },
+            WordName::Section(task) => Row::OfTask { which: 0, task },
+            WordName::Node(node) => Row::OfNode { which: 0, node },
+            WordName::Kids(node) => Row::OfNode { which: 1, node },
+        }
+    }
+
     /// The place of the word among all words. It is the same for every configuration, and below `WORDS` for every word
     /// that a configuration has, so that finding a word costs a constant, a shift and an addition.
     #[inline(always)]
     pub fn place(self) -> usize
         ensures { result ≡ place self }
     {
-        match self {
-            WordName::Umount => UMOUNT,
-            WordName::Stage => STAGE,
-            WordName::Holders => HOLDERS,
-            WordName::SbFlags => SB_FLAGS,
-            WordName::Remount => REMOUNT,
-            WordName::Removed => REMOVED,
-            WordName::MountFlags(mount) => MOUNT_FLAGS + mount as usize,
-            WordName::Block(level) => BLOCK + level as usize,
-            WordName::Sync(level) => SYNC + level as usize,
-            WordName::Used => USED,
-            WordName::Section(task) => SECTION + task as usize,
-            WordName::Node(node) => NODE + node as usize,
-            WordName::Kids(node) => KIDS + node as usize,
-            WordName::MountCount(mount, cpu) => MOUNT_COUNT + ROW * mount as usize + cpu as usize,
-            WordName::LevelCount(level, cpu) => LEVEL_COUNT + ROW * level as usize + cpu as usize,
-        }
+        self.row().place()
     }
 }
 

@@ -1,9 +1,9 @@
 //! How many of each there are.
 
 ghost use Rattle.std.specs.Prelude.{◌↔◌, ◌≤◌, IsTrue};
-ghost use Rattle.cpu_words.specs.Names.{IsWord};
+ghost use Rattle.cpu_words.specs.Names.{HasRow, IsWord};
 
-use cpu_words::WordName;
+use cpu_words::{Row, WordName};
 
 /// How many tasks (1 to 64), processors (1 to 64), mounts (1 to 8) and nodes (2 to 64, the root counted) there are, and how
 /// many blocks all files may have together.
@@ -39,20 +39,22 @@ impl Config {
     pub fn has_word(self, name: WordName) -> bool
         ensures { IsTrue result ↔ IsWord (extents_of self) name }
     {
-        match name {
-            WordName::Umount
-            | WordName::Stage
-            | WordName::Holders
-            | WordName::SbFlags
-            | WordName::Remount
-            | WordName::Removed
-            | WordName::Used => true,
-            WordName::MountFlags(mount) => mount < self.mounts,
-            WordName::MountCount(mount, cpu) => mount < self.mounts && cpu < self.processors,
-            WordName::Block(level) | WordName::Sync(level) => (1..=3).contains(&level),
-            WordName::LevelCount(level, cpu) => (1..=3).contains(&level) && cpu < self.processors,
-            WordName::Section(task) => task < self.tasks,
-            WordName::Node(node) | WordName::Kids(node) => node < self.nodes,
+        self.has_row(name.row())
+    }
+
+    fn has_row(self, row: Row) -> bool
+        ensures { IsTrue result ↔ HasRow (extents_of self) row }
+    {
+        match row {
+            Row::OfAll { .. } => true,
+            Row::OfMount { mount, .. } => mount < self.mounts,
+            Row::CountOfMount { mount, cpu, .. } => mount < self.mounts && cpu < self.processors,
+            Row::OfLevel { level, .. } => (1..=3).contains(&level),
+            Row::CountOfLevel { level, cpu, .. } => {
+                (1..=3).contains(&level) && cpu < self.processors
+            }
+            Row::OfTask { task, .. } => task < self.tasks,
+            Row::OfNode { node, .. } => node < self.nodes,
         }
     }
 }
