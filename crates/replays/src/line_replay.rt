@@ -207,7 +207,8 @@ impl<D: Driver> LineReplay<D> {
         requires front { front_of (pending self.old.input) ≡ WholeLine length }
         requires inside { length < pending_count self.old.input }
         ensures goes_on { (input held left holds : Option (List ℕ)) (done : ℕ) → done < 1048576 →
-            ReplayGoesOn D.is_known D.shows input held done self.old left holds → OnOk result (ReplayGoesOn D.is_known D.shows input held (done + 1) self.new left holds) }
+            ReplayGoesOn D.is_known D.shows input held done self.old left holds →
+            OnOk result (ReplayGoesOn D.is_known D.shows input held (done + 1) self.new left holds) }
         ensures stops { (input held left holds : Option (List ℕ)) (done : ℕ) → done < 1048576 →
             ReplayGoesOn D.is_known D.shows input held done self.old left holds →
             IfErr result (λ fault. Stops input held left self.new.output.bytes.items holds done fault) }

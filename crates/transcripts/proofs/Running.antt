@@ -19,14 +19,15 @@ abbrev IsLast : Progress → Type 0
 IsLast x = (x ≡ Waiting) ⊎ ((answer : Result Reply GateError) × (x ≡ Ended answer))
 
 -- a run that is on its way, after so many events
-pub record OnTheWay {D : Type 0} (shows : D → Config → World → Type 0) (session : Session D) (p : Play) (t : ℕ) (failure : Option HookFailure) (events : ℕ) : Type 0 where
+pub record OnTheWay {D : Type 0} (shows : D → Config → World → Type 0) (session : Session D)
+    (p : Play) (t : ℕ) (failure : Option HookFailure) (events : ℕ) : Type 0 where
   pub now : Play
   pub shown : ShowsPlay shows session now
   pub left : run_of p t failure ≡ run_from (1000 - events) now t failure
 
 -- before its first event
-pub starts : {D : Type 0} {shows : D → Config → World → Type 0} (session : Session D) (p : Play) (t : ℕ) (failure : Option HookFailure) → ShowsPlay shows session p →
-    OnTheWay shows session p t failure 0
+pub starts : {D : Type 0} {shows : D → Config → World → Type 0} (session : Session D) (p : Play) (t : ℕ) (failure : Option HookFailure) →
+    ShowsPlay shows session p → OnTheWay shows session p t failure 0
 unfolding run_of
 starts session p t failure h = record { now = p; shown = h; left = refl }
 
@@ -105,6 +106,6 @@ pub progress_so : (p : Play) (t : ℕ) (failure : Option HookFailure) (x : Progr
 progress_so p t failure x q e = ap (λ (r : Progress × Play). r.0) e
 
 -- the play that a run ends in, where it is known
-pub shows_so : {D : Type 0} {shows : D → Config → World → Type 0} (session : Session D) (p : Play) (t : ℕ) (failure : Option HookFailure) (x : Progress) (q : Play) →
-    run_of p t failure ≡ (x, q) → ShowsPlay shows session q → ShowsPlay shows session (run_of p t failure).1
+pub shows_so : {D : Type 0} {shows : D → Config → World → Type 0} (session : Session D) (p : Play) (t : ℕ) (failure : Option HookFailure)
+    (x : Progress) (q : Play) → run_of p t failure ≡ (x, q) → ShowsPlay shows session q → ShowsPlay shows session (run_of p t failure).1
 shows_so {shows = shows} session p t failure x q e h = subst (λ (r : Progress × Play). ShowsPlay shows session r.1) (sym e) h

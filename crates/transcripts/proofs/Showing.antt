@@ -37,50 +37,51 @@ model_of : (s : Standing) (c : Config) (done : List Done) (t : ℕ) (o : Option 
     (o_is : Option Action) → o ≡ o_is → s ≡ model_after c done t o_is
 model_of s c done t o h o_is e = subst (λ (x : Option Action). s ≡ model_after c done t x) e h
 
--- a session whose gates and model made an entry shows the play after it
-moved : {D : Type 0} {shows : D → Config → World → Type 0} (old new : Session D) (p : Play) (e : Entry) → ShowsPlay shows old p → new.config ≡ old.config → DriverAfter shows old new e →
-    standing_of new.model ≡ model_after p.config p.done (task_of e) (action_of p.config p.world e) → ShowsPlay shows new (played p e)
-moved old new p e h same after model = record {
-  config = same ∙ h.config;
-  driver = after p.config p.world h.driver;
-  model = model;
-  reached = reached_more p e h.reached;
-}
+module _ {D : Type 0} {shows : D → Config → World → Type 0} where
+  -- a session whose gates and model made an entry shows the play after it
+  moved : (old new : Session D) (p : Play) (e : Entry) → ShowsPlay shows old p → new.config ≡ old.config → DriverAfter shows old new e →
+      standing_of new.model ≡ model_after p.config p.done (task_of e) (action_of p.config p.world e) → ShowsPlay shows new (played p e)
+  moved old new p e h same after model = record {
+    config = same ∙ h.config;
+    driver = after p.config p.world h.driver;
+    model = model;
+    reached = reached_more p e h.reached;
+  }
 
--- a beginning adds no action
-pub after_begin : {D : Type 0} {shows : D → Config → World → Type 0} (old new : Session D) (p : Play) (t : ℕ) (op : Op) → ShowsPlay shows old p → new.config ≡ old.config → new.model ≡ old.model →
-    DriverAfter shows old new (Begins t op) → ShowsPlay shows new (played p (Begins t op))
-after_begin old new p t op h same same_model after = moved old new p (Begins t op) h same after (ap standing_of same_model ∙ h.model)
+  -- a beginning adds no action
+  pub after_begin : (old new : Session D) (p : Play) (t : ℕ) (op : Op) → ShowsPlay shows old p → new.config ≡ old.config → new.model ≡ old.model →
+      DriverAfter shows old new (Begins t op) → ShowsPlay shows new (played p (Begins t op))
+  after_begin old new p t op h same same_model after = moved old new p (Begins t op) h same after (ap standing_of same_model ∙ h.model)
 
--- the action of a step that was answered
-adds : {D : Type 0} {shows : D → Config → World → Type 0} (old : Session D) (p : Play) (t : ℕ) (hook : HookAnswer) (r : Step) → ShowsPlay shows old p → StepAnswers shows old t hook r →
-    action_of p.config p.world (Steps t hook) ≡ r.action
-adds old p t hook r h is = sym (ap (λ (s : Step). s.action) (is p.config p.world h.driver) ∙ step_adds p.config p.world t hook)
+  -- the action of a step that was answered
+  adds : (old : Session D) (p : Play) (t : ℕ) (hook : HookAnswer) (r : Step) → ShowsPlay shows old p → StepAnswers shows old t hook r →
+      action_of p.config p.world (Steps t hook) ≡ r.action
+  adds old p t hook r h is = sym (ap (λ (s : Step). s.action) (is p.config p.world h.driver) ∙ step_adds p.config p.world t hook)
 
--- a step that adds no action leaves the model
-pub stepped_none : {D : Type 0} {shows : D → Config → World → Type 0} (old new : Session D) (p : Play) (t : ℕ) (hook : HookAnswer) (r : Step) → ShowsPlay shows old p → new.config ≡ old.config →
-    StepAnswers shows old t hook r → DriverAfter shows old new (Steps t hook) → r.action ≡ None → new.model ≡ old.model →
-    ShowsPlay shows new (after_event p t hook)
-stepped_none old new p t hook r h same is after none same_model =
-    moved old new p (Steps t hook) h same after
-    (model_of (standing_of new.model) p.config p.done t None (ap standing_of same_model ∙ h.model)
-    (action_of p.config p.world (Steps t hook)) (sym (adds old p t hook r h is ∙ none)))
+  -- a step that adds no action leaves the model
+  pub stepped_none : (old new : Session D) (p : Play) (t : ℕ) (hook : HookAnswer) (r : Step) → ShowsPlay shows old p → new.config ≡ old.config →
+      StepAnswers shows old t hook r → DriverAfter shows old new (Steps t hook) → r.action ≡ None → new.model ≡ old.model →
+      ShowsPlay shows new (after_event p t hook)
+  stepped_none old new p t hook r h same is after none same_model =
+      moved old new p (Steps t hook) h same after
+      (model_of (standing_of new.model) p.config p.done t None (ap standing_of same_model ∙ h.model)
+      (action_of p.config p.world (Steps t hook)) (sym (adds old p t hook r h is ∙ none)))
 
--- a step that adds an action, which the model makes
-pub stepped_some : {D : Type 0} {shows : D → Config → World → Type 0} (old new : Session D) (p : Play) (t : ℕ) (hook : HookAnswer) (r : Step) (a : Action) → ShowsPlay shows old p →
-    new.config ≡ old.config → StepAnswers shows old t hook r → DriverAfter shows old new (Steps t hook) → r.action ≡ Some a →
-    standing_of new.model ≡ standing_after (standing_of old.model) t a → ShowsPlay shows new (after_event p t hook)
-stepped_some old new p t hook r a h same is moves some after =
-    moved old new p (Steps t hook) h same moves
-    (model_of (standing_of new.model) p.config p.done t (Some a) (after ∙ ap (λ (s : Standing). standing_after s t a) h.model)
-    (action_of p.config p.world (Steps t hook)) (sym (adds old p t hook r h is ∙ some)))
+  -- a step that adds an action, which the model makes
+  pub stepped_some : (old new : Session D) (p : Play) (t : ℕ) (hook : HookAnswer) (r : Step) (a : Action) → ShowsPlay shows old p →
+      new.config ≡ old.config → StepAnswers shows old t hook r → DriverAfter shows old new (Steps t hook) → r.action ≡ Some a →
+      standing_of new.model ≡ standing_after (standing_of old.model) t a → ShowsPlay shows new (after_event p t hook)
+  stepped_some old new p t hook r a h same is moves some after =
+      moved old new p (Steps t hook) h same moves
+      (model_of (standing_of new.model) p.config p.done t (Some a) (after ∙ ap (λ (s : Standing). standing_after s t a) h.model)
+      (action_of p.config p.world (Steps t hook)) (sym (adds old p t hook r h is ∙ some)))
 
--- the action of a step is never refused
-pub not_refused : {D : Type 0} {shows : D → Config → World → Type 0} (old : Session D) (p : Play) (t : ℕ) (hook : HookAnswer) (r : Step) (a : Action) → ShowsPlay shows old p →
-    StepAnswers shows old t hook r → r.action ≡ Some a → IsAllowed (limits_in old.model) (state_of old.model) t a
-not_refused old p t hook r a h is some =
-    subst (λ (s : Standing). IsAllowed s.limits s.state t a) (sym h.model)
-    (allowed p (Steps t hook) a h.reached (adds old p t hook r h is ∙ some))
+  -- the action of a step is never refused
+  pub not_refused : (old : Session D) (p : Play) (t : ℕ) (hook : HookAnswer) (r : Step) (a : Action) → ShowsPlay shows old p →
+      StepAnswers shows old t hook r → r.action ≡ Some a → IsAllowed (limits_in old.model) (state_of old.model) t a
+  not_refused old p t hook r a h is some =
+      subst (λ (s : Standing). IsAllowed s.limits s.state t a) (sym h.model)
+      (allowed p (Steps t hook) a h.reached (adds old p t hook r h is ∙ some))
 
 -- what is known of a call that went well
 pub by_ok : (r : Result (Unit {0}) GateError) (P : Type 0) → OnOk r P → IsOk r → P

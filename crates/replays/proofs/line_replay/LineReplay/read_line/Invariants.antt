@@ -6,7 +6,8 @@ use Rattle.replays.proofs.line_replay.LineReplay.read_line.Given as goal
 -- what was under way stays so
 abbrev pub invariant-reads : goal.invariant-reads
 invariant-reads g l = (input held : Option (List ℕ)) (done : ℕ) →
-    ReplayGoesOn g.D.Driver.is_known g.D.Driver.shows input held done l.initial.self (g.R.Read.remaining l.initial.reader) (g.W.Write.contents l.initial.writer) →
+    ReplayGoesOn g.D.Driver.is_known g.D.Driver.shows input held done l.initial.self (g.R.Read.remaining l.initial.reader)
+    (g.W.Write.contents l.initial.writer) →
     ReplayGoesOn g.D.Driver.is_known g.D.Driver.shows input held done l.self (g.R.Read.remaining l.reader) (g.W.Write.contents l.writer)
 
 -- each turn that goes on reads a byte or more

@@ -6,4 +6,5 @@ use Rattle.transcripts.proofs.session.Session.print_mount_words.Given as goal
 
 -- what the counts so far print
 abbrev pub invariant-loop-cpu : goal.invariant-loop-cpu
-invariant-loop-cpu g l = l.out.bytes.items ≡ l.initial.out.bytes.items ++ flat_map (λ i. word_text (MountCount l.mount i) (g.D.Driver.word_of l.self.driver (MountCount l.mount i))) (count_up l.cpu)
+invariant-loop-cpu g l = l.out.bytes.items ≡
+    l.initial.out.bytes.items ++ flat_map (λ i. word_text (MountCount l.mount i) (g.D.Driver.word_of l.self.driver (MountCount l.mount i))) (count_up l.cpu)

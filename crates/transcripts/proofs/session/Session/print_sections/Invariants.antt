@@ -6,4 +6,5 @@ use Rattle.transcripts.proofs.session.Session.print_sections.Given as goal
 
 -- what the sections so far print
 abbrev pub invariant-loop-task : goal.invariant-loop-task
-invariant-loop-task g l = l.out.bytes.items ≡ l.initial.out.bytes.items ++ flat_map (λ t. word_text (Section t) (g.D.Driver.word_of l.self.driver (Section t))) (count_up l.task)
+invariant-loop-task g l = l.out.bytes.items ≡
+    l.initial.out.bytes.items ++ flat_map (λ t. word_text (Section t) (g.D.Driver.word_of l.self.driver (Section t))) (count_up l.task)

@@ -5,4 +5,5 @@ use Rattle.transcripts.proofs.session.Session.print_words_of_mounts.Given as goa
 
 -- what the mounts so far print
 abbrev pub invariant-loop-mount : goal.invariant-loop-mount
-invariant-loop-mount g l = l.out.bytes.items ≡ l.initial.out.bytes.items ++ flat_map (λ m. texts_of (g.D.Driver.word_of l.self.driver) (mount_words l.self.config m)) (count_up l.mount)
+invariant-loop-mount g l = l.out.bytes.items ≡
+    l.initial.out.bytes.items ++ flat_map (λ m. texts_of (g.D.Driver.word_of l.self.driver) (mount_words l.self.config m)) (count_up l.mount)
