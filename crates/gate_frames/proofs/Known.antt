@@ -1,7 +1,7 @@
 -- What the owner of `umount` has found or left is still there: nobody else changes such a word.
-use Rattle.std.proofs.{Common.{arith, inl, inr, refl, sym, true, true≢false, ◌≡◌, ◌<◌, ◌∙◌, ◌⊎◌, ap, ℕ}, lemmas.Bool.cases_Bool}
+use Rattle.std.proofs.{Common.{arith, inl, inr, sym, true, true≢false, ◌≡◌, ◌<◌, ◌∙◌, ◌⊎◌, ap, ℕ}, lemmas.Bool.cases_Bool}
 use Rattle.std.specs.Prelude.{List, None, Some, false, is_some, ◌∷◌, []}
-use Rattle.finite_sums.{proofs.Totals.each_updated, specs.Sums.update}
+use Rattle.finite_sums.{proofs.Totals.each_updated}
 use Rattle.cpu_words.specs.{Hooks.HookAnswer, Touches.{event_of, left}, Words.{Words, put, read}}
 use Rattle.cpu_words.specs.declared.{events.{Event.Event, Touch.Touch}, names.WordName.WordName}
 use Rattle.gate_world.specs.{Found.is_load, Owners.{is_owned, is_owned_word, last_left, takes_lock, KnowsWords}, Rules.{Holds, IsGood, Known, Owner, owns}}
@@ -13,43 +13,18 @@ none_is_none : {A : Type 0} {B : Type 0} (x : A) → None ≡ Some x → B
 none_is_none x h = absurd (true≢false (ap is_some (sym h)))
 
 pub owned_first : (word other : WordName) → is_owned_word word other ≡ true → is_owned word ≡ true
-owned_first WordName.Stage other h = refl
-owned_first WordName.Holders other h = refl
-owned_first WordName.SbFlags other h = refl
-owned_first WordName.Remount other h = refl
-owned_first (WordName.MountFlags m) other h = refl
-owned_first word other h = absurd (true≢false (sym h))
+owned_first word other h = grind (arith, h)
 
 pub owned_second : (word other : WordName) → is_owned_word word other ≡ true → is_owned other ≡ true
-owned_second WordName.Stage WordName.Stage h = refl
-owned_second WordName.Holders WordName.Holders h = refl
-owned_second WordName.SbFlags WordName.SbFlags h = refl
-owned_second WordName.Remount WordName.Remount h = refl
-owned_second (WordName.MountFlags m) (WordName.MountFlags n) h = refl
-owned_second word other h = absurd (true≢false (sym h))
+owned_second word other h = grind (arith, h)
 
 -- a write of an owned word leaves its value there
 put_owned : (w : Words) (word other : WordName) (value : ℕ) → is_owned_word word other ≡ true → read (put w other value) word ≡ value
-put_owned w WordName.Stage WordName.Stage value h = refl
-put_owned w WordName.Holders WordName.Holders value h = refl
-put_owned w WordName.SbFlags WordName.SbFlags value h = refl
-put_owned w WordName.Remount WordName.Remount value h = refl
-put_owned w (WordName.MountFlags m) (WordName.MountFlags n) value h = rw (h, update) refl
-put_owned w word other value h = absurd (true≢false (sym h))
+put_owned w word other value h = grind (arith, h)
 
 put_other : (w : Words) (word other : WordName) (value : ℕ) → is_owned word ≡ true → is_owned_word word other ≡ false →
     read (put w other value) word ≡ read w word
-put_other w WordName.Stage WordName.Stage value h k = absurd (true≢false k)
-put_other w WordName.Stage other value h k = refl
-put_other w WordName.Holders WordName.Holders value h k = absurd (true≢false k)
-put_other w WordName.Holders other value h k = refl
-put_other w WordName.SbFlags WordName.SbFlags value h k = absurd (true≢false k)
-put_other w WordName.SbFlags other value h k = refl
-put_other w WordName.Remount WordName.Remount value h k = absurd (true≢false k)
-put_other w WordName.Remount other value h k = refl
-put_other w (WordName.MountFlags m) (WordName.MountFlags n) value h k = rw (k, update) refl
-put_other w (WordName.MountFlags m) other value h k = refl
-put_other w word other value h k = absurd (true≢false (sym h))
+put_other w word other value h k = grind (arith, h, k)
 
 load_leaves : (w : Words) (word other : WordName) (touch : Touch) → is_load touch ≡ true →
     read (put w other (left touch (read w other))) word ≡ read w word
@@ -71,12 +46,7 @@ known_owned word (e ∷ earlier) value h =
 read_same : (old new : Words) → (new.stage ≡ old.stage) × (new.sb ≡ old.sb) × (new.remount ≡ old.remount) × (new.flags ≡ old.flags) ×
     (new.holders ≡ old.holders) →
     (word : WordName) → is_owned word ≡ true → read new word ≡ read old word
-read_same old new same WordName.Stage h = same.0
-read_same old new same WordName.Holders h = same.4
-read_same old new same WordName.SbFlags h = same.1
-read_same old new same WordName.Remount h = same.2
-read_same old new same (WordName.MountFlags m) h = ap (λ f. f m) same.3
-read_same old new same word h = absurd (true≢false (sym h))
+read_same old new same word h = grind (arith, h)
 
 pub known_same : (old new : Words) → (new.stage ≡ old.stage) × (new.sb ≡ old.sb) × (new.remount ≡ old.remount) × (new.flags ≡ old.flags) ×
     (new.holders ≡ old.holders) →

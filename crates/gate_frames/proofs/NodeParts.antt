@@ -52,11 +52,7 @@ is_call_word (WordName.Kids d) = true
 is_call_word word = false
 
 pub node_call : (word : WordName) → is_node_word word ≡ true → is_call_word word ≡ true
-node_call WordName.Used h = refl
-node_call WordName.Removed h = refl
-node_call (WordName.Node n) h = refl
-node_call (WordName.Kids d) h = refl
-node_call word h = absurd (true≢false (sym h))
+node_call word h = grind (arith, h)
 
 -- each event of a call but a snapshot is on a word of the tree
 create_word : (x : Create) (s : CreateStep) → is_node_word (create_next x s).0 ≡ true
