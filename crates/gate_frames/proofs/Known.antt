@@ -1,7 +1,7 @@
 -- What the owner of `umount` has found or left is still there: nobody else changes such a word.
-use Rattle.std.proofs.{Common.{arith, inl, inr, refl, sym, true, true≢false, ◌≡◌, ◌<◌, ◌∙◌, ◌⊎◌, ap, ℕ}, lemmas.Bool.cases_Bool}
+use Rattle.std.proofs.{Common.{arith, inl, inr, sym, true, true≢false, ◌≡◌, ◌<◌, ◌∙◌, ◌⊎◌, ap, ℕ}, lemmas.Bool.cases_Bool}
 use Rattle.std.specs.Prelude.{List, None, Some, false, is_some, ◌∷◌, []}
-use Rattle.finite_sums.{proofs.Totals.each_updated, specs.Sums.update}
+use Rattle.finite_sums.{proofs.Totals.each_updated}
 use Rattle.cpu_words.specs.{Hooks.HookAnswer, Touches.{event_of, left}, Words.{Words, put, read}}
 use Rattle.cpu_words.specs.declared.{events.{Event.Event, Touch.Touch}, names.WordName.WordName}
 use Rattle.gate_world.specs.{Found.is_load, Owners.{is_owned, is_owned_word, last_left, takes_lock, KnowsWords}, Rules.{Holds, IsGood, Known, Owner, owns}}

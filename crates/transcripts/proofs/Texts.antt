@@ -7,11 +7,11 @@ use Rattle.std.proofs.lemmas.List.{flat_map_more}
 use Rattle.std.proofs.lemmas.List.Elements.{All-from_recursion, All-nil, All-cons, All-head, All-tail, All-append, All-push, All-weaker, All-map}
 use Rattle.std.proofs.lemmas.List.Folds.{flat_map-map}
 use Rattle.cpu_words.specs.declared.names.WordName.{WordName}
-use Rattle.cpu_words.specs.declared.names.WordName.TheVariants.{Umount, Stage, Holders, SbFlags, Remount, Removed, MountFlags, MountCount, Block, Sync, LevelCount, Section, Used, Node, Kids}
+use Rattle.cpu_words.specs.declared.names.WordName.TheVariants.{MountFlags, MountCount, Block, Sync, LevelCount, Section, Used, Node, Kids}
 use Rattle.cpu_words.specs.Names.{IsWord}
 use Rattle.gate_world.specs.Configs.{extents_of}
 use Rattle.gate_world.specs.declared.config.Config.{Config}
-use Rattle.transcripts.specs.Transcript.{Play, count_up, word_text, texts_of, mount_words, level_words, printed_words, printed_tree_words, word_in, words_text, tree_words_text}
+use Rattle.transcripts.specs.Transcript.{Play, count_up, word_text, texts_of, words_of_all, mount_words, level_words, printed_words, printed_tree_words, word_in, words_text, tree_words_text}
 
 -- the texts of one number more
 pub one_more : (f : ℕ → List ℕ) (old now new : List ℕ) (i : ℕ) → now ≡ old ++ flat_map f (count_up i) → new ≡ now ++ f i →
@@ -56,17 +56,15 @@ two_and_counts f g first second old mid more new i n a b h e =
     let rest = f second ++ flat_map f (map g (count_up n)) in
     one_and_counts f g second mid more new i n b h e ∙ ap (λ (l : List ℕ). l ++ rest) a ∙ assoc old (f first) rest
 
--- eleven texts, one behind the other, as `words` prints them
-eleven : (o a b c d e f g h i j k : List ℕ) →
-    ((((((((((o ++ a) ++ b) ++ c) ++ d) ++ e) ++ f) ++ g) ++ h) ++ i) ++ j) ++ k
-    ≡ o ++ ((((a ++ (b ++ (c ++ (d ++ (e ++ (f ++ [])))))) ++ g) ++ (h ++ (i ++ (j ++ [])))) ++ k)
-eleven o a b c d e f g h i j k = simp (append_assoc, append-nil)
+-- six texts, one behind the other, as `words` prints them
+six : (o a b c d e f : List ℕ) →
+    (((((o ++ a) ++ b) ++ c) ++ d) ++ e) ++ f ≡ o ++ (((a ++ b) ++ (c ++ (d ++ (e ++ [])))) ++ f)
+six o a b c d e f = simp (append_assoc, append-nil)
 
--- eleven texts that are printed in turn
-joined : (k j i h g f e d c b a o : List ℕ) (tk tj ti th tg tf te td tc tb ta : List ℕ) → k ≡ j ++ tk → j ≡ i ++ tj →
-    i ≡ h ++ ti → h ≡ g ++ th → g ≡ f ++ tg → f ≡ e ++ tf → e ≡ d ++ te → d ≡ c ++ td → c ≡ b ++ tc → b ≡ a ++ tb → a ≡ o ++ ta →
-    k ≡ ((((((((((o ++ ta) ++ tb) ++ tc) ++ td) ++ te) ++ tf) ++ tg) ++ th) ++ ti) ++ tj) ++ tk
-joined k j i h g f e d c b a o tk tj ti th tg tf te td tc tb ta ek ej ei eh eg ef ee ed ec eb ea = cc
+-- six texts that are printed in turn
+joined : (f e d c b a o : List ℕ) (tf te td tc tb ta : List ℕ) → f ≡ e ++ tf → e ≡ d ++ te → d ≡ c ++ td → c ≡ b ++ tc → b ≡ a ++ tb →
+    a ≡ o ++ ta → f ≡ (((((o ++ ta) ++ tb) ++ tc) ++ td) ++ te) ++ tf
+joined f e d c b a o tf te td tc tb ta ef ee ed ec eb ea = cc
 
 -- the texts of lists of words, one behind the other
 texts_flat : (value : WordName → Option ℕ) (names : ℕ → List WordName) (xs : List ℕ) →
@@ -103,34 +101,27 @@ module _ (value : WordName → Option ℕ) (c : Config) where
   abbrev level : ℕ → List ℕ
   level i = texts_of value (level_words c i)
 
-  -- the single words
-  abbrev singles : List WordName
-  singles = Umount ∷ Stage ∷ Holders ∷ SbFlags ∷ Remount ∷ Removed ∷ []
-
   -- all words that `words` prints, part by part
   parts : texts_of value (printed_words c)
-      ≡ ((texts_of value singles ++ mounts) ++ (level 1 ++ (level 2 ++ (level 3 ++ [])))) ++ sections
+      ≡ ((texts_of value words_of_all ++ mounts) ++ (level 1 ++ (level 2 ++ (level 3 ++ [])))) ++ sections
   parts =
       let of_mounts = flat_map (mount_words c) (count_up c.mounts) in
       let of_levels = flat_map (level_words c) (1 ∷ 2 ∷ 3 ∷ []) in
       let of_sections = map Section (count_up c.tasks) in
-      texts_both value ((singles ++ of_mounts) ++ of_levels) of_sections
+      texts_both value ((words_of_all ++ of_mounts) ++ of_levels) of_sections
       ∙ ap₂ (λ (l m : List ℕ). l ++ m)
-      (texts_both value (singles ++ of_mounts) of_levels
+      (texts_both value (words_of_all ++ of_mounts) of_levels
       ∙ ap₂ (λ (l m : List ℕ). l ++ m)
-      (texts_both value singles of_mounts ∙ ap (λ l. texts_of value singles ++ l) (texts_flat value (mount_words c) (count_up c.mounts)))
+      (texts_both value words_of_all of_mounts ∙ ap (λ l. texts_of value words_of_all ++ l) (texts_flat value (mount_words c) (count_up c.mounts)))
       (texts_flat value (level_words c) (1 ∷ 2 ∷ 3 ∷ [])))
       (flat_map-map line Section (count_up c.tasks))
 
-  -- what `words` prints: six words, the mounts, three levels and the sections
-  pub all_words : (o a b d e f g h i j k n : List ℕ) → a ≡ o ++ line Umount → b ≡ a ++ line Stage →
-      d ≡ b ++ line Holders → e ≡ d ++ line SbFlags → f ≡ e ++ line Remount → g ≡ f ++ line Removed → h ≡ g ++ mounts →
-      i ≡ h ++ level 1 → j ≡ i ++ level 2 → k ≡ j ++ level 3 → n ≡ k ++ sections → n ≡ o ++ texts_of value (printed_words c)
-  all_words o a b d e f g h i j k n ea eb ed ee ef eg eh ei ej ek en =
-      let t = eleven o (line Umount) (line Stage) (line Holders) (line SbFlags) (line Remount) (line Removed) mounts (level 1) (level 2)
-      (level 3) sections in
-      joined n k j i h g f e d b a o _ _ _ _ _ _ _ _ _ _ _ en ek ej ei eh eg ef ee ed eb ea ∙ t
-      ∙ ap (λ (l : List ℕ). o ++ l) (sym parts)
+  -- what `words` prints: the words of the whole, the mounts, three levels and the sections
+  pub all_words : (o g h i j k n : List ℕ) → g ≡ o ++ texts_of value words_of_all → h ≡ g ++ mounts → i ≡ h ++ level 1 → j ≡ i ++ level 2 →
+      k ≡ j ++ level 3 → n ≡ k ++ sections → n ≡ o ++ texts_of value (printed_words c)
+  all_words o g h i j k n eg eh ei ej ek en =
+      joined n k j i h g o _ _ _ _ _ _ en ek ej ei eh eg
+      ∙ six o (texts_of value words_of_all) mounts (level 1) (level 2) (level 3) sections ∙ ap (λ (l : List ℕ). o ++ l) (sym parts)
 
   -- what `tree` prints: the blocks charged, the nodes and the children
   pub all_tree_words : (o a b d : List ℕ) → a ≡ o ++ line Used → b ≡ a ++ nodes → d ≡ b ++ kids →
@@ -184,21 +175,19 @@ module _ (c : Config) where
       (All-cons There (Sync i) (map (LevelCount i) (count_up c.processors)) (low, high)
       (all_numbered There (LevelCount i) c.processors (λ p less. (low, high, less))))
 
-  -- the single words
-  singles_there : All There (Umount ∷ Stage ∷ Holders ∷ SbFlags ∷ Remount ∷ Removed ∷ [])
-  singles_there =
-      All-from_recursion There (Umount ∷ Stage ∷ Holders ∷ SbFlags ∷ Remount ∷ Removed ∷ []) (tt, (tt, (tt, (tt, (tt, (tt, tt))))))
+  -- the words of the whole
+  all_there : All There words_of_all
+  all_there = All-from_recursion There words_of_all assumption
 
   -- all that `words` prints
   pub words_there : All There (printed_words c)
   words_there =
       let of_mounts = flat_map (mount_words c) (count_up c.mounts) in
       let of_levels = flat_map (level_words c) (1 ∷ 2 ∷ 3 ∷ []) in
-      let singles = Umount ∷ Stage ∷ Holders ∷ SbFlags ∷ Remount ∷ Removed ∷ [] in
       let OfLevel : ℕ → Type 0 = λ i. All There (level_words c i) in
-      All-append There ((singles ++ of_mounts) ++ of_levels) (map Section (count_up c.tasks))
-      (All-append There (singles ++ of_mounts) of_levels
-      (All-append There singles of_mounts singles_there
+      All-append There ((words_of_all ++ of_mounts) ++ of_levels) (map Section (count_up c.tasks))
+      (All-append There (words_of_all ++ of_mounts) of_levels
+      (All-append There words_of_all of_mounts all_there
       (all_flat There (mount_words c) (count_up c.mounts)
       (All-weaker (λ m. m < c.mounts) (λ m. All There (mount_words c m)) mount_there (count_up c.mounts) (counted c.mounts))))
       (all_flat There (level_words c) (1 ∷ 2 ∷ 3 ∷ [])

@@ -1,24 +1,26 @@
 -- What a driver answers of a word, and what the core shows of a world.
 use Rattle.std.specs.Prelude.{◌≡◌, ℕ, Bool, true, ◌&&◌, List, Option, Some, None, nat_lt, nat_le, if◌then◌else◌, slice_get, slice_index}
 use Rattle.cpu_words.specs.declared.names.WordName.{WordName}
-use Rattle.cpu_words.specs.declared.names.WordName.TheVariants.{MountFlags, MountCount, Block, Sync, LevelCount, Section, Node, Kids}
-use Rattle.cpu_words.specs.Names.{Extents, place}
+use Rattle.cpu_words.specs.declared.names.Row.{Row}
+use Rattle.cpu_words.specs.declared.names.Row.TheVariants.{OfAll, OfMount, CountOfMount, OfLevel, CountOfLevel, OfTask, OfNode}
+use Rattle.cpu_words.specs.Names.{Extents, row, place}
 use Rattle.gate_core.specs.Memory.{Memory, Shows}
 use Rattle.gate_world.specs.Configs.{IsWithin, extents_of}
 use Rattle.gate_world.specs.Worlds.{World}
 use Rattle.gate_world.specs.declared.config.Config.{Config}
 
 -- whether there is that word
+abbrev pub has_row : Extents → Row → Bool
+has_row e (OfAll k) = true
+has_row e (OfMount k m) = nat_lt m e.mounts
+has_row e (CountOfMount k m p) = nat_lt m e.mounts && nat_lt p e.processors
+has_row e (OfLevel k i) = nat_le 1 i && nat_le i 3
+has_row e (CountOfLevel k i p) = nat_le 1 i && (nat_le i 3 && nat_lt p e.processors)
+has_row e (OfTask k t) = nat_lt t e.tasks
+has_row e (OfNode k n) = nat_lt n e.nodes
+
 abbrev pub is_word : Extents → WordName → Bool
-is_word e (MountFlags m) = nat_lt m e.mounts
-is_word e (MountCount m p) = nat_lt m e.mounts && nat_lt p e.processors
-is_word e (Block i) = nat_le 1 i && nat_le i 3
-is_word e (Sync i) = nat_le 1 i && nat_le i 3
-is_word e (LevelCount i p) = nat_le 1 i && (nat_le i 3 && nat_lt p e.processors)
-is_word e (Section t) = nat_lt t e.tasks
-is_word e (Node n) = nat_lt n e.nodes
-is_word e (Kids n) = nat_lt n e.nodes
-is_word e _ = true
+is_word e name = has_row e (row name)
 
 -- the value of a word where the configuration has it
 abbrev pub where_there : Config → WordName → Option ℕ → Option ℕ

@@ -5,32 +5,30 @@ use Rattle.std.proofs.lemmas.Bool.{lt-ltb, le-leb}
 use Rattle.std.proofs.Math.Nat.{le_trans}
 use Rattle.std.specs.Cmp.Derive.{both_true}
 use Rattle.cpu_words.specs.declared.names.WordName.{WordName}
-use Rattle.cpu_words.specs.declared.names.WordName.TheVariants.{MountFlags, MountCount, Block, Sync, LevelCount, Section, Node, Kids}
-use Rattle.cpu_words.specs.Names.{Extents, IsWord, place}
+use Rattle.cpu_words.specs.declared.names.Row.{Row}
+use Rattle.cpu_words.specs.declared.names.Row.TheVariants.{OfAll, OfMount, CountOfMount, OfLevel, CountOfLevel, OfTask, OfNode}
+use Rattle.cpu_words.specs.Names.{Extents, HasRow, IsWord, row, place}
 use Rattle.cpu_words.specs.Words.{read}
 use Rattle.gate_core.specs.Memory.{Memory}
 use Rattle.gate_world.specs.Configs.{IsWithin, extents_of, extents_kept}
 use Rattle.gate_world.specs.Worlds.{World}
 use Rattle.gate_world.specs.declared.config.Config.{Config}
-use Rattle.transcripts.specs.Drivers.{is_word, where_there, core_word, CoreShows}
+use Rattle.transcripts.specs.Drivers.{has_row, core_word, CoreShows}
 
 -- the test finds a word that there is
-found : (e : Extents) (name : WordName) → IsWord e name → is_word e name ≡ true
-found e (MountFlags m) there = lt-ltb m e.mounts there
-found e (MountCount m p) there = both_true (lt-ltb m e.mounts there.0) (lt-ltb p e.processors there.1)
-found e (Block i) there = both_true (le-leb 1 i there.0) (le-leb i 3 there.1)
-found e (Sync i) there = both_true (le-leb 1 i there.0) (le-leb i 3 there.1)
-found e (LevelCount i p) there =
+found : (e : Extents) (r : Row) → HasRow e r → has_row e r ≡ true
+found e (OfAll k) there = refl
+found e (OfMount k m) there = lt-ltb m e.mounts there
+found e (CountOfMount k m p) there = both_true (lt-ltb m e.mounts there.0) (lt-ltb p e.processors there.1)
+found e (OfLevel k i) there = both_true (le-leb 1 i there.0) (le-leb i 3 there.1)
+found e (CountOfLevel k i p) there =
     both_true (le-leb 1 i there.0) (both_true (le-leb i 3 there.1) (lt-ltb p e.processors there.2))
-found e (Section t) there = lt-ltb t e.tasks there
-found e (Node n) there = lt-ltb n e.nodes there
-found e (Kids n) there = lt-ltb n e.nodes there
-found e _ there = refl
+found e (OfTask k t) there = lt-ltb t e.tasks there
+found e (OfNode k n) there = lt-ltb n e.nodes there
 
 -- a word of a lawful configuration is among those that are kept
-pub kept_too : (c : Config) → IsWithin c → (name : WordName) → IsWord (extents_of c) name → IsWord (extents_kept c) name
-kept_too c within (Node n) there = le_trans there within.nodes
-kept_too c within (Kids n) there = le_trans there within.nodes
+kept_too : (c : Config) → IsWithin c → (r : Row) → HasRow (extents_of c) r → HasRow (extents_kept c) r
+kept_too c within (OfNode k n) there = le_trans there within.nodes
 kept_too c within _ there = there
 
 -- so it is of the core
@@ -40,5 +38,5 @@ core_tells core c w name shows there =
     let here : IsWord (extents_of core.config) name = subst (λ (x : Config). IsWord (extents_of x) name) (sym shows.config) there in
     let within : IsWithin core.config = subst IsWithin (sym shows.config) shows.within in
     let some : ℕ → Option ℕ = Some in
-    ap (λ (b : Bool). if b then some (slice_index core.words (place name)) else None) (found (extents_of core.config) name here)
-    ∙ ap some (shows.world.words name (kept_too core.config within name here))
+    ap (λ (b : Bool). if b then some (slice_index core.words (place name)) else None) (found (extents_of core.config) (row name) here)
+    ∙ ap some (shows.world.words name (kept_too core.config within (row name) here))

@@ -68,6 +68,10 @@ word_text name (Some value) = if value == 0 then [] else word_line name value
 abbrev pub texts_of : (WordName → Option ℕ) → List WordName → List ℕ
 texts_of value names = flat_map (λ name. word_text name (value name)) names
 
+-- the words of the whole file system, but the blocks charged
+abbrev pub words_of_all : List WordName
+words_of_all = Umount ∷ Stage ∷ Holders ∷ SbFlags ∷ Remount ∷ Removed ∷ []
+
 -- the words of a mount
 abbrev pub mount_words : Config → ℕ → List WordName
 mount_words c m = MountFlags m ∷ map (MountCount m) (count_up c.processors)
@@ -79,8 +83,7 @@ level_words c i = Block i ∷ Sync i ∷ map (LevelCount i) (count_up c.processo
 -- the words that `words` prints where they aren't 0, in this order: from `umount` to the last section
 abbrev pub printed_words : Config → List WordName
 printed_words c =
-    (Umount ∷ Stage ∷ Holders ∷ SbFlags ∷ Remount ∷ Removed ∷ []) ++ flat_map (mount_words c) (count_up c.mounts) ++
-    flat_map (level_words c) (1 ∷ 2 ∷ 3 ∷ []) ++ map Section (count_up c.tasks)
+    words_of_all ++ flat_map (mount_words c) (count_up c.mounts) ++ flat_map (level_words c) (1 ∷ 2 ∷ 3 ∷ []) ++ map Section (count_up c.tasks)
 
 -- those that `tree` prints: the blocks charged, all nodes, the children charged to each
 abbrev pub printed_tree_words : Config → List WordName

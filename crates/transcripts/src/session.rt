@@ -43,7 +43,7 @@ impl<D: Driver> Session<D> {
     ghost use Rattle.gate_world.specs.Worlds.{Begins, Steps};
     ghost use Rattle.transcripts.specs.Limits.{is_config};
     ghost use Rattle.transcripts.specs.Sessions.{ShowsPlay};
-    ghost use Rattle.transcripts.specs.Transcript.{Play, opening_play, played, used_now, begin_text, hook_answer, run_of, command_outcome, request_outcome, word_text, texts_of, mount_words, level_words, printed_words, printed_tree_words, words_text, tree_words_text, count_up, model_text, freezes_text, freeze_line, closed_line, task_text, tree_line, held_line, level_line, open_line};
+    ghost use Rattle.transcripts.specs.Transcript.{Play, opening_play, played, used_now, begin_text, hook_answer, run_of, command_outcome, request_outcome, word_text, texts_of, words_of_all, mount_words, level_words, printed_words, printed_tree_words, words_text, tree_words_text, count_up, model_text, freezes_text, freeze_line, closed_line, task_text, tree_line, held_line, level_line, open_line};
     ghost use Rattle.access_model.specs.Histories.{end_of};
     ghost use Rattle.cpu_words.specs.Names.{IsWord};
     ghost use Rattle.cpu_words.specs.declared.names.WordName.TheVariants.{Section as SectionWord, Node as NodeWord, Kids as KidsWord};
@@ -220,17 +220,23 @@ impl<D: Driver> Session<D> {
             texts_of (D.word_of self.now.driver) (printed_words self.now.config)) }
         ensures shown { (p : Play) → ShowsPlay D.shows self.now p → OnOk result (out.new.bytes.items ≡ out.old.bytes.items ++ words_text p) }
     {
-        self.print_word(WordName::Umount, out)?;
-        self.print_word(WordName::Stage, out)?;
-        self.print_word(WordName::Holders, out)?;
-        self.print_word(WordName::SbFlags, out)?;
-        self.print_word(WordName::Remount, out)?;
-        self.print_word(WordName::Removed, out)?;
+        self.print_words_of_all(out)?;
         self.print_words_of_mounts(out)?;
         self.print_level_words(1, out)?;
         self.print_level_words(2, out)?;
         self.print_level_words(3, out)?;
         self.print_sections(out)
+    }
+
+    fn print_words_of_all(&self, out: &mut Output) -> Result<(), AllocError>
+        ensures { OnOk result (out.new.bytes.items ≡ out.old.bytes.items ++ texts_of (D.word_of self.now.driver) words_of_all) }
+    {
+        self.print_word(WordName::Umount, out)?;
+        self.print_word(WordName::Stage, out)?;
+        self.print_word(WordName::Holders, out)?;
+        self.print_word(WordName::SbFlags, out)?;
+        self.print_word(WordName::Remount, out)?;
+        self.print_word(WordName::Removed, out)
     }
 
     fn print_words_of_mounts(&self, out: &mut Output) -> Result<(), AllocError>

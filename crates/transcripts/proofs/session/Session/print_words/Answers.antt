@@ -16,10 +16,8 @@ returns-clause-own g c =
     IfOk-weaker c.print_sections.result
     (λ _. new ≡ before ++ flat_map (λ t. word_text (Section t) (value (Section t))) (count_up s.config.tasks))
     (λ _. new ≡ c.args.out.now.bytes.items ++ texts_of value (printed_words s.config))
-    (λ _ last. all_words value s.config _ _ _ _ _ _ _ _ _ _ _ _
-    c.in_ok-print_word.ensures c.in_ok-print_word-2.ensures c.in_ok-print_word-3.ensures c.in_ok-print_word-4.ensures
-    c.in_ok-print_word-5.ensures c.in_ok-print_word-6.ensures c.in_ok-print_words_of_mounts.ensures c.in_ok-print_level_words.ensures
-    c.in_ok-print_level_words-2.ensures c.in_ok-print_level_words-3.ensures last)
+    (λ _ last. all_words value s.config _ _ _ _ _ _ _ c.in_ok-print_words_of_all.ensures c.in_ok-print_words_of_mounts.ensures
+    c.in_ok-print_level_words.ensures c.in_ok-print_level_words-2.ensures c.in_ok-print_level_words-3.ensures last)
     c.print_sections.ensures
 
 pub returns-clause-shown : goal.returns-clause-shown
