@@ -16,14 +16,13 @@ use Rattle.command_line.specs.declared.words.Replay.{Replay}
 abbrev pub flag_rule : Text → Rule
 flag_rule name = record (new_rule name) { long = Some name; action = Some SetTrue }
 
--- a number from the least to the most, which has to be there
+-- a number from the least to the most, which may be left out
 abbrev pub number_rule : Text → ℕ → ℕ → Rule
-number_rule name least most = record (new_rule name) {
-  long = Some name;
-  value_names = 1;
-  required = true;
-  parser = Some (Unsigned least most);
-}
+number_rule name least most = record (new_rule name) { long = Some name; value_names = 1; parser = Some (Unsigned least most) }
+
+-- the same, which has to be there
+abbrev pub needed_rule : Text → ℕ → ℕ → Rule
+needed_rule name least most = record (number_rule name least most) { required = true }
 
 -- a command with its arguments
 abbrev pub command_of : Text → List Rule → Shape
@@ -40,25 +39,17 @@ abbrev pub check_shape : Shape
 check_shape = command_of (codes "check") (
     record (new_rule (codes "FILE")) { range = Some (record { start_inclusive = 1; end_inclusive = usize_max }) } ∷ [])
 
--- how many states a race may have: a number, which may be left out
-abbrev pub limit_rule : Rule
-limit_rule = record (new_rule (codes "limit")) {
-  long = Some (codes "limit");
-  value_names = 1;
-  parser = Some (Unsigned 1 4294967295);
-}
-
 -- `outcomes`
 abbrev pub outcomes_shape : Shape
 outcomes_shape = command_of (codes "outcomes") (
     new_rule (codes "FILE") ∷ flag_rule (codes "schedules") ∷ flag_rule (codes "columns") ∷ flag_rule (codes "model")
-    ∷ limit_rule ∷ [])
+    ∷ number_rule (codes "limit") 1 4294967295 ∷ [])
 
 -- `run`
 abbrev pub run_shape : Shape
 run_shape = command_of (codes "run") (
-    number_rule (codes "tasks") 3 64 ∷ number_rule (codes "cpus") 1 64 ∷ number_rule (codes "rounds") 1 10000
-    ∷ number_rule (codes "freezes") 0 1000 ∷ flag_rule (codes "details") ∷ [])
+    needed_rule (codes "tasks") 3 64 ∷ needed_rule (codes "cpus") 1 64 ∷ needed_rule (codes "rounds") 1 10000
+    ∷ needed_rule (codes "freezes") 0 1000 ∷ flag_rule (codes "details") ∷ [])
 
 -- the command line: each command of the program
 abbrev pub mntgate_app : App

@@ -1,9 +1,9 @@
 //! The words of a command line.
 
 ghost use Rattle.std.specs.Prelude.{◌≡◌, ◌⊎◌, true, false, Some, IfOk, map, codes, string_bytes};
-ghost use Rattle.clap.specs.Words.{app_of, found_of, kind_of, one_of, rows_of, rule_of, subcommand_rows_of};
+ghost use Rattle.clap.specs.Words.{Shape, app_of, found_of, kind_of, one_of, rows_of, rule_of, subcommand_rows_of, with_subcommand};
 ghost use Rattle.clap.specs.declared.error.kind.ErrorKind.TheVariants.{OutOfMemory};
-ghost use Rattle.command_line.specs.CommandLine.{AreBare, IsBareReplay, IsPlainOfInput, MayAskPlainly, alone, are_plain, ask_plainly, check_shape, flag_rule, is_off, is_plain_replay, limit_rule, mntgate_app, number_rule, outcomes_shape, replay_shape, run_shape};
+ghost use Rattle.command_line.specs.CommandLine.{AreBare, IsBareReplay, IsPlainOfInput, MayAskPlainly, alone, are_plain, ask_plainly, check_shape, flag_rule, is_off, is_plain_replay, mntgate_app, needed_rule, number_rule, outcomes_shape, replay_shape, run_shape};
 ghost use Rattle.command_line.specs.declared.words.Asked.TheVariants.{Misused, Unread};
 ghost use Rattle.command_line.specs.declared.words.Form.TheVariants.{Plain};
 
@@ -289,23 +289,21 @@ fn flag<'a>(alloc: Global, name: &'a str, help: &'a str) -> Arg<'a>
 fn replay_command<'a>(alloc: Global) -> Result<Command<'a>, AllocError>
     ensures { IfOk result (λ command. app_of command ≡ alone replay_shape) }
 {
-    let events = flag(
-        alloc,
-        EVENTS,
-        "Prints the events of a run too, and for whom a task waits",
-    );
-    let columns = flag(alloc, COLUMNS, "Prints them in a column for each task");
-    let json = flag(
-        alloc,
-        JSON,
-        "Prints a line of JSON for each event, answer and listing",
-    );
+    // A flag that was made before the others would have to be dropped wherever one of them can't be added.
     Command::new(alloc, "replay")
         .about("Replays a schedule, and prints what its lines ask for")
         .arg(Arg::new(alloc, FILE).help("Its file; standard input, where none is named"))?
-        .arg(events)?
-        .arg(columns)?
-        .arg(json)?
+        .arg(flag(
+            alloc,
+            EVENTS,
+            "Prints the events of a run too, and for whom a task waits",
+        ))?
+        .arg(flag(alloc, COLUMNS, "Prints them in a column for each task"))?
+        .arg(flag(
+            alloc,
+            JSON,
+            "Prints a line of JSON for each event, answer and listing",
+        ))?
         .arg(flag(
             alloc,
             OVER_GATES,
@@ -332,36 +330,27 @@ fn check_command<'a>(alloc: Global) -> Result<Command<'a>, AllocError>
         .arg(files)
 }
 
-/// How many states a race may have.
-fn limit<'a>(alloc: Global) -> Arg<'a>
-    ensures rule { rule_of result ≡ limit_rule }
-    ensures local { result.global ≡ false }
-{
-    Arg::new(alloc, LIMIT)
-        .long(LIMIT)
-        .value_name("STATES")
-        .value_parser(ValueParser::unsigned(1, 4_294_967_295))
-        .help("How many states it may have at most: 1000000, if not given")
-}
-
 /// `outcomes`, with its file and its flags.
 fn outcomes_command<'a>(alloc: Global) -> Result<Command<'a>, AllocError>
     ensures { IfOk result (λ command. app_of command ≡ alone outcomes_shape) }
 {
-    let schedules = flag(
-        alloc,
-        SCHEDULES,
-        "Prints a shortest schedule for each outcome",
-    );
-    let columns = flag(alloc, COLUMNS, "Prints one too, in a column for each task");
-    let model = flag(alloc, MODEL, "Prints the model at the end of each schedule");
     Command::new(alloc, "outcomes")
         .about("Prints all outcomes of a race: what its calls can answer, whatever their order")
         .arg(Arg::new(alloc, FILE).help("Its file; standard input, where none is named"))?
-        .arg(schedules)?
-        .arg(columns)?
-        .arg(model)?
-        .arg(limit(alloc))
+        .arg(flag(
+            alloc,
+            SCHEDULES,
+            "Prints a shortest schedule for each outcome",
+        ))?
+        .arg(flag(alloc, COLUMNS, "Prints one too, in a column for each task"))?
+        .arg(flag(alloc, MODEL, "Prints the model at the end of each schedule"))?
+        .arg(number(
+            alloc,
+            LIMIT,
+            "STATES",
+            (1, 4_294_967_295),
+            "How many states it may have at most: 1000000, if not given",
+        ))
 }
 
 /// `run`, with its numbers.
@@ -370,28 +359,28 @@ fn run_command<'a>(alloc: Global) -> Result<Command<'a>, AllocError>
 {
     Command::new(alloc, "run")
         .about("Runs writers, a remounter and a backup in threads, and prints what they did")
-        .arg(number(
+        .arg(needed(
             alloc,
             "tasks",
             3,
             64,
             "Tasks, each in a thread of its own: 3 to 64",
         ))?
-        .arg(number(
+        .arg(needed(
             alloc,
             "cpus",
             1,
             64,
             "Processors, with count words of their own: 1 to 64",
         ))?
-        .arg(number(
+        .arg(needed(
             alloc,
             "rounds",
             1,
             10_000,
             "Rounds of each writer and of the remounter: 1 to 10000",
         ))?
-        .arg(number(
+        .arg(needed(
             alloc,
             "freezes",
             0,
@@ -409,27 +398,52 @@ fn run_command<'a>(alloc: Global) -> Result<Command<'a>, AllocError>
 fn command<'a>(alloc: Global) -> Result<Command<'a>, AllocError>
     ensures { IfOk result (λ command. app_of command ≡ mntgate_app) }
 {
-    Command::new(alloc, "mntgate")
+    let program = Command::new(alloc, "mntgate")
         .about("Write gates of a mounted file system")
         .version(VERSION)
-        .subcommand_required(true)
-        .subcommand(replay_command(alloc)?)?
-        .subcommand(check_command(alloc)?)?
-        .subcommand(outcomes_command(alloc)?)?
-        .subcommand(run_command(alloc)?)
+        .subcommand_required(true);
+    let replays = with_command(program, replay_command(alloc))?;
+    let checks = with_command(replays, check_command(alloc))?;
+    let tells = with_command(checks, outcomes_command(alloc))?;
+    with_command(tells, run_command(alloc))
 }
 
-/// An argument that has to be there: a number from the least to the most.
-fn number<'a>(alloc: Global, name: &'a str, least: u64, most: u64, help: &'a str) -> Arg<'a>
-    ensures rule { rule_of result ≡ number_rule name.entry.now least most }
+/// A command with one command more, if there was memory to make that.
+fn with_command<'a>(
+    command: Command<'a>,
+    made: Result<Command<'a>, AllocError>,
+) -> Result<Command<'a>, AllocError>
+    ensures { IfOk result (λ new. (s : Shape) → IfOk made.entry (λ sub. app_of sub ≡ alone s) → s.is_plain ≡ true →
+        app_of new ≡ with_subcommand (app_of command.entry) s) }
+{
+    let sub = made?;
+    command.subcommand(sub)
+}
+
+/// An argument that may be left out: a number from the least to the most.
+fn number<'a>(
+    alloc: Global,
+    name: &'a str,
+    value: &'a str,
+    bounds: (u64, u64),
+    help: &'a str,
+) -> Arg<'a>
+    ensures rule { rule_of result ≡ number_rule name.entry.now bounds.0 bounds.1 }
     ensures local { result.global ≡ false }
 {
     Arg::new(alloc, name)
         .long(name)
-        .value_name("N")
-        .required(true)
-        .value_parser(ValueParser::unsigned(least, most))
+        .value_name(value)
+        .value_parser(ValueParser::unsigned(bounds.0, bounds.1))
         .help(help)
+}
+
+/// An argument that has to be there: a number from the least to the most.
+fn needed<'a>(alloc: Global, name: &'a str, least: u64, most: u64, help: &'a str) -> Arg<'a>
+    ensures rule { rule_of result ≡ needed_rule name.entry.now least most }
+    ensures local { result.global ≡ false }
+{
+    number(alloc, name, "N", (least, most), help).required(true)
 }
 
 /// The numbers of a run, which a command line that was understood has.

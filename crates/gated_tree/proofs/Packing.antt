@@ -1,6 +1,6 @@
 -- Nodes to words and back.
 use Rattle.std.proofs.Common.{◌≡◌, ℕ, zero, suc, Bool, true, false, ◌/◌, ◌%◌, ◌<◌, ◌≤◌, refl, sym, ap, ◌∙◌, subst, inl, inr, arith}
-use Rattle.std.specs.Prelude.{◌==◌, Option, Some, None, if◌then◌else◌, option_map}
+use Rattle.std.specs.Prelude.{◌==◌, IfSome, Option, Some, None, if◌then◌else◌, option_map}
 use Rattle.std.proofs.lemmas.Bool.{cases_Bool}
 use Rattle.std.proofs.lemmas.Bool.Decides.{nat_tests}
 use Rattle.access_model.specs.declared.actions.Kind.{Kind}
@@ -214,6 +214,12 @@ unpacked_returns word node lt e =
     let same : node_of word ≡ node = cc (packed_unpacks word h, e) in
     let back : IsLawful node × (word_of node ≡ word) = subst (λ n. IsLawful n × (word_of n ≡ word)) same (word_returns word h) in
     (h, sym same, back.0, back.1)
+
+-- and so of what it unpacks to, if it does
+pub node_back : (word : ℕ) (r : Option NodeWord) → word < 18446744073709551616 → r ≡ unpacked word →
+    IfSome r (λ node. IsLawful node × (word_of node ≡ word))
+node_back word None lt e = tt
+node_back word (Some node) lt e = let p = unpacked_returns word node lt (sym e) in (p.2, p.3)
 
 -- what is made of something that may be missing is missing with it
 mapped : {A B : Type 0} (to : A → B) (missing : Bool) (a : A) →

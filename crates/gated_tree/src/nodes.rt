@@ -1,7 +1,7 @@
 //! A node of the tree as one word.
 
-ghost use Rattle.std.specs.Prelude.{◌≡◌, Some, IfSome};
-ghost use Rattle.gated_tree.specs.Nodes.{IsLawful, any_file_in, directory_in, file_in, node_after, node_of, node_shown, unpacked, word_of};
+ghost use Rattle.std.specs.Prelude.{◌≡◌, ◌/◌, ◌%◌, Some, IfSome};
+ghost use Rattle.gated_tree.specs.Nodes.{IsLawful, any_file_in, directory_in, dirty_in, file_in, is_misplaced, is_outside, kind_in, node_after, node_of, node_shown, opens_in, removed_in, unpacked, word_of};
 
 use access_model::{GateError, Kind, NodeInfo};
 
@@ -53,6 +53,30 @@ impl NodeWord {
             | u64::from(self.size) << 32
     }
 
+    /// Whether its kind is 3, a bit outside the fields is set, or it is of kind 0 and isn't 0.
+    #[inline(always)]
+    fn is_outside(word: u64) -> bool
+        ensures { result ≡ is_outside (kind_in word) (word / 16 % 16) (word / 16384 % 4) (word / 8388608 % 512) word }
+    {
+        let kind = word & 3;
+        let stray = (word >> 4) & 15 != 0 || (word >> 14) & 3 != 0 || (word >> 23) & 511 != 0;
+        kind == 3 || stray || (kind == 0 && word != 0)
+    }
+
+    /// Whether more than 64 tasks have it open or some a directory, or it has the removed mark on anything but a clean file that is open.
+    #[inline(always)]
+    fn is_misplaced(word: u64) -> bool
+        ensures { result ≡ is_misplaced (kind_in word) (dirty_in word) (removed_in word) (opens_in word) }
+    {
+        let kind = word & 3;
+        let opens = (word >> 16) & 127;
+        if opens > 64 || (kind == 2 && opens != 0) {
+            return true;
+        }
+        let dirty = (word >> 2) & 1 == 1;
+        (word >> 3) & 1 == 1 && (kind != 1 || dirty || opens == 0)
+    }
+
     /// The node of a word. None where its kind is 3, where a bit outside the fields is set, where it is of kind 0 and isn't 0, where more
     /// than 64 tasks have it open or some a directory, and where it has the removed mark on anything but a clean file that is open.
     /// Any other word is that of the node again.
@@ -61,19 +85,19 @@ impl NodeWord {
         ensures node { result ≡ unpacked word }
         ensures back { IfSome result (λ node. IsLawful node × (word_of node ≡ word)) }
     {
-        let kind = word & 3;
-        let stray = (word >> 4) & 15 != 0 || (word >> 14) & 3 != 0 || (word >> 23) & 511 != 0;
-        let opens = (word >> 16) & 127;
-        let misplaced = opens > 64 || (kind == 2 && opens != 0);
-        let removed = (word >> 3) & 1 == 1;
-        let dirty = (word >> 2) & 1 == 1;
-        if stray || kind == 3 || (kind == 0 && word != 0) || misplaced {
-            return None;
+        NodeWord::of(word)
+    }
+
+    /// The same.
+    #[inline]
+    fn of(word: u64) -> Option<NodeWord>
+        ensures { result ≡ unpacked word }
+    {
+        if NodeWord::is_outside(word) || NodeWord::is_misplaced(word) {
+            None
+        } else {
+            Some(NodeWord::fields(word))
         }
-        if removed && (kind != 1 || dirty || opens == 0) {
-            return None;
-        }
-        Some(NodeWord::fields(word))
     }
 
     /// The fields of a word, whatever else it has.

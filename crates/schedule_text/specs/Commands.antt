@@ -1,5 +1,5 @@
 -- Words that name verbs, hooks and kinds of nodes, and what a hook answers that a schedule lets fail.
-use Rattle.std.specs.Prelude.{ℕ, Bool, true, false, ◌==◌, ◌||◌, if◌then◌else◌, List, codes, Option, Some, None, Ok, Err, bytes_eq}
+use Rattle.std.specs.Prelude.{ℕ, Bool, true, false, ◌==◌, ◌||◌, if◌then◌else◌, List, [], ◌∷◌, codes, Option, Some, None, Ok, Err, bytes_eq, find}
 use Rattle.access_model.specs.declared.actions.Holder.{Holder}
 use Rattle.access_model.specs.declared.actions.Holder.TheVariants.{Kernel, User}
 use Rattle.access_model.specs.declared.actions.Kind.{Kind}
@@ -11,48 +11,45 @@ use Rattle.schedule_text.specs.declared.commands.HookFailure.{HookFailure}
 use Rattle.schedule_text.specs.declared.commands.Verb.{Verb}
 use Rattle.schedule_text.specs.declared.commands.Verb.TheVariants.{Want, TryWant, Drop, Start, TryStart, End, WantWrite, DropWrite, Change, TryChange, Remount, Callback, Freeze, Thaw, Create, Remove, Grow, Move, Fault, Flush, Open, Close, TryClose, Snapshot, TrySnapshot, Step, Run}
 
--- the verb at the gates that a word names
-unfoldable pub gate_verb_of : List ℕ → Option Verb
-gate_verb_of word =
-    if bytes_eq word (codes "want") then Some Want else
-    if bytes_eq word (codes "trywant") then Some TryWant else
-    if bytes_eq word (codes "drop") then Some Drop else
-    if bytes_eq word (codes "start") then Some Start else
-    if bytes_eq word (codes "trystart") then Some TryStart else
-    if bytes_eq word (codes "end") then Some End else
-    if bytes_eq word (codes "wantwrite") then Some WantWrite else
-    if bytes_eq word (codes "dropwrite") then Some DropWrite else
-    if bytes_eq word (codes "change") then Some Change else
-    if bytes_eq word (codes "trychange") then Some TryChange else
-    if bytes_eq word (codes "remount") then Some Remount else
-    if bytes_eq word (codes "callback") then Some Callback else
-    if bytes_eq word (codes "freeze") then Some Freeze else
-    if bytes_eq word (codes "thaw") then Some Thaw else None
+-- all verbs
+abbrev pub verbs : List Verb
+verbs =
+    Want ∷ TryWant ∷ Drop ∷ Start ∷ TryStart ∷ End ∷ WantWrite ∷ DropWrite ∷ Change ∷ TryChange ∷ Remount ∷ Callback ∷ Freeze ∷ Thaw ∷ Create ∷
+    Remove ∷ Grow ∷ Move ∷ Fault ∷ Flush ∷ Open ∷ Close ∷ TryClose ∷ Snapshot ∷ TrySnapshot ∷ Step ∷ Run ∷ []
 
--- the verb at the tree, or of single steps, that a word names
-unfoldable pub tree_verb_of : List ℕ → Option Verb
-tree_verb_of word =
-    if bytes_eq word (codes "create") then Some Create else
-    if bytes_eq word (codes "remove") then Some Remove else
-    if bytes_eq word (codes "grow") then Some Grow else
-    if bytes_eq word (codes "move") then Some Move else
-    if bytes_eq word (codes "fault") then Some Fault else
-    if bytes_eq word (codes "flush") then Some Flush else
-    if bytes_eq word (codes "open") then Some Open else
-    if bytes_eq word (codes "close") then Some Close else
-    if bytes_eq word (codes "tryclose") then Some TryClose else
-    if bytes_eq word (codes "snapshot") then Some Snapshot else
-    if bytes_eq word (codes "trysnapshot") then Some TrySnapshot else
-    if bytes_eq word (codes "step") then Some Step else
-    if bytes_eq word (codes "run") then Some Run else None
+-- the word that names a verb
+abbrev pub verb_name : Verb → List ℕ
+verb_name Want = codes "want"
+verb_name TryWant = codes "trywant"
+verb_name Drop = codes "drop"
+verb_name Start = codes "start"
+verb_name TryStart = codes "trystart"
+verb_name End = codes "end"
+verb_name WantWrite = codes "wantwrite"
+verb_name DropWrite = codes "dropwrite"
+verb_name Change = codes "change"
+verb_name TryChange = codes "trychange"
+verb_name Remount = codes "remount"
+verb_name Callback = codes "callback"
+verb_name Freeze = codes "freeze"
+verb_name Thaw = codes "thaw"
+verb_name Create = codes "create"
+verb_name Remove = codes "remove"
+verb_name Grow = codes "grow"
+verb_name Move = codes "move"
+verb_name Fault = codes "fault"
+verb_name Flush = codes "flush"
+verb_name Open = codes "open"
+verb_name Close = codes "close"
+verb_name TryClose = codes "tryclose"
+verb_name Snapshot = codes "snapshot"
+verb_name TrySnapshot = codes "trysnapshot"
+verb_name Step = codes "step"
+verb_name Run = codes "run"
 
--- the verb that a word names
-abbrev pub or_verb : Option Verb → Option Verb → Option Verb
-or_verb None other = other
-or_verb (Some verb) other = Some verb
-
-abbrev pub verb_of : List ℕ → Option Verb
-verb_of word = or_verb (gate_verb_of word) (tree_verb_of word)
+-- the verb that a word names: each has a name of its own
+unfoldable pub verb_of : List ℕ → Option Verb
+verb_of word = find (λ verb. bytes_eq word (verb_name verb)) verbs
 
 -- whether a line with this verb may have so many words
 abbrev pub takes : Verb → ℕ → Bool

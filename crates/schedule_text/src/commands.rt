@@ -1,8 +1,9 @@
 //! What a line asks for.
 
-ghost use Rattle.std.specs.Prelude.{◌≡◌};
+ghost use Rattle.std.specs.Prelude.{◌≡◌, bytes_eq};
 ghost use Rattle.schedule_text.specs.Commands.{holder_named, hook_named, kind_named};
 
+use crate::words::is_word;
 use access_model::{Holder, Kind};
 use freeze_levels::HookKind;
 use gate_world::{Config, Op};
@@ -82,90 +83,86 @@ pub enum Verb {
 }
 
 impl Verb {
-    ghost use Rattle.schedule_text.specs.Commands.{verb_of, gate_verb_of, tree_verb_of, takes};
+    ghost use Rattle.schedule_text.specs.Commands.{verb_name, verb_of, takes};
+
+    /// All of them.
+    const ALL: [Verb; 27] = [
+        Verb::Want,
+        Verb::TryWant,
+        Verb::Drop,
+        Verb::Start,
+        Verb::TryStart,
+        Verb::End,
+        Verb::WantWrite,
+        Verb::DropWrite,
+        Verb::Change,
+        Verb::TryChange,
+        Verb::Remount,
+        Verb::Callback,
+        Verb::Freeze,
+        Verb::Thaw,
+        Verb::Create,
+        Verb::Remove,
+        Verb::Grow,
+        Verb::Move,
+        Verb::Fault,
+        Verb::Flush,
+        Verb::Open,
+        Verb::Close,
+        Verb::TryClose,
+        Verb::Snapshot,
+        Verb::TrySnapshot,
+        Verb::Step,
+        Verb::Run,
+    ];
+
+    /// The word that names it.
+    fn name(self) -> &'static str
+        ensures { result.now ≡ verb_name self }
+    {
+        match self {
+            Verb::Want => "want",
+            Verb::TryWant => "trywant",
+            Verb::Drop => "drop",
+            Verb::Start => "start",
+            Verb::TryStart => "trystart",
+            Verb::End => "end",
+            Verb::WantWrite => "wantwrite",
+            Verb::DropWrite => "dropwrite",
+            Verb::Change => "change",
+            Verb::TryChange => "trychange",
+            Verb::Remount => "remount",
+            Verb::Callback => "callback",
+            Verb::Freeze => "freeze",
+            Verb::Thaw => "thaw",
+            Verb::Create => "create",
+            Verb::Remove => "remove",
+            Verb::Grow => "grow",
+            Verb::Move => "move",
+            Verb::Fault => "fault",
+            Verb::Flush => "flush",
+            Verb::Open => "open",
+            Verb::Close => "close",
+            Verb::TryClose => "tryclose",
+            Verb::Snapshot => "snapshot",
+            Verb::TrySnapshot => "trysnapshot",
+            Verb::Step => "step",
+            Verb::Run => "run",
+        }
+    }
+
+    /// Whether a word names it.
+    fn is_named(self, word: &[u8]) -> bool
+        ensures { result ≡ bytes_eq word.now (verb_name self) }
+    {
+        is_word(word, self.name())
+    }
 
     /// The verb that a word names.
     pub fn of(word: &[u8]) -> Option<Verb>
         ensures { result ≡ verb_of word.now }
     {
-        match Verb::at_the_gates(word) {
-            Some(verb) => Some(verb),
-            None => Verb::at_the_tree(word),
-        }
-    }
-
-    /// The verb at the gates that a word names.
-    #[tactic(auto, unfolding(crate::specs::Commands::gate_verb_of))]
-    fn at_the_gates(word: &[u8]) -> Option<Verb>
-        ensures { result ≡ gate_verb_of word.now }
-    {
-        if word == b"want".as_slice() {
-            Some(Verb::Want)
-        } else if word == b"trywant".as_slice() {
-            Some(Verb::TryWant)
-        } else if word == b"drop".as_slice() {
-            Some(Verb::Drop)
-        } else if word == b"start".as_slice() {
-            Some(Verb::Start)
-        } else if word == b"trystart".as_slice() {
-            Some(Verb::TryStart)
-        } else if word == b"end".as_slice() {
-            Some(Verb::End)
-        } else if word == b"wantwrite".as_slice() {
-            Some(Verb::WantWrite)
-        } else if word == b"dropwrite".as_slice() {
-            Some(Verb::DropWrite)
-        } else if word == b"change".as_slice() {
-            Some(Verb::Change)
-        } else if word == b"trychange".as_slice() {
-            Some(Verb::TryChange)
-        } else if word == b"remount".as_slice() {
-            Some(Verb::Remount)
-        } else if word == b"callback".as_slice() {
-            Some(Verb::Callback)
-        } else if word == b"freeze".as_slice() {
-            Some(Verb::Freeze)
-        } else if word == b"thaw".as_slice() {
-            Some(Verb::Thaw)
-        } else {
-            None
-        }
-    }
-
-    /// The verb at the tree, or of single steps, that a word names.
-    #[tactic(auto, unfolding(crate::specs::Commands::tree_verb_of))]
-    fn at_the_tree(word: &[u8]) -> Option<Verb>
-        ensures { result ≡ tree_verb_of word.now }
-    {
-        if word == b"create".as_slice() {
-            Some(Verb::Create)
-        } else if word == b"remove".as_slice() {
-            Some(Verb::Remove)
-        } else if word == b"grow".as_slice() {
-            Some(Verb::Grow)
-        } else if word == b"move".as_slice() {
-            Some(Verb::Move)
-        } else if word == b"fault".as_slice() {
-            Some(Verb::Fault)
-        } else if word == b"flush".as_slice() {
-            Some(Verb::Flush)
-        } else if word == b"open".as_slice() {
-            Some(Verb::Open)
-        } else if word == b"close".as_slice() {
-            Some(Verb::Close)
-        } else if word == b"tryclose".as_slice() {
-            Some(Verb::TryClose)
-        } else if word == b"snapshot".as_slice() {
-            Some(Verb::Snapshot)
-        } else if word == b"trysnapshot".as_slice() {
-            Some(Verb::TrySnapshot)
-        } else if word == b"step".as_slice() {
-            Some(Verb::Step)
-        } else if word == b"run".as_slice() {
-            Some(Verb::Run)
-        } else {
-            None
-        }
+        Verb::ALL.iter().find(|verb| verb.is_named(word)).copied()
     }
 
     /// Whether a line with this verb may have so many words, the task and the verb among them.
@@ -206,13 +203,13 @@ impl HookFailure {
 pub fn hook_named(word: &[u8]) -> Option<HookKind>
     ensures { result ≡ hook_named word.now }
 {
-    if word == b"sync".as_slice() {
+    if is_word(word, "sync") {
         Some(HookKind::Sync)
-    } else if word == b"freeze".as_slice() {
+    } else if is_word(word, "freeze") {
         Some(HookKind::FreezeFs)
-    } else if word == b"unfreeze".as_slice() {
+    } else if is_word(word, "unfreeze") {
         Some(HookKind::UnfreezeFs)
-    } else if word == b"reconfigure".as_slice() {
+    } else if is_word(word, "reconfigure") {
         Some(HookKind::Reconfigure)
     } else {
         None
@@ -224,9 +221,9 @@ pub fn hook_named(word: &[u8]) -> Option<HookKind>
 pub fn holder_named(word: &[u8]) -> Option<Holder>
     ensures { result ≡ holder_named word.now }
 {
-    if word == b"kernel".as_slice() {
+    if is_word(word, "kernel") {
         Some(Holder::Kernel)
-    } else if word == b"user".as_slice() {
+    } else if is_word(word, "user") {
         Some(Holder::User)
     } else {
         None
@@ -238,9 +235,9 @@ pub fn holder_named(word: &[u8]) -> Option<Holder>
 pub fn kind_named(word: &[u8]) -> Option<Kind>
     ensures { result ≡ kind_named word.now }
 {
-    if word == b"file".as_slice() {
+    if is_word(word, "file") {
         Some(Kind::File)
-    } else if word == b"dir".as_slice() {
+    } else if is_word(word, "dir") {
         Some(Kind::Dir)
     } else {
         None

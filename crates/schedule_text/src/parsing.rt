@@ -8,7 +8,7 @@ use crate::commands::{
 };
 use crate::faults::Fault;
 use crate::numbers::{byte_of, code_of, is_digits, number_of};
-use crate::words::{after_word, first_word, word_count};
+use crate::words::{after_word, first_word, is_word, word_count};
 use access_model::{Holder, Kind};
 use freeze_levels::HookKind;
 use gate_world::{Config, Op};
@@ -43,7 +43,7 @@ fn is_skipped(line: &[u8]) -> bool
 fn config_line(line: &[u8]) -> Result<Line, Fault>
     ensures { result ≡ config_line line.now }
 {
-    if first_word(line) != b"config".as_slice() {
+    if !is_word(first_word(line), "config") {
         return Err(Fault::ConfigExpected);
     }
     if word_count(line) != 6 {
@@ -83,13 +83,13 @@ fn command_line(line: &[u8], tasks: u8) -> Result<Line, Fault>
 {
     let words = word_count(line);
     let first = first_word(line);
-    if first == b"config".as_slice() {
+    if is_word(first, "config") {
         Err(Fault::ConfigTwice)
-    } else if first == b"words".as_slice() {
+    } else if is_word(first, "words") {
         alone(words, Request::Words)
-    } else if first == b"tree".as_slice() {
+    } else if is_word(first, "tree") {
         alone(words, Request::Tree)
-    } else if first == b"model".as_slice() {
+    } else if is_word(first, "model") {
         alone(words, Request::Model)
     } else if !is_digits(first) {
         Err(Fault::UnknownCommand)
@@ -443,9 +443,9 @@ fn read_only_at(text: &[u8]) -> Result<bool, Fault>
 fn read_only_of(word: &[u8]) -> Option<bool>
     ensures { result ≡ read_only_of word.now }
 {
-    if word == b"ro".as_slice() {
+    if is_word(word, "ro") {
         Some(true)
-    } else if word == b"rw".as_slice() {
+    } else if is_word(word, "rw") {
         Some(false)
     } else {
         None

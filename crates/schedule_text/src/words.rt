@@ -1,10 +1,17 @@
 //! Words of a line. They are separated by one space, so two spaces have an empty word between them.
 
-ghost use Rattle.std.specs.Prelude.{◌≡◌, ◌≤◌, length};
+ghost use Rattle.std.specs.Prelude.{◌≡◌, ◌≤◌, length, bytes_eq};
 ghost use Rattle.std.specs.List.{position, position_or_len};
 ghost use Rattle.schedule_text.specs.Words.{is_space, first_word, after_word, word_count};
 
 const SPACE: u8 = b' ';
+
+/// Whether a word is this one.
+pub(crate) fn is_word(word: &[u8], text: &str) -> bool
+    ensures { result ≡ bytes_eq word.now text.now }
+{
+    word == text.as_bytes()
+}
 
 /// How many words a line has.
 #[tactic(auto, unfolding(crate::specs::Words::word_count))]

@@ -16,6 +16,15 @@ const FEW: u8 = 4;
 /// What narrower words are told by.
 static NARROWER: &str = "narrower words: m is mount, l level, s section, .f .flags, .c .cpu\n";
 
+/// What stands for what in them.
+static SHORTER: [(&str, &str); 5] = [
+    ("mount", "m"),
+    ("level", "l"),
+    ("section", "s"),
+    (".flags", ".f"),
+    (".cpu", ".c"),
+];
+
 /// A column for each task, and the words that were listed last.
 #[derive(Drop)]
 pub(crate) struct Columns {
@@ -143,14 +152,8 @@ fn spaces(out: &mut Output, count: usize) -> Result<(), AllocError> {
 fn narrower(alloc: Global, text: &[u8], is_narrow: bool) -> Result<String, AllocError> {
     let mut text = std::str::from_utf8(text).unwrap_or("").to_string(alloc)?;
     if is_narrow {
-        for (whole, short) in [
-            ("mount", "m"),
-            ("level", "l"),
-            ("section", "s"),
-            (".flags", ".f"),
-            (".cpu", ".c"),
-        ] {
-            text = text.as_str().replace(alloc, whole, short)?;
+        for (whole, short) in SHORTER.iter() {
+            text = text.as_str().replace(alloc, *whole, *short)?;
         }
     }
     Ok(text)

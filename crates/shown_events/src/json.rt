@@ -1,15 +1,28 @@
 //! Events, answers and listings as JSON, an object on each line.
 
 use crate::forms::Happening;
-use cpu_words::Touch;
+use crate::waits::Wait;
+use access_model::Action;
+use cpu_words::{Event, Touch, WordName};
 use schedule_text::Output;
 use schedule_text::words::{after_word, first_word};
-use serde_json::{Value, json};
+use serde_json::{Map, ToValue, Value};
 use std::alloc::{AllocError, Global};
 
+/// Puts a member into an object: by a call, since what `json!` writes out for an object of several is long to prove.
+fn put<V: ToValue>(
+    object: &mut Map<String, Value>,
+    alloc: Global,
+    name: &str,
+    value: V,
+) -> Result<(), AllocError> {
+    serde_json::put(object, alloc, name, value.to_value(alloc)?)
+}
+
 /// Prints an object on a line of its own.
-fn print(alloc: Global, value: &Value, out: &mut Output) -> Result<(), AllocError> {
-    out.text(value.to_string(alloc)?.as_bytes())?;
+fn print(alloc: Global, object: Map<String, Value>, out: &mut Output) -> Result<(), AllocError> {
+    let text = Value::Object(object).to_string(alloc)?;
+    out.text(text.as_bytes())?;
     out.text(b"\n")
 }
 
@@ -41,48 +54,92 @@ fn kind_of(touch: Touch) -> &'static str {
     }
 }
 
+/// The name of a word.
+fn word_told(alloc: Global, word: WordName) -> Result<Value, AllocError> {
+    let mut out = Output::with_room(alloc, 0)?;
+    out.word_name(word)?;
+    printed(alloc, &out)
+}
+
+/// An action; null where there is none.
+fn action_told(alloc: Global, action: Option<Action>) -> Result<Value, AllocError> {
+    let mut out = Output::with_room(alloc, 0)?;
+    if let Some(action) = action {
+        out.action(action)?;
+    }
+    printed(alloc, &out)
+}
+
+/// What a task waits for; null where it doesn't wait.
+fn wait_told(alloc: Global, wait: Option<Wait>) -> Result<Value, AllocError> {
+    let mut out = Output::with_room(alloc, 0)?;
+    if let Some(wait) = wait {
+        wait.print_word(&mut out)?;
+    }
+    printed(alloc, &out)
+}
+
+/// What an event found; null for a store, which looks at nothing.
+fn found_told(event: Event) -> Value {
+    match event.touch {
+        Touch::Store(_) => Value::Null,
+        _ => event.found.into(),
+    }
+}
+
 /// An event: its line and its task, what it did to which word, the action that it added and for whom it waits.
+fn put_event(
+    object: &mut Map<String, Value>,
+    alloc: Global,
+    happening: Happening,
+) -> Result<(), AllocError> {
+    let event = happening.event;
+    put(object, alloc, "line", happening.line)?;
+    put(object, alloc, "task", happening.task)?;
+    put(object, alloc, "event", kind_of(event.touch))?;
+    put(object, alloc, "word", word_told(alloc, event.word)?)?;
+    put(object, alloc, "found", found_told(event))?;
+    put(object, alloc, "left", event.left)?;
+    put(
+        object,
+        alloc,
+        "action",
+        action_told(alloc, happening.action)?,
+    )?;
+    put(
+        object,
+        alloc,
+        "waits_for",
+        wait_told(alloc, happening.wait)?,
+    )
+}
+
+/// Prints an event.
 pub(crate) fn print_event(
     alloc: Global,
     happening: Happening,
     out: &mut Output,
 ) -> Result<(), AllocError> {
-    let event = happening.event;
-    let (mut word, mut action, mut wait) = (
-        Output::with_room(alloc, 0)?,
-        Output::with_room(alloc, 0)?,
-        Output::with_room(alloc, 0)?,
-    );
-    word.word_name(event.word)?;
-    if let Some(done) = happening.action {
-        action.action(done)?;
-    }
-    if let Some(waits) = happening.wait {
-        waits.print_word(&mut wait)?;
-    }
-    let (word, action, wait) = (
-        printed(alloc, &word)?,
-        printed(alloc, &action)?,
-        printed(alloc, &wait)?,
-    );
-    let found = match event.touch {
-        Touch::Store(_) => Value::Null,
-        _ => event.found.into(),
-    };
-    let value = json!(in alloc; {
-        "line": happening.line,
-        "task": happening.task,
-        "event": kind_of(event.touch),
-        "word": word,
-        "found": found,
-        "left": event.left,
-        "action": action,
-        "waits_for": wait
-    })?;
-    print(alloc, &value, out)
+    let mut object = Map::new(alloc);
+    put_event(&mut object, alloc, happening)?;
+    print(alloc, object, out)
 }
 
 /// An answer, without the number of its task.
+fn put_answer(
+    object: &mut Map<String, Value>,
+    alloc: Global,
+    line: u32,
+    task: u8,
+    text: &[u8],
+) -> Result<(), AllocError> {
+    let text = after_word(text.strip_suffix(b"\n").unwrap_or(text));
+    put(object, alloc, "line", line)?;
+    put(object, alloc, "task", task)?;
+    put(object, alloc, "answer", text_of(text))
+}
+
+/// Prints an answer.
 pub(crate) fn print_answer(
     alloc: Global,
     line: u32,
@@ -90,12 +147,25 @@ pub(crate) fn print_answer(
     text: &[u8],
     out: &mut Output,
 ) -> Result<(), AllocError> {
-    let text = after_word(text.strip_suffix(b"\n").unwrap_or(text));
-    let value = json!(in alloc; {"line": line, "task": task, "answer": text_of(text)})?;
-    print(alloc, &value, out)
+    let mut object = Map::new(alloc);
+    put_answer(&mut object, alloc, line, task, text)?;
+    print(alloc, object, out)
 }
 
 /// A listing: its words with their values, or the lines of the model.
+fn put_listing(
+    object: &mut Map<String, Value>,
+    alloc: Global,
+    line: u32,
+    name: &str,
+    text: &[u8],
+) -> Result<(), AllocError> {
+    put(object, alloc, "line", line)?;
+    put(object, alloc, "listing", name)?;
+    put(object, alloc, "items", items_told(alloc, name, text)?)
+}
+
+/// Prints a listing.
 pub(crate) fn print_listing(
     alloc: Global,
     line: u32,
@@ -103,22 +173,36 @@ pub(crate) fn print_listing(
     text: &[u8],
     out: &mut Output,
 ) -> Result<(), AllocError> {
+    let mut object = Map::new(alloc);
+    put_listing(&mut object, alloc, line, name, text)?;
+    print(alloc, object, out)
+}
+
+/// The items of a listing.
+fn items_told(alloc: Global, name: &str, text: &[u8]) -> Result<Value, AllocError> {
     let mut items = Vec::new(alloc);
     for item in text.split(|byte| *byte == b'\n') {
         if !item.is_empty() {
             items.push(listed(alloc, name, item)?)?;
         }
     }
-    let list = Value::Array(items);
-    let value = json!(in alloc; {"line": line, "listing": name, "items": list})?;
-    print(alloc, &value, out)
+    Ok(Value::Array(items))
 }
 
 /// One item of a listing.
 fn listed(alloc: Global, name: &str, item: &[u8]) -> Result<Value, AllocError> {
     if name == "model" {
-        return Value::try_from_str(alloc, text_of(item));
+        Value::try_from_str(alloc, text_of(item))
+    } else {
+        word_listed(alloc, item)
     }
+}
+
+/// A word with its value.
+fn word_listed(alloc: Global, item: &[u8]) -> Result<Value, AllocError> {
     let value: u64 = text_of(after_word(item)).parse().unwrap_or(0);
-    json!(in alloc; {"word": text_of(first_word(item)), "value": value})
+    let mut object = Map::new(alloc);
+    put(&mut object, alloc, "word", text_of(first_word(item)))?;
+    put(&mut object, alloc, "value", value)?;
+    Ok(Value::Object(object))
 }

@@ -29,10 +29,10 @@ impl<D: Driver> Show<D> {
     /// Nothing read and nothing printed yet.
     pub fn new(alloc: Global, form: Form) -> Result<Show<D>, AllocError> {
         Ok(Show {
-            alloc,
-            printer: Printer::new(alloc, form),
             input: Input::new(alloc)?,
             output: Output::with_room(alloc, 0)?,
+            alloc,
+            printer: Printer::new(alloc, form),
             session: None,
             blocks: Vec::new(alloc),
         })
